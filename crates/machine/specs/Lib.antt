@@ -1,0 +1,4 @@
+pub mod Limits
+pub mod Number
+pub mod Parser
+pub mod Trace

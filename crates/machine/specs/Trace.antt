@@ -1,0 +1,65 @@
+-- Bytes, "Trace record: clock, transaction, block, outcome (0 entered, 1 began to wait)", the trace reader and the record writer.
+use Prim.Native.Nat.{ℕ, zero, suc, _+_}
+use mathlib.Core.Bool.{Bool, true, false, cond, _&&_}
+use mathlib.Core.List.{List, [], _∷_, _++_}
+use lib.Dec.{ltb, leb}
+use lib.ListN.{length}
+use Rattle.machine.specs.Limits.{maxClock, maxTransaction, maxBlocks}
+use Rattle.machine.specs.Number.{numberBytes}
+use Rattle.machine.specs.Parser.{Cursor, Parser, Parsed, parsed, refused, _>>=_, give, field}
+
+pub record Record : Type 0 where
+  pub clock : ℕ
+  pub transaction : ℕ
+  pub block : ℕ
+  pub outcome : ℕ
+
+unfoldable pub recordBytes : Record → List ℕ
+recordBytes r =
+    numberBytes (r .clock) ++ numberBytes (r .transaction) ++ numberBytes (r .block) ++ numberBytes (r .outcome)
+
+-- the bytes of records in the order of writing
+unfoldable pub traceBytes : List Record → List ℕ
+traceBytes [] = []
+traceBytes (r ∷ l) = recordBytes r ++ traceBytes l
+
+-- ---- Questions, "Trace reader: a position at or past the end answers "no more". Else, number by number .. 31. .. 32"
+
+-- What the reader answers: a record and the position after it, a refusal, or "no more".
+pub data Reading : Type 0 where
+  taken : Record → ℕ → Reading
+  refusal : ℕ → Reading
+  noMore : Reading
+
+unfoldable pub recordFields : List ℕ → Parser Record
+recordFields s = do
+  clock ← field s 31 0 maxClock
+  transaction ← field s 31 1 maxTransaction
+  block ← field s 31 1 maxBlocks
+  outcome ← field s 31 0 1
+  give (record { clock = clock; transaction = transaction; block = block; outcome = outcome })
+
+unfoldable pub reading : Parsed Record → Reading
+reading (parsed r c) = taken r (c .position)
+reading (refused n) = refusal n
+
+unfoldable pub readRecord : List ℕ → ℕ → Reading
+readRecord s at =
+    cond (ltb at (length s)) (reading (recordFields s (record { position = at; numbers = 0; mentions = 0 }))) noMore
+
+-- ---- Questions, "Record writer: the same ranges? 32. Then: do its bytes fit in the rest? 33. A refusal writes nothing."
+
+unfoldable pub inRanges : Record → Bool
+inRanges r =
+    leb (r .clock) maxClock && (leb 1 (r .transaction) && leb (r .transaction) maxTransaction) && (leb 1 (r .block) && leb (r .block) maxBlocks)
+        && leb (r .outcome) 1
+
+-- What the writer answers: the bytes that now begin the rest, or a refusal.
+pub data Writing : Type 0 where
+  written : List ℕ → Writing
+  rejected : ℕ → Writing
+
+-- writing a record into a rest of `room` bytes
+unfoldable pub writeRecord : ℕ → Record → Writing
+writeRecord room r =
+    cond (inRanges r) (cond (leb (length (recordBytes r)) room) (written (recordBytes r)) (rejected 33)) (rejected 32)
