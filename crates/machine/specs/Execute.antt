@@ -1,0 +1,120 @@
+-- Blocks: the questions inside a turn, and what each of the 16 kinds does once they are answered.
+use Prim.Native.Nat.{ℕ, zero, suc, _+_, _-_}
+use mathlib.Core.Bool.{Bool, true, false, cond, not}
+use mathlib.Core.List.{List, [], _∷_}
+use mathlib.Core.Option.{Option, none, some}
+use lib.Dec.{ltb, leb, eqb}
+use lib.ListN.{getD}
+use Rattle.machine.specs.Limits.{maxLiving, maxClock}
+use Rattle.machine.specs.Transaction.{Transaction}
+use Rattle.machine.specs.Lists.{setNth}
+use Rattle.machine.specs.Term.{Term, Relation, View, serverAt, queueAt, free, evaluate, compare}
+use Rattle.machine.specs.Block.{Code, U, NU, E, NE, F, NF, status, Block, generate, advance, terminate, seize, release, enter, leave, waitServer, waitTerms, branch, goto, assign, priority, split, arrive, depart, Facts, facts, BlockModel, blockAt}
+use Rattle.machine.specs.State.{State}
+use Rattle.machine.specs.Setters.{withPriority, withParameters, withNext, withReturning, setCounter, setEnded, setMoving, setEnd}
+use Rattle.machine.specs.Moves.{enters, moveTo, goOn, toRel, toFel, toQl, toWel, toWsl, mustWait, wakeFirstQl, wakeQl, wakeFirstWel, setInUse, setContent, timesLeft, useTime, arrival, copies}
+
+-- ---- Questions, "Inside a turn, after the taking and before the block has any effect, "no" is the end"
+
+-- 0 where the answer is yes
+abbrev pub unless : Bool → ℕ → ℕ → ℕ
+unless true n later = later
+unless false n later = n
+
+abbrev pub living : State → ℕ
+living s = s .made - s .ended
+
+-- "is a living place free for each new one? 21. .. Is the move time at most 2,000,000,000? 22 (after 21 or 23)." A spent list
+-- makes none, and nothing is asked.
+unfoldable pub askGenerate : List ℕ → State → ℕ
+askGenerate [] s = 0
+askGenerate (time ∷ left) s = unless (leb (living s + 1) maxLiving) 21 (unless (leb (s .view .clock + time) maxClock) 22 0)
+
+-- "ADVANCE: has the list a time? 23."
+unfoldable pub askAdvance : List ℕ → State → ℕ
+askAdvance [] s = 23
+askAdvance (time ∷ left) s = unless (leb (s .view .clock + time) maxClock) 22 0
+
+unfoldable pub question : Block → State → ℕ
+question (generate list p) s = askGenerate (timesLeft s list) s
+question (advance list) s = askAdvance (timesLeft s list) s
+question (terminate a) s = 0
+question (seize v) s = 0
+-- "Is f in use, or are b units in use? 24."
+question (release v) s = unless (leb 1 (serverAt (s .view) v .inUse)) 24 0
+question (enter v b) s = 0
+question (leave v b) s = unless (leb b (serverAt (s .view) v .inUse)) 24 0
+question (waitServer code v) s = 0
+question (waitTerms a r b) s = 0
+question (branch a r b target) s = 0
+question (goto target) s = 0
+question (assign k a) s = 0
+question (priority p) s = 0
+question (split n target) s = unless (leb (living s + n) maxLiving) 21 0
+question (arrive q) s = 0
+-- "Has the queue content? 25."
+question (depart q) s = unless (leb 1 (queueAt (s .view) q .content)) 25 0
+
+-- ---- The effects
+
+-- "After blocks 4 to 7 enter, each WEL of that server whose code is not true gives its first to REL."
+unfoldable pub checkWel : ℕ → Code → State → State
+checkWel v code s = cond (status code (serverAt (s .view) v)) s (wakeFirstWel v code s)
+
+unfoldable pub checkWels : ℕ → State → State
+checkWels v s = checkWel v NF (checkWel v F (checkWel v NE (checkWel v E (checkWel v NU (checkWel v U s)))))
+
+-- do its units, judged alone, fit the free units of the server?
+unfoldable pub fits : BlockModel → View → ℕ → Transaction → Bool
+fits m w v t = leb (facts (blockAt m (t .next)) .units) (free (serverAt w v))
+
+-- 4 SEIZE, "idle, it enters and f is in use; else it waits on the QL", 6 ENTER, "enters if b units are free, else waits"
+unfoldable pub takeUnits : ℕ → ℕ → Transaction → State → State
+takeUnits v b t s =
+    cond (leb b (free (serverAt (s .view) v)))
+    (goOn t (checkWels v (setInUse v (serverAt (s .view) v .inUse + b) (enters t s))))
+    (mustWait (toQl v) t s)
+
+abbrev pub freeUnits : ℕ → ℕ → State → State
+freeUnits v b s = setInUse v (serverAt (s .view) v .inUse - b) s
+
+-- 3 TERMINATE, "the transaction ends; the counter falls by a; at or below 0, end 2"
+unfoldable pub endsOne : ℕ → State → State
+endsOne a s = setEnd (cond (leb (s .counter) a) 2 0) (setCounter (s .counter - a) (setEnded (suc (s .ended)) s))
+
+-- 2 ADVANCE, "to the FEL at clock + time, fresh serial, even for time 0"; .. also add one to the next block
+unfoldable pub delay : List ℕ → ℕ → Transaction → State → State
+delay [] list t s = s
+delay (time ∷ left) list t s =
+    toFel (s .view .clock + time) (withReturning false (withNext (suc (t .next)) t)) (useTime list s)
+
+-- Each kind, for the transaction t whose next block it is; nobody is moving in s. "terms are read before the block's own
+-- entry counts, with the transaction's own parameters".
+unfoldable pub effect : BlockModel → Block → Transaction → State → State
+effect m (generate list p) t s = goOn t (arrival (timesLeft s list) list p (t .next) (enters t s))
+effect m (advance list) t s = delay (timesLeft s list) list t (enters t s)
+effect m (terminate a) t s = endsOne a (enters t s)
+effect m (seize v) t s = takeUnits v 1 t s
+-- "f idle; the first of its QL goes to REL"
+effect m (release v) t s = goOn t (checkWels v (wakeFirstQl v (freeUnits v 1 (enters t s))))
+effect m (enter v b) t s = takeUnits v b t s
+-- "frees b; every QL member whose units, judged alone, fit the free units goes to REL" (departs)
+effect m (leave v b) t s =
+    let s′ : State = freeUnits v b (enters t s) in
+    goOn t (checkWels v (wakeQl (fits m (s′ .view) v) v s′))
+-- "waits on the WEL while the code is true; else the first of that WEL goes to REL, go on"
+effect m (waitServer code v) t s =
+    cond (status code (serverAt (s .view) v)) (mustWait (toWel v code) t s) (goOn t (wakeFirstWel v code (enters t s)))
+-- "waits on the WSL while true; else go on"
+effect m (waitTerms a r b) t s =
+    cond (compare (m .values) (s .view) (t .parameters) a r b) (mustWait toWsl t s) (goOn t (enters t s))
+-- "true, the next block is the target, still moving; else go on"
+effect m (branch a r b target) t s =
+    moveTo (cond (compare (m .values) (s .view) (t .parameters) a r b) target (suc (t .next))) t (enters t s)
+effect m (goto target) t s = moveTo target t (enters t s)
+effect m (assign k a) t s =
+    goOn (withParameters (setNth (t .parameters) k (evaluate (m .values) (s .view) (t .parameters) a)) t) (enters t s)
+effect m (priority p) t s = toRel (withPriority p (withReturning false (withNext (suc (t .next)) t))) (enters t s)
+effect m (split n target) t s = goOn t (copies n target t (enters t s))
+effect m (arrive q) t s = goOn t (setContent q (queueAt (s .view) q .content + 1) (enters t s))
+effect m (depart q) t s = goOn t (setContent q (queueAt (s .view) q .content - 1) (enters t s))

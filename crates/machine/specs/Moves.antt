@@ -1,0 +1,137 @@
+-- Lists: how transactions get a serial, come onto a list and leave it, and what a record notes.
+use Prim.Native.Nat.{ℕ, zero, suc, _+_, _*_, _-_}
+use mathlib.Core.Bool.{Bool, true, false, cond}
+use mathlib.Core.List.{List, [], _∷_}
+use mathlib.Core.Option.{Option, none, some}
+use lib.ListN.{length, getD, set, take, drop}
+use Rattle.machine.specs.Transaction.{Transaction, Event, precedes, earlier, newborn}
+use Rattle.machine.specs.Lists.{insert, those, others, nth, setNth}
+use Rattle.machine.specs.Term.{View, Server, Queue, serverAt, queueAt}
+use Rattle.machine.specs.Block.{Code, codeIndex}
+use Rattle.machine.specs.Trace.{Record, recordBytes}
+use Rattle.machine.specs.State.{State, Logged}
+use Rattle.machine.specs.Setters.{withNext, withSerial, withReturning, withInUse, withContent, setEntries, setQueues, setServers, setView, setSamples, setQl, setWel, setWsl, setRel, setFel, setMoving, setSerial, setMade, setRecords, setWritten}
+
+-- ---- The trace
+
+-- Bytes, "Trace record: clock, transaction, block, outcome (0 entered, 1 began to wait)"
+unfoldable pub recordOf : ℕ → Transaction → State → Record
+recordOf outcome t s =
+    record { clock = s .view .clock; transaction = t .number; block = t .next; outcome = outcome }
+
+unfoldable pub log : ℕ → Transaction → State → State
+log outcome t s =
+    setWritten (s .written + length (recordBytes (recordOf outcome t s)))
+    (setRecords (record { entry = recordOf outcome t s; priority = t .priority } ∷ s .records) s)
+
+-- Blocks, "Entries of a block are its records of outcome 0"
+unfoldable pub enters : Transaction → State → State
+enters t s =
+    log 0 t (setView (setEntries (setNth (s .view .entries) (t .next) (suc (nth (s .view .entries) (t .next) 0))) (s .view)) s)
+
+-- ---- Going on
+
+-- "Entering a block clears the mark." The transaction stands before its next block, still moving.
+unfoldable pub moveTo : ℕ → Transaction → State → State
+moveTo block t s = setMoving (some (withReturning false (withNext block t))) s
+
+-- "Go on" means next block plus one, still moving.
+abbrev pub goOn : Transaction → State → State
+goOn t s = moveTo (suc (t .next)) t s
+
+-- ---- "Serials count 1, 2, 3.. over the whole run; "fresh" is the next one."
+
+abbrev pub fresh : State → ℕ
+fresh s = suc (s .serial)
+
+unfoldable pub toRel : Transaction → State → State
+toRel t s = setRel (insert precedes (withSerial (fresh s) t) (s .rel)) (setSerial (fresh s) s)
+
+unfoldable pub toFel : ℕ → Transaction → State → State
+toFel time t s =
+    setFel (insert earlier (record { time = time; who = withSerial (fresh s) t }) (s .fel)) (setSerial (fresh s) s)
+
+-- ---- Waiting
+
+-- where the WEL of a server and a code stands
+unfoldable pub welIndex : ℕ → Code → ℕ
+welIndex v code = (v - 1) * 6 + codeIndex code
+
+abbrev pub qlOf : State → ℕ → List Transaction
+qlOf s v = nth (s .ql) v []
+
+abbrev pub welOf : State → ℕ → Code → List Transaction
+welOf s v code = getD (s .wel) (welIndex v code) []
+
+unfoldable pub toQl : ℕ → Transaction → State → State
+toQl v t s = setQl (setNth (s .ql) v (insert precedes t (qlOf s v))) s
+
+unfoldable pub toWel : ℕ → Code → Transaction → State → State
+toWel v code t s = setWel (set (s .wel) (welIndex v code) (insert precedes t (welOf s v code))) s
+
+unfoldable pub toWsl : Transaction → State → State
+toWsl t s = setWsl (insert precedes t (s .wsl)) s
+
+-- "A transaction that must wait takes a fresh serial unless it is returning; a returning one keeps its serial." (departs: 000
+-- puts it at the front.) Its record of outcome 1 is written with the fresh serial; "putting back writes nothing".
+unfoldable pub mustWait : (Transaction → State → State) → Transaction → State → State
+mustWait put t s =
+    cond (t .returning) (put t s) (put (withSerial (fresh s) t) (setSerial (fresh s) (log 1 t s)))
+
+-- ---- Waking: "Moving from QL, WEL or WSL to REL keeps the serial and sets returning."
+
+unfoldable pub wake : List Transaction → List Transaction → List Transaction
+wake [] rel = rel
+wake (t ∷ l) rel = wake l (insert precedes (withReturning true t) rel)
+
+-- the first of a QL
+unfoldable pub wakeFirstQl : ℕ → State → State
+wakeFirstQl v s = setQl (setNth (s .ql) v (drop 1 (qlOf s v))) (setRel (wake (take 1 (qlOf s v)) (s .rel)) s)
+
+-- every member of a QL that passes a test
+unfoldable pub wakeQl : (Transaction → Bool) → ℕ → State → State
+wakeQl p v s = setQl (setNth (s .ql) v (others p (qlOf s v))) (setRel (wake (those p (qlOf s v)) (s .rel)) s)
+
+-- the first of a WEL
+unfoldable pub wakeFirstWel : ℕ → Code → State → State
+wakeFirstWel v code s =
+    setWel (set (s .wel) (welIndex v code) (drop 1 (welOf s v code))) (setRel (wake (take 1 (welOf s v code)) (s .rel)) s)
+
+-- every member of the WSL that passes a test
+unfoldable pub wakeWsl : (Transaction → Bool) → State → State
+wakeWsl p s = setWsl (others p (s .wsl)) (setRel (wake (those p (s .wsl)) (s .rel)) s)
+
+-- ---- Servers and queues
+
+unfoldable pub setInUse : ℕ → ℕ → State → State
+setInUse v units s =
+    setView (setServers (setNth (s .view .servers) v (withInUse units (serverAt (s .view) v))) (s .view)) s
+
+unfoldable pub setContent : ℕ → ℕ → State → State
+setContent q n s =
+    setView (setQueues (setNth (s .view .queues) q (withContent n (queueAt (s .view) q))) (s .view)) s
+
+-- ---- Making
+
+-- the times left of a list: "Each list is used up in order, one time per use, by all blocks that name it."
+abbrev pub timesLeft : State → ℕ → List ℕ
+timesLeft s list = nth (s .samples) list []
+
+abbrev pub useTime : ℕ → State → State
+useTime list s = setSamples (setNth (s .samples) list (drop 1 (timesLeft s list))) s
+
+-- 1 GENERATE, "if the list has a time left, make a transaction at this block, on the FEL at clock + time, fresh serial. ..
+-- A spent list makes none."
+unfoldable pub arrival : List ℕ → (list priority block : ℕ) → State → State
+arrival [] list priority block s = s
+arrival (time ∷ left) list priority block s =
+    toFel (s .view .clock + time) (newborn (suc (s .made)) priority block) (setMade (suc (s .made)) (useTime list s))
+
+-- 14 SPLIT, "n copies, same priority and parameters, on REL with fresh serials in order"
+unfoldable pub copies : ℕ → ℕ → Transaction → State → State
+copies zero target t s = s
+copies (suc n) target t s =
+    copies n target t
+    (toRel
+    (record { number = suc (s .made); priority = t .priority; parameters = t .parameters; next = target; serial = 0; returning = false })
+    (setMade (suc (s .made)) s))

@@ -1,0 +1,77 @@
+-- Bytes, "Report: clock, made, ended; per facility and storage: ..; per queue: ..; the living count and, per living one,
+-- number and place". The order of the living is free in the paper; here it is by rising number (docs/DECISIONS.md).
+use Prim.Native.Nat.{ℕ, zero, suc, _+_}
+use mathlib.Core.Bool.{Bool, true, false, cond, _&&_}
+use mathlib.Core.List.{List, [], _∷_, _++_, map}
+use mathlib.Core.Option.{Option, none, some}
+use lib.Dec.{ltb, eqb}
+use lib.ListN.{length}
+use Rattle.machine.specs.Transaction.{Transaction, Event}
+use Rattle.machine.specs.Lists.{insert, those, flat}
+use Rattle.machine.specs.Term.{Server, Queue}
+use Rattle.machine.specs.Block.{Facts, facts, BlockModel, blockAt}
+use Rattle.machine.specs.Number.{numberBytes}
+use Rattle.machine.specs.State.{State, Logged}
+
+-- how many records of an outcome stand at blocks that pass a test
+unfoldable pub recordsAt : BlockModel → ℕ → (Facts → Bool) → List Logged → ℕ
+recordsAt m outcome p l = length (those (λ r. eqb (r .entry .outcome) outcome && p (facts (blockAt m (r .entry .block)))) l)
+
+-- "entries (outcome 0 at the blocks that take it, of any units), unit ticks in use, waits begun (outcome 1 there), ticks
+-- waited .., longest QL before a clock move", for the servers from number v on
+unfoldable pub serverNumbers : BlockModel → List Logged → ℕ → List Server → List ℕ
+serverNumbers m records v [] = []
+serverNumbers m records v (x ∷ l) =
+    recordsAt m 0 (λ f. eqb (f .server) v) records
+        ∷ x .unitTicks
+        ∷ recordsAt m 1 (λ f. eqb (f .server) v) records
+        ∷ x .waitTicks
+        ∷ x .longest
+        ∷ serverNumbers m records (suc v) l
+
+-- "per queue: arrivals, content ticks, longest at a clock move", for the queues from number q on
+unfoldable pub queueNumbers : BlockModel → List Logged → ℕ → List Queue → List ℕ
+queueNumbers m records q [] = []
+queueNumbers m records q (x ∷ l) =
+    recordsAt m 0 (λ f. eqb (f .queue) q) records ∷ x .contentTicks ∷ x .longest ∷ queueNumbers m records (suc q) l
+
+-- ---- The living
+
+-- A living transaction's number and place.
+pub record Place : Type 0 where
+  pub number : ℕ
+  pub place : ℕ
+
+unfoldable pub placed : ℕ → List Transaction → List Place
+placed place l = map (λ t. record { number = t .number; place = place }) l
+
+unfoldable pub movingOne : Option Transaction → List Transaction
+movingOne none = []
+movingOne (some t) = t ∷ []
+
+-- "1 QL, 2 WEL, 3 WSL, 4 FEL, 5 REL, 6 moving"
+unfoldable pub places : State → List Place
+places s =
+    placed 1 (flat (s .ql)) ++ placed 2 (flat (s .wel)) ++ placed 3 (s .wsl) ++ placed 4 (map (λ e. e .who) (s .fel)) ++ placed 5 (s .rel)
+        ++ placed 6 (movingOne (s .moving))
+
+unfoldable pub byNumber : List Place → List Place
+byNumber [] = []
+byNumber (p ∷ l) = insert (λ a b. ltb (a .number) (b .number)) p (byNumber l)
+
+unfoldable pub placeNumbers : List Place → List ℕ
+placeNumbers [] = []
+placeNumbers (p ∷ l) = p .number ∷ p .place ∷ placeNumbers l
+
+-- ---- The whole report
+
+unfoldable pub reportNumbers : BlockModel → State → List ℕ
+reportNumbers m s =
+    s .view .clock
+        ∷ s .made
+        ∷ s .ended
+        ∷ (serverNumbers m (s .records) 1 (s .view .servers) ++ queueNumbers m (s .records) 1 (s .view .queues)
+        ++ length (places s) ∷ placeNumbers (byNumber (places s)))
+
+unfoldable pub reportBytes : BlockModel → State → List ℕ
+reportBytes m s = flat (map numberBytes (reportNumbers m s))

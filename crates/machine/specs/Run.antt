@@ -1,0 +1,119 @@
+-- A turn: the ends before a turn, the start, and the run, "Each turn gets what the turn before it left".
+use Prim.Native.Nat.{ℕ, zero, suc, _+_, _*_}
+use mathlib.Core.Bool.{Bool, true, false, cond, not, _&&_, _||_}
+use mathlib.Core.List.{List, [], _∷_, map, _++_}
+use mathlib.Core.Option.{Option, none, some}
+use lib.Dec.{ltb, leb, eqb}
+use lib.ListN.{length, replicate}
+use Rattle.machine.specs.Limits.{maxSerial, maxTurns, recordRoom}
+use Rattle.machine.specs.Transaction.{Transaction, Event}
+use Rattle.machine.specs.Term.{Server, idleServer, Queue, emptyQueue, View}
+use Rattle.machine.specs.Block.{Block, generate, advance, terminate, seize, release, enter, leave, waitServer, waitTerms, branch, goto, assign, priority, split, arrive, depart, BlockModel}
+use Rattle.machine.specs.State.{State}
+use Rattle.machine.specs.Setters.{setEnd}
+use Rattle.machine.specs.Moves.{timesLeft, arrival}
+use Rattle.machine.specs.Turn.{turn}
+
+-- ---- "Before each turn, in this order: .." end 1 (dry), end 26, end 3, end 4
+
+unfoldable pub isNone : {A : Type 0} → Option A → Bool
+isNone none = true
+isNone (some a) = false
+
+unfoldable pub isEmpty : {A : Type 0} → List A → Bool
+isEmpty [] = true
+isEmpty (x ∷ l) = false
+
+unfoldable pub nobodyLeft : State → Bool
+nobodyLeft s = isNone (s .moving) && isEmpty (s .rel) && isEmpty (s .fel)
+
+-- the number of the end that comes before the next turn, 0 for none; a turn that ended the run has set its own
+unfoldable pub endBefore : (budget room : ℕ) → State → ℕ
+endBefore budget room s =
+    cond (not (eqb (s .end) 0)) (s .end)
+    (cond (nobodyLeft s) 1
+    (cond (ltb maxSerial (s .serial) || leb maxTurns (s .turns)) 26
+    (cond (leb budget (s .turns)) 3
+    (cond (ltb room (s .written + recordRoom)) 4
+    0))))
+
+-- ---- "Start: clock 0; for each GENERATE in block order, if its sample list has a time, one transaction on the FEL at that time"
+
+unfoldable pub startOf : Block → ℕ → State → State
+startOf (generate list p) n s = arrival (timesLeft s list) list p n s
+startOf (advance list) n s = s
+startOf (terminate a) n s = s
+startOf (seize v) n s = s
+startOf (release v) n s = s
+startOf (enter v b) n s = s
+startOf (leave v b) n s = s
+startOf (waitServer code v) n s = s
+startOf (waitTerms a r b) n s = s
+startOf (branch a r b target) n s = s
+startOf (goto target) n s = s
+startOf (assign k a) n s = s
+startOf (priority p) n s = s
+startOf (split n′ target) n s = s
+startOf (arrive q) n s = s
+startOf (depart q) n s = s
+
+-- the blocks from number n on
+unfoldable pub startAt : ℕ → List Block → State → State
+startAt n [] s = s
+startAt n (b ∷ l) s = startAt (suc n) l (startOf b n s)
+
+unfoldable pub idle : BlockModel → List (List ℕ) → State
+idle m tape =
+    record
+    { view =
+        record
+        { clock = 0
+        ; entries = replicate (length (m .blocks)) 0
+        ; queues = replicate (m .queues) emptyQueue
+        ; servers = replicate (m .facilities) (idleServer 1) ++ map idleServer (m .capacities)
+        }
+    ; counter = m .counter
+    ; samples = tape
+    ; ql = replicate (m .facilities + length (m .capacities)) []
+    ; wel = replicate ((m .facilities + length (m .capacities)) * 6) []
+    ; wsl = []
+    ; rel = []
+    ; fel = []
+    ; moving = none
+    ; serial = 0
+    ; made = 0
+    ; ended = 0
+    ; turns = 0
+    ; records = []
+    ; written = 0
+    ; end = 0
+    }
+
+unfoldable pub start : BlockModel → List (List ℕ) → State
+start m tape = startAt 1 (m .blocks) (idle m tape)
+
+-- ---- The run
+
+-- Turns until an end, from a state on. Each step asks for the end before the turn, so one step more than the most turns
+-- is never used up.
+unfoldable pub runFrom : (steps : ℕ) → BlockModel → (budget room : ℕ) → State → State
+runFrom zero m budget room s = s
+runFrom (suc n) m budget room s =
+    elim (eqb (endBefore budget room s) 0) [ true ↦ runFrom n m budget room (turn m s) | false ↦ setEnd (endBefore budget room s) s ]
+
+-- the states of that run: one before each turn, and the last
+unfoldable pub statesFrom : (steps : ℕ) → BlockModel → (budget room : ℕ) → State → List State
+statesFrom zero m budget room s = s ∷ []
+statesFrom (suc n) m budget room s =
+    elim (eqb (endBefore budget room s) 0)
+    [ true ↦ s ∷ statesFrom n m budget room (turn m s) | false ↦ setEnd (endBefore budget room s) s ∷ [] ]
+
+abbrev pub steps : ℕ
+steps = suc maxTurns
+
+-- the last state of a run with a budget of turns and room for that many bytes of trace
+unfoldable pub run : BlockModel → List (List ℕ) → (budget room : ℕ) → State
+run m tape budget room = runFrom steps m budget room (start m tape)
+
+unfoldable pub states : BlockModel → List (List ℕ) → (budget room : ℕ) → List State
+states m tape budget room = statesFrom steps m budget room (start m tape)

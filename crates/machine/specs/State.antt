@@ -1,0 +1,41 @@
+-- The machine's state: what a turn gets from the turn before it.
+use Prim.Native.Nat.{ℕ}
+use mathlib.Core.List.{List}
+use mathlib.Core.Option.{Option}
+use Rattle.machine.specs.Transaction.{Transaction, Event}
+use Rattle.machine.specs.Term.{View}
+use Rattle.machine.specs.Trace.{Record}
+
+-- A record of the run, and the priority that the transaction had: the order of waits speaks of it (Claims.antt).
+pub record Logged : Type 0 where
+  pub entry : Record
+  pub priority : ℕ
+
+pub record State : Type 0 where
+  -- clock, entries of each block, queues and servers
+  pub view : View
+  -- what TERMINATE lets fall
+  pub counter : ℕ
+  -- the times left of each sample list
+  pub samples : List (List ℕ)
+  -- "QL: one queue list per server"
+  pub ql : List (List Transaction)
+  -- "WEL: one per server and status code": six places a server, those that its codes do not use stay empty
+  pub wel : List (List Transaction)
+  -- "WSL: one, for waits on a comparison."
+  pub wsl : List Transaction
+  -- "REL: ready now."
+  pub rel : List Transaction
+  -- "FEL: later events"
+  pub fel : List Event
+  pub moving : Option Transaction
+  -- "Serials count 1, 2, 3.. over the whole run": the last one given
+  pub serial : ℕ
+  pub made : ℕ
+  pub ended : ℕ
+  pub turns : ℕ
+  -- the records so far, newest first, and how many bytes they take
+  pub records : List Logged
+  pub written : ℕ
+  -- the number of the end, 0 while there is none
+  pub end : ℕ

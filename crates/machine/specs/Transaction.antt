@@ -1,0 +1,42 @@
+-- Lists, "A transaction has a number (from 1, in order of making), a priority 0..127, four signed 32-bit parameters (0 at
+-- first), a next block, a serial and a returning mark." The machine's lists hold transactions; none carries its place.
+use Prim.Native.Nat.{ℕ}
+use mathlib.Core.Bool.{Bool, true, false, _&&_, _||_}
+use mathlib.Core.List.{List}
+use lib.Dec.{ltb, eqb}
+use lib.IntN.{ℤ, pos}
+use lib.ListN.{replicate}
+use Rattle.machine.specs.Limits.{parameterCount}
+
+pub record Transaction : Type 0 where
+  pub number : ℕ
+  pub priority : ℕ
+  pub parameters : List ℤ
+  pub next : ℕ
+  pub serial : ℕ
+  pub returning : Bool
+
+-- a new one at a block; its serial is given where it is put on a list
+unfoldable pub newborn : ℕ → ℕ → ℕ → Transaction
+newborn number priority block =
+    record
+    { number = number
+    ; priority = priority
+    ; parameters = replicate parameterCount (pos 0)
+    ; next = block
+    ; serial = 0
+    ; returning = false
+    }
+
+-- "All of these are sorted by priority, high first, then serial, low first."
+unfoldable pub precedes : Transaction → Transaction → Bool
+precedes a b = ltb (b .priority) (a .priority) || (eqb (a .priority) (b .priority) && ltb (a .serial) (b .serial))
+
+-- A later event of the FEL: its move time and who moves.
+pub record Event : Type 0 where
+  pub time : ℕ
+  pub who : Transaction
+
+-- "FEL: later events, sorted by move time, then priority, then serial."
+unfoldable pub earlier : Event → Event → Bool
+earlier a b = ltb (a .time) (b .time) || (eqb (a .time) (b .time) && precedes (a .who) (b .who))

@@ -1,0 +1,117 @@
+-- A turn: the taking, with the statistics before a clock move, one block, the WS scheme.
+use Prim.Native.Nat.{ℕ, zero, suc, _+_, _*_, _-_, max}
+use mathlib.Core.Bool.{Bool, true, false, cond, not}
+use mathlib.Core.List.{List, [], _∷_, map}
+use mathlib.Core.Option.{Option, none, some}
+use lib.Dec.{eqb}
+use lib.ListN.{length}
+use Rattle.machine.specs.Transaction.{Transaction, Event}
+use Rattle.machine.specs.Lists.{those, others}
+use Rattle.machine.specs.Term.{Server, Queue, View, Sum, compare}
+use Rattle.machine.specs.Block.{Block, generate, advance, terminate, seize, release, enter, leave, waitServer, waitTerms, branch, goto, assign, priority, split, arrive, depart, BlockModel, blockAt}
+use Rattle.machine.specs.State.{State}
+use Rattle.machine.specs.Setters.{withReturning, setClock, setServers, setQueues, setView, setRel, setFel, setMoving, setTurns, setEnd}
+use Rattle.machine.specs.Moves.{toRel, wakeWsl}
+use Rattle.machine.specs.Execute.{question, effect}
+
+-- ---- Statistics, summed before each clock move (Bytes, "Report: ..")
+
+-- "unit ticks in use, .. ticks waited (QL length before each clock move times its ticks, summed), longest QL before a clock move"
+unfoldable pub sampleServers : ℕ → List Server → List (List Transaction) → List Server
+sampleServers ticks [] ql = []
+sampleServers ticks (v ∷ l) [] = v ∷ l
+sampleServers ticks (v ∷ l) (q ∷ ql) =
+    record
+    { capacity = v .capacity
+    ; inUse = v .inUse
+    ; unitTicks = v .unitTicks + v .inUse * ticks
+    ; waitTicks = v .waitTicks + length q * ticks
+    ; longest = max (v .longest) (length q)
+    }
+    ∷ sampleServers ticks l ql
+
+-- "per queue: arrivals, content ticks, longest at a clock move"
+unfoldable pub sampleQueue : ℕ → Queue → Queue
+sampleQueue ticks q =
+    record { content = q .content; contentTicks = q .contentTicks + q .content * ticks; longest = max (q .longest) (q .content) }
+
+unfoldable pub sample : ℕ → State → State
+sample ticks s =
+    setView (setQueues (map (sampleQueue ticks) (s .view .queues)) (setServers (sampleServers ticks (s .view .servers) (s .ql)) (s .view))) s
+
+-- ---- The taking: "A turn takes the moving transaction; else the first of REL; else it sets the clock to the first FEL time"
+
+-- "moves all with that time to REL in FEL order with fresh serials, not returning"
+unfoldable pub arriveAll : List Event → State → State
+arriveAll [] s = s
+arriveAll (e ∷ l) s = arriveAll l (toRel (withReturning false (e .who)) s)
+
+unfoldable pub due : ℕ → Event → Bool
+due time e = eqb (e .time) time
+
+-- a clock move to a time, "even by 0 ticks"
+unfoldable pub moveClock : ℕ → State → State
+moveClock time s =
+    arriveAll (those (due time) (s .fel))
+    (setFel (others (due time) (s .fel)) (setView (setClock time (sample (time - s .view .clock) s .view)) s))
+
+-- a clock move to the first time of the FEL, where it has one
+unfoldable pub nextEvents : List Event → State → State
+nextEvents [] s = s
+nextEvents (e ∷ l) s = moveClock (e .time) s
+
+-- the first of REL moves
+unfoldable pub takeFirst : List Transaction → State → State
+takeFirst [] s = s
+takeFirst (t ∷ l) s = setMoving (some t) (setRel l s)
+
+unfoldable pub takeReady : List Transaction → State → State
+takeReady [] s = let s′ : State = nextEvents (s .fel) s in takeFirst (s′ .rel) s′
+takeReady (t ∷ l) s = takeFirst (t ∷ l) s
+
+unfoldable pub taking : Option Transaction → State → State
+taking none s = takeReady (s .rel) s
+taking (some t) s = s
+
+-- ---- "It executes one block."
+
+-- A question stops the turn: "The transaction then stays moving, the turn counts and no record is written."
+unfoldable pub answer : ℕ → BlockModel → Block → Transaction → State → State
+answer zero m b t s = effect m b t (setMoving none s)
+answer (suc n) m b t s = setEnd (suc n) s
+
+unfoldable pub execute : Option Transaction → BlockModel → State → State
+execute none m s = s
+execute (some t) m s = let b : Block = blockAt m (t .next) in answer (question b s) m b t s
+
+-- ---- "Unless that ends the run, the WS scheme follows: every WSL member whose comparison no longer holds goes to REL."
+
+-- does the comparison of the WAITIF at which a WSL member stands hold, with its own parameters?
+unfoldable pub holds : List Sum → View → Transaction → Block → Bool
+holds values w t (generate list p) = false
+holds values w t (advance list) = false
+holds values w t (terminate a) = false
+holds values w t (seize v) = false
+holds values w t (release v) = false
+holds values w t (enter v b) = false
+holds values w t (leave v b) = false
+holds values w t (waitServer code v) = false
+holds values w t (waitTerms a r b) = compare values w (t .parameters) a r b
+holds values w t (branch a r b target) = false
+holds values w t (goto target) = false
+holds values w t (assign k a) = false
+holds values w t (priority p) = false
+holds values w t (split n target) = false
+holds values w t (arrive q) = false
+holds values w t (depart q) = false
+
+unfoldable pub waitsOn : BlockModel → View → Transaction → Bool
+waitsOn m w t = holds (m .values) w t (blockAt m (t .next))
+
+unfoldable pub wsScheme : BlockModel → State → State
+wsScheme m s = cond (eqb (s .end) 0) (wakeWsl (λ t. not (waitsOn m (s .view) t)) s) s
+
+unfoldable pub turn : BlockModel → State → State
+turn m s =
+    let taken : State = setTurns (suc (s .turns)) (taking (s .moving) s) in
+    wsScheme m (execute (taken .moving) m taken)
