@@ -79,16 +79,16 @@ pub record Facts : Type 0 where
 
 abbrev pub factsOf : (generates uses terminates copies server units queue target : ℕ) (leaves : Bool) → Facts
 factsOf generates uses terminates copies server units queue target leaves =
-    record
-    { generates = generates
-    ; uses = uses
-    ; terminates = terminates
-    ; copies = copies
-    ; server = server
-    ; units = units
-    ; queue = queue
-    ; target = target
-    ; leaves = leaves
+    record {
+      generates = generates;
+      uses = uses;
+      terminates = terminates;
+      copies = copies;
+      server = server;
+      units = units;
+      queue = queue;
+      target = target;
+      leaves = leaves;
     }
 
 unfoldable pub facts : Block → Facts

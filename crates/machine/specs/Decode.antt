@@ -129,13 +129,13 @@ module _ (s : List ℕ) where
   -- "Inside a value a block number may be 1..256 when read."
   abbrev pub inValue : Counts → ℕ → Counts
   inValue n lower =
-      record
-      { facilities = n .facilities
-      ; storages = n .storages
-      ; queues = n .queues
-      ; values = lower
-      ; lists = n .lists
-      ; blocks = Limits.maxBlocks
+      record {
+        facilities = n .facilities;
+        storages = n .storages;
+        queues = n .queues;
+        values = lower;
+        lists = n .lists;
+        blocks = Limits.maxBlocks;
       }
 
   -- `left` values, behind `lower` of them
@@ -197,24 +197,24 @@ module _ (s : List ℕ) where
     queues ← number 0 Limits.maxQueues
     values ← number 0 Limits.maxValues
     sums ←
-      valueFields (record { facilities = facilities; storages = storages; queues = queues; values = 0; lists = 0; blocks = 0 }) values 0
+        valueFields (record { facilities = facilities; storages = storages; queues = queues; values = 0; lists = 0; blocks = 0 }) values 0
     lists ← number 0 Limits.maxLists
     counter ← number 1 Limits.maxCounter
     blocks ← number 1 Limits.maxBlocks
     program ←
-      times blocks
+        times blocks
         (blockField
-          (record { facilities = facilities; storages = storages; queues = queues; values = values; lists = lists; blocks = blocks })
-          capacities)
+        (record { facilities = facilities; storages = storages; queues = queues; values = values; lists = lists; blocks = blocks })
+        capacities)
     give
-      (record
-        { facilities = facilities
-        ; capacities = capacities
-        ; queues = queues
-        ; values = sums
-        ; lists = lists
-        ; counter = counter
-        ; blocks = program
+        (record {
+          facilities = facilities;
+          capacities = capacities;
+          queues = queues;
+          values = sums;
+          lists = lists;
+          counter = counter;
+          blocks = program;
         })
 
   -- "After it: does nothing follow?"

@@ -16,5 +16,5 @@ pub mod Report
 pub mod Decode
 pub mod Validate
 pub mod Outcome
+pub mod Claims
 pub mod Bundle
-pub mod Examples

@@ -25,15 +25,15 @@ recordsOf s = map (λ r. r .entry) (reverse (s .records))
 
 unfoldable pub acceptedRun : BlockModel → State → Outcome
 acceptedRun m s =
-    record
-    { refusal = 0
-    ; end = s .end
-    ; clock = s .view .clock
-    ; turns = s .turns
-    ; made = s .made
-    ; ended = s .ended
-    ; trace = traceBytes (recordsOf s)
-    ; report = reportBytes m s
+    record {
+      refusal = 0;
+      end = s .end;
+      clock = s .view .clock;
+      turns = s .turns;
+      made = s .made;
+      ended = s .ended;
+      trace = traceBytes (recordsOf s);
+      report = reportBytes m s;
     }
 
 -- "Any other input .. gets the refusal number listed for it, all other results zero"

@@ -23,11 +23,11 @@ unfoldable pub serverNumbers : BlockModel → List Logged → ℕ → List Serve
 serverNumbers m records v [] = []
 serverNumbers m records v (x ∷ l) =
     recordsAt m 0 (λ f. eqb (f .server) v) records
-        ∷ x .unitTicks
-        ∷ recordsAt m 1 (λ f. eqb (f .server) v) records
-        ∷ x .waitTicks
-        ∷ x .longest
-        ∷ serverNumbers m records (suc v) l
+    ∷ x .unitTicks
+    ∷ recordsAt m 1 (λ f. eqb (f .server) v) records
+    ∷ x .waitTicks
+    ∷ x .longest
+    ∷ serverNumbers m records (suc v) l
 
 -- "per queue: arrivals, content ticks, longest at a clock move", for the queues from number q on
 unfoldable pub queueNumbers : BlockModel → List Logged → ℕ → List Queue → List ℕ
@@ -53,7 +53,7 @@ movingOne (some t) = t ∷ []
 unfoldable pub places : State → List Place
 places s =
     placed 1 (flat (s .ql)) ++ placed 2 (flat (s .wel)) ++ placed 3 (s .wsl) ++ placed 4 (map (λ e. e .who) (s .fel)) ++ placed 5 (s .rel)
-        ++ placed 6 (movingOne (s .moving))
+    ++ placed 6 (movingOne (s .moving))
 
 unfoldable pub byNumber : List Place → List Place
 byNumber [] = []
@@ -68,10 +68,10 @@ placeNumbers (p ∷ l) = p .number ∷ p .place ∷ placeNumbers l
 unfoldable pub reportNumbers : BlockModel → State → List ℕ
 reportNumbers m s =
     s .view .clock
-        ∷ s .made
-        ∷ s .ended
-        ∷ (serverNumbers m (s .records) 1 (s .view .servers) ++ queueNumbers m (s .records) 1 (s .view .queues)
-        ++ length (places s) ∷ placeNumbers (byNumber (places s)))
+    ∷ s .made
+    ∷ s .ended
+    ∷ (serverNumbers m (s .records) 1 (s .view .servers) ++ queueNumbers m (s .records) 1 (s .view .queues)
+    ++ length (places s) ∷ placeNumbers (byNumber (places s)))
 
 unfoldable pub reportBytes : BlockModel → State → List ℕ
 reportBytes m s = flat (map numberBytes (reportNumbers m s))

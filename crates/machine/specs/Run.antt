@@ -64,29 +64,29 @@ startAt n (b ∷ l) s = startAt (suc n) l (startOf b n s)
 
 unfoldable pub idle : BlockModel → List (List ℕ) → State
 idle m tape =
-    record
-    { view =
-        record
-        { clock = 0
-        ; entries = replicate (length (m .blocks)) 0
-        ; queues = replicate (m .queues) emptyQueue
-        ; servers = replicate (m .facilities) (idleServer 1) ++ map idleServer (m .capacities)
-        }
-    ; counter = m .counter
-    ; samples = tape
-    ; ql = replicate (m .facilities + length (m .capacities)) []
-    ; wel = replicate ((m .facilities + length (m .capacities)) * 6) []
-    ; wsl = []
-    ; rel = []
-    ; fel = []
-    ; moving = none
-    ; serial = 0
-    ; made = 0
-    ; ended = 0
-    ; turns = 0
-    ; records = []
-    ; written = 0
-    ; end = 0
+    record {
+      view =
+          record {
+            clock = 0;
+            entries = replicate (length (m .blocks)) 0;
+            queues = replicate (m .queues) emptyQueue;
+            servers = replicate (m .facilities) (idleServer 1) ++ map idleServer (m .capacities);
+          };
+      counter = m .counter;
+      samples = tape;
+      ql = replicate (m .facilities + length (m .capacities)) [];
+      wel = replicate ((m .facilities + length (m .capacities)) * 6) [];
+      wsl = [];
+      rel = [];
+      fel = [];
+      moving = none;
+      serial = 0;
+      made = 0;
+      ended = 0;
+      turns = 0;
+      records = [];
+      written = 0;
+      end = 0;
     }
 
 unfoldable pub start : BlockModel → List (List ℕ) → State

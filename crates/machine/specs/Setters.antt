@@ -53,336 +53,336 @@ setServers x w = record { clock = w .clock; entries = w .entries; queues = w .qu
 
 abbrev pub setView : View → State → State
 setView x s =
-    record
-    { view = x
-    ; counter = s .counter
-    ; samples = s .samples
-    ; ql = s .ql
-    ; wel = s .wel
-    ; wsl = s .wsl
-    ; rel = s .rel
-    ; fel = s .fel
-    ; moving = s .moving
-    ; serial = s .serial
-    ; made = s .made
-    ; ended = s .ended
-    ; turns = s .turns
-    ; records = s .records
-    ; written = s .written
-    ; end = s .end
+    record {
+      view = x;
+      counter = s .counter;
+      samples = s .samples;
+      ql = s .ql;
+      wel = s .wel;
+      wsl = s .wsl;
+      rel = s .rel;
+      fel = s .fel;
+      moving = s .moving;
+      serial = s .serial;
+      made = s .made;
+      ended = s .ended;
+      turns = s .turns;
+      records = s .records;
+      written = s .written;
+      end = s .end;
     }
 
 abbrev pub setCounter : ℕ → State → State
 setCounter x s =
-    record
-    { view = s .view
-    ; counter = x
-    ; samples = s .samples
-    ; ql = s .ql
-    ; wel = s .wel
-    ; wsl = s .wsl
-    ; rel = s .rel
-    ; fel = s .fel
-    ; moving = s .moving
-    ; serial = s .serial
-    ; made = s .made
-    ; ended = s .ended
-    ; turns = s .turns
-    ; records = s .records
-    ; written = s .written
-    ; end = s .end
+    record {
+      view = s .view;
+      counter = x;
+      samples = s .samples;
+      ql = s .ql;
+      wel = s .wel;
+      wsl = s .wsl;
+      rel = s .rel;
+      fel = s .fel;
+      moving = s .moving;
+      serial = s .serial;
+      made = s .made;
+      ended = s .ended;
+      turns = s .turns;
+      records = s .records;
+      written = s .written;
+      end = s .end;
     }
 
 abbrev pub setSamples : List (List ℕ) → State → State
 setSamples x s =
-    record
-    { view = s .view
-    ; counter = s .counter
-    ; samples = x
-    ; ql = s .ql
-    ; wel = s .wel
-    ; wsl = s .wsl
-    ; rel = s .rel
-    ; fel = s .fel
-    ; moving = s .moving
-    ; serial = s .serial
-    ; made = s .made
-    ; ended = s .ended
-    ; turns = s .turns
-    ; records = s .records
-    ; written = s .written
-    ; end = s .end
+    record {
+      view = s .view;
+      counter = s .counter;
+      samples = x;
+      ql = s .ql;
+      wel = s .wel;
+      wsl = s .wsl;
+      rel = s .rel;
+      fel = s .fel;
+      moving = s .moving;
+      serial = s .serial;
+      made = s .made;
+      ended = s .ended;
+      turns = s .turns;
+      records = s .records;
+      written = s .written;
+      end = s .end;
     }
 
 abbrev pub setQl : List (List Transaction) → State → State
 setQl x s =
-    record
-    { view = s .view
-    ; counter = s .counter
-    ; samples = s .samples
-    ; ql = x
-    ; wel = s .wel
-    ; wsl = s .wsl
-    ; rel = s .rel
-    ; fel = s .fel
-    ; moving = s .moving
-    ; serial = s .serial
-    ; made = s .made
-    ; ended = s .ended
-    ; turns = s .turns
-    ; records = s .records
-    ; written = s .written
-    ; end = s .end
+    record {
+      view = s .view;
+      counter = s .counter;
+      samples = s .samples;
+      ql = x;
+      wel = s .wel;
+      wsl = s .wsl;
+      rel = s .rel;
+      fel = s .fel;
+      moving = s .moving;
+      serial = s .serial;
+      made = s .made;
+      ended = s .ended;
+      turns = s .turns;
+      records = s .records;
+      written = s .written;
+      end = s .end;
     }
 
 abbrev pub setWel : List (List Transaction) → State → State
 setWel x s =
-    record
-    { view = s .view
-    ; counter = s .counter
-    ; samples = s .samples
-    ; ql = s .ql
-    ; wel = x
-    ; wsl = s .wsl
-    ; rel = s .rel
-    ; fel = s .fel
-    ; moving = s .moving
-    ; serial = s .serial
-    ; made = s .made
-    ; ended = s .ended
-    ; turns = s .turns
-    ; records = s .records
-    ; written = s .written
-    ; end = s .end
+    record {
+      view = s .view;
+      counter = s .counter;
+      samples = s .samples;
+      ql = s .ql;
+      wel = x;
+      wsl = s .wsl;
+      rel = s .rel;
+      fel = s .fel;
+      moving = s .moving;
+      serial = s .serial;
+      made = s .made;
+      ended = s .ended;
+      turns = s .turns;
+      records = s .records;
+      written = s .written;
+      end = s .end;
     }
 
 abbrev pub setWsl : List Transaction → State → State
 setWsl x s =
-    record
-    { view = s .view
-    ; counter = s .counter
-    ; samples = s .samples
-    ; ql = s .ql
-    ; wel = s .wel
-    ; wsl = x
-    ; rel = s .rel
-    ; fel = s .fel
-    ; moving = s .moving
-    ; serial = s .serial
-    ; made = s .made
-    ; ended = s .ended
-    ; turns = s .turns
-    ; records = s .records
-    ; written = s .written
-    ; end = s .end
+    record {
+      view = s .view;
+      counter = s .counter;
+      samples = s .samples;
+      ql = s .ql;
+      wel = s .wel;
+      wsl = x;
+      rel = s .rel;
+      fel = s .fel;
+      moving = s .moving;
+      serial = s .serial;
+      made = s .made;
+      ended = s .ended;
+      turns = s .turns;
+      records = s .records;
+      written = s .written;
+      end = s .end;
     }
 
 abbrev pub setRel : List Transaction → State → State
 setRel x s =
-    record
-    { view = s .view
-    ; counter = s .counter
-    ; samples = s .samples
-    ; ql = s .ql
-    ; wel = s .wel
-    ; wsl = s .wsl
-    ; rel = x
-    ; fel = s .fel
-    ; moving = s .moving
-    ; serial = s .serial
-    ; made = s .made
-    ; ended = s .ended
-    ; turns = s .turns
-    ; records = s .records
-    ; written = s .written
-    ; end = s .end
+    record {
+      view = s .view;
+      counter = s .counter;
+      samples = s .samples;
+      ql = s .ql;
+      wel = s .wel;
+      wsl = s .wsl;
+      rel = x;
+      fel = s .fel;
+      moving = s .moving;
+      serial = s .serial;
+      made = s .made;
+      ended = s .ended;
+      turns = s .turns;
+      records = s .records;
+      written = s .written;
+      end = s .end;
     }
 
 abbrev pub setFel : List Event → State → State
 setFel x s =
-    record
-    { view = s .view
-    ; counter = s .counter
-    ; samples = s .samples
-    ; ql = s .ql
-    ; wel = s .wel
-    ; wsl = s .wsl
-    ; rel = s .rel
-    ; fel = x
-    ; moving = s .moving
-    ; serial = s .serial
-    ; made = s .made
-    ; ended = s .ended
-    ; turns = s .turns
-    ; records = s .records
-    ; written = s .written
-    ; end = s .end
+    record {
+      view = s .view;
+      counter = s .counter;
+      samples = s .samples;
+      ql = s .ql;
+      wel = s .wel;
+      wsl = s .wsl;
+      rel = s .rel;
+      fel = x;
+      moving = s .moving;
+      serial = s .serial;
+      made = s .made;
+      ended = s .ended;
+      turns = s .turns;
+      records = s .records;
+      written = s .written;
+      end = s .end;
     }
 
 abbrev pub setMoving : Option Transaction → State → State
 setMoving x s =
-    record
-    { view = s .view
-    ; counter = s .counter
-    ; samples = s .samples
-    ; ql = s .ql
-    ; wel = s .wel
-    ; wsl = s .wsl
-    ; rel = s .rel
-    ; fel = s .fel
-    ; moving = x
-    ; serial = s .serial
-    ; made = s .made
-    ; ended = s .ended
-    ; turns = s .turns
-    ; records = s .records
-    ; written = s .written
-    ; end = s .end
+    record {
+      view = s .view;
+      counter = s .counter;
+      samples = s .samples;
+      ql = s .ql;
+      wel = s .wel;
+      wsl = s .wsl;
+      rel = s .rel;
+      fel = s .fel;
+      moving = x;
+      serial = s .serial;
+      made = s .made;
+      ended = s .ended;
+      turns = s .turns;
+      records = s .records;
+      written = s .written;
+      end = s .end;
     }
 
 abbrev pub setSerial : ℕ → State → State
 setSerial x s =
-    record
-    { view = s .view
-    ; counter = s .counter
-    ; samples = s .samples
-    ; ql = s .ql
-    ; wel = s .wel
-    ; wsl = s .wsl
-    ; rel = s .rel
-    ; fel = s .fel
-    ; moving = s .moving
-    ; serial = x
-    ; made = s .made
-    ; ended = s .ended
-    ; turns = s .turns
-    ; records = s .records
-    ; written = s .written
-    ; end = s .end
+    record {
+      view = s .view;
+      counter = s .counter;
+      samples = s .samples;
+      ql = s .ql;
+      wel = s .wel;
+      wsl = s .wsl;
+      rel = s .rel;
+      fel = s .fel;
+      moving = s .moving;
+      serial = x;
+      made = s .made;
+      ended = s .ended;
+      turns = s .turns;
+      records = s .records;
+      written = s .written;
+      end = s .end;
     }
 
 abbrev pub setMade : ℕ → State → State
 setMade x s =
-    record
-    { view = s .view
-    ; counter = s .counter
-    ; samples = s .samples
-    ; ql = s .ql
-    ; wel = s .wel
-    ; wsl = s .wsl
-    ; rel = s .rel
-    ; fel = s .fel
-    ; moving = s .moving
-    ; serial = s .serial
-    ; made = x
-    ; ended = s .ended
-    ; turns = s .turns
-    ; records = s .records
-    ; written = s .written
-    ; end = s .end
+    record {
+      view = s .view;
+      counter = s .counter;
+      samples = s .samples;
+      ql = s .ql;
+      wel = s .wel;
+      wsl = s .wsl;
+      rel = s .rel;
+      fel = s .fel;
+      moving = s .moving;
+      serial = s .serial;
+      made = x;
+      ended = s .ended;
+      turns = s .turns;
+      records = s .records;
+      written = s .written;
+      end = s .end;
     }
 
 abbrev pub setEnded : ℕ → State → State
 setEnded x s =
-    record
-    { view = s .view
-    ; counter = s .counter
-    ; samples = s .samples
-    ; ql = s .ql
-    ; wel = s .wel
-    ; wsl = s .wsl
-    ; rel = s .rel
-    ; fel = s .fel
-    ; moving = s .moving
-    ; serial = s .serial
-    ; made = s .made
-    ; ended = x
-    ; turns = s .turns
-    ; records = s .records
-    ; written = s .written
-    ; end = s .end
+    record {
+      view = s .view;
+      counter = s .counter;
+      samples = s .samples;
+      ql = s .ql;
+      wel = s .wel;
+      wsl = s .wsl;
+      rel = s .rel;
+      fel = s .fel;
+      moving = s .moving;
+      serial = s .serial;
+      made = s .made;
+      ended = x;
+      turns = s .turns;
+      records = s .records;
+      written = s .written;
+      end = s .end;
     }
 
 abbrev pub setTurns : ℕ → State → State
 setTurns x s =
-    record
-    { view = s .view
-    ; counter = s .counter
-    ; samples = s .samples
-    ; ql = s .ql
-    ; wel = s .wel
-    ; wsl = s .wsl
-    ; rel = s .rel
-    ; fel = s .fel
-    ; moving = s .moving
-    ; serial = s .serial
-    ; made = s .made
-    ; ended = s .ended
-    ; turns = x
-    ; records = s .records
-    ; written = s .written
-    ; end = s .end
+    record {
+      view = s .view;
+      counter = s .counter;
+      samples = s .samples;
+      ql = s .ql;
+      wel = s .wel;
+      wsl = s .wsl;
+      rel = s .rel;
+      fel = s .fel;
+      moving = s .moving;
+      serial = s .serial;
+      made = s .made;
+      ended = s .ended;
+      turns = x;
+      records = s .records;
+      written = s .written;
+      end = s .end;
     }
 
 abbrev pub setRecords : List Logged → State → State
 setRecords x s =
-    record
-    { view = s .view
-    ; counter = s .counter
-    ; samples = s .samples
-    ; ql = s .ql
-    ; wel = s .wel
-    ; wsl = s .wsl
-    ; rel = s .rel
-    ; fel = s .fel
-    ; moving = s .moving
-    ; serial = s .serial
-    ; made = s .made
-    ; ended = s .ended
-    ; turns = s .turns
-    ; records = x
-    ; written = s .written
-    ; end = s .end
+    record {
+      view = s .view;
+      counter = s .counter;
+      samples = s .samples;
+      ql = s .ql;
+      wel = s .wel;
+      wsl = s .wsl;
+      rel = s .rel;
+      fel = s .fel;
+      moving = s .moving;
+      serial = s .serial;
+      made = s .made;
+      ended = s .ended;
+      turns = s .turns;
+      records = x;
+      written = s .written;
+      end = s .end;
     }
 
 abbrev pub setWritten : ℕ → State → State
 setWritten x s =
-    record
-    { view = s .view
-    ; counter = s .counter
-    ; samples = s .samples
-    ; ql = s .ql
-    ; wel = s .wel
-    ; wsl = s .wsl
-    ; rel = s .rel
-    ; fel = s .fel
-    ; moving = s .moving
-    ; serial = s .serial
-    ; made = s .made
-    ; ended = s .ended
-    ; turns = s .turns
-    ; records = s .records
-    ; written = x
-    ; end = s .end
+    record {
+      view = s .view;
+      counter = s .counter;
+      samples = s .samples;
+      ql = s .ql;
+      wel = s .wel;
+      wsl = s .wsl;
+      rel = s .rel;
+      fel = s .fel;
+      moving = s .moving;
+      serial = s .serial;
+      made = s .made;
+      ended = s .ended;
+      turns = s .turns;
+      records = s .records;
+      written = x;
+      end = s .end;
     }
 
 abbrev pub setEnd : ℕ → State → State
 setEnd x s =
-    record
-    { view = s .view
-    ; counter = s .counter
-    ; samples = s .samples
-    ; ql = s .ql
-    ; wel = s .wel
-    ; wsl = s .wsl
-    ; rel = s .rel
-    ; fel = s .fel
-    ; moving = s .moving
-    ; serial = s .serial
-    ; made = s .made
-    ; ended = s .ended
-    ; turns = s .turns
-    ; records = s .records
-    ; written = s .written
-    ; end = x
+    record {
+      view = s .view;
+      counter = s .counter;
+      samples = s .samples;
+      ql = s .ql;
+      wel = s .wel;
+      wsl = s .wsl;
+      rel = s .rel;
+      fel = s .fel;
+      moving = s .moving;
+      serial = s .serial;
+      made = s .made;
+      ended = s .ended;
+      turns = s .turns;
+      records = s .records;
+      written = s .written;
+      end = x;
     }

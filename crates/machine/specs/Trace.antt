@@ -52,7 +52,7 @@ readRecord s at =
 unfoldable pub inRanges : Record → Bool
 inRanges r =
     leb (r .clock) maxClock && (leb 1 (r .transaction) && leb (r .transaction) maxTransaction) && (leb 1 (r .block) && leb (r .block) maxBlocks)
-        && leb (r .outcome) 1
+    && leb (r .outcome) 1
 
 -- What the writer answers: the bytes that now begin the rest, or a refusal.
 pub data Writing : Type 0 where

@@ -19,13 +19,13 @@ pub record Transaction : Type 0 where
 -- a new one at a block; its serial is given where it is put on a list
 unfoldable pub newborn : ℕ → ℕ → ℕ → Transaction
 newborn number priority block =
-    record
-    { number = number
-    ; priority = priority
-    ; parameters = replicate parameterCount (pos 0)
-    ; next = block
-    ; serial = 0
-    ; returning = false
+    record {
+      number = number;
+      priority = priority;
+      parameters = replicate parameterCount (pos 0);
+      next = block;
+      serial = 0;
+      returning = false;
     }
 
 -- "All of these are sorted by priority, high first, then serial, low first."

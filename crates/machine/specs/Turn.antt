@@ -21,12 +21,12 @@ unfoldable pub sampleServers : ℕ → List Server → List (List Transaction) �
 sampleServers ticks [] ql = []
 sampleServers ticks (v ∷ l) [] = v ∷ l
 sampleServers ticks (v ∷ l) (q ∷ ql) =
-    record
-    { capacity = v .capacity
-    ; inUse = v .inUse
-    ; unitTicks = v .unitTicks + v .inUse * ticks
-    ; waitTicks = v .waitTicks + length q * ticks
-    ; longest = max (v .longest) (length q)
+    record {
+      capacity = v .capacity;
+      inUse = v .inUse;
+      unitTicks = v .unitTicks + v .inUse * ticks;
+      waitTicks = v .waitTicks + length q * ticks;
+      longest = max (v .longest) (length q);
     }
     ∷ sampleServers ticks l ql
 

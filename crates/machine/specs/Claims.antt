@@ -1,0 +1,175 @@
+-- "What demand 3 speaks of", word by word, as one claim about the states of a whole run. Proved in ../proofs/Demand3.antt.
+use Prim.Native.Nat.{ℕ, zero, suc, _+_, _-_, _≤_, _<_}
+use mathlib.Core.Path.{_≡_}
+use mathlib.Core.Bool.{Bool, true, false, cond, not, _&&_, _||_}
+use mathlib.Core.List.{List, [], _∷_, _++_, map, reverse}
+use mathlib.Core.Option.{Option, none, some}
+use lib.Dec.{ltb, leb, eqb, T}
+use lib.ListN.{length, getD, drop}
+use Rattle.machine.specs.Limits.{maxTurns}
+use Rattle.machine.specs.Transaction.{Transaction, Event}
+use Rattle.machine.specs.Lists.{those, flat, nth}
+use Rattle.machine.specs.Term.{serverAt}
+use Rattle.machine.specs.Block.{Code, U, NU, E, NE, F, NF, status, Block, Facts, facts, BlockModel, blockAt}
+use Rattle.machine.specs.State.{State, Logged}
+use Rattle.machine.specs.Moves.{qlOf, welOf}
+use Rattle.machine.specs.Execute.{fits}
+use Rattle.machine.specs.Turn.{waitsOn}
+use Rattle.machine.specs.Run.{states}
+use Rattle.machine.specs.Report.{recordsAt, places, movingOne}
+
+-- how many of a list pass a test
+unfoldable pub count : {A : Type 0} → (A → Bool) → List A → ℕ
+count p l = length (those p l)
+
+abbrev pub bit : Bool → ℕ
+bit true = 1
+bit false = 0
+
+-- f 1 + f 2 + .. + f n
+unfoldable pub upTo : ℕ → (ℕ → ℕ) → ℕ
+upTo zero f = 0
+upTo (suc n) f = upTo n f + f (suc n)
+
+-- ---- One place each
+
+-- everybody on the machine's lists, and the moving one
+unfoldable pub everyone : State → List Transaction
+everyone s =
+    flat (s .ql) ++ flat (s .wel) ++ s .wsl ++ s .rel ++ map (λ e. e .who) (s .fel) ++ movingOne (s .moving)
+
+-- how often a number stands there
+unfoldable pub standing : State → ℕ → ℕ
+standing s n = count (λ t. eqb (t .number) n) (everyone s)
+
+-- ---- Positions among records
+
+abbrev pub noRecord : Logged
+noRecord = record { entry = record { clock = 0; transaction = 0; block = 0; outcome = 0 }; priority = 0 }
+
+-- where a transaction's next record stands among some records, or their number where it has none
+unfoldable pub nextRecord : ℕ → List Logged → ℕ
+nextRecord n [] = 0
+nextRecord n (r ∷ l) = cond (eqb (r .entry .transaction) n) 0 (suc (nextRecord n l))
+
+-- the position of the record that ends the wait begun at position i; all records' number while the wait is open
+unfoldable pub waitEnd : List Logged → ℕ → ℕ
+waitEnd records i = suc i + nextRecord (getD records i noRecord .entry .transaction) (drop (suc i) records)
+
+module _ (m : BlockModel) (tape : List (List ℕ)) where
+  abbrev pub factsAt : Logged → Facts
+  factsAt r = facts (blockAt m (r .entry .block))
+
+  abbrev pub entered : Logged → Bool
+  entered r = eqb (r .entry .outcome) 0
+
+  -- ---- "Made: one for each GENERATE that gets a time at the start (of a shared list, each time goes to one), one for each
+  -- record of a GENERATE whose list had a time left, n for each record of SPLIT n."
+
+  -- how many times a list has
+  abbrev pub timesOf : ℕ → ℕ
+  timesOf list = length (nth tape list [])
+
+  -- how many of some blocks are a GENERATE of that list
+  unfoldable pub generatesOf : ℕ → List Block → ℕ
+  generatesOf list l = count (λ b. eqb (facts b .generates) list) l
+
+  -- is the block a GENERATE of a list of which fewer times than it has were used?
+  abbrev pub getsTime : Facts → (used : ℕ → ℕ) → Bool
+  getsTime f used = not (eqb (f .generates) 0) && ltb (used (f .generates)) (timesOf (f .generates))
+
+  -- at the start, from some blocks on, behind the blocks in `before`
+  unfoldable pub madeAtStart : (before l : List Block) → ℕ
+  madeAtStart before [] = 0
+  madeAtStart before (b ∷ l) = bit (getsTime (facts b) (λ list. generatesOf list before)) + madeAtStart (b ∷ before) l
+
+  -- the times of a list that were used: at the start, and by the records of GENERATE and ADVANCE that name it
+  unfoldable pub usedBy : List Logged → ℕ → ℕ
+  usedBy records list =
+      generatesOf list (m .blocks) + count (λ r. entered r && eqb (factsAt r .uses) list) records
+
+  -- made by the start and some records, newest first
+  unfoldable pub madeBy : List Logged → ℕ
+  madeBy [] = madeAtStart [] (m .blocks)
+  madeBy (r ∷ l) = cond (entered r) (bit (getsTime (factsAt r) (usedBy l)) + factsAt r .copies) 0 + madeBy l
+
+  -- ---- "Ended: the records at TERMINATE. Living: the numbers 1..made without such a record."
+
+  abbrev pub terminates : Logged → Bool
+  terminates r = eqb (factsAt r .terminates) 1
+
+  unfoldable pub endedBy : List Logged → ℕ
+  endedBy records = count terminates records
+
+  unfoldable pub isLiving : List Logged → ℕ → Bool
+  isLiving records n =
+      leb 1 n && leb n (madeBy records) && eqb (count (λ r. terminates r && eqb (r .entry .transaction) n) records) 0
+
+  unfoldable pub livingCount : List Logged → ℕ
+  livingCount records = upTo (madeBy records) (λ n. bit (isLiving records n))
+
+  -- ---- "Able to go is, on a QL, one whose facility is idle or whose units, judged alone, fit the free units; on a WEL, one
+  -- whose code is not true; on the WSL, one whose comparison does not hold, with its own parameters."
+
+  -- on a server's QL; a SEIZE waits for the one unit of its facility
+  unfoldable pub ableOnQl : State → ℕ → ℕ
+  ableOnQl s v = count (fits m (s .view) v) (qlOf s v)
+
+  unfoldable pub ableOnWel : State → Code → ℕ → ℕ
+  ableOnWel s code v = cond (status code (serverAt (s .view) v)) 0 (length (welOf s v code))
+
+  unfoldable pub ableOnWels : State → ℕ → ℕ
+  ableOnWels s v =
+      ableOnWel s U v + ableOnWel s NU v + ableOnWel s E v + ableOnWel s NE v + ableOnWel s F v + ableOnWel s NF v
+
+  unfoldable pub ableToGo : State → ℕ
+  ableToGo s =
+      upTo (length (s .view .servers)) (ableOnQl s) + upTo (length (s .view .servers)) (ableOnWels s)
+      + count (λ t. not (waitsOn m (s .view) t)) (s .wsl)
+
+  -- ---- "A wait to seize f begins with a record of outcome 1 at a SEIZE f and ends with that transaction's next record;
+  -- likewise to enter s. Its priority is the waiter's, its units are the block's."
+
+  -- two waits for one server at equal priority and equal units
+  unfoldable pub equalWaits : Logged → Logged → Bool
+  equalWaits a b =
+      eqb (a .entry .outcome) 1 && eqb (b .entry .outcome) 1 && not (eqb (factsAt a .server) 0)
+      && eqb (factsAt a .server) (factsAt b .server) && eqb (a .priority) (b .priority) && eqb (factsAt a .units) (factsAt b .units)
+
+  -- "the one that began later has ended only if the other ended before it", of records in the order of writing
+  abbrev pub InOrder : List Logged → Type 0
+  InOrder records =
+      (i k : ℕ) → i < k → k < length records → T (equalWaits (getD records i noRecord) (getD records k noRecord))
+      → waitEnd records k < length records → waitEnd records i < waitEnd records k
+
+  -- ---- The four claims of one state
+
+  pub record Keeps (s : State) : Type 0 where
+    -- every living number stands exactly once, and no other stands anywhere
+    pub one-place : (n : ℕ) → standing s n ≡ bit (isLiving (s .records) n)
+    pub made : s .made ≡ madeBy (s .records)
+    pub ended : s .ended ≡ endedBy (s .records)
+    pub balance : madeBy (s .records) ≡ endedBy (s .records) + livingCount (s .records)
+    -- the living count of the report
+    pub living : length (places s) ≡ livingCount (s .records)
+    -- the clock is about to move, or the run ended dry: `end` is 0 in each state before a turn that is taken, and 1 is dry
+    pub nobody-able : s .end ≤ 1 → s .moving ≡ none → s .rel ≡ [] → ableToGo s ≡ 0
+    pub order : InOrder (reverse (s .records))
+
+-- ---- "It is one claim about the whole run": of the start, of what each turn left, and of the last state
+
+abbrev pub Each : {A : Type 0} → (A → Type 0) → List A → Type 0
+Each P [] = Unit {0}
+Each P (x ∷ l) = P x × Each P l
+
+abbrev pub Demand3 : BlockModel → List (List ℕ) → (budget room : ℕ) → Type 0
+Demand3 m tape budget room = Each (Keeps m tape) (states m tape budget room)
+
+-- "run for at most the stated number of turns, always to a stated end"
+abbrev pub statedEnd : ℕ → Bool
+statedEnd n = leb 1 n && leb n 4 || leb 21 n && leb n 26
+
+pub record Bounded (budget : ℕ) (s : State) : Type 0 where
+  pub within-budget : s .turns ≤ budget
+  pub within-limit : s .turns ≤ maxTurns
+  pub stated : T (statedEnd (s .end))
