@@ -1,0 +1,70 @@
+-- What validation gives of a model and its tape: each operand lies in its field's range.
+use Prim.Native.Nat.{ℕ, zero, suc, _+_, _≤_, _<_}
+use mathlib.Core.Path.{_≡_}
+use mathlib.Core.Bool.{Bool, true, false}
+use mathlib.Core.List.{List, [], _∷_}
+use lib.Dec.{T}
+use lib.ListN.{length, getD}
+use Rattle.machine.specs.Limits.{maxBlocks, maxCapacity, maxFacilities, maxStorages, maxQueues, maxLists, maxPriority, maxTime, maxSamples, maxSplit, maxCounter, parameterCount}
+use Rattle.machine.specs.Lists.{nth}
+use Rattle.machine.specs.Block.{Code, U, NU, E, NE, F, NF, Block, generate, advance, terminate, seize, release, enter, leave, waitServer, waitTerms, branch, goto, assign, priority, split, arrive, depart, BlockModel, blockAt}
+use Rattle.machine.specs.Validate.{wellFormed}
+
+-- from 1 to n
+abbrev pub Names : ℕ → ℕ → Type 0
+Names n k = (1 ≤ k) × (k ≤ n)
+
+abbrev pub servers : BlockModel → ℕ
+servers m = m .facilities + length (m .capacities)
+
+-- a storage, by its server number
+abbrev pub Storage : BlockModel → ℕ → Type 0
+Storage m v = (m .facilities < v) × (v ≤ servers m)
+
+-- codes 1 and 2 name a facility, the others a storage
+abbrev pub CodeServer : BlockModel → Code → ℕ → Type 0
+CodeServer m U v = Names (m .facilities) v
+CodeServer m NU v = Names (m .facilities) v
+CodeServer m E v = Storage m v
+CodeServer m NE v = Storage m v
+CodeServer m F v = Storage m v
+CodeServer m NF v = Storage m v
+
+-- the capacity of the storage with server number v is nth capacities (v - facilities); ENTER and LEAVE take at most that
+abbrev pub Units : BlockModel → ℕ → ℕ → Type 0
+Units m v b = (1 ≤ b) × ((k : ℕ) → v ≡ m .facilities + k → b ≤ nth (m .capacities) k 0)
+
+abbrev pub ProperBlock : BlockModel → Block → Type 0
+ProperBlock m (generate list p) = Names (m .lists) list × (p ≤ maxPriority)
+ProperBlock m (advance list) = Names (m .lists) list
+ProperBlock m (terminate a) = Unit {0}
+ProperBlock m (seize v) = Names (m .facilities) v
+ProperBlock m (release v) = Names (m .facilities) v
+ProperBlock m (enter v b) = Storage m v × Units m v b
+ProperBlock m (leave v b) = Storage m v × Units m v b
+ProperBlock m (waitServer code v) = CodeServer m code v
+ProperBlock m (waitTerms a r b) = Unit {0}
+ProperBlock m (branch a r b target) = Names (length (m .blocks)) target
+ProperBlock m (goto target) = Names (length (m .blocks)) target
+ProperBlock m (assign k a) = Names parameterCount k
+ProperBlock m (priority p) = p ≤ maxPriority
+ProperBlock m (split n target) = Names maxSplit n × Names (length (m .blocks)) target
+ProperBlock m (arrive q) = Names (m .queues) q
+ProperBlock m (depart q) = Names (m .queues) q
+
+pub record Proper (m : BlockModel) (tape : List (List ℕ)) : Type 0 where
+  -- of every block; the block that `blockAt` gives past the end asks nothing
+  pub block : (n : ℕ) → ProperBlock m (blockAt m n)
+  pub blocks : Names maxBlocks (length (m .blocks))
+  pub facilities : m .facilities ≤ maxFacilities
+  pub storages : length (m .capacities) ≤ maxStorages
+  pub capacity : (k : ℕ) → k < length (m .capacities) → Names maxCapacity (getD (m .capacities) k 0)
+  pub queues : m .queues ≤ maxQueues
+  pub lists : m .lists ≤ maxLists
+  pub counter : Names maxCounter (m .counter)
+  -- question 7
+  pub formed : T (wellFormed m)
+  -- one sample list for each list of the model
+  pub tapes : length tape ≡ m .lists
+  pub samples : (k : ℕ) → length (getD tape k []) ≤ maxSamples
+  pub times : (k i : ℕ) → getD (getD tape k []) i 0 ≤ maxTime
