@@ -1,0 +1,69 @@
+-- Where things stand in the two arrays of a run, by index. `tables`, filled once by decoding: the program, the values and the
+-- capacities. `tally`, the 64-bit numbers that change: entries, units, contents, sums, and where each sample list goes on.
+use Prim.Native.Nat.{ℕ}
+
+-- ---- tables
+
+-- block b (from 0) at program + 8 * b
+abbrev pub blockWidth : ℕ
+blockWidth = 8
+
+-- value k (from 0) at values + 64 * k
+abbrev pub values : ℕ
+values = 2048
+
+abbrev pub valueWidth : ℕ
+valueWidth = 64
+
+-- the capacity of server v (from 0; the facilities first) at capacities + v, for 64 servers
+abbrev pub capacities : ℕ
+capacities = 2560
+
+abbrev pub tablesSize : ℕ
+tablesSize = 2624
+
+-- ---- tally
+
+-- entries of a block, 256 of them
+abbrev pub entries : ℕ
+entries = 0
+
+-- waits begun at a block, 256 of them
+abbrev pub waits : ℕ
+waits = 256
+
+-- per server, 64 of them: units in use, ticks of units in use, ticks waited, longest QL and length of the QL
+abbrev pub inUse : ℕ
+inUse = 512
+
+abbrev pub unitTicks : ℕ
+unitTicks = 576
+
+abbrev pub waitTicks : ℕ
+waitTicks = 640
+
+abbrev pub longestQl : ℕ
+longestQl = 704
+
+abbrev pub qlLength : ℕ
+qlLength = 768
+
+-- per queue, 32 of them: content, content ticks and longest content
+abbrev pub content : ℕ
+content = 832
+
+abbrev pub contentTicks : ℕ
+contentTicks = 864
+
+abbrev pub longestContent : ℕ
+longestContent = 896
+
+-- per sample list, 16 of them: where its next time stands in the tape, and how many times are left
+abbrev pub listAt : ℕ
+listAt = 928
+
+abbrev pub listLeft : ℕ
+listLeft = 944
+
+abbrev pub tallySize : ℕ
+tallySize = 960

@@ -1,0 +1,85 @@
+-- When header, tables and list cells stand for a model and a tape of the machine.
+use Prim.Native.Nat.{ℕ, zero, suc, _+_, _*_, _-_, _≤_, _<_}
+use mathlib.Core.Path.{_≡_}
+use mathlib.Core.Bool.{Bool, true, false, _&&_}
+use mathlib.Core.List.{List, [], _∷_, _++_, map}
+use lib.Dec.{leb, T}
+use lib.ListN.{length, getD, take, drop, replicate}
+use Rattle.machine.specs.Limits.{maxConstant, maxTime}
+use Rattle.machine.specs.Parser.{Cursor, Parsed, parsed, times, field}
+use Rattle.machine.specs.Term.{Term, constant, minusConstant, parameter, clockTerm, entriesOf, contentOf, unitsInUse, unitsFree, facilityInUse, value, comparison, bracket, Sum, nothing, plus, minus}
+use Rattle.machine.specs.Block.{Block, generate, advance, terminate, seize, release, enter, leave, waitServer, waitTerms, branch, goto, assign, priority, split, arrive, depart, BlockModel}
+use Rattle.machine.specs.declared.model.Model.{Model}
+use Rattle.tables.specs.Layout as Layout
+use Rattle.tables.specs.Numbers.{sumNumbers, blockNumbers}
+
+-- these numbers stand in a list from a position on
+abbrev pub At : List ℕ → ℕ → List ℕ → Type 0
+At l at numbers = take (length numbers) (drop at l) ≡ numbers
+
+unfoldable pub headerOf : BlockModel → Model
+headerOf m =
+    record {
+      facilities = m .facilities;
+      storages = length (m .capacities);
+      queues = m .queues;
+      values = length (m .values);
+      lists = m .lists;
+      counter = m .counter;
+      blocks = length (m .blocks);
+    }
+
+-- constants are at most 2,147,483,647
+unfoldable mutual
+  pub smallTerm : Term → Bool
+  smallTerm (constant n) = leb n maxConstant
+  smallTerm (minusConstant n) = leb n maxConstant
+  smallTerm (parameter k) = true
+  smallTerm clockTerm = true
+  smallTerm (entriesOf b) = true
+  smallTerm (contentOf q) = true
+  smallTerm (unitsInUse v) = true
+  smallTerm (unitsFree v) = true
+  smallTerm (facilityInUse v) = true
+  smallTerm (value k) = true
+  smallTerm (comparison r a b) = smallTerm a && smallTerm b
+  smallTerm (bracket e) = smallSum e
+
+  pub smallSum : Sum → Bool
+  smallSum nothing = true
+  smallSum (plus t e) = smallTerm t && smallSum e
+  smallSum (minus t e) = smallTerm t && smallSum e
+
+unfoldable pub smallBlock : Block → Bool
+smallBlock (generate list p) = true
+smallBlock (advance list) = true
+smallBlock (terminate a) = true
+smallBlock (seize v) = true
+smallBlock (release v) = true
+smallBlock (enter v b) = true
+smallBlock (leave v b) = true
+smallBlock (waitServer code v) = true
+smallBlock (waitTerms a r b) = smallTerm a && smallTerm b
+smallBlock (branch a r b target) = smallTerm a && smallTerm b
+smallBlock (goto target) = true
+smallBlock (assign k a) = smallTerm a
+smallBlock (priority p) = true
+smallBlock (split n target) = true
+smallBlock (arrive q) = true
+smallBlock (depart q) = true
+
+-- from byte p of the tape on stand the times of a sample list
+abbrev pub TimesAt : List ℕ → ℕ → List ℕ → Type 0
+TimesAt bytes p l =
+    (c : Cursor) → c .position ≡ p → (d : Cursor) × (times (length l) (field bytes 8 0 maxTime) c ≡ parsed l d)
+
+pub record Represents (m : BlockModel) (tape : List (List ℕ)) (tapeBytes tables lists : List ℕ) : Type 0 where
+  pub blocks : (b : ℕ) → b < length (m .blocks) → At tables (Layout.blockWidth * b) (blockNumbers (getD (m .blocks) b (terminate 0)))
+  pub small-blocks : (b : ℕ) → T (smallBlock (getD (m .blocks) b (terminate 0)))
+  pub values : (k : ℕ) → k < length (m .values) → At tables (Layout.values + Layout.valueWidth * k) (sumNumbers (getD (m .values) k nothing))
+  pub small-values : (k : ℕ) → T (smallSum (getD (m .values) k nothing))
+  -- of all 64 servers; 0 where there is none
+  pub capacities : (v : ℕ) → v < 64 → getD tables (Layout.capacities + v) 0 ≡ getD (replicate (m .facilities) 1 ++ m .capacities) v 0
+  -- list k: where its times begin, at k, and its count, at 16 + k; a list that is not there has no times
+  pub begins : (k : ℕ) → k < m .lists → TimesAt tapeBytes (getD lists k 0) (getD tape k [])
+  pub counts : (k : ℕ) → k < 16 → getD lists (16 + k) 0 ≡ length (getD tape k [])
