@@ -1,0 +1,5 @@
+pub mod Answered
+pub mod Groups
+pub mod Numbers
+pub mod Steps
+pub mod Stores

@@ -1,0 +1,70 @@
+-- `codec::read_field` meets its contract: the answer of `read_number`, then the two tests of the range.
+use mathlib.Core.Path.{ap, _∙_}
+use native.Mathlib.Numerals.{add-one}
+use Rattle.machine.specs.Parser.{refused}
+use Rattle.codec.specs.Answers.{parsedOf}
+use Rattle.codec.proofs.Answered.{field-unread, field-low, field-high, field-within, refused-value, value-inside}
+use borrow.Author.Needs.{needs}
+use Rattle.codec.proofs.read_field.Statement.{statement}
+use Rattle.codec.proofs.read_field.Tie as tie
+
+add-out-of-range : tie.Need-add-out-of-range
+add-out-of-range c = search needs
+
+read-number-requires : tie.Need-read-number-requires
+read-number-requires c κs = search needs
+
+enum-known-v : tie.Need-enum-known-v
+enum-known-v c = search needs
+
+enum-told : tie.Need-enum-told
+enum-told c = search needs
+
+returns : tie.Need-returns
+unfolding parsedOf
+returns c = (
+  λ numbers mentions. field-unread _ _ _ _ _ numbers mentions _ (c .before .before .read-number .ensures .0) (c .enum-told .given .1),
+  λ v next e. absurd (refused-value e),
+)
+
+returns-2 : tie.Need-returns-2
+unfolding parsedOf
+returns-2 c = let w = c .before .before in (
+  λ numbers mentions.
+      ap refused (add-one _)
+      ∙ field-low _ _ _ _ _ numbers mentions _ (w .before .before .read-number .ensures .0) _ _ (w .v .given .1) (c .if1 .taken),
+  λ v next e. absurd (refused-value e),
+)
+
+returns-3 : tie.Need-returns-3
+unfolding parsedOf
+returns-3 c = let w = c .before .before .before in (
+  λ numbers mentions.
+      ap refused (add-one _)
+      ∙ field-high _ _ _ _ _ numbers mentions _ (w .before .before .read-number .ensures .0) _ _ (w .v .given .1) (c .before .if1 .left)
+      (c .if2 .taken),
+  λ v next e. absurd (refused-value e),
+)
+
+returns-4 : tie.Need-returns-4
+unfolding parsedOf
+returns-4 c = let w = c .before .before .before in
+    let number = w .before .before .read-number .ensures in
+    let inside = number .1 _ _ (w .v .given .1) in (
+      λ numbers mentions.
+          field-within _ _ _ _ _ numbers mentions _ (number .0) _ _ (w .v .given .1) (c .before .if1 .left) (c .if2 .left) (inside .1),
+      value-inside _ _ _ _ (c .before .if1 .left) (c .if2 .left) (inside .1) (inside .2),
+    )
+
+pub read-field-spec : {M : Type 1} → statement M
+read-field-spec =
+    tie.close
+    (tie.spec
+    add-out-of-range
+    read-number-requires
+    enum-known-v
+    enum-told
+    returns
+    returns-2
+    returns-3
+    returns-4)

@@ -1,0 +1,28 @@
+-- What the answers of this crate say in the paper's terms. The contracts use these.
+use Prim.Native.Nat.{ℕ, _+_, _-_}
+use mathlib.Core.Option.{Option, none, some}
+use Rattle.machine.specs.Number.{Number}
+use Rattle.machine.specs.Parser.{Cursor, Parsed, parsed, refused}
+use Rattle.codec.specs.declared.Read.{Read}
+use Rattle.codec.specs.declared.Read.the-variants.{Number as Whole, Refused as Unread}
+use Rattle.codec.specs.declared.Field.{Field}
+use Rattle.codec.specs.declared.Field.the-variants.{Value, Refused}
+
+-- a number read at a position: its value and how many bytes it takes
+unfoldable pub numberOf : ℕ → Read → Option Number
+numberOf at (Whole v next) = some (record { value = v; size = next - at })
+numberOf at Unread = none
+
+-- the same, from the definition's number to the answer
+unfoldable pub readAs : ℕ → Option Number → Read
+readAs at none = Unread
+readAs at (some n) = Whole (n .value) (at + n .size)
+
+-- a position, and inside a value the numbers and mentions read so far
+abbrev pub cursorAt : ℕ → ℕ → ℕ → Cursor
+cursorAt at numbers mentions = record { position = at; numbers = numbers; mentions = mentions }
+
+-- a field: its value and the cursor after it, or the number of the refusal
+unfoldable pub parsedOf : ℕ → ℕ → Field → Parsed ℕ
+parsedOf numbers mentions (Value v next) = parsed v (cursorAt next numbers mentions)
+parsedOf numbers mentions (Refused n) = refused n

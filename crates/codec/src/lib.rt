@@ -1,0 +1,152 @@
+// Numbers in bytes (document 01, "Bytes"): groups of seven bits, highest first, top bit set on all
+// bytes but the last, shortest form.
+ghost use mathlib.Core.Path.{_≡_};
+ghost use mathlib.Core.Bool.{cond};
+ghost use Prim.Native.Nat.{ℕ, _+_, _≤_, _<_};
+ghost use lib.Dec.{leb};
+ghost use lib.ListN.{length, drop};
+ghost use lib.Seq.{sets};
+ghost use Rattle.machine.specs.Limits.{maxNumberBytes, maxNumber, maxReportNumberBytes, maxReportNumber};
+ghost use Rattle.machine.specs.Number.{groups, within, readNumber, numberBytes};
+ghost use Rattle.machine.specs.Parser.{field};
+ghost use Rattle.codec.specs.Answers.{numberOf, readAs, cursorAt, parsedOf};
+
+// "at most 5 bytes and 4,294,967,295 (report: 9 bytes)"
+const NUMBER_BYTES: usize = 5;
+
+const NUMBER_MOST: u64 = 4_294_967_295;
+
+const REPORT_NUMBER_BYTES: usize = 9;
+
+const REPORT_NUMBER_MOST: u64 = 9_223_372_036_854_775_807;
+
+// A number at a position: its value and the position after it.
+pub enum Read {
+    Number(u64, usize),
+    Refused,
+}
+
+// A number in a field's range: its value and the position after it, or the number of the refusal.
+pub enum Field {
+    Value(u64, usize),
+    Refused(u32),
+}
+
+// A whole number is in size if it is at most `most`.
+fn in_size(value: u64, next: usize, most: u64) -> Read
+    ensures { λ r. ⌜ r ≡ cond (leb value most) (Read.Number value next) Read.Refused ⌝ }
+{
+    if value <= most {
+        Read::Number(value, next)
+    } else {
+        Read::Refused
+    }
+}
+
+// The groups at a position, at most `limit` of them, a number of at most `most`.
+fn read_groups(s: &[u8], at: usize, limit: usize, most: u64) -> Read
+    requires { ⌜ limit ≤ 9 ⌝ }
+    ensures { λ r. ⌜ r ≡ readAs at (within most (groups limit 0 (drop at (now (s .entry))))) ⌝ }
+{
+    let mut left = limit;
+    let mut value: u64 = 0;
+    let mut next = at;
+    while 0 < left {
+        if s.len() <= next {
+            return Read::Refused;
+        }
+        let b = s[next] as u64;
+        next += 1;
+        if b < 128 {
+            return in_size(value * 128 + b, next, most);
+        }
+        value = value * 128 + (b - 128);
+        left -= 1;
+    }
+    Read::Refused
+}
+
+// The same in shortest form: a number that begins with an empty group is refused.
+fn read_shortest(s: &[u8], at: usize, limit: usize, most: u64) -> Read
+    requires { ⌜ limit ≤ 9 ⌝ }
+    ensures { λ r. ⌜ r ≡ readAs at (readNumber limit most (drop at (now (s .entry)))) ⌝ }
+{
+    if s.len() <= at {
+        return Read::Refused;
+    }
+    if s[at] == 128 {
+        return Read::Refused;
+    }
+    read_groups(s, at, limit, most)
+}
+
+// A number of model, tape or trace.
+pub fn read_number(s: &[u8], at: usize) -> Read
+    ensures { λ r. ⌜ numberOf at r ≡ readNumber maxNumberBytes maxNumber (drop at (now (s .entry))) ⌝ }
+    ensures inside { λ r. ⌜ ((v next : ℕ) → r ≡ Read.Number v next → (v ≤ maxNumber) × (at < next) × (next ≤ length (now (s .entry)))) ⌝ }
+{
+    read_shortest(s, at, NUMBER_BYTES, NUMBER_MOST)
+}
+
+// A number of the report.
+pub fn read_report_number(s: &[u8], at: usize) -> Read
+    ensures { λ r. ⌜ numberOf at r ≡ readNumber maxReportNumberBytes maxReportNumber (drop at (now (s .entry))) ⌝ }
+    ensures inside { λ r. ⌜ ((v next : ℕ) → r ≡ Read.Number v next → (v ≤ maxReportNumber) × (at < next) × (next ≤ length (now (s .entry)))) ⌝ }
+{
+    read_shortest(s, at, REPORT_NUMBER_BYTES, REPORT_NUMBER_MOST)
+}
+
+// A number from lo to hi. `code` is the refusal of one that is not whole, not shortest or not in
+// size, and the next number that of one out of range: 3 and 4 for the model, 8 and 9 for the tape,
+// 31 and 32 for the trace.
+pub fn read_field(s: &[u8], at: usize, lo: u64, hi: u64, code: u8) -> Field
+    ensures { λ r. ⌜ ((numbers mentions : ℕ) → parsedOf numbers mentions r ≡ field (now (s .entry)) code lo hi (cursorAt at numbers mentions)) ⌝ }
+    ensures inside { λ r. ⌜ ((v next : ℕ) → r ≡ Field.Value v next → (lo ≤ v) × (v ≤ hi) × (at < next) × (next ≤ length (now (s .entry)))) ⌝ }
+{
+    let malformed = code as u32;
+    let out_of_range = malformed + 1;
+    let Read::Number(v, next) = read_number(s, at) else {
+        return Field::Refused(malformed);
+    };
+    if v < lo {
+        return Field::Refused(out_of_range);
+    }
+    if hi < v {
+        return Field::Refused(out_of_range);
+    }
+    Field::Value(v, next)
+}
+
+// How many bytes a number takes.
+pub fn number_len(v: u64) -> usize
+    ensures { λ r. ⌜ r ≡ length (numberBytes v) ⌝ }
+{
+    let mut len = 1;
+    let mut above = v / 128;
+    while above != 0 {
+        if len == 9 {
+            return len;
+        }
+        len += 1;
+        above /= 128;
+    }
+    len
+}
+
+// Writes a number at a position with room for it, and returns the position after it.
+pub fn write_number(out: &mut [u8], at: usize, v: u64) -> usize
+    requires { ⌜ at + length (numberBytes v) ≤ length (now out) ⌝ }
+    ensures { λ r. ⌜ r ≡ at + length (numberBytes v) ⌝ }
+    ensures { λ _. ⌜ now (out .exit) ≡ sets (now (out .entry)) at (numberBytes v) ⌝ }
+{
+    let len = number_len(v);
+    let mut left = len - 1;
+    out[at + left] = (v % 128) as u8;
+    let mut above = v / 128;
+    while 0 < left {
+        left -= 1;
+        out[at + left] = (128 + above % 128) as u8;
+        above /= 128;
+    }
+    at + len
+}
