@@ -18,3 +18,4 @@ pub mod Validate
 pub mod Outcome
 pub mod Claims
 pub mod Bundle
+pub mod Examples

@@ -1,0 +1,294 @@
+-- The examples of document 01, "Examples", and some of our own, each shown by computing the machine.
+-- `printed` gives what `runmodel` prints, line by line, without the letters.
+use Prim.Native.Nat.{ℕ, zero, suc, _+_}
+use mathlib.Core.Path.{_≡_, refl}
+use mathlib.Core.Bool.{Bool, true, false}
+use mathlib.Core.List.{List, [], _∷_, _++_, map}
+use mathlib.Core.Option.{Option, none, some}
+use lib.IntN.{ℤ, pos, negsuc, _+ℤ_}
+use lib.ListN.{length}
+use Rattle.machine.specs.Transaction.{Transaction, newborn}
+use Rattle.machine.specs.Term.{Server, Queue, wrap}
+use Rattle.machine.specs.Block.{Block, generate, advance, terminate, seize, release, split, BlockModel}
+use Rattle.machine.specs.Trace.{Record}
+use Rattle.machine.specs.State.{State}
+use Rattle.machine.specs.Setters.{withSerial, withReturning, setRel, setMade, setMoving, setClock, setView}
+use Rattle.machine.specs.Moves.{qlOf, setInUse}
+use Rattle.machine.specs.Turn.{turn}
+use Rattle.machine.specs.Run.{idle, run, states}
+use Rattle.machine.specs.Report.{serverNumbers, queueNumbers, places}
+use Rattle.machine.specs.Validate.{Validation, accept, reject, validate}
+use Rattle.machine.specs.Outcome.{recordsOf}
+use Rattle.machine.specs.Bundle.{everything}
+
+-- ---- How an example is shown
+
+-- lines of numbers, or a signed number
+pub data Shown : Type 0 where
+  lines : List (List ℕ) → Shown
+  integer : ℤ → Shown
+
+-- what the machine gives, and what the paper says
+pub record Example : Type 0 where
+  pub found : Shown
+  pub wanted : Shown
+
+infix 10 _gives_
+abbrev _gives_ : Shown → Shown → Example
+found gives wanted = record { found = found; wanted = wanted }
+
+module _ (m : BlockModel) (s : State) where
+  serverLines : ℕ → List Server → List (List ℕ)
+  serverLines v [] = []
+  serverLines v (x ∷ l) = (v ∷ serverNumbers m (s .records) v (x ∷ [])) ∷ serverLines (suc v) l
+
+  queueLines : ℕ → List Queue → List (List ℕ)
+  queueLines q [] = []
+  queueLines q (x ∷ l) = (q ∷ queueNumbers m (s .records) q (x ∷ [])) ∷ queueLines (suc q) l
+
+  recordLine : Record → List ℕ
+  recordLine r = r .clock ∷ r .transaction ∷ r .block ∷ r .outcome ∷ []
+
+  -- records, then end, clock, made, ended, living, then the servers and the queues
+  printedState : List (List ℕ)
+  printedState =
+      map recordLine (recordsOf s)
+      ++ (s .end ∷ s .view .clock ∷ s .made ∷ s .ended ∷ length (places s) ∷ [])
+      ∷ (serverLines 1 (s .view .servers) ++ queueLines 1 (s .view .queues))
+
+printed : List ℕ → List ℕ → (budget : ℕ) → Shown
+printed model tape budget =
+    elim (validate model tape 16384 10240)
+    [ accept m t ↦ lines (printedState m (run m t budget 65536)) | reject n ↦ lines ((n ∷ []) ∷ []) ]
+
+-- the length of the first server's QL and of REL in each state of a run
+lengths : List ℕ → List ℕ → Shown
+lengths model tape =
+    elim (validate model tape 16384 10240)
+    [ accept m t ↦ lines (map (λ s. length (qlOf s 1) ∷ length (s .rel) ∷ []) (states m t 1000000 65536)) | reject n ↦ lines [] ]
+
+-- ---- The starred examples of document 01
+
+-- the first example
+firstModel : List ℕ
+firstModel = 0x01 ∷ 0x01 ∷ 0x00 ∷ 0x00 ∷ 0x00 ∷ 0x02 ∷ 0x02 ∷ 0x05 ∷ 0x01 ∷ 0x01 ∷ 0x00 ∷ 0x04 ∷ 0x01 ∷ 0x02 ∷ 0x02 ∷ 0x05 ∷ 0x01 ∷ 0x03 ∷ 0x01 ∷ []
+
+firstTape : List ℕ
+firstTape = 0x02 ∷ 0x03 ∷ 0x02 ∷ 0x02 ∷ 0x05 ∷ 0x04 ∷ []
+
+-- Capacity 2, two single holders, a waiter for 2
+storageModel : List ℕ
+storageModel = 0x01 ∷ 0x00 ∷ 0x01 ∷ 0x02 ∷ 0x00 ∷ 0x00 ∷ 0x03 ∷ 0x01 ∷ 0x08 ∷ 0x01 ∷ 0x01 ∷ 0x00 ∷ 0x06 ∷ 0x01 ∷ 0x01 ∷ 0x02 ∷ 0x02 ∷ 0x07 ∷ 0x01 ∷ 0x01 ∷ 0x03 ∷ 0x00 ∷ 0x01 ∷ 0x03 ∷ 0x00 ∷ 0x06 ∷ 0x01 ∷ 0x02 ∷ 0x03 ∷ 0x01 ∷ []
+
+storageTape : List ℕ
+storageTape = 0x02 ∷ 0x01 ∷ 0x00 ∷ 0x02 ∷ 0x05 ∷ 0x08 ∷ 0x01 ∷ 0x02 ∷ []
+
+-- Equal move time: priority 1 precedes an earlier priority 0
+equalTimeModel : List ℕ
+equalTimeModel = 0x01 ∷ 0x00 ∷ 0x00 ∷ 0x00 ∷ 0x00 ∷ 0x02 ∷ 0x09 ∷ 0x04 ∷ 0x01 ∷ 0x01 ∷ 0x00 ∷ 0x03 ∷ 0x00 ∷ 0x01 ∷ 0x02 ∷ 0x01 ∷ 0x03 ∷ 0x00 ∷ []
+
+equalTimeTape : List ℕ
+equalTimeTape = 0x01 ∷ 0x03 ∷ 0x01 ∷ 0x03 ∷ []
+
+-- After RELEASE the same transaction may SEIZE before the woken waiter
+seizeAgainModel : List ℕ
+seizeAgainModel = 0x01 ∷ 0x01 ∷ 0x00 ∷ 0x00 ∷ 0x00 ∷ 0x02 ∷ 0x09 ∷ 0x07 ∷ 0x01 ∷ 0x01 ∷ 0x00 ∷ 0x04 ∷ 0x01 ∷ 0x02 ∷ 0x02 ∷ 0x05 ∷ 0x01 ∷ 0x04 ∷ 0x01 ∷ 0x05 ∷ 0x01 ∷ 0x03 ∷ 0x01 ∷ []
+
+seizeAgainTape : List ℕ
+seizeAgainTape = 0x02 ∷ 0x01 ∷ 0x01 ∷ 0x02 ∷ 0x05 ∷ 0x05 ∷ []
+
+-- no GENERATE
+bareModel : List ℕ
+bareModel = 0x01 ∷ 0x00 ∷ 0x00 ∷ 0x00 ∷ 0x00 ∷ 0x00 ∷ 0x01 ∷ 0x01 ∷ 0x03 ∷ 0x01 ∷ []
+
+-- a state with a facility in use, and on REL two returners of equal priority that stand at its SEIZE
+seizeOnly : BlockModel
+seizeOnly =
+    record { facilities = 1; capacities = []; queues = 0; values = []; lists = 0; counter = 1; blocks = seize 1 ∷ terminate 1 ∷ [] }
+
+returner : (number serial : ℕ) → Transaction
+returner number serial = withReturning true (withSerial serial (newborn number 0 1))
+
+bothWoken : State
+bothWoken = setRel (returner 1 5 ∷ returner 2 9 ∷ []) (setInUse 1 1 (idle seizeOnly []))
+
+serials : List Transaction → List ℕ
+serials l = map (λ t. t .serial) l
+
+pub starredList : List Example
+starredList =
+    -- "Model 01 01 00 ..": records, end and facility
+    (printed firstModel firstTape 1000000 gives
+    lines ((3 ∷ 1 ∷ 1 ∷ 0 ∷ []) ∷ (3 ∷ 1 ∷ 2 ∷ 0 ∷ []) ∷ (3 ∷ 1 ∷ 3 ∷ 0 ∷ []) ∷ (5 ∷ 2 ∷ 1 ∷ 0 ∷ []) ∷ (5 ∷ 2 ∷ 2 ∷ 1 ∷ []) ∷ (8 ∷ 1 ∷ 4 ∷ 0 ∷ []) ∷ (8 ∷ 1 ∷ 5 ∷ 0 ∷ []) ∷ (8 ∷ 2 ∷ 2 ∷ 0 ∷ []) ∷ (8 ∷ 2 ∷ 3 ∷ 0 ∷ []) ∷ (12 ∷ 2 ∷ 4 ∷ 0 ∷ []) ∷ (12 ∷ 2 ∷ 5 ∷ 0 ∷ []) ∷ (2 ∷ 12 ∷ 2 ∷ 2 ∷ 0 ∷ []) ∷ (1 ∷ 2 ∷ 9 ∷ 1 ∷ 3 ∷ 1 ∷ []) ∷ [])) ∷
+    -- "Same, budget 0: end 3, no records."
+    (printed firstModel firstTape 0 gives
+    lines ((3 ∷ 0 ∷ 1 ∷ 0 ∷ 1 ∷ []) ∷ (1 ∷ 0 ∷ 0 ∷ 0 ∷ 0 ∷ 0 ∷ []) ∷ [])) ∷
+    -- "No GENERATE, budget 0: end 1."
+    (printed bareModel [] 0 gives
+    lines ((1 ∷ 0 ∷ 0 ∷ 0 ∷ 0 ∷ []) ∷ [])) ∷
+    -- "Serials 5 and 9, equal priority, both woken, both find f in use: the QL is 5, 9."
+    (lines (serials (qlOf (turn seizeOnly (turn seizeOnly bothWoken)) 1) ∷ []) gives
+    lines ((5 ∷ 9 ∷ []) ∷ [])) ∷
+    -- "Capacity 2, two single holders, a waiter for 2: the first LEAVE moves none, the second moves it."
+    (lengths storageModel storageTape gives
+    lines ((0 ∷ 0 ∷ []) ∷ (0 ∷ 0 ∷ []) ∷ (0 ∷ 0 ∷ []) ∷ (0 ∷ 0 ∷ []) ∷ (0 ∷ 0 ∷ []) ∷ (0 ∷ 0 ∷ []) ∷ (0 ∷ 0 ∷ []) ∷ (0 ∷ 0 ∷ []) ∷ (1 ∷ 0 ∷ []) ∷ (1 ∷ 0 ∷ []) ∷ (1 ∷ 0 ∷ []) ∷ (0 ∷ 1 ∷ []) ∷ (0 ∷ 1 ∷ []) ∷ (0 ∷ 0 ∷ []) ∷ (0 ∷ 0 ∷ []) ∷ [])) ∷
+    -- and its trace
+    (printed storageModel storageTape 1000000 gives
+    lines ((1 ∷ 1 ∷ 1 ∷ 0 ∷ []) ∷ (1 ∷ 1 ∷ 2 ∷ 0 ∷ []) ∷ (1 ∷ 1 ∷ 3 ∷ 0 ∷ []) ∷ (1 ∷ 3 ∷ 1 ∷ 0 ∷ []) ∷ (1 ∷ 3 ∷ 2 ∷ 0 ∷ []) ∷ (1 ∷ 3 ∷ 3 ∷ 0 ∷ []) ∷ (2 ∷ 2 ∷ 6 ∷ 0 ∷ []) ∷ (2 ∷ 2 ∷ 7 ∷ 1 ∷ []) ∷ (6 ∷ 1 ∷ 4 ∷ 0 ∷ []) ∷ (6 ∷ 1 ∷ 5 ∷ 0 ∷ []) ∷ (9 ∷ 3 ∷ 4 ∷ 0 ∷ []) ∷ (9 ∷ 3 ∷ 5 ∷ 0 ∷ []) ∷ (9 ∷ 2 ∷ 7 ∷ 0 ∷ []) ∷ (9 ∷ 2 ∷ 8 ∷ 0 ∷ []) ∷ (2 ∷ 9 ∷ 3 ∷ 3 ∷ 0 ∷ []) ∷ (1 ∷ 3 ∷ 13 ∷ 1 ∷ 7 ∷ 1 ∷ []) ∷ [])) ∷
+    -- "2,147,483,647 + 1 is -2,147,483,648."
+    (integer (wrap (pos 2147483647 +ℤ pos 1)) gives
+    integer (negsuc 2147483647)) ∷
+    -- "80 01 is refused, 3.": the edition of the first example, padded
+    (printed (0x80 ∷ firstModel) firstTape 1000000 gives
+    lines ((3 ∷ []) ∷ [])) ∷
+    -- "Equal move time: priority 1 precedes an earlier priority 0."
+    (printed equalTimeModel equalTimeTape 1000000 gives
+    lines ((3 ∷ 2 ∷ 3 ∷ 0 ∷ []) ∷ (3 ∷ 2 ∷ 4 ∷ 0 ∷ []) ∷ (3 ∷ 1 ∷ 1 ∷ 0 ∷ []) ∷ (3 ∷ 1 ∷ 2 ∷ 0 ∷ []) ∷ (1 ∷ 3 ∷ 2 ∷ 2 ∷ 0 ∷ []) ∷ [])) ∷
+    -- "After RELEASE the same transaction may SEIZE before the woken waiter."
+    (printed seizeAgainModel seizeAgainTape 1000000 gives
+    lines ((1 ∷ 1 ∷ 1 ∷ 0 ∷ []) ∷ (1 ∷ 1 ∷ 2 ∷ 0 ∷ []) ∷ (1 ∷ 1 ∷ 3 ∷ 0 ∷ []) ∷ (2 ∷ 2 ∷ 1 ∷ 0 ∷ []) ∷ (2 ∷ 2 ∷ 2 ∷ 1 ∷ []) ∷ (6 ∷ 1 ∷ 4 ∷ 0 ∷ []) ∷ (6 ∷ 1 ∷ 5 ∷ 0 ∷ []) ∷ (6 ∷ 1 ∷ 6 ∷ 0 ∷ []) ∷ (6 ∷ 1 ∷ 7 ∷ 0 ∷ []) ∷ (6 ∷ 2 ∷ 2 ∷ 0 ∷ []) ∷ (6 ∷ 2 ∷ 3 ∷ 0 ∷ []) ∷ (11 ∷ 2 ∷ 4 ∷ 0 ∷ []) ∷ (11 ∷ 2 ∷ 5 ∷ 0 ∷ []) ∷ (11 ∷ 2 ∷ 6 ∷ 0 ∷ []) ∷ (11 ∷ 2 ∷ 7 ∷ 0 ∷ []) ∷ (1 ∷ 11 ∷ 2 ∷ 2 ∷ 0 ∷ []) ∷ (1 ∷ 4 ∷ 10 ∷ 1 ∷ 4 ∷ 1 ∷ []) ∷ [])) ∷
+    []
+
+pub starred : map (λ e. e .found) starredList ≡ map (λ e. e .wanted) starredList
+unfolding everything serverLines queueLines recordLine printedState printed lengths firstModel firstTape storageModel storageTape equalTimeModel equalTimeTape seizeAgainModel seizeAgainTape bareModel seizeOnly returner bothWoken serials starredList
+starred = refl
+
+-- ---- Examples of our own, for what the starred ones miss
+
+-- two waiters that both fit one LEAVE
+bothFitModel : List ℕ
+bothFitModel = 0x01 ∷ 0x00 ∷ 0x01 ∷ 0x02 ∷ 0x00 ∷ 0x00 ∷ 0x03 ∷ 0x09 ∷ 0x08 ∷ 0x01 ∷ 0x01 ∷ 0x00 ∷ 0x06 ∷ 0x01 ∷ 0x02 ∷ 0x02 ∷ 0x02 ∷ 0x07 ∷ 0x01 ∷ 0x02 ∷ 0x03 ∷ 0x01 ∷ 0x01 ∷ 0x03 ∷ 0x00 ∷ 0x06 ∷ 0x01 ∷ 0x01 ∷ 0x03 ∷ 0x01 ∷ []
+
+bothFitTape : List ℕ
+bothFitTape = 0x01 ∷ 0x01 ∷ 0x01 ∷ 0x06 ∷ 0x02 ∷ 0x02 ∷ 0x01 ∷ []
+
+-- a WSL waiter freed by another's block: content of the queue above 0
+freedByOtherModel : List ℕ
+freedByOtherModel = 0x01 ∷ 0x00 ∷ 0x00 ∷ 0x01 ∷ 0x00 ∷ 0x02 ∷ 0x09 ∷ 0x07 ∷ 0x01 ∷ 0x01 ∷ 0x00 ∷ 0x09 ∷ 0x05 ∷ 0x01 ∷ 0x01 ∷ 0x00 ∷ 0x00 ∷ 0x10 ∷ 0x01 ∷ 0x03 ∷ 0x01 ∷ 0x01 ∷ 0x02 ∷ 0x00 ∷ 0x0F ∷ 0x01 ∷ 0x03 ∷ 0x01 ∷ []
+
+freedByOtherTape : List ℕ
+freedByOtherTape = 0x01 ∷ 0x01 ∷ 0x01 ∷ 0x04 ∷ []
+
+-- a WEL chain: each passer wakes the next
+chainModel : List ℕ
+chainModel = 0x01 ∷ 0x01 ∷ 0x00 ∷ 0x00 ∷ 0x00 ∷ 0x03 ∷ 0x09 ∷ 0x08 ∷ 0x01 ∷ 0x01 ∷ 0x00 ∷ 0x08 ∷ 0x01 ∷ 0x01 ∷ 0x03 ∷ 0x01 ∷ 0x01 ∷ 0x02 ∷ 0x00 ∷ 0x04 ∷ 0x01 ∷ 0x02 ∷ 0x03 ∷ 0x05 ∷ 0x01 ∷ 0x03 ∷ 0x01 ∷ []
+
+chainTape : List ℕ
+chainTape = 0x03 ∷ 0x02 ∷ 0x00 ∷ 0x00 ∷ 0x01 ∷ 0x01 ∷ 0x01 ∷ 0x05 ∷ []
+
+-- two returners put back in their order
+returnersModel : List ℕ
+returnersModel = 0x01 ∷ 0x01 ∷ 0x00 ∷ 0x00 ∷ 0x00 ∷ 0x03 ∷ 0x09 ∷ 0x0E ∷ 0x01 ∷ 0x01 ∷ 0x00 ∷ 0x04 ∷ 0x01 ∷ 0x02 ∷ 0x02 ∷ 0x05 ∷ 0x01 ∷ 0x04 ∷ 0x01 ∷ 0x05 ∷ 0x01 ∷ 0x04 ∷ 0x01 ∷ 0x02 ∷ 0x02 ∷ 0x05 ∷ 0x01 ∷ 0x03 ∷ 0x01 ∷ 0x01 ∷ 0x03 ∷ 0x00 ∷ 0x04 ∷ 0x01 ∷ 0x05 ∷ 0x01 ∷ 0x03 ∷ 0x01 ∷ []
+
+returnersTape : List ℕ
+returnersTape = 0x01 ∷ 0x01 ∷ 0x02 ∷ 0x05 ∷ 0x05 ∷ 0x02 ∷ 0x02 ∷ 0x00 ∷ []
+
+-- SPLIT
+copiesModel : List ℕ
+copiesModel = 0x01 ∷ 0x00 ∷ 0x00 ∷ 0x00 ∷ 0x00 ∷ 0x01 ∷ 0x09 ∷ 0x08 ∷ 0x01 ∷ 0x01 ∷ 0x03 ∷ 0x0C ∷ 0x01 ∷ 0x00 ∷ 0x07 ∷ 0x0E ∷ 0x03 ∷ 0x05 ∷ 0x03 ∷ 0x01 ∷ 0x0C ∷ 0x02 ∷ 0x02 ∷ 0x01 ∷ 0x0A ∷ 0x02 ∷ 0x02 ∷ 0x01 ∷ 0x00 ∷ 0x07 ∷ 0x08 ∷ 0x03 ∷ 0x00 ∷ 0x03 ∷ 0x01 ∷ []
+
+copiesTape : List ℕ
+copiesTape = 0x01 ∷ 0x02 ∷ []
+
+-- a spent GENERATE
+spentModel : List ℕ
+spentModel = 0x01 ∷ 0x00 ∷ 0x00 ∷ 0x00 ∷ 0x00 ∷ 0x01 ∷ 0x09 ∷ 0x04 ∷ 0x01 ∷ 0x01 ∷ 0x00 ∷ 0x03 ∷ 0x01 ∷ 0x01 ∷ 0x01 ∷ 0x00 ∷ 0x03 ∷ 0x01 ∷ []
+
+spentTape : List ℕ
+spentTape = 0x01 ∷ 0x03 ∷ []
+
+-- 0-tick clock moves
+zeroTicksModel : List ℕ
+zeroTicksModel = 0x01 ∷ 0x00 ∷ 0x00 ∷ 0x01 ∷ 0x00 ∷ 0x02 ∷ 0x09 ∷ 0x05 ∷ 0x01 ∷ 0x01 ∷ 0x00 ∷ 0x0F ∷ 0x01 ∷ 0x02 ∷ 0x02 ∷ 0x10 ∷ 0x01 ∷ 0x03 ∷ 0x01 ∷ []
+
+zeroTicksTape : List ℕ
+zeroTicksTape = 0x02 ∷ 0x00 ∷ 0x00 ∷ 0x02 ∷ 0x00 ∷ 0x00 ∷ []
+
+-- ADVANCE with no time left
+noTimeModel : List ℕ
+noTimeModel = 0x01 ∷ 0x00 ∷ 0x00 ∷ 0x00 ∷ 0x00 ∷ 0x02 ∷ 0x09 ∷ 0x03 ∷ 0x01 ∷ 0x01 ∷ 0x00 ∷ 0x02 ∷ 0x02 ∷ 0x03 ∷ 0x01 ∷ []
+
+noTimeTape : List ℕ
+noTimeTape = 0x01 ∷ 0x03 ∷ 0x00 ∷ []
+
+-- RELEASE of an idle facility
+idleReleaseModel : List ℕ
+idleReleaseModel = 0x01 ∷ 0x01 ∷ 0x00 ∷ 0x00 ∷ 0x00 ∷ 0x01 ∷ 0x09 ∷ 0x03 ∷ 0x01 ∷ 0x01 ∷ 0x00 ∷ 0x05 ∷ 0x01 ∷ 0x03 ∷ 0x01 ∷ []
+
+idleReleaseTape : List ℕ
+idleReleaseTape = 0x01 ∷ 0x03 ∷ []
+
+-- DEPART from an empty queue
+emptyDepartModel : List ℕ
+emptyDepartModel = 0x01 ∷ 0x00 ∷ 0x00 ∷ 0x01 ∷ 0x00 ∷ 0x01 ∷ 0x09 ∷ 0x03 ∷ 0x01 ∷ 0x01 ∷ 0x00 ∷ 0x10 ∷ 0x01 ∷ 0x03 ∷ 0x01 ∷ []
+
+emptyDepartTape : List ℕ
+emptyDepartTape = 0x01 ∷ 0x03 ∷ []
+
+-- a term is read before the block's own entry counts
+entryModel : List ℕ
+entryModel = 0x01 ∷ 0x00 ∷ 0x00 ∷ 0x00 ∷ 0x00 ∷ 0x01 ∷ 0x09 ∷ 0x05 ∷ 0x01 ∷ 0x01 ∷ 0x00 ∷ 0x0C ∷ 0x01 ∷ 0x04 ∷ 0x02 ∷ 0x0A ∷ 0x02 ∷ 0x01 ∷ 0x01 ∷ 0x00 ∷ 0x00 ∷ 0x05 ∷ 0x03 ∷ 0x00 ∷ 0x03 ∷ 0x01 ∷ []
+
+entryTape : List ℕ
+entryTape = 0x01 ∷ 0x03 ∷ []
+
+-- 1,024 living, and one of them before a SPLIT
+crowded : BlockModel
+crowded =
+    record { facilities = 0; capacities = []; queues = 0; values = []; lists = 0; counter = 1; blocks = split 1 2 ∷ terminate 1 ∷ [] }
+
+-- a clock near its limit before an ADVANCE of 2
+late : BlockModel
+late =
+    record { facilities = 0; capacities = []; queues = 0; values = []; lists = 1; counter = 1; blocks = advance 1 ∷ terminate 1 ∷ [] }
+
+lateState : (clock : ℕ) → State
+lateState clock =
+    let s : State = idle late ((2 ∷ []) ∷ []) in setView (setClock clock (s .view)) (setMoving (some (newborn 1 0 1)) s)
+
+pub furtherList : List Example
+furtherList =
+    -- two waiters that both fit one LEAVE
+    (printed bothFitModel bothFitTape 1000000 gives
+    lines ((1 ∷ 1 ∷ 1 ∷ 0 ∷ []) ∷ (1 ∷ 1 ∷ 2 ∷ 0 ∷ []) ∷ (1 ∷ 1 ∷ 3 ∷ 0 ∷ []) ∷ (2 ∷ 2 ∷ 6 ∷ 0 ∷ []) ∷ (2 ∷ 2 ∷ 7 ∷ 1 ∷ []) ∷ (3 ∷ 3 ∷ 6 ∷ 0 ∷ []) ∷ (3 ∷ 3 ∷ 7 ∷ 1 ∷ []) ∷ (7 ∷ 1 ∷ 4 ∷ 0 ∷ []) ∷ (7 ∷ 1 ∷ 5 ∷ 0 ∷ []) ∷ (7 ∷ 2 ∷ 7 ∷ 0 ∷ []) ∷ (7 ∷ 2 ∷ 8 ∷ 0 ∷ []) ∷ (7 ∷ 3 ∷ 7 ∷ 0 ∷ []) ∷ (7 ∷ 3 ∷ 8 ∷ 0 ∷ []) ∷ (1 ∷ 7 ∷ 3 ∷ 3 ∷ 0 ∷ []) ∷ (1 ∷ 3 ∷ 12 ∷ 2 ∷ 9 ∷ 2 ∷ []) ∷ [])) ∷
+    -- a WSL waiter freed by another's block: content of the queue above 0
+    (printed freedByOtherModel freedByOtherTape 1000000 gives
+    lines ((1 ∷ 1 ∷ 1 ∷ 0 ∷ []) ∷ (1 ∷ 1 ∷ 2 ∷ 1 ∷ []) ∷ (4 ∷ 2 ∷ 5 ∷ 0 ∷ []) ∷ (4 ∷ 2 ∷ 6 ∷ 0 ∷ []) ∷ (4 ∷ 2 ∷ 7 ∷ 0 ∷ []) ∷ (4 ∷ 1 ∷ 2 ∷ 0 ∷ []) ∷ (4 ∷ 1 ∷ 3 ∷ 0 ∷ []) ∷ (4 ∷ 1 ∷ 4 ∷ 0 ∷ []) ∷ (1 ∷ 4 ∷ 2 ∷ 2 ∷ 0 ∷ []) ∷ (1 ∷ 1 ∷ 0 ∷ 0 ∷ []) ∷ [])) ∷
+    -- a WEL chain: each passer wakes the next
+    (printed chainModel chainTape 1000000 gives
+    lines ((1 ∷ 2 ∷ 4 ∷ 0 ∷ []) ∷ (1 ∷ 2 ∷ 5 ∷ 0 ∷ []) ∷ (1 ∷ 2 ∷ 6 ∷ 0 ∷ []) ∷ (2 ∷ 1 ∷ 1 ∷ 0 ∷ []) ∷ (2 ∷ 1 ∷ 2 ∷ 1 ∷ []) ∷ (2 ∷ 3 ∷ 1 ∷ 0 ∷ []) ∷ (2 ∷ 3 ∷ 2 ∷ 1 ∷ []) ∷ (2 ∷ 4 ∷ 1 ∷ 0 ∷ []) ∷ (2 ∷ 4 ∷ 2 ∷ 1 ∷ []) ∷ (6 ∷ 2 ∷ 7 ∷ 0 ∷ []) ∷ (6 ∷ 2 ∷ 8 ∷ 0 ∷ []) ∷ (6 ∷ 1 ∷ 2 ∷ 0 ∷ []) ∷ (6 ∷ 1 ∷ 3 ∷ 0 ∷ []) ∷ (6 ∷ 3 ∷ 2 ∷ 0 ∷ []) ∷ (6 ∷ 3 ∷ 3 ∷ 0 ∷ []) ∷ (6 ∷ 4 ∷ 2 ∷ 0 ∷ []) ∷ (6 ∷ 4 ∷ 3 ∷ 0 ∷ []) ∷ (1 ∷ 6 ∷ 4 ∷ 4 ∷ 0 ∷ []) ∷ (1 ∷ 1 ∷ 5 ∷ 0 ∷ 0 ∷ 0 ∷ []) ∷ [])) ∷
+    -- two returners put back in their order
+    (printed returnersModel returnersTape 1000000 gives
+    lines ((1 ∷ 1 ∷ 1 ∷ 0 ∷ []) ∷ (1 ∷ 1 ∷ 2 ∷ 0 ∷ []) ∷ (1 ∷ 1 ∷ 3 ∷ 0 ∷ []) ∷ (2 ∷ 2 ∷ 11 ∷ 0 ∷ []) ∷ (2 ∷ 2 ∷ 12 ∷ 1 ∷ []) ∷ (2 ∷ 3 ∷ 11 ∷ 0 ∷ []) ∷ (2 ∷ 3 ∷ 12 ∷ 1 ∷ []) ∷ (6 ∷ 1 ∷ 4 ∷ 0 ∷ []) ∷ (6 ∷ 1 ∷ 5 ∷ 0 ∷ []) ∷ (6 ∷ 1 ∷ 6 ∷ 0 ∷ []) ∷ (6 ∷ 1 ∷ 7 ∷ 0 ∷ []) ∷ (6 ∷ 1 ∷ 8 ∷ 0 ∷ []) ∷ (11 ∷ 1 ∷ 9 ∷ 0 ∷ []) ∷ (11 ∷ 1 ∷ 10 ∷ 0 ∷ []) ∷ (11 ∷ 2 ∷ 12 ∷ 0 ∷ []) ∷ (11 ∷ 2 ∷ 13 ∷ 0 ∷ []) ∷ (11 ∷ 2 ∷ 14 ∷ 0 ∷ []) ∷ (11 ∷ 3 ∷ 12 ∷ 0 ∷ []) ∷ (11 ∷ 3 ∷ 13 ∷ 0 ∷ []) ∷ (11 ∷ 3 ∷ 14 ∷ 0 ∷ []) ∷ (1 ∷ 11 ∷ 3 ∷ 3 ∷ 0 ∷ []) ∷ (1 ∷ 5 ∷ 10 ∷ 2 ∷ 18 ∷ 2 ∷ []) ∷ [])) ∷
+    -- SPLIT
+    (printed copiesModel copiesTape 1000000 gives
+    lines ((2 ∷ 1 ∷ 1 ∷ 0 ∷ []) ∷ (2 ∷ 1 ∷ 2 ∷ 0 ∷ []) ∷ (2 ∷ 1 ∷ 3 ∷ 0 ∷ []) ∷ (2 ∷ 1 ∷ 4 ∷ 0 ∷ []) ∷ (2 ∷ 2 ∷ 5 ∷ 0 ∷ []) ∷ (2 ∷ 2 ∷ 6 ∷ 0 ∷ []) ∷ (2 ∷ 2 ∷ 8 ∷ 0 ∷ []) ∷ (2 ∷ 3 ∷ 5 ∷ 0 ∷ []) ∷ (2 ∷ 3 ∷ 6 ∷ 0 ∷ []) ∷ (2 ∷ 3 ∷ 8 ∷ 0 ∷ []) ∷ (2 ∷ 4 ∷ 5 ∷ 0 ∷ []) ∷ (2 ∷ 4 ∷ 6 ∷ 0 ∷ []) ∷ (2 ∷ 4 ∷ 8 ∷ 0 ∷ []) ∷ (1 ∷ 2 ∷ 4 ∷ 4 ∷ 0 ∷ []) ∷ [])) ∷
+    -- a spent GENERATE
+    (printed spentModel spentTape 1000000 gives
+    lines ((3 ∷ 1 ∷ 1 ∷ 0 ∷ []) ∷ (3 ∷ 1 ∷ 2 ∷ 0 ∷ []) ∷ (1 ∷ 3 ∷ 1 ∷ 1 ∷ 0 ∷ []) ∷ [])) ∷
+    -- 0-tick clock moves
+    (printed zeroTicksModel zeroTicksTape 1000000 gives
+    lines ((0 ∷ 1 ∷ 1 ∷ 0 ∷ []) ∷ (0 ∷ 1 ∷ 2 ∷ 0 ∷ []) ∷ (0 ∷ 1 ∷ 3 ∷ 0 ∷ []) ∷ (0 ∷ 2 ∷ 1 ∷ 0 ∷ []) ∷ (0 ∷ 2 ∷ 2 ∷ 0 ∷ []) ∷ (0 ∷ 2 ∷ 3 ∷ 0 ∷ []) ∷ (0 ∷ 1 ∷ 4 ∷ 0 ∷ []) ∷ (0 ∷ 1 ∷ 5 ∷ 0 ∷ []) ∷ (0 ∷ 2 ∷ 4 ∷ 0 ∷ []) ∷ (0 ∷ 2 ∷ 5 ∷ 0 ∷ []) ∷ (1 ∷ 0 ∷ 2 ∷ 2 ∷ 0 ∷ []) ∷ (1 ∷ 2 ∷ 0 ∷ 1 ∷ []) ∷ [])) ∷
+    -- ADVANCE with no time left
+    (printed noTimeModel noTimeTape 1000000 gives
+    lines ((3 ∷ 1 ∷ 1 ∷ 0 ∷ []) ∷ (23 ∷ 3 ∷ 1 ∷ 0 ∷ 1 ∷ []) ∷ [])) ∷
+    -- RELEASE of an idle facility
+    (printed idleReleaseModel idleReleaseTape 1000000 gives
+    lines ((3 ∷ 1 ∷ 1 ∷ 0 ∷ []) ∷ (24 ∷ 3 ∷ 1 ∷ 0 ∷ 1 ∷ []) ∷ (1 ∷ 0 ∷ 0 ∷ 0 ∷ 0 ∷ 0 ∷ []) ∷ [])) ∷
+    -- DEPART from an empty queue
+    (printed emptyDepartModel emptyDepartTape 1000000 gives
+    lines ((3 ∷ 1 ∷ 1 ∷ 0 ∷ []) ∷ (25 ∷ 3 ∷ 1 ∷ 0 ∷ 1 ∷ []) ∷ (1 ∷ 0 ∷ 0 ∷ 0 ∷ []) ∷ [])) ∷
+    -- a term is read before the block's own entry counts
+    (printed entryModel entryTape 1000000 gives
+    lines ((3 ∷ 1 ∷ 1 ∷ 0 ∷ []) ∷ (3 ∷ 1 ∷ 2 ∷ 0 ∷ []) ∷ (3 ∷ 1 ∷ 3 ∷ 0 ∷ []) ∷ (3 ∷ 1 ∷ 5 ∷ 0 ∷ []) ∷ (1 ∷ 3 ∷ 1 ∷ 1 ∷ 0 ∷ []) ∷ [])) ∷
+    -- 21: no living place is free for a copy
+    (lines ((turn crowded (setMade 1024 (setMoving (some (newborn 1 0 1)) (idle crowded []))) .end ∷ []) ∷ []) gives
+    lines ((21 ∷ []) ∷ [])) ∷
+    -- 22: a move time past 2,000,000,000, and one that just reaches it
+    (lines ((turn late (lateState 1999999999) .end ∷ turn late (lateState 1999999998) .end ∷ []) ∷ []) gives
+    lines ((22 ∷ 0 ∷ []) ∷ [])) ∷
+    []
+
+pub further : map (λ e. e .found) furtherList ≡ map (λ e. e .wanted) furtherList
+unfolding everything serverLines queueLines recordLine printedState printed lengths bothFitModel bothFitTape freedByOtherModel freedByOtherTape chainModel chainTape returnersModel returnersTape copiesModel copiesTape spentModel spentTape zeroTicksModel zeroTicksTape noTimeModel noTimeTape idleReleaseModel idleReleaseTape emptyDepartModel emptyDepartTape entryModel entryTape crowded late lateState furtherList
+further = refl
