@@ -1,0 +1,89 @@
+-- What a block does apart from its record: the machine's `answer` split into the effect on lists, servers, queues and counts,
+-- and the note of the record, which the engine makes in one place. The law that the two together are `answer` is
+-- proofs/Noted.antt.
+use Prim.Native.Nat.{ℕ, zero, suc, _+_, _-_}
+use mathlib.Core.Bool.{Bool, true, false, cond}
+use mathlib.Core.List.{List, [], _∷_}
+use mathlib.Core.Option.{Option, none, some}
+use lib.Dec.{leb}
+use lib.ListN.{length}
+use Rattle.machine.specs.Transaction.{Transaction}
+use Rattle.machine.specs.Lists.{nth, setNth}
+use Rattle.machine.specs.Trace.{recordBytes}
+use Rattle.machine.specs.Term.{serverAt, queueAt, free, evaluate, compare}
+use Rattle.machine.specs.Block.{status, Block, generate, advance, terminate, seize, release, enter, leave, waitServer, waitTerms, branch, goto, assign, priority, split, arrive, depart, BlockModel, blockAt}
+use Rattle.machine.specs.State.{State}
+use Rattle.machine.specs.Setters.{withPriority, withParameters, withNext, withSerial, withReturning, setEntries, setView, setSerial, setMoving, setEnd, setRecords, setWritten}
+use Rattle.machine.specs.Moves.{recordOf, moveTo, goOn, fresh, toRel, toQl, toWel, toWsl, wakeFirstQl, wakeQl, wakeFirstWel, setInUse, setContent, timesLeft, arrival, copies}
+use Rattle.machine.specs.Execute.{question, fits, checkWels, freeUnits, endsOne, delay}
+
+-- Which record a block writes: outcome 0, outcome 1, or none, for a returner that is put back and for a turn that a question stops.
+pub data Note : Type 0 where
+  enteredNote waitsNote noNote : Note
+
+pub record Bare : Type 0 where
+  pub note : Note
+  pub state : State
+
+abbrev pub entering : State → Bare
+entering s = record { note = enteredNote; state = s }
+
+-- a wait: a fresh serial and a record, unless it is returning
+unfoldable pub waiting : (Transaction → State → State) → Transaction → State → Bare
+waiting put t s =
+    cond (t .returning) (record { note = noNote; state = put t s })
+    (record { note = waitsNote; state = put (withSerial (fresh s) t) (setSerial (fresh s) s) })
+
+unfoldable pub takingUnits : ℕ → ℕ → Transaction → State → Bare
+takingUnits v b t s =
+    cond (leb b (free (serverAt (s .view) v)))
+    (entering (goOn t (checkWels v (setInUse v (serverAt (s .view) v .inUse + b) s))))
+    (waiting (toQl v) t s)
+
+unfoldable pub bare : BlockModel → Block → Transaction → State → Bare
+bare m (generate list p) t s = entering (goOn t (arrival (timesLeft s list) list p (t .next) s))
+bare m (advance list) t s = entering (delay (timesLeft s list) list t s)
+bare m (terminate a) t s = entering (endsOne a s)
+bare m (seize v) t s = takingUnits v 1 t s
+bare m (release v) t s = entering (goOn t (checkWels v (wakeFirstQl v (freeUnits v 1 s))))
+bare m (enter v b) t s = takingUnits v b t s
+bare m (leave v b) t s =
+    let s′ : State = freeUnits v b s in
+    entering (goOn t (checkWels v (wakeQl (fits m (s′ .view) v) v s′)))
+bare m (waitServer code v) t s =
+    cond (status code (serverAt (s .view) v)) (waiting (toWel v code) t s) (entering (goOn t (wakeFirstWel v code s)))
+bare m (waitTerms a r b) t s =
+    cond (compare (m .values) (s .view) (t .parameters) a r b) (waiting toWsl t s) (entering (goOn t s))
+bare m (branch a r b target) t s =
+    entering (moveTo (cond (compare (m .values) (s .view) (t .parameters) a r b) target (suc (t .next))) t s)
+bare m (goto target) t s = entering (moveTo target t s)
+bare m (assign k a) t s =
+    entering (goOn (withParameters (setNth (t .parameters) k (evaluate (m .values) (s .view) (t .parameters) a)) t) s)
+bare m (priority p) t s = entering (toRel (withPriority p (withReturning false (withNext (suc (t .next)) t))) s)
+bare m (split n target) t s = entering (goOn t (copies n target t s))
+bare m (arrive q) t s = entering (goOn t (setContent q (queueAt (s .view) q .content + 1) s))
+bare m (depart q) t s = entering (goOn t (setContent q (queueAt (s .view) q .content - 1) s))
+
+-- with the question asked first
+unfoldable pub bareAnswer : ℕ → BlockModel → Block → Transaction → State → Bare
+bareAnswer zero m b t s = bare m b t (setMoving none s)
+bareAnswer (suc n) m b t s = record { note = noNote; state = setEnd (suc n) s }
+
+-- ---- The note: the record of t, which stood before its block in state s, made in a later state
+
+unfoldable pub logged : ℕ → Transaction → State → State → State
+logged outcome t s later =
+    setWritten (later .written + length (recordBytes (recordOf outcome t s)))
+    (setRecords (record { entry = recordOf outcome t s; priority = t .priority } ∷ later .records) later)
+
+unfoldable pub countEntry : ℕ → State → State
+countEntry block s =
+    setView (setEntries (setNth (s .view .entries) block (suc (nth (s .view .entries) block 0))) (s .view)) s
+
+unfoldable pub noteAs : Note → Transaction → State → State → State
+noteAs enteredNote t s later = logged 0 t s (countEntry (t .next) later)
+noteAs waitsNote t s later = logged 1 t s later
+noteAs noNote t s later = later
+
+abbrev pub noted : Transaction → State → Bare → State
+noted t s b = noteAs (b .note) t s (b .state)
