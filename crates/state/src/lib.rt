@@ -1,1 +1,7 @@
-// scalars
+// The state of a run: scalars by value here, transactions and lists in the work buffer (crate rows), entries, units and sums in
+// the tally (crate tables). specs/Stands says when the three stand for a state of the machine.
+mod arith;
+mod scalars;
+
+pub use arith::{less32, less64, plus32, plus64, product};
+pub use scalars::Scalars;
