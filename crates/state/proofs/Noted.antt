@@ -34,11 +34,11 @@ module _ (t : Transaction) (s : State) where
   unfolding checkWels
   checkWels-N v x =
       ap (λ (y : State). checkWel v NF (checkWel v F (checkWel v NE (checkWel v E (checkWel v NU y))))) (checkWel-N v U x)
-          ∙ ap (λ (y : State). checkWel v NF (checkWel v F (checkWel v NE (checkWel v E y)))) (checkWel-N v NU (checkWel v U x))
-          ∙ ap (λ (y : State). checkWel v NF (checkWel v F (checkWel v NE y))) (checkWel-N v E (checkWel v NU (checkWel v U x)))
-          ∙ ap (λ (y : State). checkWel v NF (checkWel v F y)) (checkWel-N v NE (checkWel v E (checkWel v NU (checkWel v U x))))
-          ∙ ap (λ (y : State). checkWel v NF y) (checkWel-N v F (checkWel v NE (checkWel v E (checkWel v NU (checkWel v U x)))))
-          ∙ checkWel-N v NF (checkWel v F (checkWel v NE (checkWel v E (checkWel v NU (checkWel v U x)))))
+      ∙ ap (λ (y : State). checkWel v NF (checkWel v F (checkWel v NE (checkWel v E y)))) (checkWel-N v NU (checkWel v U x))
+      ∙ ap (λ (y : State). checkWel v NF (checkWel v F (checkWel v NE y))) (checkWel-N v E (checkWel v NU (checkWel v U x)))
+      ∙ ap (λ (y : State). checkWel v NF (checkWel v F y)) (checkWel-N v NE (checkWel v E (checkWel v NU (checkWel v U x))))
+      ∙ ap (λ (y : State). checkWel v NF y) (checkWel-N v F (checkWel v NE (checkWel v E (checkWel v NU (checkWel v U x)))))
+      ∙ checkWel-N v NF (checkWel v F (checkWel v NE (checkWel v E (checkWel v NU (checkWel v U x)))))
 
   arrival-N : (l : List ℕ) (list p block : ℕ) (x : State) → arrival l list p block (N x) ≡ N (arrival l list p block x)
   unfolding everything logged countEntry

@@ -3,5 +3,9 @@
 mod arith;
 mod scalars;
 
-pub use arith::{less32, less64, plus32, plus64, product};
+pub use arith::less32;
+pub use arith::less64;
+pub use arith::plus32;
+pub use arith::plus64;
+pub use arith::product;
 pub use scalars::Scalars;

@@ -1,0 +1,342 @@
+-- Conservation: of every weight f of transaction numbers, what stands on the machine's lists, what is moving and what has ended
+-- weigh together as much as the numbers 1..made. Every turn keeps it.
+use Prim.Native.Nat.{ℕ, zero, suc, _+_, _*_, _-_, _≤_, _<_}
+use mathlib.Core.Path.{_≡_, refl, sym, ap, _∙_, subst}
+use mathlib.Core.Bool.{Bool, false, cond, not}
+use mathlib.Core.List.{List, [], _∷_}
+use mathlib.Core.Option.{Option, none, some}
+use native.Mathlib.Omega.{arith}
+use lib.Dec.{eqb}
+use lib.ListN.{length, take, drop, length-set}
+use Rattle.machine.specs.Transaction.{Transaction, Event, precedes, earlier, newborn}
+use Rattle.machine.specs.Lists.{insert, those, others, flat}
+use Rattle.machine.specs.Block.{Code, U, NU, E, NE, F, NF, Block, generate, advance, terminate, seize, release, enter, leave, waitServer, waitTerms, branch, goto, assign, priority, split, arrive, depart, facts, BlockModel, blockAt}
+use Rattle.machine.specs.State.{State, Logged}
+use Rattle.machine.specs.Setters.{withSerial, withPriority, withReturning, withNext, setSerial, setMoving}
+use Rattle.machine.specs.Moves.{recordOf, log, enters, moveTo, fresh, toRel, toFel, welIndex, qlOf, welOf, toQl, toWel, toWsl, mustWait, wakeFirstQl, wakeQl, wakeFirstWel, wakeWsl, setInUse, setContent, timesLeft, useTime, arrival, copies}
+use Rattle.machine.specs.Execute.{askAdvance, question, takeUnits, checkWels, endsOne, delay, effect, freeUnits}
+use Rattle.machine.specs.Turn.{arriveAll, due, moveClock, nextEvents, takeFirst, takeReady, taking, answer, execute, waitsOn, wsScheme, turn}
+use Rattle.machine.specs.Run.{startAt, idle, start}
+use Rattle.machine.specs.Claims.{upTo, terminates}
+use Rattle.machine.proofs.Proper.{Proper, ProperBlock, Names, CodeServer, servers}
+use Rattle.machine.proofs.Cases.{checkWels-kept, mustWait-cases, takeUnits-cases, waitServer-cases, waitTerms-cases, wsScheme-cases, startOf-cases}
+use Rattle.machine.proofs.Kept.{taking-kept}
+use Rattle.machine.proofs.Shape.{Shape, shape-closed, ql-at, wel-at, wel-below}
+use Rattle.machine.proofs.Sums.{sumOn, sum-insert, sum-those, sum-first, sum-flat-set, sum-flat-none, sum-wake}
+
+-- the server that a status code asks of exists
+pub code-server : (m : BlockModel) (code : Code) (v : ℕ) → CodeServer m code v → Names (servers m) v
+code-server m U v h = (h .0, omega arith)
+code-server m NU v h = (h .0, omega arith)
+code-server m E v h = (omega arith, h .1)
+code-server m NE v h = (omega arith, h .1)
+code-server m F v h = (omega arith, h .1)
+code-server m NF v h = (omega arith, h .1)
+
+module _ (m : BlockModel) (tape : List (List ℕ)) (f : ℕ → ℕ) where
+  -- ---- Definition
+
+  abbrev pub by : Transaction → ℕ
+  by t = f (t .number)
+
+  abbrev pub listed : State → ℕ
+  listed s = sumOn by (flat (s .ql)) + sumOn by (flat (s .wel)) + sumOn by (s .wsl) + sumOn by (s .rel) + sumOn (λ e. by (e .who)) (s .fel)
+
+  abbrev pub held : Option Transaction → ℕ
+  held none = 0
+  held (some t) = by t
+
+  -- those that ended, by their records at TERMINATE
+  abbrev pub gone : List Logged → ℕ
+  gone records = sumOn (λ r. cond (terminates m tape r) (f (r .entry .transaction)) 0) records
+
+  -- with x in hand
+  abbrev pub Weighs : ℕ → State → Type 0
+  Weighs x s = x + listed s + gone (s .records) ≡ upTo (s .made) f
+
+  abbrev pub Balanced : State → Type 0
+  Balanced s = Weighs (held (s .moving)) s
+
+  -- ---- Moves
+
+  module _ (x : ℕ) where
+    weighs-log : (outcome : ℕ) (t : Transaction) (s : State) → facts (blockAt m (t .next)) .terminates ≡ 0 → Weighs x s → Weighs x (log outcome t s)
+    unfolding log recordOf
+    weighs-log outcome t s e w = omega (arith, ap (λ n. cond (eqb n 1) (f (t .number)) 0) e)
+
+    weighs-enters : (t : Transaction) (s : State) → facts (blockAt m (t .next)) .terminates ≡ 0 → Weighs x s → Weighs x (enters t s)
+    unfolding enters
+    weighs-enters t s e w = weighs-log 0 t _ e w
+
+    weighs-toRel : (t : Transaction) (s : State) → Weighs (by t + x) s → Weighs x (toRel t s)
+    unfolding toRel
+    weighs-toRel t s w = omega (arith, sum-insert by precedes (withSerial (fresh s) t) (s .rel))
+
+    weighs-toFel : (time : ℕ) (t : Transaction) (s : State) → Weighs (by t + x) s → Weighs x (toFel time t s)
+    unfolding toFel
+    weighs-toFel time t s w =
+        omega (arith, sum-insert (λ e. by (e .who)) earlier (record { time = time; who = withSerial (fresh s) t }) (s .fel))
+
+    weighs-toQl : (v : ℕ) (t : Transaction) (s : State) → v - 1 < length (s .ql) → Weighs (by t + x) s → Weighs x (toQl v t s)
+    unfolding toQl
+    weighs-toQl v t s at w =
+        omega (arith, sum-flat-set by (s .ql) (v - 1) (insert precedes t (qlOf s v)) at, sum-insert by precedes t (qlOf s v))
+
+    weighs-toWel : (v : ℕ) (code : Code) (t : Transaction) (s : State) → welIndex v code < length (s .wel) → Weighs (by t + x) s → Weighs x (toWel v code t s)
+    unfolding toWel
+    weighs-toWel v code t s at w =
+        omega (arith, sum-flat-set by (s .wel) (welIndex v code) (insert precedes t (welOf s v code)) at, sum-insert by precedes t (welOf s v code))
+
+    weighs-toWsl : (t : Transaction) (s : State) → Weighs (by t + x) s → Weighs x (toWsl t s)
+    unfolding toWsl
+    weighs-toWsl t s w = omega (arith, sum-insert by precedes t (s .wsl))
+
+    -- ---- Waking
+
+    weighs-wakeFirstQl : (v : ℕ) (s : State) → v - 1 < length (s .ql) → Weighs x s → Weighs x (wakeFirstQl v s)
+    unfolding wakeFirstQl
+    weighs-wakeFirstQl v s at w =
+        omega (
+          arith,
+          sum-flat-set by (s .ql) (v - 1) (drop 1 (qlOf s v)) at,
+          sum-first by (qlOf s v),
+          sum-wake by (λ t. refl) (take 1 (qlOf s v)) (s .rel),
+        )
+
+    weighs-wakeQl : (p : Transaction → Bool) (v : ℕ) (s : State) → v - 1 < length (s .ql) → Weighs x s → Weighs x (wakeQl p v s)
+    unfolding wakeQl
+    weighs-wakeQl p v s at w =
+        omega (
+          arith,
+          sum-flat-set by (s .ql) (v - 1) (others p (qlOf s v)) at,
+          sum-those by p (qlOf s v),
+          sum-wake by (λ t. refl) (those p (qlOf s v)) (s .rel),
+        )
+
+    weighs-wakeFirstWel : (v : ℕ) (code : Code) (s : State) → welIndex v code < length (s .wel) → Weighs x s → Weighs x (wakeFirstWel v code s)
+    unfolding wakeFirstWel
+    weighs-wakeFirstWel v code s at w =
+        omega (
+          arith,
+          sum-flat-set by (s .wel) (welIndex v code) (drop 1 (welOf s v code)) at,
+          sum-first by (welOf s v code),
+          sum-wake by (λ t. refl) (take 1 (welOf s v code)) (s .rel),
+        )
+
+    weighs-wakeWsl : (p : Transaction → Bool) (s : State) → Weighs x s → Weighs x (wakeWsl p s)
+    unfolding wakeWsl
+    weighs-wakeWsl p s w = omega (arith, sum-those by p (s .wsl), sum-wake by (λ t. refl) (those p (s .wsl)) (s .rel))
+
+    -- waking from a WEL loses nobody as long as there are six lists a server
+    weighs-checkWels : (v : ℕ) (s : State) → 1 ≤ v → v ≤ servers m → length (s .wel) ≡ servers m * 6 → Weighs x s → Weighs x (checkWels v s)
+    unfolding wakeFirstWel
+    weighs-checkWels v s low high n w =
+        checkWels-kept (λ s. (length (s .wel) ≡ servers m * 6) × Weighs x s) v
+        (λ code s k. (
+          length-set (s .wel) (welIndex v code) _ ∙ k .0,
+          weighs-wakeFirstWel v code s (subst (λ n. welIndex v code < n) (sym (k .0)) (wel-below v code (servers m) low high)) (k .1),
+        )) s (n, w) .1
+
+    -- ---- Making
+
+    weighs-arrival : (l : List ℕ) (list p n : ℕ) (s : State) → Weighs x s → Weighs x (arrival l list p n s)
+    unfolding arrival newborn upTo
+    weighs-arrival [] list p n s w = w
+    weighs-arrival (time ∷ l) list p n s w = weighs-toFel _ (newborn (suc (s .made)) p n) _ (omega arith)
+
+    weighs-copies : (n target : ℕ) (t : Transaction) (s : State) → Weighs x s → Weighs x (copies n target t s)
+    unfolding copies upTo
+    weighs-copies zero target t s w = w
+    weighs-copies (suc n) target t s w = weighs-copies n target t _ (weighs-toRel _ _ (omega arith))
+
+  -- ---- The taking
+
+  weighs-arriveAll : (x : ℕ) (l : List Event) (s : State) → Weighs (sumOn (λ e. by (e .who)) l + x) s → Weighs x (arriveAll l s)
+  unfolding arriveAll
+  weighs-arriveAll x [] s w = omega arith
+  weighs-arriveAll x (e ∷ l) s w = weighs-arriveAll x l _ (weighs-toRel (sumOn (λ e. by (e .who)) l + x) _ s (omega arith))
+
+  weighs-nextEvents : (x : ℕ) (l : List Event) (s : State) → Weighs x s → Weighs x (nextEvents l s)
+  unfolding nextEvents moveClock
+  weighs-nextEvents x [] s w = w
+  weighs-nextEvents x (e ∷ l) s w =
+      weighs-arriveAll x (those (due (e .time)) (s .fel)) _ (omega (arith, sum-those (λ e. by (e .who)) (due (e .time)) (s .fel)))
+
+  moving-arriveAll : (l : List Event) (s : State) → arriveAll l s .moving ≡ s .moving
+  unfolding arriveAll toRel
+  moving-arriveAll [] s = refl
+  moving-arriveAll (e ∷ l) s = moving-arriveAll l _
+
+  moving-nextEvents : (l : List Event) (s : State) → nextEvents l s .moving ≡ s .moving
+  unfolding nextEvents moveClock
+  moving-nextEvents [] s = refl
+  moving-nextEvents (e ∷ l) s = moving-arriveAll (those (due (e .time)) (s .fel)) _
+
+  balanced-takeFirst : (l : List Transaction) (s : State) → s .rel ≡ l → s .moving ≡ none → Weighs 0 s → Balanced (takeFirst l s)
+  unfolding takeFirst
+  balanced-takeFirst [] s e n w = subst (λ o. Weighs (held o) s) (sym n) w
+  balanced-takeFirst (t ∷ l) s e n w = omega (arith, ap (sumOn by) e)
+
+  balanced-takeReady : (l : List Transaction) (s : State) → s .rel ≡ l → s .moving ≡ none → Weighs 0 s → Balanced (takeReady l s)
+  unfolding takeReady
+  balanced-takeReady [] s e n w =
+      balanced-takeFirst _ _ refl (moving-nextEvents (s .fel) s ∙ n) (weighs-nextEvents 0 (s .fel) s w)
+  balanced-takeReady (t ∷ l) s e n w = balanced-takeFirst (t ∷ l) s e n w
+
+  balanced-taking : (o : Option Transaction) (s : State) → s .moving ≡ o → Balanced s → Balanced (taking o s)
+  unfolding taking
+  balanced-taking none s e w = balanced-takeReady (s .rel) s refl e (subst (λ o. Weighs (held o) s) e w)
+  balanced-taking (some t) s e w = w
+
+  -- ---- One block
+
+  module _ (t : Transaction) (s : State) (w : Weighs (by t) s) where
+    -- nobody is moving
+    abbrev idle-hand : State
+    idle-hand = setMoving none s
+
+    -- the state in which a new waiter is put on its list, and who that is
+    abbrev waits : State
+    waits = setSerial (fresh idle-hand) (log 1 t idle-hand)
+
+    abbrev waiter : Transaction
+    waiter = withSerial (fresh idle-hand) t
+
+    in-hand : Weighs (by t + 0) idle-hand
+    in-hand = omega arith
+
+    -- at a block that is no TERMINATE
+    module _ (plain : facts (blockAt m (t .next)) .terminates ≡ 0) where
+      noted : Weighs (by t + 0) (log 1 t idle-hand)
+      noted = weighs-log (by t + 0) 1 t idle-hand plain in-hand
+
+      balanced-waitQl : (v : ℕ) → v - 1 < length (s .ql) → Balanced (mustWait (toQl v) t idle-hand)
+      unfolding toQl log
+      balanced-waitQl v at =
+          mustWait-cases Balanced (toQl v) t idle-hand (λ e. weighs-toQl 0 v t idle-hand at in-hand)
+          (λ e. weighs-toQl 0 v waiter waits at noted)
+
+      balanced-waitWel : (v : ℕ) (code : Code) → welIndex v code < length (s .wel) → Balanced (mustWait (toWel v code) t idle-hand)
+      unfolding toWel log
+      balanced-waitWel v code at =
+          mustWait-cases Balanced (toWel v code) t idle-hand (λ e. weighs-toWel 0 v code t idle-hand at in-hand)
+          (λ e. weighs-toWel 0 v code waiter waits at noted)
+
+      balanced-waitWsl : Balanced (mustWait toWsl t idle-hand)
+      unfolding toWsl log
+      balanced-waitWsl =
+          mustWait-cases Balanced toWsl t idle-hand (λ e. weighs-toWsl 0 t idle-hand in-hand)
+          (λ e. weighs-toWsl 0 waiter waits noted)
+
+      entered : Weighs (by t) (enters t idle-hand)
+      entered = weighs-enters (by t) t idle-hand plain w
+
+      balanced-takeUnits : (v b : ℕ) → 1 ≤ v → v ≤ servers m → Shape m s → Balanced (takeUnits v b t idle-hand)
+      unfolding moveTo setInUse enters log
+      balanced-takeUnits v b low high h =
+          takeUnits-cases Balanced v b t idle-hand
+          (λ e. weighs-checkWels (by t) v _ low high (h .wel-length) entered)
+          (λ e. balanced-waitQl v (ql-at h v low high))
+
+      -- units given back, and then one or some of the QL woken
+      balanced-release : (v b : ℕ) → 1 ≤ v → v ≤ servers m → Shape m s
+          → Weighs (by t) (checkWels v (wakeFirstQl v (freeUnits v b (enters t idle-hand))))
+      unfolding wakeFirstQl setInUse enters log
+      balanced-release v b low high h =
+          weighs-checkWels (by t) v (wakeFirstQl v (freeUnits v b (enters t idle-hand))) low high (h .wel-length)
+          (weighs-wakeFirstQl (by t) v (freeUnits v b (enters t idle-hand)) (ql-at h v low high) entered)
+
+      balanced-leave : (p : Transaction → Bool) (v b : ℕ) → 1 ≤ v → v ≤ servers m → Shape m s
+          → Weighs (by t) (checkWels v (wakeQl p v (freeUnits v b (enters t idle-hand))))
+      unfolding wakeQl setInUse enters log
+      balanced-leave p v b low high h =
+          weighs-checkWels (by t) v (wakeQl p v (freeUnits v b (enters t idle-hand))) low high (h .wel-length)
+          (weighs-wakeQl (by t) p v (freeUnits v b (enters t idle-hand)) (ql-at h v low high) entered)
+
+      balanced-waitServer : (code : Code) (v : ℕ) → 1 ≤ v → v ≤ servers m → Shape m s → Balanced (effect m (waitServer code v) t idle-hand)
+      unfolding moveTo enters log
+      balanced-waitServer code v low high h =
+          waitServer-cases Balanced m code v t idle-hand (λ e. balanced-waitWel v code (wel-at h v code low high))
+          (λ e. weighs-wakeFirstWel (by t) v code (enters t idle-hand) (wel-at h v code low high) entered)
+
+      -- a question has stopped the turn where there is no time
+      balanced-delay : (l : List ℕ) (list : ℕ) → askAdvance l s ≡ 0 → Balanced (delay l list t (enters t idle-hand))
+      unfolding askAdvance delay toFel enters log
+      balanced-delay [] list q = absurd (omega arith)
+      balanced-delay (time ∷ l) list q =
+          weighs-toFel 0 _ (withReturning false (withNext (suc (t .next)) t)) (useTime list (enters t idle-hand))
+          (weighs-enters (by t + 0) t idle-hand plain in-hand)
+
+    balanced-terminate : (a : ℕ) → facts (blockAt m (t .next)) .terminates ≡ 1 → Balanced (endsOne a (enters t idle-hand))
+    unfolding endsOne enters log recordOf
+    balanced-terminate a e = omega (arith, ap (λ n. cond (eqb n 1) (f (t .number)) 0) e)
+
+    terminates-at : {b : Block} → blockAt m (t .next) ≡ b → facts (blockAt m (t .next)) .terminates ≡ facts b .terminates
+    terminates-at e = ap (λ b. facts b .terminates) e
+
+    -- the block's question was answered, and it is proper
+    balanced-effect : (b : Block) → blockAt m (t .next) ≡ b → question b s ≡ 0 → ProperBlock m b → Shape m s → Balanced (effect m b t idle-hand)
+    unfolding effect moveTo facts enters log toRel setContent question
+    balanced-effect (generate list p) e q good h = weighs-arrival (by t) _ list p _ _ (entered (terminates-at e))
+    balanced-effect (advance list) e q good h = balanced-delay (terminates-at e) (timesLeft s list) list q
+    balanced-effect (terminate a) e q good h = balanced-terminate a (terminates-at e)
+    balanced-effect (seize v) e q good h = balanced-takeUnits (terminates-at e) v 1 (good .0) (omega arith) h
+    balanced-effect (release v) e q good h = balanced-release (terminates-at e) v 1 (good .0) (omega arith) h
+    balanced-effect (enter v b) e q good h = balanced-takeUnits (terminates-at e) v b (omega arith) (good .0 .1) h
+    balanced-effect (leave v b) e q good h = balanced-leave (terminates-at e) _ v b (omega arith) (good .0 .1) h
+    balanced-effect (waitServer code v) e q good h =
+        let at : Names (servers m) v = code-server m code v good in
+        balanced-waitServer (terminates-at e) code v (at .0) (at .1) h
+    balanced-effect (waitTerms a r b) e q good h =
+        let plain : facts (blockAt m (t .next)) .terminates ≡ 0 = terminates-at e in
+        waitTerms-cases Balanced m a r b t idle-hand (λ k. balanced-waitWsl plain) (λ k. entered plain)
+    balanced-effect (branch a r b target) e q good h = entered (terminates-at e)
+    balanced-effect (goto target) e q good h = entered (terminates-at e)
+    balanced-effect (assign k a) e q good h = entered (terminates-at e)
+    balanced-effect (priority p) e q good h =
+        weighs-toRel 0 (withPriority p (withReturning false (withNext (suc (t .next)) t))) (enters t idle-hand)
+        (weighs-enters (by t + 0) t idle-hand (terminates-at e) in-hand)
+    balanced-effect (split n target) e q good h = weighs-copies (by t) n target t _ (entered (terminates-at e))
+    balanced-effect (arrive q) e z good h = entered (terminates-at e)
+    balanced-effect (depart q) e z good h = entered (terminates-at e)
+
+    balanced-answer : (n : ℕ) → question (blockAt m (t .next)) s ≡ n → s .moving ≡ some t → Proper m tape → Shape m s
+        → Balanced (answer n m (blockAt m (t .next)) t s)
+    unfolding answer
+    balanced-answer zero q o proper h = balanced-effect _ refl q (proper .block (t .next)) h
+    balanced-answer (suc n) q o proper h = subst (λ o. Weighs (held o) s) (sym o) w
+
+  balanced-execute : (o : Option Transaction) (s : State) → s .moving ≡ o → Proper m tape → Shape m s → Balanced s → Balanced (execute o m s)
+  unfolding execute
+  balanced-execute none s e proper h w = w
+  balanced-execute (some t) s e proper h w = balanced-answer t s (subst (λ o. Weighs (held o) s) e w) _ refl e proper h
+
+  balanced-wsScheme : (s : State) → Balanced s → Balanced (wsScheme m s)
+  unfolding wakeWsl
+  balanced-wsScheme s w = wsScheme-cases Balanced m s (λ e. weighs-wakeWsl (held (s .moving)) (λ t. not (waitsOn m (s .view) t)) s w) (λ e. w)
+
+  pub balanced-turn : Proper m tape → (s : State) → Shape m s → Balanced s → Balanced (turn m s)
+  unfolding turn
+  balanced-turn proper s h w =
+      balanced-wsScheme _ (balanced-execute _ _ refl proper (taking-kept (Shape m) (shape-closed m) (s .moving) s h) (balanced-taking (s .moving) s refl w))
+
+  -- ---- The start
+
+  balanced-idle : Balanced (idle m tape)
+  unfolding idle upTo
+  balanced-idle = omega (arith, sum-flat-none by (servers m), sum-flat-none by (servers m * 6))
+
+  balanced-arrival : (l : List ℕ) (list p n : ℕ) (s : State) → Balanced s → Balanced (arrival l list p n s)
+  unfolding arrival toFel
+  balanced-arrival [] list p n s w = w
+  balanced-arrival (time ∷ l) list p n s w = weighs-arrival (held (s .moving)) (time ∷ l) list p n s w
+
+  balanced-startAt : (n : ℕ) (l : List Block) (s : State) → Balanced s → Balanced (startAt n l s)
+  unfolding startAt
+  balanced-startAt n [] s w = w
+  balanced-startAt n (b ∷ l) s w =
+      balanced-startAt (suc n) l _ (startOf-cases Balanced b n s (λ e. w) (λ list p e. balanced-arrival _ list p n s w))
+
+  pub balanced-start : Balanced (start m tape)
+  unfolding start
+  balanced-start = balanced-startAt 1 (m .blocks) _ balanced-idle

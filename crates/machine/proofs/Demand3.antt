@@ -1,0 +1,62 @@
+-- Demand 3: in every state of the run of every accepted model and tape, with every budget and every trace length, each living
+-- transaction stands once, the counts are those that the records tell, nobody able to go waits where the clock is about to move
+-- or the run ended dry, and equal waits end in the order in which they began. The states are those of the run that gives the
+-- outcome, and the run keeps to its bounds.
+use Prim.Native.Nat.{ℕ}
+use mathlib.Core.Path.{_≡_}
+use mathlib.Core.List.{List, reverse}
+use Rattle.machine.specs.Block.{BlockModel}
+use Rattle.machine.specs.State.{State}
+use Rattle.machine.specs.Validate.{Validation, accept, validate}
+use Rattle.machine.specs.Run.{run, states}
+use Rattle.machine.specs.Claims.{ableToGo, InOrder, Keeps, Each, Demand3, Bounded}
+use Rattle.machine.proofs.Proper.{Proper}
+use Rattle.machine.proofs.ProperFrom.{proper-from}
+use Rattle.machine.proofs.RunLaws.{each-map, each-pair, Ends, last}
+use Rattle.machine.proofs.Bounds.{bounded}
+use Rattle.machine.proofs.Conservation.{Conserved, conserved}
+use Rattle.machine.proofs.NobodyAble.{Waited, waited, able-none}
+use Rattle.machine.proofs.InOrder.{in-order}
+
+-- The three claims of a state, proved apart.
+abbrev Apart : BlockModel → List (List ℕ) → State → Type 0
+Apart m tape s = (Conserved m tape s × Waited m s) × InOrder m tape (reverse (s .records))
+
+keeps : (m : BlockModel) (tape : List (List ℕ)) (s : State) → Apart m tape s → Keeps m tape s
+keeps m tape s h =
+    record {
+      one-place = h .0 .0 .one-place;
+      made = h .0 .0 .made;
+      ended = h .0 .0 .ended;
+      balance = h .0 .0 .balance;
+      living = h .0 .0 .living;
+      nobody-able = able-none m tape s (h .0 .1);
+      order = h .1;
+    }
+
+module _ {m : BlockModel} {tape : List (List ℕ)} (proper : Proper m tape) (budget room : ℕ) where
+  abbrev all : List State
+  all = states m tape budget room
+
+  pub keeps-all : Demand3 m tape budget room
+  keeps-all =
+      each-map (keeps m tape) all
+      (each-pair (λ s. Conserved m tape s × Waited m s) (λ s. InOrder m tape (reverse (s .records))) all
+      (each-pair (Conserved m tape) (Waited m) all (conserved m tape budget room proper) (waited proper budget room))
+      (in-order proper budget room))
+
+-- From bytes; the only hypothesis is that validation accepts.
+pub record Proved (m : BlockModel) (tape : List (List ℕ)) (budget room : ℕ) : Type 0 where
+  pub demand : Demand3 m tape budget room
+  -- the states end with the state that gives outcome, trace and report, and no other one has an end
+  pub last-state : Ends (run m tape budget room) (states m tape budget room)
+  pub bounds : Bounded budget (run m tape budget room)
+
+pub demand3 : (model tapeBytes : List ℕ) (work report budget room : ℕ) {m : BlockModel} {tape : List (List ℕ)}
+    → validate model tapeBytes work report ≡ accept m tape → Proved m tape budget room
+demand3 model tapeBytes work report budget room {m} {tape} accepted =
+    record {
+      demand = keeps-all (proper-from model tapeBytes work report accepted) budget room;
+      last-state = last m budget room tape;
+      bounds = bounded m budget room tape;
+    }

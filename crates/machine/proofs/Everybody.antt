@@ -1,0 +1,300 @@
+-- A claim about every transaction of a state: what the single moves of transactions keep, a turn and the start keep.
+use Prim.Native.Nat.{ℕ, zero, suc, _+_, _*_, _-_, _≤_, _<_}
+use mathlib.Core.Path.{_≡_, refl, sym, ap, _∙_, subst}
+use mathlib.Core.Bool.{Bool, true, false, cond, not}
+use mathlib.Core.List.{List, [], _∷_, _++_, map}
+use mathlib.Core.Option.{Option, none, some}
+use lib.Dec.{leb, eqb}
+use lib.ListN.{length, getD, set, take, drop, replicate}
+use Rattle.machine.specs.Transaction.{Transaction, Event, precedes, earlier, newborn}
+use Rattle.machine.specs.Lists.{insert, those, others}
+use Rattle.machine.specs.Block.{Code, Block, BlockModel, blockAt}
+use Rattle.machine.specs.State.{State}
+use Rattle.machine.specs.Setters.{withNext, withSerial, withReturning, setMade, setSerial, setTurns}
+use Rattle.machine.specs.Moves.{log, enters, moveTo, fresh, toRel, toFel, toQl, toWel, toWsl, mustWait, wake, wakeFirstQl, wakeQl, wakeFirstWel, wakeWsl, setInUse, setContent, arrival, copies, qlOf, welOf, welIndex}
+use Rattle.machine.specs.Execute.{checkWels, freeUnits, endsOne, delay}
+use Rattle.machine.specs.Turn.{arriveAll, due, moveClock, nextEvents, takeFirst, takeReady, taking, sample, wsScheme}
+use Rattle.machine.specs.Run.{idle, startAt, start}
+use Rattle.machine.specs.Claims.{Each}
+use Rattle.machine.proofs.Cases.{checkWels-kept, mustWait-cases, wsScheme-cases}
+use Rattle.machine.proofs.Shape.{each-getD}
+use Rattle.machine.proofs.Sorted.{each-insert, each-those, each-drop}
+
+-- ---- Definition
+
+abbrev pub Maybe : (Transaction → Type 0) → Option Transaction → Type 0
+Maybe P none = Unit {0}
+Maybe P (some t) = P t
+
+pub record Everybody (P : Transaction → Type 0) (s : State) : Type 0 where
+  pub ql : Each (Each P) (s .ql)
+  pub wel : Each (Each P) (s .wel)
+  pub wsl : Each P (s .wsl)
+  pub rel : Each P (s .rel)
+  pub fel : Each (λ e. P (e .who)) (s .fel)
+  pub moving : Maybe P (s .moving)
+
+-- a claim that neither mark nor serial bears on
+pub record Unmoved (P : Transaction → Type 0) : Type 0 where
+  pub mark : (b : Bool) (t : Transaction) → P t → P (withReturning b t)
+  pub serial : (n : ℕ) (t : Transaction) → P t → P (withSerial n t)
+
+-- ---- Lists
+
+each-set : {A : Type 0} (P : A → Type 0) (l : List A) (i : ℕ) (a : A) → Each P l → P a → Each P (set l i a)
+each-set P [] i a h p = tt
+each-set P (x ∷ l) zero a h p = (p, h .1)
+each-set P (x ∷ l) (suc i) a h p = (h .0, each-set P l i a (h .1) p)
+
+each-take : {A : Type 0} (P : A → Type 0) (l : List A) → Each P l → Each P (take 1 l)
+each-take P [] h = tt
+each-take P (x ∷ l) h = (h .0, tt)
+
+each-replicate : {A : Type 0} (P : A → Type 0) (n : ℕ) (a : A) → P a → Each P (replicate n a)
+each-replicate P zero a p = tt
+each-replicate P (suc n) a p = (p, each-replicate P n a p)
+
+module _ (P : Transaction → Type 0) (U : Unmoved P) where
+  each-wake : (l rel : List Transaction) → Each P l → Each P rel → Each P (wake l rel)
+  unfolding wake
+  each-wake [] rel h k = k
+  each-wake (t ∷ l) rel h k = each-wake l _ (h .1) (each-insert P precedes _ rel (U .mark true t (h .0)) k)
+
+  one-ql : (v : ℕ) (s : State) → Everybody P s → Each P (qlOf s v)
+  one-ql v s h = each-getD (Each P) (s .ql) (v - 1) [] (h .ql) tt
+
+  one-wel : (v : ℕ) (code : Code) (s : State) → Everybody P s → Each P (welOf s v code)
+  one-wel v code s h = each-getD (Each P) (s .wel) (welIndex v code) [] (h .wel) tt
+
+  -- ---- Onto lists
+
+  pub toRel-everybody : (t : Transaction) (s : State) → P t → Everybody P s → Everybody P (toRel t s)
+  unfolding toRel
+  toRel-everybody t s p h =
+      record { ql = h .ql; wel = h .wel; wsl = h .wsl; rel = each-insert P precedes _ (s .rel) (U .serial _ t p) (h .rel); fel = h .fel; moving = h .moving }
+
+  pub toFel-everybody : (time : ℕ) (t : Transaction) (s : State) → P t → Everybody P s → Everybody P (toFel time t s)
+  unfolding toFel
+  toFel-everybody time t s p h =
+      record {
+        ql = h .ql;
+        wel = h .wel;
+        wsl = h .wsl;
+        rel = h .rel;
+        fel = each-insert (λ (e : Event). P (e .who)) earlier _ (s .fel) (U .serial _ t p) (h .fel);
+        moving = h .moving;
+      }
+
+  toQl-everybody : (v : ℕ) (t : Transaction) (s : State) → P t → Everybody P s → Everybody P (toQl v t s)
+  unfolding toQl
+  toQl-everybody v t s p h =
+      record {
+        ql = each-set (Each P) (s .ql) (v - 1) _ (h .ql) (each-insert P precedes t _ p (one-ql v s h));
+        wel = h .wel;
+        wsl = h .wsl;
+        rel = h .rel;
+        fel = h .fel;
+        moving = h .moving;
+      }
+
+  toWel-everybody : (v : ℕ) (code : Code) (t : Transaction) (s : State) → P t → Everybody P s → Everybody P (toWel v code t s)
+  unfolding toWel
+  toWel-everybody v code t s p h =
+      record {
+        ql = h .ql;
+        wel = each-set (Each P) (s .wel) (welIndex v code) _ (h .wel) (each-insert P precedes t _ p (one-wel v code s h));
+        wsl = h .wsl;
+        rel = h .rel;
+        fel = h .fel;
+        moving = h .moving;
+      }
+
+  toWsl-everybody : (t : Transaction) (s : State) → P t → Everybody P s → Everybody P (toWsl t s)
+  unfolding toWsl
+  toWsl-everybody t s p h =
+      record { ql = h .ql; wel = h .wel; wsl = each-insert P precedes t (s .wsl) p (h .wsl); rel = h .rel; fel = h .fel; moving = h .moving }
+
+  -- nothing but lists matters
+  like : (s s′ : State) → s′ .ql ≡ s .ql → s′ .wel ≡ s .wel → s′ .wsl ≡ s .wsl → s′ .rel ≡ s .rel → s′ .fel ≡ s .fel → s′ .moving ≡ s .moving
+      → Everybody P s → Everybody P s′
+  like s s′ a b c d e f h =
+      record {
+        ql = rw a (h .ql);
+        wel = rw b (h .wel);
+        wsl = rw c (h .wsl);
+        rel = rw d (h .rel);
+        fel = rw e (h .fel);
+        moving = rw f (h .moving);
+      }
+
+  pub mustWait-everybody : (put : Transaction → State → State)
+      → ((t : Transaction) (s : State) → P t → Everybody P s → Everybody P (put t s)) → (t : Transaction) (s : State)
+      → P t → Everybody P s → Everybody P (mustWait put t s)
+  unfolding log
+  mustWait-everybody put kept t s p h =
+      mustWait-cases (Everybody P) put t s (λ e. kept t s p h)
+      (λ e. kept _ _ (U .serial _ t p) (like s (setSerial (fresh s) (log 1 t s)) refl refl refl refl refl refl h))
+
+  pub waitQl-everybody : (v : ℕ) (t : Transaction) (s : State) → P t → Everybody P s → Everybody P (mustWait (toQl v) t s)
+  waitQl-everybody v = mustWait-everybody (toQl v) (toQl-everybody v)
+
+  pub waitWel-everybody : (v : ℕ) (code : Code) (t : Transaction) (s : State) → P t → Everybody P s → Everybody P (mustWait (toWel v code) t s)
+  waitWel-everybody v code = mustWait-everybody (toWel v code) (toWel-everybody v code)
+
+  pub waitWsl-everybody : (t : Transaction) (s : State) → P t → Everybody P s → Everybody P (mustWait toWsl t s)
+  waitWsl-everybody = mustWait-everybody toWsl toWsl-everybody
+
+  pub moveTo-everybody : (n : ℕ) (t : Transaction) (s : State) → P (withNext n t) → Everybody P s → Everybody P (moveTo n t s)
+  unfolding moveTo
+  moveTo-everybody n t s p h =
+      record { ql = h .ql; wel = h .wel; wsl = h .wsl; rel = h .rel; fel = h .fel; moving = U .mark false _ p }
+
+  -- ---- Waking
+
+  pub wakeFirstQl-everybody : (v : ℕ) (s : State) → Everybody P s → Everybody P (wakeFirstQl v s)
+  unfolding wakeFirstQl
+  wakeFirstQl-everybody v s h =
+      record {
+        ql = each-set (Each P) (s .ql) (v - 1) _ (h .ql) (each-drop P (qlOf s v) (one-ql v s h));
+        wel = h .wel;
+        wsl = h .wsl;
+        rel = each-wake _ (s .rel) (each-take P (qlOf s v) (one-ql v s h)) (h .rel);
+        fel = h .fel;
+        moving = h .moving;
+      }
+
+  pub wakeQl-everybody : (p : Transaction → Bool) (v : ℕ) (s : State) → Everybody P s → Everybody P (wakeQl p v s)
+  unfolding wakeQl
+  wakeQl-everybody p v s h =
+      record {
+        ql = each-set (Each P) (s .ql) (v - 1) _ (h .ql) (each-those P _ _ (one-ql v s h));
+        wel = h .wel;
+        wsl = h .wsl;
+        rel = each-wake _ (s .rel) (each-those P p _ (one-ql v s h)) (h .rel);
+        fel = h .fel;
+        moving = h .moving;
+      }
+
+  pub wakeFirstWel-everybody : (v : ℕ) (code : Code) (s : State) → Everybody P s → Everybody P (wakeFirstWel v code s)
+  unfolding wakeFirstWel
+  wakeFirstWel-everybody v code s h =
+      record {
+        ql = h .ql;
+        wel = each-set (Each P) (s .wel) (welIndex v code) _ (h .wel) (each-drop P (welOf s v code) (one-wel v code s h));
+        wsl = h .wsl;
+        rel = each-wake _ (s .rel) (each-take P (welOf s v code) (one-wel v code s h)) (h .rel);
+        fel = h .fel;
+        moving = h .moving;
+      }
+
+  wakeWsl-everybody : (p : Transaction → Bool) (s : State) → Everybody P s → Everybody P (wakeWsl p s)
+  unfolding wakeWsl
+  wakeWsl-everybody p s h =
+      record {
+        ql = h .ql;
+        wel = h .wel;
+        wsl = each-those P _ (s .wsl) (h .wsl);
+        rel = each-wake _ (s .rel) (each-those P p (s .wsl) (h .wsl)) (h .rel);
+        fel = h .fel;
+        moving = h .moving;
+      }
+
+  pub checkWels-everybody : (v : ℕ) (s : State) → Everybody P s → Everybody P (checkWels v s)
+  checkWels-everybody v s h = checkWels-kept (Everybody P) v (wakeFirstWel-everybody v) s h
+
+  pub wsScheme-everybody : (m : BlockModel) (s : State) → Everybody P s → Everybody P (wsScheme m s)
+  wsScheme-everybody m s h = wsScheme-cases (Everybody P) m s (λ e. wakeWsl-everybody _ s h) (λ e. h)
+
+  -- ---- Making
+
+  pub arrival-everybody : (l : List ℕ) (list p n : ℕ) (s : State) → P (newborn (suc (s .made)) p n) → Everybody P s
+      → Everybody P (arrival l list p n s)
+  unfolding arrival
+  arrival-everybody [] list p n s new h = h
+  arrival-everybody (time ∷ l) list p n s new h = toFel-everybody _ _ _ new (like s _ refl refl refl refl refl refl h)
+
+  -- a copy, whatever its number
+  pub copies-everybody : (n target : ℕ) (t : Transaction) (s : State)
+      → ((k : ℕ) → P (record { number = k; priority = t .priority; parameters = t .parameters; next = target; serial = 0; returning = false }))
+      → Everybody P s → Everybody P (copies n target t s)
+  unfolding copies
+  copies-everybody zero target t s new h = h
+  copies-everybody (suc n) target t s new h =
+      copies-everybody n target t _ new (toRel-everybody _ _ (new _) (like s _ refl refl refl refl refl refl h))
+
+  pub delay-everybody : (l : List ℕ) (list : ℕ) (t : Transaction) (s : State) → P (withNext (suc (t .next)) t) → Everybody P s
+      → Everybody P (delay l list t s)
+  unfolding delay
+  delay-everybody [] list t s p h = h
+  delay-everybody (time ∷ l) list t s p h = toFel-everybody _ _ _ (U .mark false _ p) (like s _ refl refl refl refl refl refl h)
+
+  pub enters-everybody : (t : Transaction) (s : State) → Everybody P s → Everybody P (enters t s)
+  unfolding enters log
+  enters-everybody t s h = like s _ refl refl refl refl refl refl h
+
+  pub inUse-everybody : (v n : ℕ) (s : State) → Everybody P s → Everybody P (setInUse v n s)
+  unfolding setInUse
+  inUse-everybody v n s h = like s _ refl refl refl refl refl refl h
+
+  pub content-everybody : (q n : ℕ) (s : State) → Everybody P s → Everybody P (setContent q n s)
+  unfolding setContent
+  content-everybody q n s h = like s _ refl refl refl refl refl refl h
+
+  pub endsOne-everybody : (a : ℕ) (s : State) → Everybody P s → Everybody P (endsOne a s)
+  unfolding endsOne
+  endsOne-everybody a s h = like s _ refl refl refl refl refl refl h
+
+  -- ---- The taking
+
+  arriveAll-everybody : (l : List Event) (s : State) → Each (λ e. P (e .who)) l → Everybody P s → Everybody P (arriveAll l s)
+  unfolding arriveAll
+  arriveAll-everybody [] s k h = h
+  arriveAll-everybody (e ∷ l) s k h = arriveAll-everybody l _ (k .1) (toRel-everybody _ s (U .mark false _ (k .0)) h)
+
+  moveClock-everybody : (time : ℕ) (s : State) → Everybody P s → Everybody P (moveClock time s)
+  unfolding moveClock
+  moveClock-everybody time s h =
+      arriveAll-everybody _ _ (each-those (λ (e : Event). P (e .who)) (due time) (s .fel) (h .fel))
+      (record {
+        ql = h .ql;
+        wel = h .wel;
+        wsl = h .wsl;
+        rel = h .rel;
+        fel = each-those (λ (e : Event). P (e .who)) _ (s .fel) (h .fel);
+        moving = h .moving;
+      })
+
+  nextEvents-everybody : (l : List Event) (s : State) → Everybody P s → Everybody P (nextEvents l s)
+  unfolding nextEvents
+  nextEvents-everybody [] s h = h
+  nextEvents-everybody (e ∷ l) s h = moveClock-everybody (e .time) s h
+
+  takeFirst-everybody : (l : List Transaction) (s : State) → Each P l → Everybody P s → Everybody P (takeFirst l s)
+  unfolding takeFirst
+  takeFirst-everybody [] s k h = h
+  takeFirst-everybody (t ∷ l) s k h =
+      record { ql = h .ql; wel = h .wel; wsl = h .wsl; rel = k .1; fel = h .fel; moving = k .0 }
+
+  takeReady-everybody : (l : List Transaction) (s : State) → Each P l → Everybody P s → Everybody P (takeReady l s)
+  unfolding takeReady
+  takeReady-everybody [] s k h =
+      let h′ : Everybody P (nextEvents (s .fel) s) = nextEvents-everybody (s .fel) s h in
+      takeFirst-everybody _ _ (h′ .rel) h′
+  takeReady-everybody (t ∷ l) s k h = takeFirst-everybody (t ∷ l) s k h
+
+  pub taking-everybody : (o : Option Transaction) (s : State) → Everybody P s → Everybody P (taking o s)
+  unfolding taking
+  taking-everybody none s h = takeReady-everybody (s .rel) s (h .rel) h
+  taking-everybody (some t) s h = h
+
+  pub idle-everybody : (m : BlockModel) (tape : List (List ℕ)) → Everybody P (idle m tape)
+  unfolding idle
+  idle-everybody m tape =
+      record {
+        ql = each-replicate (Each P) (m .facilities + length (m .capacities)) [] tt;
+        wel = each-replicate (Each P) ((m .facilities + length (m .capacities)) * 6) [] tt;
+        wsl = tt;
+        rel = tt;
+        fel = tt;
+        moving = tt;
+      }

@@ -1,0 +1,250 @@
+-- One walk through a turn for every claim that concerns the moved transactions little: what the single changes of a state keep, a
+-- turn and the start keep.
+use Prim.Native.Nat.{ℕ, zero, suc, _+_, _≤_}
+use mathlib.Core.Bool.{Bool, true, false, _||_}
+use mathlib.Core.List.{List, [], _∷_}
+use mathlib.Core.Option.{Option, none, some}
+use native.Mathlib.Omega.{arith}
+use borrow.Author.Tests.{leb-true}
+use lib.Dec.{T, eqb, leb}
+use lib.ListN.{set}
+use Rattle.machine.specs.Limits.{maxLiving, maxClock}
+use Rattle.machine.specs.Transaction.{Transaction, Event}
+use Rattle.machine.specs.Term.{Queue, serverAt, queueAt, free}
+use Rattle.machine.specs.Block.{Code, Block, generate, advance, terminate, seize, release, enter, leave, waitServer, waitTerms, branch, goto, assign, priority, split, arrive, depart, BlockModel, blockAt}
+use Rattle.machine.specs.State.{State, Logged}
+use Rattle.machine.specs.Setters.{setClock, setEntries, setQueues, setView, setCounter, setSamples, setQl, setWel, setWsl, setRel, setFel, setMoving, setSerial, setMade, setEnded, setTurns, setRecords, setWritten, setEnd}
+use Rattle.machine.specs.Moves.{log, enters, moveTo, toRel, toFel, toQl, toWel, toWsl, mustWait, wakeFirstQl, wakeQl, wakeFirstWel, wakeWsl, setInUse, setContent, timesLeft, arrival, copies}
+use Rattle.machine.specs.Execute.{unless, living, askGenerate, askAdvance, question, takeUnits, checkWels, endsOne, delay, effect, freeUnits}
+use Rattle.machine.specs.Turn.{sample, arriveAll, moveClock, nextEvents, takeFirst, takeReady, taking, answer, execute, wsScheme, turn}
+use Rattle.machine.specs.Run.{startAt, idle, start}
+use Rattle.machine.specs.Claims.{statedEnd}
+use Rattle.machine.proofs.RunLaws.{cond-cases}
+use Rattle.machine.proofs.Cases.{checkWels-kept, mustWait-cases, takeUnits-cases, waitServer-cases, waitTerms-cases, wsScheme-cases, startOf-cases}
+
+-- ---- Definition
+
+-- no end, or one of the stated ends
+abbrev pub Stop : ℕ → Type 0
+Stop n = T (eqb n 0 || statedEnd n)
+
+pub record Closed (Q : State → Type 0) : Type 0 where
+  pub entries : (i n : ℕ) (s : State) → Q s → Q (setView (setEntries (set (s .view .entries) i n) (s .view)) s)
+  pub queues : (i : ℕ) (q : Queue) (s : State) → Q s → Q (setView (setQueues (set (s .view .queues) i q) (s .view)) s)
+  -- units in use: at most the capacity, where they were before
+  pub units : (v n : ℕ) (s : State) → (serverAt (s .view) v .inUse ≤ serverAt (s .view) v .capacity → n ≤ serverAt (s .view) v .capacity)
+      → Q s → Q (setInUse v n s)
+  pub clock : (time ticks : ℕ) (s : State) → Q s → Q (setView (setClock time (sample ticks s .view)) s)
+  pub ql : (i : ℕ) (l : List Transaction) (s : State) → Q s → Q (setQl (set (s .ql) i l) s)
+  pub wel : (i : ℕ) (l : List Transaction) (s : State) → Q s → Q (setWel (set (s .wel) i l) s)
+  pub samples : (i : ℕ) (l : List ℕ) (s : State) → Q s → Q (setSamples (set (s .samples) i l) s)
+  pub wsl : (l : List Transaction) (s : State) → Q s → Q (setWsl l s)
+  pub rel : (l : List Transaction) (s : State) → Q s → Q (setRel l s)
+  pub fel : (l : List Event) (s : State) → Q s → Q (setFel l s)
+  pub moving : (o : Option Transaction) (s : State) → Q s → Q (setMoving o s)
+  pub serial : (n : ℕ) (s : State) → Q s → Q (setSerial n s)
+  pub counter : (n : ℕ) (s : State) → Q s → Q (setCounter n s)
+  pub made : (n : ℕ) (s : State) → Q s → Q (setMade n s)
+  pub ended : (n : ℕ) (s : State) → Q s → Q (setEnded n s)
+  pub written : (n : ℕ) (r : Logged) (s : State) → Q s → Q (setWritten n (setRecords (r ∷ s .records) s))
+  pub stop : (n : ℕ) (s : State) → Stop n → Q s → Q (setEnd n s)
+
+-- ---- The answers of the questions
+
+unless-stops : (b : Bool) (n later : ℕ) → Stop n → Stop later → Stop (unless b n later)
+unless-stops true n later h k = k
+unless-stops false n later h k = h
+
+ask-generate : (l : List ℕ) (s : State) → Stop (askGenerate l s)
+unfolding askGenerate
+ask-generate [] s = tt
+ask-generate (x ∷ l) s = unless-stops (leb (living s + 1) maxLiving) 21 _ tt (unless-stops (leb (s .view .clock + x) maxClock) 22 0 tt tt)
+
+ask-advance : (l : List ℕ) (s : State) → Stop (askAdvance l s)
+unfolding askAdvance
+ask-advance [] s = tt
+ask-advance (x ∷ l) s = unless-stops (leb (s .view .clock + x) maxClock) 22 0 tt tt
+
+pub question-stops : (b : Block) (s : State) → Stop (question b s)
+unfolding question
+question-stops (generate list p) s = ask-generate (timesLeft s list) s
+question-stops (advance list) s = ask-advance (timesLeft s list) s
+question-stops (release v) s = unless-stops (leb 1 (serverAt (s .view) v .inUse)) 24 0 tt tt
+question-stops (leave v b) s = unless-stops (leb b (serverAt (s .view) v .inUse)) 24 0 tt tt
+question-stops (split n target) s = unless-stops (leb (living s + n) maxLiving) 21 0 tt tt
+question-stops (depart q) s = unless-stops (leb 1 (queueAt (s .view) q .content)) 25 0 tt tt
+question-stops (terminate a) s = tt
+question-stops (seize v) s = tt
+question-stops (enter v b) s = tt
+question-stops (waitServer code v) s = tt
+question-stops (waitTerms a r b) s = tt
+question-stops (branch a r b target) s = tt
+question-stops (goto target) s = tt
+question-stops (assign k a) s = tt
+question-stops (priority p) s = tt
+question-stops (arrive q) s = tt
+
+-- ---- Every part of a turn
+
+module _ (Q : State → Type 0) (C : Closed Q) where
+  pub enters-kept : (t : Transaction) (s : State) → Q s → Q (enters t s)
+  unfolding enters log
+  enters-kept t s h = C .written _ _ _ (C .entries _ _ s h)
+
+  pub wakeFirstWel-kept : (v : ℕ) (code : Code) (s : State) → Q s → Q (wakeFirstWel v code s)
+  unfolding wakeFirstWel
+  wakeFirstWel-kept v code s h = C .wel _ _ _ (C .rel _ s h)
+
+  pub check-kept : (v : ℕ) (s : State) → Q s → Q (checkWels v s)
+  check-kept v s h = checkWels-kept Q v (wakeFirstWel-kept v) s h
+
+  pub goes-on : (n : ℕ) (t : Transaction) (s : State) → Q s → Q (moveTo n t s)
+  unfolding moveTo
+  goes-on n t s h = C .moving _ s h
+
+  pub mustWait-kept : (put : Transaction → State → State) → ((t : Transaction) (s : State) → Q s → Q (put t s)) → (t : Transaction) (s : State)
+      → Q s → Q (mustWait put t s)
+  unfolding log
+  mustWait-kept put kept t s h = mustWait-cases Q put t s (λ e. kept t s h) (λ e. kept _ _ (C .serial _ _ (C .written _ _ s h)))
+
+  pub toQl-kept : (v : ℕ) (t : Transaction) (s : State) → Q s → Q (toQl v t s)
+  unfolding toQl
+  toQl-kept v t s h = C .ql _ _ s h
+
+  pub toWel-kept : (v : ℕ) (code : Code) (t : Transaction) (s : State) → Q s → Q (toWel v code t s)
+  unfolding toWel
+  toWel-kept v code t s h = C .wel _ _ s h
+
+  pub toWsl-kept : (t : Transaction) (s : State) → Q s → Q (toWsl t s)
+  unfolding toWsl
+  toWsl-kept t s h = C .wsl _ s h
+
+  pub toRel-kept : (t : Transaction) (s : State) → Q s → Q (toRel t s)
+  unfolding toRel
+  toRel-kept t s h = C .rel _ _ (C .serial _ s h)
+
+  pub takeUnits-kept : (v b : ℕ) (t : Transaction) (s : State) → Q s → Q (takeUnits v b t s)
+  unfolding enters log serverAt
+  takeUnits-kept v b t s h =
+      takeUnits-cases Q v b t s
+      (λ e.
+      let fits : b ≤ free (serverAt (s .view) v) = leb-true _ _ e in
+      goes-on _ t _ (check-kept v _ (C .units v _ (enters t s) (λ w. more fits w) (enters-kept t s h))))
+      (λ e. mustWait-kept (toQl v) (toQl-kept v) t s h)
+    where
+      more : b ≤ free (serverAt (s .view) v) → serverAt (s .view) v .inUse ≤ serverAt (s .view) v .capacity
+          → serverAt (s .view) v .inUse + b ≤ serverAt (s .view) v .capacity
+      more fits w = omega arith
+
+  pub arrival-kept : (l : List ℕ) (list p n : ℕ) (s : State) → Q s → Q (arrival l list p n s)
+  unfolding arrival toFel
+  arrival-kept [] list p n s h = h
+  arrival-kept (x ∷ l) list p n s h = C .fel _ _ (C .serial _ _ (C .made _ _ (C .samples _ _ s h)))
+
+  pub copies-kept : (n target : ℕ) (t : Transaction) (s : State) → Q s → Q (copies n target t s)
+  unfolding copies
+  copies-kept zero target t s h = h
+  copies-kept (suc n) target t s h = copies-kept n target t _ (toRel-kept _ _ (C .made _ s h))
+
+  pub delay-kept : (l : List ℕ) (list : ℕ) (t : Transaction) (s : State) → Q s → Q (delay l list t s)
+  unfolding delay toFel
+  delay-kept [] list t s h = h
+  delay-kept (x ∷ l) list t s h = C .fel _ _ (C .serial _ _ (C .samples _ _ s h))
+
+  pub freeUnits-kept : (v b : ℕ) (s : State) → Q s → Q (freeUnits v b s)
+  freeUnits-kept v b s h = C .units v _ s (λ w. omega arith) h
+
+  pub endsOne-kept : (a : ℕ) (s : State) → Q s → Q (endsOne a s)
+  unfolding endsOne
+  endsOne-kept a s h = C .stop _ _ (cond-cases Stop (leb (s .counter) a) 2 0 (λ e. tt) (λ e. tt)) (C .counter _ _ (C .ended _ s h))
+
+  pub wakeFirstQl-kept : (v : ℕ) (s : State) → Q s → Q (wakeFirstQl v s)
+  unfolding wakeFirstQl
+  wakeFirstQl-kept v s h = C .ql _ _ _ (C .rel _ s h)
+
+  pub wakeQl-kept : (p : Transaction → Bool) (v : ℕ) (s : State) → Q s → Q (wakeQl p v s)
+  unfolding wakeQl
+  wakeQl-kept p v s h = C .ql _ _ _ (C .rel _ s h)
+
+  pub effect-kept : (m : BlockModel) (b : Block) (t : Transaction) (s : State) → Q s → Q (effect m b t s)
+  unfolding effect setContent
+  effect-kept m (generate list p) t s h = goes-on _ t _ (arrival-kept _ list p _ _ (enters-kept t s h))
+  effect-kept m (advance list) t s h = delay-kept _ list t _ (enters-kept t s h)
+  effect-kept m (terminate a) t s h = endsOne-kept a _ (enters-kept t s h)
+  effect-kept m (seize v) t s h = takeUnits-kept v 1 t s h
+  effect-kept m (release v) t s h = goes-on _ t _ (check-kept v _ (wakeFirstQl-kept v _ (freeUnits-kept v 1 _ (enters-kept t s h))))
+  effect-kept m (enter v b) t s h = takeUnits-kept v b t s h
+  effect-kept m (leave v b) t s h = goes-on _ t _ (check-kept v _ (wakeQl-kept _ v _ (freeUnits-kept v b _ (enters-kept t s h))))
+  effect-kept m (waitServer code v) t s h =
+      waitServer-cases Q m code v t s (λ e. mustWait-kept (toWel v code) (toWel-kept v code) t s h)
+      (λ e. goes-on _ t _ (wakeFirstWel-kept v code _ (enters-kept t s h)))
+  effect-kept m (waitTerms a r b) t s h =
+      waitTerms-cases Q m a r b t s (λ e. mustWait-kept toWsl toWsl-kept t s h) (λ e. goes-on _ t _ (enters-kept t s h))
+  effect-kept m (branch a r b target) t s h = goes-on _ t _ (enters-kept t s h)
+  effect-kept m (goto target) t s h = goes-on _ t _ (enters-kept t s h)
+  effect-kept m (assign k a) t s h = goes-on _ _ _ (enters-kept t s h)
+  effect-kept m (priority p) t s h = toRel-kept _ _ (enters-kept t s h)
+  effect-kept m (split n target) t s h = goes-on _ t _ (copies-kept n target t _ (enters-kept t s h))
+  effect-kept m (arrive q) t s h = goes-on _ t _ (C .queues _ _ _ (enters-kept t s h))
+  effect-kept m (depart q) t s h = goes-on _ t _ (C .queues _ _ _ (enters-kept t s h))
+
+  pub arriveAll-kept : (l : List Event) (s : State) → Q s → Q (arriveAll l s)
+  unfolding arriveAll
+  arriveAll-kept [] s h = h
+  arriveAll-kept (e ∷ l) s h = arriveAll-kept l _ (toRel-kept _ s h)
+
+  pub moveClock-kept : (time : ℕ) (s : State) → Q s → Q (moveClock time s)
+  unfolding moveClock
+  moveClock-kept time s h = arriveAll-kept _ _ (C .fel _ _ (C .clock time _ s h))
+
+  pub nextEvents-kept : (l : List Event) (s : State) → Q s → Q (nextEvents l s)
+  unfolding nextEvents
+  nextEvents-kept [] s h = h
+  nextEvents-kept (e ∷ l) s h = moveClock-kept (e .time) s h
+
+  pub takeFirst-kept : (l : List Transaction) (s : State) → Q s → Q (takeFirst l s)
+  unfolding takeFirst
+  takeFirst-kept [] s h = h
+  takeFirst-kept (t ∷ l) s h = C .moving _ _ (C .rel _ s h)
+
+  pub takeReady-kept : (l : List Transaction) (s : State) → Q s → Q (takeReady l s)
+  unfolding takeReady
+  takeReady-kept [] s h = takeFirst-kept _ _ (nextEvents-kept (s .fel) s h)
+  takeReady-kept (t ∷ l) s h = takeFirst-kept (t ∷ l) s h
+
+  pub taking-kept : (o : Option Transaction) (s : State) → Q s → Q (taking o s)
+  unfolding taking
+  taking-kept none s h = takeReady-kept (s .rel) s h
+  taking-kept (some t) s h = h
+
+  answer-kept : (n : ℕ) → Stop n → (m : BlockModel) (b : Block) (t : Transaction) (s : State) → Q s → Q (answer n m b t s)
+  unfolding answer
+  answer-kept zero stops m b t s h = effect-kept m b t _ (C .moving none s h)
+  answer-kept (suc n) stops m b t s h = C .stop (suc n) s stops h
+
+  pub execute-kept : (m : BlockModel) (o : Option Transaction) (s : State) → Q s → Q (execute o m s)
+  unfolding execute
+  execute-kept m none s h = h
+  execute-kept m (some t) s h = answer-kept _ (question-stops (blockAt m (t .next)) s) m _ t s h
+
+  pub wakeWsl-kept : (p : Transaction → Bool) (s : State) → Q s → Q (wakeWsl p s)
+  unfolding wakeWsl
+  wakeWsl-kept p s h = C .wsl _ _ (C .rel _ s h)
+
+  pub wsScheme-kept : (m : BlockModel) (s : State) → Q s → Q (wsScheme m s)
+  wsScheme-kept m s h = wsScheme-cases Q m s (λ e. wakeWsl-kept _ s h) (λ e. h)
+
+  pub startAt-kept : (n : ℕ) (l : List Block) (s : State) → Q s → Q (startAt n l s)
+  unfolding startAt
+  startAt-kept n [] s h = h
+  startAt-kept n (b ∷ l) s h = startAt-kept (suc n) l _ (startOf-cases Q b n s (λ e. h) (λ list p e. arrival-kept _ list p n s h))
+
+  pub start-kept : (m : BlockModel) (tape : List (List ℕ)) → Q (idle m tape) → Q (start m tape)
+  unfolding start
+  start-kept m tape h = startAt-kept 1 (m .blocks) _ h
+
+-- of a claim that may change as the turn is counted
+pub turn-kept : (P Q : State → Type 0) → Closed P → Closed Q → (m : BlockModel) (s : State)
+    → ((s′ : State) → P s′ → Q (setTurns (suc (s .turns)) s′)) → P s → Q (turn m s)
+unfolding turn
+turn-kept P Q C D m s counts h = wsScheme-kept Q D m _ (execute-kept Q D m _ _ (counts _ (taking-kept P C (s .moving) s h)))

@@ -1,0 +1,156 @@
+-- Every transaction of a run stands before a block of the model, with a priority in its range.
+use Prim.Native.Nat.{ℕ, zero, suc, _+_, _-_, _≤_, _<_}
+use mathlib.Core.Path.{_≡_, refl, sym, ap, _∙_, subst}
+use mathlib.Core.Bool.{Bool, true, false, cond, not, _&&_, _||_}
+use mathlib.Core.List.{List, [], _∷_}
+use mathlib.Core.Option.{Option, none, some}
+use native.Mathlib.Omega.{arith}
+use lib.Dec.{T, eqb}
+use lib.ListN.{length, getD}
+use Rattle.machine.specs.Limits.{maxPriority}
+use Rattle.machine.specs.Transaction.{Transaction, newborn}
+use Rattle.machine.specs.Lists.{nth}
+use Rattle.machine.specs.Term.{compare}
+use Rattle.machine.specs.Block.{Code, Block, generate, advance, terminate, seize, release, enter, leave, waitServer, waitTerms, branch, goto, assign, priority, split, arrive, depart, Facts, facts, BlockModel, blockAt}
+use Rattle.machine.specs.State.{State}
+use Rattle.machine.specs.Setters.{withNext, withPriority, withReturning, withParameters, setMoving, setTurns, setEnd}
+use Rattle.machine.specs.Moves.{timesLeft}
+use Rattle.machine.specs.Execute.{question, effect, takeUnits}
+use Rattle.machine.specs.Turn.{taking, answer, execute, wsScheme, turn}
+use Rattle.machine.specs.Run.{startOf, startAt, start, states}
+use Rattle.machine.specs.Claims.{Each}
+use Rattle.machine.specs.Validate.{wellFormed, wellPlaced, targetsMove, allOf, sumNames, isGenerate}
+use Rattle.machine.proofs.Proper.{Names, ProperBlock, Proper}
+use Rattle.machine.proofs.RunLaws.{cond-cases, each-state}
+use Rattle.machine.proofs.Cases.{takeUnits-cases, waitServer-cases, waitTerms-cases, startOf-cases}
+use Rattle.machine.proofs.Everybody.{Maybe, Everybody, Unmoved, toRel-everybody, waitQl-everybody, waitWel-everybody, waitWsl-everybody, moveTo-everybody, wakeFirstQl-everybody, wakeQl-everybody, wakeFirstWel-everybody, checkWels-everybody, wsScheme-everybody, arrival-everybody, copies-everybody, delay-everybody, enters-everybody, inUse-everybody, content-everybody, endsOne-everybody, taking-everybody, idle-everybody}
+
+-- ---- Question 7: behind a block that lets its transaction go on stands another
+
+and-left : (a b : Bool) → T (a && b) → T a
+and-left true b h = tt
+and-left false b h = h
+
+and-right : (a b : Bool) → T (a && b) → T b
+and-right true b h = h
+and-right false b h = absurd h
+
+goes-on : (left : Bool) (l : List Block) (i : ℕ) → T (wellPlaced left l) → i < length l → facts (getD l i (terminate 0)) .leaves ≡ false → suc i < length l
+unfolding wellPlaced
+goes-on left [] i h lt e = absurd (omega arith)
+goes-on left (b ∷ []) zero h lt e = absurd (subst T e (and-right (not (isGenerate (facts b)) || left) (facts b .leaves) h))
+goes-on left (b ∷ c ∷ l) zero h lt e = omega arith
+goes-on left (b ∷ l) (suc i) h lt e =
+    let next : suc i < length l = goes-on (facts b .leaves) l i (and-right (not (isGenerate (facts b)) || left) _ h) (omega arith) e in
+    omega arith
+
+-- ---- Definition
+
+abbrev pub Placed : BlockModel → Transaction → Type 0
+Placed m t = Names (length (m .blocks)) (t .next) × (t .priority ≤ maxPriority)
+
+unmoved : (m : BlockModel) → Unmoved (Placed m)
+unmoved m = record { mark = λ b t h. h; serial = λ n t h. h }
+
+module _ (m : BlockModel) (tape : List (List ℕ)) (proper : Proper m tape) where
+  abbrev P : Transaction → Type 0
+  P = Placed m
+
+  abbrev U : Unmoved P
+  U = unmoved m
+
+  -- one past a block that does not leave
+  after : (t : Transaction) → P t → facts (blockAt m (t .next)) .leaves ≡ false → P (withNext (suc (t .next)) t)
+  unfolding wellFormed
+  after t h e =
+      let formed : T (wellPlaced true (m .blocks)) =
+      and-left (wellPlaced true (m .blocks)) (targetsMove m)
+      (and-left (wellPlaced true (m .blocks) && targetsMove m) (allOf (sumNames (length (m .blocks))) (m .values)) (proper .formed)) in
+      let lt : suc (t .next - 1) < length (m .blocks) = goes-on true (m .blocks) (t .next - 1) formed (omega arith) e in
+      ((omega arith, omega arith), h .1)
+
+  -- ---- Each kind, for a block at which a placed transaction stands
+
+  module _ (t : Transaction) (p : P t) (s : State) (h : Everybody P s) where
+    h′ : Everybody P (Rattle.machine.specs.Moves.enters t s)
+    h′ = enters-everybody P U t s h
+
+    units-placed : (v b : ℕ) → P (withNext (suc (t .next)) t) → Everybody P (takeUnits v b t s)
+    units-placed v b next =
+        takeUnits-cases (Everybody P) v b t s (λ e. moveTo-everybody P U _ t _ next (checkWels-everybody P U v _ (inUse-everybody P U v _ _ h′)))
+        (λ e. waitQl-everybody P U v t s p h)
+
+    effect-placed : (b : Block) → ProperBlock m b → (facts b .leaves ≡ false → P (withNext (suc (t .next)) t)) → Everybody P (effect m b t s)
+    unfolding effect facts newborn
+    effect-placed (generate list k) ok on = moveTo-everybody P U _ t _ (on refl) (arrival-everybody P U _ list k _ _ (p .0, ok .1) h′)
+    effect-placed (advance list) ok on = delay-everybody P U _ list t _ (on refl) h′
+    effect-placed (terminate a) ok on = endsOne-everybody P U a _ h′
+    effect-placed (seize v) ok on = units-placed v 1 (on refl)
+    effect-placed (release v) ok on =
+        moveTo-everybody P U _ t _ (on refl) (checkWels-everybody P U v _ (wakeFirstQl-everybody P U v _ (inUse-everybody P U v _ _ h′)))
+    effect-placed (enter v b) ok on = units-placed v b (on refl)
+    effect-placed (leave v b) ok on =
+        moveTo-everybody P U _ t _ (on refl) (checkWels-everybody P U v _ (wakeQl-everybody P U _ v _ (inUse-everybody P U v _ _ h′)))
+    effect-placed (waitServer code v) ok on =
+        waitServer-cases (Everybody P) m code v t s (λ e. waitWel-everybody P U v code t s p h)
+        (λ e. moveTo-everybody P U _ t _ (on refl) (wakeFirstWel-everybody P U v code _ h′))
+    effect-placed (waitTerms a r b) ok on =
+        waitTerms-cases (Everybody P) m a r b t s (λ e. waitWsl-everybody P U t s p h) (λ e. moveTo-everybody P U _ t _ (on refl) h′)
+    effect-placed (branch a r b target) ok on =
+        moveTo-everybody P U _ t _
+        (cond-cases (λ (n : ℕ). P (withNext n t)) (compare (m .values) (s .view) (t .parameters) a r b) _ _ (λ e. (ok, p .1)) (λ e. on refl))
+        h′
+    effect-placed (goto target) ok on = moveTo-everybody P U _ t _ (ok, p .1) h′
+    effect-placed (assign k a) ok on = moveTo-everybody P U _ _ _ (on refl) h′
+    effect-placed (priority k) ok on = toRel-everybody P U _ _ (on refl .0, ok) h′
+    effect-placed (split n target) ok on = moveTo-everybody P U _ t _ (on refl) (copies-everybody P U n target t _ (λ k. (ok .1, p .1)) h′)
+    effect-placed (arrive q) ok on = moveTo-everybody P U _ t _ (on refl) (content-everybody P U q _ _ h′)
+    effect-placed (depart q) ok on = moveTo-everybody P U _ t _ (on refl) (content-everybody P U q _ _ h′)
+
+  -- ---- The turn
+
+  answer-placed : (n : ℕ) (t : Transaction) (s : State) → P t → Everybody P s → Everybody P (answer n m (blockAt m (t .next)) t s)
+  unfolding answer
+  answer-placed zero t s p h =
+      effect-placed t p (setMoving none s)
+      (record { ql = h .ql; wel = h .wel; wsl = h .wsl; rel = h .rel; fel = h .fel; moving = tt })
+      (blockAt m (t .next)) (proper .block (t .next)) (after t p)
+  answer-placed (suc n) t s p h = record { ql = h .ql; wel = h .wel; wsl = h .wsl; rel = h .rel; fel = h .fel; moving = h .moving }
+
+  execute-placed : (o : Option Transaction) (s : State) → Maybe P o → Everybody P s → Everybody P (execute o m s)
+  unfolding execute
+  execute-placed none s p h = h
+  execute-placed (some t) s p h = answer-placed _ t s p h
+
+  pub placed-turn : (s : State) → Everybody P s → Everybody P (turn m s)
+  unfolding turn
+  placed-turn s h =
+      let k : Everybody P (taking (s .moving) s) = taking-everybody P U (s .moving) s h in
+      wsScheme-everybody P U m _
+      (execute-placed _ (setTurns (suc (s .turns)) (taking (s .moving) s)) (k .moving)
+      (record { ql = k .ql; wel = k .wel; wsl = k .wsl; rel = k .rel; fel = k .fel; moving = k .moving }))
+
+  -- ---- The start
+
+  startAt-placed : (n : ℕ) (l : List Block) (s : State) → 1 ≤ n → n + length l ≤ suc (length (m .blocks))
+      → ((i : ℕ) → i < length l → ProperBlock m (getD l i (terminate 0))) → Everybody P s → Everybody P (startAt n l s)
+  unfolding startAt newborn
+  startAt-placed n [] s one le ok h = h
+  startAt-placed n (b ∷ l) s one le ok h =
+      startAt-placed (suc n) l _ (omega arith) (omega arith) (λ i lt. ok (suc i) (omega arith))
+      (startOf-cases (Everybody P) b n s (λ e. h)
+      (λ list k e. arrival-everybody P U _ list k n s ((one, omega arith), subst (ProperBlock m) e (ok 0 (omega arith)) .1) h))
+
+  block-at : (i : ℕ) → i < length (m .blocks) → ProperBlock m (getD (m .blocks) i (terminate 0))
+  block-at i lt =
+      let e : suc i - 1 ≡ i = omega arith in
+      subst (λ (j : ℕ). ProperBlock m (getD (m .blocks) j (terminate 0))) e (proper .block (suc i))
+
+  pub placed-start : Everybody P (start m tape)
+  unfolding start
+  placed-start = startAt-placed 1 (m .blocks) _ (omega arith) (omega arith) block-at (idle-everybody P U m tape)
+
+  pub placed : (budget room : ℕ) → Each (Everybody P) (states m tape budget room)
+  placed budget room =
+      each-state m budget room (Everybody P) (λ s t h. placed-turn s h)
+      (λ s e c h. record { ql = h .ql; wel = h .wel; wsl = h .wsl; rel = h .rel; fel = h .fel; moving = h .moving }) tape placed-start

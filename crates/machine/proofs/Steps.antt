@@ -1,0 +1,146 @@
+-- What one block does to the waits: the transaction passes, and no other wait begins or ends; or its wait begins; or it is put
+-- back and nothing is written.
+use Prim.Native.Nat.{ℕ, _+_, _-_, _<_}
+use mathlib.Core.Path.{_≡_, refl}
+use mathlib.Core.Bool.{true, false}
+use native.Mathlib.Omega.{arith}
+use lib.Dec.{leb}
+use lib.ListN.{length}
+use Rattle.machine.specs.Transaction.{Transaction, precedes}
+use Rattle.machine.specs.Lists.{insert}
+use Rattle.machine.specs.Term.{serverAt, free}
+use Rattle.machine.specs.Block.{Code, Block, generate, advance, terminate, seize, release, enter, leave, waitServer, waitTerms, branch, goto, assign, priority, split, arrive, depart, facts, BlockModel}
+use Rattle.machine.specs.State.{State}
+use Rattle.machine.specs.Setters.{withSerial, setSerial}
+use Rattle.machine.specs.Moves.{log, enters, moveTo, fresh, qlOf, welOf, welIndex, toQl, toWel, toWsl, mustWait, setInUse, setContent}
+use Rattle.machine.specs.Execute.{takeUnits, endsOne, effect}
+use Rattle.machine.proofs.Proper.{ProperBlock, servers}
+use Rattle.machine.proofs.Cases.{mustWait-cases, takeUnits-cases, waitServer-cases, waitTerms-cases}
+use Rattle.machine.proofs.Shape.{Shape, ql-at, wel-at}
+use Rattle.machine.proofs.Balance.{code-server}
+use Rattle.machine.proofs.Waiting.{serverIn}
+use Rattle.machine.proofs.Sums.{sum-insert, sum-flat-set}
+use Rattle.machine.proofs.Weights.{Wait, weight, waiting, Quiet, quiet-refl, quiet-trans, quiet-wakeFirstQl, quiet-wakeQl, quiet-wakeFirstWel, quiet-checkWels, quiet-toRel, quiet-arrival, quiet-delay, quiet-copies}
+
+-- ---- Definition
+
+-- t came onto a list of waiters
+pub record Puts (t : Transaction) (s s′ : State) : Type 0 where
+  pub records : s′ .records ≡ s .records
+  pub serials : s′ .serial ≡ s .serial
+  pub weights : (f : Wait → ℕ) → waiting f s′ ≡ weight f t + waiting f s
+  pub moving : s′ .moving ≡ s .moving
+
+-- who is about to take units of a server finds them free
+abbrev pub GetsIn : Block → State → Type 0
+GetsIn b s = (facts b .server ≡ 0 → ⊥) → leb (facts b .units) (free (serverIn (s .view .servers) (facts b .server))) ≡ true
+
+pub data Step (b : Block) (t : Transaction) (s s′ : State) : Type 0 where
+  passes : GetsIn b s → Quiet (enters t s) s′ → Step b t s s′
+  begins : t .returning ≡ false → Puts (withSerial (fresh s) t) (setSerial (fresh s) (log 1 t s)) s′ → Step b t s s′
+  back : t .returning ≡ true → Puts t s s′ → Step b t s s′
+
+-- ---- Waiting
+
+puts-ql : (v : ℕ) (t : Transaction) (s : State) → v - 1 < length (s .ql) → Puts t s (toQl v t s)
+unfolding toQl waiting
+puts-ql v t s h =
+    record {
+      records = refl;
+      serials = refl;
+      weights = λ f.
+          omega (arith, sum-flat-set (weight f) (s .ql) (v - 1) (insert precedes t (qlOf s v)) h, sum-insert (weight f) precedes t (qlOf s v));
+      moving = refl;
+    }
+
+puts-wel : (v : ℕ) (code : Code) (t : Transaction) (s : State) → welIndex v code < length (s .wel) → Puts t s (toWel v code t s)
+unfolding toWel waiting
+puts-wel v code t s h =
+    record {
+      records = refl;
+      serials = refl;
+      weights = λ f.
+          omega (
+            arith,
+            sum-flat-set (weight f) (s .wel) (welIndex v code) (insert precedes t (welOf s v code)) h,
+            sum-insert (weight f) precedes t (welOf s v code),
+          );
+      moving = refl;
+    }
+
+puts-wsl : (t : Transaction) (s : State) → Puts t s (toWsl t s)
+unfolding toWsl waiting
+puts-wsl t s =
+    record { records = refl; serials = refl; weights = λ f. omega (arith, sum-insert (weight f) precedes t (s .wsl)); moving = refl }
+
+-- the wait begins with a record, or a returning one is put back
+step-wait : (b : Block) (put : Transaction → State → State) (t : Transaction) (s : State) → Puts t s (put t s)
+    → Puts (withSerial (fresh s) t) (setSerial (fresh s) (log 1 t s)) (put (withSerial (fresh s) t) (setSerial (fresh s) (log 1 t s)))
+    → Step b t s (mustWait put t s)
+step-wait b put t s old new = mustWait-cases (Step b t s) put t s (λ e. back e old) (λ e. begins e new)
+
+step-ql : (b : Block) (v : ℕ) (t : Transaction) (s : State) → v - 1 < length (s .ql) → Step b t s (mustWait (toQl v) t s)
+unfolding log
+step-ql b v t s h = step-wait b (toQl v) t s (puts-ql v t s h) (puts-ql v _ _ h)
+
+step-wel : (b : Block) (v : ℕ) (code : Code) (t : Transaction) (s : State) → welIndex v code < length (s .wel)
+    → Step b t s (mustWait (toWel v code) t s)
+unfolding log
+step-wel b v code t s h = step-wait b (toWel v code) t s (puts-wel v code t s h) (puts-wel v code _ _ h)
+
+step-wsl : (b : Block) (t : Transaction) (s : State) → Step b t s (mustWait toWsl t s)
+step-wsl b t s = step-wait b toWsl t s (puts-wsl t s) (puts-wsl _ _)
+
+-- ---- Passing
+
+quiet-moveTo : (n : ℕ) (t : Transaction) {a s : State} → Quiet a s → Quiet a (moveTo n t s)
+unfolding moveTo waiting
+quiet-moveTo n t h = record { records = h .records; serials = h .serials; weights = h .weights; moving = λ u. refl }
+
+quiet-inUse : (v n : ℕ) (s : State) → Quiet s (setInUse v n s)
+unfolding setInUse waiting
+quiet-inUse v n s = record { records = refl; serials = omega arith; weights = λ f. refl; moving = λ h. h }
+
+quiet-content : (q n : ℕ) (s : State) → Quiet s (setContent q n s)
+unfolding setContent waiting
+quiet-content q n s = record { records = refl; serials = omega arith; weights = λ f. refl; moving = λ h. h }
+
+quiet-endsOne : (a : ℕ) (s : State) → Quiet s (endsOne a s)
+unfolding endsOne waiting
+quiet-endsOne a s = record { records = refl; serials = omega arith; weights = λ f. refl; moving = λ h. h }
+
+step-takeUnits : (b : Block) (v n : ℕ) (t : Transaction) (s : State) → v - 1 < length (s .ql)
+    → (leb n (free (serverAt (s .view) v)) ≡ true → GetsIn b s) → Step b t s (takeUnits v n t s)
+step-takeUnits b v n t s h fit =
+    takeUnits-cases (Step b t s) v n t s
+    (λ e. passes (fit e) (quiet-moveTo _ t (quiet-trans (quiet-inUse v _ _) (quiet-checkWels v _)))) (λ e. step-ql b v t s h)
+
+-- ---- Each kind
+
+pub step-effect : (m : BlockModel) (b : Block) (t : Transaction) (s : State) → ProperBlock m b → Shape m s → Step b t s (effect m b t s)
+unfolding effect facts serverAt
+step-effect m (generate list p) t s h k = passes (λ n. absurd (n refl)) (quiet-moveTo _ t (quiet-arrival _ list p _ _))
+step-effect m (advance list) t s h k = passes (λ n. absurd (n refl)) (quiet-delay _ list t _)
+step-effect m (terminate a) t s h k = passes (λ n. absurd (n refl)) (quiet-endsOne a _)
+step-effect m (seize v) t s h k = step-takeUnits (seize v) v 1 t s (ql-at k v (omega arith) (omega arith)) (λ e n. e)
+step-effect m (release v) t s h k =
+    passes (λ n. absurd (n refl))
+    (quiet-moveTo _ t (quiet-trans (quiet-inUse v _ _) (quiet-trans (quiet-wakeFirstQl v _) (quiet-checkWels v _))))
+step-effect m (enter v b) t s h k = step-takeUnits (enter v b) v b t s (ql-at k v (omega arith) (omega arith)) (λ e n. e)
+step-effect m (leave v b) t s h k =
+    passes (λ n. absurd (n refl))
+    (quiet-moveTo _ t (quiet-trans (quiet-inUse v _ _) (quiet-trans (quiet-wakeQl _ v _) (quiet-checkWels v _))))
+step-effect m (waitServer code v) t s h k =
+    let n = code-server m code v h in
+    waitServer-cases (Step (waitServer code v) t s) m code v t s (λ e. step-wel _ v code t s (wel-at k v code (n .0) (n .1)))
+    (λ e. passes (λ n. absurd (n refl)) (quiet-moveTo _ t (quiet-wakeFirstWel v code _)))
+step-effect m (waitTerms a r b) t s h k =
+    waitTerms-cases (Step (waitTerms a r b) t s) m a r b t s (λ e. step-wsl _ t s)
+    (λ e. passes (λ n. absurd (n refl)) (quiet-moveTo _ t (quiet-refl _)))
+step-effect m (branch a r b target) t s h k = passes (λ n. absurd (n refl)) (quiet-moveTo _ t (quiet-refl _))
+step-effect m (goto target) t s h k = passes (λ n. absurd (n refl)) (quiet-moveTo _ t (quiet-refl _))
+step-effect m (assign i a) t s h k = passes (λ n. absurd (n refl)) (quiet-moveTo _ _ (quiet-refl _))
+step-effect m (priority p) t s h k = passes (λ n. absurd (n refl)) (quiet-toRel _ _ refl)
+step-effect m (split n target) t s h k = passes (λ n. absurd (n refl)) (quiet-moveTo _ t (quiet-copies n target t _))
+step-effect m (arrive q) t s h k = passes (λ n. absurd (n refl)) (quiet-moveTo _ t (quiet-content q _ _))
+step-effect m (depart q) t s h k = passes (λ n. absurd (n refl)) (quiet-moveTo _ t (quiet-content q _ _))

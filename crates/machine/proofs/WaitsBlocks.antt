@@ -1,0 +1,206 @@
+-- What is known of those who wait is kept by every block: one lemma for each kind, for the one that moves in front of REL.
+use Prim.Native.Nat.{ℕ, zero, suc, _-_, _≤_}
+use mathlib.Core.Path.{_≡_, refl, ap, _∙_}
+use mathlib.Core.Bool.{true, false}
+use mathlib.Core.List.{List, [], _∷_}
+use native.Mathlib.Omega.{arith}
+use lib.Dec.{leb}
+use lib.ListN.{length, take}
+use lib.Seq.{getD-set-same}
+use Rattle.machine.specs.Transaction.{Transaction}
+use Rattle.machine.specs.Lists.{those}
+use Rattle.machine.specs.Term.{serverAt, free}
+use Rattle.machine.specs.Block.{Code, U, NU, E, NE, F, NF, status, Block, generate, advance, terminate, seize, release, enter, leave, waitServer, waitTerms, branch, goto, assign, priority, split, arrive, depart, facts, BlockModel, blockAt}
+use Rattle.machine.specs.State.{State}
+use Rattle.machine.specs.Setters.{withSerial}
+use Rattle.machine.specs.Moves.{qlOf, welOf, welIndex, log, enters, moveTo, toRel, toFel, toQl, toWel, toWsl, wakeFirstQl, wakeQl, wakeFirstWel, setInUse, setContent, arrival, copies}
+use Rattle.machine.specs.Execute.{fits, takeUnits, checkWels, endsOne, delay, effect, freeUnits}
+use Rattle.machine.proofs.Proper.{Proper, ProperBlock, CodeServer, Names, servers}
+use Rattle.machine.proofs.RunLaws.{cond-cases}
+use Rattle.machine.proofs.Cases.{checkWels-kept, mustWait-cases, takeUnits-cases, waitServer-cases, waitTerms-cases}
+use Rattle.machine.proofs.Shape.{Shape, server-length, facility-capacity}
+use Rattle.machine.proofs.Waiting.{serverOf, unitsOf, AtServer, AtWel, welOfBlock, serverIn, Queued, Gated, WaitsOver}
+use Rattle.machine.proofs.Ready.{grows-not, grows-insert, grows-wake, queued-more, waits-more, ql-else, wel-else}
+use Rattle.machine.proofs.Queued.{taken-queued, waits-queued, first-queued, fitting-queued}
+use Rattle.machine.proofs.Gated.{Open, WelAt, checks-gated, others-wait, waits-gated, passes-gated}
+
+-- ---- After a block
+
+abbrev QueuedIn : BlockModel → State → Type 0
+QueuedIn m s = Queued m (s .rel) (s .rel) (s .view .servers) (s .ql)
+
+-- where REL alone is ready; and the run has not ended dry
+abbrev pub Walked : BlockModel → State → Type 0
+Walked m s = WaitsOver m (s .rel) (s .rel) (s .view .servers) (s .ql) (s .wel) × (s .end ≡ 1 → ⊥)
+
+module _ (m : BlockModel) where
+  pub toRel-walked : (t : Transaction) (s : State) → Walked m s → Walked m (toRel t s)
+  unfolding toRel
+  toRel-walked t s w = let g = grows-insert (withSerial (suc (s .serial)) t) (s .rel) in (waits-more (g .keeps) (g .sorted) (w .0), w .1)
+
+  copies-walked : (n target : ℕ) (t : Transaction) (s : State) → Walked m s → Walked m (copies n target t s)
+  unfolding copies
+  copies-walked zero target t s w = w
+  copies-walked (suc n) target t s w = copies-walked n target t _ (toRel-walked _ _ w)
+
+  arrival-walked : (l : List ℕ) (list p n : ℕ) (s : State) → Walked m s → Walked m (arrival l list p n s)
+  unfolding arrival toFel
+  arrival-walked [] list p n s w = w
+  arrival-walked (x ∷ l) list p n s w = w
+
+  delay-walked : (l : List ℕ) (list : ℕ) (t : Transaction) (s : State) → Walked m s → Walked m (delay l list t s)
+  unfolding delay toFel
+  delay-walked [] list t s w = w
+  delay-walked (x ∷ l) list t s w = w
+
+  endsOne-walked : (a : ℕ) (s : State) → Walked m s → Walked m (endsOne a s)
+  unfolding endsOne
+  endsOne-walked a s w = (w .0, cond-cases (λ n. n ≡ 1 → ⊥) (leb (s .counter) a) 2 0 (λ e z. omega arith) (λ e z. omega arith))
+
+  -- the check of a server's WELs
+  checks-walked : (v : ℕ) (s : State) → 1 ≤ v → v ≤ servers m → QueuedIn m s → Open m (s .wel)
+      → ((v′ : ℕ) (code : Code) → 1 ≤ v′ → v′ ≤ servers m → (v′ ≡ v → ⊥) → WelAt m v′ code s) → (s .end ≡ 1 → ⊥)
+      → Walked m (checkWels v s)
+  unfolding wakeFirstWel
+  checks-walked v s one known queued opened others going = (
+    record { queued = checkWels-kept (QueuedIn m) v wakes s queued; gated = checks-gated v one known s opened others },
+    checkWels-kept (λ s. s .end ≡ 1 → ⊥) v (λ code s h. h) s going,
+  )
+    where
+      wakes : (code : Code) (s : State) → QueuedIn m s → QueuedIn m (wakeFirstWel v code s)
+      wakes code s w = let g = grows-wake (take 1 (welOf s v code)) (s .rel) in queued-more (g .keeps) (g .sorted) w
+
+-- ---- The 16 kinds, for t in front of REL
+
+code-server : (m : BlockModel) (code : Code) (v : ℕ) → CodeServer m code v → Names (servers m) v
+code-server m U v k = omega arith
+code-server m NU v k = omega arith
+code-server m E v k = omega arith
+code-server m NE v k = omega arith
+code-server m F v k = omega arith
+code-server m NF v k = omega arith
+
+module _ {m : BlockModel} {tape : List (List ℕ)} (proper : Proper m tape) (t : Transaction) (s : State) (shape : Shape m s)
+    (w : WaitsOver m (t ∷ s .rel) (s .rel) (s .view .servers) (s .ql) (s .wel)) (going : s .end ≡ 1 → ⊥) where
+  -- where t stands at no SEIZE or ENTER
+  queued-else : serverOf m t ≡ 0 → QueuedIn m s
+  queued-else off =
+      record {
+        rel-sorted = w .queued .rel-sorted;
+        ql-sorted = w .queued .ql-sorted;
+        ql-stands = w .queued .ql-stands;
+        ql-waits = λ v a b. ql-else (λ h. omega arith) (w .queued .ql-waits v a b);
+      }
+
+  -- at no WAITIF of a code
+  gated-else : welOfBlock (blockAt m (t .next)) ≡ 0 → Gated m (s .rel) (s .view .servers) (s .wel)
+  gated-else off =
+      record {
+        wel-stands = w .gated .wel-stands;
+        wel-waits = λ v code a b. wel-else (λ h. omega arith) (w .gated .wel-waits v code a b);
+      }
+
+  -- at neither
+  quiet : (b : Block) → blockAt m (t .next) ≡ b → facts b .server ≡ 0 → welOfBlock b ≡ 0 → Walked m s
+  quiet b e off off′ =
+      (record { queued = queued-else (ap (λ b. facts b .server) e ∙ off); gated = gated-else (ap welOfBlock e ∙ off′) }, going)
+
+  opened : Open m (s .wel)
+  opened = record { stands = w .gated .wel-stands; size = shape .wel-length }
+
+  module _ (v : ℕ) (one : 1 ≤ v) (known : v ≤ servers m) where
+    in-servers : v ≤ length (s .view .servers)
+    in-servers = omega (arith, server-length shape)
+
+    in-ql : v ≤ length (s .ql)
+    in-ql = omega (arith, shape .ql-length)
+
+    -- 4 SEIZE and 6 ENTER
+    takeUnits-walked : (b : ℕ) → AtServer m v t → unitsOf m t ≡ b → welOfBlock (blockAt m (t .next)) ≡ 0 → Walked m (takeUnits v b t s)
+    unfolding enters log moveTo setInUse serverAt toQl
+    takeUnits-walked b at units off =
+        takeUnits-cases (Walked m) v b t s
+        (λ fit.
+        checks-walked m v _ one known
+        (taken-queued (w .queued) v one in-servers in-ql b proper known (λ f. facility-capacity shape v one f) at units)
+        opened (others-wait (w .gated) v _ (s .rel) one off (grows-not (s .rel))) going)
+        (λ full.
+        mustWait-cases (Walked m) (toQl v) t s (λ e. waiting full t at units) (λ e. waiting full (withSerial (suc (s .serial)) t) at units))
+      where
+        waiting : leb b (free (serverAt (s .view) v)) ≡ false → (t′ : Transaction) → AtServer m v t′ → unitsOf m t′ ≡ b
+            → Walked m (toQl v t′ s)
+        waiting full t′ at′ units′ = (
+          record {
+            queued =
+                waits-queued (w .queued) v one in-servers in-ql t′ proper known at at′
+                (ap (λ n. leb n (free (serverIn (s .view .servers) v))) units′ ∙ full);
+            gated = gated-else off;
+          },
+          going,
+        )
+
+    -- 5 RELEASE
+    release-walked : v ≤ m .facilities → serverOf m t ≡ 0 → welOfBlock (blockAt m (t .next)) ≡ 0
+        → Walked m (checkWels v (wakeFirstQl v (freeUnits v 1 (enters t s))))
+    unfolding enters log setInUse serverAt wakeFirstQl
+    release-walked f off off′ =
+        checks-walked m v _ one known (first-queued (w .queued) v one in-servers in-ql _ f off)
+        opened
+        (others-wait (w .gated) v _ _ one off′ (grows-wake (take 1 (qlOf s v)) (s .rel))) going
+
+    -- 7 LEAVE
+    leave-walked : (b : ℕ) → serverOf m t ≡ 0 → welOfBlock (blockAt m (t .next)) ≡ 0
+        → Walked m (checkWels v (wakeQl (fits m (freeUnits v b (enters t s) .view) v) v (freeUnits v b (enters t s))))
+    unfolding enters log setInUse serverAt wakeQl fits
+    leave-walked b off off′ =
+        let p = fits m (freeUnits v b (enters t s) .view) v in
+        checks-walked m v _ one known
+        (fitting-queued (w .queued) v one in-servers in-ql _ p
+        (λ u e. rw (getD-set-same (s .view .servers) (v - 1) _ _ (omega (arith, in-servers))) at e) off)
+        opened
+        (others-wait (w .gated) v _ _ one off′ (grows-wake (those p (qlOf s v)) (s .rel))) going
+
+    -- 8 WAITIF of a code
+    waitServer-walked : (code : Code) → AtWel m (welIndex v code) t → serverOf m t ≡ 0 → Walked m (effect m (waitServer code v) t s)
+    unfolding enters log moveTo serverAt toWel wakeFirstWel
+    waitServer-walked code at off =
+        waitServer-cases (Walked m) m code v t s
+        (λ holds.
+        mustWait-cases (Walked m) (toWel v code) t s
+        (λ e. waiting holds t at) (λ e. waiting holds (withSerial (suc (s .serial)) t) at))
+        (λ passes.
+        let g = grows-wake (take 1 (welOf s v code)) (s .rel) in (
+          record {
+            queued = queued-more (g .keeps) (g .sorted) (queued-else off);
+            gated = passes-gated v code s one known (shape .wel-length) at (w .gated);
+          },
+          going,
+        ))
+      where
+        waiting : status code (serverAt (s .view) v) ≡ true → (t′ : Transaction) → AtWel m (welIndex v code) t′ → Walked m (toWel v code t′ s)
+        waiting holds t′ at′ = (record { queued = queued-else off; gated = waits-gated (w .gated) v code t′ one at at′ holds }, going)
+
+  pub effect-walked : (b : Block) → blockAt m (t .next) ≡ b → ProperBlock m b → Walked m (effect m b t s)
+  unfolding effect facts welOfBlock enters log moveTo setContent toWsl
+  effect-walked (generate list p) e k = arrival-walked m _ list p _ (enters t s) (quiet (generate list p) e refl refl)
+  effect-walked (advance list) e k = delay-walked m _ list t (enters t s) (quiet (advance list) e refl refl)
+  effect-walked (terminate a) e k = endsOne-walked m a (enters t s) (quiet (terminate a) e refl refl)
+  effect-walked (seize v) e k =
+      takeUnits-walked v (k .0) (omega arith) 1 (ap (λ b. facts b .server) e) (ap (λ b. facts b .units) e) (ap welOfBlock e)
+  effect-walked (release v) e k = release-walked v (k .0) (omega arith) (k .1) (ap (λ b. facts b .server) e) (ap welOfBlock e)
+  effect-walked (enter v b) e k =
+      takeUnits-walked v (omega arith) (k .0 .1) b (ap (λ b. facts b .server) e) (ap (λ b. facts b .units) e) (ap welOfBlock e)
+  effect-walked (leave v b) e k = leave-walked v (omega arith) (k .0 .1) b (ap (λ b. facts b .server) e) (ap welOfBlock e)
+  effect-walked (waitServer code v) e k =
+      let (one, known) = code-server m code v k in
+      waitServer-walked v one known code (ap welOfBlock e) (ap (λ b. facts b .server) e)
+  effect-walked (waitTerms a r b) e k =
+      let q = quiet (waitTerms a r b) e refl refl in
+      waitTerms-cases (Walked m) m a r b t s (λ c. mustWait-cases (Walked m) toWsl t s (λ c. q) (λ c. q)) (λ c. q)
+  effect-walked (branch a r b target) e k = quiet (branch a r b target) e refl refl
+  effect-walked (goto target) e k = quiet (goto target) e refl refl
+  effect-walked (assign i a) e k = quiet (assign i a) e refl refl
+  effect-walked (priority p) e k = toRel-walked m _ (enters t s) (quiet (priority p) e refl refl)
+  effect-walked (split n target) e k = copies-walked m n target t (enters t s) (quiet (split n target) e refl refl)
+  effect-walked (arrive q) e k = quiet (arrive q) e refl refl
+  effect-walked (depart q) e k = quiet (depart q) e refl refl
