@@ -1,4 +1,5 @@
-pub mod Answered
+pub mod Answers
+pub mod Fields
 pub mod Groups
 pub mod Numbers
 pub mod Steps

@@ -1,35 +1,18 @@
 -- Whole numbers, pure: a written number reads back whatever stands before and after it; every number that is accepted
 -- is, written again, the same bytes; how many bytes a number takes.
-use Prim.Native.Nat.{ℕ, zero, suc, _+_, _*_, _-_, _/_, _%_, _^_, _≤_, _<_}
+use Prim.Native.Nat.{ℕ, suc, _+_, _-_, _/_, _%_, _^_, _≤_, _<_}
 use native.Mathlib.Omega.{arith}
 use mathlib.Core.Bool.{Bool, true, false, cond}
 use mathlib.Core.List.{List, [], _∷_, _++_, append-assoc}
 use mathlib.Core.Option.{Option, none, some}
 use mathlib.Core.Path.{_≡_, refl, sym, ap, ap₂, _∙_}
-use lib.Dec.{ltb, leb, eqb}
-use lib.ListN.{length, drop, take, getD, length-append, List·getD-append}
-use lib.Seq.{drop-append-seam, getD-append-add}
+use lib.Dec.{leb}
+use lib.ListN.{length, drop, take, length-append}
+use lib.Seq.{drop-append-seam}
 use borrow.Author.Tests.{le-leb, leb-true}
 use Rattle.machine.specs.Limits.{maxNumberBytes, maxNumber, maxReportNumberBytes, maxReportNumber}
-use Rattle.machine.specs.Number.{Number, upper, numberBytes, longer, groups, padded, within, readNumber}
-use Rattle.codec.proofs.Groups.{
-  Bytes,
-  above-lt,
-  upper-zero,
-  upper-step,
-  upper-length,
-  upper-fuel,
-  lengthened,
-  lengthened-some,
-  groups-last,
-  groups-upper,
-  groups-bytes,
-  groups-size,
-  padded-upper,
-  none-some,
-  some-value,
-  some-size,
-}
+use Rattle.machine.specs.Number.{Number, upper, numberBytes, groups, padded, within, readNumber}
+use Rattle.codec.proofs.Groups.{Bytes, above-lt, upper-zero, upper-step, upper-length, upper-fuel, lengthened, lengthened-some, groups-last, groups-upper, groups-bytes, groups-size, padded-upper, none-some}
 
 -- ---- Length
 

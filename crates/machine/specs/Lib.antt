@@ -19,3 +19,4 @@ pub mod Outcome
 pub mod Claims
 pub mod Bundle
 pub mod Examples
+pub mod WaitExamples

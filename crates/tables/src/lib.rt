@@ -1,7 +1,7 @@
 // The layout of a run's two arrays, as constants (specs/Layout). `TABLES` numbers of 32 bits are filled once by decoding;
 // `TALLY` numbers of 64 bits change with the run.
 ghost use mathlib.Core.Path.{_≡_};
-ghost use Rattle.tables.specs.Layout as Layout;
+ghost use lib.ListN.{getD, set};
 
 pub const BLOCK_WIDTH: usize = 8;
 
@@ -38,3 +38,32 @@ pub const LIST_AT: usize = 928;
 pub const LIST_LEFT: usize = 944;
 
 pub const TALLY: usize = 960;
+
+// The number at an index of the tables; 0 past their end.
+pub fn number(tables: &[u32], at: usize) -> u32
+    ensures { λ r. ⌜ r ≡ getD (now (tables .entry)) at 0 ⌝ }
+{
+    if at < tables.len() {
+        return tables[at];
+    }
+    0
+}
+
+// The number at an index of the tally; 0 past its end.
+pub fn count(tally: &[u64], at: usize) -> u64
+    ensures { λ r. ⌜ r ≡ getD (now (tally .entry)) at 0 ⌝ }
+{
+    if at < tally.len() {
+        return tally[at];
+    }
+    0
+}
+
+// Stores a number at an index of the tally; nothing past its end.
+pub fn set_count(tally: &mut [u64], at: usize, x: u64)
+    ensures { λ _. ⌜ now (tally .exit) ≡ set (now (tally .entry)) at x ⌝ }
+{
+    if at < tally.len() {
+        tally[at] = x;
+    }
+}

@@ -1,7 +1,7 @@
 -- `codec::number_len` meets its contract. The loop's invariant: the number takes the bytes counted and those of the groups
 -- still above. The measure is what is left of nine.
 use Prim.Native.Nat.{_+_, _-_, _≤_, _<_}
-use mathlib.Core.Path.{_≡_, refl, sym, _∙_}
+use mathlib.Core.Path.{_≡_, _∙_}
 use native.Mathlib.Omega.{arith}
 use lib.ListN.{length}
 use Rattle.machine.specs.Number.{upper, numberBytes}

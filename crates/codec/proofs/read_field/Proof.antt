@@ -3,7 +3,7 @@ use mathlib.Core.Path.{ap, _∙_}
 use native.Mathlib.Numerals.{add-one}
 use Rattle.machine.specs.Parser.{refused}
 use Rattle.codec.specs.Answers.{parsedOf}
-use Rattle.codec.proofs.Answered.{field-unread, field-low, field-high, field-within, refused-value, value-inside}
+use Rattle.codec.proofs.Answers.{field-unread, field-low, field-high, field-within, refused-value, value-inside}
 use borrow.Author.Needs.{needs}
 use Rattle.codec.proofs.read_field.Statement.{statement}
 use Rattle.codec.proofs.read_field.Tie as tie

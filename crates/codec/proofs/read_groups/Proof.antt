@@ -1,10 +1,9 @@
 -- `codec::read_groups` meets its contract. The loop's invariant: the answer is that of the groups still to come at `next`
 -- behind `value`, and `value` leaves room for `left` groups more. The measure is `left`.
-use Prim.Native.Nat.{_+_, _*_, _^_, _≤_, _<_}
+use Prim.Native.Nat.{_+_, _*_, _^_, _≤_}
 use mathlib.Core.Path.{_≡_, refl, sym, _∙_}
 use native.Mathlib.Omega.{arith}
 use borrow.Author.Needs.{needs}
-use lib.ListN.{getD}
 use Rattle.codec.proofs.Steps.{at-groups, read-end, read-limit, read-last, read-more, room-start, room-step, room-fits}
 use Rattle.codec.proofs.read_groups.Statement.{statement}
 use Rattle.codec.proofs.read_groups.Tie as tie

@@ -1,6 +1,6 @@
 -- `codec::read_number` meets its contract: that of `read_shortest`, in the paper's terms.
 use Rattle.machine.specs.Limits.{maxNumberBytes, maxNumber}
-use Rattle.codec.proofs.Answered.{number-answer, number-inside}
+use Rattle.codec.proofs.Answers.{number-answer, number-inside}
 use borrow.Author.Needs.{needs}
 use Rattle.codec.proofs.read_number.Statement.{statement}
 use Rattle.codec.proofs.read_number.Tie as tie

@@ -1,6 +1,6 @@
 -- `codec::read_report_number` meets its contract: that of `read_shortest`, in the paper's terms.
 use Rattle.machine.specs.Limits.{maxReportNumberBytes, maxReportNumber}
-use Rattle.codec.proofs.Answered.{number-answer, number-inside}
+use Rattle.codec.proofs.Answers.{number-answer, number-inside}
 use borrow.Author.Needs.{needs}
 use Rattle.codec.proofs.read_report_number.Statement.{statement}
 use Rattle.codec.proofs.read_report_number.Tie as tie

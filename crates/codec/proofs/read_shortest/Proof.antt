@@ -1,7 +1,7 @@
 -- `codec::read_shortest` meets its contract: no byte there, an empty first group, or what the groups give.
 use mathlib.Core.Path.{_∙_}
 use native.Mathlib.Omega.{arith}
-use Rattle.codec.proofs.Answered.{read-past, read-padded, read-unpadded}
+use Rattle.codec.proofs.Answers.{read-past, read-padded, read-unpadded}
 use borrow.Author.Needs.{needs}
 use Rattle.codec.proofs.read_shortest.Statement.{statement}
 use Rattle.codec.proofs.read_shortest.Tie as tie

@@ -1,7 +1,7 @@
 -- `codec::write_number` meets its contract. The loop's invariant: with the groups that are left to store, the bytes are
 -- those of the whole number; there are as many groups as `left`. The measure is `left`.
 use Prim.Native.Nat.{_≤_}
-use mathlib.Core.Path.{_≡_, refl, sym, ap, _∙_}
+use mathlib.Core.Path.{_≡_, refl, _∙_}
 use native.Mathlib.Omega.{arith}
 use borrow.Author.Needs.{needs}
 use lib.ListN.{length, length-set}

@@ -1,0 +1,97 @@
+-- The answers, pure: from the definition's number to `Read`, and from a `Read` to a field.
+use Prim.Native.Nat.{ℕ, suc, _+_, _-_, _≤_, _<_}
+use native.Mathlib.Nat.{add-sub-cancel-left}
+use native.Mathlib.Omega.{arith}
+use mathlib.Core.List.{List}
+use mathlib.Core.Option.{Option, none, some}
+use mathlib.Core.Path.{_≡_, refl, sym, ap, _∙_}
+use lib.ListN.{length, drop, getD, drop-of-length-le, length-drop}
+use lib.Seq.{drop-cons}
+use borrow.Author.Tests.{eq-eqb, ne-eqb, le-leb, lt-leb}
+use Rattle.machine.specs.Limits.{maxNumberBytes, maxNumber}
+use Rattle.machine.specs.Number.{Number, groups, padded, within, readNumber}
+use Rattle.machine.specs.Parser.{parsed, refused, field, fieldOf}
+use Rattle.codec.specs.declared.Read.{Read}
+use Rattle.codec.specs.declared.Read.the-variants.{Number as Whole, Refused as Unread}
+use Rattle.codec.specs.declared.Field.the-variants.{Value, Refused}
+use Rattle.codec.specs.Answers.{numberOf, readAs, cursorAt}
+use Rattle.codec.proofs.Numbers.{accepted}
+use Rattle.codec.proofs.Steps.{groups-empty}
+
+-- ---- Shortest form
+
+module _ (s : List ℕ) (k most at : ℕ) where
+  pub read-past : length s ≤ at → Unread ≡ readAs at (readNumber k most (drop at s))
+  unfolding readNumber padded within readAs
+  read-past h = rw (drop-of-length-le s h, groups-empty k 0)
+
+  pub read-padded : at < length s → getD s at 0 ≡ 128 → Unread ≡ readAs at (readNumber k most (drop at s))
+  unfolding readNumber padded readAs
+  read-padded h e = rw (drop-cons s at 0 h, eq-eqb (getD s at 0) 128 e)
+
+  pub read-unpadded : at < length s → (getD s at 0 ≡ 128 → ⊥) →
+      readAs at (within most (groups k 0 (drop at s))) ≡ readAs at (readNumber k most (drop at s))
+  unfolding readNumber padded
+  read-unpadded h n = rw (drop-cons s at 0 h, ne-eqb (getD s at 0) 128 n)
+
+-- ---- A number
+
+number-of-read : (at : ℕ) (o : Option Number) → numberOf at (readAs at o) ≡ o
+unfolding numberOf readAs
+number-of-read at none = refl
+number-of-read at (some n) = ap (λ (m : ℕ). some (record { value = n .value; size = m })) (add-sub-cancel-left at (n .size))
+
+module _ (s : List ℕ) (k most at : ℕ) (r : Read) (e : r ≡ readAs at (readNumber k most (drop at s))) where
+  pub number-answer : numberOf at r ≡ readNumber k most (drop at s)
+  number-answer = ap (numberOf at) e ∙ number-of-read at _
+
+  pub number-inside : (v next : ℕ) → r ≡ Whole v next → (v ≤ most) × (at < next) × (next ≤ length s)
+  unfolding readAs
+  number-inside v next h = go (readNumber k most (drop at s)) refl (sym h ∙ e)
+    where
+      go : (o : Option Number) → readNumber k most (drop at s) ≡ o → Whole v next ≡ readAs at o →
+          (v ≤ most) × (at < next) × (next ≤ length s)
+      go none f g = let z : _≡_ {A = ℕ} 0 1 = cc in absurd (omega arith)
+      go (some n) f g =
+          let a = accepted k most (drop at s) n f in
+          let ev : v ≡ n .value = cc in
+          let en : next ≡ at + n .size = cc in
+          omega (arith, a .within-most, a .positive, simp length-drop at (a .inside))
+
+-- ---- A field
+
+module _ (s : List ℕ) (code lo hi at numbers mentions : ℕ) (r : Read)
+    (e : numberOf at r ≡ readNumber maxNumberBytes maxNumber (drop at s)) where
+  pub field-unread : r ≡ Unread → refused code ≡ field s code lo hi (cursorAt at numbers mentions)
+  unfolding field fieldOf numberOf
+  field-unread h = rw (← e, h)
+
+  module _ (v next : ℕ) (h : r ≡ Whole v next) where
+    whole : readNumber maxNumberBytes maxNumber (drop at s) ≡ some (record { value = v; size = next - at })
+    unfolding numberOf
+    whole = rw (← e, h)
+
+    pub field-low : v < lo → refused (suc code) ≡ field s code lo hi (cursorAt at numbers mentions)
+    unfolding field fieldOf
+    field-low low = rw (whole, lt-leb lo v low)
+
+    pub field-high : lo ≤ v → hi < v → refused (suc code) ≡ field s code lo hi (cursorAt at numbers mentions)
+    unfolding field fieldOf
+    field-high low high = rw (whole, le-leb lo v low, lt-leb v hi high)
+
+    pub field-within : lo ≤ v → v ≤ hi → at < next → parsed v (cursorAt next numbers mentions) ≡ field s code lo hi (cursorAt at numbers mentions)
+    unfolding field fieldOf
+    field-within low high after =
+        let n : next ≡ at + (next - at) = omega arith in
+        rw (whole, le-leb lo v low, le-leb v hi high) (ap (λ (p : ℕ). parsed v (cursorAt p numbers mentions)) n)
+
+-- what a caller learns of a field
+pub refused-value : {n v next : ℕ} → Refused n ≡ Value v next → ⊥
+refused-value {n} {v} {next} e = let z : _≡_ {A = ℕ} 0 1 = cc in omega arith
+
+pub value-inside : (lo hi at end : ℕ) {v next : ℕ} → lo ≤ v → v ≤ hi → at < next → next ≤ end →
+    (w after : ℕ) → Value v next ≡ Value w after → (lo ≤ w) × (w ≤ hi) × (at < after) × (after ≤ end)
+value-inside lo hi at end {v} {next} low high past inside w after e =
+    let ev : w ≡ v = cc in
+    let en : after ≡ next = cc in
+    omega arith

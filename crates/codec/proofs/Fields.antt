@@ -1,0 +1,100 @@
+-- A field, pure: the answer of `read_field` in the paper's terms; a number within the range reads back; what a field takes
+-- is, written again, the same bytes.
+use Prim.Native.Nat.{ℕ, suc, _+_, _≤_}
+use native.Mathlib.Omega.{arith}
+use mathlib.Core.Bool.{Bool, true, false, cond, _&&_}
+use mathlib.Core.List.{List, _++_}
+use mathlib.Core.Option.{Option, none, some}
+use mathlib.Core.Path.{_≡_, refl, sym, ap, _∙_}
+use lib.Dec.{leb}
+use lib.ListN.{length, drop, take, take-append-drop}
+use lib.Seq.{drop-append-seam, drop-drop, length-take-le}
+use borrow.Author.Tests.{le-leb, leb-true}
+use Rattle.machine.specs.Limits.{maxNumberBytes, maxNumber}
+use Rattle.machine.specs.Number.{Number, numberBytes, readNumber}
+use Rattle.machine.specs.Parser.{Cursor, Parsed, parsed, refused, field, fieldOf}
+use Rattle.codec.specs.declared.Field.{Field}
+use Rattle.codec.specs.declared.Field.the-variants.{Value, Refused}
+use Rattle.codec.specs.Answers.{cursorAt, parsedOf}
+use Rattle.codec.proofs.Groups.{Bytes, bytes-drop}
+use Rattle.codec.proofs.Numbers.{numberBytes-length, numberBytes-reads, numberBytes-read, accepted}
+
+-- ---- The answer
+
+module _ (numbers mentions : ℕ) (r : Field) {p : Parsed ℕ} (e : parsedOf numbers mentions r ≡ p) where
+  pub value-parsed : {v next : ℕ} → r ≡ Value v next → p ≡ parsed v (cursorAt next numbers mentions)
+  unfolding parsedOf
+  value-parsed h = sym e ∙ ap (parsedOf numbers mentions) h
+
+  pub refusal-parsed : {n : ℕ} → r ≡ Refused n → p ≡ refused n
+  unfolding parsedOf
+  refusal-parsed h = sym e ∙ ap (parsedOf numbers mentions) h
+
+-- ---- Two tests in one
+
+pub both-true : (a b : Bool) → a && b ≡ true → (a ≡ true) × (b ≡ true)
+both-true true b e = (refl, e)
+both-true false b e = let z : _≡_ {A = ℕ} 0 1 = cc in absurd (omega arith)
+
+pub between : (lo v hi : ℕ) → leb lo v && leb v hi ≡ true → (lo ≤ v) × (v ≤ hi)
+between lo v hi e =
+    let t = both-true (leb lo v) (leb v hi) e in
+    (leb-true lo v (t .0), leb-true v hi (t .1))
+
+-- ---- Written, then read
+
+-- what follows a number that stands at a position
+pub drop-past : (s u rest : List ℕ) (at : ℕ) → drop at s ≡ u ++ rest → drop (at + length u) s ≡ rest
+drop-past s u rest at e = sym (drop-drop (length u) at s) ∙ ap (drop (length u)) e ∙ drop-append-seam u rest
+
+pub field-reads : (s rest : List ℕ) (at v code lo hi numbers mentions : ℕ) →
+    drop at s ≡ numberBytes v ++ rest → lo ≤ v → v ≤ hi → hi ≤ maxNumber →
+    field s code lo hi (cursorAt at numbers mentions) ≡ parsed v (cursorAt (at + length (numberBytes v)) numbers mentions)
+unfolding field fieldOf
+field-reads s rest at v code lo hi numbers mentions e low high size =
+    let fits = numberBytes-length 4 v (omega arith) in
+    rw (e, numberBytes-reads maxNumberBytes maxNumber v rest (omega arith) (omega arith) fits, le-leb lo v low, le-leb v hi high)
+
+-- ---- Read, then written
+
+-- what a field that was taken says of the bytes
+pub record FieldTaken (s : List ℕ) (at lo hi v : ℕ) (after : Cursor) (numbers mentions : ℕ) : Type 0 where
+  pub low : lo ≤ v
+  pub high : v ≤ hi
+  pub bytes : drop at s ≡ numberBytes v ++ drop (at + length (numberBytes v)) s
+  pub cursor : after ≡ cursorAt (at + length (numberBytes v)) numbers mentions
+
+pub field-taken : (s : List ℕ) (at v code lo hi numbers mentions : ℕ) (after : Cursor) → Bytes s →
+    field s code lo hi (cursorAt at numbers mentions) ≡ parsed v after → FieldTaken s at lo hi v after numbers mentions
+unfolding field fieldOf
+field-taken s at v code lo hi numbers mentions after bytes e =
+    go (readNumber maxNumberBytes maxNumber (drop at s)) refl e
+  where
+    found : (n : Number) → readNumber maxNumberBytes maxNumber (drop at s) ≡ some n → (t : Bool) →
+        leb lo (n .value) && leb (n .value) hi ≡ t →
+        cond t (parsed (n .value) (cursorAt (at + n .size) numbers mentions)) (refused (suc code)) ≡ parsed v after →
+        FieldTaken s at lo hi v after numbers mentions
+    found n f true t g =
+        let ev : n .value ≡ v = cc in
+        let ec : cursorAt (at + n .size) numbers mentions ≡ after = cc in
+        let inside = accepted maxNumberBytes maxNumber (drop at s) n f .inside in
+        let nb : numberBytes v ≡ take (n .size) (drop at s) =
+        ap numberBytes (sym ev) ∙ numberBytes-read maxNumberBytes maxNumber (drop at s) n (omega arith) (bytes-drop at s bytes) f in
+        let len : length (numberBytes v) ≡ n .size = ap length nb ∙ length-take-le (n .size) (drop at s) inside in
+        let range = between lo (n .value) hi t in
+        record {
+          low = rw ev at (range .0);
+          high = rw ev at (range .1);
+          bytes =
+              sym (take-append-drop (n .size) (drop at s))
+              ∙ ap (λ (u : List ℕ). u ++ drop (n .size) (drop at s)) (sym nb)
+              ∙ ap (λ (u : List ℕ). numberBytes v ++ u)
+              (drop-drop (n .size) at s ∙ ap (λ (m : ℕ). drop (at + m) s) (sym len));
+          cursor = sym ec ∙ ap (λ (m : ℕ). cursorAt (at + m) numbers mentions) (sym len);
+        }
+    found n f false t g = let z : _≡_ {A = ℕ} 0 1 = cc in absurd (omega arith)
+
+    go : (o : Option Number) → readNumber maxNumberBytes maxNumber (drop at s) ≡ o →
+        fieldOf code lo hi o (cursorAt at numbers mentions) ≡ parsed v after → FieldTaken s at lo hi v after numbers mentions
+    go none f g = let z : _≡_ {A = ℕ} 0 1 = cc in absurd (omega arith)
+    go (some n) f g = found n f (leb lo (n .value) && leb (n .value) hi) refl g

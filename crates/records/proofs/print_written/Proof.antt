@@ -1,0 +1,49 @@
+-- `records::print_written` is safe: a number takes at most nine bytes.
+use native.Mathlib.Omega.{arith}
+use mathlib.Core.Path.{sym}
+use lib.Seq.{length-take-le}
+use Rattle.codec.proofs.Numbers.{numberBytes-longest}
+use borrow.Author.Needs.{needs}
+use Rattle.records.proofs.print_written.Statement.{statement}
+use Rattle.records.proofs.print_written.Tie as tie
+
+print-decimal-requires : tie.Need-print-decimal-requires
+print-decimal-requires c κs = search needs
+
+slice-aggregate-write-number : tie.Need-slice-aggregate-write-number
+slice-aggregate-write-number c = search needs
+
+write-number-requires : tie.Need-write-number-requires
+write-number-requires c κs = omega (arith, numberBytes-longest (c .before .before .args .v))
+
+array-share-prefix-bytes : tie.Need-array-share-prefix-bytes
+array-share-prefix-bytes c = omega (arith, numberBytes-longest (c .before .before .before .before .args .v), c .before .write-number .ensures .0, c .before .write-number .kept .0)
+
+slice-aggregate-print-bytes : tie.Need-slice-aggregate-print-bytes
+slice-aggregate-print-bytes c = sym (length-take-le _ _ (omega (arith, numberBytes-longest (c .before .before .before .before .before .args .v), c .before .before .write-number .ensures .0, c .before .before .write-number .kept .0)))
+
+print-bytes-requires : tie.Need-print-bytes-requires
+print-bytes-requires c κs = search needs
+
+slice-aggregate-print : tie.Need-slice-aggregate-print
+slice-aggregate-print c = search needs
+
+print-requires : tie.Need-print-requires
+print-requires c κs = search needs
+
+returns : tie.Need-returns
+returns c = search needs
+
+pub print-written-spec : {M : Type 1} → statement M
+print-written-spec =
+    tie.close
+    (tie.spec
+    print-decimal-requires
+    slice-aggregate-write-number
+    write-number-requires
+    array-share-prefix-bytes
+    slice-aggregate-print-bytes
+    print-bytes-requires
+    slice-aggregate-print
+    print-requires
+    returns)

@@ -1,0 +1,4 @@
+pub mod Counting
+pub mod Reader
+pub mod RoundTrip
+pub mod Writer

@@ -1,0 +1,156 @@
+-- The writer, pure: the length of a record, the ranges as facts, its four numbers stored one after the other, and the rest
+-- that `writeRecord` leaves.
+use Prim.Native.Nat.{ℕ, _+_, _≤_, _<_}
+use native.Mathlib.Nat.{zero-add}
+use native.Mathlib.Omega.{arith}
+use mathlib.Core.Bool.{true, false, _&&_}
+use mathlib.Core.List.{List, [], _∷_, _++_, append-assoc}
+use mathlib.Core.Path.{_≡_, refl, sym, ap, _∙_}
+use lib.Dec.{leb}
+use lib.ListN.{length, take, drop, length-append}
+use lib.Seq.{sets, sets-eq, take-append-seam}
+use borrow.Author.Tests.{le-leb, lt-leb, leb-true}
+use Rattle.machine.specs.Limits.{maxClock, maxTransaction, maxBlocks}
+use Rattle.machine.specs.Number.{numberBytes}
+use Rattle.machine.specs.Trace.{Record, recordBytes, traceBytes, inRanges, written, rejected, writeRecord}
+use Rattle.codec.proofs.Fields.{both-true, between}
+use Rattle.codec.proofs.Numbers.{numberBytes-length, numberBytes-positive}
+use Rattle.codec.proofs.Stores.{sets-append}
+use Rattle.trace.specs.declared.Written.the-variants.{Bytes, Refused}
+use Rattle.trace.specs.Answers.{entry, after}
+
+-- ---- Length
+
+pub recordBytes-length : (r : Record) →
+    length (recordBytes r) ≡
+    length (numberBytes (r .clock)) + length (numberBytes (r .transaction)) + length (numberBytes (r .block))
+    + length (numberBytes (r .outcome))
+unfolding recordBytes
+recordBytes-length r = simp length-append
+
+-- traces written one after the other
+pub traceBytes-append : (l m : List Record) → traceBytes (l ++ m) ≡ traceBytes l ++ traceBytes m
+unfolding traceBytes
+traceBytes-append [] m = refl
+traceBytes-append (r ∷ l) m =
+    ap (λ (u : List ℕ). recordBytes r ++ u) (traceBytes-append l m) ∙ sym (append-assoc (recordBytes r) (traceBytes l) (traceBytes m))
+
+-- ---- Ranges
+
+pub record Ranges (r : Record) : Type 0 where
+  pub clock : r .clock ≤ maxClock
+  pub first : 1 ≤ r .transaction
+  pub transaction : r .transaction ≤ maxTransaction
+  pub one : 1 ≤ r .block
+  pub block : r .block ≤ maxBlocks
+  pub outcome : r .outcome ≤ 1
+
+pub ranges : (r : Record) → inRanges r ≡ true → Ranges r
+unfolding inRanges
+ranges r e =
+    let x = both-true _ (leb (r .outcome) 1) e in
+    let y = both-true _ (leb 1 (r .block) && leb (r .block) maxBlocks) (x .0) in
+    let z = both-true (leb (r .clock) maxClock) _ (y .0) in
+    let transaction = between 1 (r .transaction) maxTransaction (z .1) in
+    let block = between 1 (r .block) maxBlocks (y .1) in
+    record {
+      clock = leb-true _ _ (z .0);
+      first = transaction .0;
+      transaction = transaction .1;
+      one = block .0;
+      block = block .1;
+      outcome = leb-true _ _ (x .1);
+    }
+
+pub in-ranges : (r : Record) → Ranges r → inRanges r ≡ true
+unfolding inRanges
+in-ranges r h =
+    rw (
+      le-leb _ _ (h .clock),
+      le-leb _ _ (h .first),
+      le-leb _ _ (h .transaction),
+      le-leb _ _ (h .one),
+      le-leb _ _ (h .block),
+      le-leb _ _ (h .outcome),
+    )
+
+-- "Fewer than 12 bytes left in the trace": 12 are room for any record
+pub record-room : (r : Record) → inRanges r ≡ true → length (recordBytes r) ≤ 12
+record-room r e =
+    let h = ranges r e in
+    rw (recordBytes-length r)
+    (omega (
+      arith,
+      numberBytes-length 4 (r .clock) (omega (arith, h)),
+      numberBytes-length 3 (r .transaction) (omega (arith, h)),
+      numberBytes-length 1 (r .block) (omega (arith, h)),
+      numberBytes-length 0 (r .outcome) (omega (arith, h)),
+    ))
+
+pub record-positive : (r : Record) → 4 ≤ length (recordBytes r)
+record-positive r =
+    rw (recordBytes-length r)
+    (omega (
+      arith,
+      numberBytes-positive (r .clock),
+      numberBytes-positive (r .transaction),
+      numberBytes-positive (r .block),
+      numberBytes-positive (r .outcome),
+    ))
+
+-- ---- Stored
+
+pub record-stored : (clock transaction block outcome p1 p2 p3 : ℕ) (l l1 l2 l3 l4 : List ℕ) →
+    p1 ≡ 0 + length (numberBytes clock) → l1 ≡ sets l 0 (numberBytes clock) →
+    p2 ≡ p1 + length (numberBytes transaction) → l2 ≡ sets l1 p1 (numberBytes transaction) →
+    p3 ≡ p2 + length (numberBytes block) → l3 ≡ sets l2 p2 (numberBytes block) →
+    l4 ≡ sets l3 p3 (numberBytes outcome) →
+    l4 ≡ sets l 0 (recordBytes (entry clock transaction block outcome))
+unfolding recordBytes
+record-stored clock transaction block outcome p1 p2 p3 l l1 l2 l3 l4 e1 s1 e2 s2 e3 s3 s4 =
+    let a = numberBytes clock in
+    let b = numberBytes transaction in
+    let c = numberBytes block in
+    let d = numberBytes outcome in
+    let two : l2 ≡ sets l 0 (a ++ b) = s2 ∙ rw (s1, e1) (sets-append a b l 0) in
+    let q2 : p2 ≡ 0 + length (a ++ b) = rw (e2, e1, length-append a b) (omega arith) in
+    let three : l3 ≡ sets l 0 (a ++ b ++ c) = s3 ∙ rw (two, q2) (sets-append (a ++ b) c l 0) in
+    let q3 : p3 ≡ 0 + length (a ++ b ++ c) = rw (e3, q2, length-append (a ++ b) c) (omega arith) in
+    s4 ∙ rw (three, q3) (sets-append (a ++ b ++ c) d l 0)
+
+-- ---- The answer and the rest afterwards
+
+module _ (r : Record) (l : List ℕ) where
+  pub refused-range : inRanges r ≡ false → rejected 32 ≡ writeRecord (length l) r
+  unfolding writeRecord
+  refused-range e = rw e
+
+  pub refused-room : inRanges r ≡ true → length l < length (recordBytes r) → rejected 33 ≡ writeRecord (length l) r
+  unfolding writeRecord
+  refused-room e h = rw (e, lt-leb (length (recordBytes r)) (length l) h)
+
+  pub written-record : inRanges r ≡ true → length (recordBytes r) ≤ length l → written (recordBytes r) ≡ writeRecord (length l) r
+  unfolding writeRecord
+  written-record e h = rw (e, le-leb (length (recordBytes r)) (length l) h)
+
+  pub after-refused : (n : ℕ) → rejected n ≡ writeRecord (length l) r → l ≡ after (writeRecord (length l) r) l
+  unfolding after
+  after-refused n e = rw (← e)
+
+  pub after-written : written (recordBytes r) ≡ writeRecord (length l) r → length (recordBytes r) ≤ length l →
+      sets l 0 (recordBytes r) ≡ after (writeRecord (length l) r) l
+  unfolding after
+  after-written e h =
+      rw (← e) (sets-eq (recordBytes r) l 0 (omega arith) ∙ ap (λ (n : ℕ). recordBytes r ++ drop n l) (zero-add (length (recordBytes r))))
+
+  pub front-written : length (recordBytes r) ≤ length l → take (length (recordBytes r)) (sets l 0 (recordBytes r)) ≡ recordBytes r
+  front-written h = rw (sets-eq (recordBytes r) l 0 (omega arith)) (take-append-seam (recordBytes r) _)
+
+-- what a caller learns of the count
+pub refused-bytes : {k n : ℕ} → Refused k ≡ Bytes n → ⊥
+refused-bytes {k} {n} e = let z : _≡_ {A = ℕ} 0 1 = cc in omega arith
+
+pub bytes-count : {k n m most : ℕ} → Bytes k ≡ Bytes n → k ≡ m → m ≤ most → (n ≡ m) × (n ≤ most)
+bytes-count {k} {n} {m} {most} e len room =
+    let same : n ≡ k = cc in
+    omega arith

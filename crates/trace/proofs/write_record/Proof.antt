@@ -1,0 +1,61 @@
+-- `trace::write_record` meets its contract: out of range, no room, or the record stored at the front of the rest.
+use mathlib.Core.Path.{sym, ap, _∙_}
+use borrow.Author.Tests.{not-true, not-false}
+use Rattle.machine.specs.Trace.{written}
+use Rattle.trace.proofs.Writer.{
+  refused-range,
+  refused-room,
+  written-record,
+  after-refused,
+  after-written,
+  front-written,
+  refused-bytes,
+  bytes-count,
+}
+use borrow.Author.Needs.{needs}
+use Rattle.trace.proofs.write_record.Statement.{statement}
+use Rattle.trace.proofs.write_record.Tie as tie
+
+in-ranges-requires : tie.Need-in-ranges-requires
+in-ranges-requires c κs = search needs
+
+returns : tie.Need-returns
+returns c = let e = refused-range _ (c .before .before .before .args .rest .now) (sym (c .before .in-ranges .ensures) ∙ not-true _ (c .if1 .taken)) in
+    (e, (after-refused _ _ 32 e, λ n h. absurd (refused-bytes h)))
+
+record-len-requires : tie.Need-record-len-requires
+record-len-requires c κs = search needs
+
+returns-2 : tie.Need-returns-2
+returns-2 c = let ranges = sym (c .before .before .before .in-ranges .ensures) ∙ not-false _ (c .before .before .if1 .left) in
+    let e = refused-room _ (c .before .before .before .before .before .args .rest .now) ranges (rw (c .before .record-len .ensures) at (c .if2 .taken)) in
+    (e, (after-refused _ _ 33 e, λ n h. absurd (refused-bytes h)))
+
+put-record-requires : tie.Need-put-record-requires
+put-record-requires c κs = search needs
+
+same-length : tie.Need-same-length
+same-length c = search needs
+
+returns-3 : tie.Need-returns-3
+returns-3 c = let l = c .before .before .before .before .before .before .before .before .before .args .rest .now in
+    let len = c .before .before .before .before .before .record-len .ensures in
+    let ranges = sym (c .before .before .before .before .before .before .before .in-ranges .ensures) ∙ not-false _ (c .before .before .before .before .before .before .if1 .left) in
+    let room = rw len at (c .before .before .before .before .if2 .left) in
+    let stored = c .before .before .put-record .ensures in
+    let e = written-record _ l ranges room in (
+      rw (len, stored) (ap written (front-written _ l room) ∙ e),
+      (stored ∙ after-written _ l e room, λ n h. bytes-count h len room),
+    )
+
+pub write-record-spec : {M : Type 1} → statement M
+write-record-spec =
+    tie.close
+    (tie.spec
+    in-ranges-requires
+    returns
+    record-len-requires
+    returns-2
+    put-record-requires
+    same-length
+    returns-3)

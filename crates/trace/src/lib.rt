@@ -1,0 +1,148 @@
+// Trace records (document 01, "Bytes" and "Questions at the door"): the reader on bytes and a
+// position, the writer into the unused rest of the trace buffer, and the counter of low bytes.
+use codec::Field;
+use codec::number_len;
+use codec::read_field;
+use codec::write_number;
+ghost use mathlib.Core.Path.{_≡_};
+ghost use Prim.Native.Nat.{ℕ, _+_, _≤_};
+ghost use lib.ListN.{length};
+ghost use lib.Seq.{sets};
+ghost use Rattle.machine.specs.Number.{countLow};
+ghost use Rattle.machine.specs.Trace.{recordBytes, readRecord, inRanges, writeRecord};
+ghost use Rattle.trace.specs.Answers.{entry, readingOf, writingOf, after};
+
+// "Clock to 2,000,000,000, transaction 1..100,000,000, block 1..256, outcome 0..1"
+const MAX_CLOCK: u64 = 2_000_000_000;
+
+const MAX_TRANSACTION: u64 = 100_000_000;
+
+const MAX_BLOCK: u64 = 256;
+
+const MAX_OUTCOME: u64 = 1;
+
+pub struct Record {
+    pub clock: u64,
+    pub transaction: u64,
+    pub block: u64,
+    pub outcome: u64,
+}
+
+// A record and the position after it; or the number of the refusal; or no more.
+pub enum Reading {
+    Taken(Record, usize),
+    Refused(u32),
+    NoMore,
+}
+
+// How many bytes were written; or the number of the refusal.
+pub enum Written {
+    Bytes(usize),
+    Refused(u32),
+}
+
+// The record at a position.
+pub fn read_record(s: &[u8], at: usize) -> Reading
+    ensures { λ r. ⌜ readingOf r ≡ readRecord (now (s .entry)) at ⌝ }
+{
+    if s.len() <= at {
+        return Reading::NoMore;
+    }
+    match read_field(s, at, 0, MAX_CLOCK, 31) {
+        Field::Refused(n) => Reading::Refused(n),
+        Field::Value(clock, p1) => match read_field(s, p1, 1, MAX_TRANSACTION, 31) {
+            Field::Refused(n) => Reading::Refused(n),
+            Field::Value(transaction, p2) => match read_field(s, p2, 1, MAX_BLOCK, 31) {
+                Field::Refused(n) => Reading::Refused(n),
+                Field::Value(block, p3) => match read_field(s, p3, 0, MAX_OUTCOME, 31) {
+                    Field::Refused(n) => Reading::Refused(n),
+                    Field::Value(outcome, next) => Reading::Taken(
+                        Record {
+                            clock,
+                            transaction,
+                            block,
+                            outcome,
+                        },
+                        next,
+                    ),
+                },
+            },
+        },
+    }
+}
+
+fn in_ranges(clock: u64, transaction: u64, block: u64, outcome: u64) -> bool
+    ensures { λ r. ⌜ r ≡ inRanges (entry clock transaction block outcome) ⌝ }
+{
+    if MAX_CLOCK < clock {
+        return false;
+    }
+    if transaction < 1 {
+        return false;
+    }
+    if MAX_TRANSACTION < transaction {
+        return false;
+    }
+    if block < 1 {
+        return false;
+    }
+    if MAX_BLOCK < block {
+        return false;
+    }
+    outcome <= MAX_OUTCOME
+}
+
+fn record_len(clock: u64, transaction: u64, block: u64, outcome: u64) -> usize
+    ensures { λ r. ⌜ r ≡ length (recordBytes (entry clock transaction block outcome)) ⌝ }
+{
+    number_len(clock) + number_len(transaction) + number_len(block) + number_len(outcome)
+}
+
+// Writes the four numbers of a record at the front of a rest with room for them.
+fn put_record(rest: &mut [u8], clock: u64, transaction: u64, block: u64, outcome: u64)
+    requires { ⌜ length (recordBytes (entry clock transaction block outcome)) ≤ length (now rest) ⌝ }
+    ensures { λ _. ⌜ now (rest .exit) ≡ sets (now (rest .entry)) 0 (recordBytes (entry clock transaction block outcome)) ⌝ }
+{
+    let p1 = write_number(rest, 0, clock);
+    let p2 = write_number(rest, p1, transaction);
+    let p3 = write_number(rest, p2, block);
+    write_number(rest, p3, outcome);
+}
+
+// Writes one record into the unused rest of the trace buffer.
+pub fn write_record(
+    rest: &mut [u8],
+    clock: u64,
+    transaction: u64,
+    block: u64,
+    outcome: u64,
+) -> Written
+    ensures { λ r. ⌜ writingOf (now (rest .exit)) r ≡ writeRecord (length (now (rest .entry))) (entry clock transaction block outcome) ⌝ }
+    ensures bytes { λ _. ⌜ now (rest .exit) ≡ after (writeRecord (length (now (rest .entry))) (entry clock transaction block outcome)) (now (rest .entry)) ⌝ }
+    ensures count { λ r. ⌜ ((n : ℕ) → r ≡ Written.Bytes n → (n ≡ length (recordBytes (entry clock transaction block outcome))) × (n ≤ length (now (rest .entry)))) ⌝ }
+{
+    if !in_ranges(clock, transaction, block, outcome) {
+        return Written::Refused(32);
+    }
+    let len = record_len(clock, transaction, block, outcome);
+    if rest.len() < len {
+        return Written::Refused(33);
+    }
+    put_record(rest, clock, transaction, block, outcome);
+    Written::Bytes(len)
+}
+
+// How many bytes are below 80 hexadecimal.
+pub fn count_low(s: &[u8]) -> u64
+    ensures { λ r. ⌜ r ≡ countLow (now (s .entry)) ⌝ }
+{
+    let mut count: u64 = 0;
+    let mut i = 0;
+    while i < s.len() {
+        if s[i] < 128 {
+            count += 1;
+        }
+        i += 1;
+    }
+    count
+}
