@@ -1,0 +1,296 @@
+//! Executing one block (01, Blocks).
+
+use crate::machine::{insert, Machine, Transaction};
+use crate::model::{Block, Model};
+
+/// What the execution of a block came to.
+#[derive(Clone, Copy, Debug, PartialEq, Eq)]
+pub enum Done {
+    /// Entered: a record of outcome 0.
+    Entered,
+    /// Entered a TERMINATE that brought the counter to 0 or below: end 2.
+    Finished,
+    /// Began to wait: a record of outcome 1.
+    BeganToWait,
+    /// A returning one waits again: "putting back writes nothing".
+    PutBack,
+    /// A question answered "no": the end is 21..25.
+    Stopped(u32),
+}
+
+impl Machine {
+    /// Executes the next block of the taken transaction.
+    pub fn execute(&mut self, transaction: Transaction) -> Done {
+        let number = transaction.next_block;
+        let block = self.model.block(number).clone();
+        if let Some(end) = self.stopped(&block) {
+            self.moving = Some(transaction);
+            return Done::Stopped(end);
+        }
+        if self.must_wait(&block, &transaction) {
+            return self.wait(&block, transaction);
+        }
+        let done = self.enter(&block, transaction);
+        self.entries[number as usize - 1] += 1;
+        done
+    }
+
+    /// The questions "Inside a turn, after the taking and before the block has any effect".
+    fn stopped(&self, block: &Block) -> Option<u32> {
+        let no_place = |new: u64| self.living() + new > Model::MAX_LIVING;
+        let too_late = |time: u64| self.clock + time > Model::MAX_MOVE_TIME;
+        match *block {
+            Block::Generate { list, .. } => match self.next_time(list) {
+                None => None, // "A spent list makes none."
+                Some(_) if no_place(1) => Some(21),
+                Some(time) if too_late(time) => Some(22),
+                Some(_) => None,
+            },
+            Block::Split { copies, .. } if no_place(u64::from(copies)) => Some(21),
+            Block::Advance { list } => match self.next_time(list) {
+                None => Some(23),
+                Some(time) if too_late(time) => Some(22),
+                Some(_) => None,
+            },
+            Block::Release { facility } if self.facilities[facility as usize - 1].in_use == 0 => {
+                Some(24)
+            }
+            Block::Leave { storage, units }
+                if self.storages[storage as usize - 1].in_use < units =>
+            {
+                Some(24)
+            }
+            Block::Depart { queue } if self.queues[queue as usize - 1].content == 0 => Some(25),
+            _ => None,
+        }
+    }
+
+    /// Does the block make this transaction wait now?
+    pub fn must_wait(&self, block: &Block, transaction: &Transaction) -> bool {
+        match block {
+            Block::Seize { facility } => self.facilities[*facility as usize - 1].in_use > 0,
+            Block::Enter { storage, units } => self.storages[*storage as usize - 1].free() < *units,
+            Block::WaitIfStatus { code, server } => {
+                self.status_server(*code, *server).code_true(*code)
+            }
+            Block::WaitIfComparison { comparison } => self.holds(comparison, transaction),
+            _ => false,
+        }
+    }
+
+    /// "A transaction that must wait takes a fresh serial unless it is
+    /// returning; a returning one keeps its serial."
+    fn wait(&mut self, block: &Block, mut transaction: Transaction) -> Done {
+        let done = if transaction.returning {
+            Done::PutBack
+        } else {
+            transaction.serial = self.fresh();
+            Done::BeganToWait
+        };
+        let begun = u64::from(done == Done::BeganToWait);
+        match *block {
+            Block::Seize { facility } => {
+                let server = &mut self.facilities[facility as usize - 1];
+                server.waits_begun += begun;
+                insert(&mut server.ql, transaction);
+            }
+            Block::Enter { storage, .. } => {
+                let server = &mut self.storages[storage as usize - 1];
+                server.waits_begun += begun;
+                insert(&mut server.ql, transaction);
+            }
+            Block::WaitIfStatus { code, server } => {
+                let list = &mut self.status_server_mut(code, server).wel[code as usize - 1];
+                insert(list, transaction);
+            }
+            _ => insert(&mut self.wsl, transaction),
+        }
+        done
+    }
+
+    /// The effect of a block that is entered. "Entering a block clears the mark."
+    fn enter(&mut self, block: &Block, mut transaction: Transaction) -> Done {
+        transaction.returning = false;
+        let number = transaction.next_block;
+        match block {
+            Block::Generate { list, priority } => {
+                if let Some(time) = self.next_time(*list) {
+                    self.use_time(*list);
+                    self.generate(number, *priority, time);
+                }
+            }
+            Block::Advance { list } => {
+                let time = self.next_time(*list).expect("asked by question 23");
+                self.use_time(*list);
+                transaction.next_block += 1;
+                self.to_fel(transaction, self.clock + time);
+                return Done::Entered;
+            }
+            Block::Terminate { amount } => {
+                self.ended += 1;
+                self.counter -= i64::from(*amount);
+                // "the counter falls by a; at or below 0, end 2"
+                return if self.counter <= 0 {
+                    Done::Finished
+                } else {
+                    Done::Entered
+                };
+            }
+            Block::Seize { facility } => {
+                let server = &mut self.facilities[*facility as usize - 1];
+                server.in_use = 1;
+                server.entries += 1;
+                self.offer_status(&[1, 2], *facility);
+            }
+            Block::Release { facility } => {
+                let server = &mut self.facilities[*facility as usize - 1];
+                server.in_use = 0;
+                if !server.ql.is_empty() {
+                    let first = server.ql.remove(0);
+                    self.wake(first);
+                }
+                self.offer_status(&[1, 2], *facility);
+            }
+            Block::Enter { storage, units } => {
+                let server = &mut self.storages[*storage as usize - 1];
+                server.in_use += units;
+                server.entries += 1;
+                self.offer_status(&[3, 4, 5, 6], *storage);
+            }
+            Block::Leave { storage, units } => {
+                self.storages[*storage as usize - 1].in_use -= units;
+                self.wake_fitting(*storage);
+                self.offer_status(&[3, 4, 5, 6], *storage);
+            }
+            Block::WaitIfStatus { code, server } => self.wake_first_of_wel(*code, *server),
+            Block::WaitIfComparison { .. } => {}
+            Block::If { comparison, target } => {
+                transaction.next_block = if self.holds(comparison, &transaction) {
+                    *target
+                } else {
+                    number + 1
+                };
+                self.moving = Some(transaction);
+                return Done::Entered;
+            }
+            Block::Goto { target } => {
+                transaction.next_block = *target;
+                self.moving = Some(transaction);
+                return Done::Entered;
+            }
+            Block::Let { parameter, term } => {
+                transaction.parameters[*parameter as usize - 1] = self.term(term, &transaction);
+            }
+            Block::Priority { priority } => {
+                transaction.priority = *priority;
+                transaction.serial = self.fresh();
+                transaction.next_block += 1;
+                insert(&mut self.rel, transaction);
+                return Done::Entered;
+            }
+            Block::Split { copies, target } => self.split(&transaction, *copies, *target),
+            Block::Arrive { queue } => {
+                let queue = &mut self.queues[*queue as usize - 1];
+                queue.content += 1;
+                queue.arrivals += 1;
+            }
+            Block::Depart { queue } => self.queues[*queue as usize - 1].content -= 1,
+        }
+        // "Go on" means next block plus one, still moving.
+        transaction.next_block += 1;
+        self.moving = Some(transaction);
+        Done::Entered
+    }
+
+    /// "n copies, same priority and parameters, on REL with fresh serials in order"
+    fn split(&mut self, original: &Transaction, copies: u32, target: u32) {
+        for _ in 0..copies {
+            self.made += 1;
+            let copy = Transaction {
+                number: self.made,
+                priority: original.priority,
+                parameters: original.parameters,
+                next_block: target,
+                serial: self.fresh(),
+                returning: false,
+            };
+            insert(&mut self.rel, copy);
+        }
+    }
+
+    /// LEAVE: "every QL member whose units, judged alone, fit the free units goes to REL".
+    fn wake_fitting(&mut self, storage: u32) {
+        let server = &mut self.storages[storage as usize - 1];
+        let free = server.free();
+        let mut staying = Vec::new();
+        let mut going = Vec::new();
+        for waiter in std::mem::take(&mut server.ql) {
+            if units_wanted(&self.model, &waiter) <= free {
+                going.push(waiter);
+            } else {
+                staying.push(waiter);
+            }
+        }
+        server.ql = staying;
+        for waiter in going {
+            self.wake(waiter);
+        }
+    }
+
+    /// "After blocks 4 to 7 enter, each WEL of that server whose code is not
+    /// true gives its first to REL."
+    fn offer_status(&mut self, codes: &[u32], server: u32) {
+        for code in codes {
+            if !self.status_server(*code, server).code_true(*code) {
+                self.wake_first_of_wel(*code, server);
+            }
+        }
+    }
+
+    fn wake_first_of_wel(&mut self, code: u32, server: u32) {
+        let list = &mut self.status_server_mut(code, server).wel[code as usize - 1];
+        if !list.is_empty() {
+            let first = list.remove(0);
+            self.wake(first);
+        }
+    }
+
+    /// "server (a facility for codes 1 and 2, else a storage)"
+    pub fn status_server(&self, code: u32, server: u32) -> &crate::machine::Server {
+        if code <= 2 {
+            &self.facilities[server as usize - 1]
+        } else {
+            &self.storages[server as usize - 1]
+        }
+    }
+
+    fn status_server_mut(&mut self, code: u32, server: u32) -> &mut crate::machine::Server {
+        if code <= 2 {
+            &mut self.facilities[server as usize - 1]
+        } else {
+            &mut self.storages[server as usize - 1]
+        }
+    }
+
+    /// The WS scheme: "every WSL member whose comparison no longer holds goes to REL".
+    pub fn ws_scheme(&mut self) {
+        let mut staying = Vec::new();
+        for waiter in std::mem::take(&mut self.wsl) {
+            let block = self.model.block(waiter.next_block);
+            if self.must_wait(block, &waiter) {
+                staying.push(waiter);
+            } else {
+                self.wake(waiter);
+            }
+        }
+        self.wsl = staying;
+    }
+}
+
+/// The units of the ENTER at which this transaction waits.
+pub fn units_wanted(model: &Model, waiter: &Transaction) -> u32 {
+    match model.block(waiter.next_block) {
+        Block::Enter { units, .. } => *units,
+        _ => 1,
+    }
+}

@@ -1,0 +1,161 @@
+//! Counts what random cases cover.
+
+use crate::blocks::Done;
+use crate::decode::decode_model;
+use crate::generate::fields::{model_fields, Role};
+use crate::generate::random::Random;
+use crate::generate::{case, Size};
+use crate::machine::Machine;
+use crate::run::{run_watched, Watcher};
+use std::collections::BTreeMap;
+
+/// What the runs of some cases met.
+#[derive(Default)]
+pub struct Coverage {
+    pub cases: u64,
+    pub refusals: BTreeMap<u64, u64>,
+    pub ends: BTreeMap<u64, u64>,
+    /// The turns of each accepted case, rising.
+    pub turns: Vec<u64>,
+    pub most_blocks: usize,
+    pub most_living: u64,
+    pub last_clock: u64,
+    pub clock_moves: u64,
+    pub zero_moves: u64,
+    /// Term tags, status codes and relations in accepted models.
+    pub tags: [u64; 12],
+    pub codes: [u64; 6],
+    pub relations: [u64; 6],
+    /// Executions by kind and column.
+    counts: BTreeMap<(u32, u32), u64>,
+    before: Option<(u64, bool)>,
+}
+
+const COLUMNS: [&str; 8] = ["entered", "waits", "put back", "21", "22", "23", "24", "25"];
+
+fn column(done: Done) -> u32 {
+    match done {
+        Done::Entered | Done::Finished => 0,
+        Done::BeganToWait => 1,
+        Done::PutBack => 2,
+        Done::Stopped(end) => end - 18,
+    }
+}
+
+impl Watcher for Coverage {
+    fn before_turn(&mut self, machine: &Machine, _trace: &[u8]) {
+        self.most_living = self.most_living.max(machine.living());
+        self.last_clock = self.last_clock.max(machine.clock);
+        if let Some((clock, true)) = self.before {
+            self.clock_moves += 1;
+            self.zero_moves += u64::from(clock == machine.clock);
+        }
+        let moves = machine.moving.is_none() && machine.rel.is_empty() && !machine.fel.is_empty();
+        self.before = Some((machine.clock, moves));
+    }
+
+    fn after_turn(&mut self, kind: u32, done: Done) {
+        *self.counts.entry((kind, column(done))).or_insert(0) += 1;
+    }
+}
+
+impl Coverage {
+    /// Runs this many cases.
+    pub fn of(random: &mut Random, size: Size, count: u64) -> Coverage {
+        let mut coverage = Coverage::default();
+        for _ in 0..count {
+            coverage.add(random, size);
+        }
+        coverage.turns.sort();
+        coverage
+    }
+
+    fn add(&mut self, random: &mut Random, size: Size) {
+        let case = case(random, size);
+        let mut trace = vec![0; case.trace_len];
+        let mut report = vec![0; case.report_len];
+        self.before = None;
+        let outcome = run_watched(
+            &case.model,
+            &case.tape,
+            case.budget,
+            case.work_len,
+            &mut trace,
+            &mut report,
+            self,
+        );
+        self.cases += 1;
+        *self.refusals.entry(outcome.refusal).or_insert(0) += 1;
+        if outcome.refusal == 0 {
+            *self.ends.entry(outcome.end).or_insert(0) += 1;
+            self.turns.push(outcome.turns);
+            self.count_names(&case.model);
+        }
+    }
+
+    /// Counts tags, codes and relations of an accepted model.
+    fn count_names(&mut self, bytes: &[u8]) {
+        let model = decode_model(bytes).expect("accepted");
+        self.most_blocks = self.most_blocks.max(model.blocks.len());
+        for field in model_fields(&model) {
+            let value = field.value as usize;
+            match field.role {
+                Role::Tag => self.tags[value] += 1,
+                Role::Relation => self.relations[value - 1] += 1,
+                Role::Code => self.codes[value - 1] += 1,
+                Role::Other => {}
+            }
+        }
+    }
+
+    /// How often a block of this kind came to this.
+    pub fn met(&self, kind: u32, done: Done) -> u64 {
+        *self.counts.get(&(kind, column(done))).unwrap_or(&0)
+    }
+}
+
+impl std::fmt::Display for Coverage {
+    fn fmt(&self, f: &mut std::fmt::Formatter) -> std::fmt::Result {
+        let counts = |map: &BTreeMap<u64, u64>| -> String {
+            let words: Vec<String> = map.iter().map(|(k, n)| format!("{k}: {n}")).collect();
+            words.join(", ")
+        };
+        let part = |percent: usize| {
+            let at = self.turns.len() * percent / 100;
+            self.turns.get(at).copied().unwrap_or(0)
+        };
+        writeln!(f, "cases     {}", self.cases)?;
+        writeln!(f, "refusals  {}", counts(&self.refusals))?;
+        writeln!(f, "ends      {}", counts(&self.ends))?;
+        writeln!(
+            f,
+            "turns     a tenth {}, a quarter {}, half {}, three quarters {}, nine tenths {}, most {}",
+            part(10),
+            part(25),
+            part(50),
+            part(75),
+            part(90),
+            self.turns.last().unwrap_or(&0)
+        )?;
+        writeln!(
+            f,
+            "most blocks {}, most living {}, last clock {}, clock moves {}, of them by 0 ticks {}",
+            self.most_blocks, self.most_living, self.last_clock, self.clock_moves, self.zero_moves
+        )?;
+        writeln!(f, "tags 0..11      {:?}", self.tags)?;
+        writeln!(f, "codes 1..6      {:?}", self.codes)?;
+        writeln!(f, "relations 1..6  {:?}", self.relations)?;
+        write!(f, "kind")?;
+        for name in COLUMNS {
+            write!(f, "{name:>10}")?;
+        }
+        for kind in 1..=16 {
+            write!(f, "\n{kind:>4}")?;
+            for column in 0..COLUMNS.len() as u32 {
+                let count = self.counts.get(&(kind, column)).unwrap_or(&0);
+                write!(f, "{count:>10}")?;
+            }
+        }
+        writeln!(f)
+    }
+}

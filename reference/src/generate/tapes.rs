@@ -1,0 +1,50 @@
+//! Random tapes.
+
+use super::random::Random;
+use super::Size;
+use crate::model::Model;
+
+/// A usual span between two times of a list.
+pub fn span(random: &mut Random) -> u32 {
+    *random.pick(&[1, 2, 3, 4, 6, 10, 10, 25, 100, 5_000])
+}
+
+fn time(random: &mut Random, span: u32) -> u32 {
+    match random.below(40) {
+        0 => Model::MAX_SAMPLE,
+        1..=3 => 0,
+        4..=5 => span,
+        _ => random.number(0, span),
+    }
+}
+
+/// The times of one list.
+pub fn times(random: &mut Random, count: u32, span: u32) -> Vec<u32> {
+    match random.below(12) {
+        0 => vec![0; count as usize],
+        1 => vec![span; count as usize],
+        2 => (0..count).map(|_| time(random, span)).collect(),
+        _ => (0..count).map(|_| random.number(0, span)).collect(),
+    }
+}
+
+/// How many times a list for GENERATE has.
+pub fn arrivals(random: &mut Random, size: Size) -> u32 {
+    match (random.below(20), size.is_small()) {
+        (0, _) => random.number(0, 2),
+        (1, _) => random.number(1, 4),
+        (_, true) => random.number(4, 20),
+        (2..=12, false) => random.number(8, 60),
+        (13..=18, false) => random.number(40, 200),
+        (_, false) => random.number(200, 400),
+    }
+}
+
+/// How many times a list for ADVANCE has.
+pub fn delays(random: &mut Random, size: Size) -> u32 {
+    match (random.below(20), size.is_small()) {
+        (0, _) => random.number(0, 8),
+        (_, true) => random.number(20, 60),
+        (_, false) => random.number(100, 1_200),
+    }
+}

@@ -1,0 +1,20 @@
+//! A second implementation of the machine of document 01, "The five-list
+//! engine for block models". Real lists, literal steps, no dependencies.
+
+pub mod account;
+pub mod blocks;
+pub mod claims;
+pub mod coverage;
+pub mod decode;
+pub mod generate;
+pub mod machine;
+pub mod model;
+pub mod number;
+pub mod report;
+pub mod run;
+pub mod tape;
+pub mod terms;
+pub mod text;
+pub mod trace;
+
+pub use run::{run, Outcome};
