@@ -17,7 +17,7 @@ use Rattle.machine.specs.Turn.{arriveAll, due, moveClock, nextEvents, ta
 use Rattle.machine.specs.Run.{idle, startAt, start}
 use Rattle.machine.specs.Claims.{Each}
 use Rattle.machine.proofs.Cases.{checkWels-kept, mustWait-cases, wsScheme-cases}
-use Rattle.machine.proofs.Shape.{each-getD}
+use Rattle.machine.proofs.Shape.{each-set, each-getD}
 use Rattle.machine.proofs.Sorted.{each-insert, each-those, each-drop}
 
 -- ---- Definition
@@ -40,11 +40,6 @@ pub record Unmoved (P : Transaction → Type 0) : Type 0 where
   pub serial : (n : ℕ) (t : Transaction) → P t → P (withSerial n t)
 
 -- ---- Lists
-
-each-set : {A : Type 0} (P : A → Type 0) (l : List A) (i : ℕ) (a : A) → Each P l → P a → Each P (set l i a)
-each-set P [] i a h p = tt
-each-set P (x ∷ l) zero a h p = (p, h .1)
-each-set P (x ∷ l) (suc i) a h p = (h .0, each-set P l i a (h .1) p)
 
 each-take : {A : Type 0} (P : A → Type 0) (l : List A) → Each P l → Each P (take 1 l)
 each-take P [] h = tt

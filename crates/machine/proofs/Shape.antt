@@ -46,7 +46,7 @@ Shape m s = Shaped m (s .view) (s .ql) (s .wel) (s .samples)
 
 -- ---- Lists of which each passes
 
-each-set : {A : Type 0} (P : A → Type 0) (l : List A) (i : ℕ) (a : A) → Each P l → P a → Each P (set l i a)
+pub each-set : {A : Type 0} (P : A → Type 0) (l : List A) (i : ℕ) (a : A) → Each P l → P a → Each P (set l i a)
 each-set P [] i a h p = tt
 each-set P (x ∷ l) zero a h p = (p, h .1)
 each-set P (x ∷ l) (suc i) a h p = (h .0, each-set P l i a (h .1) p)
