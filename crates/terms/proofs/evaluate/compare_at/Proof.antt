@@ -1,0 +1,44 @@
+-- `terms::evaluate::compare_at` meets its contract: a term of a block takes two numbers.
+use mathlib.Core.Path.{_∙_}
+use borrow.Author.Needs.{needs}
+use Rattle.terms.specs.Evaluation.{compareAt}
+use Rattle.terms.proofs.Signs.{back}
+use Rattle.terms.proofs.evaluate.compare_at.Statement.{statement}
+use Rattle.terms.proofs.evaluate.compare_at.Tie as tie
+
+term-at-requires : tie.Need-term-at-requires
+term-at-requires c κs = search needs
+
+add-term-at : tie.Need-add-term-at
+add-term-at c = search needs
+
+term-at-requires-2 : tie.Need-term-at-requires-2
+term-at-requires-2 c κs = search needs
+
+add-number : tie.Need-add-number
+add-number c = search needs
+
+number-requires : tie.Need-number-requires
+number-requires c κs = search needs
+
+related-requires : tie.Need-related-requires
+related-requires c κs = search needs
+
+returns : tie.Need-returns
+unfolding compareAt
+returns c =
+    let left = back _ (c .before .before .before .term-at .ok) ∙ c .before .before .before .term-at .ensures in
+    let right = back _ (c .before .before .term-at2 .ok) ∙ c .before .before .term-at2 .ensures in
+    c .related .ensures ∙ rw (left, right, c .before .number .ensures)
+
+pub compare-at-spec : {M : Type 1} → statement M
+compare-at-spec =
+    tie.close
+    (tie.spec
+    term-at-requires
+    add-term-at
+    term-at-requires-2
+    add-number
+    number-requires
+    related-requires
+    returns)

@@ -1,0 +1,3 @@
+pub mod Evaluation
+pub mod Nested
+pub mod Sees

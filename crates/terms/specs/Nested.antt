@@ -1,0 +1,52 @@
+-- How deep brackets open: "four open brackets (each tag 10 or 11 opens one)" in a value, none in a term of a block.
+use Prim.Native.Nat.{ℕ, _-_}
+use mathlib.Core.Bool.{Bool, true, _&&_}
+use lib.Dec.{T, ltb}
+use lib.ListN.{getD}
+use Rattle.machine.specs.Limits.{maxBrackets}
+use Rattle.machine.specs.Term.{Term, constant, minusConstant, parameter, clockTerm, entriesOf, contentOf, unitsInUse, unitsFree, facilityInUse, value, comparison, bracket, Sum, nothing, plus, minus}
+use Rattle.machine.specs.Block.{Block, generate, advance, terminate, seize, release, enter, leave, waitServer, waitTerms, branch, goto, assign, priority, split, arrive, depart, BlockModel}
+
+-- at most d brackets open, one in the other
+unfoldable mutual
+  pub nestedTerm : ℕ → Term → Bool
+  nestedTerm d (constant n) = true
+  nestedTerm d (minusConstant n) = true
+  nestedTerm d (parameter k) = true
+  nestedTerm d clockTerm = true
+  nestedTerm d (entriesOf b) = true
+  nestedTerm d (contentOf q) = true
+  nestedTerm d (unitsInUse v) = true
+  nestedTerm d (unitsFree v) = true
+  nestedTerm d (facilityInUse v) = true
+  nestedTerm d (value k) = true
+  nestedTerm d (comparison r a b) = ltb 0 d && (nestedTerm (d - 1) a && nestedTerm (d - 1) b)
+  nestedTerm d (bracket e) = ltb 0 d && nestedSum (d - 1) e
+
+  pub nestedSum : ℕ → Sum → Bool
+  nestedSum d nothing = true
+  nestedSum d (plus t e) = nestedTerm d t && nestedSum d e
+  nestedSum d (minus t e) = nestedTerm d t && nestedSum d e
+
+-- the terms of a block are a tag and a number
+unfoldable pub nestedBlock : Block → Bool
+nestedBlock (generate list p) = true
+nestedBlock (advance list) = true
+nestedBlock (terminate a) = true
+nestedBlock (seize v) = true
+nestedBlock (release v) = true
+nestedBlock (enter v b) = true
+nestedBlock (leave v b) = true
+nestedBlock (waitServer code v) = true
+nestedBlock (waitTerms a r b) = nestedTerm 0 a && nestedTerm 0 b
+nestedBlock (branch a r b target) = nestedTerm 0 a && nestedTerm 0 b
+nestedBlock (goto target) = true
+nestedBlock (assign k a) = nestedTerm 0 a
+nestedBlock (priority p) = true
+nestedBlock (split n target) = true
+nestedBlock (arrive q) = true
+nestedBlock (depart q) = true
+
+pub record Nested (m : BlockModel) : Type 0 where
+  pub blocks : (b : ℕ) → T (nestedBlock (getD (m .blocks) b (terminate 0)))
+  pub values : (k : ℕ) → T (nestedSum maxBrackets (getD (m .values) k nothing))

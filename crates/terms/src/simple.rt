@@ -1,0 +1,124 @@
+// Terms of tags 0 to 8: a tag and a number, with no sum inside.
+use crate::Parameters;
+use crate::wrapping::signed;
+use machine::Model;
+use tables::CAPACITIES;
+use tables::CONTENT;
+use tables::ENTRIES;
+use tables::IN_USE;
+ghost use mathlib.Core.Path.{_≡_};
+ghost use Prim.Native.Nat.{_≤_};
+ghost use lib.Dec.{ltb};
+ghost use lib.ListN.{getD};
+ghost use lib.IntN.{negℤ};
+ghost use Rattle.machine.specs.Term.{oneIf};
+ghost use Rattle.tables.specs.Layout as Layout;
+ghost use Rattle.terms.specs.Evaluation as Evaluation;
+ghost use Rattle.terms.specs.Evaluation.{within, parameterBits, servers, freeUnits, simpleTerm};
+
+const SERVERS: usize = Model::MAX_FACILITIES + Model::MAX_STORAGES;
+
+// The number at an index of the tables; 0 past their end.
+pub fn number(tables: &[u32], at: usize) -> u32
+    ensures { λ r. ⌜ r ≡ getD (now (tables .entry)) at 0 ⌝ }
+{
+    if at < tables.len() { tables[at] } else { 0 }
+}
+
+// The number at an index of the tally; 0 past its end.
+fn count(tally: &[u64], at: usize) -> u64
+    ensures { λ r. ⌜ r ≡ getD (now (tally .entry)) at 0 ⌝ }
+{
+    if at < tally.len() { tally[at] } else { 0 }
+}
+
+// Number n of a part of the tally that begins at `begin` and has `size` of them; 0 if there is none.
+fn tallied(tally: &[u64], begin: usize, size: usize, n: u32) -> u64
+    requires { ⌜ begin ≤ 960 ⌝ }
+    ensures { λ r. ⌜ r ≡ within (now (tally .entry)) begin size n ⌝ }
+{
+    let i = n as usize;
+    if i < size { count(tally, begin + i) } else { 0 }
+}
+
+// A number as a signed one; 0 if it is 2 to the 31 or more.
+fn small(n: u64) -> i32
+    ensures { λ r. ⌜ r ≡ Evaluation.small n ⌝ }
+{
+    if n < 2_147_483_648 { n as i32 } else { 0 }
+}
+
+fn minus(n: u64) -> i32
+    ensures { λ r. ⌜ r ≡ negℤ (Evaluation.small n) ⌝ }
+{
+    0 - small(n)
+}
+
+// The bits of parameter k (from 0); 0 if there is none.
+fn parameter(p: Parameters, k: u32) -> u32
+    ensures { λ r. ⌜ r ≡ parameterBits p k ⌝ }
+{
+    match k {
+        0 => p.p1,
+        1 => p.p2,
+        2 => p.p3,
+        3 => p.p4,
+        _ => 0,
+    }
+}
+
+// The capacity of server v (from 0).
+fn capacity(tables: &[u32], v: u32) -> u64
+    ensures { λ r. ⌜ r ≡ within (now (tables .entry)) Layout.capacities servers v ⌝ }
+{
+    let i = v as usize;
+    if i < SERVERS {
+        number(tables, CAPACITIES + i) as u64
+    } else {
+        0
+    }
+}
+
+// The units free of server v (from 0).
+fn free(tables: &[u32], tally: &[u64], v: u32) -> u64
+    ensures { λ r. ⌜ r ≡ freeUnits (now (tables .entry)) (now (tally .entry)) v ⌝ }
+{
+    let whole = capacity(tables, v);
+    let used = tallied(tally, IN_USE, SERVERS, v);
+    if used <= whole { whole - used } else { 0 }
+}
+
+// Is server v (from 0) in use? 1 or 0.
+fn in_use(tally: &[u64], v: u32) -> i32
+    ensures { λ r. ⌜ r ≡ oneIf (ltb 0 (within (now (tally .entry)) Layout.inUse servers v)) ⌝ }
+{
+    if 0 < tallied(tally, IN_USE, SERVERS, v) {
+        1
+    } else {
+        0
+    }
+}
+
+// Tags 0 to 8; any other counts as 8.
+pub fn simple_term(
+    tables: &[u32],
+    tally: &[u64],
+    clock: u64,
+    parameters: Parameters,
+    tag: u32,
+    n: u32,
+) -> i32
+    ensures { λ r. ⌜ r ≡ simpleTerm (now (tables .entry)) (now (tally .entry)) clock parameters tag n ⌝ }
+{
+    match tag {
+        0 => small(n as u64),
+        1 => minus(n as u64),
+        2 => signed(parameter(parameters, n)),
+        3 => small(clock),
+        4 => small(tallied(tally, ENTRIES, Model::MAX_BLOCKS, n)),
+        5 => small(tallied(tally, CONTENT, Model::MAX_QUEUES, n)),
+        6 => small(tallied(tally, IN_USE, SERVERS, n)),
+        7 => small(free(tables, tally, n)),
+        _ => in_use(tally, n),
+    }
+}

@@ -1,0 +1,38 @@
+// Document 01, "sums and differences wrap in signed 32 bits".
+ghost use mathlib.Core.Path.{_≡_};
+ghost use lib.IntN.{_+ℤ_, _-ℤ_};
+ghost use Rattle.machine.specs.Term as Term;
+
+// The 32 bits of a number.
+pub fn bits(x: i32) -> u32
+    ensures { λ r. ⌜ r ≡ Term.low32 x ⌝ }
+{
+    if 0 <= x {
+        x as u32
+    } else {
+        4_294_967_295 - (-1 - x) as u32
+    }
+}
+
+// The number whose 32 bits are n.
+pub fn signed(n: u32) -> i32
+    ensures { λ r. ⌜ r ≡ Term.signed n ⌝ }
+{
+    if n < 2_147_483_648 {
+        n as i32
+    } else {
+        -1 - (4_294_967_295 - n) as i32
+    }
+}
+
+pub fn add(a: i32, b: i32) -> i32
+    ensures { λ r. ⌜ r ≡ Term.wrap (a +ℤ b) ⌝ }
+{
+    signed(std::num::wrapping_add_u32(bits(a), bits(b)))
+}
+
+pub fn subtract(a: i32, b: i32) -> i32
+    ensures { λ r. ⌜ r ≡ Term.wrap (a -ℤ b) ⌝ }
+{
+    signed(std::num::wrapping_sub_u32(bits(a), bits(b)))
+}
