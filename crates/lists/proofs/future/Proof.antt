@@ -1,0 +1,28 @@
+-- `future` meets its contract: the buffer keeps its length.
+use native.Mathlib.Omega.{arith}
+use Rattle.lists.proofs.future.Statement.{statement}
+use Rattle.lists.proofs.future.Tie as tie
+
+enter-requires : tie.Need-enter-requires
+enter-requires c κs = omega arith
+
+enter-requires-2 : tie.Need-enter-requires-2
+enter-requires-2 c κs = omega arith
+
+enter-requires-3 : tie.Need-enter-requires-3
+enter-requires-3 c κs = omega arith
+
+enter-requires-4 : tie.Need-enter-requires-4
+enter-requires-4 c κs = omega arith
+
+arrive-requires : tie.Need-arrive-requires
+arrive-requires c κs = omega arith
+
+same-length : tie.Need-same-length
+same-length c = omega arith
+
+returns : tie.Need-returns
+returns c = omega arith
+
+pub future-spec : {M : Type 1} → statement M
+future-spec = tie.close (tie.spec enter-requires enter-requires-2 enter-requires-3 enter-requires-4 arrive-requires same-length returns)

@@ -1,0 +1,226 @@
+-- A clock move: `arrive` takes those of the first time from the FEL to REL, as the machine's `arriveAll` does.
+use Prim.Native.Nat.{ℕ, zero, suc, _+_, _*_, _/_, _≤_, _<_}
+use mathlib.Core.Path.{_≡_, refl, sym, ap, _∙_, subst}
+use mathlib.Core.Logic.{_≢_}
+use mathlib.Core.Bool.{Bool, true, false, cond}
+use mathlib.Core.List.{List, [], _∷_, _++_, map}
+use native.Mathlib.Omega.{arith}
+use native.Mathlib.Numerals.{add-one}
+use borrow.Author.Tests.{lt-ltb, le-ltb, eqb-true}
+use lib.Dec.{eqb}
+use lib.ListN.{length, drop}
+use Rattle.machine.specs.Transaction.{Transaction, Event, precedes, earlier}
+use Rattle.machine.specs.Setters.{withSerial, withReturning}
+use Rattle.machine.specs.Lists.{insert, those, others}
+use Rattle.machine.specs.Turn.{due}
+use Rattle.rows.specs.Layout.{place, head, rel, fel, nowhere}
+use Rattle.rows.specs.Cells.{load, read, write, setReturning}
+use Rattle.rows.specs.Order.{ahead}
+use Rattle.rows.specs.Lists.{put, first, takeFirst}
+use Rattle.rows.specs.Clock.{isDue, arriveRow, arriveFirst, Arrived, arrived, arrive, arrivals}
+use Rattle.rows.specs.Holds.{transactionAt, eventAt, before, occurs, Chain, Sorted, Listed, Holds, update}
+use Rattle.rows.specs.Shows.{Shown, Shows, Loose}
+use Rattle.rows.proofs.Occurs.{same-refl, occurs-cons}
+use Rattle.rows.proofs.Structure.{row-of}
+use Rattle.rows.proofs.Spot.{short}
+use Rattle.rows.proofs.Data.{same-row, transaction-kept}
+use Rattle.rows.proofs.Holding.{Kept}
+use Rattle.rows.proofs.Showing.{shown-ext, update-same, update-other}
+use Rattle.rows.proofs.Put.{put-shown, put-keeps, put-placed}
+use Rattle.rows.proofs.Take.{First, none, some, first-of, take-keeps, take-loose, take-fel-shown}
+use Rattle.rows.proofs.Write.{write-shown, write-loose}
+use Rattle.rows.proofs.Fields.{set-returning, write-serial}
+use Rattle.rows.proofs.Steady.{Steady, Around, steady-refl, steady-trans, around-trans, kept-around, write-around, around-steady}
+use Rattle.rows.proofs.Steps.{arrive-stop, arrive-next}
+use Rattle.rows.proofs.Arrivals.{run, left, run-is, left-is}
+
+-- ---- One row
+
+module _ (w : List ℕ) (L : ℕ → List ℕ) (T : ℕ → List Transaction) (E : List Event) (s : Shown w L T E) (m : List ℕ) (was : L fel ≡ first w fel ∷ m) (hk : first w fel < 1024) (serial : ℕ) where
+  abbrev k : ℕ
+  k = first w fel
+
+  hl : fel < 512
+  hl = omega arith
+
+  abbrev w₁ : List ℕ
+  w₁ = takeFirst w fel
+
+  abbrev L₁ : ℕ → List ℕ
+  L₁ = update fel m L
+
+  kept₁ : Kept w w₁ k
+  kept₁ = take-keeps w L (s .holds) fel hl m was hk
+
+  s₁ : Shown w₁ L₁ T (drop 1 E)
+  s₁ = take-fel-shown w L T E s fel hl m was hk refl
+
+  loose₁ : Loose w₁ k
+  loose₁ = take-loose w L (s .holds) fel hl m was hk
+
+  abbrev w₂ : List ℕ
+  w₂ = setReturning w₁ k 0
+
+  s₂ : Shown w₂ L₁ T (drop 1 E)
+  s₂ = write-shown w₁ 1 k (read w₁ 1 k / 2 * 2 + 0) (omega arith) loose₁ L₁ T (drop 1 E) s₁
+
+  loose₂ : Loose w₂ k
+  loose₂ = write-loose w₁ 1 k (read w₁ 1 k / 2 * 2 + 0) (omega arith) k hk loose₁
+
+  abbrev w₃ : List ℕ
+  w₃ = write w₂ 7 k serial
+
+  s₃ : Shown w₃ L₁ T (drop 1 E)
+  s₃ = write-shown w₂ 7 k serial (omega arith) loose₂ L₁ T (drop 1 E) s₂
+
+  loose₃ : Loose w₃ k
+  loose₃ = write-loose w₂ 7 k serial (omega arith) k hk loose₂
+
+  fresh : transactionAt w₃ k ≡ withSerial serial (withReturning false (transactionAt w k))
+  fresh =
+      write-serial w₂ k (s₂ .holds .room) hk serial
+      ∙ ap (withSerial serial) (set-returning w₁ k (s₁ .holds .room) hk 0 (omega arith))
+      ∙ ap (λ (t : Transaction). withSerial serial (withReturning false t)) (transaction-kept w w₁ k (same-row w w₁ k hk (kept₁ .rows)))
+
+  arrives : arriveFirst w serial ≡ put w₃ rel k
+  unfolding arriveFirst arriveRow
+  arrives = rw (lt-ltb (first w fel) 1024 hk)
+
+  placed : load w (place k) ≡ fel
+  placed =
+      row-of w fel [] (k ∷ m) (rw was at (s .holds .listed fel hl)) k (omega (arith, occurs-cons k k m, same-refl k k refl)) .1
+
+  pub arrive-steady : Steady w (arriveFirst w serial)
+  arrive-steady =
+      rw arrives
+      (around-steady w (put w₃ rel k) k hk (omega (arith, placed)) (omega (arith, put-placed w₃ L₁ (s₃ .holds) rel k (omega arith) loose₃))
+      (around-trans w w₁ (put w₃ rel k) k (kept-around w w₁ k kept₁)
+      (around-trans w₁ w₂ (put w₃ rel k) k (write-around w₁ 1 k (read w₁ 1 k / 2 * 2 + 0) (omega arith) hk)
+      (around-trans w₂ w₃ (put w₃ rel k) k (write-around w₂ 7 k serial (omega arith) hk)
+      (kept-around w₃ (put w₃ rel k) k (put-keeps w₃ L₁ (s₃ .holds) rel k (omega arith) loose₃))))))
+
+  abbrev pub arrived-rows : ℕ → List ℕ
+  arrived-rows = update rel (insert (ahead w₃ rel) k (L₁ rel)) L₁
+
+  pub arrived-fel : arrived-rows fel ≡ m
+  arrived-fel = refl
+
+  pub arrive-shown : Shown (arriveFirst w serial) arrived-rows (update rel (insert precedes (withSerial serial (withReturning false (transactionAt w k))) (T rel)) T) (drop 1 E)
+  arrive-shown =
+      subst (λ (v : List ℕ). Shown v arrived-rows (update rel (insert precedes (withSerial serial (withReturning false (transactionAt w k))) (T rel)) T) (drop 1 E))
+      (sym arrives)
+      (subst (λ (t : Transaction). Shown (put w₃ rel k) arrived-rows (update rel (insert precedes t (T rel)) T) (drop 1 E)) fresh (put-shown w₃ L₁ T (drop 1 E) s₃ k loose₃ rel (omega arith)))
+
+-- ---- All of a time
+
+-- what a clock move leaves
+pub record Arrives (w : List ℕ) (r : Arrived) (T : ℕ → List Transaction) (E : List Event) (serial : ℕ) : Type 0 where
+  pub shows : Shows (r .rows) T E
+  pub last : r .serial ≡ serial
+  pub steady : Steady w (r .rows)
+
+-- REL replaced by itself, and twice
+rel-same : (T : ℕ → List Transaction) (q : ℕ) → T q ≡ update rel (T rel) T q
+rel-same T q = go (eqb q rel) refl
+  where
+    go : (t : Bool) → eqb q rel ≡ t → T q ≡ cond t (T rel) (T q)
+    go true e = ap T (eqb-true q rel e)
+    go false e = refl
+
+rel-twice : (l m : List Transaction) (T : ℕ → List Transaction) (q : ℕ) → update rel l (update rel m T) q ≡ update rel l T q
+rel-twice l m T q = go (eqb q rel)
+  where
+    go : (t : Bool) → cond t l (cond t m (T q)) ≡ cond t l (T q)
+    go true = refl
+    go false = refl
+
+module _ (time : ℕ) where
+  abbrev Result : (n : ℕ) (w : List ℕ) (T : ℕ → List Transaction) (E : List Event) (s : ℕ) → Type 0
+  Result n w T E s =
+      Arrives w (arrive n time w s) (update rel (arrivals (run time E) s (T rel)) T) (left time E) (s + length (run time E))
+
+  -- nobody is due
+  stops : (w : List ℕ) (L : ℕ → List ℕ) (T : ℕ → List Transaction) (E : List Event) → Shown w L T E → (n s : ℕ) → isDue w time ≡ false → run time E ≡ [] → left time E ≡ E → Result n w T E s
+  unfolding arrived arrivals
+  stops w L T E sh n s e f g =
+      rw (arrive-stop time w s n e, f, g)
+      (record {
+        shows = record { rows = L; shown = shown-ext w L T (update rel (T rel) T) E (λ q hq. rel-same T q) sh };
+        last = omega arith;
+        steady = steady-refl w;
+      })
+
+  due-none : (w : List ℕ) → 1024 ≤ first w fel → isDue w time ≡ false
+  unfolding isDue
+  due-none w h = rw (le-ltb (first w fel) 1024 h)
+
+  due-some : (w : List ℕ) → first w fel < 1024 → isDue w time ≡ due time (eventAt w (first w fel))
+  unfolding isDue due eventAt
+  due-some w h = rw (lt-ltb (first w fel) 1024 h)
+
+  arrive-suc : (n : ℕ) (w : List ℕ) (s : ℕ) → isDue w time ≡ true → arrive (suc n) time w s ≡ arrive n time (arriveFirst w (suc s)) (suc s)
+  unfolding arrive
+  arrive-suc n w s e = rw e
+
+  module _ (n : ℕ) (w : List ℕ) (L : ℕ → List ℕ) (T : ℕ → List Transaction) (E₁ : List Event) (s : ℕ) (hk : first w fel < 1024) where
+    abbrev e₀ : Event
+    e₀ = eventAt w (first w fel)
+
+    abbrev R₁ : List Transaction
+    R₁ = insert precedes (withSerial (suc s) (withReturning false (transactionAt w (first w fel)))) (T rel)
+
+    -- the first is due
+    comes : Steady w (arriveFirst w (suc s)) → due time e₀ ≡ true → Result n (arriveFirst w (suc s)) (update rel R₁ T) E₁ (suc s) → Result (suc n) w T (e₀ ∷ E₁) s
+    unfolding run left arrivals eventAt
+    comes st q rest =
+        rw (arrive-suc n w s (due-some w hk ∙ q), q)
+        (record {
+          shows = record { rows = rest .shows .rows; shown = shown-ext (arrive n time (arriveFirst w (suc s)) (suc s) .rows) (rest .shows .rows) (update rel (arrivals (run time E₁) (suc s) R₁) (update rel R₁ T)) (update rel (arrivals (run time E₁) (suc s) R₁) T) (left time E₁) (λ p hp. rel-twice (arrivals (run time E₁) (suc s) R₁) R₁ T p) (rest .shows .shown) };
+          last = rest .last ∙ omega arith;
+          steady = steady-trans w (arriveFirst w (suc s)) (arrive n time (arriveFirst w (suc s)) (suc s) .rows) st (rest .steady);
+        })
+
+    -- it is not
+    waits : Shown w L T (e₀ ∷ E₁) → due time e₀ ≡ false → Result (suc n) w T (e₀ ∷ E₁) s
+    unfolding run left
+    waits sh q = stops w L T (e₀ ∷ E₁) sh (suc n) s (due-some w hk ∙ q) (rw q) (rw q)
+
+    split : Shown w L T (e₀ ∷ E₁) → Steady w (arriveFirst w (suc s)) → Result n (arriveFirst w (suc s)) (update rel R₁ T) E₁ (suc s) → Result (suc n) w T (e₀ ∷ E₁) s
+    split sh st rest = go (due time e₀) refl
+      where
+        go : (t : Bool) → due time e₀ ≡ t → Result (suc n) w T (e₀ ∷ E₁) s
+        go true q = comes st q rest
+        go false q = waits sh q
+
+  pub arrive-run : (n : ℕ) (l : List ℕ) (w : List ℕ) (L : ℕ → List ℕ) (T : ℕ → List Transaction) (E : List Event) (sh : Shown w L T E) → L fel ≡ l → length l ≤ n → (s : ℕ) → Result n w T E s
+  unfolding Chain run left
+  arrive-run n [] w L T E sh was len s =
+      let e : E ≡ [] = sym (sh .future) ∙ ap (map (eventAt w)) was in
+      let c : Chain w (head fel) [] = rw was at (sh .holds .listed fel (omega arith) .chain) in
+      stops w L T E sh n s (due-none w c) (ap (run time) e) (ap (left time) e ∙ sym e)
+  arrive-run zero (k ∷ l) w L T E sh was len s = absurd (omega arith)
+  arrive-run (suc n) (k ∷ l) w L T E sh was len s =
+      let c : Chain w (head fel) (k ∷ l) = rw was at (sh .holds .listed fel (omega arith) .chain) in
+      let hk : first w fel < 1024 = omega (arith, c .0, c .1) in
+      let was′ : L fel ≡ first w fel ∷ l = was ∙ ap (λ (x : ℕ). x ∷ l) (sym (c .0)) in
+      let e : E ≡ eventAt w (first w fel) ∷ map (eventAt w) l = sym (sh .future) ∙ ap (map (eventAt w)) was′ in
+      let sh′ : Shown w L T (eventAt w (first w fel) ∷ map (eventAt w) l) = subst (λ (x : List Event). Shown w L T x) e sh in
+      subst (λ (x : List Event). Result (suc n) w T x s) (sym e)
+      (split n w L T (map (eventAt w) l) s hk sh′
+      (arrive-steady w L T (eventAt w (first w fel) ∷ map (eventAt w) l) sh′ l was′ hk (suc s))
+      (arrive-run n l (arriveFirst w (suc s)) (arrived-rows w L T (eventAt w (first w fel) ∷ map (eventAt w) l) sh′ l was′ hk (suc s)) (update rel (R₁ n w L T (map (eventAt w) l) s hk) T) (map (eventAt w) l) (arrive-shown w L T (eventAt w (first w fel) ∷ map (eventAt w) l) sh′ l was′ hk (suc s)) (arrived-fel w L T (eventAt w (first w fel) ∷ map (eventAt w) l) sh′ l was′ hk (suc s)) (omega arith) (suc s)))
+
+-- ---- A clock move
+
+module _ (w : List ℕ) (L : ℕ → List ℕ) (T : ℕ → List Transaction) (E : List Event) (sh : Shown w L T E) where
+  fel-sorted : Sorted earlier E
+  unfolding before
+  fel-sorted = rw (sh .future) at (sh .holds .sorted fel (omega arith))
+
+  -- to the first time of the FEL
+  pub arrive-shows : (e : Event) (l : List Event) → E ≡ e ∷ l → (s : ℕ) → Arrives w (arrive 1024 (e .time) w s) (update rel (arrivals (those (due (e .time)) E) s (T rel)) T) (others (due (e .time)) E) (s + length (those (due (e .time)) E))
+  arrive-shows e l q s =
+      let sorted : Sorted earlier (e ∷ l) = rw q at fel-sorted in
+      let r : run (e .time) E ≡ those (due (e .time)) E = ap (run (e .time)) q ∙ run-is e l sorted ∙ ap (those (due (e .time))) (sym q) in
+      let f : left (e .time) E ≡ others (due (e .time)) E = ap (left (e .time)) q ∙ left-is e l sorted ∙ ap (others (due (e .time))) (sym q) in
+      rw (r, f) at (arrive-run (e .time) 1024 (L fel) w L T E sh refl (short w fel (L fel) (sh .holds .listed fel (omega arith))) s)

@@ -1,0 +1,42 @@
+-- The data of rows: what keeps it keeps every row's transaction and event, and the order of the lists.
+use Prim.Native.Nat.{ℕ, _+_, _*_, _≤_, _<_}
+use mathlib.Core.Path.{_≡_, refl, sym, ap, _∙_, subst}
+use mathlib.Core.Logic.{_≢_}
+use mathlib.Core.Bool.{Bool, true, false, cond}
+use mathlib.Core.List.{List, [], _∷_, map}
+use native.Mathlib.Omega.{arith}
+use borrow.Author.Tests.{eqb-true, eqb-false}
+use lib.Dec.{eqb}
+use lib.ListN.{length}
+use Rattle.rows.specs.Layout.{head}
+use Rattle.rows.specs.Cells.{load, read}
+use Rattle.rows.specs.Holds.{transactionAt, eventAt, before, same, occurs, Sorted, Listed, Holds, update}
+use Rattle.rows.proofs.Occurs.{same-refl}
+use Rattle.rows.proofs.Chain.{chain-row}
+
+-- the data of all rows is the same
+abbrev pub SameData : List ℕ → List ℕ → Type 0
+SameData w w′ = (i : ℕ) → i < 12288 → load w′ i ≡ load w i
+
+-- the data of row k is the same
+abbrev pub SameRow : List ℕ → List ℕ → ℕ → Type 0
+SameRow w w′ k = (f : ℕ) → f < 12 → read w′ f k ≡ read w f k
+
+pub same-row : (w w′ : List ℕ) (k : ℕ) → k < 1024 → SameData w w′ → SameRow w w′ k
+same-row w w′ k h kept f g = kept (f * 1024 + k) (omega arith)
+
+pub transaction-kept : (w w′ : List ℕ) (k : ℕ) → SameRow w w′ k → transactionAt w′ k ≡ transactionAt w k
+unfolding transactionAt
+transaction-kept w w′ k kept =
+    rw (kept 0 (omega arith), kept 1 (omega arith), kept 2 (omega arith), kept 3 (omega arith), kept 4 (omega arith), kept 5 (omega arith), kept 6 (omega arith), kept 7 (omega arith))
+
+pub event-kept : (w w′ : List ℕ) (k : ℕ) → SameRow w w′ k → eventAt w′ k ≡ eventAt w k
+unfolding eventAt
+event-kept w w′ k kept = rw (transaction-kept w w′ k kept, kept 8 (omega arith))
+
+module _ {A : Type 0} (f g : ℕ → A) where
+  pub map-kept : (l : List ℕ) → ((j : ℕ) → 1 ≤ occurs j l → f j ≡ g j) → map f l ≡ map g l
+  unfolding occurs
+  map-kept [] h = refl
+  map-kept (k ∷ l) h =
+      rw (h k (omega (arith, same-refl k k refl)), map-kept l (λ j m. h j (omega arith)))

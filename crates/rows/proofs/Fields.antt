@@ -1,0 +1,79 @@
+-- What a write to a field of a row makes of its transaction: the machine's setters.
+use Prim.Native.Nat.{ℕ, zero, suc, _+_, _*_, _/_, _%_, _≤_, _<_}
+use mathlib.Core.Path.{_≡_, refl, sym, ap, _∙_, subst}
+use mathlib.Core.Bool.{Bool, true, false}
+use mathlib.Core.List.{List, [], _∷_}
+use native.Mathlib.Omega.{arith}
+use lib.Dec.{eqb}
+use lib.IntN.{ℤ}
+use lib.ListN.{length, set}
+use mir.Syntax.{w32}
+use mir.Val.{toZ}
+use Rattle.machine.specs.Transaction.{Transaction, Event}
+use Rattle.machine.specs.Setters.{withPriority, withParameters, withNext, withSerial, withReturning}
+use Rattle.rows.specs.Layout.{fieldAt}
+use Rattle.rows.specs.Cells.{load, read, write, setReturning}
+use Rattle.rows.specs.Holds.{transactionAt, eventAt}
+use Rattle.rows.proofs.Store.{load-same, load-other}
+
+abbrev pub withNumber : ℕ → Transaction → Transaction
+withNumber x t =
+    record { number = x; priority = t .priority; parameters = t .parameters; next = t .next; serial = t .serial; returning = t .returning }
+
+module _ (w : List ℕ) (k : ℕ) (room : 16384 ≤ length w) (hk : k < 1024) where
+  -- another field
+  apart : (f x g : ℕ) → f < g → read (write w f k x) g k ≡ read w g k
+  apart f x g h = load-other w (fieldAt f k) x (fieldAt g k) (λ e. omega arith)
+
+  apart′ : (f x g : ℕ) → g < f → read (write w f k x) g k ≡ read w g k
+  apart′ f x g h = load-other w (fieldAt f k) x (fieldAt g k) (λ e. omega arith)
+
+  own : (f x : ℕ) → f < 12 → read (write w f k x) f k ≡ x
+  own f x h = load-same w (fieldAt f k) x room (omega arith)
+
+  pub write-number : (x : ℕ) → transactionAt (write w 0 k x) k ≡ withNumber x (transactionAt w k)
+  unfolding transactionAt
+  write-number x =
+      rw (own 0 x (omega arith), apart 0 x 1 (omega arith), apart 0 x 2 (omega arith), apart 0 x 3 (omega arith), apart 0 x 4 (omega arith), apart 0 x 5 (omega arith), apart 0 x 6 (omega arith), apart 0 x 7 (omega arith))
+
+  pub write-next : (x : ℕ) → transactionAt (write w 6 k x) k ≡ withNext x (transactionAt w k)
+  unfolding transactionAt
+  write-next x =
+      rw (apart′ 6 x 0 (omega arith), apart′ 6 x 1 (omega arith), apart′ 6 x 2 (omega arith), apart′ 6 x 3 (omega arith), apart′ 6 x 4 (omega arith), apart′ 6 x 5 (omega arith), own 6 x (omega arith), apart 6 x 7 (omega arith))
+
+  pub write-serial : (x : ℕ) → transactionAt (write w 7 k x) k ≡ withSerial x (transactionAt w k)
+  unfolding transactionAt
+  write-serial x =
+      rw (apart′ 7 x 0 (omega arith), apart′ 7 x 1 (omega arith), apart′ 7 x 2 (omega arith), apart′ 7 x 3 (omega arith), apart′ 7 x 4 (omega arith), apart′ 7 x 5 (omega arith), apart′ 7 x 6 (omega arith), own 7 x (omega arith))
+
+  -- priority and mark are one field
+  pub write-standing : (p m : ℕ) → m < 2 → transactionAt (write w 1 k (p * 2 + m)) k ≡ withReturning (eqb m 1) (withPriority p (transactionAt w k))
+  unfolding transactionAt
+  write-standing p m h =
+      let x : ℕ = p * 2 + m in
+      let half : (p * 2 + m) / 2 ≡ p = omega arith in
+      let rest : (p * 2 + m) % 2 ≡ m = omega arith in
+      rw (apart′ 1 x 0 (omega arith), own 1 x (omega arith), apart 1 x 2 (omega arith), apart 1 x 3 (omega arith), apart 1 x 4 (omega arith), apart 1 x 5 (omega arith), apart 1 x 6 (omega arith), apart 1 x 7 (omega arith), half, rest)
+
+  pub set-returning : (m : ℕ) → m < 2 → transactionAt (setReturning w k m) k ≡ withReturning (eqb m 1) (transactionAt w k)
+  unfolding transactionAt
+  set-returning m h = write-standing (read w 1 k / 2) m h
+
+  -- parameter i + 1, from its bits
+  pub write-parameter : (i x : ℕ) → i < 4 → transactionAt (write w (2 + i) k x) k ≡ withParameters (set (transactionAt w k .parameters) i (toZ w32 x)) (transactionAt w k)
+  unfolding transactionAt
+  write-parameter zero x h =
+      rw (apart′ 2 x 0 (omega arith), apart′ 2 x 1 (omega arith), own 2 x (omega arith), apart 2 x 3 (omega arith), apart 2 x 4 (omega arith), apart 2 x 5 (omega arith), apart 2 x 6 (omega arith), apart 2 x 7 (omega arith))
+  write-parameter (suc zero) x h =
+      rw (apart′ 3 x 0 (omega arith), apart′ 3 x 1 (omega arith), apart′ 3 x 2 (omega arith), own 3 x (omega arith), apart 3 x 4 (omega arith), apart 3 x 5 (omega arith), apart 3 x 6 (omega arith), apart 3 x 7 (omega arith))
+  write-parameter (suc (suc zero)) x h =
+      rw (apart′ 4 x 0 (omega arith), apart′ 4 x 1 (omega arith), apart′ 4 x 2 (omega arith), apart′ 4 x 3 (omega arith), own 4 x (omega arith), apart 4 x 5 (omega arith), apart 4 x 6 (omega arith), apart 4 x 7 (omega arith))
+  write-parameter (suc (suc (suc zero))) x h =
+      rw (apart′ 5 x 0 (omega arith), apart′ 5 x 1 (omega arith), apart′ 5 x 2 (omega arith), apart′ 5 x 3 (omega arith), apart′ 5 x 4 (omega arith), own 5 x (omega arith), apart 5 x 6 (omega arith), apart 5 x 7 (omega arith))
+  write-parameter (suc (suc (suc (suc i)))) x h = absurd (omega arith)
+
+  -- the time of a move
+  pub write-time : (x : ℕ) → eventAt (write w 8 k x) k ≡ record { time = x; who = transactionAt w k }
+  unfolding eventAt transactionAt
+  write-time x =
+      rw (apart′ 8 x 0 (omega arith), apart′ 8 x 1 (omega arith), apart′ 8 x 2 (omega arith), apart′ 8 x 3 (omega arith), apart′ 8 x 4 (omega arith), apart′ 8 x 5 (omega arith), apart′ 8 x 6 (omega arith), apart′ 8 x 7 (omega arith), own 8 x (omega arith))

@@ -1,0 +1,152 @@
+-- The laws that the crates above cite: what each function of this crate does to the machine's lists. `Shows w T E` says that
+-- the buffer w has the lists T and the FEL E; `Loose w k` that row k is on no list, as the moving one.
+use Prim.Native.Nat.{ℕ, suc, _+_, _≤_, _<_}
+use mathlib.Core.Path.{_≡_, refl, sym, ap, _∙_, subst}
+use mathlib.Core.Bool.{Bool}
+use mathlib.Core.List.{List, [], _∷_, map}
+use native.Mathlib.Omega.{arith}
+use lib.ListN.{length, take, drop}
+use Rattle.machine.specs.Transaction.{Transaction, Event, precedes, earlier}
+use Rattle.machine.specs.Lists.{insert, those, others}
+use Rattle.machine.specs.Moves.{wake}
+use Rattle.machine.specs.Turn.{due}
+use Rattle.rows.specs.Layout.{place, head, rel, fel, free, nowhere}
+use Rattle.rows.specs.Cells.{load}
+use Rattle.rows.specs.Lists.{put, first, takeFirst}
+use Rattle.rows.specs.Wake.{wakeFirst, wakeAll}
+use Rattle.rows.specs.Clock.{arrive, arrivals}
+use Rattle.rows.specs.Make.{freeRow, newbornAt, copyAt}
+use Rattle.rows.specs.Living.{loose, onLists}
+use Rattle.rows.specs.Holds.{transactionAt, eventAt, occurs, ending, Listed, Holds, update}
+use Rattle.rows.specs.Shows.{Shown, Shows, Loose, moved}
+use Rattle.rows.proofs.Occurs.{same-refl, occurs-cons}
+use Rattle.rows.proofs.Structure.{row-of}
+use Rattle.rows.proofs.Spot.{short}
+use Rattle.rows.proofs.Data.{SameRow, same-row}
+use Rattle.rows.proofs.Holding.{Kept}
+use Rattle.rows.proofs.Loose.{loose-more, loose-less}
+use Rattle.rows.proofs.Steady.{Around, Steady, kept-around}
+use Rattle.rows.proofs.Put.{put-keeps, put-placed, put-shown, put-fel-shown}
+use Rattle.rows.proofs.Take.{Head, head-shown, head-fel-shown, rows-first, take-keeps, take-loose, take-shown, take-fel-shown, take-free-shown}
+use Rattle.rows.proofs.Making.{free-keeps, free-placed, free-shown}
+use Rattle.rows.proofs.WakingAll
+use Rattle.rows.proofs.Arriving
+use Rattle.rows.proofs.Population
+
+-- what putting row k leaves: the other rows, and one fewer on no list
+pub record Puts (w w′ : List ℕ) (k : ℕ) (T : ℕ → List Transaction) (E : List Event) : Type 0 where
+  pub shows : Shows w′ T E
+  pub around : Around w w′ k
+  pub same : SameRow w w′ k
+  pub count : suc (loose w′) ≡ loose w
+
+-- what taking row k leaves: the other rows, its data, and one more on no list
+pub record Takes (w w′ : List ℕ) (k : ℕ) (T : ℕ → List Transaction) (E : List Event) : Type 0 where
+  pub shows : Shows w′ T E
+  pub around : Around w w′ k
+  pub same : SameRow w w′ k
+  pub off : Loose w′ k
+  pub count : loose w′ ≡ suc (loose w)
+
+module _ (w : List ℕ) (T : ℕ → List Transaction) (E : List Event) (s : Shows w T E) where
+  abbrev L : ℕ → List ℕ
+  L = s .rows
+
+  abbrev h : Holds w L
+  h = s .shown .holds
+
+  -- ---- The first of a list
+
+  pub head-shows : (p : ℕ) → p < 450 → Head w p (transactionAt w) (T p)
+  head-shows = head-shown w L T E (s .shown)
+
+  pub head-fel-shows : Head w fel (eventAt w) E
+  head-fel-shows = head-fel-shown w L T E (s .shown)
+
+  -- ---- Putting
+
+  module _ (k : ℕ) (off : Loose w k) where
+    puts : (w′ : List ℕ) (p : ℕ) (U : ℕ → List Transaction) (F : List Event) → p < 512 → Kept w w′ k → load w′ (place k) ≡ p → Shows w′ U F → Puts w w′ k U F
+    puts w′ p U F hp kept at shows =
+        record {
+          shows = shows;
+          around = kept-around w w′ k kept;
+          same = same-row w w′ k (off .row) (kept .rows);
+          count = loose-less w w′ k (off .row) (kept .places) (off .off) (omega arith);
+        }
+
+    pub put-shows : (p : ℕ) → p < 450 → Puts w (put w p k) k (update p (insert precedes (transactionAt w k) (T p)) T) E
+    put-shows p hp =
+        puts (put w p k) p (update p (insert precedes (transactionAt w k) (T p)) T) E (omega arith) (put-keeps w L h p k (omega arith) off) (put-placed w L h p k (omega arith) off)
+        (record { rows = _; shown = put-shown w L T E (s .shown) k off p hp })
+
+    pub put-fel-shows : Puts w (put w fel k) k T (insert earlier (eventAt w k) E)
+    put-fel-shows =
+        puts (put w fel k) fel T (insert earlier (eventAt w k) E) (omega arith) (put-keeps w L h fel k (omega arith) off) (put-placed w L h fel k (omega arith) off)
+        (record { rows = _; shown = put-fel-shown w L T E (s .shown) k off })
+
+    -- the row of one that ended
+    pub free-shows : Puts w (freeRow w k) k T E
+    free-shows =
+        puts (freeRow w k) free T E (omega arith) (free-keeps w L T E (s .shown) k off) (free-placed w L T E (s .shown) k off)
+        (record { rows = _; shown = free-shown w L T E (s .shown) k off })
+
+  -- ---- Taking the first
+
+  takes : (p : ℕ) (U : ℕ → List Transaction) (F : List Event) → (hp : p < 512) (n : first w p < 1024) → Shows (takeFirst w p) U F → Takes w (takeFirst w p) (first w p) U F
+  takes p U F hp n shows =
+      let r : (m : List ℕ) × (L p ≡ first w p ∷ m) = rows-first w L T E (s .shown) p hp n in
+      let kept : Kept w (takeFirst w p) (first w p) = take-keeps w L h p hp (r .0) (r .1) n in
+      let off : Loose (takeFirst w p) (first w p) = take-loose w L h p hp (r .0) (r .1) n in
+      let one : Listed w p (first w p ∷ r .0) = rw (r .1) at (h .listed p hp) in
+      let was : load w (place (first w p)) ≡ p = row-of w p [] (first w p ∷ r .0) one (first w p) (omega (arith, occurs-cons (first w p) (first w p) (r .0), same-refl (first w p) (first w p) refl)) .1 in
+      record {
+        shows = shows;
+        around = kept-around w (takeFirst w p) (first w p) kept;
+        same = same-row w (takeFirst w p) (first w p) n (kept .rows);
+        off = off;
+        count = loose-more w (takeFirst w p) (first w p) n (kept .places) (omega arith) (off .off);
+      }
+
+  pub take-shows : (p : ℕ) → p < 450 → first w p < 1024 → Takes w (takeFirst w p) (first w p) (update p (drop 1 (T p)) T) E
+  take-shows p hp n =
+      let hl : p < 512 = omega arith in
+      let r : (m : List ℕ) × (L p ≡ first w p ∷ m) = rows-first w L T E (s .shown) p hl n in
+      takes p (update p (drop 1 (T p)) T) E hl n (record { rows = _; shown = take-shown w L T E (s .shown) p hl (r .0) (r .1) n hp })
+
+  pub take-fel-shows : first w fel < 1024 → Takes w (takeFirst w fel) (first w fel) T (drop 1 E)
+  take-fel-shows n =
+      let hl : fel < 512 = omega arith in
+      let r : (m : List ℕ) × (L fel ≡ first w fel ∷ m) = rows-first w L T E (s .shown) fel hl n in
+      takes fel T (drop 1 E) hl n (record { rows = _; shown = take-fel-shown w L T E (s .shown) fel hl (r .0) (r .1) n refl })
+
+  -- a row for one that is made
+  pub make-shows : first w free < 1024 → Takes w (takeFirst w free) (first w free) T E
+  make-shows n =
+      let hl : free < 512 = omega arith in
+      let r : (m : List ℕ) × (L free ≡ first w free ∷ m) = rows-first w L T E (s .shown) free hl n in
+      takes free T E hl n (record { rows = _; shown = take-free-shown w L T E (s .shown) free hl (r .0) (r .1) n refl })
+
+  -- there is one exactly if fewer than 1,024 live
+  pub free-if : onLists T E + loose w < 1024 → first w free < 1024
+  free-if = Population.free-if w L T E (s .shown)
+
+  pub free-only-if : first w free < 1024 → onLists T E + loose w < 1024
+  free-only-if = Population.free-only-if w L T E (s .shown)
+
+  -- ---- Waking
+
+  pub wake-first-shows : (p : ℕ) → p < 449 → WakingAll.Wakes w (wakeFirst w p) (moved p (drop 1 (T p)) (wake (take 1 (T p)) (T rel)) T) E
+  wake-first-shows = WakingAll.wake-first-shows w L T E (s .shown)
+
+  pub wake-all-shows : (test : List ℕ → ℕ → Bool) (P : Transaction → Bool) → ((v : List ℕ) (k : ℕ) → test v k ≡ P (transactionAt v k)) → (p : ℕ) → p < 449 → WakingAll.Wakes w (wakeAll test 1024 w p (head p)) (moved p (others P (T p)) (wake (those P (T p)) (T rel)) T) E
+  unfolding ending
+  wake-all-shows test P agree p hp =
+      subst (λ (l : List Transaction). WakingAll.Wakes w (wakeAll test 1024 w p (head p)) (moved p (others P l) (wake (those P l) (T rel)) T) E)
+      (s .shown .lists p (omega arith))
+      (WakingAll.wakeAll-shows test P agree E p hp 1024 (L p) w L T (s .shown) [] refl (short w p (L p) (h .listed p (omega arith))))
+
+  -- ---- A clock move
+
+  pub arrive-shows : (e : Event) (l : List Event) → E ≡ e ∷ l → (serial : ℕ) → Arriving.Arrives w (arrive 1024 (e .time) w serial) (update rel (arrivals (those (due (e .time)) E) serial (T rel)) T) (others (due (e .time)) E) (serial + length (those (due (e .time)) E))
+  arrive-shows = Arriving.arrive-shows w L T E (s .shown)

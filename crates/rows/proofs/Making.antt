@@ -1,0 +1,110 @@
+-- Rows that come to life and end: a new row as the machine's `newborn`, a copy, and a row that is free again.
+use Prim.Native.Nat.{ℕ, zero, suc, _+_, _*_, _/_, _≤_, _<_}
+use mathlib.Core.Path.{_≡_, refl, sym, ap, _∙_, subst}
+use mathlib.Core.Logic.{_≢_}
+use mathlib.Core.Bool.{Bool, true, false}
+use mathlib.Core.List.{List, [], _∷_, _++_}
+use native.Mathlib.Omega.{arith}
+use lib.ListN.{length}
+use lib.IntN.{ℤ, pos}
+use mir.Syntax.{w32}
+use mir.Val.{toZ}
+use Rattle.machine.specs.Transaction.{Transaction, Event, newborn}
+use Rattle.machine.specs.Setters.{withPriority, withReturning}
+use Rattle.rows.specs.Layout.{place, head, free, nowhere, fieldAt}
+use Rattle.rows.specs.Cells.{load, read, write}
+use Rattle.rows.specs.Lists.{insertAt}
+use Rattle.rows.specs.Make.{clearParameters, copyParameters, describe, newbornAt, copyAt, freeRow}
+use Rattle.rows.specs.Living.{loose}
+use Rattle.rows.specs.Holds.{transactionAt, ending, Holds, update}
+use Rattle.rows.specs.Shows.{Shown, Loose}
+use Rattle.rows.proofs.Store.{length-store, load-other}
+use Rattle.rows.proofs.Data.{SameRow}
+use Rattle.rows.proofs.Holding.{Kept, insert-holds, insert-keeps, insert-placed}
+use Rattle.rows.proofs.Showing.{shown-free}
+use Rattle.rows.proofs.Write.{write-shown, write-loose}
+use Rattle.rows.proofs.Fields.{withNumber, write-number, write-standing, write-parameter, write-next, write-serial}
+use Rattle.rows.proofs.Loose.{loose-kept}
+use Rattle.rows.proofs.Steady.{Around, around-trans, write-around}
+
+-- ---- Data of one row written, any number of times
+
+pub record Written (w w′ : List ℕ) (k : ℕ) : Type 0 where
+  pub room : 16384 ≤ length w → 16384 ≤ length w′
+  pub loose : Loose w k → Loose w′ k
+  pub count : Rattle.rows.specs.Living.loose w′ ≡ Rattle.rows.specs.Living.loose w
+  pub around : Around w w′ k
+  pub shown : (L : ℕ → List ℕ) (T : ℕ → List Transaction) (E : List Event) → Loose w k → Shown w L T E → Shown w′ L T E
+
+pub written : (w : List ℕ) (f k x : ℕ) → f < 12 → k < 1024 → Written w (write w f k x) k
+written w f k x hf hk =
+    record {
+      room = λ r. rw (length-store w (fieldAt f k) x) r;
+      loose = write-loose w f k x hf k hk;
+      count = loose-kept w (write w f k x) (λ j hj. load-other w (fieldAt f k) x (place j) (λ e. omega arith));
+      around = write-around w f k x hf hk;
+      shown = λ L T E l s. write-shown w f k x hf l L T E s;
+    }
+
+pub written-trans : (w v u : List ℕ) (k : ℕ) → Written w v k → Written v u k → Written w u k
+written-trans w v u k a b =
+    record {
+      room = λ r. b .room (a .room r);
+      loose = λ l. b .loose (a .loose l);
+      count = b .count ∙ a .count;
+      around = around-trans w v u k (a .around) (b .around);
+      shown = λ L T E l s. b .shown L T E (a .loose l) (a .shown L T E l s);
+    }
+
+-- ---- A new row
+
+module _ (w : List ℕ) (k : ℕ) (hk : k < 1024) where
+  written₄ : (f g h i x y z u : ℕ) → f < 12 → g < 12 → h < 12 → i < 12 → Written w (write (write (write (write w f k x) g k y) h k z) i k u) k
+  written₄ f g h i x y z u hf hg hh hi =
+      written-trans w (write w f k x) _ k (written w f k x hf hk)
+      (written-trans (write w f k x) (write (write w f k x) g k y) _ k (written (write w f k x) g k y hg hk)
+      (written-trans (write (write w f k x) g k y) (write (write (write w f k x) g k y) h k z) _ k (written (write (write w f k x) g k y) h k z hh hk)
+      (written (write (write (write w f k x) g k y) h k z) i k u hi hk)))
+
+  pub clear-written : Written w (clearParameters w k) k
+  unfolding clearParameters
+  clear-written = written₄ 2 3 4 5 0 0 0 0 (omega arith) (omega arith) (omega arith) (omega arith)
+
+  pub copy-written : (j : ℕ) → Written w (copyParameters w j k) k
+  unfolding copyParameters
+  copy-written j =
+      written₄ 2 3 4 5 (read w 2 j) (read w 3 j) (read w 4 j) (read w 5 j) (omega arith) (omega arith) (omega arith) (omega arith)
+
+  pub describe-written : (number priority block : ℕ) → Written w (describe w k number priority block) k
+  unfolding describe
+  describe-written number priority block =
+      written₄ 0 1 6 7 number (priority * 2) block 0 (omega arith) (omega arith) (omega arith) (omega arith)
+
+pub newborn-written : (w : List ℕ) (k : ℕ) → k < 1024 → (number priority block : ℕ) → Written w (newbornAt w k number priority block) k
+unfolding newbornAt
+newborn-written w k hk number priority block =
+    written-trans w (describe w k number priority block) (newbornAt w k number priority block) k (describe-written w k hk number priority block) (clear-written (describe w k number priority block) k hk)
+
+pub copied-written : (w : List ℕ) (k : ℕ) → k < 1024 → (j number block : ℕ) → Written w (copyAt w j k number block) k
+unfolding copyAt
+copied-written w k hk j number block =
+    written-trans w (describe w k number (read w 1 j / 2) block) (copyAt w j k number block) k (describe-written w k hk number (read w 1 j / 2) block) (copy-written (describe w k number (read w 1 j / 2) block) k hk j)
+
+-- ---- A row that is free again
+
+module _ (w : List ℕ) (L : ℕ → List ℕ) (T : ℕ → List Transaction) (E : List Event) (s : Shown w L T E) (k : ℕ) (off : Loose w k) where
+  pub free-keeps : Kept w (freeRow w k) k
+  unfolding freeRow ending
+  free-keeps = insert-keeps w L (s .holds) free k [] (L free) (omega arith) (off .row) refl (off .off)
+
+  pub free-placed : load (freeRow w k) (place k) ≡ free
+  unfolding freeRow ending
+  free-placed = insert-placed w L (s .holds) free k [] (L free) (omega arith) (off .row) refl (off .off)
+
+  pub free-shown : Shown (freeRow w k) (update free (k ∷ L free) L) T E
+  unfolding freeRow ending
+  free-shown =
+      shown-free w (freeRow w k) L T E s free (k ∷ L free)
+      (insert-holds w L (s .holds) free k [] (L free) (omega arith) (off .row) refl (off .off) (λ h. absurd (omega arith)))
+      (free-keeps .rows)
+      refl

@@ -1,0 +1,172 @@
+-- Waking the first of a list, and all of a list that pass a test: the machine's `wake` of `take 1` and of `those`.
+use Prim.Native.Nat.{ℕ, zero, suc, _+_, _≤_, _<_}
+use mathlib.Core.Path.{_≡_, refl, sym, ap, _∙_, subst}
+use mathlib.Core.Logic.{_≢_}
+use mathlib.Core.Bool.{Bool, true, false, cond, not}
+use mathlib.Core.List.{List, [], _∷_, _++_, map, map-append, append-assoc, append-nil}
+use native.Mathlib.Omega.{arith}
+use borrow.Author.Tests.{lt-ltb, le-ltb, eqb-true, eqb-false}
+use lib.Dec.{eqb}
+use lib.ListN.{length, take, drop}
+use Rattle.machine.specs.Transaction.{Transaction, Event, precedes}
+use Rattle.machine.specs.Setters.{withReturning}
+use Rattle.machine.specs.Lists.{insert, those, others}
+use Rattle.machine.specs.Moves.{wake}
+use Rattle.rows.specs.Layout.{link, head, rel}
+use Rattle.rows.specs.Cells.{load}
+use Rattle.rows.specs.Lists.{first}
+use Rattle.rows.specs.Wake.{wakeAt, wakeFirst, after, passRows, passCell, wakeAll}
+use Rattle.rows.specs.Holds.{transactionAt, occurs, Chain, ending, Listed}
+use Rattle.rows.specs.Shows.{Shown, Shows, moved}
+use Rattle.rows.proofs.Occurs.{occurs-append}
+use Rattle.rows.proofs.Chain.{chain-after, ending-append}
+use Rattle.rows.proofs.Steps.{wakeAll-stop, wakeAll-next}
+use Rattle.rows.proofs.Showing.{shown-ext}
+use Rattle.rows.proofs.Take.{First, none, some, first-of}
+use Rattle.rows.proofs.Steady.{Steady, steady-refl, steady-trans}
+use Rattle.rows.proofs.Waking.{woken, wake-rows, wake-shown, wake-steady, wake-same}
+
+-- ---- Lists with two replaced
+
+module _ (p : ℕ) (T : ℕ → List Transaction) where
+  -- replaced by themselves
+  pub moved-none : (l r : List Transaction) → l ≡ T p → r ≡ T rel → (q : ℕ) → T q ≡ moved p l r T q
+  moved-none l r e f q = go (eqb q rel) refl (eqb q p) refl
+    where
+      go : (t : Bool) → eqb q rel ≡ t → (u : Bool) → eqb q p ≡ u → T q ≡ cond t r (cond u l (T q))
+      go true g u h = ap T (eqb-true q rel g) ∙ sym f
+      go false g true h = ap T (eqb-true q p h) ∙ sym e
+      go false g false h = refl
+
+  pub moved-twice : (l r l′ r′ : List Transaction) (q : ℕ) → moved p l′ r′ (moved p l r T) q ≡ moved p l′ r′ T q
+  moved-twice l r l′ r′ q = go (eqb q rel) (eqb q p)
+    where
+      go : (t u : Bool) → cond t r′ (cond u l′ (cond t r (cond u l (T q)))) ≡ cond t r′ (cond u l′ (T q))
+      go true u = refl
+      go false true = refl
+      go false false = refl
+
+shows-ext : (w : List ℕ) (T U : ℕ → List Transaction) (E : List Event) → ((q : ℕ) → T q ≡ U q) → Shows w T E → Shows w U E
+shows-ext w T U E e s =
+    record { rows = s .rows; shown = shown-ext w (s .rows) T U E (λ q h. e q) (s .shown) }
+
+-- what waking leaves
+pub record Wakes (w w′ : List ℕ) (T : ℕ → List Transaction) (E : List Event) : Type 0 where
+  pub shows : Shows w′ T E
+  pub steady : Steady w w′
+
+-- ---- The first
+
+module _ (w : List ℕ) (L : ℕ → List ℕ) (T : ℕ → List Transaction) (E : List Event) (s : Shown w L T E) (p : ℕ) (hp : p < 449) where
+  no-first : 1024 ≤ first w p → wakeFirst w p ≡ w
+  unfolding wakeAt
+  no-first h = rw (le-ltb (first w p) 1024 h)
+
+  pub wake-first-shows : Wakes w (wakeFirst w p) (moved p (drop 1 (T p)) (wake (take 1 (T p)) (T rel)) T) E
+  unfolding ending wake
+  wake-first-shows = go (first-of w p (L p) (s .holds .listed p (omega arith)))
+    where
+      tx : List ℕ → List Transaction
+      tx l = map (transactionAt w) l
+
+      go : First w p (L p) → Wakes w (wakeFirst w p) (moved p (drop 1 (T p)) (wake (take 1 (T p)) (T rel)) T) E
+      go (none e h) =
+          let t : T p ≡ [] = sym (s .lists p (omega arith)) ∙ ap tx e in
+          rw (no-first h)
+          (record {
+            shows = record { rows = L; shown = shown-ext w L T (moved p (drop 1 (T p)) (wake (take 1 (T p)) (T rel)) T) E (λ q hq. moved-none p T (drop 1 (T p)) (wake (take 1 (T p)) (T rel)) (ap (drop 1) t ∙ sym t) (ap (λ (l : List Transaction). wake (take 1 l) (T rel)) t) q) s };
+            steady = steady-refl w;
+          })
+      go (some m e h) =
+          let t : tx (first w p ∷ m) ≡ T p = sym (ap tx e) ∙ s .lists p (omega arith) in
+          record {
+            shows =
+                record {
+                  rows = woken w L T E s p hp (first w p) [] m e;
+                  shown =
+                      subst (λ (l : List Transaction). Shown (wakeFirst w p) (woken w L T E s p hp (first w p) [] m e) (moved p (drop 1 l) (wake (take 1 l) (T rel)) T) E) t (wake-shown w L T E s p hp (first w p) [] m e);
+                };
+            steady = wake-steady w L T E s p hp (first w p) [] m e;
+          }
+
+-- ---- All that pass a test
+
+module _ (test : List ℕ → ℕ → Bool) (P : Transaction → Bool) (agree : (w : List ℕ) (k : ℕ) → test w k ≡ P (transactionAt w k)) (E : List Event) (p : ℕ) (hp : p < 449) where
+  abbrev Result : List ℕ → List ℕ → List ℕ → List ℕ → (ℕ → List Transaction) → Type 0
+  Result w w′ a b T =
+      Wakes w w′ (moved p (map (transactionAt w) a ++ others P (map (transactionAt w) b)) (wake (those P (map (transactionAt w) b)) (T rel)) T) E
+
+  passed : (n : ℕ) (w : List ℕ) (c k : ℕ) → load w c ≡ k → k < 1024 → wakeAll test (suc n) w p c ≡ wakeAll test n (cond (P (transactionAt w k)) (wakeAt w p c) w) p (cond (P (transactionAt w k)) c (link k))
+  unfolding passRows passCell after
+  passed n w c k e h =
+      wakeAll-next test w p c (suc n) n refl (omega arith) ∙ rw (e, agree w k, lt-ltb k 1024 h)
+
+  -- nobody is left
+  all-done : (n : ℕ) (w : List ℕ) (L : ℕ → List ℕ) (T : ℕ → List Transaction) (s : Shown w L T E) (a : List ℕ) → L p ≡ a ++ [] → Result w (wakeAll test n w p (ending (head p) a)) a [] T
+  unfolding Chain wake those
+  all-done n w L T s a was =
+      let one : Listed w p (a ++ []) = rw was at (s .holds .listed p (omega arith)) in
+      let same : map (transactionAt w) a ++ [] ≡ T p = sym (map-append (transactionAt w) a []) ∙ ap (map (transactionAt w)) (sym was) ∙ s .lists p (omega arith) in
+      rw (wakeAll-stop test w p (ending (head p) a) n (chain-after w (head p) a [] (one .chain)))
+      (record {
+        shows = record { rows = L; shown = shown-ext w L T (moved p (map (transactionAt w) a ++ []) (T rel) T) E (λ q hq. moved-none p T (map (transactionAt w) a ++ []) (T rel) same refl q) s };
+        steady = steady-refl w;
+      })
+
+  module _ (n : ℕ) (w : List ℕ) (L : ℕ → List ℕ) (T : ℕ → List Transaction) (s : Shown w L T E) (a : List ℕ) (k : ℕ) (b : List ℕ) (was : L p ≡ a ++ k ∷ b) where
+    abbrev cell : ℕ
+    cell = ending (head p) a
+
+    abbrev tx : List ℕ → List Transaction
+    tx l = map (transactionAt w) l
+
+    abbrev T₁ : ℕ → List Transaction
+    T₁ = moved p (tx (a ++ b)) (insert precedes (withReturning true (transactionAt w k)) (T rel)) T
+
+    abbrev Goal : Bool → Type 0
+    Goal t =
+        Wakes w (wakeAll test n (cond t (wakeAt w p cell) w) p (cond t cell (link k)))
+        (moved p (tx a ++ cond (not t) (transactionAt w k ∷ others P (tx b)) (others P (tx b))) (wake (cond t (transactionAt w k ∷ those P (tx b)) (those P (tx b))) (T rel)) T) E
+
+    -- the row goes to REL
+    goes : Result (wakeAt w p cell) (wakeAll test n (wakeAt w p cell) p cell) a b T₁ → Goal true
+    unfolding wake
+    goes rest =
+        record {
+          shows =
+              shows-ext (wakeAll test n (wakeAt w p cell) p cell)
+              (moved p (tx a ++ others P (tx b)) (wake (those P (tx b)) (T₁ rel)) T₁)
+              (moved p (tx a ++ others P (tx b)) (wake (those P (tx b)) (T₁ rel)) T)
+              E
+              (moved-twice p T (tx (a ++ b)) (insert precedes (withReturning true (transactionAt w k)) (T rel)) (tx a ++ others P (tx b)) (wake (those P (tx b)) (T₁ rel)))
+              (rw (wake-same w L T E s p hp k a b was a (λ j m. omega (arith, occurs-append j a b)), wake-same w L T E s p hp k a b was b (λ j m. omega (arith, occurs-append j a b))) at (rest .shows));
+          steady = steady-trans w (wakeAt w p cell) (wakeAll test n (wakeAt w p cell) p cell) (wake-steady w L T E s p hp k a b was) (rest .steady);
+        }
+
+    -- the row stays
+    stays : Result w (wakeAll test n w p (link k)) (a ++ k ∷ []) b T → Goal false
+    stays rest =
+        record {
+          shows = rw (map-append (transactionAt w) a (k ∷ []), append-assoc (tx a) (transactionAt w k ∷ []) (others P (tx b))) at (rest .shows);
+          steady = rest .steady;
+        }
+
+    one-more : Result (wakeAt w p cell) (wakeAll test n (wakeAt w p cell) p cell) a b T₁ → Result w (wakeAll test n w p (link k)) (a ++ k ∷ []) b T → Result w (wakeAll test (suc n) w p cell) a (k ∷ b) T
+    unfolding Chain those
+    one-more yes-rest no-rest =
+        let one : Listed w p (a ++ k ∷ b) = rw was at (s .holds .listed p (omega arith)) in
+        let c : Chain w cell (k ∷ b) = chain-after w (head p) a (k ∷ b) (one .chain) in
+        rw (passed n w cell k (c .0) (c .1)) (go (P (transactionAt w k)))
+      where
+        go : (t : Bool) → Goal t
+        go true = goes yes-rest
+        go false = stays no-rest
+
+  pub wakeAll-shows : (n : ℕ) (b : List ℕ) (w : List ℕ) (L : ℕ → List ℕ) (T : ℕ → List Transaction) (s : Shown w L T E) (a : List ℕ) → L p ≡ a ++ b → length b ≤ n → Result w (wakeAll test n w p (ending (head p) a)) a b T
+  unfolding ending
+  wakeAll-shows n [] w L T s a was len = all-done n w L T s a was
+  wakeAll-shows zero (k ∷ b) w L T s a was len = absurd (omega arith)
+  wakeAll-shows (suc n) (k ∷ b) w L T s a was len =
+      one-more n w L T s a k b was
+      (wakeAll-shows n b (wakeAt w p (ending (head p) a)) (woken w L T E s p hp k a b was) (T₁ n w L T s a k b was) (wake-shown w L T E s p hp k a b was) a (wake-rows w L T E s p hp k a b was) (omega arith))
+      (rw (ending-append (head p) a (k ∷ [])) at (wakeAll-shows n b w L T s (a ++ k ∷ []) (was ∙ sym (append-assoc a (k ∷ []) b)) (omega arith)))

@@ -1,0 +1,75 @@
+-- Writing the data of a row that is on no list: every list stays.
+use Prim.Native.Nat.{ℕ, _+_, _*_, _/_, _%_, _≤_, _<_}
+use mathlib.Core.Path.{_≡_, refl, sym, ap, _∙_, subst}
+use mathlib.Core.Logic.{_≢_}
+use mathlib.Core.Bool.{Bool, true, false}
+use mathlib.Core.List.{List, [], _∷_, map}
+use native.Mathlib.Omega.{arith}
+use lib.Dec.{eqb}
+use lib.ListN.{length}
+use Rattle.machine.specs.Transaction.{Transaction, Event}
+use Rattle.rows.specs.Layout.{place, link, head, tail, fel, fieldAt}
+use Rattle.rows.specs.Cells.{load, store, read, write}
+use Rattle.rows.specs.Holds.{transactionAt, eventAt, before, same, occurs, Chain, Sorted, Listed, Holds}
+use Rattle.rows.specs.Shows.{Shown, Loose}
+use Rattle.rows.proofs.Store.{length-store, load-same, load-other}
+use Rattle.rows.proofs.Occurs.{same-other}
+use Rattle.rows.proofs.Chain.{chain-moved, chain-row}
+use Rattle.rows.proofs.Data.{SameRow, transaction-kept, event-kept, map-kept}
+
+pub read-same : (w : List ℕ) (f k x : ℕ) → 16384 ≤ length w → f < 12 → k < 1024 → read (write w f k x) f k ≡ x
+read-same w f k x room hf hk = load-same w (fieldAt f k) x room (omega arith)
+
+-- another row's fields
+pub row-other : (w : List ℕ) (f k x j : ℕ) → k < 1024 → j < 1024 → j ≢ k → SameRow w (write w f k x) j
+row-other w f k x j hk hj d g hg = load-other w (fieldAt f k) x (fieldAt g j) (λ e. d (omega arith))
+
+module _ (w : List ℕ) (f k x : ℕ) (hf : f < 12) where
+  write-high : (i : ℕ) → k < 1024 → 12288 ≤ i → load (write w f k x) i ≡ load w i
+  write-high i hk h = load-other w (fieldAt f k) x i (λ e. omega arith)
+
+  pub write-loose : (j : ℕ) → k < 1024 → Loose w j → Loose (write w f k x) j
+  write-loose j hk l = record { row = l .row; off = write-high (place j) hk (omega arith) ∙ l .off }
+
+  module _ (free : Loose w k) where
+    -- the rows of a list are others
+    others-only : (q : ℕ) (l : List ℕ) → q < 512 → Listed w q l → (j : ℕ) → 1 ≤ occurs j l → (j < 1024) × (j ≢ k)
+    others-only q l hq one j m =
+        let r : j < 1024 = chain-row w (head q) l j (one .chain) m in (
+          r,
+          λ e.
+              omega (arith, one .once j r, same-other (load w (place j)) q (λ g. omega (arith, free .off, ap (λ (y : ℕ). load w (place y)) e))),
+        )
+
+    write-listed : (q : ℕ) (l : List ℕ) → Listed w q l → Listed (write w f k x) q l
+    write-listed q l one =
+        record {
+          chain = chain-moved w (write w f k x) (head q) (head q) l (write-high (head q) (free .row) (omega arith)) (λ j m. write-high (link j) (free .row) (omega arith)) (one .chain);
+          last = write-high (tail q) (free .row) (omega arith) ∙ one .last;
+          once = λ j hj. one .once j hj ∙ ap (λ (y : ℕ). same y q) (sym (write-high (place j) (free .row) (omega arith)));
+        }
+
+    events-stay : (q : ℕ) (l : List ℕ) → q < 512 → Listed w q l → map (eventAt (write w f k x)) l ≡ map (eventAt w) l
+    events-stay q l hq one =
+        map-kept (eventAt (write w f k x)) (eventAt w) l (λ j m. let r : (j < 1024) × (j ≢ k) = others-only q l hq one j m in event-kept w (write w f k x) j (row-other w f k x j (free .row) (r .0) (r .1)))
+
+    transactions-stay : (q : ℕ) (l : List ℕ) → q < 512 → Listed w q l → map (transactionAt (write w f k x)) l ≡ map (transactionAt w) l
+    transactions-stay q l hq one =
+        map-kept (transactionAt (write w f k x)) (transactionAt w) l (λ j m. let r : (j < 1024) × (j ≢ k) = others-only q l hq one j m in transaction-kept w (write w f k x) j (row-other w f k x j (free .row) (r .0) (r .1)))
+
+    pub write-holds : (L : ℕ → List ℕ) → Holds w L → Holds (write w f k x) L
+    write-holds L h =
+        record {
+          room = rw (length-store w (fieldAt f k) x) (h .room);
+          listed = λ q hq. write-listed q (L q) (h .listed q hq);
+          sorted = λ q hq. rw (events-stay q (L q) (omega arith) (h .listed q (omega arith))) (h .sorted q hq);
+        }
+
+    pub write-shown : (L : ℕ → List ℕ) (T : ℕ → List Transaction) (E : List Event) → Shown w L T E → Shown (write w f k x) L T E
+    write-shown L T E s =
+        record {
+          holds = write-holds L (s .holds);
+          lists = λ q hq. transactions-stay q (L q) (omega arith) (s .holds .listed q (omega arith)) ∙ s .lists q hq;
+          future = events-stay fel (L fel) (omega arith) (s .holds .listed fel (omega arith)) ∙ s .future;
+          spare = s .spare;
+        }

@@ -1,0 +1,23 @@
+-- `is_due` meets its contract, by cases on whether the FEL has a first.
+use borrow.Author.Tests.{lt-ltb, le-ltb}
+use Rattle.rows.specs.Clock.{isDue}
+use borrow.Author.Needs.{needs}
+use Rattle.rows.proofs.clock.is_due.Statement.{statement}
+use Rattle.rows.proofs.clock.is_due.Tie as tie
+
+load-requires : tie.Need-load-requires
+load-requires c κs = search needs
+
+returns : tie.Need-returns
+unfolding isDue
+returns c = rw (← c .before .load .ensures, le-ltb _ 1024 (c .if1 .taken))
+
+read-requires : tie.Need-read-requires
+read-requires c κs = search needs
+
+returns-2 : tie.Need-returns-2
+unfolding isDue
+returns-2 c = rw (← c .before .before .load .ensures, lt-ltb _ 1024 (c .before .if1 .left), ← c .read .ensures)
+
+pub is-due-spec : {M : Type 1} → statement M
+is-due-spec = tie.close (tie.spec load-requires returns read-requires returns-2)

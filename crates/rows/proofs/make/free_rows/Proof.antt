@@ -1,0 +1,53 @@
+-- `free_rows` meets its contract. The invariant: the first rows are done. The measure: those left.
+use Prim.Native.Nat.{ℕ, zero, suc, _-_, _≤_}
+use mathlib.Core.Path.{_≡_, refl, ap, _∙_}
+use mathlib.Core.List.{List}
+use native.Mathlib.Omega.{arith}
+use native.Mathlib.Numerals.{add-one}
+use lib.ListN.{length}
+use Rattle.rows.specs.Make.{freeRows, freeRow}
+use Rattle.rows.proofs.make.free_rows.Statement.{statement}
+use Rattle.rows.proofs.make.free_rows.Tie as tie
+
+abbrev Inv-loop : tie.InvT-loop
+Inv-loop w₀ k₀ w k = (w ≡ freeRows k w₀) × ((k ≤ 1024) × (length w ≡ length w₀))
+
+abbrev μ-loop : tie.MeasureT-loop
+μ-loop w₀ k₀ w k = 1024 - k
+
+loop-holds : tie.Need-loop-holds Inv-loop μ-loop
+unfolding freeRows
+loop-holds c = (refl, (omega arith, refl))
+
+free-row-requires : tie.Need-free-row-requires Inv-loop μ-loop
+free-row-requires c κs = omega arith
+
+add-k : tie.Need-add-k Inv-loop μ-loop
+add-k c = omega arith
+
+loop-less : tie.Need-loop-less Inv-loop μ-loop
+loop-less c = omega arith
+
+loop-again : tie.Need-loop-again Inv-loop μ-loop
+unfolding freeRows
+loop-again c = (rw (add-one (c .before .before .before .before .before .loop .k)) (c .before .before .free-row .ensures ∙ ap (λ (v : List ℕ). freeRow v (c .before .before .before .before .before .loop .k)) (c .before .before .before .before .before .loop .inv .0)), (omega arith, omega (arith, c .before .before .free-row .kept)))
+
+same-length : tie.Need-same-length Inv-loop μ-loop
+same-length c = omega arith
+
+returns : tie.Need-returns Inv-loop μ-loop
+returns c = c .before .loop .inv .0 ∙ ap (λ (n : ℕ). freeRows n (c .before .before .before .args .w .now)) (omega arith)
+
+pub free-rows-spec : {M : Type 1} → statement M
+free-rows-spec =
+    tie.close
+    (tie.spec
+    Inv-loop
+    μ-loop
+    loop-holds
+    free-row-requires
+    add-k
+    loop-less
+    loop-again
+    same-length
+    returns)

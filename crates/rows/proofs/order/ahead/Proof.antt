@@ -1,0 +1,23 @@
+-- `ahead` meets its contract, by cases on the list.
+use borrow.Author.Tests.{lt-ltb, le-ltb, eq-eqb, ne-eqb}
+use Rattle.rows.specs.Order.{ahead}
+use borrow.Author.Needs.{needs}
+use Rattle.rows.proofs.order.ahead.Statement.{statement}
+use Rattle.rows.proofs.order.ahead.Tie as tie
+
+sooner-requires : tie.Need-sooner-requires
+sooner-requires c κs = search needs
+
+returns : tie.Need-returns
+unfolding ahead
+returns c = rw (eq-eqb _ 450 (c .before .if1 .taken)) (c .sooner .ensures)
+
+outranks-requires : tie.Need-outranks-requires
+outranks-requires c κs = search needs
+
+returns-2 : tie.Need-returns-2
+unfolding ahead
+returns-2 c = rw (ne-eqb _ 450 (c .before .if1 .left)) (c .outranks .ensures)
+
+pub ahead-spec : {M : Type 1} → statement M
+ahead-spec = tie.close (tie.spec sooner-requires returns outranks-requires returns-2)

@@ -1,0 +1,27 @@
+-- Single numbers of the buffer.
+use Prim.Native.Nat.{ℕ, _+_, _*_, _/_, _%_}
+use mathlib.Core.Bool.{Bool, cond}
+use mathlib.Core.List.{List}
+use lib.Dec.{ltb}
+use lib.ListN.{getD, set}
+use Rattle.rows.specs.Layout.{fieldAt, standingField}
+
+abbrev pub load : List ℕ → ℕ → ℕ
+load w i = getD w i 0
+
+-- nothing past the 16,384th is written
+unfoldable pub store : List ℕ → ℕ → ℕ → List ℕ
+store w i x = cond (ltb i 16384) (set w i x) w
+
+-- a field of a row
+abbrev pub read : List ℕ → ℕ → ℕ → ℕ
+read w f k = load w (fieldAt f k)
+
+abbrev pub write : List ℕ → ℕ → ℕ → ℕ → List ℕ
+write w f k x = store w (fieldAt f k) x
+
+abbrev pub priorityOf : List ℕ → ℕ → ℕ
+priorityOf w k = read w standingField k / 2
+
+abbrev pub setReturning : List ℕ → ℕ → ℕ → List ℕ
+setReturning w k mark = write w standingField k (read w standingField k / 2 * 2 + mark)

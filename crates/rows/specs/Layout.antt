@@ -1,0 +1,103 @@
+-- The work buffer: 16 fields of 1,024 rows, field f of row k at f * 1024 + k, one row for each living transaction. Numbers
+-- past the 16,384th are never touched.
+--
+-- | field | holds                                   | field | holds                              |
+-- |-------|-----------------------------------------|-------|------------------------------------|
+-- | 0     | number                                  | 8     | move time, low half                |
+-- | 1     | priority * 2 + returning                | 9     | spare: high halves of clocks       |
+-- | 2..5  | parameters 1..4, the bits of an i32     | 10    | spare: family                      |
+-- | 6     | next block                              | 11    | spare: group clock, low half       |
+-- | 7     | serial                                  | 12    | spare: second link                 |
+-- | 13    | place: its list, 512 on none            | 14    | link: the row after it on its list |
+-- | 15    | heads of lists 0..511, then their tails |       |                                    |
+--
+-- A cell is a number of the buffer that holds a row: a head or a link. 1024, and any number above it, is no row. The tail of a
+-- list is its last cell: the head itself where the list is empty.
+--
+-- | list    | number                                          |
+-- |---------|-------------------------------------------------|
+-- | QL      | server - 1: 0..63                               |
+-- | WEL     | 64 + (server - 1) * 6 + (code - 1): 64..447     |
+-- | WSL     | 448                                             |
+-- | REL     | 449                                             |
+-- | FEL     | 450                                             |
+-- | free    | 451: the rows that are not living               |
+-- | others  | 452..511 are spare and stay empty               |
+use Prim.Native.Nat.{ℕ, _+_, _*_, _-_}
+use Rattle.machine.specs.Block.{Code}
+use Rattle.machine.specs.Moves.{welIndex}
+
+-- ---- Sizes
+
+abbrev pub rowCount : ℕ
+rowCount = 1024
+
+abbrev pub listCount : ℕ
+listCount = 512
+
+-- the numbers below this one are the data of rows
+abbrev pub dataEnd : ℕ
+dataEnd = 12288
+
+abbrev pub bufferEnd : ℕ
+bufferEnd = 16384
+
+-- ---- Fields
+
+abbrev pub numberField : ℕ
+numberField = 0
+
+abbrev pub standingField : ℕ
+standingField = 1
+
+-- of parameter 1; the others follow
+abbrev pub parameterField : ℕ
+parameterField = 2
+
+abbrev pub nextField : ℕ
+nextField = 6
+
+abbrev pub serialField : ℕ
+serialField = 7
+
+abbrev pub timeField : ℕ
+timeField = 8
+
+abbrev pub fieldAt : ℕ → ℕ → ℕ
+fieldAt f k = f * 1024 + k
+
+abbrev pub place : ℕ → ℕ
+place k = 13312 + k
+
+abbrev pub link : ℕ → ℕ
+link k = 14336 + k
+
+abbrev pub head : ℕ → ℕ
+head p = 15360 + p
+
+abbrev pub tail : ℕ → ℕ
+tail p = 15872 + p
+
+-- ---- Lists
+
+abbrev pub qlList : ℕ → ℕ
+qlList v = v - 1
+
+abbrev pub welList : ℕ → Code → ℕ
+welList v code = 64 + welIndex v code
+
+abbrev pub wsl : ℕ
+wsl = 448
+
+abbrev pub rel : ℕ
+rel = 449
+
+abbrev pub fel : ℕ
+fel = 450
+
+abbrev pub free : ℕ
+free = 451
+
+-- the place of a row that is on no list, as the moving one
+abbrev pub nowhere : ℕ
+nowhere = 512

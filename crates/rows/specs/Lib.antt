@@ -1,0 +1,11 @@
+pub mod Layout
+pub mod Cells
+pub mod Order
+pub mod Lists
+pub mod Wake
+pub mod Clock
+pub mod Make
+pub mod Holds
+pub mod Living
+pub mod Shows
+pub mod Machine

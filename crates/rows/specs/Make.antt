@@ -1,0 +1,55 @@
+-- The row machine: rows that come to life and end, and the buffer at the start of a run.
+use Prim.Native.Nat.{ℕ, zero, suc, _*_, _/_}
+use mathlib.Core.List.{List}
+use Rattle.rows.specs.Layout.{place, head, tail, free, nowhere, numberField, standingField, nextField, serialField}
+use Rattle.rows.specs.Cells.{store, read, write}
+use Rattle.rows.specs.Lists.{insertAt}
+
+-- ---- One row
+
+unfoldable pub clearParameters : List ℕ → ℕ → List ℕ
+clearParameters w k = write (write (write (write w 2 k 0) 3 k 0) 4 k 0) 5 k 0
+
+unfoldable pub copyParameters : List ℕ → ℕ → ℕ → List ℕ
+copyParameters w j k =
+    write (write (write (write w 2 k (read w 2 j)) 3 k (read w 3 j)) 4 k (read w 4 j)) 5 k (read w 5 j)
+
+-- all but the parameters; not returning, no serial yet
+unfoldable pub describe : List ℕ → ℕ → ℕ → ℕ → ℕ → List ℕ
+describe w k number priority block =
+    write (write (write (write w numberField k number) standingField k (priority * 2)) nextField k block) serialField k 0
+
+-- row k as a new transaction
+unfoldable pub newbornAt : List ℕ → ℕ → ℕ → ℕ → ℕ → List ℕ
+newbornAt w k number priority block = clearParameters (describe w k number priority block) k
+
+-- row k as a copy of row j with a number of its own
+unfoldable pub copyAt : List ℕ → ℕ → ℕ → ℕ → ℕ → List ℕ
+copyAt w j k number block = copyParameters (describe w k number (read w standingField j / 2) block) j k
+
+-- row k, on no list, is free
+unfoldable pub freeRow : List ℕ → ℕ → List ℕ
+freeRow w k = insertAt w free (head free) k
+
+-- ---- The start
+
+unfoldable pub emptyList : List ℕ → ℕ → List ℕ
+emptyList w p = store (store w (head p) 1024) (tail p) (head p)
+
+-- lists 0..n - 1 are empty
+unfoldable pub emptyLists : ℕ → List ℕ → List ℕ
+emptyLists zero w = w
+emptyLists (suc n) w = emptyList (emptyLists n w) n
+
+-- rows 0..n - 1 are on no list
+unfoldable pub looseRows : ℕ → List ℕ → List ℕ
+looseRows zero w = w
+looseRows (suc n) w = store (looseRows n w) (place n) nowhere
+
+-- rows 0..n - 1 are free
+unfoldable pub freeRows : ℕ → List ℕ → List ℕ
+freeRows zero w = w
+freeRows (suc n) w = freeRow (freeRows n w) n
+
+unfoldable pub initial : List ℕ → List ℕ
+initial w = freeRows 1024 (looseRows 1024 (emptyLists 512 w))

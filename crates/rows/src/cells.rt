@@ -1,0 +1,62 @@
+// Single numbers of the buffer, and the fields of a row.
+
+ghost use mathlib.Core.Path.{_≡_};
+ghost use Prim.Native.Nat.{_+_, _*_, _<_, _≤_};
+ghost use Rattle.rows.specs.Cells.{load, store, read, write, priorityOf, setReturning};
+
+pub fn load(w: &[u32], i: u32) -> u32
+    ensures { λ r. ⌜ r ≡ load (now (w .entry)) i ⌝ }
+{
+    let at = i as usize;
+    if at < w.len() {
+        return w[at];
+    }
+    0
+}
+
+pub fn store(w: &mut [u32], i: u32, x: u32)
+    requires { do ⌜ 16384 ≤ (← ⟦w.len()⟧) ⌝ }
+    ensures { λ _. ⌜ now (w .exit) ≡ store (now (w .entry)) i x ⌝ }
+{
+    if i >= 16384 {
+        return;
+    }
+    let at = i as usize;
+    w[at] = x;
+}
+
+// Field f of row k.
+pub fn read(w: &[u32], f: u32, k: u32) -> u32
+    requires { ⌜ f < 16 ⌝ }
+    requires { ⌜ k < 1024 ⌝ }
+    ensures { λ r. ⌜ r ≡ read (now (w .entry)) f k ⌝ }
+{
+    load(w, f * 1024 + k)
+}
+
+pub fn write(w: &mut [u32], f: u32, k: u32, x: u32)
+    requires { do ⌜ 16384 ≤ (← ⟦w.len()⟧) ⌝ }
+    requires { ⌜ f < 16 ⌝ }
+    requires { ⌜ k < 1024 ⌝ }
+    ensures { λ _. ⌜ now (w .exit) ≡ write (now (w .entry)) f k x ⌝ }
+{
+    store(w, f * 1024 + k, x);
+}
+
+pub fn priority(w: &[u32], k: u32) -> u32
+    requires { ⌜ k < 1024 ⌝ }
+    ensures { λ r. ⌜ r ≡ priorityOf (now (w .entry)) k ⌝ }
+{
+    read(w, 1, k) / 2
+}
+
+// Sets or clears the returning mark: 1 or 0.
+pub fn set_returning(w: &mut [u32], k: u32, mark: u32)
+    requires { do ⌜ 16384 ≤ (← ⟦w.len()⟧) ⌝ }
+    requires { ⌜ k < 1024 ⌝ }
+    requires { ⌜ mark < 2 ⌝ }
+    ensures { λ _. ⌜ now (w .exit) ≡ setReturning (now (w .entry)) k mark ⌝ }
+{
+    let standing = read(w, 1, k);
+    write(w, 1, k, standing / 2 * 2 + mark);
+}

@@ -1,0 +1,53 @@
+// Who stands before whom on a list.
+
+use crate::cells::priority;
+use crate::cells::read;
+ghost use mathlib.Core.Path.{_≡_};
+ghost use Prim.Native.Nat.{_<_, _≤_};
+ghost use Rattle.rows.specs.Order.{outranks, sooner, ahead};
+
+// By priority, high first, then serial, low first.
+pub fn outranks(w: &[u32], x: u32, y: u32) -> bool
+    requires { ⌜ x < 1024 ⌝ }
+    requires { ⌜ y < 1024 ⌝ }
+    ensures { λ r. ⌜ r ≡ outranks (now (w .entry)) x y ⌝ }
+{
+    let a = priority(w, x);
+    let b = priority(w, y);
+    if b < a {
+        return true;
+    }
+    if a < b {
+        return false;
+    }
+    read(w, 7, x) < read(w, 7, y)
+}
+
+// By time first.
+pub fn sooner(w: &[u32], x: u32, y: u32) -> bool
+    requires { ⌜ x < 1024 ⌝ }
+    requires { ⌜ y < 1024 ⌝ }
+    ensures { λ r. ⌜ r ≡ sooner (now (w .entry)) x y ⌝ }
+{
+    let a = read(w, 8, x);
+    let b = read(w, 8, y);
+    if a < b {
+        return true;
+    }
+    if b < a {
+        return false;
+    }
+    outranks(w, x, y)
+}
+
+// Row x before row y on list p: the FEL looks at time first.
+pub fn ahead(w: &[u32], p: u32, x: u32, y: u32) -> bool
+    requires { ⌜ x < 1024 ⌝ }
+    requires { ⌜ y < 1024 ⌝ }
+    ensures { λ r. ⌜ r ≡ ahead (now (w .entry)) p x y ⌝ }
+{
+    if p == 450 {
+        return sooner(w, x, y);
+    }
+    outranks(w, x, y)
+}
