@@ -1,0 +1,113 @@
+-- All questions, pure: from the answers for the model and for the tape to the machine's `validate`.
+use Prim.Native.Nat.{ℕ, zero, suc, _+_, _≤_, _<_}
+use native.Mathlib.Omega.{arith}
+use mathlib.Core.Path.{_≡_, refl, sym, ap, _∙_}
+use mathlib.Core.Bool.{Bool, true, false, cond}
+use mathlib.Core.List.{List, [], _∷_}
+use lib.Dec.{leb}
+use lib.ListN.{length, getD}
+use borrow.Author.Tests.{le-leb, lt-leb}
+use Rattle.machine.specs.Parser.{Cursor, Parsed, parsed, refused}
+use Rattle.machine.specs.Block.{BlockModel}
+use Rattle.machine.specs.Validate.{modelOf, tapeOf, beginning, Validation, accept, reject, withTape, withModel, validate}
+use Rattle.machine.specs.declared.model.Model.{Model}
+use Rattle.tables.specs.Represents.{headerOf, Represents}
+use Rattle.decode.specs.declared.Decoded.{Decoded}
+use Rattle.decode.specs.declared.Decoded.the-variants.{Model as Accepted, Refused}
+use Rattle.decode.specs.declared.Tape.{Tape}
+use Rattle.decode.specs.declared.Tape.the-variants.{At, Refused as NoTape}
+use Rattle.decode.specs.Models.{tablesOf, ProperModel, Models}
+use Rattle.decode.specs.Lists.{emptyLists, Filled, Lists}
+use Rattle.decode.specs.Decodes.{Decodes, refusalOf}
+use Rattle.decode.proofs.Represented.{block-at, block-small, value-at, value-small, capacity-at}
+use Rattle.decode.proofs.Lists.{tape-length, all-begin, all-counts}
+
+represented : (m : BlockModel) (tape : List (List ℕ)) (bytes cells : List ℕ) → ProperModel m → length tape ≡ m .lists → Filled bytes 0 emptyLists cells tape →
+    Represents m tape bytes (tablesOf m) cells
+represented m tape bytes cells w n f =
+    let few : length tape ≤ 16 = rw n (w .lists) in
+    record {
+      blocks = block-at m w;
+      small-blocks = block-small m w;
+      values = value-at m w;
+      small-values = value-small m w;
+      capacities = λ v h. capacity-at m w v;
+      begins = λ k h. all-begin bytes tape cells few f k (omega arith);
+      counts = λ k h. all-counts bytes tape cells few f k h;
+    }
+
+-- a model that was accepted has at most 16 lists
+pub few-lists : (P : Parsed BlockModel) {tables : List ℕ} {r : Decoded} {h : Model} → Models tables r P → r ≡ Accepted h → h .lists ≤ 16
+unfolding headerOf
+few-lists (parsed m c) {tables} {r} {h} d told =
+    let e = sym told ∙ d .held .0 in
+    let f : h ≡ headerOf m = cc in
+    let g = ap (λ (x : Model). x .lists) f in
+    omega (arith, d .held .2 .lists)
+few-lists (refused i) d told = let e = sym told ∙ d .held in let z : _≡_ {A = ℕ} 0 1 = cc in absurd (omega arith)
+
+-- the number of the answer
+pub refusal-of : (v : Validation) (tape tables lists : List ℕ) (r : Decoded) → Decodes tape r tables lists v →
+    ((n : ℕ) → r ≡ Refused n → n ≡ refusalOf v) × ((h : Model) → r ≡ Accepted h → 0 ≡ refusalOf v)
+unfolding refusalOf
+refusal-of (accept m t) tape tables lists r d =
+    ((λ n e. let f = sym e ∙ d .0 in let z : _≡_ {A = ℕ} 0 1 = cc in absurd (omega arith)), (λ h e. refl))
+refusal-of (reject i) tape tables lists r d =
+    ((λ n e. let f = sym e ∙ d in cc), (λ h e. let f = sym e ∙ d in let z : _≡_ {A = ℕ} 0 1 = cc in absurd (omega arith)))
+
+module _ (model tape : List ℕ) (work report : ℕ) (tables lists : List ℕ) where
+  pub small-work : work < 16384 → Decodes tape (Refused 1) tables lists (validate model tape work report)
+  unfolding validate
+  small-work h = rw (lt-leb 16384 work h) refl
+
+  module _ (enough : 16384 ≤ work) where
+    pub small-report : report < 10240 → Decodes tape (Refused 2) tables lists (validate model tape work report)
+    unfolding validate
+    small-report h = rw (le-leb 16384 work enough, lt-leb 10240 report h) refl
+
+    module _ (room : 10240 ≤ report) {r : Decoded} (k : Models tables r (modelOf model beginning)) where
+      asked : validate model tape work report ≡ withModel tape (modelOf model beginning)
+      unfolding validate
+      asked = rw (le-leb 16384 work enough, le-leb 10240 report room) refl
+
+      pub no-model : {n : ℕ} → r ≡ Refused n → Decodes tape (Refused n) tables lists (validate model tape work report)
+      unfolding withModel
+      no-model {n} told = rw asked (go (modelOf model beginning) k)
+        where
+          go : (P : Parsed BlockModel) → Models tables r P → Decodes tape (Refused n) tables lists (withModel tape P)
+          go (parsed m c) h = let e = sym told ∙ h .held .0 in let z : _≡_ {A = ℕ} 0 1 = cc in absurd (omega arith)
+          go (refused i) h = let e = sym told ∙ h .held in let f : n ≡ i = cc in ap Refused f
+
+      module _ {h : Model} (told : r ≡ Accepted h) where
+        module _ {r₂ : Tape} (k₂ : Lists tape 0 emptyLists lists r₂ (tapeOf tape (h .lists) beginning)) where
+          pub no-tape : {n : ℕ} → r₂ ≡ NoTape n → Decodes tape (Refused n) tables lists (validate model tape work report)
+          unfolding withModel withTape headerOf
+          no-tape {n} told₂ = rw asked (go (modelOf model beginning) k)
+            where
+              last : (m : BlockModel) (P : Parsed (List (List ℕ))) → Lists tape 0 emptyLists lists r₂ P → Decodes tape (Refused n) tables lists (withTape m P)
+              last m (parsed t c) d = let e = sym told₂ ∙ d .held .0 in let z : _≡_ {A = ℕ} 0 1 = cc in absurd (omega arith)
+              last m (refused i) d = let e = sym told₂ ∙ d .held in let f : n ≡ i = cc in ap Refused f
+
+              go : (P : Parsed BlockModel) → Models tables r P → Decodes tape (Refused n) tables lists (withModel tape P)
+              go (parsed m c) d =
+                  let e = sym told ∙ d .held .0 in
+                  let f : h ≡ headerOf m = cc in
+                  last m (tapeOf tape (m .lists) beginning) (rw (ap (λ (x : Model). x .lists) f) at k₂)
+              go (refused i) d = let e = sym told ∙ d .held in let z : _≡_ {A = ℕ} 0 1 = cc in absurd (omega arith)
+
+          pub all-answered : {end : ℕ} → r₂ ≡ At end → Decodes tape (Accepted h) tables lists (validate model tape work report)
+          unfolding withModel withTape headerOf
+          all-answered {end} told₂ = rw asked (go (modelOf model beginning) k)
+            where
+              last : (m : BlockModel) → h ≡ headerOf m → tables ≡ tablesOf m → ProperModel m → (P : Parsed (List (List ℕ))) → tapeOf tape (m .lists) beginning ≡ P →
+                  Lists tape 0 emptyLists lists r₂ P → Decodes tape (Accepted h) tables lists (withTape m P)
+              last m f cells w (parsed t c) p d =
+                  (ap Accepted f, rw cells (represented m t tape lists w (tape-length tape (m .lists) t c p) (d .held .1)))
+              last m f cells w (refused i) p d = let e = sym told₂ ∙ d .held in let z : _≡_ {A = ℕ} 0 1 = cc in absurd (omega arith)
+
+              go : (P : Parsed BlockModel) → Models tables r P → Decodes tape (Accepted h) tables lists (withModel tape P)
+              go (parsed m c) d =
+                  let e = sym told ∙ d .held .0 in
+                  let f : h ≡ headerOf m = cc in
+                  last m f (d .held .1) (d .held .2) (tapeOf tape (m .lists) beginning) refl (rw (ap (λ (x : Model). x .lists) f) at k₂)
+              go (refused i) d = let e = sym told ∙ d .held in let z : _≡_ {A = ℕ} 0 1 = cc in absurd (omega arith)

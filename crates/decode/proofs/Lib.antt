@@ -1,0 +1,5 @@
+pub mod Stages
+pub mod Represented
+pub mod Models
+pub mod Lists
+pub mod Answers

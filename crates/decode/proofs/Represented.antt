@@ -1,0 +1,215 @@
+-- The cells of a whole model (specs/Models) represent it, pure.
+use Prim.Native.Nat.{ℕ, zero, suc, _+_, _*_, _-_, _≤_, _<_}
+use native.Mathlib.Omega.{arith}
+use mathlib.Core.Path.{_≡_, refl, sym, ap, _∙_}
+use mathlib.Core.Bool.{Bool, true, false}
+use mathlib.Core.List.{List, [], _∷_, _++_}
+use lib.Dec.{ltb, T}
+use lib.ListN.{length, getD, take, drop, replicate, length-replicate, getD-replicate, length-take, length-drop, List·getD-append, List·getD-eq-default}
+use lib.Seq.{sets, length-sets, ext-getD, getD-take, getD-drop, getD-append-add}
+use borrow.Author.Tests.{ltb-true, ltb-false}
+use Rattle.machine.specs.Term.{Sum, nothing}
+use Rattle.machine.specs.Block.{Block, terminate, BlockModel}
+use Rattle.machine.specs.declared.model.Model.{Model}
+use Rattle.tables.specs.Numbers.{sumNumbers, blockNumbers}
+use Rattle.tables.specs.Represents.{At, smallBlock, smallSum}
+use Rattle.values.specs.Keeps.{numberShape}
+use Rattle.values.specs.Rows.{storedRows, Each}
+use Rattle.values.specs.Shapes.{ProperValue}
+use Rattle.values.proofs.Cells.{sets-above, sets-inside, at-each, length-rows, rows-below, rows-above, rows-inside}
+use Rattle.values.proofs.Rows.{each-at, each-map}
+use Rattle.program.specs.Formed.{Formed}
+use Rattle.program.specs.Shapes.{capacitiesOf}
+use Rattle.program.proofs.Question.{Standing}
+use Rattle.decode.specs.Stages.{emptyTables, Capacity, Servers, ProperServers, serversCells}
+use Rattle.decode.specs.Models.{tablesOf, ProperModel}
+
+-- ---- Before decoding
+
+pub zeros : (n i : ℕ) → _≡_ {A = ℕ} (getD (replicate n 0) i 0) 0
+zeros zero i = refl
+zeros (suc n) zero = refl
+zeros (suc n) (suc i) = zeros n i
+
+length-empty : length emptyTables ≡ 2624
+unfolding emptyTables
+length-empty = length-replicate {A = ℕ} 2624 0
+
+empty-zero : (i : ℕ) → getD emptyTables i 0 ≡ 0
+unfolding emptyTables
+empty-zero i = zeros 2624 i
+
+-- ---- Facilities and storages
+
+abbrev number : ℕ → List ℕ
+number = numberShape 1 65535 1 .numbers
+
+module _ (a : Servers) (w : ProperServers a) where
+  pub length-servers : length (serversCells a) ≡ 2624
+  length-servers = length-rows number 1 (a .capacities) (2560 + a .facilities) _ ∙ length-sets emptyTables 2560 (replicate (a .facilities) 1) ∙ length-empty
+
+  single : (l : List ℕ) → Each (λ v. length (number v) ≤ 1) l
+  single [] = tt
+  single (v ∷ l) = (omega arith, single l)
+
+  -- a storage's capacity
+  pub storage-cell : (k : ℕ) → k < length (a .capacities) → getD (serversCells a) (2560 + a .facilities + k) 0 ≡ getD (a .capacities) k 0
+  storage-cell k h =
+      let f = w .facilities in
+      let n = w .storages in
+      let c = w .count in
+      let room : 2560 + a .facilities + 1 * length (a .capacities) ≤ length (sets emptyTables 2560 (replicate (a .facilities) 1))
+      = simp length-sets (omega (arith, length-empty)) in
+      let e : 2560 + a .facilities + k ≡ 2560 + a .facilities + 1 * k + 0 = omega arith in
+      let v = each-at Capacity (a .capacities) 0 (w .each) k h in
+      rw e
+      (rows-inside number 1 (a .capacities) (2560 + a .facilities) k 0 (sets emptyTables 2560 (replicate (a .facilities) 1)) 0 (single (a .capacities)) room h (omega arith)
+      ∙ omega (arith, v .0))
+
+  facility-cell : (v : ℕ) → v < a .facilities → getD (serversCells a) (2560 + v) 0 ≡ 1
+  facility-cell v h =
+      let f = w .facilities in
+      let l = length-replicate {A = ℕ} (a .facilities) 1 in
+      rows-below number 1 (a .capacities) (2560 + a .facilities) (2560 + v) (sets emptyTables 2560 (replicate (a .facilities) 1)) (omega arith)
+      ∙ sets-inside (replicate (a .facilities) 1) emptyTables 2560 v (omega (arith, length-empty)) (omega arith)
+      ∙ getD-replicate (a .facilities) v 1 0 h
+
+  other-cell : (v : ℕ) → a .facilities + length (a .capacities) ≤ v → getD (serversCells a) (2560 + v) 0 ≡ 0
+  other-cell v h =
+      let l = length-replicate {A = ℕ} (a .facilities) 1 in
+      rows-above number 1 (a .capacities) (2560 + a .facilities) (2560 + v) (sets emptyTables 2560 (replicate (a .facilities) 1)) (single (a .capacities)) (omega arith)
+      ∙ sets-above (replicate (a .facilities) 1) emptyTables 2560 (2560 + v) (omega arith)
+      ∙ empty-zero (2560 + v)
+
+  -- the capacity of each server
+  pub server-cell : (v : ℕ) → getD (serversCells a) (2560 + v) 0 ≡ getD (replicate (a .facilities) 1 ++ a .capacities) v 0
+  server-cell v = go (ltb v (a .facilities)) (ltb v (a .facilities + length (a .capacities))) refl refl
+    where
+      l : length (replicate {A = ℕ} (a .facilities) 1) ≡ a .facilities
+      l = length-replicate {A = ℕ} (a .facilities) 1
+
+      past : a .facilities ≤ v → getD (replicate (a .facilities) 1 ++ a .capacities) v 0 ≡ getD (a .capacities) (v - a .facilities) 0
+      past h =
+          let e : v ≡ length (replicate {A = ℕ} (a .facilities) 1) + (v - a .facilities) = omega (arith, l) in
+          ap (λ (i : ℕ). getD (replicate (a .facilities) 1 ++ a .capacities) i 0) e
+          ∙ getD-append-add (replicate (a .facilities) 1) (a .capacities) (v - a .facilities) 0
+
+      go : (x y : Bool) → ltb v (a .facilities) ≡ x → ltb v (a .facilities + length (a .capacities)) ≡ y →
+          getD (serversCells a) (2560 + v) 0 ≡ getD (replicate (a .facilities) 1 ++ a .capacities) v 0
+      go true y e f =
+          let h = ltb-true v (a .facilities) e in
+          facility-cell v h
+          ∙ sym (List·getD-append (replicate (a .facilities) 1) (a .capacities) 0 v (omega (arith, l)) ∙ getD-replicate (a .facilities) v 1 0 h)
+      go false true e f =
+          let h = ltb-false v (a .facilities) e in
+          let g = ltb-true v (a .facilities + length (a .capacities)) f in
+          let i : 2560 + v ≡ 2560 + a .facilities + (v - a .facilities) = omega arith in
+          rw i (storage-cell (v - a .facilities) (omega arith)) ∙ sym (past h)
+      go false false e f =
+          let h = ltb-false v (a .facilities) e in
+          let g = ltb-false v (a .facilities + length (a .capacities)) f in
+          other-cell v g ∙ sym (past h ∙ List·getD-eq-default (a .capacities) 0 (omega arith))
+
+-- ---- Values leave them
+
+fits-value : (l : List Sum) → Each ProperValue l → Each (λ e. length (sumNumbers e) ≤ 64) l
+fits-value = each-map ProperValue (λ e. length (sumNumbers e) ≤ 64) (λ e h. h .0)
+
+module _ (a : Servers) (w : ProperServers a) (sums : List Sum) (few : length sums ≤ 8) (proper : Each ProperValue sums) where
+  abbrev cells : List ℕ
+  cells = storedRows sumNumbers 64 2048 sums (serversCells a)
+
+  length-cells : length cells ≡ 2624
+  length-cells = length-rows sumNumbers 64 sums 2048 (serversCells a) ∙ length-servers a w
+
+  after-values : (i : ℕ) → 2560 ≤ i → getD cells i 0 ≡ getD (serversCells a) i 0
+  after-values i h = rows-above sumNumbers 64 sums 2048 i (serversCells a) (fits-value sums proper) (omega arith)
+
+  -- what blocks see of the storages
+  pub capacities-stand : (m : Model) → m .facilities ≡ a .facilities → m .storages ≡ a .storages → capacitiesOf m cells ≡ a .capacities
+  capacities-stand m f n =
+      let c = w .count in
+      let wf = w .facilities in
+      let ws = w .storages in
+      let lc = length-cells in
+      let size : length (capacitiesOf m cells) ≡ length (a .capacities) = simp (length-take, length-drop) (omega arith) in
+      ext-getD 0 (capacitiesOf m cells) (a .capacities) size
+      (λ i h.
+      let b : i < length (a .capacities) = omega arith in
+      let e : 2560 + m .facilities + i ≡ 2560 + a .facilities + i = omega arith in
+      getD-take (m .storages) (drop (2560 + m .facilities) cells) i 0 (omega arith)
+      ∙ getD-drop (2560 + m .facilities) cells i 0
+      ∙ ap (λ (j : ℕ). getD cells j 0) e
+      ∙ after-values (2560 + a .facilities + i) (omega arith)
+      ∙ storage-cell a w i b)
+
+-- ---- The whole model
+
+module _ (m : BlockModel) (w : ProperModel m) where
+  abbrev servers : Servers
+  servers = record { facilities = m .facilities; storages = length (m .capacities); capacities = m .capacities }
+
+  proper-servers : ProperServers servers
+  proper-servers = record { facilities = w .facilities; storages = w .storages; count = refl; each = w .capacity }
+
+  abbrev below-blocks : List ℕ
+  below-blocks = cells servers proper-servers (m .values) (w .values) (w .value)
+
+  length-below : length below-blocks ≡ 2624
+  length-below = length-cells servers proper-servers (m .values) (w .values) (w .value)
+
+  fits-block : Each (λ b. length (blockNumbers b) ≤ 8) (m .blocks)
+  fits-block = each-map (Formed (length (m .blocks))) (λ b. length (blockNumbers b) ≤ 8) (λ b h. h .width) (m .blocks) (w .block)
+
+  length-tables : length (tablesOf m) ≡ 2624
+  unfolding tablesOf
+  length-tables = length-rows blockNumbers 8 (m .blocks) 0 below-blocks ∙ length-below
+
+  pub blocks-stand : Standing (tablesOf m) 0 (m .blocks)
+  unfolding tablesOf
+  blocks-stand j i h g =
+      let most = w .blocks in
+      rows-inside blockNumbers 8 (m .blocks) 0 j i below-blocks (terminate 0) fits-block (omega (arith, length-below)) h g
+
+  after-blocks : (i : ℕ) → 2048 ≤ i → getD (tablesOf m) i 0 ≡ getD below-blocks i 0
+  unfolding tablesOf
+  after-blocks i h = let most = w .blocks in rows-above blockNumbers 8 (m .blocks) 0 i below-blocks fits-block (omega arith)
+
+  pub block-at : (b : ℕ) → b < length (m .blocks) → At (tablesOf m) (8 * b) (blockNumbers (getD (m .blocks) b (terminate 0)))
+  block-at b h =
+      let most = w .blocks in
+      let width = each-at (Formed (length (m .blocks))) (m .blocks) (terminate 0) (w .block) b h .width in
+      at-each (tablesOf m) (8 * b) (blockNumbers (getD (m .blocks) b (terminate 0))) (omega (arith, length-tables))
+      (λ i g. let z : 8 * b + i ≡ 0 + 8 * b + i = omega arith in rw z (blocks-stand b i h g))
+
+  pub value-at : (k : ℕ) → k < length (m .values) → At (tablesOf m) (2048 + 64 * k) (sumNumbers (getD (m .values) k nothing))
+  value-at k h =
+      let most = w .values in
+      let width = each-at ProperValue (m .values) nothing (w .value) k h .0 in
+      at-each (tablesOf m) (2048 + 64 * k) (sumNumbers (getD (m .values) k nothing)) (omega (arith, length-tables))
+      (λ i g.
+      after-blocks (2048 + 64 * k + i) (omega arith)
+      ∙ rows-inside sumNumbers 64 (m .values) 2048 k i (serversCells servers) nothing (fits-value (m .values) (w .value))
+      (omega (arith, length-servers servers proper-servers)) h g)
+
+  pub capacity-at : (v : ℕ) → getD (tablesOf m) (2560 + v) 0 ≡ getD (replicate (m .facilities) 1 ++ m .capacities) v 0
+  capacity-at v =
+      after-blocks (2560 + v) (omega arith)
+      ∙ after-values servers proper-servers (m .values) (w .values) (w .value) (2560 + v) (omega arith)
+      ∙ server-cell servers proper-servers v
+
+  pub block-small : (b : ℕ) → T (smallBlock (getD (m .blocks) b (terminate 0)))
+  unfolding smallBlock
+  block-small b = go (ltb b (length (m .blocks))) refl
+    where
+      go : (x : Bool) → ltb b (length (m .blocks)) ≡ x → T (smallBlock (getD (m .blocks) b (terminate 0)))
+      go true e = each-at (Formed (length (m .blocks))) (m .blocks) (terminate 0) (w .block) b (ltb-true b (length (m .blocks)) e) .small
+      go false e = rw (List·getD-eq-default (m .blocks) (terminate 0) (ltb-false b (length (m .blocks)) e)) tt
+
+  pub value-small : (k : ℕ) → T (smallSum (getD (m .values) k nothing))
+  unfolding smallSum
+  value-small k = go (ltb k (length (m .values))) refl
+    where
+      go : (x : Bool) → ltb k (length (m .values)) ≡ x → T (smallSum (getD (m .values) k nothing))
+      go true e = each-at ProperValue (m .values) nothing (w .value) k (ltb-true k (length (m .values)) e) .1
+      go false e = rw (List·getD-eq-default (m .values) nothing (ltb-false k (length (m .values)) e)) tt

@@ -1,0 +1,59 @@
+-- `decode::formed_model` meets its contract: the model, and then the two questions asked of the whole.
+use mathlib.Core.Path.{sym, _∙_}
+use borrow.Author.Tests.{not-true, not-false}
+use Rattle.decode.proofs.Models.{formed-stop, few-blocks, targets-few, formed-long, formed-misplaced, formed-target, formed-name, formed-model}
+use borrow.Author.Needs.{needs}
+use Rattle.decode.proofs.formed_model.Statement.{statement}
+use Rattle.decode.proofs.formed_model.Tie as tie
+
+model-requires : tie.Need-model-requires
+model-requires c κs = search needs
+
+enum-known-n : tie.Need-enum-known-n
+enum-known-n c = search needs
+
+enum-known-m : tie.Need-enum-known-m
+enum-known-m c = search needs
+
+returns : tie.Need-returns
+returns c = formed-long _ (c .before .before .before .before .before .model .ensures) (c .before .before .before .m .given .1) (c .if1 .taken)
+
+well-placed-requires : tie.Need-well-placed-requires
+well-placed-requires c κs = few-blocks _ (c .before .before .before .before .before .before .model .ensures) (c .before .before .before .before .m .given .1)
+
+returns-2 : tie.Need-returns-2
+returns-2 c = formed-misplaced _ (c .before .before .before .before .before .before .before .before .model .ensures) (c .before .before .before .before .before .before .m .given .1) (c .before .before .before .if1 .left) (sym (c .before .well-placed .ensures) ∙ not-true _ (c .if2 .taken))
+
+targets-move-requires : tie.Need-targets-move-requires
+targets-move-requires c κs = (few-blocks _ (c .before .before .before .before .before .before .before .before .before .model .ensures) (c .before .before .before .before .before .before .before .m .given .1), targets-few _ (c .before .before .before .before .before .before .before .before .before .model .ensures) (c .before .before .before .before .before .before .before .m .given .1))
+
+returns-3 : tie.Need-returns-3
+returns-3 c = formed-target _ (c .before .before .before .before .before .before .before .before .before .before .before .model .ensures) (c .before .before .before .before .before .before .before .before .before .m .given .1) (c .before .before .before .before .before .before .if1 .left) (sym (c .before .before .before .before .well-placed .ensures) ∙ not-false _ (c .before .before .before .if2 .left))
+    (sym (c .before .targets-move .ensures) ∙ not-true _ (c .if3 .taken))
+
+returns-4 : tie.Need-returns-4
+returns-4 c = formed-name _ (c .before .before .before .before .before .before .before .before .before .before .before .before .before .model .ensures) (c .before .before .before .before .before .before .before .before .before .before .before .m .given .1) (c .before .before .before .before .before .before .before .before .if1 .left) (sym (c .before .before .before .before .before .before .well-placed .ensures) ∙ not-false _ (c .before .before .before .before .before .if2 .left))
+    (sym (c .before .before .before .targets-move .ensures) ∙ not-false _ (c .before .before .if3 .left)) (c .if4 .taken)
+
+returns-5 : tie.Need-returns-5
+returns-5 c = formed-stop _ (c .before .before .before .model .ensures) (c .before .n .given .1)
+
+returns-6 : tie.Need-returns-6
+returns-6 c = formed-model _ (c .before .before .before .before .before .before .before .before .before .before .before .before .before .model .ensures) (c .before .before .before .before .before .before .before .before .before .before .before .m .given .1) (c .before .before .before .before .before .before .before .before .if1 .left) (sym (c .before .before .before .before .before .before .well-placed .ensures) ∙ not-false _ (c .before .before .before .before .before .if2 .left))
+    (sym (c .before .before .before .targets-move .ensures) ∙ not-false _ (c .before .before .if3 .left)) (c .if4 .left)
+
+pub formed-model-spec : {M : Type 1} → statement M
+formed-model-spec =
+    tie.close
+    (tie.spec
+    model-requires
+    enum-known-n
+    enum-known-m
+    returns
+    well-placed-requires
+    returns-2
+    targets-move-requires
+    returns-3
+    returns-4
+    returns-5
+    returns-6)

@@ -1,0 +1,57 @@
+-- `decode::sample_times` meets its contract. The loop's invariant: what the times that are left give is what all times give. The
+-- measure is `left`.
+use borrow.Author.Needs.{needs}
+use Prim.Native.Nat.{_≤_}
+use native.Mathlib.Omega.{arith}
+use Rattle.decode.proofs.Lists.{Skipping, times-none, times-stop, times-step}
+use Rattle.decode.proofs.sample_times.Statement.{statement}
+use Rattle.decode.proofs.sample_times.Tie as tie
+
+abbrev Inv-loop : tie.InvT-loop
+Inv-loop s at count left₀ next₀ left next = Skipping s count at left next
+
+abbrev μ-loop : tie.MeasureT-loop
+μ-loop s at count left₀ next₀ left next = left
+
+loop-holds : tie.Need-loop-holds Inv-loop μ-loop
+loop-holds c = λ i j r h. h
+
+read-field-requires : tie.Need-read-field-requires Inv-loop μ-loop
+read-field-requires c κs = search needs
+
+enum-known-n : tie.Need-enum-known-n Inv-loop μ-loop
+enum-known-n c = search needs
+
+returns : tie.Need-returns Inv-loop μ-loop
+returns c = λ i j. c .before .before .before .before .before .loop .inv i j _ (times-stop _ _ _ _ (c .before .before .before .before .loop-test .taken) (c .before .before .before .read-field .ensures .0) i j (c .before .n .given .1))
+
+enum-known-after : tie.Need-enum-known-after Inv-loop μ-loop
+enum-known-after c = search needs
+
+sub-left : tie.Need-sub-left Inv-loop μ-loop
+sub-left c = omega arith
+
+loop-less : tie.Need-loop-less Inv-loop μ-loop
+loop-less c = omega arith
+
+loop-again : tie.Need-loop-again Inv-loop μ-loop
+loop-again c = λ i j r h. c .before .before .before .before .before .loop .inv i j r (times-step _ _ _ _ (c .before .before .before .before .loop-test .taken) (c .before .before .before .read-field .ensures .0) (c .before .after .given .1) i j r h)
+
+returns-2 : tie.Need-returns-2 Inv-loop μ-loop
+returns-2 c = λ i j. c .before .loop .inv i j _ (times-none _ _ _ i j (c .loop-test .left))
+
+pub sample-times-spec : {M : Type 1} → statement M
+sample-times-spec =
+    tie.close
+    (tie.spec
+    Inv-loop
+    μ-loop
+    loop-holds
+    read-field-requires
+    enum-known-n
+    returns
+    enum-known-after
+    sub-left
+    loop-less
+    loop-again
+    returns-2)

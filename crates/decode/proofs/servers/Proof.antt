@@ -1,0 +1,123 @@
+-- `decode::servers` meets its contract: four parts, one after the other.
+use mathlib.Core.Path.{refl}
+use native.Mathlib.Omega.{arith}
+use Rattle.values.proofs.Binds.{takes-stop, takes-bind}
+use Rattle.values.specs.Shapes.{Within}
+use Rattle.decode.specs.Stages.{Stage, serversField}
+use Rattle.decode.proofs.Stages.{servers-stop, servers-kept, no-header, same-header}
+use borrow.Author.Needs.{needs}
+use Rattle.decode.proofs.servers.Statement.{statement}
+use Rattle.decode.proofs.servers.Tie as tie
+
+number-requires : tie.Need-number-requires
+number-requires c κs = search needs
+
+enum-known-n : tie.Need-enum-known-n
+enum-known-n c = search needs
+
+enum-known-a : tie.Need-enum-known-a
+enum-known-a c = search needs
+
+number-requires-2 : tie.Need-number-requires-2
+number-requires-2 c κs = search needs
+
+enum-known-n-2 : tie.Need-enum-known-n-2
+enum-known-n-2 c = search needs
+
+enum-known-facility-count : tie.Need-enum-known-facility-count
+enum-known-facility-count c = search needs
+
+number-requires-3 : tie.Need-number-requires-3
+number-requires-3 c κs = search needs
+
+enum-known-n-3 : tie.Need-enum-known-n-3
+enum-known-n-3 c = search needs
+
+enum-known-storages : tie.Need-enum-known-storages
+enum-known-storages c = search needs
+
+empty-requires : tie.Need-empty-requires
+empty-requires c κs = search needs
+
+clear-requires : tie.Need-clear-requires
+clear-requires c κs = search needs
+
+facilities-requires : tie.Need-facilities-requires
+facilities-requires c κs = let h = c .before .before .before .before .before .before .before .before .before .before .before .number2 .ensures .1 _ _ (c .before .before .before .before .before .before .before .before .before .facility-count .given .1) in h .1
+
+capacities-requires : tie.Need-capacities-requires
+capacities-requires c κs = let f = c .before .before .before .before .before .before .before .before .before .before .before .before .before .number2 .ensures .1 _ _ (c .before .before .before .before .before .before .before .before .before .before .before .facility-count .given .1) in
+    let n = c .before .before .before .before .before .before .before .before .before .number3 .ensures .1 _ _ (c .before .before .before .before .before .before .before .storages .given .1) in
+    let z = c .before .before .before .before .before .empty .ensures .0 in
+    record { facilities = f .1; storages = n .1; queues = omega (arith, z .2); values = omega (arith, z .3); lists = omega (arith, z .4); blocks = omega (arith, z .6) }
+
+enum-known-n-4 : tie.Need-enum-known-n-4
+enum-known-n-4 c = search needs
+
+enum-known-q : tie.Need-enum-known-q
+enum-known-q c = search needs
+
+returns : tie.Need-returns
+unfolding serversField
+returns c = (takes-stop (Stage _ _ _ _ _ _) _ _ (c .before .before .before .number .ensures .0) (c .before .n .given .1) (record { held = refl }), λ h q e. absurd (no-header e))
+
+returns-2 : tie.Need-returns-2
+unfolding serversField
+returns-2 c = (
+  takes-bind (Stage _ _ _ _ _ _) _ _ (c .before .before .before .before .before .before .before .number .ensures .0) (c .before .before .before .before .before .a .given .1)
+      (λ n₁ c₁ f₁. takes-stop (Stage _ _ _ _ _ _) _ _ (c .before .before .before .number2 .ensures .0) (c .before .n2 .given .1) (record { held = refl })),
+  λ h q e. absurd (no-header e),
+)
+
+returns-3 : tie.Need-returns-3
+unfolding serversField
+returns-3 c = (
+  takes-bind (Stage _ _ _ _ _ _) _ _ (c .before .before .before .before .before .before .before .before .before .before .before .number .ensures .0) (c .before .before .before .before .before .before .before .before .before .a .given .1)
+      (λ n₁ c₁ f₁.
+      takes-bind (Stage _ _ _ _ _ _) _ _ (c .before .before .before .before .before .before .before .number2 .ensures .0) (c .before .before .before .before .before .facility-count .given .1)
+      (λ n₂ c₂ f₂. takes-stop (Stage _ _ _ _ _ _) _ _ (c .before .before .before .number3 .ensures .0) (c .before .n3 .given .1) (record { held = refl }))),
+  λ h q e. absurd (no-header e),
+)
+
+returns-4 : tie.Need-returns-4
+returns-4 c = (
+  servers-stop _ _ (c .before .before .before .before .before .before .before .before .before .empty .result) (c .before .before .before .before .before .before .before .before .before .before .before .before .before .before .before .before .before .before .before .before .before .number .ensures .0) (c .before .before .before .before .before .before .before .before .before .before .before .before .before .before .before .before .before .before .before .a .given .1) (c .before .before .before .before .before .before .before .before .before .before .before .before .before .before .before .before .before .number2 .ensures .0) (c .before .before .before .before .before .before .before .before .before .before .before .before .before .before .before .facility-count .given .1)
+      (c .before .before .before .before .before .before .before .before .before .before .before .before .before .number3 .ensures .0) (c .before .before .before .before .before .before .before .before .before .before .before .storages .given .1) (c .before .before .before .before .before .before .before .clear .ensures) (c .before .before .before .before .before .facilities .ensures) (c .before .before .before .capacities .ensures) (c .before .n4 .given .1),
+  λ h q e. absurd (no-header e),
+)
+
+returns-5 : tie.Need-returns-5
+returns-5 c = let f = c .before .before .before .before .before .before .before .before .before .before .before .before .before .before .before .before .before .number2 .ensures .1 _ _ (c .before .before .before .before .before .before .before .before .before .before .before .before .before .before .before .facility-count .given .1) in
+    let n = c .before .before .before .before .before .before .before .before .before .before .before .before .before .number3 .ensures .1 _ _ (c .before .before .before .before .before .before .before .before .before .before .before .storages .given .1) in
+    let z = c .before .before .before .before .before .before .before .before .before .empty .ensures .0 in (
+      servers-kept _ _ (c .before .before .before .before .before .before .before .before .before .empty .result) (c .before .before .before .before .before .before .before .before .before .before .before .before .before .before .before .before .before .before .before .before .before .number .ensures .0) (c .before .before .before .before .before .before .before .before .before .before .before .before .before .before .before .before .before .before .before .a .given .1) (c .before .before .before .before .before .before .before .before .before .before .before .before .before .before .before .before .before .number2 .ensures .0) (c .before .before .before .before .before .before .before .before .before .before .before .before .before .before .before .facility-count .given .1)
+          (c .before .before .before .before .before .before .before .before .before .before .before .before .before .number3 .ensures .0) (c .before .before .before .before .before .before .before .before .before .before .before .storages .given .1) (c .before .before .before .before .before .before .before .clear .ensures) (c .before .before .before .before .before .facilities .ensures) (c .before .before .before .capacities .ensures) (c .before .q .given .1)
+          (z .2, z .3, z .4, z .5, z .6),
+      λ h q e. same-header Within
+          (record { facilities = f .1; storages = n .1; queues = omega (arith, z .2); values = omega (arith, z .3); lists = omega (arith, z .4); blocks = omega (arith, z .6) }) e,
+    )
+
+pub servers-spec : {M : Type 1} → statement M
+servers-spec =
+    tie.close
+    (tie.spec
+    number-requires
+    enum-known-n
+    enum-known-a
+    number-requires-2
+    enum-known-n-2
+    enum-known-facility-count
+    number-requires-3
+    enum-known-n-3
+    enum-known-storages
+    empty-requires
+    clear-requires
+    facilities-requires
+    capacities-requires
+    enum-known-n-4
+    enum-known-q
+    returns
+    returns-2
+    returns-3
+    returns-4
+    returns-5)

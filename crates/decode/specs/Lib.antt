@@ -1,0 +1,4 @@
+pub mod Stages
+pub mod Models
+pub mod Lists
+pub mod Decodes

@@ -1,0 +1,49 @@
+-- The whole model: its cells of the tables, and the answer to questions 3 to 7.
+use Prim.Native.Nat.{ℕ, zero, suc, _+_, _≤_, _<_}
+use mathlib.Core.Path.{_≡_}
+use mathlib.Core.List.{List, [], _∷_}
+use lib.ListN.{length}
+use Rattle.machine.specs.Limits as Limits
+use Rattle.machine.specs.Parser.{Parsed, parsed, refused}
+use Rattle.machine.specs.Block.{BlockModel}
+use Rattle.tables.specs.Numbers.{sumNumbers, blockNumbers}
+use Rattle.tables.specs.Represents.{headerOf}
+use Rattle.values.specs.Rows.{storedRows, allNamed, Each}
+use Rattle.values.specs.Shapes.{sumNamed, ProperValue}
+use Rattle.program.specs.Formed.{Formed}
+use Rattle.decode.specs.declared.Decoded.{Decoded}
+use Rattle.decode.specs.declared.Decoded.the-variants.{Model as Accepted, Refused}
+use Rattle.decode.specs.Stages.{Capacity, StageShape, serversCells}
+
+-- all cells of the tables
+unfoldable pub tablesOf : BlockModel → List ℕ
+tablesOf m =
+    storedRows blockNumbers 8 0 (m .blocks)
+    (storedRows sumNumbers 64 2048 (m .values)
+    (serversCells (record { facilities = m .facilities; storages = length (m .capacities); capacities = m .capacities })))
+
+pub record ProperModel (m : BlockModel) : Type 0 where
+  pub facilities : m .facilities ≤ Limits.maxFacilities
+  pub storages : length (m .capacities) ≤ Limits.maxStorages
+  pub capacity : Each Capacity (m .capacities)
+  pub values : length (m .values) ≤ Limits.maxValues
+  pub value : Each ProperValue (m .values)
+  pub lists : m .lists ≤ Limits.maxLists
+  pub blocks : length (m .blocks) ≤ Limits.maxBlocks
+  pub block : Each (Formed (length (m .blocks))) (m .blocks)
+
+abbrev pub modelShape : StageShape BlockModel
+modelShape =
+    record {
+      header = λ h m. headerOf m;
+      named = λ n m. allNamed sumNamed n (m .values);
+      cells = λ h m cells. tablesOf m;
+      fact = λ h m. ProperModel m;
+    }
+
+abbrev pub HeldModel : List ℕ → Decoded → Parsed BlockModel → Type 0
+HeldModel after r (parsed m c) = (r ≡ Accepted (headerOf m)) × (after ≡ tablesOf m) × ProperModel m
+HeldModel after r (refused n) = r ≡ Refused n
+
+pub record Models (after : List ℕ) (r : Decoded) (P : Parsed BlockModel) : Type 0 where
+  pub held : HeldModel after r P

@@ -1,0 +1,128 @@
+-- Each kind of block, with operands in their ranges, is formed (specs/Formed).
+use Prim.Native.Nat.{ℕ, zero, suc, _+_, _-_, _≤_, _<_}
+use native.Mathlib.Omega.{arith}
+use mathlib.Core.Path.{_≡_, refl, sym, ap, _∙_}
+use mathlib.Core.Bool.{Bool, true, false, cond, not, _&&_, _||_}
+use mathlib.Core.List.{List, [], _∷_, _++_}
+use lib.Dec.{eqb, ltb, T}
+use lib.ListN.{length, getD, length-append}
+use borrow.Author.Tests.{ne-eqb, lt-ltb}
+use Rattle.machine.specs.Term.{Term, Relation}
+use Rattle.machine.specs.Block.{Code, Block, facts, generate, advance, terminate, seize, release, enter, leave, waitServer, waitTerms, branch, goto, assign, priority, split, arrive, depart}
+use Rattle.machine.specs.Validate.{isGenerate}
+use Rattle.tables.specs.Numbers.{blockNumbers, termNumbers, relationNumber}
+use Rattle.tables.specs.Represents.{smallBlock, smallTerm}
+use Rattle.values.proofs.Steps.{both}
+use Rattle.program.specs.Formed.{Formed, targetFrom, targetInside}
+
+-- two numbers
+two : (xs : List ℕ) → length xs ≡ 2 → xs ≡ getD xs 0 0 ∷ getD xs 1 0 ∷ []
+two [] h = absurd (omega arith)
+two (x ∷ []) h = absurd (omega arith)
+two (x ∷ y ∷ []) h = refl
+two (x ∷ y ∷ z ∷ l) h = absurd (omega arith)
+
+pub formed-generate : (most : ℕ) (list p : ℕ) → 1 ≤ list → Formed most (generate list p)
+unfolding blockNumbers smallBlock facts targetFrom targetInside
+formed-generate most list p h =
+    record { width = omega arith; small = tt; generates = rw (ne-eqb list 0 (omega arith)) refl; leaves = refl; target = refl; inside = tt; names = omega arith }
+
+pub formed-advance : (most : ℕ) (list : ℕ) → Formed most (advance list)
+unfolding blockNumbers smallBlock facts targetFrom targetInside
+formed-advance most list =
+    record { width = omega arith; small = tt; generates = refl; leaves = refl; target = refl; inside = tt; names = omega arith }
+
+pub formed-terminate : (most : ℕ) (a : ℕ) → Formed most (terminate a)
+unfolding blockNumbers smallBlock facts targetFrom targetInside
+formed-terminate most a =
+    record { width = omega arith; small = tt; generates = refl; leaves = refl; target = refl; inside = tt; names = omega arith }
+
+pub formed-seize : (most : ℕ) (v : ℕ) → Formed most (seize v)
+unfolding blockNumbers smallBlock facts targetFrom targetInside
+formed-seize most v =
+    record { width = omega arith; small = tt; generates = refl; leaves = refl; target = refl; inside = tt; names = omega arith }
+
+pub formed-release : (most : ℕ) (v : ℕ) → Formed most (release v)
+unfolding blockNumbers smallBlock facts targetFrom targetInside
+formed-release most v =
+    record { width = omega arith; small = tt; generates = refl; leaves = refl; target = refl; inside = tt; names = omega arith }
+
+pub formed-enter : (most : ℕ) (v b : ℕ) → Formed most (enter v b)
+unfolding blockNumbers smallBlock facts targetFrom targetInside
+formed-enter most v b =
+    record { width = omega arith; small = tt; generates = refl; leaves = refl; target = refl; inside = tt; names = omega arith }
+
+pub formed-leave : (most : ℕ) (v b : ℕ) → Formed most (leave v b)
+unfolding blockNumbers smallBlock facts targetFrom targetInside
+formed-leave most v b =
+    record { width = omega arith; small = tt; generates = refl; leaves = refl; target = refl; inside = tt; names = omega arith }
+
+pub formed-wait-server : (most : ℕ) (code : Code) (v : ℕ) → Formed most (waitServer code v)
+unfolding blockNumbers smallBlock facts targetFrom targetInside
+formed-wait-server most code v =
+    record { width = omega arith; small = tt; generates = refl; leaves = refl; target = refl; inside = tt; names = omega arith }
+
+module _ (most : ℕ) (a : Term) (r : Relation) (b : Term) (two-a : length (termNumbers a) ≡ 2) (small-a : T (smallTerm a)) (two-b : length (termNumbers b) ≡ 2) (small-b : T (smallTerm b)) where
+  pub formed-wait-terms : Formed most (waitTerms a r b)
+  unfolding blockNumbers smallBlock facts targetFrom targetInside
+  formed-wait-terms =
+      let n : 0 < length (blockNumbers (waitTerms a r b)) = omega arith in
+      record {
+        width = simp length-append (omega arith);
+        small = both (smallTerm a) (smallTerm b) small-a small-b;
+        generates = refl;
+        leaves = refl;
+        target = refl;
+        inside = rw (lt-ltb 0 _ n) tt;
+        names = omega arith;
+      }
+
+  -- the target stands at 6
+  sixth : (xs ys : List ℕ) (x t : ℕ) → length xs ≡ 2 → length ys ≡ 2 → t ≡ getD (10 ∷ (xs ++ (x ∷ (ys ++ (t ∷ []))))) 6 0
+  sixth xs ys x t h g = rw (two xs h, two ys g)
+
+  pub formed-branch : (t : ℕ) → t ≤ most → Formed most (branch a r b t)
+  unfolding blockNumbers smallBlock facts targetFrom targetInside
+  formed-branch t h =
+      let some : 0 < length (blockNumbers (branch a r b t)) = omega arith in
+      let n : 6 < length (10 ∷ (termNumbers a ++ (relationNumber r ∷ (termNumbers b ++ (t ∷ []))))) = simp length-append (omega arith) in
+      record {
+        width = simp length-append (omega arith);
+        small = both (smallTerm a) (smallTerm b) small-a small-b;
+        generates = refl;
+        leaves = refl;
+        target = sixth (termNumbers a) (termNumbers b) (relationNumber r) t two-a two-b;
+        inside = rw (lt-ltb 0 _ some, lt-ltb 6 _ n) tt;
+        names = h;
+      }
+
+pub formed-goto : (most : ℕ) (t : ℕ) → t ≤ most → Formed most (goto t)
+unfolding blockNumbers smallBlock facts targetFrom targetInside
+formed-goto most t h =
+    record { width = omega arith; small = tt; generates = refl; leaves = refl; target = refl; inside = tt; names = h }
+
+pub formed-assign : (most : ℕ) (k : ℕ) (a : Term) → length (termNumbers a) ≡ 2 → T (smallTerm a) → Formed most (assign k a)
+unfolding blockNumbers smallBlock facts targetFrom targetInside
+formed-assign most k a h g =
+    let n : 0 < length (blockNumbers (assign k a)) = omega arith in
+    record { width = omega arith; small = g; generates = refl; leaves = refl; target = refl; inside = rw (lt-ltb 0 _ n) tt; names = omega arith }
+
+pub formed-priority : (most : ℕ) (p : ℕ) → Formed most (priority p)
+unfolding blockNumbers smallBlock facts targetFrom targetInside
+formed-priority most p =
+    record { width = omega arith; small = tt; generates = refl; leaves = refl; target = refl; inside = tt; names = omega arith }
+
+pub formed-split : (most : ℕ) (n t : ℕ) → t ≤ most → Formed most (split n t)
+unfolding blockNumbers smallBlock facts targetFrom targetInside
+formed-split most n t h =
+    record { width = omega arith; small = tt; generates = refl; leaves = refl; target = refl; inside = tt; names = h }
+
+pub formed-arrive : (most : ℕ) (q : ℕ) → Formed most (arrive q)
+unfolding blockNumbers smallBlock facts targetFrom targetInside
+formed-arrive most q =
+    record { width = omega arith; small = tt; generates = refl; leaves = refl; target = refl; inside = tt; names = omega arith }
+
+pub formed-depart : (most : ℕ) (q : ℕ) → Formed most (depart q)
+unfolding blockNumbers smallBlock facts targetFrom targetInside
+formed-depart most q =
+    record { width = omega arith; small = tt; generates = refl; leaves = refl; target = refl; inside = tt; names = omega arith }

@@ -1,0 +1,45 @@
+-- `program::names_generate` meets its contract: no target, or the kind that stands there.
+use borrow.Author.Tests.{eq-eqb, ne-eqb}
+use Rattle.program.specs.Formed.{namesGenerate}
+use borrow.Author.Needs.{needs}
+use Rattle.program.proofs.names_generate.Statement.{statement}
+use Rattle.program.proofs.names_generate.Tie as tie
+
+target-requires : tie.Need-target-requires
+target-requires c κs = search needs
+
+cast-t : tie.Need-cast-t
+cast-t c = search needs
+
+returns : tie.Need-returns
+unfolding namesGenerate
+returns c = rw (← c .before .target .ensures, eq-eqb _ 0 (c .if1 .taken))
+
+sub-result : tie.Need-sub-result
+sub-result c = search needs
+
+mul-result : tie.Need-mul-result
+mul-result c = search needs
+
+mul-result-2 : tie.Need-mul-result-2
+mul-result-2 c = search needs
+
+element-copy-out-result : tie.Need-element-copy-out-result
+element-copy-out-result c = search needs
+
+returns-2 : tie.Need-returns-2
+unfolding namesGenerate
+returns-2 c = rw (← c .before .before .target .ensures, ne-eqb _ 0 (c .before .if1 .left))
+
+pub names-generate-spec : {M : Type 1} → statement M
+names-generate-spec =
+    tie.close
+    (tie.spec
+    target-requires
+    cast-t
+    returns
+    sub-result
+    mul-result
+    mul-result-2
+    element-copy-out-result
+    returns-2)

@@ -1,0 +1,154 @@
+-- `program::operands` meets its contract: each arm is its kind's line of the machine's `operands`.
+use Rattle.program.proofs.Steps.{kind-1, kind-2, kind-3, kind-4, kind-5, kind-6, kind-7, kind-9, kind-11, kind-13, kind-14, kind-15, kind-16, the-last}
+use borrow.Author.Needs.{needs}
+use Rattle.program.proofs.operands.Statement.{statement}
+use Rattle.program.proofs.operands.Tie as tie
+
+range-requires : tie.Need-range-requires
+range-requires c κs = search needs
+
+range-requires-2 : tie.Need-range-requires-2
+range-requires-2 c κs = search needs
+
+pair-requires : tie.Need-pair-requires
+pair-requires c κs = search needs
+
+single-requires : tie.Need-single-requires
+single-requires c κs = search needs
+
+single-requires-2 : tie.Need-single-requires-2
+single-requires-2 c κs = search needs
+
+single-requires-3 : tie.Need-single-requires-3
+single-requires-3 c κs = search needs
+
+single-requires-4 : tie.Need-single-requires-4
+single-requires-4 c κs = search needs
+
+units-requires : tie.Need-units-requires
+units-requires c κs = search needs
+
+units-requires-2 : tie.Need-units-requires-2
+units-requires-2 c κs = search needs
+
+wait-server-requires : tie.Need-wait-server-requires
+wait-server-requires c κs = search needs
+
+compared-requires : tie.Need-compared-requires
+compared-requires c κs = search needs
+
+branch-requires : tie.Need-branch-requires
+branch-requires c κs = search needs
+
+single-requires-5 : tie.Need-single-requires-5
+single-requires-5 c κs = search needs
+
+assign-requires : tie.Need-assign-requires
+assign-requires c κs = search needs
+
+single-requires-6 : tie.Need-single-requires-6
+single-requires-6 c κs = search needs
+
+range-requires-3 : tie.Need-range-requires-3
+range-requires-3 c κs = search needs
+
+range-requires-4 : tie.Need-range-requires-4
+range-requires-4 c κs = search needs
+
+pair-requires-2 : tie.Need-pair-requires-2
+pair-requires-2 c κs = search needs
+
+single-requires-7 : tie.Need-single-requires-7
+single-requires-7 c κs = search needs
+
+single-requires-8 : tie.Need-single-requires-8
+single-requires-8 c κs = search needs
+
+returns : tie.Need-returns
+returns c = rw (c .before .before .before .before .match .keys1) (kind-1 _ _ _ _ _ (c .before .before .before .range .ensures) (c .before .before .range2 .ensures) (c .pair .ensures))
+
+returns-2 : tie.Need-returns-2
+returns-2 c = rw (c .before .before .match .keys2) (kind-2 _ _ _ (c .single .ensures))
+
+returns-3 : tie.Need-returns-3
+returns-3 c = rw (c .before .before .match .keys3) (kind-3 _ _ _ (c .single2 .ensures))
+
+returns-4 : tie.Need-returns-4
+returns-4 c = rw (c .before .before .match .keys4) (kind-4 _ _ _ (c .single3 .ensures))
+
+returns-5 : tie.Need-returns-5
+returns-5 c = rw (c .before .before .match .keys5) (kind-5 _ _ _ (c .single4 .ensures))
+
+returns-6 : tie.Need-returns-6
+returns-6 c = rw (c .before .before .match .keys6) (kind-6 _ _ _ (c .units .ensures))
+
+returns-7 : tie.Need-returns-7
+returns-7 c = rw (c .before .before .match .keys7) (kind-7 _ _ _ (c .units2 .ensures))
+
+returns-8 : tie.Need-returns-8
+returns-8 c = rw (c .before .before .match .keys8) (c .wait-server .ensures)
+
+returns-9 : tie.Need-returns-9
+returns-9 c = rw (c .before .before .match .keys9) (kind-9 _ _ _ (c .compared .ensures))
+
+returns-10 : tie.Need-returns-10
+returns-10 c = rw (c .before .before .match .keys10) (c .branch .ensures)
+
+returns-11 : tie.Need-returns-11
+returns-11 c = rw (c .before .before .match .keys11) (kind-11 _ _ _ (c .single5 .ensures))
+
+returns-12 : tie.Need-returns-12
+returns-12 c = rw (c .before .before .match .keys12) (c .assign .ensures)
+
+returns-13 : tie.Need-returns-13
+returns-13 c = rw (c .before .before .match .keys13) (kind-13 _ _ _ (c .single6 .ensures))
+
+returns-14 : tie.Need-returns-14
+returns-14 c = rw (c .before .before .before .before .match .keys14) (kind-14 _ _ _ _ _ (c .before .before .before .range3 .ensures) (c .before .before .range4 .ensures) (c .pair2 .ensures))
+
+returns-15 : tie.Need-returns-15
+returns-15 c = rw (c .before .before .match .keys15) (kind-15 _ _ _ (c .single7 .ensures))
+
+returns-16 : tie.Need-returns-16
+returns-16 c = rw (the-last _ (c .before .before .before .before .pre .2) (c .before .before .before .before .pre .3) (c .before .before .match .rest)) (kind-16 _ _ _ (c .single8 .ensures))
+
+pub operands-spec : {M : Type 1} → statement M
+operands-spec =
+    tie.close
+    (tie.spec
+    range-requires
+    range-requires-2
+    pair-requires
+    single-requires
+    single-requires-2
+    single-requires-3
+    single-requires-4
+    units-requires
+    units-requires-2
+    wait-server-requires
+    compared-requires
+    branch-requires
+    single-requires-5
+    assign-requires
+    single-requires-6
+    range-requires-3
+    range-requires-4
+    pair-requires-2
+    single-requires-7
+    single-requires-8
+    returns
+    returns-2
+    returns-3
+    returns-4
+    returns-5
+    returns-6
+    returns-7
+    returns-8
+    returns-9
+    returns-10
+    returns-11
+    returns-12
+    returns-13
+    returns-14
+    returns-15
+    returns-16)

@@ -1,0 +1,54 @@
+-- Question 7 over rows of numbers, and what is known of a block that was read.
+use Prim.Native.Nat.{ℕ, zero, suc, _+_, _*_, _-_, _≤_, _<_}
+use mathlib.Core.Path.{_≡_}
+use mathlib.Core.Bool.{Bool, true, false, cond, not, _&&_, _||_}
+use mathlib.Core.List.{List, [], _∷_}
+use lib.Dec.{eqb, ltb, T}
+use lib.ListN.{length, getD}
+use Rattle.machine.specs.Block.{Block, facts}
+use Rattle.machine.specs.Validate.{isGenerate}
+use Rattle.tables.specs.Numbers.{blockNumbers}
+use Rattle.tables.specs.Represents.{smallBlock}
+
+-- ---- By the numbers of a row
+
+abbrev pub leavesKind : ℕ → Bool
+leavesKind kind = eqb kind 3 || eqb kind 11
+
+-- the target of the block whose row begins at a place, 0 if it has none
+unfoldable pub targetFrom : List ℕ → ℕ → ℕ
+targetFrom l at =
+    cond (eqb (getD l at 0) 10) (getD l (at + 6) 0)
+    (cond (eqb (getD l at 0) 11) (getD l (at + 1) 0) (cond (eqb (getD l at 0) 14) (getD l (at + 2) 0) 0))
+
+-- the same for where the target stands, so that the row must be that long
+unfoldable pub targetInside : List ℕ → Bool
+targetInside row =
+    ltb 0 (length row)
+    && cond (eqb (getD row 0 0) 10) (ltb 6 (length row))
+    (cond (eqb (getD row 0 0) 11) (ltb 1 (length row)) (cond (eqb (getD row 0 0) 14) (ltb 2 (length row)) true))
+
+unfoldable pub namesGenerate : List ℕ → ℕ → Bool
+namesGenerate l at = not (eqb (targetFrom l at) 0) && eqb (getD l (8 * (targetFrom l at - 1)) 0) 1
+
+-- so many rows from a place on, behind a block that leaves or not
+unfoldable pub placedFrom : List ℕ → (count at : ℕ) → Bool → Bool
+placedFrom l zero at left = left
+placedFrom l (suc n) at left = not (eqb (getD l at 0) 1 && not left) && placedFrom l n (at + 8) (leavesKind (getD l at 0))
+
+unfoldable pub targetsFrom : List ℕ → (count at : ℕ) → Bool
+targetsFrom l zero at = true
+targetsFrom l (suc n) at = not (namesGenerate l at) && targetsFrom l n (at + 8)
+
+-- ---- A block that was read
+
+-- of `most` blocks
+pub record Formed (most : ℕ) (b : Block) : Type 0 where
+  pub width : length (blockNumbers b) ≤ 8
+  pub small : T (smallBlock b)
+  -- its row tells what question 7 asks of it
+  pub generates : isGenerate (facts b) ≡ eqb (getD (blockNumbers b) 0 0) 1
+  pub leaves : facts b .leaves ≡ leavesKind (getD (blockNumbers b) 0 0)
+  pub target : facts b .target ≡ targetFrom (blockNumbers b) 0
+  pub inside : T (targetInside (blockNumbers b))
+  pub names : facts b .target ≤ most

@@ -1,0 +1,298 @@
+// The program of a model (document 01, "Blocks", "Kind and operands as stored"): blocks read with
+// questions 3 and 4 and stored in the tables as they are read; then what question 7 asks of them.
+use machine::Model;
+use tables::BLOCK_WIDTH;
+use tables::CAPACITIES;
+use tables::TABLES;
+use values::Place;
+use values::Range;
+use values::Stored;
+use values::Taken;
+use values::block_term;
+use values::keep;
+ghost use mathlib.Core.Path.{_≡_};
+ghost use mathlib.Core.Bool.{Bool, true, _&&_, _||_, not};
+ghost use Prim.Native.Nat.{ℕ, _+_, _*_, _≤_, _<_};
+ghost use lib.Dec.{eqb};
+ghost use Rattle.machine.specs.Parser.{field, times};
+ghost use Rattle.machine.specs.Decode.{operands as operandsField, blockField};
+ghost use Rattle.values.specs.Keeps.{Stores, cursorOf, numberShape};
+ghost use Rattle.values.specs.Rows.{Rows};
+ghost use Rattle.values.specs.Shapes.{Within, countsOf};
+ghost use Rattle.program.specs.Shapes.{pairField, pairShape, unitsField, unitsShape, comparedField, comparedShape, operandsShape, blockShape, capacitiesOf};
+ghost use Rattle.program.specs.Formed.{Formed, leavesKind, targetFrom, namesGenerate, placedFrom, targetsFrom};
+
+// ---- Operands
+
+// One number.
+pub fn single(
+    s: &[u8],
+    tables: &mut [u32; TABLES],
+    to: usize,
+    p: Place,
+    lo: usize,
+    hi: usize,
+    plus: usize,
+) -> Stored
+    requires { ⌜ (to < 2624) × (hi + plus < 4294967296 + lo) ⌝ }
+    ensures { λ r. ⌜ Stores (numberShape lo hi plus) p to (now (tables .entry)) (now (tables .exit)) r (field (now (s .entry)) 3 lo hi (cursorOf p)) ⌝ }
+{
+    match keep(s, tables, to, p, lo, hi, plus) {
+        Taken::Refused(n) => Stored::Refused(n),
+        Taken::Number(_, q) => Stored::Done(q),
+    }
+}
+
+// Two numbers.
+fn pair(
+    s: &[u8],
+    tables: &mut [u32; TABLES],
+    to: usize,
+    p: Place,
+    first: Range,
+    second: Range,
+) -> Stored
+    requires { ⌜ (to + 1 < 2624) × (first .hi + first .plus < 4294967296 + first .lo) × (second .hi + second .plus < 4294967296 + second .lo) ⌝ }
+    ensures { λ r. ⌜ Stores (pairShape first second) p to (now (tables .entry)) (now (tables .exit)) r (pairField (now (s .entry)) first second (cursorOf p)) ⌝ }
+{
+    match keep(s, tables, to, p, first.lo, first.hi, first.plus) {
+        Taken::Refused(n) => Stored::Refused(n),
+        Taken::Number(_, q) => single(s, tables, to + 1, q, second.lo, second.hi, second.plus),
+    }
+}
+
+fn wide(x: u32) -> usize
+    ensures { λ r. ⌜ (r ≡ x) × (r < 4294967296) ⌝ }
+{
+    x as usize
+}
+
+// A storage and 1..capacity units of it, for ENTER and LEAVE.
+fn units(s: &[u8], tables: &mut [u32; TABLES], to: usize, m: Model, p: Place) -> Stored
+    requires { ⌜ (to + 1 < 2048) × Within m ⌝ }
+    ensures { λ r. ⌜ Stores (unitsShape (countsOf m)) p to (now (tables .entry)) (now (tables .exit)) r (unitsField (now (s .entry)) (countsOf m) (capacitiesOf m (now (tables .entry))) (cursorOf p)) ⌝ }
+{
+    match keep(s, tables, to, p, 1, m.storages, m.facilities) {
+        Taken::Refused(n) => Stored::Refused(n),
+        Taken::Number(k, q) => {
+            let capacity = wide(tables[CAPACITIES + m.facilities + (k - 1)]);
+            single(s, tables, to + 1, q, 1, capacity, 1)
+        }
+    }
+}
+
+// WAITIF code, server: a facility for codes 1 and 2, else a storage.
+fn wait_server(s: &[u8], tables: &mut [u32; TABLES], to: usize, m: Model, p: Place) -> Stored
+    requires { ⌜ (to + 1 < 2624) × Within m ⌝ }
+    ensures { λ r. ⌜ Stores (operandsShape (m .blocks) 8) p to (now (tables .entry)) (now (tables .exit)) r (operandsField (now (s .entry)) (countsOf m) (capacitiesOf m (now (tables .entry))) 8 (cursorOf p)) ⌝ }
+{
+    match keep(s, tables, to, p, 1, 6, 0) {
+        Taken::Refused(n) => Stored::Refused(n),
+        Taken::Number(code, q) => {
+            if code <= 2 {
+                return single(s, tables, to + 1, q, 1, m.facilities, 0);
+            }
+            single(s, tables, to + 1, q, 1, m.storages, m.facilities)
+        }
+    }
+}
+
+// A term, a relation and a term.
+fn compared(s: &[u8], tables: &mut [u32; TABLES], to: usize, m: Model, p: Place) -> Stored
+    requires { ⌜ (to + 4 < 2624) × Within m ⌝ }
+    ensures { λ r. ⌜ Stores comparedShape p to (now (tables .entry)) (now (tables .exit)) r (comparedField (now (s .entry)) (countsOf m) (cursorOf p)) ⌝ }
+{
+    match block_term(s, tables, to, m, p) {
+        Stored::Refused(n) => Stored::Refused(n),
+        Stored::Done(left) => match single(s, tables, to + 2, left, 1, 6, 1) {
+            Stored::Refused(n) => Stored::Refused(n),
+            Stored::Done(q) => block_term(s, tables, to + 3, m, q),
+        },
+    }
+}
+
+// IF left, relation, right, target.
+fn branch(s: &[u8], tables: &mut [u32; TABLES], to: usize, m: Model, p: Place) -> Stored
+    requires { ⌜ (to + 5 < 2624) × Within m ⌝ }
+    ensures { λ r. ⌜ Stores (operandsShape (m .blocks) 10) p to (now (tables .entry)) (now (tables .exit)) r (operandsField (now (s .entry)) (countsOf m) (capacitiesOf m (now (tables .entry))) 10 (cursorOf p)) ⌝ }
+{
+    match compared(s, tables, to, m, p) {
+        Stored::Refused(n) => Stored::Refused(n),
+        Stored::Done(q) => single(s, tables, to + 5, q, 1, m.blocks, 1),
+    }
+}
+
+// LET parameter, term.
+fn assign(s: &[u8], tables: &mut [u32; TABLES], to: usize, m: Model, p: Place) -> Stored
+    requires { ⌜ (to + 2 < 2624) × Within m ⌝ }
+    ensures { λ r. ⌜ Stores (operandsShape (m .blocks) 12) p to (now (tables .entry)) (now (tables .exit)) r (operandsField (now (s .entry)) (countsOf m) (capacitiesOf m (now (tables .entry))) 12 (cursorOf p)) ⌝ }
+{
+    match single(s, tables, to, p, 1, Model::PARAMETERS, 0) {
+        Stored::Refused(n) => Stored::Refused(n),
+        Stored::Done(q) => block_term(s, tables, to + 1, m, q),
+    }
+}
+
+fn range(lo: usize, hi: usize, plus: usize) -> Range
+    ensures { λ r. ⌜ (r .lo ≡ lo) × (r .hi ≡ hi) × (r .plus ≡ plus) ⌝ }
+{
+    Range { lo, hi, plus }
+}
+
+// What follows a kind from 1 to 16.
+fn operands(
+    s: &[u8],
+    tables: &mut [u32; TABLES],
+    to: usize,
+    m: Model,
+    kind: usize,
+    p: Place,
+) -> Stored
+    requires { ⌜ (to + 5 < 2048) × Within m × (kind ≤ 16) × (1 ≤ kind) ⌝ }
+    ensures { λ r. ⌜ Stores (operandsShape (m .blocks) kind) p to (now (tables .entry)) (now (tables .exit)) r (operandsField (now (s .entry)) (countsOf m) (capacitiesOf m (now (tables .entry))) kind (cursorOf p)) ⌝ }
+{
+    match kind {
+        1 => {
+            let list = range(1, m.lists, 0);
+            let priority = range(0, Model::MAX_PRIORITY, 0);
+            pair(s, tables, to, p, list, priority)
+        }
+        2 => single(s, tables, to, p, 1, m.lists, 0),
+        3 => single(s, tables, to, p, 0, Model::MAX_TERMINATE, 0),
+        4 => single(s, tables, to, p, 1, m.facilities, 0),
+        5 => single(s, tables, to, p, 1, m.facilities, 0),
+        6 => units(s, tables, to, m, p),
+        7 => units(s, tables, to, m, p),
+        8 => wait_server(s, tables, to, m, p),
+        9 => compared(s, tables, to, m, p),
+        10 => branch(s, tables, to, m, p),
+        11 => single(s, tables, to, p, 1, m.blocks, 1),
+        12 => assign(s, tables, to, m, p),
+        13 => single(s, tables, to, p, 0, Model::MAX_PRIORITY, 0),
+        14 => {
+            let copies = range(1, Model::MAX_SPLIT, 1);
+            let target = range(1, m.blocks, 1);
+            pair(s, tables, to, p, copies, target)
+        }
+        15 => single(s, tables, to, p, 1, m.queues, 0),
+        _ => single(s, tables, to, p, 1, m.queues, 0),
+    }
+}
+
+// ---- Blocks
+
+// Block b (from 0).
+fn block(s: &[u8], tables: &mut [u32; TABLES], b: usize, m: Model, p: Place) -> Stored
+    requires { ⌜ (b < 256) × Within m ⌝ }
+    ensures { λ r. ⌜ Stores (blockShape (m .blocks)) p (0 + 8 * b) (now (tables .entry)) (now (tables .exit)) r (blockField (now (s .entry)) (countsOf m) (capacitiesOf m (now (tables .entry))) (cursorOf p)) ⌝ }
+{
+    let to = BLOCK_WIDTH * b;
+    match keep(s, tables, to, p, 1, 16, 1) {
+        Taken::Refused(n) => Stored::Refused(n),
+        Taken::Number(kind, q) => operands(s, tables, to + 1, m, kind, q),
+    }
+}
+
+// All blocks.
+pub fn blocks(s: &[u8], tables: &mut [u32; TABLES], m: Model, p: Place) -> Stored
+    requires { ⌜ Within m ⌝ }
+    ensures { λ r. ⌜ Rows (blockShape (m .blocks)) (Formed (m .blocks)) 8 0 p (now (tables .entry)) (now (tables .exit)) r (times (m .blocks) (blockField (now (s .entry)) (countsOf m) (capacitiesOf m (now (tables .entry)))) (cursorOf p)) ⌝ }
+{
+    let mut b = 0;
+    let mut q = p;
+    while b < m.blocks {
+        match block(s, tables, b, m, q) {
+            Stored::Refused(n) => return Stored::Refused(n),
+            Stored::Done(next) => {
+                q = next;
+                b += 1;
+            }
+        }
+    }
+    Stored::Done(q)
+}
+
+// ---- Question 7, over the rows of the program
+
+// TERMINATE or GOTO: nothing goes on past it.
+fn leaves(kind: u32) -> bool
+    ensures { λ r. ⌜ r ≡ leavesKind kind ⌝ }
+{
+    if kind == 3 {
+        return true;
+    }
+    kind == 11
+}
+
+// A GENERATE behind a block that goes on, or with nothing before it that leaves.
+fn misplaced(kind: u32, left: bool) -> bool
+    ensures { λ r. ⌜ r ≡ (eqb kind 1 && not left) ⌝ }
+{
+    if kind == 1 {
+        return !left;
+    }
+    false
+}
+
+// Each GENERATE is first or after TERMINATE or GOTO, and the last block is one of these.
+pub fn well_placed(tables: &[u32; TABLES], blocks: usize) -> bool
+    requires { ⌜ blocks ≤ 256 ⌝ }
+    ensures { λ r. ⌜ r ≡ placedFrom (now (tables .entry)) blocks 0 true ⌝ }
+{
+    let mut left = true;
+    let mut b = 0;
+    while b < blocks {
+        let kind = tables[BLOCK_WIDTH * b];
+        if misplaced(kind, left) {
+            return false;
+        }
+        left = leaves(kind);
+        b += 1;
+    }
+    left
+}
+
+// The target of block b, 0 if it has none.
+fn target(tables: &[u32; TABLES], b: usize) -> u32
+    requires { ⌜ b < 256 ⌝ }
+    ensures { λ r. ⌜ r ≡ targetFrom (now (tables .entry)) (8 * b) ⌝ }
+{
+    let at = BLOCK_WIDTH * b;
+    let kind = tables[at];
+    if kind == 10 {
+        return tables[at + 6];
+    }
+    if kind == 11 {
+        return tables[at + 1];
+    }
+    if kind == 14 {
+        return tables[at + 2];
+    }
+    0
+}
+
+fn names_generate(tables: &[u32; TABLES], b: usize) -> bool
+    requires { ⌜ (b < 256) × (targetFrom (now tables) (8 * b) ≤ 256) ⌝ }
+    ensures { λ r. ⌜ r ≡ namesGenerate (now (tables .entry)) (8 * b) ⌝ }
+{
+    let t = target(tables, b) as usize;
+    if t == 0 {
+        return false;
+    }
+    tables[BLOCK_WIDTH * (t - 1)] == 1
+}
+
+// No target names a GENERATE.
+pub fn targets_move(tables: &[u32; TABLES], blocks: usize) -> bool
+    requires { ⌜ (blocks ≤ 256) × ((b : ℕ) → b < blocks → targetFrom (now tables) (8 * b) ≤ 256) ⌝ }
+    ensures { λ r. ⌜ r ≡ targetsFrom (now (tables .entry)) blocks 0 ⌝ }
+{
+    let mut b = 0;
+    while b < blocks {
+        if names_generate(tables, b) {
+            return false;
+        }
+        b += 1;
+    }
+    true
+}

@@ -1,0 +1,3 @@
+pub mod Keeps
+pub mod Shapes
+pub mod Rows
