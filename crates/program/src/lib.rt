@@ -249,7 +249,8 @@ pub fn well_placed(tables: &[u32; TABLES], blocks: usize) -> bool
         left = leaves(kind);
         b += 1;
     }
-    left
+    let last_leaves = left;
+    last_leaves
 }
 
 // The target of block b, 0 if it has none.
