@@ -75,7 +75,7 @@ module _ (model tape : List ℕ) (budget : ℕ) (work trace report : List ℕ) (
     (accepted : validate model tape (length work) (length report) ≡ accept m times) (tables lists : List ℕ) (represents : Represents m times tape tables lists)
     (started : Runs tape trace (traced (startRows (headerOf m) tables tape lists work (replicate tallySize 0)) trace) (start m times))
     (turned : (a : Traced) (s : State) → Taken budget (length trace) s → Kept m times (length trace) s → Runs tape trace a s
-        → Runs tape trace (turnRows (headerOf m) tables tape a) (turn m s)) where
+    → Runs tape trace (turnRows (headerOf m) tables tape a) (turn m s)) where
   proper : Proper m times
   proper = proper-from model tape (length work) (length report) accepted
 

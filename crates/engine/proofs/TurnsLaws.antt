@@ -60,8 +60,8 @@ module _ (model : Model) (tables tape : List ℕ) (budget room : ℕ) (x : Scala
     turns-on z there whole step rest =
         ap (turnsFrom model tables tape budget room (n - 1)) (step ∙ sym turn-of)
         ∙ sym
-            (ap (λ (k : ℕ). turnsFrom model tables tape budget room k here) next
-            ∙ steps-on (endOf budget room) (turnRows model tables tape) closeRows (n - 1) here (end-of ∙ sym told ∙ z))
+        (ap (λ (k : ℕ). turnsFrom model tables tape budget room k here) next
+        ∙ steps-on (endOf budget room) (turnRows model tables tape) closeRows (n - 1) here (end-of ∙ sym told ∙ z))
         ∙ rest
 
 -- ---- From the start on

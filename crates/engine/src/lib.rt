@@ -26,7 +26,14 @@ pub fn run(
 {
     let mut tables = [0u32; TABLES];
     let mut lists = [0u64; 32];
-    let decoded = decode(model, tape, work.len(), report.len(), &mut tables, &mut lists);
+    let decoded = decode(
+        model,
+        tape,
+        work.len(),
+        report.len(),
+        &mut tables,
+        &mut lists,
+    );
     match decoded {
         Decoded::Refused(n) => refused(n),
         Decoded::Model(m) => accepted(m, &tables, &lists, tape, budget, work, trace, report),

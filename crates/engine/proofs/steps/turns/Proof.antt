@@ -56,8 +56,7 @@ loop-again : tie.Need-loop-again Inv-loop μ-loop
 loop-again c =
     let at = c .before .before .before .before .before .before .before .before .before .before .before .before .before .before .loop in
     let call = c .before .before .before .before .before .before .turn in
-    let told = c .before .before .before .before .before .before .before .before .before .before .before .end-before .ensures ∙ ap (endRows (at .work) (at .y) (c .before .before .before .before .before .before .before .before .before .before .before .before .before .before .before .before .before .before .before .before .args .budget)) (at .inv .3) in
-    (
+    let told = c .before .before .before .before .before .before .before .before .before .before .before .end-before .ensures ∙ ap (endRows (at .work) (at .y) (c .before .before .before .before .before .before .before .before .before .before .before .before .before .before .before .before .before .before .before .before .args .budget)) (at .inv .3) in (
       turns-on _ _ _ _ _ _ _ _ _ (at .left) _ (omega arith) told (c .before .before .before .before .before .before .before .before .before .before .if1 .left) _ _ (call .ensures) (at .inv .0),
       call .kept .1 .1 .1 .0 ∙ at .inv .1,
       call .kept .1 .1 .1 .1 .0 ∙ at .inv .2,
