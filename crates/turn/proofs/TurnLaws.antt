@@ -158,9 +158,9 @@ module _ {m : BlockModel} {tape : List (List ℕ)} {tapeBytes tables lists befor
     below : t .next - 1 < 256
     below = omega (arith, subst (Maybe (Placed m)) moving (sane .placed .moving) .0 .1, proper .blocks .1)
 
-    act-is : actMoving tables values tapeBytes w tally trace x ≡ withNote after trace (t .number) (t .next)
+    acting : Runs tapeBytes before (actMoving tables values tapeBytes w tally trace x) (Machine.execute (some t) m s)
     unfolding actMoving act
-    act-is = rw (lt-ltb (x .moving) 1024 (stands .listing .mover .0 .row), number-read, next-read, lt-ltb (t .next - 1) 256 below)
+    acting = rw (lt-ltb (x .moving) 1024 (stands .listing .mover .0 .row), number-read, next-read, lt-ltb (t .next - 1) 256 below) noted-runs
 
   nobody : s .moving ≡ none → Stands tapeBytes r none s → Runs tapeBytes before (actMoving tables values tapeBytes w tally trace x) s
   unfolding actMoving
@@ -177,7 +177,7 @@ module _ {m : BlockModel} {tape : List (List ℕ)} {tapeBytes tables lists befor
 
   pub act-runs : (o : Option Transaction) → s .moving ≡ o → Stands tapeBytes r o s → Runs tapeBytes before (actMoving tables values tapeBytes w tally trace x) (Machine.execute o m s)
   act-runs none e stands = unfold Machine.execute in nobody e stands
-  act-runs (some t) e stands = subst (λ (a : Traced). Runs tapeBytes before a (Machine.execute (some t) m s)) (sym (act-is t e stands)) (noted-runs t e stands)
+  act-runs (some t) e stands = acting t e stands
 
 -- ---- The turn
 
