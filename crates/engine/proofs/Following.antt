@@ -24,7 +24,7 @@ use Rattle.state.proofs.Written.{Kept, kept-start, kept-turn, kept-end}
 use Rattle.turn.specs.Turn.{Traced, traced}
 use Rattle.turn.specs.Writes.{Writes}
 use Rattle.turn.specs.Runs.{Runs}
-use Rattle.flow.specs.Start.{startRows}
+use Rattle.start.specs.Start.{startRows}
 use Rattle.engine.specs.declared.outcome.Outcome.{Outcome as Results}
 use Rattle.engine.specs.Turns.{endOf, closeRows, turnRows}
 use Rattle.engine.specs.Last.{lastRows, Finishes}

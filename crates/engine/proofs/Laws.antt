@@ -22,15 +22,16 @@ use Rattle.terms.specs.Nested.{Nested}
 use Rattle.state.specs.Stands.{Rows, Stands}
 use Rattle.state.proofs.Sanity.{start-is}
 use Rattle.state.proofs.Written.{atBlock, inOrder, Kept}
-use Rattle.flow.specs.Start.{startScalars, startRows}
-use Rattle.flow.proofs.StartLaw.{start-stands}
-use Rattle.flow.proofs.Untouched.{start-untouched}
+use Rattle.start.specs.Start.{startScalars, startRows}
+use Rattle.start.proofs.Laws.{start-stands}
+use Rattle.start.proofs.Tally.{same-at}
+use Rattle.start.proofs.Untouched.{start-untouched}
 use Rattle.turn.specs.Turn.{Traced, traced}
 use Rattle.turn.specs.Writes.{Writes}
 use Rattle.turn.specs.Runs.{Runs}
 use Rattle.turn.proofs.TurnLaws.{turn-runs}
 use Rattle.engine.specs.Turns.{turnRows}
-use Rattle.engine.proofs.AtStart.{start-low, start-moving}
+use Rattle.start.proofs.AtStart.{start-low, start-moving}
 
 module _ {m : BlockModel} {times : List (List ℕ)} {tape tables lists : List ℕ} (proper : Proper m times) (represents : Represents m times tape tables lists) (nested : Nested m) (trace : List ℕ) where
   abbrev first : List ℕ → Rows
@@ -64,7 +65,7 @@ module _ {m : BlockModel} {times : List (List ℕ)} {tape tables lists : List �
       record {
         stands =
             subst (λ (o : Option Transaction). Stands tape (first work) o (start m times)) (sym (start-moving m times))
-            (start-stands m times tape tables lists proper represents work (replicate Layout.tallySize 0) room (length-replicate {A = ℕ} 960 0));
+            (start-stands m times tape tables lists proper represents work (replicate Layout.tallySize 0) room (length-replicate {A = ℕ} 960 0) (λ i h. same-at 960 i 0));
         writes =
             record {
               bytes = sym (rw (no-bytes, nothing-written));

@@ -5,6 +5,5 @@ pub mod Reading
 pub mod Outcomes
 pub mod Following
 pub mod Decoding
-pub mod AtStart
 pub mod Laws
 pub mod Running

@@ -7,7 +7,7 @@ use Rattle.machine.specs.declared.model.Model.{Model}
 use Rattle.tables.specs.Layout.{tallySize}
 use Rattle.state.specs.declared.scalars.Scalars.{Scalars}
 use Rattle.turn.specs.Turn.{Traced, traced}
-use Rattle.flow.specs.Start.{startRows}
+use Rattle.start.specs.Start.{startRows}
 use Rattle.report.specs.Writing.{written, putAll}
 use Rattle.report.specs.Numbers.{rowNumbers}
 use Rattle.engine.specs.declared.outcome.Outcome.{Outcome as Results}

@@ -1,9 +1,9 @@
 // The results of a run.
 use crate::outcome::Outcome;
 use crate::steps::turns;
-use flow::begin;
 use machine::Model;
 use report::write_report;
+use start::begin;
 use state::Scalars;
 use tables::TABLES;
 use tables::TALLY;
@@ -11,7 +11,7 @@ ghost use mathlib.Core.Path.{_≡_};
 ghost use Prim.Native.Nat.{_≤_};
 ghost use lib.ListN.{length};
 ghost use Rattle.state.specs.Stands.{rowsOf};
-ghost use Rattle.flow.specs.Start.{startRows};
+ghost use Rattle.start.specs.Start.{startRows};
 ghost use Rattle.turn.specs.Turn.{traced};
 ghost use Rattle.engine.specs.Turns.{turnsRows};
 ghost use Rattle.engine.specs.Last.{refusedWith, endedWith, lastRows, Finishes};

@@ -12,7 +12,4 @@ pub mod AdvanceLaw
 pub mod TerminateLaw
 pub mod PriorityLaw
 pub mod SplitLaw
-pub mod BlockSteps
-pub mod StartTally
-pub mod StartLaw
 pub mod Untouched

@@ -1,4 +1,4 @@
--- Bytes of trace and turns are counted elsewhere: no kind touches them, and both are 0 at the start.
+-- Bytes of trace and turns are counted elsewhere: no kind touches them.
 use Prim.Native.Nat.{ℕ, zero, suc, _+_, min}
 use mathlib.Core.Path.{_≡_, refl, _∙_}
 use mathlib.Core.Bool.{Bool, true, false, cond}
@@ -17,16 +17,15 @@ use Rattle.flow.specs.Samples.{nextSample}
 use Rattle.flow.specs.Sending.{plus32, toFuture, toReady, bornAt, born, arrives, copyTo, copyOne}
 use Rattle.flow.specs.Questions.{askRoom, askTime, askArrival}
 use Rattle.flow.specs.Kinds.{parked, arriveOn, generateWith, generateNext, generateRows, sendOn, delayRows, advanceWith, advanceNext, advanceRows, endOne, terminateRows, rankOn, priorityRows, copiesOf, splitOn, splitRows}
-use Rattle.flow.specs.Start.{startTally, startScalars, beginList, beginBlock, beginBlocks, startRows}
 
 pub record Untouched (x y : Scalars) : Type 0 where
   pub used : y .used ≡ x .used
   pub turns : y .turns ≡ x .turns
 
-untouched-trans : (x y z : Scalars) → Untouched x y → Untouched y z → Untouched x z
+pub untouched-trans : (x y z : Scalars) → Untouched x y → Untouched y z → Untouched x z
 untouched-trans x y z a b = record { used = b .used ∙ a .used; turns = b .turns ∙ a .turns }
 
-either : (b : Bool) (x : Scalars) (r s : Rows) → Untouched x (r .scalars) → Untouched x (s .scalars) → Untouched x (cond b r s .scalars)
+pub either : (b : Bool) (x : Scalars) (r s : Rows) → Untouched x (r .scalars) → Untouched x (s .scalars) → Untouched x (cond b r s .scalars)
 either true x r s f g = f
 either false x r s f g = g
 
@@ -42,7 +41,7 @@ stopped-untouched : (x : Scalars) (n : ℕ) → Untouched x (stopped x n)
 unfolding stopped
 stopped-untouched x n = record { used = refl; turns = refl }
 
-arrives-untouched : (w tally : List ℕ) (x : Scalars) (sample : Sample) (list priority block : ℕ) → Untouched x (arrives w tally x sample list priority block .scalars)
+pub arrives-untouched : (w tally : List ℕ) (x : Scalars) (sample : Sample) (list priority block : ℕ) → Untouched x (arrives w tally x sample list priority block .scalars)
 unfolding arrives born bornAt toFuture moved rowsOf
 arrives-untouched w tally x sample list priority block =
     either-moved (ltb (first w free) 1024) x (bornAt (takeFirst w free) x (first w free) (plus32 (x .clock) (sample .time)) priority block) (moved x (takeFirst w free))
@@ -106,24 +105,3 @@ split-untouched tables w tally x at =
     either (eqb (askRoom x (getD tables (at + 1) 0)) 0) x _ _
     (untouched-trans x (goOn w x .scalars) _ (go-on-untouched w x) (copies-untouched (getD tables (at + 1) 0) (goOn w x .work) (goOn w x .scalars) (getD tables (at + 2) 0)))
     (stopped-untouched x _)
-
--- ---- The start
-
-block-untouched : (tables tape : List ℕ) (r : Rows) (b : ℕ) → Untouched (r .scalars) (beginBlock tables tape r b .scalars)
-unfolding beginBlock beginList
-block-untouched tables tape r b =
-    let same : Untouched (r .scalars) (r .scalars) = record { used = refl; turns = refl } in
-    either (eqb (getD tables _ 0) 1) (r .scalars) _ r
-    (either (eqb (getD (r .tally) (944 + getD tables _ 0) 0) 0) (r .scalars) r _ same (arrives-untouched (r .work) (r .tally) (r .scalars) _ _ _ _))
-    same
-
-blocks-untouched : (n : ℕ) (tables tape : List ℕ) (r : Rows) (b : ℕ) → Untouched (r .scalars) (beginBlocks n tables tape r b .scalars)
-unfolding beginBlocks
-blocks-untouched zero tables tape r b = record { used = refl; turns = refl }
-blocks-untouched (suc n) tables tape r b =
-    untouched-trans (r .scalars) (beginBlock tables tape r b .scalars) (beginBlocks (suc n) tables tape r b .scalars) (block-untouched tables tape r b) (blocks-untouched n tables tape (beginBlock tables tape r b) (suc b))
-
-pub start-untouched : (model : Model) (tables tape lists w tally : List ℕ) → Untouched (startScalars (model .counter)) (startRows model tables tape lists w tally .scalars)
-unfolding startRows rowsOf
-start-untouched model tables tape lists w tally =
-    blocks-untouched (min (model .blocks) 256) tables tape (rowsOf (startScalars (model .counter)) (initial w) (startTally lists tally)) 0

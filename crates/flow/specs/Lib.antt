@@ -2,4 +2,3 @@ pub mod Samples
 pub mod Sending
 pub mod Questions
 pub mod Kinds
-pub mod Start

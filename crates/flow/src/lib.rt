@@ -1,5 +1,5 @@
-// The blocks that make transactions, delay them and end them: GENERATE, ADVANCE, TERMINATE, PRIORITY and SPLIT; and the start of a
-// run. Each kind is one function of the same shape over tables, buffers, scalars and the place of its block in the tables.
+// The blocks that make transactions, delay them and end them: GENERATE, ADVANCE, TERMINATE, PRIORITY and SPLIT. Each kind is one
+// function of the same shape over tables, buffers, scalars and the place of its block in the tables.
 mod advancing;
 mod generating;
 mod questions;
@@ -7,12 +7,14 @@ mod ranking;
 mod samples;
 mod sending;
 mod splitting;
-mod starting;
 mod terminating;
 
 pub use advancing::advance;
 pub use generating::generate;
 pub use ranking::priority;
+pub use samples::Sample;
+pub use samples::next_sample;
+pub use samples::times_left;
+pub use sending::arrives;
 pub use splitting::split;
-pub use starting::begin;
 pub use terminating::terminate;

@@ -5,7 +5,7 @@ use mathlib.Core.List.{List}
 use native.Mathlib.Omega.{arith}
 use native.Mathlib.Numerals.{add-one}
 use Rattle.state.specs.Stands.{Rows}
-use Rattle.flow.specs.Start.{beginBlock, beginBlocks}
+use Rattle.start.specs.Start.{beginBlock, beginBlocks}
 
 module _ (tables tape : List ℕ) (r : Rows) where
   pub begin-first : (n : ℕ) → beginBlocks (n - 0) tables tape r 0 ≡ beginBlocks n tables tape r 0

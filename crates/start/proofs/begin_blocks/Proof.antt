@@ -4,10 +4,10 @@ use mathlib.Core.Path.{_≡_, refl, sym, _∙_}
 use native.Mathlib.Omega.{arith}
 use lib.ListN.{length}
 use Rattle.state.specs.Stands.{rowsOf}
-use Rattle.flow.specs.Start.{beginBlocks}
-use Rattle.flow.proofs.BlockSteps.{begin-first, begin-end, begin-again}
-use Rattle.flow.proofs.starting.begin_blocks.Statement.{statement}
-use Rattle.flow.proofs.starting.begin_blocks.Tie as tie
+use Rattle.start.specs.Start.{beginBlocks}
+use Rattle.start.proofs.BlockSteps.{begin-first, begin-end, begin-again}
+use Rattle.start.proofs.begin_blocks.Statement.{statement}
+use Rattle.start.proofs.begin_blocks.Tie as tie
 
 abbrev Inv-loop : tie.InvT-loop
 Inv-loop tables tape work₀ tally₀ blocks y₀ b₀ work tally y b = (beginBlocks (blocks - b) tables tape (rowsOf y work tally) b ≡ beginBlocks blocks tables tape (rowsOf y₀ work₀ tally₀) 0) × ((b ≤ blocks) × ((length work ≡ length work₀) × (length tally ≡ length tally₀)))

@@ -1,8 +1,8 @@
 -- `begin_scalars` meets its contract: each scalar.
-use Rattle.flow.specs.Start.{startScalars}
+use Rattle.start.specs.Start.{startScalars}
 use borrow.Author.Needs.{needs}
-use Rattle.flow.proofs.starting.begin_scalars.Statement.{statement}
-use Rattle.flow.proofs.starting.begin_scalars.Tie as tie
+use Rattle.start.proofs.begin_scalars.Statement.{statement}
+use Rattle.start.proofs.begin_scalars.Tie as tie
 
 narrow-requires : tie.Need-narrow-requires
 narrow-requires c κs = search needs

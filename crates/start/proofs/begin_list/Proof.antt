@@ -1,10 +1,10 @@
 -- `begin_list` meets its contract: by cases on the times left.
 use borrow.Author.Tests.{eq-eqb, ne-eqb}
 use Rattle.state.specs.Stands.{rowsOf}
-use Rattle.flow.specs.Start.{beginList}
+use Rattle.start.specs.Start.{beginList}
 use borrow.Author.Needs.{needs}
-use Rattle.flow.proofs.starting.begin_list.Statement.{statement}
-use Rattle.flow.proofs.starting.begin_list.Tie as tie
+use Rattle.start.proofs.begin_list.Statement.{statement}
+use Rattle.start.proofs.begin_list.Tie as tie
 
 mul-number : tie.Need-mul-number
 mul-number c = search needs

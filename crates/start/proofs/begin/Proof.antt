@@ -1,14 +1,14 @@
 -- `begin` meets its contract: buffers and scalars, then the blocks.
-use Rattle.flow.specs.Start.{startRows}
+use Rattle.start.specs.Start.{startRows}
 use borrow.Author.Needs.{needs}
-use Rattle.flow.proofs.starting.begin.Statement.{statement}
-use Rattle.flow.proofs.starting.begin.Tie as tie
+use Rattle.start.proofs.begin.Statement.{statement}
+use Rattle.start.proofs.begin.Tie as tie
 
 initialise-requires : tie.Need-initialise-requires
 initialise-requires c κs = search needs
 
-begin-tally-requires : tie.Need-begin-tally-requires
-begin-tally-requires c κs = search needs
+set-lists-requires : tie.Need-set-lists-requires
+set-lists-requires c κs = search needs
 
 few-requires : tie.Need-few-requires
 few-requires c κs = search needs
@@ -27,14 +27,14 @@ same-length-2 c = search needs
 
 returns : tie.Need-returns
 unfolding startRows
-returns c = rw (← c .before .before .before .before .before .before .before .before .few .ensures, ← c .before .before .before .before .before .before .before .begin-scalars .ensures, ← c .before .before .before .before .before .before .before .before .before .before .before .begin-tally .ensures, ← c .before .before .before .before .before .before .before .before .before .before .before .before .before .before .before .initialise .ensures) (c .before .before .before .before .begin-blocks .ensures)
+returns c = rw (← c .before .before .before .before .before .before .before .before .few .ensures, ← c .before .before .before .before .before .before .before .begin-scalars .ensures, ← c .before .before .before .before .before .before .before .before .before .before .before .set-lists .ensures, ← c .before .before .before .before .before .before .before .before .before .before .before .before .before .before .before .initialise .ensures) (c .before .before .before .before .begin-blocks .ensures)
 
 pub begin-spec : {M : Type 1} → statement M
 begin-spec =
     tie.close
     (tie.spec
     initialise-requires
-    begin-tally-requires
+    set-lists-requires
     few-requires
     begin-scalars-requires
     begin-blocks-requires

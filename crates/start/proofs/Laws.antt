@@ -1,4 +1,4 @@
--- The start of a run: scalars, work buffer and tally stand for the machine's start, whatever the buffers held.
+-- The start of a run: scalars, work buffer and tally stand for the machine's start, whatever the work buffer held.
 use Prim.Native.Nat.{ℕ, suc, _+_, _-_, _*_, _≤_, _<_}
 use mathlib.Core.Path.{_≡_, refl, sym, ap, _∙_, subst}
 use mathlib.Core.Bool.{Bool, true, false, cond}
@@ -25,13 +25,13 @@ use Rattle.rows.proofs.Starting.{initial-shows, initial-loose}
 use Rattle.rows.proofs.Population.{population}
 use Rattle.state.specs.Stands.{Rows, rowsOf, listsOf, Listing, Counting, Stands}
 use Rattle.state.proofs.StandsLaws.{stands-of}
 use Rattle.flow.specs.Samples.{nextSample}
 use Rattle.flow.specs.Sending.{arrives}
-use Rattle.flow.specs.Start.{startTally, startScalars, beginList, beginBlock, beginBlocks, startRows}
+use Rattle.start.specs.Start.{listsSet, startScalars, beginList, beginBlock, beginBlocks, startRows}
 use Rattle.flow.proofs.Operands.{operand}
 use Rattle.flow.proofs.Drawing.{drawn-most}
 use Rattle.flow.proofs.Arrival.{arrives-stands}
-use Rattle.flow.proofs.StartTally.{same-at, idle-tallying}
+use Rattle.start.proofs.Tally.{same-at, idle-tallying}
 
 -- ---- Before the first block: nobody lives
 
@@ -229,15 +229,15 @@ module _ (m : BlockModel) (tape : List (List ℕ)) (tapeBytes tables lists : Lis
       blocks-stand l (suc b) (beginBlock tables tapeBytes r b) (startOf x (suc b) s) (block-stands b (omega arith) r s h x is) (omega arith)
       (λ i hi. ap (λ (n : ℕ). blockAt m (suc n)) (omega arith) ∙ at (suc i) (omega arith))
 
-  module _ (w tally : List ℕ) (room : 16384 ≤ length w) (size : length tally ≡ 960) where
+  module _ (w tally : List ℕ) (room : 16384 ≤ length w) (size : length tally ≡ 960) (empty : (i : ℕ) → i < 928 → getD tally i 0 ≡ 0) where
     abbrev r₀ : Rows
-    r₀ = rowsOf (startScalars (m .counter)) (initial w) (startTally lists tally)
+    r₀ = rowsOf (startScalars (m .counter)) (initial w) (listsSet 16 lists tally)
 
     first : Stood 0 r₀ (idle m tape)
     unfolding startScalars idle
     first =
         record {
-          stands = stands-of tapeBytes (startScalars (m .counter)) (initial w) (startTally lists tally) none (idle m tape) (idle-listing m tape w room) (idle-tallying m tape tapeBytes tables lists tally proper rep size) (idle-counting m tape proper);
+          stands = stands-of tapeBytes (startScalars (m .counter)) (initial w) (listsSet 16 lists tally) none (idle m tape) (idle-listing m tape w room) (idle-tallying m tape tapeBytes tables lists tally proper rep size empty) (idle-counting m tape proper);
           beginning = record { clock = refl; ended = refl; made = omega arith; serials = omega arith; samples = proper .tapes };
         }
 

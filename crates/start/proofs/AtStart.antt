@@ -20,30 +20,8 @@ use Rattle.state.specs.declared.scalars.Scalars.{Scalars}
 use Rattle.flow.specs.declared.samples.Sample.{Sample}
 use Rattle.flow.specs.Samples.{useTime}
 use Rattle.flow.specs.Sending.{arrives}
-use Rattle.flow.specs.Start.{cleared, listSet, listsSet, startTally, startScalars, beginList, beginBlock, beginBlocks, startRows}
-use Rattle.flow.proofs.StartTally.{same-at}
-
--- ---- The tally before the first transaction
-
-set-zero : (l : List ℕ) (n i : ℕ) → getD l i 0 ≡ 0 → getD (set l n 0) i 0 ≡ 0
-set-zero [] n i e = e
-set-zero (x ∷ l) zero zero e = refl
-set-zero (x ∷ l) zero (suc i) e = e
-set-zero (x ∷ l) (suc n) zero e = e
-set-zero (x ∷ l) (suc n) (suc i) e = set-zero l n i e
-
-cleared-zero : (n : ℕ) (l : List ℕ) (i : ℕ) → getD l i 0 ≡ 0 → getD (cleared n l) i 0 ≡ 0
-unfolding cleared
-cleared-zero zero l i e = e
-cleared-zero (suc n) l i e = set-zero (cleared n l) n i (cleared-zero n l i e)
-
-lists-low : (n : ℕ) (lists l : List ℕ) (i : ℕ) → i < 928 → getD (listsSet n lists l) i 0 ≡ getD l i 0
-unfolding listsSet listSet
-lists-low zero lists l i h = refl
-lists-low (suc n) lists l i h =
-    getD-set-other (set (listsSet n lists l) (928 + n) (getD lists n 0)) (944 + n) i (getD lists (16 + n) 0) 0 (λ e. omega arith)
-    ∙ getD-set-other (listsSet n lists l) (928 + n) i (getD lists n 0) 0 (λ e. omega arith)
-    ∙ lists-low n lists l i h
+use Rattle.start.specs.Start.{listsSet, startScalars, beginList, beginBlock, beginBlocks, startRows}
+use Rattle.start.proofs.Tally.{same-at, lists-low}
 
 -- ---- Block by block
 
@@ -77,11 +55,11 @@ module _ (tables tape : List ℕ) (i : ℕ) (h : i < 928) where
   blocks-low (suc n) r b = blocks-low n (beginBlock tables tape r b) (suc b) ∙ block-low r b
 
   pub start-low : (model : Model) (lists w : List ℕ) (k : ℕ) → getD (startRows model tables tape lists w (replicate k 0) .tally) i 0 ≡ 0
-  unfolding startRows startTally rowsOf
+  unfolding startRows rowsOf
   start-low model lists w k =
-      blocks-low (min (model .blocks) 256) (rowsOf (startScalars (model .counter)) (initial w) (listsSet 16 lists (cleared 960 (replicate k 0)))) 0
-      ∙ lists-low 16 lists (cleared 960 (replicate k 0)) i h
-      ∙ cleared-zero 960 (replicate k 0) i (same-at k i 0)
+      blocks-low (min (model .blocks) 256) (rowsOf (startScalars (model .counter)) (initial w) (listsSet 16 lists (replicate k 0))) 0
+      ∙ lists-low lists (replicate k 0) 16 i h
+      ∙ same-at k i 0
 
 -- ---- Nobody moves
 

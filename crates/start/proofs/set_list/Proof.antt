@@ -1,8 +1,8 @@
 -- `set_list` meets its contract: its two numbers.
-use Rattle.flow.specs.Start.{listSet}
+use Rattle.start.specs.Start.{listSet}
 use borrow.Author.Needs.{needs}
-use Rattle.flow.proofs.starting.set_list.Statement.{statement}
-use Rattle.flow.proofs.starting.set_list.Tie as tie
+use Rattle.start.proofs.set_list.Statement.{statement}
+use Rattle.start.proofs.set_list.Tie as tie
 
 add-set-count : tie.Need-add-set-count
 add-set-count c = search needs

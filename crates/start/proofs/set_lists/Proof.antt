@@ -5,9 +5,9 @@ use mathlib.Core.List.{List}
 use native.Mathlib.Omega.{arith}
 use native.Mathlib.Numerals.{add-one}
 use lib.ListN.{length}
-use Rattle.flow.specs.Start.{listSet, listsSet}
-use Rattle.flow.proofs.starting.set_lists.Statement.{statement}
-use Rattle.flow.proofs.starting.set_lists.Tie as tie
+use Rattle.start.specs.Start.{listSet, listsSet}
+use Rattle.start.proofs.set_lists.Statement.{statement}
+use Rattle.start.proofs.set_lists.Tie as tie
 
 abbrev Inv-loop : tie.InvT-loop
 Inv-loop lists tally₀ l₀ tally l = (tally ≡ listsSet l lists tally₀) × ((l ≤ 16) × (length tally ≡ length tally₀))

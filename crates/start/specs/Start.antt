@@ -9,14 +9,10 @@ use Rattle.tables.specs.Layout.{listAt, listLeft}
 use Rattle.rows.specs.Make.{initial}
 use Rattle.state.specs.declared.scalars.Scalars.{Scalars}
 use Rattle.state.specs.Stands.{Rows, rowsOf}
 use Rattle.flow.specs.Samples.{nextSample}
 use Rattle.flow.specs.Sending.{arrives}
 
--- ---- Tally: all 0 but where each list begins and how many times it has
-
-unfoldable pub cleared : ℕ → List ℕ → List ℕ
-cleared zero tally = tally
-cleared (suc n) tally = set (cleared n tally) n 0
+-- ---- Tally: where each list begins and how many times it has
 
 unfoldable pub listSet : List ℕ → List ℕ → ℕ → List ℕ
 listSet lists tally l = set (set tally (listAt + l) (getD lists l 0)) (listLeft + l) (getD lists (16 + l) 0)
@@ -24,9 +20,6 @@ listSet lists tally l = set (set tally (listAt + l) (getD lists l 0)) (listLeft 
 unfoldable pub listsSet : ℕ → List ℕ → List ℕ → List ℕ
 listsSet zero lists tally = tally
 listsSet (suc n) lists tally = listSet lists (listsSet n lists tally) n
-
-unfoldable pub startTally : List ℕ → List ℕ → List ℕ
-startTally lists tally = listsSet 16 lists (cleared 960 tally)
 
 -- ---- Scalars
 
@@ -62,4 +55,4 @@ beginBlocks (suc n) tables tape r b = beginBlocks n tables tape (beginBlock tabl
 
 unfoldable pub startRows : Model → (tables tape lists : List ℕ) → List ℕ → List ℕ → Rows
 startRows model tables tape lists w tally =
-    beginBlocks (min (model .blocks) 256) tables tape (rowsOf (startScalars (model .counter)) (initial w) (startTally lists tally)) 0
+    beginBlocks (min (model .blocks) 256) tables tape (rowsOf (startScalars (model .counter)) (initial w) (listsSet 16 lists tally)) 0

@@ -1,9 +1,9 @@
 -- `begin_block` meets its contract: by cases on the kind.
 use borrow.Author.Tests.{eq-eqb, ne-eqb}
-use Rattle.flow.specs.Start.{beginBlock}
+use Rattle.start.specs.Start.{beginBlock}
 use borrow.Author.Needs.{needs}
-use Rattle.flow.proofs.starting.begin_block.Statement.{statement}
-use Rattle.flow.proofs.starting.begin_block.Tie as tie
+use Rattle.start.proofs.begin_block.Statement.{statement}
+use Rattle.start.proofs.begin_block.Tie as tie
 
 mul-number : tie.Need-mul-number
 mul-number c = search needs

@@ -1,4 +1,4 @@
--- The tally of the start: all 0, but where each list begins and how many times it has.
+-- The tally of the start: all 0, as it was, but where each list begins and how many times it has.
 use Prim.Native.Nat.{ℕ, zero, suc, _+_, _-_, _≤_, _<_}
 use mathlib.Core.Path.{_≡_, refl, sym, ap, _∙_}
 use mathlib.Core.List.{List, [], _∷_, _++_, map}
@@ -12,25 +12,18 @@ use Rattle.machine.specs.Run.{idle}
 use Rattle.machine.proofs.Proper.{Proper}
 use Rattle.tables.specs.Represents.{Represents}
 use Rattle.state.specs.Stands.{Serving, Queueing, Sampling, Tallying}
-use Rattle.flow.specs.Start.{cleared, listSet, listsSet, startTally}
+use Rattle.start.specs.Start.{listSet, listsSet}
 
 -- ---- Its numbers
 
-cleared-length : (n : ℕ) (tally : List ℕ) → length (cleared n tally) ≡ length tally
-unfolding cleared
-cleared-length zero tally = refl
-cleared-length (suc n) tally = length-set (cleared n tally) n 0 ∙ cleared-length n tally
-
-cleared-at : (n : ℕ) (tally : List ℕ) → n ≤ length tally → (i : ℕ) → i < n → getD (cleared n tally) i 0 ≡ 0
-unfolding cleared
-cleared-at zero tally size i h = absurd (omega arith)
-cleared-at (suc n) tally size i h = go (ℕ-discrete i n) (cleared-at n tally (omega arith) i)
-  where
-    go : Dec (i ≡ n) → (i < n → getD (cleared n tally) i 0 ≡ 0) → getD (set (cleared n tally) n 0) i 0 ≡ 0
-    go (yes e) rest = rw e (getD-set-same (cleared n tally) n 0 0 (omega (arith, cleared-length n tally)))
-    go (no d) rest =
-        let l : i < n = omega arith in
-        getD-set-other (cleared n tally) n i 0 0 d ∙ rest l
+module _ (lists tally : List ℕ) where
+  pub lists-low : (n i : ℕ) → i < 928 → getD (listsSet n lists tally) i 0 ≡ getD tally i 0
+  unfolding listsSet listSet
+  lists-low zero i h = refl
+  lists-low (suc n) i h =
+      getD-set-other (set (listsSet n lists tally) (928 + n) (getD lists n 0)) (944 + n) i (getD lists (16 + n) 0) 0 (λ e. omega arith)
+      ∙ getD-set-other (listsSet n lists tally) (928 + n) i (getD lists n 0) 0 (λ e. omega arith)
+      ∙ lists-low n i h
 
 module _ (lists tally : List ℕ) (size : length tally ≡ 960) where
   lists-length : (n : ℕ) → length (listsSet n lists tally) ≡ 960
@@ -40,14 +33,6 @@ module _ (lists tally : List ℕ) (size : length tally ≡ 960) where
       length-set (set (listsSet n lists tally) (928 + n) (getD lists n 0)) (944 + n) (getD lists (16 + n) 0)
       ∙ length-set (listsSet n lists tally) (928 + n) (getD lists n 0)
       ∙ lists-length n
-
-  lists-low : (n i : ℕ) → i < 928 → getD (listsSet n lists tally) i 0 ≡ getD tally i 0
-  unfolding listsSet listSet
-  lists-low zero i h = refl
-  lists-low (suc n) i h =
-      getD-set-other (set (listsSet n lists tally) (928 + n) (getD lists n 0)) (944 + n) i (getD lists (16 + n) 0) 0 (λ e. omega arith)
-      ∙ getD-set-other (listsSet n lists tally) (928 + n) i (getD lists n 0) 0 (λ e. omega arith)
-      ∙ lists-low n i h
 
   lists-at : (n : ℕ) → n ≤ 16 → (l : ℕ) → l < n → (getD (listsSet n lists tally) (928 + l) 0 ≡ getD lists l 0) × (getD (listsSet n lists tally) (944 + l) 0 ≡ getD lists (16 + l) 0)
   unfolding listsSet listSet
@@ -93,17 +78,12 @@ idle-at (suc f) l (suc v) = idle-at f l v
 
 -- ---- All of it
 
-module _ (m : BlockModel) (tape : List (List ℕ)) (tapeBytes tables lists tally : List ℕ) (proper : Proper m tape) (rep : Represents m tape tapeBytes tables lists) (size : length tally ≡ 960) where
-  size₀ : length (cleared 960 tally) ≡ 960
-  size₀ = cleared-length 960 tally ∙ size
+module _ (m : BlockModel) (tape : List (List ℕ)) (tapeBytes tables lists tally : List ℕ) (proper : Proper m tape) (rep : Represents m tape tapeBytes tables lists) (size : length tally ≡ 960) (empty : (i : ℕ) → i < 928 → getD tally i 0 ≡ 0) where
+  zero-at : (i : ℕ) → i < 928 → getD (listsSet 16 lists tally) i 0 ≡ 0
+  zero-at i h = lists-low lists tally 16 i h ∙ empty i h
 
-  zero-at : (i : ℕ) → i < 928 → getD (startTally lists tally) i 0 ≡ 0
-  unfolding startTally
-  zero-at i h = lists-low lists (cleared 960 tally) size₀ 16 i h ∙ cleared-at 960 tally (omega arith) i (omega arith)
-
-  list-at : (l : ℕ) → l < 16 → (getD (startTally lists tally) (928 + l) 0 ≡ getD lists l 0) × (getD (startTally lists tally) (944 + l) 0 ≡ getD lists (16 + l) 0)
-  unfolding startTally
-  list-at l h = lists-at lists (cleared 960 tally) size₀ 16 (omega arith) l h
+  list-at : (l : ℕ) → l < 16 → (getD (listsSet 16 lists tally) (928 + l) 0 ≡ getD lists l 0) × (getD (listsSet 16 lists tally) (944 + l) 0 ≡ getD lists (16 + l) 0)
+  list-at l h = lists-at lists tally size 16 (omega arith) l h
 
   abbrev servers : List Server
   servers = replicate (m .facilities) (idleServer 1) ++ map idleServer (m .capacities)
@@ -111,7 +91,7 @@ module _ (m : BlockModel) (tape : List (List ℕ)) (tapeBytes tables lists tally
   server : (v : ℕ) → Idle (getD servers v (idleServer 0))
   server v = idle-at (m .facilities) (m .capacities) v
 
-  serving : Serving (startTally lists tally) servers (replicate (m .facilities + length (m .capacities)) [])
+  serving : Serving (listsSet 16 lists tally) servers (replicate (m .facilities + length (m .capacities)) [])
   serving =
       record {
         in-use = λ v hv. zero-at (512 + v) (omega arith) ∙ sym (server v .in-use);
@@ -121,7 +101,7 @@ module _ (m : BlockModel) (tape : List (List ℕ)) (tapeBytes tables lists tally
         waiting = λ v hv. zero-at (768 + v) (omega arith) ∙ sym (ap length (same-at (m .facilities + length (m .capacities)) v []));
       }
 
-  queueing : Queueing (startTally lists tally) (replicate (m .queues) emptyQueue)
+  queueing : Queueing (listsSet 16 lists tally) (replicate (m .queues) emptyQueue)
   unfolding emptyQueue
   queueing =
       record {
@@ -130,18 +110,17 @@ module _ (m : BlockModel) (tape : List (List ℕ)) (tapeBytes tables lists tally
         longest = λ q hq. zero-at (896 + q) (omega arith) ∙ sym (ap (λ (x : Queue). x .longest) (same-at (m .queues) q emptyQueue));
       }
 
-  sampling : Sampling tapeBytes (startTally lists tally) tape
+  sampling : Sampling tapeBytes (listsSet 16 lists tally) tape
   sampling =
       record {
         begins = λ l hl. rw (list-at l (omega (arith, proper .tapes, proper .lists)) .0) (rep .begins l (omega (arith, proper .tapes)));
         left = λ l hl. list-at l hl .1 ∙ rep .counts l hl;
       }
 
-  start-size : length (startTally lists tally) ≡ 960
-  unfolding startTally
-  start-size = lists-length lists (cleared 960 tally) size₀ 16
+  start-size : length (listsSet 16 lists tally) ≡ 960
+  start-size = lists-length lists tally size 16
 
-  pub idle-tallying : Tallying tapeBytes (startTally lists tally) (idle m tape)
+  pub idle-tallying : Tallying tapeBytes (listsSet 16 lists tally) (idle m tape)
   unfolding idle
   idle-tallying =
       record {

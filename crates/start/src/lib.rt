@@ -1,8 +1,8 @@
 // The start of a run: "clock 0; for each GENERATE in block order, if its sample list has a time, one transaction on the FEL at that
 // time". Nothing is asked.
-use crate::samples::next_sample;
-use crate::samples::times_left;
-use crate::sending::arrives;
+use flow::arrives;
+use flow::next_sample;
+use flow::times_left;
 use machine::Model;
 use rows::make::initialise;
 use state::Scalars;
@@ -14,17 +14,7 @@ use tables::set_count;
 ghost use mathlib.Core.Path.{_≡_};
 ghost use Prim.Native.Nat.{_<_, _≤_, min};
 ghost use Rattle.state.specs.Stands.{rowsOf};
-ghost use Rattle.flow.specs.Start.{cleared, listSet, listsSet, startTally, startScalars, beginList, beginBlock, beginBlocks, startRows};
-
-fn clear(tally: &mut [u64])
-    ensures { λ _. ⌜ now (tally .exit) ≡ cleared 960 (now (tally .entry)) ⌝ }
-{
-    let mut i: usize = 0;
-    while i < 960 {
-        set_count(tally, i, 0);
-        i += 1;
-    }
-}
+ghost use Rattle.start.specs.Start.{listSet, listsSet, startScalars, beginList, beginBlock, beginBlocks, startRows};
 
 // Where list l begins and how many times it has.
 fn set_list(lists: &[u64], tally: &mut [u64], l: usize)
@@ -43,13 +33,6 @@ fn set_lists(lists: &[u64], tally: &mut [u64])
         set_list(lists, tally, l);
         l += 1;
     }
-}
-
-fn begin_tally(lists: &[u64], tally: &mut [u64])
-    ensures { λ _. ⌜ now (tally .exit) ≡ startTally (now (lists .entry)) (now (tally .entry)) ⌝ }
-{
-    clear(tally);
-    set_lists(lists, tally);
 }
 
 fn narrow(n: usize) -> u32
@@ -163,7 +146,7 @@ pub fn begin(
     ensures { λ r. ⌜ rowsOf r (now (work .exit)) (now (tally .exit)) ≡ startRows model (now (tables .entry)) (now (tape .entry)) (now (lists .entry)) (now (work .entry)) (now (tally .entry)) ⌝ }
 {
     initialise(work);
-    begin_tally(lists, tally);
+    set_lists(lists, tally);
     let blocks = few(model.blocks);
     let x = begin_scalars(model.counter);
     begin_blocks(tables, tape, work, tally, x, blocks)
