@@ -28,7 +28,7 @@ use Rattle.servers.proofs.FreeingLaws.{release-done, leave-done}
 use Rattle.servers.specs.WaitServer as WaitServer
 use Rattle.servers.proofs.WaitingLaws.{wait-server-done, wait-server-used}
 use Rattle.decisions.proofs.Operands.{numbers}
-use Rattle.decisions.proofs.Taken.{inside}
+use Rattle.state.proofs.Moving.{inside}
 use Rattle.decisions.specs.Comparison as Comparison
 use Rattle.decisions.specs.Jumps as Jumps
 use Rattle.decisions.proofs.ComparisonLaws.{wait-terms-done, branch-done, goto-done, assign-done, wait-terms-used, branch-used, goto-used, assign-used}

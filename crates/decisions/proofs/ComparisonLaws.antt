@@ -42,7 +42,7 @@ use Rattle.decisions.specs.Jumps as Jumps
 use Rattle.decisions.proofs.Sees.{sane-low, sees}
 use Rattle.decisions.proofs.Parameters.{signed-toZ, parameters-are, evaluate-small}
 use Rattle.decisions.proofs.Operands.{goto-target, assign-parameter, assign-term, branch-target}
-use Rattle.decisions.proofs.Taken.{inside, next-low, serial-low}
+use Rattle.state.proofs.Moving.{inside, next-low, serial-low}
 
 module _ {m : BlockModel} {tape : List (List ℕ)} {tapeBytes tables lists : List ℕ} (proper : Proper m tape) (rep : Represents m tape tapeBytes tables lists) (nested : Nested m)
     (r : Rows) (t : Transaction) (s : State) (sane : Sane m s) (stands : Stands tapeBytes r (some t) s) (moving : s .moving ≡ some t) where

@@ -5,4 +5,3 @@ pub mod Parameters
 pub mod QueueLaws
 pub mod SchemeLaws
 pub mod Sees
-pub mod Taken

@@ -31,7 +31,7 @@ use Rattle.decisions.specs.Queues as Rows
 use Rattle.decisions.specs.Queues.{contentCell}
 use Rattle.decisions.proofs.Sees.{sane-low, content-low}
 use Rattle.decisions.proofs.Operands.{arrive-queue, depart-queue}
-use Rattle.decisions.proofs.Taken.{inside, next-low}
+use Rattle.state.proofs.Moving.{inside, next-low}
 
 -- ---- The content of one queue set
 

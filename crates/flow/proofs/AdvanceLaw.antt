@@ -30,10 +30,11 @@ use Rattle.flow.specs.declared.samples.Sample.{Sample}
 use Rattle.flow.specs.Samples.{nextSample, useTime}
 use Rattle.flow.specs.Questions.{askTime}
 use Rattle.flow.specs.Kinds.{sendOn, delayRows, advanceWith, advanceNext, advanceRows}
-use Rattle.flow.proofs.Operands.{operand}
+use Rattle.tables.proofs.Operands.{operand}
 use Rattle.flow.proofs.New.{Follows}
 use Rattle.flow.proofs.Arrival.{sampled, used-tallying, move-time}
-use Rattle.flow.proofs.Asked.{placed, next-low, time-most, time-asked, time-yes, asked}
+use Rattle.state.proofs.Moving.{placed, next-low}
+use Rattle.flow.proofs.Asked.{time-most, time-asked, time-yes, asked}
 use Rattle.flow.proofs.Sent.{send-follows}
 
 module _ (m : BlockModel) (tape : List (List ℕ)) (tapeBytes tables lists : List ℕ) (proper : Proper m tape) (rep : Represents m tape tapeBytes tables lists)
@@ -55,7 +56,7 @@ module _ (m : BlockModel) (tape : List (List ℕ)) (tapeBytes tables lists : Lis
   x = r .scalars
 
   stood : Placed m t
-  stood = placed m s t sane moving
+  stood = placed proper t s sane moving
 
   list-is : getD tables (at + 1) 0 ≡ list - 1
   unfolding blockNumbers
@@ -126,7 +127,7 @@ module _ (m : BlockModel) (tape : List (List ℕ)) (tapeBytes tables lists : Lis
       sent : Follows (sendOn w x time′) 0 none (Moves.toFel time′ t′ s₁)
       unfolding listsOf
       sent =
-          send-follows w x t s₁ (listing-ext w (x .moving) (some t) s₀ s₁ (λ z hz. refl) refl refl (h₀ .listing)) (counting-ext x s₀ s₁ refl refl refl refl refl refl refl (h₀ .counting)) (next-low m tape t proper stood) (omega (arith, sane .serials)) time′
+          send-follows w x t s₁ (listing-ext w (x .moving) (some t) s₀ s₁ (λ z hz. refl) refl refl (h₀ .listing)) (counting-ext x s₀ s₁ refl refl refl refl refl refl refl (h₀ .counting)) (next-low proper t s sane moving) (omega (arith, sane .serials)) time′
 
       tallied : Tallying tapeBytes used (Moves.toFel time′ t′ s₁)
       unfolding Moves.toFel

@@ -26,14 +26,6 @@ use Rattle.moves.specs.Motion.{stopped}
 use Rattle.moves.proofs.MotionLaws.{stop-done}
 use Rattle.flow.specs.Questions.{askRoom, askTime, firstNo, askArrival}
 
--- ---- Who moves stands before a block of the model
-
-pub placed : (m : BlockModel) (s : State) (t : Transaction) → Sane m s → s .moving ≡ some t → Placed m t
-placed m s t sane moving = subst (Maybe (Placed m)) moving (sane .placed .moving)
-
-pub next-low : (m : BlockModel) (tape : List (List ℕ)) (t : Transaction) → Proper m tape → Placed m t → t .next < 4294967295
-next-low m tape t proper stood = omega (arith, stood, proper .blocks)
-
 -- the first time of a list
 pub time-most : (m : BlockModel) (s : State) (list time : ℕ) (left : List ℕ) → Sane m s → timesLeft s list ≡ time ∷ left → time ≤ maxTime
 time-most m s list time left sane e = subst (λ (l : List ℕ). getD l 0 0 ≤ maxTime) e (sane .samples list 0)

@@ -30,10 +30,11 @@ use Rattle.flow.specs.Samples.{nextSample}
 use Rattle.flow.specs.Questions.{askArrival}
 use Rattle.flow.specs.Sending.{arrives}
 use Rattle.flow.specs.Kinds.{arriveOn, generateWith, generateNext, generateRows}
-use Rattle.flow.proofs.Operands.{operand}
+use Rattle.tables.proofs.Operands.{operand}
 use Rattle.flow.proofs.New.{Roomy}
 use Rattle.flow.proofs.Arrival.{sampled, arrives-stands, arrives-note}
-use Rattle.flow.proofs.Asked.{placed, next-low, time-most, arrival-asked, arrival-yes, asked}
+use Rattle.state.proofs.Moving.{placed, next-low}
+use Rattle.flow.proofs.Asked.{time-most, arrival-asked, arrival-yes, asked}
 
 module _ (m : BlockModel) (tape : List (List ℕ)) (tapeBytes tables lists : List ℕ) (proper : Proper m tape) (rep : Represents m tape tapeBytes tables lists)
     (s : State) (sane : Sane m s) (r : Rows) (t : Transaction) (stands : Stands tapeBytes r (some t) s) (moving : s .moving ≡ some t)
@@ -54,10 +55,10 @@ module _ (m : BlockModel) (tape : List (List ℕ)) (tapeBytes tables lists : Lis
   x = r .scalars
 
   stood : Placed m t
-  stood = placed m s t sane moving
+  stood = placed proper t s sane moving
 
   low : t .next < 4294967295
-  low = next-low m tape t proper stood
+  low = next-low proper t s sane moving
 
   list-is : getD tables (at + 1) 0 ≡ list - 1
   unfolding blockNumbers

@@ -1,6 +1,5 @@
 pub mod Answers
 pub mod Copies
-pub mod Operands
 pub mod Drawing
 pub mod Making
 pub mod New

@@ -23,9 +23,9 @@ use Rattle.state.specs.Stands.{Rows, rowsOf, Stands, noteOf, Done}
 use Rattle.state.proofs.StandsLaws.{tallying-ext, stands-of, stands-moving}
 use Rattle.moves.specs.Motion.{withTally}
 use Rattle.flow.specs.Kinds.{rankOn, priorityRows}
-use Rattle.flow.proofs.Operands.{operand}
+use Rattle.tables.proofs.Operands.{operand}
 use Rattle.flow.proofs.New.{Follows}
-use Rattle.flow.proofs.Asked.{placed, next-low}
+use Rattle.state.proofs.Moving.{placed, next-low}
 use Rattle.flow.proofs.Sent.{rank-follows}
 
 module _ (m : BlockModel) (tape : List (List ℕ)) (tapeBytes tables lists : List ℕ) (proper : Proper m tape) (rep : Represents m tape tapeBytes tables lists)
@@ -47,7 +47,7 @@ module _ (m : BlockModel) (tape : List (List ℕ)) (tapeBytes tables lists : Lis
   x = r .scalars
 
   stood : Placed m t
-  stood = placed m s t sane moving
+  stood = placed proper t s sane moving
 
   operand-is : getD tables (at + 1) 0 ≡ p
   unfolding blockNumbers
@@ -71,7 +71,7 @@ module _ (m : BlockModel) (tape : List (List ℕ)) (tapeBytes tables lists : Lis
 
   ranked : Follows (rankOn w x p) 0 none (toRel u s₀)
   ranked =
-      rank-follows w x t s₀ (h₀ .listing) (h₀ .counting) (next-low m tape t proper stood) (omega (arith, sane .serials)) p small
+      rank-follows w x t s₀ (h₀ .listing) (h₀ .counting) (next-low proper t s sane moving) (omega (arith, sane .serials)) p small
 
   done : Done tapeBytes (withTally (rankOn w x p) tally) (entering (toRel u s₀))
   unfolding toRel rowsOf noteOf

@@ -27,9 +27,10 @@ use Rattle.moves.specs.Motion.{Moved, moved, withTally, goTo, goOn, stopped}
 use Rattle.moves.proofs.MotionLaws.{go-to-listing, go-to-counting, go-on-is}
 use Rattle.flow.specs.Sending.{copyOne}
 use Rattle.flow.specs.Kinds.{copiesOf, splitOn, splitRows}
-use Rattle.flow.proofs.Operands.{operand}
+use Rattle.tables.proofs.Operands.{operand}
 use Rattle.flow.proofs.New.{Follows, Roomy, copy-follows}
-use Rattle.flow.proofs.Asked.{placed, next-low, room-asked, room-yes, asked}
+use Rattle.state.proofs.Moving.{placed, next-low}
+use Rattle.flow.proofs.Asked.{room-asked, room-yes, asked}
 
 -- ---- Copies
 
@@ -108,7 +109,7 @@ module _ (m : BlockModel) (tape : List (List ℕ)) (tapeBytes tables lists : Lis
   x = r .scalars
 
   stood : Placed m t
-  stood = placed m s t sane moving
+  stood = placed proper t s sane moving
 
   count-is : getD tables (at + 1) 0 ≡ n
   unfolding blockNumbers
@@ -149,7 +150,7 @@ module _ (m : BlockModel) (tape : List (List ℕ)) (tapeBytes tables lists : Lis
 
   split-is : splitOn w x n target ≡ copiesOf n w′ x′ target
   unfolding splitOn
-  split-is = rw (go-on-is w x t s (stands .listing) (next-low m tape t proper stood))
+  split-is = rw (go-on-is w x t s (stands .listing) (next-low proper t s sane moving))
 
   note-is : x′ .note ≡ 0
   unfolding goTo moved

@@ -30,9 +30,9 @@ use Rattle.state.specs.Stands.{Rows, rowsOf, listsOf, Listing, Counting, Stands
 use Rattle.state.proofs.StandsLaws.{tallying-ext, stands-of, stands-moving}
 use Rattle.moves.specs.Motion.{next32}
 use Rattle.flow.specs.Kinds.{endOne, terminateRows}
-use Rattle.flow.proofs.Operands.{operand}
+use Rattle.tables.proofs.Operands.{operand}
 use Rattle.flow.proofs.New.{next32-suc}
-use Rattle.flow.proofs.Asked.{placed}
+use Rattle.state.proofs.Moving.{placed}
 
 -- ---- The row of the transaction is free
 
@@ -75,7 +75,7 @@ module _ (m : BlockModel) (tape : List (List ℕ)) (tapeBytes tables lists : Lis
   x = r .scalars
 
   stood : Placed m t
-  stood = placed m s t sane moving
+  stood = placed proper t s sane moving
 
   operand-is : getD tables (at + 1) 0 ≡ a
   unfolding blockNumbers

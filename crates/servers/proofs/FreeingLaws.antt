@@ -33,11 +33,13 @@ use Rattle.state.specs.Stands.{Rows, rowsOf, Stands, Done}
 use Rattle.state.specs.Bare.{entering, bare, bareAnswer}
 use Rattle.moves.specs.Motion.{withTally, goOn, stopped}
 use Rattle.moves.proofs.MotionLaws.{stop-done, go-on-used, go-on-turns}
+use Rattle.tables.proofs.Operands.{operand}
+use Rattle.state.proofs.Moving.{placed, next-low}
 use Rattle.servers.specs.Units.{serverAt, inUse, setInUse, capacity}
 use Rattle.servers.specs.Waking.{checkWels, shorter, unitsAt, memberFits, wakeStays}
 use Rattle.servers.specs.Freeing.{enterFreed, freeOne, freeSome}
 use Rattle.servers.specs.Freeing as Freeing
-use Rattle.servers.proofs.Named.{operand, units-of, stood, next-low, named}
+use Rattle.servers.proofs.Named.{units-of, named}
 use Rattle.servers.proofs.Ready.{Ready, wakeQl-same, set-ready, first-ready, passed-ready, ready-done}
 use Rattle.servers.proofs.Standing.{high, units-are, capacity-is, ready}
 
@@ -98,7 +100,7 @@ module _ (m : BlockModel) (tape : List (List ℕ)) (tapeBytes tables lists : Lis
           rw (capacity-is m tape tapeBytes tables lists proper rep s sane r t stands v low there)
           (ready-done tapeBytes x t v low high′ units (server .capacity) (wakeFirst w (v - 1)) (shorter (setInUse tally (v - 1) units) (v - 1)) (wakeFirstQl v s₁)
           (first-ready tapeBytes x t v low high′ units (server .capacity) w (setInUse tally (v - 1) units) s₁ freed)
-          (next-low s sane t moving tape proper))
+          (next-low proper t s sane moving))
 
       abbrev test : List ℕ → ℕ → Bool
       test = memberFits tables (server .capacity - units)
@@ -121,7 +123,7 @@ module _ (m : BlockModel) (tape : List (List ℕ)) (tapeBytes tables lists : Lis
           (subst (λ (y : State). Done tapeBytes (withTally (goOn (checkWels (wakeAll test 1024 w (v - 1) (head (v - 1))) (v - 1) units (server .capacity)) x) (set (setInUse tally (v - 1) units) (768 + (v - 1)) (wakeStays test 1024 w (v - 1) (head (v - 1))))) (entering (Moves.goOn t (Execute.checkWels v y)))) same-woken
           (ready-done tapeBytes x t v low high′ units (server .capacity) (wakeAll test 1024 w (v - 1) (head (v - 1))) (set (setInUse tally (v - 1) units) (768 + (v - 1)) (wakeStays test 1024 w (v - 1) (head (v - 1)))) (wakeQl (small tables (server .capacity - units)) v s₁)
           (passed-ready tapeBytes x t v low high′ units (server .capacity) w (setInUse tally (v - 1) units) s₁ freed test (small tables (server .capacity - units)) (small-row tables (server .capacity - units)))
-          (next-low s sane t moving tape proper)))
+          (next-low proper t s sane moving)))
 
     -- the block enters
     release-entered : Done tapeBytes (freeOne tables w tally x (v - 1) (server .inUse - 1)) (bareAnswer 0 m (release v) t s)
@@ -149,7 +151,7 @@ module _ (m : BlockModel) (tape : List (List ℕ)) (tapeBytes tables lists : Lis
   release-done v is =
       let proper′ : Names (m .facilities) v = subst (ProperBlock m) is (proper .block (t .next)) in
       let there : v ≤ servers m = omega (arith, proper′ .1) in
-      rw (named tables (at + 1) v (high′ v (proper′ .0) there) (proper′ .0) (operand m tape tapeBytes tables lists rep (t .next) (stood s sane t moving) (release v) is 1 (omega arith)), units-are m tape tapeBytes tables lists proper rep s sane r t stands v (proper′ .0) there)
+      rw (named tables (at + 1) v (high′ v (proper′ .0) there) (proper′ .0) (operand m tape tapeBytes tables lists rep (t .next) (placed proper t s sane moving .0) (release v) is 1 (omega arith)), units-are m tape tapeBytes tables lists proper rep s sane r t stands v (proper′ .0) there)
       (asked (release v) 1 (Term.serverAt (s .view) v .inUse) (freeOne tables w tally x (v - 1) (Term.serverAt (s .view) v .inUse - 1))
       (release-entered v (proper′ .0) there))
 
@@ -158,7 +160,7 @@ module _ (m : BlockModel) (tape : List (List ℕ)) (tapeBytes tables lists : Lis
   leave-done v b is =
       let proper′ : Storage m v = subst (ProperBlock m) is (proper .block (t .next)) .0 in
       let low : 1 ≤ v = omega (arith, proper′ .0) in
-      rw (named tables (at + 1) v (high′ v low (proper′ .1)) low (operand m tape tapeBytes tables lists rep (t .next) (stood s sane t moving) (leave v b) is 1 (omega arith)), operand m tape tapeBytes tables lists rep (t .next) (stood s sane t moving) (leave v b) is 2 (omega arith), units-are m tape tapeBytes tables lists proper rep s sane r t stands v low (proper′ .1))
+      rw (named tables (at + 1) v (high′ v low (proper′ .1)) low (operand m tape tapeBytes tables lists rep (t .next) (placed proper t s sane moving .0) (leave v b) is 1 (omega arith)), operand m tape tapeBytes tables lists rep (t .next) (placed proper t s sane moving .0) (leave v b) is 2 (omega arith), units-are m tape tapeBytes tables lists proper rep s sane r t stands v low (proper′ .1))
       (asked (leave v b) b (Term.serverAt (s .view) v .inUse) (freeSome tables w tally x (v - 1) (Term.serverAt (s .view) v .inUse - b))
       (leave-entered v low (proper′ .1) b))
 

@@ -19,24 +19,11 @@ use Rattle.machine.proofs.Placed.{Placed}
 use Rattle.machine.proofs.Everybody.{Maybe}
 use Rattle.tables.specs.Numbers.{blockNumbers}
 use Rattle.tables.specs.Represents.{At, Represents}
+use Rattle.tables.proofs.Operands.{at-number}
 use Rattle.state.specs.Sane.{Sane}
 use Rattle.state.specs.Stands.{Tallying}
 use Rattle.servers.specs.Units.{serverAt, inUse, capacity, statusOf}
 use Rattle.servers.specs.Waking.{unitsAt}
-
--- ---- Numbers of a block
-
-at-number : (l : List ℕ) (at : ℕ) (numbers : List ℕ) (i : ℕ) → i < length numbers → At l at numbers → getD l (at + i) 0 ≡ getD numbers i 0
-at-number l at numbers i h found =
-    sym (getD-drop at l i 0) ∙ sym (getD-take (length numbers) (drop at l) i 0 h) ∙ ap (λ (n : List ℕ). getD n i 0) found
-
-module _ (m : BlockModel) (tape : List (List ℕ)) (tapeBytes tables lists : List ℕ) (rep : Represents m tape tapeBytes tables lists) (n : ℕ) (placed : Names (length (m .blocks)) n) where
-  numbers : (b : Block) → blockAt m n ≡ b → At tables (8 * (n - 1)) (blockNumbers b)
-  numbers b is = subst (λ (x : Block). At tables (8 * (n - 1)) (blockNumbers x)) is (rep .blocks (n - 1) (omega arith))
-
-  -- number i of block n, its kind being number 0
-  pub operand : (b : Block) → blockAt m n ≡ b → (i : ℕ) → i < length (blockNumbers b) → getD tables (8 * (n - 1) + i) 0 ≡ getD (blockNumbers b) i 0
-  operand b is i h = at-number tables (8 * (n - 1)) (blockNumbers b) i h (numbers b is)
 
 -- ---- Units that a block takes
 
@@ -84,15 +71,6 @@ pub units-of : (m : BlockModel) (tape : List (List ℕ)) (tapeBytes tables lists
 units-of m tape tapeBytes tables lists proper rep n placed =
     let small : (n - 1) % 256 ≡ n - 1 = omega (arith, proper .blocks .1) in
     ap (λ (i : ℕ). unitsAt tables (8 * i)) small ∙ units-at tables (8 * (n - 1)) (blockAt m n) (rep .blocks (n - 1) (omega arith))
-
--- ---- The transaction at its block
-
-module _ {m : BlockModel} (s : State) (sane : Sane m s) (t : Transaction) (moving : s .moving ≡ some t) where
-  pub stood : Names (length (m .blocks)) (t .next)
-  stood = subst (Maybe (Placed m)) moving (sane .placed .moving) .0
-
-  pub next-low : (tape : List (List ℕ)) → Proper m tape → t .next < 4294967295
-  next-low tape proper = omega (arith, stood .1, proper .blocks .1)
 
 -- ---- The server that it names
 

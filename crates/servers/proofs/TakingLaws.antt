@@ -25,11 +25,13 @@ use Rattle.state.specs.Stands.{Rows, rowsOf, Stands, Done}
 use Rattle.state.specs.Bare.{entering, waiting, takingUnits, bare, bareAnswer}
 use Rattle.moves.specs.Motion.{goOn, waitOn}
 use Rattle.moves.proofs.MotionLaws.{puts-ql, wait-on-waits, waits-done, go-on-used, go-on-turns, wait-on-used, wait-on-turns}
+use Rattle.tables.proofs.Operands.{operand}
+use Rattle.state.proofs.Moving.{placed, next-low}
 use Rattle.servers.specs.Units.{serverAt, inUse, setInUse, capacity}
 use Rattle.servers.specs.Waking.{checkWels}
 use Rattle.servers.specs.Taking.{holdUnits, longer, queueUp, takeUnits}
 use Rattle.servers.specs.Taking as Taking
-use Rattle.servers.proofs.Named.{operand, stood, next-low, named}
+use Rattle.servers.proofs.Named.{named}
 use Rattle.servers.proofs.Tallies.{queued-tallying}
 use Rattle.servers.proofs.Ready.{Ready, set-ready, ready-done}
 use Rattle.servers.proofs.Standing.{high, units-are, capacity-is, short, ready}
@@ -64,7 +66,7 @@ module _ (m : BlockModel) (tape : List (List ℕ)) (tapeBytes tables lists : Lis
     hold-done =
         ready-done tapeBytes x t v low high′ (server .inUse + b) (server .capacity) w (setInUse tally (v - 1) (server .inUse + b)) (Moves.setInUse v (server .inUse + b) s₀)
         (set-ready tapeBytes x t v low high′ (server .inUse) (server .capacity) w tally s₀ ready′ (server .inUse + b))
-        (next-low s sane t moving tape proper)
+        (next-low proper t s sane moving)
 
     -- it waits on the QL
     queue-done : Done tapeBytes (queueUp w tally x (v - 1)) (waiting (Moves.toQl v) t s₀)
@@ -95,7 +97,7 @@ module _ (m : BlockModel) (tape : List (List ℕ)) (tapeBytes tables lists : Lis
   seize-done v is =
       let proper′ : Names (m .facilities) v = subst (ProperBlock m) is (proper .block (t .next)) in
       let there : v ≤ servers m = omega (arith, proper′ .1) in
-      rw (named tables (at + 1) v (high′ v 1 (proper′ .0) there) (proper′ .0) (operand m tape tapeBytes tables lists rep (t .next) (stood s sane t moving) (seize v) is 1 (omega arith)))
+      rw (named tables (at + 1) v (high′ v 1 (proper′ .0) there) (proper′ .0) (operand m tape tapeBytes tables lists rep (t .next) (placed proper t s sane moving .0) (seize v) is 1 (omega arith)))
       (take-done v 1 (proper′ .0) there)
 
   pub enter-done : (v b : ℕ) → blockAt m (t .next) ≡ enter v b → Done tapeBytes (Taking.enter tables w tally x at) (bareAnswer (question (enter v b) s) m (enter v b) t s)
@@ -103,7 +105,7 @@ module _ (m : BlockModel) (tape : List (List ℕ)) (tapeBytes tables lists : Lis
   enter-done v b is =
       let proper′ : Storage m v = subst (ProperBlock m) is (proper .block (t .next)) .0 in
       let low : 1 ≤ v = omega (arith, proper′ .0) in
-      rw (named tables (at + 1) v (high′ v b low (proper′ .1)) low (operand m tape tapeBytes tables lists rep (t .next) (stood s sane t moving) (enter v b) is 1 (omega arith)), operand m tape tapeBytes tables lists rep (t .next) (stood s sane t moving) (enter v b) is 2 (omega arith))
+      rw (named tables (at + 1) v (high′ v b low (proper′ .1)) low (operand m tape tapeBytes tables lists rep (t .next) (placed proper t s sane moving .0) (enter v b) is 1 (omega arith)), operand m tape tapeBytes tables lists rep (t .next) (placed proper t s sane moving .0) (enter v b) is 2 (omega arith))
       (take-done v b low (proper′ .1))
 
 -- ---- Bytes of trace and turns are counted elsewhere

@@ -26,10 +26,12 @@ use Rattle.state.specs.Stands.{Rows, Stands, Done}
 use Rattle.state.specs.Bare.{entering, waiting, bare, bareAnswer}
 use Rattle.moves.specs.Motion.{Moved, withTally, goOn, waitOn}
 use Rattle.moves.proofs.MotionLaws.{puts-wel, wait-on-waits, waits-done, wel-tallying, go-on-used, go-on-turns, wait-on-used, wait-on-turns}
+use Rattle.tables.proofs.Operands.{operand}
+use Rattle.state.proofs.Moving.{placed, next-low}
 use Rattle.servers.specs.Units.{serverAt, inUse, capacity, statusOf}
 use Rattle.servers.specs.WaitServer.{passOn, waitWhile}
 use Rattle.servers.specs.WaitServer as WaitServer
-use Rattle.servers.proofs.Named.{operand, stood, next-low, named, status-is}
+use Rattle.servers.proofs.Named.{named, status-is}
 use Rattle.servers.proofs.Ready.{Ready}
 use Rattle.servers.proofs.Checking.{unchecked, woken-checked, checked-done}
 use Rattle.servers.proofs.Standing.{high, units-are, capacity-is, ready}
@@ -97,7 +99,7 @@ module _ (m : BlockModel) (tape : List (List ℕ)) (tapeBytes tables lists : Lis
     pass-done =
         checked-done tapeBytes tally x t s₀ (wakeFirst w p) (wakeFirstWel v code s₀)
         (woken-checked (x .moving) (some t) s₀ w s₀ v code below (ready′ .wels code) (unchecked (x .moving) (some t) s₀ w (ready′ .listing)))
-        (ready′ .tallying) (ready′ .counting) (next-low s sane t moving tape proper)
+        (ready′ .tallying) (ready′ .counting) (next-low proper t s sane moving)
 
     while-done : Done tapeBytes (withTally (waitWhile w x p (status code server)) tally) (bare m (waitServer code v) t s₀)
     unfolding waitWhile bare
@@ -114,7 +116,7 @@ module _ (m : BlockModel) (tape : List (List ℕ)) (tapeBytes tables lists : Lis
   unfolding WaitServer.waitServer question bareAnswer blockNumbers welIndex
   wait-server-done code v is =
       let h : (1 ≤ v) × (v ≤ servers m) = code-there m code v (subst (ProperBlock m) is (proper .block (t .next))) in
-      rw (named tables (at + 2) v (high′ code v (h .0) (h .1)) (h .0) (operand m tape tapeBytes tables lists rep (t .next) (stood s sane t moving) (waitServer code v) is 2 (omega arith)), operand m tape tapeBytes tables lists rep (t .next) (stood s sane t moving) (waitServer code v) is 1 (omega arith), code-small code, capacity-is m tape tapeBytes tables lists proper rep s sane r t stands v (h .0) (h .1), units-are m tape tapeBytes tables lists proper rep s sane r t stands v (h .0) (h .1), status-is code (Term.serverAt (s .view) v))
+      rw (named tables (at + 2) v (high′ code v (h .0) (h .1)) (h .0) (operand m tape tapeBytes tables lists rep (t .next) (placed proper t s sane moving .0) (waitServer code v) is 2 (omega arith)), operand m tape tapeBytes tables lists rep (t .next) (placed proper t s sane moving .0) (waitServer code v) is 1 (omega arith), code-small code, capacity-is m tape tapeBytes tables lists proper rep s sane r t stands v (h .0) (h .1), units-are m tape tapeBytes tables lists proper rep s sane r t stands v (h .0) (h .1), status-is code (Term.serverAt (s .view) v))
       (while-done code v (h .0) (h .1))
 
 -- ---- Bytes of trace and turns are counted elsewhere

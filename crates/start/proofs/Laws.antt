@@ -28,7 +28,7 @@ use Rattle.state.proofs.StandsLaws.{stands-of}
 use Rattle.flow.specs.Samples.{nextSample}
 use Rattle.flow.specs.Sending.{arrives}
 use Rattle.start.specs.Start.{listsSet, startScalars, beginList, beginBlock, beginBlocks, startRows}
-use Rattle.flow.proofs.Operands.{operand}
+use Rattle.tables.proofs.Operands.{operand}
 use Rattle.flow.proofs.Drawing.{drawn-most}
 use Rattle.flow.proofs.Arrival.{arrives-stands}
 use Rattle.start.proofs.Tally.{same-at, idle-tallying}
