@@ -28,7 +28,8 @@ use Rattle.codec.proofs.Stores.{sets-append}
 use Rattle.state.specs.Sane.{Sane}
 use Rattle.state.proofs.Numbered.{Numbered, numbered}
 use Rattle.report.specs.Writing.{written, putAll}
-use Rattle.report.proofs.Writes.{put-room, putAll-cons}
+use Rattle.codec.proofs.Writing.{put-room}
+use Rattle.report.proofs.Writes.{putAll-cons}
 use Rattle.report.proofs.Sorting.{sum-sorted}
 use Rattle.report.proofs.Counted.{records-few}
 

@@ -4,28 +4,14 @@ use mathlib.Core.Path.{_≡_, refl, ap, _∙_}
 use mathlib.Core.List.{List, [], _∷_, _++_}
 use native.Mathlib.Numerals.{add-one}
 use native.Mathlib.Omega.{arith}
-use borrow.Author.Tests.{lt-ltb, le-ltb, le-leb, lt-leb}
-use lib.ListN.{length}
-use lib.Seq.{sets}
-use Rattle.machine.specs.Number.{numberBytes}
+use borrow.Author.Tests.{lt-ltb, le-ltb}
 use Rattle.machine.specs.Report.{placeNumbers}
 use Rattle.rows.specs.Layout.{numberField}
 use Rattle.rows.specs.Cells.{read}
 use Rattle.rows.specs.Living.{sumTo}
-use Rattle.report.specs.Writing.{Written, written, put, putAll}
+use Rattle.report.specs.Writing.{Written, put, putAll}
 use Rattle.report.specs.Counts.{share, total, rowsTo}
 use Rattle.report.specs.Living.{placeAt, behind, better, least, rising}
-
--- ---- One number
-
-pub put-room : (at v : ℕ) (l : List ℕ) → at + length (numberBytes v) ≤ length l →
-    put v (written at l) ≡ written (at + length (numberBytes v)) (sets l at (numberBytes v))
-unfolding put written
-put-room at v l h = rw (le-leb _ _ h)
-
-pub put-full : (at v : ℕ) (l : List ℕ) → length l < at + length (numberBytes v) → put v (written at l) ≡ written at l
-unfolding put written
-put-full at v l h = rw (lt-leb _ _ h)
 
 -- ---- Lists of numbers
 

@@ -1,5 +1,5 @@
 // The numbers of servers and queues, from tables and tally.
-use crate::writing::put;
+use codec::write_number;
 use state::plus64;
 use tables::CONTENT_TICKS;
 use tables::ENTRIES;
@@ -85,11 +85,11 @@ fn put_server(
     requires { ⌜ v < 64 ⌝ }
     ensures { λ r. ⌜ written r (now (report .exit)) ≡ putAll (serverRow (now (tables .entry)) (now (tally .entry)) blocks v) (written at (now (report .entry))) ⌝ }
 {
-    let entered = put(report, at, total(tables, tally, 4, 6, v, ENTRIES, blocks));
-    let used = put(report, entered, count(tally, UNIT_TICKS + v));
-    let waits = put(report, used, total(tables, tally, 4, 6, v, WAITS, blocks));
-    let waited = put(report, waits, count(tally, WAIT_TICKS + v));
-    put(report, waited, count(tally, LONGEST_QL + v))
+    let entered = write_number(report, at, total(tables, tally, 4, 6, v, ENTRIES, blocks));
+    let used = write_number(report, entered, count(tally, UNIT_TICKS + v));
+    let waits = write_number(report, used, total(tables, tally, 4, 6, v, WAITS, blocks));
+    let waited = write_number(report, waits, count(tally, WAIT_TICKS + v));
+    write_number(report, waited, count(tally, LONGEST_QL + v))
 }
 
 pub fn put_servers(
@@ -125,9 +125,9 @@ fn put_queue(
     requires { ⌜ q < 32 ⌝ }
     ensures { λ r. ⌜ written r (now (report .exit)) ≡ putAll (queueRow (now (tables .entry)) (now (tally .entry)) blocks q) (written at (now (report .entry))) ⌝ }
 {
-    let arrived = put(report, at, total(tables, tally, 15, 15, q, ENTRIES, blocks));
-    let filled = put(report, arrived, count(tally, CONTENT_TICKS + q));
-    put(report, filled, count(tally, LONGEST_CONTENT + q))
+    let arrived = write_number(report, at, total(tables, tally, 15, 15, q, ENTRIES, blocks));
+    let filled = write_number(report, arrived, count(tally, CONTENT_TICKS + q));
+    write_number(report, filled, count(tally, LONGEST_CONTENT + q))
 }
 
 pub fn put_queues(

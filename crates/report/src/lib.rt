@@ -2,14 +2,13 @@
 // living count and, per living one, number and place"). specs/Numbers has its numbers, proofs/Report that they are the machine's.
 mod counts;
 mod living;
-mod writing;
 
+use codec::write_number;
 use counts::put_queues;
 use counts::put_servers;
 use living::put_living;
 use machine::Model;
 use state::Scalars;
-use writing::put;
 ghost use mathlib.Core.Path.{_≡_};
 ghost use mathlib.Core.List.{[], _∷_};
 ghost use Prim.Native.Nat.{min};
@@ -19,9 +18,9 @@ ghost use Rattle.report.specs.Writing.{written, putAll};
 fn put_scalars(x: Scalars, report: &mut [u8], at: usize) -> usize
     ensures { λ r. ⌜ written r (now (report .exit)) ≡ putAll (x .clock ∷ x .made ∷ x .ended ∷ []) (written at (now (report .entry))) ⌝ }
 {
-    let clocked = put(report, at, x.clock as u64);
-    let made = put(report, clocked, x.made as u64);
-    put(report, made, x.ended as u64)
+    let clocked = write_number(report, at, x.clock as u64);
+    let made = write_number(report, clocked, x.made as u64);
+    write_number(report, made, x.ended as u64)
 }
 
 fn at_most(n: usize, most: usize) -> usize

@@ -5,40 +5,40 @@ use Rattle.report.specs.Writing.{put, putAll}
 use Rattle.report.proofs.put_scalars.Statement.{statement}
 use Rattle.report.proofs.put_scalars.Tie as tie
 
-cast-put : tie.Need-cast-put
-cast-put c = search needs
+cast-write-number : tie.Need-cast-write-number
+cast-write-number c = search needs
 
-put-requires : tie.Need-put-requires
-put-requires c κs = search needs
+write-number-requires : tie.Need-write-number-requires
+write-number-requires c κs = search needs
 
-cast-put-2 : tie.Need-cast-put-2
-cast-put-2 c = search needs
+cast-write-number-2 : tie.Need-cast-write-number-2
+cast-write-number-2 c = search needs
 
-put-requires-2 : tie.Need-put-requires-2
-put-requires-2 c κs = search needs
+write-number-requires-2 : tie.Need-write-number-requires-2
+write-number-requires-2 c κs = search needs
 
-cast-put-3 : tie.Need-cast-put-3
-cast-put-3 c = search needs
+cast-write-number-3 : tie.Need-cast-write-number-3
+cast-write-number-3 c = search needs
 
-put-requires-3 : tie.Need-put-requires-3
-put-requires-3 c κs = search needs
+write-number-requires-3 : tie.Need-write-number-requires-3
+write-number-requires-3 c κs = search needs
 
 same-length : tie.Need-same-length
 same-length c = search needs
 
 returns : tie.Need-returns
 unfolding putAll
-returns c = c .before .before .put3 .ensures ∙ ap (put _) (c .before .before .before .before .before .before .before .put2 .ensures ∙ ap (put _) (c .before .before .before .before .before .before .before .before .before .before .before .before .put .ensures))
+returns c = c .before .before .write-number3 .ensures ∙ ap (put _) (c .before .before .before .before .before .before .before .write-number2 .ensures ∙ ap (put _) (c .before .before .before .before .before .before .before .before .before .before .before .before .write-number .ensures))
 
 pub put-scalars-spec : {M : Type 1} → statement M
 put-scalars-spec =
     tie.close
     (tie.spec
-    cast-put
-    put-requires
-    cast-put-2
-    put-requires-2
-    cast-put-3
-    put-requires-3
+    cast-write-number
+    write-number-requires
+    cast-write-number-2
+    write-number-requires-2
+    cast-write-number-3
+    write-number-requires-3
     same-length
     returns)

@@ -9,8 +9,8 @@ use Rattle.report.proofs.counts.put_queue.Tie as tie
 total-requires : tie.Need-total-requires
 total-requires c κs = search needs
 
-put-requires : tie.Need-put-requires
-put-requires c κs = search needs
+write-number-requires : tie.Need-write-number-requires
+write-number-requires c κs = search needs
 
 add-count : tie.Need-add-count
 add-count c = search needs
@@ -18,8 +18,8 @@ add-count c = search needs
 count-requires : tie.Need-count-requires
 count-requires c κs = search needs
 
-put-requires-2 : tie.Need-put-requires-2
-put-requires-2 c κs = search needs
+write-number-requires-2 : tie.Need-write-number-requires-2
+write-number-requires-2 c κs = search needs
 
 add-count-2 : tie.Need-add-count-2
 add-count-2 c = search needs
@@ -27,8 +27,8 @@ add-count-2 c = search needs
 count-requires-2 : tie.Need-count-requires-2
 count-requires-2 c κs = search needs
 
-put-requires-3 : tie.Need-put-requires-3
-put-requires-3 c κs = search needs
+write-number-requires-3 : tie.Need-write-number-requires-3
+write-number-requires-3 c κs = search needs
 
 same-length : tie.Need-same-length
 same-length c = search needs
@@ -36,21 +36,21 @@ same-length c = search needs
 returns : tie.Need-returns
 unfolding queueRow putAll
 returns c =
-    c .before .before .put3 .ensures
+    c .before .before .write-number3 .ensures
     ∙ ap₂ put (c .before .before .before .count2 .ensures)
-    (c .before .before .before .before .before .before .before .put2 .ensures ∙ ap₂ put (c .before .before .before .before .before .before .before .before .count .ensures) (c .before .before .before .before .before .before .before .before .before .before .before .before .put .ensures ∙ ap₂ put (c .before .before .before .before .before .before .before .before .before .before .before .before .before .total .ensures) refl))
+    (c .before .before .before .before .before .before .before .write-number2 .ensures ∙ ap₂ put (c .before .before .before .before .before .before .before .before .count .ensures) (c .before .before .before .before .before .before .before .before .before .before .before .before .write-number .ensures ∙ ap₂ put (c .before .before .before .before .before .before .before .before .before .before .before .before .before .total .ensures) refl))
 
 pub put-queue-spec : {M : Type 1} → statement M
 put-queue-spec =
     tie.close
     (tie.spec
     total-requires
-    put-requires
+    write-number-requires
     add-count
     count-requires
-    put-requires-2
+    write-number-requires-2
     add-count-2
     count-requires-2
-    put-requires-3
+    write-number-requires-3
     same-length
     returns)

@@ -9,8 +9,8 @@ use Rattle.report.proofs.counts.put_server.Tie as tie
 total-requires : tie.Need-total-requires
 total-requires c κs = search needs
 
-put-requires : tie.Need-put-requires
-put-requires c κs = search needs
+write-number-requires : tie.Need-write-number-requires
+write-number-requires c κs = search needs
 
 add-count : tie.Need-add-count
 add-count c = search needs
@@ -18,14 +18,14 @@ add-count c = search needs
 count-requires : tie.Need-count-requires
 count-requires c κs = search needs
 
-put-requires-2 : tie.Need-put-requires-2
-put-requires-2 c κs = search needs
+write-number-requires-2 : tie.Need-write-number-requires-2
+write-number-requires-2 c κs = search needs
 
 total-requires-2 : tie.Need-total-requires-2
 total-requires-2 c κs = search needs
 
-put-requires-3 : tie.Need-put-requires-3
-put-requires-3 c κs = search needs
+write-number-requires-3 : tie.Need-write-number-requires-3
+write-number-requires-3 c κs = search needs
 
 add-count-2 : tie.Need-add-count-2
 add-count-2 c = search needs
@@ -33,8 +33,8 @@ add-count-2 c = search needs
 count-requires-2 : tie.Need-count-requires-2
 count-requires-2 c κs = search needs
 
-put-requires-4 : tie.Need-put-requires-4
-put-requires-4 c κs = search needs
+write-number-requires-4 : tie.Need-write-number-requires-4
+write-number-requires-4 c κs = search needs
 
 add-count-3 : tie.Need-add-count-3
 add-count-3 c = search needs
@@ -42,8 +42,8 @@ add-count-3 c = search needs
 count-requires-3 : tie.Need-count-requires-3
 count-requires-3 c κs = search needs
 
-put-requires-5 : tie.Need-put-requires-5
-put-requires-5 c κs = search needs
+write-number-requires-5 : tie.Need-write-number-requires-5
+write-number-requires-5 c κs = search needs
 
 same-length : tie.Need-same-length
 same-length c = search needs
@@ -51,30 +51,30 @@ same-length c = search needs
 returns : tie.Need-returns
 unfolding serverRow putAll
 returns c =
-    c .before .before .put5 .ensures
+    c .before .before .write-number5 .ensures
     ∙ ap₂ put (c .before .before .before .count3 .ensures)
-    (c .before .before .before .before .before .before .before .put4 .ensures
+    (c .before .before .before .before .before .before .before .write-number4 .ensures
     ∙ ap₂ put (c .before .before .before .before .before .before .before .before .count2 .ensures)
-    (c .before .before .before .before .before .before .before .before .before .before .before .before .put3 .ensures
+    (c .before .before .before .before .before .before .before .before .before .before .before .before .write-number3 .ensures
     ∙ ap₂ put (c .before .before .before .before .before .before .before .before .before .before .before .before .before .total2 .ensures)
-    (c .before .before .before .before .before .before .before .before .before .before .before .before .before .before .before .before .before .put2 .ensures ∙ ap₂ put (c .before .before .before .before .before .before .before .before .before .before .before .before .before .before .before .before .before .before .count .ensures) (c .before .before .before .before .before .before .before .before .before .before .before .before .before .before .before .before .before .before .before .before .before .before .put .ensures ∙ ap₂ put (c .before .before .before .before .before .before .before .before .before .before .before .before .before .before .before .before .before .before .before .before .before .before .before .total .ensures) refl))))
+    (c .before .before .before .before .before .before .before .before .before .before .before .before .before .before .before .before .before .write-number2 .ensures ∙ ap₂ put (c .before .before .before .before .before .before .before .before .before .before .before .before .before .before .before .before .before .before .count .ensures) (c .before .before .before .before .before .before .before .before .before .before .before .before .before .before .before .before .before .before .before .before .before .before .write-number .ensures ∙ ap₂ put (c .before .before .before .before .before .before .before .before .before .before .before .before .before .before .before .before .before .before .before .before .before .before .before .total .ensures) refl))))
 
 pub put-server-spec : {M : Type 1} → statement M
 put-server-spec =
     tie.close
     (tie.spec
     total-requires
-    put-requires
+    write-number-requires
     add-count
     count-requires
-    put-requires-2
+    write-number-requires-2
     total-requires-2
-    put-requires-3
+    write-number-requires-3
     add-count-2
     count-requires-2
-    put-requires-4
+    write-number-requires-4
     add-count-3
     count-requires-3
-    put-requires-5
+    write-number-requires-5
     same-length
     returns)
