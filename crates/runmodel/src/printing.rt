@@ -10,8 +10,12 @@ use libc::STDOUT_FILENO;
 use machine::Model;
 use tables::TABLES;
 use trace::Reading;
+ghost use Prim.Native.Nat.{_+_, _*_, _≤_};
+ghost use lib.ListN.{length};
 
-fn print_line(letters: &[u8], numbers: &[u64]) {
+fn print_line(letters: &[u8], numbers: &[u64])
+    requires { ⌜ length (now letters) + 21 * length (now numbers) ≤ 134 ⌝ }
+{
     let mut out = [0u8; LINE];
     let n = line(&mut out, letters, numbers);
     io::write_all(STDOUT_FILENO, &out[..n]);
@@ -42,7 +46,7 @@ struct Field {
 }
 
 // The engine's report has a number at every position that is asked for here; elsewhere it counts as 0.
-fn field(report: &[u8], at: usize) -> Field {
+fn number_at(report: &[u8], at: usize) -> Field {
     match codec::read_report_number(report, at) {
         Read::Number(value, next) => Field { value, next },
         Read::Refused => Field { value: 0, next: at },
@@ -53,19 +57,31 @@ fn field(report: &[u8], at: usize) -> Field {
 fn skip(report: &[u8], at: usize, count: usize) -> usize {
     let mut next = at;
     for _ in 0..count {
-        next = field(report, next).next;
+        next = number_at(report, next).next;
+    }
+    next
+}
+
+// The position behind the fields of so many servers or queues.
+fn skip_all(report: &[u8], at: usize, things: usize, count: usize) -> usize {
+    let mut next = at;
+    for _ in 0..things {
+        next = skip(report, next, count);
     }
     next
 }
 
 // A line with letters, a number and so many fields of the report; returns the position behind them.
-fn print_fields(report: &[u8], at: usize, letters: &[u8], number: u64, count: usize) -> usize {
+fn print_fields(report: &[u8], at: usize, letters: &[u8], number: u64, count: usize) -> usize
+    requires { ⌜ length (now letters) ≤ 8 ⌝ }
+    requires { ⌜ count ≤ 5 ⌝ }
+{
     let mut numbers = [0u64; 6];
     numbers[0] = number;
     let mut next = at;
     let mut i = 0;
     while i < count {
-        let f = field(report, next);
+        let f = number_at(report, next);
         i += 1;
         numbers[i] = f.value;
         next = f.next;
@@ -74,24 +90,25 @@ fn print_fields(report: &[u8], at: usize, letters: &[u8], number: u64, count: us
     next
 }
 
-// A line for each server or queue of a kind.
-fn print_all(report: &[u8], at: usize, letters: &[u8], things: usize, count: usize) -> usize {
+// A line for each server or queue of a kind, from a position on.
+fn print_all(report: &[u8], at: usize, letters: &[u8], things: usize, count: usize)
+    requires { ⌜ length (now letters) ≤ 8 ⌝ }
+    requires { ⌜ count ≤ 5 ⌝ }
+{
     let mut next = at;
     let mut k = 0;
     while k < things {
         k += 1;
         next = print_fields(report, next, letters, k as u64, count);
     }
-    next
 }
 
+// Clock, made and ended begin the report, and the living follow the queues.
 fn print_report(m: Model, outcome: Outcome, report: &[u8]) {
-    let first = skip(report, 0, 3);
-    let living = skip(
-        report,
-        first,
-        5 * (m.facilities + m.storages) + 3 * m.queues,
-    );
+    let facilities = skip(report, 0, 3);
+    let storages = skip_all(report, facilities, m.facilities, 5);
+    let queues = skip_all(report, storages, m.storages, 5);
+    let living = skip_all(report, queues, m.queues, 3);
     print_line(
         b"end ",
         &[
@@ -99,11 +116,11 @@ fn print_report(m: Model, outcome: Outcome, report: &[u8]) {
             outcome.clock,
             outcome.made,
             outcome.ended,
-            field(report, living).value,
+            number_at(report, living).value,
         ],
     );
-    let storages = print_all(report, first, b"f ", m.facilities, 5);
-    let queues = print_all(report, storages, b"s ", m.storages, 5);
+    print_all(report, facilities, b"f ", m.facilities, 5);
+    print_all(report, storages, b"s ", m.storages, 5);
     print_all(report, queues, b"q ", m.queues, 3);
 }
 
