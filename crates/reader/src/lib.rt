@@ -1,0 +1,62 @@
+// The trace reader (document 01, "A trace reader keeps the lent bytes and its position between records; a second call counts the
+// bytes below 80 hexadecimal"): a struct that holds the bytes and a position, and thin functions over the reader of crate `trace`.
+use trace::Reading;
+use trace::count_low;
+use trace::read_record;
+ghost use mathlib.Core.Path.{_≡_};
+ghost use Rattle.machine.specs.Number.{countLow};
+ghost use Rattle.machine.specs.Trace.{readRecord};
+ghost use Rattle.trace.specs.Answers.{readingOf};
+ghost use Rattle.reader.specs.Position.{positionAfter};
+
+pub struct Reader<'a> {
+    pub bytes: &'a [u8],
+    pub at: usize,
+}
+
+// The position behind the record at a position. "A refusal leaves the position", and so does "no more".
+pub fn position_after(s: &[u8], at: usize) -> usize
+    ensures { λ r. ⌜ r ≡ positionAfter (now (s .entry)) at ⌝ }
+{
+    match read_record(s, at) {
+        Reading::Taken(_, next) => next,
+        Reading::Refused(_) => at,
+        Reading::NoMore => at,
+    }
+}
+
+// A reader before the first record.
+pub fn new<'a>(bytes: &'a [u8]) -> Reader<'a>
+    ensures { λ r. ⌜ (r .bytes ≡ bytes .entry) × (r .at ≡ 0) ⌝ }
+{
+    Reader { bytes, at: 0 }
+}
+
+// The record at the reader's position, or the number of the refusal, or "no more".
+pub fn next<'a>(r: Reader<'a>) -> Reading
+    ensures { λ x. ⌜ readingOf x ≡ readRecord (now (r .entry .bytes)) (r .entry .at) ⌝ }
+{
+    read_record(r.bytes, r.at)
+}
+
+// The reader behind that record.
+pub fn after<'a>(r: Reader<'a>) -> Reader<'a>
+    ensures { λ q. ⌜ (q .bytes ≡ r .entry .bytes) × (q .at ≡ positionAfter (now (r .entry .bytes)) (r .entry .at)) ⌝ }
+{
+    let at = position_after(r.bytes, r.at);
+    Reader { bytes: r.bytes, at }
+}
+
+// How many of the bytes are below 80 hexadecimal, whatever the position.
+pub fn count<'a>(r: Reader<'a>) -> u64
+    ensures { λ n. ⌜ n ≡ countLow (now (r .entry .bytes)) ⌝ }
+{
+    count_low(r.bytes)
+}
+
+// The first record of these bytes, for callers that hold no reader.
+pub fn first(bytes: &[u8]) -> Reading
+    ensures { λ x. ⌜ readingOf x ≡ readRecord (now (bytes .entry)) 0 ⌝ }
+{
+    next(new(bytes))
+}

@@ -1,0 +1,23 @@
+-- The parts of the buffers that a run has written lie within them.
+use Prim.Native.Nat.{ℕ, _≤_}
+use native.Mathlib.Omega.{arith}
+use mathlib.Core.List.{List}
+use mathlib.Core.Path.{_≡_, sym}
+use lib.ListN.{length, drop, length-append}
+use lib.Seq.{length-take-le}
+use Rattle.io.specs.Counts.{Counts}
+use Rattle.engine.specs.declared.outcome.Outcome.{Outcome}
+use Rattle.engine.specs.Contract.{Begins, wanted, Contract}
+
+begun : (bytes before after : List ℕ) (n : ℕ) → n ≡ length bytes → Begins bytes before after → Counts n after
+begun bytes before after n e s =
+    let inside : n ≤ length after = rw (s, length-append bytes (drop (length bytes) before)) (omega arith) in
+    (inside, sym (length-take-le n after inside))
+
+module _ {model tape : List ℕ} {budget : ℕ} {work trace report work′ trace′ report′ : List ℕ} {r : Outcome}
+    (told : Contract model tape budget work trace report r work′ trace′ report′) where
+  pub trace-part : Counts (r .«trace_bytes») trace′
+  trace-part = begun (wanted model tape budget work trace report .trace) trace trace′ _ (told .results .trace-bytes) (told .trace-holds)
+
+  pub report-part : Counts (r .«report_bytes») report′
+  report-part = begun (wanted model tape budget work trace report .report) report report′ _ (told .results .report-bytes) (told .report-holds)

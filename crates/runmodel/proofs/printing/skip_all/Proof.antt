@@ -1,0 +1,34 @@
+-- `printing::skip_all` is safe and ends. The measure is what is left of the servers or queues.
+use Prim.Native.Nat.{_≤_, _-_}
+use borrow.Author.Needs.{needs}
+use Rattle.runmodel.proofs.printing.skip_all.Statement.{statement}
+use Rattle.runmodel.proofs.printing.skip_all.Tie as tie
+
+abbrev Inv-loop : tie.InvT-loop
+Inv-loop report at things count next₀ counter₀ next counter = counter ≤ things
+
+abbrev μ-loop : tie.MeasureT-loop
+μ-loop report at things count next₀ counter₀ next counter = things - counter
+
+loop-holds : tie.Need-loop-holds Inv-loop μ-loop
+loop-holds c = search needs
+
+skip-requires : tie.Need-skip-requires Inv-loop μ-loop
+skip-requires c κs = search needs
+
+add-counter : tie.Need-add-counter Inv-loop μ-loop
+add-counter c = search needs
+
+loop-less : tie.Need-loop-less Inv-loop μ-loop
+loop-less c = search needs
+
+loop-again : tie.Need-loop-again Inv-loop μ-loop
+loop-again c = search needs
+
+returns : tie.Need-returns Inv-loop μ-loop
+returns c = search needs
+
+pub skip-all-spec : {M : Type 1} → statement M
+skip-all-spec =
+    tie.close
+    (tie.spec Inv-loop μ-loop loop-holds skip-requires add-counter loop-less loop-again returns)

@@ -1,0 +1,22 @@
+-- A line that runmodel prints: letters, then numbers in decimal with one space between, then a line feed.
+use Prim.Native.Nat.{ℕ, zero, suc, _+_, _/_, _%_}
+use mathlib.Core.Bool.{cond}
+use mathlib.Core.List.{List, [], _∷_, _++_}
+use lib.Dec.{ltb}
+
+-- the decimal digits of n, at most k of them, in ASCII; a number of 64 bits has at most 20
+unfoldable pub numeral : ℕ → ℕ → List ℕ
+numeral zero n = []
+numeral (suc k) n = cond (ltb n 10) ((48 + n) ∷ []) (numeral k (n / 10) ++ ((48 + n % 10) ∷ []))
+
+-- what stands behind a number: a space if numbers follow, else the line feed
+unfoldable pub behind : List ℕ → ℕ
+behind [] = 10
+behind (n ∷ l) = 32
+
+unfoldable pub numerals : List ℕ → List ℕ
+numerals [] = []
+numerals (n ∷ l) = numeral 20 n ++ (behind l ∷ []) ++ numerals l
+
+unfoldable pub line : (letters numbers : List ℕ) → List ℕ
+line letters numbers = letters ++ numerals numbers

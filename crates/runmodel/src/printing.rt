@@ -1,0 +1,147 @@
+// What is printed.
+use crate::REPORT_BYTES;
+use crate::WORK_NUMBERS;
+use crate::lines::LINE;
+use crate::lines::line;
+use codec::Read;
+use decode::Decoded;
+use engine::Outcome;
+use libc::STDOUT_FILENO;
+use machine::Model;
+use tables::TABLES;
+use trace::Reading;
+ghost use Prim.Native.Nat.{_+_, _*_, _≤_};
+ghost use lib.ListN.{length};
+
+fn print_line(letters: &[u8], numbers: &[u64])
+    requires { ⌜ length (now letters) + 21 * length (now numbers) ≤ 134 ⌝ }
+{
+    let mut out = [0u8; LINE];
+    let n = line(&mut out, letters, numbers);
+    io::write_all(STDOUT_FILENO, &out[..n]);
+}
+
+pub fn print_refused(number: u64) {
+    print_line(b"refused ", &[number]);
+}
+
+// Every record of a trace.
+fn print_records(trace: &[u8]) {
+    let mut at = 0;
+    let mut left = trace.len();
+    while 0 < left {
+        let Reading::Taken(r, next) = trace::read_record(trace, at) else {
+            return;
+        };
+        print_line(b"", &[r.clock, r.transaction, r.block, r.outcome]);
+        at = next;
+        left -= 1;
+    }
+}
+
+// The report's number at a position, and the position after it.
+struct Field {
+    value: u64,
+    next: usize,
+}
+
+// The engine's report has a number at every position that is asked for here; elsewhere it counts as 0.
+fn number_at(report: &[u8], at: usize) -> Field {
+    match codec::read_report_number(report, at) {
+        Read::Number(value, next) => Field { value, next },
+        Read::Refused => Field { value: 0, next: at },
+    }
+}
+
+// The position behind so many numbers.
+fn skip(report: &[u8], at: usize, count: usize) -> usize {
+    let mut next = at;
+    for _ in 0..count {
+        next = number_at(report, next).next;
+    }
+    next
+}
+
+// The position behind the fields of so many servers or queues.
+fn skip_all(report: &[u8], at: usize, things: usize, count: usize) -> usize {
+    let mut next = at;
+    for _ in 0..things {
+        next = skip(report, next, count);
+    }
+    next
+}
+
+// A line with letters, a number and so many fields of the report; returns the position behind them.
+fn print_fields(report: &[u8], at: usize, letters: &[u8], number: u64, count: usize) -> usize
+    requires { ⌜ length (now letters) ≤ 8 ⌝ }
+    requires { ⌜ count ≤ 5 ⌝ }
+{
+    let mut numbers = [0u64; 6];
+    numbers[0] = number;
+    let mut next = at;
+    let mut i = 0;
+    while i < count {
+        let f = number_at(report, next);
+        i += 1;
+        numbers[i] = f.value;
+        next = f.next;
+    }
+    print_line(letters, &numbers[..i + 1]);
+    next
+}
+
+// A line for each server or queue of a kind, from a position on.
+fn print_all(report: &[u8], at: usize, letters: &[u8], things: usize, count: usize)
+    requires { ⌜ length (now letters) ≤ 8 ⌝ }
+    requires { ⌜ count ≤ 5 ⌝ }
+{
+    let mut next = at;
+    let mut k = 0;
+    while k < things {
+        k += 1;
+        next = print_fields(report, next, letters, k as u64, count);
+    }
+}
+
+// Clock, made and ended begin the report, and the living follow the queues.
+fn print_report(m: Model, outcome: Outcome, report: &[u8]) {
+    let facilities = skip(report, 0, 3);
+    let storages = skip_all(report, facilities, m.facilities, 5);
+    let queues = skip_all(report, storages, m.storages, 5);
+    let living = skip_all(report, queues, m.queues, 3);
+    print_line(
+        b"end ",
+        &[
+            outcome.end,
+            outcome.clock,
+            outcome.made,
+            outcome.ended,
+            number_at(report, living).value,
+        ],
+    );
+    print_all(report, facilities, b"f ", m.facilities, 5);
+    print_all(report, storages, b"s ", m.storages, 5);
+    print_all(report, queues, b"q ", m.queues, 3);
+}
+
+// How many servers and queues an accepted model has.
+fn header(model: &[u8], tape: &[u8]) -> Model {
+    let mut tables = [0u32; TABLES];
+    let mut lists = [0u64; 32];
+    match decode::decode(
+        model,
+        tape,
+        WORK_NUMBERS,
+        REPORT_BYTES,
+        &mut tables,
+        &mut lists,
+    ) {
+        Decoded::Model(m) => m,
+        Decoded::Refused(_) => Model::empty(),
+    }
+}
+
+pub fn print_accepted(model: &[u8], tape: &[u8], outcome: Outcome, trace: &[u8], report: &[u8]) {
+    print_records(trace);
+    print_report(header(model, tape), outcome, report);
+}
