@@ -7,6 +7,7 @@ pub mod claims;
 pub mod coverage;
 pub mod decode;
 pub mod generate;
+pub mod line;
 pub mod machine;
 pub mod model;
 pub mod number;
