@@ -10,7 +10,10 @@ fn main() {
     };
     let archive = folder.join("libcovrith.a");
     if !archive.exists() {
-        panic!("{} is not there: run `rt staticlib covrith`", archive.display());
+        panic!(
+            "{} is not there: run `rt staticlib covrith`",
+            archive.display()
+        );
     }
     println!("cargo:rustc-link-search=native={}", folder.display());
     println!("cargo:rustc-link-lib=static=covrith");

@@ -2,9 +2,7 @@
 
 use covrith::{count, read_record, run, write_record, Outcome, Record, Records};
 
-const MODEL: [u8; 19] = [
-    1, 1, 0, 0, 0, 2, 2, 5, 1, 1, 0, 4, 1, 2, 2, 5, 1, 3, 1,
-];
+const MODEL: [u8; 19] = [1, 1, 0, 0, 0, 2, 2, 5, 1, 1, 0, 4, 1, 2, 2, 5, 1, 3, 1];
 const TAPE: [u8; 6] = [2, 3, 2, 2, 5, 4];
 
 fn record(clock: u64, transaction: u64, block: u64, outcome: u64) -> Record {
