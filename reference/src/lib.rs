@@ -13,6 +13,7 @@ pub mod model;
 pub mod number;
 pub mod report;
 pub mod run;
+pub mod stored;
 pub mod tape;
 pub mod terms;
 pub mod text;
