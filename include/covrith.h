@@ -7,7 +7,7 @@
  * - no pointer is NULL, also where its length is 0, and each is aligned for its type;
  * - what a function writes to overlaps nothing else that it is given;
  * - nothing is kept after the call: no memory of its own, no state, no locks. Calls on separate buffers
- *   may run at the same time.
+ *   may run at the same time. A run takes some 40 KB of stack.
  */
 #ifndef COVRITH_H
 #define COVRITH_H
