@@ -1,6 +1,14 @@
 // Statistics, summed before a clock move.
 use state::plus64;
 use state::product;
+use tables::CONTENT;
+use tables::CONTENT_TICKS;
+use tables::IN_USE;
+use tables::LONGEST_CONTENT;
+use tables::LONGEST_QL;
+use tables::QL_LENGTH;
+use tables::UNIT_TICKS;
+use tables::WAIT_TICKS;
 use tables::count;
 use tables::set_count;
 ghost use mathlib.Core.Path.{_≡_};
@@ -31,9 +39,9 @@ fn sample_server(tally: &mut [u64], v: usize, ticks: u32)
     requires { ⌜ v < 64 ⌝ }
     ensures { λ _. ⌜ now (tally .exit) ≡ sampleServer (now (tally .entry)) v ticks ⌝ }
 {
-    add_ticks(tally, 576 + v, 512 + v, ticks);
-    add_ticks(tally, 640 + v, 768 + v, ticks);
-    keep_longest(tally, 704 + v, 768 + v);
+    add_ticks(tally, UNIT_TICKS + v, IN_USE + v, ticks);
+    add_ticks(tally, WAIT_TICKS + v, QL_LENGTH + v, ticks);
+    keep_longest(tally, LONGEST_QL + v, QL_LENGTH + v);
 }
 
 fn sample_servers(tally: &mut [u64], servers: usize, ticks: u32)
@@ -52,8 +60,8 @@ fn sample_queue(tally: &mut [u64], q: usize, ticks: u32)
     requires { ⌜ q < 32 ⌝ }
     ensures { λ _. ⌜ now (tally .exit) ≡ sampleQueue (now (tally .entry)) q ticks ⌝ }
 {
-    add_ticks(tally, 864 + q, 832 + q, ticks);
-    keep_longest(tally, 896 + q, 832 + q);
+    add_ticks(tally, CONTENT_TICKS + q, CONTENT + q, ticks);
+    keep_longest(tally, LONGEST_CONTENT + q, CONTENT + q);
 }
 
 fn sample_queues(tally: &mut [u64], queues: usize, ticks: u32)

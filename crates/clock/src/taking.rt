@@ -1,5 +1,7 @@
 // Who moves in a turn.
 use crate::sample::sample;
+use rows::FEL;
+use rows::REL;
 use rows::cells::read;
 use rows::clock::arrive;
 use rows::lists::first;
@@ -8,7 +10,7 @@ use state::Scalars;
 use state::less32;
 use state::plus32;
 ghost use mathlib.Core.Path.{_≡_};
-ghost use Prim.Native.Nat.{_+_, _<_, _≤_};
+ghost use Prim.Native.Nat.{_<_, _≤_};
 ghost use Rattle.state.specs.Stands.{rowsOf};
 ghost use Rattle.clock.specs.Taking.{moveClock, nextEvents, readyScalars, readyWork, take};
 
@@ -49,7 +51,7 @@ fn next_events(
     requires { ⌜ queues ≤ 32 ⌝ }
     ensures { λ r. ⌜ rowsOf r (now (work .exit)) (now (tally .exit)) ≡ nextEvents (now (work .entry)) (now (tally .entry)) x servers queues ⌝ }
 {
-    let k = first(work, 450);
+    let k = first(work, FEL);
     if k >= 1024 {
         return x;
     }
@@ -66,7 +68,7 @@ fn take_ready(work: &mut [u32], x: Scalars) -> Scalars
     ensures scalars { λ r. ⌜ r ≡ readyScalars (now (work .entry)) x ⌝ }
     ensures rows { λ _. ⌜ now (work .exit) ≡ readyWork (now (work .entry)) ⌝ }
 {
-    let k = take_first(work, 449);
+    let k = take_first(work, REL);
     if k >= 1024 {
         return x;
     }
@@ -93,7 +95,7 @@ pub fn take(
     if x.moving < 1024 {
         return y;
     }
-    if first(work, 449) < 1024 {
+    if first(work, REL) < 1024 {
         return take_ready(work, y);
     }
     let z = next_events(work, tally, y, servers, queues);

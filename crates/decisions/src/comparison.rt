@@ -2,6 +2,7 @@
 use moves::go_on;
 use moves::go_to;
 use moves::wait_on;
+use rows::WSL;
 use rows::cells::read;
 use rows::cells::write;
 use state::Scalars;
@@ -98,7 +99,7 @@ pub fn wait_terms(
     let k = x.moving;
     let clock = x.clock;
     if holds(tables, values, work, tally, clock, k, at) {
-        return wait_on(work, x, 448);
+        return wait_on(work, x, WSL);
     }
     go_on(work, x)
 }

@@ -1,5 +1,6 @@
 // The WS scheme: "every WSL member whose comparison no longer holds goes to REL".
 use crate::comparison::holds;
+use rows::WSL;
 use rows::cells::load;
 use rows::cells::read;
 use rows::wake::pass;
@@ -65,7 +66,7 @@ fn step(
     ensures rows { λ _. ⌜ now (work .exit) ≡ passRows (leaves (now (tables .entry)) blocks values (now (tally .entry)) clock (now (work .entry)) k) (now (work .entry)) 448 cell ⌝ }
 {
     let moves = leaves(tables, blocks, values, work, tally, clock, k);
-    pass(work, 448, cell, moves)
+    pass(work, WSL, cell, moves)
 }
 
 // The WS scheme follows a turn's block unless that ended the run.
@@ -79,6 +80,7 @@ pub fn ws(tables: &[u32], blocks: usize, values: usize, work: &mut [u32], tally:
         return;
     }
     let clock = x.clock;
+    // the head of the WSL
     let mut cell: u32 = 15808;
     let mut i: u32 = 0;
     while i < 1024 {

@@ -19,10 +19,10 @@ use Rattle.values.specs.Keeps.{cursorOf, placeOf}
 use Rattle.values.specs.Rows.{storedRows, allNamed, Each}
 use Rattle.values.specs.Shapes.{Within, sumNamed, ProperValue}
 use Rattle.values.proofs.Named.{values-name}
-use Rattle.program.specs.Formed.{Formed, placedFrom, targetsFrom, targetFrom}
+use Rattle.program.specs.Formed.{Formed, placedFrom, targetsFrom}
 use Rattle.program.specs.Shapes.{capacitiesOf}
 use Rattle.program.proofs.Steps.{continue-assoc}
-use Rattle.program.proofs.Question.{placed-machine, targets-machine, targets-within}
+use Rattle.program.proofs.Question.{placed-machine, targets-machine}
 use Rattle.decode.specs.declared.Header.{Header}
 use Rattle.decode.specs.declared.Header.the-variants.{Read, Refused as NoHeader}
 use Rattle.decode.specs.declared.Decoded.{Decoded}
@@ -122,15 +122,6 @@ module _ (s : List ℕ) {l after : List ℕ} {r : Header} (k : Stage modelShape 
     pub few-blocks : h .blocks ≤ 256
     unfolding headerOf
     few-blocks = stage-known (λ x. h .blocks ≤ 256) _ k told (λ m e n c f. let g = ap (λ (x : Model). x .blocks) e in omega (arith, f .blocks))
-
-    pub targets-few : (b : ℕ) → b < h .blocks → targetFrom after (8 * b) ≤ 256
-    unfolding headerOf
-    targets-few b low =
-        stage-known (λ x. targetFrom after (8 * b) ≤ 256) _ k told
-        (λ m e n c f.
-        let g = ap (λ (x : Model). x .blocks) e in
-        let w = targets-within (tablesOf m) (m .blocks) (f .block) (blocks-stand m f) b (omega arith) in
-        rw c (omega (arith, f .blocks)))
 
     pub formed-long : (p .position ≡ length s → ⊥) → Models after (Refused 6) (modelOf s beginning)
     unfolding modelOf atEnd ask continue

@@ -9,23 +9,26 @@ use borrow.Author.Tests.{leb-true}
 use lib.Dec.{leb}
 use lib.ListN.{length, take, drop}
 use lib.Seq.{take-at}
-use Rattle.machine.specs.Limits.{workNumbers, reportRoom}
+use Rattle.machine.specs.Limits.{workNumbers, reportRoom, maxReportNumber}
 use Rattle.machine.specs.Trace.{traceBytes}
 use Rattle.machine.specs.Block.{BlockModel}
 use Rattle.machine.specs.State.{State}
 use Rattle.machine.specs.Validate.{Validation, accept, reject, validate}
 use Rattle.machine.specs.Run.{run}
-use Rattle.machine.specs.Report.{reportBytes}
+use Rattle.machine.specs.Report.{reportNumbers, reportBytes}
+use Rattle.machine.specs.Claims.{Each}
 use Rattle.machine.specs.Outcome.{Outcome, recordsOf, acceptedRun, refusedRun, outcomeOf, outcome}
 use Rattle.machine.proofs.Proper.{Proper}
 use Rattle.machine.proofs.ProperFrom.{proper-from}
 use Rattle.machine.proofs.Demand3.{demand3}
+use Rattle.machine.proofs.OutcomeLaws.{outcome-keeps}
 use Rattle.tables.specs.Represents.{headerOf, Represents}
 use Rattle.state.specs.Stands.{Rows, Stands}
 use Rattle.state.proofs.Written.{Kept}
 use Rattle.turn.specs.Writes.{Writes}
 use Rattle.report.specs.Writing.{written, putAll}
 use Rattle.report.specs.Numbers.{rowNumbers}
+use Rattle.report.proofs.Fitting.{report-small}
 use Rattle.report.proofs.Report.{report-written}
 use Rattle.engine.specs.Last.{refusedWith, endedWith}
 use Rattle.engine.specs.Contract.{Gives, Begins, ReadsBack, Accepted, wanted, Contract}
@@ -71,6 +74,7 @@ module _ (model tape : List ℕ) (budget : ℕ) (work trace report : List ℕ) w
               trace-bytes = refl;
               report-bytes = refl;
             });
+        keeps = outcome-keeps model tape budget (length work) (length trace) (length report);
         trace-holds = subst (λ (x : Outcome). Begins (x .trace) trace trace) (sym is) refl;
         report-holds = subst (λ (x : Outcome). Begins (x .report) report report) (sym is) refl;
         refused = λ z. (refl, refl, refl);
@@ -137,6 +141,10 @@ module _ (model tape : List ℕ) (budget : ℕ) (work trace report : List ℕ) w
       all m′ times′ h′ e f =
           record {
             demand3 = demand3 model tape (length work) (length report) budget (length trace) h′;
+            report-small =
+                subst (λ (x : BlockModel). Each (λ (k : ℕ). k ≤ maxReportNumber) (reportNumbers x (run x times′ budget (length trace)))) e
+                (subst (λ (x : List (List ℕ)). Each (λ (k : ℕ). k ≤ maxReportNumber) (reportNumbers m (run m x budget (length trace)))) f
+                (report-small m times s proper (kept .sure .sane) (kept .sure .sound) (kept .traced .number)));
             read-back =
                 subst (λ (x : BlockModel). ReadsBack x (take (r .scalars .used) trace′) (recordsOf (run x times′ budget (length trace)))) e
                 (subst (λ (x : List (List ℕ)). ReadsBack m (take (r .scalars .used) trace′) (recordsOf (run m x budget (length trace)))) f
@@ -148,6 +156,7 @@ module _ (model tape : List ℕ) (budget : ℕ) (work trace report : List ℕ) w
       accepted-runs =
           record {
             results = subst (λ (x : Outcome). Gives x (endedWith (r .scalars) n)) (sym accepted-is) gives;
+            keeps = outcome-keeps model tape budget (length work) (length trace) (length report);
             trace-holds = subst (λ (x : Outcome). Begins (x .trace) trace trace′) (sym accepted-is) trace-begins;
             report-holds = subst (λ (x : Outcome). Begins (x .report) report report′) (sym accepted-is) (report-begins .1);
             refused = λ z. absurd (z refl);

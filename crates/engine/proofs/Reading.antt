@@ -6,10 +6,10 @@ use Rattle.machine.specs.Trace.{Record, traceBytes}
 use Rattle.machine.specs.Block.{BlockModel}
 use Rattle.machine.specs.State.{State, Logged}
 use Rattle.machine.specs.Outcome.{recordsOf}
-use Rattle.machine.specs.Claims.{Each}
+use Rattle.machine.specs.Claims.{Each, InModel}
 use Rattle.trace.specs.Whole.{Reads}
 use Rattle.trace.proofs.RoundTrip.{trace-reads-whole, reads-once}
-use Rattle.state.proofs.Written.{InModel, Traced, inOrder, in-order-cons}
+use Rattle.state.proofs.Written.{Traced, inOrder, in-order-cons}
 use Rattle.state.proofs.Tallied.{traced-ranges}
 use Rattle.engine.specs.Contract.{ReadsBack}
 

@@ -1,21 +1,21 @@
 -- What `run` promises, for all bytes, budgets and buffer lengths: the machine's outcome, its trace and report in the buffers,
 -- nothing touched by a refused run, demand 3 of the whole run, and a trace that reads back.
 --
--- Left free by the papers: the order of the living in the report (here by rising number, as in the machine's `places`), and the
--- work buffer after an accepted run, of which nothing is said but that its length stays.
-use Prim.Native.Nat.{ℕ}
+-- Left free by the papers: the order of the living in the report (here by rising number, as in the machine's `byNumber`), and the
+-- work buffer after an accepted run, of which nothing is said (a lent slice keeps its length).
+use Prim.Native.Nat.{ℕ, _≤_}
 use mathlib.Core.Path.{_≡_}
 use mathlib.Core.List.{List, _++_}
 use lib.ListN.{length, take, drop}
+use Rattle.machine.specs.Limits.{maxReportNumber}
 use Rattle.machine.specs.Trace.{Record, traceBytes}
 use Rattle.machine.specs.Block.{BlockModel}
 use Rattle.machine.specs.Validate.{accept, validate}
 use Rattle.machine.specs.Run.{run}
+use Rattle.machine.specs.Report.{reportNumbers}
 use Rattle.machine.specs.Outcome.{Outcome, recordsOf, outcome}
-use Rattle.machine.specs.Claims.{Each}
-use Rattle.machine.proofs.Demand3.{Proved}
+use Rattle.machine.specs.Claims.{Each, Proved, Keeping, InModel}
 use Rattle.trace.specs.Whole.{Reads}
-use Rattle.state.proofs.Written.{InModel}
 use Rattle.engine.specs.declared.outcome.Outcome.{Outcome as Results}
 
 -- "A run returns refusal (0 for none), end, clock, turns, made, ended, bytes of trace and of report."
@@ -44,6 +44,8 @@ pub record ReadsBack (m : BlockModel) (bytes : List ℕ) (records : List Record)
 pub record Accepted (m : BlockModel) (times : List (List ℕ)) (budget room : ℕ) (bytes : List ℕ) : Type 0 where
   -- demand 3, of the start, of what each turn left and of the last state; the bounds on turns and the stated end
   pub demand3 : Proved m times budget room
+  -- no number of the report is cut: each fits nine groups
+  pub report-small : Each (λ (n : ℕ). n ≤ maxReportNumber) (reportNumbers m (run m times budget room))
   pub read-back : ReadsBack m bytes (recordsOf (run m times budget room))
 
 module _ (model tape : List ℕ) (budget : ℕ) (work trace report : List ℕ) where
@@ -52,6 +54,8 @@ module _ (model tape : List ℕ) (budget : ℕ) (work trace report : List ℕ) w
 
   pub record Contract (r : Results) (work′ trace′ report′ : List ℕ) : Type 0 where
     pub results : Gives wanted r
+    -- a refusal of 1 to 10, or else a stated end within the bounds on turns
+    pub keeps : Keeping budget wanted
     pub trace-holds : Begins (wanted .trace) trace trace′
     pub report-holds : Begins (wanted .report) report report′
     pub refused : (r .refusal ≡ 0 → ⊥) → (work′ ≡ work) × (trace′ ≡ trace) × (report′ ≡ report)

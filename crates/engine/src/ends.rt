@@ -1,6 +1,8 @@
 // "Before each turn, in this order: .." the end of the turn before, dry, the limits on serials and turns, the budget, the room
 // for a record.
-use rows::cells::load;
+use rows::FEL;
+use rows::REL;
+use rows::lists::first;
 use state::Scalars;
 ghost use mathlib.Core.Path.{_≡_};
 ghost use Rattle.engine.specs.Ends.{nobodyRows, limitRows, endRows};
@@ -12,10 +14,10 @@ fn nobody_left(work: &[u32], moving: u32) -> bool
     if moving < 1024 {
         return false;
     }
-    if load(work, 15360 + 449) < 1024 {
+    if first(work, REL) < 1024 {
         return false;
     }
-    1024 <= load(work, 15360 + 450)
+    1024 <= first(work, FEL)
 }
 
 fn limit(x: Scalars, budget: u64, room: usize) -> u32

@@ -1,4 +1,5 @@
 // The questions of GENERATE, ADVANCE and SPLIT: 0 where the answer is yes, else the number of the end.
+use machine::Model;
 use state::Scalars;
 use state::less32;
 use state::plus32;
@@ -9,7 +10,7 @@ ghost use Rattle.flow.specs.Questions.{askRoom, askTime, firstNo, askArr
 pub fn ask_room(x: Scalars, n: u32) -> u32
     ensures { λ r. ⌜ r ≡ askRoom x n ⌝ }
 {
-    if plus32(less32(x.made, x.ended), n) <= 1024 {
+    if plus32(less32(x.made, x.ended), n) <= Model::MAX_LIVING as u32 {
         return 0;
     }
     21

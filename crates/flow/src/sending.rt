@@ -1,6 +1,8 @@
 // Rows on no list go to the FEL or to REL with a fresh serial; new rows for both.
 use crate::samples::Sample;
 use crate::samples::use_time;
+use rows::FEL;
+use rows::REL;
 use rows::cells::write;
 use rows::lists::put;
 use rows::make::copy;
@@ -22,7 +24,7 @@ pub fn to_future(work: &mut [u32], x: Scalars, k: u32, time: u32) -> Scalars
     let serial = plus32(x.serial, 1);
     write(work, 7, k, serial);
     write(work, 8, k, time);
-    put(work, 450, k);
+    put(work, FEL, k);
     let mut y = x;
     y.serial = serial;
     y
@@ -35,7 +37,7 @@ pub fn to_ready(work: &mut [u32], x: Scalars, k: u32) -> Scalars
 {
     let serial = plus32(x.serial, 1);
     write(work, 7, k, serial);
-    put(work, 449, k);
+    put(work, REL, k);
     let mut y = x;
     y.serial = serial;
     y

@@ -8,11 +8,11 @@ use mathlib.Core.List.{List, reverse}
 use Rattle.machine.specs.Block.{BlockModel}
 use Rattle.machine.specs.State.{State}
 use Rattle.machine.specs.Validate.{Validation, accept, validate}
-use Rattle.machine.specs.Run.{run, states}
-use Rattle.machine.specs.Claims.{ableToGo, InOrder, Keeps, Each, Demand3, Bounded}
+use Rattle.machine.specs.Run.{states}
+use Rattle.machine.specs.Claims.{ableToGo, InOrder, Keeps, Each, Demand3, Proved}
 use Rattle.machine.proofs.Proper.{Proper}
 use Rattle.machine.proofs.ProperFrom.{proper-from}
-use Rattle.machine.proofs.RunLaws.{each-map, each-pair, Ends, last}
+use Rattle.machine.proofs.RunLaws.{each-map, each-pair, last}
 use Rattle.machine.proofs.Bounds.{bounded}
 use Rattle.machine.proofs.Conservation.{Conserved, conserved}
 use Rattle.machine.proofs.NobodyAble.{Waited, waited, able-none}
@@ -46,12 +46,6 @@ module _ {m : BlockModel} {tape : List (List ℕ)} (proper : Proper m tape) (bud
       (in-order proper budget room))
 
 -- From bytes; the only hypothesis is that validation accepts.
-pub record Proved (m : BlockModel) (tape : List (List ℕ)) (budget room : ℕ) : Type 0 where
-  pub demand : Demand3 m tape budget room
-  -- the states end with the state that gives outcome, trace and report, and no other one has an end
-  pub last-state : Ends (run m tape budget room) (states m tape budget room)
-  pub bounds : Bounded budget (run m tape budget room)
-
 pub demand3 : (model tapeBytes : List ℕ) (work report budget room : ℕ) {m : BlockModel} {tape : List (List ℕ)}
     → validate model tapeBytes work report ≡ accept m tape → Proved m tape budget room
 demand3 model tapeBytes work report budget room {m} {tape} accepted =

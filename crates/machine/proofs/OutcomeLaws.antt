@@ -1,23 +1,14 @@
 -- What every outcome keeps to, for any bytes: the refusal is a number from 0 to 10, the end is a stated one exactly where there is
 -- no refusal, and the turns stay within the budget and the machine's own limit.
-use Prim.Native.Nat.{ℕ, _≤_}
+use Prim.Native.Nat.{ℕ}
 use mathlib.Core.Path.{_≡_, refl}
 use mathlib.Core.List.{List}
 use native.Mathlib.Omega.{arith}
-use lib.Dec.{T}
-use Rattle.machine.specs.Limits.{maxTurns}
 use Rattle.machine.specs.Validate.{Validation, accept, reject, validate}
-use Rattle.machine.specs.Outcome.{Outcome, acceptedRun, refusedRun, outcomeOf, outcome}
-use Rattle.machine.specs.Claims.{statedEnd}
+use Rattle.machine.specs.Outcome.{acceptedRun, refusedRun, outcomeOf, outcome}
+use Rattle.machine.specs.Claims.{Keeping}
 use Rattle.machine.proofs.Bounds.{bounded}
 use Rattle.machine.proofs.ProperFrom.{refusal-from}
-
-pub record Keeping (budget : ℕ) (o : Outcome) : Type 0 where
-  pub refusals : o .refusal ≤ 10
-  pub stated : o .refusal ≡ 0 → T (statedEnd (o .end))
-  pub only-then : T (statedEnd (o .end)) → o .refusal ≡ 0
-  pub within-budget : o .turns ≤ budget
-  pub within-limit : o .turns ≤ maxTurns
 
 pub outcome-keeps : (model tape : List ℕ) (budget work room report : ℕ) → Keeping budget (outcome model tape budget work room report)
 unfolding outcome outcomeOf acceptedRun refusedRun

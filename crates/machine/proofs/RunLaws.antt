@@ -13,7 +13,7 @@ use Rattle.machine.specs.State.{State}
 use Rattle.machine.specs.Setters.{setEnd}
 use Rattle.machine.specs.Turn.{turn}
 use Rattle.machine.specs.Run.{nobodyLeft, endBefore, start, runFrom, statesFrom, run, states, steps}
-use Rattle.machine.specs.Claims.{Each, statedEnd}
+use Rattle.machine.specs.Claims.{Each, statedEnd, Ends}
 
 -- ---- Choices
 
@@ -36,12 +36,6 @@ each-map f (x ∷ l) h = (f x (h .0), each-map f l (h .1))
 pub each-pair : {A : Type 0} (P Q : A → Type 0) (l : List A) → Each P l → Each Q l → Each (λ a. P a × Q a) l
 each-pair P Q [] h k = tt
 each-pair P Q (x ∷ l) h k = ((h .0, k .0), each-pair P Q l (h .1) (k .1))
-
--- a list of states ends with one, and no other one has an end
-pub record Ends (s : State) (l : List State) : Type 0 where
-  pub front : List State
-  pub all : l ≡ front ++ (s ∷ [])
-  pub no-ends : Each (λ s. s .end ≡ 0) front
 
 each-append : (I : State → Type 0) (front : List State) (s : State) → Each I (front ++ (s ∷ [])) → I s
 each-append I [] s h = h .0

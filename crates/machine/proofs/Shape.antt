@@ -132,15 +132,6 @@ module _ {m : BlockModel} {w : View} {ql wel : List (List Transaction)} {samples
       capacity-at v ∙ List·getD-append (replicate (m .facilities) 1) (m .capacities) 0 (v - 1) (simp length-replicate (omega arith))
       ∙ getD-replicate (m .facilities) (v - 1) 1 0 (omega arith)
 
-  pub storage-capacity : (k : ℕ) → 1 ≤ k → serverAt w (m .facilities + k) .capacity ≡ nth (m .capacities) k 0
-  storage-capacity k low =
-      capacity-at (m .facilities + k)
-      ∙ ap (λ i. getD (allCapacities m) i 0) (at ∙ ap (λ n. n + (k - 1)) (sym (length-replicate (m .facilities) 1)))
-      ∙ getD-append-add (replicate (m .facilities) 1) (m .capacities) (k - 1) 0
-    where
-      at : m .facilities + k - 1 ≡ m .facilities + (k - 1)
-      at = omega arith
-
   pub ql-at : (v : ℕ) → 1 ≤ v → v ≤ servers m → v - 1 < length ql
   ql-at v low high = omega (arith, h .ql-length)
 
@@ -283,7 +274,3 @@ module _ (m : BlockModel) where
 
   pub shape-start : (tape : List (List ℕ)) → length tape ≡ m .lists → Shape m (start m tape)
   shape-start tape e = start-kept (Shape m) shape-closed m tape (shape-idle tape e)
-
-  pub shaped : (tape : List (List ℕ)) (budget room : ℕ) → Proper m tape → Each (Shape m) (states m tape budget room)
-  shaped tape budget room proper =
-      each-state m budget room (Shape m) (λ s t h. shape-turn s h) (λ s e c h. h) tape (shape-start tape (proper .tapes))

@@ -15,8 +15,10 @@ use Rattle.machine.specs.State.{State, Logged}
 use Rattle.machine.specs.Moves.{qlOf, welOf}
 use Rattle.machine.specs.Execute.{fits}
 use Rattle.machine.specs.Turn.{waitsOn}
-use Rattle.machine.specs.Run.{states}
+use Rattle.machine.specs.Trace.{Record, inRanges}
+use Rattle.machine.specs.Run.{run, states}
 use Rattle.machine.specs.Report.{recordsAt, places, movingOne}
+use Rattle.machine.specs.Outcome.{Outcome}
 
 -- how many of a list pass a test
 unfoldable pub count : {A : Type 0} → (A → Bool) → List A → ℕ
@@ -173,3 +175,28 @@ pub record Bounded (budget : ℕ) (s : State) : Type 0 where
   pub within-budget : s .turns ≤ budget
   pub within-limit : s .turns ≤ maxTurns
   pub stated : T (statedEnd (s .end))
+
+-- a list of states ends with one, and no other one has an end
+pub record Ends (s : State) (l : List State) : Type 0 where
+  pub front : List State
+  pub all : l ≡ front ++ (s ∷ [])
+  pub no-ends : Each (λ s. s .end ≡ 0) front
+
+-- all that is claimed of a run; its states end with the one that gives outcome, trace and report
+pub record Proved (m : BlockModel) (tape : List (List ℕ)) (budget room : ℕ) : Type 0 where
+  pub demand : Demand3 m tape budget room
+  pub last-state : Ends (run m tape budget room) (states m tape budget room)
+  pub bounds : Bounded budget (run m tape budget room)
+
+-- the same bounds, of an outcome: a stated end exactly if nothing is refused
+pub record Keeping (budget : ℕ) (o : Outcome) : Type 0 where
+  pub refusals : o .refusal ≤ 10
+  pub stated : o .refusal ≡ 0 → T (statedEnd (o .end))
+  pub only-then : T (statedEnd (o .end)) → o .refusal ≡ 0
+  pub within-budget : o .turns ≤ budget
+  pub within-limit : o .turns ≤ maxTurns
+
+-- a record in the reader's ranges, at a block of the model
+pub record InModel (m : BlockModel) (r : Record) : Type 0 where
+  pub ranges : inRanges r ≡ true
+  pub block : (1 ≤ r .block) × (r .block ≤ length (m .blocks))

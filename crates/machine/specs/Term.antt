@@ -10,7 +10,7 @@ use Rattle.machine.specs.Lists.{nth}
 -- ---- What terms see
 
 -- A server: a facility is one of capacity 1. The facilities come first and the storages are numbered on after them.
--- Ticks and the longest queue are statistics (Statistics.antt).
+-- Ticks and the longest queue are statistics (Turn.antt).
 pub record Server : Type 0 where
   pub capacity : ℕ
   pub inUse : ℕ

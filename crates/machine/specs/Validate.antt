@@ -1,4 +1,4 @@
--- "Questions at the door" in their order, from bytes, and the outcome of a run.
+-- "Questions at the door" in their order, from bytes.
 use Prim.Native.Nat.{ℕ, zero, suc, _+_, _-_}
 use mathlib.Core.Bool.{Bool, true, false, cond, not, _&&_, _||_}
 use mathlib.Core.List.{List, [], _∷_, _++_, map, reverse}

@@ -1,3 +1,4 @@
+// The header of a model, and document 01's limits as its constants.
 ghost use mathlib.Core.Path.{_≡_};
 ghost use Rattle.machine.specs.Limits.{maxFacilities, maxStorages, maxCapacity, maxQueues, maxValues, maxLists, maxCounter, maxBlocks, maxLiving, maxSamples, maxTime, maxPriority, parameterCount, maxTerminate, maxSplit, maxConstant, maxTerms, maxValueNumbers, maxBrackets, maxMentions};
 

@@ -293,30 +293,14 @@ module _ (w : List ℕ) (x : Scalars) where
   unfolding goOn goTo moved
   go-on-used = refl
 
-  pub go-on-turns : goOn w x .scalars .turns ≡ x .turns
-  unfolding goOn goTo moved
-  go-on-turns = refl
-
   pub go-to-used : (block : ℕ) → goTo w x block .scalars .used ≡ x .used
   unfolding goTo moved
   go-to-used block = refl
-
-  pub go-to-turns : (block : ℕ) → goTo w x block .scalars .turns ≡ x .turns
-  unfolding goTo moved
-  go-to-turns block = refl
 
   pub wait-on-used : (p : ℕ) → waitOn w x p .scalars .used ≡ x .used
   unfolding waitOn putBack beginWait moved
   wait-on-used p = go (eqb (read w 1 (x .moving) % 2) 1)
     where
       go : (b : Bool) → cond {A = Moved} b (putBack w x p) (beginWait w x p) .scalars .used ≡ x .used
-      go true = refl
-      go false = refl
-
-  pub wait-on-turns : (p : ℕ) → waitOn w x p .scalars .turns ≡ x .turns
-  unfolding waitOn putBack beginWait moved
-  wait-on-turns p = go (eqb (read w 1 (x .moving) % 2) 1)
-    where
-      go : (b : Bool) → cond {A = Moved} b (putBack w x p) (beginWait w x p) .scalars .turns ≡ x .turns
       go true = refl
       go false = refl

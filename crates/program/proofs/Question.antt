@@ -161,12 +161,3 @@ module _ (l : List ℕ) (bs : List Block) (all : Each (Formed (length bs)) bs) (
 
   pub targets-machine : targetsFrom l (length bs) 0 ≡ allOf moves bs
   targets-machine = targets-rest bs 0 all stands
-
-  -- every target is a block's number
-  pub targets-within : (b : ℕ) → b < length bs → targetFrom l (8 * b) ≤ length bs
-  targets-within b h =
-      let f = each-at (Formed (length bs)) bs (terminate 0) all b h in
-      let e : targetFrom l (8 * b) ≡ facts (getD bs b (terminate 0)) .target
-      = row-target l (blockNumbers (getD bs b (terminate 0))) (8 * b) (f .inside)
-      (λ i g. let z : 8 * b + i ≡ 0 + 8 * b + i = omega arith in rw z (stands b i h g)) ∙ sym (f .target) in
-      rw e (f .names)

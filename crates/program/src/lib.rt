@@ -4,6 +4,7 @@ use machine::Model;
 use tables::BLOCK_WIDTH;
 use tables::CAPACITIES;
 use tables::TABLES;
+use tables::number;
 use values::Place;
 use values::Range;
 use values::Stored;
@@ -11,7 +12,7 @@ use values::Taken;
 use values::block_term;
 use values::keep;
 ghost use mathlib.Core.Path.{_≡_};
-ghost use mathlib.Core.Bool.{Bool, true, _&&_, _||_, not};
+ghost use mathlib.Core.Bool.{true, _&&_, not};
 ghost use Prim.Native.Nat.{ℕ, _+_, _*_, _≤_, _<_};
 ghost use lib.Dec.{eqb};
 ghost use Rattle.machine.specs.Parser.{field, times};
@@ -273,19 +274,19 @@ fn target(tables: &[u32; TABLES], b: usize) -> u32
 }
 
 fn names_generate(tables: &[u32; TABLES], b: usize) -> bool
-    requires { ⌜ (b < 256) × (targetFrom (now tables) (8 * b) ≤ 256) ⌝ }
+    requires { ⌜ b < 256 ⌝ }
     ensures { λ r. ⌜ r ≡ namesGenerate (now (tables .entry)) (8 * b) ⌝ }
 {
     let t = target(tables, b) as usize;
     if t == 0 {
         return false;
     }
-    tables[BLOCK_WIDTH * (t - 1)] == 1
+    number(tables, BLOCK_WIDTH * (t - 1)) == 1
 }
 
 // No target names a GENERATE.
 pub fn targets_move(tables: &[u32; TABLES], blocks: usize) -> bool
-    requires { ⌜ (blocks ≤ 256) × ((b : ℕ) → b < blocks → targetFrom (now tables) (8 * b) ≤ 256) ⌝ }
+    requires { ⌜ blocks ≤ 256 ⌝ }
     ensures { λ r. ⌜ r ≡ targetsFrom (now (tables .entry)) blocks 0 ⌝ }
 {
     let mut b = 0;

@@ -9,8 +9,8 @@ use Rattle.machine.specs.Lists.{those}
 use Rattle.machine.specs.Block.{Facts, facts, BlockModel, blockAt}
 use Rattle.machine.specs.State.{Logged}
 use Rattle.machine.specs.Report.{recordsAt}
-use Rattle.machine.specs.Claims.{Each, upTo}
-use Rattle.state.proofs.Written.{atBlock, InModel}
+use Rattle.machine.specs.Claims.{Each, upTo, InModel}
+use Rattle.state.proofs.Written.{atBlock}
 use Rattle.state.proofs.Tallied as Tallied
 use Rattle.report.specs.Counts.{names, share, total}
 

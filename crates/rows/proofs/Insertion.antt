@@ -65,10 +65,6 @@ module _ {A : Type 0} where
 
   -- ---- Sorted lists
 
-  pub sorted-tail : (r : A → A → Bool) (x : A) (l : List A) → Sorted r (x ∷ l) → Sorted r l
-  unfolding Sorted
-  sorted-tail r x l h = h .1
-
   pub sorted-without : (r : A → A → Bool) (a : List A) (x : A) (b : List A) → Sorted r (a ++ x ∷ b) → Sorted r (a ++ b)
   unfolding Sorted All
   sorted-without r [] x b h = h .1

@@ -29,5 +29,3 @@ pub mod Newborn
 pub mod Starting
 pub mod Population
 pub mod Laws
-pub mod ListAt
-pub mod Machine

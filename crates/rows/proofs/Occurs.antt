@@ -39,7 +39,3 @@ occurs-append k (x ∷ a) b = omega (arith, occurs-append k a b)
 pub occurs-cons : (k x : ℕ) (l : List ℕ) → occurs k (x ∷ l) ≡ same k x + occurs k l
 unfolding occurs
 occurs-cons k x l = refl
-
-pub occurs-nil : (k : ℕ) → occurs k [] ≡ 0
-unfolding occurs
-occurs-nil k = refl

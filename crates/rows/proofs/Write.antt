@@ -17,9 +17,6 @@ use Rattle.rows.proofs.Occurs.{same-other}
 use Rattle.rows.proofs.Chain.{chain-moved, chain-row}
 use Rattle.rows.proofs.Data.{SameRow, transaction-kept, event-kept, map-kept}
 
-pub read-same : (w : List ℕ) (f k x : ℕ) → 16384 ≤ length w → f < 12 → k < 1024 → read (write w f k x) f k ≡ x
-read-same w f k x room hf hk = load-same w (fieldAt f k) x room (omega arith)
-
 -- another row's fields
 pub row-other : (w : List ℕ) (f k x j : ℕ) → k < 1024 → j < 1024 → j ≢ k → SameRow w (write w f k x) j
 row-other w f k x j hk hj d g hg = load-other w (fieldAt f k) x (fieldAt g j) (λ e. d (omega arith))

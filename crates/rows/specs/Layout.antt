@@ -29,19 +29,6 @@ use Rattle.machine.specs.Moves.{welIndex}
 
 -- ---- Sizes
 
-abbrev pub rowCount : ℕ
-rowCount = 1024
-
-abbrev pub listCount : ℕ
-listCount = 512
-
--- the numbers below this one are the data of rows
-abbrev pub dataEnd : ℕ
-dataEnd = 12288
-
-abbrev pub bufferEnd : ℕ
-bufferEnd = 16384
-
 -- ---- Fields
 
 abbrev pub numberField : ℕ

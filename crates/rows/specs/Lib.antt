@@ -8,4 +8,3 @@ pub mod Make
 pub mod Holds
 pub mod Living
 pub mod Shows
-pub mod Machine

@@ -1,5 +1,7 @@
 // A clock move: all of one time go from the FEL to REL.
 
+use crate::FEL;
+use crate::REL;
 use crate::cells::load;
 use crate::cells::read;
 use crate::cells::set_returning;
@@ -7,7 +9,7 @@ use crate::cells::write;
 use crate::lists::put;
 use crate::lists::take_first;
 ghost use mathlib.Core.Path.{_≡_};
-ghost use Prim.Native.Nat.{_+_, _<_, _≤_, _^_};
+ghost use Prim.Native.Nat.{_+_, _<_, _≤_};
 ghost use Rattle.rows.specs.Clock.{isDue, arriveRow, arriveFirst, arrived, arrive};
 
 // The first of the FEL has this time.
@@ -26,10 +28,10 @@ fn arrive_row(w: &mut [u32], serial: u32, k: u32)
     requires { ⌜ k < 1024 ⌝ }
     ensures { λ _. ⌜ now (w .exit) ≡ arriveRow (now (w .entry)) serial k ⌝ }
 {
-    take_first(w, 450);
+    take_first(w, FEL);
     set_returning(w, k, 0);
     write(w, 7, k, serial);
-    put(w, 449, k);
+    put(w, REL, k);
 }
 
 // The first of the FEL goes to REL with this serial, not returning.

@@ -8,3 +8,10 @@ pub mod lists;
 pub mod make;
 pub mod order;
 pub mod wake;
+
+// The numbers of the lists behind those of the servers (specs/Layout).
+pub const WSL: u32 = 448;
+
+pub const REL: u32 = 449;
+
+pub const FEL: u32 = 450;

@@ -1,9 +1,10 @@
 // Who stands before whom on a list.
 
+use crate::FEL;
 use crate::cells::priority;
 use crate::cells::read;
 ghost use mathlib.Core.Path.{_≡_};
-ghost use Prim.Native.Nat.{_<_, _≤_};
+ghost use Prim.Native.Nat.{_<_};
 ghost use Rattle.rows.specs.Order.{outranks, sooner, ahead};
 
 // By priority, high first, then serial, low first.
@@ -46,7 +47,7 @@ pub fn ahead(w: &[u32], p: u32, x: u32, y: u32) -> bool
     requires { ⌜ y < 1024 ⌝ }
     ensures { λ r. ⌜ r ≡ ahead (now (w .entry)) p x y ⌝ }
 {
-    if p == 450 {
+    if p == FEL {
         return sooner(w, x, y);
     }
     outranks(w, x, y)

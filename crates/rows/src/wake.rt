@@ -1,5 +1,6 @@
 // Moves to REL from the lists on which one waits.
 
+use crate::REL;
 use crate::cells::load;
 use crate::cells::set_returning;
 use crate::lists::put;
@@ -16,7 +17,7 @@ fn wake_row(w: &mut [u32], p: u32, c: u32, k: u32)
 {
     remove_at(w, p, c);
     set_returning(w, k, 1);
-    put(w, 449, k);
+    put(w, REL, k);
 }
 
 // The row of cell c goes from list p to REL: it keeps its serial and is returning.

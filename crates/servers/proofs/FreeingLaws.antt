@@ -32,7 +32,7 @@ use Rattle.state.specs.Sane.{Sane}
 use Rattle.state.specs.Stands.{Rows, rowsOf, Stands, Done}
 use Rattle.state.specs.Bare.{entering, bare, bareAnswer}
 use Rattle.moves.specs.Motion.{withTally, goOn, stopped}
-use Rattle.moves.proofs.MotionLaws.{stop-done, go-on-used, go-on-turns}
+use Rattle.moves.proofs.MotionLaws.{stop-done, go-on-used}
 use Rattle.tables.proofs.Operands.{operand}
 use Rattle.state.proofs.Moving.{placed, next-low}
 use Rattle.servers.specs.Units.{serverAt, inUse, setInUse, capacity}
@@ -181,14 +181,6 @@ module _ (tables w tally : List ℕ) (x : Scalars) (at : ℕ) where
       go true = refl
       go false = go-on-used (checkWels (wakeFirst w v) v (inUse tally v - 1) (capacity tables v)) x
 
-  pub release-turns : Freeing.release tables w tally x at .scalars .turns ≡ x .turns
-  unfolding Freeing.release freeOne enterFreed rowsOf stopped
-  release-turns = go (ltb (inUse tally v) 1)
-    where
-      go : (no : Bool) → cond {A = Rows} no (rowsOf (stopped x 24) w tally) (freeOne tables w tally x v (inUse tally v - 1)) .scalars .turns ≡ x .turns
-      go true = refl
-      go false = go-on-turns (checkWels (wakeFirst w v) v (inUse tally v - 1) (capacity tables v)) x
-
   pub leave-used : Freeing.leave tables w tally x at .scalars .used ≡ x .used
   unfolding Freeing.leave freeSome enterFreed rowsOf stopped
   leave-used = go (ltb (inUse tally v) b)
@@ -196,11 +188,3 @@ module _ (tables w tally : List ℕ) (x : Scalars) (at : ℕ) where
       go : (no : Bool) → cond {A = Rows} no (rowsOf (stopped x 24) w tally) (freeSome tables w tally x v (inUse tally v - b)) .scalars .used ≡ x .used
       go true = refl
       go false = go-on-used (checkWels (wakeAll (memberFits tables (capacity tables v - (inUse tally v - b))) 1024 w v (head v)) v (inUse tally v - b) (capacity tables v)) x
-
-  pub leave-turns : Freeing.leave tables w tally x at .scalars .turns ≡ x .turns
-  unfolding Freeing.leave freeSome enterFreed rowsOf stopped
-  leave-turns = go (ltb (inUse tally v) b)
-    where
-      go : (no : Bool) → cond {A = Rows} no (rowsOf (stopped x 24) w tally) (freeSome tables w tally x v (inUse tally v - b)) .scalars .turns ≡ x .turns
-      go true = refl
-      go false = go-on-turns (checkWels (wakeAll (memberFits tables (capacity tables v - (inUse tally v - b))) 1024 w v (head v)) v (inUse tally v - b) (capacity tables v)) x

@@ -24,7 +24,7 @@ use Rattle.state.specs.Sane.{Sane}
 use Rattle.state.specs.Stands.{Rows, rowsOf, Stands, Done}
 use Rattle.state.specs.Bare.{entering, waiting, takingUnits, bare, bareAnswer}
 use Rattle.moves.specs.Motion.{goOn, waitOn}
-use Rattle.moves.proofs.MotionLaws.{puts-ql, wait-on-waits, waits-done, go-on-used, go-on-turns, wait-on-used, wait-on-turns}
+use Rattle.moves.proofs.MotionLaws.{puts-ql, wait-on-waits, waits-done, go-on-used, wait-on-used}
 use Rattle.tables.proofs.Operands.{operand}
 use Rattle.state.proofs.Moving.{placed, next-low}
 use Rattle.servers.specs.Units.{serverAt, inUse, setInUse, capacity}
@@ -119,26 +119,10 @@ module _ (tables w tally : List ℕ) (x : Scalars) where
       go true = go-on-used (checkWels w v (inUse tally v + b) (capacity tables v)) x
       go false = wait-on-used w x v
 
-  take-turns : (v b : ℕ) → takeUnits tables w tally x v b .scalars .turns ≡ x .turns
-  unfolding takeUnits holdUnits queueUp rowsOf
-  take-turns v b = go (leb b (capacity tables v - inUse tally v))
-    where
-      go : (fits : Bool) → cond {A = Rows} fits (holdUnits w tally x v (inUse tally v + b) (capacity tables v)) (queueUp w tally x v) .scalars .turns ≡ x .turns
-      go true = go-on-turns (checkWels w v (inUse tally v + b) (capacity tables v)) x
-      go false = wait-on-turns w x v
-
   pub seize-used : (at : ℕ) → Taking.seize tables w tally x at .scalars .used ≡ x .used
   unfolding Taking.seize
   seize-used at = take-used (serverAt tables (at + 1)) 1
 
-  pub seize-turns : (at : ℕ) → Taking.seize tables w tally x at .scalars .turns ≡ x .turns
-  unfolding Taking.seize
-  seize-turns at = take-turns (serverAt tables (at + 1)) 1
-
   pub enter-used : (at : ℕ) → Taking.enter tables w tally x at .scalars .used ≡ x .used
   unfolding Taking.enter
   enter-used at = take-used (serverAt tables (at + 1)) (getD tables (at + 2) 0)
-
-  pub enter-turns : (at : ℕ) → Taking.enter tables w tally x at .scalars .turns ≡ x .turns
-  unfolding Taking.enter
-  enter-turns at = take-turns (serverAt tables (at + 1)) (getD tables (at + 2) 0)

@@ -25,7 +25,7 @@ use Rattle.state.specs.Sane.{Sane}
 use Rattle.state.specs.Stands.{Rows, Stands, Done}
 use Rattle.state.specs.Bare.{entering, waiting, bare, bareAnswer}
 use Rattle.moves.specs.Motion.{Moved, withTally, goOn, waitOn}
-use Rattle.moves.proofs.MotionLaws.{puts-wel, wait-on-waits, waits-done, wel-tallying, go-on-used, go-on-turns, wait-on-used, wait-on-turns}
+use Rattle.moves.proofs.MotionLaws.{puts-wel, wait-on-waits, waits-done, wel-tallying, go-on-used, wait-on-used}
 use Rattle.tables.proofs.Operands.{operand}
 use Rattle.state.proofs.Moving.{placed, next-low}
 use Rattle.servers.specs.Units.{serverAt, inUse, capacity, statusOf}
@@ -138,11 +138,3 @@ module _ (tables w tally : List ℕ) (x : Scalars) (at : ℕ) where
       go : (b : Bool) → cond {A = Moved} b (waitOn w x list) (passOn w x list) .scalars .used ≡ x .used
       go true = wait-on-used w x list
       go false = go-on-used (wakeFirst w list) x
-
-  pub wait-server-turns : WaitServer.waitServer tables w tally x at .scalars .turns ≡ x .turns
-  unfolding WaitServer.waitServer waitWhile passOn
-  wait-server-turns = go (statusOf number (inUse tally v) (capacity tables v))
-    where
-      go : (b : Bool) → cond {A = Moved} b (waitOn w x list) (passOn w x list) .scalars .turns ≡ x .turns
-      go true = wait-on-turns w x list
-      go false = go-on-turns (wakeFirst w list) x

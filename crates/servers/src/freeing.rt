@@ -10,6 +10,7 @@ use moves::go_on;
 use moves::stop;
 use state::Scalars;
 use state::less64;
+use tables::QL_LENGTH;
 use tables::number;
 use tables::set_count;
 ghost use mathlib.Core.Path.{_≡_};
@@ -64,7 +65,7 @@ fn free_some(
     let all = capacity(tables, v);
     set_in_use(tally, v, units);
     let stay = wake_ql(tables, work, v, less64(all, units));
-    set_count(tally, 768 + (v as usize), stay);
+    set_count(tally, QL_LENGTH + (v as usize), stay);
     enter_freed(work, x, v, units, all)
 }
 

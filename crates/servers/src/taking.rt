@@ -9,6 +9,7 @@ use moves::wait_on;
 use state::Scalars;
 use state::less64;
 use state::plus64;
+use tables::QL_LENGTH;
 use tables::count;
 use tables::number;
 use tables::set_count;
@@ -43,7 +44,7 @@ fn queue_up(work: &mut [u32], tally: &mut [u64], x: Scalars, v: u32) -> Scalars
     requires { ⌜ v < 64 ⌝ }
     ensures { λ r. ⌜ rowsOf r (now (work .exit)) (now (tally .exit)) ≡ queueUp (now (work .entry)) (now (tally .entry)) x v ⌝ }
 {
-    let at = 768 + (v as usize);
+    let at = QL_LENGTH + (v as usize);
     let n = plus64(count(tally, at), 1);
     set_count(tally, at, n);
     wait_on(work, x, v)

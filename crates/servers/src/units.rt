@@ -1,4 +1,6 @@
 // Units, capacities and status codes of servers.
+use tables::CAPACITIES;
+use tables::IN_USE;
 use tables::count;
 use tables::number;
 use tables::set_count;
@@ -18,14 +20,14 @@ pub fn in_use(tally: &[u64], v: u32) -> u64
     requires { ⌜ v < 64 ⌝ }
     ensures { λ r. ⌜ r ≡ inUse (now (tally .entry)) v ⌝ }
 {
-    count(tally, 512 + (v as usize))
+    count(tally, IN_USE + (v as usize))
 }
 
 pub fn set_in_use(tally: &mut [u64], v: u32, units: u64)
     requires { ⌜ v < 64 ⌝ }
     ensures { λ _. ⌜ now (tally .exit) ≡ setInUse (now (tally .entry)) v units ⌝ }
 {
-    set_count(tally, 512 + (v as usize), units);
+    set_count(tally, IN_USE + (v as usize), units);
 }
 
 pub fn capacity(tables: &[u32], v: u32) -> u64
@@ -33,7 +35,7 @@ pub fn capacity(tables: &[u32], v: u32) -> u64
     ensures capacity { λ r. ⌜ r ≡ capacity (now (tables .entry)) v ⌝ }
     ensures small { λ r. ⌜ r < 4294967296 ⌝ }
 {
-    number(tables, 2560 + (v as usize)) as u64
+    number(tables, CAPACITIES + (v as usize)) as u64
 }
 
 // Is a server in the state that a code names? Codes count from 0: U, NU, E, NE, F, NF.

@@ -6,6 +6,7 @@ use rows::wake::pass;
 use rows::wake::wake_first;
 use state::less32;
 use state::less64;
+use tables::QL_LENGTH;
 use tables::count;
 use tables::number;
 use tables::set_count;
@@ -65,7 +66,7 @@ pub fn wake_first_ql(work: &mut [u32], tally: &mut [u64], v: u32)
     ensures rows { λ _. ⌜ now (work .exit) ≡ wakeFirst (now (work .entry)) v ⌝ }
     ensures lengths { λ _. ⌜ now (tally .exit) ≡ shorter (now (tally .entry)) v ⌝ }
 {
-    let at = 768 + (v as usize);
+    let at = QL_LENGTH + (v as usize);
     let n = less64(count(tally, at), 1);
     set_count(tally, at, n);
     wake_first(work, v);

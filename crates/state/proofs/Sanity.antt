@@ -193,9 +193,6 @@ module _ {m : BlockModel} {tape : List (List ℕ)} (proper : Proper m tape) (s :
   taken-measured : Measured (s .turns) (takenOf s)
   taken-measured = measured-like (taking (s .moving) s) (takenOf s) refl refl (omega arith) refl refl refl refl refl (taken-took .measured)
 
-  pub ahead-taken : Ahead (takenOf s)
-  ahead-taken = taken-measured .ahead
-
   taken-shape : Shape m (takenOf s)
   taken-shape = taking-kept (Shape m) (shape-closed m) (s .moving) s (hs .shape)
 
@@ -342,16 +339,3 @@ sure-end m tape s e h =
       ahead = record { later = h .ahead .later; rising = h .ahead .rising };
       sound = record { shape = h .sound .shape; balanced = h .sound .balanced; books = h .sound .books };
     }
-
-module _ {m : BlockModel} {tape : List (List ℕ)} (proper : Proper m tape) (budget room : ℕ) where
-  pub sure-states : Each (Sure m tape) (states m tape budget room)
-  sure-states =
-      each-state m budget room (Sure m tape) (λ s t h. sure-turn proper s h (t .serials) (t .turns-left)) (λ s e c h. sure-end m tape s e h) tape
-      (sure-start proper)
-
-  pub sane-states : Each (Sane m) (states m tape budget room)
-  sane-states = each-map (λ s (h : Sure m tape s). h .sane) (states m tape budget room) sure-states
-
-  -- within a turn that is taken
-  pub sane-within : (s : State) → Sure m tape s → Taken budget room s → Sane m (takenOf s)
-  sane-within s h t = sane-taken proper s h (t .serials) (t .turns-left)

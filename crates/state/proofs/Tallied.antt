@@ -14,11 +14,11 @@ use Rattle.machine.specs.Block.{Facts, facts, BlockModel, blockAt}
 use Rattle.machine.specs.State.{State, Logged}
 use Rattle.machine.specs.Report.{recordsAt}
 use Rattle.machine.specs.Outcome.{recordsOf}
-use Rattle.machine.specs.Claims.{Each, count, bit, upTo}
+use Rattle.machine.specs.Claims.{Each, count, bit, upTo, InModel}
 use Rattle.machine.proofs.Proper.{Names}
 use Rattle.machine.proofs.Sums.{count-cons, upTo-cong, upTo-one}
 use Rattle.trace.specs.Whole.{AllInRanges}
-use Rattle.state.proofs.Written.{atBlock, at-block-cons, InModel, Traced, inOrder, in-order-cons}
+use Rattle.state.proofs.Written.{atBlock, at-block-cons, Traced, inOrder, in-order-cons}
 
 -- ---- Sums over the numbers from 1 on
 

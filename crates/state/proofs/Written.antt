@@ -21,7 +21,7 @@ use Rattle.machine.specs.Moves.{recordOf}
 use Rattle.machine.specs.Turn.{turn}
 use Rattle.machine.specs.Run.{idle, start, states}
 use Rattle.machine.specs.Outcome.{recordsOf}
-use Rattle.machine.specs.Claims.{Each, count, bit}
+use Rattle.machine.specs.Claims.{Each, count, bit, InModel}
 use Rattle.machine.proofs.Proper.{Proper, Names}
 use Rattle.machine.proofs.RunLaws.{Taken, each-map, each-state}
 use Rattle.machine.proofs.Everybody.{Maybe}
@@ -41,10 +41,6 @@ use Rattle.state.proofs.Numbered.{numbered-taken}
 -- how many records of an outcome stand at a block
 unfoldable pub atBlock : (outcome block : ℕ) → List Logged → ℕ
 atBlock outcome block l = count (λ r. eqb (r .entry .outcome) outcome && eqb (r .entry .block) block) l
-
-pub record InModel (m : BlockModel) (r : Record) : Type 0 where
-  pub ranges : inRanges r ≡ true
-  pub block : Names (length (m .blocks)) (r .block)
 
 pub record Traced (m : BlockModel) (room : ℕ) (s : State) : Type 0 where
   pub records : Each (λ (r : Logged). InModel m (r .entry)) (s .records)
@@ -254,9 +250,3 @@ module _ {m : BlockModel} {tape : List (List ℕ)} (proper : Proper m tape) (roo
     pub kept-end : (s : State) (e : ℕ) → Kept m tape room s → Kept m tape room (setEnd e s)
     kept-end s e h =
         record { sure = sure-end m tape s e (h .sure); traced = traced-like s (setEnd e s) refl refl refl (omega arith) (h .traced) }
-
-    pub kept-states : Each (Kept m tape room) (states m tape budget room)
-    kept-states = each-state m budget room (Kept m tape room) kept-turn (λ s e c h. kept-end s e h) tape kept-start
-
-    pub traced-states : Each (Traced m room) (states m tape budget room)
-    traced-states = each-map (λ s (h : Kept m tape room s). h .traced) (states m tape budget room) kept-states

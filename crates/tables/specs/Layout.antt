@@ -19,9 +19,6 @@ valueWidth = 64
 abbrev pub capacities : ℕ
 capacities = 2560
 
-abbrev pub tablesSize : ℕ
-tablesSize = 2624
-
 -- ---- tally
 
 -- entries of a block, 256 of them

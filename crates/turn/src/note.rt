@@ -6,8 +6,6 @@ use tables::set_count;
 use trace::Written;
 use trace::write_record;
 ghost use mathlib.Core.Path.{_≡_};
-ghost use Prim.Native.Nat.{_+_, _≤_};
-ghost use lib.ListN.{length};
 ghost use Rattle.turn.specs.Note.{Bytes, bytes, appendRecord, cellOf, countRecord, noted, noteRecord};
 
 // Writes a record into the unused rest of the trace buffer; answers how many bytes are used then.

@@ -1,7 +1,7 @@
 -- `decode::formed_model` meets its contract: the model, and then the two questions asked of the whole.
 use mathlib.Core.Path.{sym, _∙_}
 use borrow.Author.Tests.{not-true, not-false}
-use Rattle.decode.proofs.Models.{formed-stop, few-blocks, targets-few, formed-long, formed-misplaced, formed-target, formed-name, formed-model}
+use Rattle.decode.proofs.Models.{formed-stop, few-blocks, formed-long, formed-misplaced, formed-target, formed-name, formed-model}
 use borrow.Author.Needs.{needs}
 use Rattle.decode.proofs.formed_model.Statement.{statement}
 use Rattle.decode.proofs.formed_model.Tie as tie
@@ -25,7 +25,7 @@ returns-2 : tie.Need-returns-2
 returns-2 c = formed-misplaced _ (c .before .before .before .before .before .before .before .before .model .ensures) (c .before .before .before .before .before .before .m .given .1) (c .before .before .before .if1 .left) (sym (c .before .well-placed .ensures) ∙ not-true _ (c .if2 .taken))
 
 targets-move-requires : tie.Need-targets-move-requires
-targets-move-requires c κs = (few-blocks _ (c .before .before .before .before .before .before .before .before .before .model .ensures) (c .before .before .before .before .before .before .before .m .given .1), targets-few _ (c .before .before .before .before .before .before .before .before .before .model .ensures) (c .before .before .before .before .before .before .before .m .given .1))
+targets-move-requires c κs = few-blocks _ (c .before .before .before .before .before .before .before .before .before .model .ensures) (c .before .before .before .before .before .before .before .m .given .1)
 
 returns-3 : tie.Need-returns-3
 returns-3 c = formed-target _ (c .before .before .before .before .before .before .before .before .before .before .before .model .ensures) (c .before .before .before .before .before .before .before .before .before .m .given .1) (c .before .before .before .before .before .before .if1 .left) (sym (c .before .before .before .before .well-placed .ensures) ∙ not-false _ (c .before .before .before .if2 .left))

@@ -15,31 +15,20 @@ returns : tie.Need-returns
 unfolding namesGenerate
 returns c = rw (← c .before .target .ensures, eq-eqb _ 0 (c .if1 .taken))
 
-sub-result : tie.Need-sub-result
-sub-result c = search needs
+sub-number : tie.Need-sub-number
+sub-number c = search needs
 
-mul-result : tie.Need-mul-result
-mul-result c = search needs
+mul-number : tie.Need-mul-number
+mul-number c = search needs
 
-mul-result-2 : tie.Need-mul-result-2
-mul-result-2 c = search needs
-
-element-copy-out-result : tie.Need-element-copy-out-result
-element-copy-out-result c = search needs
+number-requires : tie.Need-number-requires
+number-requires c κs = search needs
 
 returns-2 : tie.Need-returns-2
 unfolding namesGenerate
-returns-2 c = rw (← c .before .before .target .ensures, ne-eqb _ 0 (c .before .if1 .left))
+returns-2 c = rw (← c .before .before .before .target .ensures, ne-eqb _ 0 (c .before .before .if1 .left), ← c .number .ensures)
 
 pub names-generate-spec : {M : Type 1} → statement M
 names-generate-spec =
     tie.close
-    (tie.spec
-    target-requires
-    cast-t
-    returns
-    sub-result
-    mul-result
-    mul-result-2
-    element-copy-out-result
-    returns-2)
+    (tie.spec target-requires cast-t returns sub-number mul-number number-requires returns-2)

@@ -20,7 +20,7 @@ loop-holds : tie.Need-loop-holds Inv-loop μ-loop
 loop-holds c = (omega arith, targets-all _ _ 0)
 
 names-generate-requires : tie.Need-names-generate-requires Inv-loop μ-loop
-names-generate-requires c κs = (omega (arith, c .before .before .pre .0), c .before .before .pre .1 _ (c .loop-test .taken))
+names-generate-requires c κs = omega (arith, c .before .before .pre)
 
 returns : tie.Need-returns Inv-loop μ-loop
 returns c = targets-bad _ _ _ (c .before .before .loop-test .taken) (sym (c .before .names-generate .ensures) ∙ c .if1 .taken) ∙ c .before .before .before .loop .inv .1
