@@ -26,7 +26,13 @@ fn run(model: &[u8], tape: &[u8]) -> bool {
     }
     let trace_bytes = outcome.trace_bytes as usize;
     let report_bytes = outcome.report_bytes as usize;
-    print_accepted(model, tape, outcome, &trace[..trace_bytes], &report[..report_bytes])
+    print_accepted(
+        model,
+        tape,
+        outcome,
+        &trace[..trace_bytes],
+        &report[..report_bytes],
+    )
 }
 
 fn main() {

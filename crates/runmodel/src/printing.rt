@@ -155,7 +155,13 @@ fn header(model: &[u8], tape: &[u8]) -> Model {
     }
 }
 
-pub fn print_accepted(model: &[u8], tape: &[u8], outcome: Outcome, trace: &[u8], report: &[u8]) -> bool {
+pub fn print_accepted(
+    model: &[u8],
+    tape: &[u8],
+    outcome: Outcome,
+    trace: &[u8],
+    report: &[u8],
+) -> bool {
     if !print_records(trace) {
         return false;
     }
