@@ -4,9 +4,9 @@ use crate::blocks::Done;
 use crate::decode::decode_model;
 use crate::generate::fields::{model_fields, Role};
 use crate::generate::random::Random;
-use crate::generate::{case, Size};
+use crate::generate::{case, Case, Size};
 use crate::machine::Machine;
-use crate::run::{run_watched, Watcher};
+use crate::run::{run_watched, Outcome, Watcher};
 use std::collections::BTreeMap;
 
 /// What the runs of some cases met.
@@ -15,7 +15,7 @@ pub struct Coverage {
     pub cases: u64,
     pub refusals: BTreeMap<u64, u64>,
     pub ends: BTreeMap<u64, u64>,
-    /// The turns of each accepted case, rising.
+    /// The turns of each accepted case.
     pub turns: Vec<u64>,
     pub most_blocks: usize,
     pub most_living: u64,
@@ -64,24 +64,24 @@ impl Coverage {
     pub fn of(random: &mut Random, size: Size, count: u64) -> Coverage {
         let mut coverage = Coverage::default();
         for _ in 0..count {
-            coverage.add(random, size);
+            let case = case(random, size);
+            let mut trace = vec![0; case.trace_len];
+            let mut report = vec![0; case.report_len];
+            coverage.run(&case, &mut trace, &mut report);
         }
-        coverage.turns.sort();
         coverage
     }
 
-    fn add(&mut self, random: &mut Random, size: Size) {
-        let case = case(random, size);
-        let mut trace = vec![0; case.trace_len];
-        let mut report = vec![0; case.report_len];
+    /// Runs a case and counts what it meets.
+    pub fn run(&mut self, case: &Case, trace: &mut [u8], report: &mut [u8]) -> Outcome {
         self.before = None;
         let outcome = run_watched(
             &case.model,
             &case.tape,
             case.budget,
             case.work_len,
-            &mut trace,
-            &mut report,
+            trace,
+            report,
             self,
         );
         self.cases += 1;
@@ -91,6 +91,7 @@ impl Coverage {
             self.turns.push(outcome.turns);
             self.count_names(&case.model);
         }
+        outcome
     }
 
     /// Counts tags, codes and relations of an accepted model.
@@ -120,9 +121,11 @@ impl std::fmt::Display for Coverage {
             let words: Vec<String> = map.iter().map(|(k, n)| format!("{k}: {n}")).collect();
             words.join(", ")
         };
+        let mut turns = self.turns.clone();
+        turns.sort();
         let part = |percent: usize| {
-            let at = self.turns.len() * percent / 100;
-            self.turns.get(at).copied().unwrap_or(0)
+            let at = turns.len() * percent / 100;
+            turns.get(at).copied().unwrap_or(0)
         };
         writeln!(f, "cases     {}", self.cases)?;
         writeln!(f, "refusals  {}", counts(&self.refusals))?;
@@ -135,7 +138,7 @@ impl std::fmt::Display for Coverage {
             part(50),
             part(75),
             part(90),
-            self.turns.last().unwrap_or(&0)
+            turns.last().unwrap_or(&0)
         )?;
         writeln!(
             f,

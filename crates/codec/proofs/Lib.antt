@@ -4,3 +4,4 @@ pub mod Groups
 pub mod Numbers
 pub mod Steps
 pub mod Stores
+pub mod Writing

@@ -10,6 +10,7 @@ ghost use Rattle.machine.specs.Limits.{maxNumberBytes, maxNumber, maxReportNumb
 ghost use Rattle.machine.specs.Number.{groups, within, readNumber, numberBytes};
 ghost use Rattle.machine.specs.Parser.{field};
 ghost use Rattle.codec.specs.Answers.{numberOf, readAs, cursorAt, parsedOf};
+ghost use Rattle.codec.specs.Writing.{written, put};
 
 // "at most 5 bytes and 4,294,967,295 (report: 9 bytes)"
 const NUMBER_BYTES: usize = 5;
@@ -133,13 +134,11 @@ pub fn number_len(v: u64) -> usize
     len
 }
 
-// Writes a number at a position with room for it, and returns the position after it.
-pub fn write_number(out: &mut [u8], at: usize, v: u64) -> usize
-    requires { ⌜ at + length (numberBytes v) ≤ length (now out) ⌝ }
-    ensures { λ r. ⌜ r ≡ at + length (numberBytes v) ⌝ }
+// Writes the `len` bytes of a number at a position with room for them.
+fn store_number(out: &mut [u8], at: usize, v: u64, len: usize)
+    requires { ⌜ (len ≡ length (numberBytes v)) × (at + len ≤ length (now out)) ⌝ }
     ensures { λ _. ⌜ now (out .exit) ≡ sets (now (out .entry)) at (numberBytes v) ⌝ }
 {
-    let len = number_len(v);
     let mut left = len - 1;
     out[at + left] = (v % 128) as u8;
     let mut above = v / 128;
@@ -148,5 +147,20 @@ pub fn write_number(out: &mut [u8], at: usize, v: u64) -> usize
         out[at + left] = (128 + above % 128) as u8;
         above /= 128;
     }
+}
+
+// Writes a number at a position and returns the position after it; without room for it nothing is
+// written and the position is returned as it was.
+pub fn write_number(out: &mut [u8], at: usize, v: u64) -> usize
+    ensures { λ r. ⌜ written r (now (out .exit)) ≡ put v (written at (now (out .entry))) ⌝ }
+{
+    let len = number_len(v);
+    if out.len() < len {
+        return at;
+    }
+    if out.len() - len < at {
+        return at;
+    }
+    store_number(out, at, v, len);
     at + len
 }

@@ -6,11 +6,12 @@ use mathlib.Core.Bool.{Bool, false, cond, not}
 use mathlib.Core.List.{List, [], _∷_}
 use mathlib.Core.Option.{Option, none, some}
 use native.Mathlib.Omega.{arith}
-use lib.Dec.{eqb}
+use lib.Dec.{eqb, leb}
 use lib.ListN.{length, take, drop, length-set}
 use Rattle.machine.specs.Transaction.{Transaction, Event, precedes, earlier, newborn}
 use Rattle.machine.specs.Lists.{insert, those, others, flat}
-use Rattle.machine.specs.Block.{Code, U, NU, E, NE, F, NF, Block, generate, advance, terminate, seize, release, enter, leave, waitServer, waitTerms, branch, goto, assign, priority, split, arrive, depart, facts, BlockModel, blockAt}
+use Rattle.machine.specs.Term.{serverAt, free}
+use Rattle.machine.specs.Block.{Code, U, NU, E, NE, F, NF, Block, generate, advance, terminate, seize, release, enter, leave, waitServer, waitTerms, branch, goto, assign, priority, split, arrive, depart, facts, BlockModel, blockAt, status}
 use Rattle.machine.specs.State.{State, Logged}
 use Rattle.machine.specs.Setters.{withSerial, withPriority, withReturning, withNext, setSerial, setMoving}
 use Rattle.machine.specs.Moves.{recordOf, log, enters, moveTo, fresh, toRel, toFel, welIndex, qlOf, welOf, toQl, toWel, toWsl, mustWait, wakeFirstQl, wakeQl, wakeFirstWel, wakeWsl, setInUse, setContent, timesLeft, useTime, arrival, copies}
@@ -19,7 +20,8 @@ use Rattle.machine.specs.Turn.{arriveAll, due, moveClock, nextEvents, ta
 use Rattle.machine.specs.Run.{startAt, idle, start}
 use Rattle.machine.specs.Claims.{upTo, terminates}
 use Rattle.machine.proofs.Proper.{Proper, ProperBlock, Names, CodeServer, servers}
-use Rattle.machine.proofs.Cases.{checkWels-kept, mustWait-cases, takeUnits-cases, waitServer-cases, waitTerms-cases, wsScheme-cases, startOf-cases}
+use Rattle.machine.proofs.RunLaws.{cond-cases}
+use Rattle.machine.proofs.Cases.{checkWels-kept, waitTerms-cases, wsScheme-cases, startOf-cases}
 use Rattle.machine.proofs.Kept.{taking-kept}
 use Rattle.machine.proofs.Shape.{Shape, shape-closed, ql-at, wel-at, wel-below}
 use Rattle.machine.proofs.Sums.{sumOn, sum-insert, sum-those, sum-first, sum-flat-set, sum-flat-none, sum-wake}
@@ -211,30 +213,30 @@ module _ (m : BlockModel) (tape : List (List ℕ)) (f : ℕ → ℕ) where
       noted = weighs-log (by t + 0) 1 t idle-hand plain in-hand
 
       balanced-waitQl : (v : ℕ) → v - 1 < length (s .ql) → Balanced (mustWait (toQl v) t idle-hand)
-      unfolding toQl log
+      unfolding mustWait toQl log
       balanced-waitQl v at =
-          mustWait-cases Balanced (toQl v) t idle-hand (λ e. weighs-toQl 0 v t idle-hand at in-hand)
+          cond-cases Balanced (t .returning) _ _ (λ e. weighs-toQl 0 v t idle-hand at in-hand)
           (λ e. weighs-toQl 0 v waiter waits at noted)
 
       balanced-waitWel : (v : ℕ) (code : Code) → welIndex v code < length (s .wel) → Balanced (mustWait (toWel v code) t idle-hand)
-      unfolding toWel log
+      unfolding mustWait toWel log
       balanced-waitWel v code at =
-          mustWait-cases Balanced (toWel v code) t idle-hand (λ e. weighs-toWel 0 v code t idle-hand at in-hand)
+          cond-cases Balanced (t .returning) _ _ (λ e. weighs-toWel 0 v code t idle-hand at in-hand)
           (λ e. weighs-toWel 0 v code waiter waits at noted)
 
       balanced-waitWsl : Balanced (mustWait toWsl t idle-hand)
-      unfolding toWsl log
+      unfolding mustWait toWsl log
       balanced-waitWsl =
-          mustWait-cases Balanced toWsl t idle-hand (λ e. weighs-toWsl 0 t idle-hand in-hand)
+          cond-cases Balanced (t .returning) _ _ (λ e. weighs-toWsl 0 t idle-hand in-hand)
           (λ e. weighs-toWsl 0 waiter waits noted)
 
       entered : Weighs (by t) (enters t idle-hand)
       entered = weighs-enters (by t) t idle-hand plain w
 
       balanced-takeUnits : (v b : ℕ) → 1 ≤ v → v ≤ servers m → Shape m s → Balanced (takeUnits v b t idle-hand)
-      unfolding moveTo setInUse enters log
+      unfolding takeUnits moveTo setInUse enters log
       balanced-takeUnits v b low high h =
-          takeUnits-cases Balanced v b t idle-hand
+          cond-cases Balanced (leb b (free (serverAt (s .view) v))) _ _
           (λ e. weighs-checkWels (by t) v _ low high (h .wel-length) entered)
           (λ e. balanced-waitQl v (ql-at h v low high))
 
@@ -254,9 +256,9 @@ module _ (m : BlockModel) (tape : List (List ℕ)) (f : ℕ → ℕ) where
           (weighs-wakeQl (by t) p v (freeUnits v b (enters t idle-hand)) (ql-at h v low high) entered)
 
       balanced-waitServer : (code : Code) (v : ℕ) → 1 ≤ v → v ≤ servers m → Shape m s → Balanced (effect m (waitServer code v) t idle-hand)
-      unfolding moveTo enters log
+      unfolding effect moveTo enters log
       balanced-waitServer code v low high h =
-          waitServer-cases Balanced m code v t idle-hand (λ e. balanced-waitWel v code (wel-at h v code low high))
+          cond-cases Balanced (status code (serverAt (s .view) v)) _ _ (λ e. balanced-waitWel v code (wel-at h v code low high))
           (λ e. weighs-wakeFirstWel (by t) v code (enters t idle-hand) (wel-at h v code low high) entered)
 
       -- a question has stopped the turn where there is no time

@@ -1,18 +1,18 @@
--- What holds of both arms of a choice holds of the choice: the choices inside a turn and at the start, each taken apart once.
-use Prim.Native.Nat.{ℕ, _+_}
+-- What holds of both arms of a choice holds of the choice: the check of a WEL, WAITIF of terms, the WS scheme, the start. The
+-- other choices of a block, by `cond-cases`, stand in the proof of each claim.
+use Prim.Native.Nat.{ℕ}
 use mathlib.Core.Path.{_≡_, refl}
 use mathlib.Core.Bool.{true, false, not}
 use mathlib.Core.List.{List, [], _∷_}
 use mathlib.Core.Option.{Option}
 use borrow.Author.Tests.{eqb-true, eqb-false}
-use lib.Dec.{leb}
 use Rattle.machine.specs.Transaction.{Transaction}
-use Rattle.machine.specs.Term.{Term, Relation, serverAt, free, compare}
+use Rattle.machine.specs.Term.{Term, Relation, serverAt, compare}
 use Rattle.machine.specs.Block.{Code, U, NU, E, NE, F, NF, status, Block, generate, advance, terminate, seize, release, enter, leave, waitServer, waitTerms, branch, goto, assign, priority, split, arrive, depart, facts, BlockModel}
 use Rattle.machine.specs.State.{State}
-use Rattle.machine.specs.Setters.{withSerial, setSerial, setMoving}
-use Rattle.machine.specs.Moves.{log, enters, goOn, fresh, toQl, toWel, toWsl, mustWait, wakeFirstWel, wakeWsl, setInUse, timesLeft, arrival}
-use Rattle.machine.specs.Execute.{askGenerate, askAdvance, question, checkWel, checkWels, takeUnits, effect}
+use Rattle.machine.specs.Setters.{setMoving}
+use Rattle.machine.specs.Moves.{enters, goOn, toWsl, mustWait, wakeFirstWel, wakeWsl, timesLeft, arrival}
+use Rattle.machine.specs.Execute.{askGenerate, askAdvance, question, checkWel, checkWels, effect}
 use Rattle.machine.specs.Turn.{waitsOn, wsScheme}
 use Rattle.machine.specs.Run.{startOf}
 use Rattle.machine.proofs.RunLaws.{cond-cases}
@@ -30,23 +30,6 @@ module _ (Q : State → Type 0) where
     where
       one : (code : Code) (s : State) → Q s → Q (checkWel v code s)
       one code s q = checkWel-cases v code s (λ e. q) (λ e. wakes code s q)
-
-  pub mustWait-cases : (put : Transaction → State → State) (t : Transaction) (s : State) → (t .returning ≡ true → Q (put t s))
-      → (t .returning ≡ false → Q (put (withSerial (fresh s) t) (setSerial (fresh s) (log 1 t s)))) → Q (mustWait put t s)
-  unfolding mustWait
-  mustWait-cases put t s = cond-cases Q _ _ _
-
-  pub takeUnits-cases : (v b : ℕ) (t : Transaction) (s : State)
-      → (leb b (free (serverAt (s .view) v)) ≡ true → Q (goOn t (checkWels v (setInUse v (serverAt (s .view) v .inUse + b) (enters t s)))))
-      → (leb b (free (serverAt (s .view) v)) ≡ false → Q (mustWait (toQl v) t s)) → Q (takeUnits v b t s)
-  unfolding takeUnits
-  takeUnits-cases v b t s = cond-cases Q _ _ _
-
-  pub waitServer-cases : (m : BlockModel) (code : Code) (v : ℕ) (t : Transaction) (s : State)
-      → (status code (serverAt (s .view) v) ≡ true → Q (mustWait (toWel v code) t s))
-      → (status code (serverAt (s .view) v) ≡ false → Q (goOn t (wakeFirstWel v code (enters t s)))) → Q (effect m (waitServer code v) t s)
-  unfolding effect
-  waitServer-cases m code v t s = cond-cases Q _ _ _
 
   pub waitTerms-cases : (m : BlockModel) (a : Term) (r : Relation) (b : Term) (t : Transaction) (s : State)
       → (compare (m .values) (s .view) (t .parameters) a r b ≡ true → Q (mustWait toWsl t s))

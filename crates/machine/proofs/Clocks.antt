@@ -12,7 +12,8 @@ use lib.Seq.{getD-drop}
 use Rattle.machine.specs.Limits.{maxClock, maxTime, maxLiving}
 use Rattle.machine.specs.Transaction.{Transaction, Event, earlier}
 use Rattle.machine.specs.Lists.{insert, those, others, nth, setNth}
-use Rattle.machine.specs.Block.{Code, Block, generate, advance, terminate, seize, release, enter, leave, waitServer, waitTerms, branch, goto, assign, priority, split, arrive, depart, BlockModel, blockAt}
+use Rattle.machine.specs.Term.{serverAt, free}
+use Rattle.machine.specs.Block.{Code, Block, generate, advance, terminate, seize, release, enter, leave, waitServer, waitTerms, branch, goto, assign, priority, split, arrive, depart, BlockModel, blockAt, status}
 use Rattle.machine.specs.State.{State}
 use Rattle.machine.specs.Setters.{setMoving, setTurns}
 use Rattle.machine.specs.Moves.{log, enters, moveTo, toRel, toFel, toQl, toWel, toWsl, mustWait, wakeFirstQl, wakeQl, wakeFirstWel, wakeWsl, setInUse, setContent, timesLeft, useTime, arrival, copies}
@@ -21,8 +22,8 @@ use Rattle.machine.specs.Turn.{sample, arriveAll, due, moveClock, nextEv
 use Rattle.machine.specs.Run.{idle, startOf, startAt, start, states}
 use Rattle.machine.specs.Claims.{Each}
 use Rattle.machine.proofs.Proper.{Proper}
-use Rattle.machine.proofs.RunLaws.{each-state}
-use Rattle.machine.proofs.Cases.{checkWels-kept, mustWait-cases, takeUnits-cases, waitServer-cases, waitTerms-cases, wsScheme-cases, startOf-cases}
+use Rattle.machine.proofs.RunLaws.{cond-cases, each-state}
+use Rattle.machine.proofs.Cases.{checkWels-kept, waitTerms-cases, wsScheme-cases, startOf-cases}
 use Rattle.machine.proofs.Sorted.{each-insert, each-those, at-set}
 
 -- ---- Definition
@@ -46,8 +47,8 @@ toFel-timely time t s le h = record { clock = h .clock; times = each-insert (λ 
 
 waits-timely : (put : Transaction → State → State) → ((t : Transaction) (s : State) → Timely s → Timely (put t s)) → (t : Transaction) (s : State)
     → Timely s → Timely (mustWait put t s)
-unfolding log
-waits-timely put kept t s h = mustWait-cases Timely put t s (λ e. kept t s h) (λ e. kept _ _ (like s _ refl refl h))
+unfolding mustWait log
+waits-timely put kept t s h = cond-cases Timely (t .returning) _ _ (λ e. kept t s h) (λ e. kept _ _ (like s _ refl refl h))
 
 toQl-timely : (v : ℕ) (t : Transaction) (s : State) → Timely s → Timely (toQl v t s)
 unfolding toQl
@@ -81,8 +82,9 @@ unfolding setInUse
 units-timely v n s h = like s _ refl refl h
 
 takes-timely : (v b : ℕ) (t : Transaction) (s : State) → Timely s → Timely (takeUnits v b t s)
+unfolding takeUnits
 takes-timely v b t s h =
-    takeUnits-cases Timely v b t s (λ e. moves-timely _ t _ (check-timely v _ (units-timely v _ _ (enters-timely t s h))))
+    cond-cases Timely (leb b (free (serverAt (s .view) v))) _ _ (λ e. moves-timely _ t _ (check-timely v _ (units-timely v _ _ (enters-timely t s h))))
     (λ e. waits-timely (toQl v) (toQl-timely v) t s h)
 
 copies-timely : (n target : ℕ) (t : Transaction) (s : State) → Timely s → Timely (copies n target t s)
@@ -124,7 +126,7 @@ effect-timely m (release v) t s asked h = moves-timely _ t _ (check-timely v _ (
 effect-timely m (enter v b) t s asked h = takes-timely v b t _ (like s _ refl refl h)
 effect-timely m (leave v b) t s asked h = moves-timely _ t _ (check-timely v _ (like s _ refl refl h))
 effect-timely m (waitServer code v) t s asked h =
-    waitServer-cases Timely m code v t (setMoving none s) (λ e. waits-timely (toWel v code) (toWel-timely v code) t _ (like s _ refl refl h))
+    cond-cases Timely (status code (serverAt (s .view) v)) _ _ (λ e. waits-timely (toWel v code) (toWel-timely v code) t _ (like s _ refl refl h))
     (λ e. moves-timely _ t _ (wake-timely v code _ (like s _ refl refl h)))
 effect-timely m (waitTerms a r b) t s asked h =
     waitTerms-cases Timely m a r b t (setMoving none s) (λ e. waits-timely toWsl toWsl-timely t _ (like s _ refl refl h))

@@ -16,7 +16,8 @@ use Rattle.machine.specs.Execute.{checkWels, freeUnits, endsOne, delay}
 use Rattle.machine.specs.Turn.{arriveAll, due, moveClock, nextEvents, takeFirst, takeReady, taking, sample, wsScheme}
 use Rattle.machine.specs.Run.{idle, startAt, start}
 use Rattle.machine.specs.Claims.{Each}
-use Rattle.machine.proofs.Cases.{checkWels-kept, mustWait-cases, wsScheme-cases}
+use Rattle.machine.proofs.RunLaws.{cond-cases}
+use Rattle.machine.proofs.Cases.{checkWels-kept, wsScheme-cases}
 use Rattle.machine.proofs.Shape.{each-set, each-getD}
 use Rattle.machine.proofs.Sorted.{each-insert, each-those, each-drop}
 
@@ -125,9 +126,9 @@ module _ (P : Transaction → Type 0) (U : Unmoved P) where
   pub mustWait-everybody : (put : Transaction → State → State)
       → ((t : Transaction) (s : State) → P t → Everybody P s → Everybody P (put t s)) → (t : Transaction) (s : State)
       → P t → Everybody P s → Everybody P (mustWait put t s)
-  unfolding log
+  unfolding mustWait log
   mustWait-everybody put kept t s p h =
-      mustWait-cases (Everybody P) put t s (λ e. kept t s p h)
+      cond-cases (Everybody P) (t .returning) _ _ (λ e. kept t s p h)
       (λ e. kept _ _ (U .serial _ t p) (like s (setSerial (fresh s) (log 1 t s)) refl refl refl refl refl refl h))
 
   pub waitQl-everybody : (v : ℕ) (t : Transaction) (s : State) → P t → Everybody P s → Everybody P (mustWait (toQl v) t s)

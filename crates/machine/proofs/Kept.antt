@@ -11,7 +11,7 @@ use lib.ListN.{set}
 use Rattle.machine.specs.Limits.{maxLiving, maxClock}
 use Rattle.machine.specs.Transaction.{Transaction, Event}
 use Rattle.machine.specs.Term.{Queue, serverAt, queueAt, free}
-use Rattle.machine.specs.Block.{Code, Block, generate, advance, terminate, seize, release, enter, leave, waitServer, waitTerms, branch, goto, assign, priority, split, arrive, depart, BlockModel, blockAt}
+use Rattle.machine.specs.Block.{Code, Block, generate, advance, terminate, seize, release, enter, leave, waitServer, waitTerms, branch, goto, assign, priority, split, arrive, depart, BlockModel, blockAt, status}
 use Rattle.machine.specs.State.{State, Logged}
 use Rattle.machine.specs.Setters.{setClock, setEntries, setQueues, setView, setCounter, setSamples, setQl, setWel, setWsl, setRel, setFel, setMoving, setSerial, setMade, setEnded, setTurns, setRecords, setWritten, setEnd}
 use Rattle.machine.specs.Moves.{log, enters, moveTo, toRel, toFel, toQl, toWel, toWsl, mustWait, wakeFirstQl, wakeQl, wakeFirstWel, wakeWsl, setInUse, setContent, timesLeft, arrival, copies}
@@ -20,7 +20,7 @@ use Rattle.machine.specs.Turn.{sample, arriveAll, moveClock, nextEvents,
 use Rattle.machine.specs.Run.{startAt, idle, start}
 use Rattle.machine.specs.Claims.{statedEnd}
 use Rattle.machine.proofs.RunLaws.{cond-cases}
-use Rattle.machine.proofs.Cases.{checkWels-kept, mustWait-cases, takeUnits-cases, waitServer-cases, waitTerms-cases, wsScheme-cases, startOf-cases}
+use Rattle.machine.proofs.Cases.{checkWels-kept, waitTerms-cases, wsScheme-cases, startOf-cases}
 
 -- ---- Definition
 
@@ -104,8 +104,8 @@ module _ (Q : State → Type 0) (C : Closed Q) where
 
   pub mustWait-kept : (put : Transaction → State → State) → ((t : Transaction) (s : State) → Q s → Q (put t s)) → (t : Transaction) (s : State)
       → Q s → Q (mustWait put t s)
-  unfolding log
-  mustWait-kept put kept t s h = mustWait-cases Q put t s (λ e. kept t s h) (λ e. kept _ _ (C .serial _ _ (C .written _ _ s h)))
+  unfolding mustWait log
+  mustWait-kept put kept t s h = cond-cases Q (t .returning) _ _ (λ e. kept t s h) (λ e. kept _ _ (C .serial _ _ (C .written _ _ s h)))
 
   pub toQl-kept : (v : ℕ) (t : Transaction) (s : State) → Q s → Q (toQl v t s)
   unfolding toQl
@@ -124,9 +124,9 @@ module _ (Q : State → Type 0) (C : Closed Q) where
   toRel-kept t s h = C .rel _ _ (C .serial _ s h)
 
   pub takeUnits-kept : (v b : ℕ) (t : Transaction) (s : State) → Q s → Q (takeUnits v b t s)
-  unfolding enters log serverAt
+  unfolding takeUnits enters log serverAt
   takeUnits-kept v b t s h =
-      takeUnits-cases Q v b t s
+      cond-cases Q (leb b (free (serverAt (s .view) v))) _ _
       (λ e.
       let fits : b ≤ free (serverAt (s .view) v) = leb-true _ _ e in
       goes-on _ t _ (check-kept v _ (C .units v _ (enters t s) (λ w. more fits w) (enters-kept t s h))))
@@ -176,7 +176,7 @@ module _ (Q : State → Type 0) (C : Closed Q) where
   effect-kept m (enter v b) t s h = takeUnits-kept v b t s h
   effect-kept m (leave v b) t s h = goes-on _ t _ (check-kept v _ (wakeQl-kept _ v _ (freeUnits-kept v b _ (enters-kept t s h))))
   effect-kept m (waitServer code v) t s h =
-      waitServer-cases Q m code v t s (λ e. mustWait-kept (toWel v code) (toWel-kept v code) t s h)
+      cond-cases Q (status code (serverAt (s .view) v)) _ _ (λ e. mustWait-kept (toWel v code) (toWel-kept v code) t s h)
       (λ e. goes-on _ t _ (wakeFirstWel-kept v code _ (enters-kept t s h)))
   effect-kept m (waitTerms a r b) t s h =
       waitTerms-cases Q m a r b t s (λ e. mustWait-kept toWsl toWsl-kept t s h) (λ e. goes-on _ t _ (enters-kept t s h))

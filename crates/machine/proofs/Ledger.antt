@@ -7,12 +7,13 @@ use mathlib.Core.List.{List, [], _∷_}
 use mathlib.Core.Option.{Option, none, some}
 use native.Mathlib.Omega.{arith}
 use borrow.Author.Tests.{eqb-true, eqb-false, ne-eqb, lt-ltb, le-ltb}
-use lib.Dec.{eqb, ltb}
+use lib.Dec.{eqb, ltb, leb}
 use lib.ListN.{length, drop, length-drop}
 use lib.Seq.{getD-set-same, getD-set-other}
 use Rattle.machine.specs.Transaction.{Transaction, Event}
 use Rattle.machine.specs.Lists.{nth, setNth}
-use Rattle.machine.specs.Block.{Block, generate, advance, terminate, seize, release, enter, leave, waitServer, waitTerms, branch, goto, assign, priority, split, arrive, depart, Facts, factsOf, facts, BlockModel, blockAt}
+use Rattle.machine.specs.Term.{serverAt, free}
+use Rattle.machine.specs.Block.{Block, generate, advance, terminate, seize, release, enter, leave, waitServer, waitTerms, branch, goto, assign, priority, split, arrive, depart, Facts, factsOf, facts, BlockModel, blockAt, status}
 use Rattle.machine.specs.State.{State, Logged}
 use Rattle.machine.specs.Setters.{setMoving}
 use Rattle.machine.specs.Moves.{recordOf, log, enters, moveTo, toRel, toFel, toQl, toWel, toWsl, mustWait, wakeFirstQl, wakeQl, wakeFirstWel, wakeWsl, setInUse, setContent, timesLeft, arrival, copies}
@@ -21,7 +22,7 @@ use Rattle.machine.specs.Turn.{arriveAll, moveClock, nextEvents, takeFir
 use Rattle.machine.specs.Claims.{bit, timesOf, factsAt, entered, getsTime, usedBy, madeBy, endedBy, terminates}
 use Rattle.machine.proofs.Proper.{Proper, ProperBlock, Names}
 use Rattle.machine.proofs.RunLaws.{cond-cases}
-use Rattle.machine.proofs.Cases.{checkWels-kept, mustWait-cases, takeUnits-cases, waitServer-cases, waitTerms-cases, wsScheme-cases, question-hand}
+use Rattle.machine.proofs.Cases.{checkWels-kept, waitTerms-cases, wsScheme-cases, question-hand}
 use Rattle.machine.proofs.Kept.{taking-kept}
 use Rattle.machine.proofs.Shape.{Shape, shape-closed, samples-at}
 use Rattle.machine.proofs.Sums.{count-cons}
@@ -237,15 +238,16 @@ module _ (m : BlockModel) (tape : List (List ℕ)) where
   module _ (t : Transaction) (s : State) (h : Books s) where
     module _ (plain : Plain (facts (blockAt m (t .next)))) where
       booked-mustWait : (put : Transaction → State → State) → ((t : Transaction) (s : State) → Books s → Books (put t s)) → Books (mustWait put t s)
-      booked-mustWait put kept = mustWait-cases Books put t s (λ e. kept _ _ h) (λ e. kept _ _ (booked-log 1 t s plain h))
+      unfolding mustWait
+      booked-mustWait put kept = cond-cases Books (t .returning) _ _ (λ e. kept _ _ h) (λ e. kept _ _ (booked-log 1 t s plain h))
 
       booked-entered : Books (enters t s)
       booked-entered = booked-enters t s plain h
 
       booked-takeUnits : (v b : ℕ) → Books (takeUnits v b t s)
-      unfolding moveTo setInUse toQl
+      unfolding takeUnits moveTo setInUse toQl
       booked-takeUnits v b =
-          takeUnits-cases Books v b t s (λ e. booked-checkWels v _ booked-entered) (λ e. booked-mustWait (toQl v) (λ t s h. h))
+          cond-cases Books (leb b (free (serverAt (s .view) v))) _ _ (λ e. booked-checkWels v _ booked-entered) (λ e. booked-mustWait (toQl v) (λ t s h. h))
 
     booked-effect : (b : Block) → blockAt m (t .next) ≡ b → question b s ≡ 0 → ProperBlock m b → Shape m s → Books (effect m b t s)
     unfolding effect moveTo facts question toRel toQl toWel toWsl wakeFirstQl wakeQl wakeFirstWel setInUse setContent
@@ -262,7 +264,7 @@ module _ (m : BlockModel) (tape : List (List ℕ)) where
     booked-effect (leave v b) e q good shape = booked-checkWels v _ (booked-entered (plain-facts (ap facts e)))
     booked-effect (waitServer code v) e q good shape =
         let plain : Plain (facts (blockAt m (t .next))) = plain-facts (ap facts e) in
-        waitServer-cases Books m code v t s (λ k. booked-mustWait plain (toWel v code) (λ t s h. h)) (λ k. booked-entered plain)
+        cond-cases Books (status code (serverAt (s .view) v)) _ _ (λ k. booked-mustWait plain (toWel v code) (λ t s h. h)) (λ k. booked-entered plain)
     booked-effect (waitTerms a r b) e q good shape =
         let plain : Plain (facts (blockAt m (t .next))) = plain-facts (ap facts e) in
         waitTerms-cases Books m a r b t s (λ k. booked-mustWait plain toWsl (λ t s h. h)) (λ k. booked-entered plain)

@@ -5,13 +5,13 @@ use mathlib.Core.Bool.{Bool, true, false, cond, not, _&&_, _||_}
 use mathlib.Core.List.{List, [], _∷_}
 use mathlib.Core.Option.{Option, none, some}
 use native.Mathlib.Omega.{arith}
-use lib.Dec.{T, eqb}
+use lib.Dec.{T, eqb, leb}
 use lib.ListN.{length, getD}
 use Rattle.machine.specs.Limits.{maxPriority}
 use Rattle.machine.specs.Transaction.{Transaction, newborn}
 use Rattle.machine.specs.Lists.{nth}
-use Rattle.machine.specs.Term.{compare}
-use Rattle.machine.specs.Block.{Code, Block, generate, advance, terminate, seize, release, enter, leave, waitServer, waitTerms, branch, goto, assign, priority, split, arrive, depart, Facts, facts, BlockModel, blockAt}
+use Rattle.machine.specs.Term.{compare, serverAt, free}
+use Rattle.machine.specs.Block.{Code, Block, generate, advance, terminate, seize, release, enter, leave, waitServer, waitTerms, branch, goto, assign, priority, split, arrive, depart, Facts, facts, BlockModel, blockAt, status}
 use Rattle.machine.specs.State.{State}
 use Rattle.machine.specs.Setters.{withNext, withPriority, withReturning, withParameters, setMoving, setTurns, setEnd}
 use Rattle.machine.specs.Moves.{timesLeft}
@@ -22,7 +22,7 @@ use Rattle.machine.specs.Claims.{Each}
 use Rattle.machine.specs.Validate.{wellFormed, wellPlaced, targetsMove, allOf, sumNames, isGenerate}
 use Rattle.machine.proofs.Proper.{Names, ProperBlock, Proper}
 use Rattle.machine.proofs.RunLaws.{cond-cases, each-state}
-use Rattle.machine.proofs.Cases.{takeUnits-cases, waitServer-cases, waitTerms-cases, startOf-cases}
+use Rattle.machine.proofs.Cases.{waitTerms-cases, startOf-cases}
 use Rattle.machine.proofs.Everybody.{Maybe, Everybody, Unmoved, toRel-everybody, waitQl-everybody, waitWel-everybody, waitWsl-everybody, moveTo-everybody, wakeFirstQl-everybody, wakeQl-everybody, wakeFirstWel-everybody, checkWels-everybody, wsScheme-everybody, arrival-everybody, copies-everybody, delay-everybody, enters-everybody, inUse-everybody, content-everybody, endsOne-everybody, taking-everybody, idle-everybody}
 
 -- ---- Question 7: behind a block that lets its transaction go on stands another
@@ -76,8 +76,9 @@ module _ (m : BlockModel) (tape : List (List ℕ)) (proper : Proper m tape) wher
     h′ = enters-everybody P U t s h
 
     units-placed : (v b : ℕ) → P (withNext (suc (t .next)) t) → Everybody P (takeUnits v b t s)
+    unfolding takeUnits
     units-placed v b next =
-        takeUnits-cases (Everybody P) v b t s (λ e. moveTo-everybody P U _ t _ next (checkWels-everybody P U v _ (inUse-everybody P U v _ _ h′)))
+        cond-cases (Everybody P) (leb b (free (serverAt (s .view) v))) _ _ (λ e. moveTo-everybody P U _ t _ next (checkWels-everybody P U v _ (inUse-everybody P U v _ _ h′)))
         (λ e. waitQl-everybody P U v t s p h)
 
     effect-placed : (b : Block) → ProperBlock m b → (facts b .leaves ≡ false → P (withNext (suc (t .next)) t)) → Everybody P (effect m b t s)
@@ -92,7 +93,7 @@ module _ (m : BlockModel) (tape : List (List ℕ)) (proper : Proper m tape) wher
     effect-placed (leave v b) ok on =
         moveTo-everybody P U _ t _ (on refl) (checkWels-everybody P U v _ (wakeQl-everybody P U _ v _ (inUse-everybody P U v _ _ h′)))
     effect-placed (waitServer code v) ok on =
-        waitServer-cases (Everybody P) m code v t s (λ e. waitWel-everybody P U v code t s p h)
+        cond-cases (Everybody P) (status code (serverAt (s .view) v)) _ _ (λ e. waitWel-everybody P U v code t s p h)
         (λ e. moveTo-everybody P U _ t _ (on refl) (wakeFirstWel-everybody P U v code _ h′))
     effect-placed (waitTerms a r b) ok on =
         waitTerms-cases (Everybody P) m a r b t s (λ e. waitWsl-everybody P U t s p h) (λ e. moveTo-everybody P U _ t _ (on refl) h′)

@@ -9,13 +9,14 @@ use lib.ListN.{length}
 use Rattle.machine.specs.Transaction.{Transaction, precedes}
 use Rattle.machine.specs.Lists.{insert}
 use Rattle.machine.specs.Term.{serverAt, free}
-use Rattle.machine.specs.Block.{Code, Block, generate, advance, terminate, seize, release, enter, leave, waitServer, waitTerms, branch, goto, assign, priority, split, arrive, depart, facts, BlockModel}
+use Rattle.machine.specs.Block.{Code, Block, generate, advance, terminate, seize, release, enter, leave, waitServer, waitTerms, branch, goto, assign, priority, split, arrive, depart, facts, BlockModel, status}
 use Rattle.machine.specs.State.{State}
 use Rattle.machine.specs.Setters.{withSerial, setSerial}
 use Rattle.machine.specs.Moves.{log, enters, moveTo, fresh, qlOf, welOf, welIndex, toQl, toWel, toWsl, mustWait, setInUse, setContent}
 use Rattle.machine.specs.Execute.{takeUnits, endsOne, effect}
 use Rattle.machine.proofs.Proper.{ProperBlock, servers}
-use Rattle.machine.proofs.Cases.{mustWait-cases, takeUnits-cases, waitServer-cases, waitTerms-cases}
+use Rattle.machine.proofs.RunLaws.{cond-cases}
+use Rattle.machine.proofs.Cases.{waitTerms-cases}
 use Rattle.machine.proofs.Shape.{Shape, ql-at, wel-at}
 use Rattle.machine.proofs.Balance.{code-server}
 use Rattle.machine.proofs.Waiting.{serverIn}
@@ -77,7 +78,8 @@ puts-wsl t s =
 step-wait : (b : Block) (put : Transaction → State → State) (t : Transaction) (s : State) → Puts t s (put t s)
     → Puts (withSerial (fresh s) t) (setSerial (fresh s) (log 1 t s)) (put (withSerial (fresh s) t) (setSerial (fresh s) (log 1 t s)))
     → Step b t s (mustWait put t s)
-step-wait b put t s old new = mustWait-cases (Step b t s) put t s (λ e. back e old) (λ e. begins e new)
+unfolding mustWait
+step-wait b put t s old new = cond-cases (Step b t s) (t .returning) _ _ (λ e. back e old) (λ e. begins e new)
 
 step-ql : (b : Block) (v : ℕ) (t : Transaction) (s : State) → v - 1 < length (s .ql) → Step b t s (mustWait (toQl v) t s)
 unfolding log
@@ -111,8 +113,9 @@ quiet-endsOne a s = record { records = refl; serials = omega arith; weights = λ
 
 step-takeUnits : (b : Block) (v n : ℕ) (t : Transaction) (s : State) → v - 1 < length (s .ql)
     → (leb n (free (serverAt (s .view) v)) ≡ true → GetsIn b s) → Step b t s (takeUnits v n t s)
+unfolding takeUnits
 step-takeUnits b v n t s h fit =
-    takeUnits-cases (Step b t s) v n t s
+    cond-cases (Step b t s) (leb n (free (serverAt (s .view) v))) _ _
     (λ e. passes (fit e) (quiet-moveTo _ t (quiet-trans (quiet-inUse v _ _) (quiet-checkWels v _)))) (λ e. step-ql b v t s h)
 
 -- ---- Each kind
@@ -132,7 +135,7 @@ step-effect m (leave v b) t s h k =
     (quiet-moveTo _ t (quiet-trans (quiet-inUse v _ _) (quiet-trans (quiet-wakeQl _ v _) (quiet-checkWels v _))))
 step-effect m (waitServer code v) t s h k =
     let n = code-server m code v h in
-    waitServer-cases (Step (waitServer code v) t s) m code v t s (λ e. step-wel _ v code t s (wel-at k v code (n .0) (n .1)))
+    cond-cases (Step (waitServer code v) t s) (status code (serverAt (s .view) v)) _ _ (λ e. step-wel _ v code t s (wel-at k v code (n .0) (n .1)))
     (λ e. passes (λ n. absurd (n refl)) (quiet-moveTo _ t (quiet-wakeFirstWel v code _)))
 step-effect m (waitTerms a r b) t s h k =
     waitTerms-cases (Step (waitTerms a r b) t s) m a r b t s (λ e. step-wsl _ t s)

@@ -70,21 +70,10 @@ module _ {A : Type 0} (f : A → ℕ) where
   sum-flat-set (x ∷ ls) (suc i) l h =
       omega (arith, sum-append x (flat (set ls i l)), sum-append x (flat ls), sum-flat-set ls i l (omega arith))
 
-  pub sum-flat-at : (ls : List (List A)) (i : ℕ) → sumOn f (getD ls i []) ≤ sumOn f (flat ls)
-  unfolding flat
-  sum-flat-at [] i = omega arith
-  sum-flat-at (x ∷ ls) zero = omega (arith, sum-append x (flat ls))
-  sum-flat-at (x ∷ ls) (suc i) = omega (arith, sum-append x (flat ls), sum-flat-at ls i)
-
   pub sum-flat-none : (n : ℕ) → sumOn f (flat (replicate n [])) ≡ 0
   unfolding flat
   sum-flat-none zero = refl
   sum-flat-none (suc n) = sum-flat-none n
-
-  pub sum-at : (l : List A) (i : ℕ) (d : A) → i < length l → f (getD l i d) ≤ sumOn f l
-  sum-at [] i d h = absurd (omega arith)
-  sum-at (x ∷ l) zero d h = omega arith
-  sum-at (x ∷ l) (suc i) d h = omega (arith, sum-at l i d (omega arith))
 
   pub sum-zero : ((x : A) → f x ≡ 0) → (l : List A) → sumOn f l ≡ 0
   sum-zero h [] = refl
@@ -103,10 +92,6 @@ module _ {A : Type 0} (f g : A → ℕ) where
   pub sum-le : ((x : A) → f x ≤ g x) → (l : List A) → sumOn f l ≤ sumOn g l
   sum-le h [] = omega arith
   sum-le h (x ∷ l) = omega (arith, h x, sum-le h l)
-
-  pub sum-add : (l : List A) → sumOn (λ x. f x + g x) l ≡ sumOn f l + sumOn g l
-  sum-add [] = refl
-  sum-add (x ∷ l) = omega (arith, sum-add l)
 
   -- weights that agree at each key that stands in the list
   pub sum-cong-keys : (key : A → ℕ) (l : List A) → ((x : A) → 0 < sumOn (λ y. bit (eqb (key y) (key x))) l → f x ≡ g x) → sumOn f l ≡ sumOn g l

@@ -13,11 +13,11 @@ use Rattle.machine.specs.Term.{serverAt, free}
 use Rattle.machine.specs.Block.{Code, U, NU, E, NE, F, NF, status, Block, generate, advance, terminate, seize, release, enter, leave, waitServer, waitTerms, branch, goto, assign, priority, split, arrive, depart, facts, BlockModel, blockAt}
 use Rattle.machine.specs.State.{State}
 use Rattle.machine.specs.Setters.{withSerial}
-use Rattle.machine.specs.Moves.{qlOf, welOf, welIndex, log, enters, moveTo, toRel, toFel, toQl, toWel, toWsl, wakeFirstQl, wakeQl, wakeFirstWel, setInUse, setContent, arrival, copies}
+use Rattle.machine.specs.Moves.{qlOf, welOf, welIndex, log, enters, moveTo, toRel, toFel, toQl, toWel, toWsl, mustWait, wakeFirstQl, wakeQl, wakeFirstWel, setInUse, setContent, arrival, copies}
 use Rattle.machine.specs.Execute.{fits, takeUnits, checkWels, endsOne, delay, effect, freeUnits}
 use Rattle.machine.proofs.Proper.{Proper, ProperBlock, CodeServer, Names, servers}
 use Rattle.machine.proofs.RunLaws.{cond-cases}
-use Rattle.machine.proofs.Cases.{checkWels-kept, mustWait-cases, takeUnits-cases, waitServer-cases, waitTerms-cases}
+use Rattle.machine.proofs.Cases.{checkWels-kept, waitTerms-cases}
 use Rattle.machine.proofs.Shape.{Shape, server-length, facility-capacity}
 use Rattle.machine.proofs.Waiting.{serverOf, unitsOf, AtServer, AtWel, welOfBlock, serverIn, Queued, Gated, WaitsOver}
 use Rattle.machine.proofs.Ready.{grows-not, grows-insert, grows-wake, queued-more, waits-more, ql-else, wel-else}
@@ -117,15 +117,15 @@ module _ {m : BlockModel} {tape : List (List ℕ)} (proper : Proper m tape) (t :
 
     -- 4 SEIZE and 6 ENTER
     takeUnits-walked : (b : ℕ) → AtServer m v t → unitsOf m t ≡ b → welOfBlock (blockAt m (t .next)) ≡ 0 → Walked m (takeUnits v b t s)
-    unfolding enters log moveTo setInUse serverAt toQl
+    unfolding takeUnits mustWait enters log moveTo setInUse serverAt toQl
     takeUnits-walked b at units off =
-        takeUnits-cases (Walked m) v b t s
+        cond-cases (Walked m) (leb b (free (serverAt (s .view) v))) _ _
         (λ fit.
         checks-walked m v _ one known
         (taken-queued (w .queued) v one in-servers in-ql b proper known (λ f. facility-capacity shape v one f) at units)
         opened (others-wait (w .gated) v _ (s .rel) one off (grows-not (s .rel))) going)
         (λ full.
-        mustWait-cases (Walked m) (toQl v) t s (λ e. waiting full t at units) (λ e. waiting full (withSerial (suc (s .serial)) t) at units))
+        cond-cases (Walked m) (t .returning) _ _ (λ e. waiting full t at units) (λ e. waiting full (withSerial (suc (s .serial)) t) at units))
       where
         waiting : leb b (free (serverAt (s .view) v)) ≡ false → (t′ : Transaction) → AtServer m v t′ → unitsOf m t′ ≡ b
             → Walked m (toQl v t′ s)
@@ -162,11 +162,11 @@ module _ {m : BlockModel} {tape : List (List ℕ)} (proper : Proper m tape) (t :
 
     -- 8 WAITIF of a code
     waitServer-walked : (code : Code) → AtWel m (welIndex v code) t → serverOf m t ≡ 0 → Walked m (effect m (waitServer code v) t s)
-    unfolding enters log moveTo serverAt toWel wakeFirstWel
+    unfolding effect mustWait enters log moveTo serverAt toWel wakeFirstWel
     waitServer-walked code at off =
-        waitServer-cases (Walked m) m code v t s
+        cond-cases (Walked m) (status code (serverAt (s .view) v)) _ _
         (λ holds.
-        mustWait-cases (Walked m) (toWel v code) t s
+        cond-cases (Walked m) (t .returning) _ _
         (λ e. waiting holds t at) (λ e. waiting holds (withSerial (suc (s .serial)) t) at))
         (λ passes.
         let g = grows-wake (take 1 (welOf s v code)) (s .rel) in (
@@ -181,7 +181,7 @@ module _ {m : BlockModel} {tape : List (List ℕ)} (proper : Proper m tape) (t :
         waiting holds t′ at′ = (record { queued = queued-else off; gated = waits-gated (w .gated) v code t′ one at at′ holds }, going)
 
   pub effect-walked : (b : Block) → blockAt m (t .next) ≡ b → ProperBlock m b → Walked m (effect m b t s)
-  unfolding effect facts welOfBlock enters log moveTo setContent toWsl
+  unfolding effect mustWait facts welOfBlock enters log moveTo setContent toWsl
   effect-walked (generate list p) e k = arrival-walked m _ list p _ (enters t s) (quiet (generate list p) e refl refl)
   effect-walked (advance list) e k = delay-walked m _ list t (enters t s) (quiet (advance list) e refl refl)
   effect-walked (terminate a) e k = endsOne-walked m a (enters t s) (quiet (terminate a) e refl refl)
@@ -196,7 +196,7 @@ module _ {m : BlockModel} {tape : List (List ℕ)} (proper : Proper m tape) (t :
       waitServer-walked v one known code (ap welOfBlock e) (ap (λ b. facts b .server) e)
   effect-walked (waitTerms a r b) e k =
       let q = quiet (waitTerms a r b) e refl refl in
-      waitTerms-cases (Walked m) m a r b t s (λ c. mustWait-cases (Walked m) toWsl t s (λ c. q) (λ c. q)) (λ c. q)
+      waitTerms-cases (Walked m) m a r b t s (λ c. cond-cases (Walked m) (t .returning) _ _ (λ c. q) (λ c. q)) (λ c. q)
   effect-walked (branch a r b target) e k = quiet (branch a r b target) e refl refl
   effect-walked (goto target) e k = quiet (goto target) e refl refl
   effect-walked (assign i a) e k = quiet (assign i a) e refl refl

@@ -1,11 +1,9 @@
 -- A clock move: `arrive` takes those of the first time from the FEL to REL, as the machine's `arriveAll` does.
 use Prim.Native.Nat.{ℕ, zero, suc, _+_, _*_, _/_, _≤_, _<_}
 use mathlib.Core.Path.{_≡_, refl, sym, ap, _∙_, subst}
-use mathlib.Core.Logic.{_≢_}
 use mathlib.Core.Bool.{Bool, true, false, cond}
-use mathlib.Core.List.{List, [], _∷_, _++_, map}
+use mathlib.Core.List.{List, [], _∷_, map}
 use native.Mathlib.Omega.{arith}
-use native.Mathlib.Numerals.{add-one}
 use borrow.Author.Tests.{lt-ltb, le-ltb, eqb-true}
 use lib.Dec.{eqb}
 use lib.ListN.{length, drop}
@@ -13,25 +11,25 @@ use Rattle.machine.specs.Transaction.{Transaction, Event, precedes, earlier}
 use Rattle.machine.specs.Setters.{withSerial, withReturning}
 use Rattle.machine.specs.Lists.{insert, those, others}
 use Rattle.machine.specs.Turn.{due}
-use Rattle.rows.specs.Layout.{place, head, rel, fel, nowhere}
+use Rattle.rows.specs.Layout.{place, head, rel, fel}
 use Rattle.rows.specs.Cells.{load, read, write, setReturning}
 use Rattle.rows.specs.Order.{ahead}
 use Rattle.rows.specs.Lists.{put, first, takeFirst}
 use Rattle.rows.specs.Clock.{isDue, arriveRow, arriveFirst, Arrived, arrived, arrive, arrivals}
-use Rattle.rows.specs.Holds.{transactionAt, eventAt, before, occurs, Chain, Sorted, Listed, Holds, update}
+use Rattle.rows.specs.Holds.{transactionAt, eventAt, before, Chain, Sorted, update}
 use Rattle.rows.specs.Shows.{Shown, Shows, Loose}
 use Rattle.rows.proofs.Occurs.{same-refl, occurs-cons}
 use Rattle.rows.proofs.Structure.{row-of}
 use Rattle.rows.proofs.Spot.{short}
 use Rattle.rows.proofs.Data.{same-row, transaction-kept}
 use Rattle.rows.proofs.Holding.{Kept}
-use Rattle.rows.proofs.Showing.{shown-ext, update-same, update-other}
+use Rattle.rows.proofs.Showing.{shown-ext}
 use Rattle.rows.proofs.Put.{put-shown, put-keeps, put-placed}
-use Rattle.rows.proofs.Take.{First, none, some, first-of, take-keeps, take-loose, take-fel-shown}
+use Rattle.rows.proofs.Take.{take-keeps, take-loose, take-fel-shown}
 use Rattle.rows.proofs.Write.{write-shown, write-loose}
 use Rattle.rows.proofs.Fields.{set-returning, write-serial}
-use Rattle.rows.proofs.Steady.{Steady, Around, steady-refl, steady-trans, around-trans, kept-around, write-around, around-steady}
-use Rattle.rows.proofs.Steps.{arrive-stop, arrive-next}
+use Rattle.rows.proofs.Steady.{Steady, steady-refl, steady-trans, around-trans, kept-around, write-around, around-steady}
+use Rattle.rows.proofs.Steps.{arrive-stop}
 use Rattle.rows.proofs.Arrivals.{run, left, run-is, left-is}
 
 -- ---- One row
@@ -82,23 +80,6 @@ module _ (w : List ℕ) (L : ℕ → List ℕ) (T : ℕ → List Transaction) (E
       ∙ ap (withSerial serial) (set-returning w₁ k (s₁ .holds .room) hk 0 (omega arith))
       ∙ ap (λ (t : Transaction). withSerial serial (withReturning false t)) (transaction-kept w w₁ k (same-row w w₁ k hk (kept₁ .rows)))
 
-  arrives : arriveFirst w serial ≡ put w₃ rel k
-  unfolding arriveFirst arriveRow
-  arrives = rw (lt-ltb (first w fel) 1024 hk)
-
-  placed : load w (place k) ≡ fel
-  placed =
-      row-of w fel [] (k ∷ m) (rw was at (s .holds .listed fel hl)) k (omega (arith, occurs-cons k k m, same-refl k k refl)) .1
-
-  pub arrive-steady : Steady w (arriveFirst w serial)
-  arrive-steady =
-      rw arrives
-      (around-steady w (put w₃ rel k) k hk (omega (arith, placed)) (omega (arith, put-placed w₃ L₁ (s₃ .holds) rel k (omega arith) loose₃))
-      (around-trans w w₁ (put w₃ rel k) k (kept-around w w₁ k kept₁)
-      (around-trans w₁ w₂ (put w₃ rel k) k (write-around w₁ 1 k (read w₁ 1 k / 2 * 2 + 0) (omega arith) hk)
-      (around-trans w₂ w₃ (put w₃ rel k) k (write-around w₂ 7 k serial (omega arith) hk)
-      (kept-around w₃ (put w₃ rel k) k (put-keeps w₃ L₁ (s₃ .holds) rel k (omega arith) loose₃))))))
-
   abbrev pub arrived-rows : ℕ → List ℕ
   arrived-rows = update rel (insert (ahead w₃ rel) k (L₁ rel)) L₁
 
@@ -106,10 +87,24 @@ module _ (w : List ℕ) (L : ℕ → List ℕ) (T : ℕ → List Transaction) (E
   arrived-fel = refl
 
   pub arrive-shown : Shown (arriveFirst w serial) arrived-rows (update rel (insert precedes (withSerial serial (withReturning false (transactionAt w k))) (T rel)) T) (drop 1 E)
+  unfolding arriveFirst arriveRow
   arrive-shown =
-      subst (λ (v : List ℕ). Shown v arrived-rows (update rel (insert precedes (withSerial serial (withReturning false (transactionAt w k))) (T rel)) T) (drop 1 E))
-      (sym arrives)
+      rw (lt-ltb (first w fel) 1024 hk)
       (subst (λ (t : Transaction). Shown (put w₃ rel k) arrived-rows (update rel (insert precedes t (T rel)) T) (drop 1 E)) fresh (put-shown w₃ L₁ T (drop 1 E) s₃ k loose₃ rel (omega arith)))
+
+  placed : load w (place k) ≡ fel
+  placed =
+      row-of w fel [] (k ∷ m) (rw was at (s .holds .listed fel hl)) k (omega (arith, occurs-cons k k m, same-refl k k refl)) .1
+
+  pub arrive-steady : Steady w (arriveFirst w serial)
+  unfolding arriveFirst arriveRow
+  arrive-steady =
+      rw (lt-ltb (first w fel) 1024 hk)
+      (around-steady w (put w₃ rel k) k hk (omega (arith, placed)) (omega (arith, put-placed w₃ L₁ (s₃ .holds) rel k (omega arith) loose₃))
+      (around-trans w w₁ (put w₃ rel k) k (kept-around w w₁ k kept₁)
+      (around-trans w₁ w₂ (put w₃ rel k) k (write-around w₁ 1 k (read w₁ 1 k / 2 * 2 + 0) (omega arith) hk)
+      (around-trans w₂ w₃ (put w₃ rel k) k (write-around w₂ 7 k serial (omega arith) hk)
+      (kept-around w₃ (put w₃ rel k) k (put-keeps w₃ L₁ (s₃ .holds) rel k (omega arith) loose₃))))))
 
 -- ---- All of a time
 
@@ -150,13 +145,13 @@ module _ (time : ℕ) where
         steady = steady-refl w;
       })
 
-  due-none : (w : List ℕ) → 1024 ≤ first w fel → isDue w time ≡ false
-  unfolding isDue
-  due-none w h = rw (le-ltb (first w fel) 1024 h)
-
   due-some : (w : List ℕ) → first w fel < 1024 → isDue w time ≡ due time (eventAt w (first w fel))
   unfolding isDue due eventAt
   due-some w h = rw (lt-ltb (first w fel) 1024 h)
+
+  due-none : (w : List ℕ) → 1024 ≤ first w fel → isDue w time ≡ false
+  unfolding isDue
+  due-none w h = rw (le-ltb (first w fel) 1024 h)
 
   arrive-suc : (n : ℕ) (w : List ℕ) (s : ℕ) → isDue w time ≡ true → arrive (suc n) time w s ≡ arrive n time (arriveFirst w (suc s)) (suc s)
   unfolding arrive

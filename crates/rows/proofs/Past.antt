@@ -1,12 +1,12 @@
 -- No operation touches a number past the 16,384th, whatever the buffer holds.
 use Prim.Native.Nat.{ℕ, zero, suc}
-use mathlib.Core.Path.{_≡_, refl, sym, ap, _∙_}
+use mathlib.Core.Path.{_≡_, refl, _∙_}
 use mathlib.Core.Bool.{Bool, true, false, cond}
 use mathlib.Core.List.{List}
 use lib.Dec.{ltb}
 use lib.ListN.{drop}
-use Rattle.rows.specs.Layout.{place, link, head, tail, rel, fel, free, nowhere, fieldAt, standingField, serialField}
-use Rattle.rows.specs.Cells.{load, store, read, write, setReturning}
+use Rattle.rows.specs.Layout.{place, link, head, tail, fel, free, nowhere, fieldAt}
+use Rattle.rows.specs.Cells.{load, store, read, write}
 use Rattle.rows.specs.Lists.{endAt, insertAt, removeRow, removeAt, spot, put, first, takeFirst}
 use Rattle.rows.specs.Wake.{wakeRow, wakeAt, passRows, passCell, wakeAll}
 use Rattle.rows.specs.Clock.{isDue, arriveRow, arriveFirst, arrived, arrive}
@@ -66,9 +66,7 @@ past-wakeAt w p c = past-cond (ltb (load w c) 1024) w (wakeRow w p c (load w c))
   where
     row : (k : ℕ) → past (wakeRow w p c k) ≡ past w
     row k =
-        past-put (setReturning (removeAt w p c) k 1) rel k
-        ∙ past-write (removeAt w p c) standingField k (_)
-        ∙ past-removeAt w p c
+        past-put _ _ k ∙ past-store _ _ _ ∙ past-removeAt w p c
 
 pub past-wakeAll : (test : List ℕ → ℕ → Bool) (n : ℕ) (w : List ℕ) (p c : ℕ) → past (wakeAll test n w p c) ≡ past w
 unfolding wakeAll passRows
@@ -86,10 +84,7 @@ past-arriveFirst w s = past-cond (ltb (first w fel) 1024) w (arriveRow w s (firs
   where
     row : (k : ℕ) → past (arriveRow w s k) ≡ past w
     row k =
-        past-put (write (setReturning (takeFirst w fel) k 0) serialField k s) rel k
-        ∙ past-write (setReturning (takeFirst w fel) k 0) serialField k s
-        ∙ past-write (takeFirst w fel) standingField k (_)
-        ∙ past-takeFirst w fel
+        past-put _ _ k ∙ past-store _ _ _ ∙ past-store _ _ _ ∙ past-takeFirst w fel
 
 pub past-arrive : (n time : ℕ) (w : List ℕ) (s : ℕ) → past (arrive n time w s .rows) ≡ past w
 unfolding arrive arrived
@@ -141,7 +136,7 @@ past-loosen (suc n) w = past-store (looseRows n w) (place n) nowhere ∙ past-lo
 past-free : (n : ℕ) (w : List ℕ) → past (freeRows n w) ≡ past w
 unfolding freeRows
 past-free zero w = refl
-past-free (suc n) w = past-freeRow (freeRows n w) n ∙ past-free n w
+past-free (suc n) w = past-freeRow _ _ ∙ past-free n w
 
 pub past-initial : (w : List ℕ) → past (initial w) ≡ past w
 unfolding initial

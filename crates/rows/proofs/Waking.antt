@@ -1,22 +1,21 @@
 -- Waking is the machine's `wake`: the row of a cell goes to REL with its serial and the returning mark.
-use Prim.Native.Nat.{ℕ, zero, suc, _+_, _*_, _/_, _≤_, _<_}
-use mathlib.Core.Path.{_≡_, refl, sym, ap, _∙_, subst}
+use Prim.Native.Nat.{ℕ, _+_, _*_, _/_, _≤_, _<_}
+use mathlib.Core.Path.{_≡_, refl, ap, _∙_, subst}
 use mathlib.Core.Logic.{_≢_}
-use mathlib.Core.Bool.{Bool, true, false, cond}
-use mathlib.Core.List.{List, [], _∷_, _++_, map, map-append}
+use mathlib.Core.Bool.{true}
+use mathlib.Core.List.{List, _∷_, _++_, map}
 use native.Mathlib.Omega.{arith}
-use borrow.Author.Tests.{lt-ltb, le-ltb}
-use lib.ListN.{length, take, drop}
+use borrow.Author.Tests.{lt-ltb}
 use Rattle.machine.specs.Transaction.{Transaction, Event, precedes}
 use Rattle.machine.specs.Setters.{withReturning}
 use Rattle.machine.specs.Lists.{insert}
 use Rattle.machine.specs.Moves.{wake}
-use Rattle.rows.specs.Layout.{place, head, rel, nowhere}
-use Rattle.rows.specs.Cells.{load, read, write, setReturning}
+use Rattle.rows.specs.Layout.{place, head, rel}
+use Rattle.rows.specs.Cells.{load, read, setReturning}
 use Rattle.rows.specs.Order.{ahead}
-use Rattle.rows.specs.Lists.{removeAt, put, first}
-use Rattle.rows.specs.Wake.{wakeRow, wakeAt, wakeFirst}
-use Rattle.rows.specs.Holds.{transactionAt, same, occurs, ending, Listed, Holds, update}
+use Rattle.rows.specs.Lists.{removeAt, put}
+use Rattle.rows.specs.Wake.{wakeRow, wakeAt}
+use Rattle.rows.specs.Holds.{transactionAt, same, occurs, ending, Listed, update}
 use Rattle.rows.specs.Shows.{Shown, Loose, moved}
 use Rattle.rows.proofs.Occurs.{same-refl, occurs-append, occurs-cons}
 use Rattle.rows.proofs.Structure.{row-of, at-most-once}
@@ -24,10 +23,9 @@ use Rattle.rows.proofs.Data.{same-row, transaction-kept, map-kept}
 use Rattle.rows.proofs.Holding.{Kept, remove-first, remove-holds, remove-keeps, remove-placed}
 use Rattle.rows.proofs.Showing.{shown-list, shown-ext, update-same, update-other}
 use Rattle.rows.proofs.Put.{put-shown, put-keeps, put-placed}
-use Rattle.rows.proofs.Take.{First, none, some, first-of}
 use Rattle.rows.proofs.Write.{write-shown, write-loose}
 use Rattle.rows.proofs.Fields.{set-returning}
-use Rattle.rows.proofs.Steady.{Steady, Around, steady-refl, around-trans, kept-around, write-around, around-steady}
+use Rattle.rows.proofs.Steady.{Steady, Around, around-trans, kept-around, write-around, around-steady}
 
 module _ (w : List ℕ) (L : ℕ → List ℕ) (T : ℕ → List Transaction) (E : List Event) (s : Shown w L T E) (p : ℕ) (hp : p < 449) (k : ℕ) (a b : List ℕ) (was : L p ≡ a ++ k ∷ b) where
   abbrev cell : ℕ
@@ -78,27 +76,10 @@ module _ (w : List ℕ) (L : ℕ → List ℕ) (T : ℕ → List Transaction) (E
       set-returning w₁ k (s₁ .holds .room) (woken-row .0) 1 (omega arith)
       ∙ ap (withReturning true) (transaction-kept w w₁ k (same-row w w₁ k (woken-row .0) (kept₁ .rows)))
 
+  at-cell : load w cell ≡ k
+  at-cell = remove-first w L (s .holds) p k a b hl (woken-row .0) was
+
   -- it comes onto REL
-  wakes : wakeAt w p cell ≡ put w₂ rel k
-  unfolding wakeAt wakeRow
-  wakes =
-      rw (remove-first w L (s .holds) p k a b hl (woken-row .0) was, lt-ltb k 1024 (woken-row .0))
-
-  pub wake-around : Around w (wakeAt w p cell) k
-  wake-around =
-      rw wakes
-      (around-trans w w₁ (put w₂ rel k) k (kept-around w w₁ k kept₁)
-      (around-trans w₁ w₂ (put w₂ rel k) k (write-around w₁ 1 k (read w₁ 1 k / 2 * 2 + 1) (omega arith) (woken-row .0))
-      (kept-around w₂ (put w₂ rel k) k (put-keeps w₂ L₁ (s₂ .holds) rel k (omega arith) loose₂))))
-
-  on-rel : load (wakeAt w p cell) (place k) ≡ rel
-  on-rel = rw wakes (put-placed w₂ L₁ (s₂ .holds) rel k (omega arith) loose₂)
-
-  pub wake-steady : Steady w (wakeAt w p cell)
-  wake-steady =
-      around-steady w (wakeAt w p cell) k (woken-row .0) (omega (arith, woken-row .1)) (omega (arith, on-rel)) wake-around
-
-  -- the rows then
   abbrev pub woken : ℕ → List ℕ
   woken = update rel (insert (ahead w₂ rel) k (L₁ rel)) L₁
 
@@ -107,11 +88,28 @@ module _ (w : List ℕ) (L : ℕ → List ℕ) (T : ℕ → List Transaction) (E
       update-other rel (insert (ahead w₂ rel) k (L₁ rel)) L₁ p (λ e. omega arith) ∙ update-same p (a ++ b) L p refl
 
   pub wake-shown : Shown (wakeAt w p cell) woken (moved p (map (transactionAt w) (a ++ b)) (insert precedes (withReturning true (transactionAt w k)) (T rel)) T) E
+  unfolding wakeAt wakeRow
   wake-shown =
-      rw wakes
+      rw (at-cell, lt-ltb k 1024 (woken-row .0))
       (shown-ext (put w₂ rel k) woken (update rel (insert precedes (transactionAt w₂ k) (T₁ rel)) T₁) (moved p (map (transactionAt w) (a ++ b)) (insert precedes (withReturning true (transactionAt w k)) (T rel)) T) E
       (λ q hq. rw (marked, update-other p (map (transactionAt w) (a ++ b)) T rel (λ e. omega arith)))
       (put-shown w₂ L₁ T₁ E s₂ k loose₂ rel (omega arith)))
+
+  pub wake-around : Around w (wakeAt w p cell) k
+  unfolding wakeAt wakeRow
+  wake-around =
+      rw (at-cell, lt-ltb k 1024 (woken-row .0))
+      (around-trans w w₁ (put w₂ rel k) k (kept-around w w₁ k kept₁)
+      (around-trans w₁ w₂ (put w₂ rel k) k (write-around w₁ 1 k (read w₁ 1 k / 2 * 2 + 1) (omega arith) (woken-row .0))
+      (kept-around w₂ (put w₂ rel k) k (put-keeps w₂ L₁ (s₂ .holds) rel k (omega arith) loose₂))))
+
+  on-rel : load (wakeAt w p cell) (place k) ≡ rel
+  unfolding wakeAt wakeRow
+  on-rel = rw (at-cell, lt-ltb k 1024 (woken-row .0)) (put-placed w₂ L₁ (s₂ .holds) rel k (omega arith) loose₂)
+
+  pub wake-steady : Steady w (wakeAt w p cell)
+  wake-steady =
+      around-steady w (wakeAt w p cell) k (woken-row .0) (omega (arith, woken-row .1)) (omega (arith, on-rel)) wake-around
 
   -- the other rows of its list are the same transactions
   pub wake-others : (j : ℕ) → 1 ≤ occurs j (a ++ b) → (j < 1024) × (j ≢ k)

@@ -1,11 +1,10 @@
 -- Waking the first of a list, and all of a list that pass a test: the machine's `wake` of `take 1` and of `those`.
 use Prim.Native.Nat.{ℕ, zero, suc, _+_, _≤_, _<_}
 use mathlib.Core.Path.{_≡_, refl, sym, ap, _∙_, subst}
-use mathlib.Core.Logic.{_≢_}
 use mathlib.Core.Bool.{Bool, true, false, cond, not}
-use mathlib.Core.List.{List, [], _∷_, _++_, map, map-append, append-assoc, append-nil}
+use mathlib.Core.List.{List, [], _∷_, _++_, map, map-append, append-assoc}
 use native.Mathlib.Omega.{arith}
-use borrow.Author.Tests.{lt-ltb, le-ltb, eqb-true, eqb-false}
+use borrow.Author.Tests.{lt-ltb, le-ltb, eqb-true}
 use lib.Dec.{eqb}
 use lib.ListN.{length, take, drop}
 use Rattle.machine.specs.Transaction.{Transaction, Event, precedes}
@@ -13,10 +12,9 @@ use Rattle.machine.specs.Setters.{withReturning}
 use Rattle.machine.specs.Lists.{insert, those, others}
 use Rattle.machine.specs.Moves.{wake}
 use Rattle.rows.specs.Layout.{link, head, rel}
-use Rattle.rows.specs.Cells.{load}
 use Rattle.rows.specs.Lists.{first}
 use Rattle.rows.specs.Wake.{wakeAt, wakeFirst, after, passRows, passCell, wakeAll}
-use Rattle.rows.specs.Holds.{transactionAt, occurs, Chain, ending, Listed}
+use Rattle.rows.specs.Holds.{transactionAt, Chain, ending, Listed}
 use Rattle.rows.specs.Shows.{Shown, Shows, moved}
 use Rattle.rows.proofs.Occurs.{occurs-append}
 use Rattle.rows.proofs.Chain.{chain-after, ending-append}
@@ -96,11 +94,6 @@ module _ (test : List ℕ → ℕ → Bool) (P : Transaction → Bool) (agree : 
   Result w w′ a b T =
       Wakes w w′ (moved p (map (transactionAt w) a ++ others P (map (transactionAt w) b)) (wake (those P (map (transactionAt w) b)) (T rel)) T) E
 
-  passed : (n : ℕ) (w : List ℕ) (c k : ℕ) → load w c ≡ k → k < 1024 → wakeAll test (suc n) w p c ≡ wakeAll test n (cond (P (transactionAt w k)) (wakeAt w p c) w) p (cond (P (transactionAt w k)) c (link k))
-  unfolding passRows passCell after
-  passed n w c k e h =
-      wakeAll-next test w p c (suc n) n refl (omega arith) ∙ rw (e, agree w k, lt-ltb k 1024 h)
-
   -- nobody is left
   all-done : (n : ℕ) (w : List ℕ) (L : ℕ → List ℕ) (T : ℕ → List Transaction) (s : Shown w L T E) (a : List ℕ) → L p ≡ a ++ [] → Result w (wakeAll test n w p (ending (head p) a)) a [] T
   unfolding Chain wake those
@@ -152,11 +145,11 @@ module _ (test : List ℕ → ℕ → Bool) (P : Transaction → Bool) (agree : 
         }
 
     one-more : Result (wakeAt w p cell) (wakeAll test n (wakeAt w p cell) p cell) a b T₁ → Result w (wakeAll test n w p (link k)) (a ++ k ∷ []) b T → Result w (wakeAll test (suc n) w p cell) a (k ∷ b) T
-    unfolding Chain those
+    unfolding Chain those passRows passCell after
     one-more yes-rest no-rest =
         let one : Listed w p (a ++ k ∷ b) = rw was at (s .holds .listed p (omega arith)) in
         let c : Chain w cell (k ∷ b) = chain-after w (head p) a (k ∷ b) (one .chain) in
-        rw (passed n w cell k (c .0) (c .1)) (go (P (transactionAt w k)))
+        rw (wakeAll-next test w p cell (suc n) n refl (omega (arith, c .0, c .1)), c .0, agree w k, lt-ltb k 1024 (c .1)) (go (P (transactionAt w k)))
       where
         go : (t : Bool) → Goal t
         go true = goes yes-rest

@@ -46,10 +46,10 @@ pub fn after(w: &[u32], c: u32) -> u32
     ensures { λ r. ⌜ r ≡ after (now (w .entry)) c ⌝ }
 {
     let k = load(w, c);
-    if k >= 1024 {
-        return c;
+    if k < 1024 {
+        return 14336 + k;
     }
-    14336 + k
+    c
 }
 
 // One step along list p: the row of cell c goes to REL and the cell stays, or the row stays and the next cell follows. A loop

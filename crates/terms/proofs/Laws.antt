@@ -20,7 +20,7 @@ use Rattle.terms.proofs.Terms.{and-left, and-right, related-by, term-fo
 use Rattle.terms.proofs.Values.{Values, all-found}
 
 -- a term with no bracket is two numbers
-two-numbers : (t : Term) → T (nestedTerm 0 t) → length (termNumbers t) ≡ 2
+pub two-numbers : (t : Term) → T (nestedTerm 0 t) → length (termNumbers t) ≡ 2
 unfolding nestedTerm termNumbers
 two-numbers (constant n) h = refl
 two-numbers (minusConstant n) h = refl

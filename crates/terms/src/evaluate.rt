@@ -2,13 +2,13 @@
 use crate::Parameters;
 use crate::Worth;
 use crate::relations::related;
-use crate::simple::number;
 use crate::simple::simple_term;
 use crate::wrapping::add;
 use crate::wrapping::subtract;
 use machine::Model;
 use tables::VALUE_WIDTH;
 use tables::VALUES;
+use tables::number;
 ghost use mathlib.Core.Path.{_≡_};
 ghost use Prim.Native.Nat.{_≤_};
 ghost use lib.ListN.{length};

@@ -6,10 +6,11 @@ use tables::CAPACITIES;
 use tables::CONTENT;
 use tables::ENTRIES;
 use tables::IN_USE;
+use tables::count;
+use tables::number;
 ghost use mathlib.Core.Path.{_≡_};
 ghost use Prim.Native.Nat.{_≤_};
 ghost use lib.Dec.{ltb};
-ghost use lib.ListN.{getD};
 ghost use lib.IntN.{negℤ};
 ghost use Rattle.machine.specs.Term.{oneIf};
 ghost use Rattle.tables.specs.Layout as Layout;
@@ -17,20 +18,6 @@ ghost use Rattle.terms.specs.Evaluation as Evaluation;
 ghost use Rattle.terms.specs.Evaluation.{within, parameterBits, servers, freeUnits, simpleTerm};
 
 const SERVERS: usize = Model::MAX_FACILITIES + Model::MAX_STORAGES;
-
-// The number at an index of the tables; 0 past their end.
-pub fn number(tables: &[u32], at: usize) -> u32
-    ensures { λ r. ⌜ r ≡ getD (now (tables .entry)) at 0 ⌝ }
-{
-    if at < tables.len() { tables[at] } else { 0 }
-}
-
-// The number at an index of the tally; 0 past its end.
-fn count(tally: &[u64], at: usize) -> u64
-    ensures { λ r. ⌜ r ≡ getD (now (tally .entry)) at 0 ⌝ }
-{
-    if at < tally.len() { tally[at] } else { 0 }
-}
 
 // Number n of a part of the tally that begins at `begin` and has `size` of them; 0 if there is none.
 fn tallied(tally: &[u64], begin: usize, size: usize, n: u32) -> u64

@@ -15,7 +15,8 @@ use Rattle.machine.specs.Number.{numberBytes}
 use Rattle.machine.specs.Trace.{Record, recordBytes, traceBytes, inRanges, written, rejected, writeRecord}
 use Rattle.codec.proofs.Fields.{both-true, between}
 use Rattle.codec.proofs.Numbers.{numberBytes-length, numberBytes-positive}
-use Rattle.codec.proofs.Stores.{sets-append}
+use Rattle.codec.specs.Writing.{put, written as at}
+use Rattle.codec.proofs.Writing.{put-behind, written-bytes}
 use Rattle.trace.specs.declared.Written.the-variants.{Bytes, Refused}
 use Rattle.trace.specs.Answers.{entry, after}
 
@@ -100,23 +101,26 @@ record-positive r =
 
 -- ---- Stored
 
-pub record-stored : (clock transaction block outcome p1 p2 p3 : ℕ) (l l1 l2 l3 l4 : List ℕ) →
-    p1 ≡ 0 + length (numberBytes clock) → l1 ≡ sets l 0 (numberBytes clock) →
-    p2 ≡ p1 + length (numberBytes transaction) → l2 ≡ sets l1 p1 (numberBytes transaction) →
-    p3 ≡ p2 + length (numberBytes block) → l3 ≡ sets l2 p2 (numberBytes block) →
-    l4 ≡ sets l3 p3 (numberBytes outcome) →
+-- four numbers put one after the other, where there is room for all
+pub record-stored : (clock transaction block outcome p1 p2 p3 p4 : ℕ) (l l1 l2 l3 l4 : List ℕ) →
+    length (recordBytes (entry clock transaction block outcome)) ≤ length l →
+    at p1 l1 ≡ put clock (at 0 l) →
+    at p2 l2 ≡ put transaction (at p1 l1) →
+    at p3 l3 ≡ put block (at p2 l2) →
+    at p4 l4 ≡ put outcome (at p3 l3) →
     l4 ≡ sets l 0 (recordBytes (entry clock transaction block outcome))
 unfolding recordBytes
-record-stored clock transaction block outcome p1 p2 p3 l l1 l2 l3 l4 e1 s1 e2 s2 e3 s3 s4 =
+record-stored clock transaction block outcome p1 p2 p3 p4 l l1 l2 l3 l4 room e1 e2 e3 e4 =
     let a = numberBytes clock in
     let b = numberBytes transaction in
     let c = numberBytes block in
-    let d = numberBytes outcome in
-    let two : l2 ≡ sets l 0 (a ++ b) = s2 ∙ rw (s1, e1) (sets-append a b l 0) in
-    let q2 : p2 ≡ 0 + length (a ++ b) = rw (e2, e1, length-append a b) (omega arith) in
-    let three : l3 ≡ sets l 0 (a ++ b ++ c) = s3 ∙ rw (two, q2) (sets-append (a ++ b) c l 0) in
-    let q3 : p3 ≡ 0 + length (a ++ b ++ c) = rw (e3, q2, length-append (a ++ b) c) (omega arith) in
-    s4 ∙ rw (three, q3) (sets-append (a ++ b ++ c) d l 0)
+    let ab = length-append a b in
+    let abc = length-append (a ++ b) c in
+    let abcd = length-append (a ++ b ++ c) (numberBytes outcome) in
+    let one = e1 ∙ put-behind [] l clock (omega arith) in
+    let two = e2 ∙ ap (put transaction) one ∙ put-behind a l transaction (omega arith) in
+    let three = e3 ∙ ap (put block) two ∙ put-behind (a ++ b) l block (omega arith) in
+    written-bytes _ _ _ _ (e4 ∙ ap (put outcome) three ∙ put-behind (a ++ b ++ c) l outcome room)
 
 -- ---- The answer and the rest afterwards
 

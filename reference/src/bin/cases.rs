@@ -10,8 +10,8 @@
 use reference::claims;
 use reference::coverage::Coverage;
 use reference::generate::random::Random;
-use reference::generate::{case, Case, Size};
-use reference::run;
+use reference::generate::{case, Size};
+use reference::line::{line, parse};
 use std::io::{BufWriter, Write};
 
 fn main() {
@@ -94,66 +94,4 @@ fn check() -> ! {
         first.join(" ")
     );
     std::process::exit(i32::from(!others.is_empty()));
-}
-
-/// The case of a line.
-fn parse(text: &str) -> Option<Case> {
-    let words: Vec<&str> = text.split(' ').collect();
-    Some(Case {
-        model: bytes(words.first()?)?,
-        tape: bytes(words.get(1)?)?,
-        budget: words.get(2)?.parse().ok()?,
-        work_len: words.get(3)?.parse().ok()?,
-        trace_len: words.get(4)?.parse().ok()?,
-        report_len: words.get(5)?.parse().ok()?,
-    })
-}
-
-fn bytes(hex: &str) -> Option<Vec<u8>> {
-    if hex == "-" {
-        return Some(Vec::new());
-    }
-    (0..hex.len())
-        .step_by(2)
-        .map(|at| u8::from_str_radix(hex.get(at..at + 2)?, 16).ok())
-        .collect()
-}
-
-/// The case and what its run must give.
-fn line(case: &Case) -> String {
-    let mut trace = vec![0; case.trace_len];
-    let mut report = vec![0; case.report_len];
-    let outcome = run(
-        &case.model,
-        &case.tape,
-        case.budget,
-        case.work_len,
-        &mut trace,
-        &mut report,
-    );
-    let mut words = vec![
-        hex(&case.model),
-        hex(&case.tape),
-        case.budget.to_string(),
-        case.work_len.to_string(),
-        case.trace_len.to_string(),
-        case.report_len.to_string(),
-    ];
-    words.extend(outcome.numbers().iter().map(u64::to_string));
-    words.push(hex(&trace[..outcome.trace_bytes as usize]));
-    words.push(hex(&report[..outcome.report_bytes as usize]));
-    words.join(" ")
-}
-
-fn hex(bytes: &[u8]) -> String {
-    if bytes.is_empty() {
-        return "-".to_string();
-    }
-    let digits = b"0123456789abcdef";
-    let mut text = String::with_capacity(bytes.len() * 2);
-    for byte in bytes {
-        text.push(digits[usize::from(byte >> 4)] as char);
-        text.push(digits[usize::from(byte & 15)] as char);
-    }
-    text
 }

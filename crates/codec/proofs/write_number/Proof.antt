@@ -1,112 +1,49 @@
--- `codec::write_number` meets its contract. The loop's invariant: with the groups that are left to store, the bytes are
--- those of the whole number; there are as many groups as `left`. The measure is `left`.
-use Prim.Native.Nat.{_≤_}
-use mathlib.Core.Path.{_≡_, refl, _∙_}
+-- `codec::write_number` meets its contract: with room the number is stored there, without room nothing is.
+use Prim.Native.Nat.{_+_}
+use mathlib.Core.Path.{sym, ap, ap₂, _∙_}
 use native.Mathlib.Omega.{arith}
 use borrow.Author.Needs.{needs}
-use lib.ListN.{length, length-set}
-use lib.Seq.{sets}
-use Rattle.machine.specs.Number.{upper}
-use Rattle.codec.proofs.Numbers.{numberBytes-positive}
-use Rattle.codec.proofs.Stores.{store-start, store-whole, store-fewer, store-step, store-done}
+use Rattle.codec.specs.Writing.{written}
+use Rattle.codec.proofs.Writing.{put-room, put-full}
 use Rattle.codec.proofs.write_number.Statement.{statement}
 use Rattle.codec.proofs.write_number.Tie as tie
 
-abbrev Inv-loop : tie.InvT-loop
-Inv-loop out₀ at v len left₀ above₀ out left above = (length out ≡ length out₀) × (left ≤ left₀) × (length (upper left above) ≡ left)
-    × (sets out at (upper left above) ≡ sets out₀ at (upper left₀ above₀))
-
-abbrev μ-loop : tie.MeasureT-loop
-μ-loop out₀ at v len left₀ above₀ out left above = left
-
-number-len-requires : tie.Need-number-len-requires Inv-loop μ-loop
+number-len-requires : tie.Need-number-len-requires
 number-len-requires c κs = search needs
 
-sub-left : tie.Need-sub-left Inv-loop μ-loop
-sub-left c = omega (arith, numberBytes-positive (c .before .before .args .v), c .number-len .ensures)
+returns : tie.Need-returns
+returns c = sym (put-full _ _ _ (omega (arith, c .before .number-len .ensures)))
 
-cast-out : tie.Need-cast-out Inv-loop μ-loop
-cast-out c = omega arith
+sub-if2 : tie.Need-sub-if2
+sub-if2 c = search needs
 
-add-out : tie.Need-add-out Inv-loop μ-loop
-add-out c = omega (arith, c .number-len .ensures, c .before .before .pre)
+returns-2 : tie.Need-returns-2
+returns-2 c = sym (put-full _ _ _ (omega (arith, c .before .before .number-len .ensures)))
 
-slice-write-out : tie.Need-slice-write-out Inv-loop μ-loop
-slice-write-out c = omega (arith, numberBytes-positive (c .before .before .args .v), c .number-len .ensures, c .before .before .pre)
+store-number-requires : tie.Need-store-number-requires
+store-number-requires c κs = search needs
 
-loop-holds : tie.Need-loop-holds Inv-loop μ-loop
-loop-holds c = (refl, omega arith, rw (c .number-len .ensures) (store-start _), refl)
+add-result : tie.Need-add-result
+add-result c = search needs
 
-sub-left-2 : tie.Need-sub-left-2 Inv-loop μ-loop
-sub-left-2 c = omega arith
+same-length : tie.Need-same-length
+same-length c = search needs
 
-add-out-2 : tie.Need-add-out-2 Inv-loop μ-loop
-add-out-2 c = omega arith
-
-cast-out-2 : tie.Need-cast-out-2 Inv-loop μ-loop
-cast-out-2 c = omega arith
-
-add-out-3 : tie.Need-add-out-3 Inv-loop μ-loop
-add-out-3 c = omega (
-  arith,
-  simp length-set at (c .before .loop .inv .0),
-  c .before .loop .inv .1,
-  numberBytes-positive (c .before .before .before .before .args .v),
-  c .before .before .number-len .ensures,
-  c .before .before .before .before .pre,
-)
-
-slice-write-out-2 : tie.Need-slice-write-out-2 Inv-loop μ-loop
-slice-write-out-2 c = omega (
-  arith,
-  simp length-set at (c .before .loop .inv .0),
-  c .before .loop .inv .1,
-  numberBytes-positive (c .before .before .before .before .args .v),
-  c .before .before .number-len .ensures,
-  c .before .before .before .before .pre,
-)
-
-loop-less : tie.Need-loop-less Inv-loop μ-loop
-loop-less c = omega arith
-
-loop-again : tie.Need-loop-again Inv-loop μ-loop
-loop-again c = let w = c .before .loop .inv in (
-  simp length-set (simp length-set at (w .0)),
-  omega arith,
-  store-fewer _ _ (c .loop-test .taken) (w .2),
-  store-step _ _ (c .loop-test .taken) (w .2) _ _ ∙ w .3,
-)
-
-add-result : tie.Need-add-result Inv-loop μ-loop
-add-result c = omega (arith, c .before .before .number-len .ensures, c .before .before .before .before .pre)
-
-same-length : tie.Need-same-length Inv-loop μ-loop
-same-length c = c .before .loop .inv .0 ∙ simp length-set
-
-returns : tie.Need-returns Inv-loop μ-loop
-returns c =
-    let e = c .before .before .number-len .ensures in
-    (rw e refl, store-done _ _ _ _ (c .loop-test .left) ∙ c .before .loop .inv .3 ∙ rw e (store-whole _ _ _))
+returns-3 : tie.Need-returns-3
+returns-3 c =
+    let len = c .before .before .before .before .before .before .number-len .ensures in
+    ap₂ written (ap (λ n. c .before .before .before .before .before .before .before .before .args .at + n) len) (c .before .before .store-number .ensures)
+    ∙ sym (put-room _ _ _ (omega (arith, len)))
 
 pub write-number-spec : {M : Type 1} → statement M
 write-number-spec =
     tie.close
     (tie.spec
-    Inv-loop
-    μ-loop
     number-len-requires
-    sub-left
-    cast-out
-    add-out
-    slice-write-out
-    loop-holds
-    sub-left-2
-    add-out-2
-    cast-out-2
-    add-out-3
-    slice-write-out-2
-    loop-less
-    loop-again
+    returns
+    sub-if2
+    returns-2
+    store-number-requires
     add-result
     same-length
-    returns)
+    returns-3)

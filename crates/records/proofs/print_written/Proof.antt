@@ -1,8 +1,8 @@
--- `records::print_written` is safe: a number takes at most nine bytes.
+-- `records::print_written` is safe: the position after the number lies within the nine bytes.
 use native.Mathlib.Omega.{arith}
 use mathlib.Core.Path.{sym}
 use lib.Seq.{length-take-le}
-use Rattle.codec.proofs.Numbers.{numberBytes-longest}
+use Rattle.codec.proofs.Writing.{put-inside}
 use borrow.Author.Needs.{needs}
 use Rattle.records.proofs.print_written.Statement.{statement}
 use Rattle.records.proofs.print_written.Tie as tie
@@ -14,13 +14,13 @@ slice-aggregate-write-number : tie.Need-slice-aggregate-write-number
 slice-aggregate-write-number c = search needs
 
 write-number-requires : tie.Need-write-number-requires
-write-number-requires c κs = omega (arith, numberBytes-longest (c .before .before .args .v))
+write-number-requires c κs = search needs
 
 array-share-prefix-bytes : tie.Need-array-share-prefix-bytes
-array-share-prefix-bytes c = omega (arith, numberBytes-longest (c .before .before .before .before .args .v), c .before .write-number .ensures .0, c .before .write-number .kept .0)
+array-share-prefix-bytes c = put-inside _ _ _ _ _ (omega arith) (c .before .write-number .ensures)
 
 slice-aggregate-print-bytes : tie.Need-slice-aggregate-print-bytes
-slice-aggregate-print-bytes c = sym (length-take-le _ _ (omega (arith, numberBytes-longest (c .before .before .before .before .before .args .v), c .before .before .write-number .ensures .0, c .before .before .write-number .kept .0)))
+slice-aggregate-print-bytes c = sym (length-take-le _ _ (put-inside _ _ _ _ _ (omega arith) (c .before .before .write-number .ensures)))
 
 print-bytes-requires : tie.Need-print-bytes-requires
 print-bytes-requires c κs = search needs

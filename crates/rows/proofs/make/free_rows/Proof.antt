@@ -30,7 +30,7 @@ loop-less c = omega arith
 
 loop-again : tie.Need-loop-again Inv-loop μ-loop
 unfolding freeRows
-loop-again c = (rw (add-one (c .before .before .before .before .before .loop .k)) (c .before .before .free-row .ensures ∙ ap (λ (v : List ℕ). freeRow v (c .before .before .before .before .before .loop .k)) (c .before .before .before .before .before .loop .inv .0)), (omega arith, omega (arith, c .before .before .free-row .kept)))
+loop-again c = (rw (add-one (c .before .before .before .before .before .loop .k), ← c .before .before .before .before .before .loop .inv .0) (c .before .before .free-row .ensures), (omega arith, omega (arith, c .before .before .free-row .kept)))
 
 same-length : tie.Need-same-length Inv-loop μ-loop
 same-length c = omega arith

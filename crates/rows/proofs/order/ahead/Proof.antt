@@ -10,14 +10,14 @@ sooner-requires c κs = search needs
 
 returns : tie.Need-returns
 unfolding ahead
-returns c = rw (eq-eqb _ 450 (c .before .if1 .taken)) (c .sooner .ensures)
+returns c = rw (eq-eqb _ _ (c .before .if1 .taken)) (c .sooner .ensures)
 
 outranks-requires : tie.Need-outranks-requires
 outranks-requires c κs = search needs
 
 returns-2 : tie.Need-returns-2
 unfolding ahead
-returns-2 c = rw (ne-eqb _ 450 (c .before .if1 .left)) (c .outranks .ensures)
+returns-2 c = rw (ne-eqb _ _ (c .before .if1 .left)) (c .outranks .ensures)
 
 pub ahead-spec : {M : Type 1} → statement M
 ahead-spec = tie.close (tie.spec sooner-requires returns outranks-requires returns-2)

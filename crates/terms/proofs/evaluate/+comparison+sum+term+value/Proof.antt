@@ -25,7 +25,7 @@ use Rattle.terms.proofs.evaluate.+comparison+sum+term+value.Lts-value a
 use Rattle.terms.proofs.evaluate.join.Reads as join-reads
 use Rattle.terms.proofs.evaluate.one_if.Reads as one-if-reads
 use Rattle.terms.proofs.relations.related.Reads as related-reads
-use Rattle.terms.proofs.simple.number.Reads as number-reads
+use Rattle.tables.proofs.number.Reads as number-reads
 use Rattle.terms.proofs.simple.simple_term.Reads as simple-term-reads
 use Rattle.terms.proofs.evaluate.+comparison+sum+term+value.{statement}
 use Rattle.terms.proofs.evaluate.+comparison+sum+term+value.Tie.{close}

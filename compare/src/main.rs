@@ -1,0 +1,103 @@
+//! `compare N SEED [--small] [--coverage]`: N random cases through the engine's interface for other languages and through
+//! `reference/`, each with readings and writings of trace records. Ends at the first that differs, printed and shrunk.
+//! `compare --check`: the same for the cases of standard input, printed as by `cases` of `reference/`.
+//! `compare --long`: the two runs that reach end 26, by turns and by serials (some 100 million turns each).
+
+mod lent;
+mod long;
+mod records;
+mod runs;
+mod shrink;
+mod table;
+
+use records::Answers;
+use reference::coverage::Coverage;
+use reference::generate::random::Random;
+use reference::generate::{case, Case, Size};
+use reference::line::{given, parse};
+use std::process::exit;
+
+fn main() {
+    let mut numbers = Vec::new();
+    let mut size = Size::Full;
+    let mut coverage = false;
+    for argument in std::env::args().skip(1) {
+        match argument.as_str() {
+            "--small" => size = Size::Small,
+            "--coverage" => coverage = true,
+            "--check" => check(),
+            "--long" => exit(i32::from(!long::compare())),
+            text => match text.parse::<u64>() {
+                Ok(number) => numbers.push(number),
+                Err(_) => usage(),
+            },
+        }
+    }
+    let [count, seed] = numbers[..] else { usage() };
+    std::panic::set_hook(Box::new(|_| {})); // a panic of the second implementation is a difference
+    random_cases(count, seed, size, coverage);
+}
+
+fn usage() -> ! {
+    eprintln!("usage: compare N SEED [--small] [--coverage]");
+    eprintln!("       compare --check | --long");
+    exit(2);
+}
+
+fn random_cases(count: u64, seed: u64, size: Size, table: bool) {
+    let mut random = Random::new(seed);
+    let mut coverage = Coverage::default();
+    let mut answers = Answers::default();
+    for number in 1..=count {
+        let case = case(&mut random, size);
+        let stale = random.next_u64();
+        let agreed = match runs::compare(&case, stale, &mut coverage) {
+            Ok(agreed) => agreed,
+            Err(text) => {
+                println!("case {number} of seed {seed} differs: {text}");
+                explain(&case, stale);
+                exit(1);
+            }
+        };
+        if let Err(text) = records::compare(&mut random, &agreed.trace, &mut answers) {
+            println!("records after case {number} of seed {seed} differ: {text}");
+            exit(1);
+        }
+    }
+    if table {
+        table::print(&coverage, &answers);
+    }
+    println!("{count} cases of seed {seed} agree");
+}
+
+/// The case, and the smallest found that still differs.
+fn explain(case: &Case, stale: u64) {
+    let differs = |case: &Case| {
+        runs::compare(case, stale, &mut Coverage::default())
+            .map(|_| ())
+            .err()
+    };
+    println!("{}", given(case));
+    let small = shrink::smaller(case, |case| differs(case).is_some());
+    println!("shrunk: {}", differs(&small).unwrap_or_default());
+    println!("{}", given(&small));
+}
+
+fn check() -> ! {
+    let mut lines = 0;
+    for line in std::io::stdin().lines() {
+        let Some(case) = line.ok().as_deref().and_then(parse) else {
+            usage()
+        };
+        lines += 1;
+        match runs::compare(&case, lines, &mut Coverage::default()) {
+            Ok(agreed) => println!("{:?}", agreed.outcome),
+            Err(text) => {
+                println!("line {lines} differs: {text}");
+                exit(1);
+            }
+        }
+    }
+    println!("{lines} cases agree");
+    exit(0);
+}

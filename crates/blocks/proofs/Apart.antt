@@ -1,0 +1,208 @@
+-- No block counts bytes of trace or records: the scalar `used` and the cells of waits stay as they are.
+use Prim.Native.Nat.{ℕ, zero, suc, _+_, _-_, _%_, _≤_, _<_}
+use mathlib.Core.Path.{_≡_, refl, _∙_}
+use mathlib.Core.Bool.{Bool, true, false, cond}
+use mathlib.Core.List.{List}
+use native.Mathlib.Omega.{arith}
+use lib.Dec.{ltb, leb, eqb}
+use lib.ListN.{getD, set}
+use lib.Seq.{getD-set-other}
+use Rattle.tables.specs.Layout as Layout
+use Rattle.state.specs.declared.scalars.Scalars.{Scalars}
+use Rattle.state.specs.Stands.{Rows, rowsOf}
+use Rattle.moves.specs.Motion.{Moved, withTally, goOn, stopped}
+use Rattle.flow.specs.declared.samples.Sample.{Sample}
+use Rattle.flow.specs.Samples.{nextSample, useTime}
+use Rattle.flow.specs.Questions.{askRoom, askTime, askArrival}
+use Rattle.flow.specs.Sending.{arrives}
+use Rattle.flow.specs.Kinds.{arriveOn, generateWith, generateNext, generateRows, delayRows, advanceWith, advanceNext, advanceRows, terminateRows, priorityRows, splitOn, splitRows}
+use Rattle.flow.proofs.Untouched.{generate-untouched, advance-untouched, terminate-untouched, priority-untouched, split-untouched}
+use Rattle.servers.specs.Units.{serverAt, inUse, capacity}
+use Rattle.servers.specs.Taking.{holdUnits, longer, queueUp, takeUnits, seize, enter}
+use Rattle.servers.specs.Freeing.{freeOne, freeSome, release, leave}
+use Rattle.servers.specs.Waking.{shorter}
+use Rattle.servers.proofs.TakingLaws.{seize-used, enter-used}
+use Rattle.servers.proofs.FreeingLaws.{release-used, leave-used}
+use Rattle.decisions.specs.Queues.{contentCell, arrive, depart}
+use Rattle.decisions.proofs.QueueLaws.{arrive-used, depart-used}
+
+-- the tally from 256 to 511
+abbrev Waits : List ℕ → List ℕ → Type 0
+Waits tally tally′ = (i : ℕ) → 256 ≤ i → i < 512 → getD tally′ i 0 ≡ getD tally i 0
+
+pub record Apart (x : Scalars) (tally : List ℕ) (r : Rows) : Type 0 where
+  pub used : r .scalars .used ≡ x .used
+  pub waits : Waits tally (r .tally)
+
+-- ---- Cells from 512 on
+
+module _ (tally : List ℕ) where
+  one-set : (j n : ℕ) → 512 ≤ j → Waits tally (set tally j n)
+  one-set j n h i low high = getD-set-other tally j i n 0 (λ e. omega arith)
+
+  two-set : (j n k m : ℕ) → 512 ≤ j → 512 ≤ k → Waits tally (set (set tally j n) k m)
+  two-set j n k m h g i low high = getD-set-other (set tally j n) k i m 0 (λ e. omega arith) ∙ one-set j n h i low high
+
+  same : Waits tally tally
+  same i low high = refl
+
+  used-time : (list next : ℕ) → Waits tally (useTime tally list next)
+  unfolding useTime
+  used-time list next = two-set (Layout.listAt + list) _ (Layout.listLeft + list) _ (omega arith) (omega arith)
+
+-- of rows
+pub record Stays (tally : List ℕ) (r : Rows) : Type 0 where
+  pub waits : Waits tally (r .tally)
+
+either : (tally : List ℕ) (b : Bool) (p q : Rows) → Stays tally p → Stays tally q → Stays tally (cond b p q)
+either tally true p q h g = h
+either tally false p q h g = g
+
+plain : (tally : List ℕ) (x : Scalars) (w : List ℕ) → Stays tally (rowsOf x w tally)
+unfolding rowsOf
+plain tally x w = record { waits = same tally }
+
+-- ---- The kinds that write to the tally
+
+module _ (tables tape w tally : List ℕ) (x : Scalars) where
+  arrived-waits : (sample : Sample) (list p : ℕ) → Stays tally (arriveOn w tally x sample list p)
+  unfolding arriveOn arrives rowsOf
+  arrived-waits sample list p = record { waits = used-time tally list (sample .next) }
+
+  generated-waits : (sample : Sample) (list p : ℕ) → Stays tally (generateWith sample w tally x list p)
+  unfolding generateWith
+  generated-waits sample list p =
+      either tally (eqb (askArrival x (sample .time)) 0) (arriveOn w tally x sample list p) (rowsOf (stopped x (askArrival x (sample .time))) w tally)
+      (arrived-waits sample list p) (plain tally (stopped x (askArrival x (sample .time))) w)
+
+  generate-waits : (at : ℕ) → Stays tally (generateRows tables tape w tally x at)
+  unfolding generateRows generateNext
+  generate-waits at =
+      either tally (eqb (getD tally (Layout.listLeft + getD tables (at + 1) 0) 0) 0) (withTally (goOn w x) tally)
+      (generateWith (nextSample tape tally (getD tables (at + 1) 0)) w tally x (getD tables (at + 1) 0) (getD tables (at + 2) 0))
+      (plain tally (goOn w x .scalars) (goOn w x .work)) (generated-waits (nextSample tape tally (getD tables (at + 1) 0)) (getD tables (at + 1) 0) (getD tables (at + 2) 0))
+
+  delayed-waits : (sample : Sample) (list : ℕ) → Stays tally (delayRows w tally x sample list)
+  unfolding delayRows rowsOf
+  delayed-waits sample list = record { waits = used-time tally list (sample .next) }
+
+  advanced-waits : (sample : Sample) (list : ℕ) → Stays tally (advanceWith sample w tally x list)
+  unfolding advanceWith
+  advanced-waits sample list =
+      either tally (eqb (askTime x (sample .time)) 0) (delayRows w tally x sample list) (rowsOf (stopped x (askTime x (sample .time))) w tally)
+      (delayed-waits sample list) (plain tally (stopped x (askTime x (sample .time))) w)
+
+  advance-waits : (at : ℕ) → Stays tally (advanceRows tables tape w tally x at)
+  unfolding advanceRows advanceNext
+  advance-waits at =
+      either tally (eqb (getD tally (Layout.listLeft + getD tables (at + 1) 0) 0) 0) (rowsOf (stopped x 23) w tally) (advanceWith (nextSample tape tally (getD tables (at + 1) 0)) w tally x (getD tables (at + 1) 0))
+      (plain tally (stopped x 23) w) (advanced-waits (nextSample tape tally (getD tables (at + 1) 0)) (getD tables (at + 1) 0))
+
+  terminate-waits : (at : ℕ) → Stays tally (terminateRows tables w tally x at)
+  unfolding terminateRows rowsOf
+  terminate-waits at = record { waits = same tally }
+
+  priority-waits : (at : ℕ) → Stays tally (priorityRows tables w tally x at)
+  unfolding priorityRows rowsOf
+  priority-waits at = record { waits = same tally }
+
+  split-waits : (at : ℕ) → Stays tally (splitRows tables w tally x at)
+  unfolding splitRows
+  split-waits at =
+      either tally (eqb (askRoom x (getD tables (at + 1) 0)) 0) (withTally (splitOn w x (getD tables (at + 1) 0) (getD tables (at + 2) 0)) tally) (rowsOf (stopped x (askRoom x (getD tables (at + 1) 0))) w tally)
+      (plain tally (splitOn w x (getD tables (at + 1) 0) (getD tables (at + 2) 0) .scalars) (splitOn w x (getD tables (at + 1) 0) (getD tables (at + 2) 0) .work)) (plain tally (stopped x (askRoom x (getD tables (at + 1) 0))) w)
+
+  held-waits : (v units all : ℕ) → Stays tally (holdUnits w tally x v units all)
+  unfolding holdUnits rowsOf
+  held-waits v units all = record { waits = one-set tally (Layout.inUse + v) units (omega arith) }
+
+  queued-waits : (v : ℕ) → Stays tally (queueUp w tally x v)
+  unfolding queueUp longer rowsOf
+  queued-waits v = record { waits = one-set tally (Layout.qlLength + v) _ (omega arith) }
+
+  taken-waits : (v b : ℕ) → Stays tally (takeUnits tables w tally x v b)
+  unfolding takeUnits
+  taken-waits v b =
+      either tally (leb b (capacity tables v - inUse tally v)) (holdUnits w tally x v (inUse tally v + b) (capacity tables v)) (queueUp w tally x v)
+      (held-waits v (inUse tally v + b) (capacity tables v)) (queued-waits v)
+
+  seize-waits : (at : ℕ) → Stays tally (seize tables w tally x at)
+  unfolding seize
+  seize-waits at = taken-waits (serverAt tables (at + 1)) 1
+
+  enter-waits : (at : ℕ) → Stays tally (enter tables w tally x at)
+  unfolding enter
+  enter-waits at = taken-waits (serverAt tables (at + 1)) (getD tables (at + 2) 0)
+
+  freed-waits : (v units : ℕ) → Stays tally (freeOne tables w tally x v units)
+  unfolding freeOne shorter rowsOf
+  freed-waits v units = record { waits = two-set tally (Layout.inUse + v) units (Layout.qlLength + v) _ (omega arith) (omega arith) }
+
+  release-waits : (at : ℕ) → Stays tally (release tables w tally x at)
+  unfolding release
+  release-waits at =
+      either tally (ltb (inUse tally (serverAt tables (at + 1))) 1) (rowsOf (stopped x 24) w tally) (freeOne tables w tally x (serverAt tables (at + 1)) (inUse tally (serverAt tables (at + 1)) - 1))
+      (plain tally (stopped x 24) w) (freed-waits (serverAt tables (at + 1)) (inUse tally (serverAt tables (at + 1)) - 1))
+
+  left-waits : (v units : ℕ) → Stays tally (freeSome tables w tally x v units)
+  unfolding freeSome rowsOf
+  left-waits v units = record { waits = two-set tally (Layout.inUse + v) units (Layout.qlLength + v) _ (omega arith) (omega arith) }
+
+  leave-waits : (at : ℕ) → Stays tally (leave tables w tally x at)
+  unfolding leave
+  leave-waits at =
+      either tally (ltb (inUse tally (serverAt tables (at + 1))) (getD tables (at + 2) 0)) (rowsOf (stopped x 24) w tally) (freeSome tables w tally x (serverAt tables (at + 1)) (inUse tally (serverAt tables (at + 1)) - getD tables (at + 2) 0))
+      (plain tally (stopped x 24) w) (left-waits (serverAt tables (at + 1)) (inUse tally (serverAt tables (at + 1)) - getD tables (at + 2) 0))
+
+  arrive-waits : (at : ℕ) → Stays tally (arrive tables w tally x at)
+  unfolding arrive contentCell rowsOf
+  arrive-waits at = record { waits = one-set tally (Layout.content + getD tables (at + 1) 0) _ (omega arith) }
+
+  depart-waits : (at : ℕ) → Stays tally (depart tables w tally x at)
+  unfolding depart contentCell rowsOf
+  depart-waits at = go (eqb (getD tally (Layout.content + getD tables (at + 1) 0) 0) 0)
+    where
+      go : (c : Bool) → Stays tally (cond c (rowsOf (stopped x 25) w tally) (withTally (goOn w x) (set tally (Layout.content + getD tables (at + 1) 0) (getD tally (Layout.content + getD tables (at + 1) 0) 0 - 1))))
+      go true = plain tally (stopped x 25) w
+      go false = record { waits = one-set tally (Layout.content + getD tables (at + 1) 0) _ (omega arith) }
+
+-- the tally stays
+pub kept : (x : Scalars) (tally : List ℕ) (m : Moved) → m .scalars .used ≡ x .used → Apart x tally (withTally m tally)
+unfolding rowsOf
+kept x tally m e = record { used = e; waits = same tally }
+
+-- ---- Each kind
+
+module _ (tables tape w tally : List ℕ) (x : Scalars) (at : ℕ) where
+  pub generate-apart : Apart x tally (generateRows tables tape w tally x at)
+  generate-apart = record { used = generate-untouched tables tape w tally x at .used; waits = generate-waits tables tape w tally x at .waits }
+
+  pub advance-apart : Apart x tally (advanceRows tables tape w tally x at)
+  advance-apart = record { used = advance-untouched tables tape w tally x at .used; waits = advance-waits tables tape w tally x at .waits }
+
+  pub terminate-apart : Apart x tally (terminateRows tables w tally x at)
+  terminate-apart = record { used = terminate-untouched tables w tally x at .used; waits = terminate-waits tables tape w tally x at .waits }
+
+  pub priority-apart : Apart x tally (priorityRows tables w tally x at)
+  priority-apart = record { used = priority-untouched tables w tally x at .used; waits = priority-waits tables tape w tally x at .waits }
+
+  pub split-apart : Apart x tally (splitRows tables w tally x at)
+  split-apart = record { used = split-untouched tables w tally x at .used; waits = split-waits tables tape w tally x at .waits }
+
+  pub seize-apart : Apart x tally (seize tables w tally x at)
+  seize-apart = record { used = seize-used tables w tally x at; waits = seize-waits tables tape w tally x at .waits }
+
+  pub enter-apart : Apart x tally (enter tables w tally x at)
+  enter-apart = record { used = enter-used tables w tally x at; waits = enter-waits tables tape w tally x at .waits }
+
+  pub release-apart : Apart x tally (release tables w tally x at)
+  release-apart = record { used = release-used tables w tally x at; waits = release-waits tables tape w tally x at .waits }
+
+  pub leave-apart : Apart x tally (leave tables w tally x at)
+  leave-apart = record { used = leave-used tables w tally x at; waits = leave-waits tables tape w tally x at .waits }
+
+  pub arrive-apart : Apart x tally (arrive tables w tally x at)
+  arrive-apart = record { used = arrive-used tables w tally x at; waits = arrive-waits tables tape w tally x at .waits }
+
+  pub depart-apart : Apart x tally (depart tables w tally x at)
+  depart-apart = record { used = depart-used tables w tally x at; waits = depart-waits tables tape w tally x at .waits }

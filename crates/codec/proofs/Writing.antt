@@ -1,0 +1,54 @@
+-- A number at a position, pure: with room its bytes stand there, without room nothing changes.
+use Prim.Native.Nat.{ℕ, _+_, _≤_, _<_}
+use native.Mathlib.Nat.{zero-add}
+use native.Mathlib.Omega.{arith}
+use mathlib.Core.Bool.{Bool, true, false}
+use mathlib.Core.List.{List, _++_}
+use mathlib.Core.Path.{_≡_, refl, sym, ap, ap₂, _∙_}
+use lib.Dec.{leb}
+use lib.ListN.{length, length-append}
+use lib.Seq.{sets, length-sets}
+use borrow.Author.Tests.{le-leb, lt-leb, leb-true, leb-false}
+use Rattle.machine.specs.Number.{numberBytes}
+use Rattle.codec.specs.Writing.{Written, written, put}
+use Rattle.codec.proofs.Stores.{sets-append}
+
+pub put-room : (at v : ℕ) (l : List ℕ) → at + length (numberBytes v) ≤ length l →
+    put v (written at l) ≡ written (at + length (numberBytes v)) (sets l at (numberBytes v))
+unfolding put written
+put-room at v l h = rw (le-leb _ _ h)
+
+pub put-full : (at v : ℕ) (l : List ℕ) → length l < at + length (numberBytes v) → put v (written at l) ≡ written at l
+unfolding put written
+put-full at v l h = rw (lt-leb _ _ h)
+
+-- ---- What a caller learns
+
+written-at : (p q : ℕ) (l m : List ℕ) → written p l ≡ written q m → p ≡ q
+unfolding written
+written-at p q l m e = ap (λ (w : Written). w .at) e
+
+pub written-bytes : (p q : ℕ) (l m : List ℕ) → written p l ≡ written q m → l ≡ m
+unfolding written
+written-bytes p q l m e = ap (λ (w : Written). w .bytes) e
+
+-- from a position inside the buffer it leads to one inside
+pub put-inside : (at v r : ℕ) (l m : List ℕ) → at ≤ length l → written r m ≡ put v (written at l) → r ≤ length m
+put-inside at v r l m h e = go (leb (at + length (numberBytes v)) (length l)) refl
+  where
+    go : (t : Bool) → leb (at + length (numberBytes v)) (length l) ≡ t → r ≤ length m
+    go true f =
+        let room = leb-true (at + length (numberBytes v)) (length l) f in
+        let same = e ∙ put-room at v l room in
+        omega (arith, written-at _ _ _ _ same, ap length (written-bytes _ _ _ _ same), length-sets l at (numberBytes v))
+    go false f =
+        let same = e ∙ put-full at v l (leb-false _ _ f) in
+        omega (arith, written-at _ _ _ _ same, ap length (written-bytes _ _ _ _ same))
+
+-- behind bytes that stand at the front
+pub put-behind : (u l : List ℕ) (v : ℕ) → length (u ++ numberBytes v) ≤ length l →
+    put v (written (length u) (sets l 0 u)) ≡ written (length (u ++ numberBytes v)) (sets l 0 (u ++ numberBytes v))
+put-behind u l v h =
+    let n = length-append u (numberBytes v) in
+    put-room (length u) v (sets l 0 u) (omega (arith, length-sets l 0 u))
+    ∙ ap₂ written (sym n) (ap (λ (i : ℕ). sets (sets l 0 u) i (numberBytes v)) (sym (zero-add (length u))) ∙ sets-append u (numberBytes v) l 0)

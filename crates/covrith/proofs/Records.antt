@@ -1,0 +1,41 @@
+-- The answers of reader and writer as numbers, for each case of the covered functions' answers.
+use Prim.Native.Nat.{ℕ, _≤_}
+use mathlib.Core.List.{List, [], _∷_}
+use mathlib.Core.Path.{_≡_, refl, sym}
+use lib.ListN.{length}
+use lib.Seq.{length-take-le}
+use Rattle.machine.specs.Trace as machine
+use Rattle.trace.specs.Answers.{readingOf, writingOf}
+use Rattle.trace.specs.declared.Record.{Record}
+use Rattle.trace.specs.declared.Reading.{Reading}
+use Rattle.trace.specs.declared.Reading.the-variants.{Taken, Refused, NoMore}
+use Rattle.trace.specs.declared.Written.{Written}
+use Rattle.trace.specs.declared.Written.the-variants.{Bytes, Refused as Rejected}
+use Rattle.covrith.specs.Answers.{readAnswer, readNumbers, writeAnswer, writeCount}
+
+-- ---- Reader
+
+module _ {x : Reading} {wanted : machine.Reading} (e : readingOf x ≡ wanted) (before : List ℕ) where
+  pub read-taken : (r : Record) (next : ℕ) → x ≡ Taken r next →
+      (0 ≡ readAnswer wanted) × (r .clock ∷ r .transaction ∷ r .block ∷ r .outcome ∷ next ∷ [] ≡ readNumbers wanted before)
+  unfolding readAnswer readNumbers
+  read-taken r next case = rw (← e, case) (refl, refl)
+
+  pub read-refused : (n : ℕ) → x ≡ Refused n → (n ≡ readAnswer wanted) × (before ≡ readNumbers wanted before)
+  unfolding readAnswer readNumbers
+  read-refused n case = rw (← e, case) (refl, refl)
+
+  pub read-no-more : x ≡ NoMore → (30 ≡ readAnswer wanted) × (before ≡ readNumbers wanted before)
+  unfolding readAnswer readNumbers
+  read-no-more case = rw (← e, case) (refl, refl)
+
+-- ---- Writer
+
+module _ (rest : List ℕ) {x : Written} {wanted : machine.Writing} (e : writingOf rest x ≡ wanted) where
+  pub wrote-bytes : (n : ℕ) → x ≡ Bytes n → n ≤ length rest → (0 ≡ writeAnswer wanted) × (n ≡ writeCount wanted)
+  unfolding writeAnswer writeCount
+  wrote-bytes n case room = rw (← e, case) (refl, sym (length-take-le n rest room))
+
+  pub wrote-nothing : (n : ℕ) → x ≡ Rejected n → (n ≡ writeAnswer wanted) × (0 ≡ writeCount wanted)
+  unfolding writeAnswer writeCount
+  wrote-nothing n case = rw (← e, case) (refl, refl)

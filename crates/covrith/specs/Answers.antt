@@ -1,0 +1,28 @@
+-- What the functions for other languages answer, in the numbers that cross the boundary.
+use Prim.Native.Nat.{ℕ}
+use mathlib.Core.List.{List, [], _∷_}
+use lib.ListN.{length}
+use Rattle.machine.specs.Trace.{Record, Reading, taken, refusal, noMore, Writing, written, rejected}
+
+-- ---- Reader: 0 and five numbers, or 30 for "no more", 31 or 32; a refusal leaves the numbers as they were
+
+unfoldable pub readAnswer : Reading → ℕ
+readAnswer (taken _ _) = 0
+readAnswer (refusal n) = n
+readAnswer noMore = 30
+
+-- clock, transaction, block, outcome, next position
+unfoldable pub readNumbers : Reading → List ℕ → List ℕ
+readNumbers (taken r next) _ = r .clock ∷ r .transaction ∷ r .block ∷ r .outcome ∷ next ∷ []
+readNumbers (refusal _) before = before
+readNumbers noMore before = before
+
+-- ---- Writer: 0 and how many bytes were written, or 32 or 33 and none
+
+unfoldable pub writeAnswer : Writing → ℕ
+writeAnswer (written _) = 0
+writeAnswer (rejected n) = n
+
+unfoldable pub writeCount : Writing → ℕ
+writeCount (written b) = length b
+writeCount (rejected _) = 0

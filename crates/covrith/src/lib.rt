@@ -1,0 +1,88 @@
+// Covrith for other languages: functions that C, or Rust by C's calling convention, can call. include/covrith.h declares them.
+// A slice crosses the boundary as a pointer and a length in elements.
+use trace::Reading;
+use trace::Written;
+ghost use mathlib.Core.Path.{_≡_};
+ghost use lib.ListN.{length};
+ghost use Rattle.machine.specs.Number.{countLow};
+ghost use Rattle.machine.specs.Trace.{readRecord, writeRecord};
+ghost use Rattle.trace.specs.Answers.{entry, after};
+ghost use Rattle.engine.specs.Contract.{Contract};
+ghost use Rattle.covrith.specs.Answers.{readAnswer, readNumbers, writeAnswer, writeCount};
+ghost use Rattle.covrith.specs.Results.{results};
+
+// One run of a model on a tape. `outcome` gets the eight results.
+#[no_mangle]
+pub extern "C" fn covrith_run(
+    model: &[u8],
+    tape: &[u8],
+    budget: u64,
+    work: &mut [u32],
+    trace: &mut [u8],
+    report: &mut [u8],
+    outcome: &mut [u64; 8],
+)
+    ensures { λ _. ⌜ Contract (now (model .entry)) (now (tape .entry)) budget (now (work .entry)) (now (trace .entry)) (now (report .entry)) (results (now (outcome .exit))) (now (work .exit)) (now (trace .exit)) (now (report .exit)) ⌝ }
+{
+    let r = engine::run(model, tape, budget, work, trace, report);
+    *outcome = [
+        r.refusal,
+        r.end,
+        r.clock,
+        r.turns,
+        r.made,
+        r.ended,
+        r.trace_bytes,
+        r.report_bytes,
+    ];
+}
+
+// The record at a position of a trace.
+#[no_mangle]
+pub extern "C" fn covrith_read_record(trace: &[u8], position: usize, numbers: &mut [u64; 5]) -> u32
+    ensures { λ r. ⌜ r ≡ readAnswer (readRecord (now (trace .entry)) position) ⌝ }
+    ensures { λ _. ⌜ now (numbers .exit) ≡ readNumbers (readRecord (now (trace .entry)) position) (now (numbers .entry)) ⌝ }
+{
+    match trace::read_record(trace, position) {
+        Reading::Taken(r, next) => {
+            *numbers = [r.clock, r.transaction, r.block, r.outcome, next as u64];
+            0
+        }
+        Reading::Refused(n) => n,
+        Reading::NoMore => 30,
+    }
+}
+
+// Writes one record into the unused rest of a trace.
+#[no_mangle]
+pub extern "C" fn covrith_write_record(
+    rest: &mut [u8],
+    clock: u64,
+    transaction: u64,
+    block: u64,
+    outcome: u64,
+    count: &mut u64,
+) -> u32
+    ensures { λ r. ⌜ r ≡ writeAnswer (writeRecord (length (now (rest .entry))) (entry clock transaction block outcome)) ⌝ }
+    ensures { λ _. ⌜ now (count .exit) ≡ writeCount (writeRecord (length (now (rest .entry))) (entry clock transaction block outcome)) ⌝ }
+    ensures { λ _. ⌜ now (rest .exit) ≡ after (writeRecord (length (now (rest .entry))) (entry clock transaction block outcome)) (now (rest .entry)) ⌝ }
+{
+    match trace::write_record(rest, clock, transaction, block, outcome) {
+        Written::Bytes(n) => {
+            *count = n as u64;
+            0
+        }
+        Written::Refused(n) => {
+            *count = 0;
+            n
+        }
+    }
+}
+
+// How many bytes of a trace are below 80 hexadecimal.
+#[no_mangle]
+pub extern "C" fn covrith_count(trace: &[u8]) -> u64
+    ensures { λ r. ⌜ r ≡ countLow (now (trace .entry)) ⌝ }
+{
+    trace::count_low(trace)
+}

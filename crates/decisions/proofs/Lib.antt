@@ -1,0 +1,7 @@
+pub mod ComparisonLaws
+pub mod Joined
+pub mod Operands
+pub mod Parameters
+pub mod QueueLaws
+pub mod SchemeLaws
+pub mod Sees

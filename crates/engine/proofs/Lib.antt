@@ -1,0 +1,9 @@
+pub mod EndLaws
+pub mod StepLaws
+pub mod TurnsLaws
+pub mod Reading
+pub mod Outcomes
+pub mod Following
+pub mod Decoding
+pub mod Laws
+pub mod Running

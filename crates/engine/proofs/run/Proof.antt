@@ -1,0 +1,63 @@
+-- `run` meets its contract: a refused run touches nothing; an accepted one is the machine's. Assumes nothing.
+use Rattle.engine.proofs.Running.{run-refused, fits, run-finished}
+use borrow.Author.Needs.{needs}
+use Rattle.engine.proofs.run.Statement.{statement}
+use Rattle.engine.proofs.run.Tie as tie
+use Rattle.engine.proofs.run.Reads as reads
+use Rattle.engine.proofs.run.Lts as lts
+use Rattle.decode.proofs.decode.Reads as decode-reads
+use Rattle.engine.proofs.finish.accepted.Reads as accepted-reads
+use Rattle.engine.proofs.finish.refused.Reads as refused-reads
+
+decode-requires : tie.Need-decode-requires
+decode-requires c κs = search needs
+
+enum-known-decoded : tie.Need-enum-known-decoded
+enum-known-decoded c = search needs
+
+refused-requires : tie.Need-refused-requires
+refused-requires c κs = search needs
+
+enum-known-decoded-2 : tie.Need-enum-known-decoded-2
+enum-known-decoded-2 c = search needs
+
+accepted-requires : tie.Need-accepted-requires
+accepted-requires c κs =
+    let with = c .before .before .before .before .before .before .before .before .before .before .before .before .before .before .before .before .args in
+    let call = c .before .before .before .before .before .before .before .before .decode in
+    fits (with .model .now) (with .tape .now) (with .budget) (with .work .now) (with .trace .now) (with .report .now) (call .last .1 .1 .1 .1 .0)
+    (call .last .1 .1 .1 .1 .1 .0) (call .result) (call .ensures) _ (c .before .before .before .before .before .before .decoded2 .given .1)
+
+returns : tie.Need-returns
+returns c =
+    run-refused _ _ _ _ _ _ _ _ _ (c .before .before .before .before .decode .ensures) _ _ (c .before .before .decoded .given .1) (c .refused .ensures)
+
+same-length : tie.Need-same-length
+same-length c = search needs
+
+same-length-2 : tie.Need-same-length-2
+same-length-2 c = search needs
+
+same-length-3 : tie.Need-same-length-3
+same-length-3 c = search needs
+
+returns-2 : tie.Need-returns-2
+returns-2 c =
+    run-finished _ _ _ _ _ _ _ _ _ (c .before .before .before .before .before .before .before .before .before .before .before .before .before .before .before .decode .ensures) _
+    (c .before .before .before .before .before .before .before .before .before .before .before .before .before .decoded2 .given .1) _ _ _ _
+    (c .before .before .before .before .before .before .accepted .ensures)
+
+pub run-spec : {M : Type 1} → statement M
+run-spec =
+    tie.close
+    (tie.spec
+    decode-requires
+    enum-known-decoded
+    refused-requires
+    enum-known-decoded-2
+    accepted-requires
+    returns
+    same-length
+    same-length-2
+    same-length-3
+    returns-2)

@@ -1,0 +1,93 @@
+-- The questions, asked of the scalars, are the machine's; a question that is not answered by yes stops the turn.
+use Prim.Native.Nat.{ℕ, zero, suc, _+_, _-_, _≤_, _<_, min}
+use mathlib.Core.Path.{_≡_, refl, subst}
+use mathlib.Core.Bool.{Bool, true, false, cond}
+use mathlib.Core.List.{List, _∷_}
+use mathlib.Core.Option.{none, some}
+use native.Mathlib.Omega.{arith}
+use borrow.Author.Tests.{ne-eqb, leb-true}
+use lib.Dec.{eqb, leb}
+use lib.ListN.{getD}
+use Rattle.machine.specs.Limits.{maxLiving, maxClock, maxTime}
+use Rattle.machine.specs.Transaction.{Transaction}
+use Rattle.machine.specs.Block.{Block, BlockModel}
+use Rattle.machine.specs.State.{State}
+use Rattle.machine.specs.Setters.{setMoving}
+use Rattle.machine.specs.Moves.{timesLeft}
+use Rattle.machine.specs.Execute.{unless, living, askGenerate}
+use Rattle.machine.proofs.Proper.{Proper}
+use Rattle.machine.proofs.Placed.{Placed}
+use Rattle.machine.proofs.Everybody.{Maybe}
+use Rattle.state.specs.declared.scalars.Scalars.{Scalars}
+use Rattle.state.specs.Bare.{bare, bareAnswer}
+use Rattle.state.specs.Sane.{Sane}
+use Rattle.state.specs.Stands.{Rows, rowsOf, Counting, Stands, Done}
+use Rattle.moves.specs.Motion.{stopped}
+use Rattle.moves.proofs.MotionLaws.{stop-done}
+use Rattle.flow.specs.Questions.{askRoom, askTime, firstNo, askArrival}
+
+-- the first time of a list
+pub time-most : (m : BlockModel) (s : State) (list time : ℕ) (left : List ℕ) → Sane m s → timesLeft s list ≡ time ∷ left → time ≤ maxTime
+time-most m s list time left sane e = subst (λ (l : List ℕ). getD l 0 0 ≤ maxTime) e (sane .samples list 0)
+
+-- ---- Questions
+
+module _ (x : Scalars) (s : State) (counting : Counting x s) where
+  pub room-asked : (n : ℕ) → living s ≤ 1024 → n ≤ 1024 → askRoom x n ≡ unless (leb (living s + n) maxLiving) 21 0
+  unfolding askRoom
+  room-asked n few most =
+      let a : x .made ≡ s .made = counting .made in
+      let b : x .ended ≡ s .ended = counting .ended in
+      let e : min (s .made - s .ended + n) 4294967295 ≡ s .made - s .ended + n = omega arith in
+      rw (a, b, e) (go (leb (s .made - s .ended + n) maxLiving))
+    where
+      go : (c : Bool) → cond c 0 21 ≡ unless c 21 0
+      go true = refl
+      go false = refl
+
+  module _ (time : ℕ) (clock : s .view .clock ≤ maxClock) (most : time ≤ maxTime) where
+    pub time-asked : askTime x time ≡ unless (leb (s .view .clock + time) maxClock) 22 0
+    unfolding askTime
+    time-asked =
+        let a : x .clock ≡ s .view .clock = counting .clock in
+        let e : min (s .view .clock + time) 4294967295 ≡ s .view .clock + time = omega arith in
+        rw (a, e) (go (leb (s .view .clock + time) maxClock))
+      where
+        go : (b : Bool) → cond b 0 22 ≡ unless b 22 0
+        go true = refl
+        go false = refl
+
+    pub arrival-asked : living s ≤ 1024 → (left : List ℕ) → askArrival x time ≡ askGenerate (time ∷ left) s
+    unfolding askArrival askGenerate firstNo
+    arrival-asked few left =
+        rw (room-asked 1 few (omega arith), time-asked) (go (leb (living s + 1) maxLiving) (unless (leb (s .view .clock + time) maxClock) 22 0))
+      where
+        go : (c : Bool) (n : ℕ) → firstNo (unless c 21 0) n ≡ unless c 21 n
+        go true n = refl
+        go false n = refl
+
+-- ---- What yes says
+
+unless-yes : (b : Bool) (n later : ℕ) → unless b (suc n) later ≡ 0 → (b ≡ true) × (later ≡ 0)
+unless-yes true n later e = (refl, e)
+unless-yes false n later e = absurd (omega arith)
+
+pub time-yes : (s : State) (time : ℕ) → unless (leb (s .view .clock + time) maxClock) 22 0 ≡ 0 → s .view .clock + time ≤ 2000000000
+time-yes s time e = leb-true (s .view .clock + time) maxClock (unless-yes (leb (s .view .clock + time) maxClock) 21 0 e .0)
+
+pub room-yes : (s : State) (n : ℕ) → unless (leb (living s + n) maxLiving) 21 0 ≡ 0 → living s + n ≤ 1024
+room-yes s n e = leb-true (living s + n) maxLiving (unless-yes (leb (living s + n) maxLiving) 20 0 e .0)
+
+pub arrival-yes : (s : State) (time : ℕ) (left : List ℕ) → askGenerate (time ∷ left) s ≡ 0 → (living s + 1 ≤ 1024) × (s .view .clock + time ≤ 2000000000)
+unfolding askGenerate
+arrival-yes s time left e =
+    let q = unless-yes (leb (living s + 1) maxLiving) 20 (unless (leb (s .view .clock + time) maxClock) 22 0) e in
+    (leb-true (living s + 1) maxLiving (q .0), time-yes s time (q .1))
+
+-- ---- Asked first
+
+module _ (tapeBytes : List ℕ) (m : BlockModel) (r : Rows) (t : Transaction) (s : State) (stands : Stands tapeBytes r (some t) s) (moving : s .moving ≡ some t) (b : Block) where
+  pub asked : (q : ℕ) (rows : Rows) → (q ≡ 0 → Done tapeBytes rows (bare m b t (setMoving none s))) → Done tapeBytes (cond (eqb q 0) rows (rowsOf (stopped (r .scalars) q) (r .work) (r .tally))) (bareAnswer q m b t s)
+  unfolding bareAnswer
+  asked zero rows h = h refl
+  asked (suc n) rows h = rw (ne-eqb (suc n) 0 (λ e. omega arith)) (stop-done tapeBytes r t s n m b moving stands)

@@ -1,0 +1,14 @@
+pub mod Answers
+pub mod Copies
+pub mod Drawing
+pub mod Making
+pub mod New
+pub mod Arrival
+pub mod Asked
+pub mod Sent
+pub mod GenerateLaw
+pub mod AdvanceLaw
+pub mod TerminateLaw
+pub mod PriorityLaw
+pub mod SplitLaw
+pub mod Untouched

@@ -1,0 +1,4 @@
+pub mod Samples
+pub mod Sending
+pub mod Questions
+pub mod Kinds

@@ -1,0 +1,20 @@
+// The blocks that make transactions, delay them and end them: GENERATE, ADVANCE, TERMINATE, PRIORITY and SPLIT. Each kind is one
+// function of the same shape over tables, buffers, scalars and the place of its block in the tables.
+mod advancing;
+mod generating;
+mod questions;
+mod ranking;
+mod samples;
+mod sending;
+mod splitting;
+mod terminating;
+
+pub use advancing::advance;
+pub use generating::generate;
+pub use ranking::priority;
+pub use samples::Sample;
+pub use samples::next_sample;
+pub use samples::times_left;
+pub use sending::arrives;
+pub use splitting::split;
+pub use terminating::terminate;

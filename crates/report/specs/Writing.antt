@@ -1,0 +1,9 @@
+-- Numbers written one after another into the report buffer, each where there is room for it (`put` of crate codec).
+use Prim.Native.Nat.{ℕ}
+use mathlib.Core.List.{List, [], _∷_}
+pub use Rattle.codec.specs.Writing.{Written}
+unfoldable pub use Rattle.codec.specs.Writing.{written, put}
+
+unfoldable pub putAll : List ℕ → Written → Written
+putAll [] w = w
+putAll (v ∷ l) w = putAll l (put v w)

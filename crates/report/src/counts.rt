@@ -1,0 +1,152 @@
+// The numbers of servers and queues, from tables and tally.
+use codec::write_number;
+use state::plus64;
+use tables::CONTENT_TICKS;
+use tables::ENTRIES;
+use tables::LONGEST_CONTENT;
+use tables::LONGEST_QL;
+use tables::UNIT_TICKS;
+use tables::WAIT_TICKS;
+use tables::WAITS;
+use tables::count;
+use tables::number;
+ghost use mathlib.Core.Path.{_≡_};
+ghost use Prim.Native.Nat.{_≤_, _<_};
+ghost use Rattle.report.specs.Counts.{names, share, total, serverRow, queueRow, rowsTo};
+ghost use Rattle.report.specs.Writing.{written, putAll};
+
+// Block b is of one of two kinds, and its first operand is this one.
+fn names(tables: &[u32], first: u32, second: u32, index: usize, b: usize) -> bool
+    requires { ⌜ b < 256 ⌝ }
+    ensures { λ r. ⌜ r ≡ names (now (tables .entry)) first second index b ⌝ }
+{
+    let at = 8 * b;
+    if number(tables, at + 1) as usize != index {
+        return false;
+    }
+    let kind = number(tables, at);
+    if kind == first {
+        return true;
+    }
+    kind == second
+}
+
+fn share(
+    tables: &[u32],
+    tally: &[u64],
+    first: u32,
+    second: u32,
+    index: usize,
+    base: usize,
+    b: usize,
+) -> u64
+    requires { ⌜ base ≤ 256 ⌝ }
+    requires { ⌜ b < 256 ⌝ }
+    ensures { λ r. ⌜ r ≡ share (now (tables .entry)) (now (tally .entry)) first second index base b ⌝ }
+{
+    if names(tables, first, second, index, b) {
+        return count(tally, base + b);
+    }
+    0
+}
+
+// What the tally counts at the first n blocks that name an index.
+fn total(
+    tables: &[u32],
+    tally: &[u64],
+    first: u32,
+    second: u32,
+    index: usize,
+    base: usize,
+    n: usize,
+) -> u64
+    requires { ⌜ base ≤ 256 ⌝ }
+    requires { ⌜ n ≤ 256 ⌝ }
+    ensures { λ r. ⌜ r ≡ total (now (tables .entry)) (now (tally .entry)) first second index base n ⌝ }
+{
+    let mut sum: u64 = 0;
+    let mut b = 0;
+    while b < n {
+        sum = plus64(sum, share(tables, tally, first, second, index, base, b));
+        b += 1;
+    }
+    sum
+}
+
+fn put_server(
+    tables: &[u32],
+    tally: &[u64],
+    blocks: usize,
+    v: usize,
+    report: &mut [u8],
+    at: usize,
+) -> usize
+    requires { ⌜ blocks ≤ 256 ⌝ }
+    requires { ⌜ v < 64 ⌝ }
+    ensures { λ r. ⌜ written r (now (report .exit)) ≡ putAll (serverRow (now (tables .entry)) (now (tally .entry)) blocks v) (written at (now (report .entry))) ⌝ }
+{
+    let entered = write_number(report, at, total(tables, tally, 4, 6, v, ENTRIES, blocks));
+    let used = write_number(report, entered, count(tally, UNIT_TICKS + v));
+    let waits = write_number(report, used, total(tables, tally, 4, 6, v, WAITS, blocks));
+    let waited = write_number(report, waits, count(tally, WAIT_TICKS + v));
+    write_number(report, waited, count(tally, LONGEST_QL + v))
+}
+
+pub fn put_servers(
+    tables: &[u32],
+    tally: &[u64],
+    blocks: usize,
+    servers: usize,
+    report: &mut [u8],
+    at: usize,
+) -> usize
+    requires { ⌜ blocks ≤ 256 ⌝ }
+    requires { ⌜ servers ≤ 64 ⌝ }
+    ensures { λ r. ⌜ written r (now (report .exit)) ≡ putAll (rowsTo servers (serverRow (now (tables .entry)) (now (tally .entry)) blocks)) (written at (now (report .entry))) ⌝ }
+{
+    let mut next = at;
+    let mut v = 0;
+    while v < servers {
+        next = put_server(tables, tally, blocks, v, report, next);
+        v += 1;
+    }
+    next
+}
+
+fn put_queue(
+    tables: &[u32],
+    tally: &[u64],
+    blocks: usize,
+    q: usize,
+    report: &mut [u8],
+    at: usize,
+) -> usize
+    requires { ⌜ blocks ≤ 256 ⌝ }
+    requires { ⌜ q < 32 ⌝ }
+    ensures { λ r. ⌜ written r (now (report .exit)) ≡ putAll (queueRow (now (tables .entry)) (now (tally .entry)) blocks q) (written at (now (report .entry))) ⌝ }
+{
+    let arrived = write_number(report, at, total(tables, tally, 15, 15, q, ENTRIES, blocks));
+    let filled = write_number(report, arrived, count(tally, CONTENT_TICKS + q));
+    write_number(report, filled, count(tally, LONGEST_CONTENT + q))
+}
+
+pub fn put_queues(
+    tables: &[u32],
+    tally: &[u64],
+    blocks: usize,
+    queues: usize,
+    report: &mut [u8],
+    at: usize,
+) -> usize
+    requires { ⌜ blocks ≤ 256 ⌝ }
+    requires { ⌜ queues ≤ 32 ⌝ }
+    ensures { λ r. ⌜ written r (now (report .exit)) ≡ putAll (rowsTo queues (queueRow (now (tables .entry)) (now (tally .entry)) blocks)) (written at (now (report .entry))) ⌝ }
+{
+    let mut next = at;
+    let mut q = 0;
+    while q < queues {
+        next = put_queue(tables, tally, blocks, q, report, next);
+        q += 1;
+    }
+    next
+}

@@ -1,0 +1,53 @@
+// The report, written after the run (document 01, "Report: clock, made, ended; per facility and storage: ..; per queue: ..; the
+// living count and, per living one, number and place"). specs/Numbers has its numbers, proofs/Report that they are the machine's.
+mod counts;
+mod living;
+
+use codec::write_number;
+use counts::put_queues;
+use counts::put_servers;
+use living::put_living;
+use machine::Model;
+use state::Scalars;
+ghost use mathlib.Core.Path.{_≡_};
+ghost use mathlib.Core.List.{[], _∷_};
+ghost use Prim.Native.Nat.{min};
+ghost use Rattle.report.specs.Numbers.{rowNumbers};
+ghost use Rattle.report.specs.Writing.{written, putAll};
+
+fn put_scalars(x: Scalars, report: &mut [u8], at: usize) -> usize
+    ensures { λ r. ⌜ written r (now (report .exit)) ≡ putAll (x .clock ∷ x .made ∷ x .ended ∷ []) (written at (now (report .entry))) ⌝ }
+{
+    let clocked = write_number(report, at, x.clock as u64);
+    let made = write_number(report, clocked, x.made as u64);
+    write_number(report, made, x.ended as u64)
+}
+
+fn at_most(n: usize, most: usize) -> usize
+    ensures { λ r. ⌜ r ≡ min n most ⌝ }
+{
+    if n <= most {
+        return n;
+    }
+    most
+}
+
+// Writes the report from the start of its buffer, and answers how many bytes it takes.
+pub fn write_report(
+    model: Model,
+    tables: &[u32],
+    tally: &[u64],
+    work: &[u32],
+    x: Scalars,
+    report: &mut [u8],
+) -> usize
+    ensures { λ r. ⌜ written r (now (report .exit)) ≡ putAll (rowNumbers model (now (tables .entry)) (now (tally .entry)) (now (work .entry)) x) (written 0 (now (report .entry))) ⌝ }
+{
+    let blocks = at_most(model.blocks, 256);
+    let servers = at_most(model.facilities, 32) + at_most(model.storages, 32);
+    let queues = at_most(model.queues, 32);
+    let head = put_scalars(x, report, 0);
+    let served = put_servers(tables, tally, blocks, servers, report, head);
+    let queued = put_queues(tables, tally, blocks, queues, report, served);
+    put_living(work, x.moving, report, queued)
+}

@@ -1,0 +1,106 @@
+-- What a block on a server names, and what the tables and the tally hold of that server.
+use Prim.Native.Nat.{ℕ, _+_, _*_, _-_, _%_, _≤_, _<_}
+use mathlib.Core.Path.{_≡_, refl, sym, ap, _∙_, subst}
+use mathlib.Core.Bool.{false}
+use mathlib.Core.List.{List, [], _∷_}
+use mathlib.Core.Option.{none, some}
+use native.Mathlib.Omega.{arith}
+use lib.Dec.{eqb}
+use lib.ListN.{length, getD, drop, List·getD-map}
+use lib.Seq.{getD-take, getD-drop}
+use Rattle.machine.specs.Transaction.{Transaction}
+use Rattle.machine.specs.Term.{Server, idleServer}
+use Rattle.machine.specs.Term
+use Rattle.machine.specs.Block.{Code, U, NU, E, NE, F, NF, status, codeIndex, Block, generate, advance, terminate, seize, release, enter, leave, waitServer, waitTerms, branch, goto, assign, priority, split, arrive, depart, facts, BlockModel, blockAt}
+use Rattle.machine.specs.State.{State}
+use Rattle.machine.proofs.Proper.{Proper, Names, servers}
+use Rattle.machine.proofs.Shape.{Shape, capacityOf}
+use Rattle.machine.proofs.Placed.{Placed}
+use Rattle.machine.proofs.Everybody.{Maybe}
+use Rattle.tables.specs.Numbers.{blockNumbers}
+use Rattle.tables.specs.Represents.{At, Represents}
+use Rattle.tables.proofs.Operands.{at-number}
+use Rattle.state.specs.Sane.{Sane}
+use Rattle.state.specs.Stands.{Tallying}
+use Rattle.servers.specs.Units.{serverAt, inUse, capacity, statusOf}
+use Rattle.servers.specs.Waking.{unitsAt}
+
+-- ---- Units that a block takes
+
+module _ (tables : List ℕ) (at : ℕ) where
+  kind-at : (kind : ℕ) (rest : List ℕ) → At tables at (kind ∷ rest) → getD tables at 0 ≡ kind
+  kind-at kind rest found =
+      let here : at + 0 ≡ at = omega arith in
+      ap (λ (i : ℕ). getD tables i 0) (sym here) ∙ at-number tables at (kind ∷ rest) 0 (omega arith) found
+
+  -- a kind that takes none
+  takes-none : (kind : ℕ) (rest : List ℕ) → eqb kind 4 ≡ false → eqb kind 6 ≡ false → At tables at (kind ∷ rest) → unitsAt tables at ≡ 0
+  unfolding unitsAt
+  takes-none kind rest e f found = rw (kind-at kind rest found, e, f)
+
+  takes-one : (v : ℕ) → At tables at (4 ∷ v ∷ []) → unitsAt tables at ≡ 1
+  unfolding unitsAt
+  takes-one v found = rw (kind-at 4 (v ∷ []) found)
+
+  takes-some : (v b : ℕ) → At tables at (6 ∷ v ∷ b ∷ []) → unitsAt tables at ≡ b
+  unfolding unitsAt
+  takes-some v b found = rw (kind-at 6 (v ∷ b ∷ []) found) (at-number tables at (6 ∷ v ∷ b ∷ []) 2 (omega arith) found)
+
+  pub units-at : (b : Block) → At tables at (blockNumbers b) → unitsAt tables at ≡ facts b .units
+  unfolding blockNumbers facts
+  units-at (generate list p) found = takes-none 1 _ refl refl found
+  units-at (advance list) found = takes-none 2 _ refl refl found
+  units-at (terminate a) found = takes-none 3 _ refl refl found
+  units-at (seize v) found = takes-one (v - 1) found
+  units-at (release v) found = takes-none 5 _ refl refl found
+  units-at (enter v b) found = takes-some (v - 1) b found
+  units-at (leave v b) found = takes-none 7 _ refl refl found
+  units-at (waitServer code v) found = takes-none 8 _ refl refl found
+  units-at (waitTerms a r b) found = takes-none 9 _ refl refl found
+  units-at (branch a r b target) found = takes-none 10 _ refl refl found
+  units-at (goto target) found = takes-none 11 _ refl refl found
+  units-at (assign k a) found = takes-none 12 _ refl refl found
+  units-at (priority p) found = takes-none 13 _ refl refl found
+  units-at (split n target) found = takes-none 14 _ refl refl found
+  units-at (arrive q) found = takes-none 15 _ refl refl found
+  units-at (depart q) found = takes-none 16 _ refl refl found
+
+-- of block n, found as the engine finds it
+pub units-of : (m : BlockModel) (tape : List (List ℕ)) (tapeBytes tables lists : List ℕ) → Proper m tape → Represents m tape tapeBytes tables lists → (n : ℕ) → Names (length (m .blocks)) n
+    → unitsAt tables (8 * ((n - 1) % 256)) ≡ facts (blockAt m n) .units
+units-of m tape tapeBytes tables lists proper rep n placed =
+    let small : (n - 1) % 256 ≡ n - 1 = omega (arith, proper .blocks .1) in
+    ap (λ (i : ℕ). unitsAt tables (8 * i)) small ∙ units-at tables (8 * (n - 1)) (blockAt m n) (rep .blocks (n - 1) (omega arith))
+
+-- ---- The server that it names
+
+pub few : (m : BlockModel) (tape : List (List ℕ)) → Proper m tape → servers m ≤ 64
+few m tape proper = omega (arith, proper .facilities, proper .storages)
+
+pub named : (tables : List ℕ) (at v : ℕ) → v ≤ 64 → 1 ≤ v → getD tables at 0 ≡ v - 1 → serverAt tables at ≡ v - 1
+unfolding serverAt
+named tables at v high low e =
+    let small : (v - 1) % 64 ≡ v - 1 = omega arith in
+    rw (e, small)
+
+module _ (v : ℕ) (low : 1 ≤ v) (high : v ≤ 64) where
+  pub units-held : (tapeBytes tally : List ℕ) (s : State) → Tallying tapeBytes tally s → inUse tally (v - 1) ≡ Term.serverAt (s .view) v .inUse
+  unfolding Term.serverAt
+  units-held tapeBytes tally s h = h .servers .in-use (v - 1) (omega arith)
+
+  pub capacity-held : {m : BlockModel} {tape : List (List ℕ)} {tapeBytes tables lists : List ℕ} → Represents m tape tapeBytes tables lists → (s : State) → Shape m s → capacity tables (v - 1) ≡ Term.serverAt (s .view) v .capacity
+  unfolding Term.serverAt idleServer
+  capacity-held rep s shape =
+      rep .capacities (v - 1) (omega arith) ∙ ap (λ (l : List ℕ). getD l (v - 1) 0) (sym (shape .capacities))
+      ∙ List·getD-map capacityOf (s .view .servers) (v - 1) (idleServer 0)
+
+-- ---- Status codes
+
+pub status-is : (code : Code) (v : Server) → statusOf (codeIndex code) (v .inUse) (v .capacity) ≡ status code v
+unfolding statusOf codeIndex status
+status-is U v = refl
+status-is NU v = refl
+status-is E v = refl
+status-is NE v = refl
+status-is F v = refl
+status-is NF v = refl

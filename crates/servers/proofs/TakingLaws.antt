@@ -1,0 +1,144 @@
+-- 4 SEIZE and 6 ENTER do to the rows what the machine does to its state.
+use Prim.Native.Nat.{ℕ, suc, _+_, _*_, _-_, _≤_}
+use mathlib.Core.Path.{_≡_, refl, subst}
+use mathlib.Core.Bool.{Bool, true, false, cond}
+use mathlib.Core.List.{List}
+use mathlib.Core.Option.{none, some}
+use native.Mathlib.Omega.{arith}
+use lib.Dec.{leb}
+use lib.ListN.{getD}
+use Rattle.machine.specs.Transaction.{Transaction}
+use Rattle.machine.specs.Term.{Server, free}
+use Rattle.machine.specs.Term
+use Rattle.machine.specs.Block.{seize, enter, BlockModel, blockAt}
+use Rattle.machine.specs.State.{State}
+use Rattle.machine.specs.Setters.{setMoving, setSerial}
+use Rattle.machine.specs.Moves as Moves
+use Rattle.machine.specs.Execute.{question}
+use Rattle.machine.specs.Execute as Execute
+use Rattle.machine.proofs.Proper.{Proper, ProperBlock, Names, Storage, servers}
+use Rattle.tables.specs.Numbers.{blockNumbers}
+use Rattle.tables.specs.Represents.{Represents}
+use Rattle.state.specs.declared.scalars.Scalars.{Scalars}
+use Rattle.state.specs.Sane.{Sane}
+use Rattle.state.specs.Stands.{Rows, rowsOf, Stands, Done}
+use Rattle.state.specs.Bare.{entering, waiting, takingUnits, bare, bareAnswer}
+use Rattle.moves.specs.Motion.{goOn, waitOn}
+use Rattle.moves.proofs.MotionLaws.{puts-ql, wait-on-waits, waits-done, go-on-used, go-on-turns, wait-on-used, wait-on-turns}
+use Rattle.tables.proofs.Operands.{operand}
+use Rattle.state.proofs.Moving.{placed, next-low}
+use Rattle.servers.specs.Units.{serverAt, inUse, setInUse, capacity}
+use Rattle.servers.specs.Waking.{checkWels}
+use Rattle.servers.specs.Taking.{holdUnits, longer, queueUp, takeUnits}
+use Rattle.servers.specs.Taking as Taking
+use Rattle.servers.proofs.Named.{named}
+use Rattle.servers.proofs.Tallies.{queued-tallying}
+use Rattle.servers.proofs.Ready.{Ready, set-ready, ready-done}
+use Rattle.servers.proofs.Standing.{high, units-are, capacity-is, short, ready}
+
+module _ (m : BlockModel) (tape : List (List ℕ)) (tapeBytes tables lists : List ℕ) (proper : Proper m tape) (rep : Represents m tape tapeBytes tables lists)
+    (s : State) (sane : Sane m s) (r : Rows) (t : Transaction) (stands : Stands tapeBytes r (some t) s) (moving : s .moving ≡ some t) where
+  abbrev w : List ℕ
+  w = r .work
+
+  abbrev tally : List ℕ
+  tally = r .tally
+
+  abbrev x : Scalars
+  x = r .scalars
+
+  abbrev s₀ : State
+  s₀ = setMoving none s
+
+  module _ (v b : ℕ) (low : 1 ≤ v) (there : v ≤ servers m) where
+    abbrev server : Server
+    server = Term.serverAt (s .view) v
+
+    high′ : v ≤ 64
+    high′ = high m tape tapeBytes tables lists proper rep s sane r t stands v low there
+
+    ready′ : Ready tapeBytes x t v (server .inUse) (server .capacity) w tally s₀
+    ready′ = ready m tape tapeBytes tables lists proper rep s sane r t stands v low there
+
+    -- it enters
+    hold-done : Done tapeBytes (holdUnits w tally x (v - 1) (server .inUse + b) (server .capacity)) (entering (Moves.goOn t (Execute.checkWels v (Moves.setInUse v (server .inUse + b) s₀))))
+    unfolding holdUnits
+    hold-done =
+        ready-done tapeBytes x t v low high′ (server .inUse + b) (server .capacity) w (setInUse tally (v - 1) (server .inUse + b)) (Moves.setInUse v (server .inUse + b) s₀)
+        (set-ready tapeBytes x t v low high′ (server .inUse) (server .capacity) w tally s₀ ready′ (server .inUse + b))
+        (next-low proper t s sane moving)
+
+    -- it waits on the QL
+    queue-done : Done tapeBytes (queueUp w tally x (v - 1)) (waiting (Moves.toQl v) t s₀)
+    unfolding queueUp
+    queue-done =
+        waits-done tapeBytes (longer tally (v - 1)) (waitOn w x (v - 1)) (waiting (Moves.toQl v) t s₀)
+        (wait-on-waits (v - 1) (omega arith) (Moves.toQl v) w x t s₀ refl (ready′ .listing) (ready′ .counting) (omega (arith, sane .serials))
+        (puts-ql v s₀ (omega arith) (ready′ .ql))
+        (puts-ql v (setSerial (suc (s .serial)) s₀) (omega arith) (ready′ .ql)))
+        (queued-tallying tapeBytes tally s₀ (ready′ .tallying) (ready′ .samples) v low high′ (ready′ .ql) (short m tape tapeBytes tables lists proper rep s sane r t stands v low there) t)
+
+    take-done : Done tapeBytes (takeUnits tables w tally x (v - 1) b) (takingUnits v b t s₀)
+    unfolding takeUnits takingUnits
+    take-done =
+        rw (capacity-is m tape tapeBytes tables lists proper rep s sane r t stands v low there, units-are m tape tapeBytes tables lists proper rep s sane r t stands v low there)
+        (go (leb b (free server)))
+      where
+        go : (fits : Bool) → Done tapeBytes (cond fits (holdUnits w tally x (v - 1) (server .inUse + b) (server .capacity)) (queueUp w tally x (v - 1)))
+            (cond fits (entering (Moves.goOn t (Execute.checkWels v (Moves.setInUse v (server .inUse + b) s₀)))) (waiting (Moves.toQl v) t s₀))
+        go true = hold-done
+        go false = queue-done
+
+  abbrev at : ℕ
+  at = 8 * (t .next - 1)
+
+  pub seize-done : (v : ℕ) → blockAt m (t .next) ≡ seize v → Done tapeBytes (Taking.seize tables w tally x at) (bareAnswer (question (seize v) s) m (seize v) t s)
+  unfolding Taking.seize question bareAnswer bare blockNumbers
+  seize-done v is =
+      let proper′ : Names (m .facilities) v = subst (ProperBlock m) is (proper .block (t .next)) in
+      let there : v ≤ servers m = omega (arith, proper′ .1) in
+      rw (named tables (at + 1) v (high′ v 1 (proper′ .0) there) (proper′ .0) (operand m tape tapeBytes tables lists rep (t .next) (placed proper t s sane moving .0) (seize v) is 1 (omega arith)))
+      (take-done v 1 (proper′ .0) there)
+
+  pub enter-done : (v b : ℕ) → blockAt m (t .next) ≡ enter v b → Done tapeBytes (Taking.enter tables w tally x at) (bareAnswer (question (enter v b) s) m (enter v b) t s)
+  unfolding Taking.enter question bareAnswer bare blockNumbers
+  enter-done v b is =
+      let proper′ : Storage m v = subst (ProperBlock m) is (proper .block (t .next)) .0 in
+      let low : 1 ≤ v = omega (arith, proper′ .0) in
+      rw (named tables (at + 1) v (high′ v b low (proper′ .1)) low (operand m tape tapeBytes tables lists rep (t .next) (placed proper t s sane moving .0) (enter v b) is 1 (omega arith)), operand m tape tapeBytes tables lists rep (t .next) (placed proper t s sane moving .0) (enter v b) is 2 (omega arith))
+      (take-done v b low (proper′ .1))
+
+-- ---- Bytes of trace and turns are counted elsewhere
+
+module _ (tables w tally : List ℕ) (x : Scalars) where
+  take-used : (v b : ℕ) → takeUnits tables w tally x v b .scalars .used ≡ x .used
+  unfolding takeUnits holdUnits queueUp rowsOf
+  take-used v b = go (leb b (capacity tables v - inUse tally v))
+    where
+      go : (fits : Bool) → cond {A = Rows} fits (holdUnits w tally x v (inUse tally v + b) (capacity tables v)) (queueUp w tally x v) .scalars .used ≡ x .used
+      go true = go-on-used (checkWels w v (inUse tally v + b) (capacity tables v)) x
+      go false = wait-on-used w x v
+
+  take-turns : (v b : ℕ) → takeUnits tables w tally x v b .scalars .turns ≡ x .turns
+  unfolding takeUnits holdUnits queueUp rowsOf
+  take-turns v b = go (leb b (capacity tables v - inUse tally v))
+    where
+      go : (fits : Bool) → cond {A = Rows} fits (holdUnits w tally x v (inUse tally v + b) (capacity tables v)) (queueUp w tally x v) .scalars .turns ≡ x .turns
+      go true = go-on-turns (checkWels w v (inUse tally v + b) (capacity tables v)) x
+      go false = wait-on-turns w x v
+
+  pub seize-used : (at : ℕ) → Taking.seize tables w tally x at .scalars .used ≡ x .used
+  unfolding Taking.seize
+  seize-used at = take-used (serverAt tables (at + 1)) 1
+
+  pub seize-turns : (at : ℕ) → Taking.seize tables w tally x at .scalars .turns ≡ x .turns
+  unfolding Taking.seize
+  seize-turns at = take-turns (serverAt tables (at + 1)) 1
+
+  pub enter-used : (at : ℕ) → Taking.enter tables w tally x at .scalars .used ≡ x .used
+  unfolding Taking.enter
+  enter-used at = take-used (serverAt tables (at + 1)) (getD tables (at + 2) 0)
+
+  pub enter-turns : (at : ℕ) → Taking.enter tables w tally x at .scalars .turns ≡ x .turns
+  unfolding Taking.enter
+  enter-turns at = take-turns (serverAt tables (at + 1)) (getD tables (at + 2) 0)

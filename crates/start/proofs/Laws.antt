@@ -1,0 +1,252 @@
+-- The start of a run: scalars, work buffer and tally stand for the machine's start, whatever the work buffer held.
+use Prim.Native.Nat.{ℕ, suc, _+_, _-_, _*_, _≤_, _<_}
+use mathlib.Core.Path.{_≡_, refl, sym, ap, _∙_, subst}
+use mathlib.Core.Bool.{Bool, true, false, cond}
+use mathlib.Core.List.{List, [], _∷_}
+use mathlib.Core.Option.{none, some}
+use native.Mathlib.Omega.{arith}
+use borrow.Author.Tests.{ne-eqb}
+use lib.Dec.{eqb, ltb}
+use lib.ListN.{length, getD, replicate, length-set}
+use Rattle.machine.specs.Transaction.{Transaction}
+use Rattle.machine.specs.Block.{Block, generate, advance, terminate, seize, release, enter, leave, waitServer, waitTerms, branch, goto, assign, priority, split, arrive, depart, BlockModel, blockAt}
+use Rattle.machine.specs.State.{State}
+use Rattle.machine.specs.Moves as Moves
+use Rattle.machine.specs.Run.{startOf, startAt, idle, start}
+use Rattle.machine.proofs.Proper.{Names, ProperBlock, Proper}
+use Rattle.tables.specs.Numbers.{blockNumbers}
+use Rattle.tables.specs.Represents.{headerOf, Represents}
+use Rattle.rows.specs.Make.{initial}
+use Rattle.rows.specs.Living.{onLists}
+use Rattle.rows.specs.Shows.{Shows}
+use Rattle.rows.proofs.Sums.{sum-zero}
+use Rattle.rows.proofs.Showing.{shown-ext}
+use Rattle.rows.proofs.Starting.{initial-shows, initial-loose}
+use Rattle.rows.proofs.Population.{population}
+use Rattle.state.specs.Stands.{Rows, rowsOf, listsOf, Listing, Counting, Stands}
+use Rattle.state.proofs.StandsLaws.{stands-of}
+use Rattle.flow.specs.Samples.{nextSample}
+use Rattle.flow.specs.Sending.{arrives}
+use Rattle.start.specs.Start.{listsSet, startScalars, beginList, beginBlock, beginBlocks, startRows}
+use Rattle.tables.proofs.Operands.{operand}
+use Rattle.flow.proofs.Drawing.{drawn-most}
+use Rattle.flow.proofs.Arrival.{arrives-stands}
+use Rattle.start.proofs.Tally.{same-at, idle-tallying}
+
+-- ---- Before the first block: nobody lives
+
+module _ (m : BlockModel) (tape : List (List ℕ)) where
+  no-lists : (q : ℕ) → q < 450 → _≡_ {A = List Transaction} [] (listsOf (idle m tape) q)
+  unfolding listsOf idle
+  no-lists q hq = go (ltb q 64) (ltb q 448) (eqb q 448)
+    where
+      go : (a b c : Bool) → _≡_ {A = List Transaction} [] (cond a (getD (replicate (m .facilities + length (m .capacities)) []) q []) (cond b (getD (replicate ((m .facilities + length (m .capacities)) * 6) []) (q - 64) []) (cond c [] [])))
+      go true b c = sym (same-at (m .facilities + length (m .capacities)) q [])
+      go false true c = sym (same-at ((m .facilities + length (m .capacities)) * 6) (q - 64) [])
+      go false false true = refl
+      go false false false = refl
+
+  module _ (w : List ℕ) (room : 16384 ≤ length w) where
+    begun : Shows (initial w) (λ p. []) []
+    begun = initial-shows w room
+
+    nobody : onLists (λ p. []) [] ≡ 0
+    unfolding onLists
+    nobody = omega (arith, sum-zero 450 (λ p. 0) (λ k h. refl))
+
+    idle-listing : Listing (initial w) 1024 none (idle m tape)
+    unfolding idle
+    idle-listing =
+        record {
+          shows = record { rows = begun .rows; shown = shown-ext (initial w) (begun .rows) (λ p. []) (listsOf (idle m tape)) [] no-lists (begun .shown) };
+          mover = refl;
+          spare = omega (arith, population (initial w) (begun .rows) (λ p. []) [] (begun .shown), nobody, initial-loose w room);
+        }
+
+  idle-counting : Proper m tape → Counting (startScalars (m .counter)) (idle m tape)
+  unfolding startScalars idle
+  idle-counting proper =
+      record {
+        clock = refl;
+        counter = omega (arith, proper .counter);
+        serial = refl;
+        made = refl;
+        ended = refl;
+        turns = refl;
+        end = refl;
+      }
+
+-- ---- One block
+
+-- a GENERATE, or a block that the start passes
+data Begins (b : Block) : Type 0 where
+  makes : (list p : ℕ) → b ≡ generate list p → Begins b
+  passes : 0 < length (blockNumbers b) → eqb (getD (blockNumbers b) 0 0) 1 ≡ false → ((n : ℕ) (s : State) → startOf b n s ≡ s) → Begins b
+
+begins : (b : Block) → Begins b
+unfolding blockNumbers startOf
+begins (generate list p) = makes list p refl
+begins (advance list) = passes (omega arith) refl (λ n s. refl)
+begins (terminate a) = passes (omega arith) refl (λ n s. refl)
+begins (seize v) = passes (omega arith) refl (λ n s. refl)
+begins (release v) = passes (omega arith) refl (λ n s. refl)
+begins (enter v b) = passes (omega arith) refl (λ n s. refl)
+begins (leave v b) = passes (omega arith) refl (λ n s. refl)
+begins (waitServer code v) = passes (omega arith) refl (λ n s. refl)
+begins (waitTerms a r b) = passes (omega arith) refl (λ n s. refl)
+begins (branch a r b target) = passes (omega arith) refl (λ n s. refl)
+begins (goto target) = passes (omega arith) refl (λ n s. refl)
+begins (assign k a) = passes (omega arith) refl (λ n s. refl)
+begins (priority p) = passes (omega arith) refl (λ n s. refl)
+begins (split k target) = passes (omega arith) refl (λ n s. refl)
+begins (arrive q) = passes (omega arith) refl (λ n s. refl)
+begins (depart q) = passes (omega arith) refl (λ n s. refl)
+
+-- of the states of the start, before block b (from 0): at most one transaction was made for each block
+record Beginning (lists b : ℕ) (s : State) : Type 0 where
+  clock : s .view .clock ≡ 0
+  ended : s .ended ≡ 0
+  made : s .made ≤ b
+  serials : s .serial ≤ b
+  samples : length (s .samples) ≡ lists
+
+arrival-beginning : (lists b list p n : ℕ) (s : State) → Beginning lists b s → (l : List ℕ) → Beginning lists (suc b) (Moves.arrival l list p n s)
+unfolding Moves.arrival Moves.toFel
+arrival-beginning lists b list p n s h [] =
+    record { clock = h .clock; ended = h .ended; made = omega (arith, h .made); serials = omega (arith, h .serials); samples = h .samples }
+arrival-beginning lists b list p n s h (time ∷ left) =
+    record {
+      clock = h .clock;
+      ended = h .ended;
+      made = omega (arith, h .made);
+      serials = omega (arith, h .serials);
+      samples = length-set (s .samples) (list - 1) _ ∙ h .samples;
+    }
+
+module _ (m : BlockModel) (tape : List (List ℕ)) (tapeBytes tables lists : List ℕ) (proper : Proper m tape) (rep : Represents m tape tapeBytes tables lists) where
+  -- what holds after some blocks
+  record Stood (b : ℕ) (r : Rows) (s : State) : Type 0 where
+    stands : Stands tapeBytes r none s
+    beginning : Beginning (m .lists) b s
+
+  module _ (b : ℕ) (inside : b < length (m .blocks)) (r : Rows) (s : State) (h : Stood b r s) where
+    low : b < 256
+    low = omega (arith, proper .blocks)
+
+    placed : Names (length (m .blocks)) (suc b)
+    placed = (omega arith, omega arith)
+
+    few : length (s .samples) ≤ 16
+    few = omega (arith, h .beginning .samples, proper .lists)
+
+    -- number i of the block
+    number : (x : Block) → blockAt m (suc b) ≡ x → (i : ℕ) → i < length (blockNumbers x) → getD tables (8 * b + i) 0 ≡ getD (blockNumbers x) i 0
+    number x is i hi =
+        ap (λ (n : ℕ). getD tables (8 * n + i) 0) (omega arith)
+        ∙ operand m tape tapeBytes tables lists rep (suc b) placed x is i hi
+
+    module _ (list p : ℕ) (is : blockAt m (suc b) ≡ generate list p) where
+      named : Names (m .lists) list × (p ≤ 127)
+      named = subst (ProperBlock m) is (proper .block (suc b))
+
+      there : list ≤ length (s .samples)
+      there = omega (arith, named .0 .1, h .beginning .samples)
+
+      kind-is : getD tables (8 * b) 0 ≡ 1
+      unfolding blockNumbers
+      kind-is = ap (λ (n : ℕ). getD tables n 0) (omega arith) ∙ number (generate list p) is 0 (omega arith)
+
+      list-is : getD tables (8 * b + 1) 0 ≡ list - 1
+      unfolding blockNumbers
+      list-is = number (generate list p) is 1 (omega arith)
+
+      priority-is : getD tables (8 * b + 2) 0 ≡ p
+      unfolding blockNumbers
+      priority-is = number (generate list p) is 2 (omega arith)
+
+      left-cell : getD (r .tally) (944 + (list - 1)) 0 ≡ length (Moves.timesLeft s list)
+      left-cell = h .stands .tallying .samples .left (list - 1) (omega (arith, named .0 .0, there, few))
+
+      spent : Moves.timesLeft s list ≡ [] → beginBlock tables tapeBytes r b ≡ r
+      unfolding beginBlock beginList
+      spent e = rw (kind-is, list-is, left-cell ∙ ap length e)
+
+      unspent : (time : ℕ) (left : List ℕ) → Moves.timesLeft s list ≡ time ∷ left → beginBlock tables tapeBytes r b ≡ arrives (r .work) (r .tally) (r .scalars) (nextSample tapeBytes (r .tally) (list - 1)) (list - 1) p (suc b)
+      unfolding beginBlock beginList
+      unspent time left e =
+          let n : eqb (getD (r .tally) (944 + (list - 1)) 0) 0 ≡ false = ne-eqb (getD (r .tally) (944 + (list - 1)) 0) 0 (λ q. omega (arith, left-cell, ap length e)) in
+          let f : b + 1 ≡ suc b = omega arith in
+          rw (kind-is, list-is, n, priority-is, f)
+
+      made : Stands tapeBytes (beginBlock tables tapeBytes r b) none (Moves.arrival (Moves.timesLeft s list) list p (suc b) s)
+      unfolding Moves.arrival
+      made = go (Moves.timesLeft s list) refl
+        where
+          go : (l : List ℕ) → Moves.timesLeft s list ≡ l → Stands tapeBytes (beginBlock tables tapeBytes r b) none (Moves.arrival l list p (suc b) s)
+          go [] e = rw (spent e) (h .stands)
+          go (time ∷ left) e =
+              subst (λ (rows : Rows). Stands tapeBytes rows none (Moves.arrival (time ∷ left) list p (suc b) s)) (sym (unspent time left e))
+              (arrives-stands tapeBytes (r .tally) s (h .stands .tallying) list (named .0 .0) there few time left e (r .work) (r .scalars) none (h .stands .listing) (h .stands .counting)
+              (record { room = omega (arith, h .beginning .made, low); order = omega (arith, h .beginning .ended); serials = omega (arith, h .beginning .serials, low); numbers = omega (arith, h .beginning .made, low) })
+              p (suc b) (named .1)
+              (omega (arith, h .beginning .clock, drawn-most tapeBytes (r .tally) (s .samples) (list - 1) (h .stands .tallying .samples) (h .stands .tallying .size) (omega (arith, named .0 .0, there)) few time left e)))
+
+    -- another kind
+    passed : (x : Block) → blockAt m (suc b) ≡ x → 0 < length (blockNumbers x) → eqb (getD (blockNumbers x) 0 0) 1 ≡ false → beginBlock tables tapeBytes r b ≡ r
+    unfolding beginBlock
+    passed x is some-number other =
+        let e : getD tables (8 * b) 0 ≡ getD (blockNumbers x) 0 0 = ap (λ (n : ℕ). getD tables n 0) (omega arith) ∙ number x is 0 some-number in
+        rw (e, other)
+
+    -- one block more
+    later : Beginning (m .lists) (suc b) s
+    later =
+        record {
+          clock = h .beginning .clock;
+          ended = h .beginning .ended;
+          made = omega (arith, h .beginning .made);
+          serials = omega (arith, h .beginning .serials);
+          samples = h .beginning .samples;
+        }
+
+    block-stands : (x : Block) → blockAt m (suc b) ≡ x → Stood (suc b) (beginBlock tables tapeBytes r b) (startOf x (suc b) s)
+    unfolding startOf
+    block-stands x is = go (begins x)
+      where
+        go : Begins x → Stood (suc b) (beginBlock tables tapeBytes r b) (startOf x (suc b) s)
+        go (makes list p e) =
+            rw e (record { stands = made list p (is ∙ e); beginning = arrival-beginning (m .lists) b list p (suc b) s (h .beginning) (Moves.timesLeft s list) })
+        go (passes some-number other same) =
+            rw (same (suc b) s, passed x is some-number other) (record { stands = h .stands; beginning = later })
+
+  -- ---- All blocks
+
+  blocks-stand : (l : List Block) (b : ℕ) (r : Rows) (s : State) → Stood b r s → b + length l ≡ length (m .blocks) → ((i : ℕ) → i < length l → blockAt m (suc (b + i)) ≡ getD l i (terminate 0)) → Stands tapeBytes (beginBlocks (length l) tables tapeBytes r b) none (startAt (suc b) l s)
+  unfolding beginBlocks startAt
+  blocks-stand [] b r s h size at = h .stands
+  blocks-stand (x ∷ l) b r s h size at =
+      let is : blockAt m (suc b) ≡ x = ap (λ (n : ℕ). blockAt m (suc n)) (omega arith) ∙ at 0 (omega arith) in
+      blocks-stand l (suc b) (beginBlock tables tapeBytes r b) (startOf x (suc b) s) (block-stands b (omega arith) r s h x is) (omega arith)
+      (λ i hi. ap (λ (n : ℕ). blockAt m (suc n)) (omega arith) ∙ at (suc i) (omega arith))
+
+  module _ (w tally : List ℕ) (room : 16384 ≤ length w) (size : length tally ≡ 960) (empty : (i : ℕ) → i < 928 → getD tally i 0 ≡ 0) where
+    abbrev r₀ : Rows
+    r₀ = rowsOf (startScalars (m .counter)) (initial w) (listsSet 16 lists tally)
+
+    first : Stood 0 r₀ (idle m tape)
+    unfolding startScalars idle
+    first =
+        record {
+          stands = stands-of tapeBytes (startScalars (m .counter)) (initial w) (listsSet 16 lists tally) none (idle m tape) (idle-listing m tape w room) (idle-tallying m tape tapeBytes tables lists tally proper rep size empty) (idle-counting m tape proper);
+          beginning = record { clock = refl; ended = refl; made = omega arith; serials = omega arith; samples = proper .tapes };
+        }
+
+    rows-are : startRows (headerOf m) tables tapeBytes lists w tally ≡ beginBlocks (length (m .blocks)) tables tapeBytes r₀ 0
+    unfolding startRows headerOf
+    rows-are = ap (λ (n : ℕ). beginBlocks n tables tapeBytes r₀ 0) (omega (arith, proper .blocks))
+
+    pub start-stands : Stands tapeBytes (startRows (headerOf m) tables tapeBytes lists w tally) none (start m tape)
+    unfolding start
+    start-stands =
+        subst (λ (rows : Rows). Stands tapeBytes rows none (start m tape)) (sym rows-are)
+        (blocks-stand (m .blocks) 0 r₀ (idle m tape) first (omega arith) (λ i hi. ap (λ (n : ℕ). getD (m .blocks) n (terminate 0)) (omega arith)))

@@ -1,0 +1,5 @@
+pub mod AtStart
+pub mod BlockSteps
+pub mod Laws
+pub mod Tally
+pub mod Untouched

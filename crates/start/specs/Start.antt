@@ -1,0 +1,58 @@
+-- The row machine: the start of a run, in scalars, work buffer and tally.
+use Prim.Native.Nat.{ℕ, zero, suc, _+_, _*_, min}
+use mathlib.Core.Bool.{cond}
+use mathlib.Core.List.{List}
+use lib.Dec.{eqb}
+use lib.ListN.{getD, set}
+use Rattle.machine.specs.declared.model.Model.{Model}
+use Rattle.tables.specs.Layout.{listAt, listLeft}
+use Rattle.rows.specs.Make.{initial}
+use Rattle.state.specs.declared.scalars.Scalars.{Scalars}
+use Rattle.state.specs.Stands.{Rows, rowsOf}
+use Rattle.flow.specs.Samples.{nextSample}
+use Rattle.flow.specs.Sending.{arrives}
+
+-- ---- Tally: where each list begins and how many times it has
+
+unfoldable pub listSet : List ℕ → List ℕ → ℕ → List ℕ
+listSet lists tally l = set (set tally (listAt + l) (getD lists l 0)) (listLeft + l) (getD lists (16 + l) 0)
+
+unfoldable pub listsSet : ℕ → List ℕ → List ℕ → List ℕ
+listsSet zero lists tally = tally
+listsSet (suc n) lists tally = listSet lists (listsSet n lists tally) n
+
+-- ---- Scalars
+
+unfoldable pub startScalars : ℕ → Scalars
+startScalars counter =
+    record {
+      clock = 0;
+      counter = min counter 4294967295;
+      moving = 1024;
+      serial = 0;
+      made = 0;
+      ended = 0;
+      turns = 0;
+      used = 0;
+      end = 0;
+      note = 0;
+    }
+
+-- ---- A transaction for each GENERATE whose list has a time
+
+unfoldable pub beginList : (tables tape : List ℕ) → Rows → ℕ → Rows
+beginList tables tape r b =
+    cond (eqb (getD (r .tally) (listLeft + getD tables (8 * b + 1) 0) 0) 0) r
+    (arrives (r .work) (r .tally) (r .scalars) (nextSample tape (r .tally) (getD tables (8 * b + 1) 0)) (getD tables (8 * b + 1) 0) (getD tables (8 * b + 2) 0) (b + 1))
+
+unfoldable pub beginBlock : (tables tape : List ℕ) → Rows → ℕ → Rows
+beginBlock tables tape r b = cond (eqb (getD tables (8 * b) 0) 1) (beginList tables tape r b) r
+
+-- n blocks from block b on
+unfoldable pub beginBlocks : ℕ → (tables tape : List ℕ) → Rows → ℕ → Rows
+beginBlocks zero tables tape r b = r
+beginBlocks (suc n) tables tape r b = beginBlocks n tables tape (beginBlock tables tape r b) (suc b)
+
+unfoldable pub startRows : Model → (tables tape lists : List ℕ) → List ℕ → List ℕ → Rows
+startRows model tables tape lists w tally =
+    beginBlocks (min (model .blocks) 256) tables tape (rowsOf (startScalars (model .counter)) (initial w) (listsSet 16 lists tally)) 0

@@ -1,0 +1,153 @@
+// The start of a run: "clock 0; for each GENERATE in block order, if its sample list has a time, one transaction on the FEL at that
+// time". Nothing is asked.
+use flow::arrives;
+use flow::next_sample;
+use flow::times_left;
+use machine::Model;
+use rows::make::initialise;
+use state::Scalars;
+use tables::LIST_AT;
+use tables::LIST_LEFT;
+use tables::count;
+use tables::number;
+use tables::set_count;
+ghost use mathlib.Core.Path.{_≡_};
+ghost use Prim.Native.Nat.{_<_, _≤_, min};
+ghost use Rattle.state.specs.Stands.{rowsOf};
+ghost use Rattle.start.specs.Start.{listSet, listsSet, startScalars, beginList, beginBlock, beginBlocks, startRows};
+
+// Where list l begins and how many times it has.
+fn set_list(lists: &[u64], tally: &mut [u64], l: usize)
+    requires { ⌜ l < 16 ⌝ }
+    ensures { λ _. ⌜ now (tally .exit) ≡ listSet (now (lists .entry)) (now (tally .entry)) l ⌝ }
+{
+    set_count(tally, LIST_AT + l, count(lists, l));
+    set_count(tally, LIST_LEFT + l, count(lists, 16 + l));
+}
+
+fn set_lists(lists: &[u64], tally: &mut [u64])
+    ensures { λ _. ⌜ now (tally .exit) ≡ listsSet 16 (now (lists .entry)) (now (tally .entry)) ⌝ }
+{
+    let mut l: usize = 0;
+    while l < 16 {
+        set_list(lists, tally, l);
+        l += 1;
+    }
+}
+
+fn narrow(n: usize) -> u32
+    ensures { λ r. ⌜ r ≡ min n 4294967295 ⌝ }
+{
+    if n <= 4_294_967_295 {
+        return n as u32;
+    }
+    4_294_967_295
+}
+
+fn begin_scalars(counter: usize) -> Scalars
+    ensures { λ r. ⌜ r ≡ startScalars counter ⌝ }
+{
+    let c = narrow(counter);
+    Scalars {
+        clock: 0,
+        counter: c,
+        moving: 1024,
+        serial: 0,
+        made: 0,
+        ended: 0,
+        turns: 0,
+        used: 0,
+        end: 0,
+        note: 0,
+    }
+}
+
+// Block b (from 0) is a GENERATE.
+fn begin_list(
+    tables: &[u32],
+    tape: &[u8],
+    work: &mut [u32],
+    tally: &mut [u64],
+    x: Scalars,
+    b: usize,
+) -> Scalars
+    requires { do ⌜ 16384 ≤ (← ⟦work.len()⟧) ⌝ }
+    requires { ⌜ b < 256 ⌝ }
+    ensures { λ r. ⌜ rowsOf r (now (work .exit)) (now (tally .exit)) ≡ beginList (now (tables .entry)) (now (tape .entry)) (rowsOf x (now (work .entry)) (now (tally .entry))) b ⌝ }
+{
+    let list = number(tables, 8 * b + 1);
+    if times_left(tally, list) == 0 {
+        return x;
+    }
+    let priority = number(tables, 8 * b + 2);
+    let sample = next_sample(tape, tally, list);
+    arrives(work, tally, x, sample, list, priority, (b + 1) as u32)
+}
+
+fn begin_block(
+    tables: &[u32],
+    tape: &[u8],
+    work: &mut [u32],
+    tally: &mut [u64],
+    x: Scalars,
+    b: usize,
+) -> Scalars
+    requires { do ⌜ 16384 ≤ (← ⟦work.len()⟧) ⌝ }
+    requires { ⌜ b < 256 ⌝ }
+    ensures { λ r. ⌜ rowsOf r (now (work .exit)) (now (tally .exit)) ≡ beginBlock (now (tables .entry)) (now (tape .entry)) (rowsOf x (now (work .entry)) (now (tally .entry))) b ⌝ }
+{
+    if number(tables, 8 * b) != 1 {
+        return x;
+    }
+    begin_list(tables, tape, work, tally, x, b)
+}
+
+fn begin_blocks(
+    tables: &[u32],
+    tape: &[u8],
+    work: &mut [u32],
+    tally: &mut [u64],
+    x: Scalars,
+    blocks: usize,
+) -> Scalars
+    requires { do ⌜ 16384 ≤ (← ⟦work.len()⟧) ⌝ }
+    requires { ⌜ blocks ≤ 256 ⌝ }
+    ensures { λ r. ⌜ rowsOf r (now (work .exit)) (now (tally .exit)) ≡ beginBlocks blocks (now (tables .entry)) (now (tape .entry)) (rowsOf x (now (work .entry)) (now (tally .entry))) 0 ⌝ }
+{
+    let mut y = x;
+    let mut b: usize = 0;
+    while b < blocks {
+        y = begin_block(tables, tape, work, tally, y, b);
+        b += 1;
+    }
+    y
+}
+
+// At most 256 blocks.
+fn few(blocks: usize) -> usize
+    ensures { λ r. ⌜ r ≡ min blocks 256 ⌝ }
+{
+    if blocks <= 256 {
+        return blocks;
+    }
+    256
+}
+
+// `lists` is what decoding leaves: where list l begins in the tape, at l, and how many times it has, at 16 + l.
+pub fn begin(
+    model: Model,
+    tables: &[u32],
+    tape: &[u8],
+    lists: &[u64],
+    work: &mut [u32],
+    tally: &mut [u64],
+) -> Scalars
+    requires { do ⌜ 16384 ≤ (← ⟦work.len()⟧) ⌝ }
+    ensures { λ r. ⌜ rowsOf r (now (work .exit)) (now (tally .exit)) ≡ startRows model (now (tables .entry)) (now (tape .entry)) (now (lists .entry)) (now (work .entry)) (now (tally .entry)) ⌝ }
+{
+    initialise(work);
+    set_lists(lists, tally);
+    let blocks = few(model.blocks);
+    let x = begin_scalars(model.counter);
+    begin_blocks(tables, tape, work, tally, x, blocks)
+}

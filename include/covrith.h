@@ -1,0 +1,82 @@
+/* Covrith: one run of a block model on a tape, and the records of its trace.
+ *
+ * Link target/staticlib/libcovrith.a, which `rt staticlib covrith` writes (x86-64 Linux).
+ *
+ * For every function:
+ * - a length counts elements of the type that its pointer points to;
+ * - no pointer is NULL, also where its length is 0, and each is aligned for its type;
+ * - what a function writes to overlaps nothing else that it is given;
+ * - nothing is kept after the call: no memory of its own, no state, no locks. Calls on separate buffers
+ *   may run at the same time. A run takes some 40 KB of stack.
+ */
+#ifndef COVRITH_H
+#define COVRITH_H
+
+#include <stddef.h>
+#include <stdint.h>
+
+#ifdef __cplusplus
+extern "C" {
+#endif
+
+/* What a run asks of its buffers. */
+#define COVRITH_WORK_NUMBERS 16384 /* 32-bit numbers in the work buffer, at least */
+#define COVRITH_REPORT_BYTES 10240 /* bytes in the report buffer, at least */
+
+/* Places in `outcome`. */
+enum {
+    COVRITH_REFUSAL,      /* 0 for none, else 1..10; then all others are 0 */
+    COVRITH_END,          /* 1 dry, 2 counter, 3 budget, 4 trace full, 21..26 */
+    COVRITH_CLOCK,
+    COVRITH_TURNS,
+    COVRITH_MADE,
+    COVRITH_ENDED,
+    COVRITH_TRACE_BYTES,  /* bytes that the trace begins with */
+    COVRITH_REPORT_LENGTH /* bytes that the report begins with */
+};
+
+/* Runs a model on a tape for at most `budget` turns and writes trace, report and the eight results.
+ *
+ * Refusals, in this order: 1 work shorter than 16384; 2 report shorter than 10240; of the model, 3 a number that
+ * is not whole, shortest or in size, 4 out of its field's range, 5 a value too large, 6 bytes behind the model,
+ * 7 a block out of place; of the tape, 8 a number, 9 a range, 10 bytes behind it.
+ * A refused run leaves work, trace and report as they were.
+ * An accepted run leaves the bytes of trace and report behind the lengths in `outcome` as they were; the work
+ * buffer then holds nothing of use. What the buffers held before changes nothing.
+ *
+ * `outcome` points to 8 numbers, all of which are written. */
+void covrith_run(const uint8_t *model, size_t model_len,
+                 const uint8_t *tape, size_t tape_len,
+                 uint64_t budget,
+                 uint32_t *work, size_t work_len,
+                 uint8_t *trace, size_t trace_len,
+                 uint8_t *report, size_t report_len,
+                 uint64_t *outcome);
+
+/* Reads the record at a position of a trace.
+ *
+ * Answers 0 and writes clock, transaction, block, outcome (0 entered, 1 began to wait) and the position of the
+ * next record to `record`, which points to 5 numbers; or answers and writes nothing:
+ * 30 no more: the position is at or past the end;
+ * 31 a number that is not whole, shortest or in size;
+ * 32 a number out of range. */
+uint32_t covrith_read_record(const uint8_t *trace, size_t trace_len, size_t position, uint64_t *record);
+
+/* Writes one record at the front of the unused rest of a trace.
+ *
+ * Answers 0 and writes the record's 4 to 12 bytes to `rest` and their number to `written`; or writes nothing to
+ * `rest`, 0 to `written`, and answers:
+ * 32 a number out of range: clock to 2000000000, transaction 1..100000000, block 1..256, outcome 0..1;
+ * 33 the record does not fit in the rest. */
+uint32_t covrith_write_record(uint8_t *rest, size_t rest_len,
+                              uint64_t clock, uint64_t transaction, uint64_t block, uint64_t outcome,
+                              uint64_t *written);
+
+/* How many bytes of a trace are below 80 hexadecimal: of a trace that reads, four for each record. */
+uint64_t covrith_count(const uint8_t *trace, size_t trace_len);
+
+#ifdef __cplusplus
+}
+#endif
+
+#endif

@@ -1,0 +1,187 @@
+//! The stored cases of crate `vectors` and what must come out of them: each
+//! refusal, each end that a short run can meet, each kind and outcome, each
+//! list in use, 1,024 living, clocks near the limit.
+
+use crate::blocks::Done;
+use crate::generate::random::Random;
+use crate::generate::{case, Case, Size};
+use crate::machine::Machine;
+use crate::model::Model;
+use crate::number::number_bytes;
+use crate::run::{run, run_watched, Watcher};
+use std::collections::{BTreeMap, BTreeSet};
+
+/// The buffers of the program.
+pub const WORK_NUMBERS: usize = 16_500;
+pub const TRACE_BYTES: usize = 131_072;
+pub const REPORT_BYTES: usize = 10_400;
+
+/// How many cases are stored, and how many at least have each feature.
+const CASES: usize = 320;
+const EACH: u32 = 5;
+
+/// The first example of document 01.
+pub fn first_example() -> Case {
+    Case {
+        model: vec![1, 1, 0, 0, 0, 2, 2, 5, 1, 1, 0, 4, 1, 2, 2, 5, 1, 3, 1],
+        tape: vec![2, 3, 2, 2, 5, 4],
+        budget: 1_000_000,
+        work_len: 16_384,
+        trace_len: 65_536,
+        report_len: 10_240,
+    }
+}
+
+/// What a case shows.
+#[derive(Default)]
+struct Features(BTreeSet<String>);
+
+impl Features {
+    fn add(&mut self, met: bool, name: &str) {
+        if met {
+            self.0.insert(name.to_string());
+        }
+    }
+}
+
+impl Watcher for Features {
+    fn before_turn(&mut self, machine: &Machine, _trace: &[u8]) {
+        let servers = || machine.facilities.iter().chain(&machine.storages);
+        self.add(
+            machine.facilities.iter().any(|f| !f.ql.is_empty()),
+            "facility QL",
+        );
+        self.add(
+            machine.storages.iter().any(|s| !s.ql.is_empty()),
+            "storage QL",
+        );
+        for code in 1..=6 {
+            let waits = servers().any(|server| !server.wel[code - 1].is_empty());
+            self.add(waits, &format!("WEL {code}"));
+        }
+        self.add(!machine.wsl.is_empty(), "WSL");
+        self.add(!machine.rel.is_empty(), "REL");
+        self.add(!machine.fel.is_empty(), "FEL");
+        self.add(machine.living() == Model::MAX_LIVING, "1,024 living");
+        self.add(
+            machine.clock + 1_000_000 > Model::MAX_MOVE_TIME,
+            "late clock",
+        );
+        self.add(machine.clock == Model::MAX_MOVE_TIME, "last clock");
+    }
+
+    fn after_turn(&mut self, kind: u32, done: Done) {
+        self.0.insert(format!("kind {kind} {done:?}"));
+    }
+
+    fn at_end(&mut self, _machine: &Machine, end: u32, _trace: &[u8]) {
+        self.0.insert(format!("end {end}"));
+    }
+}
+
+fn features(case: &Case) -> BTreeSet<String> {
+    let mut features = Features::default();
+    let mut trace = vec![0; case.trace_len];
+    let mut report = vec![0; case.report_len];
+    let outcome = run_watched(
+        &case.model,
+        &case.tape,
+        case.budget,
+        case.work_len,
+        &mut trace,
+        &mut report,
+        &mut features,
+    );
+    features.add(true, &format!("refusal {}", outcome.refusal));
+    features.0
+}
+
+/// The stored cases, always the same, and how often each feature is met.
+pub fn cases() -> (Vec<Case>, BTreeMap<String, u32>) {
+    let mut random = Random::new(8);
+    let mut kept = vec![first_example()];
+    let mut met: BTreeMap<String, u32> = BTreeMap::new();
+    let mut spare = Vec::new();
+    for _ in 0..12_000 {
+        let size = *random.pick(&[Size::Short, Size::Small, Size::Full]);
+        let case = case(&mut random, size);
+        if !fits(&case) {
+            continue;
+        }
+        let features = features(&case);
+        let fewest = features
+            .iter()
+            .map(|name| *met.get(name).unwrap_or(&0))
+            .min();
+        let bytes = case.model.len() + case.tape.len();
+        let most = if fewest < Some(2) { 9_000 } else { 1_200 };
+        if fewest < Some(EACH) && bytes <= most {
+            kept.push(case);
+            for name in features {
+                *met.entry(name).or_insert(0) += 1;
+            }
+        } else if bytes <= 600 {
+            spare.push(case);
+        }
+    }
+    let room = CASES - kept.len();
+    kept.extend(spare.into_iter().take(room));
+    (kept, met)
+}
+
+fn fits(case: &Case) -> bool {
+    case.work_len <= WORK_NUMBERS
+        && case.trace_len <= TRACE_BYTES
+        && case.report_len <= REPORT_BYTES
+}
+
+/// The bytes of the cases, as the program reads them.
+pub fn encode(cases: &[Case]) -> Vec<u8> {
+    let mut bytes = Vec::new();
+    for case in cases {
+        let numbers = [
+            case.model.len() as u64,
+            case.tape.len() as u64,
+            case.budget,
+            case.work_len as u64,
+            case.trace_len as u64,
+            case.report_len as u64,
+        ];
+        bytes.extend(numbers.into_iter().flat_map(number_bytes));
+        bytes.extend(&case.model);
+        bytes.extend(&case.tape);
+    }
+    bytes
+}
+
+/// 263 times the sum so far, the byte and 1, modulo 4,294,967,291.
+pub fn checksum(bytes: &[u8]) -> u64 {
+    bytes.iter().fold(0, |sum, byte| {
+        (sum * 263 + u64::from(*byte) + 1) % 4_294_967_291
+    })
+}
+
+/// What the program must write: the eight results and the checksums of all
+/// lent bytes of trace and report, which keep what earlier cases left there.
+pub fn expected(cases: &[Case]) -> String {
+    let mut trace = vec![0; TRACE_BYTES];
+    let mut report = vec![0; REPORT_BYTES];
+    let mut text = String::new();
+    for case in cases {
+        let trace = &mut trace[..case.trace_len];
+        let report = &mut report[..case.report_len];
+        let outcome = run(
+            &case.model,
+            &case.tape,
+            case.budget,
+            case.work_len,
+            trace,
+            report,
+        );
+        for number in outcome.numbers() {
+            text += &format!("{number} ");
+        }
+        text += &format!("{} {}\n", checksum(trace), checksum(report));
+    }
+    text
+}

@@ -1,0 +1,37 @@
+//! The functions of include/covrith.h, as they are.
+
+extern "C" {
+    pub fn covrith_run(
+        model: *const u8,
+        model_len: usize,
+        tape: *const u8,
+        tape_len: usize,
+        budget: u64,
+        work: *mut u32,
+        work_len: usize,
+        trace: *mut u8,
+        trace_len: usize,
+        report: *mut u8,
+        report_len: usize,
+        outcome: *mut u64,
+    );
+
+    pub fn covrith_read_record(
+        trace: *const u8,
+        trace_len: usize,
+        position: usize,
+        record: *mut u64,
+    ) -> u32;
+
+    pub fn covrith_write_record(
+        rest: *mut u8,
+        rest_len: usize,
+        clock: u64,
+        transaction: u64,
+        block: u64,
+        outcome: u64,
+        written: *mut u64,
+    ) -> u32;
+
+    pub fn covrith_count(trace: *const u8, trace_len: usize) -> u64;
+}

@@ -1,0 +1,63 @@
+//! The first example of document 01, a trace there and back, and the refusals of reader and writer.
+
+use covrith::{count, read_record, run, write_record, Outcome, Record, Records};
+
+const MODEL: [u8; 19] = [1, 1, 0, 0, 0, 2, 2, 5, 1, 1, 0, 4, 1, 2, 2, 5, 1, 3, 1];
+const TAPE: [u8; 6] = [2, 3, 2, 2, 5, 4];
+
+fn record(clock: u64, transaction: u64, block: u64, outcome: u64) -> Record {
+    Record {
+        clock,
+        transaction,
+        block,
+        outcome,
+    }
+}
+
+#[test]
+fn first_example() {
+    let mut work = vec![0; covrith::WORK_NUMBERS];
+    let mut trace = vec![0; 65_536];
+    let mut report = vec![0; covrith::REPORT_BYTES];
+    let outcome = run(&MODEL, &TAPE, 1_000_000, &mut work, &mut trace, &mut report);
+    let wanted = Outcome {
+        end: 2,
+        clock: 12,
+        turns: 11,
+        made: 2,
+        ended: 2,
+        trace_bytes: 44,
+        report_bytes: 9,
+        ..Outcome::default()
+    };
+    assert_eq!(outcome, wanted);
+    let trace = &trace[..44];
+    let records: Vec<Record> = Records::new(trace).map(Result::unwrap).collect();
+    assert_eq!(records[..2], [record(3, 1, 1, 0), record(3, 1, 2, 0)]);
+    assert_eq!(records[4], record(5, 2, 2, 1));
+    assert_eq!(records[10], record(12, 2, 5, 0));
+    assert_eq!(count(trace), 4 * 11);
+    let mut again = [0; 44];
+    let mut used = 0;
+    for record in records {
+        used += write_record(&mut again[used..], record).unwrap();
+    }
+    assert_eq!(again, trace);
+}
+
+#[test]
+fn refusals() {
+    let mut report = vec![7; covrith::REPORT_BYTES];
+    let outcome = run(&MODEL, &TAPE, 1, &mut [], &mut [], &mut report);
+    assert_eq!((outcome.refusal, report[0]), (1, 7));
+    assert_eq!(read_record(&[], 0), Err(30));
+    assert_eq!(read_record(&[1, 1, 1, 0], 9), Err(30));
+    assert_eq!(read_record(&[1, 1, 1], 0), Err(31));
+    assert_eq!(read_record(&[1, 1, 0], 0), Err(32));
+    let mut records = Records::new(&[1, 1, 1, 0, 1, 0]);
+    assert_eq!(records.next(), Some(Ok(record(1, 1, 1, 0))));
+    assert_eq!((records.next(), records.next()), (Some(Err(32)), None));
+    assert_eq!(records.position(), 4);
+    assert_eq!(write_record(&mut [0; 12], record(0, 1, 1, 2)), Err(32));
+    assert_eq!(write_record(&mut [0; 4], record(128, 1, 1, 0)), Err(33));
+}
