@@ -4,7 +4,6 @@ mod files;
 mod lines;
 mod printing;
 
-use engine::Outcome;
 use files::File;
 use files::read_file;
 use printing::print_accepted;
@@ -16,14 +15,14 @@ const WORK_NUMBERS: usize = 16_384;
 
 const REPORT_BYTES: usize = 10_240;
 
-fn run(model: &[u8], tape: &[u8]) {
+// Whether all that is to be printed could be written.
+fn run(model: &[u8], tape: &[u8]) -> bool {
     let mut work = [0u32; WORK_NUMBERS];
     let mut trace = io::large_buffer();
     let mut report = [0u8; REPORT_BYTES];
     let outcome = engine::run(model, tape, BUDGET, &mut work, &mut trace, &mut report);
     if outcome.refusal != 0 {
-        print_refused(outcome.refusal);
-        return;
+        return print_refused(outcome.refusal);
     }
     let trace_bytes = outcome.trace_bytes as usize;
     let report_bytes = outcome.report_bytes as usize;
@@ -33,7 +32,7 @@ fn run(model: &[u8], tape: &[u8]) {
         outcome,
         &trace[..trace_bytes],
         &report[..report_bytes],
-    );
+    )
 }
 
 fn main() {
@@ -45,5 +44,7 @@ fn main() {
     let File::Read(tape_len) = read_file(b"tape.bin", &mut tape) else {
         return;
     };
-    run(&model[..model_len], &tape[..tape_len]);
+    if !run(&model[..model_len], &tape[..tape_len]) {
+        os::fail(b"standard output");
+    }
 }

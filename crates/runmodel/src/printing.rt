@@ -10,33 +10,38 @@ use libc::STDOUT_FILENO;
 use machine::Model;
 use tables::TABLES;
 use trace::Reading;
+ghost use mathlib.Core.Path.{_≡_};
 ghost use Prim.Native.Nat.{_+_, _*_, _≤_};
 ghost use lib.ListN.{length};
 
-fn print_line(letters: &[u8], numbers: &[u64])
+// Each function that prints answers whether all of it could be written.
+fn print_line(letters: &[u8], numbers: &[u64]) -> bool
     requires { ⌜ length (now letters) + 21 * length (now numbers) ≤ 134 ⌝ }
 {
     let mut out = [0u8; LINE];
     let n = line(&mut out, letters, numbers);
-    io::write_all(STDOUT_FILENO, &out[..n]);
+    io::write_all(STDOUT_FILENO, &out[..n])
 }
 
-pub fn print_refused(number: u64) {
-    print_line(b"refused ", &[number]);
+pub fn print_refused(number: u64) -> bool {
+    print_line(b"refused ", &[number])
 }
 
 // Every record of a trace.
-fn print_records(trace: &[u8]) {
+fn print_records(trace: &[u8]) -> bool {
     let mut at = 0;
     let mut left = trace.len();
     while 0 < left {
         let Reading::Taken(r, next) = trace::read_record(trace, at) else {
-            return;
+            return true;
         };
-        print_line(b"", &[r.clock, r.transaction, r.block, r.outcome]);
+        if !print_line(b"", &[r.clock, r.transaction, r.block, r.outcome]) {
+            return false;
+        }
         at = next;
         left -= 1;
     }
+    true
 }
 
 // The report's number at a position, and the position after it.
@@ -71,13 +76,11 @@ fn skip_all(report: &[u8], at: usize, things: usize, count: usize) -> usize {
     next
 }
 
-// A line with letters, a number and so many fields of the report; returns the position behind them.
-fn print_fields(report: &[u8], at: usize, letters: &[u8], number: u64, count: usize) -> usize
-    requires { ⌜ length (now letters) ≤ 8 ⌝ }
+// The fields from a position on, so many of them, behind the first number; returns the position behind them.
+fn read_fields(report: &[u8], at: usize, count: usize, numbers: &mut [u64; 6]) -> usize
     requires { ⌜ count ≤ 5 ⌝ }
+    ensures { λ _. ⌜ length (now (numbers .exit)) ≡ length (now (numbers .entry)) ⌝ }
 {
-    let mut numbers = [0u64; 6];
-    numbers[0] = number;
     let mut next = at;
     let mut i = 0;
     while i < count {
@@ -86,42 +89,53 @@ fn print_fields(report: &[u8], at: usize, letters: &[u8], number: u64, count: us
         numbers[i] = f.value;
         next = f.next;
     }
-    print_line(letters, &numbers[..i + 1]);
     next
 }
 
 // A line for each server or queue of a kind, from a position on.
-fn print_all(report: &[u8], at: usize, letters: &[u8], things: usize, count: usize)
+fn print_all(report: &[u8], at: usize, letters: &[u8], things: usize, count: usize) -> bool
     requires { ⌜ length (now letters) ≤ 8 ⌝ }
     requires { ⌜ count ≤ 5 ⌝ }
 {
+    let mut numbers = [0u64; 6];
     let mut next = at;
     let mut k = 0;
     while k < things {
         k += 1;
-        next = print_fields(report, next, letters, k as u64, count);
+        numbers[0] = k as u64;
+        next = read_fields(report, next, count, &mut numbers);
+        if !print_line(letters, &numbers[..count + 1]) {
+            return false;
+        }
     }
+    true
 }
 
 // Clock, made and ended begin the report, and the living follow the queues.
-fn print_report(m: Model, outcome: Outcome, report: &[u8]) {
+fn print_report(m: Model, outcome: Outcome, report: &[u8]) -> bool {
     let facilities = skip(report, 0, 3);
     let storages = skip_all(report, facilities, m.facilities, 5);
     let queues = skip_all(report, storages, m.storages, 5);
-    let living = skip_all(report, queues, m.queues, 3);
-    print_line(
+    let living = number_at(report, skip_all(report, queues, m.queues, 3)).value;
+    if !print_line(
         b"end ",
         &[
             outcome.end,
             outcome.clock,
             outcome.made,
             outcome.ended,
-            number_at(report, living).value,
+            living,
         ],
-    );
-    print_all(report, facilities, b"f ", m.facilities, 5);
-    print_all(report, storages, b"s ", m.storages, 5);
-    print_all(report, queues, b"q ", m.queues, 3);
+    ) {
+        return false;
+    }
+    if !print_all(report, facilities, b"f ", m.facilities, 5) {
+        return false;
+    }
+    if !print_all(report, storages, b"s ", m.storages, 5) {
+        return false;
+    }
+    print_all(report, queues, b"q ", m.queues, 3)
 }
 
 // How many servers and queues an accepted model has.
@@ -141,7 +155,15 @@ fn header(model: &[u8], tape: &[u8]) -> Model {
     }
 }
 
-pub fn print_accepted(model: &[u8], tape: &[u8], outcome: Outcome, trace: &[u8], report: &[u8]) {
-    print_records(trace);
-    print_report(header(model, tape), outcome, report);
+pub fn print_accepted(
+    model: &[u8],
+    tape: &[u8],
+    outcome: Outcome,
+    trace: &[u8],
+    report: &[u8],
+) -> bool {
+    if !print_records(trace) {
+        return false;
+    }
+    print_report(header(model, tape), outcome, report)
 }

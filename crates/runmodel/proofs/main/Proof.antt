@@ -60,8 +60,17 @@ slice-aggregate-run-2 c = c .before .before .before .before .before .before .rea
 run-requires : tie.Need-run-requires
 run-requires c κs = search needs
 
+slice-aggregate-fail : tie.Need-slice-aggregate-fail
+slice-aggregate-fail c = search needs
+
+fail-requires : tie.Need-fail-requires
+fail-requires c κs = search needs
+
 returns-3 : tie.Need-returns-3
 returns-3 c = search needs
+
+returns-4 : tie.Need-returns-4
+returns-4 c = search needs
 
 pub main-spec : {M : Type 1} → statement M
 main-spec =
@@ -86,4 +95,7 @@ main-spec =
     array-share-prefix-tape
     slice-aggregate-run-2
     run-requires
-    returns-3)
+    slice-aggregate-fail
+    fail-requires
+    returns-3
+    returns-4)

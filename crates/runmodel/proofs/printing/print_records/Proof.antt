@@ -30,6 +30,9 @@ slice-aggregate-print-line-2 c = search needs
 print-line-requires : tie.Need-print-line-requires Inv-loop μ-loop
 print-line-requires c κs = search needs
 
+returns-2 : tie.Need-returns-2 Inv-loop μ-loop
+returns-2 c = search needs
+
 sub-left : tie.Need-sub-left Inv-loop μ-loop
 sub-left c = search needs
 
@@ -39,8 +42,8 @@ loop-less c = search needs
 loop-again : tie.Need-loop-again Inv-loop μ-loop
 loop-again c = search needs
 
-returns-2 : tie.Need-returns-2 Inv-loop μ-loop
-returns-2 c = search needs
+returns-3 : tie.Need-returns-3 Inv-loop μ-loop
+returns-3 c = search needs
 
 pub print-records-spec : {M : Type 1} → statement M
 print-records-spec =
@@ -55,7 +58,8 @@ print-records-spec =
     slice-aggregate-print-line
     slice-aggregate-print-line-2
     print-line-requires
+    returns-2
     sub-left
     loop-less
     loop-again
-    returns-2)
+    returns-3)
