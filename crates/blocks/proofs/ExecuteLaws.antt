@@ -1,22 +1,20 @@
 -- One block over the rows leaves what the machine's block does, apart from its record.
-use Prim.Native.Nat.{ℕ, _+_, _-_, _*_, _<_}
-use mathlib.Core.Path.{_≡_, refl, sym, subst}
-use mathlib.Core.List.{List, [], _∷_}
-use mathlib.Core.Option.{Option, none, some}
-use lib.ListN.{length, getD}
+use Prim.Native.Nat.{ℕ, _-_, _*_}
+use mathlib.Core.Path.{_≡_, refl, subst}
+use mathlib.Core.List.{List, _∷_}
+use mathlib.Core.Option.{some}
+use lib.ListN.{length}
 use Rattle.machine.specs.Transaction.{Transaction}
 use Rattle.machine.specs.Block.{Block, generate, advance, terminate, seize, release, enter, leave, waitServer, waitTerms, branch, goto, assign, priority, split, arrive, depart, BlockModel, blockAt}
 use Rattle.machine.specs.State.{State}
 use Rattle.machine.specs.Execute.{question}
 use Rattle.machine.proofs.Proper.{Proper}
-use Rattle.tables.specs.Layout as Layout
 use Rattle.tables.specs.Numbers.{blockNumbers}
 use Rattle.tables.specs.Represents.{At, Represents}
 use Rattle.terms.specs.Nested.{Nested}
 use Rattle.terms.proofs.Found.{at-first}
-use Rattle.state.specs.declared.scalars.Scalars.{Scalars}
 use Rattle.state.specs.Sane.{Sane}
-use Rattle.state.specs.Stands.{Rows, rowsOf, Stands, Done}
+use Rattle.state.specs.Stands.{Rows, Stands, Done}
 use Rattle.state.specs.Bare.{Bare, bareAnswer}
 use Rattle.flow.proofs.GenerateLaw.{generate-done}
 use Rattle.flow.proofs.AdvanceLaw.{advance-done}

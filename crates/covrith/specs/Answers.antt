@@ -2,7 +2,7 @@
 use Prim.Native.Nat.{ℕ}
 use mathlib.Core.List.{List, [], _∷_}
 use lib.ListN.{length}
-use Rattle.machine.specs.Trace.{Record, Reading, taken, refusal, noMore, Writing, written, rejected}
+use Rattle.machine.specs.Trace.{Reading, taken, refusal, noMore, Writing, written, rejected}
 
 -- ---- Reader: 0 and five numbers, or 30 for "no more", 31 or 32; a refusal leaves the numbers as they were
 

@@ -2,8 +2,8 @@
 use Prim.Native.Nat.{ℕ, suc, _+_, _-_, _*_, _≤_, _<_}
 use mathlib.Core.Path.{_≡_, refl, sym, ap, _∙_, subst}
 use mathlib.Core.Bool.{Bool, true, false, cond}
-use mathlib.Core.List.{List, [], _∷_}
-use mathlib.Core.Option.{Option, none, some}
+use mathlib.Core.List.{List}
+use mathlib.Core.Option.{none, some}
 use native.Mathlib.Omega.{arith}
 use borrow.Author.Tests.{lt-ltb}
 use lib.ListN.{length, getD, set}
@@ -22,17 +22,16 @@ use Rattle.tables.specs.Layout as Layout
 use Rattle.tables.specs.Represents.{Represents}
 use Rattle.rows.specs.Layout.{wsl, parameterField}
 use Rattle.rows.specs.Cells.{write}
-use Rattle.rows.specs.Holds.{transactionAt}
 use Rattle.rows.proofs.Fields.{write-parameter}
-use Rattle.terms.specs.Evaluation.{termAt, compareAt}
+use Rattle.terms.specs.Evaluation.{compareAt}
 use Rattle.terms.specs.Nested.{Nested}
 use Rattle.terms.specs.Sees.{parametersOf, Sees}
 use Rattle.terms.proofs.Signs.{signed-low}
 use Rattle.terms.proofs.Laws.{let-law, wait-law, if-law}
 use Rattle.state.specs.declared.scalars.Scalars.{Scalars}
 use Rattle.state.specs.Sane.{Sane}
-use Rattle.state.specs.Stands.{Rows, rowsOf, Listing, Stands, Done}
-use Rattle.state.specs.Bare.{Bare, entering, waiting, bare, bareAnswer}
+use Rattle.state.specs.Stands.{Rows, Listing, Stands, Done}
+use Rattle.state.specs.Bare.{entering, waiting, bare, bareAnswer}
 use Rattle.state.proofs.StandsLaws.{listing-write, stands-moving}
 use Rattle.moves.specs.Motion.{Moved, withTally, goTo, goOn, waitOn}
 use Rattle.moves.proofs.MotionLaws.{go-to-done, go-on-done, puts-wsl, wait-on-waits, waits-done, wsl-tallying, go-to-used, go-on-used, wait-on-used}

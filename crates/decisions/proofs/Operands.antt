@@ -11,7 +11,7 @@ use Rattle.tables.specs.Layout as Layout
 use Rattle.tables.specs.Numbers.{relationNumber, termNumbers, blockNumbers}
 use Rattle.tables.specs.Represents.{At, smallTerm, smallBlock, Represents}
 use Rattle.terms.specs.Nested.{nestedTerm, nestedBlock, Nested}
-use Rattle.terms.proofs.Found.{at-first, at-front, at-back}
+use Rattle.terms.proofs.Found.{at-first, at-back}
 use Rattle.terms.proofs.Terms.{and-left, and-right}
 use Rattle.terms.proofs.Laws.{two-numbers}
 

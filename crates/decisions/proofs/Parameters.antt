@@ -1,18 +1,17 @@
 -- Parameters as bits are the machine's signed ones, and whatever a term of a block is worth lies in the range of 32 bits.
 use Prim.Native.Nat.{ℕ, zero, suc, _+_, _-_, _≤_, _<_}
-use mathlib.Core.Path.{_≡_, refl, sym, ap, _∙_, subst}
+use mathlib.Core.Path.{_≡_, refl, ap, subst}
 use mathlib.Core.Bool.{Bool, true, false, cond}
 use mathlib.Core.List.{List, [], _∷_, _++_}
 use native.Mathlib.Omega.{arith}
 use borrow.Author.Tests.{ltb-true, ltb-false}
 use lib.Dec.{T, ltb, leb→le, lit<}
 use lib.ListN.{getD}
-use lib.IntN.{ℤ, pos, negsuc, negℤ, _+ℤ_, _-ℤ_}
+use lib.IntN.{ℤ, pos, negsuc, negℤ}
 use lib.Signed.{mag}
 use mir.Syntax.{w32}
 use mir.Val.{toZ, sel}
 use Rattle.machine.specs.Limits.{maxConstant}
-use Rattle.machine.specs.Transaction.{Transaction}
 use Rattle.machine.specs.Term.{View, idleServer, serverAt, queueAt, signed, low32, wrap, oneIf, Term, constant, minusConstant, parameter, clockTerm, entriesOf, contentOf, unitsInUse, unitsFree, facilityInUse, value, comparison, bracket, Sum, nothing, plus, minus, term, sum, worths, evaluate}
 use Rattle.machine.specs.Claims.{Each}
 use Rattle.machine.proofs.Shape.{each-getD}

@@ -2,11 +2,11 @@
 use Prim.Native.Nat.{ℕ, zero, suc, _+_, _-_, _*_, _≤_, _<_, min}
 use mathlib.Core.Path.{_≡_, refl, sym, ap, _∙_, subst}
 use mathlib.Core.Bool.{Bool, true, false, cond}
-use mathlib.Core.List.{List, [], _∷_}
-use mathlib.Core.Option.{Option, none, some}
+use mathlib.Core.List.{List}
+use mathlib.Core.Option.{none, some}
 use native.Mathlib.Omega.{arith}
 use native.Mathlib.Decide.{ℕ-discrete}
-use borrow.Author.Tests.{eq-eqb, ne-eqb, le-leb, lt-leb}
+use borrow.Author.Tests.{ne-eqb, le-leb}
 use lib.Dec.{leb, eqb}
 use lib.ListN.{length, getD, set, length-set}
 use lib.Seq.{getD-set-same, getD-set-other}
@@ -22,7 +22,7 @@ use Rattle.tables.specs.Layout as Layout
 use Rattle.tables.specs.Represents.{Represents}
 use Rattle.state.specs.declared.scalars.Scalars.{Scalars}
 use Rattle.state.specs.Sane.{Sane}
-use Rattle.state.specs.Stands.{Rows, rowsOf, listsOf, Listing, Queueing, Tallying, Counting, Stands, Done}
+use Rattle.state.specs.Stands.{Rows, rowsOf, listsOf, Queueing, Tallying, Stands, Done}
 use Rattle.state.specs.Bare.{Bare, entering, bare, bareAnswer}
 use Rattle.state.proofs.StandsLaws.{listing-ext, entries-set, serving-set, sampling-set, counting-ext, stands-moving}
 use Rattle.moves.specs.Motion.{goOn, withTally, stopped}

@@ -1,11 +1,11 @@
 -- The WS scheme over the rows is the machine's.
-use Prim.Native.Nat.{ℕ, zero, suc, _+_, _-_, _*_, _≤_, _<_}
+use Prim.Native.Nat.{ℕ, _-_, _*_, _≤_, _<_}
 use mathlib.Core.Path.{_≡_, refl, sym, ap, _∙_, subst}
 use mathlib.Core.Bool.{Bool, true, false, cond, not}
-use mathlib.Core.List.{List, [], _∷_, _++_}
-use mathlib.Core.Option.{Option, none, some}
+use mathlib.Core.List.{List, _∷_}
+use mathlib.Core.Option.{Option}
 use native.Mathlib.Omega.{arith}
-use borrow.Author.Tests.{ltb-true, ltb-false, lt-ltb, le-ltb, eq-eqb}
+use borrow.Author.Tests.{ltb-true, ltb-false, lt-ltb, le-ltb}
 use lib.Dec.{ltb, eqb}
 use lib.ListN.{length, getD, List·getD-eq-default}
 use lib.IntN.{ℤ}
@@ -24,12 +24,11 @@ use Rattle.rows.specs.Cells.{read}
 use Rattle.rows.specs.Wake.{wakeAll}
 use Rattle.rows.specs.Holds.{transactionAt}
 use Rattle.terms.specs.Nested.{Nested}
-use Rattle.terms.specs.Sees.{parametersOf, Sees}
+use Rattle.terms.specs.Sees.{Sees}
 use Rattle.terms.proofs.Found.{at-first}
 use Rattle.terms.proofs.Laws.{wait-law}
-use Rattle.state.specs.declared.scalars.Scalars.{Scalars}
 use Rattle.state.specs.Sane.{Sane}
-use Rattle.state.specs.Stands.{Rows, rowsOf, Listing, Stands}
+use Rattle.state.specs.Stands.{Rows, rowsOf, Stands}
 use Rattle.state.proofs.StandsLaws.{tallying-ext, counting-ext, stands-of}
 use Rattle.state.proofs.WakingLaws.{wake-wsl-listing}
 use Rattle.decisions.specs.Comparison.{parametersAt, holdsAt}

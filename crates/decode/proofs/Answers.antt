@@ -1,13 +1,11 @@
 -- All questions, pure: from the answers for the model and for the tape to the machine's `validate`.
-use Prim.Native.Nat.{ℕ, zero, suc, _+_, _≤_, _<_}
+use Prim.Native.Nat.{ℕ, _≤_, _<_}
 use native.Mathlib.Omega.{arith}
 use mathlib.Core.Path.{_≡_, refl, sym, ap, _∙_}
-use mathlib.Core.Bool.{Bool, true, false, cond}
-use mathlib.Core.List.{List, [], _∷_}
-use lib.Dec.{leb}
-use lib.ListN.{length, getD}
+use mathlib.Core.List.{List}
+use lib.ListN.{length}
 use borrow.Author.Tests.{le-leb, lt-leb}
-use Rattle.machine.specs.Parser.{Cursor, Parsed, parsed, refused}
+use Rattle.machine.specs.Parser.{Parsed, parsed, refused}
 use Rattle.machine.specs.Block.{BlockModel}
 use Rattle.machine.specs.Validate.{modelOf, tapeOf, beginning, Validation, accept, reject, withTape, withModel, validate}
 use Rattle.machine.specs.declared.model.Model.{Model}

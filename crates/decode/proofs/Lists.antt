@@ -1,12 +1,12 @@
 -- The sample lists of a tape, pure: time by time, list by list, and what their cells then hold.
-use Prim.Native.Nat.{ℕ, zero, suc, _+_, _*_, _-_, _≤_, _<_}
+use Prim.Native.Nat.{ℕ, zero, suc, _+_, _-_, _≤_, _<_}
 use native.Mathlib.Numerals.{add-one}
 use native.Mathlib.Omega.{arith}
 use mathlib.Core.Path.{_≡_, refl, sym, ap, _∙_}
 use mathlib.Core.Bool.{Bool, true, false, cond, _&&_}
 use mathlib.Core.Option.{Option, none, some}
 use mathlib.Core.List.{List, [], _∷_}
-use lib.ListN.{length, drop, getD, set, replicate, length-set, length-replicate, List·getD-eq-default}
+use lib.ListN.{length, drop, getD, set, length-set, length-replicate, List·getD-eq-default}
 use lib.Seq.{getD-set-same, getD-set-other}
 use lib.Dec.{ltb, leb, eqb}
 use borrow.Author.Tests.{ltb-true, ltb-false, eq-eqb, ne-eqb}
@@ -23,7 +23,7 @@ use Rattle.decode.specs.declared.Tape.{Tape}
 use Rattle.decode.specs.declared.Tape.the-variants.{At, Refused}
 use Rattle.values.proofs.Rows.{rows-length, times-rows}
 use Rattle.decode.proofs.Represented.{zeros}
-use Rattle.decode.specs.Lists.{cursorAt, emptyLists, Skips, OneList, listCells, Listed, Filled, Lists}
+use Rattle.decode.specs.Lists.{cursorAt, emptyLists, Skips, OneList, Listed, Filled, Lists}
 
 -- ---- Reading does not depend on what was counted in a value
 

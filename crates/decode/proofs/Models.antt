@@ -1,35 +1,34 @@
 -- The whole model, pure: its three parts make it, and questions 6 and 7 are those of the machine.
-use Prim.Native.Nat.{ℕ, zero, suc, _+_, _*_, _-_, _≤_, _<_}
+use Prim.Native.Nat.{ℕ, _-_, _≤_, _<_}
 use native.Mathlib.Omega.{arith}
-use mathlib.Core.Path.{_≡_, refl, sym, ap, _∙_}
-use mathlib.Core.Bool.{Bool, true, false, cond, _&&_}
-use mathlib.Core.List.{List, [], _∷_}
-use lib.Dec.{eqb, leb, leb·zero}
+use mathlib.Core.Path.{_≡_, refl, ap, _∙_}
+use mathlib.Core.Bool.{true, false, _&&_}
+use mathlib.Core.List.{List}
+use lib.Dec.{leb, leb·zero}
 use lib.ListN.{length}
 use borrow.Author.Tests.{eq-eqb, ne-eqb, le-leb, lt-leb}
-use Rattle.machine.specs.Parser.{Cursor, Parsed, parsed, refused, Parser, continue, field, times, ask}
-use Rattle.machine.specs.Block.{BlockModel, facts, terminate}
+use Rattle.machine.specs.Parser.{Cursor, Parsed, parsed, refused, continue, ask}
+use Rattle.machine.specs.Block.{BlockModel}
 use Rattle.machine.specs.Decode.{modelFields, atEnd}
-use Rattle.machine.specs.Validate.{wellPlaced, targetsMove, sumNames, allOf, wellFormed, modelOf, beginning}
+use Rattle.machine.specs.Validate.{targetsMove, wellFormed, modelOf, beginning}
 use Rattle.machine.specs.declared.model.Model.{Model}
 use Rattle.tables.specs.Numbers.{sumNumbers, blockNumbers}
 use Rattle.tables.specs.Represents.{headerOf}
 use Rattle.values.specs.declared.Place.{Place}
-use Rattle.values.specs.Keeps.{cursorOf, placeOf}
-use Rattle.values.specs.Rows.{storedRows, allNamed, Each}
-use Rattle.values.specs.Shapes.{Within, sumNamed, ProperValue}
+use Rattle.values.specs.Keeps.{cursorOf}
+use Rattle.values.specs.Rows.{storedRows, allNamed}
+use Rattle.values.specs.Shapes.{sumNamed}
 use Rattle.values.proofs.Named.{values-name}
-use Rattle.program.specs.Formed.{Formed, placedFrom, targetsFrom}
+use Rattle.program.specs.Formed.{placedFrom, targetsFrom}
 use Rattle.program.specs.Shapes.{capacitiesOf}
 use Rattle.program.proofs.Steps.{continue-assoc}
 use Rattle.program.proofs.Question.{placed-machine, targets-machine}
 use Rattle.decode.specs.declared.Header.{Header}
 use Rattle.decode.specs.declared.Header.the-variants.{Read, Refused as NoHeader}
-use Rattle.decode.specs.declared.Decoded.{Decoded}
 use Rattle.decode.specs.declared.Decoded.the-variants.{Model as Accepted, Refused}
-use Rattle.decode.specs.Stages.{noModel, noPlace, Stage, Servers, serversField, withServers, serversShape, Things, thingsField, withThings, thingsShape, Program, programField, withProgram, programShape}
+use Rattle.decode.specs.Stages.{noModel, noPlace, Stage, Servers, serversField, withServers, serversShape, Things, thingsField, withThings, thingsShape, Program, programField, programShape}
 use Rattle.decode.specs.Models.{tablesOf, ProperModel, modelShape, Models}
-use Rattle.decode.proofs.Stages.{stage-refused, stage-known, stage-stop, stage-bind}
+use Rattle.decode.proofs.Stages.{stage-known, stage-stop, stage-bind}
 use Rattle.decode.proofs.Represented.{capacities-stand, blocks-stand}
 
 -- ---- Three parts

@@ -5,11 +5,11 @@ use mathlib.Core.Path.{_≡_, refl, sym, ap, _∙_}
 use mathlib.Core.Bool.{Bool, true, false}
 use mathlib.Core.List.{List, [], _∷_, _++_}
 use lib.Dec.{ltb, T}
-use lib.ListN.{length, getD, take, drop, replicate, length-replicate, getD-replicate, length-take, length-drop, List·getD-append, List·getD-eq-default}
+use lib.ListN.{length, getD, drop, replicate, length-replicate, getD-replicate, length-take, length-drop, List·getD-append, List·getD-eq-default}
 use lib.Seq.{sets, length-sets, ext-getD, getD-take, getD-drop, getD-append-add}
 use borrow.Author.Tests.{ltb-true, ltb-false}
 use Rattle.machine.specs.Term.{Sum, nothing}
-use Rattle.machine.specs.Block.{Block, terminate, BlockModel}
+use Rattle.machine.specs.Block.{terminate, BlockModel}
 use Rattle.machine.specs.declared.model.Model.{Model}
 use Rattle.tables.specs.Numbers.{sumNumbers, blockNumbers}
 use Rattle.tables.specs.Represents.{At, smallBlock, smallSum}

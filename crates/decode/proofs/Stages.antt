@@ -1,33 +1,28 @@
 -- The parts of a model, pure: from what each call kept to what the part keeps.
-use Prim.Native.Nat.{ℕ, zero, suc, _+_, _*_, _-_, _≤_, _<_}
-use native.Mathlib.Numerals.{add-one}
+use Prim.Native.Nat.{ℕ, suc, _+_, _-_, _≤_, _<_}
 use native.Mathlib.Omega.{arith}
 use mathlib.Core.Path.{_≡_, refl, sym, ap, _∙_}
-use mathlib.Core.Bool.{Bool, true, false}
-use mathlib.Core.List.{List, [], _∷_}
-use lib.ListN.{length, replicate, set}
+use mathlib.Core.List.{List, []}
+use lib.ListN.{replicate, set}
 use lib.Seq.{sets}
-use Rattle.machine.specs.Parser.{Cursor, Parsed, parsed, refused, Parser, continue, field, times}
-use Rattle.machine.specs.Term.{Sum}
-use Rattle.machine.specs.Block.{Block}
-use Rattle.machine.specs.Decode.{Counts, valueFields, blockField, valueField, inValue}
+use Rattle.machine.specs.Parser.{Parsed, parsed, refused, Parser, continue, field, times}
+use Rattle.machine.specs.Decode.{valueFields, blockField, valueField, inValue}
 use Rattle.machine.specs.declared.model.Model.{Model}
-use Rattle.tables.specs.Numbers.{sumNumbers, blockNumbers}
 use Rattle.values.specs.declared.Place.{Place}
 use Rattle.values.specs.declared.Taken.{Taken}
-use Rattle.values.specs.declared.Taken.the-variants.{Number, Refused as NotTaken}
+use Rattle.values.specs.declared.Taken.the-variants.{Number}
 use Rattle.values.specs.declared.Stored.{Stored}
 use Rattle.values.specs.declared.Stored.the-variants.{Done, Refused as NotStored}
 use Rattle.values.specs.Keeps.{cursorOf, placeOf, Takes, plainShape, numberShape}
 use Rattle.values.specs.Rows.{Rows, allNamed, storedRows}
-use Rattle.values.specs.Shapes.{Within, countsOf, beforeValues, sumNamed, valueShape, ProperValue}
-use Rattle.values.proofs.Binds.{takes-stop, takes-bind}
+use Rattle.values.specs.Shapes.{sumNamed, valueShape, ProperValue}
+use Rattle.values.proofs.Binds.{takes-bind}
 use Rattle.values.proofs.Rows.{times-rows, values-rows, rows-end, rows-bind, rows-length, unnamed}
 use Rattle.program.specs.Formed.{Formed}
 use Rattle.program.specs.Shapes.{blockShape, capacitiesOf}
 use Rattle.decode.specs.declared.Header.{Header}
 use Rattle.decode.specs.declared.Header.the-variants.{Read, Refused}
-use Rattle.decode.specs.Stages.{emptyTables, Capacity, noModel, StageShape, Stage, Servers, serversField, withServers, serversShape, Things, seenByValues, thingsField, withThings, thingsShape, Program, seenByBlocks, programField, withProgram, programShape}
+use Rattle.decode.specs.Stages.{emptyTables, Capacity, noModel, StageShape, Stage, serversField, serversShape, seenByValues, thingsField, thingsShape, seenByBlocks, programField, programShape}
 
 -- ---- Facilities
 

@@ -1,5 +1,5 @@
 -- The sample lists of a tape: for list k (from 0) cell k is the byte where its times begin, and cell 16 + k their count.
-use Prim.Native.Nat.{ℕ, zero, suc, _+_, _≤_, _<_}
+use Prim.Native.Nat.{ℕ, suc, _+_}
 use mathlib.Core.Path.{_≡_}
 use mathlib.Core.List.{List, [], _∷_}
 use lib.ListN.{length, set, replicate}

@@ -1,7 +1,7 @@
 -- The whole model: its cells of the tables, and the answer to questions 3 to 7.
-use Prim.Native.Nat.{ℕ, zero, suc, _+_, _≤_, _<_}
+use Prim.Native.Nat.{ℕ, _≤_}
 use mathlib.Core.Path.{_≡_}
-use mathlib.Core.List.{List, [], _∷_}
+use mathlib.Core.List.{List}
 use lib.ListN.{length}
 use Rattle.machine.specs.Limits as Limits
 use Rattle.machine.specs.Parser.{Parsed, parsed, refused}

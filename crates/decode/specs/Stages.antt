@@ -1,21 +1,20 @@
 -- A model read in three parts, each with its header and its cells of the tables.
-use Prim.Native.Nat.{ℕ, zero, suc, _+_, _-_, _≤_, _<_}
+use Prim.Native.Nat.{ℕ, _+_, _≤_}
 use mathlib.Core.Path.{_≡_}
-use mathlib.Core.Bool.{Bool}
-use mathlib.Core.List.{List, [], _∷_}
+use mathlib.Core.List.{List}
 use lib.ListN.{length, replicate}
 use lib.Seq.{sets}
 use Rattle.machine.specs.Limits as Limits
-use Rattle.machine.specs.Parser.{Cursor, Parsed, parsed, refused, Parser, continue, field, times}
+use Rattle.machine.specs.Parser.{Parsed, parsed, refused, Parser, continue, field, times}
 use Rattle.machine.specs.Term.{Sum}
-use Rattle.machine.specs.Block.{Block, BlockModel}
+use Rattle.machine.specs.Block.{Block}
 use Rattle.machine.specs.Decode.{Counts, valueFields, blockField}
 use Rattle.machine.specs.declared.model.Model.{Model}
 use Rattle.tables.specs.Numbers.{sumNumbers, blockNumbers}
 use Rattle.values.specs.declared.Place.{Place}
 use Rattle.values.specs.Keeps.{placeOf, numberShape}
 use Rattle.values.specs.Rows.{storedRows, allNamed, Each}
-use Rattle.values.specs.Shapes.{beforeValues, countsOf, sumNamed, ProperValue, Within}
+use Rattle.values.specs.Shapes.{sumNamed, ProperValue}
 use Rattle.program.specs.Formed.{Formed}
 use Rattle.decode.specs.declared.Header.{Header}
 use Rattle.decode.specs.declared.Header.the-variants.{Read, Refused}

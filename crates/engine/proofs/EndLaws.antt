@@ -1,19 +1,18 @@
 -- The end before a turn over rows is the machine's.
-use Prim.Native.Nat.{ℕ, suc, _+_, _≤_, _<_}
+use Prim.Native.Nat.{ℕ, _+_, _≤_, _<_}
 use mathlib.Core.Path.{_≡_, refl, sym, ap, _∙_}
 use mathlib.Core.Bool.{Bool, true, false, cond, not, _&&_, _||_}
-use mathlib.Core.List.{List, [], _∷_}
+use mathlib.Core.List.{List}
 use mathlib.Core.Option.{Option, none, some}
 use native.Mathlib.Omega.{arith}
 use borrow.Author.Tests.{lt-ltb, le-ltb, le-leb, lt-leb}
 use lib.Dec.{ltb, leb, eqb}
-use Rattle.machine.specs.Limits.{maxSerial, maxTurns, recordRoom}
-use Rattle.machine.specs.Transaction.{Transaction, Event}
+use Rattle.machine.specs.Limits.{maxSerial, maxTurns}
+use Rattle.machine.specs.Transaction.{Transaction}
 use Rattle.machine.specs.State.{State}
 use Rattle.machine.specs.Run.{isNone, isEmpty, nobodyLeft, endBefore}
 use Rattle.rows.specs.Layout.{rel, fel}
 use Rattle.rows.specs.Lists.{first}
-use Rattle.rows.specs.Holds.{transactionAt, eventAt}
 use Rattle.rows.proofs.Take.{Head, nobody, somebody, head-shown, head-fel-shown}
 use Rattle.state.specs.declared.scalars.Scalars.{Scalars}
 use Rattle.state.specs.Stands.{Rows, listsOf, Moving, Listing, Stands}

@@ -1,24 +1,21 @@
 -- A whole run over rows follows the machine's: from the laws of the start and of one turn to what `run` promises.
-use Prim.Native.Nat.{ℕ, _≤_}
-use mathlib.Core.Path.{_≡_, refl, sym, ap, _∙_, subst}
-use mathlib.Core.List.{List, [], _∷_, _++_}
-use mathlib.Core.Option.{Option}
-use native.Mathlib.Omega.{arith}
+use Prim.Native.Nat.{ℕ}
+use mathlib.Core.Path.{_≡_, refl, sym, ap, subst}
+use mathlib.Core.List.{List}
 use lib.ListN.{length, replicate}
 use Rattle.machine.specs.Block.{BlockModel}
 use Rattle.machine.specs.State.{State}
 use Rattle.machine.specs.Setters.{setEnd}
 use Rattle.machine.specs.Turn.{turn}
-use Rattle.machine.specs.Run.{endBefore, start, runFrom, run, steps}
+use Rattle.machine.specs.Run.{endBefore, start, run, steps}
 use Rattle.machine.specs.Validate.{accept, validate}
 use Rattle.machine.specs.Outcome.{recordsOf}
-use Rattle.machine.specs.declared.model.Model.{Model}
 use Rattle.machine.proofs.Proper.{Proper}
 use Rattle.machine.proofs.ProperFrom.{proper-from}
 use Rattle.machine.proofs.RunLaws.{Taken}
 use Rattle.tables.specs.Layout.{tallySize}
 use Rattle.tables.specs.Represents.{headerOf, Represents}
-use Rattle.state.specs.Stands.{Rows, rowsOf, listsOf, Listing, Tallying, Counting, Stands}
+use Rattle.state.specs.Stands.{rowsOf, listsOf, Stands}
 use Rattle.state.proofs.StandsLaws.{listing-ext}
 use Rattle.state.proofs.Written.{Kept, kept-start, kept-turn, kept-end}
 use Rattle.turn.specs.Turn.{Traced, traced}

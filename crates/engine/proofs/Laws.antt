@@ -1,10 +1,10 @@
 -- The start and one turn over rows follow the machine.
-use Prim.Native.Nat.{ℕ, suc, _+_, _≤_, _<_}
+use Prim.Native.Nat.{ℕ, suc, _+_, _≤_}
 use mathlib.Core.Path.{_≡_, refl, sym, ap, _∙_, subst}
-use mathlib.Core.List.{List, [], _∷_, _++_}
-use mathlib.Core.Option.{Option, none}
+use mathlib.Core.List.{List, []}
+use mathlib.Core.Option.{Option}
 use native.Mathlib.Omega.{arith}
-use lib.ListN.{length, getD, drop, replicate, length-replicate}
+use lib.ListN.{length, replicate, length-replicate}
 use Rattle.machine.specs.Transaction.{Transaction}
 use Rattle.machine.specs.Lists.{those}
 use Rattle.machine.specs.Trace.{traceBytes}
@@ -27,7 +27,6 @@ use Rattle.start.proofs.Laws.{start-stands}
 use Rattle.start.proofs.Tally.{same-at}
 use Rattle.start.proofs.Untouched.{start-untouched}
 use Rattle.turn.specs.Turn.{Traced, traced}
-use Rattle.turn.specs.Writes.{Writes}
 use Rattle.turn.specs.Runs.{Runs}
 use Rattle.turn.proofs.TurnLaws.{turn-runs}
 use Rattle.engine.specs.Turns.{turnRows}

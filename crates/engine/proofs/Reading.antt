@@ -1,6 +1,6 @@
 -- The trace of a state of a run reads back to its records and then "no more", and written again they are the same bytes.
 use Prim.Native.Nat.{ℕ}
-use mathlib.Core.Path.{_≡_, refl, sym, ap, _∙_, subst}
+use mathlib.Core.Path.{sym, ap, subst}
 use mathlib.Core.List.{List, [], _∷_, _++_}
 use Rattle.machine.specs.Trace.{Record, traceBytes}
 use Rattle.machine.specs.Block.{BlockModel}

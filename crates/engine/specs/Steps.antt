@@ -1,7 +1,7 @@
 -- Steps until an end, of anything that tells the end before a step, takes one and keeps the end: the machine's `runFrom` over
 -- rows is an instance.
 use Prim.Native.Nat.{ℕ, zero, suc}
-use mathlib.Core.Bool.{Bool, true, false}
+use mathlib.Core.Bool.{true, false}
 use lib.Dec.{eqb}
 
 module _ {A : Type 0} (endOf : A → ℕ) (step : A → A) (close : ℕ → A → A) where

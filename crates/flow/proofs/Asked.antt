@@ -1,5 +1,5 @@
 -- The questions, asked of the scalars, are the machine's; a question that is not answered by yes stops the turn.
-use Prim.Native.Nat.{ℕ, zero, suc, _+_, _-_, _≤_, _<_, min}
+use Prim.Native.Nat.{ℕ, zero, suc, _+_, _-_, _≤_, min}
 use mathlib.Core.Path.{_≡_, refl, subst}
 use mathlib.Core.Bool.{Bool, true, false, cond}
 use mathlib.Core.List.{List, _∷_}
@@ -15,9 +15,6 @@ use Rattle.machine.specs.State.{State}
 use Rattle.machine.specs.Setters.{setMoving}
 use Rattle.machine.specs.Moves.{timesLeft}
 use Rattle.machine.specs.Execute.{unless, living, askGenerate}
-use Rattle.machine.proofs.Proper.{Proper}
-use Rattle.machine.proofs.Placed.{Placed}
-use Rattle.machine.proofs.Everybody.{Maybe}
 use Rattle.state.specs.declared.scalars.Scalars.{Scalars}
 use Rattle.state.specs.Bare.{bare, bareAnswer}
 use Rattle.state.specs.Sane.{Sane}

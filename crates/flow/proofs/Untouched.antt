@@ -1,14 +1,12 @@
 -- Bytes of trace and turns are counted elsewhere: no kind touches them.
-use Prim.Native.Nat.{ℕ, zero, suc, _+_, min}
+use Prim.Native.Nat.{ℕ, zero, suc, _+_}
 use mathlib.Core.Path.{_≡_, refl, _∙_}
 use mathlib.Core.Bool.{Bool, true, false, cond}
 use mathlib.Core.List.{List}
 use lib.Dec.{eqb, ltb}
 use lib.ListN.{getD}
-use Rattle.machine.specs.declared.model.Model.{Model}
 use Rattle.rows.specs.Layout.{free}
 use Rattle.rows.specs.Lists.{first, takeFirst}
-use Rattle.rows.specs.Make.{initial}
 use Rattle.state.specs.declared.scalars.Scalars.{Scalars}
 use Rattle.state.specs.Stands.{Rows, rowsOf}
 use Rattle.moves.specs.Motion.{Moved, moved, goTo, goOn, stopped}

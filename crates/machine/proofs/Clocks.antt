@@ -1,25 +1,25 @@
 -- The clock and every move time stay within 2,000,000,000.
-use Prim.Native.Nat.{ℕ, zero, suc, _+_, _-_, _≤_, _<_}
-use mathlib.Core.Path.{_≡_, refl, sym, ap, _∙_, subst}
-use mathlib.Core.Bool.{Bool, true, false, cond, not}
+use Prim.Native.Nat.{ℕ, zero, suc, _+_, _-_, _≤_}
+use mathlib.Core.Path.{_≡_, refl, sym, ap, subst}
+use mathlib.Core.Bool.{Bool, true, false}
 use mathlib.Core.List.{List, [], _∷_}
 use mathlib.Core.Option.{Option, none, some}
 use native.Mathlib.Omega.{arith}
 use borrow.Author.Tests.{leb-true}
 use lib.Dec.{leb}
-use lib.ListN.{getD, drop}
+use lib.ListN.{getD}
 use lib.Seq.{getD-drop}
 use Rattle.machine.specs.Limits.{maxClock, maxTime, maxLiving}
 use Rattle.machine.specs.Transaction.{Transaction, Event, earlier}
-use Rattle.machine.specs.Lists.{insert, those, others, nth, setNth}
+use Rattle.machine.specs.Lists.{nth}
 use Rattle.machine.specs.Term.{serverAt, free}
 use Rattle.machine.specs.Block.{Code, Block, generate, advance, terminate, seize, release, enter, leave, waitServer, waitTerms, branch, goto, assign, priority, split, arrive, depart, BlockModel, blockAt, status}
 use Rattle.machine.specs.State.{State}
-use Rattle.machine.specs.Setters.{setMoving, setTurns}
-use Rattle.machine.specs.Moves.{log, enters, moveTo, toRel, toFel, toQl, toWel, toWsl, mustWait, wakeFirstQl, wakeQl, wakeFirstWel, wakeWsl, setInUse, setContent, timesLeft, useTime, arrival, copies}
-use Rattle.machine.specs.Execute.{unless, living, askGenerate, askAdvance, question, takeUnits, checkWels, endsOne, delay, effect, freeUnits}
-use Rattle.machine.specs.Turn.{sample, arriveAll, due, moveClock, nextEvents, takeFirst, takeReady, taking, answer, execute, wsScheme, turn}
-use Rattle.machine.specs.Run.{idle, startOf, startAt, start, states}
+use Rattle.machine.specs.Setters.{setMoving}
+use Rattle.machine.specs.Moves.{log, enters, moveTo, toRel, toFel, toQl, toWel, toWsl, mustWait, wakeFirstQl, wakeQl, wakeFirstWel, wakeWsl, setInUse, setContent, timesLeft, arrival, copies}
+use Rattle.machine.specs.Execute.{unless, living, askGenerate, askAdvance, question, takeUnits, checkWels, endsOne, delay, effect}
+use Rattle.machine.specs.Turn.{arriveAll, due, moveClock, nextEvents, takeFirst, takeReady, taking, answer, execute, wsScheme, turn}
+use Rattle.machine.specs.Run.{idle, startAt, start, states}
 use Rattle.machine.specs.Claims.{Each}
 use Rattle.machine.proofs.Proper.{Proper}
 use Rattle.machine.proofs.RunLaws.{cond-cases, each-state}

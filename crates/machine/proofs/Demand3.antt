@@ -7,9 +7,9 @@ use mathlib.Core.Path.{_≡_}
 use mathlib.Core.List.{List, reverse}
 use Rattle.machine.specs.Block.{BlockModel}
 use Rattle.machine.specs.State.{State}
-use Rattle.machine.specs.Validate.{Validation, accept, validate}
+use Rattle.machine.specs.Validate.{accept, validate}
 use Rattle.machine.specs.Run.{states}
-use Rattle.machine.specs.Claims.{ableToGo, InOrder, Keeps, Each, Demand3, Proved}
+use Rattle.machine.specs.Claims.{InOrder, Keeps, Demand3, Proved}
 use Rattle.machine.proofs.Proper.{Proper}
 use Rattle.machine.proofs.ProperFrom.{proper-from}
 use Rattle.machine.proofs.RunLaws.{each-map, each-pair, last}

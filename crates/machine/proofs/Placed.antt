@@ -1,23 +1,21 @@
 -- Every transaction of a run stands before a block of the model, with a priority in its range.
 use Prim.Native.Nat.{ℕ, zero, suc, _+_, _-_, _≤_, _<_}
-use mathlib.Core.Path.{_≡_, refl, sym, ap, _∙_, subst}
-use mathlib.Core.Bool.{Bool, true, false, cond, not, _&&_, _||_}
+use mathlib.Core.Path.{_≡_, refl, ap, subst}
+use mathlib.Core.Bool.{Bool, true, false, not, _&&_, _||_}
 use mathlib.Core.List.{List, [], _∷_}
 use mathlib.Core.Option.{Option, none, some}
 use native.Mathlib.Omega.{arith}
-use lib.Dec.{T, eqb, leb}
+use lib.Dec.{T, leb}
 use lib.ListN.{length, getD}
 use Rattle.machine.specs.Limits.{maxPriority}
 use Rattle.machine.specs.Transaction.{Transaction, newborn}
-use Rattle.machine.specs.Lists.{nth}
 use Rattle.machine.specs.Term.{compare, serverAt, free}
-use Rattle.machine.specs.Block.{Code, Block, generate, advance, terminate, seize, release, enter, leave, waitServer, waitTerms, branch, goto, assign, priority, split, arrive, depart, Facts, facts, BlockModel, blockAt, status}
+use Rattle.machine.specs.Block.{Block, generate, advance, terminate, seize, release, enter, leave, waitServer, waitTerms, branch, goto, assign, priority, split, arrive, depart, facts, BlockModel, blockAt, status}
 use Rattle.machine.specs.State.{State}
-use Rattle.machine.specs.Setters.{withNext, withPriority, withReturning, withParameters, setMoving, setTurns, setEnd}
-use Rattle.machine.specs.Moves.{timesLeft}
-use Rattle.machine.specs.Execute.{question, effect, takeUnits}
-use Rattle.machine.specs.Turn.{taking, answer, execute, wsScheme, turn}
-use Rattle.machine.specs.Run.{startOf, startAt, start, states}
+use Rattle.machine.specs.Setters.{withNext, setMoving, setTurns}
+use Rattle.machine.specs.Execute.{effect, takeUnits}
+use Rattle.machine.specs.Turn.{taking, answer, execute, turn}
+use Rattle.machine.specs.Run.{startAt, start, states}
 use Rattle.machine.specs.Claims.{Each}
 use Rattle.machine.specs.Validate.{wellFormed, wellPlaced, targetsMove, allOf, sumNames, isGenerate}
 use Rattle.machine.proofs.Proper.{Names, ProperBlock, Proper}

@@ -5,7 +5,7 @@ use mathlib.Core.Path.{_≡_, refl, sym, ap, _∙_}
 use mathlib.Core.List.{List, [], _∷_, _++_, map}
 use native.Mathlib.Omega.{arith}
 use lib.ListN.{length, getD, set, replicate, length-set, length-map, length-append, length-replicate, getD-replicate, List·getD-map, List·getD-append}
-use lib.Seq.{map-set-same, getD-append-add}
+use lib.Seq.{map-set-same}
 use Rattle.machine.specs.Transaction.{Transaction}
 use Rattle.machine.specs.Lists.{nth, setNth}
 use Rattle.machine.specs.Term.{Server, View, Queue, idleServer, serverAt}
@@ -14,10 +14,9 @@ use Rattle.machine.specs.State.{State}
 use Rattle.machine.specs.Setters.{withInUse, setClock, setEntries, setQueues, setServers}
 use Rattle.machine.specs.Moves.{welIndex, setInUse}
 use Rattle.machine.specs.Turn.{sampleServers, sampleQueue, sample, turn}
-use Rattle.machine.specs.Run.{idle, start, states}
+use Rattle.machine.specs.Run.{idle, start}
 use Rattle.machine.specs.Claims.{Each}
-use Rattle.machine.proofs.Proper.{Proper, servers}
-use Rattle.machine.proofs.RunLaws.{each-state}
+use Rattle.machine.proofs.Proper.{servers}
 use Rattle.machine.proofs.Kept.{Closed, turn-kept, start-kept}
 
 -- ---- Definition

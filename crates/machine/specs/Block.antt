@@ -1,6 +1,6 @@
 -- Blocks, "Kind and operands as stored", and the model that holds them. Server operands are server numbers: a facility's own
 -- number, and for a storage its number after all facilities (Term.antt, `Server`).
-use Prim.Native.Nat.{ℕ, zero, suc, _+_}
+use Prim.Native.Nat.{ℕ}
 use mathlib.Core.Bool.{Bool, true, false, not}
 use mathlib.Core.List.{List}
 use lib.Dec.{ltb, eqb}

@@ -3,11 +3,11 @@ use Prim.Native.Nat.{ℕ, zero, suc, _+_, _-_, _≤_, _<_}
 use mathlib.Core.Path.{_≡_}
 use mathlib.Core.Bool.{Bool, true, false, cond, not, _&&_, _||_}
 use mathlib.Core.List.{List, [], _∷_, _++_, map, reverse}
-use mathlib.Core.Option.{Option, none, some}
+use mathlib.Core.Option.{none}
 use lib.Dec.{ltb, leb, eqb, T}
 use lib.ListN.{length, getD, drop}
 use Rattle.machine.specs.Limits.{maxTurns}
-use Rattle.machine.specs.Transaction.{Transaction, Event}
+use Rattle.machine.specs.Transaction.{Transaction}
 use Rattle.machine.specs.Lists.{those, flat, nth}
 use Rattle.machine.specs.Term.{serverAt}
 use Rattle.machine.specs.Block.{Code, U, NU, E, NE, F, NF, status, Block, Facts, facts, BlockModel, blockAt}
@@ -17,7 +17,7 @@ use Rattle.machine.specs.Execute.{fits}
 use Rattle.machine.specs.Turn.{waitsOn}
 use Rattle.machine.specs.Trace.{Record, inRanges}
 use Rattle.machine.specs.Run.{run, states}
-use Rattle.machine.specs.Report.{recordsAt, places, movingOne}
+use Rattle.machine.specs.Report.{places, movingOne}
 use Rattle.machine.specs.Outcome.{Outcome}
 
 -- how many of a list pass a test

@@ -1,12 +1,12 @@
 -- Questions 3 to 10, number by number, and the model and tape that are read on the way.
 use Prim.Native.Nat.{ℕ, zero, suc, _+_}
-use mathlib.Core.Bool.{Bool, true, false, cond, not, _&&_, _||_}
-use mathlib.Core.List.{List, [], _∷_, _++_}
+use mathlib.Core.Bool.{cond}
+use mathlib.Core.List.{List, [], _∷_}
 use lib.Dec.{ltb, leb, eqb}
 use lib.ListN.{length}
 use Rattle.machine.specs.Limits as Limits
 use Rattle.machine.specs.Lists.{nth}
-use Rattle.machine.specs.Parser.{Cursor, Parser, Parsed, parsed, refused, _>>=_, _>>_, give, refuse, ask, times, field}
+use Rattle.machine.specs.Parser.{Parser, parsed, refused, _>>=_, _>>_, give, refuse, ask, times, field}
 use Rattle.machine.specs.Term.{Relation, equal, unequal, less, atMost, greater, atLeast, Term, constant, minusConstant, parameter, clockTerm, entriesOf, contentOf, unitsInUse, unitsFree, facilityInUse, value, comparison, bracket, Sum, nothing, plus, minus}
 use Rattle.machine.specs.Block.{Code, U, NU, E, NE, F, NF, Block, generate, advance, terminate, seize, release, enter, leave, waitServer, waitTerms, branch, goto, assign, priority, split, arrive, depart, BlockModel}
 

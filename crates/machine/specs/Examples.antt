@@ -1,15 +1,15 @@
 -- The examples of document 01, "Examples", and some of our own, each shown by computing the machine.
 -- `printed` gives what `runmodel` prints, line by line, without the letters.
-use Prim.Native.Nat.{ℕ, zero, suc, _+_}
+use Prim.Native.Nat.{ℕ, suc, _+_}
 use mathlib.Core.Path.{_≡_, refl}
-use mathlib.Core.Bool.{Bool, true, false}
+use mathlib.Core.Bool.{true}
 use mathlib.Core.List.{List, [], _∷_, _++_, map}
-use mathlib.Core.Option.{Option, none, some}
+use mathlib.Core.Option.{some}
 use lib.IntN.{ℤ, pos, negsuc, _+ℤ_}
 use lib.ListN.{length}
 use Rattle.machine.specs.Transaction.{Transaction, newborn}
 use Rattle.machine.specs.Term.{Server, Queue, wrap}
-use Rattle.machine.specs.Block.{Block, generate, advance, terminate, seize, release, split, BlockModel}
+use Rattle.machine.specs.Block.{advance, terminate, seize, split, BlockModel}
 use Rattle.machine.specs.Trace.{Record}
 use Rattle.machine.specs.State.{State}
 use Rattle.machine.specs.Setters.{withSerial, withReturning, setRel, setMade, setMoving, setClock, setView}
@@ -17,7 +17,7 @@ use Rattle.machine.specs.Moves.{qlOf, setInUse}
 use Rattle.machine.specs.Turn.{turn}
 use Rattle.machine.specs.Run.{idle, run, states}
 use Rattle.machine.specs.Report.{serverNumbers, queueNumbers, places}
-use Rattle.machine.specs.Validate.{Validation, accept, reject, validate}
+use Rattle.machine.specs.Validate.{accept, reject, validate}
 use Rattle.machine.specs.Outcome.{recordsOf}
 use Rattle.machine.specs.Bundle.{everything}
 

@@ -1,17 +1,16 @@
 -- Blocks: the questions inside a turn, and what each of the 16 kinds does once they are answered.
-use Prim.Native.Nat.{ℕ, zero, suc, _+_, _-_}
-use mathlib.Core.Bool.{Bool, true, false, cond, not}
+use Prim.Native.Nat.{ℕ, suc, _+_, _-_}
+use mathlib.Core.Bool.{Bool, true, false, cond}
 use mathlib.Core.List.{List, [], _∷_}
-use mathlib.Core.Option.{Option, none, some}
-use lib.Dec.{ltb, leb, eqb}
+use lib.Dec.{leb, eqb}
 use lib.ListN.{getD}
 use Rattle.machine.specs.Limits.{maxLiving, maxClock}
 use Rattle.machine.specs.Transaction.{Transaction}
 use Rattle.machine.specs.Lists.{setNth}
-use Rattle.machine.specs.Term.{Term, Relation, View, serverAt, queueAt, free, evaluate, compare}
-use Rattle.machine.specs.Block.{Code, U, NU, E, NE, F, NF, status, Block, generate, advance, terminate, seize, release, enter, leave, waitServer, waitTerms, branch, goto, assign, priority, split, arrive, depart, Facts, facts, BlockModel, blockAt}
+use Rattle.machine.specs.Term.{View, serverAt, queueAt, free, evaluate, compare}
+use Rattle.machine.specs.Block.{Code, U, NU, E, NE, F, NF, status, Block, generate, advance, terminate, seize, release, enter, leave, waitServer, waitTerms, branch, goto, assign, priority, split, arrive, depart, facts, BlockModel, blockAt}
 use Rattle.machine.specs.State.{State}
-use Rattle.machine.specs.Setters.{withPriority, withParameters, withNext, withReturning, setCounter, setEnded, setMoving, setEnd}
+use Rattle.machine.specs.Setters.{withPriority, withParameters, withNext, withReturning, setCounter, setEnded, setEnd}
 use Rattle.machine.specs.Moves.{enters, moveTo, goOn, toRel, toFel, toQl, toWel, toWsl, mustWait, wakeFirstQl, wakeQl, wakeFirstWel, setInUse, setContent, timesLeft, useTime, arrival, copies}
 
 -- ---- Questions, "Inside a turn, after the taking and before the block has any effect, "no" is the end"

@@ -2,14 +2,14 @@
 use Prim.Native.Nat.{ℕ, zero, suc, _+_, _*_, _-_}
 use mathlib.Core.Bool.{Bool, true, false, cond}
 use mathlib.Core.List.{List, [], _∷_}
-use mathlib.Core.Option.{Option, none, some}
+use mathlib.Core.Option.{some}
 use lib.ListN.{length, getD, set, take, drop}
-use Rattle.machine.specs.Transaction.{Transaction, Event, precedes, earlier, newborn}
+use Rattle.machine.specs.Transaction.{Transaction, precedes, earlier, newborn}
 use Rattle.machine.specs.Lists.{insert, those, others, nth, setNth}
-use Rattle.machine.specs.Term.{View, Server, Queue, serverAt, queueAt}
+use Rattle.machine.specs.Term.{serverAt, queueAt}
 use Rattle.machine.specs.Block.{Code, codeIndex}
 use Rattle.machine.specs.Trace.{Record, recordBytes}
-use Rattle.machine.specs.State.{State, Logged}
+use Rattle.machine.specs.State.{State}
 use Rattle.machine.specs.Setters.{withNext, withSerial, withReturning, withInUse, withContent, setEntries, setQueues, setServers, setView, setSamples, setQl, setWel, setWsl, setRel, setFel, setMoving, setSerial, setMade, setRecords, setWritten}
 
 -- ---- The trace

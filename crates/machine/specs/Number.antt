@@ -1,11 +1,10 @@
 -- Bytes, "A number is groups of seven bits, highest first, top bit set on all bytes but the last, shortest form, at most
 -- 5 bytes and 4,294,967,295 (report: 9 bytes)."
 use Prim.Native.Nat.{ℕ, zero, suc, _+_, _*_, _-_, _/_, _%_}
-use mathlib.Core.Bool.{Bool, true, false, cond, not, _&&_, _||_}
+use mathlib.Core.Bool.{Bool, false, cond}
 use mathlib.Core.List.{List, [], _∷_, _++_}
 use mathlib.Core.Option.{Option, none, some}
 use lib.Dec.{ltb, leb, eqb}
-use lib.ListN.{length, drop}
 
 -- ---- Written
 

@@ -1,10 +1,9 @@
 -- Questions, "A run returns refusal (0 for none), end, clock, turns, made, ended, bytes of trace and of report."
 use Prim.Native.Nat.{ℕ}
-use mathlib.Core.List.{List, [], _∷_, map, reverse}
-use lib.ListN.{length}
+use mathlib.Core.List.{List, [], map, reverse}
 use Rattle.machine.specs.Block.{BlockModel}
 use Rattle.machine.specs.Trace.{Record, traceBytes}
-use Rattle.machine.specs.State.{State, Logged}
+use Rattle.machine.specs.State.{State}
 use Rattle.machine.specs.Report.{reportBytes}
 use Rattle.machine.specs.Run.{run}
 use Rattle.machine.specs.Validate.{Validation, accept, reject, validate}

@@ -1,12 +1,12 @@
 -- Bytes, "Report: clock, made, ended; per facility and storage: ..; per queue: ..; the living count and, per living one,
 -- number and place". The order of the living is free in the paper; here it is by rising number (docs/DECISIONS.md).
-use Prim.Native.Nat.{ℕ, zero, suc, _+_}
-use mathlib.Core.Bool.{Bool, true, false, cond, _&&_}
+use Prim.Native.Nat.{ℕ, suc, _+_}
+use mathlib.Core.Bool.{Bool, _&&_}
 use mathlib.Core.List.{List, [], _∷_, _++_, map}
 use mathlib.Core.Option.{Option, none, some}
 use lib.Dec.{ltb, eqb}
 use lib.ListN.{length}
-use Rattle.machine.specs.Transaction.{Transaction, Event}
+use Rattle.machine.specs.Transaction.{Transaction}
 use Rattle.machine.specs.Lists.{insert, those, flat}
 use Rattle.machine.specs.Term.{Server, Queue}
 use Rattle.machine.specs.Block.{Facts, facts, BlockModel, blockAt}

@@ -6,8 +6,7 @@ use mathlib.Core.Option.{Option, none, some}
 use lib.Dec.{ltb, leb, eqb}
 use lib.ListN.{length, replicate}
 use Rattle.machine.specs.Limits.{maxSerial, maxTurns, recordRoom}
-use Rattle.machine.specs.Transaction.{Transaction, Event}
-use Rattle.machine.specs.Term.{Server, idleServer, Queue, emptyQueue, View}
+use Rattle.machine.specs.Term.{idleServer, emptyQueue}
 use Rattle.machine.specs.Block.{Block, generate, advance, terminate, seize, release, enter, leave, waitServer, waitTerms, branch, goto, assign, priority, split, arrive, depart, BlockModel}
 use Rattle.machine.specs.State.{State}
 use Rattle.machine.specs.Setters.{setEnd}

@@ -1,12 +1,12 @@
 -- Bytes, "Trace record: clock, transaction, block, outcome (0 entered, 1 began to wait)", the trace reader and the record writer.
-use Prim.Native.Nat.{ℕ, zero, suc, _+_}
-use mathlib.Core.Bool.{Bool, true, false, cond, _&&_}
+use Prim.Native.Nat.{ℕ, _+_}
+use mathlib.Core.Bool.{Bool, cond, _&&_}
 use mathlib.Core.List.{List, [], _∷_, _++_}
 use lib.Dec.{ltb, leb}
 use lib.ListN.{length}
 use Rattle.machine.specs.Limits.{maxClock, maxTransaction, maxBlocks}
 use Rattle.machine.specs.Number.{numberBytes}
-use Rattle.machine.specs.Parser.{Cursor, Parser, Parsed, parsed, refused, _>>=_, give, field}
+use Rattle.machine.specs.Parser.{Parser, Parsed, parsed, refused, _>>=_, give, field}
 
 pub record Record : Type 0 where
   pub clock : ℕ

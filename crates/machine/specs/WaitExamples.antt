@@ -1,14 +1,13 @@
 -- Demand 3 speaks of something: in accepted examples waits of each kind begin and end, and two equal waits end in their order.
 use Prim.Native.Nat.{ℕ, zero, suc}
 use mathlib.Core.Path.{_≡_, refl}
-use mathlib.Core.Bool.{Bool, true, false, cond}
+use mathlib.Core.Bool.{cond}
 use mathlib.Core.List.{List, [], _∷_, reverse}
 use lib.Dec.{eqb}
 use lib.ListN.{length, getD}
-use Rattle.machine.specs.State.{State, Logged}
-use Rattle.machine.specs.Block.{BlockModel}
+use Rattle.machine.specs.State.{Logged}
 use Rattle.machine.specs.Run.{run}
-use Rattle.machine.specs.Validate.{Validation, accept, reject, validate}
+use Rattle.machine.specs.Validate.{accept, reject, validate}
 use Rattle.machine.specs.Claims.{noRecord, waitEnd, equalWaits, bit}
 use Rattle.machine.specs.Bundle.{everything}
 use Rattle.machine.specs.Examples.{firstModel, firstTape, storageModel, storageTape, chainModel, chainTape, freedByOtherModel, freedByOtherTape, returnersModel, returnersTape}

@@ -1,15 +1,13 @@
 -- Each kind of block, with operands in their ranges, is formed (specs/Formed).
-use Prim.Native.Nat.{ℕ, zero, suc, _+_, _-_, _≤_, _<_}
+use Prim.Native.Nat.{ℕ, _+_, _-_, _≤_, _<_}
 use native.Mathlib.Omega.{arith}
-use mathlib.Core.Path.{_≡_, refl, sym, ap, _∙_}
-use mathlib.Core.Bool.{Bool, true, false, cond, not, _&&_, _||_}
+use mathlib.Core.Path.{_≡_, refl, ap}
 use mathlib.Core.List.{List, [], _∷_, _++_}
-use lib.Dec.{eqb, ltb, T}
+use lib.Dec.{T}
 use lib.ListN.{length, getD, length-append}
 use borrow.Author.Tests.{ne-eqb, lt-ltb}
 use Rattle.machine.specs.Term.{Term, Relation}
-use Rattle.machine.specs.Block.{Code, Block, facts, generate, advance, terminate, seize, release, enter, leave, waitServer, waitTerms, branch, goto, assign, priority, split, arrive, depart}
-use Rattle.machine.specs.Validate.{isGenerate}
+use Rattle.machine.specs.Block.{Code, facts, generate, advance, terminate, seize, release, enter, leave, waitServer, waitTerms, branch, goto, assign, priority, split, arrive, depart}
 use Rattle.tables.specs.Numbers.{blockNumbers, termNumbers, relationNumber}
 use Rattle.tables.specs.Represents.{smallBlock, smallTerm}
 use Rattle.values.proofs.Steps.{both}

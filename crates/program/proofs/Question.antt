@@ -1,14 +1,14 @@
 -- Question 7, pure: over rows one by one, and what the rows say is what the machine asks.
-use Prim.Native.Nat.{ℕ, zero, suc, _+_, _*_, _-_, _≤_, _<_}
+use Prim.Native.Nat.{ℕ, suc, _+_, _*_, _-_, _≤_, _<_}
 use native.Mathlib.Omega.{arith}
 use mathlib.Core.Path.{_≡_, refl, sym, ap, _∙_}
 use mathlib.Core.Bool.{Bool, true, false, cond, not, _&&_, _||_}
 use mathlib.Core.List.{List, [], _∷_}
-use lib.Dec.{eqb, ltb, leb, T, ltb→lt}
+use lib.Dec.{eqb, ltb, T, ltb→lt}
 use lib.ListN.{length, getD}
-use borrow.Author.Tests.{eqb-true, eqb-false, eq-eqb, ne-eqb}
-use Rattle.machine.specs.Block.{Block, facts, terminate, BlockModel, blockAt}
-use Rattle.machine.specs.Validate.{isGenerate, wellPlaced, allOf, targetsMove}
+use borrow.Author.Tests.{eqb-false}
+use Rattle.machine.specs.Block.{Block, facts, terminate}
+use Rattle.machine.specs.Validate.{isGenerate, wellPlaced, allOf}
 use Rattle.tables.specs.Numbers.{blockNumbers}
 use Rattle.values.specs.Rows.{Each}
 use Rattle.values.proofs.Rows.{each-at}

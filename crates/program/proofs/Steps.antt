@@ -1,22 +1,20 @@
 -- What each function over operands keeps, pure: from what its calls kept, by the machine's `operands` at each kind.
-use Prim.Native.Nat.{ℕ, zero, suc, _+_, _*_, _-_, _≤_, _<_}
+use Prim.Native.Nat.{ℕ, suc, _+_, _*_, _-_, _≤_, _<_}
 use native.Mathlib.Nat.{le-antisymm}
 use native.Mathlib.Omega.{arith}
 use mathlib.Core.Path.{_≡_, refl, sym, ap, _∙_}
-use mathlib.Core.Bool.{Bool, true, false, cond, _&&_}
 use mathlib.Core.List.{List, [], _∷_, _++_, append-assoc}
-use lib.Dec.{eqb, leb, ltb, T}
-use lib.ListN.{length, getD, take, drop, set, length-append, length-take, length-drop}
+use lib.Dec.{T}
+use lib.ListN.{length, getD, take, drop, length-append, length-drop}
 use lib.Seq.{sets, length-sets, getD-set-other, getD-take, getD-drop, ext-getD}
 use borrow.Author.Tests.{le-leb, lt-leb}
-use Rattle.machine.specs.Limits as Limits
 use Rattle.machine.specs.Lists.{nth}
 use Rattle.machine.specs.Parser.{Cursor, Parsed, parsed, refused, Parser, continue, field}
 use Rattle.machine.specs.Term.{Term}
-use Rattle.machine.specs.Block.{Code, codeIndex, Block, generate, advance, terminate, seize, release, enter, leave, waitServer, waitTerms, branch, goto, assign, priority, split, arrive, depart}
+use Rattle.machine.specs.Block.{codeIndex, Block, generate, advance, terminate, seize, release, enter, leave, waitServer, waitTerms, branch, goto, assign, priority, split, arrive, depart}
 use Rattle.machine.specs.Decode.{Counts, blockTerm, relationOf, codeOf, codeServer, storageUnits, operands, blockField}
 use Rattle.machine.specs.declared.model.Model.{Model}
-use Rattle.tables.specs.Numbers.{termNumbers, blockNumbers, relationNumber}
+use Rattle.tables.specs.Numbers.{termNumbers, blockNumbers}
 use Rattle.values.specs.declared.Place.{Place}
 use Rattle.values.specs.declared.Range.{Range}
 use Rattle.values.specs.declared.Taken.{Taken}
@@ -24,13 +22,13 @@ use Rattle.values.specs.declared.Taken.the-variants.{Number, Refused as NotTake
 use Rattle.values.specs.declared.Stored.{Stored}
 use Rattle.values.specs.declared.Stored.the-variants.{Done, Refused}
 use Rattle.values.specs.Keeps.{cursorOf, placeOf, Shape, Takes, Stores, numberShape}
-use Rattle.values.specs.Shapes.{countsOf, range, blockTermShape, Within}
+use Rattle.values.specs.Shapes.{countsOf, range, blockTermShape}
 use Rattle.values.proofs.Binds.{takes-refused, takes-known, takes-stop, takes-bind, stores-stop, stores-bind, stores-last, stores-as}
 use Rattle.values.proofs.Steps.{sets-then}
 use Rattle.values.proofs.Cells.{sets-above}
 use Rattle.values.proofs.Tags.{by-tag, relation-number}
 use Rattle.program.specs.Formed.{Formed}
-use Rattle.program.specs.Shapes.{Pair, pairField, pairShape, unitsField, unitsShape, Compared, comparedField, ProperCompared, comparedShape, operandsShape, blockShape, capacitiesOf}
+use Rattle.program.specs.Shapes.{pairField, pairShape, unitsField, unitsShape, comparedField, comparedShape, operandsShape, blockShape, capacitiesOf}
 use Rattle.program.proofs.Formed.{formed-generate, formed-advance, formed-terminate, formed-seize, formed-release, formed-enter, formed-leave, formed-wait-server, formed-wait-terms, formed-branch, formed-goto, formed-assign, formed-priority, formed-split, formed-arrive, formed-depart}
 
 -- ---- One number, and two

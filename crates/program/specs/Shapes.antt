@@ -1,11 +1,11 @@
 -- How operands and blocks are kept in the tables.
-use Prim.Native.Nat.{ℕ, zero, suc, _+_, _-_, _≤_, _<_}
+use Prim.Native.Nat.{ℕ, _+_, _-_, _≤_}
 use mathlib.Core.Path.{_≡_}
 use mathlib.Core.List.{List, [], _∷_, _++_}
 use lib.Dec.{T}
 use lib.ListN.{length, take, drop}
 use Rattle.machine.specs.Lists.{nth}
-use Rattle.machine.specs.Parser.{Cursor, Parser, parsed, continue, field}
+use Rattle.machine.specs.Parser.{Parser, parsed, continue, field}
 use Rattle.machine.specs.Term.{Term}
 use Rattle.machine.specs.Block.{Block}
 use Rattle.machine.specs.Decode.{Counts, blockTerm}

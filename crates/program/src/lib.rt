@@ -13,7 +13,7 @@ use values::block_term;
 use values::keep;
 ghost use mathlib.Core.Path.{_≡_};
 ghost use mathlib.Core.Bool.{true, _&&_, not};
-ghost use Prim.Native.Nat.{ℕ, _+_, _*_, _≤_, _<_};
+ghost use Prim.Native.Nat.{_+_, _*_, _≤_, _<_};
 ghost use lib.Dec.{eqb};
 ghost use Rattle.machine.specs.Parser.{field, times};
 ghost use Rattle.machine.specs.Decode.{operands as operandsField, blockField};

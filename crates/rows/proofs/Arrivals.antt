@@ -1,14 +1,13 @@
 -- Clock moves on the machine's lists: those of the first time are the front of the FEL, and `arriveAll` puts them on REL.
-use Prim.Native.Nat.{ℕ, zero, suc, _+_, _≤_, _<_}
-use mathlib.Core.Path.{_≡_, refl, sym, ap, _∙_, subst}
+use Prim.Native.Nat.{ℕ, suc, _+_, _≤_}
+use mathlib.Core.Path.{_≡_, refl, sym, ap, _∙_}
 use mathlib.Core.Bool.{Bool, true, false, cond, not}
 use mathlib.Core.List.{List, [], _∷_}
 use native.Mathlib.Omega.{arith}
-use native.Mathlib.Nat.{add-suc}
-use borrow.Author.Tests.{eq-eqb, ne-eqb, eqb-true, eqb-false, ltb-true, ltb-false, lt-ltb}
+use borrow.Author.Tests.{ne-eqb, eqb-false, ltb-false}
 use lib.Dec.{eqb, ltb}
 use lib.ListN.{length}
-use Rattle.machine.specs.Transaction.{Transaction, Event, earlier}
+use Rattle.machine.specs.Transaction.{Event, earlier}
 use Rattle.machine.specs.Lists.{those, others}
 use Rattle.machine.specs.State.{State}
 use Rattle.machine.specs.Setters.{setRel, setSerial}

@@ -8,7 +8,7 @@ use native.Mathlib.Omega.{arith}
 use borrow.Author.Tests.{lt-ltb, le-ltb}
 use lib.Dec.{ltb}
 use lib.ListN.{length}
-use Rattle.rows.specs.Layout.{place, link, head, tail, nowhere}
+use Rattle.rows.specs.Layout.{place, link, tail, nowhere}
 use Rattle.rows.specs.Cells.{load, store}
 use Rattle.rows.specs.Lists.{endAt, insertAt, removeRow}
 use Rattle.rows.proofs.Store.{length-store, load-same, load-other}

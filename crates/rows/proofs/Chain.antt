@@ -1,15 +1,14 @@
 -- Chains of cells: what a chain needs of the buffer, and where it ends.
-use Prim.Native.Nat.{ℕ, zero, suc, _+_, _≤_, _<_}
-use mathlib.Core.Path.{_≡_, refl, sym, ap, _∙_, subst}
+use Prim.Native.Nat.{ℕ, _+_, _≤_, _<_}
+use mathlib.Core.Path.{_≡_, refl, ap, _∙_}
 use mathlib.Core.Logic.{_≢_}
 use mathlib.Core.List.{List, [], _∷_, _++_}
 use native.Mathlib.Omega.{arith}
-use lib.ListN.{length}
 use native.Mathlib.Decide.{ℕ-discrete}
 use Rattle.rows.specs.Layout.{link}
 use Rattle.rows.specs.Cells.{load}
-use Rattle.rows.specs.Holds.{same, occurs, Chain, ending}
-use Rattle.rows.proofs.Occurs.{same-refl, same-other, same-pos}
+use Rattle.rows.specs.Holds.{occurs, Chain, ending}
+use Rattle.rows.proofs.Occurs.{same-refl, same-other}
 
 -- the rows of l, read from cell c′ of another buffer, where the links of l are the same
 pub chain-moved : (w w′ : List ℕ) (c c′ : ℕ) (l : List ℕ) → load w′ c′ ≡ load w c → ((j : ℕ) → 1 ≤ occurs j l → load w′ (link j) ≡ load w (link j)) → Chain w c l → Chain w′ c′ l

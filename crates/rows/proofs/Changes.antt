@@ -1,5 +1,5 @@
 -- Insertion and removal at a cell change one list, by the structural law.
-use Prim.Native.Nat.{ℕ, zero, suc, _+_, _≤_, _<_}
+use Prim.Native.Nat.{ℕ, _+_, _≤_, _<_}
 use mathlib.Core.Path.{_≡_, refl, sym, ap, _∙_, subst}
 use mathlib.Core.Logic.{_≢_}
 use mathlib.Core.List.{List, [], _∷_, _++_}
@@ -10,8 +10,8 @@ use Rattle.rows.specs.Layout.{place, link, head, tail, nowhere}
 use Rattle.rows.specs.Cells.{load}
 use Rattle.rows.specs.Lists.{insertAt, removeRow}
 use Rattle.rows.specs.Holds.{same, occurs, Chain, ending, Listed, update}
-use Rattle.rows.proofs.Occurs.{same-refl, same-other, same-pos, same-le, occurs-append, occurs-cons}
-use Rattle.rows.proofs.Chain.{chain-moved, chain-row, chain-after, ending-append}
+use Rattle.rows.proofs.Occurs.{same-refl, same-other, occurs-append, occurs-cons}
+use Rattle.rows.proofs.Chain.{chain-moved, chain-after, ending-append}
 use Rattle.rows.proofs.Structure.{Changed, structure, row-of, at-most-once, end-low, end-high, end-not-link}
 use Rattle.rows.proofs.AtCell
 

@@ -1,18 +1,11 @@
 -- The data of rows: what keeps it keeps every row's transaction and event, and the order of the lists.
 use Prim.Native.Nat.{ℕ, _+_, _*_, _≤_, _<_}
-use mathlib.Core.Path.{_≡_, refl, sym, ap, _∙_, subst}
-use mathlib.Core.Logic.{_≢_}
-use mathlib.Core.Bool.{Bool, true, false, cond}
+use mathlib.Core.Path.{_≡_, refl, ap}
 use mathlib.Core.List.{List, [], _∷_, map}
 use native.Mathlib.Omega.{arith}
-use borrow.Author.Tests.{eqb-true, eqb-false}
-use lib.Dec.{eqb}
-use lib.ListN.{length}
-use Rattle.rows.specs.Layout.{head}
 use Rattle.rows.specs.Cells.{load, read}
-use Rattle.rows.specs.Holds.{transactionAt, eventAt, before, same, occurs, Sorted, Listed, Holds, update}
+use Rattle.rows.specs.Holds.{transactionAt, eventAt, occurs}
 use Rattle.rows.proofs.Occurs.{same-refl}
-use Rattle.rows.proofs.Chain.{chain-row}
 
 -- the data of all rows is the same
 abbrev pub SameData : List ℕ → List ℕ → Type 0

@@ -1,18 +1,16 @@
 -- What a write to a field of a row makes of its transaction: the machine's setters.
 use Prim.Native.Nat.{ℕ, zero, suc, _+_, _*_, _/_, _%_, _≤_, _<_}
-use mathlib.Core.Path.{_≡_, refl, sym, ap, _∙_, subst}
-use mathlib.Core.Bool.{Bool, true, false}
-use mathlib.Core.List.{List, [], _∷_}
+use mathlib.Core.Path.{_≡_, ap}
+use mathlib.Core.List.{List}
 use native.Mathlib.Omega.{arith}
 use lib.Dec.{eqb}
-use lib.IntN.{ℤ}
 use lib.ListN.{length, set}
 use mir.Syntax.{w32}
 use mir.Val.{toZ}
-use Rattle.machine.specs.Transaction.{Transaction, Event}
+use Rattle.machine.specs.Transaction.{Transaction}
 use Rattle.machine.specs.Setters.{withPriority, withParameters, withNext, withSerial, withReturning}
 use Rattle.rows.specs.Layout.{fieldAt}
-use Rattle.rows.specs.Cells.{load, read, write, setReturning}
+use Rattle.rows.specs.Cells.{read, write, setReturning}
 use Rattle.rows.specs.Holds.{transactionAt, eventAt}
 use Rattle.rows.proofs.Store.{load-same, load-other}
 

@@ -1,22 +1,22 @@
 -- Insertion behind any part of a list and removal from it, as laws of `Holds`: one list changes, every other stays, and so does
 -- the data of all rows.
 use Prim.Native.Nat.{ℕ, _+_, _≤_, _<_}
-use mathlib.Core.Path.{_≡_, refl, sym, ap, _∙_, subst}
+use mathlib.Core.Path.{_≡_, refl, ap}
 use mathlib.Core.Logic.{_≢_}
 use mathlib.Core.Bool.{Bool, true, false, cond}
-use mathlib.Core.List.{List, [], _∷_, _++_, map, map-append}
+use mathlib.Core.List.{List, _∷_, _++_, map, map-append}
 use native.Mathlib.Omega.{arith}
-use borrow.Author.Tests.{lt-ltb, eqb-true, eqb-false}
+use borrow.Author.Tests.{lt-ltb, eqb-true}
 use lib.Dec.{eqb}
 use lib.ListN.{length}
-use Rattle.rows.specs.Layout.{place, link, head, tail, nowhere}
+use Rattle.rows.specs.Layout.{place, head, nowhere}
 use Rattle.rows.specs.Cells.{load}
 use Rattle.rows.specs.Lists.{insertAt, removeRow, removeAt}
-use Rattle.rows.specs.Holds.{eventAt, before, occurs, Chain, ending, Sorted, Listed, Holds, update}
+use Rattle.rows.specs.Holds.{eventAt, before, ending, Sorted, Listed, Holds, update}
 use Rattle.rows.proofs.Chain.{chain-row}
-use Rattle.rows.proofs.Structure.{Changed, end-low, end-high, row-of}
+use Rattle.rows.proofs.Structure.{Changed, end-low, end-high}
 use Rattle.rows.proofs.AtCell.{insert-room, insert-place, remove-room, remove-place}
-use Rattle.rows.proofs.Changes.{insert-changed, insert-listed, remove-changed, remove-listed, removed-row, apart, alone}
+use Rattle.rows.proofs.Changes.{insert-changed, insert-listed, remove-changed, remove-listed, removed-row, apart}
 use Rattle.rows.proofs.Insertion.{sorted-without}
 use Rattle.rows.proofs.Data.{SameData, same-row, event-kept, map-kept}
 

@@ -1,31 +1,31 @@
 -- The laws that the crates above cite: what each function of this crate does to the machine's lists. `Shows w T E` says that
 -- the buffer w has the lists T and the FEL E; `Loose w k` that row k is on no list, as the moving one.
-use Prim.Native.Nat.{ℕ, suc, _+_, _≤_, _<_}
-use mathlib.Core.Path.{_≡_, refl, sym, ap, _∙_, subst}
+use Prim.Native.Nat.{ℕ, suc, _+_, _<_}
+use mathlib.Core.Path.{_≡_, refl, subst}
 use mathlib.Core.Bool.{Bool}
-use mathlib.Core.List.{List, [], _∷_, map}
+use mathlib.Core.List.{List, [], _∷_}
 use native.Mathlib.Omega.{arith}
 use lib.ListN.{length, take, drop}
 use Rattle.machine.specs.Transaction.{Transaction, Event, precedes, earlier}
 use Rattle.machine.specs.Lists.{insert, those, others}
 use Rattle.machine.specs.Moves.{wake}
 use Rattle.machine.specs.Turn.{due}
-use Rattle.rows.specs.Layout.{place, head, rel, fel, free, nowhere}
+use Rattle.rows.specs.Layout.{place, head, rel, fel, free}
 use Rattle.rows.specs.Cells.{load}
 use Rattle.rows.specs.Lists.{put, first, takeFirst}
 use Rattle.rows.specs.Wake.{wakeFirst, wakeAll}
 use Rattle.rows.specs.Clock.{arrive, arrivals}
-use Rattle.rows.specs.Make.{freeRow, newbornAt, copyAt}
+use Rattle.rows.specs.Make.{freeRow}
 use Rattle.rows.specs.Living.{loose, onLists}
-use Rattle.rows.specs.Holds.{transactionAt, eventAt, occurs, ending, Listed, Holds, update}
-use Rattle.rows.specs.Shows.{Shown, Shows, Loose, moved}
+use Rattle.rows.specs.Holds.{transactionAt, eventAt, ending, Listed, Holds, update}
+use Rattle.rows.specs.Shows.{Shows, Loose, moved}
 use Rattle.rows.proofs.Occurs.{same-refl, occurs-cons}
 use Rattle.rows.proofs.Structure.{row-of}
 use Rattle.rows.proofs.Spot.{short}
 use Rattle.rows.proofs.Data.{SameRow, same-row}
 use Rattle.rows.proofs.Holding.{Kept}
 use Rattle.rows.proofs.Loose.{loose-more, loose-less}
-use Rattle.rows.proofs.Steady.{Around, Steady, kept-around}
+use Rattle.rows.proofs.Steady.{Around, kept-around}
 use Rattle.rows.proofs.Put.{put-keeps, put-placed, put-shown, put-fel-shown}
 use Rattle.rows.proofs.Take.{Head, head-shown, head-fel-shown, rows-first, take-keeps, take-loose, take-shown, take-fel-shown, take-free-shown}
 use Rattle.rows.proofs.Making.{free-keeps, free-placed, free-shown}

@@ -1,15 +1,15 @@
 -- How many rows are on no list.
 use Prim.Native.Nat.{ℕ, suc, _+_, _≤_, _<_}
-use mathlib.Core.Path.{_≡_, refl, sym, ap, _∙_}
+use mathlib.Core.Path.{_≡_, ap}
 use mathlib.Core.Logic.{_≢_}
-use mathlib.Core.Bool.{Bool, cond}
+use mathlib.Core.Bool.{cond}
 use mathlib.Core.List.{List}
 use native.Mathlib.Omega.{arith}
 use borrow.Author.Tests.{lt-ltb, le-ltb}
 use lib.Dec.{ltb}
 use Rattle.rows.specs.Layout.{place, nowhere}
 use Rattle.rows.specs.Cells.{load}
-use Rattle.rows.specs.Living.{sumTo, loose}
+use Rattle.rows.specs.Living.{loose}
 use Rattle.rows.proofs.Sums.{sum-at, sum-ext}
 
 -- 1 for a row on no list

@@ -1,29 +1,20 @@
 -- Rows that come to life and end: a new row as the machine's `newborn`, a copy, and a row that is free again.
-use Prim.Native.Nat.{ℕ, zero, suc, _+_, _*_, _/_, _≤_, _<_}
-use mathlib.Core.Path.{_≡_, refl, sym, ap, _∙_, subst}
-use mathlib.Core.Logic.{_≢_}
-use mathlib.Core.Bool.{Bool, true, false}
-use mathlib.Core.List.{List, [], _∷_, _++_}
+use Prim.Native.Nat.{ℕ, _*_, _/_, _≤_, _<_}
+use mathlib.Core.Path.{_≡_, refl, _∙_}
+use mathlib.Core.List.{List, [], _∷_}
 use native.Mathlib.Omega.{arith}
 use lib.ListN.{length}
-use lib.IntN.{ℤ, pos}
-use mir.Syntax.{w32}
-use mir.Val.{toZ}
-use Rattle.machine.specs.Transaction.{Transaction, Event, newborn}
-use Rattle.machine.specs.Setters.{withPriority, withReturning}
-use Rattle.rows.specs.Layout.{place, head, free, nowhere, fieldAt}
+use Rattle.machine.specs.Transaction.{Transaction, Event}
+use Rattle.rows.specs.Layout.{place, free, fieldAt}
 use Rattle.rows.specs.Cells.{load, read, write}
-use Rattle.rows.specs.Lists.{insertAt}
 use Rattle.rows.specs.Make.{clearParameters, copyParameters, describe, newbornAt, copyAt, freeRow}
 use Rattle.rows.specs.Living.{loose}
-use Rattle.rows.specs.Holds.{transactionAt, ending, Holds, update}
+use Rattle.rows.specs.Holds.{ending, update}
 use Rattle.rows.specs.Shows.{Shown, Loose}
 use Rattle.rows.proofs.Store.{length-store, load-other}
-use Rattle.rows.proofs.Data.{SameRow}
 use Rattle.rows.proofs.Holding.{Kept, insert-holds, insert-keeps, insert-placed}
 use Rattle.rows.proofs.Showing.{shown-free}
 use Rattle.rows.proofs.Write.{write-shown, write-loose}
-use Rattle.rows.proofs.Fields.{withNumber, write-number, write-standing, write-parameter, write-next, write-serial}
 use Rattle.rows.proofs.Loose.{loose-kept}
 use Rattle.rows.proofs.Steady.{Around, around-trans, write-around}
 

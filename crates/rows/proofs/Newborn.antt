@@ -1,22 +1,22 @@
 -- The transaction of a new row and of a copy.
-use Prim.Native.Nat.{ℕ, zero, suc, _+_, _*_, _/_, _≤_, _<_}
-use mathlib.Core.Path.{_≡_, refl, sym, ap, _∙_, subst}
+use Prim.Native.Nat.{ℕ, _+_, _*_, _/_, _≤_, _<_}
+use mathlib.Core.Path.{_≡_, refl, ap, _∙_}
 use mathlib.Core.Logic.{_≢_}
-use mathlib.Core.Bool.{Bool, true, false}
+use mathlib.Core.Bool.{false}
 use mathlib.Core.List.{List, [], _∷_}
 use native.Mathlib.Omega.{arith}
-use lib.IntN.{ℤ, pos}
+use lib.IntN.{pos}
 use lib.ListN.{length, set}
 use mir.Syntax.{w32}
 use mir.Val.{toZ}
 use Rattle.machine.specs.Transaction.{Transaction, newborn}
 use Rattle.machine.specs.Setters.{withPriority, withParameters, withNext, withSerial, withReturning}
 use Rattle.rows.specs.Layout.{fieldAt}
-use Rattle.rows.specs.Cells.{load, read, write}
+use Rattle.rows.specs.Cells.{read, write}
 use Rattle.rows.specs.Make.{clearParameters, copyParameters, describe, newbornAt, copyAt}
 use Rattle.rows.specs.Holds.{transactionAt, parameterAt}
 use Rattle.rows.proofs.Store.{length-store}
-use Rattle.rows.proofs.Fields.{withNumber, write-number, write-standing, write-parameter, write-next, write-serial}
+use Rattle.rows.proofs.Fields.{write-number, write-standing, write-parameter, write-next, write-serial}
 use Rattle.rows.proofs.Making.{Written, describe-written}
 
 room-write : (w : List ℕ) (f k x : ℕ) → 16384 ≤ length w → 16384 ≤ length (write w f k x)

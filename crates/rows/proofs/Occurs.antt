@@ -1,15 +1,12 @@
 -- How often a row occurs in a list. A list of rows, each at most once, is no longer than the rows are many.
-use Prim.Native.Nat.{ℕ, zero, suc, _+_, _≤_, _<_}
-use mathlib.Core.Path.{_≡_, refl, sym, ap, _∙_}
+use Prim.Native.Nat.{ℕ, _+_, _≤_}
+use mathlib.Core.Path.{_≡_, refl, ap}
 use mathlib.Core.Logic.{_≢_}
-use mathlib.Core.Bool.{Bool, true, false}
 use mathlib.Core.List.{List, [], _∷_, _++_}
 use native.Mathlib.Omega.{arith}
 use native.Mathlib.Decide.{ℕ-discrete}
 use borrow.Author.Tests.{eq-eqb, ne-eqb}
-use lib.Dec.{eqb, ltb}
-use lib.ListN.{length}
-use Rattle.rows.specs.Holds.{same, occurs, All}
+use Rattle.rows.specs.Holds.{same, occurs}
 
 pub same-refl : (a b : ℕ) → a ≡ b → same a b ≡ 1
 same-refl a b e = rw (eq-eqb a b e)

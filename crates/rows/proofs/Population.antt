@@ -1,8 +1,8 @@
 -- Every row is on one list or on none: a row is free exactly if fewer than 1,024 transactions live.
 use Prim.Native.Nat.{ℕ, zero, suc, _+_, _≤_, _<_}
-use mathlib.Core.Path.{_≡_, refl, sym, ap, _∙_, subst}
+use mathlib.Core.Path.{_≡_, refl, sym, ap, _∙_}
 use mathlib.Core.Bool.{Bool, true, false, cond}
-use mathlib.Core.List.{List, [], _∷_, map}
+use mathlib.Core.List.{List}
 use native.Mathlib.Omega.{arith}
 use native.Mathlib.Decide.{ℕ-discrete}
 use borrow.Author.Tests.{lt-ltb, le-ltb, ltb-true, ltb-false}
@@ -13,7 +13,7 @@ use Rattle.rows.specs.Layout.{place, fel, free}
 use Rattle.rows.specs.Cells.{load}
 use Rattle.rows.specs.Lists.{first}
 use Rattle.rows.specs.Living.{sumTo, loose, onLists}
-use Rattle.rows.specs.Holds.{transactionAt, eventAt, same, occurs, Listed, Holds}
+use Rattle.rows.specs.Holds.{transactionAt, eventAt, same, occurs, Holds}
 use Rattle.rows.specs.Shows.{Shown}
 use Rattle.rows.proofs.Occurs.{same-refl, same-other}
 use Rattle.rows.proofs.Sums.{sum-suc, sum-ext, sum-add, sum-zero, sum-ones}

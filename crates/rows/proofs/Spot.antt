@@ -1,21 +1,20 @@
 -- Where a row comes to stand: the spot is the cell behind those that the row does not stand before.
-use Prim.Native.Nat.{ℕ, zero, suc, _+_, _-_, _≤_, _<_}
-use mathlib.Core.Path.{_≡_, refl, sym, ap, _∙_, subst}
+use Prim.Native.Nat.{ℕ, zero, suc, _-_, _≤_, _<_}
+use mathlib.Core.Path.{_≡_, refl, sym, ap, _∙_}
 use mathlib.Core.Bool.{Bool, true, false, cond}
-use mathlib.Core.List.{List, [], _∷_, _++_}
+use mathlib.Core.List.{List, [], _∷_}
 use native.Mathlib.Omega.{arith}
 use borrow.Author.Tests.{lt-ltb, le-ltb}
 use lib.ListN.{length}
-use Rattle.rows.specs.Layout.{place, link, head, tail}
+use Rattle.rows.specs.Layout.{place, link, head}
 use Rattle.rows.specs.Cells.{load}
 use Rattle.rows.specs.Order.{ahead}
 use Rattle.rows.specs.Lists.{step, walk, spotBefore, spot}
 use Rattle.rows.specs.Holds.{same, occurs, Chain, ending, Sorted, Listed}
 use Rattle.rows.specs.Living.{sumTo}
-use Rattle.rows.proofs.Occurs.{same-refl, same-le, occurs-append}
+use Rattle.rows.proofs.Occurs.{same-refl, same-le}
 use Rattle.rows.proofs.Sums.{sum-add, sum-same, sum-le, sum-zero}
 use Rattle.rows.proofs.Chain.{chain-row}
-use Rattle.rows.proofs.Structure.{at-most-once, row-of}
 use Rattle.rows.proofs.Walk.{walk-next, walk-stay}
 use Rattle.rows.proofs.Insertion.{front, front-all, lastOf}
 use Rattle.rows.proofs.Orders.{ahead-order}

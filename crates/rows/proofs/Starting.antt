@@ -1,9 +1,7 @@
 -- The start of a run: whatever the buffer held, every list is empty and every row is free.
-use Prim.Native.Nat.{ℕ, zero, suc, _+_, _≤_, _<_}
-use mathlib.Core.Path.{_≡_, refl, sym, ap, _∙_, subst}
-use mathlib.Core.Logic.{_≢_}
-use mathlib.Core.Bool.{Bool, true, false}
-use mathlib.Core.List.{List, [], _∷_, map}
+use Prim.Native.Nat.{ℕ, zero, suc, _≤_, _<_}
+use mathlib.Core.Path.{_≡_, refl, sym, _∙_}
+use mathlib.Core.List.{List, [], _∷_}
 use native.Mathlib.Omega.{arith}
 use native.Mathlib.Decide.{ℕ-discrete}
 use lib.ListN.{length}
@@ -11,8 +9,8 @@ use Rattle.machine.specs.Transaction.{Transaction, Event}
 use Rattle.rows.specs.Layout.{place, head, tail, free, nowhere}
 use Rattle.rows.specs.Cells.{load, store}
 use Rattle.rows.specs.Make.{emptyList, emptyLists, looseRows, freeRow, freeRows, initial}
-use Rattle.rows.specs.Living.{sumTo, loose}
-use Rattle.rows.specs.Holds.{same, occurs, Chain, ending, Sorted, Listed, Holds, update}
+use Rattle.rows.specs.Living.{loose}
+use Rattle.rows.specs.Holds.{occurs, Chain, ending, Sorted, Listed, update}
 use Rattle.rows.specs.Shows.{Shown, Shows, Loose}
 use Rattle.rows.proofs.Store.{length-store, load-same, load-other}
 use Rattle.rows.proofs.Occurs.{same-other}

@@ -1,5 +1,5 @@
 -- Operations on lists leave the rows that are on none as they are: the moving transaction among them.
-use Prim.Native.Nat.{ℕ, _+_, _*_, _≤_, _<_}
+use Prim.Native.Nat.{ℕ, _<_}
 use mathlib.Core.Path.{_≡_, refl, sym, ap, _∙_, subst}
 use mathlib.Core.Logic.{_≢_}
 use mathlib.Core.List.{List}
@@ -8,8 +8,8 @@ use native.Mathlib.Decide.{ℕ-discrete}
 use borrow.Author.Tests.{ne-eqb}
 use lib.Dec.{eqb}
 use Rattle.rows.specs.Layout.{place, free, nowhere, fieldAt}
-use Rattle.rows.specs.Cells.{load, read, write}
-use Rattle.rows.specs.Holds.{transactionAt, eventAt}
+use Rattle.rows.specs.Cells.{load, write}
+use Rattle.rows.specs.Holds.{transactionAt}
 use Rattle.rows.specs.Living
 use Rattle.rows.specs.Shows.{Loose}
 use Rattle.rows.proofs.Store.{load-other}

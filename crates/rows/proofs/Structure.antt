@@ -4,17 +4,16 @@ use Prim.Native.Nat.{ℕ, zero, suc, _+_, _≤_, _<_}
 use mathlib.Core.Path.{_≡_, refl, sym, ap, _∙_, subst}
 use mathlib.Core.Logic.{_≢_}
 use mathlib.Core.Bool.{Bool, true, false, cond}
-use mathlib.Core.List.{List, [], _∷_, _++_}
+use mathlib.Core.List.{List, _++_}
 use native.Mathlib.Omega.{arith}
 use native.Mathlib.Decide.{ℕ-discrete}
-use borrow.Author.Tests.{eq-eqb, ne-eqb, eqb-true, eqb-false}
+use borrow.Author.Tests.{eqb-true, eqb-false}
 use lib.Dec.{eqb}
-use lib.ListN.{length}
 use Rattle.rows.specs.Layout.{place, link, head, tail}
 use Rattle.rows.specs.Cells.{load}
 use Rattle.rows.specs.Holds.{same, occurs, Chain, ending, Listed, update}
-use Rattle.rows.proofs.Occurs.{same-refl, same-other, same-pos, same-le, occurs-append}
-use Rattle.rows.proofs.Chain.{chain-moved, chain-row, chain-joined, chain-after, ending-append, EndsAt, start, behind, ends}
+use Rattle.rows.proofs.Occurs.{same-other, same-pos, same-le, occurs-append}
+use Rattle.rows.proofs.Chain.{chain-moved, chain-row, chain-joined, ending-append, EndsAt, start, behind, ends}
 
 -- what changed: list p from a ++ b to a ++ b′, with row k going from place o to place o′
 pub record Changed (w w′ : List ℕ) (p k : ℕ) (a b b′ : List ℕ) : Type 0 where

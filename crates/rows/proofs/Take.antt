@@ -1,14 +1,12 @@
 -- The first of a list, and taking it: the machine's head and tail.
 use Prim.Native.Nat.{ℕ, _≤_, _<_}
 use mathlib.Core.Path.{_≡_, refl, sym, ap, _∙_, subst}
-use mathlib.Core.Logic.{_≢_}
-use mathlib.Core.List.{List, [], _∷_, _++_, map}
+use mathlib.Core.List.{List, [], _∷_, map}
 use native.Mathlib.Omega.{arith}
 use lib.ListN.{drop}
 use Rattle.machine.specs.Transaction.{Transaction, Event}
-use Rattle.rows.specs.Layout.{place, head, fel, free, nowhere}
-use Rattle.rows.specs.Cells.{load}
-use Rattle.rows.specs.Lists.{removeAt, first, takeFirst}
+use Rattle.rows.specs.Layout.{head, fel, free}
+use Rattle.rows.specs.Lists.{first, takeFirst}
 use Rattle.rows.specs.Holds.{transactionAt, eventAt, Chain, ending, Listed, Holds, update}
 use Rattle.rows.specs.Shows.{Shown, Loose}
 use Rattle.rows.proofs.Holding.{Kept, remove-holds, remove-keeps, remove-placed}

@@ -9,7 +9,6 @@ use borrow.Author.Tests.{lt-ltb}
 use Rattle.machine.specs.Transaction.{Transaction, Event, precedes}
 use Rattle.machine.specs.Setters.{withReturning}
 use Rattle.machine.specs.Lists.{insert}
-use Rattle.machine.specs.Moves.{wake}
 use Rattle.rows.specs.Layout.{place, head, rel}
 use Rattle.rows.specs.Cells.{load, read, setReturning}
 use Rattle.rows.specs.Order.{ahead}

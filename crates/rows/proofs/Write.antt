@@ -1,18 +1,15 @@
 -- Writing the data of a row that is on no list: every list stays.
-use Prim.Native.Nat.{ℕ, _+_, _*_, _/_, _%_, _≤_, _<_}
-use mathlib.Core.Path.{_≡_, refl, sym, ap, _∙_, subst}
+use Prim.Native.Nat.{ℕ, _≤_, _<_}
+use mathlib.Core.Path.{_≡_, sym, ap, _∙_}
 use mathlib.Core.Logic.{_≢_}
-use mathlib.Core.Bool.{Bool, true, false}
-use mathlib.Core.List.{List, [], _∷_, map}
+use mathlib.Core.List.{List, map}
 use native.Mathlib.Omega.{arith}
-use lib.Dec.{eqb}
-use lib.ListN.{length}
 use Rattle.machine.specs.Transaction.{Transaction, Event}
 use Rattle.rows.specs.Layout.{place, link, head, tail, fel, fieldAt}
-use Rattle.rows.specs.Cells.{load, store, read, write}
-use Rattle.rows.specs.Holds.{transactionAt, eventAt, before, same, occurs, Chain, Sorted, Listed, Holds}
+use Rattle.rows.specs.Cells.{load, write}
+use Rattle.rows.specs.Holds.{transactionAt, eventAt, same, occurs, Listed, Holds}
 use Rattle.rows.specs.Shows.{Shown, Loose}
-use Rattle.rows.proofs.Store.{length-store, load-same, load-other}
+use Rattle.rows.proofs.Store.{length-store, load-other}
 use Rattle.rows.proofs.Occurs.{same-other}
 use Rattle.rows.proofs.Chain.{chain-moved, chain-row}
 use Rattle.rows.proofs.Data.{SameRow, transaction-kept, event-kept, map-kept}

@@ -9,7 +9,7 @@ use lib.ListN.{length}
 use mir.Syntax.{w32}
 use mir.Val.{toZ}
 use Rattle.machine.specs.Transaction.{Transaction, Event, precedes, earlier}
-use Rattle.rows.specs.Layout.{place, link, head, tail, fel, free, nowhere, numberField, standingField, parameterField, nextField, serialField, timeField}
+use Rattle.rows.specs.Layout.{place, link, head, tail, fel, numberField, standingField, parameterField, nextField, serialField, timeField}
 use Rattle.rows.specs.Cells.{load, read, priorityOf}
 
 -- ---- Rows as transactions

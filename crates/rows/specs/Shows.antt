@@ -1,5 +1,5 @@
 -- What the buffer shows of the machine's lists.
-use Prim.Native.Nat.{ℕ, _≤_, _<_}
+use Prim.Native.Nat.{ℕ, _<_}
 use mathlib.Core.Path.{_≡_}
 use mathlib.Core.List.{List, [], map}
 use Rattle.machine.specs.Transaction.{Transaction, Event}

@@ -1,26 +1,20 @@
 -- What a block on a server names, and what the tables and the tally hold of that server.
-use Prim.Native.Nat.{ℕ, _+_, _*_, _-_, _%_, _≤_, _<_}
-use mathlib.Core.Path.{_≡_, refl, sym, ap, _∙_, subst}
+use Prim.Native.Nat.{ℕ, _+_, _*_, _-_, _%_, _≤_}
+use mathlib.Core.Path.{_≡_, refl, sym, ap, _∙_}
 use mathlib.Core.Bool.{false}
 use mathlib.Core.List.{List, [], _∷_}
-use mathlib.Core.Option.{none, some}
 use native.Mathlib.Omega.{arith}
 use lib.Dec.{eqb}
-use lib.ListN.{length, getD, drop, List·getD-map}
-use lib.Seq.{getD-take, getD-drop}
-use Rattle.machine.specs.Transaction.{Transaction}
+use lib.ListN.{length, getD, List·getD-map}
 use Rattle.machine.specs.Term.{Server, idleServer}
 use Rattle.machine.specs.Term
 use Rattle.machine.specs.Block.{Code, U, NU, E, NE, F, NF, status, codeIndex, Block, generate, advance, terminate, seize, release, enter, leave, waitServer, waitTerms, branch, goto, assign, priority, split, arrive, depart, facts, BlockModel, blockAt}
 use Rattle.machine.specs.State.{State}
 use Rattle.machine.proofs.Proper.{Proper, Names, servers}
 use Rattle.machine.proofs.Shape.{Shape, capacityOf}
-use Rattle.machine.proofs.Placed.{Placed}
-use Rattle.machine.proofs.Everybody.{Maybe}
 use Rattle.tables.specs.Numbers.{blockNumbers}
 use Rattle.tables.specs.Represents.{At, Represents}
 use Rattle.tables.proofs.Operands.{at-number}
-use Rattle.state.specs.Sane.{Sane}
 use Rattle.state.specs.Stands.{Tallying}
 use Rattle.servers.specs.Units.{serverAt, inUse, capacity, statusOf}
 use Rattle.servers.specs.Waking.{unitsAt}

@@ -12,11 +12,11 @@ use Rattle.machine.specs.Block.{Block, BlockModel}
 use Rattle.machine.specs.State.{State}
 use Rattle.machine.specs.Setters.{setTurns, setEnd}
 use Rattle.machine.specs.Turn.{taking, turn}
-use Rattle.machine.specs.Run.{idle, startAt, start, states}
+use Rattle.machine.specs.Run.{idle, startAt, start}
 use Rattle.machine.specs.Report.{placed, places}
 use Rattle.machine.specs.Claims.{Each}
 use Rattle.machine.proofs.Proper.{Proper}
-use Rattle.machine.proofs.RunLaws.{Taken, each-map, each-pair, each-state}
+use Rattle.machine.proofs.RunLaws.{each-map, each-pair}
 use Rattle.machine.proofs.Cases.{startOf-cases}
 use Rattle.machine.proofs.Kept.{taking-kept}
 use Rattle.machine.proofs.Shape.{Shape, shape-closed, shape-turn, shape-start, each-getD}

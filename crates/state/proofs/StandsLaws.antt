@@ -15,7 +15,7 @@ use Rattle.machine.specs.State.{State}
 use Rattle.machine.specs.Setters.{setMoving}
 use Rattle.tables.specs.Layout as Layout
 use Rattle.rows.specs.Layout.{fel, free}
-use Rattle.rows.specs.Cells.{read, write}
+use Rattle.rows.specs.Cells.{write}
 use Rattle.rows.specs.Order.{ahead}
 use Rattle.rows.specs.Lists.{put}
 use Rattle.rows.specs.Holds.{transactionAt, eventAt, update}

@@ -13,17 +13,17 @@ use lib.Seq.{getD-set-same, getD-set-other}
 use Rattle.machine.specs.Limits.{maxSerial, maxTurns, recordRoom}
 use Rattle.machine.specs.Transaction.{Transaction}
 use Rattle.machine.specs.Lists.{nth, those}
-use Rattle.machine.specs.Trace.{Record, recordBytes, traceBytes, inRanges}
+use Rattle.machine.specs.Trace.{Record, recordBytes, traceBytes}
 use Rattle.machine.specs.Block.{BlockModel}
 use Rattle.machine.specs.State.{State, Logged}
 use Rattle.machine.specs.Setters.{setEnd}
 use Rattle.machine.specs.Moves.{recordOf}
 use Rattle.machine.specs.Turn.{turn}
-use Rattle.machine.specs.Run.{idle, start, states}
+use Rattle.machine.specs.Run.{idle, start}
 use Rattle.machine.specs.Outcome.{recordsOf}
 use Rattle.machine.specs.Claims.{Each, count, bit, InModel}
 use Rattle.machine.proofs.Proper.{Proper, Names}
-use Rattle.machine.proofs.RunLaws.{Taken, each-map, each-state}
+use Rattle.machine.proofs.RunLaws.{Taken}
 use Rattle.machine.proofs.Everybody.{Maybe}
 use Rattle.machine.proofs.Placed.{Placed}
 use Rattle.machine.proofs.Sums.{count-cons}

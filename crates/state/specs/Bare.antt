@@ -2,20 +2,20 @@
 -- and the note of the record, which the engine makes in one place. The law that the two together are `answer` is
 -- proofs/Noted.antt.
 use Prim.Native.Nat.{ℕ, zero, suc, _+_, _-_}
-use mathlib.Core.Bool.{Bool, true, false, cond}
-use mathlib.Core.List.{List, [], _∷_}
-use mathlib.Core.Option.{Option, none, some}
+use mathlib.Core.Bool.{false, cond}
+use mathlib.Core.List.{_∷_}
+use mathlib.Core.Option.{none}
 use lib.Dec.{leb}
 use lib.ListN.{length}
 use Rattle.machine.specs.Transaction.{Transaction}
 use Rattle.machine.specs.Lists.{nth, setNth}
 use Rattle.machine.specs.Trace.{recordBytes}
 use Rattle.machine.specs.Term.{serverAt, queueAt, free, evaluate, compare}
-use Rattle.machine.specs.Block.{status, Block, generate, advance, terminate, seize, release, enter, leave, waitServer, waitTerms, branch, goto, assign, priority, split, arrive, depart, BlockModel, blockAt}
+use Rattle.machine.specs.Block.{status, Block, generate, advance, terminate, seize, release, enter, leave, waitServer, waitTerms, branch, goto, assign, priority, split, arrive, depart, BlockModel}
 use Rattle.machine.specs.State.{State}
 use Rattle.machine.specs.Setters.{withPriority, withParameters, withNext, withSerial, withReturning, setEntries, setView, setSerial, setMoving, setEnd, setRecords, setWritten}
 use Rattle.machine.specs.Moves.{recordOf, moveTo, goOn, fresh, toRel, toQl, toWel, toWsl, wakeFirstQl, wakeQl, wakeFirstWel, setInUse, setContent, timesLeft, arrival, copies}
-use Rattle.machine.specs.Execute.{question, fits, checkWels, freeUnits, endsOne, delay}
+use Rattle.machine.specs.Execute.{fits, checkWels, freeUnits, endsOne, delay}
 
 -- Which record a block writes: outcome 0, outcome 1, or none, for a returner that is put back and for a turn that a question stops.
 pub data Note : Type 0 where

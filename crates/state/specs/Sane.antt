@@ -1,8 +1,6 @@
 -- What holds of the machine's states within a turn and lets 32-bit rows and 64-bit sums hold their numbers. These facts are
 -- the machine's own (proofs/ of crate machine and proofs/Sanity.antt); no buffer is spoken of.
-use Prim.Native.Nat.{ℕ, zero, suc, _+_, _*_, _-_, _≤_, _<_}
-use mathlib.Core.List.{List, [], _∷_}
-use mathlib.Core.Option.{Option, none, some}
+use Prim.Native.Nat.{ℕ, _+_, _*_, _-_, _≤_}
 use lib.ListN.{length}
 use Rattle.machine.specs.Limits.{maxTurns, maxCounter}
 use Rattle.machine.specs.Term.{Server, Queue}

@@ -1,12 +1,12 @@
 -- When header, tables and list cells stand for a model and a tape of the machine.
-use Prim.Native.Nat.{ℕ, zero, suc, _+_, _*_, _-_, _≤_, _<_}
+use Prim.Native.Nat.{ℕ, _+_, _*_, _-_, _<_}
 use mathlib.Core.Path.{_≡_}
-use mathlib.Core.Bool.{Bool, true, false, _&&_}
-use mathlib.Core.List.{List, [], _∷_, _++_, map}
+use mathlib.Core.Bool.{Bool, true, _&&_}
+use mathlib.Core.List.{List, [], _++_}
 use lib.Dec.{leb, T}
 use lib.ListN.{length, getD, take, drop, replicate}
 use Rattle.machine.specs.Limits.{maxConstant, maxTime}
-use Rattle.machine.specs.Parser.{Cursor, Parsed, parsed, times, field}
+use Rattle.machine.specs.Parser.{Cursor, parsed, times, field}
 use Rattle.machine.specs.Term.{Term, constant, minusConstant, parameter, clockTerm, entriesOf, contentOf, unitsInUse, unitsFree, facilityInUse, value, comparison, bracket, Sum, nothing, plus, minus}
 use Rattle.machine.specs.Block.{Block, generate, advance, terminate, seize, release, enter, leave, waitServer, waitTerms, branch, goto, assign, priority, split, arrive, depart, BlockModel}
 use Rattle.machine.specs.declared.model.Model.{Model}

@@ -1,18 +1,18 @@
 -- Validation from bytes: in what it accepts, at most four brackets open in a value and none in a term of a block.
-use Prim.Native.Nat.{ℕ, zero, suc, _+_, _-_, _≤_, _<_}
-use mathlib.Core.Path.{_≡_, refl, sym, ap, subst}
+use Prim.Native.Nat.{ℕ, zero, suc, _-_}
+use mathlib.Core.Path.{_≡_, sym, ap, subst}
 use mathlib.Core.Bool.{Bool, true, false, cond, _&&_}
-use mathlib.Core.List.{List, [], _∷_}
+use mathlib.Core.List.{List}
 use native.Mathlib.Omega.{arith}
 use borrow.Author.Tests.{lt-ltb}
 use lib.Dec.{T, leb, ltb, eqb}
-use lib.ListN.{length, getD}
+use lib.ListN.{length}
 use Rattle.machine.specs.Limits as Limits
 use Rattle.machine.specs.Lists.{nth}
 use Rattle.machine.specs.Term.{Relation, Term, comparison, bracket, Sum, nothing, plus, minus}
 use Rattle.machine.specs.Block.{Block, terminate, enter, leave, BlockModel}
-use Rattle.machine.specs.Parser.{Parsed, parsed, refused, Parser, times}
-use Rattle.machine.specs.Decode.{Counts, relationOf, simpleTerm, number, blockTerm, counted, mentioned, valueNumber, sumTerms, sumField, bracketField, comparisonField, mentionField, taggedTerm, valueTerm, valueField, inValue, valueFields, codeServer, storageUnits, operands, blockField, modelFields, atEnd, listField}
+use Rattle.machine.specs.Parser.{Parsed, parsed, refused, Parser}
+use Rattle.machine.specs.Decode.{Counts, relationOf, simpleTerm, number, blockTerm, counted, mentioned, valueNumber, sumTerms, sumField, bracketField, comparisonField, mentionField, taggedTerm, valueTerm, valueField, inValue, valueFields, codeServer, storageUnits, operands, blockField, modelFields, atEnd}
 use Rattle.machine.specs.Validate.{wellFormed, beginning, modelOf, tapeOf, Validation, accept, reject, withTape, withModel, validate}
 use Rattle.machine.specs.Claims.{Each}
 use Rattle.machine.proofs.RunLaws.{cond-cases}

@@ -4,15 +4,15 @@ use mathlib.Core.Path.{_≡_, refl, sym, ap, _∙_, subst}
 use mathlib.Core.Logic.{_≢_}
 use mathlib.Core.Bool.{Bool, true, false, cond, _&&_}
 use mathlib.Core.List.{List, [], _∷_, _++_, append-assoc}
-use mathlib.Core.Option.{Option, none, some}
+use mathlib.Core.Option.{some}
 use native.Mathlib.Omega.{arith}
 use native.Mathlib.Decide.{ℕ-discrete}
 use borrow.Author.Tests.{le-leb, le-ltb, eq-eqb, ne-eqb}
-use lib.Dec.{ltb, leb, eqb}
+use lib.Dec.{ltb, eqb}
 use lib.ListN.{length, getD, set, take, drop, length-set, length-append, length-drop}
 use lib.Seq.{take-at, drop-at, drop-drop, getD-set-same, getD-set-other}
 use Rattle.machine.specs.Transaction.{Transaction}
-use Rattle.machine.specs.Trace.{Record, recordBytes, traceBytes, inRanges, Writing, written, writeRecord}
+use Rattle.machine.specs.Trace.{recordBytes, traceBytes, inRanges, written, writeRecord}
 use Rattle.machine.specs.Block.{BlockModel}
 use Rattle.machine.specs.State.{State, Logged}
 use Rattle.machine.specs.Moves.{recordOf}
@@ -25,13 +25,13 @@ use Rattle.machine.proofs.Everybody.{Maybe}
 use Rattle.machine.proofs.Shape.{each-getD}
 use Rattle.tables.specs.Layout as Layout
 use Rattle.trace.specs.Answers.{entry}
-use Rattle.trace.proofs.Writer.{Ranges, in-ranges, record-room, written-record}
+use Rattle.trace.proofs.Writer.{in-ranges, record-room, written-record}
 use Rattle.state.specs.declared.scalars.Scalars.{Scalars}
 use Rattle.state.specs.ScalarSetters.{putUsed}
 use Rattle.state.specs.Sane.{Sane}
-use Rattle.state.specs.Stands.{Rows, rowsOf, listsOf, Serving, Queueing, Tallying, Stands, noteOf, Done}
-use Rattle.state.specs.Bare.{Note, enteredNote, waitsNote, noNote, Bare, logged, countEntry, noteAs}
-use Rattle.state.proofs.StandsLaws.{entries-set, serving-set, queueing-set, listing-ext, tallying-ext, counting-ext}
+use Rattle.state.specs.Stands.{Rows, rowsOf, listsOf, Tallying, Stands, noteOf}
+use Rattle.state.specs.Bare.{Note, logged, countEntry, noteAs}
+use Rattle.state.proofs.StandsLaws.{entries-set, serving-set, queueing-set, listing-ext}
 use Rattle.state.proofs.Written.{atBlock, inOrder, bytes-cons, at-block-cons}
 use Rattle.turn.specs.Note.{Bytes, bytes, appended, appendRecord, cellOf, countRecord, Noted, noted, noteRecord}
 use Rattle.turn.specs.Writes.{Writes}

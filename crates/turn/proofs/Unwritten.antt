@@ -10,8 +10,7 @@ use Rattle.machine.specs.Execute.{question}
 use Rattle.machine.proofs.Proper.{ProperBlock}
 use Rattle.machine.proofs.Cases.{question-hand}
 use Rattle.state.specs.Bare.{bareAnswer}
-use Rattle.state.proofs.Gains.{Gains}
-use Rattle.state.proofs.BlockGains.{Moderate, bare-gains}
+use Rattle.state.proofs.BlockGains.{bare-gains}
 
 pub record Unwritten (s x : State) : Type 0 where
   pub records : x .records ≡ s .records

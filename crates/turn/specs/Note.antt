@@ -1,10 +1,10 @@
 -- The row machine: the record of a block in the trace buffer, and the count of its entries or waits.
 use Prim.Native.Nat.{ℕ, _+_, _-_, min}
-use mathlib.Core.Bool.{Bool, cond}
-use mathlib.Core.List.{List, [], _∷_, _++_}
+use mathlib.Core.Bool.{cond}
+use mathlib.Core.List.{List, _++_}
 use lib.Dec.{ltb, leb, eqb}
 use lib.ListN.{length, getD, set, take, drop}
-use Rattle.machine.specs.Trace.{Record, Writing, written, rejected, writeRecord}
+use Rattle.machine.specs.Trace.{Writing, written, rejected, writeRecord}
 use Rattle.trace.specs.Answers.{entry}
 use Rattle.state.specs.declared.scalars.Scalars.{Scalars}
 use Rattle.state.specs.ScalarSetters.{putUsed}

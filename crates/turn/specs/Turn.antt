@@ -1,6 +1,6 @@
 -- The row machine: a whole turn over scalars, work buffer, tally and trace buffer.
 use Prim.Native.Nat.{ℕ, _+_, _*_, _-_}
-use mathlib.Core.Bool.{Bool, cond}
+use mathlib.Core.Bool.{cond}
 use mathlib.Core.List.{List}
 use lib.Dec.{ltb}
 use Rattle.machine.specs.declared.model.Model.{Model}

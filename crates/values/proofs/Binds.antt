@@ -1,8 +1,8 @@
 -- One step after the other, pure: from what a call kept (specs/Keeps) to what its caller keeps of a parser that goes on.
-use Prim.Native.Nat.{ℕ, zero, suc, _+_, _-_, _≤_, _<_}
+use Prim.Native.Nat.{ℕ, _-_}
 use native.Mathlib.Omega.{arith}
 use mathlib.Core.Path.{_≡_, refl, sym, ap, _∙_}
-use mathlib.Core.List.{List, [], _∷_}
+use mathlib.Core.List.{List}
 use lib.Seq.{sets}
 use Rattle.machine.specs.Parser.{Cursor, Parsed, parsed, refused, Parser, continue}
 use Rattle.values.specs.declared.Place.{Place}

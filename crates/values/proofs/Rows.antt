@@ -4,9 +4,9 @@ use native.Mathlib.Nat.{mul-suc, mul-zero}
 use native.Mathlib.Numerals.{add-one}
 use native.Mathlib.Omega.{arith}
 use mathlib.Core.Path.{_≡_, refl, sym, ap, _∙_, fun-ext}
-use mathlib.Core.List.{List, [], _∷_, _++_}
-use lib.ListN.{length, getD, take, drop, set, length-set}
-use lib.Seq.{sets, length-sets, getD-set-other, getD-set-same, ext-getD, getD-take, getD-drop}
+use mathlib.Core.List.{List, [], _∷_}
+use lib.ListN.{length, getD}
+use lib.Seq.{sets}
 use Rattle.machine.specs.Parser.{Cursor, Parsed, parsed, refused, Parser, continue, times}
 use Rattle.machine.specs.Term.{Sum}
 use Rattle.machine.specs.Decode.{Counts, valueField, valueFields, inValue}

@@ -1,19 +1,18 @@
 -- What each function of the crate keeps, pure: from what its calls kept, by the definitions of the machine's parsers.
-use Prim.Native.Nat.{ℕ, zero, suc, _+_, _*_, _-_, _≤_, _<_, max}
-use native.Mathlib.Nat.{add-suc, suc-add, add-zero}
+use Prim.Native.Nat.{ℕ, zero, suc, _+_, _-_, _≤_, _<_, max}
 use native.Mathlib.Omega.{arith}
 use mathlib.Core.Path.{_≡_, refl, sym, ap, _∙_}
 use mathlib.Core.Bool.{Bool, true, false, cond, _&&_}
 use mathlib.Core.List.{List, [], _∷_, _++_}
-use lib.Dec.{eqb, leb, ltb, T}
+use lib.Dec.{eqb, T}
 use lib.ListN.{length, drop, set, length-append}
 use lib.Seq.{sets}
-use borrow.Author.Tests.{le-leb, lt-ltb, le-ltb, eq-eqb, ne-eqb, eqb-true, eqb-false}
+use borrow.Author.Tests.{lt-ltb, le-ltb, eq-eqb, ne-eqb, eqb-true, eqb-false}
 use Rattle.codec.specs.declared.Field.{Field}
 use Rattle.codec.specs.declared.Field.the-variants.{Value, Refused as NoField}
 use Rattle.codec.specs.Answers.{parsedOf}
 use Rattle.machine.specs.Parser.{Cursor, Parsed, parsed, refused, Parser, continue, field}
-use Rattle.machine.specs.Term.{Term, value, comparison, bracket, Sum, nothing, plus, minus}
+use Rattle.machine.specs.Term.{Term, value, comparison, bracket, Sum, plus, minus}
 use Rattle.machine.specs.Decode.{Counts, valueNumber, counted, mentioned, comparisonField, bracketField, sumField, sumTerms, taggedTerm, valueTerm, valueField, blockTerm, relationOf, simpleTerm}
 use Rattle.tables.specs.Numbers.{termNumbers, signedTerms, sumNumbers, terms, relationNumber}
 use Rattle.tables.specs.Represents.{smallTerm, smallSum}
@@ -23,9 +22,9 @@ use Rattle.values.specs.declared.Taken.the-variants.{Number, Refused as 
 use Rattle.values.specs.declared.Stored.{Stored}
 use Rattle.values.specs.declared.Stored.the-variants.{Done, Refused}
 use Rattle.values.specs.Keeps.{cursorOf, placeOf, Shape, Takes, Stores, plainShape, numberShape, countedShape}
-use Rattle.values.specs.Shapes.{rangeOf, termOf, operandField, termNamed, sumNamed, Counted, termShape, operandShape, sumShape, termsShape, valueShape, blockTermShape}
+use Rattle.values.specs.Shapes.{rangeOf, termOf, operandField, termNamed, sumNamed, termShape, operandShape, sumShape, termsShape, valueShape, blockTermShape}
 use Rattle.values.proofs.Binds.{takes-refused, takes-known, takes-stop, takes-bind, stores-stop, stores-bind, stores-last, stores-as}
-use Rattle.values.proofs.Tags.{block-operand, value-operand, operandRest, operand-numbers, operand-named, operand-small, relation-number}
+use Rattle.values.proofs.Tags.{block-operand, value-operand, operand-numbers, operand-named, operand-small, relation-number}
 
 -- ---- Cells and truths
 

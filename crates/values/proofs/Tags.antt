@@ -1,12 +1,12 @@
 -- The number after a tag from 0 to 9, pure: its range, the term that it makes and how that term is kept.
-use Prim.Native.Nat.{ℕ, zero, suc, _+_, _-_, _≤_, _<_, max}
+use Prim.Native.Nat.{ℕ, zero, suc, _+_, _-_, _≤_, max}
 use native.Mathlib.Omega.{arith}
-use mathlib.Core.Path.{_≡_, refl, sym, ap, _∙_}
-use mathlib.Core.Bool.{Bool, true, false, cond, _&&_}
+use mathlib.Core.Path.{_≡_, refl, ap}
+use mathlib.Core.Bool.{cond}
 use mathlib.Core.List.{List, [], _∷_}
-use lib.Dec.{eqb, leb, T}
+use lib.Dec.{eqb, T}
 use borrow.Author.Tests.{le-leb}
-use Rattle.machine.specs.Parser.{Cursor, Parsed, parsed, refused, Parser, continue, field}
+use Rattle.machine.specs.Parser.{Cursor, parsed, Parser, continue, field}
 use Rattle.machine.specs.Term.{Term, value}
 use Rattle.machine.specs.Decode.{Counts, simpleTerm, valueNumber, mentionField, mentioned}
 use Rattle.tables.specs.Numbers.{termNumbers, relationNumber}

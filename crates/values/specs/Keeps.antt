@@ -1,6 +1,6 @@
 -- What reading and storing gives: by cases on what a parser of the machine gives, the answer, the cells of the tables and
 -- what else is known of the thing that was read.
-use Prim.Native.Nat.{ℕ, zero, suc, _+_, _-_, _≤_, _<_}
+use Prim.Native.Nat.{ℕ, suc, _+_, _-_, _≤_, _<_}
 use mathlib.Core.Path.{_≡_}
 use mathlib.Core.List.{List, [], _∷_}
 use lib.Seq.{sets}

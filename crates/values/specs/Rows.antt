@@ -3,7 +3,7 @@ use Prim.Native.Nat.{ℕ, zero, suc, _+_}
 use mathlib.Core.Path.{_≡_}
 use mathlib.Core.List.{List, [], _∷_}
 use lib.Seq.{sets}
-use Rattle.machine.specs.Parser.{Cursor, Parsed, parsed, refused, Parser, continue}
+use Rattle.machine.specs.Parser.{Parsed, parsed, refused, Parser, continue}
 use Rattle.values.specs.declared.Place.{Place}
 use Rattle.values.specs.declared.Stored.{Stored}
 use Rattle.values.specs.declared.Stored.the-variants.{Done, Refused}

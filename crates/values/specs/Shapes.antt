@@ -1,12 +1,12 @@
 -- How numbers, terms, sums and values are kept (Keeps.antt), and the largest block number that they name.
-use Prim.Native.Nat.{ℕ, zero, suc, _+_, _-_, _≤_, _<_, max}
+use Prim.Native.Nat.{ℕ, _+_, _≤_, max}
 use mathlib.Core.Path.{_≡_}
-use mathlib.Core.Bool.{Bool, true, false, cond}
-use mathlib.Core.List.{List, [], _∷_}
+use mathlib.Core.Bool.{cond}
+use mathlib.Core.List.{List, _∷_}
 use lib.Dec.{eqb, T}
 use lib.ListN.{length, drop}
 use Rattle.machine.specs.Limits.{maxFacilities, maxStorages, maxQueues, maxValues, maxLists, maxBlocks, maxConstant, parameterCount}
-use Rattle.machine.specs.Parser.{Cursor, Parser, give}
+use Rattle.machine.specs.Parser.{Cursor, Parser}
 use Rattle.machine.specs.Decode.{Counts, simpleTerm, valueNumber, mentionField}
 use Rattle.machine.specs.Term.{Term, constant, minusConstant, parameter, clockTerm, entriesOf, contentOf, unitsInUse, unitsFree, facilityInUse, value, comparison, bracket, Sum, nothing, plus, minus}
 use Rattle.machine.specs.declared.model.Model.{Model}

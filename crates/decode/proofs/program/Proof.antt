@@ -1,6 +1,5 @@
 -- `decode::program` meets its contract: four parts, one after the other.
 use mathlib.Core.Path.{refl}
-use native.Mathlib.Omega.{arith}
 use Rattle.values.proofs.Binds.{takes-stop, takes-bind}
 use Rattle.decode.specs.Stages.{Stage, programField}
 use Rattle.decode.proofs.Stages.{program-stop, program-kept}

@@ -1,5 +1,4 @@
 -- `decode::sample_list` meets its contract: a count, its two cells and its times.
-use native.Mathlib.Omega.{arith}
 use Rattle.decode.proofs.Lists.{list-stop, list-kept}
 use borrow.Author.Needs.{needs}
 use Rattle.decode.proofs.sample_list.Statement.{statement}

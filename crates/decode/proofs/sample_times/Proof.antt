@@ -1,7 +1,6 @@
 -- `decode::sample_times` meets its contract. The loop's invariant: what the times that are left give is what all times give. The
 -- measure is `left`.
 use borrow.Author.Needs.{needs}
-use Prim.Native.Nat.{_≤_}
 use native.Mathlib.Omega.{arith}
 use Rattle.decode.proofs.Lists.{Skipping, times-none, times-stop, times-step}
 use Rattle.decode.proofs.sample_times.Statement.{statement}

@@ -1,6 +1,5 @@
 -- `decode::things` meets its contract: three parts, one after the other.
 use mathlib.Core.Path.{refl}
-use native.Mathlib.Omega.{arith}
 use Rattle.values.proofs.Binds.{takes-stop, takes-bind}
 use Rattle.values.specs.Shapes.{Within}
 use Rattle.decode.specs.Stages.{Stage, thingsField}

@@ -3,11 +3,6 @@ use Rattle.engine.proofs.Running.{run-refused, fits, run-finished}
 use borrow.Author.Needs.{needs}
 use Rattle.engine.proofs.run.Statement.{statement}
 use Rattle.engine.proofs.run.Tie as tie
-use Rattle.engine.proofs.run.Reads as reads
-use Rattle.engine.proofs.run.Lts as lts
-use Rattle.decode.proofs.decode.Reads as decode-reads
-use Rattle.engine.proofs.finish.accepted.Reads as accepted-reads
-use Rattle.engine.proofs.finish.refused.Reads as refused-reads
 
 decode-requires : tie.Need-decode-requires
 decode-requires c κs = search needs

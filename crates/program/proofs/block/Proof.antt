@@ -4,7 +4,7 @@ use Prim.Native.Nat.{_+_, _*_}
 use mathlib.Core.Path.{_≡_, ap, _∙_}
 use Rattle.program.specs.Shapes.{capacitiesOf}
 use native.Mathlib.Omega.{arith}
-use mathlib.Core.Path.{_≡_, sym, ap, _∙_}
+use mathlib.Core.Path.{_≡_, ap, _∙_}
 use Rattle.program.proofs.Steps.{block-stop, block-kept, capacities-kept}
 use borrow.Author.Needs.{needs}
 use Rattle.program.proofs.block.Statement.{statement}

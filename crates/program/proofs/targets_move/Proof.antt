@@ -3,8 +3,7 @@
 use Rattle.program.proofs.Question.{targets-all, targets-end, targets-bad, targets-next}
 use Prim.Native.Nat.{_*_, _-_, _≤_}
 use native.Mathlib.Omega.{arith}
-use native.Mathlib.Numerals.{add-one}
-use mathlib.Core.Path.{_≡_, refl, sym, _∙_}
+use mathlib.Core.Path.{_≡_, sym, _∙_}
 use Rattle.program.specs.Formed.{targetsFrom}
 use Rattle.program.proofs.Question.{targets-end, targets-bad, targets-next}
 use Rattle.program.proofs.targets_move.Statement.{statement}

@@ -4,9 +4,8 @@ use Rattle.program.proofs.Question.{placed-all, placed-end, placed-bad,
 use borrow.Author.Needs.{needs}
 use Prim.Native.Nat.{_*_, _-_, _≤_}
 use native.Mathlib.Omega.{arith}
-use native.Mathlib.Numerals.{add-one}
 use mathlib.Core.Bool.{true}
-use mathlib.Core.Path.{_≡_, refl, sym, _∙_}
+use mathlib.Core.Path.{_≡_, sym, _∙_}
 use Rattle.program.specs.Formed.{placedFrom}
 use Rattle.program.proofs.Question.{placed-end, placed-bad, placed-next}
 use Rattle.program.proofs.well_placed.Statement.{statement}

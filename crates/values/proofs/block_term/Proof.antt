@@ -1,5 +1,4 @@
 -- `values::block_term` meets its contract: a tag, its range, and the number after it.
-use mathlib.Core.Path.{_≡_}
 use Rattle.values.proofs.Steps.{block-stop, block-stop-2, block-read}
 use borrow.Author.Needs.{needs}
 use Rattle.values.proofs.block_term.Statement.{statement}

@@ -1,5 +1,5 @@
 -- `ws` meets its contract. The invariant: the rest of the walk from here is the whole walk. The measure: the steps left.
-use Prim.Native.Nat.{ℕ, _-_, _≤_}
+use Prim.Native.Nat.{_-_, _≤_}
 use mathlib.Core.Path.{_≡_, refl, sym, _∙_}
 use native.Mathlib.Omega.{arith}
 use borrow.Author.Needs.{needs}

@@ -1,6 +1,5 @@
 -- `turns` meets its contract. The loop's invariant: the rest of the run from here is the whole run, and the buffers keep their
 -- lengths. The measure is the steps left. Assumes nothing.
-use Prim.Native.Nat.{_≤_, _<_}
 use mathlib.Core.Path.{_≡_, refl, sym, ap, _∙_}
 use native.Mathlib.Omega.{arith}
 use lib.ListN.{length}

@@ -1,11 +1,10 @@
 -- `free_rows` meets its contract. The invariant: the first rows are done. The measure: those left.
-use Prim.Native.Nat.{ℕ, zero, suc, _-_, _≤_}
+use Prim.Native.Nat.{ℕ, _-_, _≤_}
 use mathlib.Core.Path.{_≡_, refl, ap, _∙_}
-use mathlib.Core.List.{List}
 use native.Mathlib.Omega.{arith}
 use native.Mathlib.Numerals.{add-one}
 use lib.ListN.{length}
-use Rattle.rows.specs.Make.{freeRows, freeRow}
+use Rattle.rows.specs.Make.{freeRows}
 use Rattle.rows.proofs.make.free_rows.Statement.{statement}
 use Rattle.rows.proofs.make.free_rows.Tie as tie
 

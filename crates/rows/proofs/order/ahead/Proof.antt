@@ -1,5 +1,5 @@
 -- `ahead` meets its contract, by cases on the list.
-use borrow.Author.Tests.{lt-ltb, le-ltb, eq-eqb, ne-eqb}
+use borrow.Author.Tests.{eq-eqb, ne-eqb}
 use Rattle.rows.specs.Order.{ahead}
 use borrow.Author.Needs.{needs}
 use Rattle.rows.proofs.order.ahead.Statement.{statement}

@@ -1,6 +1,4 @@
 -- `cell` meets its contract: by the outcome. Assumes nothing.
-use mathlib.Core.Path.{ap, sym, _∙_}
-use Prim.Native.Nat.{ℕ, _+_}
 use borrow.Author.Tests.{eq-eqb, ne-eqb}
 use Rattle.turn.specs.Note.{cellOf}
 use borrow.Author.Needs.{needs}
