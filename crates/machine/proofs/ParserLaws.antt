@@ -9,7 +9,7 @@ use native.Mathlib.Omega.{arith}
 use borrow.Author.Tests.{leb-true}
 use lib.Dec.{T, leb}
 use lib.ListN.{length, drop}
-use Rattle.machine.specs.Limits.{maxNumberBytes, maxNumber}
+use Rattle.machine.specs.Limits.{maxNumberBytes}
 use Rattle.machine.specs.Number.{Number, readNumber}
 use Rattle.machine.specs.Parser.{Cursor, Parsed, parsed, refused, Parser, continue, _>>=_, give, refuse, ask, times, forward, fieldOf, field}
 use Rattle.machine.specs.Claims.{Each}
@@ -86,7 +86,7 @@ field-of code lo hi low high (some n) c =
     (leb-true lo (n .value) (tests .0), leb-true (n .value) hi (tests .1)))
     (λ e. (omega arith, omega arith))
 
-pub in-range : (s : List ℕ) (code lo hi : ℕ) → 1 ≤ code → code ≤ 9 → Ensures (λ n. (lo ≤ n) × (n ≤ hi)) (field s code lo hi)
+pub in-range : (s : List ℕ) (most code lo hi : ℕ) → 1 ≤ code → code ≤ 9 → Ensures (λ n. (lo ≤ n) × (n ≤ hi)) (field s most code lo hi)
 unfolding field
-in-range s code lo hi low high =
-    record { from = λ c. field-of code lo hi low high (readNumber maxNumberBytes maxNumber (drop (c .position) s)) c }
+in-range s most code lo hi low high =
+    record { from = λ c. field-of code lo hi low high (readNumber maxNumberBytes most (drop (c .position) s)) c }

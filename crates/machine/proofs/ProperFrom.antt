@@ -8,6 +8,7 @@ use borrow.Author.Tests.{leb-true, leb-false}
 use lib.Dec.{T, leb, ltb, eqb}
 use lib.ListN.{length, getD}
 use Rattle.machine.specs.Limits as Limits
+use Rattle.machine.specs.Rules.{Rules}
 use Rattle.machine.specs.Lists.{nth}
 use Rattle.machine.specs.Term.{Term}
 use Rattle.machine.specs.Block.{Block, terminate, enter, leave, BlockModel}
@@ -42,7 +43,7 @@ module _ (read : ℕ → ℕ → Parser ℕ) (reads : (lo hi : ℕ) → Ensures 
 module _ (s : List ℕ) where
   -- a number of the model, with its range
   ranged : (lo hi : ℕ) → Ensures (λ n. (lo ≤ n) × (n ≤ hi)) (number s lo hi)
-  ranged lo hi = in-range s 3 lo hi (omega arith) (omega arith)
+  ranged lo hi = in-range s Limits.maxNumber 3 lo hi (omega arith) (omega arith)
 
   any-number : (lo hi : ℕ) → Ensures Any (number s lo hi)
   any-number lo hi = weaken (λ a h. tt) (ranged lo hi)
@@ -221,12 +222,12 @@ record ProperModel (m : BlockModel) : Type 0 where
   lists : m .lists ≤ Limits.maxLists
   counter : Names Limits.maxCounter (m .counter)
 
-record ProperTape (lists : ℕ) (tape : List (List ℕ)) : Type 0 where
+record ProperTape (rules : Rules) (lists : ℕ) (tape : List (List ℕ)) : Type 0 where
   tapes : length tape ≡ lists
-  each-list : Each (λ l. (length l ≤ Limits.maxSamples) × Each (λ x. x ≤ Limits.maxTime) l) tape
+  each-list : Each (λ l. (length l ≤ Limits.maxSamples) × Each (λ x. x ≤ rules .maxTime) l) tape
 
-module _ (s : List ℕ) where
-  model-fields : Ensures ProperModel (modelFields s)
+module _ (rules : Rules) (s : List ℕ) where
+  model-fields : Ensures ProperModel (modelFields s rules)
   unfolding modelFields
   model-fields =
       then (ranged s 1 1) (λ edition he. then (ranged s 0 Limits.maxFacilities) (λ facilities hf. then (ranged s 0 Limits.maxStorages) (λ storages hs.
@@ -235,7 +236,7 @@ module _ (s : List ℕ) where
       then (ranged s 1 Limits.maxCounter) (λ counter hn. then (ranged s 1 Limits.maxBlocks) (λ blocks hb.
       then (repeated blocks (block-good s _ capacities)) (λ program hp.
       let m : BlockModel =
-      record { facilities = facilities; capacities = capacities; queues = queues; values = sums; lists = lists; counter = counter; blocks = program } in
+      record { rules = rules; facilities = facilities; capacities = capacities; queues = queues; values = sums; lists = lists; counter = counter; blocks = program } in
       gives
       (record {
         block =
@@ -264,21 +265,21 @@ module _ (s : List ℕ) where
   unfolding atEnd
   at-end code h = record { from = λ c. weaken (λ u g. tt) (asked (eqb (c .position) (length s)) code h) .from c }
 
-  model-of : Ensures (λ m. ProperModel m × T (wellFormed m)) (modelOf s)
+  model-of : Ensures (λ m. ProperModel m × T (wellFormed m)) (modelOf rules s)
   unfolding modelOf
   model-of =
       then model-fields (λ m h. then (at-end 6 (omega arith, omega arith)) (λ u g. then (asked (wellFormed m) 7 (omega arith, omega arith)) (λ u f. gives (h, f))))
 
   -- ---- The tape
 
-  sample-list : Ensures (λ l. (length l ≤ Limits.maxSamples) × Each (λ x. x ≤ Limits.maxTime) l) (listField s)
+  sample-list : Ensures (λ l. (length l ≤ Limits.maxSamples) × Each (λ x. x ≤ rules .maxTime) l) (listField s rules)
   unfolding listField
   sample-list =
-      then (in-range s 8 0 Limits.maxSamples (omega arith) (omega arith))
+      then (in-range s (rules .maxNumber) 8 0 Limits.maxSamples (omega arith) (omega arith))
       (λ count h.
-      weaken (λ l g. (omega (arith, g .0, h .1), each-map (λ x k. k .1) l (g .1))) (repeated count (in-range s 8 0 Limits.maxTime (omega arith) (omega arith))))
+      weaken (λ l g. (omega (arith, g .0, h .1), each-map (λ x k. k .1) l (g .1))) (repeated count (in-range s (rules .maxNumber) 8 0 (rules .maxTime) (omega arith) (omega arith))))
 
-  tape-of : (lists : ℕ) → Ensures (ProperTape lists) (tapeOf s lists)
+  tape-of : (lists : ℕ) → Ensures (ProperTape rules lists) (tapeOf rules s lists)
   unfolding tapeOf
   tape-of lists =
       then (repeated lists sample-list)
@@ -295,7 +296,7 @@ each-at P [] d h i low = absurd (omega arith)
 each-at P (x ∷ l) d h zero low = h .0
 each-at P (x ∷ l) d h (suc i) low = each-at P l d (h .1) i (omega arith)
 
-proper : (m : BlockModel) (tape : List (List ℕ)) → ProperModel m → T (wellFormed m) → ProperTape (m .lists) tape → Proper m tape
+proper : (m : BlockModel) (tape : List (List ℕ)) → ProperModel m → T (wellFormed m) → ProperTape (m .rules) (m .lists) tape → Proper m tape
 proper m tape h f t =
     record {
       block = λ n. each-getD (ProperBlock m) (m .blocks) (n - 1) (terminate 0) (h .block) tt;
@@ -312,30 +313,30 @@ proper m tape h f t =
       times = λ k i. each-getD _ (getD tape k []) i 0 (each-getD _ tape k [] (t .each-list) (omega arith, tt) .1) (omega arith);
     }
 
-with-tape : (m : BlockModel) → ProperModel m → T (wellFormed m) → (r : Parsed (List (List ℕ))) → Gives (ProperTape (m .lists)) r → Verdict (withTape m r)
+with-tape : (m : BlockModel) → ProperModel m → T (wellFormed m) → (r : Parsed (List (List ℕ))) → Gives (ProperTape (m .rules) (m .lists)) r → Verdict (withTape m r)
 unfolding withTape
 with-tape m h f (parsed tape c) t = proper m tape h f t
 with-tape m h f (refused n) t = t
 
 with-model : (tape : List ℕ) (r : Parsed BlockModel) → Gives (λ m. ProperModel m × T (wellFormed m)) r → Verdict (withModel tape r)
 unfolding withModel
-with-model tape (parsed m c) h = with-tape m (h .0) (h .1) (tapeOf tape (m .lists) beginning) (tape-of tape (m .lists) .from beginning)
+with-model tape (parsed m c) h = with-tape m (h .0) (h .1) (tapeOf (m .rules) tape (m .lists) beginning) (tape-of (m .rules) tape (m .lists) .from beginning)
 with-model tape (refused n) h = h
 
-verdict : (model tape : List ℕ) (work report : ℕ) → Verdict (validate model tape work report)
+verdict : (rules : Rules) (model tape : List ℕ) (work report : ℕ) → Verdict (validate rules model tape work report)
 unfolding validate
-verdict model tape work report =
-    cond-cases Verdict (leb Limits.workNumbers work) (cond (leb Limits.reportRoom report) (withModel tape (modelOf model beginning)) (reject 2)) (reject 1)
+verdict rules model tape work report =
+    cond-cases Verdict (leb Limits.workNumbers work) (cond (leb Limits.reportRoom report) (withModel tape (modelOf rules model beginning)) (reject 2)) (reject 1)
     (λ e.
-    cond-cases Verdict (leb Limits.reportRoom report) (withModel tape (modelOf model beginning)) (reject 2)
-    (λ e. with-model tape (modelOf model beginning) (model-of model .from beginning)) (λ e. (omega arith, omega arith)))
+    cond-cases Verdict (leb Limits.reportRoom report) (withModel tape (modelOf rules model beginning)) (reject 2)
+    (λ e. with-model tape (modelOf rules model beginning) (model-of rules model .from beginning)) (λ e. (omega arith, omega arith)))
     (λ e. (omega arith, omega arith))
 
-module _ (model tape : List ℕ) (work report : ℕ) where
+module _ (rules : Rules) (model tape : List ℕ) (work report : ℕ) where
   -- what validation accepts is proper
-  pub proper-from : {m : BlockModel} {t : List (List ℕ)} → validate model tape work report ≡ accept m t → Proper m t
-  proper-from e = subst Verdict e (verdict model tape work report)
+  pub proper-from : {m : BlockModel} {t : List (List ℕ)} → validate rules model tape work report ≡ accept m t → Proper m t
+  proper-from e = subst Verdict e (verdict rules model tape work report)
 
   -- "Any other input .. gets the refusal number listed for it": 1 to 10
-  pub refusal-from : {n : ℕ} → validate model tape work report ≡ reject n → (1 ≤ n) × (n ≤ 10)
-  refusal-from e = subst Verdict e (verdict model tape work report)
+  pub refusal-from : {n : ℕ} → validate rules model tape work report ≡ reject n → (1 ≤ n) × (n ≤ 10)
+  refusal-from e = subst Verdict e (verdict rules model tape work report)

@@ -10,7 +10,8 @@ use Rattle.machine.specs.Limits.{maxTurns}
 use Rattle.machine.specs.Transaction.{Transaction}
 use Rattle.machine.specs.Lists.{those, flat, nth}
 use Rattle.machine.specs.Term.{serverAt}
-use Rattle.machine.specs.Block.{Code, U, NU, E, NE, F, NF, status, Block, Facts, facts, BlockModel, blockAt}
+use Rattle.machine.specs.Facts.{Facts, isGenerate}
+use Rattle.machine.specs.Block.{Code, U, NU, E, NE, F, NF, status, Block, facts, BlockModel, blockAt}
 use Rattle.machine.specs.State.{State, Logged}
 use Rattle.machine.specs.Moves.{qlOf, welOf}
 use Rattle.machine.specs.Execute.{fits}
@@ -78,7 +79,7 @@ module _ (m : BlockModel) (tape : List (List ℕ)) where
 
   -- is the block a GENERATE of a list of which fewer times than it has were used?
   abbrev pub getsTime : Facts → (used : ℕ → ℕ) → Bool
-  getsTime f used = not (eqb (f .generates) 0) && ltb (used (f .generates)) (timesOf (f .generates))
+  getsTime f used = isGenerate f && ltb (used (f .generates)) (timesOf (f .generates))
 
   -- at the start, from some blocks on, behind the blocks in `before`
   unfoldable pub madeAtStart : (before l : List Block) → ℕ
@@ -198,5 +199,5 @@ pub record Keeping (budget : ℕ) (o : Outcome) : Type 0 where
 
 -- a record in the reader's ranges, at a block of the model
 pub record InModel (m : BlockModel) (r : Record) : Type 0 where
-  pub ranges : inRanges r ≡ true
+  pub ranges : inRanges (m .rules) r ≡ true
   pub block : (1 ≤ r .block) × (r .block ≤ length (m .blocks))

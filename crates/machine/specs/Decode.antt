@@ -5,6 +5,7 @@ use mathlib.Core.List.{List, [], _∷_}
 use lib.Dec.{ltb, leb, eqb}
 use lib.ListN.{length}
 use Rattle.machine.specs.Limits as Limits
+use Rattle.machine.specs.Rules.{Rules}
 use Rattle.machine.specs.Lists.{nth}
 use Rattle.machine.specs.Parser.{Parser, parsed, refused, _>>=_, _>>_, give, refuse, ask, times, field}
 use Rattle.machine.specs.Term.{Relation, equal, unequal, less, atMost, greater, atLeast, Term, constant, minusConstant, parameter, clockTerm, entriesOf, contentOf, unitsInUse, unitsFree, facilityInUse, value, comparison, bracket, Sum, nothing, plus, minus}
@@ -47,7 +48,7 @@ simpleTerm number n tag =
 module _ (s : List ℕ) where
   -- Questions, "Then number by number through the model: whole, shortest, in size? 3. Within its field's range? 4."
   abbrev pub number : ℕ → ℕ → Parser ℕ
-  number lo hi = field s 3 lo hi
+  number lo hi = field s Limits.maxNumber 3 lo hi
 
   -- a term of a block: tags 0 to 9
   unfoldable pub blockTerm : Counts → Parser Term
@@ -188,8 +189,8 @@ module _ (s : List ℕ) where
   -- ---- "Model: edition (1); facilities 0..32; storages 0..32 and each capacity 1..65,535; queues 0..32; values 0..8 and
   -- their sums; lists 0..16; counter 1..65,535; blocks 1..256 and each block."
 
-  unfoldable pub modelFields : Parser BlockModel
-  modelFields = do
+  unfoldable pub modelFields : Rules → Parser BlockModel
+  modelFields rules = do
     edition ← number 1 1
     facilities ← number 0 Limits.maxFacilities
     storages ← number 0 Limits.maxStorages
@@ -208,6 +209,7 @@ module _ (s : List ℕ) where
         capacities)
     give
         (record {
+          rules = rules;
           facilities = facilities;
           capacities = capacities;
           queues = queues;
@@ -223,7 +225,7 @@ module _ (s : List ℕ) where
 
   -- ---- "Tape: for each list a count 0..65,535 and that many times 0..1,000,000", with questions 8, 9 and 10
 
-  unfoldable pub listField : Parser (List ℕ)
-  listField = do
-    count ← field s 8 0 Limits.maxSamples
-    times count (field s 8 0 Limits.maxTime)
+  unfoldable pub listField : Rules → Parser (List ℕ)
+  listField rules = do
+    count ← field s (rules .maxNumber) 8 0 Limits.maxSamples
+    times count (field s (rules .maxNumber) 8 0 (rules .maxTime))

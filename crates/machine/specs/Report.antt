@@ -9,7 +9,8 @@ use lib.ListN.{length}
 use Rattle.machine.specs.Transaction.{Transaction}
 use Rattle.machine.specs.Lists.{insert, those, flat}
 use Rattle.machine.specs.Term.{Server, Queue}
-use Rattle.machine.specs.Block.{Facts, facts, BlockModel, blockAt}
+use Rattle.machine.specs.Facts.{Facts}
+use Rattle.machine.specs.Block.{facts, BlockModel, blockAt}
 use Rattle.machine.specs.Number.{numberBytes}
 use Rattle.machine.specs.State.{State, Logged}
 

@@ -24,8 +24,7 @@
 -- | free    | 451: the rows that are not living               |
 -- | others  | 452..511 are spare and stay empty               |
 use Prim.Native.Nat.{ℕ, _+_, _*_, _-_}
-use Rattle.machine.specs.Block.{Code}
-use Rattle.machine.specs.Moves.{welIndex}
+use Rattle.machine.specs.Block.{Code, welIndex}
 
 -- ---- Sizes
 

@@ -9,10 +9,10 @@ use lib.ListN.{getD}
 use Rattle.machine.specs.Transaction.{Transaction}
 use Rattle.machine.specs.Term.{Server}
 use Rattle.machine.specs.Term
-use Rattle.machine.specs.Block.{Code, U, NU, E, NE, F, NF, codeIndex, status, waitServer, BlockModel, blockAt}
+use Rattle.machine.specs.Block.{Code, U, NU, E, NE, F, NF, codeIndex, status, waitServer, BlockModel, blockAt, welIndex}
 use Rattle.machine.specs.State.{State}
 use Rattle.machine.specs.Setters.{setMoving, setSerial}
-use Rattle.machine.specs.Moves.{welIndex, wakeFirstWel}
+use Rattle.machine.specs.Moves.{wakeFirstWel}
 use Rattle.machine.specs.Moves as Moves
 use Rattle.machine.specs.Execute.{question}
 use Rattle.machine.proofs.Proper.{Proper, ProperBlock, CodeServer, servers}

@@ -10,7 +10,8 @@ use lib.Dec.{eqb}
 use lib.ListN.{length}
 use Rattle.machine.specs.Lists.{those}
 use Rattle.machine.specs.Trace.{Record}
-use Rattle.machine.specs.Block.{Facts, facts, BlockModel, blockAt}
+use Rattle.machine.specs.Facts.{Facts}
+use Rattle.machine.specs.Block.{facts, BlockModel, blockAt}
 use Rattle.machine.specs.State.{State, Logged}
 use Rattle.machine.specs.Report.{recordsAt}
 use Rattle.machine.specs.Outcome.{recordsOf}

@@ -8,10 +8,10 @@ use native.Mathlib.Omega.{arith}
 use lib.ListN.{length, set, take, drop}
 use Rattle.machine.specs.Transaction.{Transaction, Event}
 use Rattle.machine.specs.Lists.{those, others}
-use Rattle.machine.specs.Block.{Code}
+use Rattle.machine.specs.Block.{Code, welIndex}
 use Rattle.machine.specs.State.{State}
 use Rattle.machine.specs.Setters.{setQl, setWel, setWsl, setRel}
-use Rattle.machine.specs.Moves.{wake, welIndex, qlOf, welOf, wakeFirstQl, wakeQl, wakeFirstWel, wakeWsl}
+use Rattle.machine.specs.Moves.{wake, qlOf, welOf, wakeFirstQl, wakeQl, wakeFirstWel, wakeWsl}
 use Rattle.rows.specs.Layout.{head, wsl, rel}
 use Rattle.rows.specs.Wake.{wakeFirst, wakeAll}
 use Rattle.rows.specs.Holds.{transactionAt}
