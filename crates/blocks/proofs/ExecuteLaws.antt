@@ -9,6 +9,7 @@ use Rattle.machine.specs.Block.{Block, generate, advance, terminate, seize, rel
 use Rattle.machine.specs.State.{State}
 use Rattle.machine.specs.Execute.{question}
 use Rattle.machine.proofs.Proper.{Proper}
+use Rattle.tables.specs.Forms.{blockForms}
 use Rattle.tables.specs.Numbers.{blockNumbers}
 use Rattle.tables.specs.Represents.{At, Represents}
 use Rattle.terms.specs.Nested.{Nested}
@@ -60,7 +61,7 @@ module _ {m : BlockModel} {tape : List (List ℕ)} {tapeBytes tables lists : Lis
 
   pub execute-apart : (b : Block) → blockAt m (t .next) ≡ b
       → Apart (r .scalars) (r .tally) (Rows.execute tables (length (m .values)) tapeBytes (r .work) (r .tally) (r .scalars) base)
-  unfolding blockNumbers Rows.byKind Rows.later
+  unfolding Rows.byKind Rows.later blockForms
   execute-apart (generate list p) is = by-apart 1 _ _ refl is (generate-apart tables tapeBytes (r .work) (r .tally) (r .scalars) base)
   execute-apart (advance list) is = by-apart 2 _ _ refl is (advance-apart tables tapeBytes (r .work) (r .tally) (r .scalars) base)
   execute-apart (terminate a) is = by-apart 3 _ _ refl is (terminate-apart tables tapeBytes (r .work) (r .tally) (r .scalars) base)
@@ -86,7 +87,7 @@ module _ {m : BlockModel} {tape : List (List ℕ)} {tapeBytes tables lists : Lis
 
   pub execute-done : (b : Block) → blockAt m (t .next) ≡ b
       → Done tapeBytes (Rows.execute tables (length (m .values)) tapeBytes (r .work) (r .tally) (r .scalars) base) (bareAnswer (question b s) m b t s)
-  unfolding blockNumbers Rows.byKind Rows.later
+  unfolding Rows.byKind Rows.later blockForms
   execute-done (generate list p) is = by 1 _ _ refl is _ (generate-done m tape tapeBytes tables lists proper rep s sane r t stands moving list p is)
   execute-done (advance list) is = by 2 _ _ refl is _ (advance-done m tape tapeBytes tables lists proper rep s sane r t stands moving list is)
   execute-done (terminate a) is = by 3 _ _ refl is _ (terminate-done m tape tapeBytes tables lists proper rep s sane r t stands moving a is)

@@ -4,6 +4,7 @@ use trace::Reading;
 use trace::Written;
 ghost use mathlib.Core.Path.{_≡_};
 ghost use lib.ListN.{length};
+ghost use Rattle.machine.specs.Rules.{inForce};
 ghost use Rattle.machine.specs.Number.{countLow};
 ghost use Rattle.machine.specs.Trace.{readRecord, writeRecord};
 ghost use Rattle.trace.specs.Answers.{entry, after};
@@ -40,8 +41,8 @@ pub extern "C" fn covrith_run(
 // The record at a position of a trace.
 #[no_mangle]
 pub extern "C" fn covrith_read_record(trace: &[u8], position: usize, numbers: &mut [u64; 5]) -> u32
-    ensures { λ r. ⌜ r ≡ readAnswer (readRecord (now (trace .entry)) position) ⌝ }
-    ensures { λ _. ⌜ now (numbers .exit) ≡ readNumbers (readRecord (now (trace .entry)) position) (now (numbers .entry)) ⌝ }
+    ensures { λ r. ⌜ r ≡ readAnswer (readRecord inForce (now (trace .entry)) position) ⌝ }
+    ensures { λ _. ⌜ now (numbers .exit) ≡ readNumbers (readRecord inForce (now (trace .entry)) position) (now (numbers .entry)) ⌝ }
 {
     match trace::read_record(trace, position) {
         Reading::Taken(r, next) => {
@@ -63,9 +64,9 @@ pub extern "C" fn covrith_write_record(
     outcome: u64,
     count: &mut u64,
 ) -> u32
-    ensures { λ r. ⌜ r ≡ writeAnswer (writeRecord (length (now (rest .entry))) (entry clock transaction block outcome)) ⌝ }
-    ensures { λ _. ⌜ now (count .exit) ≡ writeCount (writeRecord (length (now (rest .entry))) (entry clock transaction block outcome)) ⌝ }
-    ensures { λ _. ⌜ now (rest .exit) ≡ after (writeRecord (length (now (rest .entry))) (entry clock transaction block outcome)) (now (rest .entry)) ⌝ }
+    ensures { λ r. ⌜ r ≡ writeAnswer (writeRecord inForce (length (now (rest .entry))) (entry clock transaction block outcome)) ⌝ }
+    ensures { λ _. ⌜ now (count .exit) ≡ writeCount (writeRecord inForce (length (now (rest .entry))) (entry clock transaction block outcome)) ⌝ }
+    ensures { λ _. ⌜ now (rest .exit) ≡ after (writeRecord inForce (length (now (rest .entry))) (entry clock transaction block outcome)) (now (rest .entry)) ⌝ }
 {
     match trace::write_record(rest, clock, transaction, block, outcome) {
         Written::Bytes(n) => {

@@ -7,6 +7,7 @@ use lib.Dec.{T}
 use lib.ListN.{length, getD}
 use Rattle.machine.specs.Term.{Term, Relation}
 use Rattle.machine.specs.Block.{Block, branch, goto, assign, arrive, depart, terminate, BlockModel}
+use Rattle.tables.specs.Forms.{blockForms}
 use Rattle.tables.specs.Layout as Layout
 use Rattle.tables.specs.Numbers.{relationNumber, termNumbers, blockNumbers}
 use Rattle.tables.specs.Represents.{At, smallTerm, smallBlock, Represents}
@@ -25,31 +26,31 @@ module _ {m : BlockModel} {tape : List (List ℕ)} {tapeBytes tables lists : Lis
       sym (at-first tables (Layout.blockWidth * i + 1) n rest (at-first tables (Layout.blockWidth * i) kind (n ∷ rest) h .after) .found)
 
   pub goto-target : (target : ℕ) → getD (m .blocks) i (terminate 0) ≡ goto target → getD tables (Layout.blockWidth * i + 1) 0 ≡ target
-  unfolding blockNumbers
+  unfolding blockForms
   goto-target target e = second 11 target [] (numbers (goto target) e)
 
   pub assign-parameter : (k : ℕ) (a : Term) → getD (m .blocks) i (terminate 0) ≡ assign k a → getD tables (Layout.blockWidth * i + 1) 0 ≡ k - 1
-  unfolding blockNumbers
+  unfolding blockForms
   assign-parameter k a e = second 12 (k - 1) (termNumbers a) (numbers (assign k a) e)
 
   pub arrive-queue : (q : ℕ) → getD (m .blocks) i (terminate 0) ≡ arrive q → getD tables (Layout.blockWidth * i + 1) 0 ≡ q - 1
-  unfolding blockNumbers
+  unfolding blockForms
   arrive-queue q e = second 15 (q - 1) [] (numbers (arrive q) e)
 
   pub depart-queue : (q : ℕ) → getD (m .blocks) i (terminate 0) ≡ depart q → getD tables (Layout.blockWidth * i + 1) 0 ≡ q - 1
-  unfolding blockNumbers
+  unfolding blockForms
   depart-queue q e = second 16 (q - 1) [] (numbers (depart q) e)
 
   module _ (nested : Nested m) where
     -- a term of a LET: small constants, no brackets
     pub assign-term : (k : ℕ) (a : Term) → getD (m .blocks) i (terminate 0) ≡ assign k a → T (smallTerm a) × T (nestedTerm 0 a)
-    unfolding smallBlock nestedBlock
+    unfolding nestedBlock blockForms
     assign-term k a e =
         (subst (λ (x : Block). T (smallBlock x)) e (rep .small-blocks i), subst (λ (x : Block). T (nestedBlock x)) e (nested .blocks i))
 
     -- the target of an IF stands behind two terms and a relation
     pub branch-target : (a : Term) (o : Relation) (b : Term) (target : ℕ) → getD (m .blocks) i (terminate 0) ≡ branch a o b target → getD tables (Layout.blockWidth * i + 6) 0 ≡ target
-    unfolding blockNumbers nestedBlock
+    unfolding nestedBlock blockForms
     branch-target a o b target e =
         let base = Layout.blockWidth * i in
         let both : T (nestedBlock (branch a o b target)) = subst (λ (x : Block). T (nestedBlock x)) e (nested .blocks i) in

@@ -16,6 +16,7 @@ use Rattle.machine.specs.State.{State}
 use Rattle.machine.specs.Moves.{wakeWsl}
 use Rattle.machine.specs.Turn as Turn
 use Rattle.machine.proofs.Proper.{Proper}
+use Rattle.tables.specs.Forms.{blockForms}
 use Rattle.tables.specs.Layout as Layout
 use Rattle.tables.specs.Numbers.{blockNumbers}
 use Rattle.tables.specs.Represents.{At, Represents}
@@ -60,7 +61,7 @@ module _ {m : BlockModel} {tape : List (List ℕ)} {tapeBytes tables lists : Lis
 
     leaves-at : (b : Block) → getD (m .blocks) i (terminate 0) ≡ b
         → cond (eqb (getD tables (blockOf w k) 0) 9) (not holding) true ≡ not (Turn.holds (m .values) view (transactionAt w k) b)
-    unfolding blockNumbers Turn.holds
+    unfolding Turn.holds blockForms
     leaves-at (generate list p) f = another _ 1 _ refl refl f
     leaves-at (advance list) f = another _ 2 _ refl refl f
     leaves-at (terminate a) f = another _ 3 _ refl refl f

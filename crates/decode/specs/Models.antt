@@ -3,6 +3,7 @@ use Prim.Native.Nat.{ℕ, _≤_}
 use mathlib.Core.Path.{_≡_}
 use mathlib.Core.List.{List}
 use lib.ListN.{length}
+use Rattle.machine.specs.Rules.{inForce}
 use Rattle.machine.specs.Limits as Limits
 use Rattle.machine.specs.Parser.{Parsed, parsed, refused}
 use Rattle.machine.specs.Block.{BlockModel}
@@ -23,6 +24,7 @@ tablesOf m =
     (serversCells (record { facilities = m .facilities; storages = length (m .capacities); capacities = m .capacities })))
 
 pub record ProperModel (m : BlockModel) : Type 0 where
+  pub rules : m .rules ≡ inForce
   pub facilities : m .facilities ≤ Limits.maxFacilities
   pub storages : length (m .capacities) ≤ Limits.maxStorages
   pub capacity : Each Capacity (m .capacities)

@@ -18,6 +18,7 @@ ghost use mathlib.Core.Path.{_≡_};
 ghost use Prim.Native.Nat.{ℕ, _+_, _*_, _≤_, _<_};
 ghost use lib.ListN.{replicate};
 ghost use lib.Seq.{sets};
+ghost use Rattle.machine.specs.Rules.{inForce};
 ghost use Rattle.machine.specs.Parser.{field, times};
 ghost use Rattle.values.specs.Keeps.{cursorOf, numberShape};
 ghost use Rattle.values.specs.Rows.{Rows};
@@ -170,7 +171,7 @@ fn program(s: &[u8], tables: &mut [u32; TABLES], m: Model, p: Place) -> Header
 
 // Questions 3 and 4 of the whole model, and 5 of its values.
 fn model(s: &[u8], tables: &mut [u32; TABLES]) -> Header
-    ensures { λ r. ⌜ Stage modelShape noModel noPlace (now (tables .entry)) (now (tables .exit)) r (modelFields (now (s .entry)) beginning) ⌝ }
+    ensures { λ r. ⌜ Stage modelShape noModel noPlace (now (tables .entry)) (now (tables .exit)) r (modelFields (now (s .entry)) inForce beginning) ⌝ }
 {
     let start = Place {
         position: 0,
@@ -189,7 +190,7 @@ fn model(s: &[u8], tables: &mut [u32; TABLES]) -> Header
 
 // Questions 6 and 7 after it.
 fn formed_model(s: &[u8], tables: &mut [u32; TABLES]) -> Decoded
-    ensures { λ r. ⌜ Models (now (tables .exit)) r (modelOf (now (s .entry)) beginning) ⌝ }
+    ensures { λ r. ⌜ Models (now (tables .exit)) r (modelOf inForce (now (s .entry)) beginning) ⌝ }
 {
     match model(s, tables) {
         Header::Refused(n) => Decoded::Refused(n),
@@ -241,7 +242,7 @@ fn sample_times(s: &[u8], at: usize, count: usize) -> Tape
 // List k (from 0): where its times begin and how many they are is kept.
 fn sample_list(s: &[u8], lists: &mut [u64; 32], k: usize, at: usize) -> Tape
     requires { ⌜ k < 16 ⌝ }
-    ensures { λ r. ⌜ ((i j : ℕ) → Listed (now (s .entry)) k (now (lists .entry)) (now (lists .exit)) r (listField (now (s .entry)) (cursorAt at i j))) ⌝ }
+    ensures { λ r. ⌜ ((i j : ℕ) → Listed (now (s .entry)) k (now (lists .entry)) (now (lists .exit)) r (listField (now (s .entry)) inForce (cursorAt at i j))) ⌝ }
 {
     match read_field(s, at, 0, Model::MAX_SAMPLES as u64, 8) {
         Field::Refused(n) => Tape::Refused(n),
@@ -261,7 +262,7 @@ fn clear_lists(lists: &mut [u64; 32])
 
 fn sample_lists(s: &[u8], lists: &mut [u64; 32], count: usize) -> Tape
     requires { ⌜ count ≤ 16 ⌝ }
-    ensures { λ r. ⌜ Lists (now (s .entry)) 0 (now (lists .entry)) (now (lists .exit)) r (times count (listField (now (s .entry))) beginning) ⌝ }
+    ensures { λ r. ⌜ Lists (now (s .entry)) 0 (now (lists .entry)) (now (lists .exit)) r (times count (listField (now (s .entry)) inForce) beginning) ⌝ }
 {
     let mut k = 0;
     let mut next = 0;
@@ -280,7 +281,7 @@ fn sample_lists(s: &[u8], lists: &mut [u64; 32], count: usize) -> Tape
 // Questions 8 to 10.
 fn whole_tape(s: &[u8], lists: &mut [u64; 32], count: usize) -> Tape
     requires { ⌜ count ≤ 16 ⌝ }
-    ensures { λ r. ⌜ Lists (now (s .entry)) 0 emptyLists (now (lists .exit)) r (tapeOf (now (s .entry)) count beginning) ⌝ }
+    ensures { λ r. ⌜ Lists (now (s .entry)) 0 emptyLists (now (lists .exit)) r (tapeOf inForce (now (s .entry)) count beginning) ⌝ }
 {
     clear_lists(lists);
     match sample_lists(s, lists, count) {
@@ -310,7 +311,7 @@ pub fn decode(
     tables: &mut [u32; TABLES],
     lists: &mut [u64; 32],
 ) -> Decoded
-    ensures { λ r. ⌜ Decodes (now (tape .entry)) r (now (tables .exit)) (now (lists .exit)) (answer (now (model .entry)) (now (tape .entry)) «work_len» «report_len») ⌝ }
+    ensures { λ r. ⌜ Decodes (now (tape .entry)) r (now (tables .exit)) (now (lists .exit)) (answer inForce (now (model .entry)) (now (tape .entry)) «work_len» «report_len») ⌝ }
 {
     if work_len < WORK_NUMBERS {
         return Decoded::Refused(1);
@@ -329,7 +330,7 @@ pub fn decode(
 
 // The answer alone: 0, or the number of the first question answered "no".
 pub fn validate(model: &[u8], tape: &[u8], work_len: usize, report_len: usize) -> u32
-    ensures { λ r. ⌜ r ≡ refusalOf (answer (now (model .entry)) (now (tape .entry)) «work_len» «report_len») ⌝ }
+    ensures { λ r. ⌜ r ≡ refusalOf (answer inForce (now (model .entry)) (now (tape .entry)) «work_len» «report_len») ⌝ }
 {
     let mut tables = [0u32; TABLES];
     let mut lists = [0u64; 32];

@@ -9,6 +9,7 @@ use borrow.Author.Tests.{leb-true}
 use lib.Dec.{leb}
 use lib.ListN.{length, take, drop}
 use lib.Seq.{take-at}
+use Rattle.machine.specs.Rules.{inForce}
 use Rattle.machine.specs.Limits.{workNumbers, reportRoom, maxReportNumber}
 use Rattle.machine.specs.Trace.{traceBytes}
 use Rattle.machine.specs.Block.{BlockModel}
@@ -37,7 +38,7 @@ use Rattle.engine.proofs.Reading.{reads-back}
 -- ---- Accepted: the buffers have their lengths
 
 -- what the two first questions ask
-pub rooms : (model tape : List ℕ) (work report : ℕ) (m : BlockModel) (times : List (List ℕ)) → validate model tape work report ≡ accept m times
+pub rooms : (model tape : List ℕ) (work report : ℕ) (m : BlockModel) (times : List (List ℕ)) → validate inForce model tape work report ≡ accept m times
     → (workNumbers ≤ work) × (reportRoom ≤ report)
 unfolding validate
 rooms model tape work report m times e = go (leb workNumbers work) (leb reportRoom report) refl refl _ e
@@ -50,7 +51,7 @@ rooms model tape work report m times e = go (leb workNumbers work) (leb reportRo
 
 module _ (model tape : List ℕ) (budget : ℕ) (work trace report : List ℕ) where
   abbrev answer : Validation
-  answer = validate model tape (length work) (length report)
+  answer = validate inForce model tape (length work) (length report)
 
   abbrev o : Outcome
   o = wanted model tape budget work trace report

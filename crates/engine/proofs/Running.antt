@@ -3,6 +3,7 @@ use Prim.Native.Nat.{ℕ, _≤_}
 use mathlib.Core.Path.{_≡_, sym, subst}
 use mathlib.Core.List.{List}
 use lib.ListN.{length}
+use Rattle.machine.specs.Rules.{inForce}
 use Rattle.machine.specs.Block.{BlockModel}
 use Rattle.machine.specs.Validate.{validate}
 use Rattle.machine.specs.declared.model.Model.{Model}
@@ -22,15 +23,15 @@ use Rattle.terms.proofs.NestedFrom.{nested-from}
 use Rattle.engine.proofs.Laws.{started, turned}
 
 module _ (model tape : List ℕ) (budget : ℕ) (work trace report tables lists : List ℕ) (r : Decoded)
-    (decodes : Decodes tape r tables lists (validate model tape (length work) (length report))) where
+    (decodes : Decodes tape r tables lists (validate inForce model tape (length work) (length report))) where
   pub run-refused : (n : ℕ) (o : Results) → r ≡ Refused n → o ≡ refusedWith n → Contract model tape budget work trace report o work trace report
   run-refused n o e f =
       subst (λ (x : Results). Contract model tape budget work trace report x work trace report) (sym f)
-      (refused-runs model tape budget work trace report n (decoded-refused tape tables lists r (validate model tape (length work) (length report)) n decodes e))
+      (refused-runs model tape budget work trace report n (decoded-refused tape tables lists r (validate inForce model tape (length work) (length report)) n decodes e))
 
   module _ (h : Model) (e : r ≡ Accepted h) where
-    told : Told tape h tables lists (validate model tape (length work) (length report))
-    told = decoded-model tape tables lists r (validate model tape (length work) (length report)) h decodes e
+    told : Told tape h tables lists (validate inForce model tape (length work) (length report))
+    told = decoded-model tape tables lists r (validate inForce model tape (length work) (length report)) h decodes e
 
     work-room : 16384 ≤ length work
     work-room = rooms model tape (length work) (length report) (told .model) (told .times) (told .accepted) .0

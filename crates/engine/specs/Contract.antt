@@ -7,6 +7,7 @@ use Prim.Native.Nat.{ℕ, _≤_}
 use mathlib.Core.Path.{_≡_}
 use mathlib.Core.List.{List, _++_}
 use lib.ListN.{length, take, drop}
+use Rattle.machine.specs.Rules.{inForce}
 use Rattle.machine.specs.Limits.{maxReportNumber}
 use Rattle.machine.specs.Trace.{Record, traceBytes}
 use Rattle.machine.specs.Block.{BlockModel}
@@ -50,7 +51,7 @@ pub record Accepted (m : BlockModel) (times : List (List ℕ)) (budget room : �
 
 module _ (model tape : List ℕ) (budget : ℕ) (work trace report : List ℕ) where
   abbrev pub wanted : Outcome
-  wanted = outcome model tape budget (length work) (length trace) (length report)
+  wanted = outcome inForce model tape budget (length work) (length trace) (length report)
 
   pub record Contract (r : Results) (work′ trace′ report′ : List ℕ) : Type 0 where
     pub results : Gives wanted r
@@ -59,5 +60,5 @@ module _ (model tape : List ℕ) (budget : ℕ) (work trace report : List ℕ) w
     pub trace-holds : Begins (wanted .trace) trace trace′
     pub report-holds : Begins (wanted .report) report report′
     pub refused : (r .refusal ≡ 0 → ⊥) → (work′ ≡ work) × (trace′ ≡ trace) × (report′ ≡ report)
-    pub accepted : (m : BlockModel) (times : List (List ℕ)) → validate model tape (length work) (length report) ≡ accept m times
+    pub accepted : (m : BlockModel) (times : List (List ℕ)) → validate inForce model tape (length work) (length report) ≡ accept m times
         → Accepted m times budget (length trace) (take (r .«trace_bytes») trace′)

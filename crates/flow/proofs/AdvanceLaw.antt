@@ -17,6 +17,7 @@ use Rattle.machine.specs.Moves as Moves
 use Rattle.machine.specs.Execute.{unless, askAdvance, question, delay}
 use Rattle.machine.proofs.Proper.{Names, ProperBlock, Proper}
 use Rattle.machine.proofs.Placed.{Placed}
+use Rattle.tables.specs.Forms.{blockForms}
 use Rattle.tables.specs.Numbers.{blockNumbers}
 use Rattle.tables.specs.Represents.{Represents}
 use Rattle.state.specs.declared.scalars.Scalars.{Scalars}
@@ -59,7 +60,7 @@ module _ (m : BlockModel) (tape : List (List ℕ)) (tapeBytes tables lists : Lis
   stood = placed proper t s sane moving
 
   list-is : getD tables (at + 1) 0 ≡ list - 1
-  unfolding blockNumbers
+  unfolding blockForms
   list-is = operand m tape tapeBytes tables lists rep (t .next) (stood .0) b is 1 (omega arith)
 
   named : Names (m .lists) list

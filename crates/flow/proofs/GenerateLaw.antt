@@ -16,6 +16,7 @@ use Rattle.machine.specs.Moves as Moves
 use Rattle.machine.specs.Execute.{askGenerate, question}
 use Rattle.machine.proofs.Proper.{Names, ProperBlock, Proper}
 use Rattle.machine.proofs.Placed.{Placed}
+use Rattle.tables.specs.Forms.{blockForms}
 use Rattle.tables.specs.Numbers.{blockNumbers}
 use Rattle.tables.specs.Represents.{Represents}
 use Rattle.state.specs.declared.scalars.Scalars.{Scalars}
@@ -61,11 +62,11 @@ module _ (m : BlockModel) (tape : List (List ℕ)) (tapeBytes tables lists : Lis
   low = next-low proper t s sane moving
 
   list-is : getD tables (at + 1) 0 ≡ list - 1
-  unfolding blockNumbers
+  unfolding blockForms
   list-is = operand m tape tapeBytes tables lists rep (t .next) (stood .0) b is 1 (omega arith)
 
   priority-is : getD tables (at + 2) 0 ≡ p
-  unfolding blockNumbers
+  unfolding blockForms
   priority-is = operand m tape tapeBytes tables lists rep (t .next) (stood .0) b is 2 (omega arith)
 
   named : Names (m .lists) list × (p ≤ 127)

@@ -16,6 +16,7 @@ use Rattle.machine.specs.Moves as Moves
 use Rattle.machine.specs.Execute.{unless, question}
 use Rattle.machine.proofs.Proper.{Names, ProperBlock, Proper}
 use Rattle.machine.proofs.Placed.{Placed}
+use Rattle.tables.specs.Forms.{blockForms}
 use Rattle.tables.specs.Numbers.{blockNumbers}
 use Rattle.tables.specs.Represents.{Represents}
 use Rattle.state.specs.declared.scalars.Scalars.{Scalars}
@@ -112,11 +113,11 @@ module _ (m : BlockModel) (tape : List (List ℕ)) (tapeBytes tables lists : Lis
   stood = placed proper t s sane moving
 
   count-is : getD tables (at + 1) 0 ≡ n
-  unfolding blockNumbers
+  unfolding blockForms
   count-is = operand m tape tapeBytes tables lists rep (t .next) (stood .0) b is 1 (omega arith)
 
   target-is : getD tables (at + 2) 0 ≡ target
-  unfolding blockNumbers
+  unfolding blockForms
   target-is = operand m tape tapeBytes tables lists rep (t .next) (stood .0) b is 2 (omega arith)
 
   named : Names 255 n × Names (length (m .blocks)) target

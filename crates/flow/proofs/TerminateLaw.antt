@@ -14,6 +14,7 @@ use Rattle.machine.specs.Setters.{setMoving}
 use Rattle.machine.specs.Execute.{question, endsOne}
 use Rattle.machine.proofs.Proper.{Proper}
 use Rattle.machine.proofs.Placed.{Placed}
+use Rattle.tables.specs.Forms.{blockForms}
 use Rattle.tables.specs.Numbers.{blockNumbers}
 use Rattle.tables.specs.Represents.{Represents}
 use Rattle.rows.specs.Layout.{free}
@@ -78,7 +79,7 @@ module _ (m : BlockModel) (tape : List (List ℕ)) (tapeBytes tables lists : Lis
   stood = placed proper t s sane moving
 
   operand-is : getD tables (at + 1) 0 ≡ a
-  unfolding blockNumbers
+  unfolding blockForms
   operand-is = operand m tape tapeBytes tables lists rep (t .next) (stood .0) b is 1 (omega arith)
 
   abbrev s₀ : State

@@ -43,7 +43,7 @@ module _ (read : ℕ → ℕ → Parser ℕ) (reads : (lo hi : ℕ) → Ensures 
 module _ (s : List ℕ) where
   -- a number of the model, with its range
   ranged : (lo hi : ℕ) → Ensures (λ n. (lo ≤ n) × (n ≤ hi)) (number s lo hi)
-  ranged lo hi = in-range s Limits.maxNumber 3 lo hi (omega arith) (omega arith)
+  ranged lo hi = in-range Limits.maxNumber s 3 lo hi (omega arith) (omega arith)
 
   any-number : (lo hi : ℕ) → Ensures Any (number s lo hi)
   any-number lo hi = weaken (λ a h. tt) (ranged lo hi)
@@ -275,9 +275,9 @@ module _ (rules : Rules) (s : List ℕ) where
   sample-list : Ensures (λ l. (length l ≤ Limits.maxSamples) × Each (λ x. x ≤ rules .maxTime) l) (listField s rules)
   unfolding listField
   sample-list =
-      then (in-range s (rules .maxNumber) 8 0 Limits.maxSamples (omega arith) (omega arith))
+      then (in-range (rules .maxNumber) s 8 0 Limits.maxSamples (omega arith) (omega arith))
       (λ count h.
-      weaken (λ l g. (omega (arith, g .0, h .1), each-map (λ x k. k .1) l (g .1))) (repeated count (in-range s (rules .maxNumber) 8 0 (rules .maxTime) (omega arith) (omega arith))))
+      weaken (λ l g. (omega (arith, g .0, h .1), each-map (λ x k. k .1) l (g .1))) (repeated count (in-range (rules .maxNumber) s 8 0 (rules .maxTime) (omega arith) (omega arith))))
 
   tape-of : (lists : ℕ) → Ensures (ProperTape rules lists) (tapeOf rules s lists)
   unfolding tapeOf

@@ -2,12 +2,12 @@
 -- number, and for a storage its number after all facilities (Term.antt, `Server`).
 use Prim.Native.Nat.{ℕ, suc, _+_, _*_, _-_}
 use mathlib.Core.Bool.{Bool, true, false, not}
-use mathlib.Core.List.{List}
+use mathlib.Core.List.{List, [], _∷_}
 use lib.Dec.{ltb, eqb}
 use Rattle.machine.specs.Lists.{nth}
 use Rattle.machine.specs.Rules.{Rules}
 use Rattle.machine.specs.Term.{Server, Term, Relation, Condition, always, never, whenTrue, Sum}
-use Rattle.machine.specs.Facts.{Facts, noFacts, setGenerates, setRank, setUses, setTerminates, setCopies, setServer, setUnits, setQueue, setTarget, setLeaves, setWel, setWaitsWhile}
+use Rattle.machine.specs.Facts.{Facts, noFacts, setGenerates, setRank, setUses, setTerminates, setCopies, setServer, setUnits, setQueue, setTarget, setLeaves, setWel, setWaitsWhile, setTerms}
 
 -- Lists, "WEL: one per server and status code: 1 U (in use), 2 NU for facilities; 3 E (empty), 4 NE, 5 F (full), 6 NF for storages."
 pub data Code : Type 0 where
@@ -114,6 +114,12 @@ unconditional always = true
 unconditional never = false
 unconditional (whenTrue a r b) = false
 
+-- the terms of a condition
+unfoldable pub compared : Condition → List Term
+compared always = []
+compared never = []
+compared (whenTrue a r b) = a ∷ b ∷ []
+
 unfoldable pub facts : Block → Facts
 facts (generate list p) = setGenerates list (setRank p (setUses list noFacts))
 facts (advance list) = setUses list noFacts
@@ -121,9 +127,9 @@ facts (terminate a) = setTerminates 1 (setLeaves true noFacts)
 facts (takes x) = setServer (shareServer x) (setUnits (shareUnits x) noFacts)
 facts (frees x) = noFacts
 facts (waitServer code v) = setWel (suc (welIndex v code)) noFacts
-facts (waitTerms a r b) = setWaitsWhile (whenTrue a r b) noFacts
-facts (moves c target) = setTarget target (setLeaves (unconditional c) noFacts)
-facts (assign k a) = noFacts
+facts (waitTerms a r b) = setWaitsWhile (whenTrue a r b) (setTerms (a ∷ b ∷ []) noFacts)
+facts (moves c target) = setTarget target (setLeaves (unconditional c) (setTerms (compared c) noFacts))
+facts (assign k a) = setTerms (a ∷ []) noFacts
 facts (priority p) = noFacts
 facts (split n target) = setCopies n (setTarget target noFacts)
 facts (counts c q) = setQueue (arrivals c q) noFacts

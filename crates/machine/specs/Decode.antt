@@ -7,7 +7,7 @@ use lib.ListN.{length}
 use Rattle.machine.specs.Limits as Limits
 use Rattle.machine.specs.Rules.{Rules}
 use Rattle.machine.specs.Lists.{nth}
-use Rattle.machine.specs.Parser.{Parser, parsed, refused, _>>=_, _>>_, give, refuse, ask, times, field}
+use Rattle.machine.specs.Parser.{Parser, parsed, refused, _>>=_, _>>_, give, refuse, ask, times, field, fieldUpTo}
 use Rattle.machine.specs.Term.{Relation, equal, unequal, less, atMost, greater, atLeast, Term, constant, minusConstant, parameter, clockTerm, entriesOf, contentOf, unitsInUse, unitsFree, facilityInUse, value, comparison, bracket, Sum, nothing, plus, minus}
 use Rattle.machine.specs.Block.{Code, U, NU, E, NE, F, NF, Block, generate, advance, terminate, seize, release, enter, leave, waitServer, waitTerms, branch, goto, assign, priority, split, arrive, depart, BlockModel}
 
@@ -48,7 +48,7 @@ simpleTerm number n tag =
 module _ (s : List ℕ) where
   -- Questions, "Then number by number through the model: whole, shortest, in size? 3. Within its field's range? 4."
   abbrev pub number : ℕ → ℕ → Parser ℕ
-  number lo hi = field s Limits.maxNumber 3 lo hi
+  number lo hi = field s 3 lo hi
 
   -- a term of a block: tags 0 to 9
   unfoldable pub blockTerm : Counts → Parser Term
@@ -227,5 +227,5 @@ module _ (s : List ℕ) where
 
   unfoldable pub listField : Rules → Parser (List ℕ)
   listField rules = do
-    count ← field s (rules .maxNumber) 8 0 Limits.maxSamples
-    times count (field s (rules .maxNumber) 8 0 (rules .maxTime))
+    count ← fieldUpTo (rules .maxNumber) s 8 0 Limits.maxSamples
+    times count (fieldUpTo (rules .maxNumber) s 8 0 (rules .maxTime))

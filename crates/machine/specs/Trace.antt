@@ -7,7 +7,7 @@ use lib.ListN.{length}
 use Rattle.machine.specs.Limits.{maxTransaction, maxBlocks}
 use Rattle.machine.specs.Rules.{Rules}
 use Rattle.machine.specs.Number.{numberBytes}
-use Rattle.machine.specs.Parser.{Parser, Parsed, parsed, refused, _>>=_, give, field}
+use Rattle.machine.specs.Parser.{Parser, Parsed, parsed, refused, _>>=_, give, fieldUpTo}
 
 pub record Record : Type 0 where
   pub clock : ℕ
@@ -34,7 +34,7 @@ pub data Reading : Type 0 where
 
 -- one number of a record
 abbrev pub traceField : Rules → List ℕ → (lo hi : ℕ) → Parser ℕ
-traceField r s lo hi = field s (r .maxNumber) 31 lo hi
+traceField r s lo hi = fieldUpTo (r .maxNumber) s 31 lo hi
 
 unfoldable pub recordFields : Rules → List ℕ → Parser Record
 recordFields r s = do

@@ -11,6 +11,7 @@ use lib.ListN.{length, getD, drop}
 use lib.Seq.{getD-take, getD-drop}
 use Rattle.machine.specs.Block.{Block, generate, advance, terminate, seize, release, enter, leave, waitServer, waitTerms, branch, goto, assign, priority, split, arrive, depart, facts, BlockModel, blockAt}
 use Rattle.machine.proofs.Proper.{Proper, ProperBlock}
+use Rattle.tables.specs.Forms.{blockForms}
 use Rattle.tables.specs.Numbers.{blockNumbers}
 use Rattle.tables.specs.Represents.{At, Represents}
 use Rattle.report.specs.Counts.{names}
@@ -60,7 +61,7 @@ module _ (tables : List ℕ) (at first second index : ℕ) where
 
 module _ (m : BlockModel) (tables : List ℕ) (at index : ℕ) where
   takes-block : (b : Block) → ProperBlock m b → At tables at (blockNumbers b) → here tables at 4 6 index ≡ eqb (facts b .server) (suc index)
-  unfolding blockNumbers facts
+  unfolding blockForms
   takes-block (generate list p) q h = other tables at 4 6 index 1 _ h refl refl
   takes-block (advance list) q h = other tables at 4 6 index 2 _ h refl refl
   takes-block (terminate a) q h = other tables at 4 6 index 3 _ h refl refl
@@ -79,7 +80,7 @@ module _ (m : BlockModel) (tables : List ℕ) (at index : ℕ) where
   takes-block (depart k) q h = other tables at 4 6 index 16 _ h refl refl
 
   fills-block : (b : Block) → ProperBlock m b → At tables at (blockNumbers b) → here tables at 15 15 index ≡ eqb (facts b .queue) (suc index)
-  unfolding blockNumbers facts
+  unfolding blockForms
   fills-block (generate list p) q h = other tables at 15 15 index 1 _ h refl refl
   fills-block (advance list) q h = other tables at 15 15 index 2 _ h refl refl
   fills-block (terminate a) q h = other tables at 15 15 index 3 _ h refl refl

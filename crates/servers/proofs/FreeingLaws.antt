@@ -22,6 +22,7 @@ use Rattle.machine.specs.Claims.{Each}
 use Rattle.machine.proofs.Proper.{Proper, ProperBlock, Names, Storage, servers}
 use Rattle.machine.proofs.Placed.{Placed}
 use Rattle.machine.proofs.Shape.{each-getD}
+use Rattle.tables.specs.Forms.{blockForms}
 use Rattle.tables.specs.Numbers.{blockNumbers}
 use Rattle.tables.specs.Represents.{Represents}
 use Rattle.rows.specs.Layout.{head}
@@ -147,7 +148,7 @@ module _ (m : BlockModel) (tape : List (List ℕ)) (tapeBytes tables lists : Lis
       go false e = rw (lt-ltb units b (leb-false b units e)) (stop-done tapeBytes r t s 23 m block moving stands)
 
   pub release-done : (v : ℕ) → blockAt m (t .next) ≡ release v → Done tapeBytes (Freeing.release tables w tally x at) (bareAnswer (question (release v) s) m (release v) t s)
-  unfolding Freeing.release question blockNumbers
+  unfolding Freeing.release question blockForms
   release-done v is =
       let proper′ : Names (m .facilities) v = subst (ProperBlock m) is (proper .block (t .next)) in
       let there : v ≤ servers m = omega (arith, proper′ .1) in
@@ -156,7 +157,7 @@ module _ (m : BlockModel) (tape : List (List ℕ)) (tapeBytes tables lists : Lis
       (release-entered v (proper′ .0) there))
 
   pub leave-done : (v b : ℕ) → blockAt m (t .next) ≡ leave v b → Done tapeBytes (Freeing.leave tables w tally x at) (bareAnswer (question (leave v b) s) m (leave v b) t s)
-  unfolding Freeing.leave question blockNumbers
+  unfolding Freeing.leave question blockForms
   leave-done v b is =
       let proper′ : Storage m v = subst (ProperBlock m) is (proper .block (t .next)) .0 in
       let low : 1 ≤ v = omega (arith, proper′ .0) in

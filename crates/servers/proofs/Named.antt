@@ -12,6 +12,7 @@ use Rattle.machine.specs.Block.{Code, U, NU, E, NE, F, NF, status, codeIndex, B
 use Rattle.machine.specs.State.{State}
 use Rattle.machine.proofs.Proper.{Proper, Names, servers}
 use Rattle.machine.proofs.Shape.{Shape, capacityOf}
+use Rattle.tables.specs.Forms.{blockForms}
 use Rattle.tables.specs.Numbers.{blockNumbers}
 use Rattle.tables.specs.Represents.{At, Represents}
 use Rattle.tables.proofs.Operands.{at-number}
@@ -41,7 +42,7 @@ module _ (tables : List ℕ) (at : ℕ) where
   takes-some v b found = rw (kind-at 6 (v ∷ b ∷ []) found) (at-number tables at (6 ∷ v ∷ b ∷ []) 2 (omega arith) found)
 
   pub units-at : (b : Block) → At tables at (blockNumbers b) → unitsAt tables at ≡ facts b .units
-  unfolding blockNumbers facts
+  unfolding blockForms
   units-at (generate list p) found = takes-none 1 _ refl refl found
   units-at (advance list) found = takes-none 2 _ refl refl found
   units-at (terminate a) found = takes-none 3 _ refl refl found

@@ -17,6 +17,7 @@ use Rattle.machine.specs.Moves as Moves
 use Rattle.machine.specs.Execute.{question}
 use Rattle.machine.specs.Execute as Execute
 use Rattle.machine.proofs.Proper.{Proper, ProperBlock, Names, Storage, servers}
+use Rattle.tables.specs.Forms.{blockForms}
 use Rattle.tables.specs.Numbers.{blockNumbers}
 use Rattle.tables.specs.Represents.{Represents}
 use Rattle.state.specs.declared.scalars.Scalars.{Scalars}
@@ -93,7 +94,7 @@ module _ (m : BlockModel) (tape : List (List ℕ)) (tapeBytes tables lists : Lis
   at = 8 * (t .next - 1)
 
   pub seize-done : (v : ℕ) → blockAt m (t .next) ≡ seize v → Done tapeBytes (Taking.seize tables w tally x at) (bareAnswer (question (seize v) s) m (seize v) t s)
-  unfolding Taking.seize question bareAnswer bare blockNumbers
+  unfolding Taking.seize question bareAnswer bare blockForms
   seize-done v is =
       let proper′ : Names (m .facilities) v = subst (ProperBlock m) is (proper .block (t .next)) in
       let there : v ≤ servers m = omega (arith, proper′ .1) in
@@ -101,7 +102,7 @@ module _ (m : BlockModel) (tape : List (List ℕ)) (tapeBytes tables lists : Lis
       (take-done v 1 (proper′ .0) there)
 
   pub enter-done : (v b : ℕ) → blockAt m (t .next) ≡ enter v b → Done tapeBytes (Taking.enter tables w tally x at) (bareAnswer (question (enter v b) s) m (enter v b) t s)
-  unfolding Taking.enter question bareAnswer bare blockNumbers
+  unfolding Taking.enter question bareAnswer bare blockForms
   enter-done v b is =
       let proper′ : Storage m v = subst (ProperBlock m) is (proper .block (t .next)) .0 in
       let low : 1 ≤ v = omega (arith, proper′ .0) in

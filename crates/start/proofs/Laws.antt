@@ -14,6 +14,7 @@ use Rattle.machine.specs.State.{State}
 use Rattle.machine.specs.Moves as Moves
 use Rattle.machine.specs.Run.{startOf, startAt, idle, start}
 use Rattle.machine.proofs.Proper.{Names, ProperBlock, Proper}
+use Rattle.tables.specs.Forms.{blockForms}
 use Rattle.tables.specs.Numbers.{blockNumbers}
 use Rattle.tables.specs.Represents.{headerOf, Represents}
 use Rattle.rows.specs.Make.{initial}
@@ -84,7 +85,7 @@ data Begins (b : Block) : Type 0 where
   passes : 0 < length (blockNumbers b) → eqb (getD (blockNumbers b) 0 0) 1 ≡ false → ((n : ℕ) (s : State) → startOf b n s ≡ s) → Begins b
 
 begins : (b : Block) → Begins b
-unfolding blockNumbers startOf
+unfolding startOf blockForms
 begins (generate list p) = makes list p refl
 begins (advance list) = passes (omega arith) refl (λ n s. refl)
 begins (terminate a) = passes (omega arith) refl (λ n s. refl)
@@ -153,15 +154,15 @@ module _ (m : BlockModel) (tape : List (List ℕ)) (tapeBytes tables lists : Lis
       there = omega (arith, named .0 .1, h .beginning .samples)
 
       kind-is : getD tables (8 * b) 0 ≡ 1
-      unfolding blockNumbers
+      unfolding blockForms
       kind-is = ap (λ (n : ℕ). getD tables n 0) (omega arith) ∙ number (generate list p) is 0 (omega arith)
 
       list-is : getD tables (8 * b + 1) 0 ≡ list - 1
-      unfolding blockNumbers
+      unfolding blockForms
       list-is = number (generate list p) is 1 (omega arith)
 
       priority-is : getD tables (8 * b + 2) 0 ≡ p
-      unfolding blockNumbers
+      unfolding blockForms
       priority-is = number (generate list p) is 2 (omega arith)
 
       left-cell : getD (r .tally) (944 + (list - 1)) 0 ≡ length (Moves.timesLeft s list)

@@ -1,7 +1,9 @@
 -- What holds of the machine's states within a turn and lets 32-bit rows and 64-bit sums hold their numbers. These facts are
 -- the machine's own (proofs/ of crate machine and proofs/Sanity.antt); no buffer is spoken of.
 use Prim.Native.Nat.{ℕ, _+_, _*_, _-_, _≤_}
+use mathlib.Core.Path.{_≡_}
 use lib.ListN.{length}
+use Rattle.machine.specs.Rules.{inForce}
 use Rattle.machine.specs.Limits.{maxTurns, maxCounter}
 use Rattle.machine.specs.Term.{Server, Queue}
 use Rattle.machine.specs.Block.{BlockModel}
@@ -13,10 +15,11 @@ use Rattle.machine.proofs.Everybody.{Everybody}
 use Rattle.machine.proofs.Clocks.{Timely, Samples}
 
 pub record Sane (m : BlockModel) (s : State) : Type 0 where
+  pub rules : m .rules ≡ inForce
   pub shape : Shape m s
   pub placed : Everybody (Placed m) s
-  pub timely : Timely s
-  pub samples : Samples s
+  pub timely : Timely (inForce .maxClock) s
+  pub samples : Samples (inForce .maxTime) s
   -- serials stay below 100,000,000 through a turn; every transaction has had one
   pub serials : s .serial ≤ 100000000
   pub made : s .made ≤ s .serial

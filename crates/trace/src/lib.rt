@@ -8,6 +8,7 @@ ghost use mathlib.Core.Path.{_≡_};
 ghost use Prim.Native.Nat.{ℕ, _+_, _≤_};
 ghost use lib.ListN.{length};
 ghost use lib.Seq.{sets};
+ghost use Rattle.machine.specs.Rules.{inForce};
 ghost use Rattle.machine.specs.Number.{countLow};
 ghost use Rattle.machine.specs.Trace.{recordBytes, readRecord, inRanges, writeRecord};
 ghost use Rattle.trace.specs.Answers.{entry, readingOf, writingOf, after};
@@ -43,7 +44,7 @@ pub enum Written {
 
 // The record at a position.
 pub fn read_record(s: &[u8], at: usize) -> Reading
-    ensures { λ r. ⌜ readingOf r ≡ readRecord (now (s .entry)) at ⌝ }
+    ensures { λ r. ⌜ readingOf r ≡ readRecord inForce (now (s .entry)) at ⌝ }
 {
     if s.len() <= at {
         return Reading::NoMore;
@@ -72,7 +73,7 @@ pub fn read_record(s: &[u8], at: usize) -> Reading
 }
 
 fn in_ranges(clock: u64, transaction: u64, block: u64, outcome: u64) -> bool
-    ensures { λ r. ⌜ r ≡ inRanges (entry clock transaction block outcome) ⌝ }
+    ensures { λ r. ⌜ r ≡ inRanges inForce (entry clock transaction block outcome) ⌝ }
 {
     if MAX_CLOCK < clock {
         return false;
@@ -117,8 +118,8 @@ pub fn write_record(
     block: u64,
     outcome: u64,
 ) -> Written
-    ensures { λ r. ⌜ writingOf (now (rest .exit)) r ≡ writeRecord (length (now (rest .entry))) (entry clock transaction block outcome) ⌝ }
-    ensures bytes { λ _. ⌜ now (rest .exit) ≡ after (writeRecord (length (now (rest .entry))) (entry clock transaction block outcome)) (now (rest .entry)) ⌝ }
+    ensures { λ r. ⌜ writingOf (now (rest .exit)) r ≡ writeRecord inForce (length (now (rest .entry))) (entry clock transaction block outcome) ⌝ }
+    ensures bytes { λ _. ⌜ now (rest .exit) ≡ after (writeRecord inForce (length (now (rest .entry))) (entry clock transaction block outcome)) (now (rest .entry)) ⌝ }
     ensures count { λ r. ⌜ ((n : ℕ) → r ≡ Written.Bytes n → (n ≡ length (recordBytes (entry clock transaction block outcome))) × (n ≤ length (now (rest .entry)))) ⌝ }
 {
     if !in_ranges(clock, transaction, block, outcome) {
