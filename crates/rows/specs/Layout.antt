@@ -23,11 +23,39 @@
 -- | FEL     | 450                                             |
 -- | free    | 451: the rows that are not living               |
 -- | others  | 452..511 are spare and stay empty               |
-use Prim.Native.Nat.{ℕ, _+_, _*_, _-_}
+use Prim.Native.Nat.{ℕ, _+_, _*_, _-_, _≤_}
+use mathlib.Core.List.{List}
+use lib.ListN.{length}
+use Rattle.machine.specs.Limits.{workNumbers}
 use Rattle.machine.specs.Block.{Code}
 use Rattle.machine.specs.Moves.{welIndex}
 
 -- ---- Sizes
+
+-- rows; a number that is not below it is no row
+abbrev pub rowCount : ℕ
+rowCount = 1024
+
+abbrev pub fieldCount : ℕ
+fieldCount = 16
+
+-- fields 0..11 are the data of a row
+abbrev pub dataFields : ℕ
+dataFields = 12
+
+abbrev pub listCount : ℕ
+listCount = 512
+
+-- from here on, priority * 2 + returning does not fit 32 bits; nor do the serials of one more clock move
+abbrev pub priorityEnd : ℕ
+priorityEnd = 2147483648
+
+abbrev pub serialEnd : ℕ
+serialEnd = 4000000000
+
+-- a buffer that has room for the layout
+abbrev pub Room : List ℕ → Type 0
+Room w = workNumbers ≤ length w
 
 -- ---- Fields
 
