@@ -10,6 +10,10 @@ use lib.ListN.{length}
 abbrev pub serverCount : ℕ
 serverCount = 64
 
+-- the codes of a server's status
+abbrev pub codeCount : ℕ
+codeCount = 6
+
 -- the largest numbers of 32 and of 64 bits, and the first that does not fit 32 bits
 abbrev pub most32 : ℕ
 most32 = 4294967295
