@@ -1,6 +1,7 @@
 // The WS scheme: "every WSL member whose comparison no longer holds goes to REL".
 use crate::comparison::holds;
 use rows::WSL;
+use rows::WSL_HEAD;
 use rows::cells::load;
 use rows::cells::read;
 use rows::wake::pass;
@@ -80,8 +81,7 @@ pub fn ws(tables: &[u32], blocks: usize, values: usize, work: &mut [u32], tally:
         return;
     }
     let clock = x.clock;
-    // the head of the WSL
-    let mut cell: u32 = 15808;
+    let mut cell: u32 = WSL_HEAD;
     let mut i: u32 = 0;
     while i < 1024 {
         let k = load(work, cell);

@@ -1,5 +1,6 @@
 // Whom a change of a server's units wakes: the first of its QL or all that fit, and the first of each WEL whose code is not true.
 use crate::units::status;
+use rows::HEADS;
 use rows::cells::load;
 use rows::cells::read;
 use rows::wake::pass;
@@ -113,7 +114,7 @@ pub fn wake_ql(tables: &[u32], work: &mut [u32], v: u32, free: u64) -> u64
     ensures rows { λ _. ⌜ now (work .exit) ≡ wakeAll (memberFits (now (tables .entry)) free) steps (now (work .entry)) v (head v) ⌝ }
     ensures stays { λ r. ⌜ r ≡ wakeStays (memberFits (now (tables .entry)) free) steps (now (work .entry)) v (head v) ⌝ }
 {
-    let mut c = 15360 + v;
+    let mut c = HEADS + v;
     let mut stay: u64 = 0;
     let mut i: u32 = 0;
     while i < 1024 {
