@@ -35,20 +35,22 @@ pub const SERIAL: u32 = 7;
 
 pub const TIME: u32 = 8;
 
+pub const PLACE: u32 = 12;
+
 // From here on, the serials of one more clock move may not fit 32 bits.
 pub const SERIAL_END: u32 = 4_000_000_000;
 
 // Fields of the lists: where the place and the link of row 0, the head and the tail of list 0 stand.
-pub const PLACES: u32 = 13_312;
+pub const PLACES: u32 = 12_288;
 
-pub const LINKS: u32 = 14_336;
+pub const LINKS: u32 = 13_312;
 
-pub const HEADS: u32 = 15_360;
+pub const HEADS: u32 = 14_336;
 
-pub const TAILS: u32 = 15_872;
+pub const TAILS: u32 = 15_360;
 
 // Lists: the QL of a server is its number less one, its WELs follow from WELS on; then four by name.
-pub const LISTS: u32 = 512;
+pub const LISTS: u32 = 1_024;
 
 pub const WELS: u32 = 64;
 
