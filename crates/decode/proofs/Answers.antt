@@ -5,7 +5,7 @@ use mathlib.Core.Path.{_≡_, refl, sym, ap, _∙_}
 use mathlib.Core.List.{List}
 use lib.ListN.{length}
 use borrow.Author.Tests.{le-leb, lt-leb}
-use Rattle.machine.specs.Rules.{inForce}
+use Rattle.machine.specs.Rules.{Rules, inForce}
 use Rattle.machine.specs.Parser.{Parsed, parsed, refused}
 use Rattle.machine.specs.Block.{BlockModel}
 use Rattle.machine.specs.Validate.{modelOf, tapeOf, beginning, Validation, accept, reject, withTape, withModel, validate}
@@ -92,7 +92,7 @@ module _ (model tape : List ℕ) (work report : ℕ) (tables lists : List ℕ) w
               go (parsed m c) d =
                   let e = sym told ∙ d .held .0 in
                   let f : h ≡ headerOf m = cc in
-                  rw (d .held .2 .rules) (last m (tapeOf inForce tape (m .lists) beginning) (rw (ap (λ (x : Model). x .lists) f) at k₂))
+                  last m _ (subst (λ (q : Rules). Lists tape 0 emptyLists lists r₂ (tapeOf q tape (m .lists) beginning)) (sym (d .held .2 .rules)) (rw (ap (λ (x : Model). x .lists) f) at k₂))
               go (refused i) d = let e = sym told ∙ d .held in let z : _≡_ {A = ℕ} 0 1 = cc in absurd (omega arith)
 
           pub all-answered : {end : ℕ} → r₂ ≡ At end → Decodes tape (Accepted h) tables lists (validate inForce model tape work report)
@@ -109,5 +109,6 @@ module _ (model tape : List ℕ) (work report : ℕ) (tables lists : List ℕ) w
               go (parsed m c) d =
                   let e = sym told ∙ d .held .0 in
                   let f : h ≡ headerOf m = cc in
-                  rw (d .held .2 .rules) (last m f (d .held .1) (d .held .2) (tapeOf inForce tape (m .lists) beginning) refl (rw (ap (λ (x : Model). x .lists) f) at k₂))
+                  subst (λ (q : Rules). Decodes tape (Accepted h) tables lists (withTape m (tapeOf q tape (m .lists) beginning))) (sym (d .held .2 .rules))
+                  (last m f (d .held .1) (d .held .2) (tapeOf inForce tape (m .lists) beginning) refl (rw (ap (λ (x : Model). x .lists) f) at k₂))
               go (refused i) d = let e = sym told ∙ d .held in let z : _≡_ {A = ℕ} 0 1 = cc in absurd (omega arith)

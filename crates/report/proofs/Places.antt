@@ -13,7 +13,7 @@ use Rattle.machine.specs.Lists.{flat}
 use Rattle.machine.specs.State.{State}
 use Rattle.machine.specs.Report.{Place, placed, movingOne, places}
 use Rattle.machine.proofs.Sums.{sumOn, sum-append, sum-map}
-use Rattle.rows.specs.Layout.{place, fel, numberField}
+use Rattle.rows.specs.Layout.{place, fel, nowhere, numberField}
 use Rattle.rows.specs.Cells.{load, read}
 use Rattle.rows.specs.Holds.{transactionAt, eventAt}
 use Rattle.rows.specs.Living.{sumTo}
@@ -176,7 +176,7 @@ module _ (f : Place → ℕ) where
         same : transactionAt w moving .number ≡ t .number → row 6 moving ≡ at 6 t + 0
         same q = unfold transactionAt in (ap (λ n. f (record { number = n; place = 6 })) q ∙ omega arith)
 
-    off-lists : (o : Option Transaction) → Moving w moving o → moving < 1024 → load w (place moving) ≡ 512
+    off-lists : (o : Option Transaction) → Moving w moving o → moving < 1024 → load w (place moving) ≡ nowhere
     off-lists none e l = absurd (omega arith)
     off-lists (some t) e l = e .0 .off
 

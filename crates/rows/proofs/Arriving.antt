@@ -11,7 +11,7 @@ use Rattle.machine.specs.Transaction.{Transaction, Event, precedes, earlier}
 use Rattle.machine.specs.Setters.{withSerial, withReturning}
 use Rattle.machine.specs.Lists.{insert, those, others}
 use Rattle.machine.specs.Turn.{due}
-use Rattle.rows.specs.Layout.{place, head, rel, fel}
+use Rattle.rows.specs.Layout.{place, head, rel, fel, listCount}
 use Rattle.rows.specs.Cells.{load, read, write, setReturning}
 use Rattle.rows.specs.Order.{ahead}
 use Rattle.rows.specs.Lists.{put, first, takeFirst}
@@ -38,7 +38,7 @@ module _ (w : List ℕ) (L : ℕ → List ℕ) (T : ℕ → List Transaction) (E
   abbrev k : ℕ
   k = first w fel
 
-  hl : fel < 512
+  hl : fel < listCount
   hl = omega arith
 
   abbrev w₁ : List ℕ

@@ -9,7 +9,7 @@ use native.Mathlib.Omega.{arith}
 use borrow.Author.Tests.{lt-ltb, eqb-true}
 use lib.Dec.{eqb}
 use lib.ListN.{length}
-use Rattle.rows.specs.Layout.{place, head, nowhere}
+use Rattle.rows.specs.Layout.{place, head, nowhere, listCount, tails}
 use Rattle.rows.specs.Cells.{load}
 use Rattle.rows.specs.Lists.{insertAt, removeRow, removeAt}
 use Rattle.rows.specs.Holds.{eventAt, before, ending, Sorted, Listed, Holds, update}
@@ -25,14 +25,14 @@ pub record Kept (w w′ : List ℕ) (k : ℕ) : Type 0 where
   pub rows : SameData w w′
   pub places : (j : ℕ) → j < 1024 → j ≢ k → load w′ (place j) ≡ load w (place j)
 
-changed-kept : (w w′ : List ℕ) (p k : ℕ) (a b b′ : List ℕ) → p < 512 → Listed w p (a ++ b) → Changed w w′ p k a b b′ → Kept w w′ k
+changed-kept : (w w′ : List ℕ) (p k : ℕ) (a b b′ : List ℕ) → p < listCount → Listed w p (a ++ b) → Changed w w′ p k a b b′ → Kept w w′ k
 changed-kept w w′ p k a b b′ hp one ch =
     record {
       rows = λ i h. ch .kept i (λ e. omega (arith, end-low w p a b one)) (λ e. omega arith) (λ e. omega arith) (λ e. omega arith);
       places = λ j h d. ch .kept (place j) (λ e. omega (arith, end-low w p a b one)) (λ e. omega arith) (λ e. d (omega arith)) (λ e. omega arith);
     }
 
-module _ (w w′ : List ℕ) (L : ℕ → List ℕ) (h : Holds w L) (p : ℕ) (l′ : List ℕ) (room : 16384 ≤ length w′) (rows : SameData w w′) (listed : (q : ℕ) → q < 512 → Listed w′ q (update p l′ L q)) where
+module _ (w w′ : List ℕ) (L : ℕ → List ℕ) (h : Holds w L) (p : ℕ) (l′ : List ℕ) (room : 16384 ≤ length w′) (rows : SameData w w′) (listed : (q : ℕ) → q < listCount → Listed w′ q (update p l′ L q)) where
   events-kept : (q : ℕ) (l : List ℕ) → Listed w′ q l → map (eventAt w′) l ≡ map (eventAt w) l
   events-kept q l one =
       map-kept (eventAt w′) (eventAt w) l (λ j m. event-kept w w′ j (same-row w w′ j (chain-row w′ (head q) l j (one .chain) m) rows))
@@ -47,7 +47,7 @@ module _ (w w′ : List ℕ) (L : ℕ → List ℕ) (h : Holds w L) (p : ℕ) (l
           rw (events-kept q l′ one, f) (sorted (omega arith))
       go q hq false e one = rw (events-kept q (L q) one) (h .sorted q hq)
 
-module _ (w : List ℕ) (L : ℕ → List ℕ) (h : Holds w L) (p k : ℕ) (a b : List ℕ) (hp : p < 512) (hk : k < 1024) where
+module _ (w : List ℕ) (L : ℕ → List ℕ) (h : Holds w L) (p k : ℕ) (a b : List ℕ) (hp : p < listCount) (hk : k < 1024) where
   -- row k, on no list, comes behind a
   module _ (was : L p ≡ a ++ b) (off : load w (place k) ≡ nowhere) where
     abbrev after-insert : List ℕ
@@ -56,7 +56,7 @@ module _ (w : List ℕ) (L : ℕ → List ℕ) (h : Holds w L) (p k : ℕ) (a b 
     one : Listed w p (a ++ b)
     one = rw was at (h .listed p hp)
 
-    high : ending (head p) a < 15872
+    high : ending (head p) a < tails
     high = omega (arith, end-high w p a b one)
 
     pub insert-keeps : Kept w after-insert k
@@ -82,7 +82,7 @@ module _ (w : List ℕ) (L : ℕ → List ℕ) (h : Holds w L) (p k : ℕ) (a b 
     r-one : Listed w p (a ++ k ∷ b)
     r-one = rw was at (h .listed p hp)
 
-    r-high : ending (head p) a < 15872
+    r-high : ending (head p) a < tails
     r-high = omega (arith, end-high w p a (k ∷ b) r-one)
 
     -- the cell holds the row

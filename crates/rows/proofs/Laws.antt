@@ -10,7 +10,7 @@ use Rattle.machine.specs.Transaction.{Transaction, Event, precedes, earlier}
 use Rattle.machine.specs.Lists.{insert, those, others}
 use Rattle.machine.specs.Moves.{wake}
 use Rattle.machine.specs.Turn.{due}
-use Rattle.rows.specs.Layout.{place, head, rel, fel, free}
+use Rattle.rows.specs.Layout.{place, head, rel, fel, free, listCount}
 use Rattle.rows.specs.Cells.{load}
 use Rattle.rows.specs.Lists.{put, first, takeFirst}
 use Rattle.rows.specs.Wake.{wakeFirst, wakeAll}
@@ -66,7 +66,7 @@ module _ (w : List ℕ) (T : ℕ → List Transaction) (E : List Event) (s : Sho
   -- ---- Putting
 
   module _ (k : ℕ) (off : Loose w k) where
-    puts : (w′ : List ℕ) (p : ℕ) (U : ℕ → List Transaction) (F : List Event) → p < 512 → Kept w w′ k → load w′ (place k) ≡ p → Shows w′ U F → Puts w w′ k U F
+    puts : (w′ : List ℕ) (p : ℕ) (U : ℕ → List Transaction) (F : List Event) → p < listCount → Kept w w′ k → load w′ (place k) ≡ p → Shows w′ U F → Puts w w′ k U F
     puts w′ p U F hp kept at shows =
         record {
           shows = shows;
@@ -93,7 +93,7 @@ module _ (w : List ℕ) (T : ℕ → List Transaction) (E : List Event) (s : Sho
 
   -- ---- Taking the first
 
-  takes : (p : ℕ) (U : ℕ → List Transaction) (F : List Event) → (hp : p < 512) (n : first w p < 1024) → Shows (takeFirst w p) U F → Takes w (takeFirst w p) (first w p) U F
+  takes : (p : ℕ) (U : ℕ → List Transaction) (F : List Event) → (hp : p < listCount) (n : first w p < 1024) → Shows (takeFirst w p) U F → Takes w (takeFirst w p) (first w p) U F
   takes p U F hp n shows =
       let r : (m : List ℕ) × (L p ≡ first w p ∷ m) = rows-first w L T E (s .shown) p hp n in
       let kept : Kept w (takeFirst w p) (first w p) = take-keeps w L h p hp (r .0) (r .1) n in
@@ -110,20 +110,20 @@ module _ (w : List ℕ) (T : ℕ → List Transaction) (E : List Event) (s : Sho
 
   pub take-shows : (p : ℕ) → p < 450 → first w p < 1024 → Takes w (takeFirst w p) (first w p) (update p (drop 1 (T p)) T) E
   take-shows p hp n =
-      let hl : p < 512 = omega arith in
+      let hl : p < listCount = omega arith in
       let r : (m : List ℕ) × (L p ≡ first w p ∷ m) = rows-first w L T E (s .shown) p hl n in
       takes p (update p (drop 1 (T p)) T) E hl n (record { rows = _; shown = take-shown w L T E (s .shown) p hl (r .0) (r .1) n hp })
 
   pub take-fel-shows : first w fel < 1024 → Takes w (takeFirst w fel) (first w fel) T (drop 1 E)
   take-fel-shows n =
-      let hl : fel < 512 = omega arith in
+      let hl : fel < listCount = omega arith in
       let r : (m : List ℕ) × (L fel ≡ first w fel ∷ m) = rows-first w L T E (s .shown) fel hl n in
       takes fel T (drop 1 E) hl n (record { rows = _; shown = take-fel-shown w L T E (s .shown) fel hl (r .0) (r .1) n refl })
 
   -- a row for one that is made
   pub make-shows : first w free < 1024 → Takes w (takeFirst w free) (first w free) T E
   make-shows n =
-      let hl : free < 512 = omega arith in
+      let hl : free < listCount = omega arith in
       let r : (m : List ℕ) × (L free ≡ first w free ∷ m) = rows-first w L T E (s .shown) free hl n in
       takes free T E hl n (record { rows = _; shown = take-free-shown w L T E (s .shown) free hl (r .0) (r .1) n refl })
 

@@ -5,7 +5,7 @@ use mathlib.Core.Bool.{Bool, true, false, cond}
 use mathlib.Core.List.{List}
 use lib.Dec.{ltb}
 use lib.ListN.{drop}
-use Rattle.rows.specs.Layout.{place, link, head, tail, fel, free, nowhere, fieldAt}
+use Rattle.rows.specs.Layout.{place, link, head, tail, fel, free, nowhere, fieldAt, listCount}
 use Rattle.rows.specs.Cells.{load, store, read, write}
 use Rattle.rows.specs.Lists.{endAt, insertAt, removeRow, removeAt, spot, put, first, takeFirst}
 use Rattle.rows.specs.Wake.{wakeRow, wakeAt, passRows, passCell, wakeAll}
@@ -141,4 +141,4 @@ past-free (suc n) w = past-freeRow _ _ ∙ past-free n w
 pub past-initial : (w : List ℕ) → past (initial w) ≡ past w
 unfolding initial
 past-initial w =
-    past-free 1024 (looseRows 1024 (emptyLists 512 w)) ∙ past-loosen 1024 (emptyLists 512 w) ∙ past-empty 512 w
+    past-free 1024 (looseRows 1024 (emptyLists listCount w)) ∙ past-loosen 1024 (emptyLists listCount w) ∙ past-empty listCount w

@@ -6,7 +6,7 @@ use mathlib.Core.List.{List, [], _∷_}
 use native.Mathlib.Omega.{arith}
 use borrow.Author.Tests.{lt-ltb, le-ltb}
 use lib.ListN.{length}
-use Rattle.rows.specs.Layout.{place, link, head}
+use Rattle.rows.specs.Layout.{place, link, head, heads, links}
 use Rattle.rows.specs.Cells.{load}
 use Rattle.rows.specs.Order.{ahead}
 use Rattle.rows.specs.Lists.{step, walk, spotBefore, spot}
@@ -58,15 +58,15 @@ module _ (w : List ℕ) (p k : ℕ) where
 
   -- ---- The spot
 
-  before-head : (t : ℕ) → 15360 ≤ t → spotBefore w p k t ≡ t
+  before-head : (t : ℕ) → heads ≤ t → spotBefore w p k t ≡ t
   unfolding spotBefore
-  before-head t h = rw (le-ltb t 14336 (omega arith), le-ltb (t - 14336) 1024 (omega arith))
+  before-head t h = rw (le-ltb t links (omega arith), le-ltb (t - links) 1024 (omega arith))
 
   before-link : (t j : ℕ) → t ≡ link j → j < 1024 → spotBefore w p k t ≡ cond (ahead w p k j) (walk 1024 w p k (head p)) t
   unfolding spotBefore
   before-link t j e h =
-      let f : t - 14336 ≡ j = omega arith in
-      rw (le-ltb t 14336 (omega arith), f, lt-ltb j 1024 h)
+      let f : t - links ≡ j = omega arith in
+      rw (le-ltb t links (omega arith), f, lt-ltb j 1024 h)
 
   ending-last : (c y : ℕ) (l : List ℕ) → ending c (y ∷ l) ≡ link (lastOf y l)
   unfolding ending lastOf

@@ -9,7 +9,7 @@ use borrow.Author.Tests.{lt-ltb}
 use Rattle.machine.specs.Transaction.{Transaction, Event, precedes}
 use Rattle.machine.specs.Setters.{withReturning}
 use Rattle.machine.specs.Lists.{insert}
-use Rattle.rows.specs.Layout.{place, head, rel}
+use Rattle.rows.specs.Layout.{place, head, rel, listCount}
 use Rattle.rows.specs.Cells.{load, read, setReturning}
 use Rattle.rows.specs.Order.{ahead}
 use Rattle.rows.specs.Lists.{removeAt, put}
@@ -36,7 +36,7 @@ module _ (w : List ℕ) (L : ℕ → List ℕ) (T : ℕ → List Transaction) (E
   pub woken-row : (k < 1024) × (load w (place k) ≡ p)
   woken-row = row-of w p a (k ∷ b) one k (omega (arith, occurs-append k a (k ∷ b), occurs-cons k k b, same-refl k k refl))
 
-  hl : p < 512
+  hl : p < listCount
   hl = omega arith
 
   -- it leaves its list

@@ -9,7 +9,7 @@ use lib.ListN.{length}
 use mir.Syntax.{w32}
 use mir.Val.{toZ}
 use Rattle.machine.specs.Transaction.{Transaction, Event, precedes, earlier}
-use Rattle.rows.specs.Layout.{place, link, head, tail, fel, numberField, standingField, parameterField, nextField, serialField, timeField}
+use Rattle.rows.specs.Layout.{place, link, head, tail, fel, numberField, standingField, parameterField, nextField, serialField, timeField, listCount, Room, free, rowCount}
 use Rattle.rows.specs.Cells.{load, read, priorityOf}
 
 -- ---- Rows as transactions
@@ -47,8 +47,8 @@ occurs k (x ∷ l) = same k x + occurs k l
 
 -- the links lead from cell c along the rows of a list, and then to no row
 unfoldable pub Chain : List ℕ → ℕ → List ℕ → Type 0
-Chain w c [] = 1024 ≤ load w c
-Chain w c (k ∷ l) = (load w c ≡ k) × (k < 1024) × Chain w (link k) l
+Chain w c [] = rowCount ≤ load w c
+Chain w c (k ∷ l) = (load w c ≡ k) × (k < rowCount) × Chain w (link k) l
 
 -- the cell behind the rows of a list that starts at cell c
 unfoldable pub ending : ℕ → List ℕ → ℕ
@@ -68,13 +68,13 @@ Sorted r (x ∷ l) = All (λ y. r y x ≡ false) l × Sorted r l
 pub record Listed (w : List ℕ) (p : ℕ) (l : List ℕ) : Type 0 where
   pub chain : Chain w (head p) l
   pub last : load w (tail p) ≡ ending (head p) l
-  pub once : (k : ℕ) → k < 1024 → occurs k l ≡ same (load w (place k)) p
+  pub once : (k : ℕ) → k < rowCount → occurs k l ≡ same (load w (place k)) p
 
 -- L p is the rows of list p, for every list; all but the free rows are in order
 pub record Holds (w : List ℕ) (L : ℕ → List ℕ) : Type 0 where
-  pub room : 16384 ≤ length w
-  pub listed : (p : ℕ) → p < 512 → Listed w p (L p)
-  pub sorted : (p : ℕ) → p < 451 → Sorted (before p) (map (eventAt w) (L p))
+  pub room : Room w
+  pub listed : (p : ℕ) → p < listCount → Listed w p (L p)
+  pub sorted : (p : ℕ) → p < free → Sorted (before p) (map (eventAt w) (L p))
 
 -- the lists with list p replaced
 abbrev pub update : {A : Type 0} → ℕ → A → (ℕ → A) → ℕ → A
