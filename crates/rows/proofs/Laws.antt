@@ -2,7 +2,7 @@
 -- the buffer w has the lists T and the FEL E; `Loose w k` that row k is on no list, as the moving one.
 use Prim.Native.Nat.{ℕ, suc, _+_, _<_}
 use mathlib.Core.Path.{_≡_, refl, subst}
-use mathlib.Core.Bool.{Bool}
+use mathlib.Core.Bool.{Bool, not}
 use mathlib.Core.List.{List, [], _∷_}
 use native.Mathlib.Omega.{arith}
 use lib.ListN.{length, take, drop}
@@ -14,18 +14,22 @@ use Rattle.rows.specs.Layout.{place, head, rel, fel, free, listCount}
 use Rattle.rows.specs.Cells.{load}
 use Rattle.rows.specs.Lists.{put, first, takeFirst}
 use Rattle.rows.specs.Wake.{wakeFirst, wakeAll}
-use Rattle.rows.specs.Clock.{arrive, arrivals}
+use Rattle.rows.specs.Clock.{Arrived, arrive, arrivals}
 use Rattle.rows.specs.Make.{freeRow}
 use Rattle.rows.specs.Living.{loose, onLists}
 use Rattle.rows.specs.Holds.{transactionAt, eventAt, ending, Listed, Holds, update}
+use Rattle.rows.specs.Ordered.{Sorted, Ordered}
 use Rattle.rows.specs.Shows.{Shows, Loose, moved}
 use Rattle.rows.proofs.Occurs.{same-refl, occurs-cons}
+use Rattle.rows.proofs.Insertion.{insert-sorted, sorted-drop, sorted-those}
+use Rattle.rows.proofs.Orders.{precedes-order, earlier-order}
+use Rattle.rows.proofs.Ordering.{ordered-list, ordered-fel, ordered-moved, wake-sorted, arrivals-sorted}
 use Rattle.rows.proofs.Structure.{row-of}
 use Rattle.rows.proofs.Spot.{short}
 use Rattle.rows.proofs.Data.{SameRow, same-row}
 use Rattle.rows.proofs.Holding.{Kept}
 use Rattle.rows.proofs.Loose.{loose-more, loose-less}
-use Rattle.rows.proofs.Steady.{Around, kept-around}
+use Rattle.rows.proofs.Steady.{Steady, Around, kept-around}
 use Rattle.rows.proofs.Put.{put-keeps, put-placed, put-shown, put-fel-shown}
 use Rattle.rows.proofs.Take.{Head, head-shown, head-fel-shown, rows-first, take-keeps, take-loose, take-shown, take-fel-shown, take-free-shown}
 use Rattle.rows.proofs.Making.{free-keeps, free-placed, free-shown}
@@ -48,12 +52,26 @@ pub record Takes (w w′ : List ℕ) (k : ℕ) (T : ℕ → List Transaction) (E
   pub off : Loose w′ k
   pub count : loose w′ ≡ suc (loose w)
 
+-- what waking leaves
+pub record Wakes (w w′ : List ℕ) (T : ℕ → List Transaction) (E : List Event) : Type 0 where
+  pub shows : Shows w′ T E
+  pub steady : Steady w w′
+
+-- what a clock move leaves
+pub record Arrives (w : List ℕ) (r : Arrived) (T : ℕ → List Transaction) (E : List Event) (serial : ℕ) : Type 0 where
+  pub shows : Shows (r .rows) T E
+  pub last : r .serial ≡ serial
+  pub steady : Steady w (r .rows)
+
 module _ (w : List ℕ) (T : ℕ → List Transaction) (E : List Event) (s : Shows w T E) where
   abbrev L : ℕ → List ℕ
   L = s .rows
 
   abbrev h : Holds w L
   h = s .shown .holds
+
+  abbrev o : Ordered (λ q. precedes) T E
+  o = s .ordered
 
   -- ---- The first of a list
 
@@ -78,18 +96,26 @@ module _ (w : List ℕ) (T : ℕ → List Transaction) (E : List Event) (s : Sho
     pub put-shows : (p : ℕ) → p < 450 → Puts w (put w p k) k (update p (insert precedes (transactionAt w k) (T p)) T) E
     put-shows p hp =
         puts (put w p k) p (update p (insert precedes (transactionAt w k) (T p)) T) E (omega arith) (put-keeps w L h p k (omega arith) off) (put-placed w L h p k (omega arith) off)
-        (record { rows = _; shown = put-shown w L T E (s .shown) k off p hp })
+        (record {
+          rows = _;
+          shown = put-shown w L T E (s .shown) k off p hp (o .lists p hp);
+          ordered = ordered-list (λ q. precedes) T E p _ (insert-sorted precedes precedes-order (transactionAt w k) (T p) (o .lists p hp)) o;
+        })
 
     pub put-fel-shows : Puts w (put w fel k) k T (insert earlier (eventAt w k) E)
     put-fel-shows =
         puts (put w fel k) fel T (insert earlier (eventAt w k) E) (omega arith) (put-keeps w L h fel k (omega arith) off) (put-placed w L h fel k (omega arith) off)
-        (record { rows = _; shown = put-fel-shown w L T E (s .shown) k off })
+        (record {
+          rows = _;
+          shown = put-fel-shown w L T E (s .shown) k off (o .future);
+          ordered = ordered-fel (λ q. precedes) T E _ (insert-sorted earlier earlier-order (eventAt w k) E (o .future)) o;
+        })
 
     -- the row of one that ended
     pub free-shows : Puts w (freeRow w k) k T E
     free-shows =
         puts (freeRow w k) free T E (omega arith) (free-keeps w L T E (s .shown) k off) (free-placed w L T E (s .shown) k off)
-        (record { rows = _; shown = free-shown w L T E (s .shown) k off })
+        (record { rows = _; shown = free-shown w L T E (s .shown) k off; ordered = o })
 
   -- ---- Taking the first
 
@@ -112,20 +138,28 @@ module _ (w : List ℕ) (T : ℕ → List Transaction) (E : List Event) (s : Sho
   take-shows p hp n =
       let hl : p < listCount = omega arith in
       let r : (m : List ℕ) × (L p ≡ first w p ∷ m) = rows-first w L T E (s .shown) p hl n in
-      takes p (update p (drop 1 (T p)) T) E hl n (record { rows = _; shown = take-shown w L T E (s .shown) p hl (r .0) (r .1) n hp })
+      takes p (update p (drop 1 (T p)) T) E hl n (record {
+        rows = _;
+        shown = take-shown w L T E (s .shown) p hl (r .0) (r .1) n hp;
+        ordered = ordered-list (λ q. precedes) T E p (drop 1 (T p)) (sorted-drop precedes (T p) (o .lists p hp)) o;
+      })
 
   pub take-fel-shows : first w fel < 1024 → Takes w (takeFirst w fel) (first w fel) T (drop 1 E)
   take-fel-shows n =
       let hl : fel < listCount = omega arith in
       let r : (m : List ℕ) × (L fel ≡ first w fel ∷ m) = rows-first w L T E (s .shown) fel hl n in
-      takes fel T (drop 1 E) hl n (record { rows = _; shown = take-fel-shown w L T E (s .shown) fel hl (r .0) (r .1) n refl })
+      takes fel T (drop 1 E) hl n (record {
+        rows = _;
+        shown = take-fel-shown w L T E (s .shown) fel hl (r .0) (r .1) n refl;
+        ordered = ordered-fel (λ q. precedes) T E (drop 1 E) (sorted-drop earlier E (o .future)) o;
+      })
 
   -- a row for one that is made
   pub make-shows : first w free < 1024 → Takes w (takeFirst w free) (first w free) T E
   make-shows n =
       let hl : free < listCount = omega arith in
       let r : (m : List ℕ) × (L free ≡ first w free ∷ m) = rows-first w L T E (s .shown) free hl n in
-      takes free T E hl n (record { rows = _; shown = take-free-shown w L T E (s .shown) free hl (r .0) (r .1) n refl })
+      takes free T E hl n (record { rows = _; shown = take-free-shown w L T E (s .shown) free hl (r .0) (r .1) n refl; ordered = o })
 
   -- there is one exactly if fewer than 1,024 live
   pub free-if : onLists T E + loose w < 1024 → first w free < 1024
@@ -136,17 +170,54 @@ module _ (w : List ℕ) (T : ℕ → List Transaction) (E : List Event) (s : Sho
 
   -- ---- Waking
 
-  pub wake-first-shows : (p : ℕ) → p < 449 → WakingAll.Wakes w (wakeFirst w p) (moved p (drop 1 (T p)) (wake (take 1 (T p)) (T rel)) T) E
-  wake-first-shows = WakingAll.wake-first-shows w L T E (s .shown)
+  ready : Sorted precedes (T rel)
+  ready = o .lists rel (omega arith)
 
-  pub wake-all-shows : (test : List ℕ → ℕ → Bool) (P : Transaction → Bool) → ((v : List ℕ) (k : ℕ) → test v k ≡ P (transactionAt v k)) → (p : ℕ) → p < 449 → WakingAll.Wakes w (wakeAll test 1024 w p (head p)) (moved p (others P (T p)) (wake (those P (T p)) (T rel)) T) E
+  wakes : (p : ℕ) (hp : p < 449) (l m : List Transaction) (w′ : List ℕ) → Sorted precedes l → WakingAll.Woken w w′ (moved p l (wake m (T rel)) T) E → Wakes w w′ (moved p l (wake m (T rel)) T) E
+  wakes p hp l m w′ sorted woken =
+      record {
+        shows =
+            record {
+              rows = woken .held .rows;
+              shown = woken .held .shown;
+              ordered = ordered-moved (λ q. precedes) T E p l (wake m (T rel)) sorted (wake-sorted m (T rel) ready) o;
+            };
+        steady = woken .steady;
+      }
+
+  pub wake-first-shows : (p : ℕ) → p < 449 → Wakes w (wakeFirst w p) (moved p (drop 1 (T p)) (wake (take 1 (T p)) (T rel)) T) E
+  wake-first-shows p hp =
+      wakes p hp (drop 1 (T p)) (take 1 (T p)) (wakeFirst w p) (sorted-drop precedes (T p) (o .lists p (omega arith)))
+      (WakingAll.wake-first-held w L T E (s .shown) ready p hp)
+
+  pub wake-all-shows : (test : List ℕ → ℕ → Bool) (P : Transaction → Bool) → ((v : List ℕ) (k : ℕ) → test v k ≡ P (transactionAt v k)) → (p : ℕ) → p < 449 → Wakes w (wakeAll test 1024 w p (head p)) (moved p (others P (T p)) (wake (those P (T p)) (T rel)) T) E
   unfolding ending
   wake-all-shows test P agree p hp =
-      subst (λ (l : List Transaction). WakingAll.Wakes w (wakeAll test 1024 w p (head p)) (moved p (others P l) (wake (those P l) (T rel)) T) E)
+      wakes p hp (others P (T p)) (those P (T p)) (wakeAll test 1024 w p (head p)) (sorted-those precedes (λ t. not (P t)) (T p) (o .lists p (omega arith)))
+      (subst (λ (l : List Transaction). WakingAll.Woken w (wakeAll test 1024 w p (head p)) (moved p (others P l) (wake (those P l) (T rel)) T) E)
       (s .shown .lists p (omega arith))
-      (WakingAll.wakeAll-shows test P agree E p hp 1024 (L p) w L T (s .shown) [] refl (short w p (L p) (h .listed p (omega arith))))
+      (WakingAll.wakeAll-held test P agree E p hp 1024 (L p) w L T (s .shown) ready [] refl (short w p (L p) (h .listed p (omega arith)))))
 
   -- ---- A clock move
 
-  pub arrive-shows : (e : Event) (l : List Event) → E ≡ e ∷ l → (serial : ℕ) → Arriving.Arrives w (arrive 1024 (e .time) w serial) (update rel (arrivals (those (due (e .time)) E) serial (T rel)) T) (others (due (e .time)) E) (serial + length (those (due (e .time)) E))
-  arrive-shows = Arriving.arrive-shows w L T E (s .shown)
+  pub arrive-shows : (e : Event) (l : List Event) → E ≡ e ∷ l → (serial : ℕ) → Arrives w (arrive 1024 (e .time) w serial) (update rel (arrivals (those (due (e .time)) E) serial (T rel)) T) (others (due (e .time)) E) (serial + length (those (due (e .time)) E))
+  arrive-shows e l q serial = go (Arriving.arrive-held w L T E (s .shown) ready (o .future) e l q serial)
+    where
+      later : List Event
+      later = others (due (e .time)) E
+
+      go : Arriving.Came w (arrive 1024 (e .time) w serial) (update rel (arrivals (those (due (e .time)) E) serial (T rel)) T) later (serial + length (those (due (e .time)) E))
+          → Arrives w (arrive 1024 (e .time) w serial) (update rel (arrivals (those (due (e .time)) E) serial (T rel)) T) later (serial + length (those (due (e .time)) E))
+      go r =
+          record {
+            shows =
+                record {
+                  rows = r .held .rows;
+                  shown = r .held .shown;
+                  ordered =
+                      ordered-fel (λ q. precedes) (update rel (arrivals (those (due (e .time)) E) serial (T rel)) T) E later (sorted-those earlier (λ t. not (due (e .time) t)) E (o .future))
+                      (ordered-list (λ q. precedes) T E rel _ (arrivals-sorted (those (due (e .time)) E) serial (T rel) ready) o);
+                };
+            last = r .last;
+            steady = r .steady;
+          }

@@ -13,6 +13,7 @@ pub mod Spot
 pub mod Data
 pub mod Holding
 pub mod Showing
+pub mod Ordering
 pub mod Put
 pub mod Take
 pub mod Write

@@ -96,6 +96,6 @@ module _ (w : List ℕ) (L : ℕ → List ℕ) (T : ℕ → List Transaction) (E
   unfolding freeRow ending
   free-shown =
       shown-free w (freeRow w k) L T E s free (k ∷ L free)
-      (insert-holds w L (s .holds) free k [] (L free) (omega arith) (off .row) refl (off .off) (λ h. absurd (omega arith)))
+      (insert-holds w L (s .holds) free k [] (L free) (omega arith) (off .row) refl (off .off))
       (free-keeps .rows)
       refl

@@ -56,7 +56,6 @@ module _ (w : List ℕ) (f k x : ℕ) (hf : f < 12) where
         record {
           room = rw (length-store w (fieldAt f k) x) (h .room);
           listed = λ q hq. write-listed q (L q) (h .listed q hq);
-          sorted = λ q hq. rw (events-stay q (L q) (omega arith) (h .listed q (omega arith))) (h .sorted q hq);
         }
 
     pub write-shown : (L : ℕ → List ℕ) (T : ℕ → List Transaction) (E : List Event) → Shown w L T E → Shown (write w f k x) L T E
