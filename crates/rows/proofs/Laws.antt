@@ -12,6 +12,7 @@ use Rattle.machine.specs.Moves.{wake}
 use Rattle.machine.specs.Turn.{due}
 use Rattle.rows.specs.Layout.{place, head, rel, fel, free, listCount}
 use Rattle.rows.specs.Cells.{load}
+use Rattle.rows.specs.Order.{ahead}
 use Rattle.rows.specs.Lists.{put, first, takeFirst}
 use Rattle.rows.specs.Wake.{wakeFirst, wakeAll}
 use Rattle.rows.specs.Clock.{Arrived, arrive, arrivals}
@@ -93,23 +94,30 @@ module _ (w : List ℕ) (T : ℕ → List Transaction) (E : List Event) (s : Sho
           count = loose-less w w′ k (off .row) (kept .places) (off .off) (omega arith);
         }
 
-    pub put-shows : (p : ℕ) → p < 450 → Puts w (put w p k) k (update p (insert precedes (transactionAt w k) (T p)) T) E
-    put-shows p hp =
-        puts (put w p k) p (update p (insert precedes (transactionAt w k) (T p)) T) E (omega arith) (put-keeps w L h p k (omega arith) off) (put-placed w L h p k (omega arith) off)
-        (record {
-          rows = _;
+    -- what is shown then; the rows compute
+    abbrev pub shows-put : (p : ℕ) → p < 450 → Shows (put w p k) (update p (insert precedes (transactionAt w k) (T p)) T) E
+    shows-put p hp =
+        record {
+          rows = update p (insert (ahead w p) k (L p)) L;
           shown = put-shown w L T E (s .shown) k off p hp (o .lists p hp);
           ordered = ordered-list (λ q. precedes) T E p _ (insert-sorted precedes precedes-order (transactionAt w k) (T p) (o .lists p hp)) o;
-        })
+        }
+
+    abbrev pub shows-put-fel : Shows (put w fel k) T (insert earlier (eventAt w k) E)
+    shows-put-fel =
+        record {
+          rows = update fel (insert (ahead w fel) k (L fel)) L;
+          shown = put-fel-shown w L T E (s .shown) k off (o .future);
+          ordered = ordered-fel (λ q. precedes) T E _ (insert-sorted earlier earlier-order (eventAt w k) E (o .future)) o;
+        }
+
+    pub put-shows : (p : ℕ) → p < 450 → Puts w (put w p k) k (update p (insert precedes (transactionAt w k) (T p)) T) E
+    put-shows p hp =
+        puts (put w p k) p (update p (insert precedes (transactionAt w k) (T p)) T) E (omega arith) (put-keeps w L h p k (omega arith) off) (put-placed w L h p k (omega arith) off) (shows-put p hp)
 
     pub put-fel-shows : Puts w (put w fel k) k T (insert earlier (eventAt w k) E)
     put-fel-shows =
-        puts (put w fel k) fel T (insert earlier (eventAt w k) E) (omega arith) (put-keeps w L h fel k (omega arith) off) (put-placed w L h fel k (omega arith) off)
-        (record {
-          rows = _;
-          shown = put-fel-shown w L T E (s .shown) k off (o .future);
-          ordered = ordered-fel (λ q. precedes) T E _ (insert-sorted earlier earlier-order (eventAt w k) E (o .future)) o;
-        })
+        puts (put w fel k) fel T (insert earlier (eventAt w k) E) (omega arith) (put-keeps w L h fel k (omega arith) off) (put-placed w L h fel k (omega arith) off) shows-put-fel
 
     -- the row of one that ended
     pub free-shows : Puts w (freeRow w k) k T E

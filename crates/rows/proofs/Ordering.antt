@@ -52,9 +52,9 @@ unfolding arrivals
 arrivals-sorted [] s r h = h
 arrivals-sorted (e ∷ l) s r h = arrivals-sorted l _ _ (insert-sorted precedes precedes-order _ r h)
 
--- ---- The same lists
+-- ---- The same lists; the rows compute
 
-pub shows-ext : (w : List ℕ) (T U : ℕ → List Transaction) (E F : List Event) → ((q : ℕ) → q < fel → T q ≡ U q) → E ≡ F → Shows w T E → Shows w U F
+abbrev pub shows-ext : (w : List ℕ) (T U : ℕ → List Transaction) (E F : List Event) → ((q : ℕ) → q < fel → T q ≡ U q) → E ≡ F → Shows w T E → Shows w U F
 shows-ext w T U E F lists future s =
     record {
       rows = s .rows;

@@ -18,6 +18,8 @@ use Rattle.rows.specs.Wake.{wakeRow, wakeAt}
 use Rattle.rows.specs.Holds.{transactionAt, same, occurs, ending, Listed, update}
 use Rattle.rows.specs.Ordered.{Sorted}
 use Rattle.rows.specs.Shows.{Shown, Loose, moved}
+use Rattle.rows.proofs.Insertion.{insert-sorted}
+use Rattle.rows.proofs.Orders.{precedes-order}
 use Rattle.rows.proofs.Occurs.{same-refl, occurs-append, occurs-cons}
 use Rattle.rows.proofs.Structure.{row-of, at-most-once}
 use Rattle.rows.proofs.Data.{same-row, transaction-kept, map-kept}
@@ -95,6 +97,9 @@ module _ (w : List ℕ) (L : ℕ → List ℕ) (T : ℕ → List Transaction) (E
       (shown-ext (put w₂ rel k) woken (update rel (insert precedes (transactionAt w₂ k) (T₁ rel)) T₁) (moved p (map (transactionAt w) (a ++ b)) (insert precedes (withReturning true (transactionAt w k)) (T rel)) T) E
       (λ q hq. rw (marked, update-other p (map (transactionAt w) (a ++ b)) T rel (λ e. omega arith)))
       (put-shown w₂ L₁ T₁ E s₂ k loose₂ rel (omega arith) (rw (update-other p (map (transactionAt w) (a ++ b)) T rel (λ e. omega arith)) ready)))
+
+  pub wake-ready : Sorted precedes (T rel) → Sorted precedes (insert precedes (withReturning true (transactionAt w k)) (T rel))
+  wake-ready ready = insert-sorted precedes precedes-order (withReturning true (transactionAt w k)) (T rel) ready
 
   pub wake-around : Around w (wakeAt w p cell) k
   unfolding wakeAt wakeRow

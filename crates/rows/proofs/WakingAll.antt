@@ -18,15 +18,13 @@ use Rattle.rows.specs.Wake.{wakeAt, wakeFirst, after, passRows, passCell
 use Rattle.rows.specs.Holds.{transactionAt, Chain, ending, Listed}
 use Rattle.rows.specs.Ordered.{Sorted}
 use Rattle.rows.specs.Shows.{Shown, Held, moved}
-use Rattle.rows.proofs.Insertion.{insert-sorted}
-use Rattle.rows.proofs.Orders.{precedes-order}
 use Rattle.rows.proofs.Occurs.{occurs-append}
 use Rattle.rows.proofs.Chain.{chain-after, ending-append}
 use Rattle.rows.proofs.Steps.{wakeAll-stop, wakeAll-next}
 use Rattle.rows.proofs.Showing.{shown-ext}
 use Rattle.rows.proofs.Take.{First, none, some, first-of}
 use Rattle.rows.proofs.Steady.{Steady, steady-refl, steady-trans}
-use Rattle.rows.proofs.Waking.{woken, wake-rows, wake-shown, wake-steady, wake-same}
+use Rattle.rows.proofs.Waking.{woken, wake-rows, wake-shown, wake-ready, wake-steady, wake-same}
 
 -- ---- Lists with two replaced
 
@@ -165,5 +163,5 @@ module _ (test : List ℕ → ℕ → Bool) (P : Transaction → Bool) (agree : 
   wakeAll-held zero (k ∷ b) w L T s ready a was len = absurd (omega arith)
   wakeAll-held (suc n) (k ∷ b) w L T s ready a was len =
       one-more n w L T s a k b was
-      (wakeAll-held n b (wakeAt w p (ending (head p) a)) (woken w L T E s p hp k a b was) (T₁ n w L T s a k b was) (wake-shown w L T E s p hp k a b was ready) (insert-sorted precedes precedes-order (withReturning true (transactionAt w k)) (T rel) ready) a (wake-rows w L T E s p hp k a b was) (omega arith))
+      (wakeAll-held n b (wakeAt w p (ending (head p) a)) (woken w L T E s p hp k a b was) (T₁ n w L T s a k b was) (wake-shown w L T E s p hp k a b was ready) (wake-ready w L T E s p hp k a b was ready) a (wake-rows w L T E s p hp k a b was) (omega arith))
       (rw (ending-append (head p) a (k ∷ [])) at (wakeAll-held n b w L T s ready (a ++ k ∷ []) (was ∙ sym (append-assoc a (k ∷ []) b)) (omega arith)))
