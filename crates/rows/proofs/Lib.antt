@@ -16,6 +16,7 @@ pub mod Showing
 pub mod Ordering
 pub mod Put
 pub mod Take
+pub mod Removal
 pub mod Write
 pub mod Fields
 pub mod Loose

@@ -8,7 +8,7 @@ use lib.ListN.{drop}
 use Rattle.rows.specs.Layout.{place, link, head, tail, fel, free, nowhere, fieldAt, listCount}
 use Rattle.rows.specs.Cells.{load, store, read, write}
 use Rattle.rows.specs.Order.{ahead}
-use Rattle.rows.specs.Lists.{endAt, insertAt, removeRow, removeAt, spot, put, first, takeFirst}
+use Rattle.rows.specs.Lists.{endAt, insertAt, removeRow, removeAt, spot, put, first, takeFirst, cellOf, remove}
 use Rattle.rows.specs.Wake.{wakeRow, wakeAt, passRows, passCell, wakeAll}
 use Rattle.rows.specs.Clock.{isDue, arriveRow, arriveFirst, arrived, arrive}
 use Rattle.rows.specs.Make.{clearParameters, copyParameters, describe, newbornAt, copyAt, freeRow, emptyList, emptyLists, looseRows, freeRows, initial}
@@ -58,6 +58,10 @@ past-put w p k = past-insertAt w p (spot (ahead w p) w p k) k
 
 pub past-takeFirst : (w : List ℕ) (p : ℕ) → past (takeFirst w p) ≡ past w
 past-takeFirst w p = past-removeAt w p (head p)
+
+pub past-remove : (w : List ℕ) (p k : ℕ) → past (remove w p k) ≡ past w
+unfolding remove
+past-remove w p k = past-removeAt w p (cellOf w p k)
 
 -- ---- Waking
 
