@@ -1,5 +1,6 @@
 // Covrith for other languages: functions that C, or Rust by C's calling convention, can call. include/covrith.h declares them.
 // A slice crosses the boundary as a pointer and a length in elements.
+use machine::refusals::NO_MORE;
 use trace::Reading;
 use trace::Written;
 ghost use mathlib.Core.Path.{_≡_};
@@ -11,6 +12,11 @@ ghost use Rattle.engine.specs.Contract.{Contract};
 ghost use Rattle.covrith.specs.Answers.{readAnswer, readNumbers, writeAnswer, writeCount};
 ghost use Rattle.covrith.specs.Results.{results};
 
+// The eight results of a run; a record and the position behind it.
+pub const OUTCOME: usize = 8;
+
+pub const RECORD: usize = 5;
+
 // One run of a model on a tape. `outcome` gets the eight results.
 #[no_mangle]
 pub extern "C" fn covrith_run(
@@ -20,7 +26,7 @@ pub extern "C" fn covrith_run(
     work: &mut [u32],
     trace: &mut [u8],
     report: &mut [u8],
-    outcome: &mut [u64; 8],
+    outcome: &mut [u64; OUTCOME],
 )
     ensures { λ _. ⌜ Contract (now (model .entry)) (now (tape .entry)) budget (now (work .entry)) (now (trace .entry)) (now (report .entry)) (results (now (outcome .exit))) (now (work .exit)) (now (trace .exit)) (now (report .exit)) ⌝ }
 {
@@ -39,7 +45,11 @@ pub extern "C" fn covrith_run(
 
 // The record at a position of a trace.
 #[no_mangle]
-pub extern "C" fn covrith_read_record(trace: &[u8], position: usize, numbers: &mut [u64; 5]) -> u32
+pub extern "C" fn covrith_read_record(
+    trace: &[u8],
+    position: usize,
+    numbers: &mut [u64; RECORD],
+) -> u32
     ensures { λ r. ⌜ r ≡ readAnswer (readRecord (now (trace .entry)) position) ⌝ }
     ensures { λ _. ⌜ now (numbers .exit) ≡ readNumbers (readRecord (now (trace .entry)) position) (now (numbers .entry)) ⌝ }
 {
@@ -49,7 +59,7 @@ pub extern "C" fn covrith_read_record(trace: &[u8], position: usize, numbers: &m
             0
         }
         Reading::Refused(n) => n,
-        Reading::NoMore => 30,
+        Reading::NoMore => NO_MORE,
     }
 }
 

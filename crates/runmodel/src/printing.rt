@@ -1,6 +1,4 @@
 // What is printed.
-use crate::REPORT_BYTES;
-use crate::WORK_NUMBERS;
 use crate::lines::LINE;
 use crate::lines::line;
 use codec::Read;
@@ -8,15 +6,17 @@ use decode::Decoded;
 use engine::Outcome;
 use libc::STDOUT_FILENO;
 use machine::Model;
+use tables::LIST_CELLS;
 use tables::TABLES;
 use trace::Reading;
 ghost use mathlib.Core.Path.{_≡_};
 ghost use Prim.Native.Nat.{_+_, _*_, _≤_};
 ghost use lib.ListN.{length};
+ghost use Rattle.runmodel.specs.Line.{numberRoom, lineRoom};
 
 // Each function that prints answers whether all of it could be written.
 fn print_line(letters: &[u8], numbers: &[u64]) -> bool
-    requires { ⌜ length (now letters) + 21 * length (now numbers) ≤ 134 ⌝ }
+    requires { ⌜ length (now letters) + numberRoom * length (now numbers) ≤ lineRoom ⌝ }
 {
     let mut out = [0u8; LINE];
     let n = line(&mut out, letters, numbers);
@@ -141,12 +141,12 @@ fn print_report(m: Model, outcome: Outcome, report: &[u8]) -> bool {
 // How many servers and queues an accepted model has.
 fn header(model: &[u8], tape: &[u8]) -> Model {
     let mut tables = [0u32; TABLES];
-    let mut lists = [0u64; 32];
+    let mut lists = [0u64; LIST_CELLS];
     match decode::decode(
         model,
         tape,
-        WORK_NUMBERS,
-        REPORT_BYTES,
+        Model::WORK_NUMBERS,
+        Model::REPORT_ROOM,
         &mut tables,
         &mut lists,
     ) {

@@ -5,7 +5,7 @@ use mathlib.Core.Bool.{Bool, true, _&&_}
 use mathlib.Core.List.{List, [], _++_}
 use lib.Dec.{leb, T}
 use lib.ListN.{length, getD, take, drop, replicate}
-use Rattle.machine.specs.Limits.{maxConstant, maxTime}
+use Rattle.machine.specs.Limits.{maxConstant, maxTime, maxLists}
 use Rattle.machine.specs.Parser.{Cursor, parsed, times, field}
 use Rattle.machine.specs.Term.{Term, constant, minusConstant, parameter, clockTerm, entriesOf, contentOf, unitsInUse, unitsFree, facilityInUse, value, comparison, bracket, Sum, nothing, plus, minus}
 use Rattle.machine.specs.Block.{Block, generate, advance, terminate, seize, release, enter, leave, waitServer, waitTerms, branch, goto, assign, priority, split, arrive, depart, BlockModel}
@@ -79,7 +79,7 @@ pub record Represents (m : BlockModel) (tape : List (List ℕ)) (tapeBytes table
   pub values : (k : ℕ) → k < length (m .values) → At tables (Layout.values + Layout.valueWidth * k) (sumNumbers (getD (m .values) k nothing))
   pub small-values : (k : ℕ) → T (smallSum (getD (m .values) k nothing))
   -- of all 64 servers; 0 where there is none
-  pub capacities : (v : ℕ) → v < 64 → getD tables (Layout.capacities + v) 0 ≡ getD (replicate (m .facilities) 1 ++ m .capacities) v 0
+  pub capacities : (v : ℕ) → v < Layout.serverCount → getD tables (Layout.capacities + v) 0 ≡ getD (replicate (m .facilities) 1 ++ m .capacities) v 0
   -- list k: where its times begin, at k, and its count, at 16 + k; a list that is not there has no times
   pub begins : (k : ℕ) → k < m .lists → TimesAt tapeBytes (getD lists k 0) (getD tape k [])
-  pub counts : (k : ℕ) → k < 16 → getD lists (16 + k) 0 ≡ length (getD tape k [])
+  pub counts : (k : ℕ) → k < maxLists → getD lists (Layout.listCounts + k) 0 ≡ length (getD tape k [])

@@ -4,6 +4,10 @@ use codec::Field;
 use codec::number_len;
 use codec::read_field;
 use codec::write_number;
+use machine::Model;
+use machine::refusals::NO_ROOM;
+use machine::refusals::TRACE_NUMBER;
+use machine::refusals::TRACE_RANGE;
 ghost use mathlib.Core.Path.{_≡_};
 ghost use Prim.Native.Nat.{ℕ, _+_, _≤_};
 ghost use lib.ListN.{length};
@@ -12,14 +16,13 @@ ghost use Rattle.machine.specs.Number.{countLow};
 ghost use Rattle.machine.specs.Trace.{recordBytes, readRecord, inRanges, writeRecord};
 ghost use Rattle.trace.specs.Answers.{entry, readingOf, writingOf, after};
 
-// "Clock to 2,000,000,000, transaction 1..100,000,000, block 1..256, outcome 0..1"
-const MAX_CLOCK: u64 = 2_000_000_000;
-
-const MAX_TRANSACTION: u64 = 100_000_000;
-
-const MAX_BLOCK: u64 = 256;
+// "block 1..256, outcome 0..1"
+const MAX_BLOCK: u64 = Model::MAX_BLOCKS as u64;
 
 const MAX_OUTCOME: u64 = 1;
+
+// "the bytes below 80 hexadecimal"
+const HIGH: u8 = 0x80;
 
 pub struct Record {
     pub clock: u64,
@@ -48,13 +51,19 @@ pub fn read_record(s: &[u8], at: usize) -> Reading
     if s.len() <= at {
         return Reading::NoMore;
     }
-    match read_field(s, at, 0, MAX_CLOCK, 31) {
+    match read_field(s, at, 0, Model::MAX_CLOCK, TRACE_NUMBER) {
         Field::Refused(n) => Reading::Refused(n),
-        Field::Value(clock, p1) => match read_field(s, p1, 1, MAX_TRANSACTION, 31) {
+        Field::Value(clock, p1) => match read_field(
+            s,
+            p1,
+            1,
+            Model::MAX_TRANSACTION,
+            TRACE_NUMBER,
+        ) {
             Field::Refused(n) => Reading::Refused(n),
-            Field::Value(transaction, p2) => match read_field(s, p2, 1, MAX_BLOCK, 31) {
+            Field::Value(transaction, p2) => match read_field(s, p2, 1, MAX_BLOCK, TRACE_NUMBER) {
                 Field::Refused(n) => Reading::Refused(n),
-                Field::Value(block, p3) => match read_field(s, p3, 0, MAX_OUTCOME, 31) {
+                Field::Value(block, p3) => match read_field(s, p3, 0, MAX_OUTCOME, TRACE_NUMBER) {
                     Field::Refused(n) => Reading::Refused(n),
                     Field::Value(outcome, next) => Reading::Taken(
                         Record {
@@ -74,13 +83,13 @@ pub fn read_record(s: &[u8], at: usize) -> Reading
 fn in_ranges(clock: u64, transaction: u64, block: u64, outcome: u64) -> bool
     ensures { λ r. ⌜ r ≡ inRanges (entry clock transaction block outcome) ⌝ }
 {
-    if MAX_CLOCK < clock {
+    if Model::MAX_CLOCK < clock {
         return false;
     }
     if transaction < 1 {
         return false;
     }
-    if MAX_TRANSACTION < transaction {
+    if Model::MAX_TRANSACTION < transaction {
         return false;
     }
     if block < 1 {
@@ -122,11 +131,11 @@ pub fn write_record(
     ensures count { λ r. ⌜ ((n : ℕ) → r ≡ Written.Bytes n → (n ≡ length (recordBytes (entry clock transaction block outcome))) × (n ≤ length (now (rest .entry)))) ⌝ }
 {
     if !in_ranges(clock, transaction, block, outcome) {
-        return Written::Refused(32);
+        return Written::Refused(TRACE_RANGE);
     }
     let len = record_len(clock, transaction, block, outcome);
     if rest.len() < len {
-        return Written::Refused(33);
+        return Written::Refused(NO_ROOM);
     }
     put_record(rest, clock, transaction, block, outcome);
     Written::Bytes(len)
@@ -139,7 +148,7 @@ pub fn count_low(s: &[u8]) -> u64
     let mut count: u64 = 0;
     let mut i = 0;
     while i < s.len() {
-        if s[i] < 128 {
+        if s[i] < HIGH {
             count += 1;
         }
         i += 1;
