@@ -180,7 +180,7 @@ fn program(s: &[u8], tables: &mut [u32; TABLES], m: Model, p: Place) -> Header
 
 // Questions 3 and 4 of the whole model, and 5 of its values.
 fn model(s: &[u8], tables: &mut [u32; TABLES]) -> Header
-    ensures { λ r. ⌜ Stage modelShape noModel noPlace (now (tables .entry)) (now (tables .exit)) r (modelFields (now (s .entry) inForce) inForce beginning) ⌝ }
+    ensures { λ r. ⌜ Stage modelShape noModel noPlace (now (tables .entry)) (now (tables .exit)) r (modelFields (now (s .entry)) inForce beginning) ⌝ }
 {
     let start = Place {
         position: 0,

@@ -22,6 +22,7 @@ use Rattle.rows.specs.Make.{freeRow}
 use Rattle.rows.specs.Holds.{update}
 use Rattle.rows.specs.Shows.{Shown}
 use Rattle.rows.proofs.Showing.{update-same}
+use Rattle.rows.proofs.Ordering.{shows-ext}
 use Rattle.rows.proofs.Spot.{short}
 use Rattle.rows.proofs.Making.{free-shown}
 use Rattle.state.specs.declared.scalars.Scalars.{Scalars}
@@ -52,7 +53,9 @@ module _ (w : List ℕ) (k : ℕ) (t : Transaction) (s s′ : State) (h : Listin
   pub free-listing : ((q : ℕ) → listsOf s q ≡ listsOf s′ q) → s .fel ≡ s′ .fel → s′ .made ≡ s .made → s′ .ended ≡ suc (s .ended) → Listing (freeRow w k) 1024 none s′
   free-listing lists future made ended =
       record {
-        shows = record { rows = update free (k ∷ L free) L; shown = record { holds = freed .holds; lists = λ p hp. freed .lists p hp ∙ lists p; future = freed .future ∙ future; spare = freed .spare } };
+        shows =
+            shows-ext (freeRow w k) (listsOf s) (listsOf s′) (s .fel) (s′ .fel) (λ q hq. lists q) future
+            (record { rows = update free (k ∷ L free) L; shown = freed; ordered = h .shows .ordered });
         mover = refl;
         spare = rw (made, ended) (omega (arith, h .spare, living));
       }

@@ -2,6 +2,7 @@
 // taken; then a number past the 16,384th, which must be as it was.
 
 use rows::FEL;
+use rows::HEADS;
 use rows::NUMBER;
 use rows::REL;
 use rows::ROWS;
@@ -15,6 +16,8 @@ const LENT: usize = 16_400;
 
 // The QL of the first server.
 const QL: u32 = 0;
+
+const QL_HEAD: u32 = HEADS + QL;
 
 // A new transaction on list p.
 fn enter(w: &mut [u32], p: u32, number: u32, priority: u32, time: u32)
@@ -102,6 +105,23 @@ fn queue(w: &mut [u32])
     drain(w, QL);
 }
 
+// The second of a queue leaves, wherever it stands: 1 3 are left.
+fn middle(w: &mut [u32])
+    requires { ⌜ Room (now w) ⌝ }
+{
+    enter(w, QL, 1, 0, 0);
+    enter(w, QL, 2, 0, 0);
+    enter(w, QL, 3, 0, 0);
+    let second = rows::wake::after(w, QL_HEAD);
+    let k = rows::cells::load(w, second);
+    if k >= ROWS {
+        return;
+    }
+    rows::lists::remove(w, QL, k);
+    rows::make::free_row(w, k);
+    drain(w, QL);
+}
+
 fn exercise(w: &mut [u32])
     requires { ⌜ Room (now w) ⌝ }
 {
@@ -111,6 +131,7 @@ fn exercise(w: &mut [u32])
     drain(w, REL);
     drain(w, FEL);
     queue(w);
+    middle(w);
 }
 
 fn main() {

@@ -10,8 +10,9 @@ use Rattle.rows.specs.Layout.{place, head, tail, free, nowhere, links, l
 use Rattle.rows.specs.Cells.{load, store}
 use Rattle.rows.specs.Make.{emptyList, emptyLists, looseRows, freeRow, freeRows, initial}
 use Rattle.rows.specs.Living.{loose}
-use Rattle.rows.specs.Holds.{occurs, Chain, ending, Sorted, Listed, update}
-use Rattle.rows.specs.Shows.{Shown, Shows, Loose}
+use Rattle.rows.specs.Holds.{occurs, Chain, ending, Listed, update}
+use Rattle.rows.specs.Ordered.{Sorted, Ordered}
+use Rattle.rows.specs.Shows.{Shown, Held, Shows, Loose}
 use Rattle.rows.proofs.Store.{length-store, load-same, load-other}
 use Rattle.rows.proofs.Occurs.{same-other}
 use Rattle.rows.proofs.Sums.{sum-zero}
@@ -100,10 +101,9 @@ module _ (w : List ℕ) (room : 16384 ≤ length w) where
       }
 
   nothing-shown : Shown v (λ p. []) (λ p. []) []
-  unfolding Sorted
   nothing-shown =
       record {
-        holds = record { room = room-v; listed = empty-listed; sorted = λ p hp. tt };
+        holds = record { room = room-v; listed = empty-listed };
         lists = λ p hp. refl;
         future = refl;
         spare = λ p a b. refl;
@@ -113,20 +113,20 @@ module _ (w : List ℕ) (room : 16384 ≤ length w) where
 
 -- what freeing rows 0..n - 1 leaves
 record Freed (w : List ℕ) (n : ℕ) (T : ℕ → List Transaction) (E : List Event) : Type 0 where
-  shows : Shows (freeRows n w) T E
+  held : Held (freeRows n w) T E
   loose : (j : ℕ) → n ≤ j → j < 1024 → Loose (freeRows n w) j
   placed : (j : ℕ) → j < n → load (freeRows n w) (place j) < listCount
 
 freed : (w : List ℕ) (L : ℕ → List ℕ) (T : ℕ → List Transaction) (E : List Event) → Shown w L T E → ((k : ℕ) → k < 1024 → Loose w k) → (n : ℕ) → n ≤ 1024 → Freed w n T E
 unfolding freeRows
 freed w L T E s off zero hn =
-    record { shows = record { rows = L; shown = s }; loose = λ j a b. off j b; placed = λ j h. absurd (omega arith) }
+    record { held = record { rows = L; shown = s }; loose = λ j a b. off j b; placed = λ j h. absurd (omega arith) }
 freed w L T E s off (suc n) hn = go (freed w L T E s off n (omega arith))
   where
     go : Freed w n T E → Freed w (suc n) T E
     go f =
         record {
-          shows = record { rows = update free (n ∷ f .shows .rows free) (f .shows .rows); shown = free-shown u (f .shows .rows) T E (f .shows .shown) n free-n };
+          held = record { rows = update free (n ∷ f .held .rows free) (f .held .rows); shown = free-shown u (f .held .rows) T E (f .held .shown) n free-n };
           loose = λ j a b. record { row = b; off = keeps .places j b (λ e. omega arith) ∙ f .loose j (omega arith) b .off };
           placed = λ j h. here j h (ℕ-discrete j n);
         }
@@ -138,11 +138,11 @@ freed w L T E s off (suc n) hn = go (freed w L T E s off n (omega arith))
         free-n = f .loose n (omega arith) (omega arith)
 
         keeps : Kept (freeRows n w) (freeRow (freeRows n w) n) n
-        keeps = free-keeps (freeRows n w) (f .shows .rows) T E (f .shows .shown) n free-n
+        keeps = free-keeps (freeRows n w) (f .held .rows) T E (f .held .shown) n free-n
 
         here : (j : ℕ) → j < suc n → Dec (j ≡ n) → load (freeRow (freeRows n w) n) (place j) < listCount
         here j h (yes e) =
-            rw e (omega (arith, free-placed (freeRows n w) (f .shows .rows) T E (f .shows .shown) n free-n))
+            rw e (omega (arith, free-placed (freeRows n w) (f .held .rows) T E (f .held .shown) n free-n))
         here j h (no d) =
             let l : j < n = omega arith in
             rw (keeps .places j (omega arith) d) (f .placed j l)
@@ -154,8 +154,9 @@ module _ (w : List ℕ) (room : 16384 ≤ length w) where
   start = freed (v w room) (λ p. []) (λ p. []) [] (nothing-shown w room) (all-loose w room) 1024 (omega arith)
 
   pub initial-shows : Shows (initial w) (λ p. []) []
-  unfolding initial
-  initial-shows = start .shows
+  unfolding initial Sorted
+  initial-shows =
+      record { rows = start .held .rows; shown = start .held .shown; ordered = record { lists = λ p hp. tt; future = tt } }
 
   pub initial-loose : loose (initial w) ≡ 0
   unfolding initial loose

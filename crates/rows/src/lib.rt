@@ -14,7 +14,7 @@ pub const ROWS: u32 = 1_024;
 
 pub const FIELDS: u32 = 16;
 
-pub const WORK_NUMBERS: u32 = 16_384;
+pub const WORK_NUMBERS: u32 = FIELDS * ROWS;
 
 // Fields of a row.
 pub const NUMBER: u32 = 0;
@@ -37,17 +37,24 @@ pub const TIME: u32 = 8;
 
 pub const PLACE: u32 = 12;
 
+pub const LINK: u32 = 13;
+
+// Fields of the lists.
+pub const HEAD: u32 = 14;
+
+pub const TAIL: u32 = 15;
+
+// Where those four fields begin.
+pub const PLACES: u32 = PLACE * ROWS;
+
+pub const LINKS: u32 = LINK * ROWS;
+
+pub const HEADS: u32 = HEAD * ROWS;
+
+pub const TAILS: u32 = TAIL * ROWS;
+
 // From here on, the serials of one more clock move may not fit 32 bits.
 pub const SERIAL_END: u32 = 4_000_000_000;
-
-// Fields of the lists: where the place and the link of row 0, the head and the tail of list 0 stand.
-pub const PLACES: u32 = 12_288;
-
-pub const LINKS: u32 = 13_312;
-
-pub const HEADS: u32 = 14_336;
-
-pub const TAILS: u32 = 15_360;
 
 // Lists: the QL of a server is its number less one, its WELs follow from WELS on; then four by name.
 pub const LISTS: u32 = 1_024;

@@ -21,7 +21,7 @@ use Rattle.rows.specs.Make.{initial}
 use Rattle.rows.specs.Living.{onLists}
 use Rattle.rows.specs.Shows.{Shows}
 use Rattle.rows.proofs.Sums.{sum-zero}
-use Rattle.rows.proofs.Showing.{shown-ext}
+use Rattle.rows.proofs.Ordering.{shows-ext}
 use Rattle.rows.proofs.Starting.{initial-shows, initial-loose}
 use Rattle.rows.proofs.Population.{population}
 use Rattle.state.specs.Stands.{Rows, rowsOf, listsOf, Listing, Counting, Stands}
@@ -59,7 +59,7 @@ module _ (m : BlockModel) (tape : List (List ℕ)) where
     unfolding idle
     idle-listing =
         record {
-          shows = record { rows = begun .rows; shown = shown-ext (initial w) (begun .rows) (λ p. []) (listsOf (idle m tape)) [] no-lists (begun .shown) };
+          shows = shows-ext (initial w) (λ p. []) (listsOf (idle m tape)) [] [] no-lists refl begun;
           mover = refl;
           spare = omega (arith, population (initial w) (begun .rows) (λ p. []) [] (begun .shown), nobody, initial-loose w room);
         }
