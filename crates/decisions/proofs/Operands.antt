@@ -46,7 +46,8 @@ module _ {m : BlockModel} {tape : List (List ℕ)} {tapeBytes tables lists : Lis
     pub assign-term : (k : ℕ) (a : Term) → getD (m .blocks) i (terminate 0) ≡ assign k a → T (smallTerm a) × T (nestedTerm 0 a)
     unfolding nestedBlock blockForms
     assign-term k a e =
-        (subst (λ (x : Block). T (smallBlock x)) e (rep .small-blocks i), subst (λ (x : Block). T (nestedBlock x)) e (nested .blocks i))
+        (and-left (smallTerm a) true (subst (λ (x : Block). T (smallBlock x)) e (rep .small-blocks i)),
+        and-left (nestedTerm 0 a) true (subst (λ (x : Block). T (nestedBlock x)) e (nested .blocks i)))
 
     -- the target of an IF stands behind two terms and a relation
     pub branch-target : (a : Term) (o : Relation) (b : Term) (target : ℕ) → getD (m .blocks) i (terminate 0) ≡ branch a o b target → getD tables (Layout.blockWidth * i + 6) 0 ≡ target
@@ -54,8 +55,8 @@ module _ {m : BlockModel} {tape : List (List ℕ)} {tapeBytes tables lists : Lis
     branch-target a o b target e =
         let base = Layout.blockWidth * i in
         let both : T (nestedBlock (branch a o b target)) = subst (λ (x : Block). T (nestedBlock x)) e (nested .blocks i) in
-        let left = two-numbers a (and-left (nestedTerm 0 a) (nestedTerm 0 b) both) in
-        let right = two-numbers b (and-right (nestedTerm 0 a) (nestedTerm 0 b) both) in
+        let left = two-numbers a (and-left (nestedTerm 0 a) (nestedTerm 0 b && true) both) in
+        let right = two-numbers b (and-left (nestedTerm 0 b) true (and-right (nestedTerm 0 a) (nestedTerm 0 b && true) both)) in
         let rest = termNumbers b ++ (target ∷ []) in
         let first = at-first tables base 10 (termNumbers a ++ (relationNumber o ∷ rest)) (numbers (branch a o b target) e) .after in
         let relation = at-back tables (base + 1) (termNumbers a) (relationNumber o ∷ rest) first in

@@ -131,8 +131,8 @@ module _ {m : BlockModel} {tape : List (List ℕ)} {tapeBytes tables lists : Lis
   -- ---- 15 ARRIVE
 
   pub arrive-done : (q : ℕ) → blockAt m (t .next) ≡ arrive q
-      → Done tapeBytes (Rows.arrive tables (r .work) (r .tally) x base) (bareAnswer (question (arrive q) s) m (arrive q) t s)
-  unfolding Rows.arrive question bareAnswer bare
+      → Done tapeBytes (Rows.arrive tables (r .work) (r .tally) x base) (bareAnswer (question m (arrive q) s) m (arrive q) t s)
+  unfolding Rows.arrive question askContent bareAnswer bare changed
   arrive-done q e =
       let named : Names (m .queues) q = subst (ProperBlock m) e (proper .block (t .next)) in
       let found : getD tables (base + 1) 0 ≡ q - 1 = arrive-queue rep i there q e in
@@ -144,12 +144,12 @@ module _ {m : BlockModel} {tape : List (List ℕ)} {tapeBytes tables lists : Lis
 
   -- with content, it goes on with one less
   less : (q c : ℕ) → queueAt (s .view) q .content ≡ c → bareAnswer 0 m (depart q) t s ≡ entering (Moves.goOn t (Moves.setContent q (c - 1) alone))
-  unfolding bareAnswer bare
+  unfolding bareAnswer bare changed
   less q c f = ap (λ (n : ℕ). entering (Moves.goOn t (Moves.setContent q (n - 1) alone))) f
 
   pub depart-done : (q : ℕ) → blockAt m (t .next) ≡ depart q
-      → Done tapeBytes (Rows.depart tables (r .work) (r .tally) x base) (bareAnswer (question (depart q) s) m (depart q) t s)
-  unfolding Rows.depart question
+      → Done tapeBytes (Rows.depart tables (r .work) (r .tally) x base) (bareAnswer (question m (depart q) s) m (depart q) t s)
+  unfolding Rows.depart question askContent
   depart-done q e =
       let named : Names (m .queues) q = subst (ProperBlock m) e (proper .block (t .next)) in
       let found : getD tables (base + 1) 0 ≡ q - 1 = depart-queue rep i there q e in

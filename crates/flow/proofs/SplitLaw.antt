@@ -135,7 +135,7 @@ module _ (m : BlockModel) (tape : List (List ℕ)) (tapeBytes tables lists : Lis
   rows-are : splitRows tables w tally x at ≡ cond (eqb q 0) (withTally (splitOn w x n target) tally) (rowsOf (stopped x q) w tally)
   unfolding splitRows
   rows-are =
-      rw (count-is, target-is, room-asked x s (stands .counting) n (sane .living) (omega (arith, named .0 .1)))
+      rw (count-is, target-is, room-asked m (sane .rules) x s (stands .counting) n (sane .living) (omega (arith, named .0 .1)))
 
   abbrev t′ : Transaction
   t′ = withReturning false (withNext (suc (t .next)) t)
@@ -182,7 +182,7 @@ module _ (m : BlockModel) (tape : List (List ℕ)) (tapeBytes tables lists : Lis
     copied =
         subst (λ (z : Moved). Done tapeBytes (withTally z tally) (bare m b t s₀)) (sym split-is) done
 
-  pub split-done : Done tapeBytes (splitRows tables (r .work) (r .tally) (r .scalars) (8 * (t .next - 1))) (bareAnswer (question b s) m b t s)
+  pub split-done : Done tapeBytes (splitRows tables (r .work) (r .tally) (r .scalars) (8 * (t .next - 1))) (bareAnswer (question m b s) m b t s)
   unfolding question
   split-done =
       subst (λ (rows : Rows). Done tapeBytes rows (bareAnswer q m b t s)) (sym rows-are)

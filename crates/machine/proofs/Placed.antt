@@ -9,7 +9,7 @@ use lib.Dec.{T, leb}
 use lib.ListN.{length, getD}
 use Rattle.machine.specs.Limits.{maxPriority}
 use Rattle.machine.specs.Transaction.{Transaction, newborn}
-use Rattle.machine.specs.Term.{compare, serverAt, free, truth, Condition, always, never, whenTrue}
+use Rattle.machine.specs.Term.{compare, serverAt, free, truth, Condition, always, whenTrue}
 use Rattle.machine.specs.Block.{Share, facility, storage, shareServer, shareUnits, Block, generate, advance, terminate, takes, frees, waitServer, waitTerms, moves, assign, priority, split, counts, facts, BlockModel, blockAt, status, unconditional}
 use Rattle.machine.specs.State.{State}
 use Rattle.machine.specs.Setters.{withNext, setMoving, setTurns}
@@ -89,7 +89,6 @@ module _ (m : BlockModel) (tape : List (List ℕ)) (proper : Proper m tape) wher
         → P (withNext (cond (truth (m .values) (s .view) (t .parameters) c) target (suc (t .next))) t)
     unfolding truth unconditional
     moves-placed always target ok on = (ok, p .1)
-    moves-placed never target ok on = on refl
     moves-placed (whenTrue a r b) target ok on =
         cond-cases (λ (n : ℕ). P (withNext n t)) (compare (m .values) (s .view) (t .parameters) a r b) _ _ (λ e. (ok, p .1)) (λ e. on refl)
 

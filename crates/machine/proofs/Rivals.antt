@@ -5,16 +5,17 @@ use mathlib.Core.Path.{_≡_, refl, sym, ap, ap₂, subst, _∙_}
 use mathlib.Core.Logic.{_⊎_, inl, inr}
 use mathlib.Core.Bool.{Bool, true, false, cond, true≢false}
 use mathlib.Core.List.{List, [], _∷_}
+use mathlib.Core.Option.{none}
 use native.Mathlib.Omega.{arith}
 use lib.Dec.{eqb, ltb, leb}
 use lib.ListN.{length, getD}
 use borrow.Author.Tests.{ltb-true, ltb-false}
 use Rattle.machine.specs.Transaction.{Transaction, precedes}
 use Rattle.machine.specs.Lists.{flat}
-use Rattle.machine.specs.Term.{View, free, never, truth}
+use Rattle.machine.specs.Term.{View, free}
 use Rattle.machine.specs.Block.{down, Block, generate, advance, terminate, takes, frees, waitServer, waitTerms, moves, assign, priority, split, counts, facts, BlockModel, blockAt}
 use Rattle.machine.specs.State.{State}
-use Rattle.machine.specs.Turn.{waitsOn}
+use Rattle.machine.specs.Turn.{holds, waitsOn}
 use Rattle.machine.specs.Claims.{Each, bit}
 use Rattle.machine.proofs.Proper.{servers}
 use Rattle.machine.proofs.RunLaws.{cond-cases}
@@ -31,7 +32,7 @@ use Rattle.machine.proofs.OpenPairs.{key, Pair, pair, is, only, only-se
 -- ---- A block that takes a server lets wait on no WEL and not on the WSL
 
 OnlyQl : Block → Type 0
-OnlyQl b = (facts b .wel ≡ 0) × (facts b .waitsWhile ≡ never)
+OnlyQl b = (facts b .wel ≡ 0) × (facts b .waitsWhile ≡ none)
 
 takes-or-not : (b : Block) → (facts b .server ≡ 0) ⊎ OnlyQl b
 unfolding facts OnlyQl
@@ -132,8 +133,8 @@ module _ (m : BlockModel) (tape : List (List ℕ)) (t : Transaction) (s : State)
       (λ u p q. unless-before u t (before u (only-equal w _ (marked-weight (u .returning) _ p))) q)
 
   on-wsl : Some (λ u. 0 < weight (only w) u) (s .wsl) → ⊥
-  unfolding OnlyQl waitsOn truth
-  on-wsl h = some-each (s .wsl) h (in-place .settled) (λ u p q. true≢false (sym q ∙ ap (truth (m .values) (s .view) (u .parameters)) (only-ql u (only-equal w _ p) .1)))
+  unfolding OnlyQl waitsOn holds
+  on-wsl h = some-each (s .wsl) h (in-place .settled) (λ u p q. true≢false (sym q ∙ ap (holds (m .values) (s .view) (u .parameters)) (only-ql u (only-equal w _ p) .1)))
 
   on-wel : (i : ℕ) → Some (λ u. 0 < weight (only w) u) (getD (s .wel) i []) → ⊥
   unfolding OnlyQl

@@ -3,10 +3,11 @@
 use Prim.Native.Nat.{ℕ, suc, _+_, _*_, _-_}
 use mathlib.Core.Bool.{Bool, true, false, not}
 use mathlib.Core.List.{List, [], _∷_}
+use mathlib.Core.Option.{some}
 use lib.Dec.{ltb, eqb}
 use Rattle.machine.specs.Lists.{nth}
 use Rattle.machine.specs.Rules.{Rules}
-use Rattle.machine.specs.Term.{Server, Term, Relation, Condition, always, never, whenTrue, Sum}
+use Rattle.machine.specs.Term.{Server, Term, Relation, Condition, always, whenTrue, Sum}
 use Rattle.machine.specs.Facts.{Facts, noFacts, setGenerates, setRank, setUses, setTerminates, setCopies, setServer, setUnits, setQueue, setTarget, setLeaves, setWel, setWaitsWhile, setTerms}
 
 -- Lists, "WEL: one per server and status code: 1 U (in use), 2 NU for facilities; 3 E (empty), 4 NE, 5 F (full), 6 NF for storages."
@@ -111,13 +112,11 @@ arrivals down q = 0
 -- does nothing go on past the block?
 unfoldable pub unconditional : Condition → Bool
 unconditional always = true
-unconditional never = false
 unconditional (whenTrue a r b) = false
 
 -- the terms of a condition
 unfoldable pub compared : Condition → List Term
 compared always = []
-compared never = []
 compared (whenTrue a r b) = a ∷ b ∷ []
 
 unfoldable pub facts : Block → Facts
@@ -127,7 +126,7 @@ facts (terminate a) = setTerminates 1 (setLeaves true noFacts)
 facts (takes x) = setServer (shareServer x) (setUnits (shareUnits x) noFacts)
 facts (frees x) = noFacts
 facts (waitServer code v) = setWel (suc (welIndex v code)) noFacts
-facts (waitTerms a r b) = setWaitsWhile (whenTrue a r b) (setTerms (a ∷ b ∷ []) noFacts)
+facts (waitTerms a r b) = setWaitsWhile (some (whenTrue a r b)) (setTerms (a ∷ b ∷ []) noFacts)
 facts (moves c target) = setTarget target (setLeaves (unconditional c) (setTerms (compared c) noFacts))
 facts (assign k a) = setTerms (a ∷ []) noFacts
 facts (priority p) = noFacts

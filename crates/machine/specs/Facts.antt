@@ -1,9 +1,10 @@
--- What counts, statistics, questions and lists ask of a block, whatever else it does: 0, false and never where there is none.
+-- What counts, statistics, questions and lists ask of a block, whatever else it does: 0, false and none where there is none.
 use Prim.Native.Nat.{ℕ}
 use mathlib.Core.Bool.{Bool, false, not}
 use mathlib.Core.List.{List, []}
+use mathlib.Core.Option.{Option, none}
 use lib.Dec.{eqb}
-use Rattle.machine.specs.Term.{Term, Condition, never}
+use Rattle.machine.specs.Term.{Term, Condition}
 
 pub record Facts : Type 0 where
   -- the list and the priority of a GENERATE
@@ -27,7 +28,7 @@ pub record Facts : Type 0 where
   -- one more than the place of the WEL on which a WAITIF of a code lets wait
   pub wel : ℕ
   -- while what a WAITIF of terms lets wait
-  pub waitsWhile : Condition
+  pub waitsWhile : Option Condition
   -- the terms that it reads
   pub terms : List Term
 
@@ -36,7 +37,7 @@ isGenerate f = not (eqb (f .generates) 0)
 
 -- of a block that does none of this
 abbrev pub noFacts : Facts
-noFacts = record { generates = 0; rank = 0; uses = 0; terminates = 0; copies = 0; server = 0; units = 0; queue = 0; target = 0; leaves = false; wel = 0; waitsWhile = never; terms = [] }
+noFacts = record { generates = 0; rank = 0; uses = 0; terminates = 0; copies = 0; server = 0; units = 0; queue = 0; target = 0; leaves = false; wel = 0; waitsWhile = none; terms = [] }
 
 -- ---- Setters
 
@@ -73,7 +74,7 @@ setLeaves x f = record { generates = f .generates; rank = f .rank; uses = f .use
 abbrev pub setWel : ℕ → Facts → Facts
 setWel x f = record { generates = f .generates; rank = f .rank; uses = f .uses; terminates = f .terminates; copies = f .copies; server = f .server; units = f .units; queue = f .queue; target = f .target; leaves = f .leaves; wel = x; waitsWhile = f .waitsWhile; terms = f .terms }
 
-abbrev pub setWaitsWhile : Condition → Facts → Facts
+abbrev pub setWaitsWhile : Option Condition → Facts → Facts
 setWaitsWhile x f = record { generates = f .generates; rank = f .rank; uses = f .uses; terminates = f .terminates; copies = f .copies; server = f .server; units = f .units; queue = f .queue; target = f .target; leaves = f .leaves; wel = f .wel; waitsWhile = x; terms = f .terms }
 
 abbrev pub setTerms : List Term → Facts → Facts

@@ -135,11 +135,10 @@ compare values w p a r b = related r (evaluate values w p a) (evaluate values w 
 
 -- none, or a comparison of two terms
 pub data Condition : Type 0 where
-  always never : Condition
+  always : Condition
   whenTrue : (left : Term) (relation : Relation) (right : Term) → Condition
 
 -- "with the transaction's own parameters"
 unfoldable pub truth : List Sum → View → List ℤ → Condition → Bool
 truth values w p always = true
-truth values w p never = false
 truth values w p (whenTrue a r b) = compare values w p a r b

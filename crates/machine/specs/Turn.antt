@@ -4,10 +4,11 @@ use mathlib.Core.Bool.{Bool, false, cond, not}
 use mathlib.Core.List.{List, [], _∷_, map}
 use mathlib.Core.Option.{Option, none, some}
 use lib.Dec.{eqb}
+use lib.IntN.{ℤ}
 use lib.ListN.{length}
 use Rattle.machine.specs.Transaction.{Transaction, Event}
 use Rattle.machine.specs.Lists.{those, others}
-use Rattle.machine.specs.Term.{Server, Queue, View, truth}
+use Rattle.machine.specs.Term.{Server, Queue, View, Sum, Condition, truth}
 use Rattle.machine.specs.Block.{Block, facts, BlockModel, blockAt}
 use Rattle.machine.specs.State.{State}
 use Rattle.machine.specs.Setters.{withReturning, setClock, setServers, setQueues, setView, setRel, setFel, setMoving, setTurns, setEnd}
@@ -86,9 +87,14 @@ execute (some t) m s = let b : Block = blockAt m (t .next) in answer (question m
 
 -- ---- "Unless that ends the run, the WS scheme follows: every WSL member whose comparison no longer holds goes to REL."
 
+-- does a comparison let wait? one that is not there does not
+unfoldable pub holds : List Sum → View → List ℤ → Option Condition → Bool
+holds values w p none = false
+holds values w p (some c) = truth values w p c
+
 -- does the comparison of the WAITIF at which a WSL member stands hold, with its own parameters?
 unfoldable pub waitsOn : BlockModel → View → Transaction → Bool
-waitsOn m w t = truth (m .values) w (t .parameters) (facts (blockAt m (t .next)) .waitsWhile)
+waitsOn m w t = holds (m .values) w (t .parameters) (facts (blockAt m (t .next)) .waitsWhile)
 
 unfoldable pub wsScheme : BlockModel → State → State
 wsScheme m s = cond (eqb (s .end) 0) (wakeWsl (λ t. not (waitsOn m (s .view) t)) s) s

@@ -9,7 +9,7 @@ use borrow.Author.Tests.{ne-eqb}
 use lib.Dec.{eqb, ltb}
 use lib.ListN.{length, getD, replicate, length-set}
 use Rattle.machine.specs.Transaction.{Transaction}
-use Rattle.machine.specs.Block.{Block, generate, advance, terminate, seize, release, enter, leave, waitServer, waitTerms, branch, goto, assign, priority, split, arrive, depart, BlockModel, blockAt}
+use Rattle.machine.specs.Block.{Block, generate, facility, storage, facts, BlockModel, blockAt}
 use Rattle.machine.specs.State.{State}
 use Rattle.machine.specs.Moves as Moves
 use Rattle.machine.specs.Run.{startOf, startAt, idle, start}
@@ -33,6 +33,7 @@ use Rattle.tables.proofs.Operands.{operand}
 use Rattle.flow.proofs.Drawing.{drawn-most}
 use Rattle.flow.proofs.Arrival.{arrives-stands}
 use Rattle.start.proofs.Tally.{same-at, idle-tallying}
+use Rattle.tables.proofs.BlockKinds.{Kinds, generating, taking, waiting, arriving, other, kinds, unasked}
 
 -- ---- Before the first block: nobody lives
 
@@ -85,23 +86,20 @@ data Begins (b : Block) : Type 0 where
   passes : 0 < length (blockNumbers b) → eqb (getD (blockNumbers b) 0 0) 1 ≡ false → ((n : ℕ) (s : State) → startOf b n s ≡ s) → Begins b
 
 begins : (b : Block) → Begins b
-unfolding startOf blockForms
-begins (generate list p) = makes list p refl
-begins (advance list) = passes (omega arith) refl (λ n s. refl)
-begins (terminate a) = passes (omega arith) refl (λ n s. refl)
-begins (seize v) = passes (omega arith) refl (λ n s. refl)
-begins (release v) = passes (omega arith) refl (λ n s. refl)
-begins (enter v b) = passes (omega arith) refl (λ n s. refl)
-begins (leave v b) = passes (omega arith) refl (λ n s. refl)
-begins (waitServer code v) = passes (omega arith) refl (λ n s. refl)
-begins (waitTerms a r b) = passes (omega arith) refl (λ n s. refl)
-begins (branch a r b target) = passes (omega arith) refl (λ n s. refl)
-begins (goto target) = passes (omega arith) refl (λ n s. refl)
-begins (assign k a) = passes (omega arith) refl (λ n s. refl)
-begins (priority p) = passes (omega arith) refl (λ n s. refl)
-begins (split k target) = passes (omega arith) refl (λ n s. refl)
-begins (arrive q) = passes (omega arith) refl (λ n s. refl)
-begins (depart q) = passes (omega arith) refl (λ n s. refl)
+begins b = go (kinds b)
+  where
+    past : {c : Block} → b ≡ c → Begins c → Begins b
+    past e h = subst Begins (sym e) h
+
+    go : Kinds b → Begins b
+    go (generating list p e) = makes list p e
+    go (taking (facility v) e) = past e (unfold startOf blockForms in passes (omega arith) refl (λ n s. refl))
+    go (taking (storage v n) e) = past e (unfold startOf blockForms in passes (omega arith) refl (λ n s. refl))
+    go (waiting a r c e) = past e (unfold startOf blockForms in passes (omega arith) refl (λ n s. refl))
+    go (arriving q e) = past e (unfold startOf blockForms in passes (omega arith) refl (λ n s. refl))
+    go (other kind rest e f g) =
+        passes (omega (arith, ap length e)) (rw e (unasked kind f .no-generate))
+        (λ n s. unfold startOf in rw (ap (λ x. x .generates) g))
 
 -- of the states of the start, before block b (from 0): at most one transaction was made for each block
 record Beginning (lists b : ℕ) (s : State) : Type 0 where

@@ -2,7 +2,7 @@
 -- entries are asked for, a queue, a server, a value, a list) is stored from 0; targets are block numbers, from 1.
 use Prim.Native.Nat.{ℕ, suc, _+_, _-_}
 use mathlib.Core.List.{List, [], _∷_, _++_}
-use Rattle.machine.specs.Term.{Relation, equal, unequal, less, atMost, greater, atLeast, Term, constant, minusConstant, parameter, clockTerm, entriesOf, contentOf, unitsInUse, unitsFree, facilityInUse, value, comparison, bracket, Condition, always, never, whenTrue, Sum, nothing, plus, minus}
+use Rattle.machine.specs.Term.{Relation, equal, unequal, less, atMost, greater, atLeast, Term, constant, minusConstant, parameter, clockTerm, entriesOf, contentOf, unitsInUse, unitsFree, facilityInUse, value, comparison, bracket, Condition, always, whenTrue, Sum, nothing, plus, minus}
 use Rattle.machine.specs.Block.{codeIndex, Share, facility, storage, Change, up, down, Block, generate, advance, terminate, takes, frees, waitServer, waitTerms, moves, assign, priority, split, counts}
 
 unfoldable pub relationNumber : Relation → ℕ
@@ -51,10 +51,8 @@ unfoldable pub freeNumbers : Share → List ℕ
 freeNumbers (facility v) = 5 ∷ (v - 1) ∷ []
 freeNumbers (storage v b) = 7 ∷ (v - 1) ∷ b ∷ []
 
--- no stored block moves never
 unfoldable pub moveNumbers : Condition → ℕ → List ℕ
 moveNumbers always target = 11 ∷ target ∷ []
-moveNumbers never target = []
 moveNumbers (whenTrue a r b) target = 10 ∷ (termNumbers a ++ (relationNumber r ∷ (termNumbers b ++ (target ∷ []))))
 
 unfoldable pub countNumbers : Change → ℕ → List ℕ
