@@ -11,7 +11,7 @@ use lib.IntN.{ℤ}
 use mir.Syntax.{w32}
 use mir.Val.{toZ}
 use Rattle.machine.specs.Transaction.{Transaction}
-use Rattle.machine.specs.Term.{Term, Relation, signed, low32, evaluate, compare}
+use Rattle.machine.specs.Term.{Term, Relation, signed, low32, evaluate, compare, truth}
 use Rattle.machine.specs.Block.{waitTerms, branch, goto, assign, BlockModel, blockAt}
 use Rattle.machine.specs.State.{State}
 use Rattle.machine.specs.Setters.{withParameters, setMoving}

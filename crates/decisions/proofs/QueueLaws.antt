@@ -16,7 +16,7 @@ use Rattle.machine.specs.Block.{arrive, depart, BlockModel, blockAt}
 use Rattle.machine.specs.State.{State}
 use Rattle.machine.specs.Setters.{withContent, setMoving}
 use Rattle.machine.specs.Moves as Moves
-use Rattle.machine.specs.Execute.{unless, question}
+use Rattle.machine.specs.Execute.{unless, question, askContent, changed}
 use Rattle.machine.proofs.Proper.{Proper, ProperBlock, Names}
 use Rattle.tables.specs.Layout as Layout
 use Rattle.tables.specs.Represents.{Represents}

@@ -3,14 +3,14 @@ use Prim.Native.Nat.{ℕ, _-_, _*_, _≤_, _<_}
 use mathlib.Core.Path.{_≡_, refl, sym, ap, _∙_, subst}
 use mathlib.Core.Bool.{Bool, true, false, cond, not}
 use mathlib.Core.List.{List, _∷_}
-use mathlib.Core.Option.{Option}
+use mathlib.Core.Option.{Option, none}
 use native.Mathlib.Omega.{arith}
 use borrow.Author.Tests.{ltb-true, ltb-false, lt-ltb, le-ltb}
 use lib.Dec.{ltb, eqb}
 use lib.ListN.{length, getD, List·getD-eq-default}
 use lib.IntN.{ℤ}
 use Rattle.machine.specs.Transaction.{Transaction}
-use Rattle.machine.specs.Term.{View, compare}
+use Rattle.machine.specs.Term.{View, compare, Term, Relation, truth}
 use Rattle.machine.specs.Block.{Block, generate, advance, terminate, facility, storage, waitTerms, facts, BlockModel}
 use Rattle.machine.specs.State.{State}
 use Rattle.machine.specs.Moves.{wakeWsl}

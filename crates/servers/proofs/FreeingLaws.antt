@@ -11,7 +11,7 @@ use lib.ListN.{getD, set}
 use Rattle.machine.specs.Transaction.{Transaction}
 use Rattle.machine.specs.Term.{Server, View, free}
 use Rattle.machine.specs.Term
-use Rattle.machine.specs.Block.{Block, release, leave, facts, BlockModel, blockAt}
+use Rattle.machine.specs.Block.{Block, release, leave, facts, BlockModel, blockAt, shareServer, shareUnits}
 use Rattle.machine.specs.State.{State}
 use Rattle.machine.specs.Setters.{setMoving}
 use Rattle.machine.specs.Moves.{qlOf, wakeFirstQl, wakeQl}

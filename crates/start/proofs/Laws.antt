@@ -9,7 +9,7 @@ use borrow.Author.Tests.{ne-eqb}
 use lib.Dec.{eqb, ltb}
 use lib.ListN.{length, getD, replicate, length-set}
 use Rattle.machine.specs.Transaction.{Transaction}
-use Rattle.machine.specs.Block.{Block, generate, facility, storage, facts, BlockModel, blockAt}
+use Rattle.machine.specs.Block.{Block, generate, facility, storage, facts, BlockModel, blockAt, terminate}
 use Rattle.machine.specs.State.{State}
 use Rattle.machine.specs.Moves as Moves
 use Rattle.machine.specs.Run.{startOf, startAt, idle, start}
@@ -193,9 +193,9 @@ module _ (m : BlockModel) (tape : List (List ℕ)) (tapeBytes tables lists : Lis
     -- another kind
     passed : (x : Block) → blockAt m (suc b) ≡ x → 0 < length (blockNumbers x) → eqb (getD (blockNumbers x) 0 0) 1 ≡ false → beginBlock tables tapeBytes r b ≡ r
     unfolding beginBlock
-    passed x is some-number other =
+    passed x is some-number unlike =
         let e : getD tables (8 * b) 0 ≡ getD (blockNumbers x) 0 0 = ap (λ (n : ℕ). getD tables n 0) (omega arith) ∙ number x is 0 some-number in
-        rw (e, other)
+        rw (e, unlike)
 
     -- one block more
     later : Beginning (m .lists) (suc b) s
@@ -209,14 +209,15 @@ module _ (m : BlockModel) (tape : List (List ℕ)) (tapeBytes tables lists : Lis
         }
 
     block-stands : (x : Block) → blockAt m (suc b) ≡ x → Stood (suc b) (beginBlock tables tapeBytes r b) (startOf x (suc b) s)
-    unfolding startOf
+    unfolding startOf facts
     block-stands x is = go (begins x)
       where
         go : Begins x → Stood (suc b) (beginBlock tables tapeBytes r b) (startOf x (suc b) s)
         go (makes list p e) =
-            rw e (record { stands = made list p (is ∙ e); beginning = arrival-beginning (m .lists) b list p (suc b) s (h .beginning) (Moves.timesLeft s list) })
-        go (passes some-number other same) =
-            rw (same (suc b) s, passed x is some-number other) (record { stands = h .stands; beginning = later })
+            let list-named : 1 ≤ list = subst (ProperBlock m) (is ∙ e) (proper .block (suc b)) .0 .0 in
+            rw (e, ne-eqb list 0 (λ z. omega (arith, list-named))) (record { stands = made list p (is ∙ e); beginning = arrival-beginning (m .lists) b list p (suc b) s (h .beginning) (Moves.timesLeft s list) })
+        go (passes some-number unlike same) =
+            rw (same (suc b) s, passed x is some-number unlike) (record { stands = h .stands; beginning = later })
 
   -- ---- All blocks
 
