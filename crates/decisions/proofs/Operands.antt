@@ -46,9 +46,10 @@ module _ {m : BlockModel} {tape : List (List ℕ)} {tapeBytes tables lists : Lis
     -- a term of a LET: small constants, no brackets
     pub assign-term : (k : ℕ) (a : Term) → getD (m .blocks) i (terminate 0) ≡ assign k a → T (smallTerm a) × T (nestedTerm 0 a)
     unfolding nestedBlock blockForms
-    assign-term k a e =
-        (and-left (smallTerm a) true (subst (λ (x : Block). T (smallBlock x)) e (rep .small-blocks i)),
-        and-left (nestedTerm 0 a) true (subst (λ (x : Block). T (nestedBlock x)) e (nested .blocks i)))
+    assign-term k a e = (
+      and-left (smallTerm a) true (subst (λ (x : Block). T (smallBlock x)) e (rep .small-blocks i)),
+      and-left (nestedTerm 0 a) true (subst (λ (x : Block). T (nestedBlock x)) e (nested .blocks i)),
+    )
 
     -- the target of an IF stands behind two terms and a relation
     pub branch-target : (a : Term) (o : Relation) (b : Term) (target : ℕ) → getD (m .blocks) i (terminate 0) ≡ branch a o b target → getD tables (Layout.blockWidth * i + 6) 0 ≡ target

@@ -11,7 +11,7 @@ use lib.ListN.{length, getD, List·getD-eq-default}
 use lib.IntN.{ℤ}
 use Rattle.machine.specs.Transaction.{Transaction}
 use Rattle.machine.specs.Term.{View, compare, Term, Relation, truth}
-use Rattle.machine.specs.Block.{Block, generate, advance, terminate, facility, storage, waitTerms, facts, BlockModel}
+use Rattle.machine.specs.Block.{Block, terminate, facility, storage, waitTerms, facts, BlockModel}
 use Rattle.machine.specs.State.{State}
 use Rattle.machine.specs.Moves.{wakeWsl}
 use Rattle.machine.specs.Turn as Turn

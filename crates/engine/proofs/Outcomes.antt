@@ -75,7 +75,7 @@ module _ (model tape : List ℕ) (budget : ℕ) (work trace report : List ℕ) w
               trace-bytes = refl;
               report-bytes = refl;
             });
-        keeps = outcome-keeps model tape budget (length work) (length trace) (length report);
+        keeps = outcome-keeps inForce model tape budget (length work) (length trace) (length report);
         trace-holds = subst (λ (x : Outcome). Begins (x .trace) trace trace) (sym is) refl;
         report-holds = subst (λ (x : Outcome). Begins (x .report) report report) (sym is) refl;
         refused = λ z. (refl, refl, refl);
@@ -105,7 +105,7 @@ module _ (model tape : List ℕ) (budget : ℕ) (work trace report : List ℕ) w
         (stands : Stands tape r (s .moving) s) (writes : Writes trace (r .scalars) (r .tally) trace′ s) (kept : Kept m times (length trace) s)
         (reported : written n report′ ≡ putAll (rowNumbers (headerOf m) tables (r .tally) (r .work) (r .scalars)) (written 0 report)) where
       proper : Proper m times
-      proper = proper-from model tape (length work) (length report) accepted
+      proper = proper-from inForce model tape (length work) (length report) accepted
 
       bytes : r .scalars .used ≡ length (traceBytes (recordsOf s))
       bytes = writes .used ∙ kept .traced .written
@@ -141,7 +141,7 @@ module _ (model tape : List ℕ) (budget : ℕ) (work trace report : List ℕ) w
           → Accepted m′ times′ budget (length trace) (take (r .scalars .used) trace′)
       all m′ times′ h′ e f =
           record {
-            demand3 = demand3 model tape (length work) (length report) budget (length trace) h′;
+            demand3 = demand3 inForce model tape (length work) (length report) budget (length trace) h′;
             report-small =
                 subst (λ (x : BlockModel). Each (λ (k : ℕ). k ≤ maxReportNumber) (reportNumbers x (run x times′ budget (length trace)))) e
                 (subst (λ (x : List (List ℕ)). Each (λ (k : ℕ). k ≤ maxReportNumber) (reportNumbers m (run m x budget (length trace)))) f
@@ -157,7 +157,7 @@ module _ (model tape : List ℕ) (budget : ℕ) (work trace report : List ℕ) w
       accepted-runs =
           record {
             results = subst (λ (x : Outcome). Gives x (endedWith (r .scalars) n)) (sym accepted-is) gives;
-            keeps = outcome-keeps model tape budget (length work) (length trace) (length report);
+            keeps = outcome-keeps inForce model tape budget (length work) (length trace) (length report);
             trace-holds = subst (λ (x : Outcome). Begins (x .trace) trace trace′) (sym accepted-is) trace-begins;
             report-holds = subst (λ (x : Outcome). Begins (x .report) report report′) (sym accepted-is) (report-begins .1);
             refused = λ z. absurd (z refl);

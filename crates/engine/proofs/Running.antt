@@ -40,7 +40,7 @@ module _ (model tape : List ℕ) (budget : ℕ) (work trace report tables lists 
     pub fits : (h .facilities ≤ 32) × ((h .storages ≤ 32) × ((h .queues ≤ 32) × ((h .blocks ≤ 256) × (16384 ≤ length work))))
     fits =
         subst (λ (x : Model). (x .facilities ≤ 32) × ((x .storages ≤ 32) × ((x .queues ≤ 32) × ((x .blocks ≤ 256) × (16384 ≤ length work))))) (sym (told .header))
-        (header-fits (told .model) (told .times) (proper-from model tape (length work) (length report) (told .accepted)))
+        (header-fits (told .model) (told .times) (proper-from inForce model tape (length work) (length report) (told .accepted)))
       where
         header-fits : (m : BlockModel) (times : List (List ℕ)) → Proper m times
             → (headerOf m .facilities ≤ 32) × ((headerOf m .storages ≤ 32) × ((headerOf m .queues ≤ 32) × ((headerOf m .blocks ≤ 256) × (16384 ≤ length work))))
@@ -49,7 +49,7 @@ module _ (model tape : List ℕ) (budget : ℕ) (work trace report tables lists 
     pub run-finished : (o : Results) (work′ trace′ report′ : List ℕ) → Finishes h tables (lastRows h tables lists tape budget work trace) report o trace′ report′
         → Contract model tape budget work trace report o work′ trace′ report′
     run-finished o work′ trace′ report′ f =
-        let proper = proper-from model tape (length work) (length report) (told .accepted) in
+        let proper = proper-from inForce model tape (length work) (length report) (told .accepted) in
         let nested = nested-from model tape (length work) (length report) (told .accepted) in
         run-accepted model tape budget work trace report (told .model) (told .times) (told .accepted) tables lists (told .represents)
         (started proper (told .represents) nested trace work work-room) (turned proper (told .represents) nested trace budget) o work′ trace′ report′

@@ -1,12 +1,12 @@
 -- A free row becomes a transaction beside whoever moves: taken from the free rows, written, and put on the FEL or on REL.
 use Prim.Native.Nat.{ℕ, suc, _+_, _-_, _<_}
-use mathlib.Core.Path.{_≡_, refl, ap, _∙_, subst}
+use mathlib.Core.Path.{_≡_, refl, ap, _∙_}
 use mathlib.Core.Logic.{_≢_}
 use mathlib.Core.List.{List, [], _∷_}
 use mathlib.Core.Option.{Option, none, some}
 use native.Mathlib.Omega.{arith}
 use lib.ListN.{length}
-use Rattle.machine.specs.Transaction.{Transaction, Event, precedes, earlier}
+use Rattle.machine.specs.Transaction.{Transaction, precedes, earlier}
 use Rattle.machine.specs.Lists.{insert}
 use Rattle.machine.specs.State.{State}
 use Rattle.rows.specs.Layout.{place, rel, fel, free}
@@ -14,7 +14,7 @@ use Rattle.rows.specs.Cells.{load}
 use Rattle.rows.specs.Order.{ahead}
 use Rattle.rows.specs.Lists.{put, first, takeFirst}
 use Rattle.rows.specs.Holds.{transactionAt, eventAt, update}
-use Rattle.rows.specs.Shows.{Shown, Shows, Loose}
+use Rattle.rows.specs.Shows.{Shows, Loose}
 use Rattle.rows.proofs.Occurs.{same-refl, occurs-cons}
 use Rattle.rows.proofs.Structure.{row-of}
 use Rattle.rows.proofs.Data.{transaction-kept}

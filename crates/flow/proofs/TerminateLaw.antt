@@ -15,7 +15,6 @@ use Rattle.machine.specs.Execute.{question, endsOne}
 use Rattle.machine.proofs.Proper.{Proper}
 use Rattle.machine.proofs.Placed.{Placed}
 use Rattle.tables.specs.Forms.{blockForms}
-use Rattle.tables.specs.Numbers.{blockNumbers}
 use Rattle.tables.specs.Represents.{Represents}
 use Rattle.rows.specs.Layout.{free}
 use Rattle.rows.specs.Make.{freeRow}

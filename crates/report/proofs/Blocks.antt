@@ -9,7 +9,7 @@ use borrow.Author.Tests.{eq-eqb, ne-eqb, eqb-true, eqb-false}
 use lib.Dec.{eqb}
 use lib.ListN.{length, getD, drop}
 use lib.Seq.{getD-take, getD-drop}
-use Rattle.machine.specs.Block.{Block, generate, advance, terminate, facility, storage, facts, BlockModel, blockAt}
+use Rattle.machine.specs.Block.{Block, terminate, facility, storage, facts, BlockModel, blockAt}
 use Rattle.machine.proofs.Proper.{Proper, ProperBlock}
 use Rattle.tables.specs.Forms.{blockForms}
 use Rattle.tables.specs.Numbers.{blockNumbers}

@@ -1,6 +1,6 @@
 -- The data of rows: what keeps it keeps every row's transaction and event, and the order of the lists.
 use Prim.Native.Nat.{ℕ, _+_, _*_, _≤_, _<_}
-use mathlib.Core.Path.{_≡_, refl, ap}
+use mathlib.Core.Path.{_≡_, refl}
 use mathlib.Core.List.{List, [], _∷_, map}
 use native.Mathlib.Omega.{arith}
 use Rattle.rows.specs.Layout.{dataFields, places}

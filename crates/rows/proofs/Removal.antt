@@ -9,7 +9,7 @@ use lib.Dec.{eqb}
 use Rattle.rows.specs.Layout.{listCount, place, head}
 use Rattle.rows.specs.Cells.{load}
 use Rattle.rows.specs.Lists.{removeAt, cellOf, remove}
-use Rattle.rows.specs.Holds.{occurs, ending, Listed, Holds}
+use Rattle.rows.specs.Holds.{occurs, ending, Holds}
 use Rattle.rows.proofs.Occurs.{same-refl, same-other}
 use Rattle.rows.proofs.Insertion.{front}
 use Rattle.rows.proofs.Spot.{short, walk-front}

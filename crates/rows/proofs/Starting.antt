@@ -11,7 +11,7 @@ use Rattle.rows.specs.Cells.{load, store}
 use Rattle.rows.specs.Make.{emptyList, emptyLists, looseRows, freeRow, freeRows, initial}
 use Rattle.rows.specs.Living.{loose}
 use Rattle.rows.specs.Holds.{occurs, Chain, ending, Listed, update}
-use Rattle.rows.specs.Ordered.{Sorted, Ordered}
+use Rattle.rows.specs.Ordered.{Sorted}
 use Rattle.rows.specs.Shows.{Shown, Held, Shows, Loose}
 use Rattle.rows.proofs.Store.{length-store, load-same, load-other}
 use Rattle.rows.proofs.Occurs.{same-other}

@@ -23,7 +23,6 @@ use Rattle.machine.proofs.Proper.{Proper, ProperBlock, Names, Storage, servers}
 use Rattle.machine.proofs.Placed.{Placed}
 use Rattle.machine.proofs.Shape.{each-getD}
 use Rattle.tables.specs.Forms.{blockForms}
-use Rattle.tables.specs.Numbers.{blockNumbers}
 use Rattle.tables.specs.Represents.{Represents}
 use Rattle.rows.specs.Layout.{head}
 use Rattle.rows.specs.Wake.{wakeFirst, wakeAll}

@@ -18,7 +18,6 @@ use Rattle.machine.specs.Execute.{question}
 use Rattle.machine.specs.Execute as Execute
 use Rattle.machine.proofs.Proper.{Proper, ProperBlock, Names, Storage, servers}
 use Rattle.tables.specs.Forms.{blockForms}
-use Rattle.tables.specs.Numbers.{blockNumbers}
 use Rattle.tables.specs.Represents.{Represents}
 use Rattle.state.specs.declared.scalars.Scalars.{Scalars}
 use Rattle.state.specs.Sane.{Sane}

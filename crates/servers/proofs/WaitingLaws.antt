@@ -18,7 +18,6 @@ use Rattle.machine.specs.Execute.{question}
 use Rattle.machine.proofs.Proper.{Proper, ProperBlock, CodeServer, servers}
 use Rattle.machine.proofs.Shape.{wel-below}
 use Rattle.tables.specs.Forms.{blockForms}
-use Rattle.tables.specs.Numbers.{blockNumbers}
 use Rattle.tables.specs.Represents.{Represents}
 use Rattle.rows.specs.Wake.{wakeFirst}
 use Rattle.state.specs.declared.scalars.Scalars.{Scalars}

@@ -8,7 +8,7 @@ use mathlib.Core.Option.{Option, none, some}
 use native.Mathlib.Omega.{arith}
 use lib.ListN.{length, getD, set}
 use lib.Seq.{getD-set-other}
-use Rattle.machine.specs.Transaction.{Transaction, Event, precedes, earlier}
+use Rattle.machine.specs.Transaction.{Transaction, precedes, earlier}
 use Rattle.machine.specs.Lists.{insert}
 use Rattle.machine.specs.Term.{Server, Queue}
 use Rattle.machine.specs.State.{State}

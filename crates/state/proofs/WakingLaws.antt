@@ -1,12 +1,12 @@
 -- Waking as the relation of lists follows it: the first of a QL or a WEL, and all of a QL or of the WSL that pass a test.
 use Prim.Native.Nat.{ℕ, _+_, _-_, _<_}
-use mathlib.Core.Path.{_≡_, refl, subst}
+use mathlib.Core.Path.{_≡_, refl}
 use mathlib.Core.Bool.{Bool}
 use mathlib.Core.List.{List}
 use mathlib.Core.Option.{Option}
 use native.Mathlib.Omega.{arith}
 use lib.ListN.{length, set, take, drop}
-use Rattle.machine.specs.Transaction.{Transaction, Event}
+use Rattle.machine.specs.Transaction.{Transaction}
 use Rattle.machine.specs.Lists.{those, others}
 use Rattle.machine.specs.Block.{Code, welIndex}
 use Rattle.machine.specs.State.{State}

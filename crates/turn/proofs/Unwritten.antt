@@ -24,6 +24,6 @@ unwritten m b t s proper = go (question m b s) refl
     go : (n : ℕ) → question m b s ≡ n → Unwritten s (bareAnswer n m b t s .state)
     go zero e =
         unfold bareAnswer in
-        let g = bare-gains m b t (setMoving none s) proper (question-hand b none s ∙ e) .gains in
+        let g = bare-gains m b t (setMoving none s) proper (question-hand m b none s ∙ e) .gains in
         record { records = g .records; written = g .written; clock = g .clock; entries = g .entries }
     go (suc n) e = unfold bareAnswer in record { records = refl; written = refl; clock = refl; entries = refl }

@@ -5,6 +5,7 @@ use mathlib.Core.List.{List, _++_}
 use lib.Dec.{ltb, leb, eqb}
 use lib.ListN.{length, getD, set, take, drop}
 use Rattle.tables.specs.Layout.{waits, most64}
+use Rattle.machine.specs.Rules.{inForce}
 use Rattle.machine.specs.Trace.{Writing, written, rejected, writeRecord}
 use Rattle.trace.specs.Answers.{entry}
 use Rattle.state.specs.declared.scalars.Scalars.{Scalars}
