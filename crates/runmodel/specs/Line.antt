@@ -11,6 +11,9 @@ digits = 20
 abbrev pub numberRoom : ℕ
 numberRoom = 21
 
+abbrev pub letterRoom : ℕ
+letterRoom = 8
+
 abbrev pub lineRoom : ℕ
 lineRoom = 134
 
