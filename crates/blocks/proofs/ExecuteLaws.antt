@@ -8,7 +8,7 @@ use Rattle.machine.specs.Transaction.{Transaction}
 use Rattle.machine.specs.Term.{always, whenTrue}
 use Rattle.machine.specs.Block.{Block, generate, advance, terminate, waitServer, waitTerms, assign, priority, split, BlockModel, blockAt, facility, storage, up, down, takes, frees, moves, counts}
 use Rattle.machine.specs.State.{State}
-use Rattle.machine.specs.Execute.{question}
+use Rattle.machine.specs.Execute.{question, changed, askContent}
 use Rattle.machine.proofs.Proper.{Proper}
 use Rattle.tables.specs.Forms.{blockForms}
 use Rattle.tables.specs.Numbers.{blockNumbers}
@@ -104,4 +104,4 @@ module _ {m : BlockModel} {tape : List (List ℕ)} {tapeBytes tables lists : Lis
   execute-done (priority p) is = by 13 _ _ refl is _ (priority-done m tape tapeBytes tables lists proper rep s sane r t stands moving p is)
   execute-done (split n target) is = by 14 _ _ refl is _ (split-done m tape tapeBytes tables lists proper rep s sane r t stands moving n target is)
   execute-done (counts up q) is = by 15 _ _ refl is _ (arrive-done proper rep r t s sane stands moving q is)
-  execute-done (counts down q) is = by 16 _ _ refl is _ (depart-done proper rep r t s sane stands moving q is)
+  execute-done (counts down q) is = by 16 _ _ refl is _ (depart-done proper rep r t s sane stands moving down (λ n. unfold changed in refl) (λ n. unfold askContent in refl) q is)

@@ -7,10 +7,10 @@ use native.Mathlib.Omega.{arith}
 use lib.Dec.{T}
 use lib.ListN.{length, getD}
 use Rattle.machine.specs.Term.{Term, Relation}
-use Rattle.machine.specs.Block.{Block, branch, goto, assign, arrive, depart, terminate, BlockModel}
+use Rattle.machine.specs.Block.{Block, branch, goto, assign, arrive, depart, terminate, BlockModel, Change, counts}
 use Rattle.tables.specs.Forms.{blockForms}
 use Rattle.tables.specs.Layout as Layout
-use Rattle.tables.specs.Numbers.{relationNumber, termNumbers, blockNumbers}
+use Rattle.tables.specs.Numbers.{relationNumber, termNumbers, blockNumbers, countKind}
 use Rattle.tables.specs.Represents.{At, smallTerm, smallBlock, Represents}
 use Rattle.terms.specs.Nested.{nestedTerm, nestedBlock, Nested}
 use Rattle.terms.proofs.Found.{at-first, at-back}
@@ -34,13 +34,9 @@ module _ {m : BlockModel} {tape : List (List ℕ)} {tapeBytes tables lists : Lis
   unfolding blockForms
   assign-parameter k a e = second 12 (k - 1) (termNumbers a) (numbers (assign k a) e)
 
-  pub arrive-queue : (q : ℕ) → getD (m .blocks) i (terminate 0) ≡ arrive q → getD tables (Layout.blockWidth * i + 1) 0 ≡ q - 1
-  unfolding blockForms
-  arrive-queue q e = second 15 (q - 1) [] (numbers (arrive q) e)
-
-  pub depart-queue : (q : ℕ) → getD (m .blocks) i (terminate 0) ≡ depart q → getD tables (Layout.blockWidth * i + 1) 0 ≡ q - 1
-  unfolding blockForms
-  depart-queue q e = second 16 (q - 1) [] (numbers (depart q) e)
+  pub count-queue : (c : Change) (q : ℕ) → getD (m .blocks) i (terminate 0) ≡ counts c q → getD tables (Layout.blockWidth * i + 1) 0 ≡ q - 1
+  unfolding blockNumbers
+  count-queue c q e = second (countKind c) (q - 1) [] (numbers (counts c q) e)
 
   module _ (nested : Nested m) where
     -- a term of a LET: small constants, no brackets

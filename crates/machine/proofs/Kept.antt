@@ -15,7 +15,7 @@ use Rattle.machine.specs.Block.{Code, Share, facility, storage, shareSer
 use Rattle.machine.specs.State.{State, Logged}
 use Rattle.machine.specs.Setters.{setClock, setEntries, setQueues, setView, setCounter, setSamples, setQl, setWel, setWsl, setRel, setFel, setMoving, setSerial, setMade, setEnded, setTurns, setRecords, setWritten, setEnd}
 use Rattle.machine.specs.Moves.{log, enters, moveTo, toRel, toFel, toQl, toWel, toWsl, mustWait, wakeFirstQl, wakeQl, wakeFirstWel, wakeWsl, setInUse, setContent, timesLeft, arrival, copies}
-use Rattle.machine.specs.Execute.{unless, living, askGenerate, askAdvance, askContent, question, takeUnits, wakeFor, checkWels, endsOne, delay, effect, freeUnits}
+use Rattle.machine.specs.Execute.{unless, living, askGenerate, askAdvance, askContent, changed, question, takeUnits, wakeFor, checkWels, endsOne, delay, effect, freeUnits}
 use Rattle.machine.specs.Turn.{sample, arriveAll, moveClock, nextEvents, takeFirst, takeReady, taking, answer, execute, wsScheme, turn}
 use Rattle.machine.specs.Run.{startAt, idle, start}
 use Rattle.machine.specs.Claims.{statedEnd}
@@ -70,6 +70,12 @@ ask-content : (c : Change) (n : ℕ) → Stop (askContent c n)
 unfolding askContent
 ask-content up n = tt
 ask-content down n = unless-stops (leb 1 n) 25 0 tt tt
+
+-- one more at most
+pub changed-most : (c : Change) (n : ℕ) → changed c n ≤ n + 1
+unfolding changed
+changed-most up n = omega arith
+changed-most down n = omega arith
 
 pub question-stops : (m : BlockModel) (b : Block) (s : State) → Stop (question m b s)
 unfolding question

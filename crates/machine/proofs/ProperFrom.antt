@@ -11,7 +11,7 @@ use Rattle.machine.specs.Limits as Limits
 use Rattle.machine.specs.Rules.{Rules}
 use Rattle.machine.specs.Lists.{nth}
 use Rattle.machine.specs.Term.{Term}
-use Rattle.machine.specs.Block.{Block, terminate, enter, leave, BlockModel}
+use Rattle.machine.specs.Block.{Block, terminate, enter, leave, BlockModel, facts, compared}
 use Rattle.machine.specs.Parser.{Parsed, parsed, refused, Parser, times}
 use Rattle.machine.specs.Decode.{Counts, codeOf, simpleTerm, number, blockTerm, counted, mentioned, valueNumber, sumTerms, sumField, bracketField, comparisonField, mentionField, taggedTerm, valueTerm, valueField, inValue, valueFields, codeServer, storageUnits, operands, blockField, modelFields, atEnd, listField}
 use Rattle.machine.specs.Validate.{wellFormed, beginning, modelOf, tapeOf, Validation, accept, reject, withTape, withModel, validate}
@@ -115,13 +115,13 @@ module _ (s : List ℕ) where
 -- ---- Blocks
 
 -- the model in which these counts and capacities end up
-record Matches (n : Counts) (capacities : List ℕ) (m : BlockModel) : Type 0 where
-  facilities : m .facilities ≡ n .facilities
-  capacities-are : m .capacities ≡ capacities
-  storages : n .storages ≡ length capacities
-  queues : m .queues ≡ n .queues
-  lists : m .lists ≡ n .lists
-  blocks : length (m .blocks) ≡ n .blocks
+pub record Matches (n : Counts) (capacities : List ℕ) (m : BlockModel) : Type 0 where
+  pub facilities : m .facilities ≡ n .facilities
+  pub capacities-are : m .capacities ≡ capacities
+  pub storages : n .storages ≡ length capacities
+  pub queues : m .queues ≡ n .queues
+  pub lists : m .lists ≡ n .lists
+  pub blocks : length (m .blocks) ≡ n .blocks
 
 -- codes 1 and 2 name a facility, 3 to 6 a storage
 facility-code : (m : BlockModel) (code v : ℕ) → 1 ≤ code → code ≤ 2 → Names (m .facilities) v → CodeServer m (codeOf code) v
@@ -143,7 +143,7 @@ storage-code m (suc (suc (suc (suc (suc (suc zero)))))) v low high h = h
 storage-code m (suc (suc (suc (suc (suc (suc (suc k))))))) v low high h = absurd (omega arith)
 
 module _ (s : List ℕ) (n : Counts) (capacities : List ℕ) where
-  abbrev Good : Block → Type 0
+  abbrev pub Good : Block → Type 0
   Good b = (m : BlockModel) → Matches n capacities m → ProperBlock m b
 
   storage-number : (k : ℕ) → 1 ≤ k → k ≤ n .storages → (m : BlockModel) → Matches n capacities m → Storage m (n .facilities + k)
@@ -155,10 +155,10 @@ module _ (s : List ℕ) (n : Counts) (capacities : List ℕ) where
       within : (j : ℕ) → k ≡ j → b ≤ nth (m .capacities) j 0
       within j e = subst (λ l. b ≤ nth l j 0) (sym (at .capacities-are)) (subst (λ j. b ≤ nth capacities j 0) e high)
 
-  storage-units : (make : ℕ → ℕ → Block)
-      → ((k b : ℕ) → 1 ≤ k → k ≤ n .storages → 1 ≤ b → b ≤ nth capacities k 0 → Good (make (n .facilities + k) b)) → Ensures Good (storageUnits s n capacities make)
+  storage-units : (Q : Block → Type 0) (make : ℕ → ℕ → Block)
+      → ((k b : ℕ) → 1 ≤ k → k ≤ n .storages → 1 ≤ b → b ≤ nth capacities k 0 → Q (make (n .facilities + k) b)) → Ensures Q (storageUnits s n capacities make)
   unfolding storageUnits
-  storage-units make good =
+  storage-units Q make good =
       then (ranged s 1 (n .storages))
       (λ k h. then (ranged s 1 (nth capacities k 0)) (λ b g. gives (good k b (h .0) (h .1) (g .0) (g .1))))
 
@@ -182,33 +182,41 @@ module _ (s : List ℕ) (n : Counts) (capacities : List ℕ) where
   queue-in : (k : ℕ) → 1 ≤ k → k ≤ n .queues → (m : BlockModel) → Matches n capacities m → Names (m .queues) k
   queue-in k low high m at = (low, omega (arith, at .queues))
 
-  operands-good : (kind : ℕ) → Ensures Good (operands s n capacities kind)
-  unfolding operands
-  operands-good kind =
-      both (eqb kind 1)
-      (then (ranged s 1 (n .lists)) (λ l h. then (ranged s 0 Limits.maxPriority) (λ p g. gives (λ m at. (list-in l (h .0) (h .1) m at, g .1)))))
-      (both (eqb kind 2) (then (ranged s 1 (n .lists)) (λ l h. gives (list-in l (h .0) (h .1))))
-      (both (eqb kind 3) (then (ranged s 0 Limits.maxTerminate) (λ a h. gives (λ m at. tt)))
-      (both (eqb kind 4) (then (ranged s 1 (n .facilities)) (λ f h. gives (facility-in f (h .0) (h .1))))
-      (both (eqb kind 5) (then (ranged s 1 (n .facilities)) (λ f h. gives (facility-in f (h .0) (h .1))))
-      (both (eqb kind 6) (storage-units enter (λ k b a c d e m at. (storage-number k a c m at, units k b d e m at)))
-      (both (eqb kind 7) (storage-units leave (λ k b a c d e m at. (storage-number k a c m at, units k b d e m at)))
-      (both (eqb kind 8) (then (ranged s 1 6) (λ code h. then (code-server code (h .0) (h .1)) (λ v g. gives g)))
-      (both (eqb kind 9) (then (block-term s n) (λ a h. then (ranged s 1 6) (λ r h. then (block-term s n) (λ b h. gives (λ m at. tt)))))
-      (both (eqb kind 10)
-      (then (block-term s n)
-      (λ a h. then (ranged s 1 6) (λ r h. then (block-term s n) (λ b h. then (ranged s 1 (n .blocks)) (λ k h. gives (target-in k (h .0) (h .1)))))))
-      (both (eqb kind 11) (then (ranged s 1 (n .blocks)) (λ k h. gives (target-in k (h .0) (h .1))))
-      (both (eqb kind 12) (then (ranged s 1 Limits.parameterCount) (λ k h. then (block-term s n) (λ a g. gives (λ m at. h))))
-      (both (eqb kind 13) (then (ranged s 0 Limits.maxPriority) (λ p h. gives (λ m at. h .1)))
-      (both (eqb kind 14)
-      (then (ranged s 1 Limits.maxSplit) (λ k h. then (ranged s 1 (n .blocks)) (λ t g. gives (λ m at. (h, target-in t (g .0) (g .1) m at)))))
-      (both (eqb kind 15) (then (ranged s 1 (n .queues)) (λ q h. gives (queue-in q (h .0) (h .1))))
-      (then (ranged s 1 (n .queues)) (λ q h. gives (queue-in q (h .0) (h .1))))))))))))))))))
+  -- with what is known of every term that a block reads
+  module _ (P : Term → Type 0) (term-good : Ensures P (blockTerm s n)) where
+    abbrev pub Parsed-block : Block → Type 0
+    Parsed-block b = Good b × Each P (facts b .terms)
+
+    operands-good : (kind : ℕ) → Ensures Parsed-block (operands s n capacities kind)
+    unfolding operands facts compared
+    operands-good kind =
+        both (eqb kind 1)
+        (then (ranged s 1 (n .lists)) (λ l h. then (ranged s 0 Limits.maxPriority) (λ p g. gives (λ m at. (list-in l (h .0) (h .1) m at, g .1), tt))))
+        (both (eqb kind 2) (then (ranged s 1 (n .lists)) (λ l h. gives (list-in l (h .0) (h .1), tt)))
+        (both (eqb kind 3) (then (ranged s 0 Limits.maxTerminate) (λ a h. gives (λ m at. tt, tt)))
+        (both (eqb kind 4) (then (ranged s 1 (n .facilities)) (λ f h. gives (facility-in f (h .0) (h .1), tt)))
+        (both (eqb kind 5) (then (ranged s 1 (n .facilities)) (λ f h. gives (facility-in f (h .0) (h .1), tt)))
+        (both (eqb kind 6) (storage-units Parsed-block enter (λ k b a c d e. (λ m at. (storage-number k a c m at, units k b d e m at), tt)))
+        (both (eqb kind 7) (storage-units Parsed-block leave (λ k b a c d e. (λ m at. (storage-number k a c m at, units k b d e m at), tt)))
+        (both (eqb kind 8) (then (ranged s 1 6) (λ code h. then (code-server code (h .0) (h .1)) (λ v g. gives (g, tt))))
+        (both (eqb kind 9) (then term-good (λ a ha. then (ranged s 1 6) (λ r h. then term-good (λ b hb. gives (λ m at. tt, (ha, (hb, tt)))))))
+        (both (eqb kind 10)
+        (then term-good
+        (λ a ha. then (ranged s 1 6) (λ r h. then term-good (λ b hb. then (ranged s 1 (n .blocks)) (λ k h. gives (target-in k (h .0) (h .1), (ha, (hb, tt))))))))
+        (both (eqb kind 11) (then (ranged s 1 (n .blocks)) (λ k h. gives (target-in k (h .0) (h .1), tt)))
+        (both (eqb kind 12) (then (ranged s 1 Limits.parameterCount) (λ k h. then term-good (λ a ha. gives (λ m at. h, (ha, tt)))))
+        (both (eqb kind 13) (then (ranged s 0 Limits.maxPriority) (λ p h. gives (λ m at. h .1, tt)))
+        (both (eqb kind 14)
+        (then (ranged s 1 Limits.maxSplit) (λ k h. then (ranged s 1 (n .blocks)) (λ t g. gives (λ m at. (h, target-in t (g .0) (g .1) m at), tt))))
+        (both (eqb kind 15) (then (ranged s 1 (n .queues)) (λ q h. gives (queue-in q (h .0) (h .1), tt)))
+        (then (ranged s 1 (n .queues)) (λ q h. gives (queue-in q (h .0) (h .1), tt)))))))))))))))))
+
+    pub block-parsed : Ensures Parsed-block (blockField s n capacities)
+    unfolding blockField
+    block-parsed = then (ranged s 1 16) (λ kind h. operands-good kind)
 
   block-good : Ensures Good (blockField s n capacities)
-  unfolding blockField
-  block-good = then (ranged s 1 16) (λ kind h. operands-good kind)
+  block-good = weaken (λ b h. h .0) (block-parsed Any (block-term s n))
 
 -- ---- The model
 

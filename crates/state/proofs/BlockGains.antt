@@ -19,6 +19,7 @@ use Rattle.machine.specs.Setters.{withSerial, setSerial}
 use Rattle.machine.specs.Moves.{moveTo, fresh, toRel, toFel, toQl, toWel, toWsl, wakeFirstQl, wakeQl, wakeFirstWel, wakeWsl, setInUse, setContent, timesLeft, arrival, copies}
 use Rattle.machine.specs.Execute.{unless, living, askGenerate, question, checkWels, endsOne, delay, wakeFor, changed}
 use Rattle.machine.specs.Turn.{wsScheme}
+use Rattle.machine.proofs.Kept.{changed-most}
 use Rattle.machine.proofs.Proper.{ProperBlock}
 use Rattle.machine.proofs.RunLaws.{cond-cases}
 use Rattle.machine.proofs.Shape.{each-getD}
@@ -288,8 +289,5 @@ bare-gains m (split n target) t s ok asked =
       room = λ h. leb-true (living s + n) maxLiving (unless-yes (leb (living s + n) maxLiving) 21 0 asked (λ e. omega arith));
       gains = gains-most n 255 1 (omega arith) (omega arith) (omega arith) (on _ t (gains-copies n target t s));
     }
-bare-gains m (counts c q) t s ok asked = counted c
-  where
-    counted : (c : Change) → Moderate s (moveTo (suc (t .next)) t (setContent q (changed c (queueAt (s .view) q .content)) s))
-    counted up = unfold changed in moderate (omega arith) (omega arith) (on _ t (gains-content q 1 (λ x. x + 1) (λ x. omega arith) s))
-    counted down = unfold changed in moderate (omega arith) (omega arith) (on _ t (gains-content q 0 (λ x. x - 1) (λ x. omega arith) s))
+bare-gains m (counts c q) t s ok asked =
+    moderate (omega arith) (omega arith) (on _ t (gains-content q 1 (changed c) (changed-most c) s))

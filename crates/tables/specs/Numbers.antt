@@ -55,9 +55,9 @@ unfoldable pub moveNumbers : Condition → ℕ → List ℕ
 moveNumbers always target = 11 ∷ target ∷ []
 moveNumbers (whenTrue a r b) target = 10 ∷ (termNumbers a ++ (relationNumber r ∷ (termNumbers b ++ (target ∷ []))))
 
-unfoldable pub countNumbers : Change → ℕ → List ℕ
-countNumbers up q = 15 ∷ (q - 1) ∷ []
-countNumbers down q = 16 ∷ (q - 1) ∷ []
+unfoldable pub countKind : Change → ℕ
+countKind up = 15
+countKind down = 16
 
 unfoldable pub blockNumbers : Block → List ℕ
 blockNumbers (generate list p) = 1 ∷ (list - 1) ∷ p ∷ []
@@ -71,4 +71,4 @@ blockNumbers (moves c target) = moveNumbers c target
 blockNumbers (assign k a) = 12 ∷ (k - 1) ∷ termNumbers a
 blockNumbers (priority p) = 13 ∷ p ∷ []
 blockNumbers (split n target) = 14 ∷ n ∷ target ∷ []
-blockNumbers (counts c q) = countNumbers c q
+blockNumbers (counts c q) = countKind c ∷ (q - 1) ∷ []

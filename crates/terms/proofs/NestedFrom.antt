@@ -2,7 +2,7 @@
 use Prim.Native.Nat.{ℕ, zero, suc, _-_}
 use mathlib.Core.Path.{_≡_, sym, subst}
 use mathlib.Core.Bool.{Bool, true, false, cond, _&&_}
-use mathlib.Core.List.{List}
+use mathlib.Core.List.{List, _∷_, []}
 use native.Mathlib.Omega.{arith}
 use borrow.Author.Tests.{lt-ltb}
 use lib.Dec.{T, leb, ltb, eqb}
@@ -20,6 +20,7 @@ use Rattle.machine.proofs.RunLaws.{cond-cases}
 use Rattle.machine.proofs.ParserLaws.{Refusal, Gives, Ensures, Any, then, gives, refuses, choice, weaken, repeated, asked, in-range}
 use Rattle.machine.proofs.Shape.{each-getD}
 use Rattle.terms.specs.Nested.{nestedTerm, nestedSum, nestedBlock, Nested}
+use Rattle.machine.proofs.ProperFrom.{block-parsed}
 
 -- ---- Depth
 
@@ -149,45 +150,14 @@ module _ (s : List ℕ) where
   abbrev Flat : Block → Type 0
   Flat b = T (nestedBlock b)
 
-  storage-units : (n : Counts) (capacities : List ℕ) (make : ℕ → ℕ → Block) → ((v b : ℕ) → Flat (make v b)) → Ensures Flat (storageUnits s n capacities make)
-  unfolding storageUnits
-  storage-units n capacities make good =
-      then (any-number 1 (n .storages)) (λ k h. then (any-number 1 (nth capacities k 0)) (λ b g. gives (good _ b)))
-
-  code-server : (n : Counts) (code : ℕ) → Ensures Any (codeServer s n code)
-  unfolding codeServer
-  code-server n code = both (leb code 2) (any-number 1 (n .facilities)) (then (any-number 1 (n .storages)) (λ k h. gives tt))
-
-  one-term : (a : Term) → Low 0 a → T (nestedTerm 0 a && true)
-  one-term a h = all (nestedTerm 0 a) true h tt
-
-  two-terms : (a b : Term) → Low 0 a → Low 0 b → T (nestedTerm 0 a && (nestedTerm 0 b && true))
-  two-terms a b h k = all (nestedTerm 0 a) (nestedTerm 0 b && true) h (one-term b k)
-
-  operands-flat : (n : Counts) (capacities : List ℕ) (kind : ℕ) → Ensures Flat (operands s n capacities kind)
-  unfolding operands nestedBlock facts compared allOf
-  operands-flat n capacities kind =
-      both (eqb kind 1) (then (any-number 1 (n .lists)) (λ l h. then (any-number 0 Limits.maxPriority) (λ p g. gives tt)))
-      (both (eqb kind 2) (then (any-number 1 (n .lists)) (λ l h. gives tt))
-      (both (eqb kind 3) (then (any-number 0 Limits.maxTerminate) (λ a h. gives tt))
-      (both (eqb kind 4) (then (any-number 1 (n .facilities)) (λ f h. gives tt))
-      (both (eqb kind 5) (then (any-number 1 (n .facilities)) (λ f h. gives tt))
-      (both (eqb kind 6) (storage-units n capacities enter (λ v b. tt))
-      (both (eqb kind 7) (storage-units n capacities leave (λ v b. tt))
-      (both (eqb kind 8) (then (any-number 1 6) (λ code h. then (code-server n code) (λ v g. gives tt)))
-      (both (eqb kind 9) (then (block-term n) (λ a ha. then (any-number 1 6) (λ r h. then (block-term n) (λ b hb. gives (two-terms a b ha hb)))))
-      (both (eqb kind 10)
-      (then (block-term n)
-      (λ a ha. then (any-number 1 6) (λ r h. then (block-term n) (λ b hb. then (any-number 1 (n .blocks)) (λ k h. gives (two-terms a b ha hb))))))
-      (both (eqb kind 11) (then (any-number 1 (n .blocks)) (λ k h. gives tt))
-      (both (eqb kind 12) (then (any-number 1 Limits.parameterCount) (λ k h. then (block-term n) (λ a ha. gives (one-term a ha))))
-      (both (eqb kind 13) (then (any-number 0 Limits.maxPriority) (λ p h. gives tt))
-      (both (eqb kind 14) (then (any-number 1 Limits.maxSplit) (λ k h. then (any-number 1 (n .blocks)) (λ t g. gives tt)))
-      (both (eqb kind 15) (then (any-number 1 (n .queues)) (λ q h. gives tt)) (then (any-number 1 (n .queues)) (λ q h. gives tt))))))))))))))))
+  all-flat : (l : List Term) → Each (Low 0) l → T (allOf (nestedTerm 0) l)
+  unfolding allOf
+  all-flat [] h = tt
+  all-flat (a ∷ l) h = all (nestedTerm 0 a) (allOf (nestedTerm 0) l) (h .0) (all-flat l (h .1))
 
   block-flat : (n : Counts) (capacities : List ℕ) → Ensures Flat (blockField s n capacities)
-  unfolding blockField
-  block-flat n capacities = then (any-number 1 16) (λ kind h. operands-flat n capacities kind)
+  unfolding nestedBlock
+  block-flat n capacities = weaken (λ b h. all-flat (facts b .terms) (h .1)) (block-parsed s n capacities (Low 0) (block-term n))
 
   -- ---- The model
 
