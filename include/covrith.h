@@ -41,6 +41,7 @@ enum {
  * is not whole, shortest or in size, 4 out of its field's range, 5 a value too large, 6 bytes behind the model,
  * 7 a block out of place; of the tape, 8 a number, 9 a range, 10 bytes behind it.
  * A refused run leaves work, trace and report as they were.
+ * The report lists the living by rising transaction number.
  * An accepted run leaves the bytes of trace and report behind the lengths in `outcome` as they were; the work
  * buffer then holds nothing of use. What the buffers held before changes nothing.
  *

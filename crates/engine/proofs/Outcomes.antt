@@ -17,10 +17,11 @@ use Rattle.machine.specs.State.{State}
 use Rattle.machine.specs.Validate.{Validation, accept, reject, validate}
 use Rattle.machine.specs.Run.{run}
 use Rattle.machine.specs.Report.{reportNumbers, reportBytes}
-use Rattle.machine.specs.Claims.{Each}
+use Rattle.machine.specs.Claims.{Each, LivingListed}
 use Rattle.machine.specs.Outcome.{Outcome, recordsOf, acceptedRun, refusedRun, outcomeOf, outcome}
 use Rattle.machine.proofs.Proper.{Proper}
 use Rattle.machine.proofs.ProperFrom.{proper-from}
+use Rattle.machine.proofs.LivingListed.{living-listed}
 use Rattle.machine.proofs.Demand3.{demand3}
 use Rattle.machine.proofs.OutcomeLaws.{outcome-keeps}
 use Rattle.tables.specs.Represents.{headerOf, Represents}
@@ -150,6 +151,9 @@ module _ (model tape : List ℕ) (budget : ℕ) (work trace report : List ℕ) w
                 subst (λ (x : BlockModel). ReadsBack x (take (r .scalars .used) trace′) (recordsOf (run x times′ budget (length trace)))) e
                 (subst (λ (x : List (List ℕ)). ReadsBack m (take (r .scalars .used) trace′) (recordsOf (run m x budget (length trace)))) f
                 (subst (λ (l : List ℕ). ReadsBack m l (recordsOf s)) (sym front) (reads-back s (kept .traced))));
+            living =
+                subst (λ (x : BlockModel). LivingListed x times′ (run x times′ budget (length trace))) e
+                (subst (λ (x : List (List ℕ)). LivingListed m x (run m x budget (length trace))) f (living-listed s (kept .sure .sound)));
           }
 
       pub accepted-runs : Contract model tape budget work trace report (endedWith (r .scalars) n) work′ trace′ report′

@@ -1,5 +1,5 @@
 -- "What demand 3 speaks of", word by word, as one claim about the states of a whole run. Proved in ../proofs/Demand3.antt.
-use Prim.Native.Nat.{ℕ, zero, suc, _+_, _-_, _≤_, _<_}
+use Prim.Native.Nat.{ℕ, zero, suc, _+_, _*_, _-_, _≤_, _<_}
 use mathlib.Core.Path.{_≡_}
 use mathlib.Core.Bool.{Bool, true, false, cond, not, _&&_, _||_}
 use mathlib.Core.List.{List, [], _∷_, _++_, map, reverse}
@@ -18,7 +18,7 @@ use Rattle.machine.specs.Execute.{fits}
 use Rattle.machine.specs.Turn.{waitsOn}
 use Rattle.machine.specs.Trace.{Record, inRanges}
 use Rattle.machine.specs.Run.{run, states}
-use Rattle.machine.specs.Report.{places, movingOne}
+use Rattle.machine.specs.Report.{places, movingOne, reportNumbers}
 use Rattle.machine.specs.Outcome.{Outcome}
 
 -- how many of a list pass a test
@@ -158,6 +158,31 @@ module _ (m : BlockModel) (tape : List (List ℕ)) where
     -- the clock is about to move, or the run ended dry: `end` is 0 in each state before a turn that is taken, and 1 is dry
     pub nobody-able : s .end ≤ 1 → s .moving ≡ none → s .rel ≡ [] → ableToGo s ≡ 0
     pub order : InOrder (reverse (s .records))
+
+  -- ---- Document 02, item 2: "List the living by rising transaction number", told from the report's numbers alone
+
+  -- where the living part of a report begins
+  unfoldable pub livingAt : ℕ
+  livingAt = 3 + 5 * (m .facilities + length (m .capacities)) + 3 * m .queues
+
+  -- how often a number stands at a place
+  unfoldable pub standingAt : State → (place number : ℕ) → ℕ
+  standingAt s place n = count (λ p. eqb (p .place) place && eqb (p .number) n) (places s)
+
+  -- number and place of the living one at index i
+  abbrev pub listedNumber : State → ℕ → ℕ
+  listedNumber s i = getD (reportNumbers m s) (livingAt + 1 + 2 * i) 0
+
+  abbrev pub listedPlace : State → ℕ → ℕ
+  listedPlace s i = getD (reportNumbers m s) (livingAt + 2 + 2 * i) 0
+
+  pub record LivingListed (s : State) : Type 0 where
+    pub counted : getD (reportNumbers m s) livingAt 0 ≡ livingCount (s .records)
+    pub whole : length (reportNumbers m s) ≡ livingAt + 1 + 2 * livingCount (s .records)
+    -- the transaction numbers rise strictly, each is a living one, and each stands with its place
+    pub rising : (i : ℕ) → suc i < livingCount (s .records) → listedNumber s i < listedNumber s (suc i)
+    pub living : (i : ℕ) → i < livingCount (s .records) → isLiving (s .records) (listedNumber s i) ≡ true
+    pub placed : (i : ℕ) → i < livingCount (s .records) → standingAt s (listedPlace s i) (listedNumber s i) ≡ 1
 
 -- ---- "It is one claim about the whole run": of the start, of what each turn left, and of the last state
 

@@ -1,5 +1,5 @@
 -- Bytes, "Report: clock, made, ended; per facility and storage: ..; per queue: ..; the living count and, per living one,
--- number and place". The order of the living is free in the paper; here it is by rising number (docs/DECISIONS.md).
+-- number and place". Document 02, item 2: "List the living by rising transaction number."
 use Prim.Native.Nat.{ℕ, suc, _+_}
 use mathlib.Core.Bool.{Bool, _&&_}
 use mathlib.Core.List.{List, [], _∷_, _++_, map}

@@ -31,7 +31,7 @@ use Rattle.state.proofs.Numbered.{Numbered, numbered}
 use Rattle.report.specs.Writing.{written, putAll}
 use Rattle.codec.proofs.Writing.{put-room}
 use Rattle.report.proofs.Writes.{putAll-cons}
-use Rattle.report.proofs.Sorting.{sum-sorted}
+use Rattle.machine.proofs.Sorting.{sum-sorted}
 use Rattle.report.proofs.Counted.{records-few}
 
 -- ---- Sizes
