@@ -2,40 +2,40 @@
 use libc::STDOUT_FILENO;
 use streams::Started;
 
-fn show(n: u32) {
+fn print_line(n: u32) {
     io::print_decimal(STDOUT_FILENO, n as u64);
     io::write_all(STDOUT_FILENO, b"\n");
 }
 
 // A stream's start and its first three draws; or the refusal.
-fn show_stream(stream: u32) {
+fn print_stream(stream: u32) {
     match streams::start(stream) {
         Started::Refused(n) => {
             io::write_all(STDOUT_FILENO, b"refused ");
-            show(n);
+            print_line(n);
         }
         Started::State(first) => {
-            show(first);
+            print_line(first);
             let second = streams::step(first);
-            show(second);
+            print_line(second);
             let third = streams::step(second);
-            show(third);
-            show(streams::step(third));
+            print_line(third);
+            print_line(streams::step(third));
         }
     }
 }
 
 fn main() {
     // "1,043,618,065 after 10,000 steps from 1"
-    show(streams::advance(1, 10_000));
-    show_stream(0);
-    show_stream(1);
-    show_stream(511);
-    show_stream(512);
-    show_stream(4_294_967_295);
-    show(streams::step(0));
-    show(streams::step(2_147_483_646));
-    show(streams::step(2_147_483_647));
-    show(streams::step(2_147_483_648));
-    show(streams::step(4_294_967_295));
+    print_line(streams::advance(1, 10_000));
+    print_stream(0);
+    print_stream(1);
+    print_stream(511);
+    print_stream(512);
+    print_stream(4_294_967_295);
+    print_line(streams::step(0));
+    print_line(streams::step(2_147_483_646));
+    print_line(streams::step(2_147_483_647));
+    print_line(streams::step(2_147_483_648));
+    print_line(streams::step(4_294_967_295));
 }
