@@ -129,7 +129,7 @@ def _records(data: bytes) -> Iterator[Record]:
         if answer == _NO_MORE:
             return
         _accepted(answer, position)
-        clock, transaction, block, outcome, position = numbers
+        clock, transaction, block, outcome, position = numbers[:]
         yield Record(clock, transaction, block, outcome)
 
 

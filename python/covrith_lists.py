@@ -141,12 +141,10 @@ def _flat(name: str, items: Sequence[Any]) -> Iterator[int]:
 def _kind(name: str, given: Union[str, int, Kind]) -> Kind:
     if isinstance(given, Kind):
         return given
-    if isinstance(given, str):
-        if given.upper() in Kind.__members__:
-            return Kind[given.upper()]
-    elif whole(name, given, 0) in Kind.numbers():
-        return Kind(given)
-    raise ValueError(f"{name}: {given!r} is no kind of block")
+    try:
+        return Kind[given.upper()] if isinstance(given, str) else Kind(whole(name, given, 0))
+    except (KeyError, ValueError):
+        raise ValueError(f"{name}: {given!r} is no kind of block") from None
 
 
 def _block(number: int, given: Any) -> List[int]:

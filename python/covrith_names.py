@@ -3,7 +3,7 @@
 from __future__ import annotations
 
 import enum
-from typing import FrozenSet, Optional
+from typing import Optional
 
 
 class _Named(enum.Enum):
@@ -24,11 +24,6 @@ class _Named(enum.Enum):
 
     def __str__(self) -> str:
         return self.words
-
-    @classmethod
-    def numbers(cls) -> FrozenSet[int]:
-        """All numbers that have a name here."""
-        return frozenset(member.value for member in cls)
 
 
 class End(_Named):

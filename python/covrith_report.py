@@ -144,7 +144,7 @@ class Report:
 
 def _living(numbers: _Numbers) -> Living:
     transaction = numbers.of_report()
-    place = numbers.of_report()
-    if place not in Place.numbers():
-        raise NoReport(numbers.position)
-    return Living(transaction, Place(place))
+    try:
+        return Living(transaction, Place(numbers.of_report()))
+    except ValueError:
+        raise NoReport(numbers.position) from None
