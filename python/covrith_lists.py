@@ -14,13 +14,13 @@ BytesLike = Union[bytes, bytearray, memoryview]
 # Arguments: each is asked for its type before it goes on to the engine
 
 
-def lent(name: str, given: BytesLike) -> bytes:
+def lent(name: str, given: BytesLike, wanted: str = "bytes") -> bytes:
     """The bytes that are given."""
     if isinstance(given, bytes):
         return given
     if isinstance(given, (bytearray, memoryview)):
         return bytes(given)
-    raise TypeError(f"{name}: expected bytes, got {type(given).__name__}")
+    raise TypeError(f"{name}: expected {wanted}, got {type(given).__name__}")
 
 
 def whole(name: str, given: int, low: int, high: Optional[int] = None) -> int:
@@ -212,9 +212,9 @@ def tape(lists: Sequence[Iterable[int]]) -> bytes:
 
 def model_bytes(given: Union[BytesLike, Model]) -> bytes:
     """The stored form of a model."""
-    return bytes(given) if isinstance(given, Model) else lent("model", given)
+    return bytes(given) if isinstance(given, Model) else lent("model", given, "bytes or a Model")
 
 
 def tape_bytes(given: Union[BytesLike, Sequence[Iterable[int]]]) -> bytes:
     """The stored form of a tape."""
-    return tape(given) if isinstance(given, (list, tuple)) else lent("tape", given)
+    return tape(given) if isinstance(given, (list, tuple)) else lent("tape", given, "bytes or lists of times")
