@@ -31,7 +31,7 @@ from covrith_names import End, Kind, NoReport, Place, Refusal, Refused
 from covrith_report import Header, Living, Queue, Report, Server
 
 __all__ = [
-    "run", "load", "Run", "Header", "Report", "Server", "Queue", "Living", "Record", "records", "record_bytes", "count",
+    "run", "load", "Run", "Header", "Report", "Server", "Queue", "Living", "Record", "records", "record_bytes", "count", "draws",
     "End", "Kind", "NoReport", "Place", "Refusal", "Refused", "Model", "tape", "CLOCK", "bracket", "comparison", "constant", "content",
     "entries", "in_use", "parameter", "summed", "units_free", "units_in_use", "value",
     "BUDGET", "REPORT_BYTES", "TRACE_BYTES", "WORK_NUMBERS",
@@ -69,6 +69,8 @@ _FUNCTIONS: Dict[str, Tuple[Any, List[Any]]] = {
     "covrith_read_record": (_ANSWER, [_IN, _LENGTH, _LENGTH, _OUT64]),
     "covrith_write_record": (_ANSWER, [_OUT, _LENGTH, _NUMBER, _NUMBER, _NUMBER, _NUMBER, _OUT64]),
     "covrith_count": (_NUMBER, [_IN, _LENGTH]),
+    "covrith_stream_start": (_ANSWER, [ctypes.c_uint32, _OUT32]),
+    "covrith_stream_step": (ctypes.c_uint32, [ctypes.c_uint32]),
 }
 
 
@@ -95,6 +97,24 @@ def _buffer(of: Any, length: int) -> Any:
 def _accepted(answer: int, position: Optional[int] = None) -> None:
     if answer:
         raise Refused(Refusal(answer), position)
+
+
+# ---------------------------------------------------------------------------------------------------------------------------
+# Streams
+
+
+def draws(stream: int) -> Iterator[int]:
+    """The numbers 1 to 2,147,483,646 of a stream without end, the same on each machine; `Refused` for a stream above 511."""
+    state = _buffer(ctypes.c_uint32, 1)
+    _accepted(_library().covrith_stream_start(whole("stream", stream, 0, 2**32 - 1), state))
+    return _draws(state[0])
+
+
+def _draws(state: int) -> Iterator[int]:
+    step = _library().covrith_stream_step
+    while True:
+        state = step(state)
+        yield state
 
 
 # ---------------------------------------------------------------------------------------------------------------------------

@@ -1,6 +1,7 @@
 """Runs, records, reports and refusals of the Python interface, and what it does with arguments that are wrong."""
 
 import concurrent.futures
+import itertools
 import os
 import pathlib
 import subprocess
@@ -148,6 +149,13 @@ def deep(brackets):
         term = covrith.bracket(("+", term))
     return covrith.summed(("+", term))
 
+    def test_draws(self):
+        self.assertEqual(list(itertools.islice(covrith.draws(0), 3)), [16_807, 282_475_249, 1_622_650_073])
+        self.assertEqual(next(itertools.islice(covrith.draws(0), 9_999, None)), 1_043_618_065)
+        ahead = itertools.islice(covrith.draws(510), 100_000, 100_003)
+        self.assertEqual(list(ahead), list(itertools.islice(covrith.draws(511), 3)))
+        self.refused(41, covrith.draws, 512)
+
 
 class Reports(unittest.TestCase):
     HEADER = Header(1, 1, [3], 1)
@@ -202,6 +210,7 @@ class WrongArguments(unittest.TestCase):
                 self.assertRaises(TypeError, covrith.run, MODEL, TAPE, **{name: wrong})
             self.assertRaises(TypeError, covrith.record_bytes, [1, 1, wrong, 0])
             self.assertRaises(TypeError, covrith.tape, [[1, wrong]])
+            self.assertRaises(TypeError, covrith.draws, wrong)
             self.assertRaises(TypeError, bytes, Model([], facilities=wrong))
 
     def test_ranges(self):
@@ -211,6 +220,7 @@ class WrongArguments(unittest.TestCase):
         for wrong in ((), (1, 1, 1), (1, 1, 1, 0, 4), (-1, 1, 1, 0), (2**64, 1, 1, 0)):
             self.assertRaises(ValueError, covrith.record_bytes, wrong)
         self.assertRaises(ValueError, covrith.tape, [[-1]])
+        self.assertRaises(ValueError, covrith.draws, -1)
         for wrong in ([()], [("SEIZE",)], [("SEIZE", 1, 1)], [("SIEZE", 1)], [(99, 1)], [("SEIZE", -1)], [("WAITIF_SERVER", "X", 1)]):
             self.assertRaises(ValueError, bytes, Model(wrong))
         self.assertRaises(ValueError, covrith.summed, covrith.content(1))
