@@ -13,13 +13,13 @@ ghost use Rattle.machine.specs.Trace.{recordBytes, readRecord, inRanges, writeR
 ghost use Rattle.trace.specs.Answers.{entry, readingOf, writingOf, after};
 
 // "Clock to 2,000,000,000, transaction 1..100,000,000, block 1..256, outcome 0..1"
-const MAX_CLOCK: u64 = 2_000_000_000;
+pub const MAX_CLOCK: u64 = 2_000_000_000;
 
-const MAX_TRANSACTION: u64 = 100_000_000;
+pub const MAX_TRANSACTION: u64 = 100_000_000;
 
-const MAX_BLOCK: u64 = 256;
+pub const MAX_BLOCK: u64 = 256;
 
-const MAX_OUTCOME: u64 = 1;
+pub const MAX_OUTCOME: u64 = 1;
 
 pub struct Record {
     pub clock: u64,

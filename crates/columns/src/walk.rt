@@ -1,0 +1,11 @@
+// Where a walk over a trace and its columns stands.
+
+// A position in the trace and in each column, and the clock of the record before.
+pub struct Walk {
+    pub at: usize,
+    pub clock: u64,
+    pub differences: usize,
+    pub transactions: usize,
+    pub blocks: usize,
+    pub outcomes: usize,
+}
