@@ -74,18 +74,18 @@ totalsOf (Taken count t) = some (record {
 totalsOf Refused = none
 
 -- those of a walk with these records still to come
+abbrev pub totalled : (count : ℕ) → Walk → List Record → Totals
+totalled count t l = record {
+  count = count + length l;
+  differences = t .differences + length (column (differences (t .clock) (clocks l)));
+  transactions = t .transactions + length (column (transactions l));
+  blocks = t .blocks + length (column (blocks l));
+  outcomes = t .outcomes + length (column (outcomes l));
+}
+
 unfoldable pub totals : (count : ℕ) → Walk → Option (List Record) → Option Totals
 totals count t none = none
-totals count t (some l) =
-    cond (neverFall (t .clock) (clocks l))
-    (some (record {
-      count = count + length l;
-      differences = t .differences + length (column (differences (t .clock) (clocks l)));
-      transactions = t .transactions + length (column (transactions l));
-      blocks = t .blocks + length (column (blocks l));
-      outcomes = t .outcomes + length (column (outcomes l));
-    }))
-    none
+totals count t (some l) = cond (neverFall (t .clock) (clocks l)) (some (totalled count t l)) none
 
 -- ---- Columns, written
 
