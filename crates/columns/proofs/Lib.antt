@@ -3,5 +3,7 @@ pub mod Measuring
 pub mod Placing
 pub mod Parsing
 pub mod Pieces
+pub mod Surveying
+pub mod Restoring
 pub mod ByteLists
 pub mod Claims
