@@ -38,6 +38,34 @@ module _ (at : ℕ) (x : Reading) {y : machine.Reading} (e : readingOf x ≡ y) 
   unfolding entryOf
   entry-none h = rw (← e, h)
 
+-- ---- One step of the code
+
+-- four numbers written one after the other
+pub placed : (x : Entry) (t : Walk) (d p1 p2 p3 p4 : ℕ) (out o1 o2 o3 o4 : List ℕ) → d ≡ x .clock - t .clock →
+    written p1 o1 ≡ put d (written (t .differences) out) →
+    written p2 o2 ≡ put (x .transaction) (written (t .transactions) o1) →
+    written p3 o3 ≡ put (x .block) (written (t .blocks) o2) →
+    written p4 o4 ≡ put (x .outcome) (written (t .outcomes) o3) →
+    moved (record { at = x .next; clock = x .clock; differences = p1; transactions = p2; blocks = p3; outcomes = p4 }) o4 ≡ place x t out
+unfolding place moved written
+placed x t d p1 p2 p3 p4 out o1 o2 o3 o4 e w1 w2 w3 w4 = rw (← e, ← w1, ← w2, ← w3, ← w4)
+
+pub place-more : (left : ℕ) (s : List ℕ) (t t′ : Walk) (out out′ : List ℕ) → 0 < left → moved t′ out′ ≡ place (recordAt s (t .at)) t out →
+    placeAll (left - 1) s t′ out′ ≡ placeAll left s t out
+place-more left s t t′ out out′ h e =
+    let more : suc (left - 1) ≡ left = omega arith in
+    first ∙ ap (λ (p : Moved). placeAll (left - 1) s (p .walk) (p .bytes)) e ∙ last ∙ ap (λ (n : ℕ). placeAll n s t out) more
+  where
+    first : placeAll (left - 1) s t′ out′ ≡ placeAll (left - 1) s (moved t′ out′ .walk) (moved t′ out′ .bytes)
+    first = unfold moved in refl
+
+    last : placeAll (left - 1) s (place (recordAt s (t .at)) t out .walk) (place (recordAt s (t .at)) t out .bytes) ≡ placeAll (suc (left - 1)) s t out
+    last = unfold placeAll in refl
+
+pub place-none : (left : ℕ) (s : List ℕ) (t : Walk) (out : List ℕ) → left ≤ 0 → out ≡ placeAll left s t out
+unfolding placeAll
+place-none left s t out h = let e : left ≡ 0 = omega arith in rw e
+
 -- ---- Stores that do not meet
 
 set-past : (u l : List ℕ) (i j x : ℕ) → j < i → set (sets l i u) j x ≡ sets (set l j x) i u

@@ -1,5 +1,5 @@
 -- The second walk over columns, pure: the records found, written one after the other, are the trace.
-use Prim.Native.Nat.{ℕ, zero, suc, _+_, _-_, _≤_}
+use Prim.Native.Nat.{ℕ, zero, suc, _+_, _-_, _≤_, _<_}
 use native.Mathlib.Omega.{arith}
 use mathlib.Core.List.{List, [], _∷_, _++_}
 use mathlib.Core.Option.{Option}
@@ -18,7 +18,7 @@ use Rattle.codec.proofs.Writing.{put-room}
 use Rattle.trace.proofs.Writer.{recordBytes-length}
 use Rattle.columns.specs.declared.walk.Walk.{Walk}
 use Rattle.columns.specs.declared.restore.Number.{Number}
-use Rattle.columns.specs.Walks.{numberOr, Moved, moved, found, passed, restore, restoreAll, foundAll}
+use Rattle.columns.specs.Walks.{numberOr, numberAt, later, Moved, moved, found, passed, restore, restoreAll, foundAll}
 
 -- ---- The number at a position, by the codec's answer
 
@@ -32,6 +32,36 @@ module _ (at : ℕ) (x : Read) {o : Option bytes.Number} (e : numberOf at x ≡ 
   number-read {v} {next} h after =
       let n : next ≡ at + (next - at) = omega arith in
       rw (← e, h) (ap (λ (i : ℕ). record { value = v; next = i }) n)
+
+-- ---- One step of the code
+
+pub restored : (s : List ℕ) (t : Walk) (d n b o : Number) (clock p1 p2 p3 p4 : ℕ) (out o1 o2 o3 o4 : List ℕ) →
+    d ≡ numberAt s (t .differences) → n ≡ numberAt s (t .transactions) → b ≡ numberAt s (t .blocks) → o ≡ numberAt s (t .outcomes) →
+    clock ≡ later (t .clock) (d .value) →
+    written p1 o1 ≡ put clock (written (t .at) out) →
+    written p2 o2 ≡ put (n .value) (written p1 o1) →
+    written p3 o3 ≡ put (b .value) (written p2 o2) →
+    written p4 o4 ≡ put (o .value) (written p3 o3) →
+    moved (record { at = p4; clock = clock; differences = d .next; transactions = n .next; blocks = b .next; outcomes = o .next }) o4 ≡ restore s t out
+unfolding restore found passed
+restored s t d n b o clock p1 p2 p3 p4 out o1 o2 o3 o4 ed en eb eo ec w1 w2 w3 w4 =
+    rw (← ed, ← en, ← eb, ← eo, ← ec, ← w1, ← w2, ← w3, ← w4) (unfold written in refl)
+
+pub restore-more : (left : ℕ) (s : List ℕ) (t t′ : Walk) (out out′ : List ℕ) → 0 < left → moved t′ out′ ≡ restore s t out →
+    restoreAll (left - 1) s t′ out′ ≡ restoreAll left s t out
+restore-more left s t t′ out out′ h e =
+    let more : suc (left - 1) ≡ left = omega arith in
+    first ∙ ap (λ (p : Moved). restoreAll (left - 1) s (p .walk) (p .bytes)) e ∙ last ∙ ap (λ (n : ℕ). restoreAll n s t out) more
+  where
+    first : restoreAll (left - 1) s t′ out′ ≡ restoreAll (left - 1) s (moved t′ out′ .walk) (moved t′ out′ .bytes)
+    first = unfold moved in refl
+
+    last : restoreAll (left - 1) s (restore s t out .walk) (restore s t out .bytes) ≡ restoreAll (suc (left - 1)) s t out
+    last = unfold restoreAll in refl
+
+pub restore-none : (left : ℕ) (s : List ℕ) (t : Walk) (out : List ℕ) → left ≤ 0 → out ≡ restoreAll left s t out
+unfolding restoreAll
+restore-none left s t out h = let e : left ≡ 0 = omega arith in rw e
 
 -- ---- One record
 

@@ -30,6 +30,9 @@ use Rattle.columns.specs.Walks.{sized, ends, numberOr, numberAt, later, 
 use Rattle.columns.proofs.Parsing.{Stands, stands-first, stands-rest, Between, ColumnTaken, column-taken, Below, ClocksTaken, clocks-taken}
 use Rattle.columns.proofs.Pieces.{split, columns-parsed}
 
+pub nine : (r v : ℕ) → r ≡ length (numberBytes v) → r ≤ 9
+nine r v e = omega (arith, numberBytes-longest v)
+
 -- ---- One column, number by number
 
 module _ (s : List ℕ) (lo hi : ℕ) where

@@ -1,49 +1,42 @@
+-- `columns::measure::longer` meets its contract: four lengths, each at most nine.
+use Prim.Native.Nat.{_-_}
+use native.Mathlib.Omega.{arith}
 use borrow.Author.Needs.{needs}
+use Rattle.codec.proofs.Numbers.{numberBytes-longest}
+use Rattle.columns.specs.Walks.{longer}
 use Rattle.columns.proofs.measure.longer.Statement.{statement}
 use Rattle.columns.proofs.measure.longer.Tie as tie
-use Rattle.columns.proofs.measure.longer.Reads as reads
-use Rattle.columns.proofs.measure.longer.Lts as lts
-use Rattle.codec.proofs.number_len.Reads as number-len-reads
 
--- src/measure.rt:31:49
 sub-number-len : tie.Need-sub-number-len
 sub-number-len c = search needs
 
--- src/measure.rt:31:38
 number-len-requires : tie.Need-number-len-requires
 number-len-requires c κs = search needs
 
--- src/measure.rt:31:22
 add-t7 : tie.Need-add-t7
-add-t7 c = ?
+add-t7 c = omega (arith, c .before .before .before .before .pre, c .before .number-len .ensures, numberBytes-longest (c .before .before .before .before .args .r .clock - c .before .before .before .before .args .t .clock))
 
--- src/measure.rt:32:40
 number-len-requires-2 : tie.Need-number-len-requires-2
 number-len-requires-2 c κs = search needs
 
--- src/measure.rt:32:23
 add-t9 : tie.Need-add-t9
-add-t9 c = ?
+add-t9 c = omega (arith, c .before .before .before .before .before .before .pre, c .before .number-len2 .ensures, numberBytes-longest (c .before .before .before .before .before .before .args .r .transaction))
 
--- src/measure.rt:33:28
 number-len-requires-3 : tie.Need-number-len-requires-3
 number-len-requires-3 c κs = search needs
 
--- src/measure.rt:33:17
 add-t11 : tie.Need-add-t11
-add-t11 c = ?
+add-t11 c = omega (arith, c .before .before .before .before .before .before .before .before .pre, c .before .number-len3 .ensures, numberBytes-longest (c .before .before .before .before .before .before .before .before .args .r .block))
 
--- src/measure.rt:34:32
 number-len-requires-4 : tie.Need-number-len-requires-4
 number-len-requires-4 c κs = search needs
 
--- src/measure.rt:34:19
 add-t13 : tie.Need-add-t13
-add-t13 c = ?
+add-t13 c = omega (arith, c .before .before .before .before .before .before .before .before .before .before .pre, c .before .number-len4 .ensures, numberBytes-longest (c .before .before .before .before .before .before .before .before .before .before .args .r .outcome))
 
--- src/measure.rt:23:1
 returns : tie.Need-returns
-returns c = ?
+unfolding longer
+returns c = rw (c .before .before .before .before .before .before .before .number-len .ensures, c .before .before .before .before .before .number-len2 .ensures, c .before .before .before .number-len3 .ensures, c .before .number-len4 .ensures)
 
 pub longer-spec : {M : Type 1} → statement M
 longer-spec =

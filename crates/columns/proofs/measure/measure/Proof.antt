@@ -1,46 +1,44 @@
+-- `columns::measure::measure` meets its contract. The loop's invariant: with what is still to come, the totals are those of the whole trace. The
+-- measure is how many records more there may be.
+use Prim.Native.Nat.{_-_}
+use mathlib.Core.Path.{_≡_, refl, sym, _∙_}
+use native.Mathlib.Omega.{arith}
+use borrow.Author.Needs.{needs}
+use Rattle.columns.specs.Columns.{maxRecords}
+use Rattle.columns.specs.Walks.{Short, atStart}
+use Rattle.columns.proofs.Measuring.{Rest, step-refused, step-taken, step-end}
 use Rattle.columns.proofs.measure.measure.Statement.{statement}
 use Rattle.columns.proofs.measure.measure.Tie as tie
-use Rattle.columns.proofs.measure.measure.Reads as reads
-use Rattle.columns.proofs.measure.measure.Lts as lts
-use Rattle.columns.proofs.measure.measure_record.Reads as measure-record-reads
 
 abbrev Inv-loop : tie.InvT-loop
-Inv-loop s count₀ t₀ count t = ?
+Inv-loop s count₀ t₀ count t = Short count t × (Rest s count t ≡ Rest s 0 atStart)
 
 abbrev μ-loop : tie.MeasureT-loop
-μ-loop s count₀ t₀ count t = ?
+μ-loop s count₀ t₀ count t = maxRecords - count
 
--- src/measure.rt:70:5
 loop-holds : tie.Need-loop-holds Inv-loop μ-loop
-loop-holds c = ?
+loop-holds c = (record { few = omega arith; differences = omega arith; transactions = omega arith; blocks = omega arith; outcomes = omega arith }, refl)
 
--- src/measure.rt:71:15
 measure-record-requires : tie.Need-measure-record-requires Inv-loop μ-loop
-measure-record-requires c κs = ?
+measure-record-requires c κs = c .before .loop .inv .0
 
--- src/measure.rt:72:34
 enum-told : tie.Need-enum-told Inv-loop μ-loop
-enum-told c = ?
+enum-told c = search needs
 
--- src/measure.rt:72:34
 returns : tie.Need-returns Inv-loop μ-loop
-returns c = ?
+returns c = step-refused _ _ _ (c .before .before .before .before .loop .inv .0) (c .before .before .before .loop-test .taken) (sym (c .enum-told .given .1) ∙ c .before .before .measure-record .ensures) ∙ c .before .before .before .before .loop .inv .1
 
--- src/measure.rt:73:29
 enum-known-n : tie.Need-enum-known-n Inv-loop μ-loop
-enum-known-n c = ?
+enum-known-n c = search needs
 
--- src/measure.rt:70:5
 loop-less : tie.Need-loop-less Inv-loop μ-loop
-loop-less c = ?
+loop-less c = let st = step-taken _ _ _ (c .before .before .before .before .before .loop .inv .0) _ _ (sym (c .before .n .given .1) ∙ c .before .before .before .measure-record .ensures) in omega (arith, st .room, st .count-more)
 
--- src/measure.rt:70:5
 loop-again : tie.Need-loop-again Inv-loop μ-loop
-loop-again c = ?
+loop-again c = let st = step-taken _ _ _ (c .before .before .before .before .before .loop .inv .0) _ _ (sym (c .before .n .given .1) ∙ c .before .before .before .measure-record .ensures) in (st .short, st .same ∙ c .before .before .before .before .before .loop .inv .1)
 
--- src/measure.rt:58:1
 returns-2 : tie.Need-returns-2 Inv-loop μ-loop
-returns-2 c = ?
+returns-2 c = step-end _ _ _ (c .before .loop .inv .0) (c .loop-test .left) ∙ c .before .loop .inv .1
 
 pub measure-spec : {M : Type 1} → statement M
 measure-spec =

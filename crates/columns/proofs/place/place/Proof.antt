@@ -1,43 +1,36 @@
+-- `columns::place::place` meets its contract: four numbers written one after the other.
+use mathlib.Core.Path.{ap, _∙_}
+use Rattle.columns.specs.declared.place.Entry.{Entry}
+use Rattle.columns.specs.Walks.{place}
+use Rattle.columns.proofs.Placing.{placed}
 use borrow.Author.Needs.{needs}
 use Rattle.columns.proofs.place.place.Statement.{statement}
 use Rattle.columns.proofs.place.place.Tie as tie
-use Rattle.columns.proofs.place.place.Reads as reads
-use Rattle.columns.proofs.place.place.Lts as lts
-use Rattle.codec.proofs.write_number.Reads as write-number-reads
-use Rattle.columns.proofs.place.difference.Reads as difference-reads
-use Rattle.columns.proofs.place.record_at.Reads as record-at-reads
 
--- src/place.rt:60:9
 record-at-requires : tie.Need-record-at-requires
 record-at-requires c κs = search needs
 
--- src/place.rt:61:9
 difference-requires : tie.Need-difference-requires
 difference-requires c κs = search needs
 
--- src/place.rt:62:9
 write-number-requires : tie.Need-write-number-requires
 write-number-requires c κs = search needs
 
--- src/place.rt:63:9
 write-number-requires-2 : tie.Need-write-number-requires-2
 write-number-requires-2 c κs = search needs
 
--- src/place.rt:64:9
 write-number-requires-3 : tie.Need-write-number-requires-3
 write-number-requires-3 c κs = search needs
 
--- src/place.rt:65:9
 write-number-requires-4 : tie.Need-write-number-requires-4
 write-number-requires-4 c κs = search needs
 
--- src/place.rt:57:1
 same-length : tie.Need-same-length
 same-length c = search needs
 
--- src/place.rt:57:1
 returns : tie.Need-returns
-returns c = ?
+returns c = placed _ _ _ _ _ _ _ _ _ _ _ _ (c .before .before .before .before .before .before .before .before .before .before .before .before .before .before .before .before .difference .ensures) (c .before .before .before .before .before .before .before .before .before .before .before .before .before .before .write-number .ensures) (c .before .before .before .before .before .before .before .before .before .before .write-number2 .ensures) (c .before .before .before .before .before .before .write-number3 .ensures) (c .before .before .write-number4 .ensures)
+    ∙ ap (λ (x : Entry). place x _ _) (c .before .before .before .before .before .before .before .before .before .before .before .before .before .before .before .before .before .record-at .ensures)
 
 pub place-spec : {M : Type 1} → statement M
 place-spec =

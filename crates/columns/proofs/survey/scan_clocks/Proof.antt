@@ -1,67 +1,66 @@
+-- `columns::survey::scan_clocks` meets its contract. The loop's invariant: what the differences that are left give is what all give, and the sums
+-- are within their limits. The measure is `left`.
+use Prim.Native.Nat.{_*_, _-_, _≤_}
+use mathlib.Core.Path.{_≡_, refl, _∙_}
+use native.Mathlib.Omega.{arith}
+use borrow.Author.Needs.{needs}
+use Rattle.machine.specs.Limits.{maxClock}
+use Rattle.codec.specs.Answers.{cursorAt}
+use Rattle.columns.specs.Columns.{clocksFrom}
+use Rattle.columns.specs.Walks.{sized}
+use Rattle.columns.proofs.Surveying.{nine, clocks-none, clocks-stop, clocks-step}
 use Rattle.columns.proofs.survey.scan_clocks.Statement.{statement}
 use Rattle.columns.proofs.survey.scan_clocks.Tie as tie
-use Rattle.columns.proofs.survey.scan_clocks.Reads as reads
-use Rattle.columns.proofs.survey.scan_clocks.Lts as lts
-use Rattle.codec.proofs.number_len.Reads as number-len-reads
-use Rattle.codec.proofs.read_field.Reads as read-field-reads
 
 abbrev Inv-loop : tie.InvT-loop
-Inv-loop s at count left₀ clock₀ next₀ size₀ left clock next size = ?
+Inv-loop s at count left₀ clock₀ next₀ size₀ left clock next size = (clock ≤ maxClock) × (left ≤ count) × (size ≤ 9 * (count - left)) × (sized size (clocksFrom s left clock (cursorAt next 0 0)) ≡ sized 0 (clocksFrom s count 0 (cursorAt at 0 0)))
 
 abbrev μ-loop : tie.MeasureT-loop
-μ-loop s at count left₀ clock₀ next₀ size₀ left clock next size = ?
+μ-loop s at count left₀ clock₀ next₀ size₀ left clock next size = left
 
--- src/survey.rt:45:5
 loop-holds : tie.Need-loop-holds Inv-loop μ-loop
-loop-holds c = ?
+loop-holds c = (omega arith, omega arith, omega arith, refl)
 
--- src/survey.rt:46:38
 sub-read-field : tie.Need-sub-read-field Inv-loop μ-loop
-sub-read-field c = ?
+sub-read-field c = omega arith
 
--- src/survey.rt:46:15
 read-field-requires : tie.Need-read-field-requires Inv-loop μ-loop
-read-field-requires c κs = ?
+read-field-requires c κs = search needs
 
--- src/survey.rt:47:34
 enum-told : tie.Need-enum-told Inv-loop μ-loop
-enum-told c = ?
+enum-told c = search needs
 
--- src/survey.rt:47:34
 returns : tie.Need-returns Inv-loop μ-loop
-returns c = ?
+returns c = clocks-stop _ _ _ _ _ _ (c .before .before .before .loop-test .taken) (c .before .before .read-field .ensures .0) (c .enum-told .given .1) ∙ c .before .before .before .before .loop .inv .3
 
--- src/survey.rt:48:26
 enum-known-difference : tie.Need-enum-known-difference Inv-loop μ-loop
-enum-known-difference c = ?
+enum-known-difference c = search needs
 
--- src/survey.rt:49:17
 add-clock : tie.Need-add-clock Inv-loop μ-loop
-add-clock c = ?
+add-clock c = omega (arith, c .before .before .before .before .before .loop .inv .0, c .before .before .before .read-field .ensures .1 _ _ (c .before .difference .given .1))
 
--- src/survey.rt:50:25
 number-len-requires : tie.Need-number-len-requires Inv-loop μ-loop
-number-len-requires c κs = ?
+number-len-requires c κs = search needs
 
--- src/survey.rt:50:17
 add-size : tie.Need-add-size Inv-loop μ-loop
-add-size c = ?
+add-size c = omega (arith, c .before .before .before .before .before .before .loop .inv .2, nine _ _ (c .number-len .ensures))
 
--- src/survey.rt:52:17
 sub-left : tie.Need-sub-left Inv-loop μ-loop
-sub-left c = ?
+sub-left c = omega arith
 
--- src/survey.rt:45:5
 loop-less : tie.Need-loop-less Inv-loop μ-loop
-loop-less c = ?
+loop-less c = omega arith
 
--- src/survey.rt:45:5
 loop-again : tie.Need-loop-again Inv-loop μ-loop
-loop-again c = ?
+loop-again c = (
+  omega (arith, c .before .before .before .before .before .before .loop .inv .0, c .before .before .before .before .read-field .ensures .1 _ _ (c .before .before .difference .given .1)),
+  omega arith,
+  omega (arith, c .before .before .before .before .before .before .loop .inv .2, nine _ _ (c .number-len .ensures)),
+  clocks-step _ _ _ _ _ _ (c .before .before .before .before .before .loop-test .taken) (c .before .before .before .before .read-field .ensures .0) (c .before .before .difference .given .1) (c .number-len .ensures) ∙ c .before .before .before .before .before .before .loop .inv .3,
+)
 
--- src/survey.rt:37:1
 returns-2 : tie.Need-returns-2 Inv-loop μ-loop
-returns-2 c = ?
+returns-2 c = clocks-none _ _ _ _ _ (c .loop-test .left) ∙ c .before .loop .inv .3
 
 pub scan-clocks-spec : {M : Type 1} → statement M
 scan-clocks-spec =

@@ -1,50 +1,47 @@
+-- `columns::survey::scan_column` meets its contract. The loop's invariant: where the numbers that are left end is where all end. The measure is
+-- `left`.
+use mathlib.Core.Path.{_≡_, refl, _∙_}
+use native.Mathlib.Omega.{arith}
+use borrow.Author.Needs.{needs}
+use Rattle.machine.specs.Parser.{field, times}
+use Rattle.codec.specs.Answers.{cursorAt}
+use Rattle.columns.specs.Walks.{ends}
+use Rattle.columns.proofs.Surveying.{column-none, column-stop, column-step}
 use Rattle.columns.proofs.survey.scan_column.Statement.{statement}
 use Rattle.columns.proofs.survey.scan_column.Tie as tie
-use Rattle.columns.proofs.survey.scan_column.Reads as reads
-use Rattle.columns.proofs.survey.scan_column.Lts as lts
-use Rattle.codec.proofs.read_field.Reads as read-field-reads
 
 abbrev Inv-loop : tie.InvT-loop
-Inv-loop s at count lo hi left₀ next₀ left next = ?
+Inv-loop s at count lo hi left₀ next₀ left next = ends (times left (field s 31 lo hi) (cursorAt next 0 0)) ≡ ends (times count (field s 31 lo hi) (cursorAt at 0 0))
 
 abbrev μ-loop : tie.MeasureT-loop
-μ-loop s at count lo hi left₀ next₀ left next = ?
+μ-loop s at count lo hi left₀ next₀ left next = left
 
--- src/survey.rt:64:5
 loop-holds : tie.Need-loop-holds Inv-loop μ-loop
-loop-holds c = ?
+loop-holds c = refl
 
--- src/survey.rt:65:15
 read-field-requires : tie.Need-read-field-requires Inv-loop μ-loop
-read-field-requires c κs = ?
+read-field-requires c κs = search needs
 
--- src/survey.rt:66:34
 enum-told : tie.Need-enum-told Inv-loop μ-loop
-enum-told c = ?
+enum-told c = search needs
 
--- src/survey.rt:66:34
 returns : tie.Need-returns Inv-loop μ-loop
-returns c = ?
+returns c = column-stop _ _ _ _ _ _ (c .before .before .before .loop-test .taken) (c .before .before .read-field .ensures .0) (c .enum-told .given .1) ∙ c .before .before .before .before .loop .inv
 
--- src/survey.rt:67:29
 enum-known-after : tie.Need-enum-known-after Inv-loop μ-loop
-enum-known-after c = ?
+enum-known-after c = search needs
 
--- src/survey.rt:69:17
 sub-left : tie.Need-sub-left Inv-loop μ-loop
-sub-left c = ?
+sub-left c = omega arith
 
--- src/survey.rt:64:5
 loop-less : tie.Need-loop-less Inv-loop μ-loop
-loop-less c = ?
+loop-less c = omega arith
 
--- src/survey.rt:64:5
 loop-again : tie.Need-loop-again Inv-loop μ-loop
-loop-again c = ?
+loop-again c = column-step _ _ _ _ _ _ (c .before .before .before .before .loop-test .taken) (c .before .before .before .read-field .ensures .0) (c .before .after .given .1) ∙ c .before .before .before .before .before .loop .inv
 
--- src/survey.rt:59:1
 returns-2 : tie.Need-returns-2 Inv-loop μ-loop
-returns-2 c = ?
+returns-2 c = column-none _ _ _ _ _ (c .loop-test .left) ∙ c .before .loop .inv
 
 pub scan-column-spec : {M : Type 1} → statement M
 scan-column-spec =
