@@ -1,4 +1,4 @@
-//! The proved engine for Rust: a run of a block model on a tape, and the records of its trace.
+//! The proved engine for Rust: a run of a block model on a tape, the records of its trace, and traces by column.
 //! Safe functions over slices; nothing is allocated and nothing is kept between calls.
 
 pub mod sys;
@@ -128,6 +128,44 @@ pub fn write_record(rest: &mut [u8], record: Record) -> Result<usize, u32> {
 pub fn count(trace: &[u8]) -> u64 {
     // SAFETY: as for `run`.
     unsafe { sys::covrith_count(trace.as_ptr(), trace.len()) }
+}
+
+/// Writes the columns of a trace and gives their length; or 51 or 52, and nothing is written.
+pub fn to_columns(trace: &[u8], out: &mut [u8]) -> Result<usize, u32> {
+    let mut written = 0;
+    // SAFETY: as for `run`.
+    let answer = unsafe {
+        sys::covrith_columns(
+            trace.as_ptr(),
+            trace.len(),
+            out.as_mut_ptr(),
+            out.len(),
+            &mut written,
+        )
+    };
+    match answer {
+        0 => Ok(written as usize),
+        refusal => Err(refusal),
+    }
+}
+
+/// Writes the trace of columns and gives its length; or 51 or 52, and nothing is written.
+pub fn from_columns(columns: &[u8], out: &mut [u8]) -> Result<usize, u32> {
+    let mut written = 0;
+    // SAFETY: as for `run`.
+    let answer = unsafe {
+        sys::covrith_uncolumns(
+            columns.as_ptr(),
+            columns.len(),
+            out.as_mut_ptr(),
+            out.len(),
+            &mut written,
+        )
+    };
+    match answer {
+        0 => Ok(written as usize),
+        refusal => Err(refusal),
+    }
 }
 
 /// The records of a trace one after the other; a refusal is the last item.

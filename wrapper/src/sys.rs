@@ -34,4 +34,20 @@ extern "C" {
     ) -> u32;
 
     pub fn covrith_count(trace: *const u8, trace_len: usize) -> u64;
+
+    pub fn covrith_columns(
+        trace: *const u8,
+        trace_len: usize,
+        out: *mut u8,
+        out_len: usize,
+        written: *mut u64,
+    ) -> u32;
+
+    pub fn covrith_uncolumns(
+        columns: *const u8,
+        columns_len: usize,
+        out: *mut u8,
+        out_len: usize,
+        written: *mut u64,
+    ) -> u32;
 }

@@ -7,3 +7,5 @@ pub mod Surveying
 pub mod Restoring
 pub mod ByteLists
 pub mod Claims
+pub mod Answers
+pub mod Runs

@@ -46,10 +46,10 @@ module _ (count : ℕ) (t : Walk) (x : Reading) {y : machine.Reading} (e : readi
     unfolding measuring
     measured-many high full = rw (← e, h, le-ltb _ _ high, eq-eqb _ _ full)
 
-    pub measured-taken : t .clock ≤ r .clock → (count ≡ maxRecords → ⊥) →
-        Taken (count + 1) (longer t (entry (r .clock) (r .transaction) (r .block) (r .outcome)) next) ≡ measuring count t y
+    pub measured-taken : t .clock ≤ r .clock → (count ≡ maxRecords → ⊥) → {w : Walk} →
+        w ≡ longer t (entry (r .clock) (r .transaction) (r .block) (r .outcome)) next → Taken (count + 1) w ≡ measuring count t y
     unfolding measuring
-    measured-taken high room = rw (← e, h, le-ltb _ _ high, ne-eqb _ _ room)
+    measured-taken high room f = rw (f, ← e, h, le-ltb _ _ high, ne-eqb _ _ room)
 
 -- ---- Totals
 

@@ -41,14 +41,14 @@ module _ (at : ℕ) (x : Reading) {y : machine.Reading} (e : readingOf x ≡ y) 
 -- ---- One step of the code
 
 -- four numbers written one after the other
-pub placed : (x : Entry) (t : Walk) (d p1 p2 p3 p4 : ℕ) (out o1 o2 o3 o4 : List ℕ) → d ≡ x .clock - t .clock →
+pub placed : (x y : Entry) → x ≡ y → (t : Walk) (d p1 p2 p3 p4 : ℕ) (out o1 o2 o3 o4 : List ℕ) → d ≡ x .clock - t .clock →
     written p1 o1 ≡ put d (written (t .differences) out) →
     written p2 o2 ≡ put (x .transaction) (written (t .transactions) o1) →
     written p3 o3 ≡ put (x .block) (written (t .blocks) o2) →
     written p4 o4 ≡ put (x .outcome) (written (t .outcomes) o3) →
-    moved (record { at = x .next; clock = x .clock; differences = p1; transactions = p2; blocks = p3; outcomes = p4 }) o4 ≡ place x t out
+    moved (record { at = x .next; clock = x .clock; differences = p1; transactions = p2; blocks = p3; outcomes = p4 }) o4 ≡ place y t out
 unfolding place moved written
-placed x t d p1 p2 p3 p4 out o1 o2 o3 o4 e w1 w2 w3 w4 = rw (← e, ← w1, ← w2, ← w3, ← w4)
+placed x y same t d p1 p2 p3 p4 out o1 o2 o3 o4 e w1 w2 w3 w4 = rw (← same, ← e, ← w1, ← w2, ← w3, ← w4)
 
 pub place-more : (left : ℕ) (s : List ℕ) (t t′ : Walk) (out out′ : List ℕ) → 0 < left → moved t′ out′ ≡ place (recordAt s (t .at)) t out →
     placeAll (left - 1) s t′ out′ ≡ placeAll left s t out
@@ -227,6 +227,12 @@ placed-all {s = s} (takes {at = at} {next = next} {r = r} {l = l} e more) t h ou
 sets-front : (u w l : List ℕ) (j : ℕ) → j ≡ length u → sets (sets l 0 u) j w ≡ sets l 0 (u ++ w)
 sets-front u w l j e = ap (λ (i : ℕ). sets (sets l 0 u) i w) (e ∙ sym (zero-add (length u))) ∙ sets-append u w l 0
 
+pub columns-length : (l : List Record) → length (columnBytes l)
+    ≡ length (numberBytes (length l)) + length (column (differences 0 (clocks l))) + length (column (transactions l)) + length (column (blocks l))
+    + length (column (outcomes l))
+unfolding columnBytes
+columns-length l = simp length-append
+
 module _ (l : List Record) (out : List ℕ) (fits : length (columnBytes l) ≤ length out) where
   abbrev pub head : ℕ
   head = length (numberBytes (length l))
@@ -241,11 +247,6 @@ module _ (l : List Record) (out : List ℕ) (fits : length (columnBytes l) ≤ l
     outcomes = head + length (column (differences 0 (clocks l))) + length (column (transactions l)) + length (column (blocks l));
   }
 
-  pub columns-length : length (columnBytes l)
-      ≡ head + length (column (differences 0 (clocks l))) + length (column (transactions l)) + length (column (blocks l)) + length (column (outcomes l))
-  unfolding columnBytes
-  columns-length = simp length-append
-
   pub columns-placed : {s : List ℕ} → Reads s 0 l → placeAll (length l) s firstColumns (sets out 0 (numberBytes (length l))) ≡ sets out 0 (columnBytes l)
   columns-placed {s} reads =
       let a = numberBytes (length l) in
@@ -258,7 +259,7 @@ module _ (l : List Record) (out : List ℕ) (fits : length (columnBytes l) ≤ l
       let abcd = length-append (a ++ b ++ c) d in
       let len = length-sets out 0 a in
       let room : Room firstColumns l (length (sets out 0 a)) =
-      record { differences = omega arith; transactions = omega arith; blocks = omega arith; outcomes = omega (arith, columns-length) } in
+      record { differences = omega arith; transactions = omega arith; blocks = omega arith; outcomes = omega (arith, columns-length l) } in
       placed-all reads firstColumns refl (sets out 0 a) room
       ∙ ap (λ (x : List ℕ). sets (sets (sets x (length a + length b) c) (length a + length b + length c) d) (length a + length b + length c + length d) e)
       (sets-front a b out (length a) refl)

@@ -255,7 +255,7 @@ module _ (s : List ℕ) where
       ∙ ap (λ (w : Walk). record { clock = c; transaction = x; block = b; outcome = o } ∷ foundAll n s w) (passed-one t c x b o cs ts bs os h)
       ∙ ap (λ (l : List Record). record { clock = c; transaction = x; block = b; outcome = o } ∷ l) rest
 
-column-longest : (l : List ℕ) → length (column l) ≤ 9 * length l
+pub column-longest : (l : List ℕ) → length (column l) ≤ 9 * length l
 unfolding column
 column-longest [] = omega arith
 column-longest (v ∷ l) = rw length-append (omega (arith, numberBytes-longest v, column-longest l))
@@ -305,10 +305,23 @@ module _ (s : List ℕ) (bytes : Bytes s) where
             survey-long long = rw (f0, k1 .parsed-is, k2 .parsed-is, k3 .parsed-is, k4 .parsed-is, ne-eqb p4 (length s) long)
 
             -- the sums of the code fit
-            pub survey-fits : (p1 ≤ p4) × (size ≤ 9 * maxRecords)
+            pub survey-fits : (p1 ≤ p4) × (size ≤ 9 * maxRecords) × (p4 ≤ p1 + 27 * maxRecords)
             survey-fits =
-                (omega (arith, k2 .taken-is .stands .place, k3 .taken-is .stands .place, k4 .taken-is .stands .place),
-                omega (arith, k1 .size-is, column-longest (k1 .list), k1 .taken-is .count))
+                let e2 = k2 .taken-is .stands .place in
+                let e3 = k3 .taken-is .stands .place in
+                let e4 = k4 .taken-is .stands .place in (
+                  omega arith,
+                  omega (arith, k1 .size-is, column-longest (k1 .list), k1 .taken-is .count),
+                  omega (
+                    arith,
+                    column-longest (k2 .list),
+                    k2 .taken-is .count,
+                    column-longest (k3 .list),
+                    k3 .taken-is .count,
+                    column-longest (k4 .list),
+                    k4 .taken-is .count,
+                  ),
+                )
 
             module _ (end : p4 ≡ length s) where
               abbrev start : Walk
