@@ -59,10 +59,11 @@ split-cons c t b o cs ts bs os h =
             length-append (numberBytes b) (column bs),
             length-append (numberBytes o) (column os),
           );
-      ranges-of = λ x y z w.
-          (in-ranges r
-          (record { clock = x .0; first = y .0 .0; transaction = y .0 .1; one = z .0 .0; block = z .0 .1; outcome = w .0 .1 }),
-          h .ranges-of (x .1) (y .1) (z .1) (w .1));
+      ranges-of = λ x y z w. (
+        in-ranges r
+            (record { clock = x .0; first = y .0 .0; transaction = y .0 .1; one = z .0 .0; block = z .0 .1; outcome = w .0 .1 }),
+        h .ranges-of (x .1) (y .1) (z .1) (w .1),
+      );
     }
 
 pub split : (n : ℕ) (cs ts bs os : List ℕ) → length cs ≡ n → length ts ≡ n → length bs ≡ n → length os ≡ n → Split cs ts bs os

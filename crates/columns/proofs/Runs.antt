@@ -126,8 +126,7 @@ in-order x [] h = (unfold neverFall in refl, tt)
 in-order x (r ∷ l) h =
     let rest = in-order (r .entry .clock) l (h .1) in
     let more = in-order-cons r l in
-    let up : Each (λ (q : Record). q .clock ≤ x) (inOrder l) = each-map (λ (q : Record) (le : q .clock ≤ r .entry .clock). omega (arith, h .0)) (inOrder l) (rest .1) in
-    (
+    let up : Each (λ (q : Record). q .clock ≤ x) (inOrder l) = each-map (λ (q : Record) (le : q .clock ≤ r .entry .clock). omega (arith, h .0)) (inOrder l) (rest .1) in (
       ap (λ (k : List Record). neverFall 0 (clocks k)) more ∙ rises-end 0 (inOrder l) (r .entry) (rest .0) zero-le (rest .1),
       subst (Each (λ (q : Record). q .clock ≤ x)) (sym more) (each-end x (inOrder l) (r .entry) up (h .0)),
     )

@@ -1,6 +1,6 @@
 // The first walk over a trace: is it taken, how many records has it, and how many bytes has each column?
-use codec::number_len;
 use crate::walk::Walk;
+use codec::number_len;
 use trace::Reading;
 use trace::Record;
 use trace::read_record;

@@ -1,6 +1,6 @@
 // The second walk over a trace: each record's numbers go to the four columns.
-use codec::write_number;
 use crate::walk::Walk;
+use codec::write_number;
 use trace::Reading;
 use trace::read_record;
 ghost use mathlib.Core.Path.{_≡_};

@@ -1,8 +1,8 @@
 // The second walk over columns: record by record, the four numbers go to the trace.
+use crate::walk::Walk;
 use codec::Read;
 use codec::read_number;
 use codec::write_number;
-use crate::walk::Walk;
 use trace::MAX_CLOCK;
 ghost use mathlib.Core.Path.{_≡_};
 ghost use Prim.Native.Nat.{_≤_};

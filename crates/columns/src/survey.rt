@@ -1,8 +1,8 @@
 // The first walk over columns: are they taken, where does each begin, and how many bytes has the trace?
+use crate::walk::Walk;
 use codec::Field;
 use codec::number_len;
 use codec::read_field;
-use crate::walk::Walk;
 use trace::MAX_BLOCK;
 use trace::MAX_CLOCK;
 use trace::MAX_OUTCOME;

@@ -1,10 +1,10 @@
 // A trace to columns.
-use codec::number_len;
-use codec::write_number;
 use crate::measure::Measured;
 use crate::measure::measure;
 use crate::place::write_columns;
 use crate::walk::Walk;
+use codec::number_len;
+use codec::write_number;
 use trace::Written;
 ghost use mathlib.Core.Path.{_≡_};
 ghost use Prim.Native.Nat.{ℕ, _≤_};

@@ -1,6 +1,4 @@
 -- `columns::measure::measure_record` meets its contract: what the reader answers, then the two tests.
-use mathlib.Core.Path.{ap, _∙_}
-use Rattle.columns.specs.declared.measure.Measured.the-variants.{Taken}
 use Rattle.columns.proofs.Measuring.{measured-refusal, measured-more, measured-fallen, measured-many, measured-taken}
 use borrow.Author.Needs.{needs}
 use Rattle.columns.proofs.measure.measure_record.Statement.{statement}
@@ -37,7 +35,7 @@ returns-4 : tie.Need-returns-4
 returns-4 c = measured-more _ _ _ (c .before .before .read-record .ensures) (c .enum-told2 .given .1)
 
 returns-5 : tie.Need-returns-5
-returns-5 c = ap (Taken _) (c .longer .ensures) ∙ measured-taken _ _ _ (c .before .before .before .before .before .before .before .before .read-record .ensures) (c .before .before .before .before .before .before .r .given .1) (c .before .before .if1 .left) (c .before .if2 .left)
+returns-5 c = measured-taken _ _ _ (c .before .before .before .before .before .before .before .before .read-record .ensures) (c .before .before .before .before .before .before .r .given .1) (c .before .before .if1 .left) (c .before .if2 .left) (c .longer .ensures)
 
 pub measure-record-spec : {M : Type 1} → statement M
 measure-record-spec =

@@ -1,7 +1,4 @@
 -- `columns::place::place` meets its contract: four numbers written one after the other.
-use mathlib.Core.Path.{ap, _∙_}
-use Rattle.columns.specs.declared.place.Entry.{Entry}
-use Rattle.columns.specs.Walks.{place}
 use Rattle.columns.proofs.Placing.{placed}
 use borrow.Author.Needs.{needs}
 use Rattle.columns.proofs.place.place.Statement.{statement}
@@ -29,8 +26,7 @@ same-length : tie.Need-same-length
 same-length c = search needs
 
 returns : tie.Need-returns
-returns c = placed _ _ _ _ _ _ _ _ _ _ _ _ (c .before .before .before .before .before .before .before .before .before .before .before .before .before .before .before .before .difference .ensures) (c .before .before .before .before .before .before .before .before .before .before .before .before .before .before .write-number .ensures) (c .before .before .before .before .before .before .before .before .before .before .write-number2 .ensures) (c .before .before .before .before .before .before .write-number3 .ensures) (c .before .before .write-number4 .ensures)
-    ∙ ap (λ (x : Entry). place x _ _) (c .before .before .before .before .before .before .before .before .before .before .before .before .before .before .before .before .before .record-at .ensures)
+returns c = placed _ _ (c .before .before .before .before .before .before .before .before .before .before .before .before .before .before .before .before .before .record-at .ensures) (c .before .before .before .before .before .before .before .before .before .before .before .before .before .before .before .before .before .before .before .before .args .t) _ _ _ _ _ _ _ _ _ _ (c .before .before .before .before .before .before .before .before .before .before .before .before .before .before .before .before .difference .ensures) (c .before .before .before .before .before .before .before .before .before .before .before .before .before .before .write-number .ensures) (c .before .before .before .before .before .before .before .before .before .before .write-number2 .ensures) (c .before .before .before .before .before .before .write-number3 .ensures) (c .before .before .write-number4 .ensures)
 
 pub place-spec : {M : Type 1} → statement M
 place-spec =

@@ -18,7 +18,7 @@ add-result c = search needs
 
 returns-2 : tie.Need-returns-2
 unfolding later
-returns-2 c = (rw (le-ltb _ _ (c .before .if1 .left)), omega arith)
+returns-2 c = (rw (le-ltb _ _ (c .if1 .left)), omega arith)
 
 pub later-spec : {M : Type 1} → statement M
 later-spec = tie.close (tie.spec sub-if1 returns add-result returns-2)

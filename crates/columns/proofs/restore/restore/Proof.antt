@@ -36,8 +36,8 @@ same-length c = search needs
 
 returns : tie.Need-returns
 returns c = (
-  restored _ _ _ _ _ _ _ _ _ _ _ _ _ _ _ _ (c .before .before .before .before .before .before .before .before .before .before .before .before .before .before .before .before .before .before .before .before .number-at .ensures) (c .before .before .before .before .before .before .before .before .before .before .before .before .before .before .before .before .before .before .before .number-at2 .ensures) (c .before .before .before .before .before .before .before .before .before .before .before .before .before .before .before .before .before .before .number-at3 .ensures) (c .before .before .before .before .before .before .before .before .before .before .before .before .before .before .before .before .before .number-at4 .ensures)
-  (c .before .before .before .before .before .before .before .before .before .before .before .before .before .before .before .before .later .ensures .0) (c .before .before .before .before .before .before .before .before .before .before .before .before .before .before .write-number .ensures) (c .before .before .before .before .before .before .before .before .before .before .write-number2 .ensures) (c .before .before .before .before .before .before .write-number3 .ensures) (c .before .before .write-number4 .ensures),
+  restored _ (c .before .before .before .before .before .before .before .before .before .before .before .before .before .before .before .before .before .before .before .before .before .before .before .args .t) _ _ _ _ _ _ _ _ _ _ _ _ _ _ (c .before .before .before .before .before .before .before .before .before .before .before .before .before .before .before .before .before .before .before .before .number-at .ensures) (c .before .before .before .before .before .before .before .before .before .before .before .before .before .before .before .before .before .before .before .number-at2 .ensures) (c .before .before .before .before .before .before .before .before .before .before .before .before .before .before .before .before .before .before .number-at3 .ensures) (c .before .before .before .before .before .before .before .before .before .before .before .before .before .before .before .before .before .number-at4 .ensures)
+      (c .before .before .before .before .before .before .before .before .before .before .before .before .before .before .before .before .later .ensures .0) (c .before .before .before .before .before .before .before .before .before .before .before .before .before .before .write-number .ensures) (c .before .before .before .before .before .before .before .before .before .before .write-number2 .ensures) (c .before .before .before .before .before .before .write-number3 .ensures) (c .before .before .write-number4 .ensures),
   c .before .before .before .before .before .before .before .before .before .before .before .before .before .before .before .before .later .ensures .1,
 )
 
