@@ -12,6 +12,7 @@ pub mod structured;
 pub mod sums;
 pub mod tapes;
 pub mod targets;
+pub mod traces;
 
 use crate::model::Model;
 use crate::report::REPORT_BYTES;

@@ -3,7 +3,9 @@
 
 pub mod account;
 pub mod blocks;
+pub mod calls;
 pub mod claims;
+pub mod columns;
 pub mod coverage;
 pub mod decode;
 pub mod generate;

@@ -7,10 +7,10 @@ use crate::number::{number_bytes, read_number};
 /// The most bytes one record has.
 pub const MAX_RECORD_BYTES: usize = 12;
 
-const MAX_CLOCK: u64 = Model::MAX_MOVE_TIME;
-const MAX_TRANSACTION: u64 = 100_000_000;
-const MAX_BLOCK: u64 = Model::MAX_BLOCKS as u64;
-const MAX_OUTCOME: u64 = 1;
+pub const MAX_CLOCK: u64 = Model::MAX_MOVE_TIME;
+pub const MAX_TRANSACTION: u64 = 100_000_000;
+pub const MAX_BLOCK: u64 = Model::MAX_BLOCKS as u64;
+pub const MAX_OUTCOME: u64 = 1;
 
 /// The reader's answer at or past the end, as a number.
 pub const NO_MORE: u32 = 30;
