@@ -3,8 +3,9 @@
 
 use crate::columns::{from_columns, to_columns};
 use crate::generate::random::Random;
-use crate::generate::traces;
+use crate::generate::{distributions, traces};
 use crate::line::hex;
+use crate::maker::make_tape;
 
 /// `to` or `from`, the given bytes, the bytes lent; answer, bytes written, bytes.
 pub fn columns_line(random: &mut Random) -> String {
@@ -27,6 +28,29 @@ pub fn columns_line(random: &mut Random) -> String {
     format!(
         "{name} {} {} {}",
         hex(&call.bytes),
+        call.room,
+        result(answer, &out)
+    )
+}
+
+/// The stream, the numbers of the lists, the bits of the doubles, each with
+/// commas between, the bytes lent; answer, bytes written, bytes.
+pub fn tapes_line(random: &mut Random) -> String {
+    let call = distributions::call(random);
+    let mut out = vec![0; call.room];
+    let answer = make_tape(call.stream, &call.lists, &call.numbers, &mut out);
+    let lists: Vec<String> = call.lists.iter().map(u32::to_string).collect();
+    let bits = |double: &f64| format!("{:016x}", double.to_bits());
+    let numbers: Vec<String> = call.numbers.iter().map(bits).collect();
+    let some = |words: Vec<String>| match words.is_empty() {
+        true => "-".to_string(),
+        false => words.join(","),
+    };
+    format!(
+        "{} {} {} {} {}",
+        call.stream,
+        some(lists),
+        some(numbers),
         call.room,
         result(answer, &out)
     )

@@ -3,6 +3,7 @@
 
 pub mod contention;
 pub mod damage;
+pub mod distributions;
 pub mod fields;
 pub mod nasty;
 pub mod pieces;

@@ -11,6 +11,7 @@ pub mod decode;
 pub mod generate;
 pub mod line;
 pub mod machine;
+pub mod maker;
 pub mod model;
 pub mod number;
 pub mod report;

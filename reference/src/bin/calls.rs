@@ -1,7 +1,7 @@
 //! `calls PART N SEED`: N random calls of a part with what must come out, one a
-//! line. Parts: `columns`.
+//! line. Parts: `columns`, `tapes`.
 
-use reference::calls::columns_line;
+use reference::calls::{columns_line, tapes_line};
 use reference::generate::random::Random;
 use std::io::{BufWriter, Write};
 
@@ -12,6 +12,7 @@ fn main() {
     };
     let line: fn(&mut Random) -> String = match part.as_str() {
         "columns" => columns_line,
+        "tapes" => tapes_line,
         _ => usage(),
     };
     let (Ok(count), Ok(seed)) = (count.parse::<u64>(), seed.parse::<u64>()) else {
@@ -27,6 +28,6 @@ fn main() {
 }
 
 fn usage() -> ! {
-    eprintln!("usage: calls columns N SEED");
+    eprintln!("usage: calls columns | tapes N SEED");
     std::process::exit(2);
 }
