@@ -74,12 +74,19 @@ impl<'a> TraceReader<'a> {
 
     /// "a second call counts the bytes below 80 hexadecimal": of all lent bytes.
     pub fn count_low_bytes(&self) -> usize {
-        count_low_bytes(self.bytes)
+        count_low(self.bytes) as usize
     }
 }
 
-pub fn count_low_bytes(bytes: &[u8]) -> usize {
-    bytes.iter().filter(|byte| **byte < 0x80).count()
+/// How many of the bytes are below 80 hexadecimal, one after the other.
+pub fn count_low(bytes: &[u8]) -> u64 {
+    let mut count = 0;
+    for byte in bytes {
+        if *byte < 0x80 {
+            count += 1;
+        }
+    }
+    count
 }
 
 /// Writes one record at the front of `rest` and gives its length, or 32, or

@@ -1,7 +1,9 @@
 //! Trace reader, record writer and byte count.
 
+use reference::generate::random::Random;
+use reference::generate::traces::low_and_high;
 use reference::number::{number_bytes, read_number};
-use reference::trace::{count_low_bytes, read_record, write_record, TraceReader};
+use reference::trace::{count_low, read_record, write_record, TraceReader};
 
 #[test]
 fn numbers_as_in_the_paper() {
@@ -114,10 +116,28 @@ fn a_refusal_leaves_the_position() {
 
 #[test]
 fn bytes_below_80_are_counted_over_all_lent_bytes() {
-    assert_eq!(count_low_bytes(&[]), 0);
+    assert_eq!(count_low(&[]), 0);
     let bytes = [0, 1, 0x7F, 0x80, 0xFF, 0x81, 0];
     let mut reader = TraceReader::new(&bytes);
     assert_eq!(reader.count_low_bytes(), 4);
     reader.position = 5;
     assert_eq!(reader.count_low_bytes(), 4);
+}
+
+#[test]
+fn the_count_of_a_row_is_that_of_its_parts() {
+    for byte in 0..=255 {
+        assert_eq!(count_low(&[byte]), u64::from(byte < 0x80));
+    }
+    let mut random = Random::new(81);
+    for length in 0..400 {
+        let bytes = low_and_high(&mut random, length);
+        assert_eq!(bytes.len(), length);
+        for at in [0, length / 3, length.saturating_sub(1)] {
+            let (front, back) = bytes.split_at(at);
+            assert_eq!(count_low(&bytes), count_low(front) + count_low(back));
+        }
+        let high = bytes.iter().map(|byte| u64::from(byte >> 7)).sum::<u64>();
+        assert_eq!(count_low(&bytes) + high, length as u64);
+    }
 }

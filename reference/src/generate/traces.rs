@@ -160,3 +160,17 @@ pub fn call(random: &mut Random, bytes: Vec<u8>, needed: usize) -> Call {
     };
     Call { bytes, room }
 }
+
+/// Bytes on both sides of 80 hexadecimal, often beside it, for the byte count.
+pub fn low_and_high(random: &mut Random, length: usize) -> Vec<u8> {
+    let high = random.below(101);
+    let byte = |random: &mut Random| match (random.percent(high), random.below(4)) {
+        (true, 0) => 0x80,
+        (true, 1) => 0xFF,
+        (true, _) => 0x80 + random.below(128) as u8,
+        (false, 0) => 0x7F,
+        (false, 1) => 0,
+        (false, _) => random.below(128) as u8,
+    };
+    (0..length).map(|_| byte(random)).collect()
+}
