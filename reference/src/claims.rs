@@ -16,6 +16,8 @@ pub struct Claims {
     pub errors: Vec<String>,
     /// How often waiters were asked whether they were able to go.
     pub asked: u64,
+    /// Number and place of the living at the end, by rising number.
+    pub places: Vec<(u64, u64)>,
 }
 
 impl Claims {
@@ -25,6 +27,7 @@ impl Claims {
             about_to_move: false,
             errors: Vec::new(),
             asked: 0,
+            places: Vec::new(),
         }
     }
 
@@ -124,6 +127,8 @@ impl Watcher for Claims {
         self.account.advance_to(machine.clock);
         self.one_list_each(machine);
         self.sorted(machine);
+        self.places = places(machine);
+        self.places.sort();
     }
 }
 
@@ -170,7 +175,12 @@ pub fn check(case: &Case) -> Result<(Outcome, u64), Vec<String>> {
     if !rest.iter().chain(unused).all(|byte| *byte == 0xA5) {
         errors.push("bytes past the lengths touched".to_string());
     }
-    errors.extend(check_report(&claims.account, &outcome, written));
+    errors.extend(check_report(
+        &claims.account,
+        &claims.places,
+        &outcome,
+        written,
+    ));
     if errors.is_empty() {
         Ok((outcome, claims.asked))
     } else {
@@ -179,24 +189,30 @@ pub fn check(case: &Case) -> Result<(Outcome, u64), Vec<String>> {
 }
 
 /// "Result and report give these counts"; the sums of ticks follow from the
-/// records, and each living one stands there once.
-fn check_report(account: &Account, outcome: &Outcome, report: &[u8]) -> Vec<String> {
+/// records; the living stand there by rising number, each with its place.
+fn check_report(
+    account: &Account,
+    places: &[(u64, u64)],
+    outcome: &Outcome,
+    report: &[u8],
+) -> Vec<String> {
     let mut errors = Vec::new();
     let Some(numbers) = read_report(report) else {
         return vec!["a report of no numbers".to_string()];
     };
-    let expected = account.report_numbers();
     let counts = (outcome.clock, outcome.made, outcome.ended);
     if counts != (account.clock, account.made, account.ended) {
         errors.push("the result's counts differ from the records'".to_string());
     }
-    if !numbers.starts_with(&expected) {
-        errors.push(format!("report {numbers:?}, from the records {expected:?}"));
-    }
-    let living = &numbers[expected.len().min(numbers.len())..];
-    let named: Vec<u64> = living.iter().step_by(2).copied().collect();
-    if named != account.living.iter().copied().collect::<Vec<u64>>() {
+    let living: Vec<u64> = places.iter().map(|(number, _)| *number).collect();
+    let rising = living.windows(2).all(|two| two[0] < two[1]);
+    if !rising || living != account.living.iter().copied().collect::<Vec<u64>>() {
         errors.push("the living of the report differ from the records'".to_string());
+    }
+    let mut expected = account.report_numbers();
+    expected.extend(places.iter().flat_map(|(number, place)| [*number, *place]));
+    if numbers != expected {
+        errors.push(format!("report {numbers:?}, from the records {expected:?}"));
     }
     errors
 }

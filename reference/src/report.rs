@@ -34,8 +34,7 @@ pub fn places(machine: &Machine) -> Vec<(u64, u64)> {
     places
 }
 
-/// The numbers of the report. The order of the living, which the paper leaves
-/// free, is here by rising transaction number.
+/// The numbers of the report; 02, item 2: "List the living by rising transaction number."
 pub fn report_numbers(machine: &Machine) -> Vec<u64> {
     let mut numbers = vec![machine.clock, machine.made, machine.ended];
     for server in machine.facilities.iter().chain(machine.storages.iter()) {

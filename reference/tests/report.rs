@@ -145,3 +145,20 @@ fn the_largest_report_fits() {
     assert_eq!(ran.outcome.end, 3);
     assert!(ran.outcome.report_bytes <= 10_240);
 }
+
+#[test]
+fn the_living_stand_by_rising_number_whatever_their_lists() {
+    let mut machine = machine(vec![SEIZE, enter(2), wait_status(1), terminate(1)]);
+    machine.made = 9;
+    machine.ended = 3;
+    machine.facilities[0].in_use = 1;
+    insert(&mut machine.rel, waiter(9, 4, 5));
+    insert(&mut machine.rel, waiter(2, 4, 0));
+    insert(&mut machine.facilities[0].ql, waiter(7, 1, 0));
+    insert(&mut machine.facilities[0].wel[0], waiter(3, 3, 0));
+    insert(&mut machine.storages[0].ql, waiter(5, 2, 0));
+    machine.moving = Some(transaction(4, 4, 1));
+    let ran = run_state(machine, 0);
+    let living = [(2, 5), (3, 2), (4, 6), (5, 1), (7, 1), (9, 5)];
+    assert_eq!(ran.living(), living);
+}
