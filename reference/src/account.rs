@@ -2,8 +2,9 @@
 //! machine's lists (01, "What demand 3 speaks of").
 
 use crate::model::{Block, Model};
+use crate::rules::Rules;
 use crate::tape::Tape;
-use crate::trace::{read_record, Record, NO_MORE};
+use crate::trace::{read_record_with, Record, NO_MORE};
 use std::collections::{BTreeMap, BTreeSet};
 
 /// A facility or a storage.
@@ -46,6 +47,7 @@ pub struct QueueAccount {
 }
 
 pub struct Account {
+    rules: Rules,
     model: Model,
     /// How many times each list has left.
     left: Vec<usize>,
@@ -66,10 +68,11 @@ pub struct Account {
 impl Account {
     /// "Made: one for each GENERATE that gets a time at the start (of a shared
     /// list, each time goes to one)".
-    pub fn new(model: &Model, tape: &Tape) -> Account {
+    pub fn new(rules: Rules, model: &Model, tape: &Tape) -> Account {
         let facilities = (1..=model.facilities).map(Place::Facility);
         let storages = (1..=model.capacities.len() as u32).map(Place::Storage);
         let mut account = Account {
+            rules,
             model: model.clone(),
             left: tape.iter().map(Vec::len).collect(),
             position: 0,
@@ -111,7 +114,7 @@ impl Account {
     /// Reads the records that came since the last call.
     pub fn read(&mut self, trace: &[u8]) {
         loop {
-            match read_record(trace, self.position) {
+            match read_record_with(self.rules, trace, self.position) {
                 Ok(record) => {
                     self.position = record.next;
                     self.take(&record);

@@ -38,7 +38,7 @@ impl Machine {
     /// The questions "Inside a turn, after the taking and before the block has any effect".
     fn stopped(&self, block: &Block) -> Option<u32> {
         let no_place = |new: u64| self.living() + new > Model::MAX_LIVING;
-        let too_late = |time: u64| self.clock + time > Model::MAX_MOVE_TIME;
+        let too_late = |time: u64| self.clock + time > self.rules.max_clock();
         match *block {
             Block::Generate { list, .. } => match self.next_time(list) {
                 None => None, // "A spent list makes none."

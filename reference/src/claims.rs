@@ -7,6 +7,7 @@ use crate::generate::Case;
 use crate::machine::{precedes, List, Machine};
 use crate::model::Block;
 use crate::report::{places, read_report};
+use crate::rules::Rules;
 use crate::run::{door, run_watched, Outcome, Watcher};
 
 /// Watches one run.
@@ -23,7 +24,7 @@ pub struct Claims {
 impl Claims {
     pub fn new(machine: &Machine) -> Claims {
         Claims {
-            account: Account::new(&machine.model, &machine.tape),
+            account: Account::new(machine.rules, &machine.model, &machine.tape),
             about_to_move: false,
             errors: Vec::new(),
             asked: 0,
@@ -132,14 +133,26 @@ impl Watcher for Claims {
     }
 }
 
+/// The same under the rules of the engine.
+pub fn check(case: &Case) -> Result<(Outcome, u64), Vec<String>> {
+    check_with(Rules::LANDED, case)
+}
+
 /// Runs a case and checks all claims. Gives the result, or what failed; for a
 /// refused case there is nothing to check but the lent bytes.
-pub fn check(case: &Case) -> Result<(Outcome, u64), Vec<String>> {
+pub fn check_with(rules: Rules, case: &Case) -> Result<(Outcome, u64), Vec<String>> {
     let mut trace = vec![0xA5; case.trace_len];
     let mut report = vec![0xA5; case.report_len];
-    let start = door(&case.model, &case.tape, case.work_len, case.report_len);
+    let start = door(
+        rules,
+        &case.model,
+        &case.tape,
+        case.work_len,
+        case.report_len,
+    );
     let Ok(machine) = start else {
         let outcome = run_watched(
+            rules,
             &case.model,
             &case.tape,
             case.budget,
@@ -160,6 +173,7 @@ pub fn check(case: &Case) -> Result<(Outcome, u64), Vec<String>> {
     };
     let mut claims = Claims::new(&machine);
     let outcome = run_watched(
+        rules,
         &case.model,
         &case.tape,
         case.budget,

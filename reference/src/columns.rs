@@ -2,8 +2,9 @@
 //! all transactions, all blocks, all outcomes; and back.
 
 use crate::number::{number_bytes, read_number};
+use crate::rules::Rules;
 use crate::trace::{
-    read_record, write_record, Record, MAX_BLOCK, MAX_CLOCK, MAX_OUTCOME, MAX_RECORD_BYTES,
+    read_record_with, write_record_with, Record, MAX_BLOCK, MAX_OUTCOME, MAX_RECORD_BYTES,
     MAX_TRANSACTION, NO_MORE,
 };
 
@@ -18,11 +19,11 @@ pub const NO_ROOM: u32 = 52;
 
 /// The records of a trace that is taken: "if the reader takes it whole up to
 /// 100,000,000 records and its clocks never fall".
-pub fn taken_records(trace: &[u8]) -> Result<Vec<Record>, u32> {
+pub fn taken_records(rules: Rules, trace: &[u8]) -> Result<Vec<Record>, u32> {
     let mut records: Vec<Record> = Vec::new();
     let mut position = 0;
     loop {
-        match read_record(trace, position) {
+        match read_record_with(rules, trace, position) {
             Ok(record) => {
                 let falls = records.last().is_some_and(|last| record.clock < last.clock);
                 if falls || records.len() as u64 == MAX_RECORDS {
@@ -37,9 +38,14 @@ pub fn taken_records(trace: &[u8]) -> Result<Vec<Record>, u32> {
     }
 }
 
-/// Columns of a trace at the front of `out`; gives their length, or 51, or 52.
+/// The same under the rules of the engine.
 pub fn to_columns(trace: &[u8], out: &mut [u8]) -> Result<usize, u32> {
-    let records = taken_records(trace)?;
+    to_columns_with(Rules::LANDED, trace, out)
+}
+
+/// Columns of a trace at the front of `out`; gives their length, or 51, or 52.
+pub fn to_columns_with(rules: Rules, trace: &[u8], out: &mut [u8]) -> Result<usize, u32> {
+    let records = taken_records(rules, trace)?;
     let mut bytes = number_bytes(records.len() as u64);
     let mut before = 0;
     for record in &records {
@@ -55,9 +61,15 @@ pub fn to_columns(trace: &[u8], out: &mut [u8]) -> Result<usize, u32> {
     put(&bytes, out)
 }
 
-/// The trace of columns at the front of `out`; gives its length, or 51, or 52.
+/// The same under the rules of the engine.
 pub fn from_columns(columns: &[u8], out: &mut [u8]) -> Result<usize, u32> {
+    from_columns_with(Rules::LANDED, columns, out)
+}
+
+/// The trace of columns at the front of `out`; gives its length, or 51, or 52.
+pub fn from_columns_with(rules: Rules, columns: &[u8], out: &mut [u8]) -> Result<usize, u32> {
     let mut source = Source {
+        rules,
         bytes: columns,
         position: 0,
     };
@@ -65,7 +77,7 @@ pub fn from_columns(columns: &[u8], out: &mut [u8]) -> Result<usize, u32> {
     let mut clock = 0;
     let mut clocks = Vec::new();
     for _ in 0..count {
-        clock += source.number(0, MAX_CLOCK - clock)?;
+        clock += source.number(0, rules.max_clock() - clock)?;
         clocks.push(clock);
     }
     let transactions = source.column(count, 1, MAX_TRANSACTION)?;
@@ -77,14 +89,8 @@ pub fn from_columns(columns: &[u8], out: &mut [u8]) -> Result<usize, u32> {
     let mut bytes = Vec::new();
     for at in 0..count as usize {
         let mut record = [0; MAX_RECORD_BYTES];
-        let length = write_record(
-            &mut record,
-            clocks[at],
-            transactions[at],
-            blocks[at],
-            outcomes[at],
-        )
-        .expect("each number was asked");
+        let numbers = [clocks[at], transactions[at], blocks[at], outcomes[at]];
+        let length = write_record_with(rules, &mut record, numbers).expect("each was asked");
         bytes.extend(&record[..length]);
     }
     put(&bytes, out)
@@ -92,14 +98,15 @@ pub fn from_columns(columns: &[u8], out: &mut [u8]) -> Result<usize, u32> {
 
 /// Takes numbers from columns one after the other.
 struct Source<'a> {
+    rules: Rules,
     bytes: &'a [u8],
     position: usize,
 }
 
 impl Source<'_> {
     fn number(&mut self, low: u64, high: u64) -> Result<u64, u32> {
-        let (value, after) = read_number(self.bytes, self.position).ok_or(NOT_SUCH)?;
-        let value = u64::from(value);
+        let most = self.rules.max_number();
+        let (value, after) = read_number(self.bytes, self.position, most).ok_or(NOT_SUCH)?;
         if value < low || value > high {
             return Err(NOT_SUCH);
         }

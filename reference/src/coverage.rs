@@ -1,17 +1,19 @@
 //! Counts what random cases cover.
 
 use crate::blocks::Done;
-use crate::decode::decode_model;
+use crate::decode::decode_model_with;
 use crate::generate::fields::{model_fields, Role};
 use crate::generate::random::Random;
-use crate::generate::{case, Case, Size};
+use crate::generate::{case_with, Case, Size};
 use crate::machine::Machine;
+use crate::rules::Rules;
 use crate::run::{run_watched, Outcome, Watcher};
 use std::collections::BTreeMap;
 
 /// What the runs of some cases met.
 #[derive(Default)]
 pub struct Coverage {
+    pub rules: Rules,
     pub cases: u64,
     pub refusals: BTreeMap<u64, u64>,
     pub ends: BTreeMap<u64, u64>,
@@ -31,14 +33,46 @@ pub struct Coverage {
     before: Option<(u64, bool)>,
 }
 
-const COLUMNS: [&str; 8] = ["entered", "waits", "put back", "21", "22", "23", "24", "25"];
+/// What the execution of a block can come to, as the columns of the table.
+const COLUMNS: [(&str, Done); 8] = [
+    ("entered", Done::Entered),
+    ("waits", Done::BeganToWait),
+    ("put back", Done::PutBack),
+    ("21", Done::Stopped(21)),
+    ("22", Done::Stopped(22)),
+    ("23", Done::Stopped(23)),
+    ("24", Done::Stopped(24)),
+    ("25", Done::Stopped(25)),
+];
 
 fn column(done: Done) -> u32 {
+    let done = match done {
+        Done::Finished => Done::Entered,
+        other => other,
+    };
+    let at = COLUMNS.iter().position(|(_, column)| *column == done);
+    at.expect("a column") as u32
+}
+
+/// The highest kind under any rules.
+pub const LAST_KIND: u32 = 16;
+
+/// The ends that short runs meet.
+pub fn ends(_rules: Rules) -> Vec<u64> {
+    vec![1, 2, 3, 4, 21, 22, 23, 24, 25]
+}
+
+/// Can a block of this kind come to this under these rules?
+pub fn possible(_rules: Rules, kind: u32, done: Done) -> bool {
     match done {
-        Done::Entered | Done::Finished => 0,
-        Done::BeganToWait => 1,
-        Done::PutBack => 2,
-        Done::Stopped(end) => end - 18,
+        Done::Entered | Done::Finished => (1..=16).contains(&kind),
+        Done::BeganToWait | Done::PutBack => [4, 6, 8, 9].contains(&kind),
+        Done::Stopped(21) => [1, 14].contains(&kind),
+        Done::Stopped(22) => [1, 2].contains(&kind),
+        Done::Stopped(23) => kind == 2,
+        Done::Stopped(24) => [5, 7].contains(&kind),
+        Done::Stopped(25) => kind == 16,
+        Done::Stopped(_) => false,
     }
 }
 
@@ -60,11 +94,14 @@ impl Watcher for Coverage {
 }
 
 impl Coverage {
-    /// Runs this many cases.
-    pub fn of(random: &mut Random, size: Size, count: u64) -> Coverage {
-        let mut coverage = Coverage::default();
+    /// Runs this many cases under these rules.
+    pub fn of(rules: Rules, random: &mut Random, size: Size, count: u64) -> Coverage {
+        let mut coverage = Coverage {
+            rules,
+            ..Coverage::default()
+        };
         for _ in 0..count {
-            let case = case(random, size);
+            let case = case_with(rules, random, size);
             let mut trace = vec![0; case.trace_len];
             let mut report = vec![0; case.report_len];
             coverage.run(&case, &mut trace, &mut report);
@@ -76,6 +113,7 @@ impl Coverage {
     pub fn run(&mut self, case: &Case, trace: &mut [u8], report: &mut [u8]) -> Outcome {
         self.before = None;
         let outcome = run_watched(
+            self.rules,
             &case.model,
             &case.tape,
             case.budget,
@@ -96,7 +134,7 @@ impl Coverage {
 
     /// Counts tags, codes and relations of an accepted model.
     fn count_names(&mut self, bytes: &[u8]) {
-        let model = decode_model(bytes).expect("accepted");
+        let model = decode_model_with(self.rules, bytes).expect("accepted");
         self.most_blocks = self.most_blocks.max(model.blocks.len());
         for field in model_fields(&model) {
             let value = field.value as usize;
@@ -107,6 +145,37 @@ impl Coverage {
                 Role::Other => {}
             }
         }
+    }
+
+    /// What can be met under the rules and was not: kinds with what they come
+    /// to, refusals, ends (but 26), tags, codes, relations.
+    pub fn empty_cells(&self) -> Vec<String> {
+        let mut empty = Vec::new();
+        for kind in 1..=LAST_KIND {
+            for (_, done) in COLUMNS {
+                if possible(self.rules, kind, done) && self.met(kind, done) == 0 {
+                    empty.push(format!("kind {kind} {done:?}"));
+                }
+            }
+        }
+        for refusal in (0..=10).filter(|n| !self.refusals.contains_key(n)) {
+            empty.push(format!("refusal {refusal}"));
+        }
+        for end in ends(self.rules) {
+            if !self.ends.contains_key(&end) {
+                empty.push(format!("end {end}"));
+            }
+        }
+        for (name, counts) in [
+            ("tag", &self.tags[..]),
+            ("code", &self.codes[..]),
+            ("relation", &self.relations[..]),
+        ] {
+            for at in (0..counts.len()).filter(|at| counts[*at] == 0) {
+                empty.push(format!("{name} at {at}"));
+            }
+        }
+        empty
     }
 
     /// How often a block of this kind came to this.
@@ -149,10 +218,10 @@ impl std::fmt::Display for Coverage {
         writeln!(f, "codes 1..6      {:?}", self.codes)?;
         writeln!(f, "relations 1..6  {:?}", self.relations)?;
         write!(f, "kind")?;
-        for name in COLUMNS {
+        for (name, _) in COLUMNS {
             write!(f, "{name:>10}")?;
         }
-        for kind in 1..=16 {
+        for kind in 1..=LAST_KIND {
             write!(f, "\n{kind:>4}")?;
             for column in 0..COLUMNS.len() as u32 {
                 let count = self.counts.get(&(kind, column)).unwrap_or(&0);

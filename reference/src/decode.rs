@@ -1,7 +1,8 @@
 //! From bytes to a model: questions 3 to 7 (01, "Questions at the door").
 
 use crate::model::{Block, Comparison, Model, Part, Sum, Term};
-use crate::number::read_number;
+use crate::number::{read_number, MAX_NUMBER};
+use crate::rules::Rules;
 
 /// Takes numbers from lent bytes one after the other.
 struct Source<'a> {
@@ -12,7 +13,8 @@ struct Source<'a> {
 impl Source<'_> {
     /// The next number of a field with this range: question 3, then 4.
     fn field(&mut self, low: u32, high: u32) -> Result<u32, u32> {
-        let (value, after) = read_number(self.bytes, self.position).ok_or(3u32)?;
+        let (value, after) = read_number(self.bytes, self.position, MAX_NUMBER).ok_or(3u32)?;
+        let value = value as u32;
         if value < low || value > high {
             return Err(4);
         }
@@ -21,8 +23,13 @@ impl Source<'_> {
     }
 }
 
-/// Gives the model, or the number of the first question answered "no".
+/// The same under the rules of the engine.
 pub fn decode_model(bytes: &[u8]) -> Result<Model, u32> {
+    decode_model_with(Rules::LANDED, bytes)
+}
+
+/// Gives the model, or the number of the first question answered "no".
+pub fn decode_model_with(_rules: Rules, bytes: &[u8]) -> Result<Model, u32> {
     let mut source = Source { bytes, position: 0 };
     source.field(Model::EDITION, Model::EDITION)?;
     let facilities = source.field(0, Model::MAX_FACILITIES)?;

@@ -14,10 +14,12 @@ pub mod sums;
 pub mod tapes;
 pub mod targets;
 pub mod traces;
+pub mod wide;
 
 use crate::model::Model;
 use crate::report::REPORT_BYTES;
-use crate::run::{run, WORK_NUMBERS};
+use crate::rules::Rules;
+use crate::run::{run_with, WORK_NUMBERS};
 use crate::tape::Tape;
 use fields::{encode_model, encode_tape};
 use random::Random;
@@ -50,28 +52,43 @@ impl Size {
     }
 }
 
-/// The next random case.
+/// The same under the rules of the engine.
 pub fn case(random: &mut Random, size: Size) -> Case {
+    case_with(Rules::LANDED, random, size)
+}
+
+/// The next random case. What a request brings is drawn only where it is in
+/// force, so that the cases of older rules stay as they are.
+pub fn case_with(rules: Rules, random: &mut Random, size: Size) -> Case {
+    if rules.wide_clocks && random.one_in(10) {
+        return wide::case(rules, random, size);
+    }
     match random.below(100) {
         0..=52 => {
-            let (model, tape) = structured::model_and_tape(random, size);
-            good_case(random, size, &model, &tape)
+            let (model, tape) = structured::model_and_tape(rules, random, size);
+            good_case(rules, random, size, &model, &tape)
         }
-        53..=69 => nasty::case(random, size),
+        53..=69 => nasty::case(rules, random, size),
         70..=96 => {
-            let (model, tape) = structured::model_and_tape(random, size);
-            damage::damaged_case(random, size, model, tape)
+            let (model, tape) = structured::model_and_tape(rules, random, size);
+            damage::damaged_case(rules, random, size, model, tape)
         }
         _ => {
-            let (model, tape) = structured::model_and_tape(random, size);
-            let case = good_case(random, size, &model, &tape);
+            let (model, tape) = structured::model_and_tape(rules, random, size);
+            let case = good_case(rules, random, size, &model, &tape);
             short_buffers(random, case)
         }
     }
 }
 
 /// A case of this model and tape with random budget and lengths.
-pub fn good_case(random: &mut Random, size: Size, model: &Model, tape: &Tape) -> Case {
+pub fn good_case(
+    rules: Rules,
+    random: &mut Random,
+    size: Size,
+    model: &Model,
+    tape: &Tape,
+) -> Case {
     let mut case = Case {
         model: encode_model(model),
         tape: encode_tape(tape),
@@ -81,17 +98,18 @@ pub fn good_case(random: &mut Random, size: Size, model: &Model, tape: &Tape) ->
         report_len: REPORT_BYTES + if random.one_in(20) { 3 } else { 0 },
     };
     if random.one_in(10) {
-        aim_limits(random, &mut case);
+        aim_limits(rules, random, &mut case);
     }
     case
 }
 
 /// Sets budget and trace length beside what the run needs, so that several
 /// ends meet before the same turn.
-fn aim_limits(random: &mut Random, case: &mut Case) {
+fn aim_limits(rules: Rules, random: &mut Random, case: &mut Case) {
     let mut trace = vec![0; case.trace_len];
     let mut report = vec![0; case.report_len];
-    let outcome = run(
+    let outcome = run_with(
+        rules,
         &case.model,
         &case.tape,
         case.budget,

@@ -15,6 +15,7 @@ pub mod maker;
 pub mod model;
 pub mod number;
 pub mod report;
+pub mod rules;
 pub mod run;
 pub mod stored;
 pub mod streams;
@@ -23,4 +24,5 @@ pub mod terms;
 pub mod text;
 pub mod trace;
 
+pub use rules::Rules;
 pub use run::{run, Outcome};

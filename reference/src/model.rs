@@ -36,8 +36,6 @@ impl Model {
     pub const MAX_MENTIONS: u32 = 2;
     pub const MAX_LIVING: u64 = 1_024;
     pub const MAX_SAMPLES: u32 = 65_535;
-    pub const MAX_SAMPLE: u32 = 1_000_000;
-    pub const MAX_MOVE_TIME: u64 = 2_000_000_000;
 
     /// The block with this number.
     pub fn block(&self, number: u32) -> &Block {

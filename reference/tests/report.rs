@@ -5,10 +5,11 @@ use common::*;
 use reference::machine::{insert, Event, Machine};
 use reference::model::Term;
 use reference::report::{read_report, report_numbers};
+use reference::Rules;
 
 #[test]
 fn all_six_places_by_rising_number() {
-    let mut machine = Machine::start(model(vec![terminate(1)]), vec![vec![]; 3]);
+    let mut machine = Machine::start(Rules::BASE, model(vec![terminate(1)]), vec![vec![]; 3]);
     machine.made = 9;
     machine.ended = 2;
     machine.clock = 300;
@@ -119,7 +120,7 @@ fn the_largest_report_fits() {
     big.facilities = 32;
     big.capacities = vec![65_535; 32];
     big.queues = 32;
-    let mut machine = Machine::start(big, vec![vec![]; 3]);
+    let mut machine = Machine::start(Rules::BASE, big, vec![vec![]; 3]);
     machine.clock = 2_000_000_000;
     machine.made = 100_000_000;
     machine.ended = 100_000_000 - 1_024;

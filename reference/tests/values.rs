@@ -60,7 +60,7 @@ fn the_65th_number_is_asked_3_then_4_then_5() {
     let fields = model_fields(&model);
     let before = 5 + 1; // edition .. values with one capacity
     let at = before + 64; // the 65th number of the value
-    let front = |value: Option<u32>| {
+    let front = |value: Option<u64>| {
         let mut front = fields[..at].to_vec();
         if let Some(value) = value {
             front.push(fields[at]);

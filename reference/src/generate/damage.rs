@@ -6,11 +6,18 @@ use super::sums::{long_value, wild_sum, Scope};
 use super::{good_case, Case, Size};
 use crate::model::{Block, Comparison, Model, Part, Sum, Term};
 use crate::number::number_bytes;
+use crate::rules::Rules;
 use crate::tape::Tape;
 
 /// A case made from a good model and tape with one or two damages.
-pub fn damaged_case(random: &mut Random, size: Size, mut model: Model, tape: Tape) -> Case {
-    let mut case = good_case(random, size, &model, &tape);
+pub fn damaged_case(
+    rules: Rules,
+    random: &mut Random,
+    size: Size,
+    mut model: Model,
+    tape: Tape,
+) -> Case {
+    let mut case = good_case(rules, random, size, &model, &tape);
     match random.below(10) {
         0..=3 => {
             case.model = damaged_bytes(random, &model_fields(&model));
@@ -28,7 +35,7 @@ pub fn damaged_case(random: &mut Random, size: Size, mut model: Model, tape: Tap
             case.model = encode_model(&model);
         }
         _ => {
-            let fields = tape_fields(&tape);
+            let fields = tape_fields(rules, &tape);
             // A long tape is damaged near its front, where little else is said.
             let fields = &fields[..fields.len().min(400)];
             case.tape = damaged_bytes(random, fields);
@@ -88,20 +95,21 @@ fn damaged_bytes(random: &mut Random, fields: &[Field]) -> Vec<u8> {
 }
 
 /// A value at or beside the ends of the field's range.
-fn near_range(random: &mut Random, field: &Field) -> u32 {
+fn near_range(random: &mut Random, field: &Field) -> u64 {
+    let most = field.high.max(u64::from(u32::MAX));
     match random.below(8) {
         0 => field.low,
         1 => field.high,
-        2..=3 => field.low.wrapping_sub(1),
-        4..=5 => field.high.wrapping_add(1),
-        6 => random.number(field.high, u32::MAX),
-        _ => *random.pick(&[0, 127, 128, 256, 257, 65_535, 65_536, u32::MAX]),
+        2..=3 => field.low.checked_sub(1).unwrap_or(most),
+        4..=5 => field.high + 1,
+        6 => random.between(field.high, most),
+        _ => *random.pick(&[0, 127, 128, 256, 257, 65_535, 65_536, most]),
     }
 }
 
 /// A number in bytes that question 3 or 8 refuses, or nearly so.
-fn odd_number(random: &mut Random, value: u32) -> Vec<u8> {
-    let plain = number_bytes(u64::from(value));
+fn odd_number(random: &mut Random, value: u64) -> Vec<u8> {
+    let plain = number_bytes(value);
     match random.below(9) {
         0..=1 => {
             let mut bytes = vec![0x80];

@@ -2,14 +2,15 @@
 
 use crate::model::{Block, Comparison, Model, Sum, Term};
 use crate::number::number_bytes;
+use crate::rules::Rules;
 use crate::tape::Tape;
 
 /// One number with the range of its field.
 #[derive(Clone, Copy, Debug)]
 pub struct Field {
-    pub value: u32,
-    pub low: u32,
-    pub high: u32,
+    pub value: u64,
+    pub low: u64,
+    pub high: u64,
     pub role: Role,
 }
 
@@ -38,22 +39,27 @@ pub fn encode_model(model: &Model) -> Vec<u8> {
 }
 
 pub fn encode_tape(tape: &Tape) -> Vec<u8> {
-    encode_fields(&tape_fields(tape))
+    encode_fields(&tape_fields(Rules::ALL, tape))
 }
 
 pub fn encode_fields(fields: &[Field]) -> Vec<u8> {
     fields
         .iter()
-        .flat_map(|field| number_bytes(u64::from(field.value)))
+        .flat_map(|field| number_bytes(field.value))
         .collect()
 }
 
-pub fn tape_fields(tape: &Tape) -> Vec<Field> {
+pub fn tape_fields(rules: Rules, tape: &Tape) -> Vec<Field> {
     let mut writer = Writer::default();
     for list in tape {
         writer.put(list.len() as u32, 0, Model::MAX_SAMPLES);
         for time in list {
-            writer.put(*time, 0, Model::MAX_SAMPLE);
+            writer.fields.push(Field {
+                value: *time,
+                low: 0,
+                high: rules.max_sample(),
+                role: Role::Other,
+            });
         }
     }
     writer.fields
@@ -103,9 +109,9 @@ impl Writer {
 
     fn put_as(&mut self, role: Role, value: u32, low: u32, high: u32) {
         self.fields.push(Field {
-            value,
-            low,
-            high,
+            value: u64::from(value),
+            low: u64::from(low),
+            high: u64::from(high),
             role,
         });
     }

@@ -7,10 +7,11 @@ use super::tapes::{arrivals, delays, span, times};
 use super::targets::resolve;
 use super::Size;
 use crate::model::{Block, Model, Sum, Term};
+use crate::rules::Rules;
 use crate::tape::Tape;
 
 /// A model that passes questions 3 to 7, and a tape that fits it.
-pub fn model_and_tape(random: &mut Random, size: Size) -> (Model, Tape) {
+pub fn model_and_tape(rules: Rules, random: &mut Random, size: Size) -> (Model, Tape) {
     let span = span(random);
     let mut model = resources(random, size);
     let limit = block_limit(random, size);
@@ -56,7 +57,7 @@ pub fn model_and_tape(random: &mut Random, size: Size) -> (Model, Tape) {
                 Role::Arrivals => arrivals(random, size),
                 Role::Delays => delays(random, size),
             };
-            times(random, count, span)
+            times(rules, random, count, span)
         })
         .collect();
     (model, tape)

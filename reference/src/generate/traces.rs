@@ -5,8 +5,9 @@ use super::{case, Size};
 use crate::columns::to_columns;
 use crate::model::Model;
 use crate::number::number_bytes;
+use crate::rules::Rules;
 use crate::run::run;
-use crate::trace::{MAX_CLOCK, MAX_TRANSACTION};
+use crate::trace::MAX_TRANSACTION;
 
 /// One call: the given bytes and how many bytes are lent for the answer.
 #[derive(Clone, Debug, PartialEq, Eq)]
@@ -37,7 +38,7 @@ pub fn run_trace(random: &mut Random, size: Size) -> Vec<u8> {
 fn made_up(random: &mut Random) -> Vec<[u64; 4]> {
     let count = *random.pick(&[0, 1, 2, 3, 7, 127, 128, 200]);
     let count = random.between(0, count);
-    let last = *random.pick(&[0, 3, 127, 128, 20_000, MAX_CLOCK]);
+    let last = *random.pick(&[0, 3, 127, 128, 20_000, Rules::LANDED.max_clock()]);
     let mut clocks: Vec<u64> = (0..count).map(|_| random.between(0, last)).collect();
     clocks.sort();
     clocks
