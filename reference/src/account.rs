@@ -62,6 +62,10 @@ pub struct Account {
     waits: BTreeMap<u64, Wait>,
     pub servers: BTreeMap<Place, ServerAccount>,
     pub queues: Vec<QueueAccount>,
+    /// Who holds each facility: the last to seize it, if it was not released since.
+    pub holders: BTreeMap<u32, u64>,
+    /// So far each facility was released by its holder, and nobody ended holding one.
+    pub own_only: bool,
     pub errors: Vec<String>,
 }
 
@@ -88,6 +92,8 @@ impl Account {
                 .map(|place| (place, ServerAccount::default()))
                 .collect(),
             queues: vec![QueueAccount::default(); model.queues as usize],
+            holders: BTreeMap::new(),
+            own_only: true,
             errors: Vec::new(),
         };
         for block in &model.blocks {
@@ -229,11 +235,18 @@ impl Account {
                 left => self.left[list as usize - 1] = left - 1,
             },
             Block::Terminate { .. } => {
+                self.own_only &= !self.holders.values().any(|holder| *holder == transaction);
                 self.ended += 1;
                 self.living.remove(&transaction);
             }
-            Block::Seize { facility } => self.occupy(Place::Facility(facility), 1, 1),
-            Block::Release { facility } => self.free(Place::Facility(facility), 1),
+            Block::Seize { facility } => {
+                self.holders.insert(facility, transaction);
+                self.occupy(Place::Facility(facility), 1, 1);
+            }
+            Block::Release { facility } => {
+                self.own_only &= self.holders.remove(&facility) == Some(transaction);
+                self.free(Place::Facility(facility), 1);
+            }
             Block::Enter { storage, units } => {
                 let capacity = self.model.capacities[storage as usize - 1];
                 self.occupy(Place::Storage(storage), units, capacity);

@@ -14,7 +14,7 @@ pub enum Done {
     BeganToWait,
     /// A returning one waits again: "putting back writes nothing".
     PutBack,
-    /// A question answered "no": the end is 21..25.
+    /// A question answered "no": the end is 21..25, 27 or 28.
     Stopped(u32),
 }
 
@@ -23,7 +23,7 @@ impl Machine {
     pub fn execute(&mut self, transaction: Transaction) -> Done {
         let number = transaction.next_block;
         let block = self.model.block(number).clone();
-        if let Some(end) = self.stopped(&block) {
+        if let Some(end) = self.stopped(&block, &transaction) {
             self.moving = Some(transaction);
             return Done::Stopped(end);
         }
@@ -36,7 +36,7 @@ impl Machine {
     }
 
     /// The questions "Inside a turn, after the taking and before the block has any effect".
-    fn stopped(&self, block: &Block) -> Option<u32> {
+    fn stopped(&self, block: &Block, transaction: &Transaction) -> Option<u32> {
         let no_place = |new: u64| self.living() + new > Model::MAX_LIVING;
         let too_late = |time: u64| self.clock + time > self.rules.max_clock();
         match *block {
@@ -52,8 +52,20 @@ impl Machine {
                 Some(time) if too_late(time) => Some(22),
                 Some(_) => None,
             },
-            Block::Release { facility } if self.facilities[facility as usize - 1].in_use == 0 => {
-                Some(24)
+            Block::Release { facility } => {
+                let server = &self.facilities[facility as usize - 1];
+                let own = server.holder == Some(transaction.number);
+                if server.in_use == 0 {
+                    Some(24)
+                } else if self.rules.holders && !own {
+                    Some(27) // "RELEASE by another than the holder, after 24"
+                } else {
+                    None
+                }
+            }
+            // "TERMINATE while holding a facility, before the counter falls"
+            Block::Terminate { .. } if self.rules.holders && self.holds_some(transaction) => {
+                Some(28)
             }
             Block::Leave { storage, units }
                 if self.storages[storage as usize - 1].in_use < units =>
@@ -63,6 +75,12 @@ impl Machine {
             Block::Depart { queue } if self.queues[queue as usize - 1].content == 0 => Some(25),
             _ => None,
         }
+    }
+
+    /// Does this transaction hold a facility?
+    pub fn holds_some(&self, transaction: &Transaction) -> bool {
+        let number = Some(transaction.number);
+        self.facilities.iter().any(|server| server.holder == number)
     }
 
     /// Does the block make this transaction wait now?
@@ -139,12 +157,14 @@ impl Machine {
             Block::Seize { facility } => {
                 let server = &mut self.facilities[*facility as usize - 1];
                 server.in_use = 1;
+                server.holder = Some(transaction.number);
                 server.entries += 1;
                 self.offer_status(&[1, 2], *facility);
             }
             Block::Release { facility } => {
                 let server = &mut self.facilities[*facility as usize - 1];
                 server.in_use = 0;
+                server.holder = None;
                 if !server.ql.is_empty() {
                     let first = server.ql.remove(0);
                     self.wake(first);

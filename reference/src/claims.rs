@@ -53,6 +53,22 @@ impl Claims {
         self.claim(found.len() <= 1_024, machine, "at most 1,024 living");
     }
 
+    /// 02, item 6: "A facility in use always has a living holder", and that is
+    /// who the records say.
+    fn living_holders(&mut self, machine: &Machine) {
+        let mut holds = true;
+        for (index, facility) in machine.facilities.iter().enumerate() {
+            let recorded = self.account.holders.get(&(index as u32 + 1)).copied();
+            holds &= (facility.in_use == 1) == facility.holder.is_some();
+            holds &= facility.holder == recorded;
+            holds &= facility
+                .holder
+                .is_none_or(|h| self.account.living.contains(&h));
+        }
+        holds |= !machine.rules.holders;
+        self.claim(holds, machine, "a living holder of each facility in use");
+    }
+
     fn sorted(&mut self, machine: &Machine) {
         let in_order = |list: &List| list.windows(2).all(|two| precedes(&two[0], &two[1]));
         let mut holds = in_order(&machine.rel) && in_order(&machine.wsl);
@@ -109,6 +125,7 @@ impl Watcher for Claims {
     fn before_turn(&mut self, machine: &Machine, trace: &[u8]) {
         self.account.read(trace);
         self.one_list_each(machine);
+        self.living_holders(machine);
         self.sorted(machine);
         // "before each turn that finds nobody moving and REL empty"; dry is among them.
         self.about_to_move = machine.moving.is_none() && machine.rel.is_empty();
@@ -127,6 +144,7 @@ impl Watcher for Claims {
         self.account.read(trace);
         self.account.advance_to(machine.clock);
         self.one_list_each(machine);
+        self.living_holders(machine);
         self.sorted(machine);
         self.places = places(machine);
         self.places.sort();

@@ -34,7 +34,7 @@ pub struct Coverage {
 }
 
 /// What the execution of a block can come to, as the columns of the table.
-const COLUMNS: [(&str, Done); 8] = [
+const COLUMNS: [(&str, Done); 10] = [
     ("entered", Done::Entered),
     ("waits", Done::BeganToWait),
     ("put back", Done::PutBack),
@@ -43,6 +43,8 @@ const COLUMNS: [(&str, Done); 8] = [
     ("23", Done::Stopped(23)),
     ("24", Done::Stopped(24)),
     ("25", Done::Stopped(25)),
+    ("27", Done::Stopped(27)),
+    ("28", Done::Stopped(28)),
 ];
 
 fn column(done: Done) -> u32 {
@@ -58,12 +60,16 @@ fn column(done: Done) -> u32 {
 pub const LAST_KIND: u32 = 16;
 
 /// The ends that short runs meet.
-pub fn ends(_rules: Rules) -> Vec<u64> {
-    vec![1, 2, 3, 4, 21, 22, 23, 24, 25]
+pub fn ends(rules: Rules) -> Vec<u64> {
+    let mut ends = vec![1, 2, 3, 4, 21, 22, 23, 24, 25];
+    if rules.holders {
+        ends.extend([27, 28]);
+    }
+    ends
 }
 
 /// Can a block of this kind come to this under these rules?
-pub fn possible(_rules: Rules, kind: u32, done: Done) -> bool {
+pub fn possible(rules: Rules, kind: u32, done: Done) -> bool {
     match done {
         Done::Entered | Done::Finished => (1..=16).contains(&kind),
         Done::BeganToWait | Done::PutBack => [4, 6, 8, 9].contains(&kind),
@@ -72,6 +78,8 @@ pub fn possible(_rules: Rules, kind: u32, done: Done) -> bool {
         Done::Stopped(23) => kind == 2,
         Done::Stopped(24) => [5, 7].contains(&kind),
         Done::Stopped(25) => kind == 16,
+        Done::Stopped(27) => rules.holders && kind == 5,
+        Done::Stopped(28) => rules.holders && kind == 3,
         Done::Stopped(_) => false,
     }
 }

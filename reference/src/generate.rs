@@ -5,6 +5,7 @@ pub mod contention;
 pub mod damage;
 pub mod distributions;
 pub mod fields;
+pub mod holders;
 pub mod nasty;
 pub mod pieces;
 pub mod random;
@@ -62,6 +63,9 @@ pub fn case(random: &mut Random, size: Size) -> Case {
 pub fn case_with(rules: Rules, random: &mut Random, size: Size) -> Case {
     if rules.wide_clocks && random.one_in(10) {
         return wide::case(rules, random, size);
+    }
+    if rules.holders && random.one_in(10) {
+        return holders::case(rules, random, size);
     }
     match random.below(100) {
         0..=52 => {

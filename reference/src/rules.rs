@@ -5,14 +5,22 @@
 pub struct Rules {
     /// Item 1: clocks to 32,000,000,000.
     pub wide_clocks: bool,
+    /// Item 6: only the holder releases; ends 27 and 28.
+    pub holders: bool,
 }
 
 impl Rules {
     /// Document 01 alone.
-    pub const BASE: Rules = Rules { wide_clocks: false };
+    pub const BASE: Rules = Rules {
+        wide_clocks: false,
+        holders: false,
+    };
 
     /// Every request that stands here.
-    pub const ALL: Rules = Rules { wide_clocks: true };
+    pub const ALL: Rules = Rules {
+        wide_clocks: true,
+        holders: true,
+    };
 
     /// What the engine does: each landing changes this one constant.
     pub const LANDED: Rules = Rules::BASE;
@@ -21,6 +29,7 @@ impl Rules {
     pub fn of(requests: &[u32]) -> Rules {
         Rules {
             wide_clocks: requests.contains(&1),
+            holders: requests.contains(&6),
         }
     }
 
