@@ -64,6 +64,8 @@ pub struct Account {
     pub queues: Vec<QueueAccount>,
     /// Who holds each facility: the last to seize it, if it was not released since.
     pub holders: BTreeMap<u32, u64>,
+    /// The clock of each transaction's last entry of a block.
+    entered: BTreeMap<(u64, u32), u64>,
     /// So far each facility was released by its holder, and nobody ended holding one.
     pub own_only: bool,
     pub errors: Vec<String>,
@@ -93,6 +95,7 @@ impl Account {
                 .collect(),
             queues: vec![QueueAccount::default(); model.queues as usize],
             holders: BTreeMap::new(),
+            entered: BTreeMap::new(),
             own_only: true,
             errors: Vec::new(),
         };
@@ -181,6 +184,7 @@ impl Account {
             self.begin_wait(record.transaction, &block);
         } else {
             self.enter(record.transaction, &block);
+            self.enter_group(record);
         }
         self.records += 1;
     }
@@ -193,7 +197,9 @@ impl Account {
         let (place, units) = match *block {
             Block::Seize { facility } => (Place::Facility(facility), 1),
             Block::Enter { storage, units } => (Place::Storage(storage), units),
-            Block::WaitIfStatus { .. } | Block::WaitIfComparison { .. } => return,
+            Block::WaitIfStatus { .. }
+            | Block::WaitJoined { .. }
+            | Block::WaitIfComparison { .. } => return,
             _ => {
                 self.errors
                     .push(format!("{transaction} waits at {block:?}"));
@@ -267,6 +273,25 @@ impl Account {
                 0 => self.errors.push("DEPART from nothing".to_string()),
                 content => self.queues[queue as usize - 1].content = content - 1,
             },
+            _ => {}
+        }
+    }
+
+    /// 02, item 7: "whoever enters a kind 17 block entered its whole group at that clock".
+    fn enter_group(&mut self, record: &Record) {
+        let (transaction, number) = (record.transaction, record.block as u32);
+        match self.model.block(number) {
+            Block::WaitIfStatus { .. } => {
+                self.entered.insert((transaction, number), record.clock);
+            }
+            Block::WaitJoined { .. } => {
+                let mut group = self.model.group(number).expect("asked by question 7");
+                let entered = |block: u32| self.entered.get(&(transaction, block)).copied();
+                if !group.all(|block| entered(block) == Some(record.clock)) {
+                    let text = format!("{transaction} enters {number} without its group");
+                    self.errors.push(text);
+                }
+            }
             _ => {}
         }
     }

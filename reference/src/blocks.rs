@@ -2,6 +2,7 @@
 
 use crate::machine::{insert, Machine, Transaction};
 use crate::model::{Block, Model};
+use std::collections::BTreeMap;
 
 /// What the execution of a block came to.
 #[derive(Clone, Copy, Debug, PartialEq, Eq)]
@@ -14,6 +15,8 @@ pub enum Done {
     BeganToWait,
     /// A returning one waits again: "putting back writes nothing".
     PutBack,
+    /// Back from a joined wait to the first block of its group: no record.
+    WentBack,
     /// A question answered "no": the end is 21..25, 27 or 28.
     Stopped(u32),
 }
@@ -29,6 +32,13 @@ impl Machine {
         }
         if self.must_wait(&block, &transaction) {
             return self.wait(&block, transaction);
+        }
+        if let Block::WaitJoined { code, server, .. } = block {
+            let group = self.model.group(number).expect("asked by question 7");
+            let entered = transaction.groups.get(&group.start);
+            if entered.is_some_and(|clock| *clock < self.clock) {
+                return self.go_back(transaction, code, server, group.start);
+            }
         }
         let done = self.enter(&block, transaction);
         self.entries[number as usize - 1] += 1;
@@ -88,7 +98,7 @@ impl Machine {
         match block {
             Block::Seize { facility } => self.facilities[*facility as usize - 1].in_use > 0,
             Block::Enter { storage, units } => self.storages[*storage as usize - 1].free() < *units,
-            Block::WaitIfStatus { code, server } => {
+            Block::WaitIfStatus { code, server } | Block::WaitJoined { code, server, .. } => {
                 self.status_server(*code, *server).code_true(*code)
             }
             Block::WaitIfComparison { comparison } => self.holds(comparison, transaction),
@@ -117,13 +127,29 @@ impl Machine {
                 server.waits_begun += begun;
                 insert(&mut server.ql, transaction);
             }
-            Block::WaitIfStatus { code, server } => {
+            Block::WaitIfStatus { code, server } | Block::WaitJoined { code, server, .. } => {
                 let list = &mut self.status_server_mut(code, server).wel[code as usize - 1];
                 insert(list, transaction);
             }
             _ => insert(&mut self.wsl, transaction),
         }
         done
+    }
+
+    /// 02, item 7: "moves the WEL's first to REL and goes back to that block,
+    /// still moving. This writes no record and clears its returning mark."
+    fn go_back(
+        &mut self,
+        mut transaction: Transaction,
+        code: u32,
+        server: u32,
+        first: u32,
+    ) -> Done {
+        self.wake_first_of_wel(code, server);
+        transaction.next_block = first;
+        transaction.returning = false;
+        self.moving = Some(transaction);
+        Done::WentBack
     }
 
     /// The effect of a block that is entered. "Entering a block clears the mark."
@@ -182,7 +208,13 @@ impl Machine {
                 self.wake_fitting(*storage);
                 self.offer_status(&[3, 4, 5, 6], *storage);
             }
-            Block::WaitIfStatus { code, server } => self.wake_first_of_wel(*code, *server),
+            Block::WaitIfStatus { code, server } => {
+                if self.model.begins_group(number) {
+                    transaction.groups.insert(number, self.clock);
+                }
+                self.wake_first_of_wel(*code, *server);
+            }
+            Block::WaitJoined { code, server, .. } => self.wake_first_of_wel(*code, *server),
             Block::WaitIfComparison { .. } => {}
             Block::If { comparison, target } => {
                 transaction.next_block = if self.holds(comparison, &transaction) {
@@ -233,6 +265,7 @@ impl Machine {
                 next_block: target,
                 serial: self.fresh(),
                 returning: false,
+                groups: BTreeMap::new(),
             };
             insert(&mut self.rel, copy);
         }

@@ -6,7 +6,7 @@ use crate::generate::fields::{model_fields, Role};
 use crate::generate::random::Random;
 use crate::generate::{case_with, Case, Size};
 use crate::machine::Machine;
-use crate::rules::Rules;
+use crate::rules::{Rules, LAST_KIND};
 use crate::run::{run_watched, Outcome, Watcher};
 use std::collections::BTreeMap;
 
@@ -34,10 +34,11 @@ pub struct Coverage {
 }
 
 /// What the execution of a block can come to, as the columns of the table.
-const COLUMNS: [(&str, Done); 10] = [
+const COLUMNS: [(&str, Done); 11] = [
     ("entered", Done::Entered),
     ("waits", Done::BeganToWait),
     ("put back", Done::PutBack),
+    ("goes back", Done::WentBack),
     ("21", Done::Stopped(21)),
     ("22", Done::Stopped(22)),
     ("23", Done::Stopped(23)),
@@ -56,9 +57,6 @@ fn column(done: Done) -> u32 {
     at.expect("a column") as u32
 }
 
-/// The highest kind under any rules.
-pub const LAST_KIND: u32 = 16;
-
 /// The ends that short runs meet.
 pub fn ends(rules: Rules) -> Vec<u64> {
     let mut ends = vec![1, 2, 3, 4, 21, 22, 23, 24, 25];
@@ -70,9 +68,13 @@ pub fn ends(rules: Rules) -> Vec<u64> {
 
 /// Can a block of this kind come to this under these rules?
 pub fn possible(rules: Rules, kind: u32, done: Done) -> bool {
+    if !rules.has_kind(kind) {
+        return false;
+    }
     match done {
-        Done::Entered | Done::Finished => (1..=16).contains(&kind),
-        Done::BeganToWait | Done::PutBack => [4, 6, 8, 9].contains(&kind),
+        Done::Entered | Done::Finished => true,
+        Done::BeganToWait | Done::PutBack => [4, 6, 8, 9, 17].contains(&kind),
+        Done::WentBack => kind == 17,
         Done::Stopped(21) => [1, 14].contains(&kind),
         Done::Stopped(22) => [1, 2].contains(&kind),
         Done::Stopped(23) => kind == 2,
@@ -144,7 +146,7 @@ impl Coverage {
     fn count_names(&mut self, bytes: &[u8]) {
         let model = decode_model_with(self.rules, bytes).expect("accepted");
         self.most_blocks = self.most_blocks.max(model.blocks.len());
-        for field in model_fields(&model) {
+        for field in model_fields(self.rules, &model) {
             let value = field.value as usize;
             match field.role {
                 Role::Tag => self.tags[value] += 1,

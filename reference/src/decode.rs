@@ -2,7 +2,7 @@
 
 use crate::model::{Block, Comparison, Model, Part, Sum, Term};
 use crate::number::{read_number, MAX_NUMBER};
-use crate::rules::Rules;
+use crate::rules::{Rules, LAST_KIND};
 
 /// Takes numbers from lent bytes one after the other.
 struct Source<'a> {
@@ -29,7 +29,7 @@ pub fn decode_model(bytes: &[u8]) -> Result<Model, u32> {
 }
 
 /// Gives the model, or the number of the first question answered "no".
-pub fn decode_model_with(_rules: Rules, bytes: &[u8]) -> Result<Model, u32> {
+pub fn decode_model_with(rules: Rules, bytes: &[u8]) -> Result<Model, u32> {
     let mut source = Source { bytes, position: 0 };
     source.field(Model::EDITION, Model::EDITION)?;
     let facilities = source.field(0, Model::MAX_FACILITIES)?;
@@ -57,7 +57,7 @@ pub fn decode_model_with(_rules: Rules, bytes: &[u8]) -> Result<Model, u32> {
     model.counter = source.field(1, Model::MAX_COUNTER)?;
     let blocks = source.field(1, Model::MAX_BLOCKS)?;
     for _ in 0..blocks {
-        let block = decode_block(&mut source, &model, blocks)?;
+        let block = decode_block(rules, &mut source, &model, blocks)?;
         model.blocks.push(block);
     }
     if source.position < bytes.len() {
@@ -208,8 +208,28 @@ fn decode_units(source: &mut Source, model: &Model) -> Result<(u32, u32), u32> {
     Ok((storage, units))
 }
 
-fn decode_block(source: &mut Source, model: &Model, blocks: u32) -> Result<Block, u32> {
-    let kind = source.field(1, 16)?;
+/// Code and server of a server wait.
+fn decode_status(source: &mut Source, model: &Model) -> Result<(u32, u32), u32> {
+    let code = source.field(1, 6)?;
+    // "a facility for codes 1 and 2, else a storage"
+    let servers = if code <= 2 {
+        model.facilities
+    } else {
+        model.capacities.len() as u32
+    };
+    Ok((code, source.field(1, servers)?))
+}
+
+fn decode_block(
+    rules: Rules,
+    source: &mut Source,
+    model: &Model,
+    blocks: u32,
+) -> Result<Block, u32> {
+    let kind = source.field(1, LAST_KIND)?;
+    if !rules.has_kind(kind) {
+        return Err(4);
+    }
     let block = match kind {
         1 => Block::Generate {
             list: source.field(1, model.lists)?,
@@ -236,14 +256,7 @@ fn decode_block(source: &mut Source, model: &Model, blocks: u32) -> Result<Block
             Block::Leave { storage, units }
         }
         8 => {
-            let code = source.field(1, 6)?;
-            // "a facility for codes 1 and 2, else a storage"
-            let servers = if code <= 2 {
-                model.facilities
-            } else {
-                model.capacities.len() as u32
-            };
-            let server = source.field(1, servers)?;
+            let (code, server) = decode_status(source, model)?;
             Block::WaitIfStatus { code, server }
         }
         9 => Block::WaitIfComparison {
@@ -270,9 +283,14 @@ fn decode_block(source: &mut Source, model: &Model, blocks: u32) -> Result<Block
         15 => Block::Arrive {
             queue: source.field(1, model.queues)?,
         },
-        _ => Block::Depart {
+        16 => Block::Depart {
             queue: source.field(1, model.queues)?,
         },
+        _ => {
+            let (code, server) = decode_status(source, model)?;
+            let back = source.field(1, Model::MAX_BACK)?;
+            Block::WaitJoined { code, server, back }
+        }
     };
     Ok(block)
 }
@@ -293,9 +311,27 @@ pub fn well_shaped(model: &Model) -> bool {
             }
         }
     }
+    if !(1..=model.blocks.len() as u32).all(|number| group_is_whole(model, number)) {
+        return false;
+    }
     let last_leaves = model.blocks.last().is_some_and(leaves);
     let blocks = model.blocks.len() as u32;
     last_leaves && model.values.iter().all(|sum| sum_blocks_exist(sum, blocks))
+}
+
+/// 02, item 7: "The c blocks before it are server waits of kind 8, and no
+/// target names the second of this group, a later one or the kind 17 block itself."
+fn group_is_whole(model: &Model, number: u32) -> bool {
+    if !matches!(model.block(number), Block::WaitJoined { .. }) {
+        return true;
+    }
+    let Some(group) = model.group(number) else {
+        return false; // fewer than c blocks before it
+    };
+    let inside = group.start + 1..=number;
+    let plain = |block: u32| matches!(model.block(block), Block::WaitIfStatus { .. });
+    let named = |block: &Block| block.target().is_some_and(|t| inside.contains(&t));
+    group.clone().all(plain) && !model.blocks.iter().any(named)
 }
 
 fn sum_blocks_exist(sum: &Sum, blocks: u32) -> bool {

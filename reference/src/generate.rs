@@ -6,6 +6,7 @@ pub mod damage;
 pub mod distributions;
 pub mod fields;
 pub mod holders;
+pub mod joined;
 pub mod nasty;
 pub mod pieces;
 pub mod random;
@@ -66,6 +67,9 @@ pub fn case_with(rules: Rules, random: &mut Random, size: Size) -> Case {
     }
     if rules.holders && random.one_in(10) {
         return holders::case(rules, random, size);
+    }
+    if rules.joined && random.one_in(10) {
+        return joined::case(rules, random, size);
     }
     match random.below(100) {
         0..=52 => {

@@ -29,6 +29,7 @@ impl Model {
     pub const MAX_PRIORITY: u32 = 127;
     pub const MAX_TERMINATE: u32 = 65_535;
     pub const MAX_COPIES: u32 = 255;
+    pub const MAX_BACK: u32 = 7;
     pub const PARAMETERS: u32 = 4;
     pub const MAX_CONSTANT: u32 = 2_147_483_647;
     pub const MAX_VALUE_NUMBERS: u32 = 64;
@@ -37,13 +38,31 @@ impl Model {
     pub const MAX_LIVING: u64 = 1_024;
     pub const MAX_SAMPLES: u32 = 65_535;
 
+    /// The blocks before the joined wait at this number that belong to its
+    /// group (02, item 7: "The c blocks before it"), if they are there.
+    pub fn group(&self, number: u32) -> Option<std::ops::Range<u32>> {
+        match *self.block(number) {
+            Block::WaitJoined { back, .. } if back < number => Some(number - back..number),
+            _ => None,
+        }
+    }
+
+    /// Does a group begin with this block?
+    pub fn begins_group(&self, number: u32) -> bool {
+        let last = self.blocks.len() as u32;
+        (1..=Model::MAX_BACK)
+            .map(|back| number + back)
+            .filter(|joined| *joined <= last)
+            .any(|joined| self.group(joined).is_some_and(|g| g.start == number))
+    }
+
     /// The block with this number.
     pub fn block(&self, number: u32) -> &Block {
         &self.blocks[number as usize - 1]
     }
 }
 
-/// The sixteen kinds of block with their operands, in the order of 01, Blocks.
+/// The kinds of block with their operands, in the order of 01, Blocks, then of 02.
 #[derive(Clone, Debug, PartialEq, Eq)]
 pub enum Block {
     Generate { list: u32, priority: u32 },
@@ -62,10 +81,11 @@ pub enum Block {
     Split { copies: u32, target: u32 },
     Arrive { queue: u32 },
     Depart { queue: u32 },
+    WaitJoined { code: u32, server: u32, back: u32 },
 }
 
 impl Block {
-    /// The number of the kind, 1..16.
+    /// The number of the kind.
     pub fn kind(&self) -> u32 {
         match self {
             Block::Generate { .. } => 1,
@@ -84,6 +104,7 @@ impl Block {
             Block::Split { .. } => 14,
             Block::Arrive { .. } => 15,
             Block::Depart { .. } => 16,
+            Block::WaitJoined { .. } => 17,
         }
     }
 

@@ -1,5 +1,8 @@
 //! Which requests of document 02 that change runs are in force.
 
+/// The highest kind under any rules.
+pub const LAST_KIND: u32 = 17;
+
 /// One field for each such request; `BASE` is the machine of document 01.
 #[derive(Clone, Copy, Debug, PartialEq, Eq)]
 pub struct Rules {
@@ -7,6 +10,8 @@ pub struct Rules {
     pub wide_clocks: bool,
     /// Item 6: only the holder releases; ends 27 and 28.
     pub holders: bool,
+    /// Item 7: kind 17, joined waits.
+    pub joined: bool,
 }
 
 impl Rules {
@@ -14,12 +19,14 @@ impl Rules {
     pub const BASE: Rules = Rules {
         wide_clocks: false,
         holders: false,
+        joined: false,
     };
 
     /// Every request that stands here.
     pub const ALL: Rules = Rules {
         wide_clocks: true,
         holders: true,
+        joined: true,
     };
 
     /// What the engine does: each landing changes this one constant.
@@ -30,6 +37,7 @@ impl Rules {
         Rules {
             wide_clocks: requests.contains(&1),
             holders: requests.contains(&6),
+            joined: requests.contains(&7),
         }
     }
 
@@ -49,6 +57,24 @@ impl Rules {
     /// All requests up to this number.
     pub fn through(request: u32) -> Rules {
         Rules::of(&(1..=request).collect::<Vec<u32>>())
+    }
+
+    /// Is there a block of this kind?
+    pub const fn has_kind(self, kind: u32) -> bool {
+        match kind {
+            1..=16 => true,
+            17 => self.joined,
+            _ => false,
+        }
+    }
+
+    /// The highest kind there is.
+    pub const fn highest_kind(self) -> u32 {
+        let mut kind = LAST_KIND;
+        while !self.has_kind(kind) {
+            kind -= 1;
+        }
+        kind
     }
 
     /// The largest clock and move time.

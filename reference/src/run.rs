@@ -201,7 +201,7 @@ fn turn(machine: &mut Machine, rest: &mut [u8]) -> (u32, Done, usize) {
     let outcome = match done {
         Done::Entered | Done::Finished => 0,
         Done::BeganToWait => 1,
-        Done::PutBack | Done::Stopped(_) => return (kind, done, 0),
+        Done::PutBack | Done::WentBack | Done::Stopped(_) => return (kind, done, 0),
     };
     let record = [machine.clock, number, u64::from(block), outcome];
     let written = write_record_with(machine.rules, rest, record).expect("asked by end 4");

@@ -107,7 +107,7 @@ fn odd_numbers_are_3_or_8_everywhere() {
     ];
     let bytes = encode_model(&rich());
     let tape = encode_tape(&rich_tape());
-    let model = model_fields(&rich());
+    let model = model_fields(Rules::BASE, &rich());
     let times = tape_fields(Rules::BASE, &rich_tape());
     for number in odd {
         for at in 0..model.len() {
@@ -147,7 +147,7 @@ fn out_of_range_is_4_or_9_everywhere() {
             }
         }
     };
-    let model = model_fields(&rich());
+    let model = model_fields(Rules::BASE, &rich());
     for at in 0..model.len() {
         check(&model, at, true);
     }

@@ -2,7 +2,8 @@
 //! each refusal, end, kind with its outcomes and list is among them.
 
 use reference::blocks::Done;
-use reference::coverage::{ends, possible, LAST_KIND};
+use reference::coverage::{ends, possible};
+use reference::rules::LAST_KIND;
 use reference::stored::{cases, encode, expected};
 use reference::Rules;
 
@@ -23,7 +24,12 @@ fn stored_cases_are_up_to_date() {
     let mut wanted: Vec<String> = (0..=10).map(|n| format!("refusal {n}")).collect();
     wanted.extend(ends(Rules::LANDED).iter().map(|n| format!("end {n}")));
     for kind in 1..=LAST_KIND {
-        for done in [Done::Entered, Done::BeganToWait, Done::PutBack] {
+        for done in [
+            Done::Entered,
+            Done::BeganToWait,
+            Done::PutBack,
+            Done::WentBack,
+        ] {
             if possible(Rules::LANDED, kind, done) {
                 wanted.push(format!("kind {kind} {done:?}"));
             }

@@ -25,6 +25,7 @@ pub enum Role {
 
 #[derive(Default)]
 struct Writer {
+    kinds: u32,
     fields: Vec<Field>,
     facilities: u32,
     capacities: Vec<u32>,
@@ -35,7 +36,7 @@ struct Writer {
 }
 
 pub fn encode_model(model: &Model) -> Vec<u8> {
-    encode_fields(&model_fields(model))
+    encode_fields(&model_fields(Rules::ALL, model))
 }
 
 pub fn encode_tape(tape: &Tape) -> Vec<u8> {
@@ -65,8 +66,9 @@ pub fn tape_fields(rules: Rules, tape: &Tape) -> Vec<Field> {
     writer.fields
 }
 
-pub fn model_fields(model: &Model) -> Vec<Field> {
+pub fn model_fields(rules: Rules, model: &Model) -> Vec<Field> {
     let mut writer = Writer {
+        kinds: rules.highest_kind(),
         fields: Vec::new(),
         facilities: model.facilities,
         capacities: model.capacities.clone(),
@@ -170,8 +172,15 @@ impl Writer {
         self.put(units, 1, self.capacities[storage as usize - 1]);
     }
 
+    fn status(&mut self, code: u32, server: u32) {
+        self.put_as(Role::Code, code, 1, 6);
+        let storages = self.capacities.len() as u32;
+        let high = if code <= 2 { self.facilities } else { storages };
+        self.put(server, 1, high);
+    }
+
     fn block(&mut self, block: &Block) {
-        self.put(block.kind(), 1, 16);
+        self.put(block.kind(), 1, self.kinds);
         match block {
             Block::Generate { list, priority } => {
                 self.put(*list, 1, self.lists);
@@ -185,15 +194,10 @@ impl Writer {
             Block::Enter { storage, units } | Block::Leave { storage, units } => {
                 self.units(*storage, *units);
             }
-            Block::WaitIfStatus { code, server } => {
-                self.put_as(Role::Code, *code, 1, 6);
-                let storages = self.capacities.len() as u32;
-                let high = if *code <= 2 {
-                    self.facilities
-                } else {
-                    storages
-                };
-                self.put(*server, 1, high);
+            Block::WaitIfStatus { code, server } => self.status(*code, *server),
+            Block::WaitJoined { code, server, back } => {
+                self.status(*code, *server);
+                self.put(*back, 1, Model::MAX_BACK);
             }
             Block::WaitIfComparison { comparison } => self.comparison(comparison),
             Block::If { comparison, target } => {

@@ -32,7 +32,7 @@ pub fn model_and_tape(rules: Rules, random: &mut Random, size: Size) -> (Model, 
     let first = (values > 0 && random.percent(70)).then(|| step(random));
     let roles = roles(random, model.lists);
     let step_value = first.as_ref().map(|sum| (1, step_parameter(sum)));
-    let (mut blocks, segments) = lay_out(random, &model, scope, &roles, step_value, limit);
+    let (mut blocks, segments) = lay_out(rules, random, &model, scope, &roles, step_value, limit);
     resolve(random, &mut blocks, &segments);
     let scope = Scope {
         blocks: blocks.len() as u32,
@@ -138,6 +138,7 @@ fn block_limit(random: &mut Random, size: Size) -> u32 {
 /// Segments of blocks, each begun by a GENERATE or reached by a target, each
 /// ended by TERMINATE or GOTO.
 fn lay_out(
+    rules: Rules,
     random: &mut Random,
     model: &Model,
     scope: Scope,
@@ -168,6 +169,7 @@ fn lay_out(
         let room = limit - blocks.len() as u32;
         let length = random.number(2.min(room), room.min(16)) as usize;
         let mut parts = Parts {
+            rules,
             random,
             model,
             scope,

@@ -7,8 +7,10 @@ use crate::model::{Block, Term};
 /// `segments` are the first and last block of each run of blocks.
 pub fn resolve(random: &mut Random, blocks: &mut [Block], segments: &[(u32, u32)]) {
     let count = blocks.len() as u32;
+    let inside = inside_groups(blocks);
     let aims: Vec<u32> = (1..=count)
         .filter(|number| !matches!(blocks[*number as usize - 1], Block::Generate { .. }))
+        .filter(|number| !inside.contains(number))
         .collect();
     let held = held_before(blocks, segments);
     for (first, last) in segments {
@@ -49,6 +51,18 @@ pub fn resolve(random: &mut Random, blocks: &mut [Block], segments: &[(u32, u32)
             set_names(random, &mut blocks[own as usize - 1], own, aim, count);
         }
     }
+}
+
+/// The second and later blocks of groups of joined waits: no target names them.
+fn inside_groups(blocks: &[Block]) -> Vec<u32> {
+    let mut inside = Vec::new();
+    for (index, block) in blocks.iter().enumerate() {
+        if let Block::WaitJoined { back, .. } = block {
+            let number = index as u32 + 1;
+            inside.extend(number.saturating_sub(*back) + 1..=number);
+        }
+    }
+    inside
 }
 
 /// What a transaction holds before each block if it came straight through the

@@ -192,6 +192,7 @@ pub fn transaction(number: u64, next_block: u32, serial: u64) -> Transaction {
         next_block,
         serial,
         returning: false,
+        groups: Default::default(),
     }
 }
 
