@@ -64,6 +64,10 @@ pub struct Account {
     pub queues: Vec<QueueAccount>,
     /// Who holds each facility: the last to seize it, if it was not released since.
     pub holders: BTreeMap<u32, u64>,
+    /// The family of each transaction made, by its number less one.
+    families: Vec<u64>,
+    /// How many records each family has at each ASSEMBLE.
+    pub gathered: BTreeMap<(u32, u64), u64>,
     /// The clock of each transaction's last entry of a block.
     entered: BTreeMap<(u64, u32), u64>,
     /// So far each facility was released by its holder, and nobody ended holding one.
@@ -95,6 +99,8 @@ impl Account {
                 .collect(),
             queues: vec![QueueAccount::default(); model.queues as usize],
             holders: BTreeMap::new(),
+            families: Vec::new(),
+            gathered: BTreeMap::new(),
             entered: BTreeMap::new(),
             own_only: true,
             errors: Vec::new(),
@@ -107,8 +113,11 @@ impl Account {
         account
     }
 
-    fn make(&mut self, priority: u32) {
+    /// `parent`: who splits; one made by GENERATE founds a family.
+    fn make(&mut self, priority: u32, parent: Option<u64>) {
         self.made += 1;
+        let family = parent.map_or(self.made, |number| self.families[number as usize - 1]);
+        self.families.push(family);
         self.living.insert(self.made);
         self.priorities.push(priority);
     }
@@ -116,7 +125,7 @@ impl Account {
     fn make_if_time(&mut self, list: u32, priority: u32) {
         if self.left[list as usize - 1] > 0 {
             self.left[list as usize - 1] -= 1;
-            self.make(priority);
+            self.make(priority, None);
         }
     }
 
@@ -182,9 +191,11 @@ impl Account {
         let block = self.model.block(record.block as u32).clone();
         if record.outcome == 1 {
             self.begin_wait(record.transaction, &block);
+            self.gather(record, &block);
         } else {
             self.enter(record.transaction, &block);
             self.enter_group(record);
+            self.gather(record, &block);
         }
         self.records += 1;
     }
@@ -199,7 +210,8 @@ impl Account {
             Block::Enter { storage, units } => (Place::Storage(storage), units),
             Block::WaitIfStatus { .. }
             | Block::WaitJoined { .. }
-            | Block::WaitIfComparison { .. } => return,
+            | Block::WaitIfComparison { .. }
+            | Block::Assemble { .. } => return,
             _ => {
                 self.errors
                     .push(format!("{transaction} waits at {block:?}"));
@@ -240,7 +252,7 @@ impl Account {
                 0 => self.errors.push("ADVANCE over a spent list".to_string()),
                 left => self.left[list as usize - 1] = left - 1,
             },
-            Block::Terminate { .. } => {
+            Block::Terminate { .. } | Block::Assemble { .. } => {
                 self.own_only &= !self.holders.values().any(|holder| *holder == transaction);
                 self.ended += 1;
                 self.living.remove(&transaction);
@@ -260,7 +272,7 @@ impl Account {
             Block::Leave { storage, units } => self.free(Place::Storage(storage), units),
             Block::Split { copies, .. } => {
                 for _ in 0..copies {
-                    self.make(priority);
+                    self.make(priority, Some(transaction));
                 }
             }
             Block::Priority { priority } => self.priorities[transaction as usize - 1] = priority,
@@ -293,6 +305,24 @@ impl Account {
                 }
             }
             _ => {}
+        }
+    }
+
+    /// The first of a family at an ASSEMBLE has outcome 1, the later ones 0.
+    fn gather(&mut self, record: &Record, block: &Block) {
+        let Block::Assemble { count } = block else {
+            return;
+        };
+        let family = self.families[record.transaction as usize - 1];
+        let come = self
+            .gathered
+            .entry((record.block as u32, family))
+            .or_insert(0);
+        let first = *come % u64::from(*count) == 0;
+        *come += 1;
+        if first != (record.outcome == 1) {
+            let text = format!("{} is not the first of its family", record.transaction);
+            self.errors.push(text);
         }
     }
 

@@ -1,6 +1,6 @@
 //! Executing one block (01, Blocks).
 
-use crate::machine::{insert, Machine, Transaction};
+use crate::machine::{insert, Gatherer, Machine, Transaction};
 use crate::model::{Block, Model};
 use std::collections::BTreeMap;
 
@@ -77,6 +77,14 @@ impl Machine {
             Block::Terminate { .. } if self.rules.holders && self.holds_some(transaction) => {
                 Some(28)
             }
+            // "one that holds a facility ends the run with 28 instead": a later one
+            Block::Assemble { .. }
+                if self.rules.holders
+                    && self.gatherer(transaction).is_some()
+                    && self.holds_some(transaction) =>
+            {
+                Some(28)
+            }
             Block::Leave { storage, units }
                 if self.storages[storage as usize - 1].in_use < units =>
             {
@@ -85,6 +93,13 @@ impl Machine {
             Block::Depart { queue } if self.queues[queue as usize - 1].content == 0 => Some(25),
             _ => None,
         }
+    }
+
+    /// The place of its family's gatherer in the list of the next block.
+    fn gatherer(&self, transaction: &Transaction) -> Option<usize> {
+        let list = self.gatherers.get(&transaction.next_block)?;
+        list.iter()
+            .position(|one| one.transaction.family == transaction.family)
     }
 
     /// Does this transaction hold a facility?
@@ -102,6 +117,8 @@ impl Machine {
                 self.status_server(*code, *server).code_true(*code)
             }
             Block::WaitIfComparison { comparison } => self.holds(comparison, transaction),
+            // "The first of a family at the block waits there"
+            Block::Assemble { .. } => self.gatherer(transaction).is_none(),
             _ => false,
         }
     }
@@ -130,6 +147,11 @@ impl Machine {
             Block::WaitIfStatus { code, server } | Block::WaitJoined { code, server, .. } => {
                 let list = &mut self.status_server_mut(code, server).wel[code as usize - 1];
                 insert(list, transaction);
+            }
+            Block::Assemble { .. } => {
+                let list = self.gatherers.entry(transaction.next_block).or_default();
+                let come = 1;
+                list.push(Gatherer { transaction, come });
             }
             _ => insert(&mut self.wsl, transaction),
         }
@@ -247,11 +269,31 @@ impl Machine {
                 queue.arrivals += 1;
             }
             Block::Depart { queue } => self.queues[*queue as usize - 1].content -= 1,
+            Block::Assemble { count } => {
+                self.gather(&transaction, *count);
+                return Done::Entered;
+            }
         }
         // "Go on" means next block plus one, still moving.
         transaction.next_block += 1;
         self.moving = Some(transaction);
         Done::Entered
+    }
+
+    /// "Each later one of that family writes outcome 0 and ends"; "At the n-th
+    /// the first goes to REL with a fresh serial and goes on from the next block".
+    fn gather(&mut self, later: &Transaction, count: u32) {
+        self.ended += 1;
+        let place = self.gatherer(later).expect("else it waits");
+        let list = self.gatherers.entry(later.next_block).or_default();
+        list[place].come += 1;
+        if list[place].come == count {
+            let mut first = list.remove(place).transaction;
+            first.serial = self.fresh();
+            first.returning = false;
+            first.next_block += 1;
+            insert(&mut self.rel, first);
+        }
     }
 
     /// "n copies, same priority and parameters, on REL with fresh serials in order"
@@ -266,6 +308,7 @@ impl Machine {
                 serial: self.fresh(),
                 returning: false,
                 groups: BTreeMap::new(),
+                family: original.family,
             };
             insert(&mut self.rel, copy);
         }

@@ -9,6 +9,7 @@ use crate::model::Block;
 use crate::report::{places, read_report};
 use crate::rules::Rules;
 use crate::run::{door, run_watched, Outcome, Watcher};
+use std::collections::BTreeMap;
 
 /// Watches one run.
 pub struct Claims {
@@ -69,6 +70,31 @@ impl Claims {
         self.claim(holds, machine, "a living holder of each facility in use");
     }
 
+    /// Of one family at most one gathers at a block; how many have come is the
+    /// number of its records there modulo n, and nobody gathers where that is 0.
+    fn gatherers(&mut self, machine: &Machine) {
+        let mut found = BTreeMap::new();
+        let mut twice = false;
+        for (block, list) in &machine.gatherers {
+            for one in list {
+                let key = (*block, one.transaction.family);
+                twice |= found.insert(key, u64::from(one.come)).is_some();
+                twice |= one.transaction.next_block != *block;
+            }
+        }
+        let mut recorded = BTreeMap::new();
+        for ((block, family), records) in &self.account.gathered {
+            if let Block::Assemble { count } = machine.model.block(*block) {
+                let come = records % u64::from(*count);
+                if come > 0 {
+                    recorded.insert((*block, *family), come);
+                }
+            }
+        }
+        let holds = !twice && found == recorded;
+        self.claim(holds, machine, "one gatherer of a family, as recorded");
+    }
+
     fn sorted(&mut self, machine: &Machine) {
         let in_order = |list: &List| list.windows(2).all(|two| precedes(&two[0], &two[1]));
         let mut holds = in_order(&machine.rel) && in_order(&machine.wsl);
@@ -126,6 +152,7 @@ impl Watcher for Claims {
         self.account.read(trace);
         self.one_list_each(machine);
         self.living_holders(machine);
+        self.gatherers(machine);
         self.sorted(machine);
         // "before each turn that finds nobody moving and REL empty"; dry is among them.
         self.about_to_move = machine.moving.is_none() && machine.rel.is_empty();
@@ -145,6 +172,7 @@ impl Watcher for Claims {
         self.account.advance_to(machine.clock);
         self.one_list_each(machine);
         self.living_holders(machine);
+        self.gatherers(machine);
         self.sorted(machine);
         self.places = places(machine);
         self.places.sort();

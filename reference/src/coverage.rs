@@ -73,7 +73,8 @@ pub fn possible(rules: Rules, kind: u32, done: Done) -> bool {
     }
     match done {
         Done::Entered | Done::Finished => true,
-        Done::BeganToWait | Done::PutBack => [4, 6, 8, 9, 17].contains(&kind),
+        Done::BeganToWait => [4, 6, 8, 9, 17, 18].contains(&kind),
+        Done::PutBack => [4, 6, 8, 9, 17].contains(&kind),
         Done::WentBack => kind == 17,
         Done::Stopped(21) => [1, 14].contains(&kind),
         Done::Stopped(22) => [1, 2].contains(&kind),
@@ -81,7 +82,7 @@ pub fn possible(rules: Rules, kind: u32, done: Done) -> bool {
         Done::Stopped(24) => [5, 7].contains(&kind),
         Done::Stopped(25) => kind == 16,
         Done::Stopped(27) => rules.holders && kind == 5,
-        Done::Stopped(28) => rules.holders && kind == 3,
+        Done::Stopped(28) => rules.holders && [3, 18].contains(&kind),
         Done::Stopped(_) => false,
     }
 }

@@ -286,11 +286,14 @@ fn decode_block(
         16 => Block::Depart {
             queue: source.field(1, model.queues)?,
         },
-        _ => {
+        17 => {
             let (code, server) = decode_status(source, model)?;
             let back = source.field(1, Model::MAX_BACK)?;
             Block::WaitJoined { code, server, back }
         }
+        _ => Block::Assemble {
+            count: source.field(Model::MIN_ASSEMBLED, Model::MAX_ASSEMBLED)?,
+        },
     };
     Ok(block)
 }

@@ -4,6 +4,7 @@
 pub mod contention;
 pub mod damage;
 pub mod distributions;
+pub mod families;
 pub mod fields;
 pub mod holders;
 pub mod joined;
@@ -70,6 +71,9 @@ pub fn case_with(rules: Rules, random: &mut Random, size: Size) -> Case {
     }
     if rules.joined && random.one_in(10) {
         return joined::case(rules, random, size);
+    }
+    if rules.assemble && random.one_in(10) {
+        return families::case(rules, random, size);
     }
     match random.below(100) {
         0..=52 => {

@@ -30,6 +30,8 @@ impl Model {
     pub const MAX_TERMINATE: u32 = 65_535;
     pub const MAX_COPIES: u32 = 255;
     pub const MAX_BACK: u32 = 7;
+    pub const MIN_ASSEMBLED: u32 = 2;
+    pub const MAX_ASSEMBLED: u32 = 255;
     pub const PARAMETERS: u32 = 4;
     pub const MAX_CONSTANT: u32 = 2_147_483_647;
     pub const MAX_VALUE_NUMBERS: u32 = 64;
@@ -82,6 +84,7 @@ pub enum Block {
     Arrive { queue: u32 },
     Depart { queue: u32 },
     WaitJoined { code: u32, server: u32, back: u32 },
+    Assemble { count: u32 },
 }
 
 impl Block {
@@ -105,6 +108,7 @@ impl Block {
             Block::Arrive { .. } => 15,
             Block::Depart { .. } => 16,
             Block::WaitJoined { .. } => 17,
+            Block::Assemble { .. } => 18,
         }
     }
 

@@ -1,7 +1,7 @@
 //! Which requests of document 02 that change runs are in force.
 
 /// The highest kind under any rules.
-pub const LAST_KIND: u32 = 17;
+pub const LAST_KIND: u32 = 18;
 
 /// One field for each such request; `BASE` is the machine of document 01.
 #[derive(Clone, Copy, Debug, PartialEq, Eq)]
@@ -12,6 +12,8 @@ pub struct Rules {
     pub holders: bool,
     /// Item 7: kind 17, joined waits.
     pub joined: bool,
+    /// Item 8: kind 18, ASSEMBLE.
+    pub assemble: bool,
 }
 
 impl Rules {
@@ -20,6 +22,7 @@ impl Rules {
         wide_clocks: false,
         holders: false,
         joined: false,
+        assemble: false,
     };
 
     /// Every request that stands here.
@@ -27,6 +30,7 @@ impl Rules {
         wide_clocks: true,
         holders: true,
         joined: true,
+        assemble: true,
     };
 
     /// What the engine does: each landing changes this one constant.
@@ -38,6 +42,7 @@ impl Rules {
             wide_clocks: requests.contains(&1),
             holders: requests.contains(&6),
             joined: requests.contains(&7),
+            assemble: requests.contains(&8),
         }
     }
 
@@ -64,6 +69,7 @@ impl Rules {
         match kind {
             1..=16 => true,
             17 => self.joined,
+            18 => self.assemble,
             _ => false,
         }
     }

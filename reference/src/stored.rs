@@ -61,6 +61,8 @@ impl Watcher for Features {
             self.add(waits, &format!("WEL {code}"));
         }
         self.add(!machine.wsl.is_empty(), "WSL");
+        let gathers = machine.gatherers.values().any(|list| !list.is_empty());
+        self.add(gathers, "gatherers");
         self.add(!machine.rel.is_empty(), "REL");
         self.add(!machine.fel.is_empty(), "FEL");
         self.add(machine.living() == Model::MAX_LIVING, "1,024 living");

@@ -7,10 +7,10 @@ use reference::blocks::Done;
 use reference::claims::{check_with, Claims};
 use reference::coverage::Coverage;
 use reference::generate::random::Random;
-use reference::generate::{case_with, holders, Case, Size};
+use reference::generate::{case_with, holders, Size};
 use reference::machine::Machine;
 use reference::model::{Block, Term};
-use reference::run::{door, run_with, Outcome, Watcher};
+use reference::run::{door, Watcher};
 use reference::Rules;
 
 const HOLDERS: Rules = Rules {
@@ -148,33 +148,29 @@ fn the_claims_find_a_facility_without_its_holder() {
     );
 }
 
-/// The eight results, trace and report of a case.
-fn everything(rules: Rules, case: &Case) -> (Outcome, Vec<u8>, Vec<u8>) {
-    let mut trace = vec![0; case.trace_len];
-    let mut report = vec![0; case.report_len];
-    let outcome = run_with(
-        rules,
-        &case.model,
-        &case.tape,
-        case.budget,
-        case.work_len,
-        &mut trace,
-        &mut report,
-    );
-    (outcome, trace, report)
-}
-
 #[test]
 fn models_that_release_only_their_own_give_the_trace_they_gave() {
-    let mut random = Random::new(101);
+    only_their_own(101, HOLDERS, 2_000);
+    only_their_own(104, Rules::ALL, 2_000);
+}
+
+/// Runs without the questions 27 and 28 are those with them, if the records tell
+/// of nobody who would have been stopped.
+fn only_their_own(seed: u64, rules: Rules, count: u64) {
+    let without = Rules {
+        holders: false,
+        ..rules
+    };
+    let mut random = Random::new(seed);
     let mut counts = [0; 2];
-    for number in 0..3_000 {
+    for number in 0..count {
         let case = match number % 4 {
-            0 => case_with(HOLDERS, &mut random, Size::Full),
-            _ => holders::case(HOLDERS, &mut random, Size::Small),
+            0 => case_with(rules, &mut random, Size::Full),
+            1 => holders::case(rules, &mut random, Size::Small),
+            _ => case_with(rules, &mut random, Size::Small),
         };
         let Ok(start) = door(
-            Rules::BASE,
+            without,
             &case.model,
             &case.tape,
             case.work_len,
@@ -182,10 +178,10 @@ fn models_that_release_only_their_own_give_the_trace_they_gave() {
         ) else {
             continue;
         };
-        let before = everything(Rules::BASE, &case);
-        let mut account = Account::new(Rules::BASE, &start.model, &start.tape);
+        let before = everything(without, &case);
+        let mut account = Account::new(without, &start.model, &start.tape);
         account.read(&before.1[..before.0.trace_bytes as usize]);
-        let after = everything(HOLDERS, &case);
+        let after = everything(rules, &case);
         if account.own_only {
             assert!(before == after, "case {number}");
             counts[0] += 1;
@@ -194,7 +190,7 @@ fn models_that_release_only_their_own_give_the_trace_they_gave() {
             counts[1] += 1;
         }
     }
-    assert!(counts[0] > 800 && counts[1] > 300, "{counts:?}");
+    assert!(counts[0] > 500 && counts[1] > 100, "{counts:?}");
 }
 
 #[test]

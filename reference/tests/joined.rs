@@ -11,7 +11,6 @@ use reference::generate::random::Random;
 use reference::generate::{case_with, joined, Size};
 use reference::machine::{insert, Machine};
 use reference::model::{Block, Model};
-use reference::run::{run_with, WORK_NUMBERS};
 use reference::trace::write_record_with;
 use reference::Rules;
 
@@ -304,23 +303,9 @@ fn models_without_the_new_kind_keep_their_bytes() {
     let mut random = Random::new(114);
     for number in 0..600 {
         let case = case_with(Rules::BASE, &mut random, Size::Small);
-        let run = |rules: Rules| {
-            let mut trace = vec![0; case.trace_len];
-            let mut report = vec![0; case.report_len];
-            let outcome = run_with(
-                rules,
-                &case.model,
-                &case.tape,
-                case.budget,
-                case.work_len.min(WORK_NUMBERS),
-                &mut trace,
-                &mut report,
-            );
-            (outcome, trace, report)
-        };
-        let before = run(Rules::BASE);
+        let before = everything(Rules::BASE, &case);
         if before.0.refusal == 0 {
-            assert!(before == run(JOINED), "case {number}");
+            assert!(before == everything(JOINED, &case), "case {number}");
         }
     }
 }

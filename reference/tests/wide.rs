@@ -10,7 +10,6 @@ use reference::generate::random::Random;
 use reference::generate::{case_with, wide, Size};
 use reference::model::{Block, Term};
 use reference::number::number_bytes;
-use reference::run::{run_with, Outcome};
 use reference::trace::{read_record_with, write_record_with};
 use reference::Rules;
 
@@ -171,22 +170,6 @@ fn sums_of_ticks_are_whole() {
     assert_eq!(ran.outcome.clock, 2 * LONGEST);
     assert_eq!(ran.facility(), [2, 2 * LONGEST, 1, LONGEST - 1, 1]);
     assert_eq!(ran.queue(), [2, 3 * LONGEST, 2]);
-}
-
-/// The eight results, trace and report of a case.
-fn everything(rules: Rules, case: &reference::generate::Case) -> (Outcome, Vec<u8>, Vec<u8>) {
-    let mut trace = vec![0; case.trace_len];
-    let mut report = vec![0; case.report_len];
-    let outcome = run_with(
-        rules,
-        &case.model,
-        &case.tape,
-        case.budget,
-        case.work_len,
-        &mut trace,
-        &mut report,
-    );
-    (outcome, trace, report)
 }
 
 #[test]

@@ -214,6 +214,9 @@ impl Writer {
                 self.put(*copies, 1, Model::MAX_COPIES);
                 self.put(*target, 1, self.blocks);
             }
+            Block::Assemble { count } => {
+                self.put(*count, Model::MIN_ASSEMBLED, Model::MAX_ASSEMBLED);
+            }
             Block::Arrive { queue } | Block::Depart { queue } => {
                 self.put(*queue, 1, self.queues);
             }

@@ -95,6 +95,9 @@ impl Parts<'_> {
         if self.rules.joined && (facilities || storages) && self.random.one_in(12) {
             return self.joined_waits();
         }
+        if self.rules.assemble && self.random.one_in(14) {
+            return self.family();
+        }
         match self.random.below(100) {
             0..=19 if facilities => {
                 let facility = self.facility();
@@ -163,6 +166,24 @@ impl Parts<'_> {
             parameter: self.random.number(1, 2),
             term,
         }
+    }
+
+    /// Copies, something on the way, and the gathering (02, item 8).
+    fn family(&mut self) -> Vec<Block> {
+        let mut blocks = Vec::new();
+        if self.random.percent(70) {
+            blocks.push(self.split());
+        }
+        if self.random.one_in(2) {
+            blocks.push(self.advance());
+        }
+        let count = match self.random.below(6) {
+            0 => self.random.number(2, Model::MAX_ASSEMBLED),
+            1 => 3,
+            _ => 2,
+        };
+        blocks.push(Block::Assemble { count });
+        blocks
     }
 
     /// A group of server waits, the last of them joined (02, item 7).

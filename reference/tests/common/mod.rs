@@ -3,6 +3,7 @@
 
 use reference::blocks::Done;
 use reference::generate::fields::{encode_model, encode_tape};
+use reference::generate::Case;
 use reference::machine::{Machine, Transaction};
 use reference::model::{Block, Comparison, Model, Part, Sum, Term};
 use reference::report::{read_report, REPORT_BYTES};
@@ -193,6 +194,7 @@ pub fn transaction(number: u64, next_block: u32, serial: u64) -> Transaction {
         serial,
         returning: false,
         groups: Default::default(),
+        family: number,
     }
 }
 
@@ -240,4 +242,20 @@ pub fn waiter(number: u64, block: u32, priority: u32) -> Transaction {
     let mut waiter = transaction(number, block, number);
     waiter.priority = priority;
     waiter
+}
+
+/// The eight results, trace and report of a case.
+pub fn everything(rules: Rules, case: &Case) -> (Outcome, Vec<u8>, Vec<u8>) {
+    let mut trace = vec![0; case.trace_len];
+    let mut report = vec![0; case.report_len];
+    let outcome = run_with(
+        rules,
+        &case.model,
+        &case.tape,
+        case.budget,
+        case.work_len,
+        &mut trace,
+        &mut report,
+    );
+    (outcome, trace, report)
 }
