@@ -236,7 +236,8 @@ impl Account {
             let equal = other.place == wait.place
                 && other.priority == wait.priority
                 && other.units == wait.units;
-            if equal && other.began < wait.began {
+            // "the order among equals" is claimed for edition 1
+            if self.model.edition == 1 && equal && other.began < wait.began {
                 self.errors
                     .push(format!("{number} overtaken at {:?}", wait.place));
             }

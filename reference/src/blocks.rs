@@ -1,6 +1,6 @@
 //! Executing one block (01, Blocks).
 
-use crate::machine::{insert, Gatherer, Machine, Transaction};
+use crate::machine::{insert, insert_waiter, Gatherer, Machine, Transaction};
 use crate::model::{Block, Model};
 use std::collections::BTreeMap;
 
@@ -133,20 +133,21 @@ impl Machine {
             Done::BeganToWait
         };
         let begun = u64::from(done == Done::BeganToWait);
+        let edition = self.model.edition;
         match *block {
             Block::Seize { facility } => {
                 let server = &mut self.facilities[facility as usize - 1];
                 server.waits_begun += begun;
-                insert(&mut server.ql, transaction);
+                insert_waiter(edition, &mut server.ql, transaction);
             }
             Block::Enter { storage, .. } => {
                 let server = &mut self.storages[storage as usize - 1];
                 server.waits_begun += begun;
-                insert(&mut server.ql, transaction);
+                insert_waiter(edition, &mut server.ql, transaction);
             }
             Block::WaitIfStatus { code, server } | Block::WaitJoined { code, server, .. } => {
                 let list = &mut self.status_server_mut(code, server).wel[code as usize - 1];
-                insert(list, transaction);
+                insert_waiter(edition, list, transaction);
             }
             Block::Assemble { .. } => {
                 let list = self.gatherers.entry(transaction.next_block).or_default();
@@ -227,7 +228,11 @@ impl Machine {
             }
             Block::Leave { storage, units } => {
                 self.storages[*storage as usize - 1].in_use -= units;
-                self.wake_fitting(*storage);
+                if self.model.edition == 1 {
+                    self.wake_fitting(*storage);
+                } else {
+                    self.wake_as_in_1996(*storage, *units);
+                }
                 self.offer_status(&[3, 4, 5, 6], *storage);
             }
             Block::WaitIfStatus { code, server } => {
@@ -328,6 +333,42 @@ impl Machine {
             }
         }
         server.ql = staying;
+        for waiter in going {
+            self.wake(waiter);
+        }
+    }
+
+    /// LEAVE in edition 2: "document 000, section 6, cases a and b, B being its units".
+    fn wake_as_in_1996(&mut self, storage: u32, units: u32) {
+        let mut waiting = std::mem::take(&mut self.storages[storage as usize - 1].ql);
+        let mut going = Vec::new();
+        if !self.model.moves_several_units() {
+            // a: "we remove the first transaction on the QL"
+            if !waiting.is_empty() {
+                going.push(waiting.remove(0));
+            }
+        } else if units == 1 {
+            // b (i): "the first transaction that has an ENTER with B = 1"
+            let single = |waiter: &Transaction| units_wanted(&self.model, waiter) == 1;
+            if let Some(place) = waiting.iter().position(single) {
+                going.push(waiting.remove(place));
+            }
+        } else {
+            // b (ii): from the front; equal, it goes and all is done; less, it goes
+            // and its units are taken off; more, the next.
+            let mut left = units;
+            let mut place = 0;
+            while place < waiting.len() && left > 0 {
+                let wanted = units_wanted(&self.model, &waiting[place]);
+                if wanted > left {
+                    place += 1;
+                } else {
+                    left -= wanted;
+                    going.push(waiting.remove(place));
+                }
+            }
+        }
+        self.storages[storage as usize - 1].ql = waiting;
         for waiter in going {
             self.wake(waiter);
         }

@@ -99,7 +99,8 @@ impl Claims {
         let in_order = |list: &List| list.windows(2).all(|two| precedes(&two[0], &two[1]));
         let mut holds = in_order(&machine.rel) && in_order(&machine.wsl);
         for server in machine.facilities.iter().chain(machine.storages.iter()) {
-            holds &= in_order(&server.ql) && server.wel.iter().all(in_order);
+            let waiting = in_order(&server.ql) && server.wel.iter().all(in_order);
+            holds &= waiting || machine.model.edition != 1;
             holds &= server.in_use <= server.capacity;
         }
         for two in machine.fel.windows(2) {
@@ -156,7 +157,8 @@ impl Watcher for Claims {
         self.sorted(machine);
         // "before each turn that finds nobody moving and REL empty"; dry is among them.
         self.about_to_move = machine.moving.is_none() && machine.rel.is_empty();
-        if self.about_to_move {
+        // "Zero waiters .. are claimed for edition 1."
+        if self.about_to_move && machine.model.edition == 1 {
             self.nobody_able_to_go(machine);
         }
     }

@@ -24,6 +24,8 @@ pub struct Coverage {
     pub last_clock: u64,
     pub clock_moves: u64,
     pub zero_moves: u64,
+    /// Accepted models of each edition.
+    pub editions: [u64; 2],
     /// Term tags, status codes and relations in accepted models.
     pub tags: [u64; 12],
     pub codes: [u64; 6],
@@ -147,6 +149,7 @@ impl Coverage {
     fn count_names(&mut self, bytes: &[u8]) {
         let model = decode_model_with(self.rules, bytes).expect("accepted");
         self.most_blocks = self.most_blocks.max(model.blocks.len());
+        self.editions[model.edition as usize - 1] += 1;
         for field in model_fields(self.rules, &model) {
             let value = field.value as usize;
             match field.role {
@@ -177,7 +180,9 @@ impl Coverage {
                 empty.push(format!("end {end}"));
             }
         }
+        let editions = self.rules.highest_edition as usize;
         for (name, counts) in [
+            ("edition", &self.editions[..editions]),
             ("tag", &self.tags[..]),
             ("code", &self.codes[..]),
             ("relation", &self.relations[..]),
@@ -225,6 +230,7 @@ impl std::fmt::Display for Coverage {
             "most blocks {}, most living {}, last clock {}, clock moves {}, of them by 0 ticks {}",
             self.most_blocks, self.most_living, self.last_clock, self.clock_moves, self.zero_moves
         )?;
+        writeln!(f, "editions 1, 2   {:?}", self.editions)?;
         writeln!(f, "tags 0..11      {:?}", self.tags)?;
         writeln!(f, "codes 1..6      {:?}", self.codes)?;
         writeln!(f, "relations 1..6  {:?}", self.relations)?;

@@ -31,7 +31,7 @@ pub fn decode_model(bytes: &[u8]) -> Result<Model, u32> {
 /// Gives the model, or the number of the first question answered "no".
 pub fn decode_model_with(rules: Rules, bytes: &[u8]) -> Result<Model, u32> {
     let mut source = Source { bytes, position: 0 };
-    source.field(Model::EDITION, Model::EDITION)?;
+    let edition = source.field(Model::FIRST_EDITION, rules.highest_edition)?;
     let facilities = source.field(0, Model::MAX_FACILITIES)?;
     let storages = source.field(0, Model::MAX_STORAGES)?;
     let mut capacities = Vec::new();
@@ -40,6 +40,7 @@ pub fn decode_model_with(rules: Rules, bytes: &[u8]) -> Result<Model, u32> {
     }
     let queues = source.field(0, Model::MAX_QUEUES)?;
     let mut model = Model {
+        edition,
         facilities,
         capacities,
         queues,

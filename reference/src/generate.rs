@@ -4,6 +4,7 @@
 pub mod contention;
 pub mod damage;
 pub mod distributions;
+pub mod editions;
 pub mod families;
 pub mod fields;
 pub mod holders;
@@ -75,6 +76,9 @@ pub fn case_with(rules: Rules, random: &mut Random, size: Size) -> Case {
     if rules.assemble && random.one_in(10) {
         return families::case(rules, random, size);
     }
+    if rules.highest_edition > 1 && random.one_in(12) {
+        return editions::case(rules, random, size);
+    }
     match random.below(100) {
         0..=52 => {
             let (model, tape) = structured::model_and_tape(rules, random, size);
@@ -101,8 +105,12 @@ pub fn good_case(
     model: &Model,
     tape: &Tape,
 ) -> Case {
+    let mut model = model.clone();
+    if model.edition == Model::FIRST_EDITION {
+        model.edition = edition(rules, random);
+    }
     let mut case = Case {
-        model: encode_model(model),
+        model: encode_model(&model),
         tape: encode_tape(tape),
         budget: budget(random, size),
         work_len: WORK_NUMBERS + if random.one_in(20) { 1 } else { 0 },
@@ -113,6 +121,14 @@ pub fn good_case(
         aim_limits(rules, random, &mut case);
     }
     case
+}
+
+/// The edition of a model: often the second where there is one.
+fn edition(rules: Rules, random: &mut Random) -> u32 {
+    if rules.highest_edition > 1 && random.one_in(3) {
+        return rules.highest_edition;
+    }
+    Model::FIRST_EDITION
 }
 
 /// Sets budget and trace length beside what the run needs, so that several

@@ -4,6 +4,8 @@
 /// A model whose numbers are all in range.
 #[derive(Clone, Debug, PartialEq, Eq)]
 pub struct Model {
+    /// 1, or 2 for the 1996 rules (02, item 12).
+    pub edition: u32,
     pub facilities: u32,
     /// The capacity of each storage.
     pub capacities: Vec<u32>,
@@ -16,7 +18,7 @@ pub struct Model {
 
 /// 01, Bytes: "These limits are named constants of the model".
 impl Model {
-    pub const EDITION: u32 = 1;
+    pub const FIRST_EDITION: u32 = 1;
     pub const MAX_FACILITIES: u32 = 32;
     pub const MAX_STORAGES: u32 = 32;
     pub const MAX_CAPACITY: u32 = 65_535;
@@ -39,6 +41,14 @@ impl Model {
     pub const MAX_MENTIONS: u32 = 2;
     pub const MAX_LIVING: u64 = 1_024;
     pub const MAX_SAMPLES: u32 = 65_535;
+
+    /// 02, item 12: "in any ENTER or LEAVE" more than one unit.
+    pub fn moves_several_units(&self) -> bool {
+        self.blocks.iter().any(|block| match block {
+            Block::Enter { units, .. } | Block::Leave { units, .. } => *units > 1,
+            _ => false,
+        })
+    }
 
     /// The blocks before the joined wait at this number that belong to its
     /// group (02, item 7: "The c blocks before it"), if they are there.

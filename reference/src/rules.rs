@@ -14,6 +14,8 @@ pub struct Rules {
     pub joined: bool,
     /// Item 8: kind 18, ASSEMBLE.
     pub assemble: bool,
+    /// Item 12: 2 where runs under the 1996 rules are accepted, else 1.
+    pub highest_edition: u32,
 }
 
 impl Rules {
@@ -23,6 +25,7 @@ impl Rules {
         holders: false,
         joined: false,
         assemble: false,
+        highest_edition: 1,
     };
 
     /// Every request that stands here.
@@ -31,6 +34,7 @@ impl Rules {
         holders: true,
         joined: true,
         assemble: true,
+        highest_edition: 2,
     };
 
     /// What the engine does: each landing changes this one constant.
@@ -43,6 +47,7 @@ impl Rules {
             holders: requests.contains(&6),
             joined: requests.contains(&7),
             assemble: requests.contains(&8),
+            highest_edition: if requests.contains(&12) { 2 } else { 1 },
         }
     }
 

@@ -65,6 +65,7 @@ impl Watcher for Features {
         self.add(gathers, "gatherers");
         self.add(!machine.rel.is_empty(), "REL");
         self.add(!machine.fel.is_empty(), "FEL");
+        self.add(machine.model.edition == 2, "edition 2");
         self.add(machine.living() == Model::MAX_LIVING, "1,024 living");
         self.add(
             machine.clock + 1_000_000 > machine.rules.max_clock(),

@@ -7,6 +7,7 @@ use crate::tape::Tape;
 
 pub fn empty_model() -> Model {
     Model {
+        edition: Model::FIRST_EDITION,
         facilities: 0,
         capacities: Vec::new(),
         queues: 0,

@@ -3,7 +3,7 @@
 use super::fields::{count_numbers, encode_fields, encode_model, model_fields, tape_fields, Field};
 use super::random::Random;
 use super::sums::{long_value, wild_sum, Scope};
-use super::{good_case, Case, Size};
+use super::{edition, good_case, Case, Size};
 use crate::model::{Block, Comparison, Model, Part, Sum, Term};
 use crate::number::number_bytes;
 use crate::rules::Rules;
@@ -17,6 +17,7 @@ pub fn damaged_case(
     mut model: Model,
     tape: Tape,
 ) -> Case {
+    model.edition = edition(rules, random);
     let mut case = good_case(rules, random, size, &model, &tape);
     match random.below(10) {
         0..=3 => {

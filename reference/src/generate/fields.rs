@@ -77,7 +77,7 @@ pub fn model_fields(rules: Rules, model: &Model) -> Vec<Field> {
         lists: model.lists,
         blocks: model.blocks.len() as u32,
     };
-    writer.put(1, 1, 1);
+    writer.put(model.edition, Model::FIRST_EDITION, rules.highest_edition);
     writer.put(model.facilities, 0, Model::MAX_FACILITIES);
     writer.put(model.capacities.len() as u32, 0, Model::MAX_STORAGES);
     for capacity in &model.capacities {

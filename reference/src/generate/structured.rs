@@ -103,6 +103,7 @@ fn resources(random: &mut Random, size: Size) -> Model {
         })
         .collect();
     Model {
+        edition: Model::FIRST_EDITION,
         facilities: random.number(0, most),
         capacities,
         queues: random.number(0, most),

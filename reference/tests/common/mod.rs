@@ -15,6 +15,7 @@ use reference::Rules;
 /// A model of one facility, one storage of 2, one queue and three lists.
 pub fn model(blocks: Vec<Block>) -> Model {
     Model {
+        edition: 1,
         facilities: 1,
         capacities: vec![2],
         queues: 1,
