@@ -62,7 +62,8 @@ pub struct Account {
     waits: BTreeMap<u64, Wait>,
     pub servers: BTreeMap<Place, ServerAccount>,
     pub queues: Vec<QueueAccount>,
-    /// Who holds each facility: the last to seize it, if it was not released since.
+    /// Who holds each facility: the last to seize or preempt it, if it was not
+    /// released since, or to whom it was given back.
     pub holders: BTreeMap<u32, u64>,
     /// The family of each transaction made, by its number less one.
     families: Vec<u64>,
@@ -70,6 +71,10 @@ pub struct Account {
     pub gathered: BTreeMap<(u32, u64), u64>,
     /// The clock of each transaction's last entry of a block.
     entered: BTreeMap<(u64, u32), u64>,
+    /// Who was interrupted at each facility.
+    pub interrupted: BTreeMap<u32, u64>,
+    /// Facilities whose holder entered by PREEMPT.
+    preempted: BTreeSet<u32>,
     /// So far each facility was released by its holder, and nobody ended holding one.
     pub own_only: bool,
     pub errors: Vec<String>,
@@ -102,6 +107,8 @@ impl Account {
             families: Vec::new(),
             gathered: BTreeMap::new(),
             entered: BTreeMap::new(),
+            interrupted: BTreeMap::new(),
+            preempted: BTreeSet::new(),
             own_only: true,
             errors: Vec::new(),
         };
@@ -181,6 +188,15 @@ impl Account {
                 .push(format!("a record of {number}, not living"));
             return;
         }
+        if self
+            .interrupted
+            .values()
+            .any(|one| *one == record.transaction)
+        {
+            let number = record.transaction;
+            self.errors
+                .push(format!("a record of {number}, interrupted"));
+        }
         if record.block as usize > self.model.blocks.len() {
             self.errors.push(format!("no block {}", record.block));
             return;
@@ -206,7 +222,9 @@ impl Account {
 
     fn begin_wait(&mut self, transaction: u64, block: &Block) {
         let (place, units) = match *block {
-            Block::Seize { facility } => (Place::Facility(facility), 1),
+            Block::Seize { facility } | Block::Preempt { facility } => {
+                (Place::Facility(facility), 1)
+            }
             Block::Enter { storage, units } => (Place::Storage(storage), units),
             Block::WaitIfStatus { .. }
             | Block::WaitJoined { .. }
@@ -232,12 +250,16 @@ impl Account {
 
     /// "the one that began later has ended only if the other ended before it"
     fn end_wait(&mut self, wait: &Wait) {
+        // Claimed for edition 1, and "for facilities that no PREEMPT names".
+        let claimed = match wait.place {
+            Place::Facility(facility) => !self.model.preempts(facility),
+            Place::Storage(_) => true,
+        } && self.model.edition == 1;
         for (number, other) in &self.waits {
             let equal = other.place == wait.place
                 && other.priority == wait.priority
                 && other.units == wait.units;
-            // "the order among equals" is claimed for edition 1
-            if self.model.edition == 1 && equal && other.began < wait.began {
+            if claimed && equal && other.began < wait.began {
                 self.errors
                     .push(format!("{number} overtaken at {:?}", wait.place));
             }
@@ -262,6 +284,8 @@ impl Account {
                 self.holders.insert(facility, transaction);
                 self.occupy(Place::Facility(facility), 1, 1);
             }
+            Block::Preempt { facility } => self.preempt(transaction, facility),
+            Block::Return { facility } => self.give_back(transaction, facility),
             Block::Release { facility } => {
                 self.own_only &= self.holders.remove(&facility) == Some(transaction);
                 self.free(Place::Facility(facility), 1);
@@ -306,6 +330,41 @@ impl Account {
                 }
             }
             _ => {}
+        }
+    }
+
+    /// Taken over from a holder of lower priority, or taken while idle.
+    fn preempt(&mut self, transaction: u64, facility: u32) {
+        let priority = |number: u64| self.priorities[number as usize - 1];
+        if let Some(holder) = self.holders.get(&facility).copied() {
+            if self.preempted.contains(&facility) || priority(holder) >= priority(transaction) {
+                let text = format!("{transaction} takes {facility} over from {holder}");
+                self.errors.push(text);
+            }
+            self.interrupted.insert(facility, holder);
+            self.server(Place::Facility(facility)).entries += 1;
+        } else {
+            self.occupy(Place::Facility(facility), 1, 1);
+        }
+        self.holders.insert(facility, transaction);
+        self.preempted.insert(facility);
+    }
+
+    /// RETURN: to the one interrupted, or idle.
+    fn give_back(&mut self, transaction: u64, facility: u32) {
+        let own = self.holders.get(&facility) == Some(&transaction);
+        if !own || !self.preempted.remove(&facility) {
+            let text = format!("{transaction} gives {facility} back");
+            self.errors.push(text);
+        }
+        match self.interrupted.remove(&facility) {
+            Some(holder) => {
+                self.holders.insert(facility, holder);
+            }
+            None => {
+                self.holders.remove(&facility);
+                self.free(Place::Facility(facility), 1);
+            }
         }
     }
 

@@ -1,6 +1,6 @@
 //! Executing one block (01, Blocks).
 
-use crate::machine::{insert, insert_waiter, Gatherer, Machine, Transaction};
+use crate::machine::{insert, insert_waiter, Gatherer, Interrupted, Machine, Transaction};
 use crate::model::{Block, Model};
 use std::collections::BTreeMap;
 
@@ -67,8 +67,22 @@ impl Machine {
                 let own = server.holder == Some(transaction.number);
                 if server.in_use == 0 {
                     Some(24)
-                } else if self.rules.holders && !own {
+                } else if server.preempted || (self.rules.holders && !own) {
                     Some(27) // "RELEASE by another than the holder, after 24"
+                } else {
+                    None
+                }
+            }
+            Block::Return { facility } => {
+                let server = &self.facilities[facility as usize - 1];
+                let own = server.preempted && server.holder == Some(transaction.number);
+                let remaining = self.interrupted_at(facility).map(|at| at.1);
+                if server.in_use == 0 {
+                    Some(24)
+                } else if !own {
+                    Some(27)
+                } else if remaining.is_some_and(too_late) {
+                    Some(22)
                 } else {
                     None
                 }
@@ -95,6 +109,28 @@ impl Machine {
         }
     }
 
+    /// Who is interrupted at this facility: its place in the list and the ticks left.
+    fn interrupted_at(&self, facility: u32) -> Option<(usize, u64)> {
+        let place = self
+            .interrupted
+            .iter()
+            .position(|one| one.facility == facility)?;
+        Some((place, self.interrupted[place].remaining))
+    }
+
+    /// "It also enters if f was seized by a holder of lower priority that stands
+    /// on the FEL": the holder's place there.
+    fn can_take_over(&self, facility: u32, transaction: &Transaction) -> Option<usize> {
+        let server = &self.facilities[facility as usize - 1];
+        if server.preempted {
+            return None;
+        }
+        let holder = server.holder?;
+        self.fel.iter().position(|event| {
+            event.transaction.number == holder && event.transaction.priority < transaction.priority
+        })
+    }
+
     /// The place of its family's gatherer in the list of the next block.
     fn gatherer(&self, transaction: &Transaction) -> Option<usize> {
         let list = self.gatherers.get(&transaction.next_block)?;
@@ -112,6 +148,10 @@ impl Machine {
     pub fn must_wait(&self, block: &Block, transaction: &Transaction) -> bool {
         match block {
             Block::Seize { facility } => self.facilities[*facility as usize - 1].in_use > 0,
+            Block::Preempt { facility } => {
+                self.facilities[*facility as usize - 1].in_use > 0
+                    && self.can_take_over(*facility, transaction).is_none()
+            }
             Block::Enter { storage, units } => self.storages[*storage as usize - 1].free() < *units,
             Block::WaitIfStatus { code, server } | Block::WaitJoined { code, server, .. } => {
                 self.status_server(*code, *server).code_true(*code)
@@ -135,7 +175,7 @@ impl Machine {
         let begun = u64::from(done == Done::BeganToWait);
         let edition = self.model.edition;
         match *block {
-            Block::Seize { facility } => {
+            Block::Seize { facility } | Block::Preempt { facility } => {
                 let server = &mut self.facilities[facility as usize - 1];
                 server.waits_begun += begun;
                 insert_waiter(edition, &mut server.ql, transaction);
@@ -211,12 +251,24 @@ impl Machine {
                 self.offer_status(&[1, 2], *facility);
             }
             Block::Release { facility } => {
+                self.release(*facility);
+                self.offer_status(&[1, 2], *facility);
+            }
+            Block::Preempt { facility } => {
+                if let Some(place) = self.can_take_over(*facility, &transaction) {
+                    self.interrupt(*facility, place);
+                }
                 let server = &mut self.facilities[*facility as usize - 1];
-                server.in_use = 0;
-                server.holder = None;
-                if !server.ql.is_empty() {
-                    let first = server.ql.remove(0);
-                    self.wake(first);
+                server.in_use = 1;
+                server.holder = Some(transaction.number);
+                server.preempted = true;
+                server.entries += 1;
+                self.offer_status(&[1, 2], *facility);
+            }
+            Block::Return { facility } => {
+                match self.interrupted_at(*facility) {
+                    Some((place, _)) => self.give_back(*facility, place),
+                    None => self.release(*facility),
                 }
                 self.offer_status(&[1, 2], *facility);
             }
@@ -283,6 +335,39 @@ impl Machine {
         transaction.next_block += 1;
         self.moving = Some(transaction);
         Done::Entered
+    }
+
+    /// "f idle; the first of its QL goes to REL"
+    fn release(&mut self, facility: u32) {
+        let server = &mut self.facilities[facility as usize - 1];
+        server.in_use = 0;
+        server.holder = None;
+        server.preempted = false;
+        if !server.ql.is_empty() {
+            let first = server.ql.remove(0);
+            self.wake(first);
+        }
+    }
+
+    /// "That holder leaves the FEL for a list of interrupted ones, place 8, with
+    /// its remaining ticks kept."
+    fn interrupt(&mut self, facility: u32, place: usize) {
+        let event = self.fel.remove(place);
+        self.interrupted.push(Interrupted {
+            facility,
+            remaining: event.move_time - self.clock,
+            transaction: event.transaction,
+        });
+    }
+
+    /// "gives f back to the interrupted holder, which goes to the FEL at clock +
+    /// remaining with a fresh serial"
+    fn give_back(&mut self, facility: u32, place: usize) {
+        let one = self.interrupted.remove(place);
+        let server = &mut self.facilities[facility as usize - 1];
+        server.holder = Some(one.transaction.number);
+        server.preempted = false;
+        self.to_fel(one.transaction, self.clock + one.remaining);
     }
 
     /// "Each later one of that family writes outcome 0 and ends"; "At the n-th

@@ -70,6 +70,23 @@ impl Claims {
         self.claim(holds, machine, "a living holder of each facility in use");
     }
 
+    /// Each interrupted one belongs to exactly one facility, which is preempted
+    /// and in use, and each facility has at most one: those that the records tell of.
+    fn interrupted(&mut self, machine: &Machine) {
+        let mut found = BTreeMap::new();
+        let mut holds = true;
+        for one in &machine.interrupted {
+            let facility = &machine.facilities[one.facility as usize - 1];
+            let new = found.insert(one.facility, one.transaction.number);
+            holds &= new.is_none() && facility.preempted;
+        }
+        for facility in &machine.facilities {
+            holds &= !facility.preempted || facility.in_use == 1;
+        }
+        holds &= found == self.account.interrupted;
+        self.claim(holds, machine, "one interrupted at a preempted facility");
+    }
+
     /// Of one family at most one gathers at a block; how many have come is the
     /// number of its records there modulo n, and nobody gathers where that is 0.
     fn gatherers(&mut self, machine: &Machine) {
@@ -154,6 +171,7 @@ impl Watcher for Claims {
         self.one_list_each(machine);
         self.living_holders(machine);
         self.gatherers(machine);
+        self.interrupted(machine);
         self.sorted(machine);
         // "before each turn that finds nobody moving and REL empty"; dry is among them.
         self.about_to_move = machine.moving.is_none() && machine.rel.is_empty();
@@ -175,6 +193,7 @@ impl Watcher for Claims {
         self.one_list_each(machine);
         self.living_holders(machine);
         self.gatherers(machine);
+        self.interrupted(machine);
         self.sorted(machine);
         self.places = places(machine);
         self.places.sort();

@@ -21,6 +21,7 @@ pub struct Coverage {
     pub turns: Vec<u64>,
     pub most_blocks: usize,
     pub most_living: u64,
+    pub most_interrupted: usize,
     pub last_clock: u64,
     pub clock_moves: u64,
     pub zero_moves: u64,
@@ -62,8 +63,11 @@ fn column(done: Done) -> u32 {
 /// The ends that short runs meet.
 pub fn ends(rules: Rules) -> Vec<u64> {
     let mut ends = vec![1, 2, 3, 4, 21, 22, 23, 24, 25];
+    if rules.holders || rules.preempt {
+        ends.push(27);
+    }
     if rules.holders {
-        ends.extend([27, 28]);
+        ends.push(28);
     }
     ends
 }
@@ -75,15 +79,15 @@ pub fn possible(rules: Rules, kind: u32, done: Done) -> bool {
     }
     match done {
         Done::Entered | Done::Finished => true,
-        Done::BeganToWait => [4, 6, 8, 9, 17, 18].contains(&kind),
-        Done::PutBack => [4, 6, 8, 9, 17].contains(&kind),
+        Done::BeganToWait => [4, 6, 8, 9, 17, 18, 19].contains(&kind),
+        Done::PutBack => [4, 6, 8, 9, 17, 19].contains(&kind),
         Done::WentBack => kind == 17,
         Done::Stopped(21) => [1, 14].contains(&kind),
-        Done::Stopped(22) => [1, 2].contains(&kind),
+        Done::Stopped(22) => [1, 2, 20].contains(&kind),
         Done::Stopped(23) => kind == 2,
-        Done::Stopped(24) => [5, 7].contains(&kind),
+        Done::Stopped(24) => [5, 7, 20].contains(&kind),
         Done::Stopped(25) => kind == 16,
-        Done::Stopped(27) => rules.holders && kind == 5,
+        Done::Stopped(27) => kind == 20 || (kind == 5 && (rules.holders || rules.preempt)),
         Done::Stopped(28) => rules.holders && [3, 18].contains(&kind),
         Done::Stopped(_) => false,
     }
@@ -92,6 +96,7 @@ pub fn possible(rules: Rules, kind: u32, done: Done) -> bool {
 impl Watcher for Coverage {
     fn before_turn(&mut self, machine: &Machine, _trace: &[u8]) {
         self.most_living = self.most_living.max(machine.living());
+        self.most_interrupted = self.most_interrupted.max(machine.interrupted.len());
         self.last_clock = self.last_clock.max(machine.clock);
         if let Some((clock, true)) = self.before {
             self.clock_moves += 1;

@@ -292,8 +292,14 @@ fn decode_block(
             let back = source.field(1, Model::MAX_BACK)?;
             Block::WaitJoined { code, server, back }
         }
-        _ => Block::Assemble {
+        18 => Block::Assemble {
             count: source.field(Model::MIN_ASSEMBLED, Model::MAX_ASSEMBLED)?,
+        },
+        19 => Block::Preempt {
+            facility: source.field(1, model.facilities)?,
+        },
+        _ => Block::Return {
+            facility: source.field(1, model.facilities)?,
         },
     };
     Ok(block)

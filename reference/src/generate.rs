@@ -11,6 +11,7 @@ pub mod holders;
 pub mod joined;
 pub mod nasty;
 pub mod pieces;
+pub mod preempt;
 pub mod random;
 pub mod scenes;
 pub mod structured;
@@ -78,6 +79,9 @@ pub fn case_with(rules: Rules, random: &mut Random, size: Size) -> Case {
     }
     if rules.highest_edition > 1 && random.one_in(12) {
         return editions::case(rules, random, size);
+    }
+    if rules.preempt && random.one_in(10) {
+        return preempt::case(rules, random, size);
     }
     match random.below(100) {
         0..=52 => {

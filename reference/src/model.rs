@@ -42,6 +42,11 @@ impl Model {
     pub const MAX_LIVING: u64 = 1_024;
     pub const MAX_SAMPLES: u32 = 65_535;
 
+    /// Does a PREEMPT name this facility?
+    pub fn preempts(&self, facility: u32) -> bool {
+        self.blocks.contains(&Block::Preempt { facility })
+    }
+
     /// 02, item 12: "in any ENTER or LEAVE" more than one unit.
     pub fn moves_several_units(&self) -> bool {
         self.blocks.iter().any(|block| match block {
@@ -95,6 +100,8 @@ pub enum Block {
     Depart { queue: u32 },
     WaitJoined { code: u32, server: u32, back: u32 },
     Assemble { count: u32 },
+    Preempt { facility: u32 },
+    Return { facility: u32 },
 }
 
 impl Block {
@@ -119,6 +126,8 @@ impl Block {
             Block::Depart { .. } => 16,
             Block::WaitJoined { .. } => 17,
             Block::Assemble { .. } => 18,
+            Block::Preempt { .. } => 19,
+            Block::Return { .. } => 20,
         }
     }
 

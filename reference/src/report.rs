@@ -13,6 +13,7 @@ pub const PLACE_FEL: u64 = 4;
 pub const PLACE_REL: u64 = 5;
 pub const PLACE_MOVING: u64 = 6;
 pub const PLACE_GATHERING: u64 = 7;
+pub const PLACE_INTERRUPTED: u64 = 8;
 
 /// Number and place of everybody found on a list, in the order of the lists.
 pub fn places(machine: &Machine) -> Vec<(u64, u64)> {
@@ -33,6 +34,9 @@ pub fn places(machine: &Machine) -> Vec<(u64, u64)> {
     places.extend(machine.rel.iter().map(|t| (t.number, PLACE_REL)));
     for one in machine.gatherers.values().flatten() {
         places.push((one.transaction.number, PLACE_GATHERING));
+    }
+    for one in &machine.interrupted {
+        places.push((one.transaction.number, PLACE_INTERRUPTED));
     }
     places.extend(machine.moving.iter().map(|t| (t.number, PLACE_MOVING)));
     places

@@ -1,7 +1,7 @@
 //! Which requests of document 02 that change runs are in force.
 
 /// The highest kind under any rules.
-pub const LAST_KIND: u32 = 18;
+pub const LAST_KIND: u32 = 20;
 
 /// One field for each such request; `BASE` is the machine of document 01.
 #[derive(Clone, Copy, Debug, PartialEq, Eq)]
@@ -14,6 +14,8 @@ pub struct Rules {
     pub joined: bool,
     /// Item 8: kind 18, ASSEMBLE.
     pub assemble: bool,
+    /// Item 11: kinds 19 and 20, PREEMPT and RETURN.
+    pub preempt: bool,
     /// Item 12: 2 where runs under the 1996 rules are accepted, else 1.
     pub highest_edition: u32,
 }
@@ -25,6 +27,7 @@ impl Rules {
         holders: false,
         joined: false,
         assemble: false,
+        preempt: false,
         highest_edition: 1,
     };
 
@@ -34,6 +37,7 @@ impl Rules {
         holders: true,
         joined: true,
         assemble: true,
+        preempt: true,
         highest_edition: 2,
     };
 
@@ -47,6 +51,7 @@ impl Rules {
             holders: requests.contains(&6),
             joined: requests.contains(&7),
             assemble: requests.contains(&8),
+            preempt: requests.contains(&11),
             highest_edition: if requests.contains(&12) { 2 } else { 1 },
         }
     }
@@ -75,6 +80,7 @@ impl Rules {
             1..=16 => true,
             17 => self.joined,
             18 => self.assemble,
+            19 | 20 => self.preempt,
             _ => false,
         }
     }

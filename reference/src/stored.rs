@@ -63,6 +63,7 @@ impl Watcher for Features {
         self.add(!machine.wsl.is_empty(), "WSL");
         let gathers = machine.gatherers.values().any(|list| !list.is_empty());
         self.add(gathers, "gatherers");
+        self.add(!machine.interrupted.is_empty(), "interrupted");
         self.add(!machine.rel.is_empty(), "REL");
         self.add(!machine.fel.is_empty(), "FEL");
         self.add(machine.model.edition == 2, "edition 2");

@@ -188,7 +188,10 @@ impl Writer {
             }
             Block::Advance { list } => self.put(*list, 1, self.lists),
             Block::Terminate { amount } => self.put(*amount, 0, Model::MAX_TERMINATE),
-            Block::Seize { facility } | Block::Release { facility } => {
+            Block::Seize { facility }
+            | Block::Release { facility }
+            | Block::Preempt { facility }
+            | Block::Return { facility } => {
                 self.put(*facility, 1, self.facilities);
             }
             Block::Enter { storage, units } | Block::Leave { storage, units } => {

@@ -95,6 +95,15 @@ impl Parts<'_> {
         if self.rules.joined && (facilities || storages) && self.random.one_in(12) {
             return self.joined_waits();
         }
+        if self.rules.preempt && facilities && self.random.one_in(14) {
+            let facility = self.facility();
+            let mut blocks = self.queued(Block::Preempt { facility });
+            blocks.extend(self.held(depth));
+            if !self.random.one_in(25) {
+                blocks.push(Block::Return { facility });
+            }
+            return blocks;
+        }
         if self.rules.assemble && self.random.one_in(14) {
             return self.family();
         }

@@ -75,6 +75,8 @@ fn held_before(blocks: &[Block], segments: &[(u32, u32)]) -> Vec<Vec<(u32, u32, 
             held.push(now.clone());
             match *block {
                 Block::Seize { facility } => now.push((1, facility, 1)),
+                Block::Preempt { facility } => now.push((4, facility, 1)),
+                Block::Return { facility } => now.retain(|h| *h != (4, facility, 1)),
                 Block::Release { facility } => now.retain(|h| *h != (1, facility, 1)),
                 Block::Enter { storage, units } => now.push((2, storage, units)),
                 Block::Leave { storage, units } => now.retain(|h| *h != (2, storage, units)),
