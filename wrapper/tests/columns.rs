@@ -1,6 +1,7 @@
 //! Traces by column, there and back, and both refusals.
 
-use covrith::{from_columns, run, to_columns, REPORT_BYTES, WORK_NUMBERS};
+use covrith::Refusal::{ColumnsRoom, NotColumns};
+use covrith::{from_columns, simulate, to_columns};
 
 const MODEL: [u8; 19] = [1, 1, 0, 0, 0, 2, 2, 5, 1, 1, 0, 4, 1, 2, 2, 5, 1, 3, 1];
 const TAPE: [u8; 6] = [2, 3, 2, 2, 5, 4];
@@ -21,11 +22,8 @@ fn there_and_back() {
 
 #[test]
 fn a_run() {
-    let mut work = vec![0; WORK_NUMBERS];
-    let mut trace = vec![0; 65_536];
-    let mut report = vec![0; REPORT_BYTES];
-    let outcome = run(&MODEL, &TAPE, 1_000_000, &mut work, &mut trace, &mut report);
-    let trace = &trace[..outcome.trace_bytes as usize];
+    let run = simulate(&MODEL, &TAPE, 1_000_000, 65_536).unwrap();
+    let trace = &run.trace[..];
     let mut columns = vec![0; trace.len() + 4];
     let length = to_columns(trace, &mut columns).unwrap();
     let mut back = vec![0; trace.len()];
@@ -35,25 +33,25 @@ fn a_run() {
 
 #[test]
 fn nothing() {
-    assert_eq!(to_columns(&[], &mut []), Err(52));
+    assert_eq!(to_columns(&[], &mut []), Err(ColumnsRoom));
     let mut out = [7; 2];
     assert_eq!((to_columns(&[], &mut out), out), (Ok(1), [0, 7]));
     assert_eq!(from_columns(&[0], &mut []), Ok(0));
-    assert_eq!(from_columns(&[], &mut []), Err(51));
+    assert_eq!(from_columns(&[], &mut []), Err(NotColumns));
 }
 
 #[test]
 fn refusals() {
     let mut out = [7; 16];
     // a falling clock, a damaged record, left over bytes, a sum past the clock limit, a count without its columns
-    assert_eq!(to_columns(&[3, 1, 1, 0, 2, 1, 1, 0], &mut out), Err(51));
-    assert_eq!(to_columns(&[3, 1, 1, 0, 2], &mut []), Err(51));
-    assert_eq!(from_columns(&[1, 3, 1, 1, 0, 0], &mut out), Err(51));
+    assert_eq!(to_columns(&[3, 1, 1, 0, 2, 1, 1, 0], &mut out), Err(NotColumns));
+    assert_eq!(to_columns(&[3, 1, 1, 0, 2], &mut []), Err(NotColumns));
+    assert_eq!(from_columns(&[1, 3, 1, 1, 0, 0], &mut out), Err(NotColumns));
     let past = [2, 0x87, 0xb9, 0xd6, 0xa8, 0, 1, 1, 1, 1, 1, 0, 0];
-    assert_eq!(from_columns(&past, &mut out), Err(51));
-    assert_eq!(from_columns(&[2, 3, 1, 1, 0], &mut out), Err(51));
+    assert_eq!(from_columns(&past, &mut out), Err(NotColumns));
+    assert_eq!(from_columns(&[2, 3, 1, 1, 0], &mut out), Err(NotColumns));
     // too little room, asked last
-    assert_eq!(to_columns(&TRACE, &mut out[..13]), Err(52));
-    assert_eq!(from_columns(&COLUMNS, &mut out[..12]), Err(52));
+    assert_eq!(to_columns(&TRACE, &mut out[..13]), Err(ColumnsRoom));
+    assert_eq!(from_columns(&COLUMNS, &mut out[..12]), Err(ColumnsRoom));
     assert_eq!(out, [7; 16]);
 }
