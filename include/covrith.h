@@ -84,7 +84,7 @@ uint64_t covrith_count(const uint8_t *trace, size_t trace_len);
  * `out` and the number of bytes to `written`; or write nothing to `out`, 0 to `written`, and answer:
  * 51 not such a trace, or not such columns;
  * 52 the output needs more than `out_len` bytes.
- * Columns need at most trace_len + 4 bytes, a trace at most 3 * columns_len. */
+ * Columns need at most trace_len + 4 bytes, a trace at most 2 * columns_len. */
 uint32_t covrith_columns(const uint8_t *trace, size_t trace_len, uint8_t *out, size_t out_len, uint64_t *written);
 uint32_t covrith_uncolumns(const uint8_t *columns, size_t columns_len, uint8_t *out, size_t out_len, uint64_t *written);
 

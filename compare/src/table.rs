@@ -1,13 +1,16 @@
 //! What the compared cases covered, and the cells that stayed empty.
 
+use crate::columns;
 use crate::records::Answers;
 use reference::coverage::Coverage;
 
-pub fn print(coverage: &Coverage, answers: &Answers) {
+pub fn print(coverage: &Coverage, answers: &Answers, stored: &columns::Answers) {
     print!("{coverage}");
     println!("reader    {:?}", answers.reader);
     println!("writer    {:?}", answers.writer);
-    let empty = empty_cells(coverage, answers);
+    println!("columns   {:?}", stored.to);
+    println!("uncolumns {:?}", stored.from);
+    let empty = empty_cells(coverage, answers, stored);
     if empty.is_empty() {
         println!("no cell is empty but end 26 (compare --long)");
     } else {
@@ -15,7 +18,7 @@ pub fn print(coverage: &Coverage, answers: &Answers) {
     }
 }
 
-fn empty_cells(coverage: &Coverage, answers: &Answers) -> Vec<String> {
+fn empty_cells(coverage: &Coverage, answers: &Answers, stored: &columns::Answers) -> Vec<String> {
     let mut empty = coverage.empty_cells();
     for answer in [0, 30, 31, 32] {
         if !answers.reader.contains_key(&answer) {
@@ -25,6 +28,14 @@ fn empty_cells(coverage: &Coverage, answers: &Answers) -> Vec<String> {
     for answer in [0, 32, 33] {
         if !answers.writer.contains_key(&answer) {
             empty.push(format!("writer {answer}"));
+        }
+    }
+    for answer in [0, 51, 52] {
+        if !stored.to.contains_key(&answer) {
+            empty.push(format!("columns {answer}"));
+        }
+        if !stored.from.contains_key(&answer) {
+            empty.push(format!("uncolumns {answer}"));
         }
     }
     empty

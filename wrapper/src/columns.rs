@@ -31,7 +31,7 @@ pub fn to_columns(trace: &[u8], out: &mut [u8]) -> Result<usize, Refusal> {
     Ok(written as usize)
 }
 
-/// Writes the trace of columns at the front of `out` and gives its length, at most three times that of the columns. A refusal writes
+/// Writes the trace of columns at the front of `out` and gives its length, at most twice that of the columns. A refusal writes
 /// nothing.
 pub fn from_columns(columns: &[u8], out: &mut [u8]) -> Result<usize, Refusal> {
     let mut written = 0;

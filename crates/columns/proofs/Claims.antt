@@ -17,12 +17,11 @@ use Rattle.machine.specs.Validate.{beginning}
 use Rattle.machine.specs.Trace.{Record, traceBytes, Writing, written, rejected, readRecord}
 use Rattle.codec.specs.Answers.{cursorAt}
 use Rattle.codec.proofs.Fields.{drop-past, field-reads}
-use Rattle.codec.proofs.Groups.{Bytes}
 use Rattle.trace.specs.Whole.{Reads, AllInRanges}
 use Rattle.trace.proofs.RoundTrip.{trace-reads-whole, trace-written-again, trace-in-ranges}
 use Rattle.trace.proofs.Writer.{ranges}
 use Rattle.columns.specs.Columns.{maxRecords, clocks, transactions, blocks, outcomes, differences, column, columnBytes, neverFall, wholeFrom, rising, takenTrace, rows, clocksFrom, columnFields, recordsOf, takenColumns, answer, toColumns, fromColumns}
-use Rattle.columns.specs.Claims.{Such}
+use Rattle.columns.specs.Claims.{Bytes, Such, Produces}
 use Rattle.columns.proofs.ByteLists.{bytes-trace}
 use Rattle.columns.proofs.Whole.{whole-reads, reads-whole}
 use Rattle.columns.proofs.Parsing.{Stands, Between, column-reads, Below, clocks-read}
@@ -116,13 +115,6 @@ module _ (l : List Record) (few : length l ≤ maxRecords) (good : AllInRanges l
 
 -- ---- "Column bytes are taken exactly if some such trace produces them."
 
--- a trace that produces these columns
-pub record Produces (columns : List ℕ) (l : List Record) : Type 0 where
-  pub trace : List ℕ
-  pub bytes : Bytes trace
-  pub such : Such trace l
-  pub produced : columnBytes l ≡ columns
-
 module _ (columns : List ℕ) (l : List Record) where
   pub taken-produced : Bytes columns → takenColumns columns ≡ some l → Produces columns l
   taken-produced bytes e =
@@ -181,10 +173,6 @@ trace-51 s room h = go (takenTrace s) refl
 pub trace-52 : (s : List ℕ) (l : List Record) (room : ℕ) → Such s l → room < length (columnBytes l) → toColumns s room ≡ rejected 52
 unfolding toColumns
 trace-52 s l room h full = answer-full columnBytes room (takenTrace s) l (such-taken s l h) full
-
-pub trace-written : (s : List ℕ) (l : List Record) (room : ℕ) → Such s l → length (columnBytes l) ≤ room → toColumns s room ≡ written (columnBytes l)
-unfolding toColumns
-trace-written s l room h fits = answer-written columnBytes room (takenTrace s) l (such-taken s l h) fits
 
 pub columns-51 : (s : List ℕ) (room : ℕ) → Bytes s → ((l : List Record) → Produces s l → ⊥) → fromColumns s room ≡ rejected 51
 unfolding fromColumns

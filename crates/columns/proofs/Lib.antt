@@ -9,3 +9,4 @@ pub mod ByteLists
 pub mod Claims
 pub mod Answers
 pub mod Runs
+pub mod Item10
