@@ -1,4 +1,5 @@
 // The first walk over a trace: is it taken, how many records has it, and how many bytes has each column?
+use crate::walk::MAX_RECORDS;
 use crate::walk::Walk;
 use codec::number_len;
 use trace::Reading;
@@ -10,8 +11,6 @@ ghost use Rattle.machine.specs.Trace.{readRecord};
 ghost use Rattle.trace.specs.Answers.{entry};
 ghost use Rattle.columns.specs.Columns.{maxRecords, wholeFrom};
 ghost use Rattle.columns.specs.Walks.{Short, longer, measuring, atStart, totals, totalsOf};
-
-const MAX_RECORDS: u64 = 100_000_000;
 
 // The number of records and a walk whose columns count bytes.
 pub enum Measured {

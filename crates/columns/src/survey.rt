@@ -1,4 +1,5 @@
 // The first walk over columns: are they taken, where does each begin, and how many bytes has the trace?
+use crate::walk::MAX_RECORDS;
 use crate::walk::Walk;
 use codec::Field;
 use codec::number_len;
@@ -13,8 +14,6 @@ ghost use Rattle.machine.specs.Parser.{field, times};
 ghost use Rattle.codec.specs.Answers.{cursorAt};
 ghost use Rattle.columns.specs.Columns.{maxRecords, clocksFrom};
 ghost use Rattle.columns.specs.Walks.{sized, ends, Surveyed};
-
-const MAX_RECORDS: u64 = 100_000_000;
 
 // The position after the differences, and how many bytes their clocks take.
 enum Clocks {

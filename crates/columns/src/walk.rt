@@ -1,5 +1,8 @@
 // Where a walk over a trace and its columns stands.
 
+// "up to 100,000,000 records"
+pub const MAX_RECORDS: u64 = 100_000_000;
+
 // A position in the trace and in each column, and the clock of the record before.
 pub struct Walk {
     pub at: usize,
