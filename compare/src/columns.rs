@@ -25,19 +25,29 @@ enum Way {
 /// The trace of a run, which is taken and comes back, and some calls each way.
 pub fn compare(random: &mut Random, own: &[u8], answers: &mut Answers) -> Result<(), String> {
     let mut stored = vec![0; own.len() + 4];
-    let length = covrith::to_columns(own, &mut stored).map_err(|n| format!("a run's trace: {n}"))?;
+    let length =
+        covrith::to_columns(own, &mut stored).map_err(|n| format!("a run's trace: {n}"))?;
     let mut back = vec![0; own.len()];
     if covrith::from_columns(&stored[..length], &mut back) != Ok(own.len()) || back != own {
         return Err("a run's trace does not come back".to_string());
     }
     let room = own.len() + 4;
-    *answers.to.entry(one(random, Way::To, own, room)?).or_insert(0) += 1;
+    *answers
+        .to
+        .entry(one(random, Way::To, own, room)?)
+        .or_insert(0) += 1;
     let bytes = trace(random);
     let call = with_room(random, Way::To, bytes);
-    *answers.to.entry(one(random, Way::To, &call.bytes, call.room)?).or_insert(0) += 1;
+    *answers
+        .to
+        .entry(one(random, Way::To, &call.bytes, call.room)?)
+        .or_insert(0) += 1;
     let bytes = columns(random);
     let call = with_room(random, Way::From, bytes);
-    *answers.from.entry(one(random, Way::From, &call.bytes, call.room)?).or_insert(0) += 1;
+    *answers
+        .from
+        .entry(one(random, Way::From, &call.bytes, call.room)?)
+        .or_insert(0) += 1;
     Ok(())
 }
 

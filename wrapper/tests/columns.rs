@@ -44,7 +44,10 @@ fn nothing() {
 fn refusals() {
     let mut out = [7; 16];
     // a falling clock, a damaged record, left over bytes, a sum past the clock limit, a count without its columns
-    assert_eq!(to_columns(&[3, 1, 1, 0, 2, 1, 1, 0], &mut out), Err(NotColumns));
+    assert_eq!(
+        to_columns(&[3, 1, 1, 0, 2, 1, 1, 0], &mut out),
+        Err(NotColumns)
+    );
     assert_eq!(to_columns(&[3, 1, 1, 0, 2], &mut []), Err(NotColumns));
     assert_eq!(from_columns(&[1, 3, 1, 1, 0, 0], &mut out), Err(NotColumns));
     let past = [2, 0x87, 0xb9, 0xd6, 0xa8, 0, 1, 1, 1, 1, 1, 0, 0];

@@ -22,7 +22,8 @@ fn now() -> f64 {
 }
 
 fn trace_of(folder: &str) -> Vec<u8> {
-    let read = |name: &str| std::fs::read(format!("{folder}/{name}")).expect("a file of the folder");
+    let read =
+        |name: &str| std::fs::read(format!("{folder}/{name}")).expect("a file of the folder");
     let run = simulate(&read("model.bin"), &read("tape.bin"), u64::MAX, 64_000_000);
     run.expect("an accepted model").trace
 }
@@ -45,7 +46,9 @@ fn packed(program: &str, level: &str, bytes: &[u8]) -> usize {
 
 /// The records of a trace again and again, each time later, up to `LONG` bytes.
 fn long(trace: &[u8]) -> Vec<u8> {
-    let records: Vec<_> = Records::new(trace).map(|record| record.expect("a record")).collect();
+    let records: Vec<_> = Records::new(trace)
+        .map(|record| record.expect("a record"))
+        .collect();
     let last = records.last().expect("some record").clock;
     let mut out = vec![0; LONG];
     let (mut used, mut shift) = (0, 0);
@@ -90,7 +93,11 @@ fn main() {
         columns.truncate(length);
         println!(
             "| {} | {} | {} | {} | {} | {} | {} | {} |",
-            folder.trim_end_matches('/').rsplit('/').next().unwrap_or(folder),
+            folder
+                .trim_end_matches('/')
+                .rsplit('/')
+                .next()
+                .unwrap_or(folder),
             Records::new(&trace).count(),
             trace.len(),
             columns.len(),
