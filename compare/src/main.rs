@@ -1,9 +1,11 @@
 //! `compare N SEED [--small] [--coverage]`: N random cases through the engine's interface for other languages and through
-//! `reference/`, each with readings and writings of trace records. Ends at the first that differs, printed and shrunk.
+//! `reference/`, each with readings and writings of trace records and traces by column. Ends at the first that differs, printed and
+//! shrunk.
 //! `compare --check`: the same for the cases of standard input, printed as by `cases` of `reference/`.
 //! `compare --long`: the two runs that reach end 26, by turns and by serials (some 100 million turns each).
 //! `compare --streams`: the starts of all streams, steps along each and steps of other states.
 
+mod columns;
 mod lent;
 mod long;
 mod records;
@@ -51,6 +53,7 @@ fn random_cases(count: u64, seed: u64, size: Size, table: bool) {
     let mut random = Random::new(seed);
     let mut coverage = Coverage::default();
     let mut answers = Answers::default();
+    let mut stored = columns::Answers::default();
     for number in 1..=count {
         let case = case(&mut random, size);
         let stale = random.next_u64();
@@ -66,9 +69,13 @@ fn random_cases(count: u64, seed: u64, size: Size, table: bool) {
             println!("records after case {number} of seed {seed} differ: {text}");
             exit(1);
         }
+        if let Err(text) = columns::compare(&mut random, &agreed.trace, &mut stored) {
+            println!("columns after case {number} of seed {seed} differ: {text}");
+            exit(1);
+        }
     }
     if table {
-        table::print(&coverage, &answers);
+        table::print(&coverage, &answers, &stored);
     }
     println!("{count} cases of seed {seed} agree");
 }

@@ -1,4 +1,4 @@
-//! The proved engine for Rust: a run of a block model on a tape, the records of its trace and its report by names;
+//! The proved engine for Rust: a run of a block model on a tape, the records of its trace, traces by column and its report by names;
 //! and streams of random numbers.
 //!
 //! ```
@@ -19,6 +19,7 @@
 //! }
 //! ```
 
+mod columns;
 mod header;
 mod names;
 mod number;
@@ -28,6 +29,7 @@ mod stream;
 pub mod sys;
 mod trace;
 
+pub use columns::{from_columns, to_columns};
 pub use header::Header;
 pub use names::{End, Place, Refusal};
 pub use report::{Living, NoReport, Queue, Report, Server};

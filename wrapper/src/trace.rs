@@ -77,8 +77,8 @@ pub fn count(trace: &[u8]) -> u64 {
     unsafe { sys::covrith_count(trace.as_ptr(), trace.len()) }
 }
 
-/// An answer of reader or writer: 0, or the number of a refusal.
-fn accepted(answer: u32) -> Result<(), Refusal> {
+/// An answer: 0, or the number of a refusal.
+pub(crate) fn accepted(answer: u32) -> Result<(), Refusal> {
     match answer {
         0 => Ok(()),
         number => Err(Refusal::of(u64::from(number)).expect("a number of document 01")),

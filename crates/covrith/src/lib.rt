@@ -10,6 +10,7 @@ ghost use Rattle.machine.specs.Rules.{inForce};
 ghost use Rattle.machine.specs.Number.{countLow};
 ghost use Rattle.machine.specs.Trace.{readRecord, writeRecord};
 ghost use Rattle.trace.specs.Answers.{entry, after};
+ghost use Rattle.columns.specs.Columns.{toColumns, fromColumns};
 ghost use Rattle.engine.specs.Contract.{Contract};
 ghost use Rattle.streams.specs.Stream.{next, startOf};
 ghost use Rattle.covrith.specs.Answers.{readAnswer, readNumbers, writeAnswer, writeCount, startAnswer, startState};
@@ -121,4 +122,40 @@ pub extern "C" fn covrith_stream_step(state: u32) -> u32
     ensures { λ r. ⌜ r ≡ next state ⌝ }
 {
     streams::step(state)
+// A trace to columns.
+#[no_mangle]
+pub extern "C" fn covrith_columns(trace: &[u8], out: &mut [u8], written: &mut u64) -> u32
+    ensures { λ r. ⌜ r ≡ writeAnswer (toColumns (now (trace .entry)) (length (now (out .entry)))) ⌝ }
+    ensures { λ _. ⌜ now (written .exit) ≡ writeCount (toColumns (now (trace .entry)) (length (now (out .entry)))) ⌝ }
+    ensures { λ _. ⌜ now (out .exit) ≡ after (toColumns (now (trace .entry)) (length (now (out .entry)))) (now (out .entry)) ⌝ }
+{
+    match columns::to_columns(trace, out) {
+        Written::Bytes(n) => {
+            *written = n as u64;
+            0
+        }
+        Written::Refused(n) => {
+            *written = 0;
+            n
+        }
+    }
+}
+
+// Columns to the trace that produces them.
+#[no_mangle]
+pub extern "C" fn covrith_uncolumns(columns: &[u8], out: &mut [u8], written: &mut u64) -> u32
+    ensures { λ r. ⌜ r ≡ writeAnswer (fromColumns (now (columns .entry)) (length (now (out .entry)))) ⌝ }
+    ensures { λ _. ⌜ now (written .exit) ≡ writeCount (fromColumns (now (columns .entry)) (length (now (out .entry)))) ⌝ }
+    ensures { λ _. ⌜ now (out .exit) ≡ after (fromColumns (now (columns .entry)) (length (now (out .entry)))) (now (out .entry)) ⌝ }
+{
+    match columns::from_columns(columns, out) {
+        Written::Bytes(n) => {
+            *written = n as u64;
+            0
+        }
+        Written::Refused(n) => {
+            *written = 0;
+            n
+        }
+    }
 }

@@ -220,7 +220,8 @@ module _ (s : List ℕ) (n : Counts) (capacities : List ℕ) where
 
 -- ---- The model
 
-record ProperModel (m : BlockModel) : Type 0 where
+record ProperModel (rules : Rules) (m : BlockModel) : Type 0 where
+  own : m .rules ≡ rules
   block : Each (ProperBlock m) (m .blocks)
   blocks : Names Limits.maxBlocks (length (m .blocks))
   facilities : m .facilities ≤ Limits.maxFacilities
@@ -235,7 +236,7 @@ record ProperTape (rules : Rules) (lists : ℕ) (tape : List (List ℕ)) : Type 
   each-list : Each (λ l. (length l ≤ Limits.maxSamples) × Each (λ x. x ≤ rules .maxTime) l) tape
 
 module _ (rules : Rules) (s : List ℕ) where
-  model-fields : Ensures ProperModel (modelFields s rules)
+  model-fields : Ensures (ProperModel rules) (modelFields s rules)
   unfolding modelFields
   model-fields =
       then (ranged s 1 1) (λ edition he. then (ranged s 0 Limits.maxFacilities) (λ facilities hf. then (ranged s 0 Limits.maxStorages) (λ storages hs.
@@ -247,6 +248,7 @@ module _ (rules : Rules) (s : List ℕ) where
       record { rules = rules; facilities = facilities; capacities = capacities; queues = queues; values = sums; lists = lists; counter = counter; blocks = program } in
       gives
       (record {
+        own = refl;
         block =
             each-map
             (λ b g.
@@ -273,7 +275,7 @@ module _ (rules : Rules) (s : List ℕ) where
   unfolding atEnd
   at-end code h = record { from = λ c. weaken (λ u g. tt) (asked (eqb (c .position) (length s)) code h) .from c }
 
-  model-of : Ensures (λ m. ProperModel m × T (wellFormed m)) (modelOf rules s)
+  model-of : Ensures (λ m. ProperModel rules m × T (wellFormed m)) (modelOf rules s)
   unfolding modelOf
   model-of =
       then model-fields (λ m h. then (at-end 6 (omega arith, omega arith)) (λ u g. then (asked (wellFormed m) 7 (omega arith, omega arith)) (λ u f. gives (h, f))))
@@ -295,17 +297,17 @@ module _ (rules : Rules) (s : List ℕ) where
 
 -- ---- The answer
 
-abbrev Verdict : Validation → Type 0
-Verdict (accept m tape) = Proper m tape
-Verdict (reject n) = Refusal n
+abbrev Verdict : Rules → Validation → Type 0
+Verdict rules (accept m tape) = Proper m tape × (m .rules ≡ rules)
+Verdict rules (reject n) = Refusal n
 
 each-at : {A : Type 0} (P : A → Type 0) (l : List A) (d : A) → Each P l → (i : ℕ) → i < length l → P (getD l i d)
 each-at P [] d h i low = absurd (omega arith)
 each-at P (x ∷ l) d h zero low = h .0
 each-at P (x ∷ l) d h (suc i) low = each-at P l d (h .1) i (omega arith)
 
-proper : (m : BlockModel) (tape : List (List ℕ)) → ProperModel m → T (wellFormed m) → ProperTape (m .rules) (m .lists) tape → Proper m tape
-proper m tape h f t =
+proper : (rules : Rules) (m : BlockModel) (tape : List (List ℕ)) → ProperModel rules m → T (wellFormed m) → ProperTape (m .rules) (m .lists) tape → Proper m tape
+proper rules m tape h f t =
     record {
       block = λ n. each-getD (ProperBlock m) (m .blocks) (n - 1) (terminate 0) (h .block) tt;
       blocks = h .blocks;
@@ -321,30 +323,34 @@ proper m tape h f t =
       times = λ k i. each-getD _ (getD tape k []) i 0 (each-getD _ tape k [] (t .each-list) (omega arith, tt) .1) (omega arith);
     }
 
-with-tape : (m : BlockModel) → ProperModel m → T (wellFormed m) → (r : Parsed (List (List ℕ))) → Gives (ProperTape (m .rules) (m .lists)) r → Verdict (withTape m r)
+with-tape : (rules : Rules) (m : BlockModel) → ProperModel rules m → T (wellFormed m) → (r : Parsed (List (List ℕ))) → Gives (ProperTape (m .rules) (m .lists)) r → Verdict rules (withTape m r)
 unfolding withTape
-with-tape m h f (parsed tape c) t = proper m tape h f t
-with-tape m h f (refused n) t = t
+with-tape rules m h f (parsed tape c) t = (proper rules m tape h f t, h .own)
+with-tape rules m h f (refused n) t = t
 
-with-model : (tape : List ℕ) (r : Parsed BlockModel) → Gives (λ m. ProperModel m × T (wellFormed m)) r → Verdict (withModel tape r)
+with-model : (rules : Rules) (tape : List ℕ) (r : Parsed BlockModel) → Gives (λ m. ProperModel rules m × T (wellFormed m)) r → Verdict rules (withModel tape r)
 unfolding withModel
-with-model tape (parsed m c) h = with-tape m (h .0) (h .1) (tapeOf (m .rules) tape (m .lists) beginning) (tape-of (m .rules) tape (m .lists) .from beginning)
-with-model tape (refused n) h = h
+with-model rules tape (parsed m c) h = with-tape rules m (h .0) (h .1) (tapeOf (m .rules) tape (m .lists) beginning) (tape-of (m .rules) tape (m .lists) .from beginning)
+with-model rules tape (refused n) h = h
 
-verdict : (rules : Rules) (model tape : List ℕ) (work report : ℕ) → Verdict (validate rules model tape work report)
+verdict : (rules : Rules) (model tape : List ℕ) (work report : ℕ) → Verdict rules (validate rules model tape work report)
 unfolding validate
 verdict rules model tape work report =
-    cond-cases Verdict (leb Limits.workNumbers work) (cond (leb Limits.reportRoom report) (withModel tape (modelOf rules model beginning)) (reject 2)) (reject 1)
+    cond-cases (Verdict rules) (leb Limits.workNumbers work) (cond (leb Limits.reportRoom report) (withModel tape (modelOf rules model beginning)) (reject 2)) (reject 1)
     (λ e.
-    cond-cases Verdict (leb Limits.reportRoom report) (withModel tape (modelOf rules model beginning)) (reject 2)
-    (λ e. with-model tape (modelOf rules model beginning) (model-of rules model .from beginning)) (λ e. (omega arith, omega arith)))
+    cond-cases (Verdict rules) (leb Limits.reportRoom report) (withModel tape (modelOf rules model beginning)) (reject 2)
+    (λ e. with-model rules tape (modelOf rules model beginning) (model-of rules model .from beginning)) (λ e. (omega arith, omega arith)))
     (λ e. (omega arith, omega arith))
 
 module _ (rules : Rules) (model tape : List ℕ) (work report : ℕ) where
   -- what validation accepts is proper
   pub proper-from : {m : BlockModel} {t : List (List ℕ)} → validate rules model tape work report ≡ accept m t → Proper m t
-  proper-from e = subst Verdict e (verdict rules model tape work report)
+  proper-from e = subst (Verdict rules) e (verdict rules model tape work report) .0
+
+  -- and has the rules that it was judged by
+  pub rules-from : {m : BlockModel} {t : List (List ℕ)} → validate rules model tape work report ≡ accept m t → m .rules ≡ rules
+  rules-from e = subst (Verdict rules) e (verdict rules model tape work report) .1
 
   -- "Any other input .. gets the refusal number listed for it": 1 to 10
   pub refusal-from : {n : ℕ} → validate rules model tape work report ≡ reject n → (1 ≤ n) × (n ≤ 10)
-  refusal-from e = subst Verdict e (verdict rules model tape work report)
+  refusal-from e = subst (Verdict rules) e (verdict rules model tape work report)

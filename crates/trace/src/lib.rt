@@ -18,9 +18,9 @@ ghost use Rattle.machine.specs.Trace.{recordBytes, readRecord, inRanges, writeR
 ghost use Rattle.trace.specs.Answers.{entry, readingOf, writingOf, after};
 
 // "block 1..256, outcome 0..1"
-const MAX_BLOCK: u64 = Model::MAX_BLOCKS as u64;
+pub const MAX_BLOCK: u64 = Model::MAX_BLOCKS as u64;
 
-const MAX_OUTCOME: u64 = 1;
+pub const MAX_OUTCOME: u64 = 1;
 
 // "the bytes below 80 hexadecimal"
 const HIGH: u8 = 0x80;

@@ -1,0 +1,33 @@
+//! `calls PART N SEED`: N random calls of a part with what must come out, one a
+//! line. Parts: `columns`, `tapes`.
+
+use reference::calls::{columns_line, tapes_line};
+use reference::generate::random::Random;
+use std::io::{BufWriter, Write};
+
+fn main() {
+    let words: Vec<String> = std::env::args().skip(1).collect();
+    let [part, count, seed] = &words[..] else {
+        usage()
+    };
+    let line: fn(&mut Random) -> String = match part.as_str() {
+        "columns" => columns_line,
+        "tapes" => tapes_line,
+        _ => usage(),
+    };
+    let (Ok(count), Ok(seed)) = (count.parse::<u64>(), seed.parse::<u64>()) else {
+        usage()
+    };
+    let mut random = Random::new(seed);
+    let mut output = BufWriter::new(std::io::stdout().lock());
+    for _ in 0..count {
+        if writeln!(output, "{}", line(&mut random)).is_err() {
+            return; // nobody reads on
+        }
+    }
+}
+
+fn usage() -> ! {
+    eprintln!("usage: calls columns | tapes N SEED");
+    std::process::exit(2);
+}

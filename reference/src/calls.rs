@@ -1,0 +1,65 @@
+//! Random calls of the parts that stand beside a run, with what must come out,
+//! as lines of text. Bytes are hexadecimal, `-` for none.
+
+use crate::columns::{from_columns, to_columns};
+use crate::generate::random::Random;
+use crate::generate::{distributions, traces};
+use crate::line::hex;
+use crate::maker::make_tape;
+
+/// `to` or `from`, the given bytes, the bytes lent; answer, bytes written, bytes.
+pub fn columns_line(random: &mut Random) -> String {
+    let forth = random.one_in(2);
+    let bytes = if forth {
+        traces::trace(random)
+    } else {
+        traces::columns(random)
+    };
+    let (name, direction): (_, fn(&[u8], &mut [u8]) -> Result<usize, u32>) = if forth {
+        ("to", to_columns)
+    } else {
+        ("from", from_columns)
+    };
+    let mut out = vec![0; bytes.len() * 5 + 10];
+    let needed = direction(&bytes, &mut out).unwrap_or(0);
+    let call = traces::call(random, bytes, needed);
+    let mut out = vec![0; call.room];
+    let answer = direction(&call.bytes, &mut out);
+    format!(
+        "{name} {} {} {}",
+        hex(&call.bytes),
+        call.room,
+        result(answer, &out)
+    )
+}
+
+/// The stream, the numbers of the lists, the bits of the doubles, each with
+/// commas between, the bytes lent; answer, bytes written, bytes.
+pub fn tapes_line(random: &mut Random) -> String {
+    let call = distributions::call(random);
+    let mut out = vec![0; call.room];
+    let answer = make_tape(call.stream, &call.lists, &call.numbers, &mut out);
+    let lists: Vec<String> = call.lists.iter().map(u32::to_string).collect();
+    let bits = |double: &f64| format!("{:016x}", double.to_bits());
+    let numbers: Vec<String> = call.numbers.iter().map(bits).collect();
+    let some = |words: Vec<String>| match words.is_empty() {
+        true => "-".to_string(),
+        false => words.join(","),
+    };
+    format!(
+        "{} {} {} {} {}",
+        call.stream,
+        some(lists),
+        some(numbers),
+        call.room,
+        result(answer, &out)
+    )
+}
+
+/// The answer (0 for none), the bytes written and those bytes.
+fn result(answer: Result<usize, u32>, out: &[u8]) -> String {
+    match answer {
+        Ok(length) => format!("0 {length} {}", hex(&out[..length])),
+        Err(number) => format!("{number} 0 -"),
+    }
+}
