@@ -1,9 +1,14 @@
 // Trace records (document 01, "Bytes" and "Questions at the door"): the reader on bytes and a
 // position, the writer into the unused rest of the trace buffer, and the counter of low bytes.
+mod words;
+
 use codec::Field;
 use codec::number_len;
 use codec::read_field;
 use codec::write_number;
+use words::count_1;
+use words::count_8;
+use words::count_128;
 ghost use mathlib.Core.Path.{_≡_};
 ghost use Prim.Native.Nat.{ℕ, _+_, _≤_};
 ghost use lib.ListN.{length};
@@ -132,16 +137,22 @@ pub fn write_record(
     Written::Bytes(len)
 }
 
-// How many bytes are below 80 hexadecimal.
+// How many bytes are below 80 hexadecimal: sixteen words at a time, then single words, then the bytes that are left.
 pub fn count_low(s: &[u8]) -> u64
     ensures { λ r. ⌜ r ≡ countLow (now (s .entry)) ⌝ }
 {
     let mut count: u64 = 0;
     let mut i = 0;
+    while 128 <= s.len() - i {
+        count += count_128(s, i);
+        i += 128;
+    }
+    while 8 <= s.len() - i {
+        count += count_8(s, i);
+        i += 8;
+    }
     while i < s.len() {
-        if s[i] < 128 {
-            count += 1;
-        }
+        count += count_1(s, i);
         i += 1;
     }
     count
