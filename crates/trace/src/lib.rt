@@ -8,6 +8,7 @@ use codec::read_field;
 use codec::write_number;
 use words::count_1;
 use words::count_8;
+use words::count_32;
 use words::count_128;
 ghost use mathlib.Core.Path.{_≡_};
 ghost use Prim.Native.Nat.{ℕ, _+_, _≤_};
@@ -137,7 +138,7 @@ pub fn write_record(
     Written::Bytes(len)
 }
 
-// How many bytes are below 80 hexadecimal: sixteen words at a time, then single words, then the bytes that are left.
+// How many bytes are below 80 hexadecimal: by sixteen words, four words and single words, and the bytes that are left singly.
 pub fn count_low(s: &[u8]) -> u64
     ensures { λ r. ⌜ r ≡ countLow (now (s .entry)) ⌝ }
 {
@@ -146,6 +147,10 @@ pub fn count_low(s: &[u8]) -> u64
     while 128 <= s.len() - i {
         count += count_128(s, i);
         i += 128;
+    }
+    while 32 <= s.len() - i {
+        count += count_32(s, i);
+        i += 32;
     }
     while 8 <= s.len() - i {
         count += count_8(s, i);

@@ -86,7 +86,7 @@ fn count_word(word: u64) -> u64
     8 - marks(word) % 255
 }
 
-// How many of the next 1, 8 and 128 bytes are below 80 hexadecimal.
+// How many of the next 1, 8, 32 and 128 bytes are below 80 hexadecimal.
 pub fn count_1(s: &[u8], at: usize) -> u64
     requires { ⌜ at + 1 ≤ length (now s) ⌝ }
     ensures { λ r. ⌜ (r ≡ countLow (part (now (s .entry)) at 1)) × (r ≤ 1) ⌝ }
@@ -102,6 +102,13 @@ pub fn count_8(s: &[u8], at: usize) -> u64
     ensures { λ r. ⌜ (r ≡ countLow (part (now (s .entry)) at 8)) × (r ≤ 8) ⌝ }
 {
     count_word(word_at(s, at))
+}
+
+pub fn count_32(s: &[u8], at: usize) -> u64
+    requires { ⌜ at + 32 ≤ length (now s) ⌝ }
+    ensures { λ r. ⌜ (r ≡ countLow (part (now (s .entry)) at 32)) × (r ≤ 32) ⌝ }
+{
+    32 - marks_of_4(s, at) % 255
 }
 
 pub fn count_128(s: &[u8], at: usize) -> u64

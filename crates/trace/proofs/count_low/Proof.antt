@@ -33,26 +33,37 @@ Inv-loop3 s count₀ i₀ count i = Counted s count i
 abbrev μ-loop3 : tie.MeasureT-loop3
 μ-loop3 s count₀ i₀ count i = length s - i
 
-loop-holds : tie.Need-loop-holds Inv-loop μ-loop Inv-loop2 μ-loop2 Inv-loop3 μ-loop3
+abbrev Inv-loop4 : tie.InvT-loop4
+Inv-loop4 s count₀ i₀ count i = Counted s count i
+
+abbrev μ-loop4 : tie.MeasureT-loop4
+μ-loop4 s count₀ i₀ count i = length s - i
+
+loop-holds : tie.Need-loop-holds Inv-loop μ-loop Inv-loop2 μ-loop2 Inv-loop3 μ-loop3 Inv-loop4 μ-loop4
 loop-holds c = (omega arith, omega arith, zero-add _)
 
-loop-again : tie.Need-loop-again Inv-loop μ-loop Inv-loop2 μ-loop2 Inv-loop3 μ-loop3
+loop-again : tie.Need-loop-again Inv-loop μ-loop Inv-loop2 μ-loop2 Inv-loop3 μ-loop3 Inv-loop4 μ-loop4
 loop-again c =
     let call = c .count-128 .ensures in
     (omega arith, omega (arith, call .1), counted _ _ 128 _ (call .0) (c .before .before .loop .inv .2))
 
-loop2-again : tie.Need-loop2-again Inv-loop μ-loop Inv-loop2 μ-loop2 Inv-loop3 μ-loop3
+loop2-again : tie.Need-loop2-again Inv-loop μ-loop Inv-loop2 μ-loop2 Inv-loop3 μ-loop3 Inv-loop4 μ-loop4
 loop2-again c =
-    let call = c .count-8 .ensures in
-    (omega arith, omega (arith, call .1), counted _ _ 8 _ (call .0) (c .before .before .loop2 .inv .2))
+    let call = c .count-32 .ensures in
+    (omega arith, omega (arith, call .1), counted _ _ 32 _ (call .0) (c .before .before .loop2 .inv .2))
 
-loop3-again : tie.Need-loop3-again Inv-loop μ-loop Inv-loop2 μ-loop2 Inv-loop3 μ-loop3
+loop3-again : tie.Need-loop3-again Inv-loop μ-loop Inv-loop2 μ-loop2 Inv-loop3 μ-loop3 Inv-loop4 μ-loop4
 loop3-again c =
-    let call = c .count-1 .ensures in
-    (omega arith, omega (arith, call .1), counted _ _ 1 _ (call .0) (c .before .before .loop3 .inv .2))
+    let call = c .count-8 .ensures in
+    (omega arith, omega (arith, call .1), counted _ _ 8 _ (call .0) (c .before .before .loop3 .inv .2))
 
-returns : tie.Need-returns Inv-loop μ-loop Inv-loop2 μ-loop2 Inv-loop3 μ-loop3
-returns c = counted-all _ _ (c .loop3-test .left) (c .before .loop3 .inv .2)
+loop4-again : tie.Need-loop4-again Inv-loop μ-loop Inv-loop2 μ-loop2 Inv-loop3 μ-loop3 Inv-loop4 μ-loop4
+loop4-again c =
+    let call = c .count-1 .ensures in
+    (omega arith, omega (arith, call .1), counted _ _ 1 _ (call .0) (c .before .before .loop4 .inv .2))
+
+returns : tie.Need-returns Inv-loop μ-loop Inv-loop2 μ-loop2 Inv-loop3 μ-loop3 Inv-loop4 μ-loop4
+returns c = counted-all _ _ (c .loop4-test .left) (c .before .loop4 .inv .2)
 
 pub count-low-spec : {M : Type 1} → statement M
 count-low-spec =
@@ -64,6 +75,8 @@ count-low-spec =
     μ-loop2
     Inv-loop3
     μ-loop3
+    Inv-loop4
+    μ-loop4
     loop-holds
     (search needs)
     (search needs)
@@ -83,5 +96,12 @@ count-low-spec =
     (search needs)
     (search needs)
     (search needs)
+    (search needs)
     loop3-again
+    (search needs)
+    (search needs)
+    (search needs)
+    (search needs)
+    (search needs)
+    loop4-again
     returns)

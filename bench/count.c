@@ -1,0 +1,82 @@
+/* Gigabytes a second of the counter of low bytes: the proved counter through the static library, the byte loop that it had before, and a
+ * plain loop in C. The byte loop before is Rattle's code of that time, word for word in C, compiled one byte at a time as it was. */
+#include "covrith.h"
+
+#include <stdio.h>
+#include <stdlib.h>
+#include <time.h>
+
+enum { ROUNDS = 7 };
+
+/* Of the processor, so that other work on the machine counts little. */
+static double seconds(void) {
+    struct timespec now;
+    clock_gettime(CLOCK_PROCESS_CPUTIME_ID, &now);
+    return (double)now.tv_sec + (double)now.tv_nsec * 1e-9;
+}
+
+static uint64_t __attribute__((noinline, optimize("no-tree-vectorize"))) by_bytes(const uint8_t *s, size_t length) {
+    uint64_t count = 0;
+    size_t i = 0;
+    while (i < length) {
+        if (s[i] < 128)
+            count += 1;
+        i += 1;
+    }
+    return count;
+}
+
+static uint64_t __attribute__((noinline)) plain(const uint8_t *s, size_t length) {
+    uint64_t count = 0;
+    for (size_t i = 0; i < length; i++)
+        count += s[i] < 0x80;
+    return count;
+}
+
+static int rising(const void *a, const void *b) {
+    double x = *(const double *)a, y = *(const double *)b;
+    return (x > y) - (x < y);
+}
+
+typedef uint64_t counter(const uint8_t *, size_t);
+
+static uint64_t measure(const char *name, counter *count, const uint8_t *s, size_t length, int calls) {
+    double rates[ROUNDS];
+    uint64_t last = 0;
+    for (int i = 0; i < ROUNDS; i++) {
+        double begin = seconds();
+        for (int k = 0; k < calls; k++)
+            last = count(s, length);
+        rates[i] = (double)length * calls / (seconds() - begin) * 1e-9;
+    }
+    qsort(rates, ROUNDS, sizeof rates[0], rising);
+    printf("  %-24s %6.2f GB/s (%.2f to %.2f)\n", name, rates[ROUNDS / 2], rates[0], rates[ROUNDS - 1]);
+    return last;
+}
+
+int main(void) {
+    static const struct {
+        const char *name;
+        size_t length;
+        int calls;
+    } sizes[] = {{"100 bytes", 100, 2000000}, {"64 KB", 65536, 5000}, {"256 MB", 268435456, 1}};
+    size_t most = 268435456;
+    uint8_t *bytes = malloc(most);
+    if (!bytes)
+        return 1;
+    uint64_t random = 1;
+    for (size_t i = 0; i < most; i++) {
+        random = random * 6364136223846793005u + 1442695040888963407u;
+        bytes[i] = (uint8_t)(random >> 56);
+    }
+    for (int i = 0; i < 3; i++) {
+        printf("%s\n", sizes[i].name);
+        uint64_t before = measure("byte loop before", by_bytes, bytes, sizes[i].length, sizes[i].calls);
+        uint64_t words = measure("covrith_count", covrith_count, bytes, sizes[i].length, sizes[i].calls);
+        uint64_t c = measure("plain loop in C", plain, bytes, sizes[i].length, sizes[i].calls);
+        if (before != words || words != c)
+            return 1;
+    }
+    free(bytes);
+    return 0;
+}
