@@ -1,5 +1,7 @@
 // Trace records (document 01, "Bytes" and "Questions at the door"): the reader on bytes and a
 // position, the writer into the unused rest of the trace buffer, and the counter of low bytes.
+mod words;
+
 use codec::Field;
 use codec::number_len;
 use codec::read_field;
@@ -8,6 +10,10 @@ use machine::Model;
 use machine::refusals::NO_ROOM;
 use machine::refusals::TRACE_NUMBER;
 use machine::refusals::TRACE_RANGE;
+use words::count_1;
+use words::count_8;
+use words::count_32;
+use words::count_128;
 ghost use mathlib.Core.Path.{_≡_};
 ghost use Prim.Native.Nat.{ℕ, _+_, _≤_};
 ghost use lib.ListN.{length};
@@ -21,9 +27,6 @@ ghost use Rattle.trace.specs.Answers.{entry, readingOf, writingOf, after
 pub const MAX_BLOCK: u64 = Model::MAX_BLOCKS as u64;
 
 pub const MAX_OUTCOME: u64 = 1;
-
-// "the bytes below 80 hexadecimal"
-const HIGH: u8 = 0x80;
 
 pub struct Record {
     pub clock: u64,
@@ -142,16 +145,26 @@ pub fn write_record(
     Written::Bytes(len)
 }
 
-// How many bytes are below 80 hexadecimal.
+// How many bytes are below 80 hexadecimal: by sixteen words, four words and single words, and the bytes that are left singly.
 pub fn count_low(s: &[u8]) -> u64
     ensures { λ r. ⌜ r ≡ countLow (now (s .entry)) ⌝ }
 {
     let mut count: u64 = 0;
     let mut i = 0;
+    while 128 <= s.len() - i {
+        count += count_128(s, i);
+        i += 128;
+    }
+    while 32 <= s.len() - i {
+        count += count_32(s, i);
+        i += 32;
+    }
+    while 8 <= s.len() - i {
+        count += count_8(s, i);
+        i += 8;
+    }
     while i < s.len() {
-        if s[i] < HIGH {
-            count += 1;
-        }
+        count += count_1(s, i);
         i += 1;
     }
     count
