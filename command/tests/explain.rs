@@ -1,0 +1,102 @@
+//! The explanation against the engine: for the generator's models and tapes, good and damaged, the first finding is the refusal.
+//! COVRITH_CASES sets how many damaged pairs are tried.
+
+use command::explain;
+use engine::{REPORT_BYTES, WORK_NUMBERS};
+use reference::generate::random::Random;
+use reference::generate::{case, damage::damaged_case, structured::model_and_tape, Case, Size};
+use std::collections::BTreeMap;
+
+fn cases() -> usize {
+    let set = std::env::var("COVRITH_CASES").ok();
+    set.and_then(|n| n.parse().ok()).unwrap_or(5_000)
+}
+
+/// The refusal of the proved engine.
+fn refusal(model: &[u8], tape: &[u8]) -> u64 {
+    let mut work = vec![0; WORK_NUMBERS];
+    let mut report = vec![0; REPORT_BYTES];
+    engine::run(model, tape, 0, &mut work, &mut [], &mut report).refusal
+}
+
+/// The number that the explanation gives.
+fn explained(model: &[u8], tape: &[u8]) -> u64 {
+    let (found, lists) = explain::model(model, None);
+    if let Some(first) = found.first() {
+        assert_eq!(found.len(), 1);
+        assert!(!first.rule.is_empty() && !first.remedy.is_empty());
+        return first.question;
+    }
+    let found = explain::tape(tape, lists.expect("a model that is taken"), None);
+    found.first().map_or(0, |first| first.question)
+}
+
+fn hold(case: &Case) -> u64 {
+    let wanted = refusal(&case.model, &case.tape);
+    let told = explained(&case.model, &case.tape);
+    assert_eq!(
+        told, wanted,
+        "model {:02x?} tape {:02x?}",
+        case.model, case.tape
+    );
+    wanted
+}
+
+#[test]
+fn damaged_pairs() {
+    let mut random = Random::new(31);
+    let mut seen = BTreeMap::new();
+    for k in 0..cases() {
+        let size = if k % 4 == 0 { Size::Full } else { Size::Small };
+        let (model, tape) = model_and_tape(&mut random, size);
+        let case = damaged_case(&mut random, size, model, tape);
+        *seen.entry(hold(&case)).or_insert(0) += 1;
+    }
+    for question in 3..=10 {
+        assert!(
+            seen.contains_key(&question),
+            "question {question} is not met: {seen:?}"
+        );
+    }
+    println!("{} damaged pairs, refusals: {seen:?}", cases());
+}
+
+#[test]
+fn all_kinds_of_pairs() {
+    let mut random = Random::new(7);
+    for _ in 0..cases() / 5 {
+        hold(&case(&mut random, Size::Small));
+    }
+}
+
+/// Every pair that differs from the first example in one byte, lacks one or has one more.
+#[test]
+fn first_example_with_one_byte_changed() {
+    let model = [1, 1, 0, 0, 0, 2, 2, 5, 1, 1, 0, 4, 1, 2, 2, 5, 1, 3, 1];
+    let tape = [2, 3, 2, 2, 5, 4];
+    let pair = |model: &[u8], tape: &[u8]| assert_eq!(explained(model, tape), refusal(model, tape));
+    for byte in 0..=255 {
+        for at in 0..model.len() {
+            let mut other = model.to_vec();
+            other[at] = byte;
+            pair(&other, &tape);
+            other = model.to_vec();
+            other.insert(at, byte);
+            pair(&other, &tape);
+        }
+        for at in 0..tape.len() {
+            let mut other = tape.to_vec();
+            other[at] = byte;
+            pair(&model, &other);
+            other = tape.to_vec();
+            other.insert(at, byte);
+            pair(&model, &other);
+        }
+    }
+    for length in 0..model.len() {
+        pair(&model[..length], &tape);
+    }
+    for length in 0..tape.len() {
+        pair(&model, &tape[..length]);
+    }
+}
