@@ -2,67 +2,53 @@
 
 use modeltext::words::{ADVANCE, GENERATE, SPLIT};
 
-/// An end that a question inside a turn gives: the kinds that it can come from and why, in words.
+/// An end that a question inside a turn gives: the kinds of block that it comes from, each with the reason in words.
 pub struct Stop {
     pub end: u64,
-    pub kinds: &'static [u32],
-    pub why: &'static str,
+    pub from: &'static [(u32, &'static str)],
     pub remedy: &'static str,
 }
 
-const fn stop(end: u64, kinds: &'static [u32], why: &'static str, remedy: &'static str) -> Stop {
-    Stop {
-        end,
-        kinds,
-        why,
-        remedy,
-    }
+const fn stop(end: u64, from: &'static [(u32, &'static str)], remedy: &'static str) -> Stop {
+    Stop { end, from, remedy }
 }
 
 const RELEASE: u32 = 5;
 const LEAVE: u32 = 7;
 const DEPART: u32 = 16;
 
+const NO_PLACE: &str = "no living place is free for a new transaction";
+const CLOCK: &str = "the move time would pass the limit of the clock";
+
 pub const STOPS: &[Stop] = &[
     stop(
         21,
-        &[GENERATE, SPLIT],
-        "no living place is free for a new transaction (1024 at most)",
-        "let transactions end sooner, or let fewer come",
+        &[(GENERATE, NO_PLACE), (SPLIT, NO_PLACE)],
+        "1024 live at most: let transactions end sooner, or let fewer come",
     ),
     stop(
         22,
-        &[GENERATE, ADVANCE],
-        "the move time would pass the limit of the clock",
+        &[(GENERATE, CLOCK), (ADVANCE, CLOCK)],
         "count in larger ticks, or end the run earlier with the counter",
     ),
     stop(
         23,
-        &[ADVANCE],
-        "its list has no time left",
+        &[(ADVANCE, "its list has no time left")],
         "add times to that list of the tape, or end the run earlier with the counter",
     ),
     stop(
         24,
-        &[RELEASE, LEAVE],
-        "not in use",
-        "pass a SEIZE or ENTER of the same server, with as many units, on every way to this block",
+        &[
+            (RELEASE, "not in use"),
+            (LEAVE, "fewer units in use than it frees"),
+        ],
+        "let every way to this block pass a SEIZE or ENTER of the same server",
     ),
     stop(
         25,
-        &[DEPART],
-        "the queue has no content",
-        "pass an ARRIVE of the same queue on every way to this block",
+        &[(DEPART, "the queue has no content")],
+        "let every way to this block pass an ARRIVE of the same queue",
     ),
-];
-
-/// What an end of the run itself means: 1 to 4 and 26.
-pub const ENDS: &[(u64, &str)] = &[
-    (1, "dry: nobody moves and nobody will"),
-    (2, "the counter fell to 0"),
-    (3, "the budget of turns is used"),
-    (4, "the trace is full"),
-    (26, "the most turns or serials that a run has"),
 ];
 
 /// Where a living transaction stands.
@@ -79,12 +65,11 @@ pub fn stop_of(end: u64) -> Option<&'static Stop> {
     STOPS.iter().find(|stop| stop.end == end)
 }
 
-pub fn end_of(end: u64) -> &'static str {
-    match ENDS.iter().find(|(number, _)| *number == end) {
-        Some((_, words)) => words,
-        None => {
-            engine::End::of(end).map_or("an end that this program does not know", |e| e.words())
-        }
+impl Stop {
+    /// Why a block of this kind ends the run so, if it can.
+    pub fn why(&self, kind: u32) -> Option<&'static str> {
+        let mut from = self.from.iter();
+        from.find(|(k, _)| *k == kind).map(|(_, why)| *why)
     }
 }
 

@@ -1,0 +1,227 @@
+//! A model and a tape judged: what the text form asks, then the engine's questions 3 to 10 with their explanation.
+
+use crate::explain::{self, Finding};
+use engine::{Refusal, REPORT_BYTES, WORK_NUMBERS};
+use modeltext::read::{self, Source};
+use modeltext::tape::{self, Mismatch, Tape};
+use modeltext::{Fault, Position};
+
+/// A model as text or as bytes.
+pub struct ModelFile {
+    pub path: String,
+    pub bytes: Vec<u8>,
+    pub source: Option<Source>,
+}
+
+impl ModelFile {
+    pub fn text(path: impl Into<String>, text: &str) -> ModelFile {
+        let source = read::model(text);
+        let clean = source.faults.is_empty();
+        ModelFile {
+            path: path.into(),
+            bytes: if clean {
+                source.model.bytes()
+            } else {
+                Vec::new()
+            },
+            source: Some(source),
+        }
+    }
+
+    pub fn bytes(path: impl Into<String>, bytes: Vec<u8>) -> ModelFile {
+        ModelFile {
+            path: path.into(),
+            bytes,
+            source: None,
+        }
+    }
+
+    pub fn faults(&self) -> &[Fault] {
+        self.source.as_ref().map_or(&[], |source| &source.faults)
+    }
+}
+
+/// A tape as text or as bytes.
+pub struct TapeFile {
+    pub path: String,
+    pub bytes: Vec<u8>,
+    pub text: Option<Tape>,
+}
+
+impl TapeFile {
+    pub fn text(path: impl Into<String>, text: &str) -> TapeFile {
+        let tape = tape::read(text);
+        TapeFile {
+            path: path.into(),
+            bytes: tape.bytes(),
+            text: Some(tape),
+        }
+    }
+
+    pub fn bytes(path: impl Into<String>, bytes: Vec<u8>) -> TapeFile {
+        TapeFile {
+            path: path.into(),
+            bytes,
+            text: None,
+        }
+    }
+
+    pub fn faults(&self) -> &[Fault] {
+        self.text.as_ref().map_or(&[], |tape| &tape.faults)
+    }
+}
+
+/// The proved engine's answer: 0, or the number of the question.
+pub fn refusal(model: &[u8], tape: &[u8]) -> u64 {
+    let mut work = vec![0; WORK_NUMBERS];
+    let mut report = vec![0; REPORT_BYTES];
+    engine::run(model, tape, 0, &mut work, &mut [], &mut report).refusal
+}
+
+/// The first question about the tape.
+const FIRST_OF_TAPE: u64 = 8;
+
+/// More messages than this about one file help nobody.
+const MOST_MESSAGES: usize = 20;
+
+/// What is wrong with a model and, if it is given, its tape; empty if they are accepted.
+pub fn judge(model: &ModelFile, tape: Option<&TapeFile>) -> Vec<String> {
+    let mut told: Vec<Message> = model.faults().iter().map(Message::of_fault).collect();
+    let tape_faults = tape.map_or(&[][..], TapeFile::faults);
+    let mut of_tape: Vec<Message> = tape_faults.iter().map(Message::of_fault).collect();
+    if told.is_empty() {
+        let clean = tape.filter(|tape| tape.faults().is_empty());
+        let number = refusal(&model.bytes, clean.map_or(&[], |tape| &tape.bytes));
+        let (found, lists) = explain::model(&model.bytes, model.source.as_ref());
+        if number > 0 && number < FIRST_OF_TAPE {
+            told = with_number(number, found);
+        }
+        if let (Some(tape), Some(lists)) = (clean, lists) {
+            let asked = told.is_empty();
+            of_tape.extend(judge_tape(
+                model,
+                tape,
+                lists,
+                if asked { number } else { 0 },
+            ));
+        }
+    }
+    let mut lines = printed(&model.path, told);
+    if let Some(tape) = tape {
+        lines.extend(printed(&tape.path, of_tape));
+    }
+    lines
+}
+
+/// The tape of a model whose lists are known; `number` is the engine's, if it came to the tape.
+fn judge_tape(model: &ModelFile, tape: &TapeFile, lists: u64, number: u64) -> Vec<Message> {
+    let mut found = explain::tape(&tape.bytes, lists, tape.text.as_ref());
+    let mut told = Vec::new();
+    if let (Some(source), Some(text)) = (&model.source, &tape.text) {
+        let mut number = number;
+        for mismatch in tape::against(text, &source.names.lists) {
+            let question = match mismatch {
+                Mismatch::Missing(_) => 8,
+                Mismatch::Extra(_) | Mismatch::Twice(_) => 10,
+                Mismatch::Order(_) => 0,
+            };
+            let mut message = Message::of_fault(mismatch.fault());
+            // the same fault, once told by its name, is not told by its number again
+            found.retain(|finding| finding.question != question);
+            if number == question {
+                message.question = std::mem::take(&mut number);
+            }
+            told.push(message);
+        }
+        if number == 0 {
+            told.extend(found.into_iter().map(Message::of_finding));
+            return told;
+        }
+    }
+    if number > 0 || !found.is_empty() {
+        told.extend(with_number(number, found));
+    }
+    told
+}
+
+/// The findings, of which the first has the engine's number.
+fn with_number(number: u64, found: Vec<Finding>) -> Vec<Message> {
+    let agrees = found.first().map(|finding| finding.question) == Some(number);
+    let mut told: Vec<Message> = found.into_iter().map(Message::of_finding).collect();
+    if agrees {
+        told[0].question = number;
+    } else if number > 0 {
+        let words = Refusal::of(number).map_or("refused", Refusal::words);
+        told.insert(
+            0,
+            Message {
+                at: None,
+                spot: String::new(),
+                what: words.to_string(),
+                remedy: "this program has no better explanation, which is a fault of its own"
+                    .to_string(),
+                question: number,
+            },
+        );
+    }
+    told
+}
+
+/// A line for a person: where, what, the engine's number if it has one, and a remedy.
+struct Message {
+    at: Option<Position>,
+    spot: String,
+    what: String,
+    remedy: String,
+    question: u64,
+}
+
+impl Message {
+    fn of_fault(fault: &Fault) -> Message {
+        Message {
+            at: Some(fault.at),
+            spot: String::new(),
+            what: fault.what.clone(),
+            remedy: fault.remedy.clone(),
+            question: 0,
+        }
+    }
+
+    fn of_finding(finding: Finding) -> Message {
+        Message {
+            at: finding.at,
+            spot: format!(
+                "{}, number {}, byte {}",
+                finding.item, finding.number, finding.byte
+            ),
+            what: finding.rule,
+            remedy: finding.remedy,
+            question: 0,
+        }
+    }
+
+    fn line(&self, path: &str) -> String {
+        let place = match self.at {
+            Some(at) => format!("{path}:{}:{}: ", at.line, at.column),
+            None if self.spot.is_empty() => format!("{path}: "),
+            None => format!("{path}: {}: ", self.spot),
+        };
+        let question = match self.question {
+            0 => String::new(),
+            n => format!("; question {n}"),
+        };
+        format!("{place}{}{question}\n    {}", self.what, self.remedy)
+    }
+}
+
+/// The engine's own fault first, the others by their places.
+fn printed(path: &str, mut told: Vec<Message>) -> Vec<String> {
+    told.sort_by_key(|message| (message.question == 0, message.at));
+    let more = told.len().saturating_sub(MOST_MESSAGES);
+    let kept = told.iter().take(MOST_MESSAGES);
+    let mut lines: Vec<String> = kept.map(|message| message.line(path)).collect();
+    if more > 0 {
+        lines.push(format!("{path}: and {more} more"));
+    }
+    lines
+}
