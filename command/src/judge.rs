@@ -217,6 +217,7 @@ impl Message {
 /// The engine's own fault first, the others by their places.
 fn printed(path: &str, mut told: Vec<Message>) -> Vec<String> {
     told.sort_by_key(|message| (message.question == 0, message.at));
+    told.dedup_by(|b, a| a.at.is_some() && a.at == b.at && a.what == b.what);
     let more = told.len().saturating_sub(MOST_MESSAGES);
     let kept = told.iter().take(MOST_MESSAGES);
     let mut lines: Vec<String> = kept.map(|message| message.line(path)).collect();

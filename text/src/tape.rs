@@ -102,7 +102,8 @@ fn line(tokens: &[Token], lists: &mut Vec<List>) -> Result<(), Fault> {
         let room = (MOST_TIMES + 1).saturating_sub(list.times.len());
         let count = usize::try_from(count).unwrap_or(room).min(room);
         list.times.extend(std::iter::repeat_n(time, count));
-        list.places.extend(std::iter::repeat_n(token.at, count));
+        let place = tokens[at + used - 1].at;
+        list.places.extend(std::iter::repeat_n(place, count));
         at += used;
     }
     Ok(())

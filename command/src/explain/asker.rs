@@ -96,7 +96,10 @@ impl<'a> Asker<'a> {
                 Ok(value)
             }
             Err(rule) => {
-                let remedy = format!("{what} is expected here: write the file anew from its text");
+                let remedy = match self.places {
+                    Some(_) => format!("{what} is expected here, to {}", self.largest),
+                    None => format!("{what} is expected here: write the file anew from its text"),
+                };
                 let _ = self.found(self.questions.0, (rule, remedy));
                 Err(Stop)
             }

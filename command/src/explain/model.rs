@@ -64,14 +64,17 @@ impl Head<'_> {
             (_, 1) => format!("the model has {word} 1 alone"),
             _ => format!("the model has {word}s 1 to {count}"),
         };
-        let remedy = match letter {
-            'b' => "name a block by its label".to_string(),
-            's' => "declare it, STORAGE name = capacity, and write its name".to_string(),
-            'w' => "declare it before, VALUE name = sum, and write v$name".to_string(),
-            _ => format!(
-                "declare it, {} name, and write its name",
-                word.to_uppercase()
-            ),
+        let declare = match letter {
+            's' => "STORAGE name = capacity".to_string(),
+            'w' => "VALUE name = sum, before it".to_string(),
+            _ => format!("{} name", word.to_uppercase()),
+        };
+        let named = self.source.map_or(&[][..], |source| source.names.of(letter));
+        let names: Vec<&str> = named.iter().map(|named| named.name.as_str()).collect();
+        let remedy = match (letter, names.is_empty()) {
+            ('b', _) => "name a block by its label".to_string(),
+            (_, true) => format!("declare it: {declare}"),
+            _ => format!("write {}, or declare another: {declare}", names.join(" or ")),
         };
         (format!("{who} names {word} {number}, and {has}"), remedy)
     }
