@@ -100,3 +100,30 @@ fn first_example_with_one_byte_changed() {
         pair(&model, &tape[..length]);
     }
 }
+
+/// The same with a text: the first of all findings is still the refusal, and it has a place in the text.
+#[test]
+fn models_as_text() {
+    let mut random = Random::new(5);
+    let mut met = BTreeMap::new();
+    for _ in 0..cases() {
+        let (model, tape) = model_and_tape(&mut random, Size::Small);
+        let case = damaged_case(&mut random, Size::Small, model, tape);
+        let Ok(text) = modeltext::model_text(&case.model) else {
+            continue;
+        };
+        let source = modeltext::read::model(&text);
+        if !source.faults.is_empty() || source.model.bytes() != case.model {
+            continue;
+        }
+        let wanted = refusal(&case.model, &case.tape);
+        let (found, _) = explain::model(&case.model, Some(&source));
+        let told = found.first().map_or(0, |first| first.question);
+        assert_eq!(told, if wanted < 8 { wanted } else { 0 }, "{text}");
+        assert!(found.iter().all(|finding| finding.at.is_some()));
+        *met.entry(told).or_insert(0) += 1;
+    }
+    for question in [0, 4, 5, 7] {
+        assert!(met.contains_key(&question), "{met:?}");
+    }
+}

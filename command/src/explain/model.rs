@@ -69,12 +69,17 @@ impl Head<'_> {
             'w' => "VALUE name = sum, before it".to_string(),
             _ => format!("{} name", word.to_uppercase()),
         };
-        let named = self.source.map_or(&[][..], |source| source.names.of(letter));
+        let named = self
+            .source
+            .map_or(&[][..], |source| source.names.of(letter));
         let names: Vec<&str> = named.iter().map(|named| named.name.as_str()).collect();
         let remedy = match (letter, names.is_empty()) {
             ('b', _) => "name a block by its label".to_string(),
             (_, true) => format!("declare it: {declare}"),
-            _ => format!("write {}, or declare another: {declare}", names.join(" or ")),
+            _ => format!(
+                "write {}, or declare another: {declare}",
+                names.join(" or ")
+            ),
         };
         (format!("{who} names {word} {number}, and {has}"), remedy)
     }
