@@ -28,7 +28,7 @@ pub struct Server {
     /// Units in use, summed over the ticks.
     pub unit_ticks: u64,
     /// Waits begun for it.
-    pub waits: u64,
+    pub waits_begun: u64,
     /// The length of its QL, summed over the ticks.
     pub ticks_waited: u64,
     /// The longest QL before a clock move.
@@ -123,7 +123,7 @@ fn server(numbers: &mut Numbers) -> Option<Server> {
     Some(Server {
         entries: numbers.of_report()?,
         unit_ticks: numbers.of_report()?,
-        waits: numbers.of_report()?,
+        waits_begun: numbers.of_report()?,
         ticks_waited: numbers.of_report()?,
         longest: numbers.of_report()?,
     })

@@ -52,7 +52,7 @@ fn by_names() {
     let crane = Server {
         entries: 1,
         unit_ticks: 2,
-        waits: 0,
+        waits_begun: 0,
         ticks_waited: 0,
         longest: 0,
     };
