@@ -105,5 +105,6 @@ pub fn candidates(study: &Study, life: &Life, stop: &words::Stop) -> Vec<u64> {
         let kind = study.block(*block).map_or(0, |block| block.kind);
         stop.why(kind).is_some()
     });
+    blocks.sort_unstable();
     blocks
 }

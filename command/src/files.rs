@@ -27,12 +27,20 @@ pub fn written(path: &Path) -> Option<SystemTime> {
     fs::metadata(path).and_then(|m| m.modified()).ok()
 }
 
+/// Whether a file is on the disk before it gets its name, so that a power cut leaves no empty one.
+#[derive(Clone, Copy, Debug, PartialEq, Eq)]
+pub enum Sync {
+    Yes,
+    /// For what can be made again.
+    No,
+}
+
 /// Writes all of these files or none: each beside its place first, then all renamed in this order.
-pub fn write_all(files: &[(PathBuf, &[u8])]) -> Done<()> {
+pub fn write_all(files: &[(PathBuf, &[u8])], sync: Sync) -> Done<()> {
     let beside: Vec<PathBuf> = files.iter().map(|(path, _)| beside(path)).collect();
     let mut done = Ok(());
     for ((path, bytes), new) in files.iter().zip(&beside) {
-        done = done.and_then(|()| write_new(new, bytes).map_err(|e| (path, e)));
+        done = done.and_then(|()| write_new(new, bytes, sync).map_err(|e| (path, e)));
     }
     for ((path, _), new) in files.iter().zip(&beside) {
         done = done.and_then(|()| fs::rename(new, path).map_err(|e| (path, e)));
@@ -51,9 +59,11 @@ fn beside(path: &Path) -> PathBuf {
     path.with_file_name(name)
 }
 
-/// On the disk before it gets its name.
-fn write_new(path: &Path, bytes: &[u8]) -> std::io::Result<()> {
+fn write_new(path: &Path, bytes: &[u8], sync: Sync) -> std::io::Result<()> {
     let mut file = fs::File::create(path)?;
     file.write_all(bytes)?;
-    file.sync_data()
+    match sync {
+        Sync::Yes => file.sync_data(),
+        Sync::No => Ok(()),
+    }
 }

@@ -44,8 +44,8 @@ pub fn facility_cells(server: &Server, clock: u64) -> Vec<String> {
         server.entries.to_string(),
         percent(server.unit_ticks, clock),
         mean(server.unit_ticks, server.entries),
-        server.waits.to_string(),
-        mean(server.ticks_waited, server.waits),
+        server.waits_begun.to_string(),
+        mean(server.ticks_waited, server.waits_begun),
         mean(server.ticks_waited, clock),
         server.longest.to_string(),
     ]
@@ -68,8 +68,8 @@ pub fn storage_cells(server: &Server, capacity: u32, clock: u64) -> Vec<String> 
         server.entries.to_string(),
         percent(server.unit_ticks, clock.saturating_mul(u64::from(capacity))),
         mean(server.unit_ticks, clock),
-        server.waits.to_string(),
-        mean(server.ticks_waited, server.waits),
+        server.waits_begun.to_string(),
+        mean(server.ticks_waited, server.waits_begun),
         mean(server.ticks_waited, clock),
         server.longest.to_string(),
     ]

@@ -171,7 +171,7 @@ pub fn load(folder: &Path, notes: &mut Vec<String>) -> Done<Study> {
             new.push((side.bytes_path.clone(), &bytes[..]));
         }
     }
-    if let Err(failure) = files::write_all(&new) {
+    if let Err(failure) = files::write_all(&new, files::Sync::No) {
         notes.push(format!("{}; the text is used as it is", failure.message));
     }
     if model.source.is_none() && model_side.text.is_some() {

@@ -249,7 +249,7 @@ fn readings(report: &Report) -> Vec<(String, u64)> {
             for (what, n) in [
                 ("entries", s.entries),
                 ("unit ticks", s.unit_ticks),
-                ("waits", s.waits),
+                ("waits", s.waits_begun),
                 ("ticks waited", s.ticks_waited),
                 ("longest", s.longest),
             ] {

@@ -2,6 +2,7 @@
 
 use command::commands::{archive, verify_folder, Verdict};
 use command::execute::Lent;
+use command::files::Sync;
 use command::page::{FILES, PAGE};
 use command::study::Study;
 use reference::generate::random::Random;
@@ -24,7 +25,13 @@ const TAPE: [u8; 6] = [2, 3, 2, 2, 5, 4];
 fn put(folder: &Path, model: &[u8], tape: &[u8], lent: Lent) {
     fs::create_dir_all(folder).unwrap();
     let study = Study::of_bytes(folder, model.to_vec(), tape.to_vec()).unwrap();
-    archive(&study, lent).unwrap();
+    archive(&study, lent, Sync::No).unwrap();
+}
+
+/// A new file in place of the old: to overwrite one waits for the disk.
+fn write(path: &Path, bytes: &[u8]) {
+    let _ = fs::remove_file(path);
+    fs::write(path, bytes).unwrap();
 }
 
 fn differs(folder: &Path) -> Vec<String> {
@@ -46,25 +53,25 @@ fn any_change_of_any_file_is_noticed() {
             for mask in [1, 2, 64, 128, 255] {
                 let mut other = bytes.clone();
                 other[at] ^= mask;
-                fs::write(&path, &other).unwrap();
+                write(&path, &other);
                 differs(&folder);
             }
             let mut other = bytes.clone();
             other.remove(at);
-            fs::write(&path, &other).unwrap();
+            write(&path, &other);
             differs(&folder);
-            fs::write(&path, &bytes[..at]).unwrap();
+            write(&path, &bytes[..at]);
             differs(&folder);
         }
         for more in [0, 1, 128] {
             let mut other = bytes.clone();
             other.push(more);
-            fs::write(&path, &other).unwrap();
+            write(&path, &other);
             differs(&folder);
         }
         fs::remove_file(&path).unwrap();
         differs(&folder);
-        fs::write(&path, &bytes).unwrap();
+        write(&path, &bytes);
         assert_eq!(verify_folder(&folder), Verdict::Same);
     }
 }

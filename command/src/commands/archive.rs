@@ -4,7 +4,7 @@ use super::{engine_version, kit_version, say, tell, Command, LENT};
 use crate::args::Args;
 use crate::execute::{execute, Lent};
 use crate::failure::{Done, Failure};
-use crate::files;
+use crate::files::{self, Sync};
 use crate::page::{Page, FILES, PAGE};
 use crate::study::{self, Study};
 use std::io::Write;
@@ -40,7 +40,7 @@ fn run(args: &Args, out: &mut dyn Write) -> Done<()> {
     let mut notes = Vec::new();
     let study = study::load(folder, &mut notes)?;
     tell(&notes);
-    let page = archive(&study, lent)?;
+    let page = archive(&study, lent, Sync::Yes)?;
     let o = &page.outcome;
     say(
         out,
@@ -55,7 +55,7 @@ fn run(args: &Args, out: &mut dyn Write) -> Done<()> {
 }
 
 /// Runs a study and writes its archive.
-pub fn archive(study: &Study, lent: Lent) -> Done<Page> {
+pub fn archive(study: &Study, lent: Lent, sync: Sync) -> Done<Page> {
     let run = execute(&study.model, &study.tape, lent)?;
     let versions = (engine_version(), kit_version().to_string());
     let bytes: [&[u8]; 4] = [&study.model, &study.tape, &run.trace, &run.report_bytes];
@@ -69,6 +69,6 @@ pub fn archive(study: &Study, lent: Lent) -> Done<Page> {
         }
     }
     new.push((study.folder.join(PAGE), text.as_bytes()));
-    files::write_all(&new)?;
+    files::write_all(&new, sync)?;
     Ok(page)
 }

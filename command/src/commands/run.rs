@@ -157,7 +157,7 @@ pub fn plain_report(outcome: &Outcome, report: &Report) -> Vec<String> {
                 i + 1,
                 s.entries,
                 s.unit_ticks,
-                s.waits,
+                s.waits_begun,
                 s.ticks_waited,
                 s.longest
             ));
