@@ -10,8 +10,13 @@ mod template;
 mod verify;
 
 use crate::args::{self, Args};
+use crate::execute::{execute, Lent};
 use crate::failure::{Done, Failure};
-use std::io::Write;
+use crate::study::Study;
+use engine::Run;
+use std::io::{IsTerminal, Write};
+use std::sync::mpsc;
+use std::time::{Duration, Instant};
 
 pub use archive::archive;
 pub use verify::{verify_folder, Verdict};
@@ -154,4 +159,31 @@ fn tell(notes: &[String]) {
     for note in notes {
         eprintln!("covrith: {note}");
     }
+}
+
+/// How long a run goes on before a line on the terminal says so.
+const PATIENCE: Duration = Duration::from_secs(2);
+
+/// Runs a study; a line on a terminal tells that a long run still goes on.
+fn run_study(study: &Study, lent: Lent) -> Done<Run> {
+    if !std::io::stderr().is_terminal() {
+        return execute(&study.model, &study.tape, lent);
+    }
+    let (done, waiting) = mpsc::channel::<()>();
+    std::thread::scope(|scope| {
+        scope.spawn(move || {
+            let began = Instant::now();
+            let mut pause = PATIENCE;
+            while let Err(mpsc::RecvTimeoutError::Timeout) = waiting.recv_timeout(pause) {
+                eprint!("\r\x1b[Krunning, {} s so far", began.elapsed().as_secs());
+                pause = Duration::from_secs(1);
+            }
+            if began.elapsed() >= PATIENCE {
+                eprint!("\r\x1b[K");
+            }
+        });
+        let run = execute(&study.model, &study.tape, lent);
+        drop(done);
+        run
+    })
 }

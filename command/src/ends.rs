@@ -1,6 +1,7 @@
 //! The end of a run in words, with the transaction and the block that it came from.
 
 use crate::execute::Lent;
+use crate::limits::TURNS;
 use crate::study::Study;
 use crate::walk::{Life, Walk};
 use crate::words;
@@ -49,9 +50,20 @@ pub fn told(study: &Study, run: &Run, walk: &Walk, lent: Lent) -> Vec<String> {
                 transactions(living)
             )
         }
+        26 if run.outcome.turns >= TURNS => format!(
+            "{TURNS} turns are done, the most of a run, at clock {clock}, {} living",
+            transactions(living)
+        ),
         _ => format!("{} at clock {clock}", run.end),
     };
-    vec![format!("{end}: {line}")]
+    let mut lines = vec![format!("{end}: {line}")];
+    if end == 26 {
+        lines.push(
+            "    look at the entries of the blocks: does a loop of GOTO or IF pass no ADVANCE?"
+                .to_string(),
+        );
+    }
+    lines
 }
 
 fn transactions(n: usize) -> String {

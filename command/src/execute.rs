@@ -24,11 +24,24 @@ pub struct Lent {
 impl Lent {
     /// The usual, where the options name nothing else.
     pub fn usual(budget: Option<u64>, room: Option<u64>) -> Lent {
+        let budget = budget.unwrap_or(BUDGET);
+        if let Some(room) = room {
+            return Lent {
+                budget,
+                room,
+                short: false,
+            };
+        }
         let memory = available_memory().map_or(ROOM, |bytes| bytes / 4 * 3);
+        let mut room = ROOM.min(memory);
+        // the black box keeps the compiler from leaving out what it allocates and drops
+        while room > RECORD_BYTES && std::hint::black_box(zeroed(room)).is_none() {
+            room /= 2;
+        }
         Lent {
-            budget: budget.unwrap_or(BUDGET),
-            room: room.unwrap_or_else(|| ROOM.min(memory)),
-            short: room.is_none() && memory < ROOM,
+            budget,
+            room,
+            short: room < ROOM,
         }
     }
 }

@@ -17,7 +17,12 @@ pub struct Reader<'a> {
     pub numbers: Vec<Position>,
     /// The letter of a thing that was named and is not there.
     pub missing: Option<char>,
+    /// Brackets that are open.
+    open: u32,
 }
+
+/// More open brackets are not read: the engine takes four.
+const MOST_OPEN: u32 = 60;
 
 impl<'a> Reader<'a> {
     /// Behind the keyword of a statement.
@@ -31,6 +36,7 @@ impl<'a> Reader<'a> {
             names,
             numbers: Vec::new(),
             missing: None,
+            open: 0,
         }
     }
 
@@ -250,10 +256,16 @@ impl<'a> Reader<'a> {
             let (tag, n) = self.simple()?;
             return Ok(Term::Simple(tag, n));
         }
+        self.open += 1;
+        if self.open > MOST_OPEN {
+            let remedy = "four may be open at a time: move a part to a VALUE before it";
+            return Err(self.fault("too many brackets are open", remedy));
+        }
         let start = self.numbers.len();
         self.numbers.push(at);
         let mut sum = self.sum()?;
         if self.take(")") {
+            self.open -= 1;
             return Ok(Term::Bracket(sum));
         }
         if sum.len() > 1 || sum[0].minus {
@@ -277,6 +289,7 @@ impl<'a> Reader<'a> {
             ));
         }
         self.sign(")", "close the bracket")?;
+        self.open -= 1;
         let left = sum.remove(0).term;
         Ok(Term::Comparison(relation, Box::new(left), Box::new(right)))
     }

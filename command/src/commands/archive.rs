@@ -1,8 +1,8 @@
 //! `covrith archive`: trace.bin, report.bin and a page with everything that a second run needs.
 
-use super::{engine_version, kit_version, say, tell, Command, LENT};
+use super::{engine_version, kit_version, run_study, say, tell, Command, LENT};
 use crate::args::Args;
-use crate::execute::{execute, Lent};
+use crate::execute::Lent;
 use crate::failure::{Done, Failure};
 use crate::files::{self, Sync};
 use crate::page::{Page, FILES, PAGE};
@@ -56,7 +56,7 @@ fn run(args: &Args, out: &mut dyn Write) -> Done<()> {
 
 /// Runs a study and writes its archive.
 pub fn archive(study: &Study, lent: Lent, sync: Sync) -> Done<Page> {
-    let run = execute(&study.model, &study.tape, lent)?;
+    let run = run_study(study, lent)?;
     let versions = (engine_version(), kit_version().to_string());
     let bytes: [&[u8]; 4] = [&study.model, &study.tape, &run.trace, &run.report_bytes];
     let page = Page::new(lent.budget, lent.room, run.outcome, versions, bytes);

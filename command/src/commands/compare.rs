@@ -1,8 +1,8 @@
 //! `covrith compare`: two reports side by side.
 
-use super::{say_lines, tell, Command, LENT};
+use super::{run_study, say_lines, tell, Command, LENT};
 use crate::args::Args;
-use crate::execute::{execute, Lent};
+use crate::execute::Lent;
 use crate::failure::Done;
 use crate::report::{self, facility_cells, queue_cells, storage_cells};
 use crate::study::{self, Study};
@@ -33,7 +33,7 @@ fn compare(args: &Args, out: &mut dyn Write) -> Done<()> {
     let mut sides = Vec::new();
     for folder in [a, b] {
         let study = study::load(Path::new(folder), &mut notes)?;
-        let run = execute(&study.model, &study.tape, lent)?;
+        let run = run_study(&study, lent)?;
         sides.push(measures(&study, &run));
     }
     tell(&notes);

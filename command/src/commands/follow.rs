@@ -1,8 +1,8 @@
 //! `covrith follow`: one transaction's life.
 
-use super::{say_lines, tell, Command, LENT};
+use super::{run_study, say_lines, tell, Command, LENT};
 use crate::args::{self, Args};
-use crate::execute::{execute, Lent};
+use crate::execute::Lent;
 use crate::failure::{Done, Failure};
 use crate::study::{self, Study};
 use crate::table::Table;
@@ -33,7 +33,7 @@ fn follow(args: &Args, out: &mut dyn Write) -> Done<()> {
     let mut notes = Vec::new();
     let study = study::load(Path::new(folder), &mut notes)?;
     tell(&notes);
-    let run = execute(&study.model, &study.tape, lent)?;
+    let run = run_study(&study, lent)?;
     if number == 0 || number > run.outcome.made {
         return Err(Failure::new(format!(
             "there is no transaction {number}: the run made {}",

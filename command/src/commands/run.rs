@@ -1,6 +1,6 @@
 //! `covrith run`: a run and its report for people.
 
-use super::{cannot_write, say, say_lines, tell, Command, LENT};
+use super::{cannot_write, run_study, say, say_lines, tell, Command, LENT};
 use crate::args::Args;
 use crate::execute::{execute, Lent};
 use crate::failure::{Done, Failure};
@@ -49,7 +49,7 @@ fn run(args: &Args, out: &mut dyn Write) -> Done<()> {
     let study = study::load(Path::new(folder), &mut notes)?;
     tell(&notes);
     let lent = Lent::usual(budget, room);
-    let run = execute(&study.model, &study.tape, lent)?;
+    let run = run_study(&study, lent)?;
     if args.has("--records") {
         records(&study, &run, out)?;
     }
