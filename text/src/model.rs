@@ -47,8 +47,12 @@ impl Block {
     }
 }
 
-#[derive(Clone, Debug, Default, PartialEq, Eq)]
+/// The edition of a model that names none.
+pub const EDITION: u32 = 1;
+
+#[derive(Clone, Debug, PartialEq, Eq)]
 pub struct Model {
+    pub edition: u32,
     pub facilities: u32,
     pub capacities: Vec<u32>,
     pub queues: u32,
@@ -58,9 +62,24 @@ pub struct Model {
     pub blocks: Vec<Block>,
 }
 
+impl Default for Model {
+    fn default() -> Model {
+        Model {
+            edition: EDITION,
+            facilities: 0,
+            capacities: Vec::new(),
+            queues: 0,
+            values: Vec::new(),
+            lists: 0,
+            counter: 0,
+            blocks: Vec::new(),
+        }
+    }
+}
+
 impl Model {
     pub fn bytes(&self) -> Vec<u8> {
-        let mut n = vec![1, self.facilities, self.capacities.len() as u32];
+        let mut n = vec![self.edition, self.facilities, self.capacities.len() as u32];
         n.extend(&self.capacities);
         n.extend([self.queues, self.values.len() as u32]);
         for sum in &self.values {
@@ -145,10 +164,8 @@ impl Numbers {
     }
 
     fn model(&mut self) -> Result<Model, String> {
-        if self.next()? != 1 {
-            return Err("the edition is not 1".to_string());
-        }
         let mut m = Model {
+            edition: self.next()?,
             facilities: self.up_to(32)?,
             ..Model::default()
         };

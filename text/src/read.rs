@@ -101,14 +101,6 @@ pub struct Source {
     pub faults: Vec<Fault>,
 }
 
-impl Source {
-    /// The name of each thing behind a letter, in the order of their numbers.
-    pub fn names_of(&self, letter: char) -> Vec<String> {
-        let named = self.names.of(letter).iter();
-        named.map(|named| named.name.clone()).collect()
-    }
-}
-
 /// Reads a model's text.
 pub fn model(text: &str) -> Source {
     let mut gathering = Gathering::default();
@@ -125,6 +117,7 @@ pub fn model(text: &str) -> Source {
 struct Gathering<'a> {
     source: Source,
     counter: Option<Position>,
+    edition: Option<Position>,
     capacities: Vec<Position>,
     values: Vec<Statement<'a>>,
     blocks: Vec<Statement<'a>>,
@@ -240,7 +233,7 @@ impl<'a> Gathering<'a> {
                 self.values.push(statement);
                 done.map_err(|fault| ('w', fault))
             }
-            "COUNTER" => self.count(&statement, at).map_err(|fault| (' ', fault)),
+            "COUNTER" | "EDITION" => self.count(&statement, at).map_err(|fault| (' ', fault)),
             _ => {
                 self.source.blocks.push(at);
                 self.blocks.push(statement);
@@ -253,16 +246,33 @@ impl<'a> Gathering<'a> {
         })
     }
 
+    /// COUNTER or EDITION: a number, once.
     fn count(&mut self, statement: &Statement, at: Position) -> Result<(), Fault> {
-        if let Some(before) = self.counter {
-            let what = format!("COUNTER stands twice, first on line {}", before.line);
+        let edition = statement.keyword == "EDITION";
+        let place = if edition {
+            &mut self.edition
+        } else {
+            &mut self.counter
+        };
+        if let Some(before) = *place {
+            let word = &statement.keyword;
+            let what = format!("{word} stands twice, first on line {}", before.line);
             return Err(Fault::at(at, what, "leave one of them"));
         }
-        self.counter = Some(at);
         let names = Names::default();
         let mut r = Reader::new(statement, &names);
-        self.counter = r.here().or(self.counter);
-        self.source.model.counter = r.number("the counter")?;
+        *place = Some(r.here().unwrap_or(at));
+        let what = if edition {
+            "the edition"
+        } else {
+            "the counter"
+        };
+        let number = r.number(what)?;
+        if edition {
+            self.source.model.edition = number;
+        } else {
+            self.source.model.counter = number;
+        }
         r.end()
     }
 
@@ -316,7 +326,8 @@ impl<'a> Gathering<'a> {
         }
         let first = Position::at(1, 1);
         let front = |named: &[Named]| named.last().map_or(first, |named| named.at);
-        let mut numbers = vec![first, front(&source.names.facilities)];
+        let edition = self.edition.unwrap_or(first);
+        let mut numbers = vec![edition, front(&source.names.facilities)];
         numbers.push(front(&source.names.storages));
         numbers.extend(&self.capacities);
         numbers.push(front(&source.names.queues));

@@ -2,7 +2,7 @@
 
 use std::fmt::Write;
 
-use crate::model::{Block, Model, Operand, Signed, Term};
+use crate::model::{Block, Model, Operand, Signed, Term, EDITION};
 use crate::read::{Named, Source};
 use crate::words;
 
@@ -85,6 +85,9 @@ pub fn model(m: &Model) -> String {
 /// The declarations of a model, a line each.
 pub fn declarations(m: &Model, names: &Names) -> String {
     let mut out = String::new();
+    if m.edition != EDITION {
+        let _ = writeln!(out, "EDITION {}", m.edition);
+    }
     for (word, names) in [
         ("FACILITY", &names.facilities),
         ("QUEUE", &names.queues),

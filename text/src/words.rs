@@ -168,7 +168,9 @@ pub fn tag_of(number: u32) -> Option<&'static Tag> {
 }
 
 /// Words that begin a declaration.
-pub const DECLARATIONS: &[&str] = &["FACILITY", "STORAGE", "QUEUE", "LIST", "VALUE", "COUNTER"];
+pub const DECLARATIONS: &[&str] = &[
+    "FACILITY", "STORAGE", "QUEUE", "LIST", "VALUE", "COUNTER", "EDITION",
+];
 
 /// What a letter names, in words.
 pub fn thing(letter: char) -> &'static str {

@@ -122,6 +122,23 @@ fn as_many_places_as_numbers() {
     }
 }
 
+/// An edition that the text names; which ones there are is the engine's question.
+#[test]
+fn editions() {
+    let text = FIRST.replace("COUNTER  2", "EDITION  2\nCOUNTER  2");
+    let mut wanted = model_bytes(FIRST).unwrap();
+    wanted[0] = 2;
+    assert_eq!(model_bytes(&text).unwrap(), wanted);
+    assert_eq!(read::model(&text).numbers[0].line, 4);
+    let shown = model_text(&wanted).unwrap();
+    assert!(shown.starts_with("EDITION 2\n"));
+    assert_eq!(model_bytes(&shown).unwrap(), wanted);
+    assert_eq!(
+        only(&text.replace("COUNTER  2", "EDITION 1\nCOUNTER 2")),
+        "5:1: EDITION stands twice, first on line 4\n    leave one of them"
+    );
+}
+
 #[test]
 fn tapes() {
     let tape = tape::read("a: 3*5 7\n   1 ; more\nb:\n");

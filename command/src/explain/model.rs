@@ -114,12 +114,13 @@ fn questions(asker: &mut Asker, source: Option<&Source>, lists: &mut Option<u64>
         let known = if low == high {
             format!("{low}")
         } else {
-            format!("{low} to {high}")
+            format!("{low} or {high}")
         };
-        (
-            format!("the edition is {n}, and known is {known}"),
-            "this is no model, or one for another engine".to_string(),
-        )
+        let remedy = match source {
+            Some(_) => format!("write EDITION {known}"),
+            None => "this is no model, or one for another engine".to_string(),
+        };
+        (format!("the edition is {n}, and known is {known}"), remedy)
     })?;
     let mut head = Head {
         source,
