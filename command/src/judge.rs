@@ -97,13 +97,8 @@ pub fn judge(model: &ModelFile, tape: Option<&TapeFile>) -> Vec<String> {
             told = with_number(number, found);
         }
         if let (Some(tape), Some(lists)) = (clean, lists) {
-            let asked = told.is_empty();
-            of_tape.extend(judge_tape(
-                model,
-                tape,
-                lists,
-                if asked { number } else { 0 },
-            ));
+            let number = told.is_empty().then_some(number);
+            of_tape.extend(judge_tape(model, tape, lists, number));
         }
     }
     let mut lines = printed(&model.path, told);
@@ -114,34 +109,44 @@ pub fn judge(model: &ModelFile, tape: Option<&TapeFile>) -> Vec<String> {
 }
 
 /// The tape of a model whose lists are known; `number` is the engine's, if it came to the tape.
-fn judge_tape(model: &ModelFile, tape: &TapeFile, lists: u64, number: u64) -> Vec<Message> {
-    let mut found = explain::tape(&tape.bytes, lists, tape.text.as_ref());
+fn judge_tape(model: &ModelFile, tape: &TapeFile, lists: u64, number: Option<u64>) -> Vec<Message> {
+    let mut found = match number {
+        Some(0) => Vec::new(),
+        _ => explain::tape(&tape.bytes, lists, tape.text.as_ref()),
+    };
+    let mut number = number.unwrap_or(0);
     let mut told = Vec::new();
     if let (Some(source), Some(text)) = (&model.source, &tape.text) {
-        let mut number = number;
-        for mismatch in tape::against(text, &source.names.lists) {
-            let question = match mismatch {
-                Mismatch::Missing(_) => 8,
-                Mismatch::Extra(_) | Mismatch::Twice(_) => 10,
-                Mismatch::Order(_) => 0,
-            };
+        let mismatches = tape::against(text, &source.names.lists);
+        // a list too few or too many is told by its name, and not once more by what it does to the bytes
+        let by_lists = |f: &Finding| (f.question == 8 && f.at.is_none()) || f.question == 10;
+        let first = found.first().is_some_and(by_lists);
+        for mismatch in &mismatches {
             let mut message = Message::of_fault(mismatch.fault());
-            // the same fault, once told by its name, is not told by its number again
-            found.retain(|finding| finding.question != question);
-            if number == question {
+            if first && number > 0 && number == question(mismatch) {
                 message.question = std::mem::take(&mut number);
             }
             told.push(message);
         }
-        if number == 0 {
-            told.extend(found.into_iter().map(Message::of_finding));
-            return told;
+        if !mismatches.is_empty() {
+            found.retain(|finding| !by_lists(finding));
         }
     }
-    if number > 0 || !found.is_empty() {
+    if number > 0 {
         told.extend(with_number(number, found));
+    } else {
+        told.extend(found.into_iter().map(Message::of_finding));
     }
     told
+}
+
+/// The question that such a tape answers "no".
+fn question(mismatch: &Mismatch) -> u64 {
+    match mismatch {
+        Mismatch::Missing(_) => 8,
+        Mismatch::Extra(_) | Mismatch::Twice(_) => 10,
+        Mismatch::Order(_) => 0,
+    }
 }
 
 /// The findings, of which the first has the engine's number.

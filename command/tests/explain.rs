@@ -2,6 +2,7 @@
 //! COVRITH_CASES sets how many damaged pairs are tried.
 
 use command::explain;
+use command::judge::{judge, ModelFile, TapeFile};
 use engine::{REPORT_BYTES, WORK_NUMBERS};
 use reference::generate::random::Random;
 use reference::generate::{case, damage::damaged_case, structured::model_and_tape, Case, Size};
@@ -125,5 +126,44 @@ fn models_as_text() {
     }
     for question in [0, 4, 5, 7] {
         assert!(met.contains_key(&question), "{met:?}");
+    }
+}
+
+/// What is printed: nothing for an accepted pair; else the engine's number, once, in the first message.
+#[test]
+fn what_is_told_has_the_engines_number() {
+    let mut random = Random::new(17);
+    for _ in 0..cases() / 5 {
+        let (model, tape) = model_and_tape(&mut random, Size::Small);
+        let case = damaged_case(&mut random, Size::Small, model, tape);
+        let wanted = refusal(&case.model, &case.tape);
+        let mut models = vec![ModelFile::bytes("model.bin", case.model.clone())];
+        if let Ok(text) = modeltext::model_text(&case.model) {
+            let file = ModelFile::text("model.txt", &text);
+            if file.faults().is_empty() && file.bytes == case.model {
+                models.push(file);
+            }
+        }
+        let tapes = [
+            Some(TapeFile::bytes("tape.bin", case.tape.clone())),
+            modeltext::tape::text(&case.tape)
+                .ok()
+                .map(|text| TapeFile::text("tape.txt", &text))
+                .filter(|file| file.bytes == case.tape),
+        ];
+        for model in &models {
+            for tape in tapes.iter().flatten() {
+                let told = judge(model, Some(tape));
+                let numbers = told.join("\n").matches("; question ").count();
+                if wanted == 0 {
+                    assert!(told.is_empty(), "{told:?}");
+                } else {
+                    assert_eq!(numbers, 1, "{told:?}");
+                    let number = format!("; question {wanted}\n");
+                    assert!(told[0].contains(&number), "{told:?}");
+                    assert!(!told[0].contains("no better explanation"), "{told:?}");
+                }
+            }
+        }
     }
 }
