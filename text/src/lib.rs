@@ -1,6 +1,7 @@
 //! Text form of models and tapes: text to bytes and bytes to text. `docs/TEXT.md` has the syntax.
 
 pub mod model;
+pub mod names;
 pub mod number;
 pub mod read;
 pub mod reader;

@@ -3,7 +3,8 @@
 use std::fmt::Write;
 
 use crate::model::{Block, Model, Operand, Signed, Term, EDITION};
-use crate::read::{Named, Source};
+use crate::names::Named;
+use crate::read::Source;
 use crate::words;
 
 /// What each thing is called, number 1 first; blocks that have no label are called by their number.

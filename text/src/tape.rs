@@ -2,7 +2,7 @@
 
 use std::fmt::Write;
 
-use crate::read::Named;
+use crate::names::Named;
 use crate::scan::{self, Token, Word};
 use crate::{number, words, Fault, Position};
 

@@ -3,7 +3,8 @@
 use super::asker::{range_words, Answer, Asker};
 use super::{Finding, Item, Words};
 use crate::limits;
-use modeltext::read::{Named, Source};
+use modeltext::names::Named;
+use modeltext::read::Source;
 use modeltext::words;
 use modeltext::Position;
 
