@@ -3,9 +3,11 @@
 
 use crate::columns::{from_columns, to_columns};
 use crate::generate::random::Random;
-use crate::generate::{distributions, traces};
+use crate::generate::{distributions, pairs, traces};
+use crate::join::join;
 use crate::line::hex;
 use crate::maker::make_tape;
+use crate::rules::Rules;
 
 /// `to` or `from`, the given bytes, the bytes lent; answer, bytes written, bytes.
 pub fn columns_line(random: &mut Random) -> String {
@@ -53,6 +55,36 @@ pub fn tapes_line(random: &mut Random) -> String {
         some(numbers),
         call.room,
         result(answer, &out)
+    )
+}
+
+/// Model and tape of the first and of the second, the bytes lent for a model
+/// and a tape; answer, bytes written of each, both.
+pub fn join_line(random: &mut Random) -> String {
+    let call = pairs::call(Rules::LANDED, random);
+    let mut model = vec![0; call.model_room];
+    let mut tape = vec![0; call.tape_room];
+    let (first, second) = (&call.first, &call.second);
+    let answer = join(
+        (&first.0, &first.1),
+        (&second.0, &second.1),
+        &mut model,
+        &mut tape,
+    );
+    let given = [&first.0, &first.1, &second.0, &second.1].map(|bytes| hex(bytes));
+    let (number, lengths) = match answer {
+        Ok(lengths) => (0, lengths),
+        Err(number) => (number, (0, 0)),
+    };
+    format!(
+        "{} {} {} {number} {} {} {} {}",
+        given.join(" "),
+        call.model_room,
+        call.tape_room,
+        lengths.0,
+        lengths.1,
+        hex(&model[..lengths.0]),
+        hex(&tape[..lengths.1])
     )
 }
 

@@ -1,7 +1,7 @@
 //! `calls PART N SEED`: N random calls of a part with what must come out, one a
-//! line. Parts: `columns`, `tapes`.
+//! line. Parts: `columns`, `tapes`, `join`.
 
-use reference::calls::{columns_line, tapes_line};
+use reference::calls::{columns_line, join_line, tapes_line};
 use reference::generate::random::Random;
 use std::io::{BufWriter, Write};
 
@@ -13,6 +13,7 @@ fn main() {
     let line: fn(&mut Random) -> String = match part.as_str() {
         "columns" => columns_line,
         "tapes" => tapes_line,
+        "join" => join_line,
         _ => usage(),
     };
     let (Ok(count), Ok(seed)) = (count.parse::<u64>(), seed.parse::<u64>()) else {
@@ -28,6 +29,6 @@ fn main() {
 }
 
 fn usage() -> ! {
-    eprintln!("usage: calls columns | tapes N SEED");
+    eprintln!("usage: calls columns | tapes | join N SEED");
     std::process::exit(2);
 }
