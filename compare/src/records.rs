@@ -53,7 +53,7 @@ fn whole(bytes: &[u8]) -> Result<(), String> {
                 [r.clock, r.transaction, r.block, r.outcome]
                     == [w.clock, w.transaction, w.block, w.outcome]
             }
-            (Err(n), Err(w)) => n == w,
+            (Err(refusal), Err(w)) => refusal.number() == u64::from(w),
             _ => false,
         };
         if !same {
