@@ -1,30 +1,33 @@
 //! Random calls of the parts that stand beside a run, with what must come out,
 //! as lines of text. Bytes are hexadecimal, `-` for none.
 
-use crate::columns::{from_columns, to_columns};
+use crate::columns::{from_columns_with, to_columns_with};
 use crate::generate::random::Random;
-use crate::generate::{distributions, traces};
+use crate::generate::{distributions, pairs, traces};
+use crate::join::join_with;
 use crate::line::hex;
 use crate::maker::make_tape;
+use crate::rules::Rules;
 
 /// `to` or `from`, the given bytes, the bytes lent; answer, bytes written, bytes.
-pub fn columns_line(random: &mut Random) -> String {
+pub fn columns_line(rules: Rules, random: &mut Random) -> String {
     let forth = random.one_in(2);
     let bytes = if forth {
-        traces::trace(random)
+        traces::trace(rules, random)
     } else {
-        traces::columns(random)
+        traces::columns(rules, random)
     };
-    let (name, direction): (_, fn(&[u8], &mut [u8]) -> Result<usize, u32>) = if forth {
-        ("to", to_columns)
+    let name = if forth { "to" } else { "from" };
+    let direction = if forth {
+        to_columns_with
     } else {
-        ("from", from_columns)
+        from_columns_with
     };
     let mut out = vec![0; bytes.len() * 5 + 10];
-    let needed = direction(&bytes, &mut out).unwrap_or(0);
+    let needed = direction(rules, &bytes, &mut out).unwrap_or(0);
     let call = traces::call(random, bytes, needed);
     let mut out = vec![0; call.room];
-    let answer = direction(&call.bytes, &mut out);
+    let answer = direction(rules, &call.bytes, &mut out);
     format!(
         "{name} {} {} {}",
         hex(&call.bytes),
@@ -35,7 +38,7 @@ pub fn columns_line(random: &mut Random) -> String {
 
 /// The stream, the numbers of the lists, the bits of the doubles, each with
 /// commas between, the bytes lent; answer, bytes written, bytes.
-pub fn tapes_line(random: &mut Random) -> String {
+pub fn tapes_line(_rules: Rules, random: &mut Random) -> String {
     let call = distributions::call(random);
     let mut out = vec![0; call.room];
     let answer = make_tape(call.stream, &call.lists, &call.numbers, &mut out);
@@ -53,6 +56,37 @@ pub fn tapes_line(random: &mut Random) -> String {
         some(numbers),
         call.room,
         result(answer, &out)
+    )
+}
+
+/// Model and tape of the first and of the second, the bytes lent for a model
+/// and a tape; answer, bytes written of each, both.
+pub fn join_line(rules: Rules, random: &mut Random) -> String {
+    let call = pairs::call(rules, random);
+    let mut model = vec![0; call.model_room];
+    let mut tape = vec![0; call.tape_room];
+    let (first, second) = (&call.first, &call.second);
+    let answer = join_with(
+        rules,
+        (&first.0, &first.1),
+        (&second.0, &second.1),
+        &mut model,
+        &mut tape,
+    );
+    let given = [&first.0, &first.1, &second.0, &second.1].map(|bytes| hex(bytes));
+    let (number, lengths) = match answer {
+        Ok(lengths) => (0, lengths),
+        Err(number) => (number, (0, 0)),
+    };
+    format!(
+        "{} {} {} {number} {} {} {} {}",
+        given.join(" "),
+        call.model_room,
+        call.tape_room,
+        lengths.0,
+        lengths.1,
+        hex(&model[..lengths.0]),
+        hex(&tape[..lengths.1])
     )
 }
 

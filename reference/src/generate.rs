@@ -10,6 +10,7 @@ pub mod fields;
 pub mod holders;
 pub mod joined;
 pub mod nasty;
+pub mod pairs;
 pub mod pieces;
 pub mod preempt;
 pub mod random;

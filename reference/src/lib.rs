@@ -9,6 +9,7 @@ pub mod columns;
 pub mod coverage;
 pub mod decode;
 pub mod generate;
+pub mod join;
 pub mod line;
 pub mod machine;
 pub mod maker;

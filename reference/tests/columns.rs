@@ -5,6 +5,7 @@ use reference::generate::random::Random;
 use reference::generate::traces::{call, columns, run_trace, trace};
 use reference::generate::Size;
 use reference::number::number_bytes;
+use reference::Rules;
 
 fn bytes(numbers: &[u64]) -> Vec<u8> {
     numbers.iter().flat_map(|n| number_bytes(*n)).collect()
@@ -89,7 +90,7 @@ fn the_trace_of_every_run_is_taken_and_comes_back() {
     let mut random = Random::new(61);
     for size in [Size::Short, Size::Full] {
         for _ in 0..500 {
-            let trace = run_trace(&mut random, size);
+            let trace = run_trace(Rules::LANDED, &mut random, size);
             let columns = given(to_columns, &trace).unwrap();
             assert_eq!(given(from_columns, &columns), Ok(trace));
         }
@@ -101,14 +102,14 @@ fn columns_are_taken_exactly_if_some_trace_produces_them() {
     let mut random = Random::new(62);
     let mut taken = [0; 4];
     for _ in 0..4_000 {
-        let trace = trace(&mut random);
+        let trace = trace(Rules::LANDED, &mut random);
         if let Ok(columns) = given(to_columns, &trace) {
             assert_eq!(given(from_columns, &columns), Ok(trace));
             taken[0] += 1;
         } else {
             taken[1] += 1;
         }
-        let columns = columns(&mut random);
+        let columns = columns(Rules::LANDED, &mut random);
         if let Ok(trace) = given(from_columns, &columns) {
             assert_eq!(given(to_columns, &trace), Ok(columns));
             taken[2] += 1;
@@ -150,7 +151,7 @@ fn room_is_asked_last_and_nothing_is_written() {
     let mut random = Random::new(63);
     let mut short = 0;
     for _ in 0..2_000 {
-        let trace = run_trace(&mut random, Size::Short);
+        let trace = run_trace(Rules::LANDED, &mut random, Size::Short);
         let needed = given(to_columns, &trace).unwrap().len();
         let call = call(&mut random, trace, needed);
         let mut out = vec![0xA5; call.room];

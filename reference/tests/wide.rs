@@ -202,7 +202,7 @@ fn runs_of_older_tapes_that_did_not_end_22_keep_their_bytes() {
 fn every_trace_that_the_old_reader_takes_the_new_one_takes_alike() {
     let mut random = Random::new(92);
     for _ in 0..4_000 {
-        let bytes = reference::generate::traces::trace(&mut random);
+        let bytes = reference::generate::traces::trace(Rules::BASE, &mut random);
         let mut position = 0;
         while let Ok(record) = read_record_with(Rules::BASE, &bytes, position) {
             assert_eq!(read_record_with(WIDE, &bytes, position), Ok(record));

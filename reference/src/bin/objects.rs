@@ -6,6 +6,7 @@ use reference::machine::{Machine, Queue, Server};
 use reference::report::places;
 use reference::run::{run_watched, Watcher};
 use reference::trace::TraceReader;
+use reference::Rules;
 use std::io::{BufWriter, Write};
 
 fn main() {
@@ -19,6 +20,7 @@ fn main() {
         let mut report = vec![0; case.report_len];
         let mut last = Last::default();
         let outcome = run_watched(
+            Rules::LANDED,
             &case.model,
             &case.tape,
             case.budget,

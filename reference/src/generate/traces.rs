@@ -1,12 +1,12 @@
 //! Random traces and columns, good and damaged, for the calls of 02, item 10.
 
 use super::random::Random;
-use super::{case, Size};
-use crate::columns::to_columns;
+use super::{case_with, Size};
+use crate::columns::to_columns_with;
 use crate::model::Model;
 use crate::number::number_bytes;
 use crate::rules::Rules;
-use crate::run::run;
+use crate::run::run_with;
 use crate::trace::MAX_TRANSACTION;
 
 /// One call: the given bytes and how many bytes are lent for the answer.
@@ -17,11 +17,12 @@ pub struct Call {
 }
 
 /// The trace of a random run.
-pub fn run_trace(random: &mut Random, size: Size) -> Vec<u8> {
-    let case = case(random, size);
+pub fn run_trace(rules: Rules, random: &mut Random, size: Size) -> Vec<u8> {
+    let case = case_with(rules, random, size);
     let mut trace = vec![0; case.trace_len];
     let mut report = vec![0; case.report_len];
-    let outcome = run(
+    let outcome = run_with(
+        rules,
         &case.model,
         &case.tape,
         case.budget,
@@ -35,10 +36,10 @@ pub fn run_trace(random: &mut Random, size: Size) -> Vec<u8> {
 
 /// Four numbers for each record of a trace that no run need have written;
 /// clocks never fall.
-fn made_up(random: &mut Random) -> Vec<[u64; 4]> {
+fn made_up(rules: Rules, random: &mut Random) -> Vec<[u64; 4]> {
     let count = *random.pick(&[0, 1, 2, 3, 7, 127, 128, 200]);
     let count = random.between(0, count);
-    let last = *random.pick(&[0, 3, 127, 128, 20_000, Rules::LANDED.max_clock()]);
+    let last = *random.pick(&[0, 3, 127, 128, 20_000, rules.max_clock()]);
     let mut clocks: Vec<u64> = (0..count).map(|_| random.between(0, last)).collect();
     clocks.sort();
     clocks
@@ -86,12 +87,12 @@ fn limit(random: &mut Random) -> u64 {
 }
 
 /// Bytes of a trace, mostly one that is taken.
-pub fn trace(random: &mut Random) -> Vec<u8> {
+pub fn trace(rules: Rules, random: &mut Random) -> Vec<u8> {
     if random.one_in(2) {
-        let trace = run_trace(random, Size::Short);
+        let trace = run_trace(rules, random, Size::Short);
         return damage(random, trace);
     }
-    let mut records = made_up(random);
+    let mut records = made_up(rules, random);
     if !records.is_empty() && random.one_in(3) {
         let at = random.below(records.len() as u64) as usize;
         let field = random.below(4) as usize;
@@ -106,15 +107,15 @@ pub fn trace(random: &mut Random) -> Vec<u8> {
 }
 
 /// Bytes of columns, mostly such that are taken.
-pub fn columns(random: &mut Random) -> Vec<u8> {
+pub fn columns(rules: Rules, random: &mut Random) -> Vec<u8> {
     if random.one_in(2) {
-        let trace = run_trace(random, Size::Short);
+        let trace = run_trace(rules, random, Size::Short);
         let mut columns = vec![0; trace.len() + 5];
-        let length = to_columns(&trace, &mut columns).expect("of a run");
+        let length = to_columns_with(rules, &trace, &mut columns).expect("of a run");
         columns.truncate(length);
         return damage(random, columns);
     }
-    let mut numbers = raw_columns(&made_up(random));
+    let mut numbers = raw_columns(&made_up(rules, random));
     if random.one_in(3) {
         let at = random.below(numbers.len() as u64) as usize;
         match random.below(4) {
