@@ -13,7 +13,7 @@ use Rattle.machine.specs.Lists.{nth}
 use Rattle.machine.specs.Term.{Term}
 use Rattle.machine.specs.Block.{Block, terminate, enter, leave, BlockModel, facts, compared}
 use Rattle.machine.specs.Parser.{Parsed, parsed, refused, Parser, times}
-use Rattle.machine.specs.Decode.{Counts, codeOf, simpleTerm, number, blockTerm, counted, mentioned, valueNumber, sumTerms, sumField, bracketField, comparisonField, mentionField, taggedTerm, valueTerm, valueField, inValue, valueFields, codeServer, storageUnits, operands, blockField, modelFields, atEnd, listField}
+use Rattle.machine.specs.Decode.{Counts, kindCount, codeOf, simpleTerm, number, blockTerm, counted, mentioned, valueNumber, sumTerms, sumField, bracketField, comparisonField, mentionField, taggedTerm, valueTerm, valueField, inValue, valueFields, codeServer, storageUnits, operands, blockField, modelFields, atEnd, listField}
 use Rattle.machine.specs.Validate.{wellFormed, beginning, modelOf, tapeOf, Validation, accept, reject, withTape, withModel, validate}
 use Rattle.machine.specs.Claims.{Each}
 use Rattle.machine.proofs.Proper.{Names, Storage, CodeServer, Units, ProperBlock, Proper}
@@ -213,7 +213,7 @@ module _ (s : List ℕ) (n : Counts) (capacities : List ℕ) where
 
     pub block-parsed : Ensures Parsed-block (blockField s n capacities)
     unfolding blockField
-    block-parsed = then (ranged s 1 16) (λ kind h. operands-good kind)
+    block-parsed = then (ranged s 1 kindCount) (λ kind h. operands-good kind)
 
   block-good : Ensures Good (blockField s n capacities)
   block-good = weaken (λ b h. h .0) (block-parsed Any (block-term s n))

@@ -20,6 +20,10 @@ pub record Counts : Type 0 where
   pub lists : ℕ
   pub blocks : ℕ
 
+-- "Kind and operands as stored": how many kinds there are
+abbrev pub kindCount : ℕ
+kindCount = 16
+
 -- ---- Codes of operands
 
 -- "Relations: 1 =, 2 ≠, 3 <, 4 ≤, 5 >, 6 ≥"
@@ -183,7 +187,7 @@ module _ (s : List ℕ) where
 
   unfoldable pub blockField : Counts → List ℕ → Parser Block
   blockField n capacities = do
-    kind ← number 1 16
+    kind ← number 1 kindCount
     operands n capacities kind
 
   -- ---- "Model: edition (1); facilities 0..32; storages 0..32 and each capacity 1..65,535; queues 0..32; values 0..8 and

@@ -11,7 +11,7 @@ use Rattle.machine.specs.Lists.{nth}
 use Rattle.machine.specs.Parser.{Cursor, Parsed, parsed, refused, Parser, continue, field}
 use Rattle.machine.specs.Term.{Term}
 use Rattle.machine.specs.Block.{codeIndex, Block, generate, advance, terminate, seize, release, enter, leave, waitServer, waitTerms, branch, goto, assign, priority, split, arrive, depart}
-use Rattle.machine.specs.Decode.{Counts, blockTerm, relationOf, codeOf, codeServer, storageUnits, operands, blockField}
+use Rattle.machine.specs.Decode.{Counts, kindCount, blockTerm, relationOf, codeOf, codeServer, storageUnits, operands, blockField}
 use Rattle.machine.specs.declared.model.Model.{Model}
 use Rattle.tables.specs.Forms.{blockForms}
 use Rattle.tables.specs.Numbers.{termNumbers, blockNumbers}
@@ -371,7 +371,7 @@ module _ (s : List ℕ) (n : Counts) (capacities : List ℕ) {p : Place} {to : �
 -- ---- A block
 
 module _ (s : List ℕ) (n : Counts) (capacities : List ℕ) {p : Place} {to : ℕ} {l₀ l₁ : List ℕ} {r₁ : Taken}
-    (k₁ : Takes (numberShape 1 16 1) p to l₀ l₁ r₁ (field s 3 1 16 (cursorOf p))) where
+    (k₁ : Takes (numberShape 1 kindCount 1) p to l₀ l₁ r₁ (field s 3 1 kindCount (cursorOf p))) where
   pub block-stop : {m : ℕ} (after : List ℕ) → r₁ ≡ NotTaken m → Stores (blockShape (n .blocks)) p to l₀ after (Refused m) (blockField s n capacities (cursorOf p))
   unfolding blockField
   block-stop after told = takes-stop (Stores _ _ _ _ _ _) _ _ k₁ told (record { held = refl })
@@ -402,10 +402,10 @@ capacities-kept m xs l to h =
 past : {i k : ℕ} → i ≤ k → (k ≡ i → ⊥) → suc i ≤ k
 past {i} {k} h n = omega arith
 
--- a kind that is none of the others is 16
-pub the-last : (k : ℕ) → k ≤ 16 → 1 ≤ k →
+-- a kind that is none of the others is the last
+pub the-last : (k : ℕ) → k ≤ kindCount → 1 ≤ k →
     ((((((((((((((Unit {0} × (k ≡ 1 → ⊥)) × (k ≡ 2 → ⊥)) × (k ≡ 3 → ⊥)) × (k ≡ 4 → ⊥)) × (k ≡ 5 → ⊥)) × (k ≡ 6 → ⊥)) × (k ≡ 7 → ⊥)) × (k ≡ 8 → ⊥))
-    × (k ≡ 9 → ⊥)) × (k ≡ 10 → ⊥)) × (k ≡ 11 → ⊥)) × (k ≡ 12 → ⊥)) × (k ≡ 13 → ⊥)) × (k ≡ 14 → ⊥)) × (k ≡ 15 → ⊥) → k ≡ 16
+    × (k ≡ 9 → ⊥)) × (k ≡ 10 → ⊥)) × (k ≡ 11 → ⊥)) × (k ≡ 12 → ⊥)) × (k ≡ 13 → ⊥)) × (k ≡ 14 → ⊥)) × (k ≡ 15 → ⊥) → k ≡ kindCount
 the-last k h l n =
     le-antisymm h
     (past

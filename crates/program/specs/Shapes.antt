@@ -17,10 +17,7 @@ use Rattle.values.specs.declared.Range.{Range}
 use Rattle.values.specs.Keeps.{Shape}
 use Rattle.program.specs.Formed.{Formed}
 
--- "Kind and operands as stored": how many kinds there are, and those with operands of a shape of their own
-abbrev pub kindCount : ℕ
-kindCount = 16
-
+-- the kinds with operands of a shape of their own
 abbrev pub waitServerKind : ℕ
 waitServerKind = 8
 

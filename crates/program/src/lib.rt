@@ -30,12 +30,12 @@ ghost use Prim.Native.Nat.{_+_, _*_, _≤_, _<_};
 ghost use lib.Dec.{eqb};
 ghost use Rattle.machine.specs.Limits.{maxBlocks};
 ghost use Rattle.machine.specs.Parser.{field, times};
-ghost use Rattle.machine.specs.Decode.{operands as operandsField, blockField};
+ghost use Rattle.machine.specs.Decode.{kindCount, operands as operandsField, blockField};
 ghost use Rattle.tables.specs.Layout.{blockWidth, programSize, tablesSize, wordEnd};
 ghost use Rattle.values.specs.Keeps.{Fits, Stores, cursorOf, numberShape};
 ghost use Rattle.values.specs.Rows.{Rows};
 ghost use Rattle.values.specs.Shapes.{Within, countsOf};
-ghost use Rattle.program.specs.Shapes.{kindCount, waitServerKind, branchKind, assignKind, pairField, pairShape, unitsField, unitsShape, comparedField, comparedShape, operandsShape, blockShape, capacitiesOf};
+ghost use Rattle.program.specs.Shapes.{waitServerKind, branchKind, assignKind, pairField, pairShape, unitsField, unitsShape, comparedField, comparedShape, operandsShape, blockShape, capacitiesOf};
 ghost use Rattle.program.specs.Formed.{Formed, leavesKind, targetFrom, namesGenerate, placedFrom, targetsFrom};
 
 // ---- Operands
