@@ -122,6 +122,8 @@ pub extern "C" fn covrith_stream_step(state: u32) -> u32
     ensures { λ r. ⌜ r ≡ next state ⌝ }
 {
     streams::step(state)
+}
+
 // A trace to columns.
 #[no_mangle]
 pub extern "C" fn covrith_columns(trace: &[u8], out: &mut [u8], written: &mut u64) -> u32
