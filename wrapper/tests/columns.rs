@@ -6,9 +6,9 @@ use covrith::{from_columns, simulate, to_columns};
 const MODEL: [u8; 19] = [1, 1, 0, 0, 0, 2, 2, 5, 1, 1, 0, 4, 1, 2, 2, 5, 1, 3, 1];
 const TAPE: [u8; 6] = [2, 3, 2, 2, 5, 4];
 
-/// Records at clocks 3, 3 and 131: the differences are 3, 0 and 128.
-const TRACE: [u8; 13] = [3, 1, 1, 0, 3, 1, 2, 1, 0x81, 3, 2, 1, 0];
-const COLUMNS: [u8; 14] = [3, 3, 0, 0x81, 0, 1, 1, 2, 1, 2, 1, 0, 1, 0];
+/// Records at clocks 3, 5 and 133: the differences are 3, 2 and 128.
+const TRACE: [u8; 13] = [3, 1, 1, 0, 5, 1, 2, 1, 0x81, 5, 2, 1, 0];
+const COLUMNS: [u8; 14] = [3, 3, 2, 0x81, 0, 1, 1, 2, 1, 2, 1, 0, 1, 0];
 
 #[test]
 fn there_and_back() {

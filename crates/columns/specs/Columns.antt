@@ -82,6 +82,7 @@ rows (c ∷ cs) (t ∷ ts) (b ∷ bs) [] = []
 rows (c ∷ cs) (t ∷ ts) (b ∷ bs) (o ∷ os) =
     record { clock = c; transaction = t; block = b; outcome = o } ∷ rows cs ts bs os
 
+-- Numbers are read as in the trace, each by the reader's `field` in its range; whatever it refuses is 51 here.
 module _ (s : List ℕ) where
   -- n clocks behind one; no sum passes the clock limit
   unfoldable pub clocksFrom : ℕ → (before : ℕ) → Parser (List ℕ)

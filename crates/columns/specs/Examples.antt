@@ -1,4 +1,4 @@
--- Item 10 by examples: three records at clocks 3, 3 and 131 and their columns; the empty trace; and the answers 51 and 52.
+-- Item 10 by examples: three records at clocks 3, 5 and 133 and their columns; the empty trace; and the answers 51 and 52.
 use mathlib.Core.List.{List, [], _∷_}
 use mathlib.Core.Path.{_≡_, refl}
 use Prim.Native.Nat.{ℕ}
@@ -11,11 +11,11 @@ unfolding everything differences column columnBytes neverFall behind wholeFrom r
 all = tt
 
 abbrev trace : List ℕ
-trace = 3 ∷ 1 ∷ 1 ∷ 0 ∷ 3 ∷ 1 ∷ 2 ∷ 1 ∷ 129 ∷ 3 ∷ 2 ∷ 1 ∷ 0 ∷ []
+trace = 3 ∷ 1 ∷ 1 ∷ 0 ∷ 5 ∷ 1 ∷ 2 ∷ 1 ∷ 129 ∷ 5 ∷ 2 ∷ 1 ∷ 0 ∷ []
 
--- the count; 3, 0 and 128 ticks; transactions 1, 1, 2; blocks 1, 2, 1; outcomes 0, 1, 0
+-- the count; 3, 2 and 128 ticks; transactions 1, 1, 2; blocks 1, 2, 1; outcomes 0, 1, 0
 abbrev columns : List ℕ
-columns = 3 ∷ 3 ∷ 0 ∷ 129 ∷ 0 ∷ 1 ∷ 1 ∷ 2 ∷ 1 ∷ 2 ∷ 1 ∷ 0 ∷ 1 ∷ 0 ∷ []
+columns = 3 ∷ 3 ∷ 2 ∷ 129 ∷ 0 ∷ 1 ∷ 1 ∷ 2 ∷ 1 ∷ 2 ∷ 1 ∷ 0 ∷ 1 ∷ 0 ∷ []
 
 there : toColumns trace 14 ≡ written columns
 unfolding all

@@ -21,7 +21,7 @@ returns : tie.Need-returns
 returns c =
     let call = c .before .before .before .before .before .to-columns in
     let case = c .before .n .given .1 in
-    let answer = wrote-bytes (call .last .0) (call .ensures .0) _ case (omega (arith, call .ensures .1 .1 _ case)) in
+    let answer = wrote-bytes (call .last .1 .0) (call .ensures .0) _ case (omega (arith, call .ensures .1 .1 _ case)) in
     (answer .0, (answer .1, call .ensures .1 .0))
 
 same-length-2 : tie.Need-same-length-2
@@ -30,7 +30,7 @@ same-length-2 c = search needs
 returns-2 : tie.Need-returns-2
 returns-2 c =
     let call = c .before .before .before .before .before .to-columns in
-    let answer = wrote-nothing (call .last .0) (call .ensures .0) _ (c .before .n2 .given .1) in
+    let answer = wrote-nothing (call .last .1 .0) (call .ensures .0) _ (c .before .n2 .given .1) in
     (answer .0, (answer .1, call .ensures .1 .0))
 
 pub covrith-columns-spec : {M : Type 1} → statement M
