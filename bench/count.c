@@ -1,9 +1,10 @@
-/* Gigabytes a second of the counter of low bytes: the proved counter through the static library, the byte loop that it had before, and a
- * plain loop in C. The byte loop before is Rattle's code of that time, word for word in C, compiled one byte at a time as it was. */
+/* Gigabytes a second of the counter of low bytes: the proved counter through the static library, that of an earlier library if one is
+ * given, a loop of single bytes and a plain loop that the compiler may turn into wide instructions. Last, a sum of 64-bit numbers: reading once. */
 #include "covrith.h"
 
 #include <stdio.h>
 #include <stdlib.h>
+#include <string.h>
 #include <time.h>
 
 enum { ROUNDS = 7 };
@@ -14,6 +15,9 @@ static double seconds(void) {
     clock_gettime(CLOCK_PROCESS_CPUTIME_ID, &now);
     return (double)now.tv_sec + (double)now.tv_nsec * 1e-9;
 }
+
+/* There if tools/bench-count was given an earlier library. */
+uint64_t covrith_count_before(const uint8_t *trace, size_t trace_len) __attribute__((weak));
 
 static uint64_t __attribute__((noinline, optimize("no-tree-vectorize"))) by_bytes(const uint8_t *s, size_t length) {
     uint64_t count = 0;
@@ -31,6 +35,16 @@ static uint64_t __attribute__((noinline)) plain(const uint8_t *s, size_t length)
     for (size_t i = 0; i < length; i++)
         count += s[i] < 0x80;
     return count;
+}
+
+static uint64_t __attribute__((noinline)) reading(const uint8_t *s, size_t length) {
+    uint64_t sum = 0;
+    for (size_t i = 0; i < length / 8; i++) {
+        uint64_t word;
+        memcpy(&word, s + 8 * i, 8);
+        sum += word;
+    }
+    return sum;
 }
 
 static int rising(const void *a, const void *b) {
@@ -71,10 +85,15 @@ int main(void) {
     }
     for (int i = 0; i < 3; i++) {
         printf("%s\n", sizes[i].name);
-        uint64_t before = measure("byte loop before", by_bytes, bytes, sizes[i].length, sizes[i].calls);
-        uint64_t words = measure("covrith_count", covrith_count, bytes, sizes[i].length, sizes[i].calls);
-        uint64_t c = measure("plain loop in C", plain, bytes, sizes[i].length, sizes[i].calls);
-        if (before != words || words != c)
+        const uint8_t *s = bytes;
+        size_t length = sizes[i].length;
+        int calls = sizes[i].calls;
+        uint64_t words = measure("covrith_count", covrith_count, s, length, calls);
+        uint64_t before = covrith_count_before ? measure("the same before", covrith_count_before, s, length, calls) : words;
+        uint64_t single = measure("single bytes in C", by_bytes, s, length, calls);
+        uint64_t c = measure("plain loop in C", plain, s, length, calls);
+        measure("reading once", reading, s, length, calls);
+        if (before != words || single != words || c != words)
             return 1;
     }
     free(bytes);

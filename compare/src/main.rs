@@ -3,7 +3,9 @@
 //! `compare --check`: the same for the cases of standard input, printed as by `cases` of `reference/`.
 //! `compare --long`: the two runs that reach end 26, by turns and by serials (some 100 million turns each).
 //! `compare --streams`: the starts of all streams, steps along each and steps of other states.
+//! `compare --counts`: the counter of low bytes at all lengths to 4,096 and all addresses modulo 64.
 
+mod counts;
 mod lent;
 mod long;
 mod records;
@@ -29,6 +31,7 @@ fn main() {
             "--coverage" => coverage = true,
             "--check" => check(),
             "--long" => exit(i32::from(!long::compare())),
+            "--counts" => exit(i32::from(!counts::compare())),
             "--streams" => exit(i32::from(!streams::compare())),
             text => match text.parse::<u64>() {
                 Ok(number) => numbers.push(number),
@@ -43,7 +46,7 @@ fn main() {
 
 fn usage() -> ! {
     eprintln!("usage: compare N SEED [--small] [--coverage]");
-    eprintln!("       compare --check | --long | --streams");
+    eprintln!("       compare --check | --long | --streams | --counts");
     exit(2);
 }
 

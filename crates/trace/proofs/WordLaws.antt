@@ -1,9 +1,9 @@
 -- Laws of words: what a word holds, its marks for every word, and marks of neighbouring parts added.
-use Prim.Native.Nat.{ℕ, zero, suc, _+_, _*_, _-_, _/_, _%_, _^_, _≤_, _<_}
+use Prim.Native.Nat.{ℕ, zero, suc, _+_, _*_, _/_, _%_, _^_, _<_}
 use native.Mathlib.Nat.{add-comm, zero-add, suc-add, mul-comm, mul-assoc, pow-suc, mod-eq-of-lt, add-mod, mul-add-mod-self-left, add-mul-mod-self-right, add-mul-div-right}
 use native.Mathlib.Omega.{arith}
 use mathlib.Core.Bool.{Bool, true, false, cond}
-use mathlib.Core.List.{List, [], _∷_, _++_}
+use mathlib.Core.List.{List, _∷_, _++_}
 use mathlib.Core.Path.{_≡_, refl, sym, ap, _∙_, subst}
 use lib.Arith.{digits-lt}
 use lib.Bits.{bitAnd, and-block, and-mask, and-le-r, and-zero-r}
@@ -14,7 +14,7 @@ use lib.Seq.{take-add, drop-drop, drop-cons}
 use borrow.Author.Tests.{ltb-true, ltb-false}
 use Rattle.machine.specs.Number.{countLow}
 use Rattle.trace.proofs.Counting.{countLow-append}
-use Rattle.trace.specs.Words.{part, bytesOf, Holds, Marks}
+use Rattle.trace.specs.Words.{part, bytesOf, Holds, ones, Marks}
 
 -- ---- Parts of a list
 
@@ -56,9 +56,9 @@ holds-byte s at h e small = record { bytes = rw (drop-cons s at 0 h, ← e, mod-
 -- ---- The marks of a word
 
 -- a 1 in each of n bytes
-ones : ℕ → ℕ
-ones zero = 0
-ones (suc n) = ones n * 256 + 1
+onesOf : ℕ → ℕ
+onesOf zero = 0
+onesOf (suc n) = onesOf n * 256 + 1
 
 -- one for each of the n lowest bytes that is not low
 highs : ℕ → ℕ → ℕ
@@ -70,17 +70,17 @@ above : ℕ → ℕ → ℕ
 above zero w = 0
 above (suc n) w = 256 * above n (w / 256) + highs n (w / 256)
 
-marks-step : (n w : ℕ) → bitAnd (w / 128) (ones (suc n)) ≡ bitAnd (w / 256 / 128) (ones n) * 256 + w % 256 / 128
-unfolding ones
+marks-step : (n w : ℕ) → bitAnd (w / 128) (onesOf (suc n)) ≡ bitAnd (w / 256 / 128) (onesOf n) * 256 + w % 256 / 128
+unfolding onesOf
 marks-step n w =
     let parts : w / 128 ≡ w / 256 / 128 * 256 + w / 128 % 256 = omega arith in
     let lowest : w / 128 % 256 % 2 ≡ w % 256 / 128 = omega arith in
-    ap (λ (x : ℕ). bitAnd x (ones n * 256 + 1)) parts
-    ∙ and-block 8 (w / 256 / 128) (ones n) (w / 128 % 256) 1 (omega arith) (omega arith)
-    ∙ ap (λ (x : ℕ). bitAnd (w / 256 / 128) (ones n) * 256 + x) (and-mask (w / 128 % 256) 1 ∙ lowest)
+    ap (λ (x : ℕ). bitAnd x (onesOf n * 256 + 1)) parts
+    ∙ and-block 8 (w / 256 / 128) (onesOf n) (w / 128 % 256) 1 (omega arith) (omega arith)
+    ∙ ap (λ (x : ℕ). bitAnd (w / 256 / 128) (onesOf n) * 256 + x) (and-mask (w / 128 % 256) 1 ∙ lowest)
 
-marks-above : (n w : ℕ) → bitAnd (w / 128) (ones n) ≡ 255 * above n w + highs n w
-unfolding ones above highs
+marks-above : (n w : ℕ) → bitAnd (w / 128) (onesOf n) ≡ 255 * above n w + highs n w
+unfolding onesOf above highs
 marks-above zero w = and-zero-r (w / 128)
 marks-above (suc n) w = let rest = marks-above n (w / 256) in omega (arith, marks-step n w, rest)
 
@@ -94,13 +94,13 @@ all-bytes (suc n) w = go (ltb (w % 256) 128) refl (countLow (bytesOf n (w / 256)
     go true e low high h = omega (arith, ltb-true (w % 256) 128 e)
     go false e low high h = omega (arith, ltb-false (w % 256) 128 e)
 
-pub word-marks : (w : ℕ) → Marks 8 (bytesOf 8 w) (bitAnd (w / 128) 72340172838076673)
-unfolding ones
+pub word-marks : (w : ℕ) → Marks 8 (bytesOf 8 w) (bitAnd (w / 128) ones)
+unfolding onesOf
 word-marks w =
     let bytes = all-bytes 8 w in
-    let rest : bitAnd (w / 128) 72340172838076673 % 255 ≡ highs 8 w =
+    let rest : bitAnd (w / 128) ones % 255 ≡ highs 8 w =
     ap (λ (x : ℕ). x % 255) (marks-above 8 w) ∙ mul-add-mod-self-left 255 (above 8 w) (highs 8 w) ∙ mod-eq-of-lt (omega arith) in
-    record { left = omega arith; small = omega (arith, and-le-r (w / 128) 72340172838076673) }
+    record { left = omega arith; small = omega (arith, and-le-r (w / 128) ones) }
 
 -- ---- Marks added
 
@@ -108,10 +108,6 @@ marks-join : {n m r q : ℕ} {l k : List ℕ} → Marks n l r → Marks m k q �
 marks-join {n} {m} {r} {q} {l} {k} a b few =
     let sum : (r + q) % 255 ≡ r % 255 + q % 255 = add-mod r q 255 ∙ mod-eq-of-lt (omega (arith, a .left, b .left)) in
     record { left = omega (arith, a .left, b .left, countLow-append l k); small = omega (arith, a .small, b .small) }
-
--- what is left of the bytes is the count
-pub marks-count : {n r : ℕ} {l : List ℕ} → Marks n l r → (n - r % 255 ≡ countLow l) × (n - r % 255 ≤ n)
-marks-count m = (omega (arith, m .left), omega arith)
 
 -- ---- Neighbouring parts
 

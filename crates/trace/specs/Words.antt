@@ -19,7 +19,11 @@ pub record Holds (n : ℕ) (l : List ℕ) (w : ℕ) : Type 0 where
   pub bytes : bytesOf n w ≡ l
   pub below : w < 256 ^ n
 
+-- a 1 in each of the eight bytes of a word
+abbrev pub ones : ℕ
+ones = 72340172838076673
+
 -- a number that leaves, modulo 255, how many of these n bytes are not low
 pub record Marks (n : ℕ) (l : List ℕ) (r : ℕ) : Type 0 where
   pub left : countLow l + r % 255 ≡ n
-  pub small : r ≤ n * 72340172838076673
+  pub small : r ≤ n * ones

@@ -6,7 +6,10 @@ ghost use lib.ListN.{length};
 ghost use Rattle.machine.specs.Number.{countLow};
 ghost use Rattle.trace.specs.Words.{part, bytesOf, Holds, Marks};
 
-// A 1 in each of the eight bytes.
+// Low is what is below 80 hexadecimal.
+const LOW: u8 = 0x80;
+
+// A 1 in each of the eight bytes of a word.
 const ONES: u64 = 0x0101_0101_0101_0101;
 
 fn wide(b: u8) -> u64
@@ -41,7 +44,7 @@ fn word_at(s: &[u8], at: usize) -> u64
 fn marks(word: u64) -> u64
     ensures { λ r. ⌜ Marks 8 (bytesOf 8 word) r ⌝ }
 {
-    word / 128 & ONES
+    word / 0x80 & ONES
 }
 
 fn marks_at(s: &[u8], at: usize) -> u64
@@ -91,7 +94,7 @@ pub fn count_1(s: &[u8], at: usize) -> u64
     requires { ⌜ at + 1 ≤ length (now s) ⌝ }
     ensures { λ r. ⌜ (r ≡ countLow (part (now (s .entry)) at 1)) × (r ≤ 1) ⌝ }
 {
-    if s[at] < 128 {
+    if s[at] < LOW {
         return 1;
     }
     0

@@ -1,5 +1,4 @@
 -- `words::marks` meets its contract: the law of a word's marks, for every word.
-use borrow.Author.Needs.{needs}
 use Rattle.trace.proofs.WordLaws.{word-marks}
 use Rattle.trace.proofs.words.marks.Statement.{statement}
 use Rattle.trace.proofs.words.marks.Tie as tie
