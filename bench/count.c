@@ -1,9 +1,10 @@
 /* Gigabytes a second of the counter of low bytes: the proved counter through the static library, that of an earlier library if one is
- * given, a loop of single bytes and a plain loop that the compiler may turn into wide instructions. */
+ * given, a loop of single bytes and a plain loop that the compiler may turn into wide instructions. Last, a sum of 64-bit numbers: reading once. */
 #include "covrith.h"
 
 #include <stdio.h>
 #include <stdlib.h>
+#include <string.h>
 #include <time.h>
 
 enum { ROUNDS = 7 };
@@ -34,6 +35,16 @@ static uint64_t __attribute__((noinline)) plain(const uint8_t *s, size_t length)
     for (size_t i = 0; i < length; i++)
         count += s[i] < 0x80;
     return count;
+}
+
+static uint64_t __attribute__((noinline)) reading(const uint8_t *s, size_t length) {
+    uint64_t sum = 0;
+    for (size_t i = 0; i < length / 8; i++) {
+        uint64_t word;
+        memcpy(&word, s + 8 * i, 8);
+        sum += word;
+    }
+    return sum;
 }
 
 static int rising(const void *a, const void *b) {
@@ -81,6 +92,7 @@ int main(void) {
         uint64_t before = covrith_count_before ? measure("the same before", covrith_count_before, s, length, calls) : words;
         uint64_t single = measure("single bytes in C", by_bytes, s, length, calls);
         uint64_t c = measure("plain loop in C", plain, s, length, calls);
+        measure("reading once", reading, s, length, calls);
         if (before != words || single != words || c != words)
             return 1;
     }
