@@ -26,7 +26,7 @@ across x c a y d b p e f =
     eq-of-mul-eq-mul-right c p (x * d) (b * y)
     (mul-right-comm x d c ∙ ap (λ (z : ℕ). z * d) e ∙ mul-right-comm a y d ∙ ap (λ (z : ℕ). z * y) (sym f) ∙ mul-right-comm b c y)
 
-zero-left : (b c : ℕ) → 0 < c → b * c ≡ 0 → b ≡ 0
+pub zero-left : (b c : ℕ) → 0 < c → b * c ≡ 0 → b ≡ 0
 zero-left b c p e = eq-of-mul-eq-mul-right c p b 0 (e ∙ sym (zero-mul c))
 
 pub is-rescaled : (x : Float) (a c b d : ℕ) → 0 < c → b * c ≡ a * d → Is x a c → Is x b d
@@ -36,7 +36,7 @@ is-rescaled (fin false m x) a c b d p e h = across (m * up x) c a (down x) d b p
 is-rescaled (fin true m x) a c b d p e h = (h .0, zero-left b c p (e ∙ ap (λ (z : ℕ). z * d) (h .1) ∙ zero-mul d))
 
 -- from the library's own statement
-no-true : {A : Type 0} → true ≡ false → A
+pub no-true : {A : Type 0} → true ≡ false → A
 no-true e = let z : _≡_ {A = ℕ} 0 1 = ap (λ (b : Bool). cond b 0 1) e in absurd (omega arith)
 
 pub value-is : (x : Float) (s : Bool) (a c : ℕ) → 0 < c → (s ≡ true → a ≡ 0) → HasValue x s a c → Is x a c
