@@ -1,4 +1,4 @@
-/* Covrith: one run of a block model on a tape, and the records of its trace.
+/* Covrith: one run of a block model on a tape, the records of its trace, and streams of random numbers.
  *
  * Link target/staticlib/libcovrith.a, which `rt staticlib covrith` writes (x86-64 Linux).
  *
@@ -74,6 +74,19 @@ uint32_t covrith_write_record(uint8_t *rest, size_t rest_len,
 
 /* How many bytes of a trace are below 80 hexadecimal: of a trace that reads, four for each record. */
 uint64_t covrith_count(const uint8_t *trace, size_t trace_len);
+
+/* Streams of the generator of Park and Miller (1988), the same on each machine. The states of a stream are
+ * numbers from 1 to 2147483646. */
+#define COVRITH_STREAMS 512
+
+/* Where a stream begins.
+ *
+ * Answers 0 and writes the state before the stream's first step, 16807 to the power 100000 * stream modulo
+ * 2147483647, to `state`; or answers 41 for a stream above 511 and writes nothing. */
+uint32_t covrith_stream_start(uint32_t stream, uint32_t *state);
+
+/* The state that follows: state * 16807 modulo 2147483647, for every 32-bit state. */
+uint32_t covrith_stream_step(uint32_t state);
 
 #ifdef __cplusplus
 }

@@ -2,12 +2,14 @@
 //! `reference/`, each with readings and writings of trace records. Ends at the first that differs, printed and shrunk.
 //! `compare --check`: the same for the cases of standard input, printed as by `cases` of `reference/`.
 //! `compare --long`: the two runs that reach end 26, by turns and by serials (some 100 million turns each).
+//! `compare --streams`: the starts of all streams, steps along each and steps of other states.
 
 mod lent;
 mod long;
 mod records;
 mod runs;
 mod shrink;
+mod streams;
 mod table;
 
 use records::Answers;
@@ -27,6 +29,7 @@ fn main() {
             "--coverage" => coverage = true,
             "--check" => check(),
             "--long" => exit(i32::from(!long::compare())),
+            "--streams" => exit(i32::from(!streams::compare())),
             text => match text.parse::<u64>() {
                 Ok(number) => numbers.push(number),
                 Err(_) => usage(),
@@ -40,7 +43,7 @@ fn main() {
 
 fn usage() -> ! {
     eprintln!("usage: compare N SEED [--small] [--coverage]");
-    eprintln!("       compare --check | --long");
+    eprintln!("       compare --check | --long | --streams");
     exit(2);
 }
 

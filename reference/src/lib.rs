@@ -14,6 +14,7 @@ pub mod number;
 pub mod report;
 pub mod run;
 pub mod stored;
+pub mod streams;
 pub mod tape;
 pub mod terms;
 pub mod text;

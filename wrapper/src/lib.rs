@@ -1,4 +1,4 @@
-//! The proved engine for Rust: a run of a block model on a tape, and the records of its trace.
+//! The proved engine for Rust: a run of a block model on a tape, the records of its trace, and streams of random numbers.
 //! Safe functions over slices; nothing is allocated and nothing is kept between calls.
 
 pub mod sys;
@@ -128,6 +128,39 @@ pub fn write_record(rest: &mut [u8], record: Record) -> Result<usize, u32> {
 pub fn count(trace: &[u8]) -> u64 {
     // SAFETY: as for `run`.
     unsafe { sys::covrith_count(trace.as_ptr(), trace.len()) }
+}
+
+/// How many streams there are.
+pub const STREAMS: u32 = 512;
+
+/// The states of a stream one after the other, each drawn from the one before: the generator of Park and Miller.
+#[derive(Clone, Copy, Debug, PartialEq, Eq)]
+pub struct Stream {
+    state: u32,
+}
+
+impl Stream {
+    /// Stream 0 to 511, before its first draw; or 41.
+    pub fn new(stream: u32) -> Result<Stream, u32> {
+        let mut state = 0;
+        // SAFETY: one number is lent.
+        match unsafe { sys::covrith_stream_start(stream, &mut state) } {
+            0 => Ok(Stream { state }),
+            refusal => Err(refusal),
+        }
+    }
+
+    /// The state that the next draw steps.
+    pub fn state(&self) -> u32 {
+        self.state
+    }
+
+    /// Steps, and gives the new state, 1 to 2,147,483,646.
+    pub fn draw(&mut self) -> u32 {
+        // SAFETY: a number goes in and a number comes out.
+        self.state = unsafe { sys::covrith_stream_step(self.state) };
+        self.state
+    }
 }
 
 /// The records of a trace one after the other; a refusal is the last item.

@@ -34,4 +34,8 @@ extern "C" {
     ) -> u32;
 
     pub fn covrith_count(trace: *const u8, trace_len: usize) -> u64;
+
+    pub fn covrith_stream_start(stream: u32, state: *mut u32) -> u32;
+
+    pub fn covrith_stream_step(state: u32) -> u32;
 }

@@ -1,6 +1,6 @@
-//! The first example of document 01, a trace there and back, and the refusals of reader and writer.
+//! The first example of document 01, a trace there and back, the refusals of reader and writer, and streams.
 
-use covrith::{count, read_record, run, write_record, Outcome, Record, Records};
+use covrith::{count, read_record, run, write_record, Outcome, Record, Records, Stream};
 
 const MODEL: [u8; 19] = [1, 1, 0, 0, 0, 2, 2, 5, 1, 1, 0, 4, 1, 2, 2, 5, 1, 3, 1];
 const TAPE: [u8; 6] = [2, 3, 2, 2, 5, 4];
@@ -60,4 +60,19 @@ fn refusals() {
     assert_eq!(records.position(), 4);
     assert_eq!(write_record(&mut [0; 12], record(0, 1, 1, 2)), Err(32));
     assert_eq!(write_record(&mut [0; 4], record(128, 1, 1, 0)), Err(33));
+}
+
+#[test]
+fn streams() {
+    let mut first = Stream::new(0).unwrap();
+    let drawn: Vec<u32> = (0..10_000).map(|_| first.draw()).collect();
+    assert_eq!(drawn[..3], [16_807, 282_475_249, 1_622_650_073]);
+    assert_eq!(drawn[9_999], 1_043_618_065);
+    for _ in 10_000..100_000 {
+        first.draw();
+    }
+    assert_eq!(Stream::new(1), Ok(first));
+    assert_eq!(Stream::new(511).unwrap().state(), 532_345_071);
+    assert_eq!(Stream::new(512), Err(41));
+    assert_eq!(Stream::new(u32::MAX), Err(41));
 }

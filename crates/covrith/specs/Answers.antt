@@ -2,6 +2,8 @@
 use Prim.Native.Nat.{ℕ}
 use mathlib.Core.List.{List, [], _∷_}
 use lib.ListN.{length}
+use Rattle.streams.specs.declared.Started.{Started}
+use Rattle.streams.specs.declared.Started.the-variants.{State, Refused}
 use Rattle.machine.specs.Trace.{Reading, taken, refusal, noMore, Writing, written, rejected}
 
 -- ---- Reader: 0 and five numbers, or 30 for "no more", 31 or 32; a refusal leaves the numbers as they were
@@ -26,3 +28,13 @@ writeAnswer (rejected n) = n
 unfoldable pub writeCount : Writing → ℕ
 writeCount (written b) = length b
 writeCount (rejected _) = 0
+
+-- ---- Start of a stream: 0 and the state, or 41, and the state stays as it was
+
+unfoldable pub startAnswer : Started → ℕ
+startAnswer (State _) = 0
+startAnswer (Refused n) = n
+
+unfoldable pub startState : Started → ℕ → ℕ
+startState (State s) _ = s
+startState (Refused _) before = before

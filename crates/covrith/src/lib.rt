@@ -1,5 +1,6 @@
 // Covrith for other languages: functions that C, or Rust by C's calling convention, can call. include/covrith.h declares them.
 // A slice crosses the boundary as a pointer and a length in elements.
+use streams::Started;
 use trace::Reading;
 use trace::Written;
 ghost use mathlib.Core.Path.{_≡_};
@@ -8,7 +9,8 @@ ghost use Rattle.machine.specs.Number.{countLow};
 ghost use Rattle.machine.specs.Trace.{readRecord, writeRecord};
 ghost use Rattle.trace.specs.Answers.{entry, after};
 ghost use Rattle.engine.specs.Contract.{Contract};
-ghost use Rattle.covrith.specs.Answers.{readAnswer, readNumbers, writeAnswer, writeCount};
+ghost use Rattle.streams.specs.Stream.{next, startOf};
+ghost use Rattle.covrith.specs.Answers.{readAnswer, readNumbers, writeAnswer, writeCount, startAnswer, startState};
 ghost use Rattle.covrith.specs.Results.{results};
 
 // One run of a model on a tape. `outcome` gets the eight results.
@@ -85,4 +87,27 @@ pub extern "C" fn covrith_count(trace: &[u8]) -> u64
     ensures { λ r. ⌜ r ≡ countLow (now (trace .entry)) ⌝ }
 {
     trace::count_low(trace)
+}
+
+// Where a stream begins: `state` gets the state before its first step. 41 for a stream above 511.
+#[no_mangle]
+pub extern "C" fn covrith_stream_start(stream: u32, state: &mut u32) -> u32
+    ensures { λ r. ⌜ r ≡ startAnswer (startOf stream) ⌝ }
+    ensures { λ _. ⌜ now (state .exit) ≡ startState (startOf stream) (now (state .entry)) ⌝ }
+{
+    match streams::start(stream) {
+        Started::State(first) => {
+            *state = first;
+            0
+        }
+        Started::Refused(n) => n,
+    }
+}
+
+// The state that follows a state.
+#[no_mangle]
+pub extern "C" fn covrith_stream_step(state: u32) -> u32
+    ensures { λ r. ⌜ r ≡ next state ⌝ }
+{
+    streams::step(state)
 }
