@@ -49,7 +49,7 @@ value-is (fin true m x) s a c p z h =
     (zero-left m (up x * c) (mul-pos (up-pos x) p) e, a0)
 
 -- the size, whatever the sign
-size-of : (s : Bool) (m : ℕ) (e : ℤ) (a c : ℕ) → 0 < c → Is (fin s m e) a c → m * up e * c ≡ a * down e
+pub size-of : (s : Bool) (m : ℕ) (e : ℤ) (a c : ℕ) → 0 < c → Is (fin s m e) a c → m * up e * c ≡ a * down e
 size-of false m e a c p h = h
 size-of true m e a c p h = rw (h .0, h .1, zero-mul (up e), zero-mul c, zero-mul (down e))
 

@@ -1,17 +1,17 @@
 -- Whole parts, equality and small whole numbers of doubles, pure.
 use Prim.Native.Nat.{ℕ, suc, _+_, _-_, _*_, _/_, _^_, _≤_, _<_, min}
-use native.Mathlib.Nat.{le-of-eq, mul-one, one-mul, mul-comm, mul-right-comm, zero-mul, zero-div, mul-pos, div-lt-iff-lt-mul, min-eq-left, eq-of-mul-eq-mul-right}
+use native.Mathlib.Nat.{zero-add, le-of-eq, mul-one, one-mul, mul-comm, mul-right-comm, zero-mul, zero-div, mul-pos, div-lt-iff-lt-mul, min-eq-left, eq-of-mul-eq-mul-right, mul-le-mul-right, mul-lt-mul-of-pos-right, le-of-mul-le-mul-right, lt-of-mul-lt-mul-right}
 use native.Mathlib.Omega.{arith}
 use mathlib.Core.Bool.{Bool, true, false, cond, _&&_, _||_, Bool·beq}
 use mathlib.Core.Path.{_≡_, refl, sym, ap, _∙_, subst}
 use lib.IntN.{ℤ, pos}
 use lib.Dec.{ltb, eqb, lit≤}
-use borrow.Author.Tests.{lt-ltb, eq-eqb, eqb-true}
-use lib.Ieee.{Float, nan, inf, fin, binary64, prec, low, up, down, lt, eq, toUnsigned, ofInt}
+use borrow.Author.Tests.{lt-ltb, le-ltb, ltb-true, ltb-false, eq-eqb, eqb-true}
+use lib.Ieee.{Float, nan, inf, fin, binary64, prec, up, down, below, lt, eq, toUnsigned, ofInt}
 use lib.Ieee.Fits.{up-pos, down-pos}
 use lib.Ieee.Nearest.{div-same}
 use Rattle.floats.specs.Value.{Is, wholePart}
-use Rattle.floats.proofs.Values.{Rounds, rounds-exact, no-true, zero-left}
+use Rattle.floats.proofs.Values.{rounds-exact, no-true, zero-left, size-of, first, second}
 
 -- ---- Whole part
 
@@ -135,6 +135,43 @@ module _ (a c : ℕ) (p : 0 < c) where
       let same : m * up e * down d ≡ n * up d * down e = eqb-true _ _ (g .0) in
       let A0 : m * up e * down d ≡ 0 = rw (h .0, zero-mul (up e), zero-mul (down d)) in
       (no-size n d (zero-left (n * up d) (down e) (down-pos e) (sym same ∙ A0)), h .1)
+
+-- ---- Order
+
+-- of sizes over one denominator D
+module _ (A B D a b c : ℕ) (p : 0 < c) (q : 0 < D) (e : A * c ≡ a * D) (f : B * c ≡ b * D) where
+  same-order : ltb A B ≡ ltb a b
+  same-order = go (ltb a b) refl
+    where
+      go : (t : Bool) → ltb a b ≡ t → ltb A B ≡ t
+      go true g =
+          let h : a * D < b * D = mul-lt-mul-of-pos-right (ltb-true a b g) q in
+          lt-ltb A B (lt-of-mul-lt-mul-right c (omega arith))
+      go false g =
+          let h : b * D ≤ a * D = mul-le-mul-right D (ltb-false a b g) in
+          le-ltb A B (le-of-mul-le-mul-right {k = c} (omega arith) p)
+
+-- signs of zeros do not matter
+below-is : (s t : Bool) (A B : ℕ) → (s ≡ true → A ≡ 0) → (t ≡ true → B ≡ 0) → below s A t B ≡ ltb A B
+below-is false false A B h k = refl
+below-is false true A B h k = sym (rw (k refl) (le-ltb A 0 (omega arith)))
+below-is true false A B h k = rw (h refl, zero-add B)
+below-is true true A B h k = rw (h refl, k refl)
+
+no-number : (s : Bool) (m : ℕ) (e d : ℤ) (a c : ℕ) → Is (fin s m e) a c → s ≡ true → m * up e * down d ≡ 0
+no-number false m e d a c h t = no-true (sym t)
+no-number true m e d a c h t = rw (h .0, zero-mul (up e), zero-mul (down d))
+
+pub order-is : (x y : Float) (a b c : ℕ) → 0 < c → Is x a c → Is y b c → lt x y ≡ ltb a b
+unfolding lt
+order-is nan y a b c p h k = absurd h
+order-is (inf s) y a b c p h k = absurd h
+order-is (fin s m e) nan a b c p h k = absurd k
+order-is (fin s m e) (inf t) a b c p h k = absurd k
+order-is (fin s m e) (fin t n d) a b c p h k =
+    below-is s t (m * up e * down d) (n * up d * down e) (no-number s m e d a c h) (no-number t n d e b c k)
+    ∙ same-order (m * up e * down d) (n * up d * down e) (down e * down d) a b c p (mul-pos (down-pos e) (down-pos d))
+    (first c p m n a b e d (size-of s m e a c p h)) (second c p m n a b e d (size-of t n d b c p k))
 
 -- ---- A whole number as a double
 

@@ -1,2 +1,4 @@
 pub mod Reading
 pub mod Curves
+pub mod Lists
+pub mod Drawing

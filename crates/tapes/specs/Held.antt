@@ -5,6 +5,7 @@ use mathlib.Core.Option.{Option, none, some}
 use mathlib.Core.Path.{_≡_}
 use lib.Ieee.{Float, nan}
 use lib.ListN.{length, getD}
+use lib.Seq.{sets}
 use Rattle.floats.specs.Limits.{timeParts, maxTimeParts, drawParts}
 use Rattle.floats.specs.Value.{Is}
 use Rattle.floats.specs.Line.{Width, Ends}
@@ -15,8 +16,9 @@ use Rattle.tapes.specs.declared.Choice.{Choice}
 use Rattle.tapes.specs.declared.Choice.the-variants.{Taken, Refused}
 use Rattle.tapes.specs.declared.Row.{Row}
 use Rattle.tapes.specs.declared.Row.the-variants.{Given, Barred}
-use Rattle.tapes.specs.Source.{Point, Source, fixed, spread, curve, Between, around}
+use Rattle.tapes.specs.Source.{Point, Source, fixed, spread, curve, Between, stateAfter}
 use Rattle.tapes.specs.Given.{Listed}
+use Rattle.tapes.specs.Tape.{timesBytes}
 
 -- the two doubles of a point
 pub record PointIs (numbers : List Float) (at : ℕ) (p : Point) : Type 0 where
@@ -55,9 +57,19 @@ Listing numbers (Given d n) (some l) = Meant numbers d (l .source) × (n ≡ l .
 Listing numbers Barred none = Unit {0}
 Listing numbers Barred (some l) = ⊥
 
--- a segment's doubles are those of the points around v
-pub record Surrounds (s : Segment) (p : Point) (l : List Point) (v : ℕ) : Type 0 where
-  pub ends : Ends (s .u0) (s .time0) (s .u1) (s .time1)
-      (around p l v .from .u) (around p l v .from .time) (around p l v .to .u) (around p l v .to .time)
-  pub from-most : around p l v .from .u ≤ v
-  pub to-least : v ≤ around p l v .to .u
+-- a segment's doubles are those of two points around v
+pub record Surrounds (s : Segment) (b : Between) (v : ℕ) : Type 0 where
+  pub ends : Ends (s .u0) (s .time0) (s .u1) (s .time1) (b .from .u) (b .from .time) (b .to .u) (b .to .time)
+  pub from-most : b .from .u ≤ v
+  pub to-least : v ≤ b .to .u
+
+-- ---- A list's times, measured and written
+
+pub record TimesMeasured (s : Source) (count state bytes behind : ℕ) : Type 0 where
+  pub length-is : bytes ≡ length (timesBytes s count state)
+  pub state-is : behind ≡ stateAfter s count state
+
+pub record TimesWritten (s : Source) (count state at : ℕ) (before after : List ℕ) (position behind : ℕ) : Type 0 where
+  pub bytes-are : after ≡ sets before at (timesBytes s count state)
+  pub position-is : position ≡ at + length (timesBytes s count state)
+  pub state-is : behind ≡ stateAfter s count state

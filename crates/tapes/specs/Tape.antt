@@ -11,7 +11,7 @@ use Rattle.machine.specs.Number.{numberBytes}
 use Rattle.streams.specs.declared.Started.{Started}
 use Rattle.streams.specs.declared.Started.the-variants.{State, Refused}
 use Rattle.streams.specs.Stream.{startOf}
-use Rattle.tapes.specs.Source.{timesOf, stateAfter}
+use Rattle.tapes.specs.Source.{Source, timesOf, stateAfter}
 use Rattle.tapes.specs.Given.{Listed, listsOf}
 
 -- ---- Bytes
@@ -23,10 +23,16 @@ bytesOf l = flat (map numberBytes l)
 unfoldable pub listNumbers : Listed → ℕ → List ℕ
 listNumbers l state = l .count ∷ timesOf (l .source) (l .count) state
 
+abbrev pub timesBytes : Source → ℕ → ℕ → List ℕ
+timesBytes s count state = bytesOf (timesOf s count state)
+
 -- "The stream runs on through the lists in order."
 unfoldable pub tapeNumbers : List Listed → ℕ → List ℕ
 tapeNumbers [] state = []
 tapeNumbers (l ∷ ls) state = listNumbers l state ++ tapeNumbers ls (stateAfter (l .source) (l .count) state)
+
+abbrev pub tapeBytes : List Listed → ℕ → List ℕ
+tapeBytes ls state = bytesOf (tapeNumbers ls state)
 
 -- the times alone, list by list
 unfoldable pub tapeTimes : List Listed → ℕ → List (List ℕ)
@@ -47,7 +53,7 @@ fitted room bytes = cond (leb (length bytes) room) (made bytes) (refusal 43)
 -- "list by list, 42 a distribution or count outside these rules or a seventeenth"
 unfoldable pub fromLists : Option (List Listed) → ℕ → ℕ → Making
 fromLists none state room = refusal 42
-fromLists (some ls) state room = fitted room (bytesOf (tapeNumbers ls state))
+fromLists (some ls) state room = fitted room (tapeBytes ls state)
 
 -- "after 41"
 unfoldable pub fromStart : Started → Option (List Listed) → ℕ → Making

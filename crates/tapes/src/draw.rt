@@ -7,7 +7,7 @@ ghost use Prim.Native.Nat.{ℕ, _+_, _≤_, _<_};
 ghost use Rattle.floats.specs.Limits.{drawParts, maxTime};
 ghost use Rattle.floats.specs.Value.{Is};
 ghost use Rattle.streams.specs.Stream.{Inside};
-ghost use Rattle.tapes.specs.Source.{Point, Source, drawOf, after, timeOf};
+ghost use Rattle.tapes.specs.Source.{Point, Source, drawOf, around, after, timeOf};
 ghost use Rattle.tapes.specs.Held.{Points, Meant, Surrounds};
 
 // "(r - 1) divided by 32,768, whole part"
@@ -29,7 +29,7 @@ pub fn uniform(r: u32) -> f64
 
 // The segment of a curve around u. The last u of a curve is 1, so the walk ends inside it.
 pub fn segment(numbers: &[f64], first: u32, u: f64) -> Segment
-    ensures { λ r. ⌜ ((p : Point) (l : List Point) (v : ℕ) → Points (now (numbers .entry)) first p l → p .u ≤ v → v < drawParts → Is u v drawParts → Surrounds r p l v) ⌝ }
+    ensures { λ r. ⌜ ((p : Point) (l : List Point) (v : ℕ) → Points (now (numbers .entry)) first p l → p .u ≤ v → v < drawParts → Is u v drawParts → Surrounds r (around p l v) v) ⌝ }
 {
     let mut at = first as usize;
     while at + 3 < numbers.len() {

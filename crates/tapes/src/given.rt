@@ -7,6 +7,7 @@ ghost use mathlib.Core.Path.{_≡_};
 ghost use Prim.Native.Nat.{ℕ, _+_, _*_, _≤_, _<_};
 ghost use lib.ListN.{length};
 ghost use Rattle.floats.specs.Answers.{countOf};
+ghost use Rattle.tapes.specs.Limits.{mostTimes};
 ghost use Rattle.tapes.specs.Given.{timeAt, uAt, fixedAt, spreadAt, pointAt, pointsBehind, curveAt, sourceAt, listAt, listsFrom};
 ghost use Rattle.tapes.specs.Held.{Chosen, Listing};
 ghost use Rattle.tapes.specs.Answers.{pointOf, stepOf, corner, isGiven};
@@ -110,15 +111,15 @@ pub fn next_point(numbers: &[f64], at: usize, u: u64, time: u64) -> Point
     Point::At(v, t)
 }
 
-// Whether that many points from an index on may follow the one at u and time, the last at 1.
-pub fn points_behind(numbers: &[f64], start: usize, count: u32, from_u: u64, from_time: u64) -> bool
+// Whether that many points from an index on may follow the one at u0 and time0, the last at 1.
+pub fn points_behind(numbers: &[f64], start: usize, count: u32, u0: u64, time0: u64) -> bool
     requires { ⌜ start ≤ 4294967297 ⌝ }
-    ensures { λ r. ⌜ r ≡ isGiven (pointsBehind (now (numbers .entry)) count start (corner from_u from_time)) ⌝ }
+    ensures { λ r. ⌜ r ≡ isGiven (pointsBehind (now (numbers .entry)) count start (corner u0 time0)) ⌝ }
 {
     let mut left = count;
     let mut at = start;
-    let mut u = from_u;
-    let mut time = from_time;
+    let mut u = u0;
+    let mut time = time0;
     while 0 < left {
         let Point::At(v, t) = next_point(numbers, at, u, time) else {
             return false;
@@ -175,6 +176,7 @@ pub fn choose(numbers: &[f64], kind: u32, first: u32, points: u32) -> Choice
 pub fn list_at(lists: &[u32], numbers: &[f64], k: usize) -> Row
     requires { ⌜ k * 4 + 3 < length (now lists) ⌝ }
     ensures { λ r. ⌜ Listing (now (numbers .entry)) r (listAt (now (lists .entry)) (now (numbers .entry)) k) ⌝ }
+    ensures inside { λ r. ⌜ ((d : Distribution) (n : ℕ) → r ≡ Row.Given d n → n ≤ mostTimes) ⌝ }
 {
     let at = k * 4;
     let count = lists[at + 1];

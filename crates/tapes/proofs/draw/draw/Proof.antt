@@ -1,96 +1,43 @@
+-- `tapes::draw` meets its contract: kind by kind.
+use mathlib.Core.Path.{_∙_}
+use Rattle.tapes.proofs.Drawing.{fixed-drawn, spread-drawn, curve-drawn}
 use borrow.Author.Needs.{needs}
 use Rattle.tapes.proofs.draw.draw.Statement.{statement}
 use Rattle.tapes.proofs.draw.draw.Tie as tie
-use Rattle.tapes.proofs.draw.draw.Reads as reads
-use Rattle.tapes.proofs.draw.draw.Lts as lts
-use Rattle.floats.proofs.interpolate.Reads as interpolate-reads
-use Rattle.floats.proofs.spread.Reads as spread-reads
-use Rattle.floats.proofs.whole_part.Reads as whole-part-reads
-use Rattle.streams.proofs.step.Reads as step-reads
-use Rattle.tapes.proofs.draw.segment.Reads as segment-reads
-use Rattle.tapes.proofs.draw.uniform.Reads as uniform-reads
 
--- src/draw.rt:61:29
-enum-known-d : tie.Need-enum-known-d
-enum-known-d c = search needs
-
--- src/draw.rt:62:19
-whole-part-requires : tie.Need-whole-part-requires
-whole-part-requires c κs = search needs
-
--- src/draw.rt:65:30
-enum-known-d-2 : tie.Need-enum-known-d-2
-enum-known-d-2 c = search needs
-
--- src/draw.rt:66:17
-step-requires : tie.Need-step-requires
-step-requires c κs = search needs
-
--- src/draw.rt:67:17
 uniform-requires : tie.Need-uniform-requires
-uniform-requires c κs = ?
+uniform-requires c κs = c .step .ensures .1 (c .before .before .before .before .before .pre)
 
--- src/draw.rt:69:42
-spread-requires : tie.Need-spread-requires
-spread-requires c κs = search needs
-
--- src/draw.rt:69:23
-whole-part-requires-2 : tie.Need-whole-part-requires-2
-whole-part-requires-2 c κs = search needs
-
--- src/draw.rt:73:29
-enum-known-d-3 : tie.Need-enum-known-d-3
-enum-known-d-3 c = search needs
-
--- src/draw.rt:74:17
-step-requires-2 : tie.Need-step-requires-2
-step-requires-2 c κs = search needs
-
--- src/draw.rt:75:17
 uniform-requires-2 : tie.Need-uniform-requires-2
-uniform-requires-2 c κs = ?
+uniform-requires-2 c κs = c .step2 .ensures .1 (c .before .before .before .before .before .pre)
 
--- src/draw.rt:76:17
-segment-requires : tie.Need-segment-requires
-segment-requires c κs = search needs
-
--- src/draw.rt:78:42
-interpolate-requires : tie.Need-interpolate-requires
-interpolate-requires c κs = search needs
-
--- src/draw.rt:78:23
-whole-part-requires-3 : tie.Need-whole-part-requires-3
-whole-part-requires-3 c κs = search needs
-
--- src/draw.rt:55:1
 returns : tie.Need-returns
-returns c = ?
+returns c = (
+    (λ s meant. let e = fixed-drawn _ _ s _ meant _ (c .before .before .d .given .1) in (c .whole-part .ensures ∙ e .0, e .1)),
+    c .before .before .before .before .before .pre,
+)
 
--- src/draw.rt:55:1
 returns-2 : tie.Need-returns-2
-returns-2 c = ?
+returns-2 c = (
+    (λ s meant.
+        let step = c .before .before .before .step .ensures in
+        let e = spread-drawn _ _ s _ meant _ (step .0) (step .1 (c .before .before .before .before .before .before .before .before .pre)) (c .before .before .uniform .result) (c .before .before .uniform .ensures) _ _ _ (c .before .before .before .before .before .d2 .given .1) (c .before .spread .ensures .1) in
+        (c .whole-part2 .ensures ∙ e .0, e .1)),
+    c .before .before .before .step .ensures .1 (c .before .before .before .before .before .before .before .before .pre),
+)
 
--- src/draw.rt:55:1
 returns-3 : tie.Need-returns-3
-returns-3 c = ?
+returns-3 c = (
+    (λ s meant.
+        let step = c .before .before .before .before .step2 .ensures in
+        let e = curve-drawn _ _ s _ meant _ (step .0) (step .1 (c .before .before .before .before .before .before .before .before .before .pre)) (c .before .before .before .uniform2 .result) (c .before .before .before .uniform2 .ensures) _ _ _ (c .before .before .before .before .before .before .d3 .given .1) (c .before .before .segment .ensures) (c .before .interpolate .ensures .1) in
+        (c .whole-part3 .ensures ∙ e .0, e .1)),
+    c .before .before .before .before .step2 .ensures .1 (c .before .before .before .before .before .before .before .before .before .pre),
+)
 
 pub draw-spec : {M : Type 1} → statement M
 draw-spec =
     tie.close
-    (tie.spec
-    enum-known-d
-    whole-part-requires
-    enum-known-d-2
-    step-requires
-    uniform-requires
-    spread-requires
-    whole-part-requires-2
-    enum-known-d-3
-    step-requires-2
-    uniform-requires-2
-    segment-requires
-    interpolate-requires
-    whole-part-requires-3
-    returns
-    returns-2
+    (tie.spec (search needs) (search needs) (search needs) (search needs) uniform-requires (search needs) (search needs)
+    (search needs) (search needs) uniform-requires-2 (search needs) (search needs) (search needs) returns returns-2
     returns-3)
