@@ -2,3 +2,4 @@ pub mod Reading
 pub mod Curves
 pub mod Lists
 pub mod Drawing
+pub mod Times

@@ -66,6 +66,12 @@ row-none numbers r o listing e = go o (subst (λ (x : Row). Listing numbers x o)
     go none t = refl
     go (some l) t = absurd t
 
+pub no-row : {A : Type 0} {d : Distribution} {n : ℕ} → Barred ≡ Given d n → A
+no-row e = let z : _≡_ {A = ℕ} 0 1 = cc in absurd (omega arith)
+
+pub row-most : {d e : Distribution} {m n : ℕ} → m ≤ mostTimes → Given d m ≡ Given e n → n ≤ mostTimes
+row-most {m = m} {n = n} h e = let same : m ≡ n = cc in omega arith
+
 pub record Stands (numbers : List Float) (d : Distribution) (n : ℕ) (o : Option Listed) : Type 0 where
   pub listed : Listed
   pub is : o ≡ some listed

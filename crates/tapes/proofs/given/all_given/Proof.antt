@@ -19,10 +19,10 @@ list-at-requires : tie.Need-list-at-requires Inv-loop μ-loop
 list-at-requires c κs = omega arith
 
 returns : tie.Need-returns Inv-loop μ-loop
-returns c = all-stops _ _ _ _ (c .before .before .before .before .loop .inv .1) _ (c .before .before .before .loop-test .taken) (c .before .before .list-at .ensures) (c .enum-told2 .given .1)
+returns c = all-stops _ _ _ _ (c .before .before .before .before .loop .inv .1) _ (c .before .before .before .loop-test .taken) (c .before .before .list-at .ensures .0) (c .enum-told2 .given .1)
 
 loop-again : tie.Need-loop-again Inv-loop μ-loop
-loop-again c = (omega arith, all-goes _ _ _ _ (c .before .before .before .before .loop .inv .1) _ _ _ (c .before .before .before .loop-test .taken) (c .before .before .list-at .ensures) (c .enum-told .given .1))
+loop-again c = (omega arith, all-goes _ _ _ _ (c .before .before .before .before .loop .inv .1) _ _ _ (c .before .before .before .loop-test .taken) (c .before .before .list-at .ensures .0) (c .enum-told .given .1))
 
 returns-2 : tie.Need-returns-2 Inv-loop μ-loop
 returns-2 c = all-done _ _ _ _ (c .before .loop .inv .1) (c .loop-test .left)

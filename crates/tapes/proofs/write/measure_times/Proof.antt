@@ -1,59 +1,49 @@
+-- `tapes::measure_times` meets its contract. The invariant: what is left and what was measured are the whole; the measure is how many times are left.
+use Prim.Native.Nat.{ℕ, _+_, _*_, _≤_}
+use native.Mathlib.Omega.{arith}
+use mathlib.Core.Path.{_∙_, ap}
+use Rattle.codec.proofs.Numbers.{numberBytes-longest}
+use Rattle.streams.specs.Stream.{Inside}
+use Rattle.tapes.specs.Source.{Source}
+use Rattle.tapes.specs.Held.{Meant}
+use Rattle.tapes.proofs.Times.{MeasureRest, measure-start, measure-goes, measure-done}
+use borrow.Author.Needs.{needs}
 use Rattle.tapes.proofs.write.measure_times.Statement.{statement}
 use Rattle.tapes.proofs.write.measure_times.Tie as tie
-use Rattle.tapes.proofs.write.measure_times.Reads as reads
-use Rattle.tapes.proofs.write.measure_times.Lts as lts
-use Rattle.codec.proofs.number_len.Reads as number-len-reads
-use Rattle.tapes.proofs.draw.draw.Reads as draw-reads
 
 abbrev Inv-loop : tie.InvT-loop
-Inv-loop numbers d count state left₀ bytes₀ r₀ left bytes r = ?
+Inv-loop numbers d count state left₀ bytes₀ r₀ left bytes r =
+    Inside r × (bytes + 9 * left ≤ 9 * count) × ((s : Source) → Meant numbers d s → MeasureRest s count state left bytes r)
 
 abbrev μ-loop : tie.MeasureT-loop
-μ-loop numbers d count state left₀ bytes₀ r₀ left bytes r = ?
+μ-loop numbers d count state left₀ bytes₀ r₀ left bytes r = left
 
--- src/write.rt:37:5
 loop-holds : tie.Need-loop-holds Inv-loop μ-loop
-loop-holds c = ?
+loop-holds c = (c .before .pre .0, (omega arith), λ s meant. measure-start s _ _)
 
--- src/write.rt:38:13
 draw-requires : tie.Need-draw-requires Inv-loop μ-loop
-draw-requires c κs = ?
+draw-requires c κs = c .before .loop .inv .0
 
--- src/write.rt:39:18
-number-len-requires : tie.Need-number-len-requires Inv-loop μ-loop
-number-len-requires c κs = ?
-
--- src/write.rt:39:9
 add-bytes : tie.Need-add-bytes Inv-loop μ-loop
-add-bytes c = ?
+add-bytes c = omega (arith, c .number-len .ensures, numberBytes-longest (c .before .draw .result .time), c .before .before .before .loop .inv .1, c .before .before .before .before .before .pre .1)
 
--- src/write.rt:41:9
-sub-left : tie.Need-sub-left Inv-loop μ-loop
-sub-left c = ?
-
--- src/write.rt:37:5
-loop-less : tie.Need-loop-less Inv-loop μ-loop
-loop-less c = ?
-
--- src/write.rt:37:5
 loop-again : tie.Need-loop-again Inv-loop μ-loop
-loop-again c = ?
+loop-again c = (
+    c .before .draw .ensures .1,
+    omega (arith, c .number-len .ensures, numberBytes-longest (c .before .draw .result .time), c .before .before .before .loop .inv .1),
+    λ s meant.
+        let drawn = c .before .draw .ensures .0 s meant in
+        measure-goes s _ _ _ _ _ (c .before .before .before .loop .inv .2 s meant) _ _ _ (c .before .before .loop-test .taken) (drawn .0) (drawn .1) (c .number-len .ensures),
+)
 
--- src/write.rt:28:1
 returns : tie.Need-returns Inv-loop μ-loop
-returns c = ?
+returns c = (
+    (λ s meant. measure-done s _ _ _ _ _ (c .before .loop .inv .2 s meant) (c .loop-test .left)),
+    (c .before .loop .inv .0, omega (arith, c .before .loop .inv .1)),
+)
 
 pub measure-times-spec : {M : Type 1} → statement M
 measure-times-spec =
     tie.close
-    (tie.spec
-    Inv-loop
-    μ-loop
-    loop-holds
-    draw-requires
-    number-len-requires
-    add-bytes
-    sub-left
-    loop-less
-    loop-again
+    (tie.spec Inv-loop μ-loop loop-holds draw-requires (search needs) add-bytes (search needs) (search needs) loop-again
     returns)
