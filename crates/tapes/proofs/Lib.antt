@@ -3,3 +3,4 @@ pub mod Curves
 pub mod Lists
 pub mod Drawing
 pub mod Times
+pub mod Tapes

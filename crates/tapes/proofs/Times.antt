@@ -9,6 +9,7 @@ use lib.Seq.{sets, length-sets}
 use Rattle.machine.specs.Lists.{flat}
 use Rattle.machine.specs.Number.{numberBytes}
 use Rattle.codec.specs.Writing.{put, written}
+use Rattle.codec.proofs.Numbers.{numberBytes-longest}
 use Rattle.codec.proofs.Stores.{sets-append}
 use Rattle.codec.proofs.Writing.{put-room, written-at, written-bytes}
 use Rattle.tapes.specs.Source.{Source, after, timeOf, timesOf, stateAfter}
@@ -126,3 +127,7 @@ module _ (s : Source) (count state start left at r : ℕ) (before here : List �
         position-is = omega (arith, rest .position-is, ap length (times-done s left r h));
         state-is = sym (state-done s left r h) ∙ rest .state-is;
       }
+
+-- a number takes at most nine bytes
+pub len-most : (v len : ℕ) → len ≡ length (numberBytes v) → len ≤ 9
+len-most v len e = omega (arith, numberBytes-longest v)

@@ -2,11 +2,10 @@
 use Prim.Native.Nat.{ℕ, _+_, _*_, _≤_}
 use native.Mathlib.Omega.{arith}
 use mathlib.Core.Path.{_∙_, ap}
-use Rattle.codec.proofs.Numbers.{numberBytes-longest}
 use Rattle.streams.specs.Stream.{Inside}
 use Rattle.tapes.specs.Source.{Source}
 use Rattle.tapes.specs.Held.{Meant}
-use Rattle.tapes.proofs.Times.{MeasureRest, measure-start, measure-goes, measure-done}
+use Rattle.tapes.proofs.Times.{MeasureRest, measure-start, measure-goes, measure-done, len-most}
 use borrow.Author.Needs.{needs}
 use Rattle.tapes.proofs.write.measure_times.Statement.{statement}
 use Rattle.tapes.proofs.write.measure_times.Tie as tie
@@ -25,12 +24,12 @@ draw-requires : tie.Need-draw-requires Inv-loop μ-loop
 draw-requires c κs = c .before .loop .inv .0
 
 add-bytes : tie.Need-add-bytes Inv-loop μ-loop
-add-bytes c = omega (arith, c .number-len .ensures, numberBytes-longest (c .before .draw .result .time), c .before .before .before .loop .inv .1, c .before .before .before .before .before .pre .1)
+add-bytes c = omega (arith, len-most _ _ (c .number-len .ensures), c .before .before .before .loop .inv .1, c .before .before .before .before .before .pre .1)
 
 loop-again : tie.Need-loop-again Inv-loop μ-loop
 loop-again c = (
     c .before .draw .ensures .1,
-    omega (arith, c .number-len .ensures, numberBytes-longest (c .before .draw .result .time), c .before .before .before .loop .inv .1),
+    omega (arith, len-most _ _ (c .number-len .ensures), c .before .before .before .loop .inv .1),
     λ s meant.
         let drawn = c .before .draw .ensures .0 s meant in
         measure-goes s _ _ _ _ _ (c .before .before .before .loop .inv .2 s meant) _ _ _ (c .before .before .loop-test .taken) (drawn .0) (drawn .1) (c .number-len .ensures),
