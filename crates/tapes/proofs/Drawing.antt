@@ -23,7 +23,7 @@ use Rattle.tapes.specs.Held.{PointIs, Points, Meant, Surrounds}
 
 -- ---- The walk
 
-head-point : (numbers : List Float) (at : ℕ) (p : Point) (l : List Point) → Points numbers at p l → PointIs numbers at p
+pub head-point : (numbers : List Float) (at : ℕ) (p : Point) (l : List Point) → Points numbers at p l → PointIs numbers at p
 head-point numbers at p [] h = h .0
 head-point numbers at p (q ∷ l) h = h .0
 

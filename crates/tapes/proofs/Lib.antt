@@ -4,3 +4,6 @@ pub mod Lists
 pub mod Drawing
 pub mod Times
 pub mod Tapes
+pub mod Making
+pub mod Sound
+pub mod Accepted

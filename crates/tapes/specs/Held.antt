@@ -18,7 +18,9 @@ use Rattle.tapes.specs.declared.Row.{Row}
 use Rattle.tapes.specs.declared.Row.the-variants.{Given, Barred}
 use Rattle.tapes.specs.Source.{Point, Source, fixed, spread, curve, Between, stateAfter}
 use Rattle.tapes.specs.Given.{Listed}
-use Rattle.tapes.specs.Tape.{timesBytes}
+use Rattle.tapes.specs.declared.Made.{Made}
+use Rattle.tapes.specs.Tape.{timesBytes, fromLists, leaves}
+use Rattle.tapes.specs.Answers.{answer}
 
 -- the two doubles of a point
 pub record PointIs (numbers : List Float) (at : ℕ) (p : Point) : Type 0 where
@@ -73,3 +75,9 @@ pub record TimesWritten (s : Source) (count state at : ℕ) (before after : List
   pub bytes-are : after ≡ sets before at (timesBytes s count state)
   pub position-is : position ≡ at + length (timesBytes s count state)
   pub state-is : behind ≡ stateAfter s count state
+
+-- ---- A tape, once the stream has its state
+
+pub record Maker (lists : Option (List Listed)) (state : ℕ) (before : List ℕ) (r : Made) (behind : List ℕ) : Type 0 where
+  pub answered : r ≡ answer (fromLists lists state (length before))
+  pub bytes : behind ≡ leaves (fromLists lists state (length before)) before

@@ -1,0 +1,92 @@
+-- The tape made is taken by validation, pure: number by number, each in its range, list by list, and nothing behind.
+use Prim.Native.Nat.{ℕ, zero, suc, _+_, _*_, _/_, _≤_, _<_}
+use native.Mathlib.Nat.{add-assoc, add-zero, zero-add}
+use native.Mathlib.Omega.{arith}
+use mathlib.Core.Bool.{true}
+use mathlib.Core.List.{List, [], _∷_, _++_, append-assoc, append-nil}
+use mathlib.Core.Option.{Option, none, some}
+use mathlib.Core.Path.{_≡_, refl, sym, ap, _∙_, subst}
+use lib.Dec.{eqb}
+use lib.Ieee.{Float}
+use lib.ListN.{length, drop, length-append}
+use borrow.Author.Tests.{eq-eqb}
+use Rattle.machine.specs.Limits as Machine
+use Rattle.machine.specs.Number.{numberBytes}
+use Rattle.machine.specs.Parser.{Cursor, Parsed, parsed, continue, ask, times, field}
+use Rattle.machine.specs.Decode.{listField, atEnd}
+use Rattle.machine.specs.Validate.{tapeOf, beginning}
+use Rattle.codec.specs.Answers.{cursorAt}
+use Rattle.codec.proofs.Fields.{field-reads, drop-past}
+use Rattle.floats.specs.Limits.{maxTime}
+use Rattle.streams.specs.Stream.{Inside}
+use Rattle.tapes.specs.Limits.{mostTimes}
+use Rattle.tapes.specs.Source.{Source, after, timeOf, timesOf, stateAfter}
+use Rattle.tapes.specs.Given.{Listed}
+use Rattle.tapes.specs.Tape.{bytesOf, timesBytes, tapeBytes, tapeTimes}
+use Rattle.tapes.specs.Contract.{Taken}
+use Rattle.tapes.proofs.Times.{bytes-none, bytes-cons}
+use Rattle.tapes.proofs.Tapes.{behind, tape-none, tape-step}
+use Rattle.tapes.proofs.Sound.{Sound, SoundLists, time-most, after-inside, behind-inside}
+
+module _ (s : List ℕ) (i j : ℕ) where
+  -- the times of a source
+  times-read : (x : Source) (n r at : ℕ) (rest : List ℕ) → Sound x → Inside r → drop at s ≡ timesBytes x n r ++ rest →
+      times n (field s 8 0 Machine.maxTime) (cursorAt at i j) ≡ parsed (timesOf x n r) (cursorAt (at + length (timesBytes x n r)) i j)
+  unfolding times timesOf continue
+  times-read x zero r at rest sound inside e =
+      ap (λ (p : ℕ). parsed [] (cursorAt p i j)) (sym (ap (λ (l : List ℕ). at + length l) bytes-none ∙ add-zero at))
+  times-read x (suc n) r at rest sound inside e =
+      let t = timeOf x r in
+      let more = timesBytes x n (after x r) in
+      let bytes : timesBytes x (suc n) r ≡ numberBytes t ++ more = bytes-cons t (timesOf x n (after x r)) in
+      let here : drop at s ≡ numberBytes t ++ (more ++ rest) = e ∙ ap (λ (l : List ℕ). l ++ rest) bytes ∙ append-assoc (numberBytes t) more rest in
+      let most = time-most x r sound inside in
+      let size : at + length (numberBytes t) + length more ≡ at + length (timesBytes x (suc n) r) =
+      add-assoc at (length (numberBytes t)) (length more) ∙ ap (λ (m : ℕ). at + m) (sym (ap length bytes ∙ length-append (numberBytes t) more)) in
+      rw (
+        field-reads s (more ++ rest) at t 8 0 Machine.maxTime i j here (omega arith) (omega arith) (omega arith),
+        times-read x n (after x r) (at + length (numberBytes t)) rest sound (after-inside x r inside) (drop-past s (numberBytes t) (more ++ rest) at here),
+        size,
+      )
+
+  list-read : (x : Listed) (r at : ℕ) (rest : List ℕ) → Sound (x .source) × (x .count ≤ mostTimes) → Inside r →
+      drop at s ≡ numberBytes (x .count) ++ (timesBytes (x .source) (x .count) r ++ rest) →
+      listField s (cursorAt at i j) ≡
+      parsed (timesOf (x .source) (x .count) r) (cursorAt (at + length (numberBytes (x .count)) + length (timesBytes (x .source) (x .count) r)) i j)
+  unfolding listField continue
+  list-read x r at rest sound inside e =
+      let n = x .count in
+      rw (field-reads s (timesBytes (x .source) n r ++ rest) at n 8 0 Machine.maxSamples i j e (omega arith) (omega (arith, sound .1)) (omega arith))
+      (times-read (x .source) n r (at + length (numberBytes n)) rest (sound .0) inside (drop-past s (numberBytes n) (timesBytes (x .source) n r ++ rest) at e))
+
+  lists-read : (ls : List Listed) (r at : ℕ) (rest : List ℕ) → SoundLists ls → Inside r → drop at s ≡ tapeBytes ls r ++ rest →
+      times (length ls) (listField s) (cursorAt at i j) ≡ parsed (tapeTimes ls r) (cursorAt (at + length (tapeBytes ls r)) i j)
+  unfolding times tapeTimes continue
+  lists-read [] r at rest sound inside e =
+      ap (λ (p : ℕ). parsed [] (cursorAt p i j)) (sym (ap (λ (l : List ℕ). at + length l) (tape-none r) ∙ add-zero at))
+  lists-read (x ∷ ls) r at rest sound inside e =
+      let b = numberBytes (x .count) in
+      let m = timesBytes (x .source) (x .count) r in
+      let z = tapeBytes ls (behind x r) in
+      let bytes = tape-step x ls r in
+      let here : drop at s ≡ b ++ (m ++ (z ++ rest)) =
+      e ∙ ap (λ (l : List ℕ). l ++ rest) bytes ∙ append-assoc b (m ++ z) rest ∙ ap (λ (l : List ℕ). b ++ l) (append-assoc m z rest) in
+      let past = drop-past s m (z ++ rest) (at + length b) (drop-past s b (m ++ (z ++ rest)) at here) in
+      let size : at + length b + length m + length z ≡ at + length (tapeBytes (x ∷ ls) r) =
+      omega (arith, ap length bytes, length-append b (m ++ z), length-append m z) in
+      rw (
+        list-read x r at (z ++ rest) (sound .0) inside here,
+        lists-read ls (behind x r) (at + length b + length m) rest (sound .1) (behind-inside (x .source) (x .count) r inside) past,
+        size,
+      )
+
+pub tape-taken : (ls : List Listed) (r : ℕ) → SoundLists ls → Inside r → Taken (tapeBytes ls r) (length ls) (tapeTimes ls r)
+unfolding tapeOf atEnd ask continue
+tape-taken ls r sound inside =
+    let s = tapeBytes ls r in
+    let whole : drop 0 s ≡ tapeBytes ls r ++ [] = sym (append-nil s) in
+    let read = lists-read s 0 0 ls r 0 [] sound inside whole in
+    record {
+      behind = cursorAt (0 + length s) 0 0;
+      takes = rw (read, eq-eqb (0 + length s) (length s) (zero-add (length s)));
+    }
