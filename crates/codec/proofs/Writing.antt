@@ -24,7 +24,7 @@ put-full at v l h = rw (lt-leb _ _ h)
 
 -- ---- What a caller learns
 
-pub written-at : (p q : ℕ) (l m : List ℕ) → written p l ≡ written q m → p ≡ q
+written-at : (p q : ℕ) (l m : List ℕ) → written p l ≡ written q m → p ≡ q
 unfolding written
 written-at p q l m e = ap (λ (w : Written). w .at) e
 

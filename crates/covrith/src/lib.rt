@@ -1,6 +1,7 @@
 // Covrith for other languages: functions that C, or Rust by C's calling convention, can call. include/covrith.h declares them.
 // A slice crosses the boundary as a pointer and a length in elements.
 use streams::Started;
+use tapes::Made;
 use trace::Reading;
 use trace::Written;
 ghost use mathlib.Core.Path.{_≡_};
@@ -10,7 +11,9 @@ ghost use Rattle.machine.specs.Trace.{readRecord, writeRecord};
 ghost use Rattle.trace.specs.Answers.{entry, after};
 ghost use Rattle.engine.specs.Contract.{Contract};
 ghost use Rattle.streams.specs.Stream.{next, startOf};
-ghost use Rattle.covrith.specs.Answers.{readAnswer, readNumbers, writeAnswer, writeCount, startAnswer, startState};
+ghost use Rattle.tapes.specs.Tape.{makeTape, leaves};
+ghost use Rattle.tapes.specs.Contract.{Accepts};
+ghost use Rattle.covrith.specs.Answers.{readAnswer, readNumbers, writeAnswer, writeCount, startAnswer, startState, tapeAnswer, tapeCount};
 ghost use Rattle.covrith.specs.Results.{results};
 
 // One run of a model on a tape. `outcome` gets the eight results.
@@ -110,4 +113,30 @@ pub extern "C" fn covrith_stream_step(state: u32) -> u32
     ensures { λ r. ⌜ r ≡ next state ⌝ }
 {
     streams::step(state)
+}
+
+// Makes a tape from a stream and distributions. `written` gets the number of its bytes, 0 for a refusal.
+#[no_mangle]
+pub extern "C" fn covrith_make_tape(
+    stream: u32,
+    lists: &[u32],
+    numbers: &[f64],
+    tape: &mut [u8],
+    written: &mut u64,
+) -> u32
+    ensures { λ r. ⌜ r ≡ tapeAnswer (makeTape stream (now (lists .entry)) (now (numbers .entry)) (length (now (tape .entry)))) ⌝ }
+    ensures { λ _. ⌜ now (written .exit) ≡ tapeCount (makeTape stream (now (lists .entry)) (now (numbers .entry)) (length (now (tape .entry)))) ⌝ }
+    ensures { λ _. ⌜ now (tape .exit) ≡ leaves (makeTape stream (now (lists .entry)) (now (numbers .entry)) (length (now (tape .entry)))) (now (tape .entry)) ⌝ }
+    ensures { λ _. ⌜ Accepts stream (now (lists .entry)) (now (numbers .entry)) (length (now (tape .entry))) ⌝ }
+{
+    match tapes::make(stream, lists, numbers, tape) {
+        Made::Bytes(n) => {
+            *written = n as u64;
+            0
+        }
+        Made::Refused(n) => {
+            *written = 0;
+            n
+        }
+    }
 }

@@ -11,7 +11,7 @@ use lib.Seq.{sets, length-sets}
 use Rattle.machine.specs.Number.{numberBytes}
 use Rattle.codec.specs.Writing.{put, written}
 use Rattle.codec.proofs.Stores.{sets-append}
-use Rattle.codec.proofs.Writing.{put-room, written-at, written-bytes}
+use Rattle.codec.proofs.Writing.{put-room, written-bytes}
 use Rattle.tapes.specs.declared.Distribution.{Distribution}
 use Rattle.tapes.specs.declared.Row.{Row}
 use Rattle.tapes.specs.declared.Row.the-variants.{Given, Barred}
@@ -22,7 +22,7 @@ use Rattle.tapes.specs.Tape.{bytesOf, listNumbers, tapeNumbers, tapeByte
 use Rattle.tapes.specs.Held.{Meant, Listing, TimesMeasured, TimesWritten}
 use Rattle.tapes.proofs.Reading.{none-some}
 use Rattle.tapes.proofs.Lists.{row-none, row-some, lists-next}
-use Rattle.tapes.proofs.Times.{bytes-none, bytes-cons, bytes-append}
+use Rattle.tapes.proofs.Times.{bytes-none, bytes-cons, bytes-append, written-at}
 
 -- ---- One list, and the rest
 

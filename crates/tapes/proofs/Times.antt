@@ -8,13 +8,18 @@ use lib.ListN.{length, length-append}
 use lib.Seq.{sets, length-sets}
 use Rattle.machine.specs.Lists.{flat}
 use Rattle.machine.specs.Number.{numberBytes}
-use Rattle.codec.specs.Writing.{put, written}
+use Rattle.codec.specs.Writing.{Written, put, written}
 use Rattle.codec.proofs.Numbers.{numberBytes-longest}
 use Rattle.codec.proofs.Stores.{sets-append}
-use Rattle.codec.proofs.Writing.{put-room, written-at, written-bytes}
+use Rattle.codec.proofs.Writing.{put-room, written-bytes}
 use Rattle.tapes.specs.Source.{Source, after, timeOf, timesOf, stateAfter}
 use Rattle.tapes.specs.Tape.{bytesOf, timesBytes}
 use Rattle.tapes.specs.Held.{TimesMeasured, TimesWritten}
+
+-- the position after a number
+pub written-at : (p q : ℕ) (l m : List ℕ) → written p l ≡ written q m → p ≡ q
+unfolding written
+written-at p q l m e = ap (λ (w : Written). w .at) e
 
 -- ---- Bytes of numbers
 

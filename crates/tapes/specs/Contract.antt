@@ -19,9 +19,13 @@ pub record Taken (bytes : List ℕ) (lists : ℕ) (times : List (List ℕ)) : Ty
   pub behind : Cursor
   pub takes : tapeOf bytes lists beginning ≡ parsed times behind
 
+-- the tape made is accepted, for a model with that many lists
+abbrev pub Accepts : (stream : ℕ) → List ℕ → List Float → (room : ℕ) → Type 0
+Accepts stream lists numbers room =
+    (b : List ℕ) → makeTape stream lists numbers room ≡ made b → (ls : List Listed) → listsOf lists numbers ≡ some ls →
+    Taken b (length lists / numbersPerList) (tapeTimes ls (startState stream))
+
 pub record Contract (stream : ℕ) (lists : List ℕ) (numbers : List Float) (before : List ℕ) (r : Made) (behind : List ℕ) : Type 0 where
   pub answered : r ≡ answer (makeTape stream lists numbers (length before))
   pub bytes : behind ≡ leaves (makeTape stream lists numbers (length before)) before
-  pub accepted : (b : List ℕ) → makeTape stream lists numbers (length before) ≡ made b →
-      (ls : List Listed) → listsOf lists numbers ≡ some ls →
-      Taken b (length lists / numbersPerList) (tapeTimes ls (startState stream))
+  pub accepted : Accepts stream lists numbers (length before)
