@@ -6,3 +6,4 @@ pub mod Tape
 pub mod Held
 pub mod Answers
 pub mod Contract
+pub mod Examples

@@ -71,12 +71,12 @@ pub fn draw(numbers: &[f64], d: Distribution, state: u32) -> Drawn
             }
         }
         Distribution::Curve(first) => {
-            let r = streams::step(state);
-            let u = uniform(r);
-            let s = segment(numbers, first, u);
+            let behind = streams::step(state);
+            let v = uniform(behind);
+            let s = segment(numbers, first, v);
             Drawn {
-                time: floats::whole_part(floats::interpolate(s, u)),
-                state: r,
+                time: floats::whole_part(floats::interpolate(s, v)),
+                state: behind,
             }
         }
     }
