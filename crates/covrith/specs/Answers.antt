@@ -4,6 +4,7 @@ use mathlib.Core.List.{List, [], _∷_}
 use lib.ListN.{length}
 use Rattle.streams.specs.declared.Started.{Started}
 use Rattle.streams.specs.declared.Started.the-variants.{State, Refused}
+use Rattle.tapes.specs.Tape.{Making, made, refusal as unmade}
 use Rattle.machine.specs.Trace.{Reading, taken, refusal, noMore, Writing, written, rejected}
 
 -- ---- Reader: 0 and five numbers, or 30 for "no more", 31 or 32; a refusal leaves the numbers as they were
@@ -38,3 +39,13 @@ startAnswer (Refused n) = n
 unfoldable pub startState : Started → ℕ → ℕ
 startState (State s) _ = s
 startState (Refused _) before = before
+
+-- ---- Tape maker: 0 and how many bytes the tape has, or 41, 42 or 43 and none
+
+unfoldable pub tapeAnswer : Making → ℕ
+tapeAnswer (made b) = 0
+tapeAnswer (unmade n) = n
+
+unfoldable pub tapeCount : Making → ℕ
+tapeCount (made b) = length b
+tapeCount (unmade n) = 0

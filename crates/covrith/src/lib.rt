@@ -2,6 +2,7 @@
 // A slice crosses the boundary as a pointer and a length in elements.
 use machine::refusals::NO_MORE;
 use streams::Started;
+use tapes::Made;
 use trace::Reading;
 use trace::Written;
 ghost use mathlib.Core.Path.{_≡_};
@@ -13,7 +14,9 @@ ghost use Rattle.trace.specs.Answers.{entry, after};
 ghost use Rattle.columns.specs.Columns.{toColumns, fromColumns};
 ghost use Rattle.engine.specs.Contract.{Contract};
 ghost use Rattle.streams.specs.Stream.{next, startOf};
-ghost use Rattle.covrith.specs.Answers.{readAnswer, readNumbers, writeAnswer, writeCount, startAnswer, startState};
+ghost use Rattle.tapes.specs.Tape.{makeTape, leaves};
+ghost use Rattle.tapes.specs.Contract.{Accepts};
+ghost use Rattle.covrith.specs.Answers.{readAnswer, readNumbers, writeAnswer, writeCount, startAnswer, startState, tapeAnswer, tapeCount};
 ghost use Rattle.covrith.specs.Results.{results};
 
 // The eight results of a run; a record and the position behind it.
@@ -156,6 +159,32 @@ pub extern "C" fn covrith_uncolumns(columns: &[u8], out: &mut [u8], written: &mu
             0
         }
         Written::Refused(n) => {
+            *written = 0;
+            n
+        }
+    }
+}
+
+// Makes a tape from a stream and distributions. `written` gets the number of its bytes, 0 for a refusal.
+#[no_mangle]
+pub extern "C" fn covrith_make_tape(
+    stream: u32,
+    lists: &[u32],
+    numbers: &[f64],
+    tape: &mut [u8],
+    written: &mut u64,
+) -> u32
+    ensures { λ r. ⌜ r ≡ tapeAnswer (makeTape stream (now (lists .entry)) (now (numbers .entry)) (length (now (tape .entry)))) ⌝ }
+    ensures { λ _. ⌜ now (written .exit) ≡ tapeCount (makeTape stream (now (lists .entry)) (now (numbers .entry)) (length (now (tape .entry)))) ⌝ }
+    ensures { λ _. ⌜ now (tape .exit) ≡ leaves (makeTape stream (now (lists .entry)) (now (numbers .entry)) (length (now (tape .entry)))) (now (tape .entry)) ⌝ }
+    ensures { λ _. ⌜ Accepts stream (now (lists .entry)) (now (numbers .entry)) (length (now (tape .entry))) ⌝ }
+{
+    match tapes::make(stream, lists, numbers, tape) {
+        Made::Bytes(n) => {
+            *written = n as u64;
+            0
+        }
+        Made::Refused(n) => {
             *written = 0;
             n
         }

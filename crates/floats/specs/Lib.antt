@@ -1,0 +1,4 @@
+pub mod Limits
+pub mod Value
+pub mod Line
+pub mod Answers

@@ -1,0 +1,9 @@
+pub mod Reading
+pub mod Curves
+pub mod Lists
+pub mod Drawing
+pub mod Times
+pub mod Tapes
+pub mod Making
+pub mod Sound
+pub mod Accepted

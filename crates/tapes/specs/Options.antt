@@ -1,0 +1,19 @@
+-- One question after the other, where "no" ends them all.
+use mathlib.Core.Bool.{Bool, true, false}
+use mathlib.Core.Option.{Option, none, some}
+
+unfoldable pub continue : {A B : Type 0} → Option A → (A → Option B) → Option B
+continue none f = none
+continue (some a) f = f a
+
+infixl 20 _>>=_
+abbrev pub _>>=_ : {A B : Type 0} → Option A → (A → Option B) → Option B
+_>>=_ o f = continue o f
+
+infixl 20 _>>_
+abbrev pub _>>_ : {A B : Type 0} → Option A → Option B → Option B
+_>>_ o p = continue o (λ a. p)
+
+unfoldable pub ask : Bool → Option (Unit {0})
+ask true = some tt
+ask false = none
