@@ -6,6 +6,7 @@ use command::judge::{judge, ModelFile, TapeFile};
 use engine::{REPORT_BYTES, WORK_NUMBERS};
 use reference::generate::random::Random;
 use reference::generate::{case, damage::damaged_case, structured::model_and_tape, Case, Size};
+use reference::Rules;
 use std::collections::BTreeMap;
 
 fn cases() -> usize {
@@ -49,8 +50,8 @@ fn damaged_pairs() {
     let mut seen = BTreeMap::new();
     for k in 0..cases() {
         let size = if k % 4 == 0 { Size::Full } else { Size::Small };
-        let (model, tape) = model_and_tape(&mut random, size);
-        let case = damaged_case(&mut random, size, model, tape);
+        let (model, tape) = model_and_tape(Rules::LANDED, &mut random, size);
+        let case = damaged_case(Rules::LANDED, &mut random, size, model, tape);
         *seen.entry(hold(&case)).or_insert(0) += 1;
     }
     for question in 3..=10 {
@@ -108,8 +109,8 @@ fn models_as_text() {
     let mut random = Random::new(5);
     let mut met = BTreeMap::new();
     for _ in 0..cases() {
-        let (model, tape) = model_and_tape(&mut random, Size::Small);
-        let case = damaged_case(&mut random, Size::Small, model, tape);
+        let (model, tape) = model_and_tape(Rules::LANDED, &mut random, Size::Small);
+        let case = damaged_case(Rules::LANDED, &mut random, Size::Small, model, tape);
         let Ok(text) = modeltext::model_text(&case.model) else {
             continue;
         };
@@ -134,8 +135,8 @@ fn models_as_text() {
 fn what_is_told_has_the_engines_number() {
     let mut random = Random::new(17);
     for _ in 0..cases() / 5 {
-        let (model, tape) = model_and_tape(&mut random, Size::Small);
-        let case = damaged_case(&mut random, Size::Small, model, tape);
+        let (model, tape) = model_and_tape(Rules::LANDED, &mut random, Size::Small);
+        let case = damaged_case(Rules::LANDED, &mut random, Size::Small, model, tape);
         let wanted = refusal(&case.model, &case.tape);
         let mut models = vec![ModelFile::bytes("model.bin", case.model.clone())];
         if let Ok(text) = modeltext::model_text(&case.model) {

@@ -11,6 +11,7 @@ use reference::generate::random::Random;
 use reference::generate::{case, Case, Size};
 use reference::machine::{Machine, Transaction};
 use reference::run::{run_watched, Watcher};
+use reference::Rules;
 use std::collections::{BTreeMap, BTreeSet};
 use std::path::Path;
 
@@ -29,6 +30,7 @@ fn second(case: &Case) -> Option<Machine> {
     let mut trace = vec![0; case.trace_len];
     let mut report = vec![0; case.report_len];
     run_watched(
+        Rules::LANDED,
         &case.model,
         &case.tape,
         case.budget,

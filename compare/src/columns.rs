@@ -7,6 +7,7 @@ use reference::columns::{from_columns, to_columns};
 use reference::generate::random::Random;
 use reference::generate::traces::{call, columns, trace, Call};
 use reference::line::hex;
+use reference::Rules;
 use std::collections::BTreeMap;
 
 /// How often each answer was given, 0 for bytes.
@@ -36,13 +37,13 @@ pub fn compare(random: &mut Random, own: &[u8], answers: &mut Answers) -> Result
         .to
         .entry(one(random, Way::To, own, room)?)
         .or_insert(0) += 1;
-    let bytes = trace(random);
+    let bytes = trace(Rules::LANDED, random);
     let call = with_room(random, Way::To, bytes);
     *answers
         .to
         .entry(one(random, Way::To, &call.bytes, call.room)?)
         .or_insert(0) += 1;
-    let bytes = columns(random);
+    let bytes = columns(Rules::LANDED, random);
     let call = with_room(random, Way::From, bytes);
     *answers
         .from

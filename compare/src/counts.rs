@@ -3,7 +3,7 @@
 use crate::lent::Lent;
 use covrith::count;
 use reference::generate::random::Random;
-use reference::trace::count_low_bytes;
+use reference::trace::count_low;
 
 /// All lengths up to this one.
 const LENGTHS: usize = 4_096;
@@ -66,5 +66,5 @@ fn contents(random: &mut Random, length: usize) -> Lent<u8> {
 }
 
 fn same(bytes: &[u8]) -> bool {
-    count(bytes) == count_low_bytes(bytes) as u64
+    count(bytes) == count_low(bytes)
 }
