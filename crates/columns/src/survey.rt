@@ -4,10 +4,9 @@ use crate::walk::Walk;
 use codec::Field;
 use codec::number_len;
 use codec::read_field;
-use trace::MAX_BLOCK;
 use machine::Model;
+use trace::MAX_BLOCK;
 use trace::MAX_OUTCOME;
-
 ghost use mathlib.Core.Path.{_≡_};
 ghost use Prim.Native.Nat.{_≤_};
 ghost use Rattle.machine.specs.Parser.{field, times};
