@@ -2,6 +2,7 @@
 
 mod archive;
 mod check;
+mod columns;
 mod compare;
 mod follow;
 mod list;
@@ -41,6 +42,7 @@ pub const COMMANDS: &[Command] = &[
     follow::COMMAND,
     compare::COMMAND,
     template::COMMAND,
+    columns::COMMAND,
 ];
 
 /// The version of the engine: its number and the commit that it was built from.
