@@ -1,4 +1,5 @@
-/* Covrith: one run of a block model on a tape, the records of its trace, and streams of random numbers.
+/* Covrith: one run of a block model on a tape, the records of its trace, traces by column, and streams of random
+ * numbers.
  *
  * Link target/staticlib/libcovrith.a, which `rt staticlib covrith` writes (x86-64 Linux).
  *
@@ -41,6 +42,7 @@ enum {
  * is not whole, shortest or in size, 4 out of its field's range, 5 a value too large, 6 bytes behind the model,
  * 7 a block out of place; of the tape, 8 a number, 9 a range, 10 bytes behind it.
  * A refused run leaves work, trace and report as they were.
+ * The report lists the living by rising transaction number.
  * An accepted run leaves the bytes of trace and report behind the lengths in `outcome` as they were; the work
  * buffer then holds nothing of use. What the buffers held before changes nothing.
  *
@@ -87,6 +89,18 @@ uint32_t covrith_stream_start(uint32_t stream, uint32_t *state);
 
 /* The state that follows: state * 16807 modulo 2147483647, for every 32-bit state. */
 uint32_t covrith_stream_step(uint32_t state);
+/* Traces by column: the record count, then all clocks as differences from the clock before (0 at first), then all
+ * transactions, then all blocks, then all outcomes, each number as in the trace. A trace is taken if the reader takes
+ * it whole, with at most 100000000 records, and its clocks never fall; every trace of a run is such a trace. Columns
+ * are taken exactly if some such trace produces them.
+ *
+ * covrith_columns writes the columns of a trace, covrith_uncolumns the trace of columns. Both answer 0 and write to
+ * `out` and the number of bytes to `written`; or write nothing to `out`, 0 to `written`, and answer:
+ * 51 not such a trace, or not such columns;
+ * 52 the output needs more than `out_len` bytes.
+ * Columns need at most trace_len + 4 bytes, a trace at most 2 * columns_len. */
+uint32_t covrith_columns(const uint8_t *trace, size_t trace_len, uint8_t *out, size_t out_len, uint64_t *written);
+uint32_t covrith_uncolumns(const uint8_t *columns, size_t columns_len, uint8_t *out, size_t out_len, uint64_t *written);
 
 #ifdef __cplusplus
 }

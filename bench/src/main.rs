@@ -88,7 +88,7 @@ fn measure(work: &Work, simpy: &str) -> Measured {
 fn run_simpy(work: &Work, outcome: &Outcome, program: &str) -> f64 {
     let mut text = format!("{} {} {}\n", work.kind, work.living, work.customers);
     for list in &work.tape {
-        let words: Vec<String> = list.iter().map(u32::to_string).collect();
+        let words: Vec<String> = list.iter().map(u64::to_string).collect();
         text += &(words.join(" ") + "\n");
     }
     let mut child = Command::new("/usr/bin/python3")

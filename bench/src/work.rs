@@ -29,12 +29,15 @@ pub fn all() -> Vec<Work> {
     work
 }
 
-fn times(random: &mut Random, count: u32, low: u32, high: u32) -> Vec<u32> {
-    (0..count).map(|_| random.number(low, high)).collect()
+fn times(random: &mut Random, count: u32, low: u32, high: u32) -> Vec<u64> {
+    (0..count)
+        .map(|_| u64::from(random.number(low, high)))
+        .collect()
 }
 
 fn model(facilities: u32, capacities: Vec<u32>, lists: u32, customers: u32) -> Model {
     Model {
+        edition: Model::FIRST_EDITION,
         facilities,
         capacities,
         queues: 0,

@@ -34,6 +34,7 @@ pub fn compare() -> bool {
 
 fn model(lists: u32, blocks: Vec<Block>) -> Model {
     Model {
+        edition: Model::FIRST_EDITION,
         facilities: 0,
         capacities: Vec::new(),
         queues: 0,

@@ -1,9 +1,13 @@
 //! `compare N SEED [--small] [--coverage]`: N random cases through the engine's interface for other languages and through
-//! `reference/`, each with readings and writings of trace records. Ends at the first that differs, printed and shrunk.
+//! `reference/`, each with readings and writings of trace records and traces by column. Ends at the first that differs, printed and
+//! shrunk.
 //! `compare --check`: the same for the cases of standard input, printed as by `cases` of `reference/`.
 //! `compare --long`: the two runs that reach end 26, by turns and by serials (some 100 million turns each).
 //! `compare --streams`: the starts of all streams, steps along each and steps of other states.
+//! `compare --counts`: the counter of low bytes at all lengths to 4,096 and all addresses modulo 64.
 
+mod columns;
+mod counts;
 mod lent;
 mod long;
 mod records;
@@ -29,6 +33,7 @@ fn main() {
             "--coverage" => coverage = true,
             "--check" => check(),
             "--long" => exit(i32::from(!long::compare())),
+            "--counts" => exit(i32::from(!counts::compare())),
             "--streams" => exit(i32::from(!streams::compare())),
             text => match text.parse::<u64>() {
                 Ok(number) => numbers.push(number),
@@ -43,7 +48,7 @@ fn main() {
 
 fn usage() -> ! {
     eprintln!("usage: compare N SEED [--small] [--coverage]");
-    eprintln!("       compare --check | --long | --streams");
+    eprintln!("       compare --check | --long | --streams | --counts");
     exit(2);
 }
 
@@ -51,6 +56,7 @@ fn random_cases(count: u64, seed: u64, size: Size, table: bool) {
     let mut random = Random::new(seed);
     let mut coverage = Coverage::default();
     let mut answers = Answers::default();
+    let mut stored = columns::Answers::default();
     for number in 1..=count {
         let case = case(&mut random, size);
         let stale = random.next_u64();
@@ -66,9 +72,13 @@ fn random_cases(count: u64, seed: u64, size: Size, table: bool) {
             println!("records after case {number} of seed {seed} differ: {text}");
             exit(1);
         }
+        if let Err(text) = columns::compare(&mut random, &agreed.trace, &mut stored) {
+            println!("columns after case {number} of seed {seed} differ: {text}");
+            exit(1);
+        }
     }
     if table {
-        table::print(&coverage, &answers);
+        table::print(&coverage, &answers, &stored);
     }
     println!("{count} cases of seed {seed} agree");
 }

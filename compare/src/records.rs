@@ -6,6 +6,7 @@ use covrith::{count, sys, Records};
 use reference::generate::random::Random;
 use reference::line::hex;
 use reference::trace::{self, TraceReader};
+use reference::Rules;
 use std::collections::BTreeMap;
 
 /// How often each answer was given.
@@ -52,7 +53,7 @@ fn whole(bytes: &[u8]) -> Result<(), String> {
                 [r.clock, r.transaction, r.block, r.outcome]
                     == [w.clock, w.transaction, w.block, w.outcome]
             }
-            (Err(n), Err(w)) => n == w,
+            (Err(refusal), Err(w)) => refusal.number() == u64::from(w),
             _ => false,
         };
         if !same {
@@ -92,7 +93,7 @@ fn read(bytes: &[u8], at: usize, stale: u64) -> Result<u32, String> {
 /// One writing of numbers at and beside their ranges into a rest of any length.
 fn write(random: &mut Random) -> Result<u32, String> {
     let numbers = [
-        near(random, 2_000_000_000),
+        near(random, Rules::LANDED.max_clock()),
         near(random, 100_000_000),
         near(random, 256),
         near(random, 1),

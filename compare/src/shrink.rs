@@ -111,9 +111,9 @@ fn smaller_models(model: &Model, tape: &Tape) -> Vec<(Model, Tape)> {
         .filter(|(_, times)| times.len() < 50)
     {
         for (at, time) in times.iter().enumerate() {
-            for less in lower(u64::from(*time)).into_iter().take(3) {
+            for less in lower(*time).into_iter().take(3) {
                 let mut tape = tape.clone();
-                tape[index][at] = less as u32;
+                tape[index][at] = less;
                 found.push((model.clone(), tape));
             }
         }

@@ -1,14 +1,16 @@
 //! What the compared cases covered, and the cells that stayed empty.
 
+use crate::columns;
 use crate::records::Answers;
-use reference::blocks::Done;
 use reference::coverage::Coverage;
 
-pub fn print(coverage: &Coverage, answers: &Answers) {
+pub fn print(coverage: &Coverage, answers: &Answers, stored: &columns::Answers) {
     print!("{coverage}");
     println!("reader    {:?}", answers.reader);
     println!("writer    {:?}", answers.writer);
-    let empty = empty_cells(coverage, answers);
+    println!("columns   {:?}", stored.to);
+    println!("uncolumns {:?}", stored.from);
+    let empty = empty_cells(coverage, answers, stored);
     if empty.is_empty() {
         println!("no cell is empty but end 26 (compare --long)");
     } else {
@@ -16,36 +18,8 @@ pub fn print(coverage: &Coverage, answers: &Answers) {
     }
 }
 
-/// The kinds that can come to each column.
-const CELLS: [(Done, &[u32]); 8] = [
-    (
-        Done::Entered,
-        &[1, 2, 3, 4, 5, 6, 7, 8, 9, 10, 11, 12, 13, 14, 15, 16],
-    ),
-    (Done::BeganToWait, &[4, 6, 8, 9]),
-    (Done::PutBack, &[4, 6, 8, 9]),
-    (Done::Stopped(21), &[1, 14]),
-    (Done::Stopped(22), &[1, 2]),
-    (Done::Stopped(23), &[2]),
-    (Done::Stopped(24), &[5, 7]),
-    (Done::Stopped(25), &[16]),
-];
-
-fn empty_cells(coverage: &Coverage, answers: &Answers) -> Vec<String> {
-    let mut empty = Vec::new();
-    for (done, kinds) in CELLS {
-        for kind in kinds.iter().filter(|kind| coverage.met(**kind, done) == 0) {
-            empty.push(format!("kind {kind} {done:?}"));
-        }
-    }
-    for refusal in (0..=10).filter(|n| !coverage.refusals.contains_key(n)) {
-        empty.push(format!("refusal {refusal}"));
-    }
-    for end in [1, 2, 3, 4, 21, 22, 23, 24, 25] {
-        if !coverage.ends.contains_key(&end) {
-            empty.push(format!("end {end}"));
-        }
-    }
+fn empty_cells(coverage: &Coverage, answers: &Answers, stored: &columns::Answers) -> Vec<String> {
+    let mut empty = coverage.empty_cells();
     for answer in [0, 30, 31, 32] {
         if !answers.reader.contains_key(&answer) {
             empty.push(format!("reader {answer}"));
@@ -56,13 +30,12 @@ fn empty_cells(coverage: &Coverage, answers: &Answers) -> Vec<String> {
             empty.push(format!("writer {answer}"));
         }
     }
-    for (name, counts) in [
-        ("tag", &coverage.tags[..]),
-        ("code", &coverage.codes[..]),
-        ("relation", &coverage.relations[..]),
-    ] {
-        for at in (0..counts.len()).filter(|at| counts[*at] == 0) {
-            empty.push(format!("{name} at {at}"));
+    for answer in [0, 51, 52] {
+        if !stored.to.contains_key(&answer) {
+            empty.push(format!("columns {answer}"));
+        }
+        if !stored.from.contains_key(&answer) {
+            empty.push(format!("uncolumns {answer}"));
         }
     }
     empty

@@ -1,19 +1,21 @@
-/* Runs the model of a folder, models/ship-and-tug by itself, and prints its records, its end and its report.
+/* Runs the model of a folder, models/ship-and-tug by itself, and prints its records, its end and its report as runmodel does.
  *
  *   cc -Iinclude examples/c/ship.c target/staticlib/libcovrith.a -o ship && ./ship [FOLDER]
  */
 #include "covrith.h"
+#include "covrith_report.h"
 
 #include <inttypes.h>
 #include <stdio.h>
 
 enum { FILE_BYTES = 65536, TRACE_BYTES = 65536, BUDGET = 1000000 };
 
-static uint8_t model[FILE_BYTES], tape[FILE_BYTES], trace[TRACE_BYTES], report[COVRITH_REPORT_BYTES];
+static uint8_t model[FILE_BYTES], tape[FILE_BYTES], trace[TRACE_BYTES], bytes[COVRITH_REPORT_BYTES];
 static uint32_t work[COVRITH_WORK_NUMBERS];
+static struct covrith_report report;
 
 /* The first bytes of FOLDER/NAME, and how many they are. */
-static int load(const char *folder, const char *name, uint8_t *bytes, size_t *length) {
+static int load(const char *folder, const char *name, uint8_t *to, size_t *length) {
     char path[4096];
     snprintf(path, sizeof path, "%s/%s", folder, name);
     FILE *file = fopen(path, "rb");
@@ -21,7 +23,7 @@ static int load(const char *folder, const char *name, uint8_t *bytes, size_t *le
         perror(path);
         return 0;
     }
-    *length = fread(bytes, 1, FILE_BYTES, file);
+    *length = fread(to, 1, FILE_BYTES, file);
     fclose(file);
     return 1;
 }
@@ -32,18 +34,20 @@ static void print_records(size_t length) {
         printf("%" PRIu64 " %" PRIu64 " %" PRIu64 " %" PRIu64 "\n", record[0], record[1], record[2], record[3]);
 }
 
-/* The report's numbers: groups of seven bits, highest first, the top bit on all bytes but the last. */
-static void print_report(size_t length) {
-    uint64_t value = 0;
-    printf("report");
-    for (size_t i = 0; i < length; i++) {
-        value = value << 7 | (report[i] & 127);
-        if (report[i] < 128) {
-            printf(" %" PRIu64, value);
-            value = 0;
-        }
-    }
-    printf("\n");
+static void print_servers(char letter, const struct covrith_server *servers, size_t count) {
+    for (size_t i = 0; i < count; i++)
+        printf("%c %zu %" PRIu64 " %" PRIu64 " %" PRIu64 " %" PRIu64 " %" PRIu64 "\n", letter, i + 1, servers[i].entries,
+               servers[i].unit_ticks, servers[i].waits_begun, servers[i].ticks_waited, servers[i].longest);
+}
+
+static void print_report(uint64_t end) {
+    printf("end %" PRIu64 " %" PRIu64 " %" PRIu64 " %" PRIu64 " %zu\n", end, report.clock, report.made, report.ended,
+           report.living_count);
+    print_servers('f', report.facilities, report.facility_count);
+    print_servers('s', report.storages, report.storage_count);
+    for (size_t i = 0; i < report.queue_count; i++)
+        printf("q %zu %" PRIu64 " %" PRIu64 " %" PRIu64 "\n", i + 1, report.queues[i].arrivals, report.queues[i].content_ticks,
+               report.queues[i].longest);
 }
 
 int main(int count, char **words) {
@@ -52,15 +56,18 @@ int main(int count, char **words) {
     uint64_t outcome[8];
     if (!load(folder, "model.bin", model, &model_length) || !load(folder, "tape.bin", tape, &tape_length))
         return 2;
-    covrith_run(model, model_length, tape, tape_length, BUDGET, work, COVRITH_WORK_NUMBERS, trace, TRACE_BYTES, report,
+    covrith_run(model, model_length, tape, tape_length, BUDGET, work, COVRITH_WORK_NUMBERS, trace, TRACE_BYTES, bytes,
                 COVRITH_REPORT_BYTES, outcome);
     if (outcome[COVRITH_REFUSAL]) {
         printf("refused %" PRIu64 "\n", outcome[COVRITH_REFUSAL]);
+        fprintf(stderr, "%s\n", covrith_refusal_words(outcome[COVRITH_REFUSAL]));
         return 1;
     }
+    if (!covrith_read_report(model, model_length, bytes, outcome[COVRITH_REPORT_LENGTH], &report)) {
+        fprintf(stderr, "the report does not read\n");
+        return 2;
+    }
     print_records(outcome[COVRITH_TRACE_BYTES]);
-    printf("end %" PRIu64 " %" PRIu64 " %" PRIu64 " %" PRIu64 " %" PRIu64 "\n", outcome[COVRITH_END], outcome[COVRITH_CLOCK],
-           outcome[COVRITH_MADE], outcome[COVRITH_ENDED], outcome[COVRITH_MADE] - outcome[COVRITH_ENDED]);
-    print_report(outcome[COVRITH_REPORT_LENGTH]);
+    print_report(outcome[COVRITH_END]);
     return 0;
 }

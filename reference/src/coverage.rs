@@ -1,17 +1,19 @@
 //! Counts what random cases cover.
 
 use crate::blocks::Done;
-use crate::decode::decode_model;
+use crate::decode::decode_model_with;
 use crate::generate::fields::{model_fields, Role};
 use crate::generate::random::Random;
-use crate::generate::{case, Case, Size};
+use crate::generate::{case_with, Case, Size};
 use crate::machine::Machine;
+use crate::rules::{Rules, LAST_KIND};
 use crate::run::{run_watched, Outcome, Watcher};
 use std::collections::BTreeMap;
 
 /// What the runs of some cases met.
 #[derive(Default)]
 pub struct Coverage {
+    pub rules: Rules,
     pub cases: u64,
     pub refusals: BTreeMap<u64, u64>,
     pub ends: BTreeMap<u64, u64>,
@@ -19,9 +21,12 @@ pub struct Coverage {
     pub turns: Vec<u64>,
     pub most_blocks: usize,
     pub most_living: u64,
+    pub most_interrupted: usize,
     pub last_clock: u64,
     pub clock_moves: u64,
     pub zero_moves: u64,
+    /// Accepted models of each edition.
+    pub editions: [u64; 2],
     /// Term tags, status codes and relations in accepted models.
     pub tags: [u64; 12],
     pub codes: [u64; 6],
@@ -31,20 +36,67 @@ pub struct Coverage {
     before: Option<(u64, bool)>,
 }
 
-const COLUMNS: [&str; 8] = ["entered", "waits", "put back", "21", "22", "23", "24", "25"];
+/// What the execution of a block can come to, as the columns of the table.
+const COLUMNS: [(&str, Done); 11] = [
+    ("entered", Done::Entered),
+    ("waits", Done::BeganToWait),
+    ("put back", Done::PutBack),
+    ("goes back", Done::WentBack),
+    ("21", Done::Stopped(21)),
+    ("22", Done::Stopped(22)),
+    ("23", Done::Stopped(23)),
+    ("24", Done::Stopped(24)),
+    ("25", Done::Stopped(25)),
+    ("27", Done::Stopped(27)),
+    ("28", Done::Stopped(28)),
+];
 
 fn column(done: Done) -> u32 {
+    let done = match done {
+        Done::Finished => Done::Entered,
+        other => other,
+    };
+    let at = COLUMNS.iter().position(|(_, column)| *column == done);
+    at.expect("a column") as u32
+}
+
+/// The ends that short runs meet.
+pub fn ends(rules: Rules) -> Vec<u64> {
+    let mut ends = vec![1, 2, 3, 4, 21, 22, 23, 24, 25];
+    if rules.holders || rules.preempt {
+        ends.push(27);
+    }
+    if rules.holders {
+        ends.push(28);
+    }
+    ends
+}
+
+/// Can a block of this kind come to this under these rules?
+pub fn possible(rules: Rules, kind: u32, done: Done) -> bool {
+    if !rules.has_kind(kind) {
+        return false;
+    }
     match done {
-        Done::Entered | Done::Finished => 0,
-        Done::BeganToWait => 1,
-        Done::PutBack => 2,
-        Done::Stopped(end) => end - 18,
+        Done::Entered | Done::Finished => true,
+        Done::BeganToWait => [4, 6, 8, 9, 17, 18, 19].contains(&kind),
+        Done::PutBack => [4, 6, 8, 9, 17, 19].contains(&kind),
+        Done::WentBack => kind == 17,
+        Done::Stopped(21) => [1, 14].contains(&kind),
+        Done::Stopped(22) => [1, 2, 20].contains(&kind),
+        Done::Stopped(23) => kind == 2,
+        Done::Stopped(24) => [5, 7, 20].contains(&kind),
+        Done::Stopped(25) => kind == 16,
+        Done::Stopped(27) => kind == 20 || (kind == 5 && (rules.holders || rules.preempt)),
+        Done::Stopped(28) => rules.holders && [3, 18].contains(&kind),
+        Done::Stopped(_) => false,
     }
 }
 
 impl Watcher for Coverage {
     fn before_turn(&mut self, machine: &Machine, _trace: &[u8]) {
         self.most_living = self.most_living.max(machine.living());
+        self.most_interrupted = self.most_interrupted.max(machine.interrupted.len());
         self.last_clock = self.last_clock.max(machine.clock);
         if let Some((clock, true)) = self.before {
             self.clock_moves += 1;
@@ -60,11 +112,14 @@ impl Watcher for Coverage {
 }
 
 impl Coverage {
-    /// Runs this many cases.
-    pub fn of(random: &mut Random, size: Size, count: u64) -> Coverage {
-        let mut coverage = Coverage::default();
+    /// Runs this many cases under these rules.
+    pub fn of(rules: Rules, random: &mut Random, size: Size, count: u64) -> Coverage {
+        let mut coverage = Coverage {
+            rules,
+            ..Coverage::default()
+        };
         for _ in 0..count {
-            let case = case(random, size);
+            let case = case_with(rules, random, size);
             let mut trace = vec![0; case.trace_len];
             let mut report = vec![0; case.report_len];
             coverage.run(&case, &mut trace, &mut report);
@@ -76,6 +131,7 @@ impl Coverage {
     pub fn run(&mut self, case: &Case, trace: &mut [u8], report: &mut [u8]) -> Outcome {
         self.before = None;
         let outcome = run_watched(
+            self.rules,
             &case.model,
             &case.tape,
             case.budget,
@@ -96,9 +152,10 @@ impl Coverage {
 
     /// Counts tags, codes and relations of an accepted model.
     fn count_names(&mut self, bytes: &[u8]) {
-        let model = decode_model(bytes).expect("accepted");
+        let model = decode_model_with(self.rules, bytes).expect("accepted");
         self.most_blocks = self.most_blocks.max(model.blocks.len());
-        for field in model_fields(&model) {
+        self.editions[model.edition as usize - 1] += 1;
+        for field in model_fields(self.rules, &model) {
             let value = field.value as usize;
             match field.role {
                 Role::Tag => self.tags[value] += 1,
@@ -107,6 +164,39 @@ impl Coverage {
                 Role::Other => {}
             }
         }
+    }
+
+    /// What can be met under the rules and was not: kinds with what they come
+    /// to, refusals, ends (but 26), tags, codes, relations.
+    pub fn empty_cells(&self) -> Vec<String> {
+        let mut empty = Vec::new();
+        for kind in 1..=LAST_KIND {
+            for (_, done) in COLUMNS {
+                if possible(self.rules, kind, done) && self.met(kind, done) == 0 {
+                    empty.push(format!("kind {kind} {done:?}"));
+                }
+            }
+        }
+        for refusal in (0..=10).filter(|n| !self.refusals.contains_key(n)) {
+            empty.push(format!("refusal {refusal}"));
+        }
+        for end in ends(self.rules) {
+            if !self.ends.contains_key(&end) {
+                empty.push(format!("end {end}"));
+            }
+        }
+        let editions = self.rules.highest_edition as usize;
+        for (name, counts) in [
+            ("edition", &self.editions[..editions]),
+            ("tag", &self.tags[..]),
+            ("code", &self.codes[..]),
+            ("relation", &self.relations[..]),
+        ] {
+            for at in (0..counts.len()).filter(|at| counts[*at] == 0) {
+                empty.push(format!("{name} at {at}"));
+            }
+        }
+        empty
     }
 
     /// How often a block of this kind came to this.
@@ -145,14 +235,15 @@ impl std::fmt::Display for Coverage {
             "most blocks {}, most living {}, last clock {}, clock moves {}, of them by 0 ticks {}",
             self.most_blocks, self.most_living, self.last_clock, self.clock_moves, self.zero_moves
         )?;
+        writeln!(f, "editions 1, 2   {:?}", self.editions)?;
         writeln!(f, "tags 0..11      {:?}", self.tags)?;
         writeln!(f, "codes 1..6      {:?}", self.codes)?;
         writeln!(f, "relations 1..6  {:?}", self.relations)?;
         write!(f, "kind")?;
-        for name in COLUMNS {
+        for (name, _) in COLUMNS {
             write!(f, "{name:>10}")?;
         }
-        for kind in 1..=16 {
+        for kind in 1..=LAST_KIND {
             write!(f, "\n{kind:>4}")?;
             for column in 0..COLUMNS.len() as u32 {
                 let count = self.counts.get(&(kind, column)).unwrap_or(&0);

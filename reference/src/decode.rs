@@ -1,7 +1,8 @@
 //! From bytes to a model: questions 3 to 7 (01, "Questions at the door").
 
 use crate::model::{Block, Comparison, Model, Part, Sum, Term};
-use crate::number::read_number;
+use crate::number::{read_number, MAX_NUMBER};
+use crate::rules::{Rules, LAST_KIND};
 
 /// Takes numbers from lent bytes one after the other.
 struct Source<'a> {
@@ -12,7 +13,8 @@ struct Source<'a> {
 impl Source<'_> {
     /// The next number of a field with this range: question 3, then 4.
     fn field(&mut self, low: u32, high: u32) -> Result<u32, u32> {
-        let (value, after) = read_number(self.bytes, self.position).ok_or(3u32)?;
+        let (value, after) = read_number(self.bytes, self.position, MAX_NUMBER).ok_or(3u32)?;
+        let value = value as u32;
         if value < low || value > high {
             return Err(4);
         }
@@ -21,10 +23,15 @@ impl Source<'_> {
     }
 }
 
-/// Gives the model, or the number of the first question answered "no".
+/// The same under the rules of the engine.
 pub fn decode_model(bytes: &[u8]) -> Result<Model, u32> {
+    decode_model_with(Rules::LANDED, bytes)
+}
+
+/// Gives the model, or the number of the first question answered "no".
+pub fn decode_model_with(rules: Rules, bytes: &[u8]) -> Result<Model, u32> {
     let mut source = Source { bytes, position: 0 };
-    source.field(Model::EDITION, Model::EDITION)?;
+    let edition = source.field(Model::FIRST_EDITION, rules.highest_edition)?;
     let facilities = source.field(0, Model::MAX_FACILITIES)?;
     let storages = source.field(0, Model::MAX_STORAGES)?;
     let mut capacities = Vec::new();
@@ -33,6 +40,7 @@ pub fn decode_model(bytes: &[u8]) -> Result<Model, u32> {
     }
     let queues = source.field(0, Model::MAX_QUEUES)?;
     let mut model = Model {
+        edition,
         facilities,
         capacities,
         queues,
@@ -50,7 +58,7 @@ pub fn decode_model(bytes: &[u8]) -> Result<Model, u32> {
     model.counter = source.field(1, Model::MAX_COUNTER)?;
     let blocks = source.field(1, Model::MAX_BLOCKS)?;
     for _ in 0..blocks {
-        let block = decode_block(&mut source, &model, blocks)?;
+        let block = decode_block(rules, &mut source, &model, blocks)?;
         model.blocks.push(block);
     }
     if source.position < bytes.len() {
@@ -201,8 +209,28 @@ fn decode_units(source: &mut Source, model: &Model) -> Result<(u32, u32), u32> {
     Ok((storage, units))
 }
 
-fn decode_block(source: &mut Source, model: &Model, blocks: u32) -> Result<Block, u32> {
-    let kind = source.field(1, 16)?;
+/// Code and server of a server wait.
+fn decode_status(source: &mut Source, model: &Model) -> Result<(u32, u32), u32> {
+    let code = source.field(1, 6)?;
+    // "a facility for codes 1 and 2, else a storage"
+    let servers = if code <= 2 {
+        model.facilities
+    } else {
+        model.capacities.len() as u32
+    };
+    Ok((code, source.field(1, servers)?))
+}
+
+fn decode_block(
+    rules: Rules,
+    source: &mut Source,
+    model: &Model,
+    blocks: u32,
+) -> Result<Block, u32> {
+    let kind = source.field(1, LAST_KIND)?;
+    if !rules.has_kind(kind) {
+        return Err(4);
+    }
     let block = match kind {
         1 => Block::Generate {
             list: source.field(1, model.lists)?,
@@ -229,14 +257,7 @@ fn decode_block(source: &mut Source, model: &Model, blocks: u32) -> Result<Block
             Block::Leave { storage, units }
         }
         8 => {
-            let code = source.field(1, 6)?;
-            // "a facility for codes 1 and 2, else a storage"
-            let servers = if code <= 2 {
-                model.facilities
-            } else {
-                model.capacities.len() as u32
-            };
-            let server = source.field(1, servers)?;
+            let (code, server) = decode_status(source, model)?;
             Block::WaitIfStatus { code, server }
         }
         9 => Block::WaitIfComparison {
@@ -263,8 +284,22 @@ fn decode_block(source: &mut Source, model: &Model, blocks: u32) -> Result<Block
         15 => Block::Arrive {
             queue: source.field(1, model.queues)?,
         },
-        _ => Block::Depart {
+        16 => Block::Depart {
             queue: source.field(1, model.queues)?,
+        },
+        17 => {
+            let (code, server) = decode_status(source, model)?;
+            let back = source.field(1, Model::MAX_BACK)?;
+            Block::WaitJoined { code, server, back }
+        }
+        18 => Block::Assemble {
+            count: source.field(Model::MIN_ASSEMBLED, Model::MAX_ASSEMBLED)?,
+        },
+        19 => Block::Preempt {
+            facility: source.field(1, model.facilities)?,
+        },
+        _ => Block::Return {
+            facility: source.field(1, model.facilities)?,
         },
     };
     Ok(block)
@@ -286,9 +321,27 @@ pub fn well_shaped(model: &Model) -> bool {
             }
         }
     }
+    if !(1..=model.blocks.len() as u32).all(|number| group_is_whole(model, number)) {
+        return false;
+    }
     let last_leaves = model.blocks.last().is_some_and(leaves);
     let blocks = model.blocks.len() as u32;
     last_leaves && model.values.iter().all(|sum| sum_blocks_exist(sum, blocks))
+}
+
+/// 02, item 7: "The c blocks before it are server waits of kind 8, and no
+/// target names the second of this group, a later one or the kind 17 block itself."
+fn group_is_whole(model: &Model, number: u32) -> bool {
+    if !matches!(model.block(number), Block::WaitJoined { .. }) {
+        return true;
+    }
+    let Some(group) = model.group(number) else {
+        return false; // fewer than c blocks before it
+    };
+    let inside = group.start + 1..=number;
+    let plain = |block: u32| matches!(model.block(block), Block::WaitIfStatus { .. });
+    let named = |block: &Block| block.target().is_some_and(|t| inside.contains(&t));
+    group.clone().all(plain) && !model.blocks.iter().any(named)
 }
 
 fn sum_blocks_exist(sum: &Sum, blocks: u32) -> bool {

@@ -3,19 +3,29 @@
 
 pub mod contention;
 pub mod damage;
+pub mod distributions;
+pub mod editions;
+pub mod families;
 pub mod fields;
+pub mod holders;
+pub mod joined;
 pub mod nasty;
+pub mod pairs;
 pub mod pieces;
+pub mod preempt;
 pub mod random;
 pub mod scenes;
 pub mod structured;
 pub mod sums;
 pub mod tapes;
 pub mod targets;
+pub mod traces;
+pub mod wide;
 
 use crate::model::Model;
 use crate::report::REPORT_BYTES;
-use crate::run::{run, WORK_NUMBERS};
+use crate::rules::Rules;
+use crate::run::{run_with, WORK_NUMBERS};
 use crate::tape::Tape;
 use fields::{encode_model, encode_tape};
 use random::Random;
@@ -48,30 +58,64 @@ impl Size {
     }
 }
 
-/// The next random case.
+/// The same under the rules of the engine.
 pub fn case(random: &mut Random, size: Size) -> Case {
+    case_with(Rules::LANDED, random, size)
+}
+
+/// The next random case. What a request brings is drawn only where it is in
+/// force, so that the cases of older rules stay as they are.
+pub fn case_with(rules: Rules, random: &mut Random, size: Size) -> Case {
+    if rules.wide_clocks && random.one_in(10) {
+        return wide::case(rules, random, size);
+    }
+    if rules.holders && random.one_in(10) {
+        return holders::case(rules, random, size);
+    }
+    if rules.joined && random.one_in(10) {
+        return joined::case(rules, random, size);
+    }
+    if rules.assemble && random.one_in(10) {
+        return families::case(rules, random, size);
+    }
+    if rules.highest_edition > 1 && random.one_in(12) {
+        return editions::case(rules, random, size);
+    }
+    if rules.preempt && random.one_in(10) {
+        return preempt::case(rules, random, size);
+    }
     match random.below(100) {
         0..=52 => {
-            let (model, tape) = structured::model_and_tape(random, size);
-            good_case(random, size, &model, &tape)
+            let (model, tape) = structured::model_and_tape(rules, random, size);
+            good_case(rules, random, size, &model, &tape)
         }
-        53..=69 => nasty::case(random, size),
+        53..=69 => nasty::case(rules, random, size),
         70..=96 => {
-            let (model, tape) = structured::model_and_tape(random, size);
-            damage::damaged_case(random, size, model, tape)
+            let (model, tape) = structured::model_and_tape(rules, random, size);
+            damage::damaged_case(rules, random, size, model, tape)
         }
         _ => {
-            let (model, tape) = structured::model_and_tape(random, size);
-            let case = good_case(random, size, &model, &tape);
+            let (model, tape) = structured::model_and_tape(rules, random, size);
+            let case = good_case(rules, random, size, &model, &tape);
             short_buffers(random, case)
         }
     }
 }
 
 /// A case of this model and tape with random budget and lengths.
-pub fn good_case(random: &mut Random, size: Size, model: &Model, tape: &Tape) -> Case {
+pub fn good_case(
+    rules: Rules,
+    random: &mut Random,
+    size: Size,
+    model: &Model,
+    tape: &Tape,
+) -> Case {
+    let mut model = model.clone();
+    if model.edition == Model::FIRST_EDITION {
+        model.edition = edition(rules, random);
+    }
     let mut case = Case {
-        model: encode_model(model),
+        model: encode_model(&model),
         tape: encode_tape(tape),
         budget: budget(random, size),
         work_len: WORK_NUMBERS + if random.one_in(20) { 1 } else { 0 },
@@ -79,17 +123,26 @@ pub fn good_case(random: &mut Random, size: Size, model: &Model, tape: &Tape) ->
         report_len: REPORT_BYTES + if random.one_in(20) { 3 } else { 0 },
     };
     if random.one_in(10) {
-        aim_limits(random, &mut case);
+        aim_limits(rules, random, &mut case);
     }
     case
 }
 
+/// The edition of a model: often the second where there is one.
+fn edition(rules: Rules, random: &mut Random) -> u32 {
+    if rules.highest_edition > 1 && random.one_in(3) {
+        return rules.highest_edition;
+    }
+    Model::FIRST_EDITION
+}
+
 /// Sets budget and trace length beside what the run needs, so that several
 /// ends meet before the same turn.
-fn aim_limits(random: &mut Random, case: &mut Case) {
+fn aim_limits(rules: Rules, random: &mut Random, case: &mut Case) {
     let mut trace = vec![0; case.trace_len];
     let mut report = vec![0; case.report_len];
-    let outcome = run(
+    let outcome = run_with(
+        rules,
         &case.model,
         &case.tape,
         case.budget,

@@ -3,7 +3,8 @@
 //! Bytes are hexadecimal, `-` for none.
 
 use crate::generate::Case;
-use crate::run::run;
+use crate::rules::Rules;
+use crate::run::run_with;
 
 /// The case of a line; what stands after its six words is left alone.
 pub fn parse(text: &str) -> Option<Case> {
@@ -54,11 +55,12 @@ pub fn given(case: &Case) -> String {
     )
 }
 
-/// The case and what its run must give.
-pub fn line(case: &Case) -> String {
+/// The case and what its run under these rules must give.
+pub fn line(rules: Rules, case: &Case) -> String {
     let mut trace = vec![0; case.trace_len];
     let mut report = vec![0; case.report_len];
-    let outcome = run(
+    let outcome = run_with(
+        rules,
         &case.model,
         &case.tape,
         case.budget,

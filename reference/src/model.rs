@@ -4,6 +4,8 @@
 /// A model whose numbers are all in range.
 #[derive(Clone, Debug, PartialEq, Eq)]
 pub struct Model {
+    /// 1, or 2 for the 1996 rules (02, item 12).
+    pub edition: u32,
     pub facilities: u32,
     /// The capacity of each storage.
     pub capacities: Vec<u32>,
@@ -16,7 +18,7 @@ pub struct Model {
 
 /// 01, Bytes: "These limits are named constants of the model".
 impl Model {
-    pub const EDITION: u32 = 1;
+    pub const FIRST_EDITION: u32 = 1;
     pub const MAX_FACILITIES: u32 = 32;
     pub const MAX_STORAGES: u32 = 32;
     pub const MAX_CAPACITY: u32 = 65_535;
@@ -29,6 +31,9 @@ impl Model {
     pub const MAX_PRIORITY: u32 = 127;
     pub const MAX_TERMINATE: u32 = 65_535;
     pub const MAX_COPIES: u32 = 255;
+    pub const MAX_BACK: u32 = 7;
+    pub const MIN_ASSEMBLED: u32 = 2;
+    pub const MAX_ASSEMBLED: u32 = 255;
     pub const PARAMETERS: u32 = 4;
     pub const MAX_CONSTANT: u32 = 2_147_483_647;
     pub const MAX_VALUE_NUMBERS: u32 = 64;
@@ -36,8 +41,37 @@ impl Model {
     pub const MAX_MENTIONS: u32 = 2;
     pub const MAX_LIVING: u64 = 1_024;
     pub const MAX_SAMPLES: u32 = 65_535;
-    pub const MAX_SAMPLE: u32 = 1_000_000;
-    pub const MAX_MOVE_TIME: u64 = 2_000_000_000;
+
+    /// Does a PREEMPT name this facility?
+    pub fn preempts(&self, facility: u32) -> bool {
+        self.blocks.contains(&Block::Preempt { facility })
+    }
+
+    /// 02, item 12: "in any ENTER or LEAVE" more than one unit.
+    pub fn moves_several_units(&self) -> bool {
+        self.blocks.iter().any(|block| match block {
+            Block::Enter { units, .. } | Block::Leave { units, .. } => *units > 1,
+            _ => false,
+        })
+    }
+
+    /// The blocks before the joined wait at this number that belong to its
+    /// group (02, item 7: "The c blocks before it"), if they are there.
+    pub fn group(&self, number: u32) -> Option<std::ops::Range<u32>> {
+        match *self.block(number) {
+            Block::WaitJoined { back, .. } if back < number => Some(number - back..number),
+            _ => None,
+        }
+    }
+
+    /// Does a group begin with this block?
+    pub fn begins_group(&self, number: u32) -> bool {
+        let last = self.blocks.len() as u32;
+        (1..=Model::MAX_BACK)
+            .map(|back| number + back)
+            .filter(|joined| *joined <= last)
+            .any(|joined| self.group(joined).is_some_and(|g| g.start == number))
+    }
 
     /// The block with this number.
     pub fn block(&self, number: u32) -> &Block {
@@ -45,7 +79,7 @@ impl Model {
     }
 }
 
-/// The sixteen kinds of block with their operands, in the order of 01, Blocks.
+/// The kinds of block with their operands, in the order of 01, Blocks, then of 02.
 #[derive(Clone, Debug, PartialEq, Eq)]
 pub enum Block {
     Generate { list: u32, priority: u32 },
@@ -64,10 +98,14 @@ pub enum Block {
     Split { copies: u32, target: u32 },
     Arrive { queue: u32 },
     Depart { queue: u32 },
+    WaitJoined { code: u32, server: u32, back: u32 },
+    Assemble { count: u32 },
+    Preempt { facility: u32 },
+    Return { facility: u32 },
 }
 
 impl Block {
-    /// The number of the kind, 1..16.
+    /// The number of the kind.
     pub fn kind(&self) -> u32 {
         match self {
             Block::Generate { .. } => 1,
@@ -86,6 +124,10 @@ impl Block {
             Block::Split { .. } => 14,
             Block::Arrive { .. } => 15,
             Block::Depart { .. } => 16,
+            Block::WaitJoined { .. } => 17,
+            Block::Assemble { .. } => 18,
+            Block::Preempt { .. } => 19,
+            Block::Return { .. } => 20,
         }
     }
 

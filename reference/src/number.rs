@@ -1,14 +1,14 @@
 //! Numbers as bytes (01, Bytes: "A number is groups of seven bits").
 
-/// The largest number of a model, a tape or a trace.
+/// The largest number of a model; for tape and trace the rules say it.
 pub const MAX_NUMBER: u64 = 4_294_967_295;
 
 /// The most bytes such a number has.
 pub const MAX_NUMBER_BYTES: usize = 5;
 
 /// Reads the number that starts at `position`; gives it with the position
-/// after it. `None`: it is not whole, not in its shortest form or not in size.
-pub fn read_number(bytes: &[u8], position: usize) -> Option<(u32, usize)> {
+/// after it. `None`: it is not whole, not in its shortest form or above `most`.
+pub fn read_number(bytes: &[u8], position: usize, most: u64) -> Option<(u64, usize)> {
     let mut value: u64 = 0;
     for length in 0..MAX_NUMBER_BYTES {
         let byte = *bytes.get(position + length)?;
@@ -17,10 +17,10 @@ pub fn read_number(bytes: &[u8], position: usize) -> Option<(u32, usize)> {
         }
         value = value * 128 + u64::from(byte & 0x7F);
         if byte < 0x80 {
-            if value > MAX_NUMBER {
+            if value > most {
                 return None;
             }
-            return Some((value as u32, position + length + 1));
+            return Some((value, position + length + 1));
         }
     }
     None // five bytes with the top bit set: more than 5 bytes

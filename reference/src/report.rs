@@ -12,6 +12,8 @@ pub const PLACE_WSL: u64 = 3;
 pub const PLACE_FEL: u64 = 4;
 pub const PLACE_REL: u64 = 5;
 pub const PLACE_MOVING: u64 = 6;
+pub const PLACE_GATHERING: u64 = 7;
+pub const PLACE_INTERRUPTED: u64 = 8;
 
 /// Number and place of everybody found on a list, in the order of the lists.
 pub fn places(machine: &Machine) -> Vec<(u64, u64)> {
@@ -30,12 +32,17 @@ pub fn places(machine: &Machine) -> Vec<(u64, u64)> {
             .map(|e| (e.transaction.number, PLACE_FEL)),
     );
     places.extend(machine.rel.iter().map(|t| (t.number, PLACE_REL)));
+    for one in machine.gatherers.values().flatten() {
+        places.push((one.transaction.number, PLACE_GATHERING));
+    }
+    for one in &machine.interrupted {
+        places.push((one.transaction.number, PLACE_INTERRUPTED));
+    }
     places.extend(machine.moving.iter().map(|t| (t.number, PLACE_MOVING)));
     places
 }
 
-/// The numbers of the report. The order of the living, which the paper leaves
-/// free, is here by rising transaction number.
+/// The numbers of the report; 02, item 2: "List the living by rising transaction number."
 pub fn report_numbers(machine: &Machine) -> Vec<u64> {
     let mut numbers = vec![machine.clock, machine.made, machine.ended];
     for server in machine.facilities.iter().chain(machine.storages.iter()) {

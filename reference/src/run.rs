@@ -1,11 +1,12 @@
 //! A run from bytes to bytes (01, A turn; Questions at the door).
 
 use crate::blocks::Done;
-use crate::decode::decode_model;
+use crate::decode::decode_model_with;
 use crate::machine::Machine;
 use crate::report::{write_report, REPORT_BYTES};
-use crate::tape::decode_tape;
-use crate::trace::{write_record, MAX_RECORD_BYTES};
+use crate::rules::Rules;
+use crate::tape::decode_tape_with;
+use crate::trace::{write_record_with, MAX_RECORD_BYTES};
 
 /// Question 1 asks for this many 32-bit numbers.
 pub const WORK_NUMBERS: usize = 16_384;
@@ -58,8 +59,7 @@ pub struct Nobody;
 
 impl Watcher for Nobody {}
 
-/// The run of document 01. `work_len` is the length of the lent work buffer
-/// in 32-bit numbers; this implementation does not need the buffer itself.
+/// A run under the rules of the engine.
 pub fn run(
     model: &[u8],
     tape: &[u8],
@@ -68,11 +68,37 @@ pub fn run(
     trace: &mut [u8],
     report: &mut [u8],
 ) -> Outcome {
-    run_watched(model, tape, budget, work_len, trace, report, &mut Nobody)
+    let rules = Rules::LANDED;
+    run_with(rules, model, tape, budget, work_len, trace, report)
+}
+
+/// A run under any rules. `work_len` is the length of the lent work buffer in
+/// 32-bit numbers; this implementation does not need the buffer itself.
+pub fn run_with(
+    rules: Rules,
+    model: &[u8],
+    tape: &[u8],
+    budget: u64,
+    work_len: usize,
+    trace: &mut [u8],
+    report: &mut [u8],
+) -> Outcome {
+    run_watched(
+        rules,
+        model,
+        tape,
+        budget,
+        work_len,
+        trace,
+        report,
+        &mut Nobody,
+    )
 }
 
 /// The same, watched.
+#[allow(clippy::too_many_arguments)]
 pub fn run_watched(
+    rules: Rules,
     model: &[u8],
     tape: &[u8],
     budget: u64,
@@ -81,7 +107,7 @@ pub fn run_watched(
     report: &mut [u8],
     watcher: &mut dyn Watcher,
 ) -> Outcome {
-    match door(model, tape, work_len, report.len()) {
+    match door(rules, model, tape, work_len, report.len()) {
         Ok(machine) => run_from(machine, budget, trace, report, watcher),
         Err(refusal) => Outcome {
             refusal: u64::from(refusal),
@@ -91,16 +117,22 @@ pub fn run_watched(
 }
 
 /// The questions at the door, "In this order; the number is for "no"."
-pub fn door(model: &[u8], tape: &[u8], work_len: usize, report_len: usize) -> Result<Machine, u32> {
+pub fn door(
+    rules: Rules,
+    model: &[u8],
+    tape: &[u8],
+    work_len: usize,
+    report_len: usize,
+) -> Result<Machine, u32> {
     if work_len < WORK_NUMBERS {
         return Err(1);
     }
     if report_len < REPORT_BYTES {
         return Err(2);
     }
-    let model = decode_model(model)?;
-    let tape = decode_tape(tape, model.lists)?;
-    Ok(Machine::start(model, tape))
+    let model = decode_model_with(rules, model)?;
+    let tape = decode_tape_with(rules, tape, model.lists)?;
+    Ok(Machine::start(rules, model, tape))
 }
 
 /// Runs on from a given state, with an empty trace, until an end.
@@ -169,9 +201,9 @@ fn turn(machine: &mut Machine, rest: &mut [u8]) -> (u32, Done, usize) {
     let outcome = match done {
         Done::Entered | Done::Finished => 0,
         Done::BeganToWait => 1,
-        Done::PutBack | Done::Stopped(_) => return (kind, done, 0),
+        Done::PutBack | Done::WentBack | Done::Stopped(_) => return (kind, done, 0),
     };
-    let written = write_record(rest, machine.clock, number, u64::from(block), outcome)
-        .expect("asked by end 4");
+    let record = [machine.clock, number, u64::from(block), outcome];
+    let written = write_record_with(machine.rules, rest, record).expect("asked by end 4");
     (kind, done, written)
 }

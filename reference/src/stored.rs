@@ -8,6 +8,7 @@ use crate::generate::{case, Case, Size};
 use crate::machine::Machine;
 use crate::model::Model;
 use crate::number::number_bytes;
+use crate::rules::Rules;
 use crate::run::{run, run_watched, Watcher};
 use std::collections::{BTreeMap, BTreeSet};
 
@@ -60,14 +61,18 @@ impl Watcher for Features {
             self.add(waits, &format!("WEL {code}"));
         }
         self.add(!machine.wsl.is_empty(), "WSL");
+        let gathers = machine.gatherers.values().any(|list| !list.is_empty());
+        self.add(gathers, "gatherers");
+        self.add(!machine.interrupted.is_empty(), "interrupted");
         self.add(!machine.rel.is_empty(), "REL");
         self.add(!machine.fel.is_empty(), "FEL");
+        self.add(machine.model.edition == 2, "edition 2");
         self.add(machine.living() == Model::MAX_LIVING, "1,024 living");
         self.add(
-            machine.clock + 1_000_000 > Model::MAX_MOVE_TIME,
+            machine.clock + 1_000_000 > machine.rules.max_clock(),
             "late clock",
         );
-        self.add(machine.clock == Model::MAX_MOVE_TIME, "last clock");
+        self.add(machine.clock == machine.rules.max_clock(), "last clock");
     }
 
     fn after_turn(&mut self, kind: u32, done: Done) {
@@ -84,6 +89,7 @@ fn features(case: &Case) -> BTreeSet<String> {
     let mut trace = vec![0; case.trace_len];
     let mut report = vec![0; case.report_len];
     let outcome = run_watched(
+        Rules::LANDED,
         &case.model,
         &case.tape,
         case.budget,

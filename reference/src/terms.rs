@@ -11,7 +11,8 @@ impl Machine {
             Term::Constant(number) => *number as i32,
             Term::MinusConstant(number) => -(*number as i32),
             Term::Parameter(number) => transaction.parameters[*number as usize - 1],
-            Term::Clock => self.clock as i32,
+            // 02, item 1: "the clock's low 32 bits as a signed number"
+            Term::Clock => self.clock as u32 as i32,
             Term::Entries(block) => self.entries[*block as usize - 1] as i32,
             Term::Content(queue) => self.queues[*queue as usize - 1].content as i32,
             Term::UnitsInUse(number) => storage(*number).in_use as i32,

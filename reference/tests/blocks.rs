@@ -5,6 +5,7 @@ use common::*;
 use reference::blocks::Done;
 use reference::machine::{insert, Machine};
 use reference::model::{Block, Term};
+use reference::Rules;
 
 #[test]
 fn lists_are_sorted_by_priority_then_serial() {
@@ -25,7 +26,7 @@ fn the_start_uses_shared_lists_in_block_order() {
         generate_at(1, 9),
         terminate(1),
     ];
-    let machine = Machine::start(model(blocks), vec![vec![7, 7], vec![], vec![]]);
+    let machine = Machine::start(Rules::BASE, model(blocks), vec![vec![7, 7], vec![], vec![]]);
     assert_eq!(machine.made, 2);
     let fel: Vec<_> = machine
         .fel

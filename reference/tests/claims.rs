@@ -3,20 +3,21 @@
 mod common;
 use common::*;
 use reference::account::Account;
-use reference::claims::{check, Claims};
+use reference::claims::{check_with, Claims};
 use reference::generate::random::Random;
-use reference::generate::{case, Size};
+use reference::generate::{case_with, Size};
 use reference::machine::{insert, Machine};
 use reference::model::{Model, Term};
 use reference::run::Watcher;
-use reference::trace::write_record;
+use reference::trace::write_record_with;
+use reference::Rules;
 
-fn check_many(seed: u64, count: u64, size: Size) {
+fn check_many(rules: Rules, seed: u64, count: u64, size: Size) {
     let mut random = Random::new(seed);
     let mut asked = 0;
     for number in 0..count {
-        let case = case(&mut random, size);
-        match check(&case) {
+        let case = case_with(rules, &mut random, size);
+        match check_with(rules, &case) {
             Ok((_, times)) => asked += times,
             Err(errors) => panic!("seed {seed}, case {number}: {errors:?}\n{case:?}"),
         }
@@ -26,23 +27,22 @@ fn check_many(seed: u64, count: u64, size: Size) {
 
 #[test]
 fn claims_hold_over_small_cases() {
-    check_many(11, 6_000, Size::Small);
+    check_many(Rules::BASE, 11, 6_000, Size::Small);
 }
 
 #[test]
 fn claims_hold_over_full_cases() {
-    check_many(12, 1_500, Size::Full);
+    check_many(Rules::BASE, 12, 1_500, Size::Full);
 }
 
 /// The account of these records, each clock, transaction, block, outcome.
-fn account(model: &Model, first_list: Vec<u32>, records: &[[u64; 4]]) -> Account {
+fn account(model: &Model, first_list: Vec<u64>, records: &[[u64; 4]]) -> Account {
     let mut trace = vec![0; 1_000];
     let mut used = 0;
-    for [clock, transaction, block, outcome] in records {
-        let rest = &mut trace[used..];
-        used += write_record(rest, *clock, *transaction, *block, *outcome).unwrap();
+    for record in records {
+        used += write_record_with(Rules::BASE, &mut trace[used..], *record).unwrap();
     }
-    let mut account = Account::new(model, &vec![first_list, vec![], vec![]]);
+    let mut account = Account::new(Rules::BASE, model, &vec![first_list, vec![], vec![]]);
     account.read(&trace[..used]);
     account
 }
@@ -119,7 +119,7 @@ fn the_account_finds_records_that_cannot_be() {
 
 /// What the claims say of a state before a turn.
 fn complaints(machine: &Machine) -> usize {
-    let start = Machine::start(machine.model.clone(), machine.tape.clone());
+    let start = Machine::start(Rules::BASE, machine.model.clone(), machine.tape.clone());
     let mut claims = Claims::new(&start);
     claims.before_turn(machine, &[]);
     claims.errors.len()
@@ -135,7 +135,7 @@ fn the_claims_find_a_waiter_able_to_go() {
         wait_while(Term::Clock, 3, Term::Constant(5)),
         terminate(1),
     ];
-    let mut start = Machine::start(model(blocks), vec![vec![1], vec![], vec![]]);
+    let mut start = Machine::start(Rules::BASE, model(blocks), vec![vec![1], vec![], vec![]]);
     let lone = start.fel.remove(0).transaction;
     let waiting = |block: u32, change: &dyn Fn(&mut Machine)| {
         let mut machine = start.clone();
@@ -163,7 +163,7 @@ fn the_claims_find_a_waiter_able_to_go() {
 #[test]
 fn the_claims_find_one_who_stands_twice_or_nowhere() {
     let blocks = vec![generate(1), terminate(1)];
-    let start = Machine::start(model(blocks), vec![vec![1], vec![], vec![]]);
+    let start = Machine::start(Rules::BASE, model(blocks), vec![vec![1], vec![], vec![]]);
     assert_eq!(complaints(&start), 0);
     let mut twice = start.clone();
     insert(&mut twice.rel, start.fel[0].transaction.clone());

@@ -2,14 +2,15 @@
 
 mod common;
 use common::*;
-use reference::decode::decode_model;
+use reference::decode::decode_model_with;
 use reference::generate::fields::{
     encode_fields, encode_model, encode_tape, model_fields, tape_fields,
 };
 use reference::model::{Block, Model, Term};
 use reference::report::REPORT_BYTES;
-use reference::run::{run, WORK_NUMBERS};
-use reference::tape::decode_tape;
+use reference::run::{run_with, WORK_NUMBERS};
+use reference::tape::decode_tape_with;
+use reference::Rules;
 
 /// A model with every kind of block and every tag.
 fn rich() -> Model {
@@ -54,16 +55,16 @@ fn rich() -> Model {
     model
 }
 
-fn rich_tape() -> Vec<Vec<u32>> {
+fn rich_tape() -> Vec<Vec<u64>> {
     vec![vec![0, 1_000_000, 128], vec![], vec![70_000, 3]]
 }
 
 #[test]
 fn the_rich_model_is_accepted_and_comes_back_the_same() {
     let bytes = encode_model(&rich());
-    assert_eq!(decode_model(&bytes), Ok(rich()));
+    assert_eq!(decode_model_with(Rules::BASE, &bytes), Ok(rich()));
     let tape = encode_tape(&rich_tape());
-    assert_eq!(decode_tape(&tape, 3), Ok(rich_tape()));
+    assert_eq!(decode_tape_with(Rules::BASE, &tape, 3), Ok(rich_tape()));
     assert_eq!(refusal(&bytes, &tape), 0);
 }
 
@@ -71,7 +72,7 @@ fn the_rich_model_is_accepted_and_comes_back_the_same() {
 fn buffers_first_work_then_report_before_any_byte() {
     let ask = |work: usize, report: usize| {
         let mut report = vec![9; report];
-        let outcome = run(&[0x80], &[], 5, work, &mut [], &mut report);
+        let outcome = run_with(Rules::BASE, &[0x80], &[], 5, work, &mut [], &mut report);
         assert!(report.iter().all(|byte| *byte == 9));
         outcome.refusal
     };
@@ -106,8 +107,8 @@ fn odd_numbers_are_3_or_8_everywhere() {
     ];
     let bytes = encode_model(&rich());
     let tape = encode_tape(&rich_tape());
-    let model = model_fields(&rich());
-    let times = tape_fields(&rich_tape());
+    let model = model_fields(Rules::BASE, &rich());
+    let times = tape_fields(Rules::BASE, &rich_tape());
     for number in odd {
         for at in 0..model.len() {
             let mut spoilt = encode_fields(&model[..at]);
@@ -129,7 +130,7 @@ fn out_of_range_is_4_or_9_everywhere() {
     let bytes = encode_model(&rich());
     let tape = encode_tape(&rich_tape());
     let check = |fields: &[reference::generate::fields::Field], at: usize, model: bool| {
-        let mut outside = vec![fields[at].high + 1, u32::MAX];
+        let mut outside = vec![fields[at].high + 1, u64::from(u32::MAX)];
         if fields[at].low > 0 {
             outside.push(fields[at].low - 1);
         }
@@ -146,11 +147,11 @@ fn out_of_range_is_4_or_9_everywhere() {
             }
         }
     };
-    let model = model_fields(&rich());
+    let model = model_fields(Rules::BASE, &rich());
     for at in 0..model.len() {
         check(&model, at, true);
     }
-    let times = tape_fields(&rich_tape());
+    let times = tape_fields(Rules::BASE, &rich_tape());
     for at in 0..times.len() {
         check(&times, at, false);
     }

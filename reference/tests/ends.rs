@@ -3,11 +3,12 @@
 mod common;
 use common::*;
 use reference::machine::{Event, Machine};
-use reference::model::{Block, Model, Term};
+use reference::model::{Block, Term};
 use reference::run::{LAST_SERIAL_LIMIT, TURN_LIMIT};
 use reference::tape::Tape;
+use reference::Rules;
 
-fn lists(first: Vec<u32>, second: Vec<u32>) -> Tape {
+fn lists(first: Vec<u64>, second: Vec<u64>) -> Tape {
     vec![first, second, vec![]]
 }
 
@@ -79,7 +80,7 @@ fn end_4_with_fewer_than_12_bytes_left() {
 
 #[test]
 fn end_4_is_asked_even_if_the_turn_would_write_nothing() {
-    let mut machine = Machine::start(model(vec![SEIZE, terminate(1)]), none());
+    let mut machine = Machine::start(Rules::BASE, model(vec![SEIZE, terminate(1)]), none());
     machine.made = 2;
     machine.facilities[0].in_use = 1;
     machine.wake(transaction(2, 1, 9));
@@ -95,7 +96,7 @@ fn end_4_is_asked_even_if_the_turn_would_write_nothing() {
 
 #[test]
 fn the_order_is_1_26_3_4() {
-    let mut machine = Machine::start(model(vec![terminate(1)]), none());
+    let mut machine = Machine::start(Rules::BASE, model(vec![terminate(1)]), none());
     machine.last_serial = LAST_SERIAL_LIMIT + 1;
     assert_eq!(run_state(machine.clone(), 0).outcome.end, 1);
     machine.made = 1;
@@ -114,7 +115,7 @@ fn the_order_is_1_26_3_4() {
 fn end_26_by_serials_or_by_turns() {
     // Each PRIORITY gives one serial.
     let blocks = vec![priority(1), goto(1)];
-    let mut machine = Machine::start(model(blocks), none());
+    let mut machine = Machine::start(Rules::BASE, model(blocks), none());
     machine.made = 1;
     machine.moving = Some(transaction(1, 1, 1));
     machine.last_serial = LAST_SERIAL_LIMIT - 1;
@@ -159,7 +160,11 @@ fn end_21_split_makes_all_or_none() {
 /// A machine in which one transaction waits on the FEL for block 1 at 10, the
 /// clock stands at `clock`, and this many live.
 fn about_to(block: Block, tape: Tape, clock: u64, living: u64) -> Machine {
-    let mut machine = Machine::start(model(vec![goto(2), block, terminate(1)]), none());
+    let mut machine = Machine::start(
+        Rules::BASE,
+        model(vec![goto(2), block, terminate(1)]),
+        none(),
+    );
     machine.tape = tape;
     machine.clock = clock;
     machine.made = living;
@@ -172,8 +177,8 @@ fn about_to(block: Block, tape: Tape, clock: u64, living: u64) -> Machine {
 
 #[test]
 fn generate_asks_21_then_22_but_not_of_a_spent_list() {
-    let late = Model::MAX_MOVE_TIME - 10;
-    let end = |times: Vec<u32>, clock: u64, living: u64| {
+    let late = Rules::BASE.max_clock() - 10;
+    let end = |times: Vec<u64>, clock: u64, living: u64| {
         let machine = about_to(generate(1), lists(times, vec![]), clock, living);
         run_state(machine, 1).outcome.end
     };
@@ -186,7 +191,7 @@ fn generate_asks_21_then_22_but_not_of_a_spent_list() {
 
 #[test]
 fn advance_asks_23_then_22() {
-    let late = Model::MAX_MOVE_TIME - 15;
+    let late = Rules::BASE.max_clock() - 15;
     for (times, end) in [(vec![], 23), (vec![6], 22), (vec![5], 3), (vec![0], 3)] {
         let machine = about_to(advance(2), lists(vec![], times), late, 1);
         assert_eq!(run_state(machine, 1).outcome.end, end);
@@ -247,7 +252,7 @@ fn no_ws_scheme_after_a_stop_or_end_2() {
             block,
             terminate(1),
         ];
-        let mut machine = Machine::start(model(blocks), lists(vec![1], vec![]));
+        let mut machine = Machine::start(Rules::BASE, model(blocks), lists(vec![1], vec![]));
         machine.made += 1;
         machine.fel.push(Event {
             move_time: 7,

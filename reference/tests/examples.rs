@@ -5,8 +5,9 @@ use common::*;
 use reference::blocks::Done;
 use reference::machine::Machine;
 use reference::model::{Model, Term};
-use reference::number::read_number;
+use reference::number::{read_number, MAX_NUMBER};
 use reference::text::runmodel;
+use reference::Rules;
 
 const MODEL: [u8; 19] = [1, 1, 0, 0, 0, 2, 2, 5, 1, 1, 0, 4, 1, 2, 2, 5, 1, 3, 1];
 const TAPE: [u8; 6] = [2, 3, 2, 2, 5, 4];
@@ -66,7 +67,7 @@ fn no_generate_budget_0_gives_end_1() {
 #[test]
 fn serials_5_and_9_both_woken_both_find_f_in_use() {
     let tape = vec![vec![]; 3];
-    let mut machine = Machine::start(model(vec![SEIZE, terminate(1)]), tape);
+    let mut machine = Machine::start(Rules::BASE, model(vec![SEIZE, terminate(1)]), tape);
     machine.made = 3;
     machine.last_serial = 20;
     machine.facilities[0].in_use = 1;
@@ -112,7 +113,7 @@ fn sums_wrap_in_signed_32_bits() {
     let mut model = model(vec![terminate(1)]);
     let one = || plus(Term::Constant(1));
     model.values = vec![sum(vec![plus(Term::Constant(Model::MAX_CONSTANT)), one()])];
-    let machine = Machine::start(model, vec![vec![]; 3]);
+    let machine = Machine::start(Rules::BASE, model, vec![vec![]; 3]);
     let nobody = transaction(1, 1, 1);
     assert_eq!(machine.term(&Term::Value(1), &nobody), -2_147_483_648);
     let below = sum(vec![
@@ -124,7 +125,7 @@ fn sums_wrap_in_signed_32_bits() {
 
 #[test]
 fn a_padded_number_is_refused() {
-    assert_eq!(read_number(&[0x80, 0x01], 0), None);
+    assert_eq!(read_number(&[0x80, 0x01], 0, MAX_NUMBER), None);
     let mut padded = vec![0x80];
     padded.extend(MODEL);
     assert_eq!(refusal(&padded, &TAPE), 3);

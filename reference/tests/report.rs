@@ -5,10 +5,11 @@ use common::*;
 use reference::machine::{insert, Event, Machine};
 use reference::model::Term;
 use reference::report::{read_report, report_numbers};
+use reference::Rules;
 
 #[test]
 fn all_six_places_by_rising_number() {
-    let mut machine = Machine::start(model(vec![terminate(1)]), vec![vec![]; 3]);
+    let mut machine = Machine::start(Rules::BASE, model(vec![terminate(1)]), vec![vec![]; 3]);
     machine.made = 9;
     machine.ended = 2;
     machine.clock = 300;
@@ -119,7 +120,7 @@ fn the_largest_report_fits() {
     big.facilities = 32;
     big.capacities = vec![65_535; 32];
     big.queues = 32;
-    let mut machine = Machine::start(big, vec![vec![]; 3]);
+    let mut machine = Machine::start(Rules::BASE, big, vec![vec![]; 3]);
     machine.clock = 2_000_000_000;
     machine.made = 100_000_000;
     machine.ended = 100_000_000 - 1_024;
@@ -144,4 +145,21 @@ fn the_largest_report_fits() {
     let ran = run_state(machine, 0);
     assert_eq!(ran.outcome.end, 3);
     assert!(ran.outcome.report_bytes <= 10_240);
+}
+
+#[test]
+fn the_living_stand_by_rising_number_whatever_their_lists() {
+    let mut machine = machine(vec![SEIZE, enter(2), wait_status(1), terminate(1)]);
+    machine.made = 9;
+    machine.ended = 3;
+    machine.facilities[0].in_use = 1;
+    insert(&mut machine.rel, waiter(9, 4, 5));
+    insert(&mut machine.rel, waiter(2, 4, 0));
+    insert(&mut machine.facilities[0].ql, waiter(7, 1, 0));
+    insert(&mut machine.facilities[0].wel[0], waiter(3, 3, 0));
+    insert(&mut machine.storages[0].ql, waiter(5, 2, 0));
+    machine.moving = Some(transaction(4, 4, 1));
+    let ran = run_state(machine, 0);
+    let living = [(2, 5), (3, 2), (4, 6), (5, 1), (7, 1), (9, 5)];
+    assert_eq!(ran.living(), living);
 }

@@ -1,7 +1,11 @@
 //! The stored cases of crate `vectors` are those that this program writes, and
 //! each refusal, end, kind with its outcomes and list is among them.
 
+use reference::blocks::Done;
+use reference::coverage::{ends, possible};
+use reference::rules::LAST_KIND;
 use reference::stored::{cases, encode, expected};
+use reference::Rules;
 
 fn stored(name: &str) -> Vec<u8> {
     let folder = concat!(env!("CARGO_MANIFEST_DIR"), "/../crates/vectors/");
@@ -18,11 +22,18 @@ fn stored_cases_are_up_to_date() {
     );
     assert_eq!(stored("stdout"), expected(&cases).into_bytes());
     let mut wanted: Vec<String> = (0..=10).map(|n| format!("refusal {n}")).collect();
-    wanted.extend([1, 2, 3, 4, 21, 22, 23, 24, 25].map(|n| format!("end {n}")));
-    wanted.extend((1..=16).map(|kind| format!("kind {kind} Entered")));
-    for kind in [4, 6, 8, 9] {
-        wanted.push(format!("kind {kind} BeganToWait"));
-        wanted.push(format!("kind {kind} PutBack"));
+    wanted.extend(ends(Rules::LANDED).iter().map(|n| format!("end {n}")));
+    for kind in 1..=LAST_KIND {
+        for done in [
+            Done::Entered,
+            Done::BeganToWait,
+            Done::PutBack,
+            Done::WentBack,
+        ] {
+            if possible(Rules::LANDED, kind, done) {
+                wanted.push(format!("kind {kind} {done:?}"));
+            }
+        }
     }
     wanted.extend((1..=6).map(|code| format!("WEL {code}")));
     for name in [

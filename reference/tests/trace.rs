@@ -1,7 +1,22 @@
 //! Trace reader, record writer and byte count.
 
-use reference::number::{number_bytes, read_number};
-use reference::trace::{count_low_bytes, read_record, write_record, TraceReader};
+use reference::generate::random::Random;
+use reference::generate::traces::low_and_high;
+use reference::number::{self, number_bytes};
+use reference::trace::{count_low, read_record_with, write_record_with, Record, TraceReader};
+use reference::Rules;
+
+fn read_record(bytes: &[u8], position: usize) -> Result<Record, u32> {
+    read_record_with(Rules::BASE, bytes, position)
+}
+
+fn write_record(rest: &mut [u8], c: u64, t: u64, b: u64, o: u64) -> Result<usize, u32> {
+    write_record_with(Rules::BASE, rest, [c, t, b, o])
+}
+
+fn read_number(bytes: &[u8], position: usize) -> Option<(u64, usize)> {
+    number::read_number(bytes, position, number::MAX_NUMBER)
+}
 
 #[test]
 fn numbers_as_in_the_paper() {
@@ -15,7 +30,7 @@ fn numbers_round_trip_at_every_length() {
     for bits in 0..32 {
         for value in [(1u64 << bits) - 1, 1 << bits, (1 << bits) + 1] {
             let bytes = number_bytes(value);
-            assert_eq!(read_number(&bytes, 0), Some((value as u32, bytes.len())));
+            assert_eq!(read_number(&bytes, 0), Some((value, bytes.len())));
             assert_eq!(read_number(&bytes[..bytes.len() - 1], 0), None);
             let mut padded = vec![0x80];
             padded.extend(&bytes);
@@ -103,7 +118,7 @@ fn the_reader_asks_number_by_number() {
 #[test]
 fn a_refusal_leaves_the_position() {
     let bytes = [0, 1, 1, 0, 5, 1, 2, 1, 6, 0, 1, 1];
-    let mut reader = TraceReader::new(&bytes);
+    let mut reader = TraceReader::with(Rules::BASE, &bytes);
     assert_eq!(reader.next_record().unwrap().clock, 0);
     assert_eq!(reader.next_record().unwrap().outcome, 1);
     assert_eq!(reader.position, 8);
@@ -114,10 +129,28 @@ fn a_refusal_leaves_the_position() {
 
 #[test]
 fn bytes_below_80_are_counted_over_all_lent_bytes() {
-    assert_eq!(count_low_bytes(&[]), 0);
+    assert_eq!(count_low(&[]), 0);
     let bytes = [0, 1, 0x7F, 0x80, 0xFF, 0x81, 0];
-    let mut reader = TraceReader::new(&bytes);
+    let mut reader = TraceReader::with(Rules::BASE, &bytes);
     assert_eq!(reader.count_low_bytes(), 4);
     reader.position = 5;
     assert_eq!(reader.count_low_bytes(), 4);
+}
+
+#[test]
+fn the_count_of_a_row_is_that_of_its_parts() {
+    for byte in 0..=255 {
+        assert_eq!(count_low(&[byte]), u64::from(byte < 0x80));
+    }
+    let mut random = Random::new(81);
+    for length in 0..400 {
+        let bytes = low_and_high(&mut random, length);
+        assert_eq!(bytes.len(), length);
+        for at in [0, length / 3, length.saturating_sub(1)] {
+            let (front, back) = bytes.split_at(at);
+            assert_eq!(count_low(&bytes), count_low(front) + count_low(back));
+        }
+        let high = bytes.iter().map(|byte| u64::from(byte >> 7)).sum::<u64>();
+        assert_eq!(count_low(&bytes) + high, length as u64);
+    }
 }

@@ -4,6 +4,7 @@ mod common;
 use common::*;
 use reference::generate::fields::{count_numbers, encode_fields, encode_model, model_fields};
 use reference::model::{Sum, Term};
+use reference::Rules;
 
 /// The bytes of a model with these values and one block.
 fn with_values(values: Vec<Sum>) -> Vec<u8> {
@@ -57,10 +58,10 @@ fn a_value_has_64_numbers_and_no_more() {
 fn the_65th_number_is_asked_3_then_4_then_5() {
     let mut model = model(vec![terminate(1)]);
     model.values = vec![sum_of_numbers(66)];
-    let fields = model_fields(&model);
+    let fields = model_fields(Rules::BASE, &model);
     let before = 5 + 1; // edition .. values with one capacity
     let at = before + 64; // the 65th number of the value
-    let front = |value: Option<u32>| {
+    let front = |value: Option<u64>| {
         let mut front = fields[..at].to_vec();
         if let Some(value) = value {
             front.push(fields[at]);

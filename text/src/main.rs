@@ -1,5 +1,6 @@
 //! `modeltext`: text to bytes and bytes to text.
 
+use modeltext::{read, tape, Fault};
 use std::process::ExitCode;
 
 const HELP: &str = "\
@@ -12,7 +13,8 @@ modeltext: models and tapes as text and as bytes
   modeltext folder FOLDER                 model.txt and tape.txt of a folder to model.bin and tape.bin
   modeltext --help
 
-An error names file, line and column and writes nothing. docs/TEXT.md has the syntax.
+An error names file, line and column and says what to write instead; nothing is written then. docs/TEXT.md has the syntax.
+`covrith check` also asks the engine's questions.
 ";
 
 fn main() -> ExitCode {
@@ -23,22 +25,11 @@ fn main() -> ExitCode {
             print!("{HELP}");
             Ok(())
         }
-        ["model", from, to] => assemble(from, to, model),
-        ["tape", from, to] => assemble(from, to, tape),
+        ["model", from, to] => assemble(from, to, modeltext::model_bytes),
+        ["tape", from, to] => assemble(from, to, tape::bytes),
         ["show-model", from] => show(from, modeltext::model_text),
-        ["show-tape", from] => show(from, modeltext::tape::text),
-        ["folder", folder] => assemble(
-            &format!("{folder}/model.txt"),
-            &format!("{folder}/model.bin"),
-            model,
-        )
-        .and_then(|()| {
-            assemble(
-                &format!("{folder}/tape.txt"),
-                &format!("{folder}/tape.bin"),
-                tape,
-            )
-        }),
+        ["show-tape", from] => show(from, tape::text),
+        ["folder", folder] => assemble_folder(folder),
         _ => {
             eprint!("{HELP}");
             return ExitCode::from(2);
@@ -53,22 +44,58 @@ fn main() -> ExitCode {
     }
 }
 
-fn model(text: &str) -> Result<Vec<u8>, modeltext::Fault> {
-    modeltext::model_bytes(text)
+fn text_of(path: &str) -> Result<String, String> {
+    std::fs::read_to_string(path).map_err(|e| format!("{path}: {e}"))
 }
 
-fn tape(text: &str) -> Result<Vec<u8>, modeltext::Fault> {
-    Ok(modeltext::tape::bytes(&modeltext::tape::lists(text)?))
+fn told(path: &str, faults: &[Fault]) -> String {
+    let lines: Vec<String> = faults.iter().map(|f| format!("{path}:{f}")).collect();
+    lines.join("\n")
+}
+
+/// Writes beside the file and then renames, so that no half of it is ever there.
+fn write(path: &str, bytes: &[u8]) -> Result<(), String> {
+    let beside = format!("{path}.new");
+    let done = std::fs::write(&beside, bytes).and_then(|()| std::fs::rename(&beside, path));
+    done.map_err(|e| {
+        let _ = std::fs::remove_file(&beside);
+        format!("{path}: {e}")
+    })
 }
 
 fn assemble(
     from: &str,
     to: &str,
-    make: fn(&str) -> Result<Vec<u8>, modeltext::Fault>,
+    make: fn(&str) -> Result<Vec<u8>, Vec<Fault>>,
 ) -> Result<(), String> {
-    let text = std::fs::read_to_string(from).map_err(|e| format!("{from}: {e}"))?;
-    let bytes = make(&text).map_err(|fault| format!("{from}:{fault}"))?;
-    std::fs::write(to, bytes).map_err(|e| format!("{to}: {e}"))
+    let bytes = make(&text_of(from)?).map_err(|faults| told(from, &faults))?;
+    write(to, &bytes)
+}
+
+/// Both files or none: the tape's lists are held to the model's.
+fn assemble_folder(folder: &str) -> Result<(), String> {
+    let (model_path, tape_path) = (format!("{folder}/model.txt"), format!("{folder}/tape.txt"));
+    let (model_text, tape_text) = (text_of(&model_path)?, text_of(&tape_path)?);
+    let source = read::model(&model_text);
+    let mut messages = Vec::new();
+    if !source.faults.is_empty() {
+        messages.push(told(&model_path, &source.faults));
+    }
+    let bytes = tape::bytes(&tape_text);
+    if let Err(faults) = &bytes {
+        messages.push(told(&tape_path, faults));
+    } else if source.faults.is_empty() {
+        let found = tape::against(&tape::read(&tape_text), &source.names.lists);
+        let faults: Vec<Fault> = found.iter().map(|m| m.fault().clone()).collect();
+        if !faults.is_empty() {
+            messages.push(told(&tape_path, &faults));
+        }
+    }
+    if !messages.is_empty() {
+        return Err(messages.join("\n"));
+    }
+    write(&format!("{folder}/model.bin"), &source.model.bytes())?;
+    write(&format!("{folder}/tape.bin"), &bytes.unwrap_or_default())
 }
 
 fn show(from: &str, make: fn(&[u8]) -> Result<String, String>) -> Result<(), String> {

@@ -1,20 +1,7 @@
 //! A model as numbers and named things, between text and bytes.
 
 use crate::number;
-
-/// Tags of terms.
-pub const CONSTANT: u32 = 0;
-pub const MINUS_CONSTANT: u32 = 1;
-pub const PARAMETER: u32 = 2;
-pub const CLOCK: u32 = 3;
-pub const ENTRIES: u32 = 4;
-pub const CONTENT: u32 = 5;
-pub const IN_USE: u32 = 6;
-pub const FREE: u32 = 7;
-pub const FACILITY: u32 = 8;
-pub const VALUE: u32 = 9;
-pub const COMPARISON: u32 = 10;
-pub const BRACKET: u32 = 11;
+use crate::words::{self, BRACKET, COMPARISON, VALUE};
 
 #[derive(Clone, Debug, PartialEq, Eq)]
 pub enum Term {
@@ -44,14 +31,28 @@ pub struct Block {
     pub operands: Vec<Operand>,
 }
 
-/// What the operands of a kind are: one letter each. f facility, s storage, q queue, l list, b block, c status code, v server
-/// of the code before it, r relation, t term, p parameter, n number.
-pub const OPERANDS: [&str; 17] = [
-    "", "ln", "l", "n", "f", "f", "sn", "sn", "cv", "trt", "trtb", "b", "pt", "n", "nb", "q", "q",
-];
+impl Block {
+    /// The letters of its operands (`words::Kind`), each with its operand.
+    pub fn lettered(&self) -> impl Iterator<Item = (char, Operand)> + '_ {
+        let letters = words::kind_of(self.kind).map_or("", |kind| kind.operands);
+        letters.chars().zip(self.operands.iter().copied())
+    }
 
-#[derive(Clone, Debug, Default, PartialEq, Eq)]
+    /// The block that a target names.
+    pub fn target(&self) -> Option<u32> {
+        self.lettered().find_map(|operand| match operand {
+            ('b', Operand::Number(n)) => Some(n),
+            _ => None,
+        })
+    }
+}
+
+/// The edition of a model that names none.
+pub const EDITION: u32 = 1;
+
+#[derive(Clone, Debug, PartialEq, Eq)]
 pub struct Model {
+    pub edition: u32,
     pub facilities: u32,
     pub capacities: Vec<u32>,
     pub queues: u32,
@@ -61,9 +62,24 @@ pub struct Model {
     pub blocks: Vec<Block>,
 }
 
+impl Default for Model {
+    fn default() -> Model {
+        Model {
+            edition: EDITION,
+            facilities: 0,
+            capacities: Vec::new(),
+            queues: 0,
+            values: Vec::new(),
+            lists: 0,
+            counter: 0,
+            blocks: Vec::new(),
+        }
+    }
+}
+
 impl Model {
     pub fn bytes(&self) -> Vec<u8> {
-        let mut n = vec![1, self.facilities, self.capacities.len() as u32];
+        let mut n = vec![self.edition, self.facilities, self.capacities.len() as u32];
         n.extend(&self.capacities);
         n.extend([self.queues, self.values.len() as u32]);
         for sum in &self.values {
@@ -81,14 +97,18 @@ impl Model {
         }
         let mut out = Vec::new();
         for v in n {
-            number::write(v, &mut out);
+            number::write(u64::from(v), &mut out);
         }
         out
     }
 
     pub fn from_bytes(bytes: &[u8]) -> Result<Model, String> {
         let mut numbers = Numbers {
-            all: number::read_all(bytes)?,
+            all: number::read_all(bytes)?
+                .into_iter()
+                .map(u32::try_from)
+                .collect::<Result<_, _>>()
+                .map_err(|_| "a number is above 4294967295".to_string())?,
             at: 0,
         };
         let model = numbers.model()?;
@@ -144,10 +164,8 @@ impl Numbers {
     }
 
     fn model(&mut self) -> Result<Model, String> {
-        if self.next()? != 1 {
-            return Err("the edition is not 1".to_string());
-        }
         let mut m = Model {
+            edition: self.next()?,
             facilities: self.up_to(32)?,
             ..Model::default()
         };
@@ -197,33 +215,31 @@ impl Numbers {
     }
 
     fn relation(&mut self) -> Result<u32, String> {
-        match self.up_to(6)? {
+        match self.up_to(words::RELATIONS.len() as u32)? {
             0 => Err(format!("number {} is no relation", self.at)),
             r => Ok(r),
         }
     }
 
     fn block(&mut self) -> Result<Block, String> {
-        let kind = self.up_to(16)?;
-        if kind == 0 {
-            return Err(format!("number {} is no kind of block", self.at));
-        }
+        let number = self.next()?;
+        let kind = words::kind_of(number)
+            .ok_or_else(|| format!("number {} is no kind of block", self.at))?;
         let mut operands = Vec::new();
-        for what in self.letters(kind) {
-            operands.push(match what {
+        for letter in kind.operands.chars() {
+            operands.push(match letter {
                 't' => Operand::Term(self.up_to(VALUE)?, self.next()?),
                 'r' => Operand::Number(self.relation()?),
-                'c' => match self.up_to(6)? {
+                'c' => match self.up_to(words::CODES.len() as u32)? {
                     0 => return Err(format!("number {} is no status code", self.at)),
                     code => Operand::Number(code),
                 },
                 _ => Operand::Number(self.next()?),
             });
         }
-        Ok(Block { kind, operands })
-    }
-
-    fn letters(&self, kind: u32) -> std::str::Chars<'static> {
-        OPERANDS[kind as usize].chars()
+        Ok(Block {
+            kind: number,
+            operands,
+        })
     }
 }

@@ -1,7 +1,7 @@
 //! Numbers in bytes: groups of seven bits, highest first, top bit set on all but the last.
 
-pub fn write(v: u32, out: &mut Vec<u8>) {
-    let mut shift = 28;
+pub fn write(v: u64, out: &mut Vec<u8>) {
+    let mut shift = 63;
     while shift > 0 && v >> shift == 0 {
         shift -= 7;
     }
@@ -12,8 +12,8 @@ pub fn write(v: u32, out: &mut Vec<u8>) {
     out.push((v & 127) as u8);
 }
 
-/// The numbers of a byte string. An error names the byte that does not end a shortest number in size.
-pub fn read_all(bytes: &[u8]) -> Result<Vec<u32>, String> {
+/// The numbers of a byte string, of at most five bytes each. An error names the byte that does not end a shortest number.
+pub fn read_all(bytes: &[u8]) -> Result<Vec<u64>, String> {
     let mut numbers = Vec::new();
     let mut at = 0;
     while at < bytes.len() {
@@ -37,8 +37,7 @@ pub fn read_all(bytes: &[u8]) -> Result<Vec<u32>, String> {
                 return Err(format!("byte {start}: the number has more than five bytes"));
             }
         }
-        numbers
-            .push(u32::try_from(v).map_err(|_| format!("byte {start}: the number is too large"))?);
+        numbers.push(v);
     }
     Ok(numbers)
 }

@@ -1,478 +1,313 @@
-//! From text to a model: names are gathered first, then each statement is read.
+//! From text to a model: names are gathered first, then each statement is read. A fault ends its statement only.
 
-use std::collections::HashMap;
-
-use crate::model::{self, Block, Model, Operand, Signed, Term};
+use crate::model::{Block, Model};
+use crate::names::{Named, Names};
+use crate::reader::Reader;
 use crate::scan::{self, Token, Word};
-use crate::Fault;
+use crate::words;
+use crate::{Fault, Position};
 
-pub const BLOCKS: [&str; 17] = [
-    "",
-    "generate",
-    "advance",
-    "terminate",
-    "seize",
-    "release",
-    "enter",
-    "leave",
-    "waitif",
-    "waitif",
-    "if",
-    "goto",
-    "let",
-    "priority",
-    "split",
-    "arrive",
-    "depart",
-];
-pub const CODES: [&str; 7] = ["", "u", "nu", "e", "ne", "f", "nf"];
-pub const RELATIONS: [&str; 7] = ["", "=", "<>", "<", "<=", ">", ">="];
-const DECLARATIONS: [&str; 6] = ["facility", "storage", "queue", "list", "value", "counter"];
-
-/// The numbers behind names, by what they name.
-#[derive(Default)]
-struct Names {
-    facilities: HashMap<String, u32>,
-    storages: HashMap<String, u32>,
-    queues: HashMap<String, u32>,
-    lists: HashMap<String, u32>,
-    values: HashMap<String, u32>,
-    labels: HashMap<String, u32>,
+/// A statement: its words from the keyword on, and its line.
+pub struct Statement<'a> {
+    pub line: usize,
+    pub text: &'a str,
+    pub keyword: String,
+    pub tokens: Vec<Token>,
 }
 
-/// A statement: its words from the keyword on.
-struct Statement {
-    line: usize,
-    end: usize,
-    keyword: String,
-    tokens: Vec<Token>,
+/// A model's text as it was read.
+#[derive(Debug, Default)]
+pub struct Source {
+    /// The whole model where there is no fault.
+    pub model: Model,
+    pub names: Names,
+    /// Where each number of the model's bytes comes from, in their order, where there is no fault.
+    pub numbers: Vec<Position>,
+    /// Where each block stands.
+    pub blocks: Vec<Position>,
+    pub faults: Vec<Fault>,
 }
 
-pub fn model(text: &str) -> Result<Model, Fault> {
-    let mut names = Names::default();
-    let mut m = Model::default();
-    let mut values = Vec::new();
-    let mut blocks = Vec::new();
-    let mut counted = false;
-    for (i, source) in text.lines().enumerate() {
-        let mut tokens = scan::line(source, i + 1)?;
-        if tokens.is_empty() {
-            continue;
+/// Reads a model's text.
+pub fn model(text: &str) -> Source {
+    let mut gathering = Gathering::default();
+    for (i, line) in text.lines().enumerate() {
+        if let Err(fault) = gathering.line(line, i + 1) {
+            gathering.source.faults.push(fault);
         }
-        let end = source.chars().count() + 1;
-        let mut keyword = name_of(&tokens[0], i + 1)?;
-        let block = |k: &str| BLOCKS[1..].contains(&k);
-        if !block(&keyword) && !DECLARATIONS.contains(&keyword.as_str()) {
-            let next = tokens.get(1).and_then(|t| plain(&t.word));
-            if !next.as_deref().is_some_and(block) {
-                return Err(Fault::at(
-                    i + 1,
-                    tokens[0].column,
-                    format!("`{keyword}` is no statement, and no block follows it as a label"),
-                ));
+    }
+    gathering.finish(text)
+}
+
+/// What the first walk over a text has met so far.
+#[derive(Default)]
+struct Gathering<'a> {
+    source: Source,
+    counter: Option<Position>,
+    edition: Option<Position>,
+    capacities: Vec<Position>,
+    values: Vec<Statement<'a>>,
+    blocks: Vec<Statement<'a>>,
+    /// Letters of things whose declarations have faults: a name that is missing then is no fault of its own.
+    broken: Vec<char>,
+}
+
+impl<'a> Gathering<'a> {
+    fn line(&mut self, text: &'a str, line: usize) -> Result<(), Fault> {
+        let mut tokens = scan::line(text, line)?;
+        let Some(first) = tokens.first() else {
+            return Ok(());
+        };
+        let Some(mut keyword) = plain(&first.word) else {
+            return Err(Fault::at(
+                first.at,
+                "a statement begins with a name",
+                "write a declaration, a block, or a label and a block",
+            ));
+        };
+        let at = first.at;
+        let second = tokens.get(1).and_then(|t| plain(&t.word));
+        let labelled = second.as_deref().is_some_and(words::is_block);
+        if words::is_reserved(&keyword) {
+            if labelled && looks_like_a_label(&tokens) {
+                self.count_lost_block(text, line);
+                let what = format!("`{keyword}` begins a statement and cannot be a label");
+                let remedy = format!("choose another word, as `{keyword}1`");
+                return Err(Fault::at(at, what, remedy));
             }
-            let number = blocks.len() as u32 + 1;
-            define(&mut names.labels, &keyword, number, i + 1, tokens[0].column)?;
+        } else if labelled {
+            let number = self.blocks.len() as u32 + 1;
+            let defined = self.source.names.define('b', &keyword, number, at);
+            if let Err(fault) = defined {
+                self.source.faults.push(fault);
+            }
             tokens.remove(0);
-            keyword = next.unwrap_or_default();
+            keyword = second.unwrap_or_default();
+        } else {
+            return Err(self.no_statement(&keyword, second.as_deref(), at, text, line));
         }
         let statement = Statement {
-            line: i + 1,
-            end,
-            keyword,
+            line,
+            text,
+            keyword: keyword.to_uppercase(),
             tokens,
         };
-        match statement.keyword.as_str() {
-            "facility" => m.facilities = declare(&statement, &mut names.facilities)?,
-            "queue" => m.queues = declare(&statement, &mut names.queues)?,
-            "list" => m.lists = declare(&statement, &mut names.lists)?,
-            "storage" => storages(&statement, &mut names.storages, &mut m.capacities)?,
-            "value" => {
-                let mut r = Reader::new(&statement, &names);
-                let (name, column) = r.name("a value's name")?;
-                define(
-                    &mut names.values,
-                    &name,
-                    values.len() as u32 + 1,
-                    i + 1,
-                    column,
-                )?;
-                values.push(statement);
-            }
-            "counter" => {
-                let mut r = Reader::new(&statement, &names);
-                m.counter = r.number("the counter")?;
-                r.end()?;
-                counted = true;
-            }
-            _ => blocks.push(statement),
+        self.statement(statement)
+    }
+
+    /// A line whose first word is no statement, and that has no block behind a label.
+    fn no_statement(
+        &mut self,
+        word: &str,
+        second: Option<&str>,
+        at: Position,
+        text: &'a str,
+        line: usize,
+    ) -> Fault {
+        let blocks = || words::KINDS.iter().map(|kind| kind.word);
+        let what = format!("`{word}` is no statement, and no block follows it as a label");
+        if let Some(meant) = words::nearest(word, words::DECLARATIONS.iter().copied()) {
+            self.broken.extend(['f', 's', 'q', 'l', 'w']);
+            return Fault::at(at, what, format!("did you mean {meant}?"));
         }
+        self.count_lost_block(text, line);
+        if let Some(meant) = words::nearest(word, blocks()) {
+            return Fault::at(at, what, format!("did you mean {meant}?"));
+        }
+        if let Some(meant) = second.and_then(|s| words::nearest(s, blocks())) {
+            let _ = self
+                .source
+                .names
+                .define('b', word, self.blocks.len() as u32, at);
+            return Fault::at(
+                at,
+                what,
+                format!("did you mean {meant} behind the label `{word}`?"),
+            );
+        }
+        Fault::at(
+            at,
+            what,
+            "docs/TEXT.md lists the statements; a label stands on the line of its block",
+        )
     }
-    if !counted {
-        return Err(Fault::at(
-            text.lines().count().max(1),
-            1,
-            "the model has no `counter`",
-        ));
+
+    /// Keeps the numbers of the blocks behind a line that cannot be read.
+    fn count_lost_block(&mut self, text: &'a str, line: usize) {
+        self.broken.push('b');
+        self.source.blocks.push(Position::at(line, 1));
+        self.blocks.push(Statement {
+            line,
+            text,
+            keyword: String::new(),
+            tokens: Vec::new(),
+        });
     }
-    for statement in &values {
+
+    fn statement(&mut self, statement: Statement<'a>) -> Result<(), Fault> {
+        let at = statement.tokens[0].at;
+        let done = match statement.keyword.as_str() {
+            "FACILITY" => self.declare('f', &statement),
+            "STORAGE" => self.declare('s', &statement),
+            "QUEUE" => self.declare('q', &statement),
+            "LIST" => self.declare('l', &statement),
+            "VALUE" => {
+                let number = self.values.len() as u32 + 1;
+                let mut r = Reader::new(&statement, &self.source.names);
+                let name = r.name("a value's name", "write VALUE name = sum");
+                let done =
+                    name.and_then(|(name, at)| self.source.names.define('w', &name, number, at));
+                self.values.push(statement);
+                done.map_err(|fault| ('w', fault))
+            }
+            "COUNTER" | "EDITION" => self.count(&statement, at).map_err(|fault| (' ', fault)),
+            _ => {
+                self.source.blocks.push(at);
+                self.blocks.push(statement);
+                Ok(())
+            }
+        };
+        done.map_err(|(letter, fault)| {
+            self.broken.push(letter);
+            fault
+        })
+    }
+
+    /// COUNTER or EDITION: a number, once.
+    fn count(&mut self, statement: &Statement, at: Position) -> Result<(), Fault> {
+        let edition = statement.keyword == "EDITION";
+        let place = if edition {
+            &mut self.edition
+        } else {
+            &mut self.counter
+        };
+        if let Some(before) = *place {
+            let word = &statement.keyword;
+            let what = format!("{word} stands twice, first on line {}", before.line);
+            return Err(Fault::at(at, what, "leave one of them"));
+        }
+        let names = Names::default();
         let mut r = Reader::new(statement, &names);
-        r.name("a value's name")?;
-        r.sign("=")?;
-        let sum = r.sum()?;
-        r.end()?;
-        m.values.push(sum);
+        *place = Some(r.here().unwrap_or(at));
+        let what = if edition {
+            "the edition"
+        } else {
+            "the counter"
+        };
+        let number = r.number(what)?;
+        if edition {
+            self.source.model.edition = number;
+        } else {
+            self.source.model.counter = number;
+        }
+        r.end()
     }
-    for statement in &blocks {
-        let mut r = Reader::new(statement, &names);
-        let block = r.block(&statement.keyword)?;
-        r.end()?;
-        m.blocks.push(block);
+
+    /// Names with commas between them, numbered on from those that are there; storages with their capacities.
+    fn declare(&mut self, letter: char, statement: &Statement) -> Result<(), (char, Fault)> {
+        let none = Names::default();
+        let mut r = Reader::new(statement, &none);
+        let mut one = || -> Result<bool, Fault> {
+            let remedy = if letter == 's' {
+                "write STORAGE name = capacity, name = capacity"
+            } else {
+                "write names with commas between them"
+            };
+            let (name, at) = r.name(&format!("a {}'s name", words::thing(letter)), remedy)?;
+            let number = self.source.names.of(letter).len() as u32 + 1;
+            self.source.names.define(letter, &name, number, at)?;
+            if letter == 's' {
+                r.sign("=", "write STORAGE name = capacity")?;
+                self.capacities.push(r.here().unwrap_or(at));
+                self.source.model.capacities.push(r.number("a capacity")?);
+            }
+            Ok(r.take(","))
+        };
+        while one().map_err(|fault| (letter, fault))? {}
+        let what = if letter == 's' {
+            "write a comma between two storages"
+        } else {
+            "write a comma between two names"
+        };
+        r.end_or(what).map_err(|fault| (letter, fault))
     }
-    Ok(m)
+
+    fn finish(mut self, text: &str) -> Source {
+        let mut source = std::mem::take(&mut self.source);
+        let last = Position::at(text.lines().count().max(1), 1);
+        let model = &mut source.model;
+        model.facilities = source.names.facilities.len() as u32;
+        model.queues = source.names.queues.len() as u32;
+        model.lists = source.names.lists.len() as u32;
+        if self.counter.is_none() {
+            source.faults.push(Fault::at(
+                last,
+                "the model has no COUNTER",
+                "add a line `COUNTER 1`: the run ends when TERMINATEs have let it fall to 0 (TERMINATE 1 lets it fall by 1)",
+            ));
+        }
+        if self.blocks.is_empty() {
+            let remedy = "add blocks: GENERATE list, .. , TERMINATE 1";
+            let fault = Fault::at(last, "the model has no block", remedy);
+            source.faults.push(fault);
+        }
+        let first = Position::at(1, 1);
+        let front = |named: &[Named]| named.last().map_or(first, |named| named.at);
+        let edition = self.edition.unwrap_or(first);
+        let mut numbers = vec![edition, front(&source.names.facilities)];
+        numbers.push(front(&source.names.storages));
+        numbers.extend(&self.capacities);
+        numbers.push(front(&source.names.queues));
+        numbers.push(front(&source.names.values));
+        let mut late = Vec::new();
+        for statement in &self.values {
+            let mut r = Reader::new(statement, &source.names);
+            match r.value() {
+                Ok(sum) => source.model.values.push(sum),
+                Err(fault) => late.push((fault, r.missing)),
+            }
+            numbers.append(&mut r.numbers);
+        }
+        numbers.push(front(&source.names.lists));
+        numbers.push(self.counter.unwrap_or(last));
+        numbers.push(source.blocks.last().copied().unwrap_or(last));
+        for statement in &self.blocks {
+            let mut r = Reader::new(statement, &source.names);
+            match r.block() {
+                Ok(block) => source.model.blocks.push(block),
+                Err(fault) => late.push((fault, r.missing)),
+            }
+            numbers.append(&mut r.numbers);
+        }
+        let told = |missing: Option<char>| missing.is_none_or(|m| !self.broken.contains(&m));
+        let late = late.into_iter().filter(|(_, missing)| told(*missing));
+        source.faults.extend(late.map(|(fault, _)| fault));
+        source.faults.sort_by_key(|fault| fault.at);
+        source.numbers = numbers;
+        source
+    }
 }
 
-fn plain(word: &Word) -> Option<String> {
+pub(crate) fn plain(word: &Word) -> Option<String> {
     match word {
-        Word::Name(s) => Some(s.to_lowercase()),
+        Word::Name(s) => Some(s.clone()),
         _ => None,
     }
 }
 
-fn name_of(token: &Token, line: usize) -> Result<String, Fault> {
-    plain(&token.word)
-        .ok_or_else(|| Fault::at(line, token.column, "a statement begins with a name"))
+/// Whether a line that begins with a reserved word and a block has that word as a label: an operand follows the block, or the line
+/// is no statement that has a name there.
+fn looks_like_a_label(tokens: &[Token]) -> bool {
+    !matches!(
+        tokens.get(2).map(|t| &t.word),
+        Some(Word::Sign("," | "=" | "$"))
+    )
 }
 
-fn define(
-    map: &mut HashMap<String, u32>,
-    name: &str,
-    number: u32,
-    line: usize,
-    column: usize,
-) -> Result<(), Fault> {
-    if map.insert(name.to_string(), number).is_some() {
-        return Err(Fault::at(
-            line,
-            column,
-            format!("`{name}` is declared twice"),
-        ));
-    }
-    Ok(())
-}
-
-/// Names with commas between them, numbered on from those that are there; the answer is how many there are then.
-fn declare(statement: &Statement, map: &mut HashMap<String, u32>) -> Result<u32, Fault> {
-    let names = Names::default();
-    let mut r = Reader::new(statement, &names);
-    loop {
-        let (name, column) = r.name("a name")?;
-        let number = map.len() as u32 + 1;
-        define(map, &name, number, statement.line, column)?;
-        if !r.take(",") {
-            break;
-        }
-    }
-    r.end()?;
-    Ok(map.len() as u32)
-}
-
-fn storages(
-    statement: &Statement,
-    map: &mut HashMap<String, u32>,
-    capacities: &mut Vec<u32>,
-) -> Result<(), Fault> {
-    let names = Names::default();
-    let mut r = Reader::new(statement, &names);
-    loop {
-        let (name, column) = r.name("a storage's name")?;
-        let number = map.len() as u32 + 1;
-        define(map, &name, number, statement.line, column)?;
-        r.sign("=")?;
-        capacities.push(r.number("its capacity")?);
-        if !r.take(",") {
-            return r.end();
-        }
-    }
-}
-
-struct Reader<'a> {
-    line: usize,
-    end: usize,
-    tokens: &'a [Token],
-    at: usize,
-    names: &'a Names,
-}
-
-impl<'a> Reader<'a> {
-    fn new(statement: &'a Statement, names: &'a Names) -> Reader<'a> {
-        Reader {
-            line: statement.line,
-            end: statement.end,
-            tokens: &statement.tokens,
-            at: 1,
-            names,
-        }
-    }
-
-    fn fault(&self, what: impl Into<String>) -> Fault {
-        let column = self.tokens.get(self.at).map_or(self.end, |t| t.column);
-        Fault::at(self.line, column, what)
-    }
-
-    fn word(&self) -> Option<&'a Word> {
-        self.tokens.get(self.at).map(|t| &t.word)
-    }
-
-    fn is(&self, sign: &str) -> bool {
-        matches!(self.word(), Some(Word::Sign(s)) if *s == sign)
-    }
-
-    fn take(&mut self, sign: &str) -> bool {
-        let found = self.is(sign);
-        self.at += usize::from(found);
-        found
-    }
-
-    fn sign(&mut self, sign: &str) -> Result<(), Fault> {
-        if self.take(sign) {
-            return Ok(());
-        }
-        Err(self.fault(format!("`{sign}` is expected here")))
-    }
-
-    fn end(&self) -> Result<(), Fault> {
-        if self.at < self.tokens.len() {
-            return Err(self.fault("nothing more is expected on this line"));
-        }
-        Ok(())
-    }
-
-    fn number(&mut self, what: &str) -> Result<u32, Fault> {
-        if let Some(Word::Number(n)) = self.word() {
-            self.at += 1;
-            return Ok(*n);
-        }
-        Err(self.fault(format!("{what} is a number")))
-    }
-
-    fn name(&mut self, what: &str) -> Result<(String, usize), Fault> {
-        if let Some(Word::Name(s)) = self.word() {
-            let column = self.tokens[self.at].column;
-            self.at += 1;
-            return Ok((s.to_lowercase(), column));
-        }
-        Err(self.fault(format!("{what} is expected here")))
-    }
-
-    /// A name that stands for a number, or the number itself.
-    fn named(&mut self, map: &HashMap<String, u32>, what: &str) -> Result<u32, Fault> {
-        if let Some(Word::Number(n)) = self.word() {
-            self.at += 1;
-            return Ok(*n);
-        }
-        let (name, column) = self.name(&format!("the name of a {what}"))?;
-        map.get(&name)
-            .copied()
-            .ok_or_else(|| Fault::at(self.line, column, format!("there is no {what} `{name}`")))
-    }
-
-    fn relation(&mut self) -> Result<u32, Fault> {
-        if let Some(Word::Sign(s)) = self.word() {
-            if let Some(r) = RELATIONS.iter().position(|x| x == s) {
-                self.at += 1;
-                return Ok(r as u32);
-            }
-        }
-        Err(self.fault("a relation is expected here: = <> < <= > >="))
-    }
-
-    /// A term of tag 0 to 9.
-    fn simple(&mut self) -> Result<(u32, u32), Fault> {
-        if self.is("-") {
-            self.at += 1;
-            if self.tokens.get(self.at).is_some_and(|t| t.tight) {
-                return Ok((model::MINUS_CONSTANT, self.number("a constant")?));
-            }
-            return Err(self.fault("a minus constant has no space behind its minus"));
-        }
-        if let Some(Word::Number(n)) = self.word() {
-            self.at += 1;
-            return Ok((model::CONSTANT, *n));
-        }
-        let (name, column) = self.name("a term")?;
-        if name == "cl" {
-            return Ok((model::CLOCK, 0));
-        }
-        if let Some(Ok(k)) = name.strip_prefix('p').map(str::parse) {
-            return Ok((model::PARAMETER, k));
-        }
-        let names = self.names;
-        let (tag, map, what) = match name.as_str() {
-            "n" => (model::ENTRIES, &names.labels, "label"),
-            "q" => (model::CONTENT, &names.queues, "queue"),
-            "s" => (model::IN_USE, &names.storages, "storage"),
-            "r" => (model::FREE, &names.storages, "storage"),
-            "f" => (model::FACILITY, &names.facilities, "facility"),
-            "v" => (model::VALUE, &names.values, "value"),
-            _ => {
-                let what = format!(
-                    "`{name}` is no term: a number, p1 to p4, cl, n$ q$ s$ r$ f$ or v$ and a name"
-                );
-                return Err(Fault::at(self.line, column, what));
-            }
-        };
-        self.sign("$")?;
-        Ok((tag, self.named(map, what)?))
-    }
-
-    /// A term of a value.
-    fn term(&mut self) -> Result<Term, Fault> {
-        if !self.take("(") {
-            let (tag, n) = self.simple()?;
-            return Ok(Term::Simple(tag, n));
-        }
-        let mut sum = self.sum()?;
-        if self.take(")") {
-            return Ok(Term::Bracket(sum));
-        }
-        let one = sum.len() == 1 && !sum[0].minus;
-        if !one {
-            return Err(self.fault("`)` is expected here; a sum on either side of a relation stands in brackets of its own"));
-        }
-        let relation = self.relation()?;
-        let right = self.term()?;
-        self.sign(")")?;
-        let left = sum.remove(0).term;
-        Ok(Term::Comparison(relation, Box::new(left), Box::new(right)))
-    }
-
-    /// A sum: its first term may have a sign, with a space behind a minus.
-    fn sum(&mut self) -> Result<Vec<Signed>, Fault> {
-        let tight = self.tokens.get(self.at + 1).is_some_and(|t| t.tight);
-        let constant = matches!(
-            self.tokens.get(self.at + 1).map(|t| &t.word),
-            Some(Word::Number(_))
-        );
-        let mut minus = self.is("-") && !(tight && constant);
-        if minus || self.is("+") {
-            self.at += 1;
-        }
-        let mut sum = Vec::new();
-        loop {
-            let term = self.term()?;
-            sum.push(Signed { minus, term });
-            minus = self.is("-");
-            if !minus && !self.is("+") {
-                return Ok(sum);
-            }
-            self.at += 1;
-        }
-    }
-
-    fn operand(&mut self, what: char) -> Result<Operand, Fault> {
-        let names = self.names;
-        Ok(Operand::Number(match what {
-            'f' => self.named(&names.facilities, "facility")?,
-            's' => self.named(&names.storages, "storage")?,
-            'q' => self.named(&names.queues, "queue")?,
-            'l' => self.named(&names.lists, "list")?,
-            'b' => self.named(&names.labels, "label")?,
-            't' => {
-                let (tag, n) = self.simple()?;
-                return Ok(Operand::Term(tag, n));
-            }
-            'r' => self.relation()?,
-            _ => self.number("this operand")?,
-        }))
-    }
-
-    fn block(&mut self, keyword: &str) -> Result<Block, Fault> {
-        if keyword == "waitif" {
-            return self.waitif();
-        }
-        let kind = BLOCKS.iter().position(|k| *k == keyword).unwrap_or(0) as u32;
-        let mut operands = Vec::new();
-        match keyword {
-            // an operand that is left out: priority 0, units 1, TERMINATE 0
-            "generate" => self.with_default("l", 0, &mut operands)?,
-            "enter" | "leave" => self.with_default("s", 1, &mut operands)?,
-            "terminate" if self.at == self.tokens.len() => operands.push(Operand::Number(0)),
-            "if" => {
-                self.comparison(&mut operands)?;
-                self.sign(",")?;
-                operands.push(self.operand('b')?);
-            }
-            "let" => {
-                let (name, column) = self.name("a parameter, p1 to p4,")?;
-                let k = name.strip_prefix('p').and_then(|k| k.parse().ok());
-                let k = k.ok_or_else(|| {
-                    Fault::at(
-                        self.line,
-                        column,
-                        format!("`{name}` is no parameter: p1 to p4"),
-                    )
-                })?;
-                operands.push(Operand::Number(k));
-                self.sign("=")?;
-                operands.push(self.operand('t')?);
-            }
-            _ => {
-                for (i, what) in model::OPERANDS[kind as usize].chars().enumerate() {
-                    if i > 0 {
-                        self.sign(",")?;
-                    }
-                    operands.push(self.operand(what)?);
-                }
-            }
-        }
-        Ok(Block { kind, operands })
-    }
-
-    fn with_default(
-        &mut self,
-        first: &str,
-        default: u32,
-        operands: &mut Vec<Operand>,
-    ) -> Result<(), Fault> {
-        let what = first.chars().next().unwrap_or('n');
-        operands.push(self.operand(what)?);
-        operands.push(if self.take(",") {
-            self.operand('n')?
-        } else {
-            Operand::Number(default)
-        });
-        Ok(())
-    }
-
-    fn comparison(&mut self, operands: &mut Vec<Operand>) -> Result<(), Fault> {
-        for what in ['t', 'r', 't'] {
-            operands.push(self.operand(what)?);
-        }
-        Ok(())
-    }
-
-    /// `WAITIF server = code`, or a comparison of two terms.
-    fn waitif(&mut self) -> Result<Block, Fault> {
-        let mut operands = Vec::new();
-        let named = matches!(self.word(), Some(Word::Name(_)))
-            && self
-                .tokens
-                .get(self.at + 1)
-                .is_some_and(|t| t.word == Word::Sign("="));
-        let code = self
-            .tokens
-            .get(self.at + 2)
-            .and_then(|t| plain(&t.word))
-            .and_then(|c| CODES.iter().position(|x| *x == c));
-        if !named || code.is_none() {
-            self.comparison(&mut operands)?;
-            return Ok(Block { kind: 9, operands });
-        }
-        let code = code.unwrap_or(0) as u32;
-        let server = self.operand(if code <= 2 { 'f' } else { 's' })?;
-        self.at += 2;
-        operands.extend([Operand::Number(code), server]);
-        Ok(Block { kind: 8, operands })
+/// A block that stands for a line that could not be read.
+pub(crate) fn no_block() -> Block {
+    Block {
+        kind: 0,
+        operands: Vec::new(),
     }
 }

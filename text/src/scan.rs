@@ -1,18 +1,18 @@
 //! One line of text as words with their columns.
 
-use crate::Fault;
+use crate::{Fault, Position};
 
 #[derive(Clone, Debug, PartialEq, Eq)]
 pub enum Word {
     Name(String),
-    Number(u32),
+    Number(u64),
     /// One of `( ) + - , = < > <= >= <> $ * :`.
     Sign(&'static str),
 }
 
 #[derive(Clone, Debug)]
 pub struct Token {
-    pub column: usize,
+    pub at: Position,
     pub word: Word,
     /// No space stands between it and the word before.
     pub tight: bool,
@@ -33,19 +33,24 @@ pub fn line(text: &str, number: usize) -> Result<Vec<Token>, Fault> {
     let mut last = usize::MAX;
     while at < chars.len() && chars[at] != ';' {
         let c = chars[at];
-        if c.is_whitespace() {
+        if c.is_whitespace() || c == '\u{feff}' {
             at += 1;
             continue;
         }
         let start = at;
+        let here = Position::at(number, start + 1);
         let word = if c.is_ascii_digit() {
             while at < chars.len() && (chars[at].is_ascii_digit() || chars[at] == '_') {
                 at += 1;
             }
             let digits: String = chars[start..at].iter().filter(|c| **c != '_').collect();
-            let value = digits
-                .parse()
-                .map_err(|_| Fault::at(number, start + 1, "the number is above 4294967295"))?;
+            let value = digits.parse().map_err(|_| {
+                Fault::at(
+                    here,
+                    format!("the number {digits} is too large"),
+                    "numbers of a model end at 4294967295, times at the limit of a sample",
+                )
+            })?;
             Word::Number(value)
         } else if c.is_ascii_alphabetic() {
             while at < chars.len() && (chars[at].is_ascii_alphanumeric() || chars[at] == '_') {
@@ -57,22 +62,29 @@ pub fn line(text: &str, number: usize) -> Result<Vec<Token>, Fault> {
             let sign = SIGNS
                 .iter()
                 .find(|s| rest.starts_with(**s))
-                .ok_or_else(|| {
-                    Fault::at(
-                        number,
-                        start + 1,
-                        format!("`{c}` is not part of the text form"),
-                    )
-                })?;
+                .ok_or_else(|| stray(c, here))?;
             at += sign.len();
             Word::Sign(sign)
         };
         tokens.push(Token {
-            column: start + 1,
+            at: here,
             word,
             tight: start == last,
         });
         last = at;
     }
     Ok(tokens)
+}
+
+fn stray(c: char, here: Position) -> Fault {
+    let remedy = match c {
+        '.' => "times and numbers are whole: count in smaller ticks",
+        '#' | '/' | '%' => "a comment begins with `;`, or with `*` at the front of its line",
+        '!' | '≠' => "not equal is written `<>`",
+        '\'' | '"' => "names stand without quotes",
+        _ => {
+            "names have letters, digits and `_`, and begin with a letter; a comment begins with `;`"
+        }
+    };
+    Fault::at(here, format!("`{c}` is not part of the text form"), remedy)
 }

@@ -1,48 +1,115 @@
-//! From a model to its text: things are named by a letter and their number, blocks that are named get a label.
+//! From a model to its text, with the names of its source or with a letter and a number for each thing.
 
 use std::fmt::Write;
 
-use crate::model::{self, Block, Model, Operand, Signed, Term};
-use crate::read::{BLOCKS, CODES, RELATIONS};
+use crate::model::{Block, Model, Operand, Signed, Term, EDITION};
+use crate::names::Named;
+use crate::read::Source;
+use crate::words;
 
-pub fn model(m: &Model) -> String {
-    let mut out = String::new();
-    let list = |letter: char, n: u32| {
-        (1..=n)
-            .map(|k| format!("{letter}{k}"))
-            .collect::<Vec<_>>()
-            .join(", ")
-    };
-    for (word, letter, n) in [
-        ("FACILITY", 'f', m.facilities),
-        ("QUEUE", 'q', m.queues),
-        ("LIST", 'l', m.lists),
-    ] {
-        if n > 0 {
-            let _ = writeln!(out, "{word} {}", list(letter, n));
+/// What each thing is called, number 1 first; blocks that have no label are called by their number.
+#[derive(Clone, Debug, Default, PartialEq, Eq)]
+pub struct Names {
+    pub facilities: Vec<String>,
+    pub storages: Vec<String>,
+    pub queues: Vec<String>,
+    pub lists: Vec<String>,
+    pub values: Vec<String>,
+    pub labels: Vec<Option<String>>,
+}
+
+impl Names {
+    /// A letter and a number for each, labels for the blocks that are named.
+    pub fn numbered(m: &Model) -> Names {
+        let all = |letter: char, n: usize| (1..=n).map(|k| format!("{letter}{k}")).collect();
+        let named = named_blocks(m).into_iter().enumerate();
+        Names {
+            facilities: all('f', m.facilities as usize),
+            storages: all('s', m.capacities.len()),
+            queues: all('q', m.queues as usize),
+            lists: all('l', m.lists as usize),
+            values: all('v', m.values.len()),
+            labels: named
+                .map(|(i, named)| named.then(|| format!("b{}", i + 1)))
+                .collect(),
         }
     }
-    for (k, capacity) in m.capacities.iter().enumerate() {
-        let _ = writeln!(out, "STORAGE s{} = {capacity}", k + 1);
+
+    /// The names of a text.
+    pub fn of(source: &Source) -> Names {
+        let all = |named: &[Named]| named.iter().map(|n| n.name.clone()).collect();
+        let mut labels = vec![None; source.model.blocks.len()];
+        for label in &source.names.labels {
+            if let Some(place) = labels.get_mut((label.number as usize).wrapping_sub(1)) {
+                *place = Some(label.name.clone());
+            }
+        }
+        Names {
+            facilities: all(&source.names.facilities),
+            storages: all(&source.names.storages),
+            queues: all(&source.names.queues),
+            lists: all(&source.names.lists),
+            values: all(&source.names.values),
+            labels,
+        }
     }
-    let labels = labels(m);
-    for (k, sum) in m.values.iter().enumerate() {
-        let _ = writeln!(out, "VALUE v{} = {}", k + 1, sum_text(sum, &labels));
-    }
-    let _ = writeln!(out, "COUNTER {}", m.counter);
-    for (i, block) in m.blocks.iter().enumerate() {
-        let label = if labels[i] {
-            format!("b{}", i + 1)
-        } else {
-            String::new()
+
+    /// The name of a thing behind a letter (`words::Kind`), or its number.
+    pub fn name(&self, letter: char, number: u32) -> String {
+        let among = match letter {
+            'f' => &self.facilities,
+            's' => &self.storages,
+            'q' => &self.queues,
+            'l' => &self.lists,
+            'w' => &self.values,
+            _ => return self.label(number).unwrap_or_else(|| number.to_string()),
         };
-        let _ = writeln!(out, "{label:8}{}", block_text(block, &labels));
+        let found = among.get((number as usize).wrapping_sub(1));
+        found.cloned().unwrap_or_else(|| number.to_string())
+    }
+
+    pub fn label(&self, block: u32) -> Option<String> {
+        self.labels.get((block as usize).wrapping_sub(1))?.clone()
+    }
+}
+
+pub fn model(m: &Model) -> String {
+    let names = Names::numbered(m);
+    let mut out = declarations(m, &names);
+    for (i, block) in m.blocks.iter().enumerate() {
+        let label = names.label(i as u32 + 1).unwrap_or_default();
+        let _ = writeln!(out, "{label:8}{}", block_text(block, &names));
     }
     out
 }
 
+/// The declarations of a model, a line each.
+pub fn declarations(m: &Model, names: &Names) -> String {
+    let mut out = String::new();
+    if m.edition != EDITION {
+        let _ = writeln!(out, "EDITION {}", m.edition);
+    }
+    for (word, names) in [
+        ("FACILITY", &names.facilities),
+        ("QUEUE", &names.queues),
+        ("LIST", &names.lists),
+    ] {
+        if !names.is_empty() {
+            let _ = writeln!(out, "{word} {}", names.join(", "));
+        }
+    }
+    for (name, capacity) in names.storages.iter().zip(&m.capacities) {
+        let _ = writeln!(out, "STORAGE {name} = {capacity}");
+    }
+    for (name, sum) in names.values.iter().zip(&m.values) {
+        let _ = writeln!(out, "VALUE {name} = {}", sum_text(sum, names));
+    }
+    let _ = writeln!(out, "COUNTER {}", m.counter);
+    out
+}
+
 /// Which blocks are named by a target or a term.
-fn labels(m: &Model) -> Vec<bool> {
+fn named_blocks(m: &Model) -> Vec<bool> {
     let mut named = vec![false; m.blocks.len()];
     let mut mark = |n: u32| {
         if let Some(x) = named.get_mut((n as usize).wrapping_sub(1)) {
@@ -50,12 +117,9 @@ fn labels(m: &Model) -> Vec<bool> {
         }
     };
     for block in &m.blocks {
-        for (what, operand) in model::OPERANDS[block.kind as usize]
-            .chars()
-            .zip(&block.operands)
-        {
-            match (what, *operand) {
-                ('b', Operand::Number(n)) | ('t', Operand::Term(model::ENTRIES, n)) => mark(n),
+        for operand in block.lettered() {
+            match operand {
+                ('b', Operand::Number(n)) | ('t', Operand::Term(words::ENTRIES, n)) => mark(n),
                 _ => {}
             }
         }
@@ -74,7 +138,7 @@ fn mark_sum(sum: &[Signed], mark: &mut dyn FnMut(u32)) {
 
 fn mark_term(term: &Term, mark: &mut dyn FnMut(u32)) {
     match term {
-        Term::Simple(model::ENTRIES, n) => mark(*n),
+        Term::Simple(words::ENTRIES, n) => mark(*n),
         Term::Simple(..) => {}
         Term::Comparison(_, a, b) => {
             mark_term(a, mark);
@@ -84,44 +148,35 @@ fn mark_term(term: &Term, mark: &mut dyn FnMut(u32)) {
     }
 }
 
-fn block_name(n: u32, labels: &[bool]) -> String {
-    match labels.get((n as usize).wrapping_sub(1)) {
-        Some(true) => format!("b{n}"),
-        _ => n.to_string(),
-    }
-}
-
-fn simple_text(tag: u32, n: u32, labels: &[bool]) -> String {
+fn simple_text(tag: u32, n: u32, names: &Names) -> String {
     match tag {
-        model::CONSTANT => n.to_string(),
-        model::MINUS_CONSTANT => format!("-{n}"),
-        model::PARAMETER => format!("p{n}"),
-        model::CLOCK => "cl".to_string(),
-        model::ENTRIES => format!("n${}", block_name(n, labels)),
-        model::CONTENT => format!("q$q{n}"),
-        model::IN_USE => format!("s$s{n}"),
-        model::FREE => format!("r$s{n}"),
-        model::FACILITY => format!("f$f{n}"),
-        _ => format!("v$v{n}"),
+        words::CONSTANT => n.to_string(),
+        words::MINUS_CONSTANT => format!("-{n}"),
+        words::PARAMETER => format!("p{n}"),
+        words::CLOCK => "cl".to_string(),
+        _ => match words::tag_of(tag) {
+            Some(tag) => format!("{}${}", tag.letter, names.name(tag.of, n)),
+            None => format!("{tag} {n}"),
+        },
     }
 }
 
-fn term_text(term: &Term, labels: &[bool]) -> String {
+fn term_text(term: &Term, names: &Names) -> String {
     match term {
-        Term::Simple(tag, n) => simple_text(*tag, *n, labels),
+        Term::Simple(tag, n) => simple_text(*tag, *n, names),
         Term::Comparison(r, a, b) => {
+            let relation = words::relation_of(*r).unwrap_or("?");
             format!(
-                "({} {} {})",
-                term_text(a, labels),
-                RELATIONS[*r as usize],
-                term_text(b, labels)
+                "({} {relation} {})",
+                term_text(a, names),
+                term_text(b, names)
             )
         }
-        Term::Bracket(sum) => format!("({})", sum_text(sum, labels)),
+        Term::Bracket(sum) => format!("({})", sum_text(sum, names)),
     }
 }
 
-fn sum_text(sum: &[Signed], labels: &[bool]) -> String {
+fn sum_text(sum: &[Signed], names: &Names) -> String {
     let mut out = String::new();
     for (i, signed) in sum.iter().enumerate() {
         let sign = match (i, signed.minus) {
@@ -131,37 +186,34 @@ fn sum_text(sum: &[Signed], labels: &[bool]) -> String {
             (_, true) => " - ",
         };
         out.push_str(sign);
-        out.push_str(&term_text(&signed.term, labels));
+        out.push_str(&term_text(&signed.term, names));
     }
     out
 }
 
-fn block_text(block: &Block, labels: &[bool]) -> String {
-    let o: Vec<String> = model::OPERANDS[block.kind as usize]
-        .chars()
-        .zip(&block.operands)
-        .map(|(what, operand)| match (what, *operand) {
-            (_, Operand::Term(tag, n)) => simple_text(tag, n, labels),
-            ('f' | 's' | 'q' | 'l', Operand::Number(n)) => format!("{what}{n}"),
-            ('b', Operand::Number(n)) => block_name(n, labels),
-            ('r', Operand::Number(n)) => RELATIONS[n as usize].to_string(),
-            ('c', Operand::Number(n)) => CODES[n as usize].to_uppercase(),
+/// A block without its label.
+pub fn block_text(block: &Block, names: &Names) -> String {
+    let server = match block.operands.first() {
+        Some(Operand::Number(code)) if words::code_of(*code).is_some_and(|c| c.facility) => 'f',
+        _ => 's',
+    };
+    let o: Vec<String> = block
+        .lettered()
+        .map(|operand| match operand {
+            (_, Operand::Term(tag, n)) => simple_text(tag, n, names),
+            ('v', Operand::Number(n)) => names.name(server, n),
+            ('r', Operand::Number(n)) => words::relation_of(n).unwrap_or("?").to_string(),
+            ('c', Operand::Number(n)) => words::code_of(n).map_or("?", |c| c.word).to_string(),
+            (letter @ ('f' | 's' | 'q' | 'l' | 'b'), Operand::Number(n)) => names.name(letter, n),
             (_, Operand::Number(n)) => n.to_string(),
         })
         .collect();
-    let name = BLOCKS[block.kind as usize].to_uppercase();
-    match block.kind {
-        8 => {
-            let letter = if matches!(block.operands[0], Operand::Number(1 | 2)) {
-                'f'
-            } else {
-                's'
-            };
-            format!("{name} {letter}{} = {}", o[1], o[0])
-        }
-        9 => format!("{name} {} {} {}", o[0], o[1], o[2]),
-        10 => format!("{name} {} {} {}, {}", o[0], o[1], o[2], o[3]),
-        12 => format!("{name} p{} = {}", o[0], o[1]),
-        _ => format!("{name} {}", o.join(", ")),
+    let word = words::kind_of(block.kind).map_or("?", |kind| kind.word);
+    match (block.kind, &o[..]) {
+        (words::WAITIF_STATUS, [code, server]) => format!("{word} {server} = {code}"),
+        (words::WAITIF_COMPARISON, [a, r, b]) => format!("{word} {a} {r} {b}"),
+        (words::IF, [a, r, b, target]) => format!("{word} {a} {r} {b}, {target}"),
+        (words::LET, [k, term]) => format!("{word} p{k} = {term}"),
+        _ => format!("{word} {}", o.join(", ")),
     }
 }

@@ -38,4 +38,19 @@ extern "C" {
     pub fn covrith_stream_start(stream: u32, state: *mut u32) -> u32;
 
     pub fn covrith_stream_step(state: u32) -> u32;
+    pub fn covrith_columns(
+        trace: *const u8,
+        trace_len: usize,
+        out: *mut u8,
+        out_len: usize,
+        written: *mut u64,
+    ) -> u32;
+
+    pub fn covrith_uncolumns(
+        columns: *const u8,
+        columns_len: usize,
+        out: *mut u8,
+        out_len: usize,
+        written: *mut u64,
+    ) -> u32;
 }

@@ -1,6 +1,6 @@
 //! The first example of document 01, a trace there and back, the refusals of reader and writer, and streams.
 
-use covrith::{count, read_record, run, write_record, Outcome, Record, Records, Stream};
+use covrith::*;
 
 const MODEL: [u8; 19] = [1, 1, 0, 0, 0, 2, 2, 5, 1, 1, 0, 4, 1, 2, 2, 5, 1, 3, 1];
 const TAPE: [u8; 6] = [2, 3, 2, 2, 5, 4];
@@ -16,9 +16,9 @@ fn record(clock: u64, transaction: u64, block: u64, outcome: u64) -> Record {
 
 #[test]
 fn first_example() {
-    let mut work = vec![0; covrith::WORK_NUMBERS];
+    let mut work = vec![0; WORK_NUMBERS];
     let mut trace = vec![0; 65_536];
-    let mut report = vec![0; covrith::REPORT_BYTES];
+    let mut report = vec![0; REPORT_BYTES];
     let outcome = run(&MODEL, &TAPE, 1_000_000, &mut work, &mut trace, &mut report);
     let wanted = Outcome {
         end: 2,
@@ -46,33 +46,68 @@ fn first_example() {
 }
 
 #[test]
+fn by_names() {
+    let run = simulate(&MODEL, &TAPE, 4, 65_536).unwrap();
+    assert_eq!((run.end, run.outcome.turns), (End::Budget, 4));
+    let crane = Server {
+        entries: 1,
+        unit_ticks: 2,
+        waits_begun: 0,
+        ticks_waited: 0,
+        longest: 0,
+    };
+    let living = [(1, Place::Fel), (2, Place::Moving)]
+        .map(|(transaction, place)| Living { transaction, place });
+    let wanted = Report {
+        clock: 5,
+        made: 2,
+        ended: 0,
+        facilities: vec![crane],
+        storages: vec![],
+        queues: vec![],
+        living: living.to_vec(),
+    };
+    assert_eq!(run.report, wanted);
+    assert_eq!(run.records().count(), 4);
+    assert_eq!(
+        Report::read(&run.report_bytes, &Header::read(&MODEL).unwrap()),
+        Ok(wanted)
+    );
+}
+
+#[test]
 fn refusals() {
-    let mut report = vec![7; covrith::REPORT_BYTES];
+    let mut report = vec![7; REPORT_BYTES];
     let outcome = run(&MODEL, &TAPE, 1, &mut [], &mut [], &mut report);
-    assert_eq!((outcome.refusal, report[0]), (1, 7));
-    assert_eq!(read_record(&[], 0), Err(30));
-    assert_eq!(read_record(&[1, 1, 1, 0], 9), Err(30));
-    assert_eq!(read_record(&[1, 1, 1], 0), Err(31));
-    assert_eq!(read_record(&[1, 1, 0], 0), Err(32));
+    assert_eq!((outcome.result(), report[0]), (Err(Refusal::ShortWork), 7));
+    assert_eq!(read_record(&[], 0), Ok(None));
+    assert_eq!(read_record(&[1, 1, 1, 0], 9), Ok(None));
+    assert_eq!(read_record(&[1, 1, 1], 0), Err(Refusal::RecordNumber));
+    assert_eq!(read_record(&[1, 1, 0], 0), Err(Refusal::RecordRange));
     let mut records = Records::new(&[1, 1, 1, 0, 1, 0]);
     assert_eq!(records.next(), Some(Ok(record(1, 1, 1, 0))));
-    assert_eq!((records.next(), records.next()), (Some(Err(32)), None));
+    assert_eq!(
+        (records.next(), records.next()),
+        (Some(Err(Refusal::RecordRange)), None)
+    );
     assert_eq!(records.position(), 4);
-    assert_eq!(write_record(&mut [0; 12], record(0, 1, 1, 2)), Err(32));
-    assert_eq!(write_record(&mut [0; 4], record(128, 1, 1, 0)), Err(33));
+    assert_eq!(
+        write_record(&mut [0; 12], record(0, 1, 1, 2)),
+        Err(Refusal::RecordRange)
+    );
+    assert_eq!(
+        write_record(&mut [0; 4], record(128, 1, 1, 0)),
+        Err(Refusal::RecordRoom)
+    );
 }
 
 #[test]
 fn streams() {
     let mut first = Stream::new(0).unwrap();
-    let drawn: Vec<u32> = (0..10_000).map(|_| first.draw()).collect();
-    assert_eq!(drawn[..3], [16_807, 282_475_249, 1_622_650_073]);
+    let drawn: Vec<u32> = (0..100_000).map(|_| first.draw()).collect();
     assert_eq!(drawn[9_999], 1_043_618_065);
-    for _ in 10_000..100_000 {
-        first.draw();
-    }
     assert_eq!(Stream::new(1), Ok(first));
     assert_eq!(Stream::new(511).unwrap().state(), 532_345_071);
-    assert_eq!(Stream::new(512), Err(41));
-    assert_eq!(Stream::new(u32::MAX), Err(41));
+    assert_eq!(Stream::new(STREAMS), Err(Refusal::NoStream));
+    assert_eq!(Stream::new(u32::MAX), Err(Refusal::NoStream));
 }

@@ -5,10 +5,12 @@ use mathlib.Core.List.{List, _∷_}
 use mathlib.Core.Option.{some}
 use lib.ListN.{length}
 use Rattle.machine.specs.Transaction.{Transaction}
-use Rattle.machine.specs.Block.{Block, generate, advance, terminate, seize, release, enter, leave, waitServer, waitTerms, branch, goto, assign, priority, split, arrive, depart, BlockModel, blockAt}
+use Rattle.machine.specs.Term.{always, whenTrue}
+use Rattle.machine.specs.Block.{Block, generate, advance, terminate, waitServer, waitTerms, assign, priority, split, BlockModel, blockAt, facility, storage, up, down, takes, frees, moves, counts}
 use Rattle.machine.specs.State.{State}
-use Rattle.machine.specs.Execute.{question}
+use Rattle.machine.specs.Execute.{question, changed, askContent}
 use Rattle.machine.proofs.Proper.{Proper}
+use Rattle.tables.specs.Forms.{blockForms}
 use Rattle.tables.specs.Numbers.{blockNumbers}
 use Rattle.tables.specs.Represents.{At, Represents}
 use Rattle.terms.specs.Nested.{Nested}
@@ -60,46 +62,46 @@ module _ {m : BlockModel} {tape : List (List ℕ)} {tapeBytes tables lists : Lis
 
   pub execute-apart : (b : Block) → blockAt m (t .next) ≡ b
       → Apart (r .scalars) (r .tally) (Rows.execute tables (length (m .values)) tapeBytes (r .work) (r .tally) (r .scalars) base)
-  unfolding blockNumbers Rows.byKind Rows.later
+  unfolding Rows.byKind Rows.later blockForms
   execute-apart (generate list p) is = by-apart 1 _ _ refl is (generate-apart tables tapeBytes (r .work) (r .tally) (r .scalars) base)
   execute-apart (advance list) is = by-apart 2 _ _ refl is (advance-apart tables tapeBytes (r .work) (r .tally) (r .scalars) base)
   execute-apart (terminate a) is = by-apart 3 _ _ refl is (terminate-apart tables tapeBytes (r .work) (r .tally) (r .scalars) base)
-  execute-apart (seize v) is = by-apart 4 _ _ refl is (seize-apart tables tapeBytes (r .work) (r .tally) (r .scalars) base)
-  execute-apart (release v) is = by-apart 5 _ _ refl is (release-apart tables tapeBytes (r .work) (r .tally) (r .scalars) base)
-  execute-apart (enter v b) is = by-apart 6 _ _ refl is (enter-apart tables tapeBytes (r .work) (r .tally) (r .scalars) base)
-  execute-apart (leave v b) is = by-apart 7 _ _ refl is (leave-apart tables tapeBytes (r .work) (r .tally) (r .scalars) base)
+  execute-apart (takes (facility v)) is = by-apart 4 _ _ refl is (seize-apart tables tapeBytes (r .work) (r .tally) (r .scalars) base)
+  execute-apart (frees (facility v)) is = by-apart 5 _ _ refl is (release-apart tables tapeBytes (r .work) (r .tally) (r .scalars) base)
+  execute-apart (takes (storage v b)) is = by-apart 6 _ _ refl is (enter-apart tables tapeBytes (r .work) (r .tally) (r .scalars) base)
+  execute-apart (frees (storage v b)) is = by-apart 7 _ _ refl is (leave-apart tables tapeBytes (r .work) (r .tally) (r .scalars) base)
   execute-apart (waitServer code v) is = by-apart 8 _ _ refl is (kept (r .scalars) (r .tally) (WaitServer.waitServer tables (r .work) (r .tally) (r .scalars) base) (wait-server-used tables (r .work) (r .tally) (r .scalars) base))
   execute-apart (waitTerms a o b) is =
       by-apart 9 _ _ refl is (kept (r .scalars) (r .tally) (Comparison.waitTerms tables (length (m .values)) (r .work) (r .tally) (r .scalars) base) (wait-terms-used tables (length (m .values)) (r .work) (r .tally) (r .scalars) base))
-  execute-apart (branch a o b target) is =
+  execute-apart (moves (whenTrue a o b) target) is =
       by-apart 10 _ _ refl is (kept (r .scalars) (r .tally) (Comparison.branch tables (length (m .values)) (r .work) (r .tally) (r .scalars) base) (branch-used tables (length (m .values)) (r .work) (r .tally) (r .scalars) base))
-  execute-apart (goto target) is =
+  execute-apart (moves always target) is =
       by-apart 11 _ _ refl is (kept (r .scalars) (r .tally) (Jumps.goto tables (r .work) (r .scalars) base) (goto-used tables (length (m .values)) (r .work) (r .tally) (r .scalars) base))
   execute-apart (assign k a) is =
       by-apart 12 _ _ refl is (kept (r .scalars) (r .tally) (Comparison.assign tables (length (m .values)) (r .work) (r .tally) (r .scalars) base) (assign-used tables (length (m .values)) (r .work) (r .tally) (r .scalars) base))
   execute-apart (priority p) is = by-apart 13 _ _ refl is (priority-apart tables tapeBytes (r .work) (r .tally) (r .scalars) base)
   execute-apart (split n target) is = by-apart 14 _ _ refl is (split-apart tables tapeBytes (r .work) (r .tally) (r .scalars) base)
-  execute-apart (arrive q) is = by-apart 15 _ _ refl is (arrive-apart tables tapeBytes (r .work) (r .tally) (r .scalars) base)
-  execute-apart (depart q) is = by-apart 16 _ _ refl is (depart-apart tables tapeBytes (r .work) (r .tally) (r .scalars) base)
+  execute-apart (counts up q) is = by-apart 15 _ _ refl is (arrive-apart tables tapeBytes (r .work) (r .tally) (r .scalars) base)
+  execute-apart (counts down q) is = by-apart 16 _ _ refl is (depart-apart tables tapeBytes (r .work) (r .tally) (r .scalars) base)
 
   -- ---- What it leaves
 
   pub execute-done : (b : Block) → blockAt m (t .next) ≡ b
-      → Done tapeBytes (Rows.execute tables (length (m .values)) tapeBytes (r .work) (r .tally) (r .scalars) base) (bareAnswer (question b s) m b t s)
-  unfolding blockNumbers Rows.byKind Rows.later
+      → Done tapeBytes (Rows.execute tables (length (m .values)) tapeBytes (r .work) (r .tally) (r .scalars) base) (bareAnswer (question m b s) m b t s)
+  unfolding Rows.byKind Rows.later blockForms
   execute-done (generate list p) is = by 1 _ _ refl is _ (generate-done m tape tapeBytes tables lists proper rep s sane r t stands moving list p is)
   execute-done (advance list) is = by 2 _ _ refl is _ (advance-done m tape tapeBytes tables lists proper rep s sane r t stands moving list is)
   execute-done (terminate a) is = by 3 _ _ refl is _ (terminate-done m tape tapeBytes tables lists proper rep s sane r t stands moving a is)
-  execute-done (seize v) is = by 4 _ _ refl is _ (seize-done m tape tapeBytes tables lists proper rep s sane r t stands moving v is)
-  execute-done (release v) is = by 5 _ _ refl is _ (release-done m tape tapeBytes tables lists proper rep s sane r t stands moving v is)
-  execute-done (enter v b) is = by 6 _ _ refl is _ (enter-done m tape tapeBytes tables lists proper rep s sane r t stands moving v b is)
-  execute-done (leave v b) is = by 7 _ _ refl is _ (leave-done m tape tapeBytes tables lists proper rep s sane r t stands moving v b is)
+  execute-done (takes (facility v)) is = by 4 _ _ refl is _ (seize-done m tape tapeBytes tables lists proper rep s sane r t stands moving v is)
+  execute-done (frees (facility v)) is = by 5 _ _ refl is _ (release-done m tape tapeBytes tables lists proper rep s sane r t stands moving v is)
+  execute-done (takes (storage v b)) is = by 6 _ _ refl is _ (enter-done m tape tapeBytes tables lists proper rep s sane r t stands moving v b is)
+  execute-done (frees (storage v b)) is = by 7 _ _ refl is _ (leave-done m tape tapeBytes tables lists proper rep s sane r t stands moving v b is)
   execute-done (waitServer code v) is = by 8 _ _ refl is _ (wait-server-done m tape tapeBytes tables lists proper rep s sane r t stands moving code v is)
   execute-done (waitTerms a o b) is = by 9 _ _ refl is _ (wait-terms-done proper rep nested r t s sane stands moving a o b is)
-  execute-done (branch a o b target) is = by 10 _ _ refl is _ (branch-done proper rep nested r t s sane stands moving a o b target is)
-  execute-done (goto target) is = by 11 _ _ refl is _ (goto-done proper rep nested r t s sane stands moving target is)
+  execute-done (moves (whenTrue a o b) target) is = by 10 _ _ refl is _ (branch-done proper rep nested r t s sane stands moving a o b target is)
+  execute-done (moves always target) is = by 11 _ _ refl is _ (goto-done proper rep nested r t s sane stands moving target is)
   execute-done (assign k a) is = by 12 _ _ refl is _ (assign-done proper rep nested r t s sane stands moving k a is)
   execute-done (priority p) is = by 13 _ _ refl is _ (priority-done m tape tapeBytes tables lists proper rep s sane r t stands moving p is)
   execute-done (split n target) is = by 14 _ _ refl is _ (split-done m tape tapeBytes tables lists proper rep s sane r t stands moving n target is)
-  execute-done (arrive q) is = by 15 _ _ refl is _ (arrive-done proper rep r t s sane stands moving q is)
-  execute-done (depart q) is = by 16 _ _ refl is _ (depart-done proper rep r t s sane stands moving q is)
+  execute-done (counts up q) is = by 15 _ _ refl is _ (arrive-done proper rep r t s sane stands moving q is)
+  execute-done (counts down q) is = by 16 _ _ refl is _ (depart-done proper rep r t s sane stands moving down (λ n. unfold changed in refl) (λ n. unfold askContent in refl) q is)

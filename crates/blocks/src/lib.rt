@@ -19,6 +19,8 @@ use state::Scalars;
 use tables::number;
 ghost use mathlib.Core.Path.{_≡_};
 ghost use Prim.Native.Nat.{_<_, _≤_};
+ghost use Rattle.tables.specs.Layout.{Tables, programSize};
+ghost use Rattle.rows.specs.Layout.{Room, rowCount};
 ghost use Rattle.state.specs.Stands.{rowsOf};
 ghost use Rattle.blocks.specs.Execute.{execute};
 
@@ -32,10 +34,10 @@ pub fn execute(
     x: Scalars,
     at: usize,
 ) -> Scalars
-    requires { do ⌜ 2624 ≤ (← ⟦tables.len()⟧) ⌝ }
-    requires { do ⌜ 16384 ≤ (← ⟦work.len()⟧) ⌝ }
-    requires { ⌜ x .moving < 1024 ⌝ }
-    requires { ⌜ at < 2048 ⌝ }
+    requires { ⌜ Tables (now tables) ⌝ }
+    requires { ⌜ Room (now work) ⌝ }
+    requires { ⌜ x .moving < rowCount ⌝ }
+    requires { ⌜ at < programSize ⌝ }
     ensures { λ r. ⌜ rowsOf r (now (work .exit)) (now (tally .exit)) ≡ execute (now (tables .entry)) values (now (tape .entry)) (now (work .entry)) (now (tally .entry)) x at ⌝ }
 {
     let kind = number(tables, at);

@@ -21,8 +21,7 @@ use Rattle.rows.specs.Lists.{first}
 use Rattle.rows.specs.Clock.{Arrived, arrive, arrivals}
 use Rattle.rows.specs.Holds.{eventAt, update}
 use Rattle.rows.proofs.Take.{Head, nobody, somebody}
-use Rattle.rows.proofs.Laws.{head-fel-shows, arrive-shows}
-use Rattle.rows.proofs.Arriving.{Arrives}
+use Rattle.rows.proofs.Laws.{Arrives, head-fel-shows, arrive-shows}
 use Rattle.state.specs.declared.scalars.Scalars.{Scalars}
 use Rattle.state.specs.ScalarSetters.{putClock, putSerial}
 use Rattle.state.specs.Sane.{Sane}

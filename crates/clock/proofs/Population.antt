@@ -1,6 +1,6 @@
 -- A change of REL and the FEL alone: how many rows stand on lists, and the relation to the state that has these lists.
 use Prim.Native.Nat.{ℕ, zero, suc, _+_, _-_, _≤_, _<_}
-use mathlib.Core.Path.{_≡_, refl, ap, subst}
+use mathlib.Core.Path.{_≡_, refl, ap}
 use mathlib.Core.Logic.{_≢_}
 use mathlib.Core.Bool.{Bool, true, false}
 use mathlib.Core.List.{List}
@@ -14,8 +14,8 @@ use Rattle.machine.specs.State.{State}
 use Rattle.rows.specs.Layout.{rel}
 use Rattle.rows.specs.Holds.{update}
 use Rattle.rows.specs.Living.{sumTo, loose, onLists}
-use Rattle.rows.specs.Shows.{Shown, Shows}
-use Rattle.rows.proofs.Showing.{shown-ext}
+use Rattle.rows.specs.Shows.{Shows}
+use Rattle.rows.proofs.Ordering.{shows-ext}
 use Rattle.rows.proofs.Population.{population}
 use Rattle.state.specs.Stands.{listsOf, Moving, Listing}
 
@@ -63,13 +63,7 @@ module _ (w w′ : List ℕ) (k k′ : ℕ) (o o′ : Option Transaction) (s s�
   unfolding onLists listsOf
   listing-ready r E shows count lists future living moving =
       record {
-        shows =
-            record {
-              rows = shows .rows;
-              shown =
-                  subst (λ (x : List Event). Shown w′ (shows .rows) (listsOf s′) x) future
-                  (shown-ext w′ (shows .rows) (update rel r (listsOf s)) (listsOf s′) E lists (shows .shown));
-            };
+        shows = shows-ext w′ (update rel r (listsOf s)) (listsOf s′) E (s′ .fel) lists future shows;
         mover = moving;
         spare =
             omega (

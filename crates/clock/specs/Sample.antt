@@ -10,7 +10,7 @@ use Rattle.tables.specs.Layout as Layout
 unfoldable pub addTicks : List ℕ → (at from ticks : ℕ) → List ℕ
 addTicks tally at from ticks =
     set tally at
-    (min (getD tally at 0 + cond (ltb (getD tally from 0) 4294967296) (getD tally from 0 * ticks) 0) 18446744073709551615)
+    (min (getD tally at 0 + cond (ltb (getD tally from 0) Layout.wordEnd) (getD tally from 0 * ticks) 0) Layout.most64)
 
 -- the number at `from`, where it is larger, becomes the longest at `at`
 unfoldable pub keepLongest : List ℕ → (at from : ℕ) → List ℕ

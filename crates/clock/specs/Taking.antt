@@ -3,7 +3,8 @@ use Prim.Native.Nat.{ℕ, _+_, _-_, min}
 use mathlib.Core.Bool.{cond}
 use mathlib.Core.List.{List}
 use lib.Dec.{ltb}
-use Rattle.rows.specs.Layout.{timeField, rel, fel}
+use Rattle.tables.specs.Layout.{most32}
+use Rattle.rows.specs.Layout.{timeField, rel, fel, rowCount, serialEnd}
 use Rattle.rows.specs.Cells.{read}
 use Rattle.rows.specs.Lists.{first, takeFirst}
 use Rattle.rows.specs.Clock.{Arrived, arrive}
@@ -23,7 +24,7 @@ movedTo time serial x = putSerial serial (putClock time x)
 -- the clock moves to a time
 unfoldable pub moveClock : (work tally : List ℕ) → Scalars → (servers queues time : ℕ) → Rows
 moveClock work tally x servers queues time =
-    let a : Arrived = arrive 1024 time work (x .serial) in
+    let a : Arrived = arrive rowCount time work (x .serial) in
     rowsOf (movedTo time (a .serial) x) (a .rows) (sampleQueues queues (sampleServers servers tally (ticksTo time x)) (ticksTo time x))
 
 -- the first time of the FEL
@@ -33,13 +34,13 @@ firstTime work = read work timeField (first work fel)
 -- to that time, where there is one and serials are left
 unfoldable pub nextEvents : (work tally : List ℕ) → Scalars → (servers queues : ℕ) → Rows
 nextEvents work tally x servers queues =
-    cond (ltb (first work fel) 1024)
-    (cond (ltb (x .serial) 4000000000) (moveClock work tally x servers queues (firstTime work)) (rowsOf x work tally))
+    cond (ltb (first work fel) rowCount)
+    (cond (ltb (x .serial) serialEnd) (moveClock work tally x servers queues (firstTime work)) (rowsOf x work tally))
     (rowsOf x work tally)
 
 -- the first of REL moves, where there is one
 unfoldable pub readyScalars : List ℕ → Scalars → Scalars
-readyScalars work x = cond (ltb (first work rel) 1024) (putMoving (first work rel) x) x
+readyScalars work x = cond (ltb (first work rel) rowCount) (putMoving (first work rel) x) x
 
 abbrev pub readyWork : List ℕ → List ℕ
 readyWork work = takeFirst work rel
@@ -48,11 +49,11 @@ unfoldable pub takeReady : Rows → Rows
 takeReady r = rowsOf (readyScalars (r .work) (r .scalars)) (readyWork (r .work)) (r .tally)
 
 unfoldable pub counted : Scalars → Scalars
-counted x = putTurns (min (x .turns + 1) 4294967295) x
+counted x = putTurns (min (x .turns + 1) most32) x
 
 -- the moving one, else the first of REL, else after a clock move
 unfoldable pub take : (work tally : List ℕ) → Scalars → (servers queues : ℕ) → Rows
 take work tally x servers queues =
-    cond (ltb (x .moving) 1024) (rowsOf (counted x) work tally)
+    cond (ltb (x .moving) rowCount) (rowsOf (counted x) work tally)
     (takeReady
-    (cond (ltb (first work rel) 1024) (rowsOf (counted x) work tally) (nextEvents work tally (counted x) servers queues)))
+    (cond (ltb (first work rel) rowCount) (rowsOf (counted x) work tally) (nextEvents work tally (counted x) servers queues)))

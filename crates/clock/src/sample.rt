@@ -13,6 +13,8 @@ use tables::count;
 use tables::set_count;
 ghost use mathlib.Core.Path.{_≡_};
 ghost use Prim.Native.Nat.{_+_, _<_, _≤_};
+ghost use Rattle.machine.specs.Limits.{maxQueues};
+ghost use Rattle.tables.specs.Layout.{serverCount};
 ghost use Rattle.clock.specs.Sample.{addTicks, keepLongest, sampleServer, sampleServers, sampleQueue, sampleQueues};
 
 // The number at `from` times the ticks is added to the sum at `at`.
@@ -36,7 +38,7 @@ fn keep_longest(tally: &mut [u64], at: usize, from: usize)
 
 // Ticks of units in use, ticks waited and the longest QL of server v, from 0.
 fn sample_server(tally: &mut [u64], v: usize, ticks: u32)
-    requires { ⌜ v < 64 ⌝ }
+    requires { ⌜ v < serverCount ⌝ }
     ensures { λ _. ⌜ now (tally .exit) ≡ sampleServer (now (tally .entry)) v ticks ⌝ }
 {
     add_ticks(tally, UNIT_TICKS + v, IN_USE + v, ticks);
@@ -45,7 +47,7 @@ fn sample_server(tally: &mut [u64], v: usize, ticks: u32)
 }
 
 fn sample_servers(tally: &mut [u64], servers: usize, ticks: u32)
-    requires { ⌜ servers ≤ 64 ⌝ }
+    requires { ⌜ servers ≤ serverCount ⌝ }
     ensures { λ _. ⌜ now (tally .exit) ≡ sampleServers servers (now (tally .entry)) ticks ⌝ }
 {
     let mut v: usize = 0;
@@ -57,7 +59,7 @@ fn sample_servers(tally: &mut [u64], servers: usize, ticks: u32)
 
 // Content ticks and the longest content of queue q, from 0.
 fn sample_queue(tally: &mut [u64], q: usize, ticks: u32)
-    requires { ⌜ q < 32 ⌝ }
+    requires { ⌜ q < maxQueues ⌝ }
     ensures { λ _. ⌜ now (tally .exit) ≡ sampleQueue (now (tally .entry)) q ticks ⌝ }
 {
     add_ticks(tally, CONTENT_TICKS + q, CONTENT + q, ticks);
@@ -65,7 +67,7 @@ fn sample_queue(tally: &mut [u64], q: usize, ticks: u32)
 }
 
 fn sample_queues(tally: &mut [u64], queues: usize, ticks: u32)
-    requires { ⌜ queues ≤ 32 ⌝ }
+    requires { ⌜ queues ≤ maxQueues ⌝ }
     ensures { λ _. ⌜ now (tally .exit) ≡ sampleQueues queues (now (tally .entry)) ticks ⌝ }
 {
     let mut q: usize = 0;
@@ -77,8 +79,8 @@ fn sample_queues(tally: &mut [u64], queues: usize, ticks: u32)
 
 // Of a model's servers and queues, before the clock moves by some ticks.
 pub fn sample(tally: &mut [u64], servers: usize, queues: usize, ticks: u32)
-    requires { ⌜ servers ≤ 64 ⌝ }
-    requires { ⌜ queues ≤ 32 ⌝ }
+    requires { ⌜ servers ≤ serverCount ⌝ }
+    requires { ⌜ queues ≤ maxQueues ⌝ }
     ensures { λ _. ⌜ now (tally .exit) ≡ sampleQueues queues (sampleServers servers (now (tally .entry)) ticks) ticks ⌝ }
 {
     sample_servers(tally, servers, ticks);

@@ -2,6 +2,9 @@
 use crate::sample::sample;
 use rows::FEL;
 use rows::REL;
+use rows::ROWS;
+use rows::SERIAL_END;
+use rows::TIME;
 use rows::cells::read;
 use rows::clock::arrive;
 use rows::lists::first;
@@ -11,6 +14,9 @@ use state::less32;
 use state::plus32;
 ghost use mathlib.Core.Path.{_≡_};
 ghost use Prim.Native.Nat.{_<_, _≤_};
+ghost use Rattle.machine.specs.Limits.{maxQueues};
+ghost use Rattle.tables.specs.Layout.{serverCount};
+ghost use Rattle.rows.specs.Layout.{Room, serialEnd};
 ghost use Rattle.state.specs.Stands.{rowsOf};
 ghost use Rattle.clock.specs.Taking.{moveClock, nextEvents, readyScalars, readyWork, take};
 
@@ -23,10 +29,10 @@ fn move_clock(
     queues: usize,
     time: u32,
 ) -> Scalars
-    requires { do ⌜ 16384 ≤ (← ⟦work.len()⟧) ⌝ }
-    requires { ⌜ servers ≤ 64 ⌝ }
-    requires { ⌜ queues ≤ 32 ⌝ }
-    requires { ⌜ x .serial < 4000000000 ⌝ }
+    requires { ⌜ Room (now work) ⌝ }
+    requires { ⌜ servers ≤ serverCount ⌝ }
+    requires { ⌜ queues ≤ maxQueues ⌝ }
+    requires { ⌜ x .serial < serialEnd ⌝ }
     ensures { λ r. ⌜ rowsOf r (now (work .exit)) (now (tally .exit)) ≡ moveClock (now (work .entry)) (now (tally .entry)) x servers queues time ⌝ }
 {
     let ticks = less32(time, x.clock);
@@ -46,30 +52,30 @@ fn next_events(
     servers: usize,
     queues: usize,
 ) -> Scalars
-    requires { do ⌜ 16384 ≤ (← ⟦work.len()⟧) ⌝ }
-    requires { ⌜ servers ≤ 64 ⌝ }
-    requires { ⌜ queues ≤ 32 ⌝ }
+    requires { ⌜ Room (now work) ⌝ }
+    requires { ⌜ servers ≤ serverCount ⌝ }
+    requires { ⌜ queues ≤ maxQueues ⌝ }
     ensures { λ r. ⌜ rowsOf r (now (work .exit)) (now (tally .exit)) ≡ nextEvents (now (work .entry)) (now (tally .entry)) x servers queues ⌝ }
 {
     let k = first(work, FEL);
-    if k >= 1024 {
+    if k >= ROWS {
         return x;
     }
-    if x.serial >= 4_000_000_000 {
+    if x.serial >= SERIAL_END {
         return x;
     }
-    let time = read(work, 8, k);
+    let time = read(work, TIME, k);
     move_clock(work, tally, x, servers, queues, time)
 }
 
 // The first of REL moves, where there is one.
 fn take_ready(work: &mut [u32], x: Scalars) -> Scalars
-    requires { do ⌜ 16384 ≤ (← ⟦work.len()⟧) ⌝ }
+    requires { ⌜ Room (now work) ⌝ }
     ensures scalars { λ r. ⌜ r ≡ readyScalars (now (work .entry)) x ⌝ }
     ensures rows { λ _. ⌜ now (work .exit) ≡ readyWork (now (work .entry)) ⌝ }
 {
     let k = take_first(work, REL);
-    if k >= 1024 {
+    if k >= ROWS {
         return x;
     }
     let mut y = x;
@@ -85,17 +91,17 @@ pub fn take(
     servers: usize,
     queues: usize,
 ) -> Scalars
-    requires { do ⌜ 16384 ≤ (← ⟦work.len()⟧) ⌝ }
-    requires { ⌜ servers ≤ 64 ⌝ }
-    requires { ⌜ queues ≤ 32 ⌝ }
+    requires { ⌜ Room (now work) ⌝ }
+    requires { ⌜ servers ≤ serverCount ⌝ }
+    requires { ⌜ queues ≤ maxQueues ⌝ }
     ensures { λ r. ⌜ rowsOf r (now (work .exit)) (now (tally .exit)) ≡ take (now (work .entry)) (now (tally .entry)) x servers queues ⌝ }
 {
     let mut y = x;
     y.turns = plus32(x.turns, 1);
-    if x.moving < 1024 {
+    if x.moving < ROWS {
         return y;
     }
-    if first(work, REL) < 1024 {
+    if first(work, REL) < ROWS {
         return take_ready(work, y);
     }
     let z = next_events(work, tally, y, servers, queues);

@@ -12,7 +12,7 @@ use lib.Seq.{drop-append-seam, drop-drop, length-take-le}
 use borrow.Author.Tests.{le-leb, leb-true}
 use Rattle.machine.specs.Limits.{maxNumberBytes, maxNumber}
 use Rattle.machine.specs.Number.{Number, numberBytes, readNumber}
-use Rattle.machine.specs.Parser.{Cursor, Parsed, parsed, refused, field, fieldOf}
+use Rattle.machine.specs.Parser.{Cursor, Parsed, parsed, refused, field, fieldOf, fieldUpTo}
 use Rattle.codec.specs.declared.Field.{Field}
 use Rattle.codec.specs.declared.Field.the-variants.{Value, Refused}
 use Rattle.codec.specs.Answers.{cursorAt, parsedOf}
@@ -50,7 +50,7 @@ drop-past s u rest at e = sym (drop-drop (length u) at s) ∙ ap (drop (length u
 pub field-reads : (s rest : List ℕ) (at v code lo hi numbers mentions : ℕ) →
     drop at s ≡ numberBytes v ++ rest → lo ≤ v → v ≤ hi → hi ≤ maxNumber →
     field s code lo hi (cursorAt at numbers mentions) ≡ parsed v (cursorAt (at + length (numberBytes v)) numbers mentions)
-unfolding field fieldOf
+unfolding fieldUpTo fieldOf
 field-reads s rest at v code lo hi numbers mentions e low high size =
     let fits = numberBytes-length 4 v (omega arith) in
     rw (e, numberBytes-reads maxNumberBytes maxNumber v rest (omega arith) (omega arith) fits, le-leb lo v low, le-leb v hi high)
@@ -66,7 +66,7 @@ pub record FieldTaken (s : List ℕ) (at lo hi v : ℕ) (after : Cursor) (number
 
 pub field-taken : (s : List ℕ) (at v code lo hi numbers mentions : ℕ) (after : Cursor) → Bytes s →
     field s code lo hi (cursorAt at numbers mentions) ≡ parsed v after → FieldTaken s at lo hi v after numbers mentions
-unfolding field fieldOf
+unfolding fieldUpTo fieldOf
 field-taken s at v code lo hi numbers mentions after bytes e =
     go (readNumber maxNumberBytes maxNumber (drop at s)) refl e
   where

@@ -1,5 +1,6 @@
 // Numbers in bytes (document 01, "Bytes"): groups of seven bits, highest first, top bit set on all
 // bytes but the last, shortest form.
+use machine::Model;
 ghost use mathlib.Core.Path.{_≡_};
 ghost use mathlib.Core.Bool.{cond};
 ghost use Prim.Native.Nat.{ℕ, _+_, _≤_, _<_};
@@ -12,14 +13,11 @@ ghost use Rattle.machine.specs.Parser.{field};
 ghost use Rattle.codec.specs.Answers.{numberOf, readAs, cursorAt, parsedOf};
 ghost use Rattle.codec.specs.Writing.{written, put};
 
-// "at most 5 bytes and 4,294,967,295 (report: 9 bytes)"
-const NUMBER_BYTES: usize = 5;
+// A group has seven bits; the top bit of its byte is worth as much as a group.
+const GROUP: u64 = 128;
 
-const NUMBER_MOST: u64 = 4_294_967_295;
-
-const REPORT_NUMBER_BYTES: usize = 9;
-
-const REPORT_NUMBER_MOST: u64 = 9_223_372_036_854_775_807;
+// the first byte of a number that is not in shortest form
+const EMPTY_GROUP: u8 = 128;
 
 // A number at a position: its value and the position after it.
 pub enum Read {
@@ -46,7 +44,7 @@ fn in_size(value: u64, next: usize, most: u64) -> Read
 
 // The groups at a position, at most `limit` of them, a number of at most `most`.
 fn read_groups(s: &[u8], at: usize, limit: usize, most: u64) -> Read
-    requires { ⌜ limit ≤ 9 ⌝ }
+    requires { ⌜ limit ≤ maxReportNumberBytes ⌝ }
     ensures { λ r. ⌜ r ≡ readAs at (within most (groups limit 0 (drop at (now (s .entry))))) ⌝ }
 {
     let mut left = limit;
@@ -58,10 +56,10 @@ fn read_groups(s: &[u8], at: usize, limit: usize, most: u64) -> Read
         }
         let b = s[next] as u64;
         next += 1;
-        if b < 128 {
-            return in_size(value * 128 + b, next, most);
+        if b < GROUP {
+            return in_size(value * GROUP + b, next, most);
         }
-        value = value * 128 + (b - 128);
+        value = value * GROUP + (b - GROUP);
         left -= 1;
     }
     Read::Refused
@@ -69,13 +67,13 @@ fn read_groups(s: &[u8], at: usize, limit: usize, most: u64) -> Read
 
 // The same in shortest form: a number that begins with an empty group is refused.
 fn read_shortest(s: &[u8], at: usize, limit: usize, most: u64) -> Read
-    requires { ⌜ limit ≤ 9 ⌝ }
+    requires { ⌜ limit ≤ maxReportNumberBytes ⌝ }
     ensures { λ r. ⌜ r ≡ readAs at (readNumber limit most (drop at (now (s .entry)))) ⌝ }
 {
     if s.len() <= at {
         return Read::Refused;
     }
-    if s[at] == 128 {
+    if s[at] == EMPTY_GROUP {
         return Read::Refused;
     }
     read_groups(s, at, limit, most)
@@ -86,7 +84,7 @@ pub fn read_number(s: &[u8], at: usize) -> Read
     ensures { λ r. ⌜ numberOf at r ≡ readNumber maxNumberBytes maxNumber (drop at (now (s .entry))) ⌝ }
     ensures inside { λ r. ⌜ ((v next : ℕ) → r ≡ Read.Number v next → (v ≤ maxNumber) × (at < next) × (next ≤ length (now (s .entry)))) ⌝ }
 {
-    read_shortest(s, at, NUMBER_BYTES, NUMBER_MOST)
+    read_shortest(s, at, Model::NUMBER_BYTES, Model::MAX_NUMBER)
 }
 
 // A number of the report.
@@ -94,7 +92,7 @@ pub fn read_report_number(s: &[u8], at: usize) -> Read
     ensures { λ r. ⌜ numberOf at r ≡ readNumber maxReportNumberBytes maxReportNumber (drop at (now (s .entry))) ⌝ }
     ensures inside { λ r. ⌜ ((v next : ℕ) → r ≡ Read.Number v next → (v ≤ maxReportNumber) × (at < next) × (next ≤ length (now (s .entry)))) ⌝ }
 {
-    read_shortest(s, at, REPORT_NUMBER_BYTES, REPORT_NUMBER_MOST)
+    read_shortest(s, at, Model::REPORT_NUMBER_BYTES, Model::MAX_REPORT_NUMBER)
 }
 
 // A number from lo to hi. `code` is the refusal of one that is not whole, not shortest or not in
@@ -123,13 +121,13 @@ pub fn number_len(v: u64) -> usize
     ensures { λ r. ⌜ r ≡ length (numberBytes v) ⌝ }
 {
     let mut len = 1;
-    let mut above = v / 128;
+    let mut above = v / GROUP;
     while above != 0 {
-        if len == 9 {
+        if len == Model::REPORT_NUMBER_BYTES {
             return len;
         }
         len += 1;
-        above /= 128;
+        above /= GROUP;
     }
     len
 }
@@ -140,12 +138,12 @@ fn store_number(out: &mut [u8], at: usize, v: u64, len: usize)
     ensures { λ _. ⌜ now (out .exit) ≡ sets (now (out .entry)) at (numberBytes v) ⌝ }
 {
     let mut left = len - 1;
-    out[at + left] = (v % 128) as u8;
-    let mut above = v / 128;
+    out[at + left] = (v % GROUP) as u8;
+    let mut above = v / GROUP;
     while 0 < left {
         left -= 1;
-        out[at + left] = (128 + above % 128) as u8;
-        above /= 128;
+        out[at + left] = (GROUP + above % GROUP) as u8;
+        above /= GROUP;
     }
 }
 

@@ -1,20 +1,28 @@
 // Covrith for other languages: functions that C, or Rust by C's calling convention, can call. include/covrith.h declares them.
 // A slice crosses the boundary as a pointer and a length in elements.
+use machine::refusals::NO_MORE;
 use streams::Started;
 use tapes::Made;
 use trace::Reading;
 use trace::Written;
 ghost use mathlib.Core.Path.{_≡_};
 ghost use lib.ListN.{length};
+ghost use Rattle.machine.specs.Rules.{inForce};
 ghost use Rattle.machine.specs.Number.{countLow};
 ghost use Rattle.machine.specs.Trace.{readRecord, writeRecord};
 ghost use Rattle.trace.specs.Answers.{entry, after};
+ghost use Rattle.columns.specs.Columns.{toColumns, fromColumns};
 ghost use Rattle.engine.specs.Contract.{Contract};
 ghost use Rattle.streams.specs.Stream.{next, startOf};
 ghost use Rattle.tapes.specs.Tape.{makeTape, leaves};
 ghost use Rattle.tapes.specs.Contract.{Accepts};
 ghost use Rattle.covrith.specs.Answers.{readAnswer, readNumbers, writeAnswer, writeCount, startAnswer, startState, tapeAnswer, tapeCount};
 ghost use Rattle.covrith.specs.Results.{results};
+
+// The eight results of a run; a record and the position behind it.
+pub const OUTCOME: usize = 8;
+
+pub const RECORD: usize = 5;
 
 // One run of a model on a tape. `outcome` gets the eight results.
 #[no_mangle]
@@ -25,7 +33,7 @@ pub extern "C" fn covrith_run(
     work: &mut [u32],
     trace: &mut [u8],
     report: &mut [u8],
-    outcome: &mut [u64; 8],
+    outcome: &mut [u64; OUTCOME],
 )
     ensures { λ _. ⌜ Contract (now (model .entry)) (now (tape .entry)) budget (now (work .entry)) (now (trace .entry)) (now (report .entry)) (results (now (outcome .exit))) (now (work .exit)) (now (trace .exit)) (now (report .exit)) ⌝ }
 {
@@ -44,9 +52,13 @@ pub extern "C" fn covrith_run(
 
 // The record at a position of a trace.
 #[no_mangle]
-pub extern "C" fn covrith_read_record(trace: &[u8], position: usize, numbers: &mut [u64; 5]) -> u32
-    ensures { λ r. ⌜ r ≡ readAnswer (readRecord (now (trace .entry)) position) ⌝ }
-    ensures { λ _. ⌜ now (numbers .exit) ≡ readNumbers (readRecord (now (trace .entry)) position) (now (numbers .entry)) ⌝ }
+pub extern "C" fn covrith_read_record(
+    trace: &[u8],
+    position: usize,
+    numbers: &mut [u64; RECORD],
+) -> u32
+    ensures { λ r. ⌜ r ≡ readAnswer (readRecord inForce (now (trace .entry)) position) ⌝ }
+    ensures { λ _. ⌜ now (numbers .exit) ≡ readNumbers (readRecord inForce (now (trace .entry)) position) (now (numbers .entry)) ⌝ }
 {
     match trace::read_record(trace, position) {
         Reading::Taken(r, next) => {
@@ -54,7 +66,7 @@ pub extern "C" fn covrith_read_record(trace: &[u8], position: usize, numbers: &m
             0
         }
         Reading::Refused(n) => n,
-        Reading::NoMore => 30,
+        Reading::NoMore => NO_MORE,
     }
 }
 
@@ -68,9 +80,9 @@ pub extern "C" fn covrith_write_record(
     outcome: u64,
     count: &mut u64,
 ) -> u32
-    ensures { λ r. ⌜ r ≡ writeAnswer (writeRecord (length (now (rest .entry))) (entry clock transaction block outcome)) ⌝ }
-    ensures { λ _. ⌜ now (count .exit) ≡ writeCount (writeRecord (length (now (rest .entry))) (entry clock transaction block outcome)) ⌝ }
-    ensures { λ _. ⌜ now (rest .exit) ≡ after (writeRecord (length (now (rest .entry))) (entry clock transaction block outcome)) (now (rest .entry)) ⌝ }
+    ensures { λ r. ⌜ r ≡ writeAnswer (writeRecord inForce (length (now (rest .entry))) (entry clock transaction block outcome)) ⌝ }
+    ensures { λ _. ⌜ now (count .exit) ≡ writeCount (writeRecord inForce (length (now (rest .entry))) (entry clock transaction block outcome)) ⌝ }
+    ensures { λ _. ⌜ now (rest .exit) ≡ after (writeRecord inForce (length (now (rest .entry))) (entry clock transaction block outcome)) (now (rest .entry)) ⌝ }
 {
     match trace::write_record(rest, clock, transaction, block, outcome) {
         Written::Bytes(n) => {
@@ -113,6 +125,44 @@ pub extern "C" fn covrith_stream_step(state: u32) -> u32
     ensures { λ r. ⌜ r ≡ next state ⌝ }
 {
     streams::step(state)
+}
+
+// A trace to columns.
+#[no_mangle]
+pub extern "C" fn covrith_columns(trace: &[u8], out: &mut [u8], written: &mut u64) -> u32
+    ensures { λ r. ⌜ r ≡ writeAnswer (toColumns (now (trace .entry)) (length (now (out .entry)))) ⌝ }
+    ensures { λ _. ⌜ now (written .exit) ≡ writeCount (toColumns (now (trace .entry)) (length (now (out .entry)))) ⌝ }
+    ensures { λ _. ⌜ now (out .exit) ≡ after (toColumns (now (trace .entry)) (length (now (out .entry)))) (now (out .entry)) ⌝ }
+{
+    match columns::to_columns(trace, out) {
+        Written::Bytes(n) => {
+            *written = n as u64;
+            0
+        }
+        Written::Refused(n) => {
+            *written = 0;
+            n
+        }
+    }
+}
+
+// Columns to the trace that produces them.
+#[no_mangle]
+pub extern "C" fn covrith_uncolumns(columns: &[u8], out: &mut [u8], written: &mut u64) -> u32
+    ensures { λ r. ⌜ r ≡ writeAnswer (fromColumns (now (columns .entry)) (length (now (out .entry)))) ⌝ }
+    ensures { λ _. ⌜ now (written .exit) ≡ writeCount (fromColumns (now (columns .entry)) (length (now (out .entry)))) ⌝ }
+    ensures { λ _. ⌜ now (out .exit) ≡ after (fromColumns (now (columns .entry)) (length (now (out .entry)))) (now (out .entry)) ⌝ }
+{
+    match columns::from_columns(columns, out) {
+        Written::Bytes(n) => {
+            *written = n as u64;
+            0
+        }
+        Written::Refused(n) => {
+            *written = 0;
+            n
+        }
+    }
 }
 
 // Makes a tape from a stream and distributions. `written` gets the number of its bytes, 0 for a refusal.

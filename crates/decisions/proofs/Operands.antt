@@ -1,14 +1,16 @@
 -- The operands of block i (from 0) in the tables, for the kinds of this crate.
 use Prim.Native.Nat.{ℕ, _+_, _-_, _*_, _<_}
 use mathlib.Core.Path.{_≡_, sym, ap, _∙_, subst}
+use mathlib.Core.Bool.{true, _&&_}
 use mathlib.Core.List.{List, [], _∷_, _++_}
 use native.Mathlib.Omega.{arith}
 use lib.Dec.{T}
 use lib.ListN.{length, getD}
 use Rattle.machine.specs.Term.{Term, Relation}
-use Rattle.machine.specs.Block.{Block, branch, goto, assign, arrive, depart, terminate, BlockModel}
+use Rattle.machine.specs.Block.{Block, branch, goto, assign, arrive, depart, terminate, BlockModel, Change, counts}
+use Rattle.tables.specs.Forms.{blockForms}
 use Rattle.tables.specs.Layout as Layout
-use Rattle.tables.specs.Numbers.{relationNumber, termNumbers, blockNumbers}
+use Rattle.tables.specs.Numbers.{relationNumber, termNumbers, blockNumbers, countKind}
 use Rattle.tables.specs.Represents.{At, smallTerm, smallBlock, Represents}
 use Rattle.terms.specs.Nested.{nestedTerm, nestedBlock, Nested}
 use Rattle.terms.proofs.Found.{at-first, at-back}
@@ -25,36 +27,34 @@ module _ {m : BlockModel} {tape : List (List ℕ)} {tapeBytes tables lists : Lis
       sym (at-first tables (Layout.blockWidth * i + 1) n rest (at-first tables (Layout.blockWidth * i) kind (n ∷ rest) h .after) .found)
 
   pub goto-target : (target : ℕ) → getD (m .blocks) i (terminate 0) ≡ goto target → getD tables (Layout.blockWidth * i + 1) 0 ≡ target
-  unfolding blockNumbers
+  unfolding blockForms
   goto-target target e = second 11 target [] (numbers (goto target) e)
 
   pub assign-parameter : (k : ℕ) (a : Term) → getD (m .blocks) i (terminate 0) ≡ assign k a → getD tables (Layout.blockWidth * i + 1) 0 ≡ k - 1
-  unfolding blockNumbers
+  unfolding blockForms
   assign-parameter k a e = second 12 (k - 1) (termNumbers a) (numbers (assign k a) e)
 
-  pub arrive-queue : (q : ℕ) → getD (m .blocks) i (terminate 0) ≡ arrive q → getD tables (Layout.blockWidth * i + 1) 0 ≡ q - 1
+  pub count-queue : (c : Change) (q : ℕ) → getD (m .blocks) i (terminate 0) ≡ counts c q → getD tables (Layout.blockWidth * i + 1) 0 ≡ q - 1
   unfolding blockNumbers
-  arrive-queue q e = second 15 (q - 1) [] (numbers (arrive q) e)
-
-  pub depart-queue : (q : ℕ) → getD (m .blocks) i (terminate 0) ≡ depart q → getD tables (Layout.blockWidth * i + 1) 0 ≡ q - 1
-  unfolding blockNumbers
-  depart-queue q e = second 16 (q - 1) [] (numbers (depart q) e)
+  count-queue c q e = second (countKind c) (q - 1) [] (numbers (counts c q) e)
 
   module _ (nested : Nested m) where
     -- a term of a LET: small constants, no brackets
     pub assign-term : (k : ℕ) (a : Term) → getD (m .blocks) i (terminate 0) ≡ assign k a → T (smallTerm a) × T (nestedTerm 0 a)
-    unfolding smallBlock nestedBlock
-    assign-term k a e =
-        (subst (λ (x : Block). T (smallBlock x)) e (rep .small-blocks i), subst (λ (x : Block). T (nestedBlock x)) e (nested .blocks i))
+    unfolding nestedBlock blockForms
+    assign-term k a e = (
+      and-left (smallTerm a) true (subst (λ (x : Block). T (smallBlock x)) e (rep .small-blocks i)),
+      and-left (nestedTerm 0 a) true (subst (λ (x : Block). T (nestedBlock x)) e (nested .blocks i)),
+    )
 
     -- the target of an IF stands behind two terms and a relation
     pub branch-target : (a : Term) (o : Relation) (b : Term) (target : ℕ) → getD (m .blocks) i (terminate 0) ≡ branch a o b target → getD tables (Layout.blockWidth * i + 6) 0 ≡ target
-    unfolding blockNumbers nestedBlock
+    unfolding nestedBlock blockForms
     branch-target a o b target e =
         let base = Layout.blockWidth * i in
         let both : T (nestedBlock (branch a o b target)) = subst (λ (x : Block). T (nestedBlock x)) e (nested .blocks i) in
-        let left = two-numbers a (and-left (nestedTerm 0 a) (nestedTerm 0 b) both) in
-        let right = two-numbers b (and-right (nestedTerm 0 a) (nestedTerm 0 b) both) in
+        let left = two-numbers a (and-left (nestedTerm 0 a) (nestedTerm 0 b && true) both) in
+        let right = two-numbers b (and-left (nestedTerm 0 b) true (and-right (nestedTerm 0 a) (nestedTerm 0 b && true) both)) in
         let rest = termNumbers b ++ (target ∷ []) in
         let first = at-first tables base 10 (termNumbers a ++ (relationNumber o ∷ rest)) (numbers (branch a o b target) e) .after in
         let relation = at-back tables (base + 1) (termNumbers a) (relationNumber o ∷ rest) first in

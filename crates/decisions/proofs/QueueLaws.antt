@@ -12,11 +12,11 @@ use lib.ListN.{length, getD, set, length-set}
 use lib.Seq.{getD-set-same, getD-set-other}
 use Rattle.machine.specs.Transaction.{Transaction}
 use Rattle.machine.specs.Term.{Queue, emptyQueue, queueAt}
-use Rattle.machine.specs.Block.{arrive, depart, BlockModel, blockAt}
+use Rattle.machine.specs.Block.{arrive, BlockModel, blockAt, Change, up, counts}
 use Rattle.machine.specs.State.{State}
 use Rattle.machine.specs.Setters.{withContent, setMoving}
 use Rattle.machine.specs.Moves as Moves
-use Rattle.machine.specs.Execute.{unless, question}
+use Rattle.machine.specs.Execute.{unless, question, askContent, changed}
 use Rattle.machine.proofs.Proper.{Proper, ProperBlock, Names}
 use Rattle.tables.specs.Layout as Layout
 use Rattle.tables.specs.Represents.{Represents}
@@ -30,7 +30,7 @@ use Rattle.moves.proofs.MotionLaws.{go-on-done, stop-done, go-on-used}
 use Rattle.decisions.specs.Queues as Rows
 use Rattle.decisions.specs.Queues.{contentCell}
 use Rattle.decisions.proofs.Sees.{sane-low, content-low}
-use Rattle.decisions.proofs.Operands.{arrive-queue, depart-queue}
+use Rattle.decisions.proofs.Operands.{count-queue}
 use Rattle.state.proofs.Moving.{inside, next-low}
 
 -- ---- The content of one queue set
@@ -131,36 +131,38 @@ module _ {m : BlockModel} {tape : List (List ℕ)} {tapeBytes tables lists : Lis
   -- ---- 15 ARRIVE
 
   pub arrive-done : (q : ℕ) → blockAt m (t .next) ≡ arrive q
-      → Done tapeBytes (Rows.arrive tables (r .work) (r .tally) x base) (bareAnswer (question (arrive q) s) m (arrive q) t s)
-  unfolding Rows.arrive question bareAnswer bare
+      → Done tapeBytes (Rows.arrive tables (r .work) (r .tally) x base) (bareAnswer (question m (arrive q) s) m (arrive q) t s)
+  unfolding Rows.arrive question askContent bareAnswer bare changed
   arrive-done q e =
       let named : Names (m .queues) q = subst (ProperBlock m) e (proper .block (t .next)) in
-      let found : getD tables (base + 1) 0 ≡ q - 1 = arrive-queue rep i there q e in
+      let found : getD tables (base + 1) 0 ≡ q - 1 = count-queue rep i there up q e in
       let more : min (getD (r .tally) (Layout.content + (q - 1)) 0 + 1) 18446744073709551615 ≡ queueAt (s .view) q .content + 1 =
       omega (arith, content-is q named found, content-few q named found) in
       rw (cell-is q named found, more) (counted q named found (queueAt (s .view) q .content + 1))
 
   -- ---- 16 DEPART
 
-  -- with content, it goes on with one less
-  less : (q c : ℕ) → queueAt (s .view) q .content ≡ c → bareAnswer 0 m (depart q) t s ≡ entering (Moves.goOn t (Moves.setContent q (c - 1) alone))
-  unfolding bareAnswer bare
-  less q c f = ap (λ (n : ℕ). entering (Moves.goOn t (Moves.setContent q (n - 1) alone))) f
+  -- of any kind that lets the content fall by one
+  module _ (c : Change) (falls : (n : ℕ) → changed c n ≡ n - 1) (asks : (n : ℕ) → askContent c n ≡ unless (leb 1 n) 25 0) where
+    -- with content, it goes on with one less
+    less : (q n : ℕ) → queueAt (s .view) q .content ≡ n → bareAnswer 0 m (counts c q) t s ≡ entering (Moves.goOn t (Moves.setContent q (n - 1) alone))
+    unfolding bareAnswer bare
+    less q n f = ap (λ (n : ℕ). entering (Moves.goOn t (Moves.setContent q n alone))) (falls _ ∙ ap (λ (n : ℕ). n - 1) f)
 
-  pub depart-done : (q : ℕ) → blockAt m (t .next) ≡ depart q
-      → Done tapeBytes (Rows.depart tables (r .work) (r .tally) x base) (bareAnswer (question (depart q) s) m (depart q) t s)
-  unfolding Rows.depart question
-  depart-done q e =
-      let named : Names (m .queues) q = subst (ProperBlock m) e (proper .block (t .next)) in
-      let found : getD tables (base + 1) 0 ≡ q - 1 = depart-queue rep i there q e in
-      rw (cell-is q named found, content-is q named found) (go named found (queueAt (s .view) q .content) refl)
-    where
-      go : (named : Names (m .queues) q) (found : getD tables (base + 1) 0 ≡ q - 1) (c : ℕ) → queueAt (s .view) q .content ≡ c
-          → Done tapeBytes (cond (eqb c 0) (rowsOf (stopped x 25) (r .work) (r .tally)) (withTally (goOn (r .work) x) (set (r .tally) (Layout.content + (q - 1)) (c - 1)))) (bareAnswer (unless (leb 1 c) 25 0) m (depart q) t s)
-      go named found zero f = stop-done tapeBytes r t s 24 m (depart q) moving stands
-      go named found (suc c) f =
-          rw (ne-eqb (suc c) 0 (λ e. omega arith), le-leb 1 (suc c) (omega arith))
-          (subst (λ (b : Bare). Done tapeBytes (withTally (goOn (r .work) x) (set (r .tally) (Layout.content + (q - 1)) (suc c - 1))) b) (sym (less q (suc c) f)) (counted q named found (suc c - 1)))
+    pub depart-done : (q : ℕ) → blockAt m (t .next) ≡ counts c q
+        → Done tapeBytes (Rows.depart tables (r .work) (r .tally) x base) (bareAnswer (question m (counts c q) s) m (counts c q) t s)
+    unfolding Rows.depart question
+    depart-done q e =
+        let named : Names (m .queues) q = subst (ProperBlock m) e (proper .block (t .next)) in
+        let found : getD tables (base + 1) 0 ≡ q - 1 = count-queue rep i there c q e in
+        rw (cell-is q named found, content-is q named found, asks (queueAt (s .view) q .content)) (go named found (queueAt (s .view) q .content) refl)
+      where
+        go : (named : Names (m .queues) q) (found : getD tables (base + 1) 0 ≡ q - 1) (n : ℕ) → queueAt (s .view) q .content ≡ n
+            → Done tapeBytes (cond (eqb n 0) (rowsOf (stopped x 25) (r .work) (r .tally)) (withTally (goOn (r .work) x) (set (r .tally) (Layout.content + (q - 1)) (n - 1)))) (bareAnswer (unless (leb 1 n) 25 0) m (counts c q) t s)
+        go named found zero f = stop-done tapeBytes r t s 24 m (counts c q) moving stands
+        go named found (suc n) f =
+            rw (ne-eqb (suc n) 0 (λ e. omega arith), le-leb 1 (suc n) (omega arith))
+            (subst (λ (b : Bare). Done tapeBytes (withTally (goOn (r .work) x) (set (r .tally) (Layout.content + (q - 1)) (suc n - 1))) b) (sym (less q (suc n) f)) (counted q named found (suc n - 1)))
 
 -- ---- Bytes of trace are counted elsewhere
 

@@ -3,19 +3,20 @@ use Prim.Native.Nat.{ℕ, _-_, _*_, _≤_, _<_}
 use mathlib.Core.Path.{_≡_, refl, sym, ap, _∙_, subst}
 use mathlib.Core.Bool.{Bool, true, false, cond, not}
 use mathlib.Core.List.{List, _∷_}
-use mathlib.Core.Option.{Option}
+use mathlib.Core.Option.{Option, none}
 use native.Mathlib.Omega.{arith}
 use borrow.Author.Tests.{ltb-true, ltb-false, lt-ltb, le-ltb}
 use lib.Dec.{ltb, eqb}
 use lib.ListN.{length, getD, List·getD-eq-default}
 use lib.IntN.{ℤ}
 use Rattle.machine.specs.Transaction.{Transaction}
-use Rattle.machine.specs.Term.{View, compare}
-use Rattle.machine.specs.Block.{Block, generate, advance, terminate, seize, release, enter, leave, waitServer, waitTerms, branch, goto, assign, priority, split, arrive, depart, BlockModel}
+use Rattle.machine.specs.Term.{View, compare, Term, Relation, truth}
+use Rattle.machine.specs.Block.{Block, terminate, facility, storage, waitTerms, facts, BlockModel}
 use Rattle.machine.specs.State.{State}
 use Rattle.machine.specs.Moves.{wakeWsl}
 use Rattle.machine.specs.Turn as Turn
 use Rattle.machine.proofs.Proper.{Proper}
+use Rattle.tables.specs.Forms.{blockForms}
 use Rattle.tables.specs.Layout as Layout
 use Rattle.tables.specs.Numbers.{blockNumbers}
 use Rattle.tables.specs.Represents.{At, Represents}
@@ -36,6 +37,7 @@ use Rattle.decisions.specs.Scheme.{blockOf, leaves, wsScheme}
 use Rattle.decisions.proofs.Sees.{Low, sees}
 use Rattle.decisions.proofs.Parameters.{parameters-are}
 use Rattle.decisions.proofs.Operands.{numbers}
+use Rattle.tables.proofs.BlockKinds.{Kinds, generating, taking, waiting, arriving, other, kinds, unasked}
 
 -- ---- Whether a row leaves
 
@@ -47,6 +49,9 @@ module _ {m : BlockModel} {tape : List (List ℕ)} {tapeBytes tables lists : Lis
   abbrev holding : Bool
   holding = holdsAt tables (length (m .values)) w tally clock k (blockOf w k)
 
+  abbrev waitsAt : Block → Bool
+  waitsAt b = Turn.holds (m .values) view (transactionAt w k .parameters) (facts b .waitsWhile)
+
   -- the block's number says whether it is a WAITIF
   module _ (inside : i < length (m .blocks)) where
     kind : (b : Block) (n : ℕ) (rest : List ℕ) → blockNumbers b ≡ n ∷ rest → getD (m .blocks) i (terminate 0) ≡ b → getD tables (blockOf w k) 0 ≡ n
@@ -54,35 +59,31 @@ module _ {m : BlockModel} {tape : List (List ℕ)} {tapeBytes tables lists : Lis
     kind b n rest e f =
         sym (at-first tables (Layout.blockWidth * i) n rest (subst (At tables (Layout.blockWidth * i)) e (numbers rep i inside b f)) .found)
 
-    another : (b : Block) (n : ℕ) (rest : List ℕ) → eqb n 9 ≡ false → blockNumbers b ≡ n ∷ rest → getD (m .blocks) i (terminate 0) ≡ b
-        → cond (eqb (getD tables (blockOf w k) 0) 9) (not holding) true ≡ true
-    another b n rest d e f = rw (kind b n rest e f, d)
+    another : (b : Block) (n : ℕ) (rest : List ℕ) → eqb n 9 ≡ false → facts b .waitsWhile ≡ none → blockNumbers b ≡ n ∷ rest → getD (m .blocks) i (terminate 0) ≡ b
+        → cond (eqb (getD tables (blockOf w k) 0) 9) (not holding) true ≡ not (waitsAt b)
+    unfolding Turn.holds
+    another b n rest d none-is e f = rw (kind b n rest e f, d, none-is)
 
-    leaves-at : (b : Block) → getD (m .blocks) i (terminate 0) ≡ b
-        → cond (eqb (getD tables (blockOf w k) 0) 9) (not holding) true ≡ not (Turn.holds (m .values) view (transactionAt w k) b)
-    unfolding blockNumbers Turn.holds
-    leaves-at (generate list p) f = another _ 1 _ refl refl f
-    leaves-at (advance list) f = another _ 2 _ refl refl f
-    leaves-at (terminate a) f = another _ 3 _ refl refl f
-    leaves-at (seize v) f = another _ 4 _ refl refl f
-    leaves-at (release v) f = another _ 5 _ refl refl f
-    leaves-at (enter v b) f = another _ 6 _ refl refl f
-    leaves-at (leave v b) f = another _ 7 _ refl refl f
-    leaves-at (waitServer code v) f = another _ 8 _ refl refl f
-    leaves-at (waitTerms a o b) f = rw (kind _ 9 _ refl f) (ap not compared)
+    leaves-at : (b : Block) → getD (m .blocks) i (terminate 0) ≡ b → cond (eqb (getD tables (blockOf w k) 0) 9) (not holding) true ≡ not (waitsAt b)
+    leaves-at b f = go (kinds b)
       where
-        compared : holding ≡ compare (m .values) view (transactionAt w k .parameters) a o b
-        compared =
+        like : {c : Block} → b ≡ c → cond (eqb (getD tables (blockOf w k) 0) 9) (not holding) true ≡ not (waitsAt c)
+            → cond (eqb (getD tables (blockOf w k) 0) 9) (not holding) true ≡ not (waitsAt b)
+        like e h = h ∙ ap (λ (x : Block). not (waitsAt x)) (sym e)
+
+        compared : (a : Term) (o : Relation) (c : Term) → b ≡ waitTerms a o c → holding ≡ compare (m .values) view (transactionAt w k .parameters) a o c
+        compared a o c e =
             unfold holdsAt blockOf in
-            wait-law rep nested seen (parametersAt w k) i inside a o b f
-            ∙ ap (λ (l : List ℤ). compare (m .values) view l a o b) (parameters-are w k)
-    leaves-at (branch a o b target) f = another _ 10 _ refl refl f
-    leaves-at (goto target) f = another _ 11 _ refl refl f
-    leaves-at (assign n a) f = another _ 12 _ refl refl f
-    leaves-at (priority p) f = another _ 13 _ refl refl f
-    leaves-at (split n target) f = another _ 14 _ refl refl f
-    leaves-at (arrive q) f = another _ 15 _ refl refl f
-    leaves-at (depart q) f = another _ 16 _ refl refl f
+            wait-law rep nested seen (parametersAt w k) i inside a o c (f ∙ e)
+            ∙ ap (λ (l : List ℤ). compare (m .values) view l a o c) (parameters-are w k)
+
+        go : Kinds b → cond (eqb (getD tables (blockOf w k) 0) 9) (not holding) true ≡ not (waitsAt b)
+        go (generating list p e) = like e (unfold blockForms in another _ 1 _ refl refl refl (f ∙ e))
+        go (taking (facility v) e) = like e (unfold blockForms in another _ 4 _ refl refl refl (f ∙ e))
+        go (taking (storage v n) e) = like e (unfold blockForms in another _ 6 _ refl refl refl (f ∙ e))
+        go (waiting a o c e) = like e (unfold blockForms Turn.holds truth in rw (kind _ 9 _ refl (f ∙ e)) (ap not (compared a o c e)))
+        go (arriving q e) = like e (unfold blockForms in another _ 15 _ refl refl refl (f ∙ e))
+        go (other n rest e d g) = another b n rest (unasked n d .no-wait) (ap (λ x. x .waitsWhile) g) e f
 
   inside-below : i < length (m .blocks) → ltb (blockOf w k) (Layout.blockWidth * length (m .blocks)) ≡ true
   unfolding blockOf
@@ -93,8 +94,8 @@ module _ {m : BlockModel} {tape : List (List ℕ)} {tapeBytes tables lists : Lis
   outside-above h = le-ltb (Layout.blockWidth * i) (Layout.blockWidth * length (m .blocks)) (omega arith)
 
   -- a row whose next block is none of the model's counts as one at a TERMINATE
-  outside : length (m .blocks) ≤ i → Turn.holds (m .values) view (transactionAt w k) (getD (m .blocks) i (terminate 0)) ≡ false
-  unfolding Turn.holds
+  outside : length (m .blocks) ≤ i → waitsAt (getD (m .blocks) i (terminate 0)) ≡ false
+  unfolding Turn.holds facts
   outside h = rw (List·getD-eq-default (m .blocks) (terminate 0) h)
 
   pub leaves-agrees : leaves tables (length (m .blocks)) (length (m .values)) tally clock w k ≡ not (Turn.waitsOn m view (transactionAt w k))
@@ -103,7 +104,7 @@ module _ {m : BlockModel} {tape : List (List ℕ)} {tapeBytes tables lists : Lis
     where
       go : (b : Bool) → ltb i (length (m .blocks)) ≡ b
           → cond (ltb (blockOf w k) (Layout.blockWidth * length (m .blocks))) (cond (eqb (getD tables (blockOf w k) 0) 9) (not holding) true) true
-          ≡ not (Turn.holds (m .values) view (transactionAt w k) (getD (m .blocks) i (terminate 0)))
+          ≡ not (waitsAt (getD (m .blocks) i (terminate 0)))
       go true e =
           let lt : i < length (m .blocks) = ltb-true i (length (m .blocks)) e in
           rw (inside-below lt) (leaves-at lt _ refl)

@@ -16,7 +16,7 @@ contentCell tables at = Layout.content + getD tables (at + 1) 0
 module _ (tables w tally : List ℕ) (x : Scalars) (at : ℕ) where
   unfoldable pub arrive : Rows
   arrive =
-      withTally (goOn w x) (set tally (contentCell tables at) (min (getD tally (contentCell tables at) 0 + 1) 18446744073709551615))
+      withTally (goOn w x) (set tally (contentCell tables at) (min (getD tally (contentCell tables at) 0 + 1) Layout.most64))
 
   unfoldable pub depart : Rows
   depart =

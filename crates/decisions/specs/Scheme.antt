@@ -5,7 +5,7 @@ use mathlib.Core.List.{List}
 use lib.Dec.{ltb, eqb}
 use lib.ListN.{getD}
 use Rattle.tables.specs.Layout as Layout
-use Rattle.rows.specs.Layout.{head, wsl, nextField}
+use Rattle.rows.specs.Layout.{head, wsl, nextField, rowCount}
 use Rattle.rows.specs.Cells.{read}
 use Rattle.rows.specs.Wake.{wakeAll}
 use Rattle.state.specs.declared.scalars.Scalars.{Scalars}
@@ -24,4 +24,4 @@ leaves tables blocks values tally clock w k =
 
 unfoldable pub wsScheme : (tables : List ℕ) (blocks values : ℕ) (tally : List ℕ) (x : Scalars) (w : List ℕ) → List ℕ
 wsScheme tables blocks values tally x w =
-    cond (eqb (x .end) 0) (wakeAll (leaves tables blocks values tally (x .clock)) 1024 w wsl (head wsl)) w
+    cond (eqb (x .end) 0) (wakeAll (leaves tables blocks values tally (x .clock)) rowCount w wsl (head wsl)) w

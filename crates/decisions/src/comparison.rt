@@ -1,11 +1,19 @@
 // Blocks with terms, which are read with the moving transaction's own parameters: WAITIF, IF and LET.
+use machine::Model;
 use moves::go_on;
 use moves::go_to;
 use moves::wait_on;
+use rows::PARAMETER_1;
+use rows::PARAMETER_2;
+use rows::PARAMETER_3;
+use rows::PARAMETER_4;
 use rows::WSL;
 use rows::cells::read;
 use rows::cells::write;
 use state::Scalars;
+use tables::BRANCH_TARGET;
+use tables::FIRST;
+use tables::SECOND;
 use tables::number;
 use terms::Parameters;
 use terms::bits;
@@ -13,8 +21,12 @@ use terms::compare_at;
 use terms::term_at;
 ghost use mathlib.Core.Path.{_≡_};
 ghost use Prim.Native.Nat.{_+_, _<_, _≤_};
+ghost use Rattle.tables.specs.Layout.{BlockAt};
+ghost use Rattle.rows.specs.Layout.{Room, rowCount};
 ghost use Rattle.moves.specs.Motion.{moved};
 ghost use Rattle.decisions.specs.Comparison.{parametersAt, holdsAt, worthAt, setParameter, waitTerms, branch, assign};
+
+const PARAMETERS: u32 = Model::PARAMETERS as u32;
 
 fn wide(n: u32) -> u64
     ensures { λ r. ⌜ r ≡ n ⌝ }
@@ -24,13 +36,13 @@ fn wide(n: u32) -> u64
 
 // The parameters of row k, as bits.
 fn parameters_of(work: &[u32], k: u32) -> Parameters
-    requires { ⌜ k < 1024 ⌝ }
+    requires { ⌜ k < rowCount ⌝ }
     ensures { λ r. ⌜ r ≡ parametersAt (now (work .entry)) k ⌝ }
 {
-    let p1 = read(work, 2, k);
-    let p2 = read(work, 3, k);
-    let p3 = read(work, 4, k);
-    let p4 = read(work, 5, k);
+    let p1 = read(work, PARAMETER_1, k);
+    let p2 = read(work, PARAMETER_2, k);
+    let p3 = read(work, PARAMETER_3, k);
+    let p4 = read(work, PARAMETER_4, k);
     Parameters { p1, p2, p3, p4 }
 }
 
@@ -44,12 +56,12 @@ pub fn holds(
     k: u32,
     at: usize,
 ) -> bool
-    requires { do ⌜ at + 8 ≤ (← ⟦tables.len()⟧) ⌝ }
-    requires { ⌜ k < 1024 ⌝ }
+    requires { ⌜ BlockAt (now tables) at ⌝ }
+    requires { ⌜ k < rowCount ⌝ }
     ensures { λ r. ⌜ r ≡ holdsAt (now (tables .entry)) values (now (work .entry)) (now (tally .entry)) clock k at ⌝ }
 {
     let parameters = parameters_of(work, k);
-    compare_at(tables, tally, values, wide(clock), parameters, at + 1)
+    compare_at(tables, tally, values, wide(clock), parameters, at + FIRST)
 }
 
 // What the term of the LET at `at` is worth for row k, as bits.
@@ -62,24 +74,24 @@ fn worth(
     k: u32,
     at: usize,
 ) -> u32
-    requires { do ⌜ at + 8 ≤ (← ⟦tables.len()⟧) ⌝ }
-    requires { ⌜ k < 1024 ⌝ }
+    requires { ⌜ BlockAt (now tables) at ⌝ }
+    requires { ⌜ k < rowCount ⌝ }
     ensures { λ r. ⌜ r ≡ worthAt (now (tables .entry)) values (now (work .entry)) (now (tally .entry)) clock k at ⌝ }
 {
     let parameters = parameters_of(work, k);
-    bits(term_at(tables, tally, values, wide(clock), parameters, at + 2))
+    bits(term_at(tables, tally, values, wide(clock), parameters, at + SECOND))
 }
 
 // Parameter i (from 0) of row k gets these bits.
 fn set_parameter(work: &mut [u32], k: u32, i: u32, x: u32)
-    requires { do ⌜ 16384 ≤ (← ⟦work.len()⟧) ⌝ }
-    requires { ⌜ k < 1024 ⌝ }
+    requires { ⌜ Room (now work) ⌝ }
+    requires { ⌜ k < rowCount ⌝ }
     ensures { λ _. ⌜ now (work .exit) ≡ setParameter (now (work .entry)) k i x ⌝ }
 {
-    if i >= 4 {
+    if i >= PARAMETERS {
         return;
     }
-    write(work, 2 + i, k, x);
+    write(work, PARAMETER_1 + i, k, x);
 }
 
 // 9 WAITIF left, relation, right: "waits on the WSL while true; else go on".
@@ -91,9 +103,9 @@ pub fn wait_terms(
     x: Scalars,
     at: usize,
 ) -> Scalars
-    requires { do ⌜ at + 8 ≤ (← ⟦tables.len()⟧) ⌝ }
-    requires { do ⌜ 16384 ≤ (← ⟦work.len()⟧) ⌝ }
-    requires { ⌜ x .moving < 1024 ⌝ }
+    requires { ⌜ BlockAt (now tables) at ⌝ }
+    requires { ⌜ Room (now work) ⌝ }
+    requires { ⌜ x .moving < rowCount ⌝ }
     ensures { λ r. ⌜ moved r (now (work .exit)) ≡ waitTerms (now (tables .entry)) values (now (work .entry)) (now (tally .entry)) x at ⌝ }
 {
     let k = x.moving;
@@ -113,15 +125,15 @@ pub fn branch(
     x: Scalars,
     at: usize,
 ) -> Scalars
-    requires { do ⌜ at + 8 ≤ (← ⟦tables.len()⟧) ⌝ }
-    requires { do ⌜ 16384 ≤ (← ⟦work.len()⟧) ⌝ }
-    requires { ⌜ x .moving < 1024 ⌝ }
+    requires { ⌜ BlockAt (now tables) at ⌝ }
+    requires { ⌜ Room (now work) ⌝ }
+    requires { ⌜ x .moving < rowCount ⌝ }
     ensures { λ r. ⌜ moved r (now (work .exit)) ≡ branch (now (tables .entry)) values (now (work .entry)) (now (tally .entry)) x at ⌝ }
 {
     let k = x.moving;
     let clock = x.clock;
     if holds(tables, values, work, tally, clock, k, at) {
-        return go_to(work, x, number(tables, at + 6));
+        return go_to(work, x, number(tables, at + BRANCH_TARGET));
     }
     go_on(work, x)
 }
@@ -135,14 +147,14 @@ pub fn assign(
     x: Scalars,
     at: usize,
 ) -> Scalars
-    requires { do ⌜ at + 8 ≤ (← ⟦tables.len()⟧) ⌝ }
-    requires { do ⌜ 16384 ≤ (← ⟦work.len()⟧) ⌝ }
-    requires { ⌜ x .moving < 1024 ⌝ }
+    requires { ⌜ BlockAt (now tables) at ⌝ }
+    requires { ⌜ Room (now work) ⌝ }
+    requires { ⌜ x .moving < rowCount ⌝ }
     ensures { λ r. ⌜ moved r (now (work .exit)) ≡ assign (now (tables .entry)) values (now (work .entry)) (now (tally .entry)) x at ⌝ }
 {
     let k = x.moving;
     let clock = x.clock;
     let n = worth(tables, values, work, tally, clock, k, at);
-    set_parameter(work, k, number(tables, at + 1), n);
+    set_parameter(work, k, number(tables, at + FIRST), n);
     go_on(work, x)
 }

@@ -1,18 +1,21 @@
 // A block that only leads elsewhere: GOTO.
 use moves::go_to;
 use state::Scalars;
+use tables::FIRST;
 use tables::number;
 ghost use mathlib.Core.Path.{_≡_};
 ghost use Prim.Native.Nat.{_+_, _<_, _≤_};
+ghost use Rattle.tables.specs.Layout.{BlockAt};
+ghost use Rattle.rows.specs.Layout.{Room, rowCount};
 ghost use Rattle.moves.specs.Motion.{moved};
 ghost use Rattle.decisions.specs.Jumps.{goto};
 
 // 11 GOTO target: the next block is the target, still moving.
 pub fn goto(tables: &[u32], work: &mut [u32], x: Scalars, at: usize) -> Scalars
-    requires { do ⌜ at + 8 ≤ (← ⟦tables.len()⟧) ⌝ }
-    requires { do ⌜ 16384 ≤ (← ⟦work.len()⟧) ⌝ }
-    requires { ⌜ x .moving < 1024 ⌝ }
+    requires { ⌜ BlockAt (now tables) at ⌝ }
+    requires { ⌜ Room (now work) ⌝ }
+    requires { ⌜ x .moving < rowCount ⌝ }
     ensures { λ r. ⌜ moved r (now (work .exit)) ≡ goto (now (tables .entry)) (now (work .entry)) x at ⌝ }
 {
-    go_to(work, x, number(tables, at + 1))
+    go_to(work, x, number(tables, at + FIRST))
 }

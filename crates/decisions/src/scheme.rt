@@ -1,6 +1,10 @@
 // The WS scheme: "every WSL member whose comparison no longer holds goes to REL".
 use crate::comparison::holds;
+use machine::kinds::WAIT_TERMS;
+use rows::NEXT;
+use rows::ROWS;
 use rows::WSL;
+use rows::WSL_HEAD;
 use rows::cells::load;
 use rows::cells::read;
 use rows::wake::pass;
@@ -10,15 +14,18 @@ use tables::BLOCK_WIDTH;
 use tables::number;
 ghost use mathlib.Core.Path.{_≡_};
 ghost use Prim.Native.Nat.{_+_, _*_, _<_, _≤_};
+ghost use Rattle.machine.specs.Limits.{maxBlocks};
+ghost use Rattle.tables.specs.Layout.{Program};
+ghost use Rattle.rows.specs.Layout.{Room, rowCount, wsl};
 ghost use Rattle.rows.specs.Wake.{passRows, passCell};
 ghost use Rattle.decisions.specs.Scheme.{blockOf, leaves, wsScheme};
 
 // Where the block of row k stands in the tables.
 fn block_of(work: &[u32], k: u32) -> usize
-    requires { ⌜ k < 1024 ⌝ }
+    requires { ⌜ k < rowCount ⌝ }
     ensures { λ r. ⌜ r ≡ blockOf (now (work .entry)) k ⌝ }
 {
-    let i = less32(read(work, 6, k), 1) as usize;
+    let i = less32(read(work, NEXT, k), 1) as usize;
     BLOCK_WIDTH * i
 }
 
@@ -32,16 +39,16 @@ fn leaves(
     clock: u32,
     k: u32,
 ) -> bool
-    requires { do ⌜ 2048 ≤ (← ⟦tables.len()⟧) ⌝ }
-    requires { ⌜ blocks ≤ 256 ⌝ }
-    requires { ⌜ k < 1024 ⌝ }
+    requires { ⌜ Program (now tables) ⌝ }
+    requires { ⌜ blocks ≤ maxBlocks ⌝ }
+    requires { ⌜ k < rowCount ⌝ }
     ensures { λ r. ⌜ r ≡ leaves (now (tables .entry)) blocks values (now (tally .entry)) clock (now (work .entry)) k ⌝ }
 {
     let at = block_of(work, k);
     if at >= BLOCK_WIDTH * blocks {
         return true;
     }
-    if number(tables, at) != 9 {
+    if number(tables, at) != WAIT_TERMS {
         return true;
     }
     !holds(tables, values, work, tally, clock, k, at)
@@ -58,12 +65,12 @@ fn step(
     cell: u32,
     k: u32,
 ) -> u32
-    requires { do ⌜ 2048 ≤ (← ⟦tables.len()⟧) ⌝ }
-    requires { ⌜ blocks ≤ 256 ⌝ }
-    requires { do ⌜ 16384 ≤ (← ⟦work.len()⟧) ⌝ }
-    requires { ⌜ k < 1024 ⌝ }
+    requires { ⌜ Program (now tables) ⌝ }
+    requires { ⌜ blocks ≤ maxBlocks ⌝ }
+    requires { ⌜ Room (now work) ⌝ }
+    requires { ⌜ k < rowCount ⌝ }
     ensures cell { λ r. ⌜ r ≡ passCell (leaves (now (tables .entry)) blocks values (now (tally .entry)) clock (now (work .entry)) k) (now (work .entry)) cell ⌝ }
-    ensures rows { λ _. ⌜ now (work .exit) ≡ passRows (leaves (now (tables .entry)) blocks values (now (tally .entry)) clock (now (work .entry)) k) (now (work .entry)) 448 cell ⌝ }
+    ensures rows { λ _. ⌜ now (work .exit) ≡ passRows (leaves (now (tables .entry)) blocks values (now (tally .entry)) clock (now (work .entry)) k) (now (work .entry)) wsl cell ⌝ }
 {
     let moves = leaves(tables, blocks, values, work, tally, clock, k);
     pass(work, WSL, cell, moves)
@@ -71,21 +78,20 @@ fn step(
 
 // The WS scheme follows a turn's block unless that ended the run.
 pub fn ws(tables: &[u32], blocks: usize, values: usize, work: &mut [u32], tally: &[u64], x: Scalars)
-    requires { do ⌜ 2048 ≤ (← ⟦tables.len()⟧) ⌝ }
-    requires { ⌜ blocks ≤ 256 ⌝ }
-    requires { do ⌜ 16384 ≤ (← ⟦work.len()⟧) ⌝ }
+    requires { ⌜ Program (now tables) ⌝ }
+    requires { ⌜ blocks ≤ maxBlocks ⌝ }
+    requires { ⌜ Room (now work) ⌝ }
     ensures { λ _. ⌜ now (work .exit) ≡ wsScheme (now (tables .entry)) blocks values (now (tally .entry)) x (now (work .entry)) ⌝ }
 {
     if x.end != 0 {
         return;
     }
     let clock = x.clock;
-    // the head of the WSL
-    let mut cell: u32 = 15808;
+    let mut cell = WSL_HEAD;
     let mut i: u32 = 0;
-    while i < 1024 {
+    while i < ROWS {
         let k = load(work, cell);
-        if k >= 1024 {
+        if k >= ROWS {
             return;
         }
         cell = step(tables, blocks, values, work, tally, clock, cell, k);

@@ -1,10 +1,11 @@
 -- All questions, pure: from the answers for the model and for the tape to the machine's `validate`.
 use Prim.Native.Nat.{ℕ, _≤_, _<_}
 use native.Mathlib.Omega.{arith}
-use mathlib.Core.Path.{_≡_, refl, sym, ap, _∙_}
+use mathlib.Core.Path.{_≡_, refl, sym, ap, _∙_, subst}
 use mathlib.Core.List.{List}
 use lib.ListN.{length}
 use borrow.Author.Tests.{le-leb, lt-leb}
+use Rattle.machine.specs.Rules.{Rules, inForce}
 use Rattle.machine.specs.Parser.{Parsed, parsed, refused}
 use Rattle.machine.specs.Block.{BlockModel}
 use Rattle.machine.specs.Validate.{modelOf, tapeOf, beginning, Validation, accept, reject, withTape, withModel, validate}
@@ -25,6 +26,7 @@ represented : (m : BlockModel) (tape : List (List ℕ)) (bytes cells : List ℕ)
 represented m tape bytes cells w n f =
     let few : length tape ≤ 16 = rw n (w .lists) in
     record {
+      rules = w .rules;
       blocks = block-at m w;
       small-blocks = block-small m w;
       values = value-at m w;
@@ -54,33 +56,33 @@ refusal-of (reject i) tape tables lists r d =
     ((λ n e. let f = sym e ∙ d in cc), (λ h e. let f = sym e ∙ d in let z : _≡_ {A = ℕ} 0 1 = cc in absurd (omega arith)))
 
 module _ (model tape : List ℕ) (work report : ℕ) (tables lists : List ℕ) where
-  pub small-work : work < 16384 → Decodes tape (Refused 1) tables lists (validate model tape work report)
+  pub small-work : work < 16384 → Decodes tape (Refused 1) tables lists (validate inForce model tape work report)
   unfolding validate
   small-work h = rw (lt-leb 16384 work h) refl
 
   module _ (enough : 16384 ≤ work) where
-    pub small-report : report < 10240 → Decodes tape (Refused 2) tables lists (validate model tape work report)
+    pub small-report : report < 10240 → Decodes tape (Refused 2) tables lists (validate inForce model tape work report)
     unfolding validate
     small-report h = rw (le-leb 16384 work enough, lt-leb 10240 report h) refl
 
-    module _ (room : 10240 ≤ report) {r : Decoded} (k : Models tables r (modelOf model beginning)) where
-      asked : validate model tape work report ≡ withModel tape (modelOf model beginning)
+    module _ (room : 10240 ≤ report) {r : Decoded} (k : Models tables r (modelOf inForce model beginning)) where
+      asked : validate inForce model tape work report ≡ withModel tape (modelOf inForce model beginning)
       unfolding validate
       asked = rw (le-leb 16384 work enough, le-leb 10240 report room) refl
 
-      pub no-model : {n : ℕ} → r ≡ Refused n → Decodes tape (Refused n) tables lists (validate model tape work report)
+      pub no-model : {n : ℕ} → r ≡ Refused n → Decodes tape (Refused n) tables lists (validate inForce model tape work report)
       unfolding withModel
-      no-model {n} told = rw asked (go (modelOf model beginning) k)
+      no-model {n} told = rw asked (go (modelOf inForce model beginning) k)
         where
           go : (P : Parsed BlockModel) → Models tables r P → Decodes tape (Refused n) tables lists (withModel tape P)
           go (parsed m c) h = let e = sym told ∙ h .held .0 in let z : _≡_ {A = ℕ} 0 1 = cc in absurd (omega arith)
           go (refused i) h = let e = sym told ∙ h .held in let f : n ≡ i = cc in ap Refused f
 
       module _ {h : Model} (told : r ≡ Accepted h) where
-        module _ {r₂ : Tape} (k₂ : Lists tape 0 emptyLists lists r₂ (tapeOf tape (h .lists) beginning)) where
-          pub no-tape : {n : ℕ} → r₂ ≡ NoTape n → Decodes tape (Refused n) tables lists (validate model tape work report)
+        module _ {r₂ : Tape} (k₂ : Lists tape 0 emptyLists lists r₂ (tapeOf inForce tape (h .lists) beginning)) where
+          pub no-tape : {n : ℕ} → r₂ ≡ NoTape n → Decodes tape (Refused n) tables lists (validate inForce model tape work report)
           unfolding withModel withTape headerOf
-          no-tape {n} told₂ = rw asked (go (modelOf model beginning) k)
+          no-tape {n} told₂ = rw asked (go (modelOf inForce model beginning) k)
             where
               last : (m : BlockModel) (P : Parsed (List (List ℕ))) → Lists tape 0 emptyLists lists r₂ P → Decodes tape (Refused n) tables lists (withTape m P)
               last m (parsed t c) d = let e = sym told₂ ∙ d .held .0 in let z : _≡_ {A = ℕ} 0 1 = cc in absurd (omega arith)
@@ -90,14 +92,14 @@ module _ (model tape : List ℕ) (work report : ℕ) (tables lists : List ℕ) w
               go (parsed m c) d =
                   let e = sym told ∙ d .held .0 in
                   let f : h ≡ headerOf m = cc in
-                  last m (tapeOf tape (m .lists) beginning) (rw (ap (λ (x : Model). x .lists) f) at k₂)
+                  last m _ (subst (λ (q : Rules). Lists tape 0 emptyLists lists r₂ (tapeOf q tape (m .lists) beginning)) (sym (d .held .2 .rules)) (rw (ap (λ (x : Model). x .lists) f) at k₂))
               go (refused i) d = let e = sym told ∙ d .held in let z : _≡_ {A = ℕ} 0 1 = cc in absurd (omega arith)
 
-          pub all-answered : {end : ℕ} → r₂ ≡ At end → Decodes tape (Accepted h) tables lists (validate model tape work report)
+          pub all-answered : {end : ℕ} → r₂ ≡ At end → Decodes tape (Accepted h) tables lists (validate inForce model tape work report)
           unfolding withModel withTape headerOf
-          all-answered {end} told₂ = rw asked (go (modelOf model beginning) k)
+          all-answered {end} told₂ = rw asked (go (modelOf inForce model beginning) k)
             where
-              last : (m : BlockModel) → h ≡ headerOf m → tables ≡ tablesOf m → ProperModel m → (P : Parsed (List (List ℕ))) → tapeOf tape (m .lists) beginning ≡ P →
+              last : (m : BlockModel) → h ≡ headerOf m → tables ≡ tablesOf m → ProperModel m → (P : Parsed (List (List ℕ))) → tapeOf inForce tape (m .lists) beginning ≡ P →
                   Lists tape 0 emptyLists lists r₂ P → Decodes tape (Accepted h) tables lists (withTape m P)
               last m f cells w (parsed t c) p d =
                   (ap Accepted f, rw cells (represented m t tape lists w (tape-length tape (m .lists) t c p) (d .held .1)))
@@ -107,5 +109,6 @@ module _ (model tape : List ℕ) (work report : ℕ) (tables lists : List ℕ) w
               go (parsed m c) d =
                   let e = sym told ∙ d .held .0 in
                   let f : h ≡ headerOf m = cc in
-                  last m f (d .held .1) (d .held .2) (tapeOf tape (m .lists) beginning) refl (rw (ap (λ (x : Model). x .lists) f) at k₂)
+                  subst (λ (q : Rules). Decodes tape (Accepted h) tables lists (withTape m (tapeOf q tape (m .lists) beginning))) (sym (d .held .2 .rules))
+                  (last m f (d .held .1) (d .held .2) (tapeOf inForce tape (m .lists) beginning) refl (rw (ap (λ (x : Model). x .lists) f) at k₂))
               go (refused i) d = let e = sym told ∙ d .held in let z : _≡_ {A = ℕ} 0 1 = cc in absurd (omega arith)

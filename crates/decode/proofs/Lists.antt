@@ -13,9 +13,10 @@ use borrow.Author.Tests.{ltb-true, ltb-false, eq-eqb, ne-eqb}
 use Rattle.codec.specs.declared.Field.{Field}
 use Rattle.codec.specs.declared.Field.the-variants.{Value, Refused as NoField}
 use Rattle.codec.specs.Answers.{parsedOf}
+use Rattle.machine.specs.Rules.{inForce}
 use Rattle.machine.specs.Limits.{maxTime, maxSamples, maxNumberBytes, maxNumber}
 use Rattle.machine.specs.Number.{Number, readNumber}
-use Rattle.machine.specs.Parser.{Cursor, Parsed, parsed, refused, Parser, continue, field, fieldOf, times, ask}
+use Rattle.machine.specs.Parser.{Cursor, Parsed, parsed, refused, Parser, continue, field, fieldOf, times, ask, fieldUpTo}
 use Rattle.machine.specs.Decode.{listField, atEnd}
 use Rattle.machine.specs.Validate.{tapeOf, beginning}
 use Rattle.tables.specs.Represents.{TimesAt}
@@ -34,7 +35,7 @@ shift i j (refused n) = refused n
 
 module _ (s : List ℕ) (i j i′ j′ : ℕ) where
   field-shift : (hi p : ℕ) → field s 8 0 hi (cursorAt p i′ j′) ≡ shift i′ j′ (field s 8 0 hi (cursorAt p i j))
-  unfolding field
+  unfolding fieldUpTo
   field-shift hi p = go (readNumber maxNumberBytes maxNumber (drop p s))
     where
       pick : (n : Number) (b : Bool) →
@@ -67,7 +68,7 @@ times-shift s i j i′ j′ hi (suc n) p =
     ∙ then-shift s i j i′ j′ (times n (field s 8 0 hi) (cursorAt q i j)) (λ l d. parsed (a ∷ l) d) (λ l e. refl) (times-shift s i j i j hi n q))
     (field-stays s i j hi p)
 
-list-shift : (s : List ℕ) (i j i′ j′ p : ℕ) → listField s (cursorAt p i′ j′) ≡ shift i′ j′ (listField s (cursorAt p i j))
+list-shift : (s : List ℕ) (i j i′ j′ p : ℕ) → listField s inForce (cursorAt p i′ j′) ≡ shift i′ j′ (listField s inForce (cursorAt p i j))
 unfolding listField
 list-shift s i j i′ j′ p =
     ap (λ (x : Parsed ℕ). continue x (λ n c. times n (field s 8 0 maxTime) c)) (field-shift s i j i′ j′ maxSamples p)
@@ -123,12 +124,12 @@ module _ (s : List ℕ) where
 -- ---- A list
 
 module _ (s : List ℕ) (k : ℕ) (cells : List ℕ) (at : ℕ) (f : Field) (e : (i j : ℕ) → parsedOf i j f ≡ field s 8 0 maxSamples (cursorAt at i j)) where
-  pub list-stop : {n : ℕ} (after : List ℕ) (i j : ℕ) → f ≡ NoField n → Listed s k cells after (Refused n) (listField s (cursorAt at i j))
+  pub list-stop : {n : ℕ} (after : List ℕ) (i j : ℕ) → f ≡ NoField n → Listed s k cells after (Refused n) (listField s inForce (cursorAt at i j))
   unfolding listField parsedOf continue
   list-stop after i j told = rw (← e i j, told) (record { held = refl })
 
   pub list-kept : {count next : ℕ} {r : Tape} → f ≡ Value count next → ((i j : ℕ) → Skips count r (times count (time s) (cursorAt next i j))) → (i j : ℕ) →
-      Listed s k cells (set (set cells k next) (16 + k) count) r (listField s (cursorAt at i j))
+      Listed s k cells (set (set cells k next) (16 + k) count) r (listField s inForce (cursorAt at i j))
   unfolding listField parsedOf continue
   list-kept {count} {next} {r} told skips i j = rw (← e i j, told) (go (times count (time s) (cursorAt next i j)) refl (skips i j))
     where
@@ -156,34 +157,34 @@ module _ (s : List ℕ) (count : ℕ) where
   -- the loop's invariant: what the lists from k on give is what all lists give
   abbrev pub Leading : (cells₀ : List ℕ) (k next : ℕ) (cells : List ℕ) → Type 0
   Leading cells₀ k next cells =
-      (after : List ℕ) (r : Tape) → Lists s k cells after r (times (count - k) (listField s) (cursorAt next 0 0)) →
-      Lists s 0 cells₀ after r (times count (listField s) beginning)
+      (after : List ℕ) (r : Tape) → Lists s k cells after r (times (count - k) (listField s inForce) (cursorAt next 0 0)) →
+      Lists s 0 cells₀ after r (times count (listField s inForce) beginning)
 
   pub lists-begin : (cells₀ : List ℕ) → Leading cells₀ 0 0 cells₀
   lists-begin cells₀ after r h = let e : count - 0 ≡ count = omega arith in rw e at h
 
-  pub lists-none : (k next : ℕ) (cells : List ℕ) → count ≤ k → Lists s k cells cells (At next) (times (count - k) (listField s) (cursorAt next 0 0))
+  pub lists-none : (k next : ℕ) (cells : List ℕ) → count ≤ k → Lists s k cells cells (At next) (times (count - k) (listField s inForce) (cursorAt next 0 0))
   unfolding times
   lists-none k next cells h = let e : count - k ≡ 0 = omega arith in rw e (record { held = (refl, refl) })
 
   module _ (k next : ℕ) (cells cells₁ : List ℕ) (r : Tape) (some : k < count)
-      (one : (i j : ℕ) → Listed s k cells cells₁ r (listField s (cursorAt next i j))) where
-    pub lists-stop : {n : ℕ} (after : List ℕ) → r ≡ Refused n → Lists s k cells after (Refused n) (times (count - k) (listField s) (cursorAt next 0 0))
+      (one : (i j : ℕ) → Listed s k cells cells₁ r (listField s inForce (cursorAt next i j))) where
+    pub lists-stop : {n : ℕ} (after : List ℕ) → r ≡ Refused n → Lists s k cells after (Refused n) (times (count - k) (listField s inForce) (cursorAt next 0 0))
     unfolding times continue
-    lists-stop {n} after told = let more : count - k ≡ suc (count - (k + 1)) = omega arith in rw more (go (listField s (cursorAt next 0 0)) (one 0 0))
+    lists-stop {n} after told = let more : count - k ≡ suc (count - (k + 1)) = omega arith in rw more (go (listField s inForce (cursorAt next 0 0)) (one 0 0))
       where
         go : (P : Parsed (List ℕ)) → Listed s k cells cells₁ r P →
-            Lists s k cells after (Refused n) (continue P (λ l c. continue (times (count - (k + 1)) (listField s) c) (λ ls d. parsed (l ∷ ls) d)))
+            Lists s k cells after (Refused n) (continue P (λ l c. continue (times (count - (k + 1)) (listField s inForce) c) (λ ls d. parsed (l ∷ ls) d)))
         go (parsed l c) h = let e = sym told ∙ h .held .0 in let z : _≡_ {A = ℕ} 0 1 = cc in absurd (omega arith)
         go (refused i) h = let e = sym told ∙ h .held in let f : n ≡ i = cc in record { held = ap Refused f }
 
     pub lists-step : {after-this : ℕ} → r ≡ At after-this → (after : List ℕ) (r₂ : Tape) →
-        Lists s (k + 1) cells₁ after r₂ (times (count - (k + 1)) (listField s) (cursorAt after-this 0 0)) →
-        Lists s k cells after r₂ (times (count - k) (listField s) (cursorAt next 0 0))
+        Lists s (k + 1) cells₁ after r₂ (times (count - (k + 1)) (listField s inForce) (cursorAt after-this 0 0)) →
+        Lists s k cells after r₂ (times (count - k) (listField s inForce) (cursorAt next 0 0))
     unfolding times continue
     lists-step {after-this} told after r₂ rest =
         let more : count - k ≡ suc (count - (k + 1)) = omega arith in
-        rw more (go (listField s (cursorAt next 0 0)) (one 0 0) (list-shift s 0 0 0 0 next))
+        rw more (go (listField s inForce (cursorAt next 0 0)) (one 0 0) (list-shift s 0 0 0 0 next))
       where
         last : (l : List ℕ) → OneList s k cells cells₁ l → (P : Parsed (List (List ℕ))) → Lists s (k + 1) cells₁ after r₂ P →
             Lists s k cells after r₂ (continue P (λ ls d. parsed (l ∷ ls) d))
@@ -191,30 +192,30 @@ module _ (s : List ℕ) (count : ℕ) where
         last l o (refused i) h = record { held = h .held }
 
         go : (P : Parsed (List ℕ)) → Listed s k cells cells₁ r P → P ≡ shift 0 0 P →
-            Lists s k cells after r₂ (continue P (λ l c. continue (times (count - (k + 1)) (listField s) c) (λ ls d. parsed (l ∷ ls) d)))
+            Lists s k cells after r₂ (continue P (λ l c. continue (times (count - (k + 1)) (listField s inForce) c) (λ ls d. parsed (l ∷ ls) d)))
         go (parsed l c) h stays =
             let e = sym told ∙ h .held .0 in
             let p : after-this ≡ c .position = cc in
             let d : c ≡ cursorAt (c .position) 0 0 = cc in
             let d′ : cursorAt after-this 0 0 ≡ c = ap (λ (x : ℕ). cursorAt x 0 0) p ∙ sym d in
-            last l (h .held .1) (times (count - (k + 1)) (listField s) c) (rw d′ at rest)
+            last l (h .held .1) (times (count - (k + 1)) (listField s inForce) c) (rw d′ at rest)
         go (refused i) h stays = let e = sym told ∙ h .held in let z : _≡_ {A = ℕ} 0 1 = cc in absurd (omega arith)
 
 -- ---- Question 10
 
-module _ (s : List ℕ) (count : ℕ) {cells after : List ℕ} {r : Tape} (k : Lists s 0 cells after r (times count (listField s) beginning)) where
-  pub tape-stop : {n : ℕ} → r ≡ Refused n → Lists s 0 cells after (Refused n) (tapeOf s count beginning)
+module _ (s : List ℕ) (count : ℕ) {cells after : List ℕ} {r : Tape} (k : Lists s 0 cells after r (times count (listField s inForce) beginning)) where
+  pub tape-stop : {n : ℕ} → r ≡ Refused n → Lists s 0 cells after (Refused n) (tapeOf inForce s count beginning)
   unfolding tapeOf continue
-  tape-stop {n} told = go (times count (listField s) beginning) k
+  tape-stop {n} told = go (times count (listField s inForce) beginning) k
     where
       go : (P : Parsed (List (List ℕ))) → Lists s 0 cells after r P →
           Lists s 0 cells after (Refused n) (continue P (λ t c. continue (atEnd s 10 c) (λ u d. parsed t d)))
       go (parsed t c) h = let e = sym told ∙ h .held .0 in let z : _≡_ {A = ℕ} 0 1 = cc in absurd (omega arith)
       go (refused i) h = let e = sym told ∙ h .held in let f : n ≡ i = cc in record { held = ap Refused f }
 
-  pub tape-long : {end : ℕ} → r ≡ At end → (end ≡ length s → ⊥) → Lists s 0 cells after (Refused 10) (tapeOf s count beginning)
+  pub tape-long : {end : ℕ} → r ≡ At end → (end ≡ length s → ⊥) → Lists s 0 cells after (Refused 10) (tapeOf inForce s count beginning)
   unfolding tapeOf continue atEnd ask
-  tape-long {end} told long = go (times count (listField s) beginning) k
+  tape-long {end} told long = go (times count (listField s inForce) beginning) k
     where
       go : (P : Parsed (List (List ℕ))) → Lists s 0 cells after r P →
           Lists s 0 cells after (Refused 10) (continue P (λ t c. continue (atEnd s 10 c) (λ u d. parsed t d)))
@@ -224,9 +225,9 @@ module _ (s : List ℕ) (count : ℕ) {cells after : List ℕ} {r : Tape} (k : L
           rw (f, ne-eqb end (length s) long) (record { held = refl })
       go (refused i) h = let e = sym told ∙ h .held in let z : _≡_ {A = ℕ} 0 1 = cc in absurd (omega arith)
 
-  pub tape-kept : {end : ℕ} → r ≡ At end → end ≡ length s → Lists s 0 cells after (At end) (tapeOf s count beginning)
+  pub tape-kept : {end : ℕ} → r ≡ At end → end ≡ length s → Lists s 0 cells after (At end) (tapeOf inForce s count beginning)
   unfolding tapeOf continue atEnd ask
-  tape-kept {end} told whole = go (times count (listField s) beginning) k
+  tape-kept {end} told whole = go (times count (listField s inForce) beginning) k
     where
       go : (P : Parsed (List (List ℕ))) → Lists s 0 cells after r P →
           Lists s 0 cells after (At end) (continue P (λ t c. continue (atEnd s 10 c) (λ u d. parsed t d)))
@@ -238,18 +239,18 @@ module _ (s : List ℕ) (count : ℕ) {cells after : List ℕ} {r : Tape} (k : L
       go (refused i) h = let e = sym told ∙ h .held in let z : _≡_ {A = ℕ} 0 1 = cc in absurd (omega arith)
 
 -- as many lists as the model has
-pub tape-length : (s : List ℕ) (count : ℕ) (tape : List (List ℕ)) (d : Cursor) → tapeOf s count beginning ≡ parsed tape d → length tape ≡ count
+pub tape-length : (s : List ℕ) (count : ℕ) (tape : List (List ℕ)) (d : Cursor) → tapeOf inForce s count beginning ≡ parsed tape d → length tape ≡ count
 unfolding tapeOf
-tape-length s count tape d e = go (times count (listField s) beginning) refl e
+tape-length s count tape d e = go (times count (listField s inForce) beginning) refl e
   where
     end : (t : List (List ℕ)) (c : Cursor) (b : Bool) → continue (ask b 10 c) (λ u x. parsed t x) ≡ parsed tape d → t ≡ tape
     end t c true f = unfold continue ask in cc
     end t c false f = unfold continue ask in (let z : _≡_ {A = ℕ} 0 1 = cc in absurd (omega arith))
 
-    go : (P : Parsed (List (List ℕ))) → times count (listField s) beginning ≡ P → continue P (λ t c. continue (atEnd s 10 c) (λ u x. parsed t x)) ≡ parsed tape d → length tape ≡ count
+    go : (P : Parsed (List (List ℕ))) → times count (listField s inForce) beginning ≡ P → continue P (λ t c. continue (atEnd s 10 c) (λ u x. parsed t x)) ≡ parsed tape d → length tape ≡ count
     go (parsed t c) p f =
         ap length (sym (end t c (eqb (c .position) (length s)) (unfold continue atEnd in f)))
-        ∙ rows-length (λ i. listField s) count 0 beginning t c (sym (times-rows (listField s) count 0 beginning) ∙ p)
+        ∙ rows-length (λ i. listField s inForce) count 0 beginning t c (sym (times-rows (listField s inForce) count 0 beginning) ∙ p)
     go (refused n) p f = unfold continue in (let z : _≡_ {A = ℕ} 0 1 = cc in absurd (omega arith))
 
 -- ---- What the cells then hold

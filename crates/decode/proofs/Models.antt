@@ -7,6 +7,7 @@ use mathlib.Core.List.{List}
 use lib.Dec.{leb, leb·zero}
 use lib.ListN.{length}
 use borrow.Author.Tests.{eq-eqb, ne-eqb, le-leb, lt-leb}
+use Rattle.machine.specs.Rules.{inForce}
 use Rattle.machine.specs.Parser.{Cursor, Parsed, parsed, refused, continue, ask}
 use Rattle.machine.specs.Block.{BlockModel}
 use Rattle.machine.specs.Decode.{modelFields, atEnd}
@@ -36,6 +37,7 @@ use Rattle.decode.proofs.Represented.{capacities-stand, blocks-stand}
 abbrev modelFrom : Servers → Things → Program → BlockModel
 modelFrom a b p =
     record {
+      rules = inForce;
       facilities = a .facilities;
       capacities = a .capacities;
       queues = b .queues;
@@ -50,17 +52,17 @@ in-parts : (s : List ℕ) (c : Cursor) →
     (λ a c₁.
     continue (thingsField s (withServers noModel a) c₁)
     (λ b c₂. continue (programField s (withThings (withServers noModel a) b) (a .capacities) c₂) (λ p c₃. parsed (modelFrom a b p) c₃)))
-    ≡ modelFields s c
+    ≡ modelFields s inForce c
 unfolding modelFields serversField thingsField programField continue
 in-parts s c = simp continue-assoc
 
 module _ (s : List ℕ) {l l₁ : List ℕ} {r₁ : Header} (k₁ : Stage serversShape noModel noPlace l l₁ r₁ (serversField s beginning)) where
-  pub model-stop : {n : ℕ} (after : List ℕ) → r₁ ≡ NoHeader n → Stage modelShape noModel noPlace l after (NoHeader n) (modelFields s beginning)
+  pub model-stop : {n : ℕ} (after : List ℕ) → r₁ ≡ NoHeader n → Stage modelShape noModel noPlace l after (NoHeader n) (modelFields s inForce beginning)
   model-stop after told = rw (← in-parts s beginning) (stage-stop (Stage _ _ _ _ _ _) _ _ k₁ told (record { held = refl }))
 
   module _ {h₁ : Model} {p : Place} {l₂ : List ℕ} {r₂ : Header} (t₁ : r₁ ≡ Read h₁ p)
       (k₂ : Stage thingsShape h₁ p l₁ l₂ r₂ (thingsField s h₁ (cursorOf p))) where
-    pub model-stop-2 : {n : ℕ} (after : List ℕ) → r₂ ≡ NoHeader n → Stage modelShape noModel noPlace l after (NoHeader n) (modelFields s beginning)
+    pub model-stop-2 : {n : ℕ} (after : List ℕ) → r₂ ≡ NoHeader n → Stage modelShape noModel noPlace l after (NoHeader n) (modelFields s inForce beginning)
     model-stop-2 after told =
         rw (← in-parts s beginning)
         (stage-bind (Stage _ _ _ _ _ _) _ _ k₁ t₁
@@ -80,6 +82,7 @@ module _ (s : List ℕ) {l l₁ : List ℕ} {r₁ : Header} (k₁ : Stage server
                 ∙ ap (λ (t : List ℕ). storedRows blockNumbers 8 0 (x .blocks) t)
                 (c₂ ∙ ap (λ (t : List ℕ). storedRows sumNumbers 64 2048 (b .sums) t) c₁),
             record {
+              rules = refl;
               facilities = f₁ .facilities;
               storages = rw (f₁ .count) (f₁ .storages);
               capacity = f₁ .each;
@@ -95,7 +98,7 @@ module _ (s : List ℕ) {l l₁ : List ℕ} {r₁ : Header} (k₁ : Stage server
 
     pub model-kept : {h₂ : Model} {q : Place} {l₃ : List ℕ} {r₃ : Header} → r₂ ≡ Read h₂ q →
         Stage programShape h₂ q l₂ l₃ r₃ (programField s h₂ (capacitiesOf h₂ l₂) (cursorOf q)) →
-        Stage modelShape noModel noPlace l l₃ r₃ (modelFields s beginning)
+        Stage modelShape noModel noPlace l l₃ r₃ (modelFields s inForce beginning)
     model-kept {h₂} {q} {l₃} {r₃} t₂ k₃ =
         rw (← in-parts s beginning)
         (stage-bind (Stage _ _ _ _ _ _) _ _ k₁ t₁
@@ -112,8 +115,8 @@ module _ (s : List ℕ) {l l₁ : List ℕ} {r₁ : Header} (k₁ : Stage server
 
 -- ---- Questions 6 and 7
 
-module _ (s : List ℕ) {l after : List ℕ} {r : Header} (k : Stage modelShape noModel noPlace l after r (modelFields s beginning)) where
-  pub formed-stop : {n : ℕ} → r ≡ NoHeader n → Models after (Refused n) (modelOf s beginning)
+module _ (s : List ℕ) {l after : List ℕ} {r : Header} (k : Stage modelShape noModel noPlace l after r (modelFields s inForce beginning)) where
+  pub formed-stop : {n : ℕ} → r ≡ NoHeader n → Models after (Refused n) (modelOf inForce s beginning)
   unfolding modelOf
   formed-stop told = stage-stop (Models after _) _ _ k told (record { held = refl })
 
@@ -122,7 +125,7 @@ module _ (s : List ℕ) {l after : List ℕ} {r : Header} (k : Stage modelShape 
     unfolding headerOf
     few-blocks = stage-known (λ x. h .blocks ≤ 256) _ k told (λ m e n c f. let g = ap (λ (x : Model). x .blocks) e in omega (arith, f .blocks))
 
-    pub formed-long : (p .position ≡ length s → ⊥) → Models after (Refused 6) (modelOf s beginning)
+    pub formed-long : (p .position ≡ length s → ⊥) → Models after (Refused 6) (modelOf inForce s beginning)
     unfolding modelOf atEnd ask continue
     formed-long long = stage-bind (Models after _) _ _ k told (λ m e n c f. rw (ne-eqb _ _ long) (record { held = refl }))
 
@@ -143,24 +146,24 @@ module _ (s : List ℕ) {l after : List ℕ} {r : Header} (k : Stage modelShape 
           )
 
       bad : (placedFrom after (h .blocks) 0 true && targetsFrom after (h .blocks) 0 && leb (p .named) (h .blocks)) ≡ false →
-          Models after (Refused 7) (modelOf s beginning)
+          Models after (Refused 7) (modelOf inForce s beginning)
       unfolding modelOf atEnd ask continue
       bad b =
           stage-bind (Models after _) _ _ k told
           (λ m e n c f. rw (eq-eqb _ _ whole, asked m e n c f, b) (record { held = refl }))
 
-      pub formed-misplaced : placedFrom after (h .blocks) 0 true ≡ false → Models after (Refused 7) (modelOf s beginning)
+      pub formed-misplaced : placedFrom after (h .blocks) 0 true ≡ false → Models after (Refused 7) (modelOf inForce s beginning)
       formed-misplaced a = bad (rw a)
 
       module _ (a : placedFrom after (h .blocks) 0 true ≡ true) where
-        pub formed-target : targetsFrom after (h .blocks) 0 ≡ false → Models after (Refused 7) (modelOf s beginning)
+        pub formed-target : targetsFrom after (h .blocks) 0 ≡ false → Models after (Refused 7) (modelOf inForce s beginning)
         formed-target b = bad (rw (a, b))
 
         module _ (b : targetsFrom after (h .blocks) 0 ≡ true) where
-          pub formed-name : h .blocks < p .named → Models after (Refused 7) (modelOf s beginning)
+          pub formed-name : h .blocks < p .named → Models after (Refused 7) (modelOf inForce s beginning)
           formed-name d = bad (rw (a, b, lt-leb _ _ d))
 
-          pub formed-model : p .named ≤ h .blocks → Models after (Accepted h) (modelOf s beginning)
+          pub formed-model : p .named ≤ h .blocks → Models after (Accepted h) (modelOf inForce s beginning)
           unfolding modelOf atEnd ask continue
           formed-model d =
               stage-bind (Models after _) _ _ k told

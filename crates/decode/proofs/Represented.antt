@@ -11,6 +11,7 @@ use borrow.Author.Tests.{ltb-true, ltb-false}
 use Rattle.machine.specs.Term.{Sum, nothing}
 use Rattle.machine.specs.Block.{terminate, BlockModel}
 use Rattle.machine.specs.declared.model.Model.{Model}
+use Rattle.tables.specs.Forms.{blockForms}
 use Rattle.tables.specs.Numbers.{sumNumbers, blockNumbers}
 use Rattle.tables.specs.Represents.{At, smallBlock, smallSum}
 use Rattle.values.specs.Keeps.{numberShape}
@@ -199,7 +200,7 @@ module _ (m : BlockModel) (w : ProperModel m) where
       ∙ server-cell servers proper-servers v
 
   pub block-small : (b : ℕ) → T (smallBlock (getD (m .blocks) b (terminate 0)))
-  unfolding smallBlock
+  unfolding blockForms
   block-small b = go (ltb b (length (m .blocks))) refl
     where
       go : (x : Bool) → ltb b (length (m .blocks)) ≡ x → T (smallBlock (getD (m .blocks) b (terminate 0)))

@@ -4,6 +4,7 @@ use mathlib.Core.Path.{_≡_}
 use mathlib.Core.List.{List, [], _∷_}
 use lib.ListN.{length, set, replicate}
 use Rattle.machine.specs.Parser.{Cursor, Parsed, parsed, refused}
+use Rattle.tables.specs.Layout as Layout
 use Rattle.tables.specs.Represents.{TimesAt}
 use Rattle.decode.specs.declared.Tape.{Tape}
 use Rattle.decode.specs.declared.Tape.the-variants.{At, Refused}
@@ -12,7 +13,7 @@ abbrev pub cursorAt : ℕ → ℕ → ℕ → Cursor
 cursorAt at i j = record { position = at; numbers = i; mentions = j }
 
 unfoldable pub emptyLists : List ℕ
-emptyLists = replicate 32 0
+emptyLists = replicate Layout.listCells 0
 
 -- times are read and not kept
 abbrev pub HeldSkips : ℕ → Tape → Parsed (List ℕ) → Type 0
@@ -24,7 +25,7 @@ pub record Skips (count : ℕ) (r : Tape) (P : Parsed (List ℕ)) : Type 0 where
 
 -- the two cells of a list
 abbrev pub listCells : ℕ → ℕ → List ℕ → List ℕ → List ℕ
-listCells k p l cells = set (set cells k p) (16 + k) (length l)
+listCells k p l cells = set (set cells k p) (Layout.listCounts + k) (length l)
 
 -- one list
 pub record OneList (bytes : List ℕ) (k : ℕ) (cells after l : List ℕ) : Type 0 where

@@ -3,9 +3,11 @@ use Prim.Native.Nat.{ℕ, _≤_}
 use mathlib.Core.Path.{_≡_}
 use mathlib.Core.List.{List}
 use lib.ListN.{length}
+use Rattle.machine.specs.Rules.{inForce}
 use Rattle.machine.specs.Limits as Limits
 use Rattle.machine.specs.Parser.{Parsed, parsed, refused}
 use Rattle.machine.specs.Block.{BlockModel}
+use Rattle.tables.specs.Layout as Layout
 use Rattle.tables.specs.Numbers.{sumNumbers, blockNumbers}
 use Rattle.tables.specs.Represents.{headerOf}
 use Rattle.values.specs.Rows.{storedRows, allNamed, Each}
@@ -18,11 +20,12 @@ use Rattle.decode.specs.Stages.{Capacity, StageShape, serversCells}
 -- all cells of the tables
 unfoldable pub tablesOf : BlockModel → List ℕ
 tablesOf m =
-    storedRows blockNumbers 8 0 (m .blocks)
-    (storedRows sumNumbers 64 2048 (m .values)
+    storedRows blockNumbers Layout.blockWidth 0 (m .blocks)
+    (storedRows sumNumbers Layout.valueWidth Layout.values (m .values)
     (serversCells (record { facilities = m .facilities; storages = length (m .capacities); capacities = m .capacities })))
 
 pub record ProperModel (m : BlockModel) : Type 0 where
+  pub rules : m .rules ≡ inForce
   pub facilities : m .facilities ≤ Limits.maxFacilities
   pub storages : length (m .capacities) ≤ Limits.maxStorages
   pub capacity : Each Capacity (m .capacities)

@@ -10,6 +10,7 @@ use Rattle.machine.specs.Term.{Sum}
 use Rattle.machine.specs.Block.{Block}
 use Rattle.machine.specs.Decode.{Counts, valueFields, blockField}
 use Rattle.machine.specs.declared.model.Model.{Model}
+use Rattle.tables.specs.Layout as Layout
 use Rattle.tables.specs.Numbers.{sumNumbers, blockNumbers}
 use Rattle.values.specs.declared.Place.{Place}
 use Rattle.values.specs.Keeps.{placeOf, numberShape}
@@ -21,7 +22,7 @@ use Rattle.decode.specs.declared.Header.the-variants.{Read, Refused}
 
 -- the tables before decoding
 unfoldable pub emptyTables : List ℕ
-emptyTables = replicate 2624 0
+emptyTables = replicate Layout.tablesSize 0
 
 abbrev pub Capacity : ℕ → Type 0
 Capacity v = (1 ≤ v) × (v ≤ Limits.maxCapacity)
@@ -87,7 +88,7 @@ pub record ProperServers (a : Servers) : Type 0 where
 -- the cells before are forgotten
 abbrev pub serversCells : Servers → List ℕ
 serversCells a =
-    storedRows (numberShape 1 65535 1 .numbers) 1 (2560 + a .facilities) (a .capacities) (sets emptyTables 2560 (replicate (a .facilities) 1))
+    storedRows (numberShape 1 Limits.maxCapacity 1 .numbers) 1 (Layout.capacities + a .facilities) (a .capacities) (sets emptyTables Layout.capacities (replicate (a .facilities) 1))
 
 abbrev pub serversShape : StageShape Servers
 serversShape =
@@ -135,7 +136,7 @@ thingsShape =
     record {
       header = withThings;
       named = λ n a. allNamed sumNamed n (a .sums);
-      cells = λ m a cells. storedRows sumNumbers 64 2048 (a .sums) cells;
+      cells = λ m a cells. storedRows sumNumbers Layout.valueWidth Layout.values (a .sums) cells;
       fact = λ m a. ProperThings a;
     }
 
@@ -192,6 +193,6 @@ programShape =
     record {
       header = withProgram;
       named = λ n a. n;
-      cells = λ m a cells. storedRows blockNumbers 8 0 (a .blocks) cells;
+      cells = λ m a cells. storedRows blockNumbers Layout.blockWidth 0 (a .blocks) cells;
       fact = λ m a. ProperProgram a;
     }

@@ -3,11 +3,19 @@
 use codec::Field;
 use codec::read_field;
 use machine::Model;
+use machine::refusals::ILL_FORMED;
+use machine::refusals::MODEL_GOES_ON;
+use machine::refusals::SHORT_REPORT;
+use machine::refusals::SHORT_WORK;
+use machine::refusals::TAPE_GOES_ON;
+use machine::refusals::TAPE_NUMBER;
 use program::blocks;
 use program::single;
 use program::targets_move;
 use program::well_placed;
 use tables::CAPACITIES;
+use tables::LIST_CELLS;
+use tables::LIST_COUNTS;
 use tables::TABLES;
 use values::Place;
 use values::Stored;
@@ -18,11 +26,13 @@ ghost use mathlib.Core.Path.{_≡_};
 ghost use Prim.Native.Nat.{ℕ, _+_, _*_, _≤_, _<_};
 ghost use lib.ListN.{replicate};
 ghost use lib.Seq.{sets};
+ghost use Rattle.machine.specs.Rules.{inForce};
 ghost use Rattle.machine.specs.Parser.{field, times};
 ghost use Rattle.values.specs.Keeps.{cursorOf, numberShape};
 ghost use Rattle.values.specs.Rows.{Rows};
 ghost use Rattle.values.specs.Shapes.{Within};
-ghost use Rattle.machine.specs.Limits.{maxTime};
+ghost use Rattle.machine.specs.Limits.{maxFacilities, maxCapacity, maxLists, maxTime};
+ghost use Rattle.tables.specs.Layout as Layout;
 ghost use Rattle.machine.specs.Decode.{listField, modelFields};
 ghost use Rattle.machine.specs.Validate.{modelOf, tapeOf, beginning, validate as answer};
 ghost use Rattle.decode.specs.Stages.{emptyTables, Capacity, Stage, serversShape, serversField, thingsShape, thingsField, programShape, programField, noModel, noPlace};
@@ -53,8 +63,8 @@ fn clear(tables: &mut [u32; TABLES])
 
 // A facility is a server of capacity 1.
 fn facilities(tables: &mut [u32; TABLES], count: usize)
-    requires { ⌜ count ≤ 32 ⌝ }
-    ensures { λ _. ⌜ now (tables .exit) ≡ sets (now (tables .entry)) 2560 (replicate count 1) ⌝ }
+    requires { ⌜ count ≤ maxFacilities ⌝ }
+    ensures { λ _. ⌜ now (tables .exit) ≡ sets (now (tables .entry)) Layout.capacities (replicate count 1) ⌝ }
 {
     let mut v = 0;
     while v < count {
@@ -66,7 +76,7 @@ fn facilities(tables: &mut [u32; TABLES], count: usize)
 // The capacities of the storages, behind those of the facilities.
 fn capacities(s: &[u8], tables: &mut [u32; TABLES], m: Model, p: Place) -> Stored
     requires { ⌜ Within m ⌝ }
-    ensures { λ r. ⌜ Rows (numberShape 1 65535 1) Capacity 1 (2560 + m .facilities) p (now (tables .entry)) (now (tables .exit)) r (times (m .storages) (field (now (s .entry)) 3 1 65535) (cursorOf p)) ⌝ }
+    ensures { λ r. ⌜ Rows (numberShape 1 maxCapacity 1) Capacity 1 (Layout.capacities + m .facilities) p (now (tables .entry)) (now (tables .exit)) r (times (m .storages) (field (now (s .entry)) 3 1 maxCapacity) (cursorOf p)) ⌝ }
 {
     let mut k = 0;
     let mut q = p;
@@ -170,7 +180,7 @@ fn program(s: &[u8], tables: &mut [u32; TABLES], m: Model, p: Place) -> Header
 
 // Questions 3 and 4 of the whole model, and 5 of its values.
 fn model(s: &[u8], tables: &mut [u32; TABLES]) -> Header
-    ensures { λ r. ⌜ Stage modelShape noModel noPlace (now (tables .entry)) (now (tables .exit)) r (modelFields (now (s .entry)) beginning) ⌝ }
+    ensures { λ r. ⌜ Stage modelShape noModel noPlace (now (tables .entry)) (now (tables .exit)) r (modelFields (now (s .entry)) inForce beginning) ⌝ }
 {
     let start = Place {
         position: 0,
@@ -189,23 +199,23 @@ fn model(s: &[u8], tables: &mut [u32; TABLES]) -> Header
 
 // Questions 6 and 7 after it.
 fn formed_model(s: &[u8], tables: &mut [u32; TABLES]) -> Decoded
-    ensures { λ r. ⌜ Models (now (tables .exit)) r (modelOf (now (s .entry)) beginning) ⌝ }
+    ensures { λ r. ⌜ Models (now (tables .exit)) r (modelOf inForce (now (s .entry)) beginning) ⌝ }
 {
     match model(s, tables) {
         Header::Refused(n) => Decoded::Refused(n),
         Header::Read(m, p) => {
             let count = m.blocks;
             if p.position != s.len() {
-                return Decoded::Refused(6);
+                return Decoded::Refused(MODEL_GOES_ON);
             }
             if !well_placed(tables, count) {
-                return Decoded::Refused(7);
+                return Decoded::Refused(ILL_FORMED);
             }
             if !targets_move(tables, count) {
-                return Decoded::Refused(7);
+                return Decoded::Refused(ILL_FORMED);
             }
             if count < p.named {
-                return Decoded::Refused(7);
+                return Decoded::Refused(ILL_FORMED);
             }
             Decoded::Model(m)
         }
@@ -227,7 +237,7 @@ fn sample_times(s: &[u8], at: usize, count: usize) -> Tape
     let mut left = count;
     let mut next = at;
     while 0 < left {
-        match read_field(s, next, 0, Model::MAX_TIME as u64, 8) {
+        match read_field(s, next, 0, Model::MAX_TIME as u64, TAPE_NUMBER) {
             Field::Refused(n) => return Tape::Refused(n),
             Field::Value(_, after) => {
                 next = after;
@@ -239,29 +249,29 @@ fn sample_times(s: &[u8], at: usize, count: usize) -> Tape
 }
 
 // List k (from 0): where its times begin and how many they are is kept.
-fn sample_list(s: &[u8], lists: &mut [u64; 32], k: usize, at: usize) -> Tape
-    requires { ⌜ k < 16 ⌝ }
-    ensures { λ r. ⌜ ((i j : ℕ) → Listed (now (s .entry)) k (now (lists .entry)) (now (lists .exit)) r (listField (now (s .entry)) (cursorAt at i j))) ⌝ }
+fn sample_list(s: &[u8], lists: &mut [u64; LIST_CELLS], k: usize, at: usize) -> Tape
+    requires { ⌜ k < maxLists ⌝ }
+    ensures { λ r. ⌜ ((i j : ℕ) → Listed (now (s .entry)) k (now (lists .entry)) (now (lists .exit)) r (listField (now (s .entry)) inForce (cursorAt at i j))) ⌝ }
 {
-    match read_field(s, at, 0, Model::MAX_SAMPLES as u64, 8) {
+    match read_field(s, at, 0, Model::MAX_SAMPLES as u64, TAPE_NUMBER) {
         Field::Refused(n) => Tape::Refused(n),
         Field::Value(count, next) => {
             lists[k] = next as u64;
-            lists[16 + k] = count;
+            lists[LIST_COUNTS + k] = count;
             sample_times(s, next, count as usize)
         }
     }
 }
 
-fn clear_lists(lists: &mut [u64; 32])
+fn clear_lists(lists: &mut [u64; LIST_CELLS])
     ensures { λ _. ⌜ now (lists .exit) ≡ emptyLists ⌝ }
 {
-    *lists = [0u64; 32];
+    *lists = [0u64; LIST_CELLS];
 }
 
-fn sample_lists(s: &[u8], lists: &mut [u64; 32], count: usize) -> Tape
-    requires { ⌜ count ≤ 16 ⌝ }
-    ensures { λ r. ⌜ Lists (now (s .entry)) 0 (now (lists .entry)) (now (lists .exit)) r (times count (listField (now (s .entry))) beginning) ⌝ }
+fn sample_lists(s: &[u8], lists: &mut [u64; LIST_CELLS], count: usize) -> Tape
+    requires { ⌜ count ≤ maxLists ⌝ }
+    ensures { λ r. ⌜ Lists (now (s .entry)) 0 (now (lists .entry)) (now (lists .exit)) r (times count (listField (now (s .entry)) inForce) beginning) ⌝ }
 {
     let mut k = 0;
     let mut next = 0;
@@ -278,16 +288,16 @@ fn sample_lists(s: &[u8], lists: &mut [u64; 32], count: usize) -> Tape
 }
 
 // Questions 8 to 10.
-fn whole_tape(s: &[u8], lists: &mut [u64; 32], count: usize) -> Tape
-    requires { ⌜ count ≤ 16 ⌝ }
-    ensures { λ r. ⌜ Lists (now (s .entry)) 0 emptyLists (now (lists .exit)) r (tapeOf (now (s .entry)) count beginning) ⌝ }
+fn whole_tape(s: &[u8], lists: &mut [u64; LIST_CELLS], count: usize) -> Tape
+    requires { ⌜ count ≤ maxLists ⌝ }
+    ensures { λ r. ⌜ Lists (now (s .entry)) 0 emptyLists (now (lists .exit)) r (tapeOf inForce (now (s .entry)) count beginning) ⌝ }
 {
     clear_lists(lists);
     match sample_lists(s, lists, count) {
         Tape::Refused(n) => Tape::Refused(n),
         Tape::At(end) => {
             if end != s.len() {
-                return Tape::Refused(10);
+                return Tape::Refused(TAPE_GOES_ON);
             }
             Tape::At(end)
         }
@@ -296,11 +306,6 @@ fn whole_tape(s: &[u8], lists: &mut [u64; 32], count: usize) -> Tape
 
 // ---- All questions
 
-// "Has the work buffer 16,384 32-bit numbers? 1. The report buffer 10,240 bytes? 2."
-const WORK_NUMBERS: usize = 16_384;
-
-const REPORT_BYTES: usize = 10_240;
-
 // Validates a model and a tape and decodes them into the tables and the cells of the lists.
 pub fn decode(
     model: &[u8],
@@ -308,15 +313,15 @@ pub fn decode(
     work_len: usize,
     report_len: usize,
     tables: &mut [u32; TABLES],
-    lists: &mut [u64; 32],
+    lists: &mut [u64; LIST_CELLS],
 ) -> Decoded
-    ensures { λ r. ⌜ Decodes (now (tape .entry)) r (now (tables .exit)) (now (lists .exit)) (answer (now (model .entry)) (now (tape .entry)) «work_len» «report_len») ⌝ }
+    ensures { λ r. ⌜ Decodes (now (tape .entry)) r (now (tables .exit)) (now (lists .exit)) (answer inForce (now (model .entry)) (now (tape .entry)) «work_len» «report_len») ⌝ }
 {
-    if work_len < WORK_NUMBERS {
-        return Decoded::Refused(1);
+    if work_len < Model::WORK_NUMBERS {
+        return Decoded::Refused(SHORT_WORK);
     }
-    if report_len < REPORT_BYTES {
-        return Decoded::Refused(2);
+    if report_len < Model::REPORT_ROOM {
+        return Decoded::Refused(SHORT_REPORT);
     }
     match formed_model(model, tables) {
         Decoded::Refused(n) => Decoded::Refused(n),
@@ -329,10 +334,10 @@ pub fn decode(
 
 // The answer alone: 0, or the number of the first question answered "no".
 pub fn validate(model: &[u8], tape: &[u8], work_len: usize, report_len: usize) -> u32
-    ensures { λ r. ⌜ r ≡ refusalOf (answer (now (model .entry)) (now (tape .entry)) «work_len» «report_len») ⌝ }
+    ensures { λ r. ⌜ r ≡ refusalOf (answer inForce (now (model .entry)) (now (tape .entry)) «work_len» «report_len») ⌝ }
 {
     let mut tables = [0u32; TABLES];
-    let mut lists = [0u64; 32];
+    let mut lists = [0u64; LIST_CELLS];
     match decode(model, tape, work_len, report_len, &mut tables, &mut lists) {
         Decoded::Refused(n) => n,
         Decoded::Model(_) => 0,

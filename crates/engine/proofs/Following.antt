@@ -1,8 +1,9 @@
 -- A whole run over rows follows the machine's: from the laws of the start and of one turn to what `run` promises.
 use Prim.Native.Nat.{ℕ}
-use mathlib.Core.Path.{_≡_, refl, sym, ap, subst}
+use mathlib.Core.Path.{_≡_, refl, sym, subst}
 use mathlib.Core.List.{List}
 use lib.ListN.{length, replicate}
+use Rattle.machine.specs.Rules.{inForce}
 use Rattle.machine.specs.Block.{BlockModel}
 use Rattle.machine.specs.State.{State}
 use Rattle.machine.specs.Setters.{setEnd}
@@ -69,12 +70,12 @@ closed tape before a s e h =
 -- ---- All turns
 
 module _ (model tape : List ℕ) (budget : ℕ) (work trace report : List ℕ) (m : BlockModel) (times : List (List ℕ))
-    (accepted : validate model tape (length work) (length report) ≡ accept m times) (tables lists : List ℕ) (represents : Represents m times tape tables lists)
+    (accepted : validate inForce model tape (length work) (length report) ≡ accept m times) (tables lists : List ℕ) (represents : Represents m times tape tables lists)
     (started : Runs tape trace (traced (startRows (headerOf m) tables tape lists work (replicate tallySize 0)) trace) (start m times))
     (turned : (a : Traced) (s : State) → Taken budget (length trace) s → Kept m times (length trace) s → Runs tape trace a s
     → Runs tape trace (turnRows (headerOf m) tables tape a) (turn m s)) where
   proper : Proper m times
-  proper = proper-from model tape (length work) (length report) accepted
+  proper = proper-from inForce model tape (length work) (length report) accepted
 
   abbrev R : Traced → State → Type 0
   R = Runs tape trace
@@ -88,8 +89,8 @@ module _ (model tape : List ℕ) (budget : ℕ) (work trace report : List ℕ) (
         end = λ a s g h. ends a s h;
         turns = turned;
         closes = λ a s e h. closed tape trace a s e h;
-        good-turn = kept-turn proper (length trace) budget;
-        good-end = kept-end proper (length trace) budget;
+        good-turn = kept-turn proper (represents .rules) (length trace) budget;
+        good-end = kept-end proper (represents .rules) (length trace) budget;
       }
     where
       ends : (a : Traced) (s : State) → R a s → endOf budget (length trace) a ≡ endBefore budget (length trace) s
@@ -102,7 +103,7 @@ module _ (model tape : List ℕ) (budget : ℕ) (work trace report : List ℕ) (
   unfolding run lastRows
   last-follows =
       run-follows m budget (length trace) (endOf budget (length trace)) (turnRows (headerOf m) tables tape) closeRows R Good follows steps
-      (traced (startRows (headerOf m) tables tape lists work (replicate tallySize 0)) trace) (start m times) started (kept-start proper (length trace))
+      (traced (startRows (headerOf m) tables tape lists work (replicate tallySize 0)) trace) (start m times) started (kept-start proper (represents .rules) (length trace))
 
   pub run-accepted : (r : Results) (work′ trace′ report′ : List ℕ) → Finishes (headerOf m) tables last report r trace′ report′
       → Contract model tape budget work trace report r work′ trace′ report′

@@ -37,13 +37,13 @@ module _ {m : BlockModel} {times : List (List ℕ)} {tape tables lists : List �
   first work = startRows (headerOf m) tables tape lists work (replicate Layout.tallySize 0)
 
   no-records : start m times .records ≡ []
-  no-records = start-is proper .records ∙ none-yet
+  no-records = start-is proper (represents .rules) .records ∙ none-yet
     where
       none-yet : idle m times .records ≡ []
       none-yet = unfold idle in refl
 
   nothing-written : start m times .written ≡ 0
-  nothing-written = start-is proper .written ∙ none-yet
+  nothing-written = start-is proper (represents .rules) .written ∙ none-yet
     where
       none-yet : idle m times .written ≡ 0
       none-yet = unfold idle in refl

@@ -9,6 +9,7 @@ use borrow.Author.Tests.{leb-true}
 use lib.Dec.{leb}
 use lib.ListN.{length, take, drop}
 use lib.Seq.{take-at}
+use Rattle.machine.specs.Rules.{inForce}
 use Rattle.machine.specs.Limits.{workNumbers, reportRoom, maxReportNumber}
 use Rattle.machine.specs.Trace.{traceBytes}
 use Rattle.machine.specs.Block.{BlockModel}
@@ -16,10 +17,11 @@ use Rattle.machine.specs.State.{State}
 use Rattle.machine.specs.Validate.{Validation, accept, reject, validate}
 use Rattle.machine.specs.Run.{run}
 use Rattle.machine.specs.Report.{reportNumbers, reportBytes}
-use Rattle.machine.specs.Claims.{Each}
+use Rattle.machine.specs.Claims.{Each, LivingListed}
 use Rattle.machine.specs.Outcome.{Outcome, recordsOf, acceptedRun, refusedRun, outcomeOf, outcome}
 use Rattle.machine.proofs.Proper.{Proper}
 use Rattle.machine.proofs.ProperFrom.{proper-from}
+use Rattle.machine.proofs.LivingListed.{living-listed}
 use Rattle.machine.proofs.Demand3.{demand3}
 use Rattle.machine.proofs.OutcomeLaws.{outcome-keeps}
 use Rattle.tables.specs.Represents.{headerOf, Represents}
@@ -37,7 +39,7 @@ use Rattle.engine.proofs.Reading.{reads-back}
 -- ---- Accepted: the buffers have their lengths
 
 -- what the two first questions ask
-pub rooms : (model tape : List ℕ) (work report : ℕ) (m : BlockModel) (times : List (List ℕ)) → validate model tape work report ≡ accept m times
+pub rooms : (model tape : List ℕ) (work report : ℕ) (m : BlockModel) (times : List (List ℕ)) → validate inForce model tape work report ≡ accept m times
     → (workNumbers ≤ work) × (reportRoom ≤ report)
 unfolding validate
 rooms model tape work report m times e = go (leb workNumbers work) (leb reportRoom report) refl refl _ e
@@ -50,7 +52,7 @@ rooms model tape work report m times e = go (leb workNumbers work) (leb reportRo
 
 module _ (model tape : List ℕ) (budget : ℕ) (work trace report : List ℕ) where
   abbrev answer : Validation
-  answer = validate model tape (length work) (length report)
+  answer = validate inForce model tape (length work) (length report)
 
   abbrev o : Outcome
   o = wanted model tape budget work trace report
@@ -74,7 +76,7 @@ module _ (model tape : List ℕ) (budget : ℕ) (work trace report : List ℕ) w
               trace-bytes = refl;
               report-bytes = refl;
             });
-        keeps = outcome-keeps model tape budget (length work) (length trace) (length report);
+        keeps = outcome-keeps inForce model tape budget (length work) (length trace) (length report);
         trace-holds = subst (λ (x : Outcome). Begins (x .trace) trace trace) (sym is) refl;
         report-holds = subst (λ (x : Outcome). Begins (x .report) report report) (sym is) refl;
         refused = λ z. (refl, refl, refl);
@@ -104,7 +106,7 @@ module _ (model tape : List ℕ) (budget : ℕ) (work trace report : List ℕ) w
         (stands : Stands tape r (s .moving) s) (writes : Writes trace (r .scalars) (r .tally) trace′ s) (kept : Kept m times (length trace) s)
         (reported : written n report′ ≡ putAll (rowNumbers (headerOf m) tables (r .tally) (r .work) (r .scalars)) (written 0 report)) where
       proper : Proper m times
-      proper = proper-from model tape (length work) (length report) accepted
+      proper = proper-from inForce model tape (length work) (length report) accepted
 
       bytes : r .scalars .used ≡ length (traceBytes (recordsOf s))
       bytes = writes .used ∙ kept .traced .written
@@ -140,7 +142,7 @@ module _ (model tape : List ℕ) (budget : ℕ) (work trace report : List ℕ) w
           → Accepted m′ times′ budget (length trace) (take (r .scalars .used) trace′)
       all m′ times′ h′ e f =
           record {
-            demand3 = demand3 model tape (length work) (length report) budget (length trace) h′;
+            demand3 = demand3 inForce model tape (length work) (length report) budget (length trace) h′;
             report-small =
                 subst (λ (x : BlockModel). Each (λ (k : ℕ). k ≤ maxReportNumber) (reportNumbers x (run x times′ budget (length trace)))) e
                 (subst (λ (x : List (List ℕ)). Each (λ (k : ℕ). k ≤ maxReportNumber) (reportNumbers m (run m x budget (length trace)))) f
@@ -149,6 +151,9 @@ module _ (model tape : List ℕ) (budget : ℕ) (work trace report : List ℕ) w
                 subst (λ (x : BlockModel). ReadsBack x (take (r .scalars .used) trace′) (recordsOf (run x times′ budget (length trace)))) e
                 (subst (λ (x : List (List ℕ)). ReadsBack m (take (r .scalars .used) trace′) (recordsOf (run m x budget (length trace)))) f
                 (subst (λ (l : List ℕ). ReadsBack m l (recordsOf s)) (sym front) (reads-back s (kept .traced))));
+            living =
+                subst (λ (x : BlockModel). LivingListed x times′ (run x times′ budget (length trace))) e
+                (subst (λ (x : List (List ℕ)). LivingListed m x (run m x budget (length trace))) f (living-listed s (kept .sure .sound)));
           }
 
       pub accepted-runs : Contract model tape budget work trace report (endedWith (r .scalars) n) work′ trace′ report′
@@ -156,7 +161,7 @@ module _ (model tape : List ℕ) (budget : ℕ) (work trace report : List ℕ) w
       accepted-runs =
           record {
             results = subst (λ (x : Outcome). Gives x (endedWith (r .scalars) n)) (sym accepted-is) gives;
-            keeps = outcome-keeps model tape budget (length work) (length trace) (length report);
+            keeps = outcome-keeps inForce model tape budget (length work) (length trace) (length report);
             trace-holds = subst (λ (x : Outcome). Begins (x .trace) trace trace′) (sym accepted-is) trace-begins;
             report-holds = subst (λ (x : Outcome). Begins (x .report) report report′) (sym accepted-is) (report-begins .1);
             refused = λ z. absurd (z refl);

@@ -3,6 +3,7 @@ use Prim.Native.Nat.{ℕ, _≤_}
 use mathlib.Core.Path.{_≡_, sym, subst}
 use mathlib.Core.List.{List}
 use lib.ListN.{length}
+use Rattle.machine.specs.Rules.{inForce}
 use Rattle.machine.specs.Block.{BlockModel}
 use Rattle.machine.specs.Validate.{validate}
 use Rattle.machine.specs.declared.model.Model.{Model}
@@ -22,15 +23,15 @@ use Rattle.terms.proofs.NestedFrom.{nested-from}
 use Rattle.engine.proofs.Laws.{started, turned}
 
 module _ (model tape : List ℕ) (budget : ℕ) (work trace report tables lists : List ℕ) (r : Decoded)
-    (decodes : Decodes tape r tables lists (validate model tape (length work) (length report))) where
+    (decodes : Decodes tape r tables lists (validate inForce model tape (length work) (length report))) where
   pub run-refused : (n : ℕ) (o : Results) → r ≡ Refused n → o ≡ refusedWith n → Contract model tape budget work trace report o work trace report
   run-refused n o e f =
       subst (λ (x : Results). Contract model tape budget work trace report x work trace report) (sym f)
-      (refused-runs model tape budget work trace report n (decoded-refused tape tables lists r (validate model tape (length work) (length report)) n decodes e))
+      (refused-runs model tape budget work trace report n (decoded-refused tape tables lists r (validate inForce model tape (length work) (length report)) n decodes e))
 
   module _ (h : Model) (e : r ≡ Accepted h) where
-    told : Told tape h tables lists (validate model tape (length work) (length report))
-    told = decoded-model tape tables lists r (validate model tape (length work) (length report)) h decodes e
+    told : Told tape h tables lists (validate inForce model tape (length work) (length report))
+    told = decoded-model tape tables lists r (validate inForce model tape (length work) (length report)) h decodes e
 
     work-room : 16384 ≤ length work
     work-room = rooms model tape (length work) (length report) (told .model) (told .times) (told .accepted) .0
@@ -39,7 +40,7 @@ module _ (model tape : List ℕ) (budget : ℕ) (work trace report tables lists 
     pub fits : (h .facilities ≤ 32) × ((h .storages ≤ 32) × ((h .queues ≤ 32) × ((h .blocks ≤ 256) × (16384 ≤ length work))))
     fits =
         subst (λ (x : Model). (x .facilities ≤ 32) × ((x .storages ≤ 32) × ((x .queues ≤ 32) × ((x .blocks ≤ 256) × (16384 ≤ length work))))) (sym (told .header))
-        (header-fits (told .model) (told .times) (proper-from model tape (length work) (length report) (told .accepted)))
+        (header-fits (told .model) (told .times) (proper-from inForce model tape (length work) (length report) (told .accepted)))
       where
         header-fits : (m : BlockModel) (times : List (List ℕ)) → Proper m times
             → (headerOf m .facilities ≤ 32) × ((headerOf m .storages ≤ 32) × ((headerOf m .queues ≤ 32) × ((headerOf m .blocks ≤ 256) × (16384 ≤ length work))))
@@ -48,7 +49,7 @@ module _ (model tape : List ℕ) (budget : ℕ) (work trace report tables lists 
     pub run-finished : (o : Results) (work′ trace′ report′ : List ℕ) → Finishes h tables (lastRows h tables lists tape budget work trace) report o trace′ report′
         → Contract model tape budget work trace report o work′ trace′ report′
     run-finished o work′ trace′ report′ f =
-        let proper = proper-from model tape (length work) (length report) (told .accepted) in
+        let proper = proper-from inForce model tape (length work) (length report) (told .accepted) in
         let nested = nested-from model tape (length work) (length report) (told .accepted) in
         run-accepted model tape budget work trace report (told .model) (told .times) (told .accepted) tables lists (told .represents)
         (started proper (told .represents) nested trace work work-room) (turned proper (told .represents) nested trace budget) o work′ trace′ report′

@@ -1,12 +1,12 @@
 -- What `run` promises, for all bytes, budgets and buffer lengths: the machine's outcome, its trace and report in the buffers,
--- nothing touched by a refused run, demand 3 of the whole run, and a trace that reads back.
+-- nothing touched by a refused run, demand 3 of the whole run, a trace that reads back, and the living by rising number.
 --
--- Left free by the papers: the order of the living in the report (here by rising number, as in the machine's `byNumber`), and the
--- work buffer after an accepted run, of which nothing is said (a lent slice keeps its length).
+-- Left free by the papers: the work buffer after an accepted run, of which nothing is said (a lent slice keeps its length).
 use Prim.Native.Nat.{ℕ, _≤_}
 use mathlib.Core.Path.{_≡_}
 use mathlib.Core.List.{List, _++_}
 use lib.ListN.{length, take, drop}
+use Rattle.machine.specs.Rules.{inForce}
 use Rattle.machine.specs.Limits.{maxReportNumber}
 use Rattle.machine.specs.Trace.{Record, traceBytes}
 use Rattle.machine.specs.Block.{BlockModel}
@@ -14,7 +14,7 @@ use Rattle.machine.specs.Validate.{accept, validate}
 use Rattle.machine.specs.Run.{run}
 use Rattle.machine.specs.Report.{reportNumbers}
 use Rattle.machine.specs.Outcome.{Outcome, recordsOf, outcome}
-use Rattle.machine.specs.Claims.{Each, Proved, Keeping, InModel}
+use Rattle.machine.specs.Claims.{Each, Proved, Keeping, InModel, LivingListed}
 use Rattle.trace.specs.Whole.{Reads}
 use Rattle.engine.specs.declared.outcome.Outcome.{Outcome as Results}
 
@@ -47,10 +47,12 @@ pub record Accepted (m : BlockModel) (times : List (List ℕ)) (budget room : �
   -- no number of the report is cut: each fits nine groups
   pub report-small : Each (λ (n : ℕ). n ≤ maxReportNumber) (reportNumbers m (run m times budget room))
   pub read-back : ReadsBack m bytes (recordsOf (run m times budget room))
+  -- the report's living part: by rising number, each a living one, each with its place
+  pub living : LivingListed m times (run m times budget room)
 
 module _ (model tape : List ℕ) (budget : ℕ) (work trace report : List ℕ) where
   abbrev pub wanted : Outcome
-  wanted = outcome model tape budget (length work) (length trace) (length report)
+  wanted = outcome inForce model tape budget (length work) (length trace) (length report)
 
   pub record Contract (r : Results) (work′ trace′ report′ : List ℕ) : Type 0 where
     pub results : Gives wanted r
@@ -59,5 +61,5 @@ module _ (model tape : List ℕ) (budget : ℕ) (work trace report : List ℕ) w
     pub trace-holds : Begins (wanted .trace) trace trace′
     pub report-holds : Begins (wanted .report) report report′
     pub refused : (r .refusal ≡ 0 → ⊥) → (work′ ≡ work) × (trace′ ≡ trace) × (report′ ≡ report)
-    pub accepted : (m : BlockModel) (times : List (List ℕ)) → validate model tape (length work) (length report) ≡ accept m times
+    pub accepted : (m : BlockModel) (times : List (List ℕ)) → validate inForce model tape (length work) (length report) ≡ accept m times
         → Accepted m times budget (length trace) (take (r .«trace_bytes») trace′)

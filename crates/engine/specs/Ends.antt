@@ -4,13 +4,13 @@ use mathlib.Core.Bool.{Bool, false, cond}
 use mathlib.Core.List.{List}
 use lib.Dec.{ltb, leb, eqb}
 use Rattle.machine.specs.Limits.{maxSerial, maxTurns, recordRoom}
-use Rattle.rows.specs.Layout.{rel, fel}
+use Rattle.rows.specs.Layout.{rel, fel, rowCount}
 use Rattle.rows.specs.Lists.{first}
 use Rattle.state.specs.declared.scalars.Scalars.{Scalars}
 
 -- nobody moves, and REL and FEL have no first row
 unfoldable pub nobodyRows : List ℕ → ℕ → Bool
-nobodyRows work moving = cond (ltb moving 1024) false (cond (ltb (first work rel) 1024) false (leb 1024 (first work fel)))
+nobodyRows work moving = cond (ltb moving rowCount) false (cond (ltb (first work rel) rowCount) false (leb rowCount (first work fel)))
 
 -- the limits on serials and turns, the budget and the room for a record
 unfoldable pub limitRows : Scalars → (budget room : ℕ) → ℕ

@@ -1,7 +1,13 @@
 // "Before each turn, in this order: .." the end of the turn before, dry, the limits on serials and turns, the budget, the room
 // for a record.
+use machine::Model;
+use machine::ends::BUDGET;
+use machine::ends::DRY;
+use machine::ends::TRACE_FULL;
+use machine::ends::WORN_OUT;
 use rows::FEL;
 use rows::REL;
+use rows::ROWS;
 use rows::lists::first;
 use state::Scalars;
 ghost use mathlib.Core.Path.{_≡_};
@@ -11,32 +17,32 @@ ghost use Rattle.engine.specs.Ends.{nobodyRows, limitRows, endRows};
 fn nobody_left(work: &[u32], moving: u32) -> bool
     ensures { λ r. ⌜ r ≡ nobodyRows (now (work .entry)) moving ⌝ }
 {
-    if moving < 1024 {
+    if moving < ROWS {
         return false;
     }
-    if first(work, REL) < 1024 {
+    if first(work, REL) < ROWS {
         return false;
     }
-    1024 <= first(work, FEL)
+    ROWS <= first(work, FEL)
 }
 
 fn limit(x: Scalars, budget: u64, room: usize) -> u32
     ensures { λ r. ⌜ r ≡ limitRows x budget room ⌝ }
 {
-    if 99_997_952 < x.serial {
-        return 26;
+    if Model::MAX_SERIAL < x.serial {
+        return WORN_OUT;
     }
-    if 100_000_000 <= x.turns {
-        return 26;
+    if Model::MAX_TURNS <= x.turns {
+        return WORN_OUT;
     }
     if budget <= x.turns as u64 {
-        return 3;
+        return BUDGET;
     }
-    if room < 12 {
-        return 4;
+    if room < Model::RECORD_ROOM {
+        return TRACE_FULL;
     }
-    if room - 12 < x.used {
-        return 4;
+    if room - Model::RECORD_ROOM < x.used {
+        return TRACE_FULL;
     }
     0
 }
@@ -49,7 +55,7 @@ pub fn end_before(work: &[u32], x: Scalars, budget: u64, room: usize) -> u32
         return x.end;
     }
     if nobody_left(work, x.moving) {
-        return 1;
+        return DRY;
     }
     limit(x, budget, room)
 }

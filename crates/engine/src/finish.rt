@@ -5,11 +5,15 @@ use machine::Model;
 use report::write_report;
 use start::begin;
 use state::Scalars;
+use tables::LIST_CELLS;
 use tables::TABLES;
 use tables::TALLY;
 ghost use mathlib.Core.Path.{_≡_};
 ghost use Prim.Native.Nat.{_≤_};
 ghost use lib.ListN.{length};
+ghost use Rattle.machine.specs.Limits.{maxBlocks, maxFacilities, maxQueues, maxStorages};
+ghost use Rattle.tables.specs.Layout.{Tables};
+ghost use Rattle.rows.specs.Layout.{Room};
 ghost use Rattle.state.specs.Stands.{rowsOf};
 ghost use Rattle.start.specs.Start.{startRows};
 ghost use Rattle.turn.specs.Turn.{traced};
@@ -58,12 +62,12 @@ fn play(
     tally: &mut [u64],
     trace: &mut [u8],
 ) -> Scalars
-    requires { ⌜ model .facilities ≤ 32 ⌝ }
-    requires { ⌜ model .storages ≤ 32 ⌝ }
-    requires { ⌜ model .queues ≤ 32 ⌝ }
-    requires { ⌜ model .blocks ≤ 256 ⌝ }
-    requires { do ⌜ 2624 ≤ (← ⟦tables.len()⟧) ⌝ }
-    requires { do ⌜ 16384 ≤ (← ⟦work.len()⟧) ⌝ }
+    requires { ⌜ model .facilities ≤ maxFacilities ⌝ }
+    requires { ⌜ model .storages ≤ maxStorages ⌝ }
+    requires { ⌜ model .queues ≤ maxQueues ⌝ }
+    requires { ⌜ model .blocks ≤ maxBlocks ⌝ }
+    requires { ⌜ Tables (now tables) ⌝ }
+    requires { ⌜ Room (now work) ⌝ }
     ensures { λ r. ⌜ traced (rowsOf r (now (work .exit)) (now (tally .exit))) (now (trace .exit)) ≡ turnsRows model (now (tables .entry)) (now (tape .entry)) budget (length (now (trace .entry))) (traced (startRows model (now (tables .entry)) (now (tape .entry)) (now (lists .entry)) (now (work .entry)) (now (tally .entry))) (now (trace .entry))) ⌝ }
 {
     let x = begin(model, tables, tape, lists, work, tally);
@@ -74,18 +78,18 @@ fn play(
 pub fn accepted(
     model: Model,
     tables: &[u32; TABLES],
-    lists: &[u64; 32],
+    lists: &[u64; LIST_CELLS],
     tape: &[u8],
     budget: u64,
     work: &mut [u32],
     trace: &mut [u8],
     report: &mut [u8],
 ) -> Outcome
-    requires { ⌜ model .facilities ≤ 32 ⌝ }
-    requires { ⌜ model .storages ≤ 32 ⌝ }
-    requires { ⌜ model .queues ≤ 32 ⌝ }
-    requires { ⌜ model .blocks ≤ 256 ⌝ }
-    requires { do ⌜ 16384 ≤ (← ⟦work.len()⟧) ⌝ }
+    requires { ⌜ model .facilities ≤ maxFacilities ⌝ }
+    requires { ⌜ model .storages ≤ maxStorages ⌝ }
+    requires { ⌜ model .queues ≤ maxQueues ⌝ }
+    requires { ⌜ model .blocks ≤ maxBlocks ⌝ }
+    requires { ⌜ Room (now work) ⌝ }
     ensures { λ r. ⌜ Finishes model (now (tables .entry)) (lastRows model (now (tables .entry)) (now (lists .entry)) (now (tape .entry)) budget (now (work .entry)) (now (trace .entry))) (now (report .entry)) r (now (trace .exit)) (now (report .exit)) ⌝ }
 {
     let mut tally = [0u64; TALLY];

@@ -10,6 +10,7 @@ use decode::decode;
 use finish::accepted;
 use finish::refused;
 pub use outcome::Outcome;
+use tables::LIST_CELLS;
 use tables::TABLES;
 ghost use Rattle.engine.specs.Contract.{Contract};
 
@@ -25,7 +26,7 @@ pub fn run(
     ensures { λ r. ⌜ Contract (now (model .entry)) (now (tape .entry)) budget (now (work .entry)) (now (trace .entry)) (now (report .entry)) r (now (work .exit)) (now (trace .exit)) (now (report .exit)) ⌝ }
 {
     let mut tables = [0u32; TABLES];
-    let mut lists = [0u64; 32];
+    let mut lists = [0u64; LIST_CELLS];
     let decoded = decode(
         model,
         tape,

@@ -6,12 +6,15 @@ use turn::turn;
 ghost use mathlib.Core.Path.{_≡_};
 ghost use Prim.Native.Nat.{_≤_};
 ghost use lib.ListN.{length};
+ghost use Rattle.machine.specs.Limits.{maxBlocks, maxFacilities, maxQueues, maxStorages};
+ghost use Rattle.tables.specs.Layout.{Tables};
+ghost use Rattle.rows.specs.Layout.{Room};
 ghost use Rattle.state.specs.Stands.{rowsOf};
 ghost use Rattle.turn.specs.Turn.{traced};
 ghost use Rattle.engine.specs.Turns.{turnsRows};
 
 // Each step asks for the end before the turn, so one step more than the most turns is never used up.
-const STEPS: u32 = 100_000_001;
+const STEPS: u32 = Model::MAX_TURNS + 1;
 
 pub fn turns(
     model: Model,
@@ -23,12 +26,12 @@ pub fn turns(
     trace: &mut [u8],
     x: Scalars,
 ) -> Scalars
-    requires { ⌜ model .facilities ≤ 32 ⌝ }
-    requires { ⌜ model .storages ≤ 32 ⌝ }
-    requires { ⌜ model .queues ≤ 32 ⌝ }
-    requires { ⌜ model .blocks ≤ 256 ⌝ }
-    requires { do ⌜ 2624 ≤ (← ⟦tables.len()⟧) ⌝ }
-    requires { do ⌜ 16384 ≤ (← ⟦work.len()⟧) ⌝ }
+    requires { ⌜ model .facilities ≤ maxFacilities ⌝ }
+    requires { ⌜ model .storages ≤ maxStorages ⌝ }
+    requires { ⌜ model .queues ≤ maxQueues ⌝ }
+    requires { ⌜ model .blocks ≤ maxBlocks ⌝ }
+    requires { ⌜ Tables (now tables) ⌝ }
+    requires { ⌜ Room (now work) ⌝ }
     ensures { λ r. ⌜ traced (rowsOf r (now (work .exit)) (now (tally .exit))) (now (trace .exit)) ≡ turnsRows model (now (tables .entry)) (now (tape .entry)) budget (length (now (trace .entry))) (traced (rowsOf x (now (work .entry)) (now (tally .entry))) (now (trace .entry))) ⌝ }
 {
     let mut y = x;

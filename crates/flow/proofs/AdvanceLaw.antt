@@ -17,7 +17,7 @@ use Rattle.machine.specs.Moves as Moves
 use Rattle.machine.specs.Execute.{unless, askAdvance, question, delay}
 use Rattle.machine.proofs.Proper.{Names, ProperBlock, Proper}
 use Rattle.machine.proofs.Placed.{Placed}
-use Rattle.tables.specs.Numbers.{blockNumbers}
+use Rattle.tables.specs.Forms.{blockForms}
 use Rattle.tables.specs.Represents.{Represents}
 use Rattle.state.specs.declared.scalars.Scalars.{Scalars}
 use Rattle.state.specs.Bare.{entering, bare, bareAnswer}
@@ -59,7 +59,7 @@ module _ (m : BlockModel) (tape : List (List ℕ)) (tapeBytes tables lists : Lis
   stood = placed proper t s sane moving
 
   list-is : getD tables (at + 1) 0 ≡ list - 1
-  unfolding blockNumbers
+  unfolding blockForms
   list-is = operand m tape tapeBytes tables lists rep (t .next) (stood .0) b is 1 (omega arith)
 
   named : Names (m .lists) list
@@ -93,12 +93,12 @@ module _ (m : BlockModel) (tape : List (List ℕ)) (tapeBytes tables lists : Lis
     sample = nextSample tapeBytes tally (list - 1)
 
     abbrev q : ℕ
-    q = unless (leb (s .view .clock + time) maxClock) 22 0
+    q = unless (leb (s .view .clock + time) (m .rules .maxClock)) 22 0
 
     ask-is : askTime x (sample .time) ≡ q
     ask-is =
         ap (askTime x) (sampled tapeBytes tally s (stands .tallying) list (named .0) there few time left e)
-        ∙ time-asked x s (stands .counting) time (sane .timely .clock) (time-most m s list time left sane e)
+        ∙ time-asked m (sane .rules) x s (stands .counting) time (sane .timely .clock) (time-most m s list time left sane e)
 
     unspent : advanceRows tables tapeBytes w tally x at ≡ cond (eqb q 0) (delayRows w tally x sample (list - 1)) (rowsOf (stopped x q) w tally)
     unfolding advanceRows advanceNext advanceWith
@@ -151,13 +151,13 @@ module _ (m : BlockModel) (tape : List (List ℕ)) (tapeBytes tables lists : Lis
     unspent-done : Done tapeBytes (advanceRows tables tapeBytes w tally x at) (bareAnswer q m b t s)
     unspent-done =
         subst (λ (rows : Rows). Done tapeBytes rows (bareAnswer q m b t s)) (sym unspent)
-        (asked tapeBytes m r t s stands moving b q (delayRows w tally x sample (list - 1)) (λ z. delay-done (time-yes s time z)))
+        (asked tapeBytes m r t s stands moving b q (delayRows w tally x sample (list - 1)) (λ z. delay-done (time-yes m (sane .rules) s time z)))
 
-  pub advance-done : Done tapeBytes (advanceRows tables tapeBytes (r .work) (r .tally) (r .scalars) (8 * (t .next - 1))) (bareAnswer (question b s) m b t s)
+  pub advance-done : Done tapeBytes (advanceRows tables tapeBytes (r .work) (r .tally) (r .scalars) (8 * (t .next - 1))) (bareAnswer (question m b s) m b t s)
   unfolding question askAdvance
   advance-done = go (Moves.timesLeft s list) refl
     where
-      go : (l : List ℕ) → Moves.timesLeft s list ≡ l → Done tapeBytes (advanceRows tables tapeBytes w tally x at) (bareAnswer (askAdvance l s) m b t s)
+      go : (l : List ℕ) → Moves.timesLeft s list ≡ l → Done tapeBytes (advanceRows tables tapeBytes w tally x at) (bareAnswer (askAdvance m l s) m b t s)
       go [] e =
           subst (λ (rows : Rows). Done tapeBytes rows (bareAnswer 23 m b t s)) (sym (spent e)) (stop-done tapeBytes r t s 22 m b moving stands)
       go (time ∷ left) e = unspent-done time left e

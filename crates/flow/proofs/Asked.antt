@@ -1,6 +1,6 @@
 -- The questions, asked of the scalars, are the machine's; a question that is not answered by yes stops the turn.
 use Prim.Native.Nat.{ℕ, zero, suc, _+_, _-_, _≤_, min}
-use mathlib.Core.Path.{_≡_, refl, subst}
+use mathlib.Core.Path.{_≡_, refl, subst, _∙_, ap, sym}
 use mathlib.Core.Bool.{Bool, true, false, cond}
 use mathlib.Core.List.{List, _∷_}
 use mathlib.Core.Option.{none, some}
@@ -8,6 +8,7 @@ use native.Mathlib.Omega.{arith}
 use borrow.Author.Tests.{ne-eqb, leb-true}
 use lib.Dec.{eqb, leb}
 use lib.ListN.{getD}
+use Rattle.machine.specs.Rules.{Rules, inForce}
 use Rattle.machine.specs.Limits.{maxLiving, maxClock, maxTime}
 use Rattle.machine.specs.Transaction.{Transaction}
 use Rattle.machine.specs.Block.{Block, BlockModel}
@@ -24,12 +25,12 @@ use Rattle.moves.proofs.MotionLaws.{stop-done}
 use Rattle.flow.specs.Questions.{askRoom, askTime, firstNo, askArrival}
 
 -- the first time of a list
-pub time-most : (m : BlockModel) (s : State) (list time : ℕ) (left : List ℕ) → Sane m s → timesLeft s list ≡ time ∷ left → time ≤ maxTime
-time-most m s list time left sane e = subst (λ (l : List ℕ). getD l 0 0 ≤ maxTime) e (sane .samples list 0)
+pub time-most : (m : BlockModel) (s : State) (list time : ℕ) (left : List ℕ) → Sane m s → timesLeft s list ≡ time ∷ left → time ≤ inForce .maxTime
+time-most m s list time left sane e = subst (λ (l : List ℕ). getD l 0 0 ≤ inForce .maxTime) e (sane .samples list 0)
 
 -- ---- Questions
 
-module _ (x : Scalars) (s : State) (counting : Counting x s) where
+module _ (m : BlockModel) (rules : m .rules ≡ inForce) (x : Scalars) (s : State) (counting : Counting x s) where
   pub room-asked : (n : ℕ) → living s ≤ 1024 → n ≤ 1024 → askRoom x n ≡ unless (leb (living s + n) maxLiving) 21 0
   unfolding askRoom
   room-asked n few most =
@@ -42,22 +43,22 @@ module _ (x : Scalars) (s : State) (counting : Counting x s) where
       go true = refl
       go false = refl
 
-  module _ (time : ℕ) (clock : s .view .clock ≤ maxClock) (most : time ≤ maxTime) where
-    pub time-asked : askTime x time ≡ unless (leb (s .view .clock + time) maxClock) 22 0
+  module _ (time : ℕ) (clock : s .view .clock ≤ inForce .maxClock) (most : time ≤ inForce .maxTime) where
+    pub time-asked : askTime x time ≡ unless (leb (s .view .clock + time) (m .rules .maxClock)) 22 0
     unfolding askTime
     time-asked =
         let a : x .clock ≡ s .view .clock = counting .clock in
         let e : min (s .view .clock + time) 4294967295 ≡ s .view .clock + time = omega arith in
-        rw (a, e) (go (leb (s .view .clock + time) maxClock))
+        rw (a, e) (go (leb (s .view .clock + time) (inForce .maxClock)) ∙ ap (λ (q : Rules). unless (leb (s .view .clock + time) (q .maxClock)) 22 0) (sym rules))
       where
         go : (b : Bool) → cond b 0 22 ≡ unless b 22 0
         go true = refl
         go false = refl
 
-    pub arrival-asked : living s ≤ 1024 → (left : List ℕ) → askArrival x time ≡ askGenerate (time ∷ left) s
+    pub arrival-asked : living s ≤ 1024 → (left : List ℕ) → askArrival x time ≡ askGenerate m (time ∷ left) s
     unfolding askArrival askGenerate firstNo
     arrival-asked few left =
-        rw (room-asked 1 few (omega arith), time-asked) (go (leb (living s + 1) maxLiving) (unless (leb (s .view .clock + time) maxClock) 22 0))
+        rw (room-asked 1 few (omega arith), time-asked) (go (leb (living s + 1) maxLiving) (unless (leb (s .view .clock + time) (m .rules .maxClock)) 22 0))
       where
         go : (c : Bool) (n : ℕ) → firstNo (unless c 21 0) n ≡ unless c 21 n
         go true n = refl
@@ -69,17 +70,21 @@ unless-yes : (b : Bool) (n later : ℕ) → unless b (suc n) later ≡ 0 → (b 
 unless-yes true n later e = (refl, e)
 unless-yes false n later e = absurd (omega arith)
 
-pub time-yes : (s : State) (time : ℕ) → unless (leb (s .view .clock + time) maxClock) 22 0 ≡ 0 → s .view .clock + time ≤ 2000000000
-time-yes s time e = leb-true (s .view .clock + time) maxClock (unless-yes (leb (s .view .clock + time) maxClock) 21 0 e .0)
+pub time-yes : (m : BlockModel) → m .rules ≡ inForce → (s : State) (time : ℕ) → unless (leb (s .view .clock + time) (m .rules .maxClock)) 22 0 ≡ 0
+    → s .view .clock + time ≤ inForce .maxClock
+time-yes m rules s time e =
+    subst (λ (q : Rules). s .view .clock + time ≤ q .maxClock) rules
+    (leb-true (s .view .clock + time) _ (unless-yes (leb (s .view .clock + time) (m .rules .maxClock)) 21 0 e .0))
 
 pub room-yes : (s : State) (n : ℕ) → unless (leb (living s + n) maxLiving) 21 0 ≡ 0 → living s + n ≤ 1024
 room-yes s n e = leb-true (living s + n) maxLiving (unless-yes (leb (living s + n) maxLiving) 20 0 e .0)
 
-pub arrival-yes : (s : State) (time : ℕ) (left : List ℕ) → askGenerate (time ∷ left) s ≡ 0 → (living s + 1 ≤ 1024) × (s .view .clock + time ≤ 2000000000)
+pub arrival-yes : (m : BlockModel) → m .rules ≡ inForce → (s : State) (time : ℕ) (left : List ℕ) → askGenerate m (time ∷ left) s ≡ 0
+    → (living s + 1 ≤ 1024) × (s .view .clock + time ≤ inForce .maxClock)
 unfolding askGenerate
-arrival-yes s time left e =
-    let q = unless-yes (leb (living s + 1) maxLiving) 20 (unless (leb (s .view .clock + time) maxClock) 22 0) e in
-    (leb-true (living s + 1) maxLiving (q .0), time-yes s time (q .1))
+arrival-yes m rules s time left e =
+    let q = unless-yes (leb (living s + 1) maxLiving) 20 (unless (leb (s .view .clock + time) (m .rules .maxClock)) 22 0) e in
+    (leb-true (living s + 1) maxLiving (q .0), time-yes m rules s time (q .1))
 
 -- ---- Asked first
 

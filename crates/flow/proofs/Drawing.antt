@@ -13,7 +13,7 @@ use lib.ListN.{length, getD, set, drop, length-set}
 use lib.Seq.{getD-set-same, getD-set-other}
 use Rattle.machine.specs.Limits.{maxNumberBytes, maxNumber, maxTime}
 use Rattle.machine.specs.Number.{Number, readNumber}
-use Rattle.machine.specs.Parser.{Cursor, Parsed, parsed, refused, Parser, continue, give, times, forward, fieldOf, field}
+use Rattle.machine.specs.Parser.{Cursor, Parsed, parsed, refused, Parser, continue, give, times, forward, fieldOf, field, fieldUpTo}
 use Rattle.tables.specs.Layout as Layout
 use Rattle.tables.specs.Represents.{TimesAt}
 use Rattle.state.specs.Stands.{Sampling}
@@ -58,7 +58,7 @@ module _ (bytes : List ℕ) where
   here p = readNumber maxNumberBytes maxNumber (drop p bytes)
 
   begin : (p time : ℕ) (left : List ℕ) → TimesAt bytes p (time ∷ left) → (c : Cursor) → c .position ≡ p → (d : Cursor) × Opened (here p) c d time left
-  unfolding times field
+  unfolding times fieldUpTo
   begin p time left h c e =
       let q = h c e in
       (q .0, opened (here p) c (q .0) time left (subst (λ (x : ℕ). continue (fieldOf 8 0 maxTime (readNumber maxNumberBytes maxNumber (drop x bytes)) c) (λ v. λ c′. continue (times (length left) oneTime c′) (λ l. give (v ∷ l))) ≡ parsed (time ∷ left) (q .0)) e (q .1)))

@@ -16,7 +16,7 @@ use Rattle.machine.specs.Moves as Moves
 use Rattle.machine.specs.Execute.{askGenerate, question}
 use Rattle.machine.proofs.Proper.{Names, ProperBlock, Proper}
 use Rattle.machine.proofs.Placed.{Placed}
-use Rattle.tables.specs.Numbers.{blockNumbers}
+use Rattle.tables.specs.Forms.{blockForms}
 use Rattle.tables.specs.Represents.{Represents}
 use Rattle.state.specs.declared.scalars.Scalars.{Scalars}
 use Rattle.state.specs.Bare.{entering, bare, bareAnswer}
@@ -61,11 +61,11 @@ module _ (m : BlockModel) (tape : List (List ℕ)) (tapeBytes tables lists : Lis
   low = next-low proper t s sane moving
 
   list-is : getD tables (at + 1) 0 ≡ list - 1
-  unfolding blockNumbers
+  unfolding blockForms
   list-is = operand m tape tapeBytes tables lists rep (t .next) (stood .0) b is 1 (omega arith)
 
   priority-is : getD tables (at + 2) 0 ≡ p
-  unfolding blockNumbers
+  unfolding blockForms
   priority-is = operand m tape tapeBytes tables lists rep (t .next) (stood .0) b is 2 (omega arith)
 
   named : Names (m .lists) list × (p ≤ 127)
@@ -109,12 +109,12 @@ module _ (m : BlockModel) (tape : List (List ℕ)) (tapeBytes tables lists : Lis
     time-is : sample .time ≡ time
     time-is = sampled tapeBytes tally s (stands .tallying) list (named .0 .0) there few time left e
 
-    ask-is : askArrival x (sample .time) ≡ askGenerate (time ∷ left) s
+    ask-is : askArrival x (sample .time) ≡ askGenerate m (time ∷ left) s
     ask-is =
         ap (askArrival x) time-is
-        ∙ arrival-asked x s (stands .counting) time (sane .timely .clock) (time-most m s list time left sane e) (sane .living) left
+        ∙ arrival-asked m (sane .rules) x s (stands .counting) time (sane .timely .clock) (time-most m s list time left sane e) (sane .living) left
 
-    unspent : generateRows tables tapeBytes w tally x at ≡ cond (eqb (askGenerate (time ∷ left) s) 0) (arriveOn w tally x sample (list - 1) p) (rowsOf (stopped x (askGenerate (time ∷ left) s)) w tally)
+    unspent : generateRows tables tapeBytes w tally x at ≡ cond (eqb (askGenerate m (time ∷ left) s) 0) (arriveOn w tally x sample (list - 1) p) (rowsOf (stopped x (askGenerate m (time ∷ left) s)) w tally)
     unfolding generateRows generateNext generateWith
     unspent =
         let n : eqb (getD tally (944 + (list - 1)) 0) 0 ≡ false = ne-eqb (getD tally (944 + (list - 1)) 0) 0 (λ q. omega (arith, left-cell, ap length e)) in
@@ -138,9 +138,9 @@ module _ (m : BlockModel) (tape : List (List ℕ)) (tapeBytes tables lists : Lis
     unfolding goTo moved
     note-is = refl
 
-    module _ (yes : askGenerate (time ∷ left) s ≡ 0) where
+    module _ (yes : askGenerate m (time ∷ left) s ≡ 0) where
       says : (s .made - s .ended + 1 ≤ 1024) × (s .view .clock + time ≤ 2000000000)
-      says = arrival-yes s time left yes
+      says = arrival-yes m (sane .rules) s time left yes
 
       roomy : Roomy s₀
       roomy =
@@ -174,15 +174,15 @@ module _ (m : BlockModel) (tape : List (List ℕ)) (tapeBytes tables lists : Lis
           subst (λ (rows : Rows). Done tapeBytes rows (bare m b t s₀)) (sym on-is)
           (subst (λ (l : List ℕ). Done tapeBytes (arrives w′ tally x′ sample (list - 1) p (t .next)) (entering (Moves.goOn t (Moves.arrival l list p (t .next) s₀)))) (sym e) entered)
 
-    unspent-done : Done tapeBytes (generateRows tables tapeBytes w tally x at) (bareAnswer (askGenerate (time ∷ left) s) m b t s)
+    unspent-done : Done tapeBytes (generateRows tables tapeBytes w tally x at) (bareAnswer (askGenerate m (time ∷ left) s) m b t s)
     unspent-done =
-        subst (λ (rows : Rows). Done tapeBytes rows (bareAnswer (askGenerate (time ∷ left) s) m b t s)) (sym unspent)
-        (asked tapeBytes m r t s stands moving b (askGenerate (time ∷ left) s) (arriveOn w tally x sample (list - 1) p) new-done)
+        subst (λ (rows : Rows). Done tapeBytes rows (bareAnswer (askGenerate m (time ∷ left) s) m b t s)) (sym unspent)
+        (asked tapeBytes m r t s stands moving b (askGenerate m (time ∷ left) s) (arriveOn w tally x sample (list - 1) p) new-done)
 
-  pub generate-done : Done tapeBytes (generateRows tables tapeBytes (r .work) (r .tally) (r .scalars) (8 * (t .next - 1))) (bareAnswer (question b s) m b t s)
+  pub generate-done : Done tapeBytes (generateRows tables tapeBytes (r .work) (r .tally) (r .scalars) (8 * (t .next - 1))) (bareAnswer (question m b s) m b t s)
   unfolding question askGenerate bareAnswer
   generate-done = go (Moves.timesLeft s list) refl
     where
-      go : (l : List ℕ) → Moves.timesLeft s list ≡ l → Done tapeBytes (generateRows tables tapeBytes w tally x at) (bareAnswer (askGenerate l s) m b t s)
+      go : (l : List ℕ) → Moves.timesLeft s list ≡ l → Done tapeBytes (generateRows tables tapeBytes w tally x at) (bareAnswer (askGenerate m l s) m b t s)
       go [] e = spent-done e
       go (time ∷ left) e = unspent-done time left e

@@ -1,12 +1,12 @@
 -- A free row becomes a transaction beside whoever moves: taken from the free rows, written, and put on the FEL or on REL.
 use Prim.Native.Nat.{ℕ, suc, _+_, _-_, _<_}
-use mathlib.Core.Path.{_≡_, refl, ap, _∙_, subst}
+use mathlib.Core.Path.{_≡_, refl, ap, _∙_}
 use mathlib.Core.Logic.{_≢_}
 use mathlib.Core.List.{List, [], _∷_}
 use mathlib.Core.Option.{Option, none, some}
 use native.Mathlib.Omega.{arith}
 use lib.ListN.{length}
-use Rattle.machine.specs.Transaction.{Transaction, Event, precedes, earlier}
+use Rattle.machine.specs.Transaction.{Transaction, precedes, earlier}
 use Rattle.machine.specs.Lists.{insert}
 use Rattle.machine.specs.State.{State}
 use Rattle.rows.specs.Layout.{place, rel, fel, free}
@@ -14,12 +14,14 @@ use Rattle.rows.specs.Cells.{load}
 use Rattle.rows.specs.Order.{ahead}
 use Rattle.rows.specs.Lists.{put, first, takeFirst}
 use Rattle.rows.specs.Holds.{transactionAt, eventAt, update}
-use Rattle.rows.specs.Shows.{Shown, Shows, Loose}
+use Rattle.rows.specs.Shows.{Shows, Loose}
 use Rattle.rows.proofs.Occurs.{same-refl, occurs-cons}
 use Rattle.rows.proofs.Structure.{row-of}
 use Rattle.rows.proofs.Data.{transaction-kept}
-use Rattle.rows.proofs.Showing.{shown-ext, update-same, update-other}
-use Rattle.rows.proofs.Put.{put-keeps, put-shown, put-fel-shown}
+use Rattle.rows.proofs.Showing.{update-same, update-other}
+use Rattle.rows.proofs.Ordering.{shows-ext}
+use Rattle.rows.proofs.Put.{put-keeps}
+use Rattle.rows.proofs.Laws.{shows-put, shows-put-fel}
 use Rattle.rows.proofs.Take.{First, none, some, first-of, take-keeps, take-loose, take-free-shown}
 use Rattle.rows.proofs.Steady.{Around, around-loose, kept-around}
 use Rattle.rows.proofs.Making.{Written}
@@ -72,7 +74,7 @@ module _ (w : List ℕ) (moving : ℕ) (o : Option Transaction) (s : State) (h :
       go (some m e n) =
           let d : moving ≢ first w free = apart-from m e o (h .mover) in
           record {
-            shows = record { rows = update free m L; shown = take-free-shown w L (listsOf s) (s .fel) (h .shows .shown) free (omega arith) m e n refl };
+            shows = record { rows = update free m L; shown = take-free-shown w L (listsOf s) (s .fel) (h .shows .shown) free (omega arith) m e n refl; ordered = h .shows .ordered };
             row = take-loose w L (h .shows .shown .holds) free (omega arith) m e n;
             mover = mover-kept w (takeFirst w free) (first w free) moving o d (kept-around w (takeFirst w free) (first w free) (take-keeps w L (h .shows .shown .holds) free (omega arith) m e n)) (h .mover);
             apart = d;
@@ -84,7 +86,7 @@ module _ (w : List ℕ) (moving : ℕ) (o : Option Transaction) (s : State) (h :
 pub making-written : (w w′ : List ℕ) (k moving : ℕ) (o : Option Transaction) (s : State) → Written w w′ k → Making w k moving o s → Making w′ k moving o s
 making-written w w′ k moving o s a h =
     record {
-      shows = record { rows = h .shows .rows; shown = a .shown (h .shows .rows) (listsOf s) (s .fel) (h .row) (h .shows .shown) };
+      shows = record { rows = h .shows .rows; shown = a .shown (h .shows .rows) (listsOf s) (s .fel) (h .row) (h .shows .shown); ordered = h .shows .ordered };
       row = a .loose (h .row);
       mover = mover-kept w w′ k moving o (h .apart) (a .around) (h .mover);
       apart = h .apart;
@@ -98,36 +100,20 @@ module _ (w : List ℕ) (k moving : ℕ) (o : Option Transaction) (s s′ : Stat
   making-fel lists future =
       record {
         shows =
-            record {
-              rows = rows′;
-              shown =
-                  subst (λ (e : List Event). Shown (put w fel k) rows′ (listsOf s′) e) future
-                  (shown-ext (put w fel k) rows′ (listsOf s) (listsOf s′) (insert earlier (eventAt w k) (s .fel)) lists
-                  (put-fel-shown w (h .shows .rows) (listsOf s) (s .fel) (h .shows .shown) k (h .row)));
-            };
+            shows-ext (put w fel k) (listsOf s) (listsOf s′) (insert earlier (eventAt w k) (s .fel)) (s′ .fel) lists future
+            (shows-put-fel w (listsOf s) (s .fel) (h .shows) k (h .row));
         mover = mover-kept w (put w fel k) k moving o (h .apart) (kept-around w (put w fel k) k (put-keeps w (h .shows .rows) (h .shows .shown .holds) fel k (omega arith) (h .row))) (h .mover);
         spare =
             rw (update-other fel (insert (ahead w fel) k (h .shows .rows fel)) (h .shows .rows) free (λ e. omega arith), living) (omega (arith, h .spare));
       }
-    where
-      rows′ : ℕ → List ℕ
-      rows′ = update fel (insert (ahead w fel) k (h .shows .rows fel)) (h .shows .rows)
 
   pub making-rel : ((q : ℕ) → q < 450 → update rel (insert precedes (transactionAt w k) (listsOf s rel)) (listsOf s) q ≡ listsOf s′ q) → s .fel ≡ s′ .fel → Listing (put w rel k) moving o s′
   making-rel lists future =
       record {
         shows =
-            record {
-              rows = rows′;
-              shown =
-                  subst (λ (e : List Event). Shown (put w rel k) rows′ (listsOf s′) e) future
-                  (shown-ext (put w rel k) rows′ (update rel (insert precedes (transactionAt w k) (listsOf s rel)) (listsOf s)) (listsOf s′) (s .fel) lists
-                  (put-shown w (h .shows .rows) (listsOf s) (s .fel) (h .shows .shown) k (h .row) rel (omega arith)));
-            };
+            shows-ext (put w rel k) (update rel (insert precedes (transactionAt w k) (listsOf s rel)) (listsOf s)) (listsOf s′) (s .fel) (s′ .fel) lists future
+            (shows-put w (listsOf s) (s .fel) (h .shows) k (h .row) rel (omega arith));
         mover = mover-kept w (put w rel k) k moving o (h .apart) (kept-around w (put w rel k) k (put-keeps w (h .shows .rows) (h .shows .shown .holds) rel k (omega arith) (h .row))) (h .mover);
         spare =
             rw (update-other rel (insert (ahead w rel) k (h .shows .rows rel)) (h .shows .rows) free (λ e. omega arith), living) (omega (arith, h .spare));
       }
-    where
-      rows′ : ℕ → List ℕ
-      rows′ = update rel (insert (ahead w rel) k (h .shows .rows rel)) (h .shows .rows)

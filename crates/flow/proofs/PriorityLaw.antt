@@ -14,7 +14,7 @@ use Rattle.machine.specs.Moves.{toRel}
 use Rattle.machine.specs.Execute.{question}
 use Rattle.machine.proofs.Proper.{ProperBlock, Proper}
 use Rattle.machine.proofs.Placed.{Placed}
-use Rattle.tables.specs.Numbers.{blockNumbers}
+use Rattle.tables.specs.Forms.{blockForms}
 use Rattle.tables.specs.Represents.{Represents}
 use Rattle.state.specs.declared.scalars.Scalars.{Scalars}
 use Rattle.state.specs.Bare.{entering, bare, bareAnswer}
@@ -50,7 +50,7 @@ module _ (m : BlockModel) (tape : List (List ℕ)) (tapeBytes tables lists : Lis
   stood = placed proper t s sane moving
 
   operand-is : getD tables (at + 1) 0 ≡ p
-  unfolding blockNumbers
+  unfolding blockForms
   operand-is = operand m tape tapeBytes tables lists rep (t .next) (stood .0) b is 1 (omega arith)
 
   small : p ≤ 127
@@ -81,6 +81,6 @@ module _ (m : BlockModel) (tape : List (List ℕ)) (tapeBytes tables lists : Lis
         note = ap noteOf (ranked .note);
       }
 
-  pub priority-done : Done tapeBytes (priorityRows tables (r .work) (r .tally) (r .scalars) (8 * (t .next - 1))) (bareAnswer (question b s) m b t s)
+  pub priority-done : Done tapeBytes (priorityRows tables (r .work) (r .tally) (r .scalars) (8 * (t .next - 1))) (bareAnswer (question m b s) m b t s)
   unfolding question bareAnswer bare
   priority-done = subst (λ (rows : Rows). Done tapeBytes rows (entering (toRel u s₀))) (sym rows-are) done

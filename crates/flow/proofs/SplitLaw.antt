@@ -16,7 +16,7 @@ use Rattle.machine.specs.Moves as Moves
 use Rattle.machine.specs.Execute.{unless, question}
 use Rattle.machine.proofs.Proper.{Names, ProperBlock, Proper}
 use Rattle.machine.proofs.Placed.{Placed}
-use Rattle.tables.specs.Numbers.{blockNumbers}
+use Rattle.tables.specs.Forms.{blockForms}
 use Rattle.tables.specs.Represents.{Represents}
 use Rattle.state.specs.declared.scalars.Scalars.{Scalars}
 use Rattle.state.specs.Bare.{entering, bare, bareAnswer}
@@ -112,11 +112,11 @@ module _ (m : BlockModel) (tape : List (List ℕ)) (tapeBytes tables lists : Lis
   stood = placed proper t s sane moving
 
   count-is : getD tables (at + 1) 0 ≡ n
-  unfolding blockNumbers
+  unfolding blockForms
   count-is = operand m tape tapeBytes tables lists rep (t .next) (stood .0) b is 1 (omega arith)
 
   target-is : getD tables (at + 2) 0 ≡ target
-  unfolding blockNumbers
+  unfolding blockForms
   target-is = operand m tape tapeBytes tables lists rep (t .next) (stood .0) b is 2 (omega arith)
 
   named : Names 255 n × Names (length (m .blocks)) target
@@ -134,7 +134,7 @@ module _ (m : BlockModel) (tape : List (List ℕ)) (tapeBytes tables lists : Lis
   rows-are : splitRows tables w tally x at ≡ cond (eqb q 0) (withTally (splitOn w x n target) tally) (rowsOf (stopped x q) w tally)
   unfolding splitRows
   rows-are =
-      rw (count-is, target-is, room-asked x s (stands .counting) n (sane .living) (omega (arith, named .0 .1)))
+      rw (count-is, target-is, room-asked m (sane .rules) x s (stands .counting) n (sane .living) (omega (arith, named .0 .1)))
 
   abbrev t′ : Transaction
   t′ = withReturning false (withNext (suc (t .next)) t)
@@ -181,7 +181,7 @@ module _ (m : BlockModel) (tape : List (List ℕ)) (tapeBytes tables lists : Lis
     copied =
         subst (λ (z : Moved). Done tapeBytes (withTally z tally) (bare m b t s₀)) (sym split-is) done
 
-  pub split-done : Done tapeBytes (splitRows tables (r .work) (r .tally) (r .scalars) (8 * (t .next - 1))) (bareAnswer (question b s) m b t s)
+  pub split-done : Done tapeBytes (splitRows tables (r .work) (r .tally) (r .scalars) (8 * (t .next - 1))) (bareAnswer (question m b s) m b t s)
   unfolding question
   split-done =
       subst (λ (rows : Rows). Done tapeBytes rows (bareAnswer q m b t s)) (sym rows-are)

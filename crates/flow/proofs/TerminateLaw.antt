@@ -14,13 +14,14 @@ use Rattle.machine.specs.Setters.{setMoving}
 use Rattle.machine.specs.Execute.{question, endsOne}
 use Rattle.machine.proofs.Proper.{Proper}
 use Rattle.machine.proofs.Placed.{Placed}
-use Rattle.tables.specs.Numbers.{blockNumbers}
+use Rattle.tables.specs.Forms.{blockForms}
 use Rattle.tables.specs.Represents.{Represents}
 use Rattle.rows.specs.Layout.{free}
 use Rattle.rows.specs.Make.{freeRow}
 use Rattle.rows.specs.Holds.{update}
 use Rattle.rows.specs.Shows.{Shown}
 use Rattle.rows.proofs.Showing.{update-same}
+use Rattle.rows.proofs.Ordering.{shows-ext}
 use Rattle.rows.proofs.Spot.{short}
 use Rattle.rows.proofs.Making.{free-shown}
 use Rattle.state.specs.declared.scalars.Scalars.{Scalars}
@@ -51,7 +52,9 @@ module _ (w : List ℕ) (k : ℕ) (t : Transaction) (s s′ : State) (h : Listin
   pub free-listing : ((q : ℕ) → listsOf s q ≡ listsOf s′ q) → s .fel ≡ s′ .fel → s′ .made ≡ s .made → s′ .ended ≡ suc (s .ended) → Listing (freeRow w k) 1024 none s′
   free-listing lists future made ended =
       record {
-        shows = record { rows = update free (k ∷ L free) L; shown = record { holds = freed .holds; lists = λ p hp. freed .lists p hp ∙ lists p; future = freed .future ∙ future; spare = freed .spare } };
+        shows =
+            shows-ext (freeRow w k) (listsOf s) (listsOf s′) (s .fel) (s′ .fel) (λ q hq. lists q) future
+            (record { rows = update free (k ∷ L free) L; shown = freed; ordered = h .shows .ordered });
         mover = refl;
         spare = rw (made, ended) (omega (arith, h .spare, living));
       }
@@ -78,7 +81,7 @@ module _ (m : BlockModel) (tape : List (List ℕ)) (tapeBytes tables lists : Lis
   stood = placed proper t s sane moving
 
   operand-is : getD tables (at + 1) 0 ≡ a
-  unfolding blockNumbers
+  unfolding blockForms
   operand-is = operand m tape tapeBytes tables lists rep (t .next) (stood .0) b is 1 (omega arith)
 
   abbrev s₀ : State
@@ -113,6 +116,6 @@ module _ (m : BlockModel) (tape : List (List ℕ)) (tapeBytes tables lists : Lis
         note = refl;
       }
 
-  pub terminate-done : Done tapeBytes (terminateRows tables (r .work) (r .tally) (r .scalars) (8 * (t .next - 1))) (bareAnswer (question b s) m b t s)
+  pub terminate-done : Done tapeBytes (terminateRows tables (r .work) (r .tally) (r .scalars) (8 * (t .next - 1))) (bareAnswer (question m b s) m b t s)
   unfolding question bareAnswer bare
   terminate-done = subst (λ (rows : Rows). Done tapeBytes rows (entering (endsOne a s₀))) (sym rows-are) ended

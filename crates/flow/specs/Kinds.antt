@@ -5,7 +5,7 @@ use mathlib.Core.List.{List}
 use lib.Dec.{eqb, leb}
 use lib.ListN.{getD}
 use Rattle.tables.specs.Layout.{listLeft}
-use Rattle.rows.specs.Layout.{standingField, nextField}
+use Rattle.rows.specs.Layout.{standingField, nextField, rowCount}
 use Rattle.rows.specs.Cells.{read, write}
 use Rattle.rows.specs.Make.{freeRow}
 use Rattle.state.specs.declared.scalars.Scalars.{Scalars}
@@ -14,12 +14,12 @@ use Rattle.state.specs.Stands.{Rows, rowsOf}
 use Rattle.moves.specs.Motion.{Moved, moved, withTally, next32, goOn, stopped}
 use Rattle.flow.specs.declared.samples.Sample.{Sample}
 use Rattle.flow.specs.Samples.{nextSample, useTime}
-use Rattle.flow.specs.Sending.{plus32, toFuture, toReady, arrives, copyOne}
+use Rattle.flow.specs.Sending.{priorities, plus32, toFuture, toReady, arrives, copyOne}
 use Rattle.flow.specs.Questions.{askRoom, askTime, askArrival}
 
 -- the row that moved is on a list: nobody moves
 unfoldable pub parked : Moved → Moved
-parked m = moved (putMoving 1024 (m .scalars)) (m .work)
+parked m = moved (putMoving rowCount (m .scalars)) (m .work)
 
 -- ---- 1 GENERATE list, priority
 
@@ -66,7 +66,7 @@ advanceRows tables tape w tally x at =
 
 unfoldable pub endOne : Scalars → ℕ → Scalars
 endOne x a =
-    putNote 0 (putEnd (cond (leb (x .counter) a) 2 0) (putCounter (x .counter - a) (putEnded (next32 (x .ended)) (putMoving 1024 x))))
+    putNote 0 (putEnd (cond (leb (x .counter) a) 2 0) (putCounter (x .counter - a) (putEnded (next32 (x .ended)) (putMoving rowCount x))))
 
 unfoldable pub terminateRows : (tables : List ℕ) → List ℕ → List ℕ → Scalars → (at : ℕ) → Rows
 terminateRows tables w tally x at = rowsOf (endOne x (getD tables (at + 1) 0)) (freeRow w (x .moving)) tally
@@ -74,7 +74,7 @@ terminateRows tables w tally x at = rowsOf (endOne x (getD tables (at + 1) 0)) (
 -- ---- 13 PRIORITY p
 
 unfoldable pub rankOn : List ℕ → Scalars → ℕ → Moved
-rankOn w x p = parked (toReady (write (goOn w x .work) standingField (x .moving) (p % 128 * 2)) (goOn w x .scalars) (x .moving))
+rankOn w x p = parked (toReady (write (goOn w x .work) standingField (x .moving) (p % priorities * 2)) (goOn w x .scalars) (x .moving))
 
 unfoldable pub priorityRows : (tables : List ℕ) → List ℕ → List ℕ → Scalars → (at : ℕ) → Rows
 priorityRows tables w tally x at = withTally (rankOn w x (getD tables (at + 1) 0)) tally

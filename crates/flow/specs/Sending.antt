@@ -3,7 +3,8 @@ use Prim.Native.Nat.{ℕ, _+_, _%_, min}
 use mathlib.Core.Bool.{cond}
 use mathlib.Core.List.{List}
 use lib.Dec.{ltb}
-use Rattle.rows.specs.Layout.{serialField, timeField, rel, fel, free}
+use Rattle.tables.specs.Layout.{most32}
+use Rattle.rows.specs.Layout.{serialField, timeField, rel, fel, free, rowCount}
 use Rattle.rows.specs.Cells.{write}
 use Rattle.rows.specs.Lists.{put, first, takeFirst}
 use Rattle.rows.specs.Make.{newbornAt, copyAt}
@@ -15,8 +16,12 @@ use Rattle.flow.specs.declared.samples.Sample.{Sample}
 use Rattle.flow.specs.Samples.{useTime}
 
 -- a sum that stops at the largest number
+-- a priority is below this number
+abbrev pub priorities : ℕ
+priorities = 128
+
 abbrev pub plus32 : ℕ → ℕ → ℕ
-plus32 a b = min (a + b) 4294967295
+plus32 a b = min (a + b) most32
 
 unfoldable pub toFuture : List ℕ → Scalars → ℕ → ℕ → Moved
 toFuture w x k time =
@@ -29,12 +34,12 @@ toReady w x k = moved (putSerial (next32 (x .serial)) x) (put (write w serialFie
 
 unfoldable pub bornAt : List ℕ → Scalars → ℕ → (time priority block : ℕ) → Moved
 bornAt w x k time priority block =
-    toFuture (newbornAt w k (next32 (x .made)) (priority % 128) block) (putMade (next32 (x .made)) x) k time
+    toFuture (newbornAt w k (next32 (x .made)) (priority % priorities) block) (putMade (next32 (x .made)) x) k time
 
 -- in the first free row; nothing where there is none
 unfoldable pub born : List ℕ → Scalars → (time priority block : ℕ) → Moved
 born w x time priority block =
-    cond (ltb (first w free) 1024) (bornAt (takeFirst w free) x (first w free) time priority block) (moved x (takeFirst w free))
+    cond (ltb (first w free) rowCount) (bornAt (takeFirst w free) x (first w free) time priority block) (moved x (takeFirst w free))
 
 -- at the clock plus a sample, which is used
 unfoldable pub arrives : List ℕ → List ℕ → Scalars → Sample → (list priority block : ℕ) → Rows
@@ -48,4 +53,4 @@ copyTo w x k target = toReady (copyAt w (x .moving) k (next32 (x .made)) target)
 
 unfoldable pub copyOne : List ℕ → Scalars → (target : ℕ) → Moved
 copyOne w x target =
-    cond (ltb (first w free) 1024) (copyTo (takeFirst w free) x (first w free) target) (moved x (takeFirst w free))
+    cond (ltb (first w free) rowCount) (copyTo (takeFirst w free) x (first w free) target) (moved x (takeFirst w free))

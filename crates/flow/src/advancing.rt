@@ -5,33 +5,38 @@ use crate::samples::next_sample;
 use crate::samples::times_left;
 use crate::samples::use_time;
 use crate::sending::to_future;
+use machine::ends::NO_TIME;
 use moves::go_on;
 use moves::stop;
+use state::NOBODY;
 use state::Scalars;
 use state::plus32;
+use tables::FIRST;
 use tables::number;
 ghost use mathlib.Core.Path.{_≡_};
 ghost use Prim.Native.Nat.{_+_, _<_, _≤_};
+ghost use Rattle.tables.specs.Layout.{programSize};
+ghost use Rattle.rows.specs.Layout.{Room, rowCount};
 ghost use Rattle.moves.specs.Motion.{moved};
 ghost use Rattle.state.specs.Stands.{rowsOf};
 ghost use Rattle.flow.specs.Kinds.{sendOn, delayRows, advanceNext, advanceRows};
 
 // The moving one goes to the FEL at a time, its next block plus one.
 fn send_on(work: &mut [u32], x: Scalars, time: u32) -> Scalars
-    requires { do ⌜ 16384 ≤ (← ⟦work.len()⟧) ⌝ }
-    requires { ⌜ x .moving < 1024 ⌝ }
+    requires { ⌜ Room (now work) ⌝ }
+    requires { ⌜ x .moving < rowCount ⌝ }
     ensures { λ r. ⌜ moved r (now (work .exit)) ≡ sendOn (now (work .entry)) x time ⌝ }
 {
     let k = x.moving;
     let y = go_on(work, x);
     let mut z = to_future(work, y, k, time);
-    z.moving = 1024;
+    z.moving = NOBODY;
     z
 }
 
 fn delay(work: &mut [u32], tally: &mut [u64], x: Scalars, sample: Sample, list: u32) -> Scalars
-    requires { do ⌜ 16384 ≤ (← ⟦work.len()⟧) ⌝ }
-    requires { ⌜ x .moving < 1024 ⌝ }
+    requires { ⌜ Room (now work) ⌝ }
+    requires { ⌜ x .moving < rowCount ⌝ }
     ensures { λ r. ⌜ rowsOf r (now (work .exit)) (now (tally .exit)) ≡ delayRows (now (work .entry)) (now (tally .entry)) x sample list ⌝ }
 {
     let next = sample.next;
@@ -41,8 +46,8 @@ fn delay(work: &mut [u32], tally: &mut [u64], x: Scalars, sample: Sample, list: 
 }
 
 fn advance_next(tape: &[u8], work: &mut [u32], tally: &mut [u64], x: Scalars, list: u32) -> Scalars
-    requires { do ⌜ 16384 ≤ (← ⟦work.len()⟧) ⌝ }
-    requires { ⌜ x .moving < 1024 ⌝ }
+    requires { ⌜ Room (now work) ⌝ }
+    requires { ⌜ x .moving < rowCount ⌝ }
     ensures { λ r. ⌜ rowsOf r (now (work .exit)) (now (tally .exit)) ≡ advanceNext (now (tape .entry)) (now (work .entry)) (now (tally .entry)) x list ⌝ }
 {
     let sample = next_sample(tape, tally, list);
@@ -61,14 +66,14 @@ pub fn advance(
     x: Scalars,
     at: usize,
 ) -> Scalars
-    requires { do ⌜ 16384 ≤ (← ⟦work.len()⟧) ⌝ }
-    requires { ⌜ x .moving < 1024 ⌝ }
-    requires { ⌜ at < 2048 ⌝ }
+    requires { ⌜ Room (now work) ⌝ }
+    requires { ⌜ x .moving < rowCount ⌝ }
+    requires { ⌜ at < programSize ⌝ }
     ensures { λ r. ⌜ rowsOf r (now (work .exit)) (now (tally .exit)) ≡ advanceRows (now (tables .entry)) (now (tape .entry)) (now (work .entry)) (now (tally .entry)) x at ⌝ }
 {
-    let list = number(tables, at + 1);
+    let list = number(tables, at + FIRST);
     if times_left(tally, list) == 0 {
-        return stop(x, 23);
+        return stop(x, NO_TIME);
     }
     advance_next(tape, work, tally, x, list)
 }

@@ -6,11 +6,16 @@ use crate::samples::times_left;
 use crate::sending::arrives;
 use moves::go_on;
 use moves::stop;
+use rows::NEXT;
 use rows::cells::read;
 use state::Scalars;
+use tables::FIRST;
+use tables::SECOND;
 use tables::number;
 ghost use mathlib.Core.Path.{_≡_};
 ghost use Prim.Native.Nat.{_+_, _<_, _≤_};
+ghost use Rattle.tables.specs.Layout.{programSize};
+ghost use Rattle.rows.specs.Layout.{Room, rowCount};
 ghost use Rattle.state.specs.Stands.{rowsOf};
 ghost use Rattle.flow.specs.Kinds.{arriveOn, generateNext, generateRows};
 
@@ -23,11 +28,11 @@ fn arrive_on(
     list: u32,
     priority: u32,
 ) -> Scalars
-    requires { do ⌜ 16384 ≤ (← ⟦work.len()⟧) ⌝ }
-    requires { ⌜ x .moving < 1024 ⌝ }
+    requires { ⌜ Room (now work) ⌝ }
+    requires { ⌜ x .moving < rowCount ⌝ }
     ensures { λ r. ⌜ rowsOf r (now (work .exit)) (now (tally .exit)) ≡ arriveOn (now (work .entry)) (now (tally .entry)) x sample list priority ⌝ }
 {
-    let block = read(work, 6, x.moving);
+    let block = read(work, NEXT, x.moving);
     let y = go_on(work, x);
     arrives(work, tally, y, sample, list, priority, block)
 }
@@ -40,8 +45,8 @@ fn generate_next(
     list: u32,
     priority: u32,
 ) -> Scalars
-    requires { do ⌜ 16384 ≤ (← ⟦work.len()⟧) ⌝ }
-    requires { ⌜ x .moving < 1024 ⌝ }
+    requires { ⌜ Room (now work) ⌝ }
+    requires { ⌜ x .moving < rowCount ⌝ }
     ensures { λ r. ⌜ rowsOf r (now (work .exit)) (now (tally .exit)) ≡ generateNext (now (tape .entry)) (now (work .entry)) (now (tally .entry)) x list priority ⌝ }
 {
     let sample = next_sample(tape, tally, list);
@@ -60,15 +65,15 @@ pub fn generate(
     x: Scalars,
     at: usize,
 ) -> Scalars
-    requires { do ⌜ 16384 ≤ (← ⟦work.len()⟧) ⌝ }
-    requires { ⌜ x .moving < 1024 ⌝ }
-    requires { ⌜ at < 2048 ⌝ }
+    requires { ⌜ Room (now work) ⌝ }
+    requires { ⌜ x .moving < rowCount ⌝ }
+    requires { ⌜ at < programSize ⌝ }
     ensures { λ r. ⌜ rowsOf r (now (work .exit)) (now (tally .exit)) ≡ generateRows (now (tables .entry)) (now (tape .entry)) (now (work .entry)) (now (tally .entry)) x at ⌝ }
 {
-    let list = number(tables, at + 1);
+    let list = number(tables, at + FIRST);
     if times_left(tally, list) == 0 {
         return go_on(work, x);
     }
-    let priority = number(tables, at + 2);
+    let priority = number(tables, at + SECOND);
     generate_next(tape, work, tally, x, list, priority)
 }

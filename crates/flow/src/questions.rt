@@ -1,29 +1,35 @@
 // The questions of GENERATE, ADVANCE and SPLIT: 0 where the answer is yes, else the number of the end.
 use machine::Model;
+use machine::ends::NO_PLACE;
+use machine::ends::TOO_LATE;
 use state::Scalars;
 use state::less32;
 use state::plus32;
 ghost use mathlib.Core.Path.{_≡_};
 ghost use Rattle.flow.specs.Questions.{askRoom, askTime, firstNo, askArrival};
 
+const MAX_LIVING: u32 = Model::MAX_LIVING as u32;
+
+const MAX_CLOCK: u32 = Model::MAX_CLOCK as u32;
+
 // "Is a living place free for each new one?"
 pub fn ask_room(x: Scalars, n: u32) -> u32
     ensures { λ r. ⌜ r ≡ askRoom x n ⌝ }
 {
-    if plus32(less32(x.made, x.ended), n) <= Model::MAX_LIVING as u32 {
+    if plus32(less32(x.made, x.ended), n) <= MAX_LIVING {
         return 0;
     }
-    21
+    NO_PLACE
 }
 
 // "Is the move time at most 2,000,000,000?"
 pub fn ask_time(x: Scalars, time: u32) -> u32
     ensures { λ r. ⌜ r ≡ askTime x time ⌝ }
 {
-    if plus32(x.clock, time) <= 2_000_000_000 {
+    if plus32(x.clock, time) <= MAX_CLOCK {
         return 0;
     }
-    22
+    TOO_LATE
 }
 
 fn first_no(a: u32, b: u32) -> u32

@@ -1,26 +1,32 @@
 // 13 PRIORITY p.
+use crate::sending::PRIORITIES;
 use crate::sending::to_ready;
 use moves::go_on;
+use rows::STANDING;
 use rows::cells::write;
+use state::NOBODY;
 use state::Scalars;
+use tables::FIRST;
 use tables::number;
 ghost use mathlib.Core.Path.{_≡_};
 ghost use Prim.Native.Nat.{_+_, _<_, _≤_};
+ghost use Rattle.tables.specs.Layout.{programSize};
+ghost use Rattle.rows.specs.Layout.{Room, rowCount};
 ghost use Rattle.moves.specs.Motion.{moved};
 ghost use Rattle.state.specs.Stands.{rowsOf};
 ghost use Rattle.flow.specs.Kinds.{rankOn, priorityRows};
 
 // The moving one goes to REL with a priority, its next block plus one.
 fn rank_on(work: &mut [u32], x: Scalars, p: u32) -> Scalars
-    requires { do ⌜ 16384 ≤ (← ⟦work.len()⟧) ⌝ }
-    requires { ⌜ x .moving < 1024 ⌝ }
+    requires { ⌜ Room (now work) ⌝ }
+    requires { ⌜ x .moving < rowCount ⌝ }
     ensures { λ r. ⌜ moved r (now (work .exit)) ≡ rankOn (now (work .entry)) x p ⌝ }
 {
     let k = x.moving;
     let y = go_on(work, x);
-    write(work, 1, k, p % 128 * 2);
+    write(work, STANDING, k, p % PRIORITIES * 2);
     let mut z = to_ready(work, y, k);
-    z.moving = 1024;
+    z.moving = NOBODY;
     z
 }
 
@@ -31,11 +37,11 @@ pub fn priority(
     x: Scalars,
     at: usize,
 ) -> Scalars
-    requires { do ⌜ 16384 ≤ (← ⟦work.len()⟧) ⌝ }
-    requires { ⌜ x .moving < 1024 ⌝ }
-    requires { ⌜ at < 2048 ⌝ }
+    requires { ⌜ Room (now work) ⌝ }
+    requires { ⌜ x .moving < rowCount ⌝ }
+    requires { ⌜ at < programSize ⌝ }
     ensures { λ r. ⌜ rowsOf r (now (work .exit)) (now (tally .exit)) ≡ priorityRows (now (tables .entry)) (now (work .entry)) (now (tally .entry)) x at ⌝ }
 {
-    let p = number(tables, at + 1);
+    let p = number(tables, at + FIRST);
     rank_on(work, x, p)
 }

@@ -9,6 +9,7 @@ use tables::set_count;
 ghost use mathlib.Core.Path.{_≡_};
 ghost use Prim.Native.Nat.{_+_};
 ghost use lib.ListN.{getD};
+ghost use Rattle.tables.specs.Layout as Layout;
 ghost use Rattle.flow.specs.Samples.{sampleAt, nextSample, useTime};
 
 // A time and the position after it.
@@ -40,7 +41,7 @@ pub fn next_sample(tape: &[u8], tally: &[u64], list: u32) -> Sample
 
 // How many times of a list are left.
 pub fn times_left(tally: &[u64], list: u32) -> u64
-    ensures { λ r. ⌜ r ≡ getD (now (tally .entry)) (944 + list) 0 ⌝ }
+    ensures { λ r. ⌜ r ≡ getD (now (tally .entry)) (Layout.listLeft + list) 0 ⌝ }
 {
     let l = list as usize;
     count(tally, LIST_LEFT + l)

@@ -1,8 +1,12 @@
 // Rows on no list go to the FEL or to REL with a fresh serial; new rows for both.
 use crate::samples::Sample;
 use crate::samples::use_time;
+use machine::Model;
 use rows::FEL;
 use rows::REL;
+use rows::ROWS;
+use rows::SERIAL;
+use rows::TIME;
 use rows::cells::write;
 use rows::lists::put;
 use rows::make::copy;
@@ -12,18 +16,22 @@ use state::Scalars;
 use state::plus32;
 ghost use mathlib.Core.Path.{_≡_};
 ghost use Prim.Native.Nat.{_<_, _≤_};
+ghost use Rattle.rows.specs.Layout.{Room, rowCount};
 ghost use Rattle.moves.specs.Motion.{moved};
 ghost use Rattle.state.specs.Stands.{rowsOf};
 ghost use Rattle.flow.specs.Sending.{toFuture, toReady, bornAt, born, arrives, copyTo, copyOne};
 
+// A priority is below this number.
+pub const PRIORITIES: u32 = Model::MAX_PRIORITY as u32 + 1;
+
 pub fn to_future(work: &mut [u32], x: Scalars, k: u32, time: u32) -> Scalars
-    requires { do ⌜ 16384 ≤ (← ⟦work.len()⟧) ⌝ }
-    requires { ⌜ k < 1024 ⌝ }
+    requires { ⌜ Room (now work) ⌝ }
+    requires { ⌜ k < rowCount ⌝ }
     ensures { λ r. ⌜ moved r (now (work .exit)) ≡ toFuture (now (work .entry)) x k time ⌝ }
 {
     let serial = plus32(x.serial, 1);
-    write(work, 7, k, serial);
-    write(work, 8, k, time);
+    write(work, SERIAL, k, serial);
+    write(work, TIME, k, time);
     put(work, FEL, k);
     let mut y = x;
     y.serial = serial;
@@ -31,12 +39,12 @@ pub fn to_future(work: &mut [u32], x: Scalars, k: u32, time: u32) -> Scalars
 }
 
 pub fn to_ready(work: &mut [u32], x: Scalars, k: u32) -> Scalars
-    requires { do ⌜ 16384 ≤ (← ⟦work.len()⟧) ⌝ }
-    requires { ⌜ k < 1024 ⌝ }
+    requires { ⌜ Room (now work) ⌝ }
+    requires { ⌜ k < rowCount ⌝ }
     ensures { λ r. ⌜ moved r (now (work .exit)) ≡ toReady (now (work .entry)) x k ⌝ }
 {
     let serial = plus32(x.serial, 1);
-    write(work, 7, k, serial);
+    write(work, SERIAL, k, serial);
     put(work, REL, k);
     let mut y = x;
     y.serial = serial;
@@ -45,23 +53,23 @@ pub fn to_ready(work: &mut [u32], x: Scalars, k: u32) -> Scalars
 
 // Row k becomes a new transaction at a block, on the FEL at a time.
 fn born_at(work: &mut [u32], x: Scalars, k: u32, time: u32, priority: u32, block: u32) -> Scalars
-    requires { do ⌜ 16384 ≤ (← ⟦work.len()⟧) ⌝ }
-    requires { ⌜ k < 1024 ⌝ }
+    requires { ⌜ Room (now work) ⌝ }
+    requires { ⌜ k < rowCount ⌝ }
     ensures { λ r. ⌜ moved r (now (work .exit)) ≡ bornAt (now (work .entry)) x k time priority block ⌝ }
 {
     let number = plus32(x.made, 1);
-    newborn(work, k, number, priority % 128, block);
+    newborn(work, k, number, priority % PRIORITIES, block);
     let mut y = x;
     y.made = number;
     to_future(work, y, k, time)
 }
 
 fn born(work: &mut [u32], x: Scalars, time: u32, priority: u32, block: u32) -> Scalars
-    requires { do ⌜ 16384 ≤ (← ⟦work.len()⟧) ⌝ }
+    requires { ⌜ Room (now work) ⌝ }
     ensures { λ r. ⌜ moved r (now (work .exit)) ≡ born (now (work .entry)) x time priority block ⌝ }
 {
     let k = make_row(work);
-    if k >= 1024 {
+    if k >= ROWS {
         return x;
     }
     born_at(work, x, k, time, priority, block)
@@ -77,7 +85,7 @@ pub fn arrives(
     priority: u32,
     block: u32,
 ) -> Scalars
-    requires { do ⌜ 16384 ≤ (← ⟦work.len()⟧) ⌝ }
+    requires { ⌜ Room (now work) ⌝ }
     ensures { λ r. ⌜ rowsOf r (now (work .exit)) (now (tally .exit)) ≡ arrives (now (work .entry)) (now (tally .entry)) x sample list priority block ⌝ }
 {
     let next = sample.next;
@@ -88,9 +96,9 @@ pub fn arrives(
 
 // Row k becomes a copy of the moving one at a block, on REL.
 fn copy_to(work: &mut [u32], x: Scalars, k: u32, target: u32) -> Scalars
-    requires { do ⌜ 16384 ≤ (← ⟦work.len()⟧) ⌝ }
-    requires { ⌜ x .moving < 1024 ⌝ }
-    requires { ⌜ k < 1024 ⌝ }
+    requires { ⌜ Room (now work) ⌝ }
+    requires { ⌜ x .moving < rowCount ⌝ }
+    requires { ⌜ k < rowCount ⌝ }
     ensures { λ r. ⌜ moved r (now (work .exit)) ≡ copyTo (now (work .entry)) x k target ⌝ }
 {
     let number = plus32(x.made, 1);
@@ -101,12 +109,12 @@ fn copy_to(work: &mut [u32], x: Scalars, k: u32, target: u32) -> Scalars
 }
 
 pub fn copy_one(work: &mut [u32], x: Scalars, target: u32) -> Scalars
-    requires { do ⌜ 16384 ≤ (← ⟦work.len()⟧) ⌝ }
-    requires { ⌜ x .moving < 1024 ⌝ }
+    requires { ⌜ Room (now work) ⌝ }
+    requires { ⌜ x .moving < rowCount ⌝ }
     ensures { λ r. ⌜ moved r (now (work .exit)) ≡ copyOne (now (work .entry)) x target ⌝ }
 {
     let k = make_row(work);
-    if k >= 1024 {
+    if k >= ROWS {
         return x;
     }
     copy_to(work, x, k, target)

@@ -4,17 +4,21 @@ use crate::sending::copy_one;
 use moves::go_on;
 use moves::stop;
 use state::Scalars;
+use tables::FIRST;
+use tables::SECOND;
 use tables::number;
 ghost use mathlib.Core.Path.{_≡_};
 ghost use Prim.Native.Nat.{_+_, _<_, _≤_};
+ghost use Rattle.tables.specs.Layout.{programSize};
+ghost use Rattle.rows.specs.Layout.{Room, rowCount};
 ghost use Rattle.moves.specs.Motion.{moved};
 ghost use Rattle.state.specs.Stands.{rowsOf};
 ghost use Rattle.flow.specs.Kinds.{copiesOf, splitOn, splitRows};
 
 // n copies of the moving one at a block, one after the other.
 fn copies(work: &mut [u32], x: Scalars, n: u32, target: u32) -> Scalars
-    requires { do ⌜ 16384 ≤ (← ⟦work.len()⟧) ⌝ }
-    requires { ⌜ x .moving < 1024 ⌝ }
+    requires { ⌜ Room (now work) ⌝ }
+    requires { ⌜ x .moving < rowCount ⌝ }
     ensures { λ r. ⌜ moved r (now (work .exit)) ≡ copiesOf n (now (work .entry)) x target ⌝ }
 {
     let mut y = x;
@@ -27,8 +31,8 @@ fn copies(work: &mut [u32], x: Scalars, n: u32, target: u32) -> Scalars
 }
 
 fn split_on(work: &mut [u32], x: Scalars, n: u32, target: u32) -> Scalars
-    requires { do ⌜ 16384 ≤ (← ⟦work.len()⟧) ⌝ }
-    requires { ⌜ x .moving < 1024 ⌝ }
+    requires { ⌜ Room (now work) ⌝ }
+    requires { ⌜ x .moving < rowCount ⌝ }
     ensures { λ r. ⌜ moved r (now (work .exit)) ≡ splitOn (now (work .entry)) x n target ⌝ }
 {
     let y = go_on(work, x);
@@ -36,16 +40,16 @@ fn split_on(work: &mut [u32], x: Scalars, n: u32, target: u32) -> Scalars
 }
 
 pub fn split(tables: &[u32], work: &mut [u32], tally: &mut [u64], x: Scalars, at: usize) -> Scalars
-    requires { do ⌜ 16384 ≤ (← ⟦work.len()⟧) ⌝ }
-    requires { ⌜ x .moving < 1024 ⌝ }
-    requires { ⌜ at < 2048 ⌝ }
+    requires { ⌜ Room (now work) ⌝ }
+    requires { ⌜ x .moving < rowCount ⌝ }
+    requires { ⌜ at < programSize ⌝ }
     ensures { λ r. ⌜ rowsOf r (now (work .exit)) (now (tally .exit)) ≡ splitRows (now (tables .entry)) (now (work .entry)) (now (tally .entry)) x at ⌝ }
 {
-    let n = number(tables, at + 1);
+    let n = number(tables, at + FIRST);
     let end = ask_room(x, n);
     if end != 0 {
         return stop(x, end);
     }
-    let target = number(tables, at + 2);
+    let target = number(tables, at + SECOND);
     split_on(work, x, n, target)
 }

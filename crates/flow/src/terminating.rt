@@ -1,13 +1,19 @@
 // 3 TERMINATE a.
+use machine::ends::COUNTED;
 use rows::make::free_row;
+use state::ENTERED;
+use state::NOBODY;
 use state::Scalars;
 use state::less32;
 use state::plus32;
+use tables::FIRST;
 use tables::number;
 ghost use mathlib.Core.Path.{_≡_};
 ghost use mathlib.Core.Bool.{cond};
 ghost use Prim.Native.Nat.{_+_, _<_, _≤_};
 ghost use lib.Dec.{leb};
+ghost use Rattle.tables.specs.Layout.{programSize};
+ghost use Rattle.rows.specs.Layout.{Room, rowCount};
 ghost use Rattle.state.specs.Stands.{rowsOf};
 ghost use Rattle.flow.specs.Kinds.{endOne, terminateRows};
 
@@ -16,7 +22,7 @@ fn end_after(counter: u32, a: u32) -> u32
     ensures { λ r. ⌜ r ≡ cond (leb counter a) 2 0 ⌝ }
 {
     if counter <= a {
-        return 2;
+        return COUNTED;
     }
     0
 }
@@ -25,11 +31,11 @@ fn end_one(x: Scalars, a: u32) -> Scalars
     ensures { λ r. ⌜ r ≡ endOne x a ⌝ }
 {
     let mut y = x;
-    y.moving = 1024;
+    y.moving = NOBODY;
     y.ended = plus32(x.ended, 1);
     y.counter = less32(x.counter, a);
     y.end = end_after(x.counter, a);
-    y.note = 0;
+    y.note = ENTERED;
     y
 }
 
@@ -40,12 +46,12 @@ pub fn terminate(
     x: Scalars,
     at: usize,
 ) -> Scalars
-    requires { do ⌜ 16384 ≤ (← ⟦work.len()⟧) ⌝ }
-    requires { ⌜ x .moving < 1024 ⌝ }
-    requires { ⌜ at < 2048 ⌝ }
+    requires { ⌜ Room (now work) ⌝ }
+    requires { ⌜ x .moving < rowCount ⌝ }
+    requires { ⌜ at < programSize ⌝ }
     ensures { λ r. ⌜ rowsOf r (now (work .exit)) (now (tally .exit)) ≡ terminateRows (now (tables .entry)) (now (work .entry)) (now (tally .entry)) x at ⌝ }
 {
-    let a = number(tables, at + 1);
+    let a = number(tables, at + FIRST);
     free_row(work, x.moving);
     end_one(x, a)
 }

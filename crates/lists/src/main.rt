@@ -1,34 +1,50 @@
 // Runs the lists on a buffer that is full of stale numbers and writes the transactions' numbers in the order in which they are
 // taken; then a number past the 16,384th, which must be as it was.
 
-ghost use Prim.Native.Nat.{_<_, _≤_};
+use rows::FEL;
+use rows::HEADS;
+use rows::NUMBER;
+use rows::REL;
+use rows::ROWS;
+use rows::SERIAL;
+use rows::TIME;
+ghost use Prim.Native.Nat.{_<_};
+ghost use Rattle.rows.specs.Layout.{listCount, priorityEnd, Room};
+
+// More than the layout needs.
+const LENT: usize = 16_400;
+
+// The QL of the first server.
+const QL: u32 = 0;
+
+const QL_HEAD: u32 = HEADS + QL;
 
 // A new transaction on list p.
 fn enter(w: &mut [u32], p: u32, number: u32, priority: u32, time: u32)
-    requires { do ⌜ 16384 ≤ (← ⟦w.len()⟧) ⌝ }
-    requires { ⌜ p < 512 ⌝ }
-    requires { ⌜ priority < 128 ⌝ }
+    requires { ⌜ Room (now w) ⌝ }
+    requires { ⌜ p < listCount ⌝ }
+    requires { ⌜ priority < priorityEnd ⌝ }
 {
     let k = rows::make::make_row(w);
-    if k >= 1024 {
+    if k >= ROWS {
         return;
     }
     rows::make::newborn(w, k, number, priority, 1);
-    rows::cells::write(w, 7, k, number);
-    rows::cells::write(w, 8, k, time);
+    rows::cells::write(w, SERIAL, k, number);
+    rows::cells::write(w, TIME, k, time);
     rows::lists::put(w, p, k);
 }
 
 // The number of the first of list p, which ends; 0 if there is none.
 fn leave(w: &mut [u32], p: u32) -> u32
-    requires { do ⌜ 16384 ≤ (← ⟦w.len()⟧) ⌝ }
-    requires { ⌜ p < 512 ⌝ }
+    requires { ⌜ Room (now w) ⌝ }
+    requires { ⌜ p < listCount ⌝ }
 {
     let k = rows::lists::take_first(w, p);
-    if k >= 1024 {
+    if k >= ROWS {
         return 0;
     }
-    let number = rows::cells::read(w, 0, k);
+    let number = rows::cells::read(w, NUMBER, k);
     rows::make::free_row(w, k);
     number
 }
@@ -40,11 +56,11 @@ fn show(number: u32) {
 
 // Writes all of list p, first to last.
 fn drain(w: &mut [u32], p: u32)
-    requires { do ⌜ 16384 ≤ (← ⟦w.len()⟧) ⌝ }
-    requires { ⌜ p < 512 ⌝ }
+    requires { ⌜ Room (now w) ⌝ }
+    requires { ⌜ p < listCount ⌝ }
 {
     let mut i: u32 = 0;
-    while i < 1024 {
+    while i < ROWS {
         let number = leave(w, p);
         if number == 0 {
             return;
@@ -56,52 +72,70 @@ fn drain(w: &mut [u32], p: u32)
 
 // REL by priority, then serial: 5 2 4 1 3.
 fn ready(w: &mut [u32])
-    requires { do ⌜ 16384 ≤ (← ⟦w.len()⟧) ⌝ }
+    requires { ⌜ Room (now w) ⌝ }
 {
-    enter(w, 449, 1, 0, 0);
-    enter(w, 449, 2, 5, 0);
-    enter(w, 449, 3, 0, 0);
-    enter(w, 449, 4, 5, 0);
-    enter(w, 449, 5, 9, 0);
-    drain(w, 449);
+    enter(w, REL, 1, 0, 0);
+    enter(w, REL, 2, 5, 0);
+    enter(w, REL, 3, 0, 0);
+    enter(w, REL, 4, 5, 0);
+    enter(w, REL, 5, 9, 0);
+    drain(w, REL);
 }
 
 // The FEL by time first; those of time 10 arrive on REL: 8 7, then 9 6 are left.
 fn future(w: &mut [u32])
-    requires { do ⌜ 16384 ≤ (← ⟦w.len()⟧) ⌝ }
+    requires { ⌜ Room (now w) ⌝ }
 {
-    enter(w, 450, 6, 9, 30);
-    enter(w, 450, 7, 1, 10);
-    enter(w, 450, 8, 3, 10);
-    enter(w, 450, 9, 0, 20);
+    enter(w, FEL, 6, 9, 30);
+    enter(w, FEL, 7, 1, 10);
+    enter(w, FEL, 8, 3, 10);
+    enter(w, FEL, 9, 0, 20);
     rows::clock::arrive(w, 10, 9);
 }
 
 // A queue of three whose first is woken: 2, then 1 3.
 fn queue(w: &mut [u32])
-    requires { do ⌜ 16384 ≤ (← ⟦w.len()⟧) ⌝ }
+    requires { ⌜ Room (now w) ⌝ }
 {
-    enter(w, 0, 1, 0, 0);
-    enter(w, 0, 2, 1, 0);
-    enter(w, 0, 3, 0, 0);
-    rows::wake::wake_first(w, 0);
-    drain(w, 449);
-    drain(w, 0);
+    enter(w, QL, 1, 0, 0);
+    enter(w, QL, 2, 1, 0);
+    enter(w, QL, 3, 0, 0);
+    rows::wake::wake_first(w, QL);
+    drain(w, REL);
+    drain(w, QL);
+}
+
+// The second of a queue leaves, wherever it stands: 1 3 are left.
+fn middle(w: &mut [u32])
+    requires { ⌜ Room (now w) ⌝ }
+{
+    enter(w, QL, 1, 0, 0);
+    enter(w, QL, 2, 0, 0);
+    enter(w, QL, 3, 0, 0);
+    let second = rows::wake::after(w, QL_HEAD);
+    let k = rows::cells::load(w, second);
+    if k >= ROWS {
+        return;
+    }
+    rows::lists::remove(w, QL, k);
+    rows::make::free_row(w, k);
+    drain(w, QL);
 }
 
 fn exercise(w: &mut [u32])
-    requires { do ⌜ 16384 ≤ (← ⟦w.len()⟧) ⌝ }
+    requires { ⌜ Room (now w) ⌝ }
 {
     rows::make::initialise(w);
     ready(w);
     future(w);
-    drain(w, 449);
-    drain(w, 450);
+    drain(w, REL);
+    drain(w, FEL);
     queue(w);
+    middle(w);
 }
 
 fn main() {
-    let mut w: [u32; 16400] = [77; 16400];
+    let mut w: [u32; LENT] = [77; LENT];
     exercise(&mut w);
-    show(w[16399]);
+    show(w[LENT - 1]);
 }

@@ -11,29 +11,20 @@ use lib.ListN.{length, take, drop, length-set}
 use Rattle.machine.specs.Transaction.{Transaction, Event, precedes, earlier, newborn}
 use Rattle.machine.specs.Lists.{insert, those, others, flat}
 use Rattle.machine.specs.Term.{serverAt, free}
-use Rattle.machine.specs.Block.{Code, U, NU, E, NE, F, NF, Block, generate, advance, terminate, seize, release, enter, leave, waitServer, waitTerms, branch, goto, assign, priority, split, arrive, depart, facts, BlockModel, blockAt, status}
+use Rattle.machine.specs.Block.{Code, Share, facility, storage, shareServer, shareUnits, Block, generate, advance, terminate, takes, frees, waitServer, waitTerms, moves, assign, priority, split, counts, facts, BlockModel, blockAt, status, welIndex}
 use Rattle.machine.specs.State.{State, Logged}
 use Rattle.machine.specs.Setters.{withSerial, withPriority, withReturning, withNext, setSerial, setMoving}
-use Rattle.machine.specs.Moves.{recordOf, log, enters, moveTo, fresh, toRel, toFel, welIndex, qlOf, welOf, toQl, toWel, toWsl, mustWait, wakeFirstQl, wakeQl, wakeFirstWel, wakeWsl, setInUse, setContent, timesLeft, useTime, arrival, copies}
-use Rattle.machine.specs.Execute.{askAdvance, question, takeUnits, checkWels, endsOne, delay, effect, freeUnits}
+use Rattle.machine.specs.Moves.{recordOf, log, enters, moveTo, fresh, toRel, toFel, qlOf, welOf, toQl, toWel, toWsl, mustWait, wakeFirstQl, wakeQl, wakeFirstWel, wakeWsl, setInUse, setContent, timesLeft, useTime, arrival, copies}
+use Rattle.machine.specs.Execute.{askAdvance, question, takeUnits, wakeFor, checkWels, endsOne, delay, effect, freeUnits}
 use Rattle.machine.specs.Turn.{arriveAll, due, moveClock, nextEvents, takeFirst, takeReady, taking, answer, execute, waitsOn, wsScheme, turn}
 use Rattle.machine.specs.Run.{startAt, idle, start}
 use Rattle.machine.specs.Claims.{upTo, terminates}
-use Rattle.machine.proofs.Proper.{Proper, ProperBlock, Names, CodeServer, servers}
+use Rattle.machine.proofs.Proper.{Proper, ProperBlock, Names, servers, code-server, share-server}
 use Rattle.machine.proofs.RunLaws.{cond-cases}
 use Rattle.machine.proofs.Cases.{checkWels-kept, waitTerms-cases, wsScheme-cases, startOf-cases}
 use Rattle.machine.proofs.Kept.{taking-kept}
 use Rattle.machine.proofs.Shape.{Shape, shape-closed, ql-at, wel-at, wel-below}
 use Rattle.machine.proofs.Sums.{sumOn, sum-insert, sum-those, sum-first, sum-flat-set, sum-flat-none, sum-wake}
-
--- the server that a status code asks of exists
-pub code-server : (m : BlockModel) (code : Code) (v : ℕ) → CodeServer m code v → Names (servers m) v
-code-server m U v h = (h .0, omega arith)
-code-server m NU v h = (h .0, omega arith)
-code-server m E v h = (omega arith, h .1)
-code-server m NE v h = (omega arith, h .1)
-code-server m F v h = (omega arith, h .1)
-code-server m NF v h = (omega arith, h .1)
 
 module _ (m : BlockModel) (tape : List (List ℕ)) (f : ℕ → ℕ) where
   -- ---- Definition
@@ -255,6 +246,12 @@ module _ (m : BlockModel) (tape : List (List ℕ)) (f : ℕ → ℕ) where
           weighs-checkWels (by t) v (wakeQl p v (freeUnits v b (enters t idle-hand))) low high (h .wel-length)
           (weighs-wakeQl (by t) p v (freeUnits v b (enters t idle-hand)) (ql-at h v low high) entered)
 
+      balanced-frees : (x : Share) → Names (servers m) (shareServer x) → Shape m s
+          → Weighs (by t) (checkWels (shareServer x) (wakeFor m x (freeUnits (shareServer x) (shareUnits x) (enters t idle-hand))))
+      unfolding wakeFor shareServer shareUnits
+      balanced-frees (facility v) at h = balanced-release v 1 (at .0) (at .1) h
+      balanced-frees (storage v b) at h = balanced-leave _ v b (at .0) (at .1) h
+
       balanced-waitServer : (code : Code) (v : ℕ) → 1 ≤ v → v ≤ servers m → Shape m s → Balanced (effect m (waitServer code v) t idle-hand)
       unfolding effect moveTo enters log
       balanced-waitServer code v low high h =
@@ -262,7 +259,7 @@ module _ (m : BlockModel) (tape : List (List ℕ)) (f : ℕ → ℕ) where
           (λ e. weighs-wakeFirstWel (by t) v code (enters t idle-hand) (wel-at h v code low high) entered)
 
       -- a question has stopped the turn where there is no time
-      balanced-delay : (l : List ℕ) (list : ℕ) → askAdvance l s ≡ 0 → Balanced (delay l list t (enters t idle-hand))
+      balanced-delay : (l : List ℕ) (list : ℕ) → askAdvance m l s ≡ 0 → Balanced (delay l list t (enters t idle-hand))
       unfolding askAdvance delay toFel enters log
       balanced-delay [] list q = absurd (omega arith)
       balanced-delay (time ∷ l) list q =
@@ -277,32 +274,30 @@ module _ (m : BlockModel) (tape : List (List ℕ)) (f : ℕ → ℕ) where
     terminates-at e = ap (λ b. facts b .terminates) e
 
     -- the block's question was answered, and it is proper
-    balanced-effect : (b : Block) → blockAt m (t .next) ≡ b → question b s ≡ 0 → ProperBlock m b → Shape m s → Balanced (effect m b t idle-hand)
+    balanced-effect : (b : Block) → blockAt m (t .next) ≡ b → question m b s ≡ 0 → ProperBlock m b → Shape m s → Balanced (effect m b t idle-hand)
     unfolding effect moveTo facts enters log toRel setContent question
     balanced-effect (generate list p) e q good h = weighs-arrival (by t) _ list p _ _ (entered (terminates-at e))
     balanced-effect (advance list) e q good h = balanced-delay (terminates-at e) (timesLeft s list) list q
     balanced-effect (terminate a) e q good h = balanced-terminate a (terminates-at e)
-    balanced-effect (seize v) e q good h = balanced-takeUnits (terminates-at e) v 1 (good .0) (omega arith) h
-    balanced-effect (release v) e q good h = balanced-release (terminates-at e) v 1 (good .0) (omega arith) h
-    balanced-effect (enter v b) e q good h = balanced-takeUnits (terminates-at e) v b (omega arith) (good .0 .1) h
-    balanced-effect (leave v b) e q good h = balanced-leave (terminates-at e) _ v b (omega arith) (good .0 .1) h
+    balanced-effect (takes x) e q good h =
+        let at : Names (servers m) (shareServer x) = share-server m x good in
+        balanced-takeUnits (terminates-at e) (shareServer x) (shareUnits x) (at .0) (at .1) h
+    balanced-effect (frees x) e q good h = balanced-frees (terminates-at e) x (share-server m x good) h
     balanced-effect (waitServer code v) e q good h =
         let at : Names (servers m) v = code-server m code v good in
         balanced-waitServer (terminates-at e) code v (at .0) (at .1) h
     balanced-effect (waitTerms a r b) e q good h =
         let plain : facts (blockAt m (t .next)) .terminates ≡ 0 = terminates-at e in
         waitTerms-cases Balanced m a r b t idle-hand (λ k. balanced-waitWsl plain) (λ k. entered plain)
-    balanced-effect (branch a r b target) e q good h = entered (terminates-at e)
-    balanced-effect (goto target) e q good h = entered (terminates-at e)
+    balanced-effect (moves c target) e q good h = entered (terminates-at e)
     balanced-effect (assign k a) e q good h = entered (terminates-at e)
     balanced-effect (priority p) e q good h =
         weighs-toRel 0 (withPriority p (withReturning false (withNext (suc (t .next)) t))) (enters t idle-hand)
         (weighs-enters (by t + 0) t idle-hand (terminates-at e) in-hand)
     balanced-effect (split n target) e q good h = weighs-copies (by t) n target t _ (entered (terminates-at e))
-    balanced-effect (arrive q) e z good h = entered (terminates-at e)
-    balanced-effect (depart q) e z good h = entered (terminates-at e)
+    balanced-effect (counts c q) e z good h = entered (terminates-at e)
 
-    balanced-answer : (n : ℕ) → question (blockAt m (t .next)) s ≡ n → s .moving ≡ some t → Proper m tape → Shape m s
+    balanced-answer : (n : ℕ) → question m (blockAt m (t .next)) s ≡ n → s .moving ≡ some t → Proper m tape → Shape m s
         → Balanced (answer n m (blockAt m (t .next)) t s)
     unfolding answer
     balanced-answer zero q o proper h = balanced-effect _ refl q (proper .block (t .next)) h
@@ -337,7 +332,7 @@ module _ (m : BlockModel) (tape : List (List ℕ)) (f : ℕ → ℕ) where
   unfolding startAt
   balanced-startAt n [] s w = w
   balanced-startAt n (b ∷ l) s w =
-      balanced-startAt (suc n) l _ (startOf-cases Balanced b n s (λ e. w) (λ list p e. balanced-arrival _ list p n s w))
+      balanced-startAt (suc n) l _ (startOf-cases Balanced b n s (λ e. w) (λ e. balanced-arrival _ _ _ n s w))
 
   pub balanced-start : Balanced (start m tape)
   unfolding start

@@ -1,14 +1,15 @@
 -- What holds of both arms of a choice holds of the choice: the check of a WEL, WAITIF of terms, the WS scheme, the start. The
 -- other choices of a block, by `cond-cases`, stand in the proof of each claim.
 use Prim.Native.Nat.{ℕ}
-use mathlib.Core.Path.{_≡_, refl}
-use mathlib.Core.Bool.{true, false, not}
+use mathlib.Core.Path.{_≡_, refl, sym}
+use mathlib.Core.Bool.{Bool, true, false, not}
 use mathlib.Core.List.{List, [], _∷_}
 use mathlib.Core.Option.{Option}
 use borrow.Author.Tests.{eqb-true, eqb-false}
 use Rattle.machine.specs.Transaction.{Transaction}
 use Rattle.machine.specs.Term.{Term, Relation, serverAt, compare}
-use Rattle.machine.specs.Block.{Code, U, NU, E, NE, F, NF, status, Block, generate, advance, terminate, seize, release, enter, leave, waitServer, waitTerms, branch, goto, assign, priority, split, arrive, depart, facts, BlockModel}
+use Rattle.machine.specs.Facts.{isGenerate}
+use Rattle.machine.specs.Block.{Code, U, NU, E, NE, F, NF, status, Block, generate, advance, terminate, takes, frees, waitServer, waitTerms, moves, assign, priority, split, counts, facts, BlockModel}
 use Rattle.machine.specs.State.{State}
 use Rattle.machine.specs.Setters.{setMoving}
 use Rattle.machine.specs.Moves.{enters, goOn, toWsl, mustWait, wakeFirstWel, wakeWsl, timesLeft, arrival}
@@ -16,6 +17,14 @@ use Rattle.machine.specs.Execute.{askGenerate, askAdvance, question, che
 use Rattle.machine.specs.Turn.{waitsOn, wsScheme}
 use Rattle.machine.specs.Run.{startOf}
 use Rattle.machine.proofs.RunLaws.{cond-cases}
+
+not-true : (b : Bool) → not b ≡ true → b ≡ false
+not-true true e = sym e
+not-true false e = refl
+
+not-false : (b : Bool) → not b ≡ false → b ≡ true
+not-false true e = refl
+not-false false e = sym e
 
 module _ (Q : State → Type 0) where
   pub checkWel-cases : (v : ℕ) (code : Code) (s : State)
@@ -44,52 +53,34 @@ module _ (Q : State → Type 0) where
 
   -- at the start only a GENERATE does anything
   pub startOf-cases : (b : Block) (n : ℕ) (s : State) → (facts b .generates ≡ 0 → Q s)
-      → ((list p : ℕ) → b ≡ generate list p → Q (arrival (timesLeft s list) list p n s)) → Q (startOf b n s)
-  unfolding startOf facts
-  startOf-cases (generate list p) n s f g = g list p refl
-  startOf-cases (advance list) n s f g = f refl
-  startOf-cases (terminate a) n s f g = f refl
-  startOf-cases (seize v) n s f g = f refl
-  startOf-cases (release v) n s f g = f refl
-  startOf-cases (enter v b) n s f g = f refl
-  startOf-cases (leave v b) n s f g = f refl
-  startOf-cases (waitServer code v) n s f g = f refl
-  startOf-cases (waitTerms a r b) n s f g = f refl
-  startOf-cases (branch a r b target) n s f g = f refl
-  startOf-cases (goto target) n s f g = f refl
-  startOf-cases (assign k a) n s f g = f refl
-  startOf-cases (priority p) n s f g = f refl
-  startOf-cases (split k target) n s f g = f refl
-  startOf-cases (arrive q) n s f g = f refl
-  startOf-cases (depart q) n s f g = f refl
+      → ((facts b .generates ≡ 0 → ⊥) → Q (arrival (timesLeft s (facts b .generates)) (facts b .generates) (facts b .rank) n s)) → Q (startOf b n s)
+  unfolding startOf
+  startOf-cases b n s f g =
+      cond-cases Q (isGenerate (facts b)) _ _ (λ e. g (eqb-false _ _ (not-true _ e))) (λ e. f (eqb-true _ _ (not-false _ e)))
 
 -- ---- The questions do not ask who is moving
 
-ask-generate-hand : (l : List ℕ) (o : Option Transaction) (s : State) → askGenerate l (setMoving o s) ≡ askGenerate l s
+ask-generate-hand : (m : BlockModel) (l : List ℕ) (o : Option Transaction) (s : State) → askGenerate m l (setMoving o s) ≡ askGenerate m l s
 unfolding askGenerate
-ask-generate-hand [] o s = refl
-ask-generate-hand (x ∷ l) o s = refl
+ask-generate-hand m [] o s = refl
+ask-generate-hand m (x ∷ l) o s = refl
 
-ask-advance-hand : (l : List ℕ) (o : Option Transaction) (s : State) → askAdvance l (setMoving o s) ≡ askAdvance l s
+ask-advance-hand : (m : BlockModel) (l : List ℕ) (o : Option Transaction) (s : State) → askAdvance m l (setMoving o s) ≡ askAdvance m l s
 unfolding askAdvance
-ask-advance-hand [] o s = refl
-ask-advance-hand (x ∷ l) o s = refl
+ask-advance-hand m [] o s = refl
+ask-advance-hand m (x ∷ l) o s = refl
 
-pub question-hand : (b : Block) (o : Option Transaction) (s : State) → question b (setMoving o s) ≡ question b s
+pub question-hand : (m : BlockModel) (b : Block) (o : Option Transaction) (s : State) → question m b (setMoving o s) ≡ question m b s
 unfolding question
-question-hand (generate list p) o s = ask-generate-hand (timesLeft s list) o s
-question-hand (advance list) o s = ask-advance-hand (timesLeft s list) o s
-question-hand (terminate a) o s = refl
-question-hand (seize v) o s = refl
-question-hand (release v) o s = refl
-question-hand (enter v b) o s = refl
-question-hand (leave v b) o s = refl
-question-hand (waitServer code v) o s = refl
-question-hand (waitTerms a r b) o s = refl
-question-hand (branch a r b target) o s = refl
-question-hand (goto target) o s = refl
-question-hand (assign k a) o s = refl
-question-hand (priority p) o s = refl
-question-hand (split n target) o s = refl
-question-hand (arrive q) o s = refl
-question-hand (depart q) o s = refl
+question-hand m (generate list p) o s = ask-generate-hand m (timesLeft s list) o s
+question-hand m (advance list) o s = ask-advance-hand m (timesLeft s list) o s
+question-hand m (terminate a) o s = refl
+question-hand m (takes x) o s = refl
+question-hand m (frees x) o s = refl
+question-hand m (waitServer code v) o s = refl
+question-hand m (waitTerms a r b) o s = refl
+question-hand m (moves c target) o s = refl
+question-hand m (assign k a) o s = refl
+question-hand m (priority p) o s = refl
+question-hand m (split n target) o s = refl
+question-hand m (counts c q) o s = refl

@@ -7,6 +7,7 @@ use mathlib.Core.Path.{_≡_}
 use mathlib.Core.List.{List, reverse}
 use Rattle.machine.specs.Block.{BlockModel}
 use Rattle.machine.specs.State.{State}
+use Rattle.machine.specs.Rules.{Rules}
 use Rattle.machine.specs.Validate.{accept, validate}
 use Rattle.machine.specs.Run.{states}
 use Rattle.machine.specs.Claims.{InOrder, Keeps, Demand3, Proved}
@@ -46,11 +47,11 @@ module _ {m : BlockModel} {tape : List (List ℕ)} (proper : Proper m tape) (bud
       (in-order proper budget room))
 
 -- From bytes; the only hypothesis is that validation accepts.
-pub demand3 : (model tapeBytes : List ℕ) (work report budget room : ℕ) {m : BlockModel} {tape : List (List ℕ)}
-    → validate model tapeBytes work report ≡ accept m tape → Proved m tape budget room
-demand3 model tapeBytes work report budget room {m} {tape} accepted =
+pub demand3 : (rules : Rules) (model tapeBytes : List ℕ) (work report budget room : ℕ) {m : BlockModel} {tape : List (List ℕ)}
+    → validate rules model tapeBytes work report ≡ accept m tape → Proved m tape budget room
+demand3 rules model tapeBytes work report budget room {m} {tape} accepted =
     record {
-      demand = keeps-all (proper-from model tapeBytes work report accepted) budget room;
+      demand = keeps-all (proper-from rules model tapeBytes work report accepted) budget room;
       last-state = last m budget room tape;
       bounds = bounded m budget room tape;
     }

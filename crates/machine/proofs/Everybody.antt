@@ -1,15 +1,15 @@
 -- A claim about every transaction of a state: what the single moves of transactions keep, a turn and the start keep.
 use Prim.Native.Nat.{ℕ, zero, suc, _+_, _*_, _-_}
-use mathlib.Core.Path.{_≡_, refl, ap}
+use mathlib.Core.Path.{_≡_, refl}
 use mathlib.Core.Bool.{Bool, true, false}
 use mathlib.Core.List.{List, [], _∷_}
 use mathlib.Core.Option.{Option, none, some}
 use lib.ListN.{length, take, replicate}
 use Rattle.machine.specs.Transaction.{Transaction, Event, precedes, earlier, newborn}
-use Rattle.machine.specs.Block.{Code, BlockModel}
+use Rattle.machine.specs.Block.{Code, BlockModel, welIndex}
 use Rattle.machine.specs.State.{State}
 use Rattle.machine.specs.Setters.{withNext, withSerial, withReturning, setSerial}
-use Rattle.machine.specs.Moves.{log, enters, moveTo, fresh, toRel, toFel, toQl, toWel, toWsl, mustWait, wake, wakeFirstQl, wakeQl, wakeFirstWel, wakeWsl, setInUse, setContent, arrival, copies, qlOf, welOf, welIndex}
+use Rattle.machine.specs.Moves.{log, enters, moveTo, fresh, toRel, toFel, toQl, toWel, toWsl, mustWait, wake, wakeFirstQl, wakeQl, wakeFirstWel, wakeWsl, setInUse, setContent, arrival, copies, qlOf, welOf}
 use Rattle.machine.specs.Execute.{checkWels, endsOne, delay}
 use Rattle.machine.specs.Turn.{arriveAll, due, moveClock, nextEvents, takeFirst, takeReady, taking, wsScheme}
 use Rattle.machine.specs.Run.{idle}

@@ -11,16 +11,16 @@ use lib.Seq.{getD-set-same, getD-set-other}
 use Rattle.machine.specs.Transaction.{Transaction, precedes}
 use Rattle.machine.specs.Lists.{insert, setNth}
 use Rattle.machine.specs.Term.{Server, idleServer, serverAt}
-use Rattle.machine.specs.Block.{Code, U, NU, E, NE, F, NF, status, codeIndex, BlockModel, blockAt}
+use Rattle.machine.specs.Block.{Code, U, NU, E, NE, F, NF, status, codeIndex, BlockModel, blockAt, welIndex, facts}
 use Rattle.machine.specs.State.{State}
 use Rattle.machine.specs.Setters.{withReturning}
-use Rattle.machine.specs.Moves.{welIndex, welOf, wake, wakeFirstWel}
+use Rattle.machine.specs.Moves.{welOf, wake, wakeFirstWel}
 use Rattle.machine.specs.Execute.{checkWel, checkWels}
 use Rattle.machine.specs.Claims.{Each}
 use Rattle.machine.proofs.Proper.{servers}
 use Rattle.machine.proofs.Cases.{checkWel-cases}
 use Rattle.machine.proofs.Sorted.{each-insert, each-drop, some-inserted, at-set}
-use Rattle.machine.proofs.Waiting.{AtWel, welOfBlock, serverIn, WelWaits, codeTrue, nobodyWaits, oneReady, Gated}
+use Rattle.machine.proofs.Waiting.{AtWel, serverIn, WelWaits, codeTrue, nobodyWaits, oneReady, Gated}
 use Rattle.machine.proofs.Ready.{Grows, grows-wake, wel-more, wel-else}
 
 -- ---- Each server and code has a WEL of its own
@@ -152,7 +152,7 @@ module _ {m : BlockModel} (v : ℕ) (one : 1 ≤ v) (known : v ≤ servers m) wh
 module _ {m : BlockModel} {t : Transaction} {rel : List Transaction} {l : List Server} {wel : List (List Transaction)}
     (w : Gated m (t ∷ rel) l wel) where
   -- before that check, where t stands at no WAITIF
-  pub others-wait : (v : ℕ) (x : Server) (rel′ : List Transaction) → 1 ≤ v → welOfBlock (blockAt m (t .next)) ≡ 0 → Grows rel rel′
+  pub others-wait : (v : ℕ) (x : Server) (rel′ : List Transaction) → 1 ≤ v → facts (blockAt m (t .next)) .wel ≡ 0 → Grows rel rel′
       → (v′ : ℕ) (code : Code) → 1 ≤ v′ → v′ ≤ servers m → (v′ ≡ v → ⊥)
       → WelWaits m rel′ (serverIn (setNth l v x) v′) code (welIndex v′ code) (getD wel (welIndex v′ code) [])
   others-wait v x rel′ one off grows v′ code a b n =

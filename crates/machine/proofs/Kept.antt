@@ -8,14 +8,14 @@ use native.Mathlib.Omega.{arith}
 use borrow.Author.Tests.{leb-true}
 use lib.Dec.{T, eqb, leb}
 use lib.ListN.{set}
-use Rattle.machine.specs.Limits.{maxLiving, maxClock}
+use Rattle.machine.specs.Limits.{maxLiving}
 use Rattle.machine.specs.Transaction.{Transaction, Event}
 use Rattle.machine.specs.Term.{Queue, serverAt, queueAt, free}
-use Rattle.machine.specs.Block.{Code, Block, generate, advance, terminate, seize, release, enter, leave, waitServer, waitTerms, branch, goto, assign, priority, split, arrive, depart, BlockModel, blockAt, status}
+use Rattle.machine.specs.Block.{Code, Share, facility, storage, shareServer, shareUnits, Change, up, down, Block, generate, advance, terminate, takes, frees, waitServer, waitTerms, moves, assign, priority, split, counts, BlockModel, blockAt, status}
 use Rattle.machine.specs.State.{State, Logged}
 use Rattle.machine.specs.Setters.{setClock, setEntries, setQueues, setView, setCounter, setSamples, setQl, setWel, setWsl, setRel, setFel, setMoving, setSerial, setMade, setEnded, setTurns, setRecords, setWritten, setEnd}
 use Rattle.machine.specs.Moves.{log, enters, moveTo, toRel, toFel, toQl, toWel, toWsl, mustWait, wakeFirstQl, wakeQl, wakeFirstWel, wakeWsl, setInUse, setContent, timesLeft, arrival, copies}
-use Rattle.machine.specs.Execute.{unless, living, askGenerate, askAdvance, question, takeUnits, checkWels, endsOne, delay, effect, freeUnits}
+use Rattle.machine.specs.Execute.{unless, living, askGenerate, askAdvance, askContent, changed, question, takeUnits, wakeFor, checkWels, endsOne, delay, effect, freeUnits}
 use Rattle.machine.specs.Turn.{sample, arriveAll, moveClock, nextEvents, takeFirst, takeReady, taking, answer, execute, wsScheme, turn}
 use Rattle.machine.specs.Run.{startAt, idle, start}
 use Rattle.machine.specs.Claims.{statedEnd}
@@ -55,34 +55,42 @@ unless-stops : (b : Bool) (n later : ℕ) → Stop n → Stop later → Stop (un
 unless-stops true n later h k = k
 unless-stops false n later h k = h
 
-ask-generate : (l : List ℕ) (s : State) → Stop (askGenerate l s)
+ask-generate : (m : BlockModel) (l : List ℕ) (s : State) → Stop (askGenerate m l s)
 unfolding askGenerate
-ask-generate [] s = tt
-ask-generate (x ∷ l) s = unless-stops (leb (living s + 1) maxLiving) 21 _ tt (unless-stops (leb (s .view .clock + x) maxClock) 22 0 tt tt)
+ask-generate m [] s = tt
+ask-generate m (x ∷ l) s =
+    unless-stops (leb (living s + 1) maxLiving) 21 _ tt (unless-stops (leb (s .view .clock + x) (m .rules .maxClock)) 22 0 tt tt)
 
-ask-advance : (l : List ℕ) (s : State) → Stop (askAdvance l s)
+ask-advance : (m : BlockModel) (l : List ℕ) (s : State) → Stop (askAdvance m l s)
 unfolding askAdvance
-ask-advance [] s = tt
-ask-advance (x ∷ l) s = unless-stops (leb (s .view .clock + x) maxClock) 22 0 tt tt
+ask-advance m [] s = tt
+ask-advance m (x ∷ l) s = unless-stops (leb (s .view .clock + x) (m .rules .maxClock)) 22 0 tt tt
 
-pub question-stops : (b : Block) (s : State) → Stop (question b s)
+ask-content : (c : Change) (n : ℕ) → Stop (askContent c n)
+unfolding askContent
+ask-content up n = tt
+ask-content down n = unless-stops (leb 1 n) 25 0 tt tt
+
+-- one more at most
+pub changed-most : (c : Change) (n : ℕ) → changed c n ≤ n + 1
+unfolding changed
+changed-most up n = omega arith
+changed-most down n = omega arith
+
+pub question-stops : (m : BlockModel) (b : Block) (s : State) → Stop (question m b s)
 unfolding question
-question-stops (generate list p) s = ask-generate (timesLeft s list) s
-question-stops (advance list) s = ask-advance (timesLeft s list) s
-question-stops (release v) s = unless-stops (leb 1 (serverAt (s .view) v .inUse)) 24 0 tt tt
-question-stops (leave v b) s = unless-stops (leb b (serverAt (s .view) v .inUse)) 24 0 tt tt
-question-stops (split n target) s = unless-stops (leb (living s + n) maxLiving) 21 0 tt tt
-question-stops (depart q) s = unless-stops (leb 1 (queueAt (s .view) q .content)) 25 0 tt tt
-question-stops (terminate a) s = tt
-question-stops (seize v) s = tt
-question-stops (enter v b) s = tt
-question-stops (waitServer code v) s = tt
-question-stops (waitTerms a r b) s = tt
-question-stops (branch a r b target) s = tt
-question-stops (goto target) s = tt
-question-stops (assign k a) s = tt
-question-stops (priority p) s = tt
-question-stops (arrive q) s = tt
+question-stops m (generate list p) s = ask-generate m (timesLeft s list) s
+question-stops m (advance list) s = ask-advance m (timesLeft s list) s
+question-stops m (terminate a) s = tt
+question-stops m (takes x) s = tt
+question-stops m (frees x) s = unless-stops (leb (shareUnits x) (serverAt (s .view) (shareServer x) .inUse)) 24 0 tt tt
+question-stops m (waitServer code v) s = tt
+question-stops m (waitTerms a r b) s = tt
+question-stops m (moves c target) s = tt
+question-stops m (assign k a) s = tt
+question-stops m (priority p) s = tt
+question-stops m (split n target) s = unless-stops (leb (living s + n) maxLiving) 21 0 tt tt
+question-stops m (counts c q) s = ask-content c (queueAt (s .view) q .content)
 
 -- ---- Every part of a turn
 
@@ -166,27 +174,29 @@ module _ (Q : State → Type 0) (C : Closed Q) where
   unfolding wakeQl
   wakeQl-kept p v s h = C .ql _ _ _ (C .rel _ s h)
 
+  pub wakeFor-kept : (m : BlockModel) (x : Share) (s : State) → Q s → Q (wakeFor m x s)
+  unfolding wakeFor
+  wakeFor-kept m (facility v) s h = wakeFirstQl-kept v s h
+  wakeFor-kept m (storage v b) s h = wakeQl-kept _ v s h
+
   pub effect-kept : (m : BlockModel) (b : Block) (t : Transaction) (s : State) → Q s → Q (effect m b t s)
   unfolding effect setContent
   effect-kept m (generate list p) t s h = goes-on _ t _ (arrival-kept _ list p _ _ (enters-kept t s h))
   effect-kept m (advance list) t s h = delay-kept _ list t _ (enters-kept t s h)
   effect-kept m (terminate a) t s h = endsOne-kept a _ (enters-kept t s h)
-  effect-kept m (seize v) t s h = takeUnits-kept v 1 t s h
-  effect-kept m (release v) t s h = goes-on _ t _ (check-kept v _ (wakeFirstQl-kept v _ (freeUnits-kept v 1 _ (enters-kept t s h))))
-  effect-kept m (enter v b) t s h = takeUnits-kept v b t s h
-  effect-kept m (leave v b) t s h = goes-on _ t _ (check-kept v _ (wakeQl-kept _ v _ (freeUnits-kept v b _ (enters-kept t s h))))
+  effect-kept m (takes x) t s h = takeUnits-kept (shareServer x) (shareUnits x) t s h
+  effect-kept m (frees x) t s h =
+      goes-on _ t _ (check-kept (shareServer x) _ (wakeFor-kept m x _ (freeUnits-kept (shareServer x) (shareUnits x) _ (enters-kept t s h))))
   effect-kept m (waitServer code v) t s h =
       cond-cases Q (status code (serverAt (s .view) v)) _ _ (λ e. mustWait-kept (toWel v code) (toWel-kept v code) t s h)
       (λ e. goes-on _ t _ (wakeFirstWel-kept v code _ (enters-kept t s h)))
   effect-kept m (waitTerms a r b) t s h =
       waitTerms-cases Q m a r b t s (λ e. mustWait-kept toWsl toWsl-kept t s h) (λ e. goes-on _ t _ (enters-kept t s h))
-  effect-kept m (branch a r b target) t s h = goes-on _ t _ (enters-kept t s h)
-  effect-kept m (goto target) t s h = goes-on _ t _ (enters-kept t s h)
+  effect-kept m (moves c target) t s h = goes-on _ t _ (enters-kept t s h)
   effect-kept m (assign k a) t s h = goes-on _ _ _ (enters-kept t s h)
   effect-kept m (priority p) t s h = toRel-kept _ _ (enters-kept t s h)
   effect-kept m (split n target) t s h = goes-on _ t _ (copies-kept n target t _ (enters-kept t s h))
-  effect-kept m (arrive q) t s h = goes-on _ t _ (C .queues _ _ _ (enters-kept t s h))
-  effect-kept m (depart q) t s h = goes-on _ t _ (C .queues _ _ _ (enters-kept t s h))
+  effect-kept m (counts c q) t s h = goes-on _ t _ (C .queues _ _ _ (enters-kept t s h))
 
   pub arriveAll-kept : (l : List Event) (s : State) → Q s → Q (arriveAll l s)
   unfolding arriveAll
@@ -225,7 +235,7 @@ module _ (Q : State → Type 0) (C : Closed Q) where
   pub execute-kept : (m : BlockModel) (o : Option Transaction) (s : State) → Q s → Q (execute o m s)
   unfolding execute
   execute-kept m none s h = h
-  execute-kept m (some t) s h = answer-kept _ (question-stops (blockAt m (t .next)) s) m _ t s h
+  execute-kept m (some t) s h = answer-kept _ (question-stops m (blockAt m (t .next)) s) m _ t s h
 
   pub wakeWsl-kept : (p : Transaction → Bool) (s : State) → Q s → Q (wakeWsl p s)
   unfolding wakeWsl
@@ -237,7 +247,7 @@ module _ (Q : State → Type 0) (C : Closed Q) where
   pub startAt-kept : (n : ℕ) (l : List Block) (s : State) → Q s → Q (startAt n l s)
   unfolding startAt
   startAt-kept n [] s h = h
-  startAt-kept n (b ∷ l) s h = startAt-kept (suc n) l _ (startOf-cases Q b n s (λ e. h) (λ list p e. arrival-kept _ list p n s h))
+  startAt-kept n (b ∷ l) s h = startAt-kept (suc n) l _ (startOf-cases Q b n s (λ e. h) (λ e. arrival-kept _ _ _ n s h))
 
   pub start-kept : (m : BlockModel) (tape : List (List ℕ)) → Q (idle m tape) → Q (start m tape)
   unfolding start
@@ -247,4 +257,4 @@ module _ (Q : State → Type 0) (C : Closed Q) where
 pub turn-kept : (P Q : State → Type 0) → Closed P → Closed Q → (m : BlockModel) (s : State)
     → ((s′ : State) → P s′ → Q (setTurns (suc (s .turns)) s′)) → P s → Q (turn m s)
 unfolding turn
-turn-kept P Q C D m s counts h = wsScheme-kept Q D m _ (execute-kept Q D m _ _ (counts _ (taking-kept P C (s .moving) s h)))
+turn-kept P Q C D m s counted h = wsScheme-kept Q D m _ (execute-kept Q D m _ _ (counted _ (taking-kept P C (s .moving) s h)))

@@ -1,7 +1,7 @@
 -- The books of the run: the counts of made and ended transactions and the times left of each sample list are those that the
 -- records tell, at the start and after every turn.
 use Prim.Native.Nat.{ℕ, zero, suc, _+_, _-_, _≤_, _<_}
-use mathlib.Core.Path.{_≡_, refl, ap, _∙_, subst}
+use mathlib.Core.Path.{_≡_, refl, ap, _∙_, subst, sym}
 use mathlib.Core.Bool.{Bool, true, false, cond, not, _&&_}
 use mathlib.Core.List.{List, [], _∷_}
 use mathlib.Core.Option.{Option, none, some}
@@ -13,11 +13,12 @@ use lib.Seq.{getD-set-same, getD-set-other}
 use Rattle.machine.specs.Transaction.{Transaction, Event}
 use Rattle.machine.specs.Lists.{nth, setNth}
 use Rattle.machine.specs.Term.{serverAt, free}
-use Rattle.machine.specs.Block.{Block, generate, advance, terminate, seize, release, enter, leave, waitServer, waitTerms, branch, goto, assign, priority, split, arrive, depart, Facts, factsOf, facts, BlockModel, blockAt, status}
+use Rattle.machine.specs.Facts.{Facts}
+use Rattle.machine.specs.Block.{Share, facility, storage, shareServer, shareUnits, Block, generate, advance, terminate, takes, frees, waitServer, waitTerms, moves, assign, priority, split, counts, facts, BlockModel, blockAt, status}
 use Rattle.machine.specs.State.{State, Logged}
 use Rattle.machine.specs.Setters.{setMoving}
 use Rattle.machine.specs.Moves.{recordOf, log, enters, moveTo, toRel, toFel, toQl, toWel, toWsl, mustWait, wakeFirstQl, wakeQl, wakeFirstWel, wakeWsl, setInUse, setContent, timesLeft, arrival, copies}
-use Rattle.machine.specs.Execute.{askAdvance, question, takeUnits, checkWels, endsOne, delay, effect}
+use Rattle.machine.specs.Execute.{askAdvance, question, takeUnits, wakeFor, checkWels, endsOne, delay, effect}
 use Rattle.machine.specs.Turn.{arriveAll, moveClock, nextEvents, takeFirst, takeReady, taking, answer, execute, wsScheme, turn}
 use Rattle.machine.specs.Claims.{bit, timesOf, factsAt, entered, getsTime, usedBy, madeBy, endedBy, terminates}
 use Rattle.machine.proofs.Proper.{Proper, ProperBlock, Names}
@@ -161,7 +162,7 @@ module _ (m : BlockModel) (tape : List (List ℕ)) where
         }
 
     -- a question has stopped the turn where there is no time
-    booked-advance : (l : List ℕ) → timesLeft s list ≡ l → askAdvance l s ≡ 0 → facts (blockAt m (t .next)) .generates ≡ 0
+    booked-advance : (l : List ℕ) → timesLeft s list ≡ l → askAdvance m l s ≡ 0 → facts (blockAt m (t .next)) .generates ≡ 0
         → facts (blockAt m (t .next)) .copies ≡ 0 → facts (blockAt m (t .next)) .terminates ≡ 0 → Books (delay l list t (enters t s))
     unfolding askAdvance delay toFel enters log recordOf madeBy
     booked-advance [] e q gen c z = absurd (omega arith)
@@ -183,9 +184,9 @@ module _ (m : BlockModel) (tape : List (List ℕ)) where
       shift : suc n + s .made ≡ n + suc (s .made)
       shift = omega arith
 
-  booked-split : (n target : ℕ) (t : Transaction) (s : State) → Books s → facts (blockAt m (t .next)) ≡ factsOf 0 0 0 n 0 0 0 target false
+  booked-split : (n target : ℕ) (t : Transaction) (s : State) → Books s → facts (blockAt m (t .next)) ≡ facts (split n target)
       → Books (copies n target t (enters t s))
-  unfolding enters log recordOf madeBy
+  unfolding enters log recordOf madeBy facts
   booked-split n target t s h e =
       let r : Logged = record { entry = recordOf 0 t s; priority = t .priority } in
       booked-copies n target t (enters t s)
@@ -202,9 +203,9 @@ module _ (m : BlockModel) (tape : List (List ℕ)) where
             omega (arith, h .times list names, used-more r (s .records) list, unused true _ list (ap (λ φ. φ .uses) e) (names .0));
       })
 
-  booked-terminate : (a : ℕ) (t : Transaction) (s : State) → Books s → facts (blockAt m (t .next)) ≡ factsOf 0 0 1 0 0 0 0 0 true
+  booked-terminate : (a : ℕ) (t : Transaction) (s : State) → Books s → facts (blockAt m (t .next)) ≡ facts (terminate a)
       → Books (endsOne a (enters t s))
-  unfolding endsOne enters log recordOf madeBy
+  unfolding endsOne enters log recordOf madeBy facts
   booked-terminate a t s h e =
       let r : Logged = record { entry = recordOf 0 t s; priority = t .priority } in
       record {
@@ -222,18 +223,17 @@ module _ (m : BlockModel) (tape : List (List ℕ)) where
 
   -- ---- Every block
 
-  plain-facts : {φ : Facts} {server units queue target : ℕ} {leaves : Bool} → φ ≡ factsOf 0 0 0 0 server units queue target leaves → Plain φ
-  plain-facts e =
-      record {
-        generates = ap (λ φ. φ .generates) e;
-        uses = ap (λ φ. φ .uses) e;
-        copies = ap (λ φ. φ .copies) e;
-        terminates = ap (λ φ. φ .terminates) e;
-      }
+  plain-facts : {φ ψ : Facts} → φ ≡ ψ → ψ .generates ≡ 0 → ψ .uses ≡ 0 → ψ .copies ≡ 0 → ψ .terminates ≡ 0 → Plain φ
+  plain-facts e a b c d = subst Plain (sym e) (record { generates = a; uses = b; copies = c; terminates = d })
 
   booked-checkWels : (v : ℕ) (s : State) → Books s → Books (checkWels v s)
   unfolding wakeFirstWel
   booked-checkWels v s h = checkWels-kept Books v (λ code s h. h) s h
+
+  booked-wakeFor : (x : Share) (s : State) → Books s → Books (wakeFor m x s)
+  unfolding wakeFor wakeFirstQl wakeQl
+  booked-wakeFor (facility v) s h = h
+  booked-wakeFor (storage v b) s h = h
 
   module _ (t : Transaction) (s : State) (h : Books s) where
     module _ (plain : Plain (facts (blockAt m (t .next)))) where
@@ -249,8 +249,8 @@ module _ (m : BlockModel) (tape : List (List ℕ)) where
       booked-takeUnits v b =
           cond-cases Books (leb b (free (serverAt (s .view) v))) _ _ (λ e. booked-checkWels v _ booked-entered) (λ e. booked-mustWait (toQl v) (λ t s h. h))
 
-    booked-effect : (b : Block) → blockAt m (t .next) ≡ b → question b s ≡ 0 → ProperBlock m b → Shape m s → Books (effect m b t s)
-    unfolding effect moveTo facts question toRel toQl toWel toWsl wakeFirstQl wakeQl wakeFirstWel setInUse setContent
+    booked-effect : (b : Block) → blockAt m (t .next) ≡ b → question m b s ≡ 0 → ProperBlock m b → Shape m s → Books (effect m b t s)
+    unfolding effect moveTo facts question toRel toQl toWel toWsl wakeFirstWel setInUse setContent
     booked-effect (generate list p) e q good shape =
         booked-generate t s h list (good .0) shape (ap (λ b. facts b .uses) e) (timesLeft s list) p (t .next) refl (ap (λ b. facts b .generates) e)
         (ap (λ b. facts b .copies) e) (ap (λ b. facts b .terminates) e)
@@ -258,29 +258,26 @@ module _ (m : BlockModel) (tape : List (List ℕ)) where
         booked-advance t s h list good shape (ap (λ b. facts b .uses) e) (timesLeft s list) refl q (ap (λ b. facts b .generates) e)
         (ap (λ b. facts b .copies) e) (ap (λ b. facts b .terminates) e)
     booked-effect (terminate a) e q good shape = booked-terminate a t s h (ap facts e)
-    booked-effect (seize v) e q good shape = booked-takeUnits (plain-facts (ap facts e)) v 1
-    booked-effect (release v) e q good shape = booked-checkWels v _ (booked-entered (plain-facts (ap facts e)))
-    booked-effect (enter v b) e q good shape = booked-takeUnits (plain-facts (ap facts e)) v b
-    booked-effect (leave v b) e q good shape = booked-checkWels v _ (booked-entered (plain-facts (ap facts e)))
+    booked-effect (takes x) e q good shape = booked-takeUnits (plain-facts (ap facts e) refl refl refl refl) (shareServer x) (shareUnits x)
+    booked-effect (frees x) e q good shape =
+        booked-checkWels (shareServer x) _ (booked-wakeFor x _ (booked-entered (plain-facts (ap facts e) refl refl refl refl)))
     booked-effect (waitServer code v) e q good shape =
-        let plain : Plain (facts (blockAt m (t .next))) = plain-facts (ap facts e) in
+        let plain : Plain (facts (blockAt m (t .next))) = plain-facts (ap facts e) refl refl refl refl in
         cond-cases Books (status code (serverAt (s .view) v)) _ _ (λ k. booked-mustWait plain (toWel v code) (λ t s h. h)) (λ k. booked-entered plain)
     booked-effect (waitTerms a r b) e q good shape =
-        let plain : Plain (facts (blockAt m (t .next))) = plain-facts (ap facts e) in
+        let plain : Plain (facts (blockAt m (t .next))) = plain-facts (ap facts e) refl refl refl refl in
         waitTerms-cases Books m a r b t s (λ k. booked-mustWait plain toWsl (λ t s h. h)) (λ k. booked-entered plain)
-    booked-effect (branch a r b target) e q good shape = booked-entered (plain-facts (ap facts e))
-    booked-effect (goto target) e q good shape = booked-entered (plain-facts (ap facts e))
-    booked-effect (assign k a) e q good shape = booked-entered (plain-facts (ap facts e))
-    booked-effect (priority p) e q good shape = booked-entered (plain-facts (ap facts e))
+    booked-effect (moves c target) e q good shape = booked-entered (plain-facts (ap facts e) refl refl refl refl)
+    booked-effect (assign k a) e q good shape = booked-entered (plain-facts (ap facts e) refl refl refl refl)
+    booked-effect (priority p) e q good shape = booked-entered (plain-facts (ap facts e) refl refl refl refl)
     booked-effect (split n target) e q good shape = booked-split n target t s h (ap facts e)
-    booked-effect (arrive q) e z good shape = booked-entered (plain-facts (ap facts e))
-    booked-effect (depart q) e z good shape = booked-entered (plain-facts (ap facts e))
+    booked-effect (counts c q) e z good shape = booked-entered (plain-facts (ap facts e) refl refl refl refl)
 
-  booked-answer : (n : ℕ) (t : Transaction) (s : State) → question (blockAt m (t .next)) s ≡ n → Proper m tape → Shape m s → Books s
+  booked-answer : (n : ℕ) (t : Transaction) (s : State) → question m (blockAt m (t .next)) s ≡ n → Proper m tape → Shape m s → Books s
       → Books (answer n m (blockAt m (t .next)) t s)
   unfolding answer
   booked-answer zero t s q proper shape h =
-      booked-effect t (setMoving none s) h _ refl (question-hand (blockAt m (t .next)) none s ∙ q) (proper .block (t .next)) shape
+      booked-effect t (setMoving none s) h _ refl (question-hand m (blockAt m (t .next)) none s ∙ q) (proper .block (t .next)) shape
   booked-answer (suc n) t s q proper shape h = h
 
   booked-execute : (o : Option Transaction) (s : State) → Proper m tape → Shape m s → Books s → Books (execute o m s)

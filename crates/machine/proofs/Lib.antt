@@ -33,4 +33,7 @@ pub mod OutcomeLaws
 pub mod Everybody
 pub mod Placed
 pub mod Clocks
+pub mod Sorting
+pub mod Standing
+pub mod LivingListed
 pub mod Demand3

@@ -9,9 +9,9 @@ use native.Mathlib.Omega.{arith}
 use lib.ListN.{length}
 use Rattle.machine.specs.Lists.{those}
 use Rattle.machine.specs.Term.{serverAt}
-use Rattle.machine.specs.Block.{Code, U, NU, E, NE, F, NF, status, BlockModel}
+use Rattle.machine.specs.Block.{Code, U, NU, E, NE, F, NF, status, BlockModel, welIndex}
 use Rattle.machine.specs.State.{State}
-use Rattle.machine.specs.Moves.{qlOf, welOf, welIndex}
+use Rattle.machine.specs.Moves.{qlOf, welOf}
 use Rattle.machine.specs.Execute.{fits}
 use Rattle.machine.specs.Turn.{waitsOn}
 use Rattle.machine.specs.Run.{states}

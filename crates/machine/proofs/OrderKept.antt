@@ -103,7 +103,7 @@ module _ (m : BlockModel) (tape : List (List ℕ)) where
         subst (λ o. Ordered (execute o m s)) (sym e)
         (record { linked = l; in-order = in-order; unmarked = λ z. subst Unmarked (sym e) tt })
     ordered-execute s (hand t h) in-order shape =
-        subst (λ o. Ordered (execute o m s)) (sym (h .moves)) (ordered-answer t s h in-order proper shape (question (blockAt m (t .next)) s))
+        subst (λ o. Ordered (execute o m s)) (sym (h .moves)) (ordered-answer t s h in-order proper shape (question m (blockAt m (t .next)) s))
 
     ordered-wakeWsl : (p : Transaction → Bool) (s : State) → Ordered s → Ordered (wakeWsl p s)
     unfolding wakeWsl
@@ -157,7 +157,7 @@ module _ (m : BlockModel) (tape : List (List ℕ)) where
   unfolding startAt
   ordered-startAt n [] s h = h
   ordered-startAt n (b ∷ l) s h =
-      ordered-startAt (suc n) l _ (startOf-cases Ordered b n s (λ e. h) (λ list p e. ordered-arrival _ list p n s h))
+      ordered-startAt (suc n) l _ (startOf-cases Ordered b n s (λ e. h) (λ e. ordered-arrival _ _ _ n s h))
 
   pub ordered-start : Ordered (start m tape)
   unfolding start

@@ -4,17 +4,18 @@ use Prim.Native.Nat.{ℕ}
 use mathlib.Core.Path.{_≡_, refl}
 use mathlib.Core.List.{List}
 use native.Mathlib.Omega.{arith}
+use Rattle.machine.specs.Rules.{Rules}
 use Rattle.machine.specs.Validate.{Validation, accept, reject, validate}
 use Rattle.machine.specs.Outcome.{acceptedRun, refusedRun, outcomeOf, outcome}
 use Rattle.machine.specs.Claims.{Keeping}
 use Rattle.machine.proofs.Bounds.{bounded}
 use Rattle.machine.proofs.ProperFrom.{refusal-from}
 
-pub outcome-keeps : (model tape : List ℕ) (budget work room report : ℕ) → Keeping budget (outcome model tape budget work room report)
+pub outcome-keeps : (rules : Rules) (model tape : List ℕ) (budget work room report : ℕ) → Keeping budget (outcome rules model tape budget work room report)
 unfolding outcome outcomeOf acceptedRun refusedRun
-outcome-keeps model tape budget work room report = go (validate model tape work report) refl
+outcome-keeps rules model tape budget work room report = go (validate rules model tape work report) refl
   where
-    go : (v : Validation) → validate model tape work report ≡ v → Keeping budget (outcomeOf budget room v)
+    go : (v : Validation) → validate rules model tape work report ≡ v → Keeping budget (outcomeOf budget room v)
     go (accept m t) e =
         let b = bounded m budget room t in
         record {
@@ -25,7 +26,7 @@ outcome-keeps model tape budget work room report = go (validate model tape work 
           within-limit = b .within-limit;
         }
     go (reject n) e =
-        let r = refusal-from model tape work report e in
+        let r = refusal-from rules model tape work report e in
         record {
           refusals = r .1;
           stated = λ z. absurd (omega (arith, r .0));

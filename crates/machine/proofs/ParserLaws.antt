@@ -9,9 +9,9 @@ use native.Mathlib.Omega.{arith}
 use borrow.Author.Tests.{leb-true}
 use lib.Dec.{T, leb}
 use lib.ListN.{length, drop}
-use Rattle.machine.specs.Limits.{maxNumberBytes, maxNumber}
+use Rattle.machine.specs.Limits.{maxNumberBytes}
 use Rattle.machine.specs.Number.{Number, readNumber}
-use Rattle.machine.specs.Parser.{Cursor, Parsed, parsed, refused, Parser, continue, _>>=_, give, refuse, ask, times, forward, fieldOf, field}
+use Rattle.machine.specs.Parser.{Cursor, Parsed, parsed, refused, Parser, continue, _>>=_, give, refuse, ask, times, forward, fieldOf, fieldUpTo}
 use Rattle.machine.specs.Claims.{Each}
 use Rattle.machine.proofs.RunLaws.{cond-cases}
 
@@ -86,7 +86,7 @@ field-of code lo hi low high (some n) c =
     (leb-true lo (n .value) (tests .0), leb-true (n .value) hi (tests .1)))
     (λ e. (omega arith, omega arith))
 
-pub in-range : (s : List ℕ) (code lo hi : ℕ) → 1 ≤ code → code ≤ 9 → Ensures (λ n. (lo ≤ n) × (n ≤ hi)) (field s code lo hi)
-unfolding field
-in-range s code lo hi low high =
-    record { from = λ c. field-of code lo hi low high (readNumber maxNumberBytes maxNumber (drop (c .position) s)) c }
+pub in-range : (most : ℕ) (s : List ℕ) (code lo hi : ℕ) → 1 ≤ code → code ≤ 9 → Ensures (λ n. (lo ≤ n) × (n ≤ hi)) (fieldUpTo most s code lo hi)
+unfolding fieldUpTo
+in-range most s code lo hi low high =
+    record { from = λ c. field-of code lo hi low high (readNumber maxNumberBytes most (drop (c .position) s)) c }

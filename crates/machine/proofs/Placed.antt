@@ -1,7 +1,7 @@
 -- Every transaction of a run stands before a block of the model, with a priority in its range.
 use Prim.Native.Nat.{ℕ, zero, suc, _+_, _-_, _≤_, _<_}
-use mathlib.Core.Path.{_≡_, refl, ap, subst}
-use mathlib.Core.Bool.{Bool, true, false, not, _&&_, _||_}
+use mathlib.Core.Path.{_≡_, refl, subst}
+use mathlib.Core.Bool.{Bool, true, false, not, _&&_, _||_, cond}
 use mathlib.Core.List.{List, [], _∷_}
 use mathlib.Core.Option.{Option, none, some}
 use native.Mathlib.Omega.{arith}
@@ -9,16 +9,17 @@ use lib.Dec.{T, leb}
 use lib.ListN.{length, getD}
 use Rattle.machine.specs.Limits.{maxPriority}
 use Rattle.machine.specs.Transaction.{Transaction, newborn}
-use Rattle.machine.specs.Term.{compare, serverAt, free}
-use Rattle.machine.specs.Block.{Block, generate, advance, terminate, seize, release, enter, leave, waitServer, waitTerms, branch, goto, assign, priority, split, arrive, depart, facts, BlockModel, blockAt, status}
+use Rattle.machine.specs.Term.{compare, serverAt, free, truth, Condition, always, whenTrue}
+use Rattle.machine.specs.Block.{Share, facility, storage, shareServer, shareUnits, Block, generate, advance, terminate, takes, frees, waitServer, waitTerms, moves, assign, priority, split, counts, facts, BlockModel, blockAt, status, unconditional}
 use Rattle.machine.specs.State.{State}
 use Rattle.machine.specs.Setters.{withNext, setMoving, setTurns}
-use Rattle.machine.specs.Execute.{effect, takeUnits}
+use Rattle.machine.specs.Execute.{effect, takeUnits, wakeFor}
 use Rattle.machine.specs.Turn.{taking, answer, execute, turn}
 use Rattle.machine.specs.Run.{startAt, start, states}
 use Rattle.machine.specs.Claims.{Each}
-use Rattle.machine.specs.Validate.{wellFormed, wellPlaced, targetsMove, allOf, sumNames, isGenerate}
-use Rattle.machine.proofs.Proper.{Names, ProperBlock, Proper}
+use Rattle.machine.specs.Facts.{isGenerate}
+use Rattle.machine.specs.Validate.{wellFormed, wellPlaced, targetsMove, allOf, sumNames}
+use Rattle.machine.proofs.Proper.{Names, ProperBlock, Proper, generates-list}
 use Rattle.machine.proofs.RunLaws.{cond-cases, each-state}
 use Rattle.machine.proofs.Cases.{waitTerms-cases, startOf-cases}
 use Rattle.machine.proofs.Everybody.{Maybe, Everybody, Unmoved, toRel-everybody, waitQl-everybody, waitWel-everybody, waitWsl-everybody, moveTo-everybody, wakeFirstQl-everybody, wakeQl-everybody, wakeFirstWel-everybody, checkWels-everybody, wsScheme-everybody, arrival-everybody, copies-everybody, delay-everybody, enters-everybody, inUse-everybody, content-everybody, endsOne-everybody, taking-everybody, idle-everybody}
@@ -79,32 +80,37 @@ module _ (m : BlockModel) (tape : List (List ℕ)) (proper : Proper m tape) wher
         cond-cases (Everybody P) (leb b (free (serverAt (s .view) v))) _ _ (λ e. moveTo-everybody P U _ t _ next (checkWels-everybody P U v _ (inUse-everybody P U v _ _ h′)))
         (λ e. waitQl-everybody P U v t s p h)
 
+    wakeFor-everybody : (x : Share) (s : State) → Everybody P s → Everybody P (wakeFor m x s)
+    unfolding wakeFor
+    wakeFor-everybody (facility v) s h = wakeFirstQl-everybody P U v s h
+    wakeFor-everybody (storage v b) s h = wakeQl-everybody P U _ v s h
+
+    moves-placed : (c : Condition) (target : ℕ) → Names (length (m .blocks)) target → (unconditional c ≡ false → P (withNext (suc (t .next)) t))
+        → P (withNext (cond (truth (m .values) (s .view) (t .parameters) c) target (suc (t .next))) t)
+    unfolding truth unconditional
+    moves-placed always target ok on = (ok, p .1)
+    moves-placed (whenTrue a r b) target ok on =
+        cond-cases (λ (n : ℕ). P (withNext n t)) (compare (m .values) (s .view) (t .parameters) a r b) _ _ (λ e. (ok, p .1)) (λ e. on refl)
+
     effect-placed : (b : Block) → ProperBlock m b → (facts b .leaves ≡ false → P (withNext (suc (t .next)) t)) → Everybody P (effect m b t s)
     unfolding effect facts newborn
     effect-placed (generate list k) ok on = moveTo-everybody P U _ t _ (on refl) (arrival-everybody P U _ list k _ _ (p .0, ok .1) h′)
     effect-placed (advance list) ok on = delay-everybody P U _ list t _ (on refl) h′
     effect-placed (terminate a) ok on = endsOne-everybody P U a _ h′
-    effect-placed (seize v) ok on = units-placed v 1 (on refl)
-    effect-placed (release v) ok on =
-        moveTo-everybody P U _ t _ (on refl) (checkWels-everybody P U v _ (wakeFirstQl-everybody P U v _ (inUse-everybody P U v _ _ h′)))
-    effect-placed (enter v b) ok on = units-placed v b (on refl)
-    effect-placed (leave v b) ok on =
-        moveTo-everybody P U _ t _ (on refl) (checkWels-everybody P U v _ (wakeQl-everybody P U _ v _ (inUse-everybody P U v _ _ h′)))
+    effect-placed (takes x) ok on = units-placed (shareServer x) (shareUnits x) (on refl)
+    effect-placed (frees x) ok on =
+        moveTo-everybody P U _ t _ (on refl)
+        (checkWels-everybody P U (shareServer x) _ (wakeFor-everybody x _ (inUse-everybody P U (shareServer x) _ _ h′)))
     effect-placed (waitServer code v) ok on =
         cond-cases (Everybody P) (status code (serverAt (s .view) v)) _ _ (λ e. waitWel-everybody P U v code t s p h)
         (λ e. moveTo-everybody P U _ t _ (on refl) (wakeFirstWel-everybody P U v code _ h′))
     effect-placed (waitTerms a r b) ok on =
         waitTerms-cases (Everybody P) m a r b t s (λ e. waitWsl-everybody P U t s p h) (λ e. moveTo-everybody P U _ t _ (on refl) h′)
-    effect-placed (branch a r b target) ok on =
-        moveTo-everybody P U _ t _
-        (cond-cases (λ (n : ℕ). P (withNext n t)) (compare (m .values) (s .view) (t .parameters) a r b) _ _ (λ e. (ok, p .1)) (λ e. on refl))
-        h′
-    effect-placed (goto target) ok on = moveTo-everybody P U _ t _ (ok, p .1) h′
+    effect-placed (moves c target) ok on = moveTo-everybody P U _ t _ (moves-placed c target ok on) h′
     effect-placed (assign k a) ok on = moveTo-everybody P U _ _ _ (on refl) h′
     effect-placed (priority k) ok on = toRel-everybody P U _ _ (on refl .0, ok) h′
     effect-placed (split n target) ok on = moveTo-everybody P U _ t _ (on refl) (copies-everybody P U n target t _ (λ k. (ok .1, p .1)) h′)
-    effect-placed (arrive q) ok on = moveTo-everybody P U _ t _ (on refl) (content-everybody P U q _ _ h′)
-    effect-placed (depart q) ok on = moveTo-everybody P U _ t _ (on refl) (content-everybody P U q _ _ h′)
+    effect-placed (counts c q) ok on = moveTo-everybody P U _ t _ (on refl) (content-everybody P U q _ _ h′)
 
   -- ---- The turn
 
@@ -138,7 +144,7 @@ module _ (m : BlockModel) (tape : List (List ℕ)) (proper : Proper m tape) wher
   startAt-placed n (b ∷ l) s one le ok h =
       startAt-placed (suc n) l _ (omega arith) (omega arith) (λ i lt. ok (suc i) (omega arith))
       (startOf-cases (Everybody P) b n s (λ e. h)
-      (λ list k e. arrival-everybody P U _ list k n s ((one, omega arith), subst (ProperBlock m) e (ok 0 (omega arith)) .1) h))
+      (λ e. arrival-everybody P U _ _ _ n s ((one, omega arith), generates-list m b (ok 0 (omega arith)) e .1) h))
 
   block-at : (i : ℕ) → i < length (m .blocks) → ProperBlock m (getD (m .blocks) i (terminate 0))
   block-at i lt =

@@ -1,12 +1,13 @@
 -- What validation gives of a model and its tape: each operand lies in its field's range.
 use Prim.Native.Nat.{ℕ, _+_, _≤_, _<_}
-use mathlib.Core.Path.{_≡_}
+use mathlib.Core.Path.{_≡_, refl}
 use mathlib.Core.List.{List, []}
+use native.Mathlib.Omega.{arith}
 use lib.Dec.{T}
 use lib.ListN.{length, getD}
-use Rattle.machine.specs.Limits.{maxBlocks, maxCapacity, maxFacilities, maxStorages, maxQueues, maxLists, maxPriority, maxTime, maxSamples, maxSplit, maxCounter, parameterCount}
+use Rattle.machine.specs.Limits.{maxBlocks, maxCapacity, maxFacilities, maxStorages, maxQueues, maxLists, maxPriority, maxSamples, maxSplit, maxCounter, parameterCount}
 use Rattle.machine.specs.Lists.{nth}
-use Rattle.machine.specs.Block.{Code, U, NU, E, NE, F, NF, Block, generate, advance, terminate, seize, release, enter, leave, waitServer, waitTerms, branch, goto, assign, priority, split, arrive, depart, BlockModel, blockAt}
+use Rattle.machine.specs.Block.{Code, U, NU, E, NE, F, NF, Share, facility, storage, shareServer, Block, generate, advance, terminate, takes, frees, waitServer, waitTerms, moves, assign, priority, split, counts, facts, BlockModel, blockAt}
 use Rattle.machine.specs.Validate.{wellFormed}
 
 -- from 1 to n
@@ -33,23 +34,53 @@ CodeServer m NF v = Storage m v
 abbrev pub Units : BlockModel → ℕ → ℕ → Type 0
 Units m v b = (1 ≤ b) × ((k : ℕ) → v ≡ m .facilities + k → b ≤ nth (m .capacities) k 0)
 
+abbrev pub ProperShare : BlockModel → Share → Type 0
+ProperShare m (facility v) = Names (m .facilities) v
+ProperShare m (storage v b) = Storage m v × Units m v b
+
 abbrev pub ProperBlock : BlockModel → Block → Type 0
 ProperBlock m (generate list p) = Names (m .lists) list × (p ≤ maxPriority)
 ProperBlock m (advance list) = Names (m .lists) list
 ProperBlock m (terminate a) = Unit {0}
-ProperBlock m (seize v) = Names (m .facilities) v
-ProperBlock m (release v) = Names (m .facilities) v
-ProperBlock m (enter v b) = Storage m v × Units m v b
-ProperBlock m (leave v b) = Storage m v × Units m v b
+ProperBlock m (takes x) = ProperShare m x
+ProperBlock m (frees x) = ProperShare m x
 ProperBlock m (waitServer code v) = CodeServer m code v
 ProperBlock m (waitTerms a r b) = Unit {0}
-ProperBlock m (branch a r b target) = Names (length (m .blocks)) target
-ProperBlock m (goto target) = Names (length (m .blocks)) target
+ProperBlock m (moves c target) = Names (length (m .blocks)) target
 ProperBlock m (assign k a) = Names parameterCount k
 ProperBlock m (priority p) = p ≤ maxPriority
 ProperBlock m (split n target) = Names maxSplit n × Names (length (m .blocks)) target
-ProperBlock m (arrive q) = Names (m .queues) q
-ProperBlock m (depart q) = Names (m .queues) q
+ProperBlock m (counts c q) = Names (m .queues) q
+
+-- the server that a status code asks of, or that a share is of, exists
+pub code-server : (m : BlockModel) (code : Code) (v : ℕ) → CodeServer m code v → Names (servers m) v
+code-server m U v h = (h .0, omega arith)
+code-server m NU v h = (h .0, omega arith)
+code-server m E v h = (omega arith, h .1)
+code-server m NE v h = (omega arith, h .1)
+code-server m F v h = (omega arith, h .1)
+code-server m NF v h = (omega arith, h .1)
+
+pub share-server : (m : BlockModel) (x : Share) → ProperShare m x → Names (servers m) (shareServer x)
+unfolding shareServer
+share-server m (facility v) h = (h .0, omega arith)
+share-server m (storage v b) h = (omega arith, h .0 .1)
+
+-- a GENERATE names a list and a priority; other blocks have rank 0
+pub generates-list : (m : BlockModel) (b : Block) → ProperBlock m b → (facts b .generates ≡ 0 → ⊥) → Names (m .lists) (facts b .generates) × (facts b .rank ≤ maxPriority)
+unfolding facts
+generates-list m (generate list p) h n = h
+generates-list m (advance list) h n = absurd (n refl)
+generates-list m (terminate a) h n = absurd (n refl)
+generates-list m (takes x) h n = absurd (n refl)
+generates-list m (frees x) h n = absurd (n refl)
+generates-list m (waitServer code v) h n = absurd (n refl)
+generates-list m (waitTerms a r b) h n = absurd (n refl)
+generates-list m (moves c target) h n = absurd (n refl)
+generates-list m (assign k a) h n = absurd (n refl)
+generates-list m (priority p) h n = absurd (n refl)
+generates-list m (split k target) h n = absurd (n refl)
+generates-list m (counts c q) h n = absurd (n refl)
 
 pub record Proper (m : BlockModel) (tape : List (List ℕ)) : Type 0 where
   -- of every block; the block that `blockAt` gives past the end asks nothing
@@ -66,4 +97,4 @@ pub record Proper (m : BlockModel) (tape : List (List ℕ)) : Type 0 where
   -- one sample list for each list of the model
   pub tapes : length tape ≡ m .lists
   pub samples : (k : ℕ) → length (getD tape k []) ≤ maxSamples
-  pub times : (k i : ℕ) → getD (getD tape k []) i 0 ≤ maxTime
+  pub times : (k i : ℕ) → getD (getD tape k []) i 0 ≤ m .rules .maxTime

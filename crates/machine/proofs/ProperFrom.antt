@@ -8,11 +8,12 @@ use borrow.Author.Tests.{leb-true, leb-false}
 use lib.Dec.{T, leb, ltb, eqb}
 use lib.ListN.{length, getD}
 use Rattle.machine.specs.Limits as Limits
+use Rattle.machine.specs.Rules.{Rules}
 use Rattle.machine.specs.Lists.{nth}
 use Rattle.machine.specs.Term.{Term}
-use Rattle.machine.specs.Block.{Block, terminate, enter, leave, BlockModel}
+use Rattle.machine.specs.Block.{Block, terminate, enter, leave, BlockModel, facts, compared}
 use Rattle.machine.specs.Parser.{Parsed, parsed, refused, Parser, times}
-use Rattle.machine.specs.Decode.{Counts, codeOf, simpleTerm, number, blockTerm, counted, mentioned, valueNumber, sumTerms, sumField, bracketField, comparisonField, mentionField, taggedTerm, valueTerm, valueField, inValue, valueFields, codeServer, storageUnits, operands, blockField, modelFields, atEnd, listField}
+use Rattle.machine.specs.Decode.{Counts, kindCount, codeOf, simpleTerm, number, blockTerm, counted, mentioned, valueNumber, sumTerms, sumField, bracketField, comparisonField, mentionField, taggedTerm, valueTerm, valueField, inValue, valueFields, codeServer, storageUnits, operands, blockField, modelFields, atEnd, listField}
 use Rattle.machine.specs.Validate.{wellFormed, beginning, modelOf, tapeOf, Validation, accept, reject, withTape, withModel, validate}
 use Rattle.machine.specs.Claims.{Each}
 use Rattle.machine.proofs.Proper.{Names, Storage, CodeServer, Units, ProperBlock, Proper}
@@ -42,7 +43,7 @@ module _ (read : ℕ → ℕ → Parser ℕ) (reads : (lo hi : ℕ) → Ensures 
 module _ (s : List ℕ) where
   -- a number of the model, with its range
   ranged : (lo hi : ℕ) → Ensures (λ n. (lo ≤ n) × (n ≤ hi)) (number s lo hi)
-  ranged lo hi = in-range s 3 lo hi (omega arith) (omega arith)
+  ranged lo hi = in-range Limits.maxNumber s 3 lo hi (omega arith) (omega arith)
 
   any-number : (lo hi : ℕ) → Ensures Any (number s lo hi)
   any-number lo hi = weaken (λ a h. tt) (ranged lo hi)
@@ -114,13 +115,13 @@ module _ (s : List ℕ) where
 -- ---- Blocks
 
 -- the model in which these counts and capacities end up
-record Matches (n : Counts) (capacities : List ℕ) (m : BlockModel) : Type 0 where
-  facilities : m .facilities ≡ n .facilities
-  capacities-are : m .capacities ≡ capacities
-  storages : n .storages ≡ length capacities
-  queues : m .queues ≡ n .queues
-  lists : m .lists ≡ n .lists
-  blocks : length (m .blocks) ≡ n .blocks
+pub record Matches (n : Counts) (capacities : List ℕ) (m : BlockModel) : Type 0 where
+  pub facilities : m .facilities ≡ n .facilities
+  pub capacities-are : m .capacities ≡ capacities
+  pub storages : n .storages ≡ length capacities
+  pub queues : m .queues ≡ n .queues
+  pub lists : m .lists ≡ n .lists
+  pub blocks : length (m .blocks) ≡ n .blocks
 
 -- codes 1 and 2 name a facility, 3 to 6 a storage
 facility-code : (m : BlockModel) (code v : ℕ) → 1 ≤ code → code ≤ 2 → Names (m .facilities) v → CodeServer m (codeOf code) v
@@ -142,7 +143,7 @@ storage-code m (suc (suc (suc (suc (suc (suc zero)))))) v low high h = h
 storage-code m (suc (suc (suc (suc (suc (suc (suc k))))))) v low high h = absurd (omega arith)
 
 module _ (s : List ℕ) (n : Counts) (capacities : List ℕ) where
-  abbrev Good : Block → Type 0
+  abbrev pub Good : Block → Type 0
   Good b = (m : BlockModel) → Matches n capacities m → ProperBlock m b
 
   storage-number : (k : ℕ) → 1 ≤ k → k ≤ n .storages → (m : BlockModel) → Matches n capacities m → Storage m (n .facilities + k)
@@ -154,10 +155,10 @@ module _ (s : List ℕ) (n : Counts) (capacities : List ℕ) where
       within : (j : ℕ) → k ≡ j → b ≤ nth (m .capacities) j 0
       within j e = subst (λ l. b ≤ nth l j 0) (sym (at .capacities-are)) (subst (λ j. b ≤ nth capacities j 0) e high)
 
-  storage-units : (make : ℕ → ℕ → Block)
-      → ((k b : ℕ) → 1 ≤ k → k ≤ n .storages → 1 ≤ b → b ≤ nth capacities k 0 → Good (make (n .facilities + k) b)) → Ensures Good (storageUnits s n capacities make)
+  storage-units : (Q : Block → Type 0) (make : ℕ → ℕ → Block)
+      → ((k b : ℕ) → 1 ≤ k → k ≤ n .storages → 1 ≤ b → b ≤ nth capacities k 0 → Q (make (n .facilities + k) b)) → Ensures Q (storageUnits s n capacities make)
   unfolding storageUnits
-  storage-units make good =
+  storage-units Q make good =
       then (ranged s 1 (n .storages))
       (λ k h. then (ranged s 1 (nth capacities k 0)) (λ b g. gives (good k b (h .0) (h .1) (g .0) (g .1))))
 
@@ -181,37 +182,46 @@ module _ (s : List ℕ) (n : Counts) (capacities : List ℕ) where
   queue-in : (k : ℕ) → 1 ≤ k → k ≤ n .queues → (m : BlockModel) → Matches n capacities m → Names (m .queues) k
   queue-in k low high m at = (low, omega (arith, at .queues))
 
-  operands-good : (kind : ℕ) → Ensures Good (operands s n capacities kind)
-  unfolding operands
-  operands-good kind =
-      both (eqb kind 1)
-      (then (ranged s 1 (n .lists)) (λ l h. then (ranged s 0 Limits.maxPriority) (λ p g. gives (λ m at. (list-in l (h .0) (h .1) m at, g .1)))))
-      (both (eqb kind 2) (then (ranged s 1 (n .lists)) (λ l h. gives (list-in l (h .0) (h .1))))
-      (both (eqb kind 3) (then (ranged s 0 Limits.maxTerminate) (λ a h. gives (λ m at. tt)))
-      (both (eqb kind 4) (then (ranged s 1 (n .facilities)) (λ f h. gives (facility-in f (h .0) (h .1))))
-      (both (eqb kind 5) (then (ranged s 1 (n .facilities)) (λ f h. gives (facility-in f (h .0) (h .1))))
-      (both (eqb kind 6) (storage-units enter (λ k b a c d e m at. (storage-number k a c m at, units k b d e m at)))
-      (both (eqb kind 7) (storage-units leave (λ k b a c d e m at. (storage-number k a c m at, units k b d e m at)))
-      (both (eqb kind 8) (then (ranged s 1 6) (λ code h. then (code-server code (h .0) (h .1)) (λ v g. gives g)))
-      (both (eqb kind 9) (then (block-term s n) (λ a h. then (ranged s 1 6) (λ r h. then (block-term s n) (λ b h. gives (λ m at. tt)))))
-      (both (eqb kind 10)
-      (then (block-term s n)
-      (λ a h. then (ranged s 1 6) (λ r h. then (block-term s n) (λ b h. then (ranged s 1 (n .blocks)) (λ k h. gives (target-in k (h .0) (h .1)))))))
-      (both (eqb kind 11) (then (ranged s 1 (n .blocks)) (λ k h. gives (target-in k (h .0) (h .1))))
-      (both (eqb kind 12) (then (ranged s 1 Limits.parameterCount) (λ k h. then (block-term s n) (λ a g. gives (λ m at. h))))
-      (both (eqb kind 13) (then (ranged s 0 Limits.maxPriority) (λ p h. gives (λ m at. h .1)))
-      (both (eqb kind 14)
-      (then (ranged s 1 Limits.maxSplit) (λ k h. then (ranged s 1 (n .blocks)) (λ t g. gives (λ m at. (h, target-in t (g .0) (g .1) m at)))))
-      (both (eqb kind 15) (then (ranged s 1 (n .queues)) (λ q h. gives (queue-in q (h .0) (h .1))))
-      (then (ranged s 1 (n .queues)) (λ q h. gives (queue-in q (h .0) (h .1))))))))))))))))))
+  -- with what is known of every term that a block reads
+  module _ (P : Term → Type 0) (term-good : Ensures P (blockTerm s n)) where
+    abbrev pub Parsed-block : Block → Type 0
+    Parsed-block b = Good b × Each P (facts b .terms)
+
+    operands-good : (kind : ℕ) → Ensures Parsed-block (operands s n capacities kind)
+    unfolding operands facts compared
+    operands-good kind =
+        both (eqb kind 1)
+        (then (ranged s 1 (n .lists)) (λ l h. then (ranged s 0 Limits.maxPriority) (λ p g. gives (λ m at. (list-in l (h .0) (h .1) m at, g .1), tt))))
+        (both (eqb kind 2) (then (ranged s 1 (n .lists)) (λ l h. gives (list-in l (h .0) (h .1), tt)))
+        (both (eqb kind 3) (then (ranged s 0 Limits.maxTerminate) (λ a h. gives (λ m at. tt, tt)))
+        (both (eqb kind 4) (then (ranged s 1 (n .facilities)) (λ f h. gives (facility-in f (h .0) (h .1), tt)))
+        (both (eqb kind 5) (then (ranged s 1 (n .facilities)) (λ f h. gives (facility-in f (h .0) (h .1), tt)))
+        (both (eqb kind 6) (storage-units Parsed-block enter (λ k b a c d e. (λ m at. (storage-number k a c m at, units k b d e m at), tt)))
+        (both (eqb kind 7) (storage-units Parsed-block leave (λ k b a c d e. (λ m at. (storage-number k a c m at, units k b d e m at), tt)))
+        (both (eqb kind 8) (then (ranged s 1 6) (λ code h. then (code-server code (h .0) (h .1)) (λ v g. gives (g, tt))))
+        (both (eqb kind 9) (then term-good (λ a ha. then (ranged s 1 6) (λ r h. then term-good (λ b hb. gives (λ m at. tt, (ha, (hb, tt)))))))
+        (both (eqb kind 10)
+        (then term-good
+        (λ a ha. then (ranged s 1 6) (λ r h. then term-good (λ b hb. then (ranged s 1 (n .blocks)) (λ k h. gives (target-in k (h .0) (h .1), (ha, (hb, tt))))))))
+        (both (eqb kind 11) (then (ranged s 1 (n .blocks)) (λ k h. gives (target-in k (h .0) (h .1), tt)))
+        (both (eqb kind 12) (then (ranged s 1 Limits.parameterCount) (λ k h. then term-good (λ a ha. gives (λ m at. h, (ha, tt)))))
+        (both (eqb kind 13) (then (ranged s 0 Limits.maxPriority) (λ p h. gives (λ m at. h .1, tt)))
+        (both (eqb kind 14)
+        (then (ranged s 1 Limits.maxSplit) (λ k h. then (ranged s 1 (n .blocks)) (λ t g. gives (λ m at. (h, target-in t (g .0) (g .1) m at), tt))))
+        (both (eqb kind 15) (then (ranged s 1 (n .queues)) (λ q h. gives (queue-in q (h .0) (h .1), tt)))
+        (then (ranged s 1 (n .queues)) (λ q h. gives (queue-in q (h .0) (h .1), tt)))))))))))))))))
+
+    pub block-parsed : Ensures Parsed-block (blockField s n capacities)
+    unfolding blockField
+    block-parsed = then (ranged s 1 kindCount) (λ kind h. operands-good kind)
 
   block-good : Ensures Good (blockField s n capacities)
-  unfolding blockField
-  block-good = then (ranged s 1 16) (λ kind h. operands-good kind)
+  block-good = weaken (λ b h. h .0) (block-parsed Any (block-term s n))
 
 -- ---- The model
 
-record ProperModel (m : BlockModel) : Type 0 where
+record ProperModel (rules : Rules) (m : BlockModel) : Type 0 where
+  own : m .rules ≡ rules
   block : Each (ProperBlock m) (m .blocks)
   blocks : Names Limits.maxBlocks (length (m .blocks))
   facilities : m .facilities ≤ Limits.maxFacilities
@@ -221,12 +231,12 @@ record ProperModel (m : BlockModel) : Type 0 where
   lists : m .lists ≤ Limits.maxLists
   counter : Names Limits.maxCounter (m .counter)
 
-record ProperTape (lists : ℕ) (tape : List (List ℕ)) : Type 0 where
+record ProperTape (rules : Rules) (lists : ℕ) (tape : List (List ℕ)) : Type 0 where
   tapes : length tape ≡ lists
-  each-list : Each (λ l. (length l ≤ Limits.maxSamples) × Each (λ x. x ≤ Limits.maxTime) l) tape
+  each-list : Each (λ l. (length l ≤ Limits.maxSamples) × Each (λ x. x ≤ rules .maxTime) l) tape
 
-module _ (s : List ℕ) where
-  model-fields : Ensures ProperModel (modelFields s)
+module _ (rules : Rules) (s : List ℕ) where
+  model-fields : Ensures (ProperModel rules) (modelFields s rules)
   unfolding modelFields
   model-fields =
       then (ranged s 1 1) (λ edition he. then (ranged s 0 Limits.maxFacilities) (λ facilities hf. then (ranged s 0 Limits.maxStorages) (λ storages hs.
@@ -235,9 +245,10 @@ module _ (s : List ℕ) where
       then (ranged s 1 Limits.maxCounter) (λ counter hn. then (ranged s 1 Limits.maxBlocks) (λ blocks hb.
       then (repeated blocks (block-good s _ capacities)) (λ program hp.
       let m : BlockModel =
-      record { facilities = facilities; capacities = capacities; queues = queues; values = sums; lists = lists; counter = counter; blocks = program } in
+      record { rules = rules; facilities = facilities; capacities = capacities; queues = queues; values = sums; lists = lists; counter = counter; blocks = program } in
       gives
       (record {
+        own = refl;
         block =
             each-map
             (λ b g.
@@ -264,21 +275,21 @@ module _ (s : List ℕ) where
   unfolding atEnd
   at-end code h = record { from = λ c. weaken (λ u g. tt) (asked (eqb (c .position) (length s)) code h) .from c }
 
-  model-of : Ensures (λ m. ProperModel m × T (wellFormed m)) (modelOf s)
+  model-of : Ensures (λ m. ProperModel rules m × T (wellFormed m)) (modelOf rules s)
   unfolding modelOf
   model-of =
       then model-fields (λ m h. then (at-end 6 (omega arith, omega arith)) (λ u g. then (asked (wellFormed m) 7 (omega arith, omega arith)) (λ u f. gives (h, f))))
 
   -- ---- The tape
 
-  sample-list : Ensures (λ l. (length l ≤ Limits.maxSamples) × Each (λ x. x ≤ Limits.maxTime) l) (listField s)
+  sample-list : Ensures (λ l. (length l ≤ Limits.maxSamples) × Each (λ x. x ≤ rules .maxTime) l) (listField s rules)
   unfolding listField
   sample-list =
-      then (in-range s 8 0 Limits.maxSamples (omega arith) (omega arith))
+      then (in-range (rules .maxNumber) s 8 0 Limits.maxSamples (omega arith) (omega arith))
       (λ count h.
-      weaken (λ l g. (omega (arith, g .0, h .1), each-map (λ x k. k .1) l (g .1))) (repeated count (in-range s 8 0 Limits.maxTime (omega arith) (omega arith))))
+      weaken (λ l g. (omega (arith, g .0, h .1), each-map (λ x k. k .1) l (g .1))) (repeated count (in-range (rules .maxNumber) s 8 0 (rules .maxTime) (omega arith) (omega arith))))
 
-  tape-of : (lists : ℕ) → Ensures (ProperTape lists) (tapeOf s lists)
+  tape-of : (lists : ℕ) → Ensures (ProperTape rules lists) (tapeOf rules s lists)
   unfolding tapeOf
   tape-of lists =
       then (repeated lists sample-list)
@@ -286,17 +297,17 @@ module _ (s : List ℕ) where
 
 -- ---- The answer
 
-abbrev Verdict : Validation → Type 0
-Verdict (accept m tape) = Proper m tape
-Verdict (reject n) = Refusal n
+abbrev Verdict : Rules → Validation → Type 0
+Verdict rules (accept m tape) = Proper m tape × (m .rules ≡ rules)
+Verdict rules (reject n) = Refusal n
 
 each-at : {A : Type 0} (P : A → Type 0) (l : List A) (d : A) → Each P l → (i : ℕ) → i < length l → P (getD l i d)
 each-at P [] d h i low = absurd (omega arith)
 each-at P (x ∷ l) d h zero low = h .0
 each-at P (x ∷ l) d h (suc i) low = each-at P l d (h .1) i (omega arith)
 
-proper : (m : BlockModel) (tape : List (List ℕ)) → ProperModel m → T (wellFormed m) → ProperTape (m .lists) tape → Proper m tape
-proper m tape h f t =
+proper : (rules : Rules) (m : BlockModel) (tape : List (List ℕ)) → ProperModel rules m → T (wellFormed m) → ProperTape (m .rules) (m .lists) tape → Proper m tape
+proper rules m tape h f t =
     record {
       block = λ n. each-getD (ProperBlock m) (m .blocks) (n - 1) (terminate 0) (h .block) tt;
       blocks = h .blocks;
@@ -312,30 +323,34 @@ proper m tape h f t =
       times = λ k i. each-getD _ (getD tape k []) i 0 (each-getD _ tape k [] (t .each-list) (omega arith, tt) .1) (omega arith);
     }
 
-with-tape : (m : BlockModel) → ProperModel m → T (wellFormed m) → (r : Parsed (List (List ℕ))) → Gives (ProperTape (m .lists)) r → Verdict (withTape m r)
+with-tape : (rules : Rules) (m : BlockModel) → ProperModel rules m → T (wellFormed m) → (r : Parsed (List (List ℕ))) → Gives (ProperTape (m .rules) (m .lists)) r → Verdict rules (withTape m r)
 unfolding withTape
-with-tape m h f (parsed tape c) t = proper m tape h f t
-with-tape m h f (refused n) t = t
+with-tape rules m h f (parsed tape c) t = (proper rules m tape h f t, h .own)
+with-tape rules m h f (refused n) t = t
 
-with-model : (tape : List ℕ) (r : Parsed BlockModel) → Gives (λ m. ProperModel m × T (wellFormed m)) r → Verdict (withModel tape r)
+with-model : (rules : Rules) (tape : List ℕ) (r : Parsed BlockModel) → Gives (λ m. ProperModel rules m × T (wellFormed m)) r → Verdict rules (withModel tape r)
 unfolding withModel
-with-model tape (parsed m c) h = with-tape m (h .0) (h .1) (tapeOf tape (m .lists) beginning) (tape-of tape (m .lists) .from beginning)
-with-model tape (refused n) h = h
+with-model rules tape (parsed m c) h = with-tape rules m (h .0) (h .1) (tapeOf (m .rules) tape (m .lists) beginning) (tape-of (m .rules) tape (m .lists) .from beginning)
+with-model rules tape (refused n) h = h
 
-verdict : (model tape : List ℕ) (work report : ℕ) → Verdict (validate model tape work report)
+verdict : (rules : Rules) (model tape : List ℕ) (work report : ℕ) → Verdict rules (validate rules model tape work report)
 unfolding validate
-verdict model tape work report =
-    cond-cases Verdict (leb Limits.workNumbers work) (cond (leb Limits.reportRoom report) (withModel tape (modelOf model beginning)) (reject 2)) (reject 1)
+verdict rules model tape work report =
+    cond-cases (Verdict rules) (leb Limits.workNumbers work) (cond (leb Limits.reportRoom report) (withModel tape (modelOf rules model beginning)) (reject 2)) (reject 1)
     (λ e.
-    cond-cases Verdict (leb Limits.reportRoom report) (withModel tape (modelOf model beginning)) (reject 2)
-    (λ e. with-model tape (modelOf model beginning) (model-of model .from beginning)) (λ e. (omega arith, omega arith)))
+    cond-cases (Verdict rules) (leb Limits.reportRoom report) (withModel tape (modelOf rules model beginning)) (reject 2)
+    (λ e. with-model rules tape (modelOf rules model beginning) (model-of rules model .from beginning)) (λ e. (omega arith, omega arith)))
     (λ e. (omega arith, omega arith))
 
-module _ (model tape : List ℕ) (work report : ℕ) where
+module _ (rules : Rules) (model tape : List ℕ) (work report : ℕ) where
   -- what validation accepts is proper
-  pub proper-from : {m : BlockModel} {t : List (List ℕ)} → validate model tape work report ≡ accept m t → Proper m t
-  proper-from e = subst Verdict e (verdict model tape work report)
+  pub proper-from : {m : BlockModel} {t : List (List ℕ)} → validate rules model tape work report ≡ accept m t → Proper m t
+  proper-from e = subst (Verdict rules) e (verdict rules model tape work report) .0
+
+  -- and has the rules that it was judged by
+  pub rules-from : {m : BlockModel} {t : List (List ℕ)} → validate rules model tape work report ≡ accept m t → m .rules ≡ rules
+  rules-from e = subst (Verdict rules) e (verdict rules model tape work report) .1
 
   -- "Any other input .. gets the refusal number listed for it": 1 to 10
-  pub refusal-from : {n : ℕ} → validate model tape work report ≡ reject n → (1 ≤ n) × (n ≤ 10)
-  refusal-from e = subst Verdict e (verdict model tape work report)
+  pub refusal-from : {n : ℕ} → validate rules model tape work report ≡ reject n → (1 ≤ n) × (n ≤ 10)
+  refusal-from e = subst (Verdict rules) e (verdict rules model tape work report)

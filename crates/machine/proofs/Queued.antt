@@ -12,7 +12,7 @@ use borrow.Author.Tests.{leb-false, lt-leb, not-true}
 use Rattle.machine.specs.Transaction.{Transaction, precedes}
 use Rattle.machine.specs.Lists.{insert, those, others, nth, setNth}
 use Rattle.machine.specs.Term.{Server, idleServer, free}
-use Rattle.machine.specs.Block.{Block, generate, advance, terminate, seize, release, enter, leave, waitServer, waitTerms, branch, goto, assign, priority, split, arrive, depart, facts, BlockModel, blockAt}
+use Rattle.machine.specs.Block.{facility, storage, shareServer, shareUnits, Block, generate, advance, terminate, takes, frees, waitServer, waitTerms, moves, assign, priority, split, counts, facts, BlockModel, blockAt}
 use Rattle.machine.specs.Setters.{withInUse, withReturning}
 use Rattle.machine.specs.Moves.{wake}
 use Rattle.machine.specs.Claims.{Each}
@@ -25,23 +25,20 @@ use Rattle.machine.proofs.Ready.{Grows, grows-not, grows-wake, ql-more,
 -- ---- The units of a SEIZE
 
 seize-units : (m : BlockModel) (b : Block) → ProperBlock m b → 1 ≤ facts b .server → facts b .server ≤ m .facilities → facts b .units ≡ 1
-unfolding facts
+unfolding facts shareServer shareUnits
 seize-units m (generate list p) k a c = omega arith
 seize-units m (advance list) k a c = omega arith
 seize-units m (terminate a) k a′ c = omega arith
-seize-units m (seize v) k a c = refl
-seize-units m (release v) k a c = omega arith
-seize-units m (enter v b) k a c = omega arith
-seize-units m (leave v b) k a c = omega arith
+seize-units m (takes (facility v)) k a c = refl
+seize-units m (takes (storage v b)) k a c = omega arith
+seize-units m (frees x) k a c = omega arith
 seize-units m (waitServer code v) k a c = omega arith
 seize-units m (waitTerms a r b) k a′ c = omega arith
-seize-units m (branch a r b target) k a′ c = omega arith
-seize-units m (goto target) k a c = omega arith
+seize-units m (moves d target) k a c = omega arith
 seize-units m (assign i a) k a′ c = omega arith
 seize-units m (priority p) k a c = omega arith
 seize-units m (split n target) k a c = omega arith
-seize-units m (arrive q) k a c = omega arith
-seize-units m (depart q) k a c = omega arith
+seize-units m (counts d q) k a c = omega arith
 
 -- who stands at a SEIZE takes one unit
 facility-units : {m : BlockModel} {tape : List (List ℕ)} → Proper m tape → (v : ℕ) (t : Transaction) → 1 ≤ v → v ≤ m .facilities
@@ -79,7 +76,7 @@ module _ {m : BlockModel} {t : Transaction} {rel : List Transaction} {l : List S
   -- 4 SEIZE and 6 ENTER, getting in
   pub taken-queued : {tape : List (List ℕ)} (b : ℕ) → Proper m tape → v ≤ servers m → (v ≤ m .facilities → serverIn l v .capacity ≡ 1)
       → AtServer m v t → unitsOf m t ≡ b → Queued m rel rel (setNth l v (withInUse (serverIn l v .inUse + b) (serverIn l v))) ql
-  taken-queued b proper known facility at units =
+  taken-queued b proper known whole at units =
       subst (λ ql′. Queued m rel rel (setNth l v x) ql′) (set-getD ql (v - 1) [])
       (queued-set x q rel (λ v′ a n h. n (sym h ∙ at)) (grows-not rel) (w .ql-sorted (v - 1)) (w .ql-stands v one)
       (waits (w .ql-waits v one known)))
@@ -93,7 +90,7 @@ module _ {m : BlockModel} {t : Transaction} {rel : List Transaction} {l : List S
       waits (nextReady f h) =
           nobodyFits
           (each-map
-          (λ u e. lt-leb (unitsOf m u) (free x) (omega (arith, facility f, units, facility-units proper v u one f e, facility-units proper v t one f at)))
+          (λ u e. lt-leb (unitsOf m u) (free x) (omega (arith, whole f, units, facility-units proper v u one f e, facility-units proper v t one f at)))
           q (w .ql-stands v one))
 
   -- and not getting in

@@ -5,21 +5,22 @@ use mathlib.Core.Path.{_≡_, refl, sym, ap, ap₂, subst, _∙_}
 use mathlib.Core.Logic.{_⊎_, inl, inr}
 use mathlib.Core.Bool.{Bool, true, false, cond, true≢false}
 use mathlib.Core.List.{List, [], _∷_}
+use mathlib.Core.Option.{none}
 use native.Mathlib.Omega.{arith}
 use lib.Dec.{eqb, ltb, leb}
 use lib.ListN.{length, getD}
 use borrow.Author.Tests.{ltb-true, ltb-false}
 use Rattle.machine.specs.Transaction.{Transaction, precedes}
 use Rattle.machine.specs.Lists.{flat}
-use Rattle.machine.specs.Term.{Sum, View, free}
-use Rattle.machine.specs.Block.{Block, generate, advance, terminate, seize, release, enter, leave, waitServer, waitTerms, branch, goto, assign, priority, split, arrive, depart, facts, BlockModel, blockAt}
+use Rattle.machine.specs.Term.{View, free}
+use Rattle.machine.specs.Block.{down, Block, generate, advance, terminate, takes, frees, waitServer, waitTerms, moves, assign, priority, split, counts, facts, BlockModel, blockAt}
 use Rattle.machine.specs.State.{State}
 use Rattle.machine.specs.Turn.{holds, waitsOn}
 use Rattle.machine.specs.Claims.{Each, bit}
 use Rattle.machine.proofs.Proper.{servers}
 use Rattle.machine.proofs.RunLaws.{cond-cases}
 use Rattle.machine.proofs.Sorted.{Some, Before, before-precedes}
-use Rattle.machine.proofs.Waiting.{serverOf, unitsOf, welOfBlock, serverIn, QlWaits, nobodyFits, nextReady, Queued, Gated}
+use Rattle.machine.proofs.Waiting.{serverOf, unitsOf, serverIn, QlWaits, nobodyFits, nextReady, Queued, Gated}
 use Rattle.machine.proofs.Records.{Key, Member, Behind, opens, Rivals, EndsInOrder}
 use Rattle.machine.proofs.Sums.{sumOn, sum-zero}
 use Rattle.machine.proofs.SumFacts.{sum-some, sum-which}
@@ -31,26 +32,22 @@ use Rattle.machine.proofs.OpenPairs.{key, Pair, pair, is, only, only-se
 -- ---- A block that takes a server lets wait on no WEL and not on the WSL
 
 OnlyQl : Block → Type 0
-OnlyQl b = (welOfBlock b ≡ 0) × ((values : List Sum) (w : View) (t : Transaction) → holds values w t b ≡ false)
+OnlyQl b = (facts b .wel ≡ 0) × (facts b .waitsWhile ≡ none)
 
 takes-or-not : (b : Block) → (facts b .server ≡ 0) ⊎ OnlyQl b
-unfolding facts OnlyQl welOfBlock holds
+unfolding facts OnlyQl
 takes-or-not (generate list p) = inl refl
 takes-or-not (advance list) = inl refl
 takes-or-not (terminate a) = inl refl
-takes-or-not (seize v) = inr (refl, λ values w t. refl)
-takes-or-not (release v) = inl refl
-takes-or-not (enter v b) = inr (refl, λ values w t. refl)
-takes-or-not (leave v b) = inl refl
+takes-or-not (takes x) = inr (refl, refl)
+takes-or-not (frees x) = inl refl
 takes-or-not (waitServer code v) = inl refl
 takes-or-not (waitTerms a r b) = inl refl
-takes-or-not (branch a r b target) = inl refl
-takes-or-not (goto target) = inl refl
+takes-or-not (moves c target) = inl refl
 takes-or-not (assign k a) = inl refl
 takes-or-not (priority p) = inl refl
 takes-or-not (split n target) = inl refl
-takes-or-not (arrive q) = inl refl
-takes-or-not (depart q) = inl refl
+takes-or-not (counts c q) = inl refl
 
 -- ---- Who precedes whom
 
@@ -136,8 +133,8 @@ module _ (m : BlockModel) (tape : List (List ℕ)) (t : Transaction) (s : State)
       (λ u p q. unless-before u t (before u (only-equal w _ (marked-weight (u .returning) _ p))) q)
 
   on-wsl : Some (λ u. 0 < weight (only w) u) (s .wsl) → ⊥
-  unfolding OnlyQl waitsOn
-  on-wsl h = some-each (s .wsl) h (in-place .settled) (λ u p q. true≢false (sym q ∙ only-ql u (only-equal w _ p) .1 _ _ u))
+  unfolding OnlyQl waitsOn holds
+  on-wsl h = some-each (s .wsl) h (in-place .settled) (λ u p q. true≢false (sym q ∙ ap (holds (m .values) (s .view) (u .parameters)) (only-ql u (only-equal w _ p) .1)))
 
   on-wel : (i : ℕ) → Some (λ u. 0 < weight (only w) u) (getD (s .wel) i []) → ⊥
   unfolding OnlyQl

@@ -9,10 +9,10 @@ use lib.Seq.{map-set-same}
 use Rattle.machine.specs.Transaction.{Transaction}
 use Rattle.machine.specs.Lists.{nth, setNth}
 use Rattle.machine.specs.Term.{Server, View, Queue, idleServer, serverAt}
-use Rattle.machine.specs.Block.{Code, U, NU, E, NE, F, NF, codeIndex, BlockModel}
+use Rattle.machine.specs.Block.{Code, U, NU, E, NE, F, NF, codeIndex, BlockModel, welIndex}
 use Rattle.machine.specs.State.{State}
 use Rattle.machine.specs.Setters.{withInUse, setClock, setEntries, setQueues, setServers}
-use Rattle.machine.specs.Moves.{welIndex, setInUse}
+use Rattle.machine.specs.Moves.{setInUse}
 use Rattle.machine.specs.Turn.{sampleServers, sampleQueue, sample, turn}
 use Rattle.machine.specs.Run.{idle, start}
 use Rattle.machine.specs.Claims.{Each}

@@ -13,7 +13,7 @@ use Rattle.machine.specs.State.{State}
 use Rattle.machine.specs.Moves.{toFel, timesLeft, arrival}
 use Rattle.machine.specs.Run.{startOf, startAt, idle, start}
 use Rattle.machine.specs.Claims.{Each, bit, count, timesOf, generatesOf, getsTime, madeAtStart, usedBy, madeBy, endedBy}
-use Rattle.machine.proofs.Proper.{Proper, ProperBlock, Names}
+use Rattle.machine.proofs.Proper.{Proper, ProperBlock, Names, generates-list}
 use Rattle.machine.proofs.Cases.{startOf-cases}
 use Rattle.machine.proofs.Sums.{count-cons}
 use Rattle.machine.proofs.Ledger.{Booked, Books, used-length}
@@ -110,9 +110,7 @@ module _ (m : BlockModel) (tape : List (List ℕ)) where
   unfolding facts
   opening-step before l b n s good o =
       startOf-cases (Opening (b ∷ before) l) b n s (opening-none before l b s o)
-      (λ list p e.
-      let names : Names (m .lists) list = subst (ProperBlock m) e good .0 in
-      opening-arrival before l b s o list p n names (ap (λ b. facts b .generates) e) (timesLeft s list) refl)
+      (λ e. opening-arrival before l b s o _ _ n (generates-list m b good e .0) refl (timesLeft s (facts b .generates)) refl)
 
   opening-all : (before l : List Block) (n : ℕ) (s : State) → Each (ProperBlock m) l → Opening before l s → Books m tape (startAt n l s)
   unfolding startAt madeAtStart madeBy endedBy usedBy generatesOf count those

@@ -9,16 +9,16 @@ use lib.ListN.{length}
 use Rattle.machine.specs.Transaction.{Transaction, precedes}
 use Rattle.machine.specs.Lists.{insert}
 use Rattle.machine.specs.Term.{serverAt, free}
-use Rattle.machine.specs.Block.{Code, Block, generate, advance, terminate, seize, release, enter, leave, waitServer, waitTerms, branch, goto, assign, priority, split, arrive, depart, facts, BlockModel, status}
+use Rattle.machine.specs.Block.{Code, Share, facility, storage, shareServer, shareUnits, Block, generate, advance, terminate, takes, frees, waitServer, waitTerms, moves, assign, priority, split, counts, facts, BlockModel, status, welIndex}
 use Rattle.machine.specs.State.{State}
 use Rattle.machine.specs.Setters.{withSerial, setSerial}
-use Rattle.machine.specs.Moves.{log, enters, moveTo, fresh, qlOf, welOf, welIndex, toQl, toWel, toWsl, mustWait, setInUse, setContent}
-use Rattle.machine.specs.Execute.{takeUnits, endsOne, effect}
+use Rattle.machine.specs.Moves.{log, enters, moveTo, fresh, qlOf, welOf, toQl, toWel, toWsl, mustWait, setInUse, setContent}
+use Rattle.machine.specs.Execute.{takeUnits, wakeFor, endsOne, effect}
 use Rattle.machine.proofs.Proper.{ProperBlock, servers}
 use Rattle.machine.proofs.RunLaws.{cond-cases}
 use Rattle.machine.proofs.Cases.{waitTerms-cases}
 use Rattle.machine.proofs.Shape.{Shape, ql-at, wel-at}
-use Rattle.machine.proofs.Balance.{code-server}
+use Rattle.machine.proofs.Proper.{code-server, share-server}
 use Rattle.machine.proofs.Waiting.{serverIn}
 use Rattle.machine.proofs.Sums.{sum-insert, sum-flat-set}
 use Rattle.machine.proofs.Weights.{Wait, weight, waiting, Quiet, quiet-refl, quiet-trans, quiet-wakeFirstQl, quiet-wakeQl, quiet-wakeFirstWel, quiet-checkWels, quiet-toRel, quiet-arrival, quiet-delay, quiet-copies}
@@ -118,6 +118,11 @@ step-takeUnits b v n t s h fit =
     cond-cases (Step b t s) (leb n (free (serverAt (s .view) v))) _ _
     (λ e. passes (fit e) (quiet-moveTo _ t (quiet-trans (quiet-inUse v _ _) (quiet-checkWels v _)))) (λ e. step-ql b v t s h)
 
+quiet-wakeFor : (m : BlockModel) (x : Share) (s : State) → Quiet s (wakeFor m x s)
+unfolding wakeFor
+quiet-wakeFor m (facility v) s = quiet-wakeFirstQl v s
+quiet-wakeFor m (storage v b) s = quiet-wakeQl _ v s
+
 -- ---- Each kind
 
 pub step-effect : (m : BlockModel) (b : Block) (t : Transaction) (s : State) → ProperBlock m b → Shape m s → Step b t s (effect m b t s)
@@ -125,14 +130,12 @@ unfolding effect facts serverAt
 step-effect m (generate list p) t s h k = passes (λ n. absurd (n refl)) (quiet-moveTo _ t (quiet-arrival _ list p _ _))
 step-effect m (advance list) t s h k = passes (λ n. absurd (n refl)) (quiet-delay _ list t _)
 step-effect m (terminate a) t s h k = passes (λ n. absurd (n refl)) (quiet-endsOne a _)
-step-effect m (seize v) t s h k = step-takeUnits (seize v) v 1 t s (ql-at k v (omega arith) (omega arith)) (λ e n. e)
-step-effect m (release v) t s h k =
+step-effect m (takes x) t s h k =
+    let n = share-server m x h in
+    step-takeUnits (takes x) (shareServer x) (shareUnits x) t s (ql-at k (shareServer x) (n .0) (n .1)) (λ e n. e)
+step-effect m (frees x) t s h k =
     passes (λ n. absurd (n refl))
-    (quiet-moveTo _ t (quiet-trans (quiet-inUse v _ _) (quiet-trans (quiet-wakeFirstQl v _) (quiet-checkWels v _))))
-step-effect m (enter v b) t s h k = step-takeUnits (enter v b) v b t s (ql-at k v (omega arith) (omega arith)) (λ e n. e)
-step-effect m (leave v b) t s h k =
-    passes (λ n. absurd (n refl))
-    (quiet-moveTo _ t (quiet-trans (quiet-inUse v _ _) (quiet-trans (quiet-wakeQl _ v _) (quiet-checkWels v _))))
+    (quiet-moveTo _ t (quiet-trans (quiet-inUse (shareServer x) _ _) (quiet-trans (quiet-wakeFor m x _) (quiet-checkWels (shareServer x) _))))
 step-effect m (waitServer code v) t s h k =
     let n = code-server m code v h in
     cond-cases (Step (waitServer code v) t s) (status code (serverAt (s .view) v)) _ _ (λ e. step-wel _ v code t s (wel-at k v code (n .0) (n .1)))
@@ -140,10 +143,8 @@ step-effect m (waitServer code v) t s h k =
 step-effect m (waitTerms a r b) t s h k =
     waitTerms-cases (Step (waitTerms a r b) t s) m a r b t s (λ e. step-wsl _ t s)
     (λ e. passes (λ n. absurd (n refl)) (quiet-moveTo _ t (quiet-refl _)))
-step-effect m (branch a r b target) t s h k = passes (λ n. absurd (n refl)) (quiet-moveTo _ t (quiet-refl _))
-step-effect m (goto target) t s h k = passes (λ n. absurd (n refl)) (quiet-moveTo _ t (quiet-refl _))
+step-effect m (moves c target) t s h k = passes (λ n. absurd (n refl)) (quiet-moveTo _ t (quiet-refl _))
 step-effect m (assign i a) t s h k = passes (λ n. absurd (n refl)) (quiet-moveTo _ _ (quiet-refl _))
 step-effect m (priority p) t s h k = passes (λ n. absurd (n refl)) (quiet-toRel _ _ refl)
 step-effect m (split n target) t s h k = passes (λ n. absurd (n refl)) (quiet-moveTo _ t (quiet-copies n target t _))
-step-effect m (arrive q) t s h k = passes (λ n. absurd (n refl)) (quiet-moveTo _ t (quiet-content q _ _))
-step-effect m (depart q) t s h k = passes (λ n. absurd (n refl)) (quiet-moveTo _ t (quiet-content q _ _))
+step-effect m (counts c q) t s h k = passes (λ n. absurd (n refl)) (quiet-moveTo _ t (quiet-content q _ _))

@@ -10,9 +10,8 @@ use lib.ListN.{getD}
 use Rattle.machine.specs.Transaction.{Transaction, precedes}
 use Rattle.machine.specs.Lists.{nth}
 use Rattle.machine.specs.Term.{Server, idleServer, free}
-use Rattle.machine.specs.Block.{Code, status, Block, generate, advance, terminate, seize, release, enter, leave, waitServer, waitTerms, branch, goto, assign, priority, split, arrive, depart, facts, BlockModel, blockAt}
+use Rattle.machine.specs.Block.{Code, status, facts, BlockModel, blockAt, welIndex}
 use Rattle.machine.specs.State.{State}
-use Rattle.machine.specs.Moves.{welIndex}
 use Rattle.machine.specs.Turn.{waitsOn}
 use Rattle.machine.specs.Claims.{Each}
 use Rattle.machine.proofs.Proper.{servers}
@@ -27,31 +26,12 @@ serverOf m t = facts (blockAt m (t .next)) .server
 abbrev pub unitsOf : BlockModel → Transaction → ℕ
 unitsOf m t = facts (blockAt m (t .next)) .units
 
--- one more than the place of the WEL on which a block lets wait, 0 where there is none
-unfoldable pub welOfBlock : Block → ℕ
-welOfBlock (generate list p) = 0
-welOfBlock (advance list) = 0
-welOfBlock (terminate a) = 0
-welOfBlock (seize v) = 0
-welOfBlock (release v) = 0
-welOfBlock (enter v b) = 0
-welOfBlock (leave v b) = 0
-welOfBlock (waitServer code v) = suc (welIndex v code)
-welOfBlock (waitTerms a r b) = 0
-welOfBlock (branch a r b target) = 0
-welOfBlock (goto target) = 0
-welOfBlock (assign k a) = 0
-welOfBlock (priority p) = 0
-welOfBlock (split n target) = 0
-welOfBlock (arrive q) = 0
-welOfBlock (depart q) = 0
-
 -- about to take units of server v; at the WAITIF of the WEL at place i
 abbrev pub AtServer : BlockModel → ℕ → Transaction → Type 0
 AtServer m v t = serverOf m t ≡ v
 
 abbrev pub AtWel : BlockModel → ℕ → Transaction → Type 0
-AtWel m i t = welOfBlock (blockAt m (t .next)) ≡ suc i
+AtWel m i t = facts (blockAt m (t .next)) .wel ≡ suc i
 
 -- ---- One QL, one WEL
 

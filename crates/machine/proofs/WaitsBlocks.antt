@@ -10,16 +10,16 @@ use lib.Seq.{getD-set-same}
 use Rattle.machine.specs.Transaction.{Transaction}
 use Rattle.machine.specs.Lists.{those}
 use Rattle.machine.specs.Term.{serverAt, free}
-use Rattle.machine.specs.Block.{Code, U, NU, E, NE, F, NF, status, Block, generate, advance, terminate, seize, release, enter, leave, waitServer, waitTerms, branch, goto, assign, priority, split, arrive, depart, facts, BlockModel, blockAt}
+use Rattle.machine.specs.Block.{Code, U, NU, E, NE, F, NF, status, Share, facility, storage, shareServer, shareUnits, Block, generate, advance, terminate, takes, frees, waitServer, waitTerms, moves, assign, priority, split, counts, facts, BlockModel, blockAt, welIndex}
 use Rattle.machine.specs.State.{State}
 use Rattle.machine.specs.Setters.{withSerial}
-use Rattle.machine.specs.Moves.{qlOf, welOf, welIndex, log, enters, moveTo, toRel, toFel, toQl, toWel, toWsl, mustWait, wakeFirstQl, wakeQl, wakeFirstWel, setInUse, setContent, arrival, copies}
-use Rattle.machine.specs.Execute.{fits, takeUnits, checkWels, endsOne, delay, effect, freeUnits}
-use Rattle.machine.proofs.Proper.{Proper, ProperBlock, CodeServer, Names, servers}
+use Rattle.machine.specs.Moves.{qlOf, welOf, log, enters, moveTo, toRel, toFel, toQl, toWel, toWsl, mustWait, wakeFirstQl, wakeQl, wakeFirstWel, setInUse, setContent, arrival, copies}
+use Rattle.machine.specs.Execute.{fits, takeUnits, checkWels, endsOne, delay, effect, freeUnits, wakeFor}
+use Rattle.machine.proofs.Proper.{Proper, ProperBlock, CodeServer, Names, servers, share-server, ProperShare}
 use Rattle.machine.proofs.RunLaws.{cond-cases}
 use Rattle.machine.proofs.Cases.{checkWels-kept, waitTerms-cases}
 use Rattle.machine.proofs.Shape.{Shape, server-length, facility-capacity}
-use Rattle.machine.proofs.Waiting.{serverOf, unitsOf, AtServer, AtWel, welOfBlock, serverIn, Queued, Gated, WaitsOver}
+use Rattle.machine.proofs.Waiting.{serverOf, unitsOf, AtServer, AtWel, serverIn, Queued, Gated, WaitsOver}
 use Rattle.machine.proofs.Ready.{grows-not, grows-insert, grows-wake, queued-more, waits-more, ql-else, wel-else}
 use Rattle.machine.proofs.Queued.{taken-queued, waits-queued, first-queued, fitting-queued}
 use Rattle.machine.proofs.Gated.{Open, WelAt, checks-gated, others-wait, waits-gated, passes-gated}
@@ -93,7 +93,7 @@ module _ {m : BlockModel} {tape : List (List ℕ)} (proper : Proper m tape) (t :
       }
 
   -- at no WAITIF of a code
-  gated-else : welOfBlock (blockAt m (t .next)) ≡ 0 → Gated m (s .rel) (s .view .servers) (s .wel)
+  gated-else : facts (blockAt m (t .next)) .wel ≡ 0 → Gated m (s .rel) (s .view .servers) (s .wel)
   gated-else off =
       record {
         wel-stands = w .gated .wel-stands;
@@ -101,9 +101,9 @@ module _ {m : BlockModel} {tape : List (List ℕ)} (proper : Proper m tape) (t :
       }
 
   -- at neither
-  quiet : (b : Block) → blockAt m (t .next) ≡ b → facts b .server ≡ 0 → welOfBlock b ≡ 0 → Walked m s
+  quiet : (b : Block) → blockAt m (t .next) ≡ b → facts b .server ≡ 0 → facts b .wel ≡ 0 → Walked m s
   quiet b e off off′ =
-      (record { queued = queued-else (ap (λ b. facts b .server) e ∙ off); gated = gated-else (ap welOfBlock e ∙ off′) }, going)
+      (record { queued = queued-else (ap (λ b. facts b .server) e ∙ off); gated = gated-else (ap (λ b. facts b .wel) e ∙ off′) }, going)
 
   opened : Open m (s .wel)
   opened = record { stands = w .gated .wel-stands; size = shape .wel-length }
@@ -116,7 +116,7 @@ module _ {m : BlockModel} {tape : List (List ℕ)} (proper : Proper m tape) (t :
     in-ql = omega (arith, shape .ql-length)
 
     -- 4 SEIZE and 6 ENTER
-    takeUnits-walked : (b : ℕ) → AtServer m v t → unitsOf m t ≡ b → welOfBlock (blockAt m (t .next)) ≡ 0 → Walked m (takeUnits v b t s)
+    takeUnits-walked : (b : ℕ) → AtServer m v t → unitsOf m t ≡ b → facts (blockAt m (t .next)) .wel ≡ 0 → Walked m (takeUnits v b t s)
     unfolding takeUnits mustWait enters log moveTo setInUse serverAt toQl
     takeUnits-walked b at units off =
         cond-cases (Walked m) (leb b (free (serverAt (s .view) v))) _ _
@@ -140,7 +140,7 @@ module _ {m : BlockModel} {tape : List (List ℕ)} (proper : Proper m tape) (t :
         )
 
     -- 5 RELEASE
-    release-walked : v ≤ m .facilities → serverOf m t ≡ 0 → welOfBlock (blockAt m (t .next)) ≡ 0
+    release-walked : v ≤ m .facilities → serverOf m t ≡ 0 → facts (blockAt m (t .next)) .wel ≡ 0
         → Walked m (checkWels v (wakeFirstQl v (freeUnits v 1 (enters t s))))
     unfolding enters log setInUse serverAt wakeFirstQl
     release-walked f off off′ =
@@ -149,7 +149,7 @@ module _ {m : BlockModel} {tape : List (List ℕ)} (proper : Proper m tape) (t :
         (others-wait (w .gated) v _ _ one off′ (grows-wake (take 1 (qlOf s v)) (s .rel))) going
 
     -- 7 LEAVE
-    leave-walked : (b : ℕ) → serverOf m t ≡ 0 → welOfBlock (blockAt m (t .next)) ≡ 0
+    leave-walked : (b : ℕ) → serverOf m t ≡ 0 → facts (blockAt m (t .next)) .wel ≡ 0
         → Walked m (checkWels v (wakeQl (fits m (freeUnits v b (enters t s) .view) v) v (freeUnits v b (enters t s))))
     unfolding enters log setInUse serverAt wakeQl fits
     leave-walked b off off′ =
@@ -180,27 +180,31 @@ module _ {m : BlockModel} {tape : List (List ℕ)} (proper : Proper m tape) (t :
         waiting : status code (serverAt (s .view) v) ≡ true → (t′ : Transaction) → AtWel m (welIndex v code) t′ → Walked m (toWel v code t′ s)
         waiting holds t′ at′ = (record { queued = queued-else off; gated = waits-gated (w .gated) v code t′ one at at′ holds }, going)
 
+  frees-walked : (x : Share) → 1 ≤ shareServer x → shareServer x ≤ servers m → ProperShare m x → serverOf m t ≡ 0 → facts (blockAt m (t .next)) .wel ≡ 0
+      → Walked m (checkWels (shareServer x) (wakeFor m x (freeUnits (shareServer x) (shareUnits x) (enters t s))))
+  unfolding wakeFor shareServer shareUnits
+  frees-walked (facility v) one known k = release-walked v one known (k .1)
+  frees-walked (storage v b) one known k = leave-walked v one known b
+
   pub effect-walked : (b : Block) → blockAt m (t .next) ≡ b → ProperBlock m b → Walked m (effect m b t s)
-  unfolding effect mustWait facts welOfBlock enters log moveTo setContent toWsl
+  unfolding effect mustWait facts enters log moveTo setContent toWsl
   effect-walked (generate list p) e k = arrival-walked m _ list p _ (enters t s) (quiet (generate list p) e refl refl)
   effect-walked (advance list) e k = delay-walked m _ list t (enters t s) (quiet (advance list) e refl refl)
   effect-walked (terminate a) e k = endsOne-walked m a (enters t s) (quiet (terminate a) e refl refl)
-  effect-walked (seize v) e k =
-      takeUnits-walked v (k .0) (omega arith) 1 (ap (λ b. facts b .server) e) (ap (λ b. facts b .units) e) (ap welOfBlock e)
-  effect-walked (release v) e k = release-walked v (k .0) (omega arith) (k .1) (ap (λ b. facts b .server) e) (ap welOfBlock e)
-  effect-walked (enter v b) e k =
-      takeUnits-walked v (omega arith) (k .0 .1) b (ap (λ b. facts b .server) e) (ap (λ b. facts b .units) e) (ap welOfBlock e)
-  effect-walked (leave v b) e k = leave-walked v (omega arith) (k .0 .1) b (ap (λ b. facts b .server) e) (ap welOfBlock e)
+  effect-walked (takes x) e k =
+      let (one, known) = share-server m x k in
+      takeUnits-walked (shareServer x) one known (shareUnits x) (ap (λ b. facts b .server) e) (ap (λ b. facts b .units) e) (ap (λ b. facts b .wel) e)
+  effect-walked (frees x) e k =
+      let (one, known) = share-server m x k in
+      frees-walked x one known k (ap (λ b. facts b .server) e) (ap (λ b. facts b .wel) e)
   effect-walked (waitServer code v) e k =
       let (one, known) = code-server m code v k in
-      waitServer-walked v one known code (ap welOfBlock e) (ap (λ b. facts b .server) e)
+      waitServer-walked v one known code (ap (λ b. facts b .wel) e) (ap (λ b. facts b .server) e)
   effect-walked (waitTerms a r b) e k =
       let q = quiet (waitTerms a r b) e refl refl in
       waitTerms-cases (Walked m) m a r b t s (λ c. cond-cases (Walked m) (t .returning) _ _ (λ c. q) (λ c. q)) (λ c. q)
-  effect-walked (branch a r b target) e k = quiet (branch a r b target) e refl refl
-  effect-walked (goto target) e k = quiet (goto target) e refl refl
+  effect-walked (moves c target) e k = quiet (moves c target) e refl refl
   effect-walked (assign i a) e k = quiet (assign i a) e refl refl
   effect-walked (priority p) e k = toRel-walked m _ (enters t s) (quiet (priority p) e refl refl)
   effect-walked (split n target) e k = copies-walked m n target t (enters t s) (quiet (split n target) e refl refl)
-  effect-walked (arrive q) e k = quiet (arrive q) e refl refl
-  effect-walked (depart q) e k = quiet (depart q) e refl refl
+  effect-walked (counts c q) e k = quiet (counts c q) e refl refl

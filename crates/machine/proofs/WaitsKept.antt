@@ -11,10 +11,10 @@ use borrow.Author.Tests.{not-true, not-false}
 use Rattle.machine.specs.Transaction.{Transaction, Event, precedes}
 use Rattle.machine.specs.Lists.{those, others}
 use Rattle.machine.specs.Term.{Server, idleServer}
-use Rattle.machine.specs.Block.{Code, U, NU, E, NE, F, NF, status, Block, BlockModel, blockAt}
+use Rattle.machine.specs.Block.{Code, U, NU, E, NE, F, NF, status, Block, BlockModel, blockAt, welIndex}
 use Rattle.machine.specs.State.{State}
 use Rattle.machine.specs.Setters.{setTurns, setMoving}
-use Rattle.machine.specs.Moves.{welIndex, wake, toRel, toFel, arrival, wakeWsl}
+use Rattle.machine.specs.Moves.{wake, toRel, toFel, arrival, wakeWsl}
 use Rattle.machine.specs.Execute.{effect}
 use Rattle.machine.specs.Turn.{sampleServers, sample, arriveAll, due, moveClock, nextEvents, takeFirst, takeReady, taking, answer, execute, waitsOn, wsScheme, turn}
 use Rattle.machine.specs.Run.{startAt, idle, start}
@@ -217,7 +217,7 @@ startAt-begun : (m : BlockModel) (n : ℕ) (l : List Block) (s : State) → Begu
 unfolding startAt
 startAt-begun m n [] s h = h
 startAt-begun m n (b ∷ l) s h =
-    startAt-begun m (suc n) l _ (startOf-cases (Begun m) b n s (λ e. h) (λ list p e. arrival-begun m _ list p n s h))
+    startAt-begun m (suc n) l _ (startOf-cases (Begun m) b n s (λ e. h) (λ e. arrival-begun m _ _ _ n s h))
 
 -- no list of the empty machine holds anybody
 empty-at : (P : List Transaction → Type 0) → P [] → (n k : ℕ) → P (getD (replicate n []) k [])

@@ -9,10 +9,10 @@ use native.Mathlib.Omega.{arith}
 use lib.ListN.{take, drop}
 use Rattle.machine.specs.Transaction.{Transaction, Event, precedes}
 use Rattle.machine.specs.Lists.{insert, those, others, flat}
-use Rattle.machine.specs.Block.{Code}
+use Rattle.machine.specs.Block.{Code, welIndex}
 use Rattle.machine.specs.State.{State}
 use Rattle.machine.specs.Setters.{withReturning, withSerial, setMade}
-use Rattle.machine.specs.Moves.{qlOf, welOf, welIndex, toRel, toFel, wake, wakeFirstQl, wakeQl, wakeFirstWel, wakeWsl, arrival, copies}
+use Rattle.machine.specs.Moves.{qlOf, welOf, toRel, toFel, wake, wakeFirstQl, wakeQl, wakeFirstWel, wakeWsl, arrival, copies}
 use Rattle.machine.specs.Execute.{checkWels, delay}
 use Rattle.machine.specs.Turn.{arriveAll, nextEvents, moveClock}
 use Rattle.machine.proofs.Cases.{checkWels-kept}

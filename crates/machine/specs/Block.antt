@@ -1,11 +1,14 @@
 -- Blocks, "Kind and operands as stored", and the model that holds them. Server operands are server numbers: a facility's own
 -- number, and for a storage its number after all facilities (Term.antt, `Server`).
-use Prim.Native.Nat.{ℕ}
+use Prim.Native.Nat.{ℕ, suc, _+_, _*_, _-_}
 use mathlib.Core.Bool.{Bool, true, false, not}
-use mathlib.Core.List.{List}
+use mathlib.Core.List.{List, [], _∷_}
+use mathlib.Core.Option.{some}
 use lib.Dec.{ltb, eqb}
 use Rattle.machine.specs.Lists.{nth}
-use Rattle.machine.specs.Term.{Server, Term, Relation, Sum}
+use Rattle.machine.specs.Rules.{Rules}
+use Rattle.machine.specs.Term.{Server, Term, Relation, Condition, always, whenTrue, Sum}
+use Rattle.machine.specs.Facts.{Facts, noFacts, setGenerates, setRank, setUses, setTerminates, setCopies, setServer, setUnits, setQueue, setTarget, setLeaves, setWel, setWaitsWhile, setTerms}
 
 -- Lists, "WEL: one per server and status code: 1 U (in use), 2 NU for facilities; 3 E (empty), 4 NE, 5 F (full), 6 NF for storages."
 pub data Code : Type 0 where
@@ -29,6 +32,24 @@ codeIndex NE = 3
 codeIndex F = 4
 codeIndex NF = 5
 
+-- What a block takes or frees: the one unit of a facility, or units of a storage.
+pub data Share : Type 0 where
+  facility : (server : ℕ) → Share
+  storage : (server units : ℕ) → Share
+
+unfoldable pub shareServer : Share → ℕ
+shareServer (facility v) = v
+shareServer (storage v b) = v
+
+unfoldable pub shareUnits : Share → ℕ
+shareUnits (facility v) = 1
+shareUnits (storage v b) = b
+
+-- Which way the content of a queue goes.
+pub data Change : Type 0 where
+  up down : Change
+
+-- What a block does, in the paper's order; kinds that differ in an operand alone are one line.
 pub data Block : Type 0 where
   -- 1 GENERATE list, priority
   generate : (list priority : ℕ) → Block
@@ -36,81 +57,85 @@ pub data Block : Type 0 where
   advance : (list : ℕ) → Block
   -- 3 TERMINATE a
   terminate : (a : ℕ) → Block
-  -- 4 SEIZE f, 5 RELEASE f
-  seize release : (server : ℕ) → Block
-  -- 6 ENTER s, b, 7 LEAVE s, b
-  enter leave : (server units : ℕ) → Block
+  -- 4 SEIZE f and 6 ENTER s, b; 5 RELEASE f and 7 LEAVE s, b
+  takes frees : (share : Share) → Block
   -- 8 WAITIF code, server
   waitServer : (code : Code) (server : ℕ) → Block
   -- 9 WAITIF left, relation, right
   waitTerms : (left : Term) (relation : Relation) (right : Term) → Block
-  -- 10 IF left, relation, right, target
-  branch : (left : Term) (relation : Relation) (right : Term) (target : ℕ) → Block
-  -- 11 GOTO target
-  goto : (target : ℕ) → Block
+  -- 10 IF left, relation, right, target and 11 GOTO target
+  moves : (condition : Condition) (target : ℕ) → Block
   -- 12 LET parameter, term
   assign : (parameter : ℕ) (term : Term) → Block
   -- 13 PRIORITY p
   priority : (p : ℕ) → Block
   -- 14 SPLIT n, target
   split : (n target : ℕ) → Block
-  -- 15 ARRIVE q, 16 DEPART q
-  arrive depart : (queue : ℕ) → Block
+  -- 15 ARRIVE q and 16 DEPART q
+  counts : (change : Change) (queue : ℕ) → Block
 
--- What counts, statistics and questions ask of a block; 0 where there is none.
-pub record Facts : Type 0 where
-  -- the list of a GENERATE
-  pub generates : ℕ
-  -- the list that a GENERATE or ADVANCE uses a time of
-  pub uses : ℕ
-  -- 1 for a TERMINATE
-  pub terminates : ℕ
-  -- the copies of a SPLIT
-  pub copies : ℕ
-  -- the server that a SEIZE or ENTER takes, and its units, one for a SEIZE
-  pub server : ℕ
-  pub units : ℕ
-  -- the queue of an ARRIVE
-  pub queue : ℕ
-  -- the target of an IF, a GOTO or a SPLIT
-  pub target : ℕ
-  -- a TERMINATE or a GOTO: nothing goes on past it
-  pub leaves : Bool
+-- ---- The paper's kinds that share a line
 
-abbrev pub factsOf : (generates uses terminates copies server units queue target : ℕ) (leaves : Bool) → Facts
-factsOf generates uses terminates copies server units queue target leaves =
-    record {
-      generates = generates;
-      uses = uses;
-      terminates = terminates;
-      copies = copies;
-      server = server;
-      units = units;
-      queue = queue;
-      target = target;
-      leaves = leaves;
-    }
+abbrev pub seize : ℕ → Block
+seize f = takes (facility f)
+
+abbrev pub release : ℕ → Block
+release f = frees (facility f)
+
+abbrev pub enter : ℕ → ℕ → Block
+enter s b = takes (storage s b)
+
+abbrev pub leave : ℕ → ℕ → Block
+leave s b = frees (storage s b)
+
+abbrev pub branch : Term → Relation → Term → ℕ → Block
+branch a r b target = moves (whenTrue a r b) target
+
+abbrev pub goto : ℕ → Block
+goto target = moves always target
+
+abbrev pub arrive : ℕ → Block
+arrive q = counts up q
+
+abbrev pub depart : ℕ → Block
+depart q = counts down q
+
+-- where the WEL of a server and a code stands
+unfoldable pub welIndex : ℕ → Code → ℕ
+welIndex v code = (v - 1) * 6 + codeIndex code
+
+-- the queue of which a change counts as an arrival
+unfoldable pub arrivals : Change → ℕ → ℕ
+arrivals up q = q
+arrivals down q = 0
+
+-- does nothing go on past the block?
+unfoldable pub unconditional : Condition → Bool
+unconditional always = true
+unconditional (whenTrue a r b) = false
+
+-- the terms of a condition
+unfoldable pub compared : Condition → List Term
+compared always = []
+compared (whenTrue a r b) = a ∷ b ∷ []
 
 unfoldable pub facts : Block → Facts
-facts (generate list p) = factsOf list list 0 0 0 0 0 0 false
-facts (advance list) = factsOf 0 list 0 0 0 0 0 0 false
-facts (terminate a) = factsOf 0 0 1 0 0 0 0 0 true
-facts (seize v) = factsOf 0 0 0 0 v 1 0 0 false
-facts (release v) = factsOf 0 0 0 0 0 0 0 0 false
-facts (enter v b) = factsOf 0 0 0 0 v b 0 0 false
-facts (leave v b) = factsOf 0 0 0 0 0 0 0 0 false
-facts (waitServer code v) = factsOf 0 0 0 0 0 0 0 0 false
-facts (waitTerms a r b) = factsOf 0 0 0 0 0 0 0 0 false
-facts (branch a r b target) = factsOf 0 0 0 0 0 0 0 target false
-facts (goto target) = factsOf 0 0 0 0 0 0 0 target true
-facts (assign k a) = factsOf 0 0 0 0 0 0 0 0 false
-facts (priority p) = factsOf 0 0 0 0 0 0 0 0 false
-facts (split n target) = factsOf 0 0 0 n 0 0 0 target false
-facts (arrive q) = factsOf 0 0 0 0 0 0 q 0 false
-facts (depart q) = factsOf 0 0 0 0 0 0 0 0 false
+facts (generate list p) = setGenerates list (setRank p (setUses list noFacts))
+facts (advance list) = setUses list noFacts
+facts (terminate a) = setTerminates 1 (setLeaves true noFacts)
+facts (takes x) = setServer (shareServer x) (setUnits (shareUnits x) noFacts)
+facts (frees x) = noFacts
+facts (waitServer code v) = setWel (suc (welIndex v code)) noFacts
+facts (waitTerms a r b) = setWaitsWhile (some (whenTrue a r b)) (setTerms (a ∷ b ∷ []) noFacts)
+facts (moves c target) = setTarget target (setLeaves (unconditional c) (setTerms (compared c) noFacts))
+facts (assign k a) = setTerms (a ∷ []) noFacts
+facts (priority p) = noFacts
+facts (split n target) = setCopies n (setTarget target noFacts)
+facts (counts c q) = setQueue (arrivals c q) noFacts
 
--- Bytes, "Model: ..": what is left of it once decoded.
+-- Bytes, "Model: ..": what is left of it once decoded, and the rules that it was judged by.
 pub record BlockModel : Type 0 where
+  pub rules : Rules
   pub facilities : ℕ
   pub capacities : List ℕ
   pub queues : ℕ

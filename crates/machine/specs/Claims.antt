@@ -1,5 +1,5 @@
 -- "What demand 3 speaks of", word by word, as one claim about the states of a whole run. Proved in ../proofs/Demand3.antt.
-use Prim.Native.Nat.{ℕ, zero, suc, _+_, _-_, _≤_, _<_}
+use Prim.Native.Nat.{ℕ, zero, suc, _+_, _*_, _-_, _≤_, _<_}
 use mathlib.Core.Path.{_≡_}
 use mathlib.Core.Bool.{Bool, true, false, cond, not, _&&_, _||_}
 use mathlib.Core.List.{List, [], _∷_, _++_, map, reverse}
@@ -10,14 +10,15 @@ use Rattle.machine.specs.Limits.{maxTurns}
 use Rattle.machine.specs.Transaction.{Transaction}
 use Rattle.machine.specs.Lists.{those, flat, nth}
 use Rattle.machine.specs.Term.{serverAt}
-use Rattle.machine.specs.Block.{Code, U, NU, E, NE, F, NF, status, Block, Facts, facts, BlockModel, blockAt}
+use Rattle.machine.specs.Facts.{Facts, isGenerate}
+use Rattle.machine.specs.Block.{Code, U, NU, E, NE, F, NF, status, Block, facts, BlockModel, blockAt}
 use Rattle.machine.specs.State.{State, Logged}
 use Rattle.machine.specs.Moves.{qlOf, welOf}
 use Rattle.machine.specs.Execute.{fits}
 use Rattle.machine.specs.Turn.{waitsOn}
 use Rattle.machine.specs.Trace.{Record, inRanges}
 use Rattle.machine.specs.Run.{run, states}
-use Rattle.machine.specs.Report.{places, movingOne}
+use Rattle.machine.specs.Report.{places, movingOne, reportNumbers}
 use Rattle.machine.specs.Outcome.{Outcome}
 
 -- how many of a list pass a test
@@ -78,7 +79,7 @@ module _ (m : BlockModel) (tape : List (List ℕ)) where
 
   -- is the block a GENERATE of a list of which fewer times than it has were used?
   abbrev pub getsTime : Facts → (used : ℕ → ℕ) → Bool
-  getsTime f used = not (eqb (f .generates) 0) && ltb (used (f .generates)) (timesOf (f .generates))
+  getsTime f used = isGenerate f && ltb (used (f .generates)) (timesOf (f .generates))
 
   -- at the start, from some blocks on, behind the blocks in `before`
   unfoldable pub madeAtStart : (before l : List Block) → ℕ
@@ -158,6 +159,31 @@ module _ (m : BlockModel) (tape : List (List ℕ)) where
     pub nobody-able : s .end ≤ 1 → s .moving ≡ none → s .rel ≡ [] → ableToGo s ≡ 0
     pub order : InOrder (reverse (s .records))
 
+  -- ---- Document 02, item 2: "List the living by rising transaction number", told from the report's numbers alone
+
+  -- where the living part of a report begins
+  unfoldable pub livingAt : ℕ
+  livingAt = 3 + 5 * (m .facilities + length (m .capacities)) + 3 * m .queues
+
+  -- how often a number stands at a place
+  unfoldable pub standingAt : State → (place number : ℕ) → ℕ
+  standingAt s place n = count (λ p. eqb (p .place) place && eqb (p .number) n) (places s)
+
+  -- number and place of the living one at index i
+  abbrev pub listedNumber : State → ℕ → ℕ
+  listedNumber s i = getD (reportNumbers m s) (livingAt + 1 + 2 * i) 0
+
+  abbrev pub listedPlace : State → ℕ → ℕ
+  listedPlace s i = getD (reportNumbers m s) (livingAt + 2 + 2 * i) 0
+
+  pub record LivingListed (s : State) : Type 0 where
+    pub counted : getD (reportNumbers m s) livingAt 0 ≡ livingCount (s .records)
+    pub whole : length (reportNumbers m s) ≡ livingAt + 1 + 2 * livingCount (s .records)
+    -- the transaction numbers rise strictly, each is a living one, and each stands with its place
+    pub rising : (i : ℕ) → suc i < livingCount (s .records) → listedNumber s i < listedNumber s (suc i)
+    pub living : (i : ℕ) → i < livingCount (s .records) → isLiving (s .records) (listedNumber s i) ≡ true
+    pub placed : (i : ℕ) → i < livingCount (s .records) → standingAt s (listedPlace s i) (listedNumber s i) ≡ 1
+
 -- ---- "It is one claim about the whole run": of the start, of what each turn left, and of the last state
 
 abbrev pub Each : {A : Type 0} → (A → Type 0) → List A → Type 0
@@ -198,5 +224,5 @@ pub record Keeping (budget : ℕ) (o : Outcome) : Type 0 where
 
 -- a record in the reader's ranges, at a block of the model
 pub record InModel (m : BlockModel) (r : Record) : Type 0 where
-  pub ranges : inRanges r ≡ true
+  pub ranges : inRanges (m .rules) r ≡ true
   pub block : (1 ≤ r .block) × (r .block ≤ length (m .blocks))

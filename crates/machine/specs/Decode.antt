@@ -5,8 +5,9 @@ use mathlib.Core.List.{List, [], _∷_}
 use lib.Dec.{ltb, leb, eqb}
 use lib.ListN.{length}
 use Rattle.machine.specs.Limits as Limits
+use Rattle.machine.specs.Rules.{Rules}
 use Rattle.machine.specs.Lists.{nth}
-use Rattle.machine.specs.Parser.{Parser, parsed, refused, _>>=_, _>>_, give, refuse, ask, times, field}
+use Rattle.machine.specs.Parser.{Parser, parsed, refused, _>>=_, _>>_, give, refuse, ask, times, field, fieldUpTo}
 use Rattle.machine.specs.Term.{Relation, equal, unequal, less, atMost, greater, atLeast, Term, constant, minusConstant, parameter, clockTerm, entriesOf, contentOf, unitsInUse, unitsFree, facilityInUse, value, comparison, bracket, Sum, nothing, plus, minus}
 use Rattle.machine.specs.Block.{Code, U, NU, E, NE, F, NF, Block, generate, advance, terminate, seize, release, enter, leave, waitServer, waitTerms, branch, goto, assign, priority, split, arrive, depart, BlockModel}
 
@@ -18,6 +19,10 @@ pub record Counts : Type 0 where
   pub values : ℕ
   pub lists : ℕ
   pub blocks : ℕ
+
+-- "Kind and operands as stored": how many kinds there are
+abbrev pub kindCount : ℕ
+kindCount = 16
 
 -- ---- Codes of operands
 
@@ -182,14 +187,14 @@ module _ (s : List ℕ) where
 
   unfoldable pub blockField : Counts → List ℕ → Parser Block
   blockField n capacities = do
-    kind ← number 1 16
+    kind ← number 1 kindCount
     operands n capacities kind
 
   -- ---- "Model: edition (1); facilities 0..32; storages 0..32 and each capacity 1..65,535; queues 0..32; values 0..8 and
   -- their sums; lists 0..16; counter 1..65,535; blocks 1..256 and each block."
 
-  unfoldable pub modelFields : Parser BlockModel
-  modelFields = do
+  unfoldable pub modelFields : Rules → Parser BlockModel
+  modelFields rules = do
     edition ← number 1 1
     facilities ← number 0 Limits.maxFacilities
     storages ← number 0 Limits.maxStorages
@@ -208,6 +213,7 @@ module _ (s : List ℕ) where
         capacities)
     give
         (record {
+          rules = rules;
           facilities = facilities;
           capacities = capacities;
           queues = queues;
@@ -223,7 +229,7 @@ module _ (s : List ℕ) where
 
   -- ---- "Tape: for each list a count 0..65,535 and that many times 0..1,000,000", with questions 8, 9 and 10
 
-  unfoldable pub listField : Parser (List ℕ)
-  listField = do
-    count ← field s 8 0 Limits.maxSamples
-    times count (field s 8 0 Limits.maxTime)
+  unfoldable pub listField : Rules → Parser (List ℕ)
+  listField rules = do
+    count ← fieldUpTo (rules .maxNumber) s 8 0 Limits.maxSamples
+    times count (fieldUpTo (rules .maxNumber) s 8 0 (rules .maxTime))

@@ -7,6 +7,7 @@ use mathlib.Core.List.{List, [], _∷_, _++_, map}
 use mathlib.Core.Option.{some}
 use lib.IntN.{ℤ, pos, negsuc, _+ℤ_}
 use lib.ListN.{length}
+use Rattle.machine.specs.Rules.{document01}
 use Rattle.machine.specs.Transaction.{Transaction, newborn}
 use Rattle.machine.specs.Term.{Server, Queue, wrap}
 use Rattle.machine.specs.Block.{advance, terminate, seize, split, BlockModel}
@@ -58,13 +59,13 @@ module _ (m : BlockModel) (s : State) where
 
 printed : List ℕ → List ℕ → (budget : ℕ) → Shown
 printed model tape budget =
-    elim (validate model tape 16384 10240)
+    elim (validate document01 model tape 16384 10240)
     [ accept m t ↦ lines (printedState m (run m t budget 65536)) | reject n ↦ lines ((n ∷ []) ∷ []) ]
 
 -- the length of the first server's QL and of REL in each state of a run
 lengths : List ℕ → List ℕ → Shown
 lengths model tape =
-    elim (validate model tape 16384 10240)
+    elim (validate document01 model tape 16384 10240)
     [ accept m t ↦ lines (map (λ s. length (qlOf s 1) ∷ length (s .rel) ∷ []) (states m t 1000000 65536)) | reject n ↦ lines [] ]
 
 -- ---- The starred examples of document 01
@@ -104,7 +105,7 @@ bareModel = 0x01 ∷ 0x00 ∷ 0x00 ∷ 0x00 ∷ 0x00 ∷ 0x00 ∷ 0x01 ∷ 0x01 
 -- a state with a facility in use, and on REL two returners of equal priority that stand at its SEIZE
 seizeOnly : BlockModel
 seizeOnly =
-    record { facilities = 1; capacities = []; queues = 0; values = []; lists = 0; counter = 1; blocks = seize 1 ∷ terminate 1 ∷ [] }
+    record { rules = document01; facilities = 1; capacities = []; queues = 0; values = []; lists = 0; counter = 1; blocks = seize 1 ∷ terminate 1 ∷ [] }
 
 returner : (number serial : ℕ) → Transaction
 returner number serial = withReturning true (withSerial serial (newborn number 0 1))
@@ -235,12 +236,12 @@ entryTape = 0x01 ∷ 0x03 ∷ []
 -- 1,024 living, and one of them before a SPLIT
 crowded : BlockModel
 crowded =
-    record { facilities = 0; capacities = []; queues = 0; values = []; lists = 0; counter = 1; blocks = split 1 2 ∷ terminate 1 ∷ [] }
+    record { rules = document01; facilities = 0; capacities = []; queues = 0; values = []; lists = 0; counter = 1; blocks = split 1 2 ∷ terminate 1 ∷ [] }
 
 -- a clock near its limit before an ADVANCE of 2
 late : BlockModel
 late =
-    record { facilities = 0; capacities = []; queues = 0; values = []; lists = 1; counter = 1; blocks = advance 1 ∷ terminate 1 ∷ [] }
+    record { rules = document01; facilities = 0; capacities = []; queues = 0; values = []; lists = 1; counter = 1; blocks = advance 1 ∷ terminate 1 ∷ [] }
 
 lateState : (clock : ℕ) → State
 lateState clock =

@@ -1,14 +1,13 @@
--- Blocks: the questions inside a turn, and what each of the 16 kinds does once they are answered.
+-- Blocks: the questions inside a turn, and what each kind does once they are answered.
 use Prim.Native.Nat.{ℕ, suc, _+_, _-_}
 use mathlib.Core.Bool.{Bool, true, false, cond}
 use mathlib.Core.List.{List, [], _∷_}
-use lib.Dec.{leb, eqb}
-use lib.ListN.{getD}
-use Rattle.machine.specs.Limits.{maxLiving, maxClock}
+use lib.Dec.{leb}
+use Rattle.machine.specs.Limits.{maxLiving}
 use Rattle.machine.specs.Transaction.{Transaction}
 use Rattle.machine.specs.Lists.{setNth}
-use Rattle.machine.specs.Term.{View, serverAt, queueAt, free, evaluate, compare}
-use Rattle.machine.specs.Block.{Code, U, NU, E, NE, F, NF, status, Block, generate, advance, terminate, seize, release, enter, leave, waitServer, waitTerms, branch, goto, assign, priority, split, arrive, depart, facts, BlockModel, blockAt}
+use Rattle.machine.specs.Term.{View, serverAt, queueAt, free, evaluate, compare, truth}
+use Rattle.machine.specs.Block.{Code, U, NU, E, NE, F, NF, status, Share, facility, storage, shareServer, shareUnits, Change, up, down, Block, generate, advance, terminate, takes, frees, waitServer, waitTerms, moves, assign, priority, split, counts, facts, BlockModel, blockAt}
 use Rattle.machine.specs.State.{State}
 use Rattle.machine.specs.Setters.{withPriority, withParameters, withNext, withReturning, setCounter, setEnded, setEnd}
 use Rattle.machine.specs.Moves.{enters, moveTo, goOn, toRel, toFel, toQl, toWel, toWsl, mustWait, wakeFirstQl, wakeQl, wakeFirstWel, setInUse, setContent, timesLeft, useTime, arrival, copies}
@@ -23,36 +22,39 @@ unless false n later = n
 abbrev pub living : State → ℕ
 living s = s .made - s .ended
 
--- "is a living place free for each new one? 21. .. Is the move time at most 2,000,000,000? 22 (after 21 or 23)." A spent list
--- makes none, and nothing is asked.
-unfoldable pub askGenerate : List ℕ → State → ℕ
-askGenerate [] s = 0
-askGenerate (time ∷ left) s = unless (leb (living s + 1) maxLiving) 21 (unless (leb (s .view .clock + time) maxClock) 22 0)
+-- "Is the move time at most 2,000,000,000? 22 (after 21 or 23)."
+abbrev pub askTime : BlockModel → ℕ → State → ℕ
+askTime m time s = unless (leb (s .view .clock + time) (m .rules .maxClock)) 22 0
+
+-- "is a living place free for each new one? 21." A spent list makes none, and nothing is asked.
+unfoldable pub askGenerate : BlockModel → List ℕ → State → ℕ
+askGenerate m [] s = 0
+askGenerate m (time ∷ left) s = unless (leb (living s + 1) maxLiving) 21 (askTime m time s)
 
 -- "ADVANCE: has the list a time? 23."
-unfoldable pub askAdvance : List ℕ → State → ℕ
-askAdvance [] s = 23
-askAdvance (time ∷ left) s = unless (leb (s .view .clock + time) maxClock) 22 0
+unfoldable pub askAdvance : BlockModel → List ℕ → State → ℕ
+askAdvance m [] s = 23
+askAdvance m (time ∷ left) s = askTime m time s
 
-unfoldable pub question : Block → State → ℕ
-question (generate list p) s = askGenerate (timesLeft s list) s
-question (advance list) s = askAdvance (timesLeft s list) s
-question (terminate a) s = 0
-question (seize v) s = 0
--- "Is f in use, or are b units in use? 24."
-question (release v) s = unless (leb 1 (serverAt (s .view) v .inUse)) 24 0
-question (enter v b) s = 0
-question (leave v b) s = unless (leb b (serverAt (s .view) v .inUse)) 24 0
-question (waitServer code v) s = 0
-question (waitTerms a r b) s = 0
-question (branch a r b target) s = 0
-question (goto target) s = 0
-question (assign k a) s = 0
-question (priority p) s = 0
-question (split n target) s = unless (leb (living s + n) maxLiving) 21 0
-question (arrive q) s = 0
 -- "Has the queue content? 25."
-question (depart q) s = unless (leb 1 (queueAt (s .view) q .content)) 25 0
+unfoldable pub askContent : Change → ℕ → ℕ
+askContent up n = 0
+askContent down n = unless (leb 1 n) 25 0
+
+unfoldable pub question : BlockModel → Block → State → ℕ
+question m (generate list p) s = askGenerate m (timesLeft s list) s
+question m (advance list) s = askAdvance m (timesLeft s list) s
+question m (terminate a) s = 0
+question m (takes x) s = 0
+-- "Is f in use, or are b units in use? 24."
+question m (frees x) s = unless (leb (shareUnits x) (serverAt (s .view) (shareServer x) .inUse)) 24 0
+question m (waitServer code v) s = 0
+question m (waitTerms a r b) s = 0
+question m (moves c target) s = 0
+question m (assign k a) s = 0
+question m (priority p) s = 0
+question m (split n target) s = unless (leb (living s + n) maxLiving) 21 0
+question m (counts c q) s = askContent c (queueAt (s .view) q .content)
 
 -- ---- The effects
 
@@ -77,6 +79,12 @@ takeUnits v b t s =
 abbrev pub freeUnits : ℕ → ℕ → State → State
 freeUnits v b s = setInUse v (serverAt (s .view) v .inUse - b) s
 
+-- whom freed units wake: 5 RELEASE, "the first of its QL goes to REL"; 7 LEAVE, "every QL member whose units, judged alone, fit
+-- the free units goes to REL" (departs)
+unfoldable pub wakeFor : BlockModel → Share → State → State
+wakeFor m (facility v) s = wakeFirstQl v s
+wakeFor m (storage v b) s = wakeQl (fits m (s .view) v) v s
+
 -- 3 TERMINATE, "the transaction ends; the counter falls by a; at or below 0, end 2"
 unfoldable pub endsOne : ℕ → State → State
 endsOne a s = setEnd (cond (leb (s .counter) a) 2 0) (setCounter (s .counter - a) (setEnded (suc (s .ended)) s))
@@ -87,33 +95,32 @@ delay [] list t s = s
 delay (time ∷ left) list t s =
     toFel (s .view .clock + time) (withReturning false (withNext (suc (t .next)) t)) (useTime list s)
 
+-- 15 ARRIVE, 16 DEPART, "content of q up or down by one"
+unfoldable pub changed : Change → ℕ → ℕ
+changed up n = n + 1
+changed down n = n - 1
+
 -- Each kind, for the transaction t whose next block it is; nobody is moving in s. "terms are read before the block's own
 -- entry counts, with the transaction's own parameters".
 unfoldable pub effect : BlockModel → Block → Transaction → State → State
 effect m (generate list p) t s = goOn t (arrival (timesLeft s list) list p (t .next) (enters t s))
 effect m (advance list) t s = delay (timesLeft s list) list t (enters t s)
 effect m (terminate a) t s = endsOne a (enters t s)
-effect m (seize v) t s = takeUnits v 1 t s
--- "f idle; the first of its QL goes to REL"
-effect m (release v) t s = goOn t (checkWels v (wakeFirstQl v (freeUnits v 1 (enters t s))))
-effect m (enter v b) t s = takeUnits v b t s
--- "frees b; every QL member whose units, judged alone, fit the free units goes to REL" (departs)
-effect m (leave v b) t s =
-    let s′ : State = freeUnits v b (enters t s) in
-    goOn t (checkWels v (wakeQl (fits m (s′ .view) v) v s′))
+effect m (takes x) t s = takeUnits (shareServer x) (shareUnits x) t s
+-- "f idle; ..", "frees b; .."
+effect m (frees x) t s =
+    goOn t (checkWels (shareServer x) (wakeFor m x (freeUnits (shareServer x) (shareUnits x) (enters t s))))
 -- "waits on the WEL while the code is true; else the first of that WEL goes to REL, go on"
 effect m (waitServer code v) t s =
     cond (status code (serverAt (s .view) v)) (mustWait (toWel v code) t s) (goOn t (wakeFirstWel v code (enters t s)))
 -- "waits on the WSL while true; else go on"
 effect m (waitTerms a r b) t s =
     cond (compare (m .values) (s .view) (t .parameters) a r b) (mustWait toWsl t s) (goOn t (enters t s))
--- "true, the next block is the target, still moving; else go on"
-effect m (branch a r b target) t s =
-    moveTo (cond (compare (m .values) (s .view) (t .parameters) a r b) target (suc (t .next))) t (enters t s)
-effect m (goto target) t s = moveTo target t (enters t s)
+-- 10 IF, "true, the next block is the target, still moving; else go on". 11 GOTO, "likewise, always"
+effect m (moves c target) t s =
+    moveTo (cond (truth (m .values) (s .view) (t .parameters) c) target (suc (t .next))) t (enters t s)
 effect m (assign k a) t s =
     goOn (withParameters (setNth (t .parameters) k (evaluate (m .values) (s .view) (t .parameters) a)) t) (enters t s)
 effect m (priority p) t s = toRel (withPriority p (withReturning false (withNext (suc (t .next)) t))) (enters t s)
 effect m (split n target) t s = goOn t (copies n target t (enters t s))
-effect m (arrive q) t s = goOn t (setContent q (queueAt (s .view) q .content + 1) (enters t s))
-effect m (depart q) t s = goOn t (setContent q (queueAt (s .view) q .content - 1) (enters t s))
+effect m (counts c q) t s = goOn t (setContent q (changed c (queueAt (s .view) q .content)) (enters t s))

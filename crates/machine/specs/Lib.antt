@@ -1,10 +1,12 @@
 pub mod Limits
+pub mod Rules
 pub mod Number
 pub mod Parser
 pub mod Trace
 pub mod Transaction
 pub mod Lists
 pub mod Term
+pub mod Facts
 pub mod Block
 pub mod State
 pub mod Setters

@@ -7,7 +7,7 @@ use lib.ListN.{length, getD, set, take, drop}
 use Rattle.machine.specs.Transaction.{Transaction, precedes, earlier, newborn}
 use Rattle.machine.specs.Lists.{insert, those, others, nth, setNth}
 use Rattle.machine.specs.Term.{serverAt, queueAt}
-use Rattle.machine.specs.Block.{Code, codeIndex}
+use Rattle.machine.specs.Block.{Code, welIndex}
 use Rattle.machine.specs.Trace.{Record, recordBytes}
 use Rattle.machine.specs.State.{State}
 use Rattle.machine.specs.Setters.{withNext, withSerial, withReturning, withInUse, withContent, setEntries, setQueues, setServers, setView, setSamples, setQl, setWel, setWsl, setRel, setFel, setMoving, setSerial, setMade, setRecords, setWritten}
@@ -52,10 +52,6 @@ toFel time t s =
     setFel (insert earlier (record { time = time; who = withSerial (fresh s) t }) (s .fel)) (setSerial (fresh s) s)
 
 -- ---- Waiting
-
--- where the WEL of a server and a code stands
-unfoldable pub welIndex : ℕ → Code → ℕ
-welIndex v code = (v - 1) * 6 + codeIndex code
 
 abbrev pub qlOf : State → ℕ → List Transaction
 qlOf s v = nth (s .ql) v []

@@ -1,6 +1,7 @@
 -- Questions, "A run returns refusal (0 for none), end, clock, turns, made, ended, bytes of trace and of report."
 use Prim.Native.Nat.{ℕ}
 use mathlib.Core.List.{List, [], map, reverse}
+use Rattle.machine.specs.Rules.{Rules}
 use Rattle.machine.specs.Block.{BlockModel}
 use Rattle.machine.specs.Trace.{Record, traceBytes}
 use Rattle.machine.specs.State.{State}
@@ -43,7 +44,7 @@ unfoldable pub outcomeOf : (budget room : ℕ) → Validation → Outcome
 outcomeOf budget room (accept m tape) = acceptedRun m (run m tape budget room)
 outcomeOf budget room (reject n) = refusedRun n
 
--- The outcome for the bytes of a model and a tape, a budget of turns and the lengths of the work, trace and report buffers.
+-- Under some rules, the outcome for the bytes of a model and a tape, a budget of turns and the lengths of the work, trace and report buffers.
 -- The numbers of bytes of trace and report are the lengths of the two lists.
-unfoldable pub outcome : (model tape : List ℕ) (budget work room report : ℕ) → Outcome
-outcome model tape budget work room report = outcomeOf budget room (validate model tape work report)
+unfoldable pub outcome : Rules → (model tape : List ℕ) (budget work room report : ℕ) → Outcome
+outcome rules model tape budget work room report = outcomeOf budget room (validate rules model tape work report)

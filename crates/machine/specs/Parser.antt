@@ -65,7 +65,11 @@ fieldOf code lo hi none = refuse code
 fieldOf code lo hi (some n) = λ c.
     cond (leb lo (n .value) && leb (n .value) hi) (parsed (n .value) (forward c (n .size))) (refused (suc code))
 
--- A number from lo to hi: refusal `code` for one that is not whole, not shortest or not in size, the next for one out of range.
+-- A number from lo to hi: refusal `code` for one that is not whole, not shortest or above `most`, the next for one out of range.
 -- The pairs of the paper are 3 and 4 for the model, 8 and 9 for the tape, 31 and 32 for the trace.
-unfoldable pub field : List ℕ → ℕ → ℕ → ℕ → Parser ℕ
-field s code lo hi = λ c. fieldOf code lo hi (readNumber Limits.maxNumberBytes Limits.maxNumber (drop (c .position) s)) c
+unfoldable pub fieldUpTo : (most : ℕ) → List ℕ → (code lo hi : ℕ) → Parser ℕ
+fieldUpTo most s code lo hi = λ c. fieldOf code lo hi (readNumber Limits.maxNumberBytes most (drop (c .position) s)) c
+
+-- one of the size that document 01 gives every number
+abbrev pub field : List ℕ → (code lo hi : ℕ) → Parser ℕ
+field s code lo hi = fieldUpTo Limits.maxNumber s code lo hi

@@ -7,7 +7,8 @@ use lib.Dec.{ltb, leb, eqb}
 use lib.ListN.{length, replicate}
 use Rattle.machine.specs.Limits.{maxSerial, maxTurns, recordRoom}
 use Rattle.machine.specs.Term.{idleServer, emptyQueue}
-use Rattle.machine.specs.Block.{Block, generate, advance, terminate, seize, release, enter, leave, waitServer, waitTerms, branch, goto, assign, priority, split, arrive, depart, BlockModel}
+use Rattle.machine.specs.Facts.{Facts, isGenerate}
+use Rattle.machine.specs.Block.{Block, facts, BlockModel}
 use Rattle.machine.specs.State.{State}
 use Rattle.machine.specs.Setters.{setEnd}
 use Rattle.machine.specs.Moves.{timesLeft, arrival}
@@ -39,22 +40,9 @@ endBefore budget room s =
 -- ---- "Start: clock 0; for each GENERATE in block order, if its sample list has a time, one transaction on the FEL at that time"
 
 unfoldable pub startOf : Block → ℕ → State → State
-startOf (generate list p) n s = arrival (timesLeft s list) list p n s
-startOf (advance list) n s = s
-startOf (terminate a) n s = s
-startOf (seize v) n s = s
-startOf (release v) n s = s
-startOf (enter v b) n s = s
-startOf (leave v b) n s = s
-startOf (waitServer code v) n s = s
-startOf (waitTerms a r b) n s = s
-startOf (branch a r b target) n s = s
-startOf (goto target) n s = s
-startOf (assign k a) n s = s
-startOf (priority p) n s = s
-startOf (split n′ target) n s = s
-startOf (arrive q) n s = s
-startOf (depart q) n s = s
+startOf b n s =
+    let f : Facts = facts b in
+    cond (isGenerate f) (arrival (timesLeft s (f .generates)) (f .generates) (f .rank) n s) s
 
 -- the blocks from number n on
 unfoldable pub startAt : ℕ → List Block → State → State

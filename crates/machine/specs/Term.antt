@@ -130,3 +130,15 @@ evaluate values w p t = term w p (worths w p values []) t
 
 unfoldable pub compare : List Sum → View → List ℤ → Term → Relation → Term → Bool
 compare values w p a r b = related r (evaluate values w p a) (evaluate values w p b)
+
+-- ---- Conditions of blocks
+
+-- none, or a comparison of two terms
+pub data Condition : Type 0 where
+  always : Condition
+  whenTrue : (left : Term) (relation : Relation) (right : Term) → Condition
+
+-- "with the transaction's own parameters"
+unfoldable pub truth : List Sum → View → List ℤ → Condition → Bool
+truth values w p always = true
+truth values w p (whenTrue a r b) = compare values w p a r b

@@ -4,9 +4,10 @@ use mathlib.Core.Bool.{Bool, cond, _&&_}
 use mathlib.Core.List.{List, [], _∷_, _++_}
 use lib.Dec.{ltb, leb}
 use lib.ListN.{length}
-use Rattle.machine.specs.Limits.{maxClock, maxTransaction, maxBlocks}
+use Rattle.machine.specs.Limits.{maxTransaction, maxBlocks}
+use Rattle.machine.specs.Rules.{Rules}
 use Rattle.machine.specs.Number.{numberBytes}
-use Rattle.machine.specs.Parser.{Parser, Parsed, parsed, refused, _>>=_, give, field}
+use Rattle.machine.specs.Parser.{Parser, Parsed, parsed, refused, _>>=_, give, fieldUpTo}
 
 pub record Record : Type 0 where
   pub clock : ℕ
@@ -31,28 +32,32 @@ pub data Reading : Type 0 where
   refusal : ℕ → Reading
   noMore : Reading
 
-unfoldable pub recordFields : List ℕ → Parser Record
-recordFields s = do
-  clock ← field s 31 0 maxClock
-  transaction ← field s 31 1 maxTransaction
-  block ← field s 31 1 maxBlocks
-  outcome ← field s 31 0 1
+-- one number of a record
+abbrev pub traceField : Rules → List ℕ → (lo hi : ℕ) → Parser ℕ
+traceField r s lo hi = fieldUpTo (r .maxNumber) s 31 lo hi
+
+unfoldable pub recordFields : Rules → List ℕ → Parser Record
+recordFields r s = do
+  clock ← traceField r s 0 (r .maxClock)
+  transaction ← traceField r s 1 maxTransaction
+  block ← traceField r s 1 maxBlocks
+  outcome ← traceField r s 0 1
   give (record { clock = clock; transaction = transaction; block = block; outcome = outcome })
 
 unfoldable pub reading : Parsed Record → Reading
 reading (parsed r c) = taken r (c .position)
 reading (refused n) = refusal n
 
-unfoldable pub readRecord : List ℕ → ℕ → Reading
-readRecord s at =
-    cond (ltb at (length s)) (reading (recordFields s (record { position = at; numbers = 0; mentions = 0 }))) noMore
+unfoldable pub readRecord : Rules → List ℕ → ℕ → Reading
+readRecord r s at =
+    cond (ltb at (length s)) (reading (recordFields r s (record { position = at; numbers = 0; mentions = 0 }))) noMore
 
 -- ---- Questions, "Record writer: the same ranges? 32. Then: do its bytes fit in the rest? 33. A refusal writes nothing."
 
-unfoldable pub inRanges : Record → Bool
-inRanges r =
-    leb (r .clock) maxClock && (leb 1 (r .transaction) && leb (r .transaction) maxTransaction) && (leb 1 (r .block) && leb (r .block) maxBlocks)
-    && leb (r .outcome) 1
+unfoldable pub inRanges : Rules → Record → Bool
+inRanges rules r =
+    leb (r .clock) (rules .maxClock) && (leb 1 (r .transaction) && leb (r .transaction) maxTransaction)
+    && (leb 1 (r .block) && leb (r .block) maxBlocks) && leb (r .outcome) 1
 
 -- What the writer answers: the bytes that now begin the rest, or a refusal.
 pub data Writing : Type 0 where
@@ -60,6 +65,6 @@ pub data Writing : Type 0 where
   rejected : ℕ → Writing
 
 -- writing a record into a rest of `room` bytes
-unfoldable pub writeRecord : ℕ → Record → Writing
-writeRecord room r =
-    cond (inRanges r) (cond (leb (length (recordBytes r)) room) (written (recordBytes r)) (rejected 33)) (rejected 32)
+unfoldable pub writeRecord : Rules → ℕ → Record → Writing
+writeRecord rules room r =
+    cond (inRanges rules r) (cond (leb (length (recordBytes r)) room) (written (recordBytes r)) (rejected 33)) (rejected 32)

@@ -4,11 +4,12 @@ use mathlib.Core.Bool.{Bool, false, cond, not}
 use mathlib.Core.List.{List, [], _∷_, map}
 use mathlib.Core.Option.{Option, none, some}
 use lib.Dec.{eqb}
+use lib.IntN.{ℤ}
 use lib.ListN.{length}
 use Rattle.machine.specs.Transaction.{Transaction, Event}
 use Rattle.machine.specs.Lists.{those, others}
-use Rattle.machine.specs.Term.{Server, Queue, View, Sum, compare}
-use Rattle.machine.specs.Block.{Block, generate, advance, terminate, seize, release, enter, leave, waitServer, waitTerms, branch, goto, assign, priority, split, arrive, depart, BlockModel, blockAt}
+use Rattle.machine.specs.Term.{Server, Queue, View, Sum, Condition, truth}
+use Rattle.machine.specs.Block.{Block, facts, BlockModel, blockAt}
 use Rattle.machine.specs.State.{State}
 use Rattle.machine.specs.Setters.{withReturning, setClock, setServers, setQueues, setView, setRel, setFel, setMoving, setTurns, setEnd}
 use Rattle.machine.specs.Moves.{toRel, wakeWsl}
@@ -82,31 +83,18 @@ answer (suc n) m b t s = setEnd (suc n) s
 
 unfoldable pub execute : Option Transaction → BlockModel → State → State
 execute none m s = s
-execute (some t) m s = let b : Block = blockAt m (t .next) in answer (question b s) m b t s
+execute (some t) m s = let b : Block = blockAt m (t .next) in answer (question m b s) m b t s
 
 -- ---- "Unless that ends the run, the WS scheme follows: every WSL member whose comparison no longer holds goes to REL."
 
--- does the comparison of the WAITIF at which a WSL member stands hold, with its own parameters?
-unfoldable pub holds : List Sum → View → Transaction → Block → Bool
-holds values w t (generate list p) = false
-holds values w t (advance list) = false
-holds values w t (terminate a) = false
-holds values w t (seize v) = false
-holds values w t (release v) = false
-holds values w t (enter v b) = false
-holds values w t (leave v b) = false
-holds values w t (waitServer code v) = false
-holds values w t (waitTerms a r b) = compare values w (t .parameters) a r b
-holds values w t (branch a r b target) = false
-holds values w t (goto target) = false
-holds values w t (assign k a) = false
-holds values w t (priority p) = false
-holds values w t (split n target) = false
-holds values w t (arrive q) = false
-holds values w t (depart q) = false
+-- does a comparison let wait? one that is not there does not
+unfoldable pub holds : List Sum → View → List ℤ → Option Condition → Bool
+holds values w p none = false
+holds values w p (some c) = truth values w p c
 
+-- does the comparison of the WAITIF at which a WSL member stands hold, with its own parameters?
 unfoldable pub waitsOn : BlockModel → View → Transaction → Bool
-waitsOn m w t = holds (m .values) w t (blockAt m (t .next))
+waitsOn m w t = holds (m .values) w (t .parameters) (facts (blockAt m (t .next)) .waitsWhile)
 
 unfoldable pub wsScheme : BlockModel → State → State
 wsScheme m s = cond (eqb (s .end) 0) (wakeWsl (λ t. not (waitsOn m (s .view) t)) s) s

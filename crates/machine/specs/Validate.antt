@@ -5,16 +5,15 @@ use mathlib.Core.List.{List, [], _∷_}
 use lib.Dec.{leb, eqb}
 use lib.ListN.{length}
 use Rattle.machine.specs.Limits.{workNumbers, reportRoom}
+use Rattle.machine.specs.Rules.{Rules}
 use Rattle.machine.specs.Parser.{Cursor, Parser, Parsed, parsed, refused, _>>=_, _>>_, give, ask, times}
 use Rattle.machine.specs.Term.{Term, constant, minusConstant, parameter, clockTerm, entriesOf, contentOf, unitsInUse, unitsFree, facilityInUse, value, comparison, bracket, Sum, nothing, plus, minus}
-use Rattle.machine.specs.Block.{Block, Facts, facts, BlockModel, blockAt}
+use Rattle.machine.specs.Facts.{isGenerate}
+use Rattle.machine.specs.Block.{Block, facts, BlockModel, blockAt}
 use Rattle.machine.specs.Decode.{modelFields, atEnd, listField}
 
 -- ---- "Is each GENERATE first or after TERMINATE or GOTO, named by no target, the last block TERMINATE or GOTO, and does
 -- each block named in a value exist? 7."
-
-abbrev pub isGenerate : Facts → Bool
-isGenerate f = not (eqb (f .generates) 0)
 
 -- each GENERATE stands where nothing goes on before it, and the last block lets nothing go on
 unfoldable pub wellPlaced : Bool → List Block → Bool
@@ -60,17 +59,17 @@ abbrev pub beginning : Cursor
 beginning = record { position = 0; numbers = 0; mentions = 0 }
 
 -- questions 3 to 7
-unfoldable pub modelOf : List ℕ → Parser BlockModel
-modelOf s = do
-  m ← modelFields s
+unfoldable pub modelOf : Rules → List ℕ → Parser BlockModel
+modelOf rules s = do
+  m ← modelFields s rules
   atEnd s 6
   ask (wellFormed m) 7
   give m
 
 -- questions 8 to 10
-unfoldable pub tapeOf : List ℕ → ℕ → Parser (List (List ℕ))
-tapeOf s lists = do
-  tape ← times lists (listField s)
+unfoldable pub tapeOf : Rules → List ℕ → ℕ → Parser (List (List ℕ))
+tapeOf rules s lists = do
+  tape ← times lists (listField s rules)
   atEnd s 10
   give tape
 
@@ -84,12 +83,12 @@ withTape m (parsed tape c) = accept m tape
 withTape m (refused n) = reject n
 
 unfoldable pub withModel : List ℕ → Parsed BlockModel → Validation
-withModel tape (parsed m c) = withTape m (tapeOf tape (m .lists) beginning)
+withModel tape (parsed m c) = withTape m (tapeOf (m .rules) tape (m .lists) beginning)
 withModel tape (refused n) = reject n
 
 -- "Has the work buffer 16,384 32-bit numbers? 1. The report buffer 10,240 bytes? 2. Then number by number through the model"
-unfoldable pub validate : (model tape : List ℕ) (work report : ℕ) → Validation
-validate model tape work report =
+unfoldable pub validate : Rules → (model tape : List ℕ) (work report : ℕ) → Validation
+validate rules model tape work report =
     cond (leb workNumbers work)
-    (cond (leb reportRoom report) (withModel tape (modelOf model beginning)) (reject 2))
+    (cond (leb reportRoom report) (withModel tape (modelOf rules model beginning)) (reject 2))
     (reject 1)

@@ -7,6 +7,7 @@ use lib.Dec.{eqb}
 use lib.ListN.{length, getD}
 use Rattle.machine.specs.State.{Logged}
 use Rattle.machine.specs.Run.{run}
+use Rattle.machine.specs.Rules.{document01}
 use Rattle.machine.specs.Validate.{accept, reject, validate}
 use Rattle.machine.specs.Claims.{noRecord, waitEnd, equalWaits, bit}
 use Rattle.machine.specs.Bundle.{everything}
@@ -22,7 +23,7 @@ spansFrom (suc left) i records =
 -- the waits of a run, behind its number of records
 spans : List ℕ → List ℕ → List (List ℕ)
 spans model tape =
-    elim (validate model tape 16384 10240) [
+    elim (validate document01 model tape 16384 10240) [
       | accept m t ↦
           let records : List Logged = reverse (run m t 1000000 65536 .records) in
           (length records ∷ []) ∷ spansFrom (length records) 0 records
@@ -32,7 +33,7 @@ spans model tape =
 -- are the waits begun at two positions equal ones?
 equalAt : List ℕ → List ℕ → ℕ → ℕ → ℕ
 equalAt model tape i k =
-    elim (validate model tape 16384 10240) [
+    elim (validate document01 model tape 16384 10240) [
       | accept m t ↦
           let records : List Logged = reverse (run m t 1000000 65536 .records) in
           bit (equalWaits m t (getD records i noRecord) (getD records k noRecord))

@@ -1,5 +1,8 @@
 // The machine of document 01. Its rules are the definitions of specs/; the code here is the header of a decoded model,
-// with the limits as named constants.
+// with the limits as named constants, and the paper's numbers of kinds, ends and refusals.
+pub mod ends;
+pub mod kinds;
 mod model;
+pub mod refusals;
 
 pub use model::Model;

@@ -1,6 +1,6 @@
 // The header of a model, and document 01's limits as its constants.
 ghost use mathlib.Core.Path.{_≡_};
-ghost use Rattle.machine.specs.Limits.{maxFacilities, maxStorages, maxCapacity, maxQueues, maxValues, maxLists, maxCounter, maxBlocks, maxLiving, maxSamples, maxTime, maxPriority, parameterCount, maxTerminate, maxSplit, maxConstant, maxTerms, maxValueNumbers, maxBrackets, maxMentions};
+ghost use Rattle.machine.specs.Limits.{maxFacilities, maxStorages, maxCapacity, maxQueues, maxValues, maxLists, maxCounter, maxBlocks, maxLiving, maxSamples, maxTime, maxPriority, parameterCount, maxTerminate, maxSplit, maxConstant, maxTerms, maxValueNumbers, maxBrackets, maxMentions, maxSerial, maxTurns, recordRoom, maxClock, maxTransaction, maxNumberBytes, maxNumber, maxReportNumberBytes, maxReportNumber, workNumbers, reportRoom};
 
 // The header of a decoded model: how many there are of each thing, and the counter.
 pub struct Model {
@@ -14,7 +14,8 @@ pub struct Model {
 }
 
 impl Model {
-    // Document 01, "These limits are named constants of the model, beside 1,024 living transactions."
+    // Document 01, "These limits are named constants of the model, beside 1,024 living transactions." Checks and contracts name
+    // them: a contract by the name of specs/Limits.
     pub const MAX_FACILITIES: usize = 32;
 
     pub const MAX_STORAGES: usize = 32;
@@ -55,29 +56,46 @@ impl Model {
 
     pub const MAX_MENTIONS: usize = 2;
 
+    // "Last serial given above 99,997,952, or 100,000,000 turns done", "Fewer than 12 bytes left in the trace"
+    pub const MAX_SERIAL: u32 = 99_997_952;
+
+    pub const MAX_TURNS: u32 = 100_000_000;
+
+    pub const RECORD_ROOM: usize = 12;
+
+    // "Clock to 2,000,000,000, transaction 1..100,000,000"
+    pub const MAX_CLOCK: u64 = 2_000_000_000;
+
+    pub const MAX_TRANSACTION: u64 = 100_000_000;
+
+    // "at most 5 bytes and 4,294,967,295 (report: 9 bytes)"
+    pub const NUMBER_BYTES: usize = 5;
+
+    pub const MAX_NUMBER: u64 = 4_294_967_295;
+
+    pub const REPORT_NUMBER_BYTES: usize = 9;
+
+    pub const MAX_REPORT_NUMBER: u64 = 9_223_372_036_854_775_807;
+
+    // "Has the work buffer 16,384 32-bit numbers? 1. The report buffer 10,240 bytes? 2."
+    pub const WORK_NUMBERS: usize = 16_384;
+
+    pub const REPORT_ROOM: usize = 10_240;
+
     // The empty model, where decoding begins. Each limit is that of the definitions.
     pub fn empty() -> Model
         ensures nothing { λ r. ⌜ (r .facilities ≡ 0) × (r .storages ≡ 0) × (r .queues ≡ 0) × (r .values ≡ 0) × (r .lists ≡ 0) × (r .counter ≡ 0) × (r .blocks ≡ 0) ⌝ }
-        ensures max_facilities { λ r. do ⌜ (← ⟦Model::MAX_FACILITIES⟧ .entry) ≡ maxFacilities ⌝ }
-        ensures max_storages { λ r. do ⌜ (← ⟦Model::MAX_STORAGES⟧ .entry) ≡ maxStorages ⌝ }
-        ensures max_capacity { λ r. do ⌜ (← ⟦Model::MAX_CAPACITY⟧ .entry) ≡ maxCapacity ⌝ }
-        ensures max_queues { λ r. do ⌜ (← ⟦Model::MAX_QUEUES⟧ .entry) ≡ maxQueues ⌝ }
-        ensures max_values { λ r. do ⌜ (← ⟦Model::MAX_VALUES⟧ .entry) ≡ maxValues ⌝ }
-        ensures max_lists { λ r. do ⌜ (← ⟦Model::MAX_LISTS⟧ .entry) ≡ maxLists ⌝ }
-        ensures max_counter { λ r. do ⌜ (← ⟦Model::MAX_COUNTER⟧ .entry) ≡ maxCounter ⌝ }
-        ensures max_blocks { λ r. do ⌜ (← ⟦Model::MAX_BLOCKS⟧ .entry) ≡ maxBlocks ⌝ }
-        ensures max_living { λ r. do ⌜ (← ⟦Model::MAX_LIVING⟧ .entry) ≡ maxLiving ⌝ }
-        ensures max_samples { λ r. do ⌜ (← ⟦Model::MAX_SAMPLES⟧ .entry) ≡ maxSamples ⌝ }
-        ensures max_time { λ r. do ⌜ (← ⟦Model::MAX_TIME⟧ .entry) ≡ maxTime ⌝ }
-        ensures max_priority { λ r. do ⌜ (← ⟦Model::MAX_PRIORITY⟧ .entry) ≡ maxPriority ⌝ }
-        ensures parameters { λ r. do ⌜ (← ⟦Model::PARAMETERS⟧ .entry) ≡ parameterCount ⌝ }
-        ensures max_terminate { λ r. do ⌜ (← ⟦Model::MAX_TERMINATE⟧ .entry) ≡ maxTerminate ⌝ }
-        ensures max_split { λ r. do ⌜ (← ⟦Model::MAX_SPLIT⟧ .entry) ≡ maxSplit ⌝ }
-        ensures max_constant { λ r. do ⌜ (← ⟦Model::MAX_CONSTANT⟧ .entry) ≡ maxConstant ⌝ }
-        ensures max_terms { λ r. do ⌜ (← ⟦Model::MAX_TERMS⟧ .entry) ≡ maxTerms ⌝ }
-        ensures max_value_numbers { λ r. do ⌜ (← ⟦Model::MAX_VALUE_NUMBERS⟧ .entry) ≡ maxValueNumbers ⌝ }
-        ensures max_brackets { λ r. do ⌜ (← ⟦Model::MAX_BRACKETS⟧ .entry) ≡ maxBrackets ⌝ }
-        ensures max_mentions { λ r. do ⌜ (← ⟦Model::MAX_MENTIONS⟧ .entry) ≡ maxMentions ⌝ }
+        ensures servers { λ _. do ⌜ ((← ⟦Model::MAX_FACILITIES⟧ .entry) ≡ maxFacilities) × ((← ⟦Model::MAX_STORAGES⟧ .entry) ≡ maxStorages) × ((← ⟦Model::MAX_CAPACITY⟧ .entry) ≡ maxCapacity) ⌝ }
+        ensures things { λ _. do ⌜ ((← ⟦Model::MAX_QUEUES⟧ .entry) ≡ maxQueues) × ((← ⟦Model::MAX_VALUES⟧ .entry) ≡ maxValues) × ((← ⟦Model::MAX_LISTS⟧ .entry) ≡ maxLists) ⌝ }
+        ensures program { λ _. do ⌜ ((← ⟦Model::MAX_COUNTER⟧ .entry) ≡ maxCounter) × ((← ⟦Model::MAX_BLOCKS⟧ .entry) ≡ maxBlocks) × ((← ⟦Model::MAX_LIVING⟧ .entry) ≡ maxLiving) ⌝ }
+        ensures tape { λ _. do ⌜ ((← ⟦Model::MAX_SAMPLES⟧ .entry) ≡ maxSamples) × ((← ⟦Model::MAX_TIME⟧ .entry) ≡ maxTime) ⌝ }
+        ensures transactions { λ _. do ⌜ ((← ⟦Model::MAX_PRIORITY⟧ .entry) ≡ maxPriority) × ((← ⟦Model::PARAMETERS⟧ .entry) ≡ parameterCount) ⌝ }
+        ensures operands { λ _. do ⌜ ((← ⟦Model::MAX_TERMINATE⟧ .entry) ≡ maxTerminate) × ((← ⟦Model::MAX_SPLIT⟧ .entry) ≡ maxSplit) × ((← ⟦Model::MAX_CONSTANT⟧ .entry) ≡ maxConstant) × ((← ⟦Model::MAX_TERMS⟧ .entry) ≡ maxTerms) ⌝ }
+        ensures sums { λ _. do ⌜ ((← ⟦Model::MAX_VALUE_NUMBERS⟧ .entry) ≡ maxValueNumbers) × ((← ⟦Model::MAX_BRACKETS⟧ .entry) ≡ maxBrackets) × ((← ⟦Model::MAX_MENTIONS⟧ .entry) ≡ maxMentions) ⌝ }
+        ensures turns { λ _. do ⌜ ((← ⟦Model::MAX_SERIAL⟧ .entry) ≡ maxSerial) × ((← ⟦Model::MAX_TURNS⟧ .entry) ≡ maxTurns) × ((← ⟦Model::RECORD_ROOM⟧ .entry) ≡ recordRoom) ⌝ }
+        ensures records { λ _. do ⌜ ((← ⟦Model::MAX_CLOCK⟧ .entry) ≡ maxClock) × ((← ⟦Model::MAX_TRANSACTION⟧ .entry) ≡ maxTransaction) ⌝ }
+        ensures numbers { λ _. do ⌜ ((← ⟦Model::NUMBER_BYTES⟧ .entry) ≡ maxNumberBytes) × ((← ⟦Model::MAX_NUMBER⟧ .entry) ≡ maxNumber) × ((← ⟦Model::REPORT_NUMBER_BYTES⟧ .entry) ≡ maxReportNumberBytes) × ((← ⟦Model::MAX_REPORT_NUMBER⟧ .entry) ≡ maxReportNumber) ⌝ }
+        ensures buffers { λ _. do ⌜ ((← ⟦Model::WORK_NUMBERS⟧ .entry) ≡ workNumbers) × ((← ⟦Model::REPORT_ROOM⟧ .entry) ≡ reportRoom) ⌝ }
     {
         Model {
             facilities: 0,

@@ -10,7 +10,7 @@ use lib.Dec.{eqb}
 use lib.ListN.{length, getD}
 use Rattle.machine.specs.Transaction.{Transaction, precedes}
 use Rattle.machine.specs.Lists.{insert}
-use Rattle.machine.specs.Block.{Code, Block, BlockModel}
+use Rattle.machine.specs.Block.{Code, Block, BlockModel, welIndex}
 use Rattle.machine.specs.State.{State}
 use Rattle.machine.specs.Setters.{withNext, withSerial, withReturning, setSerial, setEnd}
 use Rattle.machine.specs.Moves as Moves
@@ -144,11 +144,11 @@ puts-ql v s h len =
       moving = λ t. refl;
     }
 
-pub puts-wel : (v : ℕ) (code : Code) (s : State) → Moves.welIndex v code < 384 → Moves.welIndex v code < length (s .wel) → Puts (64 + Moves.welIndex v code) (Moves.toWel v code) s
+pub puts-wel : (v : ℕ) (code : Code) (s : State) → welIndex v code < 384 → welIndex v code < length (s .wel) → Puts (64 + welIndex v code) (Moves.toWel v code) s
 unfolding Moves.toWel
 puts-wel v code s h len =
     record {
-      lists = λ t q hq. rw (lists-wel s (Moves.welIndex v code) h) (lists-set-wel s (Moves.welIndex v code) (insert precedes t (getD (s .wel) (Moves.welIndex v code) [])) h len q);
+      lists = λ t q hq. rw (lists-wel s (welIndex v code) h) (lists-set-wel s (welIndex v code) (insert precedes t (getD (s .wel) (welIndex v code) [])) h len q);
       future = λ t. refl;
       clock = λ t. refl;
       counter = λ t. refl;

@@ -3,7 +3,8 @@ use Prim.Native.Nat.{ℕ, _+_, _%_, min}
 use mathlib.Core.Bool.{cond}
 use mathlib.Core.List.{List}
 use lib.Dec.{eqb}
-use Rattle.rows.specs.Layout.{standingField, nextField, serialField}
+use Rattle.tables.specs.Layout.{most32}
+use Rattle.rows.specs.Layout.{standingField, nextField, serialField, rowCount}
 use Rattle.rows.specs.Cells.{read, write, setReturning}
 use Rattle.rows.specs.Lists.{put}
 use Rattle.state.specs.declared.scalars.Scalars.{Scalars}
@@ -24,7 +25,7 @@ withTally m tally = rowsOf (m .scalars) (m .work) tally
 
 -- the next number, stopping at the largest
 abbrev pub next32 : ℕ → ℕ
-next32 n = min (n + 1) 4294967295
+next32 n = min (n + 1) most32
 
 unfoldable pub goTo : List ℕ → Scalars → ℕ → Moved
 goTo w x block = moved (putNote 0 x) (setReturning (write w nextField (x .moving) block) (x .moving) 0)
@@ -33,11 +34,11 @@ unfoldable pub goOn : List ℕ → Scalars → Moved
 goOn w x = goTo w x (next32 (read w nextField (x .moving)))
 
 unfoldable pub putBack : List ℕ → Scalars → ℕ → Moved
-putBack w x p = moved (putNote 2 (putMoving 1024 x)) (put w p (x .moving))
+putBack w x p = moved (putNote 2 (putMoving rowCount x)) (put w p (x .moving))
 
 unfoldable pub beginWait : List ℕ → Scalars → ℕ → Moved
 beginWait w x p =
-    moved (putNote 1 (putSerial (next32 (x .serial)) (putMoving 1024 x))) (put (write w serialField (x .moving) (next32 (x .serial))) p (x .moving))
+    moved (putNote 1 (putSerial (next32 (x .serial)) (putMoving rowCount x))) (put (write w serialField (x .moving) (next32 (x .serial))) p (x .moving))
 
 unfoldable pub waitOn : List ℕ → Scalars → ℕ → Moved
 waitOn w x p = cond (eqb (read w standingField (x .moving) % 2) 1) (putBack w x p) (beginWait w x p)

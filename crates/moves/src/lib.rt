@@ -1,81 +1,89 @@
 // How the moving transaction goes on or comes to wait: its row of the work buffer and the scalars.
+use rows::NEXT;
+use rows::SERIAL;
+use rows::STANDING;
 use rows::cells::read;
 use rows::cells::set_returning;
 use rows::cells::write;
 use rows::lists::put;
+use state::ENTERED;
+use state::NO_RECORD;
+use state::NOBODY;
 use state::Scalars;
+use state::WAITS;
 use state::plus32;
 ghost use mathlib.Core.Path.{_≡_};
 ghost use Prim.Native.Nat.{_<_, _≤_};
+ghost use Rattle.rows.specs.Layout.{Room, listCount, rowCount};
 ghost use Rattle.moves.specs.Motion.{moved, goTo, goOn, putBack, beginWait, waitOn, stopped};
 
 // The transaction stands before a block, still moving; it entered.
 pub fn go_to(work: &mut [u32], x: Scalars, block: u32) -> Scalars
-    requires { do ⌜ 16384 ≤ (← ⟦work.len()⟧) ⌝ }
-    requires { ⌜ x .moving < 1024 ⌝ }
+    requires { ⌜ Room (now work) ⌝ }
+    requires { ⌜ x .moving < rowCount ⌝ }
     ensures { λ r. ⌜ moved r (now (work .exit)) ≡ goTo (now (work .entry)) x block ⌝ }
 {
     let k = x.moving;
-    write(work, 6, k, block);
+    write(work, NEXT, k, block);
     set_returning(work, k, 0);
     let mut y = x;
-    y.note = 0;
+    y.note = ENTERED;
     y
 }
 
 // "Go on": the next block plus one.
 pub fn go_on(work: &mut [u32], x: Scalars) -> Scalars
-    requires { do ⌜ 16384 ≤ (← ⟦work.len()⟧) ⌝ }
-    requires { ⌜ x .moving < 1024 ⌝ }
+    requires { ⌜ Room (now work) ⌝ }
+    requires { ⌜ x .moving < rowCount ⌝ }
     ensures { λ r. ⌜ moved r (now (work .exit)) ≡ goOn (now (work .entry)) x ⌝ }
 {
     let k = x.moving;
-    let next = plus32(read(work, 6, k), 1);
+    let next = plus32(read(work, NEXT, k), 1);
     go_to(work, x, next)
 }
 
 // A returning one comes back onto list p with its own serial.
 fn put_back(work: &mut [u32], x: Scalars, p: u32) -> Scalars
-    requires { do ⌜ 16384 ≤ (← ⟦work.len()⟧) ⌝ }
-    requires { ⌜ x .moving < 1024 ⌝ }
-    requires { ⌜ p < 512 ⌝ }
+    requires { ⌜ Room (now work) ⌝ }
+    requires { ⌜ x .moving < rowCount ⌝ }
+    requires { ⌜ p < listCount ⌝ }
     ensures { λ r. ⌜ moved r (now (work .exit)) ≡ putBack (now (work .entry)) x p ⌝ }
 {
     let k = x.moving;
     put(work, p, k);
     let mut y = x;
-    y.moving = 1024;
-    y.note = 2;
+    y.moving = NOBODY;
+    y.note = NO_RECORD;
     y
 }
 
 // Another one begins to wait on list p with a fresh serial.
 fn begin_wait(work: &mut [u32], x: Scalars, p: u32) -> Scalars
-    requires { do ⌜ 16384 ≤ (← ⟦work.len()⟧) ⌝ }
-    requires { ⌜ x .moving < 1024 ⌝ }
-    requires { ⌜ p < 512 ⌝ }
+    requires { ⌜ Room (now work) ⌝ }
+    requires { ⌜ x .moving < rowCount ⌝ }
+    requires { ⌜ p < listCount ⌝ }
     ensures { λ r. ⌜ moved r (now (work .exit)) ≡ beginWait (now (work .entry)) x p ⌝ }
 {
     let k = x.moving;
     let serial = plus32(x.serial, 1);
-    write(work, 7, k, serial);
+    write(work, SERIAL, k, serial);
     put(work, p, k);
     let mut y = x;
-    y.moving = 1024;
+    y.moving = NOBODY;
     y.serial = serial;
-    y.note = 1;
+    y.note = WAITS;
     y
 }
 
 // The transaction must wait on list p.
 pub fn wait_on(work: &mut [u32], x: Scalars, p: u32) -> Scalars
-    requires { do ⌜ 16384 ≤ (← ⟦work.len()⟧) ⌝ }
-    requires { ⌜ x .moving < 1024 ⌝ }
-    requires { ⌜ p < 512 ⌝ }
+    requires { ⌜ Room (now work) ⌝ }
+    requires { ⌜ x .moving < rowCount ⌝ }
+    requires { ⌜ p < listCount ⌝ }
     ensures { λ r. ⌜ moved r (now (work .exit)) ≡ waitOn (now (work .entry)) x p ⌝ }
 {
     let k = x.moving;
-    if read(work, 1, k) % 2 == 1 {
+    if read(work, STANDING, k) % 2 == 1 {
         return put_back(work, x, p);
     }
     begin_wait(work, x, p)
@@ -87,6 +95,6 @@ pub fn stop(x: Scalars, n: u32) -> Scalars
 {
     let mut y = x;
     y.end = n;
-    y.note = 2;
+    y.note = NO_RECORD;
     y
 }

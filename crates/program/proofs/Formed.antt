@@ -1,15 +1,17 @@
 -- Each kind of block, with operands in their ranges, is formed (specs/Formed).
 use Prim.Native.Nat.{ℕ, _+_, _-_, _≤_, _<_}
 use native.Mathlib.Omega.{arith}
-use mathlib.Core.Path.{_≡_, refl, ap}
+use mathlib.Core.Path.{_≡_, refl}
+use mathlib.Core.Bool.{true, _&&_}
 use mathlib.Core.List.{List, [], _∷_, _++_}
 use lib.Dec.{T}
 use lib.ListN.{length, getD, length-append}
 use borrow.Author.Tests.{ne-eqb, lt-ltb}
 use Rattle.machine.specs.Term.{Term, Relation}
-use Rattle.machine.specs.Block.{Code, facts, generate, advance, terminate, seize, release, enter, leave, waitServer, waitTerms, branch, goto, assign, priority, split, arrive, depart}
+use Rattle.machine.specs.Block.{Code, generate, advance, terminate, seize, release, enter, leave, waitServer, waitTerms, branch, goto, assign, priority, split, arrive, depart}
+use Rattle.tables.specs.Forms.{blockForms}
 use Rattle.tables.specs.Numbers.{blockNumbers, termNumbers, relationNumber}
-use Rattle.tables.specs.Represents.{smallBlock, smallTerm}
+use Rattle.tables.specs.Represents.{smallTerm}
 use Rattle.values.proofs.Steps.{both}
 use Rattle.program.specs.Formed.{Formed, targetFrom, targetInside}
 
@@ -21,53 +23,53 @@ two (x ∷ y ∷ []) h = refl
 two (x ∷ y ∷ z ∷ l) h = absurd (omega arith)
 
 pub formed-generate : (most : ℕ) (list p : ℕ) → 1 ≤ list → Formed most (generate list p)
-unfolding blockNumbers smallBlock facts targetFrom targetInside
+unfolding targetFrom targetInside blockForms
 formed-generate most list p h =
     record { width = omega arith; small = tt; generates = rw (ne-eqb list 0 (omega arith)) refl; leaves = refl; target = refl; inside = tt; names = omega arith }
 
 pub formed-advance : (most : ℕ) (list : ℕ) → Formed most (advance list)
-unfolding blockNumbers smallBlock facts targetFrom targetInside
+unfolding targetFrom targetInside blockForms
 formed-advance most list =
     record { width = omega arith; small = tt; generates = refl; leaves = refl; target = refl; inside = tt; names = omega arith }
 
 pub formed-terminate : (most : ℕ) (a : ℕ) → Formed most (terminate a)
-unfolding blockNumbers smallBlock facts targetFrom targetInside
+unfolding targetFrom targetInside blockForms
 formed-terminate most a =
     record { width = omega arith; small = tt; generates = refl; leaves = refl; target = refl; inside = tt; names = omega arith }
 
 pub formed-seize : (most : ℕ) (v : ℕ) → Formed most (seize v)
-unfolding blockNumbers smallBlock facts targetFrom targetInside
+unfolding targetFrom targetInside blockForms
 formed-seize most v =
     record { width = omega arith; small = tt; generates = refl; leaves = refl; target = refl; inside = tt; names = omega arith }
 
 pub formed-release : (most : ℕ) (v : ℕ) → Formed most (release v)
-unfolding blockNumbers smallBlock facts targetFrom targetInside
+unfolding targetFrom targetInside blockForms
 formed-release most v =
     record { width = omega arith; small = tt; generates = refl; leaves = refl; target = refl; inside = tt; names = omega arith }
 
 pub formed-enter : (most : ℕ) (v b : ℕ) → Formed most (enter v b)
-unfolding blockNumbers smallBlock facts targetFrom targetInside
+unfolding targetFrom targetInside blockForms
 formed-enter most v b =
     record { width = omega arith; small = tt; generates = refl; leaves = refl; target = refl; inside = tt; names = omega arith }
 
 pub formed-leave : (most : ℕ) (v b : ℕ) → Formed most (leave v b)
-unfolding blockNumbers smallBlock facts targetFrom targetInside
+unfolding targetFrom targetInside blockForms
 formed-leave most v b =
     record { width = omega arith; small = tt; generates = refl; leaves = refl; target = refl; inside = tt; names = omega arith }
 
 pub formed-wait-server : (most : ℕ) (code : Code) (v : ℕ) → Formed most (waitServer code v)
-unfolding blockNumbers smallBlock facts targetFrom targetInside
+unfolding targetFrom targetInside blockForms
 formed-wait-server most code v =
     record { width = omega arith; small = tt; generates = refl; leaves = refl; target = refl; inside = tt; names = omega arith }
 
 module _ (most : ℕ) (a : Term) (r : Relation) (b : Term) (two-a : length (termNumbers a) ≡ 2) (small-a : T (smallTerm a)) (two-b : length (termNumbers b) ≡ 2) (small-b : T (smallTerm b)) where
   pub formed-wait-terms : Formed most (waitTerms a r b)
-  unfolding blockNumbers smallBlock facts targetFrom targetInside
+  unfolding targetFrom targetInside blockForms
   formed-wait-terms =
       let n : 0 < length (blockNumbers (waitTerms a r b)) = omega arith in
       record {
         width = simp length-append (omega arith);
-        small = both (smallTerm a) (smallTerm b) small-a small-b;
+        small = both (smallTerm a) (smallTerm b && true) small-a (both (smallTerm b) true small-b tt);
         generates = refl;
         leaves = refl;
         target = refl;
@@ -80,13 +82,13 @@ module _ (most : ℕ) (a : Term) (r : Relation) (b : Term) (two-a : length (term
   sixth xs ys x t h g = rw (two xs h, two ys g)
 
   pub formed-branch : (t : ℕ) → t ≤ most → Formed most (branch a r b t)
-  unfolding blockNumbers smallBlock facts targetFrom targetInside
+  unfolding targetFrom targetInside blockForms
   formed-branch t h =
       let some : 0 < length (blockNumbers (branch a r b t)) = omega arith in
       let n : 6 < length (10 ∷ (termNumbers a ++ (relationNumber r ∷ (termNumbers b ++ (t ∷ []))))) = simp length-append (omega arith) in
       record {
         width = simp length-append (omega arith);
-        small = both (smallTerm a) (smallTerm b) small-a small-b;
+        small = both (smallTerm a) (smallTerm b && true) small-a (both (smallTerm b) true small-b tt);
         generates = refl;
         leaves = refl;
         target = sixth (termNumbers a) (termNumbers b) (relationNumber r) t two-a two-b;
@@ -95,32 +97,32 @@ module _ (most : ℕ) (a : Term) (r : Relation) (b : Term) (two-a : length (term
       }
 
 pub formed-goto : (most : ℕ) (t : ℕ) → t ≤ most → Formed most (goto t)
-unfolding blockNumbers smallBlock facts targetFrom targetInside
+unfolding targetFrom targetInside blockForms
 formed-goto most t h =
     record { width = omega arith; small = tt; generates = refl; leaves = refl; target = refl; inside = tt; names = h }
 
 pub formed-assign : (most : ℕ) (k : ℕ) (a : Term) → length (termNumbers a) ≡ 2 → T (smallTerm a) → Formed most (assign k a)
-unfolding blockNumbers smallBlock facts targetFrom targetInside
+unfolding targetFrom targetInside blockForms
 formed-assign most k a h g =
     let n : 0 < length (blockNumbers (assign k a)) = omega arith in
-    record { width = omega arith; small = g; generates = refl; leaves = refl; target = refl; inside = rw (lt-ltb 0 _ n) tt; names = omega arith }
+    record { width = omega arith; small = both (smallTerm a) true g tt; generates = refl; leaves = refl; target = refl; inside = rw (lt-ltb 0 _ n) tt; names = omega arith }
 
 pub formed-priority : (most : ℕ) (p : ℕ) → Formed most (priority p)
-unfolding blockNumbers smallBlock facts targetFrom targetInside
+unfolding targetFrom targetInside blockForms
 formed-priority most p =
     record { width = omega arith; small = tt; generates = refl; leaves = refl; target = refl; inside = tt; names = omega arith }
 
 pub formed-split : (most : ℕ) (n t : ℕ) → t ≤ most → Formed most (split n t)
-unfolding blockNumbers smallBlock facts targetFrom targetInside
+unfolding targetFrom targetInside blockForms
 formed-split most n t h =
     record { width = omega arith; small = tt; generates = refl; leaves = refl; target = refl; inside = tt; names = h }
 
 pub formed-arrive : (most : ℕ) (q : ℕ) → Formed most (arrive q)
-unfolding blockNumbers smallBlock facts targetFrom targetInside
+unfolding targetFrom targetInside blockForms
 formed-arrive most q =
     record { width = omega arith; small = tt; generates = refl; leaves = refl; target = refl; inside = tt; names = omega arith }
 
 pub formed-depart : (most : ℕ) (q : ℕ) → Formed most (depart q)
-unfolding blockNumbers smallBlock facts targetFrom targetInside
+unfolding targetFrom targetInside blockForms
 formed-depart most q =
     record { width = omega arith; small = tt; generates = refl; leaves = refl; target = refl; inside = tt; names = omega arith }

@@ -8,7 +8,8 @@ use lib.Dec.{eqb, ltb, T, ltb→lt}
 use lib.ListN.{length, getD}
 use borrow.Author.Tests.{eqb-false}
 use Rattle.machine.specs.Block.{Block, facts, terminate}
-use Rattle.machine.specs.Validate.{isGenerate, wellPlaced, allOf}
+use Rattle.machine.specs.Facts.{isGenerate}
+use Rattle.machine.specs.Validate.{wellPlaced, allOf}
 use Rattle.tables.specs.Numbers.{blockNumbers}
 use Rattle.values.specs.Rows.{Each}
 use Rattle.values.proofs.Rows.{each-at}

@@ -4,7 +4,6 @@ use native.Mathlib.Nat.{le-antisymm}
 use native.Mathlib.Omega.{arith}
 use mathlib.Core.Path.{_≡_, refl, sym, ap, _∙_}
 use mathlib.Core.List.{List, [], _∷_, _++_, append-assoc}
-use lib.Dec.{T}
 use lib.ListN.{length, getD, take, drop, length-append, length-drop}
 use lib.Seq.{sets, length-sets, getD-set-other, getD-take, getD-drop, ext-getD}
 use borrow.Author.Tests.{le-leb, lt-leb}
@@ -12,8 +11,9 @@ use Rattle.machine.specs.Lists.{nth}
 use Rattle.machine.specs.Parser.{Cursor, Parsed, parsed, refused, Parser, continue, field}
 use Rattle.machine.specs.Term.{Term}
 use Rattle.machine.specs.Block.{codeIndex, Block, generate, advance, terminate, seize, release, enter, leave, waitServer, waitTerms, branch, goto, assign, priority, split, arrive, depart}
-use Rattle.machine.specs.Decode.{Counts, blockTerm, relationOf, codeOf, codeServer, storageUnits, operands, blockField}
+use Rattle.machine.specs.Decode.{Counts, kindCount, blockTerm, relationOf, codeOf, codeServer, storageUnits, operands, blockField}
 use Rattle.machine.specs.declared.model.Model.{Model}
+use Rattle.tables.specs.Forms.{blockForms}
 use Rattle.tables.specs.Numbers.{termNumbers, blockNumbers}
 use Rattle.values.specs.declared.Place.{Place}
 use Rattle.values.specs.declared.Range.{Range}
@@ -145,7 +145,7 @@ module _ (s : List ℕ) (n : Counts) (capacities : List ℕ) {p : Place} {to : �
   module _ {code : ℕ} {q : Place} {l₂ : List ℕ} {r₂ : Stored} (told : r₁ ≡ Number code q) where
     pub server-facility : code ≤ 2 → Stores (numberShape 1 (n .facilities) 0) q (to + 1) l₁ l₂ r₂ (field s 3 1 (n .facilities) (cursorOf q)) →
         Stores (operandsShape (n .blocks) 8) p to l₀ l₂ r₂ (operands s n capacities 8 (cursorOf p))
-    unfolding operands codeServer blockNumbers
+    unfolding operands codeServer blockForms
     server-facility h k₂ =
         takes-bind (Stores _ _ _ _ _ _) _ _ k₁ told
         (λ named cells fact.
@@ -161,7 +161,7 @@ module _ (s : List ℕ) (n : Counts) (capacities : List ℕ) {p : Place} {to : �
 
     pub server-storage : 2 < code → Stores (numberShape 1 (n .storages) (n .facilities)) q (to + 1) l₁ l₂ r₂ (field s 3 1 (n .storages) (cursorOf q)) →
         Stores (operandsShape (n .blocks) 8) p to l₀ l₂ r₂ (operands s n capacities 8 (cursorOf p))
-    unfolding operands codeServer blockNumbers
+    unfolding operands codeServer blockForms
     server-storage h k₂ =
         takes-bind (Stores _ _ _ _ _ _) _ _ k₁ told
         (λ named cells fact.
@@ -214,7 +214,7 @@ module _ (s : List ℕ) (n : Counts) (capacities : List ℕ) {p : Place} {to : �
     (k₁ : Stores comparedShape p to l₀ l₁ r₁ (comparedField s n (cursorOf p))) where
   -- 9 WAITIF left, relation, right
   pub kind-9 : Stores (operandsShape (n .blocks) 9) p to l₀ l₁ r₁ (operands s n capacities 9 (cursorOf p))
-  unfolding operands blockNumbers
+  unfolding operands blockForms
   kind-9 =
       rw (← compared-then s n (λ a r b d. parsed (waitTerms a (relationOf r) b) d) (cursorOf p))
       (stores-last (operandsShape (n .blocks) 9) p to l₀ (λ x. waitTerms (x .left) (relationOf (x .relation)) (x .right)) _ k₁
@@ -235,7 +235,7 @@ module _ (s : List ℕ) (n : Counts) (capacities : List ℕ) {p : Place} {to : �
   pub branch-kept : {q : Place} {l₂ : List ℕ} {r₂ : Stored} → r₁ ≡ Done q →
       Stores (numberShape 1 (n .blocks) 1) q (to + 5) l₁ l₂ r₂ (field s 3 1 (n .blocks) (cursorOf q)) →
       Stores (operandsShape (n .blocks) 10) p to l₀ l₂ r₂ (operands s n capacities 10 (cursorOf p))
-  unfolding operands blockNumbers
+  unfolding operands blockForms
   branch-kept {q} {l₂} {r₂} told k₂ =
       rw (← compared-then s n (λ a r b d. continue (field s 3 1 (n .blocks) d) (λ t e. parsed (branch a (relationOf r) b t) e)) (cursorOf p))
       (stores-bind (Stores _ _ _ _ _ _) _ _ k₁ told
@@ -270,7 +270,7 @@ module _ (s : List ℕ) (n : Counts) (capacities : List ℕ) {p : Place} {to : �
 
   pub assign-kept : {q : Place} {l₂ : List ℕ} {r₂ : Stored} → r₁ ≡ Done q → Stores blockTermShape q (to + 1) l₁ l₂ r₂ (blockTerm s n (cursorOf q)) →
       Stores (operandsShape (n .blocks) 12) p to l₀ l₂ r₂ (operands s n capacities 12 (cursorOf p))
-  unfolding operands blockNumbers
+  unfolding operands blockForms
   assign-kept {q} {l₂} {r₂} told k₂ =
       stores-bind (Stores _ _ _ _ _ _) _ _ k₁ told
       (λ k named cells fact.
@@ -301,54 +301,54 @@ module _ (s : List ℕ) (n : Counts) (capacities : List ℕ) {p : Place} {to : �
       ))
 
   pub kind-2 : Stores (numberShape 1 (n .lists) 0) p to l₀ l₁ r₁ (field s 3 1 (n .lists) (cursorOf p)) → Stores (operandsShape (n .blocks) 2) p to l₀ l₁ r₁ (operands s n capacities 2 (cursorOf p))
-  unfolding operands blockNumbers
+  unfolding operands blockForms
   kind-2 k = made 2 advance 0 _ k (λ v l h. ap (λ (x : ℕ). x ∷ []) (omega arith)) (λ v l h. formed-advance (n .blocks) v) (λ v. refl)
 
   pub kind-3 : Stores (numberShape 0 65535 0) p to l₀ l₁ r₁ (field s 3 0 65535 (cursorOf p)) → Stores (operandsShape (n .blocks) 3) p to l₀ l₁ r₁ (operands s n capacities 3 (cursorOf p))
-  unfolding operands blockNumbers
+  unfolding operands blockForms
   kind-3 k = made 3 terminate 0 _ k (λ v l h. ap (λ (x : ℕ). x ∷ []) (omega arith)) (λ v l h. formed-terminate (n .blocks) v) (λ v. refl)
 
   pub kind-4 : Stores (numberShape 1 (n .facilities) 0) p to l₀ l₁ r₁ (field s 3 1 (n .facilities) (cursorOf p)) → Stores (operandsShape (n .blocks) 4) p to l₀ l₁ r₁ (operands s n capacities 4 (cursorOf p))
-  unfolding operands blockNumbers
+  unfolding operands blockForms
   kind-4 k = made 4 seize 0 _ k (λ v l h. ap (λ (x : ℕ). x ∷ []) (omega arith)) (λ v l h. formed-seize (n .blocks) v) (λ v. refl)
 
   pub kind-5 : Stores (numberShape 1 (n .facilities) 0) p to l₀ l₁ r₁ (field s 3 1 (n .facilities) (cursorOf p)) → Stores (operandsShape (n .blocks) 5) p to l₀ l₁ r₁ (operands s n capacities 5 (cursorOf p))
-  unfolding operands blockNumbers
+  unfolding operands blockForms
   kind-5 k = made 5 release 0 _ k (λ v l h. ap (λ (x : ℕ). x ∷ []) (omega arith)) (λ v l h. formed-release (n .blocks) v) (λ v. refl)
 
   pub kind-11 : Stores (numberShape 1 (n .blocks) 1) p to l₀ l₁ r₁ (field s 3 1 (n .blocks) (cursorOf p)) → Stores (operandsShape (n .blocks) 11) p to l₀ l₁ r₁ (operands s n capacities 11 (cursorOf p))
-  unfolding operands blockNumbers
+  unfolding operands blockForms
   kind-11 k = made 11 goto 1 _ k (λ v l h. ap (λ (x : ℕ). x ∷ []) (omega arith)) (λ v l h. formed-goto (n .blocks) v (omega arith)) (λ v. refl)
 
   pub kind-13 : Stores (numberShape 0 127 0) p to l₀ l₁ r₁ (field s 3 0 127 (cursorOf p)) → Stores (operandsShape (n .blocks) 13) p to l₀ l₁ r₁ (operands s n capacities 13 (cursorOf p))
-  unfolding operands blockNumbers
+  unfolding operands blockForms
   kind-13 k = made 13 priority 0 _ k (λ v l h. ap (λ (x : ℕ). x ∷ []) (omega arith)) (λ v l h. formed-priority (n .blocks) v) (λ v. refl)
 
   pub kind-15 : Stores (numberShape 1 (n .queues) 0) p to l₀ l₁ r₁ (field s 3 1 (n .queues) (cursorOf p)) → Stores (operandsShape (n .blocks) 15) p to l₀ l₁ r₁ (operands s n capacities 15 (cursorOf p))
-  unfolding operands blockNumbers
+  unfolding operands blockForms
   kind-15 k = made 15 arrive 0 _ k (λ v l h. ap (λ (x : ℕ). x ∷ []) (omega arith)) (λ v l h. formed-arrive (n .blocks) v) (λ v. refl)
 
   pub kind-16 : Stores (numberShape 1 (n .queues) 0) p to l₀ l₁ r₁ (field s 3 1 (n .queues) (cursorOf p)) → Stores (operandsShape (n .blocks) 16) p to l₀ l₁ r₁ (operands s n capacities 16 (cursorOf p))
-  unfolding operands blockNumbers
+  unfolding operands blockForms
   kind-16 k = made 16 depart 0 _ k (λ v l h. ap (λ (x : ℕ). x ∷ []) (omega arith)) (λ v l h. formed-depart (n .blocks) v) (λ v. refl)
 
   -- ---- Kinds of two numbers
 
   pub kind-6 : Stores (unitsShape n) p to l₀ l₁ r₁ (unitsField s n capacities (cursorOf p)) → Stores (operandsShape (n .blocks) 6) p to l₀ l₁ r₁ (operands s n capacities 6 (cursorOf p))
-  unfolding operands blockNumbers
+  unfolding operands blockForms
   kind-6 k =
       rw (← units-then s n capacities enter (cursorOf p))
       (stores-last (operandsShape (n .blocks) 6) p to l₀ (λ x. enter (x .first) (x .second)) _ k (λ x c cells fact. (refl, cells, (formed-enter (n .blocks) (x .first) (x .second), refl))))
 
   pub kind-7 : Stores (unitsShape n) p to l₀ l₁ r₁ (unitsField s n capacities (cursorOf p)) → Stores (operandsShape (n .blocks) 7) p to l₀ l₁ r₁ (operands s n capacities 7 (cursorOf p))
-  unfolding operands blockNumbers
+  unfolding operands blockForms
   kind-7 k =
       rw (← units-then s n capacities leave (cursorOf p))
       (stores-last (operandsShape (n .blocks) 7) p to l₀ (λ x. leave (x .first) (x .second)) _ k (λ x c cells fact. (refl, cells, (formed-leave (n .blocks) (x .first) (x .second), refl))))
 
   pub kind-1 : (a b : Range) → (a .lo ≡ 1) × (a .hi ≡ n .lists) × (a .plus ≡ 0) → (b .lo ≡ 0) × (b .hi ≡ 127) × (b .plus ≡ 0) →
       Stores (pairShape a b) p to l₀ l₁ r₁ (pairField s a b (cursorOf p)) → Stores (operandsShape (n .blocks) 1) p to l₀ l₁ r₁ (operands s n capacities 1 (cursorOf p))
-  unfolding operands blockNumbers
+  unfolding operands blockForms
   kind-1 a b ea eb k =
       rw (← pair-then s (range 1 (n .lists) 0) (range 0 127 0) generate (cursorOf p))
       (stores-last (operandsShape (n .blocks) 1) p to l₀ (λ x. generate (x .first) (x .second)) _ (rw (range-of ea, range-of eb) at k)
@@ -359,7 +359,7 @@ module _ (s : List ℕ) (n : Counts) (capacities : List ℕ) {p : Place} {to : �
 
   pub kind-14 : (a b : Range) → (a .lo ≡ 1) × (a .hi ≡ 255) × (a .plus ≡ 1) → (b .lo ≡ 1) × (b .hi ≡ n .blocks) × (b .plus ≡ 1) →
       Stores (pairShape a b) p to l₀ l₁ r₁ (pairField s a b (cursorOf p)) → Stores (operandsShape (n .blocks) 14) p to l₀ l₁ r₁ (operands s n capacities 14 (cursorOf p))
-  unfolding operands blockNumbers
+  unfolding operands blockForms
   kind-14 a b ea eb k =
       rw (← pair-then s (range 1 255 1) (range 1 (n .blocks) 1) split (cursorOf p))
       (stores-last (operandsShape (n .blocks) 14) p to l₀ (λ x. split (x .first) (x .second)) _ (rw (range-of ea, range-of eb) at k)
@@ -371,7 +371,7 @@ module _ (s : List ℕ) (n : Counts) (capacities : List ℕ) {p : Place} {to : �
 -- ---- A block
 
 module _ (s : List ℕ) (n : Counts) (capacities : List ℕ) {p : Place} {to : ℕ} {l₀ l₁ : List ℕ} {r₁ : Taken}
-    (k₁ : Takes (numberShape 1 16 1) p to l₀ l₁ r₁ (field s 3 1 16 (cursorOf p))) where
+    (k₁ : Takes (numberShape 1 kindCount 1) p to l₀ l₁ r₁ (field s 3 1 kindCount (cursorOf p))) where
   pub block-stop : {m : ℕ} (after : List ℕ) → r₁ ≡ NotTaken m → Stores (blockShape (n .blocks)) p to l₀ after (Refused m) (blockField s n capacities (cursorOf p))
   unfolding blockField
   block-stop after told = takes-stop (Stores _ _ _ _ _ _) _ _ k₁ told (record { held = refl })
@@ -402,10 +402,10 @@ capacities-kept m xs l to h =
 past : {i k : ℕ} → i ≤ k → (k ≡ i → ⊥) → suc i ≤ k
 past {i} {k} h n = omega arith
 
--- a kind that is none of the others is 16
-pub the-last : (k : ℕ) → k ≤ 16 → 1 ≤ k →
+-- a kind that is none of the others is the last
+pub the-last : (k : ℕ) → k ≤ kindCount → 1 ≤ k →
     ((((((((((((((Unit {0} × (k ≡ 1 → ⊥)) × (k ≡ 2 → ⊥)) × (k ≡ 3 → ⊥)) × (k ≡ 4 → ⊥)) × (k ≡ 5 → ⊥)) × (k ≡ 6 → ⊥)) × (k ≡ 7 → ⊥)) × (k ≡ 8 → ⊥))
-    × (k ≡ 9 → ⊥)) × (k ≡ 10 → ⊥)) × (k ≡ 11 → ⊥)) × (k ≡ 12 → ⊥)) × (k ≡ 13 → ⊥)) × (k ≡ 14 → ⊥)) × (k ≡ 15 → ⊥) → k ≡ 16
+    × (k ≡ 9 → ⊥)) × (k ≡ 10 → ⊥)) × (k ≡ 11 → ⊥)) × (k ≡ 12 → ⊥)) × (k ≡ 13 → ⊥)) × (k ≡ 14 → ⊥)) × (k ≡ 15 → ⊥) → k ≡ kindCount
 the-last k h l n =
     le-antisymm h
     (past

@@ -6,7 +6,7 @@ use mathlib.Core.List.{List}
 use lib.Dec.{eqb, ltb, T}
 use lib.ListN.{length, getD}
 use Rattle.machine.specs.Block.{Block, facts}
-use Rattle.machine.specs.Validate.{isGenerate}
+use Rattle.machine.specs.Facts.{isGenerate}
 use Rattle.tables.specs.Numbers.{blockNumbers}
 use Rattle.tables.specs.Represents.{smallBlock}
 

@@ -10,15 +10,26 @@ use Rattle.machine.specs.Term.{Term}
 use Rattle.machine.specs.Block.{Block}
 use Rattle.machine.specs.Decode.{Counts, blockTerm}
 use Rattle.machine.specs.declared.model.Model.{Model}
+use Rattle.tables.specs.Layout as Layout
 use Rattle.tables.specs.Numbers.{termNumbers, blockNumbers}
 use Rattle.tables.specs.Represents.{smallTerm}
 use Rattle.values.specs.declared.Range.{Range}
 use Rattle.values.specs.Keeps.{Shape}
 use Rattle.program.specs.Formed.{Formed}
 
+-- the kinds with operands of a shape of their own
+abbrev pub waitServerKind : ℕ
+waitServerKind = 8
+
+abbrev pub branchKind : ℕ
+branchKind = 10
+
+abbrev pub assignKind : ℕ
+assignKind = 12
+
 -- the capacities of the storages, as they stand in the tables
 abbrev pub capacitiesOf : Model → List ℕ → List ℕ
-capacitiesOf m cells = take (m .storages) (drop (2560 + m .facilities) cells)
+capacitiesOf m cells = take (m .storages) (drop (Layout.capacities + m .facilities) cells)
 
 -- ---- Two numbers
 

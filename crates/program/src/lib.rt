@@ -1,8 +1,21 @@
 // The program of a model (document 01, "Blocks", "Kind and operands as stored"): blocks read with
 // questions 3 and 4 and stored in the tables as they are read; then what question 7 asks of them.
 use machine::Model;
+use machine::kinds::BRANCH;
+use machine::kinds::GENERATE;
+use machine::kinds::GOTO;
+use machine::kinds::KINDS;
+use machine::kinds::SPLIT;
+use machine::kinds::TERMINATE;
 use tables::BLOCK_WIDTH;
+use tables::BRANCH_TARGET;
 use tables::CAPACITIES;
+use tables::CODES;
+use tables::FIRST;
+use tables::RELATION;
+use tables::RELATIONS;
+use tables::RIGHT;
+use tables::SECOND;
 use tables::TABLES;
 use tables::number;
 use values::Place;
@@ -15,12 +28,14 @@ ghost use mathlib.Core.Path.{_≡_};
 ghost use mathlib.Core.Bool.{true, _&&_, not};
 ghost use Prim.Native.Nat.{_+_, _*_, _≤_, _<_};
 ghost use lib.Dec.{eqb};
+ghost use Rattle.machine.specs.Limits.{maxBlocks};
 ghost use Rattle.machine.specs.Parser.{field, times};
-ghost use Rattle.machine.specs.Decode.{operands as operandsField, blockField};
-ghost use Rattle.values.specs.Keeps.{Stores, cursorOf, numberShape};
+ghost use Rattle.machine.specs.Decode.{kindCount, operands as operandsField, blockField};
+ghost use Rattle.tables.specs.Layout.{blockWidth, programSize, tablesSize, wordEnd};
+ghost use Rattle.values.specs.Keeps.{Fits, Stores, cursorOf, numberShape};
 ghost use Rattle.values.specs.Rows.{Rows};
 ghost use Rattle.values.specs.Shapes.{Within, countsOf};
-ghost use Rattle.program.specs.Shapes.{pairField, pairShape, unitsField, unitsShape, comparedField, comparedShape, operandsShape, blockShape, capacitiesOf};
+ghost use Rattle.program.specs.Shapes.{waitServerKind, branchKind, assignKind, pairField, pairShape, unitsField, unitsShape, comparedField, comparedShape, operandsShape, blockShape, capacitiesOf};
 ghost use Rattle.program.specs.Formed.{Formed, leavesKind, targetFrom, namesGenerate, placedFrom, targetsFrom};
 
 // ---- Operands
@@ -35,7 +50,7 @@ pub fn single(
     hi: usize,
     plus: usize,
 ) -> Stored
-    requires { ⌜ (to < 2624) × (hi + plus < 4294967296 + lo) ⌝ }
+    requires { ⌜ (to < tablesSize) × Fits lo hi plus ⌝ }
     ensures { λ r. ⌜ Stores (numberShape lo hi plus) p to (now (tables .entry)) (now (tables .exit)) r (field (now (s .entry)) 3 lo hi (cursorOf p)) ⌝ }
 {
     match keep(s, tables, to, p, lo, hi, plus) {
@@ -53,7 +68,7 @@ fn pair(
     first: Range,
     second: Range,
 ) -> Stored
-    requires { ⌜ (to + 1 < 2624) × (first .hi + first .plus < 4294967296 + first .lo) × (second .hi + second .plus < 4294967296 + second .lo) ⌝ }
+    requires { ⌜ (to + 1 < tablesSize) × Fits (first .lo) (first .hi) (first .plus) × Fits (second .lo) (second .hi) (second .plus) ⌝ }
     ensures { λ r. ⌜ Stores (pairShape first second) p to (now (tables .entry)) (now (tables .exit)) r (pairField (now (s .entry)) first second (cursorOf p)) ⌝ }
 {
     match keep(s, tables, to, p, first.lo, first.hi, first.plus) {
@@ -63,14 +78,14 @@ fn pair(
 }
 
 fn wide(x: u32) -> usize
-    ensures { λ r. ⌜ (r ≡ x) × (r < 4294967296) ⌝ }
+    ensures { λ r. ⌜ (r ≡ x) × (r < wordEnd) ⌝ }
 {
     x as usize
 }
 
 // A storage and 1..capacity units of it, for ENTER and LEAVE.
 fn units(s: &[u8], tables: &mut [u32; TABLES], to: usize, m: Model, p: Place) -> Stored
-    requires { ⌜ (to + 1 < 2048) × Within m ⌝ }
+    requires { ⌜ (to + 1 < programSize) × Within m ⌝ }
     ensures { λ r. ⌜ Stores (unitsShape (countsOf m)) p to (now (tables .entry)) (now (tables .exit)) r (unitsField (now (s .entry)) (countsOf m) (capacitiesOf m (now (tables .entry))) (cursorOf p)) ⌝ }
 {
     match keep(s, tables, to, p, 1, m.storages, m.facilities) {
@@ -84,10 +99,10 @@ fn units(s: &[u8], tables: &mut [u32; TABLES], to: usize, m: Model, p: Place) ->
 
 // WAITIF code, server: a facility for codes 1 and 2, else a storage.
 fn wait_server(s: &[u8], tables: &mut [u32; TABLES], to: usize, m: Model, p: Place) -> Stored
-    requires { ⌜ (to + 1 < 2624) × Within m ⌝ }
-    ensures { λ r. ⌜ Stores (operandsShape (m .blocks) 8) p to (now (tables .entry)) (now (tables .exit)) r (operandsField (now (s .entry)) (countsOf m) (capacitiesOf m (now (tables .entry))) 8 (cursorOf p)) ⌝ }
+    requires { ⌜ (to + 1 < tablesSize) × Within m ⌝ }
+    ensures { λ r. ⌜ Stores (operandsShape (m .blocks) waitServerKind) p to (now (tables .entry)) (now (tables .exit)) r (operandsField (now (s .entry)) (countsOf m) (capacitiesOf m (now (tables .entry))) waitServerKind (cursorOf p)) ⌝ }
 {
-    match keep(s, tables, to, p, 1, 6, 0) {
+    match keep(s, tables, to, p, 1, CODES, 0) {
         Taken::Refused(n) => Stored::Refused(n),
         Taken::Number(code, q) => {
             if code <= 2 {
@@ -100,22 +115,22 @@ fn wait_server(s: &[u8], tables: &mut [u32; TABLES], to: usize, m: Model, p: Pla
 
 // A term, a relation and a term.
 fn compared(s: &[u8], tables: &mut [u32; TABLES], to: usize, m: Model, p: Place) -> Stored
-    requires { ⌜ (to + 4 < 2624) × Within m ⌝ }
+    requires { ⌜ (to + 4 < tablesSize) × Within m ⌝ }
     ensures { λ r. ⌜ Stores comparedShape p to (now (tables .entry)) (now (tables .exit)) r (comparedField (now (s .entry)) (countsOf m) (cursorOf p)) ⌝ }
 {
     match block_term(s, tables, to, m, p) {
         Stored::Refused(n) => Stored::Refused(n),
-        Stored::Done(left) => match single(s, tables, to + 2, left, 1, 6, 1) {
+        Stored::Done(left) => match single(s, tables, to + RELATION, left, 1, RELATIONS, 1) {
             Stored::Refused(n) => Stored::Refused(n),
-            Stored::Done(q) => block_term(s, tables, to + 3, m, q),
+            Stored::Done(q) => block_term(s, tables, to + RIGHT, m, q),
         },
     }
 }
 
 // IF left, relation, right, target.
 fn branch(s: &[u8], tables: &mut [u32; TABLES], to: usize, m: Model, p: Place) -> Stored
-    requires { ⌜ (to + 5 < 2624) × Within m ⌝ }
-    ensures { λ r. ⌜ Stores (operandsShape (m .blocks) 10) p to (now (tables .entry)) (now (tables .exit)) r (operandsField (now (s .entry)) (countsOf m) (capacitiesOf m (now (tables .entry))) 10 (cursorOf p)) ⌝ }
+    requires { ⌜ (to + 5 < tablesSize) × Within m ⌝ }
+    ensures { λ r. ⌜ Stores (operandsShape (m .blocks) branchKind) p to (now (tables .entry)) (now (tables .exit)) r (operandsField (now (s .entry)) (countsOf m) (capacitiesOf m (now (tables .entry))) branchKind (cursorOf p)) ⌝ }
 {
     match compared(s, tables, to, m, p) {
         Stored::Refused(n) => Stored::Refused(n),
@@ -125,8 +140,8 @@ fn branch(s: &[u8], tables: &mut [u32; TABLES], to: usize, m: Model, p: Place) -
 
 // LET parameter, term.
 fn assign(s: &[u8], tables: &mut [u32; TABLES], to: usize, m: Model, p: Place) -> Stored
-    requires { ⌜ (to + 2 < 2624) × Within m ⌝ }
-    ensures { λ r. ⌜ Stores (operandsShape (m .blocks) 12) p to (now (tables .entry)) (now (tables .exit)) r (operandsField (now (s .entry)) (countsOf m) (capacitiesOf m (now (tables .entry))) 12 (cursorOf p)) ⌝ }
+    requires { ⌜ (to + 2 < tablesSize) × Within m ⌝ }
+    ensures { λ r. ⌜ Stores (operandsShape (m .blocks) assignKind) p to (now (tables .entry)) (now (tables .exit)) r (operandsField (now (s .entry)) (countsOf m) (capacitiesOf m (now (tables .entry))) assignKind (cursorOf p)) ⌝ }
 {
     match single(s, tables, to, p, 1, Model::PARAMETERS, 0) {
         Stored::Refused(n) => Stored::Refused(n),
@@ -140,7 +155,7 @@ fn range(lo: usize, hi: usize, plus: usize) -> Range
     Range { lo, hi, plus }
 }
 
-// What follows a kind from 1 to 16.
+// What follows a kind.
 fn operands(
     s: &[u8],
     tables: &mut [u32; TABLES],
@@ -149,7 +164,7 @@ fn operands(
     kind: usize,
     p: Place,
 ) -> Stored
-    requires { ⌜ (to + 5 < 2048) × Within m × (kind ≤ 16) × (1 ≤ kind) ⌝ }
+    requires { ⌜ (to + 5 < programSize) × Within m × (kind ≤ kindCount) × (1 ≤ kind) ⌝ }
     ensures { λ r. ⌜ Stores (operandsShape (m .blocks) kind) p to (now (tables .entry)) (now (tables .exit)) r (operandsField (now (s .entry)) (countsOf m) (capacitiesOf m (now (tables .entry))) kind (cursorOf p)) ⌝ }
 {
     match kind {
@@ -184,20 +199,20 @@ fn operands(
 
 // Block b (from 0).
 fn block(s: &[u8], tables: &mut [u32; TABLES], b: usize, m: Model, p: Place) -> Stored
-    requires { ⌜ (b < 256) × Within m ⌝ }
-    ensures { λ r. ⌜ Stores (blockShape (m .blocks)) p (0 + 8 * b) (now (tables .entry)) (now (tables .exit)) r (blockField (now (s .entry)) (countsOf m) (capacitiesOf m (now (tables .entry))) (cursorOf p)) ⌝ }
+    requires { ⌜ (b < maxBlocks) × Within m ⌝ }
+    ensures { λ r. ⌜ Stores (blockShape (m .blocks)) p (0 + blockWidth * b) (now (tables .entry)) (now (tables .exit)) r (blockField (now (s .entry)) (countsOf m) (capacitiesOf m (now (tables .entry))) (cursorOf p)) ⌝ }
 {
     let to = BLOCK_WIDTH * b;
-    match keep(s, tables, to, p, 1, 16, 1) {
+    match keep(s, tables, to, p, 1, KINDS, 1) {
         Taken::Refused(n) => Stored::Refused(n),
-        Taken::Number(kind, q) => operands(s, tables, to + 1, m, kind, q),
+        Taken::Number(kind, q) => operands(s, tables, to + FIRST, m, kind, q),
     }
 }
 
 // All blocks.
 pub fn blocks(s: &[u8], tables: &mut [u32; TABLES], m: Model, p: Place) -> Stored
     requires { ⌜ Within m ⌝ }
-    ensures { λ r. ⌜ Rows (blockShape (m .blocks)) (Formed (m .blocks)) 8 0 p (now (tables .entry)) (now (tables .exit)) r (times (m .blocks) (blockField (now (s .entry)) (countsOf m) (capacitiesOf m (now (tables .entry)))) (cursorOf p)) ⌝ }
+    ensures { λ r. ⌜ Rows (blockShape (m .blocks)) (Formed (m .blocks)) blockWidth 0 p (now (tables .entry)) (now (tables .exit)) r (times (m .blocks) (blockField (now (s .entry)) (countsOf m) (capacitiesOf m (now (tables .entry)))) (cursorOf p)) ⌝ }
 {
     let mut b = 0;
     let mut q = p;
@@ -219,17 +234,17 @@ pub fn blocks(s: &[u8], tables: &mut [u32; TABLES], m: Model, p: Place) -> Store
 fn leaves(kind: u32) -> bool
     ensures { λ r. ⌜ r ≡ leavesKind kind ⌝ }
 {
-    if kind == 3 {
+    if kind == TERMINATE {
         return true;
     }
-    kind == 11
+    kind == GOTO
 }
 
 // A GENERATE behind a block that goes on, or with nothing before it that leaves.
 fn misplaced(kind: u32, left: bool) -> bool
     ensures { λ r. ⌜ r ≡ (eqb kind 1 && not left) ⌝ }
 {
-    if kind == 1 {
+    if kind == GENERATE {
         return !left;
     }
     false
@@ -237,7 +252,7 @@ fn misplaced(kind: u32, left: bool) -> bool
 
 // Each GENERATE is first or after TERMINATE or GOTO, and the last block is one of these.
 pub fn well_placed(tables: &[u32; TABLES], blocks: usize) -> bool
-    requires { ⌜ blocks ≤ 256 ⌝ }
+    requires { ⌜ blocks ≤ maxBlocks ⌝ }
     ensures { λ r. ⌜ r ≡ placedFrom (now (tables .entry)) blocks 0 true ⌝ }
 {
     let mut left = true;
@@ -256,37 +271,37 @@ pub fn well_placed(tables: &[u32; TABLES], blocks: usize) -> bool
 
 // The target of block b, 0 if it has none.
 fn target(tables: &[u32; TABLES], b: usize) -> u32
-    requires { ⌜ b < 256 ⌝ }
-    ensures { λ r. ⌜ r ≡ targetFrom (now (tables .entry)) (8 * b) ⌝ }
+    requires { ⌜ b < maxBlocks ⌝ }
+    ensures { λ r. ⌜ r ≡ targetFrom (now (tables .entry)) (blockWidth * b) ⌝ }
 {
     let at = BLOCK_WIDTH * b;
     let kind = tables[at];
-    if kind == 10 {
-        return tables[at + 6];
+    if kind == BRANCH {
+        return tables[at + BRANCH_TARGET];
     }
-    if kind == 11 {
-        return tables[at + 1];
+    if kind == GOTO {
+        return tables[at + FIRST];
     }
-    if kind == 14 {
-        return tables[at + 2];
+    if kind == SPLIT {
+        return tables[at + SECOND];
     }
     0
 }
 
 fn names_generate(tables: &[u32; TABLES], b: usize) -> bool
-    requires { ⌜ b < 256 ⌝ }
-    ensures { λ r. ⌜ r ≡ namesGenerate (now (tables .entry)) (8 * b) ⌝ }
+    requires { ⌜ b < maxBlocks ⌝ }
+    ensures { λ r. ⌜ r ≡ namesGenerate (now (tables .entry)) (blockWidth * b) ⌝ }
 {
     let t = target(tables, b) as usize;
     if t == 0 {
         return false;
     }
-    number(tables, BLOCK_WIDTH * (t - 1)) == 1
+    number(tables, BLOCK_WIDTH * (t - 1)) == GENERATE
 }
 
 // No target names a GENERATE.
 pub fn targets_move(tables: &[u32; TABLES], blocks: usize) -> bool
-    requires { ⌜ blocks ≤ 256 ⌝ }
+    requires { ⌜ blocks ≤ maxBlocks ⌝ }
     ensures { λ r. ⌜ r ≡ targetsFrom (now (tables .entry)) blocks 0 ⌝ }
 {
     let mut b = 0;

@@ -1,6 +1,7 @@
 -- Where a trace reader stands after a call.
 use Prim.Native.Nat.{ℕ}
 use mathlib.Core.List.{List}
+use Rattle.machine.specs.Rules.{inForce}
 use Rattle.machine.specs.Trace.{Reading, taken, refusal, noMore, readRecord}
 
 -- "A refusal leaves the position."
@@ -11,4 +12,4 @@ behind at noMore = at
 
 -- the position after the record at a position
 unfoldable pub positionAfter : List ℕ → ℕ → ℕ
-positionAfter s at = behind at (readRecord s at)
+positionAfter s at = behind at (readRecord inForce s at)

@@ -4,6 +4,7 @@ use trace::Reading;
 use trace::count_low;
 use trace::read_record;
 ghost use mathlib.Core.Path.{_≡_};
+ghost use Rattle.machine.specs.Rules.{inForce};
 ghost use Rattle.machine.specs.Number.{countLow};
 ghost use Rattle.machine.specs.Trace.{readRecord};
 ghost use Rattle.trace.specs.Answers.{readingOf};
@@ -34,7 +35,7 @@ pub fn new<'a>(bytes: &'a [u8]) -> Reader<'a>
 
 // The record at the reader's position, or the number of the refusal, or "no more".
 pub fn next<'a>(r: Reader<'a>) -> Reading
-    ensures { λ x. ⌜ readingOf x ≡ readRecord (now (r .entry .bytes)) (r .entry .at) ⌝ }
+    ensures { λ x. ⌜ readingOf x ≡ readRecord inForce (now (r .entry .bytes)) (r .entry .at) ⌝ }
 {
     read_record(r.bytes, r.at)
 }
@@ -56,7 +57,7 @@ pub fn count<'a>(r: Reader<'a>) -> u64
 
 // The first record of these bytes, for callers that hold no reader.
 pub fn first(bytes: &[u8]) -> Reading
-    ensures { λ x. ⌜ readingOf x ≡ readRecord (now (bytes .entry)) 0 ⌝ }
+    ensures { λ x. ⌜ readingOf x ≡ readRecord inForce (now (bytes .entry)) 0 ⌝ }
 {
     next(new(bytes))
 }

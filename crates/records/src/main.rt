@@ -1,12 +1,23 @@
 // Runs the codec: the paper's numbers as bytes and back, and a thousand records there and back.
 use codec::Read;
 use libc::STDOUT_FILENO;
+use machine::Model;
 use trace::Reading;
 use trace::Record;
 use trace::Written;
 ghost use Prim.Native.Nat.{_<_};
 
 const RECORDS: u64 = 1000;
+
+// So far are clocks and transactions of one record from those of the one before.
+const CLOCKS: u64 = 2_002_002;
+
+const TRANSACTIONS: u64 = 100_100;
+
+const BLOCKS: u64 = Model::MAX_BLOCKS as u64;
+
+// the largest number of one group
+const ONE_GROUP: u64 = 127;
 
 fn print(text: &[u8]) {
     io::write_all(STDOUT_FILENO, text);
@@ -62,19 +73,19 @@ fn print_answer(answer: Read) {
 
 // The i-th record of the test, within the ranges.
 fn record(i: u64) -> Record
-    requires { ⌜ i < 1000 ⌝ }
+    requires { do ⌜ i < (← ⟦RECORDS⟧) ⌝ }
 {
     Record {
-        clock: i * 2_002_002,
-        transaction: i * 100_100 + 1,
-        block: i % 256 + 1,
+        clock: i * CLOCKS,
+        transaction: i * TRANSACTIONS + 1,
+        block: i % BLOCKS + 1,
         outcome: i % 2,
     }
 }
 
 // Writes the i-th record behind the bytes that are used, and returns how many are used then.
 fn put(trace: &mut [u8], used: usize, i: u64) -> usize
-    requires { ⌜ i < 1000 ⌝ }
+    requires { do ⌜ i < (← ⟦RECORDS⟧) ⌝ }
 {
     if trace.len() < used {
         return used;
@@ -95,7 +106,7 @@ fn put(trace: &mut [u8], used: usize, i: u64) -> usize
 
 // The position after the i-th record, if it stands at `at`; else 0.
 fn take(trace: &[u8], at: usize, i: u64) -> usize
-    requires { ⌜ i < 1000 ⌝ }
+    requires { do ⌜ i < (← ⟦RECORDS⟧) ⌝ }
 {
     let Reading::Taken(r, next) = trace::read_record(trace, at) else {
         return 0;
@@ -154,10 +165,10 @@ fn print_end(trace: &[u8], at: usize) {
 
 fn print_numbers() {
     print_written(0);
-    print_written(127);
-    print_written(128);
-    print_written(4_294_967_295);
-    print_written(9_223_372_036_854_775_807);
+    print_written(ONE_GROUP);
+    print_written(ONE_GROUP + 1);
+    print_written(Model::MAX_NUMBER);
+    print_written(Model::MAX_REPORT_NUMBER);
 }
 
 fn print_readings() {

@@ -9,11 +9,13 @@ use borrow.Author.Tests.{eq-eqb, ne-eqb, eqb-true, eqb-false}
 use lib.Dec.{eqb}
 use lib.ListN.{length, getD, drop}
 use lib.Seq.{getD-take, getD-drop}
-use Rattle.machine.specs.Block.{Block, generate, advance, terminate, seize, release, enter, leave, waitServer, waitTerms, branch, goto, assign, priority, split, arrive, depart, facts, BlockModel, blockAt}
+use Rattle.machine.specs.Block.{Block, terminate, facility, storage, facts, BlockModel, blockAt}
 use Rattle.machine.proofs.Proper.{Proper, ProperBlock}
+use Rattle.tables.specs.Forms.{blockForms}
 use Rattle.tables.specs.Numbers.{blockNumbers}
 use Rattle.tables.specs.Represents.{At, Represents}
 use Rattle.report.specs.Counts.{names}
+use Rattle.tables.proofs.BlockKinds.{Kinds, generating, taking, waiting, arriving, other, kinds, unasked}
 
 -- ---- Numbers of the tables
 
@@ -42,8 +44,8 @@ module _ (tables : List ℕ) (at first second index : ℕ) where
   kind k l h = ap (λ i. getD tables i 0) (sym (add-zero at)) ∙ at-number tables at 0 (k ∷ l) h (omega arith)
 
   -- of another kind
-  other : (k : ℕ) (l : List ℕ) → At tables at (k ∷ l) → eqb k first ≡ false → eqb k second ≡ false → here ≡ eqb 0 (suc index)
-  other k l h a b = rw (kind k l h, a, b) (go (eqb (getD tables (at + 1) 0) index) ∙ sym (ne-eqb 0 (suc index) (λ e. omega arith)))
+  another : (k : ℕ) (l : List ℕ) → At tables at (k ∷ l) → eqb k first ≡ false → eqb k second ≡ false → here ≡ eqb 0 (suc index)
+  another k l h a b = rw (kind k l h, a, b) (go (eqb (getD tables (at + 1) 0) index) ∙ sym (ne-eqb 0 (suc index) (λ e. omega arith)))
     where
       go : (t : Bool) → cond t false false ≡ false
       go true = refl
@@ -59,43 +61,44 @@ module _ (tables : List ℕ) (at first second index : ℕ) where
       go false = refl
 
 module _ (m : BlockModel) (tables : List ℕ) (at index : ℕ) where
-  takes-block : (b : Block) → ProperBlock m b → At tables at (blockNumbers b) → here tables at 4 6 index ≡ eqb (facts b .server) (suc index)
-  unfolding blockNumbers facts
-  takes-block (generate list p) q h = other tables at 4 6 index 1 _ h refl refl
-  takes-block (advance list) q h = other tables at 4 6 index 2 _ h refl refl
-  takes-block (terminate a) q h = other tables at 4 6 index 3 _ h refl refl
-  takes-block (seize v) q h = named tables at 4 6 index 4 v _ h refl (q .0)
-  takes-block (release v) q h = other tables at 4 6 index 5 _ h refl refl
-  takes-block (enter v b) q h = named tables at 4 6 index 6 v _ h refl (omega (arith, q .0 .0))
-  takes-block (leave v b) q h = other tables at 4 6 index 7 _ h refl refl
-  takes-block (waitServer code v) q h = other tables at 4 6 index 8 _ h refl refl
-  takes-block (waitTerms a r b) q h = other tables at 4 6 index 9 _ h refl refl
-  takes-block (branch a r b target) q h = other tables at 4 6 index 10 _ h refl refl
-  takes-block (goto target) q h = other tables at 4 6 index 11 _ h refl refl
-  takes-block (assign k a) q h = other tables at 4 6 index 12 _ h refl refl
-  takes-block (priority p) q h = other tables at 4 6 index 13 _ h refl refl
-  takes-block (split n target) q h = other tables at 4 6 index 14 _ h refl refl
-  takes-block (arrive k) q h = other tables at 4 6 index 15 _ h refl refl
-  takes-block (depart k) q h = other tables at 4 6 index 16 _ h refl refl
+  module _ (b : Block) (q : ProperBlock m b) (h : At tables at (blockNumbers b)) where
+    numbers : {c : Block} → b ≡ c → At tables at (blockNumbers c)
+    numbers e = subst (λ (x : Block). At tables at (blockNumbers x)) e h
 
-  fills-block : (b : Block) → ProperBlock m b → At tables at (blockNumbers b) → here tables at 15 15 index ≡ eqb (facts b .queue) (suc index)
-  unfolding blockNumbers facts
-  fills-block (generate list p) q h = other tables at 15 15 index 1 _ h refl refl
-  fills-block (advance list) q h = other tables at 15 15 index 2 _ h refl refl
-  fills-block (terminate a) q h = other tables at 15 15 index 3 _ h refl refl
-  fills-block (seize v) q h = other tables at 15 15 index 4 _ h refl refl
-  fills-block (release v) q h = other tables at 15 15 index 5 _ h refl refl
-  fills-block (enter v b) q h = other tables at 15 15 index 6 _ h refl refl
-  fills-block (leave v b) q h = other tables at 15 15 index 7 _ h refl refl
-  fills-block (waitServer code v) q h = other tables at 15 15 index 8 _ h refl refl
-  fills-block (waitTerms a r b) q h = other tables at 15 15 index 9 _ h refl refl
-  fills-block (branch a r b target) q h = other tables at 15 15 index 10 _ h refl refl
-  fills-block (goto target) q h = other tables at 15 15 index 11 _ h refl refl
-  fills-block (assign k a) q h = other tables at 15 15 index 12 _ h refl refl
-  fills-block (priority p) q h = other tables at 15 15 index 13 _ h refl refl
-  fills-block (split n target) q h = other tables at 15 15 index 14 _ h refl refl
-  fills-block (arrive k) q h = named tables at 15 15 index 15 k _ h refl (q .0)
-  fills-block (depart k) q h = other tables at 15 15 index 16 _ h refl refl
+    proper : {c : Block} → b ≡ c → ProperBlock m c
+    proper e = subst (ProperBlock m) e q
+
+    server-of : {c : Block} → b ≡ c → {t : Bool} → t ≡ eqb (facts c .server) (suc index) → t ≡ eqb (facts b .server) (suc index)
+    server-of e f = f ∙ ap (λ (x : Block). eqb (facts x .server) (suc index)) (sym e)
+
+    queue-of : {c : Block} → b ≡ c → {t : Bool} → t ≡ eqb (facts c .queue) (suc index) → t ≡ eqb (facts b .queue) (suc index)
+    queue-of e f = f ∙ ap (λ (x : Block). eqb (facts x .queue) (suc index)) (sym e)
+
+    takes-block : here tables at 4 6 index ≡ eqb (facts b .server) (suc index)
+    takes-block = go (kinds b)
+      where
+        go : Kinds b → here tables at 4 6 index ≡ eqb (facts b .server) (suc index)
+        go (generating list p e) = server-of e (unfold blockForms in another tables at 4 6 index 1 _ (numbers e) refl refl)
+        go (taking (facility v) e) = server-of e (unfold blockForms in named tables at 4 6 index 4 v _ (numbers e) refl (proper e .0))
+        go (taking (storage v n) e) = server-of e (unfold blockForms in named tables at 4 6 index 6 v _ (numbers e) refl (omega (arith, proper e .0 .0)))
+        go (waiting a r c e) = server-of e (unfold blockForms in another tables at 4 6 index 9 _ (numbers e) refl refl)
+        go (arriving k e) = server-of e (unfold blockForms in another tables at 4 6 index 15 _ (numbers e) refl refl)
+        go (other kind rest e f g) =
+            let u = unasked kind f in
+            another tables at 4 6 index kind rest (subst (At tables at) e h) (u .no-seize) (u .no-enter) ∙ sym (ap (λ x. eqb (x .server) (suc index)) g)
+
+    fills-block : here tables at 15 15 index ≡ eqb (facts b .queue) (suc index)
+    fills-block = go (kinds b)
+      where
+        go : Kinds b → here tables at 15 15 index ≡ eqb (facts b .queue) (suc index)
+        go (generating list p e) = queue-of e (unfold blockForms in another tables at 15 15 index 1 _ (numbers e) refl refl)
+        go (taking (facility v) e) = queue-of e (unfold blockForms in another tables at 15 15 index 4 _ (numbers e) refl refl)
+        go (taking (storage v n) e) = queue-of e (unfold blockForms in another tables at 15 15 index 6 _ (numbers e) refl refl)
+        go (waiting a r c e) = queue-of e (unfold blockForms in another tables at 15 15 index 9 _ (numbers e) refl refl)
+        go (arriving k e) = queue-of e (unfold blockForms in named tables at 15 15 index 15 k _ (numbers e) refl (proper e .0))
+        go (other kind rest e f g) =
+            let u = unasked kind f in
+            another tables at 15 15 index kind rest (subst (At tables at) e h) (u .no-arrive) (u .no-arrive) ∙ sym (ap (λ x. eqb (x .queue) (suc index)) g)
 
 -- ---- Every block of the model
 

@@ -6,7 +6,8 @@ use mathlib.Core.Bool.{Bool, true, false, cond}
 use mathlib.Core.List.{List, [], _∷_}
 use lib.ListN.{length, getD}
 use Rattle.machine.specs.Lists.{those}
-use Rattle.machine.specs.Block.{Facts, facts, BlockModel, blockAt}
+use Rattle.machine.specs.Facts.{Facts}
+use Rattle.machine.specs.Block.{facts, BlockModel, blockAt}
 use Rattle.machine.specs.State.{Logged}
 use Rattle.machine.specs.Report.{recordsAt}
 use Rattle.machine.specs.Claims.{Each, upTo, InModel}

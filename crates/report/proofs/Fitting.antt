@@ -13,7 +13,8 @@ use Rattle.machine.specs.Limits.{maxReportNumber}
 use Rattle.machine.specs.Transaction.{Transaction, Event}
 use Rattle.machine.specs.Lists.{flat}
 use Rattle.machine.specs.Term.{Server, Queue}
-use Rattle.machine.specs.Block.{Facts, BlockModel}
+use Rattle.machine.specs.Facts.{Facts}
+use Rattle.machine.specs.Block.{BlockModel}
 use Rattle.machine.specs.State.{State, Logged}
 use Rattle.machine.specs.Number.{numberBytes}
 use Rattle.machine.specs.Report.{recordsAt, serverNumbers, queueNumbers, Place, placed, movingOne, places, byNumber, placeNumbers, reportNumbers, reportBytes}
@@ -30,7 +31,7 @@ use Rattle.state.proofs.Numbered.{Numbered, numbered}
 use Rattle.report.specs.Writing.{written, putAll}
 use Rattle.codec.proofs.Writing.{put-room}
 use Rattle.report.proofs.Writes.{putAll-cons}
-use Rattle.report.proofs.Sorting.{sum-sorted}
+use Rattle.machine.proofs.Sorting.{sum-sorted}
 use Rattle.report.proofs.Counted.{records-few}
 
 -- ---- Sizes

@@ -1,5 +1,4 @@
 pub mod Writes
-pub mod Sorting
 pub mod Selection
 pub mod Rows
 pub mod Places

@@ -4,45 +4,24 @@ use native.Mathlib.Decide.{ℕ-discrete}
 use native.Mathlib.Omega.{arith}
 use mathlib.Core.Path.{_≡_, refl, sym, ap, ap₂, _∙_}
 use mathlib.Core.Bool.{Bool, true, false, cond}
-use mathlib.Core.List.{List, _∷_, _++_, map}
+use mathlib.Core.List.{List, _∷_, _++_}
 use borrow.Author.Tests.{le-leb, eq-eqb}
 use lib.Dec.{leb, eqb}
 use lib.ListN.{length}
-use Rattle.machine.specs.Transaction.{Transaction, Event}
-use Rattle.machine.specs.Lists.{flat}
 use Rattle.machine.specs.State.{State}
-use Rattle.machine.specs.Report.{Place, movingOne, places, byNumber, placeNumbers}
-use Rattle.machine.specs.Claims.{bit, everyone, standing}
-use Rattle.machine.proofs.Sums.{sumOn, sum-append, sum-map, sum-length, sum-count}
+use Rattle.machine.specs.Report.{Place, places, byNumber, placeNumbers}
+use Rattle.machine.specs.Claims.{bit, standing}
+use Rattle.machine.proofs.Sums.{sumOn, sum-length}
 use Rattle.rows.specs.Layout.{numberField}
 use Rattle.rows.specs.Cells.{read}
 use Rattle.rows.proofs.Sums.{sum-ext}
 use Rattle.state.specs.Stands.{Listing}
 use Rattle.report.specs.Living.{placeOf, placeAt, lives, livingCount, counts, rising}
 use Rattle.report.specs.Numbers.{livingNumbers}
-use Rattle.report.proofs.Sorting.{times, sorted-is}
+use Rattle.machine.proofs.Standing.{times-standing}
+use Rattle.machine.proofs.Sorting.{sorted-is}
 use Rattle.report.proofs.Selection.{sum-two, weight, all, rising-sum, rising-rises}
-use Rattle.report.proofs.Places.{sum-places, all-places}
-
--- ---- How often a number stands there
-
-times-standing : (s : State) (n : ℕ) → times n (places s) ≡ standing s n
-unfolding standing everyone
-times-standing s n =
-    omega (
-      arith,
-      sum-places (λ p. bit (eqb (p .number) n)) s,
-      sum-count (λ (t : Transaction). eqb (t .number) n) (flat (s .ql) ++ flat (s .wel) ++ s .wsl ++ s .rel ++ map (λ e. e .who) (s .fel) ++ movingOne (s .moving)),
-      sum-append is (flat (s .ql) ++ flat (s .wel) ++ s .wsl ++ s .rel ++ map (λ e. e .who) (s .fel)) (movingOne (s .moving)),
-      sum-append is (flat (s .ql) ++ flat (s .wel) ++ s .wsl ++ s .rel) (map (λ e. e .who) (s .fel)),
-      sum-append is (flat (s .ql) ++ flat (s .wel) ++ s .wsl) (s .rel),
-      sum-append is (flat (s .ql) ++ flat (s .wel)) (s .wsl),
-      sum-append is (flat (s .ql)) (flat (s .wel)),
-      sum-map is (λ (e : Event). e .who) (s .fel),
-    )
-  where
-    is : Transaction → ℕ
-    is t = bit (eqb (t .number) n)
+use Rattle.report.proofs.Places.{all-places}
 
 -- ---- Count and order
 

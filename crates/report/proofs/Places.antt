@@ -11,9 +11,10 @@ use lib.ListN.{length, getD}
 use Rattle.machine.specs.Transaction.{Transaction, Event}
 use Rattle.machine.specs.Lists.{flat}
 use Rattle.machine.specs.State.{State}
-use Rattle.machine.specs.Report.{Place, placed, movingOne, places}
-use Rattle.machine.proofs.Sums.{sumOn, sum-append, sum-map}
-use Rattle.rows.specs.Layout.{place, fel, numberField}
+use Rattle.machine.specs.Report.{Place, movingOne, places}
+use Rattle.machine.proofs.Standing.{sum-places}
+use Rattle.machine.proofs.Sums.{sumOn, sum-map}
+use Rattle.rows.specs.Layout.{place, fel, nowhere, numberField}
 use Rattle.rows.specs.Cells.{load, read}
 use Rattle.rows.specs.Holds.{transactionAt, eventAt}
 use Rattle.rows.specs.Living.{sumTo}
@@ -91,32 +92,6 @@ module _ (f : Place → ℕ) where
   abbrev at : ℕ → Transaction → ℕ
   at p t = f (record { number = t .number; place = p })
 
-  sum-placed : (p : ℕ) (l : List Transaction) → sumOn f (placed p l) ≡ sumOn (at p) l
-  unfolding placed
-  sum-placed p l = sum-map f (λ t. record { number = t .number; place = p }) l
-
-  pub sum-places : (s : State) →
-      sumOn f (places s)
-      ≡ sumOn (at 1) (flat (s .ql)) + sumOn (at 2) (flat (s .wel)) + sumOn (at 3) (s .wsl) + sumOn (λ (e : Event). at 4 (e .who)) (s .fel) + sumOn (at 5) (s .rel)
-      + sumOn (at 6) (movingOne (s .moving))
-  unfolding places
-  sum-places s =
-      omega (
-        arith,
-        sum-append f (placed 1 (flat (s .ql)) ++ placed 2 (flat (s .wel)) ++ placed 3 (s .wsl) ++ placed 4 (map (λ e. e .who) (s .fel)) ++ placed 5 (s .rel)) (placed 6 (movingOne (s .moving))),
-        sum-append f (placed 1 (flat (s .ql)) ++ placed 2 (flat (s .wel)) ++ placed 3 (s .wsl) ++ placed 4 (map (λ e. e .who) (s .fel))) (placed 5 (s .rel)),
-        sum-append f (placed 1 (flat (s .ql)) ++ placed 2 (flat (s .wel)) ++ placed 3 (s .wsl)) (placed 4 (map (λ e. e .who) (s .fel))),
-        sum-append f (placed 1 (flat (s .ql)) ++ placed 2 (flat (s .wel))) (placed 3 (s .wsl)),
-        sum-append f (placed 1 (flat (s .ql))) (placed 2 (flat (s .wel))),
-        sum-placed 1 (flat (s .ql)),
-        sum-placed 2 (flat (s .wel)),
-        sum-placed 3 (s .wsl),
-        sum-placed 4 (map (λ e. e .who) (s .fel)),
-        sum-map (at 4) (λ (e : Event). e .who) (s .fel),
-        sum-placed 5 (s .rel),
-        sum-placed 6 (movingOne (s .moving)),
-      )
-
   -- ---- The rows, weighed
 
   module _ (w : List ℕ) (moving : ℕ) (s : State) (h : Listing w moving (s .moving) s) (qls : length (s .ql) ≤ 64) (wels : length (s .wel) ≤ 384) where
@@ -176,7 +151,7 @@ module _ (f : Place → ℕ) where
         same : transactionAt w moving .number ≡ t .number → row 6 moving ≡ at 6 t + 0
         same q = unfold transactionAt in (ap (λ n. f (record { number = n; place = 6 })) q ∙ omega arith)
 
-    off-lists : (o : Option Transaction) → Moving w moving o → moving < 1024 → load w (place moving) ≡ 512
+    off-lists : (o : Option Transaction) → Moving w moving o → moving < 1024 → load w (place moving) ≡ nowhere
     off-lists none e l = absurd (omega arith)
     off-lists (some t) e l = e .0 .off
 
@@ -207,5 +182,5 @@ module _ (f : Place → ℕ) where
           sum-lists w L (h .shows .shown .holds) 451 (λ p k. row (listPlace p) k) (omega arith),
           lists-weight,
           moving-weight (s .moving) (h .mover),
-          sum-places s,
+          sum-places f s,
         )

@@ -10,7 +10,7 @@ use lib.Dec.{ltb, eqb}
 use lib.ListN.{length, getD}
 use Rattle.machine.specs.Lists.{flat}
 use Rattle.machine.proofs.Sums.{sumOn, sum-append}
-use Rattle.rows.specs.Layout.{place, head}
+use Rattle.rows.specs.Layout.{place, head, listCount}
 use Rattle.rows.specs.Cells.{load}
 use Rattle.rows.specs.Holds.{same, occurs, Holds}
 use Rattle.rows.specs.Living.{sumTo}
@@ -70,7 +70,7 @@ module _ (w : List ℕ) (L : ℕ → List ℕ) (holds : Holds w L) where
   abbrev pub placeField : ℕ → ℕ
   placeField k = load w (place k)
 
-  sum-list : (p : ℕ) (g : ℕ → ℕ) → p < 512 → sumOn g (L p) ≡ sumTo 1024 (λ k. cond (eqb (placeField k) p) (g k) 0)
+  sum-list : (p : ℕ) (g : ℕ → ℕ) → p < listCount → sumOn g (L p) ≡ sumTo 1024 (λ k. cond (eqb (placeField k) p) (g k) 0)
   sum-list p g h =
       sum-rows g (L p) (λ j m. chain-row w (head p) (L p) j (holds .listed p h .chain) m)
       ∙ sum-ext 1024 (λ k. occurs k (L p) * g k) (λ k. cond (eqb (placeField k) p) (g k) 0)
@@ -81,7 +81,7 @@ module _ (w : List ℕ) (L : ℕ → List ℕ) (holds : Holds w L) where
       one false x = omega arith
 
   -- of the first n lists, each with a weight of its own
-  pub sum-lists : (n : ℕ) (g : ℕ → ℕ → ℕ) → n ≤ 512 →
+  pub sum-lists : (n : ℕ) (g : ℕ → ℕ → ℕ) → n ≤ listCount →
       sumTo 1024 (λ k. cond (ltb (placeField k) n) (g (placeField k) k) 0) ≡ sumTo n (λ p. sumOn (g p) (L p))
   sum-lists zero g h =
       sum-zero 1024 (λ k. cond (ltb (placeField k) 0) (g (placeField k) k) 0)

@@ -11,8 +11,8 @@ use Rattle.tables.specs.Layout as Layout
 -- block b is of one of two kinds, and its first operand is this one
 unfoldable pub names : List ℕ → (first second index b : ℕ) → Bool
 names tables first second index b =
-    cond (eqb (getD tables (8 * b + 1) 0) index)
-    (cond (eqb (getD tables (8 * b) 0) first) true (eqb (getD tables (8 * b) 0) second))
+    cond (eqb (getD tables (Layout.blockWidth * b + 1) 0) index)
+    (cond (eqb (getD tables (Layout.blockWidth * b) 0) first) true (eqb (getD tables (Layout.blockWidth * b) 0) second))
     false
 
 -- the count of block b at an offset of the tally, where it names the index
@@ -23,7 +23,7 @@ share tables tally first second index base b = cond (names tables first second i
 unfoldable pub total : (tables tally : List ℕ) → (first second index base n : ℕ) → ℕ
 total tables tally first second index base zero = 0
 total tables tally first second index base (suc n) =
-    min (total tables tally first second index base n + share tables tally first second index base n) 18446744073709551615
+    min (total tables tally first second index base n + share tables tally first second index base n) Layout.most64
 
 -- ---- One server, one queue
 

@@ -1,6 +1,7 @@
 -- The numbers of the report, from what a run leaves: header, tables, tally, work buffer and scalars.
 use Prim.Native.Nat.{ℕ, _+_, min}
 use mathlib.Core.List.{List, [], _∷_, _++_}
+use Rattle.machine.specs.Limits.{maxFacilities, maxStorages, maxBlocks, maxQueues}
 use Rattle.machine.specs.Report.{placeNumbers}
 use Rattle.machine.specs.declared.model.Model.{Model}
 use Rattle.state.specs.declared.scalars.Scalars.{Scalars}
@@ -14,6 +15,6 @@ livingNumbers w moving = livingCount w moving ∷ placeNumbers (rising (livingCo
 unfoldable pub rowNumbers : Model → (tables tally work : List ℕ) → Scalars → List ℕ
 rowNumbers model tables tally work x =
     (x .clock ∷ x .made ∷ x .ended ∷ [])
-    ++ (rowsTo (min (model .facilities) 32 + min (model .storages) 32) (serverRow tables tally (min (model .blocks) 256))
-    ++ (rowsTo (min (model .queues) 32) (queueRow tables tally (min (model .blocks) 256))
+    ++ (rowsTo (min (model .facilities) maxFacilities + min (model .storages) maxStorages) (serverRow tables tally (min (model .blocks) maxBlocks))
+    ++ (rowsTo (min (model .queues) maxQueues) (queueRow tables tally (min (model .blocks) maxBlocks))
     ++ livingNumbers work (x .moving)))

@@ -1,8 +1,13 @@
 // The numbers of servers and queues, from tables and tally.
 use codec::write_number;
+use machine::kinds::ARRIVE;
+use machine::kinds::ENTER;
+use machine::kinds::SEIZE;
 use state::plus64;
+use tables::BLOCK_WIDTH;
 use tables::CONTENT_TICKS;
 use tables::ENTRIES;
+use tables::FIRST;
 use tables::LONGEST_CONTENT;
 use tables::LONGEST_QL;
 use tables::UNIT_TICKS;
@@ -12,16 +17,19 @@ use tables::count;
 use tables::number;
 ghost use mathlib.Core.Path.{_≡_};
 ghost use Prim.Native.Nat.{_≤_, _<_};
+ghost use Rattle.machine.specs.Limits.{maxBlocks, maxQueues};
+ghost use Rattle.tables.specs.Layout as Layout;
+ghost use Rattle.tables.specs.Layout.{serverCount};
 ghost use Rattle.report.specs.Counts.{names, share, total, serverRow, queueRow, rowsTo};
 ghost use Rattle.report.specs.Writing.{written, putAll};
 
 // Block b is of one of two kinds, and its first operand is this one.
 fn names(tables: &[u32], first: u32, second: u32, index: usize, b: usize) -> bool
-    requires { ⌜ b < 256 ⌝ }
+    requires { ⌜ b < maxBlocks ⌝ }
     ensures { λ r. ⌜ r ≡ names (now (tables .entry)) first second index b ⌝ }
 {
-    let at = 8 * b;
-    if number(tables, at + 1) as usize != index {
+    let at = BLOCK_WIDTH * b;
+    if number(tables, at + FIRST) as usize != index {
         return false;
     }
     let kind = number(tables, at);
@@ -40,8 +48,8 @@ fn share(
     base: usize,
     b: usize,
 ) -> u64
-    requires { ⌜ base ≤ 256 ⌝ }
-    requires { ⌜ b < 256 ⌝ }
+    requires { ⌜ base ≤ Layout.waits ⌝ }
+    requires { ⌜ b < maxBlocks ⌝ }
     ensures { λ r. ⌜ r ≡ share (now (tables .entry)) (now (tally .entry)) first second index base b ⌝ }
 {
     if names(tables, first, second, index, b) {
@@ -60,8 +68,8 @@ fn total(
     base: usize,
     n: usize,
 ) -> u64
-    requires { ⌜ base ≤ 256 ⌝ }
-    requires { ⌜ n ≤ 256 ⌝ }
+    requires { ⌜ base ≤ Layout.waits ⌝ }
+    requires { ⌜ n ≤ maxBlocks ⌝ }
     ensures { λ r. ⌜ r ≡ total (now (tables .entry)) (now (tally .entry)) first second index base n ⌝ }
 {
     let mut sum: u64 = 0;
@@ -81,13 +89,21 @@ fn put_server(
     report: &mut [u8],
     at: usize,
 ) -> usize
-    requires { ⌜ blocks ≤ 256 ⌝ }
-    requires { ⌜ v < 64 ⌝ }
+    requires { ⌜ blocks ≤ maxBlocks ⌝ }
+    requires { ⌜ v < serverCount ⌝ }
     ensures { λ r. ⌜ written r (now (report .exit)) ≡ putAll (serverRow (now (tables .entry)) (now (tally .entry)) blocks v) (written at (now (report .entry))) ⌝ }
 {
-    let entered = write_number(report, at, total(tables, tally, 4, 6, v, ENTRIES, blocks));
+    let entered = write_number(
+        report,
+        at,
+        total(tables, tally, SEIZE, ENTER, v, ENTRIES, blocks),
+    );
     let used = write_number(report, entered, count(tally, UNIT_TICKS + v));
-    let waits = write_number(report, used, total(tables, tally, 4, 6, v, WAITS, blocks));
+    let waits = write_number(
+        report,
+        used,
+        total(tables, tally, SEIZE, ENTER, v, WAITS, blocks),
+    );
     let waited = write_number(report, waits, count(tally, WAIT_TICKS + v));
     write_number(report, waited, count(tally, LONGEST_QL + v))
 }
@@ -100,8 +116,8 @@ pub fn put_servers(
     report: &mut [u8],
     at: usize,
 ) -> usize
-    requires { ⌜ blocks ≤ 256 ⌝ }
-    requires { ⌜ servers ≤ 64 ⌝ }
+    requires { ⌜ blocks ≤ maxBlocks ⌝ }
+    requires { ⌜ servers ≤ serverCount ⌝ }
     ensures { λ r. ⌜ written r (now (report .exit)) ≡ putAll (rowsTo servers (serverRow (now (tables .entry)) (now (tally .entry)) blocks)) (written at (now (report .entry))) ⌝ }
 {
     let mut next = at;
@@ -121,11 +137,15 @@ fn put_queue(
     report: &mut [u8],
     at: usize,
 ) -> usize
-    requires { ⌜ blocks ≤ 256 ⌝ }
-    requires { ⌜ q < 32 ⌝ }
+    requires { ⌜ blocks ≤ maxBlocks ⌝ }
+    requires { ⌜ q < maxQueues ⌝ }
     ensures { λ r. ⌜ written r (now (report .exit)) ≡ putAll (queueRow (now (tables .entry)) (now (tally .entry)) blocks q) (written at (now (report .entry))) ⌝ }
 {
-    let arrived = write_number(report, at, total(tables, tally, 15, 15, q, ENTRIES, blocks));
+    let arrived = write_number(
+        report,
+        at,
+        total(tables, tally, ARRIVE, ARRIVE, q, ENTRIES, blocks),
+    );
     let filled = write_number(report, arrived, count(tally, CONTENT_TICKS + q));
     write_number(report, filled, count(tally, LONGEST_CONTENT + q))
 }
@@ -138,8 +158,8 @@ pub fn put_queues(
     report: &mut [u8],
     at: usize,
 ) -> usize
-    requires { ⌜ blocks ≤ 256 ⌝ }
-    requires { ⌜ queues ≤ 32 ⌝ }
+    requires { ⌜ blocks ≤ maxBlocks ⌝ }
+    requires { ⌜ queues ≤ maxQueues ⌝ }
     ensures { λ r. ⌜ written r (now (report .exit)) ≡ putAll (rowsTo queues (queueRow (now (tables .entry)) (now (tally .entry)) blocks)) (written at (now (report .entry))) ⌝ }
 {
     let mut next = at;

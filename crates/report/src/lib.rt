@@ -43,9 +43,10 @@ pub fn write_report(
 ) -> usize
     ensures { λ r. ⌜ written r (now (report .exit)) ≡ putAll (rowNumbers model (now (tables .entry)) (now (tally .entry)) (now (work .entry)) x) (written 0 (now (report .entry))) ⌝ }
 {
-    let blocks = at_most(model.blocks, 256);
-    let servers = at_most(model.facilities, 32) + at_most(model.storages, 32);
-    let queues = at_most(model.queues, 32);
+    let blocks = at_most(model.blocks, Model::MAX_BLOCKS);
+    let servers = at_most(model.facilities, Model::MAX_FACILITIES)
+        + at_most(model.storages, Model::MAX_STORAGES);
+    let queues = at_most(model.queues, Model::MAX_QUEUES);
     let head = put_scalars(x, report, 0);
     let served = put_servers(tables, tally, blocks, servers, report, head);
     let queued = put_queues(tables, tally, blocks, queues, report, served);

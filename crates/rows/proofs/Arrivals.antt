@@ -14,7 +14,7 @@ use Rattle.machine.specs.Setters.{setRel, setSerial}
 use Rattle.machine.specs.Moves.{toRel}
 use Rattle.machine.specs.Turn.{due, arriveAll}
 use Rattle.rows.specs.Clock.{arrivals}
-use Rattle.rows.specs.Holds.{All, Sorted}
+use Rattle.rows.specs.Ordered.{All, Sorted}
 use Rattle.rows.proofs.Insertion.{not-both}
 
 -- ---- The machine's arrivals

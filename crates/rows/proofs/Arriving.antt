@@ -11,13 +11,16 @@ use Rattle.machine.specs.Transaction.{Transaction, Event, precedes, earlier}
 use Rattle.machine.specs.Setters.{withSerial, withReturning}
 use Rattle.machine.specs.Lists.{insert, those, others}
 use Rattle.machine.specs.Turn.{due}
-use Rattle.rows.specs.Layout.{place, head, rel, fel}
+use Rattle.rows.specs.Layout.{place, head, rel, fel, listCount}
 use Rattle.rows.specs.Cells.{load, read, write, setReturning}
 use Rattle.rows.specs.Order.{ahead}
 use Rattle.rows.specs.Lists.{put, first, takeFirst}
 use Rattle.rows.specs.Clock.{isDue, arriveRow, arriveFirst, Arrived, arrived, arrive, arrivals}
-use Rattle.rows.specs.Holds.{transactionAt, eventAt, before, Chain, Sorted, update}
-use Rattle.rows.specs.Shows.{Shown, Shows, Loose}
+use Rattle.rows.specs.Holds.{transactionAt, eventAt, Chain, update}
+use Rattle.rows.specs.Ordered.{Sorted}
+use Rattle.rows.specs.Shows.{Shown, Held, Loose}
+use Rattle.rows.proofs.Insertion.{insert-sorted}
+use Rattle.rows.proofs.Orders.{precedes-order}
 use Rattle.rows.proofs.Occurs.{same-refl, occurs-cons}
 use Rattle.rows.proofs.Structure.{row-of}
 use Rattle.rows.proofs.Spot.{short}
@@ -38,7 +41,7 @@ module _ (w : List ℕ) (L : ℕ → List ℕ) (T : ℕ → List Transaction) (E
   abbrev k : ℕ
   k = first w fel
 
-  hl : fel < 512
+  hl : fel < listCount
   hl = omega arith
 
   abbrev w₁ : List ℕ
@@ -86,11 +89,11 @@ module _ (w : List ℕ) (L : ℕ → List ℕ) (T : ℕ → List Transaction) (E
   pub arrived-fel : arrived-rows fel ≡ m
   arrived-fel = refl
 
-  pub arrive-shown : Shown (arriveFirst w serial) arrived-rows (update rel (insert precedes (withSerial serial (withReturning false (transactionAt w k))) (T rel)) T) (drop 1 E)
+  pub arrive-shown : Sorted precedes (T rel) → Shown (arriveFirst w serial) arrived-rows (update rel (insert precedes (withSerial serial (withReturning false (transactionAt w k))) (T rel)) T) (drop 1 E)
   unfolding arriveFirst arriveRow
-  arrive-shown =
+  arrive-shown ready =
       rw (lt-ltb (first w fel) 1024 hk)
-      (subst (λ (t : Transaction). Shown (put w₃ rel k) arrived-rows (update rel (insert precedes t (T rel)) T) (drop 1 E)) fresh (put-shown w₃ L₁ T (drop 1 E) s₃ k loose₃ rel (omega arith)))
+      (subst (λ (t : Transaction). Shown (put w₃ rel k) arrived-rows (update rel (insert precedes t (T rel)) T) (drop 1 E)) fresh (put-shown w₃ L₁ T (drop 1 E) s₃ k loose₃ rel (omega arith) ready))
 
   placed : load w (place k) ≡ fel
   placed =
@@ -109,8 +112,8 @@ module _ (w : List ℕ) (L : ℕ → List ℕ) (T : ℕ → List Transaction) (E
 -- ---- All of a time
 
 -- what a clock move leaves
-pub record Arrives (w : List ℕ) (r : Arrived) (T : ℕ → List Transaction) (E : List Event) (serial : ℕ) : Type 0 where
-  pub shows : Shows (r .rows) T E
+pub record Came (w : List ℕ) (r : Arrived) (T : ℕ → List Transaction) (E : List Event) (serial : ℕ) : Type 0 where
+  pub held : Held (r .rows) T E
   pub last : r .serial ≡ serial
   pub steady : Steady w (r .rows)
 
@@ -132,7 +135,7 @@ rel-twice l m T q = go (eqb q rel)
 module _ (time : ℕ) where
   abbrev Result : (n : ℕ) (w : List ℕ) (T : ℕ → List Transaction) (E : List Event) (s : ℕ) → Type 0
   Result n w T E s =
-      Arrives w (arrive n time w s) (update rel (arrivals (run time E) s (T rel)) T) (left time E) (s + length (run time E))
+      Came w (arrive n time w s) (update rel (arrivals (run time E) s (T rel)) T) (left time E) (s + length (run time E))
 
   -- nobody is due
   stops : (w : List ℕ) (L : ℕ → List ℕ) (T : ℕ → List Transaction) (E : List Event) → Shown w L T E → (n s : ℕ) → isDue w time ≡ false → run time E ≡ [] → left time E ≡ E → Result n w T E s
@@ -140,7 +143,7 @@ module _ (time : ℕ) where
   stops w L T E sh n s e f g =
       rw (arrive-stop time w s n e, f, g)
       (record {
-        shows = record { rows = L; shown = shown-ext w L T (update rel (T rel) T) E (λ q hq. rel-same T q) sh };
+        held = record { rows = L; shown = shown-ext w L T (update rel (T rel) T) E (λ q hq. rel-same T q) sh };
         last = omega arith;
         steady = steady-refl w;
       })
@@ -170,7 +173,7 @@ module _ (time : ℕ) where
     comes st q rest =
         rw (arrive-suc n w s (due-some w hk ∙ q), q)
         (record {
-          shows = record { rows = rest .shows .rows; shown = shown-ext (arrive n time (arriveFirst w (suc s)) (suc s) .rows) (rest .shows .rows) (update rel (arrivals (run time E₁) (suc s) R₁) (update rel R₁ T)) (update rel (arrivals (run time E₁) (suc s) R₁) T) (left time E₁) (λ p hp. rel-twice (arrivals (run time E₁) (suc s) R₁) R₁ T p) (rest .shows .shown) };
+          held = record { rows = rest .held .rows; shown = shown-ext (arrive n time (arriveFirst w (suc s)) (suc s) .rows) (rest .held .rows) (update rel (arrivals (run time E₁) (suc s) R₁) (update rel R₁ T)) (update rel (arrivals (run time E₁) (suc s) R₁) T) (left time E₁) (λ p hp. rel-twice (arrivals (run time E₁) (suc s) R₁) R₁ T p) (rest .held .shown) };
           last = rest .last ∙ omega arith;
           steady = steady-trans w (arriveFirst w (suc s)) (arrive n time (arriveFirst w (suc s)) (suc s) .rows) st (rest .steady);
         })
@@ -187,14 +190,14 @@ module _ (time : ℕ) where
         go true q = comes st q rest
         go false q = waits sh q
 
-  pub arrive-run : (n : ℕ) (l : List ℕ) (w : List ℕ) (L : ℕ → List ℕ) (T : ℕ → List Transaction) (E : List Event) (sh : Shown w L T E) → L fel ≡ l → length l ≤ n → (s : ℕ) → Result n w T E s
+  pub arrive-run : (n : ℕ) (l : List ℕ) (w : List ℕ) (L : ℕ → List ℕ) (T : ℕ → List Transaction) (E : List Event) (sh : Shown w L T E) → Sorted precedes (T rel) → L fel ≡ l → length l ≤ n → (s : ℕ) → Result n w T E s
   unfolding Chain run left
-  arrive-run n [] w L T E sh was len s =
+  arrive-run n [] w L T E sh ready was len s =
       let e : E ≡ [] = sym (sh .future) ∙ ap (map (eventAt w)) was in
       let c : Chain w (head fel) [] = rw was at (sh .holds .listed fel (omega arith) .chain) in
       stops w L T E sh n s (due-none w c) (ap (run time) e) (ap (left time) e ∙ sym e)
-  arrive-run zero (k ∷ l) w L T E sh was len s = absurd (omega arith)
-  arrive-run (suc n) (k ∷ l) w L T E sh was len s =
+  arrive-run zero (k ∷ l) w L T E sh ready was len s = absurd (omega arith)
+  arrive-run (suc n) (k ∷ l) w L T E sh ready was len s =
       let c : Chain w (head fel) (k ∷ l) = rw was at (sh .holds .listed fel (omega arith) .chain) in
       let hk : first w fel < 1024 = omega (arith, c .0, c .1) in
       let was′ : L fel ≡ first w fel ∷ l = was ∙ ap (λ (x : ℕ). x ∷ l) (sym (c .0)) in
@@ -203,19 +206,14 @@ module _ (time : ℕ) where
       subst (λ (x : List Event). Result (suc n) w T x s) (sym e)
       (split n w L T (map (eventAt w) l) s hk sh′
       (arrive-steady w L T (eventAt w (first w fel) ∷ map (eventAt w) l) sh′ l was′ hk (suc s))
-      (arrive-run n l (arriveFirst w (suc s)) (arrived-rows w L T (eventAt w (first w fel) ∷ map (eventAt w) l) sh′ l was′ hk (suc s)) (update rel (R₁ n w L T (map (eventAt w) l) s hk) T) (map (eventAt w) l) (arrive-shown w L T (eventAt w (first w fel) ∷ map (eventAt w) l) sh′ l was′ hk (suc s)) (arrived-fel w L T (eventAt w (first w fel) ∷ map (eventAt w) l) sh′ l was′ hk (suc s)) (omega arith) (suc s)))
+      (arrive-run n l (arriveFirst w (suc s)) (arrived-rows w L T (eventAt w (first w fel) ∷ map (eventAt w) l) sh′ l was′ hk (suc s)) (update rel (R₁ n w L T (map (eventAt w) l) s hk) T) (map (eventAt w) l) (arrive-shown w L T (eventAt w (first w fel) ∷ map (eventAt w) l) sh′ l was′ hk (suc s) ready) (insert-sorted precedes precedes-order (withSerial (suc s) (withReturning false (transactionAt w (first w fel)))) (T rel) ready) (arrived-fel w L T (eventAt w (first w fel) ∷ map (eventAt w) l) sh′ l was′ hk (suc s)) (omega arith) (suc s)))
 
 -- ---- A clock move
 
-module _ (w : List ℕ) (L : ℕ → List ℕ) (T : ℕ → List Transaction) (E : List Event) (sh : Shown w L T E) where
-  fel-sorted : Sorted earlier E
-  unfolding before
-  fel-sorted = rw (sh .future) at (sh .holds .sorted fel (omega arith))
-
-  -- to the first time of the FEL
-  pub arrive-shows : (e : Event) (l : List Event) → E ≡ e ∷ l → (s : ℕ) → Arrives w (arrive 1024 (e .time) w s) (update rel (arrivals (those (due (e .time)) E) s (T rel)) T) (others (due (e .time)) E) (s + length (those (due (e .time)) E))
-  arrive-shows e l q s =
-      let sorted : Sorted earlier (e ∷ l) = rw q at fel-sorted in
-      let r : run (e .time) E ≡ those (due (e .time)) E = ap (run (e .time)) q ∙ run-is e l sorted ∙ ap (those (due (e .time))) (sym q) in
-      let f : left (e .time) E ≡ others (due (e .time)) E = ap (left (e .time)) q ∙ left-is e l sorted ∙ ap (others (due (e .time))) (sym q) in
-      rw (r, f) at (arrive-run (e .time) 1024 (L fel) w L T E sh refl (short w fel (L fel) (sh .holds .listed fel (omega arith))) s)
+-- to the first time of the FEL, which is in order, as is REL
+pub arrive-held : (w : List ℕ) (L : ℕ → List ℕ) (T : ℕ → List Transaction) (E : List Event) → Shown w L T E → Sorted precedes (T rel) → Sorted earlier E → (e : Event) (l : List Event) → E ≡ e ∷ l → (s : ℕ) → Came w (arrive 1024 (e .time) w s) (update rel (arrivals (those (due (e .time)) E) s (T rel)) T) (others (due (e .time)) E) (s + length (those (due (e .time)) E))
+arrive-held w L T E sh ready future e l q s =
+    let sorted : Sorted earlier (e ∷ l) = rw q at future in
+    let r : run (e .time) E ≡ those (due (e .time)) E = ap (run (e .time)) q ∙ run-is e l sorted ∙ ap (those (due (e .time))) (sym q) in
+    let f : left (e .time) E ≡ others (due (e .time)) E = ap (left (e .time)) q ∙ left-is e l sorted ∙ ap (others (due (e .time))) (sym q) in
+    rw (r, f) at (arrive-run (e .time) 1024 (L fel) w L T E sh ready refl (short w fel (L fel) (sh .holds .listed fel (omega arith))) s)

@@ -8,7 +8,7 @@ use native.Mathlib.Omega.{arith}
 use borrow.Author.Tests.{lt-ltb, le-ltb}
 use lib.Dec.{ltb}
 use lib.ListN.{length}
-use Rattle.rows.specs.Layout.{place, link, tail, nowhere}
+use Rattle.rows.specs.Layout.{place, link, tail, nowhere, links, listCount, tails}
 use Rattle.rows.specs.Cells.{load, store}
 use Rattle.rows.specs.Lists.{endAt, insertAt, removeRow}
 use Rattle.rows.proofs.Store.{length-store, load-same, load-other}
@@ -42,7 +42,7 @@ module _ (w : List ℕ) (p n c : ℕ) where
 
 -- ---- The numbers after an insertion
 
-module _ (w : List ℕ) (p c k : ℕ) (room : 16384 ≤ length w) (hp : p < 512) (hk : k < 1024) (low : 14336 ≤ c) (high : c < 15872) (apart : c ≢ link k) where
+module _ (w : List ℕ) (p c k : ℕ) (room : 16384 ≤ length w) (hp : p < listCount) (hk : k < 1024) (low : links ≤ c) (high : c < tails) (apart : c ≢ link k) where
   abbrev w₁ : List ℕ
   w₁ = store w (link k) (load w c)
 
@@ -105,7 +105,7 @@ module _ (w : List ℕ) (p c k : ℕ) (room : 16384 ≤ length w) (hp : p < 512)
 
 -- ---- The numbers after a removal
 
-module _ (w : List ℕ) (p c k : ℕ) (room : 16384 ≤ length w) (hp : p < 512) (hk : k < 1024) (low : 14336 ≤ c) (high : c < 15872) where
+module _ (w : List ℕ) (p c k : ℕ) (room : 16384 ≤ length w) (hp : p < listCount) (hk : k < 1024) (low : links ≤ c) (high : c < tails) where
   abbrev v₁ : List ℕ
   v₁ = store w c (load w (link k))
 

@@ -6,7 +6,7 @@ use mathlib.Core.List.{List, [], _∷_, _++_}
 use native.Mathlib.Omega.{arith}
 use native.Mathlib.Decide.{ℕ-discrete}
 use lib.ListN.{length}
-use Rattle.rows.specs.Layout.{place, link, head, tail, nowhere}
+use Rattle.rows.specs.Layout.{place, link, head, tail, nowhere, links, listCount, tails}
 use Rattle.rows.specs.Cells.{load}
 use Rattle.rows.specs.Lists.{insertAt, removeRow}
 use Rattle.rows.specs.Holds.{same, occurs, Chain, ending, Listed, update}
@@ -15,7 +15,7 @@ use Rattle.rows.proofs.Chain.{chain-moved, chain-after, ending-append}
 use Rattle.rows.proofs.Structure.{Changed, structure, row-of, at-most-once, end-low, end-high, end-not-link}
 use Rattle.rows.proofs.AtCell
 
-module _ (w : List ℕ) (p k : ℕ) (a b : List ℕ) (room : 16384 ≤ length w) (hp : p < 512) (hk : k < 1024) where
+module _ (w : List ℕ) (p k : ℕ) (a b : List ℕ) (room : 16384 ≤ length w) (hp : p < listCount) (hk : k < 1024) where
   -- row k, on no list, comes behind a
   module _ (one : Listed w p (a ++ b)) (off : load w (place k) ≡ nowhere) where
     abbrev cell : ℕ
@@ -24,10 +24,10 @@ module _ (w : List ℕ) (p k : ℕ) (a b : List ℕ) (room : 16384 ≤ length w)
     none : occurs k (a ++ b) ≡ 0
     none = one .once k hk ∙ same-other (load w (place k)) p (λ e. omega arith)
 
-    low : 14336 ≤ cell
+    low : links ≤ cell
     low = end-low w p a b one
 
-    high : cell < 15872
+    high : cell < tails
     high = omega (arith, end-high w p a b one)
 
     pub apart : cell ≢ link k
@@ -83,7 +83,7 @@ module _ (w : List ℕ) (p k : ℕ) (a b : List ℕ) (room : 16384 ≤ length w)
           once = insert-once;
         }
 
-    pub insert-listed : (L : ℕ → List ℕ) → ((q : ℕ) → q < 512 → Listed w q (L q)) → (q : ℕ) → q < 512 → Listed (insertAt w p cell k) q (update p (a ++ k ∷ b) L q)
+    pub insert-listed : (L : ℕ → List ℕ) → ((q : ℕ) → q < listCount → Listed w q (L q)) → (q : ℕ) → q < listCount → Listed (insertAt w p cell k) q (update p (a ++ k ∷ b) L q)
     insert-listed L listed = structure w (insertAt w p cell k) L listed p k a b (k ∷ b) hp hk one insert-changed
 
   -- row k, behind a, leaves
@@ -91,10 +91,10 @@ module _ (w : List ℕ) (p k : ℕ) (a b : List ℕ) (room : 16384 ≤ length w)
     abbrev spotted : ℕ
     spotted = ending (head p) a
 
-    r-low : 14336 ≤ spotted
+    r-low : links ≤ spotted
     r-low = end-low w p a (k ∷ b) one
 
-    r-high : spotted < 15872
+    r-high : spotted < tails
     r-high = omega (arith, end-high w p a (k ∷ b) one)
 
     -- it occurs there alone
@@ -153,6 +153,6 @@ module _ (w : List ℕ) (p k : ℕ) (a b : List ℕ) (room : 16384 ≤ length w)
           once = remove-once;
         }
 
-    pub remove-listed : (L : ℕ → List ℕ) → ((q : ℕ) → q < 512 → Listed w q (L q)) → (q : ℕ) → q < 512 → Listed (removeRow w p spotted k) q (update p (a ++ b) L q)
+    pub remove-listed : (L : ℕ → List ℕ) → ((q : ℕ) → q < listCount → Listed w q (L q)) → (q : ℕ) → q < listCount → Listed (removeRow w p spotted k) q (update p (a ++ b) L q)
     remove-listed L listed =
         structure w (removeRow w p spotted k) L listed p k a (k ∷ b) b hp hk one remove-changed

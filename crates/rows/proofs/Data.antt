@@ -1,19 +1,20 @@
 -- The data of rows: what keeps it keeps every row's transaction and event, and the order of the lists.
 use Prim.Native.Nat.{ℕ, _+_, _*_, _≤_, _<_}
-use mathlib.Core.Path.{_≡_, refl, ap}
+use mathlib.Core.Path.{_≡_, refl}
 use mathlib.Core.List.{List, [], _∷_, map}
 use native.Mathlib.Omega.{arith}
+use Rattle.rows.specs.Layout.{dataFields, places}
 use Rattle.rows.specs.Cells.{load, read}
 use Rattle.rows.specs.Holds.{transactionAt, eventAt, occurs}
 use Rattle.rows.proofs.Occurs.{same-refl}
 
 -- the data of all rows is the same
 abbrev pub SameData : List ℕ → List ℕ → Type 0
-SameData w w′ = (i : ℕ) → i < 12288 → load w′ i ≡ load w i
+SameData w w′ = (i : ℕ) → i < places → load w′ i ≡ load w i
 
 -- the data of row k is the same
 abbrev pub SameRow : List ℕ → List ℕ → ℕ → Type 0
-SameRow w w′ k = (f : ℕ) → f < 12 → read w′ f k ≡ read w f k
+SameRow w w′ k = (f : ℕ) → f < dataFields → read w′ f k ≡ read w f k
 
 pub same-row : (w w′ : List ℕ) (k : ℕ) → k < 1024 → SameData w w′ → SameRow w w′ k
 same-row w w′ k h kept f g = kept (f * 1024 + k) (omega arith)

@@ -1,6 +1,6 @@
 -- What a write to a field of a row makes of its transaction: the machine's setters.
 use Prim.Native.Nat.{ℕ, zero, suc, _+_, _*_, _/_, _%_, _≤_, _<_}
-use mathlib.Core.Path.{_≡_, ap}
+use mathlib.Core.Path.{_≡_}
 use mathlib.Core.List.{List}
 use native.Mathlib.Omega.{arith}
 use lib.Dec.{eqb}
@@ -9,7 +9,7 @@ use mir.Syntax.{w32}
 use mir.Val.{toZ}
 use Rattle.machine.specs.Transaction.{Transaction}
 use Rattle.machine.specs.Setters.{withPriority, withParameters, withNext, withSerial, withReturning}
-use Rattle.rows.specs.Layout.{fieldAt}
+use Rattle.rows.specs.Layout.{dataFields, fieldAt}
 use Rattle.rows.specs.Cells.{read, write, setReturning}
 use Rattle.rows.specs.Holds.{transactionAt, eventAt}
 use Rattle.rows.proofs.Store.{load-same, load-other}
@@ -26,7 +26,7 @@ module _ (w : List ℕ) (k : ℕ) (room : 16384 ≤ length w) (hk : k < 1024) wh
   apart′ : (f x g : ℕ) → g < f → read (write w f k x) g k ≡ read w g k
   apart′ f x g h = load-other w (fieldAt f k) x (fieldAt g k) (λ e. omega arith)
 
-  own : (f x : ℕ) → f < 12 → read (write w f k x) f k ≡ x
+  own : (f x : ℕ) → f < dataFields → read (write w f k x) f k ≡ x
   own f x h = load-same w (fieldAt f k) x room (omega arith)
 
   pub write-number : (x : ℕ) → transactionAt (write w 0 k x) k ≡ withNumber x (transactionAt w k)

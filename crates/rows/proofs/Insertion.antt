@@ -4,8 +4,9 @@ use mathlib.Core.Path.{_≡_, refl, sym, ap, _∙_}
 use mathlib.Core.Bool.{Bool, true, false, cond}
 use mathlib.Core.List.{List, [], _∷_, _++_, map}
 use native.Mathlib.Omega.{arith}
-use Rattle.machine.specs.Lists.{insert}
-use Rattle.rows.specs.Holds.{All, Sorted}
+use lib.ListN.{drop}
+use Rattle.machine.specs.Lists.{insert, those}
+use Rattle.rows.specs.Ordered.{All, Sorted}
 
 -- ---- Orders
 
@@ -71,6 +72,29 @@ module _ {A : Type 0} where
   sorted-without r (y ∷ a) x b h =
       let parts : All (λ z. r z y ≡ false) a × All (λ z. r z y ≡ false) (x ∷ b) = all-append (λ z. r z y ≡ false) a (x ∷ b) (h .0) in
       (append-all (λ z. r z y ≡ false) a b (parts .0) (parts .1 .1), sorted-without r a x b (h .1))
+
+  pub sorted-drop : (r : A → A → Bool) (l : List A) → Sorted r l → Sorted r (drop 1 l)
+  unfolding Sorted
+  sorted-drop r [] h = tt
+  sorted-drop r (x ∷ l) h = h .1
+
+  all-those : (P : A → Type 0) (p : A → Bool) (l : List A) → All P l → All P (those p l)
+  unfolding All those
+  all-those P p [] h = tt
+  all-those P p (x ∷ l) h = go (p x) (all-those P p l (h .1))
+    where
+      go : (t : Bool) → All P (those p l) → All P (cond t (x ∷ those p l) (those p l))
+      go true rest = (h .0, rest)
+      go false rest = rest
+
+  pub sorted-those : (r : A → A → Bool) (p : A → Bool) (l : List A) → Sorted r l → Sorted r (those p l)
+  unfolding Sorted those
+  sorted-those r p [] h = tt
+  sorted-those r p (x ∷ l) h = go (p x) (sorted-those r p l (h .1))
+    where
+      go : (t : Bool) → Sorted r (those p l) → Sorted r (cond t (x ∷ those p l) (those p l))
+      go true rest = (all-those (λ y. r y x ≡ false) p l (h .0), rest)
+      go false rest = rest
 
   unfoldable pub lastOf : A → List A → A
   lastOf y [] = y

@@ -1,33 +1,41 @@
 -- The laws that the crates above cite: what each function of this crate does to the machine's lists. `Shows w T E` says that
 -- the buffer w has the lists T and the FEL E; `Loose w k` that row k is on no list, as the moving one.
 use Prim.Native.Nat.{ℕ, suc, _+_, _<_}
-use mathlib.Core.Path.{_≡_, refl, subst}
-use mathlib.Core.Bool.{Bool}
-use mathlib.Core.List.{List, [], _∷_}
+use mathlib.Core.Path.{_≡_, refl, sym, ap, _∙_, subst}
+use mathlib.Core.Bool.{Bool, not}
+use mathlib.Core.List.{List, [], _∷_, _++_, map, map-append}
 use native.Mathlib.Omega.{arith}
+use lib.Dec.{eqb}
 use lib.ListN.{length, take, drop}
 use Rattle.machine.specs.Transaction.{Transaction, Event, precedes, earlier}
 use Rattle.machine.specs.Lists.{insert, those, others}
 use Rattle.machine.specs.Moves.{wake}
 use Rattle.machine.specs.Turn.{due}
-use Rattle.rows.specs.Layout.{place, head, rel, fel, free}
+use Rattle.rows.specs.Layout.{listCount, place, head, rel, fel, free, nowhere}
 use Rattle.rows.specs.Cells.{load}
-use Rattle.rows.specs.Lists.{put, first, takeFirst}
+use Rattle.rows.specs.Order.{ahead}
+use Rattle.rows.specs.Lists.{removeAt, put, first, takeFirst, remove}
 use Rattle.rows.specs.Wake.{wakeFirst, wakeAll}
-use Rattle.rows.specs.Clock.{arrive, arrivals}
+use Rattle.rows.specs.Clock.{Arrived, arrive, arrivals}
 use Rattle.rows.specs.Make.{freeRow}
 use Rattle.rows.specs.Living.{loose, onLists}
-use Rattle.rows.specs.Holds.{transactionAt, eventAt, ending, Listed, Holds, update}
+use Rattle.rows.specs.Holds.{transactionAt, eventAt, ending, Holds, update}
+use Rattle.rows.specs.Ordered.{Sorted, Ordered}
 use Rattle.rows.specs.Shows.{Shows, Loose, moved}
-use Rattle.rows.proofs.Occurs.{same-refl, occurs-cons}
+use Rattle.rows.proofs.Occurs.{same-refl, occurs-append, occurs-cons}
+use Rattle.rows.proofs.Insertion.{front, insert-sorted, sorted-without, sorted-drop, sorted-those}
+use Rattle.rows.proofs.Orders.{precedes-order, earlier-order}
+use Rattle.rows.proofs.Ordering.{ordered-list, ordered-fel, ordered-moved, wake-sorted, arrivals-sorted}
 use Rattle.rows.proofs.Structure.{row-of}
 use Rattle.rows.proofs.Spot.{short}
 use Rattle.rows.proofs.Data.{SameRow, same-row}
-use Rattle.rows.proofs.Holding.{Kept}
+use Rattle.rows.proofs.Holding.{Kept, remove-holds, remove-keeps, remove-placed}
+use Rattle.rows.proofs.Showing.{shown-list, shown-fel}
 use Rattle.rows.proofs.Loose.{loose-more, loose-less}
-use Rattle.rows.proofs.Steady.{Around, kept-around}
+use Rattle.rows.proofs.Steady.{Steady, Around, kept-around}
 use Rattle.rows.proofs.Put.{put-keeps, put-placed, put-shown, put-fel-shown}
-use Rattle.rows.proofs.Take.{Head, head-shown, head-fel-shown, rows-first, take-keeps, take-loose, take-shown, take-fel-shown, take-free-shown}
+use Rattle.rows.proofs.Take.{Head, head-shown, head-fel-shown, rows-first, take-shown, take-fel-shown, take-free-shown}
+use Rattle.rows.proofs.Removal.{rest-of, remove-is}
 use Rattle.rows.proofs.Making.{free-keeps, free-placed, free-shown}
 use Rattle.rows.proofs.WakingAll
 use Rattle.rows.proofs.Arriving
@@ -48,12 +56,33 @@ pub record Takes (w w′ : List ℕ) (k : ℕ) (T : ℕ → List Transaction) (E
   pub off : Loose w′ k
   pub count : loose w′ ≡ suc (loose w)
 
+-- a list that had one between two parts, and what holds of the parts without it
+pub record Without {A : Type 0} (one : A) (l : List A) (Left : List A → Type 0) : Type 0 where
+  pub ahead : List A
+  pub behind : List A
+  pub parts : l ≡ ahead ++ one ∷ behind
+  pub left : Left (ahead ++ behind)
+
+-- what waking leaves
+pub record Wakes (w w′ : List ℕ) (T : ℕ → List Transaction) (E : List Event) : Type 0 where
+  pub shows : Shows w′ T E
+  pub steady : Steady w w′
+
+-- what a clock move leaves
+pub record Arrives (w : List ℕ) (r : Arrived) (T : ℕ → List Transaction) (E : List Event) (serial : ℕ) : Type 0 where
+  pub shows : Shows (r .rows) T E
+  pub last : r .serial ≡ serial
+  pub steady : Steady w (r .rows)
+
 module _ (w : List ℕ) (T : ℕ → List Transaction) (E : List Event) (s : Shows w T E) where
   abbrev L : ℕ → List ℕ
   L = s .rows
 
   abbrev h : Holds w L
   h = s .shown .holds
+
+  abbrev o : Ordered (λ q. precedes) T E
+  o = s .ordered
 
   -- ---- The first of a list
 
@@ -66,7 +95,7 @@ module _ (w : List ℕ) (T : ℕ → List Transaction) (E : List Event) (s : Sho
   -- ---- Putting
 
   module _ (k : ℕ) (off : Loose w k) where
-    puts : (w′ : List ℕ) (p : ℕ) (U : ℕ → List Transaction) (F : List Event) → p < 512 → Kept w w′ k → load w′ (place k) ≡ p → Shows w′ U F → Puts w w′ k U F
+    puts : (w′ : List ℕ) (p : ℕ) (U : ℕ → List Transaction) (F : List Event) → p < listCount → Kept w w′ k → load w′ (place k) ≡ p → Shows w′ U F → Puts w w′ k U F
     puts w′ p U F hp kept at shows =
         record {
           shows = shows;
@@ -75,57 +104,140 @@ module _ (w : List ℕ) (T : ℕ → List Transaction) (E : List Event) (s : Sho
           count = loose-less w w′ k (off .row) (kept .places) (off .off) (omega arith);
         }
 
+    -- what is shown then; the rows compute
+    abbrev pub shows-put : (p : ℕ) → p < 450 → Shows (put w p k) (update p (insert precedes (transactionAt w k) (T p)) T) E
+    shows-put p hp =
+        record {
+          rows = update p (insert (ahead w p) k (L p)) L;
+          shown = put-shown w L T E (s .shown) k off p hp (o .lists p hp);
+          ordered = ordered-list (λ q. precedes) T E p _ (insert-sorted precedes precedes-order (transactionAt w k) (T p) (o .lists p hp)) o;
+        }
+
+    abbrev pub shows-put-fel : Shows (put w fel k) T (insert earlier (eventAt w k) E)
+    shows-put-fel =
+        record {
+          rows = update fel (insert (ahead w fel) k (L fel)) L;
+          shown = put-fel-shown w L T E (s .shown) k off (o .future);
+          ordered = ordered-fel (λ q. precedes) T E _ (insert-sorted earlier earlier-order (eventAt w k) E (o .future)) o;
+        }
+
     pub put-shows : (p : ℕ) → p < 450 → Puts w (put w p k) k (update p (insert precedes (transactionAt w k) (T p)) T) E
     put-shows p hp =
-        puts (put w p k) p (update p (insert precedes (transactionAt w k) (T p)) T) E (omega arith) (put-keeps w L h p k (omega arith) off) (put-placed w L h p k (omega arith) off)
-        (record { rows = _; shown = put-shown w L T E (s .shown) k off p hp })
+        puts (put w p k) p (update p (insert precedes (transactionAt w k) (T p)) T) E (omega arith) (put-keeps w L h p k (omega arith) off) (put-placed w L h p k (omega arith) off) (shows-put p hp)
 
     pub put-fel-shows : Puts w (put w fel k) k T (insert earlier (eventAt w k) E)
     put-fel-shows =
-        puts (put w fel k) fel T (insert earlier (eventAt w k) E) (omega arith) (put-keeps w L h fel k (omega arith) off) (put-placed w L h fel k (omega arith) off)
-        (record { rows = _; shown = put-fel-shown w L T E (s .shown) k off })
+        puts (put w fel k) fel T (insert earlier (eventAt w k) E) (omega arith) (put-keeps w L h fel k (omega arith) off) (put-placed w L h fel k (omega arith) off) shows-put-fel
 
     -- the row of one that ended
     pub free-shows : Puts w (freeRow w k) k T E
     free-shows =
         puts (freeRow w k) free T E (omega arith) (free-keeps w L T E (s .shown) k off) (free-placed w L T E (s .shown) k off)
-        (record { rows = _; shown = free-shown w L T E (s .shown) k off })
+        (record { rows = _; shown = free-shown w L T E (s .shown) k off; ordered = o })
 
-  -- ---- Taking the first
+  -- ---- Taking
 
-  takes : (p : ℕ) (U : ℕ → List Transaction) (F : List Event) → (hp : p < 512) (n : first w p < 1024) → Shows (takeFirst w p) U F → Takes w (takeFirst w p) (first w p) U F
-  takes p U F hp n shows =
-      let r : (m : List ℕ) × (L p ≡ first w p ∷ m) = rows-first w L T E (s .shown) p hp n in
-      let kept : Kept w (takeFirst w p) (first w p) = take-keeps w L h p hp (r .0) (r .1) n in
-      let off : Loose (takeFirst w p) (first w p) = take-loose w L h p hp (r .0) (r .1) n in
-      let one : Listed w p (first w p ∷ r .0) = rw (r .1) at (h .listed p hp) in
-      let was : load w (place (first w p)) ≡ p = row-of w p [] (first w p ∷ r .0) one (first w p) (omega (arith, occurs-cons (first w p) (first w p) (r .0), same-refl (first w p) (first w p) refl)) .1 in
-      record {
-        shows = shows;
-        around = kept-around w (takeFirst w p) (first w p) kept;
-        same = same-row w (takeFirst w p) (first w p) n (kept .rows);
-        off = off;
-        count = loose-more w (takeFirst w p) (first w p) n (kept .places) (omega arith) (off .off);
-      }
+  -- a row from where it stands
+  module _ (p k : ℕ) (a b : List ℕ) (hp : p < listCount) (hk : k < 1024) (was : L p ≡ a ++ k ∷ b) where
+    abbrev without : List ℕ
+    without = removeAt w p (ending (head p) a)
 
+    kept : Kept w without k
+    kept = remove-keeps w L h p k a b hp hk was
+
+    takes : (U : ℕ → List Transaction) (F : List Event) → Shows without U F → Takes w without k U F
+    takes U F shows =
+        let off : load without (place k) ≡ nowhere = remove-placed w L h p k a b hp hk was in
+        let at : load w (place k) ≡ p = row-of w p a (k ∷ b) (rw was at (h .listed p hp)) k (omega (arith, occurs-append k a (k ∷ b), occurs-cons k k b, same-refl k k refl)) .1 in
+        record {
+          shows = shows;
+          around = kept-around w without k kept;
+          same = same-row w without k hk (kept .rows);
+          off = record { row = hk; off = off };
+          count = loose-more w without k hk (kept .places) (omega arith) off;
+        }
+
+  -- the first
   pub take-shows : (p : ℕ) → p < 450 → first w p < 1024 → Takes w (takeFirst w p) (first w p) (update p (drop 1 (T p)) T) E
+  unfolding ending
   take-shows p hp n =
-      let hl : p < 512 = omega arith in
+      let hl : p < listCount = omega arith in
       let r : (m : List ℕ) × (L p ≡ first w p ∷ m) = rows-first w L T E (s .shown) p hl n in
-      takes p (update p (drop 1 (T p)) T) E hl n (record { rows = _; shown = take-shown w L T E (s .shown) p hl (r .0) (r .1) n hp })
+      takes p (first w p) [] (r .0) hl n (r .1) (update p (drop 1 (T p)) T) E
+      (record {
+        rows = _;
+        shown = take-shown w L T E (s .shown) p hl (r .0) (r .1) n hp;
+        ordered = ordered-list (λ q. precedes) T E p (drop 1 (T p)) (sorted-drop precedes (T p) (o .lists p hp)) o;
+      })
 
   pub take-fel-shows : first w fel < 1024 → Takes w (takeFirst w fel) (first w fel) T (drop 1 E)
+  unfolding ending
   take-fel-shows n =
-      let hl : fel < 512 = omega arith in
+      let hl : fel < listCount = omega arith in
       let r : (m : List ℕ) × (L fel ≡ first w fel ∷ m) = rows-first w L T E (s .shown) fel hl n in
-      takes fel T (drop 1 E) hl n (record { rows = _; shown = take-fel-shown w L T E (s .shown) fel hl (r .0) (r .1) n refl })
+      takes fel (first w fel) [] (r .0) hl n (r .1) T (drop 1 E)
+      (record {
+        rows = _;
+        shown = take-fel-shown w L T E (s .shown) fel hl (r .0) (r .1) n refl;
+        ordered = ordered-fel (λ q. precedes) T E (drop 1 E) (sorted-drop earlier E (o .future)) o;
+      })
 
   -- a row for one that is made
   pub make-shows : first w free < 1024 → Takes w (takeFirst w free) (first w free) T E
+  unfolding ending
   make-shows n =
-      let hl : free < 512 = omega arith in
+      let hl : free < listCount = omega arith in
       let r : (m : List ℕ) × (L free ≡ first w free ∷ m) = rows-first w L T E (s .shown) free hl n in
-      takes free T E hl n (record { rows = _; shown = take-free-shown w L T E (s .shown) free hl (r .0) (r .1) n refl })
+      takes free (first w free) [] (r .0) hl n (r .1) T E
+      (record { rows = _; shown = take-free-shown w L T E (s .shown) free hl (r .0) (r .1) n refl; ordered = o })
+
+  -- a row by its number, wherever it stands
+  module _ (k : ℕ) (hk : k < 1024) where
+    pub remove-shows : (p : ℕ) → p < 450 → load w (place k) ≡ p → Without (transactionAt w k) (T p) (λ l. Takes w (remove w p k) k (update p l T) E)
+    remove-shows p hp at =
+        let hl : p < listCount = omega arith in
+        let r : (b : List ℕ) × (L p ≡ front eqb k (L p) ++ k ∷ b) = rest-of w L h p k hl hk at in
+        let was : T p ≡ map (transactionAt w) (front eqb k (L p)) ++ transactionAt w k ∷ map (transactionAt w) (r .0) = sym (s .shown .lists p hp) ∙ ap (map (transactionAt w)) (r .1) ∙ map-append (transactionAt w) (front eqb k (L p)) (k ∷ r .0) in
+        record {
+          ahead = map (transactionAt w) (front eqb k (L p));
+          behind = map (transactionAt w) (r .0);
+          parts = was;
+          left =
+              rw (remove-is w L h p k hl hk at, ← map-append (transactionAt w) (front eqb k (L p)) (r .0))
+              (takes p k (front eqb k (L p)) (r .0) hl hk (r .1) (update p (map (transactionAt w) (front eqb k (L p) ++ r .0)) T) E
+              (record {
+                rows = _;
+                shown = shown-list w _ L T E (s .shown) p (front eqb k (L p) ++ r .0) (remove-holds w L h p k (front eqb k (L p)) (r .0) hl hk (r .1)) (kept p k (front eqb k (L p)) (r .0) hl hk (r .1) .rows) hp;
+                ordered =
+                    ordered-list (λ q. precedes) T E p _
+                    (rw (map-append (transactionAt w) (front eqb k (L p)) (r .0))
+                    (sorted-without precedes (map (transactionAt w) (front eqb k (L p))) (transactionAt w k) (map (transactionAt w) (r .0)) (rw was at (o .lists p hp))))
+                    o;
+              }));
+        }
+
+    pub remove-fel-shows : load w (place k) ≡ fel → Without (eventAt w k) E (λ l. Takes w (remove w fel k) k T l)
+    remove-fel-shows at =
+        let hl : fel < listCount = omega arith in
+        let r : (b : List ℕ) × (L fel ≡ front eqb k (L fel) ++ k ∷ b) = rest-of w L h fel k hl hk at in
+        let was : E ≡ map (eventAt w) (front eqb k (L fel)) ++ eventAt w k ∷ map (eventAt w) (r .0) = sym (s .shown .future) ∙ ap (map (eventAt w)) (r .1) ∙ map-append (eventAt w) (front eqb k (L fel)) (k ∷ r .0) in
+        record {
+          ahead = map (eventAt w) (front eqb k (L fel));
+          behind = map (eventAt w) (r .0);
+          parts = was;
+          left =
+              rw (remove-is w L h fel k hl hk at, ← map-append (eventAt w) (front eqb k (L fel)) (r .0))
+              (takes fel k (front eqb k (L fel)) (r .0) hl hk (r .1) T (map (eventAt w) (front eqb k (L fel) ++ r .0))
+              (record {
+                rows = _;
+                shown = shown-fel w _ L T E (s .shown) fel (front eqb k (L fel) ++ r .0) (remove-holds w L h fel k (front eqb k (L fel)) (r .0) hl hk (r .1)) (kept fel k (front eqb k (L fel)) (r .0) hl hk (r .1) .rows) refl;
+                ordered =
+                    ordered-fel (λ q. precedes) T E _
+                    (rw (map-append (eventAt w) (front eqb k (L fel)) (r .0))
+                    (sorted-without earlier (map (eventAt w) (front eqb k (L fel))) (eventAt w k) (map (eventAt w) (r .0)) (rw was at (o .future))))
+                    o;
+              }));
+        }
 
   -- there is one exactly if fewer than 1,024 live
   pub free-if : onLists T E + loose w < 1024 → first w free < 1024
@@ -136,17 +248,54 @@ module _ (w : List ℕ) (T : ℕ → List Transaction) (E : List Event) (s : Sho
 
   -- ---- Waking
 
-  pub wake-first-shows : (p : ℕ) → p < 449 → WakingAll.Wakes w (wakeFirst w p) (moved p (drop 1 (T p)) (wake (take 1 (T p)) (T rel)) T) E
-  wake-first-shows = WakingAll.wake-first-shows w L T E (s .shown)
+  ready : Sorted precedes (T rel)
+  ready = o .lists rel (omega arith)
 
-  pub wake-all-shows : (test : List ℕ → ℕ → Bool) (P : Transaction → Bool) → ((v : List ℕ) (k : ℕ) → test v k ≡ P (transactionAt v k)) → (p : ℕ) → p < 449 → WakingAll.Wakes w (wakeAll test 1024 w p (head p)) (moved p (others P (T p)) (wake (those P (T p)) (T rel)) T) E
+  wakes : (p : ℕ) (hp : p < 449) (l m : List Transaction) (w′ : List ℕ) → Sorted precedes l → WakingAll.Woken w w′ (moved p l (wake m (T rel)) T) E → Wakes w w′ (moved p l (wake m (T rel)) T) E
+  wakes p hp l m w′ sorted woken =
+      record {
+        shows =
+            record {
+              rows = woken .held .rows;
+              shown = woken .held .shown;
+              ordered = ordered-moved (λ q. precedes) T E p l (wake m (T rel)) sorted (wake-sorted m (T rel) ready) o;
+            };
+        steady = woken .steady;
+      }
+
+  pub wake-first-shows : (p : ℕ) → p < 449 → Wakes w (wakeFirst w p) (moved p (drop 1 (T p)) (wake (take 1 (T p)) (T rel)) T) E
+  wake-first-shows p hp =
+      wakes p hp (drop 1 (T p)) (take 1 (T p)) (wakeFirst w p) (sorted-drop precedes (T p) (o .lists p (omega arith)))
+      (WakingAll.wake-first-held w L T E (s .shown) ready p hp)
+
+  pub wake-all-shows : (test : List ℕ → ℕ → Bool) (P : Transaction → Bool) → ((v : List ℕ) (k : ℕ) → test v k ≡ P (transactionAt v k)) → (p : ℕ) → p < 449 → Wakes w (wakeAll test 1024 w p (head p)) (moved p (others P (T p)) (wake (those P (T p)) (T rel)) T) E
   unfolding ending
   wake-all-shows test P agree p hp =
-      subst (λ (l : List Transaction). WakingAll.Wakes w (wakeAll test 1024 w p (head p)) (moved p (others P l) (wake (those P l) (T rel)) T) E)
+      wakes p hp (others P (T p)) (those P (T p)) (wakeAll test 1024 w p (head p)) (sorted-those precedes (λ t. not (P t)) (T p) (o .lists p (omega arith)))
+      (subst (λ (l : List Transaction). WakingAll.Woken w (wakeAll test 1024 w p (head p)) (moved p (others P l) (wake (those P l) (T rel)) T) E)
       (s .shown .lists p (omega arith))
-      (WakingAll.wakeAll-shows test P agree E p hp 1024 (L p) w L T (s .shown) [] refl (short w p (L p) (h .listed p (omega arith))))
+      (WakingAll.wakeAll-held test P agree E p hp 1024 (L p) w L T (s .shown) ready [] refl (short w p (L p) (h .listed p (omega arith)))))
 
   -- ---- A clock move
 
-  pub arrive-shows : (e : Event) (l : List Event) → E ≡ e ∷ l → (serial : ℕ) → Arriving.Arrives w (arrive 1024 (e .time) w serial) (update rel (arrivals (those (due (e .time)) E) serial (T rel)) T) (others (due (e .time)) E) (serial + length (those (due (e .time)) E))
-  arrive-shows = Arriving.arrive-shows w L T E (s .shown)
+  pub arrive-shows : (e : Event) (l : List Event) → E ≡ e ∷ l → (serial : ℕ) → Arrives w (arrive 1024 (e .time) w serial) (update rel (arrivals (those (due (e .time)) E) serial (T rel)) T) (others (due (e .time)) E) (serial + length (those (due (e .time)) E))
+  arrive-shows e l q serial = go (Arriving.arrive-held w L T E (s .shown) ready (o .future) e l q serial)
+    where
+      later : List Event
+      later = others (due (e .time)) E
+
+      go : Arriving.Came w (arrive 1024 (e .time) w serial) (update rel (arrivals (those (due (e .time)) E) serial (T rel)) T) later (serial + length (those (due (e .time)) E))
+          → Arrives w (arrive 1024 (e .time) w serial) (update rel (arrivals (those (due (e .time)) E) serial (T rel)) T) later (serial + length (those (due (e .time)) E))
+      go r =
+          record {
+            shows =
+                record {
+                  rows = r .held .rows;
+                  shown = r .held .shown;
+                  ordered =
+                      ordered-fel (λ q. precedes) (update rel (arrivals (those (due (e .time)) E) serial (T rel)) T) E later (sorted-those earlier (λ t. not (due (e .time) t)) E (o .future))
+                      (ordered-list (λ q. precedes) T E rel _ (arrivals-sorted (those (due (e .time)) E) serial (T rel) ready) o);
+                };
+            last = r .last;
+            steady = r .steady;
+          }

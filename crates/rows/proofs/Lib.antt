@@ -13,8 +13,10 @@ pub mod Spot
 pub mod Data
 pub mod Holding
 pub mod Showing
+pub mod Ordering
 pub mod Put
 pub mod Take
+pub mod Removal
 pub mod Write
 pub mod Fields
 pub mod Loose

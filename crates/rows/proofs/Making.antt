@@ -5,7 +5,7 @@ use mathlib.Core.List.{List, [], _∷_}
 use native.Mathlib.Omega.{arith}
 use lib.ListN.{length}
 use Rattle.machine.specs.Transaction.{Transaction, Event}
-use Rattle.rows.specs.Layout.{place, free, fieldAt}
+use Rattle.rows.specs.Layout.{dataFields, place, free, fieldAt}
 use Rattle.rows.specs.Cells.{load, read, write}
 use Rattle.rows.specs.Make.{clearParameters, copyParameters, describe, newbornAt, copyAt, freeRow}
 use Rattle.rows.specs.Living.{loose}
@@ -27,7 +27,7 @@ pub record Written (w w′ : List ℕ) (k : ℕ) : Type 0 where
   pub around : Around w w′ k
   pub shown : (L : ℕ → List ℕ) (T : ℕ → List Transaction) (E : List Event) → Loose w k → Shown w L T E → Shown w′ L T E
 
-pub written : (w : List ℕ) (f k x : ℕ) → f < 12 → k < 1024 → Written w (write w f k x) k
+pub written : (w : List ℕ) (f k x : ℕ) → f < dataFields → k < 1024 → Written w (write w f k x) k
 written w f k x hf hk =
     record {
       room = λ r. rw (length-store w (fieldAt f k) x) r;
@@ -50,7 +50,7 @@ written-trans w v u k a b =
 -- ---- A new row
 
 module _ (w : List ℕ) (k : ℕ) (hk : k < 1024) where
-  written₄ : (f g h i x y z u : ℕ) → f < 12 → g < 12 → h < 12 → i < 12 → Written w (write (write (write (write w f k x) g k y) h k z) i k u) k
+  written₄ : (f g h i x y z u : ℕ) → f < dataFields → g < dataFields → h < dataFields → i < dataFields → Written w (write (write (write (write w f k x) g k y) h k z) i k u) k
   written₄ f g h i x y z u hf hg hh hi =
       written-trans w (write w f k x) _ k (written w f k x hf hk)
       (written-trans (write w f k x) (write (write w f k x) g k y) _ k (written (write w f k x) g k y hg hk)
@@ -96,6 +96,6 @@ module _ (w : List ℕ) (L : ℕ → List ℕ) (T : ℕ → List Transaction) (E
   unfolding freeRow ending
   free-shown =
       shown-free w (freeRow w k) L T E s free (k ∷ L free)
-      (insert-holds w L (s .holds) free k [] (L free) (omega arith) (off .row) refl (off .off) (λ h. absurd (omega arith)))
+      (insert-holds w L (s .holds) free k [] (L free) (omega arith) (off .row) refl (off .off))
       (free-keeps .rows)
       refl

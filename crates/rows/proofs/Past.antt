@@ -5,9 +5,10 @@ use mathlib.Core.Bool.{Bool, true, false, cond}
 use mathlib.Core.List.{List}
 use lib.Dec.{ltb}
 use lib.ListN.{drop}
-use Rattle.rows.specs.Layout.{place, link, head, tail, fel, free, nowhere, fieldAt}
+use Rattle.rows.specs.Layout.{place, link, head, tail, fel, free, nowhere, fieldAt, listCount}
 use Rattle.rows.specs.Cells.{load, store, read, write}
-use Rattle.rows.specs.Lists.{endAt, insertAt, removeRow, removeAt, spot, put, first, takeFirst}
+use Rattle.rows.specs.Order.{ahead}
+use Rattle.rows.specs.Lists.{endAt, insertAt, removeRow, removeAt, spot, put, first, takeFirst, cellOf, remove}
 use Rattle.rows.specs.Wake.{wakeRow, wakeAt, passRows, passCell, wakeAll}
 use Rattle.rows.specs.Clock.{isDue, arriveRow, arriveFirst, arrived, arrive}
 use Rattle.rows.specs.Make.{clearParameters, copyParameters, describe, newbornAt, copyAt, freeRow, emptyList, emptyLists, looseRows, freeRows, initial}
@@ -53,10 +54,14 @@ past-removeAt w p c = past-cond (ltb (load w c) 1024) w (removeRow w p c (load w
 
 pub past-put : (w : List ℕ) (p k : ℕ) → past (put w p k) ≡ past w
 unfolding put
-past-put w p k = past-insertAt w p (spot w p k) k
+past-put w p k = past-insertAt w p (spot (ahead w p) w p k) k
 
 pub past-takeFirst : (w : List ℕ) (p : ℕ) → past (takeFirst w p) ≡ past w
 past-takeFirst w p = past-removeAt w p (head p)
+
+pub past-remove : (w : List ℕ) (p k : ℕ) → past (remove w p k) ≡ past w
+unfolding remove
+past-remove w p k = past-removeAt w p (cellOf w p k)
 
 -- ---- Waking
 
@@ -141,4 +146,4 @@ past-free (suc n) w = past-freeRow _ _ ∙ past-free n w
 pub past-initial : (w : List ℕ) → past (initial w) ≡ past w
 unfolding initial
 past-initial w =
-    past-free 1024 (looseRows 1024 (emptyLists 512 w)) ∙ past-loosen 1024 (emptyLists 512 w) ∙ past-empty 512 w
+    past-free 1024 (looseRows 1024 (emptyLists listCount w)) ∙ past-loosen 1024 (emptyLists listCount w) ∙ past-empty listCount w

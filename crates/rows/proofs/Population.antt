@@ -9,7 +9,7 @@ use borrow.Author.Tests.{lt-ltb, le-ltb, ltb-true, ltb-false}
 use lib.Dec.{ltb}
 use lib.ListN.{length, length-map}
 use Rattle.machine.specs.Transaction.{Transaction, Event}
-use Rattle.rows.specs.Layout.{place, fel, free}
+use Rattle.rows.specs.Layout.{place, fel, free, listCount}
 use Rattle.rows.specs.Cells.{load}
 use Rattle.rows.specs.Lists.{first}
 use Rattle.rows.specs.Living.{sumTo, loose, onLists}
@@ -38,12 +38,12 @@ below-suc m x = go (ltb x m) refl (ℕ-discrete x m)
         rw (le-ltb x (suc m) (omega arith)) (omega (arith, same-other x m d))
 
 module _ (w : List ℕ) (L : ℕ → List ℕ) (h : Holds w L) where
-  pub on-list : (m : ℕ) → m < 512 → sumTo 1024 (λ k. same (load w (place k)) m) ≡ length (L m)
+  pub on-list : (m : ℕ) → m < listCount → sumTo 1024 (λ k. same (load w (place k)) m) ≡ length (L m)
   on-list m hm =
       sym (sum-ext 1024 (λ k. occurs k (L m)) (λ k. same (load w (place k)) m) (h .listed m hm .once))
       ∙ listed-length w m (L m) (h .listed m hm)
 
-  counted : (m : ℕ) → m ≤ 512 → sumTo m (λ p. length (L p)) ≡ sumTo 1024 (λ k. below m (load w (place k)))
+  counted : (m : ℕ) → m ≤ listCount → sumTo m (λ p. length (L p)) ≡ sumTo 1024 (λ k. below m (load w (place k)))
   counted zero hm =
       sum-none (λ p. length (L p))
       ∙ sym (sum-zero 1024 (λ k. below 0 (load w (place k))) (λ k q. rw (le-ltb (load w (place k)) 0 (omega arith))))
@@ -54,10 +54,10 @@ module _ (w : List ℕ) (L : ℕ → List ℕ) (h : Holds w L) where
       sum-suc m (λ p. length (L p))
       ∙ omega (arith, counted m (omega arith), on-list m (omega arith), sum-add 1024 (λ k. below m (load w (place k))) (λ k. same (load w (place k)) m), sum-ext 1024 (λ k. below (suc m) (load w (place k))) (λ k. below m (load w (place k)) + same (load w (place k)) m) (λ k q. below-suc m (load w (place k))))
 
-  pub all-rows : sumTo 512 (λ p. length (L p)) + loose w ≡ 1024
+  pub all-rows : sumTo listCount (λ p. length (L p)) + loose w ≡ 1024
   unfolding loose
   all-rows =
-      omega (arith, counted 512 (omega arith), sum-add 1024 (λ k. below 512 (load w (place k))) (λ k. cond (ltb (load w (place k)) 512) 0 1), sum-ext 1024 (λ k. below 512 (load w (place k)) + cond (ltb (load w (place k)) 512) 0 1) (λ k. 1) (λ k q. one (ltb (load w (place k)) 512)), sum-ones 1024)
+      omega (arith, counted listCount (omega arith), sum-add 1024 (λ k. below listCount (load w (place k))) (λ k. cond (ltb (load w (place k)) listCount) 0 1), sum-ext 1024 (λ k. below listCount (load w (place k)) + cond (ltb (load w (place k)) listCount) 0 1) (λ k. 1) (λ k q. one (ltb (load w (place k)) listCount)), sum-ones 1024)
     where
       one : (t : Bool) → cond t 1 0 + cond t 0 1 ≡ 1
       one true = refl
@@ -80,10 +80,10 @@ sum-short m (suc d) f h =
     rw e (sum-suc (m + d) f ∙ omega (arith, sum-short m d f (λ k a b. h k a (omega arith)), h (m + d) (omega arith) (omega arith)))
 
 module _ (w : List ℕ) (L : ℕ → List ℕ) (T : ℕ → List Transaction) (E : List Event) (s : Shown w L T E) where
-  lists-sum : sumTo 512 (λ p. length (L p)) ≡ onLists T E + length (L free)
+  lists-sum : sumTo listCount (λ p. length (L p)) ≡ onLists T E + length (L free)
   unfolding onLists
   lists-sum =
-      sum-short 452 60 (λ p. length (L p)) (λ p a b. ap length (s .spare p (omega arith) (omega arith)))
+      sum-short 452 572 (λ p. length (L p)) (λ p a b. ap length (s .spare p (omega arith) (omega arith)))
       ∙ sum-suc 451 (λ p. length (L p))
       ∙ omega (arith, sum-suc 450 (λ p. length (L p)), sum-ext 450 (λ p. length (L p)) (λ p. length (T p)) (λ p hp. sym (length-map (L p) (transactionAt w)) ∙ ap length (s .lists p hp)), sym (length-map (L fel) (eventAt w)) ∙ ap length (s .future))
 

@@ -8,7 +8,7 @@ use native.Mathlib.Omega.{arith}
 use borrow.Author.Tests.{eq-eqb, ne-eqb, eqb-true, eqb-false}
 use lib.Dec.{eqb}
 use Rattle.machine.specs.Transaction.{Transaction, Event}
-use Rattle.rows.specs.Layout.{head, fel, free}
+use Rattle.rows.specs.Layout.{head, fel, free, listCount}
 use Rattle.rows.specs.Holds.{transactionAt, eventAt, Listed, Holds, update}
 use Rattle.rows.specs.Shows.{Shown}
 use Rattle.rows.proofs.Chain.{chain-row}
@@ -51,7 +51,7 @@ module _ (w w′ : List ℕ) (L : ℕ → List ℕ) (T : ℕ → List Transactio
       ∙ ap (map (eventAt w)) (update-other p l L fel (λ e. d (sym e)))
       ∙ s .future
 
-  spare-kept : p ≤ free → (q : ℕ) → free < q → q < 512 → update p l L q ≡ []
+  spare-kept : p ≤ free → (q : ℕ) → free < q → q < listCount → update p l L q ≡ []
   spare-kept hp q lo hi = update-other p l L q (λ e. omega arith) ∙ s .spare q lo hi
 
   pub shown-list : p < 450 → Shown w′ (update p l L) (update p (map (transactionAt w) l) T) E

@@ -1,23 +1,23 @@
--- Where a row comes to stand: the spot is the cell behind those that the row does not stand before.
+-- Where a row comes to stand, by any test of two rows: the spot is a cell of the list; and where the test is an order by which
+-- the list is sorted, the cell behind those that the row does not stand before.
 use Prim.Native.Nat.{ℕ, zero, suc, _-_, _≤_, _<_}
 use mathlib.Core.Path.{_≡_, refl, sym, ap, _∙_}
 use mathlib.Core.Bool.{Bool, true, false, cond}
-use mathlib.Core.List.{List, [], _∷_}
+use mathlib.Core.List.{List, [], _∷_, _++_, append-nil}
 use native.Mathlib.Omega.{arith}
 use borrow.Author.Tests.{lt-ltb, le-ltb}
 use lib.ListN.{length}
-use Rattle.rows.specs.Layout.{place, link, head}
+use Rattle.rows.specs.Layout.{place, link, head, heads, links}
 use Rattle.rows.specs.Cells.{load}
-use Rattle.rows.specs.Order.{ahead}
 use Rattle.rows.specs.Lists.{step, walk, spotBefore, spot}
-use Rattle.rows.specs.Holds.{same, occurs, Chain, ending, Sorted, Listed}
+use Rattle.rows.specs.Holds.{same, occurs, Chain, ending, Listed}
+use Rattle.rows.specs.Ordered.{Sorted}
 use Rattle.rows.specs.Living.{sumTo}
 use Rattle.rows.proofs.Occurs.{same-refl, same-le}
 use Rattle.rows.proofs.Sums.{sum-add, sum-same, sum-le, sum-zero}
 use Rattle.rows.proofs.Chain.{chain-row}
 use Rattle.rows.proofs.Walk.{walk-next, walk-stay}
-use Rattle.rows.proofs.Insertion.{front, front-all, lastOf}
-use Rattle.rows.proofs.Orders.{ahead-order}
+use Rattle.rows.proofs.Insertion.{Order, front, back, front-back, front-all, lastOf}
 
 -- ---- No list is longer than 1,024
 
@@ -36,37 +36,37 @@ short w p l one =
 
 -- ---- The walk
 
-module _ (w : List ℕ) (p k : ℕ) where
-  step-none : (c : ℕ) → 1024 ≤ load w c → step w p k c ≡ c
+module _ (before : ℕ → ℕ → Bool) (w : List ℕ) (p k : ℕ) where
+  step-none : (c : ℕ) → 1024 ≤ load w c → step before w k c ≡ c
   unfolding step
   step-none c h = rw (le-ltb (load w c) 1024 h)
 
-  step-row : (c j : ℕ) → load w c ≡ j → j < 1024 → step w p k c ≡ cond (ahead w p k j) c (link j)
+  step-row : (c j : ℕ) → load w c ≡ j → j < 1024 → step before w k c ≡ cond (before k j) c (link j)
   unfolding step
   step-row c j e h = rw (e, lt-ltb j 1024 h)
 
-  pub walk-front : (n c : ℕ) (b : List ℕ) → Chain w c b → length b ≤ n → walk n w p k c ≡ ending c (front (ahead w p) k b)
+  pub walk-front : (n c : ℕ) (b : List ℕ) → Chain w c b → length b ≤ n → walk before n w k c ≡ ending c (front before k b)
   unfolding Chain ending front
-  walk-front n c [] h m = walk-stay w p k n c (step-none c h)
+  walk-front n c [] h m = walk-stay before w k n c (step-none c h)
   walk-front zero c (j ∷ b) h m = absurd (omega arith)
   walk-front (suc n) c (j ∷ b) h m =
-      go (ahead w p k j) (step-row c j (h .0) (h .1)) (walk-front n (link j) b (h .2) (omega arith))
+      go (before k j) (step-row c j (h .0) (h .1)) (walk-front n (link j) b (h .2) (omega arith))
     where
-      go : (t : Bool) → step w p k c ≡ cond t c (link j) → walk n w p k (link j) ≡ ending (link j) (front (ahead w p) k b) → walk (suc n) w p k c ≡ ending c (cond t [] (j ∷ front (ahead w p) k b))
-      go true e r = walk-stay w p k (suc n) c e
-      go false e r = walk-next w p k (suc n) n c refl ∙ ap (walk n w p k) e ∙ r
+      go : (t : Bool) → step before w k c ≡ cond t c (link j) → walk before n w k (link j) ≡ ending (link j) (front before k b) → walk before (suc n) w k c ≡ ending c (cond t [] (j ∷ front before k b))
+      go true e r = walk-stay before w k (suc n) c e
+      go false e r = walk-next before w k (suc n) n c refl ∙ ap (walk before n w k) e ∙ r
 
   -- ---- The spot
 
-  before-head : (t : ℕ) → 15360 ≤ t → spotBefore w p k t ≡ t
+  before-head : (t : ℕ) → heads ≤ t → spotBefore before w p k t ≡ t
   unfolding spotBefore
-  before-head t h = rw (le-ltb t 14336 (omega arith), le-ltb (t - 14336) 1024 (omega arith))
+  before-head t h = rw (le-ltb t links (omega arith), le-ltb (t - links) 1024 (omega arith))
 
-  before-link : (t j : ℕ) → t ≡ link j → j < 1024 → spotBefore w p k t ≡ cond (ahead w p k j) (walk 1024 w p k (head p)) t
+  before-link : (t j : ℕ) → t ≡ link j → j < 1024 → spotBefore before w p k t ≡ cond (before k j) (walk before 1024 w k (head p)) t
   unfolding spotBefore
   before-link t j e h =
-      let f : t - 14336 ≡ j = omega arith in
-      rw (le-ltb t 14336 (omega arith), f, lt-ltb j 1024 h)
+      let f : t - links ≡ j = omega arith in
+      rw (le-ltb t links (omega arith), f, lt-ltb j 1024 h)
 
   ending-last : (c y : ℕ) (l : List ℕ) → ending c (y ∷ l) ≡ link (lastOf y l)
   unfolding ending lastOf
@@ -78,14 +78,47 @@ module _ (w : List ℕ) (p k : ℕ) where
   occurs-last y [] = omega (arith, same-refl y y refl)
   occurs-last y (z ∷ l) = omega (arith, occurs-last z l)
 
-  pub spot-front : (l : List ℕ) → Listed w p l → Sorted (ahead w p) l → spot w p k ≡ ending (head p) (front (ahead w p) k l)
-  unfolding spot ending front
-  spot-front [] one sorted = ap (spotBefore w p k) (one .last) ∙ before-head (head p) (omega arith)
-  spot-front (y ∷ l) one sorted =
-      ap (spotBefore w p k) (one .last)
+  -- the head of an empty list
+  spot-none : Listed w p [] → spot before w p k ≡ head p
+  unfolding spot ending
+  spot-none one = ap (spotBefore before w p k) (one .last) ∙ before-head (head p) (omega arith)
+
+  -- the cell behind a part, or the last cell
+  spot-some : (y : ℕ) (l : List ℕ) → Listed w p (y ∷ l) → spot before w p k ≡ ending (head p) (cond (before k (lastOf y l)) (front before k (y ∷ l)) (y ∷ l))
+  unfolding spot
+  spot-some y l one =
+      ap (spotBefore before w p k) (one .last)
       ∙ before-link (ending (head p) (y ∷ l)) (lastOf y l) (ending-last (head p) y l) (chain-row w (head p) (y ∷ l) (lastOf y l) (one .chain) (occurs-last y l))
-      ∙ go (ahead w p k (lastOf y l)) refl
+      ∙ go (before k (lastOf y l))
     where
-      go : (t : Bool) → ahead w p k (lastOf y l) ≡ t → cond t (walk 1024 w p k (head p)) (ending (head p) (y ∷ l)) ≡ ending (head p) (front (ahead w p) k (y ∷ l))
-      go true e = walk-front 1024 (head p) (y ∷ l) (one .chain) (short w p (y ∷ l) one)
-      go false e = ap (ending (head p)) (sym (front-all (ahead w p) (ahead-order w p) k y l sorted e))
+      go : (t : Bool) → cond t (walk before 1024 w k (head p)) (ending (head p) (y ∷ l)) ≡ ending (head p) (cond t (front before k (y ∷ l)) (y ∷ l))
+      go true = walk-front 1024 (head p) (y ∷ l) (one .chain) (short w p (y ∷ l) one)
+      go false = refl
+
+-- the spot is the cell behind a part of the list, whatever the test
+pub record Between (w : List ℕ) (p c : ℕ) (l : List ℕ) : Type 0 where
+  pub ahead : List ℕ
+  pub rest : List ℕ
+  pub parts : l ≡ ahead ++ rest
+  pub cell : c ≡ ending (head p) ahead
+
+pub spot-between : (before : ℕ → ℕ → Bool) (w : List ℕ) (p k : ℕ) (l : List ℕ) → Listed w p l → Between w p (spot before w p k) l
+unfolding ending
+spot-between before w p k [] one = record { ahead = []; rest = []; parts = refl; cell = spot-none before w p k one }
+spot-between before w p k (y ∷ l) one = go (before k (lastOf y l)) (spot-some before w p k y l one)
+  where
+    go : (t : Bool) → spot before w p k ≡ ending (head p) (cond t (front before k (y ∷ l)) (y ∷ l)) → Between w p (spot before w p k) (y ∷ l)
+    go true e =
+        record { ahead = front before k (y ∷ l); rest = back before k (y ∷ l); parts = sym (front-back before k (y ∷ l)); cell = e }
+    go false e = record { ahead = y ∷ l; rest = []; parts = sym (append-nil (y ∷ l)); cell = e }
+
+-- in a sorted list, behind those that the row does not stand before
+pub spot-front : (before : ℕ → ℕ → Bool) → Order before → (w : List ℕ) (p k : ℕ) (l : List ℕ) → Listed w p l → Sorted before l → spot before w p k ≡ ending (head p) (front before k l)
+unfolding ending front
+spot-front before o w p k [] one sorted = spot-none before w p k one
+spot-front before o w p k (y ∷ l) one sorted =
+    spot-some before w p k y l one ∙ ap (ending (head p)) (go (before k (lastOf y l)) refl)
+  where
+    go : (t : Bool) → before k (lastOf y l) ≡ t → cond t (front before k (y ∷ l)) (y ∷ l) ≡ front before k (y ∷ l)
+    go true e = refl
+    go false e = sym (front-all before o k y l sorted e)

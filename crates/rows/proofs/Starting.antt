@@ -6,12 +6,13 @@ use native.Mathlib.Omega.{arith}
 use native.Mathlib.Decide.{ℕ-discrete}
 use lib.ListN.{length}
 use Rattle.machine.specs.Transaction.{Transaction, Event}
-use Rattle.rows.specs.Layout.{place, head, tail, free, nowhere}
+use Rattle.rows.specs.Layout.{place, head, tail, free, nowhere, links, listCount}
 use Rattle.rows.specs.Cells.{load, store}
 use Rattle.rows.specs.Make.{emptyList, emptyLists, looseRows, freeRow, freeRows, initial}
 use Rattle.rows.specs.Living.{loose}
-use Rattle.rows.specs.Holds.{occurs, Chain, ending, Sorted, Listed, update}
-use Rattle.rows.specs.Shows.{Shown, Shows, Loose}
+use Rattle.rows.specs.Holds.{occurs, Chain, ending, Listed, update}
+use Rattle.rows.specs.Ordered.{Sorted}
+use Rattle.rows.specs.Shows.{Shown, Held, Shows, Loose}
 use Rattle.rows.proofs.Store.{length-store, load-same, load-other}
 use Rattle.rows.proofs.Occurs.{same-other}
 use Rattle.rows.proofs.Sums.{sum-zero}
@@ -31,7 +32,7 @@ module _ (w : List ℕ) (room : 16384 ≤ length w) where
   abbrev Emptied : ℕ → ℕ → Type 0
   Emptied n p = (load (emptyLists n w) (head p) ≡ 1024) × (load (emptyLists n w) (tail p) ≡ head p)
 
-  emptied : (n : ℕ) → n ≤ 512 → (p : ℕ) → p < n → Emptied n p
+  emptied : (n : ℕ) → n ≤ listCount → (p : ℕ) → p < n → Emptied n p
   unfolding emptyLists emptyList
   emptied zero hn p h = absurd (omega arith)
   emptied (suc n) hn p h = go (ℕ-discrete p n) (emptied n (omega arith) p)
@@ -61,7 +62,7 @@ module _ (w : List ℕ) (room : 16384 ≤ length w) where
   room-loosen zero = room
   room-loosen (suc n) = rw (length-store (looseRows n w) (place n) nowhere) (room-loosen n)
 
-  loosen-kept : (n : ℕ) → n ≤ 1024 → (i : ℕ) → 14336 ≤ i → load (looseRows n w) i ≡ load w i
+  loosen-kept : (n : ℕ) → n ≤ 1024 → (i : ℕ) → links ≤ i → load (looseRows n w) i ≡ load w i
   unfolding looseRows
   loosen-kept zero hn i h = refl
   loosen-kept (suc n) hn i h = load-other (looseRows n w) (place n) nowhere i (λ e. omega arith) ∙ loosen-kept n (omega arith) i h
@@ -81,29 +82,28 @@ module _ (w : List ℕ) (room : 16384 ≤ length w) where
 
 module _ (w : List ℕ) (room : 16384 ≤ length w) where
   abbrev v : List ℕ
-  v = looseRows 1024 (emptyLists 512 w)
+  v = looseRows 1024 (emptyLists listCount w)
 
   room-v : 16384 ≤ length v
-  room-v = room-loosen (emptyLists 512 w) (room-empty w room 512) 1024
+  room-v = room-loosen (emptyLists listCount w) (room-empty w room listCount) 1024
 
   all-loose : (k : ℕ) → k < 1024 → Loose v k
   all-loose k hk =
-      record { row = hk; off = loosened (emptyLists 512 w) (room-empty w room 512) 1024 (omega arith) k hk }
+      record { row = hk; off = loosened (emptyLists listCount w) (room-empty w room listCount) 1024 (omega arith) k hk }
 
-  empty-listed : (p : ℕ) → p < 512 → Listed v p []
+  empty-listed : (p : ℕ) → p < listCount → Listed v p []
   unfolding Chain ending occurs
   empty-listed p hp =
       record {
-        chain = omega (arith, loosen-kept (emptyLists 512 w) (room-empty w room 512) 1024 (omega arith) (head p) (omega arith), emptied w room 512 (omega arith) p hp .0);
-        last = loosen-kept (emptyLists 512 w) (room-empty w room 512) 1024 (omega arith) (tail p) (omega arith) ∙ emptied w room 512 (omega arith) p hp .1;
+        chain = omega (arith, loosen-kept (emptyLists listCount w) (room-empty w room listCount) 1024 (omega arith) (head p) (omega arith), emptied w room listCount (omega arith) p hp .0);
+        last = loosen-kept (emptyLists listCount w) (room-empty w room listCount) 1024 (omega arith) (tail p) (omega arith) ∙ emptied w room listCount (omega arith) p hp .1;
         once = λ k hk. sym (same-other (load v (place k)) p (λ e. omega (arith, all-loose k hk .off)));
       }
 
   nothing-shown : Shown v (λ p. []) (λ p. []) []
-  unfolding Sorted
   nothing-shown =
       record {
-        holds = record { room = room-v; listed = empty-listed; sorted = λ p hp. tt };
+        holds = record { room = room-v; listed = empty-listed };
         lists = λ p hp. refl;
         future = refl;
         spare = λ p a b. refl;
@@ -113,20 +113,20 @@ module _ (w : List ℕ) (room : 16384 ≤ length w) where
 
 -- what freeing rows 0..n - 1 leaves
 record Freed (w : List ℕ) (n : ℕ) (T : ℕ → List Transaction) (E : List Event) : Type 0 where
-  shows : Shows (freeRows n w) T E
+  held : Held (freeRows n w) T E
   loose : (j : ℕ) → n ≤ j → j < 1024 → Loose (freeRows n w) j
-  placed : (j : ℕ) → j < n → load (freeRows n w) (place j) < 512
+  placed : (j : ℕ) → j < n → load (freeRows n w) (place j) < listCount
 
 freed : (w : List ℕ) (L : ℕ → List ℕ) (T : ℕ → List Transaction) (E : List Event) → Shown w L T E → ((k : ℕ) → k < 1024 → Loose w k) → (n : ℕ) → n ≤ 1024 → Freed w n T E
 unfolding freeRows
 freed w L T E s off zero hn =
-    record { shows = record { rows = L; shown = s }; loose = λ j a b. off j b; placed = λ j h. absurd (omega arith) }
+    record { held = record { rows = L; shown = s }; loose = λ j a b. off j b; placed = λ j h. absurd (omega arith) }
 freed w L T E s off (suc n) hn = go (freed w L T E s off n (omega arith))
   where
     go : Freed w n T E → Freed w (suc n) T E
     go f =
         record {
-          shows = record { rows = update free (n ∷ f .shows .rows free) (f .shows .rows); shown = free-shown u (f .shows .rows) T E (f .shows .shown) n free-n };
+          held = record { rows = update free (n ∷ f .held .rows free) (f .held .rows); shown = free-shown u (f .held .rows) T E (f .held .shown) n free-n };
           loose = λ j a b. record { row = b; off = keeps .places j b (λ e. omega arith) ∙ f .loose j (omega arith) b .off };
           placed = λ j h. here j h (ℕ-discrete j n);
         }
@@ -138,11 +138,11 @@ freed w L T E s off (suc n) hn = go (freed w L T E s off n (omega arith))
         free-n = f .loose n (omega arith) (omega arith)
 
         keeps : Kept (freeRows n w) (freeRow (freeRows n w) n) n
-        keeps = free-keeps (freeRows n w) (f .shows .rows) T E (f .shows .shown) n free-n
+        keeps = free-keeps (freeRows n w) (f .held .rows) T E (f .held .shown) n free-n
 
-        here : (j : ℕ) → j < suc n → Dec (j ≡ n) → load (freeRow (freeRows n w) n) (place j) < 512
+        here : (j : ℕ) → j < suc n → Dec (j ≡ n) → load (freeRow (freeRows n w) n) (place j) < listCount
         here j h (yes e) =
-            rw e (omega (arith, free-placed (freeRows n w) (f .shows .rows) T E (f .shows .shown) n free-n))
+            rw e (omega (arith, free-placed (freeRows n w) (f .held .rows) T E (f .held .shown) n free-n))
         here j h (no d) =
             let l : j < n = omega arith in
             rw (keeps .places j (omega arith) d) (f .placed j l)
@@ -154,8 +154,9 @@ module _ (w : List ℕ) (room : 16384 ≤ length w) where
   start = freed (v w room) (λ p. []) (λ p. []) [] (nothing-shown w room) (all-loose w room) 1024 (omega arith)
 
   pub initial-shows : Shows (initial w) (λ p. []) []
-  unfolding initial
-  initial-shows = start .shows
+  unfolding initial Sorted
+  initial-shows =
+      record { rows = start .held .rows; shown = start .held .shown; ordered = record { lists = λ p hp. tt; future = tt } }
 
   pub initial-loose : loose (initial w) ≡ 0
   unfolding initial loose

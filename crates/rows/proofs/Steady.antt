@@ -7,7 +7,7 @@ use native.Mathlib.Omega.{arith}
 use native.Mathlib.Decide.{ℕ-discrete}
 use borrow.Author.Tests.{ne-eqb}
 use lib.Dec.{eqb}
-use Rattle.rows.specs.Layout.{place, free, nowhere, fieldAt}
+use Rattle.rows.specs.Layout.{dataFields, place, free, nowhere, fieldAt}
 use Rattle.rows.specs.Cells.{load, write}
 use Rattle.rows.specs.Holds.{transactionAt}
 use Rattle.rows.specs.Living
@@ -58,7 +58,7 @@ around-loose w w′ k m a d l = record { row = l .row; off = a .places m (l .row
 pub kept-around : (w w′ : List ℕ) (k : ℕ) → Kept w w′ k → Around w w′ k
 kept-around w w′ k kept = record { places = kept .places; same = λ m h d. same-row w w′ m h (kept .rows) }
 
-pub write-around : (w : List ℕ) (f k x : ℕ) → f < 12 → k < 1024 → Around w (write w f k x) k
+pub write-around : (w : List ℕ) (f k x : ℕ) → f < dataFields → k < 1024 → Around w (write w f k x) k
 write-around w f k x hf hk =
     record {
       places = λ m h d. load-other w (fieldAt f k) x (place m) (λ e. omega arith);

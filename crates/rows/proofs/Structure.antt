@@ -9,7 +9,7 @@ use native.Mathlib.Omega.{arith}
 use native.Mathlib.Decide.{ℕ-discrete}
 use borrow.Author.Tests.{eqb-true, eqb-false}
 use lib.Dec.{eqb}
-use Rattle.rows.specs.Layout.{place, link, head, tail}
+use Rattle.rows.specs.Layout.{place, link, head, tail, links, listCount}
 use Rattle.rows.specs.Cells.{load}
 use Rattle.rows.specs.Holds.{same, occurs, Chain, ending, Listed, update}
 use Rattle.rows.proofs.Occurs.{same-other, same-pos, same-le, occurs-append}
@@ -20,8 +20,8 @@ pub record Changed (w w′ : List ℕ) (p k : ℕ) (a b b′ : List ℕ) : Type 
   pub kept : (i : ℕ) → i ≢ ending (head p) a → i ≢ link k → i ≢ place k → i ≢ tail p → load w′ i ≡ load w i
   pub apart : occurs k a ≡ 0
   -- row k was and is on list p or on none
-  pub was : (q : ℕ) → q < 512 → q ≢ p → load w (place k) ≢ q
-  pub is : (q : ℕ) → q < 512 → q ≢ p → load w′ (place k) ≢ q
+  pub was : (q : ℕ) → q < listCount → q ≢ p → load w (place k) ≢ q
+  pub is : (q : ℕ) → q < listCount → q ≢ p → load w′ (place k) ≢ q
   pub chain : Chain w′ (ending (head p) a) b′
   pub last : load w′ (tail p) ≡ ending (ending (head p) a) b′
   pub once : (j : ℕ) → j < 1024 → occurs j (a ++ b′) ≡ same (load w′ (place j)) p
@@ -46,10 +46,10 @@ module _ (w : List ℕ) (p : ℕ) (a b : List ℕ) (one : Listed w p (a ++ b)) w
       go (suc n) e = omega (arith, one .once j (row-of j (omega arith) .0), same-le (load w (place j)) p)
 
   -- it is the head or the link of a row of a
-  pub end-low : 14336 ≤ ending (head p) a
+  pub end-low : links ≤ ending (head p) a
   end-low = go (ends (head p) a)
     where
-      go : EndsAt (head p) a → 14336 ≤ ending (head p) a
+      go : EndsAt (head p) a → links ≤ ending (head p) a
       go (start e) = omega arith
       go (behind i m e) = omega arith
 
@@ -79,9 +79,9 @@ module _ (w : List ℕ) (p : ℕ) (a b : List ℕ) (one : Listed w p (a ++ b)) w
 
 -- ---- The law
 
-module _ (w w′ : List ℕ) (L : ℕ → List ℕ) (listed : (q : ℕ) → q < 512 → Listed w q (L q)) (p k : ℕ) (a b b′ : List ℕ) (hp : p < 512) (hk : k < 1024) (one : Listed w p (a ++ b)) (ch : Changed w w′ p k a b b′) where
+module _ (w w′ : List ℕ) (L : ℕ → List ℕ) (listed : (q : ℕ) → q < listCount → Listed w q (L q)) (p k : ℕ) (a b b′ : List ℕ) (hp : p < listCount) (hk : k < 1024) (one : Listed w p (a ++ b)) (ch : Changed w w′ p k a b b′) where
   -- every other list stays
-  module _ (q : ℕ) (hq : q < 512) (d : q ≢ p) where
+  module _ (q : ℕ) (hq : q < listCount) (d : q ≢ p) where
     on-q : (j : ℕ) → 1 ≤ occurs j (L q) → (j < 1024) × (load w (place j) ≡ q)
     on-q j m =
         let r : j < 1024 = chain-row w (head q) (L q) j (listed q hq .chain) m in
@@ -144,7 +144,7 @@ module _ (w w′ : List ℕ) (L : ℕ → List ℕ) (listed : (q : ℕ) → q < 
         once = ch .once;
       }
 
-  pub structure : (q : ℕ) → q < 512 → Listed w′ q (update p (a ++ b′) L q)
+  pub structure : (q : ℕ) → q < listCount → Listed w′ q (update p (a ++ b′) L q)
   structure q hq = go (eqb q p) refl
     where
       go : (t : Bool) → eqb q p ≡ t → Listed w′ q (cond t (a ++ b′) (L q))

@@ -5,7 +5,7 @@ use mathlib.Core.List.{List, [], _∷_, map}
 use native.Mathlib.Omega.{arith}
 use lib.ListN.{drop}
 use Rattle.machine.specs.Transaction.{Transaction, Event}
-use Rattle.rows.specs.Layout.{head, fel, free}
+use Rattle.rows.specs.Layout.{head, fel, free, listCount}
 use Rattle.rows.specs.Lists.{first, takeFirst}
 use Rattle.rows.specs.Holds.{transactionAt, eventAt, Chain, ending, Listed, Holds, update}
 use Rattle.rows.specs.Shows.{Shown, Loose}
@@ -27,7 +27,7 @@ first-of w p l one = go l refl (one .chain)
     go [] e c = none e c
     go (k ∷ m) e c = some m (e ∙ ap (λ (x : ℕ). x ∷ m) (sym (c .0))) (omega (arith, c .0, c .1))
 
-module _ (w : List ℕ) (L : ℕ → List ℕ) (h : Holds w L) (p : ℕ) (hp : p < 512) (m : List ℕ) (e : L p ≡ first w p ∷ m) (hk : first w p < 1024) where
+module _ (w : List ℕ) (L : ℕ → List ℕ) (h : Holds w L) (p : ℕ) (hp : p < listCount) (m : List ℕ) (e : L p ≡ first w p ∷ m) (hk : first w p < 1024) where
   pub take-holds : Holds (takeFirst w p) (update p m L)
   unfolding ending
   take-holds = remove-holds w L h p (first w p) [] m hp hk e
@@ -61,14 +61,14 @@ module _ (w : List ℕ) (L : ℕ → List ℕ) (T : ℕ → List Transaction) (E
   pub head-fel-shown : Head w fel (eventAt w) E
   head-fel-shown = head-of w fel (eventAt w) (L fel) E (s .holds .listed fel (omega arith)) (s .future)
 
-  pub rows-first : (p : ℕ) → p < 512 → first w p < 1024 → (m : List ℕ) × (L p ≡ first w p ∷ m)
+  pub rows-first : (p : ℕ) → p < listCount → first w p < 1024 → (m : List ℕ) × (L p ≡ first w p ∷ m)
   rows-first p hp n = go (first-of w p (L p) (s .holds .listed p hp))
     where
       go : First w p (L p) → (m : List ℕ) × (L p ≡ first w p ∷ m)
       go (none q k) = absurd (omega arith)
       go (some m q k) = (m, q)
 
-  module _ (p : ℕ) (hl : p < 512) (m : List ℕ) (e : L p ≡ first w p ∷ m) (n : first w p < 1024) where
+  module _ (p : ℕ) (hl : p < listCount) (m : List ℕ) (e : L p ≡ first w p ∷ m) (n : first w p < 1024) where
     pub take-shown : p < 450 → Shown (takeFirst w p) (update p m L) (update p (drop 1 (T p)) T) E
     take-shown hp =
         subst (λ (l : List Transaction). Shown (takeFirst w p) (update p m L) (update p l T) E)

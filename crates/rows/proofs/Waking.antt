@@ -1,4 +1,5 @@
--- Waking is the machine's `wake`: the row of a cell goes to REL with its serial and the returning mark.
+-- Waking is the machine's `wake`: the row of a cell goes to REL with its serial and the returning mark. The list that it leaves
+-- may be in any order.
 use Prim.Native.Nat.{ℕ, _+_, _*_, _/_, _≤_, _<_}
 use mathlib.Core.Path.{_≡_, refl, ap, _∙_, subst}
 use mathlib.Core.Logic.{_≢_}
@@ -9,13 +10,16 @@ use borrow.Author.Tests.{lt-ltb}
 use Rattle.machine.specs.Transaction.{Transaction, Event, precedes}
 use Rattle.machine.specs.Setters.{withReturning}
 use Rattle.machine.specs.Lists.{insert}
-use Rattle.rows.specs.Layout.{place, head, rel}
+use Rattle.rows.specs.Layout.{place, head, rel, listCount}
 use Rattle.rows.specs.Cells.{load, read, setReturning}
 use Rattle.rows.specs.Order.{ahead}
 use Rattle.rows.specs.Lists.{removeAt, put}
 use Rattle.rows.specs.Wake.{wakeRow, wakeAt}
 use Rattle.rows.specs.Holds.{transactionAt, same, occurs, ending, Listed, update}
+use Rattle.rows.specs.Ordered.{Sorted}
 use Rattle.rows.specs.Shows.{Shown, Loose, moved}
+use Rattle.rows.proofs.Insertion.{insert-sorted}
+use Rattle.rows.proofs.Orders.{precedes-order}
 use Rattle.rows.proofs.Occurs.{same-refl, occurs-append, occurs-cons}
 use Rattle.rows.proofs.Structure.{row-of, at-most-once}
 use Rattle.rows.proofs.Data.{same-row, transaction-kept, map-kept}
@@ -36,7 +40,7 @@ module _ (w : List ℕ) (L : ℕ → List ℕ) (T : ℕ → List Transaction) (E
   pub woken-row : (k < 1024) × (load w (place k) ≡ p)
   woken-row = row-of w p a (k ∷ b) one k (omega (arith, occurs-append k a (k ∷ b), occurs-cons k k b, same-refl k k refl))
 
-  hl : p < 512
+  hl : p < listCount
   hl = omega arith
 
   -- it leaves its list
@@ -86,13 +90,16 @@ module _ (w : List ℕ) (L : ℕ → List ℕ) (T : ℕ → List Transaction) (E
   wake-rows =
       update-other rel (insert (ahead w₂ rel) k (L₁ rel)) L₁ p (λ e. omega arith) ∙ update-same p (a ++ b) L p refl
 
-  pub wake-shown : Shown (wakeAt w p cell) woken (moved p (map (transactionAt w) (a ++ b)) (insert precedes (withReturning true (transactionAt w k)) (T rel)) T) E
+  pub wake-shown : Sorted precedes (T rel) → Shown (wakeAt w p cell) woken (moved p (map (transactionAt w) (a ++ b)) (insert precedes (withReturning true (transactionAt w k)) (T rel)) T) E
   unfolding wakeAt wakeRow
-  wake-shown =
+  wake-shown ready =
       rw (at-cell, lt-ltb k 1024 (woken-row .0))
       (shown-ext (put w₂ rel k) woken (update rel (insert precedes (transactionAt w₂ k) (T₁ rel)) T₁) (moved p (map (transactionAt w) (a ++ b)) (insert precedes (withReturning true (transactionAt w k)) (T rel)) T) E
       (λ q hq. rw (marked, update-other p (map (transactionAt w) (a ++ b)) T rel (λ e. omega arith)))
-      (put-shown w₂ L₁ T₁ E s₂ k loose₂ rel (omega arith)))
+      (put-shown w₂ L₁ T₁ E s₂ k loose₂ rel (omega arith) (rw (update-other p (map (transactionAt w) (a ++ b)) T rel (λ e. omega arith)) ready)))
+
+  pub wake-ready : Sorted precedes (T rel) → Sorted precedes (insert precedes (withReturning true (transactionAt w k)) (T rel))
+  wake-ready ready = insert-sorted precedes precedes-order (withReturning true (transactionAt w k)) (T rel) ready
 
   pub wake-around : Around w (wakeAt w p cell) k
   unfolding wakeAt wakeRow

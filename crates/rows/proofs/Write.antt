@@ -5,7 +5,7 @@ use mathlib.Core.Logic.{_≢_}
 use mathlib.Core.List.{List, map}
 use native.Mathlib.Omega.{arith}
 use Rattle.machine.specs.Transaction.{Transaction, Event}
-use Rattle.rows.specs.Layout.{place, link, head, tail, fel, fieldAt}
+use Rattle.rows.specs.Layout.{dataFields, place, link, head, tail, fel, fieldAt, listCount, places}
 use Rattle.rows.specs.Cells.{load, write}
 use Rattle.rows.specs.Holds.{transactionAt, eventAt, same, occurs, Listed, Holds}
 use Rattle.rows.specs.Shows.{Shown, Loose}
@@ -18,8 +18,8 @@ use Rattle.rows.proofs.Data.{SameRow, transaction-kept, event-kept, map
 pub row-other : (w : List ℕ) (f k x j : ℕ) → k < 1024 → j < 1024 → j ≢ k → SameRow w (write w f k x) j
 row-other w f k x j hk hj d g hg = load-other w (fieldAt f k) x (fieldAt g j) (λ e. d (omega arith))
 
-module _ (w : List ℕ) (f k x : ℕ) (hf : f < 12) where
-  write-high : (i : ℕ) → k < 1024 → 12288 ≤ i → load (write w f k x) i ≡ load w i
+module _ (w : List ℕ) (f k x : ℕ) (hf : f < dataFields) where
+  write-high : (i : ℕ) → k < 1024 → places ≤ i → load (write w f k x) i ≡ load w i
   write-high i hk h = load-other w (fieldAt f k) x i (λ e. omega arith)
 
   pub write-loose : (j : ℕ) → k < 1024 → Loose w j → Loose (write w f k x) j
@@ -27,7 +27,7 @@ module _ (w : List ℕ) (f k x : ℕ) (hf : f < 12) where
 
   module _ (free : Loose w k) where
     -- the rows of a list are others
-    others-only : (q : ℕ) (l : List ℕ) → q < 512 → Listed w q l → (j : ℕ) → 1 ≤ occurs j l → (j < 1024) × (j ≢ k)
+    others-only : (q : ℕ) (l : List ℕ) → q < listCount → Listed w q l → (j : ℕ) → 1 ≤ occurs j l → (j < 1024) × (j ≢ k)
     others-only q l hq one j m =
         let r : j < 1024 = chain-row w (head q) l j (one .chain) m in (
           r,
@@ -43,11 +43,11 @@ module _ (w : List ℕ) (f k x : ℕ) (hf : f < 12) where
           once = λ j hj. one .once j hj ∙ ap (λ (y : ℕ). same y q) (sym (write-high (place j) (free .row) (omega arith)));
         }
 
-    events-stay : (q : ℕ) (l : List ℕ) → q < 512 → Listed w q l → map (eventAt (write w f k x)) l ≡ map (eventAt w) l
+    events-stay : (q : ℕ) (l : List ℕ) → q < listCount → Listed w q l → map (eventAt (write w f k x)) l ≡ map (eventAt w) l
     events-stay q l hq one =
         map-kept (eventAt (write w f k x)) (eventAt w) l (λ j m. let r : (j < 1024) × (j ≢ k) = others-only q l hq one j m in event-kept w (write w f k x) j (row-other w f k x j (free .row) (r .0) (r .1)))
 
-    transactions-stay : (q : ℕ) (l : List ℕ) → q < 512 → Listed w q l → map (transactionAt (write w f k x)) l ≡ map (transactionAt w) l
+    transactions-stay : (q : ℕ) (l : List ℕ) → q < listCount → Listed w q l → map (transactionAt (write w f k x)) l ≡ map (transactionAt w) l
     transactions-stay q l hq one =
         map-kept (transactionAt (write w f k x)) (transactionAt w) l (λ j m. let r : (j < 1024) × (j ≢ k) = others-only q l hq one j m in transaction-kept w (write w f k x) j (row-other w f k x j (free .row) (r .0) (r .1)))
 
@@ -56,7 +56,6 @@ module _ (w : List ℕ) (f k x : ℕ) (hf : f < 12) where
         record {
           room = rw (length-store w (fieldAt f k) x) (h .room);
           listed = λ q hq. write-listed q (L q) (h .listed q hq);
-          sorted = λ q hq. rw (events-stay q (L q) (omega arith) (h .listed q (omega arith))) (h .sorted q hq);
         }
 
     pub write-shown : (L : ℕ → List ℕ) (T : ℕ → List Transaction) (E : List Event) → Shown w L T E → Shown (write w f k x) L T E

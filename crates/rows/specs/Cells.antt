@@ -4,6 +4,7 @@ use mathlib.Core.Bool.{cond}
 use mathlib.Core.List.{List}
 use lib.Dec.{ltb}
 use lib.ListN.{getD, set}
+use Rattle.machine.specs.Limits.{workNumbers}
 use Rattle.rows.specs.Layout.{fieldAt, standingField}
 
 abbrev pub load : List ℕ → ℕ → ℕ
@@ -11,7 +12,7 @@ load w i = getD w i 0
 
 -- nothing past the 16,384th is written
 unfoldable pub store : List ℕ → ℕ → ℕ → List ℕ
-store w i x = cond (ltb i 16384) (set w i x) w
+store w i x = cond (ltb i workNumbers) (set w i x) w
 
 -- a field of a row
 abbrev pub read : List ℕ → ℕ → ℕ → ℕ

@@ -6,20 +6,20 @@ use lib.Dec.{ltb, eqb}
 use Rattle.machine.specs.Transaction.{Transaction, Event, precedes}
 use Rattle.machine.specs.Setters.{withSerial, withReturning}
 use Rattle.machine.specs.Lists.{insert}
-use Rattle.rows.specs.Layout.{serialField, timeField, rel, fel}
+use Rattle.rows.specs.Layout.{serialField, timeField, rel, fel, rowCount}
 use Rattle.rows.specs.Cells.{read, write, setReturning}
 use Rattle.rows.specs.Lists.{put, first, takeFirst}
 
 -- the first of the FEL has this time
 unfoldable pub isDue : List ℕ → ℕ → Bool
-isDue w time = ltb (first w fel) 1024 && eqb (read w timeField (first w fel)) time
+isDue w time = ltb (first w fel) rowCount && eqb (read w timeField (first w fel)) time
 
 -- it goes to REL with this serial, not returning
 unfoldable pub arriveRow : List ℕ → ℕ → ℕ → List ℕ
 arriveRow w serial k = put (write (setReturning (takeFirst w fel) k 0) serialField k serial) rel k
 
 unfoldable pub arriveFirst : List ℕ → ℕ → List ℕ
-arriveFirst w serial = cond (ltb (first w fel) 1024) (arriveRow w serial (first w fel)) w
+arriveFirst w serial = cond (ltb (first w fel) rowCount) (arriveRow w serial (first w fel)) w
 
 -- the buffer, and the last serial given
 pub record Arrived : Type 0 where

@@ -2,14 +2,13 @@
 -- proofs/.
 use Prim.Native.Nat.{ℕ, _+_, _%_, _≤_, _<_}
 use mathlib.Core.Path.{_≡_}
-use mathlib.Core.Bool.{Bool, false, cond}
-use mathlib.Core.List.{List, [], _∷_, map}
+use mathlib.Core.Bool.{cond}
+use mathlib.Core.List.{List, [], _∷_}
 use lib.Dec.{eqb}
-use lib.ListN.{length}
 use mir.Syntax.{w32}
 use mir.Val.{toZ}
-use Rattle.machine.specs.Transaction.{Transaction, Event, precedes, earlier}
-use Rattle.rows.specs.Layout.{place, link, head, tail, fel, numberField, standingField, parameterField, nextField, serialField, timeField}
+use Rattle.machine.specs.Transaction.{Transaction, Event}
+use Rattle.rows.specs.Layout.{rowCount, listCount, Room, place, link, head, tail, numberField, standingField, parameterField, nextField, serialField, timeField}
 use Rattle.rows.specs.Cells.{load, read, priorityOf}
 
 -- ---- Rows as transactions
@@ -31,10 +30,6 @@ transactionAt w k =
 unfoldable pub eventAt : List ℕ → ℕ → Event
 eventAt w k = record { time = read w timeField k; who = transactionAt w k }
 
--- the order of list p
-unfoldable pub before : ℕ → Event → Event → Bool
-before p a b = cond (eqb p fel) (earlier a b) (precedes (a .who) (b .who))
-
 -- ---- Lists of rows
 
 -- 1 if two numbers are equal, else 0
@@ -47,34 +42,24 @@ occurs k (x ∷ l) = same k x + occurs k l
 
 -- the links lead from cell c along the rows of a list, and then to no row
 unfoldable pub Chain : List ℕ → ℕ → List ℕ → Type 0
-Chain w c [] = 1024 ≤ load w c
-Chain w c (k ∷ l) = (load w c ≡ k) × (k < 1024) × Chain w (link k) l
+Chain w c [] = rowCount ≤ load w c
+Chain w c (k ∷ l) = (load w c ≡ k) × (k < rowCount) × Chain w (link k) l
 
 -- the cell behind the rows of a list that starts at cell c
 unfoldable pub ending : ℕ → List ℕ → ℕ
 ending c [] = c
 ending c (k ∷ l) = ending (link k) l
 
-unfoldable pub All : {A : Type 0} → (A → Type 0) → List A → Type 0
-All P [] = Unit {0}
-All P (x ∷ l) = P x × All P l
-
--- nobody stands before one that is ahead of it in the list
-unfoldable pub Sorted : {A : Type 0} → (A → A → Bool) → List A → Type 0
-Sorted r [] = Unit {0}
-Sorted r (x ∷ l) = All (λ y. r y x ≡ false) l × Sorted r l
-
 -- l is the rows of list p, each row whose place is p once
 pub record Listed (w : List ℕ) (p : ℕ) (l : List ℕ) : Type 0 where
   pub chain : Chain w (head p) l
   pub last : load w (tail p) ≡ ending (head p) l
-  pub once : (k : ℕ) → k < 1024 → occurs k l ≡ same (load w (place k)) p
+  pub once : (k : ℕ) → k < rowCount → occurs k l ≡ same (load w (place k)) p
 
--- L p is the rows of list p, for every list; all but the free rows are in order
+-- L p is the rows of list p, for every list, in whatever order
 pub record Holds (w : List ℕ) (L : ℕ → List ℕ) : Type 0 where
-  pub room : 16384 ≤ length w
-  pub listed : (p : ℕ) → p < 512 → Listed w p (L p)
-  pub sorted : (p : ℕ) → p < 451 → Sorted (before p) (map (eventAt w) (L p))
+  pub room : Room w
+  pub listed : (p : ℕ) → p < listCount → Listed w p (L p)
 
 -- the lists with list p replaced
 abbrev pub update : {A : Type 0} → ℕ → A → (ℕ → A) → ℕ → A

@@ -1,33 +1,60 @@
 -- The work buffer: 16 fields of 1,024 rows, field f of row k at f * 1024 + k, one row for each living transaction. Numbers
 -- past the 16,384th are never touched.
 --
--- | field | holds                                   | field | holds                              |
--- |-------|-----------------------------------------|-------|------------------------------------|
--- | 0     | number                                  | 8     | move time, low half                |
--- | 1     | priority * 2 + returning                | 9     | spare: high halves of clocks       |
--- | 2..5  | parameters 1..4, the bits of an i32     | 10    | spare: family                      |
--- | 6     | next block                              | 11    | spare: group clock, low half       |
--- | 7     | serial                                  | 12    | spare: second link                 |
--- | 13    | place: its list, 512 on none            | 14    | link: the row after it on its list |
--- | 15    | heads of lists 0..511, then their tails |       |                                    |
+-- | field | holds                               | field | holds                              |
+-- |-------|-------------------------------------|-------|------------------------------------|
+-- | 0     | number                              | 9     | spare: move time, high half        |
+-- | 1     | priority * 2 + returning            | 10    | spare: family                      |
+-- | 2..5  | parameters 1..4, the bits of an i32 | 11    | spare: second link                 |
+-- | 6     | next block                          | 12    | place: its list, 1024 on none      |
+-- | 7     | serial                              | 13    | link: the row after it on its list |
+-- | 8     | move time, low half                 | 14    | heads of lists 0..1023             |
+-- |       |                                     | 15    | tails of lists 0..1023             |
 --
 -- A cell is a number of the buffer that holds a row: a head or a link. 1024, and any number above it, is no row. The tail of a
 -- list is its last cell: the head itself where the list is empty.
 --
--- | list    | number                                          |
--- |---------|-------------------------------------------------|
--- | QL      | server - 1: 0..63                               |
--- | WEL     | 64 + (server - 1) * 6 + (code - 1): 64..447     |
--- | WSL     | 448                                             |
--- | REL     | 449                                             |
--- | FEL     | 450                                             |
--- | free    | 451: the rows that are not living               |
--- | others  | 452..511 are spare and stay empty               |
-use Prim.Native.Nat.{ℕ, _+_, _*_, _-_}
-use Rattle.machine.specs.Block.{Code}
-use Rattle.machine.specs.Moves.{welIndex}
+-- | list    | number                                      |
+-- |---------|---------------------------------------------|
+-- | QL      | server - 1: 0..63                           |
+-- | WEL     | 64 + (server - 1) * 6 + (code - 1): 64..447 |
+-- | WSL     | 448                                         |
+-- | REL     | 449                                         |
+-- | FEL     | 450                                         |
+-- | free    | 451: the rows that are not living           |
+-- | others  | 452..1023 are spare and stay empty          |
+use Prim.Native.Nat.{ℕ, _+_, _*_, _-_, _≤_}
+use mathlib.Core.List.{List}
+use lib.ListN.{length}
+use Rattle.machine.specs.Limits.{workNumbers}
+use Rattle.machine.specs.Block.{Code, welIndex}
 
 -- ---- Sizes
+
+-- rows; a number that is not below it is no row
+abbrev pub rowCount : ℕ
+rowCount = 1024
+
+abbrev pub fieldCount : ℕ
+fieldCount = 16
+
+-- fields 0..11 are the data of a row
+abbrev pub dataFields : ℕ
+dataFields = 12
+
+abbrev pub listCount : ℕ
+listCount = 1024
+
+-- from here on, priority * 2 + returning does not fit 32 bits; nor do the serials of one more clock move
+abbrev pub priorityEnd : ℕ
+priorityEnd = 2147483648
+
+abbrev pub serialEnd : ℕ
+serialEnd = 4000000000
+
+-- a buffer that has room for the layout
+abbrev pub Room : List ℕ → Type 0
+Room w = workNumbers ≤ length w
 
 -- ---- Fields
 
@@ -51,27 +78,43 @@ abbrev pub timeField : ℕ
 timeField = 8
 
 abbrev pub fieldAt : ℕ → ℕ → ℕ
-fieldAt f k = f * 1024 + k
+fieldAt f k = f * rowCount + k
+
+-- where the place and the link of row 0, the head and the tail of list 0 stand
+abbrev pub places : ℕ
+places = 12288
+
+abbrev pub links : ℕ
+links = 13312
+
+abbrev pub heads : ℕ
+heads = 14336
+
+abbrev pub tails : ℕ
+tails = 15360
 
 abbrev pub place : ℕ → ℕ
-place k = 13312 + k
+place k = places + k
 
 abbrev pub link : ℕ → ℕ
-link k = 14336 + k
+link k = links + k
 
 abbrev pub head : ℕ → ℕ
-head p = 15360 + p
+head p = heads + p
 
 abbrev pub tail : ℕ → ℕ
-tail p = 15872 + p
+tail p = tails + p
 
 -- ---- Lists
 
 abbrev pub qlList : ℕ → ℕ
 qlList v = v - 1
 
+abbrev pub wels : ℕ
+wels = 64
+
 abbrev pub welList : ℕ → Code → ℕ
-welList v code = 64 + welIndex v code
+welList v code = wels + welIndex v code
 
 abbrev pub wsl : ℕ
 wsl = 448
@@ -87,4 +130,4 @@ free = 451
 
 -- the place of a row that is on no list, as the moving one
 abbrev pub nowhere : ℕ
-nowhere = 512
+nowhere = listCount

@@ -6,5 +6,6 @@ pub mod Wake
 pub mod Clock
 pub mod Make
 pub mod Holds
+pub mod Ordered
 pub mod Living
 pub mod Shows

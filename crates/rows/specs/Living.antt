@@ -5,7 +5,7 @@ use mathlib.Core.List.{List}
 use lib.Dec.{ltb}
 use lib.ListN.{length}
 use Rattle.machine.specs.Transaction.{Transaction, Event}
-use Rattle.rows.specs.Layout.{place}
+use Rattle.rows.specs.Layout.{place, listCount, fel, rowCount}
 use Rattle.rows.specs.Cells.{load}
 
 -- f 0 + .. + f (n - 1)
@@ -15,8 +15,8 @@ sumTo (suc n) f = sumTo n f + f n
 
 -- the rows on no list, as the moving one
 unfoldable pub loose : List ℕ → ℕ
-loose w = sumTo 1024 (λ k. cond (ltb (load w (place k)) 512) 0 1)
+loose w = sumTo rowCount (λ k. cond (ltb (load w (place k)) listCount) 0 1)
 
 -- the transactions of the machine's lists
 unfoldable pub onLists : (ℕ → List Transaction) → List Event → ℕ
-onLists T E = sumTo 450 (λ p. length (T p)) + length E
+onLists T E = sumTo fel (λ p. length (T p)) + length E

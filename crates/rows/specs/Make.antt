@@ -1,18 +1,20 @@
 -- The row machine: rows that come to life and end, and the buffer at the start of a run.
-use Prim.Native.Nat.{ℕ, zero, suc, _*_, _/_}
+use Prim.Native.Nat.{ℕ, zero, suc, _+_, _*_, _/_}
 use mathlib.Core.List.{List}
-use Rattle.rows.specs.Layout.{place, head, tail, free, nowhere, numberField, standingField, nextField, serialField}
+use Rattle.rows.specs.Layout.{place, head, tail, free, nowhere, numberField, standingField, nextField, serialField, listCount, rowCount, parameterField}
 use Rattle.rows.specs.Cells.{store, read, write}
 use Rattle.rows.specs.Lists.{insertAt}
 
 -- ---- One row
 
 unfoldable pub clearParameters : List ℕ → ℕ → List ℕ
-clearParameters w k = write (write (write (write w 2 k 0) 3 k 0) 4 k 0) 5 k 0
+clearParameters w k = write (write (write (write w parameterField k 0) (parameterField + 1) k 0) (parameterField + 2) k 0) (parameterField + 3) k 0
 
 unfoldable pub copyParameters : List ℕ → ℕ → ℕ → List ℕ
 copyParameters w j k =
-    write (write (write (write w 2 k (read w 2 j)) 3 k (read w 3 j)) 4 k (read w 4 j)) 5 k (read w 5 j)
+    write
+    (write (write (write w parameterField k (read w parameterField j)) (parameterField + 1) k (read w (parameterField + 1) j)) (parameterField + 2) k (read w (parameterField + 2) j))
+    (parameterField + 3) k (read w (parameterField + 3) j)
 
 -- all but the parameters; not returning, no serial yet
 unfoldable pub describe : List ℕ → ℕ → ℕ → ℕ → ℕ → List ℕ
@@ -34,7 +36,7 @@ freeRow w k = insertAt w free (head free) k
 -- ---- The start
 
 unfoldable pub emptyList : List ℕ → ℕ → List ℕ
-emptyList w p = store (store w (head p) 1024) (tail p) (head p)
+emptyList w p = store (store w (head p) rowCount) (tail p) (head p)
 
 -- lists 0..n - 1 are empty
 unfoldable pub emptyLists : ℕ → List ℕ → List ℕ
@@ -52,4 +54,4 @@ freeRows zero w = w
 freeRows (suc n) w = freeRow (freeRows n w) n
 
 unfoldable pub initial : List ℕ → List ℕ
-initial w = freeRows 1024 (looseRows 1024 (emptyLists 512 w))
+initial w = freeRows rowCount (looseRows rowCount (emptyLists listCount w))

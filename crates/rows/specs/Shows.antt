@@ -2,26 +2,33 @@
 use Prim.Native.Nat.{ℕ, _<_}
 use mathlib.Core.Path.{_≡_}
 use mathlib.Core.List.{List, [], map}
-use Rattle.machine.specs.Transaction.{Transaction, Event}
-use Rattle.rows.specs.Layout.{place, rel, fel, free, nowhere}
+use Rattle.machine.specs.Transaction.{Transaction, Event, precedes}
+use Rattle.rows.specs.Layout.{place, rel, fel, free, nowhere, listCount, rowCount}
 use Rattle.rows.specs.Cells.{load}
+use Rattle.rows.specs.Ordered.{Ordered}
 use Rattle.rows.specs.Holds.{transactionAt, eventAt, Holds, update}
 
 -- with L p the rows of list p: T p is list p as transactions, for every QL and WEL, the WSL and REL; E is the FEL
 pub record Shown (w : List ℕ) (L : ℕ → List ℕ) (T : ℕ → List Transaction) (E : List Event) : Type 0 where
   pub holds : Holds w L
-  pub lists : (p : ℕ) → p < 450 → map (transactionAt w) (L p) ≡ T p
+  pub lists : (p : ℕ) → p < fel → map (transactionAt w) (L p) ≡ T p
   pub future : map (eventAt w) (L fel) ≡ E
-  pub spare : (p : ℕ) → free < p → p < 512 → L p ≡ []
+  pub spare : (p : ℕ) → free < p → p < listCount → L p ≡ []
 
--- with some rows: all that the crates above this one speak of
-pub record Shows (w : List ℕ) (T : ℕ → List Transaction) (E : List Event) : Type 0 where
+-- with some rows, the lists in whatever order
+pub record Held (w : List ℕ) (T : ℕ → List Transaction) (E : List Event) : Type 0 where
   pub rows : ℕ → List ℕ
   pub shown : Shown w rows T E
 
+-- with some rows, every list by priority and serial, the FEL by time first: all that the crates above this one speak of
+pub record Shows (w : List ℕ) (T : ℕ → List Transaction) (E : List Event) : Type 0 where
+  pub rows : ℕ → List ℕ
+  pub shown : Shown w rows T E
+  pub ordered : Ordered (λ p. precedes) T E
+
 -- row k is on no list
 pub record Loose (w : List ℕ) (k : ℕ) : Type 0 where
-  pub row : k < 1024
+  pub row : k < rowCount
   pub off : load w (place k) ≡ nowhere
 
 -- the lists with list p and REL replaced

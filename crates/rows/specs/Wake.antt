@@ -3,7 +3,7 @@ use Prim.Native.Nat.{ℕ, zero, suc}
 use mathlib.Core.Bool.{Bool, cond}
 use mathlib.Core.List.{List}
 use lib.Dec.{ltb}
-use Rattle.rows.specs.Layout.{link, head, rel}
+use Rattle.rows.specs.Layout.{link, head, rel, rowCount}
 use Rattle.rows.specs.Cells.{load, setReturning}
 use Rattle.rows.specs.Lists.{removeAt, put}
 
@@ -12,14 +12,14 @@ unfoldable pub wakeRow : List ℕ → ℕ → ℕ → ℕ → List ℕ
 wakeRow w p c k = put (setReturning (removeAt w p c) k 1) rel k
 
 unfoldable pub wakeAt : List ℕ → ℕ → ℕ → List ℕ
-wakeAt w p c = cond (ltb (load w c) 1024) (wakeRow w p c (load w c)) w
+wakeAt w p c = cond (ltb (load w c) rowCount) (wakeRow w p c (load w c)) w
 
 abbrev pub wakeFirst : List ℕ → ℕ → List ℕ
 wakeFirst w p = wakeAt w p (head p)
 
 -- the cell behind the row of cell c
 unfoldable pub after : List ℕ → ℕ → ℕ
-after w c = cond (ltb (load w c) 1024) (link (load w c)) c
+after w c = cond (ltb (load w c) rowCount) (link (load w c)) c
 
 -- One step along list p: the row of cell c goes to REL and the cell stays, or the row stays and the next cell follows.
 unfoldable pub passRows : Bool → List ℕ → ℕ → ℕ → List ℕ
@@ -32,4 +32,4 @@ passCell moves w c = cond moves c (after w c)
 unfoldable pub wakeAll : (List ℕ → ℕ → Bool) → ℕ → List ℕ → ℕ → ℕ → List ℕ
 wakeAll test zero w p c = w
 wakeAll test (suc n) w p c =
-    cond (ltb (load w c) 1024) (wakeAll test n (passRows (test w (load w c)) w p c) p (passCell (test w (load w c)) w c)) w
+    cond (ltb (load w c) rowCount) (wakeAll test n (passRows (test w (load w c)) w p c) p (passCell (test w (load w c)) w c)) w

@@ -1,7 +1,11 @@
 // Single numbers of the buffer, and the fields of a row.
 
+use crate::ROWS;
+use crate::STANDING;
+use crate::WORK_NUMBERS;
 ghost use mathlib.Core.Path.{_≡_};
 ghost use Prim.Native.Nat.{_+_, _*_, _<_, _≤_};
+ghost use Rattle.rows.specs.Layout.{rowCount, fieldCount, Room};
 ghost use Rattle.rows.specs.Cells.{load, store, read, write, priorityOf, setReturning};
 
 pub fn load(w: &[u32], i: u32) -> u32
@@ -15,10 +19,10 @@ pub fn load(w: &[u32], i: u32) -> u32
 }
 
 pub fn store(w: &mut [u32], i: u32, x: u32)
-    requires { do ⌜ 16384 ≤ (← ⟦w.len()⟧) ⌝ }
+    requires { ⌜ Room (now w) ⌝ }
     ensures { λ _. ⌜ now (w .exit) ≡ store (now (w .entry)) i x ⌝ }
 {
-    if i >= 16384 {
+    if i >= WORK_NUMBERS {
         return;
     }
     let at = i as usize;
@@ -27,36 +31,36 @@ pub fn store(w: &mut [u32], i: u32, x: u32)
 
 // Field f of row k.
 pub fn read(w: &[u32], f: u32, k: u32) -> u32
-    requires { ⌜ f < 16 ⌝ }
-    requires { ⌜ k < 1024 ⌝ }
+    requires { ⌜ f < fieldCount ⌝ }
+    requires { ⌜ k < rowCount ⌝ }
     ensures { λ r. ⌜ r ≡ read (now (w .entry)) f k ⌝ }
 {
-    load(w, f * 1024 + k)
+    load(w, f * ROWS + k)
 }
 
 pub fn write(w: &mut [u32], f: u32, k: u32, x: u32)
-    requires { do ⌜ 16384 ≤ (← ⟦w.len()⟧) ⌝ }
-    requires { ⌜ f < 16 ⌝ }
-    requires { ⌜ k < 1024 ⌝ }
+    requires { ⌜ Room (now w) ⌝ }
+    requires { ⌜ f < fieldCount ⌝ }
+    requires { ⌜ k < rowCount ⌝ }
     ensures { λ _. ⌜ now (w .exit) ≡ write (now (w .entry)) f k x ⌝ }
 {
-    store(w, f * 1024 + k, x);
+    store(w, f * ROWS + k, x);
 }
 
 pub fn priority(w: &[u32], k: u32) -> u32
-    requires { ⌜ k < 1024 ⌝ }
+    requires { ⌜ k < rowCount ⌝ }
     ensures { λ r. ⌜ r ≡ priorityOf (now (w .entry)) k ⌝ }
 {
-    read(w, 1, k) / 2
+    read(w, STANDING, k) / 2
 }
 
 // Sets or clears the returning mark: 1 or 0.
 pub fn set_returning(w: &mut [u32], k: u32, mark: u32)
-    requires { do ⌜ 16384 ≤ (← ⟦w.len()⟧) ⌝ }
-    requires { ⌜ k < 1024 ⌝ }
+    requires { ⌜ Room (now w) ⌝ }
+    requires { ⌜ k < rowCount ⌝ }
     requires { ⌜ mark < 2 ⌝ }
     ensures { λ _. ⌜ now (w .exit) ≡ setReturning (now (w .entry)) k mark ⌝ }
 {
-    let standing = read(w, 1, k);
-    write(w, 1, k, standing / 2 * 2 + mark);
+    let standing = read(w, STANDING, k);
+    write(w, STANDING, k, standing / 2 * 2 + mark);
 }

@@ -9,9 +9,71 @@ pub mod make;
 pub mod order;
 pub mod wake;
 
-// The numbers of the lists behind those of the servers (specs/Layout).
+// The layout of the work buffer (specs/Layout): FIELDS of ROWS numbers each. A number that is not below ROWS is no row.
+pub const ROWS: u32 = 1_024;
+
+pub const FIELDS: u32 = 16;
+
+pub const WORK_NUMBERS: u32 = FIELDS * ROWS;
+
+// Fields of a row.
+pub const NUMBER: u32 = 0;
+
+pub const STANDING: u32 = 1;
+
+pub const PARAMETER_1: u32 = 2;
+
+pub const PARAMETER_2: u32 = 3;
+
+pub const PARAMETER_3: u32 = 4;
+
+pub const PARAMETER_4: u32 = 5;
+
+pub const NEXT: u32 = 6;
+
+pub const SERIAL: u32 = 7;
+
+pub const TIME: u32 = 8;
+
+pub const PLACE: u32 = 12;
+
+pub const LINK: u32 = 13;
+
+// Fields of the lists.
+pub const HEAD: u32 = 14;
+
+pub const TAIL: u32 = 15;
+
+// Where those four fields begin.
+pub const PLACES: u32 = PLACE * ROWS;
+
+pub const LINKS: u32 = LINK * ROWS;
+
+pub const HEADS: u32 = HEAD * ROWS;
+
+pub const TAILS: u32 = TAIL * ROWS;
+
+// From here on, the serials of one more clock move may not fit 32 bits.
+pub const SERIAL_END: u32 = 4_000_000_000;
+
+// Lists: the QL of a server is its number less one, its WELs follow from WELS on; then four by name.
+pub const LISTS: u32 = 1_024;
+
+pub const WELS: u32 = 64;
+
 pub const WSL: u32 = 448;
 
 pub const REL: u32 = 449;
 
 pub const FEL: u32 = 450;
+
+pub const FREE: u32 = 451;
+
+pub const WSL_HEAD: u32 = HEADS + WSL;
+
+pub const FEL_HEAD: u32 = HEADS + FEL;
+
+pub const FREE_HEAD: u32 = HEADS + FREE;
+
+// The place of a row that is on no list.
+pub const NOWHERE: u32 = LISTS;

@@ -1,16 +1,19 @@
 // Who stands before whom on a list.
 
 use crate::FEL;
+use crate::SERIAL;
+use crate::TIME;
 use crate::cells::priority;
 use crate::cells::read;
 ghost use mathlib.Core.Path.{_≡_};
 ghost use Prim.Native.Nat.{_<_};
+ghost use Rattle.rows.specs.Layout.{rowCount};
 ghost use Rattle.rows.specs.Order.{outranks, sooner, ahead};
 
 // By priority, high first, then serial, low first.
 pub fn outranks(w: &[u32], x: u32, y: u32) -> bool
-    requires { ⌜ x < 1024 ⌝ }
-    requires { ⌜ y < 1024 ⌝ }
+    requires { ⌜ x < rowCount ⌝ }
+    requires { ⌜ y < rowCount ⌝ }
     ensures { λ r. ⌜ r ≡ outranks (now (w .entry)) x y ⌝ }
 {
     let a = priority(w, x);
@@ -21,17 +24,17 @@ pub fn outranks(w: &[u32], x: u32, y: u32) -> bool
     if a < b {
         return false;
     }
-    read(w, 7, x) < read(w, 7, y)
+    read(w, SERIAL, x) < read(w, SERIAL, y)
 }
 
 // By time first.
 pub fn sooner(w: &[u32], x: u32, y: u32) -> bool
-    requires { ⌜ x < 1024 ⌝ }
-    requires { ⌜ y < 1024 ⌝ }
+    requires { ⌜ x < rowCount ⌝ }
+    requires { ⌜ y < rowCount ⌝ }
     ensures { λ r. ⌜ r ≡ sooner (now (w .entry)) x y ⌝ }
 {
-    let a = read(w, 8, x);
-    let b = read(w, 8, y);
+    let a = read(w, TIME, x);
+    let b = read(w, TIME, y);
     if a < b {
         return true;
     }
@@ -43,8 +46,8 @@ pub fn sooner(w: &[u32], x: u32, y: u32) -> bool
 
 // Row x before row y on list p: the FEL looks at time first.
 pub fn ahead(w: &[u32], p: u32, x: u32, y: u32) -> bool
-    requires { ⌜ x < 1024 ⌝ }
-    requires { ⌜ y < 1024 ⌝ }
+    requires { ⌜ x < rowCount ⌝ }
+    requires { ⌜ y < rowCount ⌝ }
     ensures { λ r. ⌜ r ≡ ahead (now (w .entry)) p x y ⌝ }
 {
     if p == FEL {

@@ -1,18 +1,22 @@
 // Moves to REL from the lists on which one waits.
 
+use crate::HEADS;
+use crate::LINKS;
 use crate::REL;
+use crate::ROWS;
 use crate::cells::load;
 use crate::cells::set_returning;
 use crate::lists::put;
 use crate::lists::remove_at;
 ghost use mathlib.Core.Path.{_≡_};
 ghost use Prim.Native.Nat.{_<_, _≤_};
+ghost use Rattle.rows.specs.Layout.{rowCount, listCount, Room};
 ghost use Rattle.rows.specs.Wake.{wakeRow, wakeAt, wakeFirst, after, passRows, passCell};
 
 fn wake_row(w: &mut [u32], p: u32, c: u32, k: u32)
-    requires { do ⌜ 16384 ≤ (← ⟦w.len()⟧) ⌝ }
-    requires { ⌜ p < 512 ⌝ }
-    requires { ⌜ k < 1024 ⌝ }
+    requires { ⌜ Room (now w) ⌝ }
+    requires { ⌜ p < listCount ⌝ }
+    requires { ⌜ k < rowCount ⌝ }
     ensures { λ _. ⌜ now (w .exit) ≡ wakeRow (now (w .entry)) p c k ⌝ }
 {
     remove_at(w, p, c);
@@ -22,12 +26,12 @@ fn wake_row(w: &mut [u32], p: u32, c: u32, k: u32)
 
 // The row of cell c goes from list p to REL: it keeps its serial and is returning.
 pub fn wake_at(w: &mut [u32], p: u32, c: u32)
-    requires { do ⌜ 16384 ≤ (← ⟦w.len()⟧) ⌝ }
-    requires { ⌜ p < 512 ⌝ }
+    requires { ⌜ Room (now w) ⌝ }
+    requires { ⌜ p < listCount ⌝ }
     ensures { λ _. ⌜ now (w .exit) ≡ wakeAt (now (w .entry)) p c ⌝ }
 {
     let k = load(w, c);
-    if k >= 1024 {
+    if k >= ROWS {
         return;
     }
     wake_row(w, p, c, k);
@@ -35,11 +39,11 @@ pub fn wake_at(w: &mut [u32], p: u32, c: u32)
 
 // The first row of list p goes to REL, if there is one.
 pub fn wake_first(w: &mut [u32], p: u32)
-    requires { do ⌜ 16384 ≤ (← ⟦w.len()⟧) ⌝ }
-    requires { ⌜ p < 512 ⌝ }
+    requires { ⌜ Room (now w) ⌝ }
+    requires { ⌜ p < listCount ⌝ }
     ensures { λ _. ⌜ now (w .exit) ≡ wakeFirst (now (w .entry)) p ⌝ }
 {
-    wake_at(w, p, 15360 + p);
+    wake_at(w, p, HEADS + p);
 }
 
 // The cell behind the row of cell c.
@@ -47,8 +51,8 @@ pub fn after(w: &[u32], c: u32) -> u32
     ensures { λ r. ⌜ r ≡ after (now (w .entry)) c ⌝ }
 {
     let k = load(w, c);
-    if k < 1024 {
-        return 14336 + k;
+    if k < ROWS {
+        return LINKS + k;
     }
     c
 }
@@ -56,8 +60,8 @@ pub fn after(w: &[u32], c: u32) -> u32
 // One step along list p: the row of cell c goes to REL and the cell stays, or the row stays and the next cell follows. A loop
 // of at most 1,024 steps from the head wakes all that pass a test.
 pub fn pass(w: &mut [u32], p: u32, c: u32, moves: bool) -> u32
-    requires { do ⌜ 16384 ≤ (← ⟦w.len()⟧) ⌝ }
-    requires { ⌜ p < 512 ⌝ }
+    requires { ⌜ Room (now w) ⌝ }
+    requires { ⌜ p < listCount ⌝ }
     ensures cell { λ r. ⌜ r ≡ passCell moves (now (w .entry)) c ⌝ }
     ensures rows { λ _. ⌜ now (w .exit) ≡ passRows moves (now (w .entry)) p c ⌝ }
 {

@@ -4,7 +4,20 @@ use mathlib.Core.Bool.{cond}
 use mathlib.Core.List.{List, [], _∷_, _++_}
 use lib.Dec.{ltb}
 
--- the decimal digits of n, at most k of them, in ASCII; a number of 64 bits has at most 20
+-- a number of 64 bits has at most 20 digits, and one byte stands behind it; a line is eight letters and six numbers
+abbrev pub digits : ℕ
+digits = 20
+
+abbrev pub numberRoom : ℕ
+numberRoom = 21
+
+abbrev pub letterRoom : ℕ
+letterRoom = 8
+
+abbrev pub lineRoom : ℕ
+lineRoom = 134
+
+-- the decimal digits of n, at most k of them, in ASCII
 unfoldable pub numeral : ℕ → ℕ → List ℕ
 numeral zero n = []
 numeral (suc k) n = cond (ltb n 10) ((48 + n) ∷ []) (numeral k (n / 10) ++ ((48 + n % 10) ∷ []))
@@ -16,7 +29,7 @@ behind (n ∷ l) = 32
 
 unfoldable pub numerals : List ℕ → List ℕ
 numerals [] = []
-numerals (n ∷ l) = numeral 20 n ++ (behind l ∷ []) ++ numerals l
+numerals (n ∷ l) = numeral digits n ++ (behind l ∷ []) ++ numerals l
 
 unfoldable pub line : (letters numbers : List ℕ) → List ℕ
 line letters numbers = letters ++ numerals numbers

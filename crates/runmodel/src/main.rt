@@ -6,20 +6,17 @@ mod printing;
 
 use files::File;
 use files::read_file;
+use machine::Model;
 use printing::print_accepted;
 use printing::print_refused;
 
 const BUDGET: u64 = 1_000_000;
 
-const WORK_NUMBERS: usize = 16_384;
-
-const REPORT_BYTES: usize = 10_240;
-
 // Whether all that is to be printed could be written.
 fn run(model: &[u8], tape: &[u8]) -> bool {
-    let mut work = [0u32; WORK_NUMBERS];
+    let mut work = [0u32; Model::WORK_NUMBERS];
     let mut trace = io::large_buffer();
-    let mut report = [0u8; REPORT_BYTES];
+    let mut report = [0u8; Model::REPORT_ROOM];
     let outcome = engine::run(model, tape, BUDGET, &mut work, &mut trace, &mut report);
     if outcome.refusal != 0 {
         return print_refused(outcome.refusal);

@@ -1,6 +1,4 @@
 // What is printed.
-use crate::REPORT_BYTES;
-use crate::WORK_NUMBERS;
 use crate::lines::LINE;
 use crate::lines::line;
 use codec::Read;
@@ -8,15 +6,26 @@ use decode::Decoded;
 use engine::Outcome;
 use libc::STDOUT_FILENO;
 use machine::Model;
+use tables::LIST_CELLS;
 use tables::TABLES;
 use trace::Reading;
 ghost use mathlib.Core.Path.{_≡_};
 ghost use Prim.Native.Nat.{_+_, _*_, _≤_};
 ghost use lib.ListN.{length};
+ghost use Rattle.runmodel.specs.Line.{letterRoom, numberRoom, lineRoom};
+
+// How many numbers the report has at its head, per server and per queue; a line has one more.
+const HEAD: usize = 3;
+
+const SERVER: usize = 5;
+
+const QUEUE: usize = 3;
+
+const NUMBERS: usize = 6;
 
 // Each function that prints answers whether all of it could be written.
 fn print_line(letters: &[u8], numbers: &[u64]) -> bool
-    requires { ⌜ length (now letters) + 21 * length (now numbers) ≤ 134 ⌝ }
+    requires { ⌜ length (now letters) + numberRoom * length (now numbers) ≤ lineRoom ⌝ }
 {
     let mut out = [0u8; LINE];
     let n = line(&mut out, letters, numbers);
@@ -77,8 +86,8 @@ fn skip_all(report: &[u8], at: usize, things: usize, count: usize) -> usize {
 }
 
 // The fields from a position on, so many of them, behind the first number; returns the position behind them.
-fn read_fields(report: &[u8], at: usize, count: usize, numbers: &mut [u64; 6]) -> usize
-    requires { ⌜ count ≤ 5 ⌝ }
+fn read_fields(report: &[u8], at: usize, count: usize, numbers: &mut [u64; NUMBERS]) -> usize
+    requires { do ⌜ count ≤ (← ⟦SERVER⟧) ⌝ }
     ensures { λ _. ⌜ length (now (numbers .exit)) ≡ length (now (numbers .entry)) ⌝ }
 {
     let mut next = at;
@@ -94,10 +103,10 @@ fn read_fields(report: &[u8], at: usize, count: usize, numbers: &mut [u64; 6]) -
 
 // A line for each server or queue of a kind, from a position on.
 fn print_all(report: &[u8], at: usize, letters: &[u8], things: usize, count: usize) -> bool
-    requires { ⌜ length (now letters) ≤ 8 ⌝ }
-    requires { ⌜ count ≤ 5 ⌝ }
+    requires { ⌜ length (now letters) ≤ letterRoom ⌝ }
+    requires { do ⌜ count ≤ (← ⟦SERVER⟧) ⌝ }
 {
-    let mut numbers = [0u64; 6];
+    let mut numbers = [0u64; NUMBERS];
     let mut next = at;
     let mut k = 0;
     while k < things {
@@ -113,10 +122,10 @@ fn print_all(report: &[u8], at: usize, letters: &[u8], things: usize, count: usi
 
 // Clock, made and ended begin the report, and the living follow the queues.
 fn print_report(m: Model, outcome: Outcome, report: &[u8]) -> bool {
-    let facilities = skip(report, 0, 3);
-    let storages = skip_all(report, facilities, m.facilities, 5);
-    let queues = skip_all(report, storages, m.storages, 5);
-    let living = number_at(report, skip_all(report, queues, m.queues, 3)).value;
+    let facilities = skip(report, 0, HEAD);
+    let storages = skip_all(report, facilities, m.facilities, SERVER);
+    let queues = skip_all(report, storages, m.storages, SERVER);
+    let living = number_at(report, skip_all(report, queues, m.queues, QUEUE)).value;
     if !print_line(
         b"end ",
         &[
@@ -129,24 +138,24 @@ fn print_report(m: Model, outcome: Outcome, report: &[u8]) -> bool {
     ) {
         return false;
     }
-    if !print_all(report, facilities, b"f ", m.facilities, 5) {
+    if !print_all(report, facilities, b"f ", m.facilities, SERVER) {
         return false;
     }
-    if !print_all(report, storages, b"s ", m.storages, 5) {
+    if !print_all(report, storages, b"s ", m.storages, SERVER) {
         return false;
     }
-    print_all(report, queues, b"q ", m.queues, 3)
+    print_all(report, queues, b"q ", m.queues, QUEUE)
 }
 
 // How many servers and queues an accepted model has.
 fn header(model: &[u8], tape: &[u8]) -> Model {
     let mut tables = [0u32; TABLES];
-    let mut lists = [0u64; 32];
+    let mut lists = [0u64; LIST_CELLS];
     match decode::decode(
         model,
         tape,
-        WORK_NUMBERS,
-        REPORT_BYTES,
+        Model::WORK_NUMBERS,
+        Model::REPORT_ROOM,
         &mut tables,
         &mut lists,
     ) {

@@ -8,10 +8,10 @@ use native.Mathlib.Omega.{arith}
 use lib.ListN.{length, drop, length-set}
 use Rattle.machine.specs.Transaction.{Transaction}
 use Rattle.machine.specs.Term
-use Rattle.machine.specs.Block.{Code, U, NU, E, NE, F, NF, status, codeIndex}
+use Rattle.machine.specs.Block.{Code, U, NU, E, NE, F, NF, status, codeIndex, welIndex}
 use Rattle.machine.specs.State.{State}
 use Rattle.machine.specs.Setters.{setWel, setRel}
-use Rattle.machine.specs.Moves.{welIndex, welOf, wakeFirstWel}
+use Rattle.machine.specs.Moves.{welOf, wakeFirstWel}
 use Rattle.machine.specs.Moves as Moves
 use Rattle.machine.specs.Execute as Execute
 use Rattle.rows.specs.Wake.{wakeFirst}

@@ -11,18 +11,18 @@ use lib.ListN.{getD, set}
 use Rattle.machine.specs.Transaction.{Transaction}
 use Rattle.machine.specs.Term.{Server, View, free}
 use Rattle.machine.specs.Term
-use Rattle.machine.specs.Block.{Block, release, leave, facts, BlockModel, blockAt}
+use Rattle.machine.specs.Block.{Block, release, leave, facts, BlockModel, blockAt, shareServer, shareUnits}
 use Rattle.machine.specs.State.{State}
 use Rattle.machine.specs.Setters.{setMoving}
 use Rattle.machine.specs.Moves.{qlOf, wakeFirstQl, wakeQl}
 use Rattle.machine.specs.Moves as Moves
-use Rattle.machine.specs.Execute.{unless, question, fits}
+use Rattle.machine.specs.Execute.{unless, question, fits, wakeFor}
 use Rattle.machine.specs.Execute as Execute
 use Rattle.machine.specs.Claims.{Each}
 use Rattle.machine.proofs.Proper.{Proper, ProperBlock, Names, Storage, servers}
 use Rattle.machine.proofs.Placed.{Placed}
 use Rattle.machine.proofs.Shape.{each-getD}
-use Rattle.tables.specs.Numbers.{blockNumbers}
+use Rattle.tables.specs.Forms.{blockForms}
 use Rattle.tables.specs.Represents.{Represents}
 use Rattle.rows.specs.Layout.{head}
 use Rattle.rows.specs.Wake.{wakeFirst, wakeAll}
@@ -127,11 +127,11 @@ module _ (m : BlockModel) (tape : List (List ℕ)) (tapeBytes tables lists : Lis
 
     -- the block enters
     release-entered : Done tapeBytes (freeOne tables w tally x (v - 1) (server .inUse - 1)) (bareAnswer 0 m (release v) t s)
-    unfolding bareAnswer bare
+    unfolding bareAnswer bare wakeFor shareServer shareUnits
     release-entered = one-done (server .inUse - 1)
 
     leave-entered : (b : ℕ) → Done tapeBytes (freeSome tables w tally x (v - 1) (server .inUse - b)) (bareAnswer 0 m (leave v b) t s)
-    unfolding bareAnswer bare
+    unfolding bareAnswer bare wakeFor shareServer shareUnits
     leave-entered b = some-done (server .inUse - b)
 
   abbrev at : ℕ
@@ -146,8 +146,8 @@ module _ (m : BlockModel) (tape : List (List ℕ)) (tapeBytes tables lists : Lis
       go true e = rw (le-ltb units b (leb-true b units e)) done
       go false e = rw (lt-ltb units b (leb-false b units e)) (stop-done tapeBytes r t s 23 m block moving stands)
 
-  pub release-done : (v : ℕ) → blockAt m (t .next) ≡ release v → Done tapeBytes (Freeing.release tables w tally x at) (bareAnswer (question (release v) s) m (release v) t s)
-  unfolding Freeing.release question blockNumbers
+  pub release-done : (v : ℕ) → blockAt m (t .next) ≡ release v → Done tapeBytes (Freeing.release tables w tally x at) (bareAnswer (question m (release v) s) m (release v) t s)
+  unfolding Freeing.release question blockForms
   release-done v is =
       let proper′ : Names (m .facilities) v = subst (ProperBlock m) is (proper .block (t .next)) in
       let there : v ≤ servers m = omega (arith, proper′ .1) in
@@ -155,8 +155,8 @@ module _ (m : BlockModel) (tape : List (List ℕ)) (tapeBytes tables lists : Lis
       (asked (release v) 1 (Term.serverAt (s .view) v .inUse) (freeOne tables w tally x (v - 1) (Term.serverAt (s .view) v .inUse - 1))
       (release-entered v (proper′ .0) there))
 
-  pub leave-done : (v b : ℕ) → blockAt m (t .next) ≡ leave v b → Done tapeBytes (Freeing.leave tables w tally x at) (bareAnswer (question (leave v b) s) m (leave v b) t s)
-  unfolding Freeing.leave question blockNumbers
+  pub leave-done : (v b : ℕ) → blockAt m (t .next) ≡ leave v b → Done tapeBytes (Freeing.leave tables w tally x at) (bareAnswer (question m (leave v b) s) m (leave v b) t s)
+  unfolding Freeing.leave question blockForms
   leave-done v b is =
       let proper′ : Storage m v = subst (ProperBlock m) is (proper .block (t .next)) .0 in
       let low : 1 ≤ v = omega (arith, proper′ .0) in

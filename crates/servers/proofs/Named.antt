@@ -1,6 +1,6 @@
 -- What a block on a server names, and what the tables and the tally hold of that server.
 use Prim.Native.Nat.{ℕ, _+_, _*_, _-_, _%_, _≤_}
-use mathlib.Core.Path.{_≡_, refl, sym, ap, _∙_}
+use mathlib.Core.Path.{_≡_, refl, sym, ap, _∙_, subst}
 use mathlib.Core.Bool.{false}
 use mathlib.Core.List.{List, [], _∷_}
 use native.Mathlib.Omega.{arith}
@@ -8,12 +8,14 @@ use lib.Dec.{eqb}
 use lib.ListN.{length, getD, List·getD-map}
 use Rattle.machine.specs.Term.{Server, idleServer}
 use Rattle.machine.specs.Term
-use Rattle.machine.specs.Block.{Code, U, NU, E, NE, F, NF, status, codeIndex, Block, generate, advance, terminate, seize, release, enter, leave, waitServer, waitTerms, branch, goto, assign, priority, split, arrive, depart, facts, BlockModel, blockAt}
+use Rattle.machine.specs.Block.{Code, U, NU, E, NE, F, NF, status, codeIndex, Block, facility, storage, facts, BlockModel, blockAt}
 use Rattle.machine.specs.State.{State}
 use Rattle.machine.proofs.Proper.{Proper, Names, servers}
 use Rattle.machine.proofs.Shape.{Shape, capacityOf}
+use Rattle.tables.specs.Forms.{blockForms}
 use Rattle.tables.specs.Numbers.{blockNumbers}
 use Rattle.tables.specs.Represents.{At, Represents}
+use Rattle.tables.proofs.BlockKinds.{Kinds, generating, taking, waiting, arriving, other, kinds, unasked}
 use Rattle.tables.proofs.Operands.{at-number}
 use Rattle.state.specs.Stands.{Tallying}
 use Rattle.servers.specs.Units.{serverAt, inUse, capacity, statusOf}
@@ -41,23 +43,23 @@ module _ (tables : List ℕ) (at : ℕ) where
   takes-some v b found = rw (kind-at 6 (v ∷ b ∷ []) found) (at-number tables at (6 ∷ v ∷ b ∷ []) 2 (omega arith) found)
 
   pub units-at : (b : Block) → At tables at (blockNumbers b) → unitsAt tables at ≡ facts b .units
-  unfolding blockNumbers facts
-  units-at (generate list p) found = takes-none 1 _ refl refl found
-  units-at (advance list) found = takes-none 2 _ refl refl found
-  units-at (terminate a) found = takes-none 3 _ refl refl found
-  units-at (seize v) found = takes-one (v - 1) found
-  units-at (release v) found = takes-none 5 _ refl refl found
-  units-at (enter v b) found = takes-some (v - 1) b found
-  units-at (leave v b) found = takes-none 7 _ refl refl found
-  units-at (waitServer code v) found = takes-none 8 _ refl refl found
-  units-at (waitTerms a r b) found = takes-none 9 _ refl refl found
-  units-at (branch a r b target) found = takes-none 10 _ refl refl found
-  units-at (goto target) found = takes-none 11 _ refl refl found
-  units-at (assign k a) found = takes-none 12 _ refl refl found
-  units-at (priority p) found = takes-none 13 _ refl refl found
-  units-at (split n target) found = takes-none 14 _ refl refl found
-  units-at (arrive q) found = takes-none 15 _ refl refl found
-  units-at (depart q) found = takes-none 16 _ refl refl found
+  units-at b found = go (kinds b)
+    where
+      numbers : {c : Block} → b ≡ c → At tables at (blockNumbers c)
+      numbers e = subst (λ (x : Block). At tables at (blockNumbers x)) e found
+
+      here : {c : Block} → b ≡ c → unitsAt tables at ≡ facts c .units → unitsAt tables at ≡ facts b .units
+      here e h = h ∙ sym (ap (λ (x : Block). facts x .units) e)
+
+      go : Kinds b → unitsAt tables at ≡ facts b .units
+      go (generating list p e) = here e (unfold blockForms in takes-none 1 _ refl refl (unfold blockForms in numbers e))
+      go (taking (facility v) e) = here e (unfold blockForms in takes-one (v - 1) (numbers e))
+      go (taking (storage v n) e) = here e (unfold blockForms in takes-some (v - 1) n (numbers e))
+      go (waiting a r c e) = here e (unfold blockForms in takes-none 9 _ refl refl (numbers e))
+      go (arriving q e) = here e (unfold blockForms in takes-none 15 _ refl refl (numbers e))
+      go (other kind rest e f g) =
+          let u = unasked kind f in
+          takes-none kind rest (u .no-seize) (u .no-enter) (subst (At tables at) e found) ∙ sym (ap (λ x. x .units) g)
 
 -- of block n, found as the engine finds it
 pub units-of : (m : BlockModel) (tape : List (List ℕ)) (tapeBytes tables lists : List ℕ) → Proper m tape → Represents m tape tapeBytes tables lists → (n : ℕ) → Names (length (m .blocks)) n

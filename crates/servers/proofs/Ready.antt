@@ -12,10 +12,10 @@ use Rattle.machine.specs.Transaction.{Transaction}
 use Rattle.machine.specs.Lists.{those, others, setNth}
 use Rattle.machine.specs.Term.{Server, idleServer}
 use Rattle.machine.specs.Term
-use Rattle.machine.specs.Block.{Code}
+use Rattle.machine.specs.Block.{Code, welIndex}
 use Rattle.machine.specs.State.{State}
 use Rattle.machine.specs.Setters.{withInUse, setQl, setRel}
-use Rattle.machine.specs.Moves.{wake, welIndex, qlOf, wakeFirstQl, wakeQl}
+use Rattle.machine.specs.Moves.{wake, qlOf, wakeFirstQl, wakeQl}
 use Rattle.machine.specs.Moves as Moves
 use Rattle.machine.specs.Execute as Execute
 use Rattle.machine.specs.Claims.{Each}

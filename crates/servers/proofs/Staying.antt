@@ -6,18 +6,19 @@ use mathlib.Core.List.{List, [], _∷_, _++_, map, append-assoc}
 use native.Mathlib.Omega.{arith}
 use borrow.Author.Tests.{lt-ltb, le-ltb}
 use lib.ListN.{length}
-use Rattle.machine.specs.Transaction.{Transaction, Event}
+use Rattle.machine.specs.Transaction.{Transaction, Event, precedes}
 use Rattle.machine.specs.Lists.{those, others}
-use Rattle.rows.specs.Layout.{link, head}
+use Rattle.rows.specs.Layout.{link, head, rel}
 use Rattle.rows.specs.Cells.{load}
 use Rattle.rows.specs.Wake.{wakeAt, after, passRows, passCell, wakeAll}
 use Rattle.rows.specs.Holds.{transactionAt, Chain, ending, Listed}
+use Rattle.rows.specs.Ordered.{Sorted}
 use Rattle.rows.specs.Shows.{Shown, Shows}
 use Rattle.rows.proofs.Occurs.{occurs-append}
 use Rattle.rows.proofs.Chain.{chain-after, ending-append}
 use Rattle.rows.proofs.Spot.{short}
 use Rattle.rows.proofs.Steps.{wakeAll-end, wakeAll-stop, wakeAll-next}
-use Rattle.rows.proofs.Waking.{woken, wake-rows, wake-shown, wake-same}
+use Rattle.rows.proofs.Waking.{woken, wake-rows, wake-shown, wake-ready, wake-same}
 use Rattle.servers.specs.Waking.{oneUnless, wakeStays}
 
 -- ---- Steps
@@ -98,18 +99,18 @@ module _ (test : List ℕ → ℕ → Bool) (P : Transaction → Bool) (agree : 
             omega (arith, goes, ap (λ (l : List Transaction). length (others P l)) same)
         go false = omega (arith, stays)
 
-  stays-shown : (n : ℕ) (b : List ℕ) (w : List ℕ) (L : ℕ → List ℕ) (T : ℕ → List Transaction) (s : Shown w L T E) (a : List ℕ) → L p ≡ a ++ b → length b ≤ n
+  stays-shown : (n : ℕ) (b : List ℕ) (w : List ℕ) (L : ℕ → List ℕ) (T : ℕ → List Transaction) (s : Shown w L T E) → Sorted precedes (T rel) → (a : List ℕ) → L p ≡ a ++ b → length b ≤ n
       → wakeStays test n w p (ending (head p) a) ≡ length (others P (map (transactionAt w) b))
   unfolding ending those
-  stays-shown n [] w L T s a was len = nobody n w L T s a was
-  stays-shown zero (k ∷ b) w L T s a was len = absurd (omega arith)
-  stays-shown (suc n) (k ∷ b) w L T s a was len =
+  stays-shown n [] w L T s ready a was len = nobody n w L T s a was
+  stays-shown zero (k ∷ b) w L T s ready a was len = absurd (omega arith)
+  stays-shown (suc n) (k ∷ b) w L T s ready a was len =
       one-more n w L T s a k b was
-      (stays-shown n b (wakeAt w p (ending (head p) a)) (woken w L T E s p hp k a b was) _ (wake-shown w L T E s p hp k a b was) a (wake-rows w L T E s p hp k a b was) (omega arith))
-      (rw (ending-append (head p) a (k ∷ [])) at (stays-shown n b w L T s (a ++ k ∷ []) (was ∙ sym (append-assoc a (k ∷ []) b)) (omega arith)))
+      (stays-shown n b (wakeAt w p (ending (head p) a)) (woken w L T E s p hp k a b was) _ (wake-shown w L T E s p hp k a b was ready) (wake-ready w L T E s p hp k a b was ready) a (wake-rows w L T E s p hp k a b was) (omega arith))
+      (rw (ending-append (head p) a (k ∷ [])) at (stays-shown n b w L T s ready (a ++ k ∷ []) (was ∙ sym (append-assoc a (k ∷ []) b)) (omega arith)))
 
   pub stays-shows : (w : List ℕ) (T : ℕ → List Transaction) → Shows w T E → wakeStays test 1024 w p (head p) ≡ length (others P (T p))
   unfolding ending
   stays-shows w T s =
-      stays-shown 1024 (s .rows p) w (s .rows) T (s .shown) [] refl (short w p (s .rows p) (s .shown .holds .listed p (omega arith)))
+      stays-shown 1024 (s .rows p) w (s .rows) T (s .shown) (s .ordered .lists rel (omega arith)) [] refl (short w p (s .rows p) (s .shown .holds .listed p (omega arith)))
       ∙ ap (λ (l : List Transaction). length (others P l)) (s .shown .lists p (omega arith))

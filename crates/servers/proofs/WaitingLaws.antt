@@ -9,15 +9,15 @@ use lib.ListN.{getD}
 use Rattle.machine.specs.Transaction.{Transaction}
 use Rattle.machine.specs.Term.{Server}
 use Rattle.machine.specs.Term
-use Rattle.machine.specs.Block.{Code, U, NU, E, NE, F, NF, codeIndex, status, waitServer, BlockModel, blockAt}
+use Rattle.machine.specs.Block.{Code, U, NU, E, NE, F, NF, codeIndex, status, waitServer, BlockModel, blockAt, welIndex}
 use Rattle.machine.specs.State.{State}
 use Rattle.machine.specs.Setters.{setMoving, setSerial}
-use Rattle.machine.specs.Moves.{welIndex, wakeFirstWel}
+use Rattle.machine.specs.Moves.{wakeFirstWel}
 use Rattle.machine.specs.Moves as Moves
 use Rattle.machine.specs.Execute.{question}
 use Rattle.machine.proofs.Proper.{Proper, ProperBlock, CodeServer, servers}
 use Rattle.machine.proofs.Shape.{wel-below}
-use Rattle.tables.specs.Numbers.{blockNumbers}
+use Rattle.tables.specs.Forms.{blockForms}
 use Rattle.tables.specs.Represents.{Represents}
 use Rattle.rows.specs.Wake.{wakeFirst}
 use Rattle.state.specs.declared.scalars.Scalars.{Scalars}
@@ -112,8 +112,8 @@ module _ (m : BlockModel) (tape : List (List ℕ)) (tapeBytes tables lists : Lis
   abbrev at : ℕ
   at = 8 * (t .next - 1)
 
-  pub wait-server-done : (code : Code) (v : ℕ) → blockAt m (t .next) ≡ waitServer code v → Done tapeBytes (withTally (WaitServer.waitServer tables w tally x at) tally) (bareAnswer (question (waitServer code v) s) m (waitServer code v) t s)
-  unfolding WaitServer.waitServer question bareAnswer blockNumbers welIndex
+  pub wait-server-done : (code : Code) (v : ℕ) → blockAt m (t .next) ≡ waitServer code v → Done tapeBytes (withTally (WaitServer.waitServer tables w tally x at) tally) (bareAnswer (question m (waitServer code v) s) m (waitServer code v) t s)
+  unfolding WaitServer.waitServer question bareAnswer welIndex blockForms
   wait-server-done code v is =
       let h : (1 ≤ v) × (v ≤ servers m) = code-there m code v (subst (ProperBlock m) is (proper .block (t .next))) in
       rw (named tables (at + 2) v (high′ code v (h .0) (h .1)) (h .0) (operand m tape tapeBytes tables lists rep (t .next) (placed proper t s sane moving .0) (waitServer code v) is 2 (omega arith)), operand m tape tapeBytes tables lists rep (t .next) (placed proper t s sane moving .0) (waitServer code v) is 1 (omega arith), code-small code, capacity-is m tape tapeBytes tables lists proper rep s sane r t stands v (h .0) (h .1), units-are m tape tapeBytes tables lists proper rep s sane r t stands v (h .0) (h .1), status-is code (Term.serverAt (s .view) v))

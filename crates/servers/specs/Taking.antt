@@ -17,7 +17,7 @@ holdUnits w tally x v units all = withTally (goOn (checkWels w v units all) x) (
 
 -- the QL is longer by one
 unfoldable pub longer : List ℕ → ℕ → List ℕ
-longer tally v = set tally (Layout.qlLength + v) (min (getD tally (Layout.qlLength + v) 0 + 1) 18446744073709551615)
+longer tally v = set tally (Layout.qlLength + v) (min (getD tally (Layout.qlLength + v) 0 + 1) Layout.most64)
 
 unfoldable pub queueUp : List ℕ → List ℕ → Scalars → ℕ → Rows
 queueUp w tally x v = withTally (waitOn w x v) (longer tally v)

@@ -8,7 +8,7 @@ use Rattle.tables.specs.Layout as Layout
 
 -- the server that a block names at an index of the tables
 unfoldable pub serverAt : List ℕ → ℕ → ℕ
-serverAt tables at = getD tables at 0 % 64
+serverAt tables at = getD tables at 0 % Layout.serverCount
 
 abbrev pub inUse : List ℕ → ℕ → ℕ
 inUse tally v = getD tally (Layout.inUse + v) 0

@@ -3,6 +3,8 @@ use Prim.Native.Nat.{ℕ, _+_, _*_, _%_}
 use mathlib.Core.Bool.{Bool, cond}
 use mathlib.Core.List.{List}
 use lib.ListN.{getD}
+use Rattle.tables.specs.Layout.{codeCount}
+use Rattle.rows.specs.Layout.{wels}
 use Rattle.rows.specs.Wake.{wakeFirst}
 use Rattle.state.specs.declared.scalars.Scalars.{Scalars}
 use Rattle.moves.specs.Motion.{Moved, goOn, waitOn}
@@ -17,6 +19,6 @@ waitWhile w x p holds = cond holds (waitOn w x p) (passOn w x p)
 
 unfoldable pub waitServer : List ℕ → List ℕ → List ℕ → Scalars → ℕ → Moved
 waitServer tables w tally x at =
-    let code : ℕ = getD tables (at + 1) 0 % 6 in
+    let code : ℕ = getD tables (at + 1) 0 % codeCount in
     let v : ℕ = serverAt tables (at + 2) in
-    waitWhile w x (64 + (v * 6 + code)) (statusOf code (inUse tally v) (capacity tables v))
+    waitWhile w x (wels + (v * codeCount + code)) (statusOf code (inUse tally v) (capacity tables v))

@@ -4,8 +4,9 @@ use mathlib.Core.Bool.{Bool, cond}
 use mathlib.Core.List.{List}
 use lib.Dec.{ltb, leb, eqb}
 use lib.ListN.{getD, set}
+use Rattle.machine.specs.Limits.{maxBlocks}
 use Rattle.tables.specs.Layout as Layout
-use Rattle.rows.specs.Layout.{nextField}
+use Rattle.rows.specs.Layout.{nextField, wels, rowCount}
 use Rattle.rows.specs.Cells.{load, read}
 use Rattle.rows.specs.Wake.{wakeFirst, passRows, passCell}
 use Rattle.servers.specs.Units.{statusOf}
@@ -14,7 +15,7 @@ use Rattle.servers.specs.Units.{statusOf}
 
 -- the WEL of a server and a code gives its first, if the code is not true
 unfoldable pub checkWel : List ℕ → (v code units all : ℕ) → List ℕ
-checkWel w v code units all = cond (statusOf code units all) w (wakeFirst w (64 + (v * 6 + code)))
+checkWel w v code units all = cond (statusOf code units all) w (wakeFirst w (wels + (v * Layout.codeCount + code)))
 
 unfoldable pub checkFirst : List ℕ → (v units all : ℕ) → List ℕ
 checkFirst w v units all = checkWel (checkWel (checkWel w v 0 units all) v 1 units all) v 2 units all
@@ -37,11 +38,11 @@ unitsAt tables at = cond (eqb (getD tables at 0) 4) 1 (cond (eqb (getD tables at
 
 -- do the units that row k waits for, judged alone, fit?
 unfoldable pub memberFits : List ℕ → ℕ → List ℕ → ℕ → Bool
-memberFits tables free w k = leb (unitsAt tables (8 * ((read w nextField k - 1) % 256))) free
+memberFits tables free w k = leb (unitsAt tables (Layout.blockWidth * ((read w nextField k - 1) % maxBlocks))) free
 
 -- a QL has at most so many
 abbrev pub steps : ℕ
-steps = 1024
+steps = rowCount
 
 abbrev pub oneUnless : Bool → ℕ
 oneUnless fits = cond fits 0 1
@@ -50,4 +51,4 @@ oneUnless fits = cond fits 0 1
 unfoldable pub wakeStays : (List ℕ → ℕ → Bool) → ℕ → List ℕ → ℕ → ℕ → ℕ
 wakeStays test zero w p c = 0
 wakeStays test (suc n) w p c =
-    cond (ltb (load w c) 1024) (oneUnless (test w (load w c)) + wakeStays test n (passRows (test w (load w c)) w p c) p (passCell (test w (load w c)) w c)) 0
+    cond (ltb (load w c) rowCount) (oneUnless (test w (load w c)) + wakeStays test n (passRows (test w (load w c)) w p c) p (passCell (test w (load w c)) w c)) 0

@@ -6,24 +6,29 @@ use crate::units::set_in_use;
 use crate::waking::check_wels;
 use crate::waking::wake_first_ql;
 use crate::waking::wake_ql;
+use machine::ends::NOT_IN_USE;
 use moves::go_on;
 use moves::stop;
 use state::Scalars;
 use state::less64;
+use tables::FIRST;
 use tables::QL_LENGTH;
+use tables::SECOND;
 use tables::number;
 use tables::set_count;
 ghost use mathlib.Core.Path.{_≡_};
 ghost use Prim.Native.Nat.{_+_, _<_, _≤_};
+ghost use Rattle.tables.specs.Layout.{programSize, serverCount};
+ghost use Rattle.rows.specs.Layout.{Room, rowCount};
 ghost use Rattle.moves.specs.Motion.{moved};
 ghost use Rattle.state.specs.Stands.{rowsOf};
 ghost use Rattle.servers.specs.Freeing.{enterFreed, freeOne, freeSome, release, leave};
 
 // It enters, and so many units are in use.
 fn enter_freed(work: &mut [u32], x: Scalars, v: u32, units: u64, capacity: u64) -> Scalars
-    requires { do ⌜ 16384 ≤ (← ⟦work.len()⟧) ⌝ }
-    requires { ⌜ x .moving < 1024 ⌝ }
-    requires { ⌜ v < 64 ⌝ }
+    requires { ⌜ Room (now work) ⌝ }
+    requires { ⌜ x .moving < rowCount ⌝ }
+    requires { ⌜ v < serverCount ⌝ }
     ensures { λ r. ⌜ moved r (now (work .exit)) ≡ enterFreed (now (work .entry)) x v units capacity ⌝ }
 {
     check_wels(work, v, units, capacity);
@@ -38,9 +43,9 @@ fn free_one(
     v: u32,
     units: u64,
 ) -> Scalars
-    requires { do ⌜ 16384 ≤ (← ⟦work.len()⟧) ⌝ }
-    requires { ⌜ x .moving < 1024 ⌝ }
-    requires { ⌜ v < 64 ⌝ }
+    requires { ⌜ Room (now work) ⌝ }
+    requires { ⌜ x .moving < rowCount ⌝ }
+    requires { ⌜ v < serverCount ⌝ }
     ensures { λ r. ⌜ rowsOf r (now (work .exit)) (now (tally .exit)) ≡ freeOne (now (tables .entry)) (now (work .entry)) (now (tally .entry)) x v units ⌝ }
 {
     let all = capacity(tables, v);
@@ -57,9 +62,9 @@ fn free_some(
     v: u32,
     units: u64,
 ) -> Scalars
-    requires { do ⌜ 16384 ≤ (← ⟦work.len()⟧) ⌝ }
-    requires { ⌜ x .moving < 1024 ⌝ }
-    requires { ⌜ v < 64 ⌝ }
+    requires { ⌜ Room (now work) ⌝ }
+    requires { ⌜ x .moving < rowCount ⌝ }
+    requires { ⌜ v < serverCount ⌝ }
     ensures { λ r. ⌜ rowsOf r (now (work .exit)) (now (tally .exit)) ≡ freeSome (now (tables .entry)) (now (work .entry)) (now (tally .entry)) x v units ⌝ }
 {
     let all = capacity(tables, v);
@@ -76,31 +81,31 @@ pub fn release(
     x: Scalars,
     at: usize,
 ) -> Scalars
-    requires { do ⌜ 16384 ≤ (← ⟦work.len()⟧) ⌝ }
-    requires { ⌜ x .moving < 1024 ⌝ }
-    requires { ⌜ at < 2048 ⌝ }
+    requires { ⌜ Room (now work) ⌝ }
+    requires { ⌜ x .moving < rowCount ⌝ }
+    requires { ⌜ at < programSize ⌝ }
     ensures { λ r. ⌜ rowsOf r (now (work .exit)) (now (tally .exit)) ≡ release (now (tables .entry)) (now (work .entry)) (now (tally .entry)) x at ⌝ }
 {
-    let v = server_at(tables, at + 1);
+    let v = server_at(tables, at + FIRST);
     let units = in_use(tally, v);
     if units < 1 {
-        return stop(x, 24);
+        return stop(x, NOT_IN_USE);
     }
     let left = units - 1;
     free_one(tables, work, tally, x, v, left)
 }
 
 pub fn leave(tables: &[u32], work: &mut [u32], tally: &mut [u64], x: Scalars, at: usize) -> Scalars
-    requires { do ⌜ 16384 ≤ (← ⟦work.len()⟧) ⌝ }
-    requires { ⌜ x .moving < 1024 ⌝ }
-    requires { ⌜ at < 2048 ⌝ }
+    requires { ⌜ Room (now work) ⌝ }
+    requires { ⌜ x .moving < rowCount ⌝ }
+    requires { ⌜ at < programSize ⌝ }
     ensures { λ r. ⌜ rowsOf r (now (work .exit)) (now (tally .exit)) ≡ leave (now (tables .entry)) (now (work .entry)) (now (tally .entry)) x at ⌝ }
 {
-    let v = server_at(tables, at + 1);
-    let b = number(tables, at + 2) as u64;
+    let v = server_at(tables, at + FIRST);
+    let b = number(tables, at + SECOND) as u64;
     let units = in_use(tally, v);
     if units < b {
-        return stop(x, 24);
+        return stop(x, NOT_IN_USE);
     }
     free_some(tables, work, tally, x, v, units - b)
 }

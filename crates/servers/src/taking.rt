@@ -9,12 +9,16 @@ use moves::wait_on;
 use state::Scalars;
 use state::less64;
 use state::plus64;
+use tables::FIRST;
 use tables::QL_LENGTH;
+use tables::SECOND;
 use tables::count;
 use tables::number;
 use tables::set_count;
 ghost use mathlib.Core.Path.{_≡_};
 ghost use Prim.Native.Nat.{_+_, _<_, _≤_};
+ghost use Rattle.tables.specs.Layout.{programSize, serverCount};
+ghost use Rattle.rows.specs.Layout.{Room, rowCount};
 ghost use Rattle.state.specs.Stands.{rowsOf};
 ghost use Rattle.servers.specs.Taking.{holdUnits, queueUp, takeUnits, seize, enter};
 
@@ -27,9 +31,9 @@ fn hold_units(
     units: u64,
     capacity: u64,
 ) -> Scalars
-    requires { do ⌜ 16384 ≤ (← ⟦work.len()⟧) ⌝ }
-    requires { ⌜ x .moving < 1024 ⌝ }
-    requires { ⌜ v < 64 ⌝ }
+    requires { ⌜ Room (now work) ⌝ }
+    requires { ⌜ x .moving < rowCount ⌝ }
+    requires { ⌜ v < serverCount ⌝ }
     ensures { λ r. ⌜ rowsOf r (now (work .exit)) (now (tally .exit)) ≡ holdUnits (now (work .entry)) (now (tally .entry)) x v units capacity ⌝ }
 {
     set_in_use(tally, v, units);
@@ -39,9 +43,9 @@ fn hold_units(
 
 // It waits on the QL.
 fn queue_up(work: &mut [u32], tally: &mut [u64], x: Scalars, v: u32) -> Scalars
-    requires { do ⌜ 16384 ≤ (← ⟦work.len()⟧) ⌝ }
-    requires { ⌜ x .moving < 1024 ⌝ }
-    requires { ⌜ v < 64 ⌝ }
+    requires { ⌜ Room (now work) ⌝ }
+    requires { ⌜ x .moving < rowCount ⌝ }
+    requires { ⌜ v < serverCount ⌝ }
     ensures { λ r. ⌜ rowsOf r (now (work .exit)) (now (tally .exit)) ≡ queueUp (now (work .entry)) (now (tally .entry)) x v ⌝ }
 {
     let at = QL_LENGTH + (v as usize);
@@ -58,9 +62,9 @@ fn take_units(
     v: u32,
     b: u64,
 ) -> Scalars
-    requires { do ⌜ 16384 ≤ (← ⟦work.len()⟧) ⌝ }
-    requires { ⌜ x .moving < 1024 ⌝ }
-    requires { ⌜ v < 64 ⌝ }
+    requires { ⌜ Room (now work) ⌝ }
+    requires { ⌜ x .moving < rowCount ⌝ }
+    requires { ⌜ v < serverCount ⌝ }
     ensures { λ r. ⌜ rowsOf r (now (work .exit)) (now (tally .exit)) ≡ takeUnits (now (tables .entry)) (now (work .entry)) (now (tally .entry)) x v b ⌝ }
 {
     let units = in_use(tally, v);
@@ -72,22 +76,22 @@ fn take_units(
 }
 
 pub fn seize(tables: &[u32], work: &mut [u32], tally: &mut [u64], x: Scalars, at: usize) -> Scalars
-    requires { do ⌜ 16384 ≤ (← ⟦work.len()⟧) ⌝ }
-    requires { ⌜ x .moving < 1024 ⌝ }
-    requires { ⌜ at < 2048 ⌝ }
+    requires { ⌜ Room (now work) ⌝ }
+    requires { ⌜ x .moving < rowCount ⌝ }
+    requires { ⌜ at < programSize ⌝ }
     ensures { λ r. ⌜ rowsOf r (now (work .exit)) (now (tally .exit)) ≡ seize (now (tables .entry)) (now (work .entry)) (now (tally .entry)) x at ⌝ }
 {
-    let v = server_at(tables, at + 1);
+    let v = server_at(tables, at + FIRST);
     take_units(tables, work, tally, x, v, 1)
 }
 
 pub fn enter(tables: &[u32], work: &mut [u32], tally: &mut [u64], x: Scalars, at: usize) -> Scalars
-    requires { do ⌜ 16384 ≤ (← ⟦work.len()⟧) ⌝ }
-    requires { ⌜ x .moving < 1024 ⌝ }
-    requires { ⌜ at < 2048 ⌝ }
+    requires { ⌜ Room (now work) ⌝ }
+    requires { ⌜ x .moving < rowCount ⌝ }
+    requires { ⌜ at < programSize ⌝ }
     ensures { λ r. ⌜ rowsOf r (now (work .exit)) (now (tally .exit)) ≡ enter (now (tables .entry)) (now (work .entry)) (now (tally .entry)) x at ⌝ }
 {
-    let v = server_at(tables, at + 1);
-    let b = number(tables, at + 2) as u64;
+    let v = server_at(tables, at + FIRST);
+    let b = number(tables, at + SECOND) as u64;
     take_units(tables, work, tally, x, v, b)
 }

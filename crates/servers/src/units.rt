@@ -6,34 +6,39 @@ use tables::number;
 use tables::set_count;
 ghost use mathlib.Core.Path.{_≡_};
 ghost use Prim.Native.Nat.{_+_, _<_};
+ghost use Rattle.tables.specs.Layout.{serverCount, wordEnd};
 ghost use Rattle.servers.specs.Units.{serverAt, inUse, capacity, setInUse, statusOf};
+
+const SERVERS: u32 = tables::SERVERS as u32;
+
+pub const CODES: u32 = tables::CODES as u32;
 
 // The server that a block names at an index of the tables.
 pub fn server_at(tables: &[u32], at: usize) -> u32
     ensures server { λ r. ⌜ r ≡ serverAt (now (tables .entry)) at ⌝ }
-    ensures small { λ r. ⌜ r < 64 ⌝ }
+    ensures small { λ r. ⌜ r < serverCount ⌝ }
 {
-    number(tables, at) % 64
+    number(tables, at) % SERVERS
 }
 
 pub fn in_use(tally: &[u64], v: u32) -> u64
-    requires { ⌜ v < 64 ⌝ }
+    requires { ⌜ v < serverCount ⌝ }
     ensures { λ r. ⌜ r ≡ inUse (now (tally .entry)) v ⌝ }
 {
     count(tally, IN_USE + (v as usize))
 }
 
 pub fn set_in_use(tally: &mut [u64], v: u32, units: u64)
-    requires { ⌜ v < 64 ⌝ }
+    requires { ⌜ v < serverCount ⌝ }
     ensures { λ _. ⌜ now (tally .exit) ≡ setInUse (now (tally .entry)) v units ⌝ }
 {
     set_count(tally, IN_USE + (v as usize), units);
 }
 
 pub fn capacity(tables: &[u32], v: u32) -> u64
-    requires { ⌜ v < 64 ⌝ }
+    requires { ⌜ v < serverCount ⌝ }
     ensures capacity { λ r. ⌜ r ≡ capacity (now (tables .entry)) v ⌝ }
-    ensures small { λ r. ⌜ r < 4294967296 ⌝ }
+    ensures small { λ r. ⌜ r < wordEnd ⌝ }
 {
     number(tables, CAPACITIES + (v as usize)) as u64
 }

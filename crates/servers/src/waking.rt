@@ -1,37 +1,50 @@
 // Whom a change of a server's units wakes: the first of its QL or all that fit, and the first of each WEL whose code is not true.
+use crate::units::CODES;
 use crate::units::status;
+use machine::Model;
+use machine::kinds::ENTER;
+use machine::kinds::SEIZE;
+use rows::HEADS;
+use rows::NEXT;
+use rows::ROWS;
+use rows::WELS;
 use rows::cells::load;
 use rows::cells::read;
 use rows::wake::pass;
 use rows::wake::wake_first;
 use state::less32;
 use state::less64;
+use tables::BLOCK_WIDTH;
 use tables::QL_LENGTH;
+use tables::SECOND;
 use tables::count;
 use tables::number;
 use tables::set_count;
 ghost use mathlib.Core.Path.{_≡_};
 ghost use Prim.Native.Nat.{_+_, _<_, _≤_};
-ghost use Rattle.rows.specs.Layout.{head};
+ghost use Rattle.tables.specs.Layout.{codeCount, programSize, serverCount};
+ghost use Rattle.rows.specs.Layout.{head, Room, rowCount};
 ghost use Rattle.rows.specs.Wake.{wakeAll, wakeFirst};
 ghost use Rattle.servers.specs.Waking.{checkWel, checkFirst, checkLast, checkWels, shorter, unitsAt, memberFits, steps, oneUnless, wakeStays};
 
+const BLOCKS: u32 = Model::MAX_BLOCKS as u32;
+
 // The WEL of a server and a code gives its first, if the code is not true.
 fn check_wel(work: &mut [u32], v: u32, code: u32, units: u64, capacity: u64)
-    requires { do ⌜ 16384 ≤ (← ⟦work.len()⟧) ⌝ }
-    requires { ⌜ v < 64 ⌝ }
-    requires { ⌜ code < 6 ⌝ }
+    requires { ⌜ Room (now work) ⌝ }
+    requires { ⌜ v < serverCount ⌝ }
+    requires { ⌜ code < codeCount ⌝ }
     ensures { λ _. ⌜ now (work .exit) ≡ checkWel (now (work .entry)) v code units capacity ⌝ }
 {
     if status(code, units, capacity) {
         return;
     }
-    wake_first(work, 64 + (v * 6 + code));
+    wake_first(work, WELS + (v * CODES + code));
 }
 
 fn check_first(work: &mut [u32], v: u32, units: u64, capacity: u64)
-    requires { do ⌜ 16384 ≤ (← ⟦work.len()⟧) ⌝ }
-    requires { ⌜ v < 64 ⌝ }
+    requires { ⌜ Room (now work) ⌝ }
+    requires { ⌜ v < serverCount ⌝ }
     ensures { λ _. ⌜ now (work .exit) ≡ checkFirst (now (work .entry)) v units capacity ⌝ }
 {
     check_wel(work, v, 0, units, capacity);
@@ -40,8 +53,8 @@ fn check_first(work: &mut [u32], v: u32, units: u64, capacity: u64)
 }
 
 fn check_last(work: &mut [u32], v: u32, units: u64, capacity: u64)
-    requires { do ⌜ 16384 ≤ (← ⟦work.len()⟧) ⌝ }
-    requires { ⌜ v < 64 ⌝ }
+    requires { ⌜ Room (now work) ⌝ }
+    requires { ⌜ v < serverCount ⌝ }
     ensures { λ _. ⌜ now (work .exit) ≡ checkLast (now (work .entry)) v units capacity ⌝ }
 {
     check_wel(work, v, 3, units, capacity);
@@ -51,8 +64,8 @@ fn check_last(work: &mut [u32], v: u32, units: u64, capacity: u64)
 
 // "After blocks 4 to 7 enter, each WEL of that server whose code is not true gives its first to REL."
 pub fn check_wels(work: &mut [u32], v: u32, units: u64, capacity: u64)
-    requires { do ⌜ 16384 ≤ (← ⟦work.len()⟧) ⌝ }
-    requires { ⌜ v < 64 ⌝ }
+    requires { ⌜ Room (now work) ⌝ }
+    requires { ⌜ v < serverCount ⌝ }
     ensures { λ _. ⌜ now (work .exit) ≡ checkWels (now (work .entry)) v units capacity ⌝ }
 {
     check_first(work, v, units, capacity);
@@ -61,8 +74,8 @@ pub fn check_wels(work: &mut [u32], v: u32, units: u64, capacity: u64)
 
 // The first of the QL goes to REL.
 pub fn wake_first_ql(work: &mut [u32], tally: &mut [u64], v: u32)
-    requires { do ⌜ 16384 ≤ (← ⟦work.len()⟧) ⌝ }
-    requires { ⌜ v < 64 ⌝ }
+    requires { ⌜ Room (now work) ⌝ }
+    requires { ⌜ v < serverCount ⌝ }
     ensures rows { λ _. ⌜ now (work .exit) ≡ wakeFirst (now (work .entry)) v ⌝ }
     ensures lengths { λ _. ⌜ now (tally .exit) ≡ shorter (now (tally .entry)) v ⌝ }
 {
@@ -74,26 +87,26 @@ pub fn wake_first_ql(work: &mut [u32], tally: &mut [u64], v: u32)
 
 // The units that the block at an index of the tables takes: one for a SEIZE, 0 for a block that takes none.
 fn units_at(tables: &[u32], at: usize) -> u64
-    requires { ⌜ at < 2048 ⌝ }
+    requires { ⌜ at < programSize ⌝ }
     ensures { λ r. ⌜ r ≡ unitsAt (now (tables .entry)) at ⌝ }
 {
     let kind = number(tables, at);
-    if kind == 4 {
+    if kind == SEIZE {
         return 1;
     }
-    if kind == 6 {
-        return number(tables, at + 2) as u64;
+    if kind == ENTER {
+        return number(tables, at + SECOND) as u64;
     }
     0
 }
 
 // Do the units that row k waits for, judged alone, fit?
 fn member_fits(tables: &[u32], work: &[u32], k: u32, free: u64) -> bool
-    requires { ⌜ k < 1024 ⌝ }
+    requires { ⌜ k < rowCount ⌝ }
     ensures { λ r. ⌜ r ≡ memberFits (now (tables .entry)) free (now (work .entry)) k ⌝ }
 {
-    let block = less32(read(work, 6, k), 1) % 256;
-    units_at(tables, 8 * (block as usize)) <= free
+    let block = less32(read(work, NEXT, k), 1) % BLOCKS;
+    units_at(tables, BLOCK_WIDTH * (block as usize)) <= free
 }
 
 fn one_unless(fits: bool) -> u64
@@ -108,17 +121,17 @@ fn one_unless(fits: bool) -> u64
 
 // All of the QL whose units fit go to REL; the answer is how many stay.
 pub fn wake_ql(tables: &[u32], work: &mut [u32], v: u32, free: u64) -> u64
-    requires { do ⌜ 16384 ≤ (← ⟦work.len()⟧) ⌝ }
-    requires { ⌜ v < 64 ⌝ }
+    requires { ⌜ Room (now work) ⌝ }
+    requires { ⌜ v < serverCount ⌝ }
     ensures rows { λ _. ⌜ now (work .exit) ≡ wakeAll (memberFits (now (tables .entry)) free) steps (now (work .entry)) v (head v) ⌝ }
     ensures stays { λ r. ⌜ r ≡ wakeStays (memberFits (now (tables .entry)) free) steps (now (work .entry)) v (head v) ⌝ }
 {
-    let mut c = 15360 + v;
+    let mut c = HEADS + v;
     let mut stay: u64 = 0;
     let mut i: u32 = 0;
-    while i < 1024 {
+    while i < ROWS {
         let k = load(work, c);
-        if k >= 1024 {
+        if k >= ROWS {
             return stay;
         }
         let fits = member_fits(tables, work, k, free);

@@ -73,7 +73,7 @@ unfolding startAt
 blocks-moving [] n s = refl
 blocks-moving (b ∷ l) n s =
     blocks-moving l (suc n) (startOf b n s)
-    ∙ startOf-cases (λ (s′ : State). s′ .moving ≡ s .moving) b n s (λ e. refl) (λ list p e. arrival-moving _ list p n s)
+    ∙ startOf-cases (λ (s′ : State). s′ .moving ≡ s .moving) b n s (λ e. refl) (λ e. arrival-moving _ _ _ n s)
 
 pub start-moving : (m : BlockModel) (times : List (List ℕ)) → start m times .moving ≡ none
 unfolding start idle

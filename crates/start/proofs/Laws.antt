@@ -9,18 +9,19 @@ use borrow.Author.Tests.{ne-eqb}
 use lib.Dec.{eqb, ltb}
 use lib.ListN.{length, getD, replicate, length-set}
 use Rattle.machine.specs.Transaction.{Transaction}
-use Rattle.machine.specs.Block.{Block, generate, advance, terminate, seize, release, enter, leave, waitServer, waitTerms, branch, goto, assign, priority, split, arrive, depart, BlockModel, blockAt}
+use Rattle.machine.specs.Block.{Block, generate, facility, storage, facts, BlockModel, blockAt, terminate}
 use Rattle.machine.specs.State.{State}
 use Rattle.machine.specs.Moves as Moves
 use Rattle.machine.specs.Run.{startOf, startAt, idle, start}
 use Rattle.machine.proofs.Proper.{Names, ProperBlock, Proper}
+use Rattle.tables.specs.Forms.{blockForms}
 use Rattle.tables.specs.Numbers.{blockNumbers}
 use Rattle.tables.specs.Represents.{headerOf, Represents}
 use Rattle.rows.specs.Make.{initial}
 use Rattle.rows.specs.Living.{onLists}
 use Rattle.rows.specs.Shows.{Shows}
 use Rattle.rows.proofs.Sums.{sum-zero}
-use Rattle.rows.proofs.Showing.{shown-ext}
+use Rattle.rows.proofs.Ordering.{shows-ext}
 use Rattle.rows.proofs.Starting.{initial-shows, initial-loose}
 use Rattle.rows.proofs.Population.{population}
 use Rattle.state.specs.Stands.{Rows, rowsOf, listsOf, Listing, Counting, Stands}
@@ -32,6 +33,7 @@ use Rattle.tables.proofs.Operands.{operand}
 use Rattle.flow.proofs.Drawing.{drawn-most}
 use Rattle.flow.proofs.Arrival.{arrives-stands}
 use Rattle.start.proofs.Tally.{same-at, idle-tallying}
+use Rattle.tables.proofs.BlockKinds.{Kinds, generating, taking, waiting, arriving, other, kinds, unasked}
 
 -- ---- Before the first block: nobody lives
 
@@ -58,7 +60,7 @@ module _ (m : BlockModel) (tape : List (List ℕ)) where
     unfolding idle
     idle-listing =
         record {
-          shows = record { rows = begun .rows; shown = shown-ext (initial w) (begun .rows) (λ p. []) (listsOf (idle m tape)) [] no-lists (begun .shown) };
+          shows = shows-ext (initial w) (λ p. []) (listsOf (idle m tape)) [] [] no-lists refl begun;
           mover = refl;
           spare = omega (arith, population (initial w) (begun .rows) (λ p. []) [] (begun .shown), nobody, initial-loose w room);
         }
@@ -84,23 +86,20 @@ data Begins (b : Block) : Type 0 where
   passes : 0 < length (blockNumbers b) → eqb (getD (blockNumbers b) 0 0) 1 ≡ false → ((n : ℕ) (s : State) → startOf b n s ≡ s) → Begins b
 
 begins : (b : Block) → Begins b
-unfolding blockNumbers startOf
-begins (generate list p) = makes list p refl
-begins (advance list) = passes (omega arith) refl (λ n s. refl)
-begins (terminate a) = passes (omega arith) refl (λ n s. refl)
-begins (seize v) = passes (omega arith) refl (λ n s. refl)
-begins (release v) = passes (omega arith) refl (λ n s. refl)
-begins (enter v b) = passes (omega arith) refl (λ n s. refl)
-begins (leave v b) = passes (omega arith) refl (λ n s. refl)
-begins (waitServer code v) = passes (omega arith) refl (λ n s. refl)
-begins (waitTerms a r b) = passes (omega arith) refl (λ n s. refl)
-begins (branch a r b target) = passes (omega arith) refl (λ n s. refl)
-begins (goto target) = passes (omega arith) refl (λ n s. refl)
-begins (assign k a) = passes (omega arith) refl (λ n s. refl)
-begins (priority p) = passes (omega arith) refl (λ n s. refl)
-begins (split k target) = passes (omega arith) refl (λ n s. refl)
-begins (arrive q) = passes (omega arith) refl (λ n s. refl)
-begins (depart q) = passes (omega arith) refl (λ n s. refl)
+begins b = go (kinds b)
+  where
+    past : {c : Block} → b ≡ c → Begins c → Begins b
+    past e h = subst Begins (sym e) h
+
+    go : Kinds b → Begins b
+    go (generating list p e) = makes list p e
+    go (taking (facility v) e) = past e (unfold startOf blockForms in passes (omega arith) refl (λ n s. refl))
+    go (taking (storage v n) e) = past e (unfold startOf blockForms in passes (omega arith) refl (λ n s. refl))
+    go (waiting a r c e) = past e (unfold startOf blockForms in passes (omega arith) refl (λ n s. refl))
+    go (arriving q e) = past e (unfold startOf blockForms in passes (omega arith) refl (λ n s. refl))
+    go (other kind rest e f g) =
+        passes (omega (arith, ap length e)) (rw e (unasked kind f .no-generate))
+        (λ n s. unfold startOf in rw (ap (λ x. x .generates) g))
 
 -- of the states of the start, before block b (from 0): at most one transaction was made for each block
 record Beginning (lists b : ℕ) (s : State) : Type 0 where
@@ -153,15 +152,15 @@ module _ (m : BlockModel) (tape : List (List ℕ)) (tapeBytes tables lists : Lis
       there = omega (arith, named .0 .1, h .beginning .samples)
 
       kind-is : getD tables (8 * b) 0 ≡ 1
-      unfolding blockNumbers
+      unfolding blockForms
       kind-is = ap (λ (n : ℕ). getD tables n 0) (omega arith) ∙ number (generate list p) is 0 (omega arith)
 
       list-is : getD tables (8 * b + 1) 0 ≡ list - 1
-      unfolding blockNumbers
+      unfolding blockForms
       list-is = number (generate list p) is 1 (omega arith)
 
       priority-is : getD tables (8 * b + 2) 0 ≡ p
-      unfolding blockNumbers
+      unfolding blockForms
       priority-is = number (generate list p) is 2 (omega arith)
 
       left-cell : getD (r .tally) (944 + (list - 1)) 0 ≡ length (Moves.timesLeft s list)
@@ -194,9 +193,9 @@ module _ (m : BlockModel) (tape : List (List ℕ)) (tapeBytes tables lists : Lis
     -- another kind
     passed : (x : Block) → blockAt m (suc b) ≡ x → 0 < length (blockNumbers x) → eqb (getD (blockNumbers x) 0 0) 1 ≡ false → beginBlock tables tapeBytes r b ≡ r
     unfolding beginBlock
-    passed x is some-number other =
+    passed x is some-number unlike =
         let e : getD tables (8 * b) 0 ≡ getD (blockNumbers x) 0 0 = ap (λ (n : ℕ). getD tables n 0) (omega arith) ∙ number x is 0 some-number in
-        rw (e, other)
+        rw (e, unlike)
 
     -- one block more
     later : Beginning (m .lists) (suc b) s
@@ -210,14 +209,15 @@ module _ (m : BlockModel) (tape : List (List ℕ)) (tapeBytes tables lists : Lis
         }
 
     block-stands : (x : Block) → blockAt m (suc b) ≡ x → Stood (suc b) (beginBlock tables tapeBytes r b) (startOf x (suc b) s)
-    unfolding startOf
+    unfolding startOf facts
     block-stands x is = go (begins x)
       where
         go : Begins x → Stood (suc b) (beginBlock tables tapeBytes r b) (startOf x (suc b) s)
         go (makes list p e) =
-            rw e (record { stands = made list p (is ∙ e); beginning = arrival-beginning (m .lists) b list p (suc b) s (h .beginning) (Moves.timesLeft s list) })
-        go (passes some-number other same) =
-            rw (same (suc b) s, passed x is some-number other) (record { stands = h .stands; beginning = later })
+            let list-named : 1 ≤ list = subst (ProperBlock m) (is ∙ e) (proper .block (suc b)) .0 .0 in
+            rw (e, ne-eqb list 0 (λ z. omega (arith, list-named))) (record { stands = made list p (is ∙ e); beginning = arrival-beginning (m .lists) b list p (suc b) s (h .beginning) (Moves.timesLeft s list) })
+        go (passes some-number unlike same) =
+            rw (same (suc b) s, passed x is some-number unlike) (record { stands = h .stands; beginning = later })
 
   -- ---- All blocks
 

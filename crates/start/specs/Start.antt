@@ -4,8 +4,10 @@ use mathlib.Core.Bool.{cond}
 use mathlib.Core.List.{List}
 use lib.Dec.{eqb}
 use lib.ListN.{getD, set}
+use Rattle.machine.specs.Limits.{maxBlocks, maxLists}
+use Rattle.rows.specs.Layout.{rowCount}
 use Rattle.machine.specs.declared.model.Model.{Model}
-use Rattle.tables.specs.Layout.{listAt, listLeft}
+use Rattle.tables.specs.Layout.{listAt, listLeft, listCounts, most32, blockWidth}
 use Rattle.rows.specs.Make.{initial}
 use Rattle.state.specs.declared.scalars.Scalars.{Scalars}
 use Rattle.state.specs.Stands.{Rows, rowsOf}
@@ -15,7 +17,7 @@ use Rattle.flow.specs.Sending.{arrives}
 -- ---- Tally: where each list begins and how many times it has
 
 unfoldable pub listSet : List ℕ → List ℕ → ℕ → List ℕ
-listSet lists tally l = set (set tally (listAt + l) (getD lists l 0)) (listLeft + l) (getD lists (16 + l) 0)
+listSet lists tally l = set (set tally (listAt + l) (getD lists l 0)) (listLeft + l) (getD lists (listCounts + l) 0)
 
 unfoldable pub listsSet : ℕ → List ℕ → List ℕ → List ℕ
 listsSet zero lists tally = tally
@@ -27,8 +29,8 @@ unfoldable pub startScalars : ℕ → Scalars
 startScalars counter =
     record {
       clock = 0;
-      counter = min counter 4294967295;
-      moving = 1024;
+      counter = min counter most32;
+      moving = rowCount;
       serial = 0;
       made = 0;
       ended = 0;
@@ -42,11 +44,11 @@ startScalars counter =
 
 unfoldable pub beginList : (tables tape : List ℕ) → Rows → ℕ → Rows
 beginList tables tape r b =
-    cond (eqb (getD (r .tally) (listLeft + getD tables (8 * b + 1) 0) 0) 0) r
-    (arrives (r .work) (r .tally) (r .scalars) (nextSample tape (r .tally) (getD tables (8 * b + 1) 0)) (getD tables (8 * b + 1) 0) (getD tables (8 * b + 2) 0) (b + 1))
+    cond (eqb (getD (r .tally) (listLeft + getD tables (blockWidth * b + 1) 0) 0) 0) r
+    (arrives (r .work) (r .tally) (r .scalars) (nextSample tape (r .tally) (getD tables (blockWidth * b + 1) 0)) (getD tables (blockWidth * b + 1) 0) (getD tables (blockWidth * b + 2) 0) (b + 1))
 
 unfoldable pub beginBlock : (tables tape : List ℕ) → Rows → ℕ → Rows
-beginBlock tables tape r b = cond (eqb (getD tables (8 * b) 0) 1) (beginList tables tape r b) r
+beginBlock tables tape r b = cond (eqb (getD tables (blockWidth * b) 0) 1) (beginList tables tape r b) r
 
 -- n blocks from block b on
 unfoldable pub beginBlocks : ℕ → (tables tape : List ℕ) → Rows → ℕ → Rows
@@ -55,4 +57,4 @@ beginBlocks (suc n) tables tape r b = beginBlocks n tables tape (beginBlock tabl
 
 unfoldable pub startRows : Model → (tables tape lists : List ℕ) → List ℕ → List ℕ → Rows
 startRows model tables tape lists w tally =
-    beginBlocks (min (model .blocks) 256) tables tape (rowsOf (startScalars (model .counter)) (initial w) (listsSet 16 lists tally)) 0
+    beginBlocks (min (model .blocks) maxBlocks) tables tape (rowsOf (startScalars (model .counter)) (initial w) (listsSet maxLists lists tally)) 0

@@ -4,44 +4,57 @@ use flow::arrives;
 use flow::next_sample;
 use flow::times_left;
 use machine::Model;
+use machine::kinds::GENERATE;
 use rows::make::initialise;
+use state::ENTERED;
+use state::NOBODY;
 use state::Scalars;
+use tables::BLOCK_WIDTH;
+use tables::FIRST;
 use tables::LIST_AT;
+use tables::LIST_COUNTS;
 use tables::LIST_LEFT;
+use tables::SECOND;
 use tables::count;
 use tables::number;
 use tables::set_count;
 ghost use mathlib.Core.Path.{_≡_};
 ghost use Prim.Native.Nat.{_<_, _≤_, min};
+ghost use Rattle.machine.specs.Limits.{maxBlocks, maxLists};
+ghost use Rattle.tables.specs.Layout.{most32};
+ghost use Rattle.rows.specs.Layout.{Room};
 ghost use Rattle.state.specs.Stands.{rowsOf};
 ghost use Rattle.start.specs.Start.{listSet, listsSet, startScalars, beginList, beginBlock, beginBlocks, startRows};
 
 // Where list l begins and how many times it has.
 fn set_list(lists: &[u64], tally: &mut [u64], l: usize)
-    requires { ⌜ l < 16 ⌝ }
+    requires { ⌜ l < maxLists ⌝ }
     ensures { λ _. ⌜ now (tally .exit) ≡ listSet (now (lists .entry)) (now (tally .entry)) l ⌝ }
 {
     set_count(tally, LIST_AT + l, count(lists, l));
-    set_count(tally, LIST_LEFT + l, count(lists, 16 + l));
+    set_count(tally, LIST_LEFT + l, count(lists, LIST_COUNTS + l));
 }
 
 fn set_lists(lists: &[u64], tally: &mut [u64])
-    ensures { λ _. ⌜ now (tally .exit) ≡ listsSet 16 (now (lists .entry)) (now (tally .entry)) ⌝ }
+    ensures { λ _. ⌜ now (tally .exit) ≡ listsSet maxLists (now (lists .entry)) (now (tally .entry)) ⌝ }
 {
     let mut l: usize = 0;
-    while l < 16 {
+    while l < Model::MAX_LISTS {
         set_list(lists, tally, l);
         l += 1;
     }
 }
 
+// the largest number of 32 bits
+const MOST: usize = u32::MAX as usize;
+
 fn narrow(n: usize) -> u32
-    ensures { λ r. ⌜ r ≡ min n 4294967295 ⌝ }
+    ensures { λ r. ⌜ r ≡ min n most32 ⌝ }
 {
-    if n <= 4_294_967_295 {
+    if n <= MOST {
         return n as u32;
     }
-    4_294_967_295
+    u32::MAX
 }
 
 fn begin_scalars(counter: usize) -> Scalars
@@ -51,14 +64,14 @@ fn begin_scalars(counter: usize) -> Scalars
     Scalars {
         clock: 0,
         counter: c,
-        moving: 1024,
+        moving: NOBODY,
         serial: 0,
         made: 0,
         ended: 0,
         turns: 0,
         used: 0,
         end: 0,
-        note: 0,
+        note: ENTERED,
     }
 }
 
@@ -71,15 +84,15 @@ fn begin_list(
     x: Scalars,
     b: usize,
 ) -> Scalars
-    requires { do ⌜ 16384 ≤ (← ⟦work.len()⟧) ⌝ }
-    requires { ⌜ b < 256 ⌝ }
+    requires { ⌜ Room (now work) ⌝ }
+    requires { ⌜ b < maxBlocks ⌝ }
     ensures { λ r. ⌜ rowsOf r (now (work .exit)) (now (tally .exit)) ≡ beginList (now (tables .entry)) (now (tape .entry)) (rowsOf x (now (work .entry)) (now (tally .entry))) b ⌝ }
 {
-    let list = number(tables, 8 * b + 1);
+    let list = number(tables, BLOCK_WIDTH * b + FIRST);
     if times_left(tally, list) == 0 {
         return x;
     }
-    let priority = number(tables, 8 * b + 2);
+    let priority = number(tables, BLOCK_WIDTH * b + SECOND);
     let sample = next_sample(tape, tally, list);
     arrives(work, tally, x, sample, list, priority, (b + 1) as u32)
 }
@@ -92,11 +105,11 @@ fn begin_block(
     x: Scalars,
     b: usize,
 ) -> Scalars
-    requires { do ⌜ 16384 ≤ (← ⟦work.len()⟧) ⌝ }
-    requires { ⌜ b < 256 ⌝ }
+    requires { ⌜ Room (now work) ⌝ }
+    requires { ⌜ b < maxBlocks ⌝ }
     ensures { λ r. ⌜ rowsOf r (now (work .exit)) (now (tally .exit)) ≡ beginBlock (now (tables .entry)) (now (tape .entry)) (rowsOf x (now (work .entry)) (now (tally .entry))) b ⌝ }
 {
-    if number(tables, 8 * b) != 1 {
+    if number(tables, BLOCK_WIDTH * b) != GENERATE {
         return x;
     }
     begin_list(tables, tape, work, tally, x, b)
@@ -110,8 +123,8 @@ fn begin_blocks(
     x: Scalars,
     blocks: usize,
 ) -> Scalars
-    requires { do ⌜ 16384 ≤ (← ⟦work.len()⟧) ⌝ }
-    requires { ⌜ blocks ≤ 256 ⌝ }
+    requires { ⌜ Room (now work) ⌝ }
+    requires { ⌜ blocks ≤ maxBlocks ⌝ }
     ensures { λ r. ⌜ rowsOf r (now (work .exit)) (now (tally .exit)) ≡ beginBlocks blocks (now (tables .entry)) (now (tape .entry)) (rowsOf x (now (work .entry)) (now (tally .entry))) 0 ⌝ }
 {
     let mut y = x;
@@ -123,17 +136,17 @@ fn begin_blocks(
     y
 }
 
-// At most 256 blocks.
+// No more blocks than a model may have.
 fn few(blocks: usize) -> usize
-    ensures { λ r. ⌜ r ≡ min blocks 256 ⌝ }
+    ensures { λ r. ⌜ r ≡ min blocks maxBlocks ⌝ }
 {
-    if blocks <= 256 {
+    if blocks <= Model::MAX_BLOCKS {
         return blocks;
     }
-    256
+    Model::MAX_BLOCKS
 }
 
-// `lists` is what decoding leaves: where list l begins in the tape, at l, and how many times it has, at 16 + l.
+// `lists` is what decoding leaves: where list l begins in the tape, at l, and how many times it has, at LIST_COUNTS + l.
 pub fn begin(
     model: Model,
     tables: &[u32],
@@ -142,7 +155,7 @@ pub fn begin(
     work: &mut [u32],
     tally: &mut [u64],
 ) -> Scalars
-    requires { do ⌜ 16384 ≤ (← ⟦work.len()⟧) ⌝ }
+    requires { ⌜ Room (now work) ⌝ }
     ensures { λ r. ⌜ rowsOf r (now (work .exit)) (now (tally .exit)) ≡ startRows model (now (tables .entry)) (now (tape .entry)) (now (lists .entry)) (now (work .entry)) (now (tally .entry)) ⌝ }
 {
     initialise(work);

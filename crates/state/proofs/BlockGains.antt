@@ -8,16 +8,18 @@ use borrow.Author.Tests.{leb-true}
 use lib.Dec.{leb}
 use lib.ListN.{getD, set, drop}
 use lib.Seq.{map-set-same, getD-drop}
+use Rattle.machine.specs.Rules.{inForce}
 use Rattle.machine.specs.Limits.{maxLiving, maxTime}
 use Rattle.machine.specs.Transaction.{Transaction, Event, earlier}
 use Rattle.machine.specs.Lists.{insert, nth}
 use Rattle.machine.specs.Term.{Queue, emptyQueue, serverAt, queueAt, idleServer, free, compare}
-use Rattle.machine.specs.Block.{Code, Block, generate, advance, terminate, seize, release, enter, leave, waitServer, waitTerms, branch, goto, assign, priority, split, arrive, depart, BlockModel, status}
+use Rattle.machine.specs.Block.{Code, Share, facility, storage, shareServer, shareUnits, Change, up, down, Block, generate, advance, terminate, takes, frees, waitServer, waitTerms, moves, assign, priority, split, counts, BlockModel, status}
 use Rattle.machine.specs.State.{State}
 use Rattle.machine.specs.Setters.{withSerial, setSerial}
 use Rattle.machine.specs.Moves.{moveTo, fresh, toRel, toFel, toQl, toWel, toWsl, wakeFirstQl, wakeQl, wakeFirstWel, wakeWsl, setInUse, setContent, timesLeft, arrival, copies}
-use Rattle.machine.specs.Execute.{unless, living, askGenerate, question, checkWels, endsOne, delay}
+use Rattle.machine.specs.Execute.{unless, living, askGenerate, question, checkWels, endsOne, delay, wakeFor, changed}
 use Rattle.machine.specs.Turn.{wsScheme}
+use Rattle.machine.proofs.Kept.{changed-most}
 use Rattle.machine.proofs.Proper.{ProperBlock}
 use Rattle.machine.proofs.RunLaws.{cond-cases}
 use Rattle.machine.proofs.Shape.{each-getD}
@@ -30,10 +32,10 @@ use Rattle.state.proofs.Gains.{each-set, rising-insert, serverSums, que
 -- ---- Moves that leave servers, queues and times
 
 -- moves that change counts only: servers, queues, samples and the FEL stay
-counts : (j k : ℕ) (s s′ : State) → s′ .view ≡ s .view → s′ .samples ≡ s .samples → s′ .fel ≡ s .fel → s′ .turns ≡ s .turns → s′ .records ≡ s .records
+same-counts : (j k : ℕ) (s s′ : State) → s′ .view ≡ s .view → s′ .samples ≡ s .samples → s′ .fel ≡ s .fel → s′ .turns ≡ s .turns → s′ .records ≡ s .records
     → s′ .written ≡ s .written → s′ .counter ≤ s .counter → s′ .made ≤ s .made + j → s .ended ≤ s′ .ended → s′ .made + s .serial ≤ s′ .serial + s .made
     → s′ .serial ≤ s .serial + k → Gains j k 0 s s′
-counts j k s s′ view samples fel turns records written counter made ended pace serials =
+same-counts j k s s′ view samples fel turns records written counter made ended pace serials =
     record {
       clock = ap (λ w. w .clock) view;
       turns = turns;
@@ -45,7 +47,7 @@ counts j k s s′ view samples fel turns records written counter made ended pace
       ended = ended;
       pace = pace;
       serials = serials;
-      samples = λ h list i. subst (λ (l : List (List ℕ)). getD (nth l list []) i 0 ≤ maxTime) (sym samples) (h list i);
+      samples = λ h list i. subst (λ (l : List (List ℕ)). getD (nth l list []) i 0 ≤ inForce .maxTime) (sym samples) (h list i);
       ahead = λ h. record { later = rw (fel, view) (h .later); rising = rw fel (h .rising) };
       servers = ap (λ w. map serverSums (w .servers)) view;
       queues = ap (λ w. map queueSums (w .queues)) view;
@@ -56,7 +58,7 @@ counts j k s s′ view samples fel turns records written counter made ended pace
 pub still : (s s′ : State) → s′ .view ≡ s .view → s′ .counter ≡ s .counter → s′ .samples ≡ s .samples → s′ .fel ≡ s .fel → s′ .serial ≡ s .serial
     → s′ .made ≡ s .made → s′ .ended ≡ s .ended → s′ .turns ≡ s .turns → s′ .records ≡ s .records → s′ .written ≡ s .written → Gains 0 0 0 s s′
 still s s′ view counter samples fel serial made ended turns records written =
-    counts 0 0 s s′ view samples fel turns records written (omega arith) (omega arith) (omega arith) (omega arith) (omega arith)
+    same-counts 0 0 s s′ view samples fel turns records written (omega arith) (omega arith) (omega arith) (omega arith) (omega arith)
 
 pub gains-none : (s : State) → Gains 0 0 0 s s
 gains-none s = still s s refl refl refl refl refl refl refl refl refl refl
@@ -134,19 +136,19 @@ gains-content q c f le s =
 gains-endsOne : (a : ℕ) (s : State) → Gains 0 0 0 s (endsOne a s)
 unfolding endsOne
 gains-endsOne a s =
-    counts 0 0 s _ refl refl refl refl refl refl (omega arith) (omega arith) (omega arith) (omega arith) (omega arith)
+    same-counts 0 0 s _ refl refl refl refl refl refl (omega arith) (omega arith) (omega arith) (omega arith) (omega arith)
 
 -- ---- Serials, times and making
 
 pub gains-toRel : (t : Transaction) (s : State) → Gains 0 1 0 s (toRel t s)
 unfolding toRel
 gains-toRel t s =
-    counts 0 1 s _ refl refl refl refl refl refl (omega arith) (omega arith) (omega arith) (omega arith) (omega arith)
+    same-counts 0 1 s _ refl refl refl refl refl refl (omega arith) (omega arith) (omega arith) (omega arith) (omega arith)
 
-used-samples : (list : ℕ) (s : State) → Samples s → (k i : ℕ) → getD (nth (set (s .samples) (list - 1) (drop 1 (timesLeft s list))) k []) i 0 ≤ maxTime
+used-samples : (list : ℕ) (s : State) → Samples (inForce .maxTime) s → (k i : ℕ) → getD (nth (set (s .samples) (list - 1) (drop 1 (timesLeft s list))) k []) i 0 ≤ inForce .maxTime
 used-samples list s h k i =
-    at-set (λ (q : List ℕ). getD q i 0 ≤ maxTime) (s .samples) (list - 1) (k - 1) _ []
-    (λ e. subst (λ (x : ℕ). x ≤ maxTime) (sym (getD-drop 1 (timesLeft s list) i 0)) (h list (1 + i))) (h k i)
+    at-set (λ (q : List ℕ). getD q i 0 ≤ inForce .maxTime) (s .samples) (list - 1) (k - 1) _ []
+    (λ e. subst (λ (x : ℕ). x ≤ inForce .maxTime) (sym (getD-drop 1 (timesLeft s list) i 0)) (h list (1 + i))) (h k i)
 
 -- an event comes onto the FEL at or past the clock, with the time of a list used
 timed : (j list : ℕ) (x : Event) (s s′ : State) → s′ .view ≡ s .view → s′ .samples ≡ set (s .samples) (list - 1) (drop 1 (timesLeft s list))
@@ -164,7 +166,7 @@ timed j list x s s′ view samples fel late turns records written counter ended 
       ended = omega arith;
       pace = omega arith;
       serials = omega arith;
-      samples = λ h k i. subst (λ (l : List (List ℕ)). getD (nth l k []) i 0 ≤ maxTime) (sym samples) (used-samples list s h k i);
+      samples = λ h k i. subst (λ (l : List (List ℕ)). getD (nth l k []) i 0 ≤ inForce .maxTime) (sym samples) (used-samples list s h k i);
       ahead = λ h.
           record {
             later = rw (fel, view) (each-insert (λ (e : Event). s .view .clock ≤ e .time) earlier x (s .fel) late (h .later));
@@ -192,14 +194,14 @@ unfolding copies toRel
 gains-copies zero target t s = gains-none s
 gains-copies (suc n) target t s =
     gains-most (suc n) (suc n) 0 (omega arith) (omega arith) (omega arith)
-    (gains-trans (counts 1 1 s _ refl refl refl refl refl refl (omega arith) (omega arith) (omega arith) (omega arith) (omega arith))
+    (gains-trans (same-counts 1 1 s _ refl refl refl refl refl refl (omega arith) (omega arith) (omega arith) (omega arith) (omega arith))
     (gains-copies n target t _))
 
 -- ---- Waiting
 
 gains-fresh : (s : State) → Gains 0 1 0 s (setSerial (fresh s) s)
 gains-fresh s =
-    counts 0 1 s _ refl refl refl refl refl refl (omega arith) (omega arith) (omega arith) (omega arith) (omega arith)
+    same-counts 0 1 s _ refl refl refl refl refl refl (omega arith) (omega arith) (omega arith) (omega arith) (omega arith)
 
 gains-waiting : (put : Transaction → State → State) → ((t : Transaction) (s : State) → Gains 0 0 0 s (put t s)) → (t : Transaction) (s : State)
     → Gains 0 1 0 s (waiting put t s .state)
@@ -238,36 +240,39 @@ unless-yes false n later e ne = absurd (ne e)
 on : {j k c : ℕ} (n : ℕ) (t : Transaction) {s s′ : State} → Gains j k c s s′ → Gains j k c s (moveTo n t s′)
 on {j} {k} {c} n t g = gains-most j k c (omega arith) (omega arith) (omega arith) (gains-trans g (gains-moveTo n t _))
 
-generates : (l : List ℕ) (list p n k : ℕ) (t : Transaction) (s : State) → askGenerate l s ≡ 0 → Moderate s (moveTo k t (arrival l list p n s))
+generates : (m : BlockModel) (l : List ℕ) (list p n k : ℕ) (t : Transaction) (s : State) → askGenerate m l s ≡ 0 → Moderate s (moveTo k t (arrival l list p n s))
 unfolding askGenerate arrival
-generates [] list p n k t s asked = moderate (omega arith) (omega arith) (gains-moveTo k t s)
-generates (time ∷ l) list p n k t s asked =
+generates m [] list p n k t s asked = moderate (omega arith) (omega arith) (gains-moveTo k t s)
+generates m (time ∷ l) list p n k t s asked =
     record {
       new = 1;
       room = λ h. leb-true (living s + 1) maxLiving (unless-yes (leb (living s + 1) maxLiving) 21 _ asked (λ e. omega arith));
       gains = gains-most 1 255 1 (omega arith) (omega arith) (omega arith) (on k t (gains-arrival (time ∷ l) list p n s));
     }
 
-takes : (v b : ℕ) (t : Transaction) (s : State) → Moderate s (takingUnits v b t s .state)
+units-taken : (v b : ℕ) (t : Transaction) (s : State) → Moderate s (takingUnits v b t s .state)
 unfolding takingUnits
-takes v b t s =
+units-taken v b t s =
     cond-cases (λ (r : Bare). Moderate s (r .state)) (leb b (free (serverAt (s .view) v))) _ _
     (λ e. moderate (omega arith) (omega arith) (on _ t (gains-trans (gains-inUse v (serverAt (s .view) v .inUse + b) s) (gains-checkWels v _))))
     (λ e. moderate (omega arith) (omega arith) (gains-waitQl v t s))
 
-pub bare-gains : (m : BlockModel) (b : Block) (t : Transaction) (s : State) → ProperBlock m b → question b s ≡ 0 → Moderate s (bare m b t s .state)
+gains-wakeFor : (m : BlockModel) (x : Share) (s : State) → Gains 0 0 0 s (wakeFor m x s)
+unfolding wakeFor
+gains-wakeFor m (facility v) s = gains-wakeFirstQl v s
+gains-wakeFor m (storage v b) s = gains-wakeQl _ v s
+
+pub bare-gains : (m : BlockModel) (b : Block) (t : Transaction) (s : State) → ProperBlock m b → question m b s ≡ 0 → Moderate s (bare m b t s .state)
 unfolding bare question
-bare-gains m (generate list p) t s ok asked = generates _ list p _ _ t s asked
+bare-gains m (generate list p) t s ok asked = generates m _ list p _ _ t s asked
 bare-gains m (advance list) t s ok asked = moderate (omega arith) (omega arith) (gains-delay _ list t s)
 bare-gains m (terminate a) t s ok asked = moderate (omega arith) (omega arith) (gains-endsOne a s)
-bare-gains m (seize v) t s ok asked = takes v 1 t s
-bare-gains m (release v) t s ok asked =
+bare-gains m (takes x) t s ok asked = units-taken (shareServer x) (shareUnits x) t s
+bare-gains m (frees x) t s ok asked =
     moderate (omega arith) (omega arith)
-    (on _ t (gains-trans (gains-inUse v (serverAt (s .view) v .inUse - 1) s) (gains-trans (gains-wakeFirstQl v _) (gains-checkWels v _))))
-bare-gains m (enter v b) t s ok asked = takes v b t s
-bare-gains m (leave v b) t s ok asked =
-    moderate (omega arith) (omega arith)
-    (on _ t (gains-trans (gains-inUse v (serverAt (s .view) v .inUse - b) s) (gains-trans (gains-wakeQl _ v _) (gains-checkWels v _))))
+    (on _ t
+    (gains-trans (gains-inUse (shareServer x) (serverAt (s .view) (shareServer x) .inUse - shareUnits x) s)
+    (gains-trans (gains-wakeFor m x _) (gains-checkWels (shareServer x) _))))
 bare-gains m (waitServer code v) t s ok asked =
     cond-cases (λ (r : Bare). Moderate s (r .state)) (status code (serverAt (s .view) v)) _ _
     (λ e. moderate (omega arith) (omega arith) (gains-waitWel v code t s))
@@ -275,8 +280,7 @@ bare-gains m (waitServer code v) t s ok asked =
 bare-gains m (waitTerms a r b) t s ok asked =
     cond-cases (λ (r : Bare). Moderate s (r .state)) (compare (m .values) (s .view) (t .parameters) a r b) _ _
     (λ e. moderate (omega arith) (omega arith) (gains-waitWsl t s)) (λ e. moderate (omega arith) (omega arith) (gains-moveTo _ t s))
-bare-gains m (branch a r b target) t s ok asked = moderate (omega arith) (omega arith) (gains-moveTo _ t s)
-bare-gains m (goto target) t s ok asked = moderate (omega arith) (omega arith) (gains-moveTo _ t s)
+bare-gains m (moves c target) t s ok asked = moderate (omega arith) (omega arith) (gains-moveTo _ t s)
 bare-gains m (assign k a) t s ok asked = moderate (omega arith) (omega arith) (gains-moveTo _ _ s)
 bare-gains m (priority p) t s ok asked = moderate (omega arith) (omega arith) (gains-toRel _ s)
 bare-gains m (split n target) t s ok asked =
@@ -285,5 +289,5 @@ bare-gains m (split n target) t s ok asked =
       room = λ h. leb-true (living s + n) maxLiving (unless-yes (leb (living s + n) maxLiving) 21 0 asked (λ e. omega arith));
       gains = gains-most n 255 1 (omega arith) (omega arith) (omega arith) (on _ t (gains-copies n target t s));
     }
-bare-gains m (arrive q) t s ok asked = moderate (omega arith) (omega arith) (on _ t (gains-content q 1 (λ x. x + 1) (λ x. omega arith) s))
-bare-gains m (depart q) t s ok asked = moderate (omega arith) (omega arith) (on _ t (gains-content q 0 (λ x. x - 1) (λ x. omega arith) s))
+bare-gains m (counts c q) t s ok asked =
+    moderate (omega arith) (omega arith) (on _ t (gains-content q 1 (changed c) (changed-most c) s))

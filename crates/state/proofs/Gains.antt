@@ -8,6 +8,7 @@ use native.Mathlib.Omega.{arith}
 use borrow.Author.Tests.{ltb-true, ltb-false, eqb-true}
 use lib.Dec.{ltb, eqb}
 use lib.ListN.{set}
+use Rattle.machine.specs.Rules.{inForce}
 use Rattle.machine.specs.Transaction.{Event, precedes, earlier}
 use Rattle.machine.specs.Lists.{insert, those}
 use Rattle.machine.specs.Term.{Server, Queue}
@@ -104,7 +105,7 @@ pub record Gains (j k c : ℕ) (s s′ : State) : Type 0 where
   -- a serial for each one made
   pub pace : s′ .made + s .serial ≤ s′ .serial + s .made
   pub serials : s′ .serial ≤ s .serial + k
-  pub samples : Samples s → Samples s′
+  pub samples : Samples (inForce .maxTime) s → Samples (inForce .maxTime) s′
   pub ahead : Ahead s → Ahead s′
   pub servers : map serverSums (s′ .view .servers) ≡ map serverSums (s .view .servers)
   pub queues : map queueSums (s′ .view .queues) ≡ map queueSums (s .view .queues)

@@ -7,6 +7,7 @@ use mathlib.Core.Option.{Option, none, some}
 use native.Mathlib.Nat.{mul-add, mul-le-mul-right}
 use native.Mathlib.Omega.{arith}
 use lib.ListN.{length, getD, replicate}
+use Rattle.machine.specs.Rules.{inForce}
 use Rattle.machine.specs.Limits.{maxCapacity, maxCounter, maxTime}
 use Rattle.machine.specs.Transaction.{Transaction, Event}
 use Rattle.machine.specs.Lists.{those, others, nth}
@@ -36,7 +37,7 @@ QueueBound clock x = (x .units ≤ 100000001 * clock) × (x .longest ≤ 1000000
 
 -- n bounds the content of each queue
 pub record Measured (n : ℕ) (s : State) : Type 0 where
-  pub samples : Samples s
+  pub samples : Samples (inForce .maxTime) s
   pub made : s .made ≤ s .serial
   pub counter : s .counter ≤ maxCounter
   pub ahead : Ahead s
@@ -64,7 +65,7 @@ pub measured-like : {n : ℕ} (s s′ : State) → s′ .samples ≡ s .samples 
     → s′ .view .clock ≡ s .view .clock → s′ .view .queues ≡ s .view .queues → s′ .view .servers ≡ s .view .servers → s′ .fel ≡ s .fel → Measured n s → Measured n s′
 measured-like s s′ samples made serial counter clock queues servers fel h =
     record {
-      samples = subst (λ (l : List (List ℕ)). (list i : ℕ) → getD (nth l list []) i 0 ≤ maxTime) (sym samples) (h .samples);
+      samples = subst (λ (l : List (List ℕ)). (list i : ℕ) → getD (nth l list []) i 0 ≤ inForce .maxTime) (sym samples) (h .samples);
       made = omega (arith, h .made);
       counter = omega (arith, h .counter);
       ahead = record { later = rw (fel, clock) (h .ahead .later); rising = rw fel (h .ahead .rising) };

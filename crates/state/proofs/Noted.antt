@@ -8,7 +8,7 @@ use mathlib.Core.Option.{none}
 use lib.Dec.{leb}
 use Rattle.machine.specs.Transaction.{Transaction}
 use Rattle.machine.specs.Term.{Term, Relation, serverAt, free, compare}
-use Rattle.machine.specs.Block.{Code, U, NU, E, NE, F, NF, status, Block, generate, advance, terminate, seize, release, enter, leave, waitServer, waitTerms, branch, goto, assign, priority, split, arrive, depart, BlockModel}
+use Rattle.machine.specs.Block.{Code, U, NU, E, NE, F, NF, status, facility, storage, shareServer, shareUnits, Block, generate, advance, terminate, takes, frees, waitServer, waitTerms, moves, assign, priority, split, counts, BlockModel}
 use Rattle.machine.specs.State.{State}
 use Rattle.machine.specs.Setters.{withSerial, setSerial, setMoving, setMade}
 use Rattle.machine.specs.Bundle.{everything}
@@ -104,19 +104,16 @@ module _ (m : BlockModel) (t : Transaction) (s : State) where
   noted-effect (generate list p) = sym (ap (goOn t) (arrival-N t s (timesLeft s list) list p (t .next) s))
   noted-effect (advance list) = sym (delay-N t s (timesLeft s list) list s)
   noted-effect (terminate a) = refl
-  noted-effect (seize v) = taken-noted t s v 1
-  noted-effect (release v) = sym (ap (goOn t) (checkWels-N t s v (wakeFirstQl v (freeUnits v 1 s))))
-  noted-effect (enter v b) = taken-noted t s v b
-  noted-effect (leave v b) = sym (ap (goOn t) (checkWels-N t s v (wakeQl (fits m (freeUnits v b s .view) v) v (freeUnits v b s))))
+  noted-effect (takes x) = taken-noted t s (shareServer x) (shareUnits x)
+  noted-effect (frees (facility v)) = sym (ap (goOn t) (checkWels-N t s v (wakeFirstQl v (freeUnits v 1 s))))
+  noted-effect (frees (storage v b)) = sym (ap (goOn t) (checkWels-N t s v (wakeQl (fits m (freeUnits v b s .view) v) v (freeUnits v b s))))
   noted-effect (waitServer code v) = waitServer-noted code v
   noted-effect (waitTerms a r b) = waitTerms-noted a r b
-  noted-effect (branch a r b target) = refl
-  noted-effect (goto target) = refl
+  noted-effect (moves c target) = refl
   noted-effect (assign k a) = refl
   noted-effect (priority p) = refl
   noted-effect (split n target) = sym (ap (goOn t) (copies-N t s n target s))
-  noted-effect (arrive q) = refl
-  noted-effect (depart q) = refl
+  noted-effect (counts c q) = refl
 
 -- a record reads only the clock of the state in which t stood
 note-moving : (n : Note) (t : Transaction) (s x : State) → noteAs n t s x ≡ noteAs n t (setMoving none s) x

@@ -3,7 +3,8 @@ use Prim.Native.Nat.{ℕ, zero, suc, _+_, _*_, _-_, _≤_, _<_}
 use mathlib.Core.Path.{_≡_, refl, sym, _∙_, subst}
 use mathlib.Core.List.{List, [], _∷_, map, _++_}
 use native.Mathlib.Omega.{arith}
-use lib.ListN.{length, replicate, length-append, length-map}
+use lib.ListN.{length, replicate, length-append, length-map, getD}
+use Rattle.machine.specs.Rules.{Rules, inForce}
 use Rattle.machine.specs.Limits.{maxSerial, maxTurns}
 use Rattle.machine.specs.Transaction.{Transaction}
 use Rattle.machine.specs.Lists.{flat, nth}
@@ -79,11 +80,12 @@ measured-of {s = s} h ahead =
     L : Server → Type 0
     L v = v .longest ≤ 1024
 
-module _ {m : BlockModel} {n : ℕ} (s : State) (shape : Shape m s) (placed : Everybody (Placed m) s) (timely : Timely s) (h : Measured n s) where
-  sane-of : n ≤ s .turns → s .serial ≤ 100000000 → s .ended ≤ s .made → s .made - s .ended ≤ 1024 → s .turns ≤ maxTurns + 1
+module _ {m : BlockModel} {n : ℕ} (s : State) (shape : Shape m s) (placed : Everybody (Placed m) s) (timely : Timely (inForce .maxClock) s) (h : Measured n s) where
+  sane-of : m .rules ≡ inForce → n ≤ s .turns → s .serial ≤ 100000000 → s .ended ≤ s .made → s .made - s .ended ≤ 1024 → s .turns ≤ maxTurns + 1
       → Each (λ (e : ℕ). e ≤ s .turns) (s .view .entries) → Each (λ (l : List Transaction). length l ≤ 1024) (s .ql) → Sane m s
-  sane-of few serials ended living turns entries waiting =
+  sane-of rules few serials ended living turns entries waiting =
       record {
+        rules = rules;
         shape = shape;
         placed = placed;
         timely = timely;
@@ -202,9 +204,9 @@ module _ {m : BlockModel} {tape : List (List ℕ)} (proper : Proper m tape) (s :
       let k : Everybody (Placed m) (taking (s .moving) s) = taking-everybody (Placed m) U (s .moving) s (hs .placed) in
       record { ql = k .ql; wel = k .wel; wsl = k .wsl; rel = k .rel; fel = k .fel; moving = k .moving }
 
-  taken-timely : Timely (takenOf s)
+  taken-timely : Timely (inForce .maxClock) (takenOf s)
   taken-timely =
-      let k : Timely (taking (s .moving) s) = taking-timely (s .moving) s (hs .timely) in
+      let k : Timely (inForce .maxClock) (taking (s .moving) s) = taking-timely (s .moving) s (hs .timely) in
       record { clock = k .clock; times = k .times }
 
   taken-entries : Few (s .turns) (takenOf s .view .entries)
@@ -219,7 +221,7 @@ module _ {m : BlockModel} {tape : List (List ℕ)} (proper : Proper m tape) (s :
   -- of the state in which the block of a taken turn finds the machine
   pub sane-taken : Sane m (takenOf s)
   sane-taken =
-      sane-of (takenOf s) taken-shape taken-placed taken-timely taken-measured (omega arith) (omega (arith, taken-serials))
+      sane-of (takenOf s) taken-shape taken-placed taken-timely taken-measured (hs .rules) (omega arith) (omega (arith, taken-serials))
       (omega (arith, taken-took .made, taken-took .ended, hs .ended)) taken-living (omega arith) (fewer (s .turns) (takenOf s .view .entries) taken-entries)
       (subst (Each (λ (l : List Transaction). length l ≤ 1024)) (sym (taken-took .ql)) (hs .waiting))
 
@@ -233,10 +235,13 @@ module _ {m : BlockModel} {tape : List (List ℕ)} (proper : Proper m tape) (s :
       let a : After (s .turns) (takenOf s) (turn m s) = turn-after in
       let sound : Sound m tape (turn m s) = sound-turn m tape proper s (h .sound) in
       let all : length (places (turn m s)) + turn m s .ended ≡ turn m s .made = stand m tape (turn m s) sound in
+      let turned-timely : Timely (inForce .maxClock) (turn m s) =
+      subst (λ (q : Rules). Timely (q .maxClock) (turn m s)) (hs .rules)
+      (timely-turn m s (subst (λ (q : Rules). Timely (q .maxClock) s) (sym (hs .rules)) (hs .timely))) in
       let few : length (flat (turn m s .ql)) ≤ 1024 = omega (arith, all, parts m tape (turn m s) sound, a .living) in
       record {
         sane =
-            sane-of (turn m s) (shape-turn m s (hs .shape)) (placed-turn m tape proper s (hs .placed)) (timely-turn m s (hs .timely)) (a .measured)
+            sane-of (turn m s) (shape-turn m s (hs .shape)) (placed-turn m tape proper s (hs .placed)) turned-timely (a .measured) (hs .rules)
             (omega (arith, a .turns)) (omega (arith, a .serials, taken-serials)) (omega (arith, all)) (a .living) (omega (arith, a .turns))
             (subst (λ (n : ℕ). Few n (turn m s .view .entries)) (sym (a .turns)) (a .entries)) (each-flat (turn m s .ql) 1024 few);
         ahead = a .measured .ahead;
@@ -252,7 +257,7 @@ start-gains n (b ∷ l) s =
     gains-most (suc (length l)) (suc (length l)) 0 (omega arith) (omega arith) (omega arith)
     (gains-trans
     (startOf-cases (Gains 1 1 0 s) b n s (λ e. gains-most 1 1 0 (omega arith) (omega arith) (omega arith) (gains-none s))
-    (λ list p e. gains-arrival _ list p n s))
+    (λ e. gains-arrival _ _ _ n s))
     (start-gains (suc n) l _))
 
 each-replicate : {A : Type 0} (P : A → Type 0) (n : ℕ) (a : A) → P a → Each P (replicate n a)
@@ -265,12 +270,12 @@ idle-servers zero [] = tt
 idle-servers zero (c ∷ l) = ((omega arith, omega arith, omega arith), idle-servers zero l)
 idle-servers (suc n) l = ((omega arith, omega arith, omega arith), idle-servers n l)
 
-module _ {m : BlockModel} {tape : List (List ℕ)} (proper : Proper m tape) where
+module _ {m : BlockModel} {tape : List (List ℕ)} (proper : Proper m tape) (rules : m .rules ≡ inForce) where
   idle-measured : Measured 0 (idle m tape)
   unfolding idle emptyQueue
   idle-measured =
       record {
-        samples = λ list i. proper .times (list - 1) i;
+        samples = λ list i. subst (λ (q : Rules). getD (nth tape list []) i 0 ≤ q .maxTime) rules (proper .times (list - 1) i);
         made = omega arith;
         counter = proper .counter .1;
         ahead = record { later = tt; rising = tt };
@@ -296,9 +301,12 @@ module _ {m : BlockModel} {tape : List (List ℕ)} (proper : Proper m tape) wher
       let sound : Sound m tape (start m tape) = sound-start m tape proper in
       let all : length (places (start m tape)) + start m tape .ended ≡ start m tape .made = stand m tape (start m tape) sound in
       let made : start m tape .made ≤ 256 = omega arith in
+      let below : m .rules .maxTime ≤ m .rules .maxClock = subst (λ (q : Rules). q .maxTime ≤ q .maxClock) (sym rules) (omega arith) in
+      let started : Timely (inForce .maxClock) (start m tape) =
+      subst (λ (q : Rules). Timely (q .maxClock) (start m tape)) rules (timely-start m tape proper below) in
       record {
         sane =
-            sane-of (start m tape) (shape-start m tape (proper .tapes)) (placed-start m tape proper) (timely-start m tape proper) k
+            sane-of (start m tape) (shape-start m tape (proper .tapes)) (placed-start m tape proper) started k rules
             (omega arith) (omega arith) (omega arith) (omega arith) (omega arith)
             (each-map (λ e (le : e ≤ 0). omega arith) (start m tape .view .entries) (subst (Few 0) (sym (g .entries)) (z .3)))
             (each-flat (start m tape .ql) 1024 (omega (arith, parts m tape (start m tape) sound)));
@@ -312,6 +320,7 @@ module _ {m : BlockModel} {tape : List (List ℕ)} (proper : Proper m tape) wher
 pub sane-turns : {m : BlockModel} (n e : ℕ) (s : State) → s .turns ≤ n → n ≤ maxTurns + 1 → Sane m s → Sane m (setEnd e (setTurns n s))
 sane-turns n e s more few k =
     record {
+      rules = k .rules;
       shape = k .shape;
       placed = record { ql = k .placed .ql; wel = k .placed .wel; wsl = k .placed .wsl; rel = k .placed .rel; fel = k .placed .fel; moving = k .placed .moving };
       timely = record { clock = k .timely .clock; times = k .timely .times };

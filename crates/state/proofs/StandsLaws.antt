@@ -8,7 +8,7 @@ use mathlib.Core.Option.{Option, none, some}
 use native.Mathlib.Omega.{arith}
 use lib.ListN.{length, getD, set}
 use lib.Seq.{getD-set-other}
-use Rattle.machine.specs.Transaction.{Transaction, Event, precedes, earlier}
+use Rattle.machine.specs.Transaction.{Transaction, precedes, earlier}
 use Rattle.machine.specs.Lists.{insert}
 use Rattle.machine.specs.Term.{Server, Queue}
 use Rattle.machine.specs.State.{State}
@@ -19,10 +19,11 @@ use Rattle.rows.specs.Cells.{write}
 use Rattle.rows.specs.Order.{ahead}
 use Rattle.rows.specs.Lists.{put}
 use Rattle.rows.specs.Holds.{transactionAt, eventAt, update}
-use Rattle.rows.specs.Shows.{Shown, Shows}
-use Rattle.rows.proofs.Showing.{shown-ext, update-other}
+use Rattle.rows.specs.Shows.{Shows}
+use Rattle.rows.proofs.Showing.{update-other}
+use Rattle.rows.proofs.Ordering.{shows-ext}
 use Rattle.rows.proofs.Write.{write-shown, write-loose}
-use Rattle.rows.proofs.Put.{put-shown, put-fel-shown}
+use Rattle.rows.proofs.Laws.{shows-put, shows-put-fel}
 use Rattle.rows.proofs.Steady.{Steady, steady-transaction}
 use Rattle.rows.proofs.Population.{free-kept}
 use Rattle.state.specs.declared.scalars.Scalars.{Scalars}
@@ -36,11 +37,7 @@ pub listing-ext : (w : List ℕ) (k : ℕ) (o : Option Transaction) (s s′ : St
     → Listing w k o s → Listing w k o s′
 listing-ext w k o s s′ lists future living h =
     record {
-      shows =
-          record {
-            rows = h .shows .rows;
-            shown = subst (λ (e : List Event). Shown w (h .shows .rows) (listsOf s′) e) future (shown-ext w (h .shows .rows) (listsOf s) (listsOf s′) (s .fel) lists (h .shows .shown));
-          };
+      shows = shows-ext w (listsOf s) (listsOf s′) (s .fel) (s′ .fel) lists future (h .shows);
       mover = h .mover;
       spare = rw living (h .spare);
     }
@@ -54,6 +51,7 @@ listing-write w k t s f x t′ hf h e =
           record {
             rows = h .shows .rows;
             shown = write-shown w f k x hf (h .mover .0) (h .shows .rows) (listsOf s) (s .fel) (h .shows .shown);
+            ordered = h .shows .ordered;
           };
       mover = (write-loose w f k x hf k (h .mover .0 .row) (h .mover .0), e);
       spare = h .spare;
@@ -66,21 +64,14 @@ module _ (w : List ℕ) (k : ℕ) (t : Transaction) (s s′ : State) (h : Listin
   listing-put p hp lists future =
       record {
         shows =
-            record {
-              rows = rows′;
-              shown =
-                  subst (λ (e : List Event). Shown (put w p k) rows′ (listsOf s′) e) future
-                  (shown-ext (put w p k) rows′ (update p (insert precedes (transactionAt w k) (listsOf s p)) (listsOf s)) (listsOf s′) (s .fel)
-                  (λ q hq. ap (λ (u : Transaction). update p (insert precedes u (listsOf s p)) (listsOf s) q) (h .mover .1) ∙ lists q hq)
-                  (put-shown w (h .shows .rows) (listsOf s) (s .fel) (h .shows .shown) k (h .mover .0) p hp));
-            };
+            shows-ext (put w p k) (update p (insert precedes (transactionAt w k) (listsOf s p)) (listsOf s)) (listsOf s′) (s .fel) (s′ .fel)
+            (λ q hq. ap (λ (u : Transaction). update p (insert precedes u (listsOf s p)) (listsOf s) q) (h .mover .1) ∙ lists q hq)
+            future
+            (shows-put w (listsOf s) (s .fel) (h .shows) k (h .mover .0) p hp);
         mover = refl;
         spare =
             rw (update-other p (insert (ahead w p) k (h .shows .rows p)) (h .shows .rows) free (λ e. omega arith), living) (h .spare);
       }
-    where
-      rows′ : ℕ → List ℕ
-      rows′ = update p (insert (ahead w p) k (h .shows .rows p)) (h .shows .rows)
 
   -- the moving row comes onto the FEL
   pub listing-put-fel : ((q : ℕ) → q < 450 → listsOf s q ≡ listsOf s′ q) → insert earlier (eventAt w k) (s .fel) ≡ s′ .fel
@@ -88,20 +79,12 @@ module _ (w : List ℕ) (k : ℕ) (t : Transaction) (s s′ : State) (h : Listin
   listing-put-fel lists future =
       record {
         shows =
-            record {
-              rows = rows′;
-              shown =
-                  subst (λ (e : List Event). Shown (put w fel k) rows′ (listsOf s′) e) future
-                  (shown-ext (put w fel k) rows′ (listsOf s) (listsOf s′) (insert earlier (eventAt w k) (s .fel)) lists
-                  (put-fel-shown w (h .shows .rows) (listsOf s) (s .fel) (h .shows .shown) k (h .mover .0)));
-            };
+            shows-ext (put w fel k) (listsOf s) (listsOf s′) (insert earlier (eventAt w k) (s .fel)) (s′ .fel) lists future
+            (shows-put-fel w (listsOf s) (s .fel) (h .shows) k (h .mover .0));
         mover = refl;
         spare =
             rw (update-other fel (insert (ahead w fel) k (h .shows .rows fel)) (h .shows .rows) free (λ e. omega arith), living) (h .spare);
       }
-    where
-      rows′ : ℕ → List ℕ
-      rows′ = update fel (insert (ahead w fel) k (h .shows .rows fel)) (h .shows .rows)
 
 -- rows move between lists, none of them moving or free
 pub listing-steady : (w w′ : List ℕ) (k : ℕ) (o : Option Transaction) (s s′ : State) → Shows w′ (listsOf s′) (s′ .fel) → Steady w w′ → s′ .made - s′ .ended ≡ s .made - s .ended

@@ -8,9 +8,11 @@ use native.Mathlib.Omega.{arith}
 use borrow.Author.Tests.{eqb-true, eqb-false, eq-eqb, ne-eqb}
 use lib.Dec.{eqb}
 use lib.ListN.{length}
+use Rattle.machine.specs.Rules.{Rules, inForce}
 use Rattle.machine.specs.Lists.{those}
-use Rattle.machine.specs.Trace.{Record}
-use Rattle.machine.specs.Block.{Facts, facts, BlockModel, blockAt}
+use Rattle.machine.specs.Trace.{Record, inRanges}
+use Rattle.machine.specs.Facts.{Facts}
+use Rattle.machine.specs.Block.{facts, BlockModel, blockAt}
 use Rattle.machine.specs.State.{State, Logged}
 use Rattle.machine.specs.Report.{recordsAt}
 use Rattle.machine.specs.Outcome.{recordsOf}
@@ -115,10 +117,12 @@ ranges-end : (k : List Record) (r : Record) → AllInRanges k → AllInRanges (r
 ranges-end [] r h e = e
 ranges-end (x ∷ k) r h e = (h .0, ranges-end k r (h .1) e)
 
-all-in-ranges : (m : BlockModel) (l : List Logged) → Each (λ (r : Logged). InModel m (r .entry)) l → AllInRanges (inOrder l)
-all-in-ranges m [] h = tt
-all-in-ranges m (r ∷ l) h = subst AllInRanges (sym (in-order-cons r l)) (ranges-end (inOrder l) (r .entry) (all-in-ranges m l (h .1)) (h .0 .ranges, tt))
+all-in-ranges : (m : BlockModel) → m .rules ≡ inForce → (l : List Logged) → Each (λ (r : Logged). InModel m (r .entry)) l → AllInRanges (inOrder l)
+all-in-ranges m rules [] h = tt
+all-in-ranges m rules (r ∷ l) h =
+    subst AllInRanges (sym (in-order-cons r l))
+    (ranges-end (inOrder l) (r .entry) (all-in-ranges m rules l (h .1)) (subst (λ (q : Rules). inRanges q (r .entry) ≡ true) rules (h .0 .ranges), tt))
 
 pub traced-ranges : {m : BlockModel} {room : ℕ} (s : State) → Traced m room s → AllInRanges (recordsOf s)
 unfolding recordsOf
-traced-ranges {m} s h = all-in-ranges m (s .records) (h .records)
+traced-ranges {m} s h = all-in-ranges m (h .rules) (s .records) (h .records)

@@ -33,13 +33,13 @@ moderate-hand s s′ h =
     }
 
 module _ {m : BlockModel} {tape : List (List ℕ)} (proper : Proper m tape) where
-  answered : (n : ℕ) (t : Transaction) (s : State) → s .moving ≡ some t → question (blockAt m (t .next)) s ≡ n
+  answered : (n : ℕ) (t : Transaction) (s : State) → s .moving ≡ some t → question m (blockAt m (t .next)) s ≡ n
       → Turned s (wsScheme m (answer n m (blockAt m (t .next)) t s))
   unfolding bareAnswer
   answered zero t s e q =
       let r = bare m (blockAt m (t .next)) t (setMoving none s) in
       let g : Moderate (setMoving none s) (r .state) =
-      bare-gains m (blockAt m (t .next)) t (setMoving none s) (proper .block (t .next)) (question-hand (blockAt m (t .next)) none s ∙ q) in
+      bare-gains m (blockAt m (t .next)) t (setMoving none s) (proper .block (t .next)) (question-hand m (blockAt m (t .next)) none s ∙ q) in
       noted t e (r .note) (r .state) (moderate-hand s (r .state) g)
       (subst (λ (x : State). Gains 0 0 0 x (wsScheme m (answer zero m (blockAt m (t .next)) t s))) (sym (noted-answer zero m (blockAt m (t .next)) t s))
       (gains-wsScheme m _))

@@ -1,24 +1,23 @@
 -- Waking as the relation of lists follows it: the first of a QL or a WEL, and all of a QL or of the WSL that pass a test.
 use Prim.Native.Nat.{ℕ, _+_, _-_, _<_}
-use mathlib.Core.Path.{_≡_, refl, subst}
+use mathlib.Core.Path.{_≡_, refl}
 use mathlib.Core.Bool.{Bool}
 use mathlib.Core.List.{List}
 use mathlib.Core.Option.{Option}
 use native.Mathlib.Omega.{arith}
 use lib.ListN.{length, set, take, drop}
-use Rattle.machine.specs.Transaction.{Transaction, Event}
+use Rattle.machine.specs.Transaction.{Transaction}
 use Rattle.machine.specs.Lists.{those, others}
-use Rattle.machine.specs.Block.{Code}
+use Rattle.machine.specs.Block.{Code, welIndex}
 use Rattle.machine.specs.State.{State}
 use Rattle.machine.specs.Setters.{setQl, setWel, setWsl, setRel}
-use Rattle.machine.specs.Moves.{wake, welIndex, qlOf, welOf, wakeFirstQl, wakeQl, wakeFirstWel, wakeWsl}
+use Rattle.machine.specs.Moves.{wake, qlOf, welOf, wakeFirstQl, wakeQl, wakeFirstWel, wakeWsl}
 use Rattle.rows.specs.Layout.{head, wsl, rel}
 use Rattle.rows.specs.Wake.{wakeFirst, wakeAll}
 use Rattle.rows.specs.Holds.{transactionAt}
-use Rattle.rows.specs.Shows.{Shown, moved}
-use Rattle.rows.proofs.Showing.{shown-ext}
-use Rattle.rows.proofs.WakingAll.{Wakes}
-use Rattle.rows.proofs.Laws.{wake-first-shows, wake-all-shows}
+use Rattle.rows.specs.Shows.{moved}
+use Rattle.rows.proofs.Ordering.{shows-ext}
+use Rattle.rows.proofs.Laws.{Wakes, wake-first-shows, wake-all-shows}
 use Rattle.state.specs.Stands.{listsOf, Listing}
 use Rattle.state.proofs.ListsOf.{lists-ql, lists-wel, lists-wsl, lists-rel, lists-set-ql, lists-set-wel, lists-set-wsl, lists-moved}
 use Rattle.state.proofs.StandsLaws.{listing-steady}
@@ -31,12 +30,7 @@ module _ (w : List ℕ) (k : ℕ) (o : Option Transaction) (s : State) (h : List
       → Listing w′ k o s′
   wakes-listing w′ p l r l′ r′ s′ e f wakes lists future living =
       listing-steady w w′ k o s s′
-      (record {
-        rows = wakes .shows .rows;
-        shown =
-            subst (λ (x : List Event). Shown w′ (wakes .shows .rows) (listsOf s′) x) future
-            (shown-ext w′ (wakes .shows .rows) (moved p l r (listsOf s)) (listsOf s′) (s .fel) (λ q hq. rw (e, f) (lists q hq)) (wakes .shows .shown));
-      })
+      (shows-ext w′ (moved p l r (listsOf s)) (listsOf s′) (s .fel) (s′ .fel) (λ q hq. rw (e, f) (lists q hq)) future (wakes .shows))
       (wakes .steady)
       living
       h

@@ -10,10 +10,11 @@ use borrow.Author.Tests.{eqb-true, eqb-false}
 use lib.Dec.{eqb}
 use lib.ListN.{length, set, length-append, getD-replicate}
 use lib.Seq.{getD-set-same, getD-set-other}
+use Rattle.machine.specs.Rules.{Rules, inForce}
 use Rattle.machine.specs.Limits.{maxSerial, maxTurns, recordRoom}
 use Rattle.machine.specs.Transaction.{Transaction}
 use Rattle.machine.specs.Lists.{nth, those}
-use Rattle.machine.specs.Trace.{Record, recordBytes, traceBytes}
+use Rattle.machine.specs.Trace.{Record, recordBytes, traceBytes, inRanges}
 use Rattle.machine.specs.Block.{BlockModel}
 use Rattle.machine.specs.State.{State, Logged}
 use Rattle.machine.specs.Setters.{setEnd}
@@ -43,6 +44,7 @@ unfoldable pub atBlock : (outcome block : ℕ) → List Logged → ℕ
 atBlock outcome block l = count (λ r. eqb (r .entry .outcome) outcome && eqb (r .entry .block) block) l
 
 pub record Traced (m : BlockModel) (room : ℕ) (s : State) : Type 0 where
+  pub rules : m .rules ≡ inForce
   pub records : Each (λ (r : Logged). InModel m (r .entry)) (s .records)
   pub written : s .written ≡ length (traceBytes (recordsOf s))
   pub fits : s .written ≤ room
@@ -81,6 +83,7 @@ traced-like : {m : BlockModel} {room : ℕ} (s s′ : State) → s′ .records �
 unfolding recordsOf
 traced-like {m} s s′ r w e turns h =
     record {
+      rules = h .rules;
       records = subst (Each (λ (x : Logged). InModel m (x .entry))) (sym r) (h .records);
       written = w ∙ h .written ∙ ap (λ (l : List Logged). length (traceBytes (inOrder l))) (sym r);
       fits = omega arith;
@@ -103,7 +106,9 @@ module _ {m : BlockModel} {room : ℕ} (t : Transaction) (s x : State) (ok : (o 
       omega (arith, h .written, ap length (bytes-cons r (x .records)), length-append (traceBytes (inOrder (x .records))) (recordBytes (recordOf o t s)))
 
   short : (o : ℕ) → o ≤ 1 → x .written + length (recordBytes (recordOf o t s)) ≤ room
-  short o le = omega (arith, record-room (recordOf o t s) (ok o le .ranges))
+  short o le =
+      let kept : inRanges inForce (recordOf o t s) ≡ true = subst (λ (q : Rules). inRanges q (recordOf o t s) ≡ true) (h .rules) (ok o le .ranges) in
+      omega (arith, record-room (recordOf o t s) kept)
 
   counted : (b : ℕ) → Names (length (m .blocks)) b
       → nth (set (x .view .entries) (t .next - 1) (suc (nth (x .view .entries) (t .next) 0))) b 0
@@ -151,6 +156,7 @@ module _ {m : BlockModel} {room : ℕ} (t : Transaction) (s x : State) (ok : (o 
   unfolding noteAs logged countEntry recordsOf
   traced-note enteredNote =
       record {
+        rules = h .rules;
         records = (ok 0 (omega arith), h .records);
         written = longer 0 (omega arith);
         fits = short 0 (omega arith);
@@ -159,6 +165,7 @@ module _ {m : BlockModel} {room : ℕ} (t : Transaction) (s x : State) (ok : (o 
       }
   traced-note waitsNote =
       record {
+        rules = h .rules;
         records = (ok 1 (omega arith), h .records);
         written = longer 1 (omega arith);
         fits = short 1 (omega arith);
@@ -196,7 +203,7 @@ module _ {m : BlockModel} {tape : List (List ℕ)} (proper : Proper m tape) {roo
         block = omega (arith, place .0 .1, proper .blocks .1);
         outcome = le;
       } in
-      record { ranges = in-ranges (recordOf o t x) r; block = place .0 }
+      record { ranges = subst (λ (q : Rules). inRanges q (recordOf o t x) ≡ true) (sym (sane .rules)) (in-ranges (recordOf o t x) r); block = place .0 }
 
   after : {s′ : State} → Turned x s′ → Traced m room s → Traced m room s′
   after {s′} (unnoted g) h =
@@ -219,11 +226,12 @@ pub record Kept (m : BlockModel) (tape : List (List ℕ)) (room : ℕ) (s : Stat
   pub sure : Sure m tape s
   pub traced : Traced m room s
 
-module _ {m : BlockModel} {tape : List (List ℕ)} (proper : Proper m tape) (room : ℕ) where
+module _ {m : BlockModel} {tape : List (List ℕ)} (proper : Proper m tape) (rules : m .rules ≡ inForce) (room : ℕ) where
   traced-idle : Traced m room (idle m tape)
   unfolding idle recordsOf traceBytes atBlock count those
   traced-idle =
       record {
+        rules = rules;
         records = tt;
         written = refl;
         fits = omega arith;
@@ -233,9 +241,9 @@ module _ {m : BlockModel} {tape : List (List ℕ)} (proper : Proper m tape) (roo
 
   pub kept-start : Kept m tape room (start m tape)
   kept-start =
-      let g = start-is proper in
+      let g = start-is proper rules in
       record {
-        sure = sure-start proper;
+        sure = sure-start proper rules;
         traced = traced-like (idle m tape) (start m tape) (g .records) (g .written) (g .entries) (omega (arith, g .turns)) traced-idle;
       }
 

@@ -10,12 +10,12 @@ use lib.ListN.{length}
 use Rattle.machine.specs.Transaction.{Transaction}
 use Rattle.machine.specs.Lists.{nth, setNth}
 use Rattle.machine.specs.Trace.{recordBytes}
-use Rattle.machine.specs.Term.{serverAt, queueAt, free, evaluate, compare}
-use Rattle.machine.specs.Block.{status, Block, generate, advance, terminate, seize, release, enter, leave, waitServer, waitTerms, branch, goto, assign, priority, split, arrive, depart, BlockModel}
+use Rattle.machine.specs.Term.{serverAt, queueAt, free, evaluate, compare, truth}
+use Rattle.machine.specs.Block.{status, shareServer, shareUnits, Block, generate, advance, terminate, takes, frees, waitServer, waitTerms, moves, assign, priority, split, counts, BlockModel}
 use Rattle.machine.specs.State.{State}
 use Rattle.machine.specs.Setters.{withPriority, withParameters, withNext, withSerial, withReturning, setEntries, setView, setSerial, setMoving, setEnd, setRecords, setWritten}
-use Rattle.machine.specs.Moves.{recordOf, moveTo, goOn, fresh, toRel, toQl, toWel, toWsl, wakeFirstQl, wakeQl, wakeFirstWel, setInUse, setContent, timesLeft, arrival, copies}
-use Rattle.machine.specs.Execute.{fits, checkWels, freeUnits, endsOne, delay}
+use Rattle.machine.specs.Moves.{recordOf, moveTo, goOn, fresh, toRel, toQl, toWel, toWsl, wakeFirstWel, setInUse, setContent, timesLeft, arrival, copies}
+use Rattle.machine.specs.Execute.{checkWels, freeUnits, wakeFor, changed, endsOne, delay}
 
 -- Which record a block writes: outcome 0, outcome 1, or none, for a returner that is put back and for a turn that a question stops.
 pub data Note : Type 0 where
@@ -44,25 +44,20 @@ unfoldable pub bare : BlockModel → Block → Transaction → State → Bare
 bare m (generate list p) t s = entering (goOn t (arrival (timesLeft s list) list p (t .next) s))
 bare m (advance list) t s = entering (delay (timesLeft s list) list t s)
 bare m (terminate a) t s = entering (endsOne a s)
-bare m (seize v) t s = takingUnits v 1 t s
-bare m (release v) t s = entering (goOn t (checkWels v (wakeFirstQl v (freeUnits v 1 s))))
-bare m (enter v b) t s = takingUnits v b t s
-bare m (leave v b) t s =
-    let s′ : State = freeUnits v b s in
-    entering (goOn t (checkWels v (wakeQl (fits m (s′ .view) v) v s′)))
+bare m (takes x) t s = takingUnits (shareServer x) (shareUnits x) t s
+bare m (frees x) t s =
+    entering (goOn t (checkWels (shareServer x) (wakeFor m x (freeUnits (shareServer x) (shareUnits x) s))))
 bare m (waitServer code v) t s =
     cond (status code (serverAt (s .view) v)) (waiting (toWel v code) t s) (entering (goOn t (wakeFirstWel v code s)))
 bare m (waitTerms a r b) t s =
     cond (compare (m .values) (s .view) (t .parameters) a r b) (waiting toWsl t s) (entering (goOn t s))
-bare m (branch a r b target) t s =
-    entering (moveTo (cond (compare (m .values) (s .view) (t .parameters) a r b) target (suc (t .next))) t s)
-bare m (goto target) t s = entering (moveTo target t s)
+bare m (moves c target) t s =
+    entering (moveTo (cond (truth (m .values) (s .view) (t .parameters) c) target (suc (t .next))) t s)
 bare m (assign k a) t s =
     entering (goOn (withParameters (setNth (t .parameters) k (evaluate (m .values) (s .view) (t .parameters) a)) t) s)
 bare m (priority p) t s = entering (toRel (withPriority p (withReturning false (withNext (suc (t .next)) t))) s)
 bare m (split n target) t s = entering (goOn t (copies n target t s))
-bare m (arrive q) t s = entering (goOn t (setContent q (queueAt (s .view) q .content + 1) s))
-bare m (depart q) t s = entering (goOn t (setContent q (queueAt (s .view) q .content - 1) s))
+bare m (counts c q) t s = entering (goOn t (setContent q (changed c (queueAt (s .view) q .content)) s))
 
 -- with the question asked first
 unfoldable pub bareAnswer : ℕ → BlockModel → Block → Transaction → State → Bare

@@ -1,8 +1,10 @@
 -- What holds of the machine's states within a turn and lets 32-bit rows and 64-bit sums hold their numbers. These facts are
 -- the machine's own (proofs/ of crate machine and proofs/Sanity.antt); no buffer is spoken of.
 use Prim.Native.Nat.{ℕ, _+_, _*_, _-_, _≤_}
+use mathlib.Core.Path.{_≡_}
 use lib.ListN.{length}
-use Rattle.machine.specs.Limits.{maxTurns, maxCounter}
+use Rattle.machine.specs.Rules.{inForce}
+use Rattle.machine.specs.Limits.{maxTurns, maxCounter, maxLiving, maxCapacity}
 use Rattle.machine.specs.Term.{Server, Queue}
 use Rattle.machine.specs.Block.{BlockModel}
 use Rattle.machine.specs.State.{State}
@@ -13,24 +15,25 @@ use Rattle.machine.proofs.Everybody.{Everybody}
 use Rattle.machine.proofs.Clocks.{Timely, Samples}
 
 pub record Sane (m : BlockModel) (s : State) : Type 0 where
+  pub rules : m .rules ≡ inForce
   pub shape : Shape m s
   pub placed : Everybody (Placed m) s
-  pub timely : Timely s
-  pub samples : Samples s
+  pub timely : Timely (inForce .maxClock) s
+  pub samples : Samples (inForce .maxTime) s
   -- serials stay below 100,000,000 through a turn; every transaction has had one
   pub serials : s .serial ≤ 100000000
   pub made : s .made ≤ s .serial
   pub ended : s .ended ≤ s .made
-  pub living : s .made - s .ended ≤ 1024
+  pub living : s .made - s .ended ≤ maxLiving
   pub turns : s .turns ≤ maxTurns + 1
   pub counter : s .counter ≤ maxCounter
   pub entries : Each (λ (n : ℕ). n ≤ s .turns) (s .view .entries)
   pub contents : Each (λ (q : Queue). q .content ≤ s .turns) (s .view .queues)
   -- no QL is longer than the living are many
-  pub waiting : Each (λ l. length l ≤ 1024) (s .ql)
+  pub waiting : Each (λ l. length l ≤ maxLiving) (s .ql)
   -- sums: at most so much for each tick that passed
-  pub unit-ticks : Each (λ (v : Server). v .unitTicks ≤ 65535 * s .view .clock) (s .view .servers)
-  pub wait-ticks : Each (λ (v : Server). v .waitTicks ≤ 1024 * s .view .clock) (s .view .servers)
-  pub longest : Each (λ (v : Server). v .longest ≤ 1024) (s .view .servers)
+  pub unit-ticks : Each (λ (v : Server). v .unitTicks ≤ maxCapacity * s .view .clock) (s .view .servers)
+  pub wait-ticks : Each (λ (v : Server). v .waitTicks ≤ maxLiving * s .view .clock) (s .view .servers)
+  pub longest : Each (λ (v : Server). v .longest ≤ maxLiving) (s .view .servers)
   pub content-ticks : Each (λ (q : Queue). q .contentTicks ≤ 100000001 * s .view .clock) (s .view .queues)
   pub longest-content : Each (λ (q : Queue). q .longest ≤ 100000001) (s .view .queues)

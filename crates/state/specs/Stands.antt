@@ -7,6 +7,7 @@ use mathlib.Core.List.{List, []}
 use mathlib.Core.Option.{Option, none, some}
 use lib.Dec.{ltb, eqb}
 use lib.ListN.{length, getD}
+use Rattle.machine.specs.Limits.{maxQueues, maxLists, maxBlocks}
 use Rattle.machine.specs.Transaction.{Transaction}
 use Rattle.machine.specs.Term.{Server, Queue, idleServer, emptyQueue}
 use Rattle.machine.specs.State.{State}
@@ -14,7 +15,7 @@ use Rattle.tables.specs.Layout as Layout
 use Rattle.tables.specs.Represents.{TimesAt}
 use Rattle.rows.specs.Holds.{transactionAt}
 use Rattle.rows.specs.Shows.{Shows, Loose}
-use Rattle.rows.specs.Layout.{free}
+use Rattle.rows.specs.Layout.{free, rowCount, wels, wsl}
 use Rattle.state.specs.declared.scalars.Scalars.{Scalars}
 use Rattle.state.specs.Bare.{Note, enteredNote, waitsNote, noNote, Bare}
 
@@ -30,13 +31,13 @@ rowsOf x work tally = record { scalars = x; work = work; tally = tally }
 -- list p of the work buffer: QL 0..63, WEL 64..447, WSL 448, REL 449
 unfoldable pub listsOf : State → ℕ → List Transaction
 listsOf s p =
-    cond (ltb p 64) (getD (s .ql) p [])
-    (cond (ltb p 448) (getD (s .wel) (p - 64) [])
-    (cond (eqb p 448) (s .wsl) (s .rel)))
+    cond (ltb p wels) (getD (s .ql) p [])
+    (cond (ltb p wsl) (getD (s .wel) (p - wels) [])
+    (cond (eqb p wsl) (s .wsl) (s .rel)))
 
 -- row k is the transaction that moves, on no list; 1024 for none
 abbrev pub Moving : List ℕ → ℕ → Option Transaction → Type 0
-Moving work k none = k ≡ 1024
+Moving work k none = k ≡ rowCount
 Moving work k (some t) = Loose work k × (transactionAt work k ≡ t)
 
 -- ---- Lists
@@ -45,30 +46,30 @@ pub record Listing (work : List ℕ) (moving : ℕ) (o : Option Transaction) (s 
   pub shows : Shows work (listsOf s) (s .fel)
   pub mover : Moving work moving o
   -- a free row for each transaction that may still live
-  pub spare : length (shows .rows free) + (s .made - s .ended) ≡ 1024
+  pub spare : length (shows .rows free) + (s .made - s .ended) ≡ rowCount
 
 -- ---- Tally
 
 -- of all 64 servers; a server that is not there is idle
 pub record Serving (tally : List ℕ) (servers : List Server) (ql : List (List Transaction)) : Type 0 where
-  pub in-use : (v : ℕ) → v < 64 → getD tally (Layout.inUse + v) 0 ≡ getD servers v (idleServer 0) .inUse
-  pub unit-ticks : (v : ℕ) → v < 64 → getD tally (Layout.unitTicks + v) 0 ≡ getD servers v (idleServer 0) .unitTicks
-  pub wait-ticks : (v : ℕ) → v < 64 → getD tally (Layout.waitTicks + v) 0 ≡ getD servers v (idleServer 0) .waitTicks
-  pub longest : (v : ℕ) → v < 64 → getD tally (Layout.longestQl + v) 0 ≡ getD servers v (idleServer 0) .longest
-  pub waiting : (v : ℕ) → v < 64 → getD tally (Layout.qlLength + v) 0 ≡ length (getD ql v [])
+  pub in-use : (v : ℕ) → v < Layout.serverCount → getD tally (Layout.inUse + v) 0 ≡ getD servers v (idleServer 0) .inUse
+  pub unit-ticks : (v : ℕ) → v < Layout.serverCount → getD tally (Layout.unitTicks + v) 0 ≡ getD servers v (idleServer 0) .unitTicks
+  pub wait-ticks : (v : ℕ) → v < Layout.serverCount → getD tally (Layout.waitTicks + v) 0 ≡ getD servers v (idleServer 0) .waitTicks
+  pub longest : (v : ℕ) → v < Layout.serverCount → getD tally (Layout.longestQl + v) 0 ≡ getD servers v (idleServer 0) .longest
+  pub waiting : (v : ℕ) → v < Layout.serverCount → getD tally (Layout.qlLength + v) 0 ≡ length (getD ql v [])
 
 pub record Queueing (tally : List ℕ) (queues : List Queue) : Type 0 where
-  pub contents : (q : ℕ) → q < 32 → getD tally (Layout.content + q) 0 ≡ getD queues q emptyQueue .content
-  pub content-ticks : (q : ℕ) → q < 32 → getD tally (Layout.contentTicks + q) 0 ≡ getD queues q emptyQueue .contentTicks
-  pub longest : (q : ℕ) → q < 32 → getD tally (Layout.longestContent + q) 0 ≡ getD queues q emptyQueue .longest
+  pub contents : (q : ℕ) → q < maxQueues → getD tally (Layout.content + q) 0 ≡ getD queues q emptyQueue .content
+  pub content-ticks : (q : ℕ) → q < maxQueues → getD tally (Layout.contentTicks + q) 0 ≡ getD queues q emptyQueue .contentTicks
+  pub longest : (q : ℕ) → q < maxQueues → getD tally (Layout.longestContent + q) 0 ≡ getD queues q emptyQueue .longest
 
 pub record Sampling (tapeBytes tally : List ℕ) (samples : List (List ℕ)) : Type 0 where
   pub begins : (l : ℕ) → l < length samples → TimesAt tapeBytes (getD tally (Layout.listAt + l) 0) (getD samples l [])
-  pub left : (l : ℕ) → l < 16 → getD tally (Layout.listLeft + l) 0 ≡ length (getD samples l [])
+  pub left : (l : ℕ) → l < maxLists → getD tally (Layout.listLeft + l) 0 ≡ length (getD samples l [])
 
 pub record Tallying (tapeBytes tally : List ℕ) (s : State) : Type 0 where
   pub size : length tally ≡ Layout.tallySize
-  pub entries : (b : ℕ) → b < 256 → getD tally (Layout.entries + b) 0 ≡ getD (s .view .entries) b 0
+  pub entries : (b : ℕ) → b < maxBlocks → getD tally (Layout.entries + b) 0 ≡ getD (s .view .entries) b 0
   pub servers : Serving tally (s .view .servers) (s .ql)
   pub queues : Queueing tally (s .view .queues)
   pub samples : Sampling tapeBytes tally (s .samples)

@@ -3,14 +3,15 @@ ghost use mathlib.Core.Path.{_≡_};
 ghost use mathlib.Core.Bool.{cond};
 ghost use Prim.Native.Nat.{_+_, _-_, _*_, min};
 ghost use lib.Dec.{ltb};
+ghost use Rattle.tables.specs.Layout.{most32, most64, wordEnd};
 
 pub fn plus32(a: u32, b: u32) -> u32
-    ensures { λ r. ⌜ r ≡ min (a + b) 4294967295 ⌝ }
+    ensures { λ r. ⌜ r ≡ min (a + b) most32 ⌝ }
 {
-    if a <= 4_294_967_295 - b {
+    if a <= u32::MAX - b {
         return a + b;
     }
-    4_294_967_295
+    u32::MAX
 }
 
 pub fn less32(a: u32, b: u32) -> u32
@@ -23,12 +24,12 @@ pub fn less32(a: u32, b: u32) -> u32
 }
 
 pub fn plus64(a: u64, b: u64) -> u64
-    ensures { λ r. ⌜ r ≡ min (a + b) 18446744073709551615 ⌝ }
+    ensures { λ r. ⌜ r ≡ min (a + b) most64 ⌝ }
 {
-    if a <= 18_446_744_073_709_551_615 - b {
+    if a <= u64::MAX - b {
         return a + b;
     }
-    18_446_744_073_709_551_615
+    u64::MAX
 }
 
 pub fn less64(a: u64, b: u64) -> u64
@@ -40,11 +41,14 @@ pub fn less64(a: u64, b: u64) -> u64
     0
 }
 
+// 2 to the 32
+const WORD_END: u64 = 4_294_967_296;
+
 // A number below 2 to the 32 times some ticks; 0 for a larger one.
 pub fn product(a: u64, ticks: u32) -> u64
-    ensures { λ r. ⌜ r ≡ cond (ltb a 4294967296) (a * ticks) 0 ⌝ }
+    ensures { λ r. ⌜ r ≡ cond (ltb a wordEnd) (a * ticks) 0 ⌝ }
 {
-    if a < 4_294_967_296 {
+    if a < WORD_END {
         return a * (ticks as u64);
     }
     0

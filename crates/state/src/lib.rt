@@ -8,4 +8,8 @@ pub use arith::less64;
 pub use arith::plus32;
 pub use arith::plus64;
 pub use arith::product;
+pub use scalars::ENTERED;
+pub use scalars::NO_RECORD;
+pub use scalars::NOBODY;
 pub use scalars::Scalars;
+pub use scalars::WAITS;

@@ -1,5 +1,16 @@
-// What a turn hands on beside the buffers. `moving` is the row of the moving transaction, 1,024 for none; `used` counts the
-// bytes of trace; `note` says which record the last block writes: 0 entered, 1 began to wait, 2 none.
+use rows::ROWS;
+
+pub const NOBODY: u32 = ROWS;
+
+// "outcome (0 entered, 1 began to wait)"
+pub const ENTERED: u32 = 0;
+
+pub const WAITS: u32 = 1;
+
+pub const NO_RECORD: u32 = 2;
+
+// What a turn hands on beside the buffers. `moving` is the row of the moving transaction, or `NOBODY`; `used` counts the bytes of
+// trace; `note` says which record the last block writes: `ENTERED`, `WAITS` or `NO_RECORD`.
 pub struct Scalars {
     pub clock: u32,
     pub counter: u32,

@@ -10,6 +10,11 @@ use tables::VALUE_WIDTH;
 use tables::VALUES;
 use terms::Parameters;
 
+// The largest number with a sign, and the bits of -9.
+const MOST: u32 = 2_147_483_647;
+
+const MINUS_NINE: u32 = 4_294_967_287;
+
 // Puts numbers into the tables from a position on, as far as there is room.
 fn put(tables: &mut [u32], at: usize, numbers: &[u32]) {
     if tables.len() <= at {
@@ -33,7 +38,7 @@ fn put_value(tables: &mut [u32], k: u32, numbers: &[u32]) {
 
 fn put_sums(tables: &mut [u32]) {
     // 2,147,483,647 + 1
-    let wrapped = [2, 0, 0, 2_147_483_647, 0, 0, 1];
+    let wrapped = [2, 0, 0, MOST, 0, 0, 1];
     put_value(tables, 0, &wrapped);
     // 10 - (3 - (2 + parameter 1))
     let nested = [2, 0, 0, 10, 1, 11, 2, 0, 0, 3, 1, 11, 2, 0, 0, 2, 0, 2, 0];
@@ -57,7 +62,7 @@ fn put_others(tables: &mut [u32]) {
     let seen = [3, 0, 8, 0, 0, 5, 0, 0, 6, 1];
     put_value(tables, 6, &seen);
     // minus 2,147,483,647 - 2
-    let below = [2, 0, 1, 2_147_483_647, 1, 0, 2];
+    let below = [2, 0, 1, MOST, 1, 0, 2];
     put_value(tables, 7, &below);
 }
 
@@ -79,7 +84,7 @@ fn show_value(tables: &mut [u32], tally: &[u64], k: u32) {
         p1: 5,
         p2: 0,
         p3: 0,
-        p4: 4_294_967_287,
+        p4: MINUS_NINE,
     };
     let named = [9, k];
     put(tables, 0, &named);

@@ -1,12 +1,38 @@
 -- Where things stand in the two arrays of a run, by index. `tables`, filled once by decoding: the program, the values and the
 -- capacities. `tally`, the 64-bit numbers that change: entries, units, contents, sums, and where each sample list goes on.
-use Prim.Native.Nat.{ℕ}
+use Prim.Native.Nat.{ℕ, _+_, _≤_}
+use mathlib.Core.List.{List}
+use lib.ListN.{length}
+
+-- ---- sizes
+
+-- facilities, then storages
+abbrev pub serverCount : ℕ
+serverCount = 64
+
+-- the codes of a server's status
+abbrev pub codeCount : ℕ
+codeCount = 6
+
+-- the largest numbers of 32 and of 64 bits, and the first that does not fit 32 bits
+abbrev pub most32 : ℕ
+most32 = 4294967295
+
+abbrev pub most64 : ℕ
+most64 = 18446744073709551615
+
+abbrev pub wordEnd : ℕ
+wordEnd = 4294967296
 
 -- ---- tables
 
 -- block b (from 0) at program + 8 * b
 abbrev pub blockWidth : ℕ
 blockWidth = 8
+
+-- the program is 256 blocks
+abbrev pub programSize : ℕ
+programSize = 2048
 
 -- value k (from 0) at values + 64 * k
 abbrev pub values : ℕ
@@ -18,6 +44,19 @@ valueWidth = 64
 -- the capacity of server v (from 0; the facilities first) at capacities + v, for 64 servers
 abbrev pub capacities : ℕ
 capacities = 2560
+
+abbrev pub tablesSize : ℕ
+tablesSize = 2624
+
+-- the tables are whole; they have the program; they have the row of the block at `at`
+abbrev pub Tables : List ℕ → Type 0
+Tables tables = tablesSize ≤ length tables
+
+abbrev pub Program : List ℕ → Type 0
+Program tables = programSize ≤ length tables
+
+abbrev pub BlockAt : List ℕ → ℕ → Type 0
+BlockAt tables at = at + blockWidth ≤ length tables
 
 -- ---- tally
 
@@ -64,3 +103,11 @@ listLeft = 944
 
 abbrev pub tallySize : ℕ
 tallySize = 960
+
+-- ---- what decoding leaves of the tape: list k (from 0) begins at cell k, and cell 16 + k is its count
+
+abbrev pub listCounts : ℕ
+listCounts = 16
+
+abbrev pub listCells : ℕ
+listCells = 32

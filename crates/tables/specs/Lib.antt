@@ -1,3 +1,4 @@
 pub mod Layout
 pub mod Numbers
 pub mod Represents
+pub mod Forms

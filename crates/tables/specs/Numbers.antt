@@ -2,8 +2,8 @@
 -- entries are asked for, a queue, a server, a value, a list) is stored from 0; targets are block numbers, from 1.
 use Prim.Native.Nat.{ℕ, suc, _+_, _-_}
 use mathlib.Core.List.{List, [], _∷_, _++_}
-use Rattle.machine.specs.Term.{Relation, equal, unequal, less, atMost, greater, atLeast, Term, constant, minusConstant, parameter, clockTerm, entriesOf, contentOf, unitsInUse, unitsFree, facilityInUse, value, comparison, bracket, Sum, nothing, plus, minus}
-use Rattle.machine.specs.Block.{codeIndex, Block, generate, advance, terminate, seize, release, enter, leave, waitServer, waitTerms, branch, goto, assign, priority, split, arrive, depart}
+use Rattle.machine.specs.Term.{Relation, equal, unequal, less, atMost, greater, atLeast, Term, constant, minusConstant, parameter, clockTerm, entriesOf, contentOf, unitsInUse, unitsFree, facilityInUse, value, comparison, bracket, Condition, always, whenTrue, Sum, nothing, plus, minus}
+use Rattle.machine.specs.Block.{codeIndex, Share, facility, storage, Change, up, down, Block, generate, advance, terminate, takes, frees, waitServer, waitTerms, moves, assign, priority, split, counts}
 
 unfoldable pub relationNumber : Relation → ℕ
 relationNumber equal = 1
@@ -42,20 +42,33 @@ unfoldable mutual
 unfoldable pub sumNumbers : Sum → List ℕ
 sumNumbers e = terms e ∷ signedTerms e
 
+-- the kind of a block is its number in document 01
+unfoldable pub takeNumbers : Share → List ℕ
+takeNumbers (facility v) = 4 ∷ (v - 1) ∷ []
+takeNumbers (storage v b) = 6 ∷ (v - 1) ∷ b ∷ []
+
+unfoldable pub freeNumbers : Share → List ℕ
+freeNumbers (facility v) = 5 ∷ (v - 1) ∷ []
+freeNumbers (storage v b) = 7 ∷ (v - 1) ∷ b ∷ []
+
+unfoldable pub moveNumbers : Condition → ℕ → List ℕ
+moveNumbers always target = 11 ∷ target ∷ []
+moveNumbers (whenTrue a r b) target = 10 ∷ (termNumbers a ++ (relationNumber r ∷ (termNumbers b ++ (target ∷ []))))
+
+unfoldable pub countKind : Change → ℕ
+countKind up = 15
+countKind down = 16
+
 unfoldable pub blockNumbers : Block → List ℕ
 blockNumbers (generate list p) = 1 ∷ (list - 1) ∷ p ∷ []
 blockNumbers (advance list) = 2 ∷ (list - 1) ∷ []
 blockNumbers (terminate a) = 3 ∷ a ∷ []
-blockNumbers (seize v) = 4 ∷ (v - 1) ∷ []
-blockNumbers (release v) = 5 ∷ (v - 1) ∷ []
-blockNumbers (enter v b) = 6 ∷ (v - 1) ∷ b ∷ []
-blockNumbers (leave v b) = 7 ∷ (v - 1) ∷ b ∷ []
+blockNumbers (takes x) = takeNumbers x
+blockNumbers (frees x) = freeNumbers x
 blockNumbers (waitServer code v) = 8 ∷ codeIndex code ∷ (v - 1) ∷ []
 blockNumbers (waitTerms a r b) = 9 ∷ (termNumbers a ++ (relationNumber r ∷ termNumbers b))
-blockNumbers (branch a r b target) = 10 ∷ (termNumbers a ++ (relationNumber r ∷ (termNumbers b ++ (target ∷ []))))
-blockNumbers (goto target) = 11 ∷ target ∷ []
+blockNumbers (moves c target) = moveNumbers c target
 blockNumbers (assign k a) = 12 ∷ (k - 1) ∷ termNumbers a
 blockNumbers (priority p) = 13 ∷ p ∷ []
 blockNumbers (split n target) = 14 ∷ n ∷ target ∷ []
-blockNumbers (arrive q) = 15 ∷ (q - 1) ∷ []
-blockNumbers (depart q) = 16 ∷ (q - 1) ∷ []
+blockNumbers (counts c q) = countKind c ∷ (q - 1) ∷ []

@@ -5,10 +5,12 @@ use mathlib.Core.Bool.{Bool, true, _&&_}
 use mathlib.Core.List.{List, [], _++_}
 use lib.Dec.{leb, T}
 use lib.ListN.{length, getD, take, drop, replicate}
-use Rattle.machine.specs.Limits.{maxConstant, maxTime}
-use Rattle.machine.specs.Parser.{Cursor, parsed, times, field}
+use Rattle.machine.specs.Rules.{inForce}
+use Rattle.machine.specs.Limits.{maxConstant, maxLists}
+use Rattle.machine.specs.Parser.{Cursor, parsed, times, fieldUpTo}
 use Rattle.machine.specs.Term.{Term, constant, minusConstant, parameter, clockTerm, entriesOf, contentOf, unitsInUse, unitsFree, facilityInUse, value, comparison, bracket, Sum, nothing, plus, minus}
-use Rattle.machine.specs.Block.{Block, generate, advance, terminate, seize, release, enter, leave, waitServer, waitTerms, branch, goto, assign, priority, split, arrive, depart, BlockModel}
+use Rattle.machine.specs.Block.{Block, terminate, facts, BlockModel}
+use Rattle.machine.specs.Validate.{allOf}
 use Rattle.machine.specs.declared.model.Model.{Model}
 use Rattle.tables.specs.Layout as Layout
 use Rattle.tables.specs.Numbers.{sumNumbers, blockNumbers}
@@ -51,35 +53,22 @@ unfoldable mutual
   smallSum (minus t e) = smallTerm t && smallSum e
 
 unfoldable pub smallBlock : Block → Bool
-smallBlock (generate list p) = true
-smallBlock (advance list) = true
-smallBlock (terminate a) = true
-smallBlock (seize v) = true
-smallBlock (release v) = true
-smallBlock (enter v b) = true
-smallBlock (leave v b) = true
-smallBlock (waitServer code v) = true
-smallBlock (waitTerms a r b) = smallTerm a && smallTerm b
-smallBlock (branch a r b target) = smallTerm a && smallTerm b
-smallBlock (goto target) = true
-smallBlock (assign k a) = smallTerm a
-smallBlock (priority p) = true
-smallBlock (split n target) = true
-smallBlock (arrive q) = true
-smallBlock (depart q) = true
+smallBlock b = allOf smallTerm (facts b .terms)
 
 -- from byte p of the tape on stand the times of a sample list
 abbrev pub TimesAt : List ℕ → ℕ → List ℕ → Type 0
 TimesAt bytes p l =
-    (c : Cursor) → c .position ≡ p → (d : Cursor) × (times (length l) (field bytes 8 0 maxTime) c ≡ parsed l d)
+    (c : Cursor) → c .position ≡ p → (d : Cursor) × (times (length l) (fieldUpTo (inForce .maxNumber) bytes 8 0 (inForce .maxTime)) c ≡ parsed l d)
 
+-- the model was judged by the rules that the engine keeps
 pub record Represents (m : BlockModel) (tape : List (List ℕ)) (tapeBytes tables lists : List ℕ) : Type 0 where
+  pub rules : m .rules ≡ inForce
   pub blocks : (b : ℕ) → b < length (m .blocks) → At tables (Layout.blockWidth * b) (blockNumbers (getD (m .blocks) b (terminate 0)))
   pub small-blocks : (b : ℕ) → T (smallBlock (getD (m .blocks) b (terminate 0)))
   pub values : (k : ℕ) → k < length (m .values) → At tables (Layout.values + Layout.valueWidth * k) (sumNumbers (getD (m .values) k nothing))
   pub small-values : (k : ℕ) → T (smallSum (getD (m .values) k nothing))
   -- of all 64 servers; 0 where there is none
-  pub capacities : (v : ℕ) → v < 64 → getD tables (Layout.capacities + v) 0 ≡ getD (replicate (m .facilities) 1 ++ m .capacities) v 0
+  pub capacities : (v : ℕ) → v < Layout.serverCount → getD tables (Layout.capacities + v) 0 ≡ getD (replicate (m .facilities) 1 ++ m .capacities) v 0
   -- list k: where its times begin, at k, and its count, at 16 + k; a list that is not there has no times
   pub begins : (k : ℕ) → k < m .lists → TimesAt tapeBytes (getD lists k 0) (getD tape k [])
-  pub counts : (k : ℕ) → k < 16 → getD lists (16 + k) 0 ≡ length (getD tape k [])
+  pub counts : (k : ℕ) → k < maxLists → getD lists (Layout.listCounts + k) 0 ≡ length (getD tape k [])

@@ -1,10 +1,42 @@
 // The layout of a run's two arrays, as constants (specs/Layout). `TABLES` numbers of 32 bits are filled once by decoding;
 // `TALLY` numbers of 64 bits change with the run.
+use machine::Model;
 ghost use mathlib.Core.Path.{_≡_};
 ghost use lib.ListN.{getD, set};
 
+// The facilities, then the storages.
+pub const SERVERS: usize = Model::MAX_FACILITIES + Model::MAX_STORAGES;
+
+// The row of a block: its kind, then its operands. A comparison is a term, a relation and a term, and an IF has its target
+// behind it; a term is its tag and its number.
 pub const BLOCK_WIDTH: usize = 8;
 
+pub const FIRST: usize = 1;
+
+pub const SECOND: usize = 2;
+
+pub const BRANCH_TARGET: usize = 6;
+
+pub const RELATION: usize = 2;
+
+pub const RIGHT: usize = 3;
+
+pub const TERM_WIDTH: usize = 2;
+
+// Tags of terms, how many relations there are and how many codes.
+pub const ENTRIES_TAG: usize = 4;
+
+pub const VALUE_TAG: usize = 9;
+
+pub const COMPARISON_TAG: usize = 10;
+
+pub const BRACKET_TAG: usize = 11;
+
+pub const RELATIONS: usize = 6;
+
+pub const CODES: usize = 6;
+
+// Behind the program, 256 blocks wide.
 pub const VALUES: usize = 2_048;
 
 pub const VALUE_WIDTH: usize = 64;
@@ -38,6 +70,11 @@ pub const LIST_AT: usize = 928;
 pub const LIST_LEFT: usize = 944;
 
 pub const TALLY: usize = 960;
+
+// What decoding leaves of the tape: where the times of each list begin, then how many they are.
+pub const LIST_COUNTS: usize = Model::MAX_LISTS;
+
+pub const LIST_CELLS: usize = 32;
 
 // The number at an index of the tables; 0 past their end.
 pub fn number(tables: &[u32], at: usize) -> u32

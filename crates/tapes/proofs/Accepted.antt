@@ -10,6 +10,7 @@ use lib.Dec.{leb}
 use lib.Ieee.{Float}
 use lib.ListN.{length, drop, length-append}
 use borrow.Author.Tests.{eq-eqb}
+use Rattle.machine.specs.Rules.{inForce}
 use Rattle.machine.specs.Limits as Machine
 use Rattle.machine.specs.Number.{numberBytes}
 use Rattle.machine.specs.Parser.{Cursor, Parsed, parsed, continue, ask, times, field}
@@ -59,7 +60,7 @@ module _ (s : List ℕ) (i j : ℕ) where
 
   list-read : (x : Listed) (r at : ℕ) (rest : List ℕ) → Sound (x .source) × (x .count ≤ mostTimes) → Inside r →
       drop at s ≡ numberBytes (x .count) ++ (timesBytes (x .source) (x .count) r ++ rest) →
-      listField s (cursorAt at i j) ≡
+      listField s inForce (cursorAt at i j) ≡
       parsed (timesOf (x .source) (x .count) r) (cursorAt (at + length (numberBytes (x .count)) + length (timesBytes (x .source) (x .count) r)) i j)
   unfolding listField continue
   list-read x r at rest sound inside e =
@@ -68,7 +69,7 @@ module _ (s : List ℕ) (i j : ℕ) where
       (times-read (x .source) n r (at + length (numberBytes n)) rest (sound .0) inside (drop-past s (numberBytes n) (timesBytes (x .source) n r ++ rest) at e))
 
   lists-read : (ls : List Listed) (r at : ℕ) (rest : List ℕ) → SoundLists ls → Inside r → drop at s ≡ tapeBytes ls r ++ rest →
-      times (length ls) (listField s) (cursorAt at i j) ≡ parsed (tapeTimes ls r) (cursorAt (at + length (tapeBytes ls r)) i j)
+      times (length ls) (listField s inForce) (cursorAt at i j) ≡ parsed (tapeTimes ls r) (cursorAt (at + length (tapeBytes ls r)) i j)
   unfolding times tapeTimes continue
   lists-read [] r at rest sound inside e =
       ap (λ (p : ℕ). parsed [] (cursorAt p i j)) (sym (ap (λ (l : List ℕ). at + length l) (tape-none r) ∙ add-zero at))

@@ -5,6 +5,7 @@ use mathlib.Core.Option.{some}
 use mathlib.Core.Path.{_≡_}
 use lib.Ieee.{Float}
 use lib.ListN.{length}
+use Rattle.machine.specs.Rules.{inForce}
 use Rattle.machine.specs.Parser.{Cursor, parsed}
 use Rattle.machine.specs.Validate.{tapeOf, beginning}
 use Rattle.streams.specs.Stream.{beginning as startState}
@@ -17,7 +18,7 @@ use Rattle.tapes.specs.Answers.{answer}
 -- validation takes these bytes as the tape of a model with that many lists, and reads these times
 pub record Taken (bytes : List ℕ) (lists : ℕ) (times : List (List ℕ)) : Type 0 where
   pub behind : Cursor
-  pub takes : tapeOf bytes lists beginning ≡ parsed times behind
+  pub takes : tapeOf inForce bytes lists beginning ≡ parsed times behind
 
 -- the tape made is accepted, for a model with that many lists
 abbrev pub Accepts : (stream : ℕ) → List ℕ → List Float → (room : ℕ) → Type 0

@@ -1,12 +1,14 @@
 -- What the entry points give is what the machine says of the blocks that have terms: LET, WAITIF and IF. For callers.
 use Prim.Native.Nat.{ℕ, _+_, _-_, _*_, _<_}
 use native.Mathlib.Omega.{arith}
+use mathlib.Core.Bool.{true, _&&_}
 use mathlib.Core.List.{List, [], _∷_, _++_, append-nil}
 use mathlib.Core.Path.{_≡_, refl, ap, subst}
 use lib.Dec.{T}
 use lib.ListN.{length, getD}
 use Rattle.machine.specs.Term.{View, Relation, Term, constant, minusConstant, parameter, clockTerm, entriesOf, contentOf, unitsInUse, unitsFree, facilityInUse, value, comparison, bracket, worths, evaluate, compare}
 use Rattle.machine.specs.Block.{Block, waitTerms, branch, assign, terminate, BlockModel}
+use Rattle.tables.specs.Forms.{blockForms}
 use Rattle.tables.specs.Layout as Layout
 use Rattle.tables.specs.Numbers.{relationNumber, termNumbers, blockNumbers}
 use Rattle.tables.specs.Represents.{At, smallTerm, smallBlock, Represents}
@@ -78,33 +80,38 @@ module _ {m : BlockModel} {tape : List (List ℕ)} {tapeBytes tables lists : Lis
     -- 12 LET k, a
     pub let-law : (k : ℕ) (a : Term) → getD (m .blocks) i (terminate 0) ≡ assign k a →
         termAt tables tally (length (m .values)) clock p (Layout.blockWidth * i + 2) ≡ evaluate (m .values) w (parametersOf p) a
-    unfolding blockNumbers smallBlock nestedBlock
+    unfolding nestedBlock blockForms
     let-law k a e =
         let base = Layout.blockWidth * i in
         let f = at-first tables base 12 ((k - 1) ∷ termNumbers a) (numbers (assign k a) e) in
         let g = at-first tables (base + 1) (k - 1) (termNumbers a) (f .after) in
         let next : base + 1 + 1 ≡ base + 2 = omega arith in
-        term-law a (base + 2) (subst (λ (q : ℕ). At tables q (termNumbers a)) next (g .after)) (small (assign k a) e) (nested (assign k a) e)
+        term-law a (base + 2) (subst (λ (q : ℕ). At tables q (termNumbers a)) next (g .after))
+        (and-left (smallTerm a) true (small (assign k a) e)) (and-left (nestedTerm 0 a) true (nested (assign k a) e))
 
     -- 9 WAITIF a, o, b
     pub wait-law : (a : Term) (o : Relation) (b : Term) → getD (m .blocks) i (terminate 0) ≡ waitTerms a o b →
         compareAt tables tally (length (m .values)) clock p (Layout.blockWidth * i + 1) ≡ compare (m .values) w (parametersOf p) a o b
-    unfolding blockNumbers smallBlock nestedBlock
+    unfolding nestedBlock blockForms
     wait-law a o b e =
         let block = waitTerms a o b in
         let f = at-first tables (Layout.blockWidth * i) 9 (termNumbers a ++ (relationNumber o ∷ termNumbers b)) (numbers block e) in
         let h : At tables (Layout.blockWidth * i + 1) (termNumbers a ++ (relationNumber o ∷ (termNumbers b ++ []))) = rw (append-nil (termNumbers b)) (f .after) in
         compare-law a o b [] (Layout.blockWidth * i + 1) h
-        (and-left (smallTerm a) (smallTerm b) (small block e)) (and-right (smallTerm a) (smallTerm b) (small block e))
-        (and-left (nestedTerm 0 a) (nestedTerm 0 b) (nested block e)) (and-right (nestedTerm 0 a) (nestedTerm 0 b) (nested block e))
+        (and-left (smallTerm a) (smallTerm b && true) (small block e))
+        (and-left (smallTerm b) true (and-right (smallTerm a) (smallTerm b && true) (small block e)))
+        (and-left (nestedTerm 0 a) (nestedTerm 0 b && true) (nested block e))
+        (and-left (nestedTerm 0 b) true (and-right (nestedTerm 0 a) (nestedTerm 0 b && true) (nested block e)))
 
     -- 10 IF a, o, b, target
     pub if-law : (a : Term) (o : Relation) (b : Term) (target : ℕ) → getD (m .blocks) i (terminate 0) ≡ branch a o b target →
         compareAt tables tally (length (m .values)) clock p (Layout.blockWidth * i + 1) ≡ compare (m .values) w (parametersOf p) a o b
-    unfolding blockNumbers smallBlock nestedBlock
+    unfolding nestedBlock blockForms
     if-law a o b target e =
         let block = branch a o b target in
         let f = at-first tables (Layout.blockWidth * i) 10 (termNumbers a ++ (relationNumber o ∷ (termNumbers b ++ (target ∷ [])))) (numbers block e) in
         compare-law a o b (target ∷ []) (Layout.blockWidth * i + 1) (f .after)
-        (and-left (smallTerm a) (smallTerm b) (small block e)) (and-right (smallTerm a) (smallTerm b) (small block e))
-        (and-left (nestedTerm 0 a) (nestedTerm 0 b) (nested block e)) (and-right (nestedTerm 0 a) (nestedTerm 0 b) (nested block e))
+        (and-left (smallTerm a) (smallTerm b && true) (small block e))
+        (and-left (smallTerm b) true (and-right (smallTerm a) (smallTerm b && true) (small block e)))
+        (and-left (nestedTerm 0 a) (nestedTerm 0 b && true) (nested block e))
+        (and-left (nestedTerm 0 b) true (and-right (nestedTerm 0 a) (nestedTerm 0 b && true) (nested block e)))

@@ -1,24 +1,26 @@
 -- Validation from bytes: in what it accepts, at most four brackets open in a value and none in a term of a block.
 use Prim.Native.Nat.{ℕ, zero, suc, _-_}
-use mathlib.Core.Path.{_≡_, sym, ap, subst}
+use mathlib.Core.Path.{_≡_, sym, subst}
 use mathlib.Core.Bool.{Bool, true, false, cond, _&&_}
-use mathlib.Core.List.{List}
+use mathlib.Core.List.{List, _∷_, []}
 use native.Mathlib.Omega.{arith}
 use borrow.Author.Tests.{lt-ltb}
 use lib.Dec.{T, leb, ltb, eqb}
 use lib.ListN.{length}
+use Rattle.machine.specs.Rules.{inForce}
 use Rattle.machine.specs.Limits as Limits
 use Rattle.machine.specs.Lists.{nth}
 use Rattle.machine.specs.Term.{Relation, Term, comparison, bracket, Sum, nothing, plus, minus}
-use Rattle.machine.specs.Block.{Block, terminate, enter, leave, BlockModel}
+use Rattle.machine.specs.Block.{Block, terminate, enter, leave, BlockModel, facts, compared}
 use Rattle.machine.specs.Parser.{Parsed, parsed, refused, Parser}
 use Rattle.machine.specs.Decode.{Counts, relationOf, simpleTerm, number, blockTerm, counted, mentioned, valueNumber, sumTerms, sumField, bracketField, comparisonField, mentionField, taggedTerm, valueTerm, valueField, inValue, valueFields, codeServer, storageUnits, operands, blockField, modelFields, atEnd}
-use Rattle.machine.specs.Validate.{wellFormed, beginning, modelOf, tapeOf, Validation, accept, reject, withTape, withModel, validate}
+use Rattle.machine.specs.Validate.{wellFormed, beginning, modelOf, tapeOf, Validation, accept, reject, withTape, withModel, validate, allOf}
 use Rattle.machine.specs.Claims.{Each}
 use Rattle.machine.proofs.RunLaws.{cond-cases}
 use Rattle.machine.proofs.ParserLaws.{Refusal, Gives, Ensures, Any, then, gives, refuses, choice, weaken, repeated, asked, in-range}
 use Rattle.machine.proofs.Shape.{each-getD}
 use Rattle.terms.specs.Nested.{nestedTerm, nestedSum, nestedBlock, Nested}
+use Rattle.machine.proofs.ProperFrom.{block-parsed}
 
 -- ---- Depth
 
@@ -72,7 +74,7 @@ module _ (d : ℕ) where
 
 module _ (s : List ℕ) where
   any-number : (lo hi : ℕ) → Ensures Any (number s lo hi)
-  any-number lo hi = weaken (λ a h. tt) (in-range s 3 lo hi (omega arith) (omega arith))
+  any-number lo hi = weaken (λ a h. tt) (in-range Limits.maxNumber s 3 lo hi (omega arith) (omega arith))
 
   block-term : (n : Counts) → Ensures (Low 0) (blockTerm s n)
   unfolding blockTerm nestedTerm
@@ -148,49 +150,21 @@ module _ (s : List ℕ) where
   abbrev Flat : Block → Type 0
   Flat b = T (nestedBlock b)
 
-  storage-units : (n : Counts) (capacities : List ℕ) (make : ℕ → ℕ → Block) → ((v b : ℕ) → Flat (make v b)) → Ensures Flat (storageUnits s n capacities make)
-  unfolding storageUnits
-  storage-units n capacities make good =
-      then (any-number 1 (n .storages)) (λ k h. then (any-number 1 (nth capacities k 0)) (λ b g. gives (good _ b)))
-
-  code-server : (n : Counts) (code : ℕ) → Ensures Any (codeServer s n code)
-  unfolding codeServer
-  code-server n code = both (leb code 2) (any-number 1 (n .facilities)) (then (any-number 1 (n .storages)) (λ k h. gives tt))
-
-  two : (a b : Term) → Low 0 a → Low 0 b → T (nestedTerm 0 a && nestedTerm 0 b)
-  two a b h k = all (nestedTerm 0 a) (nestedTerm 0 b) h k
-
-  operands-flat : (n : Counts) (capacities : List ℕ) (kind : ℕ) → Ensures Flat (operands s n capacities kind)
-  unfolding operands nestedBlock
-  operands-flat n capacities kind =
-      both (eqb kind 1) (then (any-number 1 (n .lists)) (λ l h. then (any-number 0 Limits.maxPriority) (λ p g. gives tt)))
-      (both (eqb kind 2) (then (any-number 1 (n .lists)) (λ l h. gives tt))
-      (both (eqb kind 3) (then (any-number 0 Limits.maxTerminate) (λ a h. gives tt))
-      (both (eqb kind 4) (then (any-number 1 (n .facilities)) (λ f h. gives tt))
-      (both (eqb kind 5) (then (any-number 1 (n .facilities)) (λ f h. gives tt))
-      (both (eqb kind 6) (storage-units n capacities enter (λ v b. tt))
-      (both (eqb kind 7) (storage-units n capacities leave (λ v b. tt))
-      (both (eqb kind 8) (then (any-number 1 6) (λ code h. then (code-server n code) (λ v g. gives tt)))
-      (both (eqb kind 9) (then (block-term n) (λ a ha. then (any-number 1 6) (λ r h. then (block-term n) (λ b hb. gives (two a b ha hb)))))
-      (both (eqb kind 10)
-      (then (block-term n)
-      (λ a ha. then (any-number 1 6) (λ r h. then (block-term n) (λ b hb. then (any-number 1 (n .blocks)) (λ k h. gives (two a b ha hb))))))
-      (both (eqb kind 11) (then (any-number 1 (n .blocks)) (λ k h. gives tt))
-      (both (eqb kind 12) (then (any-number 1 Limits.parameterCount) (λ k h. then (block-term n) (λ a ha. gives ha)))
-      (both (eqb kind 13) (then (any-number 0 Limits.maxPriority) (λ p h. gives tt))
-      (both (eqb kind 14) (then (any-number 1 Limits.maxSplit) (λ k h. then (any-number 1 (n .blocks)) (λ t g. gives tt)))
-      (both (eqb kind 15) (then (any-number 1 (n .queues)) (λ q h. gives tt)) (then (any-number 1 (n .queues)) (λ q h. gives tt))))))))))))))))
+  all-flat : (l : List Term) → Each (Low 0) l → T (allOf (nestedTerm 0) l)
+  unfolding allOf
+  all-flat [] h = tt
+  all-flat (a ∷ l) h = all (nestedTerm 0 a) (allOf (nestedTerm 0) l) (h .0) (all-flat l (h .1))
 
   block-flat : (n : Counts) (capacities : List ℕ) → Ensures Flat (blockField s n capacities)
-  unfolding blockField
-  block-flat n capacities = then (any-number 1 16) (λ kind h. operands-flat n capacities kind)
+  unfolding nestedBlock
+  block-flat n capacities = weaken (λ b h. all-flat (facts b .terms) (h .1)) (block-parsed s n capacities (Low 0) (block-term n))
 
   -- ---- The model
 
   abbrev Low-model : BlockModel → Type 0
   Low-model m = Each Shallow (m .values) × Each Flat (m .blocks)
 
-  model-fields : Ensures Low-model (modelFields s)
+  model-fields : Ensures Low-model (modelFields s inForce)
   unfolding modelFields
   model-fields =
       then (any-number 1 1) (λ edition he. then (any-number 0 Limits.maxFacilities) (λ facilities hf. then (any-number 0 Limits.maxStorages) (λ storages hs.
@@ -203,7 +177,7 @@ module _ (s : List ℕ) where
   unfolding atEnd
   at-end code h = record { from = λ c. weaken (λ u g. tt) (asked (eqb (c .position) (length s)) code h) .from c }
 
-  model-of : Ensures Low-model (modelOf s)
+  model-of : Ensures Low-model (modelOf inForce s)
   unfolding modelOf
   model-of =
       then model-fields (λ m h. then (at-end 6 (omega arith, omega arith)) (λ u g. then (asked (wellFormed m) 7 (omega arith, omega arith)) (λ u f. gives h)))
@@ -221,22 +195,22 @@ with-tape s m h (refused n) = tt
 
 with-model : (s tape : List ℕ) (r : Parsed BlockModel) → Gives (Low-model s) r → Verdict s (withModel tape r)
 unfolding withModel
-with-model s tape (parsed m c) h = with-tape s m h (tapeOf tape (m .lists) beginning)
+with-model s tape (parsed m c) h = with-tape s m h (tapeOf (m .rules) tape (m .lists) beginning)
 with-model s tape (refused n) h = tt
 
-verdict : (model tape : List ℕ) (work report : ℕ) → Verdict model (validate model tape work report)
+verdict : (model tape : List ℕ) (work report : ℕ) → Verdict model (validate inForce model tape work report)
 unfolding validate
 verdict model tape work report =
-    cond-cases (Verdict model) (leb Limits.workNumbers work) (cond (leb Limits.reportRoom report) (withModel tape (modelOf model beginning)) (reject 2)) (reject 1)
+    cond-cases (Verdict model) (leb Limits.workNumbers work) (cond (leb Limits.reportRoom report) (withModel tape (modelOf inForce model beginning)) (reject 2)) (reject 1)
     (λ e.
-    cond-cases (Verdict model) (leb Limits.reportRoom report) (withModel tape (modelOf model beginning)) (reject 2)
-    (λ e. with-model model tape (modelOf model beginning) (model-of model .from beginning)) (λ e. tt))
+    cond-cases (Verdict model) (leb Limits.reportRoom report) (withModel tape (modelOf inForce model beginning)) (reject 2)
+    (λ e. with-model model tape (modelOf inForce model beginning) (model-of model .from beginning)) (λ e. tt))
     (λ e. tt)
 
-pub nested-from : (model tape : List ℕ) (work report : ℕ) {m : BlockModel} {t : List (List ℕ)} → validate model tape work report ≡ accept m t → Nested m
+pub nested-from : (model tape : List ℕ) (work report : ℕ) {m : BlockModel} {t : List (List ℕ)} → validate inForce model tape work report ≡ accept m t → Nested m
 nested-from model tape work report {m} e =
     let low : Low-model model m = subst (Verdict model) e (verdict model tape work report) in
     record {
-      blocks = λ b. each-getD (Flat model) (m .blocks) b (terminate 0) (low .1) (unfold nestedBlock in tt);
+      blocks = λ b. each-getD (Flat model) (m .blocks) b (terminate 0) (low .1) (unfold nestedBlock facts allOf in tt);
       values = λ k. each-getD (Shallow model) (m .values) k nothing (low .0) (unfold nestedTerm in tt);
     }

@@ -5,7 +5,8 @@ use lib.Dec.{T, ltb}
 use lib.ListN.{getD}
 use Rattle.machine.specs.Limits.{maxBrackets}
 use Rattle.machine.specs.Term.{Term, constant, minusConstant, parameter, clockTerm, entriesOf, contentOf, unitsInUse, unitsFree, facilityInUse, value, comparison, bracket, Sum, nothing, plus, minus}
-use Rattle.machine.specs.Block.{Block, generate, advance, terminate, seize, release, enter, leave, waitServer, waitTerms, branch, goto, assign, priority, split, arrive, depart, BlockModel}
+use Rattle.machine.specs.Block.{Block, terminate, facts, BlockModel}
+use Rattle.machine.specs.Validate.{allOf}
 
 -- at most d brackets open, one in the other
 unfoldable mutual
@@ -30,22 +31,7 @@ unfoldable mutual
 
 -- the terms of a block are a tag and a number
 unfoldable pub nestedBlock : Block → Bool
-nestedBlock (generate list p) = true
-nestedBlock (advance list) = true
-nestedBlock (terminate a) = true
-nestedBlock (seize v) = true
-nestedBlock (release v) = true
-nestedBlock (enter v b) = true
-nestedBlock (leave v b) = true
-nestedBlock (waitServer code v) = true
-nestedBlock (waitTerms a r b) = nestedTerm 0 a && nestedTerm 0 b
-nestedBlock (branch a r b target) = nestedTerm 0 a && nestedTerm 0 b
-nestedBlock (goto target) = true
-nestedBlock (assign k a) = nestedTerm 0 a
-nestedBlock (priority p) = true
-nestedBlock (split n target) = true
-nestedBlock (arrive q) = true
-nestedBlock (depart q) = true
+nestedBlock b = allOf (nestedTerm 0) (facts b .terms)
 
 pub record Nested (m : BlockModel) : Type 0 where
   pub blocks : (b : ℕ) → T (nestedBlock (getD (m .blocks) b (terminate 0)))

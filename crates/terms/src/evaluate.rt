@@ -6,6 +6,9 @@ use crate::simple::simple_term;
 use crate::wrapping::add;
 use crate::wrapping::subtract;
 use machine::Model;
+use tables::RELATION;
+use tables::RIGHT;
+use tables::TERM_WIDTH;
 use tables::VALUE_WIDTH;
 use tables::VALUES;
 use tables::number;
@@ -14,6 +17,10 @@ ghost use Prim.Native.Nat.{_≤_};
 ghost use lib.ListN.{length};
 ghost use Rattle.machine.specs.Term.{oneIf};
 ghost use Rattle.terms.specs.Evaluation.{joined, simpleTerm, sumFrom, comparisonFrom, valueBelow, termOf, termAt, compareAt};
+
+const VALUE_TAG: u32 = tables::VALUE_TAG as u32;
+
+const COMPARISON_TAG: u32 = tables::COMPARISON_TAG as u32;
 
 // "a sign (0 plus, 1 minus)"
 fn join(sign: u32, a: i32, b: i32) -> i32
@@ -46,16 +53,16 @@ fn term(
     }
     let tag = number(tables, at);
     let n = number(tables, at + 1);
-    if tag < 9 {
+    if tag < VALUE_TAG {
         return Worth {
             worth: simple_term(tables, tally, clock, parameters, tag, n),
-            next: at + 2,
+            next: at + TERM_WIDTH,
         };
     }
-    if tag == 9 {
+    if tag == VALUE_TAG {
         return Worth {
             worth: value(tables, tally, clock, parameters, lower, n),
-            next: at + 2,
+            next: at + TERM_WIDTH,
         };
     }
     if depth == 0 {
@@ -64,7 +71,7 @@ fn term(
             next: at + 1,
         };
     }
-    if tag == 10 {
+    if tag == COMPARISON_TAG {
         return comparison(tables, tally, clock, parameters, lower, depth - 1, at + 1);
     }
     sum(
@@ -202,6 +209,6 @@ pub fn compare_at(
     ensures { λ r. ⌜ r ≡ compareAt (now (tables .entry)) (now (tally .entry)) values clock parameters at ⌝ }
 {
     let left = term_at(tables, tally, values, clock, parameters, at);
-    let right = term_at(tables, tally, values, clock, parameters, at + 3);
-    related(number(tables, at + 2), left, right)
+    let right = term_at(tables, tally, values, clock, parameters, at + RIGHT);
+    related(number(tables, at + RELATION), left, right)
 }

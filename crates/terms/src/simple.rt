@@ -6,6 +6,7 @@ use tables::CAPACITIES;
 use tables::CONTENT;
 use tables::ENTRIES;
 use tables::IN_USE;
+use tables::SERVERS;
 use tables::count;
 use tables::number;
 ghost use mathlib.Core.Path.{_≡_};
@@ -17,11 +18,12 @@ ghost use Rattle.tables.specs.Layout as Layout;
 ghost use Rattle.terms.specs.Evaluation as Evaluation;
 ghost use Rattle.terms.specs.Evaluation.{within, parameterBits, servers, freeUnits, simpleTerm};
 
-const SERVERS: usize = Model::MAX_FACILITIES + Model::MAX_STORAGES;
+// the first number that is no positive one of 32 bits with a sign
+const POSITIVE_END: u64 = 2_147_483_648;
 
 // Number n of a part of the tally that begins at `begin` and has `size` of them; 0 if there is none.
 fn tallied(tally: &[u64], begin: usize, size: usize, n: u32) -> u64
-    requires { ⌜ begin ≤ 960 ⌝ }
+    requires { ⌜ begin ≤ Layout.tallySize ⌝ }
     ensures { λ r. ⌜ r ≡ within (now (tally .entry)) begin size n ⌝ }
 {
     let i = n as usize;
@@ -32,7 +34,7 @@ fn tallied(tally: &[u64], begin: usize, size: usize, n: u32) -> u64
 fn small(n: u64) -> i32
     ensures { λ r. ⌜ r ≡ Evaluation.small n ⌝ }
 {
-    if n < 2_147_483_648 { n as i32 } else { 0 }
+    if n < POSITIVE_END { n as i32 } else { 0 }
 }
 
 fn minus(n: u64) -> i32

@@ -3,6 +3,9 @@ ghost use mathlib.Core.Path.{_≡_};
 ghost use lib.IntN.{_+ℤ_, _-ℤ_};
 ghost use Rattle.machine.specs.Term as Term;
 
+// The least bits of a negative number.
+const NEGATIVE: u32 = 2_147_483_648;
+
 // The 32 bits of a number.
 pub fn bits(x: i32) -> u32
     ensures { λ r. ⌜ r ≡ Term.low32 x ⌝ }
@@ -10,7 +13,7 @@ pub fn bits(x: i32) -> u32
     if 0 <= x {
         x as u32
     } else {
-        4_294_967_295 - (-1 - x) as u32
+        u32::MAX - (-1 - x) as u32
     }
 }
 
@@ -18,10 +21,10 @@ pub fn bits(x: i32) -> u32
 pub fn signed(n: u32) -> i32
     ensures { λ r. ⌜ r ≡ Term.signed n ⌝ }
 {
-    if n < 2_147_483_648 {
+    if n < NEGATIVE {
         n as i32
     } else {
-        -1 - (4_294_967_295 - n) as i32
+        -1 - (u32::MAX - n) as i32
     }
 }
 

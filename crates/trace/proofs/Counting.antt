@@ -1,23 +1,42 @@
--- One turn of the counter, pure: the byte at i counts if it is below 80 hexadecimal.
-use Prim.Native.Nat.{ℕ, _+_, _≤_, _<_}
-use native.Mathlib.Numerals.{add-one}
+-- Counts of parts: one byte, two lists together, and the step of a loop that counts part after part.
+use Prim.Native.Nat.{ℕ, suc, _+_, _≤_, _<_}
 use native.Mathlib.Omega.{arith}
-use mathlib.Core.List.{List}
-use mathlib.Core.Path.{_≡_}
-use lib.ListN.{length, drop, getD, drop-of-length-le}
-use lib.Seq.{drop-cons}
+use mathlib.Core.Bool.{Bool, true, false, cond}
+use mathlib.Core.List.{List, [], _∷_, _++_}
+use mathlib.Core.Path.{_≡_, ap, sym, _∙_}
+use lib.Dec.{ltb}
+use lib.ListN.{length, take, drop, getD, take-append-drop, drop-of-length-le}
+use lib.Seq.{drop-cons, drop-drop}
 use borrow.Author.Tests.{lt-ltb, le-ltb}
 use Rattle.machine.specs.Number.{countLow}
+use Rattle.trace.specs.Words.{part}
 
-module _ (s : List ℕ) (i n : ℕ) where
-  pub counted-low : i < length s → getD s i 0 < 128 → n + 1 + countLow (drop (i + 1) s) ≡ n + countLow (drop i s)
-  unfolding countLow
-  counted-low h low = rw (add-one i, drop-cons s i 0 h, lt-ltb (getD s i 0) 128 low) (omega arith)
+pub countLow-append : (l k : List ℕ) → countLow (l ++ k) ≡ countLow l + countLow k
+unfolding countLow
+countLow-append [] k = omega arith
+countLow-append (b ∷ l) k = go (ltb b 128) (countLow-append l k)
+  where
+    go : (x : Bool) → {n : ℕ} → n ≡ countLow l + countLow k → cond x (suc n) n ≡ cond x (suc (countLow l)) (countLow l) + countLow k
+    go true e = omega arith
+    go false e = omega arith
 
-  pub counted-high : i < length s → 128 ≤ getD s i 0 → n + countLow (drop (i + 1) s) ≡ n + countLow (drop i s)
-  unfolding countLow
-  counted-high h high = rw (add-one i, drop-cons s i 0 h, le-ltb (getD s i 0) 128 high)
+module _ (s : List ℕ) (at : ℕ) (inside : at < length s) where
+  pub byte-low : getD s at 0 < 128 → 1 ≡ countLow (part s at 1)
+  unfolding countLow part
+  byte-low low = rw (drop-cons s at 0 inside, lt-ltb (getD s at 0) 128 low)
 
-  pub counted-all : length s ≤ i → n ≡ n + countLow (drop i s)
-  unfolding countLow
-  counted-all h = rw (drop-of-length-le s h) (omega arith)
+  pub byte-high : 128 ≤ getD s at 0 → 0 ≡ countLow (part s at 1)
+  unfolding countLow part
+  byte-high high = rw (drop-cons s at 0 inside, le-ltb (getD s at 0) 128 high)
+
+-- the part of n bytes from i on is counted, and what follows it is left
+pub counted : (s : List ℕ) (i n count : ℕ) {r : ℕ} → r ≡ countLow (part s i n) → count + countLow (drop i s) ≡ countLow s →
+    count + r + countLow (drop (i + n) s) ≡ countLow s
+unfolding part
+counted s i n count e all =
+    let rest = sym (take-append-drop n (drop i s)) ∙ ap (λ (l : List ℕ). take n (drop i s) ++ l) (drop-drop n i s) in
+    omega (arith, ap countLow rest, countLow-append (take n (drop i s)) (drop (i + n) s))
+
+pub counted-all : (s : List ℕ) (i : ℕ) {count : ℕ} → length s ≤ i → count + countLow (drop i s) ≡ countLow s → count ≡ countLow s
+unfolding countLow
+counted-all s i h all = omega (arith, ap countLow (drop-of-length-le s h))

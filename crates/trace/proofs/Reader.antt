@@ -4,6 +4,7 @@ use mathlib.Core.List.{List}
 use mathlib.Core.Path.{_≡_}
 use lib.ListN.{length}
 use borrow.Author.Tests.{lt-ltb, le-ltb}
+use Rattle.machine.specs.Rules.{inForce}
 use Rattle.machine.specs.Limits.{maxClock, maxTransaction, maxBlocks}
 use Rattle.machine.specs.Parser.{parsed, refused, field, continue}
 use Rattle.machine.specs.Trace.{taken, refusal, noMore, readRecord, recordFields, reading}
@@ -11,32 +12,32 @@ use Rattle.codec.specs.Answers.{cursorAt}
 use Rattle.trace.specs.Answers.{entry}
 
 module _ (s : List ℕ) (at : ℕ) where
-  pub past-end : length s ≤ at → noMore ≡ readRecord s at
+  pub past-end : length s ≤ at → noMore ≡ readRecord inForce s at
   unfolding readRecord
   past-end h = rw (le-ltb at (length s) h)
 
   module _ (h : at < length s) where
-    pub clock-refused : (n : ℕ) → field s 31 0 maxClock (cursorAt at 0 0) ≡ refused n → refusal n ≡ readRecord s at
+    pub clock-refused : (n : ℕ) → field s 31 0 maxClock (cursorAt at 0 0) ≡ refused n → refusal n ≡ readRecord inForce s at
     unfolding readRecord recordFields continue reading
     clock-refused n e = rw (lt-ltb at (length s) h, e)
 
     module _ (clock p1 : ℕ) (e1 : field s 31 0 maxClock (cursorAt at 0 0) ≡ parsed clock (cursorAt p1 0 0)) where
-      pub transaction-refused : (n : ℕ) → field s 31 1 maxTransaction (cursorAt p1 0 0) ≡ refused n → refusal n ≡ readRecord s at
+      pub transaction-refused : (n : ℕ) → field s 31 1 maxTransaction (cursorAt p1 0 0) ≡ refused n → refusal n ≡ readRecord inForce s at
       unfolding readRecord recordFields continue reading
       transaction-refused n e = rw (lt-ltb at (length s) h, e1, e)
 
       module _ (transaction p2 : ℕ)
           (e2 : field s 31 1 maxTransaction (cursorAt p1 0 0) ≡ parsed transaction (cursorAt p2 0 0)) where
-        pub block-refused : (n : ℕ) → field s 31 1 maxBlocks (cursorAt p2 0 0) ≡ refused n → refusal n ≡ readRecord s at
+        pub block-refused : (n : ℕ) → field s 31 1 maxBlocks (cursorAt p2 0 0) ≡ refused n → refusal n ≡ readRecord inForce s at
         unfolding readRecord recordFields continue reading
         block-refused n e = rw (lt-ltb at (length s) h, e1, e2, e)
 
         module _ (block p3 : ℕ) (e3 : field s 31 1 maxBlocks (cursorAt p2 0 0) ≡ parsed block (cursorAt p3 0 0)) where
-          pub outcome-refused : (n : ℕ) → field s 31 0 1 (cursorAt p3 0 0) ≡ refused n → refusal n ≡ readRecord s at
+          pub outcome-refused : (n : ℕ) → field s 31 0 1 (cursorAt p3 0 0) ≡ refused n → refusal n ≡ readRecord inForce s at
           unfolding readRecord recordFields continue reading
           outcome-refused n e = rw (lt-ltb at (length s) h, e1, e2, e3, e)
 
           pub record-taken : (outcome next : ℕ) → field s 31 0 1 (cursorAt p3 0 0) ≡ parsed outcome (cursorAt next 0 0) →
-              taken (entry clock transaction block outcome) next ≡ readRecord s at
+              taken (entry clock transaction block outcome) next ≡ readRecord inForce s at
           unfolding readRecord recordFields continue reading
           record-taken outcome next e = rw (lt-ltb at (length s) h, e1, e2, e3, e)

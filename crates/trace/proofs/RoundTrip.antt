@@ -9,6 +9,7 @@ use lib.Dec.{ltb, lit≤}
 use lib.ListN.{length, drop, drop-of-length-le, length-append, length-drop}
 use lib.Seq.{drop-append-seam}
 use borrow.Author.Tests.{ltb-true, ltb-false}
+use Rattle.machine.specs.Rules.{inForce}
 use Rattle.machine.specs.Limits.{maxClock, maxTransaction, maxBlocks}
 use Rattle.machine.specs.Number.{numberBytes}
 use Rattle.machine.specs.Parser.{Cursor, Parsed, Parser, parsed, refused, field, continue}
@@ -30,8 +31,8 @@ unfolding recordBytes
 four r rest = simp append-assoc
 
 -- a record at a position reads back, whatever stands before and after it
-pub record-reads-back : (s rest : List ℕ) (at : ℕ) (r : Record) → drop at s ≡ recordBytes r ++ rest → inRanges r ≡ true →
-    readRecord s at ≡ taken r (at + length (recordBytes r))
+pub record-reads-back : (s rest : List ℕ) (at : ℕ) (r : Record) → drop at s ≡ recordBytes r ++ rest → inRanges inForce r ≡ true →
+    readRecord inForce s at ≡ taken r (at + length (recordBytes r))
 record-reads-back s rest at r e good =
     let h = ranges r good in
     let inside : at < length s =
@@ -84,7 +85,7 @@ read-taken (refused n) r next e = let z : _≡_ {A = ℕ} 0 1 = cc in absurd (om
 
 -- what a record that was taken says of the bytes
 pub record RecordTaken (s : List ℕ) (at : ℕ) (r : Record) (next : ℕ) : Type 0 where
-  pub good : inRanges r ≡ true
+  pub good : inRanges inForce r ≡ true
   pub bytes : drop at s ≡ recordBytes r ++ drop next s
   pub position : next ≡ at + length (recordBytes r)
   pub inside : at < length s
@@ -119,11 +120,11 @@ gathered s at p1 p2 p3 p4 r h inside e1 e2 e3 e4 b1 b2 b3 b4 =
       inside = inside;
     }
 
-pub record-taken-bytes : (s : List ℕ) (at : ℕ) (r : Record) (next : ℕ) → Bytes s → readRecord s at ≡ taken r next → RecordTaken s at r next
+pub record-taken-bytes : (s : List ℕ) (at : ℕ) (r : Record) (next : ℕ) → Bytes s → readRecord inForce s at ≡ taken r next → RecordTaken s at r next
 unfolding readRecord recordFields
 record-taken-bytes s at r next bytes e = go (ltb at (length s)) refl e
   where
-    all : (c : Cursor) → c .position ≡ next → recordFields s (cursorAt at 0 0) ≡ parsed r c → at < length s → RecordTaken s at r next
+    all : (c : Cursor) → c .position ≡ next → recordFields inForce s (cursorAt at 0 0) ≡ parsed r c → at < length s → RecordTaken s at r next
     all c n g inside =
         let c1 = step s at 0 maxClock _ r c bytes g in
         let c2 = step s _ 1 maxTransaction _ r c bytes (c1 .rest) in
@@ -144,7 +145,7 @@ record-taken-bytes s at r next bytes e = go (ltb at (length s)) refl e
         let t = gathered s at _ _ _ _ q h inside refl refl refl refl (c1 .bytes) (c2 .bytes) (c3 .bytes) (c4 .bytes) in
         subst₂ (λ (x : Record) (m : ℕ). RecordTaken s at x m) same end t
 
-    go : (t : Bool) → ltb at (length s) ≡ t → cond t (reading (recordFields s (cursorAt at 0 0))) noMore ≡ taken r next → RecordTaken s at r next
+    go : (t : Bool) → ltb at (length s) ≡ t → cond t (reading (recordFields inForce s (cursorAt at 0 0))) noMore ≡ taken r next → RecordTaken s at r next
     go false t g = let z : _≡_ {A = ℕ} 0 1 = cc in absurd (omega arith)
     go true t g = let x = read-taken _ r next g in all (x .0) (x .2) (x .1) (ltb-true _ _ t)
 
@@ -154,11 +155,11 @@ reading-more (parsed r c) e = let z : _≡_ {A = ℕ} 0 1 = cc in omega arith
 reading-more (refused n) e = let z : _≡_ {A = ℕ} 0 1 = cc in omega arith
 
 -- "no more" is answered only at or past the end
-pub no-more-end : (s : List ℕ) (at : ℕ) → readRecord s at ≡ noMore → length s ≤ at
+pub no-more-end : (s : List ℕ) (at : ℕ) → readRecord inForce s at ≡ noMore → length s ≤ at
 unfolding readRecord
 no-more-end s at e = go (ltb at (length s)) refl e
   where
-    go : (t : Bool) → ltb at (length s) ≡ t → cond t (reading (recordFields s (cursorAt at 0 0))) noMore ≡ noMore → length s ≤ at
+    go : (t : Bool) → ltb at (length s) ≡ t → cond t (reading (recordFields inForce s (cursorAt at 0 0))) noMore ≡ noMore → length s ≤ at
     go true t g = absurd (reading-more _ g)
     go false t g = ltb-false at (length s) t
 
@@ -180,11 +181,11 @@ trace-in-ranges {s = s} bytes (takes {at = at} {next = next} {r = r} e t) =
 
 -- ---- One reading
 
-only-end : {s : List ℕ} {at : ℕ} {m : List Record} → readRecord s at ≡ noMore → Reads s at m → [] ≡ m
+only-end : {s : List ℕ} {at : ℕ} {m : List Record} → readRecord inForce s at ≡ noMore → Reads s at m → [] ≡ m
 only-end e (ends f) = refl
 only-end e (takes f u) = let z : _≡_ {A = ℕ} 0 1 = cc in absurd (omega arith)
 
-only-taken : {s : List ℕ} {at next : ℕ} {r : Record} {l m : List Record} → readRecord s at ≡ taken r next →
+only-taken : {s : List ℕ} {at next : ℕ} {r : Record} {l m : List Record} → readRecord inForce s at ≡ taken r next →
     ((m : List Record) → Reads s next m → l ≡ m) → Reads s at m → r ∷ l ≡ m
 only-taken e one (ends f) = let z : _≡_ {A = ℕ} 0 1 = cc in absurd (omega arith)
 only-taken {s = s} {next = next} {r = r} e one (takes {next = after} {r = q} {l = m} f u) =

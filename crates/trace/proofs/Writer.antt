@@ -10,6 +10,7 @@ use lib.Dec.{leb}
 use lib.ListN.{length, take, drop, length-append}
 use lib.Seq.{sets, sets-eq, take-append-seam}
 use borrow.Author.Tests.{le-leb, lt-leb, leb-true}
+use Rattle.machine.specs.Rules.{inForce}
 use Rattle.machine.specs.Limits.{maxClock, maxTransaction, maxBlocks}
 use Rattle.machine.specs.Number.{numberBytes}
 use Rattle.machine.specs.Trace.{Record, recordBytes, traceBytes, inRanges, written, rejected, writeRecord}
@@ -46,7 +47,7 @@ pub record Ranges (r : Record) : Type 0 where
   pub block : r .block ≤ maxBlocks
   pub outcome : r .outcome ≤ 1
 
-pub ranges : (r : Record) → inRanges r ≡ true → Ranges r
+pub ranges : (r : Record) → inRanges inForce r ≡ true → Ranges r
 unfolding inRanges
 ranges r e =
     let x = both-true _ (leb (r .outcome) 1) e in
@@ -63,7 +64,7 @@ ranges r e =
       outcome = leb-true _ _ (x .1);
     }
 
-pub in-ranges : (r : Record) → Ranges r → inRanges r ≡ true
+pub in-ranges : (r : Record) → Ranges r → inRanges inForce r ≡ true
 unfolding inRanges
 in-ranges r h =
     rw (
@@ -76,7 +77,7 @@ in-ranges r h =
     )
 
 -- "Fewer than 12 bytes left in the trace": 12 are room for any record
-pub record-room : (r : Record) → inRanges r ≡ true → length (recordBytes r) ≤ 12
+pub record-room : (r : Record) → inRanges inForce r ≡ true → length (recordBytes r) ≤ 12
 record-room r e =
     let h = ranges r e in
     rw (recordBytes-length r)
@@ -125,24 +126,24 @@ record-stored clock transaction block outcome p1 p2 p3 p4 l l1 l2 l3 l4 room e1 
 -- ---- The answer and the rest afterwards
 
 module _ (r : Record) (l : List ℕ) where
-  pub refused-range : inRanges r ≡ false → rejected 32 ≡ writeRecord (length l) r
+  pub refused-range : inRanges inForce r ≡ false → rejected 32 ≡ writeRecord inForce (length l) r
   unfolding writeRecord
   refused-range e = rw e
 
-  pub refused-room : inRanges r ≡ true → length l < length (recordBytes r) → rejected 33 ≡ writeRecord (length l) r
+  pub refused-room : inRanges inForce r ≡ true → length l < length (recordBytes r) → rejected 33 ≡ writeRecord inForce (length l) r
   unfolding writeRecord
   refused-room e h = rw (e, lt-leb (length (recordBytes r)) (length l) h)
 
-  pub written-record : inRanges r ≡ true → length (recordBytes r) ≤ length l → written (recordBytes r) ≡ writeRecord (length l) r
+  pub written-record : inRanges inForce r ≡ true → length (recordBytes r) ≤ length l → written (recordBytes r) ≡ writeRecord inForce (length l) r
   unfolding writeRecord
   written-record e h = rw (e, le-leb (length (recordBytes r)) (length l) h)
 
-  pub after-refused : (n : ℕ) → rejected n ≡ writeRecord (length l) r → l ≡ after (writeRecord (length l) r) l
+  pub after-refused : (n : ℕ) → rejected n ≡ writeRecord inForce (length l) r → l ≡ after (writeRecord inForce (length l) r) l
   unfolding after
   after-refused n e = rw (← e)
 
-  pub after-written : written (recordBytes r) ≡ writeRecord (length l) r → length (recordBytes r) ≤ length l →
-      sets l 0 (recordBytes r) ≡ after (writeRecord (length l) r) l
+  pub after-written : written (recordBytes r) ≡ writeRecord inForce (length l) r → length (recordBytes r) ≤ length l →
+      sets l 0 (recordBytes r) ≡ after (writeRecord inForce (length l) r) l
   unfolding after
   after-written e h =
       rw (← e) (sets-eq (recordBytes r) l 0 (omega arith) ∙ ap (λ (n : ℕ). recordBytes r ++ drop n l) (zero-add (length (recordBytes r))))

@@ -3,15 +3,16 @@ use Prim.Native.Nat.{ℕ}
 use mathlib.Core.Bool.{true}
 use mathlib.Core.List.{List, [], _∷_}
 use mathlib.Core.Path.{_≡_}
+use Rattle.machine.specs.Rules.{inForce}
 use Rattle.machine.specs.Trace.{Record, taken, noMore, readRecord, inRanges}
 
 -- From this position on the reader takes exactly these records, each at the position that the one before it gave, and then
 -- answers "no more".
 pub data Reads (s : List ℕ) : ℕ → List Record → Type 0 where
-  ends : {at : ℕ} → readRecord s at ≡ noMore → Reads s at []
-  takes : {at next : ℕ} {r : Record} {l : List Record} → readRecord s at ≡ taken r next → Reads s next l → Reads s at (r ∷ l)
+  ends : {at : ℕ} → readRecord inForce s at ≡ noMore → Reads s at []
+  takes : {at next : ℕ} {r : Record} {l : List Record} → readRecord inForce s at ≡ taken r next → Reads s next l → Reads s at (r ∷ l)
 
 -- every record is within the ranges
 abbrev pub AllInRanges : List Record → Type 0
 AllInRanges [] = Unit {0}
-AllInRanges (r ∷ l) = (inRanges r ≡ true) × AllInRanges l
+AllInRanges (r ∷ l) = (inRanges inForce r ≡ true) × AllInRanges l

@@ -1,25 +1,32 @@
 // Trace records (document 01, "Bytes" and "Questions at the door"): the reader on bytes and a
 // position, the writer into the unused rest of the trace buffer, and the counter of low bytes.
+mod words;
+
 use codec::Field;
 use codec::number_len;
 use codec::read_field;
 use codec::write_number;
+use machine::Model;
+use machine::refusals::NO_ROOM;
+use machine::refusals::TRACE_NUMBER;
+use machine::refusals::TRACE_RANGE;
+use words::count_1;
+use words::count_8;
+use words::count_32;
+use words::count_128;
 ghost use mathlib.Core.Path.{_≡_};
 ghost use Prim.Native.Nat.{ℕ, _+_, _≤_};
 ghost use lib.ListN.{length};
 ghost use lib.Seq.{sets};
+ghost use Rattle.machine.specs.Rules.{inForce};
 ghost use Rattle.machine.specs.Number.{countLow};
 ghost use Rattle.machine.specs.Trace.{recordBytes, readRecord, inRanges, writeRecord};
 ghost use Rattle.trace.specs.Answers.{entry, readingOf, writingOf, after};
 
-// "Clock to 2,000,000,000, transaction 1..100,000,000, block 1..256, outcome 0..1"
-const MAX_CLOCK: u64 = 2_000_000_000;
+// "block 1..256, outcome 0..1"
+pub const MAX_BLOCK: u64 = Model::MAX_BLOCKS as u64;
 
-const MAX_TRANSACTION: u64 = 100_000_000;
-
-const MAX_BLOCK: u64 = 256;
-
-const MAX_OUTCOME: u64 = 1;
+pub const MAX_OUTCOME: u64 = 1;
 
 pub struct Record {
     pub clock: u64,
@@ -43,18 +50,24 @@ pub enum Written {
 
 // The record at a position.
 pub fn read_record(s: &[u8], at: usize) -> Reading
-    ensures { λ r. ⌜ readingOf r ≡ readRecord (now (s .entry)) at ⌝ }
+    ensures { λ r. ⌜ readingOf r ≡ readRecord inForce (now (s .entry)) at ⌝ }
 {
     if s.len() <= at {
         return Reading::NoMore;
     }
-    match read_field(s, at, 0, MAX_CLOCK, 31) {
+    match read_field(s, at, 0, Model::MAX_CLOCK, TRACE_NUMBER) {
         Field::Refused(n) => Reading::Refused(n),
-        Field::Value(clock, p1) => match read_field(s, p1, 1, MAX_TRANSACTION, 31) {
+        Field::Value(clock, p1) => match read_field(
+            s,
+            p1,
+            1,
+            Model::MAX_TRANSACTION,
+            TRACE_NUMBER,
+        ) {
             Field::Refused(n) => Reading::Refused(n),
-            Field::Value(transaction, p2) => match read_field(s, p2, 1, MAX_BLOCK, 31) {
+            Field::Value(transaction, p2) => match read_field(s, p2, 1, MAX_BLOCK, TRACE_NUMBER) {
                 Field::Refused(n) => Reading::Refused(n),
-                Field::Value(block, p3) => match read_field(s, p3, 0, MAX_OUTCOME, 31) {
+                Field::Value(block, p3) => match read_field(s, p3, 0, MAX_OUTCOME, TRACE_NUMBER) {
                     Field::Refused(n) => Reading::Refused(n),
                     Field::Value(outcome, next) => Reading::Taken(
                         Record {
@@ -72,15 +85,15 @@ pub fn read_record(s: &[u8], at: usize) -> Reading
 }
 
 fn in_ranges(clock: u64, transaction: u64, block: u64, outcome: u64) -> bool
-    ensures { λ r. ⌜ r ≡ inRanges (entry clock transaction block outcome) ⌝ }
+    ensures { λ r. ⌜ r ≡ inRanges inForce (entry clock transaction block outcome) ⌝ }
 {
-    if MAX_CLOCK < clock {
+    if Model::MAX_CLOCK < clock {
         return false;
     }
     if transaction < 1 {
         return false;
     }
-    if MAX_TRANSACTION < transaction {
+    if Model::MAX_TRANSACTION < transaction {
         return false;
     }
     if block < 1 {
@@ -117,31 +130,41 @@ pub fn write_record(
     block: u64,
     outcome: u64,
 ) -> Written
-    ensures { λ r. ⌜ writingOf (now (rest .exit)) r ≡ writeRecord (length (now (rest .entry))) (entry clock transaction block outcome) ⌝ }
-    ensures bytes { λ _. ⌜ now (rest .exit) ≡ after (writeRecord (length (now (rest .entry))) (entry clock transaction block outcome)) (now (rest .entry)) ⌝ }
+    ensures { λ r. ⌜ writingOf (now (rest .exit)) r ≡ writeRecord inForce (length (now (rest .entry))) (entry clock transaction block outcome) ⌝ }
+    ensures bytes { λ _. ⌜ now (rest .exit) ≡ after (writeRecord inForce (length (now (rest .entry))) (entry clock transaction block outcome)) (now (rest .entry)) ⌝ }
     ensures count { λ r. ⌜ ((n : ℕ) → r ≡ Written.Bytes n → (n ≡ length (recordBytes (entry clock transaction block outcome))) × (n ≤ length (now (rest .entry)))) ⌝ }
 {
     if !in_ranges(clock, transaction, block, outcome) {
-        return Written::Refused(32);
+        return Written::Refused(TRACE_RANGE);
     }
     let len = record_len(clock, transaction, block, outcome);
     if rest.len() < len {
-        return Written::Refused(33);
+        return Written::Refused(NO_ROOM);
     }
     put_record(rest, clock, transaction, block, outcome);
     Written::Bytes(len)
 }
 
-// How many bytes are below 80 hexadecimal.
+// How many bytes are below 80 hexadecimal: by sixteen words, four words and single words, and the bytes that are left singly.
 pub fn count_low(s: &[u8]) -> u64
     ensures { λ r. ⌜ r ≡ countLow (now (s .entry)) ⌝ }
 {
     let mut count: u64 = 0;
     let mut i = 0;
+    while 128 <= s.len() - i {
+        count += count_128(s, i);
+        i += 128;
+    }
+    while 32 <= s.len() - i {
+        count += count_32(s, i);
+        i += 32;
+    }
+    while 8 <= s.len() - i {
+        count += count_8(s, i);
+        i += 8;
+    }
     while i < s.len() {
-        if s[i] < 128 {
-            count += 1;
-        }
+        count += count_1(s, i);
         i += 1;
     }
     count

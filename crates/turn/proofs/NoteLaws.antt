@@ -11,6 +11,7 @@ use borrow.Author.Tests.{le-leb, le-ltb, eq-eqb, ne-eqb}
 use lib.Dec.{ltb, eqb}
 use lib.ListN.{length, getD, set, take, drop, length-set, length-append, length-drop}
 use lib.Seq.{take-at, drop-at, drop-drop, getD-set-same, getD-set-other}
+use Rattle.machine.specs.Rules.{inForce}
 use Rattle.machine.specs.Transaction.{Transaction}
 use Rattle.machine.specs.Trace.{recordBytes, traceBytes, inRanges, written, writeRecord}
 use Rattle.machine.specs.Block.{BlockModel}
@@ -39,7 +40,7 @@ use Rattle.turn.specs.Writes.{Writes}
 -- ---- Bytes
 
 append-is : (trace : List ℕ) (used clock number block outcome : ℕ) (b : List ℕ) → used ≤ length trace
-    → writeRecord (length (drop used trace)) (entry clock number block outcome) ≡ written b
+    → writeRecord inForce (length (drop used trace)) (entry clock number block outcome) ≡ written b
     → appendRecord trace used clock number block outcome ≡ bytes (used + length b) (take used trace ++ (b ++ drop (length b) (drop used trace)))
 unfolding appendRecord appended
 append-is trace used clock number block outcome b le e = rw (le-leb used (length trace) le, e)
@@ -114,7 +115,7 @@ module _ {m : BlockModel} {tape : List (List ℕ)} {tapeBytes before : List ℕ}
       abbrev entered : Logged
       entered = record { entry = recordOf o t s; priority = t .priority }
 
-      fits : inRanges (recordOf o t s) ≡ true
+      fits : inRanges inForce (recordOf o t s) ≡ true
       unfolding recordOf
       fits =
           in-ranges (recordOf o t s)
@@ -143,9 +144,9 @@ module _ {m : BlockModel} {tape : List (List ℕ)} {tapeBytes before : List ℕ}
       inside : x .used ≤ length trace
       inside = omega (arith, long, writes .used, writes .written)
 
-      written-is : writeRecord (length (drop (x .used) trace)) (entry (x .clock) (t .number) (t .next) o) ≡ written B
+      written-is : writeRecord inForce (length (drop (x .used) trace)) (entry (x .clock) (t .number) (t .next) o) ≡ written B
       written-is =
-          ap (writeRecord (length (drop (x .used) trace))) same-record
+          ap (writeRecord inForce (length (drop (x .used) trace))) same-record
           ∙ sym (written-record (recordOf o t s) (drop (x .used) trace) fits
           (omega (arith, record-room (recordOf o t s) fits, length-drop (x .used) trace, long, writes .used, writes .written, wrote)))
 

@@ -9,6 +9,7 @@ use borrow.Rule.Slice.PartMut.{putMid, midOf}
 use lib.Dec.{leb}
 use lib.ListN.{length, take, drop, length-drop, drop-of-length-le, take-append-drop}
 use lib.Seq.{take-all}
+use Rattle.machine.specs.Rules.{inForce}
 use Rattle.machine.specs.Trace.{Record, recordBytes, inRanges, Writing, written, rejected, writeRecord}
 use Rattle.trace.specs.Answers.{entry, after}
 use Rattle.state.specs.declared.scalars.Scalars.{Scalars}
@@ -25,9 +26,9 @@ put-rest trace last used le =
     ∙ ap (λ (l : List ℕ). take used trace ++ l) (append-nil last)
 
 -- what was written are the record's bytes
-only-bytes : (L : ℕ) (r : Record) (b : List ℕ) → writeRecord L r ≡ written b → b ≡ recordBytes r
+only-bytes : (L : ℕ) (r : Record) (b : List ℕ) → writeRecord inForce L r ≡ written b → b ≡ recordBytes r
 unfolding writeRecord
-only-bytes L r b e = go (inRanges r) (leb (length (recordBytes r)) L) e
+only-bytes L r b e = go (inRanges inForce r) (leb (length (recordBytes r)) L) e
   where
     go : (x y : Bool) → cond x (cond y (written (recordBytes r)) (rejected 33)) (rejected 32) ≡ written b → b ≡ recordBytes r
     go true true e = cc
@@ -39,31 +40,31 @@ module _ (trace last : List ℕ) (used clock number block outcome : ℕ) (le : u
   r = entry clock number block outcome
 
   -- by what the writer answers
-  answered : (w : Writing) → writeRecord (length (drop used trace)) r ≡ w → appendRecord trace used clock number block outcome ≡ appended trace used w
+  answered : (w : Writing) → writeRecord inForce (length (drop used trace)) r ≡ w → appendRecord trace used clock number block outcome ≡ appended trace used w
   unfolding appendRecord
   answered w e = rw (le-leb used (length trace) le, e)
 
-  pub appends : (rest b : List ℕ) (n : ℕ) → rest ≡ drop used trace → written b ≡ writeRecord (length rest) r
-      → last ≡ after (writeRecord (length rest) r) rest → n ≡ length (recordBytes r)
+  pub appends : (rest b : List ℕ) (n : ℕ) → rest ≡ drop used trace → written b ≡ writeRecord inForce (length rest) r
+      → last ≡ after (writeRecord inForce (length rest) r) rest → n ≡ length (recordBytes r)
       → bytes (used + n) (putMid used (length trace - used) trace last) ≡ appendRecord trace used clock number block outcome
   unfolding bytes appended after
   appends rest b n is-rest wrote left size =
       let is : b ≡ recordBytes r = only-bytes (length rest) r b (sym wrote) in
-      let w : writeRecord (length rest) r ≡ written (recordBytes r) = sym wrote ∙ ap written is in
+      let w : writeRecord inForce (length rest) r ≡ written (recordBytes r) = sym wrote ∙ ap written is in
       let l : last ≡ recordBytes r ++ drop (length (recordBytes r)) rest = left ∙ ap (λ (x : Writing). after x rest) w in
-      let w′ : writeRecord (length (drop used trace)) r ≡ written (recordBytes r) = subst (λ (x : List ℕ). writeRecord (length x) r ≡ written (recordBytes r)) is-rest w in
+      let w′ : writeRecord inForce (length (drop used trace)) r ≡ written (recordBytes r) = subst (λ (x : List ℕ). writeRecord inForce (length x) r ≡ written (recordBytes r)) is-rest w in
       let l′ : last ≡ recordBytes r ++ drop (length (recordBytes r)) (drop used trace) = subst (λ (x : List ℕ). last ≡ recordBytes r ++ drop (length (recordBytes r)) x) is-rest l in
       ap (bytes (used + n)) (put-rest trace last used le ∙ ap (λ (x : List ℕ). take used trace ++ x) l′)
       ∙ ap (λ (k : ℕ). bytes (used + k) (take used trace ++ (recordBytes r ++ drop (length (recordBytes r)) (drop used trace)))) size
       ∙ sym (answered (written (recordBytes r)) w′)
 
-  pub refuses : (rest : List ℕ) (n : ℕ) → rest ≡ drop used trace → rejected n ≡ writeRecord (length rest) r
-      → last ≡ after (writeRecord (length rest) r) rest
+  pub refuses : (rest : List ℕ) (n : ℕ) → rest ≡ drop used trace → rejected n ≡ writeRecord inForce (length rest) r
+      → last ≡ after (writeRecord inForce (length rest) r) rest
       → bytes used (putMid used (length trace - used) trace last) ≡ appendRecord trace used clock number block outcome
   unfolding bytes appended after
   refuses rest n is-rest wrote left =
       let l : last ≡ drop used trace = left ∙ ap (λ (x : Writing). after x rest) (sym wrote) ∙ is-rest in
-      let w′ : writeRecord (length (drop used trace)) r ≡ rejected n = subst (λ (x : List ℕ). writeRecord (length x) r ≡ rejected n) is-rest (sym wrote) in
+      let w′ : writeRecord inForce (length (drop used trace)) r ≡ rejected n = subst (λ (x : List ℕ). writeRecord inForce (length x) r ≡ rejected n) is-rest (sym wrote) in
       ap (bytes used) (put-rest trace last used le ∙ ap (λ (x : List ℕ). take used trace ++ x) l ∙ take-append-drop used trace) ∙ sym (answered (rejected n) w′)
 
 pub notes : (tally tally′ trace trace′ : List ℕ) (x : Scalars) (n number block : ℕ) → x .note < 2 → tally′ ≡ countRecord tally block (x .note)

@@ -4,6 +4,8 @@ use mathlib.Core.Bool.{cond}
 use mathlib.Core.List.{List, _++_}
 use lib.Dec.{ltb, leb, eqb}
 use lib.ListN.{length, getD, set, take, drop}
+use Rattle.tables.specs.Layout.{waits, most64}
+use Rattle.machine.specs.Rules.{inForce}
 use Rattle.machine.specs.Trace.{Writing, written, rejected, writeRecord}
 use Rattle.trace.specs.Answers.{entry}
 use Rattle.state.specs.declared.scalars.Scalars.{Scalars}
@@ -23,14 +25,14 @@ appended trace used (rejected n) = bytes used trace
 
 unfoldable pub appendRecord : List ℕ → (used clock number block outcome : ℕ) → Bytes
 appendRecord trace used clock number block outcome =
-    cond (leb used (length trace)) (appended trace used (writeRecord (length (drop used trace)) (entry clock number block outcome))) (bytes used trace)
+    cond (leb used (length trace)) (appended trace used (writeRecord inForce (length (drop used trace)) (entry clock number block outcome))) (bytes used trace)
 
 unfoldable pub cellOf : (block outcome : ℕ) → ℕ
-cellOf block outcome = cond (eqb outcome 0) (block - 1) (256 + (block - 1))
+cellOf block outcome = cond (eqb outcome 0) (block - 1) (waits + (block - 1))
 
 unfoldable pub countRecord : List ℕ → (block outcome : ℕ) → List ℕ
 countRecord tally block outcome =
-    set tally (cellOf block outcome) (min (getD tally (cellOf block outcome) 0 + 1) 18446744073709551615)
+    set tally (cellOf block outcome) (min (getD tally (cellOf block outcome) 0 + 1) most64)
 
 -- the scalars, the tally and the trace buffer
 pub record Noted : Type 0 where

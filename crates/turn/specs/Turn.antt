@@ -3,9 +3,10 @@ use Prim.Native.Nat.{ℕ, _+_, _*_, _-_}
 use mathlib.Core.Bool.{cond}
 use mathlib.Core.List.{List}
 use lib.Dec.{ltb}
+use Rattle.machine.specs.Limits.{maxBlocks}
 use Rattle.machine.specs.declared.model.Model.{Model}
 use Rattle.tables.specs.Layout as Layout
-use Rattle.rows.specs.Layout.{numberField, nextField}
+use Rattle.rows.specs.Layout.{numberField, nextField, rowCount}
 use Rattle.rows.specs.Cells.{read}
 use Rattle.state.specs.declared.scalars.Scalars.{Scalars}
 use Rattle.state.specs.Stands.{Rows, rowsOf}
@@ -29,12 +30,12 @@ withNote r trace number block =
 module _ (tables : List ℕ) (values : ℕ) (tape w tally trace : List ℕ) (x : Scalars) where
   unfoldable pub act : (number block : ℕ) → Traced
   act number block =
-      cond (ltb (block - 1) 256) (withNote (execute tables values tape w tally x (Layout.blockWidth * (block - 1))) trace number block)
+      cond (ltb (block - 1) maxBlocks) (withNote (execute tables values tape w tally x (Layout.blockWidth * (block - 1))) trace number block)
       (traced (rowsOf x w tally) trace)
 
   unfoldable pub actMoving : Traced
   actMoving =
-      cond (ltb (x .moving) 1024) (act (read w numberField (x .moving)) (read w nextField (x .moving))) (traced (rowsOf x w tally) trace)
+      cond (ltb (x .moving) rowCount) (act (read w numberField (x .moving)) (read w nextField (x .moving))) (traced (rowsOf x w tally) trace)
 
 -- the WS scheme after a block
 unfoldable pub withScheme : (tables : List ℕ) (blocks values : ℕ) → Traced → Traced

@@ -3,6 +3,7 @@ use Prim.Native.Nat.{ℕ, suc, _+_, _<_}
 use mathlib.Core.Path.{_≡_}
 use mathlib.Core.List.{List, _++_}
 use lib.ListN.{length, getD, drop}
+use Rattle.machine.specs.Limits.{maxBlocks}
 use Rattle.machine.specs.Trace.{traceBytes}
 use Rattle.machine.specs.State.{State}
 use Rattle.machine.specs.Outcome.{recordsOf}
@@ -16,4 +17,4 @@ pub record Writes (before : List ℕ) (x : Scalars) (tally trace : List ℕ) (s 
   pub written : s .written ≡ length (traceBytes (recordsOf s))
   pub used : x .used ≡ s .written
   -- of the blocks from 1 on, records of outcome 1
-  pub waits : (b : ℕ) → b < 256 → getD tally (Layout.waits + b) 0 ≡ atBlock 1 (suc b) (s .records)
+  pub waits : (b : ℕ) → b < maxBlocks → getD tally (Layout.waits + b) 0 ≡ atBlock 1 (suc b) (s .records)

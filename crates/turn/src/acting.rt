@@ -4,12 +4,18 @@ use blocks::execute;
 use clock::take;
 use decisions::ws;
 use machine::Model;
+use rows::NEXT;
+use rows::NUMBER;
+use rows::ROWS;
 use rows::cells::read;
 use state::Scalars;
 use state::less32;
 use tables::BLOCK_WIDTH;
 ghost use mathlib.Core.Path.{_≡_};
 ghost use Prim.Native.Nat.{_+_, _<_, _≤_};
+ghost use Rattle.machine.specs.Limits.{maxBlocks, maxFacilities, maxQueues, maxStorages};
+ghost use Rattle.tables.specs.Layout.{Tables};
+ghost use Rattle.rows.specs.Layout.{Room, rowCount};
 ghost use Rattle.state.specs.Stands.{rowsOf};
 ghost use Rattle.turn.specs.Turn.{traced, act, actMoving, turn};
 
@@ -25,13 +31,13 @@ fn act(
     number: u32,
     block: u32,
 ) -> Scalars
-    requires { do ⌜ 2624 ≤ (← ⟦tables.len()⟧) ⌝ }
-    requires { do ⌜ 16384 ≤ (← ⟦work.len()⟧) ⌝ }
-    requires { ⌜ x .moving < 1024 ⌝ }
+    requires { ⌜ Tables (now tables) ⌝ }
+    requires { ⌜ Room (now work) ⌝ }
+    requires { ⌜ x .moving < rowCount ⌝ }
     ensures { λ r. ⌜ traced (rowsOf r (now (work .exit)) (now (tally .exit))) (now (trace .exit)) ≡ act (now (tables .entry)) values (now (tape .entry)) (now (work .entry)) (now (tally .entry)) (now (trace .entry)) x number block ⌝ }
 {
     let b = less32(block, 1) as usize;
-    if b >= 256 {
+    if b >= Model::MAX_BLOCKS {
         return x;
     }
     let y = execute(tables, values, tape, work, tally, x, BLOCK_WIDTH * b);
@@ -48,16 +54,16 @@ fn act_moving(
     trace: &mut [u8],
     x: Scalars,
 ) -> Scalars
-    requires { do ⌜ 2624 ≤ (← ⟦tables.len()⟧) ⌝ }
-    requires { do ⌜ 16384 ≤ (← ⟦work.len()⟧) ⌝ }
+    requires { ⌜ Tables (now tables) ⌝ }
+    requires { ⌜ Room (now work) ⌝ }
     ensures { λ r. ⌜ traced (rowsOf r (now (work .exit)) (now (tally .exit))) (now (trace .exit)) ≡ actMoving (now (tables .entry)) values (now (tape .entry)) (now (work .entry)) (now (tally .entry)) (now (trace .entry)) x ⌝ }
 {
     let k = x.moving;
-    if k >= 1024 {
+    if k >= ROWS {
         return x;
     }
-    let number = read(work, 0, k);
-    let block = read(work, 6, k);
+    let number = read(work, NUMBER, k);
+    let block = read(work, NEXT, k);
     act(tables, values, tape, work, tally, trace, x, number, block)
 }
 
@@ -70,12 +76,12 @@ pub fn turn(
     trace: &mut [u8],
     x: Scalars,
 ) -> Scalars
-    requires { ⌜ model .facilities ≤ 32 ⌝ }
-    requires { ⌜ model .storages ≤ 32 ⌝ }
-    requires { ⌜ model .queues ≤ 32 ⌝ }
-    requires { ⌜ model .blocks ≤ 256 ⌝ }
-    requires { do ⌜ 2624 ≤ (← ⟦tables.len()⟧) ⌝ }
-    requires { do ⌜ 16384 ≤ (← ⟦work.len()⟧) ⌝ }
+    requires { ⌜ model .facilities ≤ maxFacilities ⌝ }
+    requires { ⌜ model .storages ≤ maxStorages ⌝ }
+    requires { ⌜ model .queues ≤ maxQueues ⌝ }
+    requires { ⌜ model .blocks ≤ maxBlocks ⌝ }
+    requires { ⌜ Tables (now tables) ⌝ }
+    requires { ⌜ Room (now work) ⌝ }
     ensures { λ r. ⌜ traced (rowsOf r (now (work .exit)) (now (tally .exit))) (now (trace .exit)) ≡ turn model (now (tables .entry)) (now (tape .entry)) (now (work .entry)) (now (tally .entry)) (now (trace .entry)) x ⌝ }
 {
     let servers = model.facilities + model.storages;

@@ -1,6 +1,9 @@
 // The record of a block, written behind the others, and the count of its entries or waits.
+use state::ENTERED;
+use state::NO_RECORD;
 use state::Scalars;
 use state::plus64;
+use tables::WAITS;
 use tables::count;
 use tables::set_count;
 use trace::Written;
@@ -34,15 +37,15 @@ pub fn append_record(
     }
 }
 
-// Entries and waits of block b stand at b - 1 and 256 + b - 1 of the tally.
+// Entries of block b stand at b - 1 of the tally, its waits at WAITS + b - 1.
 fn cell(block: u32, outcome: u32) -> usize
     ensures { λ r. ⌜ r ≡ cellOf block outcome ⌝ }
 {
     let b = state::less32(block, 1) as usize;
-    if outcome == 0 {
+    if outcome == ENTERED {
         return b;
     }
-    256 + b
+    WAITS + b
 }
 
 pub fn count_record(tally: &mut [u64], block: u32, outcome: u32)
@@ -64,7 +67,7 @@ pub fn note_record(
     ensures { λ r. ⌜ noted r (now (tally .exit)) (now (trace .exit)) ≡ noteRecord (now (tally .entry)) (now (trace .entry)) x number block ⌝ }
 {
     let outcome = x.note;
-    if outcome >= 2 {
+    if outcome >= NO_RECORD {
         return x;
     }
     count_record(tally, block, outcome);

@@ -4,7 +4,9 @@ use Prim.Native.Nat.{ℕ, suc, _+_, _-_, _≤_, _<_}
 use mathlib.Core.Path.{_≡_}
 use mathlib.Core.List.{List, [], _∷_}
 use lib.Seq.{sets}
+use Rattle.machine.specs.Limits.{maxValueNumbers}
 use Rattle.machine.specs.Parser.{Cursor, Parsed, parsed, refused}
+use Rattle.tables.specs.Layout.{wordEnd}
 use Rattle.values.specs.declared.Place.{Place}
 use Rattle.values.specs.declared.Taken.{Taken}
 use Rattle.values.specs.declared.Taken.the-variants.{Number, Refused as NotTaken}
@@ -39,6 +41,10 @@ pub record Stores {A : Type 0} (sh : Shape A) (p : Place) (to : ℕ) (cells afte
 
 -- ---- Numbers
 
+-- what is stored for lo to hi fits 32 bits
+abbrev pub Fits : ℕ → ℕ → ℕ → Type 0
+Fits lo hi above = hi + above < wordEnd + lo
+
 -- a number that is not stored
 abbrev pub plainShape : ℕ → ℕ → Shape ℕ
 plainShape lo hi =
@@ -55,5 +61,5 @@ countedShape lo hi plus =
     record {
       numbers = λ v. (plus + (v - lo)) ∷ [];
       named = λ n v. n;
-      fact = λ p v c. (lo ≤ v) × (v ≤ hi) × (c .numbers ≡ suc (p .numbers)) × (p .numbers < 64);
+      fact = λ p v c. (lo ≤ v) × (v ≤ hi) × (c .numbers ≡ suc (p .numbers)) × (p .numbers < maxValueNumbers);
     }

@@ -5,7 +5,7 @@ use mathlib.Core.Bool.{cond}
 use mathlib.Core.List.{List, _∷_}
 use lib.Dec.{eqb, T}
 use lib.ListN.{length, drop}
-use Rattle.machine.specs.Limits.{maxFacilities, maxStorages, maxQueues, maxValues, maxLists, maxBlocks, maxConstant, parameterCount}
+use Rattle.machine.specs.Limits.{maxFacilities, maxStorages, maxQueues, maxValues, maxLists, maxBlocks, maxConstant, parameterCount, maxValueNumbers}
 use Rattle.machine.specs.Parser.{Cursor, Parser}
 use Rattle.machine.specs.Decode.{Counts, simpleTerm, valueNumber, mentionField}
 use Rattle.machine.specs.Term.{Term, constant, minusConstant, parameter, clockTerm, entriesOf, contentOf, unitsInUse, unitsFree, facilityInUse, value, comparison, bracket, Sum, nothing, plus, minus}
@@ -86,10 +86,10 @@ unfoldable mutual
 
 -- ---- Shapes
 
--- so many numbers more in a value, of which 64 are allowed
+-- so many numbers more in a value, within what is allowed
 pub record Counted (p : Place) (c : Cursor) (numbers : List ℕ) : Type 0 where
   pub grown : c .numbers ≡ p .numbers + length numbers
-  pub within : c .numbers ≤ max 64 (p .numbers)
+  pub within : c .numbers ≤ max maxValueNumbers (p .numbers)
 
 abbrev pub termShape : Shape Term
 termShape = record { numbers = termNumbers; named = termNamed; fact = λ p t c. Counted p c (termNumbers t) × T (smallTerm t) }
@@ -115,7 +115,7 @@ termsShape left =
     }
 
 abbrev pub valueShape : Shape Sum
-valueShape = record { numbers = sumNumbers; named = sumNamed; fact = λ p e c. (length (sumNumbers e) ≤ 64) × T (smallSum e) }
+valueShape = record { numbers = sumNumbers; named = sumNamed; fact = λ p e c. (length (sumNumbers e) ≤ maxValueNumbers) × T (smallSum e) }
 
 -- a term of a block is two numbers
 abbrev pub blockTermShape : Shape Term
@@ -124,7 +124,7 @@ blockTermShape =
 
 -- what is known of a value that was read
 abbrev pub ProperValue : Sum → Type 0
-ProperValue e = (length (sumNumbers e) ≤ 64) × T (smallSum e)
+ProperValue e = (length (sumNumbers e) ≤ maxValueNumbers) × T (smallSum e)
 
 -- what a value sees of a model: nothing below the values
 abbrev pub beforeValues : Model → Counts

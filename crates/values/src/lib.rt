@@ -2,15 +2,25 @@
 // sum"): read with questions 3, 4 and 5, and stored in the tables as they are read.
 use codec::Field;
 use machine::Model;
+use machine::refusals::LARGE_VALUE;
+use machine::refusals::MODEL_NUMBER;
+use tables::BRACKET_TAG;
+use tables::COMPARISON_TAG;
+use tables::ENTRIES_TAG;
+use tables::RELATIONS;
 use tables::TABLES;
+use tables::VALUE_TAG;
 use tables::VALUE_WIDTH;
 use tables::VALUES;
 ghost use mathlib.Core.Path.{_≡_};
 ghost use mathlib.Core.List.{[]};
 ghost use Prim.Native.Nat.{ℕ, _+_, _*_, _≤_, _<_};
+ghost use Rattle.machine.specs.Limits.{maxValues};
 ghost use Rattle.machine.specs.Parser.{field};
 ghost use Rattle.machine.specs.Decode.{valueNumber, comparisonField, sumField, sumTerms, valueTerm, valueField, valueFields, blockTerm};
-ghost use Rattle.values.specs.Keeps.{Takes, Stores, cursorOf, plainShape, numberShape, countedShape};
+ghost use Rattle.tables.specs.Layout as Layout;
+ghost use Rattle.tables.specs.Layout.{valueWidth, tablesSize, wordEnd};
+ghost use Rattle.values.specs.Keeps.{Fits, Takes, Stores, cursorOf, plainShape, numberShape, countedShape};
 ghost use Rattle.values.specs.Rows.{Rows};
 ghost use Rattle.values.specs.Shapes.{Within, ProperValue, beforeValues, countsOf, rangeOf, operandField, termShape, operandShape, termsShape, sumShape, valueShape, blockTermShape};
 
@@ -39,7 +49,7 @@ pub fn number(s: &[u8], p: Place, lo: usize, hi: usize) -> Taken
     ensures range { λ r. ⌜ ((v : ℕ) (q : Place) → r ≡ Taken.Number v q → (lo ≤ v) × (v ≤ hi) × (q .numbers ≡ p .numbers)) ⌝ }
 {
     let at = p.position;
-    match codec::read_field(s, at, lo as u64, hi as u64, 3) {
+    match codec::read_field(s, at, lo as u64, hi as u64, MODEL_NUMBER) {
         Field::Refused(n) => Taken::Refused(n),
         Field::Value(v, next) => Taken::Number(
             v as usize,
@@ -63,7 +73,7 @@ pub fn keep(
     hi: usize,
     plus: usize,
 ) -> Taken
-    requires { ⌜ (to < 2624) × (hi + plus < 4294967296 + lo) ⌝ }
+    requires { ⌜ (to < tablesSize) × Fits lo hi plus ⌝ }
     ensures { λ r. ⌜ Takes (numberShape lo hi plus) p to (now (tables .entry)) (now (tables .exit)) r (field (now (s .entry)) 3 lo hi (cursorOf p)) ⌝ }
     ensures range { λ r. ⌜ ((v : ℕ) (q : Place) → r ≡ Taken.Number v q → (lo ≤ v) × (v ≤ hi)) ⌝ }
 {
@@ -86,7 +96,7 @@ fn keep_counted(
     hi: usize,
     plus: usize,
 ) -> Taken
-    requires { ⌜ (base + 64 ≤ 2624) × (hi + plus < 4294967296 + lo) ⌝ }
+    requires { ⌜ (base + valueWidth ≤ tablesSize) × Fits lo hi plus ⌝ }
     ensures { λ r. ⌜ Takes (countedShape lo hi plus) p (base + p .numbers) (now (tables .entry)) (now (tables .exit)) r (valueNumber (now (s .entry)) lo hi (cursorOf p)) ⌝ }
     ensures range { λ r. ⌜ ((v : ℕ) (q : Place) → r ≡ Taken.Number v q → (lo ≤ v) × (v ≤ hi)) ⌝ }
 {
@@ -95,7 +105,7 @@ fn keep_counted(
         Taken::Number(v, q) => {
             let numbers = q.numbers;
             if Model::MAX_VALUE_NUMBERS <= numbers {
-                return Taken::Refused(5);
+                return Taken::Refused(LARGE_VALUE);
             }
             tables[base + numbers] = (plus + (v - lo)) as u32;
             Taken::Number(
@@ -123,7 +133,7 @@ pub struct Range {
 pub fn term_range(m: Model, tag: usize) -> Range
     requires { ⌜ Within m ⌝ }
     ensures { λ r. ⌜ r ≡ rangeOf (countsOf m) tag ⌝ }
-    ensures fits { λ r. ⌜ r .hi + r .plus < 4294967296 ⌝ }
+    ensures fits { λ r. ⌜ r .hi + r .plus < wordEnd ⌝ }
 {
     match tag {
         0 => Range {
@@ -181,10 +191,10 @@ pub fn term_range(m: Model, tag: usize) -> Range
 
 // A term of a block: tags 0 to 9.
 pub fn block_term(s: &[u8], tables: &mut [u32; TABLES], to: usize, m: Model, p: Place) -> Stored
-    requires { ⌜ (to + 1 < 2624) × Within m ⌝ }
+    requires { ⌜ (to + 1 < tablesSize) × Within m ⌝ }
     ensures { λ r. ⌜ Stores blockTermShape p to (now (tables .entry)) (now (tables .exit)) r (blockTerm (now (s .entry)) (countsOf m) (cursorOf p)) ⌝ }
 {
-    match keep(s, tables, to, p, 0, 9, 0) {
+    match keep(s, tables, to, p, 0, VALUE_TAG, 0) {
         Taken::Refused(n) => Stored::Refused(n),
         Taken::Number(tag, q) => {
             let range = term_range(m, tag);
@@ -205,16 +215,16 @@ fn operand(
     tag: usize,
     p: Place,
 ) -> Stored
-    requires { ⌜ (base + 64 ≤ 2624) × Within m × (tag ≤ 9) ⌝ }
+    requires { ⌜ (base + valueWidth ≤ tablesSize) × Within m × (tag ≤ 9) ⌝ }
     ensures { λ r. ⌜ Stores (operandShape tag) p (base + p .numbers) (now (tables .entry)) (now (tables .exit)) r (operandField (now (s .entry)) (countsOf m) tag (cursorOf p)) ⌝ }
 {
     let range = term_range(m, tag);
     match keep_counted(s, tables, base, p, range.lo, range.hi, range.plus) {
         Taken::Refused(n) => Stored::Refused(n),
         Taken::Number(v, q) => {
-            if tag == 9 {
+            if tag == VALUE_TAG {
                 if Model::MAX_MENTIONS <= q.mentions {
-                    return Stored::Refused(5);
+                    return Stored::Refused(LARGE_VALUE);
                 }
                 return Stored::Done(Place {
                     position: q.position,
@@ -223,7 +233,7 @@ fn operand(
                     named: q.named,
                 });
             }
-            if tag == 4 {
+            if tag == ENTRIES_TAG {
                 if q.named < v {
                     return Stored::Done(Place {
                         position: q.position,
@@ -250,19 +260,19 @@ fn value_term(
     depth: usize,
     p: Place,
 ) -> Stored
-    requires { ⌜ (base + 64 ≤ 2624) × Within m ⌝ }
+    requires { ⌜ (base + valueWidth ≤ tablesSize) × Within m ⌝ }
     ensures { λ r. ⌜ Stores termShape p (base + p .numbers) (now (tables .entry)) (now (tables .exit)) r (valueTerm (now (s .entry)) (countsOf m) depth (cursorOf p)) ⌝ }
 {
-    match keep_counted(s, tables, base, p, 0, 11, 0) {
+    match keep_counted(s, tables, base, p, 0, BRACKET_TAG, 0) {
         Taken::Refused(n) => Stored::Refused(n),
         Taken::Number(tag, q) => {
-            if tag <= 9 {
+            if tag <= VALUE_TAG {
                 return operand(s, tables, base, m, tag, q);
             }
             if depth == 0 {
-                return Stored::Refused(5);
+                return Stored::Refused(LARGE_VALUE);
             }
-            if tag == 10 {
+            if tag == COMPARISON_TAG {
                 return comparison(s, tables, base, m, depth - 1, q);
             }
             sum(s, tables, base, m, depth - 1, q)
@@ -279,10 +289,10 @@ fn comparison(
     depth: usize,
     p: Place,
 ) -> Stored
-    requires { ⌜ (base + 64 ≤ 2624) × Within m ⌝ }
+    requires { ⌜ (base + valueWidth ≤ tablesSize) × Within m ⌝ }
     ensures { λ r. ⌜ Stores (operandShape 10) p (base + p .numbers) (now (tables .entry)) (now (tables .exit)) r (comparisonField (now (s .entry)) (valueTerm (now (s .entry)) (countsOf m) depth) (cursorOf p)) ⌝ }
 {
-    match keep_counted(s, tables, base, p, 1, 6, 1) {
+    match keep_counted(s, tables, base, p, 1, RELATIONS, 1) {
         Taken::Refused(n) => Stored::Refused(n),
         Taken::Number(_, q) => match value_term(s, tables, base, m, depth, q) {
             Stored::Refused(n) => Stored::Refused(n),
@@ -300,7 +310,7 @@ fn sum(
     depth: usize,
     p: Place,
 ) -> Stored
-    requires { ⌜ (base + 64 ≤ 2624) × Within m ⌝ }
+    requires { ⌜ (base + valueWidth ≤ tablesSize) × Within m ⌝ }
     ensures { λ r. ⌜ Stores sumShape p (base + p .numbers) (now (tables .entry)) (now (tables .exit)) r (sumField (now (s .entry)) (valueTerm (now (s .entry)) (countsOf m) depth) (cursorOf p)) ⌝ }
 {
     match keep_counted(s, tables, base, p, 1, Model::MAX_TERMS, 1) {
@@ -319,7 +329,7 @@ fn sum_terms(
     left: usize,
     p: Place,
 ) -> Stored
-    requires { ⌜ (base + 64 ≤ 2624) × Within m ⌝ }
+    requires { ⌜ (base + valueWidth ≤ tablesSize) × Within m ⌝ }
     ensures { λ r. ⌜ Stores (termsShape left) p (base + p .numbers) (now (tables .entry)) (now (tables .exit)) r (sumTerms (now (s .entry)) left (valueTerm (now (s .entry)) (countsOf m) depth) (cursorOf p)) ⌝ }
 {
     if left == 0 {
@@ -336,8 +346,8 @@ fn sum_terms(
 
 // Value k (from 0), whose limits begin anew.
 pub fn value(s: &[u8], tables: &mut [u32; TABLES], k: usize, m: Model, p: Place) -> Stored
-    requires { ⌜ (k < 8) × Within m ⌝ }
-    ensures { λ r. ⌜ Stores valueShape p (2048 + 64 * k) (now (tables .entry)) (now (tables .exit)) r (valueField (now (s .entry)) (countsOf m) (cursorOf p)) ⌝ }
+    requires { ⌜ (k < maxValues) × Within m ⌝ }
+    ensures { λ r. ⌜ Stores valueShape p (Layout.values + valueWidth * k) (now (tables .entry)) (now (tables .exit)) r (valueField (now (s .entry)) (countsOf m) (cursorOf p)) ⌝ }
 {
     let base = VALUES + VALUE_WIDTH * k;
     sum(
@@ -358,7 +368,7 @@ pub fn value(s: &[u8], tables: &mut [u32; TABLES], k: usize, m: Model, p: Place)
 // The values of a model, each behind the lower-numbered ones that it may name.
 pub fn values(s: &[u8], tables: &mut [u32; TABLES], m: Model, p: Place) -> Stored
     requires { ⌜ Within m ⌝ }
-    ensures { λ r. ⌜ Rows valueShape ProperValue 64 2048 p (now (tables .entry)) (now (tables .exit)) r (valueFields (now (s .entry)) (beforeValues m) (m .values) 0 (cursorOf p)) ⌝ }
+    ensures { λ r. ⌜ Rows valueShape ProperValue valueWidth Layout.values p (now (tables .entry)) (now (tables .exit)) r (valueFields (now (s .entry)) (beforeValues m) (m .values) 0 (cursorOf p)) ⌝ }
 {
     let mut k = 0;
     let mut q = p;

@@ -20,6 +20,8 @@ const REPORT_BYTES: usize = 10_400;
 // A prime below 2 ^ 32.
 const MODULUS: u64 = 4_294_967_291;
 
+const FACTOR: u64 = 263;
+
 fn print_number(n: u64) {
     io::print_decimal(STDOUT_FILENO, n);
     io::write_all(STDOUT_FILENO, b" ");
@@ -31,12 +33,12 @@ fn wide(b: u8) -> u64
     b as u64
 }
 
-// One byte more: 263 times the sum so far, the byte and 1, modulo the prime.
+// One byte more: the factor times the sum so far, the byte and 1, modulo the prime.
 fn mixed(sum: u64, b: u8) -> u64
-    requires { ⌜ sum < 4294967291 ⌝ }
-    ensures { λ r. ⌜ r < 4294967291 ⌝ }
+    requires { do ⌜ sum < (← ⟦MODULUS⟧) ⌝ }
+    ensures { λ r. do ⌜ r < (← ⟦MODULUS⟧ .entry) ⌝ }
 {
-    (sum * 263 + wide(b) + 1) % MODULUS
+    (sum * FACTOR + wide(b) + 1) % MODULUS
 }
 
 fn checksum(bytes: &[u8]) -> u64 {

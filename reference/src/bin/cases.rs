@@ -6,12 +6,15 @@
 //! at every turn of N cases.
 //! `cases --check`: runs the cases of standard input again and counts the lines
 //! that come out otherwise.
+//! `--requests 1,6,7`: with these requests of document 02 in force; `none`, `all`;
+//! without it, those that the engine has.
 
 use reference::claims;
 use reference::coverage::Coverage;
 use reference::generate::random::Random;
-use reference::generate::{case, Size};
+use reference::generate::{case_with, Size};
 use reference::line::{line, parse};
+use reference::Rules;
 use std::io::{BufWriter, Write};
 
 fn main() {
@@ -20,8 +23,14 @@ fn main() {
     let mut coverage = false;
     let mut checking = false;
     let mut claiming = false;
-    for argument in std::env::args().skip(1) {
+    let mut rules = Rules::LANDED;
+    let mut arguments = std::env::args().skip(1);
+    while let Some(argument) = arguments.next() {
         match argument.as_str() {
+            "--requests" => match arguments.next().and_then(|text| Rules::parse(&text)) {
+                Some(named) => rules = named,
+                None => usage(),
+            },
             "--small" => size = Size::Small,
             "--short" => size = Size::Short,
             "--coverage" => coverage = true,
@@ -34,36 +43,36 @@ fn main() {
         }
     }
     if checking {
-        check();
+        check(rules);
     }
     let [count, seed] = numbers[..] else { usage() };
     let mut random = Random::new(seed);
     if coverage {
-        print!("{}", Coverage::of(&mut random, size, count));
+        print!("{}", Coverage::of(rules, &mut random, size, count));
         return;
     }
     if claiming {
-        check_claims(&mut random, size, count);
+        check_claims(rules, &mut random, size, count);
     }
     let mut output = BufWriter::new(std::io::stdout().lock());
     for _ in 0..count {
-        let case = case(&mut random, size);
-        if writeln!(output, "{}", line(&case)).is_err() {
+        let case = case_with(rules, &mut random, size);
+        if writeln!(output, "{}", line(rules, &case)).is_err() {
             return; // nobody reads on
         }
     }
 }
 
 fn usage() -> ! {
-    eprintln!("usage: cases [--coverage | --claims] N SEED [--small | --short]");
-    eprintln!("       cases --check");
+    eprintln!("usage: cases [--coverage | --claims] N SEED [--small | --short] [--requests LIST]");
+    eprintln!("       cases --check [--requests LIST]");
     std::process::exit(2);
 }
 
-fn check_claims(random: &mut Random, size: Size, count: u64) -> ! {
+fn check_claims(rules: Rules, random: &mut Random, size: Size, count: u64) -> ! {
     let mut asked = 0;
     for number in 1..=count {
-        match claims::check(&case(random, size)) {
+        match claims::check_with(rules, &case_with(rules, random, size)) {
             Ok((_, times)) => asked += times,
             Err(errors) => {
                 println!("case {number}: {}", errors.join("; "));
@@ -76,14 +85,14 @@ fn check_claims(random: &mut Random, size: Size, count: u64) -> ! {
 }
 
 /// Reads lines as printed here and compares them with a new run.
-fn check() -> ! {
+fn check(rules: Rules) -> ! {
     let mut lines = 0u64;
     let mut others = Vec::new();
     for text in std::io::stdin().lines() {
         let Ok(text) = text else { usage() };
         let Some(case) = parse(&text) else { usage() };
         lines += 1;
-        if line(&case) != text {
+        if line(rules, &case) != text {
             others.push(lines);
         }
     }

@@ -7,6 +7,7 @@ use crate::tape::Tape;
 
 pub fn empty_model() -> Model {
     Model {
+        edition: Model::FIRST_EDITION,
         facilities: 0,
         capacities: Vec::new(),
         queues: 0,
@@ -17,8 +18,9 @@ pub fn empty_model() -> Model {
     }
 }
 
-pub fn small_times(random: &mut Random, count: u64, span: u32) -> Vec<u32> {
-    (0..count).map(|_| random.number(0, span)).collect()
+pub fn small_times(random: &mut Random, count: u64, span: u32) -> Vec<u64> {
+    let span = u64::from(span);
+    (0..count).map(|_| random.between(0, span)).collect()
 }
 
 /// Several copies that take and give back the same servers in a ring.

@@ -3,32 +3,40 @@
 use super::fields::{count_numbers, encode_fields, encode_model, model_fields, tape_fields, Field};
 use super::random::Random;
 use super::sums::{long_value, wild_sum, Scope};
-use super::{good_case, Case, Size};
+use super::{edition, good_case, Case, Size};
 use crate::model::{Block, Comparison, Model, Part, Sum, Term};
 use crate::number::number_bytes;
+use crate::rules::Rules;
 use crate::tape::Tape;
 
 /// A case made from a good model and tape with one or two damages.
-pub fn damaged_case(random: &mut Random, size: Size, mut model: Model, tape: Tape) -> Case {
-    let mut case = good_case(random, size, &model, &tape);
+pub fn damaged_case(
+    rules: Rules,
+    random: &mut Random,
+    size: Size,
+    mut model: Model,
+    tape: Tape,
+) -> Case {
+    model.edition = edition(rules, random);
+    let mut case = good_case(rules, random, size, &model, &tape);
     match random.below(10) {
         0..=3 => {
-            case.model = damaged_bytes(random, &model_fields(&model));
+            case.model = damaged_bytes(random, &model_fields(rules, &model));
         }
         4..=5 => {
             let number = break_value(random, &mut model);
-            let mut fields = model_fields(&model);
+            let mut fields = model_fields(rules, &model);
             if random.one_in(3) {
                 spoil_near_the_65th(random, &model, number, &mut fields);
             }
             case.model = encode_fields(&fields);
         }
         6..=7 => {
-            break_shape(random, &mut model);
+            break_shape(rules, random, &mut model);
             case.model = encode_model(&model);
         }
         _ => {
-            let fields = tape_fields(&tape);
+            let fields = tape_fields(rules, &tape);
             // A long tape is damaged near its front, where little else is said.
             let fields = &fields[..fields.len().min(400)];
             case.tape = damaged_bytes(random, fields);
@@ -88,20 +96,21 @@ fn damaged_bytes(random: &mut Random, fields: &[Field]) -> Vec<u8> {
 }
 
 /// A value at or beside the ends of the field's range.
-fn near_range(random: &mut Random, field: &Field) -> u32 {
+fn near_range(random: &mut Random, field: &Field) -> u64 {
+    let most = field.high.max(u64::from(u32::MAX));
     match random.below(8) {
         0 => field.low,
         1 => field.high,
-        2..=3 => field.low.wrapping_sub(1),
-        4..=5 => field.high.wrapping_add(1),
-        6 => random.number(field.high, u32::MAX),
-        _ => *random.pick(&[0, 127, 128, 256, 257, 65_535, 65_536, u32::MAX]),
+        2..=3 => field.low.checked_sub(1).unwrap_or(most),
+        4..=5 => field.high + 1,
+        6 => random.between(field.high, most),
+        _ => *random.pick(&[0, 127, 128, 256, 257, 65_535, 65_536, most]),
     }
 }
 
 /// A number in bytes that question 3 or 8 refuses, or nearly so.
-fn odd_number(random: &mut Random, value: u32) -> Vec<u8> {
-    let plain = number_bytes(u64::from(value));
+fn odd_number(random: &mut Random, value: u64) -> Vec<u8> {
+    let plain = number_bytes(value);
     match random.below(9) {
         0..=1 => {
             let mut bytes = vec![0x80];
@@ -249,7 +258,11 @@ fn mentions(random: &mut Random, lower: u32, count: u32) -> Sum {
 }
 
 /// Question 7: a block where it may not stand, or a name of none.
-pub fn break_shape(random: &mut Random, model: &mut Model) {
+pub fn break_shape(rules: Rules, random: &mut Random, model: &mut Model) {
+    if rules.joined && random.one_in(3) {
+        break_group(random, model);
+        return;
+    }
     let count = model.blocks.len() as u32;
     let at = random.below(u64::from(count)) as usize;
     let generate = Block::Generate {
@@ -313,6 +326,65 @@ pub fn break_shape(random: &mut Random, model: &mut Model) {
         _ => {
             if count < Model::MAX_BLOCKS {
                 model.blocks.insert(at, generate);
+            }
+        }
+    }
+}
+
+/// A group of joined waits (02, item 7) with something wrong, or nearly so.
+fn break_group(random: &mut Random, model: &mut Model) {
+    let joined = |block: &Block| matches!(block, Block::WaitJoined { .. });
+    let Some(at) = model.blocks.iter().position(joined) else {
+        // One where there is no group.
+        model.facilities = model.facilities.max(1);
+        let at = random.below(model.blocks.len() as u64) as usize;
+        model.blocks[at] = Block::WaitJoined {
+            code: 1,
+            server: 1,
+            back: random.number(1, Model::MAX_BACK),
+        };
+        return;
+    };
+    let number = at as u32 + 1;
+    let Block::WaitJoined { code, server, back } = model.blocks[at] else {
+        return;
+    };
+    let first = number - back.min(number - 1);
+    match random.below(5) {
+        0 => {
+            // A target into the group, to its first block at times.
+            let target = random.number(first, number);
+            if let Some(block) = model.blocks.iter_mut().find(|b| b.target().is_some()) {
+                if let Block::If { target: t, .. }
+                | Block::Goto { target: t }
+                | Block::Split { target: t, .. } = block
+                {
+                    *t = target;
+                }
+            }
+        }
+        1 => {
+            // Another kind inside.
+            let inside = random.number(first, number - 1) as usize - 1;
+            model.blocks[inside] = Block::Priority { priority: 1 };
+        }
+        2 => {
+            // A joined wait inside.
+            let inside = random.number(first, number - 1) as usize - 1;
+            model.blocks[inside] = Block::WaitJoined {
+                code,
+                server,
+                back: 1,
+            };
+        }
+        3 => {
+            let back = random.number(1, Model::MAX_BACK);
+            model.blocks[at] = Block::WaitJoined { code, server, back };
+        }
+        _ => {
+            // A copy right behind it: its group holds a kind 17.
+            if model.blocks.len() < Model::MAX_BLOCKS as usize {
+                model.blocks.insert(at, model.blocks[at].clone());
             }
         }
     }

@@ -2,14 +2,15 @@
 
 use crate::model::{Block, Comparison, Model, Sum, Term};
 use crate::number::number_bytes;
+use crate::rules::Rules;
 use crate::tape::Tape;
 
 /// One number with the range of its field.
 #[derive(Clone, Copy, Debug)]
 pub struct Field {
-    pub value: u32,
-    pub low: u32,
-    pub high: u32,
+    pub value: u64,
+    pub low: u64,
+    pub high: u64,
     pub role: Role,
 }
 
@@ -24,6 +25,7 @@ pub enum Role {
 
 #[derive(Default)]
 struct Writer {
+    kinds: u32,
     fields: Vec<Field>,
     facilities: u32,
     capacities: Vec<u32>,
@@ -34,33 +36,39 @@ struct Writer {
 }
 
 pub fn encode_model(model: &Model) -> Vec<u8> {
-    encode_fields(&model_fields(model))
+    encode_fields(&model_fields(Rules::ALL, model))
 }
 
 pub fn encode_tape(tape: &Tape) -> Vec<u8> {
-    encode_fields(&tape_fields(tape))
+    encode_fields(&tape_fields(Rules::ALL, tape))
 }
 
 pub fn encode_fields(fields: &[Field]) -> Vec<u8> {
     fields
         .iter()
-        .flat_map(|field| number_bytes(u64::from(field.value)))
+        .flat_map(|field| number_bytes(field.value))
         .collect()
 }
 
-pub fn tape_fields(tape: &Tape) -> Vec<Field> {
+pub fn tape_fields(rules: Rules, tape: &Tape) -> Vec<Field> {
     let mut writer = Writer::default();
     for list in tape {
         writer.put(list.len() as u32, 0, Model::MAX_SAMPLES);
         for time in list {
-            writer.put(*time, 0, Model::MAX_SAMPLE);
+            writer.fields.push(Field {
+                value: *time,
+                low: 0,
+                high: rules.max_sample(),
+                role: Role::Other,
+            });
         }
     }
     writer.fields
 }
 
-pub fn model_fields(model: &Model) -> Vec<Field> {
+pub fn model_fields(rules: Rules, model: &Model) -> Vec<Field> {
     let mut writer = Writer {
+        kinds: rules.highest_kind(),
         fields: Vec::new(),
         facilities: model.facilities,
         capacities: model.capacities.clone(),
@@ -69,7 +77,7 @@ pub fn model_fields(model: &Model) -> Vec<Field> {
         lists: model.lists,
         blocks: model.blocks.len() as u32,
     };
-    writer.put(1, 1, 1);
+    writer.put(model.edition, Model::FIRST_EDITION, rules.highest_edition);
     writer.put(model.facilities, 0, Model::MAX_FACILITIES);
     writer.put(model.capacities.len() as u32, 0, Model::MAX_STORAGES);
     for capacity in &model.capacities {
@@ -103,9 +111,9 @@ impl Writer {
 
     fn put_as(&mut self, role: Role, value: u32, low: u32, high: u32) {
         self.fields.push(Field {
-            value,
-            low,
-            high,
+            value: u64::from(value),
+            low: u64::from(low),
+            high: u64::from(high),
             role,
         });
     }
@@ -164,8 +172,15 @@ impl Writer {
         self.put(units, 1, self.capacities[storage as usize - 1]);
     }
 
+    fn status(&mut self, code: u32, server: u32) {
+        self.put_as(Role::Code, code, 1, 6);
+        let storages = self.capacities.len() as u32;
+        let high = if code <= 2 { self.facilities } else { storages };
+        self.put(server, 1, high);
+    }
+
     fn block(&mut self, block: &Block) {
-        self.put(block.kind(), 1, 16);
+        self.put(block.kind(), 1, self.kinds);
         match block {
             Block::Generate { list, priority } => {
                 self.put(*list, 1, self.lists);
@@ -173,21 +188,19 @@ impl Writer {
             }
             Block::Advance { list } => self.put(*list, 1, self.lists),
             Block::Terminate { amount } => self.put(*amount, 0, Model::MAX_TERMINATE),
-            Block::Seize { facility } | Block::Release { facility } => {
+            Block::Seize { facility }
+            | Block::Release { facility }
+            | Block::Preempt { facility }
+            | Block::Return { facility } => {
                 self.put(*facility, 1, self.facilities);
             }
             Block::Enter { storage, units } | Block::Leave { storage, units } => {
                 self.units(*storage, *units);
             }
-            Block::WaitIfStatus { code, server } => {
-                self.put_as(Role::Code, *code, 1, 6);
-                let storages = self.capacities.len() as u32;
-                let high = if *code <= 2 {
-                    self.facilities
-                } else {
-                    storages
-                };
-                self.put(*server, 1, high);
+            Block::WaitIfStatus { code, server } => self.status(*code, *server),
+            Block::WaitJoined { code, server, back } => {
+                self.status(*code, *server);
+                self.put(*back, 1, Model::MAX_BACK);
             }
             Block::WaitIfComparison { comparison } => self.comparison(comparison),
             Block::If { comparison, target } => {
@@ -203,6 +216,9 @@ impl Writer {
             Block::Split { copies, target } => {
                 self.put(*copies, 1, Model::MAX_COPIES);
                 self.put(*target, 1, self.blocks);
+            }
+            Block::Assemble { count } => {
+                self.put(*count, Model::MIN_ASSEMBLED, Model::MAX_ASSEMBLED);
             }
             Block::Arrive { queue } | Block::Depart { queue } => {
                 self.put(*queue, 1, self.queues);

@@ -9,9 +9,10 @@ use super::sums::{long_value, Scope};
 use super::{good_case, Case, Size};
 use crate::model::{Block, Comparison, Model, Part, Sum, Term};
 use crate::report::REPORT_BYTES;
+use crate::rules::Rules;
 use crate::run::WORK_NUMBERS;
 
-pub fn case(random: &mut Random, size: Size) -> Case {
+pub fn case(rules: Rules, random: &mut Random, size: Size) -> Case {
     let clock = size == Size::Full || (size == Size::Small && random.one_in(3));
     let (model, tape) = match random.below(30) {
         0..=4 => contention(random, size),
@@ -19,37 +20,37 @@ pub fn case(random: &mut Random, size: Size) -> Case {
         7..=9 => gates(random, size),
         10..=13 => pulses(random, size),
         14..=16 => last_turn(random),
-        17..=19 => return ties(random, size),
-        20..=22 => return extremes(random, size),
-        23..=25 => return crowd(random, size),
-        26 if clock => return last_clock(random, size),
-        27 if size == Size::Full => return long_list(random),
-        28 if size == Size::Full => return most_of_everything(random, size),
-        29 if size == Size::Full && random.one_in(4) => return crowded_last_clock(random),
+        17..=19 => return ties(rules, random, size),
+        20..=22 => return extremes(rules, random, size),
+        23..=25 => return crowd(rules, random, size),
+        26 if clock => return last_clock(rules, random, size),
+        27 if size == Size::Full => return long_list(rules, random),
+        28 if size == Size::Full => return most_of_everything(rules, random, size),
+        29 if size == Size::Full && random.one_in(4) => return crowded_last_clock(rules, random),
         _ => pulses(random, size),
     };
-    good_case(random, size, &model, &tape)
+    good_case(rules, random, size, &model, &tape)
 }
 
 /// Everything at the same time: the order is all.
-fn ties(random: &mut Random, size: Size) -> Case {
-    let (mut model, tape) = model_and_tape(random, size);
+fn ties(rules: Rules, random: &mut Random, size: Size) -> Case {
+    let (mut model, tape) = model_and_tape(rules, random, size);
     for block in &mut model.blocks {
         if let Block::Generate { priority, .. } = block {
             *priority = random.number(0, 2);
         }
     }
-    let time = random.number(0, 2);
+    let time = random.between(0, 2);
     let tape = tape
         .iter()
         .map(|list| list.iter().map(|t| time * (t % 2)).collect())
         .collect();
-    good_case(random, size, &model, &tape)
+    good_case(rules, random, size, &model, &tape)
 }
 
 /// The largest operands, and sums that wrap.
-fn extremes(random: &mut Random, size: Size) -> Case {
-    let (mut model, tape) = model_and_tape(random, size);
+fn extremes(rules: Rules, random: &mut Random, size: Size) -> Case {
+    let (mut model, tape) = model_and_tape(rules, random, size);
     let large = |random: &mut Random| {
         if random.one_in(2) {
             Term::Constant(Model::MAX_CONSTANT)
@@ -85,11 +86,11 @@ fn extremes(random: &mut Random, size: Size) -> Case {
         }
     }
     model.counter = *random.pick(&[1, 2, Model::MAX_COUNTER]);
-    good_case(random, size, &model, &tape)
+    good_case(rules, random, size, &model, &tape)
 }
 
 /// Near 1,024 living: the last place, or one too many.
-fn crowd(random: &mut Random, size: Size) -> Case {
+fn crowd(rules: Rules, random: &mut Random, size: Size) -> Case {
     let mut model = empty_model();
     model.facilities = 1;
     model.capacities = vec![2];
@@ -139,7 +140,7 @@ fn crowd(random: &mut Random, size: Size) -> Case {
         vec![1; random.number(1, 3) as usize],
         vec![1; random.number(0, 2) as usize],
     ];
-    let mut case = good_case(random, size, &model, &tape);
+    let mut case = good_case(rules, random, size, &model, &tape);
     if size == Size::Full {
         case.budget = random.between(5, 3_000);
         case.trace_len = 30_000;
@@ -147,29 +148,33 @@ fn crowd(random: &mut Random, size: Size) -> Case {
     case
 }
 
-/// Up to clock 2,000,000,000 and just past it (end 22), by ADVANCE or, in
+/// Up to the last clock and just past it (end 22), by ADVANCE or, in
 /// full cases, by GENERATE.
-fn last_clock(random: &mut Random, size: Size) -> Case {
+pub fn last_clock(rules: Rules, random: &mut Random, size: Size) -> Case {
     let mut model = empty_model();
     model.lists = 2;
     model.blocks = vec![Block::Generate {
         list: 1,
         priority: 0,
     }];
-    // The sum is 2,000,000,000 or nearly so; then 0, 1 or a large one more.
-    let first = *random.pick(&[1, 500_000, 999_999, Model::MAX_SAMPLE]);
-    let rest = Model::MAX_SAMPLE - first;
-    let mut times = vec![Model::MAX_SAMPLE; 1_999];
-    times.push(rest - u32::from(rest > 0 && random.one_in(3)));
-    times.push(*random.pick(&[0, 1, Model::MAX_SAMPLE]));
-    times.push(random.number(0, 1));
+    // The sum is the last clock or nearly so; then 0, 1 or a large one more.
+    let most = rules.max_sample();
+    let first = *random.pick(&[1, most / 2, most - 1, most]);
+    let rest = most - first;
+    let mut times = vec![most; (rules.max_clock() / most) as usize - 1];
+    if rules.max_clock() % most > 0 {
+        times.push(rules.max_clock() % most);
+    }
+    times.push(rest - u64::from(rest > 0 && random.one_in(3)));
+    times.push(*random.pick(&[0, 1, most]));
+    times.push(random.between(0, 1));
     let mut arrivals = vec![first];
     if size == Size::Full && random.one_in(2) {
         arrivals.append(&mut times);
         model.blocks.push(Block::Terminate { amount: 1 });
     } else {
         if random.one_in(2) {
-            arrivals.push(random.number(0, Model::MAX_SAMPLE));
+            arrivals.push(random.between(0, most));
         }
         for _ in 0..12 {
             model.blocks.push(Block::Advance { list: 2 });
@@ -187,7 +192,7 @@ fn last_clock(random: &mut Random, size: Size) -> Case {
 }
 
 /// 1,024 living at the last clock: 21 is asked before 22.
-fn crowded_last_clock(random: &mut Random) -> Case {
+pub fn crowded_last_clock(rules: Rules, random: &mut Random) -> Case {
     let mut model = empty_model();
     model.lists = 2;
     let target = 10;
@@ -199,8 +204,8 @@ fn crowded_last_clock(random: &mut Random) -> Case {
         Block::If {
             comparison: Comparison {
                 left: Term::Clock,
-                relation: 3,
-                right: Term::Constant(Model::MAX_MOVE_TIME as u32),
+                relation: if rules.wide_clocks { 2 } else { 3 },
+                right: Term::Constant(rules.max_clock() as u32),
             },
             target,
         },
@@ -217,9 +222,13 @@ fn crowded_last_clock(random: &mut Random) -> Case {
         priority: 1,
     });
     model.blocks.push(Block::Terminate { amount: 1 });
-    let steps = vec![Model::MAX_SAMPLE; 2_000];
+    let most = rules.max_sample();
+    let mut steps = vec![most; (rules.max_clock() / most) as usize];
+    if rules.max_clock() % most > 0 {
+        steps.push(rules.max_clock() % most);
+    }
     let mut other = steps.clone();
-    other.push(random.number(0, 1));
+    other.push(random.between(0, 1));
     Case {
         model: encode_model(&model),
         tape: encode_tape(&vec![steps, other]),
@@ -231,18 +240,18 @@ fn crowded_last_clock(random: &mut Random) -> Case {
 }
 
 /// A list of 65,535 times.
-fn long_list(random: &mut Random) -> Case {
-    let (mut model, mut tape) = model_and_tape(random, Size::Full);
+fn long_list(rules: Rules, random: &mut Random) -> Case {
+    let (mut model, mut tape) = model_and_tape(rules, random, Size::Full);
     model.counter = Model::MAX_COUNTER;
     let at = random.below(tape.len() as u64) as usize;
     let count = *random.pick(&[5_000, 65_535]);
     tape[at] = small_times(random, count, 3);
-    good_case(random, Size::Full, &model, &tape)
+    good_case(rules, random, Size::Full, &model, &tape)
 }
 
 /// 256 blocks, 32 of each server and queue, 8 long values, 16 lists.
-fn most_of_everything(random: &mut Random, size: Size) -> Case {
-    let (mut model, mut tape) = model_and_tape(random, size);
+fn most_of_everything(rules: Rules, random: &mut Random, size: Size) -> Case {
+    let (mut model, mut tape) = model_and_tape(rules, random, size);
     model.facilities = Model::MAX_FACILITIES;
     while model.capacities.len() < Model::MAX_STORAGES as usize {
         model.capacities.push(random.number(1, 3));
@@ -283,5 +292,5 @@ fn most_of_everything(random: &mut Random, size: Size) -> Case {
             _ => {}
         }
     }
-    good_case(random, size, &model, &tape)
+    good_case(rules, random, size, &model, &tape)
 }

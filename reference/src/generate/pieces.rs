@@ -5,9 +5,11 @@
 use super::random::Random;
 use super::sums::{comparison, plain_term, Scope};
 use crate::model::{Block, Comparison, Model, Term};
+use crate::rules::Rules;
 
 /// What pieces are made from.
 pub struct Parts<'a> {
+    pub rules: Rules,
     pub random: &'a mut Random,
     pub model: &'a Model,
     pub scope: Scope,
@@ -90,6 +92,21 @@ impl Parts<'_> {
     pub fn piece(&mut self, depth: u32) -> Vec<Block> {
         let facilities = self.model.facilities > 0;
         let storages = !self.model.capacities.is_empty();
+        if self.rules.joined && (facilities || storages) && self.random.one_in(12) {
+            return self.joined_waits();
+        }
+        if self.rules.preempt && facilities && self.random.one_in(14) {
+            let facility = self.facility();
+            let mut blocks = self.queued(Block::Preempt { facility });
+            blocks.extend(self.held(depth));
+            if !self.random.one_in(25) {
+                blocks.push(Block::Return { facility });
+            }
+            return blocks;
+        }
+        if self.rules.assemble && self.random.one_in(14) {
+            return self.family();
+        }
         match self.random.below(100) {
             0..=19 if facilities => {
                 let facility = self.facility();
@@ -158,6 +175,38 @@ impl Parts<'_> {
             parameter: self.random.number(1, 2),
             term,
         }
+    }
+
+    /// Copies, something on the way, and the gathering (02, item 8).
+    fn family(&mut self) -> Vec<Block> {
+        let mut blocks = Vec::new();
+        if self.random.percent(70) {
+            blocks.push(self.split());
+        }
+        if self.random.one_in(2) {
+            blocks.push(self.advance());
+        }
+        let count = match self.random.below(6) {
+            0 => self.random.number(2, Model::MAX_ASSEMBLED),
+            1 => 3,
+            _ => 2,
+        };
+        blocks.push(Block::Assemble { count });
+        blocks
+    }
+
+    /// A group of server waits, the last of them joined (02, item 7).
+    fn joined_waits(&mut self) -> Vec<Block> {
+        let back = if self.random.one_in(5) {
+            self.random.number(1, Model::MAX_BACK)
+        } else {
+            self.random.number(1, 2)
+        };
+        let mut blocks: Vec<Block> = (0..back).map(|_| self.status_wait()).collect();
+        if let Block::WaitIfStatus { code, server } = self.status_wait() {
+            blocks.push(Block::WaitJoined { code, server, back });
+        }
+        blocks
     }
 
     fn status_wait(&mut self) -> Block {

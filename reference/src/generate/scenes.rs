@@ -61,7 +61,7 @@ pub fn last_turn(random: &mut Random) -> (Model, Tape) {
     ];
     // Often one of each: the waiters stand before the clock makes its leap.
     let (waiters, movers) = if random.one_in(3) { (3, 6) } else { (1, 1) };
-    let leap = random.number(2, 6);
+    let leap = random.between(2, 6);
     let spent = random.below(3);
     let tape = vec![
         small_times(random, waiters, 1),

@@ -7,10 +7,11 @@ use super::tapes::{arrivals, delays, span, times};
 use super::targets::resolve;
 use super::Size;
 use crate::model::{Block, Model, Sum, Term};
+use crate::rules::Rules;
 use crate::tape::Tape;
 
 /// A model that passes questions 3 to 7, and a tape that fits it.
-pub fn model_and_tape(random: &mut Random, size: Size) -> (Model, Tape) {
+pub fn model_and_tape(rules: Rules, random: &mut Random, size: Size) -> (Model, Tape) {
     let span = span(random);
     let mut model = resources(random, size);
     let limit = block_limit(random, size);
@@ -31,7 +32,7 @@ pub fn model_and_tape(random: &mut Random, size: Size) -> (Model, Tape) {
     let first = (values > 0 && random.percent(70)).then(|| step(random));
     let roles = roles(random, model.lists);
     let step_value = first.as_ref().map(|sum| (1, step_parameter(sum)));
-    let (mut blocks, segments) = lay_out(random, &model, scope, &roles, step_value, limit);
+    let (mut blocks, segments) = lay_out(rules, random, &model, scope, &roles, step_value, limit);
     resolve(random, &mut blocks, &segments);
     let scope = Scope {
         blocks: blocks.len() as u32,
@@ -56,7 +57,7 @@ pub fn model_and_tape(random: &mut Random, size: Size) -> (Model, Tape) {
                 Role::Arrivals => arrivals(random, size),
                 Role::Delays => delays(random, size),
             };
-            times(random, count, span)
+            times(rules, random, count, span)
         })
         .collect();
     (model, tape)
@@ -102,6 +103,7 @@ fn resources(random: &mut Random, size: Size) -> Model {
         })
         .collect();
     Model {
+        edition: Model::FIRST_EDITION,
         facilities: random.number(0, most),
         capacities,
         queues: random.number(0, most),
@@ -137,6 +139,7 @@ fn block_limit(random: &mut Random, size: Size) -> u32 {
 /// Segments of blocks, each begun by a GENERATE or reached by a target, each
 /// ended by TERMINATE or GOTO.
 fn lay_out(
+    rules: Rules,
     random: &mut Random,
     model: &Model,
     scope: Scope,
@@ -167,6 +170,7 @@ fn lay_out(
         let room = limit - blocks.len() as u32;
         let length = random.number(2.min(room), room.min(16)) as usize;
         let mut parts = Parts {
+            rules,
             random,
             model,
             scope,

@@ -2,29 +2,33 @@
 
 use super::random::Random;
 use super::Size;
-use crate::model::Model;
+use crate::rules::Rules;
 
 /// A usual span between two times of a list.
 pub fn span(random: &mut Random) -> u32 {
     *random.pick(&[1, 2, 3, 4, 6, 10, 10, 25, 100, 5_000])
 }
 
-fn time(random: &mut Random, span: u32) -> u32 {
+fn time(rules: Rules, random: &mut Random, span: u64) -> u64 {
     match random.below(40) {
-        0 => Model::MAX_SAMPLE,
+        0 if rules.wide_clocks && random.one_in(9) => {
+            *random.pick(&[2_147_483_648, 4_294_967_296, rules.max_sample()])
+        }
+        0 => Rules::BASE.max_sample(),
         1..=3 => 0,
         4..=5 => span,
-        _ => random.number(0, span),
+        _ => random.between(0, span),
     }
 }
 
 /// The times of one list.
-pub fn times(random: &mut Random, count: u32, span: u32) -> Vec<u32> {
+pub fn times(rules: Rules, random: &mut Random, count: u32, span: u32) -> Vec<u64> {
+    let span = u64::from(span);
     match random.below(12) {
         0 => vec![0; count as usize],
         1 => vec![span; count as usize],
-        2 => (0..count).map(|_| time(random, span)).collect(),
-        _ => (0..count).map(|_| random.number(0, span)).collect(),
+        2 => (0..count).map(|_| time(rules, random, span)).collect(),
+        _ => (0..count).map(|_| random.between(0, span)).collect(),
     }
 }
 

@@ -7,8 +7,10 @@ use crate::model::{Block, Term};
 /// `segments` are the first and last block of each run of blocks.
 pub fn resolve(random: &mut Random, blocks: &mut [Block], segments: &[(u32, u32)]) {
     let count = blocks.len() as u32;
+    let inside = inside_groups(blocks);
     let aims: Vec<u32> = (1..=count)
         .filter(|number| !matches!(blocks[*number as usize - 1], Block::Generate { .. }))
+        .filter(|number| !inside.contains(number))
         .collect();
     let held = held_before(blocks, segments);
     for (first, last) in segments {
@@ -51,6 +53,18 @@ pub fn resolve(random: &mut Random, blocks: &mut [Block], segments: &[(u32, u32)
     }
 }
 
+/// The second and later blocks of groups of joined waits: no target names them.
+fn inside_groups(blocks: &[Block]) -> Vec<u32> {
+    let mut inside = Vec::new();
+    for (index, block) in blocks.iter().enumerate() {
+        if let Block::WaitJoined { back, .. } = block {
+            let number = index as u32 + 1;
+            inside.extend(number.saturating_sub(*back) + 1..=number);
+        }
+    }
+    inside
+}
+
 /// What a transaction holds before each block if it came straight through the
 /// segment: servers with units, and queues.
 fn held_before(blocks: &[Block], segments: &[(u32, u32)]) -> Vec<Vec<(u32, u32, u32)>> {
@@ -61,6 +75,8 @@ fn held_before(blocks: &[Block], segments: &[(u32, u32)]) -> Vec<Vec<(u32, u32, 
             held.push(now.clone());
             match *block {
                 Block::Seize { facility } => now.push((1, facility, 1)),
+                Block::Preempt { facility } => now.push((4, facility, 1)),
+                Block::Return { facility } => now.retain(|h| *h != (4, facility, 1)),
                 Block::Release { facility } => now.retain(|h| *h != (1, facility, 1)),
                 Block::Enter { storage, units } => now.push((2, storage, units)),
                 Block::Leave { storage, units } => now.retain(|h| *h != (2, storage, units)),

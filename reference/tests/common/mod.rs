@@ -3,16 +3,19 @@
 
 use reference::blocks::Done;
 use reference::generate::fields::{encode_model, encode_tape};
+use reference::generate::Case;
 use reference::machine::{Machine, Transaction};
 use reference::model::{Block, Comparison, Model, Part, Sum, Term};
 use reference::report::{read_report, REPORT_BYTES};
-use reference::run::{run, run_from, Nobody, Outcome, WORK_NUMBERS};
+use reference::run::{run_from, run_with, Nobody, Outcome, WORK_NUMBERS};
 use reference::tape::Tape;
 use reference::trace::TraceReader;
+use reference::Rules;
 
 /// A model of one facility, one storage of 2, one queue and three lists.
 pub fn model(blocks: Vec<Block>) -> Model {
     Model {
+        edition: 1,
         facilities: 1,
         capacities: vec![2],
         queues: 1,
@@ -134,8 +137,8 @@ impl Ran {
     }
 }
 
-fn ran(outcome: Outcome, trace: &[u8], report: &[u8]) -> Ran {
-    let mut reader = TraceReader::new(&trace[..outcome.trace_bytes as usize]);
+fn ran(rules: Rules, outcome: Outcome, trace: &[u8], report: &[u8]) -> Ran {
+    let mut reader = TraceReader::with(rules, &trace[..outcome.trace_bytes as usize]);
     let mut records = Vec::new();
     while let Ok(r) = reader.next_record() {
         records.push([r.clock, r.transaction, r.block, r.outcome]);
@@ -150,9 +153,15 @@ fn ran(outcome: Outcome, trace: &[u8], report: &[u8]) -> Ran {
 }
 
 pub fn run_limited(model: &Model, tape: &Tape, budget: u64, trace_len: usize) -> Ran {
+    run_under(Rules::BASE, model, tape, budget, trace_len)
+}
+
+/// The same under other rules than those of document 01.
+pub fn run_under(rules: Rules, model: &Model, tape: &Tape, budget: u64, trace_len: usize) -> Ran {
     let mut trace = vec![0; trace_len];
     let mut report = vec![0; REPORT_BYTES];
-    let outcome = run(
+    let outcome = run_with(
+        rules,
         &encode_model(model),
         &encode_tape(tape),
         budget,
@@ -161,7 +170,7 @@ pub fn run_limited(model: &Model, tape: &Tape, budget: u64, trace_len: usize) ->
         &mut report,
     );
     assert_eq!(outcome.refusal, 0, "refused");
-    ran(outcome, &trace, &report)
+    ran(rules, outcome, &trace, &report)
 }
 
 pub fn run_model(model: &Model, tape: &Tape) -> Ran {
@@ -172,8 +181,9 @@ pub fn run_model(model: &Model, tape: &Tape) -> Ran {
 pub fn run_state(machine: Machine, budget: u64) -> Ran {
     let mut trace = vec![0; 65_536];
     let mut report = vec![0; REPORT_BYTES];
+    let rules = machine.rules;
     let outcome = run_from(machine, budget, &mut trace, &mut report, &mut Nobody);
-    ran(outcome, &trace, &report)
+    ran(rules, outcome, &trace, &report)
 }
 
 pub fn transaction(number: u64, next_block: u32, serial: u64) -> Transaction {
@@ -184,14 +194,28 @@ pub fn transaction(number: u64, next_block: u32, serial: u64) -> Transaction {
         next_block,
         serial,
         returning: false,
+        groups: Default::default(),
+        family: number,
     }
 }
 
 /// The refusal of a model and tape in good buffers.
 pub fn refusal(model: &[u8], tape: &[u8]) -> u64 {
+    refusal_under(Rules::BASE, model, tape)
+}
+
+pub fn refusal_under(rules: Rules, model: &[u8], tape: &[u8]) -> u64 {
     let mut trace = vec![7; 100];
     let mut report = vec![7; REPORT_BYTES];
-    let outcome = run(model, tape, 10, WORK_NUMBERS, &mut trace, &mut report);
+    let outcome = run_with(
+        rules,
+        model,
+        tape,
+        10,
+        WORK_NUMBERS,
+        &mut trace,
+        &mut report,
+    );
     if outcome.refusal != 0 {
         assert_eq!(outcome.numbers()[1..], [0; 7]);
         assert!(trace.iter().chain(&report).all(|byte| *byte == 7));
@@ -201,7 +225,7 @@ pub fn refusal(model: &[u8], tape: &[u8]) -> u64 {
 
 /// A machine of `model` with empty lists.
 pub fn machine(blocks: Vec<Block>) -> Machine {
-    Machine::start(model(blocks), vec![vec![], vec![], vec![]])
+    Machine::start(Rules::BASE, model(blocks), vec![vec![], vec![], vec![]])
 }
 
 /// Executes block 1 for transaction 1, just taken.
@@ -219,4 +243,20 @@ pub fn waiter(number: u64, block: u32, priority: u32) -> Transaction {
     let mut waiter = transaction(number, block, number);
     waiter.priority = priority;
     waiter
+}
+
+/// The eight results, trace and report of a case.
+pub fn everything(rules: Rules, case: &Case) -> (Outcome, Vec<u8>, Vec<u8>) {
+    let mut trace = vec![0; case.trace_len];
+    let mut report = vec![0; case.report_len];
+    let outcome = run_with(
+        rules,
+        &case.model,
+        &case.tape,
+        case.budget,
+        case.work_len,
+        &mut trace,
+        &mut report,
+    );
+    (outcome, trace, report)
 }

@@ -21,6 +21,9 @@ drain-requires-2 c κs = omega arith
 queue-requires : tie.Need-queue-requires
 queue-requires c κs = omega arith
 
+middle-requires : tie.Need-middle-requires
+middle-requires c κs = omega arith
+
 same-length : tie.Need-same-length
 same-length c = omega arith
 
@@ -28,4 +31,4 @@ returns : tie.Need-returns
 returns c = omega arith
 
 pub exercise-spec : {M : Type 1} → statement M
-exercise-spec = tie.close (tie.spec initialise-requires ready-requires future-requires drain-requires drain-requires-2 queue-requires same-length returns)
+exercise-spec = tie.close (tie.spec initialise-requires ready-requires future-requires drain-requires drain-requires-2 queue-requires middle-requires same-length returns)

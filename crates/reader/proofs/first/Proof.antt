@@ -36,6 +36,7 @@ use denote.Triple.Table.{entered, cited}
 use denote.Triple.Walked.{says, Stays, stay-none-slice, walkOf, goes-none-slice, Walks, ends-at, walked, walk-meets}
 use denote.Exit.{yes}
 use denote.Triple.Clauses.{ensured, lasts}
+use Rattle.machine.specs.Rules.{inForce}
 use Rattle.machine.specs.Trace.{Reading as Answer, readRecord}
 use Rattle.trace.specs.declared.Reading.{Reading}
 use Rattle.trace.specs.Answers.{readingOf}
@@ -73,7 +74,7 @@ module _ {M : Type 1} (𝓤 : URA M) (H : Heap 𝓤) (A : Atoms 𝓤) (W : Given
   v = sliceVal (s .ptr) (length (s .now))
 
   abbrev found : Answer
-  found = readRecord (now s) 0
+  found = readRecord inForce (now s) 0
 
   -- the lifetime as a local has it
   abbrev αᵉ : NamedLft
@@ -105,8 +106,8 @@ module _ {M : Type 1} (𝓤 : URA M) (H : Heap 𝓤) (A : Atoms 𝓤) (W : Given
   goes-next : (r : Reader) (u : Val) → ent 𝓤 (⋆ 𝓤 H A (‵ (ReaderAt (κ, tt) .own r (u ∷ [])) ∷ (‵ (flft κ q) ⊛ ‵ ftrue) ∷ [])) (Next 𝓤 H A mem run .pre (to-next r u))
   goes-next r u = qed W (‵ (ReaderAt (κ, tt) .own r (u ∷ [])) ∷ (‵ (flft κ q) ⊛ ‵ ftrue) ∷ []) ∵ nothing ! $ move ! (1 ∷ 0 ∷ []) $ fjoin ! $ move ! (1 ∷ 0 ∷ []) $ join ! $ frame ! $ done !
 
-  next-said : (r : Reader) (x : Reading) → ent 𝓤 (ensured 𝓤 H A next.ended (next.clauses 𝓤 H A mem run) (κ, tt) (r, tt) tt x) (fact 𝓤 (readingOf x ≡ readRecord (now (r .bytes)) (r .at)))
-  next-said r x = exE 𝓤 _ (λ ws. snd∗ 𝓤 (sem 𝓤 H A (lasts next.ended (κ, tt) (r, tt) ws)) (fact 𝓤 (readingOf x ≡ readRecord (now (r .bytes)) (r .at))))
+  next-said : (r : Reader) (x : Reading) → ent 𝓤 (ensured 𝓤 H A next.ended (next.clauses 𝓤 H A mem run) (κ, tt) (r, tt) tt x) (fact 𝓤 (readingOf x ≡ readRecord inForce (now (r .bytes)) (r .at)))
+  next-said r x = exE 𝓤 _ (λ ws. snd∗ 𝓤 (sem 𝓤 H A (lasts next.ended (κ, tt) (r, tt) ws)) (fact 𝓤 (readingOf x ≡ readRecord inForce (now (r .bytes)) (r .at))))
 
   exits : (x : Reading) (u : Val) → readingOf x ≡ found → ent 𝓤 (⋆ 𝓤 H A (‵ (R.the-row .own x (u ∷ [])) ∷ (‵ (flft κ q) ⊛ ‵ ftrue) ∷ ‵ Own ∷ [])) (Post u)
   exits x u e =
@@ -129,12 +130,12 @@ module _ {M : Type 1} (𝓤 : URA M) (H : Heap 𝓤) (A : Atoms 𝓤) (W : Given
         use2 W (raw (Next 𝓤 H A mem run .pre (to-next r u))) (goes-next r u) $
         calls-at ! fm (Next 𝓤 H A mem run) known-next (to-next r u) (and-then ! (load ! (from ! (stop !)) (look ! 2 refl)) (no-more !)) (λ u′.
         use1 W (later (some (λ (x : Reading). ((‵ (flft κ q) ⊛ ‵ ftrue) ⊛ ‵ (R.the-row .own x (u′ ∷ []))) ⊛ raw (ensured 𝓤 H A next.ended (next.clauses 𝓤 H A mem run) (κ, tt) (r, tt) tt x)))) (id⊢ 𝓤 _) $ await ! tt $ pick ! (λ x.
-        split ! $ move ! (1 ∷ []) $ use1 W (raw (fact 𝓤 (readingOf x ≡ readRecord (now (r .bytes)) (r .at)))) (next-said r x) $ heard ! (readingOf x ≡ readRecord (now (r .bytes)) (r .at)) (λ e′. split ! $ move ! (1 ∷ []) $
+        split ! $ move ! (1 ∷ []) $ use1 W (raw (fact 𝓤 (readingOf x ≡ readRecord inForce (now (r .bytes)) (r .at)))) (next-said r x) $ heard ! (readingOf x ≡ readRecord inForce (now (r .bytes)) (r .at)) (λ e′. split ! $ move ! (1 ∷ []) $
         -- [the answer; the lifetime; the slice; _2; ..; _1; ..; room for _0; ..]
         peeks ! R.the-row (Is R.the-row) (shows 𝓤 H A R.the-row) x (u′ ∷ []) (λ is′.
         land ! (from ! (stop !)) (init ! 7 refl (EL.lawful R.the-type R′.the-laws 𝓤 H A W tt .typed x _ is′ .0)) $
         returns ! (look ! 7 refl) $ forget ! 3 refl $ forget ! 5 refl $ forget ! 7 refl $ move ! (7 ∷ 8 ∷ []) $ free1 ! $ move ! (5 ∷ 6 ∷ []) $ free1 ! $ move ! (3 ∷ 4 ∷ []) $ free1 ! $ free0 ! $
-        by ! (exits x u′ (e′ ∙ (ap (λ (y : RefT (List ℕ)). readRecord (now y) (r .at)) (e .0) ∙ ap (readRecord (now s)) (e .1)))))))))))))))
+        by ! (exits x u′ (e′ ∙ (ap (λ (y : RefT (List ℕ)). readRecord inForce (now y) (r .at)) (e .0) ∙ ap (readRecord inForce (now s)) (e .1)))))))))))))))
 
 module _ {M : Type 1} (𝓤 : URA M) (H : Heap 𝓤) (A : Atoms 𝓤) (W : Given 𝓤 H A) (mem : Memory → SProp 𝓤) (run : Routine → Fun 𝓤) where
   first-walks : (C : Calls 𝓤 H) (Λ : Loops 𝓤 H) → FmC 𝓤 H (W .laws) C → Triple 𝓤 (C #reader·new) (New 𝓤 H A mem run) → Triple 𝓤 (C #reader·next) (Next 𝓤 H A mem run)

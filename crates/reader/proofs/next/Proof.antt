@@ -35,6 +35,7 @@ use denote.Triple.Table.{entered, cited}
 use denote.Triple.Walked.{says, Stays, stay-none, walkOf, goes-none, Walks, ends-at, walked, walk-meets}
 use denote.Triple.Clauses.{ensured, lasts}
 use denote.Exit.{yes}
+use Rattle.machine.specs.Rules.{inForce}
 use Rattle.machine.specs.Trace.{Reading as Answer, readRecord}
 use Rattle.trace.specs.declared.Reading.{Reading}
 use Rattle.trace.specs.Answers.{readingOf}
@@ -65,7 +66,7 @@ module _ {M : Type 1} (𝓤 : URA M) (H : Heap 𝓤) (A : Atoms 𝓤) (W : Given
 
   -- what the machine's reader answers
   abbrev found : Answer
-  found = readRecord (now (d .bytes)) (d .at)
+  found = readRecord inForce (now (d .bytes)) (d .at)
 
   -- the call
   abbrev passed : Vals read-record.signature (κ, tt)

@@ -1,49 +1,69 @@
--- `trace::count_low` meets its contract. The loop's invariant: what was counted and what the bytes from `i` on give are
+-- `trace::count_low` meets its contract. The invariant of each of its loops: what was counted and what the bytes from `i` on give are
 -- together the count of all. The measure is what is left of the length.
-use Prim.Native.Nat.{_+_, _-_, _≤_}
+use Prim.Native.Nat.{ℕ, _+_, _-_, _≤_}
 use native.Mathlib.Nat.{zero-add}
 use native.Mathlib.Omega.{arith}
-use mathlib.Core.Logic.{⊎-elim}
-use mathlib.Core.Path.{_≡_, _∙_}
+use mathlib.Core.List.{List}
+use mathlib.Core.Path.{_≡_}
 use lib.ListN.{length, drop}
+use borrow.Author.Needs.{needs}
 use Rattle.machine.specs.Number.{countLow}
-use Rattle.trace.proofs.Counting.{counted-low, counted-high, counted-all}
+use Rattle.trace.proofs.Counting.{counted, counted-all}
 use Rattle.trace.proofs.count_low.Statement.{statement}
 use Rattle.trace.proofs.count_low.Tie as tie
 
+abbrev Counted : List ℕ → ℕ → ℕ → Type 0
+Counted s count i = (i ≤ length s) × (count ≤ i) × (count + countLow (drop i s) ≡ countLow s)
+
 abbrev Inv-loop : tie.InvT-loop
-Inv-loop s count₀ i₀ count i = (i ≤ length s) × (count ≤ i) × (count + countLow (drop i s) ≡ countLow s)
+Inv-loop s count₀ i₀ count i = Counted s count i
 
 abbrev μ-loop : tie.MeasureT-loop
 μ-loop s count₀ i₀ count i = length s - i
 
-loop-holds : tie.Need-loop-holds Inv-loop μ-loop
+abbrev Inv-loop2 : tie.InvT-loop2
+Inv-loop2 s count₀ i₀ count i = Counted s count i
+
+abbrev μ-loop2 : tie.MeasureT-loop2
+μ-loop2 s count₀ i₀ count i = length s - i
+
+abbrev Inv-loop3 : tie.InvT-loop3
+Inv-loop3 s count₀ i₀ count i = Counted s count i
+
+abbrev μ-loop3 : tie.MeasureT-loop3
+μ-loop3 s count₀ i₀ count i = length s - i
+
+abbrev Inv-loop4 : tie.InvT-loop4
+Inv-loop4 s count₀ i₀ count i = Counted s count i
+
+abbrev μ-loop4 : tie.MeasureT-loop4
+μ-loop4 s count₀ i₀ count i = length s - i
+
+loop-holds : tie.Need-loop-holds Inv-loop μ-loop Inv-loop2 μ-loop2 Inv-loop3 μ-loop3 Inv-loop4 μ-loop4
 loop-holds c = (omega arith, omega arith, zero-add _)
 
-shared-slice-read-if1 : tie.Need-shared-slice-read-if1 Inv-loop μ-loop
-shared-slice-read-if1 c = omega arith
+loop-again : tie.Need-loop-again Inv-loop μ-loop Inv-loop2 μ-loop2 Inv-loop3 μ-loop3 Inv-loop4 μ-loop4
+loop-again c =
+    let call = c .count-128 .ensures in
+    (omega arith, omega (arith, call .1), counted _ _ 128 _ (call .0) (c .before .before .loop .inv .2))
 
-add-count : tie.Need-add-count Inv-loop μ-loop
-add-count c = omega arith
+loop2-again : tie.Need-loop2-again Inv-loop μ-loop Inv-loop2 μ-loop2 Inv-loop3 μ-loop3 Inv-loop4 μ-loop4
+loop2-again c =
+    let call = c .count-32 .ensures in
+    (omega arith, omega (arith, call .1), counted _ _ 32 _ (call .0) (c .before .before .loop2 .inv .2))
 
-add-i : tie.Need-add-i Inv-loop μ-loop
-add-i c = omega arith
+loop3-again : tie.Need-loop3-again Inv-loop μ-loop Inv-loop2 μ-loop2 Inv-loop3 μ-loop3 Inv-loop4 μ-loop4
+loop3-again c =
+    let call = c .count-8 .ensures in
+    (omega arith, omega (arith, call .1), counted _ _ 8 _ (call .0) (c .before .before .loop3 .inv .2))
 
-loop-less : tie.Need-loop-less Inv-loop μ-loop
-loop-less c = omega arith
+loop4-again : tie.Need-loop4-again Inv-loop μ-loop Inv-loop2 μ-loop2 Inv-loop3 μ-loop3 Inv-loop4 μ-loop4
+loop4-again c =
+    let call = c .count-1 .ensures in
+    (omega arith, omega (arith, call .1), counted _ _ 1 _ (call .0) (c .before .before .loop4 .inv .2))
 
-loop-again : tie.Need-loop-again Inv-loop μ-loop
-loop-again c = let w = c .before .before .before .loop in
-    let inside = c .before .before .loop-test .taken in
-    ⊎-elim
-    (λ k.
-    (omega arith, omega (arith, k), rw (k .1) (counted-low _ _ _ inside (k .0 .taken) ∙ w .inv .2)))
-    (λ k.
-    (omega arith, omega (arith, k), rw (k .1) (counted-high _ _ _ inside (k .0 .left) ∙ w .inv .2)))
-    (c .if1 .came)
-
-returns : tie.Need-returns Inv-loop μ-loop
-returns c = counted-all _ _ _ (c .loop-test .left) ∙ c .before .loop .inv .2
+returns : tie.Need-returns Inv-loop μ-loop Inv-loop2 μ-loop2 Inv-loop3 μ-loop3 Inv-loop4 μ-loop4
+returns c = counted-all _ _ (c .loop4-test .left) (c .before .loop4 .inv .2)
 
 pub count-low-spec : {M : Type 1} → statement M
 count-low-spec =
@@ -51,10 +71,37 @@ count-low-spec =
     (tie.spec
     Inv-loop
     μ-loop
+    Inv-loop2
+    μ-loop2
+    Inv-loop3
+    μ-loop3
+    Inv-loop4
+    μ-loop4
     loop-holds
-    shared-slice-read-if1
-    add-count
-    add-i
-    loop-less
+    (search needs)
+    (search needs)
+    (search needs)
+    (search needs)
+    (search needs)
     loop-again
+    (search needs)
+    (search needs)
+    (search needs)
+    (search needs)
+    (search needs)
+    (search needs)
+    loop2-again
+    (search needs)
+    (search needs)
+    (search needs)
+    (search needs)
+    (search needs)
+    (search needs)
+    loop3-again
+    (search needs)
+    (search needs)
+    (search needs)
+    (search needs)
+    (search needs)
+    loop4-again
     returns)

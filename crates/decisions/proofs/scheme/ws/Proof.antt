@@ -5,6 +5,7 @@ use native.Mathlib.Omega.{arith}
 use borrow.Author.Needs.{needs}
 use borrow.Author.Tests.{eq-eqb, ne-eqb}
 use lib.ListN.{length}
+use Rattle.rows.specs.Layout.{head, wsl}
 use Rattle.rows.specs.Wake.{wakeAll}
 use Rattle.rows.proofs.Steps.{wakeAll-end, wakeAll-stop, wakeAll-next}
 use Rattle.decisions.specs.Scheme.{leaves, wsScheme}
@@ -13,7 +14,7 @@ use Rattle.decisions.proofs.scheme.ws.Tie as tie
 
 abbrev Inv-loop : tie.InvT-loop
 Inv-loop tables blocks values work₀ tally clock cell₀ i₀ work cell i =
-    (wakeAll (leaves tables blocks values tally clock) (1024 - i) work 448 cell ≡ wakeAll (leaves tables blocks values tally clock) 1024 work₀ 448 15808)
+    (wakeAll (leaves tables blocks values tally clock) (1024 - i) work 448 cell ≡ wakeAll (leaves tables blocks values tally clock) 1024 work₀ 448 (head wsl))
     × ((i ≤ 1024) × (length work ≡ length work₀))
 
 abbrev μ-loop : tie.MeasureT-loop

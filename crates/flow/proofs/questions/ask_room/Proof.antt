@@ -11,9 +11,6 @@ less32-requires c κs = search needs
 plus32-requires : tie.Need-plus32-requires
 plus32-requires c κs = search needs
 
-cast-if1 : tie.Need-cast-if1
-cast-if1 c = search needs
-
 returns : tie.Need-returns
 unfolding askRoom
 returns c = rw (← c .before .before .less32 .ensures, ← c .before .plus32 .ensures, le-leb _ 1024 (c .if1 .taken))
@@ -23,4 +20,4 @@ unfolding askRoom
 returns-2 c = rw (← c .before .before .less32 .ensures, ← c .before .plus32 .ensures, lt-leb _ 1024 (c .if1 .left))
 
 pub ask-room-spec : {M : Type 1} → statement M
-ask-room-spec = tie.close (tie.spec less32-requires plus32-requires cast-if1 returns returns-2)
+ask-room-spec = tie.close (tie.spec less32-requires plus32-requires returns returns-2)

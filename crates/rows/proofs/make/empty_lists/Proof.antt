@@ -5,15 +5,16 @@ use mathlib.Core.List.{List}
 use native.Mathlib.Omega.{arith}
 use native.Mathlib.Numerals.{add-one}
 use lib.ListN.{length}
+use Rattle.rows.specs.Layout.{listCount}
 use Rattle.rows.specs.Make.{emptyLists, emptyList}
 use Rattle.rows.proofs.make.empty_lists.Statement.{statement}
 use Rattle.rows.proofs.make.empty_lists.Tie as tie
 
 abbrev Inv-loop : tie.InvT-loop
-Inv-loop w₀ p₀ w p = (w ≡ emptyLists p w₀) × ((p ≤ 512) × (length w ≡ length w₀))
+Inv-loop w₀ p₀ w p = (w ≡ emptyLists p w₀) × ((p ≤ listCount) × (length w ≡ length w₀))
 
 abbrev μ-loop : tie.MeasureT-loop
-μ-loop w₀ p₀ w p = 512 - p
+μ-loop w₀ p₀ w p = listCount - p
 
 loop-holds : tie.Need-loop-holds Inv-loop μ-loop
 unfolding emptyLists

@@ -1,0 +1,131 @@
+//! `covrith follow`: one transaction's life.
+
+use super::{run_study, say_lines, tell, Command, LENT};
+use crate::args::{self, Args};
+use crate::execute::Lent;
+use crate::failure::{Done, Failure};
+use crate::study::{self, Study};
+use crate::table::Table;
+use crate::walk::{Birth, Births};
+use crate::words;
+use engine::{Record, Run};
+use std::io::Write;
+use std::path::Path;
+
+pub const COMMAND: Command = Command {
+    name: "follow",
+    words: "FOLDER N",
+    about: "print the life of transaction N",
+    help: "\
+Runs the model and prints how transaction N was made, each of its records with the ticks that it waited, and where it
+stands at the end.
+
+",
+    flags: &[],
+    valued: LENT,
+    run: follow,
+};
+
+fn follow(args: &Args, out: &mut dyn Write) -> Done<()> {
+    let [folder, number] = args.exactly("a folder and the number of a transaction")?;
+    let number = args::number(number, "the number of a transaction")?;
+    let lent = Lent::usual(args.number("--budget")?, args.number("--trace-bytes")?);
+    let mut notes = Vec::new();
+    let study = study::load(Path::new(folder), &mut notes)?;
+    tell(&notes);
+    let run = run_study(&study, lent)?;
+    if number == 0 || number > run.outcome.made {
+        return Err(Failure::new(format!(
+            "there is no transaction {number}: the run made {}",
+            match run.outcome.made {
+                0 => "none".to_string(),
+                made => format!("1 to {made}"),
+            }
+        )));
+    }
+    say_lines(out, &life(&study, &run, number))
+}
+
+/// The life of a transaction in lines.
+pub fn life(study: &Study, run: &Run, number: u64) -> Vec<String> {
+    let mut birth = None;
+    let mut births = Births::start(study, |n, b| {
+        if n == number {
+            birth = Some(b);
+        }
+    });
+    let mut table = Table::new(&[">clock", ">block", "statement", "outcome"]);
+    let mut last: Option<Record> = None;
+    for record in run.records() {
+        if let Some((numbers, b)) = births.record(&record) {
+            if numbers.contains(&number) {
+                birth = Some(b);
+            }
+        }
+        if record.transaction != number {
+            continue;
+        }
+        table.row(vec![
+            record.clock.to_string(),
+            record.block.to_string(),
+            study.statement(record.block),
+            outcome(&record, last.as_ref()),
+        ]);
+        last = Some(record);
+    }
+    let mut lines = vec![format!(
+        "transaction {number} of {}, {}",
+        study.folder.display(),
+        born(birth)
+    )];
+    if table.is_empty() {
+        lines.push("it has no record".to_string());
+    } else {
+        lines.extend(table.lines());
+    }
+    let mut living = run.report.living.iter();
+    lines.push(match living.find(|one| one.transaction == number) {
+        Some(one) => format!(
+            "living at the end, clock {}: {}",
+            run.outcome.clock,
+            words::place_of(one.place)
+        ),
+        None => format!("ended at clock {}", last.map_or(0, |record| record.clock)),
+    });
+    lines
+}
+
+fn born(birth: Option<Birth>) -> String {
+    match birth {
+        Some(Birth::Arrival { clock: 0, block }) => {
+            format!("made at clock 0 by the GENERATE of block {block}")
+        }
+        Some(Birth::Arrival { clock, block }) => {
+            format!("made at clock {clock} by the GENERATE of block {block}")
+        }
+        Some(Birth::Copy {
+            clock, of, block, ..
+        }) => {
+            format!(
+                "made at clock {clock} by the SPLIT of block {block}, a copy of transaction {of}"
+            )
+        }
+        None => "of unknown making".to_string(),
+    }
+}
+
+fn outcome(record: &Record, last: Option<&Record>) -> String {
+    let words = words::outcome_of(record.outcome);
+    match last {
+        Some(last) if !last.entered() => {
+            let ticks = record.clock - last.clock;
+            let ticks = if ticks == 1 {
+                "1 tick".to_string()
+            } else {
+                format!("{ticks} ticks")
+            };
+            format!("{words} after {ticks}")
+        }
+        _ => words.to_string(),
+    }
+}

@@ -1,0 +1,171 @@
+//! `covrith run`: a run and its report for people.
+
+use super::{cannot_write, run_study, say, say_lines, tell, Command, LENT};
+use crate::args::Args;
+use crate::execute::{execute, Lent};
+use crate::failure::{Done, Failure};
+use crate::files;
+use crate::report::report;
+use crate::study::{self, Study};
+use crate::walk::walk;
+use crate::words;
+use engine::{Outcome, Report, Run};
+use std::io::Write;
+use std::path::Path;
+
+pub const COMMAND: Command = Command {
+    name: "run",
+    words: "FOLDER",
+    about: "run a model and print its report",
+    help: "\
+Assembles text that is newer than its bytes, and says so; runs the model; prints how the run ended and what facilities,
+storages, queues and blocks had. Exit status 1 where the run is refused or stopped by a question (ends 21 to 28).
+
+  --records         print each record with names before the report
+  --plain           print what runmodel prints: numbers alone, with its budget, room and cut at 65,536 bytes
+",
+    flags: &["--records", "--plain"],
+    valued: LENT,
+    run,
+};
+
+/// What the program runmodel lends and reads (document 01, first example).
+const PLAIN_BUDGET: u64 = 1_000_000;
+const PLAIN_ROOM: u64 = 65_536;
+const PLAIN_FILE: usize = 65_536;
+
+fn run(args: &Args, out: &mut dyn Write) -> Done<()> {
+    let [folder] = args.exactly("one folder")?;
+    let (budget, room) = (args.number("--budget")?, args.number("--trace-bytes")?);
+    let mut notes = Vec::new();
+    if args.has("--plain") {
+        let lent = Lent {
+            budget: budget.unwrap_or(PLAIN_BUDGET),
+            room: room.unwrap_or(PLAIN_ROOM),
+            short: false,
+        };
+        return plain(Path::new(folder), lent, out);
+    }
+    let study = study::load(Path::new(folder), &mut notes)?;
+    tell(&notes);
+    let lent = Lent::usual(budget, room);
+    let run = run_study(&study, lent)?;
+    if args.has("--records") {
+        records(&study, &run, out)?;
+    }
+    let walk = walk(&study, &run);
+    say_lines(out, &report(&study, &run, &walk, lent))?;
+    let end = run.end.number();
+    if words::stop_of(end).is_some() || end == 26 || (end == 4 && lent.short) {
+        out.flush().map_err(cannot_write)?;
+        return Err(Failure::new(format!(
+            "covrith: the run was stopped, end {end}"
+        )));
+    }
+    Ok(())
+}
+
+/// Each record with its block as the listing has it.
+fn records(study: &Study, run: &Run, out: &mut dyn Write) -> Done<()> {
+    let statements: Vec<String> = (1..=study.decoded.blocks.len() as u64)
+        .map(|number| study.statement(number))
+        .collect();
+    let width = statements.iter().map(|s| s.chars().count()).max();
+    let width = width.unwrap_or(0);
+    let clock = run.outcome.clock.to_string().len().max(5);
+    let made = run.outcome.made.to_string().len().max(11);
+    say(
+        out,
+        &format!(
+            "{:>clock$}  {:>made$}  {:>5}  {:width$}  outcome\n",
+            "clock", "transaction", "block", "statement"
+        ),
+    )?;
+    for record in run.records() {
+        let statement = statements.get((record.block as usize).wrapping_sub(1));
+        let line = format!(
+            "{:>clock$}  {:>made$}  {:>5}  {:width$}  {}\n",
+            record.clock,
+            record.transaction,
+            record.block,
+            statement.map_or("", String::as_str),
+            words::outcome_of(record.outcome)
+        );
+        say(out, &line)?;
+    }
+    say(out, "\n")
+}
+
+/// What runmodel prints, for the bytes of the folder as they are.
+fn plain(folder: &Path, lent: Lent, out: &mut dyn Write) -> Done<()> {
+    let mut notes = Vec::new();
+    // newer text is assembled here too; what is refused is told by its number alone
+    let loaded = study::load(folder, &mut notes);
+    tell(&notes);
+    let mut pair = Vec::new();
+    for name in ["model.bin", "tape.bin"] {
+        let path = folder.join(name);
+        let mut bytes = match &loaded {
+            Ok(study) if name == "model.bin" => study.model.clone(),
+            Ok(study) => study.tape.clone(),
+            Err(failure) if files::written(&path).is_none() => return Err(failure.clone()),
+            Err(_) => files::read(&path)?,
+        };
+        if bytes.len() > PLAIN_FILE {
+            eprintln!(
+                "covrith: of {} the first {PLAIN_FILE} bytes are read",
+                path.display()
+            );
+            bytes.truncate(PLAIN_FILE);
+        }
+        pair.push(bytes);
+    }
+    let number = crate::judge::refusal(&pair[0], &pair[1]);
+    if number > 0 {
+        say(out, &format!("refused {number}\n"))?;
+        out.flush().map_err(cannot_write)?;
+        return Err(Failure::new(match loaded {
+            Err(failure) => failure.message,
+            Ok(_) => String::new(),
+        }));
+    }
+    let run = execute(&pair[0], &pair[1], lent)?;
+    for record in run.records() {
+        let line = format!(
+            "{} {} {} {}\n",
+            record.clock, record.transaction, record.block, record.outcome
+        );
+        say(out, &line)?;
+    }
+    say_lines(out, &plain_report(&run.outcome, &run.report))
+}
+
+/// The lines behind the records: the end, then servers and queues by number.
+pub fn plain_report(outcome: &Outcome, report: &Report) -> Vec<String> {
+    let mut lines = vec![format!(
+        "end {} {} {} {} {}",
+        outcome.end,
+        outcome.clock,
+        outcome.made,
+        outcome.ended,
+        report.living.len()
+    )];
+    for (letter, servers) in [('f', &report.facilities), ('s', &report.storages)] {
+        for (i, s) in servers.iter().enumerate() {
+            lines.push(format!(
+                "{letter} {} {} {} {} {} {}",
+                i + 1,
+                s.entries,
+                s.unit_ticks,
+                s.waits_begun,
+                s.ticks_waited,
+                s.longest
+            ));
+        }
+    }
+    for (i, q) in report.queues.iter().enumerate() {
+        let (arrivals, ticks) = (q.arrivals, q.content_ticks);
+        lines.push(format!("q {} {arrivals} {ticks} {}", i + 1, q.longest));
+    }
+    lines
+}

@@ -1,0 +1,122 @@
+//! The end of a run in words, with the transaction and the block that it came from.
+
+use crate::execute::Lent;
+use crate::limits::TURNS;
+use crate::study::Study;
+use crate::walk::{Life, Walk};
+use crate::words;
+use engine::{Place, Run};
+
+/// The end in a line, and a remedy in another where one is needed.
+pub fn told(study: &Study, run: &Run, walk: &Walk, lent: Lent) -> Vec<String> {
+    let clock = run.outcome.clock;
+    let living = run.report.living.len();
+    let end = run.end.number();
+    if let Some(stop) = words::stop_of(end) {
+        return vec![
+            stopped(study, run, walk, stop),
+            format!("    {}", stop.remedy),
+        ];
+    }
+    let line = match end {
+        1 if living == 0 => format!("dry at clock {clock}: all transactions have ended"),
+        1 => format!(
+            "dry at clock {clock}: {} still living, and nothing will move {}",
+            transactions(living),
+            if living == 1 { "it" } else { "them" }
+        ),
+        2 => {
+            let last = walk.last.as_ref();
+            let who = last.map_or(String::new(), |record| {
+                let (number, block) = (record.transaction, record.block);
+                format!(": {}", at(study, number, &[block], clock))
+            });
+            format!("the counter fell to 0{who}")
+        }
+        3 => format!(
+            "budget used: {} turns are done at clock {clock}, {} living; --budget asks for more",
+            lent.budget,
+            transactions(living)
+        ),
+        4 => {
+            let why = if lent.short {
+                "memory allows no more; end the run earlier, or ask for more with --trace-bytes"
+            } else {
+                "--trace-bytes asks for more"
+            };
+            format!(
+                "trace full: fewer than 12 of its {} bytes are left at clock {clock}, {} living; {why}",
+                lent.room,
+                transactions(living)
+            )
+        }
+        26 if run.outcome.turns >= TURNS => format!(
+            "{TURNS} turns are done, the most of a run, at clock {clock}, {} living",
+            transactions(living)
+        ),
+        _ => format!("{} at clock {clock}", run.end),
+    };
+    let mut lines = vec![format!("{end}: {line}")];
+    if end == 26 {
+        lines.push(
+            "    look at the entries of the blocks: does a loop of GOTO or IF pass no ADVANCE?"
+                .to_string(),
+        );
+    }
+    lines
+}
+
+fn transactions(n: usize) -> String {
+    match n {
+        0 => "no transaction".to_string(),
+        1 => "1 transaction".to_string(),
+        n => format!("{n} transactions"),
+    }
+}
+
+/// A transaction at a block, or at one of two.
+fn at(study: &Study, transaction: u64, blocks: &[u64], clock: u64) -> String {
+    let places: Vec<String> = blocks
+        .iter()
+        .map(|block| format!("block {block}, {}", study.statement(*block)))
+        .collect();
+    let places = if places.is_empty() {
+        "an unknown block".to_string()
+    } else {
+        places.join(", or ")
+    };
+    format!("transaction {transaction} at {places}, clock {clock}")
+}
+
+/// The end of the one that is moving: its block follows from its last record and the program.
+fn stopped(study: &Study, run: &Run, walk: &Walk, stop: &words::Stop) -> String {
+    let mut living = run.report.living.iter();
+    let moving = living.find(|one| one.place == Place::Moving);
+    let number = moving.map_or(0, |one| one.transaction);
+    let life = walk.living.get(&number).copied().unwrap_or_default();
+    let blocks = candidates(study, &life, stop);
+    let kind = |block: &u64| study.block(*block).map_or(0, |block| block.kind);
+    let mut why: Vec<&str> = Vec::new();
+    for words in blocks.iter().filter_map(|block| stop.why(kind(block))) {
+        if !why.contains(&words) {
+            why.push(words);
+        }
+    }
+    format!(
+        "{}: {}: {}",
+        stop.end,
+        at(study, number, &blocks, run.outcome.clock),
+        why.join(", or ")
+    )
+}
+
+/// The blocks that it may have been about to enter and whose kind can end so.
+pub fn candidates(study: &Study, life: &Life, stop: &words::Stop) -> Vec<u64> {
+    let mut blocks = life.next(study);
+    blocks.retain(|block| {
+        let kind = study.block(*block).map_or(0, |block| block.kind);
+        stop.why(kind).is_some()
+    });
+    blocks.sort_unstable();
+    blocks
+}

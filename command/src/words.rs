@@ -1,0 +1,88 @@
+//! What the engine's numbers mean to a person. A new end or place is a line here (kinds and status codes: `modeltext::words`).
+
+use modeltext::words::{ADVANCE, GENERATE, SPLIT};
+
+/// An end that a question inside a turn gives: the kinds of block that it comes from, each with the reason in words.
+pub struct Stop {
+    pub end: u64,
+    pub from: &'static [(u32, &'static str)],
+    pub remedy: &'static str,
+}
+
+const fn stop(end: u64, from: &'static [(u32, &'static str)], remedy: &'static str) -> Stop {
+    Stop { end, from, remedy }
+}
+
+const RELEASE: u32 = 5;
+const LEAVE: u32 = 7;
+const DEPART: u32 = 16;
+
+const NO_PLACE: &str = "no living place is free for a new transaction";
+const CLOCK: &str = "the move time would pass the limit of the clock";
+
+pub const STOPS: &[Stop] = &[
+    stop(
+        21,
+        &[(GENERATE, NO_PLACE), (SPLIT, NO_PLACE)],
+        "1024 live at most: let transactions end sooner, or let fewer come",
+    ),
+    stop(
+        22,
+        &[(GENERATE, CLOCK), (ADVANCE, CLOCK)],
+        "count in larger ticks, or end the run earlier with the counter",
+    ),
+    stop(
+        23,
+        &[(ADVANCE, "its list has no time left")],
+        "add times to that list of the tape, or end the run earlier with the counter",
+    ),
+    stop(
+        24,
+        &[
+            (RELEASE, "not in use"),
+            (LEAVE, "fewer units in use than it frees"),
+        ],
+        "let every way to this block pass a SEIZE or ENTER of the same server",
+    ),
+    stop(
+        25,
+        &[(DEPART, "the queue has no content")],
+        "let every way to this block pass an ARRIVE of the same queue",
+    ),
+];
+
+/// Where a living transaction stands.
+pub const PLACES: &[(u64, &str)] = &[
+    (1, "waits for a server (QL)"),
+    (2, "waits on a status (WEL)"),
+    (3, "waits on a comparison (WSL)"),
+    (4, "moves later (FEL)"),
+    (5, "ready (REL)"),
+    (6, "moving"),
+];
+
+pub fn stop_of(end: u64) -> Option<&'static Stop> {
+    STOPS.iter().find(|stop| stop.end == end)
+}
+
+impl Stop {
+    /// Why a block of this kind ends the run so, if it can.
+    pub fn why(&self, kind: u32) -> Option<&'static str> {
+        let mut from = self.from.iter();
+        from.find(|(k, _)| *k == kind).map(|(_, why)| *why)
+    }
+}
+
+pub fn place_of(place: engine::Place) -> &'static str {
+    match PLACES.iter().find(|(number, _)| *number == place.number()) {
+        Some((_, words)) => words,
+        None => place.words(),
+    }
+}
+
+pub fn outcome_of(outcome: u64) -> &'static str {
+    match outcome {
+        0 => "entered",
+        _ => "began to wait",
+    }
+}

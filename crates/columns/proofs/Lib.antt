@@ -1,0 +1,13 @@
+pub mod Whole
+pub mod Measuring
+pub mod Placing
+pub mod Parsing
+pub mod Pieces
+pub mod Finding
+pub mod Surveying
+pub mod Restoring
+pub mod ByteLists
+pub mod Claims
+pub mod Answers
+pub mod Runs
+pub mod Item10

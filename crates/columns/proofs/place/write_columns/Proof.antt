@@ -1,0 +1,51 @@
+-- `columns::place::write_columns` meets its contract. The loop's invariant: what the records that are left give is what all records give. The
+-- measure is `left`.
+use mathlib.Core.Path.{_≡_, refl, _∙_}
+use native.Mathlib.Omega.{arith}
+use lib.ListN.{length}
+use Rattle.columns.specs.Walks.{placeAll}
+use Rattle.columns.proofs.Placing.{place-more, place-none}
+use borrow.Author.Needs.{needs}
+use Rattle.columns.proofs.place.write_columns.Statement.{statement}
+use Rattle.columns.proofs.place.write_columns.Tie as tie
+
+abbrev Inv-loop : tie.InvT-loop
+Inv-loop s out₀ count left₀ t₀ out left t = (length out ≡ length out₀) × (placeAll left s t out ≡ placeAll left₀ s t₀ out₀)
+
+abbrev μ-loop : tie.MeasureT-loop
+μ-loop s out₀ count left₀ t₀ out left t = left
+
+loop-holds : tie.Need-loop-holds Inv-loop μ-loop
+loop-holds c = (refl, refl)
+
+place-requires : tie.Need-place-requires Inv-loop μ-loop
+place-requires c κs = search needs
+
+sub-left : tie.Need-sub-left Inv-loop μ-loop
+sub-left c = omega arith
+
+loop-less : tie.Need-loop-less Inv-loop μ-loop
+loop-less c = omega arith
+
+loop-again : tie.Need-loop-again Inv-loop μ-loop
+loop-again c = (omega (arith, c .before .before .place .kept), place-more _ _ _ _ _ _ (c .before .before .before .before .loop-test .taken) (c .before .before .place .ensures) ∙ c .before .before .before .before .before .loop .inv .1)
+
+same-length : tie.Need-same-length Inv-loop μ-loop
+same-length c = c .before .loop .inv .0
+
+returns : tie.Need-returns Inv-loop μ-loop
+returns c = place-none _ _ _ _ (c .loop-test .left) ∙ c .before .loop .inv .1
+
+pub write-columns-spec : {M : Type 1} → statement M
+write-columns-spec =
+    tie.close
+    (tie.spec
+    Inv-loop
+    μ-loop
+    loop-holds
+    place-requires
+    sub-left
+    loop-less
+    loop-again
+    same-length
+    returns)

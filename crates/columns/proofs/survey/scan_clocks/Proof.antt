@@ -1,0 +1,83 @@
+-- `columns::survey::scan_clocks` meets its contract. The loop's invariant: what the differences that are left give is what all give, and the sums
+-- are within their limits. The measure is `left`.
+use Prim.Native.Nat.{_*_, _-_, _≤_}
+use mathlib.Core.Path.{_≡_, refl, _∙_}
+use native.Mathlib.Omega.{arith}
+use borrow.Author.Needs.{needs}
+use Rattle.machine.specs.Limits.{maxClock}
+use Rattle.codec.specs.Answers.{cursorAt}
+use Rattle.columns.specs.Columns.{clocksFrom}
+use Rattle.columns.specs.Walks.{sized}
+use Rattle.columns.proofs.Surveying.{nine, clocks-none, clocks-stop, clocks-step}
+use Rattle.columns.proofs.survey.scan_clocks.Statement.{statement}
+use Rattle.columns.proofs.survey.scan_clocks.Tie as tie
+
+abbrev Inv-loop : tie.InvT-loop
+Inv-loop s at count left₀ clock₀ next₀ size₀ left clock next size = (clock ≤ maxClock) × (left ≤ count) × (size ≤ 9 * (count - left)) × (sized size (clocksFrom s left clock (cursorAt next 0 0)) ≡ sized 0 (clocksFrom s count 0 (cursorAt at 0 0)))
+
+abbrev μ-loop : tie.MeasureT-loop
+μ-loop s at count left₀ clock₀ next₀ size₀ left clock next size = left
+
+loop-holds : tie.Need-loop-holds Inv-loop μ-loop
+loop-holds c = (omega arith, omega arith, omega arith, refl)
+
+sub-read-field : tie.Need-sub-read-field Inv-loop μ-loop
+sub-read-field c = omega arith
+
+read-field-requires : tie.Need-read-field-requires Inv-loop μ-loop
+read-field-requires c κs = search needs
+
+enum-told : tie.Need-enum-told Inv-loop μ-loop
+enum-told c = search needs
+
+returns : tie.Need-returns Inv-loop μ-loop
+returns c = clocks-stop _ _ _ _ _ _ (c .before .before .before .loop-test .taken) (c .before .before .read-field .ensures .0) (c .enum-told .given .1) ∙ c .before .before .before .before .loop .inv .3
+
+enum-known-difference : tie.Need-enum-known-difference Inv-loop μ-loop
+enum-known-difference c = search needs
+
+add-clock : tie.Need-add-clock Inv-loop μ-loop
+add-clock c = omega (arith, c .before .before .before .before .before .loop .inv .0, c .before .before .before .read-field .ensures .1 _ _ (c .before .difference .given .1))
+
+number-len-requires : tie.Need-number-len-requires Inv-loop μ-loop
+number-len-requires c κs = search needs
+
+add-size : tie.Need-add-size Inv-loop μ-loop
+add-size c = omega (arith, c .before .before .before .before .before .before .loop .inv .2, nine _ _ (c .number-len .ensures))
+
+sub-left : tie.Need-sub-left Inv-loop μ-loop
+sub-left c = omega arith
+
+loop-less : tie.Need-loop-less Inv-loop μ-loop
+loop-less c = omega arith
+
+loop-again : tie.Need-loop-again Inv-loop μ-loop
+loop-again c = (
+  omega (arith, c .before .before .before .before .before .before .loop .inv .0, c .before .before .before .before .read-field .ensures .1 _ _ (c .before .before .difference .given .1)),
+  omega arith,
+  omega (arith, c .before .before .before .before .before .before .loop .inv .2, nine _ _ (c .number-len .ensures)),
+  clocks-step _ _ _ _ _ _ (c .before .before .before .before .before .loop-test .taken) (c .before .before .before .before .read-field .ensures .0) (c .before .before .difference .given .1) (c .number-len .ensures) ∙ c .before .before .before .before .before .before .loop .inv .3,
+)
+
+returns-2 : tie.Need-returns-2 Inv-loop μ-loop
+returns-2 c = clocks-none _ _ _ _ _ (c .loop-test .left) ∙ c .before .loop .inv .3
+
+pub scan-clocks-spec : {M : Type 1} → statement M
+scan-clocks-spec =
+    tie.close
+    (tie.spec
+    Inv-loop
+    μ-loop
+    loop-holds
+    sub-read-field
+    read-field-requires
+    enum-told
+    returns
+    enum-known-difference
+    add-clock
+    number-len-requires
+    add-size
+    sub-left
+    loop-less
+    loop-again
+    returns-2)

@@ -1,0 +1,4 @@
+pub mod Columns
+pub mod Claims
+pub mod Walks
+pub mod Examples

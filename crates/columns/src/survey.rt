@@ -1,0 +1,108 @@
+// The first walk over columns: are they taken, where does each begin, and how many bytes has the trace?
+use crate::walk::MAX_RECORDS;
+use crate::walk::Walk;
+use codec::Field;
+use codec::number_len;
+use codec::read_field;
+use trace::MAX_BLOCK;
+use machine::Model;
+use trace::MAX_OUTCOME;
+
+ghost use mathlib.Core.Path.{_≡_};
+ghost use Prim.Native.Nat.{_≤_};
+ghost use Rattle.machine.specs.Parser.{field, times};
+ghost use Rattle.codec.specs.Answers.{cursorAt};
+ghost use Rattle.columns.specs.Columns.{maxRecords, clocksFrom};
+ghost use Rattle.columns.specs.Walks.{sized, ends, Surveyed};
+
+// The position after the differences, and how many bytes their clocks take.
+enum Clocks {
+    End(usize, usize),
+    Refused,
+}
+
+// The position after a column.
+enum Column {
+    End(usize),
+    Refused,
+}
+
+// The number of records, where each column begins, and the bytes of the trace.
+pub enum Survey {
+    Taken(u64, Walk, usize),
+    Refused,
+}
+
+fn scan_clocks(s: &[u8], at: usize, count: u64) -> Clocks
+    requires { ⌜ count ≤ maxRecords ⌝ }
+    ensures { λ r. ⌜ r ≡ sized 0 (clocksFrom (now (s .entry)) count 0 (cursorAt at 0 0)) ⌝ }
+{
+    let mut left = count;
+    let mut clock: u64 = 0;
+    let mut next = at;
+    let mut size: usize = 0;
+    while 0 < left {
+        match read_field(s, next, 0, Model::MAX_CLOCK - clock, 31) {
+            Field::Refused(_) => return Clocks::Refused,
+            Field::Value(difference, after) => {
+                clock += difference;
+                size += number_len(clock);
+                next = after;
+                left -= 1;
+            }
+        }
+    }
+    Clocks::End(next, size)
+}
+
+fn scan_column(s: &[u8], at: usize, count: u64, lo: u64, hi: u64) -> Column
+    ensures { λ r. ⌜ r ≡ ends (times count (field (now (s .entry)) 31 lo hi) (cursorAt at 0 0)) ⌝ }
+{
+    let mut left = count;
+    let mut next = at;
+    while 0 < left {
+        match read_field(s, next, lo, hi, 31) {
+            Field::Refused(_) => return Column::Refused,
+            Field::Value(_, after) => {
+                next = after;
+                left -= 1;
+            }
+        }
+    }
+    Column::End(next)
+}
+
+pub fn survey_columns(s: &[u8]) -> Survey
+    ensures { λ r. ⌜ Surveyed (now (s .entry)) r ⌝ }
+{
+    let Field::Value(count, differences) = read_field(s, 0, 0, MAX_RECORDS, 31) else {
+        return Survey::Refused;
+    };
+    let Clocks::End(transactions, size) = scan_clocks(s, differences, count) else {
+        return Survey::Refused;
+    };
+    let Column::End(blocks) = scan_column(s, transactions, count, 1, Model::MAX_TRANSACTION) else {
+        return Survey::Refused;
+    };
+    let Column::End(outcomes) = scan_column(s, blocks, count, 1, MAX_BLOCK) else {
+        return Survey::Refused;
+    };
+    let Column::End(end) = scan_column(s, outcomes, count, 0, MAX_OUTCOME) else {
+        return Survey::Refused;
+    };
+    if end != s.len() {
+        return Survey::Refused;
+    }
+    Survey::Taken(
+        count,
+        Walk {
+            at: 0,
+            clock: 0,
+            differences,
+            transactions,
+            blocks,
+            outcomes,
+        },
+        size + (end - transactions),
+    )
+}

@@ -1,0 +1,19 @@
+-- What later papers change of document 01's rules: one record, handed through validation, questions, run and claims. What is
+-- shown of runs is shown for any rules.
+use Prim.Native.Nat.{ℕ}
+use Rattle.machine.specs.Limits as Limits
+
+pub record Rules : Type 0 where
+  -- Questions, "Is the move time at most ..?", and the range of a record's clock
+  pub maxClock : ℕ
+  -- Bytes, "that many times 0..": the largest sample time
+  pub maxTime : ℕ
+  -- the largest number of a tape and of a trace
+  pub maxNumber : ℕ
+
+abbrev pub document01 : Rules
+document01 = record { maxClock = Limits.maxClock; maxTime = Limits.maxTime; maxNumber = Limits.maxNumber }
+
+-- the rules that the engine keeps
+abbrev pub inForce : Rules
+inForce = document01

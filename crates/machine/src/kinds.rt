@@ -1,0 +1,21 @@
+// The numbers of the block kinds (document 01, "Blocks").
+pub const GENERATE: u32 = 1;
+
+pub const TERMINATE: u32 = 3;
+
+pub const SEIZE: u32 = 4;
+
+pub const ENTER: u32 = 6;
+
+pub const WAIT_TERMS: u32 = 9;
+
+pub const BRANCH: u32 = 10;
+
+pub const GOTO: u32 = 11;
+
+pub const SPLIT: u32 = 14;
+
+pub const ARRIVE: u32 = 15;
+
+// how many there are
+pub const KINDS: usize = 16;

@@ -1,0 +1,63 @@
+-- What keeps the machine's lists in order, whatever the order of each.
+use Prim.Native.Nat.{ℕ, _<_}
+use mathlib.Core.Path.{_≡_, refl, subst}
+use mathlib.Core.Bool.{Bool, true, false, cond}
+use mathlib.Core.List.{List, [], _∷_}
+use borrow.Author.Tests.{eqb-true}
+use lib.Dec.{eqb}
+use Rattle.machine.specs.Transaction.{Transaction, Event, precedes, earlier}
+use Rattle.machine.specs.Moves.{wake}
+use Rattle.rows.specs.Layout.{rel, fel}
+use Rattle.rows.specs.Clock.{arrivals}
+use Rattle.rows.specs.Holds.{update}
+use Rattle.rows.specs.Ordered.{Sorted, Ordered}
+use Rattle.rows.specs.Shows.{Shows, moved}
+use Rattle.rows.proofs.Insertion.{insert-sorted}
+use Rattle.rows.proofs.Orders.{precedes-order}
+use Rattle.rows.proofs.Showing.{shown-ext}
+
+module _ (order : ℕ → Transaction → Transaction → Bool) where
+  pub ordered-ext : (T U : ℕ → List Transaction) (E F : List Event) → ((q : ℕ) → q < fel → T q ≡ U q) → E ≡ F → Ordered order T E → Ordered order U F
+  ordered-ext T U E F lists future h =
+      record {
+        lists = λ q hq. subst (Sorted (order q)) (lists q hq) (h .lists q hq);
+        future = subst (Sorted earlier) future (h .future);
+      }
+
+  -- one list changes
+  pub ordered-list : (T : ℕ → List Transaction) (E : List Event) (p : ℕ) (l : List Transaction) → Sorted (order p) l → Ordered order T E → Ordered order (update p l T) E
+  ordered-list T E p l sorted h = record { lists = λ q hq. go q (eqb q p) refl (h .lists q hq); future = h .future }
+    where
+      go : (q : ℕ) (t : Bool) → eqb q p ≡ t → Sorted (order q) (T q) → Sorted (order q) (cond t l (T q))
+      go q true e was = rw (eqb-true q p e) sorted
+      go q false e was = was
+
+  pub ordered-fel : (T : ℕ → List Transaction) (E F : List Event) → Sorted earlier F → Ordered order T E → Ordered order T F
+  ordered-fel T E F sorted h = record { lists = h .lists; future = sorted }
+
+  -- list p and REL change
+  pub ordered-moved : (T : ℕ → List Transaction) (E : List Event) (p : ℕ) (l r : List Transaction) → Sorted (order p) l → Sorted (order rel) r → Ordered order T E → Ordered order (moved p l r T) E
+  ordered-moved T E p l r sorted ready h =
+      ordered-list (update p l T) E rel r ready (ordered-list T E p l sorted h)
+
+-- ---- REL
+
+pub wake-sorted : (l r : List Transaction) → Sorted precedes r → Sorted precedes (wake l r)
+unfolding wake
+wake-sorted [] r h = h
+wake-sorted (t ∷ l) r h = wake-sorted l _ (insert-sorted precedes precedes-order _ r h)
+
+pub arrivals-sorted : (l : List Event) (s : ℕ) (r : List Transaction) → Sorted precedes r → Sorted precedes (arrivals l s r)
+unfolding arrivals
+arrivals-sorted [] s r h = h
+arrivals-sorted (e ∷ l) s r h = arrivals-sorted l _ _ (insert-sorted precedes precedes-order _ r h)
+
+-- ---- The same lists; the rows compute
+
+abbrev pub shows-ext : (w : List ℕ) (T U : ℕ → List Transaction) (E F : List Event) → ((q : ℕ) → q < fel → T q ≡ U q) → E ≡ F → Shows w T E → Shows w U F
+shows-ext w T U E F lists future s =
+    record {
+      rows = s .rows;
+      shown = subst (λ (e : List Event). Rattle.rows.specs.Shows.Shown w (s .rows) U e) future (shown-ext w (s .rows) T U E lists (s .shown));
+      ordered = ordered-ext (λ p. precedes) T U E F lists future (s .ordered);
+    }

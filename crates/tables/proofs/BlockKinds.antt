@@ -1,0 +1,83 @@
+-- One walk through all kinds: a block is one that counts, statistics, the start or the WS scheme ask for by its number, or it is
+-- none of these, and then neither its number nor its facts say anything to them.
+use Prim.Native.Nat.{ℕ}
+use mathlib.Core.Path.{_≡_, refl, _∙_}
+use mathlib.Core.Bool.{Bool, true, false, _||_, true≢false}
+use mathlib.Core.List.{List, _∷_}
+use mathlib.Core.Option.{Option, none}
+use lib.Dec.{eqb}
+use Rattle.machine.specs.Term.{Term, Relation, Condition, always, whenTrue}
+use Rattle.machine.specs.Facts.{Facts}
+use Rattle.machine.specs.Block.{Share, facility, storage, up, down, Block, generate, advance, terminate, takes, frees, waitServer, waitTerms, moves, assign, priority, split, counts, facts}
+use Rattle.tables.specs.Numbers.{blockNumbers}
+use Rattle.tables.specs.Forms.{blockForms}
+
+-- ---- Definition
+
+-- the facts that they ask for
+pub record Asked : Type 0 where
+  pub generates : ℕ
+  pub server : ℕ
+  pub units : ℕ
+  pub queue : ℕ
+  pub waitsWhile : Option Condition
+
+abbrev pub askedOf : Facts → Asked
+askedOf f =
+    record { generates = f .generates; server = f .server; units = f .units; queue = f .queue; waitsWhile = f .waitsWhile }
+
+abbrev pub notAsked : Asked
+notAsked = record { generates = 0; server = 0; units = 0; queue = 0; waitsWhile = none }
+
+-- GENERATE, SEIZE, ENTER, WAITIF of terms and ARRIVE
+abbrev pub asked : ℕ → Bool
+asked kind = eqb kind 1 || (eqb kind 4 || (eqb kind 6 || (eqb kind 9 || eqb kind 15)))
+
+pub data Kinds (b : Block) : Type 0 where
+  generating : (list p : ℕ) → b ≡ generate list p → Kinds b
+  taking : (x : Share) → b ≡ takes x → Kinds b
+  waiting : (left : Term) (relation : Relation) (right : Term) → b ≡ waitTerms left relation right → Kinds b
+  arriving : (q : ℕ) → b ≡ counts up q → Kinds b
+  other : (kind : ℕ) (rest : List ℕ) → blockNumbers b ≡ kind ∷ rest → asked kind ≡ false → askedOf (facts b) ≡ notAsked → Kinds b
+
+-- ---- The walk
+
+pub kinds : (b : Block) → Kinds b
+unfolding blockForms
+kinds (generate list p) = generating list p refl
+kinds (advance list) = other 2 _ refl refl refl
+kinds (terminate a) = other 3 _ refl refl refl
+kinds (takes x) = taking x refl
+kinds (frees (facility v)) = other 5 _ refl refl refl
+kinds (frees (storage v b)) = other 7 _ refl refl refl
+kinds (waitServer code v) = other 8 _ refl refl refl
+kinds (waitTerms a r b) = waiting a r b refl
+kinds (moves always target) = other 11 _ refl refl refl
+kinds (moves (whenTrue a r b) target) = other 10 _ refl refl refl
+kinds (assign k a) = other 12 _ refl refl refl
+kinds (priority p) = other 13 _ refl refl refl
+kinds (split n target) = other 14 _ refl refl refl
+kinds (counts up q) = arriving q refl
+kinds (counts down q) = other 16 _ refl refl refl
+
+-- ---- Of another kind
+
+-- a number that is not asked for is none of the five
+pub record Unasked (kind : ℕ) : Type 0 where
+  pub no-generate : eqb kind 1 ≡ false
+  pub no-seize : eqb kind 4 ≡ false
+  pub no-enter : eqb kind 6 ≡ false
+  pub no-wait : eqb kind 9 ≡ false
+  pub no-arrive : eqb kind 15 ≡ false
+
+either : (a b : Bool) → (a || b) ≡ false → (a ≡ false) × (b ≡ false)
+either true b e = absurd (true≢false e)
+either false b e = (refl, e)
+
+pub unasked : (kind : ℕ) → asked kind ≡ false → Unasked kind
+unasked kind e =
+    let a = either (eqb kind 1) _ e in
+    let b = either (eqb kind 4) _ (a .1) in
+    let c = either (eqb kind 6) _ (b .1) in
+    let d = either (eqb kind 9) _ (c .1) in
+    record { no-generate = a .0; no-seize = b .0; no-enter = c .0; no-wait = d .0; no-arrive = d .1 }

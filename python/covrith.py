@@ -1,0 +1,238 @@
+"""Covrith from Python: runs of block models on the proved engine, their records and their reports as plain objects.
+
+    import covrith
+    model = covrith.Model(
+        facilities=1, lists=2, counter=2,
+        blocks=[("GENERATE", 1, 0), ("SEIZE", 1), ("ADVANCE", 2), ("RELEASE", 1), ("TERMINATE", 1)],
+    )
+    run = covrith.run(model, [[3, 2], [5, 4]])
+    print(run.end, run.report.facilities[0].ticks_waited)
+    for record in run.records():
+        print(record.clock, record.transaction, record.block, record.outcome)
+
+Needs the standard library and libcovrith.so, which tools/sharedlib writes to target/sharedlib; COVRITH_LIB names another folder.
+A call that breaks the rules of document 01 raises `Refused`, an argument of a wrong form TypeError or ValueError.
+"""
+
+from __future__ import annotations
+
+import ctypes
+import functools
+import os
+import pathlib
+from dataclasses import dataclass
+from typing import Any, Dict, Iterable, Iterator, List, NamedTuple, Optional, Sequence, Tuple, Union
+
+from covrith_lists import (
+    CLOCK, BytesLike, Model, bracket, comparison, constant, content, entries, in_use, lent, model_bytes, parameter, sequence, summed, tape,
+    tape_bytes, units_free, units_in_use, value, whole,
+)  # fmt: skip
+from covrith_names import End, Kind, NoReport, Place, Refusal, Refused
+from covrith_report import Header, Living, Queue, Report, Server
+
+__all__ = [
+    "run", "load", "Run", "Header", "Report", "Server", "Queue", "Living", "Record", "records", "record_bytes", "count", "draws",
+    "End", "Kind", "NoReport", "Place", "Refusal", "Refused", "Model", "tape", "CLOCK", "bracket", "comparison", "constant", "content",
+    "entries", "in_use", "parameter", "summed", "units_free", "units_in_use", "value",
+    "BUDGET", "REPORT_BYTES", "TRACE_BYTES", "WORK_NUMBERS",
+]  # fmt: skip
+
+#: What a run asks of its work buffer, in 32-bit numbers.
+WORK_NUMBERS = 16_384
+#: What a run asks of its report buffer, in bytes.
+REPORT_BYTES = 10_240
+#: Turns and bytes of trace, if a caller names no others.
+BUDGET = 1_000_000
+TRACE_BYTES = 65_536
+
+# The most bytes of a record, and the longest buffer that is lent: a run writes 100,000,000 records at most.
+_RECORD_BYTES = 12
+_MOST_LENT = _RECORD_BYTES * 100_000_000
+
+# What the reader of records answers at or past the end.
+_NO_MORE = 30
+
+# ---------------------------------------------------------------------------------------------------------------------------
+# The shared library
+
+_IN = ctypes.c_char_p  # lent bytes, never None
+_OUT = ctypes.POINTER(ctypes.c_uint8)
+_OUT32 = ctypes.POINTER(ctypes.c_uint32)
+_OUT64 = ctypes.POINTER(ctypes.c_uint64)
+_LENGTH = ctypes.c_size_t
+_NUMBER = ctypes.c_uint64
+_ANSWER = ctypes.c_uint32
+
+# The functions of include/covrith.h: what they answer and what they take. A new function is a new line.
+_FUNCTIONS: Dict[str, Tuple[Any, List[Any]]] = {
+    "covrith_run": (None, [_IN, _LENGTH, _IN, _LENGTH, _NUMBER, _OUT32, _LENGTH, _OUT, _LENGTH, _OUT, _LENGTH, _OUT64]),
+    "covrith_read_record": (_ANSWER, [_IN, _LENGTH, _LENGTH, _OUT64]),
+    "covrith_write_record": (_ANSWER, [_OUT, _LENGTH, _NUMBER, _NUMBER, _NUMBER, _NUMBER, _OUT64]),
+    "covrith_count": (_NUMBER, [_IN, _LENGTH]),
+    "covrith_stream_start": (_ANSWER, [ctypes.c_uint32, _OUT32]),
+    "covrith_stream_step": (ctypes.c_uint32, [ctypes.c_uint32]),
+}
+
+
+@functools.lru_cache(maxsize=None)
+def _library() -> ctypes.CDLL:
+    """The shared library with its functions declared, loaded by the first call that needs it."""
+    beside = pathlib.Path(__file__).resolve().parent.parent / "target/sharedlib"
+    path = pathlib.Path(os.environ.get("COVRITH_LIB") or beside) / "libcovrith.so"
+    if not path.exists():
+        raise FileNotFoundError(f"{path} is not there: run tools/sharedlib, or set COVRITH_LIB to its folder")
+    library = ctypes.CDLL(str(path))
+    for name, (answer, arguments) in _FUNCTIONS.items():
+        function = getattr(library, name)
+        function.restype = answer
+        function.argtypes = arguments
+    return library
+
+
+def _buffer(of: Any, length: int) -> Any:
+    """Zeroed memory for this many, with an address even for none."""
+    return (of * max(length, 1))()
+
+
+def _accepted(answer: int, position: Optional[int] = None) -> None:
+    if answer:
+        raise Refused(Refusal(answer), position)
+
+
+# ---------------------------------------------------------------------------------------------------------------------------
+# Streams
+
+
+def draws(stream: int) -> Iterator[int]:
+    """The numbers 1 to 2,147,483,646 of a stream without end, the same on each machine; `Refused` for a stream above 511."""
+    state = _buffer(ctypes.c_uint32, 1)
+    _accepted(_library().covrith_stream_start(whole("stream", stream, 0, 2**32 - 1), state))
+    return _draws(state[0])
+
+
+def _draws(state: int) -> Iterator[int]:
+    step = _library().covrith_stream_step
+    while True:
+        state = step(state)
+        yield state
+
+
+# ---------------------------------------------------------------------------------------------------------------------------
+# Traces
+
+
+class Record(NamedTuple):
+    """One record of a trace; outcome 0 is entered, 1 began to wait."""
+
+    clock: int
+    transaction: int
+    block: int
+    outcome: int
+
+    @property
+    def entered(self) -> bool:
+        """Whether the transaction entered the block."""
+        return self.outcome == 0
+
+
+def records(trace: BytesLike) -> Iterator[Record]:
+    """The records of a trace, one after the other; `Refused` where it does not read on."""
+    return _records(lent("trace", trace))
+
+
+def _records(data: bytes) -> Iterator[Record]:
+    read = _library().covrith_read_record
+    numbers = _buffer(ctypes.c_uint64, 5)
+    position = 0
+    while True:
+        answer = read(data, len(data), position, numbers)
+        if answer == _NO_MORE:
+            return
+        _accepted(answer, position)
+        clock, transaction, block, outcome, position = numbers[:]
+        yield Record(clock, transaction, block, outcome)
+
+
+def record_bytes(record: Sequence[int]) -> bytes:
+    """The bytes of one record; a trace is the bytes of its records one after the other."""
+    names = Record._fields
+    if len(sequence("record", record)) != len(names):
+        raise ValueError(f"record: expected {', '.join(names)}, got {len(record)} numbers")
+    numbers = [whole(name, number, 0, 2**64 - 1) for name, number in zip(names, record)]
+    rest, written = _buffer(ctypes.c_uint8, _RECORD_BYTES), _buffer(ctypes.c_uint64, 1)
+    _accepted(_library().covrith_write_record(rest, _RECORD_BYTES, *numbers, written))
+    return ctypes.string_at(rest, written[0])
+
+
+def count(trace: BytesLike) -> int:
+    """How many bytes are below 80 hexadecimal: of a trace that reads, four for each record."""
+    data = lent("trace", trace)
+    return _library().covrith_count(data, len(data))
+
+
+# ---------------------------------------------------------------------------------------------------------------------------
+# Runs
+
+
+@dataclass(frozen=True)
+class Run:
+    """An accepted run."""
+
+    end: End
+    clock: int
+    turns: int
+    made: int
+    ended: int
+    trace: bytes
+    report: Report
+    report_bytes: bytes
+
+    def records(self) -> Iterator[Record]:
+        """The records of its trace."""
+        return records(self.trace)
+
+
+def load(folder: Union[str, os.PathLike]) -> Tuple[bytes, bytes]:
+    """The bytes of model.bin and tape.bin of a folder."""
+    path = pathlib.Path(folder)
+    return (path / "model.bin").read_bytes(), (path / "tape.bin").read_bytes()
+
+
+def run(
+    model: Union[BytesLike, Model],
+    tape: Union[BytesLike, Sequence[Iterable[int]]],
+    budget: int = BUDGET,
+    trace_bytes: int = TRACE_BYTES,
+    *,
+    work_numbers: int = WORK_NUMBERS,
+    report_bytes: int = REPORT_BYTES,
+) -> Run:
+    """Runs a model on a tape for at most `budget` turns, with room for `trace_bytes` bytes of trace.
+
+    Model and tape are bytes, or a `Model` and the lists of times. `Refused` where the engine refuses them. Buffers for work and
+    report have the lengths that it asks for; shorter ones are refused with 1 and 2. Runs of several threads go on at the same time.
+    """
+    model_data, tape_data = model_bytes(model), tape_bytes(tape)
+    budget = whole("budget", budget, 0, 2**64 - 1)
+    trace_bytes = whole("trace_bytes", trace_bytes, 0, _MOST_LENT)
+    work_numbers = whole("work_numbers", work_numbers, 0, _MOST_LENT)
+    report_bytes = whole("report_bytes", report_bytes, 0, _MOST_LENT)
+    work = _buffer(ctypes.c_uint32, work_numbers)
+    trace = _buffer(ctypes.c_uint8, trace_bytes)
+    report = _buffer(ctypes.c_uint8, report_bytes)
+    outcome = _buffer(ctypes.c_uint64, 8)
+    given = (model_data, len(model_data), tape_data, len(tape_data), budget)
+    _library().covrith_run(*given, work, work_numbers, trace, trace_bytes, report, report_bytes, outcome)
+    refusal, end, clock, turns, made, ended, trace_used, report_used = outcome
+    _accepted(refusal)
+    report_data = ctypes.string_at(report, report_used)
+    return Run(
+        end=End(end),
+        clock=clock,
+        turns=turns,
+        made=made,
+        ended=ended,
+        trace=ctypes.string_at(trace, trace_used),
+        report=Report.read(report_data, Header.read(model_data)),
+        report_bytes=report_data,
+    )

@@ -1,0 +1,240 @@
+"""Runs, records, reports and refusals of the Python interface, and what it does with arguments that are wrong."""
+
+import concurrent.futures
+import itertools
+import os
+import pathlib
+import subprocess
+import sys
+import unittest
+
+import covrith
+from covrith import End, Header, Living, Model, Place, Queue, Record, Refusal, Refused, Report, Server
+
+HERE = pathlib.Path(__file__).resolve().parent
+MODELS = HERE.parent / "models"
+
+# document 01, the first example
+MODEL = bytes.fromhex("01 01 00 00 00 02 02 05 01 01 00 04 01 02 02 05 01 03 01")
+TAPE = bytes.fromhex("02 03 02 02 05 04")
+RECORDS = [
+    (3, 1, 1, 0), (3, 1, 2, 0), (3, 1, 3, 0), (5, 2, 1, 0), (5, 2, 2, 1), (8, 1, 4, 0),
+    (8, 1, 5, 0), (8, 2, 2, 0), (8, 2, 3, 0), (12, 2, 4, 0), (12, 2, 5, 0),
+]  # fmt: skip
+
+
+class Runs(unittest.TestCase):
+    def test_first_example(self):
+        run = covrith.run(MODEL, TAPE)
+        self.assertEqual((run.end, run.clock, run.turns, run.made, run.ended), (End.COUNTER, 12, 11, 2, 2))
+        self.assertEqual(run.report, Report(12, 2, 2, [Server(2, 9, 1, 3, 1)], [], [], []))
+        self.assertEqual(list(run.records()), RECORDS)
+        self.assertEqual([record.entered for record in run.records()].count(False), 1)
+        self.assertEqual(b"".join(map(covrith.record_bytes, RECORDS)), run.trace)
+        self.assertEqual((covrith.count(run.trace), covrith.count(b""), covrith.count(b"\x7f\x80\xff")), (44, 0, 1))
+
+    def test_lists_give_the_same_bytes(self):
+        model = Model(
+            facilities=1, lists=2, counter=2, blocks=[["generate", 1, 0], (4, 1), (covrith.Kind.ADVANCE, 2), ("RELEASE", 1), ("TERMINATE", 1)]
+        )
+        self.assertEqual(bytes(model), MODEL)
+        self.assertEqual(covrith.tape([[3, 2], (5, 4)]), TAPE)
+        self.assertEqual(covrith.run(model, [[3, 2], range(5, 3, -1)]), covrith.run(bytearray(MODEL), memoryview(TAPE)))
+
+    def test_lists_with_values(self):
+        free_tug = [("+", covrith.in_use(2))]
+        model = Model(
+            facilities=2,
+            storages=[3],
+            queues=1,
+            lists=7,
+            values=[
+                covrith.summed(*free_tug, ("+", covrith.comparison(covrith.units_free(1), "=", covrith.constant(0))), ("+", covrith.in_use(1))),
+                covrith.summed(*free_tug, ("+", covrith.in_use(1))),
+            ],
+            blocks=[
+                ("GENERATE", 1, 0), ("ADVANCE", 2), ("SEIZE", 1), ("ADVANCE", 3), ("RELEASE", 1), ("GOTO", 2),
+                ("GENERATE", 4, 0), ("ARRIVE", 1), ("WAITIF", covrith.value(1), ">", covrith.constant(0)), ("SEIZE", 2), ("ENTER", 1, 1),
+                ("ADVANCE", 5), ("RELEASE", 2), ("ADVANCE", 6), ("WAITIF", covrith.value(2), ">", covrith.constant(0)), ("SEIZE", 2),
+                ("ADVANCE", 5), ("RELEASE", 2), ("LEAVE", 1, 1), ("DEPART", 1), ("TERMINATE", 0),
+                ("GENERATE", 7, 0), ("TERMINATE", 1),
+            ],
+        )  # fmt: skip
+        stored, tape = covrith.load(MODELS / "ship-and-tug")
+        self.assertEqual(bytes(model), stored)
+        self.assertEqual(covrith.run(model, tape).report.queues, [Queue(87, 4524, 14)])
+
+    def test_every_kind_and_term(self):
+        terms = [covrith.CLOCK, covrith.parameter(4), covrith.entries(1), covrith.content(1), covrith.units_in_use(1), covrith.constant(-300)]
+        model = Model(
+            storages=[300], queues=1, lists=1, facilities=1, counter=7,
+            values=[covrith.summed(("-", covrith.bracket(("+", term), ("-", covrith.constant(2))))) for term in terms],
+            blocks=[
+                ("GENERATE", 1, 127), ("PRIORITY", 3), ("LET", 1, covrith.value(6)), ("IF", covrith.parameter(1), "=", covrith.constant(302), 6),
+                ("TERMINATE", 0), ("SPLIT", 2, 7), ("WAITIF_SERVER", "NF", 1), ("TERMINATE", 1),
+            ],
+        )  # fmt: skip
+        run = covrith.run(model, [[0]])
+        self.assertEqual((run.end, run.made, run.ended), (End.DRY, 3, 0))
+        self.assertEqual(run.report.living, [Living(number, Place.WEL) for number in (1, 2, 3)])
+
+    def test_ends(self):
+        def end(blocks, lists=((1,),), **limits):
+            model = Model(facilities=1, queues=1, lists=len(lists), blocks=[("GENERATE", 1, 0), *blocks, ("TERMINATE", 0)])
+            return covrith.run(model, list(lists), **limits).end
+
+        self.assertIs(end([]), End.DRY)
+        self.assertIs(end([("TERMINATE", 1)]), End.COUNTER)
+        self.assertIs(end([], budget=1), End.BUDGET)
+        self.assertIs(end([], trace_bytes=11), End.TRACE_FULL)
+        self.assertIs(end([("SPLIT", 255, 2)] * 5), End.NO_PLACE)
+        self.assertIs(end([("ADVANCE", 1)]), End.NO_TIME)
+        self.assertIs(end([("RELEASE", 1)]), End.NOT_IN_USE)
+        self.assertIs(end([("DEPART", 1)]), End.NO_CONTENT)
+
+    def test_threads(self):
+        cases = [covrith.load(folder.parent) for folder in sorted(MODELS.glob("*/model.bin"))]
+        alone = [covrith.run(*case) for case in cases]
+        with concurrent.futures.ThreadPoolExecutor(4) as pool:
+            self.assertEqual(list(pool.map(lambda case: covrith.run(*case), cases * 4)), alone * 4)
+
+
+class Refusals(unittest.TestCase):
+    def refused(self, number, call, *arguments, **named):
+        with self.assertRaises(Refused) as caught:
+            call(*arguments, **named)
+        refused = caught.exception
+        self.assertEqual((refused.number, refused.refusal), (number, Refusal(number)))
+        self.assertIn(f"refused {number}: {refused.rule}", str(refused))
+        return refused
+
+    def test_runs(self):
+        self.refused(1, covrith.run, MODEL, TAPE, work_numbers=16_383)
+        self.refused(1, covrith.run, MODEL, TAPE, work_numbers=0, report_bytes=0)
+        self.refused(2, covrith.run, MODEL, TAPE, report_bytes=10_239)
+        self.refused(3, covrith.run, b"", TAPE)
+        self.refused(3, covrith.run, b"\x80\x01" + MODEL[1:], TAPE)
+        self.refused(3, covrith.run, Model([("TERMINATE", 2**32)]), [])
+        self.refused(4, covrith.run, Model([], facilities=33), [])
+        self.refused(5, covrith.run, Model([("TERMINATE", 0)], values=[covrith.summed(*[("+", covrith.CLOCK)])] * 2 + [deep(5)]), [])
+        self.refused(6, covrith.run, MODEL + b"\x00", TAPE)
+        self.refused(7, covrith.run, Model([("PRIORITY", 0)]), [])
+        self.refused(8, covrith.run, MODEL, TAPE[:-1])
+        self.refused(9, covrith.run, MODEL, [[3], [0] * 65_536])
+        self.refused(10, covrith.run, MODEL, TAPE + b"\x00")
+
+    def test_every_cut_of_a_trace(self):
+        trace = covrith.run(MODEL, TAPE).trace
+        for length in range(len(trace)):
+            records = covrith.records(trace[:length])
+            found = [next(records) for _ in range(length // 4)]
+            self.assertEqual(found, RECORDS[: length // 4])
+            if length % 4:
+                refused = self.refused(31, next, records)
+                self.assertEqual(refused.position, 4 * (length // 4))
+            else:
+                self.assertEqual(list(records), [])
+
+    def test_records(self):
+        self.refused(32, list, covrith.records(b"\x01\x01\x00"))
+        self.refused(31, list, covrith.records(b"\x80\x01\x01\x00"))
+        self.refused(32, covrith.record_bytes, (0, 0, 1, 0))
+        self.refused(32, covrith.record_bytes, Record(2**64 - 1, 1, 1, 0))
+
+
+def deep(brackets):
+    """a value with this many brackets inside each other"""
+    term = covrith.CLOCK
+    for _ in range(brackets):
+        term = covrith.bracket(("+", term))
+    return covrith.summed(("+", term))
+
+    def test_draws(self):
+        self.assertEqual(list(itertools.islice(covrith.draws(0), 3)), [16_807, 282_475_249, 1_622_650_073])
+        self.assertEqual(next(itertools.islice(covrith.draws(0), 9_999, None)), 1_043_618_065)
+        ahead = itertools.islice(covrith.draws(510), 100_000, 100_003)
+        self.assertEqual(list(ahead), list(itertools.islice(covrith.draws(511), 3)))
+        self.refused(41, covrith.draws, 512)
+
+
+class Reports(unittest.TestCase):
+    HEADER = Header(1, 1, [3], 1)
+    REPORT = bytes([0x82, 0x2C, 2, 0, *range(1, 14), 2, 1, 4, 2, 6])
+
+    def test_by_names(self):
+        report = Report.read(self.REPORT, self.HEADER)
+        living = [Living(1, Place.FEL), Living(2, Place.MOVING)]
+        self.assertEqual(report, Report(300, 2, 0, [Server(1, 2, 3, 4, 5)], [Server(6, 7, 8, 9, 10)], [Queue(11, 12, 13)], living))
+
+    def test_headers(self):
+        self.assertEqual(Header.read(bytes([1, 1, 1, 3, 1, 99])), self.HEADER)
+        self.assertEqual(Header.read(MODEL), Header(1, 1, [], 0))
+        for data, number in ((b"", 3), (b"\x00", 4), (b"\x01\x21", 4), (b"\x01\x00\x01\x00", 4), (b"\x01\x80\x01", 3), (b"\xff" * 6, 3)):
+            with self.assertRaises(Refused) as caught:
+                Header.read(data)
+            self.assertEqual(caught.exception.number, number, data)
+
+    def test_no_reports(self):
+        nowhere = bytearray(self.REPORT)
+        nowhere[-1] = 0x7F
+        many = self.REPORT[:17] + b"\xff" * 8 + b"\x7f" + self.REPORT[18:]
+        cuts = [self.REPORT[:length] for length in range(len(self.REPORT))]
+        for data in [*cuts, self.REPORT + b"\x00", nowhere, many, b"\xff" * 40, b"\x80" * 40]:
+            with self.assertRaises(covrith.NoReport):
+                Report.read(data, self.HEADER)
+
+
+class WrongArguments(unittest.TestCase):
+    def test_types(self):
+        nothing = (None, 5, 2.5, "01", object(), MODEL.hex())
+        for wrong in nothing:
+            for call in (
+                lambda: covrith.run(wrong, TAPE),
+                lambda: covrith.run(MODEL, wrong),
+                lambda: covrith.records(wrong),
+                lambda: covrith.count(wrong),
+                lambda: covrith.record_bytes(wrong),
+                lambda: covrith.tape(wrong),
+                lambda: covrith.tape([wrong]),
+                lambda: Header.read(wrong),
+                lambda: Report.read(wrong, Reports.HEADER),
+                lambda: Report.read(Reports.REPORT, wrong),
+                lambda: bytes(Model(wrong)),
+                lambda: bytes(Model([wrong])),
+                lambda: bytes(Model([], storages=wrong)),
+                lambda: bytes(Model([], values=[wrong])),
+            ):
+                self.assertRaises(TypeError, call)
+        for wrong in (None, "1", 1.0, b"1", [1], True):
+            for name in ("budget", "trace_bytes", "work_numbers", "report_bytes"):
+                self.assertRaises(TypeError, covrith.run, MODEL, TAPE, **{name: wrong})
+            self.assertRaises(TypeError, covrith.record_bytes, [1, 1, wrong, 0])
+            self.assertRaises(TypeError, covrith.tape, [[1, wrong]])
+            self.assertRaises(TypeError, covrith.draws, wrong)
+            self.assertRaises(TypeError, bytes, Model([], facilities=wrong))
+
+    def test_ranges(self):
+        for name in ("budget", "trace_bytes", "work_numbers", "report_bytes"):
+            for wrong in (-1, 2**64, -(2**70)):
+                self.assertRaises(ValueError, covrith.run, MODEL, TAPE, **{name: wrong})
+        for wrong in ((), (1, 1, 1), (1, 1, 1, 0, 4), (-1, 1, 1, 0), (2**64, 1, 1, 0)):
+            self.assertRaises(ValueError, covrith.record_bytes, wrong)
+        self.assertRaises(ValueError, covrith.tape, [[-1]])
+        self.assertRaises(ValueError, covrith.draws, -1)
+        for wrong in ([()], [("SEIZE",)], [("SEIZE", 1, 1)], [("SIEZE", 1)], [(99, 1)], [("SEIZE", -1)], [("WAITIF_SERVER", "X", 1)]):
+            self.assertRaises(ValueError, bytes, Model(wrong))
+        self.assertRaises(ValueError, covrith.summed, covrith.content(1))
+        circle = ["SEIZE"]
+        circle.append(circle)
+        self.assertRaises((RecursionError, ValueError), bytes, Model([circle]))
+
+    def test_no_library(self):
+        program = "import covrith; print(len(covrith.tape([[1]]))); covrith.count(b'')"
+        environment = {**os.environ, "COVRITH_LIB": "/nowhere", "PYTHONPATH": str(HERE)}
+        done = subprocess.run([sys.executable, "-c", program], env=environment, capture_output=True, text=True)
+        self.assertEqual((done.stdout, done.returncode), ("2\n", 1))
+        self.assertIn("FileNotFoundError: /nowhere/libcovrith.so is not there: run tools/sharedlib", done.stderr)
+
+
+if __name__ == "__main__":
+    unittest.main()
