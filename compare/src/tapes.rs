@@ -75,7 +75,8 @@ fn one(random: &mut Random) -> Result<(u32, u64), String> {
 fn lists(random: &mut Random) -> (Vec<u32>, Vec<f64>) {
     let mut lists = Vec::new();
     let mut numbers = Vec::new();
-    for _ in 0..random.below(if random.below(30) == 0 { 19 } else { 5 }) {
+    let most = if random.below(30) == 0 { 19 } else { 5 };
+    for _ in 0..random.below(most) {
         let first = numbers.len() as u32;
         let kind = random.below(3) as u32;
         let mut points = 0;
