@@ -6,6 +6,7 @@ mod compare;
 mod follow;
 mod list;
 mod run;
+mod tape;
 mod template;
 mod verify;
 
@@ -41,6 +42,7 @@ pub const COMMANDS: &[Command] = &[
     follow::COMMAND,
     compare::COMMAND,
     template::COMMAND,
+    tape::COMMAND,
 ];
 
 /// The version of the engine: its number and the commit that it was built from.
