@@ -102,6 +102,38 @@ uint32_t covrith_stream_step(uint32_t state);
 uint32_t covrith_columns(const uint8_t *trace, size_t trace_len, uint8_t *out, size_t out_len, uint64_t *written);
 uint32_t covrith_uncolumns(const uint8_t *columns, size_t columns_len, uint8_t *out, size_t out_len, uint64_t *written);
 
+/* Tapes from distributions.
+ *
+ * For each list of the tape, in order, `lists` has four numbers: its kind (COVRITH_FIXED, COVRITH_SPREAD, COVRITH_CURVE), the count of
+ * its times (0 to 65535), the index of its first double in `numbers`, and the number of its points, which is 0 but for a curve.
+ * A fixed time has one double, a spread two (mean, half-width), a curve two for each of its 2 to 24 points (u, time).
+ * Times, means and halves are multiples of 1/64 from 0 to 1000000; half is at most mean, and mean at most 500000. The u of a curve
+ * are multiples of 1/65536 and rise strictly from 0 to 1; its times never fall.
+ * The stream runs on through the lists. A fixed time draws nothing, the others draw once for each time: the stream steps, and
+ * its new state r gives u = ((r - 1) / 32768) / 65536, the first quotient cut to a whole number. What is written is the whole part of the
+ * time, of mean - half + 2 * half * u, or of the line between the two points around u.
+ *
+ * Answers 0 and writes the tape's bytes to `tape` and their number to `written`; or writes nothing to `tape`, 0 to `written`, and
+ * answers, in this order:
+ * 41 a stream above 511;
+ * 42 a distribution or a count outside these rules, another kind, a double past the end of `numbers`, a length of `lists` that is no
+ *    multiple of four, or a seventeenth list;
+ * 43 the tape needs more than `tape_len` bytes.
+ * What is made is accepted as the tape of every model with that many lists. A tape needs at most 3 bytes for each count and time.
+ *
+ *     uint32_t lists[] = {COVRITH_SPREAD, 200, 0, 0, COVRITH_CURVE, 200, 2, 3};
+ *     double numbers[] = {12.5, 4, 0, 1, 0.5, 3, 1, 10};
+ *     uint8_t tape[3 * 402];
+ *     uint64_t written;
+ *     uint32_t answer = covrith_make_tape(7, lists, 8, numbers, 8, tape, sizeof tape, &written);
+ */
+#define COVRITH_LISTS 16 /* lists of a tape, at most */
+
+enum { COVRITH_FIXED, COVRITH_SPREAD, COVRITH_CURVE };
+
+uint32_t covrith_make_tape(uint32_t stream, const uint32_t *lists, size_t lists_len, const double *numbers, size_t numbers_len,
+                           uint8_t *tape, size_t tape_len, uint64_t *written);
+
 #ifdef __cplusplus
 }
 #endif

@@ -7,6 +7,7 @@ mod compare;
 mod follow;
 mod list;
 mod run;
+mod tape;
 mod template;
 mod verify;
 
@@ -43,6 +44,7 @@ pub const COMMANDS: &[Command] = &[
     compare::COMMAND,
     template::COMMAND,
     columns::COMMAND,
+    tape::COMMAND,
 ];
 
 /// The version of the engine: its number and the commit that it was built from.

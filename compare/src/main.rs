@@ -4,6 +4,7 @@
 //! `compare --check`: the same for the cases of standard input, printed as by `cases` of `reference/`.
 //! `compare --long`: the two runs that reach end 26, by turns and by serials (some 100 million turns each).
 //! `compare --streams`: the starts of all streams, steps along each and steps of other states.
+//! `compare --tapes N SEED`: N random calls of the tape maker.
 //! `compare --counts`: the counter of low bytes at all lengths to 4,096 and all addresses modulo 64.
 
 mod columns;
@@ -15,6 +16,7 @@ mod runs;
 mod shrink;
 mod streams;
 mod table;
+mod tapes;
 
 use records::Answers;
 use reference::coverage::Coverage;
@@ -27,6 +29,7 @@ fn main() {
     let mut numbers = Vec::new();
     let mut size = Size::Full;
     let mut coverage = false;
+    let mut made = false;
     for argument in std::env::args().skip(1) {
         match argument.as_str() {
             "--small" => size = Size::Small,
@@ -35,6 +38,7 @@ fn main() {
             "--long" => exit(i32::from(!long::compare())),
             "--counts" => exit(i32::from(!counts::compare())),
             "--streams" => exit(i32::from(!streams::compare())),
+            "--tapes" => made = true,
             text => match text.parse::<u64>() {
                 Ok(number) => numbers.push(number),
                 Err(_) => usage(),
@@ -42,13 +46,16 @@ fn main() {
         }
     }
     let [count, seed] = numbers[..] else { usage() };
+    if made {
+        exit(i32::from(!tapes::compare(count, seed)));
+    }
     std::panic::set_hook(Box::new(|_| {})); // a panic of the second implementation is a difference
     random_cases(count, seed, size, coverage);
 }
 
 fn usage() -> ! {
     eprintln!("usage: compare N SEED [--small] [--coverage]");
-    eprintln!("       compare --check | --long | --streams | --counts");
+    eprintln!("       compare --check | --long | --streams | --counts | --tapes N SEED");
     exit(2);
 }
 

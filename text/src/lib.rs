@@ -1,5 +1,6 @@
 //! Text form of models and tapes: text to bytes and bytes to text. `docs/TEXT.md` has the syntax.
 
+pub mod distribution;
 pub mod model;
 pub mod names;
 pub mod number;

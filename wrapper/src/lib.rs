@@ -1,5 +1,5 @@
 //! The proved engine for Rust: a run of a block model on a tape, the records of its trace, traces by column and its report by names;
-//! and streams of random numbers.
+//! streams of random numbers, and tapes drawn from distributions.
 //!
 //! ```
 //! use covrith::simulate;
@@ -27,6 +27,7 @@ mod report;
 mod run;
 mod stream;
 pub mod sys;
+pub mod tape;
 mod trace;
 
 pub use columns::{from_columns, to_columns};
@@ -35,4 +36,5 @@ pub use names::{End, Place, Refusal};
 pub use report::{Living, NoReport, Queue, Report, Server};
 pub use run::{run, simulate, Outcome, Run, REPORT_BYTES, WORK_NUMBERS};
 pub use stream::{Stream, STREAMS};
+pub use tape::{make_tape, write_tape, Distribution, List};
 pub use trace::{count, read_record, write_record, Record, Records};

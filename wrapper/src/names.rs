@@ -91,6 +91,8 @@ numbered! {
         32 RecordRange "a number of the record is outside its field's range",
         33 RecordRoom "the record does not fit in the rest of the trace",
         41 NoStream "the stream is above 511",
+        42 NotDistribution "a distribution or a count is outside its rules, or there is a seventeenth",
+        43 TapeRoom "the tape needs more bytes than were lent",
         51 NotColumns "not a trace that is taken, or not the columns of one",
         52 ColumnsRoom "the output needs more bytes than were lent",
     }

@@ -53,4 +53,15 @@ extern "C" {
         out_len: usize,
         written: *mut u64,
     ) -> u32;
+
+    pub fn covrith_make_tape(
+        stream: u32,
+        lists: *const u32,
+        lists_len: usize,
+        numbers: *const f64,
+        numbers_len: usize,
+        tape: *mut u8,
+        tape_len: usize,
+        written: *mut u64,
+    ) -> u32;
 }

@@ -1,0 +1,191 @@
+//! Distributions: a line for each list of a tape, `arrivals: spread 12.5 +- 4, 200 times`. The engine draws the tape from them.
+
+use crate::{Fault, Position};
+
+/// What a list is drawn from, as it was written.
+#[derive(Clone, Debug, PartialEq)]
+pub enum Form {
+    Fixed(f64),
+    Spread(f64, f64),
+    /// Points of u and time.
+    Curve(Vec<(f64, f64)>),
+}
+
+/// A list: its name, where it stands, its distribution and how many times are drawn.
+#[derive(Clone, Debug, PartialEq)]
+pub struct Drawn {
+    pub name: String,
+    pub at: Position,
+    pub form: Form,
+    pub count: u32,
+}
+
+/// A word of a line and the column where it begins.
+type Word<'a> = (usize, &'a str);
+
+const FORMS: &str = "write `fixed 7`, `spread 12.5 +- 4` or `curve 0:1 0.5:3 1:10`";
+const COUNT: &str = "a line ends with how often a time is drawn: `, 200 times`";
+
+/// The lists of a text in their order.
+pub fn read(text: &str) -> Result<Vec<Drawn>, Vec<Fault>> {
+    let mut lists = Vec::new();
+    let mut faults = Vec::new();
+    for (i, source) in text.lines().enumerate() {
+        let source = source.split(';').next().unwrap_or_default();
+        if source.trim().is_empty() || source.trim_start().starts_with('*') {
+            continue;
+        }
+        match line(source, i + 1) {
+            Ok(list) => lists.push(list),
+            Err(fault) => faults.push(fault),
+        }
+    }
+    if faults.is_empty() {
+        Ok(lists)
+    } else {
+        Err(faults)
+    }
+}
+
+/// The numbers and doubles that the engine's tape maker takes: for each list kind, count, index of its first double and points.
+pub fn arguments(lists: &[Drawn]) -> (Vec<u32>, Vec<f64>) {
+    let mut numbers = Vec::new();
+    let mut doubles = Vec::new();
+    for list in lists {
+        let first = doubles.len() as u32;
+        let (kind, points) = match &list.form {
+            Form::Fixed(time) => {
+                doubles.push(*time);
+                (0, 0)
+            }
+            Form::Spread(mean, half) => {
+                doubles.extend([*mean, *half]);
+                (1, 0)
+            }
+            Form::Curve(points) => {
+                doubles.extend(points.iter().flat_map(|(u, time)| [*u, *time]));
+                (2, points.len() as u32)
+            }
+        };
+        numbers.extend([kind, list.count, first, points]);
+    }
+    (numbers, doubles)
+}
+
+fn line(source: &str, number: usize) -> Result<Drawn, Fault> {
+    let place = |column: usize| Position::at(number, column);
+    let end = source.trim_end().chars().count() + 1;
+    let Some((front, behind)) = source.split_once(':') else {
+        return Err(Fault::at(
+            place(1),
+            "`:` is expected behind the name of a list",
+            "write `name: distribution, count times`",
+        ));
+    };
+    let name = front.trim();
+    let start = front.chars().take_while(|c| c.is_whitespace()).count() + 1;
+    if !named(name) {
+        return Err(Fault::at(
+            place(start),
+            "a line begins with the name of a list",
+            "names have letters, digits and `_`, and begin with a letter",
+        ));
+    }
+    let words = words(behind, front.chars().count() + 2);
+    let comma = words.iter().position(|(_, word)| *word == ",");
+    let Some(comma) = comma else {
+        return Err(Fault::at(
+            place(end),
+            "the count of times is missing",
+            COUNT,
+        ));
+    };
+    let count = match words[comma + 1..] {
+        [(at, count), (_, "times" | "time")] => count
+            .parse()
+            .map_err(|_| Fault::at(place(at), format!("`{count}` is no count"), COUNT))?,
+        _ => {
+            let at = words.get(comma + 1).map_or(end, |word| word.0);
+            return Err(Fault::at(
+                place(at),
+                "the count of times is expected",
+                COUNT,
+            ));
+        }
+    };
+    let form = match words[..comma] {
+        [(_, "fixed"), time] => Form::Fixed(decimal(time, number)?),
+        [(_, "spread"), mean, (_, "+-"), half] => {
+            Form::Spread(decimal(mean, number)?, decimal(half, number)?)
+        }
+        [(_, "curve"), ref points @ ..] => Form::Curve(
+            points
+                .iter()
+                .map(|point| pair(*point, number))
+                .collect::<Result<_, _>>()?,
+        ),
+        _ => {
+            let at = words.first().map_or(end, |word| word.0);
+            return Err(Fault::at(place(at), "a distribution is expected", FORMS));
+        }
+    };
+    Ok(Drawn {
+        name: name.to_string(),
+        at: place(start),
+        form,
+        count,
+    })
+}
+
+fn named(name: &str) -> bool {
+    name.starts_with(|c: char| c.is_ascii_alphabetic())
+        && name.chars().all(|c| c.is_ascii_alphanumeric() || c == '_')
+}
+
+/// Words between spaces; a comma is a word of its own.
+fn words(text: &str, column: usize) -> Vec<Word<'_>> {
+    let mut words = Vec::new();
+    let mut start = None;
+    for (k, (at, c)) in text.char_indices().enumerate() {
+        let here = column + k;
+        if c.is_whitespace() || c == ',' {
+            if let Some((from, begun)) = start.take() {
+                words.push((begun, &text[from..at]));
+            }
+            if c == ',' {
+                words.push((here, ","));
+            }
+        } else if start.is_none() {
+            start = Some((at, here));
+        }
+    }
+    if let Some((from, begun)) = start {
+        words.push((begun, &text[from..]));
+    }
+    words
+}
+
+/// Digits, perhaps with a point among them.
+fn decimal((at, word): Word, line: usize) -> Result<f64, Fault> {
+    let plain = word.chars().all(|c| c.is_ascii_digit() || c == '.');
+    match word.parse() {
+        Ok(value) if plain => Ok(value),
+        _ => Err(Fault::at(
+            Position::at(line, at),
+            format!("`{word}` is no number"),
+            "numbers are written like 7 or 12.5; times are multiples of 1/64, u of 1/65536",
+        )),
+    }
+}
+
+fn pair((at, word): Word, line: usize) -> Result<(f64, f64), Fault> {
+    let Some((u, time)) = word.split_once(':') else {
+        return Err(Fault::at(
+            Position::at(line, at),
+            format!("`{word}` is no point of a curve"),
+            "a point is u and time with `:` between them, as 0.5:3",
+        ));
+    };
+    let time_at = at + u.chars().count() + 1;
+    Ok((decimal((at, u), line)?, decimal((time_at, time), line)?))
+}
