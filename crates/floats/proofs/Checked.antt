@@ -33,8 +33,7 @@ module _ (k most : ℕ) (p : 0 < k) where
       let g = both _ _ e in
       let whole : y * k / d * d + y * k % d ≡ y * k = div-add-mod' (y * k) d in
       let rest : y * k % d ≡ 0 = eqb-true _ _ (g .0) in
-      let q : y * k / d ≡ n = some-same h in
-      (
+      let q : y * k / d ≡ n = some-same h in (
         sym whole ∙ rw (rest, q) (omega arith),
         subst (λ (z : ℕ). z ≤ most) q (leb-true _ _ (g .1)),
       )

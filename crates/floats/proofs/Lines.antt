@@ -174,7 +174,7 @@ module _ (C E w n h : ℕ) (ce : C ≡ 134217728 * E) (e0 : 0 < E) (w0 : 0 < w) 
     not-reached =
         let a : (n + 1) * C ≤ (q * (64 * w) + 64 * w) * C = mul-le-mul-right C (omega (arith, after)) in
         let b : (n + 1) * C ≡ n * C + 1 * C = add-mul n 1 C in
-        let d : (q * (64 * w) + 64 * w) * C ≡ (q + 1) * (64 * C) * w = 
+        let d : (q * (64 * w) + 64 * w) * C ≡ (q + 1) * (64 * C) * w =
         ap (λ (z : ℕ). z * C) (sym (ap (λ (z : ℕ). q * (64 * w) + z) (one-mul (64 * w))) ∙ sym (add-mul q 1 (64 * w))) ∙ simp (mul-assoc, mul-comm, mul-left-comm) in
         lt-of-mul-lt-mul-right w (omega (arith, little))
 

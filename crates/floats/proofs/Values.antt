@@ -190,7 +190,7 @@ mul-rounds nan y a c b d p q h k = absurd h
 mul-rounds (inf s) y a c b d p q h k = absurd h
 mul-rounds (fin s m e) nan a c b d p q h k = absurd k
 mul-rounds (fin s m e) (inf t) a c b d p q h k = absurd k
-mul-rounds (fin s m e) (fin t n g) a c b d p q h k = 
+mul-rounds (fin s m e) (fin t n g) a c b d p q h k =
     formed (not (Bool·beq s t)) (m * up e * (n * up g)) (down e * down g) (a * b) (c * d) (mul-pos (down-pos e) (down-pos g)) (mul-pos p q)
     (mul-mul-mul-comm (m * up e) (n * up g) c d
     ∙ ap (λ (z : ℕ). z * (n * up g * d)) (size-of s m e a c p h)

@@ -119,8 +119,7 @@ module _ (a c : ℕ) (p : 0 < c) where
       let g = both _ _ k in
       let same : m * up e * down d ≡ n * up d * down e = eqb-true _ _ (g .0) in
       let A0 : m * up e * down d ≡ 0 = eqb-true _ _ (g .1) in
-      let m0 : m * up e ≡ 0 = zero-left (m * up e) (down d) (down-pos d) A0 in
-      (
+      let m0 : m * up e ≡ 0 = zero-left (m * up e) (down d) (down-pos d) A0 in (
         no-size n d (zero-left (n * up d) (down e) (down-pos e) (sym same ∙ A0)),
         zero-left a (down e) (down-pos e) (sym h ∙ ap (λ (z : ℕ). z * c) m0 ∙ zero-mul c),
       )

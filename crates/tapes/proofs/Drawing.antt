@@ -149,10 +149,9 @@ module _ (numbers : List Float) (d : Distribution) (s : Source) (state : ℕ) (m
         go : (s : Source) → Meant numbers (Spread x y) s → (wholePart z ≡ timeOf s state) × (r ≡ after s state)
         go (fixed t) h = absurd h
         go (spread mean half) h =
-            let below : drawOf r < drawParts = draw-inside r inside in
-            (
+            let below : drawOf r < drawParts = draw-inside r inside in (
               exact mean half (drawOf r) h is (omega arith) .whole
-              ∙ ap (λ (n : ℕ). spreadOver mean half (drawOf n) / spreadUnder) next-is,
+                  ∙ ap (λ (n : ℕ). spreadOver mean half (drawOf n) / spreadUnder) next-is,
               next-is,
             )
         go (curve p l) h = absurd h
@@ -171,9 +170,8 @@ module _ (numbers : List Float) (d : Distribution) (s : Source) (state : ℕ) (m
         go (curve p l) h =
             let v = drawOf r in
             let b = around p l v in
-            let g = surrounds p l v (h .1) (omega (arith, h .0)) (draw-inside r inside) is in
-            (
+            let g = surrounds p l v (h .1) (omega (arith, h .0)) (draw-inside r inside) is in (
               near (b .from .u) (b .from .time) (b .to .u) (b .to .time) v (g .ends) is (g .from-most) (g .to-least) .whole
-              ∙ ap (λ (n : ℕ). lineTime (around p l (drawOf n)) (drawOf n)) next-is,
+                  ∙ ap (λ (n : ℕ). lineTime (around p l (drawOf n)) (drawOf n)) next-is,
               next-is,
             )

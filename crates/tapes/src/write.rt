@@ -86,7 +86,10 @@ pub fn write_times(
         r = x.state;
         left -= 1;
     }
-    Progress { bytes: at, state: r }
+    Progress {
+        bytes: at,
+        state: r,
+    }
 }
 
 // Writes the count and the times of each of that many lists, from the front on.

@@ -40,12 +40,12 @@ add-bytes-2 c = omega (arith, len-most _ _ (c .before .number-len .ensures), c .
 
 loop-again : tie.Need-loop-again Inv-loop μ-loop
 loop-again c = (
-    c .before .before .measure-times .ensures .1 .0,
-    omega arith,
-    omega (arith, len-most _ _ (c .before .number-len .ensures), c .before .before .measure-times .ensures .1 .1, c .before .before .before .before .before .before .list-at .ensures .1 _ _ (c .before .before .before .before .d .given .1), c .before .before .before .before .before .before .before .before .loop .inv .2),
-    λ all e.
-        measure-next _ _ _ _ _ _ _ all (c .before .before .before .before .before .before .before .before .loop .inv .3 all e) _ _ _ _ _ _ (c .before .before .before .before .before .before .before .loop-test .taken) (c .before .before .before .before .before .before .list-at .ensures .0)
-        (c .before .before .before .before .d .given .1) (c .before .number-len .ensures) (c .before .before .measure-times .ensures .0),
+  c .before .before .measure-times .ensures .1 .0,
+  omega arith,
+  omega (arith, len-most _ _ (c .before .number-len .ensures), c .before .before .measure-times .ensures .1 .1, c .before .before .before .before .before .before .list-at .ensures .1 _ _ (c .before .before .before .before .d .given .1), c .before .before .before .before .before .before .before .before .loop .inv .2),
+  λ all e.
+      measure-next _ _ _ _ _ _ _ all (c .before .before .before .before .before .before .before .before .loop .inv .3 all e) _ _ _ _ _ _ (c .before .before .before .before .before .before .before .loop-test .taken) (c .before .before .before .before .before .before .list-at .ensures .0)
+      (c .before .before .before .before .d .given .1) (c .before .number-len .ensures) (c .before .before .measure-times .ensures .0),
 )
 
 returns-2 : tie.Need-returns-2 Inv-loop μ-loop

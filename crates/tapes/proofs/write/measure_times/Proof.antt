@@ -28,17 +28,17 @@ add-bytes c = omega (arith, len-most _ _ (c .number-len .ensures), c .before .be
 
 loop-again : tie.Need-loop-again Inv-loop μ-loop
 loop-again c = (
-    c .before .draw .ensures .1,
-    omega (arith, len-most _ _ (c .number-len .ensures), c .before .before .before .loop .inv .1),
-    λ s meant.
-        let drawn = c .before .draw .ensures .0 s meant in
-        measure-goes s _ _ _ _ _ (c .before .before .before .loop .inv .2 s meant) _ _ _ (c .before .before .loop-test .taken) (drawn .0) (drawn .1) (c .number-len .ensures),
+  c .before .draw .ensures .1,
+  omega (arith, len-most _ _ (c .number-len .ensures), c .before .before .before .loop .inv .1),
+  λ s meant.
+      let drawn = c .before .draw .ensures .0 s meant in
+      measure-goes s _ _ _ _ _ (c .before .before .before .loop .inv .2 s meant) _ _ _ (c .before .before .loop-test .taken) (drawn .0) (drawn .1) (c .number-len .ensures),
 )
 
 returns : tie.Need-returns Inv-loop μ-loop
 returns c = (
-    (λ s meant. measure-done s _ _ _ _ _ (c .before .loop .inv .2 s meant) (c .loop-test .left)),
-    (c .before .loop .inv .0, omega (arith, c .before .loop .inv .1)),
+  (λ s meant. measure-done s _ _ _ _ _ (c .before .loop .inv .2 s meant) (c .loop-test .left)),
+  (c .before .loop .inv .0, omega (arith, c .before .loop .inv .1)),
 )
 
 pub measure-times-spec : {M : Type 1} → statement M

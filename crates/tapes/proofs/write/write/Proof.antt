@@ -39,12 +39,12 @@ write-times-requires c κs = c .before .before .before .before .before .before .
 
 loop-again : tie.Need-loop-again Inv-loop μ-loop
 loop-again c = (
-    c .before .before .write-times .ensures .1,
-    omega arith,
-    (search needs),
-    λ all e room.
-        write-next _ _ _ _ _ _ _ all _ _ (c .before .before .before .before .before .before .before .before .before .before .before .before .before .loop .inv .3 all e room) room _ _ _ _ _ _ _ _ (c .before .before .before .before .before .before .before .before .before .before .before .before .loop-test .taken) (c .before .before .before .before .before .before .before .before .before .before .before .list-at .ensures .0)
-        (c .before .before .before .before .before .before .before .before .before .d .given .1) (c .before .before .before .before .before .before .write-number .ensures) (c .before .before .write-times .ensures .0),
+  c .before .before .write-times .ensures .1,
+  omega arith,
+  (search needs),
+  λ all e room.
+      write-next _ _ _ _ _ _ _ all _ _ (c .before .before .before .before .before .before .before .before .before .before .before .before .before .loop .inv .3 all e room) room _ _ _ _ _ _ _ _ (c .before .before .before .before .before .before .before .before .before .before .before .before .loop-test .taken) (c .before .before .before .before .before .before .before .before .before .before .before .list-at .ensures .0)
+      (c .before .before .before .before .before .before .before .before .before .d .given .1) (c .before .before .before .before .before .before .write-number .ensures) (c .before .before .write-times .ensures .0),
 )
 
 same-length-2 : tie.Need-same-length-2 Inv-loop μ-loop

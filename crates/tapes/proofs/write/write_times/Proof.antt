@@ -28,11 +28,11 @@ draw-requires c κs = c .before .loop .inv .0
 
 loop-again : tie.Need-loop-again Inv-loop μ-loop
 loop-again c = (
-    c .before .before .before .before .draw .ensures .1,
-    (search needs),
-    λ s meant room.
-        let drawn = c .before .before .before .before .draw .ensures .0 s meant in
-        write-goes s _ _ _ _ _ _ _ _ (c .before .before .before .before .before .before .loop .inv .2 s meant room) room _ _ _ _ (c .before .before .before .before .before .loop-test .taken) (drawn .0) (drawn .1) (c .before .before .write-number .ensures),
+  c .before .before .before .before .draw .ensures .1,
+  (search needs),
+  λ s meant room.
+      let drawn = c .before .before .before .before .draw .ensures .0 s meant in
+      write-goes s _ _ _ _ _ _ _ _ (c .before .before .before .before .before .before .loop .inv .2 s meant room) room _ _ _ _ (c .before .before .before .before .before .loop-test .taken) (drawn .0) (drawn .1) (c .before .before .write-number .ensures),
 )
 
 same-length : tie.Need-same-length Inv-loop μ-loop
@@ -40,8 +40,8 @@ same-length c = c .before .loop .inv .1
 
 returns : tie.Need-returns Inv-loop μ-loop
 returns c = (
-    (λ s meant room. write-done s _ _ _ _ _ _ _ _ (c .before .loop .inv .2 s meant room) room (c .loop-test .left)),
-    c .before .loop .inv .0,
+  (λ s meant room. write-done s _ _ _ _ _ _ _ _ (c .before .loop .inv .2 s meant room) room (c .loop-test .left)),
+  c .before .loop .inv .0,
 )
 
 pub write-times-spec : {M : Type 1} → statement M
