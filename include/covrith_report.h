@@ -87,6 +87,8 @@ static inline const char *covrith_refusal_words(uint64_t refusal) {
     case 32: return "a number of the record is outside its field's range";
     case 33: return "the record does not fit in the rest of the trace";
     case 41: return "the stream is above 511";
+    case 42: return "a distribution or a count is outside its rules, or there is a seventeenth";
+    case 43: return "the tape needs more bytes than were lent";
     case 51: return "not a trace that is taken, or not the columns of one";
     case 52: return "the output needs more bytes than were lent";
     default: return NULL;

@@ -61,6 +61,8 @@ class Refusal(_Named):
     RECORD_RANGE = 32, "a number of the record is outside its field's range"
     RECORD_ROOM = 33, "the record does not fit in the rest of the trace"
     NO_STREAM = 41, "the stream is above 511"
+    NOT_DISTRIBUTION = 42, "a distribution or a count is outside its rules, or there is a seventeenth"
+    TAPE_ROOM = 43, "the tape needs more bytes than were lent"
     NOT_COLUMNS = 51, "not a trace that is taken, or not the columns of one"
     COLUMNS_ROOM = 52, "the output needs more bytes than were lent"
 
