@@ -5,7 +5,7 @@ use native.Mathlib.Omega.{arith}
 use mathlib.Core.Bool.{Bool, true, false, cond}
 use mathlib.Core.List.{List, [], _∷_, _++_}
 use mathlib.Core.Option.{Option, none, some}
-use mathlib.Core.Path.{_≡_, refl, sym, ap, _∙_}
+use mathlib.Core.Path.{_≡_, refl, ap, _∙_}
 use lib.ListN.{length, take, drop, length-map}
 use lib.Seq.{sets, sets-eq, take-append-seam}
 use borrow.Author.Tests.{le-leb, lt-leb}
@@ -16,7 +16,6 @@ use Rattle.codec.specs.Writing.{put}
 use Rattle.codec.proofs.Writing.{put-room, written-bytes}
 use Rattle.trace.specs.Answers.{after}
 use Rattle.columns.specs.declared.walk.Walk.{Walk}
-use Rattle.columns.specs.declared.measure.Measured.{Measured}
 use Rattle.columns.specs.declared.measure.Measured.the-variants.{Taken, Refused}
 use Rattle.columns.specs.declared.survey.Survey.{Survey}
 use Rattle.columns.specs.declared.survey.Survey.the-variants.{Taken as Surveys, Refused as NoColumns}

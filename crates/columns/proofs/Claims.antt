@@ -1,6 +1,6 @@
 -- What item 10 asks for, of the definitions: which traces are taken; columns are taken exactly if some such trace produces them; the
 -- inverse gives back the trace; and which answer comes when.
-use Prim.Native.Nat.{ℕ, zero, suc, _+_, _≤_, _<_, zero-le}
+use Prim.Native.Nat.{ℕ, _+_, _≤_, _<_, zero-le}
 use native.Mathlib.Omega.{arith}
 use mathlib.Core.Bool.{Bool, true, false, cond}
 use mathlib.Core.List.{List, [], _∷_, _++_, append-assoc, append-nil}
@@ -8,19 +8,17 @@ use mathlib.Core.Option.{Option, none, some}
 use mathlib.Core.Path.{_≡_, refl, sym, ap, subst, _∙_}
 use lib.Dec.{leb}
 use lib.ListN.{length, drop, length-append, length-map}
-use borrow.Author.Tests.{eq-eqb, le-leb, lt-leb, leb-true, leb-false}
-use Rattle.machine.specs.Limits.{maxClock, maxTransaction, maxBlocks, maxNumber}
+use borrow.Author.Tests.{le-leb, lt-leb}
+use Rattle.machine.specs.Limits.{maxTransaction, maxBlocks}
 use Rattle.machine.specs.Number.{numberBytes}
-use Rattle.machine.specs.Parser.{continue, ask, times, field}
-use Rattle.machine.specs.Decode.{atEnd}
-use Rattle.machine.specs.Validate.{beginning}
-use Rattle.machine.specs.Trace.{Record, traceBytes, Writing, written, rejected, readRecord}
+use Rattle.machine.specs.Parser.{times, field}
+use Rattle.machine.specs.Trace.{Record, traceBytes, written, rejected, readRecord}
 use Rattle.codec.specs.Answers.{cursorAt}
 use Rattle.codec.proofs.Fields.{drop-past, field-reads}
-use Rattle.trace.specs.Whole.{Reads, AllInRanges}
+use Rattle.trace.specs.Whole.{AllInRanges}
 use Rattle.trace.proofs.RoundTrip.{trace-reads-whole, trace-written-again, trace-in-ranges}
 use Rattle.trace.proofs.Writer.{ranges}
-use Rattle.columns.specs.Columns.{maxRecords, clocks, transactions, blocks, outcomes, differences, column, columnBytes, neverFall, wholeFrom, rising, takenTrace, rows, clocksFrom, columnFields, recordsOf, takenColumns, answer, toColumns, fromColumns}
+use Rattle.columns.specs.Columns.{maxRecords, clocks, transactions, blocks, outcomes, differences, column, columnBytes, neverFall, wholeFrom, rising, takenTrace, rows, clocksFrom, columnFields, takenColumns, answer, toColumns, fromColumns}
 use Rattle.columns.specs.Claims.{Bytes, Such, Produces}
 use Rattle.columns.proofs.ByteLists.{bytes-trace}
 use Rattle.columns.proofs.Whole.{whole-reads, reads-whole}

@@ -3,6 +3,7 @@ pub mod Measuring
 pub mod Placing
 pub mod Parsing
 pub mod Pieces
+pub mod Finding
 pub mod Surveying
 pub mod Restoring
 pub mod ByteLists

@@ -2,14 +2,13 @@
 use Prim.Native.Nat.{ℕ, zero, suc, _+_, _-_, _≤_, _<_}
 use native.Mathlib.Nat.{add-zero}
 use native.Mathlib.Omega.{arith}
-use mathlib.Core.Bool.{Bool, true, false, cond, _&&_}
+use mathlib.Core.Bool.{Bool, true, false, cond}
 use mathlib.Core.List.{List, [], _∷_, _++_}
 use mathlib.Core.Option.{Option, none, some}
 use mathlib.Core.Path.{_≡_, refl, sym, ap, _∙_}
-use lib.Dec.{leb, ltb, eqb}
+use lib.Dec.{ltb, eqb}
 use lib.ListN.{length, length-append}
 use borrow.Author.Tests.{lt-ltb, le-ltb, eq-eqb, ne-eqb, le-leb, lt-leb, ltb-true, ltb-false, eqb-true, eqb-false}
-use Rattle.machine.specs.Number.{numberBytes}
 use Rattle.machine.specs.Trace as machine
 use Rattle.machine.specs.Trace.{taken, refusal, noMore, readRecord}
 use Rattle.codec.proofs.Numbers.{numberBytes-longest}
@@ -20,7 +19,6 @@ use Rattle.trace.specs.Answers.{entry, readingOf}
 use Rattle.trace.proofs.Reader.{past-end}
 use Rattle.trace.proofs.RoundTrip.{no-more-end}
 use Rattle.columns.specs.declared.walk.Walk.{Walk}
-use Rattle.columns.specs.declared.measure.Measured.{Measured}
 use Rattle.columns.specs.declared.measure.Measured.the-variants.{Taken, Refused}
 use Rattle.columns.specs.Columns.{maxRecords, clocks, transactions, blocks, outcomes, differences, column, neverFall, behind, wholeFrom}
 use Rattle.columns.specs.Walks.{Short, longer, measuring, Totals, totalled, totals, totalsOf}

@@ -2,16 +2,16 @@
 use Prim.Native.Nat.{ℕ, zero, suc, _+_, _-_, _≤_, zero-le}
 use native.Mathlib.Omega.{arith}
 use mathlib.Core.Bool.{Bool, true, false}
-use mathlib.Core.List.{List, [], _∷_, _++_, map, append-assoc, append-nil}
-use mathlib.Core.Option.{Option, none, some}
+use mathlib.Core.List.{List, [], _∷_, _++_, append-assoc, append-nil}
+use mathlib.Core.Option.{some}
 use mathlib.Core.Path.{_≡_, refl, sym, ap, subst, _∙_}
 use lib.Dec.{eqb}
 use lib.ListN.{length, drop, length-append, length-map}
 use lib.Seq.{drop-length}
 use borrow.Author.Tests.{eq-eqb, eqb-true}
-use Rattle.machine.specs.Limits.{maxClock, maxTransaction, maxBlocks, maxNumber}
+use Rattle.machine.specs.Limits.{maxTransaction, maxBlocks}
 use Rattle.machine.specs.Number.{numberBytes}
-use Rattle.machine.specs.Parser.{Cursor, Parsed, parsed, refused, Parser, continue, ask, times, field}
+use Rattle.machine.specs.Parser.{Cursor, Parsed, parsed, refused, continue, ask, times, field}
 use Rattle.machine.specs.Decode.{atEnd}
 use Rattle.machine.specs.Validate.{beginning}
 use Rattle.machine.specs.Trace.{Record, recordBytes, traceBytes}
@@ -21,7 +21,7 @@ use Rattle.codec.proofs.Groups.{Bytes}
 use Rattle.trace.specs.Whole.{AllInRanges}
 use Rattle.trace.proofs.Writer.{recordBytes-length, in-ranges}
 use Rattle.columns.specs.Columns.{maxRecords, clocks, transactions, blocks, outcomes, differences, column, columnBytes, neverFall, rows, clocksFrom, columnFields, recordsOf, takenColumns}
-use Rattle.columns.proofs.Parsing.{Stands, continued, Between, ColumnTaken, column-taken, Below, ClocksTaken, clocks-taken}
+use Rattle.columns.proofs.Parsing.{continued, Between, ColumnTaken, column-taken, Below, ClocksTaken, clocks-taken}
 
 -- ---- Rows and columns
 

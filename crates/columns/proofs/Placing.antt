@@ -1,14 +1,14 @@
 -- The second walk over a trace, pure: numbers stored by turns at four positions are, in the end, the four columns.
-use Prim.Native.Nat.{ℕ, zero, suc, _+_, _-_, _≤_, _<_}
+use Prim.Native.Nat.{ℕ, suc, _+_, _-_, _≤_, _<_}
 use native.Mathlib.Nat.{zero-add}
 use native.Mathlib.Omega.{arith}
 use mathlib.Core.List.{List, [], _∷_, _++_}
-use mathlib.Core.Path.{_≡_, refl, sym, ap, ap₂, _∙_}
+use mathlib.Core.Path.{_≡_, refl, sym, ap, _∙_}
 use lib.ListN.{length, set, length-append}
 use lib.Seq.{sets, set-comm, length-sets}
 use Rattle.machine.specs.Number.{numberBytes}
 use Rattle.machine.specs.Trace as machine
-use Rattle.machine.specs.Trace.{Record, taken, refusal, noMore, readRecord}
+use Rattle.machine.specs.Trace.{Record}
 use Rattle.codec.specs.Writing.{put, written}
 use Rattle.codec.proofs.Stores.{sets-append}
 use Rattle.codec.proofs.Writing.{put-room}

@@ -1,12 +1,12 @@
 -- The second walk over columns, pure: the records found, written one after the other, are the trace.
 use Prim.Native.Nat.{ℕ, zero, suc, _+_, _-_, _≤_, _<_}
 use native.Mathlib.Omega.{arith}
-use mathlib.Core.List.{List, [], _∷_, _++_}
+use mathlib.Core.List.{List, _∷_, _++_}
 use mathlib.Core.Option.{Option}
 use mathlib.Core.Path.{_≡_, refl, sym, ap, ap₂, _∙_}
 use lib.ListN.{length, length-append}
 use lib.Seq.{sets, length-sets}
-use Rattle.machine.specs.Number.{numberBytes, readNumber}
+use Rattle.machine.specs.Number.{numberBytes}
 use Rattle.machine.specs.Number as bytes
 use Rattle.machine.specs.Trace.{Record, recordBytes, traceBytes}
 use Rattle.codec.specs.Writing.{Written, put, written}

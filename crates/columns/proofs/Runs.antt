@@ -1,6 +1,6 @@
 -- Every trace that a run writes is taken: its records lie in the reader's ranges, there is at most one a turn, and their clocks never
 -- fall, since the FEL lies ahead of the clock.
-use Prim.Native.Nat.{ℕ, suc, _≤_, _<_, zero-le}
+use Prim.Native.Nat.{ℕ, _≤_, _<_, zero-le}
 use native.Mathlib.Omega.{arith}
 use mathlib.Core.Bool.{true}
 use mathlib.Core.List.{List, [], _∷_, _++_, reverse}
@@ -15,7 +15,6 @@ use Rattle.machine.specs.Transaction.{Transaction, Event}
 use Rattle.machine.specs.Trace.{Record, traceBytes}
 use Rattle.machine.specs.Block.{BlockModel}
 use Rattle.machine.specs.State.{State, Logged}
-use Rattle.machine.specs.Setters.{setEnd}
 use Rattle.machine.specs.Moves.{toRel, recordOf}
 use Rattle.machine.specs.Turn.{arriveAll, moveClock, nextEvents, takeFirst, takeReady, taking, turn}
 use Rattle.machine.specs.Run.{idle, start, run}
@@ -28,12 +27,12 @@ use Rattle.machine.proofs.RunLaws.{Taken, each-map, last-state}
 use Rattle.machine.proofs.Bounds.{bounded}
 use Rattle.trace.proofs.RoundTrip.{trace-reads-whole}
 use Rattle.state.specs.Bare.{Note, enteredNote, waitsNote, noNote, logged, countEntry, noteAs}
-use Rattle.state.proofs.Gains.{Ahead, Gains}
+use Rattle.state.proofs.Gains.{Ahead}
 use Rattle.state.proofs.TurnGains.{Turned, unnoted, noted, turned}
 use Rattle.state.proofs.Sanity.{takenOf, Sure, taken-took, start-is}
 use Rattle.state.proofs.Written.{inOrder, in-order-cons, Kept, kept-start, kept-turn, kept-end}
 use Rattle.state.proofs.Tallied.{traced-ranges}
-use Rattle.columns.specs.Columns.{maxRecords, clocks, neverFall}
+use Rattle.columns.specs.Columns.{clocks, neverFall}
 use Rattle.columns.specs.Claims.{Such}
 
 -- ---- Records, newest first, behind a clock

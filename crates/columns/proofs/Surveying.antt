@@ -1,33 +1,29 @@
 -- The first walk over columns, pure: number by number, column by column, and what the walk that then begins will find.
-use Prim.Native.Nat.{ℕ, zero, suc, _+_, _*_, _-_, _≤_, _<_, zero-le}
+use Prim.Native.Nat.{ℕ, suc, _+_, _*_, _-_, _≤_, _<_, zero-le}
 use native.Mathlib.Nat.{add-zero}
 use native.Mathlib.Omega.{arith}
-use mathlib.Core.Bool.{Bool, true, false, cond, _&&_}
-use mathlib.Core.List.{List, [], _∷_, _++_}
-use mathlib.Core.Option.{Option, none, some}
+use mathlib.Core.List.{List, [], _∷_}
+use mathlib.Core.Option.{none, some}
 use mathlib.Core.Path.{_≡_, refl, sym, ap, subst, _∙_}
-use lib.Dec.{leb, ltb, eqb}
-use lib.ListN.{length, drop, length-append}
-use borrow.Author.Tests.{eq-eqb, ne-eqb, le-ltb, leb-true}
-use Rattle.machine.specs.Limits.{maxClock, maxTransaction, maxBlocks, maxNumberBytes, maxNumber}
+use lib.ListN.{length, length-append}
+use borrow.Author.Tests.{ne-eqb}
+use Rattle.machine.specs.Limits.{maxClock, maxTransaction, maxBlocks}
 use Rattle.machine.specs.Number.{numberBytes}
-use Rattle.machine.specs.Parser.{Cursor, Parsed, parsed, refused, Parser, continue, ask, times, field}
+use Rattle.machine.specs.Parser.{Cursor, Parsed, parsed, refused, continue, ask, times, field}
 use Rattle.machine.specs.Decode.{atEnd}
 use Rattle.machine.specs.Trace.{Record, traceBytes}
 use Rattle.codec.specs.declared.Field.{Field}
 use Rattle.codec.specs.declared.Field.the-variants.{Value, Refused as NoField}
 use Rattle.codec.specs.Answers.{cursorAt, parsedOf}
-use Rattle.codec.proofs.Fields.{both-true}
 use Rattle.codec.proofs.Groups.{Bytes}
-use Rattle.codec.proofs.Numbers.{numberBytes-length, numberBytes-longest, numberBytes-reads}
+use Rattle.codec.proofs.Numbers.{numberBytes-longest}
 use Rattle.columns.specs.declared.walk.Walk.{Walk}
-use Rattle.columns.specs.declared.survey.Clocks.{Clocks}
 use Rattle.columns.specs.declared.survey.Clocks.the-variants.{End as ClocksEnd, Refused as NoClocks}
-use Rattle.columns.specs.declared.survey.Column.{Column}
 use Rattle.columns.specs.declared.survey.Column.the-variants.{End as ColumnEnd, Refused as NoColumn}
-use Rattle.columns.specs.Columns.{maxRecords, differences, column, neverFall, rows, clocksFrom, columnFields, recordsOf, takenColumns}
-use Rattle.columns.specs.Walks.{sized, ends, numberOr, numberAt, later, found, passed, foundAll, Holds}
-use Rattle.columns.proofs.Parsing.{Stands, stands-first, stands-rest, Between, ColumnTaken, column-taken, Below, ClocksTaken, clocks-taken}
+use Rattle.columns.specs.Columns.{maxRecords, differences, column, rows, clocksFrom, columnFields, recordsOf, takenColumns}
+use Rattle.columns.specs.Walks.{sized, ends, foundAll, Holds}
+use Rattle.columns.proofs.Parsing.{ColumnTaken, column-taken, ClocksTaken, clocks-taken}
+use Rattle.columns.proofs.Finding.{found-rows}
 use Rattle.columns.proofs.Pieces.{split, columns-parsed}
 
 pub nine : (r v : ℕ) → r ≡ length (numberBytes v) → r ≤ 9
@@ -145,115 +141,6 @@ module _ (s : List ℕ) (bytes : Bytes s) where
         taken-is = subst (ClocksTaken s n 0 at (x .0)) c t;
         size-is = omega (arith, x .4);
       }
-
--- ---- The records that a walk finds
-
-module _ (s : List ℕ) where
-  number-stands : (at v : ℕ) (l : List ℕ) (end : ℕ) → v ≤ maxNumber → Stands s at (v ∷ l) end →
-      numberAt s at ≡ record { value = v; next = at + length (numberBytes v) }
-  unfolding numberOr
-  number-stands at v l end small h =
-      let fits = numberBytes-length 4 v (omega arith) in
-      rw (stands-first s at v l end h, numberBytes-reads maxNumberBytes maxNumber v (column l ++ drop end s) small (omega arith) fits)
-
-  later-is : (clock d : ℕ) → clock + d ≤ maxClock → later clock d ≡ clock + d
-  unfolding later
-  later-is clock d h = rw (le-ltb (maxClock - clock) d (omega arith))
-
-  -- the four columns from a walk's positions on
-  record Ahead (t : Walk) (cs ts bs os : List ℕ) : Type 0 where
-    limit : t .clock ≤ maxClock
-    rises : neverFall (t .clock) cs ≡ true
-    below : Below cs
-    ts-between : Between 1 maxTransaction ts
-    bs-between : Between 1 maxBlocks bs
-    os-between : Between 0 1 os
-    e0 : ℕ
-    e1 : ℕ
-    e2 : ℕ
-    e3 : ℕ
-    cs-stand : Stands s (t .differences) (differences (t .clock) cs) e0
-    ts-stand : Stands s (t .transactions) ts e1
-    bs-stand : Stands s (t .blocks) bs e2
-    os-stand : Stands s (t .outcomes) os e3
-
-  module _ (t : Walk) (c n b o : ℕ) (cs ts bs os : List ℕ) (h : Ahead t (c ∷ cs) (n ∷ ts) (b ∷ bs) (o ∷ os)) where
-    abbrev next : Walk
-    next = record {
-      at = t .at;
-      clock = c;
-      differences = t .differences + length (numberBytes (c - t .clock));
-      transactions = t .transactions + length (numberBytes n);
-      blocks = t .blocks + length (numberBytes b);
-      outcomes = t .outcomes + length (numberBytes o);
-    }
-
-    up : (t .clock ≤ c) × (neverFall c cs ≡ true)
-    up = let x = both-true (leb (t .clock) c) (neverFall c cs) (unfold neverFall in h .rises) in (leb-true _ _ (x .0), x .1)
-
-    difference-first : Stands s (t .differences) ((c - t .clock) ∷ differences c cs) (h .e0)
-    difference-first = unfold differences in h .cs-stand
-
-    clock-is : later (t .clock) (c - t .clock) ≡ c
-    clock-is =
-        let back : t .clock + (c - t .clock) ≡ c = omega (arith, up .0) in
-        later-is (t .clock) (c - t .clock) (omega (arith, h .below .0)) ∙ back
-
-    found-one : found s t ≡ record { clock = c; transaction = n; block = b; outcome = o }
-    unfolding found
-    found-one =
-        rw (
-          number-stands (t .differences) (c - t .clock) (differences c cs) (h .e0) (omega (arith, h .below .0)) difference-first,
-          number-stands (t .transactions) n ts (h .e1) (omega (arith, h .ts-between .0 .1)) (h .ts-stand),
-          number-stands (t .blocks) b bs (h .e2) (omega (arith, h .bs-between .0 .1)) (h .bs-stand),
-          number-stands (t .outcomes) o os (h .e3) (omega (arith, h .os-between .0 .1)) (h .os-stand),
-          clock-is,
-        )
-
-    passed-one : passed s t (t .at) ≡ next
-    unfolding passed
-    passed-one =
-        rw (
-          number-stands (t .differences) (c - t .clock) (differences c cs) (h .e0) (omega (arith, h .below .0)) difference-first,
-          number-stands (t .transactions) n ts (h .e1) (omega (arith, h .ts-between .0 .1)) (h .ts-stand),
-          number-stands (t .blocks) b bs (h .e2) (omega (arith, h .bs-between .0 .1)) (h .bs-stand),
-          number-stands (t .outcomes) o os (h .e3) (omega (arith, h .os-between .0 .1)) (h .os-stand),
-          clock-is,
-        )
-
-    ahead-next : Ahead next cs ts bs os
-    ahead-next =
-        record {
-          limit = h .below .0;
-          rises = up .1;
-          below = h .below .1;
-          ts-between = h .ts-between .1;
-          bs-between = h .bs-between .1;
-          os-between = h .os-between .1;
-          e0 = h .e0;
-          e1 = h .e1;
-          e2 = h .e2;
-          e3 = h .e3;
-          cs-stand = stands-rest s (t .differences) (c - t .clock) (differences c cs) (h .e0) difference-first;
-          ts-stand = stands-rest s (t .transactions) n ts (h .e1) (h .ts-stand);
-          bs-stand = stands-rest s (t .blocks) b bs (h .e2) (h .bs-stand);
-          os-stand = stands-rest s (t .outcomes) o os (h .e3) (h .os-stand);
-        }
-
-  found-rows : (n : ℕ) (cs ts bs os : List ℕ) → length cs ≡ n → length ts ≡ n → length bs ≡ n → length os ≡ n → (t : Walk) → Ahead t cs ts bs os →
-      foundAll n s t ≡ rows cs ts bs os
-  unfolding foundAll rows
-  found-rows zero [] ts bs os e f g i t h = refl
-  found-rows zero (c ∷ cs) ts bs os e f g i t h = absurd (omega arith)
-  found-rows (suc n) [] ts bs os e f g i t h = absurd (omega arith)
-  found-rows (suc n) (c ∷ cs) [] bs os e f g i t h = absurd (omega arith)
-  found-rows (suc n) (c ∷ cs) (x ∷ ts) [] os e f g i t h = absurd (omega arith)
-  found-rows (suc n) (c ∷ cs) (x ∷ ts) (b ∷ bs) [] e f g i t h = absurd (omega arith)
-  found-rows (suc n) (c ∷ cs) (x ∷ ts) (b ∷ bs) (o ∷ os) e f g i t h =
-      let rest = found-rows n cs ts bs os (omega arith) (omega arith) (omega arith) (omega arith) (next t c x b o cs ts bs os h) (ahead-next t c x b o cs ts bs os h) in
-      ap (λ (r : Record). r ∷ foundAll n s (passed s t (t .at))) (found-one t c x b o cs ts bs os h)
-      ∙ ap (λ (w : Walk). record { clock = c; transaction = x; block = b; outcome = o } ∷ foundAll n s w) (passed-one t c x b o cs ts bs os h)
-      ∙ ap (λ (l : List Record). record { clock = c; transaction = x; block = b; outcome = o } ∷ l) rest
 
 pub column-longest : (l : List ℕ) → length (column l) ≤ 9 * length l
 unfolding column

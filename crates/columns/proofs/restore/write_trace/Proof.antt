@@ -7,7 +7,6 @@ use lib.ListN.{length}
 use Rattle.machine.specs.Limits.{maxClock}
 use Rattle.columns.specs.Walks.{restoreAll}
 use Rattle.columns.proofs.Restoring.{restore-more, restore-none}
-use borrow.Author.Needs.{needs}
 use Rattle.columns.proofs.restore.write_trace.Statement.{statement}
 use Rattle.columns.proofs.restore.write_trace.Tie as tie
 
