@@ -148,18 +148,18 @@ pub extern "C" fn covrith_columns(trace: &[u8], out: &mut [u8], written: &mut u6
 
 // Columns to the trace that produces them.
 #[no_mangle]
-pub extern "C" fn covrith_uncolumns(columns: &[u8], out: &mut [u8], written: &mut u64) -> u32
+pub extern "C" fn covrith_uncolumns(columns: &[u8], out: &mut [u8], size: &mut u64) -> u32
     ensures { λ r. ⌜ r ≡ writeAnswer (fromColumns (now (columns .entry)) (length (now (out .entry)))) ⌝ }
-    ensures { λ _. ⌜ now (written .exit) ≡ writeCount (fromColumns (now (columns .entry)) (length (now (out .entry)))) ⌝ }
+    ensures { λ _. ⌜ now (size .exit) ≡ writeCount (fromColumns (now (columns .entry)) (length (now (out .entry)))) ⌝ }
     ensures { λ _. ⌜ now (out .exit) ≡ after (fromColumns (now (columns .entry)) (length (now (out .entry)))) (now (out .entry)) ⌝ }
 {
     match columns::from_columns(columns, out) {
         Written::Bytes(n) => {
-            *written = n as u64;
+            *size = n as u64;
             0
         }
         Written::Refused(n) => {
-            *written = 0;
+            *size = 0;
             n
         }
     }
