@@ -165,27 +165,27 @@ pub extern "C" fn covrith_uncolumns(columns: &[u8], out: &mut [u8], size: &mut u
     }
 }
 
-// Makes a tape from a stream and distributions. `written` gets the number of its bytes, 0 for a refusal.
+// Makes a tape from a stream and distributions. `used` gets the number of its bytes, 0 for a refusal.
 #[no_mangle]
 pub extern "C" fn covrith_make_tape(
     stream: u32,
     lists: &[u32],
     numbers: &[f64],
     tape: &mut [u8],
-    written: &mut u64,
+    used: &mut u64,
 ) -> u32
     ensures { λ r. ⌜ r ≡ tapeAnswer (makeTape stream (now (lists .entry)) (now (numbers .entry)) (length (now (tape .entry)))) ⌝ }
-    ensures { λ _. ⌜ now (written .exit) ≡ tapeCount (makeTape stream (now (lists .entry)) (now (numbers .entry)) (length (now (tape .entry)))) ⌝ }
+    ensures { λ _. ⌜ now (used .exit) ≡ tapeCount (makeTape stream (now (lists .entry)) (now (numbers .entry)) (length (now (tape .entry)))) ⌝ }
     ensures { λ _. ⌜ now (tape .exit) ≡ leaves (makeTape stream (now (lists .entry)) (now (numbers .entry)) (length (now (tape .entry)))) (now (tape .entry)) ⌝ }
     ensures { λ _. ⌜ Accepts stream (now (lists .entry)) (now (numbers .entry)) (length (now (tape .entry))) ⌝ }
 {
     match tapes::make(stream, lists, numbers, tape) {
         Made::Bytes(n) => {
-            *written = n as u64;
+            *used = n as u64;
             0
         }
         Made::Refused(n) => {
-            *written = 0;
+            *used = 0;
             n
         }
     }
