@@ -31,7 +31,7 @@ from covrith_names import End, Kind, NoReport, Place, Refusal, Refused
 from covrith_report import Header, Living, Queue, Report, Server
 
 __all__ = [
-    "run", "load", "Run", "Header", "Report", "Server", "Queue", "Living", "Record", "records", "record_bytes", "count", "draws",
+    "run", "load", "Run", "Header", "Report", "Server", "Queue", "Living", "Record", "records", "record_bytes", "count", "to_columns", "from_columns", "draws",
     "End", "Kind", "NoReport", "Place", "Refusal", "Refused", "Model", "tape", "CLOCK", "bracket", "comparison", "constant", "content",
     "entries", "in_use", "parameter", "summed", "units_free", "units_in_use", "value",
     "BUDGET", "REPORT_BYTES", "TRACE_BYTES", "WORK_NUMBERS",
@@ -71,6 +71,8 @@ _FUNCTIONS: Dict[str, Tuple[Any, List[Any]]] = {
     "covrith_count": (_NUMBER, [_IN, _LENGTH]),
     "covrith_stream_start": (_ANSWER, [ctypes.c_uint32, _OUT32]),
     "covrith_stream_step": (ctypes.c_uint32, [ctypes.c_uint32]),
+    "covrith_columns": (_ANSWER, [_IN, _LENGTH, _OUT, _LENGTH, _OUT64]),
+    "covrith_uncolumns": (_ANSWER, [_IN, _LENGTH, _OUT, _LENGTH, _OUT64]),
 }
 
 
@@ -168,6 +170,25 @@ def count(trace: BytesLike) -> int:
     """How many bytes are below 80 hexadecimal: of a trace that reads, four for each record."""
     data = lent("trace", trace)
     return _library().covrith_count(data, len(data))
+
+
+def to_columns(trace: BytesLike) -> bytes:
+    """The columns of a trace (docs/COLUMNS.md); `Refused` where it is not taken."""
+    data = lent("trace", trace)
+    return _turned(_library().covrith_columns, data, len(data) + 4)
+
+
+def from_columns(columns: BytesLike) -> bytes:
+    """The trace that produces these columns; `Refused` where none does."""
+    data = lent("columns", columns)
+    return _turned(_library().covrith_uncolumns, data, 2 * len(data))
+
+
+def _turned(turn: Any, data: bytes, room: int) -> bytes:
+    out = _buffer(ctypes.c_uint8, room)
+    written = _buffer(ctypes.c_uint64, 1)
+    _accepted(turn(data, len(data), out, room, written))
+    return bytes(out[: written[0]])
 
 
 # ---------------------------------------------------------------------------------------------------------------------------

@@ -156,6 +156,17 @@ def deep(brackets):
         self.assertEqual(list(ahead), list(itertools.islice(covrith.draws(511), 3)))
         self.refused(41, covrith.draws, 512)
 
+    def test_columns(self):
+        trace = bytes([3, 1, 1, 0, 5, 1, 2, 0])
+        columns = covrith.to_columns(trace)
+        self.assertEqual(columns, bytes([2, 3, 2, 1, 1, 1, 2, 0, 0]))
+        self.assertEqual(covrith.from_columns(columns), trace)
+        self.assertEqual(covrith.to_columns(b""), b"\0")
+        self.assertEqual(covrith.from_columns(b"\0"), b"")
+        self.refused(51, covrith.to_columns, trace[:-1])
+        self.refused(51, covrith.from_columns, columns + b"\0")
+        self.assertRaises(TypeError, covrith.to_columns, None)
+
 
 class Reports(unittest.TestCase):
     HEADER = Header(1, 1, [3], 1)
