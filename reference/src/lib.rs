@@ -8,6 +8,7 @@ pub mod claims;
 pub mod columns;
 pub mod coverage;
 pub mod decode;
+pub mod drawing;
 pub mod generate;
 pub mod join;
 pub mod line;
