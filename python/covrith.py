@@ -24,14 +24,15 @@ from dataclasses import dataclass
 from typing import Any, Dict, Iterable, Iterator, List, NamedTuple, Optional, Sequence, Tuple, Union
 
 from covrith_lists import (
-    CLOCK, BytesLike, Model, bracket, comparison, constant, content, entries, in_use, lent, model_bytes, parameter, sequence, summed, tape,
-    tape_bytes, units_free, units_in_use, value, whole,
+    CLOCK, BytesLike, Curve, Distribution, Fixed, Model, Spread, bracket, comparison, constant, content, entries, in_use, lent, model_bytes,
+    parameter, sequence, summed, tape, tape_arguments, tape_bytes, units_free, units_in_use, value, whole,
 )  # fmt: skip
 from covrith_names import End, Kind, NoReport, Place, Refusal, Refused
 from covrith_report import Header, Living, Queue, Report, Server
 
 __all__ = [
     "run", "load", "Run", "Header", "Report", "Server", "Queue", "Living", "Record", "records", "record_bytes", "count", "to_columns", "from_columns", "draws",
+    "make_tape", "Distribution", "Fixed", "Spread", "Curve",
     "End", "Kind", "NoReport", "Place", "Refusal", "Refused", "Model", "tape", "CLOCK", "bracket", "comparison", "constant", "content",
     "entries", "in_use", "parameter", "summed", "units_free", "units_in_use", "value",
     "BUDGET", "REPORT_BYTES", "TRACE_BYTES", "WORK_NUMBERS",
@@ -49,6 +50,10 @@ TRACE_BYTES = 65_536
 _RECORD_BYTES = 12
 _MOST_LENT = _RECORD_BYTES * 100_000_000
 
+# The most bytes of a count or a time of a tape that is drawn, and the most times of a list.
+_TIME_BYTES = 3
+_MOST_TIMES = 65_535
+
 # What the reader of records answers at or past the end.
 _NO_MORE = 30
 
@@ -59,6 +64,8 @@ _IN = ctypes.c_char_p  # lent bytes, never None
 _OUT = ctypes.POINTER(ctypes.c_uint8)
 _OUT32 = ctypes.POINTER(ctypes.c_uint32)
 _OUT64 = ctypes.POINTER(ctypes.c_uint64)
+_IN32 = ctypes.POINTER(ctypes.c_uint32)
+_DOUBLES = ctypes.POINTER(ctypes.c_double)
 _LENGTH = ctypes.c_size_t
 _NUMBER = ctypes.c_uint64
 _ANSWER = ctypes.c_uint32
@@ -71,6 +78,7 @@ _FUNCTIONS: Dict[str, Tuple[Any, List[Any]]] = {
     "covrith_count": (_NUMBER, [_IN, _LENGTH]),
     "covrith_stream_start": (_ANSWER, [ctypes.c_uint32, _OUT32]),
     "covrith_stream_step": (ctypes.c_uint32, [ctypes.c_uint32]),
+    "covrith_make_tape": (_ANSWER, [ctypes.c_uint32, _IN32, _LENGTH, _DOUBLES, _LENGTH, _OUT, _LENGTH, _OUT64]),
     "covrith_columns": (_ANSWER, [_IN, _LENGTH, _OUT, _LENGTH, _OUT64]),
     "covrith_uncolumns": (_ANSWER, [_IN, _LENGTH, _OUT, _LENGTH, _OUT64]),
 }
@@ -102,7 +110,7 @@ def _accepted(answer: int, position: Optional[int] = None) -> None:
 
 
 # ---------------------------------------------------------------------------------------------------------------------------
-# Streams
+# Streams and tapes
 
 
 def draws(stream: int) -> Iterator[int]:
@@ -117,6 +125,22 @@ def _draws(state: int) -> Iterator[int]:
     while True:
         state = step(state)
         yield state
+
+
+def make_tape(stream: int, lists: Sequence[Tuple[Distribution, int]]) -> bytes:
+    """The tape that a stream draws, list by list: each is a `Fixed`, `Spread` or `Curve` and how many times are drawn from it.
+
+    `Refused` with 41 for a stream above 511, with 42 for a distribution or a count outside its rules.
+    """
+    stream = whole("stream", stream, 0, 2**32 - 1)
+    numbers, doubles = tape_arguments(lists)
+    # A count above the limit is refused before anything is written, so that it wants no room.
+    room = _TIME_BYTES * sum(1 + count for count in numbers[1::4] if count <= _MOST_TIMES)
+    given, values = _buffer(ctypes.c_uint32, len(numbers)), _buffer(ctypes.c_double, len(doubles))
+    given[: len(numbers)], values[: len(doubles)] = numbers, doubles
+    data, written = _buffer(ctypes.c_uint8, room), _buffer(ctypes.c_uint64, 1)
+    _accepted(_library().covrith_make_tape(stream, given, len(numbers), values, len(doubles), data, room, written))
+    return ctypes.string_at(data, written[0])
 
 
 # ---------------------------------------------------------------------------------------------------------------------------

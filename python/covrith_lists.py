@@ -33,6 +33,16 @@ def whole(name: str, given: int, low: int, high: Optional[int] = None) -> int:
     return number
 
 
+def double(name: str, given: float) -> float:
+    """A double; the engine judges its value."""
+    if isinstance(given, (bool, str)) or not (hasattr(given, "__float__") or hasattr(given, "__index__")):
+        raise TypeError(f"{name}: expected a number, got {type(given).__name__}")
+    try:
+        return float(given)
+    except OverflowError:
+        raise ValueError(f"{name}: too large for a double") from None
+
+
 def sequence(name: str, given: Any) -> Sequence[Any]:
     """A list or tuple."""
     if not isinstance(given, (list, tuple)):
@@ -208,6 +218,66 @@ def tape(lists: Sequence[Iterable[int]]) -> bytes:
         for time in (len(numbers), *numbers):
             data += number_bytes(time)
     return bytes(data)
+
+
+# ---------------------------------------------------------------------------------------------------------------------------
+# Distributions
+
+
+@dataclass(frozen=True)
+class Fixed:
+    """The same time always; it draws nothing."""
+
+    time: float
+
+
+@dataclass(frozen=True)
+class Spread:
+    """Times from mean - half to mean + half, evenly."""
+
+    mean: float
+    half: float
+
+
+@dataclass(frozen=True)
+class Curve:
+    """Times on the line through points of u and time, u rising from 0 to 1."""
+
+    points: Sequence[Tuple[float, float]]
+
+
+Distribution = Union[Fixed, Spread, Curve]
+
+
+def tape_arguments(lists: Sequence[Tuple[Distribution, int]]) -> Tuple[List[int], List[float]]:
+    """The numbers and doubles of a call, as include/covrith.h describes them."""
+    numbers: List[int] = []
+    doubles: List[float] = []
+    for number, given in enumerate(sequence("lists", lists), 1):
+        name = f"list {number} of the tape"
+        if len(sequence(name, given)) != 2:
+            raise ValueError(f"{name}: expected a distribution and a count, got {given!r}")
+        distribution, count = given
+        kind, points = 0, 0
+        if isinstance(distribution, Fixed):
+            own = [distribution.time]
+        elif isinstance(distribution, Spread):
+            kind, own = 1, [distribution.mean, distribution.half]
+        elif isinstance(distribution, Curve):
+            kind, points, own = 2, len(sequence(name, distribution.points)), []
+            for point in distribution.points:
+                if len(sequence(name, point)) != 2:
+                    raise ValueError(f"{name}: expected points of u and time, got {point!r}")
+                own += point
+        else:
+            raise TypeError(f"{name}: expected a Fixed, Spread or Curve, got {type(distribution).__name__}")
+        numbers += [kind, whole(f"count of {name}", count, 0, 2**32 - 1), len(doubles), points]
+        doubles += [double(name, one) for one in own]
+    return numbers, doubles
+
+
+# ---------------------------------------------------------------------------------------------------------------------------
+# What a run is given
 
 
 def model_bytes(given: Union[BytesLike, Model]) -> bytes:

@@ -141,14 +141,6 @@ class Refusals(unittest.TestCase):
         self.refused(32, covrith.record_bytes, (0, 0, 1, 0))
         self.refused(32, covrith.record_bytes, Record(2**64 - 1, 1, 1, 0))
 
-
-def deep(brackets):
-    """a value with this many brackets inside each other"""
-    term = covrith.CLOCK
-    for _ in range(brackets):
-        term = covrith.bracket(("+", term))
-    return covrith.summed(("+", term))
-
     def test_draws(self):
         self.assertEqual(list(itertools.islice(covrith.draws(0), 3)), [16_807, 282_475_249, 1_622_650_073])
         self.assertEqual(next(itertools.islice(covrith.draws(0), 9_999, None)), 1_043_618_065)
@@ -166,6 +158,30 @@ def deep(brackets):
         self.refused(51, covrith.to_columns, trace[:-1])
         self.refused(51, covrith.from_columns, columns + b"\0")
         self.assertRaises(TypeError, covrith.to_columns, None)
+
+    def test_make_tape(self):
+        lists = [(covrith.Spread(12.5, 4), 3), (covrith.Fixed(7), 2), (covrith.Curve([(0, 1), (0.5, 3), (1, 10)]), 2)]
+        self.assertEqual(covrith.make_tape(0, lists), bytes([3, 8, 9, 14, 2, 7, 7, 2, 2, 3]))
+        self.assertEqual(covrith.make_tape(0, [(covrith.Fixed(2.75), 1)]), bytes([1, 2]))
+        self.assertEqual(covrith.make_tape(511, []), b"")
+        sixteen = covrith.make_tape(3, [(covrith.Fixed(1_000_000), 65_535)] * 16)
+        self.assertEqual(len(sixteen), 16 * 3 * 65_536)
+        self.refused(41, covrith.make_tape, 512, [(covrith.Fixed(-1), 1)])
+        for wrong in (
+            (covrith.Fixed(-1), 1), (covrith.Fixed(1 / 128), 1), (covrith.Fixed(float("nan")), 1), (covrith.Fixed(7), 65_536),
+            (covrith.Spread(4, 4.5), 1), (covrith.Spread(500_001, 0), 1), (covrith.Curve([(0, 1)]), 1), (covrith.Curve([(0, 2), (1, 1)]), 1),
+            (covrith.Curve([]), 0),
+        ):  # fmt: skip
+            self.refused(42, covrith.make_tape, 0, [wrong])
+        self.refused(42, covrith.make_tape, 0, [(covrith.Fixed(7), 1)] * 17)
+
+
+def deep(brackets):
+    """a value with this many brackets inside each other"""
+    term = covrith.CLOCK
+    for _ in range(brackets):
+        term = covrith.bracket(("+", term))
+    return covrith.summed(("+", term))
 
 
 class Reports(unittest.TestCase):
@@ -207,6 +223,11 @@ class WrongArguments(unittest.TestCase):
                 lambda: covrith.record_bytes(wrong),
                 lambda: covrith.tape(wrong),
                 lambda: covrith.tape([wrong]),
+                lambda: covrith.make_tape(0, wrong),
+                lambda: covrith.make_tape(0, [wrong]),
+                lambda: covrith.make_tape(0, [(wrong, 1)]),
+                lambda: covrith.make_tape(0, [(covrith.Curve(wrong), 1)]),
+                lambda: covrith.make_tape(0, [(covrith.Curve([wrong]), 1)]),
                 lambda: Header.read(wrong),
                 lambda: Report.read(wrong, Reports.HEADER),
                 lambda: Report.read(Reports.REPORT, wrong),
@@ -223,6 +244,11 @@ class WrongArguments(unittest.TestCase):
             self.assertRaises(TypeError, covrith.tape, [[1, wrong]])
             self.assertRaises(TypeError, covrith.draws, wrong)
             self.assertRaises(TypeError, bytes, Model([], facilities=wrong))
+            self.assertRaises(TypeError, covrith.make_tape, wrong, [])
+            self.assertRaises(TypeError, covrith.make_tape, 0, [(covrith.Fixed(7), wrong)])
+        for wrong in (None, "1", b"1", [1], True):
+            self.assertRaises(TypeError, covrith.make_tape, 0, [(covrith.Fixed(wrong), 1)])
+            self.assertRaises(TypeError, covrith.make_tape, 0, [(covrith.Curve([(0, 1), (1, wrong)]), 1)])
 
     def test_ranges(self):
         for name in ("budget", "trace_bytes", "work_numbers", "report_bytes"):
@@ -232,6 +258,9 @@ class WrongArguments(unittest.TestCase):
             self.assertRaises(ValueError, covrith.record_bytes, wrong)
         self.assertRaises(ValueError, covrith.tape, [[-1]])
         self.assertRaises(ValueError, covrith.draws, -1)
+        for wrong in ((), (covrith.Fixed(7),), (covrith.Fixed(7), -1), (covrith.Fixed(7), 2**32), (covrith.Fixed(10**400), 1), (covrith.Curve([(0,)]), 1)):
+            self.assertRaises(ValueError, covrith.make_tape, 0, [wrong])
+        self.assertRaises(ValueError, covrith.make_tape, -1, [])
         for wrong in ([()], [("SEIZE",)], [("SEIZE", 1, 1)], [("SIEZE", 1)], [(99, 1)], [("SEIZE", -1)], [("WAITIF_SERVER", "X", 1)]):
             self.assertRaises(ValueError, bytes, Model(wrong))
         self.assertRaises(ValueError, covrith.summed, covrith.content(1))

@@ -79,6 +79,11 @@ fn others() {
 }
 
 #[test]
+fn tapes() {
+    session("tapes");
+}
+
+#[test]
 fn usage() {
     session("usage");
 }

@@ -20,22 +20,44 @@ pub struct Drawn {
     pub count: u32,
 }
 
-/// A word of a line and the column where it begins.
-type Word<'a> = (usize, &'a str);
+/// A word and where it begins.
+type Word<'a> = (Position, &'a str);
+
+/// The lines of a list: its name and the words behind it.
+struct Entry<'a> {
+    name: &'a str,
+    at: Position,
+    words: Vec<Word<'a>>,
+    /// Behind the last word.
+    end: Position,
+}
 
 const FORMS: &str = "write `fixed 7`, `spread 12.5 +- 4` or `curve 0:1 0.5:3 1:10`";
-const COUNT: &str = "a line ends with how often a time is drawn: `, 200 times`";
+const COUNT: &str = "a list ends with how often a time is drawn: `, 200 times`";
 
-/// The lists of a text in their order.
+/// The lists of a text in their order. A line that begins with a digit or a comma goes on with the list before it.
 pub fn read(text: &str) -> Result<Vec<Drawn>, Vec<Fault>> {
-    let mut lists = Vec::new();
-    let mut faults = Vec::new();
+    let mut entries: Vec<Result<Entry, Fault>> = Vec::new();
     for (i, source) in text.lines().enumerate() {
         let source = source.split(';').next().unwrap_or_default();
-        if source.trim().is_empty() || source.trim_start().starts_with('*') {
+        let front = source.trim_start();
+        if front.is_empty() || front.starts_with('*') {
             continue;
         }
-        match line(source, i + 1) {
+        match entries.last_mut() {
+            Some(entry) if front.starts_with(|c: char| c.is_ascii_digit() || c == ',') => {
+                if let Ok(entry) = entry {
+                    entry.words.extend(words(source, i + 1, 1));
+                    entry.end = behind(source, i + 1);
+                }
+            }
+            _ => entries.push(head(source, i + 1)),
+        }
+    }
+    let mut lists = Vec::new();
+    let mut faults = Vec::new();
+    for entry in entries {
+        match entry.and_then(drawn) {
             Ok(list) => lists.push(list),
             Err(fault) => faults.push(fault),
         }
@@ -72,66 +94,74 @@ pub fn arguments(lists: &[Drawn]) -> (Vec<u32>, Vec<f64>) {
     (numbers, doubles)
 }
 
-fn line(source: &str, number: usize) -> Result<Drawn, Fault> {
-    let place = |column: usize| Position::at(number, column);
-    let end = source.trim_end().chars().count() + 1;
-    let Some((front, behind)) = source.split_once(':') else {
+/// The first line of a list.
+fn head(source: &str, line: usize) -> Result<Entry<'_>, Fault> {
+    let Some((front, rest)) = source.split_once(':') else {
         return Err(Fault::at(
-            place(1),
+            Position::at(line, 1),
             "`:` is expected behind the name of a list",
             "write `name: distribution, count times`",
         ));
     };
     let name = front.trim();
     let start = front.chars().take_while(|c| c.is_whitespace()).count() + 1;
+    let at = Position::at(line, start);
     if !named(name) {
         return Err(Fault::at(
-            place(start),
+            at,
             "a line begins with the name of a list",
             "names have letters, digits and `_`, and begin with a letter",
         ));
     }
-    let words = words(behind, front.chars().count() + 2);
-    let comma = words.iter().position(|(_, word)| *word == ",");
-    let Some(comma) = comma else {
-        return Err(Fault::at(
-            place(end),
-            "the count of times is missing",
-            COUNT,
-        ));
+    Ok(Entry {
+        name,
+        at,
+        words: words(rest, line, front.chars().count() + 2),
+        end: behind(source, line),
+    })
+}
+
+fn behind(source: &str, line: usize) -> Position {
+    Position::at(line, source.trim_end().chars().count() + 1)
+}
+
+/// The list of an entry.
+fn drawn(entry: Entry) -> Result<Drawn, Fault> {
+    let Entry {
+        name,
+        at,
+        words,
+        end,
+    } = entry;
+    let Some(comma) = words.iter().position(|(_, word)| *word == ",") else {
+        return Err(Fault::at(end, "the count of times is missing", COUNT));
     };
     let count = match words[comma + 1..] {
         [(at, count), (_, "times" | "time")] => count
             .parse()
-            .map_err(|_| Fault::at(place(at), format!("`{count}` is no count"), COUNT))?,
+            .map_err(|_| Fault::at(at, format!("`{count}` is no count"), COUNT))?,
         _ => {
             let at = words.get(comma + 1).map_or(end, |word| word.0);
-            return Err(Fault::at(
-                place(at),
-                "the count of times is expected",
-                COUNT,
-            ));
+            return Err(Fault::at(at, "the count of times is expected", COUNT));
         }
     };
     let form = match words[..comma] {
-        [(_, "fixed"), time] => Form::Fixed(decimal(time, number)?),
-        [(_, "spread"), mean, (_, "+-"), half] => {
-            Form::Spread(decimal(mean, number)?, decimal(half, number)?)
-        }
+        [(_, "fixed"), time] => Form::Fixed(decimal(time)?),
+        [(_, "spread"), mean, (_, "+-"), half] => Form::Spread(decimal(mean)?, decimal(half)?),
         [(_, "curve"), ref points @ ..] => Form::Curve(
             points
                 .iter()
-                .map(|point| pair(*point, number))
+                .map(|point| pair(*point))
                 .collect::<Result<_, _>>()?,
         ),
         _ => {
             let at = words.first().map_or(end, |word| word.0);
-            return Err(Fault::at(place(at), "a distribution is expected", FORMS));
+            return Err(Fault::at(at, "a distribution is expected", FORMS));
         }
     };
     Ok(Drawn {
         name: name.to_string(),
-        at: place(start),
+        at,
         form,
         count,
     })
@@ -142,12 +172,12 @@ fn named(name: &str) -> bool {
         && name.chars().all(|c| c.is_ascii_alphanumeric() || c == '_')
 }
 
-/// Words between spaces; a comma is a word of its own.
-fn words(text: &str, column: usize) -> Vec<Word<'_>> {
+/// Words between spaces; a comma is a word of its own. The text begins at a column of its line.
+fn words(text: &str, line: usize, column: usize) -> Vec<Word<'_>> {
     let mut words = Vec::new();
     let mut start = None;
     for (k, (at, c)) in text.char_indices().enumerate() {
-        let here = column + k;
+        let here = Position::at(line, column + k);
         if c.is_whitespace() || c == ',' {
             if let Some((from, begun)) = start.take() {
                 words.push((begun, &text[from..at]));
@@ -166,26 +196,29 @@ fn words(text: &str, column: usize) -> Vec<Word<'_>> {
 }
 
 /// Digits, perhaps with a point among them.
-fn decimal((at, word): Word, line: usize) -> Result<f64, Fault> {
+fn decimal((at, word): Word) -> Result<f64, Fault> {
     let plain = word.chars().all(|c| c.is_ascii_digit() || c == '.');
     match word.parse() {
         Ok(value) if plain => Ok(value),
         _ => Err(Fault::at(
-            Position::at(line, at),
+            at,
             format!("`{word}` is no number"),
             "numbers are written like 7 or 12.5; times are multiples of 1/64, u of 1/65536",
         )),
     }
 }
 
-fn pair((at, word): Word, line: usize) -> Result<(f64, f64), Fault> {
+fn pair((at, word): Word) -> Result<(f64, f64), Fault> {
     let Some((u, time)) = word.split_once(':') else {
         return Err(Fault::at(
-            Position::at(line, at),
+            at,
             format!("`{word}` is no point of a curve"),
             "a point is u and time with `:` between them, as 0.5:3",
         ));
     };
-    let time_at = at + u.chars().count() + 1;
-    Ok((decimal((at, u), line)?, decimal((time_at, time), line)?))
+    let behind = Position {
+        column: at.column + u.chars().count() as u32 + 1,
+        ..at
+    };
+    Ok((decimal((at, u))?, decimal((behind, time))?))
 }

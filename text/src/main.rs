@@ -1,6 +1,6 @@
 //! `modeltext`: text to bytes and bytes to text.
 
-use modeltext::{read, tape, Fault};
+use modeltext::{distribution, read, tape, Fault};
 use std::process::ExitCode;
 
 const HELP: &str = "\
@@ -10,6 +10,8 @@ modeltext: models and tapes as text and as bytes
   modeltext tape FILE.txt FILE.bin        a tape's text to its bytes
   modeltext show-model FILE.bin           a model's bytes as text, on standard output
   modeltext show-tape FILE.bin            a tape's bytes as text, on standard output
+  modeltext distributions FILE.txt        distributions as a call of the tape maker has them, on standard output: the
+                                          numbers of the lists, and the doubles as 16 hexadecimal digits
   modeltext folder FOLDER                 model.txt and tape.txt of a folder to model.bin and tape.bin
   modeltext --help
 
@@ -29,6 +31,7 @@ fn main() -> ExitCode {
         ["tape", from, to] => assemble(from, to, tape::bytes),
         ["show-model", from] => show(from, modeltext::model_text),
         ["show-tape", from] => show(from, tape::text),
+        ["distributions", from] => show_arguments(from),
         ["folder", folder] => assemble_folder(folder),
         _ => {
             eprint!("{HELP}");
@@ -96,6 +99,23 @@ fn assemble_folder(folder: &str) -> Result<(), String> {
     }
     write(&format!("{folder}/model.bin"), &source.model.bytes())?;
     write(&format!("{folder}/tape.bin"), &bytes.unwrap_or_default())
+}
+
+/// Both with commas between, `-` for none, as `reference/` reads them.
+fn show_arguments(from: &str) -> Result<(), String> {
+    let lists = distribution::read(&text_of(from)?).map_err(|faults| told(from, &faults))?;
+    let (numbers, doubles) = distribution::arguments(&lists);
+    let numbers: Vec<String> = numbers.iter().map(u32::to_string).collect();
+    let doubles: Vec<String> = doubles
+        .iter()
+        .map(|double| format!("{:016x}", double.to_bits()))
+        .collect();
+    let some = |words: Vec<String>| match words.is_empty() {
+        true => "-".to_string(),
+        false => words.join(","),
+    };
+    println!("{} {}", some(numbers), some(doubles));
+    Ok(())
 }
 
 fn show(from: &str, make: fn(&[u8]) -> Result<String, String>) -> Result<(), String> {

@@ -43,3 +43,26 @@ fn faults_have_places() {
         assert!(faults[0].what.contains(what), "{text}: {}", faults[0].what);
     }
 }
+
+#[test]
+fn a_line_without_a_name_goes_on() {
+    let text = "a: curve 0:1\n* half\n   0.5:3\n   1:10\n   , 7 times\nb: fixed 2, 1 time\n";
+    let lists = read(text).unwrap();
+    assert_eq!(lists.len(), 2);
+    assert_eq!(
+        lists[0].form,
+        Form::Curve(vec![(0.0, 1.0), (0.5, 3.0), (1.0, 10.0)])
+    );
+    let places = |text: &str| -> Vec<(u32, u32)> {
+        let faults = read(text).unwrap_err();
+        faults.iter().map(|f| (f.at.line, f.at.column)).collect()
+    };
+    assert_eq!(places("a: curve 0:1\n 0.5:x 1:10, 7 times"), [(2, 6)]);
+    assert_eq!(places("a: curve 0:1\n 1:10"), [(2, 6)]);
+    // what goes on with a line that is wrong is not told again
+    assert_eq!(
+        places("?: curve 0:1\n 1:x, 7 times\nb: fixed"),
+        [(1, 1), (3, 9)]
+    );
+    assert_eq!(places("1:10, 7 times"), [(1, 1)]);
+}
