@@ -2,9 +2,9 @@
 
 use crate::FEL;
 use crate::SERIAL;
-use crate::TIME;
 use crate::cells::priority;
 use crate::cells::read;
+use crate::cells::time;
 ghost use mathlib.Core.Path.{_≡_};
 ghost use Prim.Native.Nat.{_<_};
 ghost use Rattle.rows.specs.Layout.{rowCount};
@@ -33,8 +33,8 @@ pub fn sooner(w: &[u32], x: u32, y: u32) -> bool
     requires { ⌜ y < rowCount ⌝ }
     ensures { λ r. ⌜ r ≡ sooner (now (w .entry)) x y ⌝ }
 {
-    let a = read(w, TIME, x);
-    let b = read(w, TIME, y);
+    let a = time(w, x);
+    let b = time(w, y);
     if a < b {
         return true;
     }
