@@ -70,6 +70,12 @@ module _ (w : List ℕ) (k : ℕ) (room : 16384 ≤ length w) (hk : k < 1024) wh
       rw (apart′ 5 x 0 (omega arith), apart′ 5 x 1 (omega arith), apart′ 5 x 2 (omega arith), apart′ 5 x 3 (omega arith), apart′ 5 x 4 (omega arith), own 5 x (omega arith), apart 5 x 6 (omega arith), apart 5 x 7 (omega arith))
   write-parameter (suc (suc (suc (suc i)))) x h = absurd (omega arith)
 
+  -- a field that is no part of the transaction
+  pub write-beside : (f x : ℕ) → 8 ≤ f → transactionAt (write w f k x) k ≡ transactionAt w k
+  unfolding transactionAt
+  write-beside f x h =
+      rw (apart′ f x 0 (omega arith), apart′ f x 1 (omega arith), apart′ f x 2 (omega arith), apart′ f x 3 (omega arith), apart′ f x 4 (omega arith), apart′ f x 5 (omega arith), apart′ f x 6 (omega arith), apart′ f x 7 (omega arith))
+
 -- the time of a move
 module _ (w : List ℕ) (k : ℕ) (room : 16384 ≤ length w) (hk : k < 1024) (time : ℕ) where
   abbrev low : List ℕ
@@ -78,18 +84,16 @@ module _ (w : List ℕ) (k : ℕ) (room : 16384 ≤ length w) (hk : k < 1024) (t
   low-room : 16384 ≤ length low
   low-room = simp length-store room
 
-  low-kept : (f : ℕ) → f < 8 → read (setTime w k time) f k ≡ read w f k
-  unfolding setTime
-  low-kept f h =
-      load-other low (fieldAt 9 k) _ (fieldAt f k) (λ e. omega arith) ∙ load-other w (fieldAt 8 k) _ (fieldAt f k) (λ e. omega arith)
-
-  time-set : timeOf (setTime w k time) k ≡ time
+  pub time-set : timeOf (setTime w k time) k ≡ time
   unfolding timeOf setTime
   time-set =
       rw (load-same low (fieldAt 9 k) (time / 4294967296) low-room (omega arith), load-other low (fieldAt 9 k) (time / 4294967296) (fieldAt 8 k) (λ e. omega arith), load-same w (fieldAt 8 k) (time % 4294967296) room (omega arith))
       (omega arith)
 
+  pub time-beside : transactionAt (setTime w k time) k ≡ transactionAt w k
+  unfolding setTime
+  time-beside = write-beside low k low-room hk 9 _ (omega arith) ∙ write-beside w k room hk 8 _ (omega arith)
+
   pub write-time : eventAt (setTime w k time) k ≡ record { time = time; who = transactionAt w k }
-  unfolding eventAt transactionAt
-  write-time =
-      rw (time-set, low-kept 0 (omega arith), low-kept 1 (omega arith), low-kept 2 (omega arith), low-kept 3 (omega arith), low-kept 4 (omega arith), low-kept 5 (omega arith), low-kept 6 (omega arith), low-kept 7 (omega arith))
+  unfolding eventAt
+  write-time = rw (time-set, time-beside)
