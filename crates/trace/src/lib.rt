@@ -55,19 +55,34 @@ pub fn read_record(s: &[u8], at: usize) -> Reading
     if s.len() <= at {
         return Reading::NoMore;
     }
-    match read_field(s, at, 0, Model::MAX_CLOCK, TRACE_NUMBER) {
+    match read_field(s, at, Model::FIVE_GROUPS, 0, Model::MAX_CLOCK, TRACE_NUMBER) {
         Field::Refused(n) => Reading::Refused(n),
         Field::Value(clock, p1) => match read_field(
             s,
             p1,
+            Model::FIVE_GROUPS,
             1,
             Model::MAX_TRANSACTION,
             TRACE_NUMBER,
         ) {
             Field::Refused(n) => Reading::Refused(n),
-            Field::Value(transaction, p2) => match read_field(s, p2, 1, MAX_BLOCK, TRACE_NUMBER) {
+            Field::Value(transaction, p2) => match read_field(
+                s,
+                p2,
+                Model::FIVE_GROUPS,
+                1,
+                MAX_BLOCK,
+                TRACE_NUMBER,
+            ) {
                 Field::Refused(n) => Reading::Refused(n),
-                Field::Value(block, p3) => match read_field(s, p3, 0, MAX_OUTCOME, TRACE_NUMBER) {
+                Field::Value(block, p3) => match read_field(
+                    s,
+                    p3,
+                    Model::FIVE_GROUPS,
+                    0,
+                    MAX_OUTCOME,
+                    TRACE_NUMBER,
+                ) {
                     Field::Refused(n) => Reading::Refused(n),
                     Field::Value(outcome, next) => Reading::Taken(
                         Record {
