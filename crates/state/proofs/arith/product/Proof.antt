@@ -19,7 +19,7 @@ mul-result c = record { fits = product-fits _ _ (omega arith) (omega arith) }
 
 returns-3 : tie.Need-returns-3
 unfolding product
-returns-3 c = rw (lt-ltb _ _ (c .before .before .if1 .left), lt-ltb _ _ (c .before .if2 .left))
+returns-3 c = rw (lt-ltb _ _ (c .before .if1 .left), lt-ltb _ _ (c .if2 .left))
 
 pub product-spec : {M : Type 1} → statement M
 product-spec = tie.close (tie.spec returns returns-2 mul-result returns-3)
