@@ -3,7 +3,9 @@
 use mathlib.Core.Path.{_≡_, refl, _∙_}
 use native.Mathlib.Omega.{arith}
 use borrow.Author.Needs.{needs}
-use Rattle.machine.specs.Parser.{field, times}
+use Rattle.machine.specs.Rules.{inForce}
+use Rattle.machine.specs.Parser.{times}
+use Rattle.machine.specs.Trace.{traceField}
 use Rattle.codec.specs.Answers.{cursorAt}
 use Rattle.columns.specs.Walks.{ends}
 use Rattle.columns.proofs.Surveying.{column-none, column-stop, column-step}
@@ -11,7 +13,7 @@ use Rattle.columns.proofs.survey.scan_column.Statement.{statement}
 use Rattle.columns.proofs.survey.scan_column.Tie as tie
 
 abbrev Inv-loop : tie.InvT-loop
-Inv-loop s at count lo hi left₀ next₀ left next = ends (times left (field s 31 lo hi) (cursorAt next 0 0)) ≡ ends (times count (field s 31 lo hi) (cursorAt at 0 0))
+Inv-loop s at count lo hi left₀ next₀ left next = ends (times left (traceField inForce s lo hi) (cursorAt next 0 0)) ≡ ends (times count (traceField inForce s lo hi) (cursorAt at 0 0))
 
 abbrev μ-loop : tie.MeasureT-loop
 μ-loop s at count lo hi left₀ next₀ left next = left
