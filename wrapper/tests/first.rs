@@ -108,12 +108,15 @@ fn late_clocks() {
     let longest = [0xA5, 0xA0, 0xAF, 0xC8, 0x00]; // 10,000,000,000
     let tape = |last: &[u8]| [&[4], &longest[..], &longest, &longest, last].concat();
     let late = simulate(&model, &tape(&[0x87, 0xB9, 0xD6, 0xA8, 0x00]), 100, 1_000).unwrap();
-    assert_eq!((late.end, late.clock), (End::Dry, 32_000_000_000));
+    assert_eq!((late.end, late.outcome.clock), (End::Dry, 32_000_000_000));
     assert_eq!(late.report.clock, 32_000_000_000);
     let last = late.records().last().unwrap();
     assert_eq!(last, record(32_000_000_000, 4, 2, 0));
     let past = simulate(&model, &tape(&[0x87, 0xB9, 0xD6, 0xA8, 0x01]), 100, 1_000).unwrap();
-    assert_eq!((past.end, past.clock), (End::ClockLimit, 30_000_000_000));
+    assert_eq!(
+        (past.end, past.outcome.clock),
+        (End::ClockLimit, 30_000_000_000)
+    );
     // 10,000,000,001, the largest of five groups and one more.
     for (time, refusal) in [
         (&[0xA5, 0xA0, 0xAF, 0xC8, 0x01][..], Refusal::TapeRange),
