@@ -41,6 +41,8 @@ enum {
  * Refusals, in this order: 1 work shorter than 16384; 2 report shorter than 10240; of the model, 3 a number that
  * is not whole, shortest or in size, 4 out of its field's range, 5 a value too large, 6 bytes behind the model,
  * 7 a block out of place; of the tape, 8 a number, 9 a range, 10 bytes behind it.
+ * Numbers of a model end at 4294967295, those of a tape at 34359738367 (8), its times at 10000000000 (9), and the clock at
+ * 32000000000 (end 22).
  * A refused run leaves work, trace and report as they were.
  * The report lists the living by rising transaction number.
  * An accepted run leaves the bytes of trace and report behind the lengths in `outcome` as they were; the work
@@ -60,15 +62,15 @@ void covrith_run(const uint8_t *model, size_t model_len,
  * Answers 0 and writes clock, transaction, block, outcome (0 entered, 1 began to wait) and the position of the
  * next record to `record`, which points to 5 numbers; or answers and writes nothing:
  * 30 no more: the position is at or past the end;
- * 31 a number that is not whole, shortest or in size;
- * 32 a number out of range. */
+ * 31 a number that is not whole, not shortest or above 34359738367;
+ * 32 a number out of range, as for covrith_write_record. */
 uint32_t covrith_read_record(const uint8_t *trace, size_t trace_len, size_t position, uint64_t *record);
 
 /* Writes one record at the front of the unused rest of a trace.
  *
  * Answers 0 and writes the record's 4 to 12 bytes to `rest` and their number to `written`; or writes nothing to
  * `rest`, 0 to `written`, and answers:
- * 32 a number out of range: clock to 2000000000, transaction 1..100000000, block 1..256, outcome 0..1;
+ * 32 a number out of range: clock to 32000000000, transaction 1..100000000, block 1..256, outcome 0..1;
  * 33 the record does not fit in the rest. */
 uint32_t covrith_write_record(uint8_t *rest, size_t rest_len,
                               uint64_t clock, uint64_t transaction, uint64_t block, uint64_t outcome,

@@ -92,6 +92,16 @@ class Runs(unittest.TestCase):
         self.assertIs(end([("RELEASE", 1)]), End.NOT_IN_USE)
         self.assertIs(end([("DEPART", 1)]), End.NO_CONTENT)
 
+    def test_late_clocks(self):
+        walker = Model([("GENERATE", 1, 0), ("TERMINATE", 1)], lists=1, counter=9)
+        longest, last = 10_000_000_000, 32_000_000_000
+        run = covrith.run(walker, [[longest] * 3 + [2_000_000_000]])
+        self.assertEqual((run.end, run.clock, run.report.clock), (End.DRY, last, last))
+        self.assertEqual(list(run.records())[-1], Record(last, 4, 2, 0))
+        run = covrith.run(walker, [[longest] * 3 + [2_000_000_001]])
+        self.assertEqual((run.end, run.clock), (End.CLOCK_LIMIT, 3 * longest))
+        self.assertEqual(list(covrith.records(covrith.record_bytes((last, 100_000_000, 256, 1)))), [Record(last, 100_000_000, 256, 1)])
+
     def test_threads(self):
         cases = [covrith.load(folder.parent) for folder in sorted(MODELS.glob("*/model.bin"))]
         alone = [covrith.run(*case) for case in cases]
@@ -120,7 +130,10 @@ class Refusals(unittest.TestCase):
         self.refused(6, covrith.run, MODEL + b"\x00", TAPE)
         self.refused(7, covrith.run, Model([("PRIORITY", 0)]), [])
         self.refused(8, covrith.run, MODEL, TAPE[:-1])
+        self.refused(8, covrith.run, MODEL, [[3], [2**35]])
         self.refused(9, covrith.run, MODEL, [[3], [0] * 65_536])
+        self.refused(9, covrith.run, MODEL, [[3], [10_000_000_001]])
+        self.refused(9, covrith.run, MODEL, [[3], [2**35 - 1]])
         self.refused(10, covrith.run, MODEL, TAPE + b"\x00")
 
     def test_every_cut_of_a_trace(self):
@@ -139,7 +152,10 @@ class Refusals(unittest.TestCase):
         self.refused(32, list, covrith.records(b"\x01\x01\x00"))
         self.refused(31, list, covrith.records(b"\x80\x01\x01\x00"))
         self.refused(32, covrith.record_bytes, (0, 0, 1, 0))
+        self.refused(32, covrith.record_bytes, Record(32_000_000_001, 1, 1, 0))
         self.refused(32, covrith.record_bytes, Record(2**64 - 1, 1, 1, 0))
+        self.refused(32, list, covrith.records(b"\xff\xff\xff\xff\x7f\x01\x01\x00"))
+        self.refused(31, list, covrith.records(b"\x81\x80\x80\x80\x80\x00\x01\x01\x00"))
 
     def test_draws(self):
         self.assertEqual(list(itertools.islice(covrith.draws(0), 3)), [16_807, 282_475_249, 1_622_650_073])

@@ -1,4 +1,4 @@
-//! The limits of document 01, by name.
+//! The limits of document 01, by name, with those of document 02, item 1.
 
 pub const EDITIONS: (u64, u64) = (1, 1);
 pub const FACILITIES: u64 = 32;
@@ -17,11 +17,11 @@ pub const MENTIONS: u64 = 2;
 
 /// Times of a list, and the longest of them.
 pub const TIMES: u64 = 65_535;
-pub const TIME: u64 = 1_000_000;
+pub const TIME: u64 = 10_000_000_000;
 
-/// The largest number of a model, and of a tape.
+/// The largest number of a model, and of a tape: any that fits five groups.
 pub const MODEL_NUMBER: u64 = 4_294_967_295;
-pub const TAPE_NUMBER: u64 = 4_294_967_295;
+pub const TAPE_NUMBER: u64 = 34_359_738_367;
 pub const NUMBER_BYTES: usize = 5;
 
 /// The most turns of a run (end 26), and the most bytes of a record (end 4).

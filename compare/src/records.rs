@@ -4,6 +4,7 @@ use crate::lent::Lent;
 use crate::shrink::smaller_bytes;
 use covrith::{count, sys, Records};
 use reference::generate::random::Random;
+use reference::generate::traces::trace as made_up;
 use reference::line::hex;
 use reference::trace::{self, TraceReader};
 use reference::Rules;
@@ -23,6 +24,10 @@ pub fn compare(random: &mut Random, own: &[u8], answers: &mut Answers) -> Result
     bytes.truncate(2_000);
     if random.one_in(4) {
         bytes = (0..random.below(40)).map(|_| odd_byte(random)).collect();
+    } else if random.one_in(3) {
+        // Made-up records, some with a number at or beside a limit.
+        bytes = made_up(Rules::LANDED, random);
+        bytes.truncate(2_000);
     }
     for _ in 0..random.below(3) {
         damage(random, &mut bytes);

@@ -114,6 +114,12 @@ static void traces(void) {
         CHECK(covrith_write_record(rest, length, 300, 1, 1, 0, &written) == 33 && written == 0);
         free(rest);
     }
+    /* the longest record, at the last clock, and a clock past it */
+    uint8_t longest[12];
+    uint64_t written, record[5];
+    CHECK(covrith_write_record(longest, 12, UINT64_C(32000000000), 100000000, 256, 1, &written) == 0 && written == 12);
+    CHECK(covrith_read_record(longest, 12, 0, record) == 0 && record[0] == UINT64_C(32000000000) && record[4] == 12);
+    CHECK(covrith_write_record(longest, 12, UINT64_C(32000000001), 1, 1, 0, &written) == 32 && written == 0);
 }
 
 int main(void) {

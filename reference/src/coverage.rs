@@ -25,6 +25,9 @@ pub struct Coverage {
     pub last_clock: u64,
     pub clock_moves: u64,
     pub zero_moves: u64,
+    /// Turns, and of them those whose block reads the clock, by the span of the clock.
+    pub turns_at: [u64; SPANS],
+    pub clock_terms_at: [u64; SPANS],
     /// Accepted models of each edition.
     pub editions: [u64; 2],
     /// Term tags, status codes and relations in accepted models.
@@ -34,6 +37,20 @@ pub struct Coverage {
     /// Executions by kind and column.
     counts: BTreeMap<(u32, u32), u64>,
     before: Option<(u64, bool)>,
+}
+
+/// Spans of the clock: to the limit of document 01; below 2^31, where the clock
+/// term turns negative; below 2^32, where it has gone round; on; the last clock.
+const SPANS: usize = 5;
+
+fn span_of(rules: Rules, clock: u64) -> usize {
+    match clock {
+        _ if clock == rules.max_clock() => 4,
+        0..=2_000_000_000 => 0,
+        2_000_000_001..=2_147_483_647 => 1,
+        2_147_483_648..=4_294_967_295 => 2,
+        _ => 3,
+    }
 }
 
 /// What the execution of a block can come to, as the columns of the table.
@@ -106,6 +123,12 @@ impl Watcher for Coverage {
         self.before = Some((machine.clock, moves));
     }
 
+    fn before_block(&mut self, machine: &Machine, block: u32) {
+        let span = span_of(machine.rules, machine.clock);
+        self.turns_at[span] += 1;
+        self.clock_terms_at[span] += u64::from(machine.model.reads_clock(block));
+    }
+
     fn after_turn(&mut self, kind: u32, done: Done) {
         *self.counts.entry((kind, column(done))).or_insert(0) += 1;
     }
@@ -167,7 +190,7 @@ impl Coverage {
     }
 
     /// What can be met under the rules and was not: kinds with what they come
-    /// to, refusals, ends (but 26), tags, codes, relations.
+    /// to, refusals, ends (but 26), tags, codes, relations, spans of the clock.
     pub fn empty_cells(&self) -> Vec<String> {
         let mut empty = Vec::new();
         for kind in 1..=LAST_KIND {
@@ -194,6 +217,15 @@ impl Coverage {
         ] {
             for at in (0..counts.len()).filter(|at| counts[*at] == 0) {
                 empty.push(format!("{name} at {at}"));
+            }
+        }
+        let spans = if self.rules.wide_clocks { SPANS } else { 0 };
+        for span in 0..spans {
+            if self.turns_at[span] == 0 {
+                empty.push(format!("turn in span {span}"));
+            }
+            if self.clock_terms_at[span] == 0 {
+                empty.push(format!("clock term in span {span}"));
             }
         }
         empty
@@ -234,6 +266,11 @@ impl std::fmt::Display for Coverage {
             f,
             "most blocks {}, most living {}, last clock {}, clock moves {}, of them by 0 ticks {}",
             self.most_blocks, self.most_living, self.last_clock, self.clock_moves, self.zero_moves
+        )?;
+        writeln!(
+            f,
+            "clocks to 2,000,000,000, below 2^31, below 2^32, on, the last: turns {:?}, clock terms {:?}",
+            self.turns_at, self.clock_terms_at
         )?;
         writeln!(f, "editions 1, 2   {:?}", self.editions)?;
         writeln!(f, "tags 0..11      {:?}", self.tags)?;

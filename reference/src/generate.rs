@@ -46,7 +46,7 @@ pub struct Case {
 pub enum Size {
     /// At most 14 blocks and 200 turns, without exception.
     Short,
-    /// The same, with a rare run to the last clock (end 22, some 2,200 turns).
+    /// The same, with a rare run to the last clock (under document 01 some 2,200 turns).
     Small,
     /// Up to the limits of the model.
     Full,

@@ -73,6 +73,32 @@ impl Model {
             .any(|joined| self.group(joined).is_some_and(|g| g.start == number))
     }
 
+    /// Does this block's own term or comparison read the clock, also through values?
+    pub fn reads_clock(&self, number: u32) -> bool {
+        match self.block(number) {
+            Block::WaitIfComparison { comparison } | Block::If { comparison, .. } => {
+                self.comparison_has_clock(comparison)
+            }
+            Block::Let { term, .. } => self.has_clock(term),
+            _ => false,
+        }
+    }
+
+    fn comparison_has_clock(&self, comparison: &Comparison) -> bool {
+        self.has_clock(&comparison.left) || self.has_clock(&comparison.right)
+    }
+
+    fn has_clock(&self, term: &Term) -> bool {
+        let sum = |sum: &Sum| sum.parts.iter().any(|part| self.has_clock(&part.term));
+        match term {
+            Term::Clock => true,
+            Term::Value(number) => sum(&self.values[*number as usize - 1]),
+            Term::Comparison(comparison) => self.comparison_has_clock(comparison),
+            Term::Bracket(inner) => sum(inner),
+            _ => false,
+        }
+    }
+
     /// The block with this number.
     pub fn block(&self, number: u32) -> &Block {
         &self.blocks[number as usize - 1]

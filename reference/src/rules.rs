@@ -42,7 +42,10 @@ impl Rules {
     };
 
     /// What the engine does: each landing changes this one constant.
-    pub const LANDED: Rules = Rules::BASE;
+    pub const LANDED: Rules = Rules {
+        wide_clocks: true,
+        ..Rules::BASE
+    };
 
     /// The requests of these numbers; those that change no run are no matter.
     pub fn of(requests: &[u32]) -> Rules {

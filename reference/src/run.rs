@@ -48,6 +48,8 @@ impl Outcome {
 pub trait Watcher {
     /// Before the questions before each turn, the first and the last included.
     fn before_turn(&mut self, _machine: &Machine, _trace: &[u8]) {}
+    /// In a turn, after the taking: the block that is executed next.
+    fn before_block(&mut self, _machine: &Machine, _block: u32) {}
     /// After a turn: the kind of the block it met and what that came to.
     fn after_turn(&mut self, _kind: u32, _done: Done) {}
     /// After the last turn.
@@ -149,7 +151,7 @@ pub fn run_from(
         if let Some(end) = end_before_turn(&machine, budget, trace.len() - used) {
             break end;
         }
-        let (kind, done, written) = turn(&mut machine, &mut trace[used..]);
+        let (kind, done, written) = turn(&mut machine, &mut trace[used..], watcher);
         used += written;
         watcher.after_turn(kind, done);
         match done {
@@ -191,12 +193,13 @@ fn end_before_turn(machine: &Machine, budget: u64, trace_left: usize) -> Option<
 
 /// One turn: the taking, one block, its record. Gives the kind of the block,
 /// what it came to and the bytes written.
-fn turn(machine: &mut Machine, rest: &mut [u8]) -> (u32, Done, usize) {
+fn turn(machine: &mut Machine, rest: &mut [u8], watcher: &mut dyn Watcher) -> (u32, Done, usize) {
     let transaction = machine.take().expect("asked by end 1");
     machine.turns += 1;
     let number = transaction.number;
     let block = transaction.next_block;
     let kind = machine.model.block(block).kind();
+    watcher.before_block(machine, block);
     let done = machine.execute(transaction);
     let outcome = match done {
         Done::Entered | Done::Finished => 0,

@@ -1,6 +1,11 @@
-//! The stored cases of crate `vectors` and what must come out of them: each
-//! refusal, each end that a short run can meet, each kind and outcome, each
-//! list in use, 1,024 living, clocks near the limit.
+//! The stored cases of crate `vectors` and what must come out of them: the
+//! first example, the limits of 02, item 1, and random cases: each refusal, each
+//! end that a short run can meet, each kind and outcome, each list in use, 1,024
+//! living, late clocks.
+
+mod late;
+
+pub use late::cases as late_cases;
 
 use crate::blocks::Done;
 use crate::generate::random::Random;
@@ -75,6 +80,13 @@ impl Watcher for Features {
         self.add(machine.clock == machine.rules.max_clock(), "last clock");
     }
 
+    fn before_block(&mut self, machine: &Machine, block: u32) {
+        if machine.model.reads_clock(block) {
+            self.add(machine.clock > i32::MAX as u64, "clock term past 2^31");
+            self.add(machine.clock > u64::from(u32::MAX), "clock term past 2^32");
+        }
+    }
+
     fn after_turn(&mut self, kind: u32, done: Done) {
         self.0.insert(format!("kind {kind} {done:?}"));
     }
@@ -106,6 +118,7 @@ fn features(case: &Case) -> BTreeSet<String> {
 pub fn cases() -> (Vec<Case>, BTreeMap<String, u32>) {
     let mut random = Random::new(8);
     let mut kept = vec![first_example()];
+    kept.extend(late::cases().into_iter().map(|(case, _)| case));
     let mut met: BTreeMap<String, u32> = BTreeMap::new();
     let mut spare = Vec::new();
     for _ in 0..12_000 {

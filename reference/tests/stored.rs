@@ -4,7 +4,8 @@
 use reference::blocks::Done;
 use reference::coverage::{ends, possible};
 use reference::rules::LAST_KIND;
-use reference::stored::{cases, encode, expected};
+use reference::run::run;
+use reference::stored::{cases, encode, expected, late_cases};
 use reference::Rules;
 
 fn stored(name: &str) -> Vec<u8> {
@@ -44,10 +45,30 @@ fn stored_cases_are_up_to_date() {
         "FEL",
         "1,024 living",
         "last clock",
+        "clock term past 2^31",
+        "clock term past 2^32",
     ] {
         wanted.push(name.to_string());
     }
     for name in wanted {
         assert!(met.contains_key(&name), "{name}");
+    }
+}
+
+#[test]
+fn late_cases_come_to_what_the_papers_give() {
+    for (number, (case, wanted)) in late_cases().iter().enumerate() {
+        let mut trace = vec![0; case.trace_len];
+        let mut report = vec![0; case.report_len];
+        let outcome = run(
+            &case.model,
+            &case.tape,
+            case.budget,
+            case.work_len,
+            &mut trace,
+            &mut report,
+        );
+        let came = [outcome.refusal, outcome.end, outcome.clock];
+        assert_eq!(came, *wanted, "late case {number}");
     }
 }

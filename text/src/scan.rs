@@ -48,7 +48,7 @@ pub fn line(text: &str, number: usize) -> Result<Vec<Token>, Fault> {
                 Fault::at(
                     here,
                     format!("the number {digits} is too large"),
-                    "numbers of a model end at 4294967295, times at the limit of a sample",
+                    "numbers of a model end at 4294967295, times at 10000000000",
                 )
             })?;
             Word::Number(value)

@@ -147,6 +147,27 @@ fn tapes() {
     assert_eq!(times, vec![vec![5, 5, 5, 7, 1], vec![]]);
 }
 
+#[test]
+fn long_times() {
+    let tape = tape::read("a: 1000001 4294967296 2*10_000_000_000 34359738368\n");
+    assert_eq!(
+        tape.lists[0].times,
+        [
+            1_000_001,
+            4_294_967_296,
+            10_000_000_000,
+            10_000_000_000,
+            34_359_738_368
+        ]
+    );
+    // The engine judges them; what fits five groups is shown again.
+    let written = tape::bytes("a: 4294967296 10000000000 34359738367\n").unwrap();
+    assert_eq!(written, bytes("039080808000a5a0afc800ffffffff7f"));
+    let shown = tape::text(&written).unwrap();
+    assert_eq!(tape::bytes(&shown), Ok(written));
+    assert!(tape::text(&bytes("01818080808000")).is_err());
+}
+
 /// The faults of a text as they are printed.
 fn faults(text: &str) -> Vec<String> {
     let found = model_bytes(text).unwrap_err();

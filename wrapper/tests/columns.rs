@@ -50,7 +50,7 @@ fn refusals() {
     );
     assert_eq!(to_columns(&[3, 1, 1, 0, 2], &mut []), Err(NotColumns));
     assert_eq!(from_columns(&[1, 3, 1, 1, 0, 0], &mut out), Err(NotColumns));
-    let past = [2, 0x87, 0xb9, 0xd6, 0xa8, 0, 1, 1, 1, 1, 1, 0, 0];
+    let past = [2, 0xf7, 0x9a, 0xe5, 0x80, 0, 1, 1, 1, 1, 1, 0, 0];
     assert_eq!(from_columns(&past, &mut out), Err(NotColumns));
     assert_eq!(from_columns(&[2, 3, 1, 1, 0], &mut out), Err(NotColumns));
     // too little room, asked last

@@ -102,6 +102,47 @@ fn refusals() {
 }
 
 #[test]
+fn late_clocks() {
+    // One comes at each time of the first list and ends.
+    let model = [1, 0, 0, 0, 0, 1, 5, 2, 1, 1, 0, 3, 1];
+    let longest = [0xA5, 0xA0, 0xAF, 0xC8, 0x00]; // 10,000,000,000
+    let tape = |last: &[u8]| [&[4], &longest[..], &longest, &longest, last].concat();
+    let late = simulate(&model, &tape(&[0x87, 0xB9, 0xD6, 0xA8, 0x00]), 100, 1_000).unwrap();
+    assert_eq!((late.end, late.outcome.clock), (End::Dry, 32_000_000_000));
+    assert_eq!(late.report.clock, 32_000_000_000);
+    let last = late.records().last().unwrap();
+    assert_eq!(last, record(32_000_000_000, 4, 2, 0));
+    let past = simulate(&model, &tape(&[0x87, 0xB9, 0xD6, 0xA8, 0x01]), 100, 1_000).unwrap();
+    assert_eq!(
+        (past.end, past.outcome.clock),
+        (End::ClockLimit, 30_000_000_000)
+    );
+    // 10,000,000,001, the largest of five groups and one more.
+    for (time, refusal) in [
+        (&[0xA5, 0xA0, 0xAF, 0xC8, 0x01][..], Refusal::TapeRange),
+        (&[0xFF, 0xFF, 0xFF, 0xFF, 0x7F], Refusal::TapeRange),
+        (&[0x81, 0x80, 0x80, 0x80, 0x80, 0x00], Refusal::TapeNumber),
+    ] {
+        let answer = simulate(&model, &tape(time), 100, 1_000);
+        assert_eq!(answer.map(|run| run.end), Err(refusal));
+        let trace = [time, &[1, 1, 0]].concat();
+        let answer = read_record(&trace, 0).map(|_| ());
+        let wanted = match refusal {
+            Refusal::TapeNumber => Err(Refusal::RecordNumber),
+            _ if time[0] == 0xFF => Err(Refusal::RecordRange),
+            _ => Ok(()),
+        };
+        assert_eq!(answer, wanted);
+    }
+    let mut rest = [0; 12];
+    let widest = record(32_000_000_000, 100_000_000, 256, 1);
+    assert_eq!(write_record(&mut rest, widest), Ok(12));
+    assert_eq!(read_record(&rest, 0), Ok(Some((widest, 12))));
+    let past = record(32_000_000_001, 1, 1, 0);
+    assert_eq!(write_record(&mut rest, past), Err(Refusal::RecordRange));
+}
+
+#[test]
 fn streams() {
     let mut first = Stream::new(0).unwrap();
     let drawn: Vec<u32> = (0..100_000).map(|_| first.draw()).collect();

@@ -106,6 +106,10 @@ impl<'a> Asker<'a> {
         }
     }
 
+    fn too_large(&self, number: u128) -> String {
+        format!("the number {number} is above the largest, {}", self.largest)
+    }
+
     fn read(&self) -> Result<(u64, usize), String> {
         let rest = &self.bytes[self.byte..];
         if rest.is_empty() {
@@ -121,13 +125,18 @@ impl<'a> Asker<'a> {
             value = value * 128 + u64::from(byte & 0x7f);
             if *byte < 0x80 {
                 if value > self.largest {
-                    return Err(format!(
-                        "the number {value} is above the largest, {}",
-                        self.largest
-                    ));
+                    return Err(self.too_large(value.into()));
                 }
                 return Ok((value, i + 1));
             }
+        }
+        if self.places.is_some() {
+            // Of a text it is whole: tell the number that stands there.
+            let groups = rest.iter().take_while(|byte| **byte >= 0x80).count() + 1;
+            let number = rest[..groups]
+                .iter()
+                .fold(0, |n: u128, byte| n << 7 | u128::from(byte & 0x7f));
+            return Err(self.too_large(number));
         }
         if rest.len() < limits::NUMBER_BYTES {
             return Err("the file ends inside a number".to_string());

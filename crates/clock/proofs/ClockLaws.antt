@@ -7,6 +7,7 @@ use mathlib.Core.Option.{none}
 use native.Mathlib.Omega.{arith}
 use borrow.Author.Tests.{lt-ltb, le-ltb}
 use lib.ListN.{length}
+use Rattle.machine.specs.Limits.{maxClock}
 use Rattle.machine.specs.Transaction.{Transaction, Event, precedes}
 use Rattle.machine.specs.Lists.{insert, those, others}
 use Rattle.machine.specs.Block.{BlockModel}
@@ -85,8 +86,8 @@ module _ {m : BlockModel} {tape : List (List ℕ)} (proper : Proper m tape) (tap
     unfolding listsOf
     arrives = arrive-shows w (listsOf s) (s .fel) (h .listing .shows) e l future (s .serial)
 
-    in-time : e .time ≤ 2000000000
-    in-time = subst (Each (λ (y : Event). y .time ≤ 2000000000)) future (sane .timely .times) .0
+    in-time : e .time ≤ maxClock
+    in-time = subst (Each (λ (y : Event). y .time ≤ maxClock)) future (sane .timely .times) .0
 
     listed : Listing (a .rows) (x .moving) none s′
     unfolding clocked listsOf

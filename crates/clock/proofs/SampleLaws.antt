@@ -8,6 +8,7 @@ use native.Mathlib.Omega.{arith}
 use borrow.Author.Tests.{lt-ltb, ltb-true, ltb-false}
 use lib.Dec.{ltb}
 use lib.ListN.{length, getD, length-map, List·getD-eq-default}
+use Rattle.machine.specs.Limits.{maxClock}
 use Rattle.machine.specs.Transaction.{Transaction}
 use Rattle.machine.specs.Term.{Server, Queue, idleServer, emptyQueue}
 use Rattle.machine.specs.Block.{BlockModel}
@@ -19,16 +20,17 @@ use Rattle.machine.proofs.Shape.{each-getD, server-length}
 use Rattle.state.specs.Sane.{Sane}
 use Rattle.state.specs.Stands.{Serving, Queueing, Sampling, Tallying}
 use Rattle.state.proofs.Measured.{units-small}
+use Rattle.state.proofs.Products.{product-is}
 use Rattle.clock.specs.Sample.{sampleServers, sampleQueues}
 use Rattle.clock.proofs.Sampled.{sumOf, ServerSampled, ServerSame, ServersSampled, servers-sampled, QueueSampled, QueueSame, QueuesSampled, queues-sampled}
 
 -- ---- Numbers of 64 bits
 
-sum-of : (sum n ticks : ℕ) → n < 4294967296 → sum + n * ticks < 18446744073709551616 → sumOf sum n ticks ≡ sum + n * ticks
-sum-of sum n ticks small fits = rw (lt-ltb n 4294967296 small) (omega arith)
+sum-of : (sum n ticks : ℕ) → n ≤ 100000001 → ticks ≤ maxClock → sum + n * ticks < 18446744073709551616 → sumOf sum n ticks ≡ sum + n * ticks
+sum-of sum n ticks small few fits = rw (product-is n ticks (omega arith) (omega arith)) (omega arith)
 
--- a sum over at most 2,000,000,000 ticks
-product-le : (n most ticks : ℕ) → n ≤ most → ticks ≤ 2000000000 → n * ticks ≤ most * 2000000000
+-- a sum over at most as many ticks as a clock has
+product-le : (n most ticks : ℕ) → n ≤ most → ticks ≤ maxClock → n * ticks ≤ most * maxClock
 product-le n most ticks h k = mul-le-mul h k
 
 -- ---- The machine's samples, one by one
@@ -66,7 +68,7 @@ map-at f (x ∷ l) (suc i) a b h = map-at f l i a b (omega arith)
 
 -- ---- The laws
 
-module _ {m : BlockModel} {tape : List (List ℕ)} (proper : Proper m tape) (s : State) (sane : Sane m s) (ticks : ℕ) (few : ticks ≤ 2000000000)
+module _ {m : BlockModel} {tape : List (List ℕ)} (proper : Proper m tape) (s : State) (sane : Sane m s) (ticks : ℕ) (few : ticks ≤ maxClock)
     (tapeBytes t : List ℕ) (h : Tallying tapeBytes t s) where
   abbrev n : ℕ
   n = servers m
@@ -108,11 +110,11 @@ module _ {m : BlockModel} {tape : List (List ℕ)} (proper : Proper m tape) (s :
   waiters-few : (v : ℕ) → length (getD (s .ql) v []) ≤ 1024
   waiters-few v = each-getD (λ (l : List Transaction). length l ≤ 1024) (s .ql) v [] (sane .waiting) (omega arith)
 
-  unit-sum : (v : ℕ) → server v .unitTicks ≤ 65535 * 2000000000
+  unit-sum : (v : ℕ) → server v .unitTicks ≤ 65535 * maxClock
   unfolding idleServer
   unit-sum v = omega (arith, of-server (λ x. x .unitTicks ≤ 65535 * s .view .clock) (sane .unit-ticks) (omega arith) v, sane .timely .clock)
 
-  wait-sum : (v : ℕ) → server v .waitTicks ≤ 1024 * 2000000000
+  wait-sum : (v : ℕ) → server v .waitTicks ≤ 1024 * maxClock
   unfolding idleServer
   wait-sum v = omega (arith, of-server (λ x. x .waitTicks ≤ 1024 * s .view .clock) (sane .wait-ticks) (omega arith) v, sane .timely .clock)
 
@@ -128,19 +130,19 @@ module _ {m : BlockModel} {tape : List (List ℕ)} (proper : Proper m tape) (s :
       sampled-at ticks (idleServer 0) (s .view .servers) (s .ql) v (omega (arith, servers-are)) (omega (arith, sane .shape .ql-length)) in
       let small : v < 64 = omega (arith, n-few) in
       let g : ServerSampled t t₁ v ticks = at-servers .done v hv in
-      let u : server v .inUse * ticks ≤ 65535 * 2000000000 = product-le (server v .inUse) 65535 ticks (units-few v) few in
-      let w : length (getD (s .ql) v []) * ticks ≤ 1024 * 2000000000 = product-le (length (getD (s .ql) v [])) 1024 ticks (waiters-few v) few in
+      let u : server v .inUse * ticks ≤ 65535 * maxClock = product-le (server v .inUse) 65535 ticks (units-few v) few in
+      let w : length (getD (s .ql) v []) * ticks ≤ 1024 * maxClock = product-le (length (getD (s .ql) v [])) 1024 ticks (waiters-few v) few in
       record {
         in-use = at-servers .below (512 + v) (omega arith) ∙ h .servers .in-use v small ∙ sym (ap (λ x. x .inUse) is);
         units =
             g .units ∙ ap (λ (a : ℕ). sumOf a (getD t (512 + v) 0) ticks) (h .servers .unit-ticks v small)
             ∙ ap (λ (k : ℕ). sumOf (server v .unitTicks) k ticks) (h .servers .in-use v small)
-            ∙ sum-of (server v .unitTicks) (server v .inUse) ticks (omega (arith, units-few v)) (omega (arith, unit-sum v))
+            ∙ sum-of (server v .unitTicks) (server v .inUse) ticks (omega (arith, units-few v)) few (omega (arith, unit-sum v))
             ∙ sym (ap (λ x. x .unitTicks) is);
         waits =
             g .waits ∙ ap (λ (a : ℕ). sumOf a (getD t (768 + v) 0) ticks) (h .servers .wait-ticks v small)
             ∙ ap (λ (k : ℕ). sumOf (server v .waitTicks) k ticks) (h .servers .waiting v small)
-            ∙ sum-of (server v .waitTicks) (length (getD (s .ql) v [])) ticks (omega (arith, waiters-few v)) (omega (arith, wait-sum v))
+            ∙ sum-of (server v .waitTicks) (length (getD (s .ql) v [])) ticks (omega (arith, waiters-few v)) few (omega (arith, wait-sum v))
             ∙ sym (ap (λ x. x .waitTicks) is);
         longest =
             g .longest ∙ ap (λ (a : ℕ). max a (getD t (768 + v) 0)) (h .servers .longest v small)
@@ -194,7 +196,7 @@ module _ {m : BlockModel} {tape : List (List ℕ)} (proper : Proper m tape) (s :
   unfolding emptyQueue
   content-few q = omega (arith, of-queue (λ x. x .content ≤ s .turns) (sane .contents) (omega arith) q, sane .turns)
 
-  content-sum : (q : ℕ) → queue q .contentTicks ≤ 100000001 * 2000000000
+  content-sum : (q : ℕ) → queue q .contentTicks ≤ 100000001 * maxClock
   unfolding emptyQueue
   content-sum q = omega (arith, of-queue (λ x. x .contentTicks ≤ 100000001 * s .view .clock) (sane .content-ticks) (omega arith) q, sane .timely .clock)
 
@@ -213,14 +215,14 @@ module _ {m : BlockModel} {tape : List (List ℕ)} (proper : Proper m tape) (s :
       let is : queue-after q ≡ Machine.sampleQueue ticks (queue q) = map-at (Machine.sampleQueue ticks) (s .view .queues) q emptyQueue emptyQueue (omega (arith, sane .shape .queue-length)) in
       let small : q < 32 = omega (arith, proper .queues) in
       let g : QueueSampled t₁ t₂ q ticks = at-queues .done q hq in
-      let u : queue q .content * ticks ≤ 100000001 * 2000000000 = product-le (queue q .content) 100000001 ticks (content-few q) few in
+      let u : queue q .content * ticks ≤ 100000001 * maxClock = product-le (queue q .content) 100000001 ticks (content-few q) few in
       record {
         contents =
             at-queues .below (832 + q) (omega arith) ∙ kept (832 + q) (omega arith) ∙ h .queues .contents q small ∙ sym (ap (λ x. x .content) is);
         sums =
             g .contents ∙ ap (λ (a : ℕ). sumOf a (getD t₁ (832 + q) 0) ticks) (kept (864 + q) (omega arith) ∙ h .queues .content-ticks q small)
             ∙ ap (λ (k : ℕ). sumOf (queue q .contentTicks) k ticks) (kept (832 + q) (omega arith) ∙ h .queues .contents q small)
-            ∙ sum-of (queue q .contentTicks) (queue q .content) ticks (omega (arith, content-few q)) (omega (arith, content-sum q))
+            ∙ sum-of (queue q .contentTicks) (queue q .content) ticks (omega (arith, content-few q)) few (omega (arith, content-sum q))
             ∙ sym (ap (λ x. x .contentTicks) is);
         longest =
             g .longest ∙ ap (λ (a : ℕ). max a (getD t₁ (832 + q) 0)) (kept (896 + q) (omega arith) ∙ h .queues .longest q small)

@@ -1,5 +1,5 @@
 -- The tally after the sampling, number by number.
-use Prim.Native.Nat.{ℕ, zero, suc, _+_, _*_, min, max, _≤_, _<_}
+use Prim.Native.Nat.{ℕ, zero, suc, _+_, min, max, _≤_, _<_}
 use mathlib.Core.Path.{_≡_, refl, ap, _∙_}
 use mathlib.Core.Logic.{_≢_}
 use mathlib.Core.Bool.{Bool, true, false, cond}
@@ -9,13 +9,14 @@ use borrow.Author.Tests.{ltb-true, ltb-false, eqb-true, eqb-false}
 use lib.Dec.{ltb, eqb}
 use lib.ListN.{length, getD, set, length-set}
 use lib.Seq.{getD-set-same, getD-set-other}
+use Rattle.state.specs.Ticks.{product}
 use Rattle.clock.specs.Sample.{addTicks, keepLongest, sampleServer, sampleServers, sampleQueue, sampleQueues}
 
 -- ---- One number
 
 -- a sum and a number over some ticks
 abbrev pub sumOf : (sum n ticks : ℕ) → ℕ
-sumOf sum n ticks = min (sum + cond (ltb n 4294967296) (n * ticks) 0) 18446744073709551615
+sumOf sum n ticks = min (sum + product n ticks) 18446744073709551615
 
 module _ (t : List ℕ) (at from : ℕ) where
   ticks-length : (ticks : ℕ) → length (addTicks t at from ticks) ≡ length t

@@ -1,16 +1,17 @@
 -- The row machine: statistics of servers and queues, summed in the tally before a clock move.
-use Prim.Native.Nat.{ℕ, zero, suc, _+_, _*_, min}
+use Prim.Native.Nat.{ℕ, zero, suc, _+_, min}
 use mathlib.Core.Bool.{cond}
 use mathlib.Core.List.{List}
 use lib.Dec.{ltb}
 use lib.ListN.{getD, set}
 use Rattle.tables.specs.Layout as Layout
+use Rattle.state.specs.Ticks.{product}
 
 -- the number at `from` times the ticks is added to the sum at `at`; a sum stops at the largest number of 64 bits
 unfoldable pub addTicks : List ℕ → (at from ticks : ℕ) → List ℕ
 addTicks tally at from ticks =
     set tally at
-    (min (getD tally at 0 + cond (ltb (getD tally from 0) Layout.wordEnd) (getD tally from 0 * ticks) 0) Layout.most64)
+    (min (getD tally at 0 + product (getD tally from 0) ticks) Layout.most64)
 
 -- the number at `from`, where it is larger, becomes the longest at `at`
 unfoldable pub keepLongest : List ℕ → (at from : ℕ) → List ℕ

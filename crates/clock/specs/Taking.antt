@@ -4,8 +4,8 @@ use mathlib.Core.Bool.{cond}
 use mathlib.Core.List.{List}
 use lib.Dec.{ltb}
 use Rattle.tables.specs.Layout.{most32}
-use Rattle.rows.specs.Layout.{timeField, rel, fel, rowCount, serialEnd}
-use Rattle.rows.specs.Cells.{read}
+use Rattle.rows.specs.Layout.{rel, fel, rowCount, serialEnd}
+use Rattle.rows.specs.Cells.{timeOf}
 use Rattle.rows.specs.Lists.{first, takeFirst}
 use Rattle.rows.specs.Clock.{Arrived, arrive}
 use Rattle.state.specs.declared.scalars.Scalars.{Scalars}
@@ -29,7 +29,7 @@ moveClock work tally x servers queues time =
 
 -- the first time of the FEL
 abbrev pub firstTime : List ℕ → ℕ
-firstTime work = read work timeField (first work fel)
+firstTime work = timeOf work (first work fel)
 
 -- to that time, where there is one and serials are left
 unfoldable pub nextEvents : (work tally : List ℕ) → Scalars → (servers queues : ℕ) → Rows

@@ -18,7 +18,7 @@ ghost use Rattle.tables.specs.Layout.{serverCount};
 ghost use Rattle.clock.specs.Sample.{addTicks, keepLongest, sampleServer, sampleServers, sampleQueue, sampleQueues};
 
 // The number at `from` times the ticks is added to the sum at `at`.
-fn add_ticks(tally: &mut [u64], at: usize, from: usize, ticks: u32)
+fn add_ticks(tally: &mut [u64], at: usize, from: usize, ticks: u64)
     ensures { λ _. ⌜ now (tally .exit) ≡ addTicks (now (tally .entry)) at from ticks ⌝ }
 {
     let n = count(tally, from);
@@ -37,7 +37,7 @@ fn keep_longest(tally: &mut [u64], at: usize, from: usize)
 }
 
 // Ticks of units in use, ticks waited and the longest QL of server v, from 0.
-fn sample_server(tally: &mut [u64], v: usize, ticks: u32)
+fn sample_server(tally: &mut [u64], v: usize, ticks: u64)
     requires { ⌜ v < serverCount ⌝ }
     ensures { λ _. ⌜ now (tally .exit) ≡ sampleServer (now (tally .entry)) v ticks ⌝ }
 {
@@ -46,7 +46,7 @@ fn sample_server(tally: &mut [u64], v: usize, ticks: u32)
     keep_longest(tally, LONGEST_QL + v, QL_LENGTH + v);
 }
 
-fn sample_servers(tally: &mut [u64], servers: usize, ticks: u32)
+fn sample_servers(tally: &mut [u64], servers: usize, ticks: u64)
     requires { ⌜ servers ≤ serverCount ⌝ }
     ensures { λ _. ⌜ now (tally .exit) ≡ sampleServers servers (now (tally .entry)) ticks ⌝ }
 {
@@ -58,7 +58,7 @@ fn sample_servers(tally: &mut [u64], servers: usize, ticks: u32)
 }
 
 // Content ticks and the longest content of queue q, from 0.
-fn sample_queue(tally: &mut [u64], q: usize, ticks: u32)
+fn sample_queue(tally: &mut [u64], q: usize, ticks: u64)
     requires { ⌜ q < maxQueues ⌝ }
     ensures { λ _. ⌜ now (tally .exit) ≡ sampleQueue (now (tally .entry)) q ticks ⌝ }
 {
@@ -66,7 +66,7 @@ fn sample_queue(tally: &mut [u64], q: usize, ticks: u32)
     keep_longest(tally, LONGEST_CONTENT + q, CONTENT + q);
 }
 
-fn sample_queues(tally: &mut [u64], queues: usize, ticks: u32)
+fn sample_queues(tally: &mut [u64], queues: usize, ticks: u64)
     requires { ⌜ queues ≤ maxQueues ⌝ }
     ensures { λ _. ⌜ now (tally .exit) ≡ sampleQueues queues (now (tally .entry)) ticks ⌝ }
 {
@@ -78,7 +78,7 @@ fn sample_queues(tally: &mut [u64], queues: usize, ticks: u32)
 }
 
 // Of a model's servers and queues, before the clock moves by some ticks.
-pub fn sample(tally: &mut [u64], servers: usize, queues: usize, ticks: u32)
+pub fn sample(tally: &mut [u64], servers: usize, queues: usize, ticks: u64)
     requires { ⌜ servers ≤ serverCount ⌝ }
     requires { ⌜ queues ≤ maxQueues ⌝ }
     ensures { λ _. ⌜ now (tally .exit) ≡ sampleQueues queues (sampleServers servers (now (tally .entry)) ticks) ticks ⌝ }

@@ -4,13 +4,12 @@ use rows::FEL;
 use rows::REL;
 use rows::ROWS;
 use rows::SERIAL_END;
-use rows::TIME;
-use rows::cells::read;
+use rows::cells::time;
 use rows::clock::arrive;
 use rows::lists::first;
 use rows::lists::take_first;
 use state::Scalars;
-use state::less32;
+use state::less64;
 use state::plus32;
 ghost use mathlib.Core.Path.{_≡_};
 ghost use Prim.Native.Nat.{_<_, _≤_};
@@ -27,7 +26,7 @@ fn move_clock(
     x: Scalars,
     servers: usize,
     queues: usize,
-    time: u32,
+    time: u64,
 ) -> Scalars
     requires { ⌜ Room (now work) ⌝ }
     requires { ⌜ servers ≤ serverCount ⌝ }
@@ -35,7 +34,7 @@ fn move_clock(
     requires { ⌜ x .serial < serialEnd ⌝ }
     ensures { λ r. ⌜ rowsOf r (now (work .exit)) (now (tally .exit)) ≡ moveClock (now (work .entry)) (now (tally .entry)) x servers queues time ⌝ }
 {
-    let ticks = less32(time, x.clock);
+    let ticks = less64(time, x.clock);
     sample(tally, servers, queues, ticks);
     let serial = arrive(work, time, x.serial);
     let mut y = x;
@@ -64,8 +63,8 @@ fn next_events(
     if x.serial >= SERIAL_END {
         return x;
     }
-    let time = read(work, TIME, k);
-    move_clock(work, tally, x, servers, queues, time)
+    let due = time(work, k);
+    move_clock(work, tally, x, servers, queues, due)
 }
 
 // The first of REL moves, where there is one.

@@ -8,9 +8,9 @@ use mathlib.Core.Path.{_≡_, refl, sym, ap, _∙_}
 use lib.ListN.{length, drop, getD, drop-of-length-le, length-drop}
 use lib.Seq.{drop-cons}
 use borrow.Author.Tests.{eq-eqb, ne-eqb, le-leb, lt-leb}
-use Rattle.machine.specs.Limits.{maxNumberBytes, maxNumber}
+use Rattle.machine.specs.Limits.{maxNumberBytes}
 use Rattle.machine.specs.Number.{Number, groups, padded, within, readNumber}
-use Rattle.machine.specs.Parser.{parsed, refused, field, fieldOf, fieldUpTo}
+use Rattle.machine.specs.Parser.{parsed, refused, fieldOf, fieldUpTo}
 use Rattle.codec.specs.declared.Read.{Read}
 use Rattle.codec.specs.declared.Read.the-variants.{Number as Whole, Refused as Unread}
 use Rattle.codec.specs.declared.Field.the-variants.{Value, Refused}
@@ -60,26 +60,26 @@ module _ (s : List ℕ) (k most at : ℕ) (r : Read) (e : r ≡ readAs at (readN
 
 -- ---- A field
 
-module _ (s : List ℕ) (code lo hi at numbers mentions : ℕ) (r : Read)
-    (e : numberOf at r ≡ readNumber maxNumberBytes maxNumber (drop at s)) where
-  pub field-unread : r ≡ Unread → refused code ≡ field s code lo hi (cursorAt at numbers mentions)
+module _ (s : List ℕ) (most code lo hi at numbers mentions : ℕ) (r : Read)
+    (e : numberOf at r ≡ readNumber maxNumberBytes most (drop at s)) where
+  pub field-unread : r ≡ Unread → refused code ≡ fieldUpTo most s code lo hi (cursorAt at numbers mentions)
   unfolding fieldUpTo fieldOf numberOf
   field-unread h = rw (← e, h)
 
   module _ (v next : ℕ) (h : r ≡ Whole v next) where
-    whole : readNumber maxNumberBytes maxNumber (drop at s) ≡ some (record { value = v; size = next - at })
+    whole : readNumber maxNumberBytes most (drop at s) ≡ some (record { value = v; size = next - at })
     unfolding numberOf
     whole = rw (← e, h)
 
-    pub field-low : v < lo → refused (suc code) ≡ field s code lo hi (cursorAt at numbers mentions)
+    pub field-low : v < lo → refused (suc code) ≡ fieldUpTo most s code lo hi (cursorAt at numbers mentions)
     unfolding fieldUpTo fieldOf
     field-low low = rw (whole, lt-leb lo v low)
 
-    pub field-high : lo ≤ v → hi < v → refused (suc code) ≡ field s code lo hi (cursorAt at numbers mentions)
+    pub field-high : lo ≤ v → hi < v → refused (suc code) ≡ fieldUpTo most s code lo hi (cursorAt at numbers mentions)
     unfolding fieldUpTo fieldOf
     field-high low high = rw (whole, le-leb lo v low, lt-leb v hi high)
 
-    pub field-within : lo ≤ v → v ≤ hi → at < next → parsed v (cursorAt next numbers mentions) ≡ field s code lo hi (cursorAt at numbers mentions)
+    pub field-within : lo ≤ v → v ≤ hi → at < next → parsed v (cursorAt next numbers mentions) ≡ fieldUpTo most s code lo hi (cursorAt at numbers mentions)
     unfolding fieldUpTo fieldOf
     field-within low high after =
         let n : next ≡ at + (next - at) = omega arith in

@@ -10,9 +10,9 @@ use lib.Dec.{leb}
 use lib.ListN.{length, drop, take, take-append-drop}
 use lib.Seq.{drop-append-seam, drop-drop, length-take-le}
 use borrow.Author.Tests.{le-leb, leb-true}
-use Rattle.machine.specs.Limits.{maxNumberBytes, maxNumber}
+use Rattle.machine.specs.Limits.{maxNumberBytes, fiveGroups}
 use Rattle.machine.specs.Number.{Number, numberBytes, readNumber}
-use Rattle.machine.specs.Parser.{Cursor, Parsed, parsed, refused, field, fieldOf, fieldUpTo}
+use Rattle.machine.specs.Parser.{Cursor, Parsed, parsed, refused, fieldOf, fieldUpTo}
 use Rattle.codec.specs.declared.Field.{Field}
 use Rattle.codec.specs.declared.Field.the-variants.{Value, Refused}
 use Rattle.codec.specs.Answers.{cursorAt, parsedOf}
@@ -47,13 +47,13 @@ between lo v hi e =
 pub drop-past : (s u rest : List ℕ) (at : ℕ) → drop at s ≡ u ++ rest → drop (at + length u) s ≡ rest
 drop-past s u rest at e = sym (drop-drop (length u) at s) ∙ ap (drop (length u)) e ∙ drop-append-seam u rest
 
-pub field-reads : (s rest : List ℕ) (at v code lo hi numbers mentions : ℕ) →
-    drop at s ≡ numberBytes v ++ rest → lo ≤ v → v ≤ hi → hi ≤ maxNumber →
-    field s code lo hi (cursorAt at numbers mentions) ≡ parsed v (cursorAt (at + length (numberBytes v)) numbers mentions)
+pub field-reads : (s rest : List ℕ) (most at v code lo hi numbers mentions : ℕ) →
+    drop at s ≡ numberBytes v ++ rest → lo ≤ v → v ≤ hi → hi ≤ most → most ≤ fiveGroups →
+    fieldUpTo most s code lo hi (cursorAt at numbers mentions) ≡ parsed v (cursorAt (at + length (numberBytes v)) numbers mentions)
 unfolding fieldUpTo fieldOf
-field-reads s rest at v code lo hi numbers mentions e low high size =
+field-reads s rest most at v code lo hi numbers mentions e low high size groups =
     let fits = numberBytes-length 4 v (omega arith) in
-    rw (e, numberBytes-reads maxNumberBytes maxNumber v rest (omega arith) (omega arith) fits, le-leb lo v low, le-leb v hi high)
+    rw (e, numberBytes-reads maxNumberBytes most v rest (omega arith) (omega arith) fits, le-leb lo v low, le-leb v hi high)
 
 -- ---- Read, then written
 
@@ -64,22 +64,22 @@ pub record FieldTaken (s : List ℕ) (at lo hi v : ℕ) (after : Cursor) (number
   pub bytes : drop at s ≡ numberBytes v ++ drop (at + length (numberBytes v)) s
   pub cursor : after ≡ cursorAt (at + length (numberBytes v)) numbers mentions
 
-pub field-taken : (s : List ℕ) (at v code lo hi numbers mentions : ℕ) (after : Cursor) → Bytes s →
-    field s code lo hi (cursorAt at numbers mentions) ≡ parsed v after → FieldTaken s at lo hi v after numbers mentions
+pub field-taken : (s : List ℕ) (most at v code lo hi numbers mentions : ℕ) (after : Cursor) → Bytes s →
+    fieldUpTo most s code lo hi (cursorAt at numbers mentions) ≡ parsed v after → FieldTaken s at lo hi v after numbers mentions
 unfolding fieldUpTo fieldOf
-field-taken s at v code lo hi numbers mentions after bytes e =
-    go (readNumber maxNumberBytes maxNumber (drop at s)) refl e
+field-taken s most at v code lo hi numbers mentions after bytes e =
+    go (readNumber maxNumberBytes most (drop at s)) refl e
   where
-    found : (n : Number) → readNumber maxNumberBytes maxNumber (drop at s) ≡ some n → (t : Bool) →
+    found : (n : Number) → readNumber maxNumberBytes most (drop at s) ≡ some n → (t : Bool) →
         leb lo (n .value) && leb (n .value) hi ≡ t →
         cond t (parsed (n .value) (cursorAt (at + n .size) numbers mentions)) (refused (suc code)) ≡ parsed v after →
         FieldTaken s at lo hi v after numbers mentions
     found n f true t g =
         let ev : n .value ≡ v = cc in
         let ec : cursorAt (at + n .size) numbers mentions ≡ after = cc in
-        let inside = accepted maxNumberBytes maxNumber (drop at s) n f .inside in
+        let inside = accepted maxNumberBytes most (drop at s) n f .inside in
         let nb : numberBytes v ≡ take (n .size) (drop at s) =
-        ap numberBytes (sym ev) ∙ numberBytes-read maxNumberBytes maxNumber (drop at s) n (omega arith) (bytes-drop at s bytes) f in
+        ap numberBytes (sym ev) ∙ numberBytes-read maxNumberBytes most (drop at s) n (omega arith) (bytes-drop at s bytes) f in
         let len : length (numberBytes v) ≡ n .size = ap length nb ∙ length-take-le (n .size) (drop at s) inside in
         let range = between lo (n .value) hi t in
         record {
@@ -94,7 +94,7 @@ field-taken s at v code lo hi numbers mentions after bytes e =
         }
     found n f false t g = let z : _≡_ {A = ℕ} 0 1 = cc in absurd (omega arith)
 
-    go : (o : Option Number) → readNumber maxNumberBytes maxNumber (drop at s) ≡ o →
+    go : (o : Option Number) → readNumber maxNumberBytes most (drop at s) ≡ o →
         fieldOf code lo hi o (cursorAt at numbers mentions) ≡ parsed v after → FieldTaken s at lo hi v after numbers mentions
     go none f g = let z : _≡_ {A = ℕ} 0 1 = cc in absurd (omega arith)
     go (some n) f g = found n f (leb lo (n .value) && leb (n .value) hi) refl g

@@ -10,7 +10,7 @@ use lib.Dec.{leb}
 use lib.ListN.{length, drop, take, length-append}
 use lib.Seq.{drop-append-seam}
 use borrow.Author.Tests.{le-leb, leb-true}
-use Rattle.machine.specs.Limits.{maxNumberBytes, maxNumber, maxReportNumberBytes, maxReportNumber}
+use Rattle.machine.specs.Limits.{maxNumberBytes, fiveGroups, maxReportNumberBytes, maxReportNumber}
 use Rattle.machine.specs.Number.{Number, upper, numberBytes, groups, padded, within, readNumber}
 use Rattle.codec.proofs.Groups.{Bytes, above-lt, upper-zero, upper-step, upper-length, upper-fuel, lengthened, lengthened-some, groups-last, groups-upper, groups-bytes, groups-size, padded-upper, none-some}
 
@@ -70,12 +70,12 @@ numberBytes-reads k most v rest h small fits =
     rw (append-assoc u, short, read, le-leb v most h)
 
 -- behind any bytes, for the two sizes of the paper
-pub number-reads-back : (before rest : List ℕ) (v : ℕ) → v ≤ maxNumber →
-    readNumber maxNumberBytes maxNumber (drop (length before) (before ++ (numberBytes v ++ rest))) ≡ written v
-number-reads-back before rest v h =
+pub number-reads-back : (before rest : List ℕ) (most v : ℕ) → v ≤ most → most ≤ fiveGroups →
+    readNumber maxNumberBytes most (drop (length before) (before ++ (numberBytes v ++ rest))) ≡ written v
+number-reads-back before rest most v h groups =
     let small : v < 128 ^ 5 = omega arith in
     rw (drop-append-seam before (numberBytes v ++ rest))
-    (numberBytes-reads 5 maxNumber v rest h (omega arith) (numberBytes-length 4 v small))
+    (numberBytes-reads 5 most v rest h (omega arith) (numberBytes-length 4 v small))
 
 pub report-number-reads-back : (before rest : List ℕ) (v : ℕ) → v ≤ maxReportNumber →
     readNumber maxReportNumberBytes maxReportNumber (drop (length before) (before ++ (numberBytes v ++ rest))) ≡ written v

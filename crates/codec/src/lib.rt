@@ -7,9 +7,9 @@ ghost use Prim.Native.Nat.{ℕ, _+_, _≤_, _<_};
 ghost use lib.Dec.{leb};
 ghost use lib.ListN.{length, drop};
 ghost use lib.Seq.{sets};
-ghost use Rattle.machine.specs.Limits.{maxNumberBytes, maxNumber, maxReportNumberBytes, maxReportNumber};
+ghost use Rattle.machine.specs.Limits.{maxNumberBytes, maxReportNumberBytes, maxReportNumber};
 ghost use Rattle.machine.specs.Number.{groups, within, readNumber, numberBytes};
-ghost use Rattle.machine.specs.Parser.{field};
+ghost use Rattle.machine.specs.Parser.{fieldUpTo};
 ghost use Rattle.codec.specs.Answers.{numberOf, readAs, cursorAt, parsedOf};
 ghost use Rattle.codec.specs.Writing.{written, put};
 
@@ -79,12 +79,12 @@ fn read_shortest(s: &[u8], at: usize, limit: usize, most: u64) -> Read
     read_groups(s, at, limit, most)
 }
 
-// A number of model, tape or trace.
-pub fn read_number(s: &[u8], at: usize) -> Read
-    ensures { λ r. ⌜ numberOf at r ≡ readNumber maxNumberBytes maxNumber (drop at (now (s .entry))) ⌝ }
-    ensures inside { λ r. ⌜ ((v next : ℕ) → r ≡ Read.Number v next → (v ≤ maxNumber) × (at < next) × (next ≤ length (now (s .entry)))) ⌝ }
+// A number of model, tape or trace, in size if it is at most `most`.
+pub fn read_number(s: &[u8], at: usize, most: u64) -> Read
+    ensures { λ r. ⌜ numberOf at r ≡ readNumber maxNumberBytes most (drop at (now (s .entry))) ⌝ }
+    ensures inside { λ r. ⌜ ((v next : ℕ) → r ≡ Read.Number v next → (v ≤ most) × (at < next) × (next ≤ length (now (s .entry)))) ⌝ }
 {
-    read_shortest(s, at, Model::NUMBER_BYTES, Model::MAX_NUMBER)
+    read_shortest(s, at, Model::NUMBER_BYTES, most)
 }
 
 // A number of the report.
@@ -95,16 +95,16 @@ pub fn read_report_number(s: &[u8], at: usize) -> Read
     read_shortest(s, at, Model::REPORT_NUMBER_BYTES, Model::MAX_REPORT_NUMBER)
 }
 
-// A number from lo to hi. `code` is the refusal of one that is not whole, not shortest or not in
-// size, and the next number that of one out of range: 3 and 4 for the model, 8 and 9 for the tape,
-// 31 and 32 for the trace.
-pub fn read_field(s: &[u8], at: usize, lo: u64, hi: u64, code: u8) -> Field
-    ensures { λ r. ⌜ ((numbers mentions : ℕ) → parsedOf numbers mentions r ≡ field (now (s .entry)) code lo hi (cursorAt at numbers mentions)) ⌝ }
+// A number from lo to hi. `code` is the refusal of one that is not whole, not shortest or above
+// `most`, and the next number that of one out of range: 3 and 4 for the model, 8 and 9 for the
+// tape, 31 and 32 for the trace.
+pub fn read_field(s: &[u8], at: usize, most: u64, lo: u64, hi: u64, code: u8) -> Field
+    ensures { λ r. ⌜ ((numbers mentions : ℕ) → parsedOf numbers mentions r ≡ fieldUpTo most (now (s .entry)) code lo hi (cursorAt at numbers mentions)) ⌝ }
     ensures inside { λ r. ⌜ ((v next : ℕ) → r ≡ Field.Value v next → (lo ≤ v) × (v ≤ hi) × (at < next) × (next ≤ length (now (s .entry)))) ⌝ }
 {
     let malformed = code as u32;
     let out_of_range = malformed + 1;
-    let Read::Number(v, next) = read_number(s, at) else {
+    let Read::Number(v, next) = read_number(s, at, most) else {
         return Field::Refused(malformed);
     };
     if v < lo {

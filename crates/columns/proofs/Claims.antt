@@ -10,10 +10,10 @@ use lib.Dec.{leb}
 use lib.ListN.{length, drop, length-append, length-map}
 use borrow.Author.Tests.{le-leb, lt-leb}
 use Rattle.machine.specs.Rules.{inForce}
-use Rattle.machine.specs.Limits.{maxTransaction, maxBlocks}
+use Rattle.machine.specs.Limits.{maxTransaction, maxBlocks, fiveGroups}
 use Rattle.machine.specs.Number.{numberBytes}
-use Rattle.machine.specs.Parser.{times, field}
-use Rattle.machine.specs.Trace.{Record, traceBytes, written, rejected, readRecord}
+use Rattle.machine.specs.Parser.{times}
+use Rattle.machine.specs.Trace.{Record, traceBytes, written, rejected, traceField, readRecord}
 use Rattle.codec.specs.Answers.{cursorAt}
 use Rattle.codec.proofs.Fields.{drop-past, field-reads}
 use Rattle.trace.specs.Whole.{AllInRanges}
@@ -99,16 +99,16 @@ module _ (l : List Record) (few : length l ≤ maxRecords) (good : AllInRanges l
       let s3 : Stands s p2 (blocks l) p3 = record { bytes = d3 ∙ ap (λ (u : List ℕ). d ++ u) (sym d4); place = refl } in
       let s4 : Stands s p3 (outcomes l) p4 = record { bytes = d4 ∙ ap (λ (u : List ℕ). e ++ u) (sym d5); place = refl } in
       let end : p4 ≡ length s = sym (unfold columnBytes in (simp length-append (omega arith))) in
-      let f0 = field-reads s _ 0 (length l) 31 0 maxRecords 0 0 d0 zero-le few (omega arith) in
+      let f0 = field-reads s _ fiveGroups 0 (length l) 31 0 maxRecords 0 0 d0 zero-le few (omega arith) (omega arith) in
       let f1 = clocks-read s (clocks l) 0 p0 p1 zero-le s1 rises (clocks-below l good) in
       let f2 = column-reads s 1 maxTransaction (omega arith) (transactions l) p1 p2 s2 (transactions-between l good) in
       let f3 = column-reads s 1 maxBlocks (omega arith) (blocks l) p2 p3 s3 (blocks-between l good) in
       let f4 = column-reads s 0 1 (omega arith) (outcomes l) p3 p4 s4 (outcomes-between l good) in
       columns-parsed s (length l) p0 p1 p2 p3 p4 (clocks l) (transactions l) (blocks l) (outcomes l) f0
       (ap (λ (n : ℕ). clocksFrom s n 0 (cursorAt p0 0 0)) (sym (length-map l (λ r. r .clock))) ∙ f1)
-      (ap (λ (n : ℕ). times n (field s 31 1 maxTransaction) (cursorAt p1 0 0)) (sym (length-map l (λ r. r .transaction))) ∙ f2)
-      (ap (λ (n : ℕ). times n (field s 31 1 maxBlocks) (cursorAt p2 0 0)) (sym (length-map l (λ r. r .block))) ∙ f3)
-      (ap (λ (n : ℕ). times n (field s 31 0 1) (cursorAt p3 0 0)) (sym (length-map l (λ r. r .outcome))) ∙ f4)
+      (ap (λ (n : ℕ). times n (traceField inForce s 1 maxTransaction) (cursorAt p1 0 0)) (sym (length-map l (λ r. r .transaction))) ∙ f2)
+      (ap (λ (n : ℕ). times n (traceField inForce s 1 maxBlocks) (cursorAt p2 0 0)) (sym (length-map l (λ r. r .block))) ∙ f3)
+      (ap (λ (n : ℕ). times n (traceField inForce s 0 1) (cursorAt p3 0 0)) (sym (length-map l (λ r. r .outcome))) ∙ f4)
       end
       ∙ ap some (rows-of l)
 

@@ -7,7 +7,7 @@ use mathlib.Core.Path.{_≡_, refl, ap, _∙_}
 use lib.Dec.{leb}
 use lib.ListN.{length, drop}
 use borrow.Author.Tests.{le-ltb, leb-true}
-use Rattle.machine.specs.Limits.{maxClock, maxTransaction, maxBlocks, maxNumberBytes, maxNumber}
+use Rattle.machine.specs.Limits.{maxClock, maxTransaction, maxBlocks, maxNumberBytes, fiveGroups}
 use Rattle.machine.specs.Number.{numberBytes}
 use Rattle.machine.specs.Trace.{Record}
 use Rattle.codec.proofs.Fields.{both-true}
@@ -18,12 +18,12 @@ use Rattle.columns.specs.Walks.{numberOr, numberAt, later, found, passed
 use Rattle.columns.proofs.Parsing.{Stands, stands-first, stands-rest, Between, Below}
 
 module _ (s : List ℕ) where
-  number-stands : (at v : ℕ) (l : List ℕ) (end : ℕ) → v ≤ maxNumber → Stands s at (v ∷ l) end →
+  number-stands : (at v : ℕ) (l : List ℕ) (end : ℕ) → v ≤ fiveGroups → Stands s at (v ∷ l) end →
       numberAt s at ≡ record { value = v; next = at + length (numberBytes v) }
   unfolding numberOr
   number-stands at v l end small h =
       let fits = numberBytes-length 4 v (omega arith) in
-      rw (stands-first s at v l end h, numberBytes-reads maxNumberBytes maxNumber v (column l ++ drop end s) small (omega arith) fits)
+      rw (stands-first s at v l end h, numberBytes-reads maxNumberBytes fiveGroups v (column l ++ drop end s) small (omega arith) fits)
 
   later-is : (clock d : ℕ) → clock + d ≤ maxClock → later clock d ≡ clock + d
   unfolding later

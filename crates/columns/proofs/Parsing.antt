@@ -8,9 +8,11 @@ use mathlib.Core.Path.{_≡_, refl, sym, ap, subst₂, _∙_}
 use lib.Dec.{leb}
 use lib.ListN.{length, drop, length-append}
 use borrow.Author.Tests.{le-leb, leb-true}
-use Rattle.machine.specs.Limits.{maxClock, maxNumber}
+use Rattle.machine.specs.Rules.{inForce}
+use Rattle.machine.specs.Limits.{maxClock, fiveGroups}
 use Rattle.machine.specs.Number.{numberBytes}
-use Rattle.machine.specs.Parser.{Cursor, Parsed, parsed, refused, Parser, continue, times, field}
+use Rattle.machine.specs.Parser.{Cursor, Parsed, parsed, refused, Parser, continue, times}
+use Rattle.machine.specs.Trace.{traceField}
 use Rattle.machine.specs.Claims.{Each}
 use Rattle.codec.specs.Answers.{cursorAt}
 use Rattle.codec.proofs.Fields.{both-true, drop-past, field-reads, field-taken}
@@ -74,18 +76,18 @@ pub record ColumnTaken (s : List ℕ) (lo hi n at : ℕ) (l : List ℕ) (c : Cur
   pub between : Between lo hi l
 
 module _ (s : List ℕ) (bytes : Bytes s) (lo hi : ℕ) where
-  pub column-taken : (n at : ℕ) (l : List ℕ) (c : Cursor) → times n (field s 31 lo hi) (cursorAt at 0 0) ≡ parsed l c → ColumnTaken s lo hi n at l c
+  pub column-taken : (n at : ℕ) (l : List ℕ) (c : Cursor) → times n (traceField inForce s lo hi) (cursorAt at 0 0) ≡ parsed l c → ColumnTaken s lo hi n at l c
   unfolding times
   column-taken zero at l c e =
       let el : l ≡ [] = sym (parsed-list e) in
       let ec : c ≡ cursorAt at 0 0 = sym (parsed-cursor e) in
       rw (el, ec) (record { stands = stands-none s at; cursor = refl; count = refl; between = tt })
   column-taken (suc n) at l c e =
-      let x = continued (field s 31 lo hi (cursorAt at 0 0)) _ l c e in
-      let t = field-taken s at (x .0) 31 lo hi 0 0 (x .1) bytes (x .2) in
-      let y = continued (times n (field s 31 lo hi) (x .1)) _ l c (x .3) in
+      let x = continued (traceField inForce s lo hi (cursorAt at 0 0)) _ l c e in
+      let t = field-taken s fiveGroups at (x .0) 31 lo hi 0 0 (x .1) bytes (x .2) in
+      let y = continued (times n (traceField inForce s lo hi) (x .1)) _ l c (x .3) in
       let next = at + length (numberBytes (x .0)) in
-      let rest = column-taken n next (y .0) (y .1) (ap (times n (field s 31 lo hi)) (sym (t .cursor)) ∙ y .2) in
+      let rest = column-taken n next (y .0) (y .1) (ap (times n (traceField inForce s lo hi)) (sym (t .cursor)) ∙ y .2) in
       subst₂ (λ (m : List ℕ) (d : Cursor). ColumnTaken s lo hi (suc n) at m d) (parsed-list (y .3)) (parsed-cursor (y .3))
       (record {
         stands = stands-cons s at (x .0) (y .0) (y .1 .position) (t .bytes) (rest .stands);
@@ -94,13 +96,13 @@ module _ (s : List ℕ) (bytes : Bytes s) (lo hi : ℕ) where
         between = ((t .low, t .high), rest .between);
       })
 
-module _ (s : List ℕ) (lo hi : ℕ) (size : hi ≤ maxNumber) where
+module _ (s : List ℕ) (lo hi : ℕ) (size : hi ≤ fiveGroups) where
   pub column-reads : (l : List ℕ) (at end : ℕ) → Stands s at l end → Between lo hi l →
-      times (length l) (field s 31 lo hi) (cursorAt at 0 0) ≡ parsed l (cursorAt end 0 0)
+      times (length l) (traceField inForce s lo hi) (cursorAt at 0 0) ≡ parsed l (cursorAt end 0 0)
   unfolding times column continue
   column-reads [] at end h b = let e : at ≡ end = sym (h .place ∙ add-zero at) in rw e
   column-reads (v ∷ l) at end h b =
-      let f = field-reads s _ at v 31 lo hi 0 0 (stands-first s at v l end h) (b .0 .0) (b .0 .1) size in
+      let f = field-reads s _ fiveGroups at v 31 lo hi 0 0 (stands-first s at v l end h) (b .0 .0) (b .0 .1) size (omega arith) in
       let rest = column-reads l (at + length (numberBytes v)) end (stands-rest s at v l end h) (b .1) in
       rw (f, rest)
 
@@ -140,9 +142,9 @@ module _ (s : List ℕ) (bytes : Bytes s) where
       let ec : c ≡ cursorAt at 0 0 = sym (parsed-cursor e) in
       rw (el, ec) (unfold differences neverFall in record { stands = stands-none s at; cursor = refl; count = refl; rises = refl; below = tt })
   clocks-taken (suc n) before at l c limit e =
-      let x = continued (field s 31 0 (maxClock - before) (cursorAt at 0 0)) _ l c e in
+      let x = continued (traceField inForce s 0 (maxClock - before) (cursorAt at 0 0)) _ l c e in
       let d = x .0 in
-      let t = field-taken s at d 31 0 (maxClock - before) 0 0 (x .1) bytes (x .2) in
+      let t = field-taken s fiveGroups at d 31 0 (maxClock - before) 0 0 (x .1) bytes (x .2) in
       let y = continued (clocksFrom s n (before + d) (x .1)) _ l c (x .3) in
       let next = at + length (numberBytes d) in
       let small : before + d ≤ maxClock = omega (arith, t .high) in
@@ -160,6 +162,6 @@ module _ (s : List ℕ) where
       let up : before ≤ v = leb-true _ _ (t .0) in
       let d = v - before in
       let back : before + (v - before) ≡ v = omega arith in
-      let f = field-reads s _ at d 31 0 (maxClock - before) 0 0 (stands-first s at d (differences v l) end h) zero-le (omega (arith, b .0)) (omega arith) in
+      let f = field-reads s _ fiveGroups at d 31 0 (maxClock - before) 0 0 (stands-first s at d (differences v l) end h) zero-le (omega (arith, b .0)) (omega arith) (omega arith) in
       let rest = clocks-read l v (at + length (numberBytes d)) end (b .0) (stands-rest s at d (differences v l) end h) (t .1) (b .1) in
       rw (f, back, rest)

@@ -9,12 +9,13 @@ use lib.Dec.{eqb}
 use lib.ListN.{length, drop, length-append, length-map}
 use lib.Seq.{drop-length}
 use borrow.Author.Tests.{eq-eqb, eqb-true}
-use Rattle.machine.specs.Limits.{maxTransaction, maxBlocks}
+use Rattle.machine.specs.Rules.{inForce}
+use Rattle.machine.specs.Limits.{maxTransaction, maxBlocks, fiveGroups}
 use Rattle.machine.specs.Number.{numberBytes}
-use Rattle.machine.specs.Parser.{Cursor, Parsed, parsed, refused, continue, ask, times, field}
+use Rattle.machine.specs.Parser.{Cursor, Parsed, parsed, refused, continue, ask, times}
 use Rattle.machine.specs.Decode.{atEnd}
 use Rattle.machine.specs.Validate.{beginning}
-use Rattle.machine.specs.Trace.{Record, recordBytes, traceBytes}
+use Rattle.machine.specs.Trace.{Record, recordBytes, traceBytes, traceField}
 use Rattle.codec.specs.Answers.{cursorAt}
 use Rattle.codec.proofs.Fields.{field-taken}
 use Rattle.codec.proofs.Groups.{Bytes}
@@ -135,11 +136,11 @@ module _ {s : List ℕ} {n p0 p1 p2 p3 : ℕ} {cs ts bs os : List ℕ} (h : Piec
 -- ---- From what was parsed
 
 module _ (s : List ℕ) (n p0 p1 p2 p3 p4 : ℕ) (cs ts bs os : List ℕ)
-    (f0 : field s 31 0 maxRecords (cursorAt 0 0 0) ≡ parsed n (cursorAt p0 0 0))
+    (f0 : traceField inForce s 0 maxRecords (cursorAt 0 0 0) ≡ parsed n (cursorAt p0 0 0))
     (f1 : clocksFrom s n 0 (cursorAt p0 0 0) ≡ parsed cs (cursorAt p1 0 0))
-    (f2 : times n (field s 31 1 maxTransaction) (cursorAt p1 0 0) ≡ parsed ts (cursorAt p2 0 0))
-    (f3 : times n (field s 31 1 maxBlocks) (cursorAt p2 0 0) ≡ parsed bs (cursorAt p3 0 0))
-    (f4 : times n (field s 31 0 1) (cursorAt p3 0 0) ≡ parsed os (cursorAt p4 0 0)) where
+    (f2 : times n (traceField inForce s 1 maxTransaction) (cursorAt p1 0 0) ≡ parsed ts (cursorAt p2 0 0))
+    (f3 : times n (traceField inForce s 1 maxBlocks) (cursorAt p2 0 0) ≡ parsed bs (cursorAt p3 0 0))
+    (f4 : times n (traceField inForce s 0 1) (cursorAt p3 0 0) ≡ parsed os (cursorAt p4 0 0)) where
   pub columns-parsed : p4 ≡ length s → takenColumns s ≡ some (rows cs ts bs os)
   unfolding takenColumns columnFields continue atEnd ask recordsOf
   columns-parsed end = rw (f0, f1, f2, f3, f4, eq-eqb p4 (length s) end)
@@ -175,18 +176,18 @@ pub columns-parse : (s : List ℕ) → Bytes s → (l : List Record) → takenCo
 unfolding takenColumns columnFields
 columns-parse s bytes l e =
     let r = records-some (columnFields s beginning) l e in
-    let a = continued (field s 31 0 maxRecords (cursorAt 0 0 0)) _ l (r .0) (r .1) in
-    let t = field-taken s 0 (a .0) 31 0 maxRecords 0 0 (a .1) bytes (a .2) in
+    let a = continued (traceField inForce s 0 maxRecords (cursorAt 0 0 0)) _ l (r .0) (r .1) in
+    let t = field-taken s fiveGroups 0 (a .0) 31 0 maxRecords 0 0 (a .1) bytes (a .2) in
     let n = a .0 in
     let p0 = 0 + length (numberBytes n) in
     let b = continued (clocksFrom s n 0 (a .1)) _ l (r .0) (a .3) in
     let cs = clocks-taken s bytes n 0 p0 (b .0) (b .1) zero-le (ap (clocksFrom s n 0) (sym (t .cursor)) ∙ b .2) in
-    let c = continued (times n (field s 31 1 maxTransaction) (b .1)) _ l (r .0) (b .3) in
-    let ts = column-taken s bytes 1 maxTransaction n (b .1 .position) (c .0) (c .1) (ap (times n (field s 31 1 maxTransaction)) (sym (cs .cursor)) ∙ c .2) in
-    let d = continued (times n (field s 31 1 maxBlocks) (c .1)) _ l (r .0) (c .3) in
-    let bs = column-taken s bytes 1 maxBlocks n (c .1 .position) (d .0) (d .1) (ap (times n (field s 31 1 maxBlocks)) (sym (ts .cursor)) ∙ d .2) in
-    let f = continued (times n (field s 31 0 1) (d .1)) _ l (r .0) (d .3) in
-    let os = column-taken s bytes 0 1 n (d .1 .position) (f .0) (f .1) (ap (times n (field s 31 0 1)) (sym (bs .cursor)) ∙ f .2) in
+    let c = continued (times n (traceField inForce s 1 maxTransaction) (b .1)) _ l (r .0) (b .3) in
+    let ts = column-taken s bytes 1 maxTransaction n (b .1 .position) (c .0) (c .1) (ap (times n (traceField inForce s 1 maxTransaction)) (sym (cs .cursor)) ∙ c .2) in
+    let d = continued (times n (traceField inForce s 1 maxBlocks) (c .1)) _ l (r .0) (c .3) in
+    let bs = column-taken s bytes 1 maxBlocks n (c .1 .position) (d .0) (d .1) (ap (times n (traceField inForce s 1 maxBlocks)) (sym (ts .cursor)) ∙ d .2) in
+    let f = continued (times n (traceField inForce s 0 1) (d .1)) _ l (r .0) (d .3) in
+    let os = column-taken s bytes 0 1 n (d .1 .position) (f .0) (f .1) (ap (times n (traceField inForce s 0 1)) (sym (bs .cursor)) ∙ f .2) in
     let z = at-end s l (rows (b .0) (c .0) (d .0) (f .0)) (f .1) (r .0) (f .3) in
     record {
       n = n;

@@ -7,11 +7,12 @@ use mathlib.Core.Option.{none, some}
 use mathlib.Core.Path.{_≡_, refl, sym, ap, subst, _∙_}
 use lib.ListN.{length, length-append}
 use borrow.Author.Tests.{ne-eqb}
+use Rattle.machine.specs.Rules.{inForce}
 use Rattle.machine.specs.Limits.{maxClock, maxTransaction, maxBlocks}
 use Rattle.machine.specs.Number.{numberBytes}
-use Rattle.machine.specs.Parser.{Cursor, Parsed, parsed, refused, continue, ask, times, field}
+use Rattle.machine.specs.Parser.{Cursor, Parsed, parsed, refused, continue, ask, times}
 use Rattle.machine.specs.Decode.{atEnd}
-use Rattle.machine.specs.Trace.{Record, traceBytes}
+use Rattle.machine.specs.Trace.{Record, traceBytes, traceField}
 use Rattle.codec.specs.declared.Field.{Field}
 use Rattle.codec.specs.declared.Field.the-variants.{Value, Refused as NoField}
 use Rattle.codec.specs.Answers.{cursorAt, parsedOf}
@@ -32,27 +33,27 @@ nine r v e = omega (arith, numberBytes-longest v)
 -- ---- One column, number by number
 
 module _ (s : List ℕ) (lo hi : ℕ) where
-  pub column-none : (left next : ℕ) → left ≤ 0 → ColumnEnd next ≡ ends (times left (field s 31 lo hi) (cursorAt next 0 0))
+  pub column-none : (left next : ℕ) → left ≤ 0 → ColumnEnd next ≡ ends (times left (traceField inForce s lo hi) (cursorAt next 0 0))
   unfolding times ends
   column-none left next h = let e : left ≡ 0 = omega arith in rw e
 
-  module _ (left next : ℕ) (f : Field) (some : 0 < left) (e : (i j : ℕ) → parsedOf i j f ≡ field s 31 lo hi (cursorAt next i j)) where
-    pub column-stop : {n : ℕ} → f ≡ NoField n → NoColumn ≡ ends (times left (field s 31 lo hi) (cursorAt next 0 0))
+  module _ (left next : ℕ) (f : Field) (some : 0 < left) (e : (i j : ℕ) → parsedOf i j f ≡ traceField inForce s lo hi (cursorAt next i j)) where
+    pub column-stop : {n : ℕ} → f ≡ NoField n → NoColumn ≡ ends (times left (traceField inForce s lo hi) (cursorAt next 0 0))
     unfolding times parsedOf continue ends
     column-stop told = let more : left ≡ suc (left - 1) = omega arith in rw (more, ← e 0 0, told)
 
     pub column-step : {v after : ℕ} → f ≡ Value v after →
-        ends (times (left - 1) (field s 31 lo hi) (cursorAt after 0 0)) ≡ ends (times left (field s 31 lo hi) (cursorAt next 0 0))
+        ends (times (left - 1) (traceField inForce s lo hi) (cursorAt after 0 0)) ≡ ends (times left (traceField inForce s lo hi) (cursorAt next 0 0))
     column-step {v} {after} told =
         let more : suc (left - 1) ≡ left = omega arith in
-        one (left - 1) ∙ ap (λ (n : ℕ). ends (times n (field s 31 lo hi) (cursorAt next 0 0))) more
+        one (left - 1) ∙ ap (λ (n : ℕ). ends (times n (traceField inForce s lo hi) (cursorAt next 0 0))) more
       where
         go : (P : Parsed (List ℕ)) → ends P ≡ ends (continue P (λ l c. parsed (v ∷ l) c))
         go (parsed l c) = unfold ends continue in refl
         go (refused n) = unfold ends continue in refl
 
-        one : (k : ℕ) → ends (times k (field s 31 lo hi) (cursorAt after 0 0)) ≡ ends (times (suc k) (field s 31 lo hi) (cursorAt next 0 0))
-        one k = unfold times parsedOf continue in rw (← e 0 0, told) (go (times k (field s 31 lo hi) (cursorAt after 0 0)))
+        one : (k : ℕ) → ends (times k (traceField inForce s lo hi) (cursorAt after 0 0)) ≡ ends (times (suc k) (traceField inForce s lo hi) (cursorAt next 0 0))
+        one k = unfold times parsedOf continue in rw (← e 0 0, told) (go (times k (traceField inForce s lo hi) (cursorAt after 0 0)))
 
 -- ---- The clocks
 
@@ -62,7 +63,7 @@ module _ (s : List ℕ) where
   clocks-none left clock next size h = let e : left ≡ 0 = omega arith in rw (e, add-zero size)
 
   module _ (left clock next size : ℕ) (f : Field) (some : 0 < left)
-      (e : (i j : ℕ) → parsedOf i j f ≡ field s 31 0 (maxClock - clock) (cursorAt next i j)) where
+      (e : (i j : ℕ) → parsedOf i j f ≡ traceField inForce s 0 (maxClock - clock) (cursorAt next i j)) where
     pub clocks-stop : {n : ℕ} → f ≡ NoField n → NoClocks ≡ sized size (clocksFrom s left clock (cursorAt next 0 0))
     unfolding clocksFrom parsedOf continue sized
     clocks-stop told = let more : left ≡ suc (left - 1) = omega arith in rw (more, ← e 0 0, told)
@@ -113,7 +114,7 @@ sized-some (refused n) p size e = let z : _≡_ {A = ℕ} 0 1 = cc in absurd (om
 -- a column that ends at a position
 pub record Known (s : List ℕ) (lo hi n at p : ℕ) : Type 0 where
   pub list : List ℕ
-  pub parsed-is : times n (field s 31 lo hi) (cursorAt at 0 0) ≡ parsed list (cursorAt p 0 0)
+  pub parsed-is : times n (traceField inForce s lo hi) (cursorAt at 0 0) ≡ parsed list (cursorAt p 0 0)
   pub taken-is : ColumnTaken s lo hi n at list (cursorAt p 0 0)
 
 pub record KnownClocks (s : List ℕ) (n at p size : ℕ) : Type 0 where
@@ -123,9 +124,9 @@ pub record KnownClocks (s : List ℕ) (n at p size : ℕ) : Type 0 where
   pub size-is : size ≡ length (column list)
 
 module _ (s : List ℕ) (bytes : Bytes s) where
-  known : (lo hi n at p : ℕ) → ColumnEnd p ≡ ends (times n (field s 31 lo hi) (cursorAt at 0 0)) → Known s lo hi n at p
+  known : (lo hi n at p : ℕ) → ColumnEnd p ≡ ends (times n (traceField inForce s lo hi) (cursorAt at 0 0)) → Known s lo hi n at p
   known lo hi n at p e =
-      let x = ends-some (times n (field s 31 lo hi) (cursorAt at 0 0)) p e in
+      let x = ends-some (times n (traceField inForce s lo hi) (cursorAt at 0 0)) p e in
       let t = column-taken s bytes lo hi n at (x .0) (x .1) (x .2) in
       let c : x .1 ≡ cursorAt p 0 0 = t .cursor ∙ ap (λ (i : ℕ). cursorAt i 0 0) (x .3) in
       record { list = x .0; parsed-is = x .2 ∙ ap (parsed (x .0)) c; taken-is = subst (ColumnTaken s lo hi n at (x .0)) c t }
@@ -150,11 +151,11 @@ column-longest (v ∷ l) = rw length-append (omega (arith, numberBytes-longest v
 -- ---- The survey
 
 module _ (s : List ℕ) (bytes : Bytes s) where
-  pub survey-count : (k : ℕ) → field s 31 0 maxRecords (cursorAt 0 0 0) ≡ refused k → takenColumns s ≡ none
+  pub survey-count : (k : ℕ) → traceField inForce s 0 maxRecords (cursorAt 0 0 0) ≡ refused k → takenColumns s ≡ none
   unfolding takenColumns columnFields continue recordsOf
   survey-count k f = rw f
 
-  module _ (n p0 : ℕ) (few : n ≤ maxRecords) (f0 : field s 31 0 maxRecords (cursorAt 0 0 0) ≡ parsed n (cursorAt p0 0 0)) where
+  module _ (n p0 : ℕ) (few : n ≤ maxRecords) (f0 : traceField inForce s 0 maxRecords (cursorAt 0 0 0) ≡ parsed n (cursorAt p0 0 0)) where
     pub survey-clocks : NoClocks ≡ sized 0 (clocksFrom s n 0 (cursorAt p0 0 0)) → takenColumns s ≡ none
     unfolding takenColumns columnFields continue recordsOf
     survey-clocks e = rw (f0, sized-none (clocksFrom s n 0 (cursorAt p0 0 0)) e .1)
@@ -163,27 +164,27 @@ module _ (s : List ℕ) (bytes : Bytes s) where
       abbrev k1 : KnownClocks s n p0 p1 size
       k1 = known-clocks s bytes n p0 p1 size c1
 
-      pub survey-transactions : NoColumn ≡ ends (times n (field s 31 1 maxTransaction) (cursorAt p1 0 0)) → takenColumns s ≡ none
+      pub survey-transactions : NoColumn ≡ ends (times n (traceField inForce s 1 maxTransaction) (cursorAt p1 0 0)) → takenColumns s ≡ none
       unfolding takenColumns columnFields continue recordsOf
-      survey-transactions e = rw (f0, k1 .parsed-is, ends-none (times n (field s 31 1 maxTransaction) (cursorAt p1 0 0)) e .1)
+      survey-transactions e = rw (f0, k1 .parsed-is, ends-none (times n (traceField inForce s 1 maxTransaction) (cursorAt p1 0 0)) e .1)
 
-      module _ (p2 : ℕ) (c2 : ColumnEnd p2 ≡ ends (times n (field s 31 1 maxTransaction) (cursorAt p1 0 0))) where
+      module _ (p2 : ℕ) (c2 : ColumnEnd p2 ≡ ends (times n (traceField inForce s 1 maxTransaction) (cursorAt p1 0 0))) where
         abbrev k2 : Known s 1 maxTransaction n p1 p2
         k2 = known s bytes 1 maxTransaction n p1 p2 c2
 
-        pub survey-blocks : NoColumn ≡ ends (times n (field s 31 1 maxBlocks) (cursorAt p2 0 0)) → takenColumns s ≡ none
+        pub survey-blocks : NoColumn ≡ ends (times n (traceField inForce s 1 maxBlocks) (cursorAt p2 0 0)) → takenColumns s ≡ none
         unfolding takenColumns columnFields continue recordsOf
-        survey-blocks e = rw (f0, k1 .parsed-is, k2 .parsed-is, ends-none (times n (field s 31 1 maxBlocks) (cursorAt p2 0 0)) e .1)
+        survey-blocks e = rw (f0, k1 .parsed-is, k2 .parsed-is, ends-none (times n (traceField inForce s 1 maxBlocks) (cursorAt p2 0 0)) e .1)
 
-        module _ (p3 : ℕ) (c3 : ColumnEnd p3 ≡ ends (times n (field s 31 1 maxBlocks) (cursorAt p2 0 0))) where
+        module _ (p3 : ℕ) (c3 : ColumnEnd p3 ≡ ends (times n (traceField inForce s 1 maxBlocks) (cursorAt p2 0 0))) where
           abbrev k3 : Known s 1 maxBlocks n p2 p3
           k3 = known s bytes 1 maxBlocks n p2 p3 c3
 
-          pub survey-outcomes : NoColumn ≡ ends (times n (field s 31 0 1) (cursorAt p3 0 0)) → takenColumns s ≡ none
+          pub survey-outcomes : NoColumn ≡ ends (times n (traceField inForce s 0 1) (cursorAt p3 0 0)) → takenColumns s ≡ none
           unfolding takenColumns columnFields continue recordsOf
-          survey-outcomes e = rw (f0, k1 .parsed-is, k2 .parsed-is, k3 .parsed-is, ends-none (times n (field s 31 0 1) (cursorAt p3 0 0)) e .1)
+          survey-outcomes e = rw (f0, k1 .parsed-is, k2 .parsed-is, k3 .parsed-is, ends-none (times n (traceField inForce s 0 1) (cursorAt p3 0 0)) e .1)
 
-          module _ (p4 : ℕ) (c4 : ColumnEnd p4 ≡ ends (times n (field s 31 0 1) (cursorAt p3 0 0))) where
+          module _ (p4 : ℕ) (c4 : ColumnEnd p4 ≡ ends (times n (traceField inForce s 0 1) (cursorAt p3 0 0))) where
             abbrev k4 : Known s 0 1 n p3 p4
             k4 = known s bytes 0 1 n p3 p4 c4
 

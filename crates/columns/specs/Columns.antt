@@ -8,10 +8,10 @@ use lib.ListN.{length}
 use Rattle.machine.specs.Rules.{inForce}
 use Rattle.machine.specs.Limits.{maxClock, maxTransaction, maxBlocks}
 use Rattle.machine.specs.Number.{numberBytes}
-use Rattle.machine.specs.Parser.{Parser, Parsed, parsed, refused, _>>=_, _>>_, give, times, field}
+use Rattle.machine.specs.Parser.{Parser, Parsed, parsed, refused, _>>=_, _>>_, give, times}
 use Rattle.machine.specs.Decode.{atEnd}
 use Rattle.machine.specs.Validate.{beginning}
-use Rattle.machine.specs.Trace.{Record, traceBytes, Reading, taken, refusal, noMore, readRecord, Writing, written, rejected}
+use Rattle.machine.specs.Trace.{Record, traceBytes, Reading, taken, refusal, noMore, traceField, readRecord, Writing, written, rejected}
 
 -- "up to 100,000,000 records"
 abbrev pub maxRecords : ℕ
@@ -82,23 +82,23 @@ rows (c ∷ cs) (t ∷ ts) (b ∷ bs) [] = []
 rows (c ∷ cs) (t ∷ ts) (b ∷ bs) (o ∷ os) =
     record { clock = c; transaction = t; block = b; outcome = o } ∷ rows cs ts bs os
 
--- Numbers are read as in the trace, each by the reader's `field` in its range; whatever it refuses is 51 here.
+-- Numbers are read as in the trace, each in its range by the reader's `traceField`; whatever it refuses is 51 here.
 module _ (s : List ℕ) where
   -- n clocks behind one; no sum passes the clock limit
   unfoldable pub clocksFrom : ℕ → (before : ℕ) → Parser (List ℕ)
   clocksFrom zero before = give []
   clocksFrom (suc n) before = do
-    difference ← field s 31 0 (maxClock - before)
+    difference ← traceField inForce s 0 (maxClock - before)
     l ← clocksFrom n (before + difference)
     give ((before + difference) ∷ l)
 
   unfoldable pub columnFields : Parser (List Record)
   columnFields = do
-    count ← field s 31 0 maxRecords
+    count ← traceField inForce s 0 maxRecords
     cs ← clocksFrom count 0
-    ts ← times count (field s 31 1 maxTransaction)
-    bs ← times count (field s 31 1 maxBlocks)
-    os ← times count (field s 31 0 1)
+    ts ← times count (traceField inForce s 1 maxTransaction)
+    bs ← times count (traceField inForce s 1 maxBlocks)
+    os ← times count (traceField inForce s 0 1)
     atEnd s 31
     give (rows cs ts bs os)
 

@@ -50,8 +50,12 @@ left-over : fromColumns (0 ∷ 0 ∷ []) 9 ≡ rejected 51
 unfolding all
 left-over = refl
 
--- 2,000,000,000 ticks and one more
-past-the-limit : fromColumns (2 ∷ 135 ∷ 185 ∷ 214 ∷ 168 ∷ 0 ∷ 1 ∷ 1 ∷ 1 ∷ 1 ∷ 1 ∷ 0 ∷ 0 ∷ []) 99 ≡ rejected 51
+-- 32,000,000,000 ticks, and one more
+at-the-limit : fromColumns (1 ∷ 247 ∷ 154 ∷ 229 ∷ 128 ∷ 0 ∷ 1 ∷ 1 ∷ 0 ∷ []) 8 ≡ written (247 ∷ 154 ∷ 229 ∷ 128 ∷ 0 ∷ 1 ∷ 1 ∷ 0 ∷ [])
+unfolding all
+at-the-limit = refl
+
+past-the-limit : fromColumns (2 ∷ 247 ∷ 154 ∷ 229 ∷ 128 ∷ 0 ∷ 1 ∷ 1 ∷ 1 ∷ 1 ∷ 1 ∷ 0 ∷ 0 ∷ []) 99 ≡ rejected 51
 unfolding all
 past-the-limit = refl
 

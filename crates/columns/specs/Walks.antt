@@ -7,7 +7,7 @@ use mathlib.Core.Path.{_≡_}
 use lib.Dec.{ltb, eqb}
 use lib.ListN.{length, drop}
 use Rattle.machine.specs.Rules.{inForce}
-use Rattle.machine.specs.Limits.{maxClock, maxNumberBytes, maxNumber}
+use Rattle.machine.specs.Limits.{maxClock, maxNumberBytes, fiveGroups}
 use Rattle.machine.specs.Number as bytes
 use Rattle.machine.specs.Number.{numberBytes, readNumber}
 use Rattle.machine.specs.Parser.{Parsed, parsed, refused}
@@ -139,7 +139,7 @@ numberOr at (some n) = record { value = n .value; next = at + n .size }
 numberOr at none = record { value = 0; next = at }
 
 abbrev pub numberAt : List ℕ → ℕ → Number
-numberAt s at = numberOr at (readNumber maxNumberBytes maxNumber (drop at s))
+numberAt s at = numberOr at (readNumber maxNumberBytes fiveGroups (drop at s))
 
 unfoldable pub later : (clock difference : ℕ) → ℕ
 later clock difference = cond (ltb (maxClock - clock) difference) maxClock (clock + difference)

@@ -19,7 +19,7 @@ pub struct Number {
 fn number_at(s: &[u8], at: usize) -> Number
     ensures { λ r. ⌜ r ≡ numberAt (now (s .entry)) at ⌝ }
 {
-    match read_number(s, at) {
+    match read_number(s, at, Model::FIVE_GROUPS) {
         Read::Number(value, next) => Number { value, next },
         Read::Refused => Number { value: 0, next: at },
     }

@@ -3,13 +3,15 @@ use crate::walk::MAX_RECORDS;
 use crate::walk::Walk;
 use codec::Field;
 use codec::number_len;
-use codec::read_field;
 use machine::Model;
 use trace::MAX_BLOCK;
 use trace::MAX_OUTCOME;
+use trace::trace_field;
 ghost use mathlib.Core.Path.{_≡_};
 ghost use Prim.Native.Nat.{_≤_};
-ghost use Rattle.machine.specs.Parser.{field, times};
+ghost use Rattle.machine.specs.Rules.{inForce};
+ghost use Rattle.machine.specs.Parser.{times};
+ghost use Rattle.machine.specs.Trace.{traceField};
 ghost use Rattle.codec.specs.Answers.{cursorAt};
 ghost use Rattle.columns.specs.Columns.{maxRecords, clocksFrom};
 ghost use Rattle.columns.specs.Walks.{sized, ends, Surveyed};
@@ -41,7 +43,7 @@ fn scan_clocks(s: &[u8], at: usize, count: u64) -> Clocks
     let mut next = at;
     let mut size: usize = 0;
     while 0 < left {
-        match read_field(s, next, 0, Model::MAX_CLOCK - clock, 31) {
+        match trace_field(s, next, 0, Model::MAX_CLOCK - clock) {
             Field::Refused(_) => return Clocks::Refused,
             Field::Value(difference, after) => {
                 clock += difference;
@@ -55,12 +57,12 @@ fn scan_clocks(s: &[u8], at: usize, count: u64) -> Clocks
 }
 
 fn scan_column(s: &[u8], at: usize, count: u64, lo: u64, hi: u64) -> Column
-    ensures { λ r. ⌜ r ≡ ends (times count (field (now (s .entry)) 31 lo hi) (cursorAt at 0 0)) ⌝ }
+    ensures { λ r. ⌜ r ≡ ends (times count (traceField inForce (now (s .entry)) lo hi) (cursorAt at 0 0)) ⌝ }
 {
     let mut left = count;
     let mut next = at;
     while 0 < left {
-        match read_field(s, next, lo, hi, 31) {
+        match trace_field(s, next, lo, hi) {
             Field::Refused(_) => return Column::Refused,
             Field::Value(_, after) => {
                 next = after;
@@ -74,7 +76,7 @@ fn scan_column(s: &[u8], at: usize, count: u64, lo: u64, hi: u64) -> Column
 pub fn survey_columns(s: &[u8]) -> Survey
     ensures { λ r. ⌜ Surveyed (now (s .entry)) r ⌝ }
 {
-    let Field::Value(count, differences) = read_field(s, 0, 0, MAX_RECORDS, 31) else {
+    let Field::Value(count, differences) = trace_field(s, 0, 0, MAX_RECORDS) else {
         return Survey::Refused;
     };
     let Clocks::End(transactions, size) = scan_clocks(s, differences, count) else {

@@ -22,7 +22,7 @@ use Rattle.terms.specs.declared.Parameters.{Parameters}
 use Rattle.terms.specs.Evaluation as Evaluation
 use Rattle.terms.specs.Nested.{nestedTerm}
 use Rattle.terms.specs.Sees.{parametersOf, Sees}
-use Rattle.terms.proofs.Seen.{sees-clock, sees-entries, sees-content, sees-in-use, sees-free}
+use Rattle.terms.proofs.Seen.{sees-entries, sees-content, sees-in-use, sees-free}
 use Rattle.decisions.specs.Comparison.{parametersAt}
 
 -- ---- Parameters
@@ -102,7 +102,7 @@ module _ {w : View} {tables tally : List ℕ} {clock : ℕ} (s : Sees w tables t
   term-small (constant n) small nested = omega (arith, leb→le n maxConstant small)
   term-small (minusConstant n) small nested = minus-small n (leb→le n maxConstant small)
   term-small (parameter k) small nested = each-getD Small ps (k - 1) (pos 0) hp (lit< tt)
-  term-small clockTerm small nested = seen-small _ _ (sees-clock s)
+  term-small clockTerm small nested = wrap-small _
   term-small (entriesOf b) small nested = seen-small _ _ (sees-entries s (b - 1))
   term-small (contentOf q) small nested = seen-small _ _ (sees-content s (q - 1))
   term-small (unitsInUse v) small nested = seen-small _ _ (sees-in-use s (v - 1))

@@ -144,5 +144,5 @@ unfolding Turn.wsScheme
 scheme-low {m} s h = go (eqb (s .end) 0) h
   where
     go : (b : Bool) → Sane m (cond b (wakeWsl (λ t. not (Turn.waitsOn m (s .view) t)) s) s) → Low m s
-    go true k = unfold wakeWsl in record { shape = k .shape; clock = k .timely .clock; turns = k .turns; entries = k .entries; contents = k .contents }
-    go false k = record { shape = k .shape; clock = k .timely .clock; turns = k .turns; entries = k .entries; contents = k .contents }
+    go true k = unfold wakeWsl in record { shape = k .shape; turns = k .turns; entries = k .entries; contents = k .contents }
+    go false k = record { shape = k .shape; turns = k .turns; entries = k .entries; contents = k .contents }

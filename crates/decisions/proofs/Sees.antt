@@ -5,7 +5,7 @@ use mathlib.Core.List.{List, [], _∷_, _++_}
 use mathlib.Core.Option.{Option}
 use native.Mathlib.Omega.{arith}
 use lib.ListN.{length, getD, replicate, List·getD-map}
-use Rattle.machine.specs.Limits.{maxCapacity, maxClock, maxTurns}
+use Rattle.machine.specs.Limits.{maxCapacity, maxTurns}
 use Rattle.machine.specs.Transaction.{Transaction}
 use Rattle.machine.specs.Term.{Queue, idleServer, emptyQueue}
 use Rattle.machine.specs.Block.{BlockModel}
@@ -35,14 +35,13 @@ all-low (suc n) l h (suc v) = all-low n l h v
 -- What is asked of a state: its fixtures' shape, and small numbers. The WS scheme leaves all of it.
 pub record Low (m : BlockModel) (s : State) : Type 0 where
   pub shape : Shape m s
-  pub clock : s .view .clock ≤ maxClock
   pub turns : s .turns ≤ maxTurns + 1
   pub entries : Each (λ (n : ℕ). n ≤ s .turns) (s .view .entries)
   pub contents : Each (λ (q : Queue). q .content ≤ s .turns) (s .view .queues)
 
 pub sane-low : {m : BlockModel} (s : State) → Sane m s → Low m s
 sane-low s h =
-    record { shape = h .shape; clock = h .timely .clock; turns = h .turns; entries = h .entries; contents = h .contents }
+    record { shape = h .shape; turns = h .turns; entries = h .entries; contents = h .contents }
 
 module _ {m : BlockModel} {tape : List (List ℕ)} {tapeBytes tables lists : List ℕ} (proper : Proper m tape) (rep : Represents m tape tapeBytes tables lists)
     (r : Rows) (o : Option Transaction) (s : State) (lows : Low m s) (stands : Stands tapeBytes r o s) where
@@ -71,7 +70,6 @@ module _ {m : BlockModel} {tape : List (List ℕ)} {tapeBytes tables lists : Lis
   sees =
       record {
         time = sym (stands .counting .clock);
-        time-small = omega (arith, stands .counting .clock, lows .clock);
         entries =
             record {
               shown = λ b hb. sym (stands .tallying .entries b hb);

@@ -28,12 +28,6 @@ ghost use Rattle.decisions.specs.Comparison.{parametersAt, holdsAt, wort
 
 const PARAMETERS: u32 = Model::PARAMETERS as u32;
 
-fn wide(n: u32) -> u64
-    ensures { λ r. ⌜ r ≡ n ⌝ }
-{
-    n as u64
-}
-
 // The parameters of row k, as bits.
 fn parameters_of(work: &[u32], k: u32) -> Parameters
     requires { ⌜ k < rowCount ⌝ }
@@ -52,7 +46,7 @@ pub fn holds(
     values: usize,
     work: &[u32],
     tally: &[u64],
-    clock: u32,
+    clock: u64,
     k: u32,
     at: usize,
 ) -> bool
@@ -61,7 +55,7 @@ pub fn holds(
     ensures { λ r. ⌜ r ≡ holdsAt (now (tables .entry)) values (now (work .entry)) (now (tally .entry)) clock k at ⌝ }
 {
     let parameters = parameters_of(work, k);
-    compare_at(tables, tally, values, wide(clock), parameters, at + FIRST)
+    compare_at(tables, tally, values, clock, parameters, at + FIRST)
 }
 
 // What the term of the LET at `at` is worth for row k, as bits.
@@ -70,7 +64,7 @@ fn worth(
     values: usize,
     work: &[u32],
     tally: &[u64],
-    clock: u32,
+    clock: u64,
     k: u32,
     at: usize,
 ) -> u32
@@ -79,7 +73,7 @@ fn worth(
     ensures { λ r. ⌜ r ≡ worthAt (now (tables .entry)) values (now (work .entry)) (now (tally .entry)) clock k at ⌝ }
 {
     let parameters = parameters_of(work, k);
-    bits(term_at(tables, tally, values, wide(clock), parameters, at + SECOND))
+    bits(term_at(tables, tally, values, clock, parameters, at + SECOND))
 }
 
 // Parameter i (from 0) of row k gets these bits.

@@ -36,7 +36,7 @@ fn leaves(
     values: usize,
     work: &[u32],
     tally: &[u64],
-    clock: u32,
+    clock: u64,
     k: u32,
 ) -> bool
     requires { ⌜ Program (now tables) ⌝ }
@@ -61,7 +61,7 @@ fn step(
     values: usize,
     work: &mut [u32],
     tally: &[u64],
-    clock: u32,
+    clock: u64,
     cell: u32,
     k: u32,
 ) -> u32

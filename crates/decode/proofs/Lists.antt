@@ -6,7 +6,7 @@ use mathlib.Core.Path.{_≡_, refl, sym, ap, _∙_}
 use mathlib.Core.Bool.{Bool, true, false, cond, _&&_}
 use mathlib.Core.Option.{Option, none, some}
 use mathlib.Core.List.{List, [], _∷_}
-use lib.ListN.{length, drop, getD, set, length-set, length-replicate, List·getD-eq-default}
+use lib.ListN.{length, getD, set, length-set, length-replicate, List·getD-eq-default}
 use lib.Seq.{getD-set-same, getD-set-other}
 use lib.Dec.{ltb, leb, eqb}
 use borrow.Author.Tests.{ltb-true, ltb-false, eq-eqb, ne-eqb}
@@ -14,9 +14,9 @@ use Rattle.codec.specs.declared.Field.{Field}
 use Rattle.codec.specs.declared.Field.the-variants.{Value, Refused as NoField}
 use Rattle.codec.specs.Answers.{parsedOf}
 use Rattle.machine.specs.Rules.{inForce}
-use Rattle.machine.specs.Limits.{maxTime, maxSamples, maxNumberBytes, maxNumber}
-use Rattle.machine.specs.Number.{Number, readNumber}
-use Rattle.machine.specs.Parser.{Cursor, Parsed, parsed, refused, Parser, continue, field, fieldOf, times, ask, fieldUpTo}
+use Rattle.machine.specs.Limits.{maxTime, maxSamples}
+use Rattle.machine.specs.Number.{Number}
+use Rattle.machine.specs.Parser.{Cursor, Parsed, parsed, refused, Parser, continue, fieldOf, times, ask, fieldUpTo}
 use Rattle.machine.specs.Decode.{listField, atEnd}
 use Rattle.machine.specs.Validate.{tapeOf, beginning}
 use Rattle.tables.specs.Represents.{TimesAt}
@@ -24,7 +24,7 @@ use Rattle.decode.specs.declared.Tape.{Tape}
 use Rattle.decode.specs.declared.Tape.the-variants.{At, Refused}
 use Rattle.values.proofs.Rows.{rows-length, times-rows}
 use Rattle.decode.proofs.Represented.{zeros}
-use Rattle.decode.specs.Lists.{cursorAt, emptyLists, Skips, OneList, Listed, Filled, Lists}
+use Rattle.decode.specs.Lists.{cursorAt, tapeField, emptyLists, Skips, OneList, Listed, Filled, Lists}
 
 -- ---- Reading does not depend on what was counted in a value
 
@@ -34,9 +34,9 @@ shift i j (parsed a c) = parsed a (cursorAt (c .position) i j)
 shift i j (refused n) = refused n
 
 module _ (s : List ℕ) (i j i′ j′ : ℕ) where
-  field-shift : (hi p : ℕ) → field s 8 0 hi (cursorAt p i′ j′) ≡ shift i′ j′ (field s 8 0 hi (cursorAt p i j))
+  field-shift : (hi p : ℕ) → tapeField s hi (cursorAt p i′ j′) ≡ shift i′ j′ (tapeField s hi (cursorAt p i j))
   unfolding fieldUpTo
-  field-shift hi p = go (readNumber maxNumberBytes maxNumber (drop p s))
+  field-shift hi p = go _
     where
       pick : (n : Number) (b : Bool) →
           cond b (parsed (n .value) (cursorAt (p + n .size) i′ j′)) (refused 9) ≡ shift i′ j′ (cond b (parsed (n .value) (cursorAt (p + n .size) i j)) (refused 9))
@@ -54,29 +54,29 @@ module _ (s : List ℕ) (i j i′ j′ : ℕ) where
   then-shift (parsed a c) f h e = let d : c ≡ cursorAt (c .position) i j = cc in h a (c .position) ∙ ap (λ (x : Cursor). shift i′ j′ (f a x)) (sym d)
   then-shift (refused n) f h e = refl
 
-field-stays : (s : List ℕ) (i j hi p : ℕ) → field s 8 0 hi (cursorAt p i j) ≡ shift i j (field s 8 0 hi (cursorAt p i j))
+field-stays : (s : List ℕ) (i j hi p : ℕ) → tapeField s hi (cursorAt p i j) ≡ shift i j (tapeField s hi (cursorAt p i j))
 field-stays s i j hi p = field-shift s i j i j hi p
 
-times-shift : (s : List ℕ) (i j i′ j′ hi n p : ℕ) → times n (field s 8 0 hi) (cursorAt p i′ j′) ≡ shift i′ j′ (times n (field s 8 0 hi) (cursorAt p i j))
+times-shift : (s : List ℕ) (i j i′ j′ hi n p : ℕ) → times n (tapeField s hi) (cursorAt p i′ j′) ≡ shift i′ j′ (times n (tapeField s hi) (cursorAt p i j))
 unfolding times
 times-shift s i j i′ j′ hi zero p = refl
 times-shift s i j i′ j′ hi (suc n) p =
-    ap (λ (x : Parsed ℕ). continue x (λ a c. continue (times n (field s 8 0 hi) c) (λ l d. parsed (a ∷ l) d))) (field-shift s i j i′ j′ hi p)
-    ∙ then-shift s i j i′ j′ (field s 8 0 hi (cursorAt p i j)) (λ a c. continue (times n (field s 8 0 hi) c) (λ l d. parsed (a ∷ l) d))
+    ap (λ (x : Parsed ℕ). continue x (λ a c. continue (times n (tapeField s hi) c) (λ l d. parsed (a ∷ l) d))) (field-shift s i j i′ j′ hi p)
+    ∙ then-shift s i j i′ j′ (tapeField s hi (cursorAt p i j)) (λ a c. continue (times n (tapeField s hi) c) (λ l d. parsed (a ∷ l) d))
     (λ a q.
     ap (λ (x : Parsed (List ℕ)). continue x (λ l d. parsed (a ∷ l) d)) (times-shift s i j i′ j′ hi n q)
-    ∙ then-shift s i j i′ j′ (times n (field s 8 0 hi) (cursorAt q i j)) (λ l d. parsed (a ∷ l) d) (λ l e. refl) (times-shift s i j i j hi n q))
+    ∙ then-shift s i j i′ j′ (times n (tapeField s hi) (cursorAt q i j)) (λ l d. parsed (a ∷ l) d) (λ l e. refl) (times-shift s i j i j hi n q))
     (field-stays s i j hi p)
 
 list-shift : (s : List ℕ) (i j i′ j′ p : ℕ) → listField s inForce (cursorAt p i′ j′) ≡ shift i′ j′ (listField s inForce (cursorAt p i j))
 unfolding listField
 list-shift s i j i′ j′ p =
-    ap (λ (x : Parsed ℕ). continue x (λ n c. times n (field s 8 0 maxTime) c)) (field-shift s i j i′ j′ maxSamples p)
-    ∙ then-shift s i j i′ j′ (field s 8 0 maxSamples (cursorAt p i j)) (λ n c. times n (field s 8 0 maxTime) c)
+    ap (λ (x : Parsed ℕ). continue x (λ n c. times n (tapeField s maxTime) c)) (field-shift s i j i′ j′ maxSamples p)
+    ∙ then-shift s i j i′ j′ (tapeField s maxSamples (cursorAt p i j)) (λ n c. times n (tapeField s maxTime) c)
     (λ n q. times-shift s i j i′ j′ maxTime n q) (field-stays s i j maxSamples p)
 
 -- the times stand there wherever reading comes from
-times-anywhere : (s : List ℕ) (count next i j : ℕ) (l : List ℕ) (c : Cursor) → times count (field s 8 0 maxTime) (cursorAt next i j) ≡ parsed l c →
+times-anywhere : (s : List ℕ) (count next i j : ℕ) (l : List ℕ) (c : Cursor) → times count (tapeField s maxTime) (cursorAt next i j) ≡ parsed l c →
     length l ≡ count → TimesAt s next l
 times-anywhere s count next i j l c e n d h =
     let f = times-shift s i j (d .numbers) (d .mentions) maxTime count next ∙ ap (shift (d .numbers) (d .mentions)) e in
@@ -94,7 +94,7 @@ empty-zero x = zeros 32 x
 
 module _ (s : List ℕ) where
   abbrev pub time : Parser ℕ
-  time = field s 8 0 maxTime
+  time = tapeField s maxTime
 
   -- the loop's invariant: what the times that are left give is what all times give
   abbrev pub Skipping : (count at left next : ℕ) → Type 0
@@ -105,7 +105,7 @@ module _ (s : List ℕ) where
   unfolding times
   times-none left next i j h = let e : left ≡ 0 = omega arith in rw e (record { held = (refl, refl) })
 
-  module _ (left next : ℕ) (f : Field) (some : 0 < left) (e : (i j : ℕ) → parsedOf i j f ≡ field s 8 0 maxTime (cursorAt next i j)) where
+  module _ (left next : ℕ) (f : Field) (some : 0 < left) (e : (i j : ℕ) → parsedOf i j f ≡ tapeField s maxTime (cursorAt next i j)) where
     pub times-stop : {n : ℕ} (i j : ℕ) → f ≡ NoField n → Skips left (Refused n) (times left time (cursorAt next i j))
     unfolding times parsedOf continue
     times-stop i j told = let more : left ≡ suc (left - 1) = omega arith in rw (more, ← e i j, told) (record { held = refl })
@@ -123,7 +123,7 @@ module _ (s : List ℕ) where
 
 -- ---- A list
 
-module _ (s : List ℕ) (k : ℕ) (cells : List ℕ) (at : ℕ) (f : Field) (e : (i j : ℕ) → parsedOf i j f ≡ field s 8 0 maxSamples (cursorAt at i j)) where
+module _ (s : List ℕ) (k : ℕ) (cells : List ℕ) (at : ℕ) (f : Field) (e : (i j : ℕ) → parsedOf i j f ≡ tapeField s maxSamples (cursorAt at i j)) where
   pub list-stop : {n : ℕ} (after : List ℕ) (i j : ℕ) → f ≡ NoField n → Listed s k cells after (Refused n) (listField s inForce (cursorAt at i j))
   unfolding listField parsedOf continue
   list-stop after i j told = rw (← e i j, told) (record { held = refl })

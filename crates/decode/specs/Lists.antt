@@ -3,7 +3,8 @@ use Prim.Native.Nat.{ℕ, suc, _+_}
 use mathlib.Core.Path.{_≡_}
 use mathlib.Core.List.{List, [], _∷_}
 use lib.ListN.{length, set, replicate}
-use Rattle.machine.specs.Parser.{Cursor, Parsed, parsed, refused}
+use Rattle.machine.specs.Rules.{inForce}
+use Rattle.machine.specs.Parser.{Cursor, Parsed, parsed, refused, Parser, fieldUpTo}
 use Rattle.tables.specs.Layout as Layout
 use Rattle.tables.specs.Represents.{TimesAt}
 use Rattle.decode.specs.declared.Tape.{Tape}
@@ -11,6 +12,10 @@ use Rattle.decode.specs.declared.Tape.the-variants.{At, Refused}
 
 abbrev pub cursorAt : ℕ → ℕ → ℕ → Cursor
 cursorAt at i j = record { position = at; numbers = i; mentions = j }
+
+-- a number of the tape: questions 8 and 9
+abbrev pub tapeField : List ℕ → (hi : ℕ) → Parser ℕ
+tapeField s hi = fieldUpTo (inForce .maxNumber) s 8 0 hi
 
 unfoldable pub emptyLists : List ℕ
 emptyLists = replicate Layout.listCells 0

@@ -28,6 +28,7 @@ ghost use lib.ListN.{replicate};
 ghost use lib.Seq.{sets};
 ghost use Rattle.machine.specs.Rules.{inForce};
 ghost use Rattle.machine.specs.Parser.{field, times};
+ghost use Rattle.codec.specs.Answers.{parsedOf};
 ghost use Rattle.values.specs.Keeps.{cursorOf, numberShape};
 ghost use Rattle.values.specs.Rows.{Rows};
 ghost use Rattle.values.specs.Shapes.{Within};
@@ -38,7 +39,7 @@ ghost use Rattle.machine.specs.Validate.{modelOf, tapeOf, beginning, validate a
 ghost use Rattle.decode.specs.Stages.{emptyTables, Capacity, Stage, serversShape, serversField, thingsShape, thingsField, programShape, programField, noModel, noPlace};
 ghost use Rattle.program.specs.Shapes.{capacitiesOf};
 ghost use Rattle.decode.specs.Models.{modelShape, Models};
-ghost use Rattle.decode.specs.Lists.{cursorAt, Skips, Listed, Lists, emptyLists};
+ghost use Rattle.decode.specs.Lists.{cursorAt, tapeField, Skips, Listed, Lists, emptyLists};
 ghost use Rattle.decode.specs.Decodes.{Decodes, refusalOf};
 
 // What decoding gives: the header of the model, or the number of the first question answered "no".
@@ -230,14 +231,21 @@ enum Tape {
     Refused(u32),
 }
 
+// A number of the tape, at most hi: questions 8 and 9.
+fn tape_field(s: &[u8], at: usize, hi: usize) -> Field
+    ensures { λ r. ⌜ ((i j : ℕ) → parsedOf i j r ≡ tapeField (now (s .entry)) hi (cursorAt at i j)) ⌝ }
+{
+    read_field(s, at, Model::FIVE_GROUPS, 0, hi as u64, TAPE_NUMBER)
+}
+
 // The times of a list.
 fn sample_times(s: &[u8], at: usize, count: usize) -> Tape
-    ensures { λ r. ⌜ ((i j : ℕ) → Skips count r (times count (field (now (s .entry)) 8 0 maxTime) (cursorAt at i j))) ⌝ }
+    ensures { λ r. ⌜ ((i j : ℕ) → Skips count r (times count (tapeField (now (s .entry)) maxTime) (cursorAt at i j))) ⌝ }
 {
     let mut left = count;
     let mut next = at;
     while 0 < left {
-        match read_field(s, next, 0, Model::MAX_TIME as u64, TAPE_NUMBER) {
+        match tape_field(s, next, Model::MAX_TIME) {
             Field::Refused(n) => return Tape::Refused(n),
             Field::Value(_, after) => {
                 next = after;
@@ -253,7 +261,7 @@ fn sample_list(s: &[u8], lists: &mut [u64; LIST_CELLS], k: usize, at: usize) -> 
     requires { ⌜ k < maxLists ⌝ }
     ensures { λ r. ⌜ ((i j : ℕ) → Listed (now (s .entry)) k (now (lists .entry)) (now (lists .exit)) r (listField (now (s .entry)) inForce (cursorAt at i j))) ⌝ }
 {
-    match read_field(s, at, 0, Model::MAX_SAMPLES as u64, TAPE_NUMBER) {
+    match tape_field(s, at, Model::MAX_SAMPLES) {
         Field::Refused(n) => Tape::Refused(n),
         Field::Value(count, next) => {
             lists[k] = next as u64;

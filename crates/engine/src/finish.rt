@@ -42,7 +42,7 @@ fn ended(x: Scalars, report_bytes: usize) -> Outcome
     Outcome {
         refusal: 0,
         end: x.end as u64,
-        clock: x.clock as u64,
+        clock: x.clock,
         turns: x.turns as u64,
         made: x.made as u64,
         ended: x.ended as u64,

@@ -118,7 +118,7 @@ module _ (m : BlockModel) (tape : List (List ℕ)) (tapeBytes tables lists : Lis
     abbrev used : List ℕ
     used = useTime tally (list - 1) (sample .next)
 
-    module _ (most : time′ ≤ 2000000000) where
+    module _ (most : time′ ≤ maxClock) where
       delay-is : delayRows w tally x sample (list - 1) ≡ withTally (sendOn w x time′) used
       unfolding delayRows
       delay-is =

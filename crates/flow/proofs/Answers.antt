@@ -4,7 +4,7 @@ use mathlib.Core.Path.{_≡_, ap}
 use mathlib.Core.List.{List}
 use native.Mathlib.Omega.{arith}
 use lib.ListN.{drop}
-use Rattle.machine.specs.Limits.{maxNumberBytes, maxNumber}
+use Rattle.machine.specs.Limits.{maxNumberBytes, fiveGroups}
 use Rattle.machine.specs.Number.{readNumber}
 use Rattle.codec.specs.declared.Read.{Read}
 use Rattle.codec.specs.declared.Read.the-variants.{Number as Whole, Refused as Unread}
@@ -15,7 +15,7 @@ use Rattle.flow.specs.Samples.{sampleOf, sampleAt}
 abbrev sample : ℕ → ℕ → Sample
 sample time next = record { time = time; next = next }
 
-module _ (tape : List ℕ) (at : ℕ) (r : Read) (e : numberOf at r ≡ readNumber maxNumberBytes maxNumber (drop at tape)) where
+module _ (tape : List ℕ) (at : ℕ) (r : Read) (e : numberOf at r ≡ readNumber maxNumberBytes fiveGroups (drop at tape)) where
   pub sample-refused : r ≡ Unread → record { time = 0; next = at } ≡ sampleAt tape at
   unfolding sampleAt sampleOf numberOf
   sample-refused q = rw (← e, q)

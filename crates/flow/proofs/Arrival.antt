@@ -10,6 +10,7 @@ use Rattle.machine.specs.Transaction.{Transaction, newborn}
 use Rattle.machine.specs.State.{State}
 use Rattle.machine.specs.Setters.{setMade}
 use Rattle.machine.specs.Moves as Moves
+use Rattle.machine.specs.Limits.{maxClock}
 use Rattle.tables.specs.Layout as Layout
 use Rattle.state.specs.declared.scalars.Scalars.{Scalars}
 use Rattle.state.specs.Stands.{Rows, rowsOf, listsOf, Listing, Serving, Queueing, Sampling, Tallying, Counting, Stands}
@@ -17,7 +18,7 @@ use Rattle.state.proofs.StandsLaws.{listing-ext, tallying-ext, counting-ext, en
 use Rattle.moves.specs.Motion.{withTally}
 use Rattle.flow.specs.declared.samples.Sample.{Sample}
 use Rattle.flow.specs.Samples.{nextSample, useTime}
-use Rattle.flow.specs.Sending.{plus32, born, arrives}
+use Rattle.flow.specs.Sending.{plus64, born, arrives}
 use Rattle.flow.proofs.Drawing.{drawn-time, drawn-size, drawn-sampling}
 use Rattle.flow.proofs.New.{Follows, Roomy, born-follows}
 
@@ -69,14 +70,14 @@ module _ (tapeBytes tally : List ℕ) (s : State) (h : Tallying tapeBytes tally 
       }
 
   -- the move time
-  pub move-time : (x : Scalars) → Counting x s → s .view .clock + time ≤ 2000000000 → plus32 (x .clock) (sample .time) ≡ s .view .clock + time
+  pub move-time : (x : Scalars) → Counting x s → s .view .clock + time ≤ maxClock → plus64 (x .clock) (sample .time) ≡ s .view .clock + time
   move-time x counting most =
       let c : x .clock ≡ s .view .clock = counting .clock in
       rw (c, sampled) (omega arith)
 
   -- ---- The new transaction
 
-  module _ (w : List ℕ) (x : Scalars) (o : Option Transaction) (listing : Listing w (x .moving) o s) (counting : Counting x s) (roomy : Roomy s) (p block : ℕ) (small : p ≤ 127) (most : s .view .clock + time ≤ 2000000000) where
+  module _ (w : List ℕ) (x : Scalars) (o : Option Transaction) (listing : Listing w (x .moving) o s) (counting : Counting x s) (roomy : Roomy s) (p block : ℕ) (small : p ≤ 127) (most : s .view .clock + time ≤ maxClock) where
     abbrev s₁ : State
     s₁ = Moves.useTime list s
 

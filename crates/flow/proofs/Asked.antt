@@ -10,6 +10,7 @@ use lib.Dec.{eqb, leb}
 use lib.ListN.{getD}
 use Rattle.machine.specs.Rules.{Rules, inForce}
 use Rattle.machine.specs.Limits.{maxLiving, maxClock, maxTime}
+use Rattle.tables.specs.Layout.{most64}
 use Rattle.machine.specs.Transaction.{Transaction}
 use Rattle.machine.specs.Block.{Block, BlockModel}
 use Rattle.machine.specs.State.{State}
@@ -48,7 +49,7 @@ module _ (m : BlockModel) (rules : m .rules ≡ inForce) (x : Scalars) (s : Stat
     unfolding askTime
     time-asked =
         let a : x .clock ≡ s .view .clock = counting .clock in
-        let e : min (s .view .clock + time) 4294967295 ≡ s .view .clock + time = omega arith in
+        let e : min (s .view .clock + time) most64 ≡ s .view .clock + time = omega arith in
         rw (a, e) (go (leb (s .view .clock + time) (inForce .maxClock)) ∙ ap (λ (q : Rules). unless (leb (s .view .clock + time) (q .maxClock)) 22 0) (sym rules))
       where
         go : (b : Bool) → cond b 0 22 ≡ unless b 22 0

@@ -11,7 +11,7 @@ use borrow.Author.Tests.{leb-true}
 use lib.Dec.{leb}
 use lib.ListN.{length, getD, set, drop, length-set}
 use lib.Seq.{getD-set-same, getD-set-other}
-use Rattle.machine.specs.Limits.{maxNumberBytes, maxNumber, maxTime}
+use Rattle.machine.specs.Limits.{maxNumberBytes, fiveGroups, maxTime}
 use Rattle.machine.specs.Number.{Number, readNumber}
 use Rattle.machine.specs.Parser.{Cursor, Parsed, parsed, refused, Parser, continue, give, times, forward, fieldOf, field, fieldUpTo}
 use Rattle.tables.specs.Layout as Layout
@@ -27,7 +27,7 @@ and-right false b e = let z : _≡_ {A = ℕ} 0 1 = cc in absurd (omega arith)
 
 module _ (bytes : List ℕ) where
   abbrev oneTime : Parser ℕ
-  oneTime = field bytes 8 0 maxTime
+  oneTime = fieldUpTo fiveGroups bytes 8 0 maxTime
 
   others-read : (v : ℕ) (r : Parsed (List ℕ)) (time : ℕ) (left : List ℕ) (d : Cursor) → continue r (λ l. give (v ∷ l)) ≡ parsed (time ∷ left) d → (v ≡ time) × (r ≡ parsed left d)
   unfolding continue
@@ -55,13 +55,13 @@ module _ (bytes : List ℕ) where
 
   -- at position p
   abbrev here : ℕ → Option Number
-  here p = readNumber maxNumberBytes maxNumber (drop p bytes)
+  here p = readNumber maxNumberBytes fiveGroups (drop p bytes)
 
   begin : (p time : ℕ) (left : List ℕ) → TimesAt bytes p (time ∷ left) → (c : Cursor) → c .position ≡ p → (d : Cursor) × Opened (here p) c d time left
   unfolding times fieldUpTo
   begin p time left h c e =
       let q = h c e in
-      (q .0, opened (here p) c (q .0) time left (subst (λ (x : ℕ). continue (fieldOf 8 0 maxTime (readNumber maxNumberBytes maxNumber (drop x bytes)) c) (λ v. λ c′. continue (times (length left) oneTime c′) (λ l. give (v ∷ l))) ≡ parsed (time ∷ left) (q .0)) e (q .1)))
+      (q .0, opened (here p) c (q .0) time left (subst (λ (x : ℕ). continue (fieldOf 8 0 maxTime (readNumber maxNumberBytes fiveGroups (drop x bytes)) c) (λ v. λ c′. continue (times (length left) oneTime c′) (λ l. give (v ∷ l))) ≡ parsed (time ∷ left) (q .0)) e (q .1)))
 
   abbrev at : ℕ → ℕ → ℕ → Cursor
   at p numbers mentions = record { position = p; numbers = numbers; mentions = mentions }
@@ -99,7 +99,7 @@ module _ (bytes tally : List ℕ) (samples : List (List ℕ)) (l : ℕ) (h : Sam
     unfolding nextSample
     drawn-time = sample-time bytes (getD tally (Layout.listAt + l) 0) time left stands
 
-    pub drawn-most : time ≤ 1000000
+    pub drawn-most : time ≤ maxTime
     drawn-most = sample-most bytes (getD tally (Layout.listAt + l) 0) time left stands
 
     abbrev next : ℕ

@@ -22,6 +22,7 @@ use Rattle.state.specs.declared.scalars.Scalars.{Scalars}
 use Rattle.state.specs.Bare.{entering, bare, bareAnswer}
 use Rattle.state.specs.Sane.{Sane}
 use Rattle.state.specs.Stands.{Rows, rowsOf, Stands, noteOf, Done}
+use Rattle.machine.specs.Limits.{maxClock}
 use Rattle.state.proofs.StandsLaws.{stands-moving}
 use Rattle.moves.specs.Motion.{moved, withTally, goTo, goOn, stopped}
 use Rattle.moves.proofs.MotionLaws.{go-to-listing, go-to-counting, next-read, go-on-is, go-on-done}
@@ -139,7 +140,7 @@ module _ (m : BlockModel) (tape : List (List ℕ)) (tapeBytes tables lists : Lis
     note-is = refl
 
     module _ (yes : askGenerate m (time ∷ left) s ≡ 0) where
-      says : (s .made - s .ended + 1 ≤ 1024) × (s .view .clock + time ≤ 2000000000)
+      says : (s .made - s .ended + 1 ≤ 1024) × (s .view .clock + time ≤ maxClock)
       says = arrival-yes m (sane .rules) s time left yes
 
       roomy : Roomy s₀

@@ -1,6 +1,6 @@
 -- New transactions: `born` is the machine's newborn on the FEL, `copyOne` a copy of the moving transaction on REL, both with the next
 -- number and a fresh serial.
-use Prim.Native.Nat.{ℕ, suc, _-_, _%_, _≤_, _<_}
+use Prim.Native.Nat.{ℕ, suc, _-_, _/_, _%_, _≤_, _<_}
 use mathlib.Core.Path.{_≡_, refl, sym, ap, _∙_, subst}
 use mathlib.Core.Bool.{false}
 use mathlib.Core.List.{List}
@@ -13,7 +13,7 @@ use Rattle.machine.specs.State.{State}
 use Rattle.machine.specs.Setters.{withSerial, setMade}
 use Rattle.machine.specs.Moves.{toRel, toFel}
 use Rattle.rows.specs.Layout.{rel, fel, free}
-use Rattle.rows.specs.Cells.{write}
+use Rattle.rows.specs.Cells.{write, setTime}
 use Rattle.rows.specs.Lists.{put, first, takeFirst}
 use Rattle.rows.specs.Make.{newbornAt, copyAt}
 use Rattle.rows.specs.Holds.{transactionAt, eventAt, update}
@@ -79,7 +79,7 @@ module _ (w : List ℕ) (x : Scalars) (o : Option Transaction) (s : State) (list
     w₂ = write w₁ 7 k (suc (s .serial))
 
     abbrev w₃ : List ℕ
-    w₃ = write w₂ 8 k time
+    w₃ = setTime w₂ k time
 
     born-is : born w x time p block ≡ moved scalars′ (put w₃ fel k)
     unfolding born bornAt toFuture
@@ -93,8 +93,14 @@ module _ (w : List ℕ) (x : Scalars) (o : Option Transaction) (s : State) (list
     g₂ : Making w₂ k (x .moving) o s
     g₂ = making-written w₁ w₂ k (x .moving) o s (written w₁ 7 k (suc (s .serial)) (omega arith) hk) g₁
 
+    abbrev low : List ℕ
+    low = write w₂ 8 k (time % 4294967296)
+
     g₃ : Making w₃ k (x .moving) o s
-    g₃ = making-written w₂ w₃ k (x .moving) o s (written w₂ 8 k time (omega arith) hk) g₂
+    unfolding setTime
+    g₃ =
+        making-written low w₃ k (x .moving) o s (written low 9 k (time / 4294967296) (omega arith) hk)
+        (making-written w₂ low k (x .moving) o s (written w₂ 8 k (time % 4294967296) (omega arith) hk) g₂)
 
     abbrev event : Transaction → Event
     event u = record { time = time; who = u }

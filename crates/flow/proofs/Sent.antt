@@ -11,7 +11,7 @@ use Rattle.machine.specs.State.{State}
 use Rattle.machine.specs.Setters.{withNext, withPriority, withSerial, withReturning}
 use Rattle.machine.specs.Moves.{toRel, toFel}
 use Rattle.rows.specs.Layout.{rel, fel}
-use Rattle.rows.specs.Cells.{write}
+use Rattle.rows.specs.Cells.{write, setTime}
 use Rattle.rows.specs.Lists.{put}
 use Rattle.rows.specs.Holds.{eventAt}
 use Rattle.rows.proofs.Fields.{write-serial, write-time}
@@ -20,7 +20,7 @@ use Rattle.state.specs.declared.scalars.Scalars.{Scalars}
 use Rattle.state.specs.ScalarSetters.{putMoving, putSerial}
 use Rattle.state.specs.Stands.{listsOf, Listing, Counting}
 use Rattle.state.proofs.ListsOf.{lists-set-rel}
-use Rattle.state.proofs.StandsLaws.{listing-write, listing-put, listing-put-fel}
+use Rattle.state.proofs.StandsLaws.{listing-write, listing-time, listing-put, listing-put-fel}
 use Rattle.moves.specs.Motion.{Moved, moved, next32, goTo}
 use Rattle.moves.proofs.MotionLaws.{go-to-listing, go-on-is}
 use Rattle.flow.specs.Sending.{toFuture, toReady}
@@ -60,7 +60,7 @@ module _ (w : List ℕ) (x : Scalars) (t : Transaction) (s : State) (listing : L
     w₂ = write w₁ 7 k n
 
     abbrev w₃ : List ℕ
-    w₃ = write w₂ 8 k time
+    w₃ = setTime w₂ k time
 
     send-is : sendOn w x time ≡ moved scalars′ (put w₃ fel k)
     unfolding sendOn parked toFuture goTo moved
@@ -78,8 +78,7 @@ module _ (w : List ℕ) (x : Scalars) (t : Transaction) (s : State) (listing : L
     event-is = write-time w₂ k (g₂ .shows .shown .holds .room) hk time ∙ ap event (g₂ .mover .1)
 
     g₃ : Listing w₃ k (some (withSerial n t′)) s
-    unfolding eventAt
-    g₃ = listing-write w₂ k (withSerial n t′) s 8 time (withSerial n t′) (omega arith) g₂ (ap (λ (e : Event). e .who) event-is)
+    g₃ = listing-time w₂ k (withSerial n t′) s time g₂
 
     pub send-follows : Follows (sendOn w x time) 0 none (toFel time t′ s)
     unfolding goTo moved toFel listsOf

@@ -12,7 +12,7 @@ use Rattle.state.specs.Stands.{Rows, rowsOf}
 use Rattle.moves.specs.Motion.{Moved, moved, goTo, goOn, stopped}
 use Rattle.flow.specs.declared.samples.Sample.{Sample}
 use Rattle.flow.specs.Samples.{nextSample}
-use Rattle.flow.specs.Sending.{plus32, toFuture, toReady, bornAt, born, arrives, copyTo, copyOne}
+use Rattle.flow.specs.Sending.{plus64, toFuture, toReady, bornAt, born, arrives, copyTo, copyOne}
 use Rattle.flow.specs.Questions.{askRoom, askTime, askArrival}
 use Rattle.flow.specs.Kinds.{parked, arriveOn, generateWith, generateNext, generateRows, sendOn, delayRows, advanceWith, advanceNext, advanceRows, endOne, terminateRows, rankOn, priorityRows, copiesOf, splitOn, splitRows}
 
@@ -42,7 +42,7 @@ stopped-untouched x n = record { used = refl; turns = refl }
 pub arrives-untouched : (w tally : List ℕ) (x : Scalars) (sample : Sample) (list priority block : ℕ) → Untouched x (arrives w tally x sample list priority block .scalars)
 unfolding arrives born bornAt toFuture moved rowsOf
 arrives-untouched w tally x sample list priority block =
-    either-moved (ltb (first w free) 1024) x (bornAt (takeFirst w free) x (first w free) (plus32 (x .clock) (sample .time)) priority block) (moved x (takeFirst w free))
+    either-moved (ltb (first w free) 1024) x (bornAt (takeFirst w free) x (first w free) (plus64 (x .clock) (sample .time)) priority block) (moved x (takeFirst w free))
     (record { used = refl; turns = refl }) (record { used = refl; turns = refl })
 
 -- ---- 1 GENERATE

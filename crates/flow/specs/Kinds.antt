@@ -14,7 +14,7 @@ use Rattle.state.specs.Stands.{Rows, rowsOf}
 use Rattle.moves.specs.Motion.{Moved, moved, withTally, next32, goOn, stopped}
 use Rattle.flow.specs.declared.samples.Sample.{Sample}
 use Rattle.flow.specs.Samples.{nextSample, useTime}
-use Rattle.flow.specs.Sending.{priorities, plus32, toFuture, toReady, arrives, copyOne}
+use Rattle.flow.specs.Sending.{priorities, plus64, toFuture, toReady, arrives, copyOne}
 use Rattle.flow.specs.Questions.{askRoom, askTime, askArrival}
 
 -- the row that moved is on a list: nobody moves
@@ -47,7 +47,7 @@ unfoldable pub sendOn : List ℕ → Scalars → (time : ℕ) → Moved
 sendOn w x time = parked (toFuture (goOn w x .work) (goOn w x .scalars) (x .moving) time)
 
 unfoldable pub delayRows : List ℕ → List ℕ → Scalars → Sample → (list : ℕ) → Rows
-delayRows w tally x sample list = withTally (sendOn w x (plus32 (x .clock) (sample .time))) (useTime tally list (sample .next))
+delayRows w tally x sample list = withTally (sendOn w x (plus64 (x .clock) (sample .time))) (useTime tally list (sample .next))
 
 unfoldable pub advanceWith : Sample → List ℕ → List ℕ → Scalars → (list : ℕ) → Rows
 advanceWith sample w tally x list =

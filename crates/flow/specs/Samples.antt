@@ -3,7 +3,7 @@ use Prim.Native.Nat.{ℕ, _+_, _-_}
 use mathlib.Core.List.{List}
 use mathlib.Core.Option.{Option, none, some}
 use lib.ListN.{getD, set, drop}
-use Rattle.machine.specs.Limits.{maxNumberBytes, maxNumber}
+use Rattle.machine.specs.Limits.{maxNumberBytes, fiveGroups}
 use Rattle.machine.specs.Number.{Number, readNumber}
 use Rattle.tables.specs.Layout.{listAt, listLeft}
 use Rattle.flow.specs.declared.samples.Sample.{Sample}
@@ -13,7 +13,7 @@ sampleOf at none = record { time = 0; next = at }
 sampleOf at (some n) = record { time = n .value; next = at + n .size }
 
 unfoldable pub sampleAt : List ℕ → ℕ → Sample
-sampleAt tape at = sampleOf at (readNumber maxNumberBytes maxNumber (drop at tape))
+sampleAt tape at = sampleOf at (readNumber maxNumberBytes fiveGroups (drop at tape))
 
 unfoldable pub nextSample : List ℕ → List ℕ → ℕ → Sample
 nextSample tape tally list = sampleAt tape (getD tally (listAt + list) 0)

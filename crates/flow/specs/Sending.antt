@@ -3,9 +3,9 @@ use Prim.Native.Nat.{ℕ, _+_, _%_, min}
 use mathlib.Core.Bool.{cond}
 use mathlib.Core.List.{List}
 use lib.Dec.{ltb}
-use Rattle.tables.specs.Layout.{most32}
-use Rattle.rows.specs.Layout.{serialField, timeField, rel, fel, free, rowCount}
-use Rattle.rows.specs.Cells.{write}
+use Rattle.tables.specs.Layout.{most32, most64}
+use Rattle.rows.specs.Layout.{serialField, rel, fel, free, rowCount}
+use Rattle.rows.specs.Cells.{write, setTime}
 use Rattle.rows.specs.Lists.{put, first, takeFirst}
 use Rattle.rows.specs.Make.{newbornAt, copyAt}
 use Rattle.state.specs.declared.scalars.Scalars.{Scalars}
@@ -15,17 +15,20 @@ use Rattle.moves.specs.Motion.{Moved, moved, withTally, next32}
 use Rattle.flow.specs.declared.samples.Sample.{Sample}
 use Rattle.flow.specs.Samples.{useTime}
 
--- a sum that stops at the largest number
 -- a priority is below this number
 abbrev pub priorities : ℕ
 priorities = 128
 
+-- sums that stop at the largest number
 abbrev pub plus32 : ℕ → ℕ → ℕ
 plus32 a b = min (a + b) most32
 
+abbrev pub plus64 : ℕ → ℕ → ℕ
+plus64 a b = min (a + b) most64
+
 unfoldable pub toFuture : List ℕ → Scalars → ℕ → ℕ → Moved
 toFuture w x k time =
-    moved (putSerial (next32 (x .serial)) x) (put (write (write w serialField k (next32 (x .serial))) timeField k time) fel k)
+    moved (putSerial (next32 (x .serial)) x) (put (setTime (write w serialField k (next32 (x .serial))) k time) fel k)
 
 unfoldable pub toReady : List ℕ → Scalars → ℕ → Moved
 toReady w x k = moved (putSerial (next32 (x .serial)) x) (put (write w serialField k (next32 (x .serial))) rel k)
@@ -44,7 +47,7 @@ born w x time priority block =
 -- at the clock plus a sample, which is used
 unfoldable pub arrives : List ℕ → List ℕ → Scalars → Sample → (list priority block : ℕ) → Rows
 arrives w tally x sample list priority block =
-    withTally (born w x (plus32 (x .clock) (sample .time)) priority block) (useTime tally list (sample .next))
+    withTally (born w x (plus64 (x .clock) (sample .time)) priority block) (useTime tally list (sample .next))
 
 -- ---- A copy of the moving one on REL
 

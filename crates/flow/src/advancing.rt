@@ -10,7 +10,7 @@ use moves::go_on;
 use moves::stop;
 use state::NOBODY;
 use state::Scalars;
-use state::plus32;
+use state::plus64;
 use tables::FIRST;
 use tables::number;
 ghost use mathlib.Core.Path.{_≡_};
@@ -22,7 +22,7 @@ ghost use Rattle.state.specs.Stands.{rowsOf};
 ghost use Rattle.flow.specs.Kinds.{sendOn, delayRows, advanceNext, advanceRows};
 
 // The moving one goes to the FEL at a time, its next block plus one.
-fn send_on(work: &mut [u32], x: Scalars, time: u32) -> Scalars
+fn send_on(work: &mut [u32], x: Scalars, time: u64) -> Scalars
     requires { ⌜ Room (now work) ⌝ }
     requires { ⌜ x .moving < rowCount ⌝ }
     ensures { λ r. ⌜ moved r (now (work .exit)) ≡ sendOn (now (work .entry)) x time ⌝ }
@@ -41,7 +41,7 @@ fn delay(work: &mut [u32], tally: &mut [u64], x: Scalars, sample: Sample, list: 
 {
     let next = sample.next;
     use_time(tally, list, next);
-    let time = plus32(x.clock, sample.time);
+    let time = plus64(x.clock, sample.time);
     send_on(work, x, time)
 }
 

@@ -5,12 +5,11 @@ use machine::ends::TOO_LATE;
 use state::Scalars;
 use state::less32;
 use state::plus32;
+use state::plus64;
 ghost use mathlib.Core.Path.{_≡_};
 ghost use Rattle.flow.specs.Questions.{askRoom, askTime, firstNo, askArrival};
 
 const MAX_LIVING: u32 = Model::MAX_LIVING as u32;
-
-const MAX_CLOCK: u32 = Model::MAX_CLOCK as u32;
 
 // "Is a living place free for each new one?"
 pub fn ask_room(x: Scalars, n: u32) -> u32
@@ -22,11 +21,11 @@ pub fn ask_room(x: Scalars, n: u32) -> u32
     NO_PLACE
 }
 
-// "Is the move time at most 2,000,000,000?"
-pub fn ask_time(x: Scalars, time: u32) -> u32
+// "Is the move time at most ..?"
+pub fn ask_time(x: Scalars, time: u64) -> u32
     ensures { λ r. ⌜ r ≡ askTime x time ⌝ }
 {
-    if plus32(x.clock, time) <= MAX_CLOCK {
+    if plus64(x.clock, time) <= Model::MAX_CLOCK {
         return 0;
     }
     TOO_LATE
@@ -41,7 +40,7 @@ fn first_no(a: u32, b: u32) -> u32
     a
 }
 
-pub fn ask_arrival(x: Scalars, time: u32) -> u32
+pub fn ask_arrival(x: Scalars, time: u64) -> u32
     ensures { λ r. ⌜ r ≡ askArrival x time ⌝ }
 {
     let room = ask_room(x, 1);

@@ -1,6 +1,7 @@
 // The next time of a sample list: where it stands in the tape and how many are left are numbers of the tally.
 use codec::Read;
 use codec::read_number;
+use machine::Model;
 use state::less64;
 use tables::LIST_AT;
 use tables::LIST_LEFT;
@@ -14,18 +15,18 @@ ghost use Rattle.flow.specs.Samples.{sampleAt, nextSample, useTime};
 
 // A time and the position after it.
 pub struct Sample {
-    pub time: u32,
+    pub time: u64,
     pub next: usize,
 }
 
 fn sample_at(tape: &[u8], at: usize) -> Sample
     ensures { λ r. ⌜ r ≡ sampleAt (now (tape .entry)) at ⌝ }
 {
-    let Read::Number(v, next) = read_number(tape, at) else {
+    let Read::Number(v, next) = read_number(tape, at, Model::FIVE_GROUPS) else {
         return Sample { time: 0, next: at };
     };
     Sample {
-        time: v as u32,
+        time: v,
         next: next,
     }
 }

@@ -6,7 +6,7 @@ use rows::FEL;
 use rows::REL;
 use rows::ROWS;
 use rows::SERIAL;
-use rows::TIME;
+use rows::cells::set_time;
 use rows::cells::write;
 use rows::lists::put;
 use rows::make::copy;
@@ -14,6 +14,7 @@ use rows::make::make_row;
 use rows::make::newborn;
 use state::Scalars;
 use state::plus32;
+use state::plus64;
 ghost use mathlib.Core.Path.{_≡_};
 ghost use Prim.Native.Nat.{_<_, _≤_};
 ghost use Rattle.rows.specs.Layout.{Room, rowCount};
@@ -24,14 +25,14 @@ ghost use Rattle.flow.specs.Sending.{toFuture, toReady, bornAt, born, ar
 // A priority is below this number.
 pub const PRIORITIES: u32 = Model::MAX_PRIORITY as u32 + 1;
 
-pub fn to_future(work: &mut [u32], x: Scalars, k: u32, time: u32) -> Scalars
+pub fn to_future(work: &mut [u32], x: Scalars, k: u32, time: u64) -> Scalars
     requires { ⌜ Room (now work) ⌝ }
     requires { ⌜ k < rowCount ⌝ }
     ensures { λ r. ⌜ moved r (now (work .exit)) ≡ toFuture (now (work .entry)) x k time ⌝ }
 {
     let serial = plus32(x.serial, 1);
     write(work, SERIAL, k, serial);
-    write(work, TIME, k, time);
+    set_time(work, k, time);
     put(work, FEL, k);
     let mut y = x;
     y.serial = serial;
@@ -52,7 +53,7 @@ pub fn to_ready(work: &mut [u32], x: Scalars, k: u32) -> Scalars
 }
 
 // Row k becomes a new transaction at a block, on the FEL at a time.
-fn born_at(work: &mut [u32], x: Scalars, k: u32, time: u32, priority: u32, block: u32) -> Scalars
+fn born_at(work: &mut [u32], x: Scalars, k: u32, time: u64, priority: u32, block: u32) -> Scalars
     requires { ⌜ Room (now work) ⌝ }
     requires { ⌜ k < rowCount ⌝ }
     ensures { λ r. ⌜ moved r (now (work .exit)) ≡ bornAt (now (work .entry)) x k time priority block ⌝ }
@@ -64,7 +65,7 @@ fn born_at(work: &mut [u32], x: Scalars, k: u32, time: u32, priority: u32, block
     to_future(work, y, k, time)
 }
 
-fn born(work: &mut [u32], x: Scalars, time: u32, priority: u32, block: u32) -> Scalars
+fn born(work: &mut [u32], x: Scalars, time: u64, priority: u32, block: u32) -> Scalars
     requires { ⌜ Room (now work) ⌝ }
     ensures { λ r. ⌜ moved r (now (work .exit)) ≡ born (now (work .entry)) x time priority block ⌝ }
 {
@@ -90,7 +91,7 @@ pub fn arrives(
 {
     let next = sample.next;
     use_time(tally, list, next);
-    let time = plus32(x.clock, sample.time);
+    let time = plus64(x.clock, sample.time);
     born(work, x, time, priority, block)
 }
 

@@ -36,4 +36,9 @@ pub mod Clocks
 pub mod Sorting
 pub mod Standing
 pub mod LivingListed
+pub mod ClockTerm
+pub mod RecordRoom
+pub mod WiderParsing
+pub mod SameTurns
+pub mod OlderTapes
 pub mod Demand3

@@ -19,6 +19,8 @@ pub mod Decode
 pub mod Validate
 pub mod Outcome
 pub mod Claims
+pub mod OlderTapes
 pub mod Bundle
 pub mod Examples
 pub mod WaitExamples
+pub mod YearExamples

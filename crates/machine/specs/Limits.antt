@@ -1,5 +1,6 @@
--- The limits of document 01, each by a name. "These limits are named constants of the model": `Model` of src/ has those of
--- the model as associated constants, and a contract equates each with the one here.
+-- The limits of document 01, each by a name; where document 02, item 1, raises one, the raised one stands here and document 01's in
+-- Rules. "These limits are named constants of the model": `Model` of src/ has those of the model as associated constants, and a
+-- contract equates each with the one here.
 use Prim.Native.Nat.{ℕ}
 
 -- ---- Bytes, "Model: edition (1); facilities 0..32; .." and "Tape: for each list a count .."
@@ -35,8 +36,9 @@ maxLiving = 1024
 abbrev pub maxSamples : ℕ
 maxSamples = 65535
 
+-- document 02, item 1: "sample times to 10,000,000,000"
 abbrev pub maxTime : ℕ
-maxTime = 1000000
+maxTime = 10000000000
 
 -- ---- Lists, "a priority 0..127, four signed 32-bit parameters"
 
@@ -83,10 +85,11 @@ maxTurns = 100000000
 abbrev pub recordRoom : ℕ
 recordRoom = 12
 
--- ---- Questions, "Is the move time at most 2,000,000,000?" and the trace reader's ranges
+-- ---- Questions, "Is the move time at most ..?" and the trace reader's ranges
 
+-- document 02, item 1: "Clocks go up to 32,000,000,000"
 abbrev pub maxClock : ℕ
-maxClock = 2000000000
+maxClock = 32000000000
 
 abbrev pub maxTransaction : ℕ
 maxTransaction = 100000000
@@ -98,6 +101,11 @@ maxNumberBytes = 5
 
 abbrev pub maxNumber : ℕ
 maxNumber = 4294967295
+
+-- document 02, item 1: "A number in tape and trace may be any that fits five groups, to 34,359,738,367. Model numbers keep the
+-- old size."
+abbrev pub fiveGroups : ℕ
+fiveGroups = 34359738367
 
 abbrev pub maxReportNumberBytes : ℕ
 maxReportNumberBytes = 9

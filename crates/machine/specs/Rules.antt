@@ -12,8 +12,12 @@ pub record Rules : Type 0 where
   pub maxNumber : ℕ
 
 abbrev pub document01 : Rules
-document01 = record { maxClock = Limits.maxClock; maxTime = Limits.maxTime; maxNumber = Limits.maxNumber }
+document01 = record { maxClock = 2000000000; maxTime = 1000000; maxNumber = Limits.maxNumber }
+
+-- document 02 with item 1, "Studies of a whole year in milliseconds"
+abbrev pub document02 : Rules
+document02 = record { maxClock = Limits.maxClock; maxTime = Limits.maxTime; maxNumber = Limits.fiveGroups }
 
 -- the rules that the engine keeps
 abbrev pub inForce : Rules
-inForce = document01
+inForce = document02

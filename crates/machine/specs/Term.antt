@@ -103,7 +103,8 @@ module _ (w : View) (parameters : List ℤ) (lower : List ℤ) where
     term (constant n) = pos n
     term (minusConstant n) = negℤ (pos n)
     term (parameter k) = nth parameters k (pos 0)
-    term clockTerm = pos (w .clock)
+    -- document 02, item 1: "The clock term gives the clock's low 32 bits as a signed number."
+    term clockTerm = wrap (pos (w .clock))
     term (entriesOf b) = pos (nth (w .entries) b 0)
     term (contentOf q) = pos (queueAt w q .content)
     term (unitsInUse v) = pos (serverAt w v .inUse)

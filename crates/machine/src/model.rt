@@ -1,6 +1,6 @@
-// The header of a model, and document 01's limits as its constants.
+// The header of a model, and the limits of documents 01 and 02 as its constants.
 ghost use mathlib.Core.Path.{_≡_};
-ghost use Rattle.machine.specs.Limits.{maxFacilities, maxStorages, maxCapacity, maxQueues, maxValues, maxLists, maxCounter, maxBlocks, maxLiving, maxSamples, maxTime, maxPriority, parameterCount, maxTerminate, maxSplit, maxConstant, maxTerms, maxValueNumbers, maxBrackets, maxMentions, maxSerial, maxTurns, recordRoom, maxClock, maxTransaction, maxNumberBytes, maxNumber, maxReportNumberBytes, maxReportNumber, workNumbers, reportRoom};
+ghost use Rattle.machine.specs.Limits.{maxFacilities, maxStorages, maxCapacity, maxQueues, maxValues, maxLists, maxCounter, maxBlocks, maxLiving, maxSamples, maxTime, maxPriority, parameterCount, maxTerminate, maxSplit, maxConstant, maxTerms, maxValueNumbers, maxBrackets, maxMentions, maxSerial, maxTurns, recordRoom, maxClock, maxTransaction, maxNumberBytes, maxNumber, fiveGroups, maxReportNumberBytes, maxReportNumber, workNumbers, reportRoom};
 
 // The header of a decoded model: how many there are of each thing, and the counter.
 pub struct Model {
@@ -36,7 +36,7 @@ impl Model {
 
     pub const MAX_SAMPLES: usize = 65_535;
 
-    pub const MAX_TIME: usize = 1_000_000;
+    pub const MAX_TIME: usize = 10_000_000_000;
 
     pub const MAX_PRIORITY: usize = 127;
 
@@ -63,8 +63,8 @@ impl Model {
 
     pub const RECORD_ROOM: usize = 12;
 
-    // "Clock to 2,000,000,000, transaction 1..100,000,000"
-    pub const MAX_CLOCK: u64 = 2_000_000_000;
+    // "Clocks go up to 32,000,000,000" (document 02, item 1), "transaction 1..100,000,000"
+    pub const MAX_CLOCK: u64 = 32_000_000_000;
 
     pub const MAX_TRANSACTION: u64 = 100_000_000;
 
@@ -72,6 +72,9 @@ impl Model {
     pub const NUMBER_BYTES: usize = 5;
 
     pub const MAX_NUMBER: u64 = 4_294_967_295;
+
+    // "A number in tape and trace may be any that fits five groups" (document 02, item 1)
+    pub const FIVE_GROUPS: u64 = 34_359_738_367;
 
     pub const REPORT_NUMBER_BYTES: usize = 9;
 
@@ -90,10 +93,11 @@ impl Model {
         ensures program { λ _. do ⌜ ((← ⟦Model::MAX_COUNTER⟧ .entry) ≡ maxCounter) × ((← ⟦Model::MAX_BLOCKS⟧ .entry) ≡ maxBlocks) × ((← ⟦Model::MAX_LIVING⟧ .entry) ≡ maxLiving) ⌝ }
         ensures tape { λ _. do ⌜ ((← ⟦Model::MAX_SAMPLES⟧ .entry) ≡ maxSamples) × ((← ⟦Model::MAX_TIME⟧ .entry) ≡ maxTime) ⌝ }
         ensures transactions { λ _. do ⌜ ((← ⟦Model::MAX_PRIORITY⟧ .entry) ≡ maxPriority) × ((← ⟦Model::PARAMETERS⟧ .entry) ≡ parameterCount) ⌝ }
-        ensures operands { λ _. do ⌜ ((← ⟦Model::MAX_TERMINATE⟧ .entry) ≡ maxTerminate) × ((← ⟦Model::MAX_SPLIT⟧ .entry) ≡ maxSplit) × ((← ⟦Model::MAX_CONSTANT⟧ .entry) ≡ maxConstant) × ((← ⟦Model::MAX_TERMS⟧ .entry) ≡ maxTerms) ⌝ }
+        ensures operands { λ _. do ⌜ ((← ⟦Model::MAX_TERMINATE⟧ .entry) ≡ maxTerminate) × ((← ⟦Model::MAX_SPLIT⟧ .entry) ≡ maxSplit) ⌝ }
+        ensures terms { λ _. do ⌜ ((← ⟦Model::MAX_CONSTANT⟧ .entry) ≡ maxConstant) × ((← ⟦Model::MAX_TERMS⟧ .entry) ≡ maxTerms) ⌝ }
         ensures sums { λ _. do ⌜ ((← ⟦Model::MAX_VALUE_NUMBERS⟧ .entry) ≡ maxValueNumbers) × ((← ⟦Model::MAX_BRACKETS⟧ .entry) ≡ maxBrackets) × ((← ⟦Model::MAX_MENTIONS⟧ .entry) ≡ maxMentions) ⌝ }
         ensures turns { λ _. do ⌜ ((← ⟦Model::MAX_SERIAL⟧ .entry) ≡ maxSerial) × ((← ⟦Model::MAX_TURNS⟧ .entry) ≡ maxTurns) × ((← ⟦Model::RECORD_ROOM⟧ .entry) ≡ recordRoom) ⌝ }
-        ensures records { λ _. do ⌜ ((← ⟦Model::MAX_CLOCK⟧ .entry) ≡ maxClock) × ((← ⟦Model::MAX_TRANSACTION⟧ .entry) ≡ maxTransaction) ⌝ }
+        ensures records { λ _. do ⌜ ((← ⟦Model::MAX_CLOCK⟧ .entry) ≡ maxClock) × ((← ⟦Model::MAX_TRANSACTION⟧ .entry) ≡ maxTransaction) × ((← ⟦Model::FIVE_GROUPS⟧ .entry) ≡ fiveGroups) ⌝ }
         ensures numbers { λ _. do ⌜ ((← ⟦Model::NUMBER_BYTES⟧ .entry) ≡ maxNumberBytes) × ((← ⟦Model::MAX_NUMBER⟧ .entry) ≡ maxNumber) × ((← ⟦Model::REPORT_NUMBER_BYTES⟧ .entry) ≡ maxReportNumberBytes) × ((← ⟦Model::MAX_REPORT_NUMBER⟧ .entry) ≡ maxReportNumber) ⌝ }
         ensures buffers { λ _. do ⌜ ((← ⟦Model::WORK_NUMBERS⟧ .entry) ≡ workNumbers) × ((← ⟦Model::REPORT_ROOM⟧ .entry) ≡ reportRoom) ⌝ }
     {

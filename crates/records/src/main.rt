@@ -10,7 +10,7 @@ ghost use Prim.Native.Nat.{_<_};
 const RECORDS: u64 = 1000;
 
 // So far are clocks and transactions of one record from those of the one before.
-const CLOCKS: u64 = 2_002_002;
+const CLOCKS: u64 = 32_032_032;
 
 const TRANSACTIONS: u64 = 100_100;
 
@@ -53,9 +53,9 @@ fn print_written(v: u64) {
     print(b"\n");
 }
 
-// What reading a number at the front of these bytes answers.
-fn print_read(s: &[u8]) {
-    print_answer(codec::read_number(s, 0));
+// What reading a number of at most `most` at the front of these bytes answers.
+fn print_read(s: &[u8], most: u64) {
+    print_answer(codec::read_number(s, 0, most));
     print_bytes(s);
     print(b"\n");
 }
@@ -69,6 +69,48 @@ fn print_answer(answer: Read) {
             print(b"refused");
         }
     }
+}
+
+// What the reader answers at the front of these bytes.
+fn print_record(s: &[u8]) {
+    print_reading(trace::read_record(s, 0));
+    print_bytes(s);
+    print(b"\n");
+}
+
+fn print_reading(answer: Reading) {
+    match answer {
+        Reading::Taken(r, _) => {
+            print(b"clock ");
+            io::print_decimal(STDOUT_FILENO, r.clock);
+        }
+        Reading::Refused(n) => {
+            print(b"refused ");
+            io::print_decimal(STDOUT_FILENO, n as u64);
+        }
+        Reading::NoMore => {
+            print(b"no more");
+        }
+    }
+}
+
+// What the writer answers to a record at this clock, with the largest of all else and room for it.
+fn print_largest(clock: u64) {
+    io::print_decimal(STDOUT_FILENO, clock);
+    let mut bytes = [0u8; Model::RECORD_ROOM];
+    match trace::write_record(&mut bytes, clock, Model::MAX_TRANSACTION, BLOCKS, 1) {
+        Written::Bytes(n) => {
+            print(b" in ");
+            io::print_decimal(STDOUT_FILENO, n as u64);
+            print(b" bytes");
+            print_bytes(&bytes);
+        }
+        Written::Refused(n) => {
+            print(b" refused ");
+            io::print_decimal(STDOUT_FILENO, n as u64);
+        }
+    }
+    print(b"\n");
 }
 
 // The i-th record of the test, within the ranges.
@@ -168,17 +210,37 @@ fn print_numbers() {
     print_written(ONE_GROUP);
     print_written(ONE_GROUP + 1);
     print_written(Model::MAX_NUMBER);
+    print_written(Model::FIVE_GROUPS);
     print_written(Model::MAX_REPORT_NUMBER);
 }
 
+// Numbers of a model.
 fn print_readings() {
-    print_read(b"\x7f");
-    print_read(b"\x81\x00");
-    print_read(b"\x8f\xff\xff\xff\x7f");
-    print_read(b"\x80\x01");
-    print_read(b"\x90\x80\x80\x80\x00");
-    print_read(b"\x81\x80\x80\x80\x80\x00");
-    print_read(b"\x81");
+    print_read(b"\x7f", Model::MAX_NUMBER);
+    print_read(b"\x81\x00", Model::MAX_NUMBER);
+    print_read(b"\x8f\xff\xff\xff\x7f", Model::MAX_NUMBER);
+    print_read(b"\x80\x01", Model::MAX_NUMBER);
+    print_read(b"\x90\x80\x80\x80\x00", Model::MAX_NUMBER);
+    print_read(b"\x81\x80\x80\x80\x80\x00", Model::MAX_NUMBER);
+    print_read(b"\x81", Model::MAX_NUMBER);
+}
+
+// Numbers of a tape or a trace.
+fn print_wider_readings() {
+    print_read(b"\x90\x80\x80\x80\x00", Model::FIVE_GROUPS);
+    print_read(b"\xff\xff\xff\xff\x7f", Model::FIVE_GROUPS);
+    print_read(b"\x81\x80\x80\x80\x80\x00", Model::FIVE_GROUPS);
+}
+
+// Records with a clock at its limit, one past it, the largest number and one more; and 2 to the 32 as a transaction.
+fn print_limits() {
+    print_record(b"\xf7\x9a\xe5\x80\x00\x01\x01\x00");
+    print_record(b"\xf7\x9a\xe5\x80\x01\x01\x01\x00");
+    print_record(b"\xff\xff\xff\xff\x7f\x01\x01\x00");
+    print_record(b"\x81\x80\x80\x80\x80\x00\x01\x01\x00");
+    print_record(b"\x00\x90\x80\x80\x80\x00\x01\x00");
+    print_largest(Model::MAX_CLOCK);
+    print_largest(Model::MAX_CLOCK + 1);
 }
 
 fn print_trace(trace: &[u8]) {
@@ -192,6 +254,8 @@ fn print_trace(trace: &[u8]) {
 fn main() {
     print_numbers();
     print_readings();
+    print_wider_readings();
+    print_limits();
     let mut trace = io::large_buffer();
     let used = write_all(&mut trace);
     print_count(used, b" bytes written");

@@ -9,7 +9,7 @@ use mathlib.Core.Option.{Option, none, some}
 use lib.Dec.{eqb}
 use lib.ListN.{length, drop, length-append, length-map, length-replicate}
 use lib.Seq.{sets, length-sets, sets-eq}
-use Rattle.machine.specs.Limits.{maxReportNumber}
+use Rattle.machine.specs.Limits.{maxReportNumber, maxClock}
 use Rattle.machine.specs.Transaction.{Transaction, Event}
 use Rattle.machine.specs.Lists.{flat}
 use Rattle.machine.specs.Term.{Server, Queue}
@@ -247,7 +247,7 @@ module _ (m : BlockModel) (tape : List (List ℕ)) (s : State) (proper : Proper 
   -- some for each tick that passed
   ticks : (a n : ℕ) → a ≤ 100000001 → n ≤ a * s .view .clock → Small n
   ticks a n b h =
-      let c : s .view .clock ≤ 2000000000 = sane .timely .clock in
+      let c : s .view .clock ≤ maxClock = sane .timely .clock in
       omega (arith, mul-le-mul-left a c)
 
   module _ (number : length (s .records) ≤ s .turns) where

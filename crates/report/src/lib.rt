@@ -18,7 +18,7 @@ ghost use Rattle.report.specs.Writing.{written, putAll};
 fn put_scalars(x: Scalars, report: &mut [u8], at: usize) -> usize
     ensures { λ r. ⌜ written r (now (report .exit)) ≡ putAll (x .clock ∷ x .made ∷ x .ended ∷ []) (written at (now (report .entry))) ⌝ }
 {
-    let clocked = write_number(report, at, x.clock as u64);
+    let clocked = write_number(report, at, x.clock);
     let made = write_number(report, clocked, x.made as u64);
     write_number(report, made, x.ended as u64)
 }

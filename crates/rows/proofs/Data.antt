@@ -4,7 +4,7 @@ use mathlib.Core.Path.{_≡_, refl}
 use mathlib.Core.List.{List, [], _∷_, map}
 use native.Mathlib.Omega.{arith}
 use Rattle.rows.specs.Layout.{dataFields, places}
-use Rattle.rows.specs.Cells.{load, read}
+use Rattle.rows.specs.Cells.{load, read, timeOf}
 use Rattle.rows.specs.Holds.{transactionAt, eventAt, occurs}
 use Rattle.rows.proofs.Occurs.{same-refl}
 
@@ -25,8 +25,8 @@ transaction-kept w w′ k kept =
     rw (kept 0 (omega arith), kept 1 (omega arith), kept 2 (omega arith), kept 3 (omega arith), kept 4 (omega arith), kept 5 (omega arith), kept 6 (omega arith), kept 7 (omega arith))
 
 pub event-kept : (w w′ : List ℕ) (k : ℕ) → SameRow w w′ k → eventAt w′ k ≡ eventAt w k
-unfolding eventAt
-event-kept w w′ k kept = rw (transaction-kept w w′ k kept, kept 8 (omega arith))
+unfolding eventAt timeOf
+event-kept w w′ k kept = rw (transaction-kept w w′ k kept, kept 8 (omega arith), kept 9 (omega arith))
 
 module _ {A : Type 0} (f g : ℕ → A) where
   pub map-kept : (l : List ℕ) → ((j : ℕ) → 1 ≤ occurs j l → f j ≡ g j) → map f l ≡ map g l

@@ -1,6 +1,6 @@
 -- What a write to a field of a row makes of its transaction: the machine's setters.
 use Prim.Native.Nat.{ℕ, zero, suc, _+_, _*_, _/_, _%_, _≤_, _<_}
-use mathlib.Core.Path.{_≡_}
+use mathlib.Core.Path.{_≡_, _∙_}
 use mathlib.Core.List.{List}
 use native.Mathlib.Omega.{arith}
 use lib.Dec.{eqb}
@@ -10,9 +10,9 @@ use mir.Val.{toZ}
 use Rattle.machine.specs.Transaction.{Transaction}
 use Rattle.machine.specs.Setters.{withPriority, withParameters, withNext, withSerial, withReturning}
 use Rattle.rows.specs.Layout.{dataFields, fieldAt}
-use Rattle.rows.specs.Cells.{read, write, setReturning}
+use Rattle.rows.specs.Cells.{read, write, setReturning, timeOf, setTime}
 use Rattle.rows.specs.Holds.{transactionAt, eventAt}
-use Rattle.rows.proofs.Store.{load-same, load-other}
+use Rattle.rows.proofs.Store.{length-store, load-same, load-other}
 
 abbrev pub withNumber : ℕ → Transaction → Transaction
 withNumber x t =
@@ -70,8 +70,30 @@ module _ (w : List ℕ) (k : ℕ) (room : 16384 ≤ length w) (hk : k < 1024) wh
       rw (apart′ 5 x 0 (omega arith), apart′ 5 x 1 (omega arith), apart′ 5 x 2 (omega arith), apart′ 5 x 3 (omega arith), apart′ 5 x 4 (omega arith), own 5 x (omega arith), apart 5 x 6 (omega arith), apart 5 x 7 (omega arith))
   write-parameter (suc (suc (suc (suc i)))) x h = absurd (omega arith)
 
-  -- the time of a move
-  pub write-time : (x : ℕ) → eventAt (write w 8 k x) k ≡ record { time = x; who = transactionAt w k }
-  unfolding eventAt transactionAt
-  write-time x =
-      rw (apart′ 8 x 0 (omega arith), apart′ 8 x 1 (omega arith), apart′ 8 x 2 (omega arith), apart′ 8 x 3 (omega arith), apart′ 8 x 4 (omega arith), apart′ 8 x 5 (omega arith), apart′ 8 x 6 (omega arith), apart′ 8 x 7 (omega arith), own 8 x (omega arith))
+  -- a field that is no part of the transaction
+  pub write-beside : (f x : ℕ) → 8 ≤ f → transactionAt (write w f k x) k ≡ transactionAt w k
+  unfolding transactionAt
+  write-beside f x h =
+      rw (apart′ f x 0 (omega arith), apart′ f x 1 (omega arith), apart′ f x 2 (omega arith), apart′ f x 3 (omega arith), apart′ f x 4 (omega arith), apart′ f x 5 (omega arith), apart′ f x 6 (omega arith), apart′ f x 7 (omega arith))
+
+-- the time of a move
+module _ (w : List ℕ) (k : ℕ) (room : 16384 ≤ length w) (hk : k < 1024) (time : ℕ) where
+  abbrev low : List ℕ
+  low = write w 8 k (time % 4294967296)
+
+  low-room : 16384 ≤ length low
+  low-room = simp length-store room
+
+  pub time-set : timeOf (setTime w k time) k ≡ time
+  unfolding timeOf setTime
+  time-set =
+      rw (load-same low (fieldAt 9 k) (time / 4294967296) low-room (omega arith), load-other low (fieldAt 9 k) (time / 4294967296) (fieldAt 8 k) (λ e. omega arith), load-same w (fieldAt 8 k) (time % 4294967296) room (omega arith))
+      (omega arith)
+
+  pub time-beside : transactionAt (setTime w k time) k ≡ transactionAt w k
+  unfolding setTime
+  time-beside = write-beside low k low-room hk 9 _ (omega arith) ∙ write-beside w k room hk 8 _ (omega arith)
+
+  pub write-time : eventAt (setTime w k time) k ≡ record { time = time; who = transactionAt w k }
+  unfolding eventAt
+  write-time = rw (time-set, time-beside)

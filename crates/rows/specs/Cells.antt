@@ -1,11 +1,11 @@
 -- Single numbers of the buffer.
-use Prim.Native.Nat.{ℕ, _+_, _*_, _/_}
+use Prim.Native.Nat.{ℕ, _+_, _*_, _/_, _%_}
 use mathlib.Core.Bool.{cond}
 use mathlib.Core.List.{List}
 use lib.Dec.{ltb}
 use lib.ListN.{getD, set}
 use Rattle.machine.specs.Limits.{workNumbers}
-use Rattle.rows.specs.Layout.{fieldAt, standingField}
+use Rattle.rows.specs.Layout.{fieldAt, standingField, timeField, timeHighField, wordEnd}
 
 abbrev pub load : List ℕ → ℕ → ℕ
 load w i = getD w i 0
@@ -26,3 +26,10 @@ priorityOf w k = read w standingField k / 2
 
 abbrev pub setReturning : List ℕ → ℕ → ℕ → List ℕ
 setReturning w k mark = write w standingField k (read w standingField k / 2 * 2 + mark)
+
+-- the move time of a row, in two fields
+unfoldable pub timeOf : List ℕ → ℕ → ℕ
+timeOf w k = read w timeHighField k * wordEnd + read w timeField k
+
+unfoldable pub setTime : List ℕ → ℕ → ℕ → List ℕ
+setTime w k time = write (write w timeField k (time % wordEnd)) timeHighField k (time / wordEnd)

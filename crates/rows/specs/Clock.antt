@@ -6,13 +6,13 @@ use lib.Dec.{ltb, eqb}
 use Rattle.machine.specs.Transaction.{Transaction, Event, precedes}
 use Rattle.machine.specs.Setters.{withSerial, withReturning}
 use Rattle.machine.specs.Lists.{insert}
-use Rattle.rows.specs.Layout.{serialField, timeField, rel, fel, rowCount}
-use Rattle.rows.specs.Cells.{read, write, setReturning}
+use Rattle.rows.specs.Layout.{serialField, rel, fel, rowCount}
+use Rattle.rows.specs.Cells.{write, setReturning, timeOf}
 use Rattle.rows.specs.Lists.{put, first, takeFirst}
 
 -- the first of the FEL has this time
 unfoldable pub isDue : List ℕ → ℕ → Bool
-isDue w time = ltb (first w fel) rowCount && eqb (read w timeField (first w fel)) time
+isDue w time = ltb (first w fel) rowCount && eqb (timeOf w (first w fel)) time
 
 -- it goes to REL with this serial, not returning
 unfoldable pub arriveRow : List ℕ → ℕ → ℕ → List ℕ

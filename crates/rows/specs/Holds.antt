@@ -8,8 +8,8 @@ use lib.Dec.{eqb}
 use mir.Syntax.{w32}
 use mir.Val.{toZ}
 use Rattle.machine.specs.Transaction.{Transaction, Event}
-use Rattle.rows.specs.Layout.{rowCount, listCount, Room, place, link, head, tail, numberField, standingField, parameterField, nextField, serialField, timeField}
-use Rattle.rows.specs.Cells.{load, read, priorityOf}
+use Rattle.rows.specs.Layout.{rowCount, listCount, Room, place, link, head, tail, numberField, standingField, parameterField, nextField, serialField}
+use Rattle.rows.specs.Cells.{load, read, priorityOf, timeOf}
 
 -- ---- Rows as transactions
 
@@ -28,7 +28,7 @@ transactionAt w k =
     }
 
 unfoldable pub eventAt : List ℕ → ℕ → Event
-eventAt w k = record { time = read w timeField k; who = transactionAt w k }
+eventAt w k = record { time = timeOf w k; who = transactionAt w k }
 
 -- ---- Lists of rows
 

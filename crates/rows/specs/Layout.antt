@@ -3,7 +3,7 @@
 --
 -- | field | holds                               | field | holds                              |
 -- |-------|-------------------------------------|-------|------------------------------------|
--- | 0     | number                              | 9     | spare: move time, high half        |
+-- | 0     | number                              | 9     | move time, high half               |
 -- | 1     | priority * 2 + returning            | 10    | spare: family                      |
 -- | 2..5  | parameters 1..4, the bits of an i32 | 11    | spare: second link                 |
 -- | 6     | next block                          | 12    | place: its list, 1024 on none      |
@@ -52,6 +52,10 @@ priorityEnd = 2147483648
 abbrev pub serialEnd : ℕ
 serialEnd = 4000000000
 
+-- what the lowest bit of the high half of a move time is worth
+abbrev pub wordEnd : ℕ
+wordEnd = 4294967296
+
 -- a buffer that has room for the layout
 abbrev pub Room : List ℕ → Type 0
 Room w = workNumbers ≤ length w
@@ -74,8 +78,12 @@ nextField = 6
 abbrev pub serialField : ℕ
 serialField = 7
 
+-- the move time, its low 32 bits and the rest
 abbrev pub timeField : ℕ
 timeField = 8
+
+abbrev pub timeHighField : ℕ
+timeHighField = 9
 
 abbrev pub fieldAt : ℕ → ℕ → ℕ
 fieldAt f k = f * rowCount + k

@@ -2,11 +2,14 @@
 
 use crate::ROWS;
 use crate::STANDING;
+use crate::TIME;
+use crate::TIME_HIGH;
+use crate::WORD_END;
 use crate::WORK_NUMBERS;
 ghost use mathlib.Core.Path.{_≡_};
 ghost use Prim.Native.Nat.{_+_, _*_, _<_, _≤_};
 ghost use Rattle.rows.specs.Layout.{rowCount, fieldCount, Room};
-ghost use Rattle.rows.specs.Cells.{load, store, read, write, priorityOf, setReturning};
+ghost use Rattle.rows.specs.Cells.{load, store, read, write, priorityOf, setReturning, timeOf, setTime};
 
 pub fn load(w: &[u32], i: u32) -> u32
     ensures { λ r. ⌜ r ≡ load (now (w .entry)) i ⌝ }
@@ -63,4 +66,23 @@ pub fn set_returning(w: &mut [u32], k: u32, mark: u32)
 {
     let standing = read(w, STANDING, k);
     write(w, STANDING, k, standing / 2 * 2 + mark);
+}
+
+// The move time, in two fields.
+pub fn time(w: &[u32], k: u32) -> u64
+    requires { ⌜ k < rowCount ⌝ }
+    ensures { λ r. ⌜ r ≡ timeOf (now (w .entry)) k ⌝ }
+{
+    let low = read(w, TIME, k) as u64;
+    let high = read(w, TIME_HIGH, k) as u64;
+    high * WORD_END + low
+}
+
+pub fn set_time(w: &mut [u32], k: u32, time: u64)
+    requires { ⌜ Room (now w) ⌝ }
+    requires { ⌜ k < rowCount ⌝ }
+    ensures { λ _. ⌜ now (w .exit) ≡ setTime (now (w .entry)) k time ⌝ }
+{
+    write(w, TIME, k, (time % WORD_END) as u32);
+    write(w, TIME_HIGH, k, (time / WORD_END) as u32);
 }

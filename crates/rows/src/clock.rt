@@ -5,10 +5,9 @@ use crate::FEL_HEAD;
 use crate::REL;
 use crate::ROWS;
 use crate::SERIAL;
-use crate::TIME;
 use crate::cells::load;
-use crate::cells::read;
 use crate::cells::set_returning;
+use crate::cells::time;
 use crate::cells::write;
 use crate::lists::put;
 use crate::lists::take_first;
@@ -18,14 +17,14 @@ ghost use Rattle.rows.specs.Layout.{rowCount, serialEnd, Room};
 ghost use Rattle.rows.specs.Clock.{isDue, arriveRow, arriveFirst, arrived, arrive};
 
 // The first of the FEL has this time.
-pub fn is_due(w: &[u32], time: u32) -> bool
-    ensures { λ r. ⌜ r ≡ isDue (now (w .entry)) time ⌝ }
+pub fn is_due(w: &[u32], due: u64) -> bool
+    ensures { λ r. ⌜ r ≡ isDue (now (w .entry)) due ⌝ }
 {
     let first = load(w, FEL_HEAD);
     if first >= ROWS {
         return false;
     }
-    read(w, TIME, first) == time
+    time(w, first) == due
 }
 
 fn arrive_row(w: &mut [u32], serial: u32, k: u32)
@@ -52,15 +51,15 @@ pub fn arrive_first(w: &mut [u32], serial: u32)
 }
 
 // All of the FEL's first that have this time go to REL with fresh serials; the answer is the last serial given.
-pub fn arrive(w: &mut [u32], time: u32, serial: u32) -> u32
+pub fn arrive(w: &mut [u32], due: u64, serial: u32) -> u32
     requires { ⌜ Room (now w) ⌝ }
     requires { ⌜ serial < serialEnd ⌝ }
-    ensures { λ r. ⌜ arrived (now (w .exit)) r ≡ arrive rowCount time (now (w .entry)) serial ⌝ }
+    ensures { λ r. ⌜ arrived (now (w .exit)) r ≡ arrive rowCount due (now (w .entry)) serial ⌝ }
 {
     let mut s = serial;
     let mut i: u32 = 0;
     while i < ROWS {
-        if !is_due(w, time) {
+        if !is_due(w, due) {
             return s;
         }
         s += 1;

@@ -35,6 +35,8 @@ pub const SERIAL: u32 = 7;
 
 pub const TIME: u32 = 8;
 
+pub const TIME_HIGH: u32 = 9;
+
 pub const PLACE: u32 = 12;
 
 pub const LINK: u32 = 13;
@@ -55,6 +57,9 @@ pub const TAILS: u32 = TAIL * ROWS;
 
 // From here on, the serials of one more clock move may not fit 32 bits.
 pub const SERIAL_END: u32 = 4_000_000_000;
+
+// What the lowest bit of the high half of a move time is worth.
+pub const WORD_END: u64 = 4_294_967_296;
 
 // Lists: the QL of a server is its number less one, its WELs follow from WELS on; then four by name.
 pub const LISTS: u32 = 1_024;

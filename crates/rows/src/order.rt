@@ -2,13 +2,13 @@
 
 use crate::FEL;
 use crate::SERIAL;
-use crate::TIME;
 use crate::cells::priority;
 use crate::cells::read;
+use crate::cells::time;
 ghost use mathlib.Core.Path.{_≡_};
 ghost use Prim.Native.Nat.{_<_};
 ghost use Rattle.rows.specs.Layout.{rowCount};
-ghost use Rattle.rows.specs.Order.{outranks, sooner, ahead};
+ghost use Rattle.rows.specs.Order.{outranks, sooner, aheadAt};
 
 // By priority, high first, then serial, low first.
 pub fn outranks(w: &[u32], x: u32, y: u32) -> bool
@@ -27,31 +27,30 @@ pub fn outranks(w: &[u32], x: u32, y: u32) -> bool
     read(w, SERIAL, x) < read(w, SERIAL, y)
 }
 
-// By time first.
-pub fn sooner(w: &[u32], x: u32, y: u32) -> bool
+// By time first, row x having this time.
+fn sooner(w: &[u32], due: u64, x: u32, y: u32) -> bool
     requires { ⌜ x < rowCount ⌝ }
     requires { ⌜ y < rowCount ⌝ }
-    ensures { λ r. ⌜ r ≡ sooner (now (w .entry)) x y ⌝ }
+    ensures { λ r. ⌜ r ≡ sooner (now (w .entry)) due x y ⌝ }
 {
-    let a = read(w, TIME, x);
-    let b = read(w, TIME, y);
-    if a < b {
+    let other = time(w, y);
+    if due < other {
         return true;
     }
-    if b < a {
+    if other < due {
         return false;
     }
     outranks(w, x, y)
 }
 
-// Row x before row y on list p: the FEL looks at time first.
-pub fn ahead(w: &[u32], p: u32, x: u32, y: u32) -> bool
+// Row x, which has this time, before row y on list p: the FEL looks at time first.
+pub fn ahead_at(w: &[u32], p: u32, due: u64, x: u32, y: u32) -> bool
     requires { ⌜ x < rowCount ⌝ }
     requires { ⌜ y < rowCount ⌝ }
-    ensures { λ r. ⌜ r ≡ ahead (now (w .entry)) p x y ⌝ }
+    ensures { λ r. ⌜ r ≡ aheadAt (now (w .entry)) p due x y ⌝ }
 {
     if p == FEL {
-        return sooner(w, x, y);
+        return sooner(w, due, x, y);
     }
     outranks(w, x, y)
 }

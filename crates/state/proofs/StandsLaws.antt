@@ -1,6 +1,6 @@
 -- What the relation reads of a state, and single changes that it follows. Lists, tally and scalars each have their own laws, so
 -- that a block's law puts them together as its effect needs.
-use Prim.Native.Nat.{ℕ, _+_, _-_, _≤_, _<_}
+use Prim.Native.Nat.{ℕ, _+_, _-_, _/_, _%_, _≤_, _<_}
 use mathlib.Core.Path.{_≡_, refl, ap, _∙_, subst}
 use mathlib.Core.Logic.{_≢_}
 use mathlib.Core.List.{List}
@@ -15,7 +15,7 @@ use Rattle.machine.specs.State.{State}
 use Rattle.machine.specs.Setters.{setMoving}
 use Rattle.tables.specs.Layout as Layout
 use Rattle.rows.specs.Layout.{fel, free}
-use Rattle.rows.specs.Cells.{write}
+use Rattle.rows.specs.Cells.{write, setTime}
 use Rattle.rows.specs.Order.{ahead}
 use Rattle.rows.specs.Lists.{put}
 use Rattle.rows.specs.Holds.{transactionAt, eventAt, update}
@@ -23,6 +23,7 @@ use Rattle.rows.specs.Shows.{Shows}
 use Rattle.rows.proofs.Showing.{update-other}
 use Rattle.rows.proofs.Ordering.{shows-ext}
 use Rattle.rows.proofs.Write.{write-shown, write-loose}
+use Rattle.rows.proofs.Fields.{write-beside}
 use Rattle.rows.proofs.Laws.{shows-put, shows-put-fel}
 use Rattle.rows.proofs.Steady.{Steady, steady-transaction}
 use Rattle.rows.proofs.Population.{free-kept}
@@ -56,6 +57,16 @@ listing-write w k t s f x t′ hf h e =
       mover = (write-loose w f k x hf k (h .mover .0 .row) (h .mover .0), e);
       spare = h .spare;
     }
+
+-- the move time of the moving one is no part of it
+pub listing-time : (w : List ℕ) (k : ℕ) (t : Transaction) (s : State) (time : ℕ) → Listing w k (some t) s → Listing (setTime w k time) k (some t) s
+unfolding setTime
+listing-time w k t s time h =
+    let hk : k < 1024 = h .mover .0 .row in
+    let low : Listing (write w 8 k (time % 4294967296)) k (some t) s =
+    listing-write w k t s 8 (time % 4294967296) t (omega arith) h (write-beside w k (h .shows .shown .holds .room) hk 8 _ (omega arith) ∙ h .mover .1) in
+    listing-write (write w 8 k (time % 4294967296)) k t s 9 (time / 4294967296) t (omega arith) low
+    (write-beside (write w 8 k (time % 4294967296)) k (low .shows .shown .holds .room) hk 9 _ (omega arith) ∙ low .mover .1)
 
 module _ (w : List ℕ) (k : ℕ) (t : Transaction) (s s′ : State) (h : Listing w k (some t) s) (living : s′ .made - s′ .ended ≡ s .made - s .ended) where
   -- the moving row comes onto a list

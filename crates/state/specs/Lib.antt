@@ -1,3 +1,4 @@
+pub mod Ticks
 pub mod Bare
 pub mod ScalarSetters
 pub mod Stands

@@ -1,9 +1,8 @@
 // Sums and differences that never trap: a sum stops at the largest number, a difference at 0.
 ghost use mathlib.Core.Path.{_≡_};
-ghost use mathlib.Core.Bool.{cond};
-ghost use Prim.Native.Nat.{_+_, _-_, _*_, min};
-ghost use lib.Dec.{ltb};
-ghost use Rattle.tables.specs.Layout.{most32, most64, wordEnd};
+ghost use Prim.Native.Nat.{_+_, _-_, min};
+ghost use Rattle.tables.specs.Layout.{most32, most64};
+ghost use Rattle.state.specs.Ticks as Ticks;
 
 pub fn plus32(a: u32, b: u32) -> u32
     ensures { λ r. ⌜ r ≡ min (a + b) most32 ⌝ }
@@ -41,15 +40,20 @@ pub fn less64(a: u64, b: u64) -> u64
     0
 }
 
-// 2 to the 32
-const WORD_END: u64 = 4_294_967_296;
+// No run counts so many units, waiters or contents, and no clock moves by so many ticks: 2 to the 28 and to the 36.
+const COUNT_END: u64 = 268_435_456;
 
-// A number below 2 to the 32 times some ticks; 0 for a larger one.
-pub fn product(a: u64, ticks: u32) -> u64
-    ensures { λ r. ⌜ r ≡ cond (ltb a wordEnd) (a * ticks) 0 ⌝ }
+const TICKS_END: u64 = 68_719_476_736;
+
+// A count times some ticks; 0 where one of them is too large.
+pub fn product(a: u64, ticks: u64) -> u64
+    ensures { λ r. ⌜ r ≡ Ticks.product a ticks ⌝ }
 {
-    if a < WORD_END {
-        return a * (ticks as u64);
+    if a >= COUNT_END {
+        return 0;
     }
-    0
+    if ticks >= TICKS_END {
+        return 0;
+    }
+    a * ticks
 }

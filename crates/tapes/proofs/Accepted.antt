@@ -13,7 +13,7 @@ use borrow.Author.Tests.{eq-eqb}
 use Rattle.machine.specs.Rules.{inForce}
 use Rattle.machine.specs.Limits as Machine
 use Rattle.machine.specs.Number.{numberBytes}
-use Rattle.machine.specs.Parser.{Cursor, Parsed, parsed, continue, ask, times, field}
+use Rattle.machine.specs.Parser.{Cursor, Parsed, parsed, continue, ask, times, fieldUpTo}
 use Rattle.machine.specs.Decode.{listField, atEnd}
 use Rattle.machine.specs.Validate.{tapeOf, beginning}
 use Rattle.codec.specs.Answers.{cursorAt}
@@ -40,7 +40,7 @@ use Rattle.tapes.proofs.Sound.{Sound, SoundLists, lists-sound, time-mos
 module _ (s : List ℕ) (i j : ℕ) where
   -- the times of a source
   times-read : (x : Source) (n r at : ℕ) (rest : List ℕ) → Sound x → Inside r → drop at s ≡ timesBytes x n r ++ rest →
-      times n (field s 8 0 Machine.maxTime) (cursorAt at i j) ≡ parsed (timesOf x n r) (cursorAt (at + length (timesBytes x n r)) i j)
+      times n (fieldUpTo Machine.fiveGroups s 8 0 Machine.maxTime) (cursorAt at i j) ≡ parsed (timesOf x n r) (cursorAt (at + length (timesBytes x n r)) i j)
   unfolding times timesOf continue
   times-read x zero r at rest sound inside e =
       ap (λ (p : ℕ). parsed [] (cursorAt p i j)) (sym (ap (λ (l : List ℕ). at + length l) bytes-none ∙ add-zero at))
@@ -53,7 +53,7 @@ module _ (s : List ℕ) (i j : ℕ) where
       let size : at + length (numberBytes t) + length more ≡ at + length (timesBytes x (suc n) r) =
       add-assoc at (length (numberBytes t)) (length more) ∙ ap (λ (m : ℕ). at + m) (sym (ap length bytes ∙ length-append (numberBytes t) more)) in
       rw (
-        field-reads s (more ++ rest) at t 8 0 Machine.maxTime i j here (omega arith) (omega arith) (omega arith),
+        field-reads s (more ++ rest) Machine.fiveGroups at t 8 0 Machine.maxTime i j here (omega arith) (omega arith) (omega arith) (omega arith),
         times-read x n (after x r) (at + length (numberBytes t)) rest sound (after-inside x r inside) (drop-past s (numberBytes t) (more ++ rest) at here),
         size,
       )
@@ -65,7 +65,7 @@ module _ (s : List ℕ) (i j : ℕ) where
   unfolding listField continue
   list-read x r at rest sound inside e =
       let n = x .count in
-      rw (field-reads s (timesBytes (x .source) n r ++ rest) at n 8 0 Machine.maxSamples i j e (omega arith) (omega (arith, sound .1)) (omega arith))
+      rw (field-reads s (timesBytes (x .source) n r ++ rest) Machine.fiveGroups at n 8 0 Machine.maxSamples i j e (omega arith) (omega (arith, sound .1)) (omega arith) (omega arith))
       (times-read (x .source) n r (at + length (numberBytes n)) rest (sound .0) inside (drop-past s (numberBytes n) (timesBytes (x .source) n r ++ rest) at e))
 
   lists-read : (ls : List Listed) (r at : ℕ) (rest : List ℕ) → SoundLists ls → Inside r → drop at s ≡ tapeBytes ls r ++ rest →

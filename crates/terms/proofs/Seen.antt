@@ -9,7 +9,7 @@ use lib.ListN.{length, getD, List·getD-eq-default}
 use lib.IntN.{pos}
 use borrow.Author.Tests.{lt-ltb, ne-eqb, ltb-true, ltb-false}
 use Rattle.machine.specs.Limits.{maxBlocks, maxQueues}
-use Rattle.machine.specs.Term.{Server, idleServer, Queue, emptyQueue, View, signed, oneIf}
+use Rattle.machine.specs.Term.{Server, idleServer, Queue, emptyQueue, View, signed, wrap, oneIf}
 use Rattle.tables.specs.Layout as Layout
 use Rattle.terms.specs.declared.Parameters.{Parameters}
 use Rattle.terms.specs.Evaluation.{small, within, parameterBits, servers, freeUnits}
@@ -56,8 +56,8 @@ unfolding idleServer
 capacity-past l size h i g = ap (λ (v : Server). v .capacity) (List·getD-eq-default l (idleServer 0) (omega arith))
 
 module _ {w : View} {tables tally : List ℕ} {clock : ℕ} (s : Sees w tables tally clock) where
-  pub sees-clock : small clock ≡ pos (w .clock)
-  sees-clock = small-is clock (s .time-small) ∙ ap pos (sym (s .time))
+  pub sees-clock : wrap (pos clock) ≡ wrap (pos (w .clock))
+  sees-clock = ap (λ (n : ℕ). wrap (pos n)) (sym (s .time))
 
   module _ (i : ℕ) where
     pub sees-entries : small (within tally Layout.entries maxBlocks i) ≡ pos (getD (w .entries) i 0)

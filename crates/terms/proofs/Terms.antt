@@ -57,7 +57,7 @@ module _ {w : View} {tables tally : List ℕ} {clock : ℕ} (s : Sees w tables t
   unfolding simpleTerm
   parameter-worth k = sees-parameter p k
 
-  clock-worth : simpleTerm tables tally clock p 3 0 ≡ pos (w .clock)
+  clock-worth : simpleTerm tables tally clock p 3 0 ≡ wrap (pos (w .clock))
   unfolding simpleTerm
   clock-worth = sees-clock s
 

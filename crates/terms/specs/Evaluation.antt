@@ -47,7 +47,7 @@ simpleTerm tables tally clock p tag n =
     cond (eqb tag 0) (small n)
     (cond (eqb tag 1) (negℤ (small n))
     (cond (eqb tag 2) (signed (parameterBits p n))
-    (cond (eqb tag 3) (small clock)
+    (cond (eqb tag 3) (wrap (pos clock))
     (cond (eqb tag 4) (small (within tally Layout.entries maxBlocks n))
     (cond (eqb tag 5) (small (within tally Layout.content maxQueues n))
     (cond (eqb tag 6) (small (within tally Layout.inUse servers n))

@@ -1,4 +1,5 @@
--- When tables and tally show what a view of the machine holds. All of it is below 2 to the 31, so that it is a signed number.
+-- When tables and tally show what a view of the machine holds. All of it but the clock is below 2 to the 31, so that it is a signed
+-- number.
 use Prim.Native.Nat.{ℕ, _+_, _≤_, _<_}
 use mathlib.Core.List.{List, [], _∷_}
 use mathlib.Core.Path.{_≡_}
@@ -21,7 +22,6 @@ pub record Shows (f : ℕ → ℕ) (l : List ℕ) (begin size : ℕ) : Type 0 wh
 
 pub record Sees (w : View) (tables tally : List ℕ) (clock : ℕ) : Type 0 where
   pub time : w .clock ≡ clock
-  pub time-small : clock < 2147483648
   pub entries : Shows (λ b. getD (w .entries) b 0) tally Layout.entries maxBlocks
   pub entries-size : length (w .entries) ≤ maxBlocks
   pub contents : Shows (λ q. getD (w .queues) q emptyQueue .content) tally Layout.content maxQueues

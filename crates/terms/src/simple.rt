@@ -1,5 +1,6 @@
 // Terms of tags 0 to 8: a tag and a number, with no sum inside.
 use crate::Parameters;
+use crate::wrapping::low_signed;
 use crate::wrapping::signed;
 use machine::Model;
 use tables::CAPACITIES;
@@ -103,7 +104,7 @@ pub fn simple_term(
         0 => small(n as u64),
         1 => minus(n as u64),
         2 => signed(parameter(parameters, n)),
-        3 => small(clock),
+        3 => low_signed(clock),
         4 => small(tallied(tally, ENTRIES, Model::MAX_BLOCKS, n)),
         5 => small(tallied(tally, CONTENT, Model::MAX_QUEUES, n)),
         6 => small(tallied(tally, IN_USE, SERVERS, n)),

@@ -1,10 +1,13 @@
 // Document 01, "sums and differences wrap in signed 32 bits".
 ghost use mathlib.Core.Path.{_≡_};
-ghost use lib.IntN.{_+ℤ_, _-ℤ_};
+ghost use lib.IntN.{pos, _+ℤ_, _-ℤ_};
 ghost use Rattle.machine.specs.Term as Term;
 
 // The least bits of a negative number.
 const NEGATIVE: u32 = 2_147_483_648;
+
+// 2 to the 32
+const WORD_END: u64 = 4_294_967_296;
 
 // The 32 bits of a number.
 pub fn bits(x: i32) -> u32
@@ -26,6 +29,13 @@ pub fn signed(n: u32) -> i32
     } else {
         -1 - (u32::MAX - n) as i32
     }
+}
+
+// The low 32 bits of a number, as a signed one.
+pub fn low_signed(n: u64) -> i32
+    ensures { λ r. ⌜ r ≡ Term.wrap (pos n) ⌝ }
+{
+    signed((n % WORD_END) as u32)
 }
 
 pub fn add(a: i32, b: i32) -> i32

@@ -6,8 +6,8 @@ use lib.ListN.{length}
 use borrow.Author.Tests.{lt-ltb, le-ltb}
 use Rattle.machine.specs.Rules.{inForce}
 use Rattle.machine.specs.Limits.{maxClock, maxTransaction, maxBlocks}
-use Rattle.machine.specs.Parser.{parsed, refused, field, continue}
-use Rattle.machine.specs.Trace.{taken, refusal, noMore, readRecord, recordFields, reading}
+use Rattle.machine.specs.Parser.{parsed, refused, continue}
+use Rattle.machine.specs.Trace.{taken, refusal, noMore, readRecord, traceField, recordFields, reading}
 use Rattle.codec.specs.Answers.{cursorAt}
 use Rattle.trace.specs.Answers.{entry}
 
@@ -17,27 +17,27 @@ module _ (s : List ℕ) (at : ℕ) where
   past-end h = rw (le-ltb at (length s) h)
 
   module _ (h : at < length s) where
-    pub clock-refused : (n : ℕ) → field s 31 0 maxClock (cursorAt at 0 0) ≡ refused n → refusal n ≡ readRecord inForce s at
+    pub clock-refused : (n : ℕ) → traceField inForce s 0 maxClock (cursorAt at 0 0) ≡ refused n → refusal n ≡ readRecord inForce s at
     unfolding readRecord recordFields continue reading
     clock-refused n e = rw (lt-ltb at (length s) h, e)
 
-    module _ (clock p1 : ℕ) (e1 : field s 31 0 maxClock (cursorAt at 0 0) ≡ parsed clock (cursorAt p1 0 0)) where
-      pub transaction-refused : (n : ℕ) → field s 31 1 maxTransaction (cursorAt p1 0 0) ≡ refused n → refusal n ≡ readRecord inForce s at
+    module _ (clock p1 : ℕ) (e1 : traceField inForce s 0 maxClock (cursorAt at 0 0) ≡ parsed clock (cursorAt p1 0 0)) where
+      pub transaction-refused : (n : ℕ) → traceField inForce s 1 maxTransaction (cursorAt p1 0 0) ≡ refused n → refusal n ≡ readRecord inForce s at
       unfolding readRecord recordFields continue reading
       transaction-refused n e = rw (lt-ltb at (length s) h, e1, e)
 
       module _ (transaction p2 : ℕ)
-          (e2 : field s 31 1 maxTransaction (cursorAt p1 0 0) ≡ parsed transaction (cursorAt p2 0 0)) where
-        pub block-refused : (n : ℕ) → field s 31 1 maxBlocks (cursorAt p2 0 0) ≡ refused n → refusal n ≡ readRecord inForce s at
+          (e2 : traceField inForce s 1 maxTransaction (cursorAt p1 0 0) ≡ parsed transaction (cursorAt p2 0 0)) where
+        pub block-refused : (n : ℕ) → traceField inForce s 1 maxBlocks (cursorAt p2 0 0) ≡ refused n → refusal n ≡ readRecord inForce s at
         unfolding readRecord recordFields continue reading
         block-refused n e = rw (lt-ltb at (length s) h, e1, e2, e)
 
-        module _ (block p3 : ℕ) (e3 : field s 31 1 maxBlocks (cursorAt p2 0 0) ≡ parsed block (cursorAt p3 0 0)) where
-          pub outcome-refused : (n : ℕ) → field s 31 0 1 (cursorAt p3 0 0) ≡ refused n → refusal n ≡ readRecord inForce s at
+        module _ (block p3 : ℕ) (e3 : traceField inForce s 1 maxBlocks (cursorAt p2 0 0) ≡ parsed block (cursorAt p3 0 0)) where
+          pub outcome-refused : (n : ℕ) → traceField inForce s 0 1 (cursorAt p3 0 0) ≡ refused n → refusal n ≡ readRecord inForce s at
           unfolding readRecord recordFields continue reading
           outcome-refused n e = rw (lt-ltb at (length s) h, e1, e2, e3, e)
 
-          pub record-taken : (outcome next : ℕ) → field s 31 0 1 (cursorAt p3 0 0) ≡ parsed outcome (cursorAt next 0 0) →
+          pub record-taken : (outcome next : ℕ) → traceField inForce s 0 1 (cursorAt p3 0 0) ≡ parsed outcome (cursorAt next 0 0) →
               taken (entry clock transaction block outcome) next ≡ readRecord inForce s at
           unfolding readRecord recordFields continue reading
           record-taken outcome next e = rw (lt-ltb at (length s) h, e1, e2, e3, e)

@@ -10,10 +10,10 @@ use lib.ListN.{length, drop, drop-of-length-le, length-append, length-drop}
 use lib.Seq.{drop-append-seam}
 use borrow.Author.Tests.{ltb-true, ltb-false}
 use Rattle.machine.specs.Rules.{inForce}
-use Rattle.machine.specs.Limits.{maxClock, maxTransaction, maxBlocks}
+use Rattle.machine.specs.Limits.{maxClock, maxTransaction, maxBlocks, fiveGroups}
 use Rattle.machine.specs.Number.{numberBytes}
-use Rattle.machine.specs.Parser.{Cursor, Parsed, Parser, parsed, refused, field, continue}
-use Rattle.machine.specs.Trace.{Record, recordBytes, traceBytes, taken, noMore, readRecord, recordFields, reading, inRanges}
+use Rattle.machine.specs.Parser.{Cursor, Parsed, Parser, parsed, refused, continue}
+use Rattle.machine.specs.Trace.{Record, recordBytes, traceBytes, taken, noMore, readRecord, traceField, recordFields, reading, inRanges}
 use Rattle.codec.specs.Answers.{cursorAt}
 use Rattle.codec.proofs.Fields.{drop-past, field-reads, field-taken}
 use Rattle.codec.proofs.Groups.{Bytes}
@@ -41,10 +41,10 @@ record-reads-back s rest at r e good =
     let d1 = drop-past s (numberBytes (r .clock)) _ at d0 in
     let d2 = drop-past s (numberBytes (r .transaction)) _ _ d1 in
     let d3 = drop-past s (numberBytes (r .block)) _ _ d2 in
-    let f1 = field-reads s _ at (r .clock) 31 0 maxClock 0 0 d0 zero-le (h .clock) (lit≤ tt) in
-    let f2 = field-reads s _ _ (r .transaction) 31 1 maxTransaction 0 0 d1 (h .first) (h .transaction) (lit≤ tt) in
-    let f3 = field-reads s _ _ (r .block) 31 1 maxBlocks 0 0 d2 (h .one) (h .block) (lit≤ tt) in
-    let f4 = field-reads s _ _ (r .outcome) 31 0 1 0 0 d3 zero-le (h .outcome) (lit≤ tt) in
+    let f1 = field-reads s _ fiveGroups at (r .clock) 31 0 maxClock 0 0 d0 zero-le (h .clock) (lit≤ tt) (lit≤ tt) in
+    let f2 = field-reads s _ fiveGroups _ (r .transaction) 31 1 maxTransaction 0 0 d1 (h .first) (h .transaction) (lit≤ tt) (lit≤ tt) in
+    let f3 = field-reads s _ fiveGroups _ (r .block) 31 1 maxBlocks 0 0 d2 (h .one) (h .block) (lit≤ tt) (lit≤ tt) in
+    let f4 = field-reads s _ fiveGroups _ (r .outcome) 31 0 1 0 0 d3 zero-le (h .outcome) (lit≤ tt) (lit≤ tt) in
     sym (record-taken s at inside _ _ f1 _ _ f2 _ _ f3 _ _ f4) ∙ ap (taken r) (rw (recordBytes-length r) (omega arith))
 
 reads-from : (l : List Record) (s : List ℕ) (at : ℕ) → drop at s ≡ traceBytes l → AllInRanges l → Reads s at l
@@ -99,10 +99,10 @@ record Step (s : List ℕ) (at lo hi : ℕ) (f : ℕ → Parser Record) (r : Rec
   rest : f value (cursorAt (at + length (numberBytes value)) 0 0) ≡ parsed r c
 
 step : (s : List ℕ) (at lo hi : ℕ) (f : ℕ → Parser Record) (r : Record) (c : Cursor) → Bytes s →
-    continue (field s 31 lo hi (cursorAt at 0 0)) f ≡ parsed r c → Step s at lo hi f r c
+    continue (traceField inForce s lo hi (cursorAt at 0 0)) f ≡ parsed r c → Step s at lo hi f r c
 step s at lo hi f r c bytes e =
-    let x = continued (field s 31 lo hi (cursorAt at 0 0)) f r c e in
-    let t = field-taken s at (x .0) 31 lo hi 0 0 (x .1) bytes (x .2) in
+    let x = continued (traceField inForce s lo hi (cursorAt at 0 0)) f r c e in
+    let t = field-taken s fiveGroups at (x .0) 31 lo hi 0 0 (x .1) bytes (x .2) in
     record { value = x .0; low = t .low; high = t .high; bytes = t .bytes; rest = rw (t .cursor) at (x .3) }
 
 -- four fields, one after the other, are the bytes of the record

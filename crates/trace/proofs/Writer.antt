@@ -6,16 +6,17 @@ use native.Mathlib.Omega.{arith}
 use mathlib.Core.Bool.{true, false, _&&_}
 use mathlib.Core.List.{List, [], _∷_, _++_, append-assoc}
 use mathlib.Core.Path.{_≡_, refl, sym, ap, _∙_}
-use lib.Dec.{leb}
+use lib.Dec.{leb, lit≤}
 use lib.ListN.{length, take, drop, length-append}
 use lib.Seq.{sets, sets-eq, take-append-seam}
 use borrow.Author.Tests.{le-leb, lt-leb, leb-true}
 use Rattle.machine.specs.Rules.{inForce}
-use Rattle.machine.specs.Limits.{maxClock, maxTransaction, maxBlocks}
+use Rattle.machine.specs.Limits.{maxClock, maxTransaction, maxBlocks, recordRoom}
 use Rattle.machine.specs.Number.{numberBytes}
 use Rattle.machine.specs.Trace.{Record, recordBytes, traceBytes, inRanges, written, rejected, writeRecord}
+use Rattle.machine.proofs.RecordRoom.{record-room as room}
 use Rattle.codec.proofs.Fields.{both-true, between}
-use Rattle.codec.proofs.Numbers.{numberBytes-length, numberBytes-positive}
+use Rattle.codec.proofs.Numbers.{numberBytes-positive}
 use Rattle.codec.specs.Writing.{put, written as at}
 use Rattle.codec.proofs.Writing.{put-behind, written-bytes}
 use Rattle.trace.specs.declared.Written.the-variants.{Bytes, Refused}
@@ -76,18 +77,9 @@ in-ranges r h =
       le-leb _ _ (h .outcome),
     )
 
--- "Fewer than 12 bytes left in the trace": 12 are room for any record
-pub record-room : (r : Record) → inRanges inForce r ≡ true → length (recordBytes r) ≤ 12
-record-room r e =
-    let h = ranges r e in
-    rw (recordBytes-length r)
-    (omega (
-      arith,
-      numberBytes-length 4 (r .clock) (omega (arith, h)),
-      numberBytes-length 3 (r .transaction) (omega (arith, h)),
-      numberBytes-length 1 (r .block) (omega (arith, h)),
-      numberBytes-length 0 (r .outcome) (omega (arith, h)),
-    ))
+-- "Fewer than 12 bytes left in the trace": 12 are room for any record, since a clock still fits five groups
+pub record-room : (r : Record) → inRanges inForce r ≡ true → length (recordBytes r) ≤ recordRoom
+record-room r e = room inForce (lit≤ tt) r e
 
 pub record-positive : (r : Record) → 4 ≤ length (recordBytes r)
 record-positive r =

@@ -15,12 +15,13 @@ use words::count_8;
 use words::count_32;
 use words::count_128;
 ghost use mathlib.Core.Path.{_≡_};
-ghost use Prim.Native.Nat.{ℕ, _+_, _≤_};
+ghost use Prim.Native.Nat.{ℕ, _+_, _≤_, _<_};
 ghost use lib.ListN.{length};
 ghost use lib.Seq.{sets};
 ghost use Rattle.machine.specs.Rules.{inForce};
 ghost use Rattle.machine.specs.Number.{countLow};
-ghost use Rattle.machine.specs.Trace.{recordBytes, readRecord, inRanges, writeRecord};
+ghost use Rattle.machine.specs.Trace.{recordBytes, traceField, readRecord, inRanges, writeRecord};
+ghost use Rattle.codec.specs.Answers.{cursorAt, parsedOf};
 ghost use Rattle.trace.specs.Answers.{entry, readingOf, writingOf, after};
 
 // "block 1..256, outcome 0..1"
@@ -48,6 +49,14 @@ pub enum Written {
     Refused(u32),
 }
 
+// A number of a record, from lo to hi: 31 if it is not whole, not shortest or not in size, 32 if it is out of range.
+pub fn trace_field(s: &[u8], at: usize, lo: u64, hi: u64) -> Field
+    ensures { λ r. ⌜ ((numbers mentions : ℕ) → parsedOf numbers mentions r ≡ traceField inForce (now (s .entry)) lo hi (cursorAt at numbers mentions)) ⌝ }
+    ensures inside { λ r. ⌜ ((v next : ℕ) → r ≡ Field.Value v next → (lo ≤ v) × (v ≤ hi) × (at < next) × (next ≤ length (now (s .entry)))) ⌝ }
+{
+    read_field(s, at, Model::FIVE_GROUPS, lo, hi, TRACE_NUMBER)
+}
+
 // The record at a position.
 pub fn read_record(s: &[u8], at: usize) -> Reading
     ensures { λ r. ⌜ readingOf r ≡ readRecord inForce (now (s .entry)) at ⌝ }
@@ -55,19 +64,13 @@ pub fn read_record(s: &[u8], at: usize) -> Reading
     if s.len() <= at {
         return Reading::NoMore;
     }
-    match read_field(s, at, 0, Model::MAX_CLOCK, TRACE_NUMBER) {
+    match trace_field(s, at, 0, Model::MAX_CLOCK) {
         Field::Refused(n) => Reading::Refused(n),
-        Field::Value(clock, p1) => match read_field(
-            s,
-            p1,
-            1,
-            Model::MAX_TRANSACTION,
-            TRACE_NUMBER,
-        ) {
+        Field::Value(clock, p1) => match trace_field(s, p1, 1, Model::MAX_TRANSACTION) {
             Field::Refused(n) => Reading::Refused(n),
-            Field::Value(transaction, p2) => match read_field(s, p2, 1, MAX_BLOCK, TRACE_NUMBER) {
+            Field::Value(transaction, p2) => match trace_field(s, p2, 1, MAX_BLOCK) {
                 Field::Refused(n) => Reading::Refused(n),
-                Field::Value(block, p3) => match read_field(s, p3, 0, MAX_OUTCOME, TRACE_NUMBER) {
+                Field::Value(block, p3) => match trace_field(s, p3, 0, MAX_OUTCOME) {
                     Field::Refused(n) => Reading::Refused(n),
                     Field::Value(outcome, next) => Reading::Taken(
                         Record {

@@ -15,7 +15,7 @@ ghost use Rattle.turn.specs.Note.{Bytes, bytes, appendRecord, cellOf, co
 pub fn append_record(
     trace: &mut [u8],
     used: usize,
-    clock: u32,
+    clock: u64,
     number: u32,
     block: u32,
     outcome: u32,
@@ -27,7 +27,7 @@ pub fn append_record(
     }
     match write_record(
         &mut trace[used..],
-        clock as u64,
+        clock,
         number as u64,
         block as u64,
         outcome as u64,

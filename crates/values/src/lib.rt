@@ -49,7 +49,7 @@ pub fn number(s: &[u8], p: Place, lo: usize, hi: usize) -> Taken
     ensures range { λ r. ⌜ ((v : ℕ) (q : Place) → r ≡ Taken.Number v q → (lo ≤ v) × (v ≤ hi) × (q .numbers ≡ p .numbers)) ⌝ }
 {
     let at = p.position;
-    match codec::read_field(s, at, lo as u64, hi as u64, MODEL_NUMBER) {
+    match codec::read_field(s, at, Model::MAX_NUMBER, lo as u64, hi as u64, MODEL_NUMBER) {
         Field::Refused(n) => Taken::Refused(n),
         Field::Value(v, next) => Taken::Number(
             v as usize,

@@ -7,6 +7,7 @@
 use codec::Read;
 use libc::STDIN_FILENO;
 use libc::STDOUT_FILENO;
+use machine::Model;
 ghost use Prim.Native.Nat.{_<_};
 
 const CASES_BYTES: usize = 262_144;
@@ -104,22 +105,22 @@ fn no_case() -> Case {
 }
 
 fn read_case(cases: &[u8], at: usize) -> Case {
-    let Read::Number(model, p1) = codec::read_number(cases, at) else {
+    let Read::Number(model, p1) = codec::read_number(cases, at, Model::MAX_NUMBER) else {
         return no_case();
     };
-    let Read::Number(tape, p2) = codec::read_number(cases, p1) else {
+    let Read::Number(tape, p2) = codec::read_number(cases, p1, Model::MAX_NUMBER) else {
         return no_case();
     };
-    let Read::Number(budget, p3) = codec::read_number(cases, p2) else {
+    let Read::Number(budget, p3) = codec::read_number(cases, p2, Model::MAX_NUMBER) else {
         return no_case();
     };
-    let Read::Number(work, p4) = codec::read_number(cases, p3) else {
+    let Read::Number(work, p4) = codec::read_number(cases, p3, Model::MAX_NUMBER) else {
         return no_case();
     };
-    let Read::Number(trace, p5) = codec::read_number(cases, p4) else {
+    let Read::Number(trace, p5) = codec::read_number(cases, p4, Model::MAX_NUMBER) else {
         return no_case();
     };
-    let Read::Number(report, p6) = codec::read_number(cases, p5) else {
+    let Read::Number(report, p6) = codec::read_number(cases, p5, Model::MAX_NUMBER) else {
         return no_case();
     };
     Case {

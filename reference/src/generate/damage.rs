@@ -118,10 +118,10 @@ fn odd_number(random: &mut Random, value: u64) -> Vec<u8> {
             bytes
         }
         2 => vec![0x80, 0x80, 0x01],
-        3 => vec![0x90, 0x80, 0x80, 0x80, 0x00], // 4,294,967,296
+        3 => vec![0x90, 0x80, 0x80, 0x80, 0x00], // 4,294,967,296: too large in a model
         4 => vec![0x8F, 0xFF, 0xFF, 0xFF, 0x7F], // 4,294,967,295: whole and in size
-        5 => vec![0xFF, 0xFF, 0xFF, 0xFF, 0x7F], // five bytes, too large
-        6 => vec![0x81, 0x80, 0x80, 0x80, 0x80, 0x00], // six bytes
+        5 => vec![0xFF, 0xFF, 0xFF, 0xFF, 0x7F], // 34,359,738,367: the largest of five bytes
+        6 => vec![0x81, 0x80, 0x80, 0x80, 0x80, 0x00], // 34,359,738,368: six bytes
         7 => vec![0x80; random.between(1, 7) as usize],
         _ => {
             let mut bytes = plain;

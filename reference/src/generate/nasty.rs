@@ -222,11 +222,7 @@ pub fn crowded_last_clock(rules: Rules, random: &mut Random) -> Case {
         priority: 1,
     });
     model.blocks.push(Block::Terminate { amount: 1 });
-    let most = rules.max_sample();
-    let mut steps = vec![most; (rules.max_clock() / most) as usize];
-    if rules.max_clock() % most > 0 {
-        steps.push(rules.max_clock() % most);
-    }
+    let steps = to_last_clock(rules);
     let mut other = steps.clone();
     other.push(random.between(0, 1));
     Case {
@@ -237,6 +233,16 @@ pub fn crowded_last_clock(rules: Rules, random: &mut Random) -> Case {
         trace_len: 120_000,
         report_len: REPORT_BYTES,
     }
+}
+
+/// Times whose sum is the last clock.
+pub fn to_last_clock(rules: Rules) -> Vec<u64> {
+    let most = rules.max_sample();
+    let mut steps = vec![most; (rules.max_clock() / most) as usize];
+    if rules.max_clock() % most > 0 {
+        steps.push(rules.max_clock() % most);
+    }
+    steps
 }
 
 /// A list of 65,535 times.

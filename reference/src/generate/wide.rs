@@ -2,7 +2,7 @@
 //! bits are negative or have gone round, and with times of more than 32 bits.
 
 use super::contention::{empty_model, small_times};
-use super::nasty::{crowded_last_clock, last_clock};
+use super::nasty::{crowded_last_clock, last_clock, to_last_clock};
 use super::random::Random;
 use super::structured::model_and_tape;
 use super::{good_case, Case, Size};
@@ -34,7 +34,8 @@ fn beside(random: &mut Random) -> u64 {
     *random.pick(&TURNS) + random.between(0, 4) - 2
 }
 
-/// One jump to a late clock, then small steps past it; blocks ask for the clock.
+/// One jump to a late clock, then small steps past it, or jumps to just before
+/// the last clock; blocks ask for the clock.
 fn clock_terms(rules: Rules, random: &mut Random, size: Size) -> Case {
     let mut model = empty_model();
     model.queues = 1;
@@ -107,12 +108,19 @@ fn clock_terms(rules: Rules, random: &mut Random, size: Size) -> Case {
     ];
     let count = if size.is_small() { 10 } else { 60 };
     let mut arrivals = small_times(random, count, 3);
-    arrivals[0] = beside(random) - 4;
-    if random.one_in(3) {
-        arrivals[2] = beside(random);
-    }
     let mut others = small_times(random, count * 2, 2);
-    others[0] = arrivals[0] + random.between(0, 3);
+    if random.one_in(4) {
+        let mut jumps = to_last_clock(rules);
+        *jumps.last_mut().expect("some") -= random.between(0, 4);
+        others.splice(0..0, jumps.clone());
+        arrivals.splice(0..0, jumps);
+    } else {
+        arrivals[0] = beside(random) - 4;
+        if random.one_in(3) {
+            arrivals[2] = beside(random);
+        }
+        others[0] = arrivals[0] + random.between(0, 3);
+    }
     let delays = small_times(random, count * 3, 4);
     good_case(rules, random, size, &model, &vec![arrivals, delays, others])
 }

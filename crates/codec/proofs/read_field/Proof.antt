@@ -23,7 +23,7 @@ enum-told c = search needs
 returns : tie.Need-returns
 unfolding parsedOf
 returns c = (
-  λ numbers mentions. field-unread _ _ _ _ _ numbers mentions _ (c .before .before .read-number .ensures .0) (c .enum-told .given .1),
+  λ numbers mentions. field-unread _ _ _ _ _ _ numbers mentions _ (c .before .before .read-number .ensures .0) (c .enum-told .given .1),
   λ v next e. absurd (refused-value e),
 )
 
@@ -32,7 +32,7 @@ unfolding parsedOf
 returns-2 c = let w = c .before .before in (
   λ numbers mentions.
       ap refused (add-one _)
-      ∙ field-low _ _ _ _ _ numbers mentions _ (w .before .before .read-number .ensures .0) _ _ (w .v .given .1) (c .if1 .taken),
+      ∙ field-low _ _ _ _ _ _ numbers mentions _ (w .before .before .read-number .ensures .0) _ _ (w .v .given .1) (c .if1 .taken),
   λ v next e. absurd (refused-value e),
 )
 
@@ -41,7 +41,7 @@ unfolding parsedOf
 returns-3 c = let w = c .before .before .before in (
   λ numbers mentions.
       ap refused (add-one _)
-      ∙ field-high _ _ _ _ _ numbers mentions _ (w .before .before .read-number .ensures .0) _ _ (w .v .given .1) (c .before .if1 .left)
+      ∙ field-high _ _ _ _ _ _ numbers mentions _ (w .before .before .read-number .ensures .0) _ _ (w .v .given .1) (c .before .if1 .left)
       (c .if2 .taken),
   λ v next e. absurd (refused-value e),
 )
@@ -52,7 +52,7 @@ returns-4 c = let w = c .before .before .before in
     let number = w .before .before .read-number .ensures in
     let inside = number .1 _ _ (w .v .given .1) in (
       λ numbers mentions.
-          field-within _ _ _ _ _ numbers mentions _ (number .0) _ _ (w .v .given .1) (c .before .if1 .left) (c .if2 .left) (inside .1),
+          field-within _ _ _ _ _ _ numbers mentions _ (number .0) _ _ (w .v .given .1) (c .before .if1 .left) (c .if2 .left) (inside .1),
       value-inside _ _ _ _ (c .before .if1 .left) (c .if2 .left) (inside .1) (inside .2),
     )
 

@@ -4,8 +4,8 @@ use borrow.Author.Needs.{needs}
 use Rattle.decode.proofs.sample_list.Statement.{statement}
 use Rattle.decode.proofs.sample_list.Tie as tie
 
-read-field-requires : tie.Need-read-field-requires
-read-field-requires c κs = search needs
+tape-field-requires : tie.Need-tape-field-requires
+tape-field-requires c κs = search needs
 
 enum-known-n : tie.Need-enum-known-n
 enum-known-n c = search needs
@@ -32,16 +32,16 @@ sample-times-requires : tie.Need-sample-times-requires
 sample-times-requires c κs = search needs
 
 returns : tie.Need-returns
-returns c = λ i j. list-stop _ _ _ _ _ (c .before .before .before .read-field .ensures .0) _ i j (c .before .n .given .1)
+returns c = λ i j. list-stop _ _ _ _ _ (c .before .before .before .tape-field .ensures) _ i j (c .before .n .given .1)
 
 returns-2 : tie.Need-returns-2
-returns-2 c = list-kept _ _ _ _ _ (c .before .before .before .before .read-field .ensures .0) (c .before .before .count .given .1) (c .sample-times .ensures)
+returns-2 c = list-kept _ _ _ _ _ (c .before .before .before .before .tape-field .ensures) (c .before .before .count .given .1) (c .sample-times .ensures)
 
 pub sample-list-spec : {M : Type 1} → statement M
 sample-list-spec =
     tie.close
     (tie.spec
-    read-field-requires
+    tape-field-requires
     enum-known-n
     enum-known-count
     mul-lists

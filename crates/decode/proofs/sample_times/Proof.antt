@@ -15,14 +15,14 @@ abbrev μ-loop : tie.MeasureT-loop
 loop-holds : tie.Need-loop-holds Inv-loop μ-loop
 loop-holds c = λ i j r h. h
 
-read-field-requires : tie.Need-read-field-requires Inv-loop μ-loop
-read-field-requires c κs = search needs
+tape-field-requires : tie.Need-tape-field-requires Inv-loop μ-loop
+tape-field-requires c κs = search needs
 
 enum-known-n : tie.Need-enum-known-n Inv-loop μ-loop
 enum-known-n c = search needs
 
 returns : tie.Need-returns Inv-loop μ-loop
-returns c = λ i j. c .before .before .before .before .before .loop .inv i j _ (times-stop _ _ _ _ (c .before .before .before .before .loop-test .taken) (c .before .before .before .read-field .ensures .0) i j (c .before .n .given .1))
+returns c = λ i j. c .before .before .before .before .before .loop .inv i j _ (times-stop _ _ _ _ (c .before .before .before .before .loop-test .taken) (c .before .before .before .tape-field .ensures) i j (c .before .n .given .1))
 
 enum-known-after : tie.Need-enum-known-after Inv-loop μ-loop
 enum-known-after c = search needs
@@ -34,7 +34,7 @@ loop-less : tie.Need-loop-less Inv-loop μ-loop
 loop-less c = omega arith
 
 loop-again : tie.Need-loop-again Inv-loop μ-loop
-loop-again c = λ i j r h. c .before .before .before .before .before .loop .inv i j r (times-step _ _ _ _ (c .before .before .before .before .loop-test .taken) (c .before .before .before .read-field .ensures .0) (c .before .after .given .1) i j r h)
+loop-again c = λ i j r h. c .before .before .before .before .before .loop .inv i j r (times-step _ _ _ _ (c .before .before .before .before .loop-test .taken) (c .before .before .before .tape-field .ensures) (c .before .after .given .1) i j r h)
 
 returns-2 : tie.Need-returns-2 Inv-loop μ-loop
 returns-2 c = λ i j. c .before .loop .inv i j _ (times-none _ _ _ i j (c .loop-test .left))
@@ -46,7 +46,7 @@ sample-times-spec =
     Inv-loop
     μ-loop
     loop-holds
-    read-field-requires
+    tape-field-requires
     enum-known-n
     returns
     enum-known-after

@@ -12,6 +12,12 @@ print-numbers-requires c κs = search needs
 print-readings-requires : tie.Need-print-readings-requires
 print-readings-requires c κs = search needs
 
+print-wider-readings-requires : tie.Need-print-wider-readings-requires
+print-wider-readings-requires c κs = search needs
+
+print-limits-requires : tie.Need-print-limits-requires
+print-limits-requires c κs = search needs
+
 large-buffer-requires : tie.Need-large-buffer-requires
 large-buffer-requires c κs = search needs
 
@@ -48,6 +54,8 @@ main-spec =
     (tie.spec
     print-numbers-requires
     print-readings-requires
+    print-wider-readings-requires
+    print-limits-requires
     large-buffer-requires
     slice-aggregate-write-all
     write-all-requires

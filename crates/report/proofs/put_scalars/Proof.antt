@@ -5,20 +5,17 @@ use Rattle.report.specs.Writing.{put, putAll}
 use Rattle.report.proofs.put_scalars.Statement.{statement}
 use Rattle.report.proofs.put_scalars.Tie as tie
 
-cast-write-number : tie.Need-cast-write-number
-cast-write-number c = search needs
-
 write-number-requires : tie.Need-write-number-requires
 write-number-requires c κs = search needs
 
-cast-write-number-2 : tie.Need-cast-write-number-2
-cast-write-number-2 c = search needs
+cast-write-number : tie.Need-cast-write-number
+cast-write-number c = search needs
 
 write-number-requires-2 : tie.Need-write-number-requires-2
 write-number-requires-2 c κs = search needs
 
-cast-write-number-3 : tie.Need-cast-write-number-3
-cast-write-number-3 c = search needs
+cast-write-number-2 : tie.Need-cast-write-number-2
+cast-write-number-2 c = search needs
 
 write-number-requires-3 : tie.Need-write-number-requires-3
 write-number-requires-3 c κs = search needs
@@ -34,11 +31,10 @@ pub put-scalars-spec : {M : Type 1} → statement M
 put-scalars-spec =
     tie.close
     (tie.spec
-    cast-write-number
     write-number-requires
-    cast-write-number-2
+    cast-write-number
     write-number-requires-2
-    cast-write-number-3
+    cast-write-number-2
     write-number-requires-3
     same-length
     returns)

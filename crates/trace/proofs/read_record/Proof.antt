@@ -15,8 +15,8 @@ use Rattle.trace.proofs.read_record.Tie as tie
 returns : tie.Need-returns
 returns c = past-end _ _ (c .if1 .taken)
 
-read-field-requires : tie.Need-read-field-requires
-read-field-requires c κs = search needs
+trace-field-requires : tie.Need-trace-field-requires
+trace-field-requires c κs = search needs
 
 enum-known-n : tie.Need-enum-known-n
 enum-known-n c = search needs
@@ -24,8 +24,8 @@ enum-known-n c = search needs
 enum-known-clock : tie.Need-enum-known-clock
 enum-known-clock c = search needs
 
-read-field-requires-2 : tie.Need-read-field-requires-2
-read-field-requires-2 c κs = search needs
+trace-field-requires-2 : tie.Need-trace-field-requires-2
+trace-field-requires-2 c κs = search needs
 
 enum-known-n-2 : tie.Need-enum-known-n-2
 enum-known-n-2 c = search needs
@@ -33,8 +33,8 @@ enum-known-n-2 c = search needs
 enum-known-transaction : tie.Need-enum-known-transaction
 enum-known-transaction c = search needs
 
-read-field-requires-3 : tie.Need-read-field-requires-3
-read-field-requires-3 c κs = search needs
+trace-field-requires-3 : tie.Need-trace-field-requires-3
+trace-field-requires-3 c κs = search needs
 
 enum-known-n-3 : tie.Need-enum-known-n-3
 enum-known-n-3 c = search needs
@@ -42,8 +42,8 @@ enum-known-n-3 c = search needs
 enum-known-block : tie.Need-enum-known-block
 enum-known-block c = search needs
 
-read-field-requires-4 : tie.Need-read-field-requires-4
-read-field-requires-4 c κs = search needs
+trace-field-requires-4 : tie.Need-trace-field-requires-4
+trace-field-requires-4 c κs = search needs
 
 enum-known-n-4 : tie.Need-enum-known-n-4
 enum-known-n-4 c = search needs
@@ -52,41 +52,41 @@ enum-known-outcome : tie.Need-enum-known-outcome
 enum-known-outcome c = search needs
 
 returns-2 : tie.Need-returns-2
-returns-2 c = clock-refused _ _ (c .before .before .before .before .if1 .left) _ (refusal-parsed 0 0 _ (c .before .before .before .read-field .ensures .0 0 0) (c .before .n .given .1))
+returns-2 c = clock-refused _ _ (c .before .before .before .before .if1 .left) _ (refusal-parsed 0 0 _ (c .before .before .before .trace-field .ensures .0 0 0) (c .before .n .given .1))
 
 returns-3 : tie.Need-returns-3
-returns-3 c = transaction-refused _ _ (c .before .before .before .before .before .before .before .before .if1 .left) _ _ (value-parsed 0 0 _ (c .before .before .before .before .before .before .before .read-field .ensures .0 0 0) (c .before .before .before .before .before .clock .given .1)) _
-    (refusal-parsed 0 0 _ (c .before .before .before .read-field2 .ensures .0 0 0) (c .before .n2 .given .1))
+returns-3 c = transaction-refused _ _ (c .before .before .before .before .before .before .before .before .if1 .left) _ _ (value-parsed 0 0 _ (c .before .before .before .before .before .before .before .trace-field .ensures .0 0 0) (c .before .before .before .before .before .clock .given .1)) _
+    (refusal-parsed 0 0 _ (c .before .before .before .trace-field2 .ensures .0 0 0) (c .before .n2 .given .1))
 
 returns-4 : tie.Need-returns-4
-returns-4 c = block-refused _ _ (c .before .before .before .before .before .before .before .before .before .before .before .before .if1 .left) _ _ (value-parsed 0 0 _ (c .before .before .before .before .before .before .before .before .before .before .before .read-field .ensures .0 0 0) (c .before .before .before .before .before .before .before .before .before .clock .given .1)) _ _
-    (value-parsed 0 0 _ (c .before .before .before .before .before .before .before .read-field2 .ensures .0 0 0) (c .before .before .before .before .before .transaction .given .1)) _ (refusal-parsed 0 0 _ (c .before .before .before .read-field3 .ensures .0 0 0) (c .before .n3 .given .1))
+returns-4 c = block-refused _ _ (c .before .before .before .before .before .before .before .before .before .before .before .before .if1 .left) _ _ (value-parsed 0 0 _ (c .before .before .before .before .before .before .before .before .before .before .before .trace-field .ensures .0 0 0) (c .before .before .before .before .before .before .before .before .before .clock .given .1)) _ _
+    (value-parsed 0 0 _ (c .before .before .before .before .before .before .before .trace-field2 .ensures .0 0 0) (c .before .before .before .before .before .transaction .given .1)) _ (refusal-parsed 0 0 _ (c .before .before .before .trace-field3 .ensures .0 0 0) (c .before .n3 .given .1))
 
 returns-5 : tie.Need-returns-5
-returns-5 c = outcome-refused _ _ (c .before .before .before .before .before .before .before .before .before .before .before .before .before .before .before .before .if1 .left) _ _ (value-parsed 0 0 _ (c .before .before .before .before .before .before .before .before .before .before .before .before .before .before .before .read-field .ensures .0 0 0) (c .before .before .before .before .before .before .before .before .before .before .before .before .before .clock .given .1)) _ _
-    (value-parsed 0 0 _ (c .before .before .before .before .before .before .before .before .before .before .before .read-field2 .ensures .0 0 0) (c .before .before .before .before .before .before .before .before .before .transaction .given .1)) _ _ (value-parsed 0 0 _ (c .before .before .before .before .before .before .before .read-field3 .ensures .0 0 0) (c .before .before .before .before .before .block .given .1)) _
-    (refusal-parsed 0 0 _ (c .before .before .before .read-field4 .ensures .0 0 0) (c .before .n4 .given .1))
+returns-5 c = outcome-refused _ _ (c .before .before .before .before .before .before .before .before .before .before .before .before .before .before .before .before .if1 .left) _ _ (value-parsed 0 0 _ (c .before .before .before .before .before .before .before .before .before .before .before .before .before .before .before .trace-field .ensures .0 0 0) (c .before .before .before .before .before .before .before .before .before .before .before .before .before .clock .given .1)) _ _
+    (value-parsed 0 0 _ (c .before .before .before .before .before .before .before .before .before .before .before .trace-field2 .ensures .0 0 0) (c .before .before .before .before .before .before .before .before .before .transaction .given .1)) _ _ (value-parsed 0 0 _ (c .before .before .before .before .before .before .before .trace-field3 .ensures .0 0 0) (c .before .before .before .before .before .block .given .1)) _
+    (refusal-parsed 0 0 _ (c .before .before .before .trace-field4 .ensures .0 0 0) (c .before .n4 .given .1))
 
 returns-6 : tie.Need-returns-6
-returns-6 c = record-taken _ _ (c .before .before .before .before .before .before .before .before .before .before .before .before .before .before .before .before .if1 .left) _ _ (value-parsed 0 0 _ (c .before .before .before .before .before .before .before .before .before .before .before .before .before .before .before .read-field .ensures .0 0 0) (c .before .before .before .before .before .before .before .before .before .before .before .before .before .clock .given .1)) _ _
-    (value-parsed 0 0 _ (c .before .before .before .before .before .before .before .before .before .before .before .read-field2 .ensures .0 0 0) (c .before .before .before .before .before .before .before .before .before .transaction .given .1)) _ _ (value-parsed 0 0 _ (c .before .before .before .before .before .before .before .read-field3 .ensures .0 0 0) (c .before .before .before .before .before .block .given .1)) _ _
-    (value-parsed 0 0 _ (c .before .before .before .read-field4 .ensures .0 0 0) (c .before .outcome .given .1))
+returns-6 c = record-taken _ _ (c .before .before .before .before .before .before .before .before .before .before .before .before .before .before .before .before .if1 .left) _ _ (value-parsed 0 0 _ (c .before .before .before .before .before .before .before .before .before .before .before .before .before .before .before .trace-field .ensures .0 0 0) (c .before .before .before .before .before .before .before .before .before .before .before .before .before .clock .given .1)) _ _
+    (value-parsed 0 0 _ (c .before .before .before .before .before .before .before .before .before .before .before .trace-field2 .ensures .0 0 0) (c .before .before .before .before .before .before .before .before .before .transaction .given .1)) _ _ (value-parsed 0 0 _ (c .before .before .before .before .before .before .before .trace-field3 .ensures .0 0 0) (c .before .before .before .before .before .block .given .1)) _ _
+    (value-parsed 0 0 _ (c .before .before .before .trace-field4 .ensures .0 0 0) (c .before .outcome .given .1))
 
 pub read-record-spec : {M : Type 1} → statement M
 read-record-spec =
     tie.close
     (tie.spec
     returns
-    read-field-requires
+    trace-field-requires
     enum-known-n
     enum-known-clock
-    read-field-requires-2
+    trace-field-requires-2
     enum-known-n-2
     enum-known-transaction
-    read-field-requires-3
+    trace-field-requires-3
     enum-known-n-3
     enum-known-block
-    read-field-requires-4
+    trace-field-requires-4
     enum-known-n-4
     enum-known-outcome
     returns-2

@@ -21,23 +21,23 @@ abbrev μ-loop : tie.MeasureT-loop
 loop-holds : tie.Need-loop-holds Inv-loop μ-loop
 loop-holds c = (omega arith, omega arith, omega arith, refl)
 
-sub-read-field : tie.Need-sub-read-field Inv-loop μ-loop
-sub-read-field c = omega arith
+sub-trace-field : tie.Need-sub-trace-field Inv-loop μ-loop
+sub-trace-field c = omega arith
 
-read-field-requires : tie.Need-read-field-requires Inv-loop μ-loop
-read-field-requires c κs = search needs
+trace-field-requires : tie.Need-trace-field-requires Inv-loop μ-loop
+trace-field-requires c κs = search needs
 
 enum-told : tie.Need-enum-told Inv-loop μ-loop
 enum-told c = search needs
 
 returns : tie.Need-returns Inv-loop μ-loop
-returns c = clocks-stop _ _ _ _ _ _ (c .before .before .before .loop-test .taken) (c .before .before .read-field .ensures .0) (c .enum-told .given .1) ∙ c .before .before .before .before .loop .inv .3
+returns c = clocks-stop _ _ _ _ _ _ (c .before .before .before .loop-test .taken) (c .before .before .trace-field .ensures .0) (c .enum-told .given .1) ∙ c .before .before .before .before .loop .inv .3
 
 enum-known-difference : tie.Need-enum-known-difference Inv-loop μ-loop
 enum-known-difference c = search needs
 
 add-clock : tie.Need-add-clock Inv-loop μ-loop
-add-clock c = omega (arith, c .before .before .before .before .before .loop .inv .0, c .before .before .before .read-field .ensures .1 _ _ (c .before .difference .given .1))
+add-clock c = omega (arith, c .before .before .before .before .before .loop .inv .0, c .before .before .before .trace-field .ensures .1 _ _ (c .before .difference .given .1))
 
 number-len-requires : tie.Need-number-len-requires Inv-loop μ-loop
 number-len-requires c κs = search needs
@@ -53,10 +53,10 @@ loop-less c = omega arith
 
 loop-again : tie.Need-loop-again Inv-loop μ-loop
 loop-again c = (
-  omega (arith, c .before .before .before .before .before .before .loop .inv .0, c .before .before .before .before .read-field .ensures .1 _ _ (c .before .before .difference .given .1)),
+  omega (arith, c .before .before .before .before .before .before .loop .inv .0, c .before .before .before .before .trace-field .ensures .1 _ _ (c .before .before .difference .given .1)),
   omega arith,
   omega (arith, c .before .before .before .before .before .before .loop .inv .2, nine _ _ (c .number-len .ensures)),
-  clocks-step _ _ _ _ _ _ (c .before .before .before .before .before .loop-test .taken) (c .before .before .before .before .read-field .ensures .0) (c .before .before .difference .given .1) (c .number-len .ensures) ∙ c .before .before .before .before .before .before .loop .inv .3,
+  clocks-step _ _ _ _ _ _ (c .before .before .before .before .before .loop-test .taken) (c .before .before .before .before .trace-field .ensures .0) (c .before .before .difference .given .1) (c .number-len .ensures) ∙ c .before .before .before .before .before .before .loop .inv .3,
 )
 
 returns-2 : tie.Need-returns-2 Inv-loop μ-loop
@@ -69,8 +69,8 @@ scan-clocks-spec =
     Inv-loop
     μ-loop
     loop-holds
-    sub-read-field
-    read-field-requires
+    sub-trace-field
+    trace-field-requires
     enum-told
     returns
     enum-known-difference

@@ -3,7 +3,9 @@
 use mathlib.Core.Path.{_≡_, refl, _∙_}
 use native.Mathlib.Omega.{arith}
 use borrow.Author.Needs.{needs}
-use Rattle.machine.specs.Parser.{field, times}
+use Rattle.machine.specs.Rules.{inForce}
+use Rattle.machine.specs.Parser.{times}
+use Rattle.machine.specs.Trace.{traceField}
 use Rattle.codec.specs.Answers.{cursorAt}
 use Rattle.columns.specs.Walks.{ends}
 use Rattle.columns.proofs.Surveying.{column-none, column-stop, column-step}
@@ -11,7 +13,7 @@ use Rattle.columns.proofs.survey.scan_column.Statement.{statement}
 use Rattle.columns.proofs.survey.scan_column.Tie as tie
 
 abbrev Inv-loop : tie.InvT-loop
-Inv-loop s at count lo hi left₀ next₀ left next = ends (times left (field s 31 lo hi) (cursorAt next 0 0)) ≡ ends (times count (field s 31 lo hi) (cursorAt at 0 0))
+Inv-loop s at count lo hi left₀ next₀ left next = ends (times left (traceField inForce s lo hi) (cursorAt next 0 0)) ≡ ends (times count (traceField inForce s lo hi) (cursorAt at 0 0))
 
 abbrev μ-loop : tie.MeasureT-loop
 μ-loop s at count lo hi left₀ next₀ left next = left
@@ -19,14 +21,14 @@ abbrev μ-loop : tie.MeasureT-loop
 loop-holds : tie.Need-loop-holds Inv-loop μ-loop
 loop-holds c = refl
 
-read-field-requires : tie.Need-read-field-requires Inv-loop μ-loop
-read-field-requires c κs = search needs
+trace-field-requires : tie.Need-trace-field-requires Inv-loop μ-loop
+trace-field-requires c κs = search needs
 
 enum-told : tie.Need-enum-told Inv-loop μ-loop
 enum-told c = search needs
 
 returns : tie.Need-returns Inv-loop μ-loop
-returns c = column-stop _ _ _ _ _ _ (c .before .before .before .loop-test .taken) (c .before .before .read-field .ensures .0) (c .enum-told .given .1) ∙ c .before .before .before .before .loop .inv
+returns c = column-stop _ _ _ _ _ _ (c .before .before .before .loop-test .taken) (c .before .before .trace-field .ensures .0) (c .enum-told .given .1) ∙ c .before .before .before .before .loop .inv
 
 enum-known-after : tie.Need-enum-known-after Inv-loop μ-loop
 enum-known-after c = search needs
@@ -38,7 +40,7 @@ loop-less : tie.Need-loop-less Inv-loop μ-loop
 loop-less c = omega arith
 
 loop-again : tie.Need-loop-again Inv-loop μ-loop
-loop-again c = column-step _ _ _ _ _ _ (c .before .before .before .before .loop-test .taken) (c .before .before .before .read-field .ensures .0) (c .before .after .given .1) ∙ c .before .before .before .before .before .loop .inv
+loop-again c = column-step _ _ _ _ _ _ (c .before .before .before .before .loop-test .taken) (c .before .before .before .trace-field .ensures .0) (c .before .after .given .1) ∙ c .before .before .before .before .before .loop .inv
 
 returns-2 : tie.Need-returns-2 Inv-loop μ-loop
 returns-2 c = column-none _ _ _ _ _ (c .loop-test .left) ∙ c .before .loop .inv
@@ -50,7 +52,7 @@ scan-column-spec =
     Inv-loop
     μ-loop
     loop-holds
-    read-field-requires
+    trace-field-requires
     enum-told
     returns
     enum-known-after

@@ -7,8 +7,8 @@ use Rattle.columns.proofs.Surveying.{survey-count, survey-clocks, surve
 use Rattle.columns.proofs.survey.survey_columns.Statement.{statement}
 use Rattle.columns.proofs.survey.survey_columns.Tie as tie
 
-read-field-requires : tie.Need-read-field-requires
-read-field-requires c κs = search needs
+trace-field-requires : tie.Need-trace-field-requires
+trace-field-requires c κs = search needs
 
 enum-known-count : tie.Need-enum-known-count
 enum-known-count c = search needs
@@ -17,10 +17,10 @@ enum-told : tie.Need-enum-told
 enum-told c = search needs
 
 returns : tie.Need-returns
-returns c = survey-count (c .before .before .before .before .args .s .now) (λ i. omega (arith, c .before .before .before .shared-slice-known .given i)) _ (refusal-parsed 0 0 _ (c .before .before .read-field .ensures .0 0 0) (c .enum-told .given .1))
+returns c = survey-count (c .before .before .before .before .args .s .now) (λ i. omega (arith, c .before .before .before .shared-slice-known .given i)) _ (refusal-parsed 0 0 _ (c .before .before .trace-field .ensures .0 0 0) (c .enum-told .given .1))
 
 scan-clocks-requires : tie.Need-scan-clocks-requires
-scan-clocks-requires c κs = (c .before .before .before .read-field .ensures .1 _ _ (c .before .count .given .1) .1)
+scan-clocks-requires c κs = (c .before .before .before .trace-field .ensures .1 _ _ (c .before .count .given .1) .1)
 
 enum-known-transactions : tie.Need-enum-known-transactions
 enum-known-transactions c = search needs
@@ -29,7 +29,7 @@ enum-told-2 : tie.Need-enum-told-2
 enum-told-2 c = search needs
 
 returns-2 : tie.Need-returns-2
-returns-2 c = survey-clocks (c .before .before .before .before .before .before .before .before .args .s .now) (λ i. omega (arith, c .before .before .before .before .before .before .before .shared-slice-known .given i)) _ _ (c .before .before .before .before .before .before .read-field .ensures .1 _ _ (c .before .before .before .before .count .given .1) .1) (value-parsed 0 0 _ (c .before .before .before .before .before .before .read-field .ensures .0 0 0) (c .before .before .before .before .count .given .1)) (sym (c .enum-told2 .given .1) ∙ c .before .before .scan-clocks .ensures)
+returns-2 c = survey-clocks (c .before .before .before .before .before .before .before .before .args .s .now) (λ i. omega (arith, c .before .before .before .before .before .before .before .shared-slice-known .given i)) _ _ (c .before .before .before .before .before .before .trace-field .ensures .1 _ _ (c .before .before .before .before .count .given .1) .1) (value-parsed 0 0 _ (c .before .before .before .before .before .before .trace-field .ensures .0 0 0) (c .before .before .before .before .count .given .1)) (sym (c .enum-told2 .given .1) ∙ c .before .before .scan-clocks .ensures)
 
 scan-column-requires : tie.Need-scan-column-requires
 scan-column-requires c κs = search needs
@@ -41,7 +41,7 @@ enum-told-3 : tie.Need-enum-told-3
 enum-told-3 c = search needs
 
 returns-3 : tie.Need-returns-3
-returns-3 c = survey-transactions (c .before .before .before .before .before .before .before .before .before .before .before .before .args .s .now) (λ i. omega (arith, c .before .before .before .before .before .before .before .before .before .before .before .shared-slice-known .given i)) _ _ (c .before .before .before .before .before .before .before .before .before .before .read-field .ensures .1 _ _ (c .before .before .before .before .before .before .before .before .count .given .1) .1) (value-parsed 0 0 _ (c .before .before .before .before .before .before .before .before .before .before .read-field .ensures .0 0 0) (c .before .before .before .before .before .before .before .before .count .given .1)) _ _ (sym (c .before .before .before .before .transactions .given .1) ∙ c .before .before .before .before .before .before .scan-clocks .ensures) (sym (c .enum-told3 .given .1) ∙ c .before .before .scan-column .ensures)
+returns-3 c = survey-transactions (c .before .before .before .before .before .before .before .before .before .before .before .before .args .s .now) (λ i. omega (arith, c .before .before .before .before .before .before .before .before .before .before .before .shared-slice-known .given i)) _ _ (c .before .before .before .before .before .before .before .before .before .before .trace-field .ensures .1 _ _ (c .before .before .before .before .before .before .before .before .count .given .1) .1) (value-parsed 0 0 _ (c .before .before .before .before .before .before .before .before .before .before .trace-field .ensures .0 0 0) (c .before .before .before .before .before .before .before .before .count .given .1)) _ _ (sym (c .before .before .before .before .transactions .given .1) ∙ c .before .before .before .before .before .before .scan-clocks .ensures) (sym (c .enum-told3 .given .1) ∙ c .before .before .scan-column .ensures)
 
 scan-column-requires-2 : tie.Need-scan-column-requires-2
 scan-column-requires-2 c κs = search needs
@@ -53,7 +53,7 @@ enum-told-4 : tie.Need-enum-told-4
 enum-told-4 c = search needs
 
 returns-4 : tie.Need-returns-4
-returns-4 c = survey-blocks (c .before .before .before .before .before .before .before .before .before .before .before .before .before .before .before .before .args .s .now) (λ i. omega (arith, c .before .before .before .before .before .before .before .before .before .before .before .before .before .before .before .shared-slice-known .given i)) _ _ (c .before .before .before .before .before .before .before .before .before .before .before .before .before .before .read-field .ensures .1 _ _ (c .before .before .before .before .before .before .before .before .before .before .before .before .count .given .1) .1) (value-parsed 0 0 _ (c .before .before .before .before .before .before .before .before .before .before .before .before .before .before .read-field .ensures .0 0 0) (c .before .before .before .before .before .before .before .before .before .before .before .before .count .given .1)) _ _ (sym (c .before .before .before .before .before .before .before .before .transactions .given .1) ∙ c .before .before .before .before .before .before .before .before .before .before .scan-clocks .ensures) _ (sym (c .before .before .before .before .blocks2 .given .1) ∙ c .before .before .before .before .before .before .scan-column .ensures) (sym (c .enum-told4 .given .1) ∙ c .before .before .scan-column2 .ensures)
+returns-4 c = survey-blocks (c .before .before .before .before .before .before .before .before .before .before .before .before .before .before .before .before .args .s .now) (λ i. omega (arith, c .before .before .before .before .before .before .before .before .before .before .before .before .before .before .before .shared-slice-known .given i)) _ _ (c .before .before .before .before .before .before .before .before .before .before .before .before .before .before .trace-field .ensures .1 _ _ (c .before .before .before .before .before .before .before .before .before .before .before .before .count .given .1) .1) (value-parsed 0 0 _ (c .before .before .before .before .before .before .before .before .before .before .before .before .before .before .trace-field .ensures .0 0 0) (c .before .before .before .before .before .before .before .before .before .before .before .before .count .given .1)) _ _ (sym (c .before .before .before .before .before .before .before .before .transactions .given .1) ∙ c .before .before .before .before .before .before .before .before .before .before .scan-clocks .ensures) _ (sym (c .before .before .before .before .blocks2 .given .1) ∙ c .before .before .before .before .before .before .scan-column .ensures) (sym (c .enum-told4 .given .1) ∙ c .before .before .scan-column2 .ensures)
 
 scan-column-requires-3 : tie.Need-scan-column-requires-3
 scan-column-requires-3 c κs = search needs
@@ -65,25 +65,25 @@ enum-told-5 : tie.Need-enum-told-5
 enum-told-5 c = search needs
 
 returns-5 : tie.Need-returns-5
-returns-5 c = survey-outcomes (c .before .before .before .before .before .before .before .before .before .before .before .before .before .before .before .before .before .before .before .before .args .s .now) (λ i. omega (arith, c .before .before .before .before .before .before .before .before .before .before .before .before .before .before .before .before .before .before .before .shared-slice-known .given i)) _ _ (c .before .before .before .before .before .before .before .before .before .before .before .before .before .before .before .before .before .before .read-field .ensures .1 _ _ (c .before .before .before .before .before .before .before .before .before .before .before .before .before .before .before .before .count .given .1) .1) (value-parsed 0 0 _ (c .before .before .before .before .before .before .before .before .before .before .before .before .before .before .before .before .before .before .read-field .ensures .0 0 0) (c .before .before .before .before .before .before .before .before .before .before .before .before .before .before .before .before .count .given .1)) _ _ (sym (c .before .before .before .before .before .before .before .before .before .before .before .before .transactions .given .1) ∙ c .before .before .before .before .before .before .before .before .before .before .before .before .before .before .scan-clocks .ensures) _ (sym (c .before .before .before .before .before .before .before .before .blocks2 .given .1) ∙ c .before .before .before .before .before .before .before .before .before .before .scan-column .ensures) _ (sym (c .before .before .before .before .outcomes .given .1) ∙ c .before .before .before .before .before .before .scan-column2 .ensures) (sym (c .enum-told5 .given .1) ∙ c .before .before .scan-column3 .ensures)
+returns-5 c = survey-outcomes (c .before .before .before .before .before .before .before .before .before .before .before .before .before .before .before .before .before .before .before .before .args .s .now) (λ i. omega (arith, c .before .before .before .before .before .before .before .before .before .before .before .before .before .before .before .before .before .before .before .shared-slice-known .given i)) _ _ (c .before .before .before .before .before .before .before .before .before .before .before .before .before .before .before .before .before .before .trace-field .ensures .1 _ _ (c .before .before .before .before .before .before .before .before .before .before .before .before .before .before .before .before .count .given .1) .1) (value-parsed 0 0 _ (c .before .before .before .before .before .before .before .before .before .before .before .before .before .before .before .before .before .before .trace-field .ensures .0 0 0) (c .before .before .before .before .before .before .before .before .before .before .before .before .before .before .before .before .count .given .1)) _ _ (sym (c .before .before .before .before .before .before .before .before .before .before .before .before .transactions .given .1) ∙ c .before .before .before .before .before .before .before .before .before .before .before .before .before .before .scan-clocks .ensures) _ (sym (c .before .before .before .before .before .before .before .before .blocks2 .given .1) ∙ c .before .before .before .before .before .before .before .before .before .before .scan-column .ensures) _ (sym (c .before .before .before .before .outcomes .given .1) ∙ c .before .before .before .before .before .before .scan-column2 .ensures) (sym (c .enum-told5 .given .1) ∙ c .before .before .scan-column3 .ensures)
 
 returns-6 : tie.Need-returns-6
-returns-6 c = survey-long (c .before .before .before .before .before .before .before .before .before .before .before .before .before .before .before .before .before .before .before .before .before .before .args .s .now) (λ i. omega (arith, c .before .before .before .before .before .before .before .before .before .before .before .before .before .before .before .before .before .before .before .before .before .shared-slice-known .given i)) _ _ (c .before .before .before .before .before .before .before .before .before .before .before .before .before .before .before .before .before .before .before .before .read-field .ensures .1 _ _ (c .before .before .before .before .before .before .before .before .before .before .before .before .before .before .before .before .before .before .count .given .1) .1) (value-parsed 0 0 _ (c .before .before .before .before .before .before .before .before .before .before .before .before .before .before .before .before .before .before .before .before .read-field .ensures .0 0 0) (c .before .before .before .before .before .before .before .before .before .before .before .before .before .before .before .before .before .before .count .given .1)) _ _ (sym (c .before .before .before .before .before .before .before .before .before .before .before .before .before .before .transactions .given .1) ∙ c .before .before .before .before .before .before .before .before .before .before .before .before .before .before .before .before .scan-clocks .ensures) _ (sym (c .before .before .before .before .before .before .before .before .before .before .blocks2 .given .1) ∙ c .before .before .before .before .before .before .before .before .before .before .before .before .scan-column .ensures) _ (sym (c .before .before .before .before .before .before .outcomes .given .1) ∙ c .before .before .before .before .before .before .before .before .scan-column2 .ensures) _ (sym (c .before .before .end .given .1) ∙ c .before .before .before .before .scan-column3 .ensures) (c .if1 .taken)
+returns-6 c = survey-long (c .before .before .before .before .before .before .before .before .before .before .before .before .before .before .before .before .before .before .before .before .before .before .args .s .now) (λ i. omega (arith, c .before .before .before .before .before .before .before .before .before .before .before .before .before .before .before .before .before .before .before .before .before .shared-slice-known .given i)) _ _ (c .before .before .before .before .before .before .before .before .before .before .before .before .before .before .before .before .before .before .before .before .trace-field .ensures .1 _ _ (c .before .before .before .before .before .before .before .before .before .before .before .before .before .before .before .before .before .before .count .given .1) .1) (value-parsed 0 0 _ (c .before .before .before .before .before .before .before .before .before .before .before .before .before .before .before .before .before .before .before .before .trace-field .ensures .0 0 0) (c .before .before .before .before .before .before .before .before .before .before .before .before .before .before .before .before .before .before .count .given .1)) _ _ (sym (c .before .before .before .before .before .before .before .before .before .before .before .before .before .before .transactions .given .1) ∙ c .before .before .before .before .before .before .before .before .before .before .before .before .before .before .before .before .scan-clocks .ensures) _ (sym (c .before .before .before .before .before .before .before .before .before .before .blocks2 .given .1) ∙ c .before .before .before .before .before .before .before .before .before .before .before .before .scan-column .ensures) _ (sym (c .before .before .before .before .before .before .outcomes .given .1) ∙ c .before .before .before .before .before .before .before .before .scan-column2 .ensures) _ (sym (c .before .before .end .given .1) ∙ c .before .before .before .before .scan-column3 .ensures) (c .if1 .taken)
 
 sub-t14 : tie.Need-sub-t14
-sub-t14 c = let fits = survey-fits (c .before .before .before .before .before .before .before .before .before .before .before .before .before .before .before .before .before .before .before .before .before .before .args .s .now) (λ i. omega (arith, c .before .before .before .before .before .before .before .before .before .before .before .before .before .before .before .before .before .before .before .before .before .shared-slice-known .given i)) _ _ (c .before .before .before .before .before .before .before .before .before .before .before .before .before .before .before .before .before .before .before .before .read-field .ensures .1 _ _ (c .before .before .before .before .before .before .before .before .before .before .before .before .before .before .before .before .before .before .count .given .1) .1) (value-parsed 0 0 _ (c .before .before .before .before .before .before .before .before .before .before .before .before .before .before .before .before .before .before .before .before .read-field .ensures .0 0 0) (c .before .before .before .before .before .before .before .before .before .before .before .before .before .before .before .before .before .before .count .given .1)) _ _ (sym (c .before .before .before .before .before .before .before .before .before .before .before .before .before .before .transactions .given .1) ∙ c .before .before .before .before .before .before .before .before .before .before .before .before .before .before .before .before .scan-clocks .ensures) _ (sym (c .before .before .before .before .before .before .before .before .before .before .blocks2 .given .1) ∙ c .before .before .before .before .before .before .before .before .before .before .before .before .scan-column .ensures) _ (sym (c .before .before .before .before .before .before .outcomes .given .1) ∙ c .before .before .before .before .before .before .before .before .scan-column2 .ensures) _ (sym (c .before .before .end .given .1) ∙ c .before .before .before .before .scan-column3 .ensures) in omega (arith, fits .0, fits .1, fits .2)
+sub-t14 c = let fits = survey-fits (c .before .before .before .before .before .before .before .before .before .before .before .before .before .before .before .before .before .before .before .before .before .before .args .s .now) (λ i. omega (arith, c .before .before .before .before .before .before .before .before .before .before .before .before .before .before .before .before .before .before .before .before .before .shared-slice-known .given i)) _ _ (c .before .before .before .before .before .before .before .before .before .before .before .before .before .before .before .before .before .before .before .before .trace-field .ensures .1 _ _ (c .before .before .before .before .before .before .before .before .before .before .before .before .before .before .before .before .before .before .count .given .1) .1) (value-parsed 0 0 _ (c .before .before .before .before .before .before .before .before .before .before .before .before .before .before .before .before .before .before .before .before .trace-field .ensures .0 0 0) (c .before .before .before .before .before .before .before .before .before .before .before .before .before .before .before .before .before .before .count .given .1)) _ _ (sym (c .before .before .before .before .before .before .before .before .before .before .before .before .before .before .transactions .given .1) ∙ c .before .before .before .before .before .before .before .before .before .before .before .before .before .before .before .before .scan-clocks .ensures) _ (sym (c .before .before .before .before .before .before .before .before .before .before .blocks2 .given .1) ∙ c .before .before .before .before .before .before .before .before .before .before .before .before .scan-column .ensures) _ (sym (c .before .before .before .before .before .before .outcomes .given .1) ∙ c .before .before .before .before .before .before .before .before .scan-column2 .ensures) _ (sym (c .before .before .end .given .1) ∙ c .before .before .before .before .scan-column3 .ensures) in omega (arith, fits .0, fits .1, fits .2)
 
 add-t17 : tie.Need-add-t17
-add-t17 c = let fits = survey-fits (c .before .before .before .before .before .before .before .before .before .before .before .before .before .before .before .before .before .before .before .before .before .before .args .s .now) (λ i. omega (arith, c .before .before .before .before .before .before .before .before .before .before .before .before .before .before .before .before .before .before .before .before .before .shared-slice-known .given i)) _ _ (c .before .before .before .before .before .before .before .before .before .before .before .before .before .before .before .before .before .before .before .before .read-field .ensures .1 _ _ (c .before .before .before .before .before .before .before .before .before .before .before .before .before .before .before .before .before .before .count .given .1) .1) (value-parsed 0 0 _ (c .before .before .before .before .before .before .before .before .before .before .before .before .before .before .before .before .before .before .before .before .read-field .ensures .0 0 0) (c .before .before .before .before .before .before .before .before .before .before .before .before .before .before .before .before .before .before .count .given .1)) _ _ (sym (c .before .before .before .before .before .before .before .before .before .before .before .before .before .before .transactions .given .1) ∙ c .before .before .before .before .before .before .before .before .before .before .before .before .before .before .before .before .scan-clocks .ensures) _ (sym (c .before .before .before .before .before .before .before .before .before .before .blocks2 .given .1) ∙ c .before .before .before .before .before .before .before .before .before .before .before .before .scan-column .ensures) _ (sym (c .before .before .before .before .before .before .outcomes .given .1) ∙ c .before .before .before .before .before .before .before .before .scan-column2 .ensures) _ (sym (c .before .before .end .given .1) ∙ c .before .before .before .before .scan-column3 .ensures) in omega (arith, fits .0, fits .1, fits .2)
+add-t17 c = let fits = survey-fits (c .before .before .before .before .before .before .before .before .before .before .before .before .before .before .before .before .before .before .before .before .before .before .args .s .now) (λ i. omega (arith, c .before .before .before .before .before .before .before .before .before .before .before .before .before .before .before .before .before .before .before .before .before .shared-slice-known .given i)) _ _ (c .before .before .before .before .before .before .before .before .before .before .before .before .before .before .before .before .before .before .before .before .trace-field .ensures .1 _ _ (c .before .before .before .before .before .before .before .before .before .before .before .before .before .before .before .before .before .before .count .given .1) .1) (value-parsed 0 0 _ (c .before .before .before .before .before .before .before .before .before .before .before .before .before .before .before .before .before .before .before .before .trace-field .ensures .0 0 0) (c .before .before .before .before .before .before .before .before .before .before .before .before .before .before .before .before .before .before .count .given .1)) _ _ (sym (c .before .before .before .before .before .before .before .before .before .before .before .before .before .before .transactions .given .1) ∙ c .before .before .before .before .before .before .before .before .before .before .before .before .before .before .before .before .scan-clocks .ensures) _ (sym (c .before .before .before .before .before .before .before .before .before .before .blocks2 .given .1) ∙ c .before .before .before .before .before .before .before .before .before .before .before .before .scan-column .ensures) _ (sym (c .before .before .before .before .before .before .outcomes .given .1) ∙ c .before .before .before .before .before .before .before .before .scan-column2 .ensures) _ (sym (c .before .before .end .given .1) ∙ c .before .before .before .before .scan-column3 .ensures) in omega (arith, fits .0, fits .1, fits .2)
 
 returns-7 : tie.Need-returns-7
-returns-7 c = survey-taken (c .before .before .before .before .before .before .before .before .before .before .before .before .before .before .before .before .before .before .before .before .before .before .args .s .now) (λ i. omega (arith, c .before .before .before .before .before .before .before .before .before .before .before .before .before .before .before .before .before .before .before .before .before .shared-slice-known .given i)) _ _ (c .before .before .before .before .before .before .before .before .before .before .before .before .before .before .before .before .before .before .before .before .read-field .ensures .1 _ _ (c .before .before .before .before .before .before .before .before .before .before .before .before .before .before .before .before .before .before .count .given .1) .1) (value-parsed 0 0 _ (c .before .before .before .before .before .before .before .before .before .before .before .before .before .before .before .before .before .before .before .before .read-field .ensures .0 0 0) (c .before .before .before .before .before .before .before .before .before .before .before .before .before .before .before .before .before .before .count .given .1)) _ _ (sym (c .before .before .before .before .before .before .before .before .before .before .before .before .before .before .transactions .given .1) ∙ c .before .before .before .before .before .before .before .before .before .before .before .before .before .before .before .before .scan-clocks .ensures) _ (sym (c .before .before .before .before .before .before .before .before .before .before .blocks2 .given .1) ∙ c .before .before .before .before .before .before .before .before .before .before .before .before .scan-column .ensures) _ (sym (c .before .before .before .before .before .before .outcomes .given .1) ∙ c .before .before .before .before .before .before .before .before .scan-column2 .ensures) _ (sym (c .before .before .end .given .1) ∙ c .before .before .before .before .scan-column3 .ensures) (c .if1 .left)
+returns-7 c = survey-taken (c .before .before .before .before .before .before .before .before .before .before .before .before .before .before .before .before .before .before .before .before .before .before .args .s .now) (λ i. omega (arith, c .before .before .before .before .before .before .before .before .before .before .before .before .before .before .before .before .before .before .before .before .before .shared-slice-known .given i)) _ _ (c .before .before .before .before .before .before .before .before .before .before .before .before .before .before .before .before .before .before .before .before .trace-field .ensures .1 _ _ (c .before .before .before .before .before .before .before .before .before .before .before .before .before .before .before .before .before .before .count .given .1) .1) (value-parsed 0 0 _ (c .before .before .before .before .before .before .before .before .before .before .before .before .before .before .before .before .before .before .before .before .trace-field .ensures .0 0 0) (c .before .before .before .before .before .before .before .before .before .before .before .before .before .before .before .before .before .before .count .given .1)) _ _ (sym (c .before .before .before .before .before .before .before .before .before .before .before .before .before .before .transactions .given .1) ∙ c .before .before .before .before .before .before .before .before .before .before .before .before .before .before .before .before .scan-clocks .ensures) _ (sym (c .before .before .before .before .before .before .before .before .before .before .blocks2 .given .1) ∙ c .before .before .before .before .before .before .before .before .before .before .before .before .scan-column .ensures) _ (sym (c .before .before .before .before .before .before .outcomes .given .1) ∙ c .before .before .before .before .before .before .before .before .scan-column2 .ensures) _ (sym (c .before .before .end .given .1) ∙ c .before .before .before .before .scan-column3 .ensures) (c .if1 .left)
 
 pub survey-columns-spec : {M : Type 1} → statement M
 survey-columns-spec =
     tie.close
     (tie.spec
-    read-field-requires
+    trace-field-requires
     enum-known-count
     enum-told
     returns

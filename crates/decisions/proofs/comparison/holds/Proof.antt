@@ -8,9 +8,6 @@ use Rattle.decisions.proofs.comparison.holds.Tie as tie
 parameters-of-requires : tie.Need-parameters-of-requires
 parameters-of-requires c κs = search needs
 
-wide-requires : tie.Need-wide-requires
-wide-requires c κs = search needs
-
 add-compare-at : tie.Need-add-compare-at
 add-compare-at c = search needs
 
@@ -19,9 +16,9 @@ compare-at-requires c κs = search needs
 
 returns : tie.Need-returns
 unfolding holdsAt
-returns c = c .compare-at .ensures ∙ rw (c .before .wide .ensures, c .before .before .parameters-of .ensures)
+returns c = c .compare-at .ensures ∙ rw (c .before .parameters-of .ensures)
 
 pub holds-spec : {M : Type 1} → statement M
 holds-spec =
     tie.close
-    (tie.spec parameters-of-requires wide-requires add-compare-at compare-at-requires returns)
+    (tie.spec parameters-of-requires add-compare-at compare-at-requires returns)

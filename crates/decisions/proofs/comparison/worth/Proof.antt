@@ -9,9 +9,6 @@ use Rattle.decisions.proofs.comparison.worth.Tie as tie
 parameters-of-requires : tie.Need-parameters-of-requires
 parameters-of-requires c κs = search needs
 
-wide-requires : tie.Need-wide-requires
-wide-requires c κs = search needs
-
 add-term-at : tie.Need-add-term-at
 add-term-at c = search needs
 
@@ -23,14 +20,13 @@ bits-requires c κs = search needs
 
 returns : tie.Need-returns
 unfolding worthAt
-returns c = let worth = back _ (c .before .term-at .ok) ∙ c .before .term-at .ensures in c .bits .ensures ∙ rw (worth, c .before .before .wide .ensures, c .before .before .before .parameters-of .ensures)
+returns c = let worth = back _ (c .before .term-at .ok) ∙ c .before .term-at .ensures in c .bits .ensures ∙ rw (worth, c .before .before .parameters-of .ensures)
 
 pub worth-spec : {M : Type 1} → statement M
 worth-spec =
     tie.close
     (tie.spec
     parameters-of-requires
-    wide-requires
     add-term-at
     term-at-requires
     bits-requires

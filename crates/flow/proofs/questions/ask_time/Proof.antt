@@ -5,16 +5,16 @@ use borrow.Author.Needs.{needs}
 use Rattle.flow.proofs.questions.ask_time.Statement.{statement}
 use Rattle.flow.proofs.questions.ask_time.Tie as tie
 
-plus32-requires : tie.Need-plus32-requires
-plus32-requires c κs = search needs
+plus64-requires : tie.Need-plus64-requires
+plus64-requires c κs = search needs
 
 returns : tie.Need-returns
 unfolding askTime
-returns c = rw (← c .before .plus32 .ensures, le-leb _ 2000000000 (c .if1 .taken))
+returns c = rw (← c .before .plus64 .ensures, le-leb _ _ (c .if1 .taken))
 
 returns-2 : tie.Need-returns-2
 unfolding askTime
-returns-2 c = rw (← c .before .plus32 .ensures, lt-leb _ 2000000000 (c .if1 .left))
+returns-2 c = rw (← c .before .plus64 .ensures, lt-leb _ _ (c .if1 .left))
 
 pub ask-time-spec : {M : Type 1} → statement M
-ask-time-spec = tie.close (tie.spec plus32-requires returns returns-2)
+ask-time-spec = tie.close (tie.spec plus64-requires returns returns-2)

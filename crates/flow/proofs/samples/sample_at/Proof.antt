@@ -17,12 +17,9 @@ enum-told c = search needs
 returns : tie.Need-returns
 returns c = sample-refused _ _ _ (c .before .before .read-number .ensures .0) (c .enum-told .given .1)
 
-cast-t6 : tie.Need-cast-t6
-cast-t6 c = omega (arith, c .before .before .before .read-number .ensures .1 _ _ (c .before .v .given .1) .0)
-
 returns-2 : tie.Need-returns-2
 returns-2 c = sample-read _ _ _ (c .before .before .before .read-number .ensures .0) _ _ (c .before .v .given .1) (c .before .before .before .read-number .ensures .1 _ _ (c .before .v .given .1) .1)
 
 pub sample-at-spec : {M : Type 1} → statement M
 sample-at-spec =
-    tie.close (tie.spec read-number-requires enum-known-v enum-told returns cast-t6 returns-2)
+    tie.close (tie.spec read-number-requires enum-known-v enum-told returns returns-2)

@@ -10,8 +10,8 @@ plus32-requires c κs = search needs
 write-requires : tie.Need-write-requires
 write-requires c κs = search needs
 
-write-requires-2 : tie.Need-write-requires-2
-write-requires-2 c κs = search needs
+set-time-requires : tie.Need-set-time-requires
+set-time-requires c κs = search needs
 
 put-requires : tie.Need-put-requires
 put-requires c κs = search needs
@@ -21,9 +21,9 @@ same-length c = search needs
 
 returns : tie.Need-returns
 unfolding toFuture
-returns c = rw (← c .before .before .before .before .before .before .before .before .before .before .before .before .plus32 .ensures, c .before .before .put .ensures, c .before .before .before .before .before .before .write2 .ensures, c .before .before .before .before .before .before .before .before .before .before .write .ensures)
+returns c = rw (← c .before .before .before .before .before .before .before .before .before .before .before .before .plus32 .ensures, c .before .before .put .ensures, c .before .before .before .before .before .before .set-time .ensures, c .before .before .before .before .before .before .before .before .before .before .write .ensures)
 
 pub to-future-spec : {M : Type 1} → statement M
 to-future-spec =
     tie.close
-    (tie.spec plus32-requires write-requires write-requires-2 put-requires same-length returns)
+    (tie.spec plus32-requires write-requires set-time-requires put-requires same-length returns)

@@ -12,12 +12,12 @@ returns : tie.Need-returns
 unfolding isDue
 returns c = rw (← c .before .load .ensures, le-ltb _ 1024 (c .if1 .taken))
 
-read-requires : tie.Need-read-requires
-read-requires c κs = search needs
+time-requires : tie.Need-time-requires
+time-requires c κs = search needs
 
 returns-2 : tie.Need-returns-2
 unfolding isDue
-returns-2 c = rw (← c .before .before .load .ensures, lt-ltb _ 1024 (c .before .if1 .left), ← c .read .ensures)
+returns-2 c = rw (← c .before .before .load .ensures, lt-ltb _ 1024 (c .before .if1 .left), ← c .time .ensures)
 
 pub is-due-spec : {M : Type 1} → statement M
-is-due-spec = tie.close (tie.spec load-requires returns read-requires returns-2)
+is-due-spec = tie.close (tie.spec load-requires returns time-requires returns-2)

@@ -6,28 +6,17 @@ use borrow.Author.Needs.{needs}
 use Rattle.rows.proofs.order.sooner.Statement.{statement}
 use Rattle.rows.proofs.order.sooner.Tie as tie
 
-read-requires : tie.Need-read-requires
-read-requires c κs = search needs
-
-read-requires-2 : tie.Need-read-requires-2
-read-requires-2 c κs = search needs
-
 returns : tie.Need-returns
 unfolding sooner
-returns c = rw (← c .before .before .read .ensures, ← c .before .read2 .ensures, lt-ltb _ _ (c .if1 .taken))
+returns c = rw (← c .before .time .ensures, lt-ltb _ _ (c .if1 .taken))
 
 returns-2 : tie.Need-returns-2
 unfolding sooner
-returns-2 c = rw (← c .before .before .before .read .ensures, ← c .before .before .read2 .ensures, le-ltb _ _ (c .before .if1 .left), ne-eqb (c .before .before .before .read .result) (c .before .before .read2 .result) (λ e. omega arith))
-
-outranks-requires : tie.Need-outranks-requires
-outranks-requires c κs = search needs
+returns-2 c = rw (← c .before .before .time .ensures, le-ltb _ _ (c .before .if1 .left), ne-eqb (c .before .before .before .before .args .due) (c .before .before .time .result) (λ e. omega arith))
 
 returns-3 : tie.Need-returns-3
 unfolding sooner
-returns-3 c = rw (← c .before .before .before .before .read .ensures, ← c .before .before .before .read2 .ensures, le-ltb _ _ (c .before .before .if1 .left), eq-eqb (c .before .before .before .before .read .result) (c .before .before .before .read2 .result) (omega arith)) (c .outranks .ensures)
+returns-3 c = rw (← c .before .before .before .time .ensures, le-ltb _ _ (c .before .before .if1 .left), eq-eqb (c .before .before .before .before .before .args .due) (c .before .before .before .time .result) (omega arith)) (c .outranks .ensures)
 
 pub sooner-spec : {M : Type 1} → statement M
-sooner-spec =
-    tie.close
-    (tie.spec read-requires read-requires-2 returns returns-2 outranks-requires returns-3)
+sooner-spec = tie.close (tie.spec (search needs) returns returns-2 (search needs) returns-3)

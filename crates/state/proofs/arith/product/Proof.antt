@@ -1,18 +1,25 @@
--- `product` meets its contract: the factors have 32 bits each, so the product fits.
+-- `product` meets its contract: the factors are so small that the product fits.
 use borrow.Author.Tests.{lt-ltb, le-ltb}
 use native.Mathlib.Omega.{arith}
+use Rattle.state.specs.Ticks.{product}
 use Rattle.state.proofs.Products.{product-fits}
 use Rattle.state.proofs.arith.product.Statement.{statement}
 use Rattle.state.proofs.arith.product.Tie as tie
 
+returns : tie.Need-returns
+unfolding product
+returns c = rw (le-ltb _ _ (c .if1 .taken))
+
+returns-2 : tie.Need-returns-2
+unfolding product
+returns-2 c = rw (lt-ltb _ _ (c .before .if1 .left), le-ltb _ _ (c .if2 .taken))
+
 mul-result : tie.Need-mul-result
 mul-result c = record { fits = product-fits _ _ (omega arith) (omega arith) }
 
-returns : tie.Need-returns
-returns c = rw (lt-ltb _ _ (c .if1 .taken))
-
-returns-2 : tie.Need-returns-2
-returns-2 c = rw (le-ltb _ _ (c .if1 .left))
+returns-3 : tie.Need-returns-3
+unfolding product
+returns-3 c = rw (lt-ltb _ _ (c .before .if1 .left), lt-ltb _ _ (c .if2 .left))
 
 pub product-spec : {M : Type 1} → statement M
-product-spec = tie.close (tie.spec mul-result returns returns-2)
+product-spec = tie.close (tie.spec returns returns-2 mul-result returns-3)

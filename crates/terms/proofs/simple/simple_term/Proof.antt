@@ -20,32 +20,32 @@ parameter-requires c κs = search needs
 signed-requires : tie.Need-signed-requires
 signed-requires c κs = search needs
 
-small-requires-2 : tie.Need-small-requires-2
-small-requires-2 c κs = search needs
+low-signed-requires : tie.Need-low-signed-requires
+low-signed-requires c κs = search needs
 
 tallied-requires : tie.Need-tallied-requires
 tallied-requires c κs = search needs
 
-small-requires-3 : tie.Need-small-requires-3
-small-requires-3 c κs = search needs
+small-requires-2 : tie.Need-small-requires-2
+small-requires-2 c κs = search needs
 
 tallied-requires-2 : tie.Need-tallied-requires-2
 tallied-requires-2 c κs = search needs
 
-small-requires-4 : tie.Need-small-requires-4
-small-requires-4 c κs = search needs
+small-requires-3 : tie.Need-small-requires-3
+small-requires-3 c κs = search needs
 
 tallied-requires-3 : tie.Need-tallied-requires-3
 tallied-requires-3 c κs = search needs
 
-small-requires-5 : tie.Need-small-requires-5
-small-requires-5 c κs = search needs
+small-requires-4 : tie.Need-small-requires-4
+small-requires-4 c κs = search needs
 
 free-requires : tie.Need-free-requires
 free-requires c κs = search needs
 
-small-requires-6 : tie.Need-small-requires-6
-small-requires-6 c κs = search needs
+small-requires-5 : tie.Need-small-requires-5
+small-requires-5 c κs = search needs
 
 in-use-requires : tie.Need-in-use-requires
 in-use-requires c κs = search needs
@@ -64,23 +64,23 @@ returns-3 c = rw (c .before .before .match .keys3) (back _ (c .signed .ok) ∙ c
 
 returns-4 : tie.Need-returns-4
 unfolding simpleTerm
-returns-4 c = rw (c .before .match .keys4) (back _ (c .small2 .ok) ∙ c .small2 .ensures)
+returns-4 c = rw (c .before .match .keys4) (back _ (c .low-signed .ok) ∙ c .low-signed .ensures)
 
 returns-5 : tie.Need-returns-5
 unfolding simpleTerm
-returns-5 c = rw (c .before .before .match .keys5) (back _ (c .small3 .ok) ∙ c .small3 .ensures ∙ ap small (c .before .tallied .ensures))
+returns-5 c = rw (c .before .before .match .keys5) (back _ (c .small2 .ok) ∙ c .small2 .ensures ∙ ap small (c .before .tallied .ensures))
 
 returns-6 : tie.Need-returns-6
 unfolding simpleTerm
-returns-6 c = rw (c .before .before .match .keys6) (back _ (c .small4 .ok) ∙ c .small4 .ensures ∙ ap small (c .before .tallied2 .ensures))
+returns-6 c = rw (c .before .before .match .keys6) (back _ (c .small3 .ok) ∙ c .small3 .ensures ∙ ap small (c .before .tallied2 .ensures))
 
 returns-7 : tie.Need-returns-7
 unfolding simpleTerm
-returns-7 c = rw (c .before .before .match .keys7) (back _ (c .small5 .ok) ∙ c .small5 .ensures ∙ ap small (c .before .tallied3 .ensures))
+returns-7 c = rw (c .before .before .match .keys7) (back _ (c .small4 .ok) ∙ c .small4 .ensures ∙ ap small (c .before .tallied3 .ensures))
 
 returns-8 : tie.Need-returns-8
 unfolding simpleTerm
-returns-8 c = rw (c .before .before .match .keys8) (back _ (c .small6 .ok) ∙ c .small6 .ensures ∙ ap small (c .before .free .ensures))
+returns-8 c = rw (c .before .before .match .keys8) (back _ (c .small5 .ok) ∙ c .small5 .ensures ∙ ap small (c .before .free .ensures))
 
 returns-9 : tie.Need-returns-9
 unfolding simpleTerm
@@ -106,15 +106,15 @@ simple-term-spec =
     minus-requires
     parameter-requires
     signed-requires
-    small-requires-2
+    low-signed-requires
     tallied-requires
-    small-requires-3
+    small-requires-2
     tallied-requires-2
-    small-requires-4
+    small-requires-3
     tallied-requires-3
-    small-requires-5
+    small-requires-4
     free-requires
-    small-requires-6
+    small-requires-5
     in-use-requires
     returns
     returns-2

@@ -1,0 +1,168 @@
+-- Reading under rules that allow no less: what was read stays as it was. A number, the tape and a record are read alike; the model
+-- is read whatever the rules, and differs in its rules alone.
+use Prim.Native.Nat.{ℕ, zero, suc, _≤_}
+use mathlib.Core.Path.{_≡_, refl, sym, ap, subst, _∙_}
+use mathlib.Core.Bool.{Bool, true, false, cond, _&&_}
+use mathlib.Core.List.{List}
+use mathlib.Core.Option.{Option, none, some}
+use native.Mathlib.Omega.{arith}
+use borrow.Author.Tests.{leb-true, le-leb}
+use lib.Dec.{leb}
+use lib.ListN.{drop}
+use Rattle.machine.specs.Limits as Limits
+use Rattle.machine.specs.Rules.{Rules}
+use Rattle.machine.specs.Number.{Number, groups, padded, within, readNumber}
+use Rattle.machine.specs.Parser.{Cursor, Parsed, parsed, refused, Parser, continue, _>>=_, times, forward, fieldOf, fieldUpTo}
+use Rattle.machine.specs.Block.{BlockModel}
+use Rattle.machine.specs.Decode.{modelFields, listField}
+use Rattle.machine.specs.Trace.{recordFields}
+use Rattle.machine.specs.Validate.{targetsMove, wellFormed, modelOf, tapeOf}
+use Rattle.machine.specs.OlderTapes.{AllowsNoLess}
+use Rattle.machine.proofs.RunLaws.{cond-cases}
+
+-- ---- Definition
+
+-- what one parser gives, the other gives too
+abbrev pub Kept : {A : Type 0} → Parsed A → Parsed A → Type 0
+Kept (parsed a c) q = q ≡ parsed a c
+Kept (refused n) q = Unit {0}
+
+pub record Widens {A : Type 0} (p q : Parser A) : Type 0 where
+  pub from : (c : Cursor) → Kept (p c) (q c)
+
+-- ---- Ways to build a parser
+
+kept-same : {A : Type 0} (r : Parsed A) → Kept r r
+kept-same (parsed a c) = refl
+kept-same (refused n) = tt
+
+continued : {A B : Type 0} (r r′ : Parsed A) (f g : A → Parser B) → Kept r r′ → ((a : A) (c : Cursor) → Kept (f a c) (g a c)) → Kept (continue r f) (continue r′ g)
+unfolding continue
+continued (parsed a c) r′ f g h k = subst (λ r. Kept (f a c) (continue r g)) (sym h) (k a c)
+continued (refused n) r′ f g h k = tt
+
+same : {A : Type 0} (p : Parser A) → Widens p p
+same p = record { from = λ c. kept-same (p c) }
+
+then : {A B : Type 0} {p q : Parser A} {f g : A → Parser B} → Widens p q → ((a : A) → Widens (f a) (g a)) → Widens (p >>= f) (q >>= g)
+then {p = p} {q = q} {f = f} {g = g} h k = record { from = λ c. continued (p c) (q c) f g (h .from c) (λ a c. k a .from c) }
+
+repeated : {A : Type 0} {p q : Parser A} (n : ℕ) → Widens p q → Widens (times n p) (times n q)
+unfolding times
+repeated zero h = same _
+repeated (suc n) h = then h (λ a. then (repeated n h) (λ l. same _))
+
+-- ---- One number
+
+module _ {most more : ℕ} (larger : most ≤ more) where
+  -- what was in size is in size
+  abbrev Still : Option Number → Option Number → Type 0
+  Still none q = Unit {0}
+  Still (some n) q = q ≡ some n
+
+  within-still : (o : Option Number) → Still (within most o) (within more o)
+  unfolding within
+  within-still none = tt
+  within-still (some n) =
+      cond-cases (λ x. Still x (cond (leb (n .value) more) (some n) none)) (leb (n .value) most) (some n) none
+      (λ e. rw (le-leb (n .value) more (omega (arith, leb-true (n .value) most e)))) (λ e. tt)
+
+  read-still : (k : ℕ) (l : List ℕ) → Still (readNumber k most l) (readNumber k more l)
+  unfolding readNumber
+  read-still k l = go (padded l)
+    where
+      go : (b : Bool) → Still (cond b none (within most (groups k 0 l))) (cond b none (within more (groups k 0 l)))
+      go true = tt
+      go false = within-still (groups k 0 l)
+
+  module _ (code lo : ℕ) {hi higher : ℕ} (wider : hi ≤ higher) where
+    field-of : (o o′ : Option Number) (c : Cursor) → Still o o′ → Kept (fieldOf code lo hi o c) (fieldOf code lo higher o′ c)
+    unfolding fieldOf
+    field-of none o′ c h = tt
+    field-of (some n) o′ c h = subst (λ o. Kept (fieldOf code lo hi (some n) c) (fieldOf code lo higher o c)) (sym h) (go (leb lo (n .value)) (leb (n .value) hi) refl)
+      where
+        go : (a b : Bool) → leb (n .value) hi ≡ b
+            → Kept (cond (a && b) (parsed (n .value) (forward c (n .size))) (refused (suc code)))
+            (cond (a && leb (n .value) higher) (parsed (n .value) (forward c (n .size))) (refused (suc code)))
+        go true true e = rw (le-leb (n .value) higher (omega (arith, leb-true (n .value) hi e)))
+        go true false e = tt
+        go false b e = tt
+
+    field-widens : (s : List ℕ) → Widens (fieldUpTo most s code lo hi) (fieldUpTo more s code lo higher)
+    unfolding fieldUpTo
+    field-widens s =
+        record { from = λ c. field-of _ _ c (read-still Limits.maxNumberBytes (drop (c .position) s)) }
+
+-- ---- The tape and a record
+
+module _ {old new : Rules} (less : AllowsNoLess old new) (s : List ℕ) where
+  list-widens : Widens (listField s old) (listField s new)
+  unfolding listField
+  list-widens =
+      then (field-widens (less .number) 8 0 (omega arith) s) (λ count. repeated count (field-widens (less .number) 8 0 (less .time) s))
+
+  pub tape-widens : (lists : ℕ) → Widens (tapeOf old s lists) (tapeOf new s lists)
+  unfolding tapeOf
+  tape-widens lists = then (repeated lists list-widens) (λ tape. same _)
+
+  pub record-widens : Widens (recordFields old s) (recordFields new s)
+  unfolding recordFields
+  record-widens =
+      then (field-widens (less .number) 31 0 (less .clock) s)
+      (λ clock. then (field-widens (less .number) 31 1 (omega arith) s)
+      (λ transaction. then (field-widens (less .number) 31 1 (omega arith) s) (λ block. then (field-widens (less .number) 31 0 (omega arith) s) (λ outcome. same _))))
+
+-- ---- The model
+
+abbrev pub withRules : Rules → BlockModel → BlockModel
+withRules rules m =
+    record {
+      rules = rules;
+      facilities = m .facilities;
+      capacities = m .capacities;
+      queues = m .queues;
+      values = m .values;
+      lists = m .lists;
+      counter = m .counter;
+      blocks = m .blocks;
+    }
+
+abbrev pub underRules : Rules → Parsed BlockModel → Parsed BlockModel
+underRules rules (parsed m c) = parsed (withRules rules m) c
+underRules rules (refused n) = refused n
+
+module _ (new : Rules) where
+  record Under (p q : Parser BlockModel) : Type 0 where
+    from : (c : Cursor) → q c ≡ underRules new (p c)
+
+  -- the same reading first, or one that differs in the rules
+  alike : {A : Type 0} (p : Parser A) {f g : A → Parser BlockModel} → ((a : A) → Under (f a) (g a)) → Under (p >>= f) (p >>= g)
+  unfolding continue
+  alike {A} p {f} {g} h = record { from = λ c. go (p c) }
+    where
+      go : (r : Parsed A) → continue r g ≡ underRules new (continue r f)
+      go (parsed a c) = h a .from c
+      go (refused n) = refl
+
+  after : {p q : Parser BlockModel} {f : BlockModel → Parser BlockModel} → Under p q → ((m : BlockModel) → Under (f m) (f (withRules new m)))
+      → Under (p >>= f) (q >>= f)
+  unfolding continue
+  after {p} {q} {f} h k = record { from = λ c. ap (λ r. continue r f) (h .from c) ∙ go (p c) }
+    where
+      go : (r : Parsed BlockModel) → continue (underRules new r) f ≡ underRules new (continue r f)
+      go (parsed m c) = k m .from c
+      go (refused n) = refl
+
+  module _ (old : Rules) (s : List ℕ) where
+    fields-under : Under (modelFields s old) (modelFields s new)
+    unfolding modelFields
+    fields-under =
+        alike _ (λ edition. alike _ (λ facilities. alike _ (λ storages. alike _ (λ capacities. alike _ (λ queues. alike _ (λ values.
+        alike _ (λ sums. alike _ (λ lists. alike _ (λ counter. alike _ (λ blocks. alike _ (λ program. record { from = λ c. refl })))))))))))
+
+    model-under : Under (modelOf old s) (modelOf new s)
+    unfolding modelOf wellFormed targetsMove
+    model-under = after fields-under (λ m. alike _ (λ u. alike _ (λ u. record { from = λ c. refl })))
+
+    pub model-read : (c : Cursor) → modelOf new s c ≡ underRules new (modelOf old s c)
+    model-read c = model-under .from c

@@ -1,0 +1,47 @@
+-- Document 02, item 1: "Runs of older tapes that did not end 22 keep their bytes." Proved in ../proofs/OlderTapes.antt, for any two
+-- rules of which the one allows no less, and so from document 01 to document 02; the clock term in ../proofs/ClockTerm.antt.
+use Prim.Native.Nat.{ℕ, _≤_}
+use mathlib.Core.Path.{_≡_}
+use mathlib.Core.List.{List}
+use lib.IntN.{ℤ, pos}
+use Rattle.machine.specs.Rules.{Rules}
+use Rattle.machine.specs.Term.{clockTerm, term}
+use Rattle.machine.specs.Block.{BlockModel}
+use Rattle.machine.specs.Trace.{Record, taken, noMore, readRecord}
+use Rattle.machine.specs.State.{State}
+use Rattle.machine.specs.Turn.{taking}
+use Rattle.machine.specs.Run.{states}
+use Rattle.machine.specs.Validate.{accept, validate}
+use Rattle.machine.specs.Outcome.{Outcome, outcome}
+use Rattle.machine.specs.Claims.{Each}
+
+-- clock limit, time limit and largest number are no lower, and all else is the same
+pub record AllowsNoLess (old new : Rules) : Type 0 where
+  pub clock : old .maxClock ≤ new .maxClock
+  pub time : old .maxTime ≤ new .maxTime
+  pub number : old .maxNumber ≤ new .maxNumber
+
+-- the same eight results, trace and report, where the old run was accepted and did not end 22
+abbrev pub SameBytes : (old new : Outcome) → Type 0
+SameBytes old new = old .refusal ≡ 0 → (old .end ≡ 22 → ⊥) → new ≡ old
+
+abbrev pub KeepsRuns : (old new : Rules) → Type 0
+KeepsRuns old new =
+    (model tape : List ℕ) (budget work room report : ℕ)
+    → SameBytes (outcome old model tape budget work room report) (outcome new model tape budget work room report)
+
+-- Every record that the old reader takes, the new one takes alike, and "no more" is said at the same positions.
+pub record KeepsTraces (old new : Rules) : Type 0 where
+  pub records : (s : List ℕ) (at : ℕ) {r : Record} {after : ℕ} → readRecord old s at ≡ taken r after → readRecord new s at ≡ taken r after
+  pub ends : (s : List ℕ) (at : ℕ) → readRecord old s at ≡ noMore → readRecord new s at ≡ noMore
+
+-- Document 01's clock term is the clock itself. Under rules with clocks below 2 to the 31 that is what the clock term gives: in each
+-- state of a run, and at the clock at which the next turn reads its terms.
+pub record ReadsClock (s : State) : Type 0 where
+  pub now : (parameters lower : List ℤ) → term (s .view) parameters lower clockTerm ≡ pos (s .view .clock)
+  pub next : (parameters lower : List ℤ) → term (taking (s .moving) s .view) parameters lower clockTerm ≡ pos (taking (s .moving) s .view .clock)
+
+abbrev pub KeepsClockTerm : Rules → Type 0
+KeepsClockTerm rules =
+    (model tape : List ℕ) (work report budget room : ℕ) (m : BlockModel) (times : List (List ℕ))
+    → validate rules model tape work report ≡ accept m times → Each ReadsClock (states m times budget room)

@@ -1,0 +1,15 @@
+-- `time` meets its contract: the two fields that were read.
+use mathlib.Core.Path.{sym}
+use borrow.Author.Needs.{needs}
+use Rattle.rows.specs.Cells.{timeOf}
+use Rattle.rows.proofs.cells.time.Statement.{statement}
+use Rattle.rows.proofs.cells.time.Tie as tie
+
+returns : tie.Need-returns
+unfolding timeOf
+returns c = cc
+
+pub time-spec : {M : Type 1} → statement M
+time-spec =
+    tie.close
+    (tie.spec (search needs) (search needs) (search needs) (search needs) (search needs) (search needs) returns)
