@@ -1,5 +1,5 @@
 -- A clock move follows the machine: statistics first, then all of the first time come from the FEL to REL.
-use Prim.Native.Nat.{ℕ, suc, _+_, _-_, _≤_, _<_}
+use Prim.Native.Nat.{ℕ, suc, _+_, _-_, _≤_, _<_, min}
 use mathlib.Core.Path.{_≡_, refl, sym, ap, _∙_, subst}
 use mathlib.Core.Bool.{Bool, false}
 use mathlib.Core.List.{List, [], _∷_}
@@ -26,6 +26,7 @@ use Rattle.rows.proofs.Laws.{Arrives, head-fel-shows, arrive-shows}
 use Rattle.state.specs.declared.scalars.Scalars.{Scalars}
 use Rattle.state.specs.ScalarSetters.{putClock, putSerial}
 use Rattle.state.specs.Sane.{Sane}
+use Rattle.state.specs.Ticks.{mostTicks}
 use Rattle.state.specs.Stands.{Rows, rowsOf, listsOf, Listing, Tallying, Counting, Stands}
 use Rattle.state.proofs.Measured.{clocked, moved-clock}
 use Rattle.state.proofs.ListsOf.{lists-set-rel}
@@ -119,7 +120,8 @@ module _ {m : BlockModel} {tape : List (List ℕ)} (proper : Proper m tape) (tap
     moved =
         let c : x .clock ≡ s .view .clock = h .counting .clock in
         let n : x .serial ≡ s .serial = h .counting .serial in
-        rw (c, n) (record { listing = listed; tallying = tallied; counting = counted })
+        let ticks : min (e .time - s .view .clock) mostTicks ≡ e .time - s .view .clock = omega (arith, in-time) in
+        rw (c, n, ticks) (record { listing = listed; tallying = tallied; counting = counted })
 
     pub clock-stands : Stands tapeBytes (moveClock w (r .tally) x (servers m) (m .queues) (e .time)) none (Machine.moveClock (e .time) s)
     clock-stands =

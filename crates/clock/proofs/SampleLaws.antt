@@ -26,8 +26,8 @@ use Rattle.clock.proofs.Sampled.{sumOf, ServerSampled, ServerSame, Serv
 
 -- ---- Numbers of 64 bits
 
-sum-of : (sum n ticks : ℕ) → n ≤ 100000001 → ticks ≤ maxClock → sum + n * ticks < 18446744073709551616 → sumOf sum n ticks ≡ sum + n * ticks
-sum-of sum n ticks small few fits = rw (product-is n ticks (omega arith) (omega arith)) (omega arith)
+sum-of : (sum n ticks : ℕ) → n ≤ 100000001 → sum + n * ticks < 18446744073709551616 → sumOf sum n ticks ≡ sum + n * ticks
+sum-of sum n ticks small fits = rw (product-is n ticks (omega arith)) (omega arith)
 
 -- a sum over at most as many ticks as a clock has
 product-le : (n most ticks : ℕ) → n ≤ most → ticks ≤ maxClock → n * ticks ≤ most * maxClock
@@ -137,12 +137,12 @@ module _ {m : BlockModel} {tape : List (List ℕ)} (proper : Proper m tape) (s :
         units =
             g .units ∙ ap (λ (a : ℕ). sumOf a (getD t (512 + v) 0) ticks) (h .servers .unit-ticks v small)
             ∙ ap (λ (k : ℕ). sumOf (server v .unitTicks) k ticks) (h .servers .in-use v small)
-            ∙ sum-of (server v .unitTicks) (server v .inUse) ticks (omega (arith, units-few v)) few (omega (arith, unit-sum v))
+            ∙ sum-of (server v .unitTicks) (server v .inUse) ticks (omega (arith, units-few v)) (omega (arith, unit-sum v))
             ∙ sym (ap (λ x. x .unitTicks) is);
         waits =
             g .waits ∙ ap (λ (a : ℕ). sumOf a (getD t (768 + v) 0) ticks) (h .servers .wait-ticks v small)
             ∙ ap (λ (k : ℕ). sumOf (server v .waitTicks) k ticks) (h .servers .waiting v small)
-            ∙ sum-of (server v .waitTicks) (length (getD (s .ql) v [])) ticks (omega (arith, waiters-few v)) few (omega (arith, wait-sum v))
+            ∙ sum-of (server v .waitTicks) (length (getD (s .ql) v [])) ticks (omega (arith, waiters-few v)) (omega (arith, wait-sum v))
             ∙ sym (ap (λ x. x .waitTicks) is);
         longest =
             g .longest ∙ ap (λ (a : ℕ). max a (getD t (768 + v) 0)) (h .servers .longest v small)
@@ -222,7 +222,7 @@ module _ {m : BlockModel} {tape : List (List ℕ)} (proper : Proper m tape) (s :
         sums =
             g .contents ∙ ap (λ (a : ℕ). sumOf a (getD t₁ (832 + q) 0) ticks) (kept (864 + q) (omega arith) ∙ h .queues .content-ticks q small)
             ∙ ap (λ (k : ℕ). sumOf (queue q .contentTicks) k ticks) (kept (832 + q) (omega arith) ∙ h .queues .contents q small)
-            ∙ sum-of (queue q .contentTicks) (queue q .content) ticks (omega (arith, content-few q)) few (omega (arith, content-sum q))
+            ∙ sum-of (queue q .contentTicks) (queue q .content) ticks (omega (arith, content-few q)) (omega (arith, content-sum q))
             ∙ sym (ap (λ x. x .contentTicks) is);
         longest =
             g .longest ∙ ap (λ (a : ℕ). max a (getD t₁ (832 + q) 0)) (kept (896 + q) (omega arith) ∙ h .queues .longest q small)

@@ -10,12 +10,13 @@ use Rattle.rows.specs.Lists.{first, takeFirst}
 use Rattle.rows.specs.Clock.{Arrived, arrive}
 use Rattle.state.specs.declared.scalars.Scalars.{Scalars}
 use Rattle.state.specs.ScalarSetters.{putClock, putMoving, putSerial, putTurns}
+use Rattle.state.specs.Ticks.{mostTicks}
 use Rattle.state.specs.Stands.{Rows, rowsOf}
 use Rattle.clock.specs.Sample.{sampleServers, sampleQueues}
 
--- the ticks to a time
+-- the ticks to a time, no more than a clock has
 abbrev pub ticksTo : ℕ → Scalars → ℕ
-ticksTo time x = time - x .clock
+ticksTo time x = min (time - x .clock) mostTicks
 
 -- after a move, with the last serial given
 abbrev pub movedTo : (time serial : ℕ) → Scalars → Scalars

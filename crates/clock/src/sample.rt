@@ -15,10 +15,12 @@ ghost use mathlib.Core.Path.{_≡_};
 ghost use Prim.Native.Nat.{_+_, _<_, _≤_};
 ghost use Rattle.machine.specs.Limits.{maxQueues};
 ghost use Rattle.tables.specs.Layout.{serverCount};
+ghost use Rattle.state.specs.Ticks.{mostTicks};
 ghost use Rattle.clock.specs.Sample.{addTicks, keepLongest, sampleServer, sampleServers, sampleQueue, sampleQueues};
 
 // The number at `from` times the ticks is added to the sum at `at`.
 fn add_ticks(tally: &mut [u64], at: usize, from: usize, ticks: u64)
+    requires { ⌜ ticks ≤ mostTicks ⌝ }
     ensures { λ _. ⌜ now (tally .exit) ≡ addTicks (now (tally .entry)) at from ticks ⌝ }
 {
     let n = count(tally, from);
@@ -38,6 +40,7 @@ fn keep_longest(tally: &mut [u64], at: usize, from: usize)
 
 // Ticks of units in use, ticks waited and the longest QL of server v, from 0.
 fn sample_server(tally: &mut [u64], v: usize, ticks: u64)
+    requires { ⌜ ticks ≤ mostTicks ⌝ }
     requires { ⌜ v < serverCount ⌝ }
     ensures { λ _. ⌜ now (tally .exit) ≡ sampleServer (now (tally .entry)) v ticks ⌝ }
 {
@@ -47,6 +50,7 @@ fn sample_server(tally: &mut [u64], v: usize, ticks: u64)
 }
 
 fn sample_servers(tally: &mut [u64], servers: usize, ticks: u64)
+    requires { ⌜ ticks ≤ mostTicks ⌝ }
     requires { ⌜ servers ≤ serverCount ⌝ }
     ensures { λ _. ⌜ now (tally .exit) ≡ sampleServers servers (now (tally .entry)) ticks ⌝ }
 {
@@ -59,6 +63,7 @@ fn sample_servers(tally: &mut [u64], servers: usize, ticks: u64)
 
 // Content ticks and the longest content of queue q, from 0.
 fn sample_queue(tally: &mut [u64], q: usize, ticks: u64)
+    requires { ⌜ ticks ≤ mostTicks ⌝ }
     requires { ⌜ q < maxQueues ⌝ }
     ensures { λ _. ⌜ now (tally .exit) ≡ sampleQueue (now (tally .entry)) q ticks ⌝ }
 {
@@ -67,6 +72,7 @@ fn sample_queue(tally: &mut [u64], q: usize, ticks: u64)
 }
 
 fn sample_queues(tally: &mut [u64], queues: usize, ticks: u64)
+    requires { ⌜ ticks ≤ mostTicks ⌝ }
     requires { ⌜ queues ≤ maxQueues ⌝ }
     ensures { λ _. ⌜ now (tally .exit) ≡ sampleQueues queues (now (tally .entry)) ticks ⌝ }
 {
@@ -79,6 +85,7 @@ fn sample_queues(tally: &mut [u64], queues: usize, ticks: u64)
 
 // Of a model's servers and queues, before the clock moves by some ticks.
 pub fn sample(tally: &mut [u64], servers: usize, queues: usize, ticks: u64)
+    requires { ⌜ ticks ≤ mostTicks ⌝ }
     requires { ⌜ servers ≤ serverCount ⌝ }
     requires { ⌜ queues ≤ maxQueues ⌝ }
     ensures { λ _. ⌜ now (tally .exit) ≡ sampleQueues queues (sampleServers servers (now (tally .entry)) ticks) ticks ⌝ }

@@ -8,6 +8,7 @@ use rows::cells::time;
 use rows::clock::arrive;
 use rows::lists::first;
 use rows::lists::take_first;
+use state::MOST_TICKS;
 use state::Scalars;
 use state::less64;
 use state::plus32;
@@ -16,8 +17,20 @@ ghost use Prim.Native.Nat.{_<_, _≤_};
 ghost use Rattle.machine.specs.Limits.{maxQueues};
 ghost use Rattle.tables.specs.Layout.{serverCount};
 ghost use Rattle.rows.specs.Layout.{Room, serialEnd};
+ghost use Rattle.state.specs.Ticks.{mostTicks};
 ghost use Rattle.state.specs.Stands.{rowsOf};
-ghost use Rattle.clock.specs.Taking.{moveClock, nextEvents, readyScalars, readyWork, take};
+ghost use Rattle.clock.specs.Taking.{ticksTo, moveClock, nextEvents, readyScalars, readyWork, take};
+
+// The ticks to a time, no more than a clock has.
+fn ticks_to(time: u64, x: Scalars) -> u64
+    ensures { λ r. ⌜ (r ≡ ticksTo time x) × (r ≤ mostTicks) ⌝ }
+{
+    let ticks = less64(time, x.clock);
+    if ticks <= MOST_TICKS {
+        return ticks;
+    }
+    MOST_TICKS
+}
 
 // The clock moves to a time: statistics first, then all of that time come from the FEL to REL.
 fn move_clock(
@@ -34,7 +47,7 @@ fn move_clock(
     requires { ⌜ x .serial < serialEnd ⌝ }
     ensures { λ r. ⌜ rowsOf r (now (work .exit)) (now (tally .exit)) ≡ moveClock (now (work .entry)) (now (tally .entry)) x servers queues time ⌝ }
 {
-    let ticks = less64(time, x.clock);
+    let ticks = ticks_to(time, x);
     sample(tally, servers, queues, ticks);
     let serial = arrive(work, time, x.serial);
     let mut y = x;

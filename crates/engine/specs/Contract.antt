@@ -35,7 +35,7 @@ Begins bytes before after = after ≡ bytes ++ drop (length bytes) before
 
 -- the reader takes exactly these records and then answers "no more"; whatever records it takes are, written again, the same bytes
 pub record ReadsBack (m : BlockModel) (bytes : List ℕ) (records : List Record) : Type 0 where
-  -- clock at most 2,000,000,000, transaction at most 100,000,000, a block of the model
+  -- clock at most 32,000,000,000, transaction at most 100,000,000, a block of the model
   pub in-model : Each (InModel m) records
   pub reads : Reads bytes 0 records
   pub written-again : (l : List Record) → Reads bytes 0 l → traceBytes l ≡ bytes

@@ -8,7 +8,7 @@ use crate::cells::time;
 ghost use mathlib.Core.Path.{_≡_};
 ghost use Prim.Native.Nat.{_<_};
 ghost use Rattle.rows.specs.Layout.{rowCount};
-ghost use Rattle.rows.specs.Order.{outranks, sooner, aheadAt};
+ghost use Rattle.rows.specs.Order.{outranks, sooner, aheadAt, ahead};
 
 // By priority, high first, then serial, low first.
 pub fn outranks(w: &[u32], x: u32, y: u32) -> bool
@@ -50,6 +50,19 @@ pub fn ahead_at(w: &[u32], p: u32, due: u64, x: u32, y: u32) -> bool
     ensures { λ r. ⌜ r ≡ aheadAt (now (w .entry)) p due x y ⌝ }
 {
     if p == FEL {
+        return sooner(w, due, x, y);
+    }
+    outranks(w, x, y)
+}
+
+// Row x before row y on list p. A walk looks up the time of its row once and asks `ahead_at`.
+pub fn ahead(w: &[u32], p: u32, x: u32, y: u32) -> bool
+    requires { ⌜ x < rowCount ⌝ }
+    requires { ⌜ y < rowCount ⌝ }
+    ensures { λ r. ⌜ r ≡ ahead (now (w .entry)) p x y ⌝ }
+{
+    if p == FEL {
+        let due = time(w, x);
         return sooner(w, due, x, y);
     }
     outranks(w, x, y)

@@ -3,13 +3,14 @@ use Prim.Native.Nat.{ℕ, _*_}
 use mathlib.Core.Bool.{cond}
 use lib.Dec.{ltb}
 
--- no run counts so many, and no clock moves by so many ticks: 2 to the 28 and to the 36
+-- no run counts so many: 2 to the 28
 abbrev pub countEnd : ℕ
 countEnd = 268435456
 
-abbrev pub ticksEnd : ℕ
-ticksEnd = 68719476736
+-- no clock moves by more ticks: 2 to the 36, less one
+abbrev pub mostTicks : ℕ
+mostTicks = 68719476735
 
--- 0 where one of them is too large
+-- 0 where there are too many
 unfoldable pub product : ℕ → ℕ → ℕ
-product a ticks = cond (ltb a countEnd) (cond (ltb ticks ticksEnd) (a * ticks) 0) 0
+product a ticks = cond (ltb a countEnd) (a * ticks) 0

@@ -1,6 +1,6 @@
 // Sums and differences that never trap: a sum stops at the largest number, a difference at 0.
 ghost use mathlib.Core.Path.{_≡_};
-ghost use Prim.Native.Nat.{_+_, _-_, min};
+ghost use Prim.Native.Nat.{_+_, _-_, _≤_, min};
 ghost use Rattle.tables.specs.Layout.{most32, most64};
 ghost use Rattle.state.specs.Ticks as Ticks;
 
@@ -40,19 +40,18 @@ pub fn less64(a: u64, b: u64) -> u64
     0
 }
 
-// No run counts so many units, waiters or contents, and no clock moves by so many ticks: 2 to the 28 and to the 36.
+// No run counts so many units, waiters or contents: 2 to the 28.
 const COUNT_END: u64 = 268_435_456;
 
-const TICKS_END: u64 = 68_719_476_736;
+// No clock moves by more ticks: 2 to the 36, less one.
+pub const MOST_TICKS: u64 = 68_719_476_735;
 
-// A count times some ticks; 0 where one of them is too large.
+// A count times some ticks; 0 where there are too many.
 pub fn product(a: u64, ticks: u64) -> u64
+    requires { ⌜ ticks ≤ Ticks.mostTicks ⌝ }
     ensures { λ r. ⌜ r ≡ Ticks.product a ticks ⌝ }
 {
     if a >= COUNT_END {
-        return 0;
-    }
-    if ticks >= TICKS_END {
         return 0;
     }
     a * ticks

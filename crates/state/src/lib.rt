@@ -3,6 +3,7 @@
 mod arith;
 mod scalars;
 
+pub use arith::MOST_TICKS;
 pub use arith::less32;
 pub use arith::less64;
 pub use arith::plus32;

@@ -12,7 +12,6 @@ pub const NO_RECORD: u32 = 2;
 // What a turn hands on beside the buffers. `moving` is the row of the moving transaction, or `NOBODY`; `used` counts the bytes of
 // trace; `note` says which record the last block writes: `ENTERED`, `WAITS` or `NO_RECORD`.
 pub struct Scalars {
-    pub clock: u64,
     pub counter: u32,
     pub moving: u32,
     pub serial: u32,
@@ -20,6 +19,7 @@ pub struct Scalars {
     pub ended: u32,
     pub turns: u32,
     pub used: usize,
+    pub clock: u64,
     pub end: u32,
     pub note: u32,
 }

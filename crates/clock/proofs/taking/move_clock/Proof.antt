@@ -4,8 +4,8 @@ use borrow.Author.Needs.{needs}
 use Rattle.clock.proofs.taking.move_clock.Statement.{statement}
 use Rattle.clock.proofs.taking.move_clock.Tie as tie
 
-less64-requires : tie.Need-less64-requires
-less64-requires c κs = search needs
+ticks-to-requires : tie.Need-ticks-to-requires
+ticks-to-requires c κs = search needs
 
 sample-requires : tie.Need-sample-requires
 sample-requires c κs = search needs
@@ -20,9 +20,9 @@ same-length-2 : tie.Need-same-length-2
 same-length-2 c = search needs
 
 returns : tie.Need-returns
-returns c = clock-moved _ _ _ _ _ _ _ _ _ _ (c .before .before .before .before .before .before .before .before .less64 .ensures) (c .before .before .before .before .before .before .sample .ensures) (c .before .before .arrive .ensures)
+returns c = clock-moved _ _ _ _ _ _ _ _ _ _ (c .before .before .before .before .before .before .before .before .ticks-to .ensures .0) (c .before .before .before .before .before .before .sample .ensures) (c .before .before .arrive .ensures)
 
 pub move-clock-spec : {M : Type 1} → statement M
 move-clock-spec =
     tie.close
-    (tie.spec less64-requires sample-requires arrive-requires same-length same-length-2 returns)
+    (tie.spec ticks-to-requires sample-requires arrive-requires same-length same-length-2 returns)

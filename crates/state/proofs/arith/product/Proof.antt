@@ -10,16 +10,12 @@ returns : tie.Need-returns
 unfolding product
 returns c = rw (le-ltb _ _ (c .if1 .taken))
 
-returns-2 : tie.Need-returns-2
-unfolding product
-returns-2 c = rw (lt-ltb _ _ (c .before .if1 .left), le-ltb _ _ (c .if2 .taken))
-
 mul-result : tie.Need-mul-result
 mul-result c = record { fits = product-fits _ _ (omega arith) (omega arith) }
 
-returns-3 : tie.Need-returns-3
+returns-2 : tie.Need-returns-2
 unfolding product
-returns-3 c = rw (lt-ltb _ _ (c .before .if1 .left), lt-ltb _ _ (c .if2 .left))
+returns-2 c = rw (lt-ltb _ _ (c .if1 .left))
 
 pub product-spec : {M : Type 1} → statement M
-product-spec = tie.close (tie.spec returns returns-2 mul-result returns-3)
+product-spec = tie.close (tie.spec returns mul-result returns-2)
