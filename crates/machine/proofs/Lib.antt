@@ -40,5 +40,6 @@ pub mod ClockTerm
 pub mod RecordRoom
 pub mod WiderParsing
 pub mod SameTurns
+pub mod LaterClock
 pub mod OlderTapes
 pub mod Demand3

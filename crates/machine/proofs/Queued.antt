@@ -13,7 +13,7 @@ use Rattle.machine.specs.Transaction.{Transaction, precedes}
 use Rattle.machine.specs.Lists.{insert, those, others, nth, setNth}
 use Rattle.machine.specs.Term.{Server, idleServer, free}
 use Rattle.machine.specs.Block.{facility, storage, shareServer, shareUnits, Block, generate, advance, terminate, takes, frees, waitServer, waitTerms, moves, assign, priority, split, counts, facts, BlockModel, blockAt}
-use Rattle.machine.specs.Setters.{withInUse, withReturning}
+use Rattle.machine.specs.Setters.{withUse, withReturning}
 use Rattle.machine.specs.Moves.{wake}
 use Rattle.machine.specs.Claims.{Each}
 use Rattle.machine.proofs.Proper.{Proper, ProperBlock, servers}
@@ -74,15 +74,15 @@ module _ {m : BlockModel} {t : Transaction} {rel : List Transaction} {l : List S
           (ql-more (grows .keeps) (ql-else (leaves v′ a n) (w .ql-waits v′ a b)))
 
   -- 4 SEIZE and 6 ENTER, getting in
-  pub taken-queued : {tape : List (List ℕ)} (b : ℕ) → Proper m tape → v ≤ servers m → (v ≤ m .facilities → serverIn l v .capacity ≡ 1)
-      → AtServer m v t → unitsOf m t ≡ b → Queued m rel rel (setNth l v (withInUse (serverIn l v .inUse + b) (serverIn l v))) ql
-  taken-queued b proper known whole at units =
+  pub taken-queued : {tape : List (List ℕ)} (b holder : ℕ) → Proper m tape → v ≤ servers m → (v ≤ m .facilities → serverIn l v .capacity ≡ 1)
+      → AtServer m v t → unitsOf m t ≡ b → Queued m rel rel (setNth l v (withUse (serverIn l v .inUse + b) holder (serverIn l v))) ql
+  taken-queued b holder proper known whole at units =
       subst (λ ql′. Queued m rel rel (setNth l v x) ql′) (set-getD ql (v - 1) [])
       (queued-set x q rel (λ v′ a n h. n (sym h ∙ at)) (grows-not rel) (w .ql-sorted (v - 1)) (w .ql-stands v one)
       (waits (w .ql-waits v one known)))
     where
       x : Server
-      x = withInUse (serverIn l v .inUse + b) (serverIn l v)
+      x = withUse (serverIn l v .inUse + b) holder (serverIn l v)
 
       waits : QlWaits m (t ∷ rel) (serverIn l v) v q → QlWaits m rel x v q
       waits (nobodyFits h) =

@@ -17,7 +17,7 @@ use Rattle.machine.specs.Block.{BlockModel}
 use Rattle.machine.specs.Decode.{modelFields, listField}
 use Rattle.machine.specs.Trace.{recordFields}
 use Rattle.machine.specs.Validate.{targetsMove, wellFormed, modelOf, tapeOf}
-use Rattle.machine.specs.OlderTapes.{AllowsNoLess}
+use Rattle.machine.specs.OlderTapes.{Wider}
 use Rattle.machine.proofs.RunLaws.{cond-cases}
 
 -- ---- Definition
@@ -95,7 +95,7 @@ module _ {most more : ℕ} (larger : most ≤ more) where
 
 -- ---- The tape and a record
 
-module _ {old new : Rules} (less : AllowsNoLess old new) (s : List ℕ) where
+module _ {old new : Rules} (less : Wider old new) (s : List ℕ) where
   list-widens : Widens (listField s old) (listField s new)
   unfolding listField
   list-widens =

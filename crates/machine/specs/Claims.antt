@@ -9,6 +9,7 @@ use lib.ListN.{length, getD, drop}
 use Rattle.machine.specs.Limits.{maxTurns}
 use Rattle.machine.specs.Transaction.{Transaction}
 use Rattle.machine.specs.Lists.{those, flat, nth}
+unfoldable pub use Rattle.machine.specs.Lists.{bit, upTo}
 use Rattle.machine.specs.Term.{serverAt}
 use Rattle.machine.specs.Facts.{Facts, isGenerate}
 use Rattle.machine.specs.Block.{Code, U, NU, E, NE, F, NF, status, Block, facts, BlockModel, blockAt}
@@ -24,15 +25,6 @@ use Rattle.machine.specs.Outcome.{Outcome}
 -- how many of a list pass a test
 unfoldable pub count : {A : Type 0} → (A → Bool) → List A → ℕ
 count p l = length (those p l)
-
-abbrev pub bit : Bool → ℕ
-bit true = 1
-bit false = 0
-
--- f 1 + f 2 + .. + f n
-unfoldable pub upTo : ℕ → (ℕ → ℕ) → ℕ
-upTo zero f = 0
-upTo (suc n) f = upTo n f + f (suc n)
 
 -- ---- One place each
 
@@ -195,7 +187,7 @@ Demand3 m tape budget room = Each (Keeps m tape) (states m tape budget room)
 
 -- "run for at most the stated number of turns, always to a stated end"
 abbrev pub statedEnd : ℕ → Bool
-statedEnd n = leb 1 n && leb n 4 || leb 21 n && leb n 26
+statedEnd n = leb 1 n && leb n 4 || leb 21 n && leb n 28
 
 pub record Bounded (budget : ℕ) (s : State) : Type 0 where
   pub within-budget : s .turns ≤ budget
