@@ -176,7 +176,7 @@ module _ (m : BlockModel) (tape : List (List ℕ)) (f : ℕ → ℕ) where
       balanced-takeFirst _ _ refl (moving-nextEvents (s .fel) s ∙ n) (weighs-nextEvents 0 (s .fel) s w)
   balanced-takeReady (t ∷ l) s e n w = balanced-takeFirst (t ∷ l) s e n w
 
-  balanced-taking : (o : Option Transaction) (s : State) → s .moving ≡ o → Balanced s → Balanced (taking o s)
+  pub balanced-taking : (o : Option Transaction) (s : State) → s .moving ≡ o → Balanced s → Balanced (taking o s)
   unfolding taking
   balanced-taking none s e w = balanced-takeReady (s .rel) s refl e (subst (λ o. Weighs (held o) s) e w)
   balanced-taking (some t) s e w = w

@@ -309,7 +309,7 @@ module _ (m : BlockModel) (tape : List (List ℕ)) where
   booked-takeReady [] s h = booked-takeFirst _ _ (booked-nextEvents (s .fel) s h)
   booked-takeReady (t ∷ l) s h = booked-takeFirst (t ∷ l) s h
 
-  booked-taking : (o : Option Transaction) (s : State) → Books s → Books (taking o s)
+  pub booked-taking : (o : Option Transaction) (s : State) → Books s → Books (taking o s)
   unfolding taking
   booked-taking none s h = booked-takeReady (s .rel) s h
   booked-taking (some t) s h = h

@@ -42,4 +42,5 @@ pub mod WiderParsing
 pub mod SameTurns
 pub mod LaterClock
 pub mod OlderTapes
+pub mod Holders
 pub mod Demand3
