@@ -101,5 +101,5 @@ module _ (new : Rules) (m : BlockModel) (higher : m .rules .maxClock ≤ new .ma
 
   pub later-same : (tape : List (List ℕ)) (budget room : ℕ) → NotLate (run m tape budget room) → run m′ tape budget room ≡ run m tape budget room
   later-same tape budget room h =
-      run-same new m budget room (λ s. Unit {0}) NotLate (λ s t i. tt) (λ s t i h. same-turn s h) (λ s t h e. omega (arith, t .no-end))
+      run-same new m budget room (λ s. Unit {0}) NotLate (λ s t i. tt) (λ s t i h. same-turn s h) (λ s t i h e. omega (arith, t .no-end))
       same-close tape tt h

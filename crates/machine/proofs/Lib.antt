@@ -43,4 +43,5 @@ pub mod SameTurns
 pub mod LaterClock
 pub mod OlderTapes
 pub mod Holders
+pub mod OnlyHolder
 pub mod Demand3

@@ -16,7 +16,7 @@ use Rattle.machine.specs.Validate.{beginning, modelOf, tapeOf, Validatio
 use Rattle.machine.specs.Outcome.{acceptedRun, refusedRun, outcomeOf, outcome}
 use Rattle.machine.specs.OlderTapes.{Wider, AllowsNoLess, SameBytes, KeepsRuns, KeepsTraces}
 use Rattle.machine.proofs.ProperFrom.{rules-from, refusal-from}
-use Rattle.machine.proofs.WiderParsing.{Kept, withRules, underRules, tape-widens, record-widens, model-read}
+use Rattle.machine.proofs.WiderParsing.{Kept, withRules, underRules, tape-widens, record-widens, model-read, own-rules}
 use Rattle.machine.proofs.SameTurns.{accepted-same}
 use Rattle.machine.proofs.LaterClock.{later-same}
 
@@ -32,26 +32,17 @@ asked : (new : Rules) (b : Bool) (n : ℕ) (x x′ : Validation) → Accepted ne
 asked new true n x x′ h = h
 asked new false n x x′ h = tt
 
-rulesOf : Parsed BlockModel → Rules
-rulesOf (parsed m c) = m .rules
-rulesOf (refused n) = document01
-
 module _ {old new : Rules} (wider : Wider old new) where
   with-tape : (m : BlockModel) (r r′ : Parsed (List (List ℕ))) → Kept r r′ → Accepted new (withTape m r) (withTape (withRules new m) r′)
   unfolding withTape
   with-tape m (parsed t c) r′ h = rw h
   with-tape m (refused n) r′ h = tt
 
-  -- a model that was read has the rules that it was read by
-  own-rules : (model : List ℕ) (m : BlockModel) (c : Cursor) → modelOf old model beginning ≡ parsed m c → m .rules ≡ old
-  unfolding rulesOf
-  own-rules model m c e = ap rulesOf (sym e ∙ model-read old old model beginning ∙ ap (underRules old) e)
-
   with-model : (model tape : List ℕ) (r : Parsed BlockModel) → modelOf old model beginning ≡ r → Accepted new (withModel tape r) (withModel tape (underRules new r))
   unfolding withModel
   with-model model tape (parsed m c) e =
       with-tape m _ _
-      (subst (λ rules. Kept (tapeOf rules tape (m .lists) beginning) (tapeOf new tape (m .lists) beginning)) (sym (own-rules model m c e))
+      (subst (λ rules. Kept (tapeOf rules tape (m .lists) beginning) (tapeOf new tape (m .lists) beginning)) (sym (own-rules old model m c e))
       (tape-widens wider tape (m .lists) .from beginning))
   with-model model tape (refused n) e = tt
 

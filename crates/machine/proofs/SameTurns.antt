@@ -107,17 +107,18 @@ module _ (new : Rules) (m : BlockModel) where
   -- `Same` of a turn's outcome makes it the same turn, in states in which `I` holds; who has it now, had it before
   module _ (budget room : ℕ) (I Same : State → Type 0) (step : (s : State) → Taken budget room s → I s → I (turn m s))
       (same : (s : State) → Taken budget room s → I s → Same (turn m s) → turn m′ s ≡ turn m s)
-      (back : (s : State) → Taken budget room s → Same (turn m s) → Same s)
+      (back : (s : State) → Taken budget room s → I s → Same (turn m s) → Same s)
       (close : (s : State) (e : ℕ) → Before budget room s e → (e ≡ 0 → ⊥) → Same (setEnd e s) → Same s) where
-    same-before : (n : ℕ) (s : State) → Same (runFrom n m budget room s) → Same s
+    same-before : (n : ℕ) (s : State) → I s → Same (runFrom n m budget room s) → Same s
     unfolding runFrom
-    same-before zero s h = h
-    same-before (suc n) s h = go (eqb (endBefore budget room s) 0) refl (same-before n (turn m s))
+    same-before zero s i h = h
+    same-before (suc n) s i h = go (eqb (endBefore budget room s) 0) refl (same-before n (turn m s))
       where
-        go : (b : Bool) → eqb (endBefore budget room s) 0 ≡ b → (Same (runFrom n m budget room (turn m s)) → Same (turn m s)) → Same s
+        go : (b : Bool) → eqb (endBefore budget room s) 0 ≡ b → (I (turn m s) → Same (runFrom n m budget room (turn m s)) → Same (turn m s)) → Same s
         go true e k =
             let z : endBefore budget room s ≡ 0 = eqb-true _ _ e in
-            back s (taken-of (before budget room s) z) (k (subst Same (run-on m budget room n s z) h))
+            let t : Taken budget room s = taken-of (before budget room s) z in
+            back s t i (k (step s t i) (subst Same (run-on m budget room n s z) h))
         go false e k =
             let z : (endBefore budget room s ≡ 0 → ⊥) = eqb-false _ _ e in
             close s _ (before budget room s) z (subst Same (run-off m budget room n s z) h)
@@ -135,7 +136,7 @@ module _ (new : Rules) (m : BlockModel) where
             let t : Taken budget room s = taken-of (before budget room s) z in
             let on = run-on m budget room n s z in
             let left : Same (runFrom n m budget room (turn m s)) = subst Same on h in
-            run-on m′ budget room n s z ∙ ap (runFrom n m′ budget room) (same s t i (same-before n (turn m s) left)) ∙ k (step s t i) left ∙ sym on
+            run-on m′ budget room n s z ∙ ap (runFrom n m′ budget room) (same s t i (same-before n (turn m s) (step s t i) left)) ∙ k (step s t i) left ∙ sym on
         go false e k =
             let z : (endBefore budget room s ≡ 0 → ⊥) = eqb-false _ _ e in
             run-off m′ budget room n s z ∙ sym (run-off m budget room n s z)

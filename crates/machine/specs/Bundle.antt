@@ -14,8 +14,9 @@ use Rattle.machine.specs.Report.{recordsAt, serverNumbers, queueNumbers,
 use Rattle.machine.specs.Decode.{relationOf, codeOf, simpleTerm, blockTerm, counted, mentioned, valueNumber, sumTerms, sumField, bracketField, comparisonField, mentionField, taggedTerm, valueTerm, valueField, valueFields, codeServer, storageUnits, operands, blockField, modelFields, atEnd, listField}
 use Rattle.machine.specs.Validate.{wellPlaced, allOf, targetsMove, wellFormed, modelOf, tapeOf, withTape, withModel, validate, termNames, sumNames}
 use Rattle.machine.specs.Outcome.{recordsOf, acceptedRun, refusedRun, outcomeOf, outcome}
+use Rattle.machine.specs.OnlyHolder.{heldBy, byHolder, freeHanded, ownOnly}
 use Rattle.machine.specs.Claims.{count, upTo, everyone, standing, nextRecord, waitEnd, generatesOf, madeAtStart, usedBy, madeBy, endedBy, isLiving, livingCount, ableOnQl, ableOnWel, ableOnWels, ableToGo, equalWaits, holderBy, livingAt, standingAt}
 
 unfoldable pub everything : Unit {0}
-unfolding upper numberBytes longer groups padded within readNumber countLow continue ask times fieldOf fieldUpTo recordBytes traceBytes recordFields reading readRecord inRanges writeRecord newborn precedes earlier insert those flat idleServer emptyQueue serverAt queueAt signed low32 wrap eqZ related worths evaluate compare truth term sum status codeIndex shareServer shareUnits shareFacility shareHolder welIndex arrivals unconditional compared facts recordOf log enters moveTo toRel toFel toQl toWel toWsl mustWait wake wakeFirstQl wakeQl wakeFirstWel wakeWsl setUse setContent arrival copies askGenerate askAdvance askContent askHolder held question checkWel checkWels fits takeUnits wakeFor endsOne delay changed effect sampleServers sampleQueue sample arriveAll due moveClock nextEvents takeFirst takeReady taking answer execute holds waitsOn wsScheme turn isNone isEmpty nobodyLeft endBefore startOf startAt idle start runFrom statesFrom run states recordsAt serverNumbers queueNumbers placed movingOne places byNumber placeNumbers reportNumbers reportBytes relationOf codeOf simpleTerm blockTerm counted mentioned valueNumber sumTerms sumField bracketField comparisonField mentionField taggedTerm valueTerm valueField valueFields codeServer storageUnits operands blockField modelFields atEnd listField wellPlaced allOf targetsMove wellFormed modelOf tapeOf withTape withModel validate termNames sumNames recordsOf acceptedRun refusedRun outcomeOf outcome count upTo everyone standing nextRecord waitEnd generatesOf madeAtStart usedBy madeBy endedBy isLiving livingCount ableOnQl ableOnWel ableOnWels ableToGo equalWaits holderBy livingAt standingAt
+unfolding upper numberBytes longer groups padded within readNumber countLow continue ask times fieldOf fieldUpTo recordBytes traceBytes recordFields reading readRecord inRanges writeRecord newborn precedes earlier insert those flat idleServer emptyQueue serverAt queueAt signed low32 wrap eqZ related worths evaluate compare truth term sum status codeIndex shareServer shareUnits shareFacility shareHolder welIndex arrivals unconditional compared facts recordOf log enters moveTo toRel toFel toQl toWel toWsl mustWait wake wakeFirstQl wakeQl wakeFirstWel wakeWsl setUse setContent arrival copies askGenerate askAdvance askContent askHolder held question checkWel checkWels fits takeUnits wakeFor endsOne delay changed effect sampleServers sampleQueue sample arriveAll due moveClock nextEvents takeFirst takeReady taking answer execute holds waitsOn wsScheme turn isNone isEmpty nobodyLeft endBefore startOf startAt idle start runFrom statesFrom run states recordsAt serverNumbers queueNumbers placed movingOne places byNumber placeNumbers reportNumbers reportBytes relationOf codeOf simpleTerm blockTerm counted mentioned valueNumber sumTerms sumField bracketField comparisonField mentionField taggedTerm valueTerm valueField valueFields codeServer storageUnits operands blockField modelFields atEnd listField wellPlaced allOf targetsMove wellFormed modelOf tapeOf withTape withModel validate termNames sumNames recordsOf acceptedRun refusedRun outcomeOf outcome count upTo everyone standing nextRecord waitEnd generatesOf madeAtStart usedBy madeBy endedBy isLiving livingCount ableOnQl ableOnWel ableOnWels ableToGo equalWaits holderBy livingAt standingAt heldBy byHolder freeHanded ownOnly
 everything = tt
