@@ -23,7 +23,7 @@ item1 = record { maxClock = Limits.maxClock; maxTime = Limits.maxTime; maxNumber
 
 -- and with item 6, "Only the holder releases"
 abbrev pub document02 : Rules
-document02 = record { maxClock = Limits.maxClock; maxTime = Limits.maxTime; maxNumber = Limits.fiveGroups; holders = true }
+document02 = record { maxClock = item1 .maxClock; maxTime = item1 .maxTime; maxNumber = item1 .maxNumber; holders = true }
 
 -- the rules that the engine keeps
 abbrev pub inForce : Rules
