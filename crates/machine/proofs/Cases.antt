@@ -3,17 +3,14 @@
 use Prim.Native.Nat.{ℕ}
 use mathlib.Core.Path.{_≡_, refl, sym}
 use mathlib.Core.Bool.{Bool, true, false, not}
-use mathlib.Core.List.{List, [], _∷_}
-use mathlib.Core.Option.{Option}
 use borrow.Author.Tests.{eqb-true, eqb-false}
 use Rattle.machine.specs.Transaction.{Transaction}
 use Rattle.machine.specs.Term.{Term, Relation, serverAt, compare}
 use Rattle.machine.specs.Facts.{isGenerate}
-use Rattle.machine.specs.Block.{Code, U, NU, E, NE, F, NF, status, Block, generate, advance, terminate, takes, frees, waitServer, waitTerms, moves, assign, priority, split, counts, facts, BlockModel}
+use Rattle.machine.specs.Block.{Code, U, NU, E, NE, F, NF, status, Block, waitTerms, facts, BlockModel}
 use Rattle.machine.specs.State.{State}
-use Rattle.machine.specs.Setters.{setMoving}
 use Rattle.machine.specs.Moves.{enters, goOn, toWsl, mustWait, wakeFirstWel, wakeWsl, timesLeft, arrival}
-use Rattle.machine.specs.Execute.{askGenerate, askAdvance, question, checkWel, checkWels, effect}
+use Rattle.machine.specs.Execute.{checkWel, checkWels, effect}
 use Rattle.machine.specs.Turn.{waitsOn, wsScheme}
 use Rattle.machine.specs.Run.{startOf}
 use Rattle.machine.proofs.RunLaws.{cond-cases}

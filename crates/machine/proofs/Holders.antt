@@ -1,8 +1,8 @@
 -- Document 02, item 6: in every state of a run each facility is in use exactly if it has a holder, the one that the records tell;
 -- where the rules ask 27 and 28, the holder is living. Every turn keeps it.
-use Prim.Native.Nat.{ℕ, zero, suc, _+_, _-_, _≤_, _<_}
+use Prim.Native.Nat.{ℕ, zero, suc, _+_, _-_, _≤_}
 use mathlib.Core.Path.{_≡_, refl, sym, ap, subst, _∙_}
-use mathlib.Core.Bool.{Bool, true, false, cond, not, _&&_, _||_}
+use mathlib.Core.Bool.{Bool, true, false, not, _&&_, _||_}
 use mathlib.Core.List.{List, [], _∷_, _++_, map}
 use mathlib.Core.Option.{Option, none, some}
 use native.Mathlib.Omega.{arith}
@@ -18,7 +18,7 @@ use Rattle.machine.specs.Facts.{Facts}
 use Rattle.machine.specs.Block.{Share, facility, storage, shareServer, shareUnits, shareFacility, shareHolder, Block, generate, advance, terminate, takes, frees, waitServer, waitTerms, moves, assign, priority, split, counts, facts, BlockModel, blockAt, status}
 use Rattle.machine.specs.State.{State, Logged}
 use Rattle.machine.specs.Setters.{withUse, setMoving, setTurns}
-use Rattle.machine.specs.Moves.{recordOf, log, enters, moveTo, toRel, toFel, toQl, toWel, toWsl, mustWait, wakeFirstQl, wakeQl, wakeFirstWel, wakeWsl, setUse, setContent, timesLeft, arrival, copies}
+use Rattle.machine.specs.Moves.{recordOf, log, enters, moveTo, toRel, toFel, toQl, toWel, toWsl, mustWait, wakeFirstQl, wakeQl, wakeFirstWel, wakeWsl, setUse, setContent, arrival, copies}
 use Rattle.machine.specs.Execute.{unless, held, question, takeUnits, wakeFor, checkWels, endsOne, delay, effect, freeUnits}
 use Rattle.machine.specs.Turn.{sampleServers, sample, arriveAll, moveClock, nextEvents, takeFirst, takeReady, taking, answer, execute, wsScheme, turn}
 use Rattle.machine.specs.Run.{startAt, idle, start, states}
@@ -133,6 +133,17 @@ module _ (m : BlockModel) (tape : List (List ℕ)) where
           no-seize true = ne-eqb _ _ at
           no-seize false = refl
 
+  -- ---- Waking
+
+  holding-checkWels : (v : ℕ) (s : State) → Holding s → Holding (checkWels v s)
+  unfolding wakeFirstWel
+  holding-checkWels v s h = checkWels-kept Holding v (λ code s h. h) s h
+
+  holding-wakeFor : (x : Share) (s : State) → Holding s → Holding (wakeFor m x s)
+  unfolding wakeFor wakeFirstQl wakeQl
+  holding-wakeFor (facility v) s h = h
+  holding-wakeFor (storage v b) s h = h
+
   -- ---- Records of a block
 
   module _ (t : Transaction) (s : State) (h : Holding s) where
@@ -189,15 +200,6 @@ module _ (m : BlockModel) (tape : List (List ℕ)) where
             (held-left r (s .records) f _ (h f at) (others f at d) (λ asked e. absurd (omega (arith, ap bit e, ap (λ n. bit (eqb n 1)) ends))))
 
     -- ---- Blocks 4 to 7
-
-    holding-checkWels : (v : ℕ) (s : State) → Holding s → Holding (checkWels v s)
-    unfolding wakeFirstWel
-    holding-checkWels v s h = checkWels-kept Holding v (λ code s h. h) s h
-
-    holding-wakeFor : (x : Share) (s : State) → Holding s → Holding (wakeFor m x s)
-    unfolding wakeFor wakeFirstQl wakeQl
-    holding-wakeFor (facility v) s h = h
-    holding-wakeFor (storage v b) s h = h
 
     module _ (shape : Shape m s) where
       holding-seize : (v : ℕ) → Facility v → leb 1 (free (serverAt (s .view) v)) ≡ true → φ .server ≡ v → φ .releases ≡ 0 → φ .terminates ≡ 0
@@ -287,7 +289,7 @@ module _ (m : BlockModel) (tape : List (List ℕ)) where
     holding-effect (terminate a) o e q good =
         holding-ends t s h (ap (λ b. facts b .server) e) (ap (λ b. facts b .releases) e) (asked-none (m .rules .holders) (held m (s .view) (t .number)) q)
     holding-effect (takes x) o e q good = holding-takes t s h shape x e good lives
-    holding-effect (frees x) o e q good = holding-checkWels t s h (shareServer x) _ (holding-wakeFor t s h x _ (holding-frees t s h shape x e good))
+    holding-effect (frees x) o e q good = holding-checkWels (shareServer x) _ (holding-wakeFor x _ (holding-frees t s h shape x e good))
     holding-effect (waitServer code v) o e q good =
         cond-cases Holding (status code (serverAt (s .view) v)) _ _
         (λ k. holding-mustWait t s h (toWel v code) (λ t s h. h) (ap (λ b. facts b .releases) e) (ap (λ b. facts b .terminates) e)) (λ k. plain e refl refl refl)

@@ -19,7 +19,7 @@ use Rattle.machine.specs.Moves.{wakeWsl, timesLeft}
 use Rattle.machine.specs.Execute.{unless, living, askTime, askGenerate, askAdvance, askHolder, held, question}
 use Rattle.machine.specs.Turn.{answer, execute, wsScheme, turn}
 use Rattle.machine.specs.Run.{run}
-use Rattle.machine.proofs.RunLaws.{Taken, Before, taken, own, closing}
+use Rattle.machine.proofs.RunLaws.{Before, taken, own, closing}
 use Rattle.machine.proofs.Cases.{wsScheme-cases}
 use Rattle.machine.proofs.WiderParsing.{withRules}
 use Rattle.machine.proofs.SameTurns.{AnsweredAlike, takenFrom, turn-same, run-same}

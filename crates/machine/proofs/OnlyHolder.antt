@@ -1,34 +1,33 @@
 -- "A model whose transactions release only their own facilities, and hold none when ending, gives the trace it gave": where the records
 -- tell so, 27 and 28 are never answered, and so the run with them is the run without them.
-use Prim.Native.Nat.{ℕ, zero, suc, _≤_}
+use Prim.Native.Nat.{ℕ, zero, suc}
 use mathlib.Core.Path.{_≡_, refl, sym, ap, subst, _∙_}
 use mathlib.Core.Bool.{Bool, true, false, cond, not, _&&_, _||_}
 use mathlib.Core.List.{List, [], _∷_}
 use mathlib.Core.Option.{Option, none, some}
 use native.Mathlib.Omega.{arith}
-use borrow.Author.Tests.{eqb-true, eq-eqb, ne-eqb}
+use borrow.Author.Tests.{eq-eqb, ne-eqb}
 use lib.Dec.{leb, eqb, T}
 use Rattle.machine.specs.Limits.{workNumbers, reportRoom}
 use Rattle.machine.specs.Rules.{Rules, document01, item1, document02, inForce}
 use Rattle.machine.specs.Parser.{Parsed, parsed, refused}
 use Rattle.machine.specs.Transaction.{Transaction}
 use Rattle.machine.specs.Term.{serverAt}
-use Rattle.machine.specs.Block.{Share, facility, storage, shareServer, shareUnits, shareFacility, Block, generate, advance, terminate, takes, frees, waitServer, waitTerms, moves, assign, priority, split, counts, facts, BlockModel, blockAt}
+use Rattle.machine.specs.Block.{facility, storage, shareServer, shareUnits, shareFacility, Block, generate, advance, terminate, takes, frees, waitServer, waitTerms, moves, assign, priority, split, counts, facts, BlockModel, blockAt}
 use Rattle.machine.specs.State.{State, Logged}
 use Rattle.machine.specs.Setters.{setMoving}
-use Rattle.machine.specs.Moves.{recordOf, log, enters, moveTo, wakeFirstQl, wakeQl, wakeFirstWel, wakeWsl, setUse, timesLeft}
-use Rattle.machine.specs.Execute.{unless, askGenerate, askAdvance, askHolder, held, question, wakeFor, checkWels, freeUnits, endsOne, effect}
-use Rattle.machine.specs.Turn.{taking, answer, execute, wsScheme, turn}
+use Rattle.machine.specs.Moves.{recordOf, log, enters, moveTo, wakeFirstQl, wakeFirstWel, wakeWsl, setUse, timesLeft}
+use Rattle.machine.specs.Execute.{unless, askGenerate, askAdvance, askHolder, held, question, wakeFor, endsOne, effect}
+use Rattle.machine.specs.Turn.{answer, execute, wsScheme, turn}
 use Rattle.machine.specs.Run.{run}
 use Rattle.machine.specs.Decode.{listField}
 use Rattle.machine.specs.Validate.{beginning, modelOf, tapeOf, Validation, accept, reject, withTape, withModel, validate}
 use Rattle.machine.specs.Outcome.{acceptedRun, outcomeOf, outcome}
-use Rattle.machine.specs.Claims.{bit, upTo, terminates, holderBy}
+use Rattle.machine.specs.Claims.{bit, terminates, holderBy}
 use Rattle.machine.specs.OlderTapes.{SameBytes}
 use Rattle.machine.specs.OnlyHolder.{asking, heldBy, byHolder, freeHanded, ownOnly, OwnOnly, KeepsOwnRuns}
 use Rattle.machine.proofs.Proper.{Proper, ProperBlock, Names}
 use Rattle.machine.proofs.ProperFrom.{proper-from, rules-from}
-use Rattle.machine.proofs.RunLaws.{Taken, Before}
 use Rattle.machine.proofs.Cases.{checkWels-kept, wsScheme-cases}
 use Rattle.machine.proofs.Kept.{taking-kept}
 use Rattle.machine.proofs.Shape.{Shape, shape-closed}

@@ -12,11 +12,11 @@ use borrow.Author.Tests.{leb-false, lt-leb, not-true}
 use Rattle.machine.specs.Transaction.{Transaction, precedes}
 use Rattle.machine.specs.Lists.{insert, those, others, nth, setNth}
 use Rattle.machine.specs.Term.{Server, idleServer, free}
-use Rattle.machine.specs.Block.{facility, storage, shareServer, shareUnits, Block, generate, advance, terminate, takes, frees, waitServer, waitTerms, moves, assign, priority, split, counts, facts, BlockModel, blockAt}
+use Rattle.machine.specs.Block.{facility, storage, shareServer, shareUnits, Block, facts, BlockModel, blockAt}
 use Rattle.machine.specs.Setters.{withUse, withReturning}
 use Rattle.machine.specs.Moves.{wake}
 use Rattle.machine.specs.Claims.{Each}
-use Rattle.machine.proofs.Proper.{Proper, ProperBlock, servers}
+use Rattle.machine.proofs.Proper.{Proper, ProperBlock, servers, Role, generating, taking, neither, role}
 use Rattle.machine.proofs.RunLaws.{each-map}
 use Rattle.machine.proofs.Sorted.{Sorted, each-insert, each-those, each-passes, each-drop, some-inserted, at-set, sorted-drop, sorted-those, sorted-in}
 use Rattle.machine.proofs.Waiting.{serverOf, unitsOf, AtServer, serverIn, Next, QlWaits, nobodyFits, nextReady, Queued}
@@ -24,26 +24,17 @@ use Rattle.machine.proofs.Ready.{Grows, grows-not, grows-wake, ql-more,
 
 -- ---- The units of a SEIZE
 
-seize-units : (m : BlockModel) (b : Block) → ProperBlock m b → 1 ≤ facts b .server → facts b .server ≤ m .facilities → facts b .units ≡ 1
+seize-units : (m : BlockModel) {b : Block} → Role b → ProperBlock m b → 1 ≤ facts b .server → facts b .server ≤ m .facilities → facts b .units ≡ 1
 unfolding facts shareServer shareUnits
-seize-units m (generate list p) k a c = omega arith
-seize-units m (advance list) k a c = omega arith
-seize-units m (terminate a) k a′ c = omega arith
-seize-units m (takes (facility v)) k a c = refl
-seize-units m (takes (storage v b)) k a c = omega arith
-seize-units m (frees x) k a c = omega arith
-seize-units m (waitServer code v) k a c = omega arith
-seize-units m (waitTerms a r b) k a′ c = omega arith
-seize-units m (moves d target) k a c = omega arith
-seize-units m (assign i a) k a′ c = omega arith
-seize-units m (priority p) k a c = omega arith
-seize-units m (split n target) k a c = omega arith
-seize-units m (counts d q) k a c = omega arith
+seize-units m (generating list p) k a c = omega arith
+seize-units m (taking (facility v)) k a c = refl
+seize-units m (taking (storage v b)) k a c = omega arith
+seize-units m (neither e z) k a c = omega arith
 
 -- who stands at a SEIZE takes one unit
 facility-units : {m : BlockModel} {tape : List (List ℕ)} → Proper m tape → (v : ℕ) (t : Transaction) → 1 ≤ v → v ≤ m .facilities
     → AtServer m v t → unitsOf m t ≡ 1
-facility-units {m} proper v t a b e = seize-units m (blockAt m (t .next)) (proper .block (t .next)) (omega arith) (omega arith)
+facility-units {m} proper v t a b e = seize-units m (role (blockAt m (t .next))) (proper .block (t .next)) (omega arith) (omega arith)
 
 -- ---- One server and its QL change
 

@@ -10,12 +10,12 @@ use lib.Seq.{getD-set-same}
 use Rattle.machine.specs.Transaction.{Transaction}
 use Rattle.machine.specs.Lists.{those}
 use Rattle.machine.specs.Term.{serverAt, free}
-use Rattle.machine.specs.Block.{Code, U, NU, E, NE, F, NF, status, Share, facility, storage, shareServer, shareUnits, Block, generate, advance, terminate, takes, frees, waitServer, waitTerms, moves, assign, priority, split, counts, facts, BlockModel, blockAt, welIndex}
+use Rattle.machine.specs.Block.{Code, status, Share, facility, storage, shareServer, shareUnits, Block, generate, advance, terminate, takes, frees, waitServer, waitTerms, moves, assign, priority, split, counts, facts, BlockModel, blockAt, welIndex}
 use Rattle.machine.specs.State.{State}
 use Rattle.machine.specs.Setters.{withSerial}
 use Rattle.machine.specs.Moves.{qlOf, welOf, log, enters, moveTo, toRel, toFel, toQl, toWel, toWsl, mustWait, wakeFirstQl, wakeQl, wakeFirstWel, setUse, setContent, arrival, copies}
 use Rattle.machine.specs.Execute.{fits, takeUnits, checkWels, endsOne, delay, effect, freeUnits, wakeFor}
-use Rattle.machine.proofs.Proper.{Proper, ProperBlock, CodeServer, Names, servers, share-server, ProperShare}
+use Rattle.machine.proofs.Proper.{Proper, ProperBlock, servers, code-server, share-server, ProperShare}
 use Rattle.machine.proofs.RunLaws.{cond-cases}
 use Rattle.machine.proofs.Cases.{checkWels-kept, waitTerms-cases}
 use Rattle.machine.proofs.Shape.{Shape, server-length, facility-capacity}
@@ -71,14 +71,6 @@ module _ (m : BlockModel) where
       wakes code s w = let g = grows-wake (take 1 (welOf s v code)) (s .rel) in queued-more (g .keeps) (g .sorted) w
 
 -- ---- The 16 kinds, for t in front of REL
-
-code-server : (m : BlockModel) (code : Code) (v : ℕ) → CodeServer m code v → Names (servers m) v
-code-server m U v k = omega arith
-code-server m NU v k = omega arith
-code-server m E v k = omega arith
-code-server m NE v k = omega arith
-code-server m F v k = omega arith
-code-server m NF v k = omega arith
 
 module _ {m : BlockModel} {tape : List (List ℕ)} (proper : Proper m tape) (t : Transaction) (s : State) (shape : Shape m s)
     (w : WaitsOver m (t ∷ s .rel) (s .rel) (s .view .servers) (s .ql) (s .wel)) (going : s .end ≡ 1 → ⊥) where
