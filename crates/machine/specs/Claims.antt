@@ -140,6 +140,7 @@ module _ (m : BlockModel) (tape : List (List ℕ)) where
   -- ---- Document 02, item 6: "A facility in use always has a living holder"
 
   -- who holds facility f by some records, newest first, 0 for nobody: who entered a SEIZE of it, after which no RELEASE of it stands
+  -- (the server that a SEIZE takes is its facility)
   unfoldable pub holderBy : List Logged → ℕ → ℕ
   holderBy [] f = 0
   holderBy (r ∷ l) f =
