@@ -253,7 +253,7 @@ module _ (m : BlockModel) (tape : List (List ℕ)) (f : ℕ → ℕ) where
       balanced-frees (storage v b) at h = balanced-leave _ v b (at .0) (at .1) h
 
       balanced-waitServer : (code : Code) (v : ℕ) → 1 ≤ v → v ≤ servers m → Shape m s → Balanced (effect m (waitServer code v) t idle-hand)
-      unfolding effect moveTo enters log
+      unfolding effect moveTo enters log takeUnits
       balanced-waitServer code v low high h =
           cond-cases Balanced (status code (serverAt (s .view) v)) _ _ (λ e. balanced-waitWel v code (wel-at h v code low high))
           (λ e. weighs-wakeFirstWel (by t) v code (enters t idle-hand) (wel-at h v code low high) entered)
@@ -275,7 +275,7 @@ module _ (m : BlockModel) (tape : List (List ℕ)) (f : ℕ → ℕ) where
 
     -- the block's question was answered, and it is proper
     balanced-effect : (b : Block) → blockAt m (t .next) ≡ b → question m b t s ≡ 0 → ProperBlock m b → Shape m s → Balanced (effect m b t idle-hand)
-    unfolding effect moveTo facts enters log toRel setContent question
+    unfolding effect moveTo facts enters log toRel setContent question takeUnits
     balanced-effect (generate list p) e q good h = weighs-arrival (by t) _ list p _ _ (entered (terminates-at e))
     balanced-effect (advance list) e q good h = balanced-delay (terminates-at e) (timesLeft s list) list q
     balanced-effect (terminate a) e q good h = balanced-terminate a (terminates-at e)

@@ -10,7 +10,7 @@ use Rattle.machine.specs.Facts.{isGenerate}
 use Rattle.machine.specs.Block.{Code, U, NU, E, NE, F, NF, status, Block, waitTerms, facts, BlockModel}
 use Rattle.machine.specs.State.{State}
 use Rattle.machine.specs.Moves.{enters, goOn, toWsl, mustWait, wakeFirstWel, wakeWsl, timesLeft, arrival}
-use Rattle.machine.specs.Execute.{checkWel, checkWels, effect}
+use Rattle.machine.specs.Execute.{checkWel, checkWels, effect, takeUnits}
 use Rattle.machine.specs.Turn.{waitsOn, wsScheme}
 use Rattle.machine.specs.Run.{startOf}
 use Rattle.machine.proofs.RunLaws.{cond-cases}
@@ -40,7 +40,7 @@ module _ (Q : State → Type 0) where
   pub waitTerms-cases : (m : BlockModel) (a : Term) (r : Relation) (b : Term) (t : Transaction) (s : State)
       → (compare (m .values) (s .view) (t .parameters) a r b ≡ true → Q (mustWait toWsl t s))
       → (compare (m .values) (s .view) (t .parameters) a r b ≡ false → Q (goOn t (enters t s))) → Q (effect m (waitTerms a r b) t s)
-  unfolding effect
+  unfolding effect takeUnits
   waitTerms-cases m a r b t s = cond-cases Q _ _ _
 
   pub wsScheme-cases : (m : BlockModel) (s : State) → (s .end ≡ 0 → Q (wakeWsl (λ t. not (waitsOn m (s .view) t)) s))

@@ -131,7 +131,7 @@ module _ (m : BlockModel) where
 
   effect-timely : (b : Block) (t : Transaction) (s : State) → question m b t s ≡ 0 → Timely (limit m) s
       → Timely (limit m) (effect m b t (setMoving none s))
-  unfolding effect question enters log setContent toRel setUse endsOne
+  unfolding effect question enters log setContent toRel setUse endsOne takeUnits
   effect-timely (generate list p) t s asked h = moves-timely _ t _ (generate-timely _ list p _ s _ asked refl (like s _ refl refl h))
   effect-timely (advance list) t s asked h = advance-timely _ list t s _ asked refl (like s _ refl refl h)
   effect-timely (terminate a) t s asked h = like s _ refl refl h

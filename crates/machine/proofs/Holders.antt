@@ -283,7 +283,7 @@ module _ (m : BlockModel) (tape : List (List ℕ)) where
 
     -- the question was answered while t moved
     holding-effect : (b : Block) (o : Option Transaction) → blockAt m (t .next) ≡ b → question m b t (setMoving o s) ≡ 0 → ProperBlock m b → Holding (effect m b t s)
-    unfolding effect facts question moveTo toRel toWel toWsl wakeFirstWel setContent endsOne
+    unfolding effect facts question moveTo toRel toWel toWsl wakeFirstWel setContent endsOne takeUnits
     holding-effect (generate list p) o e q good = holding-arrival _ list p _ _ (plain e refl refl refl)
     holding-effect (advance list) o e q good = holding-delay _ list t _ (plain e refl refl refl)
     holding-effect (terminate a) o e q good =

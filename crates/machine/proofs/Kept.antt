@@ -191,7 +191,7 @@ module _ (Q : State → Type 0) (C : Closed Q) where
   wakeFor-kept m (storage v b) s h = wakeQl-kept _ v s h
 
   pub effect-kept : (m : BlockModel) (b : Block) (t : Transaction) (s : State) → Q s → Q (effect m b t s)
-  unfolding effect setContent
+  unfolding effect setContent takeUnits
   effect-kept m (generate list p) t s h = goes-on _ t _ (arrival-kept _ list p _ _ (enters-kept t s h))
   effect-kept m (advance list) t s h = delay-kept _ list t _ (enters-kept t s h)
   effect-kept m (terminate a) t s h = endsOne-kept a _ (enters-kept t s h)

@@ -252,7 +252,7 @@ module _ (m : BlockModel) (tape : List (List ℕ)) where
 
     -- the question was answered while t moved
     booked-effect : (b : Block) (o : Option Transaction) → blockAt m (t .next) ≡ b → question m b t (setMoving o s) ≡ 0 → ProperBlock m b → Shape m s → Books (effect m b t s)
-    unfolding effect moveTo facts question toRel toQl toWel toWsl wakeFirstWel setUse setContent
+    unfolding effect moveTo facts question toRel toQl toWel toWsl wakeFirstWel setUse setContent takeUnits
     booked-effect (generate list p) o e q good shape =
         booked-generate t s h list (good .0) shape (ap (λ b. facts b .uses) e) (timesLeft s list) p (t .next) refl (ap (λ b. facts b .generates) e)
         (ap (λ b. facts b .copies) e) (ap (λ b. facts b .terminates) e)

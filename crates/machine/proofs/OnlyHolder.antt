@@ -17,7 +17,7 @@ use Rattle.machine.specs.Block.{facility, storage, shareServer, shareUni
 use Rattle.machine.specs.State.{State, Logged}
 use Rattle.machine.specs.Setters.{setMoving}
 use Rattle.machine.specs.Moves.{recordOf, log, enters, moveTo, wakeFirstQl, wakeFirstWel, wakeWsl, setUse, timesLeft}
-use Rattle.machine.specs.Execute.{unless, askGenerate, askAdvance, askHolder, held, question, wakeFor, endsOne, effect}
+use Rattle.machine.specs.Execute.{unless, askGenerate, askAdvance, askHolder, held, question, wakeFor, endsOne, effect, takeUnits}
 use Rattle.machine.specs.Turn.{answer, execute, wsScheme, turn}
 use Rattle.machine.specs.Run.{run}
 use Rattle.machine.specs.Decode.{listField}
@@ -148,7 +148,7 @@ module _ (m : BlockModel) (tape : List (List ℕ)) (proper : Proper m tape) wher
           ∙ or-else (eqb v 0) (eqb (holderBy m tape (s .records) v) (t .number)) (ne-eqb v 0 (λ e. omega arith)) by
 
       freed-records : (v : ℕ) → effect m (frees (facility v)) t (setMoving none s) .records ≡ r ∷ s .records
-      unfolding effect moveTo shareServer shareUnits wakeFor wakeFirstQl wakeFirstWel setUse enters log recordOf
+      unfolding effect moveTo shareServer shareUnits wakeFor wakeFirstQl wakeFirstWel setUse enters log recordOf takeUnits
       freed-records v = checkWels-kept (λ s′. s′ .records ≡ r ∷ s .records) v (λ code s′ h. h) _ refl
 
       release-same : (v : ℕ) → Names (m .facilities) v → facts (blockAt m (t .next)) .releases ≡ v
@@ -167,7 +167,7 @@ module _ (m : BlockModel) (tape : List (List ℕ)) (proper : Proper m tape) wher
 
       question-same : (b : Block) → blockAt m (t .next) ≡ b → ProperBlock m b → (question m b t s ≡ 0 → Own (effect m b t (setMoving none s) .records))
           → question m′ b t s ≡ question m b t s
-      unfolding question askHolder held facts shareFacility effect endsOne enters log recordOf
+      unfolding question askHolder held facts shareFacility effect endsOne enters log recordOf takeUnits
       question-same (generate list p) e good own = generate-same (timesLeft s list) s
       question-same (advance list) e good own = advance-same (timesLeft s list) s
       question-same (terminate a) e good own =

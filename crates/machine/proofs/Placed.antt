@@ -94,7 +94,7 @@ module _ (m : BlockModel) (tape : List (List ℕ)) (proper : Proper m tape) wher
         cond-cases (λ (n : ℕ). P (withNext n t)) (compare (m .values) (s .view) (t .parameters) a r b) _ _ (λ e. (ok, p .1)) (λ e. on refl)
 
     effect-placed : (b : Block) → ProperBlock m b → (facts b .leaves ≡ false → P (withNext (suc (t .next)) t)) → Everybody P (effect m b t s)
-    unfolding effect facts newborn
+    unfolding effect facts newborn takeUnits
     effect-placed (generate list k) ok on = moveTo-everybody P U _ t _ (on refl) (arrival-everybody P U _ list k _ _ (p .0, ok .1) h′)
     effect-placed (advance list) ok on = delay-everybody P U _ list t _ (on refl) h′
     effect-placed (terminate a) ok on = endsOne-everybody P U a _ h′

@@ -14,7 +14,7 @@ use Rattle.machine.specs.Block.{Share, facility, storage, shareServer, s
 use Rattle.machine.specs.State.{State, Logged}
 use Rattle.machine.specs.Setters.{setMoving, setTurns, setEnd}
 use Rattle.machine.specs.Moves.{enters, goOn}
-use Rattle.machine.specs.Execute.{question, fits, wakeFor, checkWels, freeUnits, effect}
+use Rattle.machine.specs.Execute.{question, fits, wakeFor, checkWels, freeUnits, effect, takeUnits}
 use Rattle.machine.specs.Turn.{taking, answer, execute, waitsOn, wsScheme, turn}
 use Rattle.machine.specs.Run.{endBefore, idle, start, runFrom, run, steps}
 use Rattle.machine.specs.Report.{recordsAt, serverNumbers, queueNumbers, reportNumbers, reportBytes}
@@ -38,7 +38,7 @@ module _ (new : Rules) (m : BlockModel) where
   wakes-same (storage v b) s = refl
 
   effect-same : (b : Block) (t : Transaction) (s : State) → effect m′ b t s ≡ effect m b t s
-  unfolding effect
+  unfolding effect takeUnits
   effect-same (generate list p) t s = refl
   effect-same (advance list) t s = refl
   effect-same (terminate a) t s = refl

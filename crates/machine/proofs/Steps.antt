@@ -126,7 +126,7 @@ quiet-wakeFor m (storage v b) s = quiet-wakeQl _ v s
 -- ---- Each kind
 
 pub step-effect : (m : BlockModel) (b : Block) (t : Transaction) (s : State) → ProperBlock m b → Shape m s → Step b t s (effect m b t s)
-unfolding effect facts serverAt
+unfolding effect facts serverAt takeUnits
 step-effect m (generate list p) t s h k = passes (λ n. absurd (n refl)) (quiet-moveTo _ t (quiet-arrival _ list p _ _))
 step-effect m (advance list) t s h k = passes (λ n. absurd (n refl)) (quiet-delay _ list t _)
 step-effect m (terminate a) t s h k = passes (λ n. absurd (n refl)) (quiet-endsOne a _)

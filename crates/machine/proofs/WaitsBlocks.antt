@@ -130,7 +130,7 @@ module _ {m : BlockModel} {tape : List (List ℕ)} (proper : Proper m tape) (t :
 
     -- 8 WAITIF of a code
     waitServer-walked : (code : Code) → AtWel m (welIndex v code) t → serverOf m t ≡ 0 → Walked m (effect m (waitServer code v) t s)
-    unfolding effect mustWait enters log moveTo serverAt toWel wakeFirstWel
+    unfolding effect mustWait enters log moveTo serverAt toWel wakeFirstWel takeUnits
     waitServer-walked code at off =
         cond-cases (Walked m) (status code (serverAt (s .view) v)) _ _
         (λ holds.
@@ -183,7 +183,7 @@ module _ {m : BlockModel} {tape : List (List ℕ)} (proper : Proper m tape) (t :
   frees-walked (storage v b) one known k = leave-walked v one known b
 
   pub effect-walked : (b : Block) → blockAt m (t .next) ≡ b → ProperBlock m b → Walked m (effect m b t s)
-  unfolding effect mustWait facts enters log moveTo setContent toWsl
+  unfolding effect mustWait facts enters log moveTo setContent toWsl takeUnits
   effect-walked (generate list p) e k = arrival-walked m _ list p _ (enters t s) (quiet (generate list p) e refl refl)
   effect-walked (advance list) e k = delay-walked m _ list t (enters t s) (quiet (advance list) e refl refl)
   effect-walked (terminate a) e k = endsOne-walked m a (enters t s) (quiet (terminate a) e refl refl)

@@ -80,15 +80,6 @@ checkWels v s = checkWel v NF (checkWel v F (checkWel v NE (checkWel v E (checkW
 unfoldable pub fits : BlockModel → View → ℕ → Transaction → Bool
 fits m w v t = leb (facts (blockAt m (t .next)) .units) (free (serverAt w v))
 
--- 4 SEIZE, "idle, it enters and f is in use; else it waits on the QL", 6 ENTER, "enters if b units are free, else waits"
--- Document 02, item 6: "the number of its holder, written at SEIZE"
-unfoldable pub takeUnits : Share → Transaction → State → State
-takeUnits x t s =
-    let v : ℕ = shareServer x in
-    cond (leb (shareUnits x) (free (serverAt (s .view) v)))
-    (goOn t (checkWels v (setUse v (serverAt (s .view) v .inUse + shareUnits x) (shareHolder x (t .number)) (enters t s))))
-    (mustWait (toQl v) t s)
-
 -- and nobody holds it
 abbrev pub freeUnits : ℕ → ℕ → State → State
 freeUnits v b s = setUse v (serverAt (s .view) v .inUse - b) 0 s
@@ -114,27 +105,44 @@ unfoldable pub changed : Change → ℕ → ℕ
 changed up n = n + 1
 changed down n = n - 1
 
--- Each kind, for the transaction t whose next block it is; nobody is moving in s. "terms are read before the block's own
--- entry counts, with the transaction's own parameters".
+-- What each kind does, for the transaction t whose next block it is; nobody is moving in s. It enters, with an effect on the state e in
+-- which its entry counts, or it must wait on a list. What becomes of either is said by who asks: `effect` below writes the record at once.
+-- "terms are read before the block's own entry counts, with the transaction's own parameters".
+module _ {A : Type 0} (enter : (State → State) → A) (wait : (Transaction → State → State) → A) where
+  -- 4 SEIZE, "idle, it enters and f is in use; else it waits on the QL", 6 ENTER, "enters if b units are free, else waits"
+  -- Document 02, item 6: "the number of its holder, written at SEIZE"
+  abbrev pub takingUnits : Share → Transaction → State → A
+  takingUnits x t s =
+      let v : ℕ = shareServer x in
+      cond (leb (shareUnits x) (free (serverAt (s .view) v)))
+      (enter (λ e. goOn t (checkWels v (setUse v (serverAt (s .view) v .inUse + shareUnits x) (shareHolder x (t .number)) e))))
+      (wait (toQl v))
+
+  abbrev pub doing : BlockModel → Block → Transaction → State → A
+  doing m (generate list p) t s = enter (λ e. goOn t (arrival (timesLeft s list) list p (t .next) e))
+  doing m (advance list) t s = enter (λ e. delay (timesLeft s list) list t e)
+  doing m (terminate a) t s = enter (λ e. endsOne a e)
+  doing m (takes x) t s = takingUnits x t s
+  -- "f idle; ..", "frees b; .."
+  doing m (frees x) t s =
+      enter (λ e. goOn t (checkWels (shareServer x) (wakeFor m x (freeUnits (shareServer x) (shareUnits x) e))))
+  -- "waits on the WEL while the code is true; else the first of that WEL goes to REL, go on"
+  doing m (waitServer code v) t s =
+      cond (status code (serverAt (s .view) v)) (wait (toWel v code)) (enter (λ e. goOn t (wakeFirstWel v code e)))
+  -- "waits on the WSL while true; else go on"
+  doing m (waitTerms a r b) t s =
+      cond (compare (m .values) (s .view) (t .parameters) a r b) (wait toWsl) (enter (λ e. goOn t e))
+  -- 10 IF, "true, the next block is the target, still moving; else go on". 11 GOTO, "likewise, always"
+  doing m (moves c target) t s =
+      enter (λ e. moveTo (cond (truth (m .values) (s .view) (t .parameters) c) target (suc (t .next))) t e)
+  doing m (assign k a) t s =
+      enter (λ e. goOn (withParameters (setNth (t .parameters) k (evaluate (m .values) (s .view) (t .parameters) a)) t) e)
+  doing m (priority p) t s = enter (λ e. toRel (withPriority p (withReturning false (withNext (suc (t .next)) t))) e)
+  doing m (split n target) t s = enter (λ e. goOn t (copies n target t e))
+  doing m (counts c q) t s = enter (λ e. goOn t (setContent q (changed c (queueAt (s .view) q .content)) e))
+
+unfoldable pub takeUnits : Share → Transaction → State → State
+takeUnits x t s = takingUnits (λ f. f (enters t s)) (λ put. mustWait put t s) x t s
+
 unfoldable pub effect : BlockModel → Block → Transaction → State → State
-effect m (generate list p) t s = goOn t (arrival (timesLeft s list) list p (t .next) (enters t s))
-effect m (advance list) t s = delay (timesLeft s list) list t (enters t s)
-effect m (terminate a) t s = endsOne a (enters t s)
-effect m (takes x) t s = takeUnits x t s
--- "f idle; ..", "frees b; .."
-effect m (frees x) t s =
-    goOn t (checkWels (shareServer x) (wakeFor m x (freeUnits (shareServer x) (shareUnits x) (enters t s))))
--- "waits on the WEL while the code is true; else the first of that WEL goes to REL, go on"
-effect m (waitServer code v) t s =
-    cond (status code (serverAt (s .view) v)) (mustWait (toWel v code) t s) (goOn t (wakeFirstWel v code (enters t s)))
--- "waits on the WSL while true; else go on"
-effect m (waitTerms a r b) t s =
-    cond (compare (m .values) (s .view) (t .parameters) a r b) (mustWait toWsl t s) (goOn t (enters t s))
--- 10 IF, "true, the next block is the target, still moving; else go on". 11 GOTO, "likewise, always"
-effect m (moves c target) t s =
-    moveTo (cond (truth (m .values) (s .view) (t .parameters) c) target (suc (t .next))) t (enters t s)
-effect m (assign k a) t s =
-    goOn (withParameters (setNth (t .parameters) k (evaluate (m .values) (s .view) (t .parameters) a)) t) (enters t s)
-effect m (priority p) t s = toRel (withPriority p (withReturning false (withNext (suc (t .next)) t))) (enters t s)
-effect m (split n target) t s = goOn t (copies n target t (enters t s))
-effect m (counts c q) t s = goOn t (setContent q (changed c (queueAt (s .view) q .content)) (enters t s))
+effect m b t s = doing (λ f. f (enters t s)) (λ put. mustWait put t s) m b t s
