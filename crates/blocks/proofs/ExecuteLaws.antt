@@ -87,7 +87,7 @@ module _ {m : BlockModel} {tape : List (List ℕ)} {tapeBytes tables lists : Lis
   -- ---- What it leaves
 
   pub execute-done : (b : Block) → blockAt m (t .next) ≡ b
-      → Done tapeBytes (Rows.execute tables (length (m .values)) tapeBytes (r .work) (r .tally) (r .scalars) base) (bareAnswer (question m b s) m b t s)
+      → Done tapeBytes (Rows.execute tables (length (m .values)) tapeBytes (r .work) (r .tally) (r .scalars) base) (bareAnswer (question m b t s) m b t s)
   unfolding Rows.byKind Rows.later blockForms
   execute-done (generate list p) is = by 1 _ _ refl is _ (generate-done m tape tapeBytes tables lists proper rep s sane r t stands moving list p is)
   execute-done (advance list) is = by 2 _ _ refl is _ (advance-done m tape tapeBytes tables lists proper rep s sane r t stands moving list is)

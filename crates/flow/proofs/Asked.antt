@@ -1,28 +1,22 @@
--- The questions, asked of the scalars, are the machine's; a question that is not answered by yes stops the turn.
-use Prim.Native.Nat.{ℕ, zero, suc, _+_, _-_, _≤_, min}
+-- The questions, asked of the scalars, are the machine's.
+use Prim.Native.Nat.{ℕ, suc, _+_, _-_, _≤_, min}
 use mathlib.Core.Path.{_≡_, refl, subst, _∙_, ap, sym}
 use mathlib.Core.Bool.{Bool, true, false, cond}
 use mathlib.Core.List.{List, _∷_}
-use mathlib.Core.Option.{none, some}
 use native.Mathlib.Omega.{arith}
-use borrow.Author.Tests.{ne-eqb, leb-true}
-use lib.Dec.{eqb, leb}
+use borrow.Author.Tests.{leb-true}
+use lib.Dec.{leb}
 use lib.ListN.{getD}
 use Rattle.machine.specs.Rules.{Rules, inForce}
 use Rattle.machine.specs.Limits.{maxLiving, maxClock, maxTime}
 use Rattle.tables.specs.Layout.{most64}
-use Rattle.machine.specs.Transaction.{Transaction}
-use Rattle.machine.specs.Block.{Block, BlockModel}
+use Rattle.machine.specs.Block.{BlockModel}
 use Rattle.machine.specs.State.{State}
-use Rattle.machine.specs.Setters.{setMoving}
 use Rattle.machine.specs.Moves.{timesLeft}
 use Rattle.machine.specs.Execute.{unless, living, askGenerate}
 use Rattle.state.specs.declared.scalars.Scalars.{Scalars}
-use Rattle.state.specs.Bare.{bare, bareAnswer}
 use Rattle.state.specs.Sane.{Sane}
-use Rattle.state.specs.Stands.{Rows, rowsOf, Counting, Stands, Done}
-use Rattle.moves.specs.Motion.{stopped}
-use Rattle.moves.proofs.MotionLaws.{stop-done}
+use Rattle.state.specs.Stands.{Counting}
 use Rattle.flow.specs.Questions.{askRoom, askTime, firstNo, askArrival}
 
 -- the first time of a list
@@ -86,11 +80,3 @@ unfolding askGenerate
 arrival-yes m rules s time left e =
     let q = unless-yes (leb (living s + 1) maxLiving) 20 (unless (leb (s .view .clock + time) (m .rules .maxClock)) 22 0) e in
     (leb-true (living s + 1) maxLiving (q .0), time-yes m rules s time (q .1))
-
--- ---- Asked first
-
-module _ (tapeBytes : List ℕ) (m : BlockModel) (r : Rows) (t : Transaction) (s : State) (stands : Stands tapeBytes r (some t) s) (moving : s .moving ≡ some t) (b : Block) where
-  pub asked : (q : ℕ) (rows : Rows) → (q ≡ 0 → Done tapeBytes rows (bare m b t (setMoving none s))) → Done tapeBytes (cond (eqb q 0) rows (rowsOf (stopped (r .scalars) q) (r .work) (r .tally))) (bareAnswer q m b t s)
-  unfolding bareAnswer
-  asked zero rows h = h refl
-  asked (suc n) rows h = rw (ne-eqb (suc n) 0 (λ e. omega arith)) (stop-done tapeBytes r t s n m b moving stands)

@@ -116,6 +116,6 @@ module _ (m : BlockModel) (tape : List (List ℕ)) (tapeBytes tables lists : Lis
         note = refl;
       }
 
-  pub terminate-done : Done tapeBytes (terminateRows tables (r .work) (r .tally) (r .scalars) (8 * (t .next - 1))) (bareAnswer (question m b s) m b t s)
+  pub terminate-done : Done tapeBytes (terminateRows tables (r .work) (r .tally) (r .scalars) (8 * (t .next - 1))) (bareAnswer (question m b t s) m b t s)
   unfolding question bareAnswer bare
   terminate-done = subst (λ (rows : Rows). Done tapeBytes rows (entering (endsOne a s₀))) (sym rows-are) ended

@@ -146,7 +146,7 @@ module _ (m : BlockModel) (tape : List (List ℕ)) (tapeBytes tables lists : Lis
       go true e = rw (le-ltb units b (leb-true b units e)) done
       go false e = rw (lt-ltb units b (leb-false b units e)) (stop-done tapeBytes r t s 23 m block moving stands)
 
-  pub release-done : (v : ℕ) → blockAt m (t .next) ≡ release v → Done tapeBytes (Freeing.release tables w tally x at) (bareAnswer (question m (release v) s) m (release v) t s)
+  pub release-done : (v : ℕ) → blockAt m (t .next) ≡ release v → Done tapeBytes (Freeing.release tables w tally x at) (bareAnswer (question m (release v) t s) m (release v) t s)
   unfolding Freeing.release question blockForms
   release-done v is =
       let proper′ : Names (m .facilities) v = subst (ProperBlock m) is (proper .block (t .next)) in
@@ -155,7 +155,7 @@ module _ (m : BlockModel) (tape : List (List ℕ)) (tapeBytes tables lists : Lis
       (asked (release v) 1 (Term.serverAt (s .view) v .inUse) (freeOne tables w tally x (v - 1) (Term.serverAt (s .view) v .inUse - 1))
       (release-entered v (proper′ .0) there))
 
-  pub leave-done : (v b : ℕ) → blockAt m (t .next) ≡ leave v b → Done tapeBytes (Freeing.leave tables w tally x at) (bareAnswer (question m (leave v b) s) m (leave v b) t s)
+  pub leave-done : (v b : ℕ) → blockAt m (t .next) ≡ leave v b → Done tapeBytes (Freeing.leave tables w tally x at) (bareAnswer (question m (leave v b) t s) m (leave v b) t s)
   unfolding Freeing.leave question blockForms
   leave-done v b is =
       let proper′ : Storage m v = subst (ProperBlock m) is (proper .block (t .next)) .0 in

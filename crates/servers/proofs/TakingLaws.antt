@@ -92,7 +92,7 @@ module _ (m : BlockModel) (tape : List (List ℕ)) (tapeBytes tables lists : Lis
   abbrev at : ℕ
   at = 8 * (t .next - 1)
 
-  pub seize-done : (v : ℕ) → blockAt m (t .next) ≡ seize v → Done tapeBytes (Taking.seize tables w tally x at) (bareAnswer (question m (seize v) s) m (seize v) t s)
+  pub seize-done : (v : ℕ) → blockAt m (t .next) ≡ seize v → Done tapeBytes (Taking.seize tables w tally x at) (bareAnswer (question m (seize v) t s) m (seize v) t s)
   unfolding Taking.seize question bareAnswer bare blockForms
   seize-done v is =
       let proper′ : Names (m .facilities) v = subst (ProperBlock m) is (proper .block (t .next)) in
@@ -100,7 +100,7 @@ module _ (m : BlockModel) (tape : List (List ℕ)) (tapeBytes tables lists : Lis
       rw (named tables (at + 1) v (high′ v 1 (proper′ .0) there) (proper′ .0) (operand m tape tapeBytes tables lists rep (t .next) (placed proper t s sane moving .0) (seize v) is 1 (omega arith)))
       (take-done v 1 (proper′ .0) there)
 
-  pub enter-done : (v b : ℕ) → blockAt m (t .next) ≡ enter v b → Done tapeBytes (Taking.enter tables w tally x at) (bareAnswer (question m (enter v b) s) m (enter v b) t s)
+  pub enter-done : (v b : ℕ) → blockAt m (t .next) ≡ enter v b → Done tapeBytes (Taking.enter tables w tally x at) (bareAnswer (question m (enter v b) t s) m (enter v b) t s)
   unfolding Taking.enter question bareAnswer bare blockForms
   enter-done v b is =
       let proper′ : Storage m v = subst (ProperBlock m) is (proper .block (t .next)) .0 in

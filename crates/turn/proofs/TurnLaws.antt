@@ -123,7 +123,7 @@ module _ {m : BlockModel} {tape : List (List ℕ)} {tapeBytes tables lists befor
     b = blockAt m (t .next)
 
     abbrev left : Bare
-    left = bareAnswer (question m b s) m b t s
+    left = bareAnswer (question m b t s) m b t s
 
     done : Done tapeBytes after left
     done = execute-done proper rep nested s sane r t stands moving b refl
@@ -144,7 +144,7 @@ module _ {m : BlockModel} {tape : List (List ℕ)} {tapeBytes tables lists befor
     noted-runs : Runs tapeBytes before (withNote after trace (t .number) (t .next)) (Machine.execute (some t) m s)
     unfolding withNote traced Machine.execute rowsOf noteRecord
     noted-runs =
-        subst (λ (y : State). Runs tapeBytes before (withNote after trace (t .number) (t .next)) y) (noted-answer (question m b s) m b t s)
+        subst (λ (y : State). Runs tapeBytes before (withNote after trace (t .number) (t .next)) y) (noted-answer (question m b t s) m b t s)
         (record { stands = note .stands; writes = note .writes })
 
     number-read : read w 0 (x .moving) ≡ t .number

@@ -18,10 +18,10 @@ pub record Unwritten (s x : State) : Type 0 where
   pub clock : x .view .clock ≡ s .view .clock
   pub entries : x .view .entries ≡ s .view .entries
 
-pub unwritten : (m : BlockModel) (b : Block) (t : Transaction) (s : State) → ProperBlock m b → Unwritten s (bareAnswer (question m b s) m b t s .state)
-unwritten m b t s proper = go (question m b s) refl
+pub unwritten : (m : BlockModel) (b : Block) (t : Transaction) (s : State) → ProperBlock m b → Unwritten s (bareAnswer (question m b t s) m b t s .state)
+unwritten m b t s proper = go (question m b t s) refl
   where
-    go : (n : ℕ) → question m b s ≡ n → Unwritten s (bareAnswer n m b t s .state)
+    go : (n : ℕ) → question m b t s ≡ n → Unwritten s (bareAnswer n m b t s .state)
     go zero e =
         unfold bareAnswer in
         let g = bare-gains m b t (setMoving none s) proper (question-hand m b none s ∙ e) .gains in
