@@ -72,9 +72,9 @@ content-tallying tapeBytes tally s q n low there few h =
     record {
       size = length-set tally (Layout.content + (q - 1)) n ∙ h .size;
       entries = entries-set tally (Layout.content + (q - 1)) n (s .view .entries) (omega arith) (h .entries);
-      servers = serving-set tally (Layout.content + (q - 1)) n (s .view .servers) (s .ql) (λ j a b e. omega arith) (h .servers);
+      servers = serving-set tally (Layout.content + (q - 1)) n (s .view .servers) (s .ql) (λ j a b e. omega arith) (λ v e. omega arith) (h .servers);
       queues = queueing-content tally (s .view .queues) (q - 1) n low there (h .size) (h .queues);
-      samples = sampling-set tally (Layout.content + (q - 1)) n tapeBytes (s .samples) few (omega arith) (h .samples);
+      samples = sampling-set tally (Layout.content + (q - 1)) n tapeBytes (s .samples) few (λ j a b e. omega arith) (h .samples);
     }
 
 -- ---- The blocks
