@@ -41,6 +41,7 @@ sampled ticks v q =
     record {
       capacity = v .capacity;
       inUse = v .inUse;
+      holder = v .holder;
       unitTicks = v .unitTicks + v .inUse * ticks;
       waitTicks = v .waitTicks + length q * ticks;
       longest = max (v .longest) (length q);
