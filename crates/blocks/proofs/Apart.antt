@@ -8,18 +8,21 @@ use lib.Dec.{ltb, leb, eqb}
 use lib.ListN.{getD, set}
 use lib.Seq.{getD-set-other}
 use Rattle.tables.specs.Layout as Layout
+use Rattle.rows.specs.Layout.{numberField}
+use Rattle.rows.specs.Cells.{read}
+use Rattle.rows.specs.Make.{freeRow}
 use Rattle.state.specs.declared.scalars.Scalars.{Scalars}
 use Rattle.state.specs.Stands.{Rows, rowsOf}
 use Rattle.moves.specs.Motion.{Moved, withTally, goOn, stopped}
 use Rattle.flow.specs.declared.samples.Sample.{Sample}
 use Rattle.flow.specs.Samples.{nextSample, useTime}
-use Rattle.flow.specs.Questions.{askRoom, askTime, askArrival}
+use Rattle.flow.specs.Questions.{askRoom, askTime, askArrival, askHolding}
 use Rattle.flow.specs.Sending.{arrives}
-use Rattle.flow.specs.Kinds.{arriveOn, generateWith, generateNext, generateRows, delayRows, advanceWith, advanceNext, advanceRows, terminateRows, priorityRows, splitOn, splitRows}
+use Rattle.flow.specs.Kinds.{arriveOn, generateWith, generateNext, generateRows, delayRows, advanceWith, advanceNext, advanceRows, endOne, terminateRows, priorityRows, splitOn, splitRows}
 use Rattle.flow.proofs.Untouched.{generate-untouched, advance-untouched, terminate-untouched, priority-untouched, split-untouched}
-use Rattle.servers.specs.Units.{serverAt, inUse, capacity}
+use Rattle.servers.specs.Units.{serverAt, inUse, holder, setUse, capacity}
 use Rattle.servers.specs.Taking.{holdUnits, longer, queueUp, takeUnits, seize, enter}
-use Rattle.servers.specs.Freeing.{freeOne, freeSome, release, leave}
+use Rattle.servers.specs.Freeing.{freeOne, freeSome, askRelease, release, leave}
 use Rattle.servers.specs.Waking.{shorter}
 use Rattle.servers.proofs.TakingLaws.{seize-used, enter-used}
 use Rattle.servers.proofs.FreeingLaws.{release-used, leave-used}
@@ -40,8 +43,11 @@ module _ (tally : List ℕ) where
   one-set : (j n : ℕ) → 512 ≤ j → Waits tally (set tally j n)
   one-set j n h i low high = getD-set-other tally j i n 0 (λ e. omega arith)
 
+  more-set : (l : List ℕ) (j n : ℕ) → 512 ≤ j → Waits tally l → Waits tally (set l j n)
+  more-set l j n h stays i low high = getD-set-other l j i n 0 (λ e. omega arith) ∙ stays i low high
+
   two-set : (j n k m : ℕ) → 512 ≤ j → 512 ≤ k → Waits tally (set (set tally j n) k m)
-  two-set j n k m h g i low high = getD-set-other (set tally j n) k i m 0 (λ e. omega arith) ∙ one-set j n h i low high
+  two-set j n k m h g = more-set (set tally j n) k m g (one-set j n h)
 
   same : Waits tally tally
   same i low high = refl
@@ -98,9 +104,11 @@ module _ (tables tape w tally : List ℕ) (x : Scalars) where
       either tally (eqb (getD tally (Layout.listLeft + getD tables (at + 1) 0) 0) 0) (rowsOf (stopped x 23) w tally) (advanceWith (nextSample tape tally (getD tables (at + 1) 0)) w tally x (getD tables (at + 1) 0))
       (plain tally (stopped x 23) w) (advanced-waits (nextSample tape tally (getD tables (at + 1) 0)) (getD tables (at + 1) 0))
 
-  terminate-waits : (at : ℕ) → Stays tally (terminateRows tables w tally x at)
-  unfolding terminateRows rowsOf
-  terminate-waits at = record { waits = same tally }
+  terminate-waits : (facilities at : ℕ) → Stays tally (terminateRows tables facilities w tally x at)
+  unfolding terminateRows
+  terminate-waits facilities at =
+      either tally (eqb (askHolding tally facilities (read w numberField (x .moving))) 0) (rowsOf (endOne x (getD tables (at + 1) 0)) (freeRow w (x .moving)) tally) (rowsOf (stopped x (askHolding tally facilities (read w numberField (x .moving)))) w tally)
+      (plain tally (endOne x (getD tables (at + 1) 0)) (freeRow w (x .moving))) (plain tally (stopped x (askHolding tally facilities (read w numberField (x .moving)))) w)
 
   priority-waits : (at : ℕ) → Stays tally (priorityRows tables w tally x at)
   unfolding priorityRows rowsOf
@@ -112,41 +120,46 @@ module _ (tables tape w tally : List ℕ) (x : Scalars) where
       either tally (eqb (askRoom x (getD tables (at + 1) 0)) 0) (withTally (splitOn w x (getD tables (at + 1) 0) (getD tables (at + 2) 0)) tally) (rowsOf (stopped x (askRoom x (getD tables (at + 1) 0))) w tally)
       (plain tally (splitOn w x (getD tables (at + 1) 0) (getD tables (at + 2) 0) .scalars) (splitOn w x (getD tables (at + 1) 0) (getD tables (at + 2) 0) .work)) (plain tally (stopped x (askRoom x (getD tables (at + 1) 0))) w)
 
-  held-waits : (v units all : ℕ) → Stays tally (holdUnits w tally x v units all)
+  used-units : (v units who : ℕ) → Waits tally (setUse tally v units who)
+  used-units v units who = two-set tally (Layout.inUse + v) units (Layout.holder + v) who (omega arith) (omega arith)
+
+  held-waits : (v units who all : ℕ) → Stays tally (holdUnits w tally x v units who all)
   unfolding holdUnits rowsOf
-  held-waits v units all = record { waits = one-set tally (Layout.inUse + v) units (omega arith) }
+  held-waits v units who all = record { waits = used-units v units who }
 
   queued-waits : (v : ℕ) → Stays tally (queueUp w tally x v)
   unfolding queueUp longer rowsOf
   queued-waits v = record { waits = one-set tally (Layout.qlLength + v) _ (omega arith) }
 
-  taken-waits : (v b : ℕ) → Stays tally (takeUnits tables w tally x v b)
+  taken-waits : (v b who : ℕ) → Stays tally (takeUnits tables w tally x v b who)
   unfolding takeUnits
-  taken-waits v b =
-      either tally (leb b (capacity tables v - inUse tally v)) (holdUnits w tally x v (inUse tally v + b) (capacity tables v)) (queueUp w tally x v)
-      (held-waits v (inUse tally v + b) (capacity tables v)) (queued-waits v)
+  taken-waits v b who =
+      either tally (leb b (capacity tables v - inUse tally v)) (holdUnits w tally x v (inUse tally v + b) who (capacity tables v)) (queueUp w tally x v)
+      (held-waits v (inUse tally v + b) who (capacity tables v)) (queued-waits v)
 
   seize-waits : (at : ℕ) → Stays tally (seize tables w tally x at)
   unfolding seize
-  seize-waits at = taken-waits (serverAt tables (at + 1)) 1
+  seize-waits at = taken-waits (serverAt tables (at + 1)) 1 (read w numberField (x .moving))
 
   enter-waits : (at : ℕ) → Stays tally (enter tables w tally x at)
   unfolding enter
-  enter-waits at = taken-waits (serverAt tables (at + 1)) (getD tables (at + 2) 0)
+  enter-waits at = taken-waits (serverAt tables (at + 1)) (getD tables (at + 2) 0) 0
 
   freed-waits : (v units : ℕ) → Stays tally (freeOne tables w tally x v units)
   unfolding freeOne shorter rowsOf
-  freed-waits v units = record { waits = two-set tally (Layout.inUse + v) units (Layout.qlLength + v) _ (omega arith) (omega arith) }
+  freed-waits v units = record { waits = more-set tally (setUse tally v units 0) (Layout.qlLength + v) _ (omega arith) (used-units v units 0) }
 
   release-waits : (at : ℕ) → Stays tally (release tables w tally x at)
   unfolding release
   release-waits at =
-      either tally (ltb (inUse tally (serverAt tables (at + 1))) 1) (rowsOf (stopped x 24) w tally) (freeOne tables w tally x (serverAt tables (at + 1)) (inUse tally (serverAt tables (at + 1)) - 1))
-      (plain tally (stopped x 24) w) (freed-waits (serverAt tables (at + 1)) (inUse tally (serverAt tables (at + 1)) - 1))
+      let v : ℕ = serverAt tables (at + 1) in
+      let end : ℕ = askRelease (inUse tally v) (holder tally v) (read w numberField (x .moving)) in
+      either tally (eqb end 0) (freeOne tables w tally x v (inUse tally v - 1)) (rowsOf (stopped x end) w tally)
+      (freed-waits v (inUse tally v - 1)) (plain tally (stopped x end) w)
 
   left-waits : (v units : ℕ) → Stays tally (freeSome tables w tally x v units)
   unfolding freeSome rowsOf
-  left-waits v units = record { waits = two-set tally (Layout.inUse + v) units (Layout.qlLength + v) _ (omega arith) (omega arith) }
+  left-waits v units = record { waits = more-set tally (setUse tally v units 0) (Layout.qlLength + v) _ (omega arith) (used-units v units 0) }
 
   leave-waits : (at : ℕ) → Stays tally (leave tables w tally x at)
   unfolding leave
@@ -180,8 +193,9 @@ module _ (tables tape w tally : List ℕ) (x : Scalars) (at : ℕ) where
   pub advance-apart : Apart x tally (advanceRows tables tape w tally x at)
   advance-apart = record { used = advance-untouched tables tape w tally x at .used; waits = advance-waits tables tape w tally x at .waits }
 
-  pub terminate-apart : Apart x tally (terminateRows tables w tally x at)
-  terminate-apart = record { used = terminate-untouched tables w tally x at .used; waits = terminate-waits tables tape w tally x at .waits }
+  pub terminate-apart : (facilities : ℕ) → Apart x tally (terminateRows tables facilities w tally x at)
+  terminate-apart facilities =
+      record { used = terminate-untouched tables facilities w tally x at .used; waits = terminate-waits tables tape w tally x facilities at .waits }
 
   pub priority-apart : Apart x tally (priorityRows tables w tally x at)
   priority-apart = record { used = priority-untouched tables w tally x at .used; waits = priority-waits tables tape w tally x at .waits }

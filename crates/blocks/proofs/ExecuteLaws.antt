@@ -43,29 +43,29 @@ module _ {m : BlockModel} {tape : List (List ℕ)} {tapeBytes tables lists : Lis
 
   -- by its number in the tables
   by : (n : ℕ) (b : Block) (rest : List ℕ) → blockNumbers b ≡ n ∷ rest → blockAt m (t .next) ≡ b → (a : Bare)
-      → Done tapeBytes (Rows.byKind tables (length (m .values)) tapeBytes (r .work) (r .tally) (r .scalars) base n) a
-      → Done tapeBytes (Rows.execute tables (length (m .values)) tapeBytes (r .work) (r .tally) (r .scalars) base) a
+      → Done tapeBytes (Rows.byKind tables (length (m .values)) (m .facilities) tapeBytes (r .work) (r .tally) (r .scalars) base n) a
+      → Done tapeBytes (Rows.execute tables (length (m .values)) (m .facilities) tapeBytes (r .work) (r .tally) (r .scalars) base) a
   unfolding Rows.execute
   by n b rest e is a h =
-      subst (λ (k : ℕ). Done tapeBytes (Rows.byKind tables (length (m .values)) tapeBytes (r .work) (r .tally) (r .scalars) base k) a)
+      subst (λ (k : ℕ). Done tapeBytes (Rows.byKind tables (length (m .values)) (m .facilities) tapeBytes (r .work) (r .tally) (r .scalars) base k) a)
       (at-first tables base n rest (subst (At tables base) e (numbers rep (t .next - 1) (inside proper t s sane moving) b is)) .found) h
 
   -- ---- Counts that no block touches
 
   by-apart : (n : ℕ) (b : Block) (rest : List ℕ) → blockNumbers b ≡ n ∷ rest → blockAt m (t .next) ≡ b
-      → Apart (r .scalars) (r .tally) (Rows.byKind tables (length (m .values)) tapeBytes (r .work) (r .tally) (r .scalars) base n)
-      → Apart (r .scalars) (r .tally) (Rows.execute tables (length (m .values)) tapeBytes (r .work) (r .tally) (r .scalars) base)
+      → Apart (r .scalars) (r .tally) (Rows.byKind tables (length (m .values)) (m .facilities) tapeBytes (r .work) (r .tally) (r .scalars) base n)
+      → Apart (r .scalars) (r .tally) (Rows.execute tables (length (m .values)) (m .facilities) tapeBytes (r .work) (r .tally) (r .scalars) base)
   unfolding Rows.execute
   by-apart n b rest e is h =
-      subst (λ (k : ℕ). Apart (r .scalars) (r .tally) (Rows.byKind tables (length (m .values)) tapeBytes (r .work) (r .tally) (r .scalars) base k))
+      subst (λ (k : ℕ). Apart (r .scalars) (r .tally) (Rows.byKind tables (length (m .values)) (m .facilities) tapeBytes (r .work) (r .tally) (r .scalars) base k))
       (at-first tables base n rest (subst (At tables base) e (numbers rep (t .next - 1) (inside proper t s sane moving) b is)) .found) h
 
   pub execute-apart : (b : Block) → blockAt m (t .next) ≡ b
-      → Apart (r .scalars) (r .tally) (Rows.execute tables (length (m .values)) tapeBytes (r .work) (r .tally) (r .scalars) base)
+      → Apart (r .scalars) (r .tally) (Rows.execute tables (length (m .values)) (m .facilities) tapeBytes (r .work) (r .tally) (r .scalars) base)
   unfolding Rows.byKind Rows.later blockForms
   execute-apart (generate list p) is = by-apart 1 _ _ refl is (generate-apart tables tapeBytes (r .work) (r .tally) (r .scalars) base)
   execute-apart (advance list) is = by-apart 2 _ _ refl is (advance-apart tables tapeBytes (r .work) (r .tally) (r .scalars) base)
-  execute-apart (terminate a) is = by-apart 3 _ _ refl is (terminate-apart tables tapeBytes (r .work) (r .tally) (r .scalars) base)
+  execute-apart (terminate a) is = by-apart 3 _ _ refl is (terminate-apart tables tapeBytes (r .work) (r .tally) (r .scalars) base (m .facilities))
   execute-apart (takes (facility v)) is = by-apart 4 _ _ refl is (seize-apart tables tapeBytes (r .work) (r .tally) (r .scalars) base)
   execute-apart (frees (facility v)) is = by-apart 5 _ _ refl is (release-apart tables tapeBytes (r .work) (r .tally) (r .scalars) base)
   execute-apart (takes (storage v b)) is = by-apart 6 _ _ refl is (enter-apart tables tapeBytes (r .work) (r .tally) (r .scalars) base)
@@ -87,7 +87,7 @@ module _ {m : BlockModel} {tape : List (List ℕ)} {tapeBytes tables lists : Lis
   -- ---- What it leaves
 
   pub execute-done : (b : Block) → blockAt m (t .next) ≡ b
-      → Done tapeBytes (Rows.execute tables (length (m .values)) tapeBytes (r .work) (r .tally) (r .scalars) base) (bareAnswer (question m b s) m b t s)
+      → Done tapeBytes (Rows.execute tables (length (m .values)) (m .facilities) tapeBytes (r .work) (r .tally) (r .scalars) base) (bareAnswer (question m b t s) m b t s)
   unfolding Rows.byKind Rows.later blockForms
   execute-done (generate list p) is = by 1 _ _ refl is _ (generate-done m tape tapeBytes tables lists proper rep s sane r t stands moving list p is)
   execute-done (advance list) is = by 2 _ _ refl is _ (advance-done m tape tapeBytes tables lists proper rep s sane r t stands moving list is)

@@ -15,7 +15,7 @@ use Rattle.decisions.specs.Comparison.{waitTerms, branch, assign}
 use Rattle.decisions.specs.Jumps.{goto}
 use Rattle.decisions.specs.Queues.{arrive, depart}
 
-module _ (tables : List ℕ) (values : ℕ) (tape w tally : List ℕ) (x : Scalars) (at : ℕ) where
+module _ (tables : List ℕ) (values facilities : ℕ) (tape w tally : List ℕ) (x : Scalars) (at : ℕ) where
   -- kinds 9 to 16
   unfoldable pub later : ℕ → Rows
   later kind =
@@ -32,7 +32,7 @@ module _ (tables : List ℕ) (values : ℕ) (tape w tally : List ℕ) (x : Scala
   byKind kind =
       cond (eqb kind 1) (generateRows tables tape w tally x at)
       (cond (eqb kind 2) (advanceRows tables tape w tally x at)
-      (cond (eqb kind 3) (terminateRows tables w tally x at)
+      (cond (eqb kind 3) (terminateRows tables facilities w tally x at)
       (cond (eqb kind 4) (seize tables w tally x at)
       (cond (eqb kind 5) (release tables w tally x at)
       (cond (eqb kind 6) (enter tables w tally x at)

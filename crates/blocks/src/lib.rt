@@ -19,6 +19,7 @@ use state::Scalars;
 use tables::number;
 ghost use mathlib.Core.Path.{_≡_};
 ghost use Prim.Native.Nat.{_<_, _≤_};
+ghost use Rattle.machine.specs.Limits.{maxFacilities};
 ghost use Rattle.tables.specs.Layout.{Tables, programSize};
 ghost use Rattle.rows.specs.Layout.{Room, rowCount};
 ghost use Rattle.state.specs.Stands.{rowsOf};
@@ -28,23 +29,25 @@ ghost use Rattle.blocks.specs.Execute.{execute};
 pub fn execute(
     tables: &[u32],
     values: usize,
+    facilities: usize,
     tape: &[u8],
     work: &mut [u32],
     tally: &mut [u64],
     x: Scalars,
     at: usize,
 ) -> Scalars
+    requires { ⌜ facilities ≤ maxFacilities ⌝ }
     requires { ⌜ Tables (now tables) ⌝ }
     requires { ⌜ Room (now work) ⌝ }
     requires { ⌜ x .moving < rowCount ⌝ }
     requires { ⌜ at < programSize ⌝ }
-    ensures { λ r. ⌜ rowsOf r (now (work .exit)) (now (tally .exit)) ≡ execute (now (tables .entry)) values (now (tape .entry)) (now (work .entry)) (now (tally .entry)) x at ⌝ }
+    ensures { λ r. ⌜ rowsOf r (now (work .exit)) (now (tally .exit)) ≡ execute (now (tables .entry)) values facilities (now (tape .entry)) (now (work .entry)) (now (tally .entry)) x at ⌝ }
 {
     let kind = number(tables, at);
     match kind {
         1 => generate(tables, tape, work, tally, x, at),
         2 => advance(tables, tape, work, tally, x, at),
-        3 => terminate(tables, work, tally, x, at),
+        3 => terminate(tables, facilities, work, tally, x, at),
         4 => seize(tables, work, tally, x, at),
         5 => release(tables, work, tally, x, at),
         6 => enter(tables, work, tally, x, at),

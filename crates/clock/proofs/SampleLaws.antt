@@ -41,6 +41,7 @@ sampled ticks v q =
     record {
       capacity = v .capacity;
       inUse = v .inUse;
+      holder = v .holder;
       unitTicks = v .unitTicks + v .inUse * ticks;
       waitTicks = v .waitTicks + length q * ticks;
       longest = max (v .longest) (length q);
@@ -120,6 +121,7 @@ module _ {m : BlockModel} {tape : List (List ℕ)} (proper : Proper m tape) (s :
 
   record ServerAt (v : ℕ) : Type 0 where
     in-use : getD t₁ (512 + v) 0 ≡ after v .inUse
+    holder : getD t₁ (960 + v) 0 ≡ after v .holder
     units : getD t₁ (576 + v) 0 ≡ after v .unitTicks
     waits : getD t₁ (640 + v) 0 ≡ after v .waitTicks
     longest : getD t₁ (704 + v) 0 ≡ after v .longest
@@ -134,6 +136,7 @@ module _ {m : BlockModel} {tape : List (List ℕ)} (proper : Proper m tape) (s :
       let w : length (getD (s .ql) v []) * ticks ≤ 1024 * maxClock = product-le (length (getD (s .ql) v [])) 1024 ticks (waiters-few v) few in
       record {
         in-use = at-servers .below (512 + v) (omega arith) ∙ h .servers .in-use v small ∙ sym (ap (λ x. x .inUse) is);
+        holder = at-servers .above (960 + v) (omega arith) ∙ h .servers .holders v small ∙ sym (ap (λ x. x .holder) is);
         units =
             g .units ∙ ap (λ (a : ℕ). sumOf a (getD t (512 + v) 0) ticks) (h .servers .unit-ticks v small)
             ∙ ap (λ (k : ℕ). sumOf (server v .unitTicks) k ticks) (h .servers .in-use v small)
@@ -159,6 +162,7 @@ module _ {m : BlockModel} {tape : List (List ℕ)} (proper : Proper m tape) (s :
       let g : ServerSame t t₁ v = at-servers .left v le small in
       record {
         in-use = at-servers .below (512 + v) (omega arith) ∙ h .servers .in-use v small ∙ ap (λ x. x .inUse) e;
+        holder = at-servers .above (960 + v) (omega arith) ∙ h .servers .holders v small ∙ ap (λ x. x .holder) e;
         units = g .units ∙ h .servers .unit-ticks v small ∙ ap (λ x. x .unitTicks) e;
         waits = g .waits ∙ h .servers .wait-ticks v small ∙ ap (λ x. x .waitTicks) e;
         longest = g .longest ∙ h .servers .longest v small ∙ ap (λ x. x .longest) e;
@@ -175,6 +179,7 @@ module _ {m : BlockModel} {tape : List (List ℕ)} (proper : Proper m tape) (s :
   serving =
       record {
         in-use = λ v hv. at-queues .below (512 + v) (omega arith) ∙ server-at v hv .in-use;
+        holders = λ v hv. at-queues .above (960 + v) (omega arith) ∙ server-at v hv .holder;
         unit-ticks = λ v hv. at-queues .below (576 + v) (omega arith) ∙ server-at v hv .units;
         wait-ticks = λ v hv. at-queues .below (640 + v) (omega arith) ∙ server-at v hv .waits;
         longest = λ v hv. at-queues .below (704 + v) (omega arith) ∙ server-at v hv .longest;

@@ -95,7 +95,7 @@ module _ {m : BlockModel} {tape : List (List ℕ)} {tapeBytes tables lists : Lis
       (wsl-tallying tapeBytes (r .tally) t alone (still .tallying))
 
   pub wait-terms-done : (a : Term) (o : Relation) (b : Term) → blockAt m (t .next) ≡ waitTerms a o b
-      → Done tapeBytes (withTally (Rows.waitTerms tables values (r .work) (r .tally) x base) (r .tally)) (bareAnswer (question m (waitTerms a o b) s) m (waitTerms a o b) t s)
+      → Done tapeBytes (withTally (Rows.waitTerms tables values (r .work) (r .tally) x base) (r .tally)) (bareAnswer (question m (waitTerms a o b) t s) m (waitTerms a o b) t s)
   unfolding Rows.waitTerms question bareAnswer bare
   wait-terms-done a o b e =
       rw (holds-is a o b (wait-law rep nested seen (parametersAt (r .work) (x .moving)) i there a o b e)) (go (compare (m .values) (s .view) (t .parameters) a o b))
@@ -107,7 +107,7 @@ module _ {m : BlockModel} {tape : List (List ℕ)} {tapeBytes tables lists : Lis
   -- ---- 10 IF
 
   pub branch-done : (a : Term) (o : Relation) (b : Term) (target : ℕ) → blockAt m (t .next) ≡ branch a o b target
-      → Done tapeBytes (withTally (Rows.branch tables values (r .work) (r .tally) x base) (r .tally)) (bareAnswer (question m (branch a o b target) s) m (branch a o b target) t s)
+      → Done tapeBytes (withTally (Rows.branch tables values (r .work) (r .tally) x base) (r .tally)) (bareAnswer (question m (branch a o b target) t s) m (branch a o b target) t s)
   unfolding Rows.branch question bareAnswer bare truth
   branch-done a o b target e =
       rw (holds-is a o b (if-law rep nested seen (parametersAt (r .work) (x .moving)) i there a o b target e), branch-target rep i there nested a o b target e)
@@ -120,7 +120,7 @@ module _ {m : BlockModel} {tape : List (List ℕ)} {tapeBytes tables lists : Lis
   -- ---- 11 GOTO
 
   pub goto-done : (target : ℕ) → blockAt m (t .next) ≡ goto target
-      → Done tapeBytes (withTally (Jumps.goto tables (r .work) x base) (r .tally)) (bareAnswer (question m (goto target) s) m (goto target) t s)
+      → Done tapeBytes (withTally (Jumps.goto tables (r .work) x base) (r .tally)) (bareAnswer (question m (goto target) t s) m (goto target) t s)
   unfolding Jumps.goto question bareAnswer bare truth
   goto-done target e = rw (goto-target rep i there target e) (go-to target)
 
@@ -160,7 +160,7 @@ module _ {m : BlockModel} {tape : List (List ℕ)} {tapeBytes tables lists : Lis
         (write-parameter (r .work) (x .moving) (h .shows .shown .holds .room) (h .mover .0 .row) (k - 1) worth (omega (arith, named .0, named .1))
         ∙ rw (stored, h .mover .1))
 
-    pub assign-done : Done tapeBytes (withTally (Rows.assign tables values (r .work) (r .tally) x base) (r .tally)) (bareAnswer (question m (assign k a) s) m (assign k a) t s)
+    pub assign-done : Done tapeBytes (withTally (Rows.assign tables values (r .work) (r .tally) x base) (r .tally)) (bareAnswer (question m (assign k a) t s) m (assign k a) t s)
     unfolding Rows.assign question bareAnswer bare
     assign-done =
         rw written

@@ -72,9 +72,9 @@ content-tallying tapeBytes tally s q n low there few h =
     record {
       size = length-set tally (Layout.content + (q - 1)) n ∙ h .size;
       entries = entries-set tally (Layout.content + (q - 1)) n (s .view .entries) (omega arith) (h .entries);
-      servers = serving-set tally (Layout.content + (q - 1)) n (s .view .servers) (s .ql) (λ j a b e. omega arith) (h .servers);
+      servers = serving-set tally (Layout.content + (q - 1)) n (s .view .servers) (s .ql) (λ j a b e. omega arith) (λ v e. omega arith) (h .servers);
       queues = queueing-content tally (s .view .queues) (q - 1) n low there (h .size) (h .queues);
-      samples = sampling-set tally (Layout.content + (q - 1)) n tapeBytes (s .samples) few (omega arith) (h .samples);
+      samples = sampling-set tally (Layout.content + (q - 1)) n tapeBytes (s .samples) few (λ j a b e. omega arith) (h .samples);
     }
 
 -- ---- The blocks
@@ -131,7 +131,7 @@ module _ {m : BlockModel} {tape : List (List ℕ)} {tapeBytes tables lists : Lis
   -- ---- 15 ARRIVE
 
   pub arrive-done : (q : ℕ) → blockAt m (t .next) ≡ arrive q
-      → Done tapeBytes (Rows.arrive tables (r .work) (r .tally) x base) (bareAnswer (question m (arrive q) s) m (arrive q) t s)
+      → Done tapeBytes (Rows.arrive tables (r .work) (r .tally) x base) (bareAnswer (question m (arrive q) t s) m (arrive q) t s)
   unfolding Rows.arrive question askContent bareAnswer bare changed
   arrive-done q e =
       let named : Names (m .queues) q = subst (ProperBlock m) e (proper .block (t .next)) in
@@ -150,7 +150,7 @@ module _ {m : BlockModel} {tape : List (List ℕ)} {tapeBytes tables lists : Lis
     less q n f = ap (λ (n : ℕ). entering (Moves.goOn t (Moves.setContent q n alone))) (falls _ ∙ ap (λ (n : ℕ). n - 1) f)
 
     pub depart-done : (q : ℕ) → blockAt m (t .next) ≡ counts c q
-        → Done tapeBytes (Rows.depart tables (r .work) (r .tally) x base) (bareAnswer (question m (counts c q) s) m (counts c q) t s)
+        → Done tapeBytes (Rows.depart tables (r .work) (r .tally) x base) (bareAnswer (question m (counts c q) t s) m (counts c q) t s)
     unfolding Rows.depart question
     depart-done q e =
         let named : Names (m .queues) q = subst (ProperBlock m) e (proper .block (t .next)) in

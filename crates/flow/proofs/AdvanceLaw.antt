@@ -25,7 +25,7 @@ use Rattle.state.specs.Sane.{Sane}
 use Rattle.state.specs.Stands.{Rows, rowsOf, listsOf, Tallying, Stands, noteOf, Done}
 use Rattle.state.proofs.StandsLaws.{listing-ext, tallying-ext, counting-ext, stands-of, stands-moving}
 use Rattle.moves.specs.Motion.{withTally, stopped}
-use Rattle.moves.proofs.MotionLaws.{stop-done}
+use Rattle.moves.proofs.MotionLaws.{stop-done, asked}
 use Rattle.flow.specs.declared.samples.Sample.{Sample}
 use Rattle.flow.specs.Samples.{nextSample, useTime}
 use Rattle.flow.specs.Questions.{askTime}
@@ -34,7 +34,7 @@ use Rattle.tables.proofs.Operands.{operand}
 use Rattle.flow.proofs.New.{Follows}
 use Rattle.flow.proofs.Arrival.{sampled, used-tallying, move-time}
 use Rattle.state.proofs.Moving.{placed, next-low}
-use Rattle.flow.proofs.Asked.{time-most, time-asked, time-yes, asked}
+use Rattle.flow.proofs.Asked.{time-most, time-asked, time-yes}
 use Rattle.flow.proofs.Sent.{send-follows}
 
 module _ (m : BlockModel) (tape : List (List ℕ)) (tapeBytes tables lists : List ℕ) (proper : Proper m tape) (rep : Represents m tape tapeBytes tables lists)
@@ -153,7 +153,7 @@ module _ (m : BlockModel) (tape : List (List ℕ)) (tapeBytes tables lists : Lis
         subst (λ (rows : Rows). Done tapeBytes rows (bareAnswer q m b t s)) (sym unspent)
         (asked tapeBytes m r t s stands moving b q (delayRows w tally x sample (list - 1)) (λ z. delay-done (time-yes m (sane .rules) s time z)))
 
-  pub advance-done : Done tapeBytes (advanceRows tables tapeBytes (r .work) (r .tally) (r .scalars) (8 * (t .next - 1))) (bareAnswer (question m b s) m b t s)
+  pub advance-done : Done tapeBytes (advanceRows tables tapeBytes (r .work) (r .tally) (r .scalars) (8 * (t .next - 1))) (bareAnswer (question m b t s) m b t s)
   unfolding question askAdvance
   advance-done = go (Moves.timesLeft s list) refl
     where

@@ -50,8 +50,8 @@ module _ (tapeBytes tally : List ℕ) (s : State) (h : Tallying tapeBytes tally 
   used-servers : Serving used (s .view .servers) (s .ql)
   unfolding useTime
   used-servers =
-      serving-set (set tally (928 + l) (sample .next)) (944 + l) (getD tally (944 + l) 0 - 1) (s .view .servers) (s .ql) (λ j a b e. omega arith)
-      (serving-set tally (928 + l) (sample .next) (s .view .servers) (s .ql) (λ j a b e. omega arith) (h .servers))
+      serving-set (set tally (928 + l) (sample .next)) (944 + l) (getD tally (944 + l) 0 - 1) (s .view .servers) (s .ql) (λ j a b e. omega arith) (λ v e. omega arith)
+      (serving-set tally (928 + l) (sample .next) (s .view .servers) (s .ql) (λ j a b e. omega arith) (λ v e. omega arith) (h .servers))
 
   used-queues : Queueing used (s .view .queues)
   unfolding useTime

@@ -1,29 +1,26 @@
--- The questions, asked of the scalars, are the machine's; a question that is not answered by yes stops the turn.
+-- The questions, asked of the scalars, are the machine's.
 use Prim.Native.Nat.{ℕ, zero, suc, _+_, _-_, _≤_, min}
 use mathlib.Core.Path.{_≡_, refl, subst, _∙_, ap, sym}
-use mathlib.Core.Bool.{Bool, true, false, cond}
+use mathlib.Core.Bool.{Bool, true, false, cond, not, _||_}
 use mathlib.Core.List.{List, _∷_}
-use mathlib.Core.Option.{none, some}
 use native.Mathlib.Omega.{arith}
-use borrow.Author.Tests.{ne-eqb, leb-true}
+use borrow.Author.Tests.{le-ltb, leb-true}
 use lib.Dec.{eqb, leb}
-use lib.ListN.{getD}
+use lib.ListN.{length, getD}
 use Rattle.machine.specs.Rules.{Rules, inForce}
 use Rattle.machine.specs.Limits.{maxLiving, maxClock, maxTime}
-use Rattle.tables.specs.Layout.{most64}
+use Rattle.tables.specs.Layout.{most64, holder, tallySize}
 use Rattle.machine.specs.Transaction.{Transaction}
-use Rattle.machine.specs.Block.{Block, BlockModel}
+use Rattle.machine.specs.Lists.{bit, upTo}
+use Rattle.machine.specs.Term.{idleServer, serverAt}
+use Rattle.machine.specs.Block.{terminate, BlockModel}
 use Rattle.machine.specs.State.{State}
-use Rattle.machine.specs.Setters.{setMoving}
 use Rattle.machine.specs.Moves.{timesLeft}
-use Rattle.machine.specs.Execute.{unless, living, askGenerate}
+use Rattle.machine.specs.Execute.{unless, living, askGenerate, held, question}
 use Rattle.state.specs.declared.scalars.Scalars.{Scalars}
-use Rattle.state.specs.Bare.{bare, bareAnswer}
 use Rattle.state.specs.Sane.{Sane}
-use Rattle.state.specs.Stands.{Rows, rowsOf, Counting, Stands, Done}
-use Rattle.moves.specs.Motion.{stopped}
-use Rattle.moves.proofs.MotionLaws.{stop-done}
-use Rattle.flow.specs.Questions.{askRoom, askTime, firstNo, askArrival}
+use Rattle.state.specs.Stands.{Tallying, Counting}
+use Rattle.flow.specs.Questions.{askRoom, askTime, firstNo, askArrival, heldBy, askHolding}
 
 -- the first time of a list
 pub time-most : (m : BlockModel) (s : State) (list time : ℕ) (left : List ℕ) → Sane m s → timesLeft s list ≡ time ∷ left → time ≤ inForce .maxTime
@@ -87,10 +84,24 @@ arrival-yes m rules s time left e =
     let q = unless-yes (leb (living s + 1) maxLiving) 20 (unless (leb (s .view .clock + time) (m .rules .maxClock)) 22 0) e in
     (leb-true (living s + 1) maxLiving (q .0), time-yes m rules s time (q .1))
 
--- ---- Asked first
+-- ---- Who holds a facility
 
-module _ (tapeBytes : List ℕ) (m : BlockModel) (r : Rows) (t : Transaction) (s : State) (stands : Stands tapeBytes r (some t) s) (moving : s .moving ≡ some t) (b : Block) where
-  pub asked : (q : ℕ) (rows : Rows) → (q ≡ 0 → Done tapeBytes rows (bare m b t (setMoving none s))) → Done tapeBytes (cond (eqb q 0) rows (rowsOf (stopped (r .scalars) q) (r .work) (r .tally))) (bareAnswer q m b t s)
-  unfolding bareAnswer
-  asked zero rows h = h refl
-  asked (suc n) rows h = rw (ne-eqb (suc n) 0 (λ e. omega arith)) (stop-done tapeBytes r t s n m b moving stands)
+module _ (m : BlockModel) (rules : m .rules ≡ inForce) (few : m .facilities ≤ 64) (tapeBytes tally : List ℕ) (s : State) (h : Tallying tapeBytes tally s) (t : Transaction) where
+  held-is : (n : ℕ) → n ≤ 64 → heldBy tally n (t .number) ≡ upTo n (λ f. bit (eqb (serverAt (s .view) f .holder) (t .number)))
+  unfolding heldBy upTo serverAt
+  held-is zero le = refl
+  held-is (suc n) le =
+      let e : n ≡ suc n - 1 = omega arith in
+      ap (λ (k : ℕ). k + bit (eqb (getD tally (holder + n) 0) (t .number))) (held-is n (omega arith))
+      ∙ ap (λ (k : ℕ). upTo n (λ f. bit (eqb (serverAt (s .view) f .holder) (t .number))) + bit (eqb k (t .number)))
+      (h .servers .holders n (omega arith) ∙ ap (λ (i : ℕ). getD (s .view .servers) i (idleServer 0) .holder) e)
+
+  pub holding-asked : (a : ℕ) → askHolding tally (m .facilities) (t .number) ≡ question m (terminate a) t s
+  unfolding askHolding question held
+  holding-asked a =
+      rw (le-ltb (length tally) tallySize (omega (arith, h .size)), held-is (m .facilities) few)
+      (go (eqb (held m (s .view) (t .number)) 0) ∙ ap (λ (q : Rules). unless (not (q .holders) || eqb (held m (s .view) (t .number)) 0) 28 0) (sym rules))
+    where
+      go : (none : Bool) → cond none 0 28 ≡ unless none 28 0
+      go true = refl
+      go false = refl

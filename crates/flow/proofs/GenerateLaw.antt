@@ -25,7 +25,7 @@ use Rattle.state.specs.Stands.{Rows, rowsOf, Stands, noteOf, Done}
 use Rattle.machine.specs.Limits.{maxClock}
 use Rattle.state.proofs.StandsLaws.{stands-moving}
 use Rattle.moves.specs.Motion.{moved, withTally, goTo, goOn, stopped}
-use Rattle.moves.proofs.MotionLaws.{go-to-listing, go-to-counting, next-read, go-on-is, go-on-done}
+use Rattle.moves.proofs.MotionLaws.{go-to-listing, go-to-counting, next-read, go-on-is, go-on-done, asked}
 use Rattle.flow.specs.declared.samples.Sample.{Sample}
 use Rattle.flow.specs.Samples.{nextSample}
 use Rattle.flow.specs.Questions.{askArrival}
@@ -35,7 +35,7 @@ use Rattle.tables.proofs.Operands.{operand}
 use Rattle.flow.proofs.New.{Roomy}
 use Rattle.flow.proofs.Arrival.{sampled, arrives-stands, arrives-note}
 use Rattle.state.proofs.Moving.{placed, next-low}
-use Rattle.flow.proofs.Asked.{time-most, arrival-asked, arrival-yes, asked}
+use Rattle.flow.proofs.Asked.{time-most, arrival-asked, arrival-yes}
 
 module _ (m : BlockModel) (tape : List (List ℕ)) (tapeBytes tables lists : List ℕ) (proper : Proper m tape) (rep : Represents m tape tapeBytes tables lists)
     (s : State) (sane : Sane m s) (r : Rows) (t : Transaction) (stands : Stands tapeBytes r (some t) s) (moving : s .moving ≡ some t)
@@ -180,7 +180,7 @@ module _ (m : BlockModel) (tape : List (List ℕ)) (tapeBytes tables lists : Lis
         subst (λ (rows : Rows). Done tapeBytes rows (bareAnswer (askGenerate m (time ∷ left) s) m b t s)) (sym unspent)
         (asked tapeBytes m r t s stands moving b (askGenerate m (time ∷ left) s) (arriveOn w tally x sample (list - 1) p) new-done)
 
-  pub generate-done : Done tapeBytes (generateRows tables tapeBytes (r .work) (r .tally) (r .scalars) (8 * (t .next - 1))) (bareAnswer (question m b s) m b t s)
+  pub generate-done : Done tapeBytes (generateRows tables tapeBytes (r .work) (r .tally) (r .scalars) (8 * (t .next - 1))) (bareAnswer (question m b t s) m b t s)
   unfolding question askGenerate bareAnswer
   generate-done = go (Moves.timesLeft s list) refl
     where

@@ -81,6 +81,6 @@ module _ (m : BlockModel) (tape : List (List ℕ)) (tapeBytes tables lists : Lis
         note = ap noteOf (ranked .note);
       }
 
-  pub priority-done : Done tapeBytes (priorityRows tables (r .work) (r .tally) (r .scalars) (8 * (t .next - 1))) (bareAnswer (question m b s) m b t s)
+  pub priority-done : Done tapeBytes (priorityRows tables (r .work) (r .tally) (r .scalars) (8 * (t .next - 1))) (bareAnswer (question m b t s) m b t s)
   unfolding question bareAnswer bare
   priority-done = subst (λ (rows : Rows). Done tapeBytes rows (entering (toRel u s₀))) (sym rows-are) done

@@ -24,13 +24,13 @@ use Rattle.state.specs.Sane.{Sane}
 use Rattle.state.specs.Stands.{Rows, rowsOf, Listing, Tallying, Counting, Stands, noteOf, Done}
 use Rattle.state.proofs.StandsLaws.{tallying-ext, stands-of, stands-moving}
 use Rattle.moves.specs.Motion.{Moved, moved, withTally, goTo, goOn, stopped}
-use Rattle.moves.proofs.MotionLaws.{go-to-listing, go-to-counting, go-on-is}
+use Rattle.moves.proofs.MotionLaws.{go-to-listing, go-to-counting, go-on-is, asked}
 use Rattle.flow.specs.Sending.{copyOne}
 use Rattle.flow.specs.Kinds.{copiesOf, splitOn, splitRows}
 use Rattle.tables.proofs.Operands.{operand}
 use Rattle.flow.proofs.New.{Follows, Roomy, copy-follows}
 use Rattle.state.proofs.Moving.{placed, next-low}
-use Rattle.flow.proofs.Asked.{room-asked, room-yes, asked}
+use Rattle.flow.proofs.Asked.{room-asked, room-yes}
 
 -- ---- Copies
 
@@ -181,7 +181,7 @@ module _ (m : BlockModel) (tape : List (List ℕ)) (tapeBytes tables lists : Lis
     copied =
         subst (λ (z : Moved). Done tapeBytes (withTally z tally) (bare m b t s₀)) (sym split-is) done
 
-  pub split-done : Done tapeBytes (splitRows tables (r .work) (r .tally) (r .scalars) (8 * (t .next - 1))) (bareAnswer (question m b s) m b t s)
+  pub split-done : Done tapeBytes (splitRows tables (r .work) (r .tally) (r .scalars) (8 * (t .next - 1))) (bareAnswer (question m b t s) m b t s)
   unfolding question
   split-done =
       subst (λ (rows : Rows). Done tapeBytes rows (bareAnswer q m b t s)) (sym rows-are)

@@ -1,6 +1,6 @@
 -- 3 TERMINATE: the row machine does what the machine does.
 use Prim.Native.Nat.{ℕ, suc, _+_, _-_, _*_, _<_}
-use mathlib.Core.Path.{_≡_, refl, sym, ap, _∙_, subst}
+use mathlib.Core.Path.{_≡_, refl, ap, _∙_}
 use mathlib.Core.Bool.{cond}
 use mathlib.Core.List.{List, _∷_}
 use mathlib.Core.Option.{none, some}
@@ -30,8 +30,10 @@ use Rattle.state.specs.Sane.{Sane}
 use Rattle.state.specs.Stands.{Rows, rowsOf, listsOf, Listing, Counting, Stands, noteOf, Done}
 use Rattle.state.proofs.StandsLaws.{tallying-ext, stands-of, stands-moving}
 use Rattle.moves.specs.Motion.{next32}
+use Rattle.moves.proofs.MotionLaws.{number-read, asked}
 use Rattle.flow.specs.Kinds.{endOne, terminateRows}
 use Rattle.tables.proofs.Operands.{operand}
+use Rattle.flow.proofs.Asked.{holding-asked}
 use Rattle.flow.proofs.New.{next32-suc}
 use Rattle.state.proofs.Moving.{placed}
 
@@ -90,10 +92,6 @@ module _ (m : BlockModel) (tape : List (List ℕ)) (tapeBytes tables lists : Lis
   h₀ : Stands tapeBytes r (some t) s₀
   h₀ = stands-moving tapeBytes r (some t) none s stands
 
-  rows-are : terminateRows tables w tally x at ≡ rowsOf (endOne x a) (freeRow w (x .moving)) tally
-  unfolding terminateRows
-  rows-are = ap (λ (n : ℕ). rowsOf (endOne x n) (freeRow w (x .moving)) tally) operand-is
-
   counted : Counting (endOne x a) (endsOne a s₀)
   unfolding endOne endsOne
   counted =
@@ -116,6 +114,8 @@ module _ (m : BlockModel) (tape : List (List ℕ)) (tapeBytes tables lists : Lis
         note = refl;
       }
 
-  pub terminate-done : Done tapeBytes (terminateRows tables (r .work) (r .tally) (r .scalars) (8 * (t .next - 1))) (bareAnswer (question m b s) m b t s)
-  unfolding question bareAnswer bare
-  terminate-done = subst (λ (rows : Rows). Done tapeBytes rows (entering (endsOne a s₀))) (sym rows-are) ended
+  pub terminate-done : Done tapeBytes (terminateRows tables (m .facilities) (r .work) (r .tally) (r .scalars) (8 * (t .next - 1))) (bareAnswer (question m b t s) m b t s)
+  unfolding terminateRows bare
+  terminate-done =
+      rw (operand-is, number-read w x t s (stands .listing), holding-asked m (sane .rules) (omega (arith, proper .facilities)) tapeBytes tally s (stands .tallying) t a)
+      (asked tapeBytes m r t s stands moving b (question m b t s) (rowsOf (endOne x a) (freeRow w (x .moving)) tally) (λ e. ended))

@@ -5,7 +5,8 @@ use mathlib.Core.Bool.{Bool, true, false, cond}
 use mathlib.Core.List.{List}
 use lib.Dec.{eqb, ltb}
 use lib.ListN.{getD}
-use Rattle.rows.specs.Layout.{free}
+use Rattle.rows.specs.Layout.{numberField, free}
+use Rattle.rows.specs.Cells.{read}
 use Rattle.rows.specs.Lists.{first, takeFirst}
 use Rattle.state.specs.declared.scalars.Scalars.{Scalars}
 use Rattle.state.specs.Stands.{Rows, rowsOf}
@@ -13,7 +14,7 @@ use Rattle.moves.specs.Motion.{Moved, moved, goTo, goOn, stopped}
 use Rattle.flow.specs.declared.samples.Sample.{Sample}
 use Rattle.flow.specs.Samples.{nextSample}
 use Rattle.flow.specs.Sending.{plus64, toFuture, toReady, bornAt, born, arrives, copyTo, copyOne}
-use Rattle.flow.specs.Questions.{askRoom, askTime, askArrival}
+use Rattle.flow.specs.Questions.{askRoom, askTime, askArrival, askHolding}
 use Rattle.flow.specs.Kinds.{parked, arriveOn, generateWith, generateNext, generateRows, sendOn, delayRows, advanceWith, advanceNext, advanceRows, endOne, terminateRows, rankOn, priorityRows, copiesOf, splitOn, splitRows}
 
 pub record Untouched (x y : Scalars) : Type 0 where
@@ -71,9 +72,10 @@ advance-untouched tables tape w tally x at =
 
 -- ---- 3 TERMINATE
 
-pub terminate-untouched : (tables w tally : List ℕ) (x : Scalars) (at : ℕ) → Untouched x (terminateRows tables w tally x at .scalars)
+pub terminate-untouched : (tables : List ℕ) (facilities : ℕ) (w tally : List ℕ) (x : Scalars) (at : ℕ) → Untouched x (terminateRows tables facilities w tally x at .scalars)
 unfolding terminateRows endOne rowsOf
-terminate-untouched tables w tally x at = record { used = refl; turns = refl }
+terminate-untouched tables facilities w tally x at =
+    either (eqb (askHolding tally facilities (read w numberField (x .moving))) 0) x _ _ (record { used = refl; turns = refl }) (stopped-untouched x _)
 
 -- ---- 13 PRIORITY
 

@@ -5,7 +5,7 @@ use mathlib.Core.List.{List}
 use lib.Dec.{eqb, leb}
 use lib.ListN.{getD}
 use Rattle.tables.specs.Layout.{listLeft}
-use Rattle.rows.specs.Layout.{standingField, nextField, rowCount}
+use Rattle.rows.specs.Layout.{numberField, standingField, nextField, rowCount}
 use Rattle.rows.specs.Cells.{read, write}
 use Rattle.rows.specs.Make.{freeRow}
 use Rattle.state.specs.declared.scalars.Scalars.{Scalars}
@@ -15,7 +15,7 @@ use Rattle.moves.specs.Motion.{Moved, moved, withTally, next32, goOn, stopped}
 use Rattle.flow.specs.declared.samples.Sample.{Sample}
 use Rattle.flow.specs.Samples.{nextSample, useTime}
 use Rattle.flow.specs.Sending.{priorities, plus64, toFuture, toReady, arrives, copyOne}
-use Rattle.flow.specs.Questions.{askRoom, askTime, askArrival}
+use Rattle.flow.specs.Questions.{askRoom, askTime, askArrival, askHolding}
 
 -- the row that moved is on a list: nobody moves
 unfoldable pub parked : Moved → Moved
@@ -68,8 +68,10 @@ unfoldable pub endOne : Scalars → ℕ → Scalars
 endOne x a =
     putNote 0 (putEnd (cond (leb (x .counter) a) 2 0) (putCounter (x .counter - a) (putEnded (next32 (x .ended)) (putMoving rowCount x))))
 
-unfoldable pub terminateRows : (tables : List ℕ) → List ℕ → List ℕ → Scalars → (at : ℕ) → Rows
-terminateRows tables w tally x at = rowsOf (endOne x (getD tables (at + 1) 0)) (freeRow w (x .moving)) tally
+unfoldable pub terminateRows : (tables : List ℕ) → (facilities : ℕ) → List ℕ → List ℕ → Scalars → (at : ℕ) → Rows
+terminateRows tables facilities w tally x at =
+    let end : ℕ = askHolding tally facilities (read w numberField (x .moving)) in
+    cond (eqb end 0) (rowsOf (endOne x (getD tables (at + 1) 0)) (freeRow w (x .moving)) tally) (rowsOf (stopped x end) w tally)
 
 -- ---- 13 PRIORITY p
 

@@ -1,13 +1,21 @@
-// The questions of GENERATE, ADVANCE and SPLIT: 0 where the answer is yes, else the number of the end.
+// The questions of GENERATE, ADVANCE, SPLIT and TERMINATE: 0 where the answer is yes, else the number of the end.
 use machine::Model;
+use machine::ends::HOLDING;
 use machine::ends::NO_PLACE;
 use machine::ends::TOO_LATE;
 use state::Scalars;
 use state::less32;
 use state::plus32;
 use state::plus64;
+use tables::HOLDER;
+use tables::TALLY;
 ghost use mathlib.Core.Path.{_≡_};
-ghost use Rattle.flow.specs.Questions.{askRoom, askTime, firstNo, askArrival};
+ghost use Prim.Native.Nat.{_≤_};
+ghost use lib.ListN.{length};
+ghost use Rattle.machine.specs.Limits.{maxFacilities};
+ghost use Rattle.machine.specs.Lists.{bit};
+ghost use Rattle.tables.specs.Layout.{tallySize};
+ghost use Rattle.flow.specs.Questions.{askRoom, askTime, firstNo, askArrival, heldBy, askHolding};
 
 const MAX_LIVING: u32 = Model::MAX_LIVING as u32;
 
@@ -46,4 +54,43 @@ pub fn ask_arrival(x: Scalars, time: u64) -> u32
     let room = ask_room(x, 1);
     let late = ask_time(x, time);
     first_no(room, late)
+}
+
+fn one_if(yes: bool) -> u64
+    ensures one { λ r. ⌜ r ≡ bit yes ⌝ }
+    ensures small { λ r. ⌜ r ≤ 1 ⌝ }
+{
+    if yes {
+        return 1;
+    }
+    0
+}
+
+// How many facilities the transaction of that number holds. All are looked at, without a test of the index: so several at a time.
+fn held(tally: &[u64], facilities: usize, number: u64) -> u64
+    requires { ⌜ facilities ≤ maxFacilities ⌝ }
+    requires { ⌜ tallySize ≤ length (now tally) ⌝ }
+    ensures { λ r. ⌜ r ≡ heldBy (now (tally .entry)) facilities number ⌝ }
+{
+    let mut n: u64 = 0;
+    let mut f: usize = 0;
+    while f < facilities {
+        n += one_if(tally[HOLDER + f] == number);
+        f += 1;
+    }
+    n
+}
+
+// "TERMINATE while holding a facility"
+pub fn ask_holding(tally: &[u64], facilities: usize, number: u64) -> u32
+    requires { ⌜ facilities ≤ maxFacilities ⌝ }
+    ensures { λ r. ⌜ r ≡ askHolding (now (tally .entry)) facilities number ⌝ }
+{
+    if tally.len() < TALLY {
+        return 0;
+    }
+    if held(tally, facilities, number) == 0 {
+        return 0;
+    }
+    HOLDING
 }

@@ -1,5 +1,9 @@
 // 3 TERMINATE a.
+use crate::questions::ask_holding;
 use machine::ends::COUNTED;
+use moves::stop;
+use rows::NUMBER;
+use rows::cells::read;
 use rows::make::free_row;
 use state::ENTERED;
 use state::NOBODY;
@@ -12,6 +16,7 @@ ghost use mathlib.Core.Path.{_≡_};
 ghost use mathlib.Core.Bool.{cond};
 ghost use Prim.Native.Nat.{_+_, _<_, _≤_};
 ghost use lib.Dec.{leb};
+ghost use Rattle.machine.specs.Limits.{maxFacilities};
 ghost use Rattle.tables.specs.Layout.{programSize};
 ghost use Rattle.rows.specs.Layout.{Room, rowCount};
 ghost use Rattle.state.specs.Stands.{rowsOf};
@@ -41,17 +46,23 @@ fn end_one(x: Scalars, a: u32) -> Scalars
 
 pub fn terminate(
     tables: &[u32],
+    facilities: usize,
     work: &mut [u32],
     tally: &mut [u64],
     x: Scalars,
     at: usize,
 ) -> Scalars
+    requires { ⌜ facilities ≤ maxFacilities ⌝ }
     requires { ⌜ Room (now work) ⌝ }
     requires { ⌜ x .moving < rowCount ⌝ }
     requires { ⌜ at < programSize ⌝ }
-    ensures { λ r. ⌜ rowsOf r (now (work .exit)) (now (tally .exit)) ≡ terminateRows (now (tables .entry)) (now (work .entry)) (now (tally .entry)) x at ⌝ }
+    ensures { λ r. ⌜ rowsOf r (now (work .exit)) (now (tally .exit)) ≡ terminateRows (now (tables .entry)) facilities (now (work .entry)) (now (tally .entry)) x at ⌝ }
 {
     let a = number(tables, at + FIRST);
+    let end = ask_holding(tally, facilities, read(work, NUMBER, x.moving) as u64);
+    if end != 0 {
+        return stop(x, end);
+    }
     free_row(work, x.moving);
     end_one(x, a)
 }

@@ -14,7 +14,7 @@ use Rattle.machine.specs.Term.{serverAt, free}
 use Rattle.machine.specs.Block.{Code, Share, facility, storage, shareServer, shareUnits, Block, generate, advance, terminate, takes, frees, waitServer, waitTerms, moves, assign, priority, split, counts, facts, BlockModel, blockAt, status, welIndex}
 use Rattle.machine.specs.State.{State, Logged}
 use Rattle.machine.specs.Setters.{withSerial, withPriority, withReturning, withNext, setSerial, setMoving}
-use Rattle.machine.specs.Moves.{recordOf, log, enters, moveTo, fresh, toRel, toFel, qlOf, welOf, toQl, toWel, toWsl, mustWait, wakeFirstQl, wakeQl, wakeFirstWel, wakeWsl, setInUse, setContent, timesLeft, useTime, arrival, copies}
+use Rattle.machine.specs.Moves.{recordOf, log, enters, moveTo, fresh, toRel, toFel, qlOf, welOf, toQl, toWel, toWsl, mustWait, wakeFirstQl, wakeQl, wakeFirstWel, wakeWsl, setUse, setContent, timesLeft, useTime, arrival, copies}
 use Rattle.machine.specs.Execute.{askAdvance, question, takeUnits, wakeFor, checkWels, endsOne, delay, effect, freeUnits}
 use Rattle.machine.specs.Turn.{arriveAll, due, moveClock, nextEvents, takeFirst, takeReady, taking, answer, execute, waitsOn, wsScheme, turn}
 use Rattle.machine.specs.Run.{startAt, idle, start}
@@ -176,7 +176,7 @@ module _ (m : BlockModel) (tape : List (List ℕ)) (f : ℕ → ℕ) where
       balanced-takeFirst _ _ refl (moving-nextEvents (s .fel) s ∙ n) (weighs-nextEvents 0 (s .fel) s w)
   balanced-takeReady (t ∷ l) s e n w = balanced-takeFirst (t ∷ l) s e n w
 
-  balanced-taking : (o : Option Transaction) (s : State) → s .moving ≡ o → Balanced s → Balanced (taking o s)
+  pub balanced-taking : (o : Option Transaction) (s : State) → s .moving ≡ o → Balanced s → Balanced (taking o s)
   unfolding taking
   balanced-taking none s e w = balanced-takeReady (s .rel) s refl e (subst (λ o. Weighs (held o) s) e w)
   balanced-taking (some t) s e w = w
@@ -224,24 +224,24 @@ module _ (m : BlockModel) (tape : List (List ℕ)) (f : ℕ → ℕ) where
       entered : Weighs (by t) (enters t idle-hand)
       entered = weighs-enters (by t) t idle-hand plain w
 
-      balanced-takeUnits : (v b : ℕ) → 1 ≤ v → v ≤ servers m → Shape m s → Balanced (takeUnits v b t idle-hand)
-      unfolding takeUnits moveTo setInUse enters log
-      balanced-takeUnits v b low high h =
-          cond-cases Balanced (leb b (free (serverAt (s .view) v))) _ _
-          (λ e. weighs-checkWels (by t) v _ low high (h .wel-length) entered)
-          (λ e. balanced-waitQl v (ql-at h v low high))
+      balanced-takeUnits : (x : Share) → Names (servers m) (shareServer x) → Shape m s → Balanced (takeUnits x t idle-hand)
+      unfolding takeUnits moveTo setUse enters log
+      balanced-takeUnits x at h =
+          cond-cases Balanced (leb (shareUnits x) (free (serverAt (s .view) (shareServer x)))) _ _
+          (λ e. weighs-checkWels (by t) (shareServer x) _ (at .0) (at .1) (h .wel-length) entered)
+          (λ e. balanced-waitQl (shareServer x) (ql-at h (shareServer x) (at .0) (at .1)))
 
       -- units given back, and then one or some of the QL woken
       balanced-release : (v b : ℕ) → 1 ≤ v → v ≤ servers m → Shape m s
           → Weighs (by t) (checkWels v (wakeFirstQl v (freeUnits v b (enters t idle-hand))))
-      unfolding wakeFirstQl setInUse enters log
+      unfolding wakeFirstQl setUse enters log
       balanced-release v b low high h =
           weighs-checkWels (by t) v (wakeFirstQl v (freeUnits v b (enters t idle-hand))) low high (h .wel-length)
           (weighs-wakeFirstQl (by t) v (freeUnits v b (enters t idle-hand)) (ql-at h v low high) entered)
 
       balanced-leave : (p : Transaction → Bool) (v b : ℕ) → 1 ≤ v → v ≤ servers m → Shape m s
           → Weighs (by t) (checkWels v (wakeQl p v (freeUnits v b (enters t idle-hand))))
-      unfolding wakeQl setInUse enters log
+      unfolding wakeQl setUse enters log
       balanced-leave p v b low high h =
           weighs-checkWels (by t) v (wakeQl p v (freeUnits v b (enters t idle-hand))) low high (h .wel-length)
           (weighs-wakeQl (by t) p v (freeUnits v b (enters t idle-hand)) (ql-at h v low high) entered)
@@ -253,7 +253,7 @@ module _ (m : BlockModel) (tape : List (List ℕ)) (f : ℕ → ℕ) where
       balanced-frees (storage v b) at h = balanced-leave _ v b (at .0) (at .1) h
 
       balanced-waitServer : (code : Code) (v : ℕ) → 1 ≤ v → v ≤ servers m → Shape m s → Balanced (effect m (waitServer code v) t idle-hand)
-      unfolding effect moveTo enters log
+      unfolding effect moveTo enters log takeUnits
       balanced-waitServer code v low high h =
           cond-cases Balanced (status code (serverAt (s .view) v)) _ _ (λ e. balanced-waitWel v code (wel-at h v code low high))
           (λ e. weighs-wakeFirstWel (by t) v code (enters t idle-hand) (wel-at h v code low high) entered)
@@ -274,14 +274,12 @@ module _ (m : BlockModel) (tape : List (List ℕ)) (f : ℕ → ℕ) where
     terminates-at e = ap (λ b. facts b .terminates) e
 
     -- the block's question was answered, and it is proper
-    balanced-effect : (b : Block) → blockAt m (t .next) ≡ b → question m b s ≡ 0 → ProperBlock m b → Shape m s → Balanced (effect m b t idle-hand)
-    unfolding effect moveTo facts enters log toRel setContent question
+    balanced-effect : (b : Block) → blockAt m (t .next) ≡ b → question m b t s ≡ 0 → ProperBlock m b → Shape m s → Balanced (effect m b t idle-hand)
+    unfolding effect moveTo facts enters log toRel setContent question takeUnits
     balanced-effect (generate list p) e q good h = weighs-arrival (by t) _ list p _ _ (entered (terminates-at e))
     balanced-effect (advance list) e q good h = balanced-delay (terminates-at e) (timesLeft s list) list q
     balanced-effect (terminate a) e q good h = balanced-terminate a (terminates-at e)
-    balanced-effect (takes x) e q good h =
-        let at : Names (servers m) (shareServer x) = share-server m x good in
-        balanced-takeUnits (terminates-at e) (shareServer x) (shareUnits x) (at .0) (at .1) h
+    balanced-effect (takes x) e q good h = balanced-takeUnits (terminates-at e) x (share-server m x good) h
     balanced-effect (frees x) e q good h = balanced-frees (terminates-at e) x (share-server m x good) h
     balanced-effect (waitServer code v) e q good h =
         let at : Names (servers m) v = code-server m code v good in
@@ -297,7 +295,7 @@ module _ (m : BlockModel) (tape : List (List ℕ)) (f : ℕ → ℕ) where
     balanced-effect (split n target) e q good h = weighs-copies (by t) n target t _ (entered (terminates-at e))
     balanced-effect (counts c q) e z good h = entered (terminates-at e)
 
-    balanced-answer : (n : ℕ) → question m (blockAt m (t .next)) s ≡ n → s .moving ≡ some t → Proper m tape → Shape m s
+    balanced-answer : (n : ℕ) → question m (blockAt m (t .next)) t s ≡ n → s .moving ≡ some t → Proper m tape → Shape m s
         → Balanced (answer n m (blockAt m (t .next)) t s)
     unfolding answer
     balanced-answer zero q o proper h = balanced-effect _ refl q (proper .block (t .next)) h

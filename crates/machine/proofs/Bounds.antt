@@ -10,7 +10,7 @@ use lib.Dec.{T, eqb}
 use Rattle.machine.specs.Limits.{maxTurns}
 use Rattle.machine.specs.Block.{BlockModel}
 use Rattle.machine.specs.State.{State}
-use Rattle.machine.specs.Moves.{setInUse}
+use Rattle.machine.specs.Moves.{setUse}
 use Rattle.machine.specs.Turn.{turn}
 use Rattle.machine.specs.Run.{endBefore, idle, start, runFrom, run, steps}
 use Rattle.machine.specs.Claims.{statedEnd, Bounded}
@@ -23,12 +23,12 @@ abbrev pub Progress : ℕ → State → Type 0
 Progress k s = (s .turns ≡ k) × Stop (s .end)
 
 progress-closed : (k : ℕ) → Closed (Progress k)
-unfolding setInUse
+unfolding setUse
 progress-closed k =
     record {
       entries = λ i n s h. h;
       queues = λ i q s h. h;
-      units = λ v n s le h. h;
+      units = λ v n holder s le h. h;
       clock = λ time ticks s h. h;
       ql = λ i l s h. h;
       wel = λ i l s h. h;

@@ -3,17 +3,14 @@
 use Prim.Native.Nat.{ℕ}
 use mathlib.Core.Path.{_≡_, refl, sym}
 use mathlib.Core.Bool.{Bool, true, false, not}
-use mathlib.Core.List.{List, [], _∷_}
-use mathlib.Core.Option.{Option}
 use borrow.Author.Tests.{eqb-true, eqb-false}
 use Rattle.machine.specs.Transaction.{Transaction}
 use Rattle.machine.specs.Term.{Term, Relation, serverAt, compare}
 use Rattle.machine.specs.Facts.{isGenerate}
-use Rattle.machine.specs.Block.{Code, U, NU, E, NE, F, NF, status, Block, generate, advance, terminate, takes, frees, waitServer, waitTerms, moves, assign, priority, split, counts, facts, BlockModel}
+use Rattle.machine.specs.Block.{Code, U, NU, E, NE, F, NF, status, Block, waitTerms, facts, BlockModel}
 use Rattle.machine.specs.State.{State}
-use Rattle.machine.specs.Setters.{setMoving}
 use Rattle.machine.specs.Moves.{enters, goOn, toWsl, mustWait, wakeFirstWel, wakeWsl, timesLeft, arrival}
-use Rattle.machine.specs.Execute.{askGenerate, askAdvance, question, checkWel, checkWels, effect}
+use Rattle.machine.specs.Execute.{checkWel, checkWels, effect, takeUnits}
 use Rattle.machine.specs.Turn.{waitsOn, wsScheme}
 use Rattle.machine.specs.Run.{startOf}
 use Rattle.machine.proofs.RunLaws.{cond-cases}
@@ -43,7 +40,7 @@ module _ (Q : State → Type 0) where
   pub waitTerms-cases : (m : BlockModel) (a : Term) (r : Relation) (b : Term) (t : Transaction) (s : State)
       → (compare (m .values) (s .view) (t .parameters) a r b ≡ true → Q (mustWait toWsl t s))
       → (compare (m .values) (s .view) (t .parameters) a r b ≡ false → Q (goOn t (enters t s))) → Q (effect m (waitTerms a r b) t s)
-  unfolding effect
+  unfolding effect takeUnits
   waitTerms-cases m a r b t s = cond-cases Q _ _ _
 
   pub wsScheme-cases : (m : BlockModel) (s : State) → (s .end ≡ 0 → Q (wakeWsl (λ t. not (waitsOn m (s .view) t)) s))
@@ -57,30 +54,3 @@ module _ (Q : State → Type 0) where
   unfolding startOf
   startOf-cases b n s f g =
       cond-cases Q (isGenerate (facts b)) _ _ (λ e. g (eqb-false _ _ (not-true _ e))) (λ e. f (eqb-true _ _ (not-false _ e)))
-
--- ---- The questions do not ask who is moving
-
-ask-generate-hand : (m : BlockModel) (l : List ℕ) (o : Option Transaction) (s : State) → askGenerate m l (setMoving o s) ≡ askGenerate m l s
-unfolding askGenerate
-ask-generate-hand m [] o s = refl
-ask-generate-hand m (x ∷ l) o s = refl
-
-ask-advance-hand : (m : BlockModel) (l : List ℕ) (o : Option Transaction) (s : State) → askAdvance m l (setMoving o s) ≡ askAdvance m l s
-unfolding askAdvance
-ask-advance-hand m [] o s = refl
-ask-advance-hand m (x ∷ l) o s = refl
-
-pub question-hand : (m : BlockModel) (b : Block) (o : Option Transaction) (s : State) → question m b (setMoving o s) ≡ question m b s
-unfolding question
-question-hand m (generate list p) o s = ask-generate-hand m (timesLeft s list) o s
-question-hand m (advance list) o s = ask-advance-hand m (timesLeft s list) o s
-question-hand m (terminate a) o s = refl
-question-hand m (takes x) o s = refl
-question-hand m (frees x) o s = refl
-question-hand m (waitServer code v) o s = refl
-question-hand m (waitTerms a r b) o s = refl
-question-hand m (moves c target) o s = refl
-question-hand m (assign k a) o s = refl
-question-hand m (priority p) o s = refl
-question-hand m (split n target) o s = refl
-question-hand m (counts c q) o s = refl

@@ -16,7 +16,7 @@ use Rattle.machine.specs.Term.{serverAt, free}
 use Rattle.machine.specs.Block.{Code, Share, facility, storage, shareServer, shareUnits, Block, generate, advance, terminate, takes, frees, waitServer, waitTerms, moves, assign, priority, split, counts, BlockModel, blockAt, status}
 use Rattle.machine.specs.State.{State}
 use Rattle.machine.specs.Setters.{setMoving}
-use Rattle.machine.specs.Moves.{log, enters, moveTo, toRel, toFel, toQl, toWel, toWsl, mustWait, wakeFirstQl, wakeQl, wakeFirstWel, wakeWsl, setInUse, setContent, timesLeft, arrival, copies}
+use Rattle.machine.specs.Moves.{log, enters, moveTo, toRel, toFel, toQl, toWel, toWsl, mustWait, wakeFirstQl, wakeQl, wakeFirstWel, wakeWsl, setUse, setContent, timesLeft, arrival, copies}
 use Rattle.machine.specs.Execute.{unless, living, askTime, askGenerate, askAdvance, question, takeUnits, wakeFor, checkWels, endsOne, delay, effect}
 use Rattle.machine.specs.Turn.{arriveAll, moveClock, nextEvents, takeFirst, takeReady, taking, answer, execute, wsScheme, turn}
 use Rattle.machine.specs.Run.{idle, startAt, start, states}
@@ -82,15 +82,16 @@ module _ {most : ℕ} where
   unfolding moveTo
   moves-timely n t s h = like s _ refl refl h
 
-  units-timely : (v n : ℕ) (s : State) → Timely most s → Timely most (setInUse v n s)
-  unfolding setInUse
-  units-timely v n s h = like s _ refl refl h
+  units-timely : (v n holder : ℕ) (s : State) → Timely most s → Timely most (setUse v n holder s)
+  unfolding setUse
+  units-timely v n holder s h = like s _ refl refl h
 
-  takes-timely : (v b : ℕ) (t : Transaction) (s : State) → Timely most s → Timely most (takeUnits v b t s)
+  takes-timely : (x : Share) (t : Transaction) (s : State) → Timely most s → Timely most (takeUnits x t s)
   unfolding takeUnits
-  takes-timely v b t s h =
-      cond-cases (Timely most) (leb b (free (serverAt (s .view) v))) _ _ (λ e. moves-timely _ t _ (check-timely v _ (units-timely v _ _ (enters-timely t s h))))
-      (λ e. waits-timely (toQl v) (toQl-timely v) t s h)
+  takes-timely x t s h =
+      let v : ℕ = shareServer x in
+      cond-cases (Timely most) (leb (shareUnits x) (free (serverAt (s .view) v))) _ _
+      (λ e. moves-timely _ t _ (check-timely v _ (units-timely v _ _ _ (enters-timely t s h)))) (λ e. waits-timely (toQl v) (toQl-timely v) t s h)
 
   copies-timely : (n target : ℕ) (t : Transaction) (s : State) → Timely most s → Timely most (copies n target t s)
   unfolding copies toRel
@@ -128,13 +129,13 @@ module _ (m : BlockModel) where
   wakeFor-timely (facility v) s h = like s _ refl refl h
   wakeFor-timely (storage v b) s h = like s _ refl refl h
 
-  effect-timely : (b : Block) (t : Transaction) (s : State) → question m b s ≡ 0 → Timely (limit m) s
+  effect-timely : (b : Block) (t : Transaction) (s : State) → question m b t s ≡ 0 → Timely (limit m) s
       → Timely (limit m) (effect m b t (setMoving none s))
-  unfolding effect question enters log setContent toRel setInUse endsOne
+  unfolding effect question enters log setContent toRel setUse endsOne takeUnits
   effect-timely (generate list p) t s asked h = moves-timely _ t _ (generate-timely _ list p _ s _ asked refl (like s _ refl refl h))
   effect-timely (advance list) t s asked h = advance-timely _ list t s _ asked refl (like s _ refl refl h)
   effect-timely (terminate a) t s asked h = like s _ refl refl h
-  effect-timely (takes x) t s asked h = takes-timely (shareServer x) (shareUnits x) t _ (like s _ refl refl h)
+  effect-timely (takes x) t s asked h = takes-timely x t _ (like s _ refl refl h)
   effect-timely (frees x) t s asked h = moves-timely _ t _ (check-timely (shareServer x) _ (wakeFor-timely x _ (like s _ refl refl h)))
   effect-timely (waitServer code v) t s asked h =
       cond-cases (Timely (limit m)) (status code (serverAt (s .view) v)) _ _
@@ -178,7 +179,7 @@ module _ {most : ℕ} where
   taking-timely (some t) s h = h
 
 module _ (m : BlockModel) where
-  answer-timely : (n : ℕ) (t : Transaction) (s : State) → question m (blockAt m (t .next)) s ≡ n → Timely (limit m) s
+  answer-timely : (n : ℕ) (t : Transaction) (s : State) → question m (blockAt m (t .next)) t s ≡ n → Timely (limit m) s
       → Timely (limit m) (answer n m (blockAt m (t .next)) t s)
   unfolding answer
   answer-timely zero t s e h = effect-timely m (blockAt m (t .next)) t s e h

@@ -6,23 +6,24 @@ use mathlib.Core.Bool.{Bool, true, false, cond, _&&_}
 use mathlib.Core.List.{List, _++_, map}
 use mathlib.Core.Option.{Option, none, some}
 use native.Mathlib.Omega.{arith}
-use borrow.Author.Tests.{leb-true, leb-false, eqb-true, eqb-false, ne-eqb}
+use borrow.Author.Tests.{leb-true, leb-false, eqb-true, eqb-false, eq-eqb, ne-eqb}
 use lib.Dec.{eqb, leb}
 use lib.ListN.{length, length-append, length-map}
 use Rattle.machine.specs.Transaction.{Transaction}
 use Rattle.machine.specs.Lists.{those, flat}
 use Rattle.machine.specs.Block.{BlockModel}
 use Rattle.machine.specs.State.{State}
-use Rattle.machine.specs.Turn.{turn}
+use Rattle.machine.specs.Turn.{taking, turn}
 use Rattle.machine.specs.Run.{start, states}
 use Rattle.machine.specs.Report.{placed, movingOne, places}
 use Rattle.machine.specs.Claims.{Each, count, bit, upTo, everyone, standing, terminates, madeBy, endedBy, isLiving, livingCount}
 use Rattle.machine.proofs.Proper.{Proper}
 use Rattle.machine.proofs.RunLaws.{each-state, each-map}
-use Rattle.machine.proofs.Shape.{Shape, shape-turn, shape-start}
+use Rattle.machine.proofs.Kept.{taking-kept}
+use Rattle.machine.proofs.Shape.{Shape, shape-closed, shape-turn, shape-start}
 use Rattle.machine.proofs.Sums.{sumOn, sum-append, sum-map, sum-test, sum-cong, sum-cong-keys, sum-length, sum-count, sum-zero, upTo-ones, upTo-none, upTo-one}
-use Rattle.machine.proofs.Balance.{listed, held, gone, Balanced, balanced-turn, balanced-start}
-use Rattle.machine.proofs.Ledger.{Books, booked-turn}
+use Rattle.machine.proofs.Balance.{listed, held, gone, Balanced, balanced-taking, balanced-turn, balanced-start}
+use Rattle.machine.proofs.Ledger.{Books, booked-taking, booked-turn}
 use Rattle.machine.proofs.StartLedger.{booked-start}
 
 -- ---- Everyone
@@ -197,9 +198,34 @@ module _ (m : BlockModel) (tape : List (List ℕ)) where
           absurd (omega (arith, all, upTo-none (s .made) n (λ k a b c. omega (arith, leb-false n (s .made) q))))
       go false b e q = absurd (omega (arith, all, upTo-none (s .made) n (λ k a b c. omega (arith, leb-false 1 n e))))
 
+  -- who moves is living
+  pub mover-lives : (s : State) → Sound m tape s → (t : Transaction) → s .moving ≡ some t → isLiving m tape (s .records) (t .number) ≡ true
+  mover-lives s h t e =
+      alive (isLiving m tape (s .records) (t .number))
+      (omega (
+        arith,
+        stands-once m tape s (h .balanced) (h .books) (t .number),
+        standing-sum m tape s (h .balanced) (h .books) (t .number),
+        sum-everyone m tape (λ k. bit (eqb k (t .number))) s,
+        ap (held m tape (λ k. bit (eqb k (t .number)))) e,
+        ap bit (eq-eqb (t .number) (t .number) refl),
+      ))
+    where
+      alive : (b : Bool) → 0 < bit b → b ≡ true
+      alive true p = refl
+      alive false p = absurd (omega arith)
+
   pub sound-start : Proper m tape → Sound m tape (start m tape)
   sound-start proper =
       record { shape = shape-start m tape (proper .tapes); balanced = λ f. balanced-start m tape f; books = booked-start m tape proper }
+
+  pub sound-taking : (s : State) → Sound m tape s → Sound m tape (taking (s .moving) s)
+  sound-taking s h =
+      record {
+        shape = taking-kept (Shape m) (shape-closed m) (s .moving) s (h .shape);
+        balanced = λ f. balanced-taking m tape f (s .moving) s refl (h .balanced f);
+        books = booked-taking m tape (s .moving) s (h .books);
+      }
 
   pub sound-turn : Proper m tape → (s : State) → Sound m tape s → Sound m tape (turn m s)
   sound-turn proper s h =

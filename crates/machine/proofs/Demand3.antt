@@ -1,10 +1,11 @@
 -- Demand 3: in every state of the run of every accepted model and tape, with every budget and every trace length, each living
 -- transaction stands once, the counts are those that the records tell, nobody able to go waits where the clock is about to move
--- or the run ended dry, and equal waits end in the order in which they began. The states are those of the run that gives the
--- outcome, and the run keeps to its bounds.
+-- or the run ended dry, equal waits end in the order in which they began, and each facility in use has a holder. The states are those
+-- of the run that gives the outcome, and the run keeps to its bounds.
 use Prim.Native.Nat.{ℕ}
 use mathlib.Core.Path.{_≡_}
 use mathlib.Core.List.{List, reverse}
+use Rattle.machine.specs.Term.{serverAt}
 use Rattle.machine.specs.Block.{BlockModel}
 use Rattle.machine.specs.State.{State}
 use Rattle.machine.specs.Rules.{Rules}
@@ -18,12 +19,14 @@ use Rattle.machine.proofs.Bounds.{bounded}
 use Rattle.machine.proofs.Conservation.{Conserved, conserved}
 use Rattle.machine.proofs.NobodyAble.{Waited, waited, able-none}
 use Rattle.machine.proofs.InOrder.{in-order}
+use Rattle.machine.proofs.Holders.{Holding, holding}
 
--- The three claims of a state, proved apart.
+-- The four claims of a state, proved apart.
 abbrev Apart : BlockModel → List (List ℕ) → State → Type 0
-Apart m tape s = (Conserved m tape s × Waited m s) × InOrder m tape (reverse (s .records))
+Apart m tape s = (Conserved m tape s × Waited m s) × (InOrder m tape (reverse (s .records)) × Holding m tape s)
 
 keeps : (m : BlockModel) (tape : List (List ℕ)) (s : State) → Apart m tape s → Keeps m tape s
+unfolding serverAt
 keeps m tape s h =
     record {
       one-place = h .0 .0 .one-place;
@@ -32,7 +35,8 @@ keeps m tape s h =
       balance = h .0 .0 .balance;
       living = h .0 .0 .living;
       nobody-able = able-none m tape s (h .0 .1);
-      order = h .1;
+      order = h .1 .0;
+      held = λ f low high. h .1 .1 f (low, high);
     }
 
 module _ {m : BlockModel} {tape : List (List ℕ)} (proper : Proper m tape) (budget room : ℕ) where
@@ -42,9 +46,9 @@ module _ {m : BlockModel} {tape : List (List ℕ)} (proper : Proper m tape) (bud
   pub keeps-all : Demand3 m tape budget room
   keeps-all =
       each-map (keeps m tape) all
-      (each-pair (λ s. Conserved m tape s × Waited m s) (λ s. InOrder m tape (reverse (s .records))) all
+      (each-pair (λ s. Conserved m tape s × Waited m s) (λ s. InOrder m tape (reverse (s .records)) × Holding m tape s) all
       (each-pair (Conserved m tape) (Waited m) all (conserved m tape budget room proper) (waited proper budget room))
-      (in-order proper budget room))
+      (each-pair (λ s. InOrder m tape (reverse (s .records))) (Holding m tape) all (in-order proper budget room) (holding m tape budget room proper)))
 
 -- From bytes; the only hypothesis is that validation accepts.
 pub demand3 : (rules : Rules) (model tapeBytes : List ℕ) (work report budget room : ℕ) {m : BlockModel} {tape : List (List ℕ)}

@@ -9,7 +9,7 @@ use Rattle.machine.specs.Transaction.{Transaction, Event, precedes, earl
 use Rattle.machine.specs.Block.{Code, BlockModel, welIndex}
 use Rattle.machine.specs.State.{State}
 use Rattle.machine.specs.Setters.{withNext, withSerial, withReturning, setSerial}
-use Rattle.machine.specs.Moves.{log, enters, moveTo, fresh, toRel, toFel, toQl, toWel, toWsl, mustWait, wake, wakeFirstQl, wakeQl, wakeFirstWel, wakeWsl, setInUse, setContent, arrival, copies, qlOf, welOf}
+use Rattle.machine.specs.Moves.{log, enters, moveTo, fresh, toRel, toFel, toQl, toWel, toWsl, mustWait, wake, wakeFirstQl, wakeQl, wakeFirstWel, wakeWsl, setUse, setContent, arrival, copies, qlOf, welOf}
 use Rattle.machine.specs.Execute.{checkWels, endsOne, delay}
 use Rattle.machine.specs.Turn.{arriveAll, due, moveClock, nextEvents, takeFirst, takeReady, taking, wsScheme}
 use Rattle.machine.specs.Run.{idle}
@@ -226,9 +226,9 @@ module _ (P : Transaction → Type 0) (U : Unmoved P) where
   unfolding enters log
   enters-everybody t s h = like s _ refl refl refl refl refl refl h
 
-  pub inUse-everybody : (v n : ℕ) (s : State) → Everybody P s → Everybody P (setInUse v n s)
-  unfolding setInUse
-  inUse-everybody v n s h = like s _ refl refl refl refl refl refl h
+  pub inUse-everybody : (v n holder : ℕ) (s : State) → Everybody P s → Everybody P (setUse v n holder s)
+  unfolding setUse
+  inUse-everybody v n holder s h = like s _ refl refl refl refl refl refl h
 
   pub content-everybody : (q n : ℕ) (s : State) → Everybody P s → Everybody P (setContent q n s)
   unfolding setContent

@@ -1,7 +1,7 @@
 -- One walk through a turn for every claim that concerns the moved transactions little: what the single changes of a state keep, a
 -- turn and the start keep.
 use Prim.Native.Nat.{ℕ, zero, suc, _+_, _≤_}
-use mathlib.Core.Bool.{Bool, true, false, _||_}
+use mathlib.Core.Bool.{Bool, true, false, not, _||_}
 use mathlib.Core.List.{List, [], _∷_}
 use mathlib.Core.Option.{Option, none, some}
 use native.Mathlib.Omega.{arith}
@@ -14,8 +14,8 @@ use Rattle.machine.specs.Term.{Queue, serverAt, queueAt, free}
 use Rattle.machine.specs.Block.{Code, Share, facility, storage, shareServer, shareUnits, Change, up, down, Block, generate, advance, terminate, takes, frees, waitServer, waitTerms, moves, assign, priority, split, counts, BlockModel, blockAt, status}
 use Rattle.machine.specs.State.{State, Logged}
 use Rattle.machine.specs.Setters.{setClock, setEntries, setQueues, setView, setCounter, setSamples, setQl, setWel, setWsl, setRel, setFel, setMoving, setSerial, setMade, setEnded, setTurns, setRecords, setWritten, setEnd}
-use Rattle.machine.specs.Moves.{log, enters, moveTo, toRel, toFel, toQl, toWel, toWsl, mustWait, wakeFirstQl, wakeQl, wakeFirstWel, wakeWsl, setInUse, setContent, timesLeft, arrival, copies}
-use Rattle.machine.specs.Execute.{unless, living, askGenerate, askAdvance, askContent, changed, question, takeUnits, wakeFor, checkWels, endsOne, delay, effect, freeUnits}
+use Rattle.machine.specs.Moves.{log, enters, moveTo, toRel, toFel, toQl, toWel, toWsl, mustWait, wakeFirstQl, wakeQl, wakeFirstWel, wakeWsl, setUse, setContent, timesLeft, arrival, copies}
+use Rattle.machine.specs.Execute.{unless, living, askGenerate, askAdvance, askContent, askHolder, held, changed, question, takeUnits, wakeFor, checkWels, endsOne, delay, effect, freeUnits}
 use Rattle.machine.specs.Turn.{sample, arriveAll, moveClock, nextEvents, takeFirst, takeReady, taking, answer, execute, wsScheme, turn}
 use Rattle.machine.specs.Run.{startAt, idle, start}
 use Rattle.machine.specs.Claims.{statedEnd}
@@ -31,9 +31,9 @@ Stop n = T (eqb n 0 || statedEnd n)
 pub record Closed (Q : State → Type 0) : Type 0 where
   pub entries : (i n : ℕ) (s : State) → Q s → Q (setView (setEntries (set (s .view .entries) i n) (s .view)) s)
   pub queues : (i : ℕ) (q : Queue) (s : State) → Q s → Q (setView (setQueues (set (s .view .queues) i q) (s .view)) s)
-  -- units in use: at most the capacity, where they were before
-  pub units : (v n : ℕ) (s : State) → (serverAt (s .view) v .inUse ≤ serverAt (s .view) v .capacity → n ≤ serverAt (s .view) v .capacity)
-      → Q s → Q (setInUse v n s)
+  -- units in use: at most the capacity, where they were before; any holder
+  pub units : (v n holder : ℕ) (s : State) → (serverAt (s .view) v .inUse ≤ serverAt (s .view) v .capacity → n ≤ serverAt (s .view) v .capacity)
+      → Q s → Q (setUse v n holder s)
   pub clock : (time ticks : ℕ) (s : State) → Q s → Q (setView (setClock time (sample ticks s .view)) s)
   pub ql : (i : ℕ) (l : List Transaction) (s : State) → Q s → Q (setQl (set (s .ql) i l) s)
   pub wel : (i : ℕ) (l : List Transaction) (s : State) → Q s → Q (setWel (set (s .wel) i l) s)
@@ -77,20 +77,25 @@ unfolding changed
 changed-most up n = omega arith
 changed-most down n = omega arith
 
-pub question-stops : (m : BlockModel) (b : Block) (s : State) → Stop (question m b s)
+ask-holder : (m : BlockModel) (x : Share) (t : Transaction) (s : State) → Stop (askHolder m x t s)
+unfolding askHolder
+ask-holder m (facility v) t s = unless-stops (not (m .rules .holders) || eqb (serverAt (s .view) v .holder) (t .number)) 27 0 tt tt
+ask-holder m (storage v b) t s = tt
+
+pub question-stops : (m : BlockModel) (b : Block) (t : Transaction) (s : State) → Stop (question m b t s)
 unfolding question
-question-stops m (generate list p) s = ask-generate m (timesLeft s list) s
-question-stops m (advance list) s = ask-advance m (timesLeft s list) s
-question-stops m (terminate a) s = tt
-question-stops m (takes x) s = tt
-question-stops m (frees x) s = unless-stops (leb (shareUnits x) (serverAt (s .view) (shareServer x) .inUse)) 24 0 tt tt
-question-stops m (waitServer code v) s = tt
-question-stops m (waitTerms a r b) s = tt
-question-stops m (moves c target) s = tt
-question-stops m (assign k a) s = tt
-question-stops m (priority p) s = tt
-question-stops m (split n target) s = unless-stops (leb (living s + n) maxLiving) 21 0 tt tt
-question-stops m (counts c q) s = ask-content c (queueAt (s .view) q .content)
+question-stops m (generate list p) t s = ask-generate m (timesLeft s list) s
+question-stops m (advance list) t s = ask-advance m (timesLeft s list) s
+question-stops m (terminate a) t s = unless-stops (not (m .rules .holders) || eqb (held m (s .view) (t .number)) 0) 28 0 tt tt
+question-stops m (takes x) t s = tt
+question-stops m (frees x) t s = unless-stops (leb (shareUnits x) (serverAt (s .view) (shareServer x) .inUse)) 24 _ tt (ask-holder m x t s)
+question-stops m (waitServer code v) t s = tt
+question-stops m (waitTerms a r b) t s = tt
+question-stops m (moves c target) t s = tt
+question-stops m (assign k a) t s = tt
+question-stops m (priority p) t s = tt
+question-stops m (split n target) t s = unless-stops (leb (living s + n) maxLiving) 21 0 tt tt
+question-stops m (counts c q) t s = ask-content c (queueAt (s .view) q .content)
 
 -- ---- Every part of a turn
 
@@ -131,15 +136,21 @@ module _ (Q : State → Type 0) (C : Closed Q) where
   unfolding toRel
   toRel-kept t s h = C .rel _ _ (C .serial _ s h)
 
-  pub takeUnits-kept : (v b : ℕ) (t : Transaction) (s : State) → Q s → Q (takeUnits v b t s)
+  pub takeUnits-kept : (x : Share) (t : Transaction) (s : State) → Q s → Q (takeUnits x t s)
   unfolding takeUnits enters log serverAt
-  takeUnits-kept v b t s h =
+  takeUnits-kept x t s h =
       cond-cases Q (leb b (free (serverAt (s .view) v))) _ _
       (λ e.
       let fits : b ≤ free (serverAt (s .view) v) = leb-true _ _ e in
-      goes-on _ t _ (check-kept v _ (C .units v _ (enters t s) (λ w. more fits w) (enters-kept t s h))))
+      goes-on _ t _ (check-kept v _ (C .units v _ _ (enters t s) (λ w. more fits w) (enters-kept t s h))))
       (λ e. mustWait-kept (toQl v) (toQl-kept v) t s h)
     where
+      v : ℕ
+      v = shareServer x
+
+      b : ℕ
+      b = shareUnits x
+
       more : b ≤ free (serverAt (s .view) v) → serverAt (s .view) v .inUse ≤ serverAt (s .view) v .capacity
           → serverAt (s .view) v .inUse + b ≤ serverAt (s .view) v .capacity
       more fits w = omega arith
@@ -160,7 +171,7 @@ module _ (Q : State → Type 0) (C : Closed Q) where
   delay-kept (x ∷ l) list t s h = C .fel _ _ (C .serial _ _ (C .samples _ _ s h))
 
   pub freeUnits-kept : (v b : ℕ) (s : State) → Q s → Q (freeUnits v b s)
-  freeUnits-kept v b s h = C .units v _ s (λ w. omega arith) h
+  freeUnits-kept v b s h = C .units v _ _ s (λ w. omega arith) h
 
   pub endsOne-kept : (a : ℕ) (s : State) → Q s → Q (endsOne a s)
   unfolding endsOne
@@ -180,11 +191,11 @@ module _ (Q : State → Type 0) (C : Closed Q) where
   wakeFor-kept m (storage v b) s h = wakeQl-kept _ v s h
 
   pub effect-kept : (m : BlockModel) (b : Block) (t : Transaction) (s : State) → Q s → Q (effect m b t s)
-  unfolding effect setContent
+  unfolding effect setContent takeUnits
   effect-kept m (generate list p) t s h = goes-on _ t _ (arrival-kept _ list p _ _ (enters-kept t s h))
   effect-kept m (advance list) t s h = delay-kept _ list t _ (enters-kept t s h)
   effect-kept m (terminate a) t s h = endsOne-kept a _ (enters-kept t s h)
-  effect-kept m (takes x) t s h = takeUnits-kept (shareServer x) (shareUnits x) t s h
+  effect-kept m (takes x) t s h = takeUnits-kept x t s h
   effect-kept m (frees x) t s h =
       goes-on _ t _ (check-kept (shareServer x) _ (wakeFor-kept m x _ (freeUnits-kept (shareServer x) (shareUnits x) _ (enters-kept t s h))))
   effect-kept m (waitServer code v) t s h =
@@ -235,7 +246,7 @@ module _ (Q : State → Type 0) (C : Closed Q) where
   pub execute-kept : (m : BlockModel) (o : Option Transaction) (s : State) → Q s → Q (execute o m s)
   unfolding execute
   execute-kept m none s h = h
-  execute-kept m (some t) s h = answer-kept _ (question-stops m (blockAt m (t .next)) s) m _ t s h
+  execute-kept m (some t) s h = answer-kept _ (question-stops m (blockAt m (t .next)) t s) m _ t s h
 
   pub wakeWsl-kept : (p : Transaction → Bool) (s : State) → Q s → Q (wakeWsl p s)
   unfolding wakeWsl

@@ -17,13 +17,13 @@ use Rattle.machine.specs.Facts.{Facts}
 use Rattle.machine.specs.Block.{Share, facility, storage, shareServer, shareUnits, Block, generate, advance, terminate, takes, frees, waitServer, waitTerms, moves, assign, priority, split, counts, facts, BlockModel, blockAt, status}
 use Rattle.machine.specs.State.{State, Logged}
 use Rattle.machine.specs.Setters.{setMoving}
-use Rattle.machine.specs.Moves.{recordOf, log, enters, moveTo, toRel, toFel, toQl, toWel, toWsl, mustWait, wakeFirstQl, wakeQl, wakeFirstWel, wakeWsl, setInUse, setContent, timesLeft, arrival, copies}
+use Rattle.machine.specs.Moves.{recordOf, log, enters, moveTo, toRel, toFel, toQl, toWel, toWsl, mustWait, wakeFirstQl, wakeQl, wakeFirstWel, wakeWsl, setUse, setContent, timesLeft, arrival, copies}
 use Rattle.machine.specs.Execute.{askAdvance, question, takeUnits, wakeFor, checkWels, endsOne, delay, effect}
 use Rattle.machine.specs.Turn.{arriveAll, moveClock, nextEvents, takeFirst, takeReady, taking, answer, execute, wsScheme, turn}
 use Rattle.machine.specs.Claims.{bit, timesOf, factsAt, entered, getsTime, usedBy, madeBy, endedBy, terminates}
 use Rattle.machine.proofs.Proper.{Proper, ProperBlock, Names}
 use Rattle.machine.proofs.RunLaws.{cond-cases}
-use Rattle.machine.proofs.Cases.{checkWels-kept, waitTerms-cases, wsScheme-cases, question-hand}
+use Rattle.machine.proofs.Cases.{checkWels-kept, waitTerms-cases, wsScheme-cases}
 use Rattle.machine.proofs.Kept.{taking-kept}
 use Rattle.machine.proofs.Shape.{Shape, shape-closed, samples-at}
 use Rattle.machine.proofs.Sums.{count-cons}
@@ -162,11 +162,11 @@ module _ (m : BlockModel) (tape : List (List ℕ)) where
         }
 
     -- a question has stopped the turn where there is no time
-    booked-advance : (l : List ℕ) → timesLeft s list ≡ l → askAdvance m l s ≡ 0 → facts (blockAt m (t .next)) .generates ≡ 0
+    booked-advance : (l : List ℕ) → timesLeft s list ≡ l → (s₀ : State) → askAdvance m l s₀ ≡ 0 → facts (blockAt m (t .next)) .generates ≡ 0
         → facts (blockAt m (t .next)) .copies ≡ 0 → facts (blockAt m (t .next)) .terminates ≡ 0 → Books (delay l list t (enters t s))
     unfolding askAdvance delay toFel enters log recordOf madeBy
-    booked-advance [] e q gen c z = absurd (omega arith)
-    booked-advance (x ∷ l) e q gen c z =
+    booked-advance [] e s₀ q gen c z = absurd (omega arith)
+    booked-advance (x ∷ l) e s₀ q gen c z =
         record {
           makes = omega (arith, h .makes, ap (λ g. bit (not (eqb g 0) && ltb (usedBy m tape (s .records) g) (timesOf m tape g))) gen);
           ends = ends-none z;
@@ -244,40 +244,42 @@ module _ (m : BlockModel) (tape : List (List ℕ)) where
       booked-entered : Books (enters t s)
       booked-entered = booked-enters t s plain h
 
-      booked-takeUnits : (v b : ℕ) → Books (takeUnits v b t s)
-      unfolding takeUnits moveTo setInUse toQl
-      booked-takeUnits v b =
-          cond-cases Books (leb b (free (serverAt (s .view) v))) _ _ (λ e. booked-checkWels v _ booked-entered) (λ e. booked-mustWait (toQl v) (λ t s h. h))
+      booked-takeUnits : (x : Share) → Books (takeUnits x t s)
+      unfolding takeUnits moveTo setUse toQl
+      booked-takeUnits x =
+          cond-cases Books (leb (shareUnits x) (free (serverAt (s .view) (shareServer x)))) _ _ (λ e. booked-checkWels (shareServer x) _ booked-entered)
+          (λ e. booked-mustWait (toQl (shareServer x)) (λ t s h. h))
 
-    booked-effect : (b : Block) → blockAt m (t .next) ≡ b → question m b s ≡ 0 → ProperBlock m b → Shape m s → Books (effect m b t s)
-    unfolding effect moveTo facts question toRel toQl toWel toWsl wakeFirstWel setInUse setContent
-    booked-effect (generate list p) e q good shape =
+    -- the question was answered while t moved
+    booked-effect : (b : Block) (o : Option Transaction) → blockAt m (t .next) ≡ b → question m b t (setMoving o s) ≡ 0 → ProperBlock m b → Shape m s → Books (effect m b t s)
+    unfolding effect moveTo facts question toRel toQl toWel toWsl wakeFirstWel setUse setContent takeUnits
+    booked-effect (generate list p) o e q good shape =
         booked-generate t s h list (good .0) shape (ap (λ b. facts b .uses) e) (timesLeft s list) p (t .next) refl (ap (λ b. facts b .generates) e)
         (ap (λ b. facts b .copies) e) (ap (λ b. facts b .terminates) e)
-    booked-effect (advance list) e q good shape =
-        booked-advance t s h list good shape (ap (λ b. facts b .uses) e) (timesLeft s list) refl q (ap (λ b. facts b .generates) e)
+    booked-effect (advance list) o e q good shape =
+        booked-advance t s h list good shape (ap (λ b. facts b .uses) e) (timesLeft s list) refl (setMoving o s) q (ap (λ b. facts b .generates) e)
         (ap (λ b. facts b .copies) e) (ap (λ b. facts b .terminates) e)
-    booked-effect (terminate a) e q good shape = booked-terminate a t s h (ap facts e)
-    booked-effect (takes x) e q good shape = booked-takeUnits (plain-facts (ap facts e) refl refl refl refl) (shareServer x) (shareUnits x)
-    booked-effect (frees x) e q good shape =
+    booked-effect (terminate a) o e q good shape = booked-terminate a t s h (ap facts e)
+    booked-effect (takes x) o e q good shape = booked-takeUnits (plain-facts (ap facts e) refl refl refl refl) x
+    booked-effect (frees x) o e q good shape =
         booked-checkWels (shareServer x) _ (booked-wakeFor x _ (booked-entered (plain-facts (ap facts e) refl refl refl refl)))
-    booked-effect (waitServer code v) e q good shape =
+    booked-effect (waitServer code v) o e q good shape =
         let plain : Plain (facts (blockAt m (t .next))) = plain-facts (ap facts e) refl refl refl refl in
         cond-cases Books (status code (serverAt (s .view) v)) _ _ (λ k. booked-mustWait plain (toWel v code) (λ t s h. h)) (λ k. booked-entered plain)
-    booked-effect (waitTerms a r b) e q good shape =
+    booked-effect (waitTerms a r b) o e q good shape =
         let plain : Plain (facts (blockAt m (t .next))) = plain-facts (ap facts e) refl refl refl refl in
         waitTerms-cases Books m a r b t s (λ k. booked-mustWait plain toWsl (λ t s h. h)) (λ k. booked-entered plain)
-    booked-effect (moves c target) e q good shape = booked-entered (plain-facts (ap facts e) refl refl refl refl)
-    booked-effect (assign k a) e q good shape = booked-entered (plain-facts (ap facts e) refl refl refl refl)
-    booked-effect (priority p) e q good shape = booked-entered (plain-facts (ap facts e) refl refl refl refl)
-    booked-effect (split n target) e q good shape = booked-split n target t s h (ap facts e)
-    booked-effect (counts c q) e z good shape = booked-entered (plain-facts (ap facts e) refl refl refl refl)
+    booked-effect (moves c target) o e q good shape = booked-entered (plain-facts (ap facts e) refl refl refl refl)
+    booked-effect (assign k a) o e q good shape = booked-entered (plain-facts (ap facts e) refl refl refl refl)
+    booked-effect (priority p) o e q good shape = booked-entered (plain-facts (ap facts e) refl refl refl refl)
+    booked-effect (split n target) o e q good shape = booked-split n target t s h (ap facts e)
+    booked-effect (counts c q) o e z good shape = booked-entered (plain-facts (ap facts e) refl refl refl refl)
 
-  booked-answer : (n : ℕ) (t : Transaction) (s : State) → question m (blockAt m (t .next)) s ≡ n → Proper m tape → Shape m s → Books s
+  booked-answer : (n : ℕ) (t : Transaction) (s : State) → question m (blockAt m (t .next)) t s ≡ n → Proper m tape → Shape m s → Books s
       → Books (answer n m (blockAt m (t .next)) t s)
   unfolding answer
   booked-answer zero t s q proper shape h =
-      booked-effect t (setMoving none s) h _ refl (question-hand m (blockAt m (t .next)) none s ∙ q) (proper .block (t .next)) shape
+      booked-effect t (setMoving none s) h _ (s .moving) refl q (proper .block (t .next)) shape
   booked-answer (suc n) t s q proper shape h = h
 
   booked-execute : (o : Option Transaction) (s : State) → Proper m tape → Shape m s → Books s → Books (execute o m s)
@@ -307,7 +309,7 @@ module _ (m : BlockModel) (tape : List (List ℕ)) where
   booked-takeReady [] s h = booked-takeFirst _ _ (booked-nextEvents (s .fel) s h)
   booked-takeReady (t ∷ l) s h = booked-takeFirst (t ∷ l) s h
 
-  booked-taking : (o : Option Transaction) (s : State) → Books s → Books (taking o s)
+  pub booked-taking : (o : Option Transaction) (s : State) → Books s → Books (taking o s)
   unfolding taking
   booked-taking none s h = booked-takeReady (s .rel) s h
   booked-taking (some t) s h = h

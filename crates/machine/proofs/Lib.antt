@@ -40,5 +40,8 @@ pub mod ClockTerm
 pub mod RecordRoom
 pub mod WiderParsing
 pub mod SameTurns
+pub mod LaterClock
 pub mod OlderTapes
+pub mod Holders
+pub mod OnlyHolder
 pub mod Demand3

@@ -7,17 +7,18 @@ use native.Mathlib.Omega.{arith}
 use lib.Dec.{leb, ltb}
 use lib.ListN.{length}
 use Rattle.machine.specs.Limits.{workNumbers, reportRoom}
-use Rattle.machine.specs.Rules.{Rules, document01, document02}
+use Rattle.machine.specs.Rules.{Rules, document01, item1, document02}
 use Rattle.machine.specs.Parser.{Cursor, Parsed, parsed, refused}
 use Rattle.machine.specs.Block.{BlockModel}
 use Rattle.machine.specs.Trace.{Record, Reading, taken, refusal, noMore, recordFields, reading, readRecord}
 use Rattle.machine.specs.Run.{run}
 use Rattle.machine.specs.Validate.{beginning, modelOf, tapeOf, Validation, accept, reject, withTape, withModel, validate}
 use Rattle.machine.specs.Outcome.{acceptedRun, refusedRun, outcomeOf, outcome}
-use Rattle.machine.specs.OlderTapes.{AllowsNoLess, SameBytes, KeepsRuns, KeepsTraces}
+use Rattle.machine.specs.OlderTapes.{Wider, AllowsNoLess, SameBytes, KeepsRuns, KeepsTraces}
 use Rattle.machine.proofs.ProperFrom.{rules-from, refusal-from}
-use Rattle.machine.proofs.WiderParsing.{Kept, withRules, underRules, tape-widens, record-widens, model-read}
-use Rattle.machine.proofs.SameTurns.{accepted-same, run-same}
+use Rattle.machine.proofs.WiderParsing.{Kept, withRules, underRules, tape-widens, record-widens, model-read, own-rules}
+use Rattle.machine.proofs.SameTurns.{accepted-same}
+use Rattle.machine.proofs.LaterClock.{later-same}
 
 -- ---- Validation
 
@@ -31,27 +32,18 @@ asked : (new : Rules) (b : Bool) (n : ℕ) (x x′ : Validation) → Accepted ne
 asked new true n x x′ h = h
 asked new false n x x′ h = tt
 
-rulesOf : Parsed BlockModel → Rules
-rulesOf (parsed m c) = m .rules
-rulesOf (refused n) = document01
-
-module _ {old new : Rules} (less : AllowsNoLess old new) where
+module _ {old new : Rules} (wider : Wider old new) where
   with-tape : (m : BlockModel) (r r′ : Parsed (List (List ℕ))) → Kept r r′ → Accepted new (withTape m r) (withTape (withRules new m) r′)
   unfolding withTape
   with-tape m (parsed t c) r′ h = rw h
   with-tape m (refused n) r′ h = tt
 
-  -- a model that was read has the rules that it was read by
-  own-rules : (model : List ℕ) (m : BlockModel) (c : Cursor) → modelOf old model beginning ≡ parsed m c → m .rules ≡ old
-  unfolding rulesOf
-  own-rules model m c e = ap rulesOf (sym e ∙ model-read old old model beginning ∙ ap (underRules old) e)
-
   with-model : (model tape : List ℕ) (r : Parsed BlockModel) → modelOf old model beginning ≡ r → Accepted new (withModel tape r) (withModel tape (underRules new r))
   unfolding withModel
   with-model model tape (parsed m c) e =
       with-tape m _ _
-      (subst (λ rules. Kept (tapeOf rules tape (m .lists) beginning) (tapeOf new tape (m .lists) beginning)) (sym (own-rules model m c e))
-      (tape-widens less tape (m .lists) .from beginning))
+      (subst (λ rules. Kept (tapeOf rules tape (m .lists) beginning) (tapeOf new tape (m .lists) beginning)) (sym (own-rules old model m c e))
+      (tape-widens wider tape (m .lists) .from beginning))
   with-model model tape (refused n) e = tt
 
   validated : (model tape : List ℕ) (work report : ℕ) → Accepted new (validate old model tape work report) (validate new model tape work report)
@@ -61,20 +53,6 @@ module _ {old new : Rules} (less : AllowsNoLess old new) where
       (asked new (leb reportRoom report) 2 _ _
       (subst (λ r. Accepted new (withModel tape (modelOf old model beginning)) (withModel tape r)) (sym (model-read new old model beginning))
       (with-model model tape (modelOf old model beginning) refl)))
-
-  -- ---- From bytes
-
-  pub keeps-runs : KeepsRuns old new
-  unfolding outcome outcomeOf acceptedRun refusedRun
-  keeps-runs model tape budget work room report = go (validate old model tape work report) (validate new model tape work report) refl (validated model tape work report)
-    where
-      go : (v v′ : Validation) → validate old model tape work report ≡ v → Accepted new v v′
-          → SameBytes (outcomeOf budget room v) (outcomeOf budget room v′)
-      go (accept m t) v′ e h z ne =
-          let own : m .rules ≡ old = rules-from old model tape work report e in
-          let higher = subst (λ rules. rules .maxClock ≤ new .maxClock) (sym own) (less .clock) in
-          ap (outcomeOf budget room) h ∙ ap (acceptedRun (withRules new m)) (run-same new m higher t budget room ne) ∙ accepted-same new m (run m t budget room)
-      go (reject n) v′ e h z ne = absurd (omega (arith, refusal-from old model tape work report e .0))
 
   -- ---- Traces
 
@@ -96,7 +74,7 @@ module _ {old new : Rules} (less : AllowsNoLess old new) where
       read (refused n) r′ h = tt
 
       go : (b : Bool) → Answered (cond b (reading (recordFields old s c)) noMore) (cond b (reading (recordFields new s c)) noMore)
-      go true = read (recordFields old s c) (recordFields new s c) (record-widens less s .from c)
+      go true = read (recordFields old s c) (recordFields new s c) (record-widens wider s .from c)
       go false = refl
 
   pub keeps-traces : KeepsTraces old new
@@ -106,13 +84,29 @@ module _ {old new : Rules} (less : AllowsNoLess old new) where
         ends = λ s at e. subst (λ r. Answered r (readRecord new s at)) e (answered s at);
       }
 
+-- ---- From bytes
+
+pub keeps-runs : {old new : Rules} → AllowsNoLess old new → KeepsRuns old new
+unfolding outcome outcomeOf acceptedRun refusedRun
+keeps-runs {old} {new} less model tape budget work room report =
+    go (validate old model tape work report) (validate new model tape work report) refl (validated (less .wider) model tape work report)
+  where
+    go : (v v′ : Validation) → validate old model tape work report ≡ v → Accepted new v v′
+        → SameBytes (outcomeOf budget room v) (outcomeOf budget room v′)
+    go (accept m t) v′ e h z ne =
+        let own : m .rules ≡ old = rules-from old model tape work report e in
+        let higher = subst (λ rules. rules .maxClock ≤ new .maxClock) (sym own) (less .wider .clock) in
+        let holders = ap (λ (r : Rules). r .holders) own ∙ less .holders in
+        ap (outcomeOf budget room) h ∙ ap (acceptedRun (withRules new m)) (later-same new m higher holders t budget room ne) ∙ accepted-same new m (run m t budget room)
+    go (reject n) v′ e h z ne = absurd (omega (arith, refusal-from old model tape work report e .0))
+
 -- ---- Documents 01 and 02
 
-older : AllowsNoLess document01 document02
-older = record { clock = omega arith; time = omega arith; number = omega arith }
+wider-year : Wider document01 item1
+wider-year = record { clock = omega arith; time = omega arith; number = omega arith }
 
-pub older-runs : KeepsRuns document01 document02
-older-runs = keeps-runs older
+pub older-runs : KeepsRuns document01 item1
+older-runs = keeps-runs (record { wider = wider-year; holders = refl })
 
 pub older-traces : KeepsTraces document01 document02
-older-traces = keeps-traces older
+older-traces = keeps-traces (record { clock = omega arith; time = omega arith; number = omega arith })

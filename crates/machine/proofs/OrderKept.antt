@@ -103,7 +103,7 @@ module _ (m : BlockModel) (tape : List (List ℕ)) where
         subst (λ o. Ordered (execute o m s)) (sym e)
         (record { linked = l; in-order = in-order; unmarked = λ z. subst Unmarked (sym e) tt })
     ordered-execute s (hand t h) in-order shape =
-        subst (λ o. Ordered (execute o m s)) (sym (h .moves)) (ordered-answer t s h in-order proper shape (question m (blockAt m (t .next)) s))
+        subst (λ o. Ordered (execute o m s)) (sym (h .moves)) (ordered-answer t s h in-order proper shape (question m (blockAt m (t .next)) t s))
 
     ordered-wakeWsl : (p : Transaction → Bool) (s : State) → Ordered s → Ordered (wakeWsl p s)
     unfolding wakeWsl

@@ -74,11 +74,12 @@ module _ (m : BlockModel) (tape : List (List ℕ)) (proper : Proper m tape) wher
     h′ : Everybody P (Rattle.machine.specs.Moves.enters t s)
     h′ = enters-everybody P U t s h
 
-    units-placed : (v b : ℕ) → P (withNext (suc (t .next)) t) → Everybody P (takeUnits v b t s)
+    units-placed : (x : Share) → P (withNext (suc (t .next)) t) → Everybody P (takeUnits x t s)
     unfolding takeUnits
-    units-placed v b next =
-        cond-cases (Everybody P) (leb b (free (serverAt (s .view) v))) _ _ (λ e. moveTo-everybody P U _ t _ next (checkWels-everybody P U v _ (inUse-everybody P U v _ _ h′)))
-        (λ e. waitQl-everybody P U v t s p h)
+    units-placed x next =
+        let v : ℕ = shareServer x in
+        cond-cases (Everybody P) (leb (shareUnits x) (free (serverAt (s .view) v))) _ _
+        (λ e. moveTo-everybody P U _ t _ next (checkWels-everybody P U v _ (inUse-everybody P U v _ _ _ h′))) (λ e. waitQl-everybody P U v t s p h)
 
     wakeFor-everybody : (x : Share) (s : State) → Everybody P s → Everybody P (wakeFor m x s)
     unfolding wakeFor
@@ -93,14 +94,14 @@ module _ (m : BlockModel) (tape : List (List ℕ)) (proper : Proper m tape) wher
         cond-cases (λ (n : ℕ). P (withNext n t)) (compare (m .values) (s .view) (t .parameters) a r b) _ _ (λ e. (ok, p .1)) (λ e. on refl)
 
     effect-placed : (b : Block) → ProperBlock m b → (facts b .leaves ≡ false → P (withNext (suc (t .next)) t)) → Everybody P (effect m b t s)
-    unfolding effect facts newborn
+    unfolding effect facts newborn takeUnits
     effect-placed (generate list k) ok on = moveTo-everybody P U _ t _ (on refl) (arrival-everybody P U _ list k _ _ (p .0, ok .1) h′)
     effect-placed (advance list) ok on = delay-everybody P U _ list t _ (on refl) h′
     effect-placed (terminate a) ok on = endsOne-everybody P U a _ h′
-    effect-placed (takes x) ok on = units-placed (shareServer x) (shareUnits x) (on refl)
+    effect-placed (takes x) ok on = units-placed x (on refl)
     effect-placed (frees x) ok on =
         moveTo-everybody P U _ t _ (on refl)
-        (checkWels-everybody P U (shareServer x) _ (wakeFor-everybody x _ (inUse-everybody P U (shareServer x) _ _ h′)))
+        (checkWels-everybody P U (shareServer x) _ (wakeFor-everybody x _ (inUse-everybody P U (shareServer x) _ _ _ h′)))
     effect-placed (waitServer code v) ok on =
         cond-cases (Everybody P) (status code (serverAt (s .view) v)) _ _ (λ e. waitWel-everybody P U v code t s p h)
         (λ e. moveTo-everybody P U _ t _ (on refl) (wakeFirstWel-everybody P U v code _ h′))

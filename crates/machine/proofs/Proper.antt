@@ -66,21 +66,36 @@ unfolding shareServer
 share-server m (facility v) h = (h .0, omega arith)
 share-server m (storage v b) h = (omega arith, h .0 .1)
 
+-- ---- Which blocks make transactions, and which take a server
+
+pub data Role : Block → Type 0 where
+  generating : (list p : ℕ) → Role (generate list p)
+  taking : (x : Share) → Role (takes x)
+  neither : {b : Block} → facts b .generates ≡ 0 → facts b .server ≡ 0 → Role b
+
+pub role : (b : Block) → Role b
+unfolding facts
+role (generate list p) = generating list p
+role (advance list) = neither refl refl
+role (terminate a) = neither refl refl
+role (takes x) = taking x
+role (frees x) = neither refl refl
+role (waitServer code v) = neither refl refl
+role (waitTerms a r b) = neither refl refl
+role (moves c target) = neither refl refl
+role (assign k a) = neither refl refl
+role (priority p) = neither refl refl
+role (split n target) = neither refl refl
+role (counts c q) = neither refl refl
+
 -- a GENERATE names a list and a priority; other blocks have rank 0
 pub generates-list : (m : BlockModel) (b : Block) → ProperBlock m b → (facts b .generates ≡ 0 → ⊥) → Names (m .lists) (facts b .generates) × (facts b .rank ≤ maxPriority)
-unfolding facts
-generates-list m (generate list p) h n = h
-generates-list m (advance list) h n = absurd (n refl)
-generates-list m (terminate a) h n = absurd (n refl)
-generates-list m (takes x) h n = absurd (n refl)
-generates-list m (frees x) h n = absurd (n refl)
-generates-list m (waitServer code v) h n = absurd (n refl)
-generates-list m (waitTerms a r b) h n = absurd (n refl)
-generates-list m (moves c target) h n = absurd (n refl)
-generates-list m (assign k a) h n = absurd (n refl)
-generates-list m (priority p) h n = absurd (n refl)
-generates-list m (split k target) h n = absurd (n refl)
-generates-list m (counts c q) h n = absurd (n refl)
+generates-list m b h n = go (role b) h n
+  where
+    go : {b : Block} → Role b → ProperBlock m b → (facts b .generates ≡ 0 → ⊥) → Names (m .lists) (facts b .generates) × (facts b .rank ≤ maxPriority)
+    go (generating list p) h n = unfold facts in h
+    go (taking x) h n = absurd (n (unfold facts in refl))
+    go (neither e z) h n = absurd (n e)
 
 pub record Proper (m : BlockModel) (tape : List (List ℕ)) : Type 0 where
   -- of every block; the block that `blockAt` gives past the end asks nothing

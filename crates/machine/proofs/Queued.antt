@@ -12,11 +12,11 @@ use borrow.Author.Tests.{leb-false, lt-leb, not-true}
 use Rattle.machine.specs.Transaction.{Transaction, precedes}
 use Rattle.machine.specs.Lists.{insert, those, others, nth, setNth}
 use Rattle.machine.specs.Term.{Server, idleServer, free}
-use Rattle.machine.specs.Block.{facility, storage, shareServer, shareUnits, Block, generate, advance, terminate, takes, frees, waitServer, waitTerms, moves, assign, priority, split, counts, facts, BlockModel, blockAt}
-use Rattle.machine.specs.Setters.{withInUse, withReturning}
+use Rattle.machine.specs.Block.{facility, storage, shareServer, shareUnits, Block, facts, BlockModel, blockAt}
+use Rattle.machine.specs.Setters.{withUse, withReturning}
 use Rattle.machine.specs.Moves.{wake}
 use Rattle.machine.specs.Claims.{Each}
-use Rattle.machine.proofs.Proper.{Proper, ProperBlock, servers}
+use Rattle.machine.proofs.Proper.{Proper, ProperBlock, servers, Role, generating, taking, neither, role}
 use Rattle.machine.proofs.RunLaws.{each-map}
 use Rattle.machine.proofs.Sorted.{Sorted, each-insert, each-those, each-passes, each-drop, some-inserted, at-set, sorted-drop, sorted-those, sorted-in}
 use Rattle.machine.proofs.Waiting.{serverOf, unitsOf, AtServer, serverIn, Next, QlWaits, nobodyFits, nextReady, Queued}
@@ -24,26 +24,17 @@ use Rattle.machine.proofs.Ready.{Grows, grows-not, grows-wake, ql-more,
 
 -- ---- The units of a SEIZE
 
-seize-units : (m : BlockModel) (b : Block) → ProperBlock m b → 1 ≤ facts b .server → facts b .server ≤ m .facilities → facts b .units ≡ 1
+seize-units : (m : BlockModel) {b : Block} → Role b → ProperBlock m b → 1 ≤ facts b .server → facts b .server ≤ m .facilities → facts b .units ≡ 1
 unfolding facts shareServer shareUnits
-seize-units m (generate list p) k a c = omega arith
-seize-units m (advance list) k a c = omega arith
-seize-units m (terminate a) k a′ c = omega arith
-seize-units m (takes (facility v)) k a c = refl
-seize-units m (takes (storage v b)) k a c = omega arith
-seize-units m (frees x) k a c = omega arith
-seize-units m (waitServer code v) k a c = omega arith
-seize-units m (waitTerms a r b) k a′ c = omega arith
-seize-units m (moves d target) k a c = omega arith
-seize-units m (assign i a) k a′ c = omega arith
-seize-units m (priority p) k a c = omega arith
-seize-units m (split n target) k a c = omega arith
-seize-units m (counts d q) k a c = omega arith
+seize-units m (generating list p) k a c = omega arith
+seize-units m (taking (facility v)) k a c = refl
+seize-units m (taking (storage v b)) k a c = omega arith
+seize-units m (neither e z) k a c = omega arith
 
 -- who stands at a SEIZE takes one unit
 facility-units : {m : BlockModel} {tape : List (List ℕ)} → Proper m tape → (v : ℕ) (t : Transaction) → 1 ≤ v → v ≤ m .facilities
     → AtServer m v t → unitsOf m t ≡ 1
-facility-units {m} proper v t a b e = seize-units m (blockAt m (t .next)) (proper .block (t .next)) (omega arith) (omega arith)
+facility-units {m} proper v t a b e = seize-units m (role (blockAt m (t .next))) (proper .block (t .next)) (omega arith) (omega arith)
 
 -- ---- One server and its QL change
 
@@ -74,15 +65,15 @@ module _ {m : BlockModel} {t : Transaction} {rel : List Transaction} {l : List S
           (ql-more (grows .keeps) (ql-else (leaves v′ a n) (w .ql-waits v′ a b)))
 
   -- 4 SEIZE and 6 ENTER, getting in
-  pub taken-queued : {tape : List (List ℕ)} (b : ℕ) → Proper m tape → v ≤ servers m → (v ≤ m .facilities → serverIn l v .capacity ≡ 1)
-      → AtServer m v t → unitsOf m t ≡ b → Queued m rel rel (setNth l v (withInUse (serverIn l v .inUse + b) (serverIn l v))) ql
-  taken-queued b proper known whole at units =
+  pub taken-queued : {tape : List (List ℕ)} (b holder : ℕ) → Proper m tape → v ≤ servers m → (v ≤ m .facilities → serverIn l v .capacity ≡ 1)
+      → AtServer m v t → unitsOf m t ≡ b → Queued m rel rel (setNth l v (withUse (serverIn l v .inUse + b) holder (serverIn l v))) ql
+  taken-queued b holder proper known whole at units =
       subst (λ ql′. Queued m rel rel (setNth l v x) ql′) (set-getD ql (v - 1) [])
       (queued-set x q rel (λ v′ a n h. n (sym h ∙ at)) (grows-not rel) (w .ql-sorted (v - 1)) (w .ql-stands v one)
       (waits (w .ql-waits v one known)))
     where
       x : Server
-      x = withInUse (serverIn l v .inUse + b) (serverIn l v)
+      x = withUse (serverIn l v .inUse + b) holder (serverIn l v)
 
       waits : QlWaits m (t ∷ rel) (serverIn l v) v q → QlWaits m rel x v q
       waits (nobodyFits h) =

@@ -13,11 +13,11 @@ use borrow.Author.Tests.{ltb-true, ltb-false}
 use Rattle.machine.specs.Transaction.{Transaction, precedes}
 use Rattle.machine.specs.Lists.{flat}
 use Rattle.machine.specs.Term.{View, free}
-use Rattle.machine.specs.Block.{down, Block, generate, advance, terminate, takes, frees, waitServer, waitTerms, moves, assign, priority, split, counts, facts, BlockModel, blockAt}
+use Rattle.machine.specs.Block.{Block, facts, BlockModel, blockAt}
 use Rattle.machine.specs.State.{State}
 use Rattle.machine.specs.Turn.{holds, waitsOn}
 use Rattle.machine.specs.Claims.{Each, bit}
-use Rattle.machine.proofs.Proper.{servers}
+use Rattle.machine.proofs.Proper.{servers, Role, generating, taking, neither, role}
 use Rattle.machine.proofs.RunLaws.{cond-cases}
 use Rattle.machine.proofs.Sorted.{Some, Before, before-precedes}
 use Rattle.machine.proofs.Waiting.{serverOf, unitsOf, serverIn, QlWaits, nobodyFits, nextReady, Queued, Gated}
@@ -34,20 +34,11 @@ use Rattle.machine.proofs.OpenPairs.{key, Pair, pair, is, only, only-se
 OnlyQl : Block → Type 0
 OnlyQl b = (facts b .wel ≡ 0) × (facts b .waitsWhile ≡ none)
 
-takes-or-not : (b : Block) → (facts b .server ≡ 0) ⊎ OnlyQl b
+takes-or-not : {b : Block} → Role b → (facts b .server ≡ 0) ⊎ OnlyQl b
 unfolding facts OnlyQl
-takes-or-not (generate list p) = inl refl
-takes-or-not (advance list) = inl refl
-takes-or-not (terminate a) = inl refl
-takes-or-not (takes x) = inr (refl, refl)
-takes-or-not (frees x) = inl refl
-takes-or-not (waitServer code v) = inl refl
-takes-or-not (waitTerms a r b) = inl refl
-takes-or-not (moves c target) = inl refl
-takes-or-not (assign k a) = inl refl
-takes-or-not (priority p) = inl refl
-takes-or-not (split n target) = inl refl
-takes-or-not (counts c q) = inl refl
+takes-or-not (generating list p) = inl refl
+takes-or-not (taking x) = inr (refl, refl)
+takes-or-not (neither e z) = inl z
 
 -- ---- Who precedes whom
 
@@ -117,7 +108,7 @@ Standing m t s = StandingOn m t (s .view) (s .ql) (s .wel) (s .wsl) (s .rel)
 module _ (m : BlockModel) (tape : List (List ℕ)) (t : Transaction) (s : State) (in-place : Standing m t s)
     (gets-in : GetsIn (blockAt m (t .next)) s) (w : Wait) (rival : Rivals m tape (w .key) (waitOf t .key)) (older : w .serial < t .serial) where
   only-ql : (u : Transaction) → w ≡ waitOf u → OnlyQl (blockAt m (u .next))
-  only-ql u e = go (takes-or-not (blockAt m (u .next)))
+  only-ql u e = go (takes-or-not (role (blockAt m (u .next))))
     where
       go : (serverOf m u ≡ 0) ⊎ OnlyQl (blockAt m (u .next)) → OnlyQl (blockAt m (u .next))
       go (inl z) = absurd (rival .some-server (ap (λ (x : Wait). facts (blockAt m (x .key .block)) .server) e ∙ z))

@@ -1,29 +1,30 @@
--- Two models that differ in their rules alone, where the second clock limit is no lower: as long as no question ends the first run
--- with 22, both go through the same states, and their reports are the same. Effects read no rules; of the questions only 22 does.
-use Prim.Native.Nat.{ℕ, zero, suc, _+_, _≤_}
-use mathlib.Core.Path.{_≡_, refl, sym, ap, _∙_}
+-- Two models that differ in their rules alone. Effects read no rules, so a turn is the same under both where its question is answered
+-- alike; a run whose turns are the same goes through the same states, and its report is the same.
+use Prim.Native.Nat.{ℕ, zero, suc}
+use mathlib.Core.Path.{_≡_, refl, sym, ap, subst, _∙_}
 use mathlib.Core.Bool.{Bool, true, false}
 use mathlib.Core.List.{List, [], _∷_}
 use mathlib.Core.Option.{Option, none, some}
-use native.Mathlib.Omega.{arith}
-use borrow.Author.Tests.{eqb-true, eqb-false, leb-true, le-leb}
-use lib.Dec.{leb, eqb}
-use Rattle.machine.specs.Limits.{maxLiving}
+use borrow.Author.Tests.{eqb-true, eqb-false}
+use lib.Dec.{eqb}
 use Rattle.machine.specs.Rules.{Rules}
 use Rattle.machine.specs.Transaction.{Transaction}
 use Rattle.machine.specs.Term.{Server, Queue}
 use Rattle.machine.specs.Block.{Share, facility, storage, shareServer, shareUnits, Block, generate, advance, terminate, takes, frees, waitServer, waitTerms, moves, assign, priority, split, counts, BlockModel, blockAt}
 use Rattle.machine.specs.State.{State, Logged}
-use Rattle.machine.specs.Setters.{setMoving}
-use Rattle.machine.specs.Moves.{enters, goOn, wakeWsl, timesLeft}
-use Rattle.machine.specs.Execute.{unless, living, askTime, askGenerate, askAdvance, question, fits, wakeFor, checkWels, freeUnits, effect}
-use Rattle.machine.specs.Turn.{answer, execute, waitsOn, wsScheme, turn}
+use Rattle.machine.specs.Setters.{setMoving, setTurns, setEnd}
+use Rattle.machine.specs.Moves.{enters, goOn}
+use Rattle.machine.specs.Execute.{question, fits, wakeFor, checkWels, freeUnits, effect, takeUnits}
+use Rattle.machine.specs.Turn.{taking, answer, execute, waitsOn, wsScheme, turn}
 use Rattle.machine.specs.Run.{endBefore, idle, start, runFrom, run, steps}
 use Rattle.machine.specs.Report.{recordsAt, serverNumbers, queueNumbers, reportNumbers, reportBytes}
 use Rattle.machine.specs.Outcome.{acceptedRun}
-use Rattle.machine.proofs.RunLaws.{run-on, run-off, Before, taken, own, closing, before}
-use Rattle.machine.proofs.Cases.{wsScheme-cases}
+use Rattle.machine.proofs.RunLaws.{run-on, run-off, Taken, Before, before, taken-of}
 use Rattle.machine.proofs.WiderParsing.{withRules}
+
+-- the state in which the block of a turn is executed
+abbrev pub takenFrom : State → State
+takenFrom s = setTurns (suc (s .turns)) (taking (s .moving) s)
 
 module _ (new : Rules) (m : BlockModel) where
   abbrev m′ : BlockModel
@@ -37,7 +38,7 @@ module _ (new : Rules) (m : BlockModel) where
   wakes-same (storage v b) s = refl
 
   effect-same : (b : Block) (t : Transaction) (s : State) → effect m′ b t s ≡ effect m b t s
-  unfolding effect
+  unfolding effect takeUnits
   effect-same (generate list p) t s = refl
   effect-same (advance list) t s = refl
   effect-same (terminate a) t s = refl
@@ -78,105 +79,68 @@ module _ (new : Rules) (m : BlockModel) where
   unfolding acceptedRun reportBytes reportNumbers
   accepted-same s = rw (servers-same (s .records) 1 (s .view .servers), queues-same (s .records) 1 (s .view .queues))
 
-  -- ---- The questions
+  -- ---- The turn
 
-  module _ (higher : m .rules .maxClock ≤ new .maxClock) where
-    -- the answer is 22, or it stays
-    time-same : (time : ℕ) (s : State) → (askTime m time s ≡ 22 → ⊥) → askTime m′ time s ≡ askTime m time s
-    time-same time s h = go (leb (s .view .clock + time) (m .rules .maxClock)) refl h
-      where
-        go : (b : Bool) → leb (s .view .clock + time) (m .rules .maxClock) ≡ b → (unless b 22 0 ≡ 22 → ⊥) → askTime m′ time s ≡ unless b 22 0
-        go true e h = rw (le-leb (s .view .clock + time) (new .maxClock) (omega (arith, leb-true (s .view .clock + time) (m .rules .maxClock) e)))
-        go false e h = absurd (h refl)
+  answer-same : (n : ℕ) (b : Block) (t : Transaction) (s : State) → answer n m′ b t s ≡ answer n m b t s
+  unfolding answer
+  answer-same zero b t s = effect-same b t (setMoving none s)
+  answer-same (suc n) b t s = refl
 
-    generate-same : (l : List ℕ) (s : State) → (askGenerate m l s ≡ 22 → ⊥) → askGenerate m′ l s ≡ askGenerate m l s
-    unfolding askGenerate
-    generate-same [] s h = refl
-    generate-same (time ∷ left) s h = go (leb (living s + 1) maxLiving) h
-      where
-        go : (b : Bool) → (unless b 21 (askTime m time s) ≡ 22 → ⊥) → unless b 21 (askTime m′ time s) ≡ unless b 21 (askTime m time s)
-        go true h = time-same time s h
-        go false h = refl
+  -- whoever moves is answered alike
+  abbrev pub AnsweredAlike : Option Transaction → State → Type 0
+  AnsweredAlike none s = Unit {0}
+  AnsweredAlike (some t) s = question m′ (blockAt m (t .next)) t s ≡ question m (blockAt m (t .next)) t s
 
-    advance-same : (l : List ℕ) (s : State) → (askAdvance m l s ≡ 22 → ⊥) → askAdvance m′ l s ≡ askAdvance m l s
-    unfolding askAdvance
-    advance-same [] s h = refl
-    advance-same (time ∷ left) s h = time-same time s h
+  execute-same : (o : Option Transaction) (s : State) → AnsweredAlike o s → execute o m′ s ≡ execute o m s
+  unfolding execute
+  execute-same none s h = refl
+  execute-same (some t) s h =
+      let b = blockAt m (t .next) in
+      ap (λ n. answer n m′ b t s) h ∙ answer-same (question m b t s) b t s
 
-    question-same : (b : Block) (s : State) → (question m b s ≡ 22 → ⊥) → question m′ b s ≡ question m b s
-    unfolding question
-    question-same (generate list p) s h = generate-same (timesLeft s list) s h
-    question-same (advance list) s h = advance-same (timesLeft s list) s h
-    question-same (terminate a) s h = refl
-    question-same (takes x) s h = refl
-    question-same (frees x) s h = refl
-    question-same (waitServer code v) s h = refl
-    question-same (waitTerms a r b) s h = refl
-    question-same (moves c target) s h = refl
-    question-same (assign k a) s h = refl
-    question-same (priority p) s h = refl
-    question-same (split n target) s h = refl
-    question-same (counts c q) s h = refl
+  pub turn-same : (s : State) → AnsweredAlike (takenFrom s .moving) (takenFrom s) → turn m′ s ≡ turn m s
+  unfolding turn
+  turn-same s h = ap (wsScheme m′) (execute-same _ _ h) ∙ scheme-same _
 
-    -- ---- The turn
+  -- ---- The run
 
-    answer-same : (n : ℕ) (b : Block) (t : Transaction) (s : State) → answer n m′ b t s ≡ answer n m b t s
-    unfolding answer
-    answer-same zero b t s = effect-same b t (setMoving none s)
-    answer-same (suc n) b t s = refl
-
-    answer-ends : (n : ℕ) (b : Block) (t : Transaction) (s : State) → n ≡ 22 → answer n m b t s .end ≡ 22
-    unfolding answer
-    answer-ends zero b t s e = absurd (omega arith)
-    answer-ends (suc n) b t s e = e
-
-    execute-same : (o : Option Transaction) (s : State) → (execute o m s .end ≡ 22 → ⊥) → execute o m′ s ≡ execute o m s
-    unfolding execute
-    execute-same none s h = refl
-    execute-same (some t) s h =
-        let b = blockAt m (t .next) in
-        ap (λ n. answer n m′ b t s) (question-same b s (λ e. h (answer-ends (question m b s) b t s e))) ∙ answer-same (question m b s) b t s
-
-    scheme-end : (s : State) → wsScheme m s .end ≡ s .end
-    unfolding wakeWsl
-    scheme-end s = wsScheme-cases (λ s′. s′ .end ≡ s .end) m s (λ e. refl) (λ e. refl)
-
-    turn-same : (s : State) → (turn m s .end ≡ 22 → ⊥) → turn m′ s ≡ turn m s
-    unfolding turn
-    turn-same s h =
-        ap (wsScheme m′) (execute-same _ _ (λ e. h (scheme-end _ ∙ e))) ∙ scheme-same _
-
-    -- ---- The run
-
-    -- 22 stays
-    ended-from : (n budget room : ℕ) (s : State) → s .end ≡ 22 → runFrom n m budget room s .end ≡ 22
+  -- `Same` of a turn's outcome makes it the same turn, in states in which `I` holds; who has it now, had it before
+  module _ (budget room : ℕ) (I Same : State → Type 0) (step : (s : State) → Taken budget room s → I s → I (turn m s))
+      (same : (s : State) → Taken budget room s → I s → Same (turn m s) → turn m′ s ≡ turn m s)
+      (back : (s : State) → Taken budget room s → I s → Same (turn m s) → Same s)
+      (close : (s : State) (e : ℕ) → Before budget room s e → (e ≡ 0 → ⊥) → Same (setEnd e s) → Same s) where
+    same-before : (n : ℕ) (s : State) → I s → Same (runFrom n m budget room s) → Same s
     unfolding runFrom
-    ended-from zero budget room s e = e
-    ended-from (suc n) budget room s e = go (before budget room s) refl
+    same-before zero s i h = h
+    same-before (suc n) s i h = go (eqb (endBefore budget room s) 0) refl (same-before n (turn m s))
       where
-        go : {b : ℕ} → Before budget room s b → endBefore budget room s ≡ b → runFrom (suc n) m budget room s .end ≡ 22
-        go (taken t) z = absurd (omega (arith, t .no-end))
-        go (own h) z = ap (λ s. s .end) (run-off m budget room n s (λ y. h (sym z ∙ y))) ∙ z ∙ e
-        go (closing c) z = absurd (omega (arith, c .no-end))
+        go : (b : Bool) → eqb (endBefore budget room s) 0 ≡ b → (I (turn m s) → Same (runFrom n m budget room (turn m s)) → Same (turn m s)) → Same s
+        go true e k =
+            let z : endBefore budget room s ≡ 0 = eqb-true _ _ e in
+            let t : Taken budget room s = taken-of (before budget room s) z in
+            back s t i (k (step s t i) (subst Same (run-on m budget room n s z) h))
+        go false e k =
+            let z : (endBefore budget room s ≡ 0 → ⊥) = eqb-false _ _ e in
+            close s _ (before budget room s) z (subst Same (run-off m budget room n s z) h)
 
-    run-from : (n budget room : ℕ) (s : State) → (runFrom n m budget room s .end ≡ 22 → ⊥) → runFrom n m′ budget room s ≡ runFrom n m budget room s
+    run-from : (n : ℕ) (s : State) → I s → Same (runFrom n m budget room s) → runFrom n m′ budget room s ≡ runFrom n m budget room s
     unfolding runFrom
-    run-from zero budget room s h = refl
-    run-from (suc n) budget room s h = go (eqb (endBefore budget room s) 0) refl (run-from n budget room (turn m s))
+    run-from zero s i h = refl
+    run-from (suc n) s i h = go (eqb (endBefore budget room s) 0) refl (run-from n (turn m s))
       where
         go : (b : Bool) → eqb (endBefore budget room s) 0 ≡ b
-            → ((runFrom n m budget room (turn m s) .end ≡ 22 → ⊥) → runFrom n m′ budget room (turn m s) ≡ runFrom n m budget room (turn m s))
+            → (I (turn m s) → Same (runFrom n m budget room (turn m s)) → runFrom n m′ budget room (turn m s) ≡ runFrom n m budget room (turn m s))
             → runFrom (suc n) m′ budget room s ≡ runFrom (suc n) m budget room s
         go true e k =
             let z : endBefore budget room s ≡ 0 = eqb-true _ _ e in
+            let t : Taken budget room s = taken-of (before budget room s) z in
             let on = run-on m budget room n s z in
-            let left : (runFrom n m budget room (turn m s) .end ≡ 22 → ⊥) = λ e. h (ap (λ s. s .end) on ∙ e) in
-            run-on m′ budget room n s z ∙ ap (runFrom n m′ budget room) (turn-same s (λ e. left (ended-from n budget room (turn m s) e))) ∙ k left ∙ sym on
+            let left : Same (runFrom n m budget room (turn m s)) = subst Same on h in
+            run-on m′ budget room n s z ∙ ap (runFrom n m′ budget room) (same s t i (same-before n (turn m s) (step s t i) left)) ∙ k (step s t i) left ∙ sym on
         go false e k =
             let z : (endBefore budget room s ≡ 0 → ⊥) = eqb-false _ _ e in
             run-off m′ budget room n s z ∙ sym (run-off m budget room n s z)
 
-    pub run-same : (tape : List (List ℕ)) (budget room : ℕ) → (run m tape budget room .end ≡ 22 → ⊥) → run m′ tape budget room ≡ run m tape budget room
+    pub run-same : (tape : List (List ℕ)) → I (start m tape) → Same (run m tape budget room) → run m′ tape budget room ≡ run m tape budget room
     unfolding run
-    run-same tape budget room h =
-        ap (runFrom steps m′ budget room) (start-same tape) ∙ run-from steps budget room (start m tape) h
+    run-same tape i h = ap (runFrom steps m′ budget room) (start-same tape) ∙ run-from steps (start m tape) i h

@@ -11,8 +11,8 @@ use Rattle.machine.specs.Lists.{nth, setNth}
 use Rattle.machine.specs.Term.{Server, View, Queue, idleServer, serverAt}
 use Rattle.machine.specs.Block.{Code, U, NU, E, NE, F, NF, codeIndex, BlockModel, welIndex}
 use Rattle.machine.specs.State.{State}
-use Rattle.machine.specs.Setters.{withInUse, setClock, setEntries, setQueues, setServers}
-use Rattle.machine.specs.Moves.{setInUse}
+use Rattle.machine.specs.Setters.{withUse, setClock, setEntries, setQueues, setServers}
+use Rattle.machine.specs.Moves.{setUse}
 use Rattle.machine.specs.Turn.{sampleServers, sampleQueue, sample, turn}
 use Rattle.machine.specs.Run.{idle, start}
 use Rattle.machine.specs.Claims.{Each}
@@ -166,9 +166,10 @@ module _ {m : BlockModel} {w : View} {ql wel : List (List Transaction)} {samples
         within = h .within;
       }
 
-  pub shape-units : (v n : ℕ) → n ≤ serverAt w v .capacity → Shaped m (setServers (setNth (w .servers) v (withInUse n (serverAt w v))) w) ql wel samples
+  pub shape-units : (v n holder : ℕ) → n ≤ serverAt w v .capacity
+      → Shaped m (setServers (setNth (w .servers) v (withUse n holder (serverAt w v))) w) ql wel samples
   unfolding serverAt
-  shape-units v n le =
+  shape-units v n holder le =
       record {
         ql-length = h .ql-length;
         wel-length = h .wel-length;
@@ -231,12 +232,12 @@ module _ {m : BlockModel} {w : View} {ql wel : List (List Transaction)} {samples
 
 module _ (m : BlockModel) where
   pub shape-closed : Closed (Shape m)
-  unfolding setInUse sample
+  unfolding setUse sample
   shape-closed =
       record {
         entries = λ i n s h. shape-entries h i n;
         queues = λ i q s h. shape-queues h i q;
-        units = λ v n s le h. shape-units h v n (le (server-within h v));
+        units = λ v n holder s le h. shape-units h v n holder (le (server-within h v));
         clock = λ time ticks s h. shape-clock h time ticks;
         ql = λ i l s h. shape-ql h i l;
         wel = λ i l s h. shape-wel h i l;

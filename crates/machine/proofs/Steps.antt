@@ -12,7 +12,7 @@ use Rattle.machine.specs.Term.{serverAt, free}
 use Rattle.machine.specs.Block.{Code, Share, facility, storage, shareServer, shareUnits, Block, generate, advance, terminate, takes, frees, waitServer, waitTerms, moves, assign, priority, split, counts, facts, BlockModel, status, welIndex}
 use Rattle.machine.specs.State.{State}
 use Rattle.machine.specs.Setters.{withSerial, setSerial}
-use Rattle.machine.specs.Moves.{log, enters, moveTo, fresh, qlOf, welOf, toQl, toWel, toWsl, mustWait, setInUse, setContent}
+use Rattle.machine.specs.Moves.{log, enters, moveTo, fresh, qlOf, welOf, toQl, toWel, toWsl, mustWait, setUse, setContent}
 use Rattle.machine.specs.Execute.{takeUnits, wakeFor, endsOne, effect}
 use Rattle.machine.proofs.Proper.{ProperBlock, servers}
 use Rattle.machine.proofs.RunLaws.{cond-cases}
@@ -99,9 +99,9 @@ quiet-moveTo : (n : ℕ) (t : Transaction) {a s : State} → Quiet a s → Quiet
 unfolding moveTo waiting
 quiet-moveTo n t h = record { records = h .records; serials = h .serials; weights = h .weights; moving = λ u. refl }
 
-quiet-inUse : (v n : ℕ) (s : State) → Quiet s (setInUse v n s)
-unfolding setInUse waiting
-quiet-inUse v n s = record { records = refl; serials = omega arith; weights = λ f. refl; moving = λ h. h }
+quiet-use : (v n holder : ℕ) (s : State) → Quiet s (setUse v n holder s)
+unfolding setUse waiting
+quiet-use v n holder s = record { records = refl; serials = omega arith; weights = λ f. refl; moving = λ h. h }
 
 quiet-content : (q n : ℕ) (s : State) → Quiet s (setContent q n s)
 unfolding setContent waiting
@@ -111,12 +111,12 @@ quiet-endsOne : (a : ℕ) (s : State) → Quiet s (endsOne a s)
 unfolding endsOne waiting
 quiet-endsOne a s = record { records = refl; serials = omega arith; weights = λ f. refl; moving = λ h. h }
 
-step-takeUnits : (b : Block) (v n : ℕ) (t : Transaction) (s : State) → v - 1 < length (s .ql)
-    → (leb n (free (serverAt (s .view) v)) ≡ true → GetsIn b s) → Step b t s (takeUnits v n t s)
-unfolding takeUnits
-step-takeUnits b v n t s h fit =
-    cond-cases (Step b t s) (leb n (free (serverAt (s .view) v))) _ _
-    (λ e. passes (fit e) (quiet-moveTo _ t (quiet-trans (quiet-inUse v _ _) (quiet-checkWels v _)))) (λ e. step-ql b v t s h)
+step-takeUnits : (x : Share) (t : Transaction) (s : State) → shareServer x - 1 < length (s .ql) → Step (takes x) t s (takeUnits x t s)
+unfolding takeUnits facts serverAt
+step-takeUnits x t s h =
+    cond-cases (Step (takes x) t s) (leb (shareUnits x) (free (serverAt (s .view) (shareServer x)))) _ _
+    (λ e. passes (λ n. e) (quiet-moveTo _ t (quiet-trans (quiet-use (shareServer x) _ _ _) (quiet-checkWels (shareServer x) _))))
+    (λ e. step-ql (takes x) (shareServer x) t s h)
 
 quiet-wakeFor : (m : BlockModel) (x : Share) (s : State) → Quiet s (wakeFor m x s)
 unfolding wakeFor
@@ -126,16 +126,16 @@ quiet-wakeFor m (storage v b) s = quiet-wakeQl _ v s
 -- ---- Each kind
 
 pub step-effect : (m : BlockModel) (b : Block) (t : Transaction) (s : State) → ProperBlock m b → Shape m s → Step b t s (effect m b t s)
-unfolding effect facts serverAt
+unfolding effect facts serverAt takeUnits
 step-effect m (generate list p) t s h k = passes (λ n. absurd (n refl)) (quiet-moveTo _ t (quiet-arrival _ list p _ _))
 step-effect m (advance list) t s h k = passes (λ n. absurd (n refl)) (quiet-delay _ list t _)
 step-effect m (terminate a) t s h k = passes (λ n. absurd (n refl)) (quiet-endsOne a _)
 step-effect m (takes x) t s h k =
     let n = share-server m x h in
-    step-takeUnits (takes x) (shareServer x) (shareUnits x) t s (ql-at k (shareServer x) (n .0) (n .1)) (λ e n. e)
+    step-takeUnits x t s (ql-at k (shareServer x) (n .0) (n .1))
 step-effect m (frees x) t s h k =
     passes (λ n. absurd (n refl))
-    (quiet-moveTo _ t (quiet-trans (quiet-inUse (shareServer x) _ _) (quiet-trans (quiet-wakeFor m x _) (quiet-checkWels (shareServer x) _))))
+    (quiet-moveTo _ t (quiet-trans (quiet-use (shareServer x) _ _ _) (quiet-trans (quiet-wakeFor m x _) (quiet-checkWels (shareServer x) _))))
 step-effect m (waitServer code v) t s h k =
     let n = code-server m code v h in
     cond-cases (Step (waitServer code v) t s) (status code (serverAt (s .view) v)) _ _ (λ e. step-wel _ v code t s (wel-at k v code (n .0) (n .1)))

@@ -10,12 +10,12 @@ use lib.Seq.{getD-set-same}
 use Rattle.machine.specs.Transaction.{Transaction}
 use Rattle.machine.specs.Lists.{those}
 use Rattle.machine.specs.Term.{serverAt, free}
-use Rattle.machine.specs.Block.{Code, U, NU, E, NE, F, NF, status, Share, facility, storage, shareServer, shareUnits, Block, generate, advance, terminate, takes, frees, waitServer, waitTerms, moves, assign, priority, split, counts, facts, BlockModel, blockAt, welIndex}
+use Rattle.machine.specs.Block.{Code, status, Share, facility, storage, shareServer, shareUnits, Block, generate, advance, terminate, takes, frees, waitServer, waitTerms, moves, assign, priority, split, counts, facts, BlockModel, blockAt, welIndex}
 use Rattle.machine.specs.State.{State}
 use Rattle.machine.specs.Setters.{withSerial}
-use Rattle.machine.specs.Moves.{qlOf, welOf, log, enters, moveTo, toRel, toFel, toQl, toWel, toWsl, mustWait, wakeFirstQl, wakeQl, wakeFirstWel, setInUse, setContent, arrival, copies}
+use Rattle.machine.specs.Moves.{qlOf, welOf, log, enters, moveTo, toRel, toFel, toQl, toWel, toWsl, mustWait, wakeFirstQl, wakeQl, wakeFirstWel, setUse, setContent, arrival, copies}
 use Rattle.machine.specs.Execute.{fits, takeUnits, checkWels, endsOne, delay, effect, freeUnits, wakeFor}
-use Rattle.machine.proofs.Proper.{Proper, ProperBlock, CodeServer, Names, servers, share-server, ProperShare}
+use Rattle.machine.proofs.Proper.{Proper, ProperBlock, servers, code-server, share-server, ProperShare}
 use Rattle.machine.proofs.RunLaws.{cond-cases}
 use Rattle.machine.proofs.Cases.{checkWels-kept, waitTerms-cases}
 use Rattle.machine.proofs.Shape.{Shape, server-length, facility-capacity}
@@ -72,14 +72,6 @@ module _ (m : BlockModel) where
 
 -- ---- The 16 kinds, for t in front of REL
 
-code-server : (m : BlockModel) (code : Code) (v : ℕ) → CodeServer m code v → Names (servers m) v
-code-server m U v k = omega arith
-code-server m NU v k = omega arith
-code-server m E v k = omega arith
-code-server m NE v k = omega arith
-code-server m F v k = omega arith
-code-server m NF v k = omega arith
-
 module _ {m : BlockModel} {tape : List (List ℕ)} (proper : Proper m tape) (t : Transaction) (s : State) (shape : Shape m s)
     (w : WaitsOver m (t ∷ s .rel) (s .rel) (s .view .servers) (s .ql) (s .wel)) (going : s .end ≡ 1 → ⊥) where
   -- where t stands at no SEIZE or ENTER
@@ -115,34 +107,10 @@ module _ {m : BlockModel} {tape : List (List ℕ)} (proper : Proper m tape) (t :
     in-ql : v ≤ length (s .ql)
     in-ql = omega (arith, shape .ql-length)
 
-    -- 4 SEIZE and 6 ENTER
-    takeUnits-walked : (b : ℕ) → AtServer m v t → unitsOf m t ≡ b → facts (blockAt m (t .next)) .wel ≡ 0 → Walked m (takeUnits v b t s)
-    unfolding takeUnits mustWait enters log moveTo setInUse serverAt toQl
-    takeUnits-walked b at units off =
-        cond-cases (Walked m) (leb b (free (serverAt (s .view) v))) _ _
-        (λ fit.
-        checks-walked m v _ one known
-        (taken-queued (w .queued) v one in-servers in-ql b proper known (λ f. facility-capacity shape v one f) at units)
-        opened (others-wait (w .gated) v _ (s .rel) one off (grows-not (s .rel))) going)
-        (λ full.
-        cond-cases (Walked m) (t .returning) _ _ (λ e. waiting full t at units) (λ e. waiting full (withSerial (suc (s .serial)) t) at units))
-      where
-        waiting : leb b (free (serverAt (s .view) v)) ≡ false → (t′ : Transaction) → AtServer m v t′ → unitsOf m t′ ≡ b
-            → Walked m (toQl v t′ s)
-        waiting full t′ at′ units′ = (
-          record {
-            queued =
-                waits-queued (w .queued) v one in-servers in-ql t′ proper known at at′
-                (ap (λ n. leb n (free (serverIn (s .view .servers) v))) units′ ∙ full);
-            gated = gated-else off;
-          },
-          going,
-        )
-
     -- 5 RELEASE
     release-walked : v ≤ m .facilities → serverOf m t ≡ 0 → facts (blockAt m (t .next)) .wel ≡ 0
         → Walked m (checkWels v (wakeFirstQl v (freeUnits v 1 (enters t s))))
-    unfolding enters log setInUse serverAt wakeFirstQl
+    unfolding enters log setUse serverAt wakeFirstQl
     release-walked f off off′ =
         checks-walked m v _ one known (first-queued (w .queued) v one in-servers in-ql _ f off)
         opened
@@ -151,7 +119,7 @@ module _ {m : BlockModel} {tape : List (List ℕ)} (proper : Proper m tape) (t :
     -- 7 LEAVE
     leave-walked : (b : ℕ) → serverOf m t ≡ 0 → facts (blockAt m (t .next)) .wel ≡ 0
         → Walked m (checkWels v (wakeQl (fits m (freeUnits v b (enters t s) .view) v) v (freeUnits v b (enters t s))))
-    unfolding enters log setInUse serverAt wakeQl fits
+    unfolding enters log setUse serverAt wakeQl fits
     leave-walked b off off′ =
         let p = fits m (freeUnits v b (enters t s) .view) v in
         checks-walked m v _ one known
@@ -162,7 +130,7 @@ module _ {m : BlockModel} {tape : List (List ℕ)} (proper : Proper m tape) (t :
 
     -- 8 WAITIF of a code
     waitServer-walked : (code : Code) → AtWel m (welIndex v code) t → serverOf m t ≡ 0 → Walked m (effect m (waitServer code v) t s)
-    unfolding effect mustWait enters log moveTo serverAt toWel wakeFirstWel
+    unfolding effect mustWait enters log moveTo serverAt toWel wakeFirstWel takeUnits
     waitServer-walked code at off =
         cond-cases (Walked m) (status code (serverAt (s .view) v)) _ _
         (λ holds.
@@ -180,6 +148,34 @@ module _ {m : BlockModel} {tape : List (List ℕ)} (proper : Proper m tape) (t :
         waiting : status code (serverAt (s .view) v) ≡ true → (t′ : Transaction) → AtWel m (welIndex v code) t′ → Walked m (toWel v code t′ s)
         waiting holds t′ at′ = (record { queued = queued-else off; gated = waits-gated (w .gated) v code t′ one at at′ holds }, going)
 
+  -- 4 SEIZE and 6 ENTER
+  takeUnits-walked : (x : Share) → 1 ≤ shareServer x → shareServer x ≤ servers m → AtServer m (shareServer x) t → unitsOf m t ≡ shareUnits x
+      → facts (blockAt m (t .next)) .wel ≡ 0 → Walked m (takeUnits x t s)
+  unfolding takeUnits mustWait enters log moveTo setUse serverAt toQl
+  takeUnits-walked x one known at units off =
+      cond-cases (Walked m) (leb (shareUnits x) (free (serverAt (s .view) v))) _ _
+      (λ fit.
+      checks-walked m v _ one known
+      (taken-queued (w .queued) v one (in-servers v one known) (in-ql v one known) (shareUnits x) _ proper known (λ f. facility-capacity shape v one f) at units)
+      opened (others-wait (w .gated) v _ (s .rel) one off (grows-not (s .rel))) going)
+      (λ full.
+      cond-cases (Walked m) (t .returning) _ _ (λ e. waiting full t at units) (λ e. waiting full (withSerial (suc (s .serial)) t) at units))
+    where
+      v : ℕ
+      v = shareServer x
+
+      waiting : leb (shareUnits x) (free (serverAt (s .view) v)) ≡ false → (t′ : Transaction) → AtServer m v t′ → unitsOf m t′ ≡ shareUnits x
+          → Walked m (toQl v t′ s)
+      waiting full t′ at′ units′ = (
+        record {
+          queued =
+              waits-queued (w .queued) v one (in-servers v one known) (in-ql v one known) t′ proper known at at′
+              (ap (λ n. leb n (free (serverIn (s .view .servers) v))) units′ ∙ full);
+          gated = gated-else off;
+        },
+        going,
+      )
+
   frees-walked : (x : Share) → 1 ≤ shareServer x → shareServer x ≤ servers m → ProperShare m x → serverOf m t ≡ 0 → facts (blockAt m (t .next)) .wel ≡ 0
       → Walked m (checkWels (shareServer x) (wakeFor m x (freeUnits (shareServer x) (shareUnits x) (enters t s))))
   unfolding wakeFor shareServer shareUnits
@@ -187,13 +183,13 @@ module _ {m : BlockModel} {tape : List (List ℕ)} (proper : Proper m tape) (t :
   frees-walked (storage v b) one known k = leave-walked v one known b
 
   pub effect-walked : (b : Block) → blockAt m (t .next) ≡ b → ProperBlock m b → Walked m (effect m b t s)
-  unfolding effect mustWait facts enters log moveTo setContent toWsl
+  unfolding effect mustWait facts enters log moveTo setContent toWsl takeUnits
   effect-walked (generate list p) e k = arrival-walked m _ list p _ (enters t s) (quiet (generate list p) e refl refl)
   effect-walked (advance list) e k = delay-walked m _ list t (enters t s) (quiet (advance list) e refl refl)
   effect-walked (terminate a) e k = endsOne-walked m a (enters t s) (quiet (terminate a) e refl refl)
   effect-walked (takes x) e k =
       let (one, known) = share-server m x k in
-      takeUnits-walked (shareServer x) one known (shareUnits x) (ap (λ b. facts b .server) e) (ap (λ b. facts b .units) e) (ap (λ b. facts b .wel) e)
+      takeUnits-walked x one known (ap (λ b. facts b .server) e) (ap (λ b. facts b .units) e) (ap (λ b. facts b .wel) e)
   effect-walked (frees x) e k =
       let (one, known) = share-server m x k in
       frees-walked x one known k (ap (λ b. facts b .server) e) (ap (λ b. facts b .wel) e)

@@ -10,14 +10,14 @@ use borrow.Author.Tests.{leb-true, le-leb}
 use lib.Dec.{leb}
 use lib.ListN.{drop}
 use Rattle.machine.specs.Limits as Limits
-use Rattle.machine.specs.Rules.{Rules}
+use Rattle.machine.specs.Rules.{Rules, document01}
 use Rattle.machine.specs.Number.{Number, groups, padded, within, readNumber}
 use Rattle.machine.specs.Parser.{Cursor, Parsed, parsed, refused, Parser, continue, _>>=_, times, forward, fieldOf, fieldUpTo}
 use Rattle.machine.specs.Block.{BlockModel}
 use Rattle.machine.specs.Decode.{modelFields, listField}
 use Rattle.machine.specs.Trace.{recordFields}
-use Rattle.machine.specs.Validate.{targetsMove, wellFormed, modelOf, tapeOf}
-use Rattle.machine.specs.OlderTapes.{AllowsNoLess}
+use Rattle.machine.specs.Validate.{targetsMove, wellFormed, beginning, modelOf, tapeOf}
+use Rattle.machine.specs.OlderTapes.{Wider}
 use Rattle.machine.proofs.RunLaws.{cond-cases}
 
 -- ---- Definition
@@ -95,7 +95,7 @@ module _ {most more : ℕ} (larger : most ≤ more) where
 
 -- ---- The tape and a record
 
-module _ {old new : Rules} (less : AllowsNoLess old new) (s : List ℕ) where
+module _ {old new : Rules} (less : Wider old new) (s : List ℕ) where
   list-widens : Widens (listField s old) (listField s new)
   unfolding listField
   list-widens =
@@ -166,3 +166,12 @@ module _ (new : Rules) where
 
     pub model-read : (c : Cursor) → modelOf new s c ≡ underRules new (modelOf old s c)
     model-read c = model-under .from c
+
+rulesOf : Parsed BlockModel → Rules
+rulesOf (parsed m c) = m .rules
+rulesOf (refused n) = document01
+
+-- a model that was read has the rules that it was read by
+pub own-rules : (rules : Rules) (s : List ℕ) (m : BlockModel) (c : Cursor) → modelOf rules s beginning ≡ parsed m c → m .rules ≡ rules
+unfolding rulesOf
+own-rules rules s m c e = ap rulesOf (sym e ∙ model-read rules rules s beginning ∙ ap (underRules rules) e)

@@ -8,7 +8,7 @@ use lib.Dec.{ltb, eqb}
 use Rattle.machine.specs.Lists.{nth}
 use Rattle.machine.specs.Rules.{Rules}
 use Rattle.machine.specs.Term.{Server, Term, Relation, Condition, always, whenTrue, Sum}
-use Rattle.machine.specs.Facts.{Facts, noFacts, setGenerates, setRank, setUses, setTerminates, setCopies, setServer, setUnits, setQueue, setTarget, setLeaves, setWel, setWaitsWhile, setTerms}
+use Rattle.machine.specs.Facts.{Facts, noFacts, setGenerates, setRank, setUses, setTerminates, setCopies, setServer, setUnits, setQueue, setReleases, setTarget, setLeaves, setWel, setWaitsWhile, setTerms}
 
 -- Lists, "WEL: one per server and status code: 1 U (in use), 2 NU for facilities; 3 E (empty), 4 NE, 5 F (full), 6 NF for storages."
 pub data Code : Type 0 where
@@ -44,6 +44,16 @@ shareServer (storage v b) = v
 unfoldable pub shareUnits : Share → ℕ
 shareUnits (facility v) = 1
 shareUnits (storage v b) = b
+
+-- 0 for a storage
+unfoldable pub shareFacility : Share → ℕ
+shareFacility (facility v) = v
+shareFacility (storage v b) = 0
+
+-- who holds the server once a transaction has taken its share
+unfoldable pub shareHolder : Share → (number : ℕ) → ℕ
+shareHolder (facility v) n = n
+shareHolder (storage v b) n = 0
 
 -- Which way the content of a queue goes.
 pub data Change : Type 0 where
@@ -124,7 +134,7 @@ facts (generate list p) = setGenerates list (setRank p (setUses list noFacts))
 facts (advance list) = setUses list noFacts
 facts (terminate a) = setTerminates 1 (setLeaves true noFacts)
 facts (takes x) = setServer (shareServer x) (setUnits (shareUnits x) noFacts)
-facts (frees x) = noFacts
+facts (frees x) = setReleases (shareFacility x) noFacts
 facts (waitServer code v) = setWel (suc (welIndex v code)) noFacts
 facts (waitTerms a r b) = setWaitsWhile (some (whenTrue a r b)) (setTerms (a ∷ b ∷ []) noFacts)
 facts (moves c target) = setTarget target (setLeaves (unconditional c) (setTerms (compared c) noFacts))

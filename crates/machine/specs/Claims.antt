@@ -1,7 +1,7 @@
 -- "What demand 3 speaks of", word by word, as one claim about the states of a whole run. Proved in ../proofs/Demand3.antt.
-use Prim.Native.Nat.{ℕ, zero, suc, _+_, _*_, _-_, _≤_, _<_}
+use Prim.Native.Nat.{ℕ, suc, _+_, _*_, _-_, _≤_, _<_}
 use mathlib.Core.Path.{_≡_}
-use mathlib.Core.Bool.{Bool, true, false, cond, not, _&&_, _||_}
+use mathlib.Core.Bool.{Bool, true, cond, not, _&&_, _||_}
 use mathlib.Core.List.{List, [], _∷_, _++_, map, reverse}
 use mathlib.Core.Option.{none}
 use lib.Dec.{ltb, leb, eqb, T}
@@ -9,7 +9,8 @@ use lib.ListN.{length, getD, drop}
 use Rattle.machine.specs.Limits.{maxTurns}
 use Rattle.machine.specs.Transaction.{Transaction}
 use Rattle.machine.specs.Lists.{those, flat, nth}
-use Rattle.machine.specs.Term.{serverAt}
+unfoldable pub use Rattle.machine.specs.Lists.{bit, upTo}
+use Rattle.machine.specs.Term.{Server, serverAt}
 use Rattle.machine.specs.Facts.{Facts, isGenerate}
 use Rattle.machine.specs.Block.{Code, U, NU, E, NE, F, NF, status, Block, facts, BlockModel, blockAt}
 use Rattle.machine.specs.State.{State, Logged}
@@ -24,15 +25,6 @@ use Rattle.machine.specs.Outcome.{Outcome}
 -- how many of a list pass a test
 unfoldable pub count : {A : Type 0} → (A → Bool) → List A → ℕ
 count p l = length (those p l)
-
-abbrev pub bit : Bool → ℕ
-bit true = 1
-bit false = 0
-
--- f 1 + f 2 + .. + f n
-unfoldable pub upTo : ℕ → (ℕ → ℕ) → ℕ
-upTo zero f = 0
-upTo (suc n) f = upTo n f + f (suc n)
 
 -- ---- One place each
 
@@ -145,7 +137,26 @@ module _ (m : BlockModel) (tape : List (List ℕ)) where
       (i k : ℕ) → i < k → k < length records → T (equalWaits (getD records i noRecord) (getD records k noRecord))
       → waitEnd records k < length records → waitEnd records i < waitEnd records k
 
-  -- ---- The four claims of one state
+  -- ---- Document 02, item 6: "A facility in use always has a living holder"
+
+  -- who holds facility f by some records, newest first, 0 for nobody: who entered a SEIZE of it, after which no RELEASE of it stands
+  -- (the server that a SEIZE takes is its facility)
+  unfoldable pub holderBy : List Logged → ℕ → ℕ
+  holderBy [] f = 0
+  holderBy (r ∷ l) f =
+      cond (entered r && eqb (factsAt r .server) f) (r .entry .transaction)
+      (cond (eqb (factsAt r .releases) f) 0
+      (holderBy l f))
+
+  -- of facility f, which is v
+  pub record Held (v : Server) (f : ℕ) (records : List Logged) : Type 0 where
+    pub told : v .holder ≡ holderBy records f
+    -- its one unit is in use exactly if it has a holder
+    pub in-use : v .inUse ≡ bit (ltb 0 (v .holder))
+    -- a living one, where the rules ask 27 and 28
+    pub living : m .rules .holders ≡ true → 0 < v .holder → isLiving records (v .holder) ≡ true
+
+  -- ---- The claims of one state
 
   pub record Keeps (s : State) : Type 0 where
     -- every living number stands exactly once, and no other stands anywhere
@@ -158,6 +169,7 @@ module _ (m : BlockModel) (tape : List (List ℕ)) where
     -- the clock is about to move, or the run ended dry: `end` is 0 in each state before a turn that is taken, and 1 is dry
     pub nobody-able : s .end ≤ 1 → s .moving ≡ none → s .rel ≡ [] → ableToGo s ≡ 0
     pub order : InOrder (reverse (s .records))
+    pub held : (f : ℕ) → 1 ≤ f → f ≤ m .facilities → Held (serverAt (s .view) f) f (s .records)
 
   -- ---- Document 02, item 2: "List the living by rising transaction number", told from the report's numbers alone
 
@@ -195,7 +207,7 @@ Demand3 m tape budget room = Each (Keeps m tape) (states m tape budget room)
 
 -- "run for at most the stated number of turns, always to a stated end"
 abbrev pub statedEnd : ℕ → Bool
-statedEnd n = leb 1 n && leb n 4 || leb 21 n && leb n 26
+statedEnd n = leb 1 n && leb n 4 || leb 21 n && leb n 28
 
 pub record Bounded (budget : ℕ) (s : State) : Type 0 where
   pub within-budget : s .turns ≤ budget

@@ -14,7 +14,7 @@ use Rattle.machine.specs.Block.{advance, terminate, seize, split, BlockM
 use Rattle.machine.specs.Trace.{Record}
 use Rattle.machine.specs.State.{State}
 use Rattle.machine.specs.Setters.{withSerial, withReturning, setRel, setMade, setMoving, setClock, setView}
-use Rattle.machine.specs.Moves.{qlOf, setInUse}
+use Rattle.machine.specs.Moves.{qlOf, setUse}
 use Rattle.machine.specs.Turn.{turn}
 use Rattle.machine.specs.Run.{idle, run, states}
 use Rattle.machine.specs.Report.{serverNumbers, queueNumbers, places}
@@ -111,7 +111,7 @@ returner : (number serial : ℕ) → Transaction
 returner number serial = withReturning true (withSerial serial (newborn number 0 1))
 
 bothWoken : State
-bothWoken = setRel (returner 1 5 ∷ returner 2 9 ∷ []) (setInUse 1 1 (idle seizeOnly []))
+bothWoken = setRel (returner 1 5 ∷ returner 2 9 ∷ []) (setUse 1 1 3 (idle seizeOnly []))
 
 serials : List Transaction → List ℕ
 serials l = map (λ t. t .serial) l

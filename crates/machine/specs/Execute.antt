@@ -1,16 +1,16 @@
 -- Blocks: the questions inside a turn, and what each kind does once they are answered.
 use Prim.Native.Nat.{ℕ, suc, _+_, _-_}
-use mathlib.Core.Bool.{Bool, true, false, cond}
+use mathlib.Core.Bool.{Bool, true, false, cond, not, _||_}
 use mathlib.Core.List.{List, [], _∷_}
-use lib.Dec.{leb}
+use lib.Dec.{leb, eqb}
 use Rattle.machine.specs.Limits.{maxLiving}
 use Rattle.machine.specs.Transaction.{Transaction}
-use Rattle.machine.specs.Lists.{setNth}
+use Rattle.machine.specs.Lists.{setNth, bit, upTo}
 use Rattle.machine.specs.Term.{View, serverAt, queueAt, free, evaluate, compare, truth}
-use Rattle.machine.specs.Block.{Code, U, NU, E, NE, F, NF, status, Share, facility, storage, shareServer, shareUnits, Change, up, down, Block, generate, advance, terminate, takes, frees, waitServer, waitTerms, moves, assign, priority, split, counts, facts, BlockModel, blockAt}
+use Rattle.machine.specs.Block.{Code, U, NU, E, NE, F, NF, status, Share, facility, storage, shareServer, shareUnits, shareHolder, Change, up, down, Block, generate, advance, terminate, takes, frees, waitServer, waitTerms, moves, assign, priority, split, counts, facts, BlockModel, blockAt}
 use Rattle.machine.specs.State.{State}
 use Rattle.machine.specs.Setters.{withPriority, withParameters, withNext, withReturning, setCounter, setEnded, setEnd}
-use Rattle.machine.specs.Moves.{enters, moveTo, goOn, toRel, toFel, toQl, toWel, toWsl, mustWait, wakeFirstQl, wakeQl, wakeFirstWel, setInUse, setContent, timesLeft, useTime, arrival, copies}
+use Rattle.machine.specs.Moves.{enters, moveTo, goOn, toRel, toFel, toQl, toWel, toWsl, mustWait, wakeFirstQl, wakeQl, wakeFirstWel, setUse, setContent, timesLeft, useTime, arrival, copies}
 
 -- ---- Questions, "Inside a turn, after the taking and before the block has any effect, "no" is the end"
 
@@ -41,20 +41,31 @@ unfoldable pub askContent : Change → ℕ → ℕ
 askContent up n = 0
 askContent down n = unless (leb 1 n) 25 0
 
-unfoldable pub question : BlockModel → Block → State → ℕ
-question m (generate list p) s = askGenerate m (timesLeft s list) s
-question m (advance list) s = askAdvance m (timesLeft s list) s
-question m (terminate a) s = 0
-question m (takes x) s = 0
+-- Document 02, item 6: "RELEASE by another than the holder" 27, "after 24"; LEAVE asks for none.
+unfoldable pub askHolder : BlockModel → Share → Transaction → State → ℕ
+askHolder m (facility v) t s = unless (not (m .rules .holders) || eqb (serverAt (s .view) v .holder) (t .number)) 27 0
+askHolder m (storage v b) t s = 0
+
+-- how many facilities a transaction holds
+unfoldable pub held : BlockModel → View → (number : ℕ) → ℕ
+held m w n = upTo (m .facilities) (λ f. bit (eqb (serverAt w f .holder) n))
+
+-- For the transaction t whose next block it is.
+unfoldable pub question : BlockModel → Block → Transaction → State → ℕ
+question m (generate list p) t s = askGenerate m (timesLeft s list) s
+question m (advance list) t s = askAdvance m (timesLeft s list) s
+-- "TERMINATE while holding a facility" 28, "before the counter falls"
+question m (terminate a) t s = unless (not (m .rules .holders) || eqb (held m (s .view) (t .number)) 0) 28 0
+question m (takes x) t s = 0
 -- "Is f in use, or are b units in use? 24."
-question m (frees x) s = unless (leb (shareUnits x) (serverAt (s .view) (shareServer x) .inUse)) 24 0
-question m (waitServer code v) s = 0
-question m (waitTerms a r b) s = 0
-question m (moves c target) s = 0
-question m (assign k a) s = 0
-question m (priority p) s = 0
-question m (split n target) s = unless (leb (living s + n) maxLiving) 21 0
-question m (counts c q) s = askContent c (queueAt (s .view) q .content)
+question m (frees x) t s = unless (leb (shareUnits x) (serverAt (s .view) (shareServer x) .inUse)) 24 (askHolder m x t s)
+question m (waitServer code v) t s = 0
+question m (waitTerms a r b) t s = 0
+question m (moves c target) t s = 0
+question m (assign k a) t s = 0
+question m (priority p) t s = 0
+question m (split n target) t s = unless (leb (living s + n) maxLiving) 21 0
+question m (counts c q) t s = askContent c (queueAt (s .view) q .content)
 
 -- ---- The effects
 
@@ -69,15 +80,9 @@ checkWels v s = checkWel v NF (checkWel v F (checkWel v NE (checkWel v E (checkW
 unfoldable pub fits : BlockModel → View → ℕ → Transaction → Bool
 fits m w v t = leb (facts (blockAt m (t .next)) .units) (free (serverAt w v))
 
--- 4 SEIZE, "idle, it enters and f is in use; else it waits on the QL", 6 ENTER, "enters if b units are free, else waits"
-unfoldable pub takeUnits : ℕ → ℕ → Transaction → State → State
-takeUnits v b t s =
-    cond (leb b (free (serverAt (s .view) v)))
-    (goOn t (checkWels v (setInUse v (serverAt (s .view) v .inUse + b) (enters t s))))
-    (mustWait (toQl v) t s)
-
+-- and nobody holds it
 abbrev pub freeUnits : ℕ → ℕ → State → State
-freeUnits v b s = setInUse v (serverAt (s .view) v .inUse - b) s
+freeUnits v b s = setUse v (serverAt (s .view) v .inUse - b) 0 s
 
 -- whom freed units wake: 5 RELEASE, "the first of its QL goes to REL"; 7 LEAVE, "every QL member whose units, judged alone, fit
 -- the free units goes to REL" (departs)
@@ -100,27 +105,44 @@ unfoldable pub changed : Change → ℕ → ℕ
 changed up n = n + 1
 changed down n = n - 1
 
--- Each kind, for the transaction t whose next block it is; nobody is moving in s. "terms are read before the block's own
--- entry counts, with the transaction's own parameters".
+-- What each kind does, for the transaction t whose next block it is; nobody is moving in s. It enters, with an effect on the state e in
+-- which its entry counts, or it must wait on a list. What becomes of either is said by who asks: `effect` below writes the record at once.
+-- "terms are read before the block's own entry counts, with the transaction's own parameters".
+module _ {A : Type 0} (enter : (State → State) → A) (wait : (Transaction → State → State) → A) where
+  -- 4 SEIZE, "idle, it enters and f is in use; else it waits on the QL", 6 ENTER, "enters if b units are free, else waits"
+  -- Document 02, item 6: "the number of its holder, written at SEIZE"
+  abbrev pub takingUnits : Share → Transaction → State → A
+  takingUnits x t s =
+      let v : ℕ = shareServer x in
+      cond (leb (shareUnits x) (free (serverAt (s .view) v)))
+      (enter (λ e. goOn t (checkWels v (setUse v (serverAt (s .view) v .inUse + shareUnits x) (shareHolder x (t .number)) e))))
+      (wait (toQl v))
+
+  abbrev pub doing : BlockModel → Block → Transaction → State → A
+  doing m (generate list p) t s = enter (λ e. goOn t (arrival (timesLeft s list) list p (t .next) e))
+  doing m (advance list) t s = enter (λ e. delay (timesLeft s list) list t e)
+  doing m (terminate a) t s = enter (λ e. endsOne a e)
+  doing m (takes x) t s = takingUnits x t s
+  -- "f idle; ..", "frees b; .."
+  doing m (frees x) t s =
+      enter (λ e. goOn t (checkWels (shareServer x) (wakeFor m x (freeUnits (shareServer x) (shareUnits x) e))))
+  -- "waits on the WEL while the code is true; else the first of that WEL goes to REL, go on"
+  doing m (waitServer code v) t s =
+      cond (status code (serverAt (s .view) v)) (wait (toWel v code)) (enter (λ e. goOn t (wakeFirstWel v code e)))
+  -- "waits on the WSL while true; else go on"
+  doing m (waitTerms a r b) t s =
+      cond (compare (m .values) (s .view) (t .parameters) a r b) (wait toWsl) (enter (λ e. goOn t e))
+  -- 10 IF, "true, the next block is the target, still moving; else go on". 11 GOTO, "likewise, always"
+  doing m (moves c target) t s =
+      enter (λ e. moveTo (cond (truth (m .values) (s .view) (t .parameters) c) target (suc (t .next))) t e)
+  doing m (assign k a) t s =
+      enter (λ e. goOn (withParameters (setNth (t .parameters) k (evaluate (m .values) (s .view) (t .parameters) a)) t) e)
+  doing m (priority p) t s = enter (λ e. toRel (withPriority p (withReturning false (withNext (suc (t .next)) t))) e)
+  doing m (split n target) t s = enter (λ e. goOn t (copies n target t e))
+  doing m (counts c q) t s = enter (λ e. goOn t (setContent q (changed c (queueAt (s .view) q .content)) e))
+
+unfoldable pub takeUnits : Share → Transaction → State → State
+takeUnits x t s = takingUnits (λ f. f (enters t s)) (λ put. mustWait put t s) x t s
+
 unfoldable pub effect : BlockModel → Block → Transaction → State → State
-effect m (generate list p) t s = goOn t (arrival (timesLeft s list) list p (t .next) (enters t s))
-effect m (advance list) t s = delay (timesLeft s list) list t (enters t s)
-effect m (terminate a) t s = endsOne a (enters t s)
-effect m (takes x) t s = takeUnits (shareServer x) (shareUnits x) t s
--- "f idle; ..", "frees b; .."
-effect m (frees x) t s =
-    goOn t (checkWels (shareServer x) (wakeFor m x (freeUnits (shareServer x) (shareUnits x) (enters t s))))
--- "waits on the WEL while the code is true; else the first of that WEL goes to REL, go on"
-effect m (waitServer code v) t s =
-    cond (status code (serverAt (s .view) v)) (mustWait (toWel v code) t s) (goOn t (wakeFirstWel v code (enters t s)))
--- "waits on the WSL while true; else go on"
-effect m (waitTerms a r b) t s =
-    cond (compare (m .values) (s .view) (t .parameters) a r b) (mustWait toWsl t s) (goOn t (enters t s))
--- 10 IF, "true, the next block is the target, still moving; else go on". 11 GOTO, "likewise, always"
-effect m (moves c target) t s =
-    moveTo (cond (truth (m .values) (s .view) (t .parameters) c) target (suc (t .next))) t (enters t s)
-effect m (assign k a) t s =
-    goOn (withParameters (setNth (t .parameters) k (evaluate (m .values) (s .view) (t .parameters) a)) t) (enters t s)
-effect m (priority p) t s = toRel (withPriority p (withReturning false (withNext (suc (t .next)) t))) (enters t s)
-effect m (split n target) t s = goOn t (copies n target t (enters t s))
-effect m (counts c q) t s = goOn t (setContent q (changed c (queueAt (s .view) q .content)) (enters t s))
+effect m b t s = doing (λ f. f (enters t s)) (λ put. mustWait put t s) m b t s

@@ -20,7 +20,9 @@ pub mod Validate
 pub mod Outcome
 pub mod Claims
 pub mod OlderTapes
+pub mod OnlyHolder
 pub mod Bundle
 pub mod Examples
 pub mod WaitExamples
 pub mod YearExamples
+pub mod HolderExamples

@@ -1,5 +1,5 @@
 -- Lists: how transactions get a serial, come onto a list and leave it, and what a record notes.
-use Prim.Native.Nat.{ℕ, zero, suc, _+_, _*_, _-_}
+use Prim.Native.Nat.{ℕ, zero, suc, _+_}
 use mathlib.Core.Bool.{Bool, true, false, cond}
 use mathlib.Core.List.{List, [], _∷_}
 use mathlib.Core.Option.{some}
@@ -10,7 +10,7 @@ use Rattle.machine.specs.Term.{serverAt, queueAt}
 use Rattle.machine.specs.Block.{Code, welIndex}
 use Rattle.machine.specs.Trace.{Record, recordBytes}
 use Rattle.machine.specs.State.{State}
-use Rattle.machine.specs.Setters.{withNext, withSerial, withReturning, withInUse, withContent, setEntries, setQueues, setServers, setView, setSamples, setQl, setWel, setWsl, setRel, setFel, setMoving, setSerial, setMade, setRecords, setWritten}
+use Rattle.machine.specs.Setters.{withNext, withSerial, withReturning, withUse, withContent, setEntries, setQueues, setServers, setView, setSamples, setQl, setWel, setWsl, setRel, setFel, setMoving, setSerial, setMade, setRecords, setWritten}
 
 -- ---- The trace
 
@@ -99,9 +99,10 @@ wakeWsl p s = setWsl (others p (s .wsl)) (setRel (wake (those p (s .wsl)) (s .re
 
 -- ---- Servers and queues
 
-unfoldable pub setInUse : ℕ → ℕ → State → State
-setInUse v units s =
-    setView (setServers (setNth (s .view .servers) v (withInUse units (serverAt (s .view) v))) (s .view)) s
+-- so many units of a server are in use, and who holds it
+unfoldable pub setUse : (v units holder : ℕ) → State → State
+setUse v units holder s =
+    setView (setServers (setNth (s .view .servers) v (withUse units holder (serverAt (s .view) v))) (s .view)) s
 
 unfoldable pub setContent : ℕ → ℕ → State → State
 setContent q n s =

@@ -15,11 +15,16 @@ use Rattle.machine.specs.Validate.{accept, validate}
 use Rattle.machine.specs.Outcome.{Outcome, outcome}
 use Rattle.machine.specs.Claims.{Each}
 
--- clock limit, time limit and largest number are no lower, and all else is the same
-pub record AllowsNoLess (old new : Rules) : Type 0 where
+-- clock limit, time limit and largest number are no lower
+pub record Wider (old new : Rules) : Type 0 where
   pub clock : old .maxClock ≤ new .maxClock
   pub time : old .maxTime ≤ new .maxTime
   pub number : old .maxNumber ≤ new .maxNumber
+
+-- and all else is the same
+pub record AllowsNoLess (old new : Rules) : Type 0 where
+  pub wider : Wider old new
+  pub holders : old .holders ≡ new .holders
 
 -- the same eight results, trace and report, where the old run was accepted and did not end 22
 abbrev pub SameBytes : (old new : Outcome) → Type 0

@@ -1,6 +1,7 @@
 -- What later papers change of document 01's rules: one record, handed through validation, questions, run and claims. What is
 -- shown of runs is shown for any rules.
 use Prim.Native.Nat.{ℕ}
+use mathlib.Core.Bool.{Bool, true, false}
 use Rattle.machine.specs.Limits as Limits
 
 pub record Rules : Type 0 where
@@ -10,13 +11,19 @@ pub record Rules : Type 0 where
   pub maxTime : ℕ
   -- the largest number of a tape and of a trace
   pub maxNumber : ℕ
+  -- is it asked who holds a facility, at RELEASE and TERMINATE?
+  pub holders : Bool
 
 abbrev pub document01 : Rules
-document01 = record { maxClock = 2000000000; maxTime = 1000000; maxNumber = Limits.maxNumber }
+document01 = record { maxClock = 2000000000; maxTime = 1000000; maxNumber = Limits.maxNumber; holders = false }
 
 -- document 02 with item 1, "Studies of a whole year in milliseconds"
+abbrev pub item1 : Rules
+item1 = record { maxClock = Limits.maxClock; maxTime = Limits.maxTime; maxNumber = Limits.fiveGroups; holders = false }
+
+-- and with item 6, "Only the holder releases"
 abbrev pub document02 : Rules
-document02 = record { maxClock = Limits.maxClock; maxTime = Limits.maxTime; maxNumber = Limits.fiveGroups }
+document02 = record { maxClock = item1 .maxClock; maxTime = item1 .maxTime; maxNumber = item1 .maxNumber; holders = true }
 
 -- the rules that the engine keeps
 abbrev pub inForce : Rules

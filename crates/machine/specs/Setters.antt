@@ -27,8 +27,8 @@ withReturning x t = record { number = t .number; priority = t .priority; paramet
 
 -- ---- Server
 
-abbrev pub withInUse : ℕ → Server → Server
-withInUse x v = record { capacity = v .capacity; inUse = x; unitTicks = v .unitTicks; waitTicks = v .waitTicks; longest = v .longest }
+abbrev pub withUse : (units holder : ℕ) → Server → Server
+withUse x y v = record { capacity = v .capacity; inUse = x; holder = y; unitTicks = v .unitTicks; waitTicks = v .waitTicks; longest = v .longest }
 
 -- ---- Queue
 

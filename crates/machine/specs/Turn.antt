@@ -25,6 +25,7 @@ sampleServers ticks (v ∷ l) (q ∷ ql) =
     record {
       capacity = v .capacity;
       inUse = v .inUse;
+      holder = v .holder;
       unitTicks = v .unitTicks + v .inUse * ticks;
       waitTicks = v .waitTicks + length q * ticks;
       longest = max (v .longest) (length q);
@@ -83,7 +84,7 @@ answer (suc n) m b t s = setEnd (suc n) s
 
 unfoldable pub execute : Option Transaction → BlockModel → State → State
 execute none m s = s
-execute (some t) m s = let b : Block = blockAt m (t .next) in answer (question m b s) m b t s
+execute (some t) m s = let b : Block = blockAt m (t .next) in answer (question m b t s) m b t s
 
 -- ---- "Unless that ends the run, the WS scheme follows: every WSL member whose comparison no longer holds goes to REL."
 

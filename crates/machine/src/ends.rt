@@ -1,4 +1,4 @@
-// The numbers of the ends (document 01, "A turn", "Blocks" and "Questions at the door").
+// The numbers of the ends (document 01, "A turn", "Blocks" and "Questions at the door"; document 02, item 6).
 
 // nobody moving and REL and FEL both empty
 pub const DRY: u32 = 1;
@@ -29,3 +29,9 @@ pub const NO_CONTENT: u32 = 25;
 
 // the last serial or the number of turns is at its limit
 pub const WORN_OUT: u32 = 26;
+
+// RELEASE by another than the holder
+pub const NOT_HOLDER: u32 = 27;
+
+// TERMINATE while holding a facility
+pub const HOLDING: u32 = 28;

@@ -1,18 +1,19 @@
 -- The moving transaction goes on, or comes to wait, as the machine's does. Of lists and scalars everything is said here; a tally
 -- that fits the state afterwards is the caller's.
-use Prim.Native.Nat.{ℕ, suc, _+_, _*_, _/_, _%_, _-_, _<_}
+use Prim.Native.Nat.{ℕ, zero, suc, _+_, _*_, _/_, _%_, _-_, _<_}
 use mathlib.Core.Path.{_≡_, refl, sym, ap, _∙_, subst}
 use mathlib.Core.Bool.{Bool, true, false, cond}
 use mathlib.Core.List.{List, []}
 use mathlib.Core.Option.{Option, none, some}
 use native.Mathlib.Omega.{arith}
+use borrow.Author.Tests.{ne-eqb}
 use lib.Dec.{eqb}
 use lib.ListN.{length, getD}
 use Rattle.machine.specs.Transaction.{Transaction, precedes}
 use Rattle.machine.specs.Lists.{insert}
 use Rattle.machine.specs.Block.{Code, Block, BlockModel, welIndex}
 use Rattle.machine.specs.State.{State}
-use Rattle.machine.specs.Setters.{withNext, withSerial, withReturning, setSerial, setEnd}
+use Rattle.machine.specs.Setters.{withNext, withSerial, withReturning, setSerial, setMoving, setEnd}
 use Rattle.machine.specs.Moves as Moves
 use Rattle.rows.specs.Layout.{wsl}
 use Rattle.rows.specs.Cells.{read, write}
@@ -21,7 +22,7 @@ use Rattle.rows.specs.Holds.{transactionAt, update}
 use Rattle.rows.proofs.Fields.{write-next, write-serial, set-returning}
 use Rattle.state.specs.declared.scalars.Scalars.{Scalars}
 use Rattle.state.specs.Stands.{Rows, rowsOf, listsOf, Listing, Tallying, Counting, Stands, noteOf, Done}
-use Rattle.state.specs.Bare.{waitsNote, noNote, Bare, entering, waiting, bareAnswer}
+use Rattle.state.specs.Bare.{waitsNote, noNote, Bare, entering, waiting, bare, bareAnswer}
 use Rattle.state.proofs.ListsOf.{lists-ql, lists-wel, lists-set-ql, lists-set-wel, lists-set-wsl}
 use Rattle.state.proofs.StandsLaws.{listing-ext, listing-write, listing-put, tallying-ext, counting-ext, stands-of, stands-moving}
 use Rattle.moves.specs.Motion.{Moved, moved, withTally, next32, goTo, goOn, putBack, beginWait, waitOn, stopped}
@@ -51,6 +52,11 @@ module _ (w : List ℕ) (x : Scalars) (t : Transaction) (s : State) (h : Listing
   pub next-read : read w 6 k ≡ t .next
   unfolding transactionAt
   next-read = ap (λ (u : Transaction). u .next) (h .mover .1)
+
+  -- and so is its number
+  pub number-read : read w 0 k ≡ t .number
+  unfolding transactionAt
+  number-read = ap (λ (u : Transaction). u .number) (h .mover .1)
 
   pub go-on-is : t .next < 4294967295 → goOn w x ≡ goTo w x (suc (t .next))
   unfolding goOn
@@ -112,6 +118,13 @@ stop-done tapeBytes r t s n m b moving h =
           });
       note = refl;
     }
+
+-- asked first
+module _ (tapeBytes : List ℕ) (m : BlockModel) (r : Rows) (t : Transaction) (s : State) (stands : Stands tapeBytes r (some t) s) (moving : s .moving ≡ some t) (b : Block) where
+  pub asked : (q : ℕ) (rows : Rows) → (q ≡ 0 → Done tapeBytes rows (bare m b t (setMoving none s))) → Done tapeBytes (cond (eqb q 0) rows (rowsOf (stopped (r .scalars) q) (r .work) (r .tally))) (bareAnswer q m b t s)
+  unfolding bareAnswer
+  asked zero rows h = h refl
+  asked (suc n) rows h = rw (ne-eqb (suc n) 0 (λ e. omega arith)) (stop-done tapeBytes r t s n m b moving stands)
 
 -- ---- Waiting
 

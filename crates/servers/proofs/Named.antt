@@ -18,7 +18,7 @@ use Rattle.tables.specs.Represents.{At, Represents}
 use Rattle.tables.proofs.BlockKinds.{Kinds, generating, taking, waiting, arriving, other, kinds, unasked}
 use Rattle.tables.proofs.Operands.{at-number}
 use Rattle.state.specs.Stands.{Tallying}
-use Rattle.servers.specs.Units.{serverAt, inUse, capacity, statusOf}
+use Rattle.servers.specs.Units.{serverAt, inUse, holder, capacity, statusOf}
 use Rattle.servers.specs.Waking.{unitsAt}
 
 -- ---- Units that a block takes
@@ -83,6 +83,10 @@ module _ (v : ℕ) (low : 1 ≤ v) (high : v ≤ 64) where
   pub units-held : (tapeBytes tally : List ℕ) (s : State) → Tallying tapeBytes tally s → inUse tally (v - 1) ≡ Term.serverAt (s .view) v .inUse
   unfolding Term.serverAt
   units-held tapeBytes tally s h = h .servers .in-use (v - 1) (omega arith)
+
+  pub holder-held : (tapeBytes tally : List ℕ) (s : State) → Tallying tapeBytes tally s → holder tally (v - 1) ≡ Term.serverAt (s .view) v .holder
+  unfolding Term.serverAt
+  holder-held tapeBytes tally s h = h .servers .holders (v - 1) (omega arith)
 
   pub capacity-held : {m : BlockModel} {tape : List (List ℕ)} {tapeBytes tables lists : List ℕ} → Represents m tape tapeBytes tables lists → (s : State) → Shape m s → capacity tables (v - 1) ≡ Term.serverAt (s .view) v .capacity
   unfolding Term.serverAt idleServer

@@ -14,7 +14,7 @@ use Rattle.machine.specs.Term.{Server, idleServer}
 use Rattle.machine.specs.Term
 use Rattle.machine.specs.Block.{Code, welIndex}
 use Rattle.machine.specs.State.{State}
-use Rattle.machine.specs.Setters.{withInUse, setQl, setRel}
+use Rattle.machine.specs.Setters.{withUse, setQl, setRel}
 use Rattle.machine.specs.Moves.{wake, qlOf, wakeFirstQl, wakeQl}
 use Rattle.machine.specs.Moves as Moves
 use Rattle.machine.specs.Execute as Execute
@@ -30,7 +30,7 @@ use Rattle.state.proofs.ListsOf.{lists-ql}
 use Rattle.state.proofs.StandsLaws.{listing-ext, tallying-ext, counting-ext}
 use Rattle.state.proofs.WakingLaws.{wake-first-ql-listing, wake-ql-listing}
 use Rattle.moves.specs.Motion.{withTally, goOn}
-use Rattle.servers.specs.Units.{setInUse}
+use Rattle.servers.specs.Units.{setUse}
 use Rattle.servers.specs.Waking.{checkWels, shorter, wakeStays}
 use Rattle.servers.proofs.Staying.{stays-shows}
 use Rattle.servers.proofs.Tallies.{units-tallying, length-tallying, first-tallying}
@@ -67,21 +67,21 @@ wakeQl-same P Q v s e =
 -- ---- What is done
 
 module _ (tapeBytes : List ℕ) (x : Scalars) (t : Transaction) (v : ℕ) (low : 1 ≤ v) (high : v ≤ 64) (units all : ℕ) (w tally : List ℕ) (s : State) (h : Ready tapeBytes x t v units all w tally s) where
-  -- so many units are in use
-  pub set-ready : (n : ℕ) → Ready tapeBytes x t v n all w (setInUse tally (v - 1) n) (Moves.setInUse v n s)
-  unfolding Moves.setInUse Term.serverAt listsOf
-  set-ready n =
+  -- so many units are in use, and who holds it
+  pub set-ready : (n who : ℕ) → Ready tapeBytes x t v n all w (setUse tally (v - 1) n who) (Moves.setUse v n who s)
+  unfolding Moves.setUse Term.serverAt listsOf
+  set-ready n who =
       let server : Server = getD (s .view .servers) (v - 1) (idleServer 0) in
-      let now : getD (set (s .view .servers) (v - 1) (withInUse n server)) (v - 1) (idleServer 0) ≡ withInUse n server = getD-set-same (s .view .servers) (v - 1) (withInUse n server) (idleServer 0) (h .server) in
+      let now : getD (set (s .view .servers) (v - 1) (withUse n who server)) (v - 1) (idleServer 0) ≡ withUse n who server = getD-set-same (s .view .servers) (v - 1) (withUse n who server) (idleServer 0) (h .server) in
       record {
-        listing = listing-ext w (x .moving) (some t) s (Moves.setInUse v n s) (λ q hq. refl) refl refl (h .listing);
-        tallying = units-tallying tapeBytes tally s (h .tallying) (h .samples) v low high n (h .server);
-        counting = counting-ext x s (Moves.setInUse v n s) refl refl refl refl refl refl refl (h .counting);
+        listing = listing-ext w (x .moving) (some t) s (Moves.setUse v n who s) (λ q hq. refl) refl refl (h .listing);
+        tallying = units-tallying tapeBytes tally s (h .tallying) (h .samples) v low high n who (h .server);
+        counting = counting-ext x s (Moves.setUse v n who s) refl refl refl refl refl refl refl (h .counting);
         held = sym (ap (λ (y : Server). y .inUse) now);
         holds = h .holds ∙ sym (ap (λ (y : Server). y .capacity) now);
         wels = h .wels;
         ql = h .ql;
-        server = omega (arith, h .server, length-set (s .view .servers) (v - 1) (withInUse n server));
+        server = omega (arith, h .server, length-set (s .view .servers) (v - 1) (withUse n who server));
         samples = h .samples;
       }
 

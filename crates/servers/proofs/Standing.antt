@@ -17,8 +17,8 @@ use Rattle.tables.specs.Represents.{Represents}
 use Rattle.state.specs.Sane.{Sane}
 use Rattle.state.specs.Stands.{Rows, Stands}
 use Rattle.state.proofs.StandsLaws.{stands-moving}
-use Rattle.servers.specs.Units.{inUse, capacity}
-use Rattle.servers.proofs.Named.{few, units-held, capacity-held}
+use Rattle.servers.specs.Units.{inUse, holder, capacity}
+use Rattle.servers.proofs.Named.{few, units-held, holder-held, capacity-held}
 use Rattle.servers.proofs.Ready.{Ready}
 
 module _ (m : BlockModel) (tape : List (List ℕ)) (tapeBytes tables lists : List ℕ) (proper : Proper m tape) (rep : Represents m tape tapeBytes tables lists)
@@ -32,6 +32,9 @@ module _ (m : BlockModel) (tape : List (List ℕ)) (tapeBytes tables lists : Lis
 
   pub units-are : inUse (r .tally) (v - 1) ≡ Term.serverAt (s .view) v .inUse
   units-are = units-held v low high tapeBytes (r .tally) s (stands .tallying)
+
+  pub holder-is : holder (r .tally) (v - 1) ≡ Term.serverAt (s .view) v .holder
+  holder-is = holder-held v low high tapeBytes (r .tally) s (stands .tallying)
 
   pub capacity-is : capacity tables (v - 1) ≡ Term.serverAt (s .view) v .capacity
   capacity-is = capacity-held v low high rep s (sane .shape)

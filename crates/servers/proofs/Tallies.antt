@@ -1,4 +1,4 @@
--- The tally follows a server's units and the length of its QL.
+-- The tally follows a server's units, its holder and the length of its QL.
 use Prim.Native.Nat.{ℕ, zero, suc, _+_, _-_, _≤_, _<_, min}
 use mathlib.Core.Path.{_≡_, refl, sym, ap, _∙_}
 use mathlib.Core.Logic.{_≢_}
@@ -13,12 +13,12 @@ use Rattle.machine.specs.Lists.{insert}
 use Rattle.machine.specs.Term.{Server, idleServer}
 use Rattle.machine.specs.Term
 use Rattle.machine.specs.State.{State}
-use Rattle.machine.specs.Setters.{withInUse, withSerial, setQl, setSerial}
+use Rattle.machine.specs.Setters.{withUse, withSerial, setQl, setSerial}
 use Rattle.machine.specs.Moves as Moves
 use Rattle.state.specs.Stands.{Tallying}
 use Rattle.state.specs.Bare.{Bare, waitsNote, noNote, waiting}
 use Rattle.state.proofs.StandsLaws.{tallying-ext, entries-set, queueing-set, sampling-set}
-use Rattle.servers.specs.Units.{inUse, setInUse}
+use Rattle.servers.specs.Units.{setUse}
 use Rattle.servers.specs.Waking.{shorter}
 use Rattle.servers.specs.Taking.{longer}
 
@@ -41,51 +41,84 @@ insert-length t (x ∷ l) = go (precedes t x) (insert-length t l)
     go true e = refl
     go false e = ap suc e
 
--- ---- One cell of each kind
+-- ---- The cells of each kind
 
 module _ (tapeBytes tally : List ℕ) (s : State) (h : Tallying tapeBytes tally s) (few : length (s .samples) ≤ 16) (v : ℕ) (low : 1 ≤ v) (high : v ≤ 64) where
-  -- so many units are in use
-  module _ (units : ℕ) (there : v - 1 < length (s .view .servers)) where
+  -- so many units are in use, and who holds it
+  module _ (units who : ℕ) (there : v - 1 < length (s .view .servers)) where
     abbrev i : ℕ
     i = 512 + (v - 1)
+
+    abbrev o : ℕ
+    o = 960 + (v - 1)
 
     abbrev server : Server
     server = getD (s .view .servers) (v - 1) (idleServer 0)
 
+    abbrev server′ : Server
+    server′ = withUse units who server
+
     abbrev servers′ : List Server
-    servers′ = set (s .view .servers) (v - 1) (withInUse units server)
+    servers′ = set (s .view .servers) (v - 1) server′
 
-    other : (j : ℕ) → j ≢ i → getD (set tally i units) j 0 ≡ getD tally j 0
-    other j d = getD-set-other tally i j units 0 d
+    abbrev one : List ℕ
+    one = set tally i units
 
-    units-cell : (u : ℕ) → u < 64 → getD (set tally i units) (512 + u) 0 ≡ getD servers′ u (idleServer 0) .inUse
+    abbrev both : List ℕ
+    both = set one o who
+
+    other : (j : ℕ) → j ≢ i → j ≢ o → getD both j 0 ≡ getD tally j 0
+    other j d e = getD-set-other one o j who 0 e ∙ getD-set-other tally i j units 0 d
+
+    -- the cells of one field
+    units-cell : (u : ℕ) → u < 64 → getD both (512 + u) 0 ≡ getD servers′ u (idleServer 0) .inUse
     units-cell u hu = go (ℕ-discrete u (v - 1))
       where
-        go : Dec (u ≡ v - 1) → getD (set tally i units) (512 + u) 0 ≡ getD servers′ u (idleServer 0) .inUse
+        go : Dec (u ≡ v - 1) → getD both (512 + u) 0 ≡ getD servers′ u (idleServer 0) .inUse
         go (yes e) =
             rw e
-            (getD-set-same tally i units 0 (omega (arith, h .size))
-            ∙ sym (ap (λ (x : Server). x .inUse) (getD-set-same (s .view .servers) (v - 1) (withInUse units server) (idleServer 0) there)))
+            (getD-set-other one o i who 0 (λ f. omega arith) ∙ getD-set-same tally i units 0 (omega (arith, h .size))
+            ∙ sym (ap (λ (x : Server). x .inUse) (getD-set-same (s .view .servers) (v - 1) server′ (idleServer 0) there)))
         go (no d) =
-            other (512 + u) (λ e. d (omega arith)) ∙ h .servers .in-use u hu
-            ∙ sym (ap (λ (x : Server). x .inUse) (getD-set-other (s .view .servers) (v - 1) u (withInUse units server) (idleServer 0) d))
+            other (512 + u) (λ e. d (omega arith)) (λ e. omega arith) ∙ h .servers .in-use u hu
+            ∙ sym (ap (λ (x : Server). x .inUse) (getD-set-other (s .view .servers) (v - 1) u server′ (idleServer 0) d))
 
-    pub units-tallying : Tallying tapeBytes (setInUse tally (v - 1) units) (Moves.setInUse v units s)
-    unfolding Moves.setInUse Term.serverAt
+    holder-cell : (u : ℕ) → u < 64 → getD both (960 + u) 0 ≡ getD servers′ u (idleServer 0) .holder
+    holder-cell u hu = go (ℕ-discrete u (v - 1))
+      where
+        go : Dec (u ≡ v - 1) → getD both (960 + u) 0 ≡ getD servers′ u (idleServer 0) .holder
+        go (yes e) =
+            rw e
+            (getD-set-same one o who 0 (omega (arith, h .size, length-set tally i units))
+            ∙ sym (ap (λ (x : Server). x .holder) (getD-set-same (s .view .servers) (v - 1) server′ (idleServer 0) there)))
+        go (no d) =
+            other (960 + u) (λ e. omega arith) (λ e. d (omega arith)) ∙ h .servers .holders u hu
+            ∙ sym (ap (λ (x : Server). x .holder) (getD-set-other (s .view .servers) (v - 1) u server′ (idleServer 0) d))
+
+    kept : (f : Server → ℕ) → f server′ ≡ f server → (u : ℕ) → f (getD servers′ u (idleServer 0)) ≡ f (getD (s .view .servers) u (idleServer 0))
+    kept f e = field-kept f (s .view .servers) (v - 1) server′ (idleServer 0) e
+
+    pub units-tallying : Tallying tapeBytes (setUse tally (v - 1) units who) (Moves.setUse v units who s)
+    unfolding Moves.setUse Term.serverAt
     units-tallying =
         record {
-          size = length-set tally i units ∙ h .size;
-          entries = entries-set tally i units (s .view .entries) (omega arith) (h .entries);
+          size = length-set one o who ∙ length-set tally i units ∙ h .size;
+          entries = entries-set one o who (s .view .entries) (omega arith) (entries-set tally i units (s .view .entries) (omega arith) (h .entries));
           servers =
               record {
                 in-use = units-cell;
-                unit-ticks = λ u hu. other (576 + u) (λ e. omega arith) ∙ h .servers .unit-ticks u hu ∙ sym (field-kept (λ (x : Server). x .unitTicks) (s .view .servers) (v - 1) (withInUse units server) (idleServer 0) refl u);
-                wait-ticks = λ u hu. other (640 + u) (λ e. omega arith) ∙ h .servers .wait-ticks u hu ∙ sym (field-kept (λ (x : Server). x .waitTicks) (s .view .servers) (v - 1) (withInUse units server) (idleServer 0) refl u);
-                longest = λ u hu. other (704 + u) (λ e. omega arith) ∙ h .servers .longest u hu ∙ sym (field-kept (λ (x : Server). x .longest) (s .view .servers) (v - 1) (withInUse units server) (idleServer 0) refl u);
-                waiting = λ u hu. other (768 + u) (λ e. omega arith) ∙ h .servers .waiting u hu;
+                holders = holder-cell;
+                unit-ticks = λ u hu. other (576 + u) (λ e. omega arith) (λ e. omega arith) ∙ h .servers .unit-ticks u hu ∙ sym (kept (λ (x : Server). x .unitTicks) refl u);
+                wait-ticks = λ u hu. other (640 + u) (λ e. omega arith) (λ e. omega arith) ∙ h .servers .wait-ticks u hu ∙ sym (kept (λ (x : Server). x .waitTicks) refl u);
+                longest = λ u hu. other (704 + u) (λ e. omega arith) (λ e. omega arith) ∙ h .servers .longest u hu ∙ sym (kept (λ (x : Server). x .longest) refl u);
+                waiting = λ u hu. other (768 + u) (λ e. omega arith) (λ e. omega arith) ∙ h .servers .waiting u hu;
               };
-          queues = queueing-set tally i units (s .view .queues) (λ j a b e. omega arith) (h .queues);
-          samples = sampling-set tally i units tapeBytes (s .samples) few (omega arith) (h .samples);
+          queues =
+              queueing-set one o who (s .view .queues) (λ j a b e. omega arith)
+              (queueing-set tally i units (s .view .queues) (λ j a b e. omega arith) (h .queues));
+          samples =
+              sampling-set one o who tapeBytes (s .samples) few (λ j a b e. omega arith)
+              (sampling-set tally i units tapeBytes (s .samples) few (λ j a b e. omega arith) (h .samples));
         }
 
   -- the QL is of such a length
@@ -114,13 +147,14 @@ module _ (tapeBytes tally : List ℕ) (s : State) (h : Tallying tapeBytes tally 
           servers =
               record {
                 in-use = λ u hu. apart (512 + u) (λ f. omega arith) ∙ h .servers .in-use u hu;
+                holders = λ u hu. apart (960 + u) (λ f. omega arith) ∙ h .servers .holders u hu;
                 unit-ticks = λ u hu. apart (576 + u) (λ f. omega arith) ∙ h .servers .unit-ticks u hu;
                 wait-ticks = λ u hu. apart (640 + u) (λ f. omega arith) ∙ h .servers .wait-ticks u hu;
                 longest = λ u hu. apart (704 + u) (λ f. omega arith) ∙ h .servers .longest u hu;
                 waiting = length-cell;
               };
           queues = queueing-set tally k n (s .view .queues) (λ j a b f. omega arith) (h .queues);
-          samples = sampling-set tally k n tapeBytes (s .samples) few (omega arith) (h .samples);
+          samples = sampling-set tally k n tapeBytes (s .samples) few (λ j a b f. omega arith) (h .samples);
         }
 
   -- ---- Waiting and waking

@@ -112,7 +112,7 @@ module _ (m : BlockModel) (tape : List (List ℕ)) (tapeBytes tables lists : Lis
   abbrev at : ℕ
   at = 8 * (t .next - 1)
 
-  pub wait-server-done : (code : Code) (v : ℕ) → blockAt m (t .next) ≡ waitServer code v → Done tapeBytes (withTally (WaitServer.waitServer tables w tally x at) tally) (bareAnswer (question m (waitServer code v) s) m (waitServer code v) t s)
+  pub wait-server-done : (code : Code) (v : ℕ) → blockAt m (t .next) ≡ waitServer code v → Done tapeBytes (withTally (WaitServer.waitServer tables w tally x at) tally) (bareAnswer (question m (waitServer code v) t s) m (waitServer code v) t s)
   unfolding WaitServer.waitServer question bareAnswer welIndex blockForms
   wait-server-done code v is =
       let h : (1 ≤ v) × (v ≤ servers m) = code-there m code v (subst (ProperBlock m) is (proper .block (t .next))) in

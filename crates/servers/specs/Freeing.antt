@@ -2,15 +2,16 @@
 use Prim.Native.Nat.{ℕ, _+_, _-_}
 use mathlib.Core.Bool.{cond}
 use mathlib.Core.List.{List}
-use lib.Dec.{ltb}
+use lib.Dec.{ltb, eqb}
 use lib.ListN.{getD, set}
 use Rattle.tables.specs.Layout as Layout
-use Rattle.rows.specs.Layout.{head}
+use Rattle.rows.specs.Layout.{head, numberField}
+use Rattle.rows.specs.Cells.{read}
 use Rattle.rows.specs.Wake.{wakeFirst, wakeAll}
 use Rattle.state.specs.declared.scalars.Scalars.{Scalars}
 use Rattle.state.specs.Stands.{Rows, rowsOf}
 use Rattle.moves.specs.Motion.{Moved, withTally, goOn, stopped}
-use Rattle.servers.specs.Units.{serverAt, inUse, setInUse, capacity}
+use Rattle.servers.specs.Units.{serverAt, inUse, holder, setUse, capacity}
 use Rattle.servers.specs.Waking.{checkWels, shorter, memberFits, steps, wakeStays}
 
 -- it enters, and so many units are in use
@@ -19,19 +20,24 @@ enterFreed w x v units all = goOn (checkWels w v units all) x
 
 unfoldable pub freeOne : List ℕ → List ℕ → List ℕ → Scalars → (v units : ℕ) → Rows
 freeOne tables w tally x v units =
-    withTally (enterFreed (wakeFirst w v) x v units (capacity tables v)) (shorter (setInUse tally v units) v)
+    withTally (enterFreed (wakeFirst w v) x v units (capacity tables v)) (shorter (setUse tally v units 0) v)
 
 unfoldable pub freeSome : List ℕ → List ℕ → List ℕ → Scalars → (v units : ℕ) → Rows
 freeSome tables w tally x v units =
     withTally (enterFreed (wakeAll (memberFits tables (capacity tables v - units)) steps w v (head v)) x v units (capacity tables v))
-    (set (setInUse tally v units) (Layout.qlLength + v) (wakeStays (memberFits tables (capacity tables v - units)) steps w v (head v)))
+    (set (setUse tally v units 0) (Layout.qlLength + v) (wakeStays (memberFits tables (capacity tables v - units)) steps w v (head v)))
 
--- "Is f in use, or are b units in use? 24."
+-- "Is f in use? 24."; document 02, item 6: "27 RELEASE by another than the holder, after 24"
+unfoldable pub askRelease : (units who number : ℕ) → ℕ
+askRelease units who number = cond (ltb units 1) 24 (cond (eqb who number) 0 27)
+
 unfoldable pub release : List ℕ → List ℕ → List ℕ → Scalars → ℕ → Rows
 release tables w tally x at =
     let v : ℕ = serverAt tables (at + 1) in
-    cond (ltb (inUse tally v) 1) (rowsOf (stopped x 24) w tally) (freeOne tables w tally x v (inUse tally v - 1))
+    let end : ℕ = askRelease (inUse tally v) (holder tally v) (read w numberField (x .moving)) in
+    cond (eqb end 0) (freeOne tables w tally x v (inUse tally v - 1)) (rowsOf (stopped x end) w tally)
 
+-- "are b units in use? 24."
 unfoldable pub leave : List ℕ → List ℕ → List ℕ → Scalars → ℕ → Rows
 leave tables w tally x at =
     let v : ℕ = serverAt tables (at + 1) in

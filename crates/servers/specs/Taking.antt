@@ -5,15 +5,17 @@ use mathlib.Core.List.{List}
 use lib.Dec.{leb}
 use lib.ListN.{getD, set}
 use Rattle.tables.specs.Layout as Layout
+use Rattle.rows.specs.Layout.{numberField}
+use Rattle.rows.specs.Cells.{read}
 use Rattle.state.specs.declared.scalars.Scalars.{Scalars}
 use Rattle.state.specs.Stands.{Rows}
 use Rattle.moves.specs.Motion.{withTally, goOn, waitOn}
-use Rattle.servers.specs.Units.{serverAt, inUse, setInUse, capacity}
+use Rattle.servers.specs.Units.{serverAt, inUse, setUse, capacity}
 use Rattle.servers.specs.Waking.{checkWels}
 
--- it enters, and so many units are in use
-unfoldable pub holdUnits : List ℕ → List ℕ → Scalars → (v units all : ℕ) → Rows
-holdUnits w tally x v units all = withTally (goOn (checkWels w v units all) x) (setInUse tally v units)
+-- it enters; so many units are in use, and who holds the server
+unfoldable pub holdUnits : List ℕ → List ℕ → Scalars → (v units who all : ℕ) → Rows
+holdUnits w tally x v units who all = withTally (goOn (checkWels w v units all) x) (setUse tally v units who)
 
 -- the QL is longer by one
 unfoldable pub longer : List ℕ → ℕ → List ℕ
@@ -22,12 +24,13 @@ longer tally v = set tally (Layout.qlLength + v) (min (getD tally (Layout.qlLeng
 unfoldable pub queueUp : List ℕ → List ℕ → Scalars → ℕ → Rows
 queueUp w tally x v = withTally (waitOn w x v) (longer tally v)
 
-unfoldable pub takeUnits : List ℕ → List ℕ → List ℕ → Scalars → (v b : ℕ) → Rows
-takeUnits tables w tally x v b =
-    cond (leb b (capacity tables v - inUse tally v)) (holdUnits w tally x v (inUse tally v + b) (capacity tables v)) (queueUp w tally x v)
+unfoldable pub takeUnits : List ℕ → List ℕ → List ℕ → Scalars → (v b who : ℕ) → Rows
+takeUnits tables w tally x v b who =
+    cond (leb b (capacity tables v - inUse tally v)) (holdUnits w tally x v (inUse tally v + b) who (capacity tables v)) (queueUp w tally x v)
 
+-- document 02, item 6: "the number of its holder, written at SEIZE"
 unfoldable pub seize : List ℕ → List ℕ → List ℕ → Scalars → ℕ → Rows
-seize tables w tally x at = takeUnits tables w tally x (serverAt tables (at + 1)) 1
+seize tables w tally x at = takeUnits tables w tally x (serverAt tables (at + 1)) 1 (read w numberField (x .moving))
 
 unfoldable pub enter : List ℕ → List ℕ → List ℕ → Scalars → ℕ → Rows
-enter tables w tally x at = takeUnits tables w tally x (serverAt tables (at + 1)) (getD tables (at + 2) 0)
+enter tables w tally x at = takeUnits tables w tally x (serverAt tables (at + 1)) (getD tables (at + 2) 0) 0

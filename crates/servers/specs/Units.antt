@@ -1,4 +1,4 @@
--- The row machine: units, capacities and status codes of servers, which count from 0 here.
+-- The row machine: units, holders, capacities and status codes of servers, which count from 0 here.
 use Prim.Native.Nat.{ℕ, _+_, _%_}
 use mathlib.Core.Bool.{Bool, cond, not}
 use mathlib.Core.List.{List}
@@ -13,8 +13,12 @@ serverAt tables at = getD tables at 0 % Layout.serverCount
 abbrev pub inUse : List ℕ → ℕ → ℕ
 inUse tally v = getD tally (Layout.inUse + v) 0
 
-abbrev pub setInUse : List ℕ → ℕ → ℕ → List ℕ
-setInUse tally v units = set tally (Layout.inUse + v) units
+-- the number of who holds it, 0 for nobody
+abbrev pub holder : List ℕ → ℕ → ℕ
+holder tally v = getD tally (Layout.holder + v) 0
+
+abbrev pub setUse : List ℕ → (v units who : ℕ) → List ℕ
+setUse tally v units who = set (set tally (Layout.inUse + v) units) (Layout.holder + v) who
 
 abbrev pub capacity : List ℕ → ℕ → ℕ
 capacity tables v = getD tables (Layout.capacities + v) 0

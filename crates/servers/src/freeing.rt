@@ -1,14 +1,18 @@
-// 5 RELEASE f and 7 LEAVE s, b, which ask first whether the units are in use.
+// 5 RELEASE f and 7 LEAVE s, b, which ask first whether the units are in use; a RELEASE then asks for the holder.
 use crate::units::capacity;
+use crate::units::holder;
 use crate::units::in_use;
 use crate::units::server_at;
-use crate::units::set_in_use;
+use crate::units::set_use;
 use crate::waking::check_wels;
 use crate::waking::wake_first_ql;
 use crate::waking::wake_ql;
+use machine::ends::NOT_HOLDER;
 use machine::ends::NOT_IN_USE;
 use moves::go_on;
 use moves::stop;
+use rows::NUMBER;
+use rows::cells::read;
 use state::Scalars;
 use state::less64;
 use tables::FIRST;
@@ -22,7 +26,7 @@ ghost use Rattle.tables.specs.Layout.{programSize, serverCount};
 ghost use Rattle.rows.specs.Layout.{Room, rowCount};
 ghost use Rattle.moves.specs.Motion.{moved};
 ghost use Rattle.state.specs.Stands.{rowsOf};
-ghost use Rattle.servers.specs.Freeing.{enterFreed, freeOne, freeSome, release, leave};
+ghost use Rattle.servers.specs.Freeing.{enterFreed, freeOne, freeSome, askRelease, release, leave};
 
 // It enters, and so many units are in use.
 fn enter_freed(work: &mut [u32], x: Scalars, v: u32, units: u64, capacity: u64) -> Scalars
@@ -41,17 +45,17 @@ fn free_one(
     tally: &mut [u64],
     x: Scalars,
     v: u32,
-    units: u64,
+    left: u64,
 ) -> Scalars
     requires { ⌜ Room (now work) ⌝ }
     requires { ⌜ x .moving < rowCount ⌝ }
     requires { ⌜ v < serverCount ⌝ }
-    ensures { λ r. ⌜ rowsOf r (now (work .exit)) (now (tally .exit)) ≡ freeOne (now (tables .entry)) (now (work .entry)) (now (tally .entry)) x v units ⌝ }
+    ensures { λ r. ⌜ rowsOf r (now (work .exit)) (now (tally .exit)) ≡ freeOne (now (tables .entry)) (now (work .entry)) (now (tally .entry)) x v left ⌝ }
 {
     let all = capacity(tables, v);
-    set_in_use(tally, v, units);
+    set_use(tally, v, left, 0);
     wake_first_ql(work, tally, v);
-    enter_freed(work, x, v, units, all)
+    enter_freed(work, x, v, left, all)
 }
 
 fn free_some(
@@ -68,10 +72,23 @@ fn free_some(
     ensures { λ r. ⌜ rowsOf r (now (work .exit)) (now (tally .exit)) ≡ freeSome (now (tables .entry)) (now (work .entry)) (now (tally .entry)) x v units ⌝ }
 {
     let all = capacity(tables, v);
-    set_in_use(tally, v, units);
+    set_use(tally, v, units, 0);
     let stay = wake_ql(tables, work, v, less64(all, units));
     set_count(tally, QL_LENGTH + (v as usize), stay);
     enter_freed(work, x, v, units, all)
+}
+
+// 0 where the transaction of that number may release a facility: "Is f in use? 24", then "by another than the holder" 27.
+fn ask_release(units: u64, who: u64, number: u64) -> u32
+    ensures { λ r. ⌜ r ≡ askRelease units who number ⌝ }
+{
+    if units < 1 {
+        return NOT_IN_USE;
+    }
+    if who != number {
+        return NOT_HOLDER;
+    }
+    0
 }
 
 pub fn release(
@@ -88,11 +105,12 @@ pub fn release(
 {
     let v = server_at(tables, at + FIRST);
     let units = in_use(tally, v);
-    if units < 1 {
-        return stop(x, NOT_IN_USE);
+    let number = read(work, NUMBER, x.moving) as u64;
+    let end = ask_release(units, holder(tally, v), number);
+    if end != 0 {
+        return stop(x, end);
     }
-    let left = units - 1;
-    free_one(tables, work, tally, x, v, left)
+    free_one(tables, work, tally, x, v, less64(units, 1))
 }
 
 pub fn leave(tables: &[u32], work: &mut [u32], tally: &mut [u64], x: Scalars, at: usize) -> Scalars

@@ -1,11 +1,13 @@
-// 4 SEIZE f and 6 ENTER s, b: a SEIZE takes one unit.
+// 4 SEIZE f and 6 ENTER s, b: a SEIZE takes one unit, and its transaction holds the facility.
 use crate::units::capacity;
 use crate::units::in_use;
 use crate::units::server_at;
-use crate::units::set_in_use;
+use crate::units::set_use;
 use crate::waking::check_wels;
 use moves::go_on;
 use moves::wait_on;
+use rows::NUMBER;
+use rows::cells::read;
 use state::Scalars;
 use state::less64;
 use state::plus64;
@@ -22,21 +24,22 @@ ghost use Rattle.rows.specs.Layout.{Room, rowCount};
 ghost use Rattle.state.specs.Stands.{rowsOf};
 ghost use Rattle.servers.specs.Taking.{holdUnits, queueUp, takeUnits, seize, enter};
 
-// It enters, and so many units are in use.
+// It enters; so many units are in use, and `who` holds the server, 0 for nobody.
 fn hold_units(
     work: &mut [u32],
     tally: &mut [u64],
     x: Scalars,
     v: u32,
     units: u64,
+    who: u64,
     capacity: u64,
 ) -> Scalars
     requires { ⌜ Room (now work) ⌝ }
     requires { ⌜ x .moving < rowCount ⌝ }
     requires { ⌜ v < serverCount ⌝ }
-    ensures { λ r. ⌜ rowsOf r (now (work .exit)) (now (tally .exit)) ≡ holdUnits (now (work .entry)) (now (tally .entry)) x v units capacity ⌝ }
+    ensures { λ r. ⌜ rowsOf r (now (work .exit)) (now (tally .exit)) ≡ holdUnits (now (work .entry)) (now (tally .entry)) x v units who capacity ⌝ }
 {
-    set_in_use(tally, v, units);
+    set_use(tally, v, units, who);
     check_wels(work, v, units, capacity);
     go_on(work, x)
 }
@@ -61,16 +64,17 @@ fn take_units(
     x: Scalars,
     v: u32,
     b: u64,
+    who: u64,
 ) -> Scalars
     requires { ⌜ Room (now work) ⌝ }
     requires { ⌜ x .moving < rowCount ⌝ }
     requires { ⌜ v < serverCount ⌝ }
-    ensures { λ r. ⌜ rowsOf r (now (work .exit)) (now (tally .exit)) ≡ takeUnits (now (tables .entry)) (now (work .entry)) (now (tally .entry)) x v b ⌝ }
+    ensures { λ r. ⌜ rowsOf r (now (work .exit)) (now (tally .exit)) ≡ takeUnits (now (tables .entry)) (now (work .entry)) (now (tally .entry)) x v b who ⌝ }
 {
     let units = in_use(tally, v);
     let all = capacity(tables, v);
     if b <= less64(all, units) {
-        return hold_units(work, tally, x, v, units + b, all);
+        return hold_units(work, tally, x, v, units + b, who, all);
     }
     queue_up(work, tally, x, v)
 }
@@ -82,7 +86,8 @@ pub fn seize(tables: &[u32], work: &mut [u32], tally: &mut [u64], x: Scalars, at
     ensures { λ r. ⌜ rowsOf r (now (work .exit)) (now (tally .exit)) ≡ seize (now (tables .entry)) (now (work .entry)) (now (tally .entry)) x at ⌝ }
 {
     let v = server_at(tables, at + FIRST);
-    take_units(tables, work, tally, x, v, 1)
+    let number = read(work, NUMBER, x.moving) as u64;
+    take_units(tables, work, tally, x, v, 1, number)
 }
 
 pub fn enter(tables: &[u32], work: &mut [u32], tally: &mut [u64], x: Scalars, at: usize) -> Scalars
@@ -93,5 +98,5 @@ pub fn enter(tables: &[u32], work: &mut [u32], tally: &mut [u64], x: Scalars, at
 {
     let v = server_at(tables, at + FIRST);
     let b = number(tables, at + SECOND) as u64;
-    take_units(tables, work, tally, x, v, b)
+    take_units(tables, work, tally, x, v, b, 0)
 }

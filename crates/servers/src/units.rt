@@ -1,5 +1,6 @@
-// Units, capacities and status codes of servers.
+// Units, holders, capacities and status codes of servers.
 use tables::CAPACITIES;
+use tables::HOLDER;
 use tables::IN_USE;
 use tables::count;
 use tables::number;
@@ -7,7 +8,7 @@ use tables::set_count;
 ghost use mathlib.Core.Path.{_≡_};
 ghost use Prim.Native.Nat.{_+_, _<_};
 ghost use Rattle.tables.specs.Layout.{serverCount, wordEnd};
-ghost use Rattle.servers.specs.Units.{serverAt, inUse, capacity, setInUse, statusOf};
+ghost use Rattle.servers.specs.Units.{serverAt, inUse, holder, setUse, capacity, statusOf};
 
 const SERVERS: u32 = tables::SERVERS as u32;
 
@@ -28,11 +29,21 @@ pub fn in_use(tally: &[u64], v: u32) -> u64
     count(tally, IN_USE + (v as usize))
 }
 
-pub fn set_in_use(tally: &mut [u64], v: u32, units: u64)
+// The number of who holds the server, 0 for nobody.
+pub fn holder(tally: &[u64], v: u32) -> u64
     requires { ⌜ v < serverCount ⌝ }
-    ensures { λ _. ⌜ now (tally .exit) ≡ setInUse (now (tally .entry)) v units ⌝ }
+    ensures { λ r. ⌜ r ≡ holder (now (tally .entry)) v ⌝ }
+{
+    count(tally, HOLDER + (v as usize))
+}
+
+// So many units are in use, and who holds the server.
+pub fn set_use(tally: &mut [u64], v: u32, units: u64, who: u64)
+    requires { ⌜ v < serverCount ⌝ }
+    ensures { λ _. ⌜ now (tally .exit) ≡ setUse (now (tally .entry)) v units who ⌝ }
 {
     set_count(tally, IN_USE + (v as usize), units);
+    set_count(tally, HOLDER + (v as usize), who);
 }
 
 pub fn capacity(tables: &[u32], v: u32) -> u64

@@ -229,7 +229,7 @@ module _ (m : BlockModel) (tape : List (List ℕ)) (tapeBytes tables lists : Lis
       blocks-stand l (suc b) (beginBlock tables tapeBytes r b) (startOf x (suc b) s) (block-stands b (omega arith) r s h x is) (omega arith)
       (λ i hi. ap (λ (n : ℕ). blockAt m (suc n)) (omega arith) ∙ at (suc i) (omega arith))
 
-  module _ (w tally : List ℕ) (room : 16384 ≤ length w) (size : length tally ≡ 960) (empty : (i : ℕ) → i < 928 → getD tally i 0 ≡ 0) where
+  module _ (w tally : List ℕ) (room : 16384 ≤ length w) (size : length tally ≡ 1024) (empty : (i : ℕ) → getD tally i 0 ≡ 0) where
     abbrev r₀ : Rows
     r₀ = rowsOf (startScalars (m .counter)) (initial w) (listsSet 16 lists tally)
 

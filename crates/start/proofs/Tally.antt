@@ -25,8 +25,16 @@ module _ (lists tally : List ℕ) where
       ∙ getD-set-other (listsSet n lists tally) (928 + n) i (getD lists n 0) 0 (λ e. omega arith)
       ∙ lists-low n i h
 
-module _ (lists tally : List ℕ) (size : length tally ≡ 960) where
-  lists-length : (n : ℕ) → length (listsSet n lists tally) ≡ 960
+  lists-high : (n i : ℕ) → n ≤ 16 → 960 ≤ i → getD (listsSet n lists tally) i 0 ≡ getD tally i 0
+  unfolding listsSet listSet
+  lists-high zero i few h = refl
+  lists-high (suc n) i few h =
+      getD-set-other (set (listsSet n lists tally) (928 + n) (getD lists n 0)) (944 + n) i (getD lists (16 + n) 0) 0 (λ e. omega arith)
+      ∙ getD-set-other (listsSet n lists tally) (928 + n) i (getD lists n 0) 0 (λ e. omega arith)
+      ∙ lists-high n i (omega arith) h
+
+module _ (lists tally : List ℕ) (size : length tally ≡ 1024) where
+  lists-length : (n : ℕ) → length (listsSet n lists tally) ≡ 1024
   unfolding listsSet listSet
   lists-length zero = size
   lists-length (suc n) =
@@ -61,13 +69,14 @@ same-at (suc n) (suc i) a = same-at n i a
 
 record Idle (v : Server) : Type 0 where
   in-use : v .inUse ≡ 0
+  holder : v .holder ≡ 0
   unit-ticks : v .unitTicks ≡ 0
   wait-ticks : v .waitTicks ≡ 0
   longest : v .longest ≡ 0
 
 idle-server : (c : ℕ) → Idle (idleServer c)
 unfolding idleServer
-idle-server c = record { in-use = refl; unit-ticks = refl; wait-ticks = refl; longest = refl }
+idle-server c = record { in-use = refl; holder = refl; unit-ticks = refl; wait-ticks = refl; longest = refl }
 
 idle-at : (f : ℕ) (l : List ℕ) (v : ℕ) → Idle (getD (replicate f (idleServer 1) ++ map idleServer l) v (idleServer 0))
 idle-at zero [] v = idle-server 0
@@ -78,9 +87,9 @@ idle-at (suc f) l (suc v) = idle-at f l v
 
 -- ---- All of it
 
-module _ (m : BlockModel) (tape : List (List ℕ)) (tapeBytes tables lists tally : List ℕ) (proper : Proper m tape) (rep : Represents m tape tapeBytes tables lists) (size : length tally ≡ 960) (empty : (i : ℕ) → i < 928 → getD tally i 0 ≡ 0) where
+module _ (m : BlockModel) (tape : List (List ℕ)) (tapeBytes tables lists tally : List ℕ) (proper : Proper m tape) (rep : Represents m tape tapeBytes tables lists) (size : length tally ≡ 1024) (empty : (i : ℕ) → getD tally i 0 ≡ 0) where
   zero-at : (i : ℕ) → i < 928 → getD (listsSet 16 lists tally) i 0 ≡ 0
-  zero-at i h = lists-low lists tally 16 i h ∙ empty i h
+  zero-at i h = lists-low lists tally 16 i h ∙ empty i
 
   list-at : (l : ℕ) → l < 16 → (getD (listsSet 16 lists tally) (928 + l) 0 ≡ getD lists l 0) × (getD (listsSet 16 lists tally) (944 + l) 0 ≡ getD lists (16 + l) 0)
   list-at l h = lists-at lists tally size 16 (omega arith) l h
@@ -95,6 +104,7 @@ module _ (m : BlockModel) (tape : List (List ℕ)) (tapeBytes tables lists tally
   serving =
       record {
         in-use = λ v hv. zero-at (512 + v) (omega arith) ∙ sym (server v .in-use);
+        holders = λ v hv. lists-high lists tally 16 (960 + v) (omega arith) (omega arith) ∙ empty (960 + v) ∙ sym (server v .holder);
         unit-ticks = λ v hv. zero-at (576 + v) (omega arith) ∙ sym (server v .unit-ticks);
         wait-ticks = λ v hv. zero-at (640 + v) (omega arith) ∙ sym (server v .wait-ticks);
         longest = λ v hv. zero-at (704 + v) (omega arith) ∙ sym (server v .longest);
@@ -117,7 +127,7 @@ module _ (m : BlockModel) (tape : List (List ℕ)) (tapeBytes tables lists tally
         left = λ l hl. list-at l hl .1 ∙ rep .counts l hl;
       }
 
-  start-size : length (listsSet 16 lists tally) ≡ 960
+  start-size : length (listsSet 16 lists tally) ≡ 1024
   start-size = lists-length lists tally size 16
 
   pub idle-tallying : Tallying tapeBytes (listsSet 16 lists tally) (idle m tape)

@@ -3,6 +3,7 @@ use Prim.Native.Nat.{ℕ, zero, suc, _+_, _-_, _≤_}
 use mathlib.Core.Path.{_≡_, refl, sym, ap, subst}
 use mathlib.Core.Bool.{Bool, true, false}
 use mathlib.Core.List.{List, [], _∷_, map}
+use mathlib.Core.Option.{Option}
 use native.Mathlib.Omega.{arith}
 use borrow.Author.Tests.{leb-true}
 use lib.Dec.{leb}
@@ -13,10 +14,10 @@ use Rattle.machine.specs.Limits.{maxLiving, maxTime}
 use Rattle.machine.specs.Transaction.{Transaction, Event, earlier}
 use Rattle.machine.specs.Lists.{insert, nth}
 use Rattle.machine.specs.Term.{Queue, emptyQueue, serverAt, queueAt, idleServer, free, compare}
-use Rattle.machine.specs.Block.{Code, Share, facility, storage, shareServer, shareUnits, Change, up, down, Block, generate, advance, terminate, takes, frees, waitServer, waitTerms, moves, assign, priority, split, counts, BlockModel, status}
+use Rattle.machine.specs.Block.{Code, Share, facility, storage, shareServer, shareUnits, shareHolder, Change, up, down, Block, generate, advance, terminate, takes, frees, waitServer, waitTerms, moves, assign, priority, split, counts, BlockModel, status}
 use Rattle.machine.specs.State.{State}
-use Rattle.machine.specs.Setters.{withSerial, setSerial}
-use Rattle.machine.specs.Moves.{moveTo, fresh, toRel, toFel, toQl, toWel, toWsl, wakeFirstQl, wakeQl, wakeFirstWel, wakeWsl, setInUse, setContent, timesLeft, arrival, copies}
+use Rattle.machine.specs.Setters.{withSerial, setSerial, setMoving}
+use Rattle.machine.specs.Moves.{moveTo, fresh, toRel, toFel, toQl, toWel, toWsl, wakeFirstQl, wakeQl, wakeFirstWel, wakeWsl, setUse, setContent, timesLeft, arrival, copies}
 use Rattle.machine.specs.Execute.{unless, living, askGenerate, question, checkWels, endsOne, delay, wakeFor, changed}
 use Rattle.machine.specs.Turn.{wsScheme}
 use Rattle.machine.proofs.Kept.{changed-most}
@@ -26,7 +27,7 @@ use Rattle.machine.proofs.Shape.{each-getD}
 use Rattle.machine.proofs.Sorted.{each-insert, at-set}
 use Rattle.machine.proofs.Clocks.{Samples}
 use Rattle.machine.proofs.Cases.{checkWels-kept, wsScheme-cases}
-use Rattle.state.specs.Bare.{Bare, waiting, takingUnits, bare}
+use Rattle.state.specs.Bare.{Bare, waiting, bare}
 use Rattle.state.proofs.Gains.{each-set, rising-insert, serverSums, queueSums, more, Gains, gains-trans, gains-most}
 
 -- ---- Moves that leave servers, queues and times
@@ -88,9 +89,9 @@ gains-wsScheme m s = wsScheme-cases (Gains 0 0 0 s) m s (λ e. still s _ refl re
 
 -- ---- Servers, queues, the end of one
 
-gains-inUse : (v n : ℕ) (s : State) → Gains 0 0 0 s (setInUse v n s)
-unfolding setInUse serverAt
-gains-inUse v n s =
+gains-use : (v n holder : ℕ) (s : State) → Gains 0 0 0 s (setUse v n holder s)
+unfolding setUse serverAt
+gains-use v n holder s =
     record {
       clock = refl;
       turns = refl;
@@ -240,54 +241,55 @@ unless-yes false n later e ne = absurd (ne e)
 on : {j k c : ℕ} (n : ℕ) (t : Transaction) {s s′ : State} → Gains j k c s s′ → Gains j k c s (moveTo n t s′)
 on {j} {k} {c} n t g = gains-most j k c (omega arith) (omega arith) (omega arith) (gains-trans g (gains-moveTo n t _))
 
-generates : (m : BlockModel) (l : List ℕ) (list p n k : ℕ) (t : Transaction) (s : State) → askGenerate m l s ≡ 0 → Moderate s (moveTo k t (arrival l list p n s))
+generates : (m : BlockModel) (l : List ℕ) (list p n k : ℕ) (t : Transaction) (s : State) (o : Option Transaction) → askGenerate m l (setMoving o s) ≡ 0
+    → Moderate s (moveTo k t (arrival l list p n s))
 unfolding askGenerate arrival
-generates m [] list p n k t s asked = moderate (omega arith) (omega arith) (gains-moveTo k t s)
-generates m (time ∷ l) list p n k t s asked =
+generates m [] list p n k t s o asked = moderate (omega arith) (omega arith) (gains-moveTo k t s)
+generates m (time ∷ l) list p n k t s o asked =
     record {
       new = 1;
       room = λ h. leb-true (living s + 1) maxLiving (unless-yes (leb (living s + 1) maxLiving) 21 _ asked (λ e. omega arith));
       gains = gains-most 1 255 1 (omega arith) (omega arith) (omega arith) (on k t (gains-arrival (time ∷ l) list p n s));
     }
 
-units-taken : (v b : ℕ) (t : Transaction) (s : State) → Moderate s (takingUnits v b t s .state)
-unfolding takingUnits
-units-taken v b t s =
-    cond-cases (λ (r : Bare). Moderate s (r .state)) (leb b (free (serverAt (s .view) v))) _ _
-    (λ e. moderate (omega arith) (omega arith) (on _ t (gains-trans (gains-inUse v (serverAt (s .view) v .inUse + b) s) (gains-checkWels v _))))
-    (λ e. moderate (omega arith) (omega arith) (gains-waitQl v t s))
-
 gains-wakeFor : (m : BlockModel) (x : Share) (s : State) → Gains 0 0 0 s (wakeFor m x s)
 unfolding wakeFor
 gains-wakeFor m (facility v) s = gains-wakeFirstQl v s
 gains-wakeFor m (storage v b) s = gains-wakeQl _ v s
 
-pub bare-gains : (m : BlockModel) (b : Block) (t : Transaction) (s : State) → ProperBlock m b → question m b s ≡ 0 → Moderate s (bare m b t s .state)
+-- no question asks who moves in the state
+pub bare-gains : (m : BlockModel) (b : Block) (t : Transaction) (s : State) (o : Option Transaction) → ProperBlock m b → question m b t (setMoving o s) ≡ 0
+    → Moderate s (bare m b t s .state)
 unfolding bare question
-bare-gains m (generate list p) t s ok asked = generates m _ list p _ _ t s asked
-bare-gains m (advance list) t s ok asked = moderate (omega arith) (omega arith) (gains-delay _ list t s)
-bare-gains m (terminate a) t s ok asked = moderate (omega arith) (omega arith) (gains-endsOne a s)
-bare-gains m (takes x) t s ok asked = units-taken (shareServer x) (shareUnits x) t s
-bare-gains m (frees x) t s ok asked =
+bare-gains m (generate list p) t s o ok asked = generates m _ list p _ _ t s o asked
+bare-gains m (advance list) t s o ok asked = moderate (omega arith) (omega arith) (gains-delay _ list t s)
+bare-gains m (terminate a) t s o ok asked = moderate (omega arith) (omega arith) (gains-endsOne a s)
+bare-gains m (takes x) t s o ok asked =
+    let v : ℕ = shareServer x in
+    cond-cases (λ (r : Bare). Moderate s (r .state)) (leb (shareUnits x) (free (serverAt (s .view) v))) _ _
+    (λ e. moderate (omega arith) (omega arith)
+    (on _ t (gains-trans (gains-use v (serverAt (s .view) v .inUse + shareUnits x) (shareHolder x (t .number)) s) (gains-checkWels v _))))
+    (λ e. moderate (omega arith) (omega arith) (gains-waitQl v t s))
+bare-gains m (frees x) t s o ok asked =
     moderate (omega arith) (omega arith)
     (on _ t
-    (gains-trans (gains-inUse (shareServer x) (serverAt (s .view) (shareServer x) .inUse - shareUnits x) s)
+    (gains-trans (gains-use (shareServer x) (serverAt (s .view) (shareServer x) .inUse - shareUnits x) 0 s)
     (gains-trans (gains-wakeFor m x _) (gains-checkWels (shareServer x) _))))
-bare-gains m (waitServer code v) t s ok asked =
+bare-gains m (waitServer code v) t s o ok asked =
     cond-cases (λ (r : Bare). Moderate s (r .state)) (status code (serverAt (s .view) v)) _ _
     (λ e. moderate (omega arith) (omega arith) (gains-waitWel v code t s))
     (λ e. moderate (omega arith) (omega arith) (on _ t (gains-wakeFirstWel v code s)))
-bare-gains m (waitTerms a r b) t s ok asked =
+bare-gains m (waitTerms a r b) t s o ok asked =
     cond-cases (λ (r : Bare). Moderate s (r .state)) (compare (m .values) (s .view) (t .parameters) a r b) _ _
     (λ e. moderate (omega arith) (omega arith) (gains-waitWsl t s)) (λ e. moderate (omega arith) (omega arith) (gains-moveTo _ t s))
-bare-gains m (moves c target) t s ok asked = moderate (omega arith) (omega arith) (gains-moveTo _ t s)
-bare-gains m (assign k a) t s ok asked = moderate (omega arith) (omega arith) (gains-moveTo _ _ s)
-bare-gains m (priority p) t s ok asked = moderate (omega arith) (omega arith) (gains-toRel _ s)
-bare-gains m (split n target) t s ok asked =
+bare-gains m (moves c target) t s o ok asked = moderate (omega arith) (omega arith) (gains-moveTo _ t s)
+bare-gains m (assign k a) t s o ok asked = moderate (omega arith) (omega arith) (gains-moveTo _ _ s)
+bare-gains m (priority p) t s o ok asked = moderate (omega arith) (omega arith) (gains-toRel _ s)
+bare-gains m (split n target) t s o ok asked =
     record {
       new = n;
       room = λ h. leb-true (living s + n) maxLiving (unless-yes (leb (living s + n) maxLiving) 21 0 asked (λ e. omega arith));
       gains = gains-most n 255 1 (omega arith) (omega arith) (omega arith) (on _ t (gains-copies n target t s));
     }
-bare-gains m (counts c q) t s ok asked =
+bare-gains m (counts c q) t s o ok asked =
     moderate (omega arith) (omega arith) (on _ t (gains-content q 1 (changed c) (changed-most c) s))

@@ -7,15 +7,15 @@ use mathlib.Core.List.{List, [], _∷_}
 use mathlib.Core.Option.{none}
 use lib.Dec.{leb}
 use Rattle.machine.specs.Transaction.{Transaction}
-use Rattle.machine.specs.Term.{Term, Relation, serverAt, free, compare}
-use Rattle.machine.specs.Block.{Code, U, NU, E, NE, F, NF, status, facility, storage, shareServer, shareUnits, Block, generate, advance, terminate, takes, frees, waitServer, waitTerms, moves, assign, priority, split, counts, BlockModel}
+use Rattle.machine.specs.Term.{serverAt, free, compare}
+use Rattle.machine.specs.Block.{Code, U, NU, E, NE, F, NF, status, facility, storage, shareServer, shareUnits, shareHolder, Block, generate, advance, terminate, takes, frees, waitServer, waitTerms, moves, assign, priority, split, counts, BlockModel}
 use Rattle.machine.specs.State.{State}
 use Rattle.machine.specs.Setters.{withSerial, setSerial, setMoving, setMade}
 use Rattle.machine.specs.Bundle.{everything}
-use Rattle.machine.specs.Moves.{recordOf, log, enters, fresh, goOn, mustWait, toRel, toQl, toWel, toWsl, wakeFirstQl, wakeQl, wakeFirstWel, setInUse, timesLeft, arrival, copies}
-use Rattle.machine.specs.Execute.{effect, takeUnits, checkWel, checkWels, freeUnits, fits, delay}
+use Rattle.machine.specs.Moves.{recordOf, log, enters, fresh, moveTo, goOn, mustWait, toRel, toQl, toWel, toWsl, wakeFirstQl, wakeQl, wakeFirstWel, setUse, timesLeft, arrival, copies}
+use Rattle.machine.specs.Execute.{effect, checkWel, checkWels, freeUnits, fits, delay}
 use Rattle.machine.specs.Turn.{answer}
-use Rattle.state.specs.Bare.{Bare, Note, enteredNote, waitsNote, noNote, entering, waiting, takingUnits, bare, bareAnswer, logged, countEntry, noteAs, noted}
+use Rattle.state.specs.Bare.{Bare, Note, enteredNote, waitsNote, noNote, entering, waiting, bare, bareAnswer, logged, countEntry, noteAs, noted}
 
 module _ (t : Transaction) (s : State) where
   -- the note of an entry
@@ -70,45 +70,40 @@ module _ (t : Transaction) (s : State) where
           log-logged : logged 1 t s (setSerial (fresh s) s) ≡ setSerial (fresh s) (log 1 t s)
           log-logged = unfold logged log in refl
 
-  taken-noted : (v b : ℕ) → noted t s (takingUnits v b t s) ≡ takeUnits v b t s
-  unfolding takingUnits takeUnits
-  taken-noted v b = go (leb b (free (serverAt (s .view) v)))
-    where
-      go : (c : Bool)
-          → noted t s (cond c (entering (goOn t (checkWels v (setInUse v (serverAt (s .view) v .inUse + b) s)))) (waiting (toQl v) t s))
-          ≡ cond c (goOn t (checkWels v (setInUse v (serverAt (s .view) v .inUse + b) (enters t s)))) (mustWait (toQl v) t s)
-      go true = unfold everything noteAs logged countEntry in sym (ap (goOn t) (checkWels-N v (setInUse v (serverAt (s .view) v .inUse + b) s)))
-      go false = waiting-noted (toQl v) (λ u x. unfold everything logged in refl)
+  -- an entry whose effect does not look at the note
+  entered-noted : (f : State → State) → f (N s) ≡ N (f s) → noted t s (entering (f s)) ≡ f (enters t s)
+  unfolding everything noteAs logged countEntry
+  entered-noted f commutes = sym commutes
+
+  noted-cond : (c : Bool) (x y : Bare) (x′ y′ : State) → noted t s x ≡ x′ → noted t s y ≡ y′ → noted t s (cond c x y) ≡ cond c x′ y′
+  noted-cond true x y x′ y′ h k = h
+  noted-cond false x y x′ y′ h k = k
 
 module _ (m : BlockModel) (t : Transaction) (s : State) where
-  waitServer-noted : (code : Code) (v : ℕ) → noted t s (bare m (waitServer code v) t s) ≡ effect m (waitServer code v) t s
-  unfolding bare effect
-  waitServer-noted code v = go (status code (serverAt (s .view) v))
-    where
-      go : (c : Bool)
-          → noted t s (cond c (waiting (toWel v code) t s) (entering (goOn t (wakeFirstWel v code s))))
-          ≡ cond c (mustWait (toWel v code) t s) (goOn t (wakeFirstWel v code (enters t s)))
-      go true = waiting-noted t s (toWel v code) (λ u x. unfold everything logged in refl)
-      go false = unfold everything noteAs logged countEntry in refl
+  abbrev checking : ℕ → (State → State) → State → State
+  checking v f e = goOn t (checkWels v (f e))
 
-  waitTerms-noted : (a : Term) (r : Relation) (b : Term) → noted t s (bare m (waitTerms a r b) t s) ≡ effect m (waitTerms a r b) t s
-  unfolding bare effect
-  waitTerms-noted a r b = go (compare (m .values) (s .view) (t .parameters) a r b)
-    where
-      go : (c : Bool) → noted t s (cond c (waiting toWsl t s) (entering (goOn t s))) ≡ cond c (mustWait toWsl t s) (goOn t (enters t s))
-      go true = waiting-noted t s toWsl (λ u x. unfold everything logged in refl)
-      go false = unfold everything noteAs logged countEntry in refl
+  checked : (v : ℕ) (f : State → State) → f (N t s s) ≡ N t s (f s) → noted t s (entering (checking v f s)) ≡ checking v f (enters t s)
+  unfolding moveTo logged countEntry
+  checked v f commutes =
+      entered-noted t s (checking v f) (ap (λ (y : State). goOn t (checkWels v y)) commutes ∙ ap (goOn t) (checkWels-N t s v (f s)))
 
   pub noted-effect : (b : Block) → noted t s (bare m b t s) ≡ effect m b t s
   unfolding everything bare noteAs logged countEntry
   noted-effect (generate list p) = sym (ap (goOn t) (arrival-N t s (timesLeft s list) list p (t .next) s))
   noted-effect (advance list) = sym (delay-N t s (timesLeft s list) list s)
   noted-effect (terminate a) = refl
-  noted-effect (takes x) = taken-noted t s (shareServer x) (shareUnits x)
-  noted-effect (frees (facility v)) = sym (ap (goOn t) (checkWels-N t s v (wakeFirstQl v (freeUnits v 1 s))))
-  noted-effect (frees (storage v b)) = sym (ap (goOn t) (checkWels-N t s v (wakeQl (fits m (freeUnits v b s .view) v) v (freeUnits v b s))))
-  noted-effect (waitServer code v) = waitServer-noted code v
-  noted-effect (waitTerms a r b) = waitTerms-noted a r b
+  noted-effect (takes x) =
+      let v : ℕ = shareServer x in
+      noted-cond t s (leb (shareUnits x) (free (serverAt (s .view) v))) _ _ _ _
+      (checked v (setUse v (serverAt (s .view) v .inUse + shareUnits x) (shareHolder x (t .number))) refl)
+      (waiting-noted t s (toQl v) (λ u x. refl))
+  noted-effect (frees (facility v)) = checked v (λ e. wakeFirstQl v (freeUnits v 1 e)) refl
+  noted-effect (frees (storage v b)) = checked v (λ e. wakeQl (fits m (freeUnits v b e .view) v) v (freeUnits v b e)) refl
+  noted-effect (waitServer code v) =
+      noted-cond t s (status code (serverAt (s .view) v)) _ _ _ _ (waiting-noted t s (toWel v code) (λ u x. refl)) refl
+  noted-effect (waitTerms a r b) =
+      noted-cond t s (compare (m .values) (s .view) (t .parameters) a r b) _ _ _ _ (waiting-noted t s toWsl (λ u x. refl)) refl
   noted-effect (moves c target) = refl
   noted-effect (assign k a) = refl
   noted-effect (priority p) = refl

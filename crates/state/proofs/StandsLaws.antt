@@ -134,10 +134,11 @@ module _ (tally : List ℕ) (i x : ℕ) where
   pub entries-set : (l : List ℕ) → 256 ≤ i → ((b : ℕ) → b < 256 → getD tally (Layout.entries + b) 0 ≡ getD l b 0) → (b : ℕ) → b < 256 → getD (set tally i x) (Layout.entries + b) 0 ≡ getD l b 0
   entries-set l h e b hb = other (Layout.entries + b) (λ z. omega arith) ∙ e b hb
 
-  pub serving-set : (servers : List Server) (ql : List (List Transaction)) → ((j : ℕ) → 512 ≤ j → j < 832 → j ≢ i) → Serving tally servers ql → Serving (set tally i x) servers ql
-  serving-set servers ql apart h =
+  pub serving-set : (servers : List Server) (ql : List (List Transaction)) → ((j : ℕ) → 512 ≤ j → j < 832 → j ≢ i) → ((v : ℕ) → 960 + v ≢ i) → Serving tally servers ql → Serving (set tally i x) servers ql
+  serving-set servers ql apart held h =
       record {
         in-use = λ v hv. other (512 + v) (apart (512 + v) (omega arith) (omega arith)) ∙ h .in-use v hv;
+        holders = λ v hv. other (960 + v) (held v) ∙ h .holders v hv;
         unit-ticks = λ v hv. other (576 + v) (apart (576 + v) (omega arith) (omega arith)) ∙ h .unit-ticks v hv;
         wait-ticks = λ v hv. other (640 + v) (apart (640 + v) (omega arith) (omega arith)) ∙ h .wait-ticks v hv;
         longest = λ v hv. other (704 + v) (apart (704 + v) (omega arith) (omega arith)) ∙ h .longest v hv;
@@ -152,11 +153,11 @@ module _ (tally : List ℕ) (i x : ℕ) where
         longest = λ q hq. other (896 + q) (apart (896 + q) (omega arith) (omega arith)) ∙ h .longest q hq;
       }
 
-  pub sampling-set : (tapeBytes : List ℕ) (samples : List (List ℕ)) → length samples ≤ 16 → i < 928 → Sampling tapeBytes tally samples → Sampling tapeBytes (set tally i x) samples
+  pub sampling-set : (tapeBytes : List ℕ) (samples : List (List ℕ)) → length samples ≤ 16 → ((j : ℕ) → 928 ≤ j → j < 960 → j ≢ i) → Sampling tapeBytes tally samples → Sampling tapeBytes (set tally i x) samples
   sampling-set tapeBytes samples few apart h =
       record {
-        begins = λ l hl. rw (other (928 + l) (λ z. omega arith)) (h .begins l hl);
-        left = λ l hl. other (944 + l) (λ z. omega arith) ∙ h .left l hl;
+        begins = λ l hl. rw (other (928 + l) (apart (928 + l) (omega arith) (omega arith))) (h .begins l hl);
+        left = λ l hl. other (944 + l) (apart (944 + l) (omega arith) (omega arith)) ∙ h .left l hl;
       }
 
 -- ---- Scalars

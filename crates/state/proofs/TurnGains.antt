@@ -1,6 +1,6 @@
 -- A turn after the taking: nothing is noted, or the moving one's block gains what a block may gain and its record is noted.
 use Prim.Native.Nat.{ℕ, zero, suc}
-use mathlib.Core.Path.{_≡_, refl, sym, _∙_, subst}
+use mathlib.Core.Path.{_≡_, refl, sym, subst}
 use mathlib.Core.List.{List}
 use mathlib.Core.Option.{Option, none, some}
 use native.Mathlib.Omega.{arith}
@@ -11,7 +11,6 @@ use Rattle.machine.specs.Setters.{setMoving}
 use Rattle.machine.specs.Execute.{question}
 use Rattle.machine.specs.Turn.{answer, execute, wsScheme}
 use Rattle.machine.proofs.Proper.{Proper}
-use Rattle.machine.proofs.Cases.{question-hand}
 use Rattle.state.specs.Bare.{Note, noteAs, bare, bareAnswer}
 use Rattle.state.proofs.Noted.{noted-answer}
 use Rattle.state.proofs.Gains.{Gains, gains-trans, gains-most}
@@ -33,13 +32,13 @@ moderate-hand s s′ h =
     }
 
 module _ {m : BlockModel} {tape : List (List ℕ)} (proper : Proper m tape) where
-  answered : (n : ℕ) (t : Transaction) (s : State) → s .moving ≡ some t → question m (blockAt m (t .next)) s ≡ n
+  answered : (n : ℕ) (t : Transaction) (s : State) → s .moving ≡ some t → question m (blockAt m (t .next)) t s ≡ n
       → Turned s (wsScheme m (answer n m (blockAt m (t .next)) t s))
   unfolding bareAnswer
   answered zero t s e q =
       let r = bare m (blockAt m (t .next)) t (setMoving none s) in
       let g : Moderate (setMoving none s) (r .state) =
-      bare-gains m (blockAt m (t .next)) t (setMoving none s) (proper .block (t .next)) (question-hand m (blockAt m (t .next)) none s ∙ q) in
+      bare-gains m (blockAt m (t .next)) t (setMoving none s) (s .moving) (proper .block (t .next)) q in
       noted t e (r .note) (r .state) (moderate-hand s (r .state) g)
       (subst (λ (x : State). Gains 0 0 0 x (wsScheme m (answer zero m (blockAt m (t .next)) t s))) (sym (noted-answer zero m (blockAt m (t .next)) t s))
       (gains-wsScheme m _))

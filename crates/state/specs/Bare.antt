@@ -1,21 +1,19 @@
 -- What a block does apart from its record: the machine's `answer` split into the effect on lists, servers, queues and counts,
 -- and the note of the record, which the engine makes in one place. The law that the two together are `answer` is
 -- proofs/Noted.antt.
-use Prim.Native.Nat.{ℕ, zero, suc, _+_, _-_}
-use mathlib.Core.Bool.{false, cond}
+use Prim.Native.Nat.{ℕ, zero, suc, _+_}
+use mathlib.Core.Bool.{cond}
 use mathlib.Core.List.{_∷_}
 use mathlib.Core.Option.{none}
-use lib.Dec.{leb}
 use lib.ListN.{length}
 use Rattle.machine.specs.Transaction.{Transaction}
 use Rattle.machine.specs.Lists.{nth, setNth}
 use Rattle.machine.specs.Trace.{recordBytes}
-use Rattle.machine.specs.Term.{serverAt, queueAt, free, evaluate, compare, truth}
-use Rattle.machine.specs.Block.{status, shareServer, shareUnits, Block, generate, advance, terminate, takes, frees, waitServer, waitTerms, moves, assign, priority, split, counts, BlockModel}
+use Rattle.machine.specs.Block.{Block, BlockModel}
 use Rattle.machine.specs.State.{State}
-use Rattle.machine.specs.Setters.{withPriority, withParameters, withNext, withSerial, withReturning, setEntries, setView, setSerial, setMoving, setEnd, setRecords, setWritten}
-use Rattle.machine.specs.Moves.{recordOf, moveTo, goOn, fresh, toRel, toQl, toWel, toWsl, wakeFirstWel, setInUse, setContent, timesLeft, arrival, copies}
-use Rattle.machine.specs.Execute.{checkWels, freeUnits, wakeFor, changed, endsOne, delay}
+use Rattle.machine.specs.Setters.{withSerial, setEntries, setView, setSerial, setMoving, setEnd, setRecords, setWritten}
+use Rattle.machine.specs.Moves.{recordOf, fresh}
+use Rattle.machine.specs.Execute.{doing}
 
 -- Which record a block writes: outcome 0, outcome 1, or none, for a returner that is put back and for a turn that a question stops.
 pub data Note : Type 0 where
@@ -34,30 +32,9 @@ waiting put t s =
     cond (t .returning) (record { note = noNote; state = put t s })
     (record { note = waitsNote; state = put (withSerial (fresh s) t) (setSerial (fresh s) s) })
 
-unfoldable pub takingUnits : ℕ → ℕ → Transaction → State → Bare
-takingUnits v b t s =
-    cond (leb b (free (serverAt (s .view) v)))
-    (entering (goOn t (checkWels v (setInUse v (serverAt (s .view) v .inUse + b) s))))
-    (waiting (toQl v) t s)
-
+-- the other use of `doing` than `effect`: the entry is not noted yet
 unfoldable pub bare : BlockModel → Block → Transaction → State → Bare
-bare m (generate list p) t s = entering (goOn t (arrival (timesLeft s list) list p (t .next) s))
-bare m (advance list) t s = entering (delay (timesLeft s list) list t s)
-bare m (terminate a) t s = entering (endsOne a s)
-bare m (takes x) t s = takingUnits (shareServer x) (shareUnits x) t s
-bare m (frees x) t s =
-    entering (goOn t (checkWels (shareServer x) (wakeFor m x (freeUnits (shareServer x) (shareUnits x) s))))
-bare m (waitServer code v) t s =
-    cond (status code (serverAt (s .view) v)) (waiting (toWel v code) t s) (entering (goOn t (wakeFirstWel v code s)))
-bare m (waitTerms a r b) t s =
-    cond (compare (m .values) (s .view) (t .parameters) a r b) (waiting toWsl t s) (entering (goOn t s))
-bare m (moves c target) t s =
-    entering (moveTo (cond (truth (m .values) (s .view) (t .parameters) c) target (suc (t .next))) t s)
-bare m (assign k a) t s =
-    entering (goOn (withParameters (setNth (t .parameters) k (evaluate (m .values) (s .view) (t .parameters) a)) t) s)
-bare m (priority p) t s = entering (toRel (withPriority p (withReturning false (withNext (suc (t .next)) t))) s)
-bare m (split n target) t s = entering (goOn t (copies n target t s))
-bare m (counts c q) t s = entering (goOn t (setContent q (changed c (queueAt (s .view) q .content)) s))
+bare m b t s = doing (λ f. entering (f s)) (λ put. waiting put t s) m b t s
 
 -- with the question asked first
 unfoldable pub bareAnswer : ℕ → BlockModel → Block → Transaction → State → Bare

@@ -53,6 +53,7 @@ pub record Listing (work : List ℕ) (moving : ℕ) (o : Option Transaction) (s 
 -- of all 64 servers; a server that is not there is idle
 pub record Serving (tally : List ℕ) (servers : List Server) (ql : List (List Transaction)) : Type 0 where
   pub in-use : (v : ℕ) → v < Layout.serverCount → getD tally (Layout.inUse + v) 0 ≡ getD servers v (idleServer 0) .inUse
+  pub holders : (v : ℕ) → v < Layout.serverCount → getD tally (Layout.holder + v) 0 ≡ getD servers v (idleServer 0) .holder
   pub unit-ticks : (v : ℕ) → v < Layout.serverCount → getD tally (Layout.unitTicks + v) 0 ≡ getD servers v (idleServer 0) .unitTicks
   pub wait-ticks : (v : ℕ) → v < Layout.serverCount → getD tally (Layout.waitTicks + v) 0 ≡ getD servers v (idleServer 0) .waitTicks
   pub longest : (v : ℕ) → v < Layout.serverCount → getD tally (Layout.longestQl + v) 0 ≡ getD servers v (idleServer 0) .longest

@@ -101,8 +101,12 @@ listAt = 928
 abbrev pub listLeft : ℕ
 listLeft = 944
 
+-- per server: the number of its holder, 0 for none
+abbrev pub holder : ℕ
+holder = 960
+
 abbrev pub tallySize : ℕ
-tallySize = 960
+tallySize = 1024
 
 -- ---- what decoding leaves of the tape: list k (from 0) begins at cell k, and cell 16 + k is its count
 

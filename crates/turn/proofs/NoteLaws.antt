@@ -66,7 +66,7 @@ module _ (tapeBytes tally : List ℕ) (i n : ℕ) (low : i < 512) where
       record {
         size = length-set tally i n ∙ h .size;
         entries = entries;
-        servers = rw (← v, ← l) (serving-set tally i n (s .view .servers) (s .ql) (λ j a b. above j (omega arith)) (h .servers));
+        servers = rw (← v, ← l) (serving-set tally i n (s .view .servers) (s .ql) (λ j a b. above j (omega arith)) (λ v. above (960 + v) (omega arith)) (h .servers));
         queues = rw (← q) (queueing-set tally i n (s .view .queues) (λ j a b. above j (omega arith)) (h .queues));
         samples =
             rw (← p)

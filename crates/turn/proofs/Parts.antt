@@ -19,11 +19,11 @@ note-joined y w tally r z tally′ trace trace′ number block e f =
 
 pub turned : (model : Model) (tables tape w tally trace : List ℕ) (x y : Scalars) (w₁ tally₁ : List ℕ) (z : Scalars) (w₂ tally₂ trace₂ w₃ : List ℕ)
     → rowsOf y w₁ tally₁ ≡ take w tally x (model .facilities + model .storages) (model .queues)
-    → traced (rowsOf z w₂ tally₂) trace₂ ≡ actMoving tables (model .values) tape w₁ tally₁ trace y
+    → traced (rowsOf z w₂ tally₂) trace₂ ≡ actMoving tables (model .values) (model .facilities) tape w₁ tally₁ trace y
     → w₃ ≡ wsScheme tables (model .blocks) (model .values) tally₂ z w₂
     → traced (rowsOf z w₃ tally₂) trace₂ ≡ turn model tables tape w tally trace x
 unfolding turn afterTaking withScheme rowsOf traced
 turned model tables tape w tally trace x y w₁ tally₁ z w₂ tally₂ trace₂ w₃ taken acted schemed =
-    subst (λ (r : Rows). traced (rowsOf z w₃ tally₂) trace₂ ≡ afterTaking tables (model .blocks) (model .values) tape trace r) taken
+    subst (λ (r : Rows). traced (rowsOf z w₃ tally₂) trace₂ ≡ afterTaking tables (model .blocks) (model .values) (model .facilities) tape trace r) taken
     (subst (λ (a : Traced). traced (rowsOf z w₃ tally₂) trace₂ ≡ withScheme tables (model .blocks) (model .values) a) acted
     (ap (λ (v : List ℕ). traced (rowsOf z v tally₂) trace₂) schemed))

@@ -23,9 +23,7 @@ use Rattle.machine.proofs.RunLaws.{Taken}
 use Rattle.tables.specs.Layout as Layout
 use Rattle.tables.specs.Represents.{Represents, headerOf}
 use Rattle.rows.specs.Layout.{rel, fel}
-use Rattle.rows.specs.Cells.{read}
 use Rattle.rows.specs.Lists.{first}
-use Rattle.rows.specs.Holds.{transactionAt}
 use Rattle.terms.specs.Nested.{Nested}
 use Rattle.state.specs.declared.scalars.Scalars.{Scalars}
 use Rattle.state.specs.Sane.{Sane}
@@ -38,6 +36,7 @@ use Rattle.state.proofs.Measured.{Took}
 use Rattle.state.proofs.Sanity.{takenOf, Sure, taken-took, sane-taken, sure-turn}
 use Rattle.state.proofs.Numbered.{numbered-taken}
 use Rattle.state.proofs.Written.{atBlock, inOrder}
+use Rattle.moves.proofs.MotionLaws.{next-read, number-read}
 use Rattle.clock.specs.Taking.{take, takeReady, counted, nextEvents, moveClock, firstTime, ticksTo}
 use Rattle.clock.specs.Sample.{sampleServers, sampleQueues}
 use Rattle.clock.proofs.Sampled.{servers-sampled, queues-sampled}
@@ -74,7 +73,7 @@ writes-like before trace x x′ tally tally′ s s′ used waits records written
 
 -- ---- The taking
 
-module _ (w tally : List ℕ) (x : Scalars) (servers queues : ℕ) (size : length tally ≡ 960) (few : servers ≤ 64) (short : queues ≤ 32) where
+module _ (w tally : List ℕ) (x : Scalars) (servers queues : ℕ) (size : length tally ≡ 1024) (few : servers ≤ 64) (short : queues ≤ 32) where
   sampled-waits : (ticks : ℕ) → SameWaits tally (sampleQueues queues (sampleServers servers tally ticks) ticks)
   sampled-waits ticks i low high =
       let v = servers-sampled tally ticks size servers few in
@@ -89,7 +88,7 @@ module _ (w tally : List ℕ) (x : Scalars) (servers queues : ℕ) (size : lengt
       go true false = λ i low high. refl
       go false b = λ i low high. refl
 
-take-waits : (w tally : List ℕ) (x : Scalars) (servers queues : ℕ) → length tally ≡ 960 → servers ≤ 64 → queues ≤ 32 → SameWaits tally (take w tally x servers queues .tally)
+take-waits : (w tally : List ℕ) (x : Scalars) (servers queues : ℕ) → length tally ≡ 1024 → servers ≤ 64 → queues ≤ 32 → SameWaits tally (take w tally x servers queues .tally)
 unfolding take takeReady rowsOf
 take-waits w tally x servers queues size few short = go (ltb (x .moving) 1024) (ltb (first w rel) 1024)
   where
@@ -117,13 +116,13 @@ module _ {m : BlockModel} {tape : List (List ℕ)} {tapeBytes tables lists befor
 
   module _ (t : Transaction) (moving : s .moving ≡ some t) (stands : Stands tapeBytes r (some t) s) where
     abbrev after : Rows
-    after = execute tables values tapeBytes w tally x (8 * (t .next - 1))
+    after = execute tables values (m .facilities) tapeBytes w tally x (8 * (t .next - 1))
 
     abbrev b : Block
     b = blockAt m (t .next)
 
     abbrev left : Bare
-    left = bareAnswer (question m b s) m b t s
+    left = bareAnswer (question m b t s) m b t s
 
     done : Done tapeBytes after left
     done = execute-done proper rep nested s sane r t stands moving b refl
@@ -144,25 +143,17 @@ module _ {m : BlockModel} {tape : List (List ℕ)} {tapeBytes tables lists befor
     noted-runs : Runs tapeBytes before (withNote after trace (t .number) (t .next)) (Machine.execute (some t) m s)
     unfolding withNote traced Machine.execute rowsOf noteRecord
     noted-runs =
-        subst (λ (y : State). Runs tapeBytes before (withNote after trace (t .number) (t .next)) y) (noted-answer (question m b s) m b t s)
+        subst (λ (y : State). Runs tapeBytes before (withNote after trace (t .number) (t .next)) y) (noted-answer (question m b t s) m b t s)
         (record { stands = note .stands; writes = note .writes })
-
-    number-read : read w 0 (x .moving) ≡ t .number
-    unfolding transactionAt
-    number-read = ap (λ (u : Transaction). u .number) (stands .listing .mover .1)
-
-    next-read : read w 6 (x .moving) ≡ t .next
-    unfolding transactionAt
-    next-read = ap (λ (u : Transaction). u .next) (stands .listing .mover .1)
 
     below : t .next - 1 < 256
     below = omega (arith, subst (Maybe (Placed m)) moving (sane .placed .moving) .0 .1, proper .blocks .1)
 
-    acting : Runs tapeBytes before (actMoving tables values tapeBytes w tally trace x) (Machine.execute (some t) m s)
+    acting : Runs tapeBytes before (actMoving tables values (m .facilities) tapeBytes w tally trace x) (Machine.execute (some t) m s)
     unfolding actMoving act
-    acting = rw (lt-ltb (x .moving) 1024 (stands .listing .mover .0 .row), number-read, next-read, lt-ltb (t .next - 1) 256 below) noted-runs
+    acting = rw (lt-ltb (x .moving) 1024 (stands .listing .mover .0 .row), number-read w x t s (stands .listing), next-read w x t s (stands .listing), lt-ltb (t .next - 1) 256 below) noted-runs
 
-  nobody : s .moving ≡ none → Stands tapeBytes r none s → Runs tapeBytes before (actMoving tables values tapeBytes w tally trace x) s
+  nobody : s .moving ≡ none → Stands tapeBytes r none s → Runs tapeBytes before (actMoving tables values (m .facilities) tapeBytes w tally trace x) s
   unfolding actMoving
   nobody e stands =
       rw (le-ltb (x .moving) 1024 (omega (arith, stands .listing .mover))) idle
@@ -175,7 +166,7 @@ module _ {m : BlockModel} {tape : List (List ℕ)} {tapeBytes tables lists befor
             writes = record { bytes = writes .bytes; written = writes .written; used = writes .used; waits = writes .waits };
           }
 
-  pub act-runs : (o : Option Transaction) → s .moving ≡ o → Stands tapeBytes r o s → Runs tapeBytes before (actMoving tables values tapeBytes w tally trace x) (Machine.execute o m s)
+  pub act-runs : (o : Option Transaction) → s .moving ≡ o → Stands tapeBytes r o s → Runs tapeBytes before (actMoving tables values (m .facilities) tapeBytes w tally trace x) (Machine.execute o m s)
   act-runs none e stands = unfold Machine.execute in nobody e stands
   act-runs (some t) e stands = acting t e stands
 
@@ -208,7 +199,7 @@ module _ {m : BlockModel} {tape : List (List ℕ)} {tapeBytes tables lists befor
 
   -- after the block and its note
   abbrev acted : Traced
-  acted = actMoving tables (length (m .values)) tapeBytes (r₁ .work) (r₁ .tally) (a .trace) (r₁ .scalars)
+  acted = actMoving tables (length (m .values)) (m .facilities) tapeBytes (r₁ .work) (r₁ .tally) (a .trace) (r₁ .scalars)
 
   abbrev z : State
   z = Machine.execute (y .moving) m y

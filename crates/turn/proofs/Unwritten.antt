@@ -1,6 +1,6 @@
 -- A block's effect apart from its record leaves the records, the clock and the entries as they are.
 use Prim.Native.Nat.{ℕ, zero, suc}
-use mathlib.Core.Path.{_≡_, refl, _∙_}
+use mathlib.Core.Path.{_≡_, refl}
 use mathlib.Core.Option.{none}
 use Rattle.machine.specs.Transaction.{Transaction}
 use Rattle.machine.specs.Block.{Block, BlockModel}
@@ -8,7 +8,6 @@ use Rattle.machine.specs.State.{State}
 use Rattle.machine.specs.Setters.{setMoving}
 use Rattle.machine.specs.Execute.{question}
 use Rattle.machine.proofs.Proper.{ProperBlock}
-use Rattle.machine.proofs.Cases.{question-hand}
 use Rattle.state.specs.Bare.{bareAnswer}
 use Rattle.state.proofs.BlockGains.{bare-gains}
 
@@ -18,12 +17,12 @@ pub record Unwritten (s x : State) : Type 0 where
   pub clock : x .view .clock ≡ s .view .clock
   pub entries : x .view .entries ≡ s .view .entries
 
-pub unwritten : (m : BlockModel) (b : Block) (t : Transaction) (s : State) → ProperBlock m b → Unwritten s (bareAnswer (question m b s) m b t s .state)
-unwritten m b t s proper = go (question m b s) refl
+pub unwritten : (m : BlockModel) (b : Block) (t : Transaction) (s : State) → ProperBlock m b → Unwritten s (bareAnswer (question m b t s) m b t s .state)
+unwritten m b t s proper = go (question m b t s) refl
   where
-    go : (n : ℕ) → question m b s ≡ n → Unwritten s (bareAnswer n m b t s .state)
+    go : (n : ℕ) → question m b t s ≡ n → Unwritten s (bareAnswer n m b t s .state)
     go zero e =
         unfold bareAnswer in
-        let g = bare-gains m b t (setMoving none s) proper (question-hand m b none s ∙ e) .gains in
+        let g = bare-gains m b t (setMoving none s) (s .moving) proper e .gains in
         record { records = g .records; written = g .written; clock = g .clock; entries = g .entries }
     go (suc n) e = unfold bareAnswer in record { records = refl; written = refl; clock = refl; entries = refl }

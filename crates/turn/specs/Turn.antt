@@ -27,10 +27,10 @@ unfoldable pub withNote : Rows → List ℕ → (number block : ℕ) → Traced
 withNote r trace number block =
     let n : Noted = noteRecord (r .tally) trace (r .scalars) number block in traced (rowsOf (n .scalars) (r .work) (n .tally)) (n .trace)
 
-module _ (tables : List ℕ) (values : ℕ) (tape w tally trace : List ℕ) (x : Scalars) where
+module _ (tables : List ℕ) (values facilities : ℕ) (tape w tally trace : List ℕ) (x : Scalars) where
   unfoldable pub act : (number block : ℕ) → Traced
   act number block =
-      cond (ltb (block - 1) maxBlocks) (withNote (execute tables values tape w tally x (Layout.blockWidth * (block - 1))) trace number block)
+      cond (ltb (block - 1) maxBlocks) (withNote (execute tables values facilities tape w tally x (Layout.blockWidth * (block - 1))) trace number block)
       (traced (rowsOf x w tally) trace)
 
   unfoldable pub actMoving : Traced
@@ -43,10 +43,10 @@ withScheme tables blocks values a =
     traced (rowsOf (a .rows .scalars) (wsScheme tables blocks values (a .rows .tally) (a .rows .scalars) (a .rows .work)) (a .rows .tally)) (a .trace)
 
 -- the block of whoever moves, and the WS scheme
-unfoldable pub afterTaking : (tables : List ℕ) (blocks values : ℕ) (tape trace : List ℕ) → Rows → Traced
-afterTaking tables blocks values tape trace r =
-    withScheme tables blocks values (actMoving tables values tape (r .work) (r .tally) trace (r .scalars))
+unfoldable pub afterTaking : (tables : List ℕ) (blocks values facilities : ℕ) (tape trace : List ℕ) → Rows → Traced
+afterTaking tables blocks values facilities tape trace r =
+    withScheme tables blocks values (actMoving tables values facilities tape (r .work) (r .tally) trace (r .scalars))
 
 unfoldable pub turn : Model → (tables tape w tally trace : List ℕ) → Scalars → Traced
 turn model tables tape w tally trace x =
-    afterTaking tables (model .blocks) (model .values) tape trace (take w tally x (model .facilities + model .storages) (model .queues))
+    afterTaking tables (model .blocks) (model .values) (model .facilities) tape trace (take w tally x (model .facilities + model .storages) (model .queues))

@@ -23,6 +23,7 @@ ghost use Rattle.turn.specs.Turn.{traced, act, actMoving, turn};
 fn act(
     tables: &[u32],
     values: usize,
+    facilities: usize,
     tape: &[u8],
     work: &mut [u32],
     tally: &mut [u64],
@@ -31,16 +32,17 @@ fn act(
     number: u32,
     block: u32,
 ) -> Scalars
+    requires { ⌜ facilities ≤ maxFacilities ⌝ }
     requires { ⌜ Tables (now tables) ⌝ }
     requires { ⌜ Room (now work) ⌝ }
     requires { ⌜ x .moving < rowCount ⌝ }
-    ensures { λ r. ⌜ traced (rowsOf r (now (work .exit)) (now (tally .exit))) (now (trace .exit)) ≡ act (now (tables .entry)) values (now (tape .entry)) (now (work .entry)) (now (tally .entry)) (now (trace .entry)) x number block ⌝ }
+    ensures { λ r. ⌜ traced (rowsOf r (now (work .exit)) (now (tally .exit))) (now (trace .exit)) ≡ act (now (tables .entry)) values facilities (now (tape .entry)) (now (work .entry)) (now (tally .entry)) (now (trace .entry)) x number block ⌝ }
 {
     let b = less32(block, 1) as usize;
     if b >= Model::MAX_BLOCKS {
         return x;
     }
-    let y = execute(tables, values, tape, work, tally, x, BLOCK_WIDTH * b);
+    let y = execute(tables, values, facilities, tape, work, tally, x, BLOCK_WIDTH * b);
     note_record(tally, trace, y, number, block)
 }
 
@@ -48,15 +50,17 @@ fn act(
 fn act_moving(
     tables: &[u32],
     values: usize,
+    facilities: usize,
     tape: &[u8],
     work: &mut [u32],
     tally: &mut [u64],
     trace: &mut [u8],
     x: Scalars,
 ) -> Scalars
+    requires { ⌜ facilities ≤ maxFacilities ⌝ }
     requires { ⌜ Tables (now tables) ⌝ }
     requires { ⌜ Room (now work) ⌝ }
-    ensures { λ r. ⌜ traced (rowsOf r (now (work .exit)) (now (tally .exit))) (now (trace .exit)) ≡ actMoving (now (tables .entry)) values (now (tape .entry)) (now (work .entry)) (now (tally .entry)) (now (trace .entry)) x ⌝ }
+    ensures { λ r. ⌜ traced (rowsOf r (now (work .exit)) (now (tally .exit))) (now (trace .exit)) ≡ actMoving (now (tables .entry)) values facilities (now (tape .entry)) (now (work .entry)) (now (tally .entry)) (now (trace .entry)) x ⌝ }
 {
     let k = x.moving;
     if k >= ROWS {
@@ -64,7 +68,7 @@ fn act_moving(
     }
     let number = read(work, NUMBER, k);
     let block = read(work, NEXT, k);
-    act(tables, values, tape, work, tally, trace, x, number, block)
+    act(tables, values, facilities, tape, work, tally, trace, x, number, block)
 }
 
 pub fn turn(
@@ -86,7 +90,7 @@ pub fn turn(
 {
     let servers = model.facilities + model.storages;
     let y = take(work, tally, x, servers, model.queues);
-    let z = act_moving(tables, model.values, tape, work, tally, trace, y);
+    let z = act_moving(tables, model.values, model.facilities, tape, work, tally, trace, y);
     ws(tables, model.blocks, model.values, work, tally, z);
     z
 }

@@ -8,8 +8,8 @@ use Rattle.servers.proofs.freeing.free_some.Tie as tie
 capacity-requires : tie.Need-capacity-requires
 capacity-requires c κs = search needs
 
-set-in-use-requires : tie.Need-set-in-use-requires
-set-in-use-requires c κs = search needs
+set-use-requires : tie.Need-set-use-requires
+set-use-requires c κs = search needs
 
 less64-requires : tie.Need-less64-requires
 less64-requires c κs = search needs
@@ -34,14 +34,14 @@ same-length-2 c = search needs
 
 returns : tie.Need-returns
 unfolding freeSome
-returns c = rw (← c .before .before .before .before .before .before .before .before .before .before .before .before .before .before .before .before .before .capacity .ensures .0, ← c .before .before .before .before .before .before .before .before .before .before .before .less64 .ensures, ← c .before .before .before .before .before .before .before .before .before .before .wake-ql .ensures .0, ← c .before .before .before .before .before .before .before .before .before .before .wake-ql .ensures .1, ← c .before .before .before .before .before .before .before .before .before .before .before .before .before .before .before .set-in-use .ensures, ← c .before .before .before .before .before .before .set-count .ensures) (tallied _ _ _ _ (c .before .before .enter-freed .ensures))
+returns c = rw (← c .before .before .before .before .before .before .before .before .before .before .before .before .before .before .before .before .before .capacity .ensures .0, ← c .before .before .before .before .before .before .before .before .before .before .before .less64 .ensures, ← c .before .before .before .before .before .before .before .before .before .before .wake-ql .ensures .0, ← c .before .before .before .before .before .before .before .before .before .before .wake-ql .ensures .1, ← c .before .before .before .before .before .before .before .before .before .before .before .before .before .before .before .set-use .ensures, ← c .before .before .before .before .before .before .set-count .ensures) (tallied _ _ _ _ (c .before .before .enter-freed .ensures))
 
 pub free-some-spec : {M : Type 1} → statement M
 free-some-spec =
     tie.close
     (tie.spec
     capacity-requires
-    set-in-use-requires
+    set-use-requires
     less64-requires
     wake-ql-requires
     add-set-count

@@ -5,8 +5,8 @@ use borrow.Author.Needs.{needs}
 use Rattle.servers.proofs.taking.hold_units.Statement.{statement}
 use Rattle.servers.proofs.taking.hold_units.Tie as tie
 
-set-in-use-requires : tie.Need-set-in-use-requires
-set-in-use-requires c κs = search needs
+set-use-requires : tie.Need-set-use-requires
+set-use-requires c κs = search needs
 
 check-wels-requires : tie.Need-check-wels-requires
 check-wels-requires c κs = search needs
@@ -22,13 +22,13 @@ same-length-2 c = search needs
 
 returns : tie.Need-returns
 unfolding holdUnits
-returns c = rw (c .before .before .before .before .before .before .before .before .before .before .set-in-use .ensures, ← c .before .before .before .before .before .before .check-wels .ensures) (tallied _ _ _ _ (c .before .before .go-on .ensures))
+returns c = rw (c .before .before .before .before .before .before .before .before .before .before .set-use .ensures, ← c .before .before .before .before .before .before .check-wels .ensures) (tallied _ _ _ _ (c .before .before .go-on .ensures))
 
 pub hold-units-spec : {M : Type 1} → statement M
 hold-units-spec =
     tie.close
     (tie.spec
-    set-in-use-requires
+    set-use-requires
     check-wels-requires
     go-on-requires
     same-length

@@ -1,4 +1,4 @@
--- `seize` meets its contract: one unit of the server that the block names.
+-- `seize` meets its contract: one unit of the server that the block names, held by the moving one.
 use Rattle.servers.specs.Taking.{seize}
 use borrow.Author.Needs.{needs}
 use Rattle.servers.proofs.taking.seize.Statement.{statement}
@@ -9,6 +9,12 @@ add-server-at c = search needs
 
 server-at-requires : tie.Need-server-at-requires
 server-at-requires c κs = search needs
+
+read-requires : tie.Need-read-requires
+read-requires c κs = search needs
+
+cast-number : tie.Need-cast-number
+cast-number c = search needs
 
 take-units-requires : tie.Need-take-units-requires
 take-units-requires c κs = search needs
@@ -21,7 +27,7 @@ same-length-2 c = search needs
 
 returns : tie.Need-returns
 unfolding seize
-returns c = rw (← c .before .before .before .before .before .before .before .server-at .ensures .0) (c .before .before .before .before .take-units .ensures)
+returns c = rw (← c .before .before .before .before .before .before .before .before .before .server-at .ensures .0, ← c .before .before .before .before .before .before .before .read .ensures) (c .before .before .before .before .take-units .ensures)
 
 pub seize-spec : {M : Type 1} → statement M
 seize-spec =
@@ -29,6 +35,8 @@ seize-spec =
     (tie.spec
     add-server-at
     server-at-requires
+    read-requires
+    cast-number
     take-units-requires
     same-length
     same-length-2

@@ -1,0 +1,74 @@
+-- `held` meets its contract. The invariant: the first f are counted. The measure: those left.
+use Prim.Native.Nat.{ℕ, suc, _+_, _-_, _≤_}
+use mathlib.Core.Path.{_≡_, refl, ap, _∙_}
+use mathlib.Core.List.{List}
+use native.Mathlib.Omega.{arith}
+use lib.Dec.{eqb}
+use lib.ListN.{getD}
+use Rattle.machine.specs.Lists.{bit}
+use Rattle.flow.specs.Questions.{heldBy}
+use Rattle.flow.proofs.questions.held.Statement.{statement}
+use Rattle.flow.proofs.questions.held.Tie as tie
+
+held-next : (tally : List ℕ) (f number n r : ℕ) → n ≡ heldBy tally f number → r ≡ bit (eqb (getD tally (960 + f) 0) number) → n + r ≡ heldBy tally (f + 1) number
+unfolding heldBy
+held-next tally f number n r counted one =
+    let e : suc f ≡ f + 1 = omega arith in
+    rw (counted, one) (ap (λ (k : ℕ). heldBy tally k number) e)
+
+held-end : (tally : List ℕ) (f facilities number n : ℕ) → n ≡ heldBy tally f number → f ≡ facilities → n ≡ heldBy tally facilities number
+held-end tally f facilities number n counted e = counted ∙ ap (λ (k : ℕ). heldBy tally k number) e
+
+abbrev Inv-loop : tie.InvT-loop
+Inv-loop tally facilities number n₀ f₀ n f = (n ≡ heldBy tally f number) × ((f ≤ facilities) × (n ≤ f))
+
+abbrev μ-loop : tie.MeasureT-loop
+μ-loop tally facilities number n₀ f₀ n f = facilities - f
+
+loop-holds : tie.Need-loop-holds Inv-loop μ-loop
+unfolding heldBy
+loop-holds c = (refl, (omega arith, omega arith))
+
+add-one-if : tie.Need-add-one-if Inv-loop μ-loop
+add-one-if c = omega arith
+
+mul-one-if : tie.Need-mul-one-if Inv-loop μ-loop
+mul-one-if c = omega arith
+
+shared-slice-read-one-if : tie.Need-shared-slice-read-one-if Inv-loop μ-loop
+shared-slice-read-one-if c = omega arith
+
+one-if-requires : tie.Need-one-if-requires Inv-loop μ-loop
+one-if-requires c κs = omega arith
+
+add-n : tie.Need-add-n Inv-loop μ-loop
+add-n c = omega arith
+
+add-f : tie.Need-add-f Inv-loop μ-loop
+add-f c = omega arith
+
+loop-less : tie.Need-loop-less Inv-loop μ-loop
+loop-less c = omega arith
+
+loop-again : tie.Need-loop-again Inv-loop μ-loop
+loop-again c = (held-next _ _ _ _ _ (c .before .before .before .loop .inv .0) (c .one-if .ensures .0), (omega arith, omega (arith, c .one-if .ensures .1)))
+
+returns : tie.Need-returns Inv-loop μ-loop
+returns c = held-end _ _ _ _ _ (c .before .loop .inv .0) (omega arith)
+
+pub held-spec : {M : Type 1} → statement M
+held-spec =
+    tie.close
+    (tie.spec
+    Inv-loop
+    μ-loop
+    loop-holds
+    add-one-if
+    mul-one-if
+    shared-slice-read-one-if
+    one-if-requires
+    add-n
+    add-f
+    loop-less
+    loop-again
+    returns)

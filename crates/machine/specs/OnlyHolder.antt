@@ -1,0 +1,49 @@
+-- Document 02, item 6: "A model whose transactions release only their own facilities, and hold none when ending, gives the trace it
+-- gave." Proved in ../proofs/OnlyHolder.antt, for any setting of the other rules.
+use Prim.Native.Nat.{ℕ}
+use mathlib.Core.Path.{_≡_}
+use mathlib.Core.Bool.{Bool, true, false, not, _&&_, _||_}
+use mathlib.Core.List.{List, [], _∷_}
+use lib.Dec.{eqb, T}
+use Rattle.machine.specs.Rules.{Rules}
+use Rattle.machine.specs.Lists.{bit, upTo}
+use Rattle.machine.specs.Block.{BlockModel}
+use Rattle.machine.specs.State.{Logged}
+use Rattle.machine.specs.Run.{run}
+use Rattle.machine.specs.Validate.{Validation, accept, reject, validate}
+use Rattle.machine.specs.Outcome.{outcome}
+use Rattle.machine.specs.Claims.{factsAt, terminates, holderBy}
+
+-- the rules with the questions 27 and 28, or without them
+abbrev pub asking : Bool → Rules → Rules
+asking asked r = record { maxClock = r .maxClock; maxTime = r .maxTime; maxNumber = r .maxNumber; holders = asked }
+
+-- ---- Told from the records alone, newest first
+
+module _ (m : BlockModel) (tape : List (List ℕ)) where
+  -- how many facilities a transaction holds by them
+  unfoldable pub heldBy : List Logged → (number : ℕ) → ℕ
+  heldBy records n = upTo (m .facilities) (λ f. bit (eqb (holderBy m tape records f) n))
+
+  -- a record behind others: if it is a RELEASE, it is the holder's
+  unfoldable pub byHolder : (before : List Logged) → Logged → Bool
+  byHolder before r = eqb (factsAt m tape r .releases) 0 || eqb (holderBy m tape before (factsAt m tape r .releases)) (r .entry .transaction)
+
+  -- if it is a TERMINATE, whoever ends holds nothing
+  unfoldable pub freeHanded : (before : List Logged) → Logged → Bool
+  freeHanded before r = not (terminates m tape r) || eqb (heldBy before (r .entry .transaction)) 0
+
+  unfoldable pub ownOnly : List Logged → Bool
+  ownOnly [] = true
+  ownOnly (r ∷ l) = byHolder l r && freeHanded l r && ownOnly l
+
+-- the run of what is accepted has only such records
+abbrev pub OwnOnly : (budget room : ℕ) → Validation → Type 0
+OwnOnly budget room (accept m t) = T (ownOnly m t (run m t budget room .records))
+OwnOnly budget room (reject n) = Unit {0}
+
+-- the same eight results, trace and report
+abbrev pub KeepsOwnRuns : Rules → Type 0
+KeepsOwnRuns rules =
+    (model tape : List ℕ) (budget work room report : ℕ) → OwnOnly budget room (validate (asking false rules) model tape work report)
+    → outcome (asking true rules) model tape budget work room report ≡ outcome (asking false rules) model tape budget work room report
