@@ -42,7 +42,16 @@ fn act(
     if b >= Model::MAX_BLOCKS {
         return x;
     }
-    let y = execute(tables, values, facilities, tape, work, tally, x, BLOCK_WIDTH * b);
+    let y = execute(
+        tables,
+        values,
+        facilities,
+        tape,
+        work,
+        tally,
+        x,
+        BLOCK_WIDTH * b,
+    );
     note_record(tally, trace, y, number, block)
 }
 
@@ -68,7 +77,18 @@ fn act_moving(
     }
     let number = read(work, NUMBER, k);
     let block = read(work, NEXT, k);
-    act(tables, values, facilities, tape, work, tally, trace, x, number, block)
+    act(
+        tables,
+        values,
+        facilities,
+        tape,
+        work,
+        tally,
+        trace,
+        x,
+        number,
+        block,
+    )
 }
 
 pub fn turn(
@@ -90,7 +110,16 @@ pub fn turn(
 {
     let servers = model.facilities + model.storages;
     let y = take(work, tally, x, servers, model.queues);
-    let z = act_moving(tables, model.values, model.facilities, tape, work, tally, trace, y);
+    let z = act_moving(
+        tables,
+        model.values,
+        model.facilities,
+        tape,
+        work,
+        tally,
+        trace,
+        y,
+    );
     ws(tables, model.blocks, model.values, work, tally, z);
     z
 }
