@@ -113,7 +113,7 @@ fn stopped(study: &Study, run: &Run, walk: &Walk, stop: &words::Stop) -> String 
 
 /// Who holds what the blocks name, or what the transaction holds, where that is the reason.
 fn holding(study: &Study, walk: &Walk, number: u64, blocks: &[u64], stop: &words::Stop) -> String {
-    let names: Vec<String> = match stop.end {
+    let mut names: Vec<String> = match stop.end {
         27 => {
             let named = blocks.iter().filter_map(|b| facility(study.block(*b)?));
             let holders = named.filter_map(|f| walk.holders.get(&f));
@@ -126,6 +126,7 @@ fn holding(study: &Study, walk: &Walk, number: u64, blocks: &[u64], stop: &words
         }
         _ => Vec::new(),
     };
+    names.dedup();
     match names.is_empty() {
         true => String::new(),
         false => format!(" ({})", names.join(", ")),
