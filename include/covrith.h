@@ -27,7 +27,7 @@ extern "C" {
 /* Places in `outcome`. */
 enum {
     COVRITH_REFUSAL,      /* 0 for none, else 1..10; then all others are 0 */
-    COVRITH_END,          /* 1 dry, 2 counter, 3 budget, 4 trace full, 21..26 */
+    COVRITH_END,          /* 1 dry, 2 counter, 3 budget, 4 trace full, 21..28 */
     COVRITH_CLOCK,
     COVRITH_TURNS,
     COVRITH_MADE,

@@ -66,6 +66,8 @@ static inline const char *covrith_end_words(uint64_t end) {
     case 24: return "a RELEASE found its facility idle, or a LEAVE found fewer units in use than it frees";
     case 25: return "a DEPART found its queue without content";
     case 26: return "the last serial given is above 99,997,952, or 100,000,000 turns are done";
+    case 27: return "a RELEASE by another than the holder of its facility";
+    case 28: return "a TERMINATE of one that still holds a facility";
     default: return NULL;
     }
 }

@@ -1,4 +1,4 @@
-"""The numbers of document 01 that stand for something, each with its name and its words. A new number is a new line."""
+"""The numbers of documents 01 and 02 that stand for something, each with its name and its words. A new number is a new line."""
 
 from __future__ import annotations
 
@@ -19,7 +19,7 @@ class _Named(enum.Enum):
 
     @property
     def number(self) -> int:
-        """Its number in document 01."""
+        """Its number in the documents."""
         return self.value
 
     def __str__(self) -> str:
@@ -39,6 +39,8 @@ class End(_Named):
     NOT_IN_USE = 24, "a RELEASE found its facility idle, or a LEAVE found fewer units in use than it frees"
     NO_CONTENT = 25, "a DEPART found its queue without content"
     RUN_LIMIT = 26, "the last serial given is above 99,997,952, or 100,000,000 turns are done"
+    NOT_HOLDER = 27, "a RELEASE by another than the holder of its facility"
+    STILL_HOLDS = 28, "a TERMINATE of one that still holds a facility"
 
 
 class Refusal(_Named):

@@ -91,6 +91,9 @@ class Runs(unittest.TestCase):
         self.assertIs(end([("ADVANCE", 1)]), End.NO_TIME)
         self.assertIs(end([("RELEASE", 1)]), End.NOT_IN_USE)
         self.assertIs(end([("DEPART", 1)]), End.NO_CONTENT)
+        self.assertIs(end([("SEIZE", 1), ("SPLIT", 1, 5), ("ADVANCE", 2), ("RELEASE", 1)], [(1,), (5,)]), End.NOT_HOLDER)
+        self.assertIs(end([("SEIZE", 1), ("TERMINATE", 1)]), End.STILL_HOLDS)
+        self.assertIs(end([("SEIZE", 1), ("RELEASE", 1), ("TERMINATE", 1)]), End.COUNTER)
 
     def test_late_clocks(self):
         walker = Model([("GENERATE", 1, 0), ("TERMINATE", 1)], lists=1, counter=9)

@@ -3,9 +3,10 @@
 use crate::execute::Lent;
 use crate::limits::TURNS;
 use crate::study::Study;
-use crate::walk::{Life, Walk};
+use crate::walk::{facility, Walk};
 use crate::words;
 use engine::{Place, Run};
+use modeltext::words::RELEASE;
 
 /// The end in a line, and a remedy in another where one is needed.
 pub fn told(study: &Study, run: &Run, walk: &Walk, lent: Lent) -> Vec<String> {
@@ -93,8 +94,7 @@ fn stopped(study: &Study, run: &Run, walk: &Walk, stop: &words::Stop) -> String 
     let mut living = run.report.living.iter();
     let moving = living.find(|one| one.place == Place::Moving);
     let number = moving.map_or(0, |one| one.transaction);
-    let life = walk.living.get(&number).copied().unwrap_or_default();
-    let blocks = candidates(study, &life, stop);
+    let blocks = candidates(study, walk, number, stop);
     let kind = |block: &u64| study.block(*block).map_or(0, |block| block.kind);
     let mut why: Vec<&str> = Vec::new();
     for words in blocks.iter().filter_map(|block| stop.why(kind(block))) {
@@ -103,19 +103,51 @@ fn stopped(study: &Study, run: &Run, walk: &Walk, stop: &words::Stop) -> String 
         }
     }
     format!(
-        "{}: {}: {}",
+        "{}: {}: {}{}",
         stop.end,
         at(study, number, &blocks, run.outcome.clock),
-        why.join(", or ")
+        why.join(", or "),
+        holding(study, walk, number, &blocks, stop)
     )
 }
 
-/// The blocks that it may have been about to enter and whose kind can end so.
-pub fn candidates(study: &Study, life: &Life, stop: &words::Stop) -> Vec<u64> {
+/// Who holds what the blocks name, or what the transaction holds, where that is the reason.
+fn holding(study: &Study, walk: &Walk, number: u64, blocks: &[u64], stop: &words::Stop) -> String {
+    let mut names: Vec<String> = match stop.end {
+        27 => {
+            let named = blocks.iter().filter_map(|b| facility(study.block(*b)?));
+            let holders = named.filter_map(|f| walk.holders.get(&f));
+            holders.map(|n| format!("transaction {n}")).collect()
+        }
+        28 => {
+            let own = walk.holders.iter().filter(|(_, n)| **n == number);
+            let names = own.map(|(f, _)| study.names.facilities.get(*f as usize - 1));
+            names.flatten().cloned().collect()
+        }
+        _ => Vec::new(),
+    };
+    names.dedup();
+    match names.is_empty() {
+        true => String::new(),
+        false => format!(" ({})", names.join(", ")),
+    }
+}
+
+/// The blocks that it may have been about to enter and that can end so: by their kind, and a RELEASE by the holder of its facility.
+pub fn candidates(study: &Study, walk: &Walk, number: u64, stop: &words::Stop) -> Vec<u64> {
+    let life = walk.living.get(&number).copied().unwrap_or_default();
     let mut blocks = life.next(study);
     blocks.retain(|block| {
-        let kind = study.block(*block).map_or(0, |block| block.kind);
-        stop.why(kind).is_some()
+        let Some(block) = study.block(*block) else {
+            return false;
+        };
+        let holder = facility(block).and_then(|f| walk.holders.get(&f));
+        let held = match (block.kind, stop.end) {
+            (RELEASE, 24) => holder.is_none(),
+            (RELEASE, 27) => holder.is_some_and(|n| *n != number),
+            _ => true,
+        };
+        held && stop.why(block.kind).is_some()
     });
     blocks.sort_unstable();
     blocks

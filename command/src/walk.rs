@@ -3,7 +3,7 @@
 use crate::study::Study;
 use engine::{Record, Run};
 use modeltext::model::{Block, Operand};
-use modeltext::words::{ADVANCE, GENERATE, GOTO, IF, SPLIT};
+use modeltext::words::{ADVANCE, GENERATE, GOTO, IF, RELEASE, SEIZE, SPLIT};
 use std::collections::BTreeMap;
 use std::ops::Range;
 
@@ -142,6 +142,13 @@ pub struct Walk {
     pub last: Option<Record>,
     /// The living, by number.
     pub living: BTreeMap<u64, Life>,
+    /// The holder of each facility that is in use.
+    pub holders: BTreeMap<u32, u64>,
+}
+
+/// The facility that a block names.
+pub fn facility(block: &Block) -> Option<u32> {
+    number(block, 'f')
 }
 
 pub fn walk(study: &Study, run: &Run) -> Walk {
@@ -154,6 +161,7 @@ pub fn walk(study: &Study, run: &Run) -> Walk {
         made: 0,
         last: None,
         living: living.map(|l| (l.transaction, Life::default())).collect(),
+        holders: BTreeMap::new(),
     };
     let mut births = Births::start(study, |number, birth| {
         if let Some(life) = walk.living.get_mut(&number) {
@@ -177,9 +185,25 @@ pub fn walk(study: &Study, run: &Run) -> Walk {
         if let Some(life) = walk.living.get_mut(&record.transaction) {
             life.last = Some(record);
         }
+        walk.hold(study, &record);
         walk.records += 1;
         walk.last = Some(record);
     }
     walk.made = births.made;
     walk
+}
+
+impl Walk {
+    /// A SEIZE that is entered writes the holder, a RELEASE clears it.
+    fn hold(&mut self, study: &Study, record: &Record) {
+        let block = study.block(record.block).filter(|_| record.entered());
+        let Some((block, f)) = block.and_then(|b| Some((b, facility(b)?))) else {
+            return;
+        };
+        match block.kind {
+            SEIZE => self.holders.insert(f, record.transaction),
+            RELEASE => self.holders.remove(&f),
+            _ => None,
+        };
+    }
 }

@@ -1,6 +1,6 @@
 //! What the engine's numbers mean to a person. A new end or place is a line here (kinds and status codes: `modeltext::words`).
 
-use modeltext::words::{ADVANCE, GENERATE, SPLIT};
+use modeltext::words::{ADVANCE, GENERATE, RELEASE, SPLIT, TERMINATE};
 
 /// An end that a question inside a turn gives: the kinds of block that it comes from, each with the reason in words.
 pub struct Stop {
@@ -13,7 +13,6 @@ const fn stop(end: u64, from: &'static [(u32, &'static str)], remedy: &'static s
     Stop { end, from, remedy }
 }
 
-const RELEASE: u32 = 5;
 const LEAVE: u32 = 7;
 const DEPART: u32 = 16;
 
@@ -48,6 +47,16 @@ pub const STOPS: &[Stop] = &[
         25,
         &[(DEPART, "the queue has no content")],
         "let every way to this block pass an ARRIVE of the same queue",
+    ),
+    stop(
+        27,
+        &[(RELEASE, "another holds it")],
+        "only the one that seized it releases it; a copy holds nothing of its original",
+    ),
+    stop(
+        28,
+        &[(TERMINATE, "it still holds a facility")],
+        "let every way to this block release what was seized",
     ),
 ];
 

@@ -1,5 +1,5 @@
 //! What the program counts from records, against the second implementation: entries of each block, those made, where the living
-//! are, the block that a question stopped at, and the averages of the report.
+//! are, who holds a facility, the block that a question stopped at, and the averages of the report.
 
 use command::execute::{execute, Lent};
 use command::study::Study;
@@ -79,6 +79,9 @@ fn counts_of_random_runs() {
         assert_eq!(walk.entries, machine.entries, "entries of blocks");
         assert_eq!(walk.made, machine.made, "made");
         assert_eq!(walk.made, run.outcome.made, "made");
+        let servers = machine.facilities.iter().zip(1..);
+        let holders = servers.filter_map(|(server, f)| Some((f, server.holder?)));
+        assert_eq!(walk.holders, holders.collect(), "holders");
         let next = next_blocks(&machine);
         assert_eq!(walk.living.len(), next.len());
         for (number, life) in &walk.living {
@@ -92,7 +95,7 @@ fn counts_of_random_runs() {
         }
         // a stopped run names the block of the one that moves, and no other kind
         if let (Some(stop), Some(moving)) = (words::stop_of(run.outcome.end), &machine.moving) {
-            let blocks = ends::candidates(&study, &walk.living[&moving.number], stop);
+            let blocks = ends::candidates(&study, &walk, moving.number, stop);
             assert!(blocks.contains(&u64::from(moving.next_block)), "{blocks:?}");
             let told = ends::told(&study, &run, &walk, lent).join("\n");
             let transaction = format!("{}: transaction {} at block", stop.end, moving.number);

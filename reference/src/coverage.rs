@@ -6,6 +6,7 @@ use crate::generate::fields::{model_fields, Role};
 use crate::generate::random::Random;
 use crate::generate::{case_with, Case, Size};
 use crate::machine::Machine;
+use crate::model::Block;
 use crate::rules::{Rules, LAST_KIND};
 use crate::run::{run_watched, Outcome, Watcher};
 use std::collections::BTreeMap;
@@ -28,6 +29,8 @@ pub struct Coverage {
     /// Turns, and of them those whose block reads the clock, by the span of the clock.
     pub turns_at: [u64; SPANS],
     pub clock_terms_at: [u64; SPANS],
+    /// Ends 27 and 28 by how they came.
+    pub stopped_holding: [u64; STOPS.len()],
     /// Accepted models of each edition.
     pub editions: [u64; 2],
     /// Term tags, status codes and relations in accepted models.
@@ -52,6 +55,15 @@ fn span_of(rules: Rules, clock: u64) -> usize {
         _ => 3,
     }
 }
+
+/// How ends 27 and 28 come.
+const STOPS: [&str; 5] = [
+    "27 by a copy of the holder",
+    "27 by another",
+    "28 before end 2",
+    "28 far from end 2",
+    "28 holding several",
+];
 
 /// What the execution of a block can come to, as the columns of the table.
 const COLUMNS: [(&str, Done); 11] = [
@@ -132,6 +144,27 @@ impl Watcher for Coverage {
     fn after_turn(&mut self, kind: u32, done: Done) {
         *self.counts.entry((kind, column(done))).or_insert(0) += 1;
     }
+
+    fn at_end(&mut self, machine: &Machine, end: u32, _trace: &[u8]) {
+        let Some(moving) = &machine.moving else {
+            return;
+        };
+        match (end, machine.model.block(moving.next_block)) {
+            (27, Block::Release { facility }) => {
+                let holder = machine.facilities[*facility as usize - 1].holder;
+                let copy = holder == Some(moving.family);
+                self.stopped_holding[usize::from(!copy)] += 1;
+            }
+            (28, Block::Terminate { amount }) => {
+                let last = machine.counter <= i64::from(*amount);
+                let holder = Some(moving.number);
+                let held = machine.facilities.iter().filter(|f| f.holder == holder);
+                self.stopped_holding[if last { 2 } else { 3 }] += 1;
+                self.stopped_holding[4] += u64::from(held.count() > 1);
+            }
+            _ => {}
+        }
+    }
 }
 
 impl Coverage {
@@ -190,7 +223,8 @@ impl Coverage {
     }
 
     /// What can be met under the rules and was not: kinds with what they come
-    /// to, refusals, ends (but 26), tags, codes, relations, spans of the clock.
+    /// to, refusals, ends (but 26), tags, codes, relations, spans of the clock,
+    /// ways to ends 27 and 28.
     pub fn empty_cells(&self) -> Vec<String> {
         let mut empty = Vec::new();
         for kind in 1..=LAST_KIND {
@@ -227,6 +261,10 @@ impl Coverage {
             if self.clock_terms_at[span] == 0 {
                 empty.push(format!("clock term in span {span}"));
             }
+        }
+        let stops = if self.rules.holders { STOPS.len() } else { 0 };
+        for at in (0..stops).filter(|at| self.stopped_holding[*at] == 0) {
+            empty.push(STOPS[at].to_string());
         }
         empty
     }
@@ -272,6 +310,9 @@ impl std::fmt::Display for Coverage {
             "clocks to 2,000,000,000, below 2^31, below 2^32, on, the last: turns {:?}, clock terms {:?}",
             self.turns_at, self.clock_terms_at
         )?;
+        for (name, count) in STOPS.iter().zip(self.stopped_holding) {
+            writeln!(f, "{name:<28}{count}")?;
+        }
         writeln!(f, "editions 1, 2   {:?}", self.editions)?;
         writeln!(f, "tags 0..11      {:?}", self.tags)?;
         writeln!(f, "codes 1..6      {:?}", self.codes)?;

@@ -44,6 +44,7 @@ impl Rules {
     /// What the engine does: each landing changes this one constant.
     pub const LANDED: Rules = Rules {
         wide_clocks: true,
+        holders: true,
         ..Rules::BASE
     };
 

@@ -1,10 +1,12 @@
 //! The stored cases of crate `vectors` and what must come out of them: the
-//! first example, the limits of 02, item 1, and random cases: each refusal, each
-//! end that a short run can meet, each kind and outcome, each list in use, 1,024
-//! living, late clocks.
+//! first example, the limits of 02, item 1, the holders of 02, item 6, and random
+//! cases: each refusal, each end that a short run can meet, each kind and outcome,
+//! each list in use, 1,024 living, late clocks, facilities held.
 
+mod held;
 mod late;
 
+pub use held::cases as held_cases;
 pub use late::cases as late_cases;
 
 use crate::blocks::Done;
@@ -69,6 +71,12 @@ impl Watcher for Features {
         let gathers = machine.gatherers.values().any(|list| !list.is_empty());
         self.add(gathers, "gatherers");
         self.add(!machine.interrupted.is_empty(), "interrupted");
+        let mut holders: Vec<u64> = machine.facilities.iter().filter_map(|f| f.holder).collect();
+        let held = holders.len();
+        holders.sort_unstable();
+        holders.dedup();
+        self.add(held > holders.len(), "holder of several");
+        self.add(holders.len() > 1, "several holders");
         self.add(!machine.rel.is_empty(), "REL");
         self.add(!machine.fel.is_empty(), "FEL");
         self.add(machine.model.edition == 2, "edition 2");
@@ -119,6 +127,7 @@ pub fn cases() -> (Vec<Case>, BTreeMap<String, u32>) {
     let mut random = Random::new(8);
     let mut kept = vec![first_example()];
     kept.extend(late::cases().into_iter().map(|(case, _)| case));
+    kept.extend(held::cases().into_iter().map(|(case, _)| case));
     let mut met: BTreeMap<String, u32> = BTreeMap::new();
     let mut spare = Vec::new();
     for _ in 0..12_000 {

@@ -3,9 +3,10 @@
 
 use reference::blocks::Done;
 use reference::coverage::{ends, possible};
+use reference::generate::Case;
 use reference::rules::LAST_KIND;
-use reference::run::run;
-use reference::stored::{cases, encode, expected, late_cases};
+use reference::run::{run, Outcome};
+use reference::stored::{cases, encode, expected, held_cases, late_cases};
 use reference::Rules;
 
 fn stored(name: &str) -> Vec<u8> {
@@ -43,6 +44,8 @@ fn stored_cases_are_up_to_date() {
         "WSL",
         "REL",
         "FEL",
+        "holder of several",
+        "several holders",
         "1,024 living",
         "last clock",
         "clock term past 2^31",
@@ -55,20 +58,34 @@ fn stored_cases_are_up_to_date() {
     }
 }
 
+fn outcome(case: &Case) -> Outcome {
+    let mut trace = vec![0; case.trace_len];
+    let mut report = vec![0; case.report_len];
+    run(
+        &case.model,
+        &case.tape,
+        case.budget,
+        case.work_len,
+        &mut trace,
+        &mut report,
+    )
+}
+
 #[test]
 fn late_cases_come_to_what_the_papers_give() {
     for (number, (case, wanted)) in late_cases().iter().enumerate() {
-        let mut trace = vec![0; case.trace_len];
-        let mut report = vec![0; case.report_len];
-        let outcome = run(
-            &case.model,
-            &case.tape,
-            case.budget,
-            case.work_len,
-            &mut trace,
-            &mut report,
-        );
-        let came = [outcome.refusal, outcome.end, outcome.clock];
+        let came = outcome(case);
+        let came = [came.refusal, came.end, came.clock];
         assert_eq!(came, *wanted, "late case {number}");
+    }
+}
+
+#[test]
+fn held_cases_come_to_what_the_papers_give() {
+    for (number, (case, wanted)) in held_cases().iter().enumerate() {
+        let came = outcome(case);
+        assert_eq!(came.refusal, 0, "held case {number}");
+        let came = [came.end, came.clock, came.turns, came.made, came.ended];
+        assert_eq!(came, *wanted, "held case {number}");
     }
 }

@@ -29,8 +29,8 @@ pub const KINDS: &[Kind] = &[
     kind(GENERATE, "GENERATE", "ly", Some(0)),
     kind(ADVANCE, "ADVANCE", "l", None),
     kind(TERMINATE, "TERMINATE", "a", Some(0)),
-    kind(4, "SEIZE", "f", None),
-    kind(5, "RELEASE", "f", None),
+    kind(SEIZE, "SEIZE", "f", None),
+    kind(RELEASE, "RELEASE", "f", None),
     kind(6, "ENTER", "su", Some(1)),
     kind(7, "LEAVE", "su", Some(1)),
     kind(WAITIF_STATUS, "WAITIF", "cv", None),
@@ -48,6 +48,8 @@ pub const KINDS: &[Kind] = &[
 pub const GENERATE: u32 = 1;
 pub const ADVANCE: u32 = 2;
 pub const TERMINATE: u32 = 3;
+pub const SEIZE: u32 = 4;
+pub const RELEASE: u32 = 5;
 pub const WAITIF_STATUS: u32 = 8;
 pub const WAITIF_COMPARISON: u32 = 9;
 pub const IF: u32 = 10;

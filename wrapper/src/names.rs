@@ -1,4 +1,4 @@
-//! The numbers of document 01 that stand for something, each with its name and its words. A new number is a new line.
+//! The numbers of documents 01 and 02 that stand for something, each with its name and its words. A new number is a new line.
 
 use std::fmt;
 
@@ -23,7 +23,7 @@ macro_rules! numbered {
                 }
             }
 
-            /// Its number in document 01.
+            /// Its number in the documents.
             pub fn number(self) -> u64 {
                 self as u64
             }
@@ -64,6 +64,8 @@ numbered! {
         24 NotInUse "a RELEASE found its facility idle, or a LEAVE found fewer units in use than it frees",
         25 NoContent "a DEPART found its queue without content",
         26 RunLimit "the last serial given is above 99,997,952, or 100,000,000 turns are done",
+        27 NotHolder "a RELEASE by another than the holder of its facility",
+        28 StillHolds "a TERMINATE of one that still holds a facility",
     }
 }
 

@@ -102,6 +102,23 @@ fn refusals() {
 }
 
 #[test]
+fn only_the_holder_releases() {
+    // GENERATE 1, 0; SEIZE 1; SPLIT 1, 5; ADVANCE 2; RELEASE 1; TERMINATE 1
+    let model = [
+        1, 1, 0, 0, 0, 2, 1, 6, 1, 1, 0, 4, 1, 14, 1, 5, 2, 2, 5, 1, 3, 1,
+    ];
+    let run = simulate(&model, &[1, 4, 1, 9], 100, 1_000).unwrap();
+    assert_eq!((run.end, run.outcome.clock), (End::NotHolder, 4));
+    assert_eq!((run.outcome.turns, run.records().count()), (5, 4));
+    let places: Vec<_> = run.report.living.iter().map(|l| l.place).collect();
+    assert_eq!(places, [Place::Fel, Place::Moving]);
+    // GENERATE 1, 0; SEIZE 1; TERMINATE 1
+    let model = [1, 1, 0, 0, 0, 1, 1, 3, 1, 1, 0, 4, 1, 3, 1];
+    let run = simulate(&model, &[1, 4], 100, 1_000).unwrap();
+    assert_eq!((run.end, run.outcome.ended), (End::StillHolds, 0));
+}
+
+#[test]
 fn late_clocks() {
     // One comes at each time of the first list and ends.
     let model = [1, 0, 0, 0, 0, 1, 5, 2, 1, 1, 0, 3, 1];
