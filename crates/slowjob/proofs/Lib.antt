@@ -1,0 +1,4 @@
+pub mod Recurrence
+pub mod Events
+pub mod Line
+pub mod ClockMove
