@@ -15,7 +15,7 @@ use Rattle.machine.specs.Moves.{qlOf, timesLeft}
 use Rattle.machine.specs.Turn.{sampleServers, sample, due, moveClock, nextEvents}
 use Rattle.machine.proofs.Sums.{sumOn}
 use Rattle.slowjob.proofs.Events.{at, AllReady, Pending, Step, absent, stays, falls-due, Moved, moved, Arrival, arrive}
-use Rattle.slowjob.proofs.Line.{used, Coming, nobody, later, here-now, Serving, idle, seized, busy, done, Line, left}
+use Rattle.slowjob.proofs.Line.{used, Coming, nobody, later, here-now, Serving, idle, seized, busy, done, Line}
 
 -- statistics leave the units in use
 sampled-use : (ticks : ℕ) (l : List Server) (ql : List (List Transaction)) → getD (sampleServers ticks l ql) 0 (idleServer 0) .inUse ≡ getD l 0 (idleServer 0) .inUse
@@ -24,9 +24,9 @@ sampled-use ticks [] ql = refl
 sampled-use ticks (v ∷ l) [] = refl
 sampled-use ticks (v ∷ l) (q ∷ ql) = refl
 
-module _ (m : BlockModel) (arrivals services : List ℕ) where
-  coming-moved : {clock time arrived here n : ℕ} {times : List ℕ} {o o′ : Option ℕ} → here ≡ 0 → Coming m arrivals services clock arrived here times o → Step time o o′ n
-      → Coming m arrivals services time arrived n times o′
+module _ (arrivals services : List ℕ) where
+  coming-moved : {clock time arrived here n : ℕ} {times : List ℕ} {o o′ : Option ℕ} → here ≡ 0 → Coming arrivals services clock arrived here times o → Step time o o′ n
+      → Coming arrivals services time arrived n times o′
   coming-moved z (nobody e) absent = nobody refl
   coming-moved z (later t e is l) (stays u) = later t refl is l
   coming-moved z (later t e is l) (falls-due u now) = here-now refl (omega arith) l
@@ -34,8 +34,8 @@ module _ (m : BlockModel) (arrivals services : List ℕ) where
 
   serving-moved : {clock time arrived begun over two three four queued inUse n : ℕ} {times : List ℕ} {p p′ : Option ℕ}
       → clock ≤ time → two ≡ 0 → three ≡ 0 → four ≡ 0 → arrived ≡ begun + queued + two
-      → Serving m arrivals services clock arrived begun over two three four queued inUse times p → Step time p p′ n
-      → Serving m arrivals services time arrived begun over two three n queued inUse times p′
+      → Serving arrivals services clock arrived begun over two three four queued inUse times p → Step time p p′ n
+      → Serving arrivals services time arrived begun over two three n queued inUse times p′
   serving-moved ahead z2 z3 z4 between (idle u e3 e4 all l since next woken) absent =
       idle u z3 refl all l (omega arith) (λ lt. absurd (omega (arith, woken (omega arith)))) woken
   serving-moved ahead z2 z3 z4 between (seized u e3 e4 one l now) absent = absurd (omega arith)
@@ -43,6 +43,7 @@ module _ (m : BlockModel) (arrivals services : List ℕ) where
   serving-moved ahead z2 z3 z4 between (busy t u e3 e4 one l is) (falls-due v now) = done u z3 refl one l (omega arith)
   serving-moved ahead z2 z3 z4 between (done u e3 e4 one l now) absent = absurd (omega arith)
 
+module _ (m : BlockModel) (arrivals services : List ℕ) where
   line-moved : (s : State) (e : Event) (l : List Event) → s .fel ≡ e ∷ l → s .rel ≡ [] → Line m arrivals services 0 s → Line m arrivals services 0 (moveClock (e .time) s)
   unfolding moveClock sample
   line-moved s e l is empty h =
@@ -66,9 +67,9 @@ module _ (m : BlockModel) (arrivals services : List ℕ) where
         at-five = h .at-five;
         ready = y .ready (x .ready) (h .ready);
         queued = h .queued; no-wel = h .no-wel; no-wsl = h .no-wsl; pending = x .rest;
-        coming = coming-moved (omega (arith, h .at-one)) (h .coming) (x .coming);
-        serving = subst (λ n. Serving m arrivals services time (h .arrived) (h .begun) (h .over) (h .two) (h .three) (x .four) (length (qlOf s 1)) n (timesLeft s 2) (x .p′)) (sym (sampled-use _ (s .view .servers) (s .ql)))
-            (serving-moved (x .ahead) (omega (arith, h .at-two)) (h .at-three) (omega (arith, h .at-four)) (h .between) (h .serving) (x .serving));
+        coming = coming-moved arrivals services (omega (arith, h .at-one)) (h .coming) (x .coming);
+        serving = subst (λ n. Serving arrivals services time (h .arrived) (h .begun) (h .over) (h .two) (h .three) (x .four) (length (qlOf s 1)) n (timesLeft s 2) (x .p′)) (sym (sampled-use _ (s .view .servers) (s .ql)))
+            (serving-moved arrivals services (x .ahead) (omega (arith, h .at-two)) (h .at-three) (omega (arith, h .at-four)) (h .between) (h .serving) (x .serving));
         between = h .between;
         past = omega (arith, h .past, x .ahead);
         gone = h .gone;

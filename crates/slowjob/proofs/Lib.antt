@@ -2,3 +2,4 @@ pub mod Recurrence
 pub mod Events
 pub mod Line
 pub mod ClockMove
+pub mod Steps

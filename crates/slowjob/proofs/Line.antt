@@ -35,41 +35,37 @@ Nobody l = l ≡ []
 abbrev pub Seeking : Transaction → Type 0
 Seeking t = t .next ≡ 2
 
-module _ (m : BlockModel) (arrivals services : List ℕ) where
-  abbrev pub came : ℕ → ℕ
-  came = comes arrivals
-
-  abbrev pub left : ℕ → ℕ
-  left = leaves arrivals services
-
+module _ (arrivals services : List ℕ) where
   -- the first k ends
   abbrev pub firsts : ℕ → List ℕ
   firsts zero = []
-  firsts (suc k) = firsts k ++ (left (suc k) ∷ [])
-
-  abbrev pub finishedBy : List Logged → List ℕ
-  finishedBy records = ends m (map (λ r. r .entry) (reverse records))
+  firsts (suc k) = firsts k ++ (leaves arrivals services (suc k) ∷ [])
 
   -- ---- Definition
 
   -- The one who comes next, after `arrived` have come; `here` stand before GENERATE, on REL or in hand. On the FEL it has its move time.
   pub data Coming (clock arrived here : ℕ) (times : List ℕ) : Option ℕ → Type 0 where
     nobody : here ≡ 0 → Coming clock arrived here times none
-    later : (t : ℕ) → here ≡ 0 → t ≡ came (suc arrived) → times ≡ drop (suc arrived) arrivals → Coming clock arrived here times (some t)
-    here-now : here ≡ 1 → clock ≡ came (suc arrived) → times ≡ drop (suc arrived) arrivals → Coming clock arrived here times none
+    later : (t : ℕ) → here ≡ 0 → t ≡ comes arrivals (suc arrived) → times ≡ drop (suc arrived) arrivals → Coming clock arrived here times (some t)
+    here-now : here ≡ 1 → clock ≡ comes arrivals (suc arrived) → times ≡ drop (suc arrived) arrivals → Coming clock arrived here times none
 
   -- The facility, of which `begun` services have begun and `over` are over; `two`, `three` and `four` stand before SEIZE, ADVANCE and
   -- RELEASE, on REL or in hand, and `queued` wait. Idle, it waits for nobody: if somebody has come, the service begins at this clock.
   pub data Serving (clock arrived begun over two three four queued inUse : ℕ) (times : List ℕ) : Option ℕ → Type 0 where
-    idle : inUse ≡ 0 → three ≡ 0 → four ≡ 0 → begun ≡ over → times ≡ drop begun services → left begun ≤ clock
-        → (begun < arrived → clock ≡ max (came (suc begun)) (left begun)) → (0 < queued → 0 < two)
+    idle : inUse ≡ 0 → three ≡ 0 → four ≡ 0 → begun ≡ over → times ≡ drop begun services → leaves arrivals services begun ≤ clock
+        → (begun < arrived → clock ≡ max (comes arrivals (suc begun)) (leaves arrivals services begun)) → (0 < queued → 0 < two)
         → Serving clock arrived begun over two three four queued inUse times none
-    seized : inUse ≡ 1 → three ≡ 1 → four ≡ 0 → begun ≡ suc over → times ≡ drop over services → clock ≡ max (came begun) (left over)
+    seized : inUse ≡ 1 → three ≡ 1 → four ≡ 0 → begun ≡ suc over → times ≡ drop over services → clock ≡ max (comes arrivals begun) (leaves arrivals services over)
         → Serving clock arrived begun over two three four queued inUse times none
-    busy : (t : ℕ) → inUse ≡ 1 → three ≡ 0 → four ≡ 0 → begun ≡ suc over → times ≡ drop begun services → t ≡ left begun
+    busy : (t : ℕ) → inUse ≡ 1 → three ≡ 0 → four ≡ 0 → begun ≡ suc over → times ≡ drop begun services → t ≡ leaves arrivals services begun
         → Serving clock arrived begun over two three four queued inUse times (some t)
-    done : inUse ≡ 1 → three ≡ 0 → four ≡ 1 → begun ≡ suc over → times ≡ drop begun services → clock ≡ left begun
+    done : inUse ≡ 1 → three ≡ 0 → four ≡ 1 → begun ≡ suc over → times ≡ drop begun services → clock ≡ leaves arrivals services begun
         → Serving clock arrived begun over two three four queued inUse times none
+
+module _ (m : BlockModel) (arrivals services : List ℕ) where
+  -- the clocks of the ends, of records newest first
+  abbrev pub endsOf : List Logged → List ℕ
+  endsOf records = ends m (map (λ r. r .entry) (reverse records))
 
   -- with somebody in hand who stands before block b; 0 for nobody
   pub record Lined (b clock inUse : ℕ) (rel : List Transaction) (fel : List Event) (ql : List Transaction) (wel : List (List Transaction)) (wsl : List Transaction) (times times′ : List ℕ) (records : List Logged) : Type 0 where
@@ -94,13 +90,13 @@ module _ (m : BlockModel) (arrivals services : List ℕ) where
     pub no-wel : Each Nobody wel
     pub no-wsl : Nobody wsl
     pub pending : Pending clock fel next-arrival next-service
-    pub coming : Coming clock arrived one times next-arrival
-    pub serving : Serving clock arrived begun over two three four (length ql) inUse times′ next-service
+    pub coming : Coming arrivals services clock arrived one times next-arrival
+    pub serving : Serving arrivals services clock arrived begun over two three four (length ql) inUse times′ next-service
     pub between : arrived ≡ begun + length ql + two
-    pub past : came arrived ≤ clock
+    pub past : comes arrivals arrived ≤ clock
     pub gone : over ≡ ended + five
-    pub leaving : 0 < five → clock ≡ left over
-    pub finished : finishedBy records ≡ firsts ended
+    pub leaving : 0 < five → clock ≡ leaves arrivals services over
+    pub finished : endsOf records ≡ firsts arrivals services ended
 
   abbrev pub Line : ℕ → State → Type 0
   Line b s = Lined b (s .view .clock) (used s) (s .rel) (s .fel) (qlOf s 1) (s .wel) (s .wsl) (timesLeft s 1) (timesLeft s 2) (s .records)
