@@ -82,3 +82,9 @@ module _ (m : BlockModel) (arrivals services : List ℕ) where
   unfolding nextEvents
   line-next [] s is empty h = h
   line-next (e ∷ l) s is empty h = line-moved s e l is empty h
+
+-- nobody comes into hand
+pub moving-next : (l : List Event) (s : State) → nextEvents l s .moving ≡ s .moving
+unfolding nextEvents moveClock
+moving-next [] s = refl
+moving-next (e ∷ l) s = ap (λ x. x .moving) (arrive (those (due (e .time)) (s .fel)) _ .is)

@@ -1,0 +1,89 @@
+-- Document 02, item 14: the k-th end of every run is that of the recurrence, so that one slow job delays no end by more than its own delay.
+use Prim.Native.Nat.{ℕ, zero, suc, _+_, _≤_, _<_}
+use mathlib.Core.Path.{_≡_, refl, sym, ap, subst, _∙_}
+use mathlib.Core.Bool.{Bool, true, false}
+use mathlib.Core.List.{List, [], _∷_, _++_}
+use native.Mathlib.Omega.{arith}
+use borrow.Author.Tests.{ltb-true, ltb-false}
+use lib.Dec.{ltb}
+use lib.ListN.{length, getD, length-append, List·getD-append}
+use lib.Seq.{getD-append-seam}
+use Rattle.machine.specs.Block.{BlockModel, blockAt}
+use Rattle.machine.specs.Rules.{Rules}
+use Rattle.machine.specs.Trace.{Record, traceBytes}
+use Rattle.machine.specs.State.{State}
+use Rattle.machine.specs.Run.{run}
+use Rattle.machine.specs.Validate.{Validation, accept, validate}
+use Rattle.machine.specs.Outcome.{recordsOf, acceptedRun, outcomeOf, outcome}
+use Rattle.machine.proofs.Proper.{Proper}
+use Rattle.machine.proofs.ProperFrom.{proper-from}
+use Rattle.slowjob.specs.SlowJob.{jobs, raised, ends, Late, Delayed, SlowJob, Traces, SlowJobBytes, leaves, EachEnd}
+use Rattle.slowjob.proofs.Recurrence.{leaves-late}
+use Rattle.slowjob.proofs.Line.{firsts}
+use Rattle.slowjob.proofs.Turns.{Sound, run-sound}
+
+-- ---- The first ends
+
+module _ (arrivals services : List ℕ) where
+  firsts-length : (n : ℕ) → length (firsts arrivals services n) ≡ n
+  firsts-length zero = refl
+  firsts-length (suc n) = omega (arith, length-append (firsts arrivals services n) (leaves arrivals services (suc n) ∷ []), firsts-length n)
+
+  firsts-at : (n k : ℕ) → k < n → getD (firsts arrivals services n) k 0 ≡ leaves arrivals services (suc k)
+  firsts-at zero k lt = absurd (omega arith)
+  firsts-at (suc n) k lt = go (ltb k n) refl (firsts-at n k)
+    where
+      go : (b : Bool) → ltb k n ≡ b → (k < n → getD (firsts arrivals services n) k 0 ≡ leaves arrivals services (suc k))
+          → getD (firsts arrivals services (suc n)) k 0 ≡ leaves arrivals services (suc k)
+      go true e h =
+          List·getD-append (firsts arrivals services n) (leaves arrivals services (suc n) ∷ []) 0 k (omega (arith, firsts-length n, ltb-true k n e)) ∙ h (ltb-true k n e)
+      go false e h =
+          let last : k ≡ length (firsts arrivals services n) = omega (arith, firsts-length n, ltb-false k n e) in
+          let same : n ≡ k = omega (arith, firsts-length n) in
+          ap (λ i. getD (firsts arrivals services (suc n)) i 0) last ∙ getD-append-seam (firsts arrivals services n) (leaves arrivals services (suc n)) [] 0
+          ∙ ap (λ i. leaves arrivals services (suc i)) same
+
+-- ---- Each end
+
+-- the ends of a run are the first ones, as many as it comes to
+run-ends : (m : BlockModel) → m .blocks ≡ jobs → 1 ≤ m .facilities → (arrivals services : List ℕ) (others : List (List ℕ)) → m .lists ≡ 2 + length others
+    → (budget room : ℕ) → (n : ℕ) × (ends m (recordsOf (run m (arrivals ∷ services ∷ others) budget room)) ≡ firsts arrivals services n)
+unfolding recordsOf
+run-ends m program facility arrivals services others lists budget room =
+    let h = run-sound m arrivals services others program facility lists budget room .line in
+    (h .ended, h .finished)
+
+pub each-end : EachEnd
+each-end m program facility arrivals services others lists budget room k lt =
+    let x = run-ends m program facility arrivals services others lists budget room in
+    ap (λ l. getD l k 0) (x .1) ∙ firsts-at arrivals services (x .0) k (omega (arith, ap length (x .1), firsts-length arrivals services (x .0)))
+
+-- ---- One slow job
+
+pub slow-job : SlowJob
+slow-job m program facility arrivals services others lists i d budget room budget′ room′ k lt lt′ =
+    let late = leaves-late arrivals services i d (suc k) in
+    let before = each-end m program facility arrivals services others lists budget room k lt in
+    let after = each-end m program facility arrivals (raised i d services) others lists budget′ room′ k lt′ in
+    record { no-earlier = omega (arith, before, after, late .no-earlier); at-most = omega (arith, before, after, late .at-most) }
+
+-- ---- From bytes
+
+-- an accepted model with these blocks has a facility, and its tape a list for each of its lists
+accepted-facility : {m : BlockModel} {tape : List (List ℕ)} → m .blocks ≡ jobs → Proper m tape → 1 ≤ m .facilities
+accepted-facility {m} program proper = subst (λ l. OneFacility l) program (proper .block 2) .1
+  where
+    OneFacility : List Rattle.machine.specs.Block.Block → Type 0
+    OneFacility l = Rattle.machine.proofs.Proper.ProperBlock m (Rattle.machine.specs.Lists.nth l 2 (Rattle.machine.specs.Block.terminate 0))
+
+pub slow-job-bytes : SlowJobBytes
+unfolding outcome outcomeOf acceptedRun
+slow-job-bytes rules model tape tape′ work report work′ report′ m arrivals services others i d ok ok′ program budget room budget′ room′ =
+    let proper : Proper m (arrivals ∷ services ∷ others) = proper-from rules model tape work report ok in
+    record {
+      records = recordsOf (run m (arrivals ∷ services ∷ others) budget room);
+      bytes = ap (λ v. outcomeOf budget room v .trace) ok;
+      records′ = recordsOf (run m (arrivals ∷ raised i d services ∷ others) budget′ room′);
+      bytes′ = ap (λ v. outcomeOf budget′ room′ v .trace) ok′;
+      delayed = slow-job m program (accepted-facility program proper) arrivals services others (omega (arith, proper .tapes)) i d budget room budget′ room′;
+    }
