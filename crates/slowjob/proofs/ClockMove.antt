@@ -58,15 +58,27 @@ module _ (m : BlockModel) (arrivals services : List ℕ) where
       let z4 : sumOn (at 4) (s .rel) ≡ 0 = ap (sumOn (at 4)) empty in
       let now : Line m arrivals services 0 (setRel (y .rel) (setSerial (y .serial) base)) =
       record {
-        arrived = h .arrived; begun = h .begun; over = h .over; ended = h .ended; next-arrival = x .o′; next-service = x .p′;
-        one = x .one; two = h .two; three = h .three; four = x .four; five = h .five;
+        arrived = h .arrived;
+        begun = h .begun;
+        over = h .over;
+        ended = h .ended;
+        next-arrival = x .o′;
+        next-service = x .p′;
+        one = x .one;
+        two = h .two;
+        three = h .three;
+        four = x .four;
+        five = h .five;
         at-one = omega (arith, y .sums 1, x .at-one);
         at-two = omega (arith, y .sums 2, x .at-two, h .at-two);
         at-three = h .at-three;
         at-four = omega (arith, y .sums 4, x .at-four);
         at-five = h .at-five;
         ready = y .ready (x .ready) (h .ready);
-        queued = h .queued; no-wel = h .no-wel; no-wsl = h .no-wsl; pending = x .rest;
+        queued = h .queued;
+        no-wel = h .no-wel;
+        no-wsl = h .no-wsl;
+        pending = x .rest;
         coming = coming-moved arrivals services (omega (arith, h .at-one)) (h .coming) (x .coming);
         serving = subst (λ n. Serving arrivals services time (h .arrived) (h .begun) (h .over) (h .two) (h .three) (x .four) (length (qlOf s 1)) n (timesLeft s 2) (x .p′)) (sym (sampled-use _ (s .view .servers) (s .ql)))
             (serving-moved arrivals services (x .ahead) (omega (arith, h .at-two)) (h .at-three) (omega (arith, h .at-four)) (h .between) (h .serving) (x .serving));

@@ -109,7 +109,14 @@ unfolding those due
 moved (coming e n le) =
     rw (eq-eqb (e .time) (e .time) refl)
     (record {
-      ahead = le; o′ = none; p′ = none; one = 1; four = 0; coming = falls-due (e .time) refl; serving = absent; rest = neither;
+      ahead = le;
+      o′ = none;
+      p′ = none;
+      one = 1;
+      four = 0;
+      coming = falls-due (e .time) refl;
+      serving = absent;
+      rest = neither;
       at-one = omega (arith, ap (λ k. bit (eqb k 1)) n);
       at-two = omega (arith, ap (λ k. bit (eqb k 2)) n);
       at-four = omega (arith, ap (λ k. bit (eqb k 4)) n);
@@ -118,7 +125,14 @@ moved (coming e n le) =
 moved (served e n le) =
     rw (eq-eqb (e .time) (e .time) refl)
     (record {
-      ahead = le; o′ = none; p′ = none; one = 0; four = 1; coming = absent; serving = falls-due (e .time) refl; rest = neither;
+      ahead = le;
+      o′ = none;
+      p′ = none;
+      one = 0;
+      four = 1;
+      coming = absent;
+      serving = falls-due (e .time) refl;
+      rest = neither;
       at-one = omega (arith, ap (λ k. bit (eqb k 1)) n);
       at-two = omega (arith, ap (λ k. bit (eqb k 2)) n);
       at-four = omega (arith, ap (λ k. bit (eqb k 4)) n);
@@ -130,7 +144,14 @@ moved {low} (coming-first e f n k le ef) = rw (eq-eqb (e .time) (e .time) refl) 
         → Moved low (e .time) (e ∷ cond b (f ∷ []) []) (cond (not b) (f ∷ []) []) (some (e .time)) (some (f .time))
     go true b =
         record {
-          ahead = le; o′ = none; p′ = none; one = 1; four = 1; coming = falls-due (e .time) refl; serving = falls-due (f .time) (eqb-true _ _ b); rest = neither;
+          ahead = le;
+          o′ = none;
+          p′ = none;
+          one = 1;
+          four = 1;
+          coming = falls-due (e .time) refl;
+          serving = falls-due (f .time) (eqb-true _ _ b);
+          rest = neither;
           at-one = omega (arith, ap (λ k. bit (eqb k 1)) n, ap (λ k. bit (eqb k 1)) k);
           at-two = omega (arith, ap (λ k. bit (eqb k 2)) n, ap (λ k. bit (eqb k 2)) k);
           at-four = omega (arith, ap (λ k. bit (eqb k 4)) n, ap (λ k. bit (eqb k 4)) k);
@@ -138,7 +159,14 @@ moved {low} (coming-first e f n k le ef) = rw (eq-eqb (e .time) (e .time) refl) 
         }
     go false b =
         record {
-          ahead = le; o′ = none; p′ = some (f .time); one = 1; four = 0; coming = falls-due (e .time) refl; serving = stays (f .time); rest = served f k ef;
+          ahead = le;
+          o′ = none;
+          p′ = some (f .time);
+          one = 1;
+          four = 0;
+          coming = falls-due (e .time) refl;
+          serving = stays (f .time);
+          rest = served f k ef;
           at-one = omega (arith, ap (λ k. bit (eqb k 1)) n);
           at-two = omega (arith, ap (λ k. bit (eqb k 2)) n);
           at-four = omega (arith, ap (λ k. bit (eqb k 4)) n);
@@ -150,7 +178,14 @@ moved {low} (served-first e f n k le ef) = rw (eq-eqb (e .time) (e .time) refl) 
         → Moved low (e .time) (e ∷ cond b (f ∷ []) []) (cond (not b) (f ∷ []) []) (some (f .time)) (some (e .time))
     go true b =
         record {
-          ahead = le; o′ = none; p′ = none; one = 1; four = 1; coming = falls-due (f .time) (eqb-true _ _ b); serving = falls-due (e .time) refl; rest = neither;
+          ahead = le;
+          o′ = none;
+          p′ = none;
+          one = 1;
+          four = 1;
+          coming = falls-due (f .time) (eqb-true _ _ b);
+          serving = falls-due (e .time) refl;
+          rest = neither;
           at-one = omega (arith, ap (λ k. bit (eqb k 1)) n, ap (λ k. bit (eqb k 1)) k);
           at-two = omega (arith, ap (λ k. bit (eqb k 2)) n, ap (λ k. bit (eqb k 2)) k);
           at-four = omega (arith, ap (λ k. bit (eqb k 4)) n, ap (λ k. bit (eqb k 4)) k);
@@ -158,7 +193,14 @@ moved {low} (served-first e f n k le ef) = rw (eq-eqb (e .time) (e .time) refl) 
         }
     go false b =
         record {
-          ahead = le; o′ = some (f .time); p′ = none; one = 0; four = 1; coming = stays (f .time); serving = falls-due (e .time) refl; rest = coming f k ef;
+          ahead = le;
+          o′ = some (f .time);
+          p′ = none;
+          one = 0;
+          four = 1;
+          coming = stays (f .time);
+          serving = falls-due (e .time) refl;
+          rest = coming f k ef;
           at-one = omega (arith, ap (λ k. bit (eqb k 1)) n);
           at-two = omega (arith, ap (λ k. bit (eqb k 2)) n);
           at-four = omega (arith, ap (λ k. bit (eqb k 4)) n);

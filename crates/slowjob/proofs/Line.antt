@@ -106,11 +106,34 @@ module _ (m : BlockModel) (arrivals services : List ℕ) where
   with-wel : {b : ℕ} (s : State) (wel : List (List Transaction)) → Each Nobody wel → Line b s → Line b (setWel wel s)
   with-wel s wel e h =
       record {
-        arrived = h .arrived; begun = h .begun; over = h .over; ended = h .ended; next-arrival = h .next-arrival; next-service = h .next-service;
-        one = h .one; two = h .two; three = h .three; four = h .four; five = h .five;
-        at-one = h .at-one; at-two = h .at-two; at-three = h .at-three; at-four = h .at-four; at-five = h .at-five;
-        ready = h .ready; queued = h .queued; no-wel = e; no-wsl = h .no-wsl; pending = h .pending; coming = h .coming; serving = h .serving;
-        between = h .between; past = h .past; gone = h .gone; leaving = h .leaving; finished = h .finished;
+        arrived = h .arrived;
+        begun = h .begun;
+        over = h .over;
+        ended = h .ended;
+        next-arrival = h .next-arrival;
+        next-service = h .next-service;
+        one = h .one;
+        two = h .two;
+        three = h .three;
+        four = h .four;
+        five = h .five;
+        at-one = h .at-one;
+        at-two = h .at-two;
+        at-three = h .at-three;
+        at-four = h .at-four;
+        at-five = h .at-five;
+        ready = h .ready;
+        queued = h .queued;
+        no-wel = e;
+        no-wsl = h .no-wsl;
+        pending = h .pending;
+        coming = h .coming;
+        serving = h .serving;
+        between = h .between;
+        past = h .past;
+        gone = h .gone;
+        leaving = h .leaving;
+        finished = h .finished;
       }
 
   line-wel : (b v : ℕ) (code : Code) (s : State) → Line b s → Line b (wakeFirstWel v code s)
@@ -136,13 +159,32 @@ module _ (m : BlockModel) (arrivals services : List ℕ) where
       → Line 0 s → Line n (setRel l s)
   line-taken t l s e n k three five h =
       record {
-        arrived = h .arrived; begun = h .begun; over = h .over; ended = h .ended; next-arrival = h .next-arrival; next-service = h .next-service;
-        one = h .one; two = h .two; three = h .three; four = h .four; five = h .five;
+        arrived = h .arrived;
+        begun = h .begun;
+        over = h .over;
+        ended = h .ended;
+        next-arrival = h .next-arrival;
+        next-service = h .next-service;
+        one = h .one;
+        two = h .two;
+        three = h .three;
+        four = h .four;
+        five = h .five;
         at-one = omega (arith, h .at-one, ap (sumOn (at 1)) e, ap (λ n. bit (eqb n 1)) k);
         at-two = omega (arith, h .at-two, ap (sumOn (at 2)) e, ap (λ n. bit (eqb n 2)) k);
         at-three = omega (arith, h .at-three);
         at-four = omega (arith, h .at-four, ap (sumOn (at 4)) e, ap (λ n. bit (eqb n 4)) k);
         at-five = omega (arith, h .at-five);
-        ready = subst AllReady e (h .ready) .1; queued = h .queued; no-wel = h .no-wel; no-wsl = h .no-wsl; pending = h .pending; coming = h .coming; serving = h .serving;
-        between = h .between; past = h .past; gone = h .gone; leaving = h .leaving; finished = h .finished;
+        ready = subst AllReady e (h .ready) .1;
+        queued = h .queued;
+        no-wel = h .no-wel;
+        no-wsl = h .no-wsl;
+        pending = h .pending;
+        coming = h .coming;
+        serving = h .serving;
+        between = h .between;
+        past = h .past;
+        gone = h .gone;
+        leaving = h .leaving;
+        finished = h .finished;
       }

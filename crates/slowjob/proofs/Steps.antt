@@ -170,18 +170,34 @@ module _ (m : BlockModel) (arrivals services : List ℕ) {clock inUse : ℕ} {re
   lined-spent h =
       let x = here arrivals services (omega (arith, h .at-one)) (h .coming) in
       record {
-        arrived = suc (h .arrived); begun = h .begun; over = h .over; ended = h .ended; next-arrival = none; next-service = h .next-service;
-        one = 0; two = suc (h .two); three = h .three; four = h .four; five = h .five;
+        arrived = suc (h .arrived);
+        begun = h .begun;
+        over = h .over;
+        ended = h .ended;
+        next-arrival = none;
+        next-service = h .next-service;
+        one = 0;
+        two = suc (h .two);
+        three = h .three;
+        four = h .four;
+        five = h .five;
         at-one = omega (arith, h .at-one, x .single);
         at-two = omega (arith, h .at-two);
-        at-three = h .at-three; at-four = h .at-four; at-five = h .at-five;
-        ready = h .ready; queued = h .queued; no-wel = h .no-wel; no-wsl = h .no-wsl;
+        at-three = h .at-three;
+        at-four = h .at-four;
+        at-five = h .at-five;
+        ready = h .ready;
+        queued = h .queued;
+        no-wel = h .no-wel;
+        no-wsl = h .no-wsl;
         pending = subst (λ o. Pending clock fel o (h .next-service)) (x .absent) (h .pending);
         coming = nobody refl;
         serving = serving-come arrivals services (x .now) (h .between) (h .serving);
         between = omega (arith, h .between);
         past = omega (arith, x .now);
-        gone = h .gone; leaving = h .leaving; finished = h .finished;
+        gone = h .gone;
+        leaving = h .leaving;
+        finished = h .finished;
       }
 
   -- GENERATE, and the next one is made
@@ -193,18 +209,34 @@ module _ (m : BlockModel) (arrivals services : List ℕ) {clock inUse : ℕ} {re
       let x = here arrivals services (omega (arith, h .at-one)) (h .coming) in
       let d = drop-step arrivals (suc (h .arrived)) time times (x .rest) in
       record {
-        arrived = suc (h .arrived); begun = h .begun; over = h .over; ended = h .ended; next-arrival = some (clock + time); next-service = h .next-service;
-        one = 0; two = suc (h .two); three = h .three; four = h .four; five = h .five;
+        arrived = suc (h .arrived);
+        begun = h .begun;
+        over = h .over;
+        ended = h .ended;
+        next-arrival = some (clock + time);
+        next-service = h .next-service;
+        one = 0;
+        two = suc (h .two);
+        three = h .three;
+        four = h .four;
+        five = h .five;
         at-one = omega (arith, h .at-one, x .single);
         at-two = omega (arith, h .at-two);
-        at-three = h .at-three; at-four = h .at-four; at-five = h .at-five;
-        ready = h .ready; queued = h .queued; no-wel = h .no-wel; no-wsl = h .no-wsl;
+        at-three = h .at-three;
+        at-four = h .at-four;
+        at-five = h .at-five;
+        ready = h .ready;
+        queued = h .queued;
+        no-wel = h .no-wel;
+        no-wsl = h .no-wsl;
         pending = insert-coming (subst (λ o. Pending clock fel o (h .next-service)) (x .absent) (h .pending)) (record { time = clock + time; who = who }) n (omega arith);
         coming = later (clock + time) refl (omega (arith, x .now, d .0)) (d .1);
         serving = serving-come arrivals services (x .now) (h .between) (h .serving);
         between = omega (arith, h .between);
         past = omega (arith, x .now);
-        gone = h .gone; leaving = h .leaving; finished = h .finished;
+        gone = h .gone;
+        leaving = h .leaving;
+        finished = h .finished;
       }
 
   -- ADVANCE
@@ -216,15 +248,35 @@ module _ (m : BlockModel) (arrivals services : List ℕ) {clock inUse : ℕ} {re
       let x = is-seized arrivals services (omega (arith, h .at-three)) (h .serving) in
       let d = drop-step services (h .over) time times′ (x .rest) in
       record {
-        arrived = h .arrived; begun = h .begun; over = h .over; ended = h .ended; next-arrival = h .next-arrival; next-service = some (clock + time);
-        one = h .one; two = h .two; three = 0; four = h .four; five = h .five;
-        at-one = h .at-one; at-two = h .at-two; at-three = refl; at-four = h .at-four; at-five = h .at-five;
-        ready = h .ready; queued = h .queued; no-wel = h .no-wel; no-wsl = h .no-wsl;
+        arrived = h .arrived;
+        begun = h .begun;
+        over = h .over;
+        ended = h .ended;
+        next-arrival = h .next-arrival;
+        next-service = some (clock + time);
+        one = h .one;
+        two = h .two;
+        three = 0;
+        four = h .four;
+        five = h .five;
+        at-one = h .at-one;
+        at-two = h .at-two;
+        at-three = refl;
+        at-four = h .at-four;
+        at-five = h .at-five;
+        ready = h .ready;
+        queued = h .queued;
+        no-wel = h .no-wel;
+        no-wsl = h .no-wsl;
         pending = insert-served (subst (λ o. Pending clock fel (h .next-arrival) o) (x .absent) (h .pending)) (record { time = clock + time; who = who }) n (omega arith);
         coming = h .coming;
         serving = busy (clock + time) (x .taken) refl (x .nobody-out) (x .begins) (d .1 ∙ ap (λ k. drop k services) (sym (x .begins)))
             (omega (arith, x .now, d .0, ap (leaves arrivals services) (x .begins), ap (comes arrivals) (x .begins)));
-        between = h .between; past = h .past; gone = h .gone; leaving = h .leaving; finished = h .finished;
+        between = h .between;
+        past = h .past;
+        gone = h .gone;
+        leaving = h .leaving;
+        finished = h .finished;
       }
 
   module _ {times times′ : List ℕ} where
@@ -232,13 +284,34 @@ module _ (m : BlockModel) (arrivals services : List ℕ) {clock inUse : ℕ} {re
         → Lined m arrivals services 3 clock 1 rel fel ql wel wsl times times′ records
     lined-seized free h =
         record {
-          arrived = h .arrived; begun = suc (h .begun); over = h .over; ended = h .ended; next-arrival = h .next-arrival; next-service = h .next-service;
-          one = h .one; two = sumOn (at 2) rel + 0; three = 1; four = h .four; five = h .five;
-          at-one = h .at-one; at-two = refl; at-three = refl; at-four = h .at-four; at-five = h .at-five;
-          ready = h .ready; queued = h .queued; no-wel = h .no-wel; no-wsl = h .no-wsl; pending = h .pending; coming = h .coming;
+          arrived = h .arrived;
+          begun = suc (h .begun);
+          over = h .over;
+          ended = h .ended;
+          next-arrival = h .next-arrival;
+          next-service = h .next-service;
+          one = h .one;
+          two = sumOn (at 2) rel + 0;
+          three = 1;
+          four = h .four;
+          five = h .five;
+          at-one = h .at-one;
+          at-two = refl;
+          at-three = refl;
+          at-four = h .at-four;
+          at-five = h .at-five;
+          ready = h .ready;
+          queued = h .queued;
+          no-wel = h .no-wel;
+          no-wsl = h .no-wsl;
+          pending = h .pending;
+          coming = h .coming;
           serving = serving-seized arrivals services free (omega (arith, h .between, h .at-two)) (h .serving) (sumOn (at 2) rel + 0);
           between = omega (arith, h .between, h .at-two);
-          past = h .past; gone = h .gone; leaving = h .leaving; finished = h .finished;
+          past = h .past;
+          gone = h .gone;
+          leaving = h .leaving;
+          finished = h .finished;
         }
 
     pub lined-queued : (who : Transaction) → who .next ≡ 2 → (inUse ≡ 0 → ⊥) → Lined m arrivals services 2 clock inUse rel fel ql wel wsl times times′ records
@@ -247,13 +320,34 @@ module _ (m : BlockModel) (arrivals services : List ℕ) {clock inUse : ℕ} {re
         let longer : length (insert precedes who ql) ≡ suc (length ql) =
         omega (arith, sum-length (insert precedes who ql), sum-length ql, sum-insert (λ (t : Transaction). 1) precedes who ql) in
         record {
-          arrived = h .arrived; begun = h .begun; over = h .over; ended = h .ended; next-arrival = h .next-arrival; next-service = h .next-service;
-          one = h .one; two = sumOn (at 2) rel + 0; three = h .three; four = h .four; five = h .five;
-          at-one = h .at-one; at-two = refl; at-three = h .at-three; at-four = h .at-four; at-five = h .at-five;
-          ready = h .ready; queued = each-insert Seeking precedes who ql n (h .queued); no-wel = h .no-wel; no-wsl = h .no-wsl; pending = h .pending; coming = h .coming;
+          arrived = h .arrived;
+          begun = h .begun;
+          over = h .over;
+          ended = h .ended;
+          next-arrival = h .next-arrival;
+          next-service = h .next-service;
+          one = h .one;
+          two = sumOn (at 2) rel + 0;
+          three = h .three;
+          four = h .four;
+          five = h .five;
+          at-one = h .at-one;
+          at-two = refl;
+          at-three = h .at-three;
+          at-four = h .at-four;
+          at-five = h .at-five;
+          ready = h .ready;
+          queued = each-insert Seeking precedes who ql n (h .queued);
+          no-wel = h .no-wel;
+          no-wsl = h .no-wsl;
+          pending = h .pending;
+          coming = h .coming;
           serving = serving-queued arrivals services taken (h .serving) (sumOn (at 2) rel + 0) _;
           between = omega (arith, h .between, h .at-two);
-          past = h .past; gone = h .gone; leaving = h .leaving; finished = h .finished;
+          past = h .past;
+          gone = h .gone;
+          leaving = h .leaving;
+          finished = h .finished;
         }
 
     -- RELEASE: the service is over, and the first who waits goes to REL
@@ -272,10 +366,26 @@ module _ (m : BlockModel) (arrivals services : List ℕ) {clock inUse : ℕ} {re
             → Lined m arrivals services 5 clock 0 (wake (take 1 q) rel) fel (drop 1 q) wel wsl times times′ records
         go [] each between =
             record {
-              arrived = h .arrived; begun = h .begun; over = suc (h .over); ended = h .ended; next-arrival = h .next-arrival; next-service = none;
-              one = h .one; two = h .two; three = 0; four = sumOn (at 4) rel + 0; five = 1;
-              at-one = h .at-one; at-two = h .at-two; at-three = refl; at-four = refl; at-five = refl;
-              ready = h .ready; queued = tt; no-wel = h .no-wel; no-wsl = h .no-wsl;
+              arrived = h .arrived;
+              begun = h .begun;
+              over = suc (h .over);
+              ended = h .ended;
+              next-arrival = h .next-arrival;
+              next-service = none;
+              one = h .one;
+              two = h .two;
+              three = 0;
+              four = sumOn (at 4) rel + 0;
+              five = 1;
+              at-one = h .at-one;
+              at-two = h .at-two;
+              at-three = refl;
+              at-four = refl;
+              at-five = refl;
+              ready = h .ready;
+              queued = tt;
+              no-wel = h .no-wel;
+              no-wsl = h .no-wsl;
               pending = subst (λ o. Pending clock fel (h .next-arrival) o) (x .absent) (h .pending);
               coming = h .coming;
               serving = idle refl refl (omega (arith, h .at-four, x .single)) (x .ends) (x .rest) (omega (arith, x .now)) begins (λ p. absurd (omega arith));
@@ -288,15 +398,26 @@ module _ (m : BlockModel) (arrivals services : List ℕ) {clock inUse : ℕ} {re
         go (t ∷ q) each between =
             let woken : Transaction = withReturning true t in
             record {
-              arrived = h .arrived; begun = h .begun; over = suc (h .over); ended = h .ended; next-arrival = h .next-arrival; next-service = none;
-              one = h .one; two = suc (h .two); three = 0; four = sumOn (at 4) rel + 0; five = 1;
+              arrived = h .arrived;
+              begun = h .begun;
+              over = suc (h .over);
+              ended = h .ended;
+              next-arrival = h .next-arrival;
+              next-service = none;
+              one = h .one;
+              two = suc (h .two);
+              three = 0;
+              four = sumOn (at 4) rel + 0;
+              five = 1;
               at-one = omega (arith, h .at-one, sum-insert (at 1) precedes woken rel, ap (λ n. bit (eqb n 1)) (each .0));
               at-two = omega (arith, h .at-two, sum-insert (at 2) precedes woken rel, ap (λ n. bit (eqb n 2)) (each .0));
               at-three = refl;
               at-four = omega (arith, sum-insert (at 4) precedes woken rel, ap (λ n. bit (eqb n 4)) (each .0));
               at-five = refl;
               ready = each-insert (λ (t : Transaction). Ready (t .next)) precedes woken rel (subst Ready (sym (each .0)) seizes) (h .ready);
-              queued = each .1; no-wel = h .no-wel; no-wsl = h .no-wsl;
+              queued = each .1;
+              no-wel = h .no-wel;
+              no-wsl = h .no-wsl;
               pending = subst (λ o. Pending clock fel (h .next-arrival) o) (x .absent) (h .pending);
               coming = h .coming;
               serving = idle refl refl (omega (arith, h .at-four, x .single)) (x .ends) (x .rest) (omega (arith, x .now)) begins (λ p. omega arith);
@@ -312,11 +433,33 @@ module _ (m : BlockModel) (arrivals services : List ℕ) {clock inUse : ℕ} {re
         → Lined m arrivals services b clock inUse rel fel ql wel wsl times times′ (r ∷ records)
     lined-logged r e h =
         record {
-          arrived = h .arrived; begun = h .begun; over = h .over; ended = h .ended; next-arrival = h .next-arrival; next-service = h .next-service;
-          one = h .one; two = h .two; three = h .three; four = h .four; five = h .five;
-          at-one = h .at-one; at-two = h .at-two; at-three = h .at-three; at-four = h .at-four; at-five = h .at-five;
-          ready = h .ready; queued = h .queued; no-wel = h .no-wel; no-wsl = h .no-wsl; pending = h .pending; coming = h .coming; serving = h .serving;
-          between = h .between; past = h .past; gone = h .gone; leaving = h .leaving;
+          arrived = h .arrived;
+          begun = h .begun;
+          over = h .over;
+          ended = h .ended;
+          next-arrival = h .next-arrival;
+          next-service = h .next-service;
+          one = h .one;
+          two = h .two;
+          three = h .three;
+          four = h .four;
+          five = h .five;
+          at-one = h .at-one;
+          at-two = h .at-two;
+          at-three = h .at-three;
+          at-four = h .at-four;
+          at-five = h .at-five;
+          ready = h .ready;
+          queued = h .queued;
+          no-wel = h .no-wel;
+          no-wsl = h .no-wsl;
+          pending = h .pending;
+          coming = h .coming;
+          serving = h .serving;
+          between = h .between;
+          past = h .past;
+          gone = h .gone;
+          leaving = h .leaving;
           finished = ends-same m r records e ∙ h .finished;
         }
 
@@ -328,11 +471,31 @@ module _ (m : BlockModel) (arrivals services : List ℕ) {clock inUse : ℕ} {re
         let last : r .entry .clock ≡ leaves arrivals services (suc (h .ended)) =
         now ∙ h .leaving (omega (arith, h .at-five)) ∙ ap (leaves arrivals services) (omega (arith, h .gone, h .at-five)) in
         record {
-          arrived = h .arrived; begun = h .begun; over = h .over; ended = suc (h .ended); next-arrival = h .next-arrival; next-service = h .next-service;
-          one = h .one; two = h .two; three = h .three; four = h .four; five = 0;
-          at-one = h .at-one; at-two = h .at-two; at-three = h .at-three; at-four = h .at-four; at-five = refl;
-          ready = h .ready; queued = h .queued; no-wel = h .no-wel; no-wsl = h .no-wsl; pending = h .pending; coming = h .coming; serving = h .serving;
-          between = h .between; past = h .past;
+          arrived = h .arrived;
+          begun = h .begun;
+          over = h .over;
+          ended = suc (h .ended);
+          next-arrival = h .next-arrival;
+          next-service = h .next-service;
+          one = h .one;
+          two = h .two;
+          three = h .three;
+          four = h .four;
+          five = 0;
+          at-one = h .at-one;
+          at-two = h .at-two;
+          at-three = h .at-three;
+          at-four = h .at-four;
+          at-five = refl;
+          ready = h .ready;
+          queued = h .queued;
+          no-wel = h .no-wel;
+          no-wsl = h .no-wsl;
+          pending = h .pending;
+          coming = h .coming;
+          serving = h .serving;
+          between = h .between;
+          past = h .past;
           gone = omega (arith, h .gone, h .at-five);
           leaving = λ p. absurd (omega arith);
           finished = ends-one m r records e ∙ ap (λ l. l ++ (r .entry .clock ∷ [])) (h .finished) ∙ ap (λ n. firsts arrivals services (h .ended) ++ (n ∷ [])) last;

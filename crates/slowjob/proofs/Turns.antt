@@ -277,21 +277,67 @@ module _ (m : BlockModel) (arrivals services : List ℕ) (others : List (List �
   line-start [] e =
       with-server m arrivals services (idle-use (m .facilities) (m .capacities)) (empty-first (m .facilities + length (m .capacities)))
       (record {
-        arrived = 0; begun = 0; over = 0; ended = 0; next-arrival = none; next-service = none;
-        one = 0; two = 0; three = 0; four = 0; five = 0; at-one = refl; at-two = refl; at-three = refl; at-four = refl; at-five = refl;
-        ready = tt; queued = tt; no-wel = empty-all ((m .facilities + length (m .capacities)) * 6); no-wsl = refl; pending = neither; coming = Line.nobody refl;
+        arrived = 0;
+        begun = 0;
+        over = 0;
+        ended = 0;
+        next-arrival = none;
+        next-service = none;
+        one = 0;
+        two = 0;
+        three = 0;
+        four = 0;
+        five = 0;
+        at-one = refl;
+        at-two = refl;
+        at-three = refl;
+        at-four = refl;
+        at-five = refl;
+        ready = tt;
+        queued = tt;
+        no-wel = empty-all ((m .facilities + length (m .capacities)) * 6);
+        no-wsl = refl;
+        pending = neither;
+        coming = Line.nobody refl;
         serving = Line.idle refl refl refl refl refl (omega arith) (λ lt. absurd (omega arith)) (λ p. absurd (omega arith));
-        between = refl; past = omega arith; gone = refl; leaving = λ p. absurd (omega arith); finished = refl;
+        between = refl;
+        past = omega arith;
+        gone = refl;
+        leaving = λ p. absurd (omega arith);
+        finished = refl;
       })
   line-start (time ∷ l) e =
       let d = drop-step arrivals 0 time l (sym e) in
       with-server m arrivals services (idle-use (m .facilities) (m .capacities)) (empty-first (m .facilities + length (m .capacities)))
       (record {
-        arrived = 0; begun = 0; over = 0; ended = 0; next-arrival = some (0 + time); next-service = none;
-        one = 0; two = 0; three = 0; four = 0; five = 0; at-one = refl; at-two = refl; at-three = refl; at-four = refl; at-five = refl;
-        ready = tt; queued = tt; no-wel = empty-all ((m .facilities + length (m .capacities)) * 6); no-wsl = refl; pending = coming _ refl (omega arith); coming = Line.later (0 + time) refl (omega (arith, d .0)) refl;
+        arrived = 0;
+        begun = 0;
+        over = 0;
+        ended = 0;
+        next-arrival = some (0 + time);
+        next-service = none;
+        one = 0;
+        two = 0;
+        three = 0;
+        four = 0;
+        five = 0;
+        at-one = refl;
+        at-two = refl;
+        at-three = refl;
+        at-four = refl;
+        at-five = refl;
+        ready = tt;
+        queued = tt;
+        no-wel = empty-all ((m .facilities + length (m .capacities)) * 6);
+        no-wsl = refl;
+        pending = coming _ refl (omega arith);
+        coming = Line.later (0 + time) refl (omega (arith, d .0)) refl;
         serving = Line.idle refl refl refl refl refl (omega arith) (λ lt. absurd (omega arith)) (λ p. absurd (omega arith));
-        between = refl; past = omega arith; gone = refl; leaving = λ p. absurd (omega arith); finished = refl;
+        between = refl;
+        past = omega arith;
+        gone = refl;
+        leaving = λ p. absurd (omega arith);
+        finished = refl;
       })
 
   sound-start : Sound m arrivals services (start m tape)
@@ -320,7 +366,7 @@ module _ (m : BlockModel) (arrivals services : List ℕ) (others : List (List �
         sound-taking m arrivals services (s .moving) s refl (h .1) in (
           shape-turn m s (h .0),
           sound-ws m arrivals services program _
-          (sound-execute m arrivals services program (taken .moving) taken refl fixed (record { block = sound .block; hand = sound .hand; line = sound .line })),
+              (sound-execute m arrivals services program (taken .moving) taken refl fixed (record { block = sound .block; hand = sound .hand; line = sound .line })),
         )
 
     pub run-sound : (budget room : ℕ) → Sound m arrivals services (run m tape budget room)
