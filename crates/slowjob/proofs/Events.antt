@@ -1,12 +1,12 @@
 -- The FEL of the program: at most the one who comes next, before GENERATE, and the one who is served, before RELEASE; and what a clock
 -- move takes from it.
-use Prim.Native.Nat.{ℕ, zero, suc, _+_, _≤_}
+use Prim.Native.Nat.{ℕ, _+_, _*_, _≤_}
 use mathlib.Core.Path.{_≡_, refl, sym, ap, subst}
 use mathlib.Core.Bool.{Bool, true, false, cond, not, _&&_, _||_, true≢false}
 use mathlib.Core.List.{List, [], _∷_}
 use mathlib.Core.Option.{Option, none, some}
 use native.Mathlib.Omega.{arith}
-use borrow.Author.Tests.{ltb-true, ltb-false, eqb-true, eqb-false, eq-eqb}
+use borrow.Author.Tests.{ltb-true, ltb-false, eqb-true, eq-eqb}
 use lib.Dec.{ltb, eqb}
 use Rattle.machine.specs.Transaction.{Transaction, Event, precedes, earlier}
 use Rattle.machine.specs.Lists.{insert, those, others, bit}
@@ -98,9 +98,7 @@ pub record Moved (low time : ℕ) (now later : List Event) (o p : Option ℕ) : 
   pub coming : Step time o o′ one
   pub serving : Step time p p′ four
   pub rest : Pending time later o′ p′
-  pub at-one : sumOn (λ e. at 1 (e .who)) now ≡ one
-  pub at-two : sumOn (λ e. at 2 (e .who)) now ≡ 0
-  pub at-four : sumOn (λ e. at 4 (e .who)) now ≡ four
+  pub counts : (k : ℕ) → sumOn (λ e. at k (e .who)) now ≡ one * bit (eqb 1 k) + four * bit (eqb 4 k)
   pub ready : Each (λ (e : Event). Ready (e .who .next)) now
 
 pub moved : {low : ℕ} {e : Event} {l : List Event} {o p : Option ℕ} → Pending low (e ∷ l) o p
@@ -117,9 +115,7 @@ moved (coming e n le) =
       coming = falls-due (e .time) refl;
       serving = absent;
       rest = neither;
-      at-one = omega (arith, ap (λ k. bit (eqb k 1)) n);
-      at-two = omega (arith, ap (λ k. bit (eqb k 2)) n);
-      at-four = omega (arith, ap (λ k. bit (eqb k 4)) n);
+      counts = λ j. omega (arith, ap (λ i. bit (eqb i j)) n);
       ready = (subst Ready (sym n) generates, tt);
     })
 moved (served e n le) =
@@ -133,9 +129,7 @@ moved (served e n le) =
       coming = absent;
       serving = falls-due (e .time) refl;
       rest = neither;
-      at-one = omega (arith, ap (λ k. bit (eqb k 1)) n);
-      at-two = omega (arith, ap (λ k. bit (eqb k 2)) n);
-      at-four = omega (arith, ap (λ k. bit (eqb k 4)) n);
+      counts = λ j. omega (arith, ap (λ i. bit (eqb i j)) n);
       ready = (subst Ready (sym n) releases, tt);
     })
 moved {low} (coming-first e f n k le ef) = rw (eq-eqb (e .time) (e .time) refl) (go (eqb (f .time) (e .time)) refl)
@@ -152,9 +146,7 @@ moved {low} (coming-first e f n k le ef) = rw (eq-eqb (e .time) (e .time) refl) 
           coming = falls-due (e .time) refl;
           serving = falls-due (f .time) (eqb-true _ _ b);
           rest = neither;
-          at-one = omega (arith, ap (λ k. bit (eqb k 1)) n, ap (λ k. bit (eqb k 1)) k);
-          at-two = omega (arith, ap (λ k. bit (eqb k 2)) n, ap (λ k. bit (eqb k 2)) k);
-          at-four = omega (arith, ap (λ k. bit (eqb k 4)) n, ap (λ k. bit (eqb k 4)) k);
+          counts = λ j. omega (arith, ap (λ i. bit (eqb i j)) n, ap (λ i. bit (eqb i j)) k);
           ready = (subst Ready (sym n) generates, (subst Ready (sym k) releases, tt));
         }
     go false b =
@@ -167,9 +159,7 @@ moved {low} (coming-first e f n k le ef) = rw (eq-eqb (e .time) (e .time) refl) 
           coming = falls-due (e .time) refl;
           serving = stays (f .time);
           rest = served f k ef;
-          at-one = omega (arith, ap (λ k. bit (eqb k 1)) n);
-          at-two = omega (arith, ap (λ k. bit (eqb k 2)) n);
-          at-four = omega (arith, ap (λ k. bit (eqb k 4)) n);
+          counts = λ j. omega (arith, ap (λ i. bit (eqb i j)) n);
           ready = (subst Ready (sym n) generates, tt);
         }
 moved {low} (served-first e f n k le ef) = rw (eq-eqb (e .time) (e .time) refl) (go (eqb (f .time) (e .time)) refl)
@@ -186,9 +176,7 @@ moved {low} (served-first e f n k le ef) = rw (eq-eqb (e .time) (e .time) refl) 
           coming = falls-due (f .time) (eqb-true _ _ b);
           serving = falls-due (e .time) refl;
           rest = neither;
-          at-one = omega (arith, ap (λ k. bit (eqb k 1)) n, ap (λ k. bit (eqb k 1)) k);
-          at-two = omega (arith, ap (λ k. bit (eqb k 2)) n, ap (λ k. bit (eqb k 2)) k);
-          at-four = omega (arith, ap (λ k. bit (eqb k 4)) n, ap (λ k. bit (eqb k 4)) k);
+          counts = λ j. omega (arith, ap (λ i. bit (eqb i j)) n, ap (λ i. bit (eqb i j)) k);
           ready = (subst Ready (sym n) releases, (subst Ready (sym k) generates, tt));
         }
     go false b =
@@ -201,9 +189,7 @@ moved {low} (served-first e f n k le ef) = rw (eq-eqb (e .time) (e .time) refl) 
           coming = stays (f .time);
           serving = falls-due (e .time) refl;
           rest = coming f k ef;
-          at-one = omega (arith, ap (λ k. bit (eqb k 1)) n);
-          at-two = omega (arith, ap (λ k. bit (eqb k 2)) n);
-          at-four = omega (arith, ap (λ k. bit (eqb k 4)) n);
+          counts = λ j. omega (arith, ap (λ i. bit (eqb i j)) n);
           ready = (subst Ready (sym n) releases, tt);
         }
 

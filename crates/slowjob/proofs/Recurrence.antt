@@ -1,13 +1,13 @@
 -- One service time raised by d: of the recurrence, each end is no earlier and at most d later.
-use Prim.Native.Nat.{ℕ, zero, suc, _+_, _≤_, _<_, max}
+use Prim.Native.Nat.{ℕ, zero, suc, _≤_}
 use mathlib.Core.Path.{_≡_, refl, ap}
 use mathlib.Core.Bool.{Bool, true, false}
 use mathlib.Core.List.{List, [], _∷_}
 use native.Mathlib.Omega.{arith}
 use borrow.Author.Tests.{eqb-true, eqb-false}
 use lib.Dec.{eqb}
-use lib.ListN.{getD, set}
-use Rattle.slowjob.specs.SlowJob.{raised, comes, leaves, Late}
+use lib.ListN.{getD}
+use Rattle.slowjob.specs.SlowJob.{raised, leaves, Late}
 
 -- a time before the raised one, the raised one, one behind it
 raised-other : (l : List ℕ) (i d k : ℕ) → (k ≡ i → ⊥) → getD (raised i d l) k 0 ≡ getD l k 0

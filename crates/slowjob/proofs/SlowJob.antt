@@ -1,26 +1,23 @@
 -- Document 02, item 14: the k-th end of every run is that of the recurrence, so that one slow job delays no end by more than its own delay.
 use Prim.Native.Nat.{ℕ, zero, suc, _+_, _≤_, _<_}
-use mathlib.Core.Path.{_≡_, refl, sym, ap, subst, _∙_}
+use mathlib.Core.Path.{_≡_, refl, ap, subst, _∙_}
 use mathlib.Core.Bool.{Bool, true, false}
-use mathlib.Core.List.{List, [], _∷_, _++_}
+use mathlib.Core.List.{List, [], _∷_}
 use native.Mathlib.Omega.{arith}
 use borrow.Author.Tests.{ltb-true, ltb-false}
 use lib.Dec.{ltb}
 use lib.ListN.{length, getD, length-append, List·getD-append}
 use lib.Seq.{getD-append-seam}
-use Rattle.machine.specs.Block.{BlockModel, blockAt}
-use Rattle.machine.specs.Rules.{Rules}
-use Rattle.machine.specs.Trace.{Record, traceBytes}
-use Rattle.machine.specs.State.{State}
+use Rattle.machine.specs.Block.{terminate, BlockModel}
+use Rattle.machine.specs.Lists.{nth}
 use Rattle.machine.specs.Run.{run}
-use Rattle.machine.specs.Validate.{Validation, accept, validate}
 use Rattle.machine.specs.Outcome.{recordsOf, acceptedRun, outcomeOf, outcome}
-use Rattle.machine.proofs.Proper.{Proper}
+use Rattle.machine.proofs.Proper.{Proper, ProperBlock}
 use Rattle.machine.proofs.ProperFrom.{proper-from}
-use Rattle.slowjob.specs.SlowJob.{jobs, raised, ends, Late, Delayed, SlowJob, Traces, SlowJobBytes, leaves, EachEnd}
+use Rattle.slowjob.specs.SlowJob.{jobs, raised, ends, SlowJob, SlowJobBytes, leaves, EachEnd}
 use Rattle.slowjob.proofs.Recurrence.{leaves-late}
 use Rattle.slowjob.proofs.Line.{firsts}
-use Rattle.slowjob.proofs.Turns.{Sound, run-sound}
+use Rattle.slowjob.proofs.Turns.{run-sound}
 
 -- ---- The first ends
 
@@ -51,7 +48,7 @@ run-ends : (m : BlockModel) → m .blocks ≡ jobs → 1 ≤ m .facilities → (
 unfolding recordsOf
 run-ends m program facility arrivals services others lists budget room =
     let h = run-sound m arrivals services others program facility lists budget room .line in
-    (h .ended, h .finished)
+    (h .gone .ended, h .gone .finished)
 
 pub each-end : EachEnd
 each-end m program facility arrivals services others lists budget room k lt =
@@ -69,12 +66,9 @@ slow-job m program facility arrivals services others lists i d budget room budge
 
 -- ---- From bytes
 
--- an accepted model with these blocks has a facility, and its tape a list for each of its lists
-accepted-facility : {m : BlockModel} {tape : List (List ℕ)} → m .blocks ≡ jobs → Proper m tape → 1 ≤ m .facilities
-accepted-facility {m} program proper = subst (λ l. OneFacility l) program (proper .block 2) .1
-  where
-    OneFacility : List Rattle.machine.specs.Block.Block → Type 0
-    OneFacility l = Rattle.machine.proofs.Proper.ProperBlock m (Rattle.machine.specs.Lists.nth l 2 (Rattle.machine.specs.Block.terminate 0))
+-- an accepted model with these blocks has a facility
+accepted-facility : (m : BlockModel) (tape : List (List ℕ)) → m .blocks ≡ jobs → Proper m tape → 1 ≤ m .facilities
+accepted-facility m tape program proper = subst (λ l. ProperBlock m (nth l 2 (terminate 0))) program (proper .block 2) .1
 
 pub slow-job-bytes : SlowJobBytes
 unfolding outcome outcomeOf acceptedRun
@@ -85,5 +79,5 @@ slow-job-bytes rules model tape tape′ work report work′ report′ m arrivals
       bytes = ap (λ v. outcomeOf budget room v .trace) ok;
       records′ = recordsOf (run m (arrivals ∷ raised i d services ∷ others) budget′ room′);
       bytes′ = ap (λ v. outcomeOf budget′ room′ v .trace) ok′;
-      delayed = slow-job m program (accepted-facility program proper) arrivals services others (omega (arith, proper .tapes)) i d budget room budget′ room′;
+      delayed = slow-job m program (accepted-facility m _ program proper) arrivals services others (omega (arith, proper .tapes)) i d budget room budget′ room′;
     }

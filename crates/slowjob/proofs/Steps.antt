@@ -1,11 +1,11 @@
 -- What each block of the program does to the line.
-use Prim.Native.Nat.{ℕ, zero, suc, _+_, _-_, _≤_, _<_, max}
+use Prim.Native.Nat.{ℕ, zero, suc, _+_, _≤_, _<_, max}
 use mathlib.Core.Path.{_≡_, refl, sym, ap, subst, _∙_}
 use mathlib.Core.Bool.{Bool, true, false, cond}
 use mathlib.Core.List.{List, [], _∷_, _++_, map, reverse, reverse-cons, append-nil}
 use mathlib.Core.Option.{Option, none, some}
 use native.Mathlib.Omega.{arith}
-use borrow.Author.Tests.{ltb-true, ltb-false, eq-eqb, ne-eqb}
+use borrow.Author.Tests.{ltb-true, ltb-false}
 use lib.Dec.{eqb, ltb}
 use lib.ListN.{length, getD, take, drop}
 use Rattle.machine.specs.Transaction.{Transaction, Event, precedes, earlier}
@@ -19,8 +19,8 @@ use Rattle.machine.specs.Claims.{Each}
 use Rattle.machine.proofs.Sorted.{each-insert}
 use Rattle.machine.proofs.Sums.{sumOn, sum-insert, sum-length}
 use Rattle.slowjob.specs.SlowJob.{ends, comes, leaves}
-use Rattle.slowjob.proofs.Events.{at, Ready, seizes, AllReady, Pending, insert-coming, insert-served}
-use Rattle.slowjob.proofs.Line.{Seeking, firsts, Coming, nobody, later, here-now, Serving, idle, seized, busy, done, Lined}
+use Rattle.slowjob.proofs.Events.{at, Ready, seizes, Pending, insert-coming, insert-served}
+use Rattle.slowjob.proofs.Line.{Seeking, firsts, Coming, nobody, later, here-now, Serving, idle, seized, busy, done, before, Gone, Lined}
 
 -- ---- Times used up in order
 
@@ -69,11 +69,11 @@ module _ (m : BlockModel) where
 
 -- ---- Clocks of the recurrence
 
-came-mono : (arrivals : List ℕ) (j k : ℕ) → j ≤ k → comes arrivals j ≤ comes arrivals k
+comes-mono : (arrivals : List ℕ) (j k : ℕ) → j ≤ k → comes arrivals j ≤ comes arrivals k
 unfolding comes
-came-mono arrivals zero zero le = omega arith
-came-mono arrivals (suc j) zero le = absurd (omega arith)
-came-mono arrivals j (suc k) le = go (ltb k j) refl (came-mono arrivals j k)
+comes-mono arrivals zero zero le = omega arith
+comes-mono arrivals (suc j) zero le = absurd (omega arith)
+comes-mono arrivals j (suc k) le = go (ltb k j) refl (comes-mono arrivals j k)
   where
     go : (b : Bool) → ltb k j ≡ b → (j ≤ k → comes arrivals j ≤ comes arrivals k) → comes arrivals j ≤ comes arrivals (suc k)
     go true e h = let same : j ≡ suc k = omega (arith, ltb-true k j e) in omega (arith, ap (comes arrivals) same)
@@ -89,76 +89,74 @@ module _ (arrivals services : List ℕ) where
     now : clock ≡ comes arrivals (suc arrived)
     rest : times ≡ drop (suc arrived) arrivals
 
-  here : {clock arrived one : ℕ} {times : List ℕ} {o : Option ℕ} → 0 < one → Coming arrivals services clock arrived one times o → Here clock arrived one times o
-  here p (nobody z) = absurd (omega arith)
-  here p (later t z is l) = absurd (omega arith)
-  here p (here-now one now l) = record { absent = refl; single = one; now = now; rest = l }
-
-  -- one more has come
-  serving-come : {clock arrived begun over two three four queued inUse : ℕ} {times′ : List ℕ} {o : Option ℕ} → clock ≡ comes arrivals (suc arrived) → arrived ≡ begun + queued + two
-      → Serving arrivals services clock arrived begun over two three four queued inUse times′ o
-      → Serving arrivals services clock (suc arrived) begun over (suc two) three four queued inUse times′ o
-  serving-come {clock} {arrived} {begun} now between (idle u e3 e4 all l since next woken) =
-      idle u e3 e4 all l since (λ lt. go (ltb begun arrived) refl lt) (λ p. omega arith)
-    where
-      go : (b : Bool) → ltb begun arrived ≡ b → begun < suc arrived → clock ≡ max (comes arrivals (suc begun)) (leaves arrivals services begun)
-      go true e lt = next (ltb-true _ _ e)
-      go false e lt =
-          let same : begun ≡ arrived = omega (arith, ltb-false begun arrived e) in
-          omega (arith, ap (λ n. comes arrivals (suc n)) same)
-  serving-come now between (seized u e3 e4 one l start) = seized u e3 e4 one l start
-  serving-come now between (busy t u e3 e4 one l is) = busy t u e3 e4 one l is
-  serving-come now between (done u e3 e4 one l over) = done u e3 e4 one l over
-
-  -- SEIZE of the idle facility, and of the facility in use
-  serving-seized : {clock arrived begun over two three four queued inUse : ℕ} {times′ : List ℕ} {o : Option ℕ} → inUse ≡ 0 → begun < arrived
-      → Serving arrivals services clock arrived begun over two three four queued inUse times′ o
-      → (n : ℕ) → Serving arrivals services clock arrived (suc begun) over n 1 four queued 1 times′ o
-  serving-seized {begun} free some-came (idle u e3 e4 all l since next woken) n =
-      seized refl refl e4 (ap suc all) (l ∙ ap (λ k. drop k services) all) (next some-came ∙ ap (λ k. max (comes arrivals (suc begun)) (leaves arrivals services k)) all)
-  serving-seized free some-came (seized u e3 e4 one l start) n = absurd (omega arith)
-  serving-seized free some-came (busy t u e3 e4 one l is) n = absurd (omega arith)
-  serving-seized free some-came (done u e3 e4 one l over) n = absurd (omega arith)
-
-  serving-queued : {clock arrived begun over two three four queued inUse : ℕ} {times′ : List ℕ} {o : Option ℕ} → (inUse ≡ 0 → ⊥)
-      → Serving arrivals services clock arrived begun over two three four queued inUse times′ o
-      → (n k : ℕ) → Serving arrivals services clock arrived begun over n three four k inUse times′ o
-  serving-queued taken (idle u e3 e4 all l since next woken) n k = absurd (taken u)
-  serving-queued taken (seized u e3 e4 one l start) n k = seized u e3 e4 one l start
-  serving-queued taken (busy t u e3 e4 one l is) n k = busy t u e3 e4 one l is
-  serving-queued taken (done u e3 e4 one l over) n k = done u e3 e4 one l over
-
-  -- one who stands before RELEASE was served to this clock
-  record Over (clock begun over three four : ℕ) (times′ : List ℕ) (o : Option ℕ) : Type 0 where
-    absent : o ≡ none
-    single : four ≡ 1
-    nobody-in : three ≡ 0
-    ends : begun ≡ suc over
-    rest : times′ ≡ drop begun services
-    now : clock ≡ leaves arrivals services begun
-
-  is-over : {clock arrived begun over two three four queued inUse : ℕ} {times′ : List ℕ} {o : Option ℕ} → 0 < four
-      → Serving arrivals services clock arrived begun over two three four queued inUse times′ o → Over clock begun over three four times′ o
-  is-over p (idle u e3 e4 all l since next woken) = absurd (omega arith)
-  is-over p (seized u e3 e4 one l start) = absurd (omega arith)
-  is-over p (busy t u e3 e4 one l is) = absurd (omega arith)
-  is-over p (done u e3 e4 one l now) = record { absent = refl; single = e4; nobody-in = e3; ends = one; rest = l; now = now }
+  is-here : {clock arrived one : ℕ} {times : List ℕ} {o : Option ℕ} → 0 < one → Coming arrivals services clock arrived one times o → Here clock arrived one times o
+  is-here p (nobody z) = absurd (omega arith)
+  is-here p (later t z is l) = absurd (omega arith)
+  is-here p (here-now one now l) = record { absent = refl; single = one; now = now; rest = l }
 
   -- one who stands before ADVANCE has seized the facility at this clock
-  record Seized (clock inUse begun over four : ℕ) (times′ : List ℕ) (o : Option ℕ) : Type 0 where
+  record Seized (clock inUse begun over four : ℕ) (times : List ℕ) (o : Option ℕ) : Type 0 where
     absent : o ≡ none
     taken : inUse ≡ 1
     nobody-out : four ≡ 0
     begins : begun ≡ suc over
-    rest : times′ ≡ drop over services
+    rest : times ≡ drop over services
     now : clock ≡ max (comes arrivals begun) (leaves arrivals services over)
 
-  is-seized : {clock arrived begun over two three four queued inUse : ℕ} {times′ : List ℕ} {o : Option ℕ} → 0 < three
-      → Serving arrivals services clock arrived begun over two three four queued inUse times′ o → Seized clock inUse begun over four times′ o
-  is-seized p (idle u e3 e4 all l since next woken) = absurd (omega arith)
-  is-seized p (seized u e3 e4 one l start) = record { absent = refl; taken = u; nobody-out = e4; begins = one; rest = l; now = start }
-  is-seized p (busy t u e3 e4 one l is) = absurd (omega arith)
-  is-seized p (done u e3 e4 one l over) = absurd (omega arith)
+  -- one who stands before RELEASE was served up to this clock
+  record Served (clock begun over three four : ℕ) (times : List ℕ) (o : Option ℕ) : Type 0 where
+    absent : o ≡ none
+    single : four ≡ 1
+    nobody-in : three ≡ 0
+    ends : begun ≡ suc over
+    rest : times ≡ drop begun services
+    now : clock ≡ leaves arrivals services begun
+
+  module _ {clock arrived begun over two three four queued inUse : ℕ} {times : List ℕ} where
+    is-seized : {o : Option ℕ} → 0 < three → Serving arrivals services clock arrived begun over two three four queued inUse times o → Seized clock inUse begun over four times o
+    is-seized p (idle u e3 e4 all l since next woken) = absurd (omega arith)
+    is-seized p (seized u e3 e4 one l now) = record { absent = refl; taken = u; nobody-out = e4; begins = one; rest = l; now = now }
+    is-seized p (busy t u e3 e4 one l is) = absurd (omega arith)
+    is-seized p (done u e3 e4 one l now) = absurd (omega arith)
+
+    is-served : {o : Option ℕ} → 0 < four → Serving arrivals services clock arrived begun over two three four queued inUse times o → Served clock begun over three four times o
+    is-served p (idle u e3 e4 all l since next woken) = absurd (omega arith)
+    is-served p (seized u e3 e4 one l now) = absurd (omega arith)
+    is-served p (busy t u e3 e4 one l is) = absurd (omega arith)
+    is-served p (done u e3 e4 one l now) = record { absent = refl; single = e4; nobody-in = e3; ends = one; rest = l; now = now }
+
+    -- one more has come, and stands before SEIZE
+    serving-come : {two′ : ℕ} {o : Option ℕ} → 0 < two′ → clock ≡ comes arrivals (suc arrived) → arrived ≡ begun + queued + two
+        → Serving arrivals services clock arrived begun over two three four queued inUse times o
+        → Serving arrivals services clock (suc arrived) begun over two′ three four queued inUse times o
+    serving-come some-two now between (idle u e3 e4 all l since next woken) =
+        idle u e3 e4 all l since (λ lt. go (ltb begun arrived) refl lt) (λ p. some-two)
+      where
+        go : (b : Bool) → ltb begun arrived ≡ b → begun < suc arrived → clock ≡ max (comes arrivals (suc begun)) (leaves arrivals services begun)
+        go true e lt = next (ltb-true _ _ e)
+        go false e lt =
+            let same : begun ≡ arrived = omega (arith, ltb-false begun arrived e) in
+            omega (arith, ap (λ n. comes arrivals (suc n)) same)
+    serving-come some-two now between (seized u e3 e4 one l then) = seized u e3 e4 one l then
+    serving-come some-two now between (busy t u e3 e4 one l is) = busy t u e3 e4 one l is
+    serving-come some-two now between (done u e3 e4 one l then) = done u e3 e4 one l then
+
+    -- SEIZE of the idle facility, and of the facility in use
+    serving-seized : {two′ : ℕ} {o : Option ℕ} → inUse ≡ 0 → begun < arrived → Serving arrivals services clock arrived begun over two three four queued inUse times o
+        → Serving arrivals services clock arrived (suc begun) over two′ 1 four queued 1 times o
+    serving-seized free some-came (idle u e3 e4 all l since next woken) =
+        seized refl refl e4 (ap suc all) (l ∙ ap (λ k. drop k services) all)
+        (next some-came ∙ ap (λ k. max (comes arrivals (suc begun)) (leaves arrivals services k)) all)
+    serving-seized free some-came (seized u e3 e4 one l now) = absurd (omega arith)
+    serving-seized free some-came (busy t u e3 e4 one l is) = absurd (omega arith)
+    serving-seized free some-came (done u e3 e4 one l now) = absurd (omega arith)
+
+    serving-queued : {two′ queued′ : ℕ} {o : Option ℕ} → (inUse ≡ 0 → ⊥) → Serving arrivals services clock arrived begun over two three four queued inUse times o
+        → Serving arrivals services clock arrived begun over two′ three four queued′ inUse times o
+    serving-queued taken (idle u e3 e4 all l since next woken) = absurd (taken u)
+    serving-queued taken (seized u e3 e4 one l now) = seized u e3 e4 one l now
+    serving-queued taken (busy t u e3 e4 one l is) = busy t u e3 e4 one l is
+    serving-queued taken (done u e3 e4 one l now) = done u e3 e4 one l now
 
 -- ---- The blocks
 
@@ -168,36 +166,20 @@ module _ (m : BlockModel) (arrivals services : List ℕ) {clock inUse : ℕ} {re
   pub lined-spent : {times times′ : List ℕ} → Lined m arrivals services 1 clock inUse rel fel ql wel wsl times times′ records
       → Lined m arrivals services 2 clock inUse rel fel ql wel wsl times times′ records
   lined-spent h =
-      let x = here arrivals services (omega (arith, h .at-one)) (h .coming) in
+      let x = is-here arrivals services (omega arith) (h .coming) in
       record {
         arrived = suc (h .arrived);
         begun = h .begun;
         over = h .over;
-        ended = h .ended;
         next-arrival = none;
         next-service = h .next-service;
-        one = 0;
-        two = suc (h .two);
-        three = h .three;
-        four = h .four;
-        five = h .five;
-        at-one = omega (arith, h .at-one, x .single);
-        at-two = omega (arith, h .at-two);
-        at-three = h .at-three;
-        at-four = h .at-four;
-        at-five = h .at-five;
-        ready = h .ready;
-        queued = h .queued;
-        no-wel = h .no-wel;
-        no-wsl = h .no-wsl;
+        lists = h .lists;
         pending = subst (λ o. Pending clock fel o (h .next-service)) (x .absent) (h .pending);
-        coming = nobody refl;
-        serving = serving-come arrivals services (x .now) (h .between) (h .serving);
+        coming = nobody (omega (arith, x .single));
+        serving = serving-come arrivals services (omega arith) (x .now) (h .between) (h .serving);
         between = omega (arith, h .between);
         past = omega (arith, x .now);
         gone = h .gone;
-        leaving = h .leaving;
-        finished = h .finished;
       }
 
   -- GENERATE, and the next one is made
@@ -206,37 +188,22 @@ module _ (m : BlockModel) (arrivals services : List ℕ) {clock inUse : ℕ} {re
       → Lined m arrivals services 2 clock inUse rel (insert earlier (record { time = clock + time; who = who }) fel) ql wel wsl times times′ records
   unfolding comes
   lined-generated time times who n h =
-      let x = here arrivals services (omega (arith, h .at-one)) (h .coming) in
+      let x = is-here arrivals services (omega arith) (h .coming) in
       let d = drop-step arrivals (suc (h .arrived)) time times (x .rest) in
       record {
         arrived = suc (h .arrived);
         begun = h .begun;
         over = h .over;
-        ended = h .ended;
         next-arrival = some (clock + time);
         next-service = h .next-service;
-        one = 0;
-        two = suc (h .two);
-        three = h .three;
-        four = h .four;
-        five = h .five;
-        at-one = omega (arith, h .at-one, x .single);
-        at-two = omega (arith, h .at-two);
-        at-three = h .at-three;
-        at-four = h .at-four;
-        at-five = h .at-five;
-        ready = h .ready;
-        queued = h .queued;
-        no-wel = h .no-wel;
-        no-wsl = h .no-wsl;
-        pending = insert-coming (subst (λ o. Pending clock fel o (h .next-service)) (x .absent) (h .pending)) (record { time = clock + time; who = who }) n (omega arith);
-        coming = later (clock + time) refl (omega (arith, x .now, d .0)) (d .1);
-        serving = serving-come arrivals services (x .now) (h .between) (h .serving);
+        lists = h .lists;
+        pending =
+            insert-coming (subst (λ o. Pending clock fel o (h .next-service)) (x .absent) (h .pending)) (record { time = clock + time; who = who }) n (omega arith);
+        coming = later (clock + time) (omega (arith, x .single)) (omega (arith, x .now, d .0)) (d .1);
+        serving = serving-come arrivals services (omega arith) (x .now) (h .between) (h .serving);
         between = omega (arith, h .between);
         past = omega (arith, x .now);
         gone = h .gone;
-        leaving = h .leaving;
-        finished = h .finished;
       }
 
   -- ADVANCE
@@ -245,41 +212,28 @@ module _ (m : BlockModel) (arrivals services : List ℕ) {clock inUse : ℕ} {re
       → Lined m arrivals services 0 clock inUse rel (insert earlier (record { time = clock + time; who = who }) fel) ql wel wsl times times′ records
   unfolding leaves
   lined-advanced time times′ who n h =
-      let x = is-seized arrivals services (omega (arith, h .at-three)) (h .serving) in
+      let x = is-seized arrivals services (omega arith) (h .serving) in
       let d = drop-step services (h .over) time times′ (x .rest) in
       record {
         arrived = h .arrived;
         begun = h .begun;
         over = h .over;
-        ended = h .ended;
         next-arrival = h .next-arrival;
         next-service = some (clock + time);
-        one = h .one;
-        two = h .two;
-        three = 0;
-        four = h .four;
-        five = h .five;
-        at-one = h .at-one;
-        at-two = h .at-two;
-        at-three = refl;
-        at-four = h .at-four;
-        at-five = h .at-five;
-        ready = h .ready;
-        queued = h .queued;
-        no-wel = h .no-wel;
-        no-wsl = h .no-wsl;
-        pending = insert-served (subst (λ o. Pending clock fel (h .next-arrival) o) (x .absent) (h .pending)) (record { time = clock + time; who = who }) n (omega arith);
+        lists = h .lists;
+        pending =
+            insert-served (subst (λ o. Pending clock fel (h .next-arrival) o) (x .absent) (h .pending)) (record { time = clock + time; who = who }) n (omega arith);
         coming = h .coming;
-        serving = busy (clock + time) (x .taken) refl (x .nobody-out) (x .begins) (d .1 ∙ ap (λ k. drop k services) (sym (x .begins)))
+        serving =
+            busy (clock + time) (x .taken) refl (x .nobody-out) (x .begins) (d .1 ∙ ap (λ k. drop k services) (sym (x .begins)))
             (omega (arith, x .now, d .0, ap (leaves arrivals services) (x .begins), ap (comes arrivals) (x .begins)));
         between = h .between;
         past = h .past;
         gone = h .gone;
-        leaving = h .leaving;
-        finished = h .finished;
       }
 
   module _ {times times′ : List ℕ} where
+    -- SEIZE of the idle facility
     pub lined-seized : inUse ≡ 0 → Lined m arrivals services 2 clock inUse rel fel ql wel wsl times times′ records
         → Lined m arrivals services 3 clock 1 rel fel ql wel wsl times times′ records
     lined-seized free h =
@@ -287,33 +241,18 @@ module _ (m : BlockModel) (arrivals services : List ℕ) {clock inUse : ℕ} {re
           arrived = h .arrived;
           begun = suc (h .begun);
           over = h .over;
-          ended = h .ended;
           next-arrival = h .next-arrival;
           next-service = h .next-service;
-          one = h .one;
-          two = sumOn (at 2) rel + 0;
-          three = 1;
-          four = h .four;
-          five = h .five;
-          at-one = h .at-one;
-          at-two = refl;
-          at-three = refl;
-          at-four = h .at-four;
-          at-five = h .at-five;
-          ready = h .ready;
-          queued = h .queued;
-          no-wel = h .no-wel;
-          no-wsl = h .no-wsl;
+          lists = h .lists;
           pending = h .pending;
           coming = h .coming;
-          serving = serving-seized arrivals services free (omega (arith, h .between, h .at-two)) (h .serving) (sumOn (at 2) rel + 0);
-          between = omega (arith, h .between, h .at-two);
+          serving = serving-seized arrivals services free (omega (arith, h .between)) (h .serving);
+          between = omega (arith, h .between);
           past = h .past;
           gone = h .gone;
-          leaving = h .leaving;
-          finished = h .finished;
         }
 
+    -- SEIZE of the facility in use
     pub lined-queued : (who : Transaction) → who .next ≡ 2 → (inUse ≡ 0 → ⊥) → Lined m arrivals services 2 clock inUse rel fel ql wel wsl times times′ records
         → Lined m arrivals services 0 clock inUse rel fel (insert precedes who ql) wel wsl times times′ records
     lined-queued who n taken h =
@@ -323,144 +262,36 @@ module _ (m : BlockModel) (arrivals services : List ℕ) {clock inUse : ℕ} {re
           arrived = h .arrived;
           begun = h .begun;
           over = h .over;
-          ended = h .ended;
           next-arrival = h .next-arrival;
           next-service = h .next-service;
-          one = h .one;
-          two = sumOn (at 2) rel + 0;
-          three = h .three;
-          four = h .four;
-          five = h .five;
-          at-one = h .at-one;
-          at-two = refl;
-          at-three = h .at-three;
-          at-four = h .at-four;
-          at-five = h .at-five;
-          ready = h .ready;
-          queued = each-insert Seeking precedes who ql n (h .queued);
-          no-wel = h .no-wel;
-          no-wsl = h .no-wsl;
+          lists =
+              record { ready = h .lists .ready; queued = each-insert Seeking precedes who ql n (h .lists .queued); no-wel = h .lists .no-wel; no-wsl = h .lists .no-wsl };
           pending = h .pending;
           coming = h .coming;
-          serving = serving-queued arrivals services taken (h .serving) (sumOn (at 2) rel + 0) _;
-          between = omega (arith, h .between, h .at-two);
+          serving = serving-queued arrivals services taken (h .serving);
+          between = omega (arith, h .between);
           past = h .past;
           gone = h .gone;
-          leaving = h .leaving;
-          finished = h .finished;
         }
 
-    -- RELEASE: the service is over, and the first who waits goes to REL
-    pub lined-released : Lined m arrivals services 4 clock inUse rel fel ql wel wsl times times′ records
-        → Lined m arrivals services 5 clock 0 (wake (take 1 ql) rel) fel (drop 1 ql) wel wsl times times′ records
-    unfolding wake
-    lined-released h = go ql (h .queued) (h .between)
-      where
-        x : Over arrivals services clock (h .begun) (h .over) (h .three) (h .four) times′ (h .next-service)
-        x = is-over arrivals services (omega (arith, h .at-four)) (h .serving)
-
-        begins : h .begun < h .arrived → clock ≡ max (comes arrivals (suc (h .begun))) (leaves arrivals services (h .begun))
-        begins lt = omega (arith, x .now, h .past, came-mono arrivals (suc (h .begun)) (h .arrived) lt)
-
-        go : (q : List Transaction) → Each Seeking q → h .arrived ≡ h .begun + length q + h .two
-            → Lined m arrivals services 5 clock 0 (wake (take 1 q) rel) fel (drop 1 q) wel wsl times times′ records
-        go [] each between =
-            record {
-              arrived = h .arrived;
-              begun = h .begun;
-              over = suc (h .over);
-              ended = h .ended;
-              next-arrival = h .next-arrival;
-              next-service = none;
-              one = h .one;
-              two = h .two;
-              three = 0;
-              four = sumOn (at 4) rel + 0;
-              five = 1;
-              at-one = h .at-one;
-              at-two = h .at-two;
-              at-three = refl;
-              at-four = refl;
-              at-five = refl;
-              ready = h .ready;
-              queued = tt;
-              no-wel = h .no-wel;
-              no-wsl = h .no-wsl;
-              pending = subst (λ o. Pending clock fel (h .next-arrival) o) (x .absent) (h .pending);
-              coming = h .coming;
-              serving = idle refl refl (omega (arith, h .at-four, x .single)) (x .ends) (x .rest) (omega (arith, x .now)) begins (λ p. absurd (omega arith));
-              between = between;
-              past = h .past;
-              gone = omega (arith, h .gone, h .at-five);
-              leaving = λ p. x .now ∙ ap (leaves arrivals services) (x .ends);
-              finished = h .finished;
-            }
-        go (t ∷ q) each between =
-            let woken : Transaction = withReturning true t in
-            record {
-              arrived = h .arrived;
-              begun = h .begun;
-              over = suc (h .over);
-              ended = h .ended;
-              next-arrival = h .next-arrival;
-              next-service = none;
-              one = h .one;
-              two = suc (h .two);
-              three = 0;
-              four = sumOn (at 4) rel + 0;
-              five = 1;
-              at-one = omega (arith, h .at-one, sum-insert (at 1) precedes woken rel, ap (λ n. bit (eqb n 1)) (each .0));
-              at-two = omega (arith, h .at-two, sum-insert (at 2) precedes woken rel, ap (λ n. bit (eqb n 2)) (each .0));
-              at-three = refl;
-              at-four = omega (arith, sum-insert (at 4) precedes woken rel, ap (λ n. bit (eqb n 4)) (each .0));
-              at-five = refl;
-              ready = each-insert (λ (t : Transaction). Ready (t .next)) precedes woken rel (subst Ready (sym (each .0)) seizes) (h .ready);
-              queued = each .1;
-              no-wel = h .no-wel;
-              no-wsl = h .no-wsl;
-              pending = subst (λ o. Pending clock fel (h .next-arrival) o) (x .absent) (h .pending);
-              coming = h .coming;
-              serving = idle refl refl (omega (arith, h .at-four, x .single)) (x .ends) (x .rest) (omega (arith, x .now)) begins (λ p. omega arith);
-              between = omega arith;
-              past = h .past;
-              gone = omega (arith, h .gone, h .at-five);
-              leaving = λ p. x .now ∙ ap (leaves arrivals services) (x .ends);
-              finished = h .finished;
-            }
-
     -- a record that is no end
-    pub lined-logged : {b : ℕ} (r : Logged) → facts (blockAt m (r .entry .block)) .terminates ≡ 0 → Lined m arrivals services b clock inUse rel fel ql wel wsl times times′ records
+    pub lined-logged : {b : ℕ} (r : Logged) → facts (blockAt m (r .entry .block)) .terminates ≡ 0
+        → Lined m arrivals services b clock inUse rel fel ql wel wsl times times′ records
         → Lined m arrivals services b clock inUse rel fel ql wel wsl times times′ (r ∷ records)
     lined-logged r e h =
         record {
           arrived = h .arrived;
           begun = h .begun;
           over = h .over;
-          ended = h .ended;
           next-arrival = h .next-arrival;
           next-service = h .next-service;
-          one = h .one;
-          two = h .two;
-          three = h .three;
-          four = h .four;
-          five = h .five;
-          at-one = h .at-one;
-          at-two = h .at-two;
-          at-three = h .at-three;
-          at-four = h .at-four;
-          at-five = h .at-five;
-          ready = h .ready;
-          queued = h .queued;
-          no-wel = h .no-wel;
-          no-wsl = h .no-wsl;
+          lists = h .lists;
           pending = h .pending;
           coming = h .coming;
           serving = h .serving;
           between = h .between;
           past = h .past;
-          gone = h .gone;
-          leaving = h .leaving;
-          finished = ends-same m r records e ∙ h .finished;
+          gone = record { ended = h .gone .ended; count = h .gone .count; now = h .gone .now; finished = ends-same m r records e ∙ h .gone .finished };
         }
 
     -- TERMINATE
@@ -468,35 +299,94 @@ module _ (m : BlockModel) (arrivals services : List ℕ) {clock inUse : ℕ} {re
         → Lined m arrivals services 5 clock inUse rel fel ql wel wsl times times′ records
         → Lined m arrivals services 0 clock inUse rel fel ql wel wsl times times′ (r ∷ records)
     lined-ended r e now h =
-        let last : r .entry .clock ≡ leaves arrivals services (suc (h .ended)) =
-        now ∙ h .leaving (omega (arith, h .at-five)) ∙ ap (leaves arrivals services) (omega (arith, h .gone, h .at-five)) in
+        let last : r .entry .clock ≡ leaves arrivals services (suc (h .gone .ended)) =
+        now ∙ h .gone .now (omega arith) ∙ ap (leaves arrivals services) (omega (arith, h .gone .count)) in
         record {
           arrived = h .arrived;
           begun = h .begun;
           over = h .over;
-          ended = suc (h .ended);
           next-arrival = h .next-arrival;
           next-service = h .next-service;
-          one = h .one;
-          two = h .two;
-          three = h .three;
-          four = h .four;
-          five = 0;
-          at-one = h .at-one;
-          at-two = h .at-two;
-          at-three = h .at-three;
-          at-four = h .at-four;
-          at-five = refl;
-          ready = h .ready;
-          queued = h .queued;
-          no-wel = h .no-wel;
-          no-wsl = h .no-wsl;
+          lists = h .lists;
           pending = h .pending;
           coming = h .coming;
           serving = h .serving;
           between = h .between;
           past = h .past;
-          gone = omega (arith, h .gone, h .at-five);
-          leaving = λ p. absurd (omega arith);
-          finished = ends-one m r records e ∙ ap (λ l. l ++ (r .entry .clock ∷ [])) (h .finished) ∙ ap (λ n. firsts arrivals services (h .ended) ++ (n ∷ [])) last;
+          gone =
+              record {
+                ended = suc (h .gone .ended);
+                count = omega (arith, h .gone .count);
+                now = λ p. absurd (omega arith);
+                finished =
+                    ends-one m r records e ∙ ap (λ l. l ++ (r .entry .clock ∷ [])) (h .gone .finished)
+                    ∙ ap (λ n. firsts arrivals services (h .gone .ended) ++ (n ∷ [])) last;
+              };
         }
+
+    -- RELEASE: the service is over, and the first who waits goes to REL
+    pub lined-released : Lined m arrivals services 4 clock inUse rel fel ql wel wsl times times′ records
+        → Lined m arrivals services 5 clock 0 (wake (take 1 ql) rel) fel (drop 1 ql) wel wsl times times′ records
+    unfolding wake
+    lined-released h = go ql (h .lists .queued) (h .between)
+      where
+        x : Served arrivals services clock (h .begun) (h .over) 0 (before 4 4 rel) times′ (h .next-service)
+        x = is-served arrivals services (omega arith) (h .serving)
+
+        begins : h .begun < h .arrived → clock ≡ max (comes arrivals (suc (h .begun))) (leaves arrivals services (h .begun))
+        begins lt = omega (arith, x .now, h .past, comes-mono arrivals (suc (h .begun)) (h .arrived) lt)
+
+        pending-then : Pending clock fel (h .next-arrival) none
+        pending-then = subst (λ o. Pending clock fel (h .next-arrival) o) (x .absent) (h .pending)
+
+        gone-then : Gone m arrivals services 1 clock (suc (h .over)) records
+        gone-then =
+            record {
+              ended = h .gone .ended;
+              count = omega (arith, h .gone .count);
+              now = λ p. x .now ∙ ap (leaves arrivals services) (x .ends);
+              finished = h .gone .finished;
+            }
+
+        go : (q : List Transaction) → Each Seeking q → h .arrived ≡ h .begun + length q + before 2 4 rel
+            → Lined m arrivals services 5 clock 0 (wake (take 1 q) rel) fel (drop 1 q) wel wsl times times′ records
+        go [] each between =
+            record {
+              arrived = h .arrived;
+              begun = h .begun;
+              over = suc (h .over);
+              next-arrival = h .next-arrival;
+              next-service = none;
+              lists = record { ready = h .lists .ready; queued = tt; no-wel = h .lists .no-wel; no-wsl = h .lists .no-wsl };
+              pending = pending-then;
+              coming = h .coming;
+              serving = idle refl refl (omega (arith, x .single)) (x .ends) (x .rest) (omega (arith, x .now)) begins (λ p. absurd (omega arith));
+              between = between;
+              past = h .past;
+              gone = gone-then;
+            }
+        go (t ∷ q) each between =
+            let woken : Transaction = withReturning true t in
+            let more : (n : ℕ) → sumOn (at n) (insert precedes woken rel) ≡ bit (eqb 2 n) + sumOn (at n) rel =
+            λ n. omega (arith, sum-insert (at n) precedes woken rel, ap (λ k. bit (eqb k n)) (each .0)) in
+            record {
+              arrived = h .arrived;
+              begun = h .begun;
+              over = suc (h .over);
+              next-arrival = h .next-arrival;
+              next-service = none;
+              lists =
+                  record {
+                    ready = each-insert (λ (t : Transaction). Ready (t .next)) precedes woken rel (subst Ready (sym (each .0)) seizes) (h .lists .ready);
+                    queued = each .1;
+                    no-wel = h .lists .no-wel;
+                    no-wsl = h .lists .no-wsl;
+                  };
+              pending = pending-then;
+              coming = subst (λ n. Coming arrivals services clock (h .arrived) n times (h .next-arrival)) (omega (arith, more 1)) (h .coming);
+              serving =
+                  idle refl refl (omega (arith, x .single, more 4)) (x .ends) (x .rest) (omega (arith, x .now)) begins (λ p. omega (arith, more 2));
+              between = omega (arith, more 2);
+              past = h .past;
+              gone = gone-then;
+            }

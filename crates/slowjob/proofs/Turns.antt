@@ -1,22 +1,22 @@
 -- Every turn keeps the line, and so it holds in the last state of every run of the program.
-use Prim.Native.Nat.{ℕ, zero, suc, _+_, _*_, _-_, _≤_, _<_}
+use Prim.Native.Nat.{ℕ, zero, suc, _+_, _*_, _≤_, _<_}
 use mathlib.Core.Path.{_≡_, refl, sym, ap, subst, subst₂, _∙_}
-use mathlib.Core.Bool.{Bool, true, false, not}
+use mathlib.Core.Bool.{not}
 use mathlib.Core.List.{List, [], _∷_, _++_, map}
 use mathlib.Core.Option.{Option, none, some}
 use native.Mathlib.Omega.{arith}
 use borrow.Author.Tests.{leb-true, leb-false}
 use lib.Dec.{leb}
-use lib.ListN.{length, getD, set, drop, replicate}
+use lib.ListN.{length, getD, drop, replicate}
 use lib.Seq.{getD-set-same, getD-set-other}
 use Rattle.machine.specs.Transaction.{Transaction, Event, precedes, newborn}
 use Rattle.machine.specs.Lists.{insert, those, nth}
 use Rattle.machine.specs.Term.{Server, idleServer, serverAt, free}
 use Rattle.machine.specs.Block.{Block, generate, seize, advance, release, terminate, facility, facts, shareServer, shareUnits, shareHolder, BlockModel, blockAt}
 use Rattle.machine.specs.State.{State, Logged}
-use Rattle.machine.specs.Setters.{withSerial, setMoving, setRel, setSerial, setTurns, setEnd}
+use Rattle.machine.specs.Setters.{withSerial, setMoving, setRel, setSerial, setTurns}
 use Rattle.machine.specs.Moves.{recordOf, log, enters, moveTo, fresh, toFel, qlOf, toQl, mustWait, wakeFirstQl, wakeWsl, setUse, timesLeft, arrival}
-use Rattle.machine.specs.Execute.{askAdvance, question, checkWels, wakeFor, endsOne, delay, effect}
+use Rattle.machine.specs.Execute.{askAdvance, question, wakeFor, endsOne, delay, effect}
 use Rattle.machine.specs.Turn.{nextEvents, takeFirst, takeReady, taking, answer, execute, waitsOn, wsScheme, turn}
 use Rattle.machine.specs.Run.{startOf, startAt, idle, start, run}
 use Rattle.machine.specs.Claims.{Each}
@@ -26,7 +26,7 @@ use Rattle.machine.proofs.Kept.{taking-kept}
 use Rattle.machine.proofs.Shape.{Shape, shape-closed, shape-turn, shape-start, ql-at, samples-at, server-length, server-within, facility-capacity}
 use Rattle.slowjob.specs.SlowJob.{jobs, ends, comes, leaves}
 use Rattle.slowjob.proofs.Events.{Ready, generates, seizes, releases, AllReady, neither, coming}
-use Rattle.slowjob.proofs.Line.{used, Nobody, Lined, Line, line-wels, line-wsl, line-taken}
+use Rattle.slowjob.proofs.Line.{used, Nobody, Lists, Serving, Gone, Lined, Line, line-wels, line-wsl, line-taken}
 use Rattle.slowjob.proofs.Line as Line
 use Rattle.slowjob.proofs.ClockMove.{line-next, moving-next}
 use Rattle.slowjob.proofs.Steps.{drop-step, lined-spent, lined-generated, lined-advanced, lined-seized, lined-queued, lined-released, lined-logged, lined-ended}
@@ -232,7 +232,7 @@ module _ (m : BlockModel) (arrivals services : List ℕ) where
   sound-first : (l : List Transaction) (s : State) → s .rel ≡ l → s .moving ≡ none → Line m arrivals services 0 s → Sound (takeFirst l s)
   unfolding takeFirst
   sound-first [] s is idle h = record { block = 0; hand = subst (λ o. Hand o 0) (sym idle) refl; line = h }
-  sound-first (t ∷ l) s is idle h = go (subst AllReady is (h .ready) .0) refl
+  sound-first (t ∷ l) s is idle h = go (subst AllReady is (h .lists .ready) .0) refl
     where
       go : {n : ℕ} → Ready n → t .next ≡ n → Sound (setMoving (some t) (setRel l s))
       go generates e = record { block = 1; hand = (before-generate, e); line = line-taken m arrivals services t l s is 1 e refl refl h }
@@ -272,6 +272,19 @@ module _ (m : BlockModel) (arrivals services : List ℕ) (others : List (List �
   abbrev tape : List (List ℕ)
   tape = arrivals ∷ services ∷ others
 
+  nobody-yet : Lists [] [] (idle m tape .wel) []
+  unfolding idle
+  nobody-yet = record { ready = tt; queued = tt; no-wel = empty-all ((m .facilities + length (m .capacities)) * 6); no-wsl = refl }
+
+  none-yet : Gone m arrivals services 0 0 0 []
+  unfolding ends those
+  none-yet = record { ended = 0; count = refl; now = λ p. absurd (omega arith); finished = refl }
+
+  waits : Serving arrivals services 0 0 0 0 0 0 0 0 0 services none
+  unfolding leaves
+  waits = Line.idle refl refl refl refl refl (omega arith) (λ lt. absurd (omega arith)) (λ p. absurd (omega arith))
+
+  -- the facility waits for the first to come
   line-start : (l : List ℕ) → arrivals ≡ l → Line m arrivals services 0 (arrival l 1 0 1 (idle m tape))
   unfolding arrival toFel newborn idle comes leaves ends those insert
   line-start [] e =
@@ -280,64 +293,31 @@ module _ (m : BlockModel) (arrivals services : List ℕ) (others : List (List �
         arrived = 0;
         begun = 0;
         over = 0;
-        ended = 0;
         next-arrival = none;
         next-service = none;
-        one = 0;
-        two = 0;
-        three = 0;
-        four = 0;
-        five = 0;
-        at-one = refl;
-        at-two = refl;
-        at-three = refl;
-        at-four = refl;
-        at-five = refl;
-        ready = tt;
-        queued = tt;
-        no-wel = empty-all ((m .facilities + length (m .capacities)) * 6);
-        no-wsl = refl;
+        lists = nobody-yet;
         pending = neither;
         coming = Line.nobody refl;
-        serving = Line.idle refl refl refl refl refl (omega arith) (λ lt. absurd (omega arith)) (λ p. absurd (omega arith));
+        serving = waits;
         between = refl;
         past = omega arith;
-        gone = refl;
-        leaving = λ p. absurd (omega arith);
-        finished = refl;
+        gone = none-yet;
       })
   line-start (time ∷ l) e =
-      let d = drop-step arrivals 0 time l (sym e) in
       with-server m arrivals services (idle-use (m .facilities) (m .capacities)) (empty-first (m .facilities + length (m .capacities)))
       (record {
         arrived = 0;
         begun = 0;
         over = 0;
-        ended = 0;
         next-arrival = some (0 + time);
         next-service = none;
-        one = 0;
-        two = 0;
-        three = 0;
-        four = 0;
-        five = 0;
-        at-one = refl;
-        at-two = refl;
-        at-three = refl;
-        at-four = refl;
-        at-five = refl;
-        ready = tt;
-        queued = tt;
-        no-wel = empty-all ((m .facilities + length (m .capacities)) * 6);
-        no-wsl = refl;
+        lists = nobody-yet;
         pending = coming _ refl (omega arith);
-        coming = Line.later (0 + time) refl (omega (arith, d .0)) refl;
-        serving = Line.idle refl refl refl refl refl (omega arith) (λ lt. absurd (omega arith)) (λ p. absurd (omega arith));
+        coming = Line.later (0 + time) refl (omega (arith, drop-step arrivals 0 time l (sym e) .0)) refl;
+        serving = waits;
         between = refl;
         past = omega arith;
-        gone = refl;
-        leaving = λ p. absurd (omega arith);
-        finished = refl;
+        gone = none-yet;
       })
 
   sound-start : Sound m arrivals services (start m tape)
