@@ -62,7 +62,7 @@ slow-job m program facility arrivals services others lists i d budget room budge
     let late = leaves-late arrivals services i d (suc k) in
     let before = each-end m program facility arrivals services others lists budget room k lt in
     let after = each-end m program facility arrivals (raised i d services) others lists budget′ room′ k lt′ in
-    record { no-earlier = omega (arith, before, after, late .no-earlier); at-most = omega (arith, before, after, late .at-most) }
+    record { no-earlier = omega (arith, before, after, late); at-most = omega (arith, before, after, late) }
 
 -- ---- From bytes
 
