@@ -10,11 +10,13 @@ use lib.ListN.{length, getD, length-append, List·getD-append}
 use lib.Seq.{getD-append-seam}
 use Rattle.machine.specs.Block.{terminate, BlockModel}
 use Rattle.machine.specs.Lists.{nth}
+use Rattle.machine.specs.Rules.{Rules}
 use Rattle.machine.specs.Run.{run}
+use Rattle.machine.specs.Validate.{accept, validate}
 use Rattle.machine.specs.Outcome.{recordsOf, acceptedRun, outcomeOf, outcome}
 use Rattle.machine.proofs.Proper.{Proper, ProperBlock}
 use Rattle.machine.proofs.ProperFrom.{proper-from}
-use Rattle.slowjob.specs.SlowJob.{jobs, raised, ends, SlowJob, SlowJobBytes, leaves, EachEnd}
+use Rattle.slowjob.specs.SlowJob.{jobs, raised, ends, Delayed, SlowJob, SlowJobBytes, leaves, EachEnd}
 use Rattle.slowjob.proofs.Recurrence.{leaves-late}
 use Rattle.slowjob.proofs.Line.{firsts}
 use Rattle.slowjob.proofs.Turns.{run-sound}
@@ -70,14 +72,21 @@ slow-job m program facility arrivals services others lists i d budget room budge
 accepted-facility : (m : BlockModel) (tape : List (List ℕ)) → m .blocks ≡ jobs → Proper m tape → 1 ≤ m .facilities
 accepted-facility m tape program proper = subst (λ l. ProperBlock m (nth l 2 (terminate 0))) program (proper .block 2) .1
 
+accepted-delayed : (rules : Rules) (model tape : List ℕ) (work report : ℕ) (m : BlockModel) (arrivals services : List ℕ) (others : List (List ℕ)) (i d : ℕ)
+    → validate rules model tape work report ≡ accept m (arrivals ∷ services ∷ others) → m .blocks ≡ jobs → (budget room budget′ room′ : ℕ)
+    → Delayed d (ends m (recordsOf (run m (arrivals ∷ services ∷ others) budget room)))
+    (ends m (recordsOf (run m (arrivals ∷ raised i d services ∷ others) budget′ room′)))
+accepted-delayed rules model tape work report m arrivals services others i d ok program budget room budget′ room′ =
+    let proper : Proper m (arrivals ∷ services ∷ others) = proper-from rules model tape work report ok in
+    slow-job m program (accepted-facility m _ program proper) arrivals services others (omega (arith, proper .tapes)) i d budget room budget′ room′
+
 pub slow-job-bytes : SlowJobBytes
 unfolding outcome outcomeOf acceptedRun
 slow-job-bytes rules model tape tape′ work report work′ report′ m arrivals services others i d ok ok′ program budget room budget′ room′ =
-    let proper : Proper m (arrivals ∷ services ∷ others) = proper-from rules model tape work report ok in
     record {
       records = recordsOf (run m (arrivals ∷ services ∷ others) budget room);
       bytes = ap (λ v. outcomeOf budget room v .trace) ok;
       records′ = recordsOf (run m (arrivals ∷ raised i d services ∷ others) budget′ room′);
       bytes′ = ap (λ v. outcomeOf budget′ room′ v .trace) ok′;
-      delayed = slow-job m program (accepted-facility m _ program proper) arrivals services others (omega (arith, proper .tapes)) i d budget room budget′ room′;
+      delayed = accepted-delayed rules model tape work report m arrivals services others i d ok program budget room budget′ room′;
     }
