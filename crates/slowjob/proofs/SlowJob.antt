@@ -16,7 +16,7 @@ use Rattle.machine.specs.Validate.{accept, validate}
 use Rattle.machine.specs.Outcome.{recordsOf, acceptedRun, outcomeOf, outcome}
 use Rattle.machine.proofs.Proper.{Proper, ProperBlock}
 use Rattle.machine.proofs.ProperFrom.{proper-from}
-use Rattle.slowjob.specs.SlowJob.{jobs, raised, ends, Delayed, SlowJob, SlowJobBytes, leaves, EachEnd}
+use Rattle.slowjob.specs.SlowJob.{jobs, JobLine, raised, endsOf, SlowJob, SlowJobBytes, leaves, EachEnd}
 use Rattle.slowjob.proofs.Recurrence.{leaves-late}
 use Rattle.slowjob.proofs.Line.{firsts}
 use Rattle.slowjob.proofs.Turns.{run-sound}
@@ -45,40 +45,39 @@ module _ (arrivals services : List ℕ) where
 -- ---- Each end
 
 -- the ends of a run are the first ones, as many as it comes to
-run-ends : (m : BlockModel) → m .blocks ≡ jobs → 1 ≤ m .facilities → (arrivals services : List ℕ) (others : List (List ℕ)) → m .lists ≡ 2 + length others
-    → (budget room : ℕ) → (n : ℕ) × (ends m (recordsOf (run m (arrivals ∷ services ∷ others) budget room)) ≡ firsts arrivals services n)
+run-ends : (m : BlockModel) (others : List (List ℕ)) → JobLine m others → (arrivals services : List ℕ) (budget room : ℕ)
+    → (n : ℕ) × (endsOf m (arrivals ∷ services ∷ others) budget room ≡ firsts arrivals services n)
 unfolding recordsOf
-run-ends m program facility arrivals services others lists budget room =
-    let h = run-sound m arrivals services others program facility lists budget room .line in
+run-ends m others line arrivals services budget room =
+    let h = run-sound m arrivals services others line budget room .line in
     (h .gone .ended, h .gone .finished)
 
 pub each-end : EachEnd
-each-end m program facility arrivals services others lists budget room k lt =
-    let x = run-ends m program facility arrivals services others lists budget room in
+each-end m others line arrivals services budget room k lt =
+    let x = run-ends m others line arrivals services budget room in
     ap (λ l. getD l k 0) (x .1) ∙ firsts-at arrivals services (x .0) k (omega (arith, ap length (x .1), firsts-length arrivals services (x .0)))
 
 -- ---- One slow job
 
 pub slow-job : SlowJob
-slow-job m program facility arrivals services others lists i d budget room budget′ room′ k lt lt′ =
+slow-job m others line arrivals services i d budget room budget′ room′ k lt lt′ =
     let late = leaves-late arrivals services i d (suc k) in
-    let before = each-end m program facility arrivals services others lists budget room k lt in
-    let after = each-end m program facility arrivals (raised i d services) others lists budget′ room′ k lt′ in
+    let before = each-end m others line arrivals services budget room k lt in
+    let after = each-end m others line arrivals (raised i d services) budget′ room′ k lt′ in
     record { no-earlier = omega (arith, before, after, late); at-most = omega (arith, before, after, late) }
 
 -- ---- From bytes
 
--- an accepted model with these blocks has a facility
-accepted-facility : (m : BlockModel) (tape : List (List ℕ)) → m .blocks ≡ jobs → Proper m tape → 1 ≤ m .facilities
-accepted-facility m tape program proper = subst (λ l. ProperBlock m (nth l 2 (terminate 0))) program (proper .block 2) .1
-
-accepted-delayed : (rules : Rules) (model tape : List ℕ) (work report : ℕ) (m : BlockModel) (arrivals services : List ℕ) (others : List (List ℕ)) (i d : ℕ)
-    → validate rules model tape work report ≡ accept m (arrivals ∷ services ∷ others) → m .blocks ≡ jobs → (budget room budget′ room′ : ℕ)
-    → Delayed d (ends m (recordsOf (run m (arrivals ∷ services ∷ others) budget room)))
-    (ends m (recordsOf (run m (arrivals ∷ raised i d services ∷ others) budget′ room′)))
-accepted-delayed rules model tape work report m arrivals services others i d ok program budget room budget′ room′ =
+-- an accepted model with these blocks has its facility, and an accepted tape its lists
+accepted-line : (rules : Rules) (model tape : List ℕ) (work report : ℕ) (m : BlockModel) (arrivals services : List ℕ) (others : List (List ℕ))
+    → validate rules model tape work report ≡ accept m (arrivals ∷ services ∷ others) → m .blocks ≡ jobs → JobLine m others
+accepted-line rules model tape work report m arrivals services others ok program =
     let proper : Proper m (arrivals ∷ services ∷ others) = proper-from rules model tape work report ok in
-    slow-job m program (accepted-facility m _ program proper) arrivals services others (omega (arith, proper .tapes)) i d budget room budget′ room′
+    record {
+      program = program;
+      facility = subst (λ l. ProperBlock m (nth l 2 (terminate 0))) program (proper .block 2) .1;
+      lists = omega (arith, proper .tapes);
+    }
 
 pub slow-job-bytes : SlowJobBytes
 unfolding outcome outcomeOf acceptedRun
@@ -88,5 +87,6 @@ slow-job-bytes rules model tape tape′ work report work′ report′ m arrivals
       bytes = ap (λ v. outcomeOf budget room v .trace) ok;
       records′ = recordsOf (run m (arrivals ∷ raised i d services ∷ others) budget′ room′);
       bytes′ = ap (λ v. outcomeOf budget′ room′ v .trace) ok′;
-      delayed = accepted-delayed rules model tape work report m arrivals services others i d ok program budget room budget′ room′;
+      delayed =
+          slow-job m others (accepted-line rules model tape work report m arrivals services others ok program) arrivals services i d budget room budget′ room′;
     }

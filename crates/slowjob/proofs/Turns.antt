@@ -24,7 +24,7 @@ use Rattle.machine.proofs.RunLaws.{cond-cases, last-state}
 use Rattle.machine.proofs.Cases.{wsScheme-cases}
 use Rattle.machine.proofs.Kept.{taking-kept}
 use Rattle.machine.proofs.Shape.{Shape, shape-closed, shape-turn, shape-start, ql-at, samples-at, server-length, server-within, facility-capacity}
-use Rattle.slowjob.specs.SlowJob.{jobs, ends, comes, leaves}
+use Rattle.slowjob.specs.SlowJob.{jobs, JobLine, ends, comes, leaves}
 use Rattle.slowjob.proofs.Events.{Ready, generates, seizes, releases, AllReady, neither, coming}
 use Rattle.slowjob.proofs.Line.{used, Nobody, Lists, Serving, Gone, Lined, Line, line-wels, line-wsl, line-taken}
 use Rattle.slowjob.proofs.Line as Line
@@ -268,7 +268,7 @@ empty-all : (n : ℕ) → Each Nobody (replicate n [])
 empty-all zero = tt
 empty-all (suc n) = (refl, empty-all n)
 
-module _ (m : BlockModel) (arrivals services : List ℕ) (others : List (List ℕ)) (program : m .blocks ≡ jobs) where
+module _ (m : BlockModel) (arrivals services : List ℕ) (others : List (List ℕ)) where
   abbrev tape : List (List ℕ)
   tape = arrivals ∷ services ∷ others
 
@@ -320,9 +320,9 @@ module _ (m : BlockModel) (arrivals services : List ℕ) (others : List (List �
         gone = none-yet;
       })
 
-  sound-start : Sound m arrivals services (start m tape)
+  sound-start : m .blocks ≡ jobs → Sound m arrivals services (start m tape)
   unfolding start
-  sound-start = subst (λ l. Sound m arrivals services (startAt 1 l (idle m tape))) (sym program) first
+  sound-start program = subst (λ l. Sound m arrivals services (startAt 1 l (idle m tape))) (sym program) first
     where
       first : Sound m arrivals services (startAt 1 jobs (idle m tape))
       first = unfold startAt startOf facts idle in record { block = 0; hand = still arrivals; line = line-start arrivals refl }
@@ -333,7 +333,7 @@ module _ (m : BlockModel) (arrivals services : List ℕ) (others : List (List �
 
   -- ---- The run
 
-  module _ (facility : 1 ≤ m .facilities) (lists : m .lists ≡ 2 + length others) where
+  module _ (line : JobLine m others) where
     abbrev Kept : State → Type 0
     Kept s = Shape m s × Sound m arrivals services s
 
@@ -341,15 +341,15 @@ module _ (m : BlockModel) (arrivals services : List ℕ) (others : List (List �
     unfolding turn
     kept-turn s h =
         let taken : State = setTurns (suc (s .turns)) (taking (s .moving) s) in
-        let fixed : Fixtures (taking (s .moving) s) = fixtures m (taking (s .moving) s) facility (omega arith) (taking-kept (Shape m) (shape-closed m) (s .moving) s (h .0)) in
+        let fixed : Fixtures (taking (s .moving) s) = fixtures m (taking (s .moving) s) (line .facility) (omega (arith, line .lists)) (taking-kept (Shape m) (shape-closed m) (s .moving) s (h .0)) in
         let sound : Sound m arrivals services (taking (s .moving) s) =
         sound-taking m arrivals services (s .moving) s refl (h .1) in (
           shape-turn m s (h .0),
-          sound-ws m arrivals services program _
-              (sound-execute m arrivals services program (taken .moving) taken refl fixed (record { block = sound .block; hand = sound .hand; line = sound .line })),
+          sound-ws m arrivals services (line .program) _
+              (sound-execute m arrivals services (line .program) (taken .moving) taken refl fixed (record { block = sound .block; hand = sound .hand; line = sound .line })),
         )
 
     pub run-sound : (budget room : ℕ) → Sound m arrivals services (run m tape budget room)
     run-sound budget room =
         last-state m budget room Kept (λ s t h. kept-turn s h) (λ s e c h. (h .0, record { block = h .1 .block; hand = h .1 .hand; line = h .1 .line })) tape
-        (shape-start m tape (omega arith), sound-start) .1
+        (shape-start m tape (omega (arith, line .lists)), sound-start (line .program)) .1

@@ -8,27 +8,22 @@ use lib.ListN.{getD}
 use Rattle.machine.specs.Rules.{inForce}
 use Rattle.machine.specs.Term.{facilityInUse, constant, equal}
 use Rattle.machine.specs.Block.{Block, generate, advance, terminate, seize, release, branch, BlockModel}
-use Rattle.machine.specs.Run.{run}
 use Rattle.machine.specs.Validate.{Validation, accept, reject, validate}
-use Rattle.machine.specs.Outcome.{recordsOf}
 use Rattle.machine.specs.Bundle.{everything}
-use Rattle.slowjob.specs.SlowJob.{jobs, raised, ends, Delayed}
+use Rattle.slowjob.specs.SlowJob.{jobs, raised, ends, endsOf, Delayed}
 
 -- one facility for each that the blocks name, a counter out of reach
 abbrev shop : (facilities : ℕ) → List Block → BlockModel
 shop facilities blocks =
     record { rules = inForce; facilities = facilities; capacities = []; queues = 0; values = []; lists = 2; counter = 99; blocks = blocks }
 
-abbrev endsOf : BlockModel → List (List ℕ) → List ℕ
-endsOf m tape = ends m (recordsOf (run m tape 1000 65536))
-
 -- the service time at position i raised by d
 module _ (m : BlockModel) (arrivals services : List ℕ) (i d : ℕ) where
   abbrev before : List ℕ
-  before = endsOf m (arrivals ∷ services ∷ [])
+  before = endsOf m (arrivals ∷ services ∷ []) 1000 65536
 
   abbrev after : List ℕ
-  after = endsOf m (arrivals ∷ raised i d services ∷ [])
+  after = endsOf m (arrivals ∷ raised i d services ∷ []) 1000 65536
 
   abbrev both : List (List ℕ)
   both = before ∷ after ∷ []
@@ -56,7 +51,7 @@ abbrev firstModel : List ℕ
 firstModel = 1 ∷ 1 ∷ 0 ∷ 0 ∷ 0 ∷ 2 ∷ 2 ∷ 5 ∷ 1 ∷ 1 ∷ 0 ∷ 4 ∷ 1 ∷ 2 ∷ 2 ∷ 5 ∷ 1 ∷ 3 ∷ 1 ∷ []
 
 abbrev endsFrom : Validation → List ℕ
-endsFrom (accept m tape) = endsOf m tape
+endsFrom (accept m tape) = endsOf m tape 1000 65536
 endsFrom (reject n) = []
 
 abbrev blocksFrom : Validation → List Block

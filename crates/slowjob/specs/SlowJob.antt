@@ -20,6 +20,12 @@ use Rattle.machine.specs.Outcome.{recordsOf, outcome}
 abbrev pub jobs : List Block
 jobs = generate 1 0 ∷ seize 1 ∷ advance 2 ∷ release 1 ∷ terminate 1 ∷ []
 
+-- any model with these blocks, for tapes of two lists and perhaps others, which nobody reads; any counter and any rules
+pub record JobLine (m : BlockModel) (others : List (List ℕ)) : Type 0 where
+  pub program : m .blocks ≡ jobs
+  pub facility : 1 ≤ m .facilities
+  pub lists : m .lists ≡ 2 + length others
+
 -- ---- "Raise one time of the second list by d ticks": the one at position i, counted from 0
 
 unfoldable pub raised : (i d : ℕ) → List ℕ → List ℕ
@@ -30,6 +36,9 @@ raised i d times = set times i (getD times i 0 + d)
 unfoldable pub ends : BlockModel → List Record → List ℕ
 ends m records = map (λ r. r .clock) (those (λ r. eqb (facts (blockAt m (r .block)) .terminates) 1) records)
 
+abbrev pub endsOf : BlockModel → (tape : List (List ℕ)) (budget room : ℕ) → List ℕ
+endsOf m tape budget room = ends m (recordsOf (run m tape budget room))
+
 -- "For each k that both traces reach, the clock of the k-th TERMINATE is no earlier than before and at most d later."
 pub record Late (d before after : ℕ) : Type 0 where
   pub no-earlier : before ≤ after
@@ -38,16 +47,13 @@ pub record Late (d before after : ℕ) : Type 0 where
 abbrev pub Delayed : (d : ℕ) (before after : List ℕ) → Type 0
 Delayed d before after = (k : ℕ) → k < length before → k < length after → Late d (getD before k 0) (getD after k 0)
 
--- ---- The claim, of decoded tapes: any model with these blocks, under any rules and with any counter, any tape for it, any budgets of
--- turns and any lengths of the two traces. No counter needs to stay out of reach: a run that ends early reaches fewer k.
+-- ---- The claim, of decoded tapes: any budgets of turns and any lengths of the two traces. No counter needs to stay out of reach: a run that
+-- ends early reaches fewer k.
 
 abbrev pub SlowJob : Type 0
 SlowJob =
-    (m : BlockModel) → m .blocks ≡ jobs → 1 ≤ m .facilities
-    → (arrivals services : List ℕ) (others : List (List ℕ)) → m .lists ≡ 2 + length others
-    → (i d : ℕ) (budget room budget′ room′ : ℕ)
-    → Delayed d (ends m (recordsOf (run m (arrivals ∷ services ∷ others) budget room)))
-    (ends m (recordsOf (run m (arrivals ∷ raised i d services ∷ others) budget′ room′)))
+    (m : BlockModel) (others : List (List ℕ)) → JobLine m others → (arrivals services : List ℕ) (i d budget room budget′ room′ : ℕ)
+    → Delayed d (endsOf m (arrivals ∷ services ∷ others) budget room) (endsOf m (arrivals ∷ raised i d services ∷ others) budget′ room′)
 
 -- ---- The claim, from bytes: both tapes are accepted, and the two traces are the bytes of records of which it holds.
 
@@ -79,7 +85,6 @@ leaves arrivals services (suc k) = max (comes arrivals (suc k)) (leaves arrivals
 
 abbrev pub EachEnd : Type 0
 EachEnd =
-    (m : BlockModel) → m .blocks ≡ jobs → 1 ≤ m .facilities
-    → (arrivals services : List ℕ) (others : List (List ℕ)) → m .lists ≡ 2 + length others → (budget room : ℕ)
-    → (k : ℕ) → k < length (ends m (recordsOf (run m (arrivals ∷ services ∷ others) budget room)))
-    → getD (ends m (recordsOf (run m (arrivals ∷ services ∷ others) budget room))) k 0 ≡ leaves arrivals services (suc k)
+    (m : BlockModel) (others : List (List ℕ)) → JobLine m others → (arrivals services : List ℕ) (budget room k : ℕ)
+    → k < length (endsOf m (arrivals ∷ services ∷ others) budget room)
+    → getD (endsOf m (arrivals ∷ services ∷ others) budget room) k 0 ≡ leaves arrivals services (suc k)
