@@ -1,4 +1,4 @@
--- One service time raised by d: of the recurrence, each end is no earlier and at most d later.
+-- One service time raised by d: of the recurrence, each end is no earlier and at most d later, and how that fades.
 use Prim.Native.Nat.{ℕ, zero, suc, _+_, _≤_}
 use mathlib.Core.Path.{_≡_, refl, ap}
 use mathlib.Core.Bool.{Bool, true, false}
@@ -7,7 +7,7 @@ use native.Mathlib.Omega.{arith}
 use borrow.Author.Tests.{eqb-true, eqb-false}
 use lib.Dec.{eqb}
 use lib.ListN.{getD}
-use Rattle.slowjob.specs.SlowJob.{raised, leaves}
+use Rattle.slowjob.specs.SlowJob.{raised, leaves, Fades}
 
 abbrev Within : (d before after : ℕ) → Type 0
 Within d before after = (before ≤ after) × (after ≤ before + d)
@@ -53,3 +53,8 @@ module _ (arrivals services : List ℕ) (i d : ℕ) where
 
   pub leaves-late : (k : ℕ) → Within d (before k) (after k)
   leaves-late k = reach k .1
+
+pub fades : Fades
+unfolding leaves
+fades arrivals services i d k other =
+    omega (arith, raised-other services i d k other, leaves-late arrivals services i d k)

@@ -2,7 +2,7 @@
 --
 -- Jobs come one after the other, wait for one facility, are served and leave. One service time is raised by d ticks, and nothing else.
 -- Then the k-th end, of each k that both runs come to, is no earlier than before and at most d ticks later.
-use Prim.Native.Nat.{ℕ, zero, suc, _+_, _≤_, _<_, max}
+use Prim.Native.Nat.{ℕ, zero, suc, _+_, _-_, _≤_, _<_, max}
 use mathlib.Core.Path.{_≡_}
 use mathlib.Core.List.{List, [], _∷_, map}
 use lib.Dec.{eqb}
@@ -88,3 +88,10 @@ EachEnd =
     (m : BlockModel) (others : List (List ℕ)) → JobLine m others → (arrivals services : List ℕ) (budget room k : ℕ)
     → k < length (endsOf m (arrivals ∷ services ∷ others) budget room)
     → getD (endsOf m (arrivals ∷ services ∷ others) budget room) k 0 ≡ leaves arrivals services (suc k)
+
+-- And how a delay fades: before each other service than the raised one, it falls by as many ticks as the facility stood idle there, down to 0.
+abbrev pub Fades : Type 0
+Fades =
+    (arrivals services : List ℕ) (i d k : ℕ) → (k ≡ i → ⊥)
+    → leaves arrivals (raised i d services) (suc k)
+    ≡ leaves arrivals services (suc k) + ((leaves arrivals (raised i d services) k - leaves arrivals services k) - (comes arrivals (suc k) - leaves arrivals services k))
