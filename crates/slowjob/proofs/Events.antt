@@ -2,12 +2,12 @@
 -- move takes from it.
 use Prim.Native.Nat.{ℕ, _+_, _*_, _≤_}
 use mathlib.Core.Path.{_≡_, refl, sym, ap, subst}
-use mathlib.Core.Bool.{Bool, true, false, cond, not, _&&_, _||_, true≢false}
+use mathlib.Core.Bool.{Bool, true, false, cond, not}
 use mathlib.Core.List.{List, [], _∷_}
 use mathlib.Core.Option.{Option, none, some}
 use native.Mathlib.Omega.{arith}
-use borrow.Author.Tests.{ltb-true, ltb-false, eqb-true, eq-eqb}
-use lib.Dec.{ltb, eqb}
+use borrow.Author.Tests.{eqb-true, eq-eqb}
+use lib.Dec.{eqb}
 use Rattle.machine.specs.Transaction.{Transaction, Event, precedes, earlier}
 use Rattle.machine.specs.Lists.{insert, those, others, bit}
 use Rattle.machine.specs.State.{State}
@@ -16,7 +16,7 @@ use Rattle.machine.specs.Moves.{fresh, toRel}
 use Rattle.machine.specs.Turn.{arriveAll, due}
 use Rattle.machine.specs.Claims.{Each}
 use Rattle.machine.proofs.RunLaws.{cond-cases}
-use Rattle.machine.proofs.Sorted.{each-insert}
+use Rattle.machine.proofs.Sorted.{each-insert, earlier-time, later-time}
 use Rattle.machine.proofs.Sums.{sumOn, sum-insert}
 
 -- ---- Where somebody stands
@@ -45,23 +45,6 @@ pub data Pending (low : ℕ) : List Event → (arrival service : Option ℕ) →
       → Pending low (e ∷ f ∷ []) (some (e .time)) (some (f .time))
   served-first : (e f : Event) → e .who .next ≡ 4 → f .who .next ≡ 1 → low ≤ e .time → e .time ≤ f .time
       → Pending low (e ∷ f ∷ []) (some (f .time)) (some (e .time))
-
-earlier-time : (a b : Event) → earlier a b ≡ true → a .time ≤ b .time
-unfolding earlier
-earlier-time a b = go (ltb (a .time) (b .time)) refl (eqb (a .time) (b .time)) refl
-  where
-    go : (x : Bool) → ltb (a .time) (b .time) ≡ x → (y : Bool) → eqb (a .time) (b .time) ≡ y → (x || (y && precedes (a .who) (b .who))) ≡ true → a .time ≤ b .time
-    go true e y d h = omega (arith, ltb-true (a .time) (b .time) e)
-    go false e true d h = omega (arith, eqb-true (a .time) (b .time) d)
-    go false e false d h = absurd (true≢false (sym h))
-
-later-time : (a b : Event) → earlier a b ≡ false → b .time ≤ a .time
-unfolding earlier
-later-time a b = go (ltb (a .time) (b .time)) refl
-  where
-    go : (x : Bool) → ltb (a .time) (b .time) ≡ x → (x || (eqb (a .time) (b .time) && precedes (a .who) (b .who))) ≡ false → b .time ≤ a .time
-    go true e h = absurd (true≢false h)
-    go false e h = ltb-false (a .time) (b .time) e
 
 module _ {low : ℕ} where
   pub insert-coming : {l : List Event} {o : Option ℕ} → Pending low l none o → (e : Event) → e .who .next ≡ 1 → low ≤ e .time
