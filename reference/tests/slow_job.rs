@@ -50,6 +50,25 @@ fn delays(before: &[u64], after: &[u64]) -> Vec<i64> {
     pairs.map(|(b, a)| *a as i64 - *b as i64).collect()
 }
 
+/// The ends by the recurrence: the k-th service begins once the k-th has come
+/// and the one before has ended. As many as both lists have times for.
+fn recurrence(tape: &Tape) -> Vec<u64> {
+    let (mut comes, mut leaves) = (0, 0);
+    let pairs = tape[0].iter().zip(&tape[1]);
+    let ends = pairs.map(|(gap, service)| {
+        comes += gap;
+        leaves = leaves.max(comes) + service;
+        leaves
+    });
+    ends.collect()
+}
+
+fn raise(tape: &Tape, at: usize, d: u64) -> Tape {
+    let mut raised = tape.clone();
+    raised[1][at] += d;
+    raised
+}
+
 fn times(random: &mut Random, count: u64, span: u64) -> Vec<u64> {
     (0..count).map(|_| random.between(0, span)).collect()
 }
@@ -74,16 +93,17 @@ fn no_end_comes_earlier_and_none_more_than_d_later() {
             2 => random.between(0, span + 1).min(room),
             _ => random.between(0, room),
         };
-        let mut raised = tape.clone();
-        raised[1][at] += d;
-        // A counter that neither run reaches; each run has its own lengths.
-        let model = program(random.number(1, 2), services as u32 + 1);
+        // Any counter, reached or not; each run has its own lengths.
+        let counter = random.number(1, services as u32 + 9);
+        let model = program(random.number(1, 2), counter);
         let mut run = |tape: &Tape| {
             let budget = *random.pick(&[1_000_000, 1_000_000, 50, 7]);
             let room = *random.pick(&[65_536, 65_536, 200, 30]);
-            ends(&model, tape, budget, room)
+            let found = ends(&model, tape, budget, room);
+            assert_eq!(found, recurrence(tape)[..found.len()], "{tape:?}");
+            found
         };
-        let (before, after) = (run(&tape), run(&raised));
+        let (before, after) = (run(&tape), run(&raise(&tape, at, d)));
         for delay in delays(&before, &after) {
             assert!((0..=d as i64).contains(&delay), "{tape:?} {at} {d}");
             let kind = match delay {
@@ -108,9 +128,7 @@ fn every_small_tape() {
         let before = ends(&model, &tape, 1_000, 1_000);
         for at in 0..3 {
             for d in 1..=2 {
-                let mut raised = tape.clone();
-                raised[1][at] += d;
-                let after = ends(&model, &raised, 1_000, 1_000);
+                let after = ends(&model, &raise(&tape, at, d), 1_000, 1_000);
                 let late = delays(&before, &after);
                 assert!(late.iter().all(|delay| (0..=d as i64).contains(delay)));
             }
@@ -123,10 +141,8 @@ fn a_delay_of_exactly_d_of_0_and_one_that_fades() {
     let delays_of = |arrivals: Vec<u64>, services: Vec<u64>, at: usize, d: u64| {
         let model = program(1, 99);
         let tape = vec![arrivals, services];
-        let mut raised = tape.clone();
-        raised[1][at] += d;
         let run = |tape: &Tape| ends(&model, tape, 1_000, 1_000);
-        delays(&run(&tape), &run(&raised))
+        delays(&run(&tape), &run(&raise(&tape, at, d)))
     };
     // All wait for each other.
     assert_eq!(delays_of(vec![0, 0, 0], vec![5, 5, 5], 0, 4), [4, 4, 4]);
@@ -136,10 +152,10 @@ fn a_delay_of_exactly_d_of_0_and_one_that_fades() {
     assert_eq!(delays_of(vec![0, 8, 2], vec![5, 5, 5], 0, 4), [4, 1, 1]);
 }
 
-#[test]
-fn with_two_servers_a_later_job_may_end_earlier() {
-    // Who finds the first server busy goes to the second, which has times of its own.
-    let blocks = vec![
+/// Two facilities, each with a line of its own: who finds the first in use goes
+/// to the second. Both draw their times from the second list.
+fn two_lines() -> Model {
+    let mut model = model(vec![
         generate(1),
         Block::If {
             comparison: compare(Term::FacilityInUse(1), 1, Term::Constant(1)),
@@ -150,19 +166,87 @@ fn with_two_servers_a_later_job_may_end_earlier() {
         RELEASE,
         terminate(1),
         Block::Seize { facility: 2 },
-        advance(3),
+        advance(2),
         Block::Release { facility: 2 },
         terminate(1),
-    ];
-    let mut model = model(blocks);
+    ]);
     model.facilities = 2;
-    let ends = |first: u64| {
-        let tape = vec![vec![0, 6], vec![first, 100], vec![1]];
-        let ran = run_under(Rules::ALL, &model, &tape, 100, 1_000);
-        let done = |r: &&[u64; 4]| r[2] == 6 || r[2] == 10;
-        let clocks = ran.records.iter().filter(done).map(|r| r[0]);
-        clocks.collect::<Vec<u64>>()
-    };
-    assert_eq!(ends(5), [5, 106]);
-    assert_eq!(ends(7), [7, 7]);
+    model
+}
+
+/// One line before two servers.
+fn one_line() -> Model {
+    model(vec![
+        generate(1),
+        enter(1),
+        advance(2),
+        leave(1),
+        terminate(1),
+    ])
+}
+
+/// The clocks of the TERMINATEs, in order, of a model with any blocks.
+fn all_ends(model: &Model, tape: &Tape) -> Vec<u64> {
+    let ran = run_under(Rules::ALL, model, tape, 1_000, 4_000);
+    let is_end = |block: u64| matches!(model.blocks[block as usize - 1], Block::Terminate { .. });
+    let ends = ran.records.iter().filter(|r| is_end(r[2]));
+    ends.map(|r| r[0]).collect()
+}
+
+/// Every list of this many numbers from low to high.
+fn every(count: usize, low: u64, high: u64) -> Vec<Vec<u64>> {
+    (0..count).fold(vec![Vec::new()], |lists, _| {
+        let longer = |list: &Vec<u64>, last| [list.clone(), vec![last]].concat();
+        let more = |list: Vec<u64>| (low..=high).map(move |last| longer(&list, last));
+        lists.into_iter().flat_map(more).collect()
+    })
+}
+
+/// Searches all tapes of so many jobs with small times, one time raised by 1 or
+/// 2, for an end that comes earlier. No job comes at the clock of an end, so no
+/// tie decides. The one with the smallest sum of times: tape, position, d.
+fn earlier_end(model: &Model, jobs: usize) -> Option<(Tape, usize, u64)> {
+    let (mut smallest, mut found) = (u64::MAX, None);
+    for gaps in every(jobs - 1, 1, 2) {
+        for services in every(jobs, 1, 4) {
+            let gaps = [vec![0], gaps.clone()].concat();
+            let come = gaps.iter().scan(0, |clock, gap| {
+                *clock += gap;
+                Some(*clock)
+            });
+            let come: Vec<u64> = come.collect();
+            let tape = vec![gaps, services, Vec::new()];
+            let before = all_ends(model, &tape);
+            for at in 0..jobs {
+                for d in 1..=2 {
+                    let after = all_ends(model, &raise(&tape, at, d));
+                    let tie = before.iter().chain(&after).any(|end| come.contains(end));
+                    let earlier = delays(&before, &after).iter().any(|delay| *delay < 0);
+                    let size = tape.iter().flatten().sum::<u64>() + d;
+                    if earlier && !tie && size < smallest {
+                        smallest = size;
+                        found = Some((tape.clone(), at, d));
+                    }
+                }
+            }
+        }
+    }
+    found
+}
+
+#[test]
+fn with_two_lines_a_later_job_may_end_earlier() {
+    // docs/SLOW-JOB.md and crates/slowjob/specs/Examples.antt show this one.
+    let tape = vec![vec![0, 2, 2, 1], vec![1, 4, 3, 1], Vec::new()];
+    let found = earlier_end(&two_lines(), 4);
+    assert_eq!(found, Some((tape.clone(), 0, 2)));
+    assert_eq!(all_ends(&two_lines(), &tape), [1, 6, 7, 8]);
+    assert_eq!(all_ends(&two_lines(), &raise(&tape, 0, 2)), [3, 6, 7, 7]);
+}
+
+#[test]
+fn no_such_tape_of_three_jobs_and_none_with_one_line() {
+    assert_eq!(earlier_end(&two_lines(), 3), None);
+    assert_eq!(earlier_end(&one_line(), 3), None);
+    assert_eq!(earlier_end(&one_line(), 4), None);
 }

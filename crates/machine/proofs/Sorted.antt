@@ -1,6 +1,7 @@
 -- Lists sorted in the weak form, "no later element precedes an earlier one", over any transitive and irreflexive order; what
 -- every or some member of a list is, and how insertion and selection keep it. REL and each QL are sorted by `precedes`.
-use Prim.Native.Nat.{ℕ, zero, suc, _<_}
+-- Of the FEL's order, what it says of move times.
+use Prim.Native.Nat.{ℕ, zero, suc, _<_, _≤_}
 use mathlib.Core.Path.{_≡_, refl, sym, _∙_}
 use mathlib.Core.Bool.{Bool, true, false, _&&_, _||_, true≢false}
 use mathlib.Core.Logic.{_⊎_, inl, inr}
@@ -8,8 +9,8 @@ use mathlib.Core.List.{List, [], _∷_}
 use native.Mathlib.Omega.{arith}
 use lib.Dec.{ltb, eqb}
 use lib.ListN.{getD, set, drop}
-use borrow.Author.Tests.{ltb-true, lt-ltb, eqb-true, eq-eqb}
-use Rattle.machine.specs.Transaction.{Transaction, precedes}
+use borrow.Author.Tests.{ltb-true, ltb-false, lt-ltb, eqb-true, eq-eqb}
+use Rattle.machine.specs.Transaction.{Transaction, precedes, Event, earlier}
 use Rattle.machine.specs.Lists.{insert, those}
 use Rattle.machine.specs.Claims.{Each}
 use Rattle.machine.proofs.RunLaws.{cond-cases, each-map}
@@ -146,3 +147,22 @@ precedes-asym a b h = untrue (precedes b a) (λ e. before-asym a b (precedes-bef
 
 pub sorted-in : (t : Transaction) (l : List Transaction) → Sorted precedes l → Sorted precedes (insert precedes t l)
 sorted-in t l h = sorted-insert precedes precedes-asym precedes-trans t l h
+
+-- ---- The FEL, by move time first
+
+pub earlier-time : (a b : Event) → earlier a b ≡ true → a .time ≤ b .time
+unfolding earlier
+earlier-time a b = go (ltb (a .time) (b .time)) refl (eqb (a .time) (b .time)) refl
+  where
+    go : (x : Bool) → ltb (a .time) (b .time) ≡ x → (y : Bool) → eqb (a .time) (b .time) ≡ y → (x || (y && precedes (a .who) (b .who))) ≡ true → a .time ≤ b .time
+    go true e y d h = omega (arith, ltb-true (a .time) (b .time) e)
+    go false e true d h = omega (arith, eqb-true (a .time) (b .time) d)
+    go false e false d h = absurd (true≢false (sym h))
+
+pub later-time : (a b : Event) → earlier a b ≡ false → b .time ≤ a .time
+unfolding earlier
+later-time a b = go (ltb (a .time) (b .time)) refl
+  where
+    go : (x : Bool) → ltb (a .time) (b .time) ≡ x → (x || (eqb (a .time) (b .time) && precedes (a .who) (b .who))) ≡ false → b .time ≤ a .time
+    go true e h = absurd (true≢false h)
+    go false e h = ltb-false (a .time) (b .time) e

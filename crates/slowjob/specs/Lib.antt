@@ -1,0 +1,2 @@
+pub mod SlowJob
+pub mod Examples
