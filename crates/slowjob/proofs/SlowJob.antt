@@ -1,6 +1,6 @@
 -- Document 02, item 14: the k-th end of every run is that of the recurrence, so that one slow job delays no end by more than its own delay.
 use Prim.Native.Nat.{ℕ, zero, suc, _<_}
-use mathlib.Core.Path.{_≡_, refl, ap, subst, _∙_}
+use mathlib.Core.Path.{_≡_, refl, ap, subst, subst₂, _∙_}
 use mathlib.Core.Bool.{Bool, true, false}
 use mathlib.Core.List.{List, [], _∷_}
 use native.Mathlib.Omega.{arith}
@@ -10,13 +10,17 @@ use lib.ListN.{length, getD, length-append, List·getD-append}
 use lib.Seq.{getD-append-seam}
 use Rattle.machine.specs.Block.{terminate, BlockModel}
 use Rattle.machine.specs.Lists.{nth}
-use Rattle.machine.specs.Rules.{Rules}
+use Rattle.machine.specs.Rules.{Rules, inForce}
+use Rattle.machine.specs.Trace.{Record}
 use Rattle.machine.specs.Run.{run}
 use Rattle.machine.specs.Validate.{accept, validate}
 use Rattle.machine.specs.Outcome.{recordsOf, acceptedRun, outcomeOf, outcome}
 use Rattle.machine.proofs.Proper.{Proper, ProperBlock}
-use Rattle.machine.proofs.ProperFrom.{proper-from}
-use Rattle.slowjob.specs.SlowJob.{jobs, JobLine, raised, endsOf, SlowJob, SlowJobBytes, leaves, EachEnd}
+use Rattle.machine.proofs.ProperFrom.{proper-from, rules-from}
+use Rattle.trace.specs.Whole.{Reads}
+use Rattle.trace.proofs.RoundTrip.{reads-once}
+use Rattle.columns.proofs.Runs.{run-taken}
+use Rattle.slowjob.specs.SlowJob.{jobs, JobLine, raised, ends, endsOf, Delayed, SlowJob, SlowJobBytes, SlowJobRead, leaves, EachEnd}
 use Rattle.slowjob.proofs.Recurrence.{leaves-late}
 use Rattle.slowjob.proofs.Line.{firsts}
 use Rattle.slowjob.proofs.Turns.{run-sound}
@@ -90,3 +94,19 @@ slow-job-bytes rules model tape tape′ work report work′ report′ m arrivals
       delayed =
           slow-job m others (accepted-line rules model tape work report m arrivals services others ok program) arrivals services i d budget room budget′ room′;
     }
+
+-- ---- From what the reader takes
+
+-- the reader takes from the trace of an accepted run its records and no others
+read-records : (model tape : List ℕ) (work report : ℕ) (m : BlockModel) (times : List (List ℕ)) → validate inForce model tape work report ≡ accept m times
+    → (budget room : ℕ) (l : List Record) → Reads (outcome inForce model tape budget work room report .trace) 0 l → recordsOf (run m times budget room) ≡ l
+unfolding outcome outcomeOf acceptedRun
+read-records model tape work report m times ok budget room l reads =
+    reads-once (run-taken (proper-from inForce model tape work report ok) (rules-from inForce model tape work report ok) budget room .whole)
+    (subst (λ v. Reads (outcomeOf budget room v .trace) 0 l) ok reads)
+
+pub slow-job-read : SlowJobRead
+slow-job-read model tape tape′ work report work′ report′ m arrivals services others i d ok ok′ program budget room budget′ room′ l l′ reads reads′ =
+    subst₂ (λ x y. Delayed d (ends m x) (ends m y)) (read-records model tape work report m _ ok budget room l reads)
+    (read-records model tape′ work′ report′ m _ ok′ budget′ room′ l′ reads′)
+    (slow-job m others (accepted-line inForce model tape work report m arrivals services others ok program) arrivals services i d budget room budget′ room′)

@@ -7,13 +7,14 @@ use mathlib.Core.Path.{_≡_}
 use mathlib.Core.List.{List, [], _∷_, map}
 use lib.Dec.{eqb}
 use lib.ListN.{length, getD, set}
-use Rattle.machine.specs.Rules.{Rules}
+use Rattle.machine.specs.Rules.{Rules, inForce}
 use Rattle.machine.specs.Lists.{those}
 use Rattle.machine.specs.Block.{Block, generate, seize, advance, release, terminate, facts, BlockModel, blockAt}
 use Rattle.machine.specs.Trace.{Record, traceBytes}
 use Rattle.machine.specs.Run.{run}
 use Rattle.machine.specs.Validate.{accept, validate}
 use Rattle.machine.specs.Outcome.{recordsOf, outcome}
+use Rattle.trace.specs.Whole.{Reads}
 
 -- ---- "the block program of 01's first example"
 
@@ -71,6 +72,18 @@ SlowJobBytes =
     → validate rules model tape′ work′ report′ ≡ accept m (arrivals ∷ raised i d services ∷ others)
     → m .blocks ≡ jobs → (budget room budget′ room′ : ℕ)
     → Traces d m (outcome rules model tape budget work room report .trace) (outcome rules model tape′ budget′ work′ room′ report′ .trace)
+
+-- ---- The same of the records that the trace reader takes from the two traces, under the rules in force
+
+abbrev pub SlowJobRead : Type 0
+SlowJobRead =
+    (model tape tape′ : List ℕ) (work report work′ report′ : ℕ) (m : BlockModel) (arrivals services : List ℕ) (others : List (List ℕ)) (i d : ℕ)
+    → validate inForce model tape work report ≡ accept m (arrivals ∷ services ∷ others)
+    → validate inForce model tape′ work′ report′ ≡ accept m (arrivals ∷ raised i d services ∷ others)
+    → m .blocks ≡ jobs → (budget room budget′ room′ : ℕ) (records records′ : List Record)
+    → Reads (outcome inForce model tape budget work room report .trace) 0 records
+    → Reads (outcome inForce model tape′ budget′ work′ room′ report′ .trace) 0 records′
+    → Delayed d (ends m records) (ends m records′)
 
 -- ---- More is shown: each end exactly. Whoever comes k-th comes at the sum of the first k times; the k-th service begins as soon as both the
 -- k-th has come and the one before has ended.
