@@ -1,5 +1,5 @@
 -- One block over the rows leaves what the machine's block does, apart from its record.
-use Prim.Native.Nat.{ℕ, _-_, _*_}
+use Prim.Native.Nat.{ℕ, zero, suc, _-_, _*_}
 use mathlib.Core.Path.{_≡_, refl, subst}
 use mathlib.Core.List.{List, _∷_}
 use mathlib.Core.Option.{some}
@@ -70,7 +70,8 @@ module _ {m : BlockModel} {tape : List (List ℕ)} {tapeBytes tables lists : Lis
   execute-apart (frees (facility v)) is = by-apart 5 _ _ refl is (release-apart tables tapeBytes (r .work) (r .tally) (r .scalars) base)
   execute-apart (takes (storage v b)) is = by-apart 6 _ _ refl is (enter-apart tables tapeBytes (r .work) (r .tally) (r .scalars) base)
   execute-apart (frees (storage v b)) is = by-apart 7 _ _ refl is (leave-apart tables tapeBytes (r .work) (r .tally) (r .scalars) base)
-  execute-apart (waitServer code v) is = by-apart 8 _ _ refl is (kept (r .scalars) (r .tally) (WaitServer.waitServer tables (r .work) (r .tally) (r .scalars) base) (wait-server-used tables (r .work) (r .tally) (r .scalars) base))
+  execute-apart (waitServer code v zero) is = by-apart 8 _ _ refl is (kept (r .scalars) (r .tally) (WaitServer.waitServer tables (r .work) (r .tally) (r .scalars) base) (wait-server-used tables (r .work) (r .tally) (r .scalars) base))
+  execute-apart (waitServer code v (suc c)) is = by-apart 17 _ _ refl is (kept (r .scalars) (r .tally) (WaitServer.waitServer tables (r .work) (r .tally) (r .scalars) base) (wait-server-used tables (r .work) (r .tally) (r .scalars) base))
   execute-apart (waitTerms a o b) is =
       by-apart 9 _ _ refl is (kept (r .scalars) (r .tally) (Comparison.waitTerms tables (length (m .values)) (r .work) (r .tally) (r .scalars) base) (wait-terms-used tables (length (m .values)) (r .work) (r .tally) (r .scalars) base))
   execute-apart (moves (whenTrue a o b) target) is =
@@ -96,7 +97,8 @@ module _ {m : BlockModel} {tape : List (List ℕ)} {tapeBytes tables lists : Lis
   execute-done (frees (facility v)) is = by 5 _ _ refl is _ (release-done m tape tapeBytes tables lists proper rep s sane r t stands moving v is)
   execute-done (takes (storage v b)) is = by 6 _ _ refl is _ (enter-done m tape tapeBytes tables lists proper rep s sane r t stands moving v b is)
   execute-done (frees (storage v b)) is = by 7 _ _ refl is _ (leave-done m tape tapeBytes tables lists proper rep s sane r t stands moving v b is)
-  execute-done (waitServer code v) is = by 8 _ _ refl is _ (wait-server-done m tape tapeBytes tables lists proper rep s sane r t stands moving code v is)
+  execute-done (waitServer code v zero) is = by 8 _ _ refl is _ (wait-server-done m tape tapeBytes tables lists proper rep s sane r t stands moving code v 0 is)
+  execute-done (waitServer code v (suc c)) is = by 17 _ _ refl is _ (wait-server-done m tape tapeBytes tables lists proper rep s sane r t stands moving code v (suc c) is)
   execute-done (waitTerms a o b) is = by 9 _ _ refl is _ (wait-terms-done proper rep nested r t s sane stands moving a o b is)
   execute-done (moves (whenTrue a o b) target) is = by 10 _ _ refl is _ (branch-done proper rep nested r t s sane stands moving a o b target is)
   execute-done (moves always target) is = by 11 _ _ refl is _ (goto-done proper rep nested r t s sane stands moving target is)

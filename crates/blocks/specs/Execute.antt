@@ -16,7 +16,7 @@ use Rattle.decisions.specs.Jumps.{goto}
 use Rattle.decisions.specs.Queues.{arrive, depart}
 
 module _ (tables : List ℕ) (values facilities : ℕ) (tape w tally : List ℕ) (x : Scalars) (at : ℕ) where
-  -- kinds 9 to 16
+  -- kinds 9 to 17
   unfoldable pub later : ℕ → Rows
   later kind =
       cond (eqb kind 9) (withTally (waitTerms tables values w tally x at) tally)
@@ -26,7 +26,8 @@ module _ (tables : List ℕ) (values facilities : ℕ) (tape w tally : List ℕ)
       (cond (eqb kind 13) (priorityRows tables w tally x at)
       (cond (eqb kind 14) (splitRows tables w tally x at)
       (cond (eqb kind 15) (arrive tables w tally x at)
-      (cond (eqb kind 16) (depart tables w tally x at) (rowsOf x w tally))))))))
+      (cond (eqb kind 16) (depart tables w tally x at)
+      (cond (eqb kind 17) (withTally (waitServer tables w tally x at) tally) (rowsOf x w tally)))))))))
 
   unfoldable pub byKind : ℕ → Rows
   byKind kind =

@@ -61,6 +61,7 @@ pub fn execute(
         14 => split(tables, work, tally, x, at),
         15 => arrive(tables, work, tally, x, at),
         16 => depart(tables, work, tally, x, at),
+        17 => wait_server(tables, work, tally, x, at),
         _ => x,
     }
 }

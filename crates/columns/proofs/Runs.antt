@@ -28,7 +28,7 @@ use Rattle.machine.proofs.RunLaws.{Taken, each-map, last-state}
 use Rattle.machine.proofs.Bounds.{bounded}
 use Rattle.trace.proofs.RoundTrip.{trace-reads-whole}
 use Rattle.state.specs.Bare.{Note, enteredNote, waitsNote, noNote, logged, countEntry, noteAs}
-use Rattle.state.proofs.Gains.{Ahead}
+use Rattle.machine.proofs.Ahead.{Ahead}
 use Rattle.state.proofs.TurnGains.{Turned, unnoted, noted, turned}
 use Rattle.state.proofs.Sanity.{takenOf, Sure, taken-took, start-is}
 use Rattle.state.proofs.Written.{inOrder, in-order-cons, Kept, kept-start, kept-turn, kept-end}

@@ -20,10 +20,10 @@ use Rattle.values.specs.Keeps.{cursorOf}
 use Rattle.values.specs.Rows.{storedRows, allNamed}
 use Rattle.values.specs.Shapes.{sumNamed}
 use Rattle.values.proofs.Named.{values-name}
-use Rattle.program.specs.Formed.{placedFrom, targetsFrom}
+use Rattle.program.specs.Formed.{placedFrom, targetsFrom, joinedFrom}
 use Rattle.program.specs.Shapes.{capacitiesOf}
 use Rattle.program.proofs.Steps.{continue-assoc}
-use Rattle.program.proofs.Question.{placed-machine, targets-machine}
+use Rattle.program.proofs.Question.{placed-machine, targets-machine, joined-machine}
 use Rattle.decode.specs.declared.Header.{Header}
 use Rattle.decode.specs.declared.Header.the-variants.{Read, Refused as NoHeader}
 use Rattle.decode.specs.declared.Decoded.the-variants.{Model as Accepted, Refused}
@@ -132,7 +132,7 @@ module _ (s : List ℕ) {l after : List ℕ} {r : Header} (k : Stage modelShape 
     module _ (whole : p .position ≡ length s) where
       -- question 7 by the tables
       asked : (m : BlockModel) → h ≡ headerOf m → p .named ≡ allNamed sumNamed 0 (m .values) → after ≡ tablesOf m → ProperModel m →
-          wellFormed m ≡ (placedFrom after (h .blocks) 0 true && targetsFrom after (h .blocks) 0 && leb (p .named) (h .blocks))
+          wellFormed m ≡ (placedFrom after (h .blocks) 0 true && targetsFrom after (h .blocks) (h .blocks) 0 && leb (p .named) (h .blocks) && joinedFrom after (h .blocks) 0 0)
       unfolding wellFormed targetsMove headerOf
       asked m e n c f =
           rw (
@@ -140,12 +140,13 @@ module _ (s : List ℕ) {l after : List ℕ} {r : Header} (k : Stage modelShape 
             n,
             c,
             placed-machine (length (m .blocks)) (tablesOf m) (m .blocks) 0 true (f .block) (blocks-stand m f),
-            targets-machine (tablesOf m) (m .blocks) (f .block) (blocks-stand m f),
+            targets-machine (tablesOf m) m (f .block) (blocks-stand m f),
+            joined-machine (length (m .blocks)) (tablesOf m) (m .blocks) 0 0 (f .block) (blocks-stand m f),
             values-name (m .values) 0 (length (m .blocks)),
             leb·zero (length (m .blocks)),
           )
 
-      bad : (placedFrom after (h .blocks) 0 true && targetsFrom after (h .blocks) 0 && leb (p .named) (h .blocks)) ≡ false →
+      bad : (placedFrom after (h .blocks) 0 true && targetsFrom after (h .blocks) (h .blocks) 0 && leb (p .named) (h .blocks) && joinedFrom after (h .blocks) 0 0) ≡ false →
           Models after (Refused 7) (modelOf inForce s beginning)
       unfolding modelOf atEnd ask continue
       bad b =
@@ -156,15 +157,19 @@ module _ (s : List ℕ) {l after : List ℕ} {r : Header} (k : Stage modelShape 
       formed-misplaced a = bad (rw a)
 
       module _ (a : placedFrom after (h .blocks) 0 true ≡ true) where
-        pub formed-target : targetsFrom after (h .blocks) 0 ≡ false → Models after (Refused 7) (modelOf inForce s beginning)
+        pub formed-target : targetsFrom after (h .blocks) (h .blocks) 0 ≡ false → Models after (Refused 7) (modelOf inForce s beginning)
         formed-target b = bad (rw (a, b))
 
-        module _ (b : targetsFrom after (h .blocks) 0 ≡ true) where
+        module _ (b : targetsFrom after (h .blocks) (h .blocks) 0 ≡ true) where
           pub formed-name : h .blocks < p .named → Models after (Refused 7) (modelOf inForce s beginning)
           formed-name d = bad (rw (a, b, lt-leb _ _ d))
 
-          pub formed-model : p .named ≤ h .blocks → Models after (Accepted h) (modelOf inForce s beginning)
-          unfolding modelOf atEnd ask continue
-          formed-model d =
-              stage-bind (Models after _) _ _ k told
-              (λ m e n c f. rw (eq-eqb _ _ whole, asked m e n c f, a, b, le-leb _ _ d) (record { held = (ap Accepted e, c, f) }))
+          module _ (d : p .named ≤ h .blocks) where
+            pub formed-broken : joinedFrom after (h .blocks) 0 0 ≡ false → Models after (Refused 7) (modelOf inForce s beginning)
+            formed-broken g = bad (rw (a, b, le-leb _ _ d, g))
+
+            pub formed-model : joinedFrom after (h .blocks) 0 0 ≡ true → Models after (Accepted h) (modelOf inForce s beginning)
+            unfolding modelOf atEnd ask continue
+            formed-model g =
+                stage-bind (Models after _) _ _ k told
+                (λ m e n c f. rw (eq-eqb _ _ whole, asked m e n c f, a, b, le-leb _ _ d, g) (record { held = (ap Accepted e, c, f) }))

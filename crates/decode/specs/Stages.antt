@@ -8,6 +8,7 @@ use Rattle.machine.specs.Limits as Limits
 use Rattle.machine.specs.Parser.{Parsed, parsed, refused, Parser, continue, field, times}
 use Rattle.machine.specs.Term.{Sum}
 use Rattle.machine.specs.Block.{Block}
+use Rattle.machine.specs.Rules.{inForce}
 use Rattle.machine.specs.Decode.{Counts, valueFields, blockField}
 use Rattle.machine.specs.declared.model.Model.{Model}
 use Rattle.tables.specs.Layout as Layout
@@ -167,7 +168,7 @@ programField s m capacities = λ c.
     (λ counter c₂.
     continue (field s 3 1 Limits.maxBlocks c₂)
     (λ n c₃.
-    continue (times n (blockField s (seenByBlocks m lists n) capacities) c₃)
+    continue (times n (blockField s (inForce .kinds) (seenByBlocks m lists n) capacities) c₃)
     (λ l c₄. parsed (record { lists = lists; counter = counter; count = n; blocks = l }) c₄))))
 
 abbrev pub withProgram : Model → Program → Model

@@ -10,6 +10,7 @@ use machine::refusals::SHORT_WORK;
 use machine::refusals::TAPE_GOES_ON;
 use machine::refusals::TAPE_NUMBER;
 use program::blocks;
+use program::groups_whole;
 use program::single;
 use program::targets_move;
 use program::well_placed;
@@ -216,6 +217,9 @@ fn formed_model(s: &[u8], tables: &mut [u32; TABLES]) -> Decoded
                 return Decoded::Refused(ILL_FORMED);
             }
             if count < p.named {
+                return Decoded::Refused(ILL_FORMED);
+            }
+            if !groups_whole(tables, count) {
                 return Decoded::Refused(ILL_FORMED);
             }
             Decoded::Model(m)

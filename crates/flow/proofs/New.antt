@@ -1,6 +1,6 @@
 -- New transactions: `born` is the machine's newborn on the FEL, `copyOne` a copy of the moving transaction on REL, both with the next
 -- number and a fresh serial.
-use Prim.Native.Nat.{ℕ, suc, _-_, _/_, _%_, _≤_, _<_}
+use Prim.Native.Nat.{ℕ, suc, _-_, _%_, _≤_, _<_}
 use mathlib.Core.Path.{_≡_, refl, sym, ap, _∙_, subst}
 use mathlib.Core.Bool.{false}
 use mathlib.Core.List.{List}
@@ -10,15 +10,15 @@ use borrow.Author.Tests.{lt-ltb}
 use Rattle.machine.specs.Transaction.{Transaction, Event, precedes, earlier, newborn}
 use Rattle.machine.specs.Lists.{insert}
 use Rattle.machine.specs.State.{State}
-use Rattle.machine.specs.Setters.{withSerial, setMade}
-use Rattle.machine.specs.Moves.{toRel, toFel}
+use Rattle.machine.specs.Setters.{withSerial, withStamp, setMade}
+use Rattle.machine.specs.Moves.{toRel, toFel, copyOf}
 use Rattle.rows.specs.Layout.{rel, fel, free}
 use Rattle.rows.specs.Cells.{write, setTime}
 use Rattle.rows.specs.Lists.{put, first, takeFirst}
 use Rattle.rows.specs.Make.{newbornAt, copyAt}
 use Rattle.rows.specs.Holds.{transactionAt, eventAt, update}
 use Rattle.rows.proofs.Fields.{write-serial, write-time}
-use Rattle.rows.proofs.Making.{written, newborn-written, copied-written}
+use Rattle.rows.proofs.Making.{written, time-written, newborn-written, copied-written}
 use Rattle.rows.proofs.Newborn.{newborn-is, copy-is}
 use Rattle.state.specs.declared.scalars.Scalars.{Scalars}
 use Rattle.state.specs.ScalarSetters.{putSerial, putMade}
@@ -93,17 +93,11 @@ module _ (w : List ℕ) (x : Scalars) (o : Option Transaction) (s : State) (list
     g₂ : Making w₂ k (x .moving) o s
     g₂ = making-written w₁ w₂ k (x .moving) o s (written w₁ 7 k (suc (s .serial)) (omega arith) hk) g₁
 
-    abbrev low : List ℕ
-    low = write w₂ 8 k (time % 4294967296)
-
     g₃ : Making w₃ k (x .moving) o s
-    unfolding setTime
-    g₃ =
-        making-written low w₃ k (x .moving) o s (written low 9 k (time / 4294967296) (omega arith) hk)
-        (making-written w₂ low k (x .moving) o s (written w₂ 8 k (time % 4294967296) (omega arith) hk) g₂)
+    g₃ = making-written w₂ w₃ k (x .moving) o s (time-written w₂ k hk time) g₂
 
     abbrev event : Transaction → Event
-    event u = record { time = time; who = u }
+    event u = record { time = time; who = withStamp time u }
 
     event-is : eventAt w₃ k ≡ event (withSerial (suc (s .serial)) t)
     event-is =
@@ -173,23 +167,19 @@ module _ (w : List ℕ) (x : Scalars) (t : Transaction) (s : State) (listing : L
   f₂ : Making v₂ j (x .moving) (some t) s
   f₂ = making-written v₁ v₂ j (x .moving) (some t) s (written v₁ 7 j (suc (s .serial)) (omega arith) hj) f₁
 
-  abbrev copyOf : Transaction → Transaction
-  copyOf u =
-      record { number = suc (s .made); priority = u .priority; parameters = u .parameters; next = target; serial = 0; returning = false }
-
-  copied : transactionAt v₂ j ≡ withSerial (suc (s .serial)) (copyOf t)
+  copied : transactionAt v₂ j ≡ withSerial (suc (s .serial)) (copyOf t (suc (s .made)) target)
   copied =
       write-serial v₁ j (f₁ .shows .shown .holds .room) hj (suc (s .serial))
       ∙ ap (withSerial (suc (s .serial))) (copy-is v₀ (x .moving) j (f₀ .shows .shown .holds .room) (f₀ .mover .0 .row) hj (f₀ .apart) (suc (s .made)) target)
-      ∙ ap (λ (u : Transaction). withSerial (suc (s .serial)) (copyOf u)) (f₀ .mover .1)
+      ∙ ap (λ (u : Transaction). withSerial (suc (s .serial)) (copyOf u (suc (s .made)) target)) (f₀ .mover .1)
 
   abbrev after : State
-  after = toRel (copyOf t) (setMade (suc (s .made)) s)
+  after = toRel (copyOf t (suc (s .made)) target) (setMade (suc (s .made)) s)
 
   lists : (q : ℕ) → q < 450 → update rel (insert precedes (transactionAt v₂ j) (listsOf s rel)) (listsOf s) q ≡ listsOf after q
   unfolding toRel listsOf
   lists q hq =
-      rw copied (lists-set-rel s (insert precedes (withSerial (suc (s .serial)) (copyOf t)) (s .rel)) q hq)
+      rw copied (lists-set-rel s (insert precedes (withSerial (suc (s .serial)) (copyOf t (suc (s .made)) target)) (s .rel)) q hq)
 
   on-rel : Listing (put v₂ rel j) (x .moving) (some t) after
   unfolding toRel

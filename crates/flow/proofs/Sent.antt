@@ -8,7 +8,7 @@ use native.Mathlib.Omega.{arith}
 use Rattle.machine.specs.Transaction.{Transaction, Event, precedes, earlier}
 use Rattle.machine.specs.Lists.{insert}
 use Rattle.machine.specs.State.{State}
-use Rattle.machine.specs.Setters.{withNext, withPriority, withSerial, withReturning}
+use Rattle.machine.specs.Setters.{withNext, withPriority, withSerial, withReturning, withStamp}
 use Rattle.machine.specs.Moves.{toRel, toFel}
 use Rattle.rows.specs.Layout.{rel, fel}
 use Rattle.rows.specs.Cells.{write, setTime}
@@ -72,12 +72,12 @@ module _ (w : List ℕ) (x : Scalars) (t : Transaction) (s : State) (listing : L
         (write-serial w₁ k (g₁ .shows .shown .holds .room) hk n ∙ ap (withSerial n) (g₁ .mover .1))
 
     abbrev event : Transaction → Event
-    event u = record { time = time; who = u }
+    event u = record { time = time; who = withStamp time u }
 
     event-is : eventAt w₃ k ≡ event (withSerial n t′)
     event-is = write-time w₂ k (g₂ .shows .shown .holds .room) hk time ∙ ap event (g₂ .mover .1)
 
-    g₃ : Listing w₃ k (some (withSerial n t′)) s
+    g₃ : Listing w₃ k (some (withStamp time (withSerial n t′))) s
     g₃ = listing-time w₂ k (withSerial n t′) s time g₂
 
     pub send-follows : Follows (sendOn w x time) 0 none (toFel time t′ s)
@@ -85,7 +85,7 @@ module _ (w : List ℕ) (x : Scalars) (t : Transaction) (s : State) (listing : L
     send-follows =
         subst (λ (m : Moved). Follows m 0 none (toFel time t′ s)) (sym send-is)
         (record {
-          listing = listing-put-fel w₃ k (withSerial n t′) s (toFel time t′ s) g₃ refl (λ q hq. refl) (ap (λ (e : Event). insert earlier e (s .fel)) event-is);
+          listing = listing-put-fel w₃ k (withStamp time (withSerial n t′)) s (toFel time t′ s) g₃ refl (λ q hq. refl) (ap (λ (e : Event). insert earlier e (s .fel)) event-is);
           counting =
               record {
                 clock = counting .clock;

@@ -41,12 +41,8 @@ record Room (n : ℕ) (s : State) : Type 0 where
   serials : s .serial + n ≤ 4294967295
   numbers : s .made + n ≤ 4294967295
 
-abbrev copyOf : ℕ → Transaction → State → Transaction
-copyOf target t s =
-    record { number = suc (s .made); priority = t .priority; parameters = t .parameters; next = target; serial = 0; returning = false }
-
 abbrev oneMore : ℕ → Transaction → State → State
-oneMore target t s = Moves.toRel (copyOf target t s) (setMade (suc (s .made)) s)
+oneMore target t s = Moves.toRel (Moves.copyOf t (suc (s .made)) target) (setMade (suc (s .made)) s)
 
 room-less : (n target : ℕ) (t : Transaction) (s : State) → Room (suc n) s → Room n (oneMore target t s)
 unfolding Moves.toRel

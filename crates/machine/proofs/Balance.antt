@@ -11,9 +11,9 @@ use lib.ListN.{length, take, drop, length-set}
 use Rattle.machine.specs.Transaction.{Transaction, Event, precedes, earlier, newborn}
 use Rattle.machine.specs.Lists.{insert, those, others, flat}
 use Rattle.machine.specs.Term.{serverAt, free}
-use Rattle.machine.specs.Block.{Code, Share, facility, storage, shareServer, shareUnits, Block, generate, advance, terminate, takes, frees, waitServer, waitTerms, moves, assign, priority, split, counts, facts, BlockModel, blockAt, status, welIndex}
+use Rattle.machine.specs.Block.{Code, Share, facility, storage, shareServer, shareUnits, Block, generate, advance, terminate, takes, frees, waitServer, waitTerms, moves, assign, priority, split, counts, facts, BlockModel, blockAt, welIndex}
 use Rattle.machine.specs.State.{State, Logged}
-use Rattle.machine.specs.Setters.{withSerial, withPriority, withReturning, withNext, setSerial, setMoving}
+use Rattle.machine.specs.Setters.{withSerial, withPriority, withReturning, withStamp, withNext, setSerial, setMoving}
 use Rattle.machine.specs.Moves.{recordOf, log, enters, moveTo, fresh, toRel, toFel, qlOf, welOf, toQl, toWel, toWsl, mustWait, wakeFirstQl, wakeQl, wakeFirstWel, wakeWsl, setUse, setContent, timesLeft, useTime, arrival, copies}
 use Rattle.machine.specs.Execute.{askAdvance, question, takeUnits, wakeFor, checkWels, endsOne, delay, effect, freeUnits}
 use Rattle.machine.specs.Turn.{arriveAll, due, moveClock, nextEvents, takeFirst, takeReady, taking, answer, execute, waitsOn, wsScheme, turn}
@@ -21,7 +21,7 @@ use Rattle.machine.specs.Run.{startAt, idle, start}
 use Rattle.machine.specs.Claims.{upTo, terminates}
 use Rattle.machine.proofs.Proper.{Proper, ProperBlock, Names, servers, code-server, share-server}
 use Rattle.machine.proofs.RunLaws.{cond-cases}
-use Rattle.machine.proofs.Cases.{checkWels-kept, waitTerms-cases, wsScheme-cases, startOf-cases}
+use Rattle.machine.proofs.Cases.{checkWels-kept, waitServer-cases, waitTerms-cases, wsScheme-cases, startOf-cases}
 use Rattle.machine.proofs.Kept.{taking-kept}
 use Rattle.machine.proofs.Shape.{Shape, shape-closed, ql-at, wel-at, wel-below}
 use Rattle.machine.proofs.Sums.{sumOn, sum-insert, sum-those, sum-first, sum-flat-set, sum-flat-none, sum-wake}
@@ -68,7 +68,7 @@ module _ (m : BlockModel) (tape : List (List ℕ)) (f : ℕ → ℕ) where
     weighs-toFel : (time : ℕ) (t : Transaction) (s : State) → Weighs (by t + x) s → Weighs x (toFel time t s)
     unfolding toFel
     weighs-toFel time t s w =
-        omega (arith, sum-insert (λ e. by (e .who)) earlier (record { time = time; who = withSerial (fresh s) t }) (s .fel))
+        omega (arith, sum-insert (λ e. by (e .who)) earlier (record { time = time; who = withStamp time (withSerial (fresh s) t) }) (s .fel))
 
     weighs-toQl : (v : ℕ) (t : Transaction) (s : State) → v - 1 < length (s .ql) → Weighs (by t + x) s → Weighs x (toQl v t s)
     unfolding toQl
@@ -252,10 +252,11 @@ module _ (m : BlockModel) (tape : List (List ℕ)) (f : ℕ → ℕ) where
       balanced-frees (facility v) at h = balanced-release v 1 (at .0) (at .1) h
       balanced-frees (storage v b) at h = balanced-leave _ v b (at .0) (at .1) h
 
-      balanced-waitServer : (code : Code) (v : ℕ) → 1 ≤ v → v ≤ servers m → Shape m s → Balanced (effect m (waitServer code v) t idle-hand)
-      unfolding effect moveTo enters log takeUnits
-      balanced-waitServer code v low high h =
-          cond-cases Balanced (status code (serverAt (s .view) v)) _ _ (λ e. balanced-waitWel v code (wel-at h v code low high))
+      balanced-waitServer : (code : Code) (v c : ℕ) → 1 ≤ v → v ≤ servers m → Shape m s → Balanced (effect m (waitServer code v c) t idle-hand)
+      unfolding moveTo enters log
+      balanced-waitServer code v c low high h =
+          waitServer-cases Balanced m code v c t idle-hand (λ e. balanced-waitWel v code (wel-at h v code low high))
+          (λ e. weighs-wakeFirstWel (by t) v code idle-hand (wel-at h v code low high) w)
           (λ e. weighs-wakeFirstWel (by t) v code (enters t idle-hand) (wel-at h v code low high) entered)
 
       -- a question has stopped the turn where there is no time
@@ -281,9 +282,9 @@ module _ (m : BlockModel) (tape : List (List ℕ)) (f : ℕ → ℕ) where
     balanced-effect (terminate a) e q good h = balanced-terminate a (terminates-at e)
     balanced-effect (takes x) e q good h = balanced-takeUnits (terminates-at e) x (share-server m x good) h
     balanced-effect (frees x) e q good h = balanced-frees (terminates-at e) x (share-server m x good) h
-    balanced-effect (waitServer code v) e q good h =
-        let at : Names (servers m) v = code-server m code v good in
-        balanced-waitServer (terminates-at e) code v (at .0) (at .1) h
+    balanced-effect (waitServer code v c) e q good h =
+        let at : Names (servers m) v = code-server m code v (good .0) in
+        balanced-waitServer (terminates-at e) code v c (at .0) (at .1) h
     balanced-effect (waitTerms a r b) e q good h =
         let plain : facts (blockAt m (t .next)) .terminates ≡ 0 = terminates-at e in
         waitTerms-cases Balanced m a r b t idle-hand (λ k. balanced-waitWsl plain) (λ k. entered plain)

@@ -1,16 +1,17 @@
--- What holds of both arms of a choice holds of the choice: the check of a WEL, WAITIF of terms, the WS scheme, the start. The
+-- What holds of both arms of a choice holds of the choice: the check of a WEL, WAITIF of a code and of terms, the WS scheme, the start. The
 -- other choices of a block, by `cond-cases`, stand in the proof of each claim.
-use Prim.Native.Nat.{ℕ}
+use Prim.Native.Nat.{ℕ, _-_}
 use mathlib.Core.Path.{_≡_, refl, sym}
-use mathlib.Core.Bool.{Bool, true, false, not}
+use mathlib.Core.Bool.{Bool, true, false, not, _&&_}
 use borrow.Author.Tests.{eqb-true, eqb-false}
+use lib.Dec.{ltb}
 use Rattle.machine.specs.Transaction.{Transaction}
 use Rattle.machine.specs.Term.{Term, Relation, serverAt, compare}
 use Rattle.machine.specs.Facts.{isGenerate}
-use Rattle.machine.specs.Block.{Code, U, NU, E, NE, F, NF, status, Block, waitTerms, facts, BlockModel}
+use Rattle.machine.specs.Block.{Code, U, NU, E, NE, F, NF, status, Block, waitServer, waitTerms, facts, BlockModel}
 use Rattle.machine.specs.State.{State}
-use Rattle.machine.specs.Moves.{enters, goOn, toWsl, mustWait, wakeFirstWel, wakeWsl, timesLeft, arrival}
-use Rattle.machine.specs.Execute.{checkWel, checkWels, effect, takeUnits}
+use Rattle.machine.specs.Moves.{enters, moveTo, goOn, toWel, toWsl, mustWait, wakeFirstWel, wakeWsl, timesLeft, arrival}
+use Rattle.machine.specs.Execute.{checkWel, checkWels, stamped, effect, takeUnits}
 use Rattle.machine.specs.Turn.{waitsOn, wsScheme}
 use Rattle.machine.specs.Run.{startOf}
 use Rattle.machine.proofs.RunLaws.{cond-cases}
@@ -36,6 +37,14 @@ module _ (Q : State → Type 0) where
     where
       one : (code : Code) (s : State) → Q s → Q (checkWel v code s)
       one code s q = checkWel-cases v code s (λ e. q) (λ e. wakes code s q)
+
+  -- it waits, or goes back, or enters
+  pub waitServer-cases : (m : BlockModel) (code : Code) (v c : ℕ) (t : Transaction) (s : State)
+      → (status code (serverAt (s .view) v) ≡ true → Q (mustWait (toWel v code) t s))
+      → ((ltb 0 c && ltb (t .stamp) (s .view .clock)) ≡ true → Q (moveTo (t .next - c) t (wakeFirstWel v code s)))
+      → ((ltb 0 c && ltb (t .stamp) (s .view .clock)) ≡ false → Q (goOn (stamped m t s) (wakeFirstWel v code (enters t s)))) → Q (effect m (waitServer code v c) t s)
+  unfolding effect takeUnits
+  waitServer-cases m code v c t s waits goes-back passes = cond-cases Q _ _ _ waits (λ e. cond-cases Q _ _ _ goes-back passes)
 
   pub waitTerms-cases : (m : BlockModel) (a : Term) (r : Relation) (b : Term) (t : Transaction) (s : State)
       → (compare (m .values) (s .view) (t .parameters) a r b ≡ true → Q (mustWait toWsl t s))

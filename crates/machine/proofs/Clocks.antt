@@ -13,7 +13,7 @@ use Rattle.machine.specs.Limits.{maxLiving}
 use Rattle.machine.specs.Transaction.{Transaction, Event, earlier}
 use Rattle.machine.specs.Lists.{nth}
 use Rattle.machine.specs.Term.{serverAt, free}
-use Rattle.machine.specs.Block.{Code, Share, facility, storage, shareServer, shareUnits, Block, generate, advance, terminate, takes, frees, waitServer, waitTerms, moves, assign, priority, split, counts, BlockModel, blockAt, status}
+use Rattle.machine.specs.Block.{Code, Share, facility, storage, shareServer, shareUnits, Block, generate, advance, terminate, takes, frees, waitServer, waitTerms, moves, assign, priority, split, counts, BlockModel, blockAt}
 use Rattle.machine.specs.State.{State}
 use Rattle.machine.specs.Setters.{setMoving}
 use Rattle.machine.specs.Moves.{log, enters, moveTo, toRel, toFel, toQl, toWel, toWsl, mustWait, wakeFirstQl, wakeQl, wakeFirstWel, wakeWsl, setUse, setContent, timesLeft, arrival, copies}
@@ -23,7 +23,7 @@ use Rattle.machine.specs.Run.{idle, startAt, start, states}
 use Rattle.machine.specs.Claims.{Each}
 use Rattle.machine.proofs.Proper.{Proper}
 use Rattle.machine.proofs.RunLaws.{cond-cases, each-state}
-use Rattle.machine.proofs.Cases.{checkWels-kept, waitTerms-cases, wsScheme-cases, startOf-cases}
+use Rattle.machine.proofs.Cases.{checkWels-kept, waitServer-cases, waitTerms-cases, wsScheme-cases, startOf-cases}
 use Rattle.machine.proofs.Sorted.{each-insert, each-those, at-set}
 
 -- ---- Definition
@@ -137,9 +137,9 @@ module _ (m : BlockModel) where
   effect-timely (terminate a) t s asked h = like s _ refl refl h
   effect-timely (takes x) t s asked h = takes-timely x t _ (like s _ refl refl h)
   effect-timely (frees x) t s asked h = moves-timely _ t _ (check-timely (shareServer x) _ (wakeFor-timely x _ (like s _ refl refl h)))
-  effect-timely (waitServer code v) t s asked h =
-      cond-cases (Timely (limit m)) (status code (serverAt (s .view) v)) _ _
-      (λ e. waits-timely (toWel v code) (toWel-timely v code) t _ (like s _ refl refl h)) (λ e. moves-timely _ t _ (wake-timely v code _ (like s _ refl refl h)))
+  effect-timely (waitServer code v c) t s asked h =
+      waitServer-cases (Timely (limit m)) m code v c t (setMoving none s) (λ e. waits-timely (toWel v code) (toWel-timely v code) t _ (like s _ refl refl h))
+      (λ e. moves-timely _ t _ (wake-timely v code _ (like s _ refl refl h))) (λ e. moves-timely _ _ _ (wake-timely v code _ (like s _ refl refl h)))
   effect-timely (waitTerms a r b) t s asked h =
       waitTerms-cases (Timely (limit m)) m a r b t (setMoving none s) (λ e. waits-timely toWsl toWsl-timely t _ (like s _ refl refl h))
       (λ e. moves-timely _ t _ (like s _ refl refl h))

@@ -2,18 +2,20 @@
 use Prim.Native.Nat.{ℕ, zero, suc, _+_, _*_, _-_}
 use mathlib.Core.Path.{_≡_, refl}
 use mathlib.Core.Bool.{Bool, true, false}
-use mathlib.Core.List.{List, [], _∷_}
+use mathlib.Core.List.{List, [], _∷_, _++_, map}
 use mathlib.Core.Option.{Option, none, some}
 use lib.ListN.{length, take, replicate}
 use Rattle.machine.specs.Transaction.{Transaction, Event, precedes, earlier, newborn}
+use Rattle.machine.specs.Lists.{flat}
 use Rattle.machine.specs.Block.{Code, BlockModel, welIndex}
 use Rattle.machine.specs.State.{State}
-use Rattle.machine.specs.Setters.{withNext, withSerial, withReturning, setSerial}
-use Rattle.machine.specs.Moves.{log, enters, moveTo, fresh, toRel, toFel, toQl, toWel, toWsl, mustWait, wake, wakeFirstQl, wakeQl, wakeFirstWel, wakeWsl, setUse, setContent, arrival, copies, qlOf, welOf}
+use Rattle.machine.specs.Setters.{withNext, withSerial, withReturning, withStamp, setSerial}
+use Rattle.machine.specs.Moves.{log, enters, moveTo, fresh, toRel, toFel, toQl, toWel, toWsl, mustWait, wake, wakeFirstQl, wakeQl, wakeFirstWel, wakeWsl, setUse, setContent, arrival, copyOf, copies, qlOf, welOf}
 use Rattle.machine.specs.Execute.{checkWels, endsOne, delay}
 use Rattle.machine.specs.Turn.{arriveAll, due, moveClock, nextEvents, takeFirst, takeReady, taking, wsScheme}
 use Rattle.machine.specs.Run.{idle}
-use Rattle.machine.specs.Claims.{Each}
+use Rattle.machine.specs.Report.{movingOne}
+use Rattle.machine.specs.Claims.{Each, everyone}
 use Rattle.machine.proofs.RunLaws.{cond-cases}
 use Rattle.machine.proofs.Cases.{checkWels-kept, wsScheme-cases}
 use Rattle.machine.proofs.Shape.{each-set, each-getD}
@@ -67,7 +69,7 @@ module _ (P : Transaction → Type 0) (U : Unmoved P) where
   toRel-everybody t s p h =
       record { ql = h .ql; wel = h .wel; wsl = h .wsl; rel = each-insert P precedes _ (s .rel) (U .serial _ t p) (h .rel); fel = h .fel; moving = h .moving }
 
-  pub toFel-everybody : (time : ℕ) (t : Transaction) (s : State) → P t → Everybody P s → Everybody P (toFel time t s)
+  pub toFel-everybody : (time : ℕ) (t : Transaction) (s : State) → P (withStamp time t) → Everybody P s → Everybody P (toFel time t s)
   unfolding toFel
   toFel-everybody time t s p h =
       record {
@@ -75,11 +77,11 @@ module _ (P : Transaction → Type 0) (U : Unmoved P) where
         wel = h .wel;
         wsl = h .wsl;
         rel = h .rel;
-        fel = each-insert (λ (e : Event). P (e .who)) earlier _ (s .fel) (U .serial _ t p) (h .fel);
+        fel = each-insert (λ (e : Event). P (e .who)) earlier _ (s .fel) (U .serial _ (withStamp time t) p) (h .fel);
         moving = h .moving;
       }
 
-  toQl-everybody : (v : ℕ) (t : Transaction) (s : State) → P t → Everybody P s → Everybody P (toQl v t s)
+  pub toQl-everybody : (v : ℕ) (t : Transaction) (s : State) → P t → Everybody P s → Everybody P (toQl v t s)
   unfolding toQl
   toQl-everybody v t s p h =
       record {
@@ -91,7 +93,7 @@ module _ (P : Transaction → Type 0) (U : Unmoved P) where
         moving = h .moving;
       }
 
-  toWel-everybody : (v : ℕ) (code : Code) (t : Transaction) (s : State) → P t → Everybody P s → Everybody P (toWel v code t s)
+  pub toWel-everybody : (v : ℕ) (code : Code) (t : Transaction) (s : State) → P t → Everybody P s → Everybody P (toWel v code t s)
   unfolding toWel
   toWel-everybody v code t s p h =
       record {
@@ -103,13 +105,13 @@ module _ (P : Transaction → Type 0) (U : Unmoved P) where
         moving = h .moving;
       }
 
-  toWsl-everybody : (t : Transaction) (s : State) → P t → Everybody P s → Everybody P (toWsl t s)
+  pub toWsl-everybody : (t : Transaction) (s : State) → P t → Everybody P s → Everybody P (toWsl t s)
   unfolding toWsl
   toWsl-everybody t s p h =
       record { ql = h .ql; wel = h .wel; wsl = each-insert P precedes t (s .wsl) p (h .wsl); rel = h .rel; fel = h .fel; moving = h .moving }
 
   -- nothing but lists matters
-  like : (s s′ : State) → s′ .ql ≡ s .ql → s′ .wel ≡ s .wel → s′ .wsl ≡ s .wsl → s′ .rel ≡ s .rel → s′ .fel ≡ s .fel → s′ .moving ≡ s .moving
+  pub like : (s s′ : State) → s′ .ql ≡ s .ql → s′ .wel ≡ s .wel → s′ .wsl ≡ s .wsl → s′ .rel ≡ s .rel → s′ .fel ≡ s .fel → s′ .moving ≡ s .moving
       → Everybody P s → Everybody P s′
   like s s′ a b c d e f h =
       record {
@@ -181,7 +183,7 @@ module _ (P : Transaction → Type 0) (U : Unmoved P) where
         moving = h .moving;
       }
 
-  wakeWsl-everybody : (p : Transaction → Bool) (s : State) → Everybody P s → Everybody P (wakeWsl p s)
+  pub wakeWsl-everybody : (p : Transaction → Bool) (s : State) → Everybody P s → Everybody P (wakeWsl p s)
   unfolding wakeWsl
   wakeWsl-everybody p s h =
       record {
@@ -201,26 +203,26 @@ module _ (P : Transaction → Type 0) (U : Unmoved P) where
 
   -- ---- Making
 
-  pub arrival-everybody : (l : List ℕ) (list p n : ℕ) (s : State) → P (newborn (suc (s .made)) p n) → Everybody P s
+  pub arrival-everybody : (l : List ℕ) (list p n : ℕ) (s : State) → ((time : ℕ) → P (withStamp time (newborn (suc (s .made)) p n))) → Everybody P s
       → Everybody P (arrival l list p n s)
   unfolding arrival
   arrival-everybody [] list p n s new h = h
-  arrival-everybody (time ∷ l) list p n s new h = toFel-everybody _ _ _ new (like s _ refl refl refl refl refl refl h)
+  arrival-everybody (time ∷ l) list p n s new h = toFel-everybody _ _ _ (new _) (like s _ refl refl refl refl refl refl h)
 
   -- a copy, whatever its number
   pub copies-everybody : (n target : ℕ) (t : Transaction) (s : State)
-      → ((k : ℕ) → P (record { number = k; priority = t .priority; parameters = t .parameters; next = target; serial = 0; returning = false }))
+      → ((k : ℕ) → P (copyOf t k target))
       → Everybody P s → Everybody P (copies n target t s)
   unfolding copies
   copies-everybody zero target t s new h = h
   copies-everybody (suc n) target t s new h =
       copies-everybody n target t _ new (toRel-everybody _ _ (new _) (like s _ refl refl refl refl refl refl h))
 
-  pub delay-everybody : (l : List ℕ) (list : ℕ) (t : Transaction) (s : State) → P (withNext (suc (t .next)) t) → Everybody P s
+  pub delay-everybody : (l : List ℕ) (list : ℕ) (t : Transaction) (s : State) → ((time : ℕ) → P (withStamp time (withNext (suc (t .next)) t))) → Everybody P s
       → Everybody P (delay l list t s)
   unfolding delay
   delay-everybody [] list t s p h = h
-  delay-everybody (time ∷ l) list t s p h = toFel-everybody _ _ _ (U .mark false _ p) (like s _ refl refl refl refl refl refl h)
+  delay-everybody (time ∷ l) list t s p h = toFel-everybody _ _ _ (U .mark false _ (p _)) (like s _ refl refl refl refl refl refl h)
 
   pub enters-everybody : (t : Transaction) (s : State) → Everybody P s → Everybody P (enters t s)
   unfolding enters log
@@ -292,3 +294,65 @@ module _ (P : Transaction → Type 0) (U : Unmoved P) where
         fel = tt;
         moving = tt;
       }
+
+-- ---- Everybody as one list
+
+module _ (P : Transaction → Type 0) where
+  each-both : (l k : List Transaction) → Each P l → Each P k → Each P (l ++ k)
+  each-both [] k h g = g
+  each-both (x ∷ l) k h g = (h .0, each-both l k (h .1) g)
+
+  each-flat : (ls : List (List Transaction)) → Each (Each P) ls → Each P (flat ls)
+  unfolding flat
+  each-flat [] h = tt
+  each-flat (l ∷ ls) h = each-both l (flat ls) (h .0) (each-flat ls (h .1))
+
+  each-who : (l : List Event) → Each (λ (e : Event). P (e .who)) l → Each P (map (λ e. e .who) l)
+  each-who [] h = tt
+  each-who (e ∷ l) h = (h .0, each-who l (h .1))
+
+  each-moving : (o : Option Transaction) → Maybe P o → Each P (movingOne o)
+  unfolding movingOne
+  each-moving none h = tt
+  each-moving (some t) h = (h, tt)
+
+  pub everybody-each : (s : State) → Everybody P s → Each P (everyone s)
+  unfolding everyone
+  everybody-each s h =
+      let fel = map (λ (e : Event). e .who) (s .fel) in
+      each-both (flat (s .ql) ++ flat (s .wel) ++ s .wsl ++ s .rel ++ fel) (movingOne (s .moving))
+      (each-both (flat (s .ql) ++ flat (s .wel) ++ s .wsl ++ s .rel) fel
+      (each-both (flat (s .ql) ++ flat (s .wel) ++ s .wsl) (s .rel)
+      (each-both (flat (s .ql) ++ flat (s .wel)) (s .wsl)
+      (each-both (flat (s .ql)) (flat (s .wel)) (each-flat (s .ql) (h .ql)) (each-flat (s .wel) (h .wel))) (h .wsl))
+      (h .rel))
+      (each-who (s .fel) (h .fel)))
+      (each-moving (s .moving) (h .moving))
+
+-- one claim from two
+pub everybody-map : {P Q R : Transaction → Type 0} → ((t : Transaction) → P t → Q t → R t) → (s : State) → Everybody P s → Everybody Q s → Everybody R s
+everybody-map {P} {Q} {R} f s h k =
+    record {
+      ql = both-lists (s .ql) (h .ql) (k .ql);
+      wel = both-lists (s .wel) (h .wel) (k .wel);
+      wsl = both (s .wsl) (h .wsl) (k .wsl);
+      rel = both (s .rel) (h .rel) (k .rel);
+      fel = both-events (s .fel) (h .fel) (k .fel);
+      moving = both-moving (s .moving) (h .moving) (k .moving);
+    }
+  where
+    both : (l : List Transaction) → Each P l → Each Q l → Each R l
+    both [] h k = tt
+    both (x ∷ l) h k = (f x (h .0) (k .0), both l (h .1) (k .1))
+
+    both-lists : (l : List (List Transaction)) → Each (Each P) l → Each (Each Q) l → Each (Each R) l
+    both-lists [] h k = tt
+    both-lists (x ∷ l) h k = (both x (h .0) (k .0), both-lists l (h .1) (k .1))
+
+    both-events : (l : List Event) → Each (λ (e : Event). P (e .who)) l → Each (λ (e : Event). Q (e .who)) l → Each (λ (e : Event). R (e .who)) l
+    both-events [] h k = tt
+    both-events (x ∷ l) h k = (f (x .who) (h .0) (k .0), both-events l (h .1) (k .1))
+
+    both-moving : (o : Option Transaction) → Maybe P o → Maybe Q o → Maybe R o
+    both-moving none h k = tt
+    both-moving (some t) h k = f t h k

@@ -15,7 +15,7 @@ use Rattle.machine.specs.Transaction.{Transaction, Event}
 use Rattle.machine.specs.Lists.{setNth}
 use Rattle.machine.specs.Term.{Server, idleServer, serverAt, free}
 use Rattle.machine.specs.Facts.{Facts}
-use Rattle.machine.specs.Block.{Share, facility, storage, shareServer, shareUnits, shareFacility, shareHolder, Block, generate, advance, terminate, takes, frees, waitServer, waitTerms, moves, assign, priority, split, counts, facts, BlockModel, blockAt, status}
+use Rattle.machine.specs.Block.{Share, facility, storage, shareServer, shareUnits, shareFacility, shareHolder, Block, generate, advance, terminate, takes, frees, waitServer, waitTerms, moves, assign, priority, split, counts, facts, BlockModel, blockAt}
 use Rattle.machine.specs.State.{State, Logged}
 use Rattle.machine.specs.Setters.{withUse, setMoving, setTurns}
 use Rattle.machine.specs.Moves.{recordOf, log, enters, moveTo, toRel, toFel, toQl, toWel, toWsl, mustWait, wakeFirstQl, wakeQl, wakeFirstWel, wakeWsl, setUse, setContent, arrival, copies}
@@ -25,7 +25,7 @@ use Rattle.machine.specs.Run.{startAt, idle, start, states}
 use Rattle.machine.specs.Claims.{Each, bit, upTo, count, factsAt, entered, terminates, madeBy, isLiving, holderBy, Held}
 use Rattle.machine.proofs.Proper.{Proper, ProperShare, ProperBlock, Names, Storage, servers}
 use Rattle.machine.proofs.RunLaws.{cond-cases, each-state, each-map}
-use Rattle.machine.proofs.Cases.{checkWels-kept, waitTerms-cases, wsScheme-cases, startOf-cases}
+use Rattle.machine.proofs.Cases.{waitServer-cases, checkWels-kept, waitTerms-cases, wsScheme-cases, startOf-cases}
 use Rattle.machine.proofs.Shape.{Shape, server-length, server-within, facility-capacity}
 use Rattle.machine.proofs.Sums.{count-cons}
 use Rattle.machine.proofs.Waiting.{serverIn}
@@ -290,9 +290,10 @@ module _ (m : BlockModel) (tape : List (List ℕ)) where
         holding-ends t s h (ap (λ b. facts b .server) e) (ap (λ b. facts b .releases) e) (asked-none (m .rules .holders) (held m (s .view) (t .number)) q)
     holding-effect (takes x) o e q good = holding-takes t s h shape x e good lives
     holding-effect (frees x) o e q good = holding-checkWels (shareServer x) _ (holding-wakeFor x _ (holding-frees t s h shape x e good))
-    holding-effect (waitServer code v) o e q good =
-        cond-cases Holding (status code (serverAt (s .view) v)) _ _
-        (λ k. holding-mustWait t s h (toWel v code) (λ t s h. h) (ap (λ b. facts b .releases) e) (ap (λ b. facts b .terminates) e)) (λ k. plain e refl refl refl)
+    holding-effect (waitServer code v c) o e q good =
+        waitServer-cases Holding m code v c t s
+        (λ k. holding-mustWait t s h (toWel v code) (λ t s h. h) (ap (λ b. facts b .releases) e) (ap (λ b. facts b .terminates) e)) (λ k. h)
+        (λ k. plain e refl refl refl)
     holding-effect (waitTerms a r b) o e q good =
         waitTerms-cases Holding m a r b t s (λ k. holding-mustWait t s h toWsl (λ t s h. h) (ap (λ b. facts b .releases) e) (ap (λ b. facts b .terminates) e))
         (λ k. plain e refl refl refl)

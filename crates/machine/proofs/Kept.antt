@@ -11,7 +11,7 @@ use lib.ListN.{set}
 use Rattle.machine.specs.Limits.{maxLiving}
 use Rattle.machine.specs.Transaction.{Transaction, Event}
 use Rattle.machine.specs.Term.{Queue, serverAt, queueAt, free}
-use Rattle.machine.specs.Block.{Code, Share, facility, storage, shareServer, shareUnits, Change, up, down, Block, generate, advance, terminate, takes, frees, waitServer, waitTerms, moves, assign, priority, split, counts, BlockModel, blockAt, status}
+use Rattle.machine.specs.Block.{Code, Share, facility, storage, shareServer, shareUnits, Change, up, down, Block, generate, advance, terminate, takes, frees, waitServer, waitTerms, moves, assign, priority, split, counts, BlockModel, blockAt}
 use Rattle.machine.specs.State.{State, Logged}
 use Rattle.machine.specs.Setters.{setClock, setEntries, setQueues, setView, setCounter, setSamples, setQl, setWel, setWsl, setRel, setFel, setMoving, setSerial, setMade, setEnded, setTurns, setRecords, setWritten, setEnd}
 use Rattle.machine.specs.Moves.{log, enters, moveTo, toRel, toFel, toQl, toWel, toWsl, mustWait, wakeFirstQl, wakeQl, wakeFirstWel, wakeWsl, setUse, setContent, timesLeft, arrival, copies}
@@ -20,7 +20,7 @@ use Rattle.machine.specs.Turn.{sample, arriveAll, moveClock, nextEvents,
 use Rattle.machine.specs.Run.{startAt, idle, start}
 use Rattle.machine.specs.Claims.{statedEnd}
 use Rattle.machine.proofs.RunLaws.{cond-cases}
-use Rattle.machine.proofs.Cases.{checkWels-kept, waitTerms-cases, wsScheme-cases, startOf-cases}
+use Rattle.machine.proofs.Cases.{checkWels-kept, waitServer-cases, waitTerms-cases, wsScheme-cases, startOf-cases}
 
 -- ---- Definition
 
@@ -89,7 +89,7 @@ question-stops m (advance list) t s = ask-advance m (timesLeft s list) s
 question-stops m (terminate a) t s = unless-stops (not (m .rules .holders) || eqb (held m (s .view) (t .number)) 0) 28 0 tt tt
 question-stops m (takes x) t s = tt
 question-stops m (frees x) t s = unless-stops (leb (shareUnits x) (serverAt (s .view) (shareServer x) .inUse)) 24 _ tt (ask-holder m x t s)
-question-stops m (waitServer code v) t s = tt
+question-stops m (waitServer code v c) t s = tt
 question-stops m (waitTerms a r b) t s = tt
 question-stops m (moves c target) t s = tt
 question-stops m (assign k a) t s = tt
@@ -198,9 +198,9 @@ module _ (Q : State → Type 0) (C : Closed Q) where
   effect-kept m (takes x) t s h = takeUnits-kept x t s h
   effect-kept m (frees x) t s h =
       goes-on _ t _ (check-kept (shareServer x) _ (wakeFor-kept m x _ (freeUnits-kept (shareServer x) (shareUnits x) _ (enters-kept t s h))))
-  effect-kept m (waitServer code v) t s h =
-      cond-cases Q (status code (serverAt (s .view) v)) _ _ (λ e. mustWait-kept (toWel v code) (toWel-kept v code) t s h)
-      (λ e. goes-on _ t _ (wakeFirstWel-kept v code _ (enters-kept t s h)))
+  effect-kept m (waitServer code v c) t s h =
+      waitServer-cases Q m code v c t s (λ e. mustWait-kept (toWel v code) (toWel-kept v code) t s h) (λ e. goes-on _ t _ (wakeFirstWel-kept v code s h))
+      (λ e. goes-on _ _ _ (wakeFirstWel-kept v code _ (enters-kept t s h)))
   effect-kept m (waitTerms a r b) t s h =
       waitTerms-cases Q m a r b t s (λ e. mustWait-kept toWsl toWsl-kept t s h) (λ e. goes-on _ t _ (enters-kept t s h))
   effect-kept m (moves c target) t s h = goes-on _ t _ (enters-kept t s h)

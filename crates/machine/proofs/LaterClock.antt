@@ -63,7 +63,7 @@ module _ (new : Rules) (m : BlockModel) (higher : m .rules .maxClock ≤ new .ma
   question-same (terminate a) t s h = ap (λ b. unless (not b || eqb (held m (s .view) (t .number)) 0) 28 0) (sym holders)
   question-same (takes x) t s h = refl
   question-same (frees x) t s h = ap (unless (leb (shareUnits x) (serverAt (s .view) (shareServer x) .inUse)) 24) (holder-same x t s)
-  question-same (waitServer code v) t s h = refl
+  question-same (waitServer code v c) t s h = refl
   question-same (waitTerms a r b) t s h = refl
   question-same (moves c target) t s h = refl
   question-same (assign k a) t s h = refl

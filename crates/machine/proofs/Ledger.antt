@@ -14,7 +14,7 @@ use Rattle.machine.specs.Transaction.{Transaction, Event}
 use Rattle.machine.specs.Lists.{nth, setNth}
 use Rattle.machine.specs.Term.{serverAt, free}
 use Rattle.machine.specs.Facts.{Facts}
-use Rattle.machine.specs.Block.{Share, facility, storage, shareServer, shareUnits, Block, generate, advance, terminate, takes, frees, waitServer, waitTerms, moves, assign, priority, split, counts, facts, BlockModel, blockAt, status}
+use Rattle.machine.specs.Block.{Share, facility, storage, shareServer, shareUnits, Block, generate, advance, terminate, takes, frees, waitServer, waitTerms, moves, assign, priority, split, counts, facts, BlockModel, blockAt}
 use Rattle.machine.specs.State.{State, Logged}
 use Rattle.machine.specs.Setters.{setMoving}
 use Rattle.machine.specs.Moves.{recordOf, log, enters, moveTo, toRel, toFel, toQl, toWel, toWsl, mustWait, wakeFirstQl, wakeQl, wakeFirstWel, wakeWsl, setUse, setContent, timesLeft, arrival, copies}
@@ -23,7 +23,7 @@ use Rattle.machine.specs.Turn.{arriveAll, moveClock, nextEvents, takeFir
 use Rattle.machine.specs.Claims.{bit, timesOf, factsAt, entered, getsTime, usedBy, madeBy, endedBy, terminates}
 use Rattle.machine.proofs.Proper.{Proper, ProperBlock, Names}
 use Rattle.machine.proofs.RunLaws.{cond-cases}
-use Rattle.machine.proofs.Cases.{checkWels-kept, waitTerms-cases, wsScheme-cases}
+use Rattle.machine.proofs.Cases.{waitServer-cases, checkWels-kept, waitTerms-cases, wsScheme-cases}
 use Rattle.machine.proofs.Kept.{taking-kept}
 use Rattle.machine.proofs.Shape.{Shape, shape-closed, samples-at}
 use Rattle.machine.proofs.Sums.{count-cons}
@@ -263,9 +263,9 @@ module _ (m : BlockModel) (tape : List (List ℕ)) where
     booked-effect (takes x) o e q good shape = booked-takeUnits (plain-facts (ap facts e) refl refl refl refl) x
     booked-effect (frees x) o e q good shape =
         booked-checkWels (shareServer x) _ (booked-wakeFor x _ (booked-entered (plain-facts (ap facts e) refl refl refl refl)))
-    booked-effect (waitServer code v) o e q good shape =
+    booked-effect (waitServer code v c) o e q good shape =
         let plain : Plain (facts (blockAt m (t .next))) = plain-facts (ap facts e) refl refl refl refl in
-        cond-cases Books (status code (serverAt (s .view) v)) _ _ (λ k. booked-mustWait plain (toWel v code) (λ t s h. h)) (λ k. booked-entered plain)
+        waitServer-cases Books m code v c t s (λ k. booked-mustWait plain (toWel v code) (λ t s h. h)) (λ k. h) (λ k. booked-entered plain)
     booked-effect (waitTerms a r b) o e q good shape =
         let plain : Plain (facts (blockAt m (t .next))) = plain-facts (ap facts e) refl refl refl refl in
         waitTerms-cases Books m a r b t s (λ k. booked-mustWait plain toWsl (λ t s h. h)) (λ k. booked-entered plain)

@@ -27,6 +27,7 @@ pub mod Rivals
 pub mod Taken
 pub mod OrderKept
 pub mod InOrder
+pub mod Groups
 pub mod ParserLaws
 pub mod ProperFrom
 pub mod OutcomeLaws
@@ -43,5 +44,8 @@ pub mod SameTurns
 pub mod LaterClock
 pub mod OlderTapes
 pub mod Holders
+pub mod OlderModels
 pub mod OnlyHolder
+pub mod Ahead
+pub mod JoinedWaits
 pub mod Demand3

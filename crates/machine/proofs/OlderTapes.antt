@@ -16,14 +16,14 @@ use Rattle.machine.specs.Validate.{beginning, modelOf, tapeOf, Validatio
 use Rattle.machine.specs.Outcome.{acceptedRun, refusedRun, outcomeOf, outcome}
 use Rattle.machine.specs.OlderTapes.{Wider, AllowsNoLess, SameBytes, KeepsRuns, KeepsTraces}
 use Rattle.machine.proofs.ProperFrom.{rules-from, refusal-from}
-use Rattle.machine.proofs.WiderParsing.{Kept, withRules, underRules, tape-widens, record-widens, model-read, own-rules}
+use Rattle.machine.proofs.WiderParsing.{Kept, withRules, Follows, tape-widens, record-widens, model-follows, own-rules}
 use Rattle.machine.proofs.SameTurns.{accepted-same}
 use Rattle.machine.proofs.LaterClock.{later-same}
 
 -- ---- Validation
 
 -- what was accepted is accepted, the model with the new rules
-abbrev Accepted : Rules → Validation → Validation → Type 0
+abbrev pub Accepted : Rules → Validation → Validation → Type 0
 Accepted new (accept m t) v = v ≡ accept (withRules new m) t
 Accepted new (reject n) v = Unit {0}
 
@@ -38,21 +38,22 @@ module _ {old new : Rules} (wider : Wider old new) where
   with-tape m (parsed t c) r′ h = rw h
   with-tape m (refused n) r′ h = tt
 
-  with-model : (model tape : List ℕ) (r : Parsed BlockModel) → modelOf old model beginning ≡ r → Accepted new (withModel tape r) (withModel tape (underRules new r))
+  with-model : (model tape : List ℕ) (r r′ : Parsed BlockModel) → modelOf old model beginning ≡ r → Follows new r r′
+      → Accepted new (withModel tape r) (withModel tape r′)
   unfolding withModel
-  with-model model tape (parsed m c) e =
-      with-tape m _ _
+  with-model model tape (parsed m c) r′ e h =
+      subst (λ r. Accepted new (withModel tape (parsed m c)) (withModel tape r)) (sym h)
+      (with-tape m _ _
       (subst (λ rules. Kept (tapeOf rules tape (m .lists) beginning) (tapeOf new tape (m .lists) beginning)) (sym (own-rules old model m c e))
-      (tape-widens wider tape (m .lists) .from beginning))
-  with-model model tape (refused n) e = tt
+      (tape-widens wider tape (m .lists) .from beginning)))
+  with-model model tape (refused n) r′ e h = tt
 
-  validated : (model tape : List ℕ) (work report : ℕ) → Accepted new (validate old model tape work report) (validate new model tape work report)
+  pub validated : (model tape : List ℕ) (work report : ℕ) → Accepted new (validate old model tape work report) (validate new model tape work report)
   unfolding validate
   validated model tape work report =
       asked new (leb workNumbers work) 1 _ _
       (asked new (leb reportRoom report) 2 _ _
-      (subst (λ r. Accepted new (withModel tape (modelOf old model beginning)) (withModel tape r)) (sym (model-read new old model beginning))
-      (with-model model tape (modelOf old model beginning) refl)))
+      (with-model model tape (modelOf old model beginning) (modelOf new model beginning) refl (model-follows new old model (wider .kinds) beginning)))
 
   -- ---- Traces
 
@@ -103,10 +104,10 @@ keeps-runs {old} {new} less model tape budget work room report =
 -- ---- Documents 01 and 02
 
 wider-year : Wider document01 item1
-wider-year = record { clock = omega arith; time = omega arith; number = omega arith }
+wider-year = record { clock = omega arith; time = omega arith; number = omega arith; kinds = omega arith }
 
 pub older-runs : KeepsRuns document01 item1
 older-runs = keeps-runs (record { wider = wider-year; holders = refl })
 
 pub older-traces : KeepsTraces document01 document02
-older-traces = keeps-traces (record { clock = omega arith; time = omega arith; number = omega arith })
+older-traces = keeps-traces (record { clock = omega arith; time = omega arith; number = omega arith; kinds = omega arith })

@@ -9,7 +9,7 @@ use native.Mathlib.Omega.{arith}
 use borrow.Author.Tests.{eq-eqb, ne-eqb}
 use lib.Dec.{leb, eqb, T}
 use Rattle.machine.specs.Limits.{workNumbers, reportRoom}
-use Rattle.machine.specs.Rules.{Rules, document01, item1, document02, inForce}
+use Rattle.machine.specs.Rules.{Rules, document01, item1, item6, inForce}
 use Rattle.machine.specs.Parser.{Parsed, parsed, refused}
 use Rattle.machine.specs.Transaction.{Transaction}
 use Rattle.machine.specs.Term.{serverAt}
@@ -32,11 +32,12 @@ use Rattle.machine.proofs.Cases.{checkWels-kept, wsScheme-cases}
 use Rattle.machine.proofs.Kept.{taking-kept}
 use Rattle.machine.proofs.Shape.{Shape, shape-closed}
 use Rattle.machine.proofs.Sums.{upTo-cong}
-use Rattle.machine.proofs.Steps.{Step, passes, begins, back, step-effect}
+use Rattle.machine.proofs.Steps.{Step, passes, begins, back, returns, step-effect}
 use Rattle.machine.proofs.Taken.{taking-records}
 use Rattle.machine.proofs.WiderParsing.{withRules, underRules, model-read, own-rules}
 use Rattle.machine.proofs.SameTurns.{AnsweredAlike, takenFrom, turn-same, accepted-same, run-same}
 use Rattle.machine.proofs.OlderTapes.{older-runs}
+use Rattle.machine.proofs.OlderModels.{older-models}
 use Rattle.machine.proofs.Holders.{Holding, holding-taking, Accounts, accounts-start, accounts-turn}
 
 -- ---- Tests
@@ -64,6 +65,7 @@ module _ (m : BlockModel) (tape : List (List ℕ)) (proper : Proper m tape) wher
   wrote-step (passes g q) = rw (q .records) (one _)
   wrote-step (begins e p) = rw (p .records) (one _)
   wrote-step (back e p) = rw (p .records) nothing
+  wrote-step (returns z q) = rw (q .records) nothing
 
   wrote-answer : (n : ℕ) (t : Transaction) (s : State) → Shape m s → Wrote (s .records) (answer n m (blockAt m (t .next)) t s .records)
   unfolding answer
@@ -175,7 +177,7 @@ module _ (m : BlockModel) (tape : List (List ℕ)) (proper : Proper m tape) wher
       question-same (takes x) e good own = refl
       question-same (frees (facility v)) e good own = release-same v good (ap (λ b. facts b .releases) e) own
       question-same (frees (storage v b)) e good own = refl
-      question-same (waitServer code v) e good own = refl
+      question-same (waitServer code v c) e good own = refl
       question-same (waitTerms a relation b) e good own = refl
       question-same (moves c target) e good own = refl
       question-same (assign k a) e good own = refl
@@ -232,7 +234,7 @@ module _ (rules : Rules) where
   unfolding validate under
   validated model tape work report =
       first (leb workNumbers work) 1 _ _
-      (first (leb reportRoom report) 2 _ _ (ap (withModel tape) (model-read asked old model beginning) ∙ model-same model tape (modelOf old model beginning) refl))
+      (first (leb reportRoom report) 2 _ _ (ap (withModel tape) (model-read asked old refl model beginning) ∙ model-same model tape (modelOf old model beginning) refl))
     where
       first : (b : Bool) (n : ℕ) (x x′ : Validation) → x′ ≡ under x → cond b x′ (reject n) ≡ under (cond b x (reject n))
       first true n x x′ e = e
@@ -254,13 +256,14 @@ module _ (rules : Rules) where
           ∙ accepted-same (asking true (m .rules)) m (run m t budget room))
       go (reject n) e own = refl
 
--- in force, and with item 1 alone
+-- with item 6, and with item 1 alone
 pub own-runs : (model tape : List ℕ) (budget work room report : ℕ) → OwnOnly budget room (validate item1 model tape work report)
-    → outcome document02 model tape budget work room report ≡ outcome item1 model tape budget work room report
-own-runs = keeps-own-runs document02
+    → outcome item6 model tape budget work room report ≡ outcome item1 model tape budget work room report
+own-runs = keeps-own-runs item6
 
 -- and so from document 01 to the rules in force
 pub older-own-runs : (model tape : List ℕ) (budget work room report : ℕ) → OwnOnly budget room (validate item1 model tape work report)
     → SameBytes (outcome document01 model tape budget work room report) (outcome inForce model tape budget work room report)
 older-own-runs model tape budget work room report own accepted early =
-    own-runs model tape budget work room report own ∙ older-runs model tape budget work room report accepted early
+    let same = own-runs model tape budget work room report own ∙ older-runs model tape budget work room report accepted early in
+    older-models model tape budget work room report (ap (λ o. o .refusal) same ∙ accepted) ∙ same

@@ -8,6 +8,7 @@ use lib.Dec.{eqb}
 use borrow.Author.Tests.{eq-eqb}
 use Rattle.machine.specs.Transaction.{Transaction}
 use Rattle.machine.specs.Lists.{those, others, flat}
+use Rattle.machine.specs.Block.{facts, BlockModel, blockAt}
 use Rattle.machine.specs.State.{State, Logged}
 use Rattle.machine.specs.Report.{movingOne}
 use Rattle.machine.specs.Setters.{withSerial}
@@ -26,16 +27,21 @@ abbrev pub Falling : ℕ → List Wait → Type 0
 Falling n [] = Unit {0}
 Falling n (w ∷ l) = (w .serial < n) × Falling (w .serial) l
 
--- some waits, newest first, are those open after the records and those of a total of weights
-pub record Linked (records : List Logged) (serial : ℕ) (total : (Wait → ℕ) → ℕ) : Type 0 where
+-- weights that count waits to seize or to enter alone
+abbrev pub ForUnits : BlockModel → (Wait → ℕ) → Type 0
+ForUnits m f = (w : Wait) → facts (blockAt m (w .key .block)) .server ≡ 0 → f w ≡ 0
+
+-- some waits, newest first, are those open after the records and, of waits for units, those of a total of weights: whoever goes back
+-- in a group waits no longer, but no record says so
+pub record Linked (m : BlockModel) (records : List Logged) (serial : ℕ) (total : (Wait → ℕ) → ℕ) : Type 0 where
   pub waits : List Wait
   pub keys : map (λ w. w .key) waits ≡ opens records
   pub falling : Falling (suc serial) waits
-  pub same : (f : Wait → ℕ) → sumOn f waits ≡ total f
+  pub same : (f : Wait → ℕ) → ForUnits m f → sumOn f waits ≡ total f
 
 -- those who wait and the moving one, if it has the mark
-abbrev pub LinkedIn : State → Type 0
-LinkedIn s = Linked (s .records) (s .serial) (λ f. waiting f s + sumOn (marked f) (movingOne (s .moving)))
+abbrev pub LinkedIn : BlockModel → State → Type 0
+LinkedIn m s = Linked m (s .records) (s .serial) (λ f. waiting f s + sumOn (marked f) (movingOne (s .moving)))
 
 -- ---- One number left out
 
@@ -97,22 +103,22 @@ waiting-agree n s h f g agree =
 -- ---- The records of a turn
 
 -- the total counts other weights alike
-pub linked-as : {rs : List Logged} {n n′ : ℕ} {total total′ : (Wait → ℕ) → ℕ} → n ≤ n′ → ((f : Wait → ℕ) → total′ f ≡ total f)
-    → Linked rs n total → Linked rs n′ total′
+pub linked-as : {m : BlockModel} {rs : List Logged} {n n′ : ℕ} {total total′ : (Wait → ℕ) → ℕ} → n ≤ n′ → ((f : Wait → ℕ) → ForUnits m f → total′ f ≡ total f)
+    → Linked m rs n total → Linked m rs n′ total′
 linked-as le same h =
-    record { waits = h .waits; keys = h .keys; falling = falling-up (h .waits) (omega arith) (h .falling); same = λ f. h .same f ∙ sym (same f) }
+    record { waits = h .waits; keys = h .keys; falling = falling-up (h .waits) (omega arith) (h .falling); same = λ f k. h .same f k ∙ sym (same f k) }
 
-pub linked-quiet : {s s′ : State} → Quiet s s′ → s′ .moving ≡ s .moving → LinkedIn s → LinkedIn s′
-linked-quiet {s} {s′} q e h =
-    subst (λ rs. Linked rs (s′ .serial) (λ f. waiting f s′ + sumOn (marked f) (movingOne (s′ .moving)))) (sym (q .records))
-    (linked-as (q .serials) (λ f. omega (arith, q .weights f, ap (λ o. sumOn (marked f) (movingOne o)) e)) h)
+pub linked-quiet : {m : BlockModel} {s s′ : State} → Quiet s s′ → s′ .moving ≡ s .moving → LinkedIn m s → LinkedIn m s′
+linked-quiet {m} {s} {s′} q e h =
+    subst (λ rs. Linked m rs (s′ .serial) (λ f. waiting f s′ + sumOn (marked f) (movingOne (s′ .moving)))) (sym (q .records))
+    (linked-as (q .serials) (λ f k. omega (arith, q .weights f, ap (λ o. sumOn (marked f) (movingOne o)) e)) h)
 
-module _ (t : Transaction) (s : State) (alone : Alone (t .number) s)
-    (h : Linked (s .records) (s .serial) (λ f. waiting f s + marked f t)) where
+module _ {m : BlockModel} (t : Transaction) (s : State) (alone : Alone (t .number) s)
+    (h : Linked m (s .records) (s .serial) (λ f. waiting f s + marked f t)) where
   -- without the taken one's own wait
-  same-others : (f : Wait → ℕ) → sumOn f (others-than (t .number) (h .waits)) ≡ waiting f s
-  same-others f =
-      sum-test f _ (h .waits) ∙ h .same (except (t .number) f)
+  same-others : (f : Wait → ℕ) → ForUnits m f → sumOn f (others-than (t .number) (h .waits)) ≡ waiting f s
+  same-others f k =
+      sum-test f _ (h .waits) ∙ h .same (except (t .number) f) (λ w z. cond-cases (λ n. n ≡ 0) (not (eqb (t .number) (w .key .number))) (f w) 0 (λ e. k w z) (λ e. refl))
       ∙ omega (arith, own, waiting-agree (t .number) s alone (except (t .number) f) f (λ w. left-out (eqb (t .number) (w .key .number)) (f w)))
     where
       left-out : (b : Bool) (n : ℕ) → bit b ≡ 0 → cond (not b) n 0 ≡ n
@@ -123,7 +129,7 @@ module _ (t : Transaction) (s : State) (alone : Alone (t .number) s)
       own = rw (eq-eqb (t .number) (t .number) refl) (cond-cases (λ n. n ≡ 0) (t .returning) 0 0 (λ e. refl) (λ e. refl))
 
   -- a record of outcome 0
-  pub linked-passes : Linked (enters t s .records) (s .serial) (λ f. waiting f s)
+  pub linked-passes : Linked m (enters t s .records) (s .serial) (λ f. waiting f s)
   unfolding enters log recordOf opens
   linked-passes =
       record {
@@ -134,12 +140,12 @@ module _ (t : Transaction) (s : State) (alone : Alone (t .number) s)
       }
 
   -- a record of outcome 1, with a fresh serial
-  pub linked-begins : Linked (log 1 t s .records) (fresh s) (λ f. weight f (withSerial (fresh s) t) + waiting f s)
+  pub linked-begins : Linked m (log 1 t s .records) (fresh s) (λ f. weight f (withSerial (fresh s) t) + waiting f s)
   unfolding log recordOf opens
   linked-begins =
       record {
         waits = waitOf (withSerial (fresh s) t) ∷ others-than (t .number) (h .waits);
         keys = ap (λ l. waitOf t .key ∷ l) (others-keys (t .number) (h .waits) ∙ ap (without (t .number)) (h .keys));
         falling = (omega arith, falling-those _ _ (h .waits) (h .falling));
-        same = λ f. ap (λ n. weight f (withSerial (fresh s) t) + n) (same-others f);
+        same = λ f k. ap (λ n. weight f (withSerial (fresh s) t) + n) (same-others f k);
       }

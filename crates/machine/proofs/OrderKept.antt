@@ -17,15 +17,16 @@ use Rattle.machine.specs.Run.{startAt, idle, start}
 use Rattle.machine.specs.Report.{movingOne}
 use Rattle.machine.specs.Claims.{InOrder}
 use Rattle.machine.proofs.Proper.{Proper}
+use Rattle.machine.proofs.RunLaws.{cond-cases}
 use Rattle.machine.proofs.Cases.{wsScheme-cases, startOf-cases}
 use Rattle.machine.proofs.Kept.{taking-kept}
 use Rattle.machine.proofs.Shape.{Shape, shape-closed}
 use Rattle.machine.proofs.Waiting.{Waits, Settled}
 use Rattle.machine.proofs.Records.{opens, order-more}
 use Rattle.machine.proofs.Sums.{sumOn, sum-flat-none}
-use Rattle.machine.proofs.Weights.{Wait, weight, marked, waiting, Unmarked, quiet-wakeWsl}
-use Rattle.machine.proofs.Steps.{Step, passes, begins, back, step-effect}
-use Rattle.machine.proofs.OpenWaits.{Linked, LinkedIn, linked-as, linked-quiet, linked-passes, linked-begins}
+use Rattle.machine.proofs.Weights.{Wait, waitOf, weight, marked, waiting, Unmarked, quiet-wakeWsl}
+use Rattle.machine.proofs.Steps.{Step, passes, begins, back, returns, step-effect}
+use Rattle.machine.proofs.OpenWaits.{ForUnits, Linked, LinkedIn, linked-as, linked-quiet, linked-passes, linked-begins}
 use Rattle.machine.proofs.Rivals.{ends-in-order}
 use Rattle.machine.proofs.Taken.{Once, InHand, Handed, nobody, hand, handed, taking-records}
 
@@ -33,7 +34,7 @@ use Rattle.machine.proofs.Taken.{Once, InHand, Handed, nobody, hand, ha
 
 module _ (m : BlockModel) (tape : List (List ℕ)) where
   pub record Ordered (s : State) : Type 0 where
-    pub linked : LinkedIn s
+    pub linked : LinkedIn m s
     pub in-order : InOrder m tape (reverse (s .records))
     -- who moves on has no mark
     pub unmarked : s .end ≡ 0 → Unmarked (s .moving)
@@ -46,12 +47,12 @@ module _ (m : BlockModel) (tape : List (List ℕ)) where
   unmarked-weighs f (some t) u = rw u
 
   ordered-as : (s : State) {rs : List Logged} {n : ℕ} {total : (Wait → ℕ) → ℕ} → s .records ≡ rs → n ≤ s .serial
-      → ((f : Wait → ℕ) → waiting f s ≡ total f) → Unmarked (s .moving) → Linked rs n total → InOrder m tape (reverse rs) → Ordered s
+      → ((f : Wait → ℕ) → ForUnits m f → waiting f s ≡ total f) → Unmarked (s .moving) → Linked m rs n total → InOrder m tape (reverse rs) → Ordered s
   ordered-as s records serials weights free h in-order =
       record {
         linked =
-            subst (λ rs. Linked rs (s .serial) (λ f. waiting f s + sumOn (marked f) (movingOne (s .moving)))) (sym records)
-            (linked-as serials (λ f. omega (arith, weights f, unmarked-weighs f (s .moving) free)) h);
+            subst (λ rs. Linked m rs (s .serial) (λ f. waiting f s + sumOn (marked f) (movingOne (s .moving)))) (sym records)
+            (linked-as serials (λ f k. omega (arith, weights f k, unmarked-weighs f (s .moving) free)) h);
         in-order = subst (λ rs. InOrder m tape (reverse rs)) (sym records) in-order;
         unmarked = λ e. free;
       }
@@ -69,22 +70,25 @@ module _ (m : BlockModel) (tape : List (List ℕ)) where
     ordered-step : (s′ : State) → Step (blockAt m (t .next)) t idle-hand s′ → Ordered s′
     unfolding enters log recordOf waiting
     ordered-step s′ (passes g q) =
-        ordered-as s′ (q .records) (q .serials) (q .weights) (q .moving tt) (linked-passes t idle-hand (h .alone) (h .linked))
+        ordered-as s′ (q .records) (q .serials) (λ f k. q .weights f) (q .moving tt) (linked-passes t idle-hand (h .alone) (h .linked))
         (order-more m tape _ (s .records) (ends-in-order m tape t idle-hand (h .alone) (h .linked) (λ e. (h .in-place e, g))) in-order)
     ordered-step s′ (begins e p) =
-        ordered-as s′ (p .records) (omega arith) (p .weights) (rw (p .moving) tt) (linked-begins t idle-hand (h .alone) (h .linked))
+        ordered-as s′ (p .records) (omega arith) (λ f k. p .weights f) (rw (p .moving) tt) (linked-begins t idle-hand (h .alone) (h .linked))
         (order-more m tape _ (s .records)
         (ends-in-order m tape t idle-hand (h .alone) (h .linked) (λ r. absurd (true≢false (sym r ∙ e)))) in-order)
     ordered-step s′ (back e p) =
-        ordered-as s′ (p .records) (omega arith) (λ f. omega (arith, p .weights f, weight-back (t .returning) (weight f t) e))
+        ordered-as s′ (p .records) (omega arith) (λ f k. omega (arith, p .weights f, weight-back (t .returning) (weight f t) e))
         (rw (p .moving) tt) (h .linked) in-order
+    ordered-step s′ (returns z q) =
+        ordered-as s′ (q .records) (q .serials)
+        (λ f k. omega (arith, q .weights f, cond-cases (λ n. n ≡ 0) (t .returning) (weight f t) 0 (λ e. k (waitOf t) z) (λ e. refl))) (q .moving tt) (h .linked) in-order
 
     -- a question stops the run
     ordered-stop : (n : ℕ) → Ordered (setEnd (suc n) s)
     unfolding waiting movingOne
     ordered-stop n =
         record {
-          linked = linked-as (omega arith) (λ f. omega (arith, ap (λ o. sumOn (marked f) (movingOne o)) (h .moves))) (h .linked);
+          linked = linked-as (omega arith) (λ f k. omega (arith, ap (λ o. sumOn (marked f) (movingOne o)) (h .moves))) (h .linked);
           in-order = in-order;
           unmarked = λ e. absurd (omega arith);
         }
@@ -141,7 +145,7 @@ module _ (m : BlockModel) (tape : List (List ℕ)) where
               waits = [];
               keys = refl;
               falling = tt;
-              same = λ f. omega (arith, sum-flat-none (weight f) (m .facilities + length (m .capacities)), sum-flat-none (weight f) ((m .facilities + length (m .capacities)) * 6));
+              same = λ f k. omega (arith, sum-flat-none (weight f) (m .facilities + length (m .capacities)), sum-flat-none (weight f) ((m .facilities + length (m .capacities)) * 6));
             };
         in-order = λ i k ik h w e. absurd (omega arith);
         unmarked = λ e. tt;
@@ -151,7 +155,7 @@ module _ (m : BlockModel) (tape : List (List ℕ)) where
   unfolding arrival toFel waiting
   ordered-arrival [] list p n s h = h
   ordered-arrival (time ∷ l) list p n s h =
-      record { linked = linked-as (omega arith) (λ f. refl) (h .linked); in-order = h .in-order; unmarked = h .unmarked }
+      record { linked = linked-as (omega arith) (λ f k. refl) (h .linked); in-order = h .in-order; unmarked = h .unmarked }
 
   ordered-startAt : (n : ℕ) (l : List Block) (s : State) → Ordered s → Ordered (startAt n l s)
   unfolding startAt

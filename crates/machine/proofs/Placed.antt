@@ -1,7 +1,7 @@
 -- Every transaction of a run stands before a block of the model, with a priority in its range.
 use Prim.Native.Nat.{ℕ, zero, suc, _+_, _-_, _≤_, _<_}
 use mathlib.Core.Path.{_≡_, refl, subst}
-use mathlib.Core.Bool.{Bool, true, false, not, _&&_, _||_, cond}
+use mathlib.Core.Bool.{Bool, true, false, not, _||_, cond}
 use mathlib.Core.List.{List, [], _∷_}
 use mathlib.Core.Option.{Option, none, some}
 use native.Mathlib.Omega.{arith}
@@ -10,7 +10,7 @@ use lib.ListN.{length, getD}
 use Rattle.machine.specs.Limits.{maxPriority}
 use Rattle.machine.specs.Transaction.{Transaction, newborn}
 use Rattle.machine.specs.Term.{compare, serverAt, free, truth, Condition, always, whenTrue}
-use Rattle.machine.specs.Block.{Share, facility, storage, shareServer, shareUnits, Block, generate, advance, terminate, takes, frees, waitServer, waitTerms, moves, assign, priority, split, counts, facts, BlockModel, blockAt, status, unconditional}
+use Rattle.machine.specs.Block.{Share, facility, storage, shareServer, shareUnits, Block, generate, advance, terminate, takes, frees, waitServer, waitTerms, moves, assign, priority, split, counts, facts, BlockModel, blockAt, unconditional}
 use Rattle.machine.specs.State.{State}
 use Rattle.machine.specs.Setters.{withNext, setMoving, setTurns}
 use Rattle.machine.specs.Execute.{effect, takeUnits, wakeFor}
@@ -18,21 +18,14 @@ use Rattle.machine.specs.Turn.{taking, answer, execute, turn}
 use Rattle.machine.specs.Run.{startAt, start, states}
 use Rattle.machine.specs.Claims.{Each}
 use Rattle.machine.specs.Facts.{isGenerate}
-use Rattle.machine.specs.Validate.{wellFormed, wellPlaced, targetsMove, allOf, sumNames}
+use Rattle.machine.specs.Validate.{wellPlaced}
 use Rattle.machine.proofs.Proper.{Names, ProperBlock, Proper, generates-list}
+use Rattle.machine.proofs.Groups.{and-right, blocks-placed, back-within}
 use Rattle.machine.proofs.RunLaws.{cond-cases, each-state}
-use Rattle.machine.proofs.Cases.{waitTerms-cases, startOf-cases}
+use Rattle.machine.proofs.Cases.{waitServer-cases, waitTerms-cases, startOf-cases}
 use Rattle.machine.proofs.Everybody.{Maybe, Everybody, Unmoved, toRel-everybody, waitQl-everybody, waitWel-everybody, waitWsl-everybody, moveTo-everybody, wakeFirstQl-everybody, wakeQl-everybody, wakeFirstWel-everybody, checkWels-everybody, wsScheme-everybody, arrival-everybody, copies-everybody, delay-everybody, enters-everybody, inUse-everybody, content-everybody, endsOne-everybody, taking-everybody, idle-everybody}
 
 -- ---- Question 7: behind a block that lets its transaction go on stands another
-
-and-left : (a b : Bool) → T (a && b) → T a
-and-left true b h = tt
-and-left false b h = h
-
-and-right : (a b : Bool) → T (a && b) → T b
-and-right true b h = h
-and-right false b h = absurd h
 
 goes-on : (left : Bool) (l : List Block) (i : ℕ) → T (wellPlaced left l) → i < length l → facts (getD l i (terminate 0)) .leaves ≡ false → suc i < length l
 unfolding wellPlaced
@@ -60,12 +53,8 @@ module _ (m : BlockModel) (tape : List (List ℕ)) (proper : Proper m tape) wher
 
   -- one past a block that does not leave
   after : (t : Transaction) → P t → facts (blockAt m (t .next)) .leaves ≡ false → P (withNext (suc (t .next)) t)
-  unfolding wellFormed
   after t h e =
-      let formed : T (wellPlaced true (m .blocks)) =
-      and-left (wellPlaced true (m .blocks)) (targetsMove m)
-      (and-left (wellPlaced true (m .blocks) && targetsMove m) (allOf (sumNames (length (m .blocks))) (m .values)) (proper .formed)) in
-      let lt : suc (t .next - 1) < length (m .blocks) = goes-on true (m .blocks) (t .next - 1) formed (omega arith) e in
+      let lt : suc (t .next - 1) < length (m .blocks) = goes-on true (m .blocks) (t .next - 1) (blocks-placed proper) (omega arith) e in
       ((omega arith, omega arith), h .1)
 
   -- ---- Each kind, for a block at which a placed transaction stands
@@ -93,25 +82,27 @@ module _ (m : BlockModel) (tape : List (List ℕ)) (proper : Proper m tape) wher
     moves-placed (whenTrue a r b) target ok on =
         cond-cases (λ (n : ℕ). P (withNext n t)) (compare (m .values) (s .view) (t .parameters) a r b) _ _ (λ e. (ok, p .1)) (λ e. on refl)
 
-    effect-placed : (b : Block) → ProperBlock m b → (facts b .leaves ≡ false → P (withNext (suc (t .next)) t)) → Everybody P (effect m b t s)
+    effect-placed : (b : Block) → ProperBlock m b → (facts b .leaves ≡ false → P (withNext (suc (t .next)) t)) → facts b .back < t .next
+        → Everybody P (effect m b t s)
     unfolding effect facts newborn takeUnits
-    effect-placed (generate list k) ok on = moveTo-everybody P U _ t _ (on refl) (arrival-everybody P U _ list k _ _ (p .0, ok .1) h′)
-    effect-placed (advance list) ok on = delay-everybody P U _ list t _ (on refl) h′
-    effect-placed (terminate a) ok on = endsOne-everybody P U a _ h′
-    effect-placed (takes x) ok on = units-placed x (on refl)
-    effect-placed (frees x) ok on =
+    effect-placed (generate list k) ok on behind = moveTo-everybody P U _ t _ (on refl) (arrival-everybody P U _ list k _ _ (λ time. (p .0, ok .1)) h′)
+    effect-placed (advance list) ok on behind = delay-everybody P U _ list t _ (λ time. on refl) h′
+    effect-placed (terminate a) ok on behind = endsOne-everybody P U a _ h′
+    effect-placed (takes x) ok on behind = units-placed x (on refl)
+    effect-placed (frees x) ok on behind =
         moveTo-everybody P U _ t _ (on refl)
         (checkWels-everybody P U (shareServer x) _ (wakeFor-everybody x _ (inUse-everybody P U (shareServer x) _ _ _ h′)))
-    effect-placed (waitServer code v) ok on =
-        cond-cases (Everybody P) (status code (serverAt (s .view) v)) _ _ (λ e. waitWel-everybody P U v code t s p h)
-        (λ e. moveTo-everybody P U _ t _ (on refl) (wakeFirstWel-everybody P U v code _ h′))
-    effect-placed (waitTerms a r b) ok on =
+    effect-placed (waitServer code v c) ok on behind =
+        waitServer-cases (Everybody P) m code v c t s (λ e. waitWel-everybody P U v code t s p h)
+        (λ e. moveTo-everybody P U _ t _ ((omega arith, omega arith), p .1) (wakeFirstWel-everybody P U v code s h))
+        (λ e. moveTo-everybody P U _ _ _ (on refl) (wakeFirstWel-everybody P U v code _ h′))
+    effect-placed (waitTerms a r b) ok on behind =
         waitTerms-cases (Everybody P) m a r b t s (λ e. waitWsl-everybody P U t s p h) (λ e. moveTo-everybody P U _ t _ (on refl) h′)
-    effect-placed (moves c target) ok on = moveTo-everybody P U _ t _ (moves-placed c target ok on) h′
-    effect-placed (assign k a) ok on = moveTo-everybody P U _ _ _ (on refl) h′
-    effect-placed (priority k) ok on = toRel-everybody P U _ _ (on refl .0, ok) h′
-    effect-placed (split n target) ok on = moveTo-everybody P U _ t _ (on refl) (copies-everybody P U n target t _ (λ k. (ok .1, p .1)) h′)
-    effect-placed (counts c q) ok on = moveTo-everybody P U _ t _ (on refl) (content-everybody P U q _ _ h′)
+    effect-placed (moves c target) ok on behind = moveTo-everybody P U _ t _ (moves-placed c target ok on) h′
+    effect-placed (assign k a) ok on behind = moveTo-everybody P U _ _ _ (on refl) h′
+    effect-placed (priority k) ok on behind = toRel-everybody P U _ _ (on refl .0, ok) h′
+    effect-placed (split n target) ok on behind = moveTo-everybody P U _ t _ (on refl) (copies-everybody P U n target t _ (λ k. (ok .1, p .1)) h′)
+    effect-placed (counts c q) ok on behind = moveTo-everybody P U _ t _ (on refl) (content-everybody P U q _ _ h′)
 
   -- ---- The turn
 
@@ -120,7 +111,7 @@ module _ (m : BlockModel) (tape : List (List ℕ)) (proper : Proper m tape) wher
   answer-placed zero t s p h =
       effect-placed t p (setMoving none s)
       (record { ql = h .ql; wel = h .wel; wsl = h .wsl; rel = h .rel; fel = h .fel; moving = tt })
-      (blockAt m (t .next)) (proper .block (t .next)) (after t p)
+      (blockAt m (t .next)) (proper .block (t .next)) (after t p) (omega (arith, p .0 .0, back-within proper (t .next)))
   answer-placed (suc n) t s p h = record { ql = h .ql; wel = h .wel; wsl = h .wsl; rel = h .rel; fel = h .fel; moving = h .moving }
 
   execute-placed : (o : Option Transaction) (s : State) → Maybe P o → Everybody P s → Everybody P (execute o m s)
@@ -145,7 +136,7 @@ module _ (m : BlockModel) (tape : List (List ℕ)) (proper : Proper m tape) wher
   startAt-placed n (b ∷ l) s one le ok h =
       startAt-placed (suc n) l _ (omega arith) (omega arith) (λ i lt. ok (suc i) (omega arith))
       (startOf-cases (Everybody P) b n s (λ e. h)
-      (λ e. arrival-everybody P U _ _ _ n s ((one, omega arith), generates-list m b (ok 0 (omega arith)) e .1) h))
+      (λ e. arrival-everybody P U _ _ _ n s (λ time. ((one, omega arith), generates-list m b (ok 0 (omega arith)) e .1)) h))
 
   block-at : (i : ℕ) → i < length (m .blocks) → ProperBlock m (getD (m .blocks) i (terminate 0))
   block-at i lt =

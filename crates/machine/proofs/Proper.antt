@@ -5,7 +5,7 @@ use mathlib.Core.List.{List, []}
 use native.Mathlib.Omega.{arith}
 use lib.Dec.{T}
 use lib.ListN.{length, getD}
-use Rattle.machine.specs.Limits.{maxBlocks, maxCapacity, maxFacilities, maxStorages, maxQueues, maxLists, maxPriority, maxSamples, maxSplit, maxCounter, parameterCount}
+use Rattle.machine.specs.Limits.{maxBlocks, maxCapacity, maxFacilities, maxStorages, maxQueues, maxLists, maxPriority, maxSamples, maxSplit, maxBack, maxCounter, parameterCount}
 use Rattle.machine.specs.Lists.{nth}
 use Rattle.machine.specs.Block.{Code, U, NU, E, NE, F, NF, Share, facility, storage, shareServer, Block, generate, advance, terminate, takes, frees, waitServer, waitTerms, moves, assign, priority, split, counts, facts, BlockModel, blockAt}
 use Rattle.machine.specs.Validate.{wellFormed}
@@ -44,7 +44,7 @@ ProperBlock m (advance list) = Names (m .lists) list
 ProperBlock m (terminate a) = Unit {0}
 ProperBlock m (takes x) = ProperShare m x
 ProperBlock m (frees x) = ProperShare m x
-ProperBlock m (waitServer code v) = CodeServer m code v
+ProperBlock m (waitServer code v c) = CodeServer m code v × (c ≤ maxBack)
 ProperBlock m (waitTerms a r b) = Unit {0}
 ProperBlock m (moves c target) = Names (length (m .blocks)) target
 ProperBlock m (assign k a) = Names parameterCount k
@@ -80,7 +80,7 @@ role (advance list) = neither refl refl
 role (terminate a) = neither refl refl
 role (takes x) = taking x
 role (frees x) = neither refl refl
-role (waitServer code v) = neither refl refl
+role (waitServer code v c) = neither refl refl
 role (waitTerms a r b) = neither refl refl
 role (moves c target) = neither refl refl
 role (assign k a) = neither refl refl

@@ -13,7 +13,7 @@ use Rattle.machine.specs.Lists.{nth}
 use Rattle.machine.specs.Term.{Term}
 use Rattle.machine.specs.Block.{Block, terminate, enter, leave, BlockModel, facts, compared}
 use Rattle.machine.specs.Parser.{Parsed, parsed, refused, Parser, times}
-use Rattle.machine.specs.Decode.{Counts, kindCount, codeOf, simpleTerm, number, blockTerm, counted, mentioned, valueNumber, sumTerms, sumField, bracketField, comparisonField, mentionField, taggedTerm, valueTerm, valueField, inValue, valueFields, codeServer, storageUnits, operands, blockField, modelFields, atEnd, listField}
+use Rattle.machine.specs.Decode.{Counts, codeOf, simpleTerm, number, blockTerm, counted, mentioned, valueNumber, sumTerms, sumField, bracketField, comparisonField, mentionField, taggedTerm, valueTerm, valueField, inValue, valueFields, codeServer, storageUnits, operands, blockField, modelFields, atEnd, listField}
 use Rattle.machine.specs.Validate.{wellFormed, beginning, modelOf, tapeOf, Validation, accept, reject, withTape, withModel, validate}
 use Rattle.machine.specs.Claims.{Each}
 use Rattle.machine.proofs.Proper.{Names, Storage, CodeServer, Units, ProperBlock, Proper}
@@ -198,7 +198,7 @@ module _ (s : List ℕ) (n : Counts) (capacities : List ℕ) where
         (both (eqb kind 5) (then (ranged s 1 (n .facilities)) (λ f h. gives (facility-in f (h .0) (h .1), tt)))
         (both (eqb kind 6) (storage-units Parsed-block enter (λ k b a c d e. (λ m at. (storage-number k a c m at, units k b d e m at), tt)))
         (both (eqb kind 7) (storage-units Parsed-block leave (λ k b a c d e. (λ m at. (storage-number k a c m at, units k b d e m at), tt)))
-        (both (eqb kind 8) (then (ranged s 1 6) (λ code h. then (code-server code (h .0) (h .1)) (λ v g. gives (g, tt))))
+        (both (eqb kind 8) (then (ranged s 1 6) (λ code h. then (code-server code (h .0) (h .1)) (λ v g. gives (λ m at. (g m at, omega arith), tt))))
         (both (eqb kind 9) (then term-good (λ a ha. then (ranged s 1 6) (λ r h. then term-good (λ b hb. gives (λ m at. tt, (ha, (hb, tt)))))))
         (both (eqb kind 10)
         (then term-good
@@ -209,14 +209,16 @@ module _ (s : List ℕ) (n : Counts) (capacities : List ℕ) where
         (both (eqb kind 14)
         (then (ranged s 1 Limits.maxSplit) (λ k h. then (ranged s 1 (n .blocks)) (λ t g. gives (λ m at. (h, target-in t (g .0) (g .1) m at), tt))))
         (both (eqb kind 15) (then (ranged s 1 (n .queues)) (λ q h. gives (queue-in q (h .0) (h .1), tt)))
-        (then (ranged s 1 (n .queues)) (λ q h. gives (queue-in q (h .0) (h .1), tt)))))))))))))))))
+        (both (eqb kind 16) (then (ranged s 1 (n .queues)) (λ q h. gives (queue-in q (h .0) (h .1), tt)))
+        (then (ranged s 1 6)
+        (λ code h. then (code-server code (h .0) (h .1)) (λ v g. then (ranged s 1 Limits.maxBack) (λ c k. gives (λ m at. (g m at, k .1), tt))))))))))))))))))))
 
-    pub block-parsed : Ensures Parsed-block (blockField s n capacities)
+    pub block-parsed : (kinds : ℕ) → Ensures Parsed-block (blockField s kinds n capacities)
     unfolding blockField
-    block-parsed = then (ranged s 1 kindCount) (λ kind h. operands-good kind)
+    block-parsed kinds = then (ranged s 1 kinds) (λ kind h. operands-good kind)
 
-  block-good : Ensures Good (blockField s n capacities)
-  block-good = weaken (λ b h. h .0) (block-parsed Any (block-term s n))
+  block-good : (kinds : ℕ) → Ensures Good (blockField s kinds n capacities)
+  block-good kinds = weaken (λ b h. h .0) (block-parsed Any (block-term s n) kinds)
 
 -- ---- The model
 
@@ -243,7 +245,7 @@ module _ (rules : Rules) (s : List ℕ) where
       then (repeated storages (ranged s 1 Limits.maxCapacity)) (λ capacities hc. then (ranged s 0 Limits.maxQueues) (λ queues hq.
       then (ranged s 0 Limits.maxValues) (λ values hv. then (value-fields s _ values 0) (λ sums hm. then (ranged s 0 Limits.maxLists) (λ lists hl.
       then (ranged s 1 Limits.maxCounter) (λ counter hn. then (ranged s 1 Limits.maxBlocks) (λ blocks hb.
-      then (repeated blocks (block-good s _ capacities)) (λ program hp.
+      then (repeated blocks (block-good s _ capacities (rules .kinds))) (λ program hp.
       let m : BlockModel =
       record { rules = rules; facilities = facilities; capacities = capacities; queues = queues; values = sums; lists = lists; counter = counter; blocks = program } in
       gives

@@ -26,7 +26,7 @@ use Rattle.machine.proofs.Sums.{sumOn, sum-zero}
 use Rattle.machine.proofs.SumFacts.{sum-some, sum-which}
 use Rattle.machine.proofs.Weights.{Wait, waitOf, weight, marked, waiting}
 use Rattle.machine.proofs.Steps.{GetsIn}
-use Rattle.machine.proofs.OpenWaits.{Linked, numbered, Alone, waiting-agree}
+use Rattle.machine.proofs.OpenWaits.{ForUnits, Linked, numbered, Alone, waiting-agree}
 use Rattle.machine.proofs.OpenPairs.{key, Pair, pair, is, only, only-self, only-equal, member-sum}
 
 -- ---- A block that takes a server lets wait on no WEL and not on the WSL
@@ -193,15 +193,25 @@ waiting-none s =
     )
 
 module _ (m : BlockModel) (tape : List (List ℕ)) (t : Transaction) (s : State) (alone : Alone (t .number) s)
-    (h : Linked (s .records) (s .serial) (λ f. waiting f s + marked f t)) where
-  -- an open wait is somebody's
-  somebody : (w : Wait) → Member w (h .waits) → 0 < waiting (only w) s + marked (only w) t
-  somebody w i = omega (arith, member-sum (only w) w (h .waits) i, only-self w, h .same (only w))
+    (h : Linked m (s .records) (s .serial) (λ f. waiting f s + marked f t)) where
+  abbrev Needs : Wait → Type 0
+  Needs w = facts (blockAt m (w .key .block)) .server ≡ 0 → ⊥
+
+  for-units : (w : Wait) → Needs w → ForUnits m (only w)
+  for-units w needs x z = go (ltb 0 (only w x)) refl
+    where
+      go : (b : Bool) → ltb 0 (only w x) ≡ b → only w x ≡ 0
+      go true e = absurd (needs (ap (λ (y : Wait). facts (blockAt m (y .key .block)) .server) (only-equal w x (ltb-true _ _ e)) ∙ z))
+      go false e = omega (arith, ltb-false 0 (only w x) e)
+
+  -- an open wait for units is somebody's
+  somebody : (w : Wait) → Needs w → Member w (h .waits) → 0 < waiting (only w) s + marked (only w) t
+  somebody w needs i = omega (arith, member-sum (only w) w (h .waits) i, only-self w, h .same (only w) (for-units w needs))
 
   -- and one of the taken one's number is its own
-  own : (w : Wait) → Member w (h .waits) → w .key .number ≡ t .number → 0 < marked (only w) t
+  own : (w : Wait) → Needs w → Member w (h .waits) → w .key .number ≡ t .number → 0 < marked (only w) t
   unfolding only is
-  own w i e = omega (arith, somebody w i, waiting-agree (t .number) s alone (only w) (λ x. 0) elsewhere, waiting-none s)
+  own w needs i e = omega (arith, somebody w needs i, waiting-agree (t .number) s alone (only w) (λ x. 0) elsewhere, waiting-none s)
     where
       elsewhere : (x : Wait) → numbered (t .number) x ≡ 0 → only w x ≡ 0
       elsewhere x d = rw (e, bit-zero (eqb (t .number) (x .key .number)) d)
@@ -213,8 +223,15 @@ module _ (m : BlockModel) (tape : List (List ℕ)) (t : Transaction) (s : State)
       p : Pair (h .waits) older k
       p = pair (suc (s .serial)) older k (h .waits) (h .falling) (subst (Behind older k) (sym (h .keys)) b)
 
+      first-needs : Needs (p .first)
+      first-needs z = rival .some-server (ap (λ (x : Key). facts (blockAt m (x .block)) .server) (sym (p .first-key)) ∙ z)
+
+      second-needs : Needs (p .second)
+      second-needs z =
+          rival .some-server (rival .server ∙ ap (λ (x : Key). facts (blockAt m (x .block)) .server) (sym (p .second-key)) ∙ z)
+
       marks : 0 < marked (only (p .second)) t
-      marks = own (p .second) (p .second-open) (ap (λ (x : Key). x .number) (p .second-key) ∙ n)
+      marks = own (p .second) second-needs (p .second-open) (ap (λ (x : Key). x .number) (p .second-key) ∙ n)
 
       mine : p .second ≡ waitOf t
       mine = only-equal (p .second) (waitOf t) (marked-weight (t .returning) _ marks)
@@ -233,4 +250,4 @@ module _ (m : BlockModel) (tape : List (List ℕ)) (t : Transaction) (s : State)
           let z : marked (only (p .first)) t ≤ 0 = ltb-false _ _ e in
           let r = returner (marked-returning (t .returning) _ marks) in
           no-rival m tape t s (r .0) (r .1) (p .first) rival′ serials
-          (omega (arith, somebody (p .first) (p .first-open)))
+          (omega (arith, somebody (p .first) first-needs (p .first-open)))

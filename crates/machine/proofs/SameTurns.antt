@@ -10,7 +10,7 @@ use lib.Dec.{eqb}
 use Rattle.machine.specs.Rules.{Rules}
 use Rattle.machine.specs.Transaction.{Transaction}
 use Rattle.machine.specs.Term.{Server, Queue}
-use Rattle.machine.specs.Block.{Share, facility, storage, shareServer, shareUnits, Block, generate, advance, terminate, takes, frees, waitServer, waitTerms, moves, assign, priority, split, counts, BlockModel, blockAt}
+use Rattle.machine.specs.Block.{Share, facility, storage, shareServer, shareUnits, Block, generate, advance, terminate, takes, frees, waitServer, waitTerms, moves, assign, priority, split, counts, BlockModel, blockAt, beginsGroup}
 use Rattle.machine.specs.State.{State, Logged}
 use Rattle.machine.specs.Setters.{setMoving, setTurns, setEnd}
 use Rattle.machine.specs.Moves.{enters, goOn}
@@ -38,13 +38,13 @@ module _ (new : Rules) (m : BlockModel) where
   wakes-same (storage v b) s = refl
 
   effect-same : (b : Block) (t : Transaction) (s : State) → effect m′ b t s ≡ effect m b t s
-  unfolding effect takeUnits
+  unfolding effect takeUnits beginsGroup
   effect-same (generate list p) t s = refl
   effect-same (advance list) t s = refl
   effect-same (terminate a) t s = refl
   effect-same (takes x) t s = refl
   effect-same (frees x) t s = ap (λ s. goOn t (checkWels (shareServer x) s)) (wakes-same x (freeUnits (shareServer x) (shareUnits x) (enters t s)))
-  effect-same (waitServer code v) t s = refl
+  effect-same (waitServer code v c) t s = refl
   effect-same (waitTerms a r b) t s = refl
   effect-same (moves c target) t s = refl
   effect-same (assign k a) t s = refl

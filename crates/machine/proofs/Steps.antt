@@ -1,5 +1,5 @@
 -- What one block does to the waits: the transaction passes, and no other wait begins or ends; or its wait begins; or it is put
--- back and nothing is written.
+-- back, or goes back to the first block of its group, and nothing is written.
 use Prim.Native.Nat.{ℕ, _+_, _-_, _<_}
 use mathlib.Core.Path.{_≡_, refl}
 use mathlib.Core.Bool.{true, false}
@@ -9,14 +9,14 @@ use lib.ListN.{length}
 use Rattle.machine.specs.Transaction.{Transaction, precedes}
 use Rattle.machine.specs.Lists.{insert}
 use Rattle.machine.specs.Term.{serverAt, free}
-use Rattle.machine.specs.Block.{Code, Share, facility, storage, shareServer, shareUnits, Block, generate, advance, terminate, takes, frees, waitServer, waitTerms, moves, assign, priority, split, counts, facts, BlockModel, status, welIndex}
+use Rattle.machine.specs.Block.{Code, Share, facility, storage, shareServer, shareUnits, Block, generate, advance, terminate, takes, frees, waitServer, waitTerms, moves, assign, priority, split, counts, facts, BlockModel, welIndex}
 use Rattle.machine.specs.State.{State}
 use Rattle.machine.specs.Setters.{withSerial, setSerial}
 use Rattle.machine.specs.Moves.{log, enters, moveTo, fresh, qlOf, welOf, toQl, toWel, toWsl, mustWait, setUse, setContent}
 use Rattle.machine.specs.Execute.{takeUnits, wakeFor, endsOne, effect}
 use Rattle.machine.proofs.Proper.{ProperBlock, servers}
 use Rattle.machine.proofs.RunLaws.{cond-cases}
-use Rattle.machine.proofs.Cases.{waitTerms-cases}
+use Rattle.machine.proofs.Cases.{waitServer-cases, waitTerms-cases}
 use Rattle.machine.proofs.Shape.{Shape, ql-at, wel-at}
 use Rattle.machine.proofs.Proper.{code-server, share-server}
 use Rattle.machine.proofs.Waiting.{serverIn}
@@ -40,6 +40,8 @@ pub data Step (b : Block) (t : Transaction) (s s′ : State) : Type 0 where
   passes : GetsIn b s → Quiet (enters t s) s′ → Step b t s s′
   begins : t .returning ≡ false → Puts (withSerial (fresh s) t) (setSerial (fresh s) (log 1 t s)) s′ → Step b t s s′
   back : t .returning ≡ true → Puts t s s′ → Step b t s s′
+  -- it goes back to the first block of its group: it waited for no units, and nothing is written
+  returns : facts b .server ≡ 0 → Quiet s s′ → Step b t s s′
 
 -- ---- Waiting
 
@@ -136,10 +138,11 @@ step-effect m (takes x) t s h k =
 step-effect m (frees x) t s h k =
     passes (λ n. absurd (n refl))
     (quiet-moveTo _ t (quiet-trans (quiet-use (shareServer x) _ _ _) (quiet-trans (quiet-wakeFor m x _) (quiet-checkWels (shareServer x) _))))
-step-effect m (waitServer code v) t s h k =
-    let n = code-server m code v h in
-    cond-cases (Step (waitServer code v) t s) (status code (serverAt (s .view) v)) _ _ (λ e. step-wel _ v code t s (wel-at k v code (n .0) (n .1)))
-    (λ e. passes (λ n. absurd (n refl)) (quiet-moveTo _ t (quiet-wakeFirstWel v code _)))
+step-effect m (waitServer code v c) t s h k =
+    let n = code-server m code v (h .0) in
+    waitServer-cases (Step (waitServer code v c) t s) m code v c t s (λ e. step-wel _ v code t s (wel-at k v code (n .0) (n .1)))
+    (λ e. returns refl (quiet-moveTo _ t (quiet-wakeFirstWel v code s)))
+    (λ e. passes (λ n. absurd (n refl)) (quiet-moveTo _ _ (quiet-wakeFirstWel v code _)))
 step-effect m (waitTerms a r b) t s h k =
     waitTerms-cases (Step (waitTerms a r b) t s) m a r b t s (λ e. step-wsl _ t s)
     (λ e. passes (λ n. absurd (n refl)) (quiet-moveTo _ t (quiet-refl _)))

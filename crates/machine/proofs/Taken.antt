@@ -32,13 +32,13 @@ abbrev pub Once : State → Type 0
 Once s = (n : ℕ) → standing s n ≤ 1
 
 module _ (n : ℕ) where
-  abbrev has : Transaction → ℕ
+  abbrev pub has : Transaction → ℕ
   has t = bit (eqb (t .number) n)
 
-  has-own : (t : Transaction) → t .number ≡ n → has t ≡ 1
+  pub has-own : (t : Transaction) → t .number ≡ n → has t ≡ 1
   has-own t e = ap bit (eq-eqb (t .number) n e)
 
-  standing-sum : (s : State) → standing s n
+  pub standing-sum : (s : State) → standing s n
       ≡ sumOn has (flat (s .ql)) + sumOn has (flat (s .wel)) + sumOn has (s .wsl) + sumOn has (s .rel)
       + sumOn has (map (λ e. e .who) (s .fel)) + sumOn has (movingOne (s .moving))
   unfolding standing everyone
@@ -121,14 +121,14 @@ module _ (m : BlockModel) where
   pub record InHand (t : Transaction) (s : State) : Type 0 where
     pub moves : s .moving ≡ some t
     pub alone : Alone (t .number) s
-    pub linked : Linked (s .records) (s .serial) (λ f. waiting f s + marked f t)
+    pub linked : Linked m (s .records) (s .serial) (λ f. waiting f s + marked f t)
     pub in-place : t .returning ≡ true → Standing m t s
 
-  module _ (s : State) (once : Once s) (h : LinkedIn s) where
+  module _ (s : State) (once : Once s) (h : LinkedIn m s) where
     -- without anybody moving
-    linked-none : s .moving ≡ none → Linked (s .records) (s .serial) (λ f. waiting f s)
+    linked-none : s .moving ≡ none → Linked m (s .records) (s .serial) (λ f. waiting f s)
     unfolding movingOne
-    linked-none e = linked-as (omega arith) (λ f. omega (arith, ap (λ o. sumOn (marked f) (movingOne o)) e)) h
+    linked-none e = linked-as (omega arith) (λ f k. omega (arith, ap (λ o. sumOn (marked f) (movingOne o)) e)) h
 
     from-moving : (t : Transaction) → s .moving ≡ some t → t .returning ≡ false → InHand t s
     unfolding movingOne
@@ -144,7 +144,7 @@ module _ (m : BlockModel) where
                 ap (λ o. sumOn (has (t .number)) (movingOne o)) e,
                 has-own (t .number) t refl,
               );
-          linked = linked-as (omega arith) (λ f. omega (arith, ap (λ o. sumOn (marked f) (movingOne o)) e)) h;
+          linked = linked-as (omega arith) (λ f k. omega (arith, ap (λ o. sumOn (marked f) (movingOne o)) e)) h;
           in-place = λ r. absurd (true≢false (sym r ∙ u));
         }
 
@@ -163,7 +163,7 @@ module _ (m : BlockModel) where
                 ap (sumOn (has (t .number))) r,
                 has-own (t .number) t refl,
               );
-          linked = linked-as (omega arith) (λ f. omega (arith, ap (sumOn (marked f)) r)) (linked-none e);
+          linked = linked-as (omega arith) (λ f k. omega (arith, ap (sumOn (marked f)) r)) (linked-none e);
           in-place = λ b.
               record { queued = ready .queued; gated = ready .gated; settled = settled e (omega arith); ql-length = shape .ql-length };
         }
@@ -194,9 +194,9 @@ module _ (m : BlockModel) where
               );
           linked =
               subst
-              (λ rs. Linked rs (nextEvents (s .fel) s .serial) (λ f. waiting f (setMoving (some t) (setRel l (nextEvents (s .fel) s))) + marked f t))
+              (λ rs. Linked m rs (nextEvents (s .fel) s .serial) (λ f. waiting f (setMoving (some t) (setRel l (nextEvents (s .fel) s))) + marked f t))
               (sym (quiet .records))
-              (linked-as (quiet .serials) (λ f. omega (arith, quiet .weights f, ap (sumOn (marked f)) r)) (linked-none e));
+              (linked-as (quiet .serials) (λ f k. omega (arith, quiet .weights f, ap (sumOn (marked f)) r)) (linked-none e));
           in-place = λ b. absurd (true≢false (sym b ∙ first .0));
         }
       where
@@ -208,10 +208,10 @@ module _ (m : BlockModel) where
 
   -- what the taking leaves
   pub data Handed (s : State) : Type 0 where
-    nobody : s .moving ≡ none → LinkedIn s → Handed s
+    nobody : s .moving ≡ none → LinkedIn m s → Handed s
     hand : (t : Transaction) → InHand t s → Handed s
 
-  module _ (s : State) (once : Once s) (h : LinkedIn s) (shape : Shape m s) (w : Waits m s) (z : s .end ≡ 0) (settled : Settled m s)
+  module _ (s : State) (once : Once s) (h : LinkedIn m s) (shape : Shape m s) (w : Waits m s) (z : s .end ≡ 0) (settled : Settled m s)
       (unmarked : Unmarked (s .moving)) where
     handed-rel : (l : List Transaction) → s .rel ≡ l → s .moving ≡ none → Handed (takeReady l s)
     unfolding takeReady takeFirst

@@ -17,7 +17,7 @@ use Rattle.machine.specs.Moves.{qlOf, welOf, log, enters, moveTo, toRel,
 use Rattle.machine.specs.Execute.{fits, takeUnits, checkWels, endsOne, delay, effect, freeUnits, wakeFor}
 use Rattle.machine.proofs.Proper.{Proper, ProperBlock, servers, code-server, share-server, ProperShare}
 use Rattle.machine.proofs.RunLaws.{cond-cases}
-use Rattle.machine.proofs.Cases.{checkWels-kept, waitTerms-cases}
+use Rattle.machine.proofs.Cases.{checkWels-kept, waitServer-cases, waitTerms-cases}
 use Rattle.machine.proofs.Shape.{Shape, server-length, facility-capacity}
 use Rattle.machine.proofs.Waiting.{serverOf, unitsOf, AtServer, AtWel, serverIn, Queued, Gated, WaitsOver}
 use Rattle.machine.proofs.Ready.{grows-not, grows-insert, grows-wake, queued-more, waits-more, ql-else, wel-else}
@@ -70,7 +70,7 @@ module _ (m : BlockModel) where
       wakes : (code : Code) (s : State) → QueuedIn m s → QueuedIn m (wakeFirstWel v code s)
       wakes code s w = let g = grows-wake (take 1 (welOf s v code)) (s .rel) in queued-more (g .keeps) (g .sorted) w
 
--- ---- The 16 kinds, for t in front of REL
+-- ---- Each kind, for t in front of REL
 
 module _ {m : BlockModel} {tape : List (List ℕ)} (proper : Proper m tape) (t : Transaction) (s : State) (shape : Shape m s)
     (w : WaitsOver m (t ∷ s .rel) (s .rel) (s .view .servers) (s .ql) (s .wel)) (going : s .end ≡ 1 → ⊥) where
@@ -129,22 +129,26 @@ module _ {m : BlockModel} {tape : List (List ℕ)} (proper : Proper m tape) (t :
         (others-wait (w .gated) v _ _ one off′ (grows-wake (those p (qlOf s v)) (s .rel))) going
 
     -- 8 WAITIF of a code
-    waitServer-walked : (code : Code) → AtWel m (welIndex v code) t → serverOf m t ≡ 0 → Walked m (effect m (waitServer code v) t s)
-    unfolding effect mustWait enters log moveTo serverAt toWel wakeFirstWel takeUnits
-    waitServer-walked code at off =
-        cond-cases (Walked m) (status code (serverAt (s .view) v)) _ _
+    waitServer-walked : (code : Code) (c : ℕ) → AtWel m (welIndex v code) t → serverOf m t ≡ 0 → Walked m (effect m (waitServer code v c) t s)
+    unfolding mustWait enters log moveTo toWel wakeFirstWel serverAt
+    waitServer-walked code c at off =
+        waitServer-cases (Walked m) m code v c t s
         (λ holds.
         cond-cases (Walked m) (t .returning) _ _
         (λ e. waiting holds t at) (λ e. waiting holds (withSerial (suc (s .serial)) t) at))
-        (λ passes.
-        let g = grows-wake (take 1 (welOf s v code)) (s .rel) in (
-          record {
-            queued = queued-more (g .keeps) (g .sorted) (queued-else off);
-            gated = passes-gated v code s one known (shape .wel-length) at (w .gated);
-          },
-          going,
-        ))
+        (λ e. woken) (λ e. woken)
       where
+        -- whoever goes back wakes the next too
+        woken : Walked m (wakeFirstWel v code s)
+        woken =
+            let g = grows-wake (take 1 (welOf s v code)) (s .rel) in (
+              record {
+                queued = queued-more (g .keeps) (g .sorted) (queued-else off);
+                gated = passes-gated v code s one known (shape .wel-length) at (w .gated);
+              },
+              going,
+            )
+
         waiting : status code (serverAt (s .view) v) ≡ true → (t′ : Transaction) → AtWel m (welIndex v code) t′ → Walked m (toWel v code t′ s)
         waiting holds t′ at′ = (record { queued = queued-else off; gated = waits-gated (w .gated) v code t′ one at at′ holds }, going)
 
@@ -193,9 +197,9 @@ module _ {m : BlockModel} {tape : List (List ℕ)} (proper : Proper m tape) (t :
   effect-walked (frees x) e k =
       let (one, known) = share-server m x k in
       frees-walked x one known k (ap (λ b. facts b .server) e) (ap (λ b. facts b .wel) e)
-  effect-walked (waitServer code v) e k =
-      let (one, known) = code-server m code v k in
-      waitServer-walked v one known code (ap (λ b. facts b .wel) e) (ap (λ b. facts b .server) e)
+  effect-walked (waitServer code v c) e k =
+      let (one, known) = code-server m code v (k .0) in
+      waitServer-walked v one known code c (ap (λ b. facts b .wel) e) (ap (λ b. facts b .server) e)
   effect-walked (waitTerms a r b) e k =
       let q = quiet (waitTerms a r b) e refl refl in
       waitTerms-cases (Walked m) m a r b t s (λ c. cond-cases (Walked m) (t .returning) _ _ (λ c. q) (λ c. q)) (λ c. q)

@@ -1,5 +1,5 @@
--- Reading under rules that allow no less: what was read stays as it was. A number, the tape and a record are read alike; the model
--- is read whatever the rules, and differs in its rules alone.
+-- Reading under rules that allow no less: what was read stays as it was. A number, the tape, a record and a model are read alike; the
+-- model differs in its rules alone.
 use Prim.Native.Nat.{ℕ, zero, suc, _≤_}
 use mathlib.Core.Path.{_≡_, refl, sym, ap, subst, _∙_}
 use mathlib.Core.Bool.{Bool, true, false, cond, _&&_}
@@ -13,11 +13,12 @@ use Rattle.machine.specs.Limits as Limits
 use Rattle.machine.specs.Rules.{Rules, document01}
 use Rattle.machine.specs.Number.{Number, groups, padded, within, readNumber}
 use Rattle.machine.specs.Parser.{Cursor, Parsed, parsed, refused, Parser, continue, _>>=_, times, forward, fieldOf, fieldUpTo}
-use Rattle.machine.specs.Block.{BlockModel}
-use Rattle.machine.specs.Decode.{modelFields, listField}
+use Rattle.machine.specs.Block.{BlockModel, insideGroup}
+use Rattle.machine.specs.Decode.{Counts, blockField, modelFields, listField}
 use Rattle.machine.specs.Trace.{recordFields}
 use Rattle.machine.specs.Validate.{targetsMove, wellFormed, beginning, modelOf, tapeOf}
 use Rattle.machine.specs.OlderTapes.{Wider}
+use Rattle.machine.specs.OlderModels.{counting}
 use Rattle.machine.proofs.RunLaws.{cond-cases}
 
 -- ---- Definition
@@ -153,19 +154,67 @@ module _ (new : Rules) where
       go (parsed m c) = k m .from c
       go (refused n) = refl
 
-  module _ (old : Rules) (s : List ℕ) where
-    fields-under : Under (modelFields s old) (modelFields s new)
+  -- what was read is read, with the new rules
+  abbrev pub Follows : Parsed BlockModel → Parsed BlockModel → Type 0
+  Follows (parsed m c) q = q ≡ parsed (withRules new m) c
+  Follows (refused n) q = Unit {0}
+
+  record Following (p q : Parser BlockModel) : Type 0 where
+    from : (c : Cursor) → Follows (p c) (q c)
+
+  widely : {A : Type 0} {p q : Parser A} {f g : A → Parser BlockModel} → Widens p q → ((a : A) → Following (f a) (g a)) → Following (p >>= f) (q >>= g)
+  unfolding continue
+  widely {A} {p} {q} {f} {g} h k = record { from = λ c. go (p c) (q c) (h .from c) }
+    where
+      go : (r r′ : Parsed A) → Kept r r′ → Follows (continue r f) (continue r′ g)
+      go (parsed a c) r′ e = subst (λ r. Follows (f a c) (continue r g)) (sym e) (k a .from c)
+      go (refused n) r′ e = tt
+
+  afterwards : {p q : Parser BlockModel} {f : BlockModel → Parser BlockModel} → Following p q → ((m : BlockModel) → Following (f m) (f (withRules new m)))
+      → Following (p >>= f) (q >>= f)
+  unfolding continue
+  afterwards {p} {q} {f} h k = record { from = λ c. go (p c) (q c) (h .from c) }
+    where
+      go : (r r′ : Parsed BlockModel) → Follows r r′ → Follows (continue r f) (continue r′ f)
+      go (parsed m c) r′ e = subst (λ r. Follows (f m c) (continue r f)) (sym e) (k m .from c)
+      go (refused n) r′ e = tt
+
+  module _ (old : Rules) (s : List ℕ) (more : old .kinds ≤ new .kinds) where
+    block-widens : (n : Counts) (capacities : List ℕ) → Widens (blockField s (old .kinds) n capacities) (blockField s (new .kinds) n capacities)
+    unfolding blockField
+    block-widens n capacities = then (field-widens (omega arith) 3 1 more s) (λ kind. same _)
+
+    fields-follow : Following (modelFields s old) (modelFields s new)
     unfolding modelFields
-    fields-under =
-        alike _ (λ edition. alike _ (λ facilities. alike _ (λ storages. alike _ (λ capacities. alike _ (λ queues. alike _ (λ values.
-        alike _ (λ sums. alike _ (λ lists. alike _ (λ counter. alike _ (λ blocks. alike _ (λ program. record { from = λ c. refl })))))))))))
+    fields-follow =
+        widely (same _) (λ edition. widely (same _) (λ facilities. widely (same _) (λ storages. widely (same _) (λ capacities. widely (same _) (λ queues.
+        widely (same _) (λ values. widely (same _) (λ sums. widely (same _) (λ lists. widely (same _) (λ counter. widely (same _) (λ blocks.
+        widely (repeated blocks (block-widens _ capacities)) (λ program. record { from = λ c. refl })))))))))))
 
-    model-under : Under (modelOf old s) (modelOf new s)
-    unfolding modelOf wellFormed targetsMove
-    model-under = after fields-under (λ m. alike _ (λ u. alike _ (λ u. record { from = λ c. refl })))
+    -- where there are no fewer kinds
+    pub model-follows : (c : Cursor) → Follows (modelOf old s c) (modelOf new s c)
+    unfolding modelOf wellFormed targetsMove insideGroup
+    model-follows c = afterwards fields-follow (λ m. widely (same _) (λ u. widely (same _) (λ u. record { from = λ c. refl }))) .from c
 
-    pub model-read : (c : Cursor) → modelOf new s c ≡ underRules new (modelOf old s c)
-    model-read c = model-under .from c
+-- where there are as many kinds, refusals are the same too
+
+module _ (new old : Rules) (kinds : ℕ) (s : List ℕ) where
+  fields-under : Under (counting kinds new) (modelFields s (counting kinds old)) (modelFields s (counting kinds new))
+  unfolding modelFields
+  fields-under =
+      let r = counting kinds new in
+      alike r _ (λ edition. alike r _ (λ facilities. alike r _ (λ storages. alike r _ (λ capacities. alike r _ (λ queues. alike r _ (λ values.
+      alike r _ (λ sums. alike r _ (λ lists. alike r _ (λ counter. alike r _ (λ blocks. alike r _ (λ program. record { from = λ c. refl })))))))))))
+
+  model-under : (c : Cursor) → modelOf (counting kinds new) s c ≡ underRules (counting kinds new) (modelOf (counting kinds old) s c)
+  unfolding modelOf wellFormed targetsMove insideGroup
+  model-under c =
+      let r = counting kinds new in
+      after r fields-under (λ m. alike r _ (λ u. alike r _ (λ u. record { from = λ c. refl }))) .from c
+
+pub model-read : (new old : Rules) → old .kinds ≡ new .kinds → (s : List ℕ) (c : Cursor) → modelOf new s c ≡ underRules new (modelOf old s c)
+model-read new old same s c =
+    subst (λ kinds. modelOf (counting kinds new) s c ≡ underRules (counting kinds new) (modelOf old s c)) same (model-under new old (old .kinds) s c)
 
 rulesOf : Parsed BlockModel → Rules
 rulesOf (parsed m c) = m .rules
@@ -174,4 +223,4 @@ rulesOf (refused n) = document01
 -- a model that was read has the rules that it was read by
 pub own-rules : (rules : Rules) (s : List ℕ) (m : BlockModel) (c : Cursor) → modelOf rules s beginning ≡ parsed m c → m .rules ≡ rules
 unfolding rulesOf
-own-rules rules s m c e = ap rulesOf (sym e ∙ model-read rules rules s beginning ∙ ap (underRules rules) e)
+own-rules rules s m c e = ap rulesOf (sym e ∙ model-read rules rules refl s beginning ∙ ap (underRules rules) e)

@@ -4,11 +4,12 @@ use Prim.Native.Nat.{ℕ, suc, _+_, _*_, _-_}
 use mathlib.Core.Bool.{Bool, true, false, not}
 use mathlib.Core.List.{List, [], _∷_}
 use mathlib.Core.Option.{some}
-use lib.Dec.{ltb, eqb}
-use Rattle.machine.specs.Lists.{nth}
+use lib.Dec.{ltb, leb, eqb}
+use Rattle.machine.specs.Lists.{nth, bit, upTo}
+use Rattle.machine.specs.Limits.{maxBack}
 use Rattle.machine.specs.Rules.{Rules}
 use Rattle.machine.specs.Term.{Server, Term, Relation, Condition, always, whenTrue, Sum}
-use Rattle.machine.specs.Facts.{Facts, noFacts, setGenerates, setRank, setUses, setTerminates, setCopies, setServer, setUnits, setQueue, setReleases, setTarget, setLeaves, setWel, setWaitsWhile, setTerms}
+use Rattle.machine.specs.Facts.{Facts, noFacts, setGenerates, setRank, setUses, setTerminates, setCopies, setServer, setUnits, setQueue, setReleases, setTarget, setLeaves, setWel, setBack, setWaitsWhile, setTerms}
 
 -- Lists, "WEL: one per server and status code: 1 U (in use), 2 NU for facilities; 3 E (empty), 4 NE, 5 F (full), 6 NF for storages."
 pub data Code : Type 0 where
@@ -69,8 +70,8 @@ pub data Block : Type 0 where
   terminate : (a : ℕ) → Block
   -- 4 SEIZE f and 6 ENTER s, b; 5 RELEASE f and 7 LEAVE s, b
   takes frees : (share : Share) → Block
-  -- 8 WAITIF code, server
-  waitServer : (code : Code) (server : ℕ) → Block
+  -- 8 WAITIF code, server, with back count 0; 17 (document 02, item 7) code, server, back count
+  waitServer : (code : Code) (server back : ℕ) → Block
   -- 9 WAITIF left, relation, right
   waitTerms : (left : Term) (relation : Relation) (right : Term) → Block
   -- 10 IF left, relation, right, target and 11 GOTO target
@@ -135,7 +136,7 @@ facts (advance list) = setUses list noFacts
 facts (terminate a) = setTerminates 1 (setLeaves true noFacts)
 facts (takes x) = setServer (shareServer x) (setUnits (shareUnits x) noFacts)
 facts (frees x) = setReleases (shareFacility x) noFacts
-facts (waitServer code v) = setWel (suc (welIndex v code)) noFacts
+facts (waitServer code v c) = setWel (suc (welIndex v code)) (setBack c noFacts)
 facts (waitTerms a r b) = setWaitsWhile (some (whenTrue a r b)) (setTerms (a ∷ b ∷ []) noFacts)
 facts (moves c target) = setTarget target (setLeaves (unconditional c) (setTerms (compared c) noFacts))
 facts (assign k a) = setTerms (a ∷ []) noFacts
@@ -156,3 +157,16 @@ pub record BlockModel : Type 0 where
 
 abbrev pub blockAt : BlockModel → ℕ → Block
 blockAt m n = nth (m .blocks) n (terminate 0)
+
+-- ---- Document 02, item 7: a group is a kind 17 block and the blocks before it that its back count names
+
+abbrev pub backAt : BlockModel → ℕ → ℕ
+backAt m n = facts (blockAt m n) .back
+
+-- is the block the first of a group?
+unfoldable pub beginsGroup : BlockModel → ℕ → Bool
+beginsGroup m n = ltb 0 (upTo maxBack (λ c. bit (eqb (backAt m (n + c)) c)))
+
+-- is it "the second of this group, a later one or the kind 17 block itself"?
+unfoldable pub insideGroup : BlockModel → ℕ → Bool
+insideGroup m n = ltb 0 (upTo maxBack (λ c. bit (leb c (backAt m (n + c - 1)))))

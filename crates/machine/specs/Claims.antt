@@ -3,7 +3,7 @@ use Prim.Native.Nat.{ℕ, suc, _+_, _*_, _-_, _≤_, _<_}
 use mathlib.Core.Path.{_≡_}
 use mathlib.Core.Bool.{Bool, true, cond, not, _&&_, _||_}
 use mathlib.Core.List.{List, [], _∷_, _++_, map, reverse}
-use mathlib.Core.Option.{none}
+use mathlib.Core.Option.{Option, none, some}
 use lib.Dec.{ltb, leb, eqb, T}
 use lib.ListN.{length, getD, drop}
 use Rattle.machine.specs.Limits.{maxTurns}
@@ -12,7 +12,7 @@ use Rattle.machine.specs.Lists.{those, flat, nth}
 unfoldable pub use Rattle.machine.specs.Lists.{bit, upTo}
 use Rattle.machine.specs.Term.{Server, serverAt}
 use Rattle.machine.specs.Facts.{Facts, isGenerate}
-use Rattle.machine.specs.Block.{Code, U, NU, E, NE, F, NF, status, Block, facts, BlockModel, blockAt}
+use Rattle.machine.specs.Block.{Code, U, NU, E, NE, F, NF, status, Block, facts, BlockModel, blockAt, backAt}
 use Rattle.machine.specs.State.{State, Logged}
 use Rattle.machine.specs.Moves.{qlOf, welOf}
 use Rattle.machine.specs.Execute.{fits}
@@ -21,6 +21,10 @@ use Rattle.machine.specs.Trace.{Record, inRanges}
 use Rattle.machine.specs.Run.{run, states}
 use Rattle.machine.specs.Report.{places, movingOne, reportNumbers}
 use Rattle.machine.specs.Outcome.{Outcome}
+
+abbrev pub Each : {A : Type 0} → (A → Type 0) → List A → Type 0
+Each P [] = Unit {0}
+Each P (x ∷ l) = P x × Each P l
 
 -- how many of a list pass a test
 unfoldable pub count : {A : Type 0} → (A → Bool) → List A → ℕ
@@ -50,6 +54,12 @@ nextRecord n (r ∷ l) = cond (eqb (r .entry .transaction) n) 0 (suc (nextRecord
 -- the position of the record that ends the wait begun at position i; all records' number while the wait is open
 unfoldable pub waitEnd : List Logged → ℕ → ℕ
 waitEnd records i = suc i + nextRecord (getD records i noRecord .entry .transaction) (drop (suc i) records)
+
+-- the clock of a transaction's last entry of a block, by records that stand newest first
+unfoldable pub lastEntry : (number block : ℕ) → List Logged → Option ℕ
+lastEntry n b [] = none
+lastEntry n b (r ∷ l) =
+    cond (eqb (r .entry .outcome) 0 && eqb (r .entry .transaction) n && eqb (r .entry .block) b) (some (r .entry .clock)) (lastEntry n b l)
 
 module _ (m : BlockModel) (tape : List (List ℕ)) where
   abbrev pub factsAt : Logged → Facts
@@ -110,6 +120,7 @@ module _ (m : BlockModel) (tape : List (List ℕ)) where
   unfoldable pub ableOnQl : State → ℕ → ℕ
   ableOnQl s v = count (fits m (s .view) v) (qlOf s v)
 
+  -- Document 02, item 7: "A waiter inside a group counts as able to go when its own condition isn't true", as any other
   unfoldable pub ableOnWel : State → Code → ℕ → ℕ
   ableOnWel s code v = cond (status code (serverAt (s .view) v)) 0 (length (welOf s v code))
 
@@ -156,6 +167,23 @@ module _ (m : BlockModel) (tape : List (List ℕ)) where
     -- a living one, where the rules ask 27 and 28
     pub living : m .rules .holders ≡ true → 0 < v .holder → isLiving records (v .holder) ≡ true
 
+  -- ---- Document 02, item 7: "whoever enters a kind 17 block entered its whole group at that clock"
+
+  -- if a record behind others is an entry, the blocks of its group were last entered at its clock; other kinds have no group
+  abbrev pub WholeGroup : (before : List Logged) → Logged → Type 0
+  WholeGroup before r =
+      entered r ≡ true → (i : ℕ) → 1 ≤ i → i ≤ factsAt r .back
+      → lastEntry (r .entry .transaction) (r .entry .block - i) before ≡ some (r .entry .clock)
+
+  -- of records that stand newest first
+  abbrev pub Joined : List Logged → Type 0
+  Joined [] = Unit {0}
+  Joined (r ∷ l) = WholeGroup l r × Joined l
+
+  -- for who stands inside the group that block k closes, its stamp tells when it "last entered the group's first block"
+  abbrev pub Stamped : List Logged → Transaction → Type 0
+  Stamped records t = (k : ℕ) → k - backAt m k < t .next → t .next ≤ k → lastEntry (t .number) (k - backAt m k) records ≡ some (t .stamp)
+
   -- ---- The claims of one state
 
   pub record Keeps (s : State) : Type 0 where
@@ -170,6 +198,8 @@ module _ (m : BlockModel) (tape : List (List ℕ)) where
     pub nobody-able : s .end ≤ 1 → s .moving ≡ none → s .rel ≡ [] → ableToGo s ≡ 0
     pub order : InOrder (reverse (s .records))
     pub held : (f : ℕ) → 1 ≤ f → f ≤ m .facilities → Held (serverAt (s .view) f) f (s .records)
+    pub joined : Joined (s .records)
+    pub stamps : Each (Stamped (s .records)) (everyone s)
 
   -- ---- Document 02, item 2: "List the living by rising transaction number", told from the report's numbers alone
 
@@ -197,10 +227,6 @@ module _ (m : BlockModel) (tape : List (List ℕ)) where
     pub placed : (i : ℕ) → i < livingCount (s .records) → standingAt s (listedPlace s i) (listedNumber s i) ≡ 1
 
 -- ---- "It is one claim about the whole run": of the start, of what each turn left, and of the last state
-
-abbrev pub Each : {A : Type 0} → (A → Type 0) → List A → Type 0
-Each P [] = Unit {0}
-Each P (x ∷ l) = P x × Each P l
 
 abbrev pub Demand3 : BlockModel → List (List ℕ) → (budget room : ℕ) → Type 0
 Demand3 m tape budget room = Each (Keeps m tape) (states m tape budget room)

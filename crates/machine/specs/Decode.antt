@@ -20,10 +20,6 @@ pub record Counts : Type 0 where
   pub lists : ℕ
   pub blocks : ℕ
 
--- "Kind and operands as stored": how many kinds there are
-abbrev pub kindCount : ℕ
-kindCount = 16
-
 -- ---- Codes of operands
 
 -- "Relations: 1 =, 2 ≠, 3 <, 4 ≤, 5 >, 6 ≥"
@@ -174,7 +170,7 @@ module _ (s : List ℕ) where
       (cond (eqb kind 5) (do f ← number 1 (n .facilities); give (release f))
       (cond (eqb kind 6) (storageUnits n capacities enter)
       (cond (eqb kind 7) (storageUnits n capacities leave)
-      (cond (eqb kind 8) (do code ← number 1 6; v ← codeServer n code; give (waitServer (codeOf code) v))
+      (cond (eqb kind 8) (do code ← number 1 6; v ← codeServer n code; give (waitServer (codeOf code) v 0))
       (cond (eqb kind 9) (do a ← blockTerm n; r ← number 1 6; b ← blockTerm n; give (waitTerms a (relationOf r) b))
       (cond (eqb kind 10)
       (do a ← blockTerm n; r ← number 1 6; b ← blockTerm n; target ← number 1 (n .blocks); give (branch a (relationOf r) b target))
@@ -183,11 +179,12 @@ module _ (s : List ℕ) where
       (cond (eqb kind 13) (do p ← number 0 Limits.maxPriority; give (priority p))
       (cond (eqb kind 14) (do k ← number 1 Limits.maxSplit; target ← number 1 (n .blocks); give (split k target))
       (cond (eqb kind 15) (do q ← number 1 (n .queues); give (arrive q))
-      (do q ← number 1 (n .queues); give (depart q))))))))))))))))
+      (cond (eqb kind 16) (do q ← number 1 (n .queues); give (depart q))
+      (do code ← number 1 6; v ← codeServer n code; c ← number 1 Limits.maxBack; give (waitServer (codeOf code) v c)))))))))))))))))
 
-  unfoldable pub blockField : Counts → List ℕ → Parser Block
-  blockField n capacities = do
-    kind ← number 1 kindCount
+  unfoldable pub blockField : (kinds : ℕ) → Counts → List ℕ → Parser Block
+  blockField kinds n capacities = do
+    kind ← number 1 kinds
     operands n capacities kind
 
   -- ---- "Model: edition (1); facilities 0..32; storages 0..32 and each capacity 1..65,535; queues 0..32; values 0..8 and
@@ -208,7 +205,7 @@ module _ (s : List ℕ) where
     blocks ← number 1 Limits.maxBlocks
     program ←
         times blocks
-        (blockField
+        (blockField (rules .kinds)
         (record { facilities = facilities; storages = storages; queues = queues; values = values; lists = lists; blocks = blocks })
         capacities)
     give

@@ -1,15 +1,15 @@
 -- Blocks: the questions inside a turn, and what each kind does once they are answered.
 use Prim.Native.Nat.{ℕ, suc, _+_, _-_}
-use mathlib.Core.Bool.{Bool, true, false, cond, not, _||_}
+use mathlib.Core.Bool.{Bool, true, false, cond, not, _&&_, _||_}
 use mathlib.Core.List.{List, [], _∷_}
-use lib.Dec.{leb, eqb}
+use lib.Dec.{ltb, leb, eqb}
 use Rattle.machine.specs.Limits.{maxLiving}
 use Rattle.machine.specs.Transaction.{Transaction}
 use Rattle.machine.specs.Lists.{setNth, bit, upTo}
 use Rattle.machine.specs.Term.{View, serverAt, queueAt, free, evaluate, compare, truth}
-use Rattle.machine.specs.Block.{Code, U, NU, E, NE, F, NF, status, Share, facility, storage, shareServer, shareUnits, shareHolder, Change, up, down, Block, generate, advance, terminate, takes, frees, waitServer, waitTerms, moves, assign, priority, split, counts, facts, BlockModel, blockAt}
+use Rattle.machine.specs.Block.{Code, U, NU, E, NE, F, NF, status, Share, facility, storage, shareServer, shareUnits, shareHolder, Change, up, down, Block, generate, advance, terminate, takes, frees, waitServer, waitTerms, moves, assign, priority, split, counts, facts, BlockModel, blockAt, beginsGroup}
 use Rattle.machine.specs.State.{State}
-use Rattle.machine.specs.Setters.{withPriority, withParameters, withNext, withReturning, setCounter, setEnded, setEnd}
+use Rattle.machine.specs.Setters.{withPriority, withParameters, withNext, withReturning, withStamp, setCounter, setEnded, setEnd}
 use Rattle.machine.specs.Moves.{enters, moveTo, goOn, toRel, toFel, toQl, toWel, toWsl, mustWait, wakeFirstQl, wakeQl, wakeFirstWel, setUse, setContent, timesLeft, useTime, arrival, copies}
 
 -- ---- Questions, "Inside a turn, after the taking and before the block has any effect, "no" is the end"
@@ -59,7 +59,7 @@ question m (terminate a) t s = unless (not (m .rules .holders) || eqb (held m (s
 question m (takes x) t s = 0
 -- "Is f in use, or are b units in use? 24."
 question m (frees x) t s = unless (leb (shareUnits x) (serverAt (s .view) (shareServer x) .inUse)) 24 (askHolder m x t s)
-question m (waitServer code v) t s = 0
+question m (waitServer code v c) t s = 0
 question m (waitTerms a r b) t s = 0
 question m (moves c target) t s = 0
 question m (assign k a) t s = 0
@@ -105,10 +105,15 @@ unfoldable pub changed : Change → ℕ → ℕ
 changed up n = n + 1
 changed down n = n - 1
 
+-- Document 02, item 7: at the first block of a group it takes the clock
+abbrev pub stamped : BlockModel → Transaction → State → Transaction
+stamped m t s = withStamp (cond (beginsGroup m (t .next)) (s .view .clock) (t .stamp)) t
+
 -- What each kind does, for the transaction t whose next block it is; nobody is moving in s. It enters, with an effect on the state e in
--- which its entry counts, or it must wait on a list. What becomes of either is said by who asks: `effect` below writes the record at once.
+-- which its entry counts, or it must wait on a list, or it goes back. What becomes of each is said by who asks: `effect` below writes the
+-- record of an entry and of a wait at once; going back writes none.
 -- "terms are read before the block's own entry counts, with the transaction's own parameters".
-module _ {A : Type 0} (enter : (State → State) → A) (wait : (Transaction → State → State) → A) where
+module _ {A : Type 0} (enter : (State → State) → A) (wait : (Transaction → State → State) → A) (back : (State → State) → A) where
   -- 4 SEIZE, "idle, it enters and f is in use; else it waits on the QL", 6 ENTER, "enters if b units are free, else waits"
   -- Document 02, item 6: "the number of its holder, written at SEIZE"
   abbrev pub takingUnits : Share → Transaction → State → A
@@ -127,8 +132,13 @@ module _ {A : Type 0} (enter : (State → State) → A) (wait : (Transaction →
   doing m (frees x) t s =
       enter (λ e. goOn t (checkWels (shareServer x) (wakeFor m x (freeUnits (shareServer x) (shareUnits x) e))))
   -- "waits on the WEL while the code is true; else the first of that WEL goes to REL, go on"
-  doing m (waitServer code v) t s =
-      cond (status code (serverAt (s .view) v)) (wait (toWel v code)) (enter (λ e. goOn t (wakeFirstWel v code e)))
+  -- Document 02, item 7: "One that finds the condition not true, but last entered the group's first block at an earlier clock, moves the
+  -- WEL's first to REL and goes back to that block, still moving. This writes no record and clears its returning mark. Otherwise it does
+  -- as kind 8"
+  doing m (waitServer code v c) t s =
+      cond (status code (serverAt (s .view) v)) (wait (toWel v code))
+      (cond (ltb 0 c && ltb (t .stamp) (s .view .clock)) (back (λ e. moveTo (t .next - c) t (wakeFirstWel v code e)))
+      (enter (λ e. goOn (stamped m t s) (wakeFirstWel v code e))))
   -- "waits on the WSL while true; else go on"
   doing m (waitTerms a r b) t s =
       cond (compare (m .values) (s .view) (t .parameters) a r b) (wait toWsl) (enter (λ e. goOn t e))
@@ -142,7 +152,7 @@ module _ {A : Type 0} (enter : (State → State) → A) (wait : (Transaction →
   doing m (counts c q) t s = enter (λ e. goOn t (setContent q (changed c (queueAt (s .view) q .content)) e))
 
 unfoldable pub takeUnits : Share → Transaction → State → State
-takeUnits x t s = takingUnits (λ f. f (enters t s)) (λ put. mustWait put t s) x t s
+takeUnits x t s = takingUnits (λ f. f (enters t s)) (λ put. mustWait put t s) (λ f. f s) x t s
 
 unfoldable pub effect : BlockModel → Block → Transaction → State → State
-effect m b t s = doing (λ f. f (enters t s)) (λ put. mustWait put t s) m b t s
+effect m b t s = doing (λ f. f (enters t s)) (λ put. mustWait put t s) (λ f. f s) m b t s

@@ -21,8 +21,10 @@ pub mod Outcome
 pub mod Claims
 pub mod OlderTapes
 pub mod OnlyHolder
+pub mod OlderModels
 pub mod Bundle
 pub mod Examples
 pub mod WaitExamples
 pub mod YearExamples
 pub mod HolderExamples
+pub mod JoinedExamples

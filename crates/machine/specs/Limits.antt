@@ -56,6 +56,10 @@ maxTerminate = 65535
 abbrev pub maxSplit : ℕ
 maxSplit = 255
 
+-- document 02, item 7: "back count c, 1..7"
+abbrev pub maxBack : ℕ
+maxBack = 7
+
 abbrev pub maxConstant : ℕ
 maxConstant = 2147483647
 

@@ -10,7 +10,7 @@ use Rattle.machine.specs.Term.{serverAt, queueAt}
 use Rattle.machine.specs.Block.{Code, welIndex}
 use Rattle.machine.specs.Trace.{Record, recordBytes}
 use Rattle.machine.specs.State.{State}
-use Rattle.machine.specs.Setters.{withNext, withSerial, withReturning, withUse, withContent, setEntries, setQueues, setServers, setView, setSamples, setQl, setWel, setWsl, setRel, setFel, setMoving, setSerial, setMade, setRecords, setWritten}
+use Rattle.machine.specs.Setters.{withNext, withSerial, withReturning, withStamp, withUse, withContent, setEntries, setQueues, setServers, setView, setSamples, setQl, setWel, setWsl, setRel, setFel, setMoving, setSerial, setMade, setRecords, setWritten}
 
 -- ---- The trace
 
@@ -49,7 +49,7 @@ toRel t s = setRel (insert precedes (withSerial (fresh s) t) (s .rel)) (setSeria
 
 unfoldable pub toFel : ℕ → Transaction → State → State
 toFel time t s =
-    setFel (insert earlier (record { time = time; who = withSerial (fresh s) t }) (s .fel)) (setSerial (fresh s) s)
+    setFel (insert earlier (record { time = time; who = withStamp time (withSerial (fresh s) t) }) (s .fel)) (setSerial (fresh s) s)
 
 -- ---- Waiting
 
@@ -124,11 +124,12 @@ arrival [] list priority block s = s
 arrival (time ∷ left) list priority block s =
     toFel (s .view .clock + time) (newborn (suc (s .made)) priority block) (setMade (suc (s .made)) (useTime list s))
 
+abbrev pub copyOf : Transaction → (number target : ℕ) → Transaction
+copyOf t number target =
+    record { number = number; priority = t .priority; parameters = t .parameters; next = target; serial = 0; returning = false; stamp = 0 }
+
 -- 14 SPLIT, "n copies, same priority and parameters, on REL with fresh serials in order"
 unfoldable pub copies : ℕ → ℕ → Transaction → State → State
 copies zero target t s = s
 copies (suc n) target t s =
-    copies n target t
-    (toRel
-    (record { number = suc (s .made); priority = t .priority; parameters = t .parameters; next = target; serial = 0; returning = false })
-    (setMade (suc (s .made)) s))
+    copies n target t (toRel (copyOf t (suc (s .made)) target) (setMade (suc (s .made)) s))

@@ -15,11 +15,12 @@ use Rattle.machine.specs.Validate.{accept, validate}
 use Rattle.machine.specs.Outcome.{Outcome, outcome}
 use Rattle.machine.specs.Claims.{Each}
 
--- clock limit, time limit and largest number are no lower
+-- clock limit, time limit, largest number and number of kinds are no lower
 pub record Wider (old new : Rules) : Type 0 where
   pub clock : old .maxClock ≤ new .maxClock
   pub time : old .maxTime ≤ new .maxTime
   pub number : old .maxNumber ≤ new .maxNumber
+  pub kinds : old .kinds ≤ new .kinds
 
 -- and all else is the same
 pub record AllowsNoLess (old new : Rules) : Type 0 where

@@ -13,17 +13,23 @@ pub record Rules : Type 0 where
   pub maxNumber : ℕ
   -- is it asked who holds a facility, at RELEASE and TERMINATE?
   pub holders : Bool
+  -- "Kind and operands as stored": how many kinds there are
+  pub kinds : ℕ
 
 abbrev pub document01 : Rules
-document01 = record { maxClock = 2000000000; maxTime = 1000000; maxNumber = Limits.maxNumber; holders = false }
+document01 = record { maxClock = 2000000000; maxTime = 1000000; maxNumber = Limits.maxNumber; holders = false; kinds = 16 }
 
 -- document 02 with item 1, "Studies of a whole year in milliseconds"
 abbrev pub item1 : Rules
-item1 = record { maxClock = Limits.maxClock; maxTime = Limits.maxTime; maxNumber = Limits.fiveGroups; holders = false }
+item1 = record { maxClock = Limits.maxClock; maxTime = Limits.maxTime; maxNumber = Limits.fiveGroups; holders = false; kinds = 16 }
 
 -- and with item 6, "Only the holder releases"
+abbrev pub item6 : Rules
+item6 = record { maxClock = item1 .maxClock; maxTime = item1 .maxTime; maxNumber = item1 .maxNumber; holders = true; kinds = item1 .kinds }
+
+-- and with item 7, "Storm and tug together"
 abbrev pub document02 : Rules
-document02 = record { maxClock = item1 .maxClock; maxTime = item1 .maxTime; maxNumber = item1 .maxNumber; holders = true }
+document02 = record { maxClock = item6 .maxClock; maxTime = item6 .maxTime; maxNumber = item6 .maxNumber; holders = item6 .holders; kinds = 17 }
 
 -- the rules that the engine keeps
 abbrev pub inForce : Rules

@@ -11,19 +11,22 @@ use Rattle.machine.specs.State.{State, Logged}
 -- ---- Transaction
 
 abbrev pub withPriority : ℕ → Transaction → Transaction
-withPriority x t = record { number = t .number; priority = x; parameters = t .parameters; next = t .next; serial = t .serial; returning = t .returning }
+withPriority x t = record { number = t .number; priority = x; parameters = t .parameters; next = t .next; serial = t .serial; returning = t .returning; stamp = t .stamp }
 
 abbrev pub withParameters : List ℤ → Transaction → Transaction
-withParameters x t = record { number = t .number; priority = t .priority; parameters = x; next = t .next; serial = t .serial; returning = t .returning }
+withParameters x t = record { number = t .number; priority = t .priority; parameters = x; next = t .next; serial = t .serial; returning = t .returning; stamp = t .stamp }
 
 abbrev pub withNext : ℕ → Transaction → Transaction
-withNext x t = record { number = t .number; priority = t .priority; parameters = t .parameters; next = x; serial = t .serial; returning = t .returning }
+withNext x t = record { number = t .number; priority = t .priority; parameters = t .parameters; next = x; serial = t .serial; returning = t .returning; stamp = t .stamp }
 
 abbrev pub withSerial : ℕ → Transaction → Transaction
-withSerial x t = record { number = t .number; priority = t .priority; parameters = t .parameters; next = t .next; serial = x; returning = t .returning }
+withSerial x t = record { number = t .number; priority = t .priority; parameters = t .parameters; next = t .next; serial = x; returning = t .returning; stamp = t .stamp }
 
 abbrev pub withReturning : Bool → Transaction → Transaction
-withReturning x t = record { number = t .number; priority = t .priority; parameters = t .parameters; next = t .next; serial = t .serial; returning = x }
+withReturning x t = record { number = t .number; priority = t .priority; parameters = t .parameters; next = t .next; serial = t .serial; returning = x; stamp = t .stamp }
+
+abbrev pub withStamp : ℕ → Transaction → Transaction
+withStamp x t = record { number = t .number; priority = t .priority; parameters = t .parameters; next = t .next; serial = t .serial; returning = t .returning; stamp = x }
 
 -- ---- Server
 

@@ -15,6 +15,10 @@ pub record Transaction : Type 0 where
   pub next : ℕ
   pub serial : ℕ
   pub returning : Bool
+  -- Document 02, item 7: the clock at which it "last entered the group's first block". One stamp suffices: groups share no block and are
+  -- entered at their first block alone, so whoever stands inside a group entered no other group's first block since. Nobody is delayed
+  -- inside one: on the FEL the move time takes its place.
+  pub stamp : ℕ
 
 -- a new one at a block; its serial is given where it is put on a list
 unfoldable pub newborn : ℕ → ℕ → ℕ → Transaction
@@ -26,6 +30,7 @@ newborn number priority block =
       next = block;
       serial = 0;
       returning = false;
+      stamp = 0;
     }
 
 -- "All of these are sorted by priority, high first, then serial, low first."

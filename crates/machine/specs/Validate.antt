@@ -1,5 +1,5 @@
 -- "Questions at the door" in their order, from bytes.
-use Prim.Native.Nat.{ℕ}
+use Prim.Native.Nat.{ℕ, suc}
 use mathlib.Core.Bool.{Bool, true, cond, not, _&&_, _||_}
 use mathlib.Core.List.{List, [], _∷_}
 use lib.Dec.{leb, eqb}
@@ -9,7 +9,7 @@ use Rattle.machine.specs.Rules.{Rules}
 use Rattle.machine.specs.Parser.{Cursor, Parser, Parsed, parsed, refused, _>>=_, _>>_, give, ask, times}
 use Rattle.machine.specs.Term.{Term, constant, minusConstant, parameter, clockTerm, entriesOf, contentOf, unitsInUse, unitsFree, facilityInUse, value, comparison, bracket, Sum, nothing, plus, minus}
 use Rattle.machine.specs.Facts.{isGenerate}
-use Rattle.machine.specs.Block.{Block, facts, BlockModel, blockAt}
+use Rattle.machine.specs.Block.{Block, facts, BlockModel, blockAt, insideGroup}
 use Rattle.machine.specs.Decode.{modelFields, atEnd, listField}
 
 -- ---- "Is each GENERATE first or after TERMINATE or GOTO, named by no target, the last block TERMINATE or GOTO, and does
@@ -24,10 +24,18 @@ unfoldable pub allOf : {A : Type 0} → (A → Bool) → List A → Bool
 allOf p [] = true
 allOf p (x ∷ l) = p x && allOf p l
 
--- no target names a GENERATE
+-- Document 02, item 7: "The c blocks before it are server waits of kind 8", behind so many of them
+unfoldable pub joined : (waits : ℕ) → List Block → Bool
+joined waits [] = true
+joined waits (b ∷ l) =
+    leb (facts b .back) waits && joined (cond (not (eqb (facts b .wel) 0) && eqb (facts b .back) 0) (suc waits) 0) l
+
+-- no target names a GENERATE; document 02, item 7: nor "the second of this group, a later one or the kind 17 block itself"
 unfoldable pub targetsMove : BlockModel → Bool
 targetsMove m =
-    allOf (λ b. eqb (facts b .target) 0 || not (isGenerate (facts (blockAt m (facts b .target))))) (m .blocks)
+    allOf
+    (λ b. eqb (facts b .target) 0 || (not (isGenerate (facts (blockAt m (facts b .target)))) && not (insideGroup m (facts b .target))))
+    (m .blocks)
 
 -- does each block named in a sum exist, where there are n?
 unfoldable mutual
@@ -51,7 +59,8 @@ unfoldable mutual
   sumNames n (minus t e) = termNames n t && sumNames n e
 
 unfoldable pub wellFormed : BlockModel → Bool
-wellFormed m = wellPlaced true (m .blocks) && targetsMove m && allOf (sumNames (length (m .blocks))) (m .values)
+wellFormed m =
+    wellPlaced true (m .blocks) && targetsMove m && allOf (sumNames (length (m .blocks))) (m .values) && joined 0 (m .blocks)
 
 -- ---- Model and tape
 

@@ -7,6 +7,8 @@ pub const SEIZE: u32 = 4;
 
 pub const ENTER: u32 = 6;
 
+pub const WAIT_SERVER: u32 = 8;
+
 pub const WAIT_TERMS: u32 = 9;
 
 pub const BRANCH: u32 = 10;
@@ -17,5 +19,8 @@ pub const SPLIT: u32 = 14;
 
 pub const ARRIVE: u32 = 15;
 
+// document 02, item 7: a server wait joined with those before it
+pub const JOINED_WAIT: u32 = 17;
+
 // how many there are
-pub const KINDS: usize = 16;
+pub const KINDS: usize = 17;

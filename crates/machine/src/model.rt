@@ -1,6 +1,6 @@
 // The header of a model, and the limits of documents 01 and 02 as its constants.
 ghost use mathlib.Core.Path.{_≡_};
-ghost use Rattle.machine.specs.Limits.{maxFacilities, maxStorages, maxCapacity, maxQueues, maxValues, maxLists, maxCounter, maxBlocks, maxLiving, maxSamples, maxTime, maxPriority, parameterCount, maxTerminate, maxSplit, maxConstant, maxTerms, maxValueNumbers, maxBrackets, maxMentions, maxSerial, maxTurns, recordRoom, maxClock, maxTransaction, maxNumberBytes, maxNumber, fiveGroups, maxReportNumberBytes, maxReportNumber, workNumbers, reportRoom};
+ghost use Rattle.machine.specs.Limits.{maxFacilities, maxStorages, maxCapacity, maxQueues, maxValues, maxLists, maxCounter, maxBlocks, maxLiving, maxSamples, maxTime, maxPriority, parameterCount, maxTerminate, maxSplit, maxBack, maxConstant, maxTerms, maxValueNumbers, maxBrackets, maxMentions, maxSerial, maxTurns, recordRoom, maxClock, maxTransaction, maxNumberBytes, maxNumber, fiveGroups, maxReportNumberBytes, maxReportNumber, workNumbers, reportRoom};
 
 // The header of a decoded model: how many there are of each thing, and the counter.
 pub struct Model {
@@ -45,6 +45,9 @@ impl Model {
     pub const MAX_TERMINATE: usize = 65_535;
 
     pub const MAX_SPLIT: usize = 255;
+
+    // document 02, item 7: "back count c, 1..7"
+    pub const MAX_BACK: usize = 7;
 
     pub const MAX_CONSTANT: usize = 2_147_483_647;
 
@@ -93,7 +96,7 @@ impl Model {
         ensures program { λ _. do ⌜ ((← ⟦Model::MAX_COUNTER⟧ .entry) ≡ maxCounter) × ((← ⟦Model::MAX_BLOCKS⟧ .entry) ≡ maxBlocks) × ((← ⟦Model::MAX_LIVING⟧ .entry) ≡ maxLiving) ⌝ }
         ensures tape { λ _. do ⌜ ((← ⟦Model::MAX_SAMPLES⟧ .entry) ≡ maxSamples) × ((← ⟦Model::MAX_TIME⟧ .entry) ≡ maxTime) ⌝ }
         ensures transactions { λ _. do ⌜ ((← ⟦Model::MAX_PRIORITY⟧ .entry) ≡ maxPriority) × ((← ⟦Model::PARAMETERS⟧ .entry) ≡ parameterCount) ⌝ }
-        ensures operands { λ _. do ⌜ ((← ⟦Model::MAX_TERMINATE⟧ .entry) ≡ maxTerminate) × ((← ⟦Model::MAX_SPLIT⟧ .entry) ≡ maxSplit) ⌝ }
+        ensures operands { λ _. do ⌜ ((← ⟦Model::MAX_TERMINATE⟧ .entry) ≡ maxTerminate) × ((← ⟦Model::MAX_SPLIT⟧ .entry) ≡ maxSplit) × ((← ⟦Model::MAX_BACK⟧ .entry) ≡ maxBack) ⌝ }
         ensures terms { λ _. do ⌜ ((← ⟦Model::MAX_CONSTANT⟧ .entry) ≡ maxConstant) × ((← ⟦Model::MAX_TERMS⟧ .entry) ≡ maxTerms) ⌝ }
         ensures sums { λ _. do ⌜ ((← ⟦Model::MAX_VALUE_NUMBERS⟧ .entry) ≡ maxValueNumbers) × ((← ⟦Model::MAX_BRACKETS⟧ .entry) ≡ maxBrackets) × ((← ⟦Model::MAX_MENTIONS⟧ .entry) ≡ maxMentions) ⌝ }
         ensures turns { λ _. do ⌜ ((← ⟦Model::MAX_SERIAL⟧ .entry) ≡ maxSerial) × ((← ⟦Model::MAX_TURNS⟧ .entry) ≡ maxTurns) × ((← ⟦Model::RECORD_ROOM⟧ .entry) ≡ recordRoom) ⌝ }

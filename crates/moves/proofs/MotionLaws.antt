@@ -22,10 +22,10 @@ use Rattle.rows.specs.Holds.{transactionAt, update}
 use Rattle.rows.proofs.Fields.{write-next, write-serial, set-returning}
 use Rattle.state.specs.declared.scalars.Scalars.{Scalars}
 use Rattle.state.specs.Stands.{Rows, rowsOf, listsOf, Listing, Tallying, Counting, Stands, noteOf, Done}
-use Rattle.state.specs.Bare.{waitsNote, noNote, Bare, entering, waiting, bare, bareAnswer}
+use Rattle.state.specs.Bare.{waitsNote, noNote, Bare, entering, goingBack, waiting, bare, bareAnswer}
 use Rattle.state.proofs.ListsOf.{lists-ql, lists-wel, lists-set-ql, lists-set-wel, lists-set-wsl}
 use Rattle.state.proofs.StandsLaws.{listing-ext, listing-write, listing-put, tallying-ext, counting-ext, stands-of, stands-moving}
-use Rattle.moves.specs.Motion.{Moved, moved, withTally, next32, goTo, goOn, putBack, beginWait, waitOn, stopped}
+use Rattle.moves.specs.Motion.{Moved, moved, withTally, next32, goTo, goOn, goBack, putBack, beginWait, waitOn, stopped}
 
 next32-suc : (n : ℕ) → n < 4294967295 → next32 n ≡ suc n
 next32-suc n h = omega arith
@@ -92,6 +92,32 @@ module _ (tapeBytes : List ℕ) (w tally : List ℕ) (x : Scalars) (t : Transact
   pub go-on-done : t .next < 4294967295 → Done tapeBytes (withTally (goOn w x) tally) (entering (Moves.goOn t s))
   go-on-done lt =
       subst (λ (m : Moved). Done tapeBytes (withTally m tally) (entering (Moves.goOn t s))) (sym (go-on-is w x t s listing lt)) (go-to-done (suc (t .next)))
+
+  -- ---- Going back
+
+  back-listing : (blocks : ℕ) → Listing (goBack w x blocks .work) (x .moving) (some (withReturning false (withNext (t .next - blocks) t))) s
+  unfolding goBack goTo moved
+  back-listing blocks = rw (next-read w x t s listing) (go-to-listing w x t s listing (t .next - blocks))
+
+  pub go-back-done : (blocks : ℕ) → Done tapeBytes (withTally (goBack w x blocks) tally) (goingBack (Moves.moveTo (t .next - blocks) t s))
+  unfolding Moves.moveTo goBack moved rowsOf noteOf
+  go-back-done blocks =
+      record {
+        stands =
+            stands-moving tapeBytes (withTally (goBack w x blocks) tally) (some (withReturning false (withNext (t .next - blocks) t))) (some (withReturning false (withNext (t .next - blocks) t))) s
+            (stands-of tapeBytes (goBack w x blocks .scalars) (goBack w x blocks .work) tally (some (withReturning false (withNext (t .next - blocks) t))) s
+            (back-listing blocks) tallying
+            (record {
+              clock = counting .clock;
+              counter = counting .counter;
+              serial = counting .serial;
+              made = counting .made;
+              ended = counting .ended;
+              turns = counting .turns;
+              end = counting .end;
+            }));
+        note = refl;
+      }
 
 -- ---- A question stops the turn
 
@@ -305,6 +331,10 @@ module _ (w : List ℕ) (x : Scalars) where
   pub go-on-used : goOn w x .scalars .used ≡ x .used
   unfolding goOn goTo moved
   go-on-used = refl
+
+  pub go-back-used : (blocks : ℕ) → goBack w x blocks .scalars .used ≡ x .used
+  unfolding goBack moved
+  go-back-used blocks = refl
 
   pub go-to-used : (block : ℕ) → goTo w x block .scalars .used ≡ x .used
   unfolding goTo moved

@@ -1,5 +1,5 @@
 -- The row machine: how the moving transaction goes on or comes to wait.
-use Prim.Native.Nat.{ℕ, _+_, _%_, min}
+use Prim.Native.Nat.{ℕ, _+_, _-_, _%_, min}
 use mathlib.Core.Bool.{cond}
 use mathlib.Core.List.{List}
 use lib.Dec.{eqb}
@@ -32,6 +32,12 @@ goTo w x block = moved (putNote 0 x) (setReturning (write w nextField (x .moving
 
 unfoldable pub goOn : List ℕ → Scalars → Moved
 goOn w x = goTo w x (next32 (read w nextField (x .moving)))
+
+-- document 02, item 7: back by so many blocks, with no record
+unfoldable pub goBack : List ℕ → Scalars → ℕ → Moved
+goBack w x blocks =
+    moved (putNote 2 x)
+    (setReturning (write w nextField (x .moving) (read w nextField (x .moving) - blocks)) (x .moving) 0)
 
 unfoldable pub putBack : List ℕ → Scalars → ℕ → Moved
 putBack w x p = moved (putNote 2 (putMoving rowCount x)) (put w p (x .moving))

@@ -11,11 +11,12 @@ use state::NO_RECORD;
 use state::NOBODY;
 use state::Scalars;
 use state::WAITS;
+use state::less32;
 use state::plus32;
 ghost use mathlib.Core.Path.{_≡_};
 ghost use Prim.Native.Nat.{_<_, _≤_};
 ghost use Rattle.rows.specs.Layout.{Room, listCount, rowCount};
-ghost use Rattle.moves.specs.Motion.{moved, goTo, goOn, putBack, beginWait, waitOn, stopped};
+ghost use Rattle.moves.specs.Motion.{moved, goTo, goOn, goBack, putBack, beginWait, waitOn, stopped};
 
 // The transaction stands before a block, still moving; it entered.
 pub fn go_to(work: &mut [u32], x: Scalars, block: u32) -> Scalars
@@ -40,6 +41,21 @@ pub fn go_on(work: &mut [u32], x: Scalars) -> Scalars
     let k = x.moving;
     let next = plus32(read(work, NEXT, k), 1);
     go_to(work, x, next)
+}
+
+// Back by so many blocks, still moving; no record is written.
+pub fn go_back(work: &mut [u32], x: Scalars, blocks: u32) -> Scalars
+    requires { ⌜ Room (now work) ⌝ }
+    requires { ⌜ x .moving < rowCount ⌝ }
+    ensures { λ r. ⌜ moved r (now (work .exit)) ≡ goBack (now (work .entry)) x blocks ⌝ }
+{
+    let row = x.moving;
+    let next = less32(read(work, NEXT, row), blocks);
+    write(work, NEXT, row, next);
+    set_returning(work, row, 0);
+    let mut y = x;
+    y.note = NO_RECORD;
+    y
 }
 
 // A returning one comes back onto list p with its own serial.

@@ -11,7 +11,7 @@ use Rattle.machine.specs.Lists.{nth}
 use Rattle.machine.specs.Parser.{Cursor, Parsed, parsed, refused, Parser, continue, field}
 use Rattle.machine.specs.Term.{Term}
 use Rattle.machine.specs.Block.{codeIndex, Block, generate, advance, terminate, seize, release, enter, leave, waitServer, waitTerms, branch, goto, assign, priority, split, arrive, depart}
-use Rattle.machine.specs.Decode.{Counts, kindCount, blockTerm, relationOf, codeOf, codeServer, storageUnits, operands, blockField}
+use Rattle.machine.specs.Decode.{Counts, blockTerm, relationOf, codeOf, codeServer, storageUnits, operands, blockField}
 use Rattle.machine.specs.declared.model.Model.{Model}
 use Rattle.tables.specs.Forms.{blockForms}
 use Rattle.tables.specs.Numbers.{termNumbers, blockNumbers}
@@ -28,8 +28,8 @@ use Rattle.values.proofs.Steps.{sets-then}
 use Rattle.values.proofs.Cells.{sets-above}
 use Rattle.values.proofs.Tags.{by-tag, relation-number}
 use Rattle.program.specs.Formed.{Formed}
-use Rattle.program.specs.Shapes.{pairField, pairShape, unitsField, unitsShape, comparedField, comparedShape, operandsShape, blockShape, capacitiesOf}
-use Rattle.program.proofs.Formed.{formed-generate, formed-advance, formed-terminate, formed-seize, formed-release, formed-enter, formed-leave, formed-wait-server, formed-wait-terms, formed-branch, formed-goto, formed-assign, formed-priority, formed-split, formed-arrive, formed-depart}
+use Rattle.program.specs.Shapes.{pairField, pairShape, Pair, unitsField, unitsShape, watchedField, watchedShape, comparedField, comparedShape, operandsShape, blockShape, capacitiesOf}
+use Rattle.program.proofs.Formed.{formed-generate, formed-advance, formed-terminate, formed-seize, formed-release, formed-enter, formed-leave, formed-wait-server, joined-row, formed-wait-terms, formed-branch, formed-goto, formed-assign, formed-priority, formed-split, formed-arrive, formed-depart}
 
 -- ---- One number, and two
 
@@ -126,7 +126,16 @@ compared-then : {B : Type 0} (s : List ℕ) (n : Counts) (f : Term → ℕ → T
 unfolding comparedField continue
 compared-then s n f c = simp continue-assoc
 
--- ---- WAITIF code, server
+watched-then : {B : Type 0} (s : List ℕ) (n : Counts) (f : ℕ → ℕ → Parser B) (c : Cursor) →
+    continue (watchedField s n c) (λ x d. f (x .first) (x .second) d)
+    ≡ continue (field s 3 1 6 c) (λ code d. continue (codeServer s n code d) (λ v e. f code v e))
+unfolding watchedField continue
+watched-then s n f c = simp continue-assoc
+
+-- ---- A code and a server
+
+abbrev watching : ℕ → ℕ → Pair
+watching code v = record { first = code; second = v }
 
 code-index : (v : ℕ) → 1 ≤ v → v ≤ 6 → codeIndex (codeOf v) ≡ v - 1
 unfolding codeIndex codeOf
@@ -136,45 +145,77 @@ code-index v l h =
     (λ a b. absurd (omega arith)) (λ a b. absurd (omega arith)) (λ a b. absurd (omega arith))
     v (omega arith) l h
 
-module _ (s : List ℕ) (n : Counts) (capacities : List ℕ) {p : Place} {to : ℕ} {l₀ l₁ : List ℕ} {r₁ : Taken}
+module _ (s : List ℕ) (n : Counts) {p : Place} {to : ℕ} {l₀ l₁ : List ℕ} {r₁ : Taken}
     (k₁ : Takes (numberShape 1 6 0) p to l₀ l₁ r₁ (field s 3 1 6 (cursorOf p))) where
-  pub server-stop : {m : ℕ} (after : List ℕ) → r₁ ≡ NotTaken m → Stores (operandsShape (n .blocks) 8) p to l₀ after (Refused m) (operands s n capacities 8 (cursorOf p))
-  unfolding operands
-  server-stop after told = takes-stop (Stores _ _ _ _ _ _) _ _ k₁ told (record { held = refl })
+  pub watched-stop : {m : ℕ} (after : List ℕ) → r₁ ≡ NotTaken m → Stores watchedShape p to l₀ after (Refused m) (watchedField s n (cursorOf p))
+  unfolding watchedField
+  watched-stop after told = takes-stop (Stores _ _ _ _ _ _) _ _ k₁ told (record { held = refl })
 
   module _ {code : ℕ} {q : Place} {l₂ : List ℕ} {r₂ : Stored} (told : r₁ ≡ Number code q) where
-    pub server-facility : code ≤ 2 → Stores (numberShape 1 (n .facilities) 0) q (to + 1) l₁ l₂ r₂ (field s 3 1 (n .facilities) (cursorOf q)) →
-        Stores (operandsShape (n .blocks) 8) p to l₀ l₂ r₂ (operands s n capacities 8 (cursorOf p))
-    unfolding operands codeServer blockForms
-    server-facility h k₂ =
+    pub watched-facility : code ≤ 2 → Stores (numberShape 1 (n .facilities) 0) q (to + 1) l₁ l₂ r₂ (field s 3 1 (n .facilities) (cursorOf q)) →
+        Stores watchedShape p to l₀ l₂ r₂ (watchedField s n (cursorOf p))
+    unfolding watchedField codeServer
+    watched-facility h k₂ =
         takes-bind (Stores _ _ _ _ _ _) _ _ k₁ told
         (λ named cells fact.
         let x : 0 + (code - 1) ≡ codeIndex (codeOf code) = omega (arith, code-index code (fact .0) (fact .1)) in
         rw (le-leb code 2 h)
-        (stores-last (operandsShape (n .blocks) 8) p to l₀ (λ v. waitServer (codeOf code) v) _ k₂
+        (stores-last watchedShape p to l₀ (λ v. record { first = code; second = v }) _ k₂
         (λ v c cells₂ fact₂.
         let y : 0 + (v - 1) ≡ v - 1 = omega arith in (
           named,
           sets-then l₀ (codeIndex (codeOf code) ∷ []) ((v - 1) ∷ []) to (to + 1) (rw x at cells) (rw y at cells₂) refl,
-          (formed-wait-server (n .blocks) (codeOf code) v, refl),
+          tt,
         ))))
 
-    pub server-storage : 2 < code → Stores (numberShape 1 (n .storages) (n .facilities)) q (to + 1) l₁ l₂ r₂ (field s 3 1 (n .storages) (cursorOf q)) →
-        Stores (operandsShape (n .blocks) 8) p to l₀ l₂ r₂ (operands s n capacities 8 (cursorOf p))
-    unfolding operands codeServer blockForms
-    server-storage h k₂ =
+    pub watched-storage : 2 < code → Stores (numberShape 1 (n .storages) (n .facilities)) q (to + 1) l₁ l₂ r₂ (field s 3 1 (n .storages) (cursorOf q)) →
+        Stores watchedShape p to l₀ l₂ r₂ (watchedField s n (cursorOf p))
+    unfolding watchedField codeServer
+    watched-storage h k₂ =
         takes-bind (Stores _ _ _ _ _ _) _ _ k₁ told
         (λ named cells fact.
         let x : 0 + (code - 1) ≡ codeIndex (codeOf code) = omega (arith, code-index code (fact .0) (fact .1)) in
-        rw (lt-leb code 2 h, continue-map (field s 3 1 (n .storages) (cursorOf q)) (λ k. n .facilities + k) (λ v. waitServer (codeOf code) v))
-        (stores-last (operandsShape (n .blocks) 8) p to l₀ (λ k. waitServer (codeOf code) (n .facilities + k)) _ k₂
+        rw (lt-leb code 2 h, continue-map (field s 3 1 (n .storages) (cursorOf q)) (λ k. n .facilities + k) (λ v. watching code v))
+        (stores-last watchedShape p to l₀ (λ k. watching code (n .facilities + k)) _ k₂
         (λ k c cells₂ fact₂.
         let f = fact₂ .0 in
         let y : n .facilities + (k - 1) ≡ n .facilities + k - 1 = omega arith in (
           named,
           sets-then l₀ (codeIndex (codeOf code) ∷ []) ((n .facilities + k - 1) ∷ []) to (to + 1) (rw x at cells) (rw y at cells₂) refl,
-          (formed-wait-server (n .blocks) (codeOf code) (n .facilities + k), refl),
+          tt,
         ))))
+
+-- ---- A joined WAITIF
+
+module _ (s : List ℕ) (n : Counts) (capacities : List ℕ) {p : Place} {to : ℕ} {l₀ l₁ : List ℕ} {r₁ : Stored}
+    (k₁ : Stores watchedShape p to l₀ l₁ r₁ (watchedField s n (cursorOf p))) where
+  abbrev counting : ℕ → ℕ → Parser Block
+  counting code v d = continue (field s 3 1 7 d) (λ b e. parsed (waitServer (codeOf code) v b) e)
+
+  pub joined-stop : {m : ℕ} (after : List ℕ) → r₁ ≡ Refused m → Stores (operandsShape (n .blocks) 17) p to l₀ after (Refused m) (operands s n capacities 17 (cursorOf p))
+  unfolding operands
+  joined-stop after told =
+      rw (← watched-then s n counting (cursorOf p))
+      (stores-stop (Stores _ _ _ _ _ _) _ _ k₁ told (record { held = refl }))
+
+  -- 17 WAITIF code, server, back count
+  pub joined-kept : {q : Place} {l₂ : List ℕ} {r₂ : Stored} → r₁ ≡ Done q →
+      Stores (numberShape 1 7 1) q (to + 2) l₁ l₂ r₂ (field s 3 1 7 (cursorOf q)) →
+      Stores (operandsShape (n .blocks) 17) p to l₀ l₂ r₂ (operands s n capacities 17 (cursorOf p))
+  unfolding operands
+  joined-kept {q} {l₂} {r₂} told k₂ =
+      rw (← watched-then s n counting (cursorOf p))
+      (stores-bind (Stores _ _ _ _ _ _) _ _ k₁ told
+      (λ x named cells fact.
+      stores-last (operandsShape (n .blocks) 17) p to l₀ (λ b. waitServer (codeOf (x .first)) (x .second) b) _ k₂
+      (λ b c cells₂ fact₂.
+      let y : 1 + (b - 1) ≡ b = omega (arith, fact₂ .0) in
+      let row = joined-row (codeOf (x .first)) (x .second) b (fact₂ .0) in (
+        named,
+        rw row
+            (sets-then l₀ (codeIndex (codeOf (x .first)) ∷ (x .second - 1) ∷ []) (b ∷ []) to (to + 2) cells (rw y at cells₂) refl),
+        (formed-wait-server (n .blocks) (codeOf (x .first)) (x .second) b, rw row refl),
+      ))))
 
 -- ---- A term, a relation and a term
 
@@ -340,6 +381,12 @@ module _ (s : List ℕ) (n : Counts) (capacities : List ℕ) {p : Place} {to : �
       rw (← units-then s n capacities enter (cursorOf p))
       (stores-last (operandsShape (n .blocks) 6) p to l₀ (λ x. enter (x .first) (x .second)) _ k (λ x c cells fact. (refl, cells, (formed-enter (n .blocks) (x .first) (x .second), refl))))
 
+  pub kind-8 : Stores watchedShape p to l₀ l₁ r₁ (watchedField s n (cursorOf p)) → Stores (operandsShape (n .blocks) 8) p to l₀ l₁ r₁ (operands s n capacities 8 (cursorOf p))
+  unfolding operands blockForms
+  kind-8 k =
+      rw (← watched-then s n (λ code v d. parsed (waitServer (codeOf code) v 0) d) (cursorOf p))
+      (stores-last (operandsShape (n .blocks) 8) p to l₀ (λ x. waitServer (codeOf (x .first)) (x .second) 0) _ k (λ x c cells fact. (refl, cells, (formed-wait-server (n .blocks) (codeOf (x .first)) (x .second) 0, refl))))
+
   pub kind-7 : Stores (unitsShape n) p to l₀ l₁ r₁ (unitsField s n capacities (cursorOf p)) → Stores (operandsShape (n .blocks) 7) p to l₀ l₁ r₁ (operands s n capacities 7 (cursorOf p))
   unfolding operands blockForms
   kind-7 k =
@@ -371,14 +418,14 @@ module _ (s : List ℕ) (n : Counts) (capacities : List ℕ) {p : Place} {to : �
 -- ---- A block
 
 module _ (s : List ℕ) (n : Counts) (capacities : List ℕ) {p : Place} {to : ℕ} {l₀ l₁ : List ℕ} {r₁ : Taken}
-    (k₁ : Takes (numberShape 1 kindCount 1) p to l₀ l₁ r₁ (field s 3 1 kindCount (cursorOf p))) where
-  pub block-stop : {m : ℕ} (after : List ℕ) → r₁ ≡ NotTaken m → Stores (blockShape (n .blocks)) p to l₀ after (Refused m) (blockField s n capacities (cursorOf p))
+    (k₁ : Takes (numberShape 1 17 1) p to l₀ l₁ r₁ (field s 3 1 17 (cursorOf p))) where
+  pub block-stop : {m : ℕ} (after : List ℕ) → r₁ ≡ NotTaken m → Stores (blockShape (n .blocks)) p to l₀ after (Refused m) (blockField s 17 n capacities (cursorOf p))
   unfolding blockField
   block-stop after told = takes-stop (Stores _ _ _ _ _ _) _ _ k₁ told (record { held = refl })
 
   pub block-kept : {kind : ℕ} {q : Place} {l₂ : List ℕ} {r₂ : Stored} → r₁ ≡ Number kind q →
       (l₁ ≡ sets l₀ to (kind ∷ []) → Stores (operandsShape (n .blocks) kind) q (to + 1) l₁ l₂ r₂ (operands s n capacities kind (cursorOf q))) →
-      Stores (blockShape (n .blocks)) p to l₀ l₂ r₂ (blockField s n capacities (cursorOf p))
+      Stores (blockShape (n .blocks)) p to l₀ l₂ r₂ (blockField s 17 n capacities (cursorOf p))
   unfolding blockField
   block-kept {kind} {q} {l₂} {r₂} told k₂ =
       takes-bind (Stores _ _ _ _ _ _) _ _ k₁ told
@@ -403,40 +450,12 @@ past : {i k : ℕ} → i ≤ k → (k ≡ i → ⊥) → suc i ≤ k
 past {i} {k} h n = omega arith
 
 -- a kind that is none of the others is the last
-pub the-last : (k : ℕ) → k ≤ kindCount → 1 ≤ k →
-    ((((((((((((((Unit {0} × (k ≡ 1 → ⊥)) × (k ≡ 2 → ⊥)) × (k ≡ 3 → ⊥)) × (k ≡ 4 → ⊥)) × (k ≡ 5 → ⊥)) × (k ≡ 6 → ⊥)) × (k ≡ 7 → ⊥)) × (k ≡ 8 → ⊥))
-    × (k ≡ 9 → ⊥)) × (k ≡ 10 → ⊥)) × (k ≡ 11 → ⊥)) × (k ≡ 12 → ⊥)) × (k ≡ 13 → ⊥)) × (k ≡ 14 → ⊥)) × (k ≡ 15 → ⊥) → k ≡ kindCount
+pub the-last : (k : ℕ) → k ≤ 17 → 1 ≤ k →
+    (((((((((((((((Unit {0} × (k ≡ 1 → ⊥)) × (k ≡ 2 → ⊥)) × (k ≡ 3 → ⊥)) × (k ≡ 4 → ⊥)) × (k ≡ 5 → ⊥)) × (k ≡ 6 → ⊥)) × (k ≡ 7 → ⊥)) × (k ≡ 8 → ⊥))
+    × (k ≡ 9 → ⊥)) × (k ≡ 10 → ⊥)) × (k ≡ 11 → ⊥)) × (k ≡ 12 → ⊥)) × (k ≡ 13 → ⊥)) × (k ≡ 14 → ⊥)) × (k ≡ 15 → ⊥)) × (k ≡ 16 → ⊥) → k ≡ 17
 the-last k h l n =
     le-antisymm h
-    (past
-    (past
-    (past
-    (past
-    (past
-    (past
-    (past
-    (past
-    (past
-    (past
-    (past
-    (past
-    (past
-    (past
-    (past l (n .0 .0 .0 .0 .0 .0 .0 .0 .0 .0 .0 .0 .0 .0 .1))
-    (n .0 .0 .0 .0 .0 .0 .0 .0 .0 .0 .0 .0 .0 .1))
-    (n .0 .0 .0 .0 .0 .0 .0 .0 .0 .0 .0 .0 .1))
-    (n .0 .0 .0 .0 .0 .0 .0 .0 .0 .0 .0 .1))
-    (n .0 .0 .0 .0 .0 .0 .0 .0 .0 .0 .1))
-    (n .0 .0 .0 .0 .0 .0 .0 .0 .0 .1))
-    (n .0 .0 .0 .0 .0 .0 .0 .0 .1))
-    (n .0 .0 .0 .0 .0 .0 .0 .1))
-    (n .0 .0 .0 .0 .0 .0 .1))
-    (n .0 .0 .0 .0 .0 .1))
-    (n .0 .0 .0 .0 .1))
-    (n .0 .0 .0 .1))
-    (n .0 .0 .1))
-    (n .0 .1))
-    (n .1))
+    (past (past (past (past (past (past (past (past (past (past (past (past (past (past (past (past l (n .0 .0 .0 .0 .0 .0 .0 .0 .0 .0 .0 .0 .0 .0 .0 .1)) (n .0 .0 .0 .0 .0 .0 .0 .0 .0 .0 .0 .0 .0 .0 .1)) (n .0 .0 .0 .0 .0 .0 .0 .0 .0 .0 .0 .0 .0 .1)) (n .0 .0 .0 .0 .0 .0 .0 .0 .0 .0 .0 .0 .1)) (n .0 .0 .0 .0 .0 .0 .0 .0 .0 .0 .0 .1)) (n .0 .0 .0 .0 .0 .0 .0 .0 .0 .0 .1)) (n .0 .0 .0 .0 .0 .0 .0 .0 .0 .1)) (n .0 .0 .0 .0 .0 .0 .0 .0 .1)) (n .0 .0 .0 .0 .0 .0 .0 .1)) (n .0 .0 .0 .0 .0 .0 .1)) (n .0 .0 .0 .0 .0 .1)) (n .0 .0 .0 .0 .1)) (n .0 .0 .0 .1)) (n .0 .0 .1)) (n .0 .1)) (n .1))
 
 -- a block leaves the capacities
 pub block-capacities : (m : Model) {n b : ℕ} {q next : Place} {l l₁ : List ℕ} {r : Stored} (P : Parsed Block) → b < 256 →

@@ -7,8 +7,8 @@ use lib.ListN.{length, take, drop}
 use Rattle.machine.specs.Lists.{nth}
 use Rattle.machine.specs.Parser.{Parser, parsed, continue, field}
 use Rattle.machine.specs.Term.{Term}
-use Rattle.machine.specs.Block.{Block}
-use Rattle.machine.specs.Decode.{Counts, blockTerm}
+use Rattle.machine.specs.Block.{codeIndex, Block}
+use Rattle.machine.specs.Decode.{Counts, blockTerm, codeOf, codeServer}
 use Rattle.machine.specs.declared.model.Model.{Model}
 use Rattle.tables.specs.Layout as Layout
 use Rattle.tables.specs.Numbers.{termNumbers, blockNumbers}
@@ -18,14 +18,14 @@ use Rattle.values.specs.Keeps.{Shape}
 use Rattle.program.specs.Formed.{Formed}
 
 -- the kinds with operands of a shape of their own
-abbrev pub waitServerKind : ℕ
-waitServerKind = 8
-
 abbrev pub branchKind : ℕ
 branchKind = 10
 
 abbrev pub assignKind : ℕ
 assignKind = 12
+
+abbrev pub joinedKind : ℕ
+joinedKind = 17
 
 -- the capacities of the storages, as they stand in the tables
 abbrev pub capacitiesOf : Model → List ℕ → List ℕ
@@ -59,6 +59,16 @@ unitsField s n capacities = λ c.
 abbrev pub unitsShape : Counts → Shape Pair
 unitsShape n =
     record { numbers = λ x. (x .first - 1) ∷ (x .second) ∷ []; named = λ n x. n; fact = λ p x c. Unit {0} }
+
+-- ---- A code and a server
+
+unfoldable pub watchedField : List ℕ → Counts → Parser Pair
+watchedField s n = λ c.
+    continue (field s 3 1 6 c) (λ code d. continue (codeServer s n code d) (λ v e. parsed (record { first = code; second = v }) e))
+
+abbrev pub watchedShape : Shape Pair
+watchedShape =
+    record { numbers = λ x. codeIndex (codeOf (x .first)) ∷ (x .second - 1) ∷ []; named = λ n x. n; fact = λ p x c. Unit {0} }
 
 -- ---- A term, a relation and a term
 

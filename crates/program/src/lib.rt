@@ -4,9 +4,11 @@ use machine::Model;
 use machine::kinds::BRANCH;
 use machine::kinds::GENERATE;
 use machine::kinds::GOTO;
+use machine::kinds::JOINED_WAIT;
 use machine::kinds::KINDS;
 use machine::kinds::SPLIT;
 use machine::kinds::TERMINATE;
+use machine::kinds::WAIT_SERVER;
 use tables::BLOCK_WIDTH;
 use tables::BRANCH_TARGET;
 use tables::CAPACITIES;
@@ -17,6 +19,7 @@ use tables::RELATIONS;
 use tables::RIGHT;
 use tables::SECOND;
 use tables::TABLES;
+use tables::THIRD;
 use tables::number;
 use values::Place;
 use values::Range;
@@ -28,15 +31,16 @@ ghost use mathlib.Core.Path.{_≡_};
 ghost use mathlib.Core.Bool.{true, _&&_, not};
 ghost use Prim.Native.Nat.{_+_, _*_, _≤_, _<_};
 ghost use lib.Dec.{eqb};
-ghost use Rattle.machine.specs.Limits.{maxBlocks};
+ghost use Rattle.machine.specs.Limits.{maxBack, maxBlocks};
+ghost use Rattle.machine.specs.Rules.{inForce};
 ghost use Rattle.machine.specs.Parser.{field, times};
-ghost use Rattle.machine.specs.Decode.{kindCount, operands as operandsField, blockField};
+ghost use Rattle.machine.specs.Decode.{operands as operandsField, blockField};
 ghost use Rattle.tables.specs.Layout.{blockWidth, programSize, tablesSize, wordEnd};
 ghost use Rattle.values.specs.Keeps.{Fits, Stores, cursorOf, numberShape};
 ghost use Rattle.values.specs.Rows.{Rows};
 ghost use Rattle.values.specs.Shapes.{Within, countsOf};
-ghost use Rattle.program.specs.Shapes.{waitServerKind, branchKind, assignKind, pairField, pairShape, unitsField, unitsShape, comparedField, comparedShape, operandsShape, blockShape, capacitiesOf};
-ghost use Rattle.program.specs.Formed.{Formed, leavesKind, targetFrom, namesGenerate, placedFrom, targetsFrom};
+ghost use Rattle.program.specs.Shapes.{joinedKind, branchKind, assignKind, pairField, pairShape, unitsField, unitsShape, watchedField, watchedShape, comparedField, comparedShape, operandsShape, blockShape, capacitiesOf};
+ghost use Rattle.program.specs.Formed.{Formed, leavesKind, targetFrom, namesGenerate, backFrom, reachesFrom, insideFrom, namesInside, misnames, waitsAfter, placedFrom, targetsFrom, joinedFrom};
 
 // ---- Operands
 
@@ -97,10 +101,10 @@ fn units(s: &[u8], tables: &mut [u32; TABLES], to: usize, m: Model, p: Place) ->
     }
 }
 
-// WAITIF code, server: a facility for codes 1 and 2, else a storage.
-fn wait_server(s: &[u8], tables: &mut [u32; TABLES], to: usize, m: Model, p: Place) -> Stored
+// A code and a server: a facility for codes 1 and 2, else a storage.
+fn watched(s: &[u8], tables: &mut [u32; TABLES], to: usize, m: Model, p: Place) -> Stored
     requires { ⌜ (to + 1 < tablesSize) × Within m ⌝ }
-    ensures { λ r. ⌜ Stores (operandsShape (m .blocks) waitServerKind) p to (now (tables .entry)) (now (tables .exit)) r (operandsField (now (s .entry)) (countsOf m) (capacitiesOf m (now (tables .entry))) waitServerKind (cursorOf p)) ⌝ }
+    ensures { λ r. ⌜ Stores watchedShape p to (now (tables .entry)) (now (tables .exit)) r (watchedField (now (s .entry)) (countsOf m) (cursorOf p)) ⌝ }
 {
     match keep(s, tables, to, p, 1, CODES, 0) {
         Taken::Refused(n) => Stored::Refused(n),
@@ -110,6 +114,17 @@ fn wait_server(s: &[u8], tables: &mut [u32; TABLES], to: usize, m: Model, p: Pla
             }
             single(s, tables, to + 1, q, 1, m.storages, m.facilities)
         }
+    }
+}
+
+// A joined WAITIF: code, server, back count.
+fn joined_wait(s: &[u8], tables: &mut [u32; TABLES], to: usize, m: Model, p: Place) -> Stored
+    requires { ⌜ (to + 2 < tablesSize) × Within m ⌝ }
+    ensures { λ r. ⌜ Stores (operandsShape (m .blocks) joinedKind) p to (now (tables .entry)) (now (tables .exit)) r (operandsField (now (s .entry)) (countsOf m) (capacitiesOf m (now (tables .entry))) joinedKind (cursorOf p)) ⌝ }
+{
+    match watched(s, tables, to, m, p) {
+        Stored::Refused(n) => Stored::Refused(n),
+        Stored::Done(q) => single(s, tables, to + 2, q, 1, Model::MAX_BACK, 1),
     }
 }
 
@@ -164,7 +179,7 @@ fn operands(
     kind: usize,
     p: Place,
 ) -> Stored
-    requires { ⌜ (to + 5 < programSize) × Within m × (kind ≤ kindCount) × (1 ≤ kind) ⌝ }
+    requires { ⌜ (to + 5 < programSize) × Within m × (kind ≤ inForce .kinds) × (1 ≤ kind) ⌝ }
     ensures { λ r. ⌜ Stores (operandsShape (m .blocks) kind) p to (now (tables .entry)) (now (tables .exit)) r (operandsField (now (s .entry)) (countsOf m) (capacitiesOf m (now (tables .entry))) kind (cursorOf p)) ⌝ }
 {
     match kind {
@@ -179,7 +194,7 @@ fn operands(
         5 => single(s, tables, to, p, 1, m.facilities, 0),
         6 => units(s, tables, to, m, p),
         7 => units(s, tables, to, m, p),
-        8 => wait_server(s, tables, to, m, p),
+        8 => watched(s, tables, to, m, p),
         9 => compared(s, tables, to, m, p),
         10 => branch(s, tables, to, m, p),
         11 => single(s, tables, to, p, 1, m.blocks, 1),
@@ -191,7 +206,8 @@ fn operands(
             pair(s, tables, to, p, copies, target)
         }
         15 => single(s, tables, to, p, 1, m.queues, 0),
-        _ => single(s, tables, to, p, 1, m.queues, 0),
+        16 => single(s, tables, to, p, 1, m.queues, 0),
+        _ => joined_wait(s, tables, to, m, p),
     }
 }
 
@@ -200,7 +216,7 @@ fn operands(
 // Block b (from 0).
 fn block(s: &[u8], tables: &mut [u32; TABLES], b: usize, m: Model, p: Place) -> Stored
     requires { ⌜ (b < maxBlocks) × Within m ⌝ }
-    ensures { λ r. ⌜ Stores (blockShape (m .blocks)) p (0 + blockWidth * b) (now (tables .entry)) (now (tables .exit)) r (blockField (now (s .entry)) (countsOf m) (capacitiesOf m (now (tables .entry))) (cursorOf p)) ⌝ }
+    ensures { λ r. ⌜ Stores (blockShape (m .blocks)) p (0 + blockWidth * b) (now (tables .entry)) (now (tables .exit)) r (blockField (now (s .entry)) (inForce .kinds) (countsOf m) (capacitiesOf m (now (tables .entry))) (cursorOf p)) ⌝ }
 {
     let to = BLOCK_WIDTH * b;
     match keep(s, tables, to, p, 1, KINDS, 1) {
@@ -212,7 +228,7 @@ fn block(s: &[u8], tables: &mut [u32; TABLES], b: usize, m: Model, p: Place) -> 
 // All blocks.
 pub fn blocks(s: &[u8], tables: &mut [u32; TABLES], m: Model, p: Place) -> Stored
     requires { ⌜ Within m ⌝ }
-    ensures { λ r. ⌜ Rows (blockShape (m .blocks)) (Formed (m .blocks)) blockWidth 0 p (now (tables .entry)) (now (tables .exit)) r (times (m .blocks) (blockField (now (s .entry)) (countsOf m) (capacitiesOf m (now (tables .entry)))) (cursorOf p)) ⌝ }
+    ensures { λ r. ⌜ Rows (blockShape (m .blocks)) (Formed (m .blocks)) blockWidth 0 p (now (tables .entry)) (now (tables .exit)) r (times (m .blocks) (blockField (now (s .entry)) (inForce .kinds) (countsOf m) (capacitiesOf m (now (tables .entry)))) (cursorOf p)) ⌝ }
 {
     let mut b = 0;
     let mut q = p;
@@ -299,16 +315,104 @@ fn names_generate(tables: &[u32; TABLES], b: usize) -> bool
     number(tables, BLOCK_WIDTH * (t - 1)) == GENERATE
 }
 
-// No target names a GENERATE.
+// The back count of block b, 0 if it has none.
+fn back(tables: &[u32; TABLES], b: usize) -> u32
+    requires { ⌜ b < maxBlocks ⌝ }
+    ensures { λ r. ⌜ r ≡ backFrom (now (tables .entry)) (blockWidth * b) ⌝ }
+{
+    let at = BLOCK_WIDTH * b;
+    if tables[at] == JOINED_WAIT {
+        return tables[at + THIRD];
+    }
+    0
+}
+
+// Is block t (from 1) the c-th last of a group, and not its first?
+fn reaches(tables: &[u32; TABLES], blocks: usize, t: usize, c: usize) -> bool
+    requires { ⌜ (blocks ≤ maxBlocks) × (t < wordEnd) × (1 ≤ t) × (1 ≤ c) × (c ≤ maxBack) ⌝ }
+    ensures { λ r. ⌜ r ≡ reachesFrom (now (tables .entry)) blocks t c ⌝ }
+{
+    let b = t + c - 2;
+    if b >= blocks {
+        return false;
+    }
+    c <= back(tables, b) as usize
+}
+
+// Is block t inside a group: its second, a later one or its kind 17 block?
+fn inside(tables: &[u32; TABLES], blocks: usize, t: usize) -> bool
+    requires { ⌜ (blocks ≤ maxBlocks) × (t < wordEnd) × (1 ≤ t) ⌝ }
+    ensures { λ r. ⌜ r ≡ insideFrom (now (tables .entry)) blocks t maxBack ⌝ }
+{
+    let mut c = Model::MAX_BACK;
+    while c > 0 {
+        if reaches(tables, blocks, t, c) {
+            return true;
+        }
+        c -= 1;
+    }
+    false
+}
+
+fn names_inside(tables: &[u32; TABLES], blocks: usize, b: usize) -> bool
+    requires { ⌜ (blocks ≤ maxBlocks) × (b < maxBlocks) ⌝ }
+    ensures { λ r. ⌜ r ≡ namesInside (now (tables .entry)) blocks (blockWidth * b) ⌝ }
+{
+    let t = target(tables, b) as usize;
+    if t == 0 {
+        return false;
+    }
+    inside(tables, blocks, t)
+}
+
+fn misnames(tables: &[u32; TABLES], blocks: usize, b: usize) -> bool
+    requires { ⌜ (blocks ≤ maxBlocks) × (b < maxBlocks) ⌝ }
+    ensures { λ r. ⌜ r ≡ misnames (now (tables .entry)) blocks (blockWidth * b) ⌝ }
+{
+    if names_generate(tables, b) {
+        return true;
+    }
+    names_inside(tables, blocks, b)
+}
+
+// No target names a GENERATE, or a block inside a group.
 pub fn targets_move(tables: &[u32; TABLES], blocks: usize) -> bool
     requires { ⌜ blocks ≤ maxBlocks ⌝ }
-    ensures { λ r. ⌜ r ≡ targetsFrom (now (tables .entry)) blocks 0 ⌝ }
+    ensures { λ r. ⌜ r ≡ targetsFrom (now (tables .entry)) blocks blocks 0 ⌝ }
 {
     let mut b = 0;
     while b < blocks {
-        if names_generate(tables, b) {
+        if misnames(tables, blocks, b) {
             return false;
         }
+        b += 1;
+    }
+    true
+}
+
+// How many waits of kind 8 stand right before the block after this one.
+fn waits_after(kind: u32, waits: usize) -> usize
+    requires { ⌜ waits < maxBlocks ⌝ }
+    ensures { λ r. ⌜ (r ≡ waitsAfter kind waits) × (r ≤ waits + 1) ⌝ }
+{
+    if kind == WAIT_SERVER {
+        return waits + 1;
+    }
+    0
+}
+
+// Each kind 17 block stands behind as many waits of kind 8 as its back count.
+pub fn groups_whole(tables: &[u32; TABLES], blocks: usize) -> bool
+    requires { ⌜ blocks ≤ maxBlocks ⌝ }
+    ensures { λ r. ⌜ r ≡ joinedFrom (now (tables .entry)) blocks 0 0 ⌝ }
+{
+    let mut waits = 0;
+    let mut b = 0;
+    while b < blocks {
+        if waits < back(tables, b) as usize {
+            return false;
+        }
+        waits = waits_after(tables[BLOCK_WIDTH * b], waits);
         b += 1;
     }
     true

@@ -1,12 +1,12 @@
 -- Rows that come to life and end: a new row as the machine's `newborn`, a copy, and a row that is free again.
-use Prim.Native.Nat.{ℕ, _*_, _/_, _≤_, _<_}
+use Prim.Native.Nat.{ℕ, _*_, _/_, _%_, _≤_, _<_}
 use mathlib.Core.Path.{_≡_, refl, _∙_}
 use mathlib.Core.List.{List, [], _∷_}
 use native.Mathlib.Omega.{arith}
 use lib.ListN.{length}
 use Rattle.machine.specs.Transaction.{Transaction, Event}
 use Rattle.rows.specs.Layout.{dataFields, place, free, fieldAt}
-use Rattle.rows.specs.Cells.{load, read, write}
+use Rattle.rows.specs.Cells.{load, read, write, setTime}
 use Rattle.rows.specs.Make.{clearParameters, copyParameters, describe, newbornAt, copyAt, freeRow}
 use Rattle.rows.specs.Living.{loose}
 use Rattle.rows.specs.Holds.{ending, update}
@@ -47,6 +47,11 @@ written-trans w v u k a b =
       shown = λ L T E l s. b .shown L T E (a .loose l) (a .shown L T E l s);
     }
 
+pub time-written : (w : List ℕ) (k : ℕ) → k < 1024 → (time : ℕ) → Written w (setTime w k time) k
+unfolding setTime
+time-written w k hk time =
+    written-trans w (write w 8 k (time % 4294967296)) (setTime w k time) k (written w 8 k _ (omega arith) hk) (written (write w 8 k (time % 4294967296)) 9 k _ (omega arith) hk)
+
 -- ---- A new row
 
 module _ (w : List ℕ) (k : ℕ) (hk : k < 1024) where
@@ -69,7 +74,9 @@ module _ (w : List ℕ) (k : ℕ) (hk : k < 1024) where
   pub describe-written : (number priority block : ℕ) → Written w (describe w k number priority block) k
   unfolding describe
   describe-written number priority block =
-      written₄ 0 1 6 7 number (priority * 2) block 0 (omega arith) (omega arith) (omega arith) (omega arith)
+      written-trans w (write (write (write (write w 0 k number) 1 k (priority * 2)) 6 k block) 7 k 0) (describe w k number priority block) k
+      (written₄ 0 1 6 7 number (priority * 2) block 0 (omega arith) (omega arith) (omega arith) (omega arith))
+      (time-written (write (write (write (write w 0 k number) 1 k (priority * 2)) 6 k block) 7 k 0) k hk 0)
 
 pub newborn-written : (w : List ℕ) (k : ℕ) → k < 1024 → (number priority block : ℕ) → Written w (newbornAt w k number priority block) k
 unfolding newbornAt

@@ -10,13 +10,13 @@ use lib.ListN.{length, set}
 use mir.Syntax.{w32}
 use mir.Val.{toZ}
 use Rattle.machine.specs.Transaction.{Transaction, newborn}
-use Rattle.machine.specs.Setters.{withPriority, withParameters, withNext, withSerial, withReturning}
+use Rattle.machine.specs.Setters.{withPriority, withParameters, withNext, withSerial, withReturning, withStamp}
 use Rattle.rows.specs.Layout.{fieldAt}
 use Rattle.rows.specs.Cells.{read, write}
 use Rattle.rows.specs.Make.{clearParameters, copyParameters, describe, newbornAt, copyAt}
 use Rattle.rows.specs.Holds.{transactionAt, parameterAt}
 use Rattle.rows.proofs.Store.{length-store}
-use Rattle.rows.proofs.Fields.{write-number, write-standing, write-parameter, write-next, write-serial}
+use Rattle.rows.proofs.Fields.{write-number, write-standing, write-parameter, write-next, write-serial, write-stamp}
 use Rattle.rows.proofs.Making.{Written, describe-written}
 
 room-write : (w : List ℕ) (f k x : ℕ) → 16384 ≤ length w → 16384 ≤ length (write w f k x)
@@ -29,7 +29,7 @@ module _ (w : List ℕ) (k : ℕ) (room : 16384 ≤ length w) (hk : k < 1024) wh
       let e : p * 2 ≡ p * 2 + 0 = omega arith in
       ap (λ (x : ℕ). transactionAt (write w 1 k x) k) e ∙ write-standing w k room hk p 0 (omega arith)
 
-  described : (number priority block : ℕ) → transactionAt (describe w k number priority block) k ≡ record { number = number; priority = priority; parameters = transactionAt w k .parameters; next = block; serial = 0; returning = false }
+  described : (number priority block : ℕ) → transactionAt (describe w k number priority block) k ≡ record { number = number; priority = priority; parameters = transactionAt w k .parameters; next = block; serial = 0; returning = false; stamp = 0 }
   unfolding describe
   described number priority block =
       let w₁ : List ℕ = write w 0 k number in
@@ -38,10 +38,11 @@ module _ (w : List ℕ) (k : ℕ) (room : 16384 ≤ length w) (hk : k < 1024) wh
       let r₁ : 16384 ≤ length w₁ = room-write w 0 k number room in
       let r₂ : 16384 ≤ length w₂ = room-write w₁ 1 k (priority * 2) r₁ in
       let r₃ : 16384 ≤ length w₃ = room-write w₂ 6 k block r₂ in
-      write-serial w₃ k r₃ hk 0
-      ∙ ap (withSerial 0) (write-next w₂ k r₂ hk block)
-      ∙ ap (λ (t : Transaction). withSerial 0 (withNext block t)) (priority₁ r₁)
-      ∙ ap (λ (t : Transaction). withSerial 0 (withNext block (withReturning false (withPriority priority t)))) (write-number w k room hk number)
+      write-stamp (write w₃ 7 k 0) k (room-write w₃ 7 k 0 r₃) hk 0
+      ∙ ap (withStamp 0) (write-serial w₃ k r₃ hk 0)
+      ∙ ap (λ (t : Transaction). withStamp 0 (withSerial 0 t)) (write-next w₂ k r₂ hk block)
+      ∙ ap (λ (t : Transaction). withStamp 0 (withSerial 0 (withNext block t))) (priority₁ r₁)
+      ∙ ap (λ (t : Transaction). withStamp 0 (withSerial 0 (withNext block (withReturning false (withPriority priority t))))) (write-number w k room hk number)
     where
       priority₁ : 16384 ≤ length (write w 0 k number) → transactionAt (write (write w 0 k number) 1 k (priority * 2)) k ≡ withReturning false (withPriority priority (transactionAt (write w 0 k number) k))
       priority₁ r =
@@ -81,7 +82,7 @@ priority-at : (w : List ℕ) (j : ℕ) → transactionAt w j .priority ≡ read 
 unfolding transactionAt
 priority-at w j = refl
 
-pub copy-is : (w : List ℕ) (j k : ℕ) → 16384 ≤ length w → j < 1024 → k < 1024 → j ≢ k → (number block : ℕ) → transactionAt (copyAt w j k number block) k ≡ record { number = number; priority = transactionAt w j .priority; parameters = transactionAt w j .parameters; next = block; serial = 0; returning = false }
+pub copy-is : (w : List ℕ) (j k : ℕ) → 16384 ≤ length w → j < 1024 → k < 1024 → j ≢ k → (number block : ℕ) → transactionAt (copyAt w j k number block) k ≡ record { number = number; priority = transactionAt w j .priority; parameters = transactionAt w j .parameters; next = block; serial = 0; returning = false; stamp = 0 }
 unfolding copyAt copyParameters
 copy-is w j k room hj hk d number block =
     let v : List ℕ = describe w k number (read w 1 j / 2) block in

@@ -6,7 +6,7 @@ use mathlib.Core.List.{List}
 use lib.Dec.{ltb}
 use lib.ListN.{drop}
 use Rattle.rows.specs.Layout.{place, link, head, tail, fel, free, nowhere, fieldAt, listCount}
-use Rattle.rows.specs.Cells.{load, store, read, write}
+use Rattle.rows.specs.Cells.{load, store, read, write, setTime}
 use Rattle.rows.specs.Order.{ahead}
 use Rattle.rows.specs.Lists.{endAt, insertAt, removeRow, removeAt, spot, put, first, takeFirst, cellOf, remove}
 use Rattle.rows.specs.Wake.{wakeRow, wakeAt, passRows, passCell, wakeAll}
@@ -111,9 +111,13 @@ unfolding copyParameters
 past-copy w j k =
     past-write _ 5 k (read w 5 j) ∙ past-write _ 4 k (read w 4 j) ∙ past-write _ 3 k (read w 3 j) ∙ past-write _ 2 k (read w 2 j)
 
+past-time : (w : List ℕ) (k time : ℕ) → past (setTime w k time) ≡ past w
+unfolding setTime
+past-time w k time = past-write _ 9 k (_) ∙ past-write _ 8 k (_)
+
 past-describe : (w : List ℕ) (k n p b : ℕ) → past (describe w k n p b) ≡ past w
 unfolding describe
-past-describe w k n p b = past-write _ 7 k 0 ∙ past-write _ 6 k b ∙ past-write _ 1 k (_) ∙ past-write _ 0 k n
+past-describe w k n p b = past-time _ k 0 ∙ past-write _ 7 k 0 ∙ past-write _ 6 k b ∙ past-write _ 1 k (_) ∙ past-write _ 0 k n
 
 pub past-newbornAt : (w : List ℕ) (k n p b : ℕ) → past (newbornAt w k n p b) ≡ past w
 unfolding newbornAt

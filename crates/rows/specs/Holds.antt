@@ -25,6 +25,7 @@ transactionAt w k =
       next = read w nextField k;
       serial = read w serialField k;
       returning = eqb (read w standingField k % 2) 1;
+      stamp = timeOf w k;
     }
 
 unfoldable pub eventAt : List ℕ → ℕ → Event

@@ -3,12 +3,12 @@
 --
 -- | field | holds                               | field | holds                              |
 -- |-------|-------------------------------------|-------|------------------------------------|
--- | 0     | number                              | 9     | move time, high half               |
+-- | 0     | number                              | 9     | move time or stamp, high half      |
 -- | 1     | priority * 2 + returning            | 10    | spare: family                      |
 -- | 2..5  | parameters 1..4, the bits of an i32 | 11    | spare: second link                 |
 -- | 6     | next block                          | 12    | place: its list, 1024 on none      |
 -- | 7     | serial                              | 13    | link: the row after it on its list |
--- | 8     | move time, low half                 | 14    | heads of lists 0..1023             |
+-- | 8     | move time or stamp, low half        | 14    | heads of lists 0..1023             |
 -- |       |                                     | 15    | tails of lists 0..1023             |
 --
 -- A cell is a number of the buffer that holds a row: a head or a link. 1024, and any number above it, is no row. The tail of a

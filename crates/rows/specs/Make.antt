@@ -2,7 +2,7 @@
 use Prim.Native.Nat.{ℕ, zero, suc, _+_, _*_, _/_}
 use mathlib.Core.List.{List}
 use Rattle.rows.specs.Layout.{place, head, tail, free, nowhere, numberField, standingField, nextField, serialField, listCount, rowCount, parameterField}
-use Rattle.rows.specs.Cells.{store, read, write}
+use Rattle.rows.specs.Cells.{store, read, write, setTime}
 use Rattle.rows.specs.Lists.{insertAt}
 
 -- ---- One row
@@ -16,10 +16,10 @@ copyParameters w j k =
     (write (write (write w parameterField k (read w parameterField j)) (parameterField + 1) k (read w (parameterField + 1) j)) (parameterField + 2) k (read w (parameterField + 2) j))
     (parameterField + 3) k (read w (parameterField + 3) j)
 
--- all but the parameters; not returning, no serial yet
+-- all but the parameters; not returning, no serial and no stamp yet
 unfoldable pub describe : List ℕ → ℕ → ℕ → ℕ → ℕ → List ℕ
 describe w k number priority block =
-    write (write (write (write w numberField k number) standingField k (priority * 2)) nextField k block) serialField k 0
+    setTime (write (write (write (write w numberField k number) standingField k (priority * 2)) nextField k block) serialField k 0) k 0
 
 -- row k as a new transaction
 unfoldable pub newbornAt : List ℕ → ℕ → ℕ → ℕ → ℕ → List ℕ

@@ -17,6 +17,7 @@ use crate::SERIAL;
 use crate::STANDING;
 use crate::TAILS;
 use crate::cells::read;
+use crate::cells::set_time;
 use crate::cells::store;
 use crate::cells::write;
 use crate::lists::insert_at;
@@ -82,6 +83,7 @@ fn describe(w: &mut [u32], k: u32, number: u32, priority: u32, block: u32)
     write(w, STANDING, k, priority * 2);
     write(w, NEXT, k, block);
     write(w, SERIAL, k, 0);
+    set_time(w, k, 0);
 }
 
 // Row k as a new transaction at a block, with no serial yet.

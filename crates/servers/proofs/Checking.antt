@@ -76,12 +76,23 @@ module _ (k : ℕ) (o : Option Transaction) (s₀ : State) (v units all : ℕ) (
   unfolding checkWels checkFirst checkLast Execute.checkWels codeIndex
   all-checked w s h = one _ _ NF (one _ _ F (one _ _ NE (one _ _ E (one _ _ NU (one w s U h)))))
 
+-- the check leaves what tally and scalars hold
+module _ (k : ℕ) (o : Option Transaction) (s₀ : State) (w : List ℕ) (s : State) (h : Checked k o s₀ w s) where
+  unchanged : rest s₀ ≡ rest s
+  unchanged = sym (h .same)
+
+  pub checked-tallying : (tapeBytes tally : List ℕ) → Tallying tapeBytes tally s₀ → Tallying tapeBytes tally s
+  checked-tallying tapeBytes tally tallying =
+      let e = unchanged in
+      tallying-ext tapeBytes tally s₀ s (ap (λ (y : State). y .view .entries) e) (ap (λ (y : State). y .view .servers) e) (ap (λ (y : State). y .ql) e) (ap (λ (y : State). y .view .queues) e) (ap (λ (y : State). y .samples) e) tallying
+
+  pub checked-counting : (x : Scalars) → Counting x s₀ → Counting x s
+  checked-counting x counting =
+      let e = unchanged in
+      counting-ext x s₀ s (ap (λ (y : State). y .view .clock) e) (ap (λ (y : State). y .counter) e) (ap (λ (y : State). y .serial) e) (ap (λ (y : State). y .made) e) (ap (λ (y : State). y .ended) e) (ap (λ (y : State). y .turns) e) (ap (λ (y : State). y .end) e) counting
+
 -- it goes on after the check
 pub checked-done : (tapeBytes tally : List ℕ) (x : Scalars) (t : Transaction) (s₀ : State) (w : List ℕ) (s : State) → Checked (x .moving) (some t) s₀ w s → Tallying tapeBytes tally s₀ → Counting x s₀ → t .next < 4294967295
     → Done tapeBytes (withTally (goOn w x) tally) (entering (Moves.goOn t s))
 checked-done tapeBytes tally x t s₀ w s h tallying counting low =
-    let e : rest s₀ ≡ rest s = sym (h .same) in
-    go-on-done tapeBytes w tally x t s (h .listing)
-    (tallying-ext tapeBytes tally s₀ s (ap (λ (y : State). y .view .entries) e) (ap (λ (y : State). y .view .servers) e) (ap (λ (y : State). y .ql) e) (ap (λ (y : State). y .view .queues) e) (ap (λ (y : State). y .samples) e) tallying)
-    (counting-ext x s₀ s (ap (λ (y : State). y .view .clock) e) (ap (λ (y : State). y .counter) e) (ap (λ (y : State). y .serial) e) (ap (λ (y : State). y .made) e) (ap (λ (y : State). y .ended) e) (ap (λ (y : State). y .turns) e) (ap (λ (y : State). y .end) e) counting)
-    low
+    go-on-done tapeBytes w tally x t s (h .listing) (checked-tallying (x .moving) (some t) s₀ w s h tapeBytes tally tallying) (checked-counting (x .moving) (some t) s₀ w s h x counting) low

@@ -1,3 +1,4 @@
+pub mod Begins
 pub mod Checking
 pub mod FreeingLaws
 pub mod Named

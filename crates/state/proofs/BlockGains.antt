@@ -1,12 +1,12 @@
 -- What each block gains: at most 255 serials, no more transactions than there is room for, at most one place of a queue.
 use Prim.Native.Nat.{ℕ, zero, suc, _+_, _-_, _≤_}
 use mathlib.Core.Path.{_≡_, refl, sym, ap, subst}
-use mathlib.Core.Bool.{Bool, true, false}
+use mathlib.Core.Bool.{Bool, true, false, _&&_}
 use mathlib.Core.List.{List, [], _∷_, map}
 use mathlib.Core.Option.{Option}
 use native.Mathlib.Omega.{arith}
 use borrow.Author.Tests.{leb-true}
-use lib.Dec.{leb}
+use lib.Dec.{leb, ltb}
 use lib.ListN.{getD, set, drop}
 use lib.Seq.{map-set-same, getD-drop}
 use Rattle.machine.specs.Rules.{inForce}
@@ -20,6 +20,7 @@ use Rattle.machine.specs.Setters.{withSerial, setSerial, setMoving}
 use Rattle.machine.specs.Moves.{moveTo, fresh, toRel, toFel, toQl, toWel, toWsl, wakeFirstQl, wakeQl, wakeFirstWel, wakeWsl, setUse, setContent, timesLeft, arrival, copies}
 use Rattle.machine.specs.Execute.{unless, living, askGenerate, question, checkWels, endsOne, delay, wakeFor, changed}
 use Rattle.machine.specs.Turn.{wsScheme}
+use Rattle.machine.proofs.Ahead.{rising-insert}
 use Rattle.machine.proofs.Kept.{changed-most}
 use Rattle.machine.proofs.Proper.{ProperBlock}
 use Rattle.machine.proofs.RunLaws.{cond-cases}
@@ -28,7 +29,7 @@ use Rattle.machine.proofs.Sorted.{each-insert, at-set}
 use Rattle.machine.proofs.Clocks.{Samples}
 use Rattle.machine.proofs.Cases.{checkWels-kept, wsScheme-cases}
 use Rattle.state.specs.Bare.{Bare, waiting, bare}
-use Rattle.state.proofs.Gains.{each-set, rising-insert, serverSums, queueSums, more, Gains, gains-trans, gains-most}
+use Rattle.state.proofs.Gains.{each-set, serverSums, queueSums, more, Gains, gains-trans, gains-most}
 
 -- ---- Moves that leave servers, queues and times
 
@@ -275,10 +276,13 @@ bare-gains m (frees x) t s o ok asked =
     (on _ t
     (gains-trans (gains-use (shareServer x) (serverAt (s .view) (shareServer x) .inUse - shareUnits x) 0 s)
     (gains-trans (gains-wakeFor m x _) (gains-checkWels (shareServer x) _))))
-bare-gains m (waitServer code v) t s o ok asked =
+bare-gains m (waitServer code v c) t s o ok asked =
     cond-cases (λ (r : Bare). Moderate s (r .state)) (status code (serverAt (s .view) v)) _ _
     (λ e. moderate (omega arith) (omega arith) (gains-waitWel v code t s))
-    (λ e. moderate (omega arith) (omega arith) (on _ t (gains-wakeFirstWel v code s)))
+    (λ e.
+    cond-cases (λ (r : Bare). Moderate s (r .state)) (ltb 0 c && ltb (t .stamp) (s .view .clock)) _ _
+    (λ b. moderate (omega arith) (omega arith) (on _ t (gains-wakeFirstWel v code s)))
+    (λ b. moderate (omega arith) (omega arith) (on _ _ (gains-wakeFirstWel v code s))))
 bare-gains m (waitTerms a r b) t s o ok asked =
     cond-cases (λ (r : Bare). Moderate s (r .state)) (compare (m .values) (s .view) (t .parameters) a r b) _ _
     (λ e. moderate (omega arith) (omega arith) (gains-waitWsl t s)) (λ e. moderate (omega arith) (omega arith) (gains-moveTo _ t s))

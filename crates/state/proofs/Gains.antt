@@ -2,18 +2,15 @@
 -- records and the sums of the statistics stay, and every move time is at or past the clock.
 use Prim.Native.Nat.{ℕ, zero, suc, _+_, _≤_}
 use mathlib.Core.Path.{_≡_, sym, _∙_, subst}
-use mathlib.Core.Bool.{Bool}
 use mathlib.Core.List.{List, [], _∷_, map}
 use native.Mathlib.Omega.{arith}
 use lib.ListN.{set}
 use Rattle.machine.specs.Rules.{inForce}
-use Rattle.machine.specs.Transaction.{Event, earlier}
-use Rattle.machine.specs.Lists.{insert, those}
 use Rattle.machine.specs.Term.{Server, Queue}
 use Rattle.machine.specs.State.{State}
 use Rattle.machine.specs.Claims.{Each}
-use Rattle.machine.proofs.RunLaws.{cond-cases, each-map}
-use Rattle.machine.proofs.Sorted.{each-insert, each-those, earlier-time, later-time}
+use Rattle.machine.proofs.Ahead.{Ahead}
+use Rattle.machine.proofs.RunLaws.{each-map}
 use Rattle.machine.proofs.Clocks.{Samples}
 
 -- ---- Lists of which each passes
@@ -34,30 +31,6 @@ each-mapped f P (x ∷ l) h = (h .0, each-mapped f P l (h .1))
 -- what is read of each member is the same in both lists
 pub each-alike : {A B : Type 0} (f : A → B) (P : B → Type 0) (l l′ : List A) → map f l′ ≡ map f l → Each (λ a. P (f a)) l → Each (λ a. P (f a)) l′
 each-alike f P l l′ e h = each-mapped f P l′ (subst (Each P) (sym e) (map-each f P l h))
-
--- ---- The FEL lies ahead
-
-abbrev pub Rising : List Event → Type 0
-Rising [] = Unit {0}
-Rising (x ∷ l) = Each (λ (y : Event). x .time ≤ y .time) l × Rising l
-
-pub record Ahead (s : State) : Type 0 where
-  pub later : Each (λ (e : Event). s .view .clock ≤ e .time) (s .fel)
-  pub rising : Rising (s .fel)
-
-pub rising-insert : (x : Event) (l : List Event) → Rising l → Rising (insert earlier x l)
-unfolding insert
-rising-insert x [] h = (tt, tt)
-rising-insert x (y ∷ l) h =
-    cond-cases Rising (earlier x y) _ _
-    (λ e. let le : x .time ≤ y .time = earlier-time x y e in ((le, each-map (λ z (n : y .time ≤ z .time). omega arith) l (h .0)), h))
-    (λ e. (each-insert (λ (z : Event). y .time ≤ z .time) earlier x l (later-time x y e) (h .0), rising-insert x l (h .1)))
-
-pub rising-those : (p : Event → Bool) (l : List Event) → Rising l → Rising (those p l)
-unfolding those
-rising-those p [] h = tt
-rising-those p (x ∷ l) h =
-    cond-cases Rising (p x) _ _ (λ e. (each-those (λ (y : Event). x .time ≤ y .time) p l (h .0), rising-those p l (h .1))) (λ e. rising-those p l (h .1))
 
 -- ---- Definition
 

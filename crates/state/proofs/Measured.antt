@@ -24,7 +24,8 @@ use Rattle.machine.proofs.Shape.{Shape, Within, capacityOf, allCapacities}
 use Rattle.machine.proofs.Clocks.{Samples}
 use Rattle.rows.specs.Clock.{arrivals}
 use Rattle.rows.proofs.Arrivals.{arriveAll-is}
-use Rattle.state.proofs.Gains.{each-alike, each-mapped, Rising, rising-those, Ahead, Sums, serverSums, queueSums, Gains}
+use Rattle.machine.proofs.Ahead.{Rising, rising-those, Ahead}
+use Rattle.state.proofs.Gains.{each-alike, each-mapped, Sums, serverSums, queueSums, Gains}
 
 -- ---- Definition
 

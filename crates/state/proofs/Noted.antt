@@ -2,17 +2,17 @@
 -- servers and counts.
 use Prim.Native.Nat.{ℕ, zero, suc, _+_}
 use mathlib.Core.Path.{_≡_, refl, sym, ap, _∙_}
-use mathlib.Core.Bool.{Bool, true, false, cond}
+use mathlib.Core.Bool.{Bool, true, false, cond, _&&_}
 use mathlib.Core.List.{List, [], _∷_}
 use mathlib.Core.Option.{none}
-use lib.Dec.{leb}
+use lib.Dec.{leb, ltb}
 use Rattle.machine.specs.Transaction.{Transaction}
 use Rattle.machine.specs.Term.{serverAt, free, compare}
 use Rattle.machine.specs.Block.{Code, U, NU, E, NE, F, NF, status, facility, storage, shareServer, shareUnits, shareHolder, Block, generate, advance, terminate, takes, frees, waitServer, waitTerms, moves, assign, priority, split, counts, BlockModel}
 use Rattle.machine.specs.State.{State}
 use Rattle.machine.specs.Setters.{withSerial, setSerial, setMoving, setMade}
 use Rattle.machine.specs.Bundle.{everything}
-use Rattle.machine.specs.Moves.{recordOf, log, enters, fresh, moveTo, goOn, mustWait, toRel, toQl, toWel, toWsl, wakeFirstQl, wakeQl, wakeFirstWel, setUse, timesLeft, arrival, copies}
+use Rattle.machine.specs.Moves.{recordOf, log, enters, fresh, moveTo, goOn, mustWait, toRel, toQl, toWel, toWsl, wakeFirstQl, wakeQl, wakeFirstWel, setUse, timesLeft, arrival, copyOf, copies}
 use Rattle.machine.specs.Execute.{effect, checkWel, checkWels, freeUnits, fits, delay}
 use Rattle.machine.specs.Turn.{answer}
 use Rattle.state.specs.Bare.{Bare, Note, enteredNote, waitsNote, noNote, entering, waiting, bare, bareAnswer, logged, countEntry, noteAs, noted}
@@ -53,7 +53,7 @@ module _ (t : Transaction) (s : State) where
   copies-N : (n target : ℕ) (x : State) → copies n target t (N x) ≡ N (copies n target t x)
   unfolding everything logged countEntry
   copies-N zero target x = refl
-  copies-N (suc n) target x = copies-N n target (toRel (record { number = suc (x .made); priority = t .priority; parameters = t .parameters; next = target; serial = 0; returning = false }) (setMade (suc (x .made)) x))
+  copies-N (suc n) target x = copies-N n target (toRel (copyOf t (suc (x .made)) target) (setMade (suc (x .made)) x))
 
   -- a wait, onto any list whose putting does not look at the records
   waiting-noted : (put : Transaction → State → State)
@@ -100,8 +100,9 @@ module _ (m : BlockModel) (t : Transaction) (s : State) where
       (waiting-noted t s (toQl v) (λ u x. refl))
   noted-effect (frees (facility v)) = checked v (λ e. wakeFirstQl v (freeUnits v 1 e)) refl
   noted-effect (frees (storage v b)) = checked v (λ e. wakeQl (fits m (freeUnits v b e .view) v) v (freeUnits v b e)) refl
-  noted-effect (waitServer code v) =
-      noted-cond t s (status code (serverAt (s .view) v)) _ _ _ _ (waiting-noted t s (toWel v code) (λ u x. refl)) refl
+  noted-effect (waitServer code v c) =
+      noted-cond t s (status code (serverAt (s .view) v)) _ _ _ _ (waiting-noted t s (toWel v code) (λ u x. refl))
+      (noted-cond t s (ltb 0 c && ltb (t .stamp) (s .view .clock)) _ _ _ _ refl refl)
   noted-effect (waitTerms a r b) =
       noted-cond t s (compare (m .values) (s .view) (t .parameters) a r b) _ _ _ _ (waiting-noted t s toWsl (λ u x. refl)) refl
   noted-effect (moves c target) = refl

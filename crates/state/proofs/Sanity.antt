@@ -27,7 +27,8 @@ use Rattle.machine.proofs.Clocks.{Timely, taking-timely, timely-turn, timely-st
 use Rattle.machine.proofs.Conservation.{Sound, Conserved, sound-conserved, sound-start, sound-turn}
 use Rattle.state.specs.Bare.{Note, enteredNote, waitsNote, noNote, logged, countEntry, noteAs}
 use Rattle.state.specs.Sane.{Sane}
-use Rattle.state.proofs.Gains.{each-set, Ahead, serverSums, queueSums, Gains, gains-trans, gains-most}
+use Rattle.machine.proofs.Ahead.{Ahead}
+use Rattle.state.proofs.Gains.{each-set, serverSums, queueSums, Gains, gains-trans, gains-most}
 use Rattle.state.proofs.BlockGains.{gains-none, gains-arrival}
 use Rattle.state.proofs.TurnGains.{Turned, unnoted, noted, turned}
 use Rattle.state.proofs.Measured.{ServerBound, QueueBound, Measured, measured-gains, measured-like, units-small, Took, took}

@@ -12,7 +12,7 @@ use Rattle.machine.specs.Transaction.{Transaction, precedes, earlier}
 use Rattle.machine.specs.Lists.{insert}
 use Rattle.machine.specs.Term.{Server, Queue}
 use Rattle.machine.specs.State.{State}
-use Rattle.machine.specs.Setters.{setMoving}
+use Rattle.machine.specs.Setters.{withStamp, setMoving}
 use Rattle.tables.specs.Layout as Layout
 use Rattle.rows.specs.Layout.{fel, free}
 use Rattle.rows.specs.Cells.{write, setTime}
@@ -23,7 +23,7 @@ use Rattle.rows.specs.Shows.{Shows}
 use Rattle.rows.proofs.Showing.{update-other}
 use Rattle.rows.proofs.Ordering.{shows-ext}
 use Rattle.rows.proofs.Write.{write-shown, write-loose}
-use Rattle.rows.proofs.Fields.{write-beside}
+use Rattle.rows.proofs.Fields.{write-stamp}
 use Rattle.rows.proofs.Laws.{shows-put, shows-put-fel}
 use Rattle.rows.proofs.Steady.{Steady, steady-transaction}
 use Rattle.rows.proofs.Population.{free-kept}
@@ -58,15 +58,15 @@ listing-write w k t s f x t′ hf h e =
       spare = h .spare;
     }
 
--- the move time of the moving one is no part of it
-pub listing-time : (w : List ℕ) (k : ℕ) (t : Transaction) (s : State) (time : ℕ) → Listing w k (some t) s → Listing (setTime w k time) k (some t) s
+-- the move time of the moving one is its stamp
+pub listing-time : (w : List ℕ) (k : ℕ) (t : Transaction) (s : State) (time : ℕ) → Listing w k (some t) s → Listing (setTime w k time) k (some (withStamp time t)) s
 unfolding setTime
 listing-time w k t s time h =
-    let hk : k < 1024 = h .mover .0 .row in
-    let low : Listing (write w 8 k (time % 4294967296)) k (some t) s =
-    listing-write w k t s 8 (time % 4294967296) t (omega arith) h (write-beside w k (h .shows .shown .holds .room) hk 8 _ (omega arith) ∙ h .mover .1) in
-    listing-write (write w 8 k (time % 4294967296)) k t s 9 (time / 4294967296) t (omega arith) low
-    (write-beside (write w 8 k (time % 4294967296)) k (low .shows .shown .holds .room) hk 9 _ (omega arith) ∙ low .mover .1)
+    let room : 16384 ≤ length w = h .shows .shown .holds .room in
+    let low : List ℕ = write w 8 k (time % 4294967296) in
+    let g : Listing low k (some (transactionAt low k)) s = listing-write w k t s 8 (time % 4294967296) (transactionAt low k) (omega arith) h refl in
+    listing-write low k (transactionAt low k) s 9 (time / 4294967296) (withStamp time t) (omega arith) g
+    (write-stamp w k room (h .mover .0 .row) time ∙ ap (withStamp time) (h .mover .1))
 
 module _ (w : List ℕ) (k : ℕ) (t : Transaction) (s s′ : State) (h : Listing w k (some t) s) (living : s′ .made - s′ .ended ≡ s .made - s .ended) where
   -- the moving row comes onto a list

@@ -15,7 +15,8 @@ use Rattle.machine.specs.Setters.{withSerial, setEntries, setView, setSerial, s
 use Rattle.machine.specs.Moves.{recordOf, fresh}
 use Rattle.machine.specs.Execute.{doing}
 
--- Which record a block writes: outcome 0, outcome 1, or none, for a returner that is put back and for a turn that a question stops.
+-- Which record a block writes: outcome 0, outcome 1, or none, for a returner that is put back, for one that goes back and for a turn that
+-- a question stops.
 pub data Note : Type 0 where
   enteredNote waitsNote noNote : Note
 
@@ -26,6 +27,10 @@ pub record Bare : Type 0 where
 abbrev pub entering : State → Bare
 entering s = record { note = enteredNote; state = s }
 
+-- document 02, item 7: one that goes back writes no record
+abbrev pub goingBack : State → Bare
+goingBack s = record { note = noNote; state = s }
+
 -- a wait: a fresh serial and a record, unless it is returning
 unfoldable pub waiting : (Transaction → State → State) → Transaction → State → Bare
 waiting put t s =
@@ -34,7 +39,7 @@ waiting put t s =
 
 -- the other use of `doing` than `effect`: the entry is not noted yet
 unfoldable pub bare : BlockModel → Block → Transaction → State → Bare
-bare m b t s = doing (λ f. entering (f s)) (λ put. waiting put t s) m b t s
+bare m b t s = doing (λ f. entering (f s)) (λ put. waiting put t s) (λ f. goingBack (f s)) m b t s
 
 -- with the question asked first
 unfoldable pub bareAnswer : ℕ → BlockModel → Block → Transaction → State → Bare

@@ -1,6 +1,6 @@
 -- One walk through all kinds: a block is one that counts, statistics, the start or the WS scheme ask for by its number, or it is
 -- none of these, and then neither its number nor its facts say anything to them.
-use Prim.Native.Nat.{ℕ}
+use Prim.Native.Nat.{ℕ, zero, suc}
 use mathlib.Core.Path.{_≡_, refl, _∙_}
 use mathlib.Core.Bool.{Bool, true, false, _||_, true≢false}
 use mathlib.Core.List.{List, _∷_}
@@ -50,7 +50,8 @@ kinds (terminate a) = other 3 _ refl refl refl
 kinds (takes x) = taking x refl
 kinds (frees (facility v)) = other 5 _ refl refl refl
 kinds (frees (storage v b)) = other 7 _ refl refl refl
-kinds (waitServer code v) = other 8 _ refl refl refl
+kinds (waitServer code v zero) = other 8 _ refl refl refl
+kinds (waitServer code v (suc c)) = other 17 _ refl refl refl
 kinds (waitTerms a r b) = waiting a r b refl
 kinds (moves always target) = other 11 _ refl refl refl
 kinds (moves (whenTrue a r b) target) = other 10 _ refl refl refl

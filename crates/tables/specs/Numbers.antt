@@ -1,9 +1,9 @@
 -- The numbers that stand for a term, a sum or a block in the tables. Whatever is used as an index (a parameter, a block whose
 -- entries are asked for, a queue, a server, a value, a list) is stored from 0; targets are block numbers, from 1.
-use Prim.Native.Nat.{ℕ, suc, _+_, _-_}
+use Prim.Native.Nat.{ℕ, zero, suc, _+_, _-_}
 use mathlib.Core.List.{List, [], _∷_, _++_}
 use Rattle.machine.specs.Term.{Relation, equal, unequal, less, atMost, greater, atLeast, Term, constant, minusConstant, parameter, clockTerm, entriesOf, contentOf, unitsInUse, unitsFree, facilityInUse, value, comparison, bracket, Condition, always, whenTrue, Sum, nothing, plus, minus}
-use Rattle.machine.specs.Block.{codeIndex, Share, facility, storage, Change, up, down, Block, generate, advance, terminate, takes, frees, waitServer, waitTerms, moves, assign, priority, split, counts}
+use Rattle.machine.specs.Block.{Code, codeIndex, Share, facility, storage, Change, up, down, Block, generate, advance, terminate, takes, frees, waitServer, waitTerms, moves, assign, priority, split, counts}
 
 unfoldable pub relationNumber : Relation → ℕ
 relationNumber equal = 1
@@ -55,6 +55,11 @@ unfoldable pub moveNumbers : Condition → ℕ → List ℕ
 moveNumbers always target = 11 ∷ target ∷ []
 moveNumbers (whenTrue a r b) target = 10 ∷ (termNumbers a ++ (relationNumber r ∷ (termNumbers b ++ (target ∷ []))))
 
+-- 8 without a back count, 17 with one
+unfoldable pub waitNumbers : Code → (server back : ℕ) → List ℕ
+waitNumbers code v zero = 8 ∷ codeIndex code ∷ (v - 1) ∷ []
+waitNumbers code v (suc c) = 17 ∷ codeIndex code ∷ (v - 1) ∷ suc c ∷ []
+
 unfoldable pub countKind : Change → ℕ
 countKind up = 15
 countKind down = 16
@@ -65,7 +70,7 @@ blockNumbers (advance list) = 2 ∷ (list - 1) ∷ []
 blockNumbers (terminate a) = 3 ∷ a ∷ []
 blockNumbers (takes x) = takeNumbers x
 blockNumbers (frees x) = freeNumbers x
-blockNumbers (waitServer code v) = 8 ∷ codeIndex code ∷ (v - 1) ∷ []
+blockNumbers (waitServer code v c) = waitNumbers code v c
 blockNumbers (waitTerms a r b) = 9 ∷ (termNumbers a ++ (relationNumber r ∷ termNumbers b))
 blockNumbers (moves c target) = moveNumbers c target
 blockNumbers (assign k a) = 12 ∷ (k - 1) ∷ termNumbers a

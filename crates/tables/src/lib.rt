@@ -15,6 +15,8 @@ pub const FIRST: usize = 1;
 
 pub const SECOND: usize = 2;
 
+pub const THIRD: usize = 3;
+
 pub const BRANCH_TARGET: usize = 6;
 
 pub const RELATION: usize = 2;

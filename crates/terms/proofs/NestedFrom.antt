@@ -155,9 +155,9 @@ module _ (s : List ℕ) where
   all-flat [] h = tt
   all-flat (a ∷ l) h = all (nestedTerm 0 a) (allOf (nestedTerm 0) l) (h .0) (all-flat l (h .1))
 
-  block-flat : (n : Counts) (capacities : List ℕ) → Ensures Flat (blockField s n capacities)
+  block-flat : (n : Counts) (capacities : List ℕ) → Ensures Flat (blockField s (inForce .kinds) n capacities)
   unfolding nestedBlock
-  block-flat n capacities = weaken (λ b h. all-flat (facts b .terms) (h .1)) (block-parsed s n capacities (Low 0) (block-term n))
+  block-flat n capacities = weaken (λ b h. all-flat (facts b .terms) (h .1)) (block-parsed s n capacities (Low 0) (block-term n) (inForce .kinds))
 
   -- ---- The model
 

@@ -57,6 +57,9 @@ arrive-requires c κs = search needs
 depart-requires : tie.Need-depart-requires
 depart-requires c κs = search needs
 
+wait-server-requires-2 : tie.Need-wait-server-requires-2
+wait-server-requires-2 c κs = search needs
+
 same-length : tie.Need-same-length
 same-length c = search needs
 
@@ -214,11 +217,21 @@ returns-16 : tie.Need-returns-16
 unfolding execute byKind later
 returns-16 c = rw (← c .before .before .before .before .before .before .before .before .number .ensures, c .before .before .before .before .before .before .before .match .keys16) (c .before .before .before .before .depart .ensures)
 
+same-length-32 : tie.Need-same-length-32
+same-length-32 c = search needs
+
+same-length-33 : tie.Need-same-length-33
+same-length-33 c = search needs
+
 returns-17 : tie.Need-returns-17
 unfolding execute byKind later
-returns-17 c =
+returns-17 c = rw (← c .before .before .before .before .before .before .number .ensures, c .before .before .before .before .before .match .keys17) (tallied _ _ _ _ (c .before .before .wait-server2 .ensures))
+
+returns-18 : tie.Need-returns-18
+unfolding execute byKind later
+returns-18 c =
     let other = c .match .rest in
-    rw (← c .before .number .ensures, ne-eqb _ 1 (other .0 .0 .0 .0 .0 .0 .0 .0 .0 .0 .0 .0 .0 .0 .0 .1), ne-eqb _ 2 (other .0 .0 .0 .0 .0 .0 .0 .0 .0 .0 .0 .0 .0 .0 .1), ne-eqb _ 3 (other .0 .0 .0 .0 .0 .0 .0 .0 .0 .0 .0 .0 .0 .1), ne-eqb _ 4 (other .0 .0 .0 .0 .0 .0 .0 .0 .0 .0 .0 .0 .1), ne-eqb _ 5 (other .0 .0 .0 .0 .0 .0 .0 .0 .0 .0 .0 .1), ne-eqb _ 6 (other .0 .0 .0 .0 .0 .0 .0 .0 .0 .0 .1), ne-eqb _ 7 (other .0 .0 .0 .0 .0 .0 .0 .0 .0 .1), ne-eqb _ 8 (other .0 .0 .0 .0 .0 .0 .0 .0 .1), ne-eqb _ 9 (other .0 .0 .0 .0 .0 .0 .0 .1), ne-eqb _ 10 (other .0 .0 .0 .0 .0 .0 .1), ne-eqb _ 11 (other .0 .0 .0 .0 .0 .1), ne-eqb _ 12 (other .0 .0 .0 .0 .1), ne-eqb _ 13 (other .0 .0 .0 .1), ne-eqb _ 14 (other .0 .0 .1), ne-eqb _ 15 (other .0 .1), ne-eqb _ 16 (other .1))
+    rw (← c .before .number .ensures, ne-eqb _ 1 (other .0 .0 .0 .0 .0 .0 .0 .0 .0 .0 .0 .0 .0 .0 .0 .0 .1), ne-eqb _ 2 (other .0 .0 .0 .0 .0 .0 .0 .0 .0 .0 .0 .0 .0 .0 .0 .1), ne-eqb _ 3 (other .0 .0 .0 .0 .0 .0 .0 .0 .0 .0 .0 .0 .0 .0 .1), ne-eqb _ 4 (other .0 .0 .0 .0 .0 .0 .0 .0 .0 .0 .0 .0 .0 .1), ne-eqb _ 5 (other .0 .0 .0 .0 .0 .0 .0 .0 .0 .0 .0 .0 .1), ne-eqb _ 6 (other .0 .0 .0 .0 .0 .0 .0 .0 .0 .0 .0 .1), ne-eqb _ 7 (other .0 .0 .0 .0 .0 .0 .0 .0 .0 .0 .1), ne-eqb _ 8 (other .0 .0 .0 .0 .0 .0 .0 .0 .0 .1), ne-eqb _ 9 (other .0 .0 .0 .0 .0 .0 .0 .0 .1), ne-eqb _ 10 (other .0 .0 .0 .0 .0 .0 .0 .1), ne-eqb _ 11 (other .0 .0 .0 .0 .0 .0 .1), ne-eqb _ 12 (other .0 .0 .0 .0 .0 .1), ne-eqb _ 13 (other .0 .0 .0 .0 .1), ne-eqb _ 14 (other .0 .0 .0 .1), ne-eqb _ 15 (other .0 .0 .1), ne-eqb _ 16 (other .0 .1), ne-eqb _ 17 (other .1))
 
 pub execute-spec : {M : Type 1} → statement M
 execute-spec =
@@ -241,6 +254,7 @@ execute-spec =
     split-requires
     arrive-requires
     depart-requires
+    wait-server-requires-2
     same-length
     same-length-2
     returns
@@ -288,4 +302,7 @@ execute-spec =
     same-length-30
     same-length-31
     returns-16
-    returns-17)
+    same-length-32
+    same-length-33
+    returns-17
+    returns-18)

@@ -1,7 +1,7 @@
 -- `decode::formed_model` meets its contract: the model, and then the two questions asked of the whole.
 use mathlib.Core.Path.{sym, _∙_}
 use borrow.Author.Tests.{not-true, not-false}
-use Rattle.decode.proofs.Models.{formed-stop, few-blocks, formed-long, formed-misplaced, formed-target, formed-name, formed-model}
+use Rattle.decode.proofs.Models.{formed-stop, few-blocks, formed-long, formed-misplaced, formed-target, formed-name, formed-broken, formed-model}
 use borrow.Author.Needs.{needs}
 use Rattle.decode.proofs.formed_model.Statement.{statement}
 use Rattle.decode.proofs.formed_model.Tie as tie
@@ -35,12 +35,19 @@ returns-4 : tie.Need-returns-4
 returns-4 c = formed-name _ (c .before .before .before .before .before .before .before .before .before .before .before .before .before .model .ensures) (c .before .before .before .before .before .before .before .before .before .before .before .m .given .1) (c .before .before .before .before .before .before .before .before .if1 .left) (sym (c .before .before .before .before .before .before .well-placed .ensures) ∙ not-false _ (c .before .before .before .before .before .if2 .left))
     (sym (c .before .before .before .targets-move .ensures) ∙ not-false _ (c .before .before .if3 .left)) (c .if4 .taken)
 
+groups-whole-requires : tie.Need-groups-whole-requires
+groups-whole-requires c κs = few-blocks _ (c .before .before .before .before .before .before .before .before .before .before .before .before .before .before .model .ensures) (c .before .before .before .before .before .before .before .before .before .before .before .before .m .given .1)
+
 returns-5 : tie.Need-returns-5
-returns-5 c = formed-stop _ (c .before .before .before .model .ensures) (c .before .n .given .1)
+returns-5 c = formed-broken _ (c .before .before .before .before .before .before .before .before .before .before .before .before .before .before .before .before .model .ensures) (c .before .before .before .before .before .before .before .before .before .before .before .before .before .before .m .given .1) (c .before .before .before .before .before .before .before .before .before .before .before .if1 .left) (sym (c .before .before .before .before .before .before .before .before .before .well-placed .ensures) ∙ not-false _ (c .before .before .before .before .before .before .before .before .if2 .left))
+    (sym (c .before .before .before .before .before .before .targets-move .ensures) ∙ not-false _ (c .before .before .before .before .before .if3 .left)) (c .before .before .before .if4 .left) (sym (c .before .groups-whole .ensures) ∙ not-true _ (c .if5 .taken))
 
 returns-6 : tie.Need-returns-6
-returns-6 c = formed-model _ (c .before .before .before .before .before .before .before .before .before .before .before .before .before .model .ensures) (c .before .before .before .before .before .before .before .before .before .before .before .m .given .1) (c .before .before .before .before .before .before .before .before .if1 .left) (sym (c .before .before .before .before .before .before .well-placed .ensures) ∙ not-false _ (c .before .before .before .before .before .if2 .left))
-    (sym (c .before .before .before .targets-move .ensures) ∙ not-false _ (c .before .before .if3 .left)) (c .if4 .left)
+returns-6 c = formed-stop _ (c .before .before .before .model .ensures) (c .before .n .given .1)
+
+returns-7 : tie.Need-returns-7
+returns-7 c = formed-model _ (c .before .before .before .before .before .before .before .before .before .before .before .before .before .before .before .before .model .ensures) (c .before .before .before .before .before .before .before .before .before .before .before .before .before .before .m .given .1) (c .before .before .before .before .before .before .before .before .before .before .before .if1 .left) (sym (c .before .before .before .before .before .before .before .before .before .well-placed .ensures) ∙ not-false _ (c .before .before .before .before .before .before .before .before .if2 .left))
+    (sym (c .before .before .before .before .before .before .targets-move .ensures) ∙ not-false _ (c .before .before .before .before .before .if3 .left)) (c .before .before .before .if4 .left) (sym (c .before .groups-whole .ensures) ∙ not-false _ (c .if5 .left))
 
 pub formed-model-spec : {M : Type 1} → statement M
 formed-model-spec =
@@ -55,5 +62,7 @@ formed-model-spec =
     targets-move-requires
     returns-3
     returns-4
+    groups-whole-requires
     returns-5
-    returns-6)
+    returns-6
+    returns-7)

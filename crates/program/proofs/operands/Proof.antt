@@ -1,5 +1,5 @@
 -- `program::operands` meets its contract: each arm is its kind's line of the machine's `operands`.
-use Rattle.program.proofs.Steps.{kind-1, kind-2, kind-3, kind-4, kind-5, kind-6, kind-7, kind-9, kind-11, kind-13, kind-14, kind-15, kind-16, the-last}
+use Rattle.program.proofs.Steps.{kind-1, kind-2, kind-3, kind-4, kind-5, kind-6, kind-7, kind-8, kind-9, kind-11, kind-13, kind-14, kind-15, kind-16, the-last}
 use borrow.Author.Needs.{needs}
 use Rattle.program.proofs.operands.Statement.{statement}
 use Rattle.program.proofs.operands.Tie as tie
@@ -31,8 +31,8 @@ units-requires c κs = search needs
 units-requires-2 : tie.Need-units-requires-2
 units-requires-2 c κs = search needs
 
-wait-server-requires : tie.Need-wait-server-requires
-wait-server-requires c κs = search needs
+watched-requires : tie.Need-watched-requires
+watched-requires c κs = search needs
 
 compared-requires : tie.Need-compared-requires
 compared-requires c κs = search needs
@@ -64,6 +64,9 @@ single-requires-7 c κs = search needs
 single-requires-8 : tie.Need-single-requires-8
 single-requires-8 c κs = search needs
 
+joined-wait-requires : tie.Need-joined-wait-requires
+joined-wait-requires c κs = search needs
+
 returns : tie.Need-returns
 returns c = rw (c .before .before .before .before .match .keys1) (kind-1 _ _ _ _ _ (c .before .before .before .range .ensures) (c .before .before .range2 .ensures) (c .pair .ensures))
 
@@ -86,7 +89,7 @@ returns-7 : tie.Need-returns-7
 returns-7 c = rw (c .before .before .match .keys7) (kind-7 _ _ _ (c .units2 .ensures))
 
 returns-8 : tie.Need-returns-8
-returns-8 c = rw (c .before .before .match .keys8) (c .wait-server .ensures)
+returns-8 c = rw (c .before .before .match .keys8) (kind-8 _ _ _ (c .watched .ensures))
 
 returns-9 : tie.Need-returns-9
 returns-9 c = rw (c .before .before .match .keys9) (kind-9 _ _ _ (c .compared .ensures))
@@ -110,7 +113,10 @@ returns-15 : tie.Need-returns-15
 returns-15 c = rw (c .before .before .match .keys15) (kind-15 _ _ _ (c .single7 .ensures))
 
 returns-16 : tie.Need-returns-16
-returns-16 c = rw (the-last _ (c .before .before .before .before .pre .2) (c .before .before .before .before .pre .3) (c .before .before .match .rest)) (kind-16 _ _ _ (c .single8 .ensures))
+returns-16 c = rw (c .before .before .match .keys16) (kind-16 _ _ _ (c .single8 .ensures))
+
+returns-17 : tie.Need-returns-17
+returns-17 c = rw (the-last _ (c .before .before .before .before .pre .2) (c .before .before .before .before .pre .3) (c .before .before .match .rest)) (c .joined-wait .ensures)
 
 pub operands-spec : {M : Type 1} → statement M
 operands-spec =
@@ -125,7 +131,7 @@ operands-spec =
     single-requires-4
     units-requires
     units-requires-2
-    wait-server-requires
+    watched-requires
     compared-requires
     branch-requires
     single-requires-5
@@ -136,6 +142,7 @@ operands-spec =
     pair-requires-2
     single-requires-7
     single-requires-8
+    joined-wait-requires
     returns
     returns-2
     returns-3
@@ -151,4 +158,5 @@ operands-spec =
     returns-13
     returns-14
     returns-15
-    returns-16)
+    returns-16
+    returns-17)

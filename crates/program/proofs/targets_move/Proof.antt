@@ -10,7 +10,7 @@ use Rattle.program.proofs.targets_move.Statement.{statement}
 use Rattle.program.proofs.targets_move.Tie as tie
 
 abbrev Inv-loop : tie.InvT-loop
-Inv-loop tables blocks b₀ b = (b ≤ blocks) × (targetsFrom tables (blocks - b) (8 * b) ≡ targetsFrom tables blocks 0)
+Inv-loop tables blocks b₀ b = (b ≤ blocks) × (targetsFrom tables blocks (blocks - b) (8 * b) ≡ targetsFrom tables blocks blocks 0)
 
 abbrev μ-loop : tie.MeasureT-loop
 μ-loop tables blocks b₀ b = blocks - b
@@ -18,11 +18,11 @@ abbrev μ-loop : tie.MeasureT-loop
 loop-holds : tie.Need-loop-holds Inv-loop μ-loop
 loop-holds c = (omega arith, targets-all _ _ 0)
 
-names-generate-requires : tie.Need-names-generate-requires Inv-loop μ-loop
-names-generate-requires c κs = omega (arith, c .before .before .pre)
+misnames-requires : tie.Need-misnames-requires Inv-loop μ-loop
+misnames-requires c κs = (c .before .before .pre, omega (arith, c .before .before .pre))
 
 returns : tie.Need-returns Inv-loop μ-loop
-returns c = targets-bad _ _ _ (c .before .before .loop-test .taken) (sym (c .before .names-generate .ensures) ∙ c .if1 .taken) ∙ c .before .before .before .loop .inv .1
+returns c = targets-bad _ _ _ (c .before .before .loop-test .taken) (sym (c .before .misnames .ensures) ∙ c .if1 .taken) ∙ c .before .before .before .loop .inv .1
 
 add-b : tie.Need-add-b Inv-loop μ-loop
 add-b c = omega arith
@@ -31,7 +31,7 @@ loop-less : tie.Need-loop-less Inv-loop μ-loop
 loop-less c = omega arith
 
 loop-again : tie.Need-loop-again Inv-loop μ-loop
-loop-again c = (omega arith, targets-next _ _ _ (c .before .before .loop-test .taken) (sym (c .before .names-generate .ensures) ∙ c .if1 .left) ∙ c .before .before .before .loop .inv .1)
+loop-again c = (omega arith, targets-next _ _ _ (c .before .before .loop-test .taken) (sym (c .before .misnames .ensures) ∙ c .if1 .left) ∙ c .before .before .before .loop .inv .1)
 
 returns-2 : tie.Need-returns-2 Inv-loop μ-loop
 returns-2 c = targets-end _ _ _ (c .loop-test .left) ∙ c .before .loop .inv .1
@@ -43,7 +43,7 @@ targets-move-spec =
     Inv-loop
     μ-loop
     loop-holds
-    names-generate-requires
+    misnames-requires
     returns
     add-b
     loop-less

@@ -14,17 +14,17 @@ returns : tie.Need-returns
 unfolding waitWhile
 returns c = rw (c .before .before .before .before .if1 .taken) (c .before .before .wait-on .ensures)
 
-pass-on-requires : tie.Need-pass-on-requires
-pass-on-requires c κs = search needs
+pass-or-back-requires : tie.Need-pass-or-back-requires
+pass-or-back-requires c κs = search needs
 
 same-length-2 : tie.Need-same-length-2
 same-length-2 c = search needs
 
 returns-2 : tie.Need-returns-2
 unfolding waitWhile
-returns-2 c = rw (c .before .before .before .before .if1 .left) (c .before .before .pass-on .ensures)
+returns-2 c = rw (c .before .before .before .before .if1 .left) (c .before .before .pass-or-back .ensures)
 
 pub wait-while-spec : {M : Type 1} → statement M
 wait-while-spec =
     tie.close
-    (tie.spec wait-on-requires same-length returns pass-on-requires same-length-2 returns-2)
+    (tie.spec wait-on-requires same-length returns pass-or-back-requires same-length-2 returns-2)
