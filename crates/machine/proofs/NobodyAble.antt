@@ -1,6 +1,6 @@
 -- Claim 3, "nobody able to go waits": where nobody moves, REL is empty and the run has no end or ended dry, the count of
 -- waiters able to go is zero.
-use Prim.Native.Nat.{ℕ, zero, suc, _≤_}
+use Prim.Native.Nat.{ℕ, _≤_}
 use mathlib.Core.Path.{_≡_, refl, sym, ap, ap₂, _∙_, subst}
 use mathlib.Core.Bool.{Bool, false, not, true≢false}
 use mathlib.Core.List.{List, [], _∷_}
@@ -18,6 +18,7 @@ use Rattle.machine.specs.Run.{states}
 use Rattle.machine.specs.Claims.{count, upTo, Each, ableOnQl, ableOnWel, ableOnWels, ableToGo}
 use Rattle.machine.proofs.Proper.{Proper, servers}
 use Rattle.machine.proofs.RunLaws.{cond-cases, each-map, each-state}
+use Rattle.machine.proofs.Sums.{upTo-zero}
 use Rattle.machine.proofs.Shape.{Shape, server-length, shape-turn, shape-start}
 use Rattle.machine.proofs.Waiting.{serverIn, QlWaits, nobodyFits, nextReady, WelWaits, codeTrue, nobodyWaits, oneReady, WaitsOver, Waits, readyOf, Settled}
 use Rattle.machine.proofs.WaitsKept.{waits-kept, waits-start}
@@ -28,11 +29,6 @@ none-pass : {A : Type 0} (p : A → Bool) (l : List A) → Each (λ x. p x ≡ f
 unfolding count those
 none-pass p [] h = refl
 none-pass p (x ∷ l) h = rw (h .0) (none-pass p l (h .1))
-
-upTo-zero : (n : ℕ) (f : ℕ → ℕ) → ((v : ℕ) → 1 ≤ v → v ≤ n → f v ≡ 0) → upTo n f ≡ 0
-unfolding upTo
-upTo-zero zero f h = refl
-upTo-zero (suc n) f h = omega (arith, upTo-zero n f (λ v a b. h v a (omega arith)), h (suc n) (omega arith) (omega arith))
 
 -- ---- Of one state
 

@@ -27,7 +27,7 @@ use Rattle.machine.proofs.Everybody.{Maybe, Everybody, Unmoved, toRel-e
 
 -- ---- Question 7: behind a block that lets its transaction go on stands another
 
-goes-on : (left : Bool) (l : List Block) (i : ℕ) → T (wellPlaced left l) → i < length l → facts (getD l i (terminate 0)) .leaves ≡ false → suc i < length l
+pub goes-on : (left : Bool) (l : List Block) (i : ℕ) → T (wellPlaced left l) → i < length l → facts (getD l i (terminate 0)) .leaves ≡ false → suc i < length l
 unfolding wellPlaced
 goes-on left [] i h lt e = absurd (omega arith)
 goes-on left (b ∷ []) zero h lt e = absurd (subst T e (and-right (not (isGenerate (facts b)) || left) (facts b .leaves) h))

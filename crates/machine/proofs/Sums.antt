@@ -141,12 +141,14 @@ unfolding upTo
 upTo-ones zero = refl
 upTo-ones (suc n) = omega (arith, upTo-ones n)
 
+pub upTo-zero : (n : ℕ) (f : ℕ → ℕ) → ((k : ℕ) → 1 ≤ k → k ≤ n → f k ≡ 0) → upTo n f ≡ 0
+unfolding upTo
+upTo-zero zero f h = refl
+upTo-zero (suc n) f h = omega (arith, upTo-zero n f (λ k low high. h k low (omega arith)), h (suc n) (omega arith) (omega arith))
+
 -- one number, not among those up to n, and among them
 pub upTo-none : (n i : ℕ) → ((k : ℕ) → 1 ≤ k → k ≤ n → k ≡ i → ⊥) → upTo n (λ k. bit (eqb k i)) ≡ 0
-unfolding upTo
-upTo-none zero i h = refl
-upTo-none (suc n) i h =
-    omega (arith, upTo-none n i (λ k low high. h k low (omega arith)), ap bit (ne-eqb (suc n) i (h (suc n) (omega arith) (omega arith))))
+upTo-none n i h = upTo-zero n (λ k. bit (eqb k i)) (λ k low high. ap bit (ne-eqb k i (h k low high)))
 
 pub upTo-one : (n i : ℕ) → 1 ≤ i → i ≤ n → upTo n (λ k. bit (eqb k i)) ≡ 1
 unfolding upTo

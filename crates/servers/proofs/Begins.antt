@@ -5,15 +5,15 @@ use mathlib.Core.Bool.{Bool, true, false, not, cond, _&&_, _||_}
 use mathlib.Core.List.{List, [], _∷_}
 use native.Mathlib.Omega.{arith}
 use borrow.Author.Tests.{eqb-true, eqb-false, ne-eqb, le-ltb, lt-ltb, ltb-true, ltb-false}
-use lib.Dec.{T, eqb, ltb}
+use lib.Dec.{eqb, ltb}
 use lib.ListN.{length, getD}
 use Rattle.machine.specs.Lists.{bit, upTo}
-use Rattle.machine.specs.Facts.{isGenerate}
 use Rattle.machine.specs.Term.{always, whenTrue}
 use Rattle.machine.specs.Block.{Code, Block, generate, advance, terminate, takes, frees, waitServer, waitTerms, moves, assign, priority, split, counts, facility, storage, up, down, facts, BlockModel, blockAt, backAt, beginsGroup}
-use Rattle.machine.specs.Validate.{wellPlaced}
+use Rattle.machine.proofs.Sums.{upTo-zero}
 use Rattle.machine.proofs.Proper.{Names, Proper}
-use Rattle.machine.proofs.Groups.{and-right, begins, blocks-placed, group-waits}
+use Rattle.machine.proofs.Placed.{goes-on}
+use Rattle.machine.proofs.Groups.{begins, blocks-placed, group-waits}
 use Rattle.tables.specs.Forms.{blockForms}
 use Rattle.tables.specs.Numbers.{blockNumbers}
 use Rattle.tables.specs.Represents.{Represents}
@@ -77,30 +77,12 @@ waits (split n target) = other 14 _ refl refl refl refl refl
 waits (counts up q) = other 15 _ refl refl refl refl refl
 waits (counts down q) = other 16 _ refl refl refl refl refl
 
--- ---- A block that does not leave is not the last
-
-goes-on : (left : Bool) (l : List Block) (i : ℕ) → T (wellPlaced left l) → i < length l → facts (getD l i (terminate 0)) .leaves ≡ false → suc i < length l
-unfolding wellPlaced
-goes-on left [] i h lt e = absurd (omega arith)
-goes-on left (b ∷ []) zero h lt e = absurd (subst T e (and-right (not (isGenerate (facts b)) || left) (facts b .leaves) h))
-goes-on left (b ∷ c ∷ l) zero h lt e = omega arith
-goes-on left (b ∷ l) (suc i) h lt e =
-    let next : suc i < length l = goes-on (facts b .leaves) l i (and-right (not (isGenerate (facts b)) || left) _ h) (omega arith) e in
-    omega arith
-
--- ---- A sum of nothing
-
-upTo-none : (n : ℕ) (f : ℕ → ℕ) → ((i : ℕ) → 1 ≤ i → i ≤ n → f i ≡ 0) → upTo n f ≡ 0
-unfolding upTo
-upTo-none zero f h = refl
-upTo-none (suc n) f h = omega (arith, upTo-none n f (λ i a b. h i a (omega arith)), h (suc n) (omega arith) (omega arith))
-
 module _ {m : BlockModel} {tape : List (List ℕ)} {tapeBytes tables lists : List ℕ} (proper : Proper m tape) (rep : Represents m tape tapeBytes tables lists) (n : ℕ) (low : 1 ≤ n) where
   -- no block counts back to block n
   begins-not : ((c : ℕ) → 1 ≤ c → c ≤ 7 → backAt m (n + c) ≡ c → ⊥) → false ≡ beginsGroup m n
   unfolding beginsGroup
   begins-not h =
-      let none : upTo 7 (λ c. bit (eqb (backAt m (n + c)) c)) ≡ 0 = upTo-none 7 (λ c. bit (eqb (backAt m (n + c)) c)) (λ c a b. ap bit (ne-eqb (backAt m (n + c)) c (h c a b))) in
+      let none : upTo 7 (λ c. bit (eqb (backAt m (n + c)) c)) ≡ 0 = upTo-zero 7 (λ c. bit (eqb (backAt m (n + c)) c)) (λ c a b. ap bit (ne-eqb (backAt m (n + c)) c (h c a b))) in
       sym (le-ltb 0 (upTo 7 (λ c. bit (eqb (backAt m (n + c)) c))) (omega (arith, none)))
 
   begins-so : (i : ℕ) → 1 ≤ i → backAt m (n + i) ≡ i → true ≡ beginsGroup m n

@@ -18,7 +18,7 @@ use Rattle.machine.specs.Report.{recordsAt}
 use Rattle.machine.specs.Outcome.{recordsOf}
 use Rattle.machine.specs.Claims.{Each, count, bit, upTo, InModel}
 use Rattle.machine.proofs.Proper.{Names}
-use Rattle.machine.proofs.Sums.{count-cons, upTo-cong, upTo-one}
+use Rattle.machine.proofs.Sums.{count-cons, upTo-cong, upTo-zero, upTo-one}
 use Rattle.trace.specs.Whole.{AllInRanges}
 use Rattle.state.proofs.Written.{atBlock, at-block-cons, Traced, inOrder, in-order-cons}
 
@@ -28,11 +28,6 @@ upTo-add : (f g : ℕ → ℕ) (n : ℕ) → upTo n (λ k. f k + g k) ≡ upTo n
 unfolding upTo
 upTo-add f g zero = refl
 upTo-add f g (suc n) = omega (arith, upTo-add f g n)
-
-upTo-zero : (f : ℕ → ℕ) → ((k : ℕ) → f k ≡ 0) → (n : ℕ) → upTo n f ≡ 0
-unfolding upTo
-upTo-zero f h zero = refl
-upTo-zero f h (suc n) = omega (arith, upTo-zero f h n, h (suc n))
 
 module _ (m : BlockModel) (outcome : ℕ) (p : Facts → Bool) where
   abbrev passes : ℕ → Bool
@@ -86,7 +81,7 @@ module _ (m : BlockModel) (outcome : ℕ) (p : Facts → Bool) where
       counted = unfold count in count-cons test r l
 
   pub records-tallied : (l : List Logged) → Each (λ (r : Logged). InModel m (r .entry)) l → recordsAt m outcome p l ≡ upTo (length (m .blocks)) (share l)
-  records-tallied [] h = empty ∙ sym (upTo-zero (share []) nothing (length (m .blocks)))
+  records-tallied [] h = empty ∙ sym (upTo-zero (length (m .blocks)) (share []) (λ k low high. nothing k))
     where
       empty : recordsAt m outcome p [] ≡ 0
       empty = unfold recordsAt those in refl
@@ -109,7 +104,7 @@ module _ (m : BlockModel) (outcome : ℕ) (p : Facts → Bool) where
     where
       own : (c : Bool) (i : ℕ) → Names (length (m .blocks)) i → upTo (length (m .blocks)) (λ b. cond c (bit (eqb b i)) 0) ≡ bit c
       own true i names = upTo-one (length (m .blocks)) i (names .0) (names .1)
-      own false i names = upTo-zero (λ b. 0) (λ k. refl) (length (m .blocks))
+      own false i names = upTo-zero (length (m .blocks)) (λ b. 0) (λ k low high. refl)
 
 -- ---- In the order of writing
 
