@@ -43,6 +43,26 @@ fn scene(random: &mut Random, size: Size) -> (Model, Tape) {
     }
     let again = blocks.len() as u32 + 1;
     blocks.extend(groups);
+    go_on(random, &mut blocks, again, most);
+    model.blocks = blocks;
+    (model, tape(random, size))
+}
+
+/// What follows the groups, which begin with block `again`.
+fn go_on(random: &mut Random, blocks: &mut Vec<Block>, again: u32, most: usize) {
+    let joined = |block: &Block| matches!(block, Block::WaitJoined { .. });
+    let last = blocks.iter().rposition(joined).expect("a group") as u32 + 1;
+    // Round again until the joined wait has so many entries.
+    if blocks.len() + 2 <= most && random.one_in(3) {
+        blocks.push(Block::If {
+            comparison: Comparison {
+                left: Term::Entries(last),
+                relation: 3,
+                right: Term::Constant(random.number(2, 9)),
+            },
+            target: again,
+        });
+    }
     // The ship that takes the tug for which it waited.
     if blocks.len() + 4 <= most && random.one_in(2) {
         blocks.push(Block::Seize { facility: 2 });
@@ -54,17 +74,18 @@ fn scene(random: &mut Random, size: Size) -> (Model, Tape) {
     } else {
         Block::Terminate { amount: 1 }
     });
-    model.blocks = blocks;
+}
+
+fn tape(random: &mut Random, size: Size) -> Tape {
     let count = if size.is_small() { 12 } else { 60 };
     // Often 0: clock moves by 0 ticks.
     let span = random.number(0, 4);
-    let tape = vec![
+    vec![
         small_times(random, count, span + 1),
         small_times(random, count, span + 1),
         small_times(random, count * 3, span),
         small_times(random, count / 2, span),
-    ];
-    (model, tape)
+    ]
 }
 
 /// Takes and gives back facility 1, or facility 2 or the storage.
