@@ -2,7 +2,7 @@
 
 use super::asker::{Answer, Asker};
 use super::model::{Head, Shape};
-use super::Item;
+use super::{Item, Words};
 use modeltext::words::{self, GENERATE, GOTO, TERMINATE, WAITIF_JOINED, WAITIF_STATUS};
 
 pub fn shape(asker: &mut Asker, head: &Head, shape: &Shape) -> Answer<()> {
@@ -52,43 +52,12 @@ pub fn shape(asker: &mut Asker, head: &Head, shape: &Shape) -> Answer<()> {
 /// Joined waits: the blocks that one goes back over are plain server waits, and no target leads into them behind the first.
 fn groups(asker: &mut Asker, head: &Head, shape: &Shape) -> Answer<()> {
     for &(block, back, (byte, number)) in &shape.groups {
-        let item = Item::Block(block);
-        if back >= block {
-            let plural = if back == 1 { "" } else { "s" };
-            let before = match block - 1 {
-                0 => "none stands".to_string(),
-                1 => "1 stands".to_string(),
-                before => format!("{before} stand"),
-            };
-            let words = (
-                format!("WAITIF goes back {back} block{plural}, and {before} before it"),
-                "go back over waits of the form WAITIF server = code, all right before it"
-                    .to_string(),
-            );
-            asker.found_at(7, item, byte, number, None, words)?;
-            continue;
+        if let Some(words) = not_joined(shape, block, back) {
+            asker.found_at(7, Item::Block(block), byte, number, None, words)?;
         }
-        let first = block - back;
-        for inside in first..block {
-            let kind = shape.kinds[inside as usize - 1] as u32;
-            if kind == WAITIF_STATUS {
-                continue;
-            }
-            let what = match kind {
-                WAITIF_JOINED => "a WAITIF that goes back itself".to_string(),
-                kind => words::kind_of(kind).map_or(String::new(), |kind| kind.word.to_string()),
-            };
-            let words = (
-                format!(
-                    "WAITIF goes back over block {inside}, {what}, and may only over waits of the form WAITIF server = code"
-                ),
-                "go back fewer blocks, or let only such waits stand right before it".to_string(),
-            );
-            asker.found_at(7, item, byte, number, None, words)?;
-            break;
-        }
+        let first = block.saturating_sub(back);
         for &(from, target, (byte, number)) in &shape.targets {
-            if first < target && target <= block {
+            if first < target && target <= block && first > 0 {
                 let name = head.thing('b', target);
                 let words = (
                     format!(
@@ -101,4 +70,34 @@ fn groups(asker: &mut Asker, head: &Head, shape: &Shape) -> Answer<()> {
         }
     }
     Ok(())
+}
+
+/// What is wrong with the blocks that a joined wait goes back over, if something is.
+fn not_joined(shape: &Shape, block: u64, back: u64) -> Option<Words> {
+    if back >= block {
+        let plural = if back == 1 { "" } else { "s" };
+        let before = match block - 1 {
+            0 => "none stands".to_string(),
+            1 => "1 stands".to_string(),
+            before => format!("{before} stand"),
+        };
+        return Some((
+            format!("WAITIF goes back {back} block{plural}, and {before} before it"),
+            "let the waits that it is joined with stand right before it, each as WAITIF server = code"
+                .to_string(),
+        ));
+    }
+    let kind = |block: u64| shape.kinds[block as usize - 1] as u32;
+    let inside = (block - back..block).find(|inside| kind(*inside) != WAITIF_STATUS)?;
+    let what = match words::kind_of(kind(inside)) {
+        Some(kind) if kind.number == WAITIF_JOINED => "a WAITIF that goes back itself",
+        Some(kind) => kind.word,
+        None => "of no known kind",
+    };
+    Some((
+        format!(
+            "WAITIF goes back over block {inside}, {what}, and may only over waits as WAITIF server = code"
+        ),
+        "go back fewer blocks, or let only such waits stand right before it".to_string(),
+    ))
 }
