@@ -40,7 +40,7 @@ enum {
  *
  * Refusals, in this order: 1 work shorter than 16384; 2 report shorter than 10240; of the model, 3 a number that
  * is not whole, shortest or in size, 4 out of its field's range, 5 a value too large, 6 bytes behind the model,
- * 7 a block out of place; of the tape, 8 a number, 9 a range, 10 bytes behind it.
+ * 7 a block out of place or a broken group of joined waits; of the tape, 8 a number, 9 a range, 10 bytes behind it.
  * Numbers of a model end at 4294967295, those of a tape at 34359738367 (8), its times at 10000000000 (9), and the clock at
  * 32000000000 (end 22).
  * A refused run leaves work, trace and report as they were.

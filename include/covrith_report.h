@@ -81,7 +81,7 @@ static inline const char *covrith_refusal_words(uint64_t refusal) {
     case 5: return "a value passes 64 numbers, four open brackets or two mentions of values";
     case 6: return "bytes follow the model";
     case 7: return "a GENERATE is out of place or named by a target, the last block is neither TERMINATE nor GOTO, "
-                   "or a value names a block that does not exist";
+                   "a value names a block that does not exist, or a group of joined waits is broken";
     case 8: return "a number of the tape is not whole, not in its shortest form or not in size";
     case 9: return "a number of the tape is outside its field's range";
     case 10: return "bytes follow the tape";

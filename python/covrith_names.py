@@ -54,7 +54,7 @@ class Refusal(_Named):
     AFTER_MODEL = 6, "bytes follow the model"
     BLOCK_ORDER = 7, (
         "a GENERATE is out of place or named by a target, the last block is neither TERMINATE nor GOTO, "
-        "or a value names a block that does not exist"
+        "a value names a block that does not exist, or a group of joined waits is broken"
     )
     TAPE_NUMBER = 8, "a number of the tape is not whole, not in its shortest form or not in size"
     TAPE_RANGE = 9, "a number of the tape is outside its field's range"
@@ -99,6 +99,7 @@ class Kind(_Named):
     SPLIT = 14, "copies target"
     ARRIVE = 15, "queue"
     DEPART = 16, "queue"
+    WAITIF_JOINED = 17, "code server back"
 
     @property
     def operands(self) -> int:

@@ -64,6 +64,23 @@ class Runs(unittest.TestCase):
         self.assertEqual(bytes(model), stored)
         self.assertEqual(covrith.run(model, tape).report.queues, [Queue(87, 4524, 14)])
 
+    def test_joined_waits(self):
+        blocks = [
+            ("GENERATE", 1, 0), ("ADVANCE", 2), ("SEIZE", 1), ("ADVANCE", 3), ("RELEASE", 1), ("GOTO", 2), ("GENERATE", 4, 0), ("ARRIVE", 1),
+            ("WAITIF_SERVER", "U", 1), ("WAITIF_SERVER", "F", 1), ("WAITIF_JOINED", "U", 2, 2), ("SEIZE", 2), ("ENTER", 1, 1), ("ADVANCE", 5),
+            ("RELEASE", 2), ("ADVANCE", 6), ("WAITIF_SERVER", "U", 1), ("WAITIF_JOINED", "U", 2, 1), ("SEIZE", 2), ("ADVANCE", 5),
+            ("RELEASE", 2), ("LEAVE", 1, 1), ("DEPART", 1), ("TERMINATE", 0), ("GENERATE", 7, 0), ("TERMINATE", 1),
+        ]  # fmt: skip
+        model = Model(facilities=2, storages=[3], queues=1, lists=7, blocks=blocks)
+        stored, tape = covrith.load(MODELS / "ship-and-tug-joined")
+        self.assertEqual(bytes(model), stored)
+        # each of the 99 times that a ship goes back and the 135 that one is put back is a turn without a record
+        run = covrith.run(model, tape)
+        self.assertEqual(run.turns, len(list(run.records())) + 99 + 135)
+        with self.assertRaises(covrith.Refused) as refused:
+            covrith.run(Model(facilities=2, storages=[3], queues=1, lists=7, blocks=blocks[:9] + blocks[10:]), tape)
+        self.assertEqual(refused.exception.refusal, covrith.Refusal.BLOCK_ORDER)
+
     def test_every_kind_and_term(self):
         terms = [covrith.CLOCK, covrith.parameter(4), covrith.entries(1), covrith.content(1), covrith.units_in_use(1), covrith.constant(-300)]
         model = Model(

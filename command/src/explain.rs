@@ -4,6 +4,7 @@
 mod asker;
 mod blocks;
 mod model;
+mod shape;
 mod tape;
 mod values;
 

@@ -3,7 +3,9 @@
 use crate::study::Study;
 use engine::{Record, Run};
 use modeltext::model::{Block, Operand};
-use modeltext::words::{ADVANCE, GENERATE, GOTO, IF, RELEASE, SEIZE, SPLIT};
+use modeltext::words::{
+    ADVANCE, GENERATE, GOTO, IF, RELEASE, SEIZE, SPLIT, WAITIF_JOINED, WAITIF_STATUS,
+};
 use std::collections::BTreeMap;
 use std::ops::Range;
 
@@ -108,7 +110,7 @@ pub struct Life {
 }
 
 impl Life {
-    /// The blocks that it may be about to enter: two behind an IF.
+    /// The blocks that it may be about to enter: two behind an IF, and where a joined wait may have sent it back.
     pub fn next(&self, study: &Study) -> Vec<u64> {
         let Some(last) = self.last else {
             return match self.birth {
@@ -123,13 +125,22 @@ impl Life {
         };
         let target = block.target().map_or(0, u64::from);
         match block.kind {
-            _ if !last.entered() => vec![last.block, after],
+            WAITIF_JOINED if !last.entered() => back_from(study, last.block),
+            _ if !last.entered() => vec![last.block],
             GOTO => vec![target],
             IF if target == after => vec![after],
             IF => vec![target, after],
+            WAITIF_STATUS => back_from(study, after),
             _ => vec![after],
         }
     }
+}
+
+/// A block, and the first of its group if it is a joined wait.
+fn back_from(study: &Study, block: u64) -> Vec<u64> {
+    let back = study.block(block).and_then(|block| number(block, 'g'));
+    let first = back.and_then(|back| block.checked_sub(u64::from(back)));
+    [Some(block), first].into_iter().flatten().collect()
 }
 
 /// What the records of a run come to.

@@ -93,7 +93,11 @@ fn nothing_is_written_where_either_is_refused() {
         assert_eq!(names(&folder), ["model.txt", "tape.txt"]);
     }
     // nor where only the engine refuses
-    fs::write(folder.join("tape.txt"), "arrivals: 3 2\ntowing: 10000000001\n").unwrap();
+    fs::write(
+        folder.join("tape.txt"),
+        "arrivals: 3 2\ntowing: 10000000001\n",
+    )
+    .unwrap();
     let done = covrith(&["archive"], &folder);
     assert!(said(&done).contains("; question 9\n"), "{}", said(&done));
     assert_eq!(names(&folder), ["model.txt", "tape.txt"]);

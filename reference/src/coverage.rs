@@ -1,14 +1,17 @@
 //! Counts what random cases cover.
 
+mod groups;
+
 use crate::blocks::Done;
-use crate::decode::decode_model_with;
+use crate::decode::{decode_model_with, read_model};
 use crate::generate::fields::{model_fields, Role};
 use crate::generate::random::Random;
 use crate::generate::{case_with, Case, Size};
-use crate::machine::Machine;
+use crate::machine::{Machine, Transaction};
 use crate::model::Block;
 use crate::rules::{Rules, LAST_KIND};
 use crate::run::{run_watched, Outcome, Watcher};
+use groups::Groups;
 use std::collections::BTreeMap;
 
 /// What the runs of some cases met.
@@ -31,6 +34,7 @@ pub struct Coverage {
     pub clock_terms_at: [u64; SPANS],
     /// Ends 27 and 28 by how they came.
     pub stopped_holding: [u64; STOPS.len()],
+    pub groups: Groups,
     /// Accepted models of each edition.
     pub editions: [u64; 2],
     /// Term tags, status codes and relations in accepted models.
@@ -135,14 +139,16 @@ impl Watcher for Coverage {
         self.before = Some((machine.clock, moves));
     }
 
-    fn before_block(&mut self, machine: &Machine, block: u32) {
+    fn before_block(&mut self, machine: &Machine, taken: &Transaction) {
         let span = span_of(machine.rules, machine.clock);
         self.turns_at[span] += 1;
-        self.clock_terms_at[span] += u64::from(machine.model.reads_clock(block));
+        self.clock_terms_at[span] += u64::from(machine.model.reads_clock(taken.next_block));
+        self.groups.before_block(machine, taken);
     }
 
     fn after_turn(&mut self, kind: u32, done: Done) {
         *self.counts.entry((kind, column(done))).or_insert(0) += 1;
+        self.groups.after_turn(done);
     }
 
     fn at_end(&mut self, machine: &Machine, end: u32, _trace: &[u8]) {
@@ -186,6 +192,7 @@ impl Coverage {
     /// Runs a case and counts what it meets.
     pub fn run(&mut self, case: &Case, trace: &mut [u8], report: &mut [u8]) -> Outcome {
         self.before = None;
+        self.groups.start();
         let outcome = run_watched(
             self.rules,
             &case.model,
@@ -203,6 +210,10 @@ impl Coverage {
             self.turns.push(outcome.turns);
             self.count_names(&case.model);
         }
+        if outcome.refusal == 7 {
+            let model = read_model(self.rules, &case.model).expect("refused with 7");
+            self.groups.refused(&model);
+        }
         outcome
     }
 
@@ -211,6 +222,7 @@ impl Coverage {
         let model = decode_model_with(self.rules, bytes).expect("accepted");
         self.most_blocks = self.most_blocks.max(model.blocks.len());
         self.editions[model.edition as usize - 1] += 1;
+        self.groups.accepted(&model);
         for field in model_fields(self.rules, &model) {
             let value = field.value as usize;
             match field.role {
@@ -224,7 +236,7 @@ impl Coverage {
 
     /// What can be met under the rules and was not: kinds with what they come
     /// to, refusals, ends (but 26), tags, codes, relations, spans of the clock,
-    /// ways to ends 27 and 28.
+    /// ways to ends 27 and 28, ways through groups of joined waits.
     pub fn empty_cells(&self) -> Vec<String> {
         let mut empty = Vec::new();
         for kind in 1..=LAST_KIND {
@@ -265,6 +277,13 @@ impl Coverage {
         let stops = if self.rules.holders { STOPS.len() } else { 0 };
         for at in (0..stops).filter(|at| self.stopped_holding[*at] == 0) {
             empty.push(STOPS[at].to_string());
+        }
+        if self.rules.joined {
+            empty.extend(
+                Groups::cells()
+                    .into_iter()
+                    .filter(|c| self.groups.met(c) == 0),
+            );
         }
         empty
     }
@@ -313,6 +332,7 @@ impl std::fmt::Display for Coverage {
         for (name, count) in STOPS.iter().zip(self.stopped_holding) {
             writeln!(f, "{name:<28}{count}")?;
         }
+        write!(f, "{}", self.groups)?;
         writeln!(f, "editions 1, 2   {:?}", self.editions)?;
         writeln!(f, "tags 0..11      {:?}", self.tags)?;
         writeln!(f, "codes 1..6      {:?}", self.codes)?;

@@ -30,6 +30,15 @@ pub fn decode_model(bytes: &[u8]) -> Result<Model, u32> {
 
 /// Gives the model, or the number of the first question answered "no".
 pub fn decode_model_with(rules: Rules, bytes: &[u8]) -> Result<Model, u32> {
+    let model = read_model(rules, bytes)?;
+    if !well_shaped(&model) {
+        return Err(7);
+    }
+    Ok(model)
+}
+
+/// The same without question 7.
+pub fn read_model(rules: Rules, bytes: &[u8]) -> Result<Model, u32> {
     let mut source = Source { bytes, position: 0 };
     let edition = source.field(Model::FIRST_EDITION, rules.highest_edition)?;
     let facilities = source.field(0, Model::MAX_FACILITIES)?;
@@ -63,9 +72,6 @@ pub fn decode_model_with(rules: Rules, bytes: &[u8]) -> Result<Model, u32> {
     }
     if source.position < bytes.len() {
         return Err(6);
-    }
-    if !well_shaped(&model) {
-        return Err(7);
     }
     Ok(model)
 }

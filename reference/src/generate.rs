@@ -44,7 +44,7 @@ pub struct Case {
 /// How large the cases may be.
 #[derive(Clone, Copy, Debug, PartialEq, Eq)]
 pub enum Size {
-    /// At most 14 blocks and 200 turns, without exception.
+    /// At most 18 blocks and 200 turns, without exception.
     Short,
     /// The same, with a rare run to the last clock (under document 01 some 2,200 turns).
     Small,

@@ -45,6 +45,7 @@ impl Rules {
     pub const LANDED: Rules = Rules {
         wide_clocks: true,
         holders: true,
+        joined: true,
         ..Rules::BASE
     };
 

@@ -2,7 +2,7 @@
 
 use crate::blocks::Done;
 use crate::decode::decode_model_with;
-use crate::machine::Machine;
+use crate::machine::{Machine, Transaction};
 use crate::report::{write_report, REPORT_BYTES};
 use crate::rules::Rules;
 use crate::tape::decode_tape_with;
@@ -48,8 +48,8 @@ impl Outcome {
 pub trait Watcher {
     /// Before the questions before each turn, the first and the last included.
     fn before_turn(&mut self, _machine: &Machine, _trace: &[u8]) {}
-    /// In a turn, after the taking: the block that is executed next.
-    fn before_block(&mut self, _machine: &Machine, _block: u32) {}
+    /// In a turn, after the taking: who executes its next block.
+    fn before_block(&mut self, _machine: &Machine, _taken: &Transaction) {}
     /// After a turn: the kind of the block it met and what that came to.
     fn after_turn(&mut self, _kind: u32, _done: Done) {}
     /// After the last turn.
@@ -199,7 +199,7 @@ fn turn(machine: &mut Machine, rest: &mut [u8], watcher: &mut dyn Watcher) -> (u
     let number = transaction.number;
     let block = transaction.next_block;
     let kind = machine.model.block(block).kind();
-    watcher.before_block(machine, block);
+    watcher.before_block(machine, &transaction);
     let done = machine.execute(transaction);
     let outcome = match done {
         Done::Entered | Done::Finished => 0,

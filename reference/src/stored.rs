@@ -1,19 +1,23 @@
 //! The stored cases of crate `vectors` and what must come out of them: the
-//! first example, the limits of 02, item 1, the holders of 02, item 6, and random
-//! cases: each refusal, each end that a short run can meet, each kind and outcome,
-//! each list in use, 1,024 living, late clocks, facilities held.
+//! first example, the limits of 02, item 1, the holders of item 6, the joined waits
+//! of item 7, and random cases: each refusal, each end that a short run can meet, each
+//! kind and outcome, each list in use, 1,024 living, late clocks, facilities held,
+//! groups of each size.
 
+mod groups;
 mod held;
+mod joined;
 mod late;
 
 pub use held::cases as held_cases;
+pub use joined::cases as joined_cases;
 pub use late::cases as late_cases;
 
 use crate::blocks::Done;
 use crate::generate::random::Random;
 use crate::generate::{case, Case, Size};
-use crate::machine::Machine;
-use crate::model::Model;
+use crate::machine::{Machine, Transaction};
+use crate::model::{Block, Model};
 use crate::number::number_bytes;
 use crate::rules::Rules;
 use crate::run::{run, run_watched, Watcher};
@@ -88,10 +92,13 @@ impl Watcher for Features {
         self.add(machine.clock == machine.rules.max_clock(), "last clock");
     }
 
-    fn before_block(&mut self, machine: &Machine, block: u32) {
-        if machine.model.reads_clock(block) {
+    fn before_block(&mut self, machine: &Machine, taken: &Transaction) {
+        if machine.model.reads_clock(taken.next_block) {
             self.add(machine.clock > i32::MAX as u64, "clock term past 2^31");
             self.add(machine.clock > u64::from(u32::MAX), "clock term past 2^32");
+        }
+        if let Block::WaitJoined { back, .. } = machine.model.block(taken.next_block) {
+            self.0.insert(format!("group of {back}"));
         }
     }
 
@@ -128,6 +135,7 @@ pub fn cases() -> (Vec<Case>, BTreeMap<String, u32>) {
     let mut kept = vec![first_example()];
     kept.extend(late::cases().into_iter().map(|(case, _)| case));
     kept.extend(held::cases().into_iter().map(|(case, _)| case));
+    kept.extend(joined::cases().into_iter().map(|(case, _)| case));
     let mut met: BTreeMap<String, u32> = BTreeMap::new();
     let mut spare = Vec::new();
     for _ in 0..12_000 {

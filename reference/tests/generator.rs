@@ -49,7 +49,7 @@ fn small_cases_cover_refusals_ends_and_kinds() {
 fn short_cases_keep_to_200_turns() {
     let coverage = Coverage::of(Rules::LANDED, &mut Random::new(41), Size::Short, 4_000);
     assert!(coverage.turns.iter().all(|turns| *turns <= 200));
-    assert!(coverage.most_blocks <= 16);
+    assert!(coverage.most_blocks <= 18);
 }
 
 #[test]

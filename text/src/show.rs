@@ -211,6 +211,9 @@ pub fn block_text(block: &Block, names: &Names) -> String {
     let word = words::kind_of(block.kind).map_or("?", |kind| kind.word);
     match (block.kind, &o[..]) {
         (words::WAITIF_STATUS, [code, server]) => format!("{word} {server} = {code}"),
+        (words::WAITIF_JOINED, [code, server, back]) => {
+            format!("{word} {server} = {code}, {back}")
+        }
         (words::WAITIF_COMPARISON, [a, r, b]) => format!("{word} {a} {r} {b}"),
         (words::IF, [a, r, b, target]) => format!("{word} {a} {r} {b}, {target}"),
         (words::LET, [k, term]) => format!("{word} p{k} = {term}"),

@@ -42,6 +42,7 @@ pub const KINDS: &[Kind] = &[
     kind(SPLIT, "SPLIT", "nb", None),
     kind(15, "ARRIVE", "q", None),
     kind(16, "DEPART", "q", None),
+    kind(WAITIF_JOINED, "WAITIF", "cvg", None),
 ];
 
 /// Kinds that are asked for by name.
@@ -56,6 +57,7 @@ pub const IF: u32 = 10;
 pub const GOTO: u32 = 11;
 pub const LET: u32 = 12;
 pub const SPLIT: u32 = 14;
+pub const WAITIF_JOINED: u32 = 17;
 
 /// The kind with this number.
 pub fn kind_of(number: u32) -> Option<&'static Kind> {
@@ -84,6 +86,7 @@ pub const NUMBERS: &[Number] = &[
     number('y', 0, 127, "a priority"),
     number('p', 1, 4, "a parameter"),
     number('n', 1, 255, "the number of copies"),
+    number('g', 1, 7, "how many blocks it goes back"),
 ];
 
 /// The plain number behind a letter.

@@ -58,6 +58,7 @@ COUNTER 10
 in      WAITIF v$notok > 0
         WAITIF tug = U
         WAITIF berth=NF
+        WAITIF storm = u, 2
         IF p1 <> -3, out
         LET p4 = s$yard
         SPLIT 2, in
@@ -77,6 +78,7 @@ out     PRIORITY 127
         "{shown}"
     );
     assert!(shown.contains("WAITIF s1 = NF"), "{shown}");
+    assert!(shown.contains("WAITIF f2 = U, 2"), "{shown}");
 }
 
 #[test]
@@ -243,6 +245,8 @@ fn what_to_write_instead() {
         ("IF p1 + 1 > 3, x", "6:8: IF takes one term here and not a sum, which only a VALUE has\n    declare VALUE result = p1 + 1, and write v$result in place of p1 + 1"),
         ("WAITIF room = 1", "6:9: `room` is no term\n    write s$room for its units in use, r$room for its free ones"),
         ("WAITIF room = U", "6:9: `room` is a storage, which has no such code\n    the codes of a storage are E empty, NE not empty, F full, NF not full"),
+        ("WAITIF f = U, x", "6:16: how many blocks it goes back is a number\n    write a whole number without a sign"),
+        ("WAITIF f$f = 1, 1", "6:16: only a WAITIF on a server is joined with waits before it\n    write WAITIF server = code, number"),
         ("advance SEIZE f", "6:2: `advance` begins a statement and cannot be a label\n    choose another word, as `advance1`"),
         ("queue TERMINATE", "6:2: `queue` begins a statement and cannot be a label\n    choose another word, as `queue1`"),
         ("GOTO ax", "6:7: there is no label `ax`\n    did you mean `x`?"),

@@ -85,7 +85,7 @@ numbered! {
         4 ModelRange "a number of the model is outside its field's range",
         5 ValueLimit "a value passes 64 numbers, four open brackets or two mentions of values",
         6 AfterModel "bytes follow the model",
-        7 BlockOrder "a GENERATE is out of place or named by a target, the last block is neither TERMINATE nor GOTO, or a value names a block that does not exist",
+        7 BlockOrder "a GENERATE is out of place or named by a target, the last block is neither TERMINATE nor GOTO, a value names a block that does not exist, or a group of joined waits is broken",
         8 TapeNumber "a number of the tape is not whole, not in its shortest form or not in size",
         9 TapeRange "a number of the tape is outside its field's range",
         10 AfterTape "bytes follow the tape",

@@ -34,7 +34,7 @@ fn columns(args: &Args, _: &mut dyn Write) -> Done<()> {
         false => (to_columns, given.len() + 4),
     };
     let mut bytes = vec![0; room];
-    let length = turn(&given, &mut bytes)
-        .map_err(|refusal| Failure::new(format!("{from}: {refusal}")))?;
+    let length =
+        turn(&given, &mut bytes).map_err(|refusal| Failure::new(format!("{from}: {refusal}")))?;
     files::write_all(&[(PathBuf::from(to), &bytes[..length])], Sync::Yes)
 }

@@ -9,6 +9,7 @@ use crate::table::Table;
 use crate::walk::{Birth, Births};
 use crate::words;
 use engine::{Record, Run};
+use modeltext::words::{WAITIF_JOINED, WAITIF_STATUS};
 use std::io::Write;
 use std::path::Path;
 
@@ -69,7 +70,7 @@ pub fn life(study: &Study, run: &Run, number: u64) -> Vec<String> {
             record.clock.to_string(),
             record.block.to_string(),
             study.statement(record.block),
-            outcome(&record, last.as_ref()),
+            outcome(study, &record, last.as_ref()),
         ]);
         last = Some(record);
     }
@@ -114,18 +115,23 @@ fn born(birth: Option<Birth>) -> String {
     }
 }
 
-fn outcome(record: &Record, last: Option<&Record>) -> String {
+/// What a record tells, with the wait before it. Server waits go on to the next block, or are joined and send back.
+fn outcome(study: &Study, record: &Record, last: Option<&Record>) -> String {
     let words = words::outcome_of(record.outcome);
-    match last {
-        Some(last) if !last.entered() => {
-            let ticks = record.clock - last.clock;
-            let ticks = if ticks == 1 {
-                "1 tick".to_string()
-            } else {
-                format!("{ticks} ticks")
-            };
-            format!("{words} after {ticks}")
-        }
-        _ => words.to_string(),
+    let Some(last) = last else {
+        return words.to_string();
+    };
+    let kind = study.block(last.block).map_or(0, |block| block.kind);
+    let waits = [WAITIF_STATUS, WAITIF_JOINED].contains(&kind);
+    let back = waits && record.block < last.block;
+    let ticks = match record.clock - last.clock {
+        1 => "1 tick".to_string(),
+        ticks => format!("{ticks} ticks"),
+    };
+    match (back, last.entered()) {
+        (false, true) => words.to_string(),
+        (false, false) => format!("{words} after {ticks}"),
+        (true, true) => format!("went back, {words}"),
+        (true, false) => format!("went back after {ticks}, {words}"),
     }
 }

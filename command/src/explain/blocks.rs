@@ -1,10 +1,10 @@
-//! Questions 3, 4 and 7: the blocks.
+//! Questions 3 and 4: the blocks.
 
 use super::asker::{range_words, Answer, Asker};
 use super::model::{Head, Shape};
-use super::{Item, Words};
+use super::Words;
 use crate::limits;
-use modeltext::words::{self, GENERATE, GOTO, TERMINATE};
+use modeltext::words;
 
 /// What the operands before one say of it.
 #[derive(Default)]
@@ -33,6 +33,9 @@ pub fn block(asker: &mut Asker, head: &Head, number: u64, shape: &mut Shape) -> 
         let n = operand(asker, head, kind.word, letter, &mut before)?;
         if letter == 'b' {
             shape.targets.push((number, n, asker.place()));
+        }
+        if letter == 'g' {
+            shape.groups.push((number, n, asker.place()));
         }
     }
     Ok(())
@@ -149,48 +152,4 @@ pub fn term_words(head: &Head, who: &str, of: char, n: u64) -> Words {
         ),
         letter => head.nothing(who, letter, n),
     }
-}
-
-/// Question 7.
-pub fn shape(asker: &mut Asker, head: &Head, shape: &Shape) -> Answer<()> {
-    let ends =
-        |kind: Option<&u64>| kind.is_some_and(|kind| [TERMINATE, GOTO].contains(&(*kind as u32)));
-    let generate = |kind: Option<&u64>| kind == Some(&u64::from(GENERATE));
-    for (i, kind) in shape.kinds.iter().enumerate() {
-        if generate(Some(kind)) && i > 0 && !ends(shape.kinds.get(i - 1)) {
-            let words = (
-                "GENERATE must be the first block or follow TERMINATE or GOTO".to_string(),
-                "end the segment before it with TERMINATE or GOTO, or move it to the front"
-                    .to_string(),
-            );
-            let (byte, number) = shape.places[i];
-            asker.found_at(7, Item::Block(i as u64 + 1), byte, number, None, words)?;
-        }
-    }
-    for &(block, target, (byte, number)) in &shape.targets {
-        if generate(shape.kinds.get((target as usize).wrapping_sub(1))) {
-            let name = head.thing('b', target);
-            let words = (
-                format!("a target names {name}, a GENERATE, which only its own arrivals enter"),
-                "name the block behind the GENERATE".to_string(),
-            );
-            asker.found_at(7, Item::Block(block), byte, number, None, words)?;
-        }
-    }
-    if !ends(shape.kinds.last()) {
-        let (byte, number) = shape.places.last().copied().unwrap_or_default();
-        let words = (
-            "the last block must be TERMINATE or GOTO".to_string(),
-            "end the model with TERMINATE 1, or with GOTO and a label".to_string(),
-        );
-        asker.found_at(7, Item::Block(head.blocks), byte, number, None, words)?;
-    }
-    for &(value, block, (byte, number)) in &shape.named {
-        if block > head.blocks {
-            let who = head.thing('w', value);
-            let words = head.nothing(&who, 'b', block);
-            asker.found_at(7, Item::Value(value), byte, number, None, words)?;
-        }
-    }
-    Ok(())
 }

@@ -94,6 +94,8 @@ pub struct Shape {
     pub places: Vec<(usize, usize)>,
     /// The block that has a target, the target and where it stands.
     pub targets: Vec<(u64, u64, (usize, usize))>,
+    /// Joined waits: the block, how many it goes back, and where that stands.
+    pub groups: Vec<(u64, u64, (usize, usize))>,
     /// Values that name blocks: the value, the block and where it stands.
     pub named: Vec<(u64, u64, (usize, usize))>,
 }
@@ -169,7 +171,7 @@ fn questions(asker: &mut Asker, source: Option<&Source>, lists: &mut Option<u64>
             "write the file anew from its text, or correct the count of blocks".to_string();
         asker.found_at(6, Item::Rest, byte, number, None, (rule, remedy))?;
     }
-    super::blocks::shape(asker, &head, &shape)
+    super::shape::shape(asker, &head, &shape)
 }
 
 /// A count of things that are declared, from 0 on.

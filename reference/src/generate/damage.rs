@@ -260,7 +260,7 @@ fn mentions(random: &mut Random, lower: u32, count: u32) -> Sum {
 /// Question 7: a block where it may not stand, or a name of none.
 pub fn break_shape(rules: Rules, random: &mut Random, model: &mut Model) {
     if rules.joined && random.one_in(3) {
-        break_group(random, model);
+        super::joined::break_group(random, model);
         return;
     }
     let count = model.blocks.len() as u32;
@@ -326,65 +326,6 @@ pub fn break_shape(rules: Rules, random: &mut Random, model: &mut Model) {
         _ => {
             if count < Model::MAX_BLOCKS {
                 model.blocks.insert(at, generate);
-            }
-        }
-    }
-}
-
-/// A group of joined waits (02, item 7) with something wrong, or nearly so.
-fn break_group(random: &mut Random, model: &mut Model) {
-    let joined = |block: &Block| matches!(block, Block::WaitJoined { .. });
-    let Some(at) = model.blocks.iter().position(joined) else {
-        // One where there is no group.
-        model.facilities = model.facilities.max(1);
-        let at = random.below(model.blocks.len() as u64) as usize;
-        model.blocks[at] = Block::WaitJoined {
-            code: 1,
-            server: 1,
-            back: random.number(1, Model::MAX_BACK),
-        };
-        return;
-    };
-    let number = at as u32 + 1;
-    let Block::WaitJoined { code, server, back } = model.blocks[at] else {
-        return;
-    };
-    let first = number - back.min(number - 1);
-    match random.below(5) {
-        0 => {
-            // A target into the group, to its first block at times.
-            let target = random.number(first, number);
-            if let Some(block) = model.blocks.iter_mut().find(|b| b.target().is_some()) {
-                if let Block::If { target: t, .. }
-                | Block::Goto { target: t }
-                | Block::Split { target: t, .. } = block
-                {
-                    *t = target;
-                }
-            }
-        }
-        1 => {
-            // Another kind inside.
-            let inside = random.number(first, number - 1) as usize - 1;
-            model.blocks[inside] = Block::Priority { priority: 1 };
-        }
-        2 => {
-            // A joined wait inside.
-            let inside = random.number(first, number - 1) as usize - 1;
-            model.blocks[inside] = Block::WaitJoined {
-                code,
-                server,
-                back: 1,
-            };
-        }
-        3 => {
-            let back = random.number(1, Model::MAX_BACK);
-            model.blocks[at] = Block::WaitJoined { code, server, back };
-        }
-        _ => {
-            // A copy right behind it: its group holds a kind 17.
-            if model.blocks.len() < Model::MAX_BLOCKS as usize {
-                model.blocks.insert(at, model.blocks[at].clone());
             }
         }
     }

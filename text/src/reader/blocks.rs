@@ -37,16 +37,24 @@ impl<'a> Reader<'a> {
         let Some(kind) = kind else {
             return Ok(no_block());
         };
+        let mut number = kind.number;
         let operands = match kind.number {
-            words::WAITIF_STATUS => self.wait_for_status()?,
-            words::WAITIF_COMPARISON => self.comparison()?,
+            words::WAITIF_STATUS => {
+                let mut operands = self.wait_for_status()?;
+                if self.take(",") {
+                    number = words::WAITIF_JOINED;
+                    operands.push(self.operand('g')?);
+                }
+                operands
+            }
+            words::WAITIF_COMPARISON => self.wait_for_comparison()?,
             words::IF => self.if_operands()?,
             words::LET => self.let_operands()?,
             _ => self.operands(kind)?,
         };
         self.end()?;
         Ok(Block {
-            kind: kind.number,
+            kind: number,
             operands,
         })
     }
@@ -81,6 +89,18 @@ impl<'a> Reader<'a> {
         let from = self.at;
         operands.push(self.operand('t')?);
         self.no_sum(from)?;
+        Ok(operands)
+    }
+
+    /// `WAITIF term relation term`.
+    fn wait_for_comparison(&mut self) -> Result<Vec<Operand>, Fault> {
+        let operands = self.comparison()?;
+        if self.is(",") {
+            return Err(self.fault(
+                "only a WAITIF on a server is joined with waits before it",
+                "write WAITIF server = code, number",
+            ));
+        }
         Ok(operands)
     }
 
@@ -120,7 +140,7 @@ impl<'a> Reader<'a> {
         Some((server, code as u32 + 1))
     }
 
-    /// `WAITIF server = code`.
+    /// `server = code` of a WAITIF.
     fn wait_for_status(&mut self) -> Result<Vec<Operand>, Fault> {
         let code = self.status().map_or(0, |(_, code)| code);
         let facility = words::code_of(code).is_some_and(|c| c.facility);
