@@ -364,7 +364,7 @@ fn claims_hold_with_preempting() {
 
 #[test]
 fn cases_with_preempting_cover_it() {
-    let coverage = Coverage::of(Rules::ALL, &mut Random::new(143), Size::Small, 8_000);
+    let coverage = Coverage::of(Rules::ALL, &mut Random::new(143), Size::Small, 12_000);
     assert_eq!(coverage.empty_cells(), [""; 0]);
     let mut random = Random::new(145);
     let mut coverage = Coverage::default();
