@@ -21,6 +21,7 @@ use std::sync::mpsc;
 use std::time::{Duration, Instant};
 
 pub use archive::archive;
+pub use tape::list as drawn_list;
 pub use verify::{verify_folder, Verdict};
 
 /// A command: its name, the words behind it, what it does in a line, its help and its options.
