@@ -95,3 +95,13 @@ pub fn outcome_of(outcome: u64) -> &'static str {
         _ => "began to wait",
     }
 }
+
+/// An outcome, and how long a wait took that began at this clock.
+pub fn outcome_after(record: &engine::Record, began: Option<u64>) -> String {
+    let words = outcome_of(record.outcome);
+    match began.map(|began| record.clock - began) {
+        None => words.to_string(),
+        Some(1) => format!("{words} after 1 tick"),
+        Some(ticks) => format!("{words} after {ticks} ticks"),
+    }
+}

@@ -65,11 +65,12 @@ pub fn life(study: &Study, run: &Run, number: u64) -> Vec<String> {
         if record.transaction != number {
             continue;
         }
+        let began = last.filter(|last| !last.entered()).map(|last| last.clock);
         table.row(vec![
             record.clock.to_string(),
             record.block.to_string(),
             study.statement(record.block),
-            outcome(&record, last.as_ref()),
+            words::outcome_after(&record, began),
         ]);
         last = Some(record);
     }
@@ -111,21 +112,5 @@ fn born(birth: Option<Birth>) -> String {
             )
         }
         None => "of unknown making".to_string(),
-    }
-}
-
-fn outcome(record: &Record, last: Option<&Record>) -> String {
-    let words = words::outcome_of(record.outcome);
-    match last {
-        Some(last) if !last.entered() => {
-            let ticks = record.clock - last.clock;
-            let ticks = if ticks == 1 {
-                "1 tick".to_string()
-            } else {
-                format!("{ticks} ticks")
-            };
-            format!("{words} after {ticks}")
-        }
-        _ => words.to_string(),
     }
 }
