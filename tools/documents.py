@@ -61,3 +61,17 @@ def fences(text):
 
 def number(cell):
     return int(cell.replace(",", ""))
+
+
+WORDS = ["none", "one", "two", "three", "four", "five", "six", "seven", "eight", "nine", "ten"]
+
+
+def prose(path):
+    """a page without its fenced blocks"""
+    return re.sub(r"^```.*?^```$", "", path.read_text(), flags=re.M | re.S)
+
+
+def says(path, *phrases):
+    page = " ".join(path.read_text().split())
+    for phrase in phrases:
+        check(phrase in page, f"{path.relative_to(root)} does not say: {phrase}")

@@ -21,6 +21,7 @@ use std::sync::mpsc;
 use std::time::{Duration, Instant};
 
 pub use archive::archive;
+pub use tape::list as drawn_list;
 pub use verify::{verify_folder, Verdict};
 
 /// A command: its name, the words behind it, what it does in a line, its help and its options.
@@ -60,10 +61,10 @@ pub fn kit_version() -> &'static str {
 /// Options of the commands that run a model.
 const LENT: &[&str] = &["--budget", "--trace-bytes"];
 
-const LENT_HELP: &str = "\
-  --budget N        at most N turns (without it as many as a run can have)
-  --trace-bytes N   room for N bytes of trace (without it as many as a run can write)
-";
+const LENT_HELP: &str = concat!(
+    "  --budget N        at most N turns (without it as many as a run can have)\n",
+    "  --trace-bytes N   room for N bytes of trace (without it as many as a run can write)\n",
+);
 
 fn help() -> String {
     let mut text = String::from(
@@ -78,7 +79,7 @@ fn help() -> String {
   covrith COMMAND --help                     more of one command
   covrith --version                          versions of the engine and of the kit that proved it
 
-A FOLDER has a model and a tape: model.txt and tape.txt (docs/TEXT.md), or model.bin and tape.bin, or both.
+A FOLDER has a model and a tape, each as text (model.txt, tape.txt; docs/TEXT.md), as bytes (model.bin, tape.bin) or both.
 Exit status: 0 success; 1 refused, stopped, differs or cannot be done; 2 wrong usage. Errors go to standard error.
 ",
     );

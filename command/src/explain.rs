@@ -1,8 +1,9 @@
-//! Why a model or a tape is refused, and where: the questions 3 to 10 asked once more of the bytes, in words. The number that is
-//! told is the engine's; tests hold these findings to it.
+//! Why a model, a tape or a distribution is refused, and where: the questions 3 to 10 asked once more of the bytes, in words, and 42
+//! of a text. The number that is told is the engine's; tests hold these findings to it.
 
 mod asker;
 mod blocks;
+mod distribution;
 mod model;
 mod shape;
 mod tape;
@@ -10,6 +11,7 @@ mod values;
 
 use modeltext::Position;
 
+pub use distribution::distribution;
 pub use model::model;
 pub use tape::tape;
 

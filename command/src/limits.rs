@@ -1,4 +1,4 @@
-//! The limits of document 01, by name, with those of document 02, item 1.
+//! The limits of document 01, by name, with those of document 02, items 1 and 4.
 
 pub const EDITIONS: (u64, u64) = (1, 1);
 pub const FACILITIES: u64 = 32;
@@ -23,6 +23,15 @@ pub const TIME: u64 = 10_000_000_000;
 pub const MODEL_NUMBER: u64 = 4_294_967_295;
 pub const TAPE_NUMBER: u64 = 34_359_738_367;
 pub const NUMBER_BYTES: usize = 5;
+
+/// Of a distribution: counts, times and means, the parts of one that times and u are multiples of, and points of a curve.
+pub const DRAWN_TIMES: u64 = 65_535;
+pub const DRAWN_TIME: u64 = 1_000_000;
+pub const DRAWN_MEAN: u64 = 500_000;
+pub const TIME_PARTS: u64 = 64;
+pub const DRAW_PARTS: u64 = 65_536;
+pub const FEWEST_POINTS: u64 = 2;
+pub const MOST_POINTS: u64 = 24;
 
 /// The most turns of a run (end 26), and the most bytes of a record (end 4).
 pub const TURNS: u64 = 100_000_000;

@@ -151,6 +151,31 @@ fn tape_file(side: &Side) -> TapeFile {
     side.pick(TapeFile::text, TapeFile::bytes, |file| &file.bytes)
 }
 
+/// What is to be said of an archive whose text gives other bytes than those that were archived.
+pub fn other_text(folder: &Path) -> Vec<String> {
+    let mut notes = Vec::new();
+    for name in ["model", "tape"] {
+        let Ok(side) = side(folder, name) else {
+            continue;
+        };
+        let (Some(text), Some(bytes)) = (&side.text, &side.bytes) else {
+            continue;
+        };
+        let of_text = match name {
+            "model" => ModelFile::text("", text).bytes,
+            _ => TapeFile::text("", text).bytes,
+        };
+        if of_text != *bytes {
+            notes.push(format!(
+                "{} says something else than {}, which was archived",
+                side.text_path.display(),
+                side.bytes_path.display()
+            ));
+        }
+    }
+    notes
+}
+
 /// Loads a folder; notes for standard error are added to `notes`.
 pub fn load(folder: &Path, notes: &mut Vec<String>) -> Done<Study> {
     if !folder.is_dir() {

@@ -95,3 +95,19 @@ pub fn outcome_of(outcome: u64) -> &'static str {
         _ => "began to wait",
     }
 }
+
+/// An outcome, and how long a wait took that began at this clock.
+pub fn outcome_after(record: &engine::Record, began: Option<u64>) -> String {
+    let words = outcome_of(record.outcome);
+    match began {
+        None => words.to_string(),
+        Some(began) => format!("{words} after {}", ticks(record.clock - began)),
+    }
+}
+
+pub fn ticks(count: u64) -> String {
+    match count {
+        1 => "1 tick".to_string(),
+        _ => format!("{count} ticks"),
+    }
+}

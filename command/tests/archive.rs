@@ -4,7 +4,7 @@ use command::commands::{archive, verify_folder, Verdict};
 use command::execute::Lent;
 use command::files::Sync;
 use command::page::{FILES, PAGE};
-use command::study::Study;
+use command::study::{other_text, Study};
 use reference::generate::random::Random;
 use reference::generate::{case, Size};
 use std::fs;
@@ -74,6 +74,29 @@ fn any_change_of_any_file_is_noticed() {
         write(&path, &bytes);
         assert_eq!(verify_folder(&folder), Verdict::Same);
     }
+}
+
+/// Text is no part of an archive: what says something else than the archived bytes is told.
+#[test]
+fn changed_text_is_told() {
+    let folder = scratch("text");
+    put(&folder, &MODEL, &TAPE, Lent::usual(None, None));
+    assert!(other_text(&folder).is_empty());
+    let text = modeltext::model_text(&MODEL).unwrap();
+    write(&folder.join("model.txt"), text.as_bytes());
+    write(&folder.join("tape.txt"), b"l1: 3 2\nl2: 5 4\n");
+    assert!(other_text(&folder).is_empty());
+    let other = text.replace("COUNTER 2", "COUNTER 1");
+    write(&folder.join("model.txt"), other.as_bytes());
+    write(&folder.join("tape.txt"), b"l1: 3 2\nl2: 5\n");
+    let notes = other_text(&folder);
+    assert_eq!(notes.len(), 2);
+    assert!(
+        notes[0].ends_with("model.bin, which was archived"),
+        "{}",
+        notes[0]
+    );
+    assert_eq!(verify_folder(&folder), Verdict::Same);
 }
 
 #[test]

@@ -168,3 +168,75 @@ fn what_is_told_has_the_engines_number() {
         }
     }
 }
+
+/// Distributions: a list is explained exactly if the engine refuses it alone.
+#[test]
+fn distributions() {
+    const TIMES: &[f64] = &[
+        0.0,
+        1.0,
+        7.0,
+        12.5,
+        12.3,
+        64.015625,
+        500_000.0,
+        500_000.5,
+        1_000_000.0,
+        1_000_000.5,
+    ];
+    const US: &[f64] = &[0.0, 0.25, 0.5, 0.75, 0.9, 1.0, 1.0 / 65_536.0, 1.5];
+    const COUNTS: &[u32] = &[0, 2, 65_535, 65_536, u32::MAX];
+    let mut random = Random::new(42);
+    let mut met = BTreeMap::new();
+    for k in 0..20 * cases() {
+        let form = match k % 3 {
+            0 => format!("fixed {}", random.pick(TIMES)),
+            1 => format!("spread {} +- {}", random.pick(TIMES), random.pick(TIMES)),
+            _ => {
+                let count = *random.pick(&[0, 1, 2, 3, 5, 22, 24]);
+                let mut pick =
+                    |from: &[f64]| -> Vec<f64> { (0..count).map(|_| *random.pick(from)).collect() };
+                let (mut us, mut times) = (pick(US), pick(TIMES));
+                if random.percent(80) {
+                    us.sort_by(f64::total_cmp);
+                    us.dedup();
+                    us.extend((us.len() < 24).then_some(1.0));
+                    us.insert(0, 0.0);
+                    us.dedup();
+                    times.sort_by(f64::total_cmp);
+                    times.resize(us.len(), *random.pick(TIMES));
+                }
+                let points = us.iter().zip(&times).map(|(u, t)| format!(" {u}:{t}"));
+                format!("curve{}", points.collect::<String>())
+            }
+        };
+        let count = if k % 5 == 0 { *random.pick(COUNTS) } else { 2 };
+        let text = format!("l: {form}, {count} times");
+        let list = &modeltext::distribution::read(&text).unwrap()[0];
+        let told = explain::distribution(list);
+        let refused = engine::make_tape(0, &[command::commands::drawn_list(list)]).is_err();
+        assert_eq!(told.is_some(), refused, "{text}: {told:?}");
+        let rule = told.map_or("taken", |fault| {
+            let known = RULES.iter().find(|rule| fault.what.contains(**rule));
+            known.unwrap_or_else(|| panic!("{fault}"))
+        });
+        *met.entry(rule).or_insert(0) += 1;
+    }
+    assert_eq!(met.len(), RULES.len() + 1, "{met:?}");
+}
+
+/// What a message says of each rule of a distribution.
+const RULES: &[&str] = &[
+    "a list has at most",
+    "a time of a distribution is at most",
+    "a time of a distribution is a multiple",
+    "u of a distribution is at most",
+    "u of a distribution is a multiple",
+    "the mean of a spread",
+    "is more than the mean",
+    "a curve has 2 to 24 points",
+    "a curve begins",
+    "u rises",
+    "times never fall",
+    "a curve ends",
+];

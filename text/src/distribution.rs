@@ -17,7 +17,10 @@ pub struct Drawn {
     pub name: String,
     pub at: Position,
     pub form: Form,
+    /// Where each number of the distribution stands, in the order of the text.
+    pub places: Vec<Position>,
     pub count: u32,
+    pub count_at: Position,
 }
 
 /// A word and where it begins.
@@ -136,24 +139,32 @@ fn drawn(entry: Entry) -> Result<Drawn, Fault> {
     let Some(comma) = words.iter().position(|(_, word)| *word == ",") else {
         return Err(Fault::at(end, "the count of times is missing", COUNT));
     };
-    let count = match words[comma + 1..] {
-        [(at, count), (_, "times" | "time")] => count
-            .parse()
-            .map_err(|_| Fault::at(at, format!("`{count}` is no count"), COUNT))?,
+    let (count, count_at) = match words[comma + 1..] {
+        [(at, count), (_, "times" | "time")] => {
+            let wrong = |_| Fault::at(at, format!("`{count}` is no count"), COUNT);
+            (count.parse().map_err(wrong)?, at)
+        }
         _ => {
             let at = words.get(comma + 1).map_or(end, |word| word.0);
             return Err(Fault::at(at, "the count of times is expected", COUNT));
         }
     };
+    let mut places = Vec::new();
+    let mut number = |word: Word| {
+        places.push(word.0);
+        decimal(word)
+    };
     let form = match words[..comma] {
-        [(_, "fixed"), time] => Form::Fixed(decimal(time)?),
-        [(_, "spread"), mean, (_, "+-"), half] => Form::Spread(decimal(mean)?, decimal(half)?),
-        [(_, "curve"), ref points @ ..] => Form::Curve(
-            points
-                .iter()
-                .map(|point| pair(*point))
-                .collect::<Result<_, _>>()?,
-        ),
+        [(_, "fixed"), time] => Form::Fixed(number(time)?),
+        [(_, "spread"), mean, (_, "+-"), half] => Form::Spread(number(mean)?, number(half)?),
+        [(_, "curve"), ref points @ ..] => {
+            let mut curve = Vec::new();
+            for point in points {
+                let (u, time) = pair(*point)?;
+                curve.push((number(u)?, number(time)?));
+            }
+            Form::Curve(curve)
+        }
         _ => {
             let at = words.first().map_or(end, |word| word.0);
             return Err(Fault::at(at, "a distribution is expected", FORMS));
@@ -163,7 +174,9 @@ fn drawn(entry: Entry) -> Result<Drawn, Fault> {
         name: name.to_string(),
         at,
         form,
+        places,
         count,
+        count_at,
     })
 }
 
@@ -208,7 +221,8 @@ fn decimal((at, word): Word) -> Result<f64, Fault> {
     }
 }
 
-fn pair((at, word): Word) -> Result<(f64, f64), Fault> {
+/// u and time of a point.
+fn pair<'a>((at, word): Word<'a>) -> Result<(Word<'a>, Word<'a>), Fault> {
     let Some((u, time)) = word.split_once(':') else {
         return Err(Fault::at(
             at,
@@ -220,5 +234,5 @@ fn pair((at, word): Word) -> Result<(f64, f64), Fault> {
         column: at.column + u.chars().count() as u32 + 1,
         ..at
     };
-    Ok((decimal((at, u))?, decimal((behind, time))?))
+    Ok(((at, u), (behind, time)))
 }

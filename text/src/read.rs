@@ -83,6 +83,14 @@ impl<'a> Gathering<'a> {
             }
             tokens.remove(0);
             keyword = second.unwrap_or_default();
+        } else if let Some(block) = behind_colon(&tokens) {
+            self.count_lost_block(text, line);
+            let remedy = format!("write `{keyword} {block}`, with a space between them");
+            return Err(Fault::at(
+                tokens[1].at,
+                "a label has no `:` behind it",
+                remedy,
+            ));
         } else {
             return Err(self.no_statement(&keyword, second.as_deref(), at, text, line));
         }
@@ -293,6 +301,13 @@ pub(crate) fn plain(word: &Word) -> Option<String> {
         Word::Name(s) => Some(s.clone()),
         _ => None,
     }
+}
+
+/// The block behind a word and a colon.
+fn behind_colon(tokens: &[Token]) -> Option<String> {
+    let colon = matches!(tokens.get(1)?.word, Word::Sign(":"));
+    let block = plain(&tokens.get(2)?.word)?;
+    (colon && words::is_block(&block)).then_some(block)
 }
 
 /// Whether a line that begins with a reserved word and a block has that word as a label: an operand follows the block, or the line

@@ -142,8 +142,9 @@ impl<'a> Reader<'a> {
         let thing = words::thing(letter);
         if let Some(Word::Number(n)) = self.word() {
             if letter == 'l' {
+                let ticks = if *n == 1 { "tick" } else { "ticks" };
                 return Err(self.fault(
-                    format!("{n} would be list {n} here and not {n} ticks"),
+                    format!("{n} would be list {n} here and not {n} {ticks}"),
                     format!("name a list: LIST times, {} times, and on the tape `times: 100*{n}` for a hundred times of {n}", self.keyword),
                 ));
             }
@@ -160,18 +161,30 @@ impl<'a> Reader<'a> {
             .of(letter)
             .iter()
             .map(|named| named.name.as_str());
-        let remedy = match (words::nearest(&name, names), letter) {
-            (Some(meant), _) => format!("did you mean `{meant}`?"),
-            (None, 'b') => format!("write `{name}` before the block that is meant"),
-            (None, 's') => format!("declare it: STORAGE {name} = capacity"),
-            (None, 'w') => format!("declare it: VALUE {name} = sum"),
+        let meant = words::nearest(&name, names).map(|meant| format!("did you mean `{meant}`?"));
+        let remedy = self.other(&name).or(meant).unwrap_or_else(|| match letter {
+            'b' => format!("write `{name}` before the block that is meant"),
+            's' => format!("declare it: STORAGE {name} = capacity"),
+            'w' => format!("declare it: VALUE {name} = sum"),
             _ => format!("declare it: {} {name}", thing.to_uppercase()),
-        };
+        });
         Err(Fault::at(
             at,
             format!("there is no {thing} `{name}`"),
             remedy,
         ))
+    }
+
+    /// A name of another thing than is wanted here.
+    fn other(&self, name: &str) -> Option<String> {
+        let is = |letter: &char| self.names.find(*letter, name).is_some();
+        let other = ['f', 's', 'q', 'l', 'w'].into_iter().find(is)?;
+        let blocks = match (self.keyword, other) {
+            ("SEIZE" | "RELEASE", 's') => ", and ENTER and LEAVE are for storages",
+            ("ENTER" | "LEAVE", 'f') => ", and SEIZE and RELEASE are for facilities",
+            _ => "",
+        };
+        Some(format!("`{name}` is a {}{blocks}", words::thing(other)))
     }
 
     fn relation(&mut self) -> Result<u32, Fault> {

@@ -162,19 +162,27 @@ impl Mismatch {
 
 /// Holds the names of a tape's lists to those of the model: each once, in the model's order.
 pub fn against(tape: &Tape, lists: &[Named]) -> Vec<Mismatch> {
+    let given: Vec<(&str, Position)> = tape.lists.iter().map(|l| (&l.name[..], l.at)).collect();
+    let add = |name: &str| format!("`{name}: times` (`{name}:` alone is an empty list)");
+    names_against(&given, tape.last, lists, add)
+}
+
+/// The same for names, where they stand and where the text ends; `add` is the line of a list that is missing.
+pub fn names_against(
+    given: &[(&str, Position)],
+    last: Position,
+    lists: &[Named],
+    add: impl Fn(&str) -> String,
+) -> Vec<Mismatch> {
     let same = |a: &str, b: &str| a.eq_ignore_ascii_case(b);
     let names = || lists.iter().map(|named| named.name.as_str());
     let wanted = names().collect::<Vec<_>>().join(", ");
     let mut found = Vec::new();
     let mut known = Vec::new();
-    for (i, list) in tape.lists.iter().enumerate() {
-        let name = &list.name;
-        if tape.lists[..i]
-            .iter()
-            .any(|before| same(&before.name, name))
-        {
+    for (i, &(name, at)) in given.iter().enumerate() {
+        if given[..i].iter().any(|(before, _)| same(before, name)) {
             found.push(Mismatch::Twice(Fault::at(
-                list.at,
+                at,
                 format!("the list `{name}` stands twice on the tape"),
                 "a list goes on in a line without a name; take the second name away or give it its own",
             )));
@@ -188,32 +196,30 @@ pub fn against(tape: &Tape, lists: &[Named]) -> Vec<Mismatch> {
                 }
             };
             let what = format!("the model has no list `{name}`");
-            found.push(Mismatch::Extra(Fault::at(list.at, what, remedy)));
+            found.push(Mismatch::Extra(Fault::at(at, what, remedy)));
         } else {
-            known.push(list);
+            known.push((name, at));
         }
     }
     let mut missing = false;
     for named in lists {
         let name = &named.name;
-        if !known.iter().any(|list| same(&list.name, name)) {
+        if !known.iter().any(|(one, _)| same(one, name)) {
             missing = true;
             let what = format!("the list `{name}` is missing on the tape");
-            let remedy = format!("add a line `{name}: times` (`{name}:` alone is an empty list); the model has {wanted}, in this order");
-            found.push(Mismatch::Missing(Fault::at(tape.last, what, remedy)));
+            let remedy = format!(
+                "add a line {}; the model has {wanted}, in this order",
+                add(name)
+            );
+            found.push(Mismatch::Missing(Fault::at(last, what, remedy)));
         }
     }
-    let in_order = known
-        .iter()
-        .zip(names())
-        .find(|(list, n)| !same(&list.name, n));
-    if let (false, Some((list, name))) = (missing, in_order) {
-        let what = format!(
-            "the list `{}` stands where the model has `{name}`",
-            list.name
-        );
+    let mut pairs = known.into_iter().zip(names());
+    let out_of_order = pairs.find(|((one, _), name)| !same(one, name));
+    if let (false, Some(((one, at), name))) = (missing, out_of_order) {
+        let what = format!("the list `{one}` stands where the model has `{name}`");
         let remedy = format!("write the lists in the model's order: {wanted}");
-        found.push(Mismatch::Order(Fault::at(list.at, what, remedy)));
+        found.push(Mismatch::Order(Fault::at(at, what, remedy)));
     }
     found.sort_by_key(|mismatch| mismatch.fault().at);
     found

@@ -13,6 +13,11 @@ fn three_forms() {
         lists[1].form,
         Form::Curve(vec![(0.0, 1.0), (0.5, 3.0), (1.0, 10.0)])
     );
+    let columns: Vec<u32> = lists[1].places.iter().map(|at| at.column).collect();
+    assert_eq!(
+        (columns, lists[1].count_at.column),
+        (vec![14, 16, 18, 22, 24, 26], 30)
+    );
     assert_eq!(
         arguments(&lists),
         (

@@ -117,21 +117,15 @@ fn born(birth: Option<Birth>) -> String {
 
 /// What a record tells, with the wait before it. Server waits go on to the next block, or are joined and send back.
 fn outcome(study: &Study, record: &Record, last: Option<&Record>) -> String {
-    let words = words::outcome_of(record.outcome);
-    let Some(last) = last else {
-        return words.to_string();
-    };
-    let kind = study.block(last.block).map_or(0, |block| block.kind);
+    let began = last.filter(|last| !last.entered()).map(|last| last.clock);
+    let kind = last.and_then(|last| study.block(last.block)).map_or(0, |block| block.kind);
     let waits = [WAITIF_STATUS, WAITIF_JOINED].contains(&kind);
-    let back = waits && record.block < last.block;
-    let ticks = match record.clock - last.clock {
-        1 => "1 tick".to_string(),
-        ticks => format!("{ticks} ticks"),
-    };
-    match (back, last.entered()) {
-        (false, true) => words.to_string(),
-        (false, false) => format!("{words} after {ticks}"),
-        (true, true) => format!("went back, {words}"),
-        (true, false) => format!("went back after {ticks}, {words}"),
+    if !waits || last.map_or(true, |last| last.block <= record.block) {
+        return words::outcome_after(record, began);
+    }
+    let words = words::outcome_of(record.outcome);
+    match began.map(|began| words::ticks(record.clock - began)) {
+        None => format!("went back, {words}"),
+        Some(ticks) => format!("went back after {ticks}, {words}"),
     }
 }

@@ -10,6 +10,7 @@ use crate::study::{self, Study};
 use crate::walk::walk;
 use crate::words;
 use engine::{Outcome, Report, Run};
+use std::collections::HashMap;
 use std::io::Write;
 use std::path::Path;
 
@@ -19,10 +20,11 @@ pub const COMMAND: Command = Command {
     about: "run a model and print its report",
     help: "\
 Assembles text that is newer than its bytes, and says so; runs the model; prints how the run ended and what facilities,
-storages, queues and blocks had. Exit status 1 where the run is refused or stopped by a question (ends 21 to 28).
+storages, queues and blocks had. Exit status 1 where the run is refused or stopped (ends 21 to 28).
 
-  --records         print each record with names before the report
-  --plain           print what runmodel prints: numbers alone, with its budget, room and cut at 65,536 bytes
+  --records         print each record with names before the report, and the ticks that a wait took
+  --plain           print what runmodel prints, numbers alone, with what it lends: 1,000,000 turns and 65,536 bytes of trace;
+                    of model and tape it reads 65,536 bytes each
 ",
     flags: &["--records", "--plain"],
     valued: LENT,
@@ -81,15 +83,23 @@ fn records(study: &Study, run: &Run, out: &mut dyn Write) -> Done<()> {
             "clock", "transaction", "block", "statement"
         ),
     )?;
+    let mut waiting = HashMap::new();
     for record in run.records() {
         let statement = statements.get((record.block as usize).wrapping_sub(1));
+        let began = waiting
+            .remove(&record.transaction)
+            .filter(|(block, _)| *block == record.block)
+            .map(|(_, clock)| clock);
+        if !record.entered() {
+            waiting.insert(record.transaction, (record.block, record.clock));
+        }
         let line = format!(
             "{:>clock$}  {:>made$}  {:>5}  {:width$}  {}\n",
             record.clock,
             record.transaction,
             record.block,
             statement.map_or("", String::as_str),
-            words::outcome_of(record.outcome)
+            words::outcome_after(&record, began)
         );
         say(out, &line)?;
     }

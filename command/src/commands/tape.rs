@@ -2,10 +2,14 @@
 
 use super::{say, Command};
 use crate::args::Args;
+use crate::explain;
 use crate::failure::{Done, Failure};
 use crate::files::{self, Sync};
-use engine::Distribution;
+use engine::{Distribution, Refusal};
 use modeltext::distribution::{self, Drawn, Form};
+use modeltext::read;
+use modeltext::tape::names_against;
+use modeltext::{Fault, Position};
 use std::io::Write;
 use std::path::{Path, PathBuf};
 
@@ -22,7 +26,8 @@ Reads a text with a line for each list of a model, in its order, and writes the 
 
   covrith tape distributions.txt tape.bin --stream 3
 
-The same text and stream give the same bytes on every machine. docs/TEXT.md has the rules.
+The same text and stream give the same bytes on every machine. Where a model.txt lies beside the tape, the lists must be
+its lists. docs/TEXT.md has the rules.
 
   --stream N        stream 0 to 511 (without it 0)
 ",
@@ -36,10 +41,13 @@ fn tape(args: &Args, out: &mut dyn Write) -> Done<()> {
     let given = args.number("--stream")?.unwrap_or(0);
     let stream = u32::try_from(given).unwrap_or(u32::MAX);
     let text = files::read_text(Path::new(from))?;
-    let lists = distribution::read(&text).map_err(|faults| {
-        let lines: Vec<String> = faults.iter().map(|f| format!("{from}:{f}")).collect();
-        Failure::new(lines.join("\n"))
-    })?;
+    let wrong = |faults: Vec<Fault>| Failure::new(told(from, &faults).join("\n"));
+    let lists = distribution::read(&text).map_err(wrong)?;
+    let last = Position::at(text.lines().count().max(1), 1);
+    let mismatches = against_model(&lists, last, Path::new(to));
+    if !mismatches.is_empty() {
+        return Err(wrong(mismatches));
+    }
     let bytes = drawn(from, stream, &lists)?;
     files::write_all(&[(PathBuf::from(to), &bytes)], Sync::No)?;
     let times: u64 = lists.iter().map(|list| u64::from(list.count)).sum();
@@ -51,22 +59,45 @@ fn tape(args: &Args, out: &mut dyn Write) -> Done<()> {
     say(out, &line)
 }
 
-/// The tape of all lists. A refusal is told at the first list that is refused alone.
+/// The tape of all lists. A refusal is told at each number that is outside the rules.
 fn drawn(path: &str, stream: u32, lists: &[Drawn]) -> Done<Vec<u8>> {
     let all: Vec<engine::List> = lists.iter().map(list).collect();
     engine::make_tape(stream, &all).map_err(|refusal| {
-        let alone = |one: &engine::List| engine::make_tape(stream, std::slice::from_ref(one));
-        let place = match all.iter().position(|one| alone(one).is_err()) {
-            Some(k) if refusal == engine::Refusal::NotDistribution => {
-                format!("{path}:{}:{}", lists[k].at.line, lists[k].at.column)
-            }
-            _ => path.to_string(),
+        let number = refusal.number();
+        let faults = match refusal {
+            Refusal::NotDistribution => lists.iter().filter_map(explain::distribution).collect(),
+            _ => Vec::new(),
         };
-        Failure::new(format!("{place}: refused {}: {refusal}", refusal.number()))
+        let mut lines = told(path, &faults);
+        match lines.first_mut() {
+            Some(first) => *first = first.replacen('\n', &format!("; refused {number}\n"), 1),
+            None => lines.push(format!("{path}: refused {number}: {refusal}")),
+        }
+        Failure::new(lines.join("\n"))
     })
 }
 
-fn list(given: &Drawn) -> engine::List {
+/// Where a model.txt lies beside the tape, how the lists differ from the model's.
+fn against_model(lists: &[Drawn], last: Position, tape: &Path) -> Vec<Fault> {
+    let Ok(text) = files::read_text(&tape.with_file_name("model.txt")) else {
+        return Vec::new();
+    };
+    let source = read::model(&text);
+    if !source.faults.is_empty() {
+        return Vec::new();
+    }
+    let given: Vec<(&str, Position)> = lists.iter().map(|l| (&l.name[..], l.at)).collect();
+    let add = |name: &str| format!("`{name}: distribution, count times`");
+    let found = names_against(&given, last, &source.names.lists, add);
+    found.iter().map(|one| one.fault().clone()).collect()
+}
+
+fn told(path: &str, faults: &[Fault]) -> Vec<String> {
+    faults.iter().map(|f| format!("{path}:{f}")).collect()
+}
+
+/// A list as the engine takes it.
+pub fn list(given: &Drawn) -> engine::List {
     let distribution = match &given.form {
         Form::Fixed(time) => Distribution::Fixed(*time),
         Form::Spread(mean, half) => Distribution::Spread {

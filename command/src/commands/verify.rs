@@ -1,8 +1,9 @@
 //! `covrith verify`: archives run again and compared, a folder or all below it, on all cores.
 
-use super::{say, Command};
+use super::{say, tell, Command};
 use crate::args::Args;
 use crate::failure::{Done, Failure};
+use crate::study;
 use crate::verify::{archives_below, Found};
 use std::collections::BTreeMap;
 use std::io::{IsTerminal, Write};
@@ -21,7 +22,8 @@ pub const COMMAND: Command = Command {
 Reads archive.txt, compares the SHA-256 of the four files, runs the model again with the budget and the buffers that the
 page names, and compares results, trace and report. Says \"same\", or what differs: of a trace the first record with its
 position and both readings. Of a folder of folders it verifies all archives below, on all cores, and prints those that
-differ and a summary. Exit status 1 if any differs.
+differ and a summary. Exit status 1 if any differs. Of a folder that is named a note tells if its text has been changed
+since: text is no part of an archive.
 
   --jobs N          at most N at a time (without it as many as the machine has cores)
 ",
@@ -45,6 +47,12 @@ fn verify(args: &Args, out: &mut dyn Write) -> Done<()> {
     let jobs = args.number("--jobs")?.map_or(cores, |n| n.max(1) as usize);
     let alone = found.folders.len() == args.words.len() && !found.below;
     let differ = verify_all(&found.folders, jobs, alone, out)?;
+    if alone {
+        out.flush().map_err(super::cannot_write)?;
+        for folder in &found.folders {
+            tell(&study::other_text(folder));
+        }
+    }
     let count = found.folders.len();
     if !alone {
         let same = count - differ;

@@ -98,7 +98,7 @@ impl<'a> Asker<'a> {
             Err(rule) => {
                 let remedy = match self.places {
                     Some(_) => format!("{what} is expected here, to {}", self.largest),
-                    None => format!("{what} is expected here: write the file anew from its text"),
+                    None => format!("{what} is expected here: write the file anew"),
                 };
                 let _ = self.found(self.questions.0, (rule, remedy));
                 Err(Stop)

@@ -2,6 +2,7 @@
 
 use super::{Reader, MOST_OPEN};
 use crate::model::{Signed, Term};
+use crate::read::plain;
 use crate::scan::Word;
 use crate::words;
 use crate::{Fault, Position};
@@ -54,7 +55,16 @@ impl Reader<'_> {
     fn no_term(&self, name: &str, at: Position, from: usize) -> Fault {
         let what = format!("`{name}` is no term");
         let known = |letter| self.names.find(letter, name).is_some();
-        let remedy = if known('f') {
+        let relation = matches!(self.word(), Some(Word::Sign(s)) if words::RELATIONS.contains(s));
+        let remedy = if self.keyword == "WAITIF" && !relation && (known('f') || known('s')) {
+            let mut codes = words::CODES
+                .iter()
+                .filter(|code| code.facility == known('f'));
+            let given = self.word().and_then(plain);
+            let given = given.and_then(|g| codes.clone().find(|c| g.eq_ignore_ascii_case(c.word)));
+            let code = given.or_else(|| codes.next()).map_or("U", |code| code.word);
+            format!("write {name} = {code}, a server and its code, or compare two terms")
+        } else if known('f') {
             format!("write f${name}, which is 1 while it is in use and else 0")
         } else if known('s') {
             format!("write s${name} for its units in use, r${name} for its free ones")
