@@ -118,7 +118,9 @@ fn born(birth: Option<Birth>) -> String {
 /// What a record tells, with the wait before it. Server waits go on to the next block, or are joined and send back.
 fn outcome(study: &Study, record: &Record, last: Option<&Record>) -> String {
     let began = last.filter(|last| !last.entered()).map(|last| last.clock);
-    let kind = last.and_then(|last| study.block(last.block)).map_or(0, |block| block.kind);
+    let kind = last
+        .and_then(|last| study.block(last.block))
+        .map_or(0, |block| block.kind);
     let waits = [WAITIF_STATUS, WAITIF_JOINED].contains(&kind);
     if !waits || last.map_or(true, |last| last.block <= record.block) {
         return words::outcome_after(record, began);
