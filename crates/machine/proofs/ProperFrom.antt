@@ -247,7 +247,7 @@ module _ (rules : Rules) (s : List ℕ) where
       then (ranged s 1 Limits.maxCounter) (λ counter hn. then (ranged s 1 Limits.maxBlocks) (λ blocks hb.
       then (repeated blocks (block-good s _ capacities (rules .kinds))) (λ program hp.
       let m : BlockModel =
-      record { rules = rules; facilities = facilities; capacities = capacities; queues = queues; values = sums; lists = lists; counter = counter; blocks = program } in
+      record { rules = rules; edition = edition; facilities = facilities; capacities = capacities; queues = queues; values = sums; lists = lists; counter = counter; blocks = program } in
       gives
       (record {
         own = refl;
