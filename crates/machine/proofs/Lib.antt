@@ -10,6 +10,7 @@ pub mod Ledger
 pub mod StartLedger
 pub mod Conservation
 pub mod Sorted
+pub mod Lines
 pub mod Waiting
 pub mod Ready
 pub mod Queued

@@ -241,7 +241,7 @@ module _ (rules : Rules) (s : List ℕ) where
   model-fields : Ensures (ProperModel rules) (modelFields s rules)
   unfolding modelFields
   model-fields =
-      then (ranged s 1 1) (λ edition he. then (ranged s 0 Limits.maxFacilities) (λ facilities hf. then (ranged s 0 Limits.maxStorages) (λ storages hs.
+      then (ranged s 1 (rules .editions)) (λ edition he. then (ranged s 0 Limits.maxFacilities) (λ facilities hf. then (ranged s 0 Limits.maxStorages) (λ storages hs.
       then (repeated storages (ranged s 1 Limits.maxCapacity)) (λ capacities hc. then (ranged s 0 Limits.maxQueues) (λ queues hq.
       then (ranged s 0 Limits.maxValues) (λ values hv. then (value-fields s _ values 0) (λ sums hm. then (ranged s 0 Limits.maxLists) (λ lists hl.
       then (ranged s 1 Limits.maxCounter) (λ counter hn. then (ranged s 1 Limits.maxBlocks) (λ blocks hb.
