@@ -14,6 +14,7 @@ pub mod Lines
 pub mod Waiting
 pub mod Ready
 pub mod Queued
+pub mod QueueRemove
 pub mod Gated
 pub mod WaitsBlocks
 pub mod WaitsKept

@@ -10,7 +10,7 @@ use Rattle.machine.specs.Term.{View, serverAt, queueAt, free, evaluate, 
 use Rattle.machine.specs.Block.{Code, U, NU, E, NE, F, NF, status, Share, facility, storage, shareServer, shareUnits, shareHolder, Change, up, down, Block, generate, advance, terminate, takes, frees, waitServer, waitTerms, moves, assign, priority, split, counts, facts, aboveOne, BlockModel, blockAt, beginsGroup}
 use Rattle.machine.specs.State.{State}
 use Rattle.machine.specs.Setters.{withPriority, withParameters, withNext, withReturning, withStamp, setCounter, setEnded, setEnd}
-use Rattle.machine.specs.Moves.{enters, moveTo, goOn, toRel, toFel, toQl, toWel, toWsl, mustWait, Parted, firstOf, partBy, wakeQl, wakeFirstWel, setUse, setContent, timesLeft, useTime, arrival, copies}
+use Rattle.machine.specs.Moves.{enters, moveTo, goOn, toRel, toFel, toQl, toWel, toWsl, mustWait, Parted, nobody, goes, stays, firstOf, partBy, wakeQl, wakeFirstWel, setUse, setContent, timesLeft, useTime, arrival, copies}
 
 -- ---- Questions, "Inside a turn, after the taking and before the block has any effect, "no" is the end"
 
@@ -90,21 +90,15 @@ freeUnits v b s = setUse v (serverAt (s .view) v .inUse - b) 0 s
 
 -- ---- Document 02, item 12, edition 2: "LEAVE follows document 000, section 6, cases a and b, B being its units"
 
-abbrev goes : Transaction → Parted → Parted
-goes t p = record { go = t ∷ p .go; stay = p .stay }
-
-abbrev stays : Transaction → Parted → Parted
-stays t p = record { go = p .go; stay = t ∷ p .stay }
-
 -- b (i): "the first transaction that has an ENTER with B = 1"
 unfoldable pub firstOfOne : BlockModel → List Transaction → Parted
-firstOfOne m [] = record { go = []; stay = [] }
+firstOfOne m [] = nobody
 firstOfOne m (t ∷ l) = cond (eqb (unitsOf m t) 1) (firstOf (t ∷ l)) (stays t (firstOfOne m l))
 
 -- b (ii), "We start a search in the QL, from the front": Bₑ is the units of t. "If B = Bₑ, the same action takes place as under (i) and we
 -- are finished ... If B < Bₑ, we continue to the next transaction. If B > Bₑ, we decrease B by Bₑ and move the transaction".
 unfoldable pub fromFront : BlockModel → (b : ℕ) → List Transaction → Parted
-fromFront m b [] = record { go = []; stay = [] }
+fromFront m b [] = nobody
 fromFront m b (t ∷ l) =
     cond (eqb b (unitsOf m t)) (firstOf (t ∷ l))
     (cond (ltb b (unitsOf m t)) (stays t (fromFront m b l)) (goes t (fromFront m (b - unitsOf m t) l)))

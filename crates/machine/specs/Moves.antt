@@ -95,6 +95,16 @@ pub record Parted : Type 0 where
   pub go : List Transaction
   pub stay : List Transaction
 
+abbrev pub nobody : Parted
+nobody = record { go = []; stay = [] }
+
+-- with one more in front
+abbrev pub goes : Transaction → Parted → Parted
+goes t p = record { go = t ∷ p .go; stay = p .stay }
+
+abbrev pub stays : Transaction → Parted → Parted
+stays t p = record { go = p .go; stay = t ∷ p .stay }
+
 -- the first, and every member that passes a test
 abbrev pub firstOf : List Transaction → Parted
 firstOf l = record { go = take 1 l; stay = drop 1 l }
