@@ -21,7 +21,7 @@ use Rattle.rows.specs.Make.{freeRow}
 use Rattle.rows.specs.Living.{loose, onLists}
 use Rattle.rows.specs.Holds.{transactionAt, eventAt, ending, Holds, update}
 use Rattle.rows.specs.Ordered.{Sorted, Ordered}
-use Rattle.rows.specs.Shows.{Shows, Loose, moved}
+use Rattle.rows.specs.Shows.{orderOf, Shows, Loose, moved}
 use Rattle.rows.proofs.Occurs.{same-refl, occurs-append, occurs-cons}
 use Rattle.rows.proofs.Insertion.{front, insert-sorted, sorted-without, sorted-drop, sorted-those}
 use Rattle.rows.proofs.Orders.{precedes-order, earlier-order}
@@ -81,7 +81,7 @@ module _ (w : List ℕ) (T : ℕ → List Transaction) (E : List Event) (s : Sho
   abbrev h : Holds w L
   h = s .shown .holds
 
-  abbrev o : Ordered (λ q. precedes) T E
+  abbrev o : Ordered orderOf T E
   o = s .ordered
 
   -- ---- The first of a list
@@ -110,7 +110,7 @@ module _ (w : List ℕ) (T : ℕ → List Transaction) (E : List Event) (s : Sho
         record {
           rows = update p (insert (ahead w p) k (L p)) L;
           shown = put-shown w L T E (s .shown) k off p hp (o .lists p hp);
-          ordered = ordered-list (λ q. precedes) T E p _ (insert-sorted precedes precedes-order (transactionAt w k) (T p) (o .lists p hp)) o;
+          ordered = ordered-list orderOf T E p _ (insert-sorted precedes precedes-order (transactionAt w k) (T p) (o .lists p hp)) o;
         }
 
     abbrev pub shows-put-fel : Shows (put w fel k) T (insert earlier (eventAt w k) E)
@@ -118,7 +118,7 @@ module _ (w : List ℕ) (T : ℕ → List Transaction) (E : List Event) (s : Sho
         record {
           rows = update fel (insert (ahead w fel) k (L fel)) L;
           shown = put-fel-shown w L T E (s .shown) k off (o .future);
-          ordered = ordered-fel (λ q. precedes) T E _ (insert-sorted earlier earlier-order (eventAt w k) E (o .future)) o;
+          ordered = ordered-fel orderOf T E _ (insert-sorted earlier earlier-order (eventAt w k) E (o .future)) o;
         }
 
     pub put-shows : (p : ℕ) → p < 450 → Puts w (put w p k) k (update p (insert precedes (transactionAt w k) (T p)) T) E
@@ -167,7 +167,7 @@ module _ (w : List ℕ) (T : ℕ → List Transaction) (E : List Event) (s : Sho
       (record {
         rows = _;
         shown = take-shown w L T E (s .shown) p hl (r .0) (r .1) n hp;
-        ordered = ordered-list (λ q. precedes) T E p (drop 1 (T p)) (sorted-drop precedes (T p) (o .lists p hp)) o;
+        ordered = ordered-list orderOf T E p (drop 1 (T p)) (sorted-drop precedes (T p) (o .lists p hp)) o;
       })
 
   pub take-fel-shows : first w fel < 1024 → Takes w (takeFirst w fel) (first w fel) T (drop 1 E)
@@ -179,7 +179,7 @@ module _ (w : List ℕ) (T : ℕ → List Transaction) (E : List Event) (s : Sho
       (record {
         rows = _;
         shown = take-fel-shown w L T E (s .shown) fel hl (r .0) (r .1) n refl;
-        ordered = ordered-fel (λ q. precedes) T E (drop 1 E) (sorted-drop earlier E (o .future)) o;
+        ordered = ordered-fel orderOf T E (drop 1 E) (sorted-drop earlier E (o .future)) o;
       })
 
   -- a row for one that is made
@@ -209,7 +209,7 @@ module _ (w : List ℕ) (T : ℕ → List Transaction) (E : List Event) (s : Sho
                 rows = _;
                 shown = shown-list w _ L T E (s .shown) p (front eqb k (L p) ++ r .0) (remove-holds w L h p k (front eqb k (L p)) (r .0) hl hk (r .1)) (kept p k (front eqb k (L p)) (r .0) hl hk (r .1) .rows) hp;
                 ordered =
-                    ordered-list (λ q. precedes) T E p _
+                    ordered-list orderOf T E p _
                     (rw (map-append (transactionAt w) (front eqb k (L p)) (r .0))
                     (sorted-without precedes (map (transactionAt w) (front eqb k (L p))) (transactionAt w k) (map (transactionAt w) (r .0)) (rw was at (o .lists p hp))))
                     o;
@@ -232,7 +232,7 @@ module _ (w : List ℕ) (T : ℕ → List Transaction) (E : List Event) (s : Sho
                 rows = _;
                 shown = shown-fel w _ L T E (s .shown) fel (front eqb k (L fel) ++ r .0) (remove-holds w L h fel k (front eqb k (L fel)) (r .0) hl hk (r .1)) (kept fel k (front eqb k (L fel)) (r .0) hl hk (r .1) .rows) refl;
                 ordered =
-                    ordered-fel (λ q. precedes) T E _
+                    ordered-fel orderOf T E _
                     (rw (map-append (eventAt w) (front eqb k (L fel)) (r .0))
                     (sorted-without earlier (map (eventAt w) (front eqb k (L fel))) (eventAt w k) (map (eventAt w) (r .0)) (rw was at (o .future))))
                     o;
@@ -258,7 +258,7 @@ module _ (w : List ℕ) (T : ℕ → List Transaction) (E : List Event) (s : Sho
             record {
               rows = woken .held .rows;
               shown = woken .held .shown;
-              ordered = ordered-moved (λ q. precedes) T E p l (wake m (T rel)) sorted (wake-sorted m (T rel) ready) o;
+              ordered = ordered-moved orderOf T E p l (wake m (T rel)) sorted (wake-sorted m (T rel) ready) o;
             };
         steady = woken .steady;
       }
@@ -293,8 +293,8 @@ module _ (w : List ℕ) (T : ℕ → List Transaction) (E : List Event) (s : Sho
                   rows = r .held .rows;
                   shown = r .held .shown;
                   ordered =
-                      ordered-fel (λ q. precedes) (update rel (arrivals (those (due (e .time)) E) serial (T rel)) T) E later (sorted-those earlier (λ t. not (due (e .time) t)) E (o .future))
-                      (ordered-list (λ q. precedes) T E rel _ (arrivals-sorted (those (due (e .time)) E) serial (T rel) ready) o);
+                      ordered-fel orderOf (update rel (arrivals (those (due (e .time)) E) serial (T rel)) T) E later (sorted-those earlier (λ t. not (due (e .time) t)) E (o .future))
+                      (ordered-list orderOf T E rel _ (arrivals-sorted (those (due (e .time)) E) serial (T rel) ready) o);
                 };
             last = r .last;
             steady = r .steady;

@@ -11,7 +11,7 @@ use Rattle.rows.specs.Layout.{rel, fel}
 use Rattle.rows.specs.Clock.{arrivals}
 use Rattle.rows.specs.Holds.{update}
 use Rattle.rows.specs.Ordered.{Sorted, Ordered}
-use Rattle.rows.specs.Shows.{Shows, moved}
+use Rattle.rows.specs.Shows.{orderOf, Shows, moved}
 use Rattle.rows.proofs.Insertion.{insert-sorted}
 use Rattle.rows.proofs.Orders.{precedes-order}
 use Rattle.rows.proofs.Showing.{shown-ext}
@@ -59,5 +59,5 @@ shows-ext w T U E F lists future s =
     record {
       rows = s .rows;
       shown = subst (λ (e : List Event). Rattle.rows.specs.Shows.Shown w (s .rows) U e) future (shown-ext w (s .rows) T U E lists (s .shown));
-      ordered = ordered-ext (λ p. precedes) T U E F lists future (s .ordered);
+      ordered = ordered-ext orderOf T U E F lists future (s .ordered);
     }
