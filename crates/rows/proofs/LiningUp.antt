@@ -20,6 +20,7 @@ use Rattle.rows.specs.Ordered.{All, Sorted}
 use Rattle.rows.specs.Shows.{Shown, Loose}
 use Rattle.rows.proofs.Insertion.{front, back, front-back, insert-split, map-insert, sorted-unmap, order-unmap, append-all, lastOf}
 use Rattle.rows.proofs.Orders.{precedes-order, ahead-list}
+use Rattle.rows.proofs.Walk.{lastCell-stop, lastCell-next}
 use Rattle.rows.proofs.Chain.{ending-append, chain-row}
 use Rattle.rows.proofs.Spot.{short, spot-front, ending-last, occurs-last}
 use Rattle.rows.proofs.Holding.{Kept, insert-holds, insert-keeps, insert-placed}
@@ -99,15 +100,6 @@ module _ (w : List ℕ) (p k : ℕ) where
   unfolding ending
   end-snoc a j = sym (ending-append (head p) a (j ∷ []))
 
-  lastCell-none : (n c f : ℕ) → 1024 ≤ load w c → lastCell n w k c f ≡ f
-  unfolding lastCell
-  lastCell-none zero c f h = refl
-  lastCell-none (suc n) c f h = rw (le-ltb (load w c) 1024 h)
-
-  lastCell-next : (n c f j : ℕ) → load w c ≡ j → j < 1024 → lastCell (suc n) w k c f ≡ lastCell n w k (link j) (foundAt w k j f)
-  unfolding lastCell
-  lastCell-next n c f j e h = rw (e, lt-ltb j 1024 h)
-
   module _ (rows : List ℕ) where
     -- no row of m passes
     none-left : (a m : List ℕ) → rows ≡ a ++ m → All (λ j. meets k j ≡ false) m → Stops meets k (reverse a) → Spotted p k (ending (head p) a) rows (backed meets k rows)
@@ -154,7 +146,7 @@ module _ (w : List ℕ) (p k : ℕ) where
       row-found : (n : ℕ) → (Reached (link j) (link j) ((a ++ m) ++ j ∷ []) [] l → Found (lastCell n w k (link j) (link j)))
           → (Reached (link j) f a (m ++ j ∷ []) l → Found (lastCell n w k (link j) f)) → Found (lastCell (suc n) w k c f)
       unfolding Chain foundAt
-      row-found n met off = rw (lastCell-next n c f j (h .chain .0) (h .chain .1)) (go (meets k j) refl)
+      row-found n met off = rw (lastCell-next w k (suc n) n c f j refl (h .chain .0) (h .chain .1)) (go (meets k j) refl)
         where
           go : (t : Bool) → meets k j ≡ t → Found (lastCell n w k (link j) (cond t (link j) f))
           go true e = met (row-passes e)
@@ -162,7 +154,7 @@ module _ (w : List ℕ) (p k : ℕ) where
 
     nobody-left : (n c f : ℕ) (a m : List ℕ) → Reached c f a m [] → Found (lastCell n w k c f)
     unfolding Chain
-    nobody-left n c f a m h = rw (lastCell-none n c f (h .chain), h .found) (none-left a m (h .whole ∙ append-nil (a ++ m)) (h .low) (h .stops))
+    nobody-left n c f a m h = rw (lastCell-stop w k n c f (h .chain), h .found) (none-left a m (h .whole ∙ append-nil (a ++ m)) (h .low) (h .stops))
 
     last-spotted : (l : List ℕ) (n c f : ℕ) (a m : List ℕ) → length l ≤ n → Reached c f a m l → Found (lastCell n w k c f)
     last-spotted [] n c f a m len h = nobody-left n c f a m h
