@@ -194,6 +194,10 @@ module _ (m : BlockModel) where
 
 -- ---- A turn
 
+-- within it, after the taking
+pub waits-taken : (m : BlockModel) (s : State) → s .end ≡ 0 → Waits m s → Waits m (taking (s .moving) s)
+waits-taken m s e w = taking-waits m (s .moving) s refl (w, λ z. omega arith) .0
+
 pub waits-kept : {m : BlockModel} {tape : List (List ℕ)} → Proper m tape → (s : State) → s .end ≡ 0 → Shape m s → Waits m s
     → Waits m (turn m s) × Settled m (turn m s)
 unfolding turn
