@@ -2,26 +2,26 @@
 -- WELs make of it.
 use Prim.Native.Nat.{ℕ, _+_, _-_, _≤_, _<_}
 use mathlib.Core.Path.{_≡_, refl, sym, ap, _∙_}
-use mathlib.Core.Bool.{Bool, not}
-use mathlib.Core.List.{List, [], _∷_}
+use mathlib.Core.Bool.{Bool}
+use mathlib.Core.List.{List}
 use mathlib.Core.Option.{some}
 use native.Mathlib.Omega.{arith}
 use lib.ListN.{length, getD, set, drop, length-set}
 use lib.Seq.{getD-set-same}
 use Rattle.machine.specs.Transaction.{Transaction}
-use Rattle.machine.specs.Lists.{those, others, setNth}
+use Rattle.machine.specs.Lists.{setNth}
 use Rattle.machine.specs.Term.{Server, idleServer}
 use Rattle.machine.specs.Term
 use Rattle.machine.specs.Block.{Code, welIndex}
 use Rattle.machine.specs.State.{State}
 use Rattle.machine.specs.Setters.{withUse, setQl, setRel}
-use Rattle.machine.specs.Moves.{wake, qlOf, wakeFirstQl, wakeQl}
+use Rattle.machine.specs.Moves.{wake, qlOf, Parted, firstOf, wakeQl}
+use Rattle.machine.proofs.QueueRemove.{walk}
 use Rattle.machine.specs.Moves as Moves
 use Rattle.machine.specs.Execute as Execute
-use Rattle.machine.specs.Claims.{Each}
 use Rattle.machine.proofs.Shape.{wel-below}
 use Rattle.rows.specs.Layout.{head}
-use Rattle.rows.specs.Wake.{wakeFirst, wakeAll}
+use Rattle.rows.specs.Wake.{wakeFirst, wakeWalk}
 use Rattle.rows.specs.Holds.{transactionAt}
 use Rattle.state.specs.declared.scalars.Scalars.{Scalars}
 use Rattle.state.specs.Stands.{listsOf, Listing, Tallying, Counting, Done}

@@ -121,8 +121,8 @@ module _ (test : ℕ → List ℕ → ℕ → Bool) (next : ℕ → List ℕ →
   stays-shown zero (k ∷ b) left w L T s ready a was len = absurd (omega arith)
   stays-shown (suc n) (k ∷ b) left w L T s ready a was len =
       one-more n left w L T s a k b was
-      (stays-shown n b _ (wakeAt w p (ending (head p) a)) (woken w L T E s p hp k a b was) _ (wake-shown w L T E s p hp k a b was ready) (wake-ready w L T E s p hp k a b was ready) a (wake-rows w L T E s p hp k a b was) (omega arith))
-      (rw (ending-append (head p) a (k ∷ [])) at (stays-shown n b _ w L T s ready (a ++ k ∷ []) (was ∙ sym (append-assoc a (k ∷ []) b)) (omega arith)))
+      (stays-shown n b (N left (transactionAt w k)) (wakeAt w p (ending (head p) a)) (woken w L T E s p hp k a b was) _ (wake-shown w L T E s p hp k a b was ready) (wake-ready w L T E s p hp k a b was ready) a (wake-rows w L T E s p hp k a b was) (omega arith))
+      (rw (ending-append (head p) a (k ∷ [])) at (stays-shown n b (N left (transactionAt w k)) w L T s ready (a ++ k ∷ []) (was ∙ sym (append-assoc a (k ∷ []) b)) (omega arith)))
 
   pub stays-shows : (left : ℕ) (w : List ℕ) (T : ℕ → List Transaction) → Shows w T E → wakeStays test next 1024 left w p (head p) ≡ length (walk P N left (T p) .stay)
   unfolding ending
