@@ -40,7 +40,7 @@ use Rattle.moves.proofs.MotionLaws.{number-read, stop-done, asked, go-on-used}
 use Rattle.tables.proofs.Operands.{operand}
 use Rattle.state.proofs.Moving.{placed, next-low}
 use Rattle.servers.specs.Units.{serverAt, inUse, holder, setUse, capacity}
-use Rattle.servers.specs.Waking.{checkWels, shorter, unitsAt, memberUnits, memberFits, leaveWith, leftBehind, memberLeft}
+use Rattle.servers.specs.Waking.{checkWels, shorter, unitsAt, memberUnits, memberFits, leaveWith, takenOff, leftBehind, memberLeft}
 use Rattle.servers.specs.Freeing.{enterFreed, freeOne, freeSome, askRelease}
 use Rattle.servers.specs.Freeing as Freeing
 use Rattle.servers.proofs.Named.{units-of, named}
@@ -61,12 +61,13 @@ abbrev less : (edition : ℕ) → (Transaction → ℕ) → ℕ → Transaction 
 less edition units n t = leftBehind edition n (units t)
 
 less-is : (edition : ℕ) (units : Transaction → ℕ) (n : ℕ) (t : Transaction) → less edition units n t ≡ leftAfter (not (eqb edition 1)) units n t
-unfolding leftBehind
-less-is edition units n t = go (eqb edition 1)
+unfolding leftBehind takenOff
+less-is edition units n t = go (eqb edition 1) (leb (units t) n) refl
   where
-    go : (b : Bool) → cond b n (cond (leb (units t) n) (n - units t) n) ≡ cond (not b) (cond (leb (units t) n) (n - units t) n) n
-    go true = refl
-    go false = refl
+    go : (b fits : Bool) → leb (units t) n ≡ fits → cond b n (cond (ltb n (units t)) n (n - units t)) ≡ cond (not b) (cond fits (n - units t) n) n
+    go true fits e = refl
+    go false true e = rw (le-ltb n (units t) (leb-true (units t) n e))
+    go false false e = rw (lt-ltb n (units t) (leb-false (units t) n e))
 
 module _ (m : BlockModel) (tape : List (List ℕ)) (tapeBytes tables lists : List ℕ) (proper : Proper m tape) (rep : Represents m tape tapeBytes tables lists) where
   -- the walk by the tables is that by the model

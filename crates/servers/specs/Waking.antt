@@ -48,8 +48,11 @@ memberFits tables left w k = leb (memberUnits tables w k) left
 unfoldable pub leaveWith : (edition free b : ℕ) → ℕ
 leaveWith edition free b = cond (eqb edition 1) free b
 
+unfoldable pub takenOff : (left units : ℕ) → ℕ
+takenOff left units = cond (ltb left units) left (left - units)
+
 unfoldable pub leftBehind : (edition left units : ℕ) → ℕ
-leftBehind edition left units = cond (eqb edition 1) left (cond (leb units left) (left - units) left)
+leftBehind edition left units = cond (eqb edition 1) left (takenOff left units)
 
 abbrev pub memberLeft : List ℕ → (edition left : ℕ) → List ℕ → ℕ → ℕ
 memberLeft tables edition left w k = leftBehind edition left (memberUnits tables w k)

@@ -25,7 +25,7 @@ ghost use Prim.Native.Nat.{_+_, _<_, _≤_};
 ghost use Rattle.tables.specs.Layout.{codeCount, programSize, serverCount};
 ghost use Rattle.rows.specs.Layout.{head, Room, rowCount};
 ghost use Rattle.rows.specs.Wake.{wakeWalk, wakeFirst};
-ghost use Rattle.servers.specs.Waking.{checkWel, checkFirst, checkLast, checkWels, shorter, unitsAt, memberUnits, memberFits, leaveWith, leftBehind, memberLeft, steps, oneUnless, wakeStays};
+ghost use Rattle.servers.specs.Waking.{checkWel, checkFirst, checkLast, checkWels, shorter, unitsAt, memberUnits, memberFits, leaveWith, takenOff, leftBehind, memberLeft, steps, oneUnless, wakeStays};
 
 const BLOCKS: u32 = Model::MAX_BLOCKS as u32;
 
@@ -109,26 +109,33 @@ fn member_units(tables: &[u32], work: &[u32], k: u32) -> u64
     units_at(tables, BLOCK_WIDTH * (block as usize))
 }
 
-// What a LEAVE of b units gives to those who wait: under edition 1 the free units, to each alone; under edition 2 its own, one after
+// What a LEAVE gives to those who wait: under edition 1 the free units, to each alone; under edition 2 its own, one after
 // the other.
-pub fn leave_with(edition: u32, free: u64, b: u64) -> u64
-    ensures { λ r. ⌜ r ≡ leaveWith edition free b ⌝ }
+pub fn leave_with(edition: u32, free: u64, own: u64) -> u64
+    ensures { λ r. ⌜ r ≡ leaveWith edition free own ⌝ }
 {
     if edition == 1 {
         return free;
     }
-    b
+    own
+}
+
+// Less so many units, for one that goes; one that is too large stays.
+fn taken_off(left: u64, units: u64) -> u64
+    ensures { λ r. ⌜ r ≡ takenOff left units ⌝ }
+{
+    if left < units {
+        return left;
+    }
+    left - units
 }
 
 // What is left of it behind one of so many units.
 fn left_behind(edition: u32, left: u64, units: u64) -> u64
     ensures { λ r. ⌜ r ≡ leftBehind edition left units ⌝ }
 {
-    if edition == 1 {
-        return left;
-    }
-    if units <= left {
-        return left - units;
+    if edition != 1 {
+        return taken_off(left, units);
     }
     left
 }

@@ -1,20 +1,17 @@
--- `left_behind` meets its contract, by the edition and by who goes.
-use borrow.Author.Tests.{eq-eqb, ne-eqb, le-leb, lt-leb}
+-- `left_behind` meets its contract, by the edition.
+use borrow.Author.Tests.{eq-eqb, ne-eqb}
 use Rattle.servers.specs.Waking.{leftBehind}
+use borrow.Author.Needs.{needs}
 use Rattle.servers.proofs.waking.left_behind.Statement.{statement}
 use Rattle.servers.proofs.waking.left_behind.Tie as tie
 
 returns : tie.Need-returns
 unfolding leftBehind
-returns c = rw (eq-eqb _ 1 (c .if1 .taken))
+returns c = rw (ne-eqb _ 1 (c .before .if1 .taken)) (c .taken-off .ensures)
 
 returns-2 : tie.Need-returns-2
 unfolding leftBehind
-returns-2 c = rw (ne-eqb _ 1 (c .before .if1 .left), le-leb _ _ (c .if2 .taken))
-
-returns-3 : tie.Need-returns-3
-unfolding leftBehind
-returns-3 c = rw (ne-eqb _ 1 (c .before .if1 .left), lt-leb _ _ (c .if2 .left))
+returns-2 c = rw (eq-eqb _ 1 (c .if1 .left))
 
 pub left-behind-spec : {M : Type 1} → statement M
-left-behind-spec = tie.close (tie.spec returns returns-2 returns-3)
+left-behind-spec = tie.close (tie.spec (search needs) returns returns-2)
