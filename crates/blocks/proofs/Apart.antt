@@ -127,15 +127,15 @@ module _ (tables tape w tally : List ℕ) (x : Scalars) where
   unfolding holdUnits rowsOf
   held-waits v units who all = record { waits = used-units v units who }
 
-  queued-waits : (v : ℕ) → Stays tally (queueUp w tally x v)
+  queued-waits : (v edition : ℕ) → Stays tally (queueUp w tally x v edition)
   unfolding queueUp longer rowsOf
-  queued-waits v = record { waits = one-set tally (Layout.qlLength + v) _ (omega arith) }
+  queued-waits v edition = record { waits = one-set tally (Layout.qlLength + v) _ (omega arith) }
 
   taken-waits : (v b who : ℕ) → Stays tally (takeUnits tables w tally x v b who)
   unfolding takeUnits
   taken-waits v b who =
-      either tally (leb b (capacity tables v - inUse tally v)) (holdUnits w tally x v (inUse tally v + b) who (capacity tables v)) (queueUp w tally x v)
-      (held-waits v (inUse tally v + b) who (capacity tables v)) (queued-waits v)
+      either tally (leb b (capacity tables v - inUse tally v)) (holdUnits w tally x v (inUse tally v + b) who (capacity tables v)) (queueUp w tally x v (getD tables Layout.edition 0))
+      (held-waits v (inUse tally v + b) who (capacity tables v)) (queued-waits v (getD tables Layout.edition 0))
 
   seize-waits : (at : ℕ) → Stays tally (seize tables w tally x at)
   unfolding seize
@@ -157,15 +157,15 @@ module _ (tables tape w tally : List ℕ) (x : Scalars) where
       either tally (eqb end 0) (freeOne tables w tally x v (inUse tally v - 1)) (rowsOf (stopped x end) w tally)
       (freed-waits v (inUse tally v - 1)) (plain tally (stopped x end) w)
 
-  left-waits : (v units : ℕ) → Stays tally (freeSome tables w tally x v units)
+  left-waits : (v units b : ℕ) → Stays tally (freeSome tables w tally x v units b)
   unfolding freeSome rowsOf
-  left-waits v units = record { waits = more-set tally (setUse tally v units 0) (Layout.qlLength + v) _ (omega arith) (used-units v units 0) }
+  left-waits v units b = record { waits = more-set tally (setUse tally v units 0) (Layout.qlLength + v) _ (omega arith) (used-units v units 0) }
 
   leave-waits : (at : ℕ) → Stays tally (leave tables w tally x at)
   unfolding leave
   leave-waits at =
-      either tally (ltb (inUse tally (serverAt tables (at + 1))) (getD tables (at + 2) 0)) (rowsOf (stopped x 24) w tally) (freeSome tables w tally x (serverAt tables (at + 1)) (inUse tally (serverAt tables (at + 1)) - getD tables (at + 2) 0))
-      (plain tally (stopped x 24) w) (left-waits (serverAt tables (at + 1)) (inUse tally (serverAt tables (at + 1)) - getD tables (at + 2) 0))
+      either tally (ltb (inUse tally (serverAt tables (at + 1))) (getD tables (at + 2) 0)) (rowsOf (stopped x 24) w tally) (freeSome tables w tally x (serverAt tables (at + 1)) (inUse tally (serverAt tables (at + 1)) - getD tables (at + 2) 0) (getD tables (at + 2) 0))
+      (plain tally (stopped x 24) w) (left-waits (serverAt tables (at + 1)) (inUse tally (serverAt tables (at + 1)) - getD tables (at + 2) 0) (getD tables (at + 2) 0))
 
   arrive-waits : (at : ℕ) → Stays tally (arrive tables w tally x at)
   unfolding arrive contentCell rowsOf

@@ -82,13 +82,13 @@ taking-clock (some t) s h = omega arith
 
 -- ---- The turn
 
-module _ {m : BlockModel} {tape : List (List ℕ)} (proper : Proper m tape) (s : State) (sure : Sure m tape s) (serials : s .serial ≤ maxSerial)
+module _ {m : BlockModel} {tape : List (List ℕ)} (proper : Proper m tape) (s : State) (sure : Sure m tape s) (going : s .end ≡ 0) (serials : s .serial ≤ maxSerial)
     (turns : s .turns < maxTurns) where
   abbrev x : State
   x = takenOf s
 
   noted-taken : Noted s → Noted x
-  noted-taken h = noted-like s x (taken-took proper s sure serials turns .records) (taking-clock (s .moving) s (sure .ahead)) h
+  noted-taken h = noted-like s x (taken-took proper s sure going serials turns .records) (taking-clock (s .moving) s (sure .ahead)) h
 
   noted-note : (n : Note) (t : Transaction) (later : State) → later .view .clock ≡ x .view .clock → later .records ≡ x .records → Noted s →
       Noted (noteAs n t x later)
@@ -146,7 +146,7 @@ module _ {m : BlockModel} {tape : List (List ℕ)} (proper : Proper m tape) (rul
       none-yet = unfold idle in refl
 
   both-turn : (s : State) → Taken budget room s → Both s → Both (turn m s)
-  both-turn s t h = (kept-turn proper rules room budget s t (h .0), noted-turn proper s (h .0 .sure) (t .serials) (t .turns-left) (h .1))
+  both-turn s t h = (kept-turn proper rules room budget s t (h .0), noted-turn proper s (h .0 .sure) (t .no-end) (t .serials) (t .turns-left) (h .1))
 
   both-last : Both (run m tape budget room)
   both-last = last-state m budget room Both both-turn (λ s e c h. (kept-end proper rules room budget s e (h .0), h .1)) tape both-start

@@ -10,7 +10,7 @@ use lib.ListN.{length, getD, set}
 use lib.IntN.{ℤ}
 use mir.Syntax.{w32}
 use mir.Val.{toZ}
-use Rattle.machine.specs.Transaction.{Transaction}
+use Rattle.machine.specs.Transaction.{Transaction, precedes}
 use Rattle.machine.specs.Term.{Term, Relation, signed, low32, evaluate, compare, truth}
 use Rattle.machine.specs.Block.{waitTerms, branch, goto, assign, BlockModel, blockAt}
 use Rattle.machine.specs.State.{State}
@@ -22,6 +22,7 @@ use Rattle.tables.specs.Layout as Layout
 use Rattle.tables.specs.Represents.{Represents}
 use Rattle.rows.specs.Layout.{wsl, parameterField}
 use Rattle.rows.specs.Cells.{write}
+use Rattle.rows.specs.Ordered.{Sorted}
 use Rattle.rows.proofs.Fields.{write-parameter}
 use Rattle.terms.specs.Evaluation.{compareAt}
 use Rattle.terms.specs.Nested.{Nested}
@@ -30,7 +31,7 @@ use Rattle.terms.proofs.Signs.{signed-low}
 use Rattle.terms.proofs.Laws.{let-law, wait-law, if-law}
 use Rattle.state.specs.declared.scalars.Scalars.{Scalars}
 use Rattle.state.specs.Sane.{Sane}
-use Rattle.state.specs.Stands.{Rows, Listing, Stands, Done}
+use Rattle.state.specs.Stands.{Rows, listsOf, Listing, Stands, Done}
 use Rattle.state.specs.Bare.{entering, waiting, bare, bareAnswer}
 use Rattle.state.proofs.StandsLaws.{listing-write, stands-moving}
 use Rattle.moves.specs.Motion.{Moved, withTally, goTo, goOn, waitOn}
@@ -88,10 +89,14 @@ module _ {m : BlockModel} {tape : List (List ℕ)} {tapeBytes tables lists : Lis
 
   -- ---- 9 WAITIF
 
-  wait-on : Done tapeBytes (withTally (waitOn (r .work) x wsl) (r .tally)) (waiting Moves.toWsl t alone)
+  sorted : Sorted precedes (s .wsl)
+  unfolding listsOf
+  sorted = stands .listing .shows .ordered .lists wsl (omega arith)
+
+  wait-on : Done tapeBytes (withTally (waitOn (r .work) x wsl 1) (r .tally)) (waiting Moves.toWsl t alone)
   wait-on =
-      waits-done tapeBytes (r .tally) (waitOn (r .work) x wsl) (waiting Moves.toWsl t alone)
-      (wait-on-waits wsl (omega arith) Moves.toWsl (r .work) x t alone refl (still .listing) (still .counting) (serial-low m s sane) (puts-wsl alone) (puts-wsl _))
+      waits-done tapeBytes (r .tally) (waitOn (r .work) x wsl 1) (waiting Moves.toWsl t alone)
+      (wait-on-waits 1 wsl (omega arith) Moves.toWsl (r .work) x t alone refl (still .listing) (still .counting) (serial-low m s sane) (puts-wsl alone sorted) (puts-wsl _ sorted))
       (wsl-tallying tapeBytes (r .tally) t alone (still .tallying))
 
   pub wait-terms-done : (a : Term) (o : Relation) (b : Term) → blockAt m (t .next) ≡ waitTerms a o b
@@ -100,7 +105,7 @@ module _ {m : BlockModel} {tape : List (List ℕ)} {tapeBytes tables lists : Lis
   wait-terms-done a o b e =
       rw (holds-is a o b (wait-law rep nested seen (parametersAt (r .work) (x .moving)) i there a o b e)) (go (compare (m .values) (s .view) (t .parameters) a o b))
     where
-      go : (c : Bool) → Done tapeBytes (withTally (cond c (waitOn (r .work) x wsl) (goOn (r .work) x)) (r .tally)) (cond c (waiting Moves.toWsl t alone) (entering (Moves.goOn t alone)))
+      go : (c : Bool) → Done tapeBytes (withTally (cond c (waitOn (r .work) x wsl 1) (goOn (r .work) x)) (r .tally)) (cond c (waiting Moves.toWsl t alone) (entering (Moves.goOn t alone)))
       go true = wait-on
       go false = go-on
 
@@ -173,8 +178,8 @@ module _ (tables : List ℕ) (values : ℕ) (w tally : List ℕ) (x : Scalars) (
   unfolding Rows.waitTerms
   wait-terms-used = go (holdsAt tables values w tally (x .clock) (x .moving) at)
     where
-      go : (c : Bool) → cond {A = Moved} c (waitOn w x wsl) (goOn w x) .scalars .used ≡ x .used
-      go true = wait-on-used w x wsl
+      go : (c : Bool) → cond {A = Moved} c (waitOn w x wsl 1) (goOn w x) .scalars .used ≡ x .used
+      go true = wait-on-used w x wsl 1
       go false = go-on-used w x
 
   pub branch-used : Rows.branch tables values w tally x at .scalars .used ≡ x .used

@@ -105,7 +105,7 @@ pub fn wait_terms(
     let k = x.moving;
     let clock = x.clock;
     if holds(tables, values, work, tally, clock, k, at) {
-        return wait_on(work, x, WSL);
+        return wait_on(work, x, WSL, 1);
     }
     go_on(work, x)
 }

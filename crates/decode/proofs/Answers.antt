@@ -18,7 +18,7 @@ use Rattle.decode.specs.declared.Tape.the-variants.{At, Refused as NoTap
 use Rattle.decode.specs.Models.{tablesOf, ProperModel, Models}
 use Rattle.decode.specs.Lists.{emptyLists, Filled, Lists}
 use Rattle.decode.specs.Decodes.{Decodes, refusalOf}
-use Rattle.decode.proofs.Represented.{block-at, block-small, value-at, value-small, capacity-at}
+use Rattle.decode.proofs.Represented.{block-at, block-small, value-at, value-small, capacity-at, edition-at}
 use Rattle.decode.proofs.Lists.{tape-length, all-begin, all-counts}
 
 represented : (m : BlockModel) (tape : List (List ℕ)) (bytes cells : List ℕ) → ProperModel m → length tape ≡ m .lists → Filled bytes 0 emptyLists cells tape →
@@ -27,11 +27,12 @@ represented m tape bytes cells w n f =
     let few : length tape ≤ 16 = rw n (w .lists) in
     record {
       rules = w .rules;
+      edition = edition-at m w;
       blocks = block-at m w;
       small-blocks = block-small m w;
       values = value-at m w;
       small-values = value-small m w;
-      capacities = λ v h. capacity-at m w v;
+      capacities = λ v h. capacity-at m w v h;
       begins = λ k h. all-begin bytes tape cells few f k (omega arith);
       counts = λ k h. all-counts bytes tape cells few f k h;
     }

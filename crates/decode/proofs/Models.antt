@@ -38,6 +38,7 @@ abbrev modelFrom : Servers → Things → Program → BlockModel
 modelFrom a b p =
     record {
       rules = inForce;
+      edition = a .edition;
       facilities = a .facilities;
       capacities = a .capacities;
       queues = b .queues;

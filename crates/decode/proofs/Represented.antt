@@ -5,8 +5,8 @@ use mathlib.Core.Path.{_≡_, refl, sym, ap, _∙_}
 use mathlib.Core.Bool.{Bool, true, false}
 use mathlib.Core.List.{List, [], _∷_, _++_}
 use lib.Dec.{ltb, T}
-use lib.ListN.{length, getD, drop, replicate, length-replicate, getD-replicate, length-take, length-drop, List·getD-append, List·getD-eq-default}
-use lib.Seq.{sets, length-sets, ext-getD, getD-take, getD-drop, getD-append-add}
+use lib.ListN.{length, getD, drop, replicate, length-set, length-replicate, getD-replicate, length-take, length-drop, List·getD-append, List·getD-eq-default}
+use lib.Seq.{sets, getD-set-same, getD-set-other, length-sets, ext-getD, getD-take, getD-drop, getD-append-add}
 use borrow.Author.Tests.{ltb-true, ltb-false}
 use Rattle.machine.specs.Term.{Sum, nothing}
 use Rattle.machine.specs.Block.{terminate, BlockModel}
@@ -32,13 +32,17 @@ zeros zero i = refl
 zeros (suc n) zero = refl
 zeros (suc n) (suc i) = zeros n i
 
-length-empty : length emptyTables ≡ 2624
+length-empty : (edition : ℕ) → length (emptyTables edition) ≡ 2625
 unfolding emptyTables
-length-empty = length-replicate {A = ℕ} 2624 0
+length-empty edition = length-set (replicate 2625 0) 2624 edition ∙ length-replicate {A = ℕ} 2625 0
 
-empty-zero : (i : ℕ) → getD emptyTables i 0 ≡ 0
+empty-zero : (edition i : ℕ) → (i ≡ 2624 → ⊥) → getD (emptyTables edition) i 0 ≡ 0
 unfolding emptyTables
-empty-zero i = zeros 2624 i
+empty-zero edition i ne = getD-set-other (replicate 2625 0) 2624 i edition 0 ne ∙ zeros 2625 i
+
+empty-edition : (edition : ℕ) → getD (emptyTables edition) 2624 0 ≡ edition
+unfolding emptyTables
+empty-edition edition = getD-set-same (replicate 2625 0) 2624 edition 0 (omega (arith, length-replicate {A = ℕ} 2625 0))
 
 -- ---- Facilities and storages
 
@@ -46,8 +50,11 @@ abbrev number : ℕ → List ℕ
 number = numberShape 1 65535 1 .numbers
 
 module _ (a : Servers) (w : ProperServers a) where
-  pub length-servers : length (serversCells a) ≡ 2624
-  length-servers = length-rows number 1 (a .capacities) (2560 + a .facilities) _ ∙ length-sets emptyTables 2560 (replicate (a .facilities) 1) ∙ length-empty
+  abbrev empty : List ℕ
+  empty = emptyTables (a .edition)
+
+  pub length-servers : length (serversCells a) ≡ 2625
+  length-servers = length-rows number 1 (a .capacities) (2560 + a .facilities) _ ∙ length-sets empty 2560 (replicate (a .facilities) 1) ∙ length-empty (a .edition)
 
   single : (l : List ℕ) → Each (λ v. length (number v) ≤ 1) l
   single [] = tt
@@ -59,32 +66,34 @@ module _ (a : Servers) (w : ProperServers a) where
       let f = w .facilities in
       let n = w .storages in
       let c = w .count in
-      let room : 2560 + a .facilities + 1 * length (a .capacities) ≤ length (sets emptyTables 2560 (replicate (a .facilities) 1))
-      = simp length-sets (omega (arith, length-empty)) in
+      let room : 2560 + a .facilities + 1 * length (a .capacities) ≤ length (sets empty 2560 (replicate (a .facilities) 1))
+      = simp length-sets (omega (arith, length-empty (a .edition))) in
       let e : 2560 + a .facilities + k ≡ 2560 + a .facilities + 1 * k + 0 = omega arith in
       let v = each-at Capacity (a .capacities) 0 (w .each) k h in
       rw e
-      (rows-inside number 1 (a .capacities) (2560 + a .facilities) k 0 (sets emptyTables 2560 (replicate (a .facilities) 1)) 0 (single (a .capacities)) room h (omega arith)
+      (rows-inside number 1 (a .capacities) (2560 + a .facilities) k 0 (sets empty 2560 (replicate (a .facilities) 1)) 0 (single (a .capacities)) room h (omega arith)
       ∙ omega (arith, v .0))
 
   facility-cell : (v : ℕ) → v < a .facilities → getD (serversCells a) (2560 + v) 0 ≡ 1
   facility-cell v h =
       let f = w .facilities in
       let l = length-replicate {A = ℕ} (a .facilities) 1 in
-      rows-below number 1 (a .capacities) (2560 + a .facilities) (2560 + v) (sets emptyTables 2560 (replicate (a .facilities) 1)) (omega arith)
-      ∙ sets-inside (replicate (a .facilities) 1) emptyTables 2560 v (omega (arith, length-empty)) (omega arith)
+      rows-below number 1 (a .capacities) (2560 + a .facilities) (2560 + v) (sets empty 2560 (replicate (a .facilities) 1)) (omega arith)
+      ∙ sets-inside (replicate (a .facilities) 1) empty 2560 v (omega (arith, length-empty (a .edition))) (omega arith)
       ∙ getD-replicate (a .facilities) v 1 0 h
 
-  other-cell : (v : ℕ) → a .facilities + length (a .capacities) ≤ v → getD (serversCells a) (2560 + v) 0 ≡ 0
-  other-cell v h =
+  other-cell : (i : ℕ) → 2560 + a .facilities + length (a .capacities) ≤ i → getD (serversCells a) i 0 ≡ getD empty i 0
+  other-cell i h =
       let l = length-replicate {A = ℕ} (a .facilities) 1 in
-      rows-above number 1 (a .capacities) (2560 + a .facilities) (2560 + v) (sets emptyTables 2560 (replicate (a .facilities) 1)) (single (a .capacities)) (omega arith)
-      ∙ sets-above (replicate (a .facilities) 1) emptyTables 2560 (2560 + v) (omega arith)
-      ∙ empty-zero (2560 + v)
+      rows-above number 1 (a .capacities) (2560 + a .facilities) i (sets empty 2560 (replicate (a .facilities) 1)) (single (a .capacities)) (omega arith)
+      ∙ sets-above (replicate (a .facilities) 1) empty 2560 i (omega arith)
+
+  pub edition-cell : getD (serversCells a) 2624 0 ≡ a .edition
+  edition-cell = other-cell 2624 (omega (arith, w .facilities, w .storages, w .count)) ∙ empty-edition (a .edition)
 
   -- the capacity of each server
-  pub server-cell : (v : ℕ) → getD (serversCells a) (2560 + v) 0 ≡ getD (replicate (a .facilities) 1 ++ a .capacities) v 0
-  server-cell v = go (ltb v (a .facilities)) (ltb v (a .facilities + length (a .capacities))) refl refl
+  pub server-cell : (v : ℕ) → v < 64 → getD (serversCells a) (2560 + v) 0 ≡ getD (replicate (a .facilities) 1 ++ a .capacities) v 0
+  server-cell v small = go (ltb v (a .facilities)) (ltb v (a .facilities + length (a .capacities))) refl refl
     where
       l : length (replicate {A = ℕ} (a .facilities) 1) ≡ a .facilities
       l = length-replicate {A = ℕ} (a .facilities) 1
@@ -109,7 +118,7 @@ module _ (a : Servers) (w : ProperServers a) where
       go false false e f =
           let h = ltb-false v (a .facilities) e in
           let g = ltb-false v (a .facilities + length (a .capacities)) f in
-          other-cell v g ∙ sym (past h ∙ List·getD-eq-default (a .capacities) 0 (omega arith))
+          other-cell (2560 + v) (omega arith) ∙ empty-zero (a .edition) (2560 + v) (λ z. omega arith) ∙ sym (past h ∙ List·getD-eq-default (a .capacities) 0 (omega arith))
 
 -- ---- Values leave them
 
@@ -120,7 +129,7 @@ module _ (a : Servers) (w : ProperServers a) (sums : List Sum) (few : length sum
   abbrev cells : List ℕ
   cells = storedRows sumNumbers 64 2048 sums (serversCells a)
 
-  length-cells : length cells ≡ 2624
+  length-cells : length cells ≡ 2625
   length-cells = length-rows sumNumbers 64 sums 2048 (serversCells a) ∙ length-servers a w
 
   after-values : (i : ℕ) → 2560 ≤ i → getD cells i 0 ≡ getD (serversCells a) i 0
@@ -148,7 +157,7 @@ module _ (a : Servers) (w : ProperServers a) (sums : List Sum) (few : length sum
 
 module _ (m : BlockModel) (w : ProperModel m) where
   abbrev servers : Servers
-  servers = record { facilities = m .facilities; storages = length (m .capacities); capacities = m .capacities }
+  servers = record { edition = m .edition; facilities = m .facilities; storages = length (m .capacities); capacities = m .capacities }
 
   proper-servers : ProperServers servers
   proper-servers = record { facilities = w .facilities; storages = w .storages; count = refl; each = w .capacity }
@@ -156,13 +165,13 @@ module _ (m : BlockModel) (w : ProperModel m) where
   abbrev below-blocks : List ℕ
   below-blocks = cells servers proper-servers (m .values) (w .values) (w .value)
 
-  length-below : length below-blocks ≡ 2624
+  length-below : length below-blocks ≡ 2625
   length-below = length-cells servers proper-servers (m .values) (w .values) (w .value)
 
   fits-block : Each (λ b. length (blockNumbers b) ≤ 8) (m .blocks)
   fits-block = each-map (Formed (length (m .blocks))) (λ b. length (blockNumbers b) ≤ 8) (λ b h. h .width) (m .blocks) (w .block)
 
-  length-tables : length (tablesOf m) ≡ 2624
+  length-tables : length (tablesOf m) ≡ 2625
   unfolding tablesOf
   length-tables = length-rows blockNumbers 8 (m .blocks) 0 below-blocks ∙ length-below
 
@@ -193,11 +202,17 @@ module _ (m : BlockModel) (w : ProperModel m) where
       ∙ rows-inside sumNumbers 64 (m .values) 2048 k i (serversCells servers) nothing (fits-value (m .values) (w .value))
       (omega (arith, length-servers servers proper-servers)) h g)
 
-  pub capacity-at : (v : ℕ) → getD (tablesOf m) (2560 + v) 0 ≡ getD (replicate (m .facilities) 1 ++ m .capacities) v 0
-  capacity-at v =
+  pub capacity-at : (v : ℕ) → v < 64 → getD (tablesOf m) (2560 + v) 0 ≡ getD (replicate (m .facilities) 1 ++ m .capacities) v 0
+  capacity-at v small =
       after-blocks (2560 + v) (omega arith)
       ∙ after-values servers proper-servers (m .values) (w .values) (w .value) (2560 + v) (omega arith)
-      ∙ server-cell servers proper-servers v
+      ∙ server-cell servers proper-servers v small
+
+  pub edition-at : getD (tablesOf m) 2624 0 ≡ m .edition
+  edition-at =
+      after-blocks 2624 (omega arith)
+      ∙ after-values servers proper-servers (m .values) (w .values) (w .value) 2624 (omega arith)
+      ∙ edition-cell servers proper-servers
 
   pub block-small : (b : ℕ) → T (smallBlock (getD (m .blocks) b (terminate 0)))
   unfolding blockForms

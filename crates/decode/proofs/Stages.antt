@@ -77,10 +77,10 @@ same-header {h} {k} {p} {q} G g e = let f : h ≡ k = cc in rw (← f) g
 -- ---- Servers
 
 module _ (s : List ℕ) {p a b d : Place} {v f n : ℕ} {r₁ r₂ r₃ : Taken} {r₄ : Stored} (l : List ℕ) {l₁ l₂ l₃ : List ℕ} (e : Model)
-    (k₁ : Takes (plainShape 1 1) p 0 [] [] r₁ (field s 3 1 1 (cursorOf p))) (t₁ : r₁ ≡ Number v a)
+    (k₁ : Takes (plainShape 1 2) p 0 [] [] r₁ (field s 3 1 2 (cursorOf p))) (t₁ : r₁ ≡ Number v a)
     (k₂ : Takes (plainShape 0 32) a 0 [] [] r₂ (field s 3 0 32 (cursorOf a))) (t₂ : r₂ ≡ Number f b)
     (k₃ : Takes (plainShape 0 32) b 0 [] [] r₃ (field s 3 0 32 (cursorOf b))) (t₃ : r₃ ≡ Number n d)
-    (cleared : l₁ ≡ emptyTables) (ones : l₂ ≡ sets l₁ 2560 (replicate f 1))
+    (cleared : l₁ ≡ emptyTables v) (ones : l₂ ≡ sets l₁ 2560 (replicate f 1))
     (k₄ : Rows (numberShape 1 65535 1) Capacity 1 (2560 + f) d l₂ l₃ r₄ (times n (field s 3 1 65535) (cursorOf d))) where
   pub servers-stop : {m : ℕ} → r₄ ≡ NotStored m → Stage serversShape noModel p l l₃ (Refused m) (serversField s (cursorOf p))
   unfolding serversField

@@ -112,7 +112,7 @@ module _ (w : List ℕ) (k moving : ℕ) (o : Option Transaction) (s s′ : Stat
       record {
         shows =
             shows-ext (put w rel k) (update rel (insert precedes (transactionAt w k) (listsOf s rel)) (listsOf s)) (listsOf s′) (s .fel) (s′ .fel) lists future
-            (shows-put w (listsOf s) (s .fel) (h .shows) k (h .row) rel (omega arith));
+            (shows-put w (listsOf s) (s .fel) (h .shows) k (h .row) rel (omega arith) (h .shows .ordered .lists rel (omega arith)));
         mover = mover-kept w (put w rel k) k moving o (h .apart) (kept-around w (put w rel k) k (put-keeps w (h .shows .rows) (h .shows .shown .holds) rel k (omega arith) (h .row))) (h .mover);
         spare =
             rw (update-other rel (insert (ahead w rel) k (h .shows .rows rel)) (h .shows .rows) free (λ e. omega arith), living) (omega (arith, h .spare));

@@ -132,7 +132,7 @@ module _ (w : List ℕ) (x : Scalars) (t : Transaction) (s : State) (listing : L
     rank-follows =
         subst (λ (m : Moved). Follows m 0 none (toRel u s)) (sym rank-is)
         (record {
-          listing = listing-put v₃ k (withSerial n u) s (toRel u s) h₃ refl rel (omega arith) (λ q hq. lists-set-rel s (insert precedes (withSerial n u) (s .rel)) q hq) refl;
+          listing = listing-put v₃ k (withSerial n u) s (toRel u s) h₃ refl rel (omega arith) (omega arith) (λ q hq. lists-set-rel s (insert precedes (withSerial n u) (s .rel)) q hq) refl;
           counting =
               record {
                 clock = counting .clock;

@@ -3,7 +3,7 @@
 use Prim.Native.Nat.{ℕ, zero, suc, _+_, _*_, _/_, _%_, _-_, _<_}
 use mathlib.Core.Path.{_≡_, refl, sym, ap, _∙_, subst}
 use mathlib.Core.Bool.{Bool, true, false, cond}
-use mathlib.Core.List.{List, []}
+use mathlib.Core.List.{List, [], _∷_}
 use mathlib.Core.Option.{Option, none, some}
 use native.Mathlib.Omega.{arith}
 use borrow.Author.Tests.{ne-eqb}
@@ -15,16 +15,23 @@ use Rattle.machine.specs.Block.{Code, Block, BlockModel, welIndex}
 use Rattle.machine.specs.State.{State}
 use Rattle.machine.specs.Setters.{withNext, withSerial, withReturning, setSerial, setMoving, setEnd}
 use Rattle.machine.specs.Moves as Moves
+use Rattle.machine.specs.Claims.{Each}
+use Rattle.machine.proofs.Sorted as Machine
 use Rattle.rows.specs.Layout.{wsl}
 use Rattle.rows.specs.Cells.{read, write}
-use Rattle.rows.specs.Lists.{put}
+use Rattle.rows.specs.Lines.{lineUp}
+use Rattle.rows.specs.Ordered.{All, Sorted}
+use Rattle.rows.specs.Shows.{orderOf}
 use Rattle.rows.specs.Holds.{transactionAt, update}
+use Rattle.rows.proofs.Insertion.{insert-sorted}
+use Rattle.rows.proofs.Orders.{precedes-order}
+use Rattle.rows.proofs.Ordering.{sorted-line}
 use Rattle.rows.proofs.Fields.{write-next, write-serial, set-returning}
 use Rattle.state.specs.declared.scalars.Scalars.{Scalars}
 use Rattle.state.specs.Stands.{Rows, rowsOf, listsOf, Listing, Tallying, Counting, Stands, noteOf, Done}
 use Rattle.state.specs.Bare.{waitsNote, noNote, Bare, entering, goingBack, waiting, bare, bareAnswer}
 use Rattle.state.proofs.ListsOf.{lists-ql, lists-wel, lists-set-ql, lists-set-wel, lists-set-wsl}
-use Rattle.state.proofs.StandsLaws.{listing-ext, listing-write, listing-put, tallying-ext, counting-ext, stands-of, stands-moving}
+use Rattle.state.proofs.StandsLaws.{listing-ext, listing-write, listing-line, tallying-ext, counting-ext, stands-of, stands-moving}
 use Rattle.moves.specs.Motion.{Moved, moved, withTally, next32, goTo, goOn, goBack, putBack, beginWait, waitOn, stopped}
 
 next32-suc : (n : ℕ) → n < 4294967295 → next32 n ≡ suc n
@@ -154,9 +161,11 @@ module _ (tapeBytes : List ℕ) (m : BlockModel) (r : Rows) (t : Transaction) (s
 
 -- ---- Waiting
 
--- Putting a transaction onto list p of a state changes that list and nothing that scalars hold.
-pub record Puts (p : ℕ) (into : Transaction → State → State) (s : State) : Type 0 where
-  pub lists : (t : Transaction) (q : ℕ) → q < 450 → update p (insert precedes t (listsOf s p)) (listsOf s) q ≡ listsOf (into t s) q
+-- Lining up a transaction on list p of a state changes that list and nothing that scalars hold. Under edition 1 the list is in order.
+pub record Puts (edition p : ℕ) (into : Transaction → State → State) (s : State) : Type 0 where
+  pub lists : (t : Transaction) (q : ℕ) → q < 450 → update p (Moves.lineUp edition t (listsOf s p)) (listsOf s) q ≡ listsOf (into t s) q
+  pub sorted : edition ≡ 1 → Sorted precedes (listsOf s p)
+  pub stays : (t : Transaction) → Sorted (orderOf p) (Moves.lineUp edition t (listsOf s p))
   pub future : (t : Transaction) → s .fel ≡ into t s .fel
   pub clock : (t : Transaction) → s .view .clock ≡ into t s .view .clock
   pub counter : (t : Transaction) → s .counter ≡ into t s .counter
@@ -167,11 +176,25 @@ pub record Puts (p : ℕ) (into : Transaction → State → State) (s : State) :
   pub end : (t : Transaction) → s .end ≡ into t s .end
   pub moving : (t : Transaction) → s .moving ≡ into t s .moving
 
-pub puts-ql : (v : ℕ) (s : State) → v - 1 < 64 → v - 1 < length (s .ql) → Puts (v - 1) (Moves.toQl v) s
+-- the machine's sorted lists are the rows'
+all-of : (t : Transaction) (l : List Transaction) → Each (λ u. precedes u t ≡ false) l → All (λ u. precedes u t ≡ false) l
+unfolding All
+all-of t [] h = tt
+all-of t (u ∷ l) h = (h .0, all-of t l (h .1))
+
+sorted-of : (l : List Transaction) → Machine.Sorted precedes l → Sorted precedes l
+unfolding Sorted
+sorted-of [] h = tt
+sorted-of (t ∷ l) h = (all-of t l (h .0), sorted-of l (h .1))
+
+pub puts-ql : (edition v : ℕ) (s : State) → v - 1 < 64 → v - 1 < length (s .ql) → (edition ≡ 1 → Machine.Sorted precedes (getD (s .ql) (v - 1) []))
+    → Puts edition (v - 1) (Moves.toQl edition v) s
 unfolding Moves.toQl
-puts-ql v s h len =
+puts-ql edition v s h len sorted =
     record {
-      lists = λ t q hq. rw (lists-ql s (v - 1) h) (lists-set-ql s (v - 1) (insert precedes t (getD (s .ql) (v - 1) [])) h len q);
+      lists = λ t q hq. rw (lists-ql s (v - 1) h) (lists-set-ql s (v - 1) (Moves.lineUp edition t (getD (s .ql) (v - 1) [])) h len q);
+      sorted = λ first. rw (lists-ql s (v - 1) h) (sorted-of (getD (s .ql) (v - 1) []) (sorted first));
+      stays = λ t. sorted-line (v - 1) (omega arith) _;
       future = λ t. refl;
       clock = λ t. refl;
       counter = λ t. refl;
@@ -183,11 +206,14 @@ puts-ql v s h len =
       moving = λ t. refl;
     }
 
-pub puts-wel : (v : ℕ) (code : Code) (s : State) → welIndex v code < 384 → welIndex v code < length (s .wel) → Puts (64 + welIndex v code) (Moves.toWel v code) s
+pub puts-wel : (edition v : ℕ) (code : Code) (s : State) → welIndex v code < 384 → welIndex v code < length (s .wel)
+    → (edition ≡ 1 → Machine.Sorted precedes (getD (s .wel) (welIndex v code) [])) → Puts edition (64 + welIndex v code) (Moves.toWel edition v code) s
 unfolding Moves.toWel
-puts-wel v code s h len =
+puts-wel edition v code s h len sorted =
     record {
-      lists = λ t q hq. rw (lists-wel s (welIndex v code) h) (lists-set-wel s (welIndex v code) (insert precedes t (getD (s .wel) (welIndex v code) [])) h len q);
+      lists = λ t q hq. rw (lists-wel s (welIndex v code) h) (lists-set-wel s (welIndex v code) (Moves.lineUp edition t (getD (s .wel) (welIndex v code) [])) h len q);
+      sorted = λ first. rw (lists-wel s (welIndex v code) h) (sorted-of (getD (s .wel) (welIndex v code) []) (sorted first));
+      stays = λ t. sorted-line (64 + welIndex v code) (omega arith) _;
       future = λ t. refl;
       clock = λ t. refl;
       counter = λ t. refl;
@@ -199,11 +225,14 @@ puts-wel v code s h len =
       moving = λ t. refl;
     }
 
-pub puts-wsl : (s : State) → Puts wsl Moves.toWsl s
-unfolding Moves.toWsl listsOf
-puts-wsl s =
+-- the WSL is in order under either edition
+pub puts-wsl : (s : State) → Sorted precedes (s .wsl) → Puts 1 wsl Moves.toWsl s
+unfolding Moves.toWsl Moves.lineUp listsOf
+puts-wsl s sorted =
     record {
       lists = λ t q hq. lists-set-wsl s (insert precedes t (s .wsl)) q;
+      sorted = λ first. sorted;
+      stays = λ t. insert-sorted precedes precedes-order t (s .wsl) sorted;
       future = λ t. refl;
       clock = λ t. refl;
       counter = λ t. refl;
@@ -215,13 +244,13 @@ puts-wsl s =
       moving = λ t. refl;
     }
 
-puts-listing : (p : ℕ) → p < 450 → (into : Transaction → State → State) (w : List ℕ) (k : ℕ) (t : Transaction) (s : State) → Puts p into s
-    → Listing w k (some t) s → Listing (put w p k) 1024 none (into t s)
-puts-listing p hp into w k t s puts h =
-    listing-put w k t s (into t s) h (rw (← puts .made t, ← puts .ended t)) p hp (puts .lists t) (puts .future t)
+puts-listing : (edition p : ℕ) → p < 450 → (into : Transaction → State → State) (w : List ℕ) (k : ℕ) (t : Transaction) (s : State) → Puts edition p into s
+    → Listing w k (some t) s → Listing (lineUp edition w p k) 1024 none (into t s)
+puts-listing edition p hp into w k t s puts h =
+    listing-line w k t s (into t s) h (rw (← puts .made t, ← puts .ended t)) edition p hp (puts .sorted) (puts .stays t) (puts .lists t) (puts .future t)
 
-puts-counting : (p : ℕ) (into : Transaction → State → State) (x : Scalars) (t : Transaction) (s : State) → Puts p into s → Counting x s → Counting x (into t s)
-puts-counting p into x t s puts h =
+puts-counting : (edition p : ℕ) (into : Transaction → State → State) (x : Scalars) (t : Transaction) (s : State) → Puts edition p into s → Counting x s → Counting x (into t s)
+puts-counting edition p into x t s puts h =
     counting-ext x s (into t s) (puts .clock t) (puts .counter t) (puts .serial t) (puts .made t) (puts .ended t) (puts .turns t) (puts .end t) h
 
 -- what a wait leaves, but for the tally
@@ -231,14 +260,14 @@ pub record Waits (m : Moved) (b : Bare) : Type 0 where
   pub nobody : b .state .moving ≡ none
   pub note : noteOf (m .scalars .note) ≡ b .note
 
-module _ (p : ℕ) (hp : p < 450) (into : Transaction → State → State) (w : List ℕ) (x : Scalars) (t : Transaction) (s : State) (alone : s .moving ≡ none)
+module _ (edition p : ℕ) (hp : p < 450) (into : Transaction → State → State) (w : List ℕ) (x : Scalars) (t : Transaction) (s : State) (alone : s .moving ≡ none)
     (listing : Listing w (x .moving) (some t) s) (counting : Counting x s) where
-  put-back-waits : Puts p into s → Waits (putBack w x p) (record { note = noNote; state = into t s })
+  put-back-waits : Puts edition p into s → Waits (putBack w x p edition) (record { note = noNote; state = into t s })
   unfolding putBack moved noteOf
   put-back-waits puts =
-      let c : Counting x (into t s) = puts-counting p into x t s puts counting in
+      let c : Counting x (into t s) = puts-counting edition p into x t s puts counting in
       record {
-        listing = puts-listing p hp into w (x .moving) t s puts listing;
+        listing = puts-listing edition p hp into w (x .moving) t s puts listing;
         counting =
             record {
               clock = c .clock;
@@ -259,7 +288,7 @@ module _ (p : ℕ) (hp : p < 450) (into : Transaction → State → State) (w : 
   abbrev t′ : Transaction
   t′ = withSerial (suc (s .serial)) t
 
-  begin-wait-waits : s .serial < 4294967295 → Puts p into later → Waits (beginWait w x p) (record { note = waitsNote; state = into t′ later })
+  begin-wait-waits : s .serial < 4294967295 → Puts edition p into later → Waits (beginWait w x p edition) (record { note = waitsNote; state = into t′ later })
   unfolding beginWait moved noteOf listsOf
   begin-wait-waits lt puts =
       let n : next32 (x .serial) ≡ suc (s .serial) = ap next32 (counting .serial) ∙ next32-suc (s .serial) lt in
@@ -268,7 +297,7 @@ module _ (p : ℕ) (hp : p < 450) (into : Transaction → State → State) (w : 
       listing-write w (x .moving) t later 7 (next32 (x .serial)) t′ (omega arith) l
       (write-serial w (x .moving) (l .shows .shown .holds .room) (l .mover .0 .row) (next32 (x .serial)) ∙ ap (λ (u : Transaction). withSerial (next32 (x .serial)) u) (l .mover .1) ∙ ap (λ (y : ℕ). withSerial y t) n) in
       record {
-        listing = puts-listing p hp into (write w 7 (x .moving) (next32 (x .serial))) (x .moving) t′ later puts g;
+        listing = puts-listing edition p hp into (write w 7 (x .moving) (next32 (x .serial))) (x .moving) t′ later puts g;
         counting =
             record {
               clock = counting .clock ∙ puts .clock t′;
@@ -288,11 +317,11 @@ module _ (p : ℕ) (hp : p < 450) (into : Transaction → State → State) (w : 
   unfolding transactionAt
   mark-read = ap (λ (u : Transaction). u .returning) (listing .mover .1)
 
-  pub wait-on-waits : s .serial < 4294967295 → Puts p into s → Puts p into later → Waits (waitOn w x p) (waiting into t s)
+  pub wait-on-waits : s .serial < 4294967295 → Puts edition p into s → Puts edition p into later → Waits (waitOn w x p edition) (waiting into t s)
   unfolding waitOn waiting
   wait-on-waits lt puts puts′ = rw mark-read (go (t .returning))
     where
-      go : (b : Bool) → Waits (cond b (putBack w x p) (beginWait w x p)) (cond b (record { note = noNote; state = into t s }) (record { note = waitsNote; state = into t′ later }))
+      go : (b : Bool) → Waits (cond b (putBack w x p edition) (beginWait w x p edition)) (cond b (record { note = noNote; state = into t s }) (record { note = waitsNote; state = into t′ later }))
       go true = put-back-waits puts
       go false = begin-wait-waits lt puts′
 
@@ -309,13 +338,13 @@ waits-done tapeBytes tally m b h tallying =
 
 -- a wait on a WEL or the WSL leaves the tally as it is
 module _ (tapeBytes tally : List ℕ) (t : Transaction) (s : State) (h : Tallying tapeBytes tally s) where
-  pub wel-tallying : (v : ℕ) (code : Code) → Tallying tapeBytes tally (waiting (Moves.toWel v code) t s .state)
+  pub wel-tallying : (edition v : ℕ) (code : Code) → Tallying tapeBytes tally (waiting (Moves.toWel edition v code) t s .state)
   unfolding waiting Moves.toWel
-  wel-tallying v code = go (t .returning)
+  wel-tallying edition v code = go (t .returning)
     where
-      go : (b : Bool) → Tallying tapeBytes tally (cond {A = Bare} b (record { note = noNote; state = Moves.toWel v code t s }) (record { note = waitsNote; state = Moves.toWel v code (withSerial (Moves.fresh s) t) (setSerial (Moves.fresh s) s) }) .state)
-      go true = tallying-ext tapeBytes tally s (Moves.toWel v code t s) refl refl refl refl refl h
-      go false = tallying-ext tapeBytes tally s (Moves.toWel v code (withSerial (Moves.fresh s) t) (setSerial (Moves.fresh s) s)) refl refl refl refl refl h
+      go : (b : Bool) → Tallying tapeBytes tally (cond {A = Bare} b (record { note = noNote; state = Moves.toWel edition v code t s }) (record { note = waitsNote; state = Moves.toWel edition v code (withSerial (Moves.fresh s) t) (setSerial (Moves.fresh s) s) }) .state)
+      go true = tallying-ext tapeBytes tally s (Moves.toWel edition v code t s) refl refl refl refl refl h
+      go false = tallying-ext tapeBytes tally s (Moves.toWel edition v code (withSerial (Moves.fresh s) t) (setSerial (Moves.fresh s) s)) refl refl refl refl refl h
 
   pub wsl-tallying : Tallying tapeBytes tally (waiting Moves.toWsl t s .state)
   unfolding waiting Moves.toWsl
@@ -340,10 +369,10 @@ module _ (w : List ℕ) (x : Scalars) where
   unfolding goTo moved
   go-to-used block = refl
 
-  pub wait-on-used : (p : ℕ) → waitOn w x p .scalars .used ≡ x .used
+  pub wait-on-used : (p edition : ℕ) → waitOn w x p edition .scalars .used ≡ x .used
   unfolding waitOn putBack beginWait moved
-  wait-on-used p = go (eqb (read w 1 (x .moving) % 2) 1)
+  wait-on-used p edition = go (eqb (read w 1 (x .moving) % 2) 1)
     where
-      go : (b : Bool) → cond {A = Moved} b (putBack w x p) (beginWait w x p) .scalars .used ≡ x .used
+      go : (b : Bool) → cond {A = Moved} b (putBack w x p edition) (beginWait w x p edition) .scalars .used ≡ x .used
       go true = refl
       go false = refl

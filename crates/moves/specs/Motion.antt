@@ -6,7 +6,7 @@ use lib.Dec.{eqb}
 use Rattle.tables.specs.Layout.{most32}
 use Rattle.rows.specs.Layout.{standingField, nextField, serialField, rowCount}
 use Rattle.rows.specs.Cells.{read, write, setReturning}
-use Rattle.rows.specs.Lists.{put}
+use Rattle.rows.specs.Lines.{lineUp}
 use Rattle.state.specs.declared.scalars.Scalars.{Scalars}
 use Rattle.state.specs.ScalarSetters.{putMoving, putSerial, putEnd, putNote}
 use Rattle.state.specs.Stands.{Rows, rowsOf}
@@ -39,15 +39,16 @@ goBack w x blocks =
     moved (putNote 2 x)
     (setReturning (write w nextField (x .moving) (read w nextField (x .moving) - blocks)) (x .moving) 0)
 
-unfoldable pub putBack : List ℕ → Scalars → ℕ → Moved
-putBack w x p = moved (putNote 2 (putMoving rowCount x)) (put w p (x .moving))
+-- document 02, item 12: onto list p as the edition has it
+unfoldable pub putBack : List ℕ → Scalars → (p edition : ℕ) → Moved
+putBack w x p edition = moved (putNote 2 (putMoving rowCount x)) (lineUp edition w p (x .moving))
 
-unfoldable pub beginWait : List ℕ → Scalars → ℕ → Moved
-beginWait w x p =
-    moved (putNote 1 (putSerial (next32 (x .serial)) (putMoving rowCount x))) (put (write w serialField (x .moving) (next32 (x .serial))) p (x .moving))
+unfoldable pub beginWait : List ℕ → Scalars → (p edition : ℕ) → Moved
+beginWait w x p edition =
+    moved (putNote 1 (putSerial (next32 (x .serial)) (putMoving rowCount x))) (lineUp edition (write w serialField (x .moving) (next32 (x .serial))) p (x .moving))
 
-unfoldable pub waitOn : List ℕ → Scalars → ℕ → Moved
-waitOn w x p = cond (eqb (read w standingField (x .moving) % 2) 1) (putBack w x p) (beginWait w x p)
+unfoldable pub waitOn : List ℕ → Scalars → (p edition : ℕ) → Moved
+waitOn w x p edition = cond (eqb (read w standingField (x .moving) % 2) 1) (putBack w x p edition) (beginWait w x p edition)
 
 -- A question stops the turn with the number of an end: nothing else changes, and no record is written.
 unfoldable pub stopped : Scalars → ℕ → Scalars

@@ -5,7 +5,7 @@ use rows::STANDING;
 use rows::cells::read;
 use rows::cells::set_returning;
 use rows::cells::write;
-use rows::lists::put;
+use rows::lines::line_up;
 use state::ENTERED;
 use state::NO_RECORD;
 use state::NOBODY;
@@ -59,14 +59,14 @@ pub fn go_back(work: &mut [u32], x: Scalars, blocks: u32) -> Scalars
 }
 
 // A returning one comes back onto list p with its own serial.
-fn put_back(work: &mut [u32], x: Scalars, p: u32) -> Scalars
+fn put_back(work: &mut [u32], x: Scalars, p: u32, edition: u32) -> Scalars
     requires { ⌜ Room (now work) ⌝ }
     requires { ⌜ x .moving < rowCount ⌝ }
     requires { ⌜ p < listCount ⌝ }
-    ensures { λ r. ⌜ moved r (now (work .exit)) ≡ putBack (now (work .entry)) x p ⌝ }
+    ensures { λ r. ⌜ moved r (now (work .exit)) ≡ putBack (now (work .entry)) x p edition ⌝ }
 {
     let k = x.moving;
-    put(work, p, k);
+    line_up(work, p, k, edition);
     let mut y = x;
     y.moving = NOBODY;
     y.note = NO_RECORD;
@@ -74,16 +74,16 @@ fn put_back(work: &mut [u32], x: Scalars, p: u32) -> Scalars
 }
 
 // Another one begins to wait on list p with a fresh serial.
-fn begin_wait(work: &mut [u32], x: Scalars, p: u32) -> Scalars
+fn begin_wait(work: &mut [u32], x: Scalars, p: u32, edition: u32) -> Scalars
     requires { ⌜ Room (now work) ⌝ }
     requires { ⌜ x .moving < rowCount ⌝ }
     requires { ⌜ p < listCount ⌝ }
-    ensures { λ r. ⌜ moved r (now (work .exit)) ≡ beginWait (now (work .entry)) x p ⌝ }
+    ensures { λ r. ⌜ moved r (now (work .exit)) ≡ beginWait (now (work .entry)) x p edition ⌝ }
 {
     let k = x.moving;
     let serial = plus32(x.serial, 1);
     write(work, SERIAL, k, serial);
-    put(work, p, k);
+    line_up(work, p, k, edition);
     let mut y = x;
     y.moving = NOBODY;
     y.serial = serial;
@@ -91,18 +91,18 @@ fn begin_wait(work: &mut [u32], x: Scalars, p: u32) -> Scalars
     y
 }
 
-// The transaction must wait on list p.
-pub fn wait_on(work: &mut [u32], x: Scalars, p: u32) -> Scalars
+// The transaction must wait on list p, where the model's edition places it. The WSL is in order under either: 1.
+pub fn wait_on(work: &mut [u32], x: Scalars, p: u32, edition: u32) -> Scalars
     requires { ⌜ Room (now work) ⌝ }
     requires { ⌜ x .moving < rowCount ⌝ }
     requires { ⌜ p < listCount ⌝ }
-    ensures { λ r. ⌜ moved r (now (work .exit)) ≡ waitOn (now (work .entry)) x p ⌝ }
+    ensures { λ r. ⌜ moved r (now (work .exit)) ≡ waitOn (now (work .entry)) x p edition ⌝ }
 {
     let k = x.moving;
     if read(work, STANDING, k) % 2 == 1 {
-        return put_back(work, x, p);
+        return put_back(work, x, p, edition);
     }
-    begin_wait(work, x, p)
+    begin_wait(work, x, p, edition)
 }
 
 // A question stops the turn with the number of an end; no record is written.

@@ -10,22 +10,25 @@ use lib.ListN.{length, take, drop}
 use Rattle.machine.specs.Transaction.{Transaction, Event, precedes, earlier}
 use Rattle.machine.specs.Lists.{insert, those, others}
 use Rattle.machine.specs.Moves.{wake}
+use Rattle.machine.specs.Moves as Moves
+use Rattle.machine.proofs.QueueRemove.{walk}
 use Rattle.machine.specs.Turn.{due}
-use Rattle.rows.specs.Layout.{listCount, place, head, rel, fel, free, nowhere}
+use Rattle.rows.specs.Layout.{listCount, place, head, wsl, rel, fel, free, nowhere}
 use Rattle.rows.specs.Cells.{load}
 use Rattle.rows.specs.Order.{ahead}
 use Rattle.rows.specs.Lists.{removeAt, put, first, takeFirst, remove}
-use Rattle.rows.specs.Wake.{wakeFirst, wakeAll}
+use Rattle.rows.specs.Lines.{lineUp}
+use Rattle.rows.specs.Wake.{wakeFirst, wakeWalk, wakeAll}
 use Rattle.rows.specs.Clock.{Arrived, arrive, arrivals}
 use Rattle.rows.specs.Make.{freeRow}
 use Rattle.rows.specs.Living.{loose, onLists}
 use Rattle.rows.specs.Holds.{transactionAt, eventAt, ending, Holds, update}
 use Rattle.rows.specs.Ordered.{Sorted, Ordered}
-use Rattle.rows.specs.Shows.{Shows, Loose, moved}
+use Rattle.rows.specs.Shows.{orderOf, Shows, Loose, moved}
 use Rattle.rows.proofs.Occurs.{same-refl, occurs-append, occurs-cons}
 use Rattle.rows.proofs.Insertion.{front, insert-sorted, sorted-without, sorted-drop, sorted-those}
 use Rattle.rows.proofs.Orders.{precedes-order, earlier-order}
-use Rattle.rows.proofs.Ordering.{ordered-list, ordered-fel, ordered-moved, wake-sorted, arrivals-sorted}
+use Rattle.rows.proofs.Ordering.{sorted-weaker, sorted-line, ordered-list, ordered-fel, ordered-moved, wake-sorted, arrivals-sorted}
 use Rattle.rows.proofs.Structure.{row-of}
 use Rattle.rows.proofs.Spot.{short}
 use Rattle.rows.proofs.Data.{SameRow, same-row}
@@ -34,6 +37,7 @@ use Rattle.rows.proofs.Showing.{shown-list, shown-fel}
 use Rattle.rows.proofs.Loose.{loose-more, loose-less}
 use Rattle.rows.proofs.Steady.{Steady, Around, kept-around}
 use Rattle.rows.proofs.Put.{put-keeps, put-placed, put-shown, put-fel-shown}
+use Rattle.rows.proofs.LiningUp.{lined, line-shown, line-keeps, line-placed}
 use Rattle.rows.proofs.Take.{Head, head-shown, head-fel-shown, rows-first, take-shown, take-fel-shown, take-free-shown}
 use Rattle.rows.proofs.Removal.{rest-of, remove-is}
 use Rattle.rows.proofs.Making.{free-keeps, free-placed, free-shown}
@@ -81,7 +85,7 @@ module _ (w : List ℕ) (T : ℕ → List Transaction) (E : List Event) (s : Sho
   abbrev h : Holds w L
   h = s .shown .holds
 
-  abbrev o : Ordered (λ q. precedes) T E
+  abbrev o : Ordered orderOf T E
   o = s .ordered
 
   -- ---- The first of a list
@@ -105,25 +109,40 @@ module _ (w : List ℕ) (T : ℕ → List Transaction) (E : List Event) (s : Sho
         }
 
     -- what is shown then; the rows compute
-    abbrev pub shows-put : (p : ℕ) → p < 450 → Shows (put w p k) (update p (insert precedes (transactionAt w k) (T p)) T) E
-    shows-put p hp =
+    abbrev pub shows-put : (p : ℕ) → p < 450 → Sorted precedes (T p) → Shows (put w p k) (update p (insert precedes (transactionAt w k) (T p)) T) E
+    shows-put p hp sorted =
         record {
           rows = update p (insert (ahead w p) k (L p)) L;
-          shown = put-shown w L T E (s .shown) k off p hp (o .lists p hp);
-          ordered = ordered-list (λ q. precedes) T E p _ (insert-sorted precedes precedes-order (transactionAt w k) (T p) (o .lists p hp)) o;
+          shown = put-shown w L T E (s .shown) k off p hp sorted;
+          ordered = ordered-list orderOf T E p _ (sorted-weaker p _ (insert-sorted precedes precedes-order (transactionAt w k) (T p) sorted)) o;
         }
+
+    -- onto a line of waiters, by an edition
+    abbrev pub shows-line : (edition p : ℕ) → p < 450 → (edition ≡ 1 → Sorted precedes (T p)) → Sorted (orderOf p) (Moves.lineUp edition (transactionAt w k) (T p))
+        → Shows (lineUp edition w p k) (update p (Moves.lineUp edition (transactionAt w k) (T p)) T) E
+    shows-line edition p hp sorted stays =
+        record {
+          rows = update p (lined edition w p k (L p)) L;
+          shown = line-shown w L T E (s .shown) k off edition p hp sorted;
+          ordered = ordered-list orderOf T E p _ stays o;
+        }
+
+    pub line-shows : (edition p : ℕ) → p < 450 → (edition ≡ 1 → Sorted precedes (T p)) → Sorted (orderOf p) (Moves.lineUp edition (transactionAt w k) (T p))
+        → Puts w (lineUp edition w p k) k (update p (Moves.lineUp edition (transactionAt w k) (T p)) T) E
+    line-shows edition p hp sorted stays =
+        puts (lineUp edition w p k) p (update p (Moves.lineUp edition (transactionAt w k) (T p)) T) E (omega arith) (line-keeps w L T E (s .shown) k off edition p hp sorted) (line-placed w L T E (s .shown) k off edition p hp sorted) (shows-line edition p hp sorted stays)
 
     abbrev pub shows-put-fel : Shows (put w fel k) T (insert earlier (eventAt w k) E)
     shows-put-fel =
         record {
           rows = update fel (insert (ahead w fel) k (L fel)) L;
           shown = put-fel-shown w L T E (s .shown) k off (o .future);
-          ordered = ordered-fel (λ q. precedes) T E _ (insert-sorted earlier earlier-order (eventAt w k) E (o .future)) o;
+          ordered = ordered-fel orderOf T E _ (insert-sorted earlier earlier-order (eventAt w k) E (o .future)) o;
         }
 
-    pub put-shows : (p : ℕ) → p < 450 → Puts w (put w p k) k (update p (insert precedes (transactionAt w k) (T p)) T) E
-    put-shows p hp =
-        puts (put w p k) p (update p (insert precedes (transactionAt w k) (T p)) T) E (omega arith) (put-keeps w L h p k (omega arith) off) (put-placed w L h p k (omega arith) off) (shows-put p hp)
+    pub put-shows : (p : ℕ) → p < 450 → Sorted precedes (T p) → Puts w (put w p k) k (update p (insert precedes (transactionAt w k) (T p)) T) E
+    put-shows p hp sorted =
+        puts (put w p k) p (update p (insert precedes (transactionAt w k) (T p)) T) E (omega arith) (put-keeps w L h p k (omega arith) off) (put-placed w L h p k (omega arith) off) (shows-put p hp sorted)
 
     pub put-fel-shows : Puts w (put w fel k) k T (insert earlier (eventAt w k) E)
     put-fel-shows =
@@ -167,7 +186,7 @@ module _ (w : List ℕ) (T : ℕ → List Transaction) (E : List Event) (s : Sho
       (record {
         rows = _;
         shown = take-shown w L T E (s .shown) p hl (r .0) (r .1) n hp;
-        ordered = ordered-list (λ q. precedes) T E p (drop 1 (T p)) (sorted-drop precedes (T p) (o .lists p hp)) o;
+        ordered = ordered-list orderOf T E p (drop 1 (T p)) (sorted-drop (orderOf p) (T p) (o .lists p hp)) o;
       })
 
   pub take-fel-shows : first w fel < 1024 → Takes w (takeFirst w fel) (first w fel) T (drop 1 E)
@@ -179,7 +198,7 @@ module _ (w : List ℕ) (T : ℕ → List Transaction) (E : List Event) (s : Sho
       (record {
         rows = _;
         shown = take-fel-shown w L T E (s .shown) fel hl (r .0) (r .1) n refl;
-        ordered = ordered-fel (λ q. precedes) T E (drop 1 E) (sorted-drop earlier E (o .future)) o;
+        ordered = ordered-fel orderOf T E (drop 1 E) (sorted-drop earlier E (o .future)) o;
       })
 
   -- a row for one that is made
@@ -209,9 +228,9 @@ module _ (w : List ℕ) (T : ℕ → List Transaction) (E : List Event) (s : Sho
                 rows = _;
                 shown = shown-list w _ L T E (s .shown) p (front eqb k (L p) ++ r .0) (remove-holds w L h p k (front eqb k (L p)) (r .0) hl hk (r .1)) (kept p k (front eqb k (L p)) (r .0) hl hk (r .1) .rows) hp;
                 ordered =
-                    ordered-list (λ q. precedes) T E p _
+                    ordered-list orderOf T E p _
                     (rw (map-append (transactionAt w) (front eqb k (L p)) (r .0))
-                    (sorted-without precedes (map (transactionAt w) (front eqb k (L p))) (transactionAt w k) (map (transactionAt w) (r .0)) (rw was at (o .lists p hp))))
+                    (sorted-without (orderOf p) (map (transactionAt w) (front eqb k (L p))) (transactionAt w k) (map (transactionAt w) (r .0)) (rw was at (o .lists p hp))))
                     o;
               }));
         }
@@ -232,7 +251,7 @@ module _ (w : List ℕ) (T : ℕ → List Transaction) (E : List Event) (s : Sho
                 rows = _;
                 shown = shown-fel w _ L T E (s .shown) fel (front eqb k (L fel) ++ r .0) (remove-holds w L h fel k (front eqb k (L fel)) (r .0) hl hk (r .1)) (kept fel k (front eqb k (L fel)) (r .0) hl hk (r .1) .rows) refl;
                 ordered =
-                    ordered-fel (λ q. precedes) T E _
+                    ordered-fel orderOf T E _
                     (rw (map-append (eventAt w) (front eqb k (L fel)) (r .0))
                     (sorted-without earlier (map (eventAt w) (front eqb k (L fel))) (eventAt w k) (map (eventAt w) (r .0)) (rw was at (o .future))))
                     o;
@@ -251,30 +270,40 @@ module _ (w : List ℕ) (T : ℕ → List Transaction) (E : List Event) (s : Sho
   ready : Sorted precedes (T rel)
   ready = o .lists rel (omega arith)
 
-  wakes : (p : ℕ) (hp : p < 449) (l m : List Transaction) (w′ : List ℕ) → Sorted precedes l → WakingAll.Woken w w′ (moved p l (wake m (T rel)) T) E → Wakes w w′ (moved p l (wake m (T rel)) T) E
+  wakes : (p : ℕ) (hp : p < 449) (l m : List Transaction) (w′ : List ℕ) → Sorted (orderOf p) l → WakingAll.Woken w w′ (moved p l (wake m (T rel)) T) E → Wakes w w′ (moved p l (wake m (T rel)) T) E
   wakes p hp l m w′ sorted woken =
       record {
         shows =
             record {
               rows = woken .held .rows;
               shown = woken .held .shown;
-              ordered = ordered-moved (λ q. precedes) T E p l (wake m (T rel)) sorted (wake-sorted m (T rel) ready) o;
+              ordered = ordered-moved orderOf T E p l (wake m (T rel)) sorted (wake-sorted m (T rel) ready) o;
             };
         steady = woken .steady;
       }
 
   pub wake-first-shows : (p : ℕ) → p < 449 → Wakes w (wakeFirst w p) (moved p (drop 1 (T p)) (wake (take 1 (T p)) (T rel)) T) E
   wake-first-shows p hp =
-      wakes p hp (drop 1 (T p)) (take 1 (T p)) (wakeFirst w p) (sorted-drop precedes (T p) (o .lists p (omega arith)))
+      wakes p hp (drop 1 (T p)) (take 1 (T p)) (wakeFirst w p) (sorted-drop (orderOf p) (T p) (o .lists p (omega arith)))
       (WakingAll.wake-first-held w L T E (s .shown) ready p hp)
 
   pub wake-all-shows : (test : List ℕ → ℕ → Bool) (P : Transaction → Bool) → ((v : List ℕ) (k : ℕ) → test v k ≡ P (transactionAt v k)) → (p : ℕ) → p < 449 → Wakes w (wakeAll test 1024 w p (head p)) (moved p (others P (T p)) (wake (those P (T p)) (T rel)) T) E
-  unfolding ending
   wake-all-shows test P agree p hp =
-      wakes p hp (others P (T p)) (those P (T p)) (wakeAll test 1024 w p (head p)) (sorted-those precedes (λ t. not (P t)) (T p) (o .lists p (omega arith)))
+      wakes p hp (others P (T p)) (those P (T p)) (wakeAll test 1024 w p (head p)) (sorted-those (orderOf p) (λ t. not (P t)) (T p) (o .lists p (omega arith)))
       (subst (λ (l : List Transaction). WakingAll.Woken w (wakeAll test 1024 w p (head p)) (moved p (others P l) (wake (those P l) (T rel)) T) E)
       (s .shown .lists p (omega arith))
-      (WakingAll.wakeAll-held test P agree E p hp 1024 (L p) w L T (s .shown) ready [] refl (short w p (L p) (h .listed p (omega arith)))))
+      (WakingAll.wakeAll-held test P agree E p hp 1024 w L T (s .shown) ready (short w p (L p) (h .listed p (omega arith)))))
+
+  -- from a line of waiters, with a number
+  pub wake-walk-shows : (test : ℕ → List ℕ → ℕ → Bool) (next : ℕ → List ℕ → ℕ → ℕ) (P : ℕ → Transaction → Bool) (N : ℕ → Transaction → ℕ)
+      → ((n : ℕ) (v : List ℕ) (k : ℕ) → test n v k ≡ P n (transactionAt v k)) → ((n : ℕ) (v : List ℕ) (k : ℕ) → next n v k ≡ N n (transactionAt v k)) → (left p : ℕ) → p < wsl
+      → Wakes w (wakeWalk test next 1024 left w p (head p)) (moved p (walk P N left (T p) .stay) (wake (walk P N left (T p) .go) (T rel)) T) E
+  unfolding ending
+  wake-walk-shows test next P N agree follow left p hp =
+      wakes p (omega arith) (walk P N left (T p) .stay) (walk P N left (T p) .go) (wakeWalk test next 1024 left w p (head p)) (sorted-line p hp _)
+      (subst (λ (l : List Transaction). WakingAll.Woken w (wakeWalk test next 1024 left w p (head p)) (moved p (walk P N left l .stay) (wake (walk P N left l .go) (T rel)) T) E)
+      (s .shown .lists p (omega arith))
+      (WakingAll.wakeWalk-held test next P N agree follow E p (omega arith) 1024 (L p) left w L T (s .shown) ready [] refl (short w p (L p) (h .listed p (omega arith)))))
 
   -- ---- A clock move
 
@@ -293,8 +322,8 @@ module _ (w : List ℕ) (T : ℕ → List Transaction) (E : List Event) (s : Sho
                   rows = r .held .rows;
                   shown = r .held .shown;
                   ordered =
-                      ordered-fel (λ q. precedes) (update rel (arrivals (those (due (e .time)) E) serial (T rel)) T) E later (sorted-those earlier (λ t. not (due (e .time) t)) E (o .future))
-                      (ordered-list (λ q. precedes) T E rel _ (arrivals-sorted (those (due (e .time)) E) serial (T rel) ready) o);
+                      ordered-fel orderOf (update rel (arrivals (those (due (e .time)) E) serial (T rel)) T) E later (sorted-those earlier (λ t. not (due (e .time) t)) E (o .future))
+                      (ordered-list orderOf T E rel _ (arrivals-sorted (those (due (e .time)) E) serial (T rel) ready) o);
                 };
             last = r .last;
             steady = r .steady;

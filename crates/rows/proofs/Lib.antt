@@ -15,6 +15,7 @@ pub mod Holding
 pub mod Showing
 pub mod Ordering
 pub mod Put
+pub mod LiningUp
 pub mod Take
 pub mod Removal
 pub mod Write

@@ -1,20 +1,44 @@
 -- What keeps the machine's lists in order, whatever the order of each.
-use Prim.Native.Nat.{ℕ, _<_}
-use mathlib.Core.Path.{_≡_, refl, subst}
+use Prim.Native.Nat.{ℕ, _≤_, _<_}
+use mathlib.Core.Path.{_≡_, refl, sym, subst}
 use mathlib.Core.Bool.{Bool, true, false, cond}
 use mathlib.Core.List.{List, [], _∷_}
-use borrow.Author.Tests.{eqb-true}
-use lib.Dec.{eqb}
+use borrow.Author.Tests.{eqb-true, lt-ltb, le-ltb, ltb-true}
+use lib.Dec.{ltb, eqb}
 use Rattle.machine.specs.Transaction.{Transaction, Event, precedes, earlier}
 use Rattle.machine.specs.Moves.{wake}
-use Rattle.rows.specs.Layout.{rel, fel}
+use Rattle.rows.specs.Layout.{wsl, rel, fel}
 use Rattle.rows.specs.Clock.{arrivals}
 use Rattle.rows.specs.Holds.{update}
-use Rattle.rows.specs.Ordered.{Sorted, Ordered}
-use Rattle.rows.specs.Shows.{Shows, moved}
+use Rattle.rows.specs.Ordered.{All, Sorted, Ordered}
+use Rattle.rows.specs.Shows.{orderOf, Shows, moved}
 use Rattle.rows.proofs.Insertion.{insert-sorted}
 use Rattle.rows.proofs.Orders.{precedes-order}
 use Rattle.rows.proofs.Showing.{shown-ext}
+
+-- ---- The order of a list
+
+-- a line of waiters is asked for none
+all-none : (p : ℕ) → p < wsl → (t : Transaction) (l : List Transaction) → All (λ u. orderOf p u t ≡ false) l
+unfolding All
+all-none p h t [] = tt
+all-none p h t (u ∷ l) = (rw (lt-ltb p wsl h), all-none p h t l)
+
+pub sorted-line : (p : ℕ) → p < wsl → (l : List Transaction) → Sorted (orderOf p) l
+unfolding Sorted
+sorted-line p h [] = tt
+sorted-line p h (t ∷ l) = (all-none p h t l, sorted-line p h l)
+
+pub sorted-weaker : (p : ℕ) (l : List Transaction) → Sorted precedes l → Sorted (orderOf p) l
+sorted-weaker p l h = go (ltb p wsl) refl
+  where
+    go : (b : Bool) → ltb p wsl ≡ b → Sorted (orderOf p) l
+    go true e = sorted-line p (ltb-true p wsl e) l
+    go false e = subst (λ (b : Bool). Sorted (λ x y. cond b false (precedes x y)) l) (sym e) h
+
+-- the other lists are in order
+pub line-sorted : (p : ℕ) (l : List Transaction) → wsl ≤ p → Sorted (orderOf p) l → Sorted precedes l
+line-sorted p l h s = subst (λ (b : Bool). Sorted (λ x y. cond b false (precedes x y)) l) (le-ltb p wsl h) s
 
 module _ (order : ℕ → Transaction → Transaction → Bool) where
   pub ordered-ext : (T U : ℕ → List Transaction) (E F : List Event) → ((q : ℕ) → q < fel → T q ≡ U q) → E ≡ F → Ordered order T E → Ordered order U F
@@ -59,5 +83,5 @@ shows-ext w T U E F lists future s =
     record {
       rows = s .rows;
       shown = subst (λ (e : List Event). Rattle.rows.specs.Shows.Shown w (s .rows) U e) future (shown-ext w (s .rows) T U E lists (s .shown));
-      ordered = ordered-ext (λ p. precedes) T U E F lists future (s .ordered);
+      ordered = ordered-ext orderOf T U E F lists future (s .ordered);
     }

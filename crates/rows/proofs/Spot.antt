@@ -68,12 +68,12 @@ module _ (before : ℕ → ℕ → Bool) (w : List ℕ) (p k : ℕ) where
       let f : t - links ≡ j = omega arith in
       rw (le-ltb t links (omega arith), f, lt-ltb j 1024 h)
 
-  ending-last : (c y : ℕ) (l : List ℕ) → ending c (y ∷ l) ≡ link (lastOf y l)
+  pub ending-last : (c y : ℕ) (l : List ℕ) → ending c (y ∷ l) ≡ link (lastOf y l)
   unfolding ending lastOf
   ending-last c y [] = refl
   ending-last c y (z ∷ l) = ending-last (link y) z l
 
-  occurs-last : (y : ℕ) (l : List ℕ) → 1 ≤ occurs (lastOf y l) (y ∷ l)
+  pub occurs-last : (y : ℕ) (l : List ℕ) → 1 ≤ occurs (lastOf y l) (y ∷ l)
   unfolding occurs lastOf
   occurs-last y [] = omega (arith, same-refl y y refl)
   occurs-last y (z ∷ l) = omega (arith, occurs-last z l)

@@ -1,5 +1,5 @@
--- Waking the first of a list, and all of a list that pass a test: the machine's `wake` of `take 1` and of `those`. REL is in
--- order; the list may be in any.
+-- Waking the first of a list, and all of a list that pass a test, with a number or without: the machine's `wake` of `take 1`, of who goes
+-- on a `walk`, and of `those`. REL is in order; the list may be in any.
 use Prim.Native.Nat.{ℕ, zero, suc, _+_, _≤_, _<_}
 use mathlib.Core.Path.{_≡_, refl, sym, ap, _∙_, subst}
 use mathlib.Core.Bool.{Bool, true, false, cond, not}
@@ -11,16 +11,17 @@ use lib.ListN.{length, take, drop}
 use Rattle.machine.specs.Transaction.{Transaction, Event, precedes}
 use Rattle.machine.specs.Setters.{withReturning}
 use Rattle.machine.specs.Lists.{insert, those, others}
-use Rattle.machine.specs.Moves.{wake}
+use Rattle.machine.specs.Moves.{wake, Parted, goes, stays}
+use Rattle.machine.proofs.QueueRemove.{walk, walk-fixed}
 use Rattle.rows.specs.Layout.{link, head, rel}
 use Rattle.rows.specs.Lists.{first}
-use Rattle.rows.specs.Wake.{wakeAt, wakeFirst, after, passRows, passCell, wakeAll}
+use Rattle.rows.specs.Wake.{wakeAt, wakeFirst, after, passRows, passCell, wakeWalk, wakeAll}
 use Rattle.rows.specs.Holds.{transactionAt, Chain, ending, Listed}
 use Rattle.rows.specs.Ordered.{Sorted}
 use Rattle.rows.specs.Shows.{Shown, Held, moved}
 use Rattle.rows.proofs.Occurs.{occurs-append}
 use Rattle.rows.proofs.Chain.{chain-after, ending-append}
-use Rattle.rows.proofs.Steps.{wakeAll-stop, wakeAll-next}
+use Rattle.rows.proofs.Steps.{wakeWalk-stop, wakeWalk-next, wakeAll-walk}
 use Rattle.rows.proofs.Showing.{shown-ext}
 use Rattle.rows.proofs.Take.{First, none, some, first-of}
 use Rattle.rows.proofs.Steady.{Steady, steady-refl, steady-trans}
@@ -91,24 +92,26 @@ module _ (w : List ℕ) (L : ℕ → List ℕ) (T : ℕ → List Transaction) (E
 
 -- ---- All that pass a test
 
-module _ (test : List ℕ → ℕ → Bool) (P : Transaction → Bool) (agree : (w : List ℕ) (k : ℕ) → test w k ≡ P (transactionAt w k)) (E : List Event) (p : ℕ) (hp : p < 449) where
-  abbrev Result : List ℕ → List ℕ → List ℕ → List ℕ → (ℕ → List Transaction) → Type 0
-  Result w w′ a b T =
-      Woken w w′ (moved p (map (transactionAt w) a ++ others P (map (transactionAt w) b)) (wake (those P (map (transactionAt w) b)) (T rel)) T) E
+module _ (test : ℕ → List ℕ → ℕ → Bool) (next : ℕ → List ℕ → ℕ → ℕ) (P : ℕ → Transaction → Bool) (N : ℕ → Transaction → ℕ)
+    (agree : (n : ℕ) (w : List ℕ) (k : ℕ) → test n w k ≡ P n (transactionAt w k)) (follow : (n : ℕ) (w : List ℕ) (k : ℕ) → next n w k ≡ N n (transactionAt w k))
+    (E : List Event) (p : ℕ) (hp : p < 449) where
+  abbrev Result : ℕ → List ℕ → List ℕ → List ℕ → List ℕ → (ℕ → List Transaction) → Type 0
+  Result left w w′ a b T =
+      Woken w w′ (moved p (map (transactionAt w) a ++ walk P N left (map (transactionAt w) b) .stay) (wake (walk P N left (map (transactionAt w) b) .go) (T rel)) T) E
 
   -- nobody is left
-  all-done : (n : ℕ) (w : List ℕ) (L : ℕ → List ℕ) (T : ℕ → List Transaction) (s : Shown w L T E) (a : List ℕ) → L p ≡ a ++ [] → Result w (wakeAll test n w p (ending (head p) a)) a [] T
-  unfolding Chain wake those
-  all-done n w L T s a was =
+  all-done : (n left : ℕ) (w : List ℕ) (L : ℕ → List ℕ) (T : ℕ → List Transaction) (s : Shown w L T E) (a : List ℕ) → L p ≡ a ++ [] → Result left w (wakeWalk test next n left w p (ending (head p) a)) a [] T
+  unfolding Chain wake walk
+  all-done n left w L T s a was =
       let one : Listed w p (a ++ []) = rw was at (s .holds .listed p (omega arith)) in
       let same : map (transactionAt w) a ++ [] ≡ T p = sym (map-append (transactionAt w) a []) ∙ ap (map (transactionAt w)) (sym was) ∙ s .lists p (omega arith) in
-      rw (wakeAll-stop test w p (ending (head p) a) n (chain-after w (head p) a [] (one .chain)))
+      rw (wakeWalk-stop test next left w p (ending (head p) a) n (chain-after w (head p) a [] (one .chain)))
       (record {
         held = record { rows = L; shown = shown-ext w L T (moved p (map (transactionAt w) a ++ []) (T rel) T) E (λ q hq. moved-none p T (map (transactionAt w) a ++ []) (T rel) same refl q) s };
         steady = steady-refl w;
       })
 
-  module _ (n : ℕ) (w : List ℕ) (L : ℕ → List ℕ) (T : ℕ → List Transaction) (s : Shown w L T E) (a : List ℕ) (k : ℕ) (b : List ℕ) (was : L p ≡ a ++ k ∷ b) where
+  module _ (n left : ℕ) (w : List ℕ) (L : ℕ → List ℕ) (T : ℕ → List Transaction) (s : Shown w L T E) (a : List ℕ) (k : ℕ) (b : List ℕ) (was : L p ≡ a ++ k ∷ b) where
     abbrev cell : ℕ
     cell = ending (head p) a
 
@@ -118,50 +121,66 @@ module _ (test : List ℕ → ℕ → Bool) (P : Transaction → Bool) (agree : 
     abbrev T₁ : ℕ → List Transaction
     T₁ = moved p (tx (a ++ b)) (insert precedes (withReturning true (transactionAt w k)) (T rel)) T
 
+    -- what is left behind row k, and how those behind it part
+    abbrev left₁ : ℕ
+    left₁ = N left (transactionAt w k)
+
+    abbrev rest : Parted
+    rest = walk P N left₁ (tx b)
+
     abbrev Goal : Bool → Type 0
     Goal t =
-        Woken w (wakeAll test n (cond t (wakeAt w p cell) w) p (cond t cell (link k)))
-        (moved p (tx a ++ cond (not t) (transactionAt w k ∷ others P (tx b)) (others P (tx b))) (wake (cond t (transactionAt w k ∷ those P (tx b)) (those P (tx b))) (T rel)) T) E
+        Woken w (wakeWalk test next n left₁ (cond t (wakeAt w p cell) w) p (cond t cell (link k)))
+        (moved p (tx a ++ cond t (goes (transactionAt w k) rest) (stays (transactionAt w k) rest) .stay) (wake (cond t (goes (transactionAt w k) rest) (stays (transactionAt w k) rest) .go) (T rel)) T) E
 
     -- the row goes to REL
-    goes : Result (wakeAt w p cell) (wakeAll test n (wakeAt w p cell) p cell) a b T₁ → Goal true
+    row-goes : Result left₁ (wakeAt w p cell) (wakeWalk test next n left₁ (wakeAt w p cell) p cell) a b T₁ → Goal true
     unfolding wake
-    goes rest =
+    row-goes woken =
         record {
           held =
-              held-ext (wakeAll test n (wakeAt w p cell) p cell)
-              (moved p (tx a ++ others P (tx b)) (wake (those P (tx b)) (T₁ rel)) T₁)
-              (moved p (tx a ++ others P (tx b)) (wake (those P (tx b)) (T₁ rel)) T)
+              held-ext (wakeWalk test next n left₁ (wakeAt w p cell) p cell)
+              (moved p (tx a ++ rest .stay) (wake (rest .go) (T₁ rel)) T₁)
+              (moved p (tx a ++ rest .stay) (wake (rest .go) (T₁ rel)) T)
               E
-              (moved-twice p T (tx (a ++ b)) (insert precedes (withReturning true (transactionAt w k)) (T rel)) (tx a ++ others P (tx b)) (wake (those P (tx b)) (T₁ rel)))
-              (rw (wake-same w L T E s p hp k a b was a (λ j m. omega (arith, occurs-append j a b)), wake-same w L T E s p hp k a b was b (λ j m. omega (arith, occurs-append j a b))) at (rest .held));
-          steady = steady-trans w (wakeAt w p cell) (wakeAll test n (wakeAt w p cell) p cell) (wake-steady w L T E s p hp k a b was) (rest .steady);
+              (moved-twice p T (tx (a ++ b)) (insert precedes (withReturning true (transactionAt w k)) (T rel)) (tx a ++ rest .stay) (wake (rest .go) (T₁ rel)))
+              (rw (wake-same w L T E s p hp k a b was a (λ j m. omega (arith, occurs-append j a b)), wake-same w L T E s p hp k a b was b (λ j m. omega (arith, occurs-append j a b))) at (woken .held));
+          steady = steady-trans w (wakeAt w p cell) (wakeWalk test next n left₁ (wakeAt w p cell) p cell) (wake-steady w L T E s p hp k a b was) (woken .steady);
         }
 
     -- the row stays
-    stays : Result w (wakeAll test n w p (link k)) (a ++ k ∷ []) b T → Goal false
-    stays rest =
+    row-stays : Result left₁ w (wakeWalk test next n left₁ w p (link k)) (a ++ k ∷ []) b T → Goal false
+    row-stays woken =
         record {
-          held = rw (map-append (transactionAt w) a (k ∷ []), append-assoc (tx a) (transactionAt w k ∷ []) (others P (tx b))) at (rest .held);
-          steady = rest .steady;
+          held = rw (map-append (transactionAt w) a (k ∷ []), append-assoc (tx a) (transactionAt w k ∷ []) (rest .stay)) at (woken .held);
+          steady = woken .steady;
         }
 
-    one-more : Result (wakeAt w p cell) (wakeAll test n (wakeAt w p cell) p cell) a b T₁ → Result w (wakeAll test n w p (link k)) (a ++ k ∷ []) b T → Result w (wakeAll test (suc n) w p cell) a (k ∷ b) T
-    unfolding Chain those passRows passCell after
+    one-more : Result left₁ (wakeAt w p cell) (wakeWalk test next n left₁ (wakeAt w p cell) p cell) a b T₁ → Result left₁ w (wakeWalk test next n left₁ w p (link k)) (a ++ k ∷ []) b T → Result left w (wakeWalk test next (suc n) left w p cell) a (k ∷ b) T
+    unfolding Chain walk passRows passCell after
     one-more yes-rest no-rest =
         let one : Listed w p (a ++ k ∷ b) = rw was at (s .holds .listed p (omega arith)) in
         let c : Chain w cell (k ∷ b) = chain-after w (head p) a (k ∷ b) (one .chain) in
-        rw (wakeAll-next test w p cell (suc n) n refl (omega (arith, c .0, c .1)), c .0, agree w k, lt-ltb k 1024 (c .1)) (go (P (transactionAt w k)))
+        rw (wakeWalk-next test next left w p cell (suc n) n refl (omega (arith, c .0, c .1)), c .0, agree left w k, follow left w k, lt-ltb k 1024 (c .1)) (go (P left (transactionAt w k)))
       where
         go : (t : Bool) → Goal t
-        go true = goes yes-rest
-        go false = stays no-rest
+        go true = row-goes yes-rest
+        go false = row-stays no-rest
 
-  pub wakeAll-held : (n : ℕ) (b : List ℕ) (w : List ℕ) (L : ℕ → List ℕ) (T : ℕ → List Transaction) (s : Shown w L T E) → Sorted precedes (T rel) → (a : List ℕ) → L p ≡ a ++ b → length b ≤ n → Result w (wakeAll test n w p (ending (head p) a)) a b T
+  pub wakeWalk-held : (n : ℕ) (b : List ℕ) (left : ℕ) (w : List ℕ) (L : ℕ → List ℕ) (T : ℕ → List Transaction) (s : Shown w L T E) → Sorted precedes (T rel) → (a : List ℕ) → L p ≡ a ++ b → length b ≤ n → Result left w (wakeWalk test next n left w p (ending (head p) a)) a b T
   unfolding ending
-  wakeAll-held n [] w L T s ready a was len = all-done n w L T s a was
-  wakeAll-held zero (k ∷ b) w L T s ready a was len = absurd (omega arith)
-  wakeAll-held (suc n) (k ∷ b) w L T s ready a was len =
-      one-more n w L T s a k b was
-      (wakeAll-held n b (wakeAt w p (ending (head p) a)) (woken w L T E s p hp k a b was) (T₁ n w L T s a k b was) (wake-shown w L T E s p hp k a b was ready) (wake-ready w L T E s p hp k a b was ready) a (wake-rows w L T E s p hp k a b was) (omega arith))
-      (rw (ending-append (head p) a (k ∷ [])) at (wakeAll-held n b w L T s ready (a ++ k ∷ []) (was ∙ sym (append-assoc a (k ∷ []) b)) (omega arith)))
+  wakeWalk-held n [] left w L T s ready a was len = all-done n left w L T s a was
+  wakeWalk-held zero (k ∷ b) left w L T s ready a was len = absurd (omega arith)
+  wakeWalk-held (suc n) (k ∷ b) left w L T s ready a was len =
+      one-more n left w L T s a k b was
+      (wakeWalk-held n b (left₁ n left w L T s a k b was) (wakeAt w p (ending (head p) a)) (woken w L T E s p hp k a b was) (T₁ n left w L T s a k b was) (wake-shown w L T E s p hp k a b was ready) (wake-ready w L T E s p hp k a b was ready) a (wake-rows w L T E s p hp k a b was) (omega arith))
+      (rw (ending-append (head p) a (k ∷ [])) at (wakeWalk-held n b (left₁ n left w L T s a k b was) w L T s ready (a ++ k ∷ []) (was ∙ sym (append-assoc a (k ∷ []) b)) (omega arith)))
+
+-- with no number
+pub wakeAll-held : (test : List ℕ → ℕ → Bool) (P : Transaction → Bool) → ((w : List ℕ) (k : ℕ) → test w k ≡ P (transactionAt w k)) → (E : List Event) (p : ℕ) → p < 449
+    → (n : ℕ) (w : List ℕ) (L : ℕ → List ℕ) (T : ℕ → List Transaction) → Shown w L T E → Sorted precedes (T rel) → length (L p) ≤ n
+    → Woken w (wakeAll test n w p (head p)) (moved p (others P (map (transactionAt w) (L p))) (wake (those P (map (transactionAt w) (L p))) (T rel)) T) E
+unfolding ending
+wakeAll-held test P agree E p hp n w L T s ready len =
+    rw (wakeAll-walk test n w p (head p), ← ap (λ (x : Parted). x .stay) (walk-fixed (λ n. P) 0 (map (transactionAt w) (L p))), ← ap (λ (x : Parted). x .go) (walk-fixed (λ n. P) 0 (map (transactionAt w) (L p))))
+    (wakeWalk-held (λ n. test) (λ n v k. n) (λ n. P) (λ n t. n) (λ n. agree) (λ n v k. refl) E p hp n (L p) 0 w L T s ready [] refl len)

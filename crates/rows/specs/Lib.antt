@@ -2,6 +2,7 @@ pub mod Layout
 pub mod Cells
 pub mod Order
 pub mod Lists
+pub mod Lines
 pub mod Wake
 pub mod Clock
 pub mod Make

@@ -1,9 +1,11 @@
 -- What the buffer shows of the machine's lists.
 use Prim.Native.Nat.{ℕ, _<_}
 use mathlib.Core.Path.{_≡_}
+use mathlib.Core.Bool.{Bool, false, cond}
 use mathlib.Core.List.{List, [], map}
+use lib.Dec.{ltb}
 use Rattle.machine.specs.Transaction.{Transaction, Event, precedes}
-use Rattle.rows.specs.Layout.{place, rel, fel, free, nowhere, listCount, rowCount}
+use Rattle.rows.specs.Layout.{place, wsl, rel, fel, free, nowhere, listCount, rowCount}
 use Rattle.rows.specs.Cells.{load}
 use Rattle.rows.specs.Ordered.{Ordered}
 use Rattle.rows.specs.Holds.{transactionAt, eventAt, Holds, update}
@@ -20,11 +22,15 @@ pub record Held (w : List ℕ) (T : ℕ → List Transaction) (E : List Event) :
   pub rows : ℕ → List ℕ
   pub shown : Shown w rows T E
 
--- with some rows, every list by priority and serial, the FEL by time first: all that the crates above this one speak of
+-- by priority and serial; a QL or WEL in whatever order, which the model's edition decides
+abbrev pub orderOf : ℕ → Transaction → Transaction → Bool
+orderOf p a b = cond (ltb p wsl) false (precedes a b)
+
+-- with some rows, each list in its order, the FEL by time first: all that the crates above this one speak of
 pub record Shows (w : List ℕ) (T : ℕ → List Transaction) (E : List Event) : Type 0 where
   pub rows : ℕ → List ℕ
   pub shown : Shown w rows T E
-  pub ordered : Ordered (λ p. precedes) T E
+  pub ordered : Ordered orderOf T E
 
 -- row k is on no list
 pub record Loose (w : List ℕ) (k : ℕ) : Type 0 where

@@ -28,7 +28,14 @@ passRows moves w p c = cond moves (wakeAt w p c) w
 unfoldable pub passCell : Bool → List ℕ → ℕ → ℕ
 passCell moves w c = cond moves c (after w c)
 
--- all rows from cell c on that pass a test go to REL
+-- All rows from cell c on that pass a test go to REL. The test looks at a number too, which `next` gives anew behind each row.
+unfoldable pub wakeWalk : (test : ℕ → List ℕ → ℕ → Bool) (next : ℕ → List ℕ → ℕ → ℕ) → ℕ → (left : ℕ) → List ℕ → ℕ → ℕ → List ℕ
+wakeWalk test next zero left w p c = w
+wakeWalk test next (suc n) left w p c =
+    cond (ltb (load w c) rowCount)
+    (wakeWalk test next n (next left w (load w c)) (passRows (test left w (load w c)) w p c) p (passCell (test left w (load w c)) w c)) w
+
+-- and with no number
 unfoldable pub wakeAll : (List ℕ → ℕ → Bool) → ℕ → List ℕ → ℕ → ℕ → List ℕ
 wakeAll test zero w p c = w
 wakeAll test (suc n) w p c =

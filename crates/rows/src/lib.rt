@@ -4,6 +4,7 @@
 
 pub mod cells;
 pub mod clock;
+pub mod lines;
 pub mod lists;
 pub mod make;
 pub mod order;

@@ -10,24 +10,26 @@ use lib.Dec.{ltb, leb, eqb}
 use lib.ListN.{getD, set}
 use Rattle.machine.specs.Rules.{Rules}
 use Rattle.machine.specs.Transaction.{Transaction}
-use Rattle.machine.specs.Term.{Server, View, free}
+use Rattle.machine.specs.Term.{Server, free}
 use Rattle.machine.specs.Term
-use Rattle.machine.specs.Block.{Block, release, leave, facts, BlockModel, blockAt, shareServer, shareUnits}
+use Rattle.machine.specs.Block.{storage, shareServer, shareUnits, Block, release, leave, BlockModel, blockAt}
 use Rattle.machine.specs.State.{State}
 use Rattle.machine.specs.Setters.{setMoving}
-use Rattle.machine.specs.Moves.{qlOf, wakeFirstQl, wakeQl}
+use Rattle.machine.specs.Moves.{qlOf, Parted, firstOf, wakeQl}
 use Rattle.machine.specs.Moves as Moves
-use Rattle.machine.specs.Execute.{unless, askHolder, question, fits, wakeFor}
+use Rattle.machine.specs.Execute.{unitsOf, unless, askHolder, question, partFor, wakeFor}
 use Rattle.machine.specs.Execute as Execute
 use Rattle.machine.specs.Claims.{Each}
 use Rattle.machine.proofs.Proper.{Proper, ProperBlock, Names, Storage, servers}
 use Rattle.machine.proofs.Placed.{Placed}
+use Rattle.machine.proofs.Waiting.{AtServer}
+use Rattle.machine.proofs.QueueRemove.{walk, walk-same, within, leftAfter, leave-walks, some-units}
 use Rattle.machine.proofs.Shape.{each-getD}
 use Rattle.tables.specs.Forms.{blockForms}
 use Rattle.tables.specs.Represents.{Represents}
 use Rattle.rows.specs.Layout.{head}
 use Rattle.rows.specs.Cells.{read}
-use Rattle.rows.specs.Wake.{wakeFirst, wakeAll}
+use Rattle.rows.specs.Wake.{wakeFirst, wakeWalk}
 use Rattle.rows.specs.Holds.{transactionAt}
 use Rattle.state.specs.declared.scalars.Scalars.{Scalars}
 use Rattle.state.specs.Sane.{Sane}
@@ -38,31 +40,46 @@ use Rattle.moves.proofs.MotionLaws.{number-read, stop-done, asked, go-on-used}
 use Rattle.tables.proofs.Operands.{operand}
 use Rattle.state.proofs.Moving.{placed, next-low}
 use Rattle.servers.specs.Units.{serverAt, inUse, holder, setUse, capacity}
-use Rattle.servers.specs.Waking.{checkWels, shorter, unitsAt, memberFits, wakeStays}
+use Rattle.servers.specs.Waking.{checkWels, shorter, unitsAt, memberUnits, memberFits, leaveWith, takenOff, leftBehind, memberLeft}
 use Rattle.servers.specs.Freeing.{enterFreed, freeOne, freeSome, askRelease}
 use Rattle.servers.specs.Freeing as Freeing
 use Rattle.servers.proofs.Named.{units-of, named}
 use Rattle.servers.proofs.Ready.{Ready, wakeQl-same, set-ready, first-ready, passed-ready, ready-done}
 use Rattle.servers.proofs.Standing.{high, units-are, holder-is, capacity-is, ready}
 
--- ---- Who fits: the units of the block before which a transaction stands, as the tables have them
+-- ---- The units of the block before which a transaction stands, as the tables have them
 
-abbrev small : List ℕ → ℕ → Transaction → Bool
-small tables n t = leb (unitsAt tables (8 * ((t .next - 1) % 256))) n
+abbrev needs : List ℕ → Transaction → ℕ
+needs tables t = unitsAt tables (8 * ((t .next - 1) % 256))
 
-small-row : (tables : List ℕ) (n : ℕ) (w : List ℕ) (k : ℕ) → memberFits tables n w k ≡ small tables n (transactionAt w k)
-unfolding memberFits transactionAt
-small-row tables n w k = refl
+units-row : (tables w : List ℕ) (k : ℕ) → memberUnits tables w k ≡ needs tables (transactionAt w k)
+unfolding memberUnits transactionAt
+units-row tables w k = refl
 
-module _ (m : BlockModel) (tape : List (List ℕ)) (tapeBytes tables lists : List ℕ) (proper : Proper m tape) (rep : Represents m tape tapeBytes tables lists) (w : View) (v n : ℕ) (left : n ≡ free (Term.serverAt w v)) where
-  small-fits : (t : Transaction) → Placed m t → small tables n t ≡ fits m w v t
-  unfolding fits
-  small-fits t placed =
-      ap (λ (u : ℕ). leb u n) (units-of m tape tapeBytes tables lists proper rep (t .next) (placed .0)) ∙ ap (λ (u : ℕ). leb (facts (blockAt m (t .next)) .units) u) left
+-- what is left behind one
+abbrev less : (edition : ℕ) → (Transaction → ℕ) → ℕ → Transaction → ℕ
+less edition units n t = leftBehind edition n (units t)
 
-  all-fits : (l : List Transaction) → Each (Placed m) l → Each (λ t. small tables n t ≡ fits m w v t) l
-  all-fits [] h = tt
-  all-fits (t ∷ l) h = (small-fits t (h .0), all-fits l (h .1))
+less-is : (edition : ℕ) (units : Transaction → ℕ) (n : ℕ) (t : Transaction) → less edition units n t ≡ leftAfter (not (eqb edition 1)) units n t
+unfolding leftBehind takenOff
+less-is edition units n t = go (eqb edition 1) (leb (units t) n) refl
+  where
+    go : (b fits : Bool) → leb (units t) n ≡ fits → cond b n (cond (ltb n (units t)) n (n - units t)) ≡ cond (not b) (cond fits (n - units t) n) n
+    go true fits e = refl
+    go false true e = rw (le-ltb n (units t) (leb-true (units t) n e))
+    go false false e = rw (lt-ltb n (units t) (leb-false (units t) n e))
+
+module _ (m : BlockModel) (tape : List (List ℕ)) (tapeBytes tables lists : List ℕ) (proper : Proper m tape) (rep : Represents m tape tapeBytes tables lists) where
+  -- the walk by the tables is that by the model
+  same-steps : (l : List Transaction) → Each (Placed m) l
+      → Each (λ t. (n : ℕ) → (within (needs tables) n t ≡ within (unitsOf m) n t) × (less (m .edition) (needs tables) n t ≡ leftAfter (not (eqb (m .edition) 1)) (unitsOf m) n t)) l
+  same-steps [] h = tt
+  same-steps (t ∷ l) h = (
+    λ n.
+        let e : needs tables t ≡ unitsOf m t = units-of m tape tapeBytes tables lists proper rep (t .next) (h .0 .0) in
+        (ap (λ (u : ℕ). leb u n) e, ap (leftBehind (m .edition) n) e ∙ less-is (m .edition) (unitsOf m) n t),
+    same-steps l (h .1),
+  )
 
 -- ---- The laws
 
@@ -96,45 +113,55 @@ module _ (m : BlockModel) (tape : List (List ℕ)) (tapeBytes tables lists : Lis
       freed =
           set-ready tapeBytes x t v low high′ (server .inUse) (server .capacity) w tally s₀ (ready m tape tapeBytes tables lists proper rep s sane r t stands v low there) units 0
 
-      one-done : Done tapeBytes (freeOne tables w tally x (v - 1) units) (entering (Moves.goOn t (Execute.checkWels v (wakeFirstQl v s₁))))
+      one-done : Done tapeBytes (freeOne tables w tally x (v - 1) units) (entering (Moves.goOn t (Execute.checkWels v (wakeQl firstOf v s₁))))
       unfolding freeOne enterFreed
       one-done =
           rw (capacity-is m tape tapeBytes tables lists proper rep s sane r t stands v low there)
-          (ready-done tapeBytes x t v low high′ units (server .capacity) (wakeFirst w (v - 1)) (shorter (setUse tally (v - 1) units 0) (v - 1)) (wakeFirstQl v s₁)
+          (ready-done tapeBytes x t v low high′ units (server .capacity) (wakeFirst w (v - 1)) (shorter (setUse tally (v - 1) units 0) (v - 1)) (wakeQl firstOf v s₁)
           (first-ready tapeBytes x t v low high′ units (server .capacity) w (setUse tally (v - 1) units 0) s₁ freed)
           (next-low proper t s sane moving))
 
-      abbrev test : List ℕ → ℕ → Bool
-      test = memberFits tables (server .capacity - units)
+      -- LEAVE of b units, the block before which t stands
+      module _ (b : ℕ) (is : blockAt m (t .next) ≡ leave v b) (one : 1 ≤ b) where
+        abbrev left : ℕ
+        left = leaveWith (m .edition) (server .capacity - units) b
 
-      same-woken : wakeQl (small tables (server .capacity - units)) v s₁ ≡ wakeQl (fits m (s₁ .view) v) v s₁
-      same-woken =
-          wakeQl-same (small tables (server .capacity - units)) (fits m (s₁ .view) v) v s₁
-          (all-fits m tape tapeBytes tables lists proper rep (s₁ .view) v (server .capacity - units) left (qlOf s₁ v) members)
-        where
-          left : server .capacity - units ≡ free (Term.serverAt (s₁ .view) v)
-          left = omega (arith, freed .held, freed .holds)
+        part : List Transaction → Parted
+        part = walk (within (needs tables)) (less (m .edition) (needs tables)) left
 
-          members : Each (Placed m) (qlOf s₁ v)
-          members = unfold Moves.setUse in (each-getD (Each (Placed m)) (s .ql) (v - 1) [] (sane .placed .ql) tt)
+        same-part : part (qlOf s₁ v) ≡ partFor m (storage v b) (s₁ .view) (qlOf s₁ v)
+        unfolding leaveWith part
+        same-part =
+            walk-same _ _ _ _ left (qlOf s₁ v) (same-steps m tape tapeBytes tables lists proper rep (qlOf s₁ v) members)
+            ∙ ap (λ (n : ℕ). walk (within (unitsOf m)) (leftAfter (not (eqb (m .edition) 1)) (unitsOf m)) (cond (eqb (m .edition) 1) n b) (qlOf s₁ v)) free-units
+            ∙ sym (leave-walks m (t .next) v b is one (s₁ .view) (qlOf s₁ v) (some-units proper v low (qlOf s₁ v) waiters))
+          where
+            free-units : server .capacity - units ≡ free (Term.serverAt (s₁ .view) v)
+            free-units = omega (arith, freed .held, freed .holds)
 
-      some-done : Done tapeBytes (freeSome tables w tally x (v - 1) units) (entering (Moves.goOn t (Execute.checkWels v (wakeQl (fits m (s₁ .view) v) v s₁))))
-      unfolding freeSome enterFreed
-      some-done =
-          rw (capacity-is m tape tapeBytes tables lists proper rep s sane r t stands v low there)
-          (subst (λ (y : State). Done tapeBytes (withTally (goOn (checkWels (wakeAll test 1024 w (v - 1) (head (v - 1))) (v - 1) units (server .capacity)) x) (set (setUse tally (v - 1) units 0) (768 + (v - 1)) (wakeStays test 1024 w (v - 1) (head (v - 1))))) (entering (Moves.goOn t (Execute.checkWels v y)))) same-woken
-          (ready-done tapeBytes x t v low high′ units (server .capacity) (wakeAll test 1024 w (v - 1) (head (v - 1))) (set (setUse tally (v - 1) units 0) (768 + (v - 1)) (wakeStays test 1024 w (v - 1) (head (v - 1)))) (wakeQl (small tables (server .capacity - units)) v s₁)
-          (passed-ready tapeBytes x t v low high′ units (server .capacity) w (setUse tally (v - 1) units 0) s₁ freed test (small tables (server .capacity - units)) (small-row tables (server .capacity - units)))
-          (next-low proper t s sane moving)))
+            members : Each (Placed m) (qlOf s₁ v)
+            members = unfold Moves.setUse in (each-getD (Each (Placed m)) (s .ql) (v - 1) [] (sane .placed .ql) tt)
+
+            waiters : Each (AtServer m v) (qlOf s₁ v)
+            waiters = unfold Moves.setUse in (sane .waits .queued .ql-stands v low)
+
+        some-done : Done tapeBytes (freeSome tables w tally x (v - 1) units b) (entering (Moves.goOn t (Execute.checkWels v (wakeFor m (storage v b) s₁))))
+        unfolding freeSome enterFreed wakeFor shareServer part
+        some-done =
+            rw (capacity-is m tape tapeBytes tables lists proper rep s sane r t stands v low there, rep .edition, ← wakeQl-same part (partFor m (storage v b) (s₁ .view)) v s₁ same-part)
+            (ready-done tapeBytes x t v low high′ units (server .capacity) _ _ (wakeQl part v s₁)
+            (passed-ready tapeBytes x t v low high′ units (server .capacity) w (setUse tally (v - 1) units 0) s₁ freed (memberFits tables) (memberLeft tables (m .edition)) (within (needs tables)) (less (m .edition) (needs tables))
+            (λ n u j. ap (λ (i : ℕ). leb i n) (units-row tables u j)) (λ n u j. ap (leftBehind (m .edition) n) (units-row tables u j)) left)
+            (next-low proper t s sane moving))
 
     -- the block enters
     release-entered : Done tapeBytes (freeOne tables w tally x (v - 1) (server .inUse - 1)) (bare m (release v) t s₀)
-    unfolding bare wakeFor shareServer shareUnits
+    unfolding bare wakeFor partFor shareServer shareUnits
     release-entered = one-done (server .inUse - 1)
 
-    leave-entered : (b : ℕ) → Done tapeBytes (freeSome tables w tally x (v - 1) (server .inUse - b)) (bareAnswer 0 m (leave v b) t s)
-    unfolding bareAnswer bare wakeFor shareServer shareUnits
-    leave-entered b = some-done (server .inUse - b)
+    leave-entered : (b : ℕ) → blockAt m (t .next) ≡ leave v b → 1 ≤ b → Done tapeBytes (freeSome tables w tally x (v - 1) (server .inUse - b) b) (bareAnswer 0 m (leave v b) t s)
+    unfolding bareAnswer bare shareServer shareUnits
+    leave-entered b is one = some-done (server .inUse - b) b is one
 
   abbrev at : ℕ
   at = 8 * (t .next - 1)
@@ -178,8 +205,8 @@ module _ (m : BlockModel) (tape : List (List ℕ)) (tapeBytes tables lists : Lis
       let proper′ : Storage m v = subst (ProperBlock m) is (proper .block (t .next)) .0 in
       let low : 1 ≤ v = omega (arith, proper′ .0) in
       rw (named tables (at + 1) v (high′ v low (proper′ .1)) low (operand m tape tapeBytes tables lists rep (t .next) (placed proper t s sane moving .0) (leave v b) is 1 (omega arith)), operand m tape tapeBytes tables lists rep (t .next) (placed proper t s sane moving .0) (leave v b) is 2 (omega arith), units-are m tape tapeBytes tables lists proper rep s sane r t stands v low (proper′ .1))
-      (leave-asked (leave v b) b (Term.serverAt (s .view) v .inUse) (freeSome tables w tally x (v - 1) (Term.serverAt (s .view) v .inUse - b))
-      (leave-entered v low (proper′ .1) b))
+      (leave-asked (leave v b) b (Term.serverAt (s .view) v .inUse) (freeSome tables w tally x (v - 1) (Term.serverAt (s .view) v .inUse - b) b)
+      (leave-entered v low (proper′ .1) b is (subst (ProperBlock m) is (proper .block (t .next)) .1 .0)))
 
 -- ---- Bytes of trace and turns are counted elsewhere
 
@@ -202,6 +229,6 @@ module _ (tables w tally : List ℕ) (x : Scalars) (at : ℕ) where
   unfolding Freeing.leave freeSome enterFreed rowsOf stopped
   leave-used = go (ltb (inUse tally v) b)
     where
-      go : (no : Bool) → cond {A = Rows} no (rowsOf (stopped x 24) w tally) (freeSome tables w tally x v (inUse tally v - b)) .scalars .used ≡ x .used
+      go : (no : Bool) → cond {A = Rows} no (rowsOf (stopped x 24) w tally) (freeSome tables w tally x v (inUse tally v - b) b) .scalars .used ≡ x .used
       go true = refl
-      go false = go-on-used (checkWels (wakeAll (memberFits tables (capacity tables v - (inUse tally v - b))) 1024 w v (head v)) v (inUse tally v - b) (capacity tables v)) x
+      go false = go-on-used (checkWels (wakeWalk (memberFits tables) (memberLeft tables (getD tables 2624 0)) 1024 (leaveWith (getD tables 2624 0) (capacity tables v - (inUse tally v - b)) b) w v (head v)) v (inUse tally v - b) (capacity tables v)) x

@@ -2,26 +2,26 @@
 -- WELs make of it.
 use Prim.Native.Nat.{ℕ, _+_, _-_, _≤_, _<_}
 use mathlib.Core.Path.{_≡_, refl, sym, ap, _∙_}
-use mathlib.Core.Bool.{Bool, not}
-use mathlib.Core.List.{List, [], _∷_}
+use mathlib.Core.Bool.{Bool}
+use mathlib.Core.List.{List}
 use mathlib.Core.Option.{some}
 use native.Mathlib.Omega.{arith}
 use lib.ListN.{length, getD, set, drop, length-set}
 use lib.Seq.{getD-set-same}
 use Rattle.machine.specs.Transaction.{Transaction}
-use Rattle.machine.specs.Lists.{those, others, setNth}
+use Rattle.machine.specs.Lists.{setNth}
 use Rattle.machine.specs.Term.{Server, idleServer}
 use Rattle.machine.specs.Term
 use Rattle.machine.specs.Block.{Code, welIndex}
 use Rattle.machine.specs.State.{State}
 use Rattle.machine.specs.Setters.{withUse, setQl, setRel}
-use Rattle.machine.specs.Moves.{wake, qlOf, wakeFirstQl, wakeQl}
+use Rattle.machine.specs.Moves.{wake, qlOf, Parted, firstOf, wakeQl}
+use Rattle.machine.proofs.QueueRemove.{walk}
 use Rattle.machine.specs.Moves as Moves
 use Rattle.machine.specs.Execute as Execute
-use Rattle.machine.specs.Claims.{Each}
 use Rattle.machine.proofs.Shape.{wel-below}
 use Rattle.rows.specs.Layout.{head}
-use Rattle.rows.specs.Wake.{wakeFirst, wakeAll}
+use Rattle.rows.specs.Wake.{wakeFirst, wakeWalk}
 use Rattle.rows.specs.Holds.{transactionAt}
 use Rattle.state.specs.declared.scalars.Scalars.{Scalars}
 use Rattle.state.specs.Stands.{listsOf, Listing, Tallying, Counting, Done}
@@ -47,22 +47,11 @@ pub record Ready (tapeBytes : List ℕ) (x : Scalars) (t : Transaction) (v units
   pub server : v - 1 < length (s .view .servers)
   pub samples : length (s .samples) ≤ 16
 
--- ---- Tests that agree on a list
+-- ---- Partings that agree on the QL
 
-pub those-same : (P Q : Transaction → Bool) (l : List Transaction) → Each (λ t. P t ≡ Q t) l → those P l ≡ those Q l
-unfolding those
-those-same P Q [] e = refl
-those-same P Q (t ∷ l) e = rw (e .0, those-same P Q l (e .1))
-
-each-not : (P Q : Transaction → Bool) (l : List Transaction) → Each (λ t. P t ≡ Q t) l → Each (λ t. not (P t) ≡ not (Q t)) l
-each-not P Q [] e = tt
-each-not P Q (t ∷ l) e = (ap not (e .0), each-not P Q l (e .1))
-
-pub wakeQl-same : (P Q : Transaction → Bool) (v : ℕ) (s : State) → Each (λ t. P t ≡ Q t) (qlOf s v) → wakeQl P v s ≡ wakeQl Q v s
+pub wakeQl-same : (part other : List Transaction → Parted) (v : ℕ) (s : State) → part (qlOf s v) ≡ other (qlOf s v) → wakeQl part v s ≡ wakeQl other v s
 unfolding wakeQl
-wakeQl-same P Q v s e =
-    ap (λ (l : List Transaction). setQl (setNth (s .ql) v (others P (qlOf s v))) (setRel (wake l (s .rel)) s)) (those-same P Q (qlOf s v) e)
-    ∙ ap (λ (l : List Transaction). setQl (setNth (s .ql) v l) (setRel (wake (those Q (qlOf s v)) (s .rel)) s)) (those-same (λ t. not (P t)) (λ t. not (Q t)) (qlOf s v) (each-not P Q (qlOf s v) e))
+wakeQl-same part other v s e = ap (λ (p : Parted). setQl (setNth (s .ql) v (p .stay)) (setRel (wake (p .go) (s .rel)) s)) e
 
 -- ---- What is done
 
@@ -86,13 +75,13 @@ module _ (tapeBytes : List ℕ) (x : Scalars) (t : Transaction) (v : ℕ) (low :
       }
 
   -- the first of the QL is woken
-  pub first-ready : Ready tapeBytes x t v units all (wakeFirst w (v - 1)) (shorter tally (v - 1)) (wakeFirstQl v s)
-  unfolding wakeFirstQl
+  pub first-ready : Ready tapeBytes x t v units all (wakeFirst w (v - 1)) (shorter tally (v - 1)) (wakeQl firstOf v s)
+  unfolding wakeQl
   first-ready =
       record {
         listing = wake-first-ql-listing w (x .moving) (some t) s (h .listing) v (omega arith) (h .ql);
         tallying = first-tallying tapeBytes tally s (h .tallying) (h .samples) v low high (h .ql);
-        counting = counting-ext x s (wakeFirstQl v s) refl refl refl refl refl refl refl (h .counting);
+        counting = counting-ext x s (wakeQl firstOf v s) refl refl refl refl refl refl refl (h .counting);
         held = h .held;
         holds = h .holds;
         wels = h .wels;
@@ -101,27 +90,29 @@ module _ (tapeBytes : List ℕ) (x : Scalars) (t : Transaction) (v : ℕ) (low :
         samples = h .samples;
       }
 
-  -- all of the QL that pass a test are woken
-  module _ (test : List ℕ → ℕ → Bool) (P : Transaction → Bool) (agree : (u : List ℕ) (j : ℕ) → test u j ≡ P (transactionAt u j)) where
-    stay : wakeStays test 1024 w (v - 1) (head (v - 1)) ≡ length (others P (qlOf s v))
+  -- those of the QL that a walk takes are woken
+  module _ (test : ℕ → List ℕ → ℕ → Bool) (next : ℕ → List ℕ → ℕ → ℕ) (P : ℕ → Transaction → Bool) (N : ℕ → Transaction → ℕ)
+      (agree : (n : ℕ) (u : List ℕ) (j : ℕ) → test n u j ≡ P n (transactionAt u j)) (follow : (n : ℕ) (u : List ℕ) (j : ℕ) → next n u j ≡ N n (transactionAt u j)) (left : ℕ) where
+    stay : wakeStays test next 1024 left w (v - 1) (head (v - 1)) ≡ length (walk P N left (qlOf s v) .stay)
     stay =
-        stays-shows test P agree (s .fel) (v - 1) (omega arith) w (listsOf s) (h .listing .shows)
-        ∙ ap (λ (l : List Transaction). length (others P l)) (lists-ql s (v - 1) (omega arith))
+        stays-shows test next P N agree follow (s .fel) (v - 1) (omega arith) left w (listsOf s) (h .listing .shows)
+        ∙ ap (λ (l : List Transaction). length (walk P N left l .stay)) (lists-ql s (v - 1) (omega arith))
 
-    pub passed-ready : Ready tapeBytes x t v units all (wakeAll test 1024 w (v - 1) (head (v - 1))) (set tally (768 + (v - 1)) (wakeStays test 1024 w (v - 1) (head (v - 1)))) (wakeQl P v s)
+    pub passed-ready : Ready tapeBytes x t v units all (wakeWalk test next 1024 left w (v - 1) (head (v - 1))) (set tally (768 + (v - 1)) (wakeStays test next 1024 left w (v - 1) (head (v - 1)))) (wakeQl (walk P N left) v s)
     unfolding wakeQl
     passed-ready =
-        let n : ℕ = wakeStays test 1024 w (v - 1) (head (v - 1)) in
+        let n : ℕ = wakeStays test next 1024 left w (v - 1) (head (v - 1)) in
+        let l : List Transaction = walk P N left (qlOf s v) .stay in
         record {
-          listing = wake-ql-listing w (x .moving) (some t) s (h .listing) v (omega arith) (h .ql) test P agree;
+          listing = wake-ql-listing w (x .moving) (some t) s (h .listing) v (omega arith) (h .ql) test next P N agree follow left;
           tallying =
-              tallying-ext tapeBytes (set tally (768 + (v - 1)) n) (setQl (set (s .ql) (v - 1) (others P (qlOf s v))) s) (wakeQl P v s) refl refl refl refl refl
-              (length-tallying tapeBytes tally s (h .tallying) (h .samples) v low high (others P (qlOf s v)) n stay (h .ql));
-          counting = counting-ext x s (wakeQl P v s) refl refl refl refl refl refl refl (h .counting);
+              tallying-ext tapeBytes (set tally (768 + (v - 1)) n) (setQl (set (s .ql) (v - 1) l) s) (wakeQl (walk P N left) v s) refl refl refl refl refl
+              (length-tallying tapeBytes tally s (h .tallying) (h .samples) v low high l n stay (h .ql));
+          counting = counting-ext x s (wakeQl (walk P N left) v s) refl refl refl refl refl refl refl (h .counting);
           held = h .held;
           holds = h .holds;
           wels = h .wels;
-          ql = omega (arith, h .ql, length-set (s .ql) (v - 1) (others P (qlOf s v)));
+          ql = omega (arith, h .ql, length-set (s .ql) (v - 1) l);
           server = h .server;
           samples = h .samples;
         }

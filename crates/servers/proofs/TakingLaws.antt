@@ -2,12 +2,12 @@
 use Prim.Native.Nat.{ℕ, suc, _+_, _*_, _-_, _≤_}
 use mathlib.Core.Path.{_≡_, refl, subst}
 use mathlib.Core.Bool.{Bool, true, false, cond}
-use mathlib.Core.List.{List}
+use mathlib.Core.List.{List, []}
 use mathlib.Core.Option.{none, some}
 use native.Mathlib.Omega.{arith}
 use lib.Dec.{leb}
 use lib.ListN.{getD}
-use Rattle.machine.specs.Transaction.{Transaction}
+use Rattle.machine.specs.Transaction.{Transaction, precedes}
 use Rattle.machine.specs.Term.{Server, free}
 use Rattle.machine.specs.Term
 use Rattle.machine.specs.Block.{shareServer, shareUnits, shareHolder, seize, enter, BlockModel, blockAt}
@@ -16,6 +16,7 @@ use Rattle.machine.specs.Setters.{setMoving, setSerial}
 use Rattle.machine.specs.Moves as Moves
 use Rattle.machine.specs.Execute.{question}
 use Rattle.machine.specs.Execute as Execute
+use Rattle.machine.proofs.Sorted.{Sorted}
 use Rattle.machine.proofs.Proper.{Proper, ProperBlock, Names, Storage, servers}
 use Rattle.tables.specs.Forms.{blockForms}
 use Rattle.tables.specs.Represents.{Represents}
@@ -69,25 +70,28 @@ module _ (m : BlockModel) (tape : List (List ℕ)) (tapeBytes tables lists : Lis
         (set-ready tapeBytes x t v low high′ (server .inUse) (server .capacity) w tally s₀ ready′ (server .inUse + b) who)
         (next-low proper t s sane moving)
 
-    -- it waits on the QL
-    queue-done : Done tapeBytes (queueUp w tally x (v - 1)) (waiting (Moves.toQl v) t s₀)
+    -- it waits on the QL, which is in order under edition 1
+    sorted : m .edition ≡ 1 → Sorted precedes (getD (s .ql) (v - 1) [])
+    sorted first = sane .waits .queued .ql-sorted first (v - 1)
+
+    queue-done : Done tapeBytes (queueUp w tally x (v - 1) (m .edition)) (waiting (Moves.toQl (m .edition) v) t s₀)
     unfolding queueUp
     queue-done =
-        waits-done tapeBytes (longer tally (v - 1)) (waitOn w x (v - 1)) (waiting (Moves.toQl v) t s₀)
-        (wait-on-waits (v - 1) (omega arith) (Moves.toQl v) w x t s₀ refl (ready′ .listing) (ready′ .counting) (omega (arith, sane .serials))
-        (puts-ql v s₀ (omega arith) (ready′ .ql))
-        (puts-ql v (setSerial (suc (s .serial)) s₀) (omega arith) (ready′ .ql)))
-        (queued-tallying tapeBytes tally s₀ (ready′ .tallying) (ready′ .samples) v low high′ (ready′ .ql) (short m tape tapeBytes tables lists proper rep s sane r t stands v low there) t)
+        waits-done tapeBytes (longer tally (v - 1)) (waitOn w x (v - 1) (m .edition)) (waiting (Moves.toQl (m .edition) v) t s₀)
+        (wait-on-waits (m .edition) (v - 1) (omega arith) (Moves.toQl (m .edition) v) w x t s₀ refl (ready′ .listing) (ready′ .counting) (omega (arith, sane .serials))
+        (puts-ql (m .edition) v s₀ (omega arith) (ready′ .ql) sorted)
+        (puts-ql (m .edition) v (setSerial (suc (s .serial)) s₀) (omega arith) (ready′ .ql) sorted))
+        (queued-tallying tapeBytes tally s₀ (ready′ .tallying) (ready′ .samples) v low high′ (ready′ .ql) (short m tape tapeBytes tables lists proper rep s sane r t stands v low there) (m .edition) t)
 
     take-done : Done tapeBytes (takeUnits tables w tally x (v - 1) b who)
-        (cond (leb b (free server)) (entering (Moves.goOn t (Execute.checkWels v (Moves.setUse v (server .inUse + b) who s₀)))) (waiting (Moves.toQl v) t s₀))
+        (cond (leb b (free server)) (entering (Moves.goOn t (Execute.checkWels v (Moves.setUse v (server .inUse + b) who s₀)))) (waiting (Moves.toQl (m .edition) v) t s₀))
     unfolding takeUnits
     take-done =
-        rw (capacity-is m tape tapeBytes tables lists proper rep s sane r t stands v low there, units-are m tape tapeBytes tables lists proper rep s sane r t stands v low there)
+        rw (capacity-is m tape tapeBytes tables lists proper rep s sane r t stands v low there, units-are m tape tapeBytes tables lists proper rep s sane r t stands v low there, rep .edition)
         (go (leb b (free server)))
       where
-        go : (fits : Bool) → Done tapeBytes (cond fits (holdUnits w tally x (v - 1) (server .inUse + b) who (server .capacity)) (queueUp w tally x (v - 1)))
-            (cond fits (entering (Moves.goOn t (Execute.checkWels v (Moves.setUse v (server .inUse + b) who s₀)))) (waiting (Moves.toQl v) t s₀))
+        go : (fits : Bool) → Done tapeBytes (cond fits (holdUnits w tally x (v - 1) (server .inUse + b) who (server .capacity)) (queueUp w tally x (v - 1) (m .edition)))
+            (cond fits (entering (Moves.goOn t (Execute.checkWels v (Moves.setUse v (server .inUse + b) who s₀)))) (waiting (Moves.toQl (m .edition) v) t s₀))
         go true = hold-done
         go false = queue-done
 
@@ -117,9 +121,9 @@ module _ (tables w tally : List ℕ) (x : Scalars) where
   unfolding takeUnits holdUnits queueUp rowsOf
   take-used v b who = go (leb b (capacity tables v - inUse tally v))
     where
-      go : (fits : Bool) → cond {A = Rows} fits (holdUnits w tally x v (inUse tally v + b) who (capacity tables v)) (queueUp w tally x v) .scalars .used ≡ x .used
+      go : (fits : Bool) → cond {A = Rows} fits (holdUnits w tally x v (inUse tally v + b) who (capacity tables v)) (queueUp w tally x v (getD tables 2624 0)) .scalars .used ≡ x .used
       go true = go-on-used (checkWels w v (inUse tally v + b) (capacity tables v)) x
-      go false = wait-on-used w x v
+      go false = wait-on-used w x v (getD tables 2624 0)
 
   pub seize-used : (at : ℕ) → Taking.seize tables w tally x at .scalars .used ≡ x .used
   unfolding Taking.seize

@@ -8,13 +8,14 @@ use native.Mathlib.Omega.{arith}
 use native.Mathlib.Decide.{ℕ-discrete}
 use lib.ListN.{length, getD, set, drop, length-set, length-drop}
 use lib.Seq.{getD-set-same, getD-set-other}
-use Rattle.machine.specs.Transaction.{Transaction, precedes}
-use Rattle.machine.specs.Lists.{insert}
+use Rattle.machine.specs.Transaction.{Transaction}
 use Rattle.machine.specs.Term.{Server, idleServer}
 use Rattle.machine.specs.Term
 use Rattle.machine.specs.State.{State}
 use Rattle.machine.specs.Setters.{withUse, withSerial, setQl, setSerial}
 use Rattle.machine.specs.Moves as Moves
+use Rattle.machine.proofs.Sums.{sum-length}
+use Rattle.machine.proofs.Lines.{sum-lineUp}
 use Rattle.state.specs.Stands.{Tallying}
 use Rattle.state.specs.Bare.{Bare, waitsNote, noNote, waiting}
 use Rattle.state.proofs.StandsLaws.{tallying-ext, entries-set, queueing-set, sampling-set}
@@ -32,14 +33,9 @@ field-kept f (x ∷ l) zero a d e (suc j) = refl
 field-kept f (x ∷ l) (suc i) a d e zero = refl
 field-kept f (x ∷ l) (suc i) a d e (suc j) = field-kept f l i a d e j
 
-pub insert-length : (t : Transaction) (l : List Transaction) → length (insert precedes t l) ≡ suc (length l)
-unfolding insert
-insert-length t [] = refl
-insert-length t (x ∷ l) = go (precedes t x) (insert-length t l)
-  where
-    go : (b : Bool) → length (insert precedes t l) ≡ suc (length l) → length (cond b (t ∷ x ∷ l) (x ∷ insert precedes t l)) ≡ suc (suc (length l))
-    go true e = refl
-    go false e = ap suc e
+-- under either edition
+line-length : (edition : ℕ) (t : Transaction) (l : List Transaction) → length (Moves.lineUp edition t l) ≡ suc (length l)
+line-length edition t l = omega (arith, sum-lineUp (λ u. 1) edition t l, sum-length (Moves.lineUp edition t l), sum-length l)
 
 -- ---- The cells of each kind
 
@@ -164,27 +160,27 @@ module _ (tapeBytes tally : List ℕ) (s : State) (h : Tallying tapeBytes tally 
     ql-length = h .servers .waiting (v - 1) (omega arith)
 
     -- the first of the QL leaves
-    pub first-tallying : Tallying tapeBytes (shorter tally (v - 1)) (Moves.wakeFirstQl v s)
-    unfolding shorter Moves.wakeFirstQl
+    pub first-tallying : Tallying tapeBytes (shorter tally (v - 1)) (Moves.wakeQl Moves.firstOf v s)
+    unfolding shorter Moves.wakeQl
     first-tallying =
         let l : List Transaction = drop 1 (Moves.qlOf s v) in
-        tallying-ext tapeBytes (shorter tally (v - 1)) (setQl (set (s .ql) (v - 1) l) s) (Moves.wakeFirstQl v s) refl refl refl refl refl
+        tallying-ext tapeBytes (shorter tally (v - 1)) (setQl (set (s .ql) (v - 1) l) s) (Moves.wakeQl Moves.firstOf v s) refl refl refl refl refl
         (length-tallying l (getD tally (768 + (v - 1)) 0 - 1) (ap (λ (n : ℕ). n - 1) ql-length ∙ sym (length-drop 1 (Moves.qlOf s v))) there)
 
     -- one more waits
     module _ (short : length (Moves.qlOf s v) ≤ 1024) where
-      one-more : (t : Transaction) → min (getD tally (768 + (v - 1)) 0 + 1) 18446744073709551615 ≡ length (insert precedes t (Moves.qlOf s v))
-      one-more t = omega (arith, ql-length, insert-length t (Moves.qlOf s v))
+      one-more : (edition : ℕ) (t : Transaction) → min (getD tally (768 + (v - 1)) 0 + 1) 18446744073709551615 ≡ length (Moves.lineUp edition t (Moves.qlOf s v))
+      one-more edition t = omega (arith, ql-length, line-length edition t (Moves.qlOf s v))
 
-      pub queued-tallying : (t : Transaction) → Tallying tapeBytes (longer tally (v - 1)) (waiting (Moves.toQl v) t s .state)
+      pub queued-tallying : (edition : ℕ) (t : Transaction) → Tallying tapeBytes (longer tally (v - 1)) (waiting (Moves.toQl edition v) t s .state)
       unfolding longer waiting Moves.toQl
-      queued-tallying t = go (t .returning)
+      queued-tallying edition t = go (t .returning)
         where
           u : Transaction
           u = withSerial (Moves.fresh s) t
 
-          go : (b : Bool) → Tallying tapeBytes (longer tally (v - 1)) (cond {A = Bare} b (record { note = noNote; state = Moves.toQl v t s }) (record { note = waitsNote; state = Moves.toQl v u (setSerial (Moves.fresh s) s) }) .state)
-          go true = length-tallying (insert precedes t (Moves.qlOf s v)) _ (one-more t) there
+          go : (b : Bool) → Tallying tapeBytes (longer tally (v - 1)) (cond {A = Bare} b (record { note = noNote; state = Moves.toQl edition v t s }) (record { note = waitsNote; state = Moves.toQl edition v u (setSerial (Moves.fresh s) s) }) .state)
+          go true = length-tallying (Moves.lineUp edition t (Moves.qlOf s v)) _ (one-more edition t) there
           go false =
-              tallying-ext tapeBytes (longer tally (v - 1)) (setQl (set (s .ql) (v - 1) (insert precedes u (Moves.qlOf s v))) s) (Moves.toQl v u (setSerial (Moves.fresh s) s)) refl refl refl refl refl
-              (length-tallying (insert precedes u (Moves.qlOf s v)) _ (one-more u) there)
+              tallying-ext tapeBytes (longer tally (v - 1)) (setQl (set (s .ql) (v - 1) (Moves.lineUp edition u (Moves.qlOf s v))) s) (Moves.toQl edition v u (setSerial (Moves.fresh s) s)) refl refl refl refl refl
+              (length-tallying (Moves.lineUp edition u (Moves.qlOf s v)) _ (one-more edition u) there)

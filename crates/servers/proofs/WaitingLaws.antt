@@ -2,12 +2,12 @@
 use Prim.Native.Nat.{ℕ, zero, suc, _+_, _*_, _-_, _%_, _≤_, _<_}
 use mathlib.Core.Path.{_≡_, refl, ap, _∙_, subst}
 use mathlib.Core.Bool.{Bool, true, false, cond, _&&_}
-use mathlib.Core.List.{List}
+use mathlib.Core.List.{List, []}
 use mathlib.Core.Option.{none, some}
 use native.Mathlib.Omega.{arith}
 use lib.Dec.{ltb}
 use lib.ListN.{length, getD}
-use Rattle.machine.specs.Transaction.{Transaction}
+use Rattle.machine.specs.Transaction.{Transaction, precedes}
 use Rattle.machine.specs.Term.{Server}
 use Rattle.machine.specs.Term
 use Rattle.machine.specs.Block.{Code, U, NU, E, NE, F, NF, codeIndex, status, Block, waitServer, facts, BlockModel, blockAt, beginsGroup, welIndex}
@@ -16,6 +16,7 @@ use Rattle.machine.specs.Setters.{withStamp, setMoving, setSerial}
 use Rattle.machine.specs.Moves.{wakeFirstWel}
 use Rattle.machine.specs.Moves as Moves
 use Rattle.machine.specs.Execute.{question, stamped}
+use Rattle.machine.proofs.Sorted.{Sorted}
 use Rattle.machine.proofs.Proper.{Proper, ProperBlock, CodeServer, servers}
 use Rattle.machine.proofs.Shape.{wel-below}
 use Rattle.tables.specs.Forms.{blockForms}
@@ -93,14 +94,17 @@ module _ (m : BlockModel) (tape : List (List ℕ)) (tapeBytes tables lists : Lis
     below : welIndex v code < 384
     below = wel-below v code 64 low high′
 
-    -- it waits on the WEL
-    wait-done : Done tapeBytes (withTally (waitOn w x p) tally) (waiting (Moves.toWel v code) t s₀)
+    -- it waits on the WEL, which is in order under edition 1
+    sorted : m .edition ≡ 1 → Sorted precedes (getD (s .wel) (welIndex v code) [])
+    sorted first = sane .waits .gated .wel-sorted first (welIndex v code)
+
+    wait-done : Done tapeBytes (withTally (waitOn w x p (m .edition)) tally) (waiting (Moves.toWel (m .edition) v code) t s₀)
     wait-done =
-        waits-done tapeBytes tally (waitOn w x p) (waiting (Moves.toWel v code) t s₀)
-        (wait-on-waits p (omega (arith, below)) (Moves.toWel v code) w x t s₀ refl (ready′ .listing) (ready′ .counting) (omega (arith, sane .serials))
-        (puts-wel v code s₀ below (ready′ .wels code))
-        (puts-wel v code (setSerial (suc (s .serial)) s₀) below (ready′ .wels code)))
-        (wel-tallying tapeBytes tally t s₀ (ready′ .tallying) v code)
+        waits-done tapeBytes tally (waitOn w x p (m .edition)) (waiting (Moves.toWel (m .edition) v code) t s₀)
+        (wait-on-waits (m .edition) p (omega (arith, below)) (Moves.toWel (m .edition) v code) w x t s₀ refl (ready′ .listing) (ready′ .counting) (omega (arith, sane .serials))
+        (puts-wel (m .edition) v code s₀ below (ready′ .wels code) sorted)
+        (puts-wel (m .edition) v code (setSerial (suc (s .serial)) s₀) below (ready′ .wels code) sorted))
+        (wel-tallying tapeBytes tally t s₀ (ready′ .tallying) (m .edition) v code)
 
     woken : Checked (x .moving) (some t) s₀ (wakeFirst w p) (wakeFirstWel v code s₀)
     woken = woken-checked (x .moving) (some t) s₀ w s₀ v code below (ready′ .wels code) (unchecked (x .moving) (some t) s₀ w (ready′ .listing))
@@ -149,11 +153,11 @@ module _ (m : BlockModel) (tape : List (List ℕ)) (tapeBytes tables lists : Lis
     module _ (c : ℕ) (counts : backOf tables at ≡ c) (begins : beginsFrom tables (at + 8) 1 7 ≡ beginsGroup m (t .next)) where
       while-done : Done tapeBytes (withTally (waitWhile tables w x at p (status code server)) tally) (bare m (waitServer code v c) t s₀)
       unfolding waitWhile passOrBack bare
-      while-done = rw (counts, begins, late-is c) (go (status code server) (ltb 0 c && ltb (t .stamp) (s .view .clock)))
+      while-done = rw (counts, begins, late-is c, rep .edition) (go (status code server) (ltb 0 c && ltb (t .stamp) (s .view .clock)))
         where
           go : (b l : Bool)
-              → Done tapeBytes (withTally (cond b (waitOn w x p) (cond l (backFrom w x p c) (passOn w x p (beginsGroup m (t .next))))) tally)
-              (cond b (waiting (Moves.toWel v code) t s₀) (cond l (goingBack (Moves.moveTo (t .next - c) t (wakeFirstWel v code s₀))) (entering (Moves.goOn (stamped m t s₀) (wakeFirstWel v code s₀)))))
+              → Done tapeBytes (withTally (cond b (waitOn w x p (m .edition)) (cond l (backFrom w x p c) (passOn w x p (beginsGroup m (t .next))))) tally)
+              (cond b (waiting (Moves.toWel (m .edition) v code) t s₀) (cond l (goingBack (Moves.moveTo (t .next - c) t (wakeFirstWel v code s₀))) (entering (Moves.goOn (stamped m t s₀) (wakeFirstWel v code s₀)))))
           go true l = wait-done
           go false true = back-done c
           go false false = pass-done (beginsGroup m (t .next))
@@ -209,10 +213,10 @@ module _ (tables w tally : List ℕ) (x : Scalars) (at : ℕ) where
   wait-server-used = go (statusOf number (inUse tally v) (capacity tables v)) (isLate w x (backOf tables at)) (beginsFrom tables (at + 8) 1 7)
     where
       go : (b l f : Bool)
-          → cond {A = Moved} b (waitOn w x list)
+          → cond {A = Moved} b (waitOn w x list (getD tables 2624 0))
           (cond l (goBack (wakeFirst w list) x (backOf tables at)) (cond f (goOn (setTime (wakeFirst w list) (x .moving) (x .clock)) x) (goOn (wakeFirst w list) x))) .scalars .used
           ≡ x .used
-      go true l f = wait-on-used w x list
+      go true l f = wait-on-used w x list (getD tables 2624 0)
       go false true f = go-back-used (wakeFirst w list) x (backOf tables at)
       go false false true = go-on-used (setTime (wakeFirst w list) (x .moving) (x .clock)) x
       go false false false = go-on-used (wakeFirst w list) x

@@ -7,12 +7,12 @@ use lib.ListN.{getD, set}
 use Rattle.tables.specs.Layout as Layout
 use Rattle.rows.specs.Layout.{head, numberField}
 use Rattle.rows.specs.Cells.{read}
-use Rattle.rows.specs.Wake.{wakeFirst, wakeAll}
+use Rattle.rows.specs.Wake.{wakeFirst, wakeWalk}
 use Rattle.state.specs.declared.scalars.Scalars.{Scalars}
 use Rattle.state.specs.Stands.{Rows, rowsOf}
 use Rattle.moves.specs.Motion.{Moved, withTally, goOn, stopped}
 use Rattle.servers.specs.Units.{serverAt, inUse, holder, setUse, capacity}
-use Rattle.servers.specs.Waking.{checkWels, shorter, memberFits, steps, wakeStays}
+use Rattle.servers.specs.Waking.{checkWels, shorter, memberFits, leaveWith, memberLeft, steps, wakeStays}
 
 -- it enters, and so many units are in use
 unfoldable pub enterFreed : List ℕ → Scalars → (v units all : ℕ) → Moved
@@ -22,10 +22,13 @@ unfoldable pub freeOne : List ℕ → List ℕ → List ℕ → Scalars → (v u
 freeOne tables w tally x v units =
     withTally (enterFreed (wakeFirst w v) x v units (capacity tables v)) (shorter (setUse tally v units 0) v)
 
-unfoldable pub freeSome : List ℕ → List ℕ → List ℕ → Scalars → (v units : ℕ) → Rows
-freeSome tables w tally x v units =
-    withTally (enterFreed (wakeAll (memberFits tables (capacity tables v - units)) steps w v (head v)) x v units (capacity tables v))
-    (set (setUse tally v units 0) (Layout.qlLength + v) (wakeStays (memberFits tables (capacity tables v - units)) steps w v (head v)))
+-- whom a LEAVE of b units wakes, where so many are in use then
+unfoldable pub freeSome : List ℕ → List ℕ → List ℕ → Scalars → (v units b : ℕ) → Rows
+freeSome tables w tally x v units b =
+    let edition : ℕ = getD tables Layout.edition 0 in
+    let left : ℕ = leaveWith edition (capacity tables v - units) b in
+    withTally (enterFreed (wakeWalk (memberFits tables) (memberLeft tables edition) steps left w v (head v)) x v units (capacity tables v))
+    (set (setUse tally v units 0) (Layout.qlLength + v) (wakeStays (memberFits tables) (memberLeft tables edition) steps left w v (head v)))
 
 -- "Is f in use? 24."; document 02, item 6: "27 RELEASE by another than the holder, after 24"
 unfoldable pub askRelease : (units who number : ℕ) → ℕ
@@ -42,4 +45,4 @@ unfoldable pub leave : List ℕ → List ℕ → List ℕ → Scalars → ℕ �
 leave tables w tally x at =
     let v : ℕ = serverAt tables (at + 1) in
     let b : ℕ = getD tables (at + 2) 0 in
-    cond (ltb (inUse tally v) b) (rowsOf (stopped x 24) w tally) (freeSome tables w tally x v (inUse tally v - b))
+    cond (ltb (inUse tally v) b) (rowsOf (stopped x 24) w tally) (freeSome tables w tally x v (inUse tally v - b) b)

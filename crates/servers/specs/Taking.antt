@@ -21,12 +21,12 @@ holdUnits w tally x v units who all = withTally (goOn (checkWels w v units all) 
 unfoldable pub longer : List ℕ → ℕ → List ℕ
 longer tally v = set tally (Layout.qlLength + v) (min (getD tally (Layout.qlLength + v) 0 + 1) Layout.most64)
 
-unfoldable pub queueUp : List ℕ → List ℕ → Scalars → ℕ → Rows
-queueUp w tally x v = withTally (waitOn w x v) (longer tally v)
+unfoldable pub queueUp : List ℕ → List ℕ → Scalars → (v edition : ℕ) → Rows
+queueUp w tally x v edition = withTally (waitOn w x v edition) (longer tally v)
 
 unfoldable pub takeUnits : List ℕ → List ℕ → List ℕ → Scalars → (v b who : ℕ) → Rows
 takeUnits tables w tally x v b who =
-    cond (leb b (capacity tables v - inUse tally v)) (holdUnits w tally x v (inUse tally v + b) who (capacity tables v)) (queueUp w tally x v)
+    cond (leb b (capacity tables v - inUse tally v)) (holdUnits w tally x v (inUse tally v + b) who (capacity tables v)) (queueUp w tally x v (getD tables Layout.edition 0))
 
 -- document 02, item 6: "the number of its holder, written at SEIZE"
 unfoldable pub seize : List ℕ → List ℕ → List ℕ → Scalars → ℕ → Rows

@@ -5,7 +5,7 @@ use mathlib.Core.List.{List}
 use lib.Dec.{ltb, eqb}
 use lib.ListN.{getD}
 use Rattle.machine.specs.Limits.{maxBack}
-use Rattle.tables.specs.Layout.{codeCount}
+use Rattle.tables.specs.Layout.{codeCount, edition}
 use Rattle.rows.specs.Layout.{wels}
 use Rattle.rows.specs.Cells.{timeOf, setTime}
 use Rattle.rows.specs.Wake.{wakeFirst}
@@ -44,7 +44,7 @@ passOrBack tables w x at p =
     cond (isLate w x (backOf tables at)) (backFrom w x p (backOf tables at)) (passOn w x p (beginsFrom tables (at + 8) 1 maxBack))
 
 unfoldable pub waitWhile : List ℕ → List ℕ → Scalars → (at p : ℕ) → Bool → Moved
-waitWhile tables w x at p holds = cond holds (waitOn w x p) (passOrBack tables w x at p)
+waitWhile tables w x at p holds = cond holds (waitOn w x p (getD tables edition 0)) (passOrBack tables w x at p)
 
 unfoldable pub waitServer : List ℕ → List ℕ → List ℕ → Scalars → ℕ → Moved
 waitServer tables w tally x at =

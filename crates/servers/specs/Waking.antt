@@ -36,9 +36,26 @@ shorter tally v = set tally (Layout.qlLength + v) (getD tally (Layout.qlLength +
 unfoldable pub unitsAt : List ℕ → ℕ → ℕ
 unitsAt tables at = cond (eqb (getD tables at 0) 4) 1 (cond (eqb (getD tables at 0) 6) (getD tables (at + 2) 0) 0)
 
--- do the units that row k waits for, judged alone, fit?
-unfoldable pub memberFits : List ℕ → ℕ → List ℕ → ℕ → Bool
-memberFits tables free w k = leb (unitsAt tables (Layout.blockWidth * ((read w nextField k - 1) % maxBlocks))) free
+-- the units that row k waits for
+unfoldable pub memberUnits : List ℕ → List ℕ → ℕ → ℕ
+memberUnits tables w k = unitsAt tables (Layout.blockWidth * ((read w nextField k - 1) % maxBlocks))
+
+-- do they fit what is left?
+abbrev pub memberFits : List ℕ → (left : ℕ) → List ℕ → ℕ → Bool
+memberFits tables left w k = leb (memberUnits tables w k) left
+
+-- Document 02, item 12: under edition 1 the free units, judged alone for each; under edition 2 the units of the LEAVE, off which who goes takes its own
+unfoldable pub leaveWith : (edition free b : ℕ) → ℕ
+leaveWith edition free b = cond (eqb edition 1) free b
+
+unfoldable pub takenOff : (left units : ℕ) → ℕ
+takenOff left units = cond (ltb left units) left (left - units)
+
+unfoldable pub leftBehind : (edition left units : ℕ) → ℕ
+leftBehind edition left units = cond (eqb edition 1) left (takenOff left units)
+
+abbrev pub memberLeft : List ℕ → (edition left : ℕ) → List ℕ → ℕ → ℕ
+memberLeft tables edition left w k = leftBehind edition left (memberUnits tables w k)
 
 -- a QL has at most so many
 abbrev pub steps : ℕ
@@ -47,8 +64,10 @@ steps = rowCount
 abbrev pub oneUnless : Bool → ℕ
 oneUnless fits = cond fits 0 1
 
--- how many of list p from cell c on stay, where those that pass a test leave (`wakeAll` of crate rows)
-unfoldable pub wakeStays : (List ℕ → ℕ → Bool) → ℕ → List ℕ → ℕ → ℕ → ℕ
-wakeStays test zero w p c = 0
-wakeStays test (suc n) w p c =
-    cond (ltb (load w c) rowCount) (oneUnless (test w (load w c)) + wakeStays test n (passRows (test w (load w c)) w p c) p (passCell (test w (load w c)) w c)) 0
+-- how many of list p from cell c on stay, where those that pass a test leave (`wakeWalk` of crate rows)
+unfoldable pub wakeStays : (test : ℕ → List ℕ → ℕ → Bool) (next : ℕ → List ℕ → ℕ → ℕ) → ℕ → (left : ℕ) → List ℕ → ℕ → ℕ → ℕ
+wakeStays test next zero left w p c = 0
+wakeStays test next (suc n) left w p c =
+    cond (ltb (load w c) rowCount)
+    (oneUnless (test left w (load w c))
+    + wakeStays test next n (next left w (load w c)) (passRows (test left w (load w c)) w p c) p (passCell (test left w (load w c)) w c)) 0

@@ -5,6 +5,7 @@ use crate::units::in_use;
 use crate::units::server_at;
 use crate::units::set_use;
 use crate::waking::check_wels;
+use crate::waking::leave_with;
 use crate::waking::wake_first_ql;
 use crate::waking::wake_ql;
 use machine::ends::NOT_HOLDER;
@@ -15,6 +16,7 @@ use rows::NUMBER;
 use rows::cells::read;
 use state::Scalars;
 use state::less64;
+use tables::EDITION;
 use tables::FIRST;
 use tables::QL_LENGTH;
 use tables::SECOND;
@@ -58,6 +60,7 @@ fn free_one(
     enter_freed(work, x, v, left, all)
 }
 
+// So many units are in use then, b of them just given back.
 fn free_some(
     tables: &[u32],
     work: &mut [u32],
@@ -65,15 +68,18 @@ fn free_some(
     x: Scalars,
     v: u32,
     units: u64,
+    b: u64,
 ) -> Scalars
     requires { ⌜ Room (now work) ⌝ }
     requires { ⌜ x .moving < rowCount ⌝ }
     requires { ⌜ v < serverCount ⌝ }
-    ensures { λ r. ⌜ rowsOf r (now (work .exit)) (now (tally .exit)) ≡ freeSome (now (tables .entry)) (now (work .entry)) (now (tally .entry)) x v units ⌝ }
+    ensures { λ r. ⌜ rowsOf r (now (work .exit)) (now (tally .exit)) ≡ freeSome (now (tables .entry)) (now (work .entry)) (now (tally .entry)) x v units b ⌝ }
 {
     let all = capacity(tables, v);
     set_use(tally, v, units, 0);
-    let stay = wake_ql(tables, work, v, less64(all, units));
+    let edition = number(tables, EDITION);
+    let left = leave_with(edition, less64(all, units), b);
+    let stay = wake_ql(tables, work, v, edition, left);
     set_count(tally, QL_LENGTH + (v as usize), stay);
     enter_freed(work, x, v, units, all)
 }
@@ -125,5 +131,5 @@ pub fn leave(tables: &[u32], work: &mut [u32], tally: &mut [u64], x: Scalars, at
     if units < b {
         return stop(x, NOT_IN_USE);
     }
-    free_some(tables, work, tally, x, v, units - b)
+    free_some(tables, work, tally, x, v, units - b, b)
 }

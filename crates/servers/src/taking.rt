@@ -11,6 +11,7 @@ use rows::cells::read;
 use state::Scalars;
 use state::less64;
 use state::plus64;
+use tables::EDITION;
 use tables::FIRST;
 use tables::QL_LENGTH;
 use tables::SECOND;
@@ -45,16 +46,16 @@ fn hold_units(
 }
 
 // It waits on the QL.
-fn queue_up(work: &mut [u32], tally: &mut [u64], x: Scalars, v: u32) -> Scalars
+fn queue_up(work: &mut [u32], tally: &mut [u64], x: Scalars, v: u32, edition: u32) -> Scalars
     requires { ⌜ Room (now work) ⌝ }
     requires { ⌜ x .moving < rowCount ⌝ }
     requires { ⌜ v < serverCount ⌝ }
-    ensures { λ r. ⌜ rowsOf r (now (work .exit)) (now (tally .exit)) ≡ queueUp (now (work .entry)) (now (tally .entry)) x v ⌝ }
+    ensures { λ r. ⌜ rowsOf r (now (work .exit)) (now (tally .exit)) ≡ queueUp (now (work .entry)) (now (tally .entry)) x v edition ⌝ }
 {
     let at = QL_LENGTH + (v as usize);
     let n = plus64(count(tally, at), 1);
     set_count(tally, at, n);
-    wait_on(work, x, v)
+    wait_on(work, x, v, edition)
 }
 
 fn take_units(
@@ -76,7 +77,7 @@ fn take_units(
     if b <= less64(all, units) {
         return hold_units(work, tally, x, v, units + b, who, all);
     }
-    queue_up(work, tally, x, v)
+    queue_up(work, tally, x, v, number(tables, EDITION))
 }
 
 pub fn seize(tables: &[u32], work: &mut [u32], tally: &mut [u64], x: Scalars, at: usize) -> Scalars

@@ -16,6 +16,7 @@ use rows::cells::time;
 use rows::wake::wake_first;
 use state::Scalars;
 use tables::BLOCK_WIDTH;
+use tables::EDITION;
 use tables::FIRST;
 use tables::SECOND;
 use tables::THIRD;
@@ -138,7 +139,7 @@ fn wait_while(
     ensures { λ r. ⌜ moved r (now (work .exit)) ≡ waitWhile (now (tables .entry)) (now (work .entry)) x at p holds ⌝ }
 {
     if holds {
-        return wait_on(work, x, p);
+        return wait_on(work, x, p, number(tables, EDITION));
     }
     pass_or_back(tables, work, x, at, p)
 }

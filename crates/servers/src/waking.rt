@@ -1,4 +1,4 @@
-// Whom a change of a server's units wakes: the first of its QL or all that fit, and the first of each WEL whose code is not true.
+// Whom a change of a server's units wakes: the first of its QL or those that fit, and the first of each WEL whose code is not true.
 use crate::units::CODES;
 use crate::units::status;
 use machine::Model;
@@ -24,8 +24,8 @@ ghost use mathlib.Core.Path.{_≡_};
 ghost use Prim.Native.Nat.{_+_, _<_, _≤_};
 ghost use Rattle.tables.specs.Layout.{codeCount, programSize, serverCount};
 ghost use Rattle.rows.specs.Layout.{head, Room, rowCount};
-ghost use Rattle.rows.specs.Wake.{wakeAll, wakeFirst};
-ghost use Rattle.servers.specs.Waking.{checkWel, checkFirst, checkLast, checkWels, shorter, unitsAt, memberFits, steps, oneUnless, wakeStays};
+ghost use Rattle.rows.specs.Wake.{wakeWalk, wakeFirst};
+ghost use Rattle.servers.specs.Waking.{checkWel, checkFirst, checkLast, checkWels, shorter, unitsAt, memberUnits, memberFits, leaveWith, takenOff, leftBehind, memberLeft, steps, oneUnless, wakeStays};
 
 const BLOCKS: u32 = Model::MAX_BLOCKS as u32;
 
@@ -100,13 +100,44 @@ fn units_at(tables: &[u32], at: usize) -> u64
     0
 }
 
-// Do the units that row k waits for, judged alone, fit?
-fn member_fits(tables: &[u32], work: &[u32], k: u32, free: u64) -> bool
+// The units that row k waits for.
+fn member_units(tables: &[u32], work: &[u32], k: u32) -> u64
     requires { ⌜ k < rowCount ⌝ }
-    ensures { λ r. ⌜ r ≡ memberFits (now (tables .entry)) free (now (work .entry)) k ⌝ }
+    ensures { λ r. ⌜ r ≡ memberUnits (now (tables .entry)) (now (work .entry)) k ⌝ }
 {
     let block = less32(read(work, NEXT, k), 1) % BLOCKS;
-    units_at(tables, BLOCK_WIDTH * (block as usize)) <= free
+    units_at(tables, BLOCK_WIDTH * (block as usize))
+}
+
+// What a LEAVE gives to those who wait: under edition 1 the free units, to each alone; under edition 2 its own, one after
+// the other.
+pub fn leave_with(edition: u32, free: u64, own: u64) -> u64
+    ensures { λ r. ⌜ r ≡ leaveWith edition free own ⌝ }
+{
+    if edition == 1 {
+        return free;
+    }
+    own
+}
+
+// Less so many units, for one that goes; one that is too large stays.
+fn taken_off(left: u64, units: u64) -> u64
+    ensures { λ r. ⌜ r ≡ takenOff left units ⌝ }
+{
+    if left < units {
+        return left;
+    }
+    left - units
+}
+
+// What is left of it behind one of so many units.
+fn left_behind(edition: u32, left: u64, units: u64) -> u64
+    ensures { λ r. ⌜ r ≡ leftBehind edition left units ⌝ }
+{
+    if edition != 1 {
+        return taken_off(left, units);
+    }
+    left
 }
 
 fn one_unless(fits: bool) -> u64
@@ -119,14 +150,15 @@ fn one_unless(fits: bool) -> u64
     1
 }
 
-// All of the QL whose units fit go to REL; the answer is how many stay.
-pub fn wake_ql(tables: &[u32], work: &mut [u32], v: u32, free: u64) -> u64
+// Those of the QL whose units fit what is left go to REL; the answer is how many stay.
+pub fn wake_ql(tables: &[u32], work: &mut [u32], v: u32, edition: u32, all: u64) -> u64
     requires { ⌜ Room (now work) ⌝ }
     requires { ⌜ v < serverCount ⌝ }
-    ensures rows { λ _. ⌜ now (work .exit) ≡ wakeAll (memberFits (now (tables .entry)) free) steps (now (work .entry)) v (head v) ⌝ }
-    ensures stays { λ r. ⌜ r ≡ wakeStays (memberFits (now (tables .entry)) free) steps (now (work .entry)) v (head v) ⌝ }
+    ensures rows { λ _. ⌜ now (work .exit) ≡ wakeWalk (memberFits (now (tables .entry))) (memberLeft (now (tables .entry)) edition) steps all (now (work .entry)) v (head v) ⌝ }
+    ensures stays { λ r. ⌜ r ≡ wakeStays (memberFits (now (tables .entry))) (memberLeft (now (tables .entry)) edition) steps all (now (work .entry)) v (head v) ⌝ }
 {
     let mut c = HEADS + v;
+    let mut left = all;
     let mut stay: u64 = 0;
     let mut i: u32 = 0;
     while i < ROWS {
@@ -134,9 +166,11 @@ pub fn wake_ql(tables: &[u32], work: &mut [u32], v: u32, free: u64) -> u64
         if k >= ROWS {
             return stay;
         }
-        let fits = member_fits(tables, work, k, free);
+        let units = member_units(tables, work, k);
+        let fits = units <= left;
         stay += one_unless(fits);
         c = pass(work, v, c, fits);
+        left = left_behind(edition, left, units);
         i += 1;
     }
     stay

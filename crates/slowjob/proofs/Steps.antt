@@ -14,9 +14,10 @@ use Rattle.machine.specs.Setters.{withReturning}
 use Rattle.machine.specs.Block.{facts, BlockModel, blockAt}
 use Rattle.machine.specs.Trace.{Record}
 use Rattle.machine.specs.State.{Logged}
-use Rattle.machine.specs.Moves.{wake}
+use Rattle.machine.specs.Moves.{lineUp, wake}
 use Rattle.machine.specs.Claims.{Each}
 use Rattle.machine.proofs.Sorted.{each-insert}
+use Rattle.machine.proofs.Lines.{sum-lineUp, each-lineUp}
 use Rattle.machine.proofs.Sums.{sumOn, sum-insert, sum-length}
 use Rattle.slowjob.specs.SlowJob.{ends, comes, leaves}
 use Rattle.slowjob.proofs.Events.{at, Ready, seizes, Pending, insert-coming, insert-served}
@@ -252,12 +253,12 @@ module _ (m : BlockModel) (arrivals services : List ℕ) {clock inUse : ℕ} {re
           gone = h .gone;
         }
 
-    -- SEIZE of the facility in use
-    pub lined-queued : (who : Transaction) → who .next ≡ 2 → (inUse ≡ 0 → ⊥) → Lined m arrivals services 2 clock inUse rel fel ql wel wsl times times′ records
-        → Lined m arrivals services 0 clock inUse rel fel (insert precedes who ql) wel wsl times times′ records
-    lined-queued who n taken h =
-        let longer : length (insert precedes who ql) ≡ suc (length ql) =
-        omega (arith, sum-length (insert precedes who ql), sum-length ql, sum-insert (λ (t : Transaction). 1) precedes who ql) in
+    -- SEIZE of the facility in use, under either edition
+    pub lined-queued : (edition : ℕ) (who : Transaction) → who .next ≡ 2 → (inUse ≡ 0 → ⊥) → Lined m arrivals services 2 clock inUse rel fel ql wel wsl times times′ records
+        → Lined m arrivals services 0 clock inUse rel fel (lineUp edition who ql) wel wsl times times′ records
+    lined-queued edition who n taken h =
+        let longer : length (lineUp edition who ql) ≡ suc (length ql) =
+        omega (arith, sum-length (lineUp edition who ql), sum-length ql, sum-lineUp (λ (t : Transaction). 1) edition who ql) in
         record {
           arrived = h .arrived;
           begun = h .begun;
@@ -265,7 +266,7 @@ module _ (m : BlockModel) (arrivals services : List ℕ) {clock inUse : ℕ} {re
           next-arrival = h .next-arrival;
           next-service = h .next-service;
           lists =
-              record { ready = h .lists .ready; queued = each-insert Seeking precedes who ql n (h .lists .queued); no-wel = h .lists .no-wel; no-wsl = h .lists .no-wsl };
+              record { ready = h .lists .ready; queued = each-lineUp Seeking edition who ql n (h .lists .queued); no-wel = h .lists .no-wel; no-wsl = h .lists .no-wsl };
           pending = h .pending;
           coming = h .coming;
           serving = serving-queued arrivals services taken (h .serving);

@@ -15,8 +15,8 @@ use Rattle.machine.specs.Term.{Server, idleServer, serverAt, free}
 use Rattle.machine.specs.Block.{Block, generate, seize, advance, release, terminate, facility, facts, shareServer, shareUnits, shareHolder, BlockModel, blockAt}
 use Rattle.machine.specs.State.{State, Logged}
 use Rattle.machine.specs.Setters.{withSerial, setMoving, setRel, setSerial, setTurns}
-use Rattle.machine.specs.Moves.{recordOf, log, enters, moveTo, fresh, toFel, qlOf, toQl, mustWait, wakeFirstQl, wakeWsl, setUse, timesLeft, arrival}
-use Rattle.machine.specs.Execute.{askAdvance, question, wakeFor, endsOne, delay, effect}
+use Rattle.machine.specs.Moves.{recordOf, log, enters, moveTo, fresh, toFel, qlOf, lineUp, toQl, mustWait, firstOf, wakeQl, wakeWsl, setUse, timesLeft, arrival}
+use Rattle.machine.specs.Execute.{askAdvance, question, partFor, wakeFor, endsOne, delay, effect}
 use Rattle.machine.specs.Turn.{nextEvents, takeFirst, takeReady, taking, answer, execute, waitsOn, wsScheme, turn}
 use Rattle.machine.specs.Run.{startOf, startAt, idle, start, run}
 use Rattle.machine.specs.Claims.{Each}
@@ -115,13 +115,13 @@ module _ (m : BlockModel) (arrivals services : List ℕ) where
   unfolding setUse
   line-use b units holder s f h = with-server (ap (λ v. v .inUse) (getD-set-same (s .view .servers) 0 _ (idleServer 0) (f .server))) refl h
 
-  line-queue : (t : Transaction) (s : State) → t .next ≡ 2 → Fixtures s → (used s ≡ 0 → ⊥) → Line m arrivals services 2 s → Line m arrivals services 0 (toQl 1 t s)
+  line-queue : (t : Transaction) (s : State) → t .next ≡ 2 → Fixtures s → (used s ≡ 0 → ⊥) → Line m arrivals services 2 s → Line m arrivals services 0 (toQl (m .edition) 1 t s)
   unfolding toQl
   line-queue t s e f taken h =
-      with-server refl (getD-set-same (s .ql) 0 (insert precedes t (qlOf s 1)) [] (f .ql)) (lined-queued m arrivals services t e taken h)
+      with-server refl (getD-set-same (s .ql) 0 (lineUp (m .edition) t (qlOf s 1)) [] (f .ql)) (lined-queued m arrivals services (m .edition) t e taken h)
 
-  line-release : (units holder : ℕ) (s : State) → Fixtures s → units ≡ 0 → Line m arrivals services 4 s → Line m arrivals services 5 (wakeFirstQl 1 (setUse 1 units holder s))
-  unfolding wakeFirstQl setUse
+  line-release : (units holder : ℕ) (s : State) → Fixtures s → units ≡ 0 → Line m arrivals services 4 s → Line m arrivals services 5 (wakeQl firstOf 1 (setUse 1 units holder s))
+  unfolding wakeQl setUse
   line-release units holder s f z h =
       with-server (ap (λ v. v .inUse) (getD-set-same (s .view .servers) 0 _ (idleServer 0) (f .server)) ∙ z)
       (getD-set-same (s .ql) 0 (drop 1 (qlOf s 1)) [] (f .ql)) (lined-released m arrivals services h)
@@ -181,7 +181,7 @@ module _ (m : BlockModel) (arrivals services : List ℕ) where
           still (time ∷ l) = unfold delay toFel in refl
 
       sound-release : t .next ≡ 4 → Line m arrivals services 4 s → Sound (effect m (release 1) t before)
-      unfolding effect moveTo enters log facts shareServer shareUnits serverAt wakeFor
+      unfolding effect moveTo enters log facts shareServer shareUnits serverAt wakeFor partFor
       sound-release e h =
           record {
             block = 5;

@@ -17,7 +17,7 @@ use Rattle.machine.specs.Term.{Queue, emptyQueue, serverAt, queueAt, idleServer
 use Rattle.machine.specs.Block.{Code, Share, facility, storage, shareServer, shareUnits, shareHolder, Change, up, down, Block, generate, advance, terminate, takes, frees, waitServer, waitTerms, moves, assign, priority, split, counts, BlockModel, status}
 use Rattle.machine.specs.State.{State}
 use Rattle.machine.specs.Setters.{withSerial, setSerial, setMoving}
-use Rattle.machine.specs.Moves.{moveTo, fresh, toRel, toFel, toQl, toWel, toWsl, wakeFirstQl, wakeQl, wakeFirstWel, wakeWsl, setUse, setContent, timesLeft, arrival, copies}
+use Rattle.machine.specs.Moves.{moveTo, fresh, toRel, toFel, toQl, toWel, toWsl, wakeQl, wakeFirstWel, wakeWsl, setUse, setContent, timesLeft, arrival, copies}
 use Rattle.machine.specs.Execute.{unless, living, askGenerate, question, checkWels, endsOne, delay, wakeFor, changed}
 use Rattle.machine.specs.Turn.{wsScheme}
 use Rattle.machine.proofs.Ahead.{rising-insert}
@@ -76,13 +76,9 @@ gains-wakeFirstWel v code s = still s _ refl refl refl refl refl refl refl refl 
 gains-checkWels : (v : ℕ) (s : State) → Gains 0 0 0 s (checkWels v s)
 gains-checkWels v s = checkWels-kept (Gains 0 0 0 s) v (λ code a g. gains-trans g (gains-wakeFirstWel v code a)) s (gains-none s)
 
-gains-wakeFirstQl : (v : ℕ) (s : State) → Gains 0 0 0 s (wakeFirstQl v s)
-unfolding wakeFirstQl
-gains-wakeFirstQl v s = still s _ refl refl refl refl refl refl refl refl refl refl
-
-gains-wakeQl : (p : Transaction → Bool) (v : ℕ) (s : State) → Gains 0 0 0 s (wakeQl p v s)
-unfolding wakeQl
-gains-wakeQl p v s = still s _ refl refl refl refl refl refl refl refl refl refl
+gains-wakeFor : (m : BlockModel) (x : Share) (s : State) → Gains 0 0 0 s (wakeFor m x s)
+unfolding wakeFor wakeQl
+gains-wakeFor m x s = still s _ refl refl refl refl refl refl refl refl refl refl
 
 pub gains-wsScheme : (m : BlockModel) (s : State) → Gains 0 0 0 s (wsScheme m s)
 unfolding wakeWsl
@@ -212,13 +208,13 @@ gains-waiting put puts t s =
     cond-cases (λ (b : Bare). Gains 0 1 0 s (b .state)) (t .returning) _ _
     (λ e. gains-most 0 1 0 (omega arith) (omega arith) (omega arith) (puts t s)) (λ e. gains-trans (gains-fresh s) (puts (withSerial (fresh s) t) _))
 
-gains-waitQl : (v : ℕ) (t : Transaction) (s : State) → Gains 0 1 0 s (waiting (toQl v) t s .state)
+gains-waitQl : (edition v : ℕ) (t : Transaction) (s : State) → Gains 0 1 0 s (waiting (toQl edition v) t s .state)
 unfolding toQl
-gains-waitQl v = gains-waiting (toQl v) (λ t s. still s _ refl refl refl refl refl refl refl refl refl refl)
+gains-waitQl edition v = gains-waiting (toQl edition v) (λ t s. still s _ refl refl refl refl refl refl refl refl refl refl)
 
-gains-waitWel : (v : ℕ) (code : Code) (t : Transaction) (s : State) → Gains 0 1 0 s (waiting (toWel v code) t s .state)
+gains-waitWel : (edition v : ℕ) (code : Code) (t : Transaction) (s : State) → Gains 0 1 0 s (waiting (toWel edition v code) t s .state)
 unfolding toWel
-gains-waitWel v code = gains-waiting (toWel v code) (λ t s. still s _ refl refl refl refl refl refl refl refl refl refl)
+gains-waitWel edition v code = gains-waiting (toWel edition v code) (λ t s. still s _ refl refl refl refl refl refl refl refl refl refl)
 
 gains-waitWsl : (t : Transaction) (s : State) → Gains 0 1 0 s (waiting toWsl t s .state)
 unfolding toWsl
@@ -253,11 +249,6 @@ generates m (time ∷ l) list p n k t s o asked =
       gains = gains-most 1 255 1 (omega arith) (omega arith) (omega arith) (on k t (gains-arrival (time ∷ l) list p n s));
     }
 
-gains-wakeFor : (m : BlockModel) (x : Share) (s : State) → Gains 0 0 0 s (wakeFor m x s)
-unfolding wakeFor
-gains-wakeFor m (facility v) s = gains-wakeFirstQl v s
-gains-wakeFor m (storage v b) s = gains-wakeQl _ v s
-
 -- no question asks who moves in the state
 pub bare-gains : (m : BlockModel) (b : Block) (t : Transaction) (s : State) (o : Option Transaction) → ProperBlock m b → question m b t (setMoving o s) ≡ 0
     → Moderate s (bare m b t s .state)
@@ -270,7 +261,7 @@ bare-gains m (takes x) t s o ok asked =
     cond-cases (λ (r : Bare). Moderate s (r .state)) (leb (shareUnits x) (free (serverAt (s .view) v))) _ _
     (λ e. moderate (omega arith) (omega arith)
     (on _ t (gains-trans (gains-use v (serverAt (s .view) v .inUse + shareUnits x) (shareHolder x (t .number)) s) (gains-checkWels v _))))
-    (λ e. moderate (omega arith) (omega arith) (gains-waitQl v t s))
+    (λ e. moderate (omega arith) (omega arith) (gains-waitQl (m .edition) v t s))
 bare-gains m (frees x) t s o ok asked =
     moderate (omega arith) (omega arith)
     (on _ t
@@ -278,7 +269,7 @@ bare-gains m (frees x) t s o ok asked =
     (gains-trans (gains-wakeFor m x _) (gains-checkWels (shareServer x) _))))
 bare-gains m (waitServer code v c) t s o ok asked =
     cond-cases (λ (r : Bare). Moderate s (r .state)) (status code (serverAt (s .view) v)) _ _
-    (λ e. moderate (omega arith) (omega arith) (gains-waitWel v code t s))
+    (λ e. moderate (omega arith) (omega arith) (gains-waitWel (m .edition) v code t s))
     (λ e.
     cond-cases (λ (r : Bare). Moderate s (r .state)) (ltb 0 c && ltb (t .stamp) (s .view .clock)) _ _
     (λ b. moderate (omega arith) (omega arith) (on _ t (gains-wakeFirstWel v code s)))

@@ -12,8 +12,8 @@ use Rattle.machine.specs.Block.{Code, U, NU, E, NE, F, NF, status, facility, st
 use Rattle.machine.specs.State.{State}
 use Rattle.machine.specs.Setters.{withSerial, setSerial, setMoving, setMade}
 use Rattle.machine.specs.Bundle.{everything}
-use Rattle.machine.specs.Moves.{recordOf, log, enters, fresh, moveTo, goOn, mustWait, toRel, toQl, toWel, toWsl, wakeFirstQl, wakeQl, wakeFirstWel, setUse, timesLeft, arrival, copyOf, copies}
-use Rattle.machine.specs.Execute.{effect, checkWel, checkWels, freeUnits, fits, delay}
+use Rattle.machine.specs.Moves.{recordOf, log, enters, fresh, moveTo, goOn, mustWait, toRel, toQl, toWel, toWsl, firstOf, wakeQl, wakeFirstWel, setUse, timesLeft, arrival, copyOf, copies}
+use Rattle.machine.specs.Execute.{effect, checkWel, checkWels, freeUnits, wakeFor, delay}
 use Rattle.machine.specs.Turn.{answer}
 use Rattle.state.specs.Bare.{Bare, Note, enteredNote, waitsNote, noNote, entering, waiting, bare, bareAnswer, logged, countEntry, noteAs, noted}
 
@@ -97,11 +97,11 @@ module _ (m : BlockModel) (t : Transaction) (s : State) where
       let v : ℕ = shareServer x in
       noted-cond t s (leb (shareUnits x) (free (serverAt (s .view) v))) _ _ _ _
       (checked v (setUse v (serverAt (s .view) v .inUse + shareUnits x) (shareHolder x (t .number))) refl)
-      (waiting-noted t s (toQl v) (λ u x. refl))
-  noted-effect (frees (facility v)) = checked v (λ e. wakeFirstQl v (freeUnits v 1 e)) refl
-  noted-effect (frees (storage v b)) = checked v (λ e. wakeQl (fits m (freeUnits v b e .view) v) v (freeUnits v b e)) refl
+      (waiting-noted t s (toQl (m .edition) v) (λ u x. refl))
+  noted-effect (frees (facility v)) = checked v (λ e. wakeQl firstOf v (freeUnits v 1 e)) refl
+  noted-effect (frees (storage v b)) = checked v (λ e. wakeFor m (storage v b) (freeUnits v b e)) refl
   noted-effect (waitServer code v c) =
-      noted-cond t s (status code (serverAt (s .view) v)) _ _ _ _ (waiting-noted t s (toWel v code) (λ u x. refl))
+      noted-cond t s (status code (serverAt (s .view) v)) _ _ _ _ (waiting-noted t s (toWel (m .edition) v code) (λ u x. refl))
       (noted-cond t s (ltb 0 c && ltb (t .stamp) (s .view .clock)) _ _ _ _ refl refl)
   noted-effect (waitTerms a r b) =
       noted-cond t s (compare (m .values) (s .view) (t .parameters) a r b) _ _ _ _ (waiting-noted t s toWsl (λ u x. refl)) refl

@@ -23,6 +23,8 @@ use Rattle.machine.proofs.Kept.{taking-kept}
 use Rattle.machine.proofs.Shape.{Shape, shape-closed, shape-turn, shape-start, each-getD}
 use Rattle.machine.proofs.Everybody.{Everybody, Unmoved, taking-everybody}
 use Rattle.machine.proofs.Placed.{Placed, placed-turn, placed-start}
+use Rattle.machine.proofs.Waiting.{Waits}
+use Rattle.machine.proofs.WaitsKept.{waits-taken, waits-kept, waits-start}
 use Rattle.machine.proofs.Clocks.{Timely, taking-timely, timely-turn, timely-start}
 use Rattle.machine.proofs.Conservation.{Sound, Conserved, sound-conserved, sound-start, sound-turn}
 use Rattle.state.specs.Bare.{Note, enteredNote, waitsNote, noNote, logged, countEntry, noteAs}
@@ -81,7 +83,7 @@ measured-of {s = s} h ahead =
     L : Server → Type 0
     L v = v .longest ≤ 1024
 
-module _ {m : BlockModel} {n : ℕ} (s : State) (shape : Shape m s) (placed : Everybody (Placed m) s) (timely : Timely (inForce .maxClock) s) (h : Measured n s) where
+module _ {m : BlockModel} {n : ℕ} (s : State) (shape : Shape m s) (placed : Everybody (Placed m) s) (waits : Waits m s) (timely : Timely (inForce .maxClock) s) (h : Measured n s) where
   sane-of : m .rules ≡ inForce → n ≤ s .turns → s .serial ≤ 100000000 → s .ended ≤ s .made → s .made - s .ended ≤ 1024 → s .turns ≤ maxTurns + 1
       → Each (λ (e : ℕ). e ≤ s .turns) (s .view .entries) → Each (λ (l : List Transaction). length l ≤ 1024) (s .ql) → Sane m s
   sane-of rules few serials ended living turns entries waiting =
@@ -89,6 +91,7 @@ module _ {m : BlockModel} {n : ℕ} (s : State) (shape : Shape m s) (placed : Ev
         rules = rules;
         shape = shape;
         placed = placed;
+        waits = waits;
         timely = timely;
         samples = h .samples;
         serials = serials;
@@ -182,7 +185,7 @@ pub record Sure (m : BlockModel) (tape : List (List ℕ)) (s : State) : Type 0 w
   pub ahead : Ahead s
   pub sound : Sound m tape s
 
-module _ {m : BlockModel} {tape : List (List ℕ)} (proper : Proper m tape) (s : State) (h : Sure m tape s) (serials : s .serial ≤ maxSerial) (turns : s .turns < maxTurns) where
+module _ {m : BlockModel} {tape : List (List ℕ)} (proper : Proper m tape) (s : State) (h : Sure m tape s) (going : s .end ≡ 0) (serials : s .serial ≤ maxSerial) (turns : s .turns < maxTurns) where
   abbrev hs : Sane m s
   hs = h .sane
 
@@ -222,7 +225,7 @@ module _ {m : BlockModel} {tape : List (List ℕ)} (proper : Proper m tape) (s :
   -- of the state in which the block of a taken turn finds the machine
   pub sane-taken : Sane m (takenOf s)
   sane-taken =
-      sane-of (takenOf s) taken-shape taken-placed taken-timely taken-measured (hs .rules) (omega arith) (omega (arith, taken-serials))
+      sane-of (takenOf s) taken-shape taken-placed (waits-taken m s going (hs .waits)) taken-timely taken-measured (hs .rules) (omega arith) (omega (arith, taken-serials))
       (omega (arith, taken-took .made, taken-took .ended, hs .ended)) taken-living (omega arith) (fewer (s .turns) (takenOf s .view .entries) taken-entries)
       (subst (Each (λ (l : List Transaction). length l ≤ 1024)) (sym (taken-took .ql)) (hs .waiting))
 
@@ -242,7 +245,7 @@ module _ {m : BlockModel} {tape : List (List ℕ)} (proper : Proper m tape) (s :
       let few : length (flat (turn m s .ql)) ≤ 1024 = omega (arith, all, parts m tape (turn m s) sound, a .living) in
       record {
         sane =
-            sane-of (turn m s) (shape-turn m s (hs .shape)) (placed-turn m tape proper s (hs .placed)) turned-timely (a .measured) (hs .rules)
+            sane-of (turn m s) (shape-turn m s (hs .shape)) (placed-turn m tape proper s (hs .placed)) (waits-kept proper s going (hs .shape) (hs .waits) .0) turned-timely (a .measured) (hs .rules)
             (omega (arith, a .turns)) (omega (arith, a .serials, taken-serials)) (omega (arith, all)) (a .living) (omega (arith, a .turns))
             (subst (λ (n : ℕ). Few n (turn m s .view .entries)) (sym (a .turns)) (a .entries)) (each-flat (turn m s .ql) 1024 few);
         ahead = a .measured .ahead;
@@ -307,7 +310,7 @@ module _ {m : BlockModel} {tape : List (List ℕ)} (proper : Proper m tape) (rul
       subst (λ (q : Rules). Timely (q .maxClock) (start m tape)) rules (timely-start m tape proper below) in
       record {
         sane =
-            sane-of (start m tape) (shape-start m tape (proper .tapes)) (placed-start m tape proper) started k rules
+            sane-of (start m tape) (shape-start m tape (proper .tapes)) (placed-start m tape proper) (waits-start m tape .0) started k rules
             (omega arith) (omega arith) (omega arith) (omega arith) (omega arith)
             (each-map (λ e (le : e ≤ 0). omega arith) (start m tape .view .entries) (subst (Few 0) (sym (g .entries)) (z .3)))
             (each-flat (start m tape .ql) 1024 (omega (arith, parts m tape (start m tape) sound)));
@@ -324,6 +327,7 @@ sane-turns n e s more few k =
       rules = k .rules;
       shape = k .shape;
       placed = record { ql = k .placed .ql; wel = k .placed .wel; wsl = k .placed .wsl; rel = k .placed .rel; fel = k .placed .fel; moving = k .placed .moving };
+      waits = k .waits;
       timely = record { clock = k .timely .clock; times = k .timely .times };
       samples = k .samples;
       serials = k .serials;

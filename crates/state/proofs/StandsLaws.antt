@@ -10,21 +10,25 @@ use lib.ListN.{length, getD, set}
 use lib.Seq.{getD-set-other}
 use Rattle.machine.specs.Transaction.{Transaction, precedes, earlier}
 use Rattle.machine.specs.Lists.{insert}
+use Rattle.machine.specs.Moves.{lineUp}
 use Rattle.machine.specs.Term.{Server, Queue}
 use Rattle.machine.specs.State.{State}
 use Rattle.machine.specs.Setters.{withStamp, setMoving}
 use Rattle.tables.specs.Layout as Layout
-use Rattle.rows.specs.Layout.{fel, free}
+use Rattle.rows.specs.Layout.{wsl, fel, free}
 use Rattle.rows.specs.Cells.{write, setTime}
 use Rattle.rows.specs.Order.{ahead}
 use Rattle.rows.specs.Lists.{put}
+use Rattle.rows.specs.Lines as Lines
 use Rattle.rows.specs.Holds.{transactionAt, eventAt, update}
-use Rattle.rows.specs.Shows.{Shows}
+use Rattle.rows.specs.Ordered.{Sorted}
+use Rattle.rows.specs.Shows.{orderOf, Shows}
 use Rattle.rows.proofs.Showing.{update-other}
-use Rattle.rows.proofs.Ordering.{shows-ext}
+use Rattle.rows.proofs.Ordering.{line-sorted, shows-ext}
 use Rattle.rows.proofs.Write.{write-shown, write-loose}
 use Rattle.rows.proofs.Fields.{write-stamp}
-use Rattle.rows.proofs.Laws.{shows-put, shows-put-fel}
+use Rattle.rows.proofs.Laws.{shows-put, shows-line, shows-put-fel}
+use Rattle.rows.proofs.LiningUp.{lined}
 use Rattle.rows.proofs.Steady.{Steady, steady-transaction}
 use Rattle.rows.proofs.Population.{free-kept}
 use Rattle.state.specs.declared.scalars.Scalars.{Scalars}
@@ -70,18 +74,34 @@ listing-time w k t s time h =
 
 module _ (w : List ℕ) (k : ℕ) (t : Transaction) (s s′ : State) (h : Listing w k (some t) s) (living : s′ .made - s′ .ended ≡ s .made - s .ended) where
   -- the moving row comes onto a list
-  pub listing-put : (p : ℕ) → p < 450 → ((q : ℕ) → q < 450 → update p (insert precedes t (listsOf s p)) (listsOf s) q ≡ listsOf s′ q) → s .fel ≡ s′ .fel
+  pub listing-put : (p : ℕ) → wsl ≤ p → p < 450 → ((q : ℕ) → q < 450 → update p (insert precedes t (listsOf s p)) (listsOf s) q ≡ listsOf s′ q) → s .fel ≡ s′ .fel
       → Listing (put w p k) 1024 none s′
-  listing-put p hp lists future =
+  listing-put p low hp lists future =
       record {
         shows =
             shows-ext (put w p k) (update p (insert precedes (transactionAt w k) (listsOf s p)) (listsOf s)) (listsOf s′) (s .fel) (s′ .fel)
             (λ q hq. ap (λ (u : Transaction). update p (insert precedes u (listsOf s p)) (listsOf s) q) (h .mover .1) ∙ lists q hq)
             future
-            (shows-put w (listsOf s) (s .fel) (h .shows) k (h .mover .0) p hp);
+            (shows-put w (listsOf s) (s .fel) (h .shows) k (h .mover .0) p hp (line-sorted p (listsOf s p) low (h .shows .ordered .lists p hp)));
         mover = refl;
         spare =
             rw (update-other p (insert (ahead w p) k (h .shows .rows p)) (h .shows .rows) free (λ e. omega arith), living) (h .spare);
+      }
+
+  -- the moving row comes onto a line of waiters
+  pub listing-line : (edition p : ℕ) → p < 450 → (edition ≡ 1 → Sorted precedes (listsOf s p)) → Sorted (orderOf p) (lineUp edition t (listsOf s p))
+      → ((q : ℕ) → q < 450 → update p (lineUp edition t (listsOf s p)) (listsOf s) q ≡ listsOf s′ q) → s .fel ≡ s′ .fel
+      → Listing (Lines.lineUp edition w p k) 1024 none s′
+  listing-line edition p hp sorted stays lists future =
+      record {
+        shows =
+            shows-ext (Lines.lineUp edition w p k) (update p (lineUp edition (transactionAt w k) (listsOf s p)) (listsOf s)) (listsOf s′) (s .fel) (s′ .fel)
+            (λ q hq. ap (λ (u : Transaction). update p (lineUp edition u (listsOf s p)) (listsOf s) q) (h .mover .1) ∙ lists q hq)
+            future
+            (shows-line w (listsOf s) (s .fel) (h .shows) k (h .mover .0) edition p hp sorted (rw (h .mover .1) stays));
+        mover = refl;
+        spare =
+            rw (update-other p (lined edition w p k (h .shows .rows p)) (h .shows .rows) free (λ e. omega arith), living) (h .spare);
       }
 
   -- the moving row comes onto the FEL

@@ -1,4 +1,4 @@
--- Waking as the relation of lists follows it: the first of a QL or a WEL, and all of a QL or of the WSL that pass a test.
+-- Waking as the relation of lists follows it: the first of a QL or a WEL, those of a QL that a walk takes, and all of the WSL that pass a test.
 use Prim.Native.Nat.{ℕ, _+_, _-_, _<_}
 use mathlib.Core.Path.{_≡_, refl}
 use mathlib.Core.Bool.{Bool}
@@ -11,13 +11,14 @@ use Rattle.machine.specs.Lists.{those, others}
 use Rattle.machine.specs.Block.{Code, welIndex}
 use Rattle.machine.specs.State.{State}
 use Rattle.machine.specs.Setters.{setQl, setWel, setWsl, setRel}
-use Rattle.machine.specs.Moves.{wake, qlOf, welOf, wakeFirstQl, wakeQl, wakeFirstWel, wakeWsl}
+use Rattle.machine.specs.Moves.{wake, qlOf, welOf, firstOf, wakeQl, wakeFirstWel, wakeWsl}
+use Rattle.machine.proofs.QueueRemove.{walk}
 use Rattle.rows.specs.Layout.{head, wsl, rel}
-use Rattle.rows.specs.Wake.{wakeFirst, wakeAll}
+use Rattle.rows.specs.Wake.{wakeFirst, wakeWalk, wakeAll}
 use Rattle.rows.specs.Holds.{transactionAt}
 use Rattle.rows.specs.Shows.{moved}
 use Rattle.rows.proofs.Ordering.{shows-ext}
-use Rattle.rows.proofs.Laws.{Wakes, wake-first-shows, wake-all-shows}
+use Rattle.rows.proofs.Laws.{Wakes, wake-first-shows, wake-walk-shows, wake-all-shows}
 use Rattle.state.specs.Stands.{listsOf, Listing}
 use Rattle.state.proofs.ListsOf.{lists-ql, lists-wel, lists-wsl, lists-rel, lists-set-ql, lists-set-wel, lists-set-wsl, lists-moved}
 use Rattle.state.proofs.StandsLaws.{listing-steady}
@@ -40,23 +41,27 @@ module _ (w : List ℕ) (k : ℕ) (o : Option Transaction) (s : State) (h : List
     ql-lists l r q hq =
         lists-moved s (setQl (set (s .ql) (v - 1) l) s) (v - 1) l r (λ p hp. lists-set-ql s (v - 1) l low there p) q hq
 
-    pub wake-first-ql-listing : Listing (wakeFirst w (v - 1)) k o (wakeFirstQl v s)
-    unfolding wakeFirstQl
+    -- the first
+    pub wake-first-ql-listing : Listing (wakeFirst w (v - 1)) k o (wakeQl firstOf v s)
+    unfolding wakeQl
     wake-first-ql-listing =
-        wakes-listing (wakeFirst w (v - 1)) (v - 1) (drop 1 (listsOf s (v - 1))) (wake (take 1 (listsOf s (v - 1))) (listsOf s rel)) (drop 1 (qlOf s v)) (wake (take 1 (qlOf s v)) (s .rel)) (wakeFirstQl v s)
+        wakes-listing (wakeFirst w (v - 1)) (v - 1) (drop 1 (listsOf s (v - 1))) (wake (take 1 (listsOf s (v - 1))) (listsOf s rel)) (drop 1 (qlOf s v)) (wake (take 1 (qlOf s v)) (s .rel)) (wakeQl firstOf v s)
         (rw (lists-ql s (v - 1) low))
         (rw (lists-ql s (v - 1) low, lists-rel s))
         (wake-first-shows w (listsOf s) (s .fel) (h .shows) (v - 1) (omega arith))
         (ql-lists (drop 1 (qlOf s v)) (wake (take 1 (qlOf s v)) (s .rel))) refl refl
 
-    pub wake-ql-listing : (test : List ℕ → ℕ → Bool) (P : Transaction → Bool) → ((u : List ℕ) (j : ℕ) → test u j ≡ P (transactionAt u j)) → Listing (wakeAll test 1024 w (v - 1) (head (v - 1))) k o (wakeQl P v s)
+    -- those that a walk with a number takes
+    pub wake-ql-listing : (test : ℕ → List ℕ → ℕ → Bool) (next : ℕ → List ℕ → ℕ → ℕ) (P : ℕ → Transaction → Bool) (N : ℕ → Transaction → ℕ)
+        → ((n : ℕ) (u : List ℕ) (j : ℕ) → test n u j ≡ P n (transactionAt u j)) → ((n : ℕ) (u : List ℕ) (j : ℕ) → next n u j ≡ N n (transactionAt u j)) → (left : ℕ)
+        → Listing (wakeWalk test next 1024 left w (v - 1) (head (v - 1))) k o (wakeQl (walk P N left) v s)
     unfolding wakeQl
-    wake-ql-listing test P agree =
-        wakes-listing (wakeAll test 1024 w (v - 1) (head (v - 1))) (v - 1) (others P (listsOf s (v - 1))) (wake (those P (listsOf s (v - 1))) (listsOf s rel)) (others P (qlOf s v)) (wake (those P (qlOf s v)) (s .rel)) (wakeQl P v s)
+    wake-ql-listing test next P N agree follow left =
+        wakes-listing (wakeWalk test next 1024 left w (v - 1) (head (v - 1))) (v - 1) (walk P N left (listsOf s (v - 1)) .stay) (wake (walk P N left (listsOf s (v - 1)) .go) (listsOf s rel)) (walk P N left (qlOf s v) .stay) (wake (walk P N left (qlOf s v) .go) (s .rel)) (wakeQl (walk P N left) v s)
         (rw (lists-ql s (v - 1) low))
         (rw (lists-ql s (v - 1) low, lists-rel s))
-        (wake-all-shows w (listsOf s) (s .fel) (h .shows) test P agree (v - 1) (omega arith))
-        (ql-lists (others P (qlOf s v)) (wake (those P (qlOf s v)) (s .rel))) refl refl
+        (wake-walk-shows w (listsOf s) (s .fel) (h .shows) test next P N agree follow left (v - 1) (omega arith))
+        (ql-lists (walk P N left (qlOf s v) .stay) (wake (walk P N left (qlOf s v) .go) (s .rel))) refl refl
 
   pub wake-first-wel-listing : (v : ℕ) (code : Code) → welIndex v code < 384 → welIndex v code < length (s .wel) → Listing (wakeFirst w (64 + welIndex v code)) k o (wakeFirstWel v code s)
   unfolding wakeFirstWel

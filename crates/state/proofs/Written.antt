@@ -177,15 +177,15 @@ module _ {m : BlockModel} {room : ℕ} (t : Transaction) (s x : State) (ok : (o 
 -- ---- The turn
 
 module _ {m : BlockModel} {tape : List (List ℕ)} (proper : Proper m tape) {room : ℕ} (s : State) (sure : Sure m tape s)
-    (serials : s .serial ≤ maxSerial) (turns : s .turns < maxTurns) (left : s .written + recordRoom ≤ room) where
+    (going : s .end ≡ 0) (serials : s .serial ≤ maxSerial) (turns : s .turns < maxTurns) (left : s .written + recordRoom ≤ room) where
   abbrev x : State
   x = takenOf s
 
   k : Took (s .turns) s (Rattle.machine.specs.Turn.taking (s .moving) s)
-  k = taken-took proper s sure serials turns
+  k = taken-took proper s sure going serials turns
 
   sane : Sane m x
-  sane = sane-taken proper s sure serials turns
+  sane = sane-taken proper s sure going serials turns
 
   -- a record of the moving one
   in-model : (t : Transaction) → x .moving ≡ some t → (o : ℕ) → o ≤ 1 → InModel m (recordOf o t x)
@@ -251,8 +251,8 @@ module _ {m : BlockModel} {tape : List (List ℕ)} (proper : Proper m tape) (rul
     pub kept-turn : (s : State) → Taken budget room s → Kept m tape room s → Kept m tape room (turn m s)
     kept-turn s t h =
         record {
-          sure = sure-turn proper s (h .sure) (t .serials) (t .turns-left);
-          traced = traced-turn proper s (h .sure) (t .serials) (t .turns-left) (t .room-left) (h .traced);
+          sure = sure-turn proper s (h .sure) (t .no-end) (t .serials) (t .turns-left);
+          traced = traced-turn proper s (h .sure) (t .no-end) (t .serials) (t .turns-left) (t .room-left) (h .traced);
         }
 
     pub kept-end : (s : State) (e : ℕ) → Kept m tape room s → Kept m tape room (setEnd e s)

@@ -11,6 +11,7 @@ use Rattle.machine.specs.State.{State}
 use Rattle.machine.specs.Claims.{Each}
 use Rattle.machine.proofs.Shape.{Shape}
 use Rattle.machine.proofs.Placed.{Placed}
+use Rattle.machine.proofs.Waiting.{Waits}
 use Rattle.machine.proofs.Everybody.{Everybody}
 use Rattle.machine.proofs.Clocks.{Timely, Samples}
 
@@ -18,6 +19,8 @@ pub record Sane (m : BlockModel) (s : State) : Type 0 where
   pub rules : m .rules ≡ inForce
   pub shape : Shape m s
   pub placed : Everybody (Placed m) s
+  -- who waits where, and under edition 1 in which order
+  pub waits : Waits m s
   pub timely : Timely (inForce .maxClock) s
   pub samples : Samples (inForce .maxTime) s
   -- serials stay below 100,000,000 through a turn; every transaction has had one

@@ -167,7 +167,7 @@ module _ (s : List ℕ) where
   model-fields : Ensures Low-model (modelFields s inForce)
   unfolding modelFields
   model-fields =
-      then (any-number 1 1) (λ edition he. then (any-number 0 Limits.maxFacilities) (λ facilities hf. then (any-number 0 Limits.maxStorages) (λ storages hs.
+      then (any-number 1 (inForce .editions)) (λ edition he. then (any-number 0 Limits.maxFacilities) (λ facilities hf. then (any-number 0 Limits.maxStorages) (λ storages hs.
       then (repeated storages (any-number 1 Limits.maxCapacity)) (λ capacities hc. then (any-number 0 Limits.maxQueues) (λ queues hq.
       then (any-number 0 Limits.maxValues) (λ values hv. then (value-fields _ values 0) (λ sums hm. then (any-number 0 Limits.maxLists) (λ lists hl.
       then (any-number 1 Limits.maxCounter) (λ counter hn. then (any-number 1 Limits.maxBlocks) (λ blocks hb.

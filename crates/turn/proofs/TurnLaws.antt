@@ -185,10 +185,10 @@ module _ {m : BlockModel} {tape : List (List ℕ)} {tapeBytes tables lists befor
   r₁ = take (r .work) (r .tally) (r .scalars) (servers m) (m .queues)
 
   sane₁ : Sane m y
-  sane₁ = sane-taken proper s sure (taken .serials) (taken .turns-left)
+  sane₁ = sane-taken proper s sure (taken .no-end) (taken .serials) (taken .turns-left)
 
   took : Took (s .turns) s (Machine.taking (s .moving) s)
-  took = taken-took proper s sure (taken .serials) (taken .turns-left)
+  took = taken-took proper s sure (taken .no-end) (taken .serials) (taken .turns-left)
 
   writes₁ : Writes before (r₁ .scalars) (r₁ .tally) (a .trace) y
   writes₁ =
@@ -224,7 +224,7 @@ module _ {m : BlockModel} {tape : List (List ℕ)} {tapeBytes tables lists befor
 
   ended : Sure m tape (Machine.wsScheme m z)
   unfolding Machine.turn
-  ended = sure-turn proper s sure (taken .serials) (taken .turns-left)
+  ended = sure-turn proper s sure (taken .no-end) (taken .serials) (taken .turns-left)
 
   schemed : Runs tapeBytes before (withScheme tables (length (m .blocks)) (length (m .values)) acted) (Machine.wsScheme m z)
   unfolding withScheme traced rowsOf

@@ -15,8 +15,8 @@ number-requires c κs = search needs
 enum-known-n : tie.Need-enum-known-n
 enum-known-n c = search needs
 
-enum-known-a : tie.Need-enum-known-a
-enum-known-a c = search needs
+enum-known-edition : tie.Need-enum-known-edition
+enum-known-edition c = search needs
 
 number-requires-2 : tie.Need-number-requires-2
 number-requires-2 c κs = search needs
@@ -38,6 +38,9 @@ enum-known-storages c = search needs
 
 empty-requires : tie.Need-empty-requires
 empty-requires c κs = search needs
+
+cast-clear : tie.Need-cast-clear
+cast-clear c = let h = c .before .before .before .before .before .before .before .before .before .before .before .before .before .number .ensures .1 _ _ (c .before .before .before .before .before .before .before .before .before .before .before .edition .given .1) in omega (arith, h .1)
 
 clear-requires : tie.Need-clear-requires
 clear-requires c κs = search needs
@@ -64,7 +67,7 @@ returns c = (takes-stop (Stage _ _ _ _ _ _) _ _ (c .before .before .before .numb
 returns-2 : tie.Need-returns-2
 unfolding serversField
 returns-2 c = (
-  takes-bind (Stage _ _ _ _ _ _) _ _ (c .before .before .before .before .before .before .before .number .ensures .0) (c .before .before .before .before .before .a .given .1)
+  takes-bind (Stage _ _ _ _ _ _) _ _ (c .before .before .before .before .before .before .before .number .ensures .0) (c .before .before .before .before .before .edition .given .1)
       (λ n₁ c₁ f₁. takes-stop (Stage _ _ _ _ _ _) _ _ (c .before .before .before .number2 .ensures .0) (c .before .n2 .given .1) (record { held = refl })),
   λ h q e. absurd (no-header e),
 )
@@ -72,7 +75,7 @@ returns-2 c = (
 returns-3 : tie.Need-returns-3
 unfolding serversField
 returns-3 c = (
-  takes-bind (Stage _ _ _ _ _ _) _ _ (c .before .before .before .before .before .before .before .before .before .before .before .number .ensures .0) (c .before .before .before .before .before .before .before .before .before .a .given .1)
+  takes-bind (Stage _ _ _ _ _ _) _ _ (c .before .before .before .before .before .before .before .before .before .before .before .number .ensures .0) (c .before .before .before .before .before .before .before .before .before .edition .given .1)
       (λ n₁ c₁ f₁.
       takes-bind (Stage _ _ _ _ _ _) _ _ (c .before .before .before .before .before .before .before .number2 .ensures .0) (c .before .before .before .before .before .facility-count .given .1)
       (λ n₂ c₂ f₂. takes-stop (Stage _ _ _ _ _ _) _ _ (c .before .before .before .number3 .ensures .0) (c .before .n3 .given .1) (record { held = refl }))),
@@ -81,7 +84,7 @@ returns-3 c = (
 
 returns-4 : tie.Need-returns-4
 returns-4 c = (
-  servers-stop _ _ (c .before .before .before .before .before .before .before .before .before .empty .result) (c .before .before .before .before .before .before .before .before .before .before .before .before .before .before .before .before .before .before .before .before .before .number .ensures .0) (c .before .before .before .before .before .before .before .before .before .before .before .before .before .before .before .before .before .before .before .a .given .1) (c .before .before .before .before .before .before .before .before .before .before .before .before .before .before .before .before .before .number2 .ensures .0) (c .before .before .before .before .before .before .before .before .before .before .before .before .before .before .before .facility-count .given .1)
+  servers-stop _ _ (c .before .before .before .before .before .before .before .before .before .empty .result) (c .before .before .before .before .before .before .before .before .before .before .before .before .before .before .before .before .before .before .before .before .before .number .ensures .0) (c .before .before .before .before .before .before .before .before .before .before .before .before .before .before .before .before .before .before .before .edition .given .1) (c .before .before .before .before .before .before .before .before .before .before .before .before .before .before .before .before .before .number2 .ensures .0) (c .before .before .before .before .before .before .before .before .before .before .before .before .before .before .before .facility-count .given .1)
       (c .before .before .before .before .before .before .before .before .before .before .before .before .before .number3 .ensures .0) (c .before .before .before .before .before .before .before .before .before .before .before .storages .given .1) (c .before .before .before .before .before .before .before .clear .ensures) (c .before .before .before .before .before .facilities .ensures) (c .before .before .before .capacities .ensures) (c .before .n4 .given .1),
   λ h q e. absurd (no-header e),
 )
@@ -90,7 +93,7 @@ returns-5 : tie.Need-returns-5
 returns-5 c = let f = c .before .before .before .before .before .before .before .before .before .before .before .before .before .before .before .before .before .number2 .ensures .1 _ _ (c .before .before .before .before .before .before .before .before .before .before .before .before .before .before .before .facility-count .given .1) in
     let n = c .before .before .before .before .before .before .before .before .before .before .before .before .before .number3 .ensures .1 _ _ (c .before .before .before .before .before .before .before .before .before .before .before .storages .given .1) in
     let z = c .before .before .before .before .before .before .before .before .before .empty .ensures .0 in (
-      servers-kept _ _ (c .before .before .before .before .before .before .before .before .before .empty .result) (c .before .before .before .before .before .before .before .before .before .before .before .before .before .before .before .before .before .before .before .before .before .number .ensures .0) (c .before .before .before .before .before .before .before .before .before .before .before .before .before .before .before .before .before .before .before .a .given .1) (c .before .before .before .before .before .before .before .before .before .before .before .before .before .before .before .before .before .number2 .ensures .0) (c .before .before .before .before .before .before .before .before .before .before .before .before .before .before .before .facility-count .given .1)
+      servers-kept _ _ (c .before .before .before .before .before .before .before .before .before .empty .result) (c .before .before .before .before .before .before .before .before .before .before .before .before .before .before .before .before .before .before .before .before .before .number .ensures .0) (c .before .before .before .before .before .before .before .before .before .before .before .before .before .before .before .before .before .before .before .edition .given .1) (c .before .before .before .before .before .before .before .before .before .before .before .before .before .before .before .before .before .number2 .ensures .0) (c .before .before .before .before .before .before .before .before .before .before .before .before .before .before .before .facility-count .given .1)
           (c .before .before .before .before .before .before .before .before .before .before .before .before .before .number3 .ensures .0) (c .before .before .before .before .before .before .before .before .before .before .before .storages .given .1) (c .before .before .before .before .before .before .before .clear .ensures) (c .before .before .before .before .before .facilities .ensures) (c .before .before .before .capacities .ensures) (c .before .q .given .1)
           (z .2, z .3, z .4, z .5, z .6),
       λ h q e. same-header Within
@@ -103,7 +106,7 @@ servers-spec =
     (tie.spec
     number-requires
     enum-known-n
-    enum-known-a
+    enum-known-edition
     number-requires-2
     enum-known-n-2
     enum-known-facility-count
@@ -111,6 +114,7 @@ servers-spec =
     enum-known-n-3
     enum-known-storages
     empty-requires
+    cast-clear
     clear-requires
     facilities-requires
     capacities-requires

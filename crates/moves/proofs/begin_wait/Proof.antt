@@ -10,16 +10,16 @@ plus32-requires c κs = search needs
 write-requires : tie.Need-write-requires
 write-requires c κs = search needs
 
-put-requires : tie.Need-put-requires
-put-requires c κs = search needs
+line-up-requires : tie.Need-line-up-requires
+line-up-requires c κs = search needs
 
 same-length : tie.Need-same-length
 same-length c = search needs
 
 returns : tie.Need-returns
 unfolding beginWait
-returns c = rw (c .before .before .put .ensures, c .before .before .before .before .before .before .write .ensures, c .before .before .before .before .before .before .before .before .plus32 .ensures)
+returns c = rw (c .before .before .line-up .ensures, c .before .before .before .before .before .before .write .ensures, c .before .before .before .before .before .before .before .before .plus32 .ensures)
 
 pub begin-wait-spec : {M : Type 1} → statement M
 begin-wait-spec =
-    tie.close (tie.spec plus32-requires write-requires put-requires same-length returns)
+    tie.close (tie.spec plus32-requires write-requires line-up-requires same-length returns)

@@ -4,15 +4,15 @@ use borrow.Author.Needs.{needs}
 use Rattle.moves.proofs.put_back.Statement.{statement}
 use Rattle.moves.proofs.put_back.Tie as tie
 
-put-requires : tie.Need-put-requires
-put-requires c κs = search needs
+line-up-requires : tie.Need-line-up-requires
+line-up-requires c κs = search needs
 
 same-length : tie.Need-same-length
 same-length c = search needs
 
 returns : tie.Need-returns
 unfolding putBack
-returns c = rw (c .before .before .put .ensures)
+returns c = rw (c .before .before .line-up .ensures)
 
 pub put-back-spec : {M : Type 1} → statement M
-put-back-spec = tie.close (tie.spec put-requires same-length returns)
+put-back-spec = tie.close (tie.spec line-up-requires same-length returns)

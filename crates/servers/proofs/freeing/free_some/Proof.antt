@@ -32,9 +32,15 @@ same-length c = search needs
 same-length-2 : tie.Need-same-length-2
 same-length-2 c = search needs
 
+number-requires : tie.Need-number-requires
+number-requires c κs = search needs
+
+leave-with-requires : tie.Need-leave-with-requires
+leave-with-requires c κs = search needs
+
 returns : tie.Need-returns
 unfolding freeSome
-returns c = rw (← c .before .before .before .before .before .before .before .before .before .before .before .before .before .before .before .before .before .capacity .ensures .0, ← c .before .before .before .before .before .before .before .before .before .before .before .less64 .ensures, ← c .before .before .before .before .before .before .before .before .before .before .wake-ql .ensures .0, ← c .before .before .before .before .before .before .before .before .before .before .wake-ql .ensures .1, ← c .before .before .before .before .before .before .before .before .before .before .before .before .before .before .before .set-use .ensures, ← c .before .before .before .before .before .before .set-count .ensures) (tallied _ _ _ _ (c .before .before .enter-freed .ensures))
+returns c = rw (← c .before .before .before .before .before .before .before .before .before .before .before .before .before .before .before .before .before .before .before .capacity .ensures .0, ← c .before .before .before .before .before .before .before .before .before .before .before .before .before .before .number .ensures, ← c .before .before .before .before .before .before .before .before .before .before .before .before .before .less64 .ensures, ← c .before .before .before .before .before .before .before .before .before .before .before .before .leave-with .ensures, ← c .before .before .before .before .before .before .before .before .before .before .wake-ql .ensures .0, ← c .before .before .before .before .before .before .before .before .before .before .wake-ql .ensures .1, ← c .before .before .before .before .before .before .before .before .before .before .before .before .before .before .before .before .before .set-use .ensures, ← c .before .before .before .before .before .before .set-count .ensures) (tallied _ _ _ _ (c .before .before .enter-freed .ensures))
 
 pub free-some-spec : {M : Type 1} → statement M
 free-some-spec =
@@ -42,7 +48,9 @@ free-some-spec =
     (tie.spec
     capacity-requires
     set-use-requires
+    number-requires
     less64-requires
+    leave-with-requires
     wake-ql-requires
     add-set-count
     set-count-requires

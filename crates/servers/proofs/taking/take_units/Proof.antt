@@ -39,9 +39,12 @@ same-length-3 c = search needs
 same-length-4 : tie.Need-same-length-4
 same-length-4 c = search needs
 
+number-requires : tie.Need-number-requires
+number-requires c κs = search needs
+
 returns-2 : tie.Need-returns-2
 unfolding takeUnits
-returns-2 c = rw (← c .before .before .before .before .before .before .before .before .before .capacity .ensures .0, ← c .before .before .before .before .before .before .before .before .before .before .in-use .ensures, ← c .before .before .before .before .before .before .before .before .less64 .ensures, lt-leb _ _ (c .before .before .before .before .before .before .before .if1 .left)) (c .before .before .before .before .queue-up .ensures)
+returns-2 c = rw (← c .before .before .before .before .before .before .before .before .before .before .capacity .ensures .0, ← c .before .before .before .before .before .before .before .before .before .before .before .in-use .ensures, ← c .before .before .before .before .before .before .before .before .before .less64 .ensures, lt-leb _ _ (c .before .before .before .before .before .before .before .before .if1 .left), ← c .before .before .before .before .before .number .ensures) (c .before .before .before .before .queue-up .ensures)
 
 pub take-units-spec : {M : Type 1} → statement M
 take-units-spec =
@@ -55,6 +58,7 @@ take-units-spec =
     same-length
     same-length-2
     returns
+    number-requires
     queue-up-requires
     same-length-3
     same-length-4
