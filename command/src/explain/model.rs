@@ -114,16 +114,14 @@ fn questions(asker: &mut Asker, source: Option<&Source>, lists: &mut Option<u64>
     let mut shape = Shape::default();
     asker.ask("the edition", limits::EDITIONS, |n| {
         let (low, high) = limits::EDITIONS;
-        let known = if low == high {
-            format!("{low}")
-        } else {
-            format!("{low} or {high}")
-        };
         let remedy = match source {
-            Some(_) => format!("write EDITION {known}"),
+            Some(_) => format!("write EDITION {low}, or EDITION {high} for the 1996 rules"),
             None => "this is no model, or one for another engine".to_string(),
         };
-        (format!("the edition is {n}, and known is {known}"), remedy)
+        (
+            format!("the edition is {n}, and known are {low} and {high}"),
+            remedy,
+        )
     })?;
     let mut head = Head {
         source,
