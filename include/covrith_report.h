@@ -14,8 +14,8 @@
 extern "C" {
 #endif
 
-/* Limits of document 01. */
-#define COVRITH_MOST_EDITION 1
+/* Limits of document 01, with the editions of document 02, item 12. */
+#define COVRITH_MOST_EDITION 2
 #define COVRITH_MOST_SERVERS 32 /* facilities, storages and queues, each */
 #define COVRITH_MOST_UNITS 65535
 #define COVRITH_MOST_LIVING 1024

@@ -13,7 +13,7 @@ _MODEL_NUMBER = (5, 2**32 - 1)
 _REPORT_NUMBER = (9, 2**64 - 1)
 
 # The front of a model.
-_MOST_EDITION = 1
+_MOST_EDITION = 2
 _MOST_SERVERS = 32
 _MOST_UNITS = 65_535
 

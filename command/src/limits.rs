@@ -1,6 +1,6 @@
-//! The limits of document 01, by name, with those of document 02, items 1 and 4.
+//! The limits of document 01, by name, with those of document 02, items 1, 4 and 12.
 
-pub const EDITIONS: (u64, u64) = (1, 1);
+pub const EDITION: u64 = 2;
 pub const FACILITIES: u64 = 32;
 pub const STORAGES: u64 = 32;
 pub const QUEUES: u64 = 32;

@@ -1,6 +1,7 @@
 //! Counts what random cases cover.
 
 mod groups;
+mod second;
 
 use crate::blocks::Done;
 use crate::decode::{decode_model_with, read_model};
@@ -12,6 +13,7 @@ use crate::model::Block;
 use crate::rules::{Rules, LAST_KIND};
 use crate::run::{run_watched, Outcome, Watcher};
 use groups::Groups;
+pub use second::Second;
 use std::collections::BTreeMap;
 
 /// What the runs of some cases met.
@@ -35,6 +37,7 @@ pub struct Coverage {
     /// Ends 27 and 28 by how they came.
     pub stopped_holding: [u64; STOPS.len()],
     pub groups: Groups,
+    pub second: Second,
     /// Accepted models of each edition.
     pub editions: [u64; 2],
     /// Term tags, status codes and relations in accepted models.
@@ -137,6 +140,7 @@ impl Watcher for Coverage {
         }
         let moves = machine.moving.is_none() && machine.rel.is_empty() && !machine.fel.is_empty();
         self.before = Some((machine.clock, moves));
+        self.second.before_turn(machine);
     }
 
     fn before_block(&mut self, machine: &Machine, taken: &Transaction) {
@@ -144,11 +148,13 @@ impl Watcher for Coverage {
         self.turns_at[span] += 1;
         self.clock_terms_at[span] += u64::from(machine.model.reads_clock(taken.next_block));
         self.groups.before_block(machine, taken);
+        self.second.before_block(machine, taken);
     }
 
     fn after_turn(&mut self, kind: u32, done: Done) {
         *self.counts.entry((kind, column(done))).or_insert(0) += 1;
         self.groups.after_turn(done);
+        self.second.after_turn(done);
     }
 
     fn at_end(&mut self, machine: &Machine, end: u32, _trace: &[u8]) {
@@ -193,6 +199,7 @@ impl Coverage {
     pub fn run(&mut self, case: &Case, trace: &mut [u8], report: &mut [u8]) -> Outcome {
         self.before = None;
         self.groups.start();
+        self.second.start();
         let outcome = run_watched(
             self.rules,
             &case.model,
@@ -236,7 +243,7 @@ impl Coverage {
 
     /// What can be met under the rules and was not: kinds with what they come
     /// to, refusals, ends (but 26), tags, codes, relations, spans of the clock,
-    /// ways to ends 27 and 28, ways through groups of joined waits.
+    /// ways to ends 27 and 28, ways through groups of joined waits, what edition 2 comes to.
     pub fn empty_cells(&self) -> Vec<String> {
         let mut empty = Vec::new();
         for kind in 1..=LAST_KIND {
@@ -283,6 +290,13 @@ impl Coverage {
                 Groups::cells()
                     .into_iter()
                     .filter(|c| self.groups.met(c) == 0),
+            );
+        }
+        if self.rules.highest_edition > 1 {
+            empty.extend(
+                Second::cells()
+                    .into_iter()
+                    .filter(|c| self.second.met(c) == 0),
             );
         }
         empty
@@ -333,6 +347,7 @@ impl std::fmt::Display for Coverage {
             writeln!(f, "{name:<28}{count}")?;
         }
         write!(f, "{}", self.groups)?;
+        write!(f, "{}", self.second)?;
         writeln!(f, "editions 1, 2   {:?}", self.editions)?;
         writeln!(f, "tags 0..11      {:?}", self.tags)?;
         writeln!(f, "codes 1..6      {:?}", self.codes)?;

@@ -78,7 +78,7 @@ pub fn case_with(rules: Rules, random: &mut Random, size: Size) -> Case {
     if rules.assemble && random.one_in(10) {
         return families::case(rules, random, size);
     }
-    if rules.highest_edition > 1 && random.one_in(12) {
+    if rules.highest_edition > 1 && random.one_in(8) {
         return editions::case(rules, random, size);
     }
     if rules.preempt && random.one_in(10) {

@@ -1,19 +1,22 @@
 //! The stored cases of crate `vectors` and what must come out of them: the
 //! first example, the limits of 02, item 1, the holders of item 6, the joined waits
-//! of item 7, and random cases: each refusal, each end that a short run can meet, each
+//! of item 7, the 1996 rules of item 12, and random cases: each refusal, each end that a short run can meet, each
 //! kind and outcome, each list in use, 1,024 living, late clocks, facilities held,
-//! groups of each size.
+//! groups of each size, what edition 2 comes to.
 
 mod groups;
 mod held;
 mod joined;
 mod late;
+mod second;
 
 pub use held::cases as held_cases;
 pub use joined::cases as joined_cases;
 pub use late::cases as late_cases;
+pub use second::cases as second_cases;
 
 use crate::blocks::Done;
+use crate::coverage::Second;
 use crate::generate::random::Random;
 use crate::generate::{case, Case, Size};
 use crate::machine::{Machine, Transaction};
@@ -29,7 +32,7 @@ pub const TRACE_BYTES: usize = 131_072;
 pub const REPORT_BYTES: usize = 10_400;
 
 /// How many cases are stored, and how many at least have each feature.
-const CASES: usize = 320;
+const CASES: usize = 420;
 const EACH: u32 = 5;
 
 /// The first example of document 01.
@@ -46,12 +49,15 @@ pub fn first_example() -> Case {
 
 /// What a case shows.
 #[derive(Default)]
-struct Features(BTreeSet<String>);
+struct Features {
+    names: BTreeSet<String>,
+    second: Second,
+}
 
 impl Features {
     fn add(&mut self, met: bool, name: &str) {
         if met {
-            self.0.insert(name.to_string());
+            self.names.insert(name.to_string());
         }
     }
 }
@@ -90,24 +96,27 @@ impl Watcher for Features {
             "late clock",
         );
         self.add(machine.clock == machine.rules.max_clock(), "last clock");
+        self.second.before_turn(machine);
     }
 
     fn before_block(&mut self, machine: &Machine, taken: &Transaction) {
+        self.second.before_block(machine, taken);
         if machine.model.reads_clock(taken.next_block) {
             self.add(machine.clock > i32::MAX as u64, "clock term past 2^31");
             self.add(machine.clock > u64::from(u32::MAX), "clock term past 2^32");
         }
         if let Block::WaitJoined { back, .. } = machine.model.block(taken.next_block) {
-            self.0.insert(format!("group of {back}"));
+            self.names.insert(format!("group of {back}"));
         }
     }
 
     fn after_turn(&mut self, kind: u32, done: Done) {
-        self.0.insert(format!("kind {kind} {done:?}"));
+        self.second.after_turn(done);
+        self.names.insert(format!("kind {kind} {done:?}"));
     }
 
     fn at_end(&mut self, _machine: &Machine, end: u32, _trace: &[u8]) {
-        self.0.insert(format!("end {end}"));
+        self.names.insert(format!("end {end}"));
     }
 }
 
@@ -126,7 +135,8 @@ fn features(case: &Case) -> BTreeSet<String> {
         &mut features,
     );
     features.add(true, &format!("refusal {}", outcome.refusal));
-    features.0
+    features.names.extend(features.second.names());
+    features.names
 }
 
 /// The stored cases, always the same, and how often each feature is met.
@@ -136,6 +146,7 @@ pub fn cases() -> (Vec<Case>, BTreeMap<String, u32>) {
     kept.extend(late::cases().into_iter().map(|(case, _)| case));
     kept.extend(held::cases().into_iter().map(|(case, _)| case));
     kept.extend(joined::cases().into_iter().map(|(case, _)| case));
+    kept.extend(second::cases().into_iter().map(|(case, ..)| case));
     let mut met: BTreeMap<String, u32> = BTreeMap::new();
     let mut spare = Vec::new();
     for _ in 0..12_000 {

@@ -2,11 +2,16 @@
 //! each refusal, end, kind with its outcomes and list is among them.
 
 use reference::blocks::Done;
-use reference::coverage::{ends, possible};
+use reference::coverage::{ends, possible, Second};
+use reference::decode::decode_model_with;
 use reference::generate::Case;
+use reference::model::Block;
 use reference::rules::LAST_KIND;
 use reference::run::{run, Outcome};
-use reference::stored::{cases, encode, expected, held_cases, joined_cases, late_cases};
+use reference::stored::{
+    cases, encode, expected, held_cases, joined_cases, late_cases, second_cases,
+};
+use reference::trace::TraceReader;
 use reference::Rules;
 
 fn stored(name: &str) -> Vec<u8> {
@@ -36,6 +41,7 @@ fn stored_cases_are_up_to_date() {
     }
     wanted.extend((1..=6).map(|code| format!("WEL {code}")));
     wanted.extend((1..=7).map(|back| format!("group of {back}")));
+    wanted.extend(Second::cells());
     for name in [
         "facility QL",
         "storage QL",
@@ -109,5 +115,32 @@ fn joined_cases_come_to_what_the_papers_give() {
             came.ended,
         ];
         assert_eq!(came, *wanted, "joined case {number}");
+    }
+}
+
+#[test]
+fn second_cases_come_to_what_the_papers_give() {
+    for (number, (case, wanted, order)) in second_cases().iter().enumerate() {
+        let mut trace = vec![0; case.trace_len];
+        let came = outcome_in(case, &mut trace);
+        let mut reader = TraceReader::new(&trace[..came.trace_bytes as usize]);
+        let mut ended = Vec::new();
+        let mut records = 0;
+        while let Ok(record) = reader.next_record() {
+            let model = decode_model_with(Rules::LANDED, &case.model).expect("it ran");
+            records += 1;
+            if let Block::Terminate { .. } = model.block(record.block as u32) {
+                ended.push(record.transaction);
+            }
+        }
+        let came = [
+            came.refusal,
+            came.end,
+            came.clock,
+            came.turns,
+            records,
+            came.made,
+        ];
+        assert_eq!((came, &ended), (*wanted, order), "second case {number}");
     }
 }

@@ -4,8 +4,8 @@ use crate::number::Numbers;
 use crate::Refusal;
 use std::ops::RangeInclusive;
 
-/// Editions that this crate knows.
-const EDITIONS: RangeInclusive<u64> = 1..=1;
+/// Editions that this crate knows; the second is for the 1996 rules.
+const EDITIONS: RangeInclusive<u64> = 1..=2;
 
 /// How many facilities, storages and queues a model may have, each.
 const SERVERS: RangeInclusive<u64> = 0..=32;

@@ -112,18 +112,16 @@ pub fn model(bytes: &[u8], source: Option<&Source>) -> (Vec<Finding>, Option<u64
 
 fn questions(asker: &mut Asker, source: Option<&Source>, lists: &mut Option<u64>) -> Answer<()> {
     let mut shape = Shape::default();
-    asker.ask("the edition", limits::EDITIONS, |n| {
-        let (low, high) = limits::EDITIONS;
-        let known = if low == high {
-            format!("{low}")
-        } else {
-            format!("{low} or {high}")
-        };
+    let last = limits::EDITION;
+    asker.ask("the edition", (1, last), |n| {
         let remedy = match source {
-            Some(_) => format!("write EDITION {known}"),
+            Some(_) => format!("write EDITION 1, or EDITION {last} for the 1996 rules"),
             None => "this is no model, or one for another engine".to_string(),
         };
-        (format!("the edition is {n}, and known is {known}"), remedy)
+        (
+            format!("the edition is {n}, and known are 1 and {last}"),
+            remedy,
+        )
     })?;
     let mut head = Head {
         source,

@@ -9,8 +9,9 @@ use crate::tape::Tape;
 
 /// Mostly of edition 2.
 pub fn case(rules: Rules, random: &mut Random, size: Size) -> Case {
-    let (mut model, tape) = match random.below(3) {
+    let (mut model, tape) = match random.below(5) {
         0 => returners(random, size),
+        1..=2 => broken_order(random, size),
         _ => parcels(random, size),
     };
     if !random.one_in(4) {
@@ -44,7 +45,7 @@ fn returners(random: &mut Random, size: Size) -> (Model, Tape) {
         take.clone(),
         Block::Advance { list: 3 },
     ];
-    for _ in 0..random.number(1, 3) {
+    for _ in 0..random.number(1, if size.is_small() { 2 } else { 4 }) {
         blocks.extend([give.clone(), take.clone()]);
     }
     blocks.push(Block::Advance { list: 3 });
@@ -90,6 +91,65 @@ fn returners(random: &mut Random, size: Size) -> (Model, Tape) {
     (model, tape)
 }
 
+/// A facility given back several times within one tick, and waiters of several
+/// priorities for it or for its status: who is put back breaks the order, and
+/// others come behind.
+fn broken_order(random: &mut Random, size: Size) -> (Model, Tape) {
+    let mut model = empty_model();
+    model.facilities = 1;
+    model.lists = 5;
+    let facility = 1;
+    let advance = Block::Advance { list: 5 };
+    let pulses = random.number(1, if size.is_small() { 2 } else { 4 });
+    let mut blocks = vec![
+        Block::Generate {
+            list: 1,
+            priority: 3,
+        },
+        Block::Seize { facility },
+        advance.clone(),
+    ];
+    for _ in 0..pulses {
+        blocks.extend([Block::Release { facility }, Block::Seize { facility }]);
+    }
+    blocks.extend([
+        advance.clone(),
+        Block::Release { facility },
+        Block::Terminate { amount: 1 },
+    ]);
+    let sorts = if size.is_small() && pulses > 1 { 2 } else { 3 };
+    let line = blocks.len() as u32 + 2 * sorts;
+    for sort in 0..sorts {
+        blocks.push(Block::Generate {
+            list: 2 + sort,
+            priority: random.number(0, 2),
+        });
+        if sort + 1 < sorts {
+            blocks.push(Block::Goto { target: line });
+        }
+    }
+    if random.one_in(2) {
+        blocks.extend([
+            Block::Seize { facility },
+            advance,
+            Block::Release { facility },
+        ]);
+    } else {
+        let code = random.number(1, 2);
+        blocks.push(Block::WaitIfStatus { code, server: 1 });
+    }
+    blocks.push(Block::Terminate { amount: 1 });
+    model.blocks = blocks;
+    let count = if size.is_small() { 8 } else { 40 };
+    let span = random.number(0, 3);
+    let mut tape = vec![small_times(random, count / 2, span + 2)];
+    for _ in 0..3 {
+        tape.push(small_times(random, count, span));
+    }
+    tape.push(small_times(random, count * 8, span));
+    (model, tape)
+}
+
 /// One storage; parcels of several sizes come and go, in parts at times.
 fn parcels(random: &mut Random, size: Size) -> (Model, Tape) {
     let mut model = empty_model();
@@ -99,16 +159,28 @@ fn parcels(random: &mut Random, size: Size) -> (Model, Tape) {
     let storage = 1;
     // All of one unit: case a of the 1996 rules.
     let most = if random.one_in(4) { 1 } else { capacity };
+    // The first sort takes all and the others little: a LEAVE wakes several.
+    let unequal = random.one_in(3);
     let mut blocks = Vec::new();
-    for _ in 0..random.number(2, if size.is_small() { 2 } else { 4 }) {
-        let units = random.number(1, most);
+    let sorts = random.number(2, if size.is_small() { 3 } else { 4 });
+    for sort in 0..sorts {
+        let units = match sort {
+            0 if unequal => most,
+            _ if unequal => random.number(1, most.min(2)),
+            _ => random.number(1, most),
+        };
         blocks.push(Block::Generate {
             list: random.number(1, 2),
             priority: random.number(0, 2),
         });
         blocks.push(Block::Enter { storage, units });
         blocks.push(Block::Advance { list: 3 });
-        let part = random.number(0, units - 1);
+        let in_parts = sorts < 3 || !size.is_small();
+        let part = if in_parts {
+            random.number(0, units - 1)
+        } else {
+            0
+        };
         if part > 0 {
             blocks.push(Block::Leave {
                 storage,
