@@ -5,11 +5,11 @@ use mathlib.Core.List.{List, [], _∷_}
 use mathlib.Core.Option.{Option, none, some}
 use native.Mathlib.Omega.{arith}
 use Rattle.machine.specs.Rules.{Rules, item6, document02}
-use Rattle.machine.specs.Transaction.{Transaction}
-use Rattle.machine.specs.Block.{facility, storage, Block, generate, advance, terminate, takes, frees, waitServer, waitTerms, moves, assign, priority, split, counts, BlockModel, blockAt}
+use Rattle.machine.specs.Transaction.{Transaction, Gatherer}
+use Rattle.machine.specs.Block.{facility, storage, Block, generate, advance, terminate, takes, frees, waitServer, waitTerms, moves, assign, priority, split, counts, assemble, BlockModel, blockAt}
 use Rattle.machine.specs.State.{State}
-use Rattle.machine.specs.Moves.{timesLeft}
-use Rattle.machine.specs.Execute.{askGenerate, askAdvance, askHolder, held, question}
+use Rattle.machine.specs.Moves.{timesLeft, waitsFor}
+use Rattle.machine.specs.Execute.{askGenerate, askAdvance, askHolder, held, question, askGathers}
 use Rattle.machine.specs.Run.{run}
 use Rattle.machine.specs.Validate.{Validation, accept, reject, validate}
 use Rattle.machine.specs.Outcome.{acceptedRun, refusedRun, outcomeOf, outcome}
@@ -36,6 +36,11 @@ module _ (kinds : ℕ) (m : BlockModel) where
   advance-same [] s = refl
   advance-same (time ∷ l) s = refl
 
+  gathers-same : (l : List Gatherer) (t : Transaction) (s : State) → askGathers m′ l t s ≡ askGathers m l t s
+  unfolding askGathers held
+  gathers-same [] t s = refl
+  gathers-same (g ∷ l) t s = refl
+
   question-same : (b : Block) (t : Transaction) (s : State) → question m′ b t s ≡ question m b t s
   unfolding question askHolder held
   question-same (generate list p) t s = generate-same (timesLeft s list) s
@@ -51,6 +56,7 @@ module _ (kinds : ℕ) (m : BlockModel) where
   question-same (priority p) t s = refl
   question-same (split n target) t s = refl
   question-same (counts c q) t s = refl
+  question-same (assemble n) t s = gathers-same (waitsFor t s) t s
 
   answered-alike : (o : Option Transaction) (s : State) → AnsweredAlike new m o s
   answered-alike none s = tt

@@ -28,8 +28,12 @@ abbrev pub item6 : Rules
 item6 = record { maxClock = item1 .maxClock; maxTime = item1 .maxTime; maxNumber = item1 .maxNumber; holders = true; kinds = item1 .kinds }
 
 -- and with item 7, "Storm and tug together"
+abbrev pub item7 : Rules
+item7 = record { maxClock = item6 .maxClock; maxTime = item6 .maxTime; maxNumber = item6 .maxNumber; holders = item6 .holders; kinds = 17 }
+
+-- and with item 8, "Families that gather"
 abbrev pub document02 : Rules
-document02 = record { maxClock = item6 .maxClock; maxTime = item6 .maxTime; maxNumber = item6 .maxNumber; holders = item6 .holders; kinds = 17 }
+document02 = record { maxClock = item7 .maxClock; maxTime = item7 .maxTime; maxNumber = item7 .maxNumber; holders = item7 .holders; kinds = 18 }
 
 -- the rules that the engine keeps
 abbrev pub inForce : Rules
