@@ -4,7 +4,7 @@ use Rattle.machine.proofs.model.Model.empty.Statement.{statement}
 use Rattle.machine.proofs.model.Model.empty.Tie as tie
 
 returns : tie.Need-returns
-returns c = ((refl, refl, refl, refl, refl, refl, refl), (refl, refl, refl), (refl, refl, refl), (refl, refl, refl), (refl, refl), (refl, refl), (refl, refl, refl), refl, (refl, refl), (refl, refl, refl), (refl, refl, refl), (refl, refl, refl), (refl, refl, refl, refl), (refl, refl))
+returns c = ((refl, refl, refl, refl, refl, refl, refl), ((refl, refl, refl), ((refl, refl, refl), ((refl, refl, refl), ((refl, refl), ((refl, refl), ((refl, refl, refl), (refl, ((refl, refl), ((refl, refl, refl), ((refl, refl, refl), ((refl, refl, refl), ((refl, refl, refl, refl), (refl, refl))))))))))))))
 
 pub empty-spec : {M : Type 1} → statement M
 empty-spec = tie.close (tie.spec returns)
