@@ -2,7 +2,7 @@
 use Prim.Native.Nat.{ℕ, _+_, _≤_}
 use mathlib.Core.Path.{_≡_}
 use mathlib.Core.List.{List}
-use lib.ListN.{length, replicate}
+use lib.ListN.{length, set, replicate}
 use lib.Seq.{sets}
 use Rattle.machine.specs.Limits as Limits
 use Rattle.machine.specs.Parser.{Parsed, parsed, refused, Parser, continue, field, times}
@@ -21,9 +21,9 @@ use Rattle.program.specs.Formed.{Formed}
 use Rattle.decode.specs.declared.Header.{Header}
 use Rattle.decode.specs.declared.Header.the-variants.{Read, Refused}
 
--- the tables before decoding
-unfoldable pub emptyTables : List ℕ
-emptyTables = replicate Layout.tablesSize 0
+-- the tables of a model of which its edition is known
+unfoldable pub emptyTables : (edition : ℕ) → List ℕ
+emptyTables edition = set (replicate Layout.tablesSize 0) Layout.edition edition
 
 abbrev pub Capacity : ℕ → Type 0
 Capacity v = (1 ≤ v) × (v ≤ Limits.maxCapacity)
@@ -55,18 +55,19 @@ pub record Stage {A : Type 0} (sh : StageShape A) (m : Model) (p : Place) (cells
 -- ---- "edition (1); facilities 0..32; storages 0..32 and each capacity 1..65,535"
 
 pub record Servers : Type 0 where
+  pub edition : ℕ
   pub facilities : ℕ
   pub storages : ℕ
   pub capacities : List ℕ
 
 unfoldable pub serversField : List ℕ → Parser Servers
 serversField s = λ c.
-    continue (field s 3 1 1 c)
+    continue (field s 3 1 (inForce .editions) c)
     (λ edition c₁.
     continue (field s 3 0 Limits.maxFacilities c₁)
     (λ f c₂.
     continue (field s 3 0 Limits.maxStorages c₂)
-    (λ n c₃. continue (times n (field s 3 1 Limits.maxCapacity) c₃) (λ l c₄. parsed (record { facilities = f; storages = n; capacities = l }) c₄))))
+    (λ n c₃. continue (times n (field s 3 1 Limits.maxCapacity) c₃) (λ l c₄. parsed (record { edition = edition; facilities = f; storages = n; capacities = l }) c₄))))
 
 abbrev pub withServers : Model → Servers → Model
 withServers m a =
@@ -89,7 +90,7 @@ pub record ProperServers (a : Servers) : Type 0 where
 -- the cells before are forgotten
 abbrev pub serversCells : Servers → List ℕ
 serversCells a =
-    storedRows (numberShape 1 Limits.maxCapacity 1 .numbers) 1 (Layout.capacities + a .facilities) (a .capacities) (sets emptyTables Layout.capacities (replicate (a .facilities) 1))
+    storedRows (numberShape 1 Limits.maxCapacity 1 .numbers) 1 (Layout.capacities + a .facilities) (a .capacities) (sets (emptyTables (a .edition)) Layout.capacities (replicate (a .facilities) 1))
 
 abbrev pub serversShape : StageShape Servers
 serversShape =

@@ -15,6 +15,7 @@ use program::single;
 use program::targets_move;
 use program::well_placed;
 use tables::CAPACITIES;
+use tables::EDITION;
 use tables::LIST_CELLS;
 use tables::LIST_COUNTS;
 use tables::TABLES;
@@ -57,10 +58,12 @@ enum Header {
 
 // ---- Facilities and storages
 
-fn clear(tables: &mut [u32; TABLES])
-    ensures { λ _. ⌜ now (tables .exit) ≡ emptyTables ⌝ }
+// Nothing but the edition.
+fn clear(tables: &mut [u32; TABLES], edition: u32)
+    ensures { λ _. ⌜ now (tables .exit) ≡ emptyTables edition ⌝ }
 {
     *tables = [0u32; TABLES];
+    tables[EDITION] = edition;
 }
 
 // A facility is a server of capacity 1.
@@ -109,9 +112,9 @@ fn servers(s: &[u8], tables: &mut [u32; TABLES], p: Place) -> Header
     ensures { λ r. ⌜ Stage serversShape noModel p (now (tables .entry)) (now (tables .exit)) r (serversField (now (s .entry)) (cursorOf p)) ⌝ }
     ensures within { λ r. ⌜ ((h : Model) (q : Place) → r ≡ Header.Read h q → Within h) ⌝ }
 {
-    match number(s, p, 1, 1) {
+    match number(s, p, 1, Model::EDITIONS) {
         Taken::Refused(n) => Header::Refused(n),
-        Taken::Number(_, a) => match number(s, a, 0, Model::MAX_FACILITIES) {
+        Taken::Number(edition, a) => match number(s, a, 0, Model::MAX_FACILITIES) {
             Taken::Refused(n) => Header::Refused(n),
             Taken::Number(facility_count, b) => match number(s, b, 0, Model::MAX_STORAGES) {
                 Taken::Refused(n) => Header::Refused(n),
@@ -119,7 +122,7 @@ fn servers(s: &[u8], tables: &mut [u32; TABLES], p: Place) -> Header
                     let mut m = Model::empty();
                     m.facilities = facility_count;
                     m.storages = storages;
-                    clear(tables);
+                    clear(tables, edition as u32);
                     facilities(tables, facility_count);
                     match capacities(s, tables, m, c) {
                         Stored::Refused(n) => Header::Refused(n),

@@ -9,13 +9,13 @@ use native.Mathlib.Omega.{arith}
 use lib.Dec.{eqb, leb}
 use lib.ListN.{length, take, drop, length-set}
 use Rattle.machine.specs.Transaction.{Transaction, Event, Gatherer, precedes, earlier, newborn}
-use Rattle.machine.specs.Lists.{insert, those, others, replaceFirst, flat}
+use Rattle.machine.specs.Lists.{insert, those, replaceFirst, flat}
 use Rattle.machine.specs.Term.{serverAt, free}
 use Rattle.machine.specs.Block.{Code, Share, facility, storage, shareServer, shareUnits, Block, generate, advance, terminate, takes, frees, waitServer, waitTerms, moves, assign, priority, split, counts, assemble, facts, BlockModel, blockAt, welIndex}
 use Rattle.machine.specs.State.{State, Logged}
 use Rattle.machine.specs.Setters.{withSerial, withPriority, withReturning, withStamp, withNext, setSerial, setMoving, setEnded}
-use Rattle.machine.specs.Moves.{recordOf, log, enters, moveTo, fresh, toRel, toFel, qlOf, welOf, toQl, toWel, toWsl, mustWait, wakeFirstQl, wakeQl, wakeFirstWel, wakeWsl, setUse, setContent, timesLeft, useTime, arrival, copies, gatherersAt, inFamily, waitsFor, toGatherers, comes, released}
-use Rattle.machine.specs.Execute.{askAdvance, question, takeUnits, wakeFor, checkWels, endsOne, delay, effect, freeUnits}
+use Rattle.machine.specs.Moves.{recordOf, log, enters, moveTo, fresh, toRel, toFel, qlOf, welOf, lineUp, toQl, toWel, toWsl, mustWait, Parted, wakeQl, wakeFirstWel, wakeWsl, setUse, setContent, timesLeft, useTime, arrival, copies, gatherersAt, inFamily, waitsFor, toGatherers, comes, released}
+use Rattle.machine.specs.Execute.{askAdvance, question, takeUnits, partFor, wakeFor, checkWels, endsOne, delay, effect, freeUnits}
 use Rattle.machine.specs.Turn.{arriveAll, due, moveClock, nextEvents, takeFirst, takeReady, taking, answer, execute, waitsOn, wsScheme, turn}
 use Rattle.machine.specs.Run.{startAt, idle, start}
 use Rattle.machine.specs.Claims.{upTo, terminates}
@@ -25,6 +25,7 @@ use Rattle.machine.proofs.Cases.{checkWels-kept, waitServer-cases, wait
 use Rattle.machine.proofs.Kept.{taking-kept}
 use Rattle.machine.proofs.Shape.{Shape, shape-closed, ql-at, wel-at, wel-below, gatherers-at}
 use Rattle.machine.proofs.Sums.{sumOn, sum-insert, sum-those, sum-replace, sum-first, sum-flat-set, sum-flat-none, sum-wake}
+use Rattle.machine.proofs.Lines.{Whole, sum-lineUp, sum-partFor}
 
 module _ (m : BlockModel) (tape : List (List ℕ)) (f : ℕ → ℕ) where
   -- ---- Definition
@@ -75,15 +76,15 @@ module _ (m : BlockModel) (tape : List (List ℕ)) (f : ℕ → ℕ) where
     weighs-toFel time t s w =
         omega (arith, sum-insert (λ e. by (e .who)) earlier (record { time = time; who = withStamp time (withSerial (fresh s) t) }) (s .fel))
 
-    weighs-toQl : (v : ℕ) (t : Transaction) (s : State) → v - 1 < length (s .ql) → Weighs (by t + x) s → Weighs x (toQl v t s)
+    weighs-toQl : (edition v : ℕ) (t : Transaction) (s : State) → v - 1 < length (s .ql) → Weighs (by t + x) s → Weighs x (toQl edition v t s)
     unfolding toQl
-    weighs-toQl v t s at w =
-        omega (arith, sum-flat-set by (s .ql) (v - 1) (insert precedes t (qlOf s v)) at, sum-insert by precedes t (qlOf s v))
+    weighs-toQl edition v t s at w =
+        omega (arith, sum-flat-set by (s .ql) (v - 1) (lineUp edition t (qlOf s v)) at, sum-lineUp by edition t (qlOf s v))
 
-    weighs-toWel : (v : ℕ) (code : Code) (t : Transaction) (s : State) → welIndex v code < length (s .wel) → Weighs (by t + x) s → Weighs x (toWel v code t s)
+    weighs-toWel : (edition v : ℕ) (code : Code) (t : Transaction) (s : State) → welIndex v code < length (s .wel) → Weighs (by t + x) s → Weighs x (toWel edition v code t s)
     unfolding toWel
-    weighs-toWel v code t s at w =
-        omega (arith, sum-flat-set by (s .wel) (welIndex v code) (insert precedes t (welOf s v code)) at, sum-insert by precedes t (welOf s v code))
+    weighs-toWel edition v code t s at w =
+        omega (arith, sum-flat-set by (s .wel) (welIndex v code) (lineUp edition t (welOf s v code)) at, sum-lineUp by edition t (welOf s v code))
 
     weighs-toWsl : (t : Transaction) (s : State) → Weighs (by t + x) s → Weighs x (toWsl t s)
     unfolding toWsl
@@ -125,24 +126,13 @@ module _ (m : BlockModel) (tape : List (List ℕ)) (f : ℕ → ℕ) where
 
     -- ---- Waking
 
-    weighs-wakeFirstQl : (v : ℕ) (s : State) → v - 1 < length (s .ql) → Weighs x s → Weighs x (wakeFirstQl v s)
-    unfolding wakeFirstQl
-    weighs-wakeFirstQl v s at w =
-        omega (
-          arith,
-          sum-flat-set by (s .ql) (v - 1) (drop 1 (qlOf s v)) at,
-          sum-first by (qlOf s v),
-          sum-wake by (λ t. refl) (take 1 (qlOf s v)) (s .rel),
-        )
-
-    weighs-wakeQl : (p : Transaction → Bool) (v : ℕ) (s : State) → v - 1 < length (s .ql) → Weighs x s → Weighs x (wakeQl p v s)
+    weighs-wakeQl : (part : List Transaction → Parted) (v : ℕ) (s : State) → Whole by part (qlOf s v) → v - 1 < length (s .ql) → Weighs x s → Weighs x (wakeQl part v s)
     unfolding wakeQl
-    weighs-wakeQl p v s at w =
+    weighs-wakeQl part v s whole at w =
         omega (
           arith,
-          sum-flat-set by (s .ql) (v - 1) (others p (qlOf s v)) at,
-          sum-those by p (qlOf s v),
-          sum-wake by (λ t. refl) (those p (qlOf s v)) (s .rel),
+          sum-flat-set by (s .ql) (v - 1) (part (qlOf s v) .stay) at,
+          sum-wake by (λ t. refl) (part (qlOf s v) .go) (s .rel),
         )
 
     weighs-wakeFirstWel : (v : ℕ) (code : Code) (s : State) → welIndex v code < length (s .wel) → Weighs x s → Weighs x (wakeFirstWel v code s)
@@ -242,17 +232,17 @@ module _ (m : BlockModel) (tape : List (List ℕ)) (f : ℕ → ℕ) where
 
     -- at a block that is no TERMINATE
     module _ (plain : facts (blockAt m (t .next)) .terminates ≡ 0) where
-      balanced-waitQl : (v : ℕ) → v - 1 < length (s .ql) → Balanced (mustWait (toQl v) t idle-hand)
+      balanced-waitQl : (v : ℕ) → v - 1 < length (s .ql) → Balanced (mustWait (toQl (m .edition) v) t idle-hand)
       unfolding mustWait toQl log
       balanced-waitQl v at =
-          cond-cases Balanced (t .returning) _ _ (λ e. weighs-toQl 0 v t idle-hand at in-hand)
-          (λ e. weighs-toQl 0 v waiter waits at noted)
+          cond-cases Balanced (t .returning) _ _ (λ e. weighs-toQl 0 (m .edition) v t idle-hand at in-hand)
+          (λ e. weighs-toQl 0 (m .edition) v waiter waits at noted)
 
-      balanced-waitWel : (v : ℕ) (code : Code) → welIndex v code < length (s .wel) → Balanced (mustWait (toWel v code) t idle-hand)
+      balanced-waitWel : (v : ℕ) (code : Code) → welIndex v code < length (s .wel) → Balanced (mustWait (toWel (m .edition) v code) t idle-hand)
       unfolding mustWait toWel log
       balanced-waitWel v code at =
-          cond-cases Balanced (t .returning) _ _ (λ e. weighs-toWel 0 v code t idle-hand at in-hand)
-          (λ e. weighs-toWel 0 v code waiter waits at noted)
+          cond-cases Balanced (t .returning) _ _ (λ e. weighs-toWel 0 (m .edition) v code t idle-hand at in-hand)
+          (λ e. weighs-toWel 0 (m .edition) v code waiter waits at noted)
 
       balanced-waitWsl : Balanced (mustWait toWsl t idle-hand)
       unfolding mustWait toWsl log
@@ -263,7 +253,7 @@ module _ (m : BlockModel) (tape : List (List ℕ)) (f : ℕ → ℕ) where
       entered : Weighs (by t) (enters t idle-hand)
       entered = weighs-enters (by t) t idle-hand plain w
 
-      balanced-takeUnits : (x : Share) → Names (servers m) (shareServer x) → Shape m s → Balanced (takeUnits x t idle-hand)
+      balanced-takeUnits : (x : Share) → Names (servers m) (shareServer x) → Shape m s → Balanced (takeUnits m x t idle-hand)
       unfolding takeUnits moveTo setUse enters log
       balanced-takeUnits x at h =
           cond-cases Balanced (leb (shareUnits x) (free (serverAt (s .view) (shareServer x)))) _ _
@@ -271,25 +261,14 @@ module _ (m : BlockModel) (tape : List (List ℕ)) (f : ℕ → ℕ) where
           (λ e. balanced-waitQl (shareServer x) (ql-at h (shareServer x) (at .0) (at .1)))
 
       -- units given back, and then one or some of the QL woken
-      balanced-release : (v b : ℕ) → 1 ≤ v → v ≤ servers m → Shape m s
-          → Weighs (by t) (checkWels v (wakeFirstQl v (freeUnits v b (enters t idle-hand))))
-      unfolding wakeFirstQl setUse enters log
-      balanced-release v b low high h =
-          weighs-checkWels (by t) v (wakeFirstQl v (freeUnits v b (enters t idle-hand))) low high (h .wel-length)
-          (weighs-wakeFirstQl (by t) v (freeUnits v b (enters t idle-hand)) (ql-at h v low high) entered)
-
-      balanced-leave : (p : Transaction → Bool) (v b : ℕ) → 1 ≤ v → v ≤ servers m → Shape m s
-          → Weighs (by t) (checkWels v (wakeQl p v (freeUnits v b (enters t idle-hand))))
-      unfolding wakeQl setUse enters log
-      balanced-leave p v b low high h =
-          weighs-checkWels (by t) v (wakeQl p v (freeUnits v b (enters t idle-hand))) low high (h .wel-length)
-          (weighs-wakeQl (by t) p v (freeUnits v b (enters t idle-hand)) (ql-at h v low high) entered)
-
       balanced-frees : (x : Share) → Names (servers m) (shareServer x) → Shape m s
           → Weighs (by t) (checkWels (shareServer x) (wakeFor m x (freeUnits (shareServer x) (shareUnits x) (enters t idle-hand))))
-      unfolding wakeFor shareServer shareUnits
-      balanced-frees (facility v) at h = balanced-release v 1 (at .0) (at .1) h
-      balanced-frees (storage v b) at h = balanced-leave _ v b (at .0) (at .1) h
+      unfolding wakeFor wakeQl setUse enters log
+      balanced-frees x at h =
+          let v : ℕ = shareServer x in
+          let freed : State = freeUnits v (shareUnits x) (enters t idle-hand) in
+          weighs-checkWels (by t) v (wakeFor m x freed) (at .0) (at .1) (h .wel-length)
+          (weighs-wakeQl (by t) (partFor m x (freed .view)) v freed (sum-partFor by m x (freed .view) (qlOf s v)) (ql-at h v (at .0) (at .1)) entered)
 
       balanced-waitServer : (code : Code) (v c : ℕ) → 1 ≤ v → v ≤ servers m → Shape m s → Balanced (effect m (waitServer code v c) t idle-hand)
       unfolding moveTo enters log

@@ -42,7 +42,7 @@ module _ (Q : State → Type 0) where
 
   -- it waits, or goes back, or enters
   pub waitServer-cases : (m : BlockModel) (code : Code) (v c : ℕ) (t : Transaction) (s : State)
-      → (status code (serverAt (s .view) v) ≡ true → Q (mustWait (toWel v code) t s))
+      → (status code (serverAt (s .view) v) ≡ true → Q (mustWait (toWel (m .edition) v code) t s))
       → ((ltb 0 c && ltb (t .stamp) (s .view .clock)) ≡ true → Q (moveTo (t .next - c) t (wakeFirstWel v code s)))
       → ((ltb 0 c && ltb (t .stamp) (s .view .clock)) ≡ false → Q (goOn (stamped m t s) (wakeFirstWel v code (enters t s)))) → Q (effect m (waitServer code v c) t s)
   unfolding effect takeUnits

@@ -16,7 +16,7 @@ use Rattle.machine.specs.Term.{serverAt, free}
 use Rattle.machine.specs.Block.{Code, Share, facility, storage, shareServer, shareUnits, Block, generate, advance, terminate, takes, frees, waitServer, waitTerms, moves, assign, priority, split, counts, assemble, BlockModel, blockAt}
 use Rattle.machine.specs.State.{State}
 use Rattle.machine.specs.Setters.{setMoving}
-use Rattle.machine.specs.Moves.{log, enters, moveTo, toRel, toFel, toQl, toWel, toWsl, mustWait, wakeFirstQl, wakeQl, wakeFirstWel, wakeWsl, setUse, setContent, timesLeft, arrival, copies, toGatherers, comes, released}
+use Rattle.machine.specs.Moves.{log, enters, moveTo, toRel, toFel, toQl, toWel, toWsl, mustWait, wakeQl, wakeFirstWel, wakeWsl, setUse, setContent, timesLeft, arrival, copies, toGatherers, comes, released}
 use Rattle.machine.specs.Execute.{unless, living, askTime, askGenerate, askAdvance, question, takeUnits, wakeFor, checkWels, endsOne, delay, effect}
 use Rattle.machine.specs.Turn.{arriveAll, moveClock, nextEvents, takeFirst, takeReady, taking, answer, execute, wsScheme, turn}
 use Rattle.machine.specs.Run.{idle, startAt, start, states}
@@ -55,13 +55,13 @@ module _ {most : ℕ} where
   unfolding mustWait log
   waits-timely put kept t s h = cond-cases (Timely most) (t .returning) _ _ (λ e. kept t s h) (λ e. kept _ _ (like s _ refl refl h))
 
-  toQl-timely : (v : ℕ) (t : Transaction) (s : State) → Timely most s → Timely most (toQl v t s)
+  toQl-timely : (edition v : ℕ) (t : Transaction) (s : State) → Timely most s → Timely most (toQl edition v t s)
   unfolding toQl
-  toQl-timely v t s h = like s _ refl refl h
+  toQl-timely edition v t s h = like s _ refl refl h
 
-  toWel-timely : (v : ℕ) (code : Code) (t : Transaction) (s : State) → Timely most s → Timely most (toWel v code t s)
+  toWel-timely : (edition v : ℕ) (code : Code) (t : Transaction) (s : State) → Timely most s → Timely most (toWel edition v code t s)
   unfolding toWel
-  toWel-timely v code t s h = like s _ refl refl h
+  toWel-timely edition v code t s h = like s _ refl refl h
 
   toWsl-timely : (t : Transaction) (s : State) → Timely most s → Timely most (toWsl t s)
   unfolding toWsl
@@ -86,12 +86,12 @@ module _ {most : ℕ} where
   unfolding setUse
   units-timely v n holder s h = like s _ refl refl h
 
-  takes-timely : (x : Share) (t : Transaction) (s : State) → Timely most s → Timely most (takeUnits x t s)
+  takes-timely : (m : BlockModel) (x : Share) (t : Transaction) (s : State) → Timely most s → Timely most (takeUnits m x t s)
   unfolding takeUnits
-  takes-timely x t s h =
+  takes-timely m x t s h =
       let v : ℕ = shareServer x in
       cond-cases (Timely most) (leb (shareUnits x) (free (serverAt (s .view) v))) _ _
-      (λ e. moves-timely _ t _ (check-timely v _ (units-timely v _ _ _ (enters-timely t s h)))) (λ e. waits-timely (toQl v) (toQl-timely v) t s h)
+      (λ e. moves-timely _ t _ (check-timely v _ (units-timely v _ _ _ (enters-timely t s h)))) (λ e. waits-timely (toQl (m .edition) v) (toQl-timely (m .edition) v) t s h)
 
   copies-timely : (n target : ℕ) (t : Transaction) (s : State) → Timely most s → Timely most (copies n target t s)
   unfolding copies toRel
@@ -125,9 +125,8 @@ module _ (m : BlockModel) where
       toFel-timely _ _ _ (omega (arith, time-asked time s asked, c)) (like s′ _ refl refl h)
 
   wakeFor-timely : (x : Share) (s : State) → Timely (limit m) s → Timely (limit m) (wakeFor m x s)
-  unfolding wakeFor wakeFirstQl wakeQl
-  wakeFor-timely (facility v) s h = like s _ refl refl h
-  wakeFor-timely (storage v b) s h = like s _ refl refl h
+  unfolding wakeFor wakeQl
+  wakeFor-timely x s h = like s _ refl refl h
 
   effect-timely : (b : Block) (t : Transaction) (s : State) → question m b t s ≡ 0 → Timely (limit m) s
       → Timely (limit m) (effect m b t (setMoving none s))
@@ -135,10 +134,10 @@ module _ (m : BlockModel) where
   effect-timely (generate list p) t s asked h = moves-timely _ t _ (generate-timely _ list p _ s _ asked refl (like s _ refl refl h))
   effect-timely (advance list) t s asked h = advance-timely _ list t s _ asked refl (like s _ refl refl h)
   effect-timely (terminate a) t s asked h = like s _ refl refl h
-  effect-timely (takes x) t s asked h = takes-timely x t _ (like s _ refl refl h)
+  effect-timely (takes x) t s asked h = takes-timely m x t _ (like s _ refl refl h)
   effect-timely (frees x) t s asked h = moves-timely _ t _ (check-timely (shareServer x) _ (wakeFor-timely x _ (like s _ refl refl h)))
   effect-timely (waitServer code v c) t s asked h =
-      waitServer-cases (Timely (limit m)) m code v c t (setMoving none s) (λ e. waits-timely (toWel v code) (toWel-timely v code) t _ (like s _ refl refl h))
+      waitServer-cases (Timely (limit m)) m code v c t (setMoving none s) (λ e. waits-timely (toWel (m .edition) v code) (toWel-timely (m .edition) v code) t _ (like s _ refl refl h))
       (λ e. moves-timely _ t _ (wake-timely v code _ (like s _ refl refl h))) (λ e. moves-timely _ _ _ (wake-timely v code _ (like s _ refl refl h)))
   effect-timely (waitTerms a r b) t s asked h =
       waitTerms-cases (Timely (limit m)) m a r b t (setMoving none s) (λ e. waits-timely toWsl toWsl-timely t _ (like s _ refl refl h))

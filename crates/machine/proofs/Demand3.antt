@@ -1,8 +1,8 @@
 -- Demand 3: in every state of the run of every accepted model and tape, with every budget and every trace length, each living
--- transaction stands once, the counts are those that the records tell, nobody able to go waits where the clock is about to move
--- or the run ended dry, equal waits end in the order in which they began, each facility in use has a holder, whoever enters a kind
--- 17 block entered its whole group at that clock, and at an ASSEMBLE one of a family waits while not all have come. The states are those of
--- the run that gives the outcome, and the run keeps to its bounds.
+-- transaction stands once, the counts are those that the records tell, under edition 1 nobody able to go waits where the clock is about
+-- to move or the run ended dry and equal waits end in the order in which they began, each facility in use has a holder, whoever enters a
+-- kind 17 block entered its whole group at that clock, and at an ASSEMBLE one of a family waits while not all have come. The states are those
+-- of the run that gives the outcome, and the run keeps to its bounds.
 use Prim.Native.Nat.{ℕ}
 use mathlib.Core.Path.{_≡_}
 use mathlib.Core.List.{List, reverse}
@@ -15,7 +15,7 @@ use Rattle.machine.specs.Run.{states}
 use Rattle.machine.specs.Claims.{InOrder, Keeps, Demand3, Proved}
 use Rattle.machine.proofs.Proper.{Proper}
 use Rattle.machine.proofs.ProperFrom.{proper-from}
-use Rattle.machine.proofs.RunLaws.{each-map, each-pair, last}
+use Rattle.machine.proofs.RunLaws.{each-map, each-pair, each-under, last}
 use Rattle.machine.proofs.Bounds.{bounded}
 use Rattle.machine.proofs.Conservation.{Conserved, conserved}
 use Rattle.machine.proofs.NobodyAble.{Waited, waited, able-none}
@@ -24,9 +24,13 @@ use Rattle.machine.proofs.Holders.{Holding, holding}
 use Rattle.machine.proofs.JoinedWaits.{Gathered, joined-waits}
 use Rattle.machine.proofs.Gathering.{Assembled, assembled}
 
+-- by edition 1 alone
+abbrev Ordered : BlockModel → List (List ℕ) → State → Type 0
+Ordered m tape s = m .edition ≡ 1 → InOrder m tape (reverse (s .records))
+
 -- The claims of a state, proved apart.
 abbrev Apart : BlockModel → List (List ℕ) → State → Type 0
-Apart m tape s = (Conserved m tape s × Waited m s) × (InOrder m tape (reverse (s .records)) × (Holding m tape s × (Gathered m tape s × Assembled m tape s)))
+Apart m tape s = (Conserved m tape s × Waited m s) × (Ordered m tape s × (Holding m tape s × (Gathered m tape s × Assembled m tape s)))
 
 keeps : (m : BlockModel) (tape : List (List ℕ)) (s : State) → Apart m tape s → Keeps m tape s
 unfolding serverAt
@@ -53,9 +57,9 @@ module _ {m : BlockModel} {tape : List (List ℕ)} (proper : Proper m tape) (bud
   pub keeps-all : Demand3 m tape budget room
   keeps-all =
       each-map (keeps m tape) all
-      (each-pair (λ s. Conserved m tape s × Waited m s) (λ s. InOrder m tape (reverse (s .records)) × (Holding m tape s × (Gathered m tape s × Assembled m tape s))) all
+      (each-pair (λ s. Conserved m tape s × Waited m s) (λ s. Ordered m tape s × (Holding m tape s × (Gathered m tape s × Assembled m tape s))) all
       (each-pair (Conserved m tape) (Waited m) all (conserved m tape budget room proper) (waited proper budget room))
-      (each-pair (λ s. InOrder m tape (reverse (s .records))) (λ s. Holding m tape s × (Gathered m tape s × Assembled m tape s)) all (in-order proper budget room)
+      (each-pair (Ordered m tape) (λ s. Holding m tape s × (Gathered m tape s × Assembled m tape s)) all (each-under (λ s. InOrder m tape (reverse (s .records))) all (λ first. in-order proper first budget room))
       (each-pair (Holding m tape) (λ s. Gathered m tape s × Assembled m tape s) all (holding m tape budget room proper)
       (each-pair (Gathered m tape) (Assembled m tape) all (joined-waits proper budget room) (assembled proper budget room)))))
 

@@ -7,11 +7,11 @@ use mathlib.Core.Option.{Option, none, some}
 use lib.ListN.{length, set, take, replicate}
 use Rattle.machine.specs.Transaction.{Transaction, Event, Gatherer, precedes, earlier, newborn}
 use Rattle.machine.specs.Lists.{flat, replaceFirst}
-use Rattle.machine.specs.Block.{Code, BlockModel, welIndex}
+use Rattle.machine.specs.Block.{Code, Share, shareServer, BlockModel, welIndex}
 use Rattle.machine.specs.State.{State}
 use Rattle.machine.specs.Setters.{withNext, withSerial, withReturning, withStamp, setSerial, setEnded, setGatherers}
-use Rattle.machine.specs.Moves.{gatherersAt, inFamily, waitsFor, toGatherers, comes, released, beginWait, log, enters, moveTo, fresh, toRel, toFel, toQl, toWel, toWsl, mustWait, wake, wakeFirstQl, wakeQl, wakeFirstWel, wakeWsl, setUse, setContent, arrival, copyOf, copies, qlOf, welOf}
-use Rattle.machine.specs.Execute.{checkWels, endsOne, delay}
+use Rattle.machine.specs.Moves.{gatherersAt, inFamily, waitsFor, toGatherers, comes, released, beginWait, log, enters, moveTo, fresh, toRel, toFel, toQl, toWel, toWsl, mustWait, wake, wakeQl, wakeFirstWel, wakeWsl, setUse, setContent, arrival, copyOf, copies, qlOf, welOf}
+use Rattle.machine.specs.Execute.{wakeFor, checkWels, endsOne, delay}
 use Rattle.machine.specs.Turn.{arriveAll, due, moveClock, nextEvents, takeFirst, takeReady, taking, wsScheme}
 use Rattle.machine.specs.Run.{idle}
 use Rattle.machine.specs.Report.{movingOne}
@@ -20,6 +20,7 @@ use Rattle.machine.proofs.RunLaws.{cond-cases}
 use Rattle.machine.proofs.Cases.{checkWels-kept, wsScheme-cases}
 use Rattle.machine.proofs.Shape.{each-set, each-getD}
 use Rattle.machine.proofs.Sorted.{each-insert, each-those, each-drop}
+use Rattle.machine.proofs.Lines.{each-lineUp, both-partFor}
 
 -- ---- Definition
 
@@ -93,11 +94,11 @@ module _ (P : Transaction → Type 0) (U : Unmoved P) where
         moving = h .moving;
       }
 
-  pub toQl-everybody : (v : ℕ) (t : Transaction) (s : State) → P t → Everybody P s → Everybody P (toQl v t s)
+  pub toQl-everybody : (edition v : ℕ) (t : Transaction) (s : State) → P t → Everybody P s → Everybody P (toQl edition v t s)
   unfolding toQl
-  toQl-everybody v t s p h =
+  toQl-everybody edition v t s p h =
       record {
-        ql = each-set (Each P) (s .ql) (v - 1) _ (h .ql) (each-insert P precedes t _ p (one-ql v s h));
+        ql = each-set (Each P) (s .ql) (v - 1) _ (h .ql) (each-lineUp P edition t _ p (one-ql v s h));
         wel = h .wel;
         wsl = h .wsl;
         rel = h .rel;
@@ -106,12 +107,12 @@ module _ (P : Transaction → Type 0) (U : Unmoved P) where
         moving = h .moving;
       }
 
-  pub toWel-everybody : (v : ℕ) (code : Code) (t : Transaction) (s : State) → P t → Everybody P s → Everybody P (toWel v code t s)
+  pub toWel-everybody : (edition v : ℕ) (code : Code) (t : Transaction) (s : State) → P t → Everybody P s → Everybody P (toWel edition v code t s)
   unfolding toWel
-  toWel-everybody v code t s p h =
+  toWel-everybody edition v code t s p h =
       record {
         ql = h .ql;
-        wel = each-set (Each P) (s .wel) (welIndex v code) _ (h .wel) (each-insert P precedes t _ p (one-wel v code s h));
+        wel = each-set (Each P) (s .wel) (welIndex v code) _ (h .wel) (each-lineUp P edition t _ p (one-wel v code s h));
         wsl = h .wsl;
         rel = h .rel;
         fel = h .fel;
@@ -146,11 +147,11 @@ module _ (P : Transaction → Type 0) (U : Unmoved P) where
       cond-cases (Everybody P) (t .returning) _ _ (λ e. kept t s p h)
       (λ e. kept _ _ (U .serial _ t p) (like s (setSerial (fresh s) (log 1 t s)) refl refl refl refl refl refl refl h))
 
-  pub waitQl-everybody : (v : ℕ) (t : Transaction) (s : State) → P t → Everybody P s → Everybody P (mustWait (toQl v) t s)
-  waitQl-everybody v = mustWait-everybody (toQl v) (toQl-everybody v)
+  pub waitQl-everybody : (edition v : ℕ) (t : Transaction) (s : State) → P t → Everybody P s → Everybody P (mustWait (toQl edition v) t s)
+  waitQl-everybody edition v = mustWait-everybody (toQl edition v) (toQl-everybody edition v)
 
-  pub waitWel-everybody : (v : ℕ) (code : Code) (t : Transaction) (s : State) → P t → Everybody P s → Everybody P (mustWait (toWel v code) t s)
-  waitWel-everybody v code = mustWait-everybody (toWel v code) (toWel-everybody v code)
+  pub waitWel-everybody : (edition v : ℕ) (code : Code) (t : Transaction) (s : State) → P t → Everybody P s → Everybody P (mustWait (toWel edition v code) t s)
+  waitWel-everybody edition v code = mustWait-everybody (toWel edition v code) (toWel-everybody edition v code)
 
   pub waitWsl-everybody : (t : Transaction) (s : State) → P t → Everybody P s → Everybody P (mustWait toWsl t s)
   waitWsl-everybody = mustWait-everybody toWsl toWsl-everybody
@@ -198,27 +199,15 @@ module _ (P : Transaction → Type 0) (U : Unmoved P) where
 
   -- ---- Waking
 
-  pub wakeFirstQl-everybody : (v : ℕ) (s : State) → Everybody P s → Everybody P (wakeFirstQl v s)
-  unfolding wakeFirstQl
-  wakeFirstQl-everybody v s h =
+  pub wakeFor-everybody : (m : BlockModel) (x : Share) (s : State) → Everybody P s → Everybody P (wakeFor m x s)
+  unfolding wakeFor wakeQl
+  wakeFor-everybody m x s h =
+      let both = both-partFor P m x (s .view) (qlOf s (shareServer x)) (one-ql (shareServer x) s h) in
       record {
-        ql = each-set (Each P) (s .ql) (v - 1) _ (h .ql) (each-drop P (qlOf s v) (one-ql v s h));
+        ql = each-set (Each P) (s .ql) (shareServer x - 1) _ (h .ql) (both .1);
         wel = h .wel;
         wsl = h .wsl;
-        rel = each-wake _ (s .rel) (each-take P (qlOf s v) (one-ql v s h)) (h .rel);
-        fel = h .fel;
-        gatherers = h .gatherers;
-        moving = h .moving;
-      }
-
-  pub wakeQl-everybody : (p : Transaction → Bool) (v : ℕ) (s : State) → Everybody P s → Everybody P (wakeQl p v s)
-  unfolding wakeQl
-  wakeQl-everybody p v s h =
-      record {
-        ql = each-set (Each P) (s .ql) (v - 1) _ (h .ql) (each-those P _ _ (one-ql v s h));
-        wel = h .wel;
-        wsl = h .wsl;
-        rel = each-wake _ (s .rel) (each-those P p _ (one-ql v s h)) (h .rel);
+        rel = each-wake _ (s .rel) (both .0) (h .rel);
         fel = h .fel;
         gatherers = h .gatherers;
         moving = h .moving;

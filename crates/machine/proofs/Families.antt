@@ -13,7 +13,7 @@ use Rattle.machine.specs.Term.{serverAt, free}
 use Rattle.machine.specs.Block.{Code, Share, facility, storage, shareServer, shareUnits, Block, generate, advance, terminate, takes, frees, waitServer, waitTerms, moves, assign, priority, split, counts, assemble, facts, BlockModel, blockAt}
 use Rattle.machine.specs.State.{State, Logged}
 use Rattle.machine.specs.Setters.{withSerial, setMoving, setTurns, setSerial, setEnded}
-use Rattle.machine.specs.Moves.{recordOf, log, enters, moveTo, fresh, toRel, toFel, toQl, toWel, toWsl, beginWait, mustWait, wakeFirstQl, wakeQl, wakeFirstWel, wakeWsl, setUse, setContent, arrival, copyOf, copies, toGatherers, comes, released}
+use Rattle.machine.specs.Moves.{recordOf, log, enters, moveTo, fresh, toRel, toFel, toQl, toWel, toWsl, beginWait, mustWait, wakeQl, wakeFirstWel, wakeWsl, setUse, setContent, arrival, copyOf, copies, toGatherers, comes, released}
 use Rattle.machine.specs.Execute.{takeUnits, wakeFor, checkWels, endsOne, delay, effect}
 use Rattle.machine.specs.Turn.{taking, answer, execute, wsScheme, turn}
 use Rattle.machine.specs.Run.{idle, startAt, start}
@@ -22,7 +22,7 @@ use Rattle.machine.proofs.RunLaws.{cond-cases, each-map}
 use Rattle.machine.proofs.Cases.{checkWels-kept, waitServer-cases, waitTerms-cases, assemble-cases, wsScheme-cases, startOf-cases}
 use Rattle.machine.proofs.Conservation.{Sound, sound-taking}
 use Rattle.machine.proofs.Taken.{taking-records}
-use Rattle.machine.proofs.Everybody.{Maybe, Everybody, Unmoved, like, everybody-map, everybody-each, toRel-everybody, toFel-everybody, toQl-everybody, toWel-everybody, toWsl-everybody, moveTo-everybody, wakeFirstQl-everybody, wakeQl-everybody, wakeFirstWel-everybody, wakeWsl-everybody, delay-everybody, toGatherers-everybody, comes-everybody, released-everybody, waiter-everybody, taking-everybody, idle-everybody}
+use Rattle.machine.proofs.Everybody.{Maybe, Everybody, Unmoved, like, everybody-map, everybody-each, toRel-everybody, toFel-everybody, toQl-everybody, toWel-everybody, toWsl-everybody, moveTo-everybody, wakeFor-everybody, wakeFirstWel-everybody, wakeWsl-everybody, delay-everybody, toGatherers-everybody, comes-everybody, released-everybody, waiter-everybody, taking-everybody, idle-everybody}
 
 module _ (m : BlockModel) (tape : List (List ℕ)) where
   -- ---- Families by the records
@@ -80,11 +80,11 @@ module _ (m : BlockModel) (tape : List (List ℕ)) where
   kindred-toRel : (t : Transaction) (s : State) → Kin (s .records) (s .made) t → Kindred s → Kindred (toRel t s)
   kindred-toRel t s p h = unfold toRel in (toRel-everybody _ (unmoved (s .records) (s .made)) t s p h)
 
-  kindred-toQl : (v : ℕ) (t : Transaction) (s : State) → Kin (s .records) (s .made) t → Kindred s → Kindred (toQl v t s)
-  kindred-toQl v t s p h = unfold toQl in (toQl-everybody _ (unmoved (s .records) (s .made)) v t s p h)
+  kindred-toQl : (v : ℕ) (t : Transaction) (s : State) → Kin (s .records) (s .made) t → Kindred s → Kindred (toQl (m .edition) v t s)
+  kindred-toQl v t s p h = unfold toQl in (toQl-everybody _ (unmoved (s .records) (s .made)) (m .edition) v t s p h)
 
-  kindred-toWel : (v : ℕ) (code : Code) (t : Transaction) (s : State) → Kin (s .records) (s .made) t → Kindred s → Kindred (toWel v code t s)
-  kindred-toWel v code t s p h = unfold toWel in (toWel-everybody _ (unmoved (s .records) (s .made)) v code t s p h)
+  kindred-toWel : (v : ℕ) (code : Code) (t : Transaction) (s : State) → Kin (s .records) (s .made) t → Kindred s → Kindred (toWel (m .edition) v code t s)
+  kindred-toWel v code t s p h = unfold toWel in (toWel-everybody _ (unmoved (s .records) (s .made)) (m .edition) v code t s p h)
 
   kindred-toWsl : (t : Transaction) (s : State) → Kin (s .records) (s .made) t → Kindred s → Kindred (toWsl t s)
   kindred-toWsl t s p h = unfold toWsl in (toWsl-everybody _ (unmoved (s .records) (s .made)) t s p h)
@@ -99,9 +99,7 @@ module _ (m : BlockModel) (tape : List (List ℕ)) where
   kindred-checkWels v s h = checkWels-kept Kindred v (kindred-wakeFirstWel v) s h
 
   kindred-wakeFor : (x : Share) (s : State) → Kindred s → Kindred (wakeFor m x s)
-  unfolding wakeFor
-  kindred-wakeFor (facility v) s h = unfold wakeFirstQl in (wakeFirstQl-everybody _ (unmoved (s .records) (s .made)) v s h)
-  kindred-wakeFor (storage v b) s h = unfold wakeQl in (wakeQl-everybody _ (unmoved (s .records) (s .made)) _ v s h)
+  kindred-wakeFor x s h = unfold wakeFor wakeQl in (wakeFor-everybody _ (unmoved (s .records) (s .made)) m x s h)
 
   kindred-use : (v n holder : ℕ) (s : State) → Kindred s → Kindred (setUse v n holder s)
   unfolding setUse
@@ -204,11 +202,7 @@ module _ (m : BlockModel) (tape : List (List ℕ)) where
     beside-checkWels v s′ h = checkWels-kept Beside v (λ code x h. (unfold wakeFirstWel in (h .0), kindred-wakeFirstWel v code x (h .1))) s′ h
 
     beside-wakeFor : (x : Share) (s′ : State) → Beside s′ → Beside (wakeFor m x s′)
-    beside-wakeFor x s′ h = (kin x, kindred-wakeFor x s′ (h .1))
-      where
-        kin : (x : Share) → Kin (wakeFor m x s′ .records) (wakeFor m x s′ .made) t
-        kin (facility v) = unfold wakeFor wakeFirstQl in (h .0)
-        kin (storage v b) = unfold wakeFor wakeQl in (h .0)
+    beside-wakeFor x s′ h = (unfold wakeFor wakeQl in (h .0), kindred-wakeFor x s′ (h .1))
 
     beside-use : (v n holder : ℕ) (s′ : State) → Beside s′ → Beside (setUse v n holder s′)
     beside-use v n holder s′ h = (unfold setUse in (h .0), kindred-use v n holder s′ (h .1))
@@ -234,11 +228,11 @@ module _ (m : BlockModel) (tape : List (List ℕ)) where
     effect-kindred (takes x) e =
         let v : ℕ = shareServer x in
         cond-cases Kindred (leb (shareUnits x) (free (serverAt (s .view) v))) _ _
-        (λ fit. goes-on _ _ (beside-checkWels v _ (beside-use v _ _ (enters t s) entered-beside))) (λ full. kindred-wait (toQl v) (kindred-toQl v))
+        (λ fit. goes-on _ _ (beside-checkWels v _ (beside-use v _ _ (enters t s) entered-beside))) (λ full. kindred-wait (toQl (m .edition) v) (kindred-toQl v))
     effect-kindred (frees x) e =
         goes-on _ _ (beside-checkWels (shareServer x) _ (beside-wakeFor x _ (beside-use (shareServer x) _ _ (enters t s) entered-beside)))
     effect-kindred (waitServer code v c) e =
-        waitServer-cases Kindred m code v c t s (λ holds. kindred-wait (toWel v code) (kindred-toWel v code))
+        waitServer-cases Kindred m code v c t s (λ holds. kindred-wait (toWel (m .edition) v code) (kindred-toWel v code))
         (λ late. kindred-moveTo _ t _ (unfold wakeFirstWel in p) (kindred-wakeFirstWel v code s h))
         (λ now. kindred-moveTo _ _ _ (unfold wakeFirstWel in p′) (kindred-wakeFirstWel v code (enters t s) h′))
     effect-kindred (waitTerms a r b) e =
@@ -247,9 +241,10 @@ module _ (m : BlockModel) (tape : List (List ℕ)) where
     effect-kindred (assign i a) e = kindred-moveTo _ _ (enters t s) p′ h′
     effect-kindred (priority q) e = kindred-toRel _ (enters t s) p′ h′
     effect-kindred (split n target) e =
-        goes-on _ _
-        (kin-copies n target (enters t s) p′,
-         kindred-copies n target t (enters t s) (unfold enters log in (of-original n (ap (λ b. facts b .copies) e))) h′)
+        goes-on _ _ (
+          kin-copies n target (enters t s) p′,
+          kindred-copies n target t (enters t s) (unfold enters log in (of-original n (ap (λ b. facts b .copies) e))) h′,
+        )
     effect-kindred (counts c q) e = goes-on _ _ (content q _)
     effect-kindred (assemble n) e =
         assemble-cases Kindred m n t s (λ first. kindred-begin toGatherers kindred-toGatherers)

@@ -9,17 +9,18 @@ use native.Mathlib.Decide.{ℕ-discrete}
 use lib.ListN.{length, getD, set, take, drop, length-set}
 use lib.Seq.{getD-set-same, getD-set-other}
 use Rattle.machine.specs.Transaction.{Transaction, precedes}
-use Rattle.machine.specs.Lists.{insert, setNth}
+use Rattle.machine.specs.Lists.{setNth}
 use Rattle.machine.specs.Term.{Server, idleServer, serverAt}
 use Rattle.machine.specs.Block.{Code, U, NU, E, NE, F, NF, status, codeIndex, BlockModel, blockAt, welIndex, facts}
 use Rattle.machine.specs.State.{State}
 use Rattle.machine.specs.Setters.{withReturning}
-use Rattle.machine.specs.Moves.{welOf, wake, wakeFirstWel}
+use Rattle.machine.specs.Moves.{welOf, lineUp, wake, wakeFirstWel}
 use Rattle.machine.specs.Execute.{checkWel, checkWels}
 use Rattle.machine.specs.Claims.{Each}
 use Rattle.machine.proofs.Proper.{servers}
 use Rattle.machine.proofs.Cases.{checkWel-cases}
-use Rattle.machine.proofs.Sorted.{each-insert, each-drop, some-inserted, at-set}
+use Rattle.machine.proofs.Sorted.{Sorted, each-drop, some-inserted, at-set, sorted-drop}
+use Rattle.machine.proofs.Lines.{each-lineUp, sorted-lineUp}
 use Rattle.machine.proofs.Waiting.{AtWel, serverIn, WelWaits, codeTrue, nobodyWaits, oneReady, Gated}
 use Rattle.machine.proofs.Ready.{Grows, grows-wake, wel-more, wel-else}
 
@@ -66,6 +67,7 @@ WelAt m v code s = WelWaits m (s .rel) (serverIn (s .view .servers) v) code (wel
 
 -- the WELs while some of them are yet to be checked
 pub record Open (m : BlockModel) (wel : List (List Transaction)) : Type 0 where
+  pub sorted : m .edition ≡ 1 → (i : ℕ) → Sorted precedes (getD wel i [])
   pub stands : (i : ℕ) → Each (AtWel m i) (getD wel i [])
   pub size : length wel ≡ servers m * 6
 
@@ -78,6 +80,8 @@ module _ {m : BlockModel} (v : ℕ) (one : 1 ≤ v) (known : v ≤ servers m) wh
   unfolding wakeFirstWel
   first-opened code s o =
       record {
+        sorted = λ first i.
+            at-set (Sorted precedes) (s .wel) k i _ [] (λ e. sorted-drop precedes (welOf s v code) (o .sorted first k)) (o .sorted first i);
         stands = λ i.
             at-set (Each (AtWel m i)) (s .wel) k i _ [] (λ e. rw e (each-drop (AtWel m k) (welOf s v code) (o .stands k))) (o .stands i);
         size = length-set (s .wel) k _ ∙ o .size;
@@ -141,7 +145,7 @@ module _ {m : BlockModel} (v : ℕ) (one : 1 ≤ v) (known : v ≤ servers m) wh
       → ((v′ : ℕ) (code : Code) → 1 ≤ v′ → v′ ≤ servers m → (v′ ≡ v → ⊥) → WelAt m v′ code s)
       → Gated m (checkWels v s .rel) (checkWels v s .view .servers) (checkWels v s .wel)
   checks-gated s o old =
-      record { wel-stands = checks-make U s o .opened .stands; wel-waits = λ v′ code a b. at v′ code a b (ℕ-discrete v′ v) }
+      record { wel-sorted = checks-make U s o .opened .sorted; wel-stands = checks-make U s o .opened .stands; wel-waits = λ v′ code a b. at v′ code a b (ℕ-discrete v′ v) }
     where
       at : (v′ : ℕ) (code : Code) → 1 ≤ v′ → v′ ≤ servers m → Dec (v′ ≡ v) → WelAt m v′ code (checkWels v s)
       at v′ code a b (yes e) = rw e (checks-make code s o .waits)
@@ -161,11 +165,13 @@ module _ {m : BlockModel} {t : Transaction} {rel : List Transaction} {l : List S
 
   -- 8 WAITIF, waiting: the code is true
   pub waits-gated : (v : ℕ) (code : Code) (t′ : Transaction) → 1 ≤ v → AtWel m (welIndex v code) t → AtWel m (welIndex v code) t′
-      → status code (serverIn l v) ≡ true → Gated m rel l (set wel (welIndex v code) (insert precedes t′ (getD wel (welIndex v code) [])))
+      → status code (serverIn l v) ≡ true → Gated m rel l (set wel (welIndex v code) (lineUp (m .edition) t′ (getD wel (welIndex v code) [])))
   waits-gated v code t′ one at at′ holds =
       record {
+        wel-sorted = λ first i.
+            at-set (Sorted precedes) wel k i _ [] (λ e. sorted-lineUp (m .edition) t′ _ first (w .wel-sorted first k)) (w .wel-sorted first i);
         wel-stands = λ i.
-            at-set (Each (AtWel m i)) wel k i _ [] (λ e. rw e (each-insert (AtWel m k) precedes t′ _ at′ (w .wel-stands k))) (w .wel-stands i);
+            at-set (Each (AtWel m i)) wel k i _ [] (λ e. rw e (each-lineUp (AtWel m k) (m .edition) t′ _ at′ (w .wel-stands k))) (w .wel-stands i);
         wel-waits = λ v′ code′ a b. waits v′ code′ a b (ℕ-discrete (welIndex v′ code′) k);
       }
     where
@@ -173,7 +179,7 @@ module _ {m : BlockModel} {t : Transaction} {rel : List Transaction} {l : List S
       k = welIndex v code
 
       waits : (v′ : ℕ) (code′ : Code) → 1 ≤ v′ → v′ ≤ servers m → Dec (welIndex v′ code′ ≡ k)
-          → WelWaits m rel (serverIn l v′) code′ (welIndex v′ code′) (getD (set wel k (insert precedes t′ (getD wel k []))) (welIndex v′ code′) [])
+          → WelWaits m rel (serverIn l v′) code′ (welIndex v′ code′) (getD (set wel k (lineUp (m .edition) t′ (getD wel k []))) (welIndex v′ code′) [])
       waits v′ code′ a b (yes e) = let (same, also) = wel-own v v′ code code′ one a e in codeTrue (rw (same, also) holds)
       waits v′ code′ a b (no n) =
           rw (getD-set-other wel k (welIndex v′ code′) _ [] n) (wel-else (λ e. n (omega arith)) (w .wel-waits v′ code′ a b))
@@ -183,8 +189,9 @@ pub passes-gated : {m : BlockModel} {t : Transaction} (v : ℕ) (code : Code) (s
     → length (s .wel) ≡ servers m * 6 → AtWel m (welIndex v code) t → Gated m (t ∷ s .rel) (s .view .servers) (s .wel)
     → Gated m (wakeFirstWel v code s .rel) (wakeFirstWel v code s .view .servers) (wakeFirstWel v code s .wel)
 passes-gated v code s one known size at w =
-    let o : Open _ (s .wel) = record { stands = w .wel-stands; size = size } in
+    let o : Open _ (s .wel) = record { sorted = w .wel-sorted; stands = w .wel-stands; size = size } in
     record {
+      wel-sorted = first-opened v one known code s o .sorted;
       wel-stands = first-opened v one known code s o .stands;
       wel-waits = λ v′ code′ a b. first-waits v one known code s o v′ code′ (λ n. wel-else (λ e. n (omega arith)) (w .wel-waits v′ code′ a b));
     }

@@ -19,7 +19,7 @@ use Rattle.machine.specs.Term.{serverAt, free}
 use Rattle.machine.specs.Block.{Code, Share, facility, storage, shareServer, shareUnits, Block, generate, advance, terminate, takes, frees, waitServer, waitTerms, moves, assign, priority, split, counts, assemble, facts, BlockModel, blockAt}
 use Rattle.machine.specs.State.{State, Logged}
 use Rattle.machine.specs.Setters.{withSerial, setMoving, setTurns, setEnd}
-use Rattle.machine.specs.Moves.{gatherersAt, inFamily, waitsFor, recordOf, log, enters, moveTo, toRel, toFel, toQl, toWel, toWsl, mustWait, wakeFirstQl, wakeQl, wakeFirstWel, wakeWsl, setUse, setContent, arrival, copies, toGatherers, comes, released}
+use Rattle.machine.specs.Moves.{gatherersAt, inFamily, waitsFor, recordOf, log, enters, moveTo, toRel, toFel, toQl, toWel, toWsl, mustWait, wakeQl, wakeFirstWel, wakeWsl, setUse, setContent, arrival, copies, toGatherers, comes, released}
 use Rattle.machine.specs.Execute.{takeUnits, wakeFor, checkWels, endsOne, delay, effect}
 use Rattle.machine.specs.Turn.{arriveAll, moveClock, nextEvents, takeFirst, takeReady, taking, answer, execute, wsScheme, turn}
 use Rattle.machine.specs.Run.{idle, startAt, start, states}
@@ -177,9 +177,8 @@ copies-gatherers (suc n) target t s = copies-gatherers n target t _
 
 module _ (m : BlockModel) where
   wakeFor-gatherers : (x : Share) (s : State) → wakeFor m x s .gatherers ≡ s .gatherers
-  unfolding wakeFor wakeFirstQl wakeQl
-  wakeFor-gatherers (facility v) s = refl
-  wakeFor-gatherers (storage v b) s = refl
+  unfolding wakeFor wakeQl
+  wakeFor-gatherers x s = refl
 
   module _ (t : Transaction) (s : State) where
     abbrev Same : State → Type 0
@@ -200,9 +199,9 @@ module _ (m : BlockModel) where
     effect-gatherers (terminate a) k z = refl
     effect-gatherers (takes x) k z =
         let v : ℕ = shareServer x in
-        cond-cases Same (leb (shareUnits x) (free (serverAt (s .view) v))) _ _ (λ e. checks-same v _ refl) (λ e. waits-same (toQl v) (λ u x. refl))
+        cond-cases Same (leb (shareUnits x) (free (serverAt (s .view) v))) _ _ (λ e. checks-same v _ refl) (λ e. waits-same (toQl (m .edition) v) (λ u x. refl))
     effect-gatherers (frees x) k z = checks-same (shareServer x) _ (wakeFor-gatherers x _)
-    effect-gatherers (waitServer code v c) k z = waitServer-cases Same m code v c t s (λ e. waits-same (toWel v code) (λ u x. refl)) (λ e. refl) (λ e. refl)
+    effect-gatherers (waitServer code v c) k z = waitServer-cases Same m code v c t s (λ e. waits-same (toWel (m .edition) v code) (λ u x. refl)) (λ e. refl) (λ e. refl)
     effect-gatherers (waitTerms a r b) k z = waitTerms-cases Same m a r b t s (λ e. waits-same toWsl (λ u x. refl)) (λ e. refl)
     effect-gatherers (moves c target) k z = refl
     effect-gatherers (assign i a) k z = refl

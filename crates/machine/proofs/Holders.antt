@@ -18,7 +18,7 @@ use Rattle.machine.specs.Facts.{Facts}
 use Rattle.machine.specs.Block.{Share, facility, storage, shareServer, shareUnits, shareFacility, shareHolder, Block, generate, advance, terminate, takes, frees, waitServer, waitTerms, moves, assign, priority, split, counts, assemble, facts, BlockModel, blockAt}
 use Rattle.machine.specs.State.{State, Logged}
 use Rattle.machine.specs.Setters.{withUse, setMoving, setTurns}
-use Rattle.machine.specs.Moves.{recordOf, log, enters, moveTo, toRel, toFel, toQl, toWel, toWsl, mustWait, wakeFirstQl, wakeQl, wakeFirstWel, wakeWsl, setUse, setContent, arrival, copies, waitsFor, toGatherers, comes, released}
+use Rattle.machine.specs.Moves.{recordOf, log, enters, moveTo, toRel, toFel, toQl, toWel, toWsl, mustWait, wakeQl, wakeFirstWel, wakeWsl, setUse, setContent, arrival, copies, waitsFor, toGatherers, comes, released}
 use Rattle.machine.specs.Execute.{unless, held, question, takeUnits, wakeFor, checkWels, endsOne, delay, effect, freeUnits, askGathers}
 use Rattle.machine.specs.Turn.{sampleServers, sample, arriveAll, moveClock, nextEvents, takeFirst, takeReady, taking, answer, execute, wsScheme, turn}
 use Rattle.machine.specs.Run.{startAt, idle, start, states}
@@ -141,9 +141,8 @@ module _ (m : BlockModel) (tape : List (List ℕ)) where
   holding-checkWels v s h = checkWels-kept Holding v (λ code s h. h) s h
 
   holding-wakeFor : (x : Share) (s : State) → Holding s → Holding (wakeFor m x s)
-  unfolding wakeFor wakeFirstQl wakeQl
-  holding-wakeFor (facility v) s h = h
-  holding-wakeFor (storage v b) s h = h
+  unfolding wakeFor wakeQl
+  holding-wakeFor x s h = h
 
   -- ---- Records of a block
 
@@ -233,11 +232,11 @@ module _ (m : BlockModel) (tape : List (List ℕ)) where
           holding-use v units 0 (omega arith) (omega (arith, server-length shape))
           (λ f at′ d. record { seizes = λ e z. on f at′ z; releases = λ e. omega arith }) ends (λ at′. absurd (omega arith))
 
-      holding-takes : (x : Share) → blockAt m (t .next) ≡ takes x → ProperShare m x → isLiving m tape (s .records) (t .number) ≡ true → Holding (takeUnits x t s)
+      holding-takes : (x : Share) → blockAt m (t .next) ≡ takes x → ProperShare m x → isLiving m tape (s .records) (t .number) ≡ true → Holding (takeUnits m x t s)
       unfolding takeUnits facts moveTo toQl shareServer shareUnits shareHolder
       holding-takes x e good lives =
           cond-cases Holding (leb (shareUnits x) (free (serverAt (s .view) (shareServer x)))) _ _ (λ fit. holding-checkWels (shareServer x) _ (taken x e good fit))
-          (λ full. holding-mustWait (toQl (shareServer x)) (λ t s h. h) (ap (λ b. facts b .releases) e))
+          (λ full. holding-mustWait (toQl (m .edition) (shareServer x)) (λ t s h. h) (ap (λ b. facts b .releases) e))
         where
           taken : (x : Share) → blockAt m (t .next) ≡ takes x → ProperShare m x → leb (shareUnits x) (free (serverAt (s .view) (shareServer x))) ≡ true
               → Holding (setUse (shareServer x) (serverAt (s .view) (shareServer x) .inUse + shareUnits x) (shareHolder x (t .number)) (enters t s))
@@ -293,7 +292,7 @@ module _ (m : BlockModel) (tape : List (List ℕ)) where
     holding-effect (frees x) o e q good = holding-checkWels (shareServer x) _ (holding-wakeFor x _ (holding-frees t s h shape x e good))
     holding-effect (waitServer code v c) o e q good =
         waitServer-cases Holding m code v c t s
-        (λ k. holding-mustWait t s h (toWel v code) (λ t s h. h) (ap (λ b. facts b .releases) e)) (λ k. h)
+        (λ k. holding-mustWait t s h (toWel (m .edition) v code) (λ t s h. h) (ap (λ b. facts b .releases) e)) (λ k. h)
         (λ k. plain e refl refl refl)
     holding-effect (waitTerms a r b) o e q good =
         waitTerms-cases Holding m a r b t s (λ k. holding-mustWait t s h toWsl (λ t s h. h) (ap (λ b. facts b .releases) e))

@@ -1,4 +1,4 @@
--- Claim 4 of demand 3, of every state of a run: of two equal waits the one that began later ended only after the other.
+-- Claim 4 of demand 3, of every state of a run under edition 1: of two equal waits the one that began later ended only after the other.
 use Prim.Native.Nat.{ℕ}
 use mathlib.Core.Path.{_≡_}
 use mathlib.Core.List.{List, reverse}
@@ -23,7 +23,7 @@ record Held (m : BlockModel) (tape : List (List ℕ)) (s : State) : Type 0 where
   settled : Settled m s
   ordered : Ordered m tape s
 
-module _ {m : BlockModel} {tape : List (List ℕ)} (proper : Proper m tape) where
+module _ {m : BlockModel} {tape : List (List ℕ)} (proper : Proper m tape) (first : m .edition ≡ 1) where
   held-turn : (s : State) → s .end ≡ 0 → Held m tape s → Held m tape (turn m s)
   held-turn s z k =
       let w = waits-kept proper s z (k .sound .shape) (k .waits) in
@@ -32,7 +32,7 @@ module _ {m : BlockModel} {tape : List (List ℕ)} (proper : Proper m tape) wher
         waits = w .0;
         settled = w .1;
         ordered =
-            ordered-turn m tape proper s z (k .sound .shape) (k .waits) (k .settled) (stands-at-most-once m tape s (k .sound)) (k .ordered);
+            ordered-turn m tape first proper s z (k .sound .shape) (k .waits) (k .settled) (stands-at-most-once m tape s (k .sound)) (k .ordered);
       }
 
   held-end : (s : State) (e : ℕ) → s .end ≡ 0 → Held m tape s → Held m tape (setEnd e s)

@@ -16,7 +16,7 @@ use Rattle.machine.specs.Term.{serverAt, free, truth}
 use Rattle.machine.specs.Block.{Code, Share, facility, storage, shareServer, shareUnits, Block, generate, advance, terminate, takes, frees, waitServer, waitTerms, moves, assign, priority, split, counts, assemble, facts, BlockModel, blockAt, backAt, beginsGroup}
 use Rattle.machine.specs.State.{State, Logged}
 use Rattle.machine.specs.Setters.{withNext, withSerial, withReturning, setMoving, setTurns, setSerial, setEnded}
-use Rattle.machine.specs.Moves.{recordOf, log, enters, moveTo, fresh, toRel, toFel, toQl, toWel, toWsl, mustWait, wakeFirstQl, wakeQl, wakeFirstWel, wakeWsl, setUse, setContent, arrival, copies, beginWait, toGatherers, comes, released}
+use Rattle.machine.specs.Moves.{recordOf, log, enters, moveTo, fresh, toRel, toFel, toQl, toWel, toWsl, mustWait, wakeQl, wakeFirstWel, wakeWsl, setUse, setContent, arrival, copies, beginWait, toGatherers, comes, released}
 use Rattle.machine.specs.Execute.{stamped, takeUnits, wakeFor, checkWels, endsOne, delay, effect}
 use Rattle.machine.specs.Turn.{sample, arriveAll, due, moveClock, nextEvents, takeFirst, takeReady, taking, answer, execute, wsScheme, turn}
 use Rattle.machine.specs.Run.{idle, startAt, start, states}
@@ -31,7 +31,7 @@ use Rattle.machine.proofs.Conservation.{Sound, sound-start, sound-takin
 use Rattle.machine.proofs.Taken.{has, has-own, standing-sum}
 use Rattle.machine.proofs.Groups.{Wait8, firstOf, back-within, group-waits, apart, begins, begins-none, target-outside}
 use Rattle.machine.proofs.Ahead.{Rising, Ahead, rising-insert, rising-those}
-use Rattle.machine.proofs.Everybody.{Maybe, Everybody, Unmoved, like as everybody-like, everybody-map, everybody-each, toRel-everybody, toFel-everybody, toQl-everybody, toWel-everybody, toWsl-everybody, moveTo-everybody, wakeFirstQl-everybody, wakeQl-everybody, wakeFirstWel-everybody, wakeWsl-everybody, idle-everybody, toGatherers-everybody, comes-everybody, released-everybody, waiter-everybody}
+use Rattle.machine.proofs.Everybody.{Maybe, Everybody, Unmoved, like as everybody-like, everybody-map, everybody-each, toRel-everybody, toFel-everybody, toQl-everybody, toWel-everybody, toWsl-everybody, moveTo-everybody, wakeFor-everybody, wakeFirstWel-everybody, wakeWsl-everybody, idle-everybody, toGatherers-everybody, comes-everybody, released-everybody, waiter-everybody}
 
 -- ---- Last entries
 
@@ -241,12 +241,12 @@ module _ {m : BlockModel} {tape : List (List ℕ)} (proper : Proper m tape) wher
             };
       }
 
-  joins-toQl : (v : ℕ) (t : Transaction) (s : State) → Inside (s .records) t → Joins s → Joins (toQl v t s)
-  joins-toQl v t s p h = lists s _ (unfold toQl in refl) (unfold toQl in refl) (unfold toQl in refl) (toQl-everybody _ (unmoved (s .records)) v t s p (h .everybody)) h
+  joins-toQl : (edition v : ℕ) (t : Transaction) (s : State) → Inside (s .records) t → Joins s → Joins (toQl edition v t s)
+  joins-toQl edition v t s p h = lists s _ (unfold toQl in refl) (unfold toQl in refl) (unfold toQl in refl) (toQl-everybody _ (unmoved (s .records)) edition v t s p (h .everybody)) h
 
-  joins-toWel : (v : ℕ) (code : Code) (t : Transaction) (s : State) → Inside (s .records) t → Joins s → Joins (toWel v code t s)
-  joins-toWel v code t s p h =
-      lists s _ (unfold toWel in refl) (unfold toWel in refl) (unfold toWel in refl) (toWel-everybody _ (unmoved (s .records)) v code t s p (h .everybody)) h
+  joins-toWel : (edition v : ℕ) (code : Code) (t : Transaction) (s : State) → Inside (s .records) t → Joins s → Joins (toWel edition v code t s)
+  joins-toWel edition v code t s p h =
+      lists s _ (unfold toWel in refl) (unfold toWel in refl) (unfold toWel in refl) (toWel-everybody _ (unmoved (s .records)) edition v code t s p (h .everybody)) h
 
   joins-toWsl : (t : Transaction) (s : State) → Inside (s .records) t → Joins s → Joins (toWsl t s)
   joins-toWsl t s p h = lists s _ (unfold toWsl in refl) (unfold toWsl in refl) (unfold toWsl in refl) (toWsl-everybody _ (unmoved (s .records)) t s p (h .everybody)) h
@@ -263,12 +263,6 @@ module _ {m : BlockModel} {tape : List (List ℕ)} (proper : Proper m tape) wher
   joins-released g t s p h =
       lists s _ (unfold released toRel in refl) (unfold released toRel in refl) (unfold released toRel in refl) (released-everybody _ (unmoved (s .records)) g t s p (h .everybody)) h
 
-  joins-wakeFirstQl : (v : ℕ) (s : State) → Joins s → Joins (wakeFirstQl v s)
-  joins-wakeFirstQl v s h = lists s _ (unfold wakeFirstQl in refl) (unfold wakeFirstQl in refl) (unfold wakeFirstQl in refl) (wakeFirstQl-everybody _ (unmoved (s .records)) v s (h .everybody)) h
-
-  joins-wakeQl : (p : Transaction → Bool) (v : ℕ) (s : State) → Joins s → Joins (wakeQl p v s)
-  joins-wakeQl p v s h = lists s _ (unfold wakeQl in refl) (unfold wakeQl in refl) (unfold wakeQl in refl) (wakeQl-everybody _ (unmoved (s .records)) p v s (h .everybody)) h
-
   joins-wakeFirstWel : (v : ℕ) (code : Code) (s : State) → Joins s → Joins (wakeFirstWel v code s)
   joins-wakeFirstWel v code s h =
       lists s _ (unfold wakeFirstWel in refl) (unfold wakeFirstWel in refl) (unfold wakeFirstWel in refl) (wakeFirstWel-everybody _ (unmoved (s .records)) v code s (h .everybody)) h
@@ -277,9 +271,8 @@ module _ {m : BlockModel} {tape : List (List ℕ)} (proper : Proper m tape) wher
   joins-checkWels v s h = checkWels-kept Joins v (joins-wakeFirstWel v) s h
 
   joins-wakeFor : (x : Share) (s : State) → Joins s → Joins (wakeFor m x s)
-  unfolding wakeFor
-  joins-wakeFor (facility v) s h = joins-wakeFirstQl v s h
-  joins-wakeFor (storage v b) s h = joins-wakeQl _ v s h
+  joins-wakeFor x s h =
+      lists s _ (unfold wakeFor wakeQl in refl) (unfold wakeFor wakeQl in refl) (unfold wakeFor wakeQl in refl) (wakeFor-everybody _ (unmoved (s .records)) m x s (h .everybody)) h
 
   joins-use : (v n holder : ℕ) (s : State) → Joins s → Joins (setUse v n holder s)
   unfolding setUse
@@ -447,12 +440,12 @@ module _ {m : BlockModel} {tape : List (List ℕ)} (proper : Proper m tape) wher
         let v : ℕ = shareServer x in
         cond-cases Joins (leb (shareUnits x) (free (serverAt (s .view) v))) _ _
         (λ fit. joins-moveTo _ t _ (next-outside e refl _ _ refl) (joins-checkWels v _ (joins-use v _ _ _ (plain e refl))))
-        (λ full. joins-wait t s p others h (toQl v) (joins-toQl v))
+        (λ full. joins-wait t s p others h (toQl (m .edition) v) (joins-toQl (m .edition) v))
     effect-joins (frees x) e k =
         joins-moveTo _ t _ (next-outside e refl _ _ refl) (joins-checkWels (shareServer x) _ (joins-wakeFor x _ (joins-use (shareServer x) _ _ _ (plain e refl))))
     effect-joins (waitServer code v c) e k =
         let is : backAt m (t .next) ≡ c = ap (λ b. facts b .back) e in
-        waitServer-cases Joins m code v c t s (λ holds. joins-wait t s p others h (toWel v code) (joins-toWel v code))
+        waitServer-cases Joins m code v c t s (λ holds. joins-wait t s p others h (toWel (m .edition) v code) (joins-toWel (m .edition) v code))
         (λ late.
         joins-moveTo _ t _
         (outside _ _ (subst (λ c. Outside (t .next - c)) is (at-first (t .next) (omega (arith, is, goes-back (ltb 0 c) (ltb (t .stamp) (s .view .clock)) refl late)))))

@@ -14,7 +14,7 @@ use Rattle.machine.specs.Term.{Queue, serverAt, queueAt, free}
 use Rattle.machine.specs.Block.{Code, Share, facility, storage, shareServer, shareUnits, Change, up, down, Block, generate, advance, terminate, takes, frees, waitServer, waitTerms, moves, assign, priority, split, counts, assemble, BlockModel, blockAt}
 use Rattle.machine.specs.State.{State, Logged}
 use Rattle.machine.specs.Setters.{setClock, setEntries, setQueues, setView, setCounter, setSamples, setQl, setWel, setWsl, setRel, setFel, setGatherers, setMoving, setSerial, setMade, setEnded, setTurns, setRecords, setWritten, setEnd}
-use Rattle.machine.specs.Moves.{log, enters, moveTo, toRel, toFel, toQl, toWel, toWsl, beginWait, mustWait, wakeFirstQl, wakeQl, wakeFirstWel, wakeWsl, setUse, setContent, timesLeft, arrival, copies, waitsFor, toGatherers, comes, released}
+use Rattle.machine.specs.Moves.{log, enters, moveTo, toRel, toFel, toQl, toWel, toWsl, beginWait, mustWait, wakeQl, wakeFirstWel, wakeWsl, setUse, setContent, timesLeft, arrival, copies, waitsFor, toGatherers, comes, released}
 use Rattle.machine.specs.Execute.{unless, living, askGenerate, askAdvance, askContent, askEnds, askHolder, held, askGathers, changed, question, takeUnits, wakeFor, checkWels, endsOne, delay, effect, freeUnits}
 use Rattle.machine.specs.Turn.{sample, arriveAll, moveClock, nextEvents, takeFirst, takeReady, taking, answer, execute, wsScheme, turn}
 use Rattle.machine.specs.Run.{startAt, idle, start}
@@ -130,13 +130,13 @@ module _ (Q : State → Type 0) (C : Closed Q) where
   unfolding mustWait log
   mustWait-kept put kept t s h = cond-cases Q (t .returning) _ _ (λ e. kept t s h) (λ e. kept _ _ (C .serial _ _ (C .written _ _ s h)))
 
-  pub toQl-kept : (v : ℕ) (t : Transaction) (s : State) → Q s → Q (toQl v t s)
+  pub toQl-kept : (edition v : ℕ) (t : Transaction) (s : State) → Q s → Q (toQl edition v t s)
   unfolding toQl
-  toQl-kept v t s h = C .ql _ _ s h
+  toQl-kept edition v t s h = C .ql _ _ s h
 
-  pub toWel-kept : (v : ℕ) (code : Code) (t : Transaction) (s : State) → Q s → Q (toWel v code t s)
+  pub toWel-kept : (edition v : ℕ) (code : Code) (t : Transaction) (s : State) → Q s → Q (toWel edition v code t s)
   unfolding toWel
-  toWel-kept v code t s h = C .wel _ _ s h
+  toWel-kept edition v code t s h = C .wel _ _ s h
 
   pub toWsl-kept : (t : Transaction) (s : State) → Q s → Q (toWsl t s)
   unfolding toWsl
@@ -146,14 +146,14 @@ module _ (Q : State → Type 0) (C : Closed Q) where
   unfolding toRel
   toRel-kept t s h = C .rel _ _ (C .serial _ s h)
 
-  pub takeUnits-kept : (x : Share) (t : Transaction) (s : State) → Q s → Q (takeUnits x t s)
+  pub takeUnits-kept : (m : BlockModel) (x : Share) (t : Transaction) (s : State) → Q s → Q (takeUnits m x t s)
   unfolding takeUnits enters log serverAt
-  takeUnits-kept x t s h =
+  takeUnits-kept m x t s h =
       cond-cases Q (leb b (free (serverAt (s .view) v))) _ _
       (λ e.
       let fits : b ≤ free (serverAt (s .view) v) = leb-true _ _ e in
       goes-on _ t _ (check-kept v _ (C .units v _ _ (enters t s) (λ w. more fits w) (enters-kept t s h))))
-      (λ e. mustWait-kept (toQl v) (toQl-kept v) t s h)
+      (λ e. mustWait-kept (toQl (m .edition) v) (toQl-kept (m .edition) v) t s h)
     where
       v : ℕ
       v = shareServer x
@@ -187,18 +187,9 @@ module _ (Q : State → Type 0) (C : Closed Q) where
   unfolding endsOne
   endsOne-kept a s h = C .stop _ _ (cond-cases Stop (leb (s .counter) a) 2 0 (λ e. tt) (λ e. tt)) (C .counter _ _ (C .ended _ s h))
 
-  pub wakeFirstQl-kept : (v : ℕ) (s : State) → Q s → Q (wakeFirstQl v s)
-  unfolding wakeFirstQl
-  wakeFirstQl-kept v s h = C .ql _ _ _ (C .rel _ s h)
-
-  pub wakeQl-kept : (p : Transaction → Bool) (v : ℕ) (s : State) → Q s → Q (wakeQl p v s)
-  unfolding wakeQl
-  wakeQl-kept p v s h = C .ql _ _ _ (C .rel _ s h)
-
   pub wakeFor-kept : (m : BlockModel) (x : Share) (s : State) → Q s → Q (wakeFor m x s)
-  unfolding wakeFor
-  wakeFor-kept m (facility v) s h = wakeFirstQl-kept v s h
-  wakeFor-kept m (storage v b) s h = wakeQl-kept _ v s h
+  unfolding wakeFor wakeQl
+  wakeFor-kept m x s h = C .ql _ _ _ (C .rel _ s h)
 
   pub toGatherers-kept : (t : Transaction) (s : State) → Q s → Q (toGatherers t s)
   unfolding toGatherers
@@ -221,11 +212,11 @@ module _ (Q : State → Type 0) (C : Closed Q) where
   effect-kept m (generate list p) t s h = goes-on _ t _ (arrival-kept _ list p _ _ (enters-kept t s h))
   effect-kept m (advance list) t s h = delay-kept _ list t _ (enters-kept t s h)
   effect-kept m (terminate a) t s h = endsOne-kept a _ (enters-kept t s h)
-  effect-kept m (takes x) t s h = takeUnits-kept x t s h
+  effect-kept m (takes x) t s h = takeUnits-kept m x t s h
   effect-kept m (frees x) t s h =
       goes-on _ t _ (check-kept (shareServer x) _ (wakeFor-kept m x _ (freeUnits-kept (shareServer x) (shareUnits x) _ (enters-kept t s h))))
   effect-kept m (waitServer code v c) t s h =
-      waitServer-cases Q m code v c t s (λ e. mustWait-kept (toWel v code) (toWel-kept v code) t s h) (λ e. goes-on _ t _ (wakeFirstWel-kept v code s h))
+      waitServer-cases Q m code v c t s (λ e. mustWait-kept (toWel (m .edition) v code) (toWel-kept (m .edition) v code) t s h) (λ e. goes-on _ t _ (wakeFirstWel-kept v code s h))
       (λ e. goes-on _ _ _ (wakeFirstWel-kept v code _ (enters-kept t s h)))
   effect-kept m (waitTerms a r b) t s h =
       waitTerms-cases Q m a r b t s (λ e. mustWait-kept toWsl toWsl-kept t s h) (λ e. goes-on _ t _ (enters-kept t s h))

@@ -17,7 +17,7 @@ use Rattle.machine.specs.Facts.{Facts}
 use Rattle.machine.specs.Block.{Share, facility, storage, shareServer, shareUnits, Block, generate, advance, terminate, takes, frees, waitServer, waitTerms, moves, assign, priority, split, counts, assemble, facts, BlockModel, blockAt}
 use Rattle.machine.specs.State.{State, Logged}
 use Rattle.machine.specs.Setters.{setMoving, setEnded}
-use Rattle.machine.specs.Moves.{recordOf, log, enters, moveTo, toRel, toFel, toQl, toWel, toWsl, mustWait, wakeFirstQl, wakeQl, wakeFirstWel, wakeWsl, setUse, setContent, timesLeft, arrival, copies, toGatherers, comes, released}
+use Rattle.machine.specs.Moves.{recordOf, log, enters, moveTo, toRel, toFel, toQl, toWel, toWsl, mustWait, wakeQl, wakeFirstWel, wakeWsl, setUse, setContent, timesLeft, arrival, copies, toGatherers, comes, released}
 use Rattle.machine.specs.Execute.{askAdvance, question, takeUnits, wakeFor, checkWels, endsOne, delay, effect}
 use Rattle.machine.specs.Turn.{arriveAll, moveClock, nextEvents, takeFirst, takeReady, taking, answer, execute, wsScheme, turn}
 use Rattle.machine.specs.Claims.{bit, timesOf, factsAt, entered, getsTime, usedBy, madeBy, endedBy, terminates}
@@ -265,9 +265,8 @@ module _ (m : BlockModel) (tape : List (List ℕ)) where
   booked-checkWels v s h = checkWels-kept Books v (λ code s h. h) s h
 
   booked-wakeFor : (x : Share) (s : State) → Books s → Books (wakeFor m x s)
-  unfolding wakeFor wakeFirstQl wakeQl
-  booked-wakeFor (facility v) s h = h
-  booked-wakeFor (storage v b) s h = h
+  unfolding wakeFor wakeQl
+  booked-wakeFor x s h = h
 
   module _ (t : Transaction) (s : State) (h : Books s) where
     module _ (plain : Plain (facts (blockAt m (t .next)))) where
@@ -278,11 +277,11 @@ module _ (m : BlockModel) (tape : List (List ℕ)) where
       booked-entered : Books (enters t s)
       booked-entered = booked-enters t s plain h
 
-      booked-takeUnits : (x : Share) → Books (takeUnits x t s)
+      booked-takeUnits : (x : Share) → Books (takeUnits m x t s)
       unfolding takeUnits moveTo setUse toQl
       booked-takeUnits x =
           cond-cases Books (leb (shareUnits x) (free (serverAt (s .view) (shareServer x)))) _ _ (λ e. booked-checkWels (shareServer x) _ booked-entered)
-          (λ e. booked-mustWait (toQl (shareServer x)) (λ t s h. h))
+          (λ e. booked-mustWait (toQl (m .edition) (shareServer x)) (λ t s h. h))
 
     -- the question was answered while t moved
     booked-effect : (b : Block) (o : Option Transaction) → blockAt m (t .next) ≡ b → question m b t (setMoving o s) ≡ 0 → ProperBlock m b → Shape m s → Books (effect m b t s)
@@ -299,7 +298,7 @@ module _ (m : BlockModel) (tape : List (List ℕ)) where
         booked-checkWels (shareServer x) _ (booked-wakeFor x _ (booked-entered (plain-facts (ap facts e) refl refl refl refl)))
     booked-effect (waitServer code v c) o e q good shape =
         let plain : Plain (facts (blockAt m (t .next))) = plain-facts (ap facts e) refl refl refl refl in
-        waitServer-cases Books m code v c t s (λ k. booked-mustWait plain (toWel v code) (λ t s h. h)) (λ k. h) (λ k. booked-entered plain)
+        waitServer-cases Books m code v c t s (λ k. booked-mustWait plain (toWel (m .edition) v code) (λ t s h. h)) (λ k. h) (λ k. booked-entered plain)
     booked-effect (waitTerms a r b) o e q good shape =
         let plain : Plain (facts (blockAt m (t .next))) = plain-facts (ap facts e) refl refl refl refl in
         waitTerms-cases Books m a r b t s (λ k. booked-mustWait plain toWsl (λ t s h. h)) (λ k. booked-entered plain)

@@ -10,9 +10,11 @@ pub mod Ledger
 pub mod StartLedger
 pub mod Conservation
 pub mod Sorted
+pub mod Lines
 pub mod Waiting
 pub mod Ready
 pub mod Queued
+pub mod QueueRemove
 pub mod Gated
 pub mod WaitsBlocks
 pub mod WaitsKept

@@ -1,4 +1,4 @@
--- Claim 3, "nobody able to go waits": where nobody moves, REL is empty and the run has no end or ended dry, the count of
+-- Claim 3, "nobody able to go waits", of edition 1: where nobody moves, REL is empty and the run has no end or ended dry, the count of
 -- waiters able to go is zero.
 use Prim.Native.Nat.{ℕ, zero, suc, _≤_}
 use mathlib.Core.Path.{_≡_, refl, sym, ap, ap₂, _∙_, subst}
@@ -47,9 +47,9 @@ module _ (m : BlockModel) (tape : List (List ℕ)) (s : State) where
   abbrev Unready : Type 0
   Unready = WaitsOver m [] (s .rel) (s .view .servers) (s .ql) (s .wel)
 
-  able-ql : Unready → (v : ℕ) → 1 ≤ v → v ≤ servers m → ableOnQl m tape s v ≡ 0
+  able-ql : m .edition ≡ 1 → Unready → (v : ℕ) → 1 ≤ v → v ≤ servers m → ableOnQl m tape s v ≡ 0
   unfolding ableOnQl fits serverAt
-  able-ql w v a b = none-pass (fits m (s .view) v) (qlOf s v) (none-fit (w .queued .ql-waits v a b))
+  able-ql first w v a b = none-pass (fits m (s .view) v) (qlOf s v) (none-fit (w .queued .ql-waits first v a b))
     where
       none-fit : QlWaits m [] (serverIn (s .view .servers) v) v (qlOf s v) → Each (λ t. fits m (s .view) v t ≡ false) (qlOf s v)
       none-fit (nobodyFits h) = h
@@ -66,16 +66,16 @@ module _ (m : BlockModel) (tape : List (List ℕ)) (s : State) where
       nobody e (nobodyWaits h) = ap length h
       nobody e (oneReady h) = absurd h
 
-  pub able-none : Waited m s → s .end ≤ 1 → s .moving ≡ none → s .rel ≡ [] → ableToGo m tape s ≡ 0
+  pub able-none : Waited m s → m .edition ≡ 1 → s .end ≤ 1 → s .moving ≡ none → s .rel ≡ [] → ableToGo m tape s ≡ 0
   unfolding ableToGo ableOnWels
-  able-none k e o r =
+  able-none k first e o r =
       let w : Unready = subst (λ ready. WaitsOver m ready (s .rel) (s .view .servers) (s .ql) (s .wel)) (ap₂ readyOf o r) (k .waits) in
       let wsl = none-pass (λ t. not (waitsOn m (s .view) t)) (s .wsl) (each-map (λ t h. ap not h) (s .wsl) (k .settled o e)) in
       let size = server-length (k .shape) in
       omega (
         arith,
         wsl,
-        upTo-zero (length (s .view .servers)) (ableOnQl m tape s) (λ v a b. able-ql w v a (omega arith)),
+        upTo-zero (length (s .view .servers)) (ableOnQl m tape s) (λ v a b. able-ql first w v a (omega arith)),
         upTo-zero (length (s .view .servers)) (ableOnWels m tape s)
             (λ v a b.
             let b′ : v ≤ servers m = omega arith in
@@ -96,5 +96,5 @@ module _ {m : BlockModel} {tape : List (List ℕ)} (proper : Proper m tape) wher
       tape (record { shape = shape-start m tape (proper .tapes); waits = waits-start m tape .0; settled = waits-start m tape .1 })
 
   pub nobody-able : (budget room : ℕ)
-      → Each (λ s. s .end ≤ 1 → s .moving ≡ none → s .rel ≡ [] → ableToGo m tape s ≡ 0) (states m tape budget room)
+      → Each (λ s. m .edition ≡ 1 → s .end ≤ 1 → s .moving ≡ none → s .rel ≡ [] → ableToGo m tape s ≡ 0) (states m tape budget room)
   nobody-able budget room = each-map (able-none m tape) (states m tape budget room) (waited budget room)

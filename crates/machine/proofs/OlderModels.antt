@@ -1,10 +1,10 @@
--- More kinds leave the run of every model that was accepted: no question and no effect reads how many there are.
+-- More kinds and editions leave the run of every model that was accepted: no question and no effect reads how many there are.
 use Prim.Native.Nat.{ℕ}
 use mathlib.Core.Path.{_≡_, refl, ap, subst, _∙_}
 use mathlib.Core.List.{List, [], _∷_}
 use mathlib.Core.Option.{Option, none, some}
 use native.Mathlib.Omega.{arith}
-use Rattle.machine.specs.Rules.{Rules, item6, document02}
+use Rattle.machine.specs.Rules.{Rules, item6, item8, document02}
 use Rattle.machine.specs.Transaction.{Transaction, Gatherer}
 use Rattle.machine.specs.Block.{facility, storage, Block, generate, advance, terminate, takes, frees, waitServer, waitTerms, moves, assign, priority, split, counts, assemble, BlockModel, blockAt}
 use Rattle.machine.specs.State.{State}
@@ -19,9 +19,9 @@ use Rattle.machine.proofs.WiderParsing.{withRules}
 use Rattle.machine.proofs.SameTurns.{AnsweredAlike, takenFrom, turn-same, accepted-same, run-same}
 use Rattle.machine.proofs.OlderTapes.{Accepted, validated}
 
-module _ (kinds : ℕ) (m : BlockModel) where
+module _ (kinds editions : ℕ) (m : BlockModel) where
   abbrev new : Rules
-  new = counting kinds (m .rules)
+  new = counting kinds editions (m .rules)
 
   abbrev m′ : BlockModel
   m′ = withRules new m
@@ -69,23 +69,27 @@ module _ (kinds : ℕ) (m : BlockModel) where
 
 pub keeps-models : (rules : Rules) → KeepsModels rules
 unfolding outcome outcomeOf refusedRun
-keeps-models rules fewer more le model tape budget work room report =
-    go (validate old model tape work report) (validate (counting more rules) model tape work report) refl
-    (validated (record { clock = omega arith; time = omega arith; number = omega arith; kinds = le }) model tape work report)
+keeps-models rules kinds editions kinds′ editions′ le later model tape budget work room report =
+    go (validate old model tape work report) (validate (counting kinds′ editions′ rules) model tape work report) refl
+    (validated (record { clock = omega arith; time = omega arith; number = omega arith; kinds = le; editions = later }) model tape work report)
   where
     old : Rules
-    old = counting fewer rules
+    old = counting kinds editions rules
 
-    go : (v v′ : Validation) → validate old model tape work report ≡ v → Accepted (counting more rules) v v′ → outcomeOf budget room v .refusal ≡ 0
+    go : (v v′ : Validation) → validate old model tape work report ≡ v → Accepted (counting kinds′ editions′ rules) v v′ → outcomeOf budget room v .refusal ≡ 0
         → outcomeOf budget room v′ ≡ outcomeOf budget room v
     go (accept m t) v′ e h z =
-        let is : counting more (m .rules) ≡ counting more rules = ap (counting more) (rules-from old model tape work report e) in
+        let is : counting kinds′ editions′ (m .rules) ≡ counting kinds′ editions′ rules = ap (counting kinds′ editions′) (rules-from old model tape work report e) in
         ap (outcomeOf budget room) h
         ∙ subst (λ (r : Rules). acceptedRun (withRules r m) (run (withRules r m) t budget room) ≡ acceptedRun m (run m t budget room)) is
-        (ap (acceptedRun (m′ more m)) (kinds-same more m t budget room) ∙ accepted-same (new more m) m (run m t budget room))
+        (ap (acceptedRun (m′ kinds′ editions′ m)) (kinds-same kinds′ editions′ m t budget room) ∙ accepted-same (new kinds′ editions′ m) m (run m t budget room))
     go (reject n) v′ e h z = absurd (omega (arith, refusal-from old model tape work report e .0))
 
--- item 7
+-- items 7, 8 and 12: "Edition 2 in the model's first number selects it"; what edition 1 gave it gives
 pub older-models : (model tape : List ℕ) (budget work room report : ℕ) → outcome item6 model tape budget work room report .refusal ≡ 0
     → outcome document02 model tape budget work room report ≡ outcome item6 model tape budget work room report
-older-models = keeps-models document02 (item6 .kinds) (document02 .kinds) (omega arith)
+older-models = keeps-models document02 (item6 .kinds) (item6 .editions) (document02 .kinds) (document02 .editions) (omega arith) (omega arith)
+
+pub first-edition : (model tape : List ℕ) (budget work room report : ℕ) → outcome item8 model tape budget work room report .refusal ≡ 0
+    → outcome document02 model tape budget work room report ≡ outcome item8 model tape budget work room report
+first-edition = keeps-models document02 (item8 .kinds) (item8 .editions) (document02 .kinds) (document02 .editions) (omega arith) (omega arith)

@@ -53,7 +53,7 @@ module _ {old new : Rules} (wider : Wider old new) where
   validated model tape work report =
       asked new (leb workNumbers work) 1 _ _
       (asked new (leb reportRoom report) 2 _ _
-      (with-model model tape (modelOf old model beginning) (modelOf new model beginning) refl (model-follows new old model (wider .kinds) beginning)))
+      (with-model model tape (modelOf old model beginning) (modelOf new model beginning) refl (model-follows new old model (wider .kinds) (wider .editions) beginning)))
 
   -- ---- Traces
 
@@ -104,10 +104,10 @@ keeps-runs {old} {new} less model tape budget work room report =
 -- ---- Documents 01 and 02
 
 wider-year : Wider document01 item1
-wider-year = record { clock = omega arith; time = omega arith; number = omega arith; kinds = omega arith }
+wider-year = record { clock = omega arith; time = omega arith; number = omega arith; kinds = omega arith; editions = omega arith }
 
 pub older-runs : KeepsRuns document01 item1
 older-runs = keeps-runs (record { wider = wider-year; holders = refl })
 
 pub older-traces : KeepsTraces document01 document02
-older-traces = keeps-traces (record { clock = omega arith; time = omega arith; number = omega arith; kinds = omega arith })
+older-traces = keeps-traces (record { clock = omega arith; time = omega arith; number = omega arith; kinds = omega arith; editions = omega arith })

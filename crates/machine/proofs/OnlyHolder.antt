@@ -16,7 +16,7 @@ use Rattle.machine.specs.Term.{serverAt}
 use Rattle.machine.specs.Block.{facility, storage, shareServer, shareUnits, shareFacility, Block, generate, advance, terminate, takes, frees, waitServer, waitTerms, moves, assign, priority, split, counts, assemble, facts, BlockModel, blockAt}
 use Rattle.machine.specs.State.{State, Logged}
 use Rattle.machine.specs.Setters.{setMoving}
-use Rattle.machine.specs.Moves.{recordOf, log, enters, moveTo, wakeFirstQl, wakeFirstWel, wakeWsl, setUse, timesLeft, waitsFor, beginWait, mustWait, comes, released, toRel}
+use Rattle.machine.specs.Moves.{recordOf, log, enters, moveTo, wakeQl, wakeFirstWel, wakeWsl, setUse, timesLeft, waitsFor, beginWait, mustWait, comes, released, toRel}
 use Rattle.machine.specs.Execute.{unless, askGenerate, askAdvance, askHolder, held, question, wakeFor, endsOne, effect, takeUnits, askGathers, gathers, gathering}
 use Rattle.machine.specs.Turn.{answer, execute, wsScheme, turn}
 use Rattle.machine.specs.Run.{run}
@@ -152,7 +152,7 @@ module _ (m : BlockModel) (tape : List (List ℕ)) (proper : Proper m tape) wher
           ∙ or-else (eqb v 0) (eqb (holderBy m tape (s .records) v) (t .number)) (ne-eqb v 0 (λ e. omega arith)) by
 
       freed-records : (v : ℕ) → effect m (frees (facility v)) t (setMoving none s) .records ≡ r ∷ s .records
-      unfolding effect moveTo shareServer shareUnits wakeFor wakeFirstQl wakeFirstWel setUse enters log recordOf takeUnits
+      unfolding effect moveTo shareServer shareUnits wakeFor wakeQl wakeFirstWel setUse enters log recordOf takeUnits
       freed-records v = checkWels-kept (λ s′. s′ .records ≡ r ∷ s .records) v (λ code s′ h. h) _ refl
 
       release-same : (v : ℕ) → Names (m .facilities) v → facts (blockAt m (t .next)) .releases ≡ v
@@ -257,7 +257,7 @@ module _ (rules : Rules) where
   unfolding validate under
   validated model tape work report =
       first (leb workNumbers work) 1 _ _
-      (first (leb reportRoom report) 2 _ _ (ap (withModel tape) (model-read asked old refl model beginning) ∙ model-same model tape (modelOf old model beginning) refl))
+      (first (leb reportRoom report) 2 _ _ (ap (withModel tape) (model-read asked old refl refl model beginning) ∙ model-same model tape (modelOf old model beginning) refl))
     where
       first : (b : Bool) (n : ℕ) (x x′ : Validation) → x′ ≡ under x → cond b x′ (reject n) ≡ under (cond b x (reject n))
       first true n x x′ e = e

@@ -1,4 +1,4 @@
--- The order of waits is kept by every turn.
+-- Edition 1: the order of waits is kept by every turn.
 use Prim.Native.Nat.{ℕ, zero, suc, _+_, _*_, _≤_}
 use mathlib.Core.Path.{_≡_, refl, sym, ap, subst, _∙_}
 use mathlib.Core.Bool.{Bool, true, cond, true≢false}
@@ -59,7 +59,7 @@ module _ (m : BlockModel) (tape : List (List ℕ)) where
 
   -- ---- One block, of the transaction in hand
 
-  module _ (t : Transaction) (s : State) (h : InHand m t s) (in-order : InOrder m tape (reverse (s .records))) where
+  module _ (first : m .edition ≡ 1) (t : Transaction) (s : State) (h : InHand m t s) (in-order : InOrder m tape (reverse (s .records))) where
     -- with nobody moving
     abbrev idle-hand : State
     idle-hand = setMoving none s
@@ -71,23 +71,22 @@ module _ (m : BlockModel) (tape : List (List ℕ)) where
     unfolding enters log recordOf waiting
     ordered-step s′ (passes g q) =
         ordered-as s′ (q .records) (q .serials) (λ f k. q .weights f) (q .moving tt) (linked-passes t idle-hand (h .alone) (h .linked))
-        (order-more m tape _ (s .records) (ends-in-order m tape t idle-hand (h .alone) (h .linked) (λ e. (h .in-place e, g))) in-order)
+        (order-more m tape _ (s .records) (ends-in-order m tape t idle-hand (h .alone) (h .linked) first (λ e. (h .in-place e, g))) in-order)
     ordered-step s′ (begins e p) =
         ordered-as s′ (p .records) (omega arith) (λ f k. p .weights f) (rw (p .moving) tt) (linked-begins t idle-hand (h .alone) (h .linked))
         (order-more m tape _ (s .records)
-        (ends-in-order m tape t idle-hand (h .alone) (h .linked) (λ r. absurd (true≢false (sym r ∙ e)))) in-order)
+        (ends-in-order m tape t idle-hand (h .alone) (h .linked) first (λ r. absurd (true≢false (sym r ∙ e)))) in-order)
     ordered-step s′ (back e p) =
         ordered-as s′ (p .records) (omega arith) (λ f k. omega (arith, p .weights f, weight-back (t .returning) (weight f t) e))
         (rw (p .moving) tt) (h .linked) in-order
     ordered-step s′ (returns z q) =
         ordered-as s′ (q .records) (q .serials)
         (λ f k. omega (arith, q .weights f, cond-cases (λ n. n ≡ 0) (t .returning) (weight f t) 0 (λ e. k (waitOf t) z) (λ e. refl))) (q .moving tt) (h .linked) in-order
-
     ordered-step s′ (assembles z q) =
         ordered-as s′ (q .records) (q .serials) (λ f k. omega (arith, q .weights f, k (waitOf (withSerial (fresh idle-hand) t)) z)) (q .moving tt)
         (linked-begins t idle-hand (h .alone) (h .linked))
         (order-more m tape _ (s .records)
-        (ends-in-order m tape t idle-hand (h .alone) (h .linked) (λ r. (h .in-place r, λ n. absurd (n z)))) in-order)
+        (ends-in-order m tape t idle-hand (h .alone) (h .linked) first (λ r. (h .in-place r, λ n. absurd (n z)))) in-order)
 
     -- a question stops the run
     ordered-stop : (n : ℕ) → Ordered (setEnd (suc n) s)
@@ -106,14 +105,14 @@ module _ (m : BlockModel) (tape : List (List ℕ)) where
 
   -- ---- A turn
 
-  module _ (proper : Proper m tape) where
+  module _ (first : m .edition ≡ 1) (proper : Proper m tape) where
     ordered-execute : (s : State) → Handed m s → InOrder m tape (reverse (s .records)) → Shape m s → Ordered (execute (s .moving) m s)
     unfolding execute
     ordered-execute s (nobody e l) in-order shape =
         subst (λ o. Ordered (execute o m s)) (sym e)
         (record { linked = l; in-order = in-order; unmarked = λ z. subst Unmarked (sym e) tt })
     ordered-execute s (hand t h) in-order shape =
-        subst (λ o. Ordered (execute o m s)) (sym (h .moves)) (ordered-answer t s h in-order proper shape (question m (blockAt m (t .next)) t s))
+        subst (λ o. Ordered (execute o m s)) (sym (h .moves)) (ordered-answer first t s h in-order proper shape (question m (blockAt m (t .next)) t s))
 
     ordered-wakeWsl : (p : Transaction → Bool) (s : State) → Ordered s → Ordered (wakeWsl p s)
     unfolding wakeWsl

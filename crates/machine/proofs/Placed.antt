@@ -10,10 +10,10 @@ use lib.ListN.{length, getD}
 use Rattle.machine.specs.Limits.{maxPriority}
 use Rattle.machine.specs.Transaction.{Transaction, newborn}
 use Rattle.machine.specs.Term.{compare, serverAt, free, truth, Condition, always, whenTrue}
-use Rattle.machine.specs.Block.{Share, facility, storage, shareServer, shareUnits, Block, generate, advance, terminate, takes, frees, waitServer, waitTerms, moves, assign, priority, split, counts, assemble, facts, BlockModel, blockAt, unconditional}
+use Rattle.machine.specs.Block.{Share, shareServer, shareUnits, Block, generate, advance, terminate, takes, frees, waitServer, waitTerms, moves, assign, priority, split, counts, assemble, facts, BlockModel, blockAt, unconditional}
 use Rattle.machine.specs.State.{State}
 use Rattle.machine.specs.Setters.{withNext, setMoving, setTurns}
-use Rattle.machine.specs.Execute.{effect, takeUnits, wakeFor}
+use Rattle.machine.specs.Execute.{effect, takeUnits}
 use Rattle.machine.specs.Turn.{taking, answer, execute, turn}
 use Rattle.machine.specs.Run.{startAt, start, states}
 use Rattle.machine.specs.Claims.{Each}
@@ -23,7 +23,7 @@ use Rattle.machine.proofs.Proper.{Names, ProperBlock, Proper, generates
 use Rattle.machine.proofs.Groups.{and-right, blocks-placed, back-within}
 use Rattle.machine.proofs.RunLaws.{cond-cases, each-state}
 use Rattle.machine.proofs.Cases.{waitServer-cases, waitTerms-cases, assemble-cases, startOf-cases}
-use Rattle.machine.proofs.Everybody.{Maybe, Everybody, Unmoved, toRel-everybody, waitQl-everybody, waitWel-everybody, waitWsl-everybody, moveTo-everybody, wakeFirstQl-everybody, wakeQl-everybody, wakeFirstWel-everybody, checkWels-everybody, wsScheme-everybody, arrival-everybody, copies-everybody, delay-everybody, enters-everybody, inUse-everybody, content-everybody, endsOne-everybody, ended-everybody, begins-everybody, waiter-everybody, comes-everybody, released-everybody, taking-everybody, idle-everybody}
+use Rattle.machine.proofs.Everybody.{Maybe, Everybody, Unmoved, toRel-everybody, waitQl-everybody, waitWel-everybody, waitWsl-everybody, moveTo-everybody, wakeFor-everybody, wakeFirstWel-everybody, checkWels-everybody, wsScheme-everybody, arrival-everybody, copies-everybody, delay-everybody, enters-everybody, inUse-everybody, content-everybody, endsOne-everybody, ended-everybody, begins-everybody, waiter-everybody, comes-everybody, released-everybody, taking-everybody, idle-everybody}
 
 -- ---- Question 7: behind a block that lets its transaction go on stands another
 
@@ -63,17 +63,12 @@ module _ (m : BlockModel) (tape : List (List ℕ)) (proper : Proper m tape) wher
     h′ : Everybody P (Rattle.machine.specs.Moves.enters t s)
     h′ = enters-everybody P U t s h
 
-    units-placed : (x : Share) → P (withNext (suc (t .next)) t) → Everybody P (takeUnits x t s)
+    units-placed : (x : Share) → P (withNext (suc (t .next)) t) → Everybody P (takeUnits m x t s)
     unfolding takeUnits
     units-placed x next =
         let v : ℕ = shareServer x in
         cond-cases (Everybody P) (leb (shareUnits x) (free (serverAt (s .view) v))) _ _
-        (λ e. moveTo-everybody P U _ t _ next (checkWels-everybody P U v _ (inUse-everybody P U v _ _ _ h′))) (λ e. waitQl-everybody P U v t s p h)
-
-    wakeFor-everybody : (x : Share) (s : State) → Everybody P s → Everybody P (wakeFor m x s)
-    unfolding wakeFor
-    wakeFor-everybody (facility v) s h = wakeFirstQl-everybody P U v s h
-    wakeFor-everybody (storage v b) s h = wakeQl-everybody P U _ v s h
+        (λ e. moveTo-everybody P U _ t _ next (checkWels-everybody P U v _ (inUse-everybody P U v _ _ _ h′))) (λ e. waitQl-everybody P U (m .edition) v t s p h)
 
     moves-placed : (c : Condition) (target : ℕ) → Names (length (m .blocks)) target → (unconditional c ≡ false → P (withNext (suc (t .next)) t))
         → P (withNext (cond (truth (m .values) (s .view) (t .parameters) c) target (suc (t .next))) t)
@@ -91,9 +86,9 @@ module _ (m : BlockModel) (tape : List (List ℕ)) (proper : Proper m tape) wher
     effect-placed (takes x) ok on behind = units-placed x (on refl)
     effect-placed (frees x) ok on behind =
         moveTo-everybody P U _ t _ (on refl)
-        (checkWels-everybody P U (shareServer x) _ (wakeFor-everybody x _ (inUse-everybody P U (shareServer x) _ _ _ h′)))
+        (checkWels-everybody P U (shareServer x) _ (wakeFor-everybody P U m x _ (inUse-everybody P U (shareServer x) _ _ _ h′)))
     effect-placed (waitServer code v c) ok on behind =
-        waitServer-cases (Everybody P) m code v c t s (λ e. waitWel-everybody P U v code t s p h)
+        waitServer-cases (Everybody P) m code v c t s (λ e. waitWel-everybody P U (m .edition) v code t s p h)
         (λ e. moveTo-everybody P U _ t _ ((omega arith, omega arith), p .1) (wakeFirstWel-everybody P U v code s h))
         (λ e. moveTo-everybody P U _ _ _ (on refl) (wakeFirstWel-everybody P U v code _ h′))
     effect-placed (waitTerms a r b) ok on behind =

@@ -243,13 +243,13 @@ module _ (rules : Rules) (s : List ℕ) where
   model-fields : Ensures (ProperModel rules) (modelFields s rules)
   unfolding modelFields
   model-fields =
-      then (ranged s 1 1) (λ edition he. then (ranged s 0 Limits.maxFacilities) (λ facilities hf. then (ranged s 0 Limits.maxStorages) (λ storages hs.
+      then (ranged s 1 (rules .editions)) (λ edition he. then (ranged s 0 Limits.maxFacilities) (λ facilities hf. then (ranged s 0 Limits.maxStorages) (λ storages hs.
       then (repeated storages (ranged s 1 Limits.maxCapacity)) (λ capacities hc. then (ranged s 0 Limits.maxQueues) (λ queues hq.
       then (ranged s 0 Limits.maxValues) (λ values hv. then (value-fields s _ values 0) (λ sums hm. then (ranged s 0 Limits.maxLists) (λ lists hl.
       then (ranged s 1 Limits.maxCounter) (λ counter hn. then (ranged s 1 Limits.maxBlocks) (λ blocks hb.
       then (repeated blocks (block-good s _ capacities (rules .kinds))) (λ program hp.
       let m : BlockModel =
-      record { rules = rules; facilities = facilities; capacities = capacities; queues = queues; values = sums; lists = lists; counter = counter; blocks = program } in
+      record { rules = rules; edition = edition; facilities = facilities; capacities = capacities; queues = queues; values = sums; lists = lists; counter = counter; blocks = program } in
       gives
       (record {
         own = refl;

@@ -10,16 +10,18 @@ use lib.ListN.{length, take, drop}
 use lib.Seq.{getD-set-same, getD-set-other, set-getD}
 use borrow.Author.Tests.{leb-false, lt-leb, not-true}
 use Rattle.machine.specs.Transaction.{Transaction, precedes}
-use Rattle.machine.specs.Lists.{insert, those, others, nth, setNth}
+use Rattle.machine.specs.Lists.{others, nth, setNth}
 use Rattle.machine.specs.Term.{Server, idleServer, free}
 use Rattle.machine.specs.Block.{facility, storage, shareServer, shareUnits, Block, facts, BlockModel, blockAt}
 use Rattle.machine.specs.Setters.{withUse, withReturning}
-use Rattle.machine.specs.Moves.{wake}
+use Rattle.machine.specs.Moves.{lineUp, wake, Parted, firstOf, partBy}
+use Rattle.machine.specs.Execute.{unitsOf}
 use Rattle.machine.specs.Claims.{Each}
 use Rattle.machine.proofs.Proper.{Proper, ProperBlock, servers, Role, generating, taking, neither, role}
 use Rattle.machine.proofs.RunLaws.{each-map}
-use Rattle.machine.proofs.Sorted.{Sorted, each-insert, each-those, each-passes, each-drop, some-inserted, at-set, sorted-drop, sorted-those, sorted-in}
-use Rattle.machine.proofs.Waiting.{serverOf, unitsOf, AtServer, serverIn, Next, QlWaits, nobodyFits, nextReady, Queued}
+use Rattle.machine.proofs.Sorted.{Sorted, each-passes, some-inserted, at-set, sorted-drop, sorted-those}
+use Rattle.machine.proofs.Lines.{each-lineUp, sorted-lineUp, Both}
+use Rattle.machine.proofs.Waiting.{serverOf, AtServer, serverIn, Next, QlWaits, nobodyFits, nextReady, Queued}
 use Rattle.machine.proofs.Ready.{Grows, grows-not, grows-wake, ql-more, ql-else}
 
 -- ---- The units of a SEIZE
@@ -44,33 +46,33 @@ module _ {m : BlockModel} {t : Transaction} {rel : List Transaction} {l : List S
   q = nth ql v []
 
   queued-set : (x : Server) (q′ rel′ : List Transaction) → ((v′ : ℕ) → 1 ≤ v′ → (v′ ≡ v → ⊥) → AtServer m v′ t → ⊥)
-      → Grows rel rel′ → Sorted precedes q′ → Each (AtServer m v) q′ → QlWaits m rel′ x v q′
+      → Grows rel rel′ → (m .edition ≡ 1 → Sorted precedes q′) → Each (AtServer m v) q′ → (m .edition ≡ 1 → QlWaits m rel′ x v q′)
       → Queued m rel′ rel′ (setNth l v x) (setNth ql v q′)
   queued-set x q′ rel′ leaves grows sorted stands waits =
       record {
         rel-sorted = grows .sorted (w .rel-sorted);
-        ql-sorted = λ k. at-set (Sorted precedes) ql (v - 1) k q′ [] (λ e. sorted) (w .ql-sorted k);
+        ql-sorted = λ first k. at-set (Sorted precedes) ql (v - 1) k q′ [] (λ e. sorted first) (w .ql-sorted first k);
         ql-stands = λ v′ a.
             at-set (Each (AtServer m v′)) ql (v - 1) (v′ - 1) q′ []
             (λ e. each-map (λ x h. h ∙ omega arith) q′ stands) (w .ql-stands v′ a);
-        ql-waits = λ v′ a b. at v′ a b (ℕ-discrete v′ v);
+        ql-waits = λ first v′ a b. at first v′ a b (ℕ-discrete v′ v);
       }
     where
-      at : (v′ : ℕ) → 1 ≤ v′ → v′ ≤ servers m → Dec (v′ ≡ v) → QlWaits m rel′ (serverIn (setNth l v x) v′) v′ (nth (setNth ql v q′) v′ [])
-      at v′ a b (yes e) =
-          rw (e, getD-set-same l (v - 1) x (idleServer 0) (omega arith), getD-set-same ql (v - 1) q′ [] (omega arith)) waits
-      at v′ a b (no n) =
+      at : m .edition ≡ 1 → (v′ : ℕ) → 1 ≤ v′ → v′ ≤ servers m → Dec (v′ ≡ v) → QlWaits m rel′ (serverIn (setNth l v x) v′) v′ (nth (setNth ql v q′) v′ [])
+      at first v′ a b (yes e) =
+          rw (e, getD-set-same l (v - 1) x (idleServer 0) (omega arith), getD-set-same ql (v - 1) q′ [] (omega arith)) (waits first)
+      at first v′ a b (no n) =
           let d : v′ - 1 ≡ v - 1 → ⊥ = λ e. n (omega arith) in
           rw (getD-set-other l (v - 1) (v′ - 1) x (idleServer 0) d, getD-set-other ql (v - 1) (v′ - 1) q′ [] d)
-          (ql-more (grows .keeps) (ql-else (leaves v′ a n) (w .ql-waits v′ a b)))
+          (ql-more (grows .keeps) (ql-else (leaves v′ a n) (w .ql-waits first v′ a b)))
 
   -- 4 SEIZE and 6 ENTER, getting in
   pub taken-queued : {tape : List (List ℕ)} (b holder : ℕ) → Proper m tape → v ≤ servers m → (v ≤ m .facilities → serverIn l v .capacity ≡ 1)
       → AtServer m v t → unitsOf m t ≡ b → Queued m rel rel (setNth l v (withUse (serverIn l v .inUse + b) holder (serverIn l v))) ql
   taken-queued b holder proper known whole at units =
       subst (λ ql′. Queued m rel rel (setNth l v x) ql′) (set-getD ql (v - 1) [])
-      (queued-set x q rel (λ v′ a n h. n (sym h ∙ at)) (grows-not rel) (w .ql-sorted (v - 1)) (w .ql-stands v one)
-      (waits (w .ql-waits v one known)))
+      (queued-set x q rel (λ v′ a n h. n (sym h ∙ at)) (grows-not rel) (λ first. w .ql-sorted first (v - 1)) (w .ql-stands v one)
+      (λ first. waits (w .ql-waits first v one known)))
     where
       x : Server
       x = withUse (serverIn l v .inUse + b) holder (serverIn l v)
@@ -86,12 +88,12 @@ module _ {m : BlockModel} {t : Transaction} {rel : List Transaction} {l : List S
 
   -- and not getting in
   pub waits-queued : {tape : List (List ℕ)} (t′ : Transaction) → Proper m tape → v ≤ servers m → AtServer m v t → AtServer m v t′
-      → leb (unitsOf m t′) (free (serverIn l v)) ≡ false → Queued m rel rel l (setNth ql v (insert precedes t′ q))
+      → leb (unitsOf m t′) (free (serverIn l v)) ≡ false → Queued m rel rel l (setNth ql v (lineUp (m .edition) t′ q))
   waits-queued t′ proper known at at′ full =
-      subst (λ l′. Queued m rel rel l′ (setNth ql v (insert precedes t′ q))) (set-getD l (v - 1) (idleServer 0))
-      (queued-set (serverIn l v) (insert precedes t′ q) rel (λ v′ a n h. n (sym h ∙ at)) (grows-not rel)
-      (sorted-in t′ q (w .ql-sorted (v - 1))) (each-insert (AtServer m v) precedes t′ q at′ (w .ql-stands v one))
-      (nobodyFits (each-insert Full precedes t′ q full (waits (w .ql-waits v one known)))))
+      subst (λ l′. Queued m rel rel l′ (setNth ql v (lineUp (m .edition) t′ q))) (set-getD l (v - 1) (idleServer 0))
+      (queued-set (serverIn l v) (lineUp (m .edition) t′ q) rel (λ v′ a n h. n (sym h ∙ at)) (grows-not rel)
+      (λ first. sorted-lineUp (m .edition) t′ q first (w .ql-sorted first (v - 1))) (each-lineUp (AtServer m v) (m .edition) t′ q at′ (w .ql-stands v one))
+      (λ first. nobodyFits (each-lineUp Full (m .edition) t′ q full (waits (w .ql-waits first v one known)))))
     where
       Full : Transaction → Type 0
       Full u = leb (unitsOf m u) (free (serverIn l v)) ≡ false
@@ -102,23 +104,31 @@ module _ {m : BlockModel} {t : Transaction} {rel : List Transaction} {l : List S
           each-map (λ u e. ap (λ n. leb n (free (serverIn l v))) (facility-units proper v u one f e ∙ sym (facility-units proper v t′ one f at′)) ∙ full)
           q (w .ql-stands v one)
 
-  -- 5 RELEASE: the first of the QL goes to REL
-  pub first-queued : (x : Server) → v ≤ m .facilities → serverOf m t ≡ 0
-      → Queued m (wake (take 1 q) rel) (wake (take 1 q) rel) (setNth l v x) (setNth ql v (drop 1 q))
+  -- 5 RELEASE and 7 LEAVE: some of the QL go to REL
+
+  -- what edition 1 knows of who stays on the QL of a server that is now x
+  abbrev pub Kept : Server → Parted → Type 0
+  Kept x p = Sorted precedes (p .stay) × QlWaits m (wake (p .go) rel) x v (p .stay)
+
+  pub parted-queued : (x : Server) (p : Parted) → Both (AtServer m v) p → (m .edition ≡ 1 → Kept x p) → serverOf m t ≡ 0
+      → Queued m (wake (p .go) rel) (wake (p .go) rel) (setNth l v x) (setNth ql v (p .stay))
+  parted-queued x p both kept off =
+      queued-set x (p .stay) (wake (p .go) rel) (λ v′ a n h. omega arith) (grows-wake (p .go) rel)
+      (λ first. kept first .0) (both .1) (λ first. kept first .1)
+
+  -- the first
+  pub first-kept : (x : Server) → v ≤ m .facilities → m .edition ≡ 1 → Kept x (firstOf q)
   unfolding wake precedes
-  first-queued x f off =
-      queued-set x (drop 1 q) (wake (take 1 q) rel) (λ v′ a n h. omega arith) (grows-wake (take 1 q) rel)
-      (sorted-drop precedes q (w .ql-sorted (v - 1))) (each-drop (AtServer m v) q (w .ql-stands v one))
-      (waits q (w .ql-sorted (v - 1)) (w .ql-stands v one))
+  first-kept x f first = (sorted-drop precedes q (w .ql-sorted first (v - 1)), waits q (w .ql-sorted first (v - 1)) (w .ql-stands v one))
     where
       waits : (l : List Transaction) → Sorted precedes l → Each (AtServer m v) l → QlWaits m (wake (take 1 l) rel) x v (drop 1 l)
       waits [] h k = nobodyFits tt
       waits (y ∷ l) h k = nextReady f (some-inserted (Next m v l) precedes (withReturning true y) rel (k .0, h .0))
 
-  -- 7 LEAVE: all that fit go to REL
-  pub fitting-queued : (x : Server) (p : Transaction → Bool) → ((u : Transaction) → p u ≡ false → leb (unitsOf m u) (free x) ≡ false)
-      → serverOf m t ≡ 0 → Queued m (wake (those p q) rel) (wake (those p q) rel) (setNth l v x) (setNth ql v (others p q))
-  fitting-queued x p fits off =
-      queued-set x (others p q) (wake (those p q) rel) (λ v′ a n h. omega arith) (grows-wake (those p q) rel)
-      (sorted-those precedes (λ u. not (p u)) q (w .ql-sorted (v - 1))) (each-those (AtServer m v) (λ u. not (p u)) q (w .ql-stands v one))
-      (nobodyFits (each-map (λ u e. fits u (not-true _ e)) (others p q) (each-passes (λ u. not (p u)) q)))
+  -- all that fit
+  pub fitting-kept : (x : Server) (p : Transaction → Bool) → ((u : Transaction) → p u ≡ false → leb (unitsOf m u) (free x) ≡ false)
+      → m .edition ≡ 1 → Kept x (partBy p q)
+  fitting-kept x p fits first = (
+    sorted-those precedes (λ u. not (p u)) q (w .ql-sorted first (v - 1)),
+    nobodyFits (each-map (λ u e. fits u (not-true _ e)) (others p q) (each-passes (λ u. not (p u)) q)),
+  )

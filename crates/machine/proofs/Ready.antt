@@ -52,11 +52,11 @@ module _ {m : BlockModel} {ready ready′ : List Transaction} (keeps : (P : Tran
         rel-sorted = sorted (w .rel-sorted);
         ql-sorted = w .ql-sorted;
         ql-stands = w .ql-stands;
-        ql-waits = λ v a b. ql-more (w .ql-waits v a b);
+        ql-waits = λ e v a b. ql-more (w .ql-waits e v a b);
       }
 
   gated-more : {l : List Server} {wel : List (List Transaction)} → Gated m ready l wel → Gated m ready′ l wel
-  gated-more w = record { wel-stands = w .wel-stands; wel-waits = λ v code a b. wel-more (w .wel-waits v code a b) }
+  gated-more w = record { wel-sorted = w .wel-sorted; wel-stands = w .wel-stands; wel-waits = λ v code a b. wel-more (w .wel-waits v code a b) }
 
   pub waits-more : {rel rel′ : List Transaction} {l : List Server} {ql wel : List (List Transaction)} → (Sorted precedes rel → Sorted precedes rel′)
       → WaitsOver m ready rel l ql wel → WaitsOver m ready′ rel′ l ql wel

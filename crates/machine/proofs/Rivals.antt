@@ -1,4 +1,4 @@
--- Who gets in leaves no open rival behind that began to wait before it: such a one would stand on REL before the first, or on
+-- Edition 1: who gets in leaves no open rival behind that began to wait before it: such a one would stand on REL before the first, or on
 -- the QL of a server that it fits, with nobody ready whom it does not precede.
 use Prim.Native.Nat.{ℕ, zero, suc, _+_, _-_, _≤_, _<_}
 use mathlib.Core.Path.{_≡_, refl, sym, ap, ap₂, subst, _∙_}
@@ -15,12 +15,13 @@ use Rattle.machine.specs.Lists.{flat}
 use Rattle.machine.specs.Term.{View, free}
 use Rattle.machine.specs.Block.{Block, facts, BlockModel, blockAt}
 use Rattle.machine.specs.State.{State}
+use Rattle.machine.specs.Execute.{unitsOf}
 use Rattle.machine.specs.Turn.{holds, waitsOn}
 use Rattle.machine.specs.Claims.{Each, bit}
 use Rattle.machine.proofs.Proper.{servers, Role, generating, taking, neither, role}
 use Rattle.machine.proofs.RunLaws.{cond-cases}
 use Rattle.machine.proofs.Sorted.{Some, Before, before-precedes}
-use Rattle.machine.proofs.Waiting.{serverOf, unitsOf, serverIn, QlWaits, nobodyFits, nextReady, Queued, Gated}
+use Rattle.machine.proofs.Waiting.{serverOf, serverIn, QlWaits, nobodyFits, nextReady, Queued, Gated}
 use Rattle.machine.proofs.Records.{Key, Member, Behind, opens, Rivals, EndsInOrder}
 use Rattle.machine.proofs.Sums.{sumOn, sum-zero}
 use Rattle.machine.proofs.SumFacts.{sum-some, sum-which}
@@ -106,7 +107,7 @@ Standing m t s = StandingOn m t (s .view) (s .ql) (s .wel) (s .wsl) (s .rel)
 
 -- an older rival w of one that gets in stands on none of the lists
 module _ (m : BlockModel) (tape : List (List ℕ)) (t : Transaction) (s : State) (in-place : Standing m t s)
-    (gets-in : GetsIn (blockAt m (t .next)) s) (w : Wait) (rival : Rivals m tape (w .key) (waitOf t .key)) (older : w .serial < t .serial) where
+    (gets-in : GetsIn (blockAt m (t .next)) s) (w : Wait) (rival : Rivals m tape (w .key) (waitOf t .key)) (older : w .serial < t .serial) (first : m .edition ≡ 1) where
   only-ql : (u : Transaction) → w ≡ waitOf u → OnlyQl (blockAt m (u .next))
   only-ql u e = go (takes-or-not (role (blockAt m (u .next))))
     where
@@ -140,7 +141,7 @@ module _ (m : BlockModel) (tape : List (List ℕ)) (t : Transaction) (s : State)
       let same : serverOf m t ≡ suc i = sym (rival .server) ∙ ap (λ (x : Wait). facts (blockAt m (x .key .block)) .server) e ∙ q in
       waits same
       (subst (QlWaits m (t ∷ s .rel) (serverIn (s .view .servers) (suc i)) (suc i)) (ap (λ k. getD (s .ql) k []) down)
-      (in-place .queued .ql-waits (suc i) (omega arith) (omega (arith, in-place .ql-length)))))
+      (in-place .queued .ql-waits first (suc i) (omega arith) (omega (arith, in-place .ql-length)))))
     where
       l : List Transaction
       l = getD (s .ql) i []
@@ -216,9 +217,9 @@ module _ (m : BlockModel) (tape : List (List ℕ)) (t : Transaction) (s : State)
       elsewhere : (x : Wait) → numbered (t .number) x ≡ 0 → only w x ≡ 0
       elsewhere x d = rw (e, bit-zero (eqb (t .number) (x .key .number)) d)
 
-  pub ends-in-order : (t .returning ≡ true → Standing m t s × GetsIn (blockAt m (t .next)) s)
+  pub ends-in-order : m .edition ≡ 1 → (t .returning ≡ true → Standing m t s × GetsIn (blockAt m (t .next)) s)
       → EndsInOrder m tape (t .number) (opens (s .records))
-  ends-in-order returner older k b n rival = go (ltb 0 (marked (only (p .first)) t)) refl
+  ends-in-order first returner older k b n rival = go (ltb 0 (marked (only (p .first)) t)) refl
     where
       p : Pair (h .waits) older k
       p = pair (suc (s .serial)) older k (h .waits) (h .falling) (subst (Behind older k) (sym (h .keys)) b)
@@ -249,5 +250,5 @@ module _ (m : BlockModel) (tape : List (List ℕ)) (t : Transaction) (s : State)
       go false e =
           let z : marked (only (p .first)) t ≤ 0 = ltb-false _ _ e in
           let r = returner (marked-returning (t .returning) _ marks) in
-          no-rival m tape t s (r .0) (r .1) (p .first) rival′ serials
+          no-rival m tape t s (r .0) (r .1) (p .first) rival′ serials first
           (omega (arith, somebody (p .first) first-needs (p .first-open)))

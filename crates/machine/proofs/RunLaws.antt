@@ -37,6 +37,11 @@ pub each-pair : {A : Type 0} (P Q : A → Type 0) (l : List A) → Each P l → 
 each-pair P Q [] h k = tt
 each-pair P Q (x ∷ l) h k = ((h .0, k .0), each-pair P Q l (h .1) (k .1))
 
+-- under a condition
+pub each-under : {A : Type 0} {C : Type 0} (P : A → Type 0) (l : List A) → (C → Each P l) → Each (λ a. C → P a) l
+each-under P [] h = tt
+each-under P (x ∷ l) h = ((λ c. h c .0), each-under P l (λ c. h c .1))
+
 each-append : (I : State → Type 0) (front : List State) (s : State) → Each I (front ++ (s ∷ [])) → I s
 each-append I [] s h = h .0
 each-append I (x ∷ l) s h = each-append I l s (h .1)

@@ -1,6 +1,6 @@
 -- Two models that differ in their rules alone. Effects read no rules, so a turn is the same under both where its question is answered
 -- alike; a run whose turns are the same goes through the same states, and its report is the same.
-use Prim.Native.Nat.{ℕ, zero, suc}
+use Prim.Native.Nat.{ℕ, zero, suc, _-_}
 use mathlib.Core.Path.{_≡_, refl, sym, ap, subst, _∙_}
 use mathlib.Core.Bool.{Bool, true, false}
 use mathlib.Core.List.{List, [], _∷_}
@@ -9,12 +9,12 @@ use borrow.Author.Tests.{eqb-true, eqb-false}
 use lib.Dec.{eqb}
 use Rattle.machine.specs.Rules.{Rules}
 use Rattle.machine.specs.Transaction.{Transaction}
-use Rattle.machine.specs.Term.{Server, Queue}
+use Rattle.machine.specs.Term.{Server, Queue, View}
 use Rattle.machine.specs.Block.{Share, facility, storage, shareServer, shareUnits, Block, generate, advance, terminate, takes, frees, waitServer, waitTerms, moves, assign, priority, split, counts, assemble, BlockModel, blockAt, beginsGroup}
 use Rattle.machine.specs.State.{State, Logged}
 use Rattle.machine.specs.Setters.{setMoving, setTurns, setEnd}
-use Rattle.machine.specs.Moves.{enters, goOn}
-use Rattle.machine.specs.Execute.{question, fits, wakeFor, checkWels, freeUnits, effect, takeUnits}
+use Rattle.machine.specs.Moves.{enters, goOn, qlOf, wakeQl}
+use Rattle.machine.specs.Execute.{question, unitsOf, fits, firstOfOne, fromFront, queueRemove, partFor, wakeFor, checkWels, freeUnits, effect, takeUnits}
 use Rattle.machine.specs.Turn.{taking, answer, execute, waitsOn, wsScheme, turn}
 use Rattle.machine.specs.Run.{endBefore, idle, start, runFrom, run, steps}
 use Rattle.machine.specs.Report.{recordsAt, serverNumbers, queueNumbers, reportNumbers, reportBytes}
@@ -32,10 +32,24 @@ module _ (new : Rules) (m : BlockModel) where
 
   -- ---- What reads no rules
 
+  one-same : (l : List Transaction) → firstOfOne m′ l ≡ firstOfOne m l
+  unfolding firstOfOne
+  one-same [] = refl
+  one-same (t ∷ l) = rw (one-same l)
+
+  front-same : (b : ℕ) (l : List Transaction) → fromFront m′ b l ≡ fromFront m b l
+  unfolding fromFront
+  front-same b [] = refl
+  front-same b (t ∷ l) = rw (front-same b l, front-same (b - unitsOf m t) l)
+
+  part-same : (x : Share) (w : View) (l : List Transaction) → partFor m′ x w l ≡ partFor m x w l
+  unfolding partFor queueRemove fits
+  part-same (facility v) w l = refl
+  part-same (storage v b) w l = rw (one-same l, front-same b l)
+
   wakes-same : (x : Share) (s : State) → wakeFor m′ x s ≡ wakeFor m x s
-  unfolding wakeFor fits
-  wakes-same (facility v) s = refl
-  wakes-same (storage v b) s = refl
+  unfolding wakeFor wakeQl
+  wakes-same x s = rw (part-same x (s .view) (qlOf s (shareServer x)))
 
   effect-same : (b : Block) (t : Transaction) (s : State) → effect m′ b t s ≡ effect m b t s
   unfolding effect takeUnits beginsGroup

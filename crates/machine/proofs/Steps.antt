@@ -13,7 +13,7 @@ use Rattle.machine.specs.Term.{serverAt, free}
 use Rattle.machine.specs.Block.{Code, Share, facility, storage, shareServer, shareUnits, Block, generate, advance, terminate, takes, frees, waitServer, waitTerms, moves, assign, priority, split, counts, assemble, facts, BlockModel, welIndex}
 use Rattle.machine.specs.State.{State}
 use Rattle.machine.specs.Setters.{withSerial, setSerial, setGatherers, setEnded}
-use Rattle.machine.specs.Moves.{log, enters, moveTo, fresh, qlOf, welOf, toQl, toWel, toWsl, mustWait, setUse, setContent, toGatherers, comes, released}
+use Rattle.machine.specs.Moves.{log, enters, moveTo, fresh, qlOf, welOf, lineUp, toQl, toWel, toWsl, mustWait, setUse, setContent, toGatherers, comes, released}
 use Rattle.machine.specs.Execute.{takeUnits, wakeFor, endsOne, effect}
 use Rattle.machine.proofs.Proper.{ProperBlock, servers}
 use Rattle.machine.proofs.RunLaws.{cond-cases}
@@ -22,7 +22,8 @@ use Rattle.machine.proofs.Shape.{Shape, ql-at, wel-at}
 use Rattle.machine.proofs.Proper.{code-server, share-server}
 use Rattle.machine.proofs.Waiting.{serverIn}
 use Rattle.machine.proofs.Sums.{sum-insert, sum-flat-set}
-use Rattle.machine.proofs.Weights.{Wait, weight, waiting, Quiet, quiet-refl, quiet-trans, quiet-wakeFirstQl, quiet-wakeQl, quiet-wakeFirstWel, quiet-checkWels, quiet-toRel, quiet-arrival, quiet-delay, quiet-copies}
+use Rattle.machine.proofs.Lines.{sum-lineUp}
+use Rattle.machine.proofs.Weights.{Wait, weight, waiting, Quiet, quiet-refl, quiet-trans, quiet-wakeFor, quiet-wakeFirstWel, quiet-checkWels, quiet-toRel, quiet-arrival, quiet-delay, quiet-copies}
 
 -- ---- Definition
 
@@ -48,28 +49,28 @@ pub data Step (b : Block) (t : Transaction) (s s′ : State) : Type 0 where
 
 -- ---- Waiting
 
-puts-ql : (v : ℕ) (t : Transaction) (s : State) → v - 1 < length (s .ql) → Puts t s (toQl v t s)
+puts-ql : (edition v : ℕ) (t : Transaction) (s : State) → v - 1 < length (s .ql) → Puts t s (toQl edition v t s)
 unfolding toQl waiting
-puts-ql v t s h =
+puts-ql edition v t s h =
     record {
       records = refl;
       serials = refl;
       weights = λ f.
-          omega (arith, sum-flat-set (weight f) (s .ql) (v - 1) (insert precedes t (qlOf s v)) h, sum-insert (weight f) precedes t (qlOf s v));
+          omega (arith, sum-flat-set (weight f) (s .ql) (v - 1) (lineUp edition t (qlOf s v)) h, sum-lineUp (weight f) edition t (qlOf s v));
       moving = refl;
     }
 
-puts-wel : (v : ℕ) (code : Code) (t : Transaction) (s : State) → welIndex v code < length (s .wel) → Puts t s (toWel v code t s)
+puts-wel : (edition v : ℕ) (code : Code) (t : Transaction) (s : State) → welIndex v code < length (s .wel) → Puts t s (toWel edition v code t s)
 unfolding toWel waiting
-puts-wel v code t s h =
+puts-wel edition v code t s h =
     record {
       records = refl;
       serials = refl;
       weights = λ f.
           omega (
             arith,
-            sum-flat-set (weight f) (s .wel) (welIndex v code) (insert precedes t (welOf s v code)) h,
-            sum-insert (weight f) precedes t (welOf s v code),
+            sum-flat-set (weight f) (s .wel) (welIndex v code) (lineUp edition t (welOf s v code)) h,
+            sum-lineUp (weight f) edition t (welOf s v code),
           );
       moving = refl;
     }
@@ -86,14 +87,14 @@ step-wait : (b : Block) (put : Transaction → State → State) (t : Transaction
 unfolding mustWait
 step-wait b put t s old new = cond-cases (Step b t s) (t .returning) _ _ (λ e. back e old) (λ e. begins e new)
 
-step-ql : (b : Block) (v : ℕ) (t : Transaction) (s : State) → v - 1 < length (s .ql) → Step b t s (mustWait (toQl v) t s)
+step-ql : (b : Block) (edition v : ℕ) (t : Transaction) (s : State) → v - 1 < length (s .ql) → Step b t s (mustWait (toQl edition v) t s)
 unfolding log
-step-ql b v t s h = step-wait b (toQl v) t s (puts-ql v t s h) (puts-ql v _ _ h)
+step-ql b edition v t s h = step-wait b (toQl edition v) t s (puts-ql edition v t s h) (puts-ql edition v _ _ h)
 
-step-wel : (b : Block) (v : ℕ) (code : Code) (t : Transaction) (s : State) → welIndex v code < length (s .wel)
-    → Step b t s (mustWait (toWel v code) t s)
+step-wel : (b : Block) (edition v : ℕ) (code : Code) (t : Transaction) (s : State) → welIndex v code < length (s .wel)
+    → Step b t s (mustWait (toWel edition v code) t s)
 unfolding log
-step-wel b v code t s h = step-wait b (toWel v code) t s (puts-wel v code t s h) (puts-wel v code _ _ h)
+step-wel b edition v code t s h = step-wait b (toWel edition v code) t s (puts-wel edition v code t s h) (puts-wel edition v code _ _ h)
 
 step-wsl : (b : Block) (t : Transaction) (s : State) → Step b t s (mustWait toWsl t s)
 step-wsl b t s = step-wait b toWsl t s (puts-wsl t s) (puts-wsl _ _)
@@ -116,17 +117,12 @@ quiet-endsOne : (a : ℕ) (s : State) → Quiet s (endsOne a s)
 unfolding endsOne waiting
 quiet-endsOne a s = record { records = refl; serials = omega arith; weights = λ f. refl; moving = λ h. h }
 
-step-takeUnits : (x : Share) (t : Transaction) (s : State) → shareServer x - 1 < length (s .ql) → Step (takes x) t s (takeUnits x t s)
+step-takeUnits : (m : BlockModel) (x : Share) (t : Transaction) (s : State) → shareServer x - 1 < length (s .ql) → Step (takes x) t s (takeUnits m x t s)
 unfolding takeUnits facts serverAt
-step-takeUnits x t s h =
+step-takeUnits m x t s h =
     cond-cases (Step (takes x) t s) (leb (shareUnits x) (free (serverAt (s .view) (shareServer x)))) _ _
     (λ e. passes (λ n. e) (quiet-moveTo _ t (quiet-trans (quiet-use (shareServer x) _ _ _) (quiet-checkWels (shareServer x) _))))
-    (λ e. step-ql (takes x) (shareServer x) t s h)
-
-quiet-wakeFor : (m : BlockModel) (x : Share) (s : State) → Quiet s (wakeFor m x s)
-unfolding wakeFor
-quiet-wakeFor m (facility v) s = quiet-wakeFirstQl v s
-quiet-wakeFor m (storage v b) s = quiet-wakeQl _ v s
+    (λ e. step-ql (takes x) (m .edition) (shareServer x) t s h)
 
 -- gatherers wait for no units
 quiet-gatherers : (l : List (List Gatherer)) (s : State) → Quiet s (setGatherers l s)
@@ -146,13 +142,13 @@ step-effect m (advance list) t s h k = passes (λ n. absurd (n refl)) (quiet-del
 step-effect m (terminate a) t s h k = passes (λ n. absurd (n refl)) (quiet-endsOne a _)
 step-effect m (takes x) t s h k =
     let n = share-server m x h in
-    step-takeUnits x t s (ql-at k (shareServer x) (n .0) (n .1))
+    step-takeUnits m x t s (ql-at k (shareServer x) (n .0) (n .1))
 step-effect m (frees x) t s h k =
     passes (λ n. absurd (n refl))
     (quiet-moveTo _ t (quiet-trans (quiet-use (shareServer x) _ _ _) (quiet-trans (quiet-wakeFor m x _) (quiet-checkWels (shareServer x) _))))
 step-effect m (waitServer code v c) t s h k =
     let n = code-server m code v (h .0) in
-    waitServer-cases (Step (waitServer code v c) t s) m code v c t s (λ e. step-wel _ v code t s (wel-at k v code (n .0) (n .1)))
+    waitServer-cases (Step (waitServer code v c) t s) m code v c t s (λ e. step-wel _ (m .edition) v code t s (wel-at k v code (n .0) (n .1)))
     (λ e. returns refl (quiet-moveTo _ t (quiet-wakeFirstWel v code s)))
     (λ e. passes (λ n. absurd (n refl)) (quiet-moveTo _ _ (quiet-wakeFirstWel v code _)))
 step-effect m (waitTerms a r b) t s h k =

@@ -12,6 +12,7 @@ use Rattle.machine.specs.Lists.{nth}
 use Rattle.machine.specs.Term.{Server, idleServer, free}
 use Rattle.machine.specs.Block.{Code, status, facts, BlockModel, blockAt, welIndex}
 use Rattle.machine.specs.State.{State}
+use Rattle.machine.specs.Execute.{unitsOf}
 use Rattle.machine.specs.Turn.{waitsOn}
 use Rattle.machine.specs.Claims.{Each}
 use Rattle.machine.proofs.Proper.{servers}
@@ -19,12 +20,9 @@ use Rattle.machine.proofs.Sorted.{Some, Sorted}
 
 -- ---- Where a transaction stands
 
--- the server that it is about to take units of, 0 for none, and how many
+-- the server that it is about to take units of, 0 for none
 abbrev pub serverOf : BlockModel → Transaction → ℕ
 serverOf m t = facts (blockAt m (t .next)) .server
-
-abbrev pub unitsOf : BlockModel → Transaction → ℕ
-unitsOf m t = facts (blockAt m (t .next)) .units
 
 -- about to take units of server v; at the WAITIF of the WEL at place i
 abbrev pub AtServer : BlockModel → ℕ → Transaction → Type 0
@@ -55,16 +53,17 @@ pub data WelWaits (m : BlockModel) (ready : List Transaction) (x : Server) (code
 
 -- ---- All of them
 
--- REL and the QLs
+-- REL and the QLs; edition 2 keeps neither their order nor that nobody who fits waits
 pub record Queued (m : BlockModel) (ready rel : List Transaction) (l : List Server) (ql : List (List Transaction)) : Type 0 where
   pub rel-sorted : Sorted precedes rel
-  pub ql-sorted : (k : ℕ) → Sorted precedes (getD ql k [])
+  pub ql-sorted : m .edition ≡ 1 → (k : ℕ) → Sorted precedes (getD ql k [])
   -- who waits on a QL stands at a SEIZE or ENTER of that server
   pub ql-stands : (v : ℕ) → 1 ≤ v → Each (AtServer m v) (nth ql v [])
-  pub ql-waits : (v : ℕ) → 1 ≤ v → v ≤ servers m → QlWaits m ready (serverIn l v) v (nth ql v [])
+  pub ql-waits : m .edition ≡ 1 → (v : ℕ) → 1 ≤ v → v ≤ servers m → QlWaits m ready (serverIn l v) v (nth ql v [])
 
 -- the WELs
 pub record Gated (m : BlockModel) (ready : List Transaction) (l : List Server) (wel : List (List Transaction)) : Type 0 where
+  pub wel-sorted : m .edition ≡ 1 → (i : ℕ) → Sorted precedes (getD wel i [])
   pub wel-stands : (i : ℕ) → Each (AtWel m i) (getD wel i [])
   pub wel-waits : (v : ℕ) (code : Code) → 1 ≤ v → v ≤ servers m
       → WelWaits m ready (serverIn l v) code (welIndex v code) (getD wel (welIndex v code) [])

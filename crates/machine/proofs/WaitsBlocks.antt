@@ -7,21 +7,23 @@ use native.Mathlib.Omega.{arith}
 use lib.Dec.{leb}
 use lib.ListN.{length, take}
 use lib.Seq.{getD-set-same}
+use borrow.Author.Tests.{eq-eqb}
 use Rattle.machine.specs.Transaction.{Transaction}
 use Rattle.machine.specs.Lists.{those}
 use Rattle.machine.specs.Term.{serverAt, free}
 use Rattle.machine.specs.Block.{Code, status, Share, facility, storage, shareServer, shareUnits, Block, generate, advance, terminate, takes, frees, waitServer, waitTerms, moves, assign, priority, split, counts, assemble, facts, BlockModel, blockAt, welIndex}
 use Rattle.machine.specs.State.{State}
-use Rattle.machine.specs.Setters.{withSerial}
-use Rattle.machine.specs.Moves.{qlOf, welOf, log, enters, moveTo, toRel, toFel, toQl, toWel, toWsl, mustWait, wakeFirstQl, wakeQl, wakeFirstWel, setUse, setContent, arrival, copies, toGatherers, comes, released}
-use Rattle.machine.specs.Execute.{fits, takeUnits, checkWels, endsOne, delay, effect, freeUnits, wakeFor}
+use Rattle.machine.specs.Setters.{withSerial, withUse}
+use Rattle.machine.specs.Moves.{qlOf, welOf, log, enters, moveTo, toRel, toFel, toQl, toWel, toWsl, mustWait, Parted, wakeQl, wakeFirstWel, setUse, setContent, arrival, copies, toGatherers, comes, released}
+use Rattle.machine.specs.Execute.{unitsOf, fits, partFor, takeUnits, checkWels, endsOne, delay, effect, freeUnits, wakeFor}
 use Rattle.machine.proofs.Proper.{Proper, ProperBlock, servers, code-server, share-server, ProperShare}
 use Rattle.machine.proofs.RunLaws.{cond-cases}
 use Rattle.machine.proofs.Cases.{checkWels-kept, waitServer-cases, waitTerms-cases, assemble-cases}
 use Rattle.machine.proofs.Shape.{Shape, server-length, facility-capacity}
-use Rattle.machine.proofs.Waiting.{serverOf, unitsOf, AtServer, AtWel, serverIn, Queued, Gated, WaitsOver}
+use Rattle.machine.proofs.Waiting.{serverOf, AtServer, AtWel, serverIn, Queued, Gated, WaitsOver}
 use Rattle.machine.proofs.Ready.{grows-not, grows-insert, grows-wake, queued-more, waits-more, ql-else, wel-else}
-use Rattle.machine.proofs.Queued.{taken-queued, waits-queued, first-queued, fitting-queued}
+use Rattle.machine.proofs.Queued.{taken-queued, waits-queued, Kept, parted-queued, first-kept, fitting-kept}
+use Rattle.machine.proofs.Lines.{both-partFor}
 use Rattle.machine.proofs.Gated.{Open, WelAt, checks-gated, others-wait, waits-gated, passes-gated}
 
 -- ---- After a block
@@ -81,13 +83,14 @@ module _ {m : BlockModel} {tape : List (List ℕ)} (proper : Proper m tape) (t :
         rel-sorted = w .queued .rel-sorted;
         ql-sorted = w .queued .ql-sorted;
         ql-stands = w .queued .ql-stands;
-        ql-waits = λ v a b. ql-else (λ h. omega arith) (w .queued .ql-waits v a b);
+        ql-waits = λ first v a b. ql-else (λ h. omega arith) (w .queued .ql-waits first v a b);
       }
 
   -- at no WAITIF of a code
   gated-else : facts (blockAt m (t .next)) .wel ≡ 0 → Gated m (s .rel) (s .view .servers) (s .wel)
   gated-else off =
       record {
+        wel-sorted = w .gated .wel-sorted;
         wel-stands = w .gated .wel-stands;
         wel-waits = λ v code a b. wel-else (λ h. omega arith) (w .gated .wel-waits v code a b);
       }
@@ -98,7 +101,7 @@ module _ {m : BlockModel} {tape : List (List ℕ)} (proper : Proper m tape) (t :
       (record { queued = queued-else (ap (λ b. facts b .server) e ∙ off); gated = gated-else (ap (λ b. facts b .wel) e ∙ off′) }, going)
 
   opened : Open m (s .wel)
-  opened = record { stands = w .gated .wel-stands; size = shape .wel-length }
+  opened = record { sorted = w .gated .wel-sorted; stands = w .gated .wel-stands; size = shape .wel-length }
 
   module _ (v : ℕ) (one : 1 ≤ v) (known : v ≤ servers m) where
     in-servers : v ≤ length (s .view .servers)
@@ -106,27 +109,6 @@ module _ {m : BlockModel} {tape : List (List ℕ)} (proper : Proper m tape) (t :
 
     in-ql : v ≤ length (s .ql)
     in-ql = omega (arith, shape .ql-length)
-
-    -- 5 RELEASE
-    release-walked : v ≤ m .facilities → serverOf m t ≡ 0 → facts (blockAt m (t .next)) .wel ≡ 0
-        → Walked m (checkWels v (wakeFirstQl v (freeUnits v 1 (enters t s))))
-    unfolding enters log setUse serverAt wakeFirstQl
-    release-walked f off off′ =
-        checks-walked m v _ one known (first-queued (w .queued) v one in-servers in-ql _ f off)
-        opened
-        (others-wait (w .gated) v _ _ one off′ (grows-wake (take 1 (qlOf s v)) (s .rel))) going
-
-    -- 7 LEAVE
-    leave-walked : (b : ℕ) → serverOf m t ≡ 0 → facts (blockAt m (t .next)) .wel ≡ 0
-        → Walked m (checkWels v (wakeQl (fits m (freeUnits v b (enters t s) .view) v) v (freeUnits v b (enters t s))))
-    unfolding enters log setUse serverAt wakeQl fits
-    leave-walked b off off′ =
-        let p = fits m (freeUnits v b (enters t s) .view) v in
-        checks-walked m v _ one known
-        (fitting-queued (w .queued) v one in-servers in-ql _ p
-        (λ u e. rw (getD-set-same (s .view .servers) (v - 1) _ _ (omega (arith, in-servers))) at e) off)
-        opened
-        (others-wait (w .gated) v _ _ one off′ (grows-wake (those p (qlOf s v)) (s .rel))) going
 
     -- 8 WAITIF of a code
     waitServer-walked : (code : Code) (c : ℕ) → AtWel m (welIndex v code) t → serverOf m t ≡ 0 → Walked m (effect m (waitServer code v c) t s)
@@ -149,12 +131,12 @@ module _ {m : BlockModel} {tape : List (List ℕ)} (proper : Proper m tape) (t :
               going,
             )
 
-        waiting : status code (serverAt (s .view) v) ≡ true → (t′ : Transaction) → AtWel m (welIndex v code) t′ → Walked m (toWel v code t′ s)
+        waiting : status code (serverAt (s .view) v) ≡ true → (t′ : Transaction) → AtWel m (welIndex v code) t′ → Walked m (toWel (m .edition) v code t′ s)
         waiting holds t′ at′ = (record { queued = queued-else off; gated = waits-gated (w .gated) v code t′ one at at′ holds }, going)
 
   -- 4 SEIZE and 6 ENTER
   takeUnits-walked : (x : Share) → 1 ≤ shareServer x → shareServer x ≤ servers m → AtServer m (shareServer x) t → unitsOf m t ≡ shareUnits x
-      → facts (blockAt m (t .next)) .wel ≡ 0 → Walked m (takeUnits x t s)
+      → facts (blockAt m (t .next)) .wel ≡ 0 → Walked m (takeUnits m x t s)
   unfolding takeUnits mustWait enters log moveTo setUse serverAt toQl
   takeUnits-walked x one known at units off =
       cond-cases (Walked m) (leb (shareUnits x) (free (serverAt (s .view) v))) _ _
@@ -169,7 +151,7 @@ module _ {m : BlockModel} {tape : List (List ℕ)} (proper : Proper m tape) (t :
       v = shareServer x
 
       waiting : leb (shareUnits x) (free (serverAt (s .view) v)) ≡ false → (t′ : Transaction) → AtServer m v t′ → unitsOf m t′ ≡ shareUnits x
-          → Walked m (toQl v t′ s)
+          → Walked m (toQl (m .edition) v t′ s)
       waiting full t′ at′ units′ = (
         record {
           queued =
@@ -180,11 +162,35 @@ module _ {m : BlockModel} {tape : List (List ℕ)} (proper : Proper m tape) (t :
         going,
       )
 
+  -- 5 RELEASE and 7 LEAVE
+  abbrev freed : Share → State
+  freed x = freeUnits (shareServer x) (shareUnits x) (enters t s)
+
+  abbrev KeptOn : (x : Share) → 1 ≤ shareServer x → shareServer x ≤ servers m → Type 0
+  KeptOn x one known =
+      Kept (w .queued) (shareServer x) one (in-servers (shareServer x) one known) (in-ql (shareServer x) one known)
+      (withUse (serverIn (s .view .servers) (shareServer x) .inUse - shareUnits x) 0 (serverIn (s .view .servers) (shareServer x)))
+      (partFor m x (freed x .view) (qlOf s (shareServer x)))
+
+  -- under edition 1 the first of a facility's QL goes, and nobody who fits stays on a storage's
+  kept : m .edition ≡ 1 → (x : Share) (one : 1 ≤ shareServer x) (known : shareServer x ≤ servers m) → ProperShare m x → KeptOn x one known
+  unfolding shareServer shareUnits partFor enters log setUse serverAt fits
+  kept first (facility v) one known k = first-kept (w .queued) v one (in-servers v one known) (in-ql v one known) _ (k .1) first
+  kept first (storage v b) one known k =
+      rw (eq-eqb (m .edition) 1 first)
+      (fitting-kept (w .queued) v one (in-servers v one known) (in-ql v one known) _ (fits m (freed (storage v b) .view) v)
+      (λ u e. rw (getD-set-same (s .view .servers) (v - 1) _ _ (omega (arith, in-servers v one known))) at e) first)
+
   frees-walked : (x : Share) → 1 ≤ shareServer x → shareServer x ≤ servers m → ProperShare m x → serverOf m t ≡ 0 → facts (blockAt m (t .next)) .wel ≡ 0
-      → Walked m (checkWels (shareServer x) (wakeFor m x (freeUnits (shareServer x) (shareUnits x) (enters t s))))
-  unfolding wakeFor shareServer shareUnits
-  frees-walked (facility v) one known k = release-walked v one known (k .1)
-  frees-walked (storage v b) one known k = leave-walked v one known b
+      → Walked m (checkWels (shareServer x) (wakeFor m x (freed x)))
+  unfolding enters log setUse serverAt wakeFor wakeQl
+  frees-walked x one known k off off′ =
+      let v : ℕ = shareServer x in
+      let part : Parted = partFor m x (freed x .view) (qlOf s v) in
+      checks-walked m v _ one known
+      (parted-queued (w .queued) v one (in-servers v one known) (in-ql v one known) _ part
+      (both-partFor (AtServer m v) m x (freed x .view) (qlOf s v) (w .queued .ql-stands v one)) (λ first. kept first x one known k) off)
+      opened (others-wait (w .gated) v _ _ one off′ (grows-wake (part .go) (s .rel))) going
 
   pub effect-walked : (b : Block) → blockAt m (t .next) ≡ b → ProperBlock m b → Walked m (effect m b t s)
   unfolding effect mustWait facts enters log moveTo setContent toWsl takeUnits toGatherers comes released

@@ -111,10 +111,10 @@ module _ (m : BlockModel) where
                 rel-sorted = w .queued .rel-sorted;
                 ql-sorted = w .queued .ql-sorted;
                 ql-stands = w .queued .ql-stands;
-                ql-waits = λ v a b. ql-alike (alike v) (w .queued .ql-waits v a b);
+                ql-waits = λ first v a b. ql-alike (alike v) (w .queued .ql-waits first v a b);
               };
           gated =
-              record { wel-stands = w .gated .wel-stands; wel-waits = λ v code a b. wel-alike (alike v) (w .gated .wel-waits v code a b) };
+              record { wel-sorted = w .gated .wel-sorted; wel-stands = w .gated .wel-stands; wel-waits = λ v code a b. wel-alike (alike v) (w .gated .wel-waits v code a b) };
         },
         going,
       )
@@ -233,12 +233,13 @@ idle-begun m tape = (
       queued =
           record {
             rel-sorted = tt;
-            ql-sorted = λ k. empty-at (Sorted precedes) tt (servers m) k;
+            ql-sorted = λ first k. empty-at (Sorted precedes) tt (servers m) k;
             ql-stands = λ v a. empty-at (Each (AtServer m v)) tt (servers m) (v - 1);
-            ql-waits = λ v a b. empty-at (QlWaits m [] _ v) (nobodyFits tt) (servers m) (v - 1);
+            ql-waits = λ first v a b. empty-at (QlWaits m [] _ v) (nobodyFits tt) (servers m) (v - 1);
           };
       gated =
           record {
+            wel-sorted = λ first i. empty-at (Sorted precedes) tt (servers m * 6) i;
             wel-stands = λ i. empty-at (Each (AtWel m i)) tt (servers m * 6) i;
             wel-waits = λ v code a b. empty-at (WelWaits m [] _ code (welIndex v code)) (nobodyWaits refl) (servers m * 6) (welIndex v code);
           };

@@ -8,17 +8,18 @@ use mathlib.Core.Option.{Option, none, some}
 use native.Mathlib.Omega.{arith}
 use lib.ListN.{take, drop}
 use Rattle.machine.specs.Transaction.{Transaction, Event, precedes}
-use Rattle.machine.specs.Lists.{insert, those, others, flat}
-use Rattle.machine.specs.Block.{Code, welIndex}
+use Rattle.machine.specs.Lists.{insert, those, flat}
+use Rattle.machine.specs.Block.{Code, Share, shareServer, BlockModel, welIndex}
 use Rattle.machine.specs.State.{State}
 use Rattle.machine.specs.Setters.{withReturning, withSerial, setMade}
-use Rattle.machine.specs.Moves.{qlOf, welOf, toRel, toFel, wake, wakeFirstQl, wakeQl, wakeFirstWel, wakeWsl, arrival, copies}
-use Rattle.machine.specs.Execute.{checkWels, delay}
+use Rattle.machine.specs.Moves.{qlOf, welOf, toRel, toFel, wake, Parted, wakeQl, wakeFirstWel, wakeWsl, arrival, copies}
+use Rattle.machine.specs.Execute.{partFor, wakeFor, checkWels, delay}
 use Rattle.machine.specs.Turn.{arriveAll, nextEvents, moveClock}
 use Rattle.machine.proofs.Cases.{checkWels-kept}
 use Rattle.machine.proofs.Records.{Key}
 use Rattle.machine.proofs.Sums.{sumOn, sum-insert, sum-those, sum-first}
 use Rattle.machine.proofs.SumFacts.{sum-part}
+use Rattle.machine.proofs.Lines.{sum-partFor}
 
 -- ---- Definition
 
@@ -73,29 +74,27 @@ weigh-wake f [] rel = omega arith
 weigh-wake f (t ∷ l) rel =
     omega (arith, weigh-wake f l (insert precedes (withReturning true t) rel), sum-insert (marked f) precedes (withReturning true t) rel)
 
-pub quiet-wakeFirstQl : (v : ℕ) (s : State) → Quiet s (wakeFirstQl v s)
-unfolding wakeFirstQl waiting
-quiet-wakeFirstQl v s =
+pub quiet-wakeFor : (m : BlockModel) (x : Share) (s : State) → Quiet s (wakeFor m x s)
+unfolding wakeFor wakeQl waiting
+quiet-wakeFor m x s =
     record {
       records = refl;
       serials = omega arith;
       weights = λ f.
-          omega
-          (arith, sum-part (weight f) (s .ql) (v - 1) (drop 1) refl, sum-first (weight f) (qlOf s v), weigh-wake f (take 1 (qlOf s v)) (s .rel));
+          omega (
+            arith,
+            sum-part (weight f) (s .ql) (v - 1) (λ l. part l .stay) (omega (arith, sum-partFor (weight f) m x (s .view) [])),
+            sum-partFor (weight f) m x (s .view) (qlOf s v),
+            weigh-wake f (part (qlOf s v) .go) (s .rel),
+          );
       moving = λ h. h;
     }
+  where
+    v : ℕ
+    v = shareServer x
 
-pub quiet-wakeQl : (p : Transaction → Bool) (v : ℕ) (s : State) → Quiet s (wakeQl p v s)
-unfolding wakeQl waiting those
-quiet-wakeQl p v s =
-    record {
-      records = refl;
-      serials = omega arith;
-      weights = λ f.
-          omega
-          (arith, sum-part (weight f) (s .ql) (v - 1) (others p) refl, sum-those (weight f) p (qlOf s v), weigh-wake f (those p (qlOf s v)) (s .rel));
-      moving = λ h. h;
-    }
+    part : List Transaction → Parted
+    part = partFor m x (s .view)
 
 pub quiet-wakeFirstWel : (v : ℕ) (code : Code) (s : State) → Quiet s (wakeFirstWel v code s)
 unfolding wakeFirstWel waiting

@@ -119,6 +119,7 @@ abbrev pub withRules : Rules → BlockModel → BlockModel
 withRules rules m =
     record {
       rules = rules;
+      edition = m .edition;
       facilities = m .facilities;
       capacities = m .capacities;
       queues = m .queues;
@@ -179,7 +180,7 @@ module _ (new : Rules) where
       go (parsed m c) r′ e = subst (λ r. Follows (f m c) (continue r f)) (sym e) (k m .from c)
       go (refused n) r′ e = tt
 
-  module _ (old : Rules) (s : List ℕ) (more : old .kinds ≤ new .kinds) where
+  module _ (old : Rules) (s : List ℕ) (more : old .kinds ≤ new .kinds) (later : old .editions ≤ new .editions) where
     block-widens : (n : Counts) (capacities : List ℕ) → Widens (blockField s (old .kinds) n capacities) (blockField s (new .kinds) n capacities)
     unfolding blockField
     block-widens n capacities = then (field-widens (omega arith) 3 1 more s) (λ kind. same _)
@@ -187,34 +188,37 @@ module _ (new : Rules) where
     fields-follow : Following (modelFields s old) (modelFields s new)
     unfolding modelFields
     fields-follow =
-        widely (same _) (λ edition. widely (same _) (λ facilities. widely (same _) (λ storages. widely (same _) (λ capacities. widely (same _) (λ queues.
+        widely (field-widens (omega arith) 3 1 later s) (λ edition. widely (same _) (λ facilities. widely (same _) (λ storages. widely (same _) (λ capacities. widely (same _) (λ queues.
         widely (same _) (λ values. widely (same _) (λ sums. widely (same _) (λ lists. widely (same _) (λ counter. widely (same _) (λ blocks.
         widely (repeated blocks (block-widens _ capacities)) (λ program. record { from = λ c. refl })))))))))))
 
-    -- where there are no fewer kinds
+    -- where there are no fewer kinds and editions
     pub model-follows : (c : Cursor) → Follows (modelOf old s c) (modelOf new s c)
     unfolding modelOf wellFormed targetsMove insideGroup
     model-follows c = afterwards fields-follow (λ m. widely (same _) (λ u. widely (same _) (λ u. record { from = λ c. refl }))) .from c
 
--- where there are as many kinds, refusals are the same too
+-- where there are as many kinds and editions, refusals are the same too
 
-module _ (new old : Rules) (kinds : ℕ) (s : List ℕ) where
-  fields-under : Under (counting kinds new) (modelFields s (counting kinds old)) (modelFields s (counting kinds new))
+module _ (new old : Rules) (kinds editions : ℕ) (s : List ℕ) where
+  fields-under : Under (counting kinds editions new) (modelFields s (counting kinds editions old)) (modelFields s (counting kinds editions new))
   unfolding modelFields
   fields-under =
-      let r = counting kinds new in
+      let r = counting kinds editions new in
       alike r _ (λ edition. alike r _ (λ facilities. alike r _ (λ storages. alike r _ (λ capacities. alike r _ (λ queues. alike r _ (λ values.
       alike r _ (λ sums. alike r _ (λ lists. alike r _ (λ counter. alike r _ (λ blocks. alike r _ (λ program. record { from = λ c. refl })))))))))))
 
-  model-under : (c : Cursor) → modelOf (counting kinds new) s c ≡ underRules (counting kinds new) (modelOf (counting kinds old) s c)
+  model-under : (c : Cursor) → modelOf (counting kinds editions new) s c ≡ underRules (counting kinds editions new) (modelOf (counting kinds editions old) s c)
   unfolding modelOf wellFormed targetsMove insideGroup
   model-under c =
-      let r = counting kinds new in
+      let r = counting kinds editions new in
       after r fields-under (λ m. alike r _ (λ u. alike r _ (λ u. record { from = λ c. refl }))) .from c
 
-pub model-read : (new old : Rules) → old .kinds ≡ new .kinds → (s : List ℕ) (c : Cursor) → modelOf new s c ≡ underRules new (modelOf old s c)
-model-read new old same s c =
-    subst (λ kinds. modelOf (counting kinds new) s c ≡ underRules (counting kinds new) (modelOf old s c)) same (model-under new old (old .kinds) s c)
+pub model-read : (new old : Rules) → old .kinds ≡ new .kinds → old .editions ≡ new .editions → (s : List ℕ) (c : Cursor)
+    → modelOf new s c ≡ underRules new (modelOf old s c)
+model-read new old same alike s c =
+    subst (λ kinds. modelOf (counting kinds (new .editions) new) s c ≡ underRules (counting kinds (new .editions) new) (modelOf old s c)) same
+    (subst (λ editions. modelOf (counting (old .kinds) editions new) s c ≡ underRules (counting (old .kinds) editions new) (modelOf old s c)) alike
+    (model-under new old (old .kinds) (old .editions) s c))
 
 rulesOf : Parsed BlockModel → Rules
 rulesOf (parsed m c) = m .rules
@@ -223,4 +227,4 @@ rulesOf (refused n) = document01
 -- a model that was read has the rules that it was read by
 pub own-rules : (rules : Rules) (s : List ℕ) (m : BlockModel) (c : Cursor) → modelOf rules s beginning ≡ parsed m c → m .rules ≡ rules
 unfolding rulesOf
-own-rules rules s m c e = ap rulesOf (sym e ∙ model-read rules rules refl s beginning ∙ ap (underRules rules) e)
+own-rules rules s m c e = ap rulesOf (sym e ∙ model-read rules rules refl refl s beginning ∙ ap (underRules rules) e)

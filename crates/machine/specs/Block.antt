@@ -147,9 +147,27 @@ facts (split n target) = setCopies n (setTarget target noFacts)
 facts (counts c q) = setQueue (arrivals c q) noFacts
 facts (assemble n) = setTerminates 1 (setGathers n noFacts)
 
+-- Document 000, section 6, "some B > 1": does the block take or free more than one unit? B is the units of an ENTER or LEAVE.
+unfoldable pub aboveOne : Block → Bool
+aboveOne (generate list p) = false
+aboveOne (advance list) = false
+aboveOne (terminate a) = false
+aboveOne (takes x) = ltb 1 (shareUnits x)
+aboveOne (frees x) = ltb 1 (shareUnits x)
+aboveOne (waitServer code v c) = false
+aboveOne (waitTerms a r b) = false
+aboveOne (moves c target) = false
+aboveOne (assign k a) = false
+aboveOne (priority p) = false
+aboveOne (split n target) = false
+aboveOne (counts c q) = false
+aboveOne (assemble n) = false
+
 -- Bytes, "Model: ..": what is left of it once decoded, and the rules that it was judged by.
 pub record BlockModel : Type 0 where
   pub rules : Rules
+  -- 1, or 2 for a run under the 1996 rules (document 02, item 12)
+  pub edition : ℕ
   pub facilities : ℕ
   pub capacities : List ℕ
   pub queues : ℕ

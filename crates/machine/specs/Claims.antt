@@ -218,8 +218,9 @@ module _ (m : BlockModel) (tape : List (List ℕ)) where
     -- the living count of the report
     pub living : length (places s) ≡ livingCount (s .records)
     -- the clock is about to move, or the run ended dry: `end` is 0 in each state before a turn that is taken, and 1 is dry
-    pub nobody-able : s .end ≤ 1 → s .moving ≡ none → s .rel ≡ [] → ableToGo s ≡ 0
-    pub order : InOrder (reverse (s .records))
+    -- Document 02, item 12: "Zero waiters and the order among equals are claimed for edition 1."
+    pub nobody-able : m .edition ≡ 1 → s .end ≤ 1 → s .moving ≡ none → s .rel ≡ [] → ableToGo s ≡ 0
+    pub order : m .edition ≡ 1 → InOrder (reverse (s .records))
     pub held : (f : ℕ) → 1 ≤ f → f ≤ m .facilities → Held (serverAt (s .view) f) f (s .records)
     pub joined : Joined (s .records)
     pub stamps : Each (Stamped (s .records)) (everyone s)

@@ -194,7 +194,7 @@ module _ (s : List ℕ) where
 
   unfoldable pub modelFields : Rules → Parser BlockModel
   modelFields rules = do
-    edition ← number 1 1
+    edition ← number 1 (rules .editions)
     facilities ← number 0 Limits.maxFacilities
     storages ← number 0 Limits.maxStorages
     capacities ← times storages (number 1 Limits.maxCapacity)
@@ -213,6 +213,7 @@ module _ (s : List ℕ) where
     give
         (record {
           rules = rules;
+          edition = edition;
           facilities = facilities;
           capacities = capacities;
           queues = queues;

@@ -105,7 +105,7 @@ bareModel = 0x01 ∷ 0x00 ∷ 0x00 ∷ 0x00 ∷ 0x00 ∷ 0x00 ∷ 0x01 ∷ 0x01 
 -- a state with a facility in use, and on REL two returners of equal priority that stand at its SEIZE
 seizeOnly : BlockModel
 seizeOnly =
-    record { rules = document01; facilities = 1; capacities = []; queues = 0; values = []; lists = 0; counter = 1; blocks = seize 1 ∷ terminate 1 ∷ [] }
+    record { rules = document01; edition = 1; facilities = 1; capacities = []; queues = 0; values = []; lists = 0; counter = 1; blocks = seize 1 ∷ terminate 1 ∷ [] }
 
 returner : (number serial : ℕ) → Transaction
 returner number serial = withReturning true (withSerial serial (newborn number 0 1))
@@ -236,12 +236,12 @@ entryTape = 0x01 ∷ 0x03 ∷ []
 -- 1,024 living, and one of them before a SPLIT
 crowded : BlockModel
 crowded =
-    record { rules = document01; facilities = 0; capacities = []; queues = 0; values = []; lists = 0; counter = 1; blocks = split 1 2 ∷ terminate 1 ∷ [] }
+    record { rules = document01; edition = 1; facilities = 0; capacities = []; queues = 0; values = []; lists = 0; counter = 1; blocks = split 1 2 ∷ terminate 1 ∷ [] }
 
 -- a clock near its limit before an ADVANCE of 2
 late : BlockModel
 late =
-    record { rules = document01; facilities = 0; capacities = []; queues = 0; values = []; lists = 1; counter = 1; blocks = advance 1 ∷ terminate 1 ∷ [] }
+    record { rules = document01; edition = 1; facilities = 0; capacities = []; queues = 0; values = []; lists = 1; counter = 1; blocks = advance 1 ∷ terminate 1 ∷ [] }
 
 lateState : (clock : ℕ) → State
 lateState clock =

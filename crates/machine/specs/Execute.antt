@@ -5,12 +5,12 @@ use mathlib.Core.List.{List, [], _∷_}
 use lib.Dec.{ltb, leb, eqb}
 use Rattle.machine.specs.Limits.{maxLiving}
 use Rattle.machine.specs.Transaction.{Transaction, Gatherer}
-use Rattle.machine.specs.Lists.{setNth, bit, upTo}
+use Rattle.machine.specs.Lists.{setNth, bit, upTo, anyOf}
 use Rattle.machine.specs.Term.{View, serverAt, queueAt, free, evaluate, compare, truth}
-use Rattle.machine.specs.Block.{Code, U, NU, E, NE, F, NF, status, Share, facility, storage, shareServer, shareUnits, shareHolder, Change, up, down, Block, generate, advance, terminate, takes, frees, waitServer, waitTerms, moves, assign, priority, split, counts, assemble, facts, BlockModel, blockAt, beginsGroup}
+use Rattle.machine.specs.Block.{Code, U, NU, E, NE, F, NF, status, Share, facility, storage, shareServer, shareUnits, shareHolder, Change, up, down, Block, generate, advance, terminate, takes, frees, waitServer, waitTerms, moves, assign, priority, split, counts, assemble, facts, aboveOne, BlockModel, blockAt, beginsGroup}
 use Rattle.machine.specs.State.{State}
 use Rattle.machine.specs.Setters.{withPriority, withParameters, withNext, withReturning, withStamp, setCounter, setEnded, setEnd}
-use Rattle.machine.specs.Moves.{enters, moveTo, goOn, toRel, toFel, toQl, toWel, toWsl, beginWait, mustWait, wakeFirstQl, wakeQl, wakeFirstWel, setUse, setContent, timesLeft, useTime, arrival, copies, waitsFor, toGatherers, comes, released}
+use Rattle.machine.specs.Moves.{enters, moveTo, goOn, toRel, toFel, toQl, toWel, toWsl, beginWait, mustWait, Parted, nobody, goes, stays, firstOf, partBy, wakeQl, wakeFirstWel, setUse, setContent, timesLeft, useTime, arrival, copies, waitsFor, toGatherers, comes, released}
 
 -- ---- Questions, "Inside a turn, after the taking and before the block has any effect, "no" is the end"
 
@@ -85,19 +85,45 @@ checkWel v code s = cond (status code (serverAt (s .view) v)) s (wakeFirstWel v 
 unfoldable pub checkWels : ℕ → State → State
 checkWels v s = checkWel v NF (checkWel v F (checkWel v NE (checkWel v E (checkWel v NU (checkWel v U s)))))
 
+-- the units of the SEIZE or ENTER at which a transaction waits
+abbrev pub unitsOf : BlockModel → Transaction → ℕ
+unitsOf m t = facts (blockAt m (t .next)) .units
+
 -- do its units, judged alone, fit the free units of the server?
 unfoldable pub fits : BlockModel → View → ℕ → Transaction → Bool
-fits m w v t = leb (facts (blockAt m (t .next)) .units) (free (serverAt w v))
+fits m w v t = leb (unitsOf m t) (free (serverAt w v))
 
 -- and nobody holds it
 abbrev pub freeUnits : ℕ → ℕ → State → State
 freeUnits v b s = setUse v (serverAt (s .view) v .inUse - b) 0 s
 
+-- ---- Document 02, item 12, edition 2: "LEAVE follows document 000, section 6, cases a and b, B being its units"
+
+-- b (i): "the first transaction that has an ENTER with B = 1"
+unfoldable pub firstOfOne : BlockModel → List Transaction → Parted
+firstOfOne m [] = nobody
+firstOfOne m (t ∷ l) = cond (eqb (unitsOf m t) 1) (firstOf (t ∷ l)) (stays t (firstOfOne m l))
+
+-- b (ii), "We start a search in the QL, from the front": Bₑ is the units of t. "If B = Bₑ, the same action takes place as under (i) and we
+-- are finished ... If B < Bₑ, we continue to the next transaction. If B > Bₑ, we decrease B by Bₑ and move the transaction".
+unfoldable pub fromFront : BlockModel → (b : ℕ) → List Transaction → Parted
+fromFront m b [] = nobody
+fromFront m b (t ∷ l) =
+    cond (eqb b (unitsOf m t)) (firstOf (t ∷ l))
+    (cond (ltb b (unitsOf m t)) (stays t (fromFront m b l)) (goes t (fromFront m (b - unitsOf m t) l)))
+
+-- "some B > 1 in the program" means in any ENTER or LEAVE; case a is none
+unfoldable pub queueRemove : BlockModel → (b : ℕ) → List Transaction → Parted
+queueRemove m b l = cond (anyOf aboveOne (m .blocks)) (cond (eqb b 1) (firstOfOne m l) (fromFront m b l)) (firstOf l)
+
 -- whom freed units wake: 5 RELEASE, "the first of its QL goes to REL"; 7 LEAVE, "every QL member whose units, judged alone, fit
 -- the free units goes to REL" (departs)
+unfoldable pub partFor : BlockModel → Share → View → List Transaction → Parted
+partFor m (facility v) w l = firstOf l
+partFor m (storage v b) w l = cond (eqb (m .edition) 1) (partBy (fits m w v) l) (queueRemove m b l)
+
 unfoldable pub wakeFor : BlockModel → Share → State → State
-wakeFor m (facility v) s = wakeFirstQl v s
-wakeFor m (storage v b) s = wakeQl (fits m (s .view) v) v s
+wakeFor m x s = wakeQl (partFor m x (s .view)) (shareServer x) s
 
 -- 3 TERMINATE, "the transaction ends; the counter falls by a; at or below 0, end 2"
 unfoldable pub endsOne : ℕ → State → State
@@ -129,12 +155,12 @@ stamped m t s = withStamp (cond (beginsGroup m (t .next)) (s .view .clock) (t .s
 module _ {A : Type 0} (enter : (State → State) → A) (wait : (Transaction → State → State) → A) (back : (State → State) → A) (begin : (Transaction → State → State) → A) where
   -- 4 SEIZE, "idle, it enters and f is in use; else it waits on the QL", 6 ENTER, "enters if b units are free, else waits"
   -- Document 02, item 6: "the number of its holder, written at SEIZE"
-  abbrev pub takingUnits : Share → Transaction → State → A
-  takingUnits x t s =
+  abbrev pub takingUnits : BlockModel → Share → Transaction → State → A
+  takingUnits m x t s =
       let v : ℕ = shareServer x in
       cond (leb (shareUnits x) (free (serverAt (s .view) v)))
       (enter (λ e. goOn t (checkWels v (setUse v (serverAt (s .view) v .inUse + shareUnits x) (shareHolder x (t .number)) e))))
-      (wait (toQl v))
+      (wait (toQl (m .edition) v))
 
   -- Document 02, item 8: "The first of a family at the block waits there", "Its record has outcome 1" (nobody comes here returning); "Each
   -- later one of that family writes outcome 0 and ends"
@@ -146,7 +172,7 @@ module _ {A : Type 0} (enter : (State → State) → A) (wait : (Transaction →
   doing m (generate list p) t s = enter (λ e. goOn t (arrival (timesLeft s list) list p (t .next) e))
   doing m (advance list) t s = enter (λ e. delay (timesLeft s list) list t e)
   doing m (terminate a) t s = enter (λ e. endsOne a e)
-  doing m (takes x) t s = takingUnits x t s
+  doing m (takes x) t s = takingUnits m x t s
   -- "f idle; ..", "frees b; .."
   doing m (frees x) t s =
       enter (λ e. goOn t (checkWels (shareServer x) (wakeFor m x (freeUnits (shareServer x) (shareUnits x) e))))
@@ -155,7 +181,7 @@ module _ {A : Type 0} (enter : (State → State) → A) (wait : (Transaction →
   -- WEL's first to REL and goes back to that block, still moving. This writes no record and clears its returning mark. Otherwise it does
   -- as kind 8"
   doing m (waitServer code v c) t s =
-      cond (status code (serverAt (s .view) v)) (wait (toWel v code))
+      cond (status code (serverAt (s .view) v)) (wait (toWel (m .edition) v code))
       (cond (ltb 0 c && ltb (t .stamp) (s .view .clock)) (back (λ e. moveTo (t .next - c) t (wakeFirstWel v code e)))
       (enter (λ e. goOn (stamped m t s) (wakeFirstWel v code e))))
   -- "waits on the WSL while true; else go on"
@@ -171,8 +197,8 @@ module _ {A : Type 0} (enter : (State → State) → A) (wait : (Transaction →
   doing m (counts c q) t s = enter (λ e. goOn t (setContent q (changed c (queueAt (s .view) q .content)) e))
   doing m (assemble n) t s = gathering (waitsFor t s) n t
 
-unfoldable pub takeUnits : Share → Transaction → State → State
-takeUnits x t s = takingUnits (λ f. f (enters t s)) (λ put. mustWait put t s) (λ f. f s) (λ put. beginWait put t s) x t s
+unfoldable pub takeUnits : BlockModel → Share → Transaction → State → State
+takeUnits m x t s = takingUnits (λ f. f (enters t s)) (λ put. mustWait put t s) (λ f. f s) (λ put. beginWait put t s) m x t s
 
 unfoldable pub effect : BlockModel → Block → Transaction → State → State
 effect m b t s = doing (λ f. f (enters t s)) (λ put. mustWait put t s) (λ f. f s) (λ put. beginWait put t s) m b t s

@@ -16,7 +16,7 @@ use Rattle.machine.specs.Bundle.{everything}
 -- one facility, one storage of 1 unit, a counter of 1
 abbrev yard : Rules → List Block → BlockModel
 yard rules blocks =
-    record { rules = rules; facilities = 1; capacities = 1 ∷ []; queues = 0; values = []; lists = 2; counter = 1; blocks = blocks }
+    record { rules = rules; edition = 1; facilities = 1; capacities = 1 ∷ []; queues = 0; values = []; lists = 2; counter = 1; blocks = blocks }
 
 -- one transaction, at clock 1, and a time of 5
 abbrev tape : List (List ℕ)

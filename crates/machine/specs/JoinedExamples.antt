@@ -15,7 +15,7 @@ use Rattle.machine.specs.Bundle.{everything}
 -- two facilities, 1 the storm and 2 the tug, and a storage of 1 berth
 abbrev port : List Block → BlockModel
 port blocks =
-    record { rules = document02; facilities = 2; capacities = 1 ∷ []; queues = 0; values = []; lists = 6; counter = 9; blocks = blocks }
+    record { rules = document02; edition = 1; facilities = 2; capacities = 1 ∷ []; queues = 0; values = []; lists = 6; counter = 9; blocks = blocks }
 
 -- the end and the turns; the records from a block on, as clock, transaction, block, outcome
 abbrev shown : List Block → (block : ℕ) → List (List ℕ) → List (List ℕ)

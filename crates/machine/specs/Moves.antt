@@ -1,9 +1,9 @@
 -- Lists: how transactions get a serial, come onto a list and leave it, and what a record notes.
 use Prim.Native.Nat.{ℕ, zero, suc, _+_}
 use mathlib.Core.Bool.{Bool, true, false, cond}
-use mathlib.Core.List.{List, [], _∷_}
+use mathlib.Core.List.{List, [], _∷_, reverse}
 use mathlib.Core.Option.{some}
-use lib.Dec.{eqb}
+use lib.Dec.{leb, eqb}
 use lib.ListN.{length, getD, set, take, drop}
 use Rattle.machine.specs.Transaction.{Transaction, Gatherer, precedes, earlier, newborn}
 use Rattle.machine.specs.Lists.{insert, those, others, replaceFirst, nth, setNth}
@@ -60,11 +60,20 @@ qlOf s v = nth (s .ql) v []
 abbrev pub welOf : State → ℕ → Code → List Transaction
 welOf s v code = getD (s .wel) (welIndex v code) []
 
-unfoldable pub toQl : ℕ → Transaction → State → State
-toQl v t s = setQl (setNth (s .ql) v (insert precedes t (qlOf s v))) s
+-- Document 02, item 12, edition 2: "placed from the back, behind the first member met of equal or higher priority"
+unfoldable pub fromBack : Transaction → List Transaction → List Transaction
+fromBack t l = reverse (insert (λ a b. leb (a .priority) (b .priority)) t (reverse l))
 
-unfoldable pub toWel : ℕ → Code → Transaction → State → State
-toWel v code t s = setWel (set (s .wel) (welIndex v code) (insert precedes t (welOf s v code))) s
+-- How one comes onto a QL or WEL: in order; under edition 2 "a returning transaction goes to the very front", others are placed from
+-- the back (document 000, section 5).
+unfoldable pub lineUp : (edition : ℕ) → Transaction → List Transaction → List Transaction
+lineUp edition t l = cond (eqb edition 1) (insert precedes t l) (cond (t .returning) (t ∷ l) (fromBack t l))
+
+unfoldable pub toQl : (edition v : ℕ) → Transaction → State → State
+toQl edition v t s = setQl (setNth (s .ql) v (lineUp edition t (qlOf s v))) s
+
+unfoldable pub toWel : (edition v : ℕ) → Code → Transaction → State → State
+toWel edition v code t s = setWel (set (s .wel) (welIndex v code) (lineUp edition t (welOf s v code))) s
 
 unfoldable pub toWsl : Transaction → State → State
 toWsl t s = setWsl (insert precedes t (s .wsl)) s
@@ -83,13 +92,30 @@ unfoldable pub wake : List Transaction → List Transaction → List Transaction
 wake [] rel = rel
 wake (t ∷ l) rel = wake l (insert precedes (withReturning true t) rel)
 
--- the first of a QL
-unfoldable pub wakeFirstQl : ℕ → State → State
-wakeFirstQl v s = setQl (setNth (s .ql) v (drop 1 (qlOf s v))) (setRel (wake (take 1 (qlOf s v)) (s .rel)) s)
+-- a list, parted into those who go to REL and those who stay, both in its order
+pub record Parted : Type 0 where
+  pub go : List Transaction
+  pub stay : List Transaction
 
--- every member of a QL that passes a test
-unfoldable pub wakeQl : (Transaction → Bool) → ℕ → State → State
-wakeQl p v s = setQl (setNth (s .ql) v (others p (qlOf s v))) (setRel (wake (those p (qlOf s v)) (s .rel)) s)
+abbrev pub nobody : Parted
+nobody = record { go = []; stay = [] }
+
+-- with one more in front
+abbrev pub goes : Transaction → Parted → Parted
+goes t p = record { go = t ∷ p .go; stay = p .stay }
+
+abbrev pub stays : Transaction → Parted → Parted
+stays t p = record { go = p .go; stay = t ∷ p .stay }
+
+-- the first, and every member that passes a test
+abbrev pub firstOf : List Transaction → Parted
+firstOf l = record { go = take 1 l; stay = drop 1 l }
+
+abbrev pub partBy : (Transaction → Bool) → List Transaction → Parted
+partBy p l = record { go = those p l; stay = others p l }
+
+unfoldable pub wakeQl : (List Transaction → Parted) → ℕ → State → State
+wakeQl part v s = setQl (setNth (s .ql) v (part (qlOf s v) .stay)) (setRel (wake (part (qlOf s v) .go) (s .rel)) s)
 
 -- the first of a WEL
 unfoldable pub wakeFirstWel : ℕ → Code → State → State

@@ -15,12 +15,13 @@ use Rattle.machine.specs.Validate.{accept, validate}
 use Rattle.machine.specs.Outcome.{Outcome, outcome}
 use Rattle.machine.specs.Claims.{Each}
 
--- clock limit, time limit, largest number and number of kinds are no lower
+-- clock limit, time limit, largest number and numbers of kinds and editions are no lower
 pub record Wider (old new : Rules) : Type 0 where
   pub clock : old .maxClock ≤ new .maxClock
   pub time : old .maxTime ≤ new .maxTime
   pub number : old .maxNumber ≤ new .maxNumber
   pub kinds : old .kinds ≤ new .kinds
+  pub editions : old .editions ≤ new .editions
 
 -- and all else is the same
 pub record AllowsNoLess (old new : Rules) : Type 0 where

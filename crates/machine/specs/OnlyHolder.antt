@@ -16,7 +16,7 @@ use Rattle.machine.specs.Claims.{factsAt, terminates, holderBy}
 
 -- the rules with the questions 27 and 28, or without them
 abbrev pub asking : Bool → Rules → Rules
-asking asked r = record { maxClock = r .maxClock; maxTime = r .maxTime; maxNumber = r .maxNumber; holders = asked; kinds = r .kinds }
+asking asked r = record { maxClock = r .maxClock; maxTime = r .maxTime; maxNumber = r .maxNumber; holders = asked; kinds = r .kinds; editions = r .editions }
 
 -- ---- Told from the records alone, newest first
 

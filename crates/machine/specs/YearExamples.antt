@@ -23,7 +23,7 @@ use Rattle.machine.specs.Examples.{firstModel}
 abbrev pub endAfter : Rules → (clock : ℕ) → ℕ
 endAfter rules clock =
     let m : BlockModel =
-    record { rules = rules; facilities = 0; capacities = []; queues = 0; values = []; lists = 1; counter = 1; blocks = advance 1 ∷ terminate 1 ∷ [] } in
+    record { rules = rules; edition = 1; facilities = 0; capacities = []; queues = 0; values = []; lists = 1; counter = 1; blocks = advance 1 ∷ terminate 1 ∷ [] } in
     let s : State = idle m ((2 ∷ []) ∷ []) in
     turn m (setView (setClock clock (s .view)) (setMoving (some (newborn 1 0 1)) s)) .end
 

@@ -91,6 +91,9 @@ impl Model {
 
     pub const REPORT_ROOM: usize = 10_240;
 
+    // document 02, item 12: edition 2; the contract of what reads it says that this is the highest
+    pub const EDITIONS: usize = 2;
+
     // The empty model, where decoding begins. Each limit is that of the definitions.
     pub fn empty() -> Model
         ensures nothing { λ r. ⌜ (r .facilities ≡ 0) × (r .storages ≡ 0) × (r .queues ≡ 0) × (r .values ≡ 0) × (r .lists ≡ 0) × (r .counter ≡ 0) × (r .blocks ≡ 0) ⌝ }

@@ -15,7 +15,7 @@ use Rattle.slowjob.specs.SlowJob.{jobs, raised, ends, endsOf, Delayed}
 -- one facility for each that the blocks name, a counter out of reach
 abbrev shop : (facilities : ℕ) → List Block → BlockModel
 shop facilities blocks =
-    record { rules = inForce; facilities = facilities; capacities = []; queues = 0; values = []; lists = 2; counter = 99; blocks = blocks }
+    record { rules = inForce; edition = 1; facilities = facilities; capacities = []; queues = 0; values = []; lists = 2; counter = 99; blocks = blocks }
 
 -- the service time at position i raised by d
 module _ (m : BlockModel) (arrivals services : List ℕ) (i d : ℕ) where

@@ -1,5 +1,5 @@
--- Where things stand in the two arrays of a run, by index. `tables`, filled once by decoding: the program, the values and the
--- capacities. `tally`, the 64-bit numbers that change: entries, units, contents, sums, and where each sample list goes on.
+-- Where things stand in the two arrays of a run, by index. `tables`, filled once by decoding: the program, the values, the
+-- capacities and the edition. `tally`, the 64-bit numbers that change: entries, units, contents, sums, and where each sample list goes on.
 use Prim.Native.Nat.{ℕ, _+_, _≤_}
 use mathlib.Core.List.{List}
 use lib.ListN.{length}
@@ -45,8 +45,12 @@ valueWidth = 64
 abbrev pub capacities : ℕ
 capacities = 2560
 
+-- the model's edition
+abbrev pub edition : ℕ
+edition = 2624
+
 abbrev pub tablesSize : ℕ
-tablesSize = 2624
+tablesSize = 2625
 
 -- the tables are whole; they have the program; they have the row of the block at `at`
 abbrev pub Tables : List ℕ → Type 0

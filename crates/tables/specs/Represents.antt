@@ -63,6 +63,7 @@ TimesAt bytes p l =
 -- the model was judged by the rules that the engine keeps
 pub record Represents (m : BlockModel) (tape : List (List ℕ)) (tapeBytes tables lists : List ℕ) : Type 0 where
   pub rules : m .rules ≡ inForce
+  pub edition : getD tables Layout.edition 0 ≡ m .edition
   pub blocks : (b : ℕ) → b < length (m .blocks) → At tables (Layout.blockWidth * b) (blockNumbers (getD (m .blocks) b (terminate 0)))
   pub small-blocks : (b : ℕ) → T (smallBlock (getD (m .blocks) b (terminate 0)))
   pub values : (k : ℕ) → k < length (m .values) → At tables (Layout.values + Layout.valueWidth * k) (sumNumbers (getD (m .values) k nothing))

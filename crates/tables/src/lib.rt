@@ -45,7 +45,9 @@ pub const VALUE_WIDTH: usize = 64;
 
 pub const CAPACITIES: usize = 2_560;
 
-pub const TABLES: usize = 2_624;
+pub const EDITION: usize = 2_624;
+
+pub const TABLES: usize = 2_625;
 
 pub const ENTRIES: usize = 0;
 
