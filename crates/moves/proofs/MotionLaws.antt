@@ -156,7 +156,7 @@ module _ (tapeBytes : List ℕ) (m : BlockModel) (r : Rows) (t : Transaction) (s
 
 -- Putting a transaction onto list p of a state changes that list and nothing that scalars hold.
 pub record Puts (p : ℕ) (into : Transaction → State → State) (s : State) : Type 0 where
-  pub lists : (t : Transaction) (q : ℕ) → q < 450 → update p (insert precedes t (listsOf s p)) (listsOf s) q ≡ listsOf (into t s) q
+  pub lists : (t : Transaction) (q : ℕ) → q < 706 → update p (insert precedes t (listsOf s p)) (listsOf s) q ≡ listsOf (into t s) q
   pub future : (t : Transaction) → s .fel ≡ into t s .fel
   pub clock : (t : Transaction) → s .view .clock ≡ into t s .view .clock
   pub counter : (t : Transaction) → s .counter ≡ into t s .counter
@@ -215,7 +215,7 @@ puts-wsl s =
       moving = λ t. refl;
     }
 
-puts-listing : (p : ℕ) → p < 450 → (into : Transaction → State → State) (w : List ℕ) (k : ℕ) (t : Transaction) (s : State) → Puts p into s
+puts-listing : (p : ℕ) → p < 706 → (into : Transaction → State → State) (w : List ℕ) (k : ℕ) (t : Transaction) (s : State) → Puts p into s
     → Listing w k (some t) s → Listing (put w p k) 1024 none (into t s)
 puts-listing p hp into w k t s puts h =
     listing-put w k t s (into t s) h (rw (← puts .made t, ← puts .ended t)) p hp (puts .lists t) (puts .future t)
@@ -231,7 +231,7 @@ pub record Waits (m : Moved) (b : Bare) : Type 0 where
   pub nobody : b .state .moving ≡ none
   pub note : noteOf (m .scalars .note) ≡ b .note
 
-module _ (p : ℕ) (hp : p < 450) (into : Transaction → State → State) (w : List ℕ) (x : Scalars) (t : Transaction) (s : State) (alone : s .moving ≡ none)
+module _ (p : ℕ) (hp : p < 706) (into : Transaction → State → State) (w : List ℕ) (x : Scalars) (t : Transaction) (s : State) (alone : s .moving ≡ none)
     (listing : Listing w (x .moving) (some t) s) (counting : Counting x s) where
   put-back-waits : Puts p into s → Waits (putBack w x p) (record { note = noNote; state = into t s })
   unfolding putBack moved noteOf

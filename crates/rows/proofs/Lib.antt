@@ -31,3 +31,4 @@ pub mod Newborn
 pub mod Starting
 pub mod Population
 pub mod Laws
+pub mod Kin

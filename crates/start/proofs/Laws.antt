@@ -38,7 +38,7 @@ use Rattle.tables.proofs.BlockKinds.{Kinds, generating, taking, waiting, arrivi
 -- ---- Before the first block: nobody lives
 
 module _ (m : BlockModel) (tape : List (List ℕ)) where
-  no-lists : (q : ℕ) → q < 450 → _≡_ {A = List Transaction} [] (listsOf (idle m tape) q)
+  no-lists : (q : ℕ) → q < 706 → _≡_ {A = List Transaction} [] (listsOf (idle m tape) q)
   unfolding listsOf idle
   no-lists q hq = go (ltb q 64) (ltb q 448) (eqb q 448)
     where
@@ -54,7 +54,7 @@ module _ (m : BlockModel) (tape : List (List ℕ)) where
 
     nobody : onLists (λ p. []) [] ≡ 0
     unfolding onLists
-    nobody = omega (arith, sum-zero 450 (λ p. 0) (λ k h. refl))
+    nobody = omega (arith, sum-zero 706 (λ p. 0) (λ k h. refl))
 
     idle-listing : Listing (initial w) 1024 none (idle m tape)
     unfolding idle

@@ -80,10 +80,10 @@ lists-set-wsl s l q = go (eqb q 448) refl (ltb q 64) refl (ltb q 448) refl
     go true e false f false g = refl
     go false e c f d g = refl
 
-high : (q : ℕ) → q < 450 → 448 ≤ q → q ≢ 448 → q ≢ 449 → ⊥
+high : (q : ℕ) → q < 706 → 448 ≤ q → q ≢ 448 → q ≢ 449 → ⊥
 high q h g a b = omega arith
 
-pub lists-set-rel : (s : State) (l : List Transaction) (q : ℕ) → q < 450 → update rel l (listsOf s) q ≡ listsOf (setRel l s) q
+pub lists-set-rel : (s : State) (l : List Transaction) (q : ℕ) → q < 706 → update rel l (listsOf s) q ≡ listsOf (setRel l s) q
 unfolding listsOf
 lists-set-rel s l q h = go (eqb q 449) refl (ltb q 64) refl (ltb q 448) refl (eqb q 448) refl
   where
@@ -104,6 +104,6 @@ lists-set-rel s l q h = go (eqb q 449) refl (ltb q 64) refl (ltb q 448) refl (eq
 
 -- ---- One list replaced, and REL
 
-pub lists-moved : (s s′ : State) (p : ℕ) (l r : List Transaction) → ((q : ℕ) → q < 450 → update p l (listsOf s) q ≡ listsOf s′ q) → (q : ℕ) → q < 450 → moved p l r (listsOf s) q ≡ listsOf (setRel r s′) q
+pub lists-moved : (s s′ : State) (p : ℕ) (l r : List Transaction) → ((q : ℕ) → q < 706 → update p l (listsOf s) q ≡ listsOf s′ q) → (q : ℕ) → q < 706 → moved p l r (listsOf s) q ≡ listsOf (setRel r s′) q
 lists-moved s s′ p l r e q hq =
     ap (λ (x : List Transaction). cond (eqb q rel) r x) (e q hq) ∙ lists-set-rel s′ r q hq
