@@ -203,7 +203,7 @@ module _ {m : BlockModel} {tape : List (List ℕ)} (proper : Proper m tape) (s :
   taken-placed =
       let U : Unmoved (Placed m) = record { mark = λ b t p. p; serial = λ n t p. p } in
       let k : Everybody (Placed m) (taking (s .moving) s) = taking-everybody (Placed m) U (s .moving) s (hs .placed) in
-      record { ql = k .ql; wel = k .wel; wsl = k .wsl; rel = k .rel; fel = k .fel; moving = k .moving }
+      record { ql = k .ql; wel = k .wel; wsl = k .wsl; rel = k .rel; fel = k .fel; gatherers = k .gatherers; moving = k .moving }
 
   taken-timely : Timely (inForce .maxClock) (takenOf s)
   taken-timely =
@@ -323,7 +323,7 @@ sane-turns n e s more few k =
     record {
       rules = k .rules;
       shape = k .shape;
-      placed = record { ql = k .placed .ql; wel = k .placed .wel; wsl = k .placed .wsl; rel = k .placed .rel; fel = k .placed .fel; moving = k .placed .moving };
+      placed = record { ql = k .placed .ql; wel = k .placed .wel; wsl = k .placed .wsl; rel = k .placed .rel; fel = k .placed .fel; gatherers = k .placed .gatherers; moving = k .placed .moving };
       timely = record { clock = k .timely .clock; times = k .timely .times };
       samples = k .samples;
       serials = k .serials;
