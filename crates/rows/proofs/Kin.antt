@@ -60,13 +60,13 @@ module _ {A : Type 0} (r : A → A → Bool) (x : A) where
       go false q e later = later e
 
 abbrev pub Other : List ℕ → ℕ → ℕ → Type 0
-Other w f k = eqb f (read w 10 k) ≡ false
+Other w f k = eqb (read w 10 k) f ≡ false
 
 -- a list has none of a family, or this row is the first
 pub data Kin (w : List ℕ) (p f : ℕ) (l : List ℕ) : Type 0 where
   nobody : All (Other w f) l → 1024 ≤ load w (familyCell w p f) → Kin w p f l
   somebody : (a b : List ℕ) (k : ℕ) → l ≡ a ++ k ∷ b → familyCell w p f ≡ ending (head p) a → load w (familyCell w p f) ≡ k → k < 1024
-      → All (Other w f) a → eqb f (read w 10 k) ≡ true → Kin w p f l
+      → All (Other w f) a → eqb (read w 10 k) f ≡ true → Kin w p f l
 
 pub kin-of : (w : List ℕ) (p f : ℕ) (l : List ℕ) → Listed w p l → Kin w p f l
 unfolding familyCell inFamily Chain
