@@ -340,6 +340,10 @@ module _ (w : List ℕ) (x : Scalars) where
   unfolding goTo moved
   go-to-used block = refl
 
+  pub begin-wait-used : (p : ℕ) → beginWait w x p .scalars .used ≡ x .used
+  unfolding beginWait moved
+  begin-wait-used p = refl
+
   pub wait-on-used : (p : ℕ) → waitOn w x p .scalars .used ≡ x .used
   unfolding waitOn putBack beginWait moved
   wait-on-used p = go (eqb (read w 1 (x .moving) % 2) 1)

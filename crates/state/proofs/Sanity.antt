@@ -21,7 +21,7 @@ use Rattle.machine.proofs.RunLaws.{each-map, each-pair}
 use Rattle.machine.proofs.Cases.{startOf-cases}
 use Rattle.machine.proofs.Kept.{taking-kept}
 use Rattle.machine.proofs.Shape.{Shape, shape-closed, shape-turn, shape-start, each-getD}
-use Rattle.machine.proofs.Everybody.{Everybody, Unmoved, taking-everybody}
+use Rattle.machine.proofs.Everybody.{Everybody, Unmoved, taking-everybody, like}
 use Rattle.machine.proofs.Placed.{Placed, placed-turn, placed-start}
 use Rattle.machine.proofs.Clocks.{Timely, taking-timely, timely-turn, timely-start}
 use Rattle.machine.proofs.Conservation.{Sound, Conserved, sound-conserved, sound-start, sound-turn}
@@ -32,7 +32,7 @@ use Rattle.state.proofs.Gains.{each-set, serverSums, queueSums, Gains, 
 use Rattle.state.proofs.BlockGains.{gains-none, gains-arrival}
 use Rattle.state.proofs.TurnGains.{Turned, unnoted, noted, turned}
 use Rattle.state.proofs.Measured.{ServerBound, QueueBound, Measured, measured-gains, measured-like, units-small, Took, took}
-use Rattle.machine.proofs.Gathering.{Gathering, gathering-turn, gathering-start, gathering-end, come-below, taking-gatherers}
+use Rattle.machine.proofs.Gathering.{Gathering, gathering-turn, gathering-start, come-below, taking-gatherers}
 
 -- the state in which the block of a turn finds the machine
 abbrev pub takenOf : State → State
@@ -367,5 +367,9 @@ sure-end m tape s e h =
       sane = sane-turns (s .turns) e s (omega arith) (h .sane .turns) (h .sane);
       ahead = record { later = h .ahead .later; rising = h .ahead .rising };
       sound = record { shape = h .sound .shape; balanced = h .sound .balanced; books = h .sound .books };
-      gathering = gathering-end s e (h .gathering);
+      gathering =
+          record {
+            kindred = like _ (record { mark = λ b t p. p; serial = λ n t p. p }) s (setEnd e s) refl refl refl refl refl refl refl (h .gathering .kindred);
+            gathers = h .gathering .gathers;
+          };
     }
