@@ -30,14 +30,14 @@ unfoldable pub releaseOn : List ℕ → Scalars → (p c j : ℕ) → Moved
 releaseOn w x p c j =
     toReady (setReturning (write (removeAt w p c) nextField j (next32 (read w nextField (x .moving)))) j 0) x j
 
--- a later one ends, but the counter does not fall
-unfoldable pub endOn : List ℕ → Scalars → Moved
-endOn w x = moved (putNote 0 (putEnded (next32 (x .ended)) (putMoving rowCount x))) (freeRow w (x .moving))
+-- a later one, row k, ends, but the counter does not fall
+unfoldable pub endOn : List ℕ → Scalars → (k : ℕ) → Moved
+endOn w x k = moved (putNote 0 (putEnded (next32 (x .ended)) (putMoving rowCount x))) (freeRow w k)
 
 -- so many have come with it
 unfoldable pub countOn : List ℕ → Scalars → (n p c j come : ℕ) → Moved
 countOn w x n p c j come =
-    cond (eqb come n) (endOn (releaseOn w x p c j .work) (releaseOn w x p c j .scalars)) (endOn (write w nextField j come) x)
+    cond (eqb come n) (endOn (releaseOn w x p c j .work) (releaseOn w x p c j .scalars) (x .moving)) (endOn (write w nextField j come) x (x .moving))
 
 unfoldable pub laterRows : (facilities : ℕ) → List ℕ → List ℕ → Scalars → (n p c j : ℕ) → Rows
 laterRows facilities w tally x n p c j =

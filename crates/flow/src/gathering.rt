@@ -70,13 +70,13 @@ fn release_on(work: &mut [u32], x: Scalars, p: u32, c: u32, j: u32) -> Scalars
     to_ready(work, x, j)
 }
 
-// A later one ends.
-fn end_on(work: &mut [u32], x: Scalars) -> Scalars
+// A later one, row k, ends.
+fn end_on(work: &mut [u32], x: Scalars, k: u32) -> Scalars
     requires { ⌜ Room (now work) ⌝ }
-    requires { ⌜ x .moving < rowCount ⌝ }
-    ensures { λ r. ⌜ moved r (now (work .exit)) ≡ endOn (now (work .entry)) x ⌝ }
+    requires { ⌜ k < rowCount ⌝ }
+    ensures { λ r. ⌜ moved r (now (work .exit)) ≡ endOn (now (work .entry)) x k ⌝ }
 {
-    free_row(work, x.moving);
+    free_row(work, k);
     let mut y = x;
     y.moving = NOBODY;
     y.ended = plus32(x.ended, 1);
@@ -92,12 +92,13 @@ fn count_on(work: &mut [u32], x: Scalars, n: u32, p: u32, c: u32, j: u32, come: 
     requires { ⌜ j < rowCount ⌝ }
     ensures { λ r. ⌜ moved r (now (work .exit)) ≡ countOn (now (work .entry)) x n p c j come ⌝ }
 {
+    let k = x.moving;
     if come == n {
         let y = release_on(work, x, p, c, j);
-        return end_on(work, y);
+        return end_on(work, y, k);
     }
     write(work, NEXT, j, come);
-    end_on(work, x)
+    end_on(work, x, k)
 }
 
 fn later(
