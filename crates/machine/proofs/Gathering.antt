@@ -2,7 +2,7 @@
 -- those since the last n-th have come; one of the family waits with that count, and nobody where it is 0.
 use Prim.Native.Nat.{ℕ, zero, suc, _+_, _*_, _-_, _/_, _%_, _≤_, _<_}
 use mathlib.Core.Path.{_≡_, refl, sym, ap, subst, _∙_}
-use mathlib.Core.Bool.{Bool, true, false, cond, _&&_}
+use mathlib.Core.Bool.{Bool, true, false, cond, _&&_, true≢false}
 use mathlib.Core.List.{List, [], _∷_, _++_, map}
 use mathlib.Core.Option.{Option, none, some}
 use native.Mathlib.Omega.{arith}
@@ -153,7 +153,7 @@ unfolding takeReady
 takeReady-gatherers [] s = takeFirst-gatherers _ _ ∙ nextEvents-gatherers (s .fel) s
 takeReady-gatherers (t ∷ l) s = takeFirst-gatherers (t ∷ l) s
 
-taking-gatherers : (o : Option Transaction) (s : State) → taking o s .gatherers ≡ s .gatherers
+pub taking-gatherers : (o : Option Transaction) (s : State) → taking o s .gatherers ≡ s .gatherers
 unfolding taking
 taking-gatherers none s = takeReady-gatherers (s .rel) s
 taking-gatherers (some t) s = refl
@@ -231,6 +231,11 @@ role (priority p) = other refl
 role (split n target) = other refl
 role (counts c q) = other refl
 role (assemble n) = gathering n
+
+-- the invariant
+pub record Gathering (m : BlockModel) (tape : List (List ℕ)) (s : State) : Type 0 where
+  pub kindred : Kindred m tape s
+  pub gathers : (b f : ℕ) → 1 ≤ b → 0 < facts (blockAt m b) .gathers → OneGathers m tape s b f
 
 -- the claims of one state
 pub record Assembled (m : BlockModel) (tape : List (List ℕ)) (s : State) : Type 0 where
@@ -417,36 +422,33 @@ module _ {m : BlockModel} {tape : List (List ℕ)} (proper : Proper m tape) wher
   unfolding wakeWsl
   wsScheme-gathers s h = wsScheme-cases Gathers m s (λ e. h) (λ e. h)
 
-  record Whole (s : State) : Type 0 where
-    sound : Sound m tape s
-    everywhere : Everybody (Placed m) s
-    kindred : Kindred m tape s
-    gathers : Gathers s
-
-  whole-turn : (s : State) → Whole s → Whole (turn m s)
-  whole-turn s h =
+  -- a turn of a sound state whose transactions stand at blocks
+  pub gathering-turn : (s : State) → Sound m tape s → Everybody (Placed m) s → Gathering m tape s → Gathering m tape (turn m s)
+  unfolding GathersIn
+  gathering-turn s sound placed h =
       record {
-        sound = sound-turn m tape proper s (h .sound);
-        everywhere = placed-turn m tape proper s (h .everywhere);
-        kindred = kindred-turn m tape s (h .sound) (h .kindred);
-        gathers = unfold turn in (wsScheme-gathers _ (execute-gathers (taken .moving) taken (known (taken .moving) (everywhere .moving) (kindred .moving)) (sound-taking m tape s (h .sound) .shape) same));
+        kindred = kindred-turn m tape s sound (h .kindred);
+        gathers = unfold turn in (wsScheme-gathers _ (execute-gathers (taken .moving) taken (known (taken .moving) (everywhere .moving) (kindred .moving)) (sound-taking m tape s sound .shape) same));
       }
     where
       taken : State
       taken = setTurns (suc (s .turns)) (taking (s .moving) s)
 
       everywhere : Everybody (Placed m) (taking (s .moving) s)
-      everywhere = taking-everybody (Placed m) (record { mark = λ b t h. h; serial = λ n t h. h }) (s .moving) s (h .everywhere)
+      everywhere = taking-everybody (Placed m) (record { mark = λ b t h. h; serial = λ n t h. h }) (s .moving) s placed
 
       kindred : Kindred m tape (taking (s .moving) s)
-      kindred = kindred-taking m tape s (h .sound) (h .kindred)
+      kindred = kindred-taking m tape s sound (h .kindred)
 
       known : (o : Option Transaction) → Maybe (Placed m) o → Maybe (λ t. (t .number ≤ taken .made) × (t .family ≡ familyBy m tape (taken .records) (t .number))) o → Maybe (Known taken) o
       known none p k = tt
       known (some t) p k = (p .0 .0, k .1)
 
+      before : GathersIn (s .records) (s .gatherers)
+      before = unfold GathersIn in (h .gathers)
+
       same : GathersIn (taking (s .moving) s .records) (taking (s .moving) s .gatherers)
-      same = subst (λ l. GathersIn l (taking (s .moving) s .gatherers)) (sym (taking-records (s .moving) s)) (subst (GathersIn (s .records)) (sym (taking-gatherers (s .moving) s)) (h .gathers))
+      same = subst (λ l. GathersIn l (taking (s .moving) s .gatherers)) (sym (taking-records (s .moving) s)) (subst (GathersIn (s .records)) (sym (taking-gatherers (s .moving) s)) before)
 
   -- ---- The start
 
@@ -474,28 +476,70 @@ module _ {m : BlockModel} {tape : List (List ℕ)} (proper : Proper m tape) wher
       ap (λ (l : List Gatherer). map (λ g. g .come) (those (ofFamily f) l)) (empty-at (length (m .blocks)) (b - 1))
       ∙ sym (ap upto (mod-eq-of-lt positive))
 
-  whole-start : Whole (start m tape)
-  whole-start =
-      record {
-        sound = sound-start m tape proper;
-        everywhere = placed-start m tape proper;
-        kindred = kindred-start m tape;
-        gathers = unfold start in (startAt-gathers 1 (m .blocks) (idle m tape) idle-gathers);
-      }
+  pub gathering-start : Gathering m tape (start m tape)
+  unfolding GathersIn
+  gathering-start = record { kindred = kindred-start m tape; gathers = unfold start in (startAt-gathers 1 (m .blocks) (idle m tape) idle-gathers) }
 
   -- ---- The run
+
+  pub gathering-end : (s : State) (e : ℕ) → Gathering m tape s → Gathering m tape (setEnd e s)
+  gathering-end s e h =
+      record { kindred = like _ (record { mark = λ b t h. h; serial = λ n t h. h }) s _ refl refl refl refl refl refl refl (h .kindred); gathers = h .gathers }
+
+  record Whole (s : State) : Type 0 where
+    sound : Sound m tape s
+    everywhere : Everybody (Placed m) s
+    gathering : Gathering m tape s
+
+  whole-turn : (s : State) → Whole s → Whole (turn m s)
+  whole-turn s h =
+      record {
+        sound = sound-turn m tape proper s (h .sound);
+        everywhere = placed-turn m tape proper s (h .everywhere);
+        gathering = gathering-turn s (h .sound) (h .everywhere) (h .gathering);
+      }
 
   whole-end : (s : State) (e : ℕ) → Whole s → Whole (setEnd e s)
   whole-end s e h =
       record {
         sound = record { shape = h .sound .shape; balanced = h .sound .balanced; books = h .sound .books };
         everywhere = like _ (record { mark = λ b t h. h; serial = λ n t h. h }) s _ refl refl refl refl refl refl refl (h .everywhere);
-        kindred = like _ (record { mark = λ b t h. h; serial = λ n t h. h }) s _ refl refl refl refl refl refl refl (h .kindred);
-        gathers = h .gathers;
+        gathering = gathering-end s e (h .gathering);
       }
 
   pub assembled : (budget room : ℕ) → Each (Assembled m tape) (states m tape budget room)
-  unfolding GathersIn
   assembled budget room =
-      each-map (λ s h. record { families = kindred-families m tape s (h .kindred); gathered = h .gathers }) (states m tape budget room)
-      (each-state m budget room Whole (λ s t h. whole-turn s h) (λ s e c h. whole-end s e h) tape whole-start)
+      each-map (λ s h. record { families = kindred-families m tape s (h .gathering .kindred); gathered = h .gathering .gathers }) (states m tape budget room)
+      (each-state m budget room Whole (λ s t h. whole-turn s h) (λ s e c h. whole-end s e h) tape
+      (record { sound = sound-start m tape proper; everywhere = placed-start m tape proper; gathering = gathering-start }))
+
+  -- ---- Fewer have come than the ASSEMBLE gathers
+
+  all-families : (P : Gatherer → Type 0) (l : List Gatherer) → ((f : ℕ) → Each P (those (ofFamily f) l)) → Each P l
+  unfolding those
+  all-families P [] h = tt
+  all-families P (x ∷ l) h =
+      (first (those (ofFamily (x .who .family)) l) (ofFamily (x .who .family) x) (eq-eqb (x .who .family) (x .who .family) refl) (h (x .who .family)), all-families P l (λ f. later (those (ofFamily f) l) (ofFamily f x) (h f)))
+    where
+      first : (k : List Gatherer) (b : Bool) → b ≡ true → Each P (cond b (x ∷ k) k) → P x
+      first k true e p = p .0
+      first k false e p = absurd (true≢false (sym e))
+
+      later : (k : List Gatherer) (b : Bool) → Each P (cond b (x ∷ k) k) → Each P k
+      later k true p = p .1
+      later k false p = p
+
+  pub come-below : (s : State) → Gathering m tape s → (b : ℕ) → 1 ≤ b → 0 < facts (blockAt m b) .gathers
+      → Each (λ g. g .come < facts (blockAt m b) .gathers) (gatherersAt s b)
+  come-below s h b low positive =
+      all-families (λ g. g .come < facts (blockAt m b) .gathers) (gatherersAt s b)
+      (λ f. below (those (ofFamily f) (gatherersAt s b)) (comeBy m tape (s .records) b f) (h .gathers b f low positive))
+    where
+      n : ℕ
+      n = facts (blockAt m b) .gathers
+
+      below : (l : List Gatherer) (k : ℕ) → map (λ g. g .come) l ≡ upto (k % n) → Each (λ g. g .come < n) l
+      below [] k e = tt
+      below (g ∷ l) k e =
+          let x = upto-some (k % n) (g .come) (map (λ g. g .come) l) e in
+          (omega (arith, x .0, mod-lt k positive), subst (Each (λ g. g .come < n)) (sym (none-left l (x .1))) tt)

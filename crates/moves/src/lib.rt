@@ -74,7 +74,7 @@ fn put_back(work: &mut [u32], x: Scalars, p: u32, edition: u32) -> Scalars
 }
 
 // Another one begins to wait on list p with a fresh serial.
-fn begin_wait(work: &mut [u32], x: Scalars, p: u32, edition: u32) -> Scalars
+pub fn begin_wait(work: &mut [u32], x: Scalars, p: u32, edition: u32) -> Scalars
     requires { ⌜ Room (now work) ⌝ }
     requires { ⌜ x .moving < rowCount ⌝ }
     requires { ⌜ p < listCount ⌝ }
