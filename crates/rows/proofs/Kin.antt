@@ -16,7 +16,7 @@ use Rattle.rows.specs.Cells.{load, read, write}
 use Rattle.rows.specs.Lists.{removeAt, put, inFamily, familyCell}
 use Rattle.rows.specs.Holds.{transactionAt, eventAt, occurs, Chain, ending, Listed, Holds, update}
 use Rattle.rows.specs.Ordered.{All, Sorted, Ordered}
-use Rattle.rows.specs.Shows.{Shows, Loose, moved}
+use Rattle.rows.specs.Shows.{orderOf, Shows, Loose, moved}
 use Rattle.rows.proofs.Store.{load-other}
 use Rattle.rows.proofs.Occurs.{same-refl, same-other, same-le, occurs-append, occurs-cons}
 use Rattle.rows.proofs.Chain.{chain-row, chain-after}
@@ -174,9 +174,9 @@ module _ (w : List ℕ) (T : ℕ → List Transaction) (E : List Event) (s : Sho
                 spare = s .shown .spare;
               };
           ordered =
-              ordered-list (λ q. precedes) T E p counted
-              (sorted-as precedes (transactionAt w k) (withNext x (transactionAt w k)) (λ z. unfold precedes in refl) (λ z. unfold precedes in refl) (map (transactionAt w) a) (map (transactionAt w) b)
-              (subst (Sorted precedes) (sym (s .shown .lists p hp) ∙ ap (map (transactionAt w)) was ∙ map-append (transactionAt w) a (k ∷ b)) (s .ordered .lists p hp)))
+              ordered-list orderOf T E p counted
+              (sorted-as (orderOf p) (transactionAt w k) (withNext x (transactionAt w k)) (λ z. unfold precedes in refl) (λ z. unfold precedes in refl) (map (transactionAt w) a) (map (transactionAt w) b)
+              (subst (Sorted (orderOf p)) (sym (s .shown .lists p hp) ∙ ap (map (transactionAt w)) was ∙ map-append (transactionAt w) a (k ∷ b)) (s .ordered .lists p hp)))
               (s .ordered);
         }
       where
@@ -210,10 +210,10 @@ module _ (w : List ℕ) (T : ℕ → List Transaction) (E : List Event) (s : Sho
           rows = update p (a ++ b) L;
           shown = shown-list w w₁ L T E (s .shown) p (a ++ b) (remove-holds w L h p k a b hl hk was) (remove-keeps w L h p k a b hl hk was .rows) hp;
           ordered =
-              ordered-list (λ q. precedes) T E p left
+              ordered-list orderOf T E p left
               (rw (map-append (transactionAt w) a b)
-              (sorted-without precedes (map (transactionAt w) a) (transactionAt w k) (map (transactionAt w) b)
-              (subst (Sorted precedes) (sym (s .shown .lists p hp) ∙ ap (map (transactionAt w)) was ∙ map-append (transactionAt w) a (k ∷ b)) (s .ordered .lists p hp))))
+              (sorted-without (orderOf p) (map (transactionAt w) a) (transactionAt w k) (map (transactionAt w) b)
+              (subst (Sorted (orderOf p)) (sym (s .shown .lists p hp) ∙ ap (map (transactionAt w)) was ∙ map-append (transactionAt w) a (k ∷ b)) (s .ordered .lists p hp))))
               (s .ordered);
         }
 
@@ -229,7 +229,7 @@ module _ (w : List ℕ) (T : ℕ → List Transaction) (E : List Event) (s : Sho
         }
 
     puts : Puts v (put v rel k) k (update rel (insert precedes (transactionAt v k) (U rel)) U) E
-    puts = put-shows v U E written-shows k (written .loose (taken .off)) rel (omega arith)
+    puts = put-shows v U E written-shows k (written .loose (taken .off)) rel (omega arith) (written-shows .ordered .lists rel (omega arith))
 
     pub release-shows : Wakes w (put v rel k) (moved p left (insert precedes (transactionAt v k) (T rel)) T) E
     release-shows =
