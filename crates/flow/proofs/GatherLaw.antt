@@ -24,6 +24,7 @@ use Rattle.tables.specs.Represents.{Represents}
 use Rattle.rows.specs.Layout.{head, rel}
 use Rattle.rows.specs.Cells.{load, read, write, setReturning}
 use Rattle.rows.specs.Lists.{removeAt, put, familyCell}
+use Rattle.rows.specs.Lines.{lineSpot, lineUp}
 use Rattle.rows.specs.Make.{freeRow}
 use Rattle.rows.specs.Holds.{transactionAt, ending, update}
 use Rattle.rows.specs.Ordered.{All}
@@ -156,7 +157,7 @@ module _ (m : BlockModel) (tape : List (List ℕ)) (tapeBytes tables lists : Lis
     w₂ = write w₁ 7 (x .moving) (suc (s .serial))
 
     gather-is : gatherOn w x p ≡ moved (putNote 1 (putSerial (suc (s .serial)) (putMoving 1024 x))) (put w₂ p (x .moving))
-    unfolding gatherOn beginWait
+    unfolding gatherOn beginWait lineUp lineSpot put
     gather-is = rw serial-is
 
     g₁ : Listing w₁ (x .moving) (some (withNext 1 t)) s₀
@@ -181,7 +182,7 @@ module _ (m : BlockModel) (tape : List (List ℕ)) (tapeBytes tables lists : Lis
 
     g₄ : Listing (put w₂ p (x .moving)) 1024 none (toGatherers t′ later)
     unfolding toGatherers
-    g₄ = listing-put w₂ (x .moving) (withNext 1 t′) later (toGatherers t′ later) g₃ refl p (omega (arith, few)) on-list refl
+    g₄ = listing-put w₂ (x .moving) (withNext 1 t′) later (toGatherers t′ later) g₃ refl p (omega arith) (omega (arith, few)) on-list refl
 
     first-done : Done tapeBytes (withTally (gatherOn w x p) tally) (beginning toGatherers t s₀)
     unfolding moved rowsOf noteOf toGatherers

@@ -13,7 +13,7 @@ use Rattle.rows.specs.Make.{freeRow}
 use Rattle.state.specs.declared.scalars.Scalars.{Scalars}
 use Rattle.state.specs.ScalarSetters.{putMoving, putEnded, putNote}
 use Rattle.state.specs.Stands.{Rows, rowsOf}
-use Rattle.moves.specs.Motion.{Moved, moved, withTally, next32, beginWait, stopped}
+use Rattle.moves.specs.Motion.{Moved, moved, inOrder, withTally, next32, beginWait, stopped}
 use Rattle.flow.specs.Sending.{toReady}
 use Rattle.flow.specs.Questions.{askHolding}
 
@@ -23,7 +23,7 @@ listAt w k = gatherers + (read w nextField k - 1) % maxBlocks
 
 -- the first of its family begins to wait on list p; it alone has come
 unfoldable pub gatherOn : List ℕ → Scalars → (p : ℕ) → Moved
-gatherOn w x p = beginWait (write w nextField (x .moving) 1) x p 1
+gatherOn w x p = beginWait (write w nextField (x .moving) 1) x p inOrder
 
 -- the one that waits, row j of cell c, goes on from the block of the moving one
 unfoldable pub releaseOn : List ℕ → Scalars → (p c j : ℕ) → Moved

@@ -2,6 +2,7 @@
 use crate::questions::ask_holding;
 use crate::sending::to_ready;
 use machine::Model;
+use moves::IN_ORDER;
 use moves::begin_wait;
 use moves::stop;
 use rows::FAMILY;
@@ -52,7 +53,7 @@ fn gather_on(work: &mut [u32], x: Scalars, p: u32) -> Scalars
     ensures { λ r. ⌜ moved r (now (work .exit)) ≡ gatherOn (now (work .entry)) x p ⌝ }
 {
     write(work, NEXT, x.moving, 1);
-    begin_wait(work, x, p, 1)
+    begin_wait(work, x, p, IN_ORDER)
 }
 
 // The one that waits, row j of cell c, goes to REL and on from the block of the moving one.
