@@ -8,18 +8,19 @@ use lib.Dec.{ltb, leb, eqb}
 use lib.ListN.{getD, set}
 use lib.Seq.{getD-set-other}
 use Rattle.tables.specs.Layout as Layout
-use Rattle.rows.specs.Layout.{numberField}
-use Rattle.rows.specs.Cells.{read}
+use Rattle.rows.specs.Layout.{numberField, nextField, rowCount}
+use Rattle.rows.specs.Cells.{load, read}
 use Rattle.rows.specs.Make.{freeRow}
 use Rattle.state.specs.declared.scalars.Scalars.{Scalars}
 use Rattle.state.specs.Stands.{Rows, rowsOf}
-use Rattle.moves.specs.Motion.{Moved, withTally, goOn, stopped}
+use Rattle.moves.specs.Motion.{Moved, withTally, next32, goOn, stopped}
 use Rattle.flow.specs.declared.samples.Sample.{Sample}
 use Rattle.flow.specs.Samples.{nextSample, useTime}
 use Rattle.flow.specs.Questions.{askRoom, askTime, askArrival, askHolding}
 use Rattle.flow.specs.Sending.{arrives}
 use Rattle.flow.specs.Kinds.{arriveOn, generateWith, generateNext, generateRows, delayRows, advanceWith, advanceNext, advanceRows, endOne, terminateRows, priorityRows, splitOn, splitRows}
-use Rattle.flow.proofs.Untouched.{generate-untouched, advance-untouched, terminate-untouched, priority-untouched, split-untouched}
+use Rattle.flow.proofs.Untouched.{generate-untouched, advance-untouched, terminate-untouched, priority-untouched, split-untouched, assemble-untouched}
+use Rattle.flow.specs.Gathering.{gatherOn, countOn, laterRows, gatherRows, assembleRows}
 use Rattle.servers.specs.Units.{serverAt, inUse, holder, setUse, capacity}
 use Rattle.servers.specs.Taking.{holdUnits, longer, queueUp, takeUnits, seize, enter}
 use Rattle.servers.specs.Freeing.{freeOne, freeSome, askRelease, release, leave}
@@ -120,6 +121,20 @@ module _ (tables tape w tally : List ℕ) (x : Scalars) where
       either tally (eqb (askRoom x (getD tables (at + 1) 0)) 0) (withTally (splitOn w x (getD tables (at + 1) 0) (getD tables (at + 2) 0)) tally) (rowsOf (stopped x (askRoom x (getD tables (at + 1) 0))) w tally)
       (plain tally (splitOn w x (getD tables (at + 1) 0) (getD tables (at + 2) 0) .scalars) (splitOn w x (getD tables (at + 1) 0) (getD tables (at + 2) 0) .work)) (plain tally (stopped x (askRoom x (getD tables (at + 1) 0))) w)
 
+  gather-waits : (facilities n p c : ℕ) → Stays tally (gatherRows facilities w tally x n p c)
+  unfolding gatherRows laterRows
+  gather-waits facilities n p c =
+      let j : ℕ = load w c in
+      let end : ℕ = askHolding tally facilities (read w numberField (x .moving)) in
+      let counted : Moved = countOn w x n p c j (next32 (read w nextField j)) in
+      either tally (ltb j rowCount) (cond (eqb end 0) (withTally counted tally) (rowsOf (stopped x end) w tally)) (withTally (gatherOn w x p) tally)
+      (either tally (eqb end 0) (withTally counted tally) (rowsOf (stopped x end) w tally) (plain tally (counted .scalars) (counted .work)) (plain tally (stopped x end) w))
+      (plain tally (gatherOn w x p .scalars) (gatherOn w x p .work))
+
+  assemble-waits : (facilities at : ℕ) → Stays tally (assembleRows tables facilities w tally x at)
+  unfolding assembleRows
+  assemble-waits facilities at = gather-waits facilities _ _ _
+
   used-units : (v units who : ℕ) → Waits tally (setUse tally v units who)
   used-units v units who = two-set tally (Layout.inUse + v) units (Layout.holder + v) who (omega arith) (omega arith)
 
@@ -202,6 +217,10 @@ module _ (tables tape w tally : List ℕ) (x : Scalars) (at : ℕ) where
 
   pub split-apart : Apart x tally (splitRows tables w tally x at)
   split-apart = record { used = split-untouched tables w tally x at .used; waits = split-waits tables tape w tally x at .waits }
+
+  pub assemble-apart : (facilities : ℕ) → Apart x tally (assembleRows tables facilities w tally x at)
+  assemble-apart facilities =
+      record { used = assemble-untouched tables facilities w tally x at .used; waits = assemble-waits tables tape w tally x facilities at .waits }
 
   pub seize-apart : Apart x tally (seize tables w tally x at)
   seize-apart = record { used = seize-used tables w tally x at; waits = seize-waits tables tape w tally x at .waits }

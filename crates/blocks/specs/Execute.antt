@@ -8,6 +8,7 @@ use Rattle.state.specs.declared.scalars.Scalars.{Scalars}
 use Rattle.state.specs.Stands.{Rows, rowsOf}
 use Rattle.moves.specs.Motion.{withTally}
 use Rattle.flow.specs.Kinds.{generateRows, advanceRows, terminateRows, priorityRows, splitRows}
+use Rattle.flow.specs.Gathering.{assembleRows}
 use Rattle.servers.specs.Taking.{seize, enter}
 use Rattle.servers.specs.Freeing.{release, leave}
 use Rattle.servers.specs.WaitServer.{waitServer}
@@ -16,7 +17,7 @@ use Rattle.decisions.specs.Jumps.{goto}
 use Rattle.decisions.specs.Queues.{arrive, depart}
 
 module _ (tables : List ℕ) (values facilities : ℕ) (tape w tally : List ℕ) (x : Scalars) (at : ℕ) where
-  -- kinds 9 to 17
+  -- kinds 9 to 18
   unfoldable pub later : ℕ → Rows
   later kind =
       cond (eqb kind 9) (withTally (waitTerms tables values w tally x at) tally)
@@ -27,7 +28,8 @@ module _ (tables : List ℕ) (values facilities : ℕ) (tape w tally : List ℕ)
       (cond (eqb kind 14) (splitRows tables w tally x at)
       (cond (eqb kind 15) (arrive tables w tally x at)
       (cond (eqb kind 16) (depart tables w tally x at)
-      (cond (eqb kind 17) (withTally (waitServer tables w tally x at) tally) (rowsOf x w tally)))))))))
+      (cond (eqb kind 17) (withTally (waitServer tables w tally x at) tally)
+      (cond (eqb kind 18) (assembleRows tables facilities w tally x at) (rowsOf x w tally))))))))))
 
   unfoldable pub byKind : ℕ → Rows
   byKind kind =

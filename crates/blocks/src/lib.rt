@@ -6,6 +6,7 @@ use decisions::depart;
 use decisions::goto;
 use decisions::wait_terms;
 use flow::advance;
+use flow::assemble;
 use flow::generate;
 use flow::priority;
 use flow::split;
@@ -62,6 +63,7 @@ pub fn execute(
         15 => arrive(tables, work, tally, x, at),
         16 => depart(tables, work, tally, x, at),
         17 => wait_server(tables, work, tally, x, at),
+        18 => assemble(tables, facilities, work, tally, x, at),
         _ => x,
     }
 }

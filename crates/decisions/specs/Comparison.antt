@@ -10,7 +10,7 @@ use Rattle.rows.specs.Cells.{read, write}
 use Rattle.terms.specs.declared.Parameters.{Parameters}
 use Rattle.terms.specs.Evaluation.{termAt, compareAt}
 use Rattle.state.specs.declared.scalars.Scalars.{Scalars}
-use Rattle.moves.specs.Motion.{Moved, goTo, goOn, waitOn}
+use Rattle.moves.specs.Motion.{Moved, inOrder, goTo, goOn, waitOn}
 
 -- the parameters of row k, as bits
 unfoldable pub parametersAt : List ℕ → ℕ → Parameters
@@ -29,7 +29,7 @@ setParameter w k i x = cond (ltb i 4) (write w (parameterField + i) k x) w
 
 module _ (tables : List ℕ) (values : ℕ) (w tally : List ℕ) (x : Scalars) (at : ℕ) where
   unfoldable pub waitTerms : Moved
-  waitTerms = cond (holdsAt tables values w tally (x .clock) (x .moving) at) (waitOn w x wsl 1) (goOn w x)
+  waitTerms = cond (holdsAt tables values w tally (x .clock) (x .moving) at) (waitOn w x wsl inOrder) (goOn w x)
 
   unfoldable pub branch : Moved
   branch = cond (holdsAt tables values w tally (x .clock) (x .moving) at) (goTo w x (getD tables (at + 6) 0)) (goOn w x)

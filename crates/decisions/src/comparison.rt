@@ -1,5 +1,6 @@
 // Blocks with terms, which are read with the moving transaction's own parameters: WAITIF, IF and LET.
 use machine::Model;
+use moves::IN_ORDER;
 use moves::go_on;
 use moves::go_to;
 use moves::wait_on;
@@ -105,7 +106,7 @@ pub fn wait_terms(
     let k = x.moving;
     let clock = x.clock;
     if holds(tables, values, work, tally, clock, k, at) {
-        return wait_on(work, x, WSL, 1);
+        return wait_on(work, x, WSL, IN_ORDER);
     }
     go_on(work, x)
 }

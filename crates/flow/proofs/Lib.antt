@@ -12,3 +12,5 @@ pub mod TerminateLaw
 pub mod PriorityLaw
 pub mod SplitLaw
 pub mod Untouched
+pub mod Kin
+pub mod GatherLaw

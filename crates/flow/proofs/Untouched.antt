@@ -6,16 +6,17 @@ use mathlib.Core.List.{List}
 use lib.Dec.{eqb, ltb}
 use lib.ListN.{getD}
 use Rattle.rows.specs.Layout.{numberField, free}
-use Rattle.rows.specs.Cells.{read}
+use Rattle.rows.specs.Cells.{load, read}
 use Rattle.rows.specs.Lists.{first, takeFirst}
 use Rattle.state.specs.declared.scalars.Scalars.{Scalars}
 use Rattle.state.specs.Stands.{Rows, rowsOf}
-use Rattle.moves.specs.Motion.{Moved, moved, goTo, goOn, stopped}
+use Rattle.moves.specs.Motion.{Moved, moved, goTo, goOn, beginWait, stopped}
 use Rattle.flow.specs.declared.samples.Sample.{Sample}
 use Rattle.flow.specs.Samples.{nextSample}
 use Rattle.flow.specs.Sending.{plus64, toFuture, toReady, bornAt, born, arrives, copyTo, copyOne}
 use Rattle.flow.specs.Questions.{askRoom, askTime, askArrival, askHolding}
 use Rattle.flow.specs.Kinds.{parked, arriveOn, generateWith, generateNext, generateRows, sendOn, delayRows, advanceWith, advanceNext, advanceRows, endOne, terminateRows, rankOn, priorityRows, copiesOf, splitOn, splitRows}
+use Rattle.flow.specs.Gathering.{gatherOn, releaseOn, endOn, countOn, laterRows, gatherRows, assembleRows}
 
 pub record Untouched (x y : Scalars) : Type 0 where
   pub used : y .used ≡ x .used
@@ -105,3 +106,21 @@ split-untouched tables w tally x at =
     either (eqb (askRoom x (getD tables (at + 1) 0)) 0) x _ _
     (untouched-trans x (goOn w x .scalars) _ (go-on-untouched w x) (copies-untouched (getD tables (at + 1) 0) (goOn w x .work) (goOn w x .scalars) (getD tables (at + 2) 0)))
     (stopped-untouched x _)
+
+-- ---- 18 ASSEMBLE
+
+count-untouched : (w : List ℕ) (x : Scalars) (n p c j come : ℕ) → Untouched x (countOn w x n p c j come .scalars)
+unfolding countOn endOn releaseOn toReady moved
+count-untouched w x n p c j come =
+    either-moved (eqb come n) x _ _ (record { used = refl; turns = refl }) (record { used = refl; turns = refl })
+
+gather-untouched : (facilities : ℕ) (w tally : List ℕ) (x : Scalars) (n p c : ℕ) → Untouched x (gatherRows facilities w tally x n p c .scalars)
+unfolding gatherRows laterRows gatherOn beginWait moved rowsOf
+gather-untouched facilities w tally x n p c =
+    either (ltb (load w c) 1024) x _ _
+    (either (eqb (askHolding tally facilities (read w numberField (x .moving))) 0) x _ _ (count-untouched w x n p c (load w c) _) (stopped-untouched x _))
+    (record { used = refl; turns = refl })
+
+pub assemble-untouched : (tables : List ℕ) (facilities : ℕ) (w tally : List ℕ) (x : Scalars) (at : ℕ) → Untouched x (assembleRows tables facilities w tally x at .scalars)
+unfolding assembleRows
+assemble-untouched tables facilities w tally x at = gather-untouched facilities w tally x _ _ _

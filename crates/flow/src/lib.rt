@@ -1,6 +1,7 @@
-// The blocks that make transactions, delay them and end them: GENERATE, ADVANCE, TERMINATE, PRIORITY and SPLIT. Each kind is one
-// function of the same shape over tables, buffers, scalars and the place of its block in the tables.
+// The blocks that make transactions, delay them, gather them and end them: GENERATE, ADVANCE, TERMINATE, PRIORITY, SPLIT and ASSEMBLE. Each
+// kind is one function of the same shape over tables, buffers, scalars and the place of its block in the tables.
 mod advancing;
+mod gathering;
 mod generating;
 mod questions;
 mod ranking;
@@ -10,6 +11,7 @@ mod splitting;
 mod terminating;
 
 pub use advancing::advance;
+pub use gathering::assemble;
 pub use generating::generate;
 pub use ranking::priority;
 pub use samples::Sample;

@@ -2,29 +2,29 @@
 -- weigh together as much as the numbers 1..made. Every turn keeps it.
 use Prim.Native.Nat.{ℕ, zero, suc, _+_, _*_, _-_, _≤_, _<_}
 use mathlib.Core.Path.{_≡_, refl, sym, ap, _∙_, subst}
-use mathlib.Core.Bool.{Bool, false, cond, not}
+use mathlib.Core.Bool.{Bool, false, cond, not, _&&_}
 use mathlib.Core.List.{List, [], _∷_}
 use mathlib.Core.Option.{Option, none, some}
 use native.Mathlib.Omega.{arith}
 use lib.Dec.{eqb, leb}
 use lib.ListN.{length, take, drop, length-set}
-use Rattle.machine.specs.Transaction.{Transaction, Event, precedes, earlier, newborn}
-use Rattle.machine.specs.Lists.{those, flat}
+use Rattle.machine.specs.Transaction.{Transaction, Event, Gatherer, precedes, earlier, newborn}
+use Rattle.machine.specs.Lists.{insert, those, replaceFirst, flat}
 use Rattle.machine.specs.Term.{serverAt, free}
-use Rattle.machine.specs.Block.{Code, Share, facility, storage, shareServer, shareUnits, Block, generate, advance, terminate, takes, frees, waitServer, waitTerms, moves, assign, priority, split, counts, facts, BlockModel, blockAt, welIndex}
+use Rattle.machine.specs.Block.{Code, Share, facility, storage, shareServer, shareUnits, Block, generate, advance, terminate, takes, frees, waitServer, waitTerms, moves, assign, priority, split, counts, assemble, facts, BlockModel, blockAt, welIndex}
 use Rattle.machine.specs.State.{State, Logged}
-use Rattle.machine.specs.Setters.{withSerial, withPriority, withReturning, withStamp, withNext, setSerial, setMoving}
-use Rattle.machine.specs.Moves.{recordOf, log, enters, moveTo, fresh, toRel, toFel, qlOf, welOf, lineUp, toQl, toWel, toWsl, mustWait, Parted, wakeQl, wakeFirstWel, wakeWsl, setUse, setContent, timesLeft, useTime, arrival, copies}
+use Rattle.machine.specs.Setters.{withSerial, withPriority, withReturning, withStamp, withNext, setSerial, setMoving, setEnded}
+use Rattle.machine.specs.Moves.{recordOf, log, enters, moveTo, fresh, toRel, toFel, qlOf, welOf, lineUp, toQl, toWel, toWsl, mustWait, Parted, wakeQl, wakeFirstWel, wakeWsl, setUse, setContent, timesLeft, useTime, arrival, copies, gatherersAt, inFamily, waitsFor, toGatherers, comes, released}
 use Rattle.machine.specs.Execute.{askAdvance, question, takeUnits, partFor, wakeFor, checkWels, endsOne, delay, effect, freeUnits}
 use Rattle.machine.specs.Turn.{arriveAll, due, moveClock, nextEvents, takeFirst, takeReady, taking, answer, execute, waitsOn, wsScheme, turn}
 use Rattle.machine.specs.Run.{startAt, idle, start}
 use Rattle.machine.specs.Claims.{upTo, terminates}
 use Rattle.machine.proofs.Proper.{Proper, ProperBlock, Names, servers, code-server, share-server}
 use Rattle.machine.proofs.RunLaws.{cond-cases}
-use Rattle.machine.proofs.Cases.{checkWels-kept, waitServer-cases, waitTerms-cases, wsScheme-cases, startOf-cases}
+use Rattle.machine.proofs.Cases.{checkWels-kept, waitServer-cases, waitTerms-cases, assemble-cases, wsScheme-cases, startOf-cases}
 use Rattle.machine.proofs.Kept.{taking-kept}
-use Rattle.machine.proofs.Shape.{Shape, shape-closed, ql-at, wel-at, wel-below}
-use Rattle.machine.proofs.Sums.{sumOn, sum-insert, sum-those, sum-first, sum-flat-set, sum-flat-none, sum-wake}
+use Rattle.machine.proofs.Shape.{Shape, shape-closed, ql-at, wel-at, wel-below, gatherers-at}
+use Rattle.machine.proofs.Sums.{sumOn, sum-insert, sum-those, sum-replace, sum-first, sum-flat-set, sum-flat-none, sum-wake}
 use Rattle.machine.proofs.Lines.{Whole, sum-lineUp, sum-partFor}
 
 module _ (m : BlockModel) (tape : List (List ℕ)) (f : ℕ → ℕ) where
@@ -33,14 +33,17 @@ module _ (m : BlockModel) (tape : List (List ℕ)) (f : ℕ → ℕ) where
   abbrev pub by : Transaction → ℕ
   by t = f (t .number)
 
+  abbrev byWho : Gatherer → ℕ
+  byWho g = by (g .who)
+
   abbrev pub listed : State → ℕ
-  listed s = sumOn by (flat (s .ql)) + sumOn by (flat (s .wel)) + sumOn by (s .wsl) + sumOn by (s .rel) + sumOn (λ e. by (e .who)) (s .fel)
+  listed s = sumOn by (flat (s .ql)) + sumOn by (flat (s .wel)) + sumOn by (s .wsl) + sumOn by (s .rel) + sumOn (λ e. by (e .who)) (s .fel) + sumOn byWho (flat (s .gatherers))
 
   abbrev pub held : Option Transaction → ℕ
   held none = 0
   held (some t) = by t
 
-  -- those that ended, by their records at TERMINATE
+  -- those that ended, by their records
   abbrev pub gone : List Logged → ℕ
   gone records = sumOn (λ r. cond (terminates m tape r) (f (r .entry .transaction)) 0) records
 
@@ -54,13 +57,15 @@ module _ (m : BlockModel) (tape : List (List ℕ)) (f : ℕ → ℕ) where
   -- ---- Moves
 
   module _ (x : ℕ) where
-    weighs-log : (outcome : ℕ) (t : Transaction) (s : State) → facts (blockAt m (t .next)) .terminates ≡ 0 → Weighs x s → Weighs x (log outcome t s)
+    -- a record that ends nobody
+    weighs-log : (outcome : ℕ) (t : Transaction) (s : State) → (eqb outcome 0 && eqb (facts (blockAt m (t .next)) .terminates) 1) ≡ false → Weighs x s
+        → Weighs x (log outcome t s)
     unfolding log recordOf
-    weighs-log outcome t s e w = omega (arith, ap (λ n. cond (eqb n 1) (f (t .number)) 0) e)
+    weighs-log outcome t s e w = omega (arith, ap (λ b. cond b (f (t .number)) 0) e)
 
     weighs-enters : (t : Transaction) (s : State) → facts (blockAt m (t .next)) .terminates ≡ 0 → Weighs x s → Weighs x (enters t s)
     unfolding enters
-    weighs-enters t s e w = weighs-log 0 t _ e w
+    weighs-enters t s e w = weighs-log 0 t _ (ap (λ n. eqb n 1) e) w
 
     weighs-toRel : (t : Transaction) (s : State) → Weighs (by t + x) s → Weighs x (toRel t s)
     unfolding toRel
@@ -84,6 +89,40 @@ module _ (m : BlockModel) (tape : List (List ℕ)) (f : ℕ → ℕ) where
     weighs-toWsl : (t : Transaction) (s : State) → Weighs (by t + x) s → Weighs x (toWsl t s)
     unfolding toWsl
     weighs-toWsl t s w = omega (arith, sum-insert by precedes t (s .wsl))
+
+    -- ---- Gathering
+
+    weighs-toGatherers : (t : Transaction) (s : State) → t .next - 1 < length (s .gatherers) → Weighs (by t + x) s → Weighs x (toGatherers t s)
+    unfolding toGatherers
+    weighs-toGatherers t s at w =
+        let before : Gatherer → Gatherer → Bool = λ a b. precedes (a .who) (b .who) in
+        let g : Gatherer = record { who = t; come = 1 } in
+        omega (
+          arith,
+          sum-flat-set byWho (s .gatherers) (t .next - 1) (insert before g (gatherersAt s (t .next))) at,
+          sum-insert byWho before g (gatherersAt s (t .next)),
+        )
+
+    module _ (t : Transaction) (s : State) (g : Gatherer) (l : List Gatherer) (e : waitsFor t s ≡ g ∷ l) (at : t .next - 1 < length (s .gatherers)) where
+      weighs-comes : Weighs x s → Weighs x (comes g t s)
+      unfolding comes
+      weighs-comes w =
+          let more : List Gatherer = record { who = g .who; come = suc (g .come) } ∷ [] in
+          omega (
+            arith,
+            sum-flat-set byWho (s .gatherers) (t .next - 1) (replaceFirst (inFamily t) more (gatherersAt s (t .next))) at,
+            sum-replace byWho (inFamily t) more (gatherersAt s (t .next)) g l e,
+          )
+
+      weighs-released : Weighs x s → Weighs x (released g t s)
+      unfolding released
+      weighs-released w =
+          weighs-toRel _ _
+          (omega (
+            arith,
+            sum-flat-set byWho (s .gatherers) (t .next - 1) (replaceFirst (inFamily t) [] (gatherersAt s (t .next))) at,
+            sum-replace byWho (inFamily t) [] (gatherersAt s (t .next)) g l e,
+          ))
 
     -- ---- Waking
 
@@ -188,11 +227,11 @@ module _ (m : BlockModel) (tape : List (List ℕ)) (f : ℕ → ℕ) where
     in-hand : Weighs (by t + 0) idle-hand
     in-hand = omega arith
 
+    noted : Weighs (by t + 0) (log 1 t idle-hand)
+    noted = weighs-log (by t + 0) 1 t idle-hand refl in-hand
+
     -- at a block that is no TERMINATE
     module _ (plain : facts (blockAt m (t .next)) .terminates ≡ 0) where
-      noted : Weighs (by t + 0) (log 1 t idle-hand)
-      noted = weighs-log (by t + 0) 1 t idle-hand plain in-hand
-
       balanced-waitQl : (v : ℕ) → v - 1 < length (s .ql) → Balanced (mustWait (toQl (m .edition) v) t idle-hand)
       unfolding mustWait toQl log
       balanced-waitQl v at =
@@ -250,6 +289,20 @@ module _ (m : BlockModel) (tape : List (List ℕ)) (f : ℕ → ℕ) where
     unfolding endsOne enters log recordOf
     balanced-terminate a e = omega (arith, ap (λ n. cond (eqb n 1) (f (t .number)) 0) e)
 
+    -- ASSEMBLE: the first of its family waits, a later one ends
+    balanced-assemble : (n : ℕ) → blockAt m (t .next) ≡ assemble n → facts (blockAt m (t .next)) .terminates ≡ 1 → Shape m s → Balanced (effect m (assemble n) t idle-hand)
+    unfolding enters log recordOf toGatherers comes released toRel
+    balanced-assemble n e ends h =
+        assemble-cases Balanced m n t idle-hand (λ k. weighs-toGatherers 0 waiter waits (gatherers-at h (t .next) n e) noted)
+        (λ g l k z. weighs-released 0 t later g l k (gatherers-at h (t .next) n e) gone-one)
+        (λ g l k z. weighs-comes 0 t later g l k (gatherers-at h (t .next) n e) gone-one)
+      where
+        later : State
+        later = setEnded (suc (enters t idle-hand .ended)) (enters t idle-hand)
+
+        gone-one : Weighs 0 (enters t idle-hand)
+        gone-one = unfold enters log recordOf in (omega (arith, ap (λ n. cond (eqb n 1) (f (t .number)) 0) ends))
+
     terminates-at : {b : Block} → blockAt m (t .next) ≡ b → facts (blockAt m (t .next)) .terminates ≡ facts b .terminates
     terminates-at e = ap (λ b. facts b .terminates) e
 
@@ -274,6 +327,7 @@ module _ (m : BlockModel) (tape : List (List ℕ)) (f : ℕ → ℕ) where
         (weighs-enters (by t + 0) t idle-hand (terminates-at e) in-hand)
     balanced-effect (split n target) e q good h = weighs-copies (by t) n target t _ (entered (terminates-at e))
     balanced-effect (counts c q) e z good h = entered (terminates-at e)
+    balanced-effect (assemble n) e q good h = balanced-assemble n e (terminates-at e) h
 
     balanced-answer : (n : ℕ) → question m (blockAt m (t .next)) t s ≡ n → s .moving ≡ some t → Proper m tape → Shape m s
         → Balanced (answer n m (blockAt m (t .next)) t s)
@@ -299,7 +353,7 @@ module _ (m : BlockModel) (tape : List (List ℕ)) (f : ℕ → ℕ) where
 
   balanced-idle : Balanced (idle m tape)
   unfolding idle upTo
-  balanced-idle = omega (arith, sum-flat-none by (servers m), sum-flat-none by (servers m * 6))
+  balanced-idle = omega (arith, sum-flat-none by (servers m), sum-flat-none by (servers m * 6), sum-flat-none byWho (length (m .blocks)))
 
   balanced-arrival : (l : List ℕ) (list p n : ℕ) (s : State) → Balanced s → Balanced (arrival l list p n s)
   unfolding arrival toFel

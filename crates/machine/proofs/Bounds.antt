@@ -36,6 +36,7 @@ progress-closed k =
       wsl = λ l s h. h;
       rel = λ l s h. h;
       fel = λ l s h. h;
+      gatherers = λ i l s h. h;
       moving = λ o s h. h;
       serial = λ n s h. h;
       counter = λ n s h. h;

@@ -1,17 +1,19 @@
 -- What holds of both arms of a choice holds of the choice: the check of a WEL, WAITIF of a code and of terms, the WS scheme, the start. The
 -- other choices of a block, by `cond-cases`, stand in the proof of each claim.
-use Prim.Native.Nat.{ℕ, _-_}
+use Prim.Native.Nat.{ℕ, suc, _-_}
 use mathlib.Core.Path.{_≡_, refl, sym}
 use mathlib.Core.Bool.{Bool, true, false, not, _&&_}
+use mathlib.Core.List.{List, [], _∷_}
 use borrow.Author.Tests.{eqb-true, eqb-false}
-use lib.Dec.{ltb}
-use Rattle.machine.specs.Transaction.{Transaction}
+use lib.Dec.{ltb, eqb}
+use Rattle.machine.specs.Transaction.{Transaction, Gatherer}
 use Rattle.machine.specs.Term.{Term, Relation, serverAt, compare}
 use Rattle.machine.specs.Facts.{isGenerate}
-use Rattle.machine.specs.Block.{Code, U, NU, E, NE, F, NF, status, Block, waitServer, waitTerms, facts, BlockModel}
+use Rattle.machine.specs.Block.{Code, U, NU, E, NE, F, NF, status, Block, waitServer, waitTerms, assemble, facts, BlockModel}
 use Rattle.machine.specs.State.{State}
-use Rattle.machine.specs.Moves.{enters, moveTo, goOn, toWel, toWsl, mustWait, wakeFirstWel, wakeWsl, timesLeft, arrival}
-use Rattle.machine.specs.Execute.{checkWel, checkWels, stamped, effect, takeUnits}
+use Rattle.machine.specs.Moves.{enters, moveTo, goOn, toWel, toWsl, beginWait, mustWait, wakeFirstWel, wakeWsl, timesLeft, arrival, waitsFor, toGatherers, comes, released}
+use Rattle.machine.specs.Setters.{setEnded}
+use Rattle.machine.specs.Execute.{checkWel, checkWels, stamped, gathers, effect, takeUnits}
 use Rattle.machine.specs.Turn.{waitsOn, wsScheme}
 use Rattle.machine.specs.Run.{startOf}
 use Rattle.machine.proofs.RunLaws.{cond-cases}
@@ -51,6 +53,21 @@ module _ (Q : State → Type 0) where
       → (compare (m .values) (s .view) (t .parameters) a r b ≡ false → Q (goOn t (enters t s))) → Q (effect m (waitTerms a r b) t s)
   unfolding effect takeUnits
   waitTerms-cases m a r b t s = cond-cases Q _ _ _
+
+  -- the first of its family waits; a later one ends, and at the n-th the first goes on
+  pub assemble-cases : (m : BlockModel) (n : ℕ) (t : Transaction) (s : State)
+      → (waitsFor t s ≡ [] → Q (beginWait toGatherers t s))
+      → ((g : Gatherer) (l : List Gatherer) → waitsFor t s ≡ g ∷ l → eqb (suc (g .come)) n ≡ true
+      → Q (released g t (setEnded (suc (enters t s .ended)) (enters t s))))
+      → ((g : Gatherer) (l : List Gatherer) → waitsFor t s ≡ g ∷ l → eqb (suc (g .come)) n ≡ false
+      → Q (comes g t (setEnded (suc (enters t s .ended)) (enters t s)))) → Q (effect m (assemble n) t s)
+  unfolding effect takeUnits gathers
+  assemble-cases m n t s first last more = go (waitsFor t s) refl
+    where
+      go : (l : List Gatherer) → waitsFor t s ≡ l
+          → Q (Rattle.machine.specs.Execute.gathering (λ f. f (enters t s)) (λ put. mustWait put t s) (λ f. f s) (λ put. beginWait put t s) l n t)
+      go [] e = first e
+      go (g ∷ l) e = cond-cases Q _ _ _ (last g l e) (more g l e)
 
   pub wsScheme-cases : (m : BlockModel) (s : State) → (s .end ≡ 0 → Q (wakeWsl (λ t. not (waitsOn m (s .view) t)) s))
       → ((s .end ≡ 0 → ⊥) → Q s) → Q (wsScheme m s)

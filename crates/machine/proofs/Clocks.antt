@@ -13,17 +13,17 @@ use Rattle.machine.specs.Limits.{maxLiving}
 use Rattle.machine.specs.Transaction.{Transaction, Event, earlier}
 use Rattle.machine.specs.Lists.{nth}
 use Rattle.machine.specs.Term.{serverAt, free}
-use Rattle.machine.specs.Block.{Code, Share, facility, storage, shareServer, shareUnits, Block, generate, advance, terminate, takes, frees, waitServer, waitTerms, moves, assign, priority, split, counts, BlockModel, blockAt}
+use Rattle.machine.specs.Block.{Code, Share, facility, storage, shareServer, shareUnits, Block, generate, advance, terminate, takes, frees, waitServer, waitTerms, moves, assign, priority, split, counts, assemble, BlockModel, blockAt}
 use Rattle.machine.specs.State.{State}
 use Rattle.machine.specs.Setters.{setMoving}
-use Rattle.machine.specs.Moves.{log, enters, moveTo, toRel, toFel, toQl, toWel, toWsl, mustWait, wakeQl, wakeFirstWel, wakeWsl, setUse, setContent, timesLeft, arrival, copies}
+use Rattle.machine.specs.Moves.{log, enters, moveTo, toRel, toFel, toQl, toWel, toWsl, mustWait, wakeQl, wakeFirstWel, wakeWsl, setUse, setContent, timesLeft, arrival, copies, toGatherers, comes, released}
 use Rattle.machine.specs.Execute.{unless, living, askTime, askGenerate, askAdvance, question, takeUnits, wakeFor, checkWels, endsOne, delay, effect}
 use Rattle.machine.specs.Turn.{arriveAll, moveClock, nextEvents, takeFirst, takeReady, taking, answer, execute, wsScheme, turn}
 use Rattle.machine.specs.Run.{idle, startAt, start, states}
 use Rattle.machine.specs.Claims.{Each}
 use Rattle.machine.proofs.Proper.{Proper}
 use Rattle.machine.proofs.RunLaws.{cond-cases, each-state}
-use Rattle.machine.proofs.Cases.{checkWels-kept, waitServer-cases, waitTerms-cases, wsScheme-cases, startOf-cases}
+use Rattle.machine.proofs.Cases.{checkWels-kept, waitServer-cases, waitTerms-cases, wsScheme-cases, startOf-cases, assemble-cases}
 use Rattle.machine.proofs.Sorted.{each-insert, each-those, at-set}
 
 -- ---- Definition
@@ -130,7 +130,7 @@ module _ (m : BlockModel) where
 
   effect-timely : (b : Block) (t : Transaction) (s : State) → question m b t s ≡ 0 → Timely (limit m) s
       → Timely (limit m) (effect m b t (setMoving none s))
-  unfolding effect question enters log setContent toRel setUse endsOne takeUnits
+  unfolding effect question enters log setContent toRel setUse endsOne takeUnits toGatherers comes released
   effect-timely (generate list p) t s asked h = moves-timely _ t _ (generate-timely _ list p _ s _ asked refl (like s _ refl refl h))
   effect-timely (advance list) t s asked h = advance-timely _ list t s _ asked refl (like s _ refl refl h)
   effect-timely (terminate a) t s asked h = like s _ refl refl h
@@ -147,6 +147,8 @@ module _ (m : BlockModel) where
   effect-timely (priority p) t s asked h = like s _ refl refl h
   effect-timely (split n target) t s asked h = moves-timely _ t _ (copies-timely n target t _ (like s _ refl refl h))
   effect-timely (counts c q) t s asked h = moves-timely _ t _ (like s _ refl refl h)
+  effect-timely (assemble n) t s asked h =
+      assemble-cases (Timely (limit m)) m n t (setMoving none s) (λ e. like s _ refl refl h) (λ g l e z. like s _ refl refl h) (λ g l e z. like s _ refl refl h)
 
 -- ---- The turn
 

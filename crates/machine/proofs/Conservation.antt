@@ -42,12 +42,14 @@ module _ (m : BlockModel) (tape : List (List ℕ)) (f : ℕ → ℕ) where
   sum-everyone s =
       omega (
         arith,
+        sum-append number-weight (flat (s .ql) ++ flat (s .wel) ++ s .wsl ++ s .rel ++ map (λ e. e .who) (s .fel) ++ movingOne (s .moving)) (map (λ g. g .who) (flat (s .gatherers))),
         sum-append number-weight (flat (s .ql) ++ flat (s .wel) ++ s .wsl ++ s .rel ++ map (λ e. e .who) (s .fel)) (movingOne (s .moving)),
         sum-append number-weight (flat (s .ql) ++ flat (s .wel) ++ s .wsl ++ s .rel) (map (λ e. e .who) (s .fel)),
         sum-append number-weight (flat (s .ql) ++ flat (s .wel) ++ s .wsl) (s .rel),
         sum-append number-weight (flat (s .ql) ++ flat (s .wel)) (s .wsl),
         sum-append number-weight (flat (s .ql)) (flat (s .wel)),
         sum-map number-weight (λ e. e .who) (s .fel),
+        sum-map number-weight (λ g. g .who) (flat (s .gatherers)),
         sum-moving (s .moving),
       )
 

@@ -1,8 +1,8 @@
 -- Demand 3: in every state of the run of every accepted model and tape, with every budget and every trace length, each living
 -- transaction stands once, the counts are those that the records tell, under edition 1 nobody able to go waits where the clock is about
--- to move or the run ended dry and equal waits end in the order in which they began, each facility in use has a holder, and whoever enters a
--- kind 17 block entered its whole group at that clock. The states are those of the run that gives the outcome, and the run keeps to its
--- bounds.
+-- to move or the run ended dry and equal waits end in the order in which they began, each facility in use has a holder, whoever enters a
+-- kind 17 block entered its whole group at that clock, and at an ASSEMBLE one of a family waits while not all have come. The states are those
+-- of the run that gives the outcome, and the run keeps to its bounds.
 use Prim.Native.Nat.{ℕ}
 use mathlib.Core.Path.{_≡_}
 use mathlib.Core.List.{List, reverse}
@@ -22,6 +22,7 @@ use Rattle.machine.proofs.NobodyAble.{Waited, waited, able-none}
 use Rattle.machine.proofs.InOrder.{in-order}
 use Rattle.machine.proofs.Holders.{Holding, holding}
 use Rattle.machine.proofs.JoinedWaits.{Gathered, joined-waits}
+use Rattle.machine.proofs.Gathering.{Assembled, assembled}
 
 -- by edition 1 alone
 abbrev Ordered : BlockModel → List (List ℕ) → State → Type 0
@@ -29,7 +30,7 @@ Ordered m tape s = m .edition ≡ 1 → InOrder m tape (reverse (s .records))
 
 -- The claims of a state, proved apart.
 abbrev Apart : BlockModel → List (List ℕ) → State → Type 0
-Apart m tape s = (Conserved m tape s × Waited m s) × (Ordered m tape s × (Holding m tape s × Gathered m tape s))
+Apart m tape s = (Conserved m tape s × Waited m s) × (Ordered m tape s × (Holding m tape s × (Gathered m tape s × Assembled m tape s)))
 
 keeps : (m : BlockModel) (tape : List (List ℕ)) (s : State) → Apart m tape s → Keeps m tape s
 unfolding serverAt
@@ -43,8 +44,10 @@ keeps m tape s h =
       nobody-able = able-none m tape s (h .0 .1);
       order = h .1 .0;
       held = λ f low high. h .1 .1 .0 f (low, high);
-      joined = h .1 .1 .1 .joined;
-      stamps = h .1 .1 .1 .stamps;
+      joined = h .1 .1 .1 .0 .joined;
+      stamps = h .1 .1 .1 .0 .stamps;
+      families = h .1 .1 .1 .1 .families;
+      gathered = h .1 .1 .1 .1 .gathered;
     }
 
 module _ {m : BlockModel} {tape : List (List ℕ)} (proper : Proper m tape) (budget room : ℕ) where
@@ -54,10 +57,11 @@ module _ {m : BlockModel} {tape : List (List ℕ)} (proper : Proper m tape) (bud
   pub keeps-all : Demand3 m tape budget room
   keeps-all =
       each-map (keeps m tape) all
-      (each-pair (λ s. Conserved m tape s × Waited m s) (λ s. Ordered m tape s × (Holding m tape s × Gathered m tape s)) all
+      (each-pair (λ s. Conserved m tape s × Waited m s) (λ s. Ordered m tape s × (Holding m tape s × (Gathered m tape s × Assembled m tape s))) all
       (each-pair (Conserved m tape) (Waited m) all (conserved m tape budget room proper) (waited proper budget room))
-      (each-pair (Ordered m tape) (λ s. Holding m tape s × Gathered m tape s) all (each-under (λ s. InOrder m tape (reverse (s .records))) all (λ first. in-order proper first budget room))
-      (each-pair (Holding m tape) (Gathered m tape) all (holding m tape budget room proper) (joined-waits proper budget room))))
+      (each-pair (Ordered m tape) (λ s. Holding m tape s × (Gathered m tape s × Assembled m tape s)) all (each-under (λ s. InOrder m tape (reverse (s .records))) all (λ first. in-order proper first budget room))
+      (each-pair (Holding m tape) (λ s. Gathered m tape s × Assembled m tape s) all (holding m tape budget room proper)
+      (each-pair (Gathered m tape) (Assembled m tape) all (joined-waits proper budget room) (assembled proper budget room)))))
 
 -- From bytes; the only hypothesis is that validation accepts.
 pub demand3 : (rules : Rules) (model tapeBytes : List ℕ) (work report budget room : ℕ) {m : BlockModel} {tape : List (List ℕ)}

@@ -1,16 +1,16 @@
 -- A claim about every transaction of a state: what the single moves of transactions keep, a turn and the start keep.
 use Prim.Native.Nat.{ℕ, zero, suc, _+_, _*_, _-_}
-use mathlib.Core.Path.{_≡_, refl}
+use mathlib.Core.Path.{_≡_, refl, subst}
 use mathlib.Core.Bool.{Bool, true, false}
 use mathlib.Core.List.{List, [], _∷_, _++_, map}
 use mathlib.Core.Option.{Option, none, some}
-use lib.ListN.{length, take, replicate}
-use Rattle.machine.specs.Transaction.{Transaction, Event, precedes, earlier, newborn}
-use Rattle.machine.specs.Lists.{flat}
+use lib.ListN.{length, set, take, replicate}
+use Rattle.machine.specs.Transaction.{Transaction, Event, Gatherer, precedes, earlier, newborn}
+use Rattle.machine.specs.Lists.{flat, replaceFirst}
 use Rattle.machine.specs.Block.{Code, Share, shareServer, BlockModel, welIndex}
 use Rattle.machine.specs.State.{State}
-use Rattle.machine.specs.Setters.{withNext, withSerial, withReturning, withStamp, setSerial}
-use Rattle.machine.specs.Moves.{log, enters, moveTo, fresh, toRel, toFel, toQl, toWel, toWsl, mustWait, wake, wakeQl, wakeFirstWel, wakeWsl, setUse, setContent, arrival, copyOf, copies, qlOf, welOf}
+use Rattle.machine.specs.Setters.{withNext, withSerial, withReturning, withStamp, setSerial, setEnded, setGatherers}
+use Rattle.machine.specs.Moves.{gatherersAt, inFamily, waitsFor, toGatherers, comes, released, beginWait, log, enters, moveTo, fresh, toRel, toFel, toQl, toWel, toWsl, mustWait, wake, wakeQl, wakeFirstWel, wakeWsl, setUse, setContent, arrival, copyOf, copies, qlOf, welOf}
 use Rattle.machine.specs.Execute.{wakeFor, checkWels, endsOne, delay}
 use Rattle.machine.specs.Turn.{arriveAll, due, moveClock, nextEvents, takeFirst, takeReady, taking, wsScheme}
 use Rattle.machine.specs.Run.{idle}
@@ -34,6 +34,7 @@ pub record Everybody (P : Transaction → Type 0) (s : State) : Type 0 where
   pub wsl : Each P (s .wsl)
   pub rel : Each P (s .rel)
   pub fel : Each (λ e. P (e .who)) (s .fel)
+  pub gatherers : Each (Each (λ g. P (g .who))) (s .gatherers)
   pub moving : Maybe P (s .moving)
 
 -- a claim that neither mark nor serial bears on
@@ -46,6 +47,16 @@ pub record Unmoved (P : Transaction → Type 0) : Type 0 where
 each-take : {A : Type 0} (P : A → Type 0) (l : List A) → Each P l → Each P (take 1 l)
 each-take P [] h = tt
 each-take P (x ∷ l) h = (h .0, tt)
+
+each-replace : {A : Type 0} (P : A → Type 0) (p : A → Bool) (few l : List A) → Each P few → Each P l → Each P (replaceFirst p few l)
+unfolding replaceFirst
+each-replace P p few [] k h = tt
+each-replace {A = A} P p few (x ∷ l) k h =
+    cond-cases (Each P) (p x) _ _ (λ e. each-joined few l k (h .1)) (λ e. (h .0, each-replace P p few l k (h .1)))
+  where
+    each-joined : (a b : List A) → Each P a → Each P b → Each P (a ++ b)
+    each-joined [] b h k = k
+    each-joined (x ∷ a) b h k = (h .0, each-joined a b (h .1) k)
 
 each-replicate : {A : Type 0} (P : A → Type 0) (n : ℕ) (a : A) → P a → Each P (replicate n a)
 each-replicate P zero a p = tt
@@ -68,7 +79,7 @@ module _ (P : Transaction → Type 0) (U : Unmoved P) where
   pub toRel-everybody : (t : Transaction) (s : State) → P t → Everybody P s → Everybody P (toRel t s)
   unfolding toRel
   toRel-everybody t s p h =
-      record { ql = h .ql; wel = h .wel; wsl = h .wsl; rel = each-insert P precedes _ (s .rel) (U .serial _ t p) (h .rel); fel = h .fel; moving = h .moving }
+      record { ql = h .ql; wel = h .wel; wsl = h .wsl; rel = each-insert P precedes _ (s .rel) (U .serial _ t p) (h .rel); fel = h .fel; gatherers = h .gatherers; moving = h .moving }
 
   pub toFel-everybody : (time : ℕ) (t : Transaction) (s : State) → P (withStamp time t) → Everybody P s → Everybody P (toFel time t s)
   unfolding toFel
@@ -79,6 +90,7 @@ module _ (P : Transaction → Type 0) (U : Unmoved P) where
         wsl = h .wsl;
         rel = h .rel;
         fel = each-insert (λ (e : Event). P (e .who)) earlier _ (s .fel) (U .serial _ (withStamp time t) p) (h .fel);
+        gatherers = h .gatherers;
         moving = h .moving;
       }
 
@@ -91,6 +103,7 @@ module _ (P : Transaction → Type 0) (U : Unmoved P) where
         wsl = h .wsl;
         rel = h .rel;
         fel = h .fel;
+        gatherers = h .gatherers;
         moving = h .moving;
       }
 
@@ -103,24 +116,26 @@ module _ (P : Transaction → Type 0) (U : Unmoved P) where
         wsl = h .wsl;
         rel = h .rel;
         fel = h .fel;
+        gatherers = h .gatherers;
         moving = h .moving;
       }
 
   pub toWsl-everybody : (t : Transaction) (s : State) → P t → Everybody P s → Everybody P (toWsl t s)
   unfolding toWsl
   toWsl-everybody t s p h =
-      record { ql = h .ql; wel = h .wel; wsl = each-insert P precedes t (s .wsl) p (h .wsl); rel = h .rel; fel = h .fel; moving = h .moving }
+      record { ql = h .ql; wel = h .wel; wsl = each-insert P precedes t (s .wsl) p (h .wsl); rel = h .rel; fel = h .fel; gatherers = h .gatherers; moving = h .moving }
 
   -- nothing but lists matters
   pub like : (s s′ : State) → s′ .ql ≡ s .ql → s′ .wel ≡ s .wel → s′ .wsl ≡ s .wsl → s′ .rel ≡ s .rel → s′ .fel ≡ s .fel → s′ .moving ≡ s .moving
-      → Everybody P s → Everybody P s′
-  like s s′ a b c d e f h =
+      → s′ .gatherers ≡ s .gatherers → Everybody P s → Everybody P s′
+  like s s′ a b c d e f g h =
       record {
         ql = rw a (h .ql);
         wel = rw b (h .wel);
         wsl = rw c (h .wsl);
         rel = rw d (h .rel);
         fel = rw e (h .fel);
+        gatherers = rw g (h .gatherers);
         moving = rw f (h .moving);
       }
 
@@ -130,7 +145,7 @@ module _ (P : Transaction → Type 0) (U : Unmoved P) where
   unfolding mustWait log
   mustWait-everybody put kept t s p h =
       cond-cases (Everybody P) (t .returning) _ _ (λ e. kept t s p h)
-      (λ e. kept _ _ (U .serial _ t p) (like s (setSerial (fresh s) (log 1 t s)) refl refl refl refl refl refl h))
+      (λ e. kept _ _ (U .serial _ t p) (like s (setSerial (fresh s) (log 1 t s)) refl refl refl refl refl refl refl h))
 
   pub waitQl-everybody : (edition v : ℕ) (t : Transaction) (s : State) → P t → Everybody P s → Everybody P (mustWait (toQl edition v) t s)
   waitQl-everybody edition v = mustWait-everybody (toQl edition v) (toQl-everybody edition v)
@@ -144,7 +159,43 @@ module _ (P : Transaction → Type 0) (U : Unmoved P) where
   pub moveTo-everybody : (n : ℕ) (t : Transaction) (s : State) → P (withNext n t) → Everybody P s → Everybody P (moveTo n t s)
   unfolding moveTo
   moveTo-everybody n t s p h =
-      record { ql = h .ql; wel = h .wel; wsl = h .wsl; rel = h .rel; fel = h .fel; moving = U .mark false _ p }
+      record { ql = h .ql; wel = h .wel; wsl = h .wsl; rel = h .rel; fel = h .fel; gatherers = h .gatherers; moving = U .mark false _ p }
+
+  -- ---- Gathering
+
+  abbrev PG : Gatherer → Type 0
+  PG g = P (g .who)
+
+  one-block : (b : ℕ) (s : State) → Everybody P s → Each PG (gatherersAt s b)
+  one-block b s h = each-getD (Each PG) (s .gatherers) (b - 1) [] (h .gatherers) tt
+
+  set-gatherers-everybody : (i : ℕ) (l : List Gatherer) (s : State) → Each PG l → Everybody P s → Everybody P (setGatherers (set (s .gatherers) i l) s)
+  set-gatherers-everybody i l s p h =
+      record { ql = h .ql; wel = h .wel; wsl = h .wsl; rel = h .rel; fel = h .fel; gatherers = each-set (Each PG) (s .gatherers) i l (h .gatherers) p; moving = h .moving }
+
+  pub toGatherers-everybody : (t : Transaction) (s : State) → P t → Everybody P s → Everybody P (toGatherers t s)
+  unfolding toGatherers
+  toGatherers-everybody t s p h = set-gatherers-everybody _ _ s (each-insert PG _ _ _ p (one-block (t .next) s h)) h
+
+  pub begins-everybody : (t : Transaction) (s : State) → P t → Everybody P s → Everybody P (beginWait toGatherers t s)
+  unfolding log
+  begins-everybody t s p h = toGatherers-everybody _ _ (U .serial _ t p) (like s (setSerial (fresh s) (log 1 t s)) refl refl refl refl refl refl refl h)
+
+  -- one of the family waits, with what the claim says of it
+  pub waiter-everybody : (t : Transaction) (s : State) (g : Gatherer) (l : List Gatherer) → waitsFor t s ≡ g ∷ l → Everybody P s → P (g .who)
+  waiter-everybody t s g l e h = subst (Each PG) e (each-those PG (inFamily t) _ (one-block (t .next) s h)) .0
+
+  pub comes-everybody : (g : Gatherer) (t : Transaction) (s : State) → P (g .who) → Everybody P s → Everybody P (comes g t s)
+  unfolding comes
+  comes-everybody g t s p h = set-gatherers-everybody _ _ s (each-replace PG _ _ _ (p, tt) (one-block (t .next) s h)) h
+
+  pub released-everybody : (g : Gatherer) (t : Transaction) (s : State) → P (withNext (suc (t .next)) (g .who)) → Everybody P s → Everybody P (released g t s)
+  unfolding released
+  released-everybody g t s p h =
+      toRel-everybody _ _ (U .mark false _ p) (set-gatherers-everybody _ _ s (each-replace PG _ _ _ tt (one-block (t .next) s h)) h)
+
+  pub ended-everybody : (n : ℕ) (s : State) → Everybody P s → Everybody P (setEnded n s)
+  ended-everybody n s h = like s _ refl refl refl refl refl refl refl h
 
   -- ---- Waking
 
@@ -158,6 +209,7 @@ module _ (P : Transaction → Type 0) (U : Unmoved P) where
         wsl = h .wsl;
         rel = each-wake _ (s .rel) (both .0) (h .rel);
         fel = h .fel;
+        gatherers = h .gatherers;
         moving = h .moving;
       }
 
@@ -170,6 +222,7 @@ module _ (P : Transaction → Type 0) (U : Unmoved P) where
         wsl = h .wsl;
         rel = each-wake _ (s .rel) (each-take P (welOf s v code) (one-wel v code s h)) (h .rel);
         fel = h .fel;
+        gatherers = h .gatherers;
         moving = h .moving;
       }
 
@@ -182,6 +235,7 @@ module _ (P : Transaction → Type 0) (U : Unmoved P) where
         wsl = each-those P _ (s .wsl) (h .wsl);
         rel = each-wake _ (s .rel) (each-those P p (s .wsl) (h .wsl)) (h .rel);
         fel = h .fel;
+        gatherers = h .gatherers;
         moving = h .moving;
       }
 
@@ -197,7 +251,7 @@ module _ (P : Transaction → Type 0) (U : Unmoved P) where
       → Everybody P (arrival l list p n s)
   unfolding arrival
   arrival-everybody [] list p n s new h = h
-  arrival-everybody (time ∷ l) list p n s new h = toFel-everybody _ _ _ (new _) (like s _ refl refl refl refl refl refl h)
+  arrival-everybody (time ∷ l) list p n s new h = toFel-everybody _ _ _ (new _) (like s _ refl refl refl refl refl refl refl h)
 
   -- a copy, whatever its number
   pub copies-everybody : (n target : ℕ) (t : Transaction) (s : State)
@@ -206,29 +260,29 @@ module _ (P : Transaction → Type 0) (U : Unmoved P) where
   unfolding copies
   copies-everybody zero target t s new h = h
   copies-everybody (suc n) target t s new h =
-      copies-everybody n target t _ new (toRel-everybody _ _ (new _) (like s _ refl refl refl refl refl refl h))
+      copies-everybody n target t _ new (toRel-everybody _ _ (new _) (like s _ refl refl refl refl refl refl refl h))
 
   pub delay-everybody : (l : List ℕ) (list : ℕ) (t : Transaction) (s : State) → ((time : ℕ) → P (withStamp time (withNext (suc (t .next)) t))) → Everybody P s
       → Everybody P (delay l list t s)
   unfolding delay
   delay-everybody [] list t s p h = h
-  delay-everybody (time ∷ l) list t s p h = toFel-everybody _ _ _ (U .mark false _ (p _)) (like s _ refl refl refl refl refl refl h)
+  delay-everybody (time ∷ l) list t s p h = toFel-everybody _ _ _ (U .mark false _ (p _)) (like s _ refl refl refl refl refl refl refl h)
 
   pub enters-everybody : (t : Transaction) (s : State) → Everybody P s → Everybody P (enters t s)
   unfolding enters log
-  enters-everybody t s h = like s _ refl refl refl refl refl refl h
+  enters-everybody t s h = like s _ refl refl refl refl refl refl refl h
 
   pub inUse-everybody : (v n holder : ℕ) (s : State) → Everybody P s → Everybody P (setUse v n holder s)
   unfolding setUse
-  inUse-everybody v n holder s h = like s _ refl refl refl refl refl refl h
+  inUse-everybody v n holder s h = like s _ refl refl refl refl refl refl refl h
 
   pub content-everybody : (q n : ℕ) (s : State) → Everybody P s → Everybody P (setContent q n s)
   unfolding setContent
-  content-everybody q n s h = like s _ refl refl refl refl refl refl h
+  content-everybody q n s h = like s _ refl refl refl refl refl refl refl h
 
   pub endsOne-everybody : (a : ℕ) (s : State) → Everybody P s → Everybody P (endsOne a s)
   unfolding endsOne
-  endsOne-everybody a s h = like s _ refl refl refl refl refl refl h
+  endsOne-everybody a s h = like s _ refl refl refl refl refl refl refl h
 
   -- ---- The taking
 
@@ -247,6 +301,7 @@ module _ (P : Transaction → Type 0) (U : Unmoved P) where
         wsl = h .wsl;
         rel = h .rel;
         fel = each-those (λ (e : Event). P (e .who)) _ (s .fel) (h .fel);
+        gatherers = h .gatherers;
         moving = h .moving;
       })
 
@@ -259,7 +314,7 @@ module _ (P : Transaction → Type 0) (U : Unmoved P) where
   unfolding takeFirst
   takeFirst-everybody [] s k h = h
   takeFirst-everybody (t ∷ l) s k h =
-      record { ql = h .ql; wel = h .wel; wsl = h .wsl; rel = k .1; fel = h .fel; moving = k .0 }
+      record { ql = h .ql; wel = h .wel; wsl = h .wsl; rel = k .1; fel = h .fel; gatherers = h .gatherers; moving = k .0 }
 
   takeReady-everybody : (l : List Transaction) (s : State) → Each P l → Everybody P s → Everybody P (takeReady l s)
   unfolding takeReady
@@ -282,24 +337,30 @@ module _ (P : Transaction → Type 0) (U : Unmoved P) where
         wsl = tt;
         rel = tt;
         fel = tt;
+        gatherers = each-replicate (Each (λ (g : Gatherer). P (g .who))) (length (m .blocks)) [] tt;
         moving = tt;
       }
 
 -- ---- Everybody as one list
 
-module _ (P : Transaction → Type 0) where
-  each-both : (l k : List Transaction) → Each P l → Each P k → Each P (l ++ k)
+module _ {A : Type 0} (P : A → Type 0) where
+  each-both : (l k : List A) → Each P l → Each P k → Each P (l ++ k)
   each-both [] k h g = g
   each-both (x ∷ l) k h g = (h .0, each-both l k (h .1) g)
 
-  each-flat : (ls : List (List Transaction)) → Each (Each P) ls → Each P (flat ls)
+  each-flat : (ls : List (List A)) → Each (Each P) ls → Each P (flat ls)
   unfolding flat
   each-flat [] h = tt
   each-flat (l ∷ ls) h = each-both l (flat ls) (h .0) (each-flat ls (h .1))
 
+module _ (P : Transaction → Type 0) where
   each-who : (l : List Event) → Each (λ (e : Event). P (e .who)) l → Each P (map (λ e. e .who) l)
   each-who [] h = tt
   each-who (e ∷ l) h = (h .0, each-who l (h .1))
+
+  each-gatherer : (l : List Gatherer) → Each (λ (g : Gatherer). P (g .who)) l → Each P (map (λ g. g .who) l)
+  each-gatherer [] h = tt
+  each-gatherer (g ∷ l) h = (h .0, each-gatherer l (h .1))
 
   each-moving : (o : Option Transaction) → Maybe P o → Each P (movingOne o)
   unfolding movingOne
@@ -310,14 +371,16 @@ module _ (P : Transaction → Type 0) where
   unfolding everyone
   everybody-each s h =
       let fel = map (λ (e : Event). e .who) (s .fel) in
-      each-both (flat (s .ql) ++ flat (s .wel) ++ s .wsl ++ s .rel ++ fel) (movingOne (s .moving))
-      (each-both (flat (s .ql) ++ flat (s .wel) ++ s .wsl ++ s .rel) fel
-      (each-both (flat (s .ql) ++ flat (s .wel) ++ s .wsl) (s .rel)
-      (each-both (flat (s .ql) ++ flat (s .wel)) (s .wsl)
-      (each-both (flat (s .ql)) (flat (s .wel)) (each-flat (s .ql) (h .ql)) (each-flat (s .wel) (h .wel))) (h .wsl))
+      each-both P (flat (s .ql) ++ flat (s .wel) ++ s .wsl ++ s .rel ++ fel ++ movingOne (s .moving)) (map (λ (g : Gatherer). g .who) (flat (s .gatherers)))
+      (each-both P (flat (s .ql) ++ flat (s .wel) ++ s .wsl ++ s .rel ++ fel) (movingOne (s .moving))
+      (each-both P (flat (s .ql) ++ flat (s .wel) ++ s .wsl ++ s .rel) fel
+      (each-both P (flat (s .ql) ++ flat (s .wel) ++ s .wsl) (s .rel)
+      (each-both P (flat (s .ql) ++ flat (s .wel)) (s .wsl)
+      (each-both P (flat (s .ql)) (flat (s .wel)) (each-flat P (s .ql) (h .ql)) (each-flat P (s .wel) (h .wel))) (h .wsl))
       (h .rel))
       (each-who (s .fel) (h .fel)))
-      (each-moving (s .moving) (h .moving))
+      (each-moving (s .moving) (h .moving)))
+      (each-gatherer (flat (s .gatherers)) (each-flat (λ (g : Gatherer). P (g .who)) (s .gatherers) (h .gatherers)))
 
 -- one claim from two
 pub everybody-map : {P Q R : Transaction → Type 0} → ((t : Transaction) → P t → Q t → R t) → (s : State) → Everybody P s → Everybody Q s → Everybody R s
@@ -328,6 +391,7 @@ everybody-map {P} {Q} {R} f s h k =
       wsl = both (s .wsl) (h .wsl) (k .wsl);
       rel = both (s .rel) (h .rel) (k .rel);
       fel = both-events (s .fel) (h .fel) (k .fel);
+      gatherers = both-gatherers (s .gatherers) (h .gatherers) (k .gatherers);
       moving = both-moving (s .moving) (h .moving) (k .moving);
     }
   where
@@ -342,6 +406,14 @@ everybody-map {P} {Q} {R} f s h k =
     both-events : (l : List Event) → Each (λ (e : Event). P (e .who)) l → Each (λ (e : Event). Q (e .who)) l → Each (λ (e : Event). R (e .who)) l
     both-events [] h k = tt
     both-events (x ∷ l) h k = (f (x .who) (h .0) (k .0), both-events l (h .1) (k .1))
+
+    both-ones : (l : List Gatherer) → Each (λ (g : Gatherer). P (g .who)) l → Each (λ (g : Gatherer). Q (g .who)) l → Each (λ (g : Gatherer). R (g .who)) l
+    both-ones [] h k = tt
+    both-ones (x ∷ l) h k = (f (x .who) (h .0) (k .0), both-ones l (h .1) (k .1))
+
+    both-gatherers : (l : List (List Gatherer)) → Each (Each (λ (g : Gatherer). P (g .who))) l → Each (Each (λ (g : Gatherer). Q (g .who))) l → Each (Each (λ (g : Gatherer). R (g .who))) l
+    both-gatherers [] h k = tt
+    both-gatherers (x ∷ l) h k = (both-ones x (h .0) (k .0), both-gatherers l (h .1) (k .1))
 
     both-moving : (o : Option Transaction) → Maybe P o → Maybe Q o → Maybe R o
     both-moving none h k = tt

@@ -11,26 +11,27 @@ use borrow.Author.Tests.{leb-true, le-leb, eqb-true, eq-eqb, ne-eqb, lt-ltb}
 use lib.Dec.{ltb, leb, eqb}
 use lib.ListN.{length, getD, replicate}
 use lib.Seq.{getD-set-same, getD-set-other}
-use Rattle.machine.specs.Transaction.{Transaction, Event}
+use Rattle.machine.specs.Transaction.{Transaction, Event, Gatherer}
 use Rattle.machine.specs.Lists.{setNth}
 use Rattle.machine.specs.Term.{Server, idleServer, serverAt, free}
 use Rattle.machine.specs.Facts.{Facts}
-use Rattle.machine.specs.Block.{Share, facility, storage, shareServer, shareUnits, shareFacility, shareHolder, Block, generate, advance, terminate, takes, frees, waitServer, waitTerms, moves, assign, priority, split, counts, facts, BlockModel, blockAt}
+use Rattle.machine.specs.Block.{Share, facility, storage, shareServer, shareUnits, shareFacility, shareHolder, Block, generate, advance, terminate, takes, frees, waitServer, waitTerms, moves, assign, priority, split, counts, assemble, facts, BlockModel, blockAt}
 use Rattle.machine.specs.State.{State, Logged}
 use Rattle.machine.specs.Setters.{withUse, setMoving, setTurns}
-use Rattle.machine.specs.Moves.{recordOf, log, enters, moveTo, toRel, toFel, toQl, toWel, toWsl, mustWait, wakeQl, wakeFirstWel, wakeWsl, setUse, setContent, arrival, copies}
-use Rattle.machine.specs.Execute.{unless, held, question, takeUnits, wakeFor, checkWels, endsOne, delay, effect, freeUnits}
+use Rattle.machine.specs.Moves.{recordOf, log, enters, moveTo, toRel, toFel, toQl, toWel, toWsl, mustWait, wakeQl, wakeFirstWel, wakeWsl, setUse, setContent, arrival, copies, waitsFor, toGatherers, comes, released}
+use Rattle.machine.specs.Execute.{unless, held, question, takeUnits, wakeFor, checkWels, endsOne, delay, effect, freeUnits, askGathers}
 use Rattle.machine.specs.Turn.{sampleServers, sample, arriveAll, moveClock, nextEvents, takeFirst, takeReady, taking, answer, execute, wsScheme, turn}
 use Rattle.machine.specs.Run.{startAt, idle, start, states}
 use Rattle.machine.specs.Claims.{Each, bit, upTo, count, factsAt, entered, terminates, madeBy, isLiving, holderBy, Held}
 use Rattle.machine.proofs.Proper.{Proper, ProperShare, ProperBlock, Names, Storage, servers}
 use Rattle.machine.proofs.RunLaws.{cond-cases, each-state, each-map}
-use Rattle.machine.proofs.Cases.{waitServer-cases, checkWels-kept, waitTerms-cases, wsScheme-cases, startOf-cases}
+use Rattle.machine.proofs.Cases.{waitServer-cases, checkWels-kept, waitTerms-cases, wsScheme-cases, startOf-cases, assemble-cases}
 use Rattle.machine.proofs.Shape.{Shape, server-length, server-within, facility-capacity}
 use Rattle.machine.proofs.Sums.{count-cons}
 use Rattle.machine.proofs.Waiting.{serverIn}
 use Rattle.machine.proofs.WaitsKept.{sampled-alike}
 use Rattle.machine.proofs.Conservation.{Sound, sound-taking, sound-turn, sound-start, mover-lives}
+use Rattle.machine.proofs.Ledger.{ends-nobody}
 
 -- ---- Counts and tests
 
@@ -115,7 +116,7 @@ module _ (m : BlockModel) (tape : List (List ℕ)) where
             told = holder ∙ sym (rw (enters, eq-eqb (factsAt m tape r .server) f at));
             in-use = one ∙ sym (ap bit (lt-ltb 0 (v .holder) (omega (arith, leb-true 1 (r .entry .transaction) low))));
             living = λ asked p.
-                rw holder (living-more (r .entry .transaction) (λ e z. omega (arith, ap bit e, ap (λ n. bit (eqb n 1)) ends)) lives);
+                rw holder (living-more (r .entry .transaction) (λ e z. omega (arith, ap bit e, ends-nobody (entered m tape r) _ ends)) lives);
           }
 
       -- it is released
@@ -150,17 +151,17 @@ module _ (m : BlockModel) (tape : List (List ℕ)) where
     φ = facts (blockAt m (t .next))
 
     -- that begin a wait
-    holding-waits : φ .releases ≡ 0 → φ .terminates ≡ 0 → Holding (log 1 t s)
+    holding-waits : φ .releases ≡ 0 → Holding (log 1 t s)
     unfolding log recordOf
-    holding-waits off ends f at =
+    holding-waits off f at =
         held-left _ (s .records) f _ (h f at) (record { seizes = λ e. absurd (omega (arith, ap bit e)); releases = λ e. omega arith })
-        (λ asked e. absurd (omega (arith, ap bit e, ap (λ n. bit (eqb n 1)) ends)))
+        (λ asked e. absurd (omega (arith, ap bit e)))
 
-    holding-mustWait : (put : Transaction → State → State) → ((t : Transaction) (s : State) → Holding s → Holding (put t s)) → φ .releases ≡ 0 → φ .terminates ≡ 0
+    holding-mustWait : (put : Transaction → State → State) → ((t : Transaction) (s : State) → Holding s → Holding (put t s)) → φ .releases ≡ 0
         → Holding (mustWait put t s)
     unfolding mustWait
-    holding-mustWait put kept off ends =
-        cond-cases Holding (t .returning) _ _ (λ e. kept _ _ h) (λ e. kept _ _ (holding-waits off ends))
+    holding-mustWait put kept off =
+        cond-cases Holding (t .returning) _ _ (λ e. kept _ _ h) (λ e. kept _ _ (holding-waits off))
 
     -- at a block that takes no server, frees none and ends nobody
     holding-enters : φ .server ≡ 0 → φ .releases ≡ 0 → φ .terminates ≡ 0 → Holding (enters t s)
@@ -169,7 +170,7 @@ module _ (m : BlockModel) (tape : List (List ℕ)) where
         held-left _ (s .records) f _ (h f at) (record { seizes = λ e z. omega arith; releases = λ e. omega arith })
         (λ asked e. absurd (omega (arith, ap bit e, ap (λ n. bit (eqb n 1)) ends)))
 
-    -- TERMINATE, of one who holds nothing where the rules ask for it
+    -- at TERMINATE or ASSEMBLE, of one who holds nothing where the rules ask for it
     holding-ends : φ .server ≡ 0 → φ .releases ≡ 0 → (m .rules .holders ≡ true → held m (s .view) (t .number) ≡ 0) → Holding (enters t s)
     unfolding enters log recordOf held serverAt
     holding-ends on off clear f at =
@@ -235,7 +236,7 @@ module _ (m : BlockModel) (tape : List (List ℕ)) where
       unfolding takeUnits facts moveTo toQl shareServer shareUnits shareHolder
       holding-takes x e good lives =
           cond-cases Holding (leb (shareUnits x) (free (serverAt (s .view) (shareServer x)))) _ _ (λ fit. holding-checkWels (shareServer x) _ (taken x e good fit))
-          (λ full. holding-mustWait (toQl (m .edition) (shareServer x)) (λ t s h. h) (ap (λ b. facts b .releases) e) (ap (λ b. facts b .terminates) e))
+          (λ full. holding-mustWait (toQl (m .edition) (shareServer x)) (λ t s h. h) (ap (λ b. facts b .releases) e))
         where
           taken : (x : Share) → blockAt m (t .next) ≡ takes x → ProperShare m x → leb (shareUnits x) (free (serverAt (s .view) (shareServer x))) ≡ true
               → Holding (setUse (shareServer x) (serverAt (s .view) (shareServer x) .inUse + shareUnits x) (shareHolder x (t .number)) (enters t s))
@@ -282,7 +283,7 @@ module _ (m : BlockModel) (tape : List (List ℕ)) where
 
     -- the question was answered while t moved
     holding-effect : (b : Block) (o : Option Transaction) → blockAt m (t .next) ≡ b → question m b t (setMoving o s) ≡ 0 → ProperBlock m b → Holding (effect m b t s)
-    unfolding effect facts question moveTo toRel toWel toWsl wakeFirstWel setContent endsOne takeUnits
+    unfolding effect facts question moveTo toRel toWel toWsl wakeFirstWel setContent endsOne takeUnits toGatherers comes released
     holding-effect (generate list p) o e q good = holding-arrival _ list p _ _ (plain e refl refl refl)
     holding-effect (advance list) o e q good = holding-delay _ list t _ (plain e refl refl refl)
     holding-effect (terminate a) o e q good =
@@ -291,16 +292,23 @@ module _ (m : BlockModel) (tape : List (List ℕ)) where
     holding-effect (frees x) o e q good = holding-checkWels (shareServer x) _ (holding-wakeFor x _ (holding-frees t s h shape x e good))
     holding-effect (waitServer code v c) o e q good =
         waitServer-cases Holding m code v c t s
-        (λ k. holding-mustWait t s h (toWel (m .edition) v code) (λ t s h. h) (ap (λ b. facts b .releases) e) (ap (λ b. facts b .terminates) e)) (λ k. h)
+        (λ k. holding-mustWait t s h (toWel (m .edition) v code) (λ t s h. h) (ap (λ b. facts b .releases) e)) (λ k. h)
         (λ k. plain e refl refl refl)
     holding-effect (waitTerms a r b) o e q good =
-        waitTerms-cases Holding m a r b t s (λ k. holding-mustWait t s h toWsl (λ t s h. h) (ap (λ b. facts b .releases) e) (ap (λ b. facts b .terminates) e))
+        waitTerms-cases Holding m a r b t s (λ k. holding-mustWait t s h toWsl (λ t s h. h) (ap (λ b. facts b .releases) e))
         (λ k. plain e refl refl refl)
     holding-effect (moves c target) o e q good = plain e refl refl refl
     holding-effect (assign k a) o e q good = plain e refl refl refl
     holding-effect (priority p) o e q good = plain e refl refl refl
     holding-effect (split n target) o e q good = holding-copies n target t _ (plain e refl refl refl)
     holding-effect (counts c k) o e q good = plain e refl refl refl
+    holding-effect (assemble n) o e q good =
+        assemble-cases Holding m n t s (λ k. holding-waits t s h (ap (λ b. facts b .releases) e)) (λ g l k z. ended g l k) (λ g l k z. ended g l k)
+      where
+        ended : (g : Gatherer) (l : List Gatherer) → waitsFor t s ≡ g ∷ l → Holding (enters t s)
+        ended g l k =
+            holding-ends t s h (ap (λ b. facts b .server) e) (ap (λ b. facts b .releases) e)
+            (asked-none (m .rules .holders) (held m (s .view) (t .number)) (unfold askGathers in (subst (λ l. askGathers m l t (setMoving o s) ≡ 0) k q)))
 
   -- ---- The turn
 

@@ -10,13 +10,13 @@ use native.Mathlib.Omega.{arith}
 use borrow.Author.Tests.{eq-eqb, ne-eqb, ltb-true, ltb-false, lt-ltb}
 use lib.Dec.{eqb, ltb, leb}
 use lib.ListN.{getD}
-use Rattle.machine.specs.Transaction.{Transaction, Event, newborn, earlier}
+use Rattle.machine.specs.Transaction.{Transaction, Event, newborn, earlier, Gatherer}
 use Rattle.machine.specs.Lists.{others, flat}
 use Rattle.machine.specs.Term.{serverAt, free, truth}
-use Rattle.machine.specs.Block.{Code, Share, facility, storage, shareServer, shareUnits, Block, generate, advance, terminate, takes, frees, waitServer, waitTerms, moves, assign, priority, split, counts, facts, BlockModel, blockAt, backAt, beginsGroup}
+use Rattle.machine.specs.Block.{Code, Share, facility, storage, shareServer, shareUnits, Block, generate, advance, terminate, takes, frees, waitServer, waitTerms, moves, assign, priority, split, counts, assemble, facts, BlockModel, blockAt, backAt, beginsGroup}
 use Rattle.machine.specs.State.{State, Logged}
-use Rattle.machine.specs.Setters.{withNext, withSerial, withReturning, setMoving, setTurns, setSerial}
-use Rattle.machine.specs.Moves.{recordOf, log, enters, moveTo, fresh, toRel, toFel, toQl, toWel, toWsl, mustWait, wakeQl, wakeFirstWel, wakeWsl, setUse, setContent, arrival, copies}
+use Rattle.machine.specs.Setters.{withNext, withSerial, withReturning, setMoving, setTurns, setSerial, setEnded}
+use Rattle.machine.specs.Moves.{recordOf, log, enters, moveTo, fresh, toRel, toFel, toQl, toWel, toWsl, mustWait, wakeQl, wakeFirstWel, wakeWsl, setUse, setContent, arrival, copies, beginWait, toGatherers, comes, released}
 use Rattle.machine.specs.Execute.{stamped, takeUnits, wakeFor, checkWels, endsOne, delay, effect}
 use Rattle.machine.specs.Turn.{sample, arriveAll, due, moveClock, nextEvents, takeFirst, takeReady, taking, answer, execute, wsScheme, turn}
 use Rattle.machine.specs.Run.{idle, startAt, start, states}
@@ -24,14 +24,14 @@ use Rattle.machine.specs.Report.{movingOne}
 use Rattle.machine.specs.Claims.{Each, standing, everyone, lastEntry, WholeGroup, Joined, Stamped}
 use Rattle.machine.proofs.Proper.{ProperBlock, Proper, Role, generating, taking as taking-role, neither, role}
 use Rattle.machine.proofs.RunLaws.{cond-cases, each-map, each-state}
-use Rattle.machine.proofs.Cases.{checkWels-kept, waitServer-cases, waitTerms-cases, wsScheme-cases, startOf-cases}
-use Rattle.machine.proofs.Sums.{sumOn, sum-append}
+use Rattle.machine.proofs.Cases.{checkWels-kept, waitServer-cases, waitTerms-cases, wsScheme-cases, startOf-cases, assemble-cases}
+use Rattle.machine.proofs.Sums.{sumOn, sum-append, sum-map}
 use Rattle.machine.proofs.Sorted.{each-insert, each-those}
 use Rattle.machine.proofs.Conservation.{Sound, sound-start, sound-taking, sound-turn, stands-at-most-once}
 use Rattle.machine.proofs.Taken.{has, has-own, standing-sum}
 use Rattle.machine.proofs.Groups.{Wait8, firstOf, back-within, group-waits, apart, begins, begins-none, target-outside}
 use Rattle.machine.proofs.Ahead.{Rising, Ahead, rising-insert, rising-those}
-use Rattle.machine.proofs.Everybody.{Maybe, Everybody, Unmoved, like as everybody-like, everybody-map, everybody-each, toRel-everybody, toFel-everybody, toQl-everybody, toWel-everybody, toWsl-everybody, moveTo-everybody, wakeFor-everybody, wakeFirstWel-everybody, wakeWsl-everybody, idle-everybody}
+use Rattle.machine.proofs.Everybody.{Maybe, Everybody, Unmoved, like as everybody-like, everybody-map, everybody-each, toRel-everybody, toFel-everybody, toQl-everybody, toWel-everybody, toWsl-everybody, moveTo-everybody, wakeFor-everybody, wakeFirstWel-everybody, wakeWsl-everybody, idle-everybody, toGatherers-everybody, comes-everybody, released-everybody, waiter-everybody}
 
 -- ---- Last entries
 
@@ -83,6 +83,17 @@ module _ (n : ℕ) where
   none-who [] e = tt
   none-who (x ∷ l) e = (λ same. omega (arith, has-own n (x .who) same), none-who l (omega arith))
 
+  none-gatherer : (l : List Gatherer) → sumOn (λ (g : Gatherer). has n (g .who)) l ≡ 0 → Each (λ (g : Gatherer). Not (g .who)) l
+  none-gatherer [] e = tt
+  none-gatherer (x ∷ l) e = (λ same. omega (arith, has-own n (x .who) same), none-gatherer l (omega arith))
+
+  none-gathers : (ls : List (List Gatherer)) → sumOn (λ (g : Gatherer). has n (g .who)) (flat ls) ≡ 0 → Each (Each (λ (g : Gatherer). Not (g .who))) ls
+  unfolding flat
+  none-gathers [] e = tt
+  none-gathers (l ∷ ls) e =
+      let parts = sum-append (λ (g : Gatherer). has n (g .who)) l (flat ls) in
+      (none-gatherer l (omega arith), none-gathers ls (omega arith))
+
   nobody-else : (s : State) (t : Transaction) → standing s n ≤ 1 → s .moving ≡ some t → t .number ≡ n → Everybody Not (setMoving none s)
   nobody-else s t once e same =
       let whole = standing-sum n s in
@@ -94,6 +105,7 @@ module _ (n : ℕ) where
         wsl = none-has (s .wsl) (omega arith);
         rel = none-has (s .rel) (omega arith);
         fel = none-who (s .fel) (omega arith);
+        gatherers = none-gathers (s .gatherers) (omega (arith, sum-map (has n) (λ (g : Gatherer). g .who) (flat (s .gatherers))));
         moving = tt;
       }
 
@@ -195,8 +207,8 @@ module _ {m : BlockModel} {tape : List (List ℕ)} (proper : Proper m tape) wher
 
   -- everybody stands where it stood
   like : (s s′ : State) → s′ .records ≡ s .records → s′ .view .clock ≡ s .view .clock → s′ .ql ≡ s .ql → s′ .wel ≡ s .wel → s′ .wsl ≡ s .wsl → s′ .rel ≡ s .rel
-      → s′ .fel ≡ s .fel → s′ .moving ≡ s .moving → Joins s → Joins s′
-  like s s′ records clock ql wel wsl rel fel moving h =
+      → s′ .fel ≡ s .fel → s′ .moving ≡ s .moving → s′ .gatherers ≡ s .gatherers → Joins s → Joins s′
+  like s s′ records clock ql wel wsl rel fel moving gatherers h =
       lists s s′ records clock fel
       (record {
         ql = rw ql (h .everybody .ql);
@@ -204,6 +216,7 @@ module _ {m : BlockModel} {tape : List (List ℕ)} (proper : Proper m tape) wher
         wsl = rw wsl (h .everybody .wsl);
         rel = rw rel (h .everybody .rel);
         fel = rw fel (h .everybody .fel);
+        gatherers = rw gatherers (h .everybody .gatherers);
         moving = rw moving (h .everybody .moving);
       })
       h
@@ -238,6 +251,18 @@ module _ {m : BlockModel} {tape : List (List ℕ)} (proper : Proper m tape) wher
   joins-toWsl : (t : Transaction) (s : State) → Inside (s .records) t → Joins s → Joins (toWsl t s)
   joins-toWsl t s p h = lists s _ (unfold toWsl in refl) (unfold toWsl in refl) (unfold toWsl in refl) (toWsl-everybody _ (unmoved (s .records)) t s p (h .everybody)) h
 
+  joins-toGatherers : (t : Transaction) (s : State) → Inside (s .records) t → Joins s → Joins (toGatherers t s)
+  joins-toGatherers t s p h =
+      lists s _ (unfold toGatherers in refl) (unfold toGatherers in refl) (unfold toGatherers in refl) (toGatherers-everybody _ (unmoved (s .records)) t s p (h .everybody)) h
+
+  joins-comes : (g : Gatherer) (t : Transaction) (s : State) → Inside (s .records) (g .who) → Joins s → Joins (comes g t s)
+  joins-comes g t s p h =
+      lists s _ (unfold comes in refl) (unfold comes in refl) (unfold comes in refl) (comes-everybody _ (unmoved (s .records)) g t s p (h .everybody)) h
+
+  joins-released : (g : Gatherer) (t : Transaction) (s : State) → Inside (s .records) (withNext (suc (t .next)) (g .who)) → Joins s → Joins (released g t s)
+  joins-released g t s p h =
+      lists s _ (unfold released toRel in refl) (unfold released toRel in refl) (unfold released toRel in refl) (released-everybody _ (unmoved (s .records)) g t s p (h .everybody)) h
+
   joins-wakeFirstWel : (v : ℕ) (code : Code) (s : State) → Joins s → Joins (wakeFirstWel v code s)
   joins-wakeFirstWel v code s h =
       lists s _ (unfold wakeFirstWel in refl) (unfold wakeFirstWel in refl) (unfold wakeFirstWel in refl) (wakeFirstWel-everybody _ (unmoved (s .records)) v code s (h .everybody)) h
@@ -251,23 +276,23 @@ module _ {m : BlockModel} {tape : List (List ℕ)} (proper : Proper m tape) wher
 
   joins-use : (v n holder : ℕ) (s : State) → Joins s → Joins (setUse v n holder s)
   unfolding setUse
-  joins-use v n holder s h = like s _ refl refl refl refl refl refl refl refl h
+  joins-use v n holder s h = like s _ refl refl refl refl refl refl refl refl refl h
 
   joins-arrival : (l : List ℕ) (list p n : ℕ) (s : State) → Outside n → Joins s → Joins (arrival l list p n s)
   unfolding arrival newborn
   joins-arrival [] list p n s out h = h
-  joins-arrival (time ∷ l) list p n s out h = joins-toFel _ _ _ (omega arith) out (like s _ refl refl refl refl refl refl refl refl h)
+  joins-arrival (time ∷ l) list p n s out h = joins-toFel _ _ _ (omega arith) out (like s _ refl refl refl refl refl refl refl refl refl h)
 
   joins-delay : (l : List ℕ) (list : ℕ) (t : Transaction) (s : State) → Outside (suc (t .next)) → Joins s → Joins (delay l list t s)
   unfolding delay
   joins-delay [] list t s out h = h
-  joins-delay (time ∷ l) list t s out h = joins-toFel _ _ _ (omega arith) out (like s _ refl refl refl refl refl refl refl refl h)
+  joins-delay (time ∷ l) list t s out h = joins-toFel _ _ _ (omega arith) out (like s _ refl refl refl refl refl refl refl refl refl h)
 
   joins-copies : (n target : ℕ) (t : Transaction) (s : State) → Outside target → Joins s → Joins (copies n target t s)
   unfolding copies
   joins-copies zero target t s out h = h
   joins-copies (suc n) target t s out h =
-      joins-copies n target t _ out (joins-toRel _ _ (outside _ _ out) (like s _ refl refl refl refl refl refl refl refl h))
+      joins-copies n target t _ out (joins-toRel _ _ (outside _ _ out) (like s _ refl refl refl refl refl refl refl refl refl h))
 
   -- ---- Records
 
@@ -278,7 +303,7 @@ module _ {m : BlockModel} {tape : List (List ℕ)} (proper : Proper m tape) wher
     joins-log =
         record {
           everybody =
-              everybody-like _ (unmoved _) s (setSerial (fresh s) (log 1 t s)) refl refl refl refl refl refl
+              everybody-like _ (unmoved _) s (setSerial (fresh s) (log 1 t s)) refl refl refl refl refl refl refl
               (everybody-map (λ u q n. inside-more (record { entry = recordOf 1 t s; priority = t .priority }) (s .records) u refl q) s (h .everybody) others);
           joined = (λ e. absurd (true≢false (sym e)), h .joined);
           clocks = (omega arith, h .clocks);
@@ -289,17 +314,20 @@ module _ {m : BlockModel} {tape : List (List ℕ)} (proper : Proper m tape) wher
     unfolding log recordOf
     waits-on = inside-more _ (s .records) t refl p
 
+    joins-begin : (put : Transaction → State → State) → ((u : Transaction) (x : State) → Inside (x .records) u → Joins x → Joins (put u x)) → Joins (beginWait put t s)
+    joins-begin put kept = kept _ _ (unmoved (log 1 t s .records) .serial (fresh s) t waits-on) joins-log
+
     joins-wait : (put : Transaction → State → State) → ((u : Transaction) (x : State) → Inside (x .records) u → Joins x → Joins (put u x)) → Joins (mustWait put t s)
     unfolding mustWait
     joins-wait put kept =
-        cond-cases Joins (t .returning) _ _ (λ e. kept t s p h) (λ e. kept _ _ (unmoved (log 1 t s .records) .serial (fresh s) t waits-on) joins-log)
+        cond-cases Joins (t .returning) _ _ (λ e. kept t s p h) (λ e. joins-begin put kept)
 
     joins-enters : WholeGroup m tape (s .records) (record { entry = recordOf 0 t s; priority = t .priority }) → Joins (enters t s)
     unfolding enters log recordOf
     joins-enters whole =
         record {
           everybody =
-              everybody-like _ (unmoved _) s (enters t s) refl refl refl refl refl refl
+              everybody-like _ (unmoved _) s (enters t s) refl refl refl refl refl refl refl
               (everybody-map
               (λ u q n. inside-more (record { entry = recordOf 0 t s; priority = t .priority }) (s .records) u (ne-eqb (t .number) (u .number) (λ e. n (sym e))) q)
               s (h .everybody) others);
@@ -407,7 +435,7 @@ module _ {m : BlockModel} {tape : List (List ℕ)} (proper : Proper m tape) wher
         joins-moveTo _ t _ (next-outside e refl _ _ refl)
         (joins-arrival _ list q _ _ (at-other (t .next) (ap (λ b. facts b .wel) e) (ap (λ b. facts b .back) e)) (plain e refl))
     effect-joins (advance list) e k = joins-delay _ list t _ (after-plain e refl) (plain e refl)
-    effect-joins (terminate a) e k = like (enters t s) _ refl refl refl refl refl refl refl refl (plain e refl)
+    effect-joins (terminate a) e k = like (enters t s) _ refl refl refl refl refl refl refl refl refl (plain e refl)
     effect-joins (takes x) e k =
         let v : ℕ = shareServer x in
         cond-cases Joins (leb (shareUnits x) (free (serverAt (s .view) v))) _ _
@@ -442,21 +470,28 @@ module _ {m : BlockModel} {tape : List (List ℕ)} (proper : Proper m tape) wher
     effect-joins (split n target) e k =
         joins-moveTo _ t _ (next-outside e refl _ _ refl) (joins-copies n target t _ (target-at e (k .1 .0)) (plain e refl))
     effect-joins (counts c q) e k =
-        joins-moveTo _ t _ (next-outside e refl _ _ refl) (like (enters t s) _ refl refl refl refl refl refl refl refl (plain e refl))
+        joins-moveTo _ t _ (next-outside e refl _ _ refl) (like (enters t s) _ refl refl refl refl refl refl refl refl refl (plain e refl))
+    effect-joins (assemble n) e k =
+        assemble-cases Joins m n t s (λ first. joins-begin t s p others h toGatherers joins-toGatherers)
+        (λ g l waits last. joins-released g t _ (next-outside e refl _ _ refl) ended)
+        (λ g l waits more. joins-comes g t _ (unfold enters log in (waiter-everybody _ (unmoved _) t (setEnded (suc (enters t s .ended)) (enters t s)) g l waits (ended .everybody))) ended)
+      where
+        ended : Joins (setEnded (suc (enters t s .ended)) (enters t s))
+        ended = like (enters t s) _ refl refl refl refl refl refl refl refl refl (plain e refl)
 
   -- ---- A turn
 
   joins-idle : (s : State) → Joins s → Joins (setMoving none s)
   joins-idle s h =
       lists s _ refl refl refl
-      (record { ql = h .everybody .ql; wel = h .everybody .wel; wsl = h .everybody .wsl; rel = h .everybody .rel; fel = h .everybody .fel; moving = tt }) h
+      (record { ql = h .everybody .ql; wel = h .everybody .wel; wsl = h .everybody .wsl; rel = h .everybody .rel; fel = h .everybody .fel; gatherers = h .everybody .gatherers; moving = tt }) h
 
   joins-answer : (n : ℕ) (t : Transaction) (s : State) → s .moving ≡ some t → Inside (s .records) t → standing s (t .number) ≤ 1 → Joins s
       → Joins (answer n m (blockAt m (t .next)) t s)
   unfolding answer
   joins-answer zero t s e p once h =
       effect-joins t (setMoving none s) p (nobody-else (t .number) s t once e refl) (joins-idle s h) (blockAt m (t .next)) refl (proper .block (t .next))
-  joins-answer (suc n) t s e p once h = like s _ refl refl refl refl refl refl refl refl h
+  joins-answer (suc n) t s e p once h = like s _ refl refl refl refl refl refl refl refl refl h
 
   joins-execute : (o : Option Transaction) (s : State) → s .moving ≡ o → Maybe (Inside (s .records)) o → ((n : ℕ) → standing s n ≤ 1) → Joins s → Joins (execute o m s)
   unfolding execute
@@ -485,6 +520,7 @@ module _ {m : BlockModel} {tape : List (List ℕ)} (proper : Proper m tape) wher
               wsl = h .everybody .wsl;
               rel = h .everybody .rel;
               fel = each-those (λ (y : Event). Inside (s .records) (y .who)) _ (s .fel) (h .everybody .fel);
+              gatherers = h .everybody .gatherers;
               moving = h .everybody .moving;
             };
         joined = h .joined;
@@ -498,7 +534,7 @@ module _ {m : BlockModel} {tape : List (List ℕ)} (proper : Proper m tape) wher
   joins-takeFirst (t ∷ l) s e h =
       let rel : Each (Inside (s .records)) (t ∷ l) = subst (Each (Inside (s .records))) e (h .everybody .rel) in
       lists s _ refl refl refl
-      (record { ql = h .everybody .ql; wel = h .everybody .wel; wsl = h .everybody .wsl; rel = rel .1; fel = h .everybody .fel; moving = rel .0 }) h
+      (record { ql = h .everybody .ql; wel = h .everybody .wel; wsl = h .everybody .wsl; rel = rel .1; fel = h .everybody .fel; gatherers = h .everybody .gatherers; moving = rel .0 }) h
 
   joins-takeReady : (l : List Transaction) (s : State) → s .rel ≡ l → Joins s → Joins (takeReady l s)
   unfolding takeReady
@@ -520,7 +556,7 @@ module _ {m : BlockModel} {tape : List (List ℕ)} (proper : Proper m tape) wher
   unfolding turn standing everyone
   joins-turn s sound h =
       let taken : State = setTurns (suc (s .turns)) (taking (s .moving) s) in
-      let k : Joins taken = like (taking (s .moving) s) taken refl refl refl refl refl refl refl refl (joins-taking (s .moving) s h) in
+      let k : Joins taken = like (taking (s .moving) s) taken refl refl refl refl refl refl refl refl refl (joins-taking (s .moving) s h) in
       joins-wsScheme _ (joins-execute (taken .moving) taken refl (k .everybody .moving) (λ n. stands-at-most-once m tape _ (sound-taking m tape s sound) n) k)
 
   -- ---- The start
@@ -568,5 +604,5 @@ module _ {m : BlockModel} {tape : List (List ℕ)} (proper : Proper m tape) wher
       each-map (λ s h. gathered s (h .1)) (states m tape budget room)
       (each-state m budget room (λ s. Sound m tape s × Joins s) (λ s t h. (sound-turn m tape proper s (h .0), joins-turn s (h .0) (h .1)))
       (λ s e c h.
-      (record { shape = h .0 .shape; balanced = h .0 .balanced; books = h .0 .books }, like s _ refl refl refl refl refl refl refl refl (h .1))) tape
+      (record { shape = h .0 .shape; balanced = h .0 .balanced; books = h .0 .books }, like s _ refl refl refl refl refl refl refl refl refl (h .1))) tape
       (sound-start m tape proper, joins-start))

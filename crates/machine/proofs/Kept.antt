@@ -9,18 +9,18 @@ use borrow.Author.Tests.{leb-true}
 use lib.Dec.{T, eqb, leb}
 use lib.ListN.{set}
 use Rattle.machine.specs.Limits.{maxLiving}
-use Rattle.machine.specs.Transaction.{Transaction, Event}
+use Rattle.machine.specs.Transaction.{Transaction, Event, Gatherer}
 use Rattle.machine.specs.Term.{Queue, serverAt, queueAt, free}
-use Rattle.machine.specs.Block.{Code, Share, facility, storage, shareServer, shareUnits, Change, up, down, Block, generate, advance, terminate, takes, frees, waitServer, waitTerms, moves, assign, priority, split, counts, BlockModel, blockAt}
+use Rattle.machine.specs.Block.{Code, Share, facility, storage, shareServer, shareUnits, Change, up, down, Block, generate, advance, terminate, takes, frees, waitServer, waitTerms, moves, assign, priority, split, counts, assemble, BlockModel, blockAt}
 use Rattle.machine.specs.State.{State, Logged}
-use Rattle.machine.specs.Setters.{setClock, setEntries, setQueues, setView, setCounter, setSamples, setQl, setWel, setWsl, setRel, setFel, setMoving, setSerial, setMade, setEnded, setTurns, setRecords, setWritten, setEnd}
-use Rattle.machine.specs.Moves.{log, enters, moveTo, toRel, toFel, toQl, toWel, toWsl, mustWait, wakeQl, wakeFirstWel, wakeWsl, setUse, setContent, timesLeft, arrival, copies}
-use Rattle.machine.specs.Execute.{unless, living, askGenerate, askAdvance, askContent, askHolder, held, changed, question, takeUnits, wakeFor, checkWels, endsOne, delay, effect, freeUnits}
+use Rattle.machine.specs.Setters.{setClock, setEntries, setQueues, setView, setCounter, setSamples, setQl, setWel, setWsl, setRel, setFel, setGatherers, setMoving, setSerial, setMade, setEnded, setTurns, setRecords, setWritten, setEnd}
+use Rattle.machine.specs.Moves.{log, enters, moveTo, toRel, toFel, toQl, toWel, toWsl, beginWait, mustWait, wakeQl, wakeFirstWel, wakeWsl, setUse, setContent, timesLeft, arrival, copies, waitsFor, toGatherers, comes, released}
+use Rattle.machine.specs.Execute.{unless, living, askGenerate, askAdvance, askContent, askEnds, askHolder, held, askGathers, changed, question, takeUnits, wakeFor, checkWels, endsOne, delay, effect, freeUnits}
 use Rattle.machine.specs.Turn.{sample, arriveAll, moveClock, nextEvents, takeFirst, takeReady, taking, answer, execute, wsScheme, turn}
 use Rattle.machine.specs.Run.{startAt, idle, start}
 use Rattle.machine.specs.Claims.{statedEnd}
 use Rattle.machine.proofs.RunLaws.{cond-cases}
-use Rattle.machine.proofs.Cases.{checkWels-kept, waitServer-cases, waitTerms-cases, wsScheme-cases, startOf-cases}
+use Rattle.machine.proofs.Cases.{checkWels-kept, waitServer-cases, waitTerms-cases, assemble-cases, wsScheme-cases, startOf-cases}
 
 -- ---- Definition
 
@@ -41,6 +41,7 @@ pub record Closed (Q : State → Type 0) : Type 0 where
   pub wsl : (l : List Transaction) (s : State) → Q s → Q (setWsl l s)
   pub rel : (l : List Transaction) (s : State) → Q s → Q (setRel l s)
   pub fel : (l : List Event) (s : State) → Q s → Q (setFel l s)
+  pub gatherers : (i : ℕ) (l : List Gatherer) (s : State) → Q s → Q (setGatherers (set (s .gatherers) i l) s)
   pub moving : (o : Option Transaction) (s : State) → Q s → Q (setMoving o s)
   pub serial : (n : ℕ) (s : State) → Q s → Q (setSerial n s)
   pub counter : (n : ℕ) (s : State) → Q s → Q (setCounter n s)
@@ -82,11 +83,19 @@ unfolding askHolder
 ask-holder m (facility v) t s = unless-stops (not (m .rules .holders) || eqb (serverAt (s .view) v .holder) (t .number)) 27 0 tt tt
 ask-holder m (storage v b) t s = tt
 
+ask-ends : (m : BlockModel) (t : Transaction) (s : State) → Stop (askEnds m t s)
+ask-ends m t s = unless-stops (not (m .rules .holders) || eqb (held m (s .view) (t .number)) 0) 28 0 tt tt
+
+ask-gathers : (m : BlockModel) (l : List Gatherer) (t : Transaction) (s : State) → Stop (askGathers m l t s)
+unfolding askGathers
+ask-gathers m [] t s = tt
+ask-gathers m (g ∷ l) t s = ask-ends m t s
+
 pub question-stops : (m : BlockModel) (b : Block) (t : Transaction) (s : State) → Stop (question m b t s)
 unfolding question
 question-stops m (generate list p) t s = ask-generate m (timesLeft s list) s
 question-stops m (advance list) t s = ask-advance m (timesLeft s list) s
-question-stops m (terminate a) t s = unless-stops (not (m .rules .holders) || eqb (held m (s .view) (t .number)) 0) 28 0 tt tt
+question-stops m (terminate a) t s = ask-ends m t s
 question-stops m (takes x) t s = tt
 question-stops m (frees x) t s = unless-stops (leb (shareUnits x) (serverAt (s .view) (shareServer x) .inUse)) 24 _ tt (ask-holder m x t s)
 question-stops m (waitServer code v c) t s = tt
@@ -96,6 +105,7 @@ question-stops m (assign k a) t s = tt
 question-stops m (priority p) t s = tt
 question-stops m (split n target) t s = unless-stops (leb (living s + n) maxLiving) 21 0 tt tt
 question-stops m (counts c q) t s = ask-content c (queueAt (s .view) q .content)
+question-stops m (assemble n) t s = ask-gathers m (waitsFor t s) t s
 
 -- ---- Every part of a turn
 
@@ -181,6 +191,22 @@ module _ (Q : State → Type 0) (C : Closed Q) where
   unfolding wakeFor wakeQl
   wakeFor-kept m x s h = C .ql _ _ _ (C .rel _ s h)
 
+  pub toGatherers-kept : (t : Transaction) (s : State) → Q s → Q (toGatherers t s)
+  unfolding toGatherers
+  toGatherers-kept t s h = C .gatherers _ _ s h
+
+  pub begins-kept : (t : Transaction) (s : State) → Q s → Q (beginWait toGatherers t s)
+  unfolding log
+  begins-kept t s h = toGatherers-kept _ _ (C .serial _ _ (C .written _ _ s h))
+
+  pub comes-kept : (g : Gatherer) (t : Transaction) (s : State) → Q s → Q (comes g t s)
+  unfolding comes
+  comes-kept g t s h = C .gatherers _ _ s h
+
+  pub released-kept : (g : Gatherer) (t : Transaction) (s : State) → Q s → Q (released g t s)
+  unfolding released
+  released-kept g t s h = toRel-kept _ _ (C .gatherers _ _ s h)
+
   pub effect-kept : (m : BlockModel) (b : Block) (t : Transaction) (s : State) → Q s → Q (effect m b t s)
   unfolding effect setContent takeUnits
   effect-kept m (generate list p) t s h = goes-on _ t _ (arrival-kept _ list p _ _ (enters-kept t s h))
@@ -199,6 +225,9 @@ module _ (Q : State → Type 0) (C : Closed Q) where
   effect-kept m (priority p) t s h = toRel-kept _ _ (enters-kept t s h)
   effect-kept m (split n target) t s h = goes-on _ t _ (copies-kept n target t _ (enters-kept t s h))
   effect-kept m (counts c q) t s h = goes-on _ t _ (C .queues _ _ _ (enters-kept t s h))
+  effect-kept m (assemble n) t s h =
+      assemble-cases Q m n t s (λ e. begins-kept t s h) (λ g l e z. released-kept g t _ (C .ended _ _ (enters-kept t s h)))
+      (λ g l e z. comes-kept g t _ (C .ended _ _ (enters-kept t s h)))
 
   pub arriveAll-kept : (l : List Event) (s : State) → Q s → Q (arriveAll l s)
   unfolding arriveAll

@@ -10,13 +10,13 @@ use borrow.Author.Tests.{leb-true, le-leb}
 use lib.Dec.{leb, eqb}
 use Rattle.machine.specs.Limits.{maxLiving}
 use Rattle.machine.specs.Rules.{Rules}
-use Rattle.machine.specs.Transaction.{Transaction}
+use Rattle.machine.specs.Transaction.{Transaction, Gatherer}
 use Rattle.machine.specs.Term.{serverAt}
-use Rattle.machine.specs.Block.{Share, facility, storage, shareServer, shareUnits, Block, generate, advance, terminate, takes, frees, waitServer, waitTerms, moves, assign, priority, split, counts, BlockModel, blockAt}
+use Rattle.machine.specs.Block.{Share, facility, storage, shareServer, shareUnits, Block, generate, advance, terminate, takes, frees, waitServer, waitTerms, moves, assign, priority, split, counts, assemble, BlockModel, blockAt}
 use Rattle.machine.specs.State.{State}
 use Rattle.machine.specs.Setters.{setEnd}
-use Rattle.machine.specs.Moves.{wakeWsl, timesLeft}
-use Rattle.machine.specs.Execute.{unless, living, askTime, askGenerate, askAdvance, askHolder, held, question}
+use Rattle.machine.specs.Moves.{wakeWsl, timesLeft, waitsFor}
+use Rattle.machine.specs.Execute.{unless, living, askTime, askGenerate, askAdvance, askHolder, held, question, askGathers}
 use Rattle.machine.specs.Turn.{answer, execute, wsScheme, turn}
 use Rattle.machine.specs.Run.{run}
 use Rattle.machine.proofs.RunLaws.{Before, taken, own, closing}
@@ -56,6 +56,11 @@ module _ (new : Rules) (m : BlockModel) (higher : m .rules .maxClock ≤ new .ma
   holder-same (facility v) t s = ap (λ b. unless (not b || eqb (serverAt (s .view) v .holder) (t .number)) 27 0) (sym holders)
   holder-same (storage v b) t s = refl
 
+  gathers-same : (l : List Gatherer) (t : Transaction) (s : State) → askGathers m′ l t s ≡ askGathers m l t s
+  unfolding askGathers held
+  gathers-same [] t s = refl
+  gathers-same (g ∷ l) t s = ap (λ b. unless (not b || eqb (held m (s .view) (t .number)) 0) 28 0) (sym holders)
+
   question-same : (b : Block) (t : Transaction) (s : State) → (question m b t s ≡ 22 → ⊥) → question m′ b t s ≡ question m b t s
   unfolding question held
   question-same (generate list p) t s h = generate-same (timesLeft s list) s h
@@ -70,6 +75,7 @@ module _ (new : Rules) (m : BlockModel) (higher : m .rules .maxClock ≤ new .ma
   question-same (priority p) t s h = refl
   question-same (split n target) t s h = refl
   question-same (counts c q) t s h = refl
+  question-same (assemble n) t s h = gathers-same (waitsFor t s) t s
 
   -- ---- The run
 

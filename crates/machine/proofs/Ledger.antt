@@ -14,16 +14,16 @@ use Rattle.machine.specs.Transaction.{Transaction, Event}
 use Rattle.machine.specs.Lists.{nth, setNth}
 use Rattle.machine.specs.Term.{serverAt, free}
 use Rattle.machine.specs.Facts.{Facts}
-use Rattle.machine.specs.Block.{Share, facility, storage, shareServer, shareUnits, Block, generate, advance, terminate, takes, frees, waitServer, waitTerms, moves, assign, priority, split, counts, facts, BlockModel, blockAt}
+use Rattle.machine.specs.Block.{Share, facility, storage, shareServer, shareUnits, Block, generate, advance, terminate, takes, frees, waitServer, waitTerms, moves, assign, priority, split, counts, assemble, facts, BlockModel, blockAt}
 use Rattle.machine.specs.State.{State, Logged}
-use Rattle.machine.specs.Setters.{setMoving}
-use Rattle.machine.specs.Moves.{recordOf, log, enters, moveTo, toRel, toFel, toQl, toWel, toWsl, mustWait, wakeQl, wakeFirstWel, wakeWsl, setUse, setContent, timesLeft, arrival, copies}
+use Rattle.machine.specs.Setters.{setMoving, setEnded}
+use Rattle.machine.specs.Moves.{recordOf, log, enters, moveTo, toRel, toFel, toQl, toWel, toWsl, mustWait, wakeQl, wakeFirstWel, wakeWsl, setUse, setContent, timesLeft, arrival, copies, toGatherers, comes, released}
 use Rattle.machine.specs.Execute.{askAdvance, question, takeUnits, wakeFor, checkWels, endsOne, delay, effect}
 use Rattle.machine.specs.Turn.{arriveAll, moveClock, nextEvents, takeFirst, takeReady, taking, answer, execute, wsScheme, turn}
 use Rattle.machine.specs.Claims.{bit, timesOf, factsAt, entered, getsTime, usedBy, madeBy, endedBy, terminates}
 use Rattle.machine.proofs.Proper.{Proper, ProperBlock, Names}
 use Rattle.machine.proofs.RunLaws.{cond-cases}
-use Rattle.machine.proofs.Cases.{waitServer-cases, checkWels-kept, waitTerms-cases, wsScheme-cases}
+use Rattle.machine.proofs.Cases.{waitServer-cases, checkWels-kept, waitTerms-cases, assemble-cases, wsScheme-cases}
 use Rattle.machine.proofs.Kept.{taking-kept}
 use Rattle.machine.proofs.Shape.{Shape, shape-closed, samples-at}
 use Rattle.machine.proofs.Sums.{count-cons}
@@ -46,6 +46,11 @@ used-length samples list other low low′ at = go (eqb list other) refl
       where
         apart : (list ≡ other → ⊥) → other - 1 ≡ list - 1 → ⊥
         apart ne e = omega arith
+
+-- a block that ends nobody
+pub ends-nobody : (b : Bool) (n : ℕ) → n ≡ 0 → bit (b && eqb n 1) ≡ 0
+ends-nobody true n e = ap (λ n. bit (eqb n 1)) e
+ends-nobody false n e = refl
 
 module _ (m : BlockModel) (tape : List (List ℕ)) where
   -- ---- Definition
@@ -91,7 +96,7 @@ module _ (m : BlockModel) (tape : List (List ℕ)) where
       let r : Logged = record { entry = recordOf outcome t s; priority = t .priority } in
       record {
         makes = omega (arith, h .makes, plain-makes _ plain outcome (usedBy m tape (s .records)));
-        ends = omega (arith, h .ends, ended-more r (s .records), ap (λ n. bit (eqb n 1)) (plain .terminates));
+        ends = omega (arith, h .ends, ended-more r (s .records), ends-nobody (eqb outcome 0) _ (plain .terminates));
         times = λ list names.
             omega (arith, h .times list names, used-more r (s .records) list, unused (entered m tape r) _ list (plain .uses) (names .0));
       }
@@ -221,6 +226,35 @@ module _ (m : BlockModel) (tape : List (List ℕ)) where
             omega (arith, h .times list names, used-more r (s .records) list, unused true _ list (ap (λ φ. φ .uses) e) (names .0));
       }
 
+  -- ASSEMBLE: the record of the first of a family, and that of a later one
+  booked-first : (n : ℕ) (t : Transaction) (s : State) → Books s → facts (blockAt m (t .next)) ≡ facts (assemble n) → Books (log 1 t s)
+  unfolding log recordOf madeBy facts
+  booked-first n t s h e =
+      let r : Logged = record { entry = recordOf 1 t s; priority = t .priority } in
+      record {
+        makes = omega (arith, h .makes);
+        ends = omega (arith, h .ends, ended-more r (s .records));
+        times = λ list names. omega (arith, h .times list names, used-more r (s .records) list);
+      }
+
+  booked-later : (n : ℕ) (t : Transaction) (s : State) → Books s → facts (blockAt m (t .next)) ≡ facts (assemble n)
+      → Books (setEnded (suc (enters t s .ended)) (enters t s))
+  unfolding enters log recordOf madeBy facts
+  booked-later n t s h e =
+      let r : Logged = record { entry = recordOf 0 t s; priority = t .priority } in
+      record {
+        makes =
+            omega (
+              arith,
+              h .makes,
+              ap (λ φ. φ .copies) e,
+              ap (λ g. bit (not (eqb g 0) && ltb (usedBy m tape (s .records) g) (timesOf m tape g))) (ap (λ φ. φ .generates) e),
+            );
+        ends = omega (arith, h .ends, ended-more r (s .records), ap (λ φ. bit (eqb (φ .terminates) 1)) e);
+        times = λ list names.
+            omega (arith, h .times list names, used-more r (s .records) list, unused true _ list (ap (λ φ. φ .uses) e) (names .0));
+      }
+
   -- ---- Every block
 
   plain-facts : {φ ψ : Facts} → φ ≡ ψ → ψ .generates ≡ 0 → ψ .uses ≡ 0 → ψ .copies ≡ 0 → ψ .terminates ≡ 0 → Plain φ
@@ -251,7 +285,7 @@ module _ (m : BlockModel) (tape : List (List ℕ)) where
 
     -- the question was answered while t moved
     booked-effect : (b : Block) (o : Option Transaction) → blockAt m (t .next) ≡ b → question m b t (setMoving o s) ≡ 0 → ProperBlock m b → Shape m s → Books (effect m b t s)
-    unfolding effect moveTo facts question toRel toQl toWel toWsl wakeFirstWel setUse setContent takeUnits
+    unfolding effect moveTo facts question toRel toQl toWel toWsl wakeFirstWel setUse setContent takeUnits toGatherers comes released
     booked-effect (generate list p) o e q good shape =
         booked-generate t s h list (good .0) shape (ap (λ b. facts b .uses) e) (timesLeft s list) p (t .next) refl (ap (λ b. facts b .generates) e)
         (ap (λ b. facts b .copies) e) (ap (λ b. facts b .terminates) e)
@@ -273,6 +307,8 @@ module _ (m : BlockModel) (tape : List (List ℕ)) where
     booked-effect (priority p) o e q good shape = booked-entered (plain-facts (ap facts e) refl refl refl refl)
     booked-effect (split n target) o e q good shape = booked-split n target t s h (ap facts e)
     booked-effect (counts c q) o e z good shape = booked-entered (plain-facts (ap facts e) refl refl refl refl)
+    booked-effect (assemble n) o e z good shape =
+        assemble-cases Books m n t s (λ k. booked-first n t s h (ap facts e)) (λ g l k z. booked-later n t s h (ap facts e)) (λ g l k z. booked-later n t s h (ap facts e))
 
   booked-answer : (n : ℕ) (t : Transaction) (s : State) → question m (blockAt m (t .next)) t s ≡ n → Proper m tape → Shape m s → Books s
       → Books (answer n m (blockAt m (t .next)) t s)

@@ -29,11 +29,13 @@ pub mod Rivals
 pub mod Taken
 pub mod OrderKept
 pub mod InOrder
+pub mod Gathering
 pub mod Groups
 pub mod ParserLaws
 pub mod ProperFrom
 pub mod OutcomeLaws
 pub mod Everybody
+pub mod Families
 pub mod Placed
 pub mod Clocks
 pub mod Sorting

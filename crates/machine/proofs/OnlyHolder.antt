@@ -11,13 +11,13 @@ use lib.Dec.{leb, eqb, T}
 use Rattle.machine.specs.Limits.{workNumbers, reportRoom}
 use Rattle.machine.specs.Rules.{Rules, document01, item1, item6, inForce}
 use Rattle.machine.specs.Parser.{Parsed, parsed, refused}
-use Rattle.machine.specs.Transaction.{Transaction}
+use Rattle.machine.specs.Transaction.{Transaction, Gatherer}
 use Rattle.machine.specs.Term.{serverAt}
-use Rattle.machine.specs.Block.{facility, storage, shareServer, shareUnits, shareFacility, Block, generate, advance, terminate, takes, frees, waitServer, waitTerms, moves, assign, priority, split, counts, facts, BlockModel, blockAt}
+use Rattle.machine.specs.Block.{facility, storage, shareServer, shareUnits, shareFacility, Block, generate, advance, terminate, takes, frees, waitServer, waitTerms, moves, assign, priority, split, counts, assemble, facts, BlockModel, blockAt}
 use Rattle.machine.specs.State.{State, Logged}
 use Rattle.machine.specs.Setters.{setMoving}
-use Rattle.machine.specs.Moves.{recordOf, log, enters, moveTo, wakeQl, wakeFirstWel, wakeWsl, setUse, timesLeft}
-use Rattle.machine.specs.Execute.{unless, askGenerate, askAdvance, askHolder, held, question, wakeFor, endsOne, effect, takeUnits}
+use Rattle.machine.specs.Moves.{recordOf, log, enters, moveTo, wakeQl, wakeFirstWel, wakeWsl, setUse, timesLeft, waitsFor, beginWait, mustWait, comes, released, toRel}
+use Rattle.machine.specs.Execute.{unless, askGenerate, askAdvance, askHolder, held, question, wakeFor, endsOne, effect, takeUnits, askGathers, gathers, gathering}
 use Rattle.machine.specs.Turn.{answer, execute, wsScheme, turn}
 use Rattle.machine.specs.Run.{run}
 use Rattle.machine.specs.Decode.{listField}
@@ -32,13 +32,14 @@ use Rattle.machine.proofs.Cases.{checkWels-kept, wsScheme-cases}
 use Rattle.machine.proofs.Kept.{taking-kept}
 use Rattle.machine.proofs.Shape.{Shape, shape-closed}
 use Rattle.machine.proofs.Sums.{upTo-cong}
-use Rattle.machine.proofs.Steps.{Step, passes, begins, back, returns, step-effect}
+use Rattle.machine.proofs.Steps.{Step, passes, begins, back, returns, assembles, step-effect}
 use Rattle.machine.proofs.Taken.{taking-records}
 use Rattle.machine.proofs.WiderParsing.{withRules, underRules, model-read, own-rules}
 use Rattle.machine.proofs.SameTurns.{AnsweredAlike, takenFrom, turn-same, accepted-same, run-same}
 use Rattle.machine.proofs.OlderTapes.{older-runs}
 use Rattle.machine.proofs.OlderModels.{older-models}
 use Rattle.machine.proofs.Holders.{Holding, holding-taking, Accounts, accounts-start, accounts-turn}
+use Rattle.machine.proofs.RunLaws.{cond-cases}
 
 -- ---- Tests
 
@@ -66,6 +67,7 @@ module _ (m : BlockModel) (tape : List (List ℕ)) (proper : Proper m tape) wher
   wrote-step (begins e p) = rw (p .records) (one _)
   wrote-step (back e p) = rw (p .records) nothing
   wrote-step (returns z q) = rw (q .records) nothing
+  wrote-step (assembles z q) = rw (q .records) (one _)
 
   wrote-answer : (n : ℕ) (t : Transaction) (s : State) → Shape m s → Wrote (s .records) (answer n m (blockAt m (t .next)) t s .records)
   unfolding answer
@@ -167,6 +169,26 @@ module _ (m : BlockModel) (tape : List (List ℕ)) (proper : Proper m tape) wher
           go true own = asks-alike _ 27 (holds-it v at on (subst Own (freed-records v) (own (ap ask silent))))
           go false own = refl
 
+      -- a later one of a family writes its record
+      gathers-records : (n : ℕ) (g : Gatherer) → gathers n g t (enters t (setMoving none s)) .records ≡ r ∷ s .records
+      unfolding gathers released toRel comes enters log recordOf
+      gathers-records n g = cond-cases (λ (s′ : State). s′ .records ≡ r ∷ s .records) (eqb (suc (g .come)) n) _ _ (λ e. refl) (λ e. refl)
+
+      later-records : (n : ℕ) (g : Gatherer) (l : List Gatherer) → waitsFor t s ≡ g ∷ l → effect m (assemble n) t (setMoving none s) .records ≡ r ∷ s .records
+      unfolding effect takeUnits
+      later-records n g l k =
+          let s₀ : State = setMoving none s in
+          ap (λ l. gathering (λ f. f (enters t s₀)) (λ put. mustWait put t s₀) (λ f. f s₀) (λ put. beginWait put t s₀) l n t .records) k ∙ gathers-records n g
+
+      gathers-same : (n : ℕ) (l : List Gatherer) → blockAt m (t .next) ≡ assemble n → waitsFor t s ≡ l
+          → (askGathers m l t s ≡ 0 → Own (effect m (assemble n) t (setMoving none s) .records)) → askGathers m′ l t s ≡ askGathers m l t s
+      unfolding askGathers held facts
+      gathers-same n [] e k own = refl
+      gathers-same n (g ∷ l) e k own =
+          asks-alike _ 28
+          (holds-none (ap (λ b. facts b .terminates) e)
+          (subst Own (later-records n g l k) (own (ap (λ b. unless (not b || eqb (held m (s .view) (t .number)) 0) 28 0) silent))))
+
       question-same : (b : Block) → blockAt m (t .next) ≡ b → ProperBlock m b → (question m b t s ≡ 0 → Own (effect m b t (setMoving none s) .records))
           → question m′ b t s ≡ question m b t s
       unfolding question askHolder held facts shareFacility effect endsOne enters log recordOf takeUnits
@@ -184,6 +206,7 @@ module _ (m : BlockModel) (tape : List (List ℕ)) (proper : Proper m tape) wher
       question-same (priority p) e good own = refl
       question-same (split n target) e good own = refl
       question-same (counts c q) e good own = refl
+      question-same (assemble n) e good own = gathers-same n (waitsFor t s) e refl own
 
     -- ---- The turn and the run
 

@@ -9,8 +9,8 @@ use lib.ListN.{length}
 use Rattle.machine.specs.Transaction.{Transaction}
 use Rattle.machine.specs.Block.{Block, BlockModel, blockAt}
 use Rattle.machine.specs.State.{State, Logged}
-use Rattle.machine.specs.Setters.{setMoving, setTurns, setEnd}
-use Rattle.machine.specs.Moves.{recordOf, log, enters, toFel, wakeWsl, arrival}
+use Rattle.machine.specs.Setters.{setMoving, setTurns, setEnd, withSerial}
+use Rattle.machine.specs.Moves.{recordOf, log, enters, toFel, wakeWsl, arrival, fresh}
 use Rattle.machine.specs.Execute.{question}
 use Rattle.machine.specs.Turn.{taking, answer, execute, turn}
 use Rattle.machine.specs.Run.{startAt, idle, start}
@@ -25,7 +25,7 @@ use Rattle.machine.proofs.Waiting.{Waits, Settled}
 use Rattle.machine.proofs.Records.{opens, order-more}
 use Rattle.machine.proofs.Sums.{sumOn, sum-flat-none}
 use Rattle.machine.proofs.Weights.{Wait, waitOf, weight, marked, waiting, Unmarked, quiet-wakeWsl}
-use Rattle.machine.proofs.Steps.{Step, passes, begins, back, returns, step-effect}
+use Rattle.machine.proofs.Steps.{Step, passes, begins, back, returns, assembles, step-effect}
 use Rattle.machine.proofs.OpenWaits.{ForUnits, Linked, LinkedIn, linked-as, linked-quiet, linked-passes, linked-begins}
 use Rattle.machine.proofs.Rivals.{ends-in-order}
 use Rattle.machine.proofs.Taken.{Once, InHand, Handed, nobody, hand, handed, taking-records}
@@ -82,6 +82,11 @@ module _ (m : BlockModel) (tape : List (List ℕ)) where
     ordered-step s′ (returns z q) =
         ordered-as s′ (q .records) (q .serials)
         (λ f k. omega (arith, q .weights f, cond-cases (λ n. n ≡ 0) (t .returning) (weight f t) 0 (λ e. k (waitOf t) z) (λ e. refl))) (q .moving tt) (h .linked) in-order
+    ordered-step s′ (assembles z q) =
+        ordered-as s′ (q .records) (q .serials) (λ f k. omega (arith, q .weights f, k (waitOf (withSerial (fresh idle-hand) t)) z)) (q .moving tt)
+        (linked-begins t idle-hand (h .alone) (h .linked))
+        (order-more m tape _ (s .records)
+        (ends-in-order m tape t idle-hand (h .alone) (h .linked) first (λ r. (h .in-place r, λ n. absurd (n z)))) in-order)
 
     -- a question stops the run
     ordered-stop : (n : ℕ) → Ordered (setEnd (suc n) s)

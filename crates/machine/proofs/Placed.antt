@@ -10,7 +10,7 @@ use lib.ListN.{length, getD}
 use Rattle.machine.specs.Limits.{maxPriority}
 use Rattle.machine.specs.Transaction.{Transaction, newborn}
 use Rattle.machine.specs.Term.{compare, serverAt, free, truth, Condition, always, whenTrue}
-use Rattle.machine.specs.Block.{Share, shareServer, shareUnits, Block, generate, advance, terminate, takes, frees, waitServer, waitTerms, moves, assign, priority, split, counts, facts, BlockModel, blockAt, unconditional}
+use Rattle.machine.specs.Block.{Share, shareServer, shareUnits, Block, generate, advance, terminate, takes, frees, waitServer, waitTerms, moves, assign, priority, split, counts, assemble, facts, BlockModel, blockAt, unconditional}
 use Rattle.machine.specs.State.{State}
 use Rattle.machine.specs.Setters.{withNext, setMoving, setTurns}
 use Rattle.machine.specs.Execute.{effect, takeUnits}
@@ -22,8 +22,8 @@ use Rattle.machine.specs.Validate.{wellPlaced}
 use Rattle.machine.proofs.Proper.{Names, ProperBlock, Proper, generates-list}
 use Rattle.machine.proofs.Groups.{and-right, blocks-placed, back-within}
 use Rattle.machine.proofs.RunLaws.{cond-cases, each-state}
-use Rattle.machine.proofs.Cases.{waitServer-cases, waitTerms-cases, startOf-cases}
-use Rattle.machine.proofs.Everybody.{Maybe, Everybody, Unmoved, toRel-everybody, waitQl-everybody, waitWel-everybody, waitWsl-everybody, moveTo-everybody, wakeFor-everybody, wakeFirstWel-everybody, checkWels-everybody, wsScheme-everybody, arrival-everybody, copies-everybody, delay-everybody, enters-everybody, inUse-everybody, content-everybody, endsOne-everybody, taking-everybody, idle-everybody}
+use Rattle.machine.proofs.Cases.{waitServer-cases, waitTerms-cases, assemble-cases, startOf-cases}
+use Rattle.machine.proofs.Everybody.{Maybe, Everybody, Unmoved, toRel-everybody, waitQl-everybody, waitWel-everybody, waitWsl-everybody, moveTo-everybody, wakeFor-everybody, wakeFirstWel-everybody, checkWels-everybody, wsScheme-everybody, arrival-everybody, copies-everybody, delay-everybody, enters-everybody, inUse-everybody, content-everybody, endsOne-everybody, ended-everybody, begins-everybody, waiter-everybody, comes-everybody, released-everybody, taking-everybody, idle-everybody}
 
 -- ---- Question 7: behind a block that lets its transaction go on stands another
 
@@ -98,6 +98,10 @@ module _ (m : BlockModel) (tape : List (List ℕ)) (proper : Proper m tape) wher
     effect-placed (priority k) ok on behind = toRel-everybody P U _ _ (on refl .0, ok) h′
     effect-placed (split n target) ok on behind = moveTo-everybody P U _ t _ (on refl) (copies-everybody P U n target t _ (λ k. (ok .1, p .1)) h′)
     effect-placed (counts c q) ok on behind = moveTo-everybody P U _ t _ (on refl) (content-everybody P U q _ _ h′)
+    effect-placed (assemble n) ok on behind =
+        assemble-cases (Everybody P) m n t s (λ e. begins-everybody P U t s p h)
+        (λ g l e z. released-everybody P U g t _ (on refl .0, waiter-everybody P U t s g l e h .1) (ended-everybody P U _ _ h′))
+        (λ g l e z. comes-everybody P U g t _ (waiter-everybody P U t s g l e h) (ended-everybody P U _ _ h′))
 
   -- ---- The turn
 
@@ -105,9 +109,9 @@ module _ (m : BlockModel) (tape : List (List ℕ)) (proper : Proper m tape) wher
   unfolding answer
   answer-placed zero t s p h =
       effect-placed t p (setMoving none s)
-      (record { ql = h .ql; wel = h .wel; wsl = h .wsl; rel = h .rel; fel = h .fel; moving = tt })
+      (record { ql = h .ql; wel = h .wel; wsl = h .wsl; rel = h .rel; fel = h .fel; gatherers = h .gatherers; moving = tt })
       (blockAt m (t .next)) (proper .block (t .next)) (after t p) (omega (arith, p .0 .0, back-within proper (t .next)))
-  answer-placed (suc n) t s p h = record { ql = h .ql; wel = h .wel; wsl = h .wsl; rel = h .rel; fel = h .fel; moving = h .moving }
+  answer-placed (suc n) t s p h = record { ql = h .ql; wel = h .wel; wsl = h .wsl; rel = h .rel; fel = h .fel; gatherers = h .gatherers; moving = h .moving }
 
   execute-placed : (o : Option Transaction) (s : State) → Maybe P o → Everybody P s → Everybody P (execute o m s)
   unfolding execute
@@ -120,7 +124,7 @@ module _ (m : BlockModel) (tape : List (List ℕ)) (proper : Proper m tape) wher
       let k : Everybody P (taking (s .moving) s) = taking-everybody P U (s .moving) s h in
       wsScheme-everybody P U m _
       (execute-placed _ (setTurns (suc (s .turns)) (taking (s .moving) s)) (k .moving)
-      (record { ql = k .ql; wel = k .wel; wsl = k .wsl; rel = k .rel; fel = k .fel; moving = k .moving }))
+      (record { ql = k .ql; wel = k .wel; wsl = k .wsl; rel = k .rel; fel = k .fel; gatherers = k .gatherers; moving = k .moving }))
 
   -- ---- The start
 
@@ -145,4 +149,4 @@ module _ (m : BlockModel) (tape : List (List ℕ)) (proper : Proper m tape) wher
   pub placed : (budget room : ℕ) → Each (Everybody P) (states m tape budget room)
   placed budget room =
       each-state m budget room (Everybody P) (λ s t h. placed-turn s h)
-      (λ s e c h. record { ql = h .ql; wel = h .wel; wsl = h .wsl; rel = h .rel; fel = h .fel; moving = h .moving }) tape placed-start
+      (λ s e c h. record { ql = h .ql; wel = h .wel; wsl = h .wsl; rel = h .rel; fel = h .fel; gatherers = h .gatherers; moving = h .moving }) tape placed-start

@@ -5,9 +5,9 @@ use mathlib.Core.List.{List, []}
 use native.Mathlib.Omega.{arith}
 use lib.Dec.{T}
 use lib.ListN.{length, getD}
-use Rattle.machine.specs.Limits.{maxBlocks, maxCapacity, maxFacilities, maxStorages, maxQueues, maxLists, maxPriority, maxSamples, maxSplit, maxBack, maxCounter, parameterCount}
+use Rattle.machine.specs.Limits.{maxBlocks, maxCapacity, maxFacilities, maxStorages, maxQueues, maxLists, maxPriority, maxSamples, maxSplit, maxBack, maxAssemble, maxCounter, parameterCount}
 use Rattle.machine.specs.Lists.{nth}
-use Rattle.machine.specs.Block.{Code, U, NU, E, NE, F, NF, Share, facility, storage, shareServer, Block, generate, advance, terminate, takes, frees, waitServer, waitTerms, moves, assign, priority, split, counts, facts, BlockModel, blockAt}
+use Rattle.machine.specs.Block.{Code, U, NU, E, NE, F, NF, Share, facility, storage, shareServer, Block, generate, advance, terminate, takes, frees, waitServer, waitTerms, moves, assign, priority, split, counts, assemble, facts, BlockModel, blockAt}
 use Rattle.machine.specs.Validate.{wellFormed}
 
 -- from 1 to n
@@ -51,6 +51,7 @@ ProperBlock m (assign k a) = Names parameterCount k
 ProperBlock m (priority p) = p ≤ maxPriority
 ProperBlock m (split n target) = Names maxSplit n × Names (length (m .blocks)) target
 ProperBlock m (counts c q) = Names (m .queues) q
+ProperBlock m (assemble n) = (2 ≤ n) × (n ≤ maxAssemble)
 
 -- the server that a status code asks of, or that a share is of, exists
 pub code-server : (m : BlockModel) (code : Code) (v : ℕ) → CodeServer m code v → Names (servers m) v
@@ -87,6 +88,7 @@ role (assign k a) = neither refl refl
 role (priority p) = neither refl refl
 role (split n target) = neither refl refl
 role (counts c q) = neither refl refl
+role (assemble n) = neither refl refl
 
 -- a GENERATE names a list and a priority; other blocks have rank 0
 pub generates-list : (m : BlockModel) (b : Block) → ProperBlock m b → (facts b .generates ≡ 0 → ⊥) → Names (m .lists) (facts b .generates) × (facts b .rank ≤ maxPriority)

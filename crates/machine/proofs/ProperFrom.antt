@@ -210,8 +210,10 @@ module _ (s : List ℕ) (n : Counts) (capacities : List ℕ) where
         (then (ranged s 1 Limits.maxSplit) (λ k h. then (ranged s 1 (n .blocks)) (λ t g. gives (λ m at. (h, target-in t (g .0) (g .1) m at), tt))))
         (both (eqb kind 15) (then (ranged s 1 (n .queues)) (λ q h. gives (queue-in q (h .0) (h .1), tt)))
         (both (eqb kind 16) (then (ranged s 1 (n .queues)) (λ q h. gives (queue-in q (h .0) (h .1), tt)))
+        (both (eqb kind 17)
         (then (ranged s 1 6)
-        (λ code h. then (code-server code (h .0) (h .1)) (λ v g. then (ranged s 1 Limits.maxBack) (λ c k. gives (λ m at. (g m at, k .1), tt))))))))))))))))))))
+        (λ code h. then (code-server code (h .0) (h .1)) (λ v g. then (ranged s 1 Limits.maxBack) (λ c k. gives (λ m at. (g m at, k .1), tt)))))
+        (then (ranged s 2 Limits.maxAssemble) (λ k h. gives (λ m at. h, tt)))))))))))))))))))
 
     pub block-parsed : (kinds : ℕ) → Ensures Parsed-block (blockField s kinds n capacities)
     unfolding blockField

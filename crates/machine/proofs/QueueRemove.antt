@@ -11,7 +11,7 @@ use lib.ListN.{getD}
 use Rattle.machine.specs.Transaction.{Transaction}
 use Rattle.machine.specs.Lists.{those, others, anyOf}
 use Rattle.machine.specs.Term.{View, serverAt, free}
-use Rattle.machine.specs.Block.{Share, facility, storage, shareServer, shareUnits, Block, generate, advance, terminate, takes, frees, waitServer, waitTerms, moves, assign, priority, split, counts, facts, aboveOne, BlockModel, blockAt}
+use Rattle.machine.specs.Block.{Share, facility, storage, shareServer, shareUnits, Block, generate, advance, terminate, takes, frees, waitServer, waitTerms, moves, assign, priority, split, counts, assemble, facts, aboveOne, BlockModel, blockAt}
 use Rattle.machine.specs.Moves.{Parted, nobody, goes, stays, firstOf, partBy}
 use Rattle.machine.specs.Execute.{unitsOf, fits, firstOfOne, fromFront, queueRemove, partFor}
 use Rattle.machine.specs.Claims.{Each}
@@ -136,6 +136,7 @@ module _ (m : BlockModel) where
   taken-one (priority p) h = omega arith
   taken-one (split n target) h = omega arith
   taken-one (counts c q) h = omega arith
+  taken-one (assemble n) h = omega arith
 
   -- case a: then the first is the first of one unit
   pub case-a : anyOf aboveOne (m .blocks) ≡ false → (l : List Transaction) → Each Some l → firstOf l ≡ firstOfOne m l

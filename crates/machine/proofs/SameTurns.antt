@@ -10,7 +10,7 @@ use lib.Dec.{eqb}
 use Rattle.machine.specs.Rules.{Rules}
 use Rattle.machine.specs.Transaction.{Transaction}
 use Rattle.machine.specs.Term.{Server, Queue, View}
-use Rattle.machine.specs.Block.{Share, facility, storage, shareServer, shareUnits, Block, generate, advance, terminate, takes, frees, waitServer, waitTerms, moves, assign, priority, split, counts, BlockModel, blockAt, beginsGroup}
+use Rattle.machine.specs.Block.{Share, facility, storage, shareServer, shareUnits, Block, generate, advance, terminate, takes, frees, waitServer, waitTerms, moves, assign, priority, split, counts, assemble, BlockModel, blockAt, beginsGroup}
 use Rattle.machine.specs.State.{State, Logged}
 use Rattle.machine.specs.Setters.{setMoving, setTurns, setEnd}
 use Rattle.machine.specs.Moves.{enters, goOn, qlOf, wakeQl}
@@ -65,6 +65,7 @@ module _ (new : Rules) (m : BlockModel) where
   effect-same (priority p) t s = refl
   effect-same (split n target) t s = refl
   effect-same (counts c q) t s = refl
+  effect-same (assemble n) t s = refl
 
   scheme-same : (s : State) → wsScheme m′ s ≡ wsScheme m s
   unfolding wsScheme waitsOn

@@ -2,14 +2,17 @@
 -- entries and sample lists as the model says, each server of its capacity and never in use beyond it.
 use Prim.Native.Nat.{ℕ, zero, suc, _+_, _*_, _-_, _≤_, _<_}
 use mathlib.Core.Path.{_≡_, refl, sym, ap, _∙_}
+use mathlib.Core.Bool.{Bool, true, false, true≢false}
 use mathlib.Core.List.{List, [], _∷_, _++_, map}
 use native.Mathlib.Omega.{arith}
+use borrow.Author.Tests.{ltb-true, ltb-false}
+use lib.Dec.{ltb}
 use lib.ListN.{length, getD, set, replicate, length-set, length-map, length-append, length-replicate, getD-replicate, List·getD-map, List·getD-append}
 use lib.Seq.{map-set-same}
-use Rattle.machine.specs.Transaction.{Transaction}
+use Rattle.machine.specs.Transaction.{Transaction, Gatherer}
 use Rattle.machine.specs.Lists.{nth, setNth}
 use Rattle.machine.specs.Term.{Server, View, Queue, idleServer, serverAt}
-use Rattle.machine.specs.Block.{Code, U, NU, E, NE, F, NF, codeIndex, BlockModel, welIndex}
+use Rattle.machine.specs.Block.{Code, U, NU, E, NE, F, NF, codeIndex, Block, terminate, assemble, facts, BlockModel, blockAt, welIndex}
 use Rattle.machine.specs.State.{State}
 use Rattle.machine.specs.Setters.{withUse, setClock, setEntries, setQueues, setServers}
 use Rattle.machine.specs.Moves.{setUse}
@@ -31,9 +34,11 @@ capacityOf v = v .capacity
 abbrev pub allCapacities : BlockModel → List ℕ
 allCapacities m = replicate (m .facilities) 1 ++ m .capacities
 
-pub record Shaped (m : BlockModel) (w : View) (ql wel : List (List Transaction)) (samples : List (List ℕ)) : Type 0 where
+pub record Shaped (m : BlockModel) (w : View) (ql wel : List (List Transaction)) (gatherers : List (List Gatherer)) (samples : List (List ℕ)) : Type 0 where
   pub ql-length : length ql ≡ servers m
   pub wel-length : length wel ≡ servers m * 6
+  -- one list for each block
+  pub gatherer-length : length gatherers ≡ length (m .blocks)
   pub sample-lists : length samples ≡ m .lists
   pub entry-length : length (w .entries) ≡ length (m .blocks)
   pub queue-length : length (w .queues) ≡ m .queues
@@ -41,7 +46,7 @@ pub record Shaped (m : BlockModel) (w : View) (ql wel : List (List Transaction))
   pub within : Each Within (w .servers)
 
 abbrev pub Shape : BlockModel → State → Type 0
-Shape m s = Shaped m (s .view) (s .ql) (s .wel) (s .samples)
+Shape m s = Shaped m (s .view) (s .ql) (s .wel) (s .gatherers) (s .samples)
 
 -- ---- Lists of which each passes
 
@@ -58,6 +63,11 @@ each-getD P (x ∷ l) (suc i) d h p = each-getD P l i d (h .1) p
 each-append : {A : Type 0} (P : A → Type 0) (k l : List A) → Each P k → Each P l → Each P (k ++ l)
 each-append P [] l h g = g
 each-append P (x ∷ k) l h g = (h .0, each-append P k l (h .1) g)
+
+getD-past : {A : Type 0} (l : List A) (i : ℕ) (d : A) → length l ≤ i → getD l i d ≡ d
+getD-past [] i d h = refl
+getD-past (x ∷ l) zero d h = absurd (omega arith)
+getD-past (x ∷ l) (suc i) d h = getD-past l i d (omega arith)
 
 code-below : (code : Code) → codeIndex code < 6
 unfolding codeIndex
@@ -111,7 +121,7 @@ idle-capacities (suc n) l = ap {B = List ℕ} (λ r. 1 ∷ r) (idle-capacities n
 
 -- ---- What follows
 
-module _ {m : BlockModel} {w : View} {ql wel : List (List Transaction)} {samples : List (List ℕ)} (h : Shaped m w ql wel samples) where
+module _ {m : BlockModel} {w : View} {ql wel : List (List Transaction)} {gatherers : List (List Gatherer)} {samples : List (List ℕ)} (h : Shaped m w ql wel gatherers samples) where
   pub server-length : length (w .servers) ≡ servers m
   server-length =
       sym (length-map (w .servers) capacityOf) ∙ ap length (h .capacities) ∙ length-append (replicate (m .facilities) 1) (m .capacities)
@@ -137,16 +147,30 @@ module _ {m : BlockModel} {w : View} {ql wel : List (List Transaction)} {samples
   pub wel-at : (v : ℕ) (code : Code) → 1 ≤ v → v ≤ servers m → welIndex v code < length wel
   wel-at v code low high = omega (arith, h .wel-length, wel-below v code (servers m) low high)
 
+  no-last : {n : ℕ} → terminate 0 ≡ assemble n → ⊥
+  unfolding facts
+  no-last e = true≢false (ap (λ (b : Block). facts b .leaves) e)
+
+  -- an ASSEMBLE has a list
+  pub gatherers-at : (b n : ℕ) → blockAt m b ≡ assemble n → b - 1 < length gatherers
+  gatherers-at b n e = go (ltb (b - 1) (length (m .blocks))) refl
+    where
+      go : (x : Bool) → ltb (b - 1) (length (m .blocks)) ≡ x → b - 1 < length gatherers
+      go true q = omega (arith, h .gatherer-length, ltb-true (b - 1) (length (m .blocks)) q)
+      go false q =
+          absurd (no-last (sym (getD-past (m .blocks) (b - 1) (terminate 0) (ltb-false (b - 1) (length (m .blocks)) q)) ∙ e))
+
   pub samples-at : (list : ℕ) → 1 ≤ list → list ≤ m .lists → list - 1 < length samples
   samples-at list low high = omega (arith, h .sample-lists)
 
   -- ---- Kept by changes of the fixtures
 
-  pub shape-entries : (i n : ℕ) → Shaped m (setEntries (set (w .entries) i n) w) ql wel samples
+  pub shape-entries : (i n : ℕ) → Shaped m (setEntries (set (w .entries) i n) w) ql wel gatherers samples
   shape-entries i n =
       record {
         ql-length = h .ql-length;
         wel-length = h .wel-length;
+        gatherer-length = h .gatherer-length;
         sample-lists = h .sample-lists;
         entry-length = length-set (w .entries) i n ∙ h .entry-length;
         queue-length = h .queue-length;
@@ -154,11 +178,12 @@ module _ {m : BlockModel} {w : View} {ql wel : List (List Transaction)} {samples
         within = h .within;
       }
 
-  pub shape-queues : (i : ℕ) (q : Queue) → Shaped m (setQueues (set (w .queues) i q) w) ql wel samples
+  pub shape-queues : (i : ℕ) (q : Queue) → Shaped m (setQueues (set (w .queues) i q) w) ql wel gatherers samples
   shape-queues i q =
       record {
         ql-length = h .ql-length;
         wel-length = h .wel-length;
+        gatherer-length = h .gatherer-length;
         sample-lists = h .sample-lists;
         entry-length = h .entry-length;
         queue-length = length-set (w .queues) i q ∙ h .queue-length;
@@ -167,12 +192,13 @@ module _ {m : BlockModel} {w : View} {ql wel : List (List Transaction)} {samples
       }
 
   pub shape-units : (v n holder : ℕ) → n ≤ serverAt w v .capacity
-      → Shaped m (setServers (setNth (w .servers) v (withUse n holder (serverAt w v))) w) ql wel samples
+      → Shaped m (setServers (setNth (w .servers) v (withUse n holder (serverAt w v))) w) ql wel gatherers samples
   unfolding serverAt
   shape-units v n holder le =
       record {
         ql-length = h .ql-length;
         wel-length = h .wel-length;
+        gatherer-length = h .gatherer-length;
         sample-lists = h .sample-lists;
         entry-length = h .entry-length;
         queue-length = h .queue-length;
@@ -180,11 +206,12 @@ module _ {m : BlockModel} {w : View} {ql wel : List (List Transaction)} {samples
         within = each-set Within (w .servers) (v - 1) _ (h .within) le;
       }
 
-  pub shape-ql : (i : ℕ) (l : List Transaction) → Shaped m w (set ql i l) wel samples
+  pub shape-ql : (i : ℕ) (l : List Transaction) → Shaped m w (set ql i l) wel gatherers samples
   shape-ql i l =
       record {
         ql-length = length-set ql i l ∙ h .ql-length;
         wel-length = h .wel-length;
+        gatherer-length = h .gatherer-length;
         sample-lists = h .sample-lists;
         entry-length = h .entry-length;
         queue-length = h .queue-length;
@@ -192,11 +219,12 @@ module _ {m : BlockModel} {w : View} {ql wel : List (List Transaction)} {samples
         within = h .within;
       }
 
-  pub shape-wel : (i : ℕ) (l : List Transaction) → Shaped m w ql (set wel i l) samples
+  pub shape-wel : (i : ℕ) (l : List Transaction) → Shaped m w ql (set wel i l) gatherers samples
   shape-wel i l =
       record {
         ql-length = h .ql-length;
         wel-length = length-set wel i l ∙ h .wel-length;
+        gatherer-length = h .gatherer-length;
         sample-lists = h .sample-lists;
         entry-length = h .entry-length;
         queue-length = h .queue-length;
@@ -204,11 +232,25 @@ module _ {m : BlockModel} {w : View} {ql wel : List (List Transaction)} {samples
         within = h .within;
       }
 
-  pub shape-samples : (i : ℕ) (l : List ℕ) → Shaped m w ql wel (set samples i l)
+  pub shape-gatherers : (i : ℕ) (l : List Gatherer) → Shaped m w ql wel (set gatherers i l) samples
+  shape-gatherers i l =
+      record {
+        ql-length = h .ql-length;
+        wel-length = h .wel-length;
+        gatherer-length = length-set gatherers i l ∙ h .gatherer-length;
+        sample-lists = h .sample-lists;
+        entry-length = h .entry-length;
+        queue-length = h .queue-length;
+        capacities = h .capacities;
+        within = h .within;
+      }
+
+  pub shape-samples : (i : ℕ) (l : List ℕ) → Shaped m w ql wel gatherers (set samples i l)
   shape-samples i l =
       record {
         ql-length = h .ql-length;
         wel-length = h .wel-length;
+        gatherer-length = h .gatherer-length;
         sample-lists = length-set samples i l ∙ h .sample-lists;
         entry-length = h .entry-length;
         queue-length = h .queue-length;
@@ -216,11 +258,12 @@ module _ {m : BlockModel} {w : View} {ql wel : List (List Transaction)} {samples
         within = h .within;
       }
 
-  pub shape-clock : (time ticks : ℕ) → Shaped m (setClock time (setQueues (map (sampleQueue ticks) (w .queues)) (setServers (sampleServers ticks (w .servers) ql) w))) ql wel samples
+  pub shape-clock : (time ticks : ℕ) → Shaped m (setClock time (setQueues (map (sampleQueue ticks) (w .queues)) (setServers (sampleServers ticks (w .servers) ql) w))) ql wel gatherers samples
   shape-clock time ticks =
       record {
         ql-length = h .ql-length;
         wel-length = h .wel-length;
+        gatherer-length = h .gatherer-length;
         sample-lists = h .sample-lists;
         entry-length = h .entry-length;
         queue-length = length-map (w .queues) (sampleQueue ticks) ∙ h .queue-length;
@@ -245,6 +288,7 @@ module _ (m : BlockModel) where
         wsl = λ l s h. h;
         rel = λ l s h. h;
         fel = λ l s h. h;
+        gatherers = λ i l s h. shape-gatherers h i l;
         moving = λ o s h. h;
         serial = λ n s h. h;
         counter = λ n s h. h;
@@ -265,6 +309,7 @@ module _ (m : BlockModel) where
       record {
         ql-length = length-replicate _ _;
         wel-length = length-replicate _ _;
+        gatherer-length = length-replicate _ _;
         sample-lists = e;
         entry-length = length-replicate _ _;
         queue-length = length-replicate _ _;

@@ -4,7 +4,7 @@ use mathlib.Core.Path.{_≡_}
 use mathlib.Core.List.{List, _++_, map}
 use native.Mathlib.Omega.{arith}
 use lib.Dec.{eqb}
-use Rattle.machine.specs.Transaction.{Transaction, Event}
+use Rattle.machine.specs.Transaction.{Transaction, Event, Gatherer}
 use Rattle.machine.specs.Lists.{flat}
 use Rattle.machine.specs.State.{State}
 use Rattle.machine.specs.Report.{Place, placed, movingOne, places}
@@ -23,11 +23,14 @@ module _ (f : Place → ℕ) where
   pub sum-places : (s : State) →
       sumOn f (places s)
       ≡ sumOn (at 1) (flat (s .ql)) + sumOn (at 2) (flat (s .wel)) + sumOn (at 3) (s .wsl) + sumOn (λ (e : Event). at 4 (e .who)) (s .fel) + sumOn (at 5) (s .rel)
-      + sumOn (at 6) (movingOne (s .moving))
+      + sumOn (at 6) (movingOne (s .moving)) + sumOn (λ (g : Gatherer). at 7 (g .who)) (flat (s .gatherers))
   unfolding places
   sum-places s =
       omega (
         arith,
+        sum-append f
+            (placed 1 (flat (s .ql)) ++ placed 2 (flat (s .wel)) ++ placed 3 (s .wsl) ++ placed 4 (map (λ e. e .who) (s .fel)) ++ placed 5 (s .rel) ++ placed 6 (movingOne (s .moving)))
+            (placed 7 (map (λ g. g .who) (flat (s .gatherers)))),
         sum-append f (placed 1 (flat (s .ql)) ++ placed 2 (flat (s .wel)) ++ placed 3 (s .wsl) ++ placed 4 (map (λ e. e .who) (s .fel)) ++ placed 5 (s .rel)) (placed 6 (movingOne (s .moving))),
         sum-append f (placed 1 (flat (s .ql)) ++ placed 2 (flat (s .wel)) ++ placed 3 (s .wsl) ++ placed 4 (map (λ e. e .who) (s .fel))) (placed 5 (s .rel)),
         sum-append f (placed 1 (flat (s .ql)) ++ placed 2 (flat (s .wel)) ++ placed 3 (s .wsl)) (placed 4 (map (λ e. e .who) (s .fel))),
@@ -40,6 +43,8 @@ module _ (f : Place → ℕ) where
         sum-map (at 4) (λ (e : Event). e .who) (s .fel),
         sum-placed 5 (s .rel),
         sum-placed 6 (movingOne (s .moving)),
+        sum-placed 7 (map (λ g. g .who) (flat (s .gatherers))),
+        sum-map (at 7) (λ (g : Gatherer). g .who) (flat (s .gatherers)),
       )
 
 -- ---- How often a number stands there
@@ -50,13 +55,15 @@ times-standing s n =
     omega (
       arith,
       sum-places (λ p. bit (eqb (p .number) n)) s,
-      sum-count (λ (t : Transaction). eqb (t .number) n) (flat (s .ql) ++ flat (s .wel) ++ s .wsl ++ s .rel ++ map (λ e. e .who) (s .fel) ++ movingOne (s .moving)),
+      sum-count (λ (t : Transaction). eqb (t .number) n) (flat (s .ql) ++ flat (s .wel) ++ s .wsl ++ s .rel ++ map (λ e. e .who) (s .fel) ++ movingOne (s .moving) ++ map (λ g. g .who) (flat (s .gatherers))),
+      sum-append is (flat (s .ql) ++ flat (s .wel) ++ s .wsl ++ s .rel ++ map (λ e. e .who) (s .fel) ++ movingOne (s .moving)) (map (λ g. g .who) (flat (s .gatherers))),
       sum-append is (flat (s .ql) ++ flat (s .wel) ++ s .wsl ++ s .rel ++ map (λ e. e .who) (s .fel)) (movingOne (s .moving)),
       sum-append is (flat (s .ql) ++ flat (s .wel) ++ s .wsl ++ s .rel) (map (λ e. e .who) (s .fel)),
       sum-append is (flat (s .ql) ++ flat (s .wel) ++ s .wsl) (s .rel),
       sum-append is (flat (s .ql) ++ flat (s .wel)) (s .wsl),
       sum-append is (flat (s .ql)) (flat (s .wel)),
       sum-map is (λ (e : Event). e .who) (s .fel),
+      sum-map is (λ (g : Gatherer). g .who) (flat (s .gatherers)),
     )
   where
     is : Transaction → ℕ

@@ -1,22 +1,23 @@
--- What one block does to the waits: the transaction passes, and no other wait begins or ends; or its wait begins; or it is put
--- back, or goes back to the first block of its group, and nothing is written.
+-- What one block does to the waits: the transaction passes, and no other wait begins or ends; or its wait begins, for units or for its
+-- family; or it is put back, or goes back to the first block of its group, and nothing is written.
 use Prim.Native.Nat.{ℕ, _+_, _-_, _<_}
 use mathlib.Core.Path.{_≡_, refl}
 use mathlib.Core.Bool.{true, false}
+use mathlib.Core.List.{List}
 use native.Mathlib.Omega.{arith}
 use lib.Dec.{leb}
 use lib.ListN.{length}
-use Rattle.machine.specs.Transaction.{Transaction, precedes}
+use Rattle.machine.specs.Transaction.{Transaction, precedes, Gatherer}
 use Rattle.machine.specs.Lists.{insert}
 use Rattle.machine.specs.Term.{serverAt, free}
-use Rattle.machine.specs.Block.{Code, Share, facility, storage, shareServer, shareUnits, Block, generate, advance, terminate, takes, frees, waitServer, waitTerms, moves, assign, priority, split, counts, facts, BlockModel, welIndex}
+use Rattle.machine.specs.Block.{Code, Share, facility, storage, shareServer, shareUnits, Block, generate, advance, terminate, takes, frees, waitServer, waitTerms, moves, assign, priority, split, counts, assemble, facts, BlockModel, welIndex}
 use Rattle.machine.specs.State.{State}
-use Rattle.machine.specs.Setters.{withSerial, setSerial}
-use Rattle.machine.specs.Moves.{log, enters, moveTo, fresh, qlOf, welOf, lineUp, toQl, toWel, toWsl, mustWait, setUse, setContent}
+use Rattle.machine.specs.Setters.{withSerial, setSerial, setGatherers, setEnded}
+use Rattle.machine.specs.Moves.{log, enters, moveTo, fresh, qlOf, welOf, lineUp, toQl, toWel, toWsl, mustWait, setUse, setContent, toGatherers, comes, released}
 use Rattle.machine.specs.Execute.{takeUnits, wakeFor, endsOne, effect}
 use Rattle.machine.proofs.Proper.{ProperBlock, servers}
 use Rattle.machine.proofs.RunLaws.{cond-cases}
-use Rattle.machine.proofs.Cases.{waitServer-cases, waitTerms-cases}
+use Rattle.machine.proofs.Cases.{waitServer-cases, waitTerms-cases, assemble-cases}
 use Rattle.machine.proofs.Shape.{Shape, ql-at, wel-at}
 use Rattle.machine.proofs.Proper.{code-server, share-server}
 use Rattle.machine.proofs.Waiting.{serverIn}
@@ -43,6 +44,8 @@ pub data Step (b : Block) (t : Transaction) (s s′ : State) : Type 0 where
   back : t .returning ≡ true → Puts t s s′ → Step b t s s′
   -- it goes back to the first block of its group: it waited for no units, and nothing is written
   returns : facts b .server ≡ 0 → Quiet s s′ → Step b t s s′
+  -- it begins to wait for its family, and for no units
+  assembles : facts b .server ≡ 0 → Quiet (setSerial (fresh s) (log 1 t s)) s′ → Step b t s s′
 
 -- ---- Waiting
 
@@ -121,10 +124,19 @@ step-takeUnits m x t s h =
     (λ e. passes (λ n. e) (quiet-moveTo _ t (quiet-trans (quiet-use (shareServer x) _ _ _) (quiet-checkWels (shareServer x) _))))
     (λ e. step-ql (takes x) (m .edition) (shareServer x) t s h)
 
+-- gatherers wait for no units
+quiet-gatherers : (l : List (List Gatherer)) (s : State) → Quiet s (setGatherers l s)
+unfolding waiting
+quiet-gatherers l s = record { records = refl; serials = omega arith; weights = λ f. refl; moving = λ h. h }
+
+quiet-ended : (n : ℕ) (s : State) → Quiet s (setEnded n s)
+unfolding waiting
+quiet-ended n s = record { records = refl; serials = omega arith; weights = λ f. refl; moving = λ h. h }
+
 -- ---- Each kind
 
 pub step-effect : (m : BlockModel) (b : Block) (t : Transaction) (s : State) → ProperBlock m b → Shape m s → Step b t s (effect m b t s)
-unfolding effect facts serverAt takeUnits
+unfolding effect facts serverAt takeUnits toGatherers comes released
 step-effect m (generate list p) t s h k = passes (λ n. absurd (n refl)) (quiet-moveTo _ t (quiet-arrival _ list p _ _))
 step-effect m (advance list) t s h k = passes (λ n. absurd (n refl)) (quiet-delay _ list t _)
 step-effect m (terminate a) t s h k = passes (λ n. absurd (n refl)) (quiet-endsOne a _)
@@ -147,3 +159,7 @@ step-effect m (assign i a) t s h k = passes (λ n. absurd (n refl)) (quiet-moveT
 step-effect m (priority p) t s h k = passes (λ n. absurd (n refl)) (quiet-toRel _ _ refl)
 step-effect m (split n target) t s h k = passes (λ n. absurd (n refl)) (quiet-moveTo _ t (quiet-copies n target t _))
 step-effect m (counts c q) t s h k = passes (λ n. absurd (n refl)) (quiet-moveTo _ t (quiet-content q _ _))
+step-effect m (assemble n) t s h k =
+    assemble-cases (Step (assemble n) t s) m n t s (λ e. assembles refl (quiet-gatherers _ _))
+    (λ g l e z. passes (λ n. absurd (n refl)) (quiet-trans (quiet-ended _ _) (quiet-trans (quiet-gatherers _ _) (quiet-toRel _ _ refl))))
+    (λ g l e z. passes (λ n. absurd (n refl)) (quiet-trans (quiet-ended _ _) (quiet-gatherers _ _)))

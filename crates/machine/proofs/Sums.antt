@@ -10,7 +10,7 @@ use lib.Dec.{eqb}
 use lib.ListN.{length, getD, set, take, drop, replicate}
 use Rattle.machine.specs.Transaction.{Transaction, precedes}
 use Rattle.machine.specs.Setters.{withReturning}
-use Rattle.machine.specs.Lists.{insert, those, others, flat}
+use Rattle.machine.specs.Lists.{insert, those, others, replaceFirst, flat}
 use Rattle.machine.specs.Moves.{wake}
 use Rattle.machine.specs.Claims.{count, bit, upTo}
 
@@ -57,6 +57,17 @@ module _ {A : Type 0} (f : A → ℕ) where
           → sumOn f (cond b (x ∷ those p l) (those p l)) ≡ cond b (f x) 0 + sumOn (λ x. cond (p x) (f x) 0) l
       go true e = omega arith
       go false e = omega arith
+
+  -- a few stand in the place of the first that passes a test
+  pub sum-replace : (p : A → Bool) (few l : List A) (x : A) (r : List A) → those p l ≡ x ∷ r → sumOn f (replaceFirst p few l) + f x ≡ sumOn f few + sumOn f l
+  unfolding those replaceFirst
+  sum-replace p few [] x r e = absurd (omega (arith, ap (λ (k : List A). length k) e))
+  sum-replace p few (y ∷ l) x r e = go (p y) e (sum-replace p few l x r)
+    where
+      go : (b : Bool) → cond b (y ∷ those p l) (those p l) ≡ x ∷ r → (those p l ≡ x ∷ r → sumOn f (replaceFirst p few l) + f x ≡ sumOn f few + sumOn f l)
+          → sumOn f (cond b (few ++ l) (y ∷ replaceFirst p few l)) + f x ≡ sumOn f few + (f y + sumOn f l)
+      go true e later = omega (arith, sum-append few l, ap (λ (k : List A). sumOn f (take 1 k)) e)
+      go false e later = omega (arith, later e)
 
   pub sum-first : (l : List A) → sumOn f (take 1 l) + sumOn f (drop 1 l) ≡ sumOn f l
   sum-first [] = refl

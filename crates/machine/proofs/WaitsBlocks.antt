@@ -11,14 +11,14 @@ use borrow.Author.Tests.{eq-eqb}
 use Rattle.machine.specs.Transaction.{Transaction}
 use Rattle.machine.specs.Lists.{those}
 use Rattle.machine.specs.Term.{serverAt, free}
-use Rattle.machine.specs.Block.{Code, status, Share, facility, storage, shareServer, shareUnits, Block, generate, advance, terminate, takes, frees, waitServer, waitTerms, moves, assign, priority, split, counts, facts, BlockModel, blockAt, welIndex}
+use Rattle.machine.specs.Block.{Code, status, Share, facility, storage, shareServer, shareUnits, Block, generate, advance, terminate, takes, frees, waitServer, waitTerms, moves, assign, priority, split, counts, assemble, facts, BlockModel, blockAt, welIndex}
 use Rattle.machine.specs.State.{State}
 use Rattle.machine.specs.Setters.{withSerial, withUse}
-use Rattle.machine.specs.Moves.{qlOf, welOf, log, enters, moveTo, toRel, toFel, toQl, toWel, toWsl, mustWait, Parted, wakeQl, wakeFirstWel, setUse, setContent, arrival, copies}
+use Rattle.machine.specs.Moves.{qlOf, welOf, log, enters, moveTo, toRel, toFel, toQl, toWel, toWsl, mustWait, Parted, wakeQl, wakeFirstWel, setUse, setContent, arrival, copies, toGatherers, comes, released}
 use Rattle.machine.specs.Execute.{unitsOf, fits, partFor, takeUnits, checkWels, endsOne, delay, effect, freeUnits, wakeFor}
 use Rattle.machine.proofs.Proper.{Proper, ProperBlock, servers, code-server, share-server, ProperShare}
 use Rattle.machine.proofs.RunLaws.{cond-cases}
-use Rattle.machine.proofs.Cases.{checkWels-kept, waitServer-cases, waitTerms-cases}
+use Rattle.machine.proofs.Cases.{checkWels-kept, waitServer-cases, waitTerms-cases, assemble-cases}
 use Rattle.machine.proofs.Shape.{Shape, server-length, facility-capacity}
 use Rattle.machine.proofs.Waiting.{serverOf, AtServer, AtWel, serverIn, Queued, Gated, WaitsOver}
 use Rattle.machine.proofs.Ready.{grows-not, grows-insert, grows-wake, queued-more, waits-more, ql-else, wel-else}
@@ -193,7 +193,7 @@ module _ {m : BlockModel} {tape : List (List ℕ)} (proper : Proper m tape) (t :
       opened (others-wait (w .gated) v _ _ one off′ (grows-wake (part .go) (s .rel))) going
 
   pub effect-walked : (b : Block) → blockAt m (t .next) ≡ b → ProperBlock m b → Walked m (effect m b t s)
-  unfolding effect mustWait facts enters log moveTo setContent toWsl takeUnits
+  unfolding effect mustWait facts enters log moveTo setContent toWsl takeUnits toGatherers comes released
   effect-walked (generate list p) e k = arrival-walked m _ list p _ (enters t s) (quiet (generate list p) e refl refl)
   effect-walked (advance list) e k = delay-walked m _ list t (enters t s) (quiet (advance list) e refl refl)
   effect-walked (terminate a) e k = endsOne-walked m a (enters t s) (quiet (terminate a) e refl refl)
@@ -214,3 +214,6 @@ module _ {m : BlockModel} {tape : List (List ℕ)} (proper : Proper m tape) (t :
   effect-walked (priority p) e k = toRel-walked m _ (enters t s) (quiet (priority p) e refl refl)
   effect-walked (split n target) e k = copies-walked m n target t (enters t s) (quiet (split n target) e refl refl)
   effect-walked (counts c q) e k = quiet (counts c q) e refl refl
+  effect-walked (assemble n) e k =
+      let q = quiet (assemble n) e refl refl in
+      assemble-cases (Walked m) m n t s (λ c. q) (λ g l c z. toRel-walked m _ _ q) (λ g l c z. q)

@@ -1,5 +1,5 @@
 -- "What demand 3 speaks of", word by word, as one claim about the states of a whole run. Proved in ../proofs/Demand3.antt.
-use Prim.Native.Nat.{ℕ, suc, _+_, _*_, _-_, _≤_, _<_}
+use Prim.Native.Nat.{ℕ, suc, _+_, _*_, _-_, _%_, _≤_, _<_}
 use mathlib.Core.Path.{_≡_}
 use mathlib.Core.Bool.{Bool, true, cond, not, _&&_, _||_}
 use mathlib.Core.List.{List, [], _∷_, _++_, map, reverse}
@@ -14,7 +14,7 @@ use Rattle.machine.specs.Term.{Server, serverAt}
 use Rattle.machine.specs.Facts.{Facts, isGenerate}
 use Rattle.machine.specs.Block.{Code, U, NU, E, NE, F, NF, status, Block, facts, BlockModel, blockAt, backAt}
 use Rattle.machine.specs.State.{State, Logged}
-use Rattle.machine.specs.Moves.{qlOf, welOf}
+use Rattle.machine.specs.Moves.{qlOf, welOf, gatherersAt}
 use Rattle.machine.specs.Execute.{fits}
 use Rattle.machine.specs.Turn.{waitsOn}
 use Rattle.machine.specs.Trace.{Record, inRanges}
@@ -36,6 +36,7 @@ count p l = length (those p l)
 unfoldable pub everyone : State → List Transaction
 everyone s =
     flat (s .ql) ++ flat (s .wel) ++ s .wsl ++ s .rel ++ map (λ e. e .who) (s .fel) ++ movingOne (s .moving)
+    ++ map (λ g. g .who) (flat (s .gatherers))
 
 -- how often a number stands there
 unfoldable pub standing : State → ℕ → ℕ
@@ -100,8 +101,10 @@ module _ (m : BlockModel) (tape : List (List ℕ)) where
 
   -- ---- "Ended: the records at TERMINATE. Living: the numbers 1..made without such a record."
 
+  -- Document 02, item 8: the later ones of a family at ASSEMBLE "count as ended"; the first, of outcome 1, has not ended. At TERMINATE
+  -- every record is of outcome 0.
   abbrev pub terminates : Logged → Bool
-  terminates r = eqb (factsAt r .terminates) 1
+  terminates r = entered r && eqb (factsAt r .terminates) 1
 
   unfoldable pub endedBy : List Logged → ℕ
   endedBy records = count terminates records
@@ -114,7 +117,8 @@ module _ (m : BlockModel) (tape : List (List ℕ)) where
   livingCount records = upTo (madeBy records) (λ n. bit (isLiving records n))
 
   -- ---- "Able to go is, on a QL, one whose facility is idle or whose units, judged alone, fit the free units; on a WEL, one
-  -- whose code is not true; on the WSL, one whose comparison does not hold, with its own parameters."
+  -- whose code is not true; on the WSL, one whose comparison does not hold, with its own parameters." Document 02, item 8: "A gatherer
+  -- isn't a waiter able to go."
 
   -- on a server's QL; a SEIZE waits for the one unit of its facility
   unfoldable pub ableOnQl : State → ℕ → ℕ
@@ -184,6 +188,25 @@ module _ (m : BlockModel) (tape : List (List ℕ)) where
   abbrev pub Stamped : List Logged → Transaction → Type 0
   Stamped records t = (k : ℕ) → k - backAt m k < t .next → t .next ≤ k → lastEntry (t .number) (k - backAt m k) records ≡ some (t .stamp)
 
+  -- ---- Document 02, item 8: "Copies made by SPLIT belong to the family of the original, and so do copies of copies"
+
+  -- the family of a number by some records, newest first: a SPLIT makes its copies after all that were made before it
+  unfoldable pub familyBy : List Logged → (number : ℕ) → ℕ
+  familyBy [] n = n
+  familyBy (r ∷ l) n =
+      cond (entered r && ltb (madeBy l) n && leb n (madeBy l + factsAt r .copies)) (familyBy l (r .entry .transaction)) (familyBy l n)
+
+  -- how many of a family have come to a block: its records there
+  unfoldable pub comeBy : List Logged → (block family : ℕ) → ℕ
+  comeBy [] b f = 0
+  comeBy (r ∷ l) b f = bit (eqb (r .entry .block) b && eqb (familyBy l (r .entry .transaction)) f) + comeBy l b f
+
+  -- of the gatherers at block b, those of a family: one, with as many as have come since the last n-th, or nobody where none has
+  abbrev pub OneGathers : State → (block family : ℕ) → Type 0
+  OneGathers s b f =
+      let k : ℕ = comeBy (s .records) b f % facts (blockAt m b) .gathers in
+      map (λ g. g .come) (those (λ g. eqb (g .who .family) f) (gatherersAt s b)) ≡ cond (eqb k 0) [] (k ∷ [])
+
   -- ---- The claims of one state
 
   pub record Keeps (s : State) : Type 0 where
@@ -201,6 +224,9 @@ module _ (m : BlockModel) (tape : List (List ℕ)) where
     pub held : (f : ℕ) → 1 ≤ f → f ≤ m .facilities → Held (serverAt (s .view) f) f (s .records)
     pub joined : Joined (s .records)
     pub stamps : Each (Stamped (s .records)) (everyone s)
+    pub families : Each (λ t. t .family ≡ familyBy (s .records) (t .number)) (everyone s)
+    -- of every ASSEMBLE
+    pub gathered : (b f : ℕ) → 1 ≤ b → 0 < facts (blockAt m b) .gathers → OneGathers s b f
 
   -- ---- Document 02, item 2: "List the living by rising transaction number", told from the report's numbers alone
 

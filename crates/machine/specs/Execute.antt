@@ -4,13 +4,13 @@ use mathlib.Core.Bool.{Bool, true, false, cond, not, _&&_, _||_}
 use mathlib.Core.List.{List, [], _∷_}
 use lib.Dec.{ltb, leb, eqb}
 use Rattle.machine.specs.Limits.{maxLiving}
-use Rattle.machine.specs.Transaction.{Transaction}
+use Rattle.machine.specs.Transaction.{Transaction, Gatherer}
 use Rattle.machine.specs.Lists.{setNth, bit, upTo, anyOf}
 use Rattle.machine.specs.Term.{View, serverAt, queueAt, free, evaluate, compare, truth}
-use Rattle.machine.specs.Block.{Code, U, NU, E, NE, F, NF, status, Share, facility, storage, shareServer, shareUnits, shareHolder, Change, up, down, Block, generate, advance, terminate, takes, frees, waitServer, waitTerms, moves, assign, priority, split, counts, facts, aboveOne, BlockModel, blockAt, beginsGroup}
+use Rattle.machine.specs.Block.{Code, U, NU, E, NE, F, NF, status, Share, facility, storage, shareServer, shareUnits, shareHolder, Change, up, down, Block, generate, advance, terminate, takes, frees, waitServer, waitTerms, moves, assign, priority, split, counts, assemble, facts, aboveOne, BlockModel, blockAt, beginsGroup}
 use Rattle.machine.specs.State.{State}
 use Rattle.machine.specs.Setters.{withPriority, withParameters, withNext, withReturning, withStamp, setCounter, setEnded, setEnd}
-use Rattle.machine.specs.Moves.{enters, moveTo, goOn, toRel, toFel, toQl, toWel, toWsl, mustWait, Parted, nobody, goes, stays, firstOf, partBy, wakeQl, wakeFirstWel, setUse, setContent, timesLeft, useTime, arrival, copies}
+use Rattle.machine.specs.Moves.{enters, moveTo, goOn, toRel, toFel, toQl, toWel, toWsl, beginWait, mustWait, Parted, nobody, goes, stays, firstOf, partBy, wakeQl, wakeFirstWel, setUse, setContent, timesLeft, useTime, arrival, copies, waitsFor, toGatherers, comes, released}
 
 -- ---- Questions, "Inside a turn, after the taking and before the block has any effect, "no" is the end"
 
@@ -50,12 +50,20 @@ askHolder m (storage v b) t s = 0
 unfoldable pub held : BlockModel → View → (number : ℕ) → ℕ
 held m w n = upTo (m .facilities) (λ f. bit (eqb (serverAt w f .holder) n))
 
+-- Document 02, item 6: "TERMINATE while holding a facility" 28, "before the counter falls"
+abbrev pub askEnds : BlockModel → Transaction → State → ℕ
+askEnds m t s = unless (not (m .rules .holders) || eqb (held m (s .view) (t .number)) 0) 28 0
+
+-- Document 02, item 8: "one that holds a facility ends the run with 28", but the first of its family does not end
+unfoldable pub askGathers : BlockModel → List Gatherer → Transaction → State → ℕ
+askGathers m [] t s = 0
+askGathers m (g ∷ l) t s = askEnds m t s
+
 -- For the transaction t whose next block it is.
 unfoldable pub question : BlockModel → Block → Transaction → State → ℕ
 question m (generate list p) t s = askGenerate m (timesLeft s list) s
 question m (advance list) t s = askAdvance m (timesLeft s list) s
--- "TERMINATE while holding a facility" 28, "before the counter falls"
-question m (terminate a) t s = unless (not (m .rules .holders) || eqb (held m (s .view) (t .number)) 0) 28 0
+question m (terminate a) t s = askEnds m t s
 question m (takes x) t s = 0
 -- "Is f in use, or are b units in use? 24."
 question m (frees x) t s = unless (leb (shareUnits x) (serverAt (s .view) (shareServer x) .inUse)) 24 (askHolder m x t s)
@@ -66,6 +74,7 @@ question m (assign k a) t s = 0
 question m (priority p) t s = 0
 question m (split n target) t s = unless (leb (living s + n) maxLiving) 21 0
 question m (counts c q) t s = askContent c (queueAt (s .view) q .content)
+question m (assemble n) t s = askGathers m (waitsFor t s) t s
 
 -- ---- The effects
 
@@ -131,15 +140,19 @@ unfoldable pub changed : Change → ℕ → ℕ
 changed up n = n + 1
 changed down n = n - 1
 
+-- Document 02, item 8: a later one of the family of g ends; "At the n-th the first goes to REL"
+unfoldable pub gathers : (n : ℕ) → Gatherer → Transaction → State → State
+gathers n g t s = let e : State = setEnded (suc (s .ended)) s in cond (eqb (suc (g .come)) n) (released g t e) (comes g t e)
+
 -- Document 02, item 7: at the first block of a group it takes the clock
 abbrev pub stamped : BlockModel → Transaction → State → Transaction
 stamped m t s = withStamp (cond (beginsGroup m (t .next)) (s .view .clock) (t .stamp)) t
 
 -- What each kind does, for the transaction t whose next block it is; nobody is moving in s. It enters, with an effect on the state e in
--- which its entry counts, or it must wait on a list, or it goes back. What becomes of each is said by who asks: `effect` below writes the
--- record of an entry and of a wait at once; going back writes none.
+-- which its entry counts, or it must wait on a list, or it goes back, or it begins to wait. What becomes of each is said by who asks:
+-- `effect` below writes the record of an entry and of a wait at once; going back writes none.
 -- "terms are read before the block's own entry counts, with the transaction's own parameters".
-module _ {A : Type 0} (enter : (State → State) → A) (wait : (Transaction → State → State) → A) (back : (State → State) → A) where
+module _ {A : Type 0} (enter : (State → State) → A) (wait : (Transaction → State → State) → A) (back : (State → State) → A) (begin : (Transaction → State → State) → A) where
   -- 4 SEIZE, "idle, it enters and f is in use; else it waits on the QL", 6 ENTER, "enters if b units are free, else waits"
   -- Document 02, item 6: "the number of its holder, written at SEIZE"
   abbrev pub takingUnits : BlockModel → Share → Transaction → State → A
@@ -148,6 +161,12 @@ module _ {A : Type 0} (enter : (State → State) → A) (wait : (Transaction →
       cond (leb (shareUnits x) (free (serverAt (s .view) v)))
       (enter (λ e. goOn t (checkWels v (setUse v (serverAt (s .view) v .inUse + shareUnits x) (shareHolder x (t .number)) e))))
       (wait (toQl (m .edition) v))
+
+  -- Document 02, item 8: "The first of a family at the block waits there", "Its record has outcome 1" (nobody comes here returning); "Each
+  -- later one of that family writes outcome 0 and ends"
+  abbrev pub gathering : List Gatherer → (n : ℕ) → Transaction → A
+  gathering [] n t = begin toGatherers
+  gathering (g ∷ l) n t = enter (λ e. gathers n g t e)
 
   abbrev pub doing : BlockModel → Block → Transaction → State → A
   doing m (generate list p) t s = enter (λ e. goOn t (arrival (timesLeft s list) list p (t .next) e))
@@ -176,9 +195,10 @@ module _ {A : Type 0} (enter : (State → State) → A) (wait : (Transaction →
   doing m (priority p) t s = enter (λ e. toRel (withPriority p (withReturning false (withNext (suc (t .next)) t))) e)
   doing m (split n target) t s = enter (λ e. goOn t (copies n target t e))
   doing m (counts c q) t s = enter (λ e. goOn t (setContent q (changed c (queueAt (s .view) q .content)) e))
+  doing m (assemble n) t s = gathering (waitsFor t s) n t
 
 unfoldable pub takeUnits : BlockModel → Share → Transaction → State → State
-takeUnits m x t s = takingUnits (λ f. f (enters t s)) (λ put. mustWait put t s) (λ f. f s) m x t s
+takeUnits m x t s = takingUnits (λ f. f (enters t s)) (λ put. mustWait put t s) (λ f. f s) (λ put. beginWait put t s) m x t s
 
 unfoldable pub effect : BlockModel → Block → Transaction → State → State
-effect m b t s = doing (λ f. f (enters t s)) (λ put. mustWait put t s) (λ f. f s) m b t s
+effect m b t s = doing (λ f. f (enters t s)) (λ put. mustWait put t s) (λ f. f s) (λ put. beginWait put t s) m b t s

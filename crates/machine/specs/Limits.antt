@@ -60,6 +60,10 @@ maxSplit = 255
 abbrev pub maxBack : ℕ
 maxBack = 7
 
+-- document 02, item 8: "n, 2..255"
+abbrev pub maxAssemble : ℕ
+maxAssemble = 255
+
 abbrev pub maxConstant : ℕ
 maxConstant = 2147483647
 

@@ -5,13 +5,13 @@ use mathlib.Core.List.{List, [], _∷_, reverse}
 use mathlib.Core.Option.{some}
 use lib.Dec.{leb, eqb}
 use lib.ListN.{length, getD, set, take, drop}
-use Rattle.machine.specs.Transaction.{Transaction, precedes, earlier, newborn}
-use Rattle.machine.specs.Lists.{insert, those, others, nth, setNth}
+use Rattle.machine.specs.Transaction.{Transaction, Gatherer, precedes, earlier, newborn}
+use Rattle.machine.specs.Lists.{insert, those, others, replaceFirst, nth, setNth}
 use Rattle.machine.specs.Term.{serverAt, queueAt}
 use Rattle.machine.specs.Block.{Code, welIndex}
 use Rattle.machine.specs.Trace.{Record, recordBytes}
 use Rattle.machine.specs.State.{State}
-use Rattle.machine.specs.Setters.{withNext, withSerial, withReturning, withStamp, withUse, withContent, setEntries, setQueues, setServers, setView, setSamples, setQl, setWel, setWsl, setRel, setFel, setMoving, setSerial, setMade, setRecords, setWritten}
+use Rattle.machine.specs.Setters.{withNext, withSerial, withReturning, withStamp, withUse, withContent, setEntries, setQueues, setServers, setView, setSamples, setQl, setWel, setWsl, setRel, setFel, setGatherers, setMoving, setSerial, setMade, setRecords, setWritten}
 
 -- ---- The trace
 
@@ -80,9 +80,11 @@ toWsl t s = setWsl (insert precedes t (s .wsl)) s
 
 -- "A transaction that must wait takes a fresh serial unless it is returning; a returning one keeps its serial." (departs: 000
 -- puts it at the front.) Its record of outcome 1 is written with the fresh serial; "putting back writes nothing".
+abbrev pub beginWait : (Transaction → State → State) → Transaction → State → State
+beginWait put t s = put (withSerial (fresh s) t) (setSerial (fresh s) (log 1 t s))
+
 unfoldable pub mustWait : (Transaction → State → State) → Transaction → State → State
-mustWait put t s =
-    cond (t .returning) (put t s) (put (withSerial (fresh s) t) (setSerial (fresh s) (log 1 t s)))
+mustWait put t s = cond (t .returning) (put t s) (beginWait put t s)
 
 -- ---- Waking: "Moving from QL, WEL or WSL to REL keeps the serial and sets returning."
 
@@ -124,6 +126,39 @@ wakeFirstWel v code s =
 unfoldable pub wakeWsl : (Transaction → Bool) → State → State
 wakeWsl p s = setWsl (others p (s .wsl)) (setRel (wake (those p (s .wsl)) (s .rel)) s)
 
+-- ---- Families that gather (document 02, item 8)
+
+abbrev pub gatherersAt : State → (block : ℕ) → List Gatherer
+gatherersAt s b = nth (s .gatherers) b []
+
+abbrev pub setGatherersAt : (block : ℕ) → List Gatherer → State → State
+setGatherersAt b l s = setGatherers (setNth (s .gatherers) b l) s
+
+unfoldable pub inFamily : Transaction → Gatherer → Bool
+inFamily t g = eqb (g .who .family) (t .family)
+
+-- who of t's family waits at t's block: one, or nobody
+abbrev pub waitsFor : Transaction → State → List Gatherer
+waitsFor t s = those (inFamily t) (gatherersAt s (t .next))
+
+-- "The first of a family at the block waits there"
+unfoldable pub toGatherers : Transaction → State → State
+toGatherers t s =
+    setGatherersAt (t .next)
+    (insert (λ a b. precedes (a .who) (b .who)) (record { who = t; come = 1 }) (gatherersAt s (t .next))) s
+
+-- a few in the place of the one who waits for t
+abbrev pub setWaitsFor : Transaction → List Gatherer → State → State
+setWaitsFor t l s = setGatherersAt (t .next) (replaceFirst (inFamily t) l (gatherersAt s (t .next))) s
+
+-- one more of the family of g, which waits for t, has come
+unfoldable pub comes : Gatherer → Transaction → State → State
+comes g t s = setWaitsFor t (record { who = g .who; come = suc (g .come) } ∷ []) s
+
+-- "the first goes to REL with a fresh serial and goes on from the next block; the count for that family begins again"
+unfoldable pub released : Gatherer → Transaction → State → State
+released g t s = toRel (withReturning false (withNext (suc (t .next)) (g .who))) (setWaitsFor t [] s)
+
 -- ---- Servers and queues
 
 -- so many units of a server are in use, and who holds it
@@ -153,7 +188,7 @@ arrival (time ∷ left) list priority block s =
 
 abbrev pub copyOf : Transaction → (number target : ℕ) → Transaction
 copyOf t number target =
-    record { number = number; priority = t .priority; parameters = t .parameters; next = target; serial = 0; returning = false; stamp = 0 }
+    record { number = number; priority = t .priority; parameters = t .parameters; next = target; serial = 0; returning = false; stamp = 0; family = t .family }
 
 -- 14 SPLIT, "n copies, same priority and parameters, on REL with fresh serials in order"
 unfoldable pub copies : ℕ → ℕ → Transaction → State → State

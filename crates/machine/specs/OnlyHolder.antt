@@ -29,7 +29,7 @@ module _ (m : BlockModel) (tape : List (List ℕ)) where
   unfoldable pub byHolder : (before : List Logged) → Logged → Bool
   byHolder before r = eqb (factsAt m tape r .releases) 0 || eqb (holderBy m tape before (factsAt m tape r .releases)) (r .entry .transaction)
 
-  -- if it is a TERMINATE, whoever ends holds nothing
+  -- if it ends somebody, at TERMINATE or ASSEMBLE, that one holds nothing
   unfoldable pub freeHanded : (before : List Logged) → Logged → Bool
   freeHanded before r = not (terminates m tape r) || eqb (heldBy before (r .entry .transaction)) 0
 

@@ -33,9 +33,13 @@ item6 = record { maxClock = item1 .maxClock; maxTime = item1 .maxTime; maxNumber
 abbrev pub item7 : Rules
 item7 = record { maxClock = item6 .maxClock; maxTime = item6 .maxTime; maxNumber = item6 .maxNumber; holders = item6 .holders; kinds = 17; editions = item6 .editions }
 
+-- and with item 8, "Families that gather"
+abbrev pub item8 : Rules
+item8 = record { maxClock = item7 .maxClock; maxTime = item7 .maxTime; maxNumber = item7 .maxNumber; holders = item7 .holders; kinds = 18; editions = item7 .editions }
+
 -- and with item 12, "Runs under the 1996 rules"
 abbrev pub document02 : Rules
-document02 = record { maxClock = item7 .maxClock; maxTime = item7 .maxTime; maxNumber = item7 .maxNumber; holders = item7 .holders; kinds = item7 .kinds; editions = 2 }
+document02 = record { maxClock = item8 .maxClock; maxTime = item8 .maxTime; maxNumber = item8 .maxNumber; holders = item8 .holders; kinds = item8 .kinds; editions = 2 }
 
 -- the rules that the engine keeps
 abbrev pub inForce : Rules

@@ -66,6 +66,7 @@ idle m tape =
       wsl = [];
       rel = [];
       fel = [];
+      gatherers = replicate (length (m .blocks)) [];
       moving = none;
       serial = 0;
       made = 0;

@@ -4,29 +4,29 @@ use mathlib.Core.Bool.{Bool}
 use mathlib.Core.List.{List}
 use mathlib.Core.Option.{Option}
 use lib.IntN.{ℤ}
-use Rattle.machine.specs.Transaction.{Transaction, Event}
+use Rattle.machine.specs.Transaction.{Transaction, Event, Gatherer}
 use Rattle.machine.specs.Term.{Server, Queue, View}
 use Rattle.machine.specs.State.{State, Logged}
 
 -- ---- Transaction
 
 abbrev pub withPriority : ℕ → Transaction → Transaction
-withPriority x t = record { number = t .number; priority = x; parameters = t .parameters; next = t .next; serial = t .serial; returning = t .returning; stamp = t .stamp }
+withPriority x t = record { number = t .number; priority = x; parameters = t .parameters; next = t .next; serial = t .serial; returning = t .returning; stamp = t .stamp; family = t .family }
 
 abbrev pub withParameters : List ℤ → Transaction → Transaction
-withParameters x t = record { number = t .number; priority = t .priority; parameters = x; next = t .next; serial = t .serial; returning = t .returning; stamp = t .stamp }
+withParameters x t = record { number = t .number; priority = t .priority; parameters = x; next = t .next; serial = t .serial; returning = t .returning; stamp = t .stamp; family = t .family }
 
 abbrev pub withNext : ℕ → Transaction → Transaction
-withNext x t = record { number = t .number; priority = t .priority; parameters = t .parameters; next = x; serial = t .serial; returning = t .returning; stamp = t .stamp }
+withNext x t = record { number = t .number; priority = t .priority; parameters = t .parameters; next = x; serial = t .serial; returning = t .returning; stamp = t .stamp; family = t .family }
 
 abbrev pub withSerial : ℕ → Transaction → Transaction
-withSerial x t = record { number = t .number; priority = t .priority; parameters = t .parameters; next = t .next; serial = x; returning = t .returning; stamp = t .stamp }
+withSerial x t = record { number = t .number; priority = t .priority; parameters = t .parameters; next = t .next; serial = x; returning = t .returning; stamp = t .stamp; family = t .family }
 
 abbrev pub withReturning : Bool → Transaction → Transaction
-withReturning x t = record { number = t .number; priority = t .priority; parameters = t .parameters; next = t .next; serial = t .serial; returning = x; stamp = t .stamp }
+withReturning x t = record { number = t .number; priority = t .priority; parameters = t .parameters; next = t .next; serial = t .serial; returning = x; stamp = t .stamp; family = t .family }
 
 abbrev pub withStamp : ℕ → Transaction → Transaction
-withStamp x t = record { number = t .number; priority = t .priority; parameters = t .parameters; next = t .next; serial = t .serial; returning = t .returning; stamp = x }
+withStamp x t = record { number = t .number; priority = t .priority; parameters = t .parameters; next = t .next; serial = t .serial; returning = t .returning; stamp = x; family = t .family }
 
 -- ---- Server
 
@@ -65,6 +65,7 @@ setView x s =
       wsl = s .wsl;
       rel = s .rel;
       fel = s .fel;
+      gatherers = s .gatherers;
       moving = s .moving;
       serial = s .serial;
       made = s .made;
@@ -86,6 +87,7 @@ setCounter x s =
       wsl = s .wsl;
       rel = s .rel;
       fel = s .fel;
+      gatherers = s .gatherers;
       moving = s .moving;
       serial = s .serial;
       made = s .made;
@@ -107,6 +109,7 @@ setSamples x s =
       wsl = s .wsl;
       rel = s .rel;
       fel = s .fel;
+      gatherers = s .gatherers;
       moving = s .moving;
       serial = s .serial;
       made = s .made;
@@ -128,6 +131,7 @@ setQl x s =
       wsl = s .wsl;
       rel = s .rel;
       fel = s .fel;
+      gatherers = s .gatherers;
       moving = s .moving;
       serial = s .serial;
       made = s .made;
@@ -149,6 +153,7 @@ setWel x s =
       wsl = s .wsl;
       rel = s .rel;
       fel = s .fel;
+      gatherers = s .gatherers;
       moving = s .moving;
       serial = s .serial;
       made = s .made;
@@ -170,6 +175,7 @@ setWsl x s =
       wsl = x;
       rel = s .rel;
       fel = s .fel;
+      gatherers = s .gatherers;
       moving = s .moving;
       serial = s .serial;
       made = s .made;
@@ -191,6 +197,7 @@ setRel x s =
       wsl = s .wsl;
       rel = x;
       fel = s .fel;
+      gatherers = s .gatherers;
       moving = s .moving;
       serial = s .serial;
       made = s .made;
@@ -212,6 +219,29 @@ setFel x s =
       wsl = s .wsl;
       rel = s .rel;
       fel = x;
+      gatherers = s .gatherers;
+      moving = s .moving;
+      serial = s .serial;
+      made = s .made;
+      ended = s .ended;
+      turns = s .turns;
+      records = s .records;
+      written = s .written;
+      end = s .end;
+    }
+
+abbrev pub setGatherers : List (List Gatherer) → State → State
+setGatherers x s =
+    record {
+      view = s .view;
+      counter = s .counter;
+      samples = s .samples;
+      ql = s .ql;
+      wel = s .wel;
+      wsl = s .wsl;
+      rel = s .rel;
+      fel = s .fel;
+      gatherers = x;
       moving = s .moving;
       serial = s .serial;
       made = s .made;
@@ -233,6 +263,7 @@ setMoving x s =
       wsl = s .wsl;
       rel = s .rel;
       fel = s .fel;
+      gatherers = s .gatherers;
       moving = x;
       serial = s .serial;
       made = s .made;
@@ -254,6 +285,7 @@ setSerial x s =
       wsl = s .wsl;
       rel = s .rel;
       fel = s .fel;
+      gatherers = s .gatherers;
       moving = s .moving;
       serial = x;
       made = s .made;
@@ -275,6 +307,7 @@ setMade x s =
       wsl = s .wsl;
       rel = s .rel;
       fel = s .fel;
+      gatherers = s .gatherers;
       moving = s .moving;
       serial = s .serial;
       made = x;
@@ -296,6 +329,7 @@ setEnded x s =
       wsl = s .wsl;
       rel = s .rel;
       fel = s .fel;
+      gatherers = s .gatherers;
       moving = s .moving;
       serial = s .serial;
       made = s .made;
@@ -317,6 +351,7 @@ setTurns x s =
       wsl = s .wsl;
       rel = s .rel;
       fel = s .fel;
+      gatherers = s .gatherers;
       moving = s .moving;
       serial = s .serial;
       made = s .made;
@@ -338,6 +373,7 @@ setRecords x s =
       wsl = s .wsl;
       rel = s .rel;
       fel = s .fel;
+      gatherers = s .gatherers;
       moving = s .moving;
       serial = s .serial;
       made = s .made;
@@ -359,6 +395,7 @@ setWritten x s =
       wsl = s .wsl;
       rel = s .rel;
       fel = s .fel;
+      gatherers = s .gatherers;
       moving = s .moving;
       serial = s .serial;
       made = s .made;
@@ -380,6 +417,7 @@ setEnd x s =
       wsl = s .wsl;
       rel = s .rel;
       fel = s .fel;
+      gatherers = s .gatherers;
       moving = s .moving;
       serial = s .serial;
       made = s .made;

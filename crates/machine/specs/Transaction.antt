@@ -19,8 +19,10 @@ pub record Transaction : Type 0 where
   -- entered at their first block alone, so whoever stands inside a group entered no other group's first block since. Nobody is delayed
   -- inside one: on the FEL the move time takes its place.
   pub stamp : ℕ
+  -- Document 02, item 8: the number of the one that founded its family
+  pub family : ℕ
 
--- a new one at a block; its serial is given where it is put on a list
+-- a new one at a block, which founds a family; its serial is given where it is put on a list
 unfoldable pub newborn : ℕ → ℕ → ℕ → Transaction
 newborn number priority block =
     record {
@@ -31,6 +33,7 @@ newborn number priority block =
       serial = 0;
       returning = false;
       stamp = 0;
+      family = number;
     }
 
 -- "All of these are sorted by priority, high first, then serial, low first."
@@ -45,3 +48,8 @@ pub record Event : Type 0 where
 -- "FEL: later events, sorted by move time, then priority, then serial."
 unfoldable pub earlier : Event → Event → Bool
 earlier a b = ltb (a .time) (b .time) || (eqb (a .time) (b .time) && precedes (a .who) (b .who))
+
+-- Document 02, item 8: the first of a family at an ASSEMBLE, which waits there, and how many of the family have come, itself among them.
+pub record Gatherer : Type 0 where
+  pub who : Transaction
+  pub come : ℕ

@@ -22,5 +22,8 @@ pub const ARRIVE: u32 = 15;
 // document 02, item 7: a server wait joined with those before it
 pub const JOINED_WAIT: u32 = 17;
 
+// document 02, item 8: families that gather
+pub const ASSEMBLE: u32 = 18;
+
 // how many there are
-pub const KINDS: usize = 17;
+pub const KINDS: usize = 18;

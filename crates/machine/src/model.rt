@@ -1,6 +1,6 @@
 // The header of a model, and the limits of documents 01 and 02 as its constants.
 ghost use mathlib.Core.Path.{_≡_};
-ghost use Rattle.machine.specs.Limits.{maxFacilities, maxStorages, maxCapacity, maxQueues, maxValues, maxLists, maxCounter, maxBlocks, maxLiving, maxSamples, maxTime, maxPriority, parameterCount, maxTerminate, maxSplit, maxBack, maxConstant, maxTerms, maxValueNumbers, maxBrackets, maxMentions, maxSerial, maxTurns, recordRoom, maxClock, maxTransaction, maxNumberBytes, maxNumber, fiveGroups, maxReportNumberBytes, maxReportNumber, workNumbers, reportRoom};
+ghost use Rattle.machine.specs.Limits.{maxFacilities, maxStorages, maxCapacity, maxQueues, maxValues, maxLists, maxCounter, maxBlocks, maxLiving, maxSamples, maxTime, maxPriority, parameterCount, maxTerminate, maxSplit, maxBack, maxAssemble, maxConstant, maxTerms, maxValueNumbers, maxBrackets, maxMentions, maxSerial, maxTurns, recordRoom, maxClock, maxTransaction, maxNumberBytes, maxNumber, fiveGroups, maxReportNumberBytes, maxReportNumber, workNumbers, reportRoom};
 
 // The header of a decoded model: how many there are of each thing, and the counter.
 pub struct Model {
@@ -48,6 +48,9 @@ impl Model {
 
     // document 02, item 7: "back count c, 1..7"
     pub const MAX_BACK: usize = 7;
+
+    // document 02, item 8: "n, 2..255"
+    pub const MAX_ASSEMBLE: usize = 255;
 
     pub const MAX_CONSTANT: usize = 2_147_483_647;
 
@@ -100,6 +103,7 @@ impl Model {
         ensures tape { λ _. do ⌜ ((← ⟦Model::MAX_SAMPLES⟧ .entry) ≡ maxSamples) × ((← ⟦Model::MAX_TIME⟧ .entry) ≡ maxTime) ⌝ }
         ensures transactions { λ _. do ⌜ ((← ⟦Model::MAX_PRIORITY⟧ .entry) ≡ maxPriority) × ((← ⟦Model::PARAMETERS⟧ .entry) ≡ parameterCount) ⌝ }
         ensures operands { λ _. do ⌜ ((← ⟦Model::MAX_TERMINATE⟧ .entry) ≡ maxTerminate) × ((← ⟦Model::MAX_SPLIT⟧ .entry) ≡ maxSplit) × ((← ⟦Model::MAX_BACK⟧ .entry) ≡ maxBack) ⌝ }
+        ensures families { λ _. do ⌜ (← ⟦Model::MAX_ASSEMBLE⟧ .entry) ≡ maxAssemble ⌝ }
         ensures terms { λ _. do ⌜ ((← ⟦Model::MAX_CONSTANT⟧ .entry) ≡ maxConstant) × ((← ⟦Model::MAX_TERMS⟧ .entry) ≡ maxTerms) ⌝ }
         ensures sums { λ _. do ⌜ ((← ⟦Model::MAX_VALUE_NUMBERS⟧ .entry) ≡ maxValueNumbers) × ((← ⟦Model::MAX_BRACKETS⟧ .entry) ≡ maxBrackets) × ((← ⟦Model::MAX_MENTIONS⟧ .entry) ≡ maxMentions) ⌝ }
         ensures turns { λ _. do ⌜ ((← ⟦Model::MAX_SERIAL⟧ .entry) ≡ maxSerial) × ((← ⟦Model::MAX_TURNS⟧ .entry) ≡ maxTurns) × ((← ⟦Model::RECORD_ROOM⟧ .entry) ≡ recordRoom) ⌝ }

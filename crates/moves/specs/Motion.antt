@@ -39,7 +39,11 @@ goBack w x blocks =
     moved (putNote 2 x)
     (setReturning (write w nextField (x .moving) (read w nextField (x .moving) - blocks)) (x .moving) 0)
 
--- document 02, item 12: onto list p as the edition has it
+-- document 02, item 12: the edition in whose order the WSL and the lists of gatherers are, under either
+abbrev pub inOrder : ℕ
+inOrder = 1
+
+-- onto list p as the edition has it
 unfoldable pub putBack : List ℕ → Scalars → (p edition : ℕ) → Moved
 putBack w x p edition = moved (putNote 2 (putMoving rowCount x)) (lineUp edition w p (x .moving))
 

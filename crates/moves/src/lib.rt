@@ -18,6 +18,9 @@ ghost use Prim.Native.Nat.{_<_, _≤_};
 ghost use Rattle.rows.specs.Layout.{Room, listCount, rowCount};
 ghost use Rattle.moves.specs.Motion.{moved, goTo, goOn, goBack, putBack, beginWait, waitOn, stopped};
 
+// The WSL and the lists of gatherers are in the order of edition 1 under either edition.
+pub const IN_ORDER: u32 = 1;
+
 // The transaction stands before a block, still moving; it entered.
 pub fn go_to(work: &mut [u32], x: Scalars, block: u32) -> Scalars
     requires { ⌜ Room (now work) ⌝ }
@@ -74,7 +77,7 @@ fn put_back(work: &mut [u32], x: Scalars, p: u32, edition: u32) -> Scalars
 }
 
 // Another one begins to wait on list p with a fresh serial.
-fn begin_wait(work: &mut [u32], x: Scalars, p: u32, edition: u32) -> Scalars
+pub fn begin_wait(work: &mut [u32], x: Scalars, p: u32, edition: u32) -> Scalars
     requires { ⌜ Room (now work) ⌝ }
     requires { ⌜ x .moving < rowCount ⌝ }
     requires { ⌜ p < listCount ⌝ }
@@ -91,7 +94,7 @@ fn begin_wait(work: &mut [u32], x: Scalars, p: u32, edition: u32) -> Scalars
     y
 }
 
-// The transaction must wait on list p, where the model's edition places it. The WSL is in order under either: 1.
+// The transaction must wait on list p, where the edition places it.
 pub fn wait_on(work: &mut [u32], x: Scalars, p: u32, edition: u32) -> Scalars
     requires { ⌜ Room (now work) ⌝ }
     requires { ⌜ x .moving < rowCount ⌝ }

@@ -8,7 +8,7 @@ use lib.Dec.{T}
 use lib.ListN.{length, getD, length-append}
 use borrow.Author.Tests.{ne-eqb, lt-ltb}
 use Rattle.machine.specs.Term.{Term, Relation}
-use Rattle.machine.specs.Block.{Code, codeIndex, welIndex, generate, advance, terminate, seize, release, enter, leave, waitServer, waitTerms, branch, goto, assign, priority, split, arrive, depart}
+use Rattle.machine.specs.Block.{Code, codeIndex, welIndex, generate, advance, terminate, seize, release, enter, leave, waitServer, waitTerms, branch, goto, assign, priority, split, arrive, depart, assemble}
 use Rattle.tables.specs.Forms.{blockForms}
 use Rattle.tables.specs.Numbers.{blockNumbers, termNumbers, relationNumber}
 use Rattle.tables.specs.Represents.{smallTerm}
@@ -137,4 +137,9 @@ formed-arrive most q =
 pub formed-depart : (most : ℕ) (q : ℕ) → Formed most (depart q)
 unfolding targetFrom backFrom targetInside blockForms
 formed-depart most q =
+    record { width = omega arith; small = tt; generates = refl; leaves = refl; target = refl; back = refl; waits = refl; inside = tt; names = omega arith }
+
+pub formed-assemble : (most : ℕ) (n : ℕ) → Formed most (assemble n)
+unfolding targetFrom backFrom targetInside blockForms
+formed-assemble most n =
     record { width = omega arith; small = tt; generates = refl; leaves = refl; target = refl; back = refl; waits = refl; inside = tt; names = omega arith }

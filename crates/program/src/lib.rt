@@ -207,7 +207,8 @@ fn operands(
         }
         15 => single(s, tables, to, p, 1, m.queues, 0),
         16 => single(s, tables, to, p, 1, m.queues, 0),
-        _ => joined_wait(s, tables, to, m, p),
+        17 => joined_wait(s, tables, to, m, p),
+        _ => single(s, tables, to, p, 2, Model::MAX_ASSEMBLE, 2),
     }
 }
 

@@ -25,13 +25,13 @@ use Rattle.report.proofs.Places.{all-places}
 
 -- ---- Count and order
 
-module _ (w : List ℕ) (moving : ℕ) (s : State) (h : Listing w moving (s .moving) s) (qls : length (s .ql) ≤ 64) (wels : length (s .wel) ≤ 384)
+module _ (w : List ℕ) (moving : ℕ) (s : State) (h : Listing w moving (s .moving) s) (qls : length (s .ql) ≤ 64) (wels : length (s .wel) ≤ 384) (blocks : length (s .gatherers) ≤ 256)
     (once : (n : ℕ) → standing s n ≤ 1) where
   abbrev total : (Place → ℕ) → ℕ
   total f = all w moving 0 f
 
   same-sum : (f : Place → ℕ) → total f ≡ sumOn f (places s)
-  same-sum f = all-places f w moving s h qls wels
+  same-sum f = all-places f w moving s h qls wels blocks
 
   count-all : livingCount w moving ≡ total (λ p. 1)
   unfolding livingCount

@@ -139,6 +139,7 @@ module _ (m : BlockModel) (tape : List (List ℕ)) (tapeBytes tables lists : Lis
       living-numbers (r .work) (r .scalars .moving) s (stands .listing)
       (omega (arith, sane .shape .ql-length, proper .facilities, proper .storages))
       (omega (arith, sane .shape .wel-length, proper .facilities, proper .storages))
+      (omega (arith, sane .shape .gatherer-length, proper .blocks))
       (stands-at-most-once m tape s sound)
 
   pub report-numbers : rowNumbers (headerOf m) tables (r .tally) (r .work) (r .scalars) ≡ reportNumbers m s

@@ -22,7 +22,7 @@ same-row w w′ k h kept f g = kept (f * 1024 + k) (omega arith)
 pub transaction-kept : (w w′ : List ℕ) (k : ℕ) → SameRow w w′ k → transactionAt w′ k ≡ transactionAt w k
 unfolding transactionAt timeOf
 transaction-kept w w′ k kept =
-    rw (kept 0 (omega arith), kept 1 (omega arith), kept 2 (omega arith), kept 3 (omega arith), kept 4 (omega arith), kept 5 (omega arith), kept 6 (omega arith), kept 7 (omega arith), kept 8 (omega arith), kept 9 (omega arith))
+    rw (kept 0 (omega arith), kept 1 (omega arith), kept 2 (omega arith), kept 3 (omega arith), kept 4 (omega arith), kept 5 (omega arith), kept 6 (omega arith), kept 7 (omega arith), kept 8 (omega arith), kept 9 (omega arith), kept 10 (omega arith))
 
 pub event-kept : (w w′ : List ℕ) (k : ℕ) → SameRow w w′ k → eventAt w′ k ≡ eventAt w k
 unfolding eventAt timeOf

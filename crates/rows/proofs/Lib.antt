@@ -32,3 +32,4 @@ pub mod Newborn
 pub mod Starting
 pub mod Population
 pub mod Laws
+pub mod Kin

@@ -71,22 +71,24 @@ module _ (w : List ℕ) (k : ℕ) (hk : k < 1024) where
   copy-written j =
       written₄ 2 3 4 5 (read w 2 j) (read w 3 j) (read w 4 j) (read w 5 j) (omega arith) (omega arith) (omega arith) (omega arith)
 
-  pub describe-written : (number priority block : ℕ) → Written w (describe w k number priority block) k
+  pub describe-written : (number priority block family : ℕ) → Written w (describe w k number priority block family) k
   unfolding describe
-  describe-written number priority block =
-      written-trans w (write (write (write (write w 0 k number) 1 k (priority * 2)) 6 k block) 7 k 0) (describe w k number priority block) k
+  describe-written number priority block family =
+      let v : List ℕ = write (write (write (write w 0 k number) 1 k (priority * 2)) 6 k block) 7 k 0 in
+      written-trans w v (describe w k number priority block family) k
       (written₄ 0 1 6 7 number (priority * 2) block 0 (omega arith) (omega arith) (omega arith) (omega arith))
-      (time-written (write (write (write (write w 0 k number) 1 k (priority * 2)) 6 k block) 7 k 0) k hk 0)
+      (written-trans v (setTime v k 0) (describe w k number priority block family) k (time-written v k hk 0) (written (setTime v k 0) 10 k family (omega arith) hk))
 
 pub newborn-written : (w : List ℕ) (k : ℕ) → k < 1024 → (number priority block : ℕ) → Written w (newbornAt w k number priority block) k
 unfolding newbornAt
 newborn-written w k hk number priority block =
-    written-trans w (describe w k number priority block) (newbornAt w k number priority block) k (describe-written w k hk number priority block) (clear-written (describe w k number priority block) k hk)
+    written-trans w (describe w k number priority block number) (newbornAt w k number priority block) k (describe-written w k hk number priority block number) (clear-written (describe w k number priority block number) k hk)
 
 pub copied-written : (w : List ℕ) (k : ℕ) → k < 1024 → (j number block : ℕ) → Written w (copyAt w j k number block) k
 unfolding copyAt
 copied-written w k hk j number block =
-    written-trans w (describe w k number (read w 1 j / 2) block) (copyAt w j k number block) k (describe-written w k hk number (read w 1 j / 2) block) (copy-written (describe w k number (read w 1 j / 2) block) k hk j)
+    let v : List ℕ = describe w k number (read w 1 j / 2) block (read w 10 j) in
+    written-trans w v (copyAt w j k number block) k (describe-written w k hk number (read w 1 j / 2) block (read w 10 j)) (copy-written v k hk j)
 
 -- ---- A row that is free again
 

@@ -12,12 +12,12 @@ use mir.Val.{toZ}
 use Rattle.machine.specs.Transaction.{Transaction, newborn}
 use Rattle.machine.specs.Setters.{withPriority, withParameters, withNext, withSerial, withReturning, withStamp}
 use Rattle.rows.specs.Layout.{fieldAt}
-use Rattle.rows.specs.Cells.{read, write}
+use Rattle.rows.specs.Cells.{read, write, setTime}
 use Rattle.rows.specs.Make.{clearParameters, copyParameters, describe, newbornAt, copyAt}
 use Rattle.rows.specs.Holds.{transactionAt, parameterAt}
 use Rattle.rows.proofs.Store.{length-store}
-use Rattle.rows.proofs.Fields.{write-number, write-standing, write-parameter, write-next, write-serial, write-stamp}
-use Rattle.rows.proofs.Making.{Written, describe-written}
+use Rattle.rows.proofs.Fields.{write-number, write-standing, write-parameter, write-next, write-serial, write-family, write-stamp, withFamily}
+use Rattle.rows.proofs.Making.{Written, time-written, describe-written}
 
 room-write : (w : List ℕ) (f k x : ℕ) → 16384 ≤ length w → 16384 ≤ length (write w f k x)
 room-write w f k x room = rw (length-store w (fieldAt f k) x) room
@@ -29,20 +29,23 @@ module _ (w : List ℕ) (k : ℕ) (room : 16384 ≤ length w) (hk : k < 1024) wh
       let e : p * 2 ≡ p * 2 + 0 = omega arith in
       ap (λ (x : ℕ). transactionAt (write w 1 k x) k) e ∙ write-standing w k room hk p 0 (omega arith)
 
-  described : (number priority block : ℕ) → transactionAt (describe w k number priority block) k ≡ record { number = number; priority = priority; parameters = transactionAt w k .parameters; next = block; serial = 0; returning = false; stamp = 0 }
+  described : (number priority block family : ℕ) → transactionAt (describe w k number priority block family) k ≡ record { number = number; priority = priority; parameters = transactionAt w k .parameters; next = block; serial = 0; returning = false; stamp = 0; family = family }
   unfolding describe
-  described number priority block =
+  described number priority block family =
       let w₁ : List ℕ = write w 0 k number in
       let w₂ : List ℕ = write w₁ 1 k (priority * 2) in
       let w₃ : List ℕ = write w₂ 6 k block in
       let r₁ : 16384 ≤ length w₁ = room-write w 0 k number room in
       let r₂ : 16384 ≤ length w₂ = room-write w₁ 1 k (priority * 2) r₁ in
       let r₃ : 16384 ≤ length w₃ = room-write w₂ 6 k block r₂ in
-      write-stamp (write w₃ 7 k 0) k (room-write w₃ 7 k 0 r₃) hk 0
+      let r₄ : 16384 ≤ length (write w₃ 7 k 0) = room-write w₃ 7 k 0 r₃ in
+      write-family (setTime (write w₃ 7 k 0) k 0) k (time-written (write w₃ 7 k 0) k hk 0 .room r₄) hk family
+      ∙ ap (withFamily family)
+      (write-stamp (write w₃ 7 k 0) k r₄ hk 0
       ∙ ap (withStamp 0) (write-serial w₃ k r₃ hk 0)
       ∙ ap (λ (t : Transaction). withStamp 0 (withSerial 0 t)) (write-next w₂ k r₂ hk block)
       ∙ ap (λ (t : Transaction). withStamp 0 (withSerial 0 (withNext block t))) (priority₁ r₁)
-      ∙ ap (λ (t : Transaction). withStamp 0 (withSerial 0 (withNext block (withReturning false (withPriority priority t))))) (write-number w k room hk number)
+      ∙ ap (λ (t : Transaction). withStamp 0 (withSerial 0 (withNext block (withReturning false (withPriority priority t))))) (write-number w k room hk number))
     where
       priority₁ : 16384 ≤ length (write w 0 k number) → transactionAt (write (write w 0 k number) 1 k (priority * 2)) k ≡ withReturning false (withPriority priority (transactionAt (write w 0 k number) k))
       priority₁ r =
@@ -69,8 +72,8 @@ module _ (w : List ℕ) (k : ℕ) (room : 16384 ≤ length w) (hk : k < 1024) wh
 pub newborn-is : (w : List ℕ) (k : ℕ) → 16384 ≤ length w → k < 1024 → (number priority block : ℕ) → transactionAt (newbornAt w k number priority block) k ≡ newborn number priority block
 unfolding newbornAt clearParameters newborn
 newborn-is w k room hk number priority block =
-    parameters₄ (describe w k number priority block) k (describe-written w k hk number priority block .room room) hk 0 0 0 0
-    ∙ ap (withParameters (pos 0 ∷ pos 0 ∷ pos 0 ∷ pos 0 ∷ [])) (described w k room hk number priority block)
+    parameters₄ (describe w k number priority block number) k (describe-written w k hk number priority block number .room room) hk 0 0 0 0
+    ∙ ap (withParameters (pos 0 ∷ pos 0 ∷ pos 0 ∷ pos 0 ∷ [])) (described w k room hk number priority block number)
 
 -- ---- A copy
 
@@ -82,11 +85,15 @@ priority-at : (w : List ℕ) (j : ℕ) → transactionAt w j .priority ≡ read 
 unfolding transactionAt
 priority-at w j = refl
 
-pub copy-is : (w : List ℕ) (j k : ℕ) → 16384 ≤ length w → j < 1024 → k < 1024 → j ≢ k → (number block : ℕ) → transactionAt (copyAt w j k number block) k ≡ record { number = number; priority = transactionAt w j .priority; parameters = transactionAt w j .parameters; next = block; serial = 0; returning = false; stamp = 0 }
+family-at : (w : List ℕ) (j : ℕ) → transactionAt w j .family ≡ read w 10 j
+unfolding transactionAt
+family-at w j = refl
+
+pub copy-is : (w : List ℕ) (j k : ℕ) → 16384 ≤ length w → j < 1024 → k < 1024 → j ≢ k → (number block : ℕ) → transactionAt (copyAt w j k number block) k ≡ record { number = number; priority = transactionAt w j .priority; parameters = transactionAt w j .parameters; next = block; serial = 0; returning = false; stamp = 0; family = transactionAt w j .family }
 unfolding copyAt copyParameters
 copy-is w j k room hj hk d number block =
-    let v : List ℕ = describe w k number (read w 1 j / 2) block in
-    let o : Written w v k = describe-written w k hk number (read w 1 j / 2) block in
+    let v : List ℕ = describe w k number (read w 1 j / 2) block (read w 10 j) in
+    let o : Written w v k = describe-written w k hk number (read w 1 j / 2) block (read w 10 j) in
     parameters₄ v k (o .room room) hk (read v 2 j) (read v 3 j) (read v 4 j) (read v 5 j)
-    ∙ ap (withParameters (parameterAt v j 0 ∷ parameterAt v j 1 ∷ parameterAt v j 2 ∷ parameterAt v j 3 ∷ [])) (described w k room hk number (read w 1 j / 2) block)
-    ∙ rw (o .around .same j hj d 2 (omega arith), o .around .same j hj d 3 (omega arith), o .around .same j hj d 4 (omega arith), o .around .same j hj d 5 (omega arith), parameters-at w j, priority-at w j)
+    ∙ ap (withParameters (parameterAt v j 0 ∷ parameterAt v j 1 ∷ parameterAt v j 2 ∷ parameterAt v j 3 ∷ [])) (described w k room hk number (read w 1 j / 2) block (read w 10 j))
+    ∙ rw (o .around .same j hj d 2 (omega arith), o .around .same j hj d 3 (omega arith), o .around .same j hj d 4 (omega arith), o .around .same j hj d 5 (omega arith), parameters-at w j, priority-at w j, family-at w j)

@@ -115,17 +115,17 @@ past-time : (w : List ℕ) (k time : ℕ) → past (setTime w k time) ≡ past w
 unfolding setTime
 past-time w k time = past-write _ 9 k (_) ∙ past-write _ 8 k (_)
 
-past-describe : (w : List ℕ) (k n p b : ℕ) → past (describe w k n p b) ≡ past w
+past-describe : (w : List ℕ) (k n p b f : ℕ) → past (describe w k n p b f) ≡ past w
 unfolding describe
-past-describe w k n p b = past-time _ k 0 ∙ past-write _ 7 k 0 ∙ past-write _ 6 k b ∙ past-write _ 1 k (_) ∙ past-write _ 0 k n
+past-describe w k n p b f = past-write _ 10 k f ∙ past-time _ k 0 ∙ past-write _ 7 k 0 ∙ past-write _ 6 k b ∙ past-write _ 1 k (_) ∙ past-write _ 0 k n
 
 pub past-newbornAt : (w : List ℕ) (k n p b : ℕ) → past (newbornAt w k n p b) ≡ past w
 unfolding newbornAt
-past-newbornAt w k n p b = past-clear (describe w k n p b) k ∙ past-describe w k n p b
+past-newbornAt w k n p b = past-clear (describe w k n p b n) k ∙ past-describe w k n p b n
 
 pub past-copyAt : (w : List ℕ) (j k n b : ℕ) → past (copyAt w j k n b) ≡ past w
 unfolding copyAt
-past-copyAt w j k n b = past-copy _ j k ∙ past-describe w k n (_) b
+past-copyAt w j k n b = past-copy _ j k ∙ past-describe w k n (_) b (_)
 
 pub past-freeRow : (w : List ℕ) (k : ℕ) → past (freeRow w k) ≡ past w
 unfolding freeRow

@@ -1,4 +1,4 @@
--- Writing the data of a row that is on no list: every list stays.
+-- Writing the data of a row: the rows of every list stay; and where the row is on none, every list.
 use Prim.Native.Nat.{ℕ, _≤_, _<_}
 use mathlib.Core.Path.{_≡_, sym, ap, _∙_}
 use mathlib.Core.Logic.{_≢_}
@@ -25,6 +25,23 @@ module _ (w : List ℕ) (f k x : ℕ) (hf : f < dataFields) where
   pub write-loose : (j : ℕ) → k < 1024 → Loose w j → Loose (write w f k x) j
   write-loose j hk l = record { row = l .row; off = write-high (place j) hk (omega arith) ∙ l .off }
 
+  -- on whatever list row k stands
+  module _ (row : k < 1024) where
+    write-listed : (q : ℕ) (l : List ℕ) → Listed w q l → Listed (write w f k x) q l
+    write-listed q l one =
+        record {
+          chain = chain-moved w (write w f k x) (head q) (head q) l (write-high (head q) row (omega arith)) (λ j m. write-high (link j) row (omega arith)) (one .chain);
+          last = write-high (tail q) row (omega arith) ∙ one .last;
+          once = λ j hj. one .once j hj ∙ ap (λ (y : ℕ). same y q) (sym (write-high (place j) row (omega arith)));
+        }
+
+    pub write-holds : (L : ℕ → List ℕ) → Holds w L → Holds (write w f k x) L
+    write-holds L h =
+        record {
+          room = rw (length-store w (fieldAt f k) x) (h .room);
+          listed = λ q hq. write-listed q (L q) (h .listed q hq);
+        }
+
   module _ (free : Loose w k) where
     -- the rows of a list are others
     others-only : (q : ℕ) (l : List ℕ) → q < listCount → Listed w q l → (j : ℕ) → 1 ≤ occurs j l → (j < 1024) × (j ≢ k)
@@ -35,14 +52,6 @@ module _ (w : List ℕ) (f k x : ℕ) (hf : f < dataFields) where
               omega (arith, one .once j r, same-other (load w (place j)) q (λ g. omega (arith, free .off, ap (λ (y : ℕ). load w (place y)) e))),
         )
 
-    write-listed : (q : ℕ) (l : List ℕ) → Listed w q l → Listed (write w f k x) q l
-    write-listed q l one =
-        record {
-          chain = chain-moved w (write w f k x) (head q) (head q) l (write-high (head q) (free .row) (omega arith)) (λ j m. write-high (link j) (free .row) (omega arith)) (one .chain);
-          last = write-high (tail q) (free .row) (omega arith) ∙ one .last;
-          once = λ j hj. one .once j hj ∙ ap (λ (y : ℕ). same y q) (sym (write-high (place j) (free .row) (omega arith)));
-        }
-
     events-stay : (q : ℕ) (l : List ℕ) → q < listCount → Listed w q l → map (eventAt (write w f k x)) l ≡ map (eventAt w) l
     events-stay q l hq one =
         map-kept (eventAt (write w f k x)) (eventAt w) l (λ j m. let r : (j < 1024) × (j ≢ k) = others-only q l hq one j m in event-kept w (write w f k x) j (row-other w f k x j (free .row) (r .0) (r .1)))
@@ -51,17 +60,10 @@ module _ (w : List ℕ) (f k x : ℕ) (hf : f < dataFields) where
     transactions-stay q l hq one =
         map-kept (transactionAt (write w f k x)) (transactionAt w) l (λ j m. let r : (j < 1024) × (j ≢ k) = others-only q l hq one j m in transaction-kept w (write w f k x) j (row-other w f k x j (free .row) (r .0) (r .1)))
 
-    pub write-holds : (L : ℕ → List ℕ) → Holds w L → Holds (write w f k x) L
-    write-holds L h =
-        record {
-          room = rw (length-store w (fieldAt f k) x) (h .room);
-          listed = λ q hq. write-listed q (L q) (h .listed q hq);
-        }
-
     pub write-shown : (L : ℕ → List ℕ) (T : ℕ → List Transaction) (E : List Event) → Shown w L T E → Shown (write w f k x) L T E
     write-shown L T E s =
         record {
-          holds = write-holds L (s .holds);
+          holds = write-holds (free .row) L (s .holds);
           lists = λ q hq. transactions-stay q (L q) (omega arith) (s .holds .listed q (omega arith)) ∙ s .lists q hq;
           future = events-stay fel (L fel) (omega arith) (s .holds .listed fel (omega arith)) ∙ s .future;
           spare = s .spare;

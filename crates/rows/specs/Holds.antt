@@ -8,7 +8,7 @@ use lib.Dec.{eqb}
 use mir.Syntax.{w32}
 use mir.Val.{toZ}
 use Rattle.machine.specs.Transaction.{Transaction, Event}
-use Rattle.rows.specs.Layout.{rowCount, listCount, Room, place, link, head, tail, numberField, standingField, parameterField, nextField, serialField}
+use Rattle.rows.specs.Layout.{rowCount, listCount, Room, place, link, head, tail, numberField, standingField, parameterField, nextField, serialField, familyField}
 use Rattle.rows.specs.Cells.{load, read, priorityOf, timeOf}
 
 -- ---- Rows as transactions
@@ -26,6 +26,7 @@ transactionAt w k =
       serial = read w serialField k;
       returning = eqb (read w standingField k % 2) 1;
       stamp = timeOf w k;
+      family = read w familyField k;
     }
 
 unfoldable pub eventAt : List ℕ → ℕ → Event

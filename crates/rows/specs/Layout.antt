@@ -4,9 +4,9 @@
 -- | field | holds                               | field | holds                              |
 -- |-------|-------------------------------------|-------|------------------------------------|
 -- | 0     | number                              | 9     | move time or stamp, high half      |
--- | 1     | priority * 2 + returning            | 10    | spare: family                      |
+-- | 1     | priority * 2 + returning            | 10    | family                             |
 -- | 2..5  | parameters 1..4, the bits of an i32 | 11    | spare: second link                 |
--- | 6     | next block                          | 12    | place: its list, 1024 on none      |
+-- | 6     | next block, of a gatherer its count | 12    | place: its list, 1024 on none      |
 -- | 7     | serial                              | 13    | link: the row after it on its list |
 -- | 8     | move time or stamp, low half        | 14    | heads of lists 0..1023             |
 -- |       |                                     | 15    | tails of lists 0..1023             |
@@ -14,15 +14,16 @@
 -- A cell is a number of the buffer that holds a row: a head or a link. 1024, and any number above it, is no row. The tail of a
 -- list is its last cell: the head itself where the list is empty.
 --
--- | list    | number                                      |
--- |---------|---------------------------------------------|
--- | QL      | server - 1: 0..63                           |
--- | WEL     | 64 + (server - 1) * 6 + (code - 1): 64..447 |
--- | WSL     | 448                                         |
--- | REL     | 449                                         |
--- | FEL     | 450                                         |
--- | free    | 451: the rows that are not living           |
--- | others  | 452..1023 are spare and stay empty          |
+-- | list      | number                                      |
+-- |-----------|---------------------------------------------|
+-- | QL        | server - 1: 0..63                           |
+-- | WEL       | 64 + (server - 1) * 6 + (code - 1): 64..447 |
+-- | WSL       | 448                                         |
+-- | REL       | 449                                         |
+-- | gatherers | 450 + (block - 1): 450..705                 |
+-- | FEL       | 706                                         |
+-- | free      | 707: the rows that are not living           |
+-- | others    | 708..1023 are spare and stay empty          |
 use Prim.Native.Nat.{ℕ, _+_, _*_, _-_, _≤_}
 use mathlib.Core.List.{List}
 use lib.ListN.{length}
@@ -85,6 +86,10 @@ timeField = 8
 abbrev pub timeHighField : ℕ
 timeHighField = 9
 
+-- the number of who founded its family
+abbrev pub familyField : ℕ
+familyField = 10
+
 abbrev pub fieldAt : ℕ → ℕ → ℕ
 fieldAt f k = f * rowCount + k
 
@@ -130,11 +135,18 @@ wsl = 448
 abbrev pub rel : ℕ
 rel = 449
 
+-- where the lists of gatherers begin, one for each block
+abbrev pub gatherers : ℕ
+gatherers = 450
+
+abbrev pub gathererList : (block : ℕ) → ℕ
+gathererList b = gatherers + (b - 1)
+
 abbrev pub fel : ℕ
-fel = 450
+fel = 706
 
 abbrev pub free : ℕ
-free = 451
+free = 707
 
 -- the place of a row that is on no list, as the moving one
 abbrev pub nowhere : ℕ

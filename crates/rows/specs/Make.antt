@@ -1,7 +1,7 @@
 -- The row machine: rows that come to life and end, and the buffer at the start of a run.
 use Prim.Native.Nat.{ℕ, zero, suc, _+_, _*_, _/_}
 use mathlib.Core.List.{List}
-use Rattle.rows.specs.Layout.{place, head, tail, free, nowhere, numberField, standingField, nextField, serialField, listCount, rowCount, parameterField}
+use Rattle.rows.specs.Layout.{place, head, tail, free, nowhere, numberField, standingField, nextField, serialField, familyField, listCount, rowCount, parameterField}
 use Rattle.rows.specs.Cells.{store, read, write, setTime}
 use Rattle.rows.specs.Lists.{insertAt}
 
@@ -17,17 +17,17 @@ copyParameters w j k =
     (parameterField + 3) k (read w (parameterField + 3) j)
 
 -- all but the parameters; not returning, no serial and no stamp yet
-unfoldable pub describe : List ℕ → ℕ → ℕ → ℕ → ℕ → List ℕ
-describe w k number priority block =
-    setTime (write (write (write (write w numberField k number) standingField k (priority * 2)) nextField k block) serialField k 0) k 0
+unfoldable pub describe : List ℕ → ℕ → ℕ → ℕ → ℕ → ℕ → List ℕ
+describe w k number priority block family =
+    write (setTime (write (write (write (write w numberField k number) standingField k (priority * 2)) nextField k block) serialField k 0) k 0) familyField k family
 
--- row k as a new transaction
+-- row k as a new transaction, which founds a family
 unfoldable pub newbornAt : List ℕ → ℕ → ℕ → ℕ → ℕ → List ℕ
-newbornAt w k number priority block = clearParameters (describe w k number priority block) k
+newbornAt w k number priority block = clearParameters (describe w k number priority block number) k
 
--- row k as a copy of row j with a number of its own
+-- row k as a copy of row j with a number of its own, of the same family
 unfoldable pub copyAt : List ℕ → ℕ → ℕ → ℕ → ℕ → List ℕ
-copyAt w j k number block = copyParameters (describe w k number (read w standingField j / 2) block) j k
+copyAt w j k number block = copyParameters (describe w k number (read w standingField j / 2) block (read w familyField j)) j k
 
 -- row k, on no list, is free
 unfoldable pub freeRow : List ℕ → ℕ → List ℕ

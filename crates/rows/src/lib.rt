@@ -38,6 +38,8 @@ pub const TIME: u32 = 8;
 
 pub const TIME_HIGH: u32 = 9;
 
+pub const FAMILY: u32 = 10;
+
 pub const PLACE: u32 = 12;
 
 pub const LINK: u32 = 13;
@@ -62,7 +64,8 @@ pub const SERIAL_END: u32 = 4_000_000_000;
 // What the lowest bit of the high half of a move time is worth.
 pub const WORD_END: u64 = 4_294_967_296;
 
-// Lists: the QL of a server is its number less one, its WELs follow from WELS on; then four by name.
+// Lists: the QL of a server is its number less one, its WELs follow from WELS on; then WSL and REL, the gatherers of each block, FEL and
+// the free rows.
 pub const LISTS: u32 = 1_024;
 
 pub const WELS: u32 = 64;
@@ -71,9 +74,12 @@ pub const WSL: u32 = 448;
 
 pub const REL: u32 = 449;
 
-pub const FEL: u32 = 450;
+// the lists of gatherers, one for each block
+pub const GATHERERS: u32 = 450;
 
-pub const FREE: u32 = 451;
+pub const FEL: u32 = 706;
+
+pub const FREE: u32 = 707;
 
 pub const WSL_HEAD: u32 = HEADS + WSL;
 

@@ -1,5 +1,6 @@
 // Rows that come to life and end, and the buffer at the start of a run.
 
+use crate::FAMILY;
 use crate::FREE;
 use crate::FREE_HEAD;
 use crate::HEADS;
@@ -73,31 +74,32 @@ fn copy_parameters(w: &mut [u32], j: u32, k: u32)
     write(w, PARAMETER_4, k, d);
 }
 
-fn describe(w: &mut [u32], k: u32, number: u32, priority: u32, block: u32)
+fn describe(w: &mut [u32], k: u32, number: u32, priority: u32, block: u32, family: u32)
     requires { ⌜ Room (now w) ⌝ }
     requires { ⌜ k < rowCount ⌝ }
     requires { ⌜ priority < priorityEnd ⌝ }
-    ensures { λ _. ⌜ now (w .exit) ≡ describe (now (w .entry)) k number priority block ⌝ }
+    ensures { λ _. ⌜ now (w .exit) ≡ describe (now (w .entry)) k number priority block family ⌝ }
 {
     write(w, NUMBER, k, number);
     write(w, STANDING, k, priority * 2);
     write(w, NEXT, k, block);
     write(w, SERIAL, k, 0);
     set_time(w, k, 0);
+    write(w, FAMILY, k, family);
 }
 
-// Row k as a new transaction at a block, with no serial yet.
+// Row k as a new transaction at a block, which founds a family, with no serial yet.
 pub fn newborn(w: &mut [u32], k: u32, number: u32, priority: u32, block: u32)
     requires { ⌜ Room (now w) ⌝ }
     requires { ⌜ k < rowCount ⌝ }
     requires { ⌜ priority < priorityEnd ⌝ }
     ensures { λ _. ⌜ now (w .exit) ≡ newbornAt (now (w .entry)) k number priority block ⌝ }
 {
-    describe(w, k, number, priority, block);
+    describe(w, k, number, priority, block, number);
     clear_parameters(w, k);
 }
 
-// Row k as a copy of row j at a block: same priority and parameters, a number of its own, not returning, no serial yet.
+// Row k as a copy of row j at a block: same priority, parameters and family, a number of its own, not returning, no serial yet.
 pub fn copy(w: &mut [u32], j: u32, k: u32, number: u32, block: u32)
     requires { ⌜ Room (now w) ⌝ }
     requires { ⌜ j < rowCount ⌝ }
@@ -105,7 +107,8 @@ pub fn copy(w: &mut [u32], j: u32, k: u32, number: u32, block: u32)
     ensures { λ _. ⌜ now (w .exit) ≡ copyAt (now (w .entry)) j k number block ⌝ }
 {
     let standing = read(w, STANDING, j);
-    describe(w, k, number, standing / 2, block);
+    let family = read(w, FAMILY, j);
+    describe(w, k, number, standing / 2, block, family);
     copy_parameters(w, j, k);
 }
 

@@ -2,7 +2,7 @@
 use Prim.Native.Nat.{ℕ, suc, _+_, _-_, _*_, _≤_, _<_}
 use mathlib.Core.Path.{_≡_, refl, sym, ap, _∙_, subst}
 use mathlib.Core.Bool.{Bool, true, false, cond}
-use mathlib.Core.List.{List, [], _∷_}
+use mathlib.Core.List.{List, [], _∷_, map}
 use mathlib.Core.Option.{none}
 use native.Mathlib.Omega.{arith}
 use borrow.Author.Tests.{ne-eqb}
@@ -24,7 +24,7 @@ use Rattle.rows.proofs.Sums.{sum-zero}
 use Rattle.rows.proofs.Ordering.{shows-ext}
 use Rattle.rows.proofs.Starting.{initial-shows, initial-loose}
 use Rattle.rows.proofs.Population.{population}
-use Rattle.state.specs.Stands.{Rows, rowsOf, listsOf, Listing, Counting, Stands}
+use Rattle.state.specs.Stands.{Rows, rowsOf, gathererRow, listsOf, Listing, Counting, Stands}
 use Rattle.state.proofs.StandsLaws.{stands-of}
 use Rattle.flow.specs.Samples.{nextSample}
 use Rattle.flow.specs.Sending.{arrives}
@@ -38,15 +38,22 @@ use Rattle.tables.proofs.BlockKinds.{Kinds, generating, taking, waiting, arrivi
 -- ---- Before the first block: nobody lives
 
 module _ (m : BlockModel) (tape : List (List ℕ)) where
-  no-lists : (q : ℕ) → q < 450 → _≡_ {A = List Transaction} [] (listsOf (idle m tape) q)
+  no-lists : (q : ℕ) → q < 706 → _≡_ {A = List Transaction} [] (listsOf (idle m tape) q)
   unfolding listsOf idle
-  no-lists q hq = go (ltb q 64) (ltb q 448) (eqb q 448)
+  no-lists q hq = go (ltb q 64) (ltb q 448) (eqb q 448) (eqb q 449)
     where
-      go : (a b c : Bool) → _≡_ {A = List Transaction} [] (cond a (getD (replicate (m .facilities + length (m .capacities)) []) q []) (cond b (getD (replicate ((m .facilities + length (m .capacities)) * 6) []) (q - 64) []) (cond c [] [])))
-      go true b c = sym (same-at (m .facilities + length (m .capacities)) q [])
-      go false true c = sym (same-at ((m .facilities + length (m .capacities)) * 6) (q - 64) [])
-      go false false true = refl
-      go false false false = refl
+      servers : ℕ
+      servers = m .facilities + length (m .capacities)
+
+      go : (a b c d : Bool) → _≡_ {A = List Transaction} []
+          (cond a (getD (replicate servers []) q [])
+          (cond b (getD (replicate (servers * 6) []) (q - 64) [])
+          (cond c [] (cond d [] (map gathererRow (getD (replicate (length (m .blocks)) []) (q - 450) []))))))
+      go true b c d = sym (same-at servers q [])
+      go false true c d = sym (same-at (servers * 6) (q - 64) [])
+      go false false true d = refl
+      go false false false true = refl
+      go false false false false = sym (ap (map gathererRow) (same-at (length (m .blocks)) (q - 450) []))
 
   module _ (w : List ℕ) (room : 16384 ≤ length w) where
     begun : Shows (initial w) (λ p. []) []
@@ -54,7 +61,7 @@ module _ (m : BlockModel) (tape : List (List ℕ)) where
 
     nobody : onLists (λ p. []) [] ≡ 0
     unfolding onLists
-    nobody = omega (arith, sum-zero 450 (λ p. 0) (λ k h. refl))
+    nobody = omega (arith, sum-zero 706 (λ p. 0) (λ k h. refl))
 
     idle-listing : Listing (initial w) 1024 none (idle m tape)
     unfolding idle

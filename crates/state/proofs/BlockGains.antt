@@ -6,19 +6,19 @@ use mathlib.Core.List.{List, [], _∷_, map}
 use mathlib.Core.Option.{Option}
 use native.Mathlib.Omega.{arith}
 use borrow.Author.Tests.{leb-true}
-use lib.Dec.{leb, ltb}
+use lib.Dec.{leb, ltb, eqb}
 use lib.ListN.{getD, set, drop}
 use lib.Seq.{map-set-same, getD-drop}
 use Rattle.machine.specs.Rules.{inForce}
 use Rattle.machine.specs.Limits.{maxLiving, maxTime}
-use Rattle.machine.specs.Transaction.{Transaction, Event, earlier}
+use Rattle.machine.specs.Transaction.{Transaction, Event, Gatherer, earlier}
 use Rattle.machine.specs.Lists.{insert, nth}
 use Rattle.machine.specs.Term.{Queue, emptyQueue, serverAt, queueAt, idleServer, free, compare}
-use Rattle.machine.specs.Block.{Code, Share, facility, storage, shareServer, shareUnits, shareHolder, Change, up, down, Block, generate, advance, terminate, takes, frees, waitServer, waitTerms, moves, assign, priority, split, counts, BlockModel, status}
+use Rattle.machine.specs.Block.{Code, Share, facility, storage, shareServer, shareUnits, shareHolder, Change, up, down, Block, generate, advance, terminate, takes, frees, waitServer, waitTerms, moves, assign, priority, split, counts, assemble, BlockModel, status}
 use Rattle.machine.specs.State.{State}
-use Rattle.machine.specs.Setters.{withSerial, setSerial, setMoving}
-use Rattle.machine.specs.Moves.{moveTo, fresh, toRel, toFel, toQl, toWel, toWsl, wakeQl, wakeFirstWel, wakeWsl, setUse, setContent, timesLeft, arrival, copies}
-use Rattle.machine.specs.Execute.{unless, living, askGenerate, question, checkWels, endsOne, delay, wakeFor, changed}
+use Rattle.machine.specs.Setters.{withSerial, setSerial, setMoving, setEnded, setGatherers}
+use Rattle.machine.specs.Moves.{moveTo, fresh, toRel, toFel, toQl, toWel, toWsl, wakeQl, wakeFirstWel, wakeWsl, setUse, setContent, timesLeft, arrival, copies, waitsFor, toGatherers, comes, released}
+use Rattle.machine.specs.Execute.{unless, living, askGenerate, question, checkWels, endsOne, delay, wakeFor, changed, gathers, gathering}
 use Rattle.machine.specs.Turn.{wsScheme}
 use Rattle.machine.proofs.Ahead.{rising-insert}
 use Rattle.machine.proofs.Kept.{changed-most}
@@ -28,7 +28,7 @@ use Rattle.machine.proofs.Shape.{each-getD}
 use Rattle.machine.proofs.Sorted.{each-insert, at-set}
 use Rattle.machine.proofs.Clocks.{Samples}
 use Rattle.machine.proofs.Cases.{checkWels-kept, wsScheme-cases}
-use Rattle.state.specs.Bare.{Bare, waiting, bare}
+use Rattle.state.specs.Bare.{Bare, entering, goingBack, beginning, waiting, bare}
 use Rattle.state.proofs.Gains.{each-set, serverSums, queueSums, more, Gains, gains-trans, gains-most}
 
 -- ---- Moves that leave servers, queues and times
@@ -220,6 +220,26 @@ gains-waitWsl : (t : Transaction) (s : State) → Gains 0 1 0 s (waiting toWsl t
 unfolding toWsl
 gains-waitWsl = gains-waiting toWsl (λ t s. still s _ refl refl refl refl refl refl refl refl refl refl)
 
+-- ---- Gathering
+
+gains-gatherers : (l : List (List Gatherer)) (s : State) → Gains 0 0 0 s (setGatherers l s)
+gains-gatherers l s = still s _ refl refl refl refl refl refl refl refl refl refl
+
+gains-gather : (t : Transaction) (s : State) → Gains 0 1 0 s (beginning toGatherers t s .state)
+unfolding toGatherers
+gains-gather t s = gains-trans (gains-fresh s) (gains-gatherers _ (setSerial (fresh s) s))
+
+gains-ended : (s : State) → Gains 0 0 0 s (setEnded (suc (s .ended)) s)
+gains-ended s =
+    same-counts 0 0 s _ refl refl refl refl refl refl (omega arith) (omega arith) (omega arith) (omega arith) (omega arith)
+
+gains-gathers : (n : ℕ) (g : Gatherer) (t : Transaction) (s : State) → Gains 0 1 0 s (gathers n g t s)
+unfolding gathers released comes
+gains-gathers n g t s =
+    cond-cases (Gains 0 1 0 s) (eqb (suc (g .come)) n) _ _
+    (λ e. gains-trans (gains-ended s) (gains-trans (gains-gatherers _ (setEnded (suc (s .ended)) s)) (gains-toRel _ _)))
+    (λ e. gains-most 0 1 0 (omega arith) (omega arith) (omega arith) (gains-trans (gains-ended s) (gains-gatherers _ (setEnded (suc (s .ended)) s))))
+
 -- ---- Each kind
 
 -- a block's gains, where its question was answered with yes
@@ -288,3 +308,9 @@ bare-gains m (split n target) t s o ok asked =
     }
 bare-gains m (counts c q) t s o ok asked =
     moderate (omega arith) (omega arith) (on _ t (gains-content q 1 (changed c) (changed-most c) s))
+bare-gains m (assemble n) t s o ok asked = gathers-moderate (waitsFor t s)
+  where
+    gathers-moderate : (l : List Gatherer)
+        → Moderate s (gathering (λ f. entering (f s)) (λ put. waiting put t s) (λ f. goingBack (f s)) (λ put. beginning put t s) l n t .state)
+    gathers-moderate [] = moderate (omega arith) (omega arith) (gains-gather t s)
+    gathers-moderate (g ∷ l) = moderate (omega arith) (omega arith) (gains-gathers n g t s)

@@ -3,19 +3,23 @@ use Prim.Native.Nat.{ℕ, _+_, _-_, _≤_, _<_}
 use mathlib.Core.Path.{_≡_, refl, sym, ap, _∙_}
 use mathlib.Core.Logic.{_≢_}
 use mathlib.Core.Bool.{Bool, true, false, cond}
-use mathlib.Core.List.{List, []}
+use mathlib.Core.List.{List, [], map}
 use native.Mathlib.Omega.{arith}
-use borrow.Author.Tests.{lt-ltb, le-ltb, ltb-true, ltb-false, eqb-true, eqb-false}
+use borrow.Author.Tests.{lt-ltb, le-ltb, ltb-true, ltb-false, eqb-true, eqb-false, ne-eqb}
 use lib.Dec.{ltb, eqb}
 use lib.ListN.{length, getD, set}
 use lib.Seq.{getD-set-same, getD-set-other}
-use Rattle.machine.specs.Transaction.{Transaction}
+use Rattle.machine.specs.Transaction.{Transaction, Gatherer}
 use Rattle.machine.specs.State.{State}
-use Rattle.machine.specs.Setters.{setQl, setWel, setWsl, setRel}
+use Rattle.machine.specs.Setters.{setQl, setWel, setWsl, setRel, setGatherers}
 use Rattle.rows.specs.Layout.{wsl, rel}
 use Rattle.rows.specs.Holds.{update}
 use Rattle.rows.specs.Shows.{moved}
-use Rattle.state.specs.Stands.{listsOf}
+use Rattle.state.specs.Stands.{gathererRow, listsOf}
+
+-- REL and the gatherers
+abbrev above : State → ℕ → List Transaction
+above s q = cond (eqb q 449) (s .rel) (map gathererRow (getD (s .gatherers) (q - 450) []))
 
 -- ---- What stands under a number
 
@@ -37,6 +41,12 @@ pub lists-rel : (s : State) → listsOf s rel ≡ s .rel
 unfolding listsOf
 lists-rel s = refl
 
+pub lists-gatherers : (s : State) (i : ℕ) → i < 256 → listsOf s (450 + i) ≡ map gathererRow (getD (s .gatherers) i [])
+unfolding listsOf
+lists-gatherers s i h =
+    let back : 450 + i - 450 ≡ i = omega arith in
+    rw (le-ltb (450 + i) 64 (omega arith), le-ltb (450 + i) 448 (omega arith), ne-eqb (450 + i) 448 (λ e. omega arith), ne-eqb (450 + i) 449 (λ e. omega arith), back)
+
 -- ---- One list replaced
 
 pub lists-set-ql : (s : State) (i : ℕ) (l : List Transaction) → i < 64 → i < length (s .ql) → (q : ℕ) → update i l (listsOf s) q ≡ listsOf (setQl (set (s .ql) i l) s) q
@@ -44,8 +54,8 @@ unfolding listsOf
 lists-set-ql s i l h len q = go (eqb q i) refl (ltb q 64) refl
   where
     go : (b : Bool) → eqb q i ≡ b → (c : Bool) → ltb q 64 ≡ c
-        → cond b l (cond c (getD (s .ql) q []) (cond (ltb q 448) (getD (s .wel) (q - 64) []) (cond (eqb q 448) (s .wsl) (s .rel))))
-        ≡ cond c (getD (set (s .ql) i l) q []) (cond (ltb q 448) (getD (s .wel) (q - 64) []) (cond (eqb q 448) (s .wsl) (s .rel)))
+        → cond b l (cond c (getD (s .ql) q []) (cond (ltb q 448) (getD (s .wel) (q - 64) []) (cond (eqb q 448) (s .wsl) (above s q))))
+        ≡ cond c (getD (set (s .ql) i l) q []) (cond (ltb q 448) (getD (s .wel) (q - 64) []) (cond (eqb q 448) (s .wsl) (above s q)))
     go true e true f = rw (eqb-true q i e) (sym (getD-set-same (s .ql) i l [] len))
     go true e false f = absurd (omega (arith, eqb-true q i e, ltb-false q 64 f))
     go false e true f = sym (getD-set-other (s .ql) i q l [] (eqb-false q i e))
@@ -56,8 +66,8 @@ unfolding listsOf
 lists-set-wel s i l h len q = go (eqb q (64 + i)) refl (ltb q 64) refl (ltb q 448) refl
   where
     go : (b : Bool) → eqb q (64 + i) ≡ b → (c : Bool) → ltb q 64 ≡ c → (d : Bool) → ltb q 448 ≡ d
-        → cond b l (cond c (getD (s .ql) q []) (cond d (getD (s .wel) (q - 64) []) (cond (eqb q 448) (s .wsl) (s .rel))))
-        ≡ cond c (getD (s .ql) q []) (cond d (getD (set (s .wel) i l) (q - 64) []) (cond (eqb q 448) (s .wsl) (s .rel)))
+        → cond b l (cond c (getD (s .ql) q []) (cond d (getD (s .wel) (q - 64) []) (cond (eqb q 448) (s .wsl) (above s q))))
+        ≡ cond c (getD (s .ql) q []) (cond d (getD (set (s .wel) i l) (q - 64) []) (cond (eqb q 448) (s .wsl) (above s q)))
     go true e true f d g = absurd (omega (arith, eqb-true q (64 + i) e, ltb-true q 64 f))
     go true e false f true g =
         let back : q - 64 ≡ i = omega (arith, eqb-true q (64 + i) e) in
@@ -73,37 +83,57 @@ unfolding listsOf
 lists-set-wsl s l q = go (eqb q 448) refl (ltb q 64) refl (ltb q 448) refl
   where
     go : (b : Bool) → eqb q 448 ≡ b → (c : Bool) → ltb q 64 ≡ c → (d : Bool) → ltb q 448 ≡ d
-        → cond b l (cond c (getD (s .ql) q []) (cond d (getD (s .wel) (q - 64) []) (cond b (s .wsl) (s .rel))))
-        ≡ cond c (getD (s .ql) q []) (cond d (getD (s .wel) (q - 64) []) (cond b l (s .rel)))
+        → cond b l (cond c (getD (s .ql) q []) (cond d (getD (s .wel) (q - 64) []) (cond b (s .wsl) (above s q))))
+        ≡ cond c (getD (s .ql) q []) (cond d (getD (s .wel) (q - 64) []) (cond b l (above s q)))
     go true e true f d g = absurd (omega (arith, eqb-true q 448 e, ltb-true q 64 f))
     go true e false f true g = absurd (omega (arith, eqb-true q 448 e, ltb-true q 448 g))
     go true e false f false g = refl
     go false e c f d g = refl
 
-high : (q : ℕ) → q < 450 → 448 ≤ q → q ≢ 448 → q ≢ 449 → ⊥
-high q h g a b = omega arith
-
-pub lists-set-rel : (s : State) (l : List Transaction) (q : ℕ) → q < 450 → update rel l (listsOf s) q ≡ listsOf (setRel l s) q
+pub lists-set-rel : (s : State) (l : List Transaction) (q : ℕ) → q < 706 → update rel l (listsOf s) q ≡ listsOf (setRel l s) q
 unfolding listsOf
 lists-set-rel s l q h = go (eqb q 449) refl (ltb q 64) refl (ltb q 448) refl (eqb q 448) refl
   where
+    G : List Transaction
+    G = map gathererRow (getD (s .gatherers) (q - 450) [])
+
     go : (b : Bool) → eqb q 449 ≡ b → (c : Bool) → ltb q 64 ≡ c → (d : Bool) → ltb q 448 ≡ d → (e : Bool) → eqb q 448 ≡ e
-        → cond b l (cond c (getD (s .ql) q []) (cond d (getD (s .wel) (q - 64) []) (cond e (s .wsl) (s .rel))))
-        ≡ cond c (getD (s .ql) q []) (cond d (getD (s .wel) (q - 64) []) (cond e (s .wsl) l))
+        → cond b l (cond c (getD (s .ql) q []) (cond d (getD (s .wel) (q - 64) []) (cond e (s .wsl) (cond b (s .rel) G))))
+        ≡ cond c (getD (s .ql) q []) (cond d (getD (s .wel) (q - 64) []) (cond e (s .wsl) (cond b l G)))
     go true i true f d g e j = absurd (omega (arith, eqb-true q 449 i, ltb-true q 64 f))
     go true i false f true g e j = absurd (omega (arith, eqb-true q 449 i, ltb-true q 448 g))
     go true i false f false g true j = absurd (omega (arith, eqb-true q 449 i, eqb-true q 448 j))
     go true i false f false g false j = refl
-    go false i true f d g e j = refl
-    go false i false f true g e j = refl
-    go false i false f false g true j = refl
-    go false i false f false g false j =
-        let a : q ≢ 448 = eqb-false q 448 j in
-        let b : q ≢ 449 = eqb-false q 449 i in
-        absurd (high q h (ltb-false q 448 g) a b)
+    go false i c f d g e j = refl
+
+pub lists-set-gatherers : (s : State) (i : ℕ) (l : List Gatherer) → i < 256 → i < length (s .gatherers) → (q : ℕ)
+    → update (450 + i) (map gathererRow l) (listsOf s) q ≡ listsOf (setGatherers (set (s .gatherers) i l) s) q
+unfolding listsOf
+lists-set-gatherers s i l h len q = go (eqb q (450 + i)) refl (ltb q 64) refl (ltb q 448) refl (eqb q 448) refl (eqb q 449) refl
+  where
+    go : (b : Bool) → eqb q (450 + i) ≡ b → (c : Bool) → ltb q 64 ≡ c → (d : Bool) → ltb q 448 ≡ d → (e : Bool) → eqb q 448 ≡ e → (f : Bool) → eqb q 449 ≡ f
+        → cond b (map gathererRow l) (cond c (getD (s .ql) q []) (cond d (getD (s .wel) (q - 64) []) (cond e (s .wsl) (cond f (s .rel) (map gathererRow (getD (s .gatherers) (q - 450) []))))))
+        ≡ cond c (getD (s .ql) q []) (cond d (getD (s .wel) (q - 64) []) (cond e (s .wsl) (cond f (s .rel) (map gathererRow (getD (set (s .gatherers) i l) (q - 450) [])))))
+    go true x true y d z e u f v = absurd (omega (arith, eqb-true q (450 + i) x, ltb-true q 64 y))
+    go true x false y true z e u f v = absurd (omega (arith, eqb-true q (450 + i) x, ltb-true q 448 z))
+    go true x false y false z true u f v = absurd (omega (arith, eqb-true q (450 + i) x, eqb-true q 448 u))
+    go true x false y false z false u true v = absurd (omega (arith, eqb-true q (450 + i) x, eqb-true q 449 v))
+    go true x false y false z false u false v =
+        let back : q - 450 ≡ i = omega (arith, eqb-true q (450 + i) x) in
+        rw back (ap (map gathererRow) (sym (getD-set-same (s .gatherers) i l [] len)))
+    go false x true y d z e u f v = refl
+    go false x false y true z e u f v = refl
+    go false x false y false z true u f v = refl
+    go false x false y false z false u true v = refl
+    go false x false y false z false u false v =
+        ap (map gathererRow)
+        (sym (getD-set-other (s .gatherers) i (q - 450) l [] (λ k. eqb-false q (450 + i) x (beyond (ltb-false q 448 z) (eqb-false q 448 u) (eqb-false q 449 v) k))))
+      where
+        beyond : 448 ≤ q → q ≢ 448 → q ≢ 449 → q - 450 ≡ i → q ≡ 450 + i
+        beyond low a b k = omega arith
 
 -- ---- One list replaced, and REL
 
-pub lists-moved : (s s′ : State) (p : ℕ) (l r : List Transaction) → ((q : ℕ) → q < 450 → update p l (listsOf s) q ≡ listsOf s′ q) → (q : ℕ) → q < 450 → moved p l r (listsOf s) q ≡ listsOf (setRel r s′) q
+pub lists-moved : (s s′ : State) (p : ℕ) (l r : List Transaction) → ((q : ℕ) → q < 706 → update p l (listsOf s) q ≡ listsOf s′ q) → (q : ℕ) → q < 706 → moved p l r (listsOf s) q ≡ listsOf (setRel r s′) q
 lists-moved s s′ p l r e q hq =
     ap (λ (x : List Transaction). cond (eqb q rel) r x) (e q hq) ∙ lists-set-rel s′ r q hq

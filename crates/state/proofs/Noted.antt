@@ -5,17 +5,17 @@ use mathlib.Core.Path.{_≡_, refl, sym, ap, _∙_}
 use mathlib.Core.Bool.{Bool, true, false, cond, _&&_}
 use mathlib.Core.List.{List, [], _∷_}
 use mathlib.Core.Option.{none}
-use lib.Dec.{leb, ltb}
-use Rattle.machine.specs.Transaction.{Transaction}
+use lib.Dec.{leb, ltb, eqb}
+use Rattle.machine.specs.Transaction.{Transaction, Gatherer}
 use Rattle.machine.specs.Term.{serverAt, free, compare}
-use Rattle.machine.specs.Block.{Code, U, NU, E, NE, F, NF, status, facility, storage, shareServer, shareUnits, shareHolder, Block, generate, advance, terminate, takes, frees, waitServer, waitTerms, moves, assign, priority, split, counts, BlockModel}
+use Rattle.machine.specs.Block.{Code, U, NU, E, NE, F, NF, status, facility, storage, shareServer, shareUnits, shareHolder, Block, generate, advance, terminate, takes, frees, waitServer, waitTerms, moves, assign, priority, split, counts, assemble, BlockModel}
 use Rattle.machine.specs.State.{State}
-use Rattle.machine.specs.Setters.{withSerial, setSerial, setMoving, setMade}
+use Rattle.machine.specs.Setters.{withSerial, setSerial, setMoving, setMade, setEnded}
 use Rattle.machine.specs.Bundle.{everything}
-use Rattle.machine.specs.Moves.{recordOf, log, enters, fresh, moveTo, goOn, mustWait, toRel, toQl, toWel, toWsl, firstOf, wakeQl, wakeFirstWel, setUse, timesLeft, arrival, copyOf, copies}
-use Rattle.machine.specs.Execute.{effect, checkWel, checkWels, freeUnits, wakeFor, delay}
+use Rattle.machine.specs.Moves.{recordOf, log, enters, fresh, moveTo, goOn, mustWait, toRel, toQl, toWel, toWsl, firstOf, wakeQl, wakeFirstWel, setUse, timesLeft, arrival, copyOf, copies, beginWait, waitsFor, toGatherers, comes, released}
+use Rattle.machine.specs.Execute.{effect, checkWel, checkWels, freeUnits, wakeFor, delay, gathers, gathering}
 use Rattle.machine.specs.Turn.{answer}
-use Rattle.state.specs.Bare.{Bare, Note, enteredNote, waitsNote, noNote, entering, waiting, bare, bareAnswer, logged, countEntry, noteAs, noted}
+use Rattle.state.specs.Bare.{Bare, Note, enteredNote, waitsNote, noNote, entering, goingBack, beginning, waiting, bare, bareAnswer, logged, countEntry, noteAs, noted}
 
 module _ (t : Transaction) (s : State) where
   -- the note of an entry
@@ -55,25 +55,46 @@ module _ (t : Transaction) (s : State) where
   copies-N zero target x = refl
   copies-N (suc n) target x = copies-N n target (toRel (copyOf t (suc (x .made)) target) (setMade (suc (x .made)) x))
 
+  -- the beginning of a wait, onto any list whose putting does not look at the records
+  beginning-noted : (put : Transaction → State → State)
+      → ((u : Transaction) (x : State) → put u (logged 1 t s x) ≡ logged 1 t s (put u x)) → noted t s (beginning put t s) ≡ beginWait put t s
+  unfolding noteAs
+  beginning-noted put commutes = sym (commutes (withSerial (fresh s) t) (setSerial (fresh s) s)) ∙ ap (put (withSerial (fresh s) t)) log-logged
+    where
+      log-logged : logged 1 t s (setSerial (fresh s) s) ≡ setSerial (fresh s) (log 1 t s)
+      log-logged = unfold logged log in refl
+
+  -- a later one of a family
+  gathers-N : (n : ℕ) (g : Gatherer) (x : State) → gathers n g t (N x) ≡ N (gathers n g t x)
+  unfolding everything logged countEntry
+  gathers-N n g x = go (eqb (suc (g .come)) n)
+    where
+      go : (b : Bool)
+          → cond b (released g t (setEnded (suc (N x .ended)) (N x))) (comes g t (setEnded (suc (N x .ended)) (N x)))
+          ≡ N (cond b (released g t (setEnded (suc (x .ended)) x)) (comes g t (setEnded (suc (x .ended)) x)))
+      go true = unfold everything logged countEntry in refl
+      go false = unfold everything logged countEntry in refl
+
   -- a wait, onto any list whose putting does not look at the records
   waiting-noted : (put : Transaction → State → State)
       → ((u : Transaction) (x : State) → put u (logged 1 t s x) ≡ logged 1 t s (put u x)) → noted t s (waiting put t s) ≡ mustWait put t s
   unfolding mustWait waiting noteAs
   waiting-noted put commutes = go (t .returning)
     where
-      go : (b : Bool)
-          → noted t s (cond b (record { note = noNote; state = put t s }) (record { note = waitsNote; state = put (withSerial (fresh s) t) (setSerial (fresh s) s) }))
-          ≡ cond b (put t s) (put (withSerial (fresh s) t) (setSerial (fresh s) (log 1 t s)))
-      go true = refl
-      go false = sym (commutes (withSerial (fresh s) t) (setSerial (fresh s) s)) ∙ ap (put (withSerial (fresh s) t)) (log-logged)
-        where
-          log-logged : logged 1 t s (setSerial (fresh s) s) ≡ setSerial (fresh s) (log 1 t s)
-          log-logged = unfold logged log in refl
+      go : (b : Bool) → noted t s (cond b (record { note = noNote; state = put t s }) (beginning put t s)) ≡ cond b (put t s) (beginWait put t s)
+      go true = unfold noteAs in refl
+      go false = beginning-noted put commutes
 
   -- an entry whose effect does not look at the note
   entered-noted : (f : State → State) → f (N s) ≡ N (f s) → noted t s (entering (f s)) ≡ f (enters t s)
   unfolding everything noteAs logged countEntry
   entered-noted f commutes = sym commutes
+
+  gathering-noted : (n : ℕ) (l : List Gatherer)
+      → noted t s (gathering (λ f. entering (f s)) (λ put. waiting put t s) (λ f. goingBack (f s)) (λ put. beginning put t s) l n t)
+      ≡ gathering (λ f. f (enters t s)) (λ put. mustWait put t s) (λ f. f s) (λ put. beginWait put t s) l n t
+  gathering-noted n [] = beginning-noted toGatherers (λ u x. unfold toGatherers logged in refl)
+  gathering-noted n (g ∷ l) = entered-noted (gathers n g t) (gathers-N n g s)
 
   noted-cond : (c : Bool) (x y : Bare) (x′ y′ : State) → noted t s x ≡ x′ → noted t s y ≡ y′ → noted t s (cond c x y) ≡ cond c x′ y′
   noted-cond true x y x′ y′ h k = h
@@ -110,6 +131,7 @@ module _ (m : BlockModel) (t : Transaction) (s : State) where
   noted-effect (priority p) = refl
   noted-effect (split n target) = sym (ap (goOn t) (copies-N t s n target s))
   noted-effect (counts c q) = refl
+  noted-effect (assemble n) = gathering-noted t s n (waitsFor t s)
 
 -- a record reads only the clock of the state in which t stood
 note-moving : (n : Note) (t : Transaction) (s x : State) → noteAs n t s x ≡ noteAs n t (setMoving none s) x

@@ -6,7 +6,7 @@ use mathlib.Core.Option.{Option, none, some}
 use native.Mathlib.Omega.{arith}
 use borrow.Author.Tests.{eq-eqb}
 use lib.Dec.{eqb}
-use Rattle.machine.specs.Transaction.{Transaction, Event}
+use Rattle.machine.specs.Transaction.{Transaction, Event, Gatherer}
 use Rattle.machine.specs.Lists.{flat}
 use Rattle.machine.specs.Block.{BlockModel}
 use Rattle.machine.specs.State.{State}
@@ -27,20 +27,21 @@ each-number P (x ∷ l) h = (
   each-number P l (λ n p. h n (omega (arith, count-cons (λ t. eqb (t .number) n) x l))),
 )
 
-module _ (P : Transaction → Type 0) where
-  each-left : (k l : List Transaction) → Each P (k ++ l) → Each P k
+module _ {A : Type 0} (P : A → Type 0) where
+  each-left : (k l : List A) → Each P (k ++ l) → Each P k
   each-left [] l h = tt
   each-left (x ∷ k) l h = (h .0, each-left k l (h .1))
 
-  each-right : (k l : List Transaction) → Each P (k ++ l) → Each P l
+  each-right : (k l : List A) → Each P (k ++ l) → Each P l
   each-right [] l h = h
   each-right (x ∷ k) l h = each-right k l (h .1)
 
-  each-flat : (ls : List (List Transaction)) → Each P (flat ls) → Each (Each P) ls
+  each-flat : (ls : List (List A)) → Each P (flat ls) → Each (Each P) ls
   unfolding flat
   each-flat [] h = tt
   each-flat (l ∷ ls) h = (each-left l (flat ls) h, each-flat ls (each-right l (flat ls) h))
 
+module _ (P : Transaction → Type 0) where
   each-moving : (o : Option Transaction) → Each P (movingOne o) → Maybe P o
   unfolding movingOne
   each-moving none h = tt
@@ -49,21 +50,23 @@ module _ (P : Transaction → Type 0) where
   each-everyone : (s : State) → Each P (everyone s) → Everybody P s
   unfolding everyone
   each-everyone s h =
-      let h1 = each-left (flat (s .ql) ++ flat (s .wel) ++ s .wsl ++ s .rel ++ map (λ (e : Event). e .who) (s .fel)) (movingOne (s .moving)) h in
-      let h2 = each-left (flat (s .ql) ++ flat (s .wel) ++ s .wsl ++ s .rel) (map (λ (e : Event). e .who) (s .fel)) h1 in
-      let h3 = each-left (flat (s .ql) ++ flat (s .wel) ++ s .wsl) (s .rel) h2 in
-      let h4 = each-left (flat (s .ql) ++ flat (s .wel)) (s .wsl) h3 in
+      let fel = map (λ (e : Event). e .who) (s .fel) in
+      let gatherers = map (λ (g : Gatherer). g .who) (flat (s .gatherers)) in
+      let h0 = each-left P (flat (s .ql) ++ flat (s .wel) ++ s .wsl ++ s .rel ++ fel ++ movingOne (s .moving)) gatherers h in
+      let h1 = each-left P (flat (s .ql) ++ flat (s .wel) ++ s .wsl ++ s .rel ++ fel) (movingOne (s .moving)) h0 in
+      let h2 = each-left P (flat (s .ql) ++ flat (s .wel) ++ s .wsl ++ s .rel) fel h1 in
+      let h3 = each-left P (flat (s .ql) ++ flat (s .wel) ++ s .wsl) (s .rel) h2 in
+      let h4 = each-left P (flat (s .ql) ++ flat (s .wel)) (s .wsl) h3 in
       record {
-        ql = each-flat (s .ql) (each-left (flat (s .ql)) (flat (s .wel)) h4);
-        wel = each-flat (s .wel) (each-right (flat (s .ql)) (flat (s .wel)) h4);
-        wsl = each-right (flat (s .ql) ++ flat (s .wel)) (s .wsl) h3;
-        rel = each-right (flat (s .ql) ++ flat (s .wel) ++ s .wsl) (s .rel) h2;
-        fel =
-            each-mapped (λ (e : Event). e .who) P (s .fel)
-            (each-right (flat (s .ql) ++ flat (s .wel) ++ s .wsl ++ s .rel) (map (λ (e : Event). e .who) (s .fel)) h1);
-        moving =
-            each-moving (s .moving)
-            (each-right (flat (s .ql) ++ flat (s .wel) ++ s .wsl ++ s .rel ++ map (λ (e : Event). e .who) (s .fel)) (movingOne (s .moving)) h);
+        ql = each-flat P (s .ql) (each-left P (flat (s .ql)) (flat (s .wel)) h4);
+        wel = each-flat P (s .wel) (each-right P (flat (s .ql)) (flat (s .wel)) h4);
+        wsl = each-right P (flat (s .ql) ++ flat (s .wel)) (s .wsl) h3;
+        rel = each-right P (flat (s .ql) ++ flat (s .wel) ++ s .wsl) (s .rel) h2;
+        fel = each-mapped (λ (e : Event). e .who) P (s .fel) (each-right P (flat (s .ql) ++ flat (s .wel) ++ s .wsl ++ s .rel) fel h1);
+        gatherers =
+            each-flat (λ (g : Gatherer). P (g .who)) (s .gatherers)
+            (each-mapped (λ (g : Gatherer). g .who) P (flat (s .gatherers)) (each-right P (flat (s .ql) ++ flat (s .wel) ++ s .wsl ++ s .rel ++ fel ++ movingOne (s .moving)) gatherers h));
+        moving = each-moving (s .moving) (each-right P (flat (s .ql) ++ flat (s .wel) ++ s .wsl ++ s .rel ++ fel) (movingOne (s .moving)) h0);
       }
 
 abbrev pub Numbered : ℕ → Transaction → Type 0

@@ -6,10 +6,10 @@ use native.Mathlib.Omega.{arith}
 use lib.ListN.{length, replicate, length-append, length-map, getD}
 use Rattle.machine.specs.Rules.{Rules, inForce}
 use Rattle.machine.specs.Limits.{maxSerial, maxTurns}
-use Rattle.machine.specs.Transaction.{Transaction}
+use Rattle.machine.specs.Transaction.{Transaction, Gatherer}
 use Rattle.machine.specs.Lists.{flat, nth}
 use Rattle.machine.specs.Term.{Server, Queue, idleServer, emptyQueue}
-use Rattle.machine.specs.Block.{Block, BlockModel}
+use Rattle.machine.specs.Block.{Block, BlockModel, facts, blockAt}
 use Rattle.machine.specs.State.{State}
 use Rattle.machine.specs.Setters.{setTurns, setEnd}
 use Rattle.machine.specs.Turn.{taking, turn}
@@ -21,7 +21,7 @@ use Rattle.machine.proofs.RunLaws.{each-map, each-pair}
 use Rattle.machine.proofs.Cases.{startOf-cases}
 use Rattle.machine.proofs.Kept.{taking-kept}
 use Rattle.machine.proofs.Shape.{Shape, shape-closed, shape-turn, shape-start, each-getD}
-use Rattle.machine.proofs.Everybody.{Everybody, Unmoved, taking-everybody}
+use Rattle.machine.proofs.Everybody.{Everybody, Unmoved, taking-everybody, like}
 use Rattle.machine.proofs.Placed.{Placed, placed-turn, placed-start}
 use Rattle.machine.proofs.Waiting.{Waits}
 use Rattle.machine.proofs.WaitsKept.{waits-taken, waits-kept, waits-start}
@@ -34,6 +34,7 @@ use Rattle.state.proofs.Gains.{each-set, serverSums, queueSums, Gains, 
 use Rattle.state.proofs.BlockGains.{gains-none, gains-arrival}
 use Rattle.state.proofs.TurnGains.{Turned, unnoted, noted, turned}
 use Rattle.state.proofs.Measured.{ServerBound, QueueBound, Measured, measured-gains, measured-like, units-small, Took, took}
+use Rattle.machine.proofs.Gathering.{Gathering, gathering-turn, gathering-start, come-below, taking-gatherers}
 
 -- the state in which the block of a turn finds the machine
 abbrev pub takenOf : State → State
@@ -83,10 +84,18 @@ measured-of {s = s} h ahead =
     L : Server → Type 0
     L v = v .longest ≤ 1024
 
+-- fewer have come to each ASSEMBLE than it gathers
+abbrev ComeIn : BlockModel → List (List Gatherer) → Type 0
+ComeIn m gatherers =
+    (b : ℕ) → 1 ≤ b → 0 < facts (blockAt m b) .gathers → Each (λ g. g .come < facts (blockAt m b) .gathers) (nth gatherers b [])
+
+abbrev Come : BlockModel → State → Type 0
+Come m s = ComeIn m (s .gatherers)
+
 module _ {m : BlockModel} {n : ℕ} (s : State) (shape : Shape m s) (placed : Everybody (Placed m) s) (waits : Waits m s) (timely : Timely (inForce .maxClock) s) (h : Measured n s) where
-  sane-of : m .rules ≡ inForce → n ≤ s .turns → s .serial ≤ 100000000 → s .ended ≤ s .made → s .made - s .ended ≤ 1024 → s .turns ≤ maxTurns + 1
+  sane-of : m .rules ≡ inForce → Come m s → n ≤ s .turns → s .serial ≤ 100000000 → s .ended ≤ s .made → s .made - s .ended ≤ 1024 → s .turns ≤ maxTurns + 1
       → Each (λ (e : ℕ). e ≤ s .turns) (s .view .entries) → Each (λ (l : List Transaction). length l ≤ 1024) (s .ql) → Sane m s
-  sane-of rules few serials ended living turns entries waiting =
+  sane-of rules come few serials ended living turns entries waiting =
       record {
         rules = rules;
         shape = shape;
@@ -102,6 +111,7 @@ module _ {m : BlockModel} {n : ℕ} (s : State) (shape : Shape m s) (placed : Ev
         counter = h .counter;
         entries = entries;
         contents = each-map (λ q (le : q .content ≤ n). omega arith) (s .view .queues) (h .contents);
+        come = come;
         waiting = waiting;
         unit-ticks = each-map (λ v (b : ServerBound (s .view .clock) (serverSums v)). b .0) (s .view .servers) (h .servers);
         wait-ticks = each-map (λ v (b : ServerBound (s .view .clock) (serverSums v)). b .1) (s .view .servers) (h .servers);
@@ -184,6 +194,7 @@ pub record Sure (m : BlockModel) (tape : List (List ℕ)) (s : State) : Type 0 w
   pub sane : Sane m s
   pub ahead : Ahead s
   pub sound : Sound m tape s
+  pub gathering : Gathering m tape s
 
 module _ {m : BlockModel} {tape : List (List ℕ)} (proper : Proper m tape) (s : State) (h : Sure m tape s) (going : s .end ≡ 0) (serials : s .serial ≤ maxSerial) (turns : s .turns < maxTurns) where
   abbrev hs : Sane m s
@@ -206,7 +217,7 @@ module _ {m : BlockModel} {tape : List (List ℕ)} (proper : Proper m tape) (s :
   taken-placed =
       let U : Unmoved (Placed m) = record { mark = λ b t p. p; serial = λ n t p. p } in
       let k : Everybody (Placed m) (taking (s .moving) s) = taking-everybody (Placed m) U (s .moving) s (hs .placed) in
-      record { ql = k .ql; wel = k .wel; wsl = k .wsl; rel = k .rel; fel = k .fel; moving = k .moving }
+      record { ql = k .ql; wel = k .wel; wsl = k .wsl; rel = k .rel; fel = k .fel; gatherers = k .gatherers; moving = k .moving }
 
   taken-timely : Timely (inForce .maxClock) (takenOf s)
   taken-timely =
@@ -222,10 +233,14 @@ module _ {m : BlockModel} {tape : List (List ℕ)} (proper : Proper m tape) (s :
   taken-serials : takenOf s .serial ≤ maxSerial + 1024
   taken-serials = omega (arith, taken-took .serials, fel-few)
 
+  -- the taking gathers nobody
+  taken-come : Come m (takenOf s)
+  taken-come = subst (ComeIn m) (sym (taking-gatherers (s .moving) s)) (hs .come)
+
   -- of the state in which the block of a taken turn finds the machine
   pub sane-taken : Sane m (takenOf s)
   sane-taken =
-      sane-of (takenOf s) taken-shape taken-placed (waits-taken m s going (hs .waits)) taken-timely taken-measured (hs .rules) (omega arith) (omega (arith, taken-serials))
+      sane-of (takenOf s) taken-shape taken-placed (waits-taken m s going (hs .waits)) taken-timely taken-measured (hs .rules) taken-come (omega arith) (omega (arith, taken-serials))
       (omega (arith, taken-took .made, taken-took .ended, hs .ended)) taken-living (omega arith) (fewer (s .turns) (takenOf s .view .entries) taken-entries)
       (subst (Each (λ (l : List Transaction). length l ≤ 1024)) (sym (taken-took .ql)) (hs .waiting))
 
@@ -238,6 +253,7 @@ module _ {m : BlockModel} {tape : List (List ℕ)} (proper : Proper m tape) (s :
   sure-turn =
       let a : After (s .turns) (takenOf s) (turn m s) = turn-after in
       let sound : Sound m tape (turn m s) = sound-turn m tape proper s (h .sound) in
+      let gathering : Gathering m tape (turn m s) = gathering-turn proper s (h .sound) (hs .placed) (h .gathering) in
       let all : length (places (turn m s)) + turn m s .ended ≡ turn m s .made = stand m tape (turn m s) sound in
       let turned-timely : Timely (inForce .maxClock) (turn m s) =
       subst (λ (q : Rules). Timely (q .maxClock) (turn m s)) (hs .rules)
@@ -245,11 +261,12 @@ module _ {m : BlockModel} {tape : List (List ℕ)} (proper : Proper m tape) (s :
       let few : length (flat (turn m s .ql)) ≤ 1024 = omega (arith, all, parts m tape (turn m s) sound, a .living) in
       record {
         sane =
-            sane-of (turn m s) (shape-turn m s (hs .shape)) (placed-turn m tape proper s (hs .placed)) (waits-kept proper s going (hs .shape) (hs .waits) .0) turned-timely (a .measured) (hs .rules)
+            sane-of (turn m s) (shape-turn m s (hs .shape)) (placed-turn m tape proper s (hs .placed)) (waits-kept proper s going (hs .shape) (hs .waits) .0) turned-timely (a .measured) (hs .rules) (come-below proper (turn m s) gathering)
             (omega (arith, a .turns)) (omega (arith, a .serials, taken-serials)) (omega (arith, all)) (a .living) (omega (arith, a .turns))
             (subst (λ (n : ℕ). Few n (turn m s .view .entries)) (sym (a .turns)) (a .entries)) (each-flat (turn m s .ql) 1024 few);
         ahead = a .measured .ahead;
         sound = sound;
+        gathering = gathering;
       }
 
 -- ---- The start
@@ -310,12 +327,13 @@ module _ {m : BlockModel} {tape : List (List ℕ)} (proper : Proper m tape) (rul
       subst (λ (q : Rules). Timely (q .maxClock) (start m tape)) rules (timely-start m tape proper below) in
       record {
         sane =
-            sane-of (start m tape) (shape-start m tape (proper .tapes)) (placed-start m tape proper) (waits-start m tape .0) started k rules
+            sane-of (start m tape) (shape-start m tape (proper .tapes)) (placed-start m tape proper) (waits-start m tape .0) started k rules (come-below proper (start m tape) (gathering-start proper))
             (omega arith) (omega arith) (omega arith) (omega arith) (omega arith)
             (each-map (λ e (le : e ≤ 0). omega arith) (start m tape .view .entries) (subst (Few 0) (sym (g .entries)) (z .3)))
             (each-flat (start m tape .ql) 1024 (omega (arith, parts m tape (start m tape) sound)));
         ahead = k .ahead;
         sound = sound;
+        gathering = gathering-start proper;
       }
 
 -- ---- The run
@@ -326,7 +344,7 @@ sane-turns n e s more few k =
     record {
       rules = k .rules;
       shape = k .shape;
-      placed = record { ql = k .placed .ql; wel = k .placed .wel; wsl = k .placed .wsl; rel = k .placed .rel; fel = k .placed .fel; moving = k .placed .moving };
+      placed = record { ql = k .placed .ql; wel = k .placed .wel; wsl = k .placed .wsl; rel = k .placed .rel; fel = k .placed .fel; gatherers = k .placed .gatherers; moving = k .placed .moving };
       waits = k .waits;
       timely = record { clock = k .timely .clock; times = k .timely .times };
       samples = k .samples;
@@ -338,6 +356,7 @@ sane-turns n e s more few k =
       counter = k .counter;
       entries = each-map (λ i (le : i ≤ s .turns). omega arith) (s .view .entries) (k .entries);
       contents = each-map (λ (q : Queue) (le : q .content ≤ s .turns). omega arith) (s .view .queues) (k .contents);
+      come = k .come;
       waiting = k .waiting;
       unit-ticks = k .unit-ticks;
       wait-ticks = k .wait-ticks;
@@ -352,4 +371,9 @@ sure-end m tape s e h =
       sane = sane-turns (s .turns) e s (omega arith) (h .sane .turns) (h .sane);
       ahead = record { later = h .ahead .later; rising = h .ahead .rising };
       sound = record { shape = h .sound .shape; balanced = h .sound .balanced; books = h .sound .books };
+      gathering =
+          record {
+            kindred = like _ (record { mark = λ b t p. p; serial = λ n t p. p }) s (setEnd e s) refl refl refl refl refl refl refl (h .gathering .kindred);
+            gathers = h .gathering .gathers;
+          };
     }

@@ -38,7 +38,7 @@ use Rattle.state.specs.Stands.{Rows, rowsOf, listsOf, Moving, Listing, S
 
 -- a state with the same lists and as many living
 pub listing-ext : (w : List ℕ) (k : ℕ) (o : Option Transaction) (s s′ : State)
-    → ((q : ℕ) → q < 450 → listsOf s q ≡ listsOf s′ q) → s .fel ≡ s′ .fel → s′ .made - s′ .ended ≡ s .made - s .ended
+    → ((q : ℕ) → q < 706 → listsOf s q ≡ listsOf s′ q) → s .fel ≡ s′ .fel → s′ .made - s′ .ended ≡ s .made - s .ended
     → Listing w k o s → Listing w k o s′
 listing-ext w k o s s′ lists future living h =
     record {
@@ -74,7 +74,7 @@ listing-time w k t s time h =
 
 module _ (w : List ℕ) (k : ℕ) (t : Transaction) (s s′ : State) (h : Listing w k (some t) s) (living : s′ .made - s′ .ended ≡ s .made - s .ended) where
   -- the moving row comes onto a list
-  pub listing-put : (p : ℕ) → wsl ≤ p → p < 450 → ((q : ℕ) → q < 450 → update p (insert precedes t (listsOf s p)) (listsOf s) q ≡ listsOf s′ q) → s .fel ≡ s′ .fel
+  pub listing-put : (p : ℕ) → wsl ≤ p → p < 706 → ((q : ℕ) → q < 706 → update p (insert precedes t (listsOf s p)) (listsOf s) q ≡ listsOf s′ q) → s .fel ≡ s′ .fel
       → Listing (put w p k) 1024 none s′
   listing-put p low hp lists future =
       record {
@@ -89,8 +89,8 @@ module _ (w : List ℕ) (k : ℕ) (t : Transaction) (s s′ : State) (h : Listin
       }
 
   -- the moving row comes onto a line of waiters
-  pub listing-line : (edition p : ℕ) → p < 450 → (edition ≡ 1 → Sorted precedes (listsOf s p)) → Sorted (orderOf p) (lineUp edition t (listsOf s p))
-      → ((q : ℕ) → q < 450 → update p (lineUp edition t (listsOf s p)) (listsOf s) q ≡ listsOf s′ q) → s .fel ≡ s′ .fel
+  pub listing-line : (edition p : ℕ) → p < 706 → (edition ≡ 1 → Sorted precedes (listsOf s p)) → Sorted (orderOf p) (lineUp edition t (listsOf s p))
+      → ((q : ℕ) → q < 706 → update p (lineUp edition t (listsOf s p)) (listsOf s) q ≡ listsOf s′ q) → s .fel ≡ s′ .fel
       → Listing (Lines.lineUp edition w p k) 1024 none s′
   listing-line edition p hp sorted stays lists future =
       record {
@@ -105,7 +105,7 @@ module _ (w : List ℕ) (k : ℕ) (t : Transaction) (s s′ : State) (h : Listin
       }
 
   -- the moving row comes onto the FEL
-  pub listing-put-fel : ((q : ℕ) → q < 450 → listsOf s q ≡ listsOf s′ q) → insert earlier (eventAt w k) (s .fel) ≡ s′ .fel
+  pub listing-put-fel : ((q : ℕ) → q < 706 → listsOf s q ≡ listsOf s′ q) → insert earlier (eventAt w k) (s .fel) ≡ s′ .fel
       → Listing (put w fel k) 1024 none s′
   listing-put-fel lists future =
       record {

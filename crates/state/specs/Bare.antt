@@ -31,15 +31,17 @@ entering s = record { note = enteredNote; state = s }
 abbrev pub goingBack : State → Bare
 goingBack s = record { note = noNote; state = s }
 
--- a wait: a fresh serial and a record, unless it is returning
+-- a wait begins: a fresh serial and a record
+abbrev pub beginning : (Transaction → State → State) → Transaction → State → Bare
+beginning put t s = record { note = waitsNote; state = put (withSerial (fresh s) t) (setSerial (fresh s) s) }
+
+-- unless it is returning
 unfoldable pub waiting : (Transaction → State → State) → Transaction → State → Bare
-waiting put t s =
-    cond (t .returning) (record { note = noNote; state = put t s })
-    (record { note = waitsNote; state = put (withSerial (fresh s) t) (setSerial (fresh s) s) })
+waiting put t s = cond (t .returning) (record { note = noNote; state = put t s }) (beginning put t s)
 
 -- the other use of `doing` than `effect`: the entry is not noted yet
 unfoldable pub bare : BlockModel → Block → Transaction → State → Bare
-bare m b t s = doing (λ f. entering (f s)) (λ put. waiting put t s) (λ f. goingBack (f s)) m b t s
+bare m b t s = doing (λ f. entering (f s)) (λ put. waiting put t s) (λ f. goingBack (f s)) (λ put. beginning put t s) m b t s
 
 -- with the question asked first
 unfoldable pub bareAnswer : ℕ → BlockModel → Block → Transaction → State → Bare

@@ -1,13 +1,14 @@
 -- What holds of the machine's states within a turn and lets 32-bit rows and 64-bit sums hold their numbers. These facts are
 -- the machine's own (proofs/ of crate machine and proofs/Sanity.antt); no buffer is spoken of.
-use Prim.Native.Nat.{ℕ, _+_, _*_, _-_, _≤_}
+use Prim.Native.Nat.{ℕ, _+_, _*_, _-_, _≤_, _<_}
 use mathlib.Core.Path.{_≡_}
 use lib.ListN.{length}
 use Rattle.machine.specs.Rules.{inForce}
 use Rattle.machine.specs.Limits.{maxTurns, maxCounter, maxLiving, maxCapacity}
 use Rattle.machine.specs.Term.{Server, Queue}
-use Rattle.machine.specs.Block.{BlockModel}
+use Rattle.machine.specs.Block.{facts, BlockModel, blockAt}
 use Rattle.machine.specs.State.{State}
+use Rattle.machine.specs.Moves.{gatherersAt}
 use Rattle.machine.specs.Claims.{Each}
 use Rattle.machine.proofs.Shape.{Shape}
 use Rattle.machine.proofs.Placed.{Placed}
@@ -32,6 +33,8 @@ pub record Sane (m : BlockModel) (s : State) : Type 0 where
   pub counter : s .counter ≤ maxCounter
   pub entries : Each (λ (n : ℕ). n ≤ s .turns) (s .view .entries)
   pub contents : Each (λ (q : Queue). q .content ≤ s .turns) (s .view .queues)
+  -- fewer have come than the ASSEMBLE gathers
+  pub come : (b : ℕ) → 1 ≤ b → 0 < facts (blockAt m b) .gathers → Each (λ g. g .come < facts (blockAt m b) .gathers) (gatherersAt s b)
   -- no QL is longer than the living are many
   pub waiting : Each (λ l. length l ≤ maxLiving) (s .ql)
   -- sums: at most so much for each tick that passed

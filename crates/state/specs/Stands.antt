@@ -3,19 +3,20 @@
 use Prim.Native.Nat.{ℕ, _+_, _-_, _<_}
 use mathlib.Core.Path.{_≡_}
 use mathlib.Core.Bool.{cond}
-use mathlib.Core.List.{List, []}
+use mathlib.Core.List.{List, [], map}
 use mathlib.Core.Option.{Option, none, some}
 use lib.Dec.{ltb, eqb}
 use lib.ListN.{length, getD}
 use Rattle.machine.specs.Limits.{maxQueues, maxLists, maxBlocks}
-use Rattle.machine.specs.Transaction.{Transaction}
+use Rattle.machine.specs.Transaction.{Transaction, Gatherer}
+use Rattle.machine.specs.Setters.{withNext}
 use Rattle.machine.specs.Term.{Server, Queue, idleServer, emptyQueue}
 use Rattle.machine.specs.State.{State}
 use Rattle.tables.specs.Layout as Layout
 use Rattle.tables.specs.Represents.{TimesAt}
 use Rattle.rows.specs.Holds.{transactionAt}
 use Rattle.rows.specs.Shows.{Shows, Loose}
-use Rattle.rows.specs.Layout.{free, rowCount, wels, wsl}
+use Rattle.rows.specs.Layout.{free, rowCount, wels, wsl, rel, gatherers}
 use Rattle.state.specs.declared.scalars.Scalars.{Scalars}
 use Rattle.state.specs.Bare.{Note, enteredNote, waitsNote, noNote, Bare}
 
@@ -28,12 +29,17 @@ pub record Rows : Type 0 where
 unfoldable pub rowsOf : Scalars → List ℕ → List ℕ → Rows
 rowsOf x work tally = record { scalars = x; work = work; tally = tally }
 
--- list p of the work buffer: QL 0..63, WEL 64..447, WSL 448, REL 449
+-- a gatherer's row: how many have come stands in the place of its next block, which its list tells
+abbrev pub gathererRow : Gatherer → Transaction
+gathererRow g = withNext (g .come) (g .who)
+
+-- list p of the work buffer: QL 0..63, WEL 64..447, WSL 448, REL 449, gatherers 450..705
 unfoldable pub listsOf : State → ℕ → List Transaction
 listsOf s p =
     cond (ltb p wels) (getD (s .ql) p [])
     (cond (ltb p wsl) (getD (s .wel) (p - wels) [])
-    (cond (eqb p wsl) (s .wsl) (s .rel)))
+    (cond (eqb p wsl) (s .wsl)
+    (cond (eqb p rel) (s .rel) (map gathererRow (getD (s .gatherers) (p - gatherers) [])))))
 
 -- row k is the transaction that moves, on no list; 1024 for none
 abbrev pub Moving : List ℕ → ℕ → Option Transaction → Type 0

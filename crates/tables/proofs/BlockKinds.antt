@@ -8,7 +8,7 @@ use mathlib.Core.Option.{Option, none}
 use lib.Dec.{eqb}
 use Rattle.machine.specs.Term.{Term, Relation, Condition, always, whenTrue}
 use Rattle.machine.specs.Facts.{Facts}
-use Rattle.machine.specs.Block.{Share, facility, storage, up, down, Block, generate, advance, terminate, takes, frees, waitServer, waitTerms, moves, assign, priority, split, counts, facts}
+use Rattle.machine.specs.Block.{Share, facility, storage, up, down, Block, generate, advance, terminate, takes, frees, waitServer, waitTerms, moves, assign, priority, split, counts, assemble, facts}
 use Rattle.tables.specs.Numbers.{blockNumbers}
 use Rattle.tables.specs.Forms.{blockForms}
 
@@ -60,6 +60,7 @@ kinds (priority p) = other 13 _ refl refl refl
 kinds (split n target) = other 14 _ refl refl refl
 kinds (counts up q) = arriving q refl
 kinds (counts down q) = other 16 _ refl refl refl
+kinds (assemble n) = other 18 _ refl refl refl
 
 -- ---- Of another kind
 

@@ -3,7 +3,7 @@
 use Prim.Native.Nat.{ℕ, zero, suc, _+_, _-_}
 use mathlib.Core.List.{List, [], _∷_, _++_}
 use Rattle.machine.specs.Term.{Relation, equal, unequal, less, atMost, greater, atLeast, Term, constant, minusConstant, parameter, clockTerm, entriesOf, contentOf, unitsInUse, unitsFree, facilityInUse, value, comparison, bracket, Condition, always, whenTrue, Sum, nothing, plus, minus}
-use Rattle.machine.specs.Block.{Code, codeIndex, Share, facility, storage, Change, up, down, Block, generate, advance, terminate, takes, frees, waitServer, waitTerms, moves, assign, priority, split, counts}
+use Rattle.machine.specs.Block.{Code, codeIndex, Share, facility, storage, Change, up, down, Block, generate, advance, terminate, takes, frees, waitServer, waitTerms, moves, assign, priority, split, counts, assemble}
 
 unfoldable pub relationNumber : Relation → ℕ
 relationNumber equal = 1
@@ -77,3 +77,4 @@ blockNumbers (assign k a) = 12 ∷ (k - 1) ∷ termNumbers a
 blockNumbers (priority p) = 13 ∷ p ∷ []
 blockNumbers (split n target) = 14 ∷ n ∷ target ∷ []
 blockNumbers (counts c q) = countKind c ∷ (q - 1) ∷ []
+blockNumbers (assemble n) = 18 ∷ n ∷ []

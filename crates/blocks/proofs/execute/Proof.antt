@@ -60,6 +60,9 @@ depart-requires c κs = search needs
 wait-server-requires-2 : tie.Need-wait-server-requires-2
 wait-server-requires-2 c κs = search needs
 
+assemble-requires : tie.Need-assemble-requires
+assemble-requires c κs = search needs
+
 same-length : tie.Need-same-length
 same-length c = search needs
 
@@ -227,11 +230,21 @@ returns-17 : tie.Need-returns-17
 unfolding execute byKind later
 returns-17 c = rw (← c .before .before .before .before .before .before .number .ensures, c .before .before .before .before .before .match .keys17) (tallied _ _ _ _ (c .before .before .wait-server2 .ensures))
 
+same-length-34 : tie.Need-same-length-34
+same-length-34 c = search needs
+
+same-length-35 : tie.Need-same-length-35
+same-length-35 c = search needs
+
 returns-18 : tie.Need-returns-18
 unfolding execute byKind later
-returns-18 c =
+returns-18 c = rw (← c .before .before .before .before .before .before .before .before .number .ensures, c .before .before .before .before .before .before .before .match .keys18) (c .before .before .before .before .assemble .ensures)
+
+returns-19 : tie.Need-returns-19
+unfolding execute byKind later
+returns-19 c =
     let other = c .match .rest in
-    rw (← c .before .number .ensures, ne-eqb _ 1 (other .0 .0 .0 .0 .0 .0 .0 .0 .0 .0 .0 .0 .0 .0 .0 .0 .1), ne-eqb _ 2 (other .0 .0 .0 .0 .0 .0 .0 .0 .0 .0 .0 .0 .0 .0 .0 .1), ne-eqb _ 3 (other .0 .0 .0 .0 .0 .0 .0 .0 .0 .0 .0 .0 .0 .0 .1), ne-eqb _ 4 (other .0 .0 .0 .0 .0 .0 .0 .0 .0 .0 .0 .0 .0 .1), ne-eqb _ 5 (other .0 .0 .0 .0 .0 .0 .0 .0 .0 .0 .0 .0 .1), ne-eqb _ 6 (other .0 .0 .0 .0 .0 .0 .0 .0 .0 .0 .0 .1), ne-eqb _ 7 (other .0 .0 .0 .0 .0 .0 .0 .0 .0 .0 .1), ne-eqb _ 8 (other .0 .0 .0 .0 .0 .0 .0 .0 .0 .1), ne-eqb _ 9 (other .0 .0 .0 .0 .0 .0 .0 .0 .1), ne-eqb _ 10 (other .0 .0 .0 .0 .0 .0 .0 .1), ne-eqb _ 11 (other .0 .0 .0 .0 .0 .0 .1), ne-eqb _ 12 (other .0 .0 .0 .0 .0 .1), ne-eqb _ 13 (other .0 .0 .0 .0 .1), ne-eqb _ 14 (other .0 .0 .0 .1), ne-eqb _ 15 (other .0 .0 .1), ne-eqb _ 16 (other .0 .1), ne-eqb _ 17 (other .1))
+    rw (← c .before .number .ensures, ne-eqb _ 1 (other .0 .0 .0 .0 .0 .0 .0 .0 .0 .0 .0 .0 .0 .0 .0 .0 .0 .1), ne-eqb _ 2 (other .0 .0 .0 .0 .0 .0 .0 .0 .0 .0 .0 .0 .0 .0 .0 .0 .1), ne-eqb _ 3 (other .0 .0 .0 .0 .0 .0 .0 .0 .0 .0 .0 .0 .0 .0 .0 .1), ne-eqb _ 4 (other .0 .0 .0 .0 .0 .0 .0 .0 .0 .0 .0 .0 .0 .0 .1), ne-eqb _ 5 (other .0 .0 .0 .0 .0 .0 .0 .0 .0 .0 .0 .0 .0 .1), ne-eqb _ 6 (other .0 .0 .0 .0 .0 .0 .0 .0 .0 .0 .0 .0 .1), ne-eqb _ 7 (other .0 .0 .0 .0 .0 .0 .0 .0 .0 .0 .0 .1), ne-eqb _ 8 (other .0 .0 .0 .0 .0 .0 .0 .0 .0 .0 .1), ne-eqb _ 9 (other .0 .0 .0 .0 .0 .0 .0 .0 .0 .1), ne-eqb _ 10 (other .0 .0 .0 .0 .0 .0 .0 .0 .1), ne-eqb _ 11 (other .0 .0 .0 .0 .0 .0 .0 .1), ne-eqb _ 12 (other .0 .0 .0 .0 .0 .0 .1), ne-eqb _ 13 (other .0 .0 .0 .0 .0 .1), ne-eqb _ 14 (other .0 .0 .0 .0 .1), ne-eqb _ 15 (other .0 .0 .0 .1), ne-eqb _ 16 (other .0 .0 .1), ne-eqb _ 17 (other .0 .1), ne-eqb _ 18 (other .1))
 
 pub execute-spec : {M : Type 1} → statement M
 execute-spec =
@@ -255,6 +268,7 @@ execute-spec =
     arrive-requires
     depart-requires
     wait-server-requires-2
+    assemble-requires
     same-length
     same-length-2
     returns
@@ -305,4 +319,7 @@ execute-spec =
     same-length-32
     same-length-33
     returns-17
-    returns-18)
+    same-length-34
+    same-length-35
+    returns-18
+    returns-19)

@@ -22,12 +22,15 @@ write-requires-4 c κs = search needs
 set-time-requires : tie.Need-set-time-requires
 set-time-requires c κs = search needs
 
+write-requires-5 : tie.Need-write-requires-5
+write-requires-5 c κs = search needs
+
 same-length : tie.Need-same-length
 same-length c = search needs
 
 returns : tie.Need-returns
 unfolding describe
-returns c = rw (c .before .before .set-time .ensures, c .before .before .before .before .before .before .write4 .ensures, c .before .before .before .before .before .before .before .before .before .before .write3 .ensures, c .before .before .before .before .before .before .before .before .before .before .before .before .before .before .write2 .ensures, c .before .before .before .before .before .before .before .before .before .before .before .before .before .before .before .before .before .before .write .ensures)
+returns c = rw (c .before .before .write5 .ensures, c .before .before .before .before .before .before .set-time .ensures, c .before .before .before .before .before .before .before .before .before .before .write4 .ensures, c .before .before .before .before .before .before .before .before .before .before .before .before .before .before .write3 .ensures, c .before .before .before .before .before .before .before .before .before .before .before .before .before .before .before .before .before .before .write2 .ensures, c .before .before .before .before .before .before .before .before .before .before .before .before .before .before .before .before .before .before .before .before .before .before .write .ensures)
 
 pub describe-spec : {M : Type 1} → statement M
 describe-spec =
@@ -39,5 +42,6 @@ describe-spec =
     write-requires-3
     write-requires-4
     set-time-requires
+    write-requires-5
     same-length
     returns)
