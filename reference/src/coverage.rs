@@ -1,5 +1,6 @@
 //! Counts what random cases cover.
 
+pub mod families;
 mod groups;
 
 use crate::blocks::Done;
@@ -11,6 +12,7 @@ use crate::machine::{Machine, Transaction};
 use crate::model::Block;
 use crate::rules::{Rules, LAST_KIND};
 use crate::run::{run_watched, Outcome, Watcher};
+use families::Families;
 use groups::Groups;
 use std::collections::BTreeMap;
 
@@ -35,6 +37,7 @@ pub struct Coverage {
     /// Ends 27 and 28 by how they came.
     pub stopped_holding: [u64; STOPS.len()],
     pub groups: Groups,
+    pub families: Families,
     /// Accepted models of each edition.
     pub editions: [u64; 2],
     /// Term tags, status codes and relations in accepted models.
@@ -144,11 +147,13 @@ impl Watcher for Coverage {
         self.turns_at[span] += 1;
         self.clock_terms_at[span] += u64::from(machine.model.reads_clock(taken.next_block));
         self.groups.before_block(machine, taken);
+        self.families.before_block(machine, taken);
     }
 
     fn after_turn(&mut self, kind: u32, done: Done) {
         *self.counts.entry((kind, column(done))).or_insert(0) += 1;
         self.groups.after_turn(done);
+        self.families.after_turn(done);
     }
 
     fn at_end(&mut self, machine: &Machine, end: u32, _trace: &[u8]) {
@@ -193,6 +198,7 @@ impl Coverage {
     pub fn run(&mut self, case: &Case, trace: &mut [u8], report: &mut [u8]) -> Outcome {
         self.before = None;
         self.groups.start();
+        self.families.start();
         let outcome = run_watched(
             self.rules,
             &case.model,
@@ -236,7 +242,7 @@ impl Coverage {
 
     /// What can be met under the rules and was not: kinds with what they come
     /// to, refusals, ends (but 26), tags, codes, relations, spans of the clock,
-    /// ways to ends 27 and 28, ways through groups of joined waits.
+    /// ways to ends 27 and 28, ways through groups of joined waits and through ASSEMBLE.
     pub fn empty_cells(&self) -> Vec<String> {
         let mut empty = Vec::new();
         for kind in 1..=LAST_KIND {
@@ -283,6 +289,14 @@ impl Coverage {
                 Groups::cells()
                     .into_iter()
                     .filter(|c| self.groups.met(c) == 0),
+            );
+        }
+        if self.rules.assemble {
+            let can = |way: &&str| self.rules.holders || !way.starts_with("28");
+            let ways = families::WAYS.into_iter().filter(can);
+            empty.extend(
+                ways.filter(|way| self.families.met(way) == 0)
+                    .map(str::to_string),
             );
         }
         empty
@@ -332,7 +346,7 @@ impl std::fmt::Display for Coverage {
         for (name, count) in STOPS.iter().zip(self.stopped_holding) {
             writeln!(f, "{name:<28}{count}")?;
         }
-        write!(f, "{}", self.groups)?;
+        write!(f, "{}{}", self.groups, self.families)?;
         writeln!(f, "editions 1, 2   {:?}", self.editions)?;
         writeln!(f, "tags 0..11      {:?}", self.tags)?;
         writeln!(f, "codes 1..6      {:?}", self.codes)?;
