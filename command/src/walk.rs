@@ -4,7 +4,7 @@ use crate::study::Study;
 use engine::{Record, Run};
 use modeltext::model::{Block, Operand};
 use modeltext::words::{
-    ADVANCE, GENERATE, GOTO, IF, RELEASE, SEIZE, SPLIT, WAITIF_JOINED, WAITIF_STATUS,
+    ADVANCE, ASSEMBLE, GENERATE, GOTO, IF, RELEASE, SEIZE, SPLIT, WAITIF_JOINED, WAITIF_STATUS,
 };
 use std::collections::BTreeMap;
 use std::ops::Range;
@@ -110,7 +110,8 @@ pub struct Life {
 }
 
 impl Life {
-    /// The blocks that it may be about to enter: two behind an IF, and where a joined wait may have sent it back.
+    /// The blocks that it may be about to enter: two behind an IF, and where a joined wait may have sent it back. Who waited at an
+    /// ASSEMBLE has gone on without a record.
     pub fn next(&self, study: &Study) -> Vec<u64> {
         let Some(last) = self.last else {
             return match self.birth {
@@ -126,6 +127,7 @@ impl Life {
         let target = block.target().map_or(0, u64::from);
         match block.kind {
             WAITIF_JOINED if !last.entered() => back_from(study, last.block),
+            ASSEMBLE => vec![after],
             _ if !last.entered() => vec![last.block],
             GOTO => vec![target],
             IF if target == after => vec![after],

@@ -9,7 +9,7 @@ use crate::table::Table;
 use crate::walk::{Birth, Births};
 use crate::words;
 use engine::{Record, Run};
-use modeltext::words::{WAITIF_JOINED, WAITIF_STATUS};
+use modeltext::words::{ASSEMBLE, WAITIF_JOINED, WAITIF_STATUS};
 use std::io::Write;
 use std::path::Path;
 
@@ -115,7 +115,8 @@ fn born(birth: Option<Birth>) -> String {
     }
 }
 
-/// What a record tells, with the wait before it. Server waits go on to the next block, or are joined and send back.
+/// What a record tells, with the wait before it. Server waits go on to the next block, or are joined and send back; the first of a family
+/// goes on from its ASSEMBLE without a record.
 fn outcome(study: &Study, record: &Record, last: Option<&Record>) -> String {
     let words = words::outcome_of(record.outcome);
     let Some(last) = last else {
@@ -129,6 +130,7 @@ fn outcome(study: &Study, record: &Record, last: Option<&Record>) -> String {
         ticks => format!("{ticks} ticks"),
     };
     match (back, last.entered()) {
+        (false, false) if kind == ASSEMBLE => format!("went on after {ticks}, {words}"),
         (false, true) => words.to_string(),
         (false, false) => format!("{words} after {ticks}"),
         (true, true) => format!("went back, {words}"),
