@@ -67,7 +67,7 @@ static inline const char *covrith_end_words(uint64_t end) {
     case 25: return "a DEPART found its queue without content";
     case 26: return "the last serial given is above 99,997,952, or 100,000,000 turns are done";
     case 27: return "a RELEASE by another than the holder of its facility";
-    case 28: return "a TERMINATE of one that still holds a facility";
+    case 28: return "one that still holds a facility would end, at a TERMINATE or an ASSEMBLE";
     default: return NULL;
     }
 }
@@ -105,6 +105,7 @@ static inline const char *covrith_place_words(uint64_t place) {
     case 4: return "FEL";
     case 5: return "REL";
     case 6: return "moving";
+    case 7: return "gathering";
     default: return NULL;
     }
 }

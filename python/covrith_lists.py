@@ -175,7 +175,7 @@ class Model:
 
     A block is its kind (a `Kind`, its name or its number) and its operands, as in ("ENTER", 1, 2) or
     ("IF", content(1), ">=", constant(3), 9) or ("WAITIF_SERVER", "U", 1), or ("WAITIF_JOINED", "U", 2, 1) with how many
-    blocks it goes back. Storages are given by their capacities.
+    blocks it goes back, or ("ASSEMBLE", 3). Storages are given by their capacities.
     """
 
     blocks: Sequence[Sequence[Any]]

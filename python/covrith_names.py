@@ -40,7 +40,7 @@ class End(_Named):
     NO_CONTENT = 25, "a DEPART found its queue without content"
     RUN_LIMIT = 26, "the last serial given is above 99,997,952, or 100,000,000 turns are done"
     NOT_HOLDER = 27, "a RELEASE by another than the holder of its facility"
-    STILL_HOLDS = 28, "a TERMINATE of one that still holds a facility"
+    STILL_HOLDS = 28, "one that still holds a facility would end, at a TERMINATE or an ASSEMBLE"
 
 
 class Refusal(_Named):
@@ -78,6 +78,7 @@ class Place(_Named):
     FEL = 4, "FEL"
     REL = 5, "REL"
     MOVING = 6, "moving"
+    GATHERING = 7, "gathering"
 
 
 class Kind(_Named):
@@ -100,6 +101,7 @@ class Kind(_Named):
     ARRIVE = 15, "queue"
     DEPART = 16, "queue"
     WAITIF_JOINED = 17, "code server back"
+    ASSEMBLE = 18, "count"
 
     @property
     def operands(self) -> int:

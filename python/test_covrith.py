@@ -81,6 +81,22 @@ class Runs(unittest.TestCase):
             covrith.run(Model(facilities=2, storages=[3], queues=1, lists=7, blocks=blocks[:9] + blocks[10:]), tape)
         self.assertEqual(refused.exception.refusal, covrith.Refusal.BLOCK_ORDER)
 
+    def test_families(self):
+        zone = lambda number: [("SEIZE", number), ("ADVANCE", number + 1), ("RELEASE", number)]
+        blocks = [
+            ("GENERATE", 1, 0), ("ARRIVE", 1), ("SPLIT", 1, 9), ("SPLIT", 1, 13), *zone(1), ("GOTO", 16), *zone(2), ("GOTO", 16), *zone(3),
+            ("ASSEMBLE", 3), ("ARRIVE", 2), ("ENTER", 1, 1), ("DEPART", 2), ("ADVANCE", 5), ("LEAVE", 1, 1), ("DEPART", 1), ("TERMINATE", 1),
+        ]  # fmt: skip
+        model = Model(facilities=3, storages=[2], queues=2, lists=5, counter=60, blocks=blocks)
+        stored, tape = covrith.load(MODELS / "packing")
+        self.assertEqual(bytes(model), stored)
+        run = covrith.run(model, tape)
+        self.assertEqual((run.end, run.made, run.ended), (End.COUNTER, 180, 180))
+        self.assertEqual(sum(record.block == 16 and record.outcome == 0 for record in run.records()), 120)
+        # the first of the first order has come, the second line too
+        run = covrith.run(model, tape, budget=16)
+        self.assertEqual(run.report.living[0], Living(1, Place.GATHERING))
+
     def test_every_kind_and_term(self):
         terms = [covrith.CLOCK, covrith.parameter(4), covrith.entries(1), covrith.content(1), covrith.units_in_use(1), covrith.constant(-300)]
         model = Model(
@@ -111,6 +127,7 @@ class Runs(unittest.TestCase):
         self.assertIs(end([("SEIZE", 1), ("SPLIT", 1, 5), ("ADVANCE", 2), ("RELEASE", 1)], [(1,), (5,)]), End.NOT_HOLDER)
         self.assertIs(end([("SEIZE", 1), ("TERMINATE", 1)]), End.STILL_HOLDS)
         self.assertIs(end([("SEIZE", 1), ("RELEASE", 1), ("TERMINATE", 1)]), End.COUNTER)
+        self.assertIs(end([("SPLIT", 1, 5), ("SEIZE", 1), ("ADVANCE", 2), ("ASSEMBLE", 2)], [(1,), (5,)]), End.STILL_HOLDS)
 
     def test_late_clocks(self):
         walker = Model([("GENERATE", 1, 0), ("TERMINATE", 1)], lists=1, counter=9)

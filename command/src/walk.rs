@@ -1,10 +1,10 @@
 //! One walk over the records of a run: entries and waits of each block, how each transaction was made, and where the living were last.
 
 use crate::study::Study;
-use engine::{Record, Run};
+use engine::{Place, Record, Run};
 use modeltext::model::{Block, Operand};
 use modeltext::words::{
-    ADVANCE, GENERATE, GOTO, IF, RELEASE, SEIZE, SPLIT, WAITIF_JOINED, WAITIF_STATUS,
+    ADVANCE, ASSEMBLE, GENERATE, GOTO, IF, RELEASE, SEIZE, SPLIT, WAITIF_JOINED, WAITIF_STATUS,
 };
 use std::collections::BTreeMap;
 use std::ops::Range;
@@ -107,10 +107,20 @@ fn number(block: &Block, letter: char) -> Option<u32> {
 pub struct Life {
     pub birth: Option<Birth>,
     pub last: Option<Record>,
+    /// It waits for its family at the end.
+    pub gathers: bool,
 }
 
 impl Life {
-    /// The blocks that it may be about to enter: two behind an IF, and where a joined wait may have sent it back.
+    fn at(place: Place) -> Life {
+        Life {
+            gathers: place == Place::Gathering,
+            ..Life::default()
+        }
+    }
+
+    /// The blocks that it may be about to enter: two behind an IF, and where a joined wait may have sent it back. From an ASSEMBLE one
+    /// goes on without a record.
     pub fn next(&self, study: &Study) -> Vec<u64> {
         let Some(last) = self.last else {
             return match self.birth {
@@ -126,6 +136,7 @@ impl Life {
         let target = block.target().map_or(0, u64::from);
         match block.kind {
             WAITIF_JOINED if !last.entered() => back_from(study, last.block),
+            ASSEMBLE if !self.gathers => vec![after],
             _ if !last.entered() => vec![last.block],
             GOTO => vec![target],
             IF if target == after => vec![after],
@@ -171,7 +182,7 @@ pub fn walk(study: &Study, run: &Run) -> Walk {
         records: 0,
         made: 0,
         last: None,
-        living: living.map(|l| (l.transaction, Life::default())).collect(),
+        living: living.map(|l| (l.transaction, Life::at(l.place))).collect(),
         holders: BTreeMap::new(),
     };
     let mut births = Births::start(study, |number, birth| {

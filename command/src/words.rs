@@ -1,6 +1,6 @@
 //! What the engine's numbers mean to a person. A new end or place is a line here (kinds and status codes: `modeltext::words`).
 
-use modeltext::words::{ADVANCE, GENERATE, RELEASE, SPLIT, TERMINATE};
+use modeltext::words::{ADVANCE, ASSEMBLE, GENERATE, RELEASE, SPLIT, TERMINATE};
 
 /// An end that a question inside a turn gives: the kinds of block that it comes from, each with the reason in words.
 pub struct Stop {
@@ -18,6 +18,7 @@ const DEPART: u32 = 16;
 
 const NO_PLACE: &str = "no living place is free for a new transaction";
 const CLOCK: &str = "the move time would pass the limit of the clock";
+const HOLDS: &str = "it still holds a facility";
 
 pub const STOPS: &[Stop] = &[
     stop(
@@ -55,7 +56,7 @@ pub const STOPS: &[Stop] = &[
     ),
     stop(
         28,
-        &[(TERMINATE, "it still holds a facility")],
+        &[(TERMINATE, HOLDS), (ASSEMBLE, HOLDS)],
         "let every way to this block release what was seized",
     ),
 ];
@@ -68,6 +69,7 @@ pub const PLACES: &[(u64, &str)] = &[
     (4, "moves later (FEL)"),
     (5, "ready (REL)"),
     (6, "moving"),
+    (7, "waits for its family (ASSEMBLE)"),
 ];
 
 pub fn stop_of(end: u64) -> Option<&'static Stop> {

@@ -53,6 +53,8 @@ fn next_blocks(machine: &Machine) -> BTreeMap<u64, u64> {
     all.extend(machine.fel.iter().map(|event| &event.transaction));
     all.extend(&machine.rel);
     all.extend(&machine.moving);
+    let gatherers = machine.gatherers.values().flatten();
+    all.extend(gatherers.map(|one| &one.transaction));
     let all = all.iter();
     all.map(|t| (t.number, u64::from(t.next_block))).collect()
 }

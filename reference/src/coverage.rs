@@ -1,5 +1,6 @@
 //! Counts what random cases cover.
 
+pub mod families;
 mod groups;
 mod second;
 
@@ -12,6 +13,7 @@ use crate::machine::{Machine, Transaction};
 use crate::model::Block;
 use crate::rules::{Rules, LAST_KIND};
 use crate::run::{run_watched, Outcome, Watcher};
+use families::Families;
 use groups::Groups;
 pub use second::Second;
 use std::collections::BTreeMap;
@@ -38,6 +40,7 @@ pub struct Coverage {
     pub stopped_holding: [u64; STOPS.len()],
     pub groups: Groups,
     pub second: Second,
+    pub families: Families,
     /// Accepted models of each edition.
     pub editions: [u64; 2],
     /// Term tags, status codes and relations in accepted models.
@@ -149,12 +152,14 @@ impl Watcher for Coverage {
         self.clock_terms_at[span] += u64::from(machine.model.reads_clock(taken.next_block));
         self.groups.before_block(machine, taken);
         self.second.before_block(machine, taken);
+        self.families.before_block(machine, taken);
     }
 
     fn after_turn(&mut self, kind: u32, done: Done) {
         *self.counts.entry((kind, column(done))).or_insert(0) += 1;
         self.groups.after_turn(done);
         self.second.after_turn(done);
+        self.families.after_turn(done);
     }
 
     fn at_end(&mut self, machine: &Machine, end: u32, _trace: &[u8]) {
@@ -200,6 +205,7 @@ impl Coverage {
         self.before = None;
         self.groups.start();
         self.second.start();
+        self.families.start();
         let outcome = run_watched(
             self.rules,
             &case.model,
@@ -243,7 +249,7 @@ impl Coverage {
 
     /// What can be met under the rules and was not: kinds with what they come
     /// to, refusals, ends (but 26), tags, codes, relations, spans of the clock,
-    /// ways to ends 27 and 28, ways through groups of joined waits, what edition 2 comes to.
+    /// ways to ends 27 and 28, ways through groups of joined waits and through ASSEMBLE, what edition 2 comes to.
     pub fn empty_cells(&self) -> Vec<String> {
         let mut empty = Vec::new();
         for kind in 1..=LAST_KIND {
@@ -299,6 +305,14 @@ impl Coverage {
                     .filter(|c| self.second.met(c) == 0),
             );
         }
+        if self.rules.assemble {
+            let can = |way: &&str| self.rules.holders || !way.starts_with("28");
+            let ways = families::WAYS.into_iter().filter(can);
+            empty.extend(
+                ways.filter(|way| self.families.met(way) == 0)
+                    .map(str::to_string),
+            );
+        }
         empty
     }
 
@@ -346,8 +360,7 @@ impl std::fmt::Display for Coverage {
         for (name, count) in STOPS.iter().zip(self.stopped_holding) {
             writeln!(f, "{name:<28}{count}")?;
         }
-        write!(f, "{}", self.groups)?;
-        write!(f, "{}", self.second)?;
+        write!(f, "{}{}{}", self.groups, self.second, self.families)?;
         writeln!(f, "editions 1, 2   {:?}", self.editions)?;
         writeln!(f, "tags 0..11      {:?}", self.tags)?;
         writeln!(f, "codes 1..6      {:?}", self.codes)?;

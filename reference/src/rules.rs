@@ -46,6 +46,7 @@ impl Rules {
         wide_clocks: true,
         holders: true,
         joined: true,
+        assemble: true,
         highest_edition: 2,
         ..Rules::BASE
     };

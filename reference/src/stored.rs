@@ -1,15 +1,17 @@
 //! The stored cases of crate `vectors` and what must come out of them: the
 //! first example, the limits of 02, item 1, the holders of item 6, the joined waits
-//! of item 7, the 1996 rules of item 12, and random cases: each refusal, each end that a short run can meet, each
-//! kind and outcome, each list in use, 1,024 living, late clocks, facilities held,
-//! groups of each size, what edition 2 comes to.
+//! of item 7, the families of item 8, the 1996 rules of item 12, and random cases: each
+//! refusal, each end that a short run can meet, each kind and outcome, each list in use,
+//! 1,024 living, late clocks, facilities held, groups of each size, what edition 2 comes to.
 
+mod gathered;
 mod groups;
 mod held;
 mod joined;
 mod late;
 mod second;
 
+pub use gathered::cases as gathered_cases;
 pub use held::cases as held_cases;
 pub use joined::cases as joined_cases;
 pub use late::cases as late_cases;
@@ -32,7 +34,7 @@ pub const TRACE_BYTES: usize = 131_072;
 pub const REPORT_BYTES: usize = 10_400;
 
 /// How many cases are stored, and how many at least have each feature.
-const CASES: usize = 420;
+const CASES: usize = 500;
 const EACH: u32 = 5;
 
 /// The first example of document 01.
@@ -146,6 +148,7 @@ pub fn cases() -> (Vec<Case>, BTreeMap<String, u32>) {
     kept.extend(late::cases().into_iter().map(|(case, _)| case));
     kept.extend(held::cases().into_iter().map(|(case, _)| case));
     kept.extend(joined::cases().into_iter().map(|(case, _)| case));
+    kept.extend(gathered::cases().into_iter().map(|(case, _, _)| case));
     kept.extend(second::cases().into_iter().map(|(case, ..)| case));
     let mut met: BTreeMap<String, u32> = BTreeMap::new();
     let mut spare = Vec::new();

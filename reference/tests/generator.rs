@@ -1,6 +1,6 @@
 //! The random cases: always the same, and of every sort.
 
-use reference::coverage::Coverage;
+use reference::coverage::{families, Coverage};
 use reference::decode::decode_model_with;
 use reference::generate::fields::{encode_model, encode_tape};
 use reference::generate::random::Random;
@@ -61,4 +61,5 @@ fn full_cases_cover_refusals_ends_and_kinds() {
     assert_eq!(coverage.most_living, 1_024);
     assert_eq!(coverage.most_blocks, 256);
     assert_eq!(coverage.last_clock, 32_000_000_000);
+    assert!(coverage.families.met(families::LONG) > 0);
 }

@@ -6,10 +6,11 @@ use reference::coverage::{ends, possible, Second};
 use reference::decode::decode_model_with;
 use reference::generate::Case;
 use reference::model::Block;
+use reference::report::read_report;
 use reference::rules::LAST_KIND;
 use reference::run::{run, Outcome};
 use reference::stored::{
-    cases, encode, expected, held_cases, joined_cases, late_cases, second_cases,
+    cases, encode, expected, gathered_cases, held_cases, joined_cases, late_cases, second_cases,
 };
 use reference::trace::TraceReader;
 use reference::Rules;
@@ -50,6 +51,7 @@ fn stored_cases_are_up_to_date() {
         "FEL",
         "holder of several",
         "several holders",
+        "gatherers",
         "1,024 living",
         "last clock",
         "clock term past 2^31",
@@ -67,15 +69,34 @@ fn outcome(case: &Case) -> Outcome {
 }
 
 fn outcome_in(case: &Case, trace: &mut [u8]) -> Outcome {
-    let mut report = vec![0; case.report_len];
+    outcome_and_report(case, trace, &mut vec![0; case.report_len])
+}
+
+fn outcome_and_report(case: &Case, trace: &mut [u8], report: &mut [u8]) -> Outcome {
     run(
         &case.model,
         &case.tape,
         case.budget,
         case.work_len,
         trace,
-        &mut report,
+        report,
     )
+}
+
+/// Refusal, end, clock, turns, records, made, ended.
+fn counts(came: &Outcome, trace: &[u8]) -> [u64; 7] {
+    let written = &trace[..came.trace_bytes as usize];
+    // Four numbers to a record, each ended by its one low byte.
+    let records = written.iter().filter(|byte| **byte < 0x80).count() as u64 / 4;
+    [
+        came.refusal,
+        came.end,
+        came.clock,
+        came.turns,
+        records,
+        came.made,
+        came.ended,
+    ]
 }
 
 #[test]
@@ -102,19 +123,24 @@ fn joined_cases_come_to_what_the_papers_give() {
     for (number, (case, wanted)) in joined_cases().iter().enumerate() {
         let mut trace = vec![0; case.trace_len];
         let came = outcome_in(case, &mut trace);
-        let written = &trace[..came.trace_bytes as usize];
-        // Four numbers to a record, each ended by its one low byte.
-        let records = written.iter().filter(|byte| **byte < 0x80).count() as u64 / 4;
-        let came = [
-            came.refusal,
-            came.end,
-            came.clock,
-            came.turns,
-            records,
-            came.made,
-            came.ended,
-        ];
-        assert_eq!(came, *wanted, "joined case {number}");
+        assert_eq!(counts(&came, &trace), *wanted, "joined case {number}");
+    }
+}
+
+#[test]
+fn gathered_cases_come_to_what_the_papers_give() {
+    for (number, (case, wanted, living)) in gathered_cases().iter().enumerate() {
+        let mut trace = vec![0; case.trace_len];
+        let mut report = vec![0; case.report_len];
+        let came = outcome_and_report(case, &mut trace, &mut report);
+        assert_eq!(counts(&came, &trace), *wanted, "gathered case {number}");
+        if came.refusal == 0 {
+            let report = read_report(&report[..came.report_bytes as usize]).unwrap();
+            // Clock, made and ended; five of the facility, five of the storage; how many live.
+            let places = report[3 + 5 + 5 + 1..].chunks(2);
+            let places: Vec<(u64, u64)> = places.map(|pair| (pair[0], pair[1])).collect();
+            assert_eq!(places, *living, "gathered case {number}");
+        }
     }
 }
 

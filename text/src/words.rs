@@ -43,6 +43,7 @@ pub const KINDS: &[Kind] = &[
     kind(15, "ARRIVE", "q", None),
     kind(16, "DEPART", "q", None),
     kind(WAITIF_JOINED, "WAITIF", "cvg", None),
+    kind(ASSEMBLE, "ASSEMBLE", "m", None),
 ];
 
 /// Kinds that are asked for by name.
@@ -58,6 +59,7 @@ pub const GOTO: u32 = 11;
 pub const LET: u32 = 12;
 pub const SPLIT: u32 = 14;
 pub const WAITIF_JOINED: u32 = 17;
+pub const ASSEMBLE: u32 = 18;
 
 /// The kind with this number.
 pub fn kind_of(number: u32) -> Option<&'static Kind> {
@@ -87,6 +89,7 @@ pub const NUMBERS: &[Number] = &[
     number('p', 1, 4, "a parameter"),
     number('n', 1, 255, "the number of copies"),
     number('g', 1, 7, "how many blocks it goes back"),
+    number('m', 2, 255, "how many of a family gather"),
 ];
 
 /// The plain number behind a letter.

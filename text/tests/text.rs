@@ -59,6 +59,7 @@ in      WAITIF v$notok > 0
         WAITIF tug = U
         WAITIF berth=NF
         WAITIF storm = u, 2
+        assemble 3
         IF p1 <> -3, out
         LET p4 = s$yard
         SPLIT 2, in
@@ -79,6 +80,7 @@ out     PRIORITY 127
     );
     assert!(shown.contains("WAITIF s1 = NF"), "{shown}");
     assert!(shown.contains("WAITIF f2 = U, 2"), "{shown}");
+    assert!(shown.contains("ASSEMBLE 3"), "{shown}");
 }
 
 #[test]
@@ -245,6 +247,8 @@ fn what_to_write_instead() {
         ("IF p1 + 1 > 3, x", "6:8: IF takes one term here and not a sum, which only a VALUE has\n    declare VALUE result = p1 + 1, and write v$result in place of p1 + 1"),
         ("WAITIF room = 1", "6:9: `room` is no term\n    write s$room for its units in use, r$room for its free ones"),
         ("WAITIF room = U", "6:9: `room` is a storage, which has no such code\n    the codes of a storage are E empty, NE not empty, F full, NF not full"),
+        ("ASSEMBLE x", "6:11: how many of a family gather is a number\n    write a whole number without a sign"),
+        ("ASSEMBLE", "6:10: how many of a family gather is a number\n    write a whole number without a sign"),
         ("WAITIF f = U, x", "6:16: how many blocks it goes back is a number\n    write a whole number without a sign"),
         ("WAITIF f$f = 1, 1", "6:16: only a WAITIF on a server is joined with waits before it\n    write WAITIF server = code, number"),
         ("advance SEIZE f", "6:2: `advance` begins a statement and cannot be a label\n    choose another word, as `advance1`"),

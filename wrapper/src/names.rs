@@ -65,7 +65,7 @@ numbered! {
         25 NoContent "a DEPART found its queue without content",
         26 RunLimit "the last serial given is above 99,997,952, or 100,000,000 turns are done",
         27 NotHolder "a RELEASE by another than the holder of its facility",
-        28 StillHolds "a TERMINATE of one that still holds a facility",
+        28 StillHolds "one that still holds a facility would end, at a TERMINATE or an ASSEMBLE",
     }
 }
 
@@ -111,5 +111,6 @@ numbered! {
         4 Fel "FEL",
         5 Rel "REL",
         6 Moving "moving",
+        7 Gathering "gathering",
     }
 }

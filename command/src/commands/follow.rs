@@ -9,7 +9,7 @@ use crate::table::Table;
 use crate::walk::{Birth, Births};
 use crate::words;
 use engine::{Record, Run};
-use modeltext::words::{WAITIF_JOINED, WAITIF_STATUS};
+use modeltext::words::{ASSEMBLE, WAITIF_JOINED, WAITIF_STATUS};
 use std::io::Write;
 use std::path::Path;
 
@@ -115,13 +115,20 @@ fn born(birth: Option<Birth>) -> String {
     }
 }
 
-/// What a record tells, with the wait before it. Server waits go on to the next block, or are joined and send back.
+/// What a record tells, with the wait before it. Server waits go on to the next block, or are joined and send back; the first of a family
+/// goes on from its ASSEMBLE without a record.
 fn outcome(study: &Study, record: &Record, last: Option<&Record>) -> String {
     let began = last.filter(|last| !last.entered()).map(|last| last.clock);
     let kind = last
         .and_then(|last| study.block(last.block))
         .map_or(0, |block| block.kind);
     let waits = [WAITIF_STATUS, WAITIF_JOINED].contains(&kind);
+    if kind == ASSEMBLE {
+        if let Some(began) = began {
+            let ticks = words::ticks(record.clock - began);
+            return format!("went on after {ticks}, {}", words::outcome_of(record.outcome));
+        }
+    }
     if !waits || last.map_or(true, |last| last.block <= record.block) {
         return words::outcome_after(record, began);
     }

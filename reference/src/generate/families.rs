@@ -11,10 +11,10 @@ pub fn case(rules: Rules, random: &mut Random, size: Size) -> Case {
     if random.one_in(8) {
         return crowd(rules, random, size);
     }
-    let (model, tape) = if random.one_in(5) {
-        late_holder(random, size)
-    } else {
-        packing(random, size)
+    let (model, tape) = match random.below(6) {
+        0 => late_holder(random, size),
+        1 => one_behind_the_other(random, size),
+        _ => packing(random, size),
     };
     good_case(rules, random, size, &model, &tape)
 }
@@ -115,7 +115,7 @@ fn late_holder(random: &mut Random, size: Size) -> (Model, Tape) {
     model.facilities = 2;
     model.lists = 2;
     let copies = random.number(1, 3);
-    let count = *random.pick(&[2, copies + 1, copies + 1]);
+    let count = *random.pick(&[2, copies + 1, copies + 1, copies + 2]);
     let mut blocks = vec![
         Block::Generate {
             list: 1,
@@ -147,6 +147,47 @@ fn late_holder(random: &mut Random, size: Size) -> (Model, Tape) {
     let tape = vec![
         small_times(random, count, 4),
         small_times(random, count * 5, span),
+    ];
+    (model, tape)
+}
+
+/// Many ASSEMBLEs, up to the last place for one. Each passes on what it gathered;
+/// copies join in at the first of them or further down.
+fn one_behind_the_other(random: &mut Random, size: Size) -> (Model, Tape) {
+    let mut model = empty_model();
+    model.lists = 2;
+    let most = if size.is_small() {
+        10
+    } else {
+        *random.pick(&[10, 40, 251])
+    };
+    let row = random.number(2, most);
+    let copies = if size.is_small() { 20 } else { 255 };
+    let mut blocks = vec![
+        Block::Generate {
+            list: 1,
+            priority: random.number(0, 2),
+        },
+        Block::Split {
+            copies: random.number(1, copies),
+            target: random.number(3, 2 + row),
+        },
+    ];
+    for _ in 0..row {
+        let count = *random.pick(&[2, 2, 2, 3, 4]);
+        blocks.push(if random.one_in(9) {
+            Block::Advance { list: 2 }
+        } else {
+            Block::Assemble { count }
+        });
+    }
+    blocks.push(Block::Terminate { amount: 1 });
+    model.blocks = blocks;
+    let times = if size.is_small() { 3 } else { 6 };
+    let span = random.number(0, 3);
+    let tape = vec![
+        small_times(random, times, span),
+        small_times(random, times * 40, span),
     ];
     (model, tape)
 }
