@@ -97,6 +97,28 @@ class Runs(unittest.TestCase):
         run = covrith.run(model, tape, budget=16)
         self.assertEqual(run.report.living[0], Living(1, Place.GATHERING))
 
+    def test_editions(self):
+        def yard(edition):
+            blocks = [
+                ("GENERATE", 1, 0), ("SEIZE", 1), ("ADVANCE", 2), ("RELEASE", 1), ("SEIZE", 1), ("RELEASE", 1), ("SEIZE", 1), ("ADVANCE", 2),
+                ("RELEASE", 1), ("TERMINATE", 0), ("GENERATE", 3, 0), ("SEIZE", 1), ("ADVANCE", 2), ("RELEASE", 1), ("TERMINATE", 0),
+                ("GENERATE", 4, 0), ("ENTER", 1, 1), ("ADVANCE", 6), ("LEAVE", 1, 1), ("TERMINATE", 0),
+                ("GENERATE", 5, 0), ("ENTER", 1, 2), ("ADVANCE", 6), ("LEAVE", 1, 2), ("TERMINATE", 0),
+            ]  # fmt: skip
+            return Model(edition=edition, facilities=1, storages=[2], lists=6, counter=100, blocks=blocks)
+
+        for edition, folder, lifted, living in ((1, "yard", [2, 7], []), (2, "yard-1996", [7, 2], [Living(4, Place.QL)])):
+            stored, tape = covrith.load(MODELS / folder)
+            self.assertEqual(bytes(yard(edition)), stored)
+            self.assertEqual(covrith.Header.read(stored).edition, edition)
+            run = covrith.run(yard(edition), tape)
+            self.assertEqual([record.transaction for record in run.records() if (record.block, record.outcome) == (12, 0)], lifted)
+            self.assertEqual(run.report.living, living)
+        for edition in (0, 3):
+            with self.assertRaises(covrith.Refused) as refused:
+                covrith.run(yard(edition), tape)
+            self.assertEqual(refused.exception.refusal, covrith.Refusal.MODEL_RANGE)
+
     def test_every_kind_and_term(self):
         terms = [covrith.CLOCK, covrith.parameter(4), covrith.entries(1), covrith.content(1), covrith.units_in_use(1), covrith.constant(-300)]
         model = Model(

@@ -31,6 +31,8 @@ impl Header {
     /// let header = Header::read(&[1, 2, 1, 3, 0]).unwrap(); // two facilities, a storage of 3 units
     /// assert_eq!((header.facilities, &header.capacities[..], header.queues), (2, &[3][..], 0));
     /// assert_eq!(Header::read(&[1, 33]), Err(Refusal::ModelRange));
+    /// assert_eq!(Header::read(&[2, 0, 0, 0]).unwrap().edition, 2);
+    /// assert_eq!(Header::read(&[3, 0, 0, 0]), Err(Refusal::ModelRange));
     /// ```
     pub fn read(model: &[u8]) -> Result<Header, Refusal> {
         let mut numbers = Numbers::new(model);
