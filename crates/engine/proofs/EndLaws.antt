@@ -1,22 +1,20 @@
 -- The end before a turn over rows is the machine's.
-use Prim.Native.Nat.{ℕ, _+_, _≤_, _<_}
+use Prim.Native.Nat.{ℕ}
 use mathlib.Core.Path.{_≡_, refl, sym, ap, _∙_}
-use mathlib.Core.Bool.{Bool, true, false, cond, not, _&&_, _||_}
+use mathlib.Core.Bool.{Bool, true, false, cond, not, _&&_}
 use mathlib.Core.List.{List}
 use mathlib.Core.Option.{Option, none, some}
 use native.Mathlib.Omega.{arith}
 use borrow.Author.Tests.{lt-ltb, le-ltb, le-leb, lt-leb}
 use lib.Dec.{ltb, leb, eqb}
-use Rattle.machine.specs.Limits.{maxSerial, maxTurns}
 use Rattle.machine.specs.Transaction.{Transaction}
 use Rattle.machine.specs.State.{State}
 use Rattle.machine.specs.Run.{isNone, isEmpty, nobodyLeft, endBefore}
 use Rattle.rows.specs.Layout.{rel, fel}
 use Rattle.rows.specs.Lists.{first}
 use Rattle.rows.proofs.Take.{Head, nobody, somebody, head-shown, head-fel-shown}
-use Rattle.state.specs.declared.scalars.Scalars.{Scalars}
 use Rattle.state.specs.Stands.{Rows, listsOf, Moving, Listing, Stands}
-use Rattle.engine.specs.Ends.{nobodyRows, limitRows, endRows}
+use Rattle.engine.specs.Ends.{nobodyRows, wornRows, fullRows, limitRows, endRows}
 
 -- ---- Nobody left
 
@@ -53,18 +51,13 @@ nobody-left work moving s h =
 
 -- ---- The end
 
-either : {A : Type 0} (a b : Bool) (x y : A) → cond a x (cond b x y) ≡ cond (a || b) x y
-either true true x y = refl
-either true false x y = refl
-either false b x y = refl
-
 turned : {A : Type 0} (a : Bool) (x y : A) → cond a x y ≡ cond (not a) y x
 turned true x y = refl
 turned false x y = refl
 
 module _ (tapeBytes : List ℕ) (r : Rows) (s : State) (stands : Stands tapeBytes r (s .moving) s) (used : r .scalars .used ≡ s .written) where
   pub end-before : (budget room : ℕ) → endRows (r .work) (r .scalars) budget room ≡ endBefore budget room s
-  unfolding endRows limitRows endBefore
+  unfolding endRows limitRows wornRows fullRows endBefore
   end-before budget room =
       rw (
         nobody-left (r .work) (r .scalars .moving) s (stands .listing),
@@ -72,32 +65,5 @@ module _ (tapeBytes : List ℕ) (r : Rows) (s : State) (stands : Stands tapeByte
         stands .counting .serial,
         stands .counting .turns,
         used,
-        either (ltb maxSerial (s .serial)) (leb maxTurns (s .turns)),
       )
       (turned (eqb (s .end) 0) _ _)
-
--- ---- Limit by limit
-
-module _ (x : Scalars) (budget room : ℕ) where
-  pub limit-serials : maxSerial < x .serial → 26 ≡ limitRows x budget room
-  unfolding limitRows
-  limit-serials a = sym (rw (lt-ltb maxSerial (x .serial) a))
-
-  module _ (a : x .serial ≤ maxSerial) where
-    pub limit-turns : maxTurns ≤ x .turns → 26 ≡ limitRows x budget room
-    unfolding limitRows
-    limit-turns b = sym (rw (le-ltb maxSerial (x .serial) a, le-leb maxTurns (x .turns) b))
-
-    module _ (b : x .turns < maxTurns) where
-      pub limit-budget : budget ≤ x .turns → 3 ≡ limitRows x budget room
-      unfolding limitRows
-      limit-budget d = sym (rw (le-ltb maxSerial (x .serial) a, lt-leb maxTurns (x .turns) b, le-leb budget (x .turns) d))
-
-      module _ (d : x .turns < budget) where
-        pub limit-room : room < x .used + 12 → 4 ≡ limitRows x budget room
-        unfolding limitRows
-        limit-room e = sym (rw (le-ltb maxSerial (x .serial) a, lt-leb maxTurns (x .turns) b, lt-leb budget (x .turns) d, lt-ltb room (x .used + 12) e))
-
-        pub limit-none : x .used + 12 ≤ room → 0 ≡ limitRows x budget room
-        unfolding limitRows
-        limit-none e = sym (rw (le-ltb maxSerial (x .serial) a, lt-leb maxTurns (x .turns) b, lt-leb budget (x .turns) d, le-ltb room (x .used + 12) e))

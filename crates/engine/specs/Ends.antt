@@ -1,6 +1,6 @@
 -- The row machine: the end before a turn, from scalars and work buffer.
 use Prim.Native.Nat.{ℕ, _+_}
-use mathlib.Core.Bool.{Bool, false, cond}
+use mathlib.Core.Bool.{Bool, false, cond, _||_}
 use mathlib.Core.List.{List}
 use lib.Dec.{ltb, leb, eqb}
 use Rattle.machine.specs.Limits.{maxSerial, maxTurns, recordRoom}
@@ -12,14 +12,21 @@ use Rattle.state.specs.declared.scalars.Scalars.{Scalars}
 unfoldable pub nobodyRows : List ℕ → ℕ → Bool
 nobodyRows work moving = cond (ltb moving rowCount) false (cond (ltb (first work rel) rowCount) false (leb rowCount (first work fel)))
 
+-- "Last serial given above 99,997,952, or 100,000,000 turns done"
+unfoldable pub wornRows : Scalars → Bool
+wornRows x = ltb maxSerial (x .serial) || leb maxTurns (x .turns)
+
+-- "Fewer than 12 bytes left in the trace"
+unfoldable pub fullRows : (used room : ℕ) → Bool
+fullRows used room = ltb room (used + recordRoom)
+
 -- the limits on serials and turns, the budget and the room for a record
 unfoldable pub limitRows : Scalars → (budget room : ℕ) → ℕ
 limitRows x budget room =
-    cond (ltb maxSerial (x .serial)) 26
-    (cond (leb maxTurns (x .turns)) 26
+    cond (wornRows x) 26
     (cond (leb budget (x .turns)) 3
-    (cond (ltb room (x .used + recordRoom)) 4
-    0)))
+    (cond (fullRows (x .used) room) 4
+    0))
 
 -- the number of the end before the next turn, 0 for none
 unfoldable pub endRows : List ℕ → Scalars → (budget room : ℕ) → ℕ

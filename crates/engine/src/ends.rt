@@ -11,7 +11,7 @@ use rows::ROWS;
 use rows::lists::first;
 use state::Scalars;
 ghost use mathlib.Core.Path.{_≡_};
-ghost use Rattle.engine.specs.Ends.{nobodyRows, limitRows, endRows};
+ghost use Rattle.engine.specs.Ends.{nobodyRows, wornRows, fullRows, limitRows, endRows};
 
 // Nobody moves, and REL and FEL are empty.
 fn nobody_left(work: &[u32], moving: u32) -> bool
@@ -26,22 +26,36 @@ fn nobody_left(work: &[u32], moving: u32) -> bool
     ROWS <= first(work, FEL)
 }
 
+// "Last serial given above 99,997,952, or 100,000,000 turns done"
+fn worn_out(x: Scalars) -> bool
+    ensures { λ r. ⌜ r ≡ wornRows x ⌝ }
+{
+    if Model::MAX_SERIAL < x.serial {
+        return true;
+    }
+    Model::MAX_TURNS <= x.turns
+}
+
+// "Fewer than 12 bytes left in the trace"
+fn trace_full(used: usize, room: usize) -> bool
+    ensures { λ r. ⌜ r ≡ fullRows used room ⌝ }
+{
+    if room < Model::RECORD_ROOM {
+        return true;
+    }
+    room - Model::RECORD_ROOM < used
+}
+
 fn limit(x: Scalars, budget: u64, room: usize) -> u32
     ensures { λ r. ⌜ r ≡ limitRows x budget room ⌝ }
 {
-    if Model::MAX_SERIAL < x.serial {
-        return WORN_OUT;
-    }
-    if Model::MAX_TURNS <= x.turns {
+    if worn_out(x) {
         return WORN_OUT;
     }
     if budget <= x.turns as u64 {
         return BUDGET;
     }
-    if room < Model::RECORD_ROOM {
-        return TRACE_FULL;
-    }
-    if room - Model::RECORD_ROOM < x.used {
+    if trace_full(x.used, room) {
         return TRACE_FULL;
     }
     0

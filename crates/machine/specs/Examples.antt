@@ -4,12 +4,13 @@ use Prim.Native.Nat.{ℕ, suc, _+_}
 use mathlib.Core.Path.{_≡_, refl}
 use mathlib.Core.Bool.{true}
 use mathlib.Core.List.{List, [], _∷_, _++_, map}
-use mathlib.Core.Option.{some}
-use lib.IntN.{ℤ, pos, negsuc, _+ℤ_}
+use mathlib.Core.Option.{none, some}
+use lib.IntN.{ℤ, pos, negsuc}
 use lib.ListN.{length}
 use Rattle.machine.specs.Rules.{document01}
 use Rattle.machine.specs.Transaction.{Transaction, newborn}
-use Rattle.machine.specs.Term.{Server, Queue, wrap}
+use Rattle.machine.specs.Lists.{nth}
+use Rattle.machine.specs.Term.{Server, Queue}
 use Rattle.machine.specs.Block.{advance, terminate, seize, split, BlockModel}
 use Rattle.machine.specs.Trace.{Record}
 use Rattle.machine.specs.State.{State}
@@ -68,6 +69,12 @@ lengths model tape =
     elim (validate document01 model tape 16384 10240)
     [ accept m t ↦ lines (map (λ s. length (qlOf s 1) ∷ length (s .rel) ∷ []) (states m t 1000000 65536)) | reject n ↦ lines [] ]
 
+-- the first parameter of who moves, after so many turns
+parameter : List ℕ → List ℕ → (turns : ℕ) → Shown
+parameter model tape turns =
+    elim (validate document01 model tape 16384 10240)
+    [ accept m t ↦ elim (run m t turns 65536 .moving) [ some x ↦ integer (nth (x .parameters) 1 (pos 0)) | none ↦ lines [] ] | reject n ↦ lines ((n ∷ []) ∷ []) ]
+
 -- ---- The starred examples of document 01
 
 -- the first example
@@ -83,6 +90,13 @@ storageModel = 0x01 ∷ 0x00 ∷ 0x01 ∷ 0x02 ∷ 0x00 ∷ 0x00 ∷ 0x03 ∷ 0x
 
 unfoldable pub storageTape : List ℕ
 storageTape = 0x02 ∷ 0x01 ∷ 0x00 ∷ 0x02 ∷ 0x05 ∷ 0x08 ∷ 0x01 ∷ 0x02 ∷ []
+
+-- value 1 is 2,147,483,647 + 1, and LET makes it parameter 1
+wrapModel : List ℕ
+wrapModel = 0x01 ∷ 0x00 ∷ 0x00 ∷ 0x00 ∷ 0x01 ∷ 0x02 ∷ 0x00 ∷ 0x00 ∷ 0x87 ∷ 0xFF ∷ 0xFF ∷ 0xFF ∷ 0x7F ∷ 0x00 ∷ 0x00 ∷ 0x01 ∷ 0x01 ∷ 0x01 ∷ 0x03 ∷ 0x01 ∷ 0x01 ∷ 0x00 ∷ 0x0C ∷ 0x01 ∷ 0x09 ∷ 0x01 ∷ 0x03 ∷ 0x01 ∷ []
+
+wrapTape : List ℕ
+wrapTape = 0x01 ∷ 0x00 ∷ []
 
 -- Equal move time: priority 1 precedes an earlier priority 0
 equalTimeModel : List ℕ
@@ -136,8 +150,8 @@ starredList =
     -- and its trace
     (printed storageModel storageTape 1000000 gives
     lines ((1 ∷ 1 ∷ 1 ∷ 0 ∷ []) ∷ (1 ∷ 1 ∷ 2 ∷ 0 ∷ []) ∷ (1 ∷ 1 ∷ 3 ∷ 0 ∷ []) ∷ (1 ∷ 3 ∷ 1 ∷ 0 ∷ []) ∷ (1 ∷ 3 ∷ 2 ∷ 0 ∷ []) ∷ (1 ∷ 3 ∷ 3 ∷ 0 ∷ []) ∷ (2 ∷ 2 ∷ 6 ∷ 0 ∷ []) ∷ (2 ∷ 2 ∷ 7 ∷ 1 ∷ []) ∷ (6 ∷ 1 ∷ 4 ∷ 0 ∷ []) ∷ (6 ∷ 1 ∷ 5 ∷ 0 ∷ []) ∷ (9 ∷ 3 ∷ 4 ∷ 0 ∷ []) ∷ (9 ∷ 3 ∷ 5 ∷ 0 ∷ []) ∷ (9 ∷ 2 ∷ 7 ∷ 0 ∷ []) ∷ (9 ∷ 2 ∷ 8 ∷ 0 ∷ []) ∷ (2 ∷ 9 ∷ 3 ∷ 3 ∷ 0 ∷ []) ∷ (1 ∷ 3 ∷ 13 ∷ 1 ∷ 7 ∷ 1 ∷ []) ∷ [])) ∷
-    -- "2,147,483,647 + 1 is -2,147,483,648."
-    (integer (wrap (pos 2147483647 +ℤ pos 1)) gives
+    -- "2,147,483,647 + 1 is -2,147,483,648.": the parameter after GENERATE and LET
+    (parameter wrapModel wrapTape 2 gives
     integer (negsuc 2147483647)) ∷
     -- "80 01 is refused, 3.": the edition of the first example, padded
     (printed (0x80 ∷ firstModel) firstTape 1000000 gives
@@ -151,7 +165,7 @@ starredList =
     []
 
 pub starred : map (λ e. e .found) starredList ≡ map (λ e. e .wanted) starredList
-unfolding everything serverLines queueLines recordLine printedState printed lengths firstModel firstTape storageModel storageTape equalTimeModel equalTimeTape seizeAgainModel seizeAgainTape bareModel seizeOnly returner bothWoken serials starredList
+unfolding everything serverLines queueLines recordLine printedState printed lengths parameter firstModel firstTape storageModel storageTape wrapModel wrapTape equalTimeModel equalTimeTape seizeAgainModel seizeAgainTape bareModel seizeOnly returner bothWoken serials starredList
 starred = refl
 
 -- ---- Examples of our own, for what the starred ones miss

@@ -1,2 +1,2 @@
+pub mod Along
 pub mod Held
-pub mod Positions

@@ -3,13 +3,19 @@ use Prim.Native.Nat.{ℕ}
 use mathlib.Core.List.{List}
 use Rattle.machine.specs.Rules.{inForce}
 use Rattle.machine.specs.Trace.{Reading, taken, refusal, noMore, readRecord}
+use denote.Ref.{now}
+use Rattle.reader.specs.declared.Reader.{Reader}
 
 -- "A refusal leaves the position."
-unfoldable pub behind : ℕ → Reading → ℕ
-behind at (taken r next) = next
-behind at (refusal n) = at
-behind at noMore = at
+unfoldable pub positionBehind : ℕ → Reading → ℕ
+positionBehind at (taken r next) = next
+positionBehind at (refusal n) = at
+positionBehind at noMore = at
 
 -- the position after the record at a position
 unfoldable pub positionAfter : List ℕ → ℕ → ℕ
-positionAfter s at = behind at (readRecord inForce s at)
+positionAfter s at = positionBehind at (readRecord inForce s at)
+
+-- the reader after a call: the same bytes, and that position
+unfoldable pub moved : Reader → Reader
+moved r = record { bytes = r .bytes; at = positionAfter (now (r .bytes)) (r .at) }

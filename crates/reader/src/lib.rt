@@ -8,18 +8,18 @@ ghost use Rattle.machine.specs.Rules.{inForce};
 ghost use Rattle.machine.specs.Number.{countLow};
 ghost use Rattle.machine.specs.Trace.{readRecord};
 ghost use Rattle.trace.specs.Answers.{readingOf};
-ghost use Rattle.reader.specs.Position.{positionAfter};
+ghost use Rattle.reader.specs.Position.{positionBehind, moved};
 
 pub struct Reader<'a> {
     pub bytes: &'a [u8],
     pub at: usize,
 }
 
-// The position behind the record at a position. "A refusal leaves the position", and so does "no more".
-pub fn position_after(s: &[u8], at: usize) -> usize
-    ensures { λ r. ⌜ r ≡ positionAfter (now (s .entry)) at ⌝ }
+// The position behind an answer of the reader at a position. "A refusal leaves the position", and so does "no more".
+pub fn behind(x: Reading, at: usize) -> usize
+    ensures { λ r. ⌜ r ≡ positionBehind at (readingOf x) ⌝ }
 {
-    match read_record(s, at) {
+    match x {
         Reading::Taken(_, next) => next,
         Reading::Refused(_) => at,
         Reading::NoMore => at,
@@ -33,19 +33,21 @@ pub fn new<'a>(bytes: &'a [u8]) -> Reader<'a>
     Reader { bytes, at: 0 }
 }
 
-// The record at the reader's position, or the number of the refusal, or "no more".
-pub fn next<'a>(r: Reader<'a>) -> Reading
+// The record at the reader's position, or the number of the refusal, or "no more"; the reader keeps the position behind it.
+pub fn next<'s, 'a>(r: &'s mut Reader<'a>) -> Reading
+    ensures { λ x. ⌜ (readingOf x ≡ readRecord inForce (now (now (r .entry) .bytes)) (now (r .entry) .at)) × (now (r .exit) ≡ moved (now (r .entry))) ⌝ }
+{
+    let at = r.at;
+    let x = read_record(r.bytes, at);
+    r.at = behind(x, at);
+    x
+}
+
+// The same record, without moving on.
+pub fn peek<'a>(r: Reader<'a>) -> Reading
     ensures { λ x. ⌜ readingOf x ≡ readRecord inForce (now (r .entry .bytes)) (r .entry .at) ⌝ }
 {
     read_record(r.bytes, r.at)
-}
-
-// The reader behind that record.
-pub fn after<'a>(r: Reader<'a>) -> Reader<'a>
-    ensures { λ q. ⌜ (q .bytes ≡ r .entry .bytes) × (q .at ≡ positionAfter (now (r .entry .bytes)) (r .entry .at)) ⌝ }
-{
-    let at = position_after(r.bytes, r.at);
-    Reader { bytes: r.bytes, at }
 }
 
 // How many of the bytes are below 80 hexadecimal, whatever the position.
@@ -59,5 +61,5 @@ pub fn count<'a>(r: Reader<'a>) -> u64
 pub fn first(bytes: &[u8]) -> Reading
     ensures { λ x. ⌜ readingOf x ≡ readRecord inForce (now (bytes .entry)) 0 ⌝ }
 {
-    next(new(bytes))
+    peek(new(bytes))
 }

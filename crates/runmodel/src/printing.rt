@@ -12,6 +12,11 @@ use trace::Reading;
 ghost use mathlib.Core.Path.{_≡_};
 ghost use Prim.Native.Nat.{_+_, _*_, _≤_};
 ghost use lib.ListN.{length};
+ghost use lib.Seq.{sets};
+ghost use Rattle.machine.specs.Rules.{inForce};
+ghost use Rattle.machine.specs.Limits.{workNumbers, reportRoom};
+ghost use Rattle.machine.specs.Validate.{validate};
+ghost use Rattle.runmodel.specs.Fields.{fieldAt, numbersAt, behindNumbers, behindThings, headerFor};
 ghost use Rattle.runmodel.specs.Line.{letterRoom, numberRoom, lineRoom};
 
 // How many numbers the report has at its head, per server and per queue; a line has one more.
@@ -60,7 +65,9 @@ struct Field {
 }
 
 // The engine's report has a number at every position that is asked for here; elsewhere it counts as 0.
-fn number_at(report: &[u8], at: usize) -> Field {
+fn number_at(report: &[u8], at: usize) -> Field
+    ensures { λ r. ⌜ r ≡ fieldAt (now (report .entry)) at ⌝ }
+{
     match codec::read_report_number(report, at) {
         Read::Number(value, next) => Field { value, next },
         Read::Refused => Field { value: 0, next: at },
@@ -68,7 +75,9 @@ fn number_at(report: &[u8], at: usize) -> Field {
 }
 
 // The position behind so many numbers.
-fn skip(report: &[u8], at: usize, count: usize) -> usize {
+fn skip(report: &[u8], at: usize, count: usize) -> usize
+    ensures { λ r. ⌜ r ≡ behindNumbers (now (report .entry)) count at ⌝ }
+{
     let mut next = at;
     for _ in 0..count {
         next = number_at(report, next).next;
@@ -77,7 +86,9 @@ fn skip(report: &[u8], at: usize, count: usize) -> usize {
 }
 
 // The position behind the fields of so many servers or queues.
-fn skip_all(report: &[u8], at: usize, things: usize, count: usize) -> usize {
+fn skip_all(report: &[u8], at: usize, things: usize, count: usize) -> usize
+    ensures { λ r. ⌜ r ≡ behindThings (now (report .entry)) count things at ⌝ }
+{
     let mut next = at;
     for _ in 0..things {
         next = skip(report, next, count);
@@ -88,7 +99,8 @@ fn skip_all(report: &[u8], at: usize, things: usize, count: usize) -> usize {
 // The fields from a position on, so many of them, behind the first number; returns the position behind them.
 fn read_fields(report: &[u8], at: usize, count: usize, numbers: &mut [u64; NUMBERS]) -> usize
     requires { do ⌜ count ≤ (← ⟦SERVER⟧) ⌝ }
-    ensures { λ _. ⌜ length (now (numbers .exit)) ≡ length (now (numbers .entry)) ⌝ }
+    ensures { λ r. ⌜ r ≡ behindNumbers (now (report .entry)) count at ⌝ }
+    ensures numbers { λ _. ⌜ now (numbers .exit) ≡ sets (now (numbers .entry)) 1 (numbersAt (now (report .entry)) count at) ⌝ }
 {
     let mut next = at;
     let mut i = 0;
@@ -148,7 +160,9 @@ fn print_report(m: Model, outcome: Outcome, report: &[u8]) -> bool {
 }
 
 // How many servers and queues an accepted model has.
-fn header(model: &[u8], tape: &[u8]) -> Model {
+fn header(model: &[u8], tape: &[u8]) -> Model
+    ensures { λ r. ⌜ r ≡ headerFor (validate inForce (now (model .entry)) (now (tape .entry)) workNumbers reportRoom) ⌝ }
+{
     let mut tables = [0u32; TABLES];
     let mut lists = [0u64; LIST_CELLS];
     match decode::decode(

@@ -31,9 +31,10 @@ found =
     makeTape 0 three doubles 12
     -- the lists in another order
     ∷ makeTape 0 (2 ∷ 3 ∷ 3 ∷ 3 ∷ 1 ∷ 3 ∷ 0 ∷ 0 ∷ []) doubles 100
-    -- one byte too few; 42 before 43; 41 before both
+    -- one byte too few; 42 before 43, with no byte lent and where a list before it does not fit; 41 before both
     ∷ makeTape 0 three doubles 9
     ∷ makeTape 0 (1 ∷ 3 ∷ 9 ∷ 0 ∷ []) doubles 0
+    ∷ makeTape 0 (1 ∷ 3 ∷ 0 ∷ 0 ∷ 1 ∷ 3 ∷ 9 ∷ 0 ∷ []) doubles 3
     ∷ makeTape 512 (1 ∷ 3 ∷ 9 ∷ 0 ∷ []) doubles 0
     -- no lists; minus zero, which counts as 0
     ∷ makeTape 0 [] doubles 0
@@ -58,6 +59,7 @@ wanted =
     made (3 ∷ 8 ∷ 9 ∷ 14 ∷ 2 ∷ 7 ∷ 7 ∷ 2 ∷ 2 ∷ 3 ∷ [])
     ∷ made (3 ∷ 1 ∷ 1 ∷ 6 ∷ 3 ∷ 12 ∷ 12 ∷ 10 ∷ [])
     ∷ refusal 43
+    ∷ refusal 42
     ∷ refusal 42
     ∷ refusal 41
     ∷ made []

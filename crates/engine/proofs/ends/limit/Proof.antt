@@ -1,38 +1,30 @@
 -- `limit` meets its contract: limit by limit. Assumes nothing.
-use native.Mathlib.Omega.{arith}
-use Rattle.engine.proofs.EndLaws.{limit-serials, limit-turns, limit-budget, limit-room, limit-none}
+use mathlib.Core.Path.{sym, _∙_}
+use borrow.Author.Tests.{le-leb, lt-leb}
+use Rattle.engine.specs.Ends.{limitRows}
 use borrow.Author.Needs.{needs}
 use Rattle.engine.proofs.ends.limit.Statement.{statement}
 use Rattle.engine.proofs.ends.limit.Tie as tie
 
 returns : tie.Need-returns
-returns c = limit-serials _ _ _ (c .if1 .taken)
+unfolding limitRows
+returns c = sym (rw (sym (c .before .worn-out .ensures) ∙ c .if1 .taken))
 
 returns-2 : tie.Need-returns-2
-returns-2 c = limit-turns _ _ _ (c .before .before .if1 .left) (c .if2 .taken)
-
-cast-if3 : tie.Need-cast-if3
-cast-if3 c = search needs
+unfolding limitRows
+returns-2 c =
+    sym (rw (sym (c .before .before .before .worn-out .ensures) ∙ c .before .before .if1 .left, le-leb _ _ (c .if2 .taken)))
 
 returns-3 : tie.Need-returns-3
+unfolding limitRows
 returns-3 c =
-    limit-budget _ _ _ (c .before .before .before .before .if1 .left) (c .before .before .if2 .left) (c .if3 .taken)
+    sym (rw (sym (c .before .before .before .before .before .worn-out .ensures) ∙ c .before .before .before .before .if1 .left, lt-leb _ _ (c .before .before .if2 .left), sym (c .before .trace-full .ensures) ∙ c .if3 .taken))
 
 returns-4 : tie.Need-returns-4
+unfolding limitRows
 returns-4 c =
-    limit-room _ _ _ (c .before .before .before .before .before .if1 .left) (c .before .before .before .if2 .left)
-    (c .before .if3 .left) (omega (arith, c .if4 .taken))
-
-returns-5 : tie.Need-returns-5
-returns-5 c =
-    limit-room _ _ _ (c .before .before .before .before .before .before .before .if1 .left) (c .before .before .before .before .before .if2 .left)
-    (c .before .before .before .if3 .left) (omega (arith, c .if5 .taken, c .before .before .if4 .left))
-
-returns-6 : tie.Need-returns-6
-returns-6 c =
-    limit-none _ _ _ (c .before .before .before .before .before .before .before .if1 .left) (c .before .before .before .before .before .if2 .left)
-    (c .before .before .before .if3 .left) (omega (arith, c .if5 .left, c .before .before .if4 .left))
+    sym (rw (sym (c .before .before .before .before .before .worn-out .ensures) ∙ c .before .before .before .before .if1 .left, lt-leb _ _ (c .before .before .if2 .left), sym (c .before .trace-full .ensures) ∙ c .if3 .left))
 
 pub limit-spec : {M : Type 1} → statement M
 limit-spec =
-    tie.close (tie.spec returns returns-2 cast-if3 returns-3 returns-4 returns-5 returns-6)
+    tie.close (tie.spec (λ c κs. search needs) returns (search needs) returns-2 (λ c κs. search needs) returns-3 returns-4)

@@ -1,9 +1,9 @@
 -- `printing::print_all` is safe and ends. The measure is what is left of the servers or queues.
 use Prim.Native.Nat.{_≤_, _-_}
 use native.Mathlib.Omega.{arith}
-use mathlib.Core.Path.{_≡_, sym}
+use mathlib.Core.Path.{_≡_, sym, ap}
 use lib.ListN.{length, length-set, length-take}
-use lib.Seq.{length-take-le}
+use lib.Seq.{length-sets, length-take-le}
 use borrow.Author.Needs.{needs}
 use Rattle.runmodel.proofs.printing.print_all.Statement.{statement}
 use Rattle.runmodel.proofs.printing.print_all.Tie as tie
@@ -30,13 +30,13 @@ add-numbers : tie.Need-add-numbers Inv-loop μ-loop
 add-numbers c = search needs
 
 array-share-prefix-numbers : tie.Need-array-share-prefix-numbers Inv-loop μ-loop
-array-share-prefix-numbers c = omega (arith, simp length-set at (c .read-fields .ensures))
+array-share-prefix-numbers c = omega (arith, simp (length-sets, length-set) at (ap length (c .read-fields .ensures .1)))
 
 slice-aggregate-print-line : tie.Need-slice-aggregate-print-line Inv-loop μ-loop
-slice-aggregate-print-line c = sym (length-take-le _ _ (omega (arith, simp length-set at (c .before .read-fields .ensures))))
+slice-aggregate-print-line c = sym (length-take-le _ _ (omega (arith, simp (length-sets, length-set) at (ap length (c .before .read-fields .ensures .1)))))
 
 print-line-requires : tie.Need-print-line-requires Inv-loop μ-loop
-print-line-requires c κs = simp length-take (omega (arith, simp length-set at (c .before .read-fields .ensures)))
+print-line-requires c κs = simp length-take (omega (arith, simp (length-sets, length-set) at (ap length (c .before .read-fields .ensures .1))))
 
 returns : tie.Need-returns Inv-loop μ-loop
 returns c = search needs
@@ -45,7 +45,7 @@ loop-less : tie.Need-loop-less Inv-loop μ-loop
 loop-less c = search needs
 
 loop-again : tie.Need-loop-again Inv-loop μ-loop
-loop-again c = (omega arith, omega (arith, simp length-set at (c .before .before .before .read-fields .ensures)))
+loop-again c = (omega arith, omega (arith, simp (length-sets, length-set) at (ap length (c .before .before .before .read-fields .ensures .1))))
 
 returns-2 : tie.Need-returns-2 Inv-loop μ-loop
 returns-2 c = search needs
