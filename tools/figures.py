@@ -39,7 +39,7 @@ def check_limits_told(values, ends, refusals):
         f"ends {before[0]} to {before[-1]} included",
         f"stopped (ends {stops[0]} to {stops[-1]},",
         f"A run that is stopped ({stops[0]} to {stops[-1]})",
-        f"A RELEASE by another ({ends['NOT_HOLDER']}) tells the holder, and a TERMINATE of a holder ({ends['STILL_HOLDS']})",
+        f"A RELEASE by another ({ends['NOT_HOLDER']}) tells the holder, and a TERMINATE or ASSEMBLE of a holder ({ends['STILL_HOLDS']})",
     )
     says(
         docs / "COLUMNS.md",
@@ -67,7 +67,7 @@ def check_limits_told(values, ends, refusals):
     says(
         docs / "ARCHITECTURE.md",
         f"({low} to {high:,} are spare)",
-        f"({' and '.join(fields)} are spare)",
+        f"({' and '.join(fields)} {'is' if len(fields) == 1 else 'are'} spare)",
         f"its {servers} cells in `tables`",
         f"the starts of {stream + 1} streams",
     )
