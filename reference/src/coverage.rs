@@ -223,8 +223,7 @@ impl Coverage {
             self.turns.push(outcome.turns);
             self.count_names(&case.model);
         }
-        if outcome.refusal == 7 {
-            let model = read_model(self.rules, &case.model).expect("refused with 7");
+        if let (7, Ok(model)) = (outcome.refusal, read_model(self.rules, &case.model)) {
             self.groups.refused(&model);
         }
         outcome
