@@ -11,8 +11,8 @@ use Rattle.machine.specs.Transaction.{Transaction, precedes}
 use Rattle.machine.specs.Lists.{insert, anyOf}
 use Rattle.machine.specs.Term.{View}
 use Rattle.machine.specs.Block.{Share, facility, storage, aboveOne, BlockModel}
-use Rattle.machine.specs.Moves.{fromBack, lineUp, Parted, firstOf, partBy}
-use Rattle.machine.specs.Execute.{unitsOf, fits, firstOfOne, fromFront, queueRemove, partFor}
+use Rattle.machine.specs.Moves.{fromBack, lineUp, Parted, firstOf}
+use Rattle.machine.specs.Execute.{unitsOf, firstOfOne, fromFront, queueRemove, partFor}
 use Rattle.machine.specs.Claims.{Each}
 use Rattle.machine.proofs.RunLaws.{cond-cases}
 use Rattle.machine.proofs.Sums.{sumOn, sum-append, sum-insert, sum-those, sum-first}
@@ -99,7 +99,7 @@ module _ (f : Transaction → ℕ) (m : BlockModel) where
   sum-partFor (facility v) w l = sum-first f l
   sum-partFor (storage v b) w l =
       let same : Parted → Type 0 = λ p. sumOn f (p .go) + sumOn f (p .stay) ≡ sumOn f l in
-      cond-cases same (eqb (m .edition) 1) _ _ (λ e. sum-those f (fits m w v) l)
+      cond-cases same (eqb (m .edition) 1) _ _ (λ e. sum-those f _ l)
       (λ e. cond-cases same (anyOf aboveOne (m .blocks)) _ _
       (λ a. cond-cases same (eqb b 1) _ _ (λ o. sum-firstOfOne l) (λ o. sum-fromFront b l)) (λ a. sum-first f l))
 
@@ -127,8 +127,3 @@ module _ (P : Transaction → Type 0) (m : BlockModel) where
       cond-cases (Both P) (eqb (m .edition) 1) _ _ (λ e. (each-those P _ l h, each-those P _ l h))
       (λ e. cond-cases (Both P) (anyOf aboveOne (m .blocks)) _ _
       (λ a. cond-cases (Both P) (eqb b 1) _ _ (λ o. both-firstOfOne l h) (λ o. both-fromFront b l h)) (λ a. both-first P l h))
-
--- edition 1
-pub partFor-one : (m : BlockModel) (v b : ℕ) (w : View) (l : List Transaction) → m .edition ≡ 1 → partFor m (storage v b) w l ≡ partBy (fits m w v) l
-unfolding partFor
-partFor-one m v b w l e = rw (eq-eqb (m .edition) 1 e)
