@@ -82,7 +82,6 @@ module _ (m : BlockModel) (tape : List (List ℕ)) where
     ordered-step s′ (returns z q) =
         ordered-as s′ (q .records) (q .serials)
         (λ f k. omega (arith, q .weights f, cond-cases (λ n. n ≡ 0) (t .returning) (weight f t) 0 (λ e. k (waitOf t) z) (λ e. refl))) (q .moving tt) (h .linked) in-order
-
     ordered-step s′ (assembles z q) =
         ordered-as s′ (q .records) (q .serials) (λ f k. omega (arith, q .weights f, k (waitOf (withSerial (fresh idle-hand) t)) z)) (q .moving tt)
         (linked-begins t idle-hand (h .alone) (h .linked))

@@ -29,8 +29,8 @@ module _ (f : Place → ℕ) where
       omega (
         arith,
         sum-append f
-        (placed 1 (flat (s .ql)) ++ placed 2 (flat (s .wel)) ++ placed 3 (s .wsl) ++ placed 4 (map (λ e. e .who) (s .fel)) ++ placed 5 (s .rel) ++ placed 6 (movingOne (s .moving)))
-        (placed 7 (map (λ g. g .who) (flat (s .gatherers)))),
+            (placed 1 (flat (s .ql)) ++ placed 2 (flat (s .wel)) ++ placed 3 (s .wsl) ++ placed 4 (map (λ e. e .who) (s .fel)) ++ placed 5 (s .rel) ++ placed 6 (movingOne (s .moving)))
+            (placed 7 (map (λ g. g .who) (flat (s .gatherers)))),
         sum-append f (placed 1 (flat (s .ql)) ++ placed 2 (flat (s .wel)) ++ placed 3 (s .wsl) ++ placed 4 (map (λ e. e .who) (s .fel)) ++ placed 5 (s .rel)) (placed 6 (movingOne (s .moving))),
         sum-append f (placed 1 (flat (s .ql)) ++ placed 2 (flat (s .wel)) ++ placed 3 (s .wsl) ++ placed 4 (map (λ e. e .who) (s .fel))) (placed 5 (s .rel)),
         sum-append f (placed 1 (flat (s .ql)) ++ placed 2 (flat (s .wel)) ++ placed 3 (s .wsl)) (placed 4 (map (λ e. e .who) (s .fel))),

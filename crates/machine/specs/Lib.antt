@@ -28,3 +28,4 @@ pub mod WaitExamples
 pub mod YearExamples
 pub mod HolderExamples
 pub mod JoinedExamples
+pub mod GatherExamples

@@ -1,4 +1,4 @@
--- Document 02, item 7, adds a kind of block: every run of a model that is accepted without it stays as it was. Proved in
+-- Document 02, items 7 and 8, each add a kind of block: every run of a model that is accepted without it stays as it was. Proved in
 -- ../proofs/OlderModels.antt, for any setting of the other rules.
 use Prim.Native.Nat.{ℕ, _≤_}
 use mathlib.Core.Path.{_≡_}
