@@ -13,7 +13,7 @@ use Rattle.machine.specs.Block.{Code, U, NU, E, NE, F, NF, status, Block
 use Rattle.machine.specs.State.{State}
 use Rattle.machine.specs.Moves.{enters, moveTo, goOn, toWel, toWsl, beginWait, mustWait, wakeFirstWel, wakeWsl, timesLeft, arrival, waitsFor, toGatherers, comes, released}
 use Rattle.machine.specs.Setters.{setEnded}
-use Rattle.machine.specs.Execute.{checkWel, checkWels, stamped, gathers, effect, takeUnits}
+use Rattle.machine.specs.Execute.{checkWel, checkWels, stamped, gathers, gathering, effect, takeUnits}
 use Rattle.machine.specs.Turn.{waitsOn, wsScheme}
 use Rattle.machine.specs.Run.{startOf}
 use Rattle.machine.proofs.RunLaws.{cond-cases}
@@ -65,7 +65,7 @@ module _ (Q : State → Type 0) where
   assemble-cases m n t s first last more = go (waitsFor t s) refl
     where
       go : (l : List Gatherer) → waitsFor t s ≡ l
-          → Q (Rattle.machine.specs.Execute.gathering (λ f. f (enters t s)) (λ put. mustWait put t s) (λ f. f s) (λ put. beginWait put t s) l n t)
+          → Q (gathering (λ f. f (enters t s)) (λ put. mustWait put t s) (λ f. f s) (λ put. beginWait put t s) l n t)
       go [] e = first e
       go (g ∷ l) e = cond-cases Q _ _ _ (last g l e) (more g l e)
 

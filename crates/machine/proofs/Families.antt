@@ -8,12 +8,12 @@ use mathlib.Core.Option.{Option, none, some}
 use native.Mathlib.Omega.{arith}
 use borrow.Author.Tests.{lt-ltb, le-ltb, le-leb, lt-leb}
 use lib.Dec.{ltb, leb, eqb}
-use Rattle.machine.specs.Transaction.{Transaction, newborn}
+use Rattle.machine.specs.Transaction.{Transaction, Gatherer, newborn}
 use Rattle.machine.specs.Term.{serverAt, free}
 use Rattle.machine.specs.Block.{Code, Share, facility, storage, shareServer, shareUnits, Block, generate, advance, terminate, takes, frees, waitServer, waitTerms, moves, assign, priority, split, counts, assemble, facts, BlockModel, blockAt}
 use Rattle.machine.specs.State.{State, Logged}
-use Rattle.machine.specs.Setters.{withSerial, setMoving, setTurns, setSerial, setEnded}
-use Rattle.machine.specs.Moves.{recordOf, log, enters, moveTo, fresh, toRel, toFel, toQl, toWel, toWsl, beginWait, mustWait, wakeQl, wakeFirstWel, wakeWsl, setUse, setContent, arrival, copyOf, copies, toGatherers, comes, released}
+use Rattle.machine.specs.Setters.{withSerial, setMoving, setTurns, setSerial, setMade, setEnded}
+use Rattle.machine.specs.Moves.{recordOf, log, enters, moveTo, fresh, toRel, toFel, toQl, toWel, toWsl, beginWait, mustWait, wakeQl, wakeFirstWel, wakeWsl, setUse, setContent, useTime, arrival, copyOf, copies, waitsFor, toGatherers, comes, released}
 use Rattle.machine.specs.Execute.{takeUnits, wakeFor, checkWels, endsOne, delay, effect}
 use Rattle.machine.specs.Turn.{taking, answer, execute, wsScheme, turn}
 use Rattle.machine.specs.Run.{idle, startAt, start}
@@ -117,7 +117,7 @@ module _ (m : BlockModel) (tape : List (List ℕ)) where
   unfolding arrival newborn toFel
   kindred-arrival [] list p n s own h = h
   kindred-arrival (time ∷ l) list p n s own h =
-      let made : State = Rattle.machine.specs.Setters.setMade (suc (s .made)) (Rattle.machine.specs.Moves.useTime list s) in
+      let made : State = setMade (suc (s .made)) (useTime list s) in
       let P : Transaction → Type 0 = Kin (s .records) (suc (s .made)) in
       toFel-everybody P (unmoved (s .records) (suc (s .made))) (s .view .clock + time) (newborn (suc (s .made)) p n) made (omega arith, sym own)
       (like P (unmoved (s .records) (suc (s .made))) s made refl refl refl refl refl refl refl (everybody-up (λ t p. (omega (arith, p .0), p .1)) s h))
@@ -127,7 +127,7 @@ module _ (m : BlockModel) (tape : List (List ℕ)) where
   unfolding copies
   kindred-copies zero target t s of h = h
   kindred-copies (suc n) target t s of h =
-      let made : State = Rattle.machine.specs.Setters.setMade (suc (s .made)) s in
+      let made : State = setMade (suc (s .made)) s in
       let P : Transaction → Type 0 = Kin (s .records) (suc (s .made)) in
       kindred-copies n target t (toRel (copyOf t (suc (s .made)) target) made) (unfold toRel in (λ k low high. of k (omega arith) (omega arith)))
       (kindred-toRel (copyOf t (suc (s .made)) target) made (omega arith, of (suc (s .made)) (omega arith) (omega arith))
@@ -254,7 +254,7 @@ module _ (m : BlockModel) (tape : List (List ℕ)) where
         later : State
         later = setEnded (suc (enters t s .ended)) (enters t s)
 
-        waiter : (g : Rattle.machine.specs.Transaction.Gatherer) (l : List Rattle.machine.specs.Transaction.Gatherer) → Rattle.machine.specs.Moves.waitsFor t s ≡ g ∷ l
+        waiter : (g : Gatherer) (l : List Gatherer) → waitsFor t s ≡ g ∷ l
             → Kin (enters t s .records) (enters t s .made) (g .who)
         waiter g l e = unfold enters log in (waiter-everybody _ (unmoved (enters t s .records) (enters t s .made)) t later g l e ended)
 

@@ -28,4 +28,5 @@ pub mod WaitExamples
 pub mod YearExamples
 pub mod HolderExamples
 pub mod JoinedExamples
+pub mod GatherExamples
 pub mod EditionExamples
