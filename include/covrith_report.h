@@ -63,10 +63,10 @@ static inline const char *covrith_end_words(uint64_t end) {
     case 21: return "no living place is free for a new transaction";
     case 22: return "a move time would pass the limit of the clock";
     case 23: return "an ADVANCE found no time left in its list";
-    case 24: return "a RELEASE found its facility idle, or a LEAVE found fewer units in use than it frees";
+    case 24: return "a RELEASE or a RETURN found its facility idle, or a LEAVE found fewer units in use than it frees";
     case 25: return "a DEPART found its queue without content";
     case 26: return "the last serial given is above 99,997,952, or 100,000,000 turns are done";
-    case 27: return "a RELEASE by another than the holder of its facility";
+    case 27: return "a RELEASE by another than the one that seized its facility, or a RETURN by another than the one that preempted it";
     case 28: return "one that still holds a facility would end, at a TERMINATE or an ASSEMBLE";
     default: return NULL;
     }
@@ -106,6 +106,7 @@ static inline const char *covrith_place_words(uint64_t place) {
     case 5: return "REL";
     case 6: return "moving";
     case 7: return "gathering";
+    case 8: return "interrupted";
     default: return NULL;
     }
 }

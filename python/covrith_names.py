@@ -36,10 +36,10 @@ class End(_Named):
     NO_PLACE = 21, "no living place is free for a new transaction"
     CLOCK_LIMIT = 22, "a move time would pass the limit of the clock"
     NO_TIME = 23, "an ADVANCE found no time left in its list"
-    NOT_IN_USE = 24, "a RELEASE found its facility idle, or a LEAVE found fewer units in use than it frees"
+    NOT_IN_USE = 24, "a RELEASE or a RETURN found its facility idle, or a LEAVE found fewer units in use than it frees"
     NO_CONTENT = 25, "a DEPART found its queue without content"
     RUN_LIMIT = 26, "the last serial given is above 99,997,952, or 100,000,000 turns are done"
-    NOT_HOLDER = 27, "a RELEASE by another than the holder of its facility"
+    NOT_HOLDER = 27, "a RELEASE by another than the one that seized its facility, or a RETURN by another than the one that preempted it"
     STILL_HOLDS = 28, "one that still holds a facility would end, at a TERMINATE or an ASSEMBLE"
 
 
@@ -79,6 +79,7 @@ class Place(_Named):
     REL = 5, "REL"
     MOVING = 6, "moving"
     GATHERING = 7, "gathering"
+    INTERRUPTED = 8, "interrupted"
 
 
 class Kind(_Named):
@@ -102,6 +103,8 @@ class Kind(_Named):
     DEPART = 16, "queue"
     WAITIF_JOINED = 17, "code server back"
     ASSEMBLE = 18, "count"
+    PREEMPT = 19, "facility"
+    RETURN = 20, "facility"
 
     @property
     def operands(self) -> int:

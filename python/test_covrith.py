@@ -97,6 +97,20 @@ class Runs(unittest.TestCase):
         run = covrith.run(model, tape, budget=16)
         self.assertEqual(run.report.living[0], Living(1, Place.GATHERING))
 
+    def test_taken_over(self):
+        blocks = [
+            ("GENERATE", 1, 0), ("ARRIVE", 1), ("SEIZE", 1), ("ADVANCE", 2), ("RELEASE", 1), ("DEPART", 1), ("TERMINATE", 1),
+            ("GENERATE", 3, 1), ("ARRIVE", 2), ("SEIZE", 2), ("PREEMPT", 1), ("ADVANCE", 4), ("RETURN", 1), ("RELEASE", 2), ("DEPART", 2), ("TERMINATE", 0),
+        ]  # fmt: skip
+        model = Model(facilities=2, queues=2, lists=4, counter=24, blocks=blocks)
+        stored, tape = covrith.load(MODELS / "quay")
+        self.assertEqual(bytes(model), stored)
+        run = covrith.run(model, tape)
+        self.assertEqual((run.end, run.ended, run.report.facilities[0].entries), (End.COUNTER, 64, 24 + 40))
+        # ferry 24 has the crane, and barge 22 is interrupted
+        run = covrith.run(model, tape, budget=200)
+        self.assertEqual([one for one in run.report.living if one.transaction in (22, 24)], [Living(22, Place.INTERRUPTED), Living(24, Place.FEL)])
+
     def test_editions(self):
         def yard(edition):
             blocks = [
@@ -150,6 +164,11 @@ class Runs(unittest.TestCase):
         self.assertIs(end([("SEIZE", 1), ("TERMINATE", 1)]), End.STILL_HOLDS)
         self.assertIs(end([("SEIZE", 1), ("RELEASE", 1), ("TERMINATE", 1)]), End.COUNTER)
         self.assertIs(end([("SPLIT", 1, 5), ("SEIZE", 1), ("ADVANCE", 2), ("ASSEMBLE", 2)], [(1,), (5,)]), End.STILL_HOLDS)
+        self.assertIs(end([("RETURN", 1)]), End.NOT_IN_USE)
+        self.assertIs(end([("PREEMPT", 1), ("RELEASE", 1)]), End.NOT_HOLDER)
+        self.assertIs(end([("SEIZE", 1), ("RETURN", 1)]), End.NOT_HOLDER)
+        self.assertIs(end([("PREEMPT", 1)]), End.STILL_HOLDS)
+        self.assertIs(end([("PREEMPT", 1), ("RETURN", 1), ("TERMINATE", 1)]), End.COUNTER)
 
     def test_late_clocks(self):
         walker = Model([("GENERATE", 1, 0), ("TERMINATE", 1)], lists=1, counter=9)
@@ -157,6 +176,11 @@ class Runs(unittest.TestCase):
         run = covrith.run(walker, [[longest] * 3 + [2_000_000_000]])
         self.assertEqual((run.end, run.clock, run.report.clock), (End.DRY, last, last))
         self.assertEqual(list(run.records())[-1], Record(last, 4, 2, 0))
+        late = [("SEIZE", 1), ("ADVANCE", 2), ("RELEASE", 1), ("TERMINATE", 0), ("GENERATE", 1, 1), ("PREEMPT", 1), *[("ADVANCE", 3)] * 3, ("RETURN", 1)]
+        taken_over = Model([("GENERATE", 1, 0), *late, ("TERMINATE", 1)], facilities=1, lists=3)
+        for more, end in ((0, End.COUNTER), (1, End.CLOCK_LIMIT)):
+            run = covrith.run(taken_over, [[0, 5], [longest], [longest, longest, 2_000_000_000 + more]])
+            self.assertEqual((run.end, run.clock), (end, 22_000_000_005 + more))
         run = covrith.run(walker, [[longest] * 3 + [2_000_000_001]])
         self.assertEqual((run.end, run.clock), (End.CLOCK_LIMIT, 3 * longest))
         self.assertEqual(list(covrith.records(covrith.record_bytes((last, 100_000_000, 256, 1)))), [Record(last, 100_000_000, 256, 1)])

@@ -39,7 +39,7 @@ def check_limits_told(values, ends, refusals):
         f"ends {before[0]} to {before[-1]} included",
         f"stopped (ends {stops[0]} to {stops[-1]},",
         f"A run that is stopped ({stops[0]} to {stops[-1]})",
-        f"A RELEASE by another ({ends['NOT_HOLDER']}) tells the holder, and a TERMINATE or ASSEMBLE of a holder ({ends['STILL_HOLDS']})",
+        f"A RELEASE or RETURN by another ({ends['NOT_HOLDER']}) tells the holder, and a TERMINATE or ASSEMBLE of a holder ({ends['STILL_HOLDS']})",
     )
     says(
         docs / "COLUMNS.md",

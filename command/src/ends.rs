@@ -6,7 +6,7 @@ use crate::study::Study;
 use crate::walk::{facility, Walk};
 use crate::words;
 use engine::{Place, Run};
-use modeltext::words::RELEASE;
+use modeltext::words::{RELEASE, RETURN};
 
 /// The end in a line, and a remedy in another where one is needed.
 pub fn told(study: &Study, run: &Run, walk: &Walk, lent: Lent) -> Vec<String> {
@@ -95,12 +95,14 @@ fn stopped(study: &Study, run: &Run, walk: &Walk, stop: &words::Stop) -> String 
     let moving = living.find(|one| one.place == Place::Moving);
     let number = moving.map_or(0, |one| one.transaction);
     let blocks = candidates(study, walk, number, stop);
-    let kind = |block: &u64| study.block(*block).map_or(0, |block| block.kind);
     let mut why: Vec<&str> = Vec::new();
-    for words in blocks.iter().filter_map(|block| stop.why(kind(block))) {
-        if !why.contains(&words) {
-            why.push(words);
-        }
+    for block in blocks.iter().filter_map(|block| study.block(*block)) {
+        let own = facility(block).is_some_and(|f| walk.holders.of.get(&f) == Some(&number));
+        let words = match stop.end {
+            27 if own => Some(words::other_way(block.kind)),
+            _ => stop.why(block.kind),
+        };
+        why.extend(words.filter(|words| !why.contains(words)));
     }
     format!(
         "{}: {}: {}{}",
@@ -116,11 +118,12 @@ fn holding(study: &Study, walk: &Walk, number: u64, blocks: &[u64], stop: &words
     let mut names: Vec<String> = match stop.end {
         27 => {
             let named = blocks.iter().filter_map(|b| facility(study.block(*b)?));
-            let holders = named.filter_map(|f| walk.holders.get(&f));
-            holders.map(|n| format!("transaction {n}")).collect()
+            let holders = named.filter_map(|f| walk.holders.of.get(&f));
+            let others = holders.filter(|n| **n != number);
+            others.map(|n| format!("transaction {n}")).collect()
         }
         28 => {
-            let own = walk.holders.iter().filter(|(_, n)| **n == number);
+            let own = walk.holders.of.iter().filter(|(_, n)| **n == number);
             let names = own.map(|(f, _)| study.names.facilities.get(*f as usize - 1));
             names.flatten().cloned().collect()
         }
@@ -133,7 +136,7 @@ fn holding(study: &Study, walk: &Walk, number: u64, blocks: &[u64], stop: &words
     }
 }
 
-/// The blocks that it may have been about to enter and that can end so: by their kind, and a RELEASE by the holder of its facility.
+/// The blocks that it may have been about to enter and that can end so: by their kind, and a RELEASE or RETURN by who holds its facility.
 pub fn candidates(study: &Study, walk: &Walk, number: u64, stop: &words::Stop) -> Vec<u64> {
     let life = walk.living.get(&number).copied().unwrap_or_default();
     let mut blocks = life.next(study);
@@ -141,10 +144,13 @@ pub fn candidates(study: &Study, walk: &Walk, number: u64, stop: &words::Stop) -
         let Some(block) = study.block(*block) else {
             return false;
         };
-        let holder = facility(block).and_then(|f| walk.holders.get(&f));
+        let f = facility(block).unwrap_or(0);
+        let in_use = walk.holders.of.contains_key(&f);
+        let may = walk.holders.may_give(block.kind, f, number);
         let held = match (block.kind, stop.end) {
-            (RELEASE, 24) => holder.is_none(),
-            (RELEASE, 27) => holder.is_some_and(|n| *n != number),
+            (RELEASE | RETURN, 24) => !in_use,
+            (RELEASE | RETURN, 27) => in_use && !may,
+            (RETURN, 22) => may && walk.holders.interrupted.contains_key(&f),
             _ => true,
         };
         held && stop.why(block.kind).is_some()

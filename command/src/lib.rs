@@ -7,6 +7,7 @@ pub mod execute;
 pub mod explain;
 pub mod failure;
 pub mod files;
+pub mod holders;
 pub mod judge;
 pub mod limits;
 pub mod page;

@@ -1,10 +1,11 @@
 //! One walk over the records of a run: entries and waits of each block, how each transaction was made, and where the living were last.
 
+use crate::holders::Holders;
 use crate::study::Study;
 use engine::{Place, Record, Run};
 use modeltext::model::{Block, Operand};
 use modeltext::words::{
-    ADVANCE, ASSEMBLE, GENERATE, GOTO, IF, RELEASE, SEIZE, SPLIT, WAITIF_JOINED, WAITIF_STATUS,
+    ADVANCE, ASSEMBLE, GENERATE, GOTO, IF, SPLIT, WAITIF_JOINED, WAITIF_STATUS,
 };
 use std::collections::BTreeMap;
 use std::ops::Range;
@@ -164,8 +165,7 @@ pub struct Walk {
     pub last: Option<Record>,
     /// The living, by number.
     pub living: BTreeMap<u64, Life>,
-    /// The holder of each facility that is in use.
-    pub holders: BTreeMap<u32, u64>,
+    pub holders: Holders,
 }
 
 /// The facility that a block names.
@@ -183,7 +183,7 @@ pub fn walk(study: &Study, run: &Run) -> Walk {
         made: 0,
         last: None,
         living: living.map(|l| (l.transaction, Life::at(l.place))).collect(),
-        holders: BTreeMap::new(),
+        holders: Holders::default(),
     };
     let mut births = Births::start(study, |number, birth| {
         if let Some(life) = walk.living.get_mut(&number) {
@@ -207,25 +207,10 @@ pub fn walk(study: &Study, run: &Run) -> Walk {
         if let Some(life) = walk.living.get_mut(&record.transaction) {
             life.last = Some(record);
         }
-        walk.hold(study, &record);
+        walk.holders.record(study, &record);
         walk.records += 1;
         walk.last = Some(record);
     }
     walk.made = births.made;
     walk
-}
-
-impl Walk {
-    /// A SEIZE that is entered writes the holder, a RELEASE clears it.
-    fn hold(&mut self, study: &Study, record: &Record) {
-        let block = study.block(record.block).filter(|_| record.entered());
-        let Some((block, f)) = block.and_then(|b| Some((b, facility(b)?))) else {
-            return;
-        };
-        match block.kind {
-            SEIZE => self.holders.insert(f, record.transaction),
-            RELEASE => self.holders.remove(&f),
-            _ => None,
-        };
-    }
 }

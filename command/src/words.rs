@@ -1,6 +1,6 @@
 //! What the engine's numbers mean to a person. A new end or place is a line here (kinds and status codes: `modeltext::words`).
 
-use modeltext::words::{ADVANCE, ASSEMBLE, GENERATE, RELEASE, SPLIT, TERMINATE};
+use modeltext::words::{ADVANCE, ASSEMBLE, GENERATE, RELEASE, RETURN, SPLIT, TERMINATE};
 
 /// An end that a question inside a turn gives: the kinds of block that it comes from, each with the reason in words.
 pub struct Stop {
@@ -18,7 +18,11 @@ const DEPART: u32 = 16;
 
 const NO_PLACE: &str = "no living place is free for a new transaction";
 const CLOCK: &str = "the move time would pass the limit of the clock";
+const CLOCK_AGAIN: &str =
+    "the move time of the one that gets it back would pass the limit of the clock";
 const HOLDS: &str = "it still holds a facility";
+const NOT_IN_USE: &str = "not in use";
+const ANOTHER: &str = "another holds it";
 
 pub const STOPS: &[Stop] = &[
     stop(
@@ -28,7 +32,11 @@ pub const STOPS: &[Stop] = &[
     ),
     stop(
         22,
-        &[(GENERATE, CLOCK), (ADVANCE, CLOCK)],
+        &[
+            (GENERATE, CLOCK),
+            (ADVANCE, CLOCK),
+            (RETURN, CLOCK_AGAIN),
+        ],
         "count in larger ticks, or end the run earlier with the counter",
     ),
     stop(
@@ -39,10 +47,11 @@ pub const STOPS: &[Stop] = &[
     stop(
         24,
         &[
-            (RELEASE, "not in use"),
+            (RELEASE, NOT_IN_USE),
+            (RETURN, NOT_IN_USE),
             (LEAVE, "fewer units in use than it frees"),
         ],
-        "let every way to this block pass a SEIZE or ENTER of the same server",
+        "let every way to this block pass a SEIZE, PREEMPT or ENTER of the same server",
     ),
     stop(
         25,
@@ -51,13 +60,13 @@ pub const STOPS: &[Stop] = &[
     ),
     stop(
         27,
-        &[(RELEASE, "another holds it")],
-        "only the one that seized it releases it; a copy holds nothing of its original",
+        &[(RELEASE, ANOTHER), (RETURN, ANOTHER)],
+        "only the one that seized it releases it, and the one that preempted it returns it; a copy holds nothing of its original",
     ),
     stop(
         28,
         &[(TERMINATE, HOLDS), (ASSEMBLE, HOLDS)],
-        "let every way to this block release what was seized",
+        "let every way to this block release what was seized, and return what was preempted",
     ),
 ];
 
@@ -70,7 +79,16 @@ pub const PLACES: &[(u64, &str)] = &[
     (5, "ready (REL)"),
     (6, "moving"),
     (7, "waits for its family (ASSEMBLE)"),
+    (8, "interrupted (PREEMPT)"),
 ];
+
+/// Why a holder may not give back with a block of this kind what it holds: end 27.
+pub fn other_way(kind: u32) -> &'static str {
+    match kind {
+        RETURN => "it holds it by SEIZE",
+        _ => "it holds it by PREEMPT",
+    }
+}
 
 pub fn stop_of(end: u64) -> Option<&'static Stop> {
     STOPS.iter().find(|stop| stop.end == end)

@@ -55,6 +55,7 @@ fn next_blocks(machine: &Machine) -> BTreeMap<u64, u64> {
     all.extend(&machine.moving);
     let gatherers = machine.gatherers.values().flatten();
     all.extend(gatherers.map(|one| &one.transaction));
+    all.extend(machine.interrupted.iter().map(|one| &one.transaction));
     let all = all.iter();
     all.map(|t| (t.number, u64::from(t.next_block))).collect()
 }
@@ -83,7 +84,14 @@ fn counts_of_random_runs() {
         assert_eq!(walk.made, run.outcome.made, "made");
         let servers = machine.facilities.iter().zip(1..);
         let holders = servers.filter_map(|(server, f)| Some((f, server.holder?)));
-        assert_eq!(walk.holders, holders.collect(), "holders");
+        assert_eq!(walk.holders.of, holders.collect(), "holders");
+        let servers = machine.facilities.iter().zip(1..);
+        let preempted = servers.filter(|(server, _)| server.preempted);
+        let preempted = preempted.map(|(_, f)| f).collect();
+        assert_eq!(walk.holders.preempted, preempted, "preempted");
+        let interrupted = machine.interrupted.iter();
+        let interrupted = interrupted.map(|one| (one.facility, one.transaction.number));
+        assert_eq!(walk.holders.interrupted, interrupted.collect());
         let next = next_blocks(&machine);
         assert_eq!(walk.living.len(), next.len());
         for (number, life) in &walk.living {

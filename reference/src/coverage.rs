@@ -3,6 +3,7 @@
 pub mod families;
 mod groups;
 mod second;
+mod takeovers;
 
 use crate::blocks::Done;
 use crate::decode::{decode_model_with, read_model};
@@ -17,6 +18,7 @@ use families::Families;
 use groups::Groups;
 pub use second::Second;
 use std::collections::BTreeMap;
+pub use takeovers::Takeovers;
 
 /// What the runs of some cases met.
 #[derive(Default)]
@@ -41,6 +43,7 @@ pub struct Coverage {
     pub groups: Groups,
     pub second: Second,
     pub families: Families,
+    pub takeovers: Takeovers,
     /// Accepted models of each edition.
     pub editions: [u64; 2],
     /// Term tags, status codes and relations in accepted models.
@@ -153,6 +156,7 @@ impl Watcher for Coverage {
         self.groups.before_block(machine, taken);
         self.second.before_block(machine, taken);
         self.families.before_block(machine, taken);
+        self.takeovers.before_block(machine, taken);
     }
 
     fn after_turn(&mut self, kind: u32, done: Done) {
@@ -160,6 +164,7 @@ impl Watcher for Coverage {
         self.groups.after_turn(done);
         self.second.after_turn(done);
         self.families.after_turn(done);
+        self.takeovers.after_turn(done);
     }
 
     fn at_end(&mut self, machine: &Machine, end: u32, _trace: &[u8]) {
@@ -168,9 +173,9 @@ impl Watcher for Coverage {
         };
         match (end, machine.model.block(moving.next_block)) {
             (27, Block::Release { facility }) => {
-                let holder = machine.facilities[*facility as usize - 1].holder;
-                let copy = holder == Some(moving.family);
-                self.stopped_holding[usize::from(!copy)] += 1;
+                let server = &machine.facilities[*facility as usize - 1];
+                let copy = server.holder == Some(moving.family);
+                self.stopped_holding[usize::from(!copy)] += u64::from(!server.preempted);
             }
             (28, Block::Terminate { amount }) => {
                 let last = machine.counter <= i64::from(*amount);
@@ -206,6 +211,7 @@ impl Coverage {
         self.groups.start();
         self.second.start();
         self.families.start();
+        self.takeovers.start();
         let outcome = run_watched(
             self.rules,
             &case.model,
@@ -248,7 +254,8 @@ impl Coverage {
 
     /// What can be met under the rules and was not: kinds with what they come
     /// to, refusals, ends (but 26), tags, codes, relations, spans of the clock,
-    /// ways to ends 27 and 28, ways through groups of joined waits and through ASSEMBLE, what edition 2 comes to.
+    /// ways to ends 27 and 28, ways through groups of joined waits, through ASSEMBLE and through PREEMPT and RETURN,
+    /// what edition 2 comes to.
     pub fn empty_cells(&self) -> Vec<String> {
         let mut empty = Vec::new();
         for kind in 1..=LAST_KIND {
@@ -312,6 +319,14 @@ impl Coverage {
                     .map(str::to_string),
             );
         }
+        if self.rules.preempt {
+            let cells = Takeovers::cells(self.rules).into_iter();
+            empty.extend(
+                cells
+                    .filter(|cell| self.takeovers.met(cell) == 0)
+                    .map(str::to_string),
+            );
+        }
         empty
     }
 
@@ -359,7 +374,8 @@ impl std::fmt::Display for Coverage {
         for (name, count) in STOPS.iter().zip(self.stopped_holding) {
             writeln!(f, "{name:<28}{count}")?;
         }
-        write!(f, "{}{}{}", self.groups, self.second, self.families)?;
+        write!(f, "{}{}", self.groups, self.second)?;
+        write!(f, "{}{}", self.families, self.takeovers)?;
         writeln!(f, "editions 1, 2   {:?}", self.editions)?;
         writeln!(f, "tags 0..11      {:?}", self.tags)?;
         writeln!(f, "codes 1..6      {:?}", self.codes)?;

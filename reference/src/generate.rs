@@ -8,6 +8,7 @@ pub mod editions;
 pub mod families;
 pub mod fields;
 pub mod holders;
+pub mod interruptions;
 pub mod joined;
 pub mod nasty;
 pub mod pairs;
@@ -81,7 +82,7 @@ pub fn case_with(rules: Rules, random: &mut Random, size: Size) -> Case {
     if rules.highest_edition > 1 && random.one_in(8) {
         return editions::case(rules, random, size);
     }
-    if rules.preempt && random.one_in(10) {
+    if rules.preempt && random.one_in(7) {
         return preempt::case(rules, random, size);
     }
     match random.below(100) {

@@ -41,15 +41,8 @@ impl Rules {
         highest_edition: 2,
     };
 
-    /// What the engine does: each landing changes this one constant.
-    pub const LANDED: Rules = Rules {
-        wide_clocks: true,
-        holders: true,
-        joined: true,
-        assemble: true,
-        highest_edition: 2,
-        ..Rules::BASE
-    };
+    /// What the engine does: all of them.
+    pub const LANDED: Rules = Rules::ALL;
 
     /// The requests of these numbers; those that change no run are no matter.
     pub fn of(requests: &[u32]) -> Rules {

@@ -1,24 +1,28 @@
 //! The stored cases of crate `vectors` and what must come out of them: the
 //! first example, the limits of 02, item 1, the holders of item 6, the joined waits
-//! of item 7, the families of item 8, the 1996 rules of item 12, and random cases: each
-//! refusal, each end that a short run can meet, each kind and outcome, each list in use,
-//! 1,024 living, late clocks, facilities held, groups of each size, what edition 2 comes to.
+//! of item 7, the families of item 8, the facilities taken over of item 11, the 1996 rules
+//! of item 12, and random cases: each refusal, each end that a short run can meet, each kind
+//! and outcome, each list in use, 1,024 living, late clocks, facilities held, groups of each
+//! size, what edition 2 comes to and what PREEMPT and RETURN come to.
 
 mod gathered;
+mod given_back;
 mod groups;
 mod held;
 mod joined;
 mod late;
+mod preempted;
 mod second;
 
 pub use gathered::cases as gathered_cases;
 pub use held::cases as held_cases;
 pub use joined::cases as joined_cases;
 pub use late::cases as late_cases;
+pub use preempted::cases as preempted_cases;
 pub use second::cases as second_cases;
 
 use crate::blocks::Done;
-use crate::coverage::Second;
+use crate::coverage::{Second, Takeovers};
 use crate::generate::random::Random;
 use crate::generate::{case, Case, Size};
 use crate::machine::{Machine, Transaction};
@@ -34,7 +38,7 @@ pub const TRACE_BYTES: usize = 131_072;
 pub const REPORT_BYTES: usize = 10_400;
 
 /// How many cases are stored, and how many at least have each feature.
-const CASES: usize = 500;
+const CASES: usize = 720;
 const EACH: u32 = 5;
 
 /// The first example of document 01.
@@ -54,6 +58,7 @@ pub fn first_example() -> Case {
 struct Features {
     names: BTreeSet<String>,
     second: Second,
+    takeovers: Takeovers,
 }
 
 impl Features {
@@ -103,6 +108,7 @@ impl Watcher for Features {
 
     fn before_block(&mut self, machine: &Machine, taken: &Transaction) {
         self.second.before_block(machine, taken);
+        self.takeovers.before_block(machine, taken);
         if machine.model.reads_clock(taken.next_block) {
             self.add(machine.clock > i32::MAX as u64, "clock term past 2^31");
             self.add(machine.clock > u64::from(u32::MAX), "clock term past 2^32");
@@ -114,6 +120,7 @@ impl Watcher for Features {
 
     fn after_turn(&mut self, kind: u32, done: Done) {
         self.second.after_turn(done);
+        self.takeovers.after_turn(done);
         self.names.insert(format!("kind {kind} {done:?}"));
     }
 
@@ -138,6 +145,7 @@ fn features(case: &Case) -> BTreeSet<String> {
     );
     features.add(true, &format!("refusal {}", outcome.refusal));
     features.names.extend(features.second.names());
+    features.names.extend(features.takeovers.names());
     features.names
 }
 
@@ -149,6 +157,7 @@ pub fn cases() -> (Vec<Case>, BTreeMap<String, u32>) {
     kept.extend(held::cases().into_iter().map(|(case, _)| case));
     kept.extend(joined::cases().into_iter().map(|(case, _)| case));
     kept.extend(gathered::cases().into_iter().map(|(case, _, _)| case));
+    kept.extend(preempted::cases().into_iter().map(|(case, ..)| case));
     kept.extend(second::cases().into_iter().map(|(case, ..)| case));
     let mut met: BTreeMap<String, u32> = BTreeMap::new();
     let mut spare = Vec::new();

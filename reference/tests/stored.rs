@@ -2,7 +2,8 @@
 //! each refusal, end, kind with its outcomes and list is among them.
 
 use reference::blocks::Done;
-use reference::coverage::{ends, possible, Second};
+use reference::claims::check;
+use reference::coverage::{ends, possible, Second, Takeovers};
 use reference::decode::decode_model_with;
 use reference::generate::Case;
 use reference::model::Block;
@@ -10,7 +11,8 @@ use reference::report::read_report;
 use reference::rules::LAST_KIND;
 use reference::run::{run, Outcome};
 use reference::stored::{
-    cases, encode, expected, gathered_cases, held_cases, joined_cases, late_cases, second_cases,
+    cases, encode, expected, gathered_cases, held_cases, joined_cases, late_cases, preempted_cases,
+    second_cases,
 };
 use reference::trace::TraceReader;
 use reference::Rules;
@@ -43,6 +45,11 @@ fn stored_cases_are_up_to_date() {
     wanted.extend((1..=6).map(|code| format!("WEL {code}")));
     wanted.extend((1..=7).map(|back| format!("group of {back}")));
     wanted.extend(Second::cells());
+    wanted.extend(
+        Takeovers::cells(Rules::LANDED)
+            .iter()
+            .map(|c| c.to_string()),
+    );
     for name in [
         "facility QL",
         "storage QL",
@@ -52,6 +59,7 @@ fn stored_cases_are_up_to_date() {
         "holder of several",
         "several holders",
         "gatherers",
+        "interrupted",
         "1,024 living",
         "last clock",
         "clock term past 2^31",
@@ -99,6 +107,13 @@ fn counts(came: &Outcome, trace: &[u8]) -> [u64; 7] {
     ]
 }
 
+/// The living of a report without queues: behind clock, made and ended, five
+/// numbers of each server and how many live.
+fn places(report: &[u64], servers: usize) -> Vec<(u64, u64)> {
+    let pairs = report[3 + 5 * servers + 1..].chunks(2);
+    pairs.map(|pair| (pair[0], pair[1])).collect()
+}
+
 #[test]
 fn late_cases_come_to_what_the_papers_give() {
     for (number, (case, wanted)) in late_cases().iter().enumerate() {
@@ -136,11 +151,26 @@ fn gathered_cases_come_to_what_the_papers_give() {
         assert_eq!(counts(&came, &trace), *wanted, "gathered case {number}");
         if came.refusal == 0 {
             let report = read_report(&report[..came.report_bytes as usize]).unwrap();
-            // Clock, made and ended; five of the facility, five of the storage; how many live.
-            let places = report[3 + 5 + 5 + 1..].chunks(2);
-            let places: Vec<(u64, u64)> = places.map(|pair| (pair[0], pair[1])).collect();
-            assert_eq!(places, *living, "gathered case {number}");
+            assert_eq!(places(&report, 1 + 1), *living, "gathered case {number}");
         }
+    }
+}
+
+#[test]
+fn preempted_cases_come_to_what_the_papers_give() {
+    for (number, (case, wanted, facility, living)) in preempted_cases().iter().enumerate() {
+        let mut trace = vec![0; case.trace_len];
+        let mut report = vec![0; case.report_len];
+        let came = outcome_and_report(case, &mut trace, &mut report);
+        assert_eq!(counts(&came, &trace), *wanted, "preempted case {number}");
+        if came.refusal == 0 {
+            let report = read_report(&report[..came.report_bytes as usize]).unwrap();
+            assert_eq!(report[3..8], facility[..], "preempted case {number}");
+            let facilities = usize::from(case.model[1]);
+            let came = places(&report, facilities + 1);
+            assert_eq!(came, *living, "preempted case {number}");
+        }
+        assert!(check(case).is_ok(), "preempted case {number}");
     }
 }
 

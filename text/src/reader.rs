@@ -180,7 +180,9 @@ impl<'a> Reader<'a> {
         let is = |letter: &char| self.names.find(*letter, name).is_some();
         let other = ['f', 's', 'q', 'l', 'w'].into_iter().find(is)?;
         let blocks = match (self.keyword, other) {
-            ("SEIZE" | "RELEASE", 's') => ", and ENTER and LEAVE are for storages",
+            ("SEIZE" | "RELEASE" | "PREEMPT" | "RETURN", 's') => {
+                ", and ENTER and LEAVE are for storages"
+            }
             ("ENTER" | "LEAVE", 'f') => ", and SEIZE and RELEASE are for facilities",
             _ => "",
         };

@@ -44,6 +44,8 @@ pub const KINDS: &[Kind] = &[
     kind(16, "DEPART", "q", None),
     kind(WAITIF_JOINED, "WAITIF", "cvg", None),
     kind(ASSEMBLE, "ASSEMBLE", "m", None),
+    kind(PREEMPT, "PREEMPT", "f", None),
+    kind(RETURN, "RETURN", "f", None),
 ];
 
 /// Kinds that are asked for by name.
@@ -60,6 +62,8 @@ pub const LET: u32 = 12;
 pub const SPLIT: u32 = 14;
 pub const WAITIF_JOINED: u32 = 17;
 pub const ASSEMBLE: u32 = 18;
+pub const PREEMPT: u32 = 19;
+pub const RETURN: u32 = 20;
 
 /// The kind with this number.
 pub fn kind_of(number: u32) -> Option<&'static Kind> {

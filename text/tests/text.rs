@@ -60,6 +60,8 @@ in      WAITIF v$notok > 0
         WAITIF berth=NF
         WAITIF storm = u, 2
         assemble 3
+        PREEMPT tug
+        return tug
         IF p1 <> -3, out
         LET p4 = s$yard
         SPLIT 2, in
@@ -81,6 +83,8 @@ out     PRIORITY 127
     assert!(shown.contains("WAITIF s1 = NF"), "{shown}");
     assert!(shown.contains("WAITIF f2 = U, 2"), "{shown}");
     assert!(shown.contains("ASSEMBLE 3"), "{shown}");
+    assert!(shown.contains("PREEMPT f1"), "{shown}");
+    assert!(shown.contains("RETURN f1"), "{shown}");
 }
 
 #[test]
@@ -249,6 +253,8 @@ fn what_to_write_instead() {
         ("WAITIF room = U", "6:9: `room` is a storage, which has no such code\n    the codes of a storage are E empty, NE not empty, F full, NF not full"),
         ("ASSEMBLE x", "6:11: how many of a family gather is a number\n    write a whole number without a sign"),
         ("ASSEMBLE", "6:10: how many of a family gather is a number\n    write a whole number without a sign"),
+        ("PREEMPT room", "6:10: there is no facility `room`\n    `room` is a storage, and ENTER and LEAVE are for storages"),
+        ("RETURN", "6:8: the name of a facility is expected here\n    write the name of a facility"),
         ("WAITIF f = U, x", "6:16: how many blocks it goes back is a number\n    write a whole number without a sign"),
         ("WAITIF f$f = 1, 1", "6:16: only a WAITIF on a server is joined with waits before it\n    write WAITIF server = code, number"),
         ("advance SEIZE f", "6:2: `advance` begins a statement and cannot be a label\n    choose another word, as `advance1`"),

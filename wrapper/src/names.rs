@@ -61,10 +61,10 @@ numbered! {
         21 NoPlace "no living place is free for a new transaction",
         22 ClockLimit "a move time would pass the limit of the clock",
         23 NoTime "an ADVANCE found no time left in its list",
-        24 NotInUse "a RELEASE found its facility idle, or a LEAVE found fewer units in use than it frees",
+        24 NotInUse "a RELEASE or a RETURN found its facility idle, or a LEAVE found fewer units in use than it frees",
         25 NoContent "a DEPART found its queue without content",
         26 RunLimit "the last serial given is above 99,997,952, or 100,000,000 turns are done",
-        27 NotHolder "a RELEASE by another than the holder of its facility",
+        27 NotHolder "a RELEASE by another than the one that seized its facility, or a RETURN by another than the one that preempted it",
         28 StillHolds "one that still holds a facility would end, at a TERMINATE or an ASSEMBLE",
     }
 }
@@ -112,5 +112,6 @@ numbered! {
         5 Rel "REL",
         6 Moving "moving",
         7 Gathering "gathering",
+        8 Interrupted "interrupted",
     }
 }

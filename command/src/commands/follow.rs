@@ -4,6 +4,7 @@ use super::{run_study, say_lines, tell, Command, LENT};
 use crate::args::{self, Args};
 use crate::execute::Lent;
 use crate::failure::{Done, Failure};
+use crate::holders::{Handover, Holders};
 use crate::study::{self, Study};
 use crate::table::Table;
 use crate::walk::{Birth, Births};
@@ -18,8 +19,8 @@ pub const COMMAND: Command = Command {
     words: "FOLDER N",
     about: "print the life of transaction N",
     help: "\
-Runs the model and prints how transaction N was made, each of its records with the ticks that it waited, and where it
-stands at the end.
+Runs the model and prints how transaction N was made, each of its records with the ticks that it waited or was
+interrupted, and where it stands at the end.
 
 ",
     flags: &[],
@@ -57,12 +58,16 @@ pub fn life(study: &Study, run: &Run, number: u64) -> Vec<String> {
     });
     let mut table = Table::new(&[">clock", ">block", "statement", "outcome"]);
     let mut last: Option<Record> = None;
+    let mut holders = Holders::default();
+    let mut interrupted = Interrupted::default();
     for record in run.records() {
         if let Some((numbers, b)) = births.record(&record) {
             if numbers.contains(&number) {
                 birth = Some(b);
             }
         }
+        let handover = holders.record(study, &record);
+        interrupted.count(handover, number, record.clock);
         if record.transaction != number {
             continue;
         }
@@ -70,7 +75,7 @@ pub fn life(study: &Study, run: &Run, number: u64) -> Vec<String> {
             record.clock.to_string(),
             record.block.to_string(),
             study.statement(record.block),
-            outcome(study, &record, last.as_ref()),
+            outcome(study, &record, last.as_ref()) + &interrupted.told(),
         ]);
         last = Some(record);
     }
@@ -94,6 +99,42 @@ pub fn life(study: &Study, run: &Run, number: u64) -> Vec<String> {
         None => format!("ended at clock {}", last.map_or(0, |record| record.clock)),
     });
     lines
+}
+
+/// How long it was interrupted since its last record.
+#[derive(Default)]
+struct Interrupted {
+    since: u64,
+    times: u64,
+    ticks: u64,
+}
+
+impl Interrupted {
+    fn count(&mut self, handover: Option<Handover>, number: u64, clock: u64) {
+        match handover {
+            Some(Handover::Interrupted(who)) if who == number => self.since = clock,
+            Some(Handover::GivenBack(who)) if who == number => {
+                self.times += 1;
+                self.ticks += clock - self.since;
+            }
+            _ => {}
+        }
+    }
+
+    /// In words behind the outcome; then it begins again.
+    fn told(&mut self) -> String {
+        match std::mem::take(self) {
+            Interrupted { times: 0, .. } => String::new(),
+            Interrupted {
+                times: 1, ticks, ..
+            } => {
+                format!(", interrupted for {}", words::ticks(ticks))
+            }
+            Interrupted { times, ticks, .. } => {
+                format!(", interrupted {times} times for {}", words::ticks(ticks))
+            }
+        }
+    }
 }
 
 fn born(birth: Option<Birth>) -> String {
@@ -126,7 +167,10 @@ fn outcome(study: &Study, record: &Record, last: Option<&Record>) -> String {
     if kind == ASSEMBLE {
         if let Some(began) = began {
             let ticks = words::ticks(record.clock - began);
-            return format!("went on after {ticks}, {}", words::outcome_of(record.outcome));
+            return format!(
+                "went on after {ticks}, {}",
+                words::outcome_of(record.outcome)
+            );
         }
     }
     if !waits || last.map_or(true, |last| last.block <= record.block) {

@@ -8,8 +8,9 @@ use lib.Dec.{ltb, leb, eqb}
 use lib.ListN.{getD, set}
 use lib.Seq.{getD-set-other}
 use Rattle.tables.specs.Layout as Layout
-use Rattle.rows.specs.Layout.{numberField, nextField, rowCount}
-use Rattle.rows.specs.Cells.{load, read}
+use Rattle.rows.specs.Layout.{numberField, nextField, interrupted, rowCount}
+use Rattle.rows.specs.Cells.{load, read, priorityOf}
+use Rattle.rows.specs.Lists.{first, loserCell}
 use Rattle.rows.specs.Make.{freeRow}
 use Rattle.state.specs.declared.scalars.Scalars.{Scalars}
 use Rattle.state.specs.Stands.{Rows, rowsOf}
@@ -21,12 +22,14 @@ use Rattle.flow.specs.Sending.{arrives}
 use Rattle.flow.specs.Kinds.{arriveOn, generateWith, generateNext, generateRows, delayRows, advanceWith, advanceNext, advanceRows, endOne, terminateRows, priorityRows, splitOn, splitRows}
 use Rattle.flow.proofs.Untouched.{generate-untouched, advance-untouched, terminate-untouched, priority-untouched, split-untouched, assemble-untouched}
 use Rattle.flow.specs.Gathering.{gatherOn, countOn, laterRows, gatherRows, assembleRows}
-use Rattle.servers.specs.Units.{serverAt, inUse, holder, setUse, capacity}
+use Rattle.servers.specs.Units.{serverAt, inUse, holder, preempted, setUse, capacity}
 use Rattle.servers.specs.Taking.{holdUnits, longer, queueUp, takeUnits, seize, enter}
 use Rattle.servers.specs.Freeing.{freeOne, freeSome, askRelease, release, leave}
+use Rattle.servers.specs.Preempting.{seized, interruptOn, takeOver, preemptSeized, preempt, askGiveBack, resumeOn, resumeRows, giveBackRows, giveBack}
 use Rattle.servers.specs.Waking.{shorter}
 use Rattle.servers.proofs.TakingLaws.{seize-used, enter-used}
 use Rattle.servers.proofs.FreeingLaws.{release-used, leave-used}
+use Rattle.servers.proofs.PreemptLaws.{preempt-used, give-back-used}
 use Rattle.decisions.specs.Queues.{contentCell, arrive, depart}
 use Rattle.decisions.proofs.QueueLaws.{arrive-used, depart-used}
 
@@ -135,52 +138,84 @@ module _ (tables tape w tally : List ℕ) (x : Scalars) where
   unfolding assembleRows
   assemble-waits facilities at = gather-waits facilities _ _ _
 
-  used-units : (v units who : ℕ) → Waits tally (setUse tally v units who)
-  used-units v units who = two-set tally (Layout.inUse + v) units (Layout.holder + v) who (omega arith) (omega arith)
+  used-units : (v units who preempts : ℕ) → Waits tally (setUse tally v units who preempts)
+  used-units v units who preempts =
+      more-set tally (set (set tally (Layout.inUse + v) units) (Layout.holder + v) who) (Layout.preempted + v) preempts (omega arith)
+      (two-set tally (Layout.inUse + v) units (Layout.holder + v) who (omega arith) (omega arith))
 
-  held-waits : (v units who all : ℕ) → Stays tally (holdUnits w tally x v units who all)
+  -- whatever the work buffer and the scalars
+  held-waits : (u : List ℕ) (y : Scalars) (v units who preempts all : ℕ) → Stays tally (holdUnits u tally y v units who preempts all)
   unfolding holdUnits rowsOf
-  held-waits v units who all = record { waits = used-units v units who }
+  held-waits u y v units who preempts all = record { waits = used-units v units who preempts }
 
   queued-waits : (v edition : ℕ) → Stays tally (queueUp w tally x v edition)
   unfolding queueUp longer rowsOf
   queued-waits v edition = record { waits = one-set tally (Layout.qlLength + v) _ (omega arith) }
 
-  taken-waits : (v b who : ℕ) → Stays tally (takeUnits tables w tally x v b who)
+  taken-waits : (v b who preempts : ℕ) → Stays tally (takeUnits tables w tally x v b who preempts)
   unfolding takeUnits
-  taken-waits v b who =
-      either tally (leb b (capacity tables v - inUse tally v)) (holdUnits w tally x v (inUse tally v + b) who (capacity tables v)) (queueUp w tally x v (getD tables Layout.edition 0))
-      (held-waits v (inUse tally v + b) who (capacity tables v)) (queued-waits v (getD tables Layout.edition 0))
+  taken-waits v b who preempts =
+      either tally (leb b (capacity tables v - inUse tally v)) (holdUnits w tally x v (inUse tally v + b) who preempts (capacity tables v)) (queueUp w tally x v (getD tables Layout.edition 0))
+      (held-waits w x v (inUse tally v + b) who preempts (capacity tables v)) (queued-waits v (getD tables Layout.edition 0))
 
   seize-waits : (at : ℕ) → Stays tally (seize tables w tally x at)
   unfolding seize
-  seize-waits at = taken-waits (serverAt tables (at + 1)) 1 (read w numberField (x .moving))
+  seize-waits at = taken-waits (serverAt tables (at + 1)) 1 (read w numberField (x .moving)) 0
 
   enter-waits : (at : ℕ) → Stays tally (enter tables w tally x at)
   unfolding enter
-  enter-waits at = taken-waits (serverAt tables (at + 1)) (getD tables (at + 2) 0) 0
+  enter-waits at = taken-waits (serverAt tables (at + 1)) (getD tables (at + 2) 0) 0 0
 
   freed-waits : (v units : ℕ) → Stays tally (freeOne tables w tally x v units)
   unfolding freeOne shorter rowsOf
-  freed-waits v units = record { waits = more-set tally (setUse tally v units 0) (Layout.qlLength + v) _ (omega arith) (used-units v units 0) }
+  freed-waits v units = record { waits = more-set tally (setUse tally v units 0 0) (Layout.qlLength + v) _ (omega arith) (used-units v units 0 0) }
 
   release-waits : (at : ℕ) → Stays tally (release tables w tally x at)
   unfolding release
   release-waits at =
       let v : ℕ = serverAt tables (at + 1) in
-      let end : ℕ = askRelease (inUse tally v) (holder tally v) (read w numberField (x .moving)) in
+      let end : ℕ = askRelease (inUse tally v) (preempted tally v) (holder tally v) (read w numberField (x .moving)) in
       either tally (eqb end 0) (freeOne tables w tally x v (inUse tally v - 1)) (rowsOf (stopped x end) w tally)
       (freed-waits v (inUse tally v - 1)) (plain tally (stopped x end) w)
 
   left-waits : (v units b : ℕ) → Stays tally (freeSome tables w tally x v units b)
   unfolding freeSome rowsOf
-  left-waits v units b = record { waits = more-set tally (setUse tally v units 0) (Layout.qlLength + v) _ (omega arith) (used-units v units 0) }
+  left-waits v units b = record { waits = more-set tally (setUse tally v units 0 0) (Layout.qlLength + v) _ (omega arith) (used-units v units 0 0) }
 
   leave-waits : (at : ℕ) → Stays tally (leave tables w tally x at)
   unfolding leave
   leave-waits at =
       either tally (ltb (inUse tally (serverAt tables (at + 1))) (getD tables (at + 2) 0)) (rowsOf (stopped x 24) w tally) (freeSome tables w tally x (serverAt tables (at + 1)) (inUse tally (serverAt tables (at + 1)) - getD tables (at + 2) 0) (getD tables (at + 2) 0))
       (plain tally (stopped x 24) w) (left-waits (serverAt tables (at + 1)) (inUse tally (serverAt tables (at + 1)) - getD tables (at + 2) 0) (getD tables (at + 2) 0))
+
+  seized-waits : (v number : ℕ) → Stays tally (preemptSeized tables w tally x v number)
+  unfolding preemptSeized takeOver
+  seized-waits v number =
+      let c : ℕ = loserCell w (holder tally v) (priorityOf w (x .moving)) in
+      either tally (ltb (load w c) rowCount) (holdUnits (interruptOn w (x .clock) v c (load w c)) tally x v (inUse tally v) number 1 (capacity tables v)) (takeUnits tables w tally x v 1 number 1)
+      (held-waits (interruptOn w (x .clock) v c (load w c)) x v (inUse tally v) number 1 (capacity tables v)) (taken-waits v 1 number 1)
+
+  preempt-waits : (at : ℕ) → Stays tally (preempt tables w tally x at)
+  unfolding preempt
+  preempt-waits at =
+      let v : ℕ = serverAt tables (at + 1) in
+      let number : ℕ = read w numberField (x .moving) in
+      either tally (seized tally v) (preemptSeized tables w tally x v number) (takeUnits tables w tally x v 1 number 1) (seized-waits v number) (taken-waits v 1 number 1)
+
+  back-waits : (v : ℕ) → Stays tally (giveBackRows tables w tally x v)
+  unfolding giveBackRows resumeRows
+  back-waits v =
+      let j : ℕ = first w (interrupted + v) in
+      let on : Moved = resumeOn w x v j in
+      either tally (ltb j rowCount) (holdUnits (on .work) tally (on .scalars) v (inUse tally v) (read w numberField j) 0 (capacity tables v)) (freeOne tables w tally x v (inUse tally v - 1))
+      (held-waits (on .work) (on .scalars) v (inUse tally v) (read w numberField j) 0 (capacity tables v)) (freed-waits v (inUse tally v - 1))
+
+  give-back-waits : (at : ℕ) → Stays tally (giveBack tables w tally x at)
+  unfolding giveBack
+  give-back-waits at =
+      let v : ℕ = serverAt tables (at + 1) in
+      let end : ℕ = askGiveBack w tally x v (read w numberField (x .moving)) in
+      either tally (eqb end 0) (giveBackRows tables w tally x v) (rowsOf (stopped x end) w tally) (back-waits v) (plain tally (stopped x end) w)
 
   arrive-waits : (at : ℕ) → Stays tally (arrive tables w tally x at)
   unfolding arrive contentCell rowsOf
@@ -233,6 +268,12 @@ module _ (tables tape w tally : List ℕ) (x : Scalars) (at : ℕ) where
 
   pub leave-apart : Apart x tally (leave tables w tally x at)
   leave-apart = record { used = leave-used tables w tally x at; waits = leave-waits tables tape w tally x at .waits }
+
+  pub preempt-apart : Apart x tally (preempt tables w tally x at)
+  preempt-apart = record { used = preempt-used tables w tally x at; waits = preempt-waits tables tape w tally x at .waits }
+
+  pub give-back-apart : Apart x tally (giveBack tables w tally x at)
+  give-back-apart = record { used = give-back-used tables w tally x at; waits = give-back-waits tables tape w tally x at .waits }
 
   pub arrive-apart : Apart x tally (arrive tables w tally x at)
   arrive-apart = record { used = arrive-used tables w tally x at; waits = arrive-waits tables tape w tally x at .waits }

@@ -6,10 +6,10 @@ use mathlib.Core.Option.{some}
 use lib.ListN.{length}
 use Rattle.machine.specs.Transaction.{Transaction}
 use Rattle.machine.specs.Term.{always, whenTrue}
-use Rattle.machine.specs.Block.{Block, generate, advance, terminate, waitServer, waitTerms, assign, priority, split, BlockModel, blockAt, facility, storage, up, down, takes, frees, moves, counts, assemble}
+use Rattle.machine.specs.Block.{Block, generate, advance, terminate, waitServer, waitTerms, assign, priority, split, BlockModel, blockAt, facility, storage, up, down, takes, frees, moves, counts, assemble, preempt, giveBack}
 use Rattle.machine.specs.State.{State}
 use Rattle.machine.specs.Execute.{question, changed, askContent}
-use Rattle.machine.proofs.Proper.{Proper}
+use Rattle.machine.proofs.Proper.{Proper, ProperBlock}
 use Rattle.tables.specs.Forms.{blockForms}
 use Rattle.tables.specs.Numbers.{blockNumbers}
 use Rattle.tables.specs.Represents.{At, Represents}
@@ -26,6 +26,7 @@ use Rattle.flow.proofs.SplitLaw.{split-done}
 use Rattle.flow.proofs.GatherLaw.{assemble-done}
 use Rattle.servers.proofs.TakingLaws.{seize-done, enter-done}
 use Rattle.servers.proofs.FreeingLaws.{release-done, leave-done}
+use Rattle.servers.proofs.PreemptLaws.{preempt-done, give-back-done}
 use Rattle.servers.specs.WaitServer as WaitServer
 use Rattle.servers.proofs.WaitingLaws.{wait-server-done, wait-server-used}
 use Rattle.decisions.proofs.Operands.{numbers}
@@ -35,7 +36,7 @@ use Rattle.decisions.specs.Jumps as Jumps
 use Rattle.decisions.proofs.ComparisonLaws.{wait-terms-done, branch-done, goto-done, assign-done, wait-terms-used, branch-used, goto-used, assign-used}
 use Rattle.decisions.proofs.QueueLaws.{arrive-done, depart-done}
 use Rattle.blocks.specs.Execute as Rows
-use Rattle.blocks.proofs.Apart.{Apart, kept, generate-apart, advance-apart, terminate-apart, priority-apart, split-apart, assemble-apart, seize-apart, enter-apart, release-apart, leave-apart, arrive-apart, depart-apart}
+use Rattle.blocks.proofs.Apart.{Apart, kept, generate-apart, advance-apart, terminate-apart, priority-apart, split-apart, assemble-apart, preempt-apart, give-back-apart, seize-apart, enter-apart, release-apart, leave-apart, arrive-apart, depart-apart}
 
 module _ {m : BlockModel} {tape : List (List ℕ)} {tapeBytes tables lists : List ℕ} (proper : Proper m tape) (rep : Represents m tape tapeBytes tables lists) (nested : Nested m)
     (s : State) (sane : Sane m s) (r : Rows) (t : Transaction) (stands : Stands tapeBytes r (some t) s) (moving : s .moving ≡ some t) where
@@ -86,6 +87,8 @@ module _ {m : BlockModel} {tape : List (List ℕ)} {tapeBytes tables lists : Lis
   execute-apart (counts up q) is = by-apart 15 _ _ refl is (arrive-apart tables tapeBytes (r .work) (r .tally) (r .scalars) base)
   execute-apart (counts down q) is = by-apart 16 _ _ refl is (depart-apart tables tapeBytes (r .work) (r .tally) (r .scalars) base)
   execute-apart (assemble n) is = by-apart 18 _ _ refl is (assemble-apart tables tapeBytes (r .work) (r .tally) (r .scalars) base (m .facilities))
+  execute-apart (preempt v) is = by-apart 19 _ _ refl is (preempt-apart tables tapeBytes (r .work) (r .tally) (r .scalars) base)
+  execute-apart (giveBack v) is = by-apart 20 _ _ refl is (give-back-apart tables tapeBytes (r .work) (r .tally) (r .scalars) base)
 
   -- ---- What it leaves
 
@@ -110,3 +113,7 @@ module _ {m : BlockModel} {tape : List (List ℕ)} {tapeBytes tables lists : Lis
   execute-done (counts up q) is = by 15 _ _ refl is _ (arrive-done proper rep r t s sane stands moving q is)
   execute-done (counts down q) is = by 16 _ _ refl is _ (depart-done proper rep r t s sane stands moving down (λ n. unfold changed in refl) (λ n. unfold askContent in refl) q is)
   execute-done (assemble n) is = by 18 _ _ refl is _ (assemble-done m tape tapeBytes tables lists proper rep s sane r t stands moving n is)
+  execute-done (preempt v) is =
+      by 19 _ _ refl is _ (preempt-done m tape tapeBytes tables lists proper rep s sane r t stands moving v (subst (ProperBlock m) is (proper .block (t .next))) is)
+  execute-done (giveBack v) is =
+      by 20 _ _ refl is _ (give-back-done m tape tapeBytes tables lists proper rep s sane r t stands moving v (subst (ProperBlock m) is (proper .block (t .next))) is)

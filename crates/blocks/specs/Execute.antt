@@ -11,13 +11,14 @@ use Rattle.flow.specs.Kinds.{generateRows, advanceRows, terminateRows, priority
 use Rattle.flow.specs.Gathering.{assembleRows}
 use Rattle.servers.specs.Taking.{seize, enter}
 use Rattle.servers.specs.Freeing.{release, leave}
+use Rattle.servers.specs.Preempting.{preempt, giveBack}
 use Rattle.servers.specs.WaitServer.{waitServer}
 use Rattle.decisions.specs.Comparison.{waitTerms, branch, assign}
 use Rattle.decisions.specs.Jumps.{goto}
 use Rattle.decisions.specs.Queues.{arrive, depart}
 
 module _ (tables : List ℕ) (values facilities : ℕ) (tape w tally : List ℕ) (x : Scalars) (at : ℕ) where
-  -- kinds 9 to 18
+  -- kinds 9 to 20
   unfoldable pub later : ℕ → Rows
   later kind =
       cond (eqb kind 9) (withTally (waitTerms tables values w tally x at) tally)
@@ -29,7 +30,9 @@ module _ (tables : List ℕ) (values facilities : ℕ) (tape w tally : List ℕ)
       (cond (eqb kind 15) (arrive tables w tally x at)
       (cond (eqb kind 16) (depart tables w tally x at)
       (cond (eqb kind 17) (withTally (waitServer tables w tally x at) tally)
-      (cond (eqb kind 18) (assembleRows tables facilities w tally x at) (rowsOf x w tally))))))))))
+      (cond (eqb kind 18) (assembleRows tables facilities w tally x at)
+      (cond (eqb kind 19) (preempt tables w tally x at)
+      (cond (eqb kind 20) (giveBack tables w tally x at) (rowsOf x w tally))))))))))))
 
   unfoldable pub byKind : ℕ → Rows
   byKind kind =

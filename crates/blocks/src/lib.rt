@@ -12,7 +12,9 @@ use flow::priority;
 use flow::split;
 use flow::terminate;
 use servers::enter;
+use servers::give_back;
 use servers::leave;
+use servers::preempt;
 use servers::release;
 use servers::seize;
 use servers::wait_server;
@@ -64,6 +66,8 @@ pub fn execute(
         16 => depart(tables, work, tally, x, at),
         17 => wait_server(tables, work, tally, x, at),
         18 => assemble(tables, facilities, work, tally, x, at),
+        19 => preempt(tables, work, tally, x, at),
+        20 => give_back(tables, work, tally, x, at),
         _ => x,
     }
 }

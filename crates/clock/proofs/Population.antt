@@ -58,7 +58,7 @@ module _ (p : ℕ) (r : List Transaction) (T : ℕ → List Transaction) where
 module _ (w w′ : List ℕ) (k k′ : ℕ) (o o′ : Option Transaction) (s s′ : State) (h : Listing w k o s) where
   pub listing-ready : (r : List Transaction) (E : List Event) → Shows w′ (update rel r (listsOf s)) E
       → loose w′ + length r + length E ≡ loose w + length (s .rel) + length (s .fel)
-      → ((q : ℕ) → q < 706 → update rel r (listsOf s) q ≡ listsOf s′ q) → E ≡ s′ .fel → s′ .made - s′ .ended ≡ s .made - s .ended
+      → ((q : ℕ) → q < 770 → update rel r (listsOf s) q ≡ listsOf s′ q) → E ≡ s′ .fel → s′ .made - s′ .ended ≡ s .made - s .ended
       → Moving w′ k′ o′ → Listing w′ k′ o′ s′
   unfolding onLists listsOf
   listing-ready r E shows count lists future living moving =
@@ -73,6 +73,6 @@ module _ (w w′ : List ℕ) (k k′ : ℕ) (o o′ : Option Transaction) (s s�
               count,
               population w (h .shows .rows) (listsOf s) (s .fel) (h .shows .shown),
               population w′ (shows .rows) (update rel r (listsOf s)) E (shows .shown),
-              sum-update rel r (listsOf s) 706 (omega arith),
+              sum-update rel r (listsOf s) 770 (omega arith),
             );
       }

@@ -10,6 +10,7 @@ use lib.Dec.{ltb}
 use lib.ListN.{length, getD, length-map, List·getD-eq-default}
 use Rattle.machine.specs.Limits.{maxClock}
 use Rattle.machine.specs.Transaction.{Transaction}
+use Rattle.machine.specs.Lists.{bit}
 use Rattle.machine.specs.Term.{Server, Queue, idleServer, emptyQueue}
 use Rattle.machine.specs.Block.{BlockModel}
 use Rattle.machine.specs.State.{State}
@@ -42,6 +43,7 @@ sampled ticks v q =
       capacity = v .capacity;
       inUse = v .inUse;
       holder = v .holder;
+      preempted = v .preempted;
       unitTicks = v .unitTicks + v .inUse * ticks;
       waitTicks = v .waitTicks + length q * ticks;
       longest = max (v .longest) (length q);
@@ -122,6 +124,7 @@ module _ {m : BlockModel} {tape : List (List ℕ)} (proper : Proper m tape) (s :
   record ServerAt (v : ℕ) : Type 0 where
     in-use : getD t₁ (512 + v) 0 ≡ after v .inUse
     holder : getD t₁ (960 + v) 0 ≡ after v .holder
+    preempted : getD t₁ (1024 + v) 0 ≡ bit (after v .preempted)
     units : getD t₁ (576 + v) 0 ≡ after v .unitTicks
     waits : getD t₁ (640 + v) 0 ≡ after v .waitTicks
     longest : getD t₁ (704 + v) 0 ≡ after v .longest
@@ -137,6 +140,7 @@ module _ {m : BlockModel} {tape : List (List ℕ)} (proper : Proper m tape) (s :
       record {
         in-use = at-servers .below (512 + v) (omega arith) ∙ h .servers .in-use v small ∙ sym (ap (λ x. x .inUse) is);
         holder = at-servers .above (960 + v) (omega arith) ∙ h .servers .holders v small ∙ sym (ap (λ x. x .holder) is);
+        preempted = at-servers .above (1024 + v) (omega arith) ∙ h .servers .preempts v small ∙ sym (ap (λ x. bit (x .preempted)) is);
         units =
             g .units ∙ ap (λ (a : ℕ). sumOf a (getD t (512 + v) 0) ticks) (h .servers .unit-ticks v small)
             ∙ ap (λ (k : ℕ). sumOf (server v .unitTicks) k ticks) (h .servers .in-use v small)
@@ -163,6 +167,7 @@ module _ {m : BlockModel} {tape : List (List ℕ)} (proper : Proper m tape) (s :
       record {
         in-use = at-servers .below (512 + v) (omega arith) ∙ h .servers .in-use v small ∙ ap (λ x. x .inUse) e;
         holder = at-servers .above (960 + v) (omega arith) ∙ h .servers .holders v small ∙ ap (λ x. x .holder) e;
+        preempted = at-servers .above (1024 + v) (omega arith) ∙ h .servers .preempts v small ∙ ap (λ x. bit (x .preempted)) e;
         units = g .units ∙ h .servers .unit-ticks v small ∙ ap (λ x. x .unitTicks) e;
         waits = g .waits ∙ h .servers .wait-ticks v small ∙ ap (λ x. x .waitTicks) e;
         longest = g .longest ∙ h .servers .longest v small ∙ ap (λ x. x .longest) e;
@@ -180,6 +185,7 @@ module _ {m : BlockModel} {tape : List (List ℕ)} (proper : Proper m tape) (s :
       record {
         in-use = λ v hv. at-queues .below (512 + v) (omega arith) ∙ server-at v hv .in-use;
         holders = λ v hv. at-queues .above (960 + v) (omega arith) ∙ server-at v hv .holder;
+        preempts = λ v hv. at-queues .above (1024 + v) (omega arith) ∙ server-at v hv .preempted;
         unit-ticks = λ v hv. at-queues .below (576 + v) (omega arith) ∙ server-at v hv .units;
         wait-ticks = λ v hv. at-queues .below (640 + v) (omega arith) ∙ server-at v hv .waits;
         longest = λ v hv. at-queues .below (704 + v) (omega arith) ∙ server-at v hv .longest;

@@ -68,20 +68,20 @@ pub record ServerSame (t t′ : List ℕ) (v : ℕ) : Type 0 where
   pub waits : getD t′ (640 + v) 0 ≡ getD t (640 + v) 0
   pub longest : getD t′ (704 + v) 0 ≡ getD t (704 + v) 0
 
-module _ (t : List ℕ) (v ticks : ℕ) (size : length t ≡ 1024) (hv : v < 64) where
+module _ (t : List ℕ) (v ticks : ℕ) (size : length t ≡ 1088) (hv : v < 64) where
   abbrev t₁ : List ℕ
   t₁ = addTicks t (576 + v) (512 + v) ticks
 
   abbrev t₂ : List ℕ
   t₂ = addTicks t₁ (640 + v) (768 + v) ticks
 
-  size₁ : length t₁ ≡ 1024
+  size₁ : length t₁ ≡ 1088
   size₁ = ticks-length t (576 + v) (512 + v) ticks ∙ size
 
-  size₂ : length t₂ ≡ 1024
+  size₂ : length t₂ ≡ 1088
   size₂ = ticks-length t₁ (640 + v) (768 + v) ticks ∙ size₁
 
-  server-length : length (sampleServer t v ticks) ≡ 1024
+  server-length : length (sampleServer t v ticks) ≡ 1088
   unfolding sampleServer
   server-length = longest-length t₂ (704 + v) (768 + v) ∙ size₂
 
@@ -112,13 +112,13 @@ module _ (t : List ℕ) (v ticks : ℕ) (size : length t ≡ 1024) (hv : v < 64)
 -- ---- The first n servers
 
 pub record ServersSampled (n : ℕ) (t t′ : List ℕ) (ticks : ℕ) : Type 0 where
-  pub size : length t′ ≡ 1024
+  pub size : length t′ ≡ 1088
   pub below : (i : ℕ) → i < 576 → getD t′ i 0 ≡ getD t i 0
   pub above : (i : ℕ) → 768 ≤ i → getD t′ i 0 ≡ getD t i 0
   pub done : (v : ℕ) → v < n → ServerSampled t t′ v ticks
   pub left : (v : ℕ) → n ≤ v → v < 64 → ServerSame t t′ v
 
-module _ (t : List ℕ) (ticks : ℕ) (size : length t ≡ 1024) where
+module _ (t : List ℕ) (ticks : ℕ) (size : length t ≡ 1088) where
   servers-more : (n : ℕ) (t₁ : List ℕ) → n < 64 → ServersSampled n t t₁ ticks → ServersSampled (suc n) t (sampleServer t₁ n ticks) ticks
   servers-more n t₁ hn h =
       record {
@@ -185,14 +185,14 @@ pub record QueueSame (t t′ : List ℕ) (q : ℕ) : Type 0 where
   pub contents : getD t′ (864 + q) 0 ≡ getD t (864 + q) 0
   pub longest : getD t′ (896 + q) 0 ≡ getD t (896 + q) 0
 
-module _ (t : List ℕ) (q ticks : ℕ) (size : length t ≡ 1024) (hq : q < 32) where
+module _ (t : List ℕ) (q ticks : ℕ) (size : length t ≡ 1088) (hq : q < 32) where
   abbrev u₁ : List ℕ
   u₁ = addTicks t (864 + q) (832 + q) ticks
 
-  usize : length u₁ ≡ 1024
+  usize : length u₁ ≡ 1088
   usize = ticks-length t (864 + q) (832 + q) ticks ∙ size
 
-  queue-length : length (sampleQueue t q ticks) ≡ 1024
+  queue-length : length (sampleQueue t q ticks) ≡ 1088
   unfolding sampleQueue
   queue-length = longest-length u₁ (896 + q) (832 + q) ∙ usize
 
@@ -214,13 +214,13 @@ module _ (t : List ℕ) (q ticks : ℕ) (size : length t ≡ 1024) (hq : q < 32)
 -- ---- The first n queues
 
 pub record QueuesSampled (n : ℕ) (t t′ : List ℕ) (ticks : ℕ) : Type 0 where
-  pub size : length t′ ≡ 1024
+  pub size : length t′ ≡ 1088
   pub below : (i : ℕ) → i < 864 → getD t′ i 0 ≡ getD t i 0
   pub above : (i : ℕ) → 928 ≤ i → getD t′ i 0 ≡ getD t i 0
   pub done : (q : ℕ) → q < n → QueueSampled t t′ q ticks
   pub left : (q : ℕ) → n ≤ q → q < 32 → QueueSame t t′ q
 
-module _ (t : List ℕ) (ticks : ℕ) (size : length t ≡ 1024) where
+module _ (t : List ℕ) (ticks : ℕ) (size : length t ≡ 1088) where
   queues-more : (n : ℕ) (t₁ : List ℕ) → n < 32 → QueuesSampled n t t₁ ticks → QueuesSampled (suc n) t (sampleQueue t₁ n ticks) ticks
   queues-more n t₁ hn h =
       record {

@@ -37,7 +37,7 @@ use Rattle.decisions.specs.Scheme.{blockOf, leaves, wsScheme}
 use Rattle.decisions.proofs.Sees.{Low, sees}
 use Rattle.decisions.proofs.Parameters.{parameters-are}
 use Rattle.decisions.proofs.Operands.{numbers}
-use Rattle.tables.proofs.BlockKinds.{Kinds, generating, taking, waiting, arriving, other, kinds, unasked}
+use Rattle.tables.proofs.BlockKinds.{Kinds, generating, taking, waiting, arriving, preempting, other, kinds, unasked}
 
 -- ---- Whether a row leaves
 
@@ -83,6 +83,7 @@ module _ {m : BlockModel} {tape : List (List ℕ)} {tapeBytes tables lists : Lis
         go (taking (storage v n) e) = like e (unfold blockForms in another _ 6 _ refl refl refl (f ∙ e))
         go (waiting a o c e) = like e (unfold blockForms Turn.holds truth in rw (kind _ 9 _ refl (f ∙ e)) (ap not (compared a o c e)))
         go (arriving q e) = like e (unfold blockForms in another _ 15 _ refl refl refl (f ∙ e))
+        go (preempting v e) = like e (unfold blockForms in another _ 19 _ refl refl refl (f ∙ e))
         go (other n rest e d g) = another b n rest (unasked n d .no-wait) (ap (λ x. x .waitsWhile) g) e f
 
   inside-below : i < length (m .blocks) → ltb (blockOf w k) (Layout.blockWidth * length (m .blocks)) ≡ true

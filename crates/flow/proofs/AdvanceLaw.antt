@@ -98,7 +98,7 @@ module _ (m : BlockModel) (tape : List (List ℕ)) (tapeBytes tables lists : Lis
     ask-is : askTime x (sample .time) ≡ q
     ask-is =
         ap (askTime x) (sampled tapeBytes tally s (stands .tallying) list (named .0) there few time left e)
-        ∙ time-asked m (sane .rules) x s (stands .counting) time (sane .timely .clock) (time-most m s list time left sane e)
+        ∙ time-asked m (sane .rules) x s (stands .counting) time (sane .timely .clock) (omega (arith, time-most m s list time left sane e))
 
     unspent : advanceRows tables tapeBytes w tally x at ≡ cond (eqb q 0) (delayRows w tally x sample (list - 1)) (rowsOf (stopped x q) w tally)
     unfolding advanceRows advanceNext advanceWith

@@ -41,7 +41,7 @@ module _ (m : BlockModel) (rules : m .rules ≡ inForce) (x : Scalars) (s : Stat
       go true = refl
       go false = refl
 
-  module _ (time : ℕ) (clock : s .view .clock ≤ inForce .maxClock) (most : time ≤ inForce .maxTime) where
+  module _ (time : ℕ) (clock : s .view .clock ≤ inForce .maxClock) (most : time ≤ inForce .maxClock) where
     pub time-asked : askTime x time ≡ unless (leb (s .view .clock + time) (m .rules .maxClock)) 22 0
     unfolding askTime
     time-asked =

@@ -36,7 +36,8 @@ use Rattle.rows.proofs.Insertion.{map-insert}
 use Rattle.rows.proofs.Making.{Written, written, written-trans}
 use Rattle.rows.proofs.Ordering.{shows-ext}
 use Rattle.rows.proofs.Laws.{Wakes}
-use Rattle.rows.proofs.Kin.{Other, Kin, nobody, somebody, kin-of, counts-shows, release-shows}
+use Rattle.rows.proofs.Found.{nobody, somebody}
+use Rattle.rows.proofs.Kin.{Other, Kin, kin-of, counts-shows, release-shows}
 use Rattle.state.specs.declared.scalars.Scalars.{Scalars}
 use Rattle.state.specs.ScalarSetters.{putMoving, putSerial, putEnded, putNote}
 use Rattle.state.specs.Bare.{Bare, entering, goingBack, beginning, waiting, bare, bareAnswer}
@@ -172,7 +173,7 @@ module _ (m : BlockModel) (tape : List (List ℕ)) (tapeBytes tables lists : Lis
     unfolding listsOf
     g₃ = listing-ext w₂ (x .moving) (some (withNext 1 t′)) s₀ later (λ q hq. refl) refl refl g₂
 
-    on-list : (q : ℕ) → q < 706 → update p (insert precedes (withNext 1 t′) (listsOf later p)) (listsOf later) q ≡ listsOf (toGatherers t′ later) q
+    on-list : (q : ℕ) → q < 770 → update p (insert precedes (withNext 1 t′) (listsOf later p)) (listsOf later) q ≡ listsOf (toGatherers t′ later) q
     unfolding toGatherers
     on-list q hq =
         ap (λ (l : List Transaction). update p (insert precedes (withNext 1 t′) l) (listsOf later) q) (lists-gatherers later i few)
@@ -328,7 +329,7 @@ module _ (m : BlockModel) (tape : List (List ℕ)) (tapeBytes tables lists : Lis
     abbrev without : State
     without = setGatherers (setNth (s .gatherers) (t .next) (replaceFirst (inFamily t) [] here)) s₀
 
-    last-lists : (q : ℕ) → q < 706
+    last-lists : (q : ℕ) → q < 770
         → movedLists p (map (transactionAt w) (a ++ e)) (insert precedes (transactionAt v₄ k) (listsOf s₀ rel)) (listsOf s₀) q ≡ listsOf (released g t s₀) q
     unfolding released toRel
     last-lists q hq =

@@ -113,7 +113,7 @@ module _ (m : BlockModel) (tape : List (List ℕ)) (tapeBytes tables lists : Lis
     ask-is : askArrival x (sample .time) ≡ askGenerate m (time ∷ left) s
     ask-is =
         ap (askArrival x) time-is
-        ∙ arrival-asked m (sane .rules) x s (stands .counting) time (sane .timely .clock) (time-most m s list time left sane e) (sane .living) left
+        ∙ arrival-asked m (sane .rules) x s (stands .counting) time (sane .timely .clock) (omega (arith, time-most m s list time left sane e)) (sane .living) left
 
     unspent : generateRows tables tapeBytes w tally x at ≡ cond (eqb (askGenerate m (time ∷ left) s) 0) (arriveOn w tally x sample (list - 1) p) (rowsOf (stopped x (askGenerate m (time ∷ left) s)) w tally)
     unfolding generateRows generateNext generateWith

@@ -77,23 +77,23 @@ module _ (w : List ℕ) where
     unfolding inFamily
     one-of k g e h = ap (λ (f : ℕ). eqb f (t .family)) (sym (family-read k g e)) ∙ h
 
-module _ (p : Gatherer → Bool) where
-  pub those-none : (gs : List Gatherer) → Each (λ g. p g ≡ false) gs → those p gs ≡ []
+module _ {A : Type 0} (p : A → Bool) where
+  pub those-none : (gs : List A) → Each (λ g. p g ≡ false) gs → those p gs ≡ []
   unfolding those
   those-none [] h = refl
   those-none (g ∷ gs) h = rw (h .0) (those-none gs (h .1))
 
-  pub those-first : (ahead : List Gatherer) (g : Gatherer) (behind : List Gatherer) → Each (λ g. p g ≡ false) ahead → p g ≡ true
+  pub those-first : (ahead : List A) (g : A) (behind : List A) → Each (λ g. p g ≡ false) ahead → p g ≡ true
       → those p (ahead ++ g ∷ behind) ≡ g ∷ those p behind
   unfolding those
   those-first [] g behind h e = rw e
   those-first (x ∷ ahead) g behind h e = rw (h .0) (those-first ahead g behind (h .1) e)
 
-  pub replaced : (few ahead : List Gatherer) (g : Gatherer) (behind : List Gatherer) → Each (λ g. p g ≡ false) ahead → p g ≡ true
+  pub replaced : (few ahead : List A) (g : A) (behind : List A) → Each (λ g. p g ≡ false) ahead → p g ≡ true
       → replaceFirst p few (ahead ++ g ∷ behind) ≡ ahead ++ (few ++ behind)
   unfolding replaceFirst
   replaced few [] g behind h e = rw e
-  replaced few (x ∷ ahead) g behind h e = rw (h .0) (ap (λ (m : List Gatherer). x ∷ m) (replaced few ahead g behind (h .1) e))
+  replaced few (x ∷ ahead) g behind h e = rw (h .0) (ap (λ (m : List A). x ∷ m) (replaced few ahead g behind (h .1) e))
 
 pub each-at : (P : Gatherer → Type 0) (ahead : List Gatherer) (g : Gatherer) (behind : List Gatherer) → Each P (ahead ++ g ∷ behind) → P g
 each-at P [] g behind h = h .0

@@ -96,7 +96,7 @@ making-written w w′ k moving o s a h =
 -- ---- Its list
 
 module _ (w : List ℕ) (k moving : ℕ) (o : Option Transaction) (s s′ : State) (h : Making w k moving o s) (living : s′ .made - s′ .ended ≡ suc (s .made - s .ended)) where
-  pub making-fel : ((q : ℕ) → q < 706 → listsOf s q ≡ listsOf s′ q) → insert earlier (eventAt w k) (s .fel) ≡ s′ .fel → Listing (put w fel k) moving o s′
+  pub making-fel : ((q : ℕ) → q < 770 → listsOf s q ≡ listsOf s′ q) → insert earlier (eventAt w k) (s .fel) ≡ s′ .fel → Listing (put w fel k) moving o s′
   making-fel lists future =
       record {
         shows =
@@ -107,7 +107,7 @@ module _ (w : List ℕ) (k moving : ℕ) (o : Option Transaction) (s s′ : Stat
             rw (update-other fel (insert (ahead w fel) k (h .shows .rows fel)) (h .shows .rows) free (λ e. omega arith), living) (omega (arith, h .spare));
       }
 
-  pub making-rel : ((q : ℕ) → q < 706 → update rel (insert precedes (transactionAt w k) (listsOf s rel)) (listsOf s) q ≡ listsOf s′ q) → s .fel ≡ s′ .fel → Listing (put w rel k) moving o s′
+  pub making-rel : ((q : ℕ) → q < 770 → update rel (insert precedes (transactionAt w k) (listsOf s rel)) (listsOf s) q ≡ listsOf s′ q) → s .fel ≡ s′ .fel → Listing (put w rel k) moving o s′
   making-rel lists future =
       record {
         shows =

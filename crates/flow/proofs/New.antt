@@ -176,7 +176,7 @@ module _ (w : List ℕ) (x : Scalars) (t : Transaction) (s : State) (listing : L
   abbrev after : State
   after = toRel (copyOf t (suc (s .made)) target) (setMade (suc (s .made)) s)
 
-  lists : (q : ℕ) → q < 706 → update rel (insert precedes (transactionAt v₂ j) (listsOf s rel)) (listsOf s) q ≡ listsOf after q
+  lists : (q : ℕ) → q < 770 → update rel (insert precedes (transactionAt v₂ j) (listsOf s rel)) (listsOf s) q ≡ listsOf after q
   unfolding toRel listsOf
   lists q hq =
       rw copied (lists-set-rel s (insert precedes (withSerial (suc (s .serial)) (copyOf t (suc (s .made)) target)) (s .rel)) q hq)

@@ -4,11 +4,11 @@ use mathlib.Core.Bool.{Bool}
 use mathlib.Core.List.{List, [], _∷_}
 use native.Mathlib.Omega.{arith}
 use Rattle.machine.specs.Transaction.{Event, earlier}
-use Rattle.machine.specs.Lists.{insert, those}
+use Rattle.machine.specs.Lists.{insert, those, replaceFirst}
 use Rattle.machine.specs.State.{State}
 use Rattle.machine.specs.Claims.{Each}
 use Rattle.machine.proofs.RunLaws.{cond-cases, each-map}
-use Rattle.machine.proofs.Sorted.{each-insert, each-those, earlier-time, later-time}
+use Rattle.machine.proofs.Sorted.{each-insert, each-those, each-replace, earlier-time, later-time}
 
 abbrev pub Rising : List Event → Type 0
 Rising [] = Unit {0}
@@ -31,3 +31,9 @@ unfolding those
 rising-those p [] h = tt
 rising-those p (x ∷ l) h =
     cond-cases Rising (p x) _ _ (λ e. (each-those (λ (y : Event). x .time ≤ y .time) p l (h .0), rising-those p l (h .1))) (λ e. rising-those p l (h .1))
+
+pub rising-without : (p : Event → Bool) (l : List Event) → Rising l → Rising (replaceFirst p [] l)
+unfolding replaceFirst
+rising-without p [] h = tt
+rising-without p (x ∷ l) h =
+    cond-cases Rising (p x) _ _ (λ e. h .1) (λ e. (each-replace (λ (y : Event). x .time ≤ y .time) p [] l tt (h .0), rising-without p l (h .1)))

@@ -2,26 +2,26 @@
 -- weigh together as much as the numbers 1..made. Every turn keeps it.
 use Prim.Native.Nat.{ℕ, zero, suc, _+_, _*_, _-_, _≤_, _<_}
 use mathlib.Core.Path.{_≡_, refl, sym, ap, _∙_, subst}
-use mathlib.Core.Bool.{Bool, false, cond, not, _&&_}
+use mathlib.Core.Bool.{true, Bool, false, cond, not, _&&_}
 use mathlib.Core.List.{List, [], _∷_}
 use mathlib.Core.Option.{Option, none, some}
 use native.Mathlib.Omega.{arith}
 use lib.Dec.{eqb, leb}
 use lib.ListN.{length, take, drop, length-set}
-use Rattle.machine.specs.Transaction.{Transaction, Event, Gatherer, precedes, earlier, newborn}
+use Rattle.machine.specs.Transaction.{Transaction, Event, Gatherer, precedes, earlier, newborn, Interrupted}
 use Rattle.machine.specs.Lists.{insert, those, replaceFirst, flat}
 use Rattle.machine.specs.Term.{serverAt, free}
-use Rattle.machine.specs.Block.{Code, Share, facility, storage, shareServer, shareUnits, Block, generate, advance, terminate, takes, frees, waitServer, waitTerms, moves, assign, priority, split, counts, assemble, facts, BlockModel, blockAt, welIndex}
+use Rattle.machine.specs.Block.{Code, Share, facility, shareServer, shareUnits, Block, generate, advance, terminate, takes, frees, waitServer, waitTerms, moves, assign, priority, split, counts, assemble, preempt, giveBack, facts, BlockModel, blockAt, welIndex}
 use Rattle.machine.specs.State.{State, Logged}
 use Rattle.machine.specs.Setters.{withSerial, withPriority, withReturning, withStamp, withNext, setSerial, setMoving, setEnded}
-use Rattle.machine.specs.Moves.{recordOf, log, enters, moveTo, fresh, toRel, toFel, qlOf, welOf, lineUp, toQl, toWel, toWsl, mustWait, Parted, wakeQl, wakeFirstWel, wakeWsl, setUse, setContent, timesLeft, useTime, arrival, copies, gatherersAt, inFamily, waitsFor, toGatherers, comes, released}
+use Rattle.machine.specs.Moves.{recordOf, log, enters, moveTo, fresh, toRel, toFel, qlOf, welOf, lineUp, toQl, toWel, toWsl, mustWait, Parted, wakeQl, wakeFirstWel, wakeWsl, setUse, setContent, timesLeft, useTime, arrival, copies, gatherersAt, inFamily, waitsFor, toGatherers, comes, released, ofFacility, losesTo, losersTo, interruptedAt, interrupt, resume, setHolder}
 use Rattle.machine.specs.Execute.{askAdvance, question, takeUnits, partFor, wakeFor, checkWels, endsOne, delay, effect, freeUnits}
 use Rattle.machine.specs.Turn.{arriveAll, due, moveClock, nextEvents, takeFirst, takeReady, taking, answer, execute, waitsOn, wsScheme, turn}
 use Rattle.machine.specs.Run.{startAt, idle, start}
 use Rattle.machine.specs.Claims.{upTo, terminates}
 use Rattle.machine.proofs.Proper.{Proper, ProperBlock, Names, servers, code-server, share-server}
 use Rattle.machine.proofs.RunLaws.{cond-cases}
-use Rattle.machine.proofs.Cases.{checkWels-kept, waitServer-cases, waitTerms-cases, assemble-cases, wsScheme-cases, startOf-cases}
+use Rattle.machine.proofs.Cases.{checkWels-kept, waitServer-cases, waitTerms-cases, assemble-cases, wsScheme-cases, startOf-cases, preempt-cases, giveBack-cases}
 use Rattle.machine.proofs.Kept.{taking-kept}
 use Rattle.machine.proofs.Shape.{Shape, shape-closed, ql-at, wel-at, wel-below, gatherers-at}
 use Rattle.machine.proofs.Sums.{sumOn, sum-insert, sum-those, sum-replace, sum-first, sum-flat-set, sum-flat-none, sum-wake}
@@ -36,8 +36,13 @@ module _ (m : BlockModel) (tape : List (List ℕ)) (f : ℕ → ℕ) where
   abbrev byWho : Gatherer → ℕ
   byWho g = by (g .who)
 
+  abbrev byOne : Interrupted → ℕ
+  byOne i = by (i .who)
+
   abbrev pub listed : State → ℕ
-  listed s = sumOn by (flat (s .ql)) + sumOn by (flat (s .wel)) + sumOn by (s .wsl) + sumOn by (s .rel) + sumOn (λ e. by (e .who)) (s .fel) + sumOn byWho (flat (s .gatherers))
+  listed s =
+      sumOn by (flat (s .ql)) + sumOn by (flat (s .wel)) + sumOn by (s .wsl) + sumOn by (s .rel) + sumOn (λ e. by (e .who)) (s .fel) + sumOn byWho (flat (s .gatherers))
+      + sumOn byOne (s .interrupted)
 
   abbrev pub held : Option Transaction → ℕ
   held none = 0
@@ -123,6 +128,23 @@ module _ (m : BlockModel) (tape : List (List ℕ)) (f : ℕ → ℕ) where
             sum-flat-set byWho (s .gatherers) (t .next - 1) (replaceFirst (inFamily t) [] (gatherersAt s (t .next))) at,
             sum-replace byWho (inFamily t) [] (gatherersAt s (t .next)) g l e,
           ))
+
+    -- ---- Interrupted ones
+
+    weighs-interrupt : (e : Event) (l : List Event) (t : Transaction) (f : ℕ) (s : State) → losersTo t f s ≡ e ∷ l → Weighs x s → Weighs x (interrupt e t f s)
+    unfolding interrupt
+    weighs-interrupt e l t f s q w =
+        let before : Interrupted → Interrupted → Bool = λ a b. precedes (a .who) (b .who) in
+        let left : ℕ = e .time - s .view .clock in
+        omega (
+          arith,
+          sum-replace (λ (e : Event). by (e .who)) (losesTo t (serverAt (s .view) f)) [] (s .fel) e l q,
+          sum-insert byOne before (record { who = withStamp left (e .who); facility = f; remaining = left }) (s .interrupted),
+        )
+
+    weighs-resume : (i : Interrupted) (l : List Interrupted) (f : ℕ) (s : State) → interruptedAt s f ≡ i ∷ l → Weighs x s → Weighs x (resume i f s)
+    unfolding resume
+    weighs-resume i l f s q w = weighs-toFel _ (i .who) _ (omega (arith, sum-replace byOne (ofFacility f) [] (s .interrupted) i l q))
 
     -- ---- Waking
 
@@ -253,9 +275,9 @@ module _ (m : BlockModel) (tape : List (List ℕ)) (f : ℕ → ℕ) where
       entered : Weighs (by t) (enters t idle-hand)
       entered = weighs-enters (by t) t idle-hand plain w
 
-      balanced-takeUnits : (x : Share) → Names (servers m) (shareServer x) → Shape m s → Balanced (takeUnits m x t idle-hand)
+      balanced-takeUnits : (x : Share) (preempts : Bool) → Names (servers m) (shareServer x) → Shape m s → Balanced (takeUnits m x preempts t idle-hand)
       unfolding takeUnits moveTo setUse enters log
-      balanced-takeUnits x at h =
+      balanced-takeUnits x preempts at h =
           cond-cases Balanced (leb (shareUnits x) (free (serverAt (s .view) (shareServer x)))) _ _
           (λ e. weighs-checkWels (by t) (shareServer x) _ (at .0) (at .1) (h .wel-length) entered)
           (λ e. balanced-waitQl (shareServer x) (ql-at h (shareServer x) (at .0) (at .1)))
@@ -276,6 +298,19 @@ module _ (m : BlockModel) (tape : List (List ℕ)) (f : ℕ → ℕ) where
           waitServer-cases Balanced m code v c t idle-hand (λ e. balanced-waitWel v code (wel-at h v code low high))
           (λ e. weighs-wakeFirstWel (by t) v code idle-hand (wel-at h v code low high) w)
           (λ e. weighs-wakeFirstWel (by t) v code (enters t idle-hand) (wel-at h v code low high) entered)
+
+      -- another holds the facility
+      balanced-preempt : (f : ℕ) → Names (servers m) f → Shape m s → Balanced (effect m (preempt f) t idle-hand)
+      unfolding moveTo setUse enters log shareServer interrupt serverAt
+      balanced-preempt f at h =
+          preempt-cases Balanced m f t idle-hand (λ e. balanced-takeUnits (facility f) true at h)
+          (λ x l e. weighs-checkWels (by t) f _ (at .0) (at .1) (h .wel-length) (weighs-interrupt (by t) x l t f (enters t idle-hand) e entered))
+
+      balanced-giveBack : (f : ℕ) → Names (servers m) f → Shape m s → Balanced (effect m (giveBack f) t idle-hand)
+      unfolding moveTo setUse enters log shareServer shareUnits resume toFel
+      balanced-giveBack f at h =
+          giveBack-cases Balanced m f t idle-hand (λ e. balanced-frees (facility f) at h)
+          (λ i l e. weighs-checkWels (by t) f _ (at .0) (at .1) (h .wel-length) (weighs-resume (by t) i l f (setHolder f (i .who .number) false (enters t idle-hand)) e entered))
 
       -- a question has stopped the turn where there is no time
       balanced-delay : (l : List ℕ) (list : ℕ) → askAdvance m l s ≡ 0 → Balanced (delay l list t (enters t idle-hand))
@@ -312,7 +347,7 @@ module _ (m : BlockModel) (tape : List (List ℕ)) (f : ℕ → ℕ) where
     balanced-effect (generate list p) e q good h = weighs-arrival (by t) _ list p _ _ (entered (terminates-at e))
     balanced-effect (advance list) e q good h = balanced-delay (terminates-at e) (timesLeft s list) list q
     balanced-effect (terminate a) e q good h = balanced-terminate a (terminates-at e)
-    balanced-effect (takes x) e q good h = balanced-takeUnits (terminates-at e) x (share-server m x good) h
+    balanced-effect (takes x) e q good h = balanced-takeUnits (terminates-at e) x false (share-server m x good) h
     balanced-effect (frees x) e q good h = balanced-frees (terminates-at e) x (share-server m x good) h
     balanced-effect (waitServer code v c) e q good h =
         let at : Names (servers m) v = code-server m code v (good .0) in
@@ -328,6 +363,8 @@ module _ (m : BlockModel) (tape : List (List ℕ)) (f : ℕ → ℕ) where
     balanced-effect (split n target) e q good h = weighs-copies (by t) n target t _ (entered (terminates-at e))
     balanced-effect (counts c q) e z good h = entered (terminates-at e)
     balanced-effect (assemble n) e q good h = balanced-assemble n e (terminates-at e) h
+    balanced-effect (preempt f) e q good h = balanced-preempt (terminates-at e) f (good .0, omega (arith, good .1)) h
+    balanced-effect (giveBack f) e q good h = balanced-giveBack (terminates-at e) f (good .0, omega (arith, good .1)) h
 
     balanced-answer : (n : ℕ) → question m (blockAt m (t .next)) t s ≡ n → s .moving ≡ some t → Proper m tape → Shape m s
         → Balanced (answer n m (blockAt m (t .next)) t s)

@@ -28,7 +28,7 @@ progress-closed k =
     record {
       entries = λ i n s h. h;
       queues = λ i q s h. h;
-      units = λ v n holder s le h. h;
+      units = λ v n holder preempted s le h. h;
       clock = λ time ticks s h. h;
       ql = λ i l s h. h;
       wel = λ i l s h. h;
@@ -37,6 +37,7 @@ progress-closed k =
       rel = λ l s h. h;
       fel = λ l s h. h;
       gatherers = λ i l s h. h;
+      interrupted = λ l s h. h;
       moving = λ o s h. h;
       serial = λ n s h. h;
       counter = λ n s h. h;

@@ -1,4 +1,4 @@
--- What holds of both arms of a choice holds of the choice: the check of a WEL, WAITIF of a code and of terms, the WS scheme, the start. The
+-- What holds of both arms of a choice holds of the choice: the check of a WEL, WAITIF, ASSEMBLE, PREEMPT, RETURN, the WS scheme, the start. The
 -- other choices of a block, by `cond-cases`, stand in the proof of each claim.
 use Prim.Native.Nat.{ℕ, suc, _-_}
 use mathlib.Core.Path.{_≡_, refl, sym}
@@ -6,14 +6,14 @@ use mathlib.Core.Bool.{Bool, true, false, not, _&&_}
 use mathlib.Core.List.{List, [], _∷_}
 use borrow.Author.Tests.{eqb-true, eqb-false}
 use lib.Dec.{ltb, eqb}
-use Rattle.machine.specs.Transaction.{Transaction, Gatherer}
+use Rattle.machine.specs.Transaction.{Transaction, Event, Gatherer, Interrupted}
 use Rattle.machine.specs.Term.{Term, Relation, serverAt, compare}
 use Rattle.machine.specs.Facts.{isGenerate}
-use Rattle.machine.specs.Block.{Code, U, NU, E, NE, F, NF, status, Block, waitServer, waitTerms, assemble, facts, BlockModel}
+use Rattle.machine.specs.Block.{Code, U, NU, E, NE, F, NF, status, facility, Block, waitServer, waitTerms, assemble, preempt, giveBack, facts, BlockModel}
 use Rattle.machine.specs.State.{State}
-use Rattle.machine.specs.Moves.{enters, moveTo, goOn, toWel, toWsl, beginWait, mustWait, wakeFirstWel, wakeWsl, timesLeft, arrival, waitsFor, toGatherers, comes, released}
+use Rattle.machine.specs.Moves.{enters, moveTo, goOn, toWel, toWsl, beginWait, mustWait, wakeFirstWel, wakeWsl, timesLeft, arrival, waitsFor, toGatherers, comes, released, interruptedAt, losersTo, interrupt, resume, setHolder}
 use Rattle.machine.specs.Setters.{setEnded}
-use Rattle.machine.specs.Execute.{checkWel, checkWels, stamped, gathers, gathering, effect, takeUnits}
+use Rattle.machine.specs.Execute.{checkWel, checkWels, stamped, wakeFor, freeUnits, gathers, givesBack, effect, takeUnits, gathering}
 use Rattle.machine.specs.Turn.{waitsOn, wsScheme}
 use Rattle.machine.specs.Run.{startOf}
 use Rattle.machine.proofs.RunLaws.{cond-cases}
@@ -68,6 +68,31 @@ module _ (Q : State → Type 0) where
           → Q (gathering (λ f. f (enters t s)) (λ put. mustWait put t s) (λ f. f s) (λ put. beginWait put t s) l n t)
       go [] e = first e
       go (g ∷ l) e = cond-cases Q _ _ _ (last g l e) (more g l e)
+
+  -- somebody loses the facility, or it does as SEIZE
+  pub preempt-cases : (m : BlockModel) (f : ℕ) (t : Transaction) (s : State)
+      → (losersTo t f s ≡ [] → Q (takeUnits m (facility f) true t s))
+      → ((e : Event) (l : List Event) → losersTo t f s ≡ e ∷ l → Q (goOn t (checkWels f (setHolder f (t .number) true (interrupt e t f (enters t s))))))
+      → Q (effect m (preempt f) t s)
+  unfolding effect takeUnits
+  preempt-cases m f t s nobody loses = go (losersTo t f s) refl
+    where
+      go : (l : List Event) → losersTo t f s ≡ l
+          → Q (Rattle.machine.specs.Execute.preempting (λ f. f (enters t s)) (λ put. mustWait put t s) (λ f. f s) (λ put. beginWait put t s) l m f t s)
+      go [] e = nobody e
+      go (x ∷ l) e = loses x l e
+
+  -- it does as RELEASE, or the interrupted one gets the facility back
+  pub giveBack-cases : (m : BlockModel) (f : ℕ) (t : Transaction) (s : State)
+      → (interruptedAt s f ≡ [] → Q (goOn t (checkWels f (wakeFor m (facility f) (freeUnits f 1 (enters t s))))))
+      → ((i : Interrupted) (l : List Interrupted) → interruptedAt s f ≡ i ∷ l → Q (goOn t (checkWels f (resume i f (setHolder f (i .who .number) false (enters t s))))))
+      → Q (effect m (giveBack f) t s)
+  unfolding effect takeUnits givesBack
+  giveBack-cases m f t s nobody back = go (interruptedAt s f) refl
+    where
+      go : (l : List Interrupted) → interruptedAt s f ≡ l → Q (goOn t (checkWels f (givesBack m l f (enters t s))))
+      go [] e = nobody e
+      go (i ∷ l) e = back i l e
 
   pub wsScheme-cases : (m : BlockModel) (s : State) → (s .end ≡ 0 → Q (wakeWsl (λ t. not (waitsOn m (s .view) t)) s))
       → ((s .end ≡ 0 → ⊥) → Q s) → Q (wsScheme m s)

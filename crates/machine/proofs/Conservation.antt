@@ -9,7 +9,7 @@ use native.Mathlib.Omega.{arith}
 use borrow.Author.Tests.{leb-true, leb-false, eqb-true, eqb-false, eq-eqb, ne-eqb}
 use lib.Dec.{eqb, leb}
 use lib.ListN.{length, length-append, length-map}
-use Rattle.machine.specs.Transaction.{Transaction}
+use Rattle.machine.specs.Transaction.{Transaction, Interrupted}
 use Rattle.machine.specs.Lists.{those, flat}
 use Rattle.machine.specs.Block.{BlockModel}
 use Rattle.machine.specs.State.{State}
@@ -21,7 +21,7 @@ use Rattle.machine.proofs.Proper.{Proper}
 use Rattle.machine.proofs.RunLaws.{each-state, each-map}
 use Rattle.machine.proofs.Kept.{taking-kept}
 use Rattle.machine.proofs.Shape.{Shape, shape-closed, shape-turn, shape-start}
-use Rattle.machine.proofs.Sums.{sumOn, sum-append, sum-map, sum-test, sum-cong, sum-cong-keys, sum-length, sum-count, sum-zero, upTo-ones, upTo-none, upTo-one}
+use Rattle.machine.proofs.Sums.{sumOn, sum-append, sum-map, sum-test, sum-cong, sum-cong-keys, sum-length, sum-count, sum-zero, upTo-ones, upTo-none, upTo-one, each-member}
 use Rattle.machine.proofs.Balance.{listed, held, gone, Balanced, balanced-taking, balanced-turn, balanced-start}
 use Rattle.machine.proofs.Ledger.{Books, booked-taking, booked-turn}
 use Rattle.machine.proofs.StartLedger.{booked-start}
@@ -42,6 +42,8 @@ module _ (m : BlockModel) (tape : List (List ℕ)) (f : ℕ → ℕ) where
   sum-everyone s =
       omega (
         arith,
+        sum-append number-weight
+            (flat (s .ql) ++ flat (s .wel) ++ s .wsl ++ s .rel ++ map (λ e. e .who) (s .fel) ++ movingOne (s .moving) ++ map (λ g. g .who) (flat (s .gatherers))) (map (λ i. i .who) (s .interrupted)),
         sum-append number-weight (flat (s .ql) ++ flat (s .wel) ++ s .wsl ++ s .rel ++ map (λ e. e .who) (s .fel) ++ movingOne (s .moving)) (map (λ g. g .who) (flat (s .gatherers))),
         sum-append number-weight (flat (s .ql) ++ flat (s .wel) ++ s .wsl ++ s .rel ++ map (λ e. e .who) (s .fel)) (movingOne (s .moving)),
         sum-append number-weight (flat (s .ql) ++ flat (s .wel) ++ s .wsl ++ s .rel) (map (λ e. e .who) (s .fel)),
@@ -50,6 +52,7 @@ module _ (m : BlockModel) (tape : List (List ℕ)) (f : ℕ → ℕ) where
         sum-append number-weight (flat (s .ql)) (flat (s .wel)),
         sum-map number-weight (λ e. e .who) (s .fel),
         sum-map number-weight (λ g. g .who) (flat (s .gatherers)),
+        sum-map number-weight (λ i. i .who) (s .interrupted),
         sum-moving (s .moving),
       )
 
@@ -200,6 +203,10 @@ module _ (m : BlockModel) (tape : List (List ℕ)) where
           absurd (omega (arith, all, upTo-none (s .made) n (λ k a b c. omega (arith, leb-false n (s .made) q))))
       go false b e q = absurd (omega (arith, all, upTo-none (s .made) n (λ k a b c. omega (arith, leb-false 1 n e))))
 
+  alive : (b : Bool) → 0 < bit b → b ≡ true
+  alive true p = refl
+  alive false p = absurd (omega arith)
+
   -- who moves is living
   pub mover-lives : (s : State) → Sound m tape s → (t : Transaction) → s .moving ≡ some t → isLiving m tape (s .records) (t .number) ≡ true
   mover-lives s h t e =
@@ -212,10 +219,19 @@ module _ (m : BlockModel) (tape : List (List ℕ)) where
         ap (held m tape (λ k. bit (eqb k (t .number)))) e,
         ap bit (eq-eqb (t .number) (t .number) refl),
       ))
-    where
-      alive : (b : Bool) → 0 < bit b → b ≡ true
-      alive true p = refl
-      alive false p = absurd (omega arith)
+
+  -- and so are the interrupted ones
+  pub interrupted-live : (s : State) → Sound m tape s → Each (λ (i : Interrupted). isLiving m tape (s .records) (i .who .number) ≡ true) (s .interrupted)
+  interrupted-live s h =
+      each-member (λ (i : Interrupted). i .who .number) _ (s .interrupted)
+      (λ i p.
+      alive (isLiving m tape (s .records) (i .who .number))
+      (omega (
+        arith,
+        stands-once m tape s (h .balanced) (h .books) (i .who .number),
+        standing-sum m tape s (h .balanced) (h .books) (i .who .number),
+        sum-everyone m tape (λ k. bit (eqb k (i .who .number))) s,
+      )))
 
   pub sound-start : Proper m tape → Sound m tape (start m tape)
   sound-start proper =

@@ -20,7 +20,7 @@ use Rattle.machine.proofs.Bounds.{bounded}
 use Rattle.machine.proofs.Conservation.{Conserved, conserved}
 use Rattle.machine.proofs.NobodyAble.{Waited, waited, able-none}
 use Rattle.machine.proofs.InOrder.{in-order}
-use Rattle.machine.proofs.Holders.{Holding, holding}
+use Rattle.machine.proofs.Holders.{Holding, holding, taken-from}
 use Rattle.machine.proofs.JoinedWaits.{Gathered, joined-waits}
 use Rattle.machine.proofs.Gathering.{Assembled, assembled}
 
@@ -43,7 +43,9 @@ keeps m tape s h =
       living = h .0 .0 .living;
       nobody-able = able-none m tape s (h .0 .1);
       order = h .1 .0;
-      held = λ f low high. h .1 .1 .0 f (low, high);
+      held = λ f low high. h .1 .1 .0 .each f (low, high) .held;
+      interrupted = λ f low high. h .1 .1 .0 .each f (low, high) .loser;
+      taken-from = taken-from m tape s (h .1 .1 .0);
       joined = h .1 .1 .1 .0 .joined;
       stamps = h .1 .1 .1 .0 .stamps;
       families = h .1 .1 .1 .1 .families;

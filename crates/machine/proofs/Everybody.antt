@@ -5,12 +5,12 @@ use mathlib.Core.Bool.{Bool, true, false}
 use mathlib.Core.List.{List, [], _∷_, _++_, map}
 use mathlib.Core.Option.{Option, none, some}
 use lib.ListN.{length, set, take, replicate}
-use Rattle.machine.specs.Transaction.{Transaction, Event, Gatherer, precedes, earlier, newborn}
-use Rattle.machine.specs.Lists.{flat, replaceFirst}
+use Rattle.machine.specs.Transaction.{Transaction, Event, Gatherer, Interrupted, precedes, earlier, newborn}
+use Rattle.machine.specs.Lists.{flat}
 use Rattle.machine.specs.Block.{Code, Share, shareServer, BlockModel, welIndex}
 use Rattle.machine.specs.State.{State}
 use Rattle.machine.specs.Setters.{withNext, withSerial, withReturning, withStamp, setSerial, setEnded, setGatherers}
-use Rattle.machine.specs.Moves.{gatherersAt, inFamily, waitsFor, toGatherers, comes, released, beginWait, log, enters, moveTo, fresh, toRel, toFel, toQl, toWel, toWsl, mustWait, wake, wakeQl, wakeFirstWel, wakeWsl, setUse, setContent, arrival, copyOf, copies, qlOf, welOf}
+use Rattle.machine.specs.Moves.{gatherersAt, inFamily, waitsFor, toGatherers, comes, released, interruptedAt, losesTo, losersTo, interrupt, ofFacility, resume, beginWait, log, enters, moveTo, fresh, toRel, toFel, toQl, toWel, toWsl, mustWait, wake, wakeQl, wakeFirstWel, wakeWsl, setUse, setContent, arrival, copyOf, copies, qlOf, welOf}
 use Rattle.machine.specs.Execute.{wakeFor, checkWels, endsOne, delay}
 use Rattle.machine.specs.Turn.{arriveAll, due, moveClock, nextEvents, takeFirst, takeReady, taking, wsScheme}
 use Rattle.machine.specs.Run.{idle}
@@ -19,7 +19,7 @@ use Rattle.machine.specs.Claims.{Each, everyone}
 use Rattle.machine.proofs.RunLaws.{cond-cases}
 use Rattle.machine.proofs.Cases.{checkWels-kept, wsScheme-cases}
 use Rattle.machine.proofs.Shape.{each-set, each-getD}
-use Rattle.machine.proofs.Sorted.{each-insert, each-those, each-drop}
+use Rattle.machine.proofs.Sorted.{each-insert, each-those, each-drop, each-replace}
 use Rattle.machine.proofs.Lines.{each-lineUp, both-partFor}
 
 -- ---- Definition
@@ -35,6 +35,7 @@ pub record Everybody (P : Transaction → Type 0) (s : State) : Type 0 where
   pub rel : Each P (s .rel)
   pub fel : Each (λ e. P (e .who)) (s .fel)
   pub gatherers : Each (Each (λ g. P (g .who))) (s .gatherers)
+  pub interrupted : Each (λ i. P (i .who)) (s .interrupted)
   pub moving : Maybe P (s .moving)
 
 -- a claim that neither mark nor serial bears on
@@ -47,16 +48,6 @@ pub record Unmoved (P : Transaction → Type 0) : Type 0 where
 each-take : {A : Type 0} (P : A → Type 0) (l : List A) → Each P l → Each P (take 1 l)
 each-take P [] h = tt
 each-take P (x ∷ l) h = (h .0, tt)
-
-each-replace : {A : Type 0} (P : A → Type 0) (p : A → Bool) (few l : List A) → Each P few → Each P l → Each P (replaceFirst p few l)
-unfolding replaceFirst
-each-replace P p few [] k h = tt
-each-replace {A = A} P p few (x ∷ l) k h =
-    cond-cases (Each P) (p x) _ _ (λ e. each-joined few l k (h .1)) (λ e. (h .0, each-replace P p few l k (h .1)))
-  where
-    each-joined : (a b : List A) → Each P a → Each P b → Each P (a ++ b)
-    each-joined [] b h k = k
-    each-joined (x ∷ a) b h k = (h .0, each-joined a b (h .1) k)
 
 each-replicate : {A : Type 0} (P : A → Type 0) (n : ℕ) (a : A) → P a → Each P (replicate n a)
 each-replicate P zero a p = tt
@@ -79,7 +70,7 @@ module _ (P : Transaction → Type 0) (U : Unmoved P) where
   pub toRel-everybody : (t : Transaction) (s : State) → P t → Everybody P s → Everybody P (toRel t s)
   unfolding toRel
   toRel-everybody t s p h =
-      record { ql = h .ql; wel = h .wel; wsl = h .wsl; rel = each-insert P precedes _ (s .rel) (U .serial _ t p) (h .rel); fel = h .fel; gatherers = h .gatherers; moving = h .moving }
+      record { ql = h .ql; wel = h .wel; wsl = h .wsl; rel = each-insert P precedes _ (s .rel) (U .serial _ t p) (h .rel); fel = h .fel; gatherers = h .gatherers; interrupted = h .interrupted; moving = h .moving }
 
   pub toFel-everybody : (time : ℕ) (t : Transaction) (s : State) → P (withStamp time t) → Everybody P s → Everybody P (toFel time t s)
   unfolding toFel
@@ -91,6 +82,7 @@ module _ (P : Transaction → Type 0) (U : Unmoved P) where
         rel = h .rel;
         fel = each-insert (λ (e : Event). P (e .who)) earlier _ (s .fel) (U .serial _ (withStamp time t) p) (h .fel);
         gatherers = h .gatherers;
+        interrupted = h .interrupted;
         moving = h .moving;
       }
 
@@ -104,6 +96,7 @@ module _ (P : Transaction → Type 0) (U : Unmoved P) where
         rel = h .rel;
         fel = h .fel;
         gatherers = h .gatherers;
+        interrupted = h .interrupted;
         moving = h .moving;
       }
 
@@ -117,18 +110,19 @@ module _ (P : Transaction → Type 0) (U : Unmoved P) where
         rel = h .rel;
         fel = h .fel;
         gatherers = h .gatherers;
+        interrupted = h .interrupted;
         moving = h .moving;
       }
 
   pub toWsl-everybody : (t : Transaction) (s : State) → P t → Everybody P s → Everybody P (toWsl t s)
   unfolding toWsl
   toWsl-everybody t s p h =
-      record { ql = h .ql; wel = h .wel; wsl = each-insert P precedes t (s .wsl) p (h .wsl); rel = h .rel; fel = h .fel; gatherers = h .gatherers; moving = h .moving }
+      record { ql = h .ql; wel = h .wel; wsl = each-insert P precedes t (s .wsl) p (h .wsl); rel = h .rel; fel = h .fel; gatherers = h .gatherers; interrupted = h .interrupted; moving = h .moving }
 
   -- nothing but lists matters
   pub like : (s s′ : State) → s′ .ql ≡ s .ql → s′ .wel ≡ s .wel → s′ .wsl ≡ s .wsl → s′ .rel ≡ s .rel → s′ .fel ≡ s .fel → s′ .moving ≡ s .moving
-      → s′ .gatherers ≡ s .gatherers → Everybody P s → Everybody P s′
-  like s s′ a b c d e f g h =
+      → s′ .gatherers ≡ s .gatherers → s′ .interrupted ≡ s .interrupted → Everybody P s → Everybody P s′
+  like s s′ a b c d e f g i h =
       record {
         ql = rw a (h .ql);
         wel = rw b (h .wel);
@@ -136,6 +130,7 @@ module _ (P : Transaction → Type 0) (U : Unmoved P) where
         rel = rw d (h .rel);
         fel = rw e (h .fel);
         gatherers = rw g (h .gatherers);
+        interrupted = rw i (h .interrupted);
         moving = rw f (h .moving);
       }
 
@@ -145,7 +140,7 @@ module _ (P : Transaction → Type 0) (U : Unmoved P) where
   unfolding mustWait log
   mustWait-everybody put kept t s p h =
       cond-cases (Everybody P) (t .returning) _ _ (λ e. kept t s p h)
-      (λ e. kept _ _ (U .serial _ t p) (like s (setSerial (fresh s) (log 1 t s)) refl refl refl refl refl refl refl h))
+      (λ e. kept _ _ (U .serial _ t p) (like s (setSerial (fresh s) (log 1 t s)) refl refl refl refl refl refl refl refl h))
 
   pub waitQl-everybody : (edition v : ℕ) (t : Transaction) (s : State) → P t → Everybody P s → Everybody P (mustWait (toQl edition v) t s)
   waitQl-everybody edition v = mustWait-everybody (toQl edition v) (toQl-everybody edition v)
@@ -159,7 +154,7 @@ module _ (P : Transaction → Type 0) (U : Unmoved P) where
   pub moveTo-everybody : (n : ℕ) (t : Transaction) (s : State) → P (withNext n t) → Everybody P s → Everybody P (moveTo n t s)
   unfolding moveTo
   moveTo-everybody n t s p h =
-      record { ql = h .ql; wel = h .wel; wsl = h .wsl; rel = h .rel; fel = h .fel; gatherers = h .gatherers; moving = U .mark false _ p }
+      record { ql = h .ql; wel = h .wel; wsl = h .wsl; rel = h .rel; fel = h .fel; gatherers = h .gatherers; interrupted = h .interrupted; moving = U .mark false _ p }
 
   -- ---- Gathering
 
@@ -171,7 +166,7 @@ module _ (P : Transaction → Type 0) (U : Unmoved P) where
 
   set-gatherers-everybody : (i : ℕ) (l : List Gatherer) (s : State) → Each PG l → Everybody P s → Everybody P (setGatherers (set (s .gatherers) i l) s)
   set-gatherers-everybody i l s p h =
-      record { ql = h .ql; wel = h .wel; wsl = h .wsl; rel = h .rel; fel = h .fel; gatherers = each-set (Each PG) (s .gatherers) i l (h .gatherers) p; moving = h .moving }
+      record { ql = h .ql; wel = h .wel; wsl = h .wsl; rel = h .rel; fel = h .fel; gatherers = each-set (Each PG) (s .gatherers) i l (h .gatherers) p; interrupted = h .interrupted; moving = h .moving }
 
   pub toGatherers-everybody : (t : Transaction) (s : State) → P t → Everybody P s → Everybody P (toGatherers t s)
   unfolding toGatherers
@@ -179,7 +174,7 @@ module _ (P : Transaction → Type 0) (U : Unmoved P) where
 
   pub begins-everybody : (t : Transaction) (s : State) → P t → Everybody P s → Everybody P (beginWait toGatherers t s)
   unfolding log
-  begins-everybody t s p h = toGatherers-everybody _ _ (U .serial _ t p) (like s (setSerial (fresh s) (log 1 t s)) refl refl refl refl refl refl refl h)
+  begins-everybody t s p h = toGatherers-everybody _ _ (U .serial _ t p) (like s (setSerial (fresh s) (log 1 t s)) refl refl refl refl refl refl refl refl h)
 
   -- one of the family waits, with what the claim says of it
   pub waiter-everybody : (t : Transaction) (s : State) (g : Gatherer) (l : List Gatherer) → waitsFor t s ≡ g ∷ l → Everybody P s → P (g .who)
@@ -195,7 +190,47 @@ module _ (P : Transaction → Type 0) (U : Unmoved P) where
       toRel-everybody _ _ (U .mark false _ p) (set-gatherers-everybody _ _ s (each-replace PG _ _ _ tt (one-block (t .next) s h)) h)
 
   pub ended-everybody : (n : ℕ) (s : State) → Everybody P s → Everybody P (setEnded n s)
-  ended-everybody n s h = like s _ refl refl refl refl refl refl refl h
+  ended-everybody n s h = like s _ refl refl refl refl refl refl refl refl h
+
+  -- ---- Interrupted ones
+
+  -- somebody loses the facility, or gets it back, with what the claim says of it
+  pub loser-everybody : (t : Transaction) (f : ℕ) (s : State) (e : Event) (l : List Event) → losersTo t f s ≡ e ∷ l → Everybody P s → P (e .who)
+  loser-everybody t f s e l q h = subst (Each (λ (e : Event). P (e .who))) q (each-those (λ (e : Event). P (e .who)) (losesTo t _) (s .fel) (h .fel)) .0
+
+  pub interrupted-everybody : (f : ℕ) (s : State) (i : Interrupted) (l : List Interrupted) → interruptedAt s f ≡ i ∷ l → Everybody P s → P (i .who)
+  interrupted-everybody f s i l q h =
+      subst (Each (λ (i : Interrupted). P (i .who))) q (each-those (λ (i : Interrupted). P (i .who)) (ofFacility f) (s .interrupted) (h .interrupted)) .0
+
+  pub interrupt-everybody : (e : Event) (t : Transaction) (f : ℕ) (s : State) → P (withStamp (e .time - s .view .clock) (e .who)) → Everybody P s
+      → Everybody P (interrupt e t f s)
+  unfolding interrupt
+  interrupt-everybody e t f s p h =
+      record {
+        ql = h .ql;
+        wel = h .wel;
+        wsl = h .wsl;
+        rel = h .rel;
+        fel = each-replace (λ (e : Event). P (e .who)) _ [] (s .fel) tt (h .fel);
+        gatherers = h .gatherers;
+        interrupted = each-insert (λ (i : Interrupted). P (i .who)) _ _ (s .interrupted) p (h .interrupted);
+        moving = h .moving;
+      }
+
+  pub resume-everybody : (i : Interrupted) (f : ℕ) (s : State) → P (withStamp (s .view .clock + i .remaining) (i .who)) → Everybody P s → Everybody P (resume i f s)
+  unfolding resume
+  resume-everybody i f s p h =
+      toFel-everybody _ _ _ p
+      (record {
+        ql = h .ql;
+        wel = h .wel;
+        wsl = h .wsl;
+        rel = h .rel;
+        fel = h .fel;
+        gatherers = h .gatherers;
+        interrupted = each-replace (λ (i : Interrupted). P (i .who)) _ [] (s .interrupted) tt (h .interrupted);
+        moving = h .moving;
+      })
 
   -- ---- Waking
 
@@ -210,6 +245,7 @@ module _ (P : Transaction → Type 0) (U : Unmoved P) where
         rel = each-wake _ (s .rel) (both .0) (h .rel);
         fel = h .fel;
         gatherers = h .gatherers;
+        interrupted = h .interrupted;
         moving = h .moving;
       }
 
@@ -223,6 +259,7 @@ module _ (P : Transaction → Type 0) (U : Unmoved P) where
         rel = each-wake _ (s .rel) (each-take P (welOf s v code) (one-wel v code s h)) (h .rel);
         fel = h .fel;
         gatherers = h .gatherers;
+        interrupted = h .interrupted;
         moving = h .moving;
       }
 
@@ -236,6 +273,7 @@ module _ (P : Transaction → Type 0) (U : Unmoved P) where
         rel = each-wake _ (s .rel) (each-those P p (s .wsl) (h .wsl)) (h .rel);
         fel = h .fel;
         gatherers = h .gatherers;
+        interrupted = h .interrupted;
         moving = h .moving;
       }
 
@@ -251,7 +289,7 @@ module _ (P : Transaction → Type 0) (U : Unmoved P) where
       → Everybody P (arrival l list p n s)
   unfolding arrival
   arrival-everybody [] list p n s new h = h
-  arrival-everybody (time ∷ l) list p n s new h = toFel-everybody _ _ _ (new _) (like s _ refl refl refl refl refl refl refl h)
+  arrival-everybody (time ∷ l) list p n s new h = toFel-everybody _ _ _ (new _) (like s _ refl refl refl refl refl refl refl refl h)
 
   -- a copy, whatever its number
   pub copies-everybody : (n target : ℕ) (t : Transaction) (s : State)
@@ -260,29 +298,29 @@ module _ (P : Transaction → Type 0) (U : Unmoved P) where
   unfolding copies
   copies-everybody zero target t s new h = h
   copies-everybody (suc n) target t s new h =
-      copies-everybody n target t _ new (toRel-everybody _ _ (new _) (like s _ refl refl refl refl refl refl refl h))
+      copies-everybody n target t _ new (toRel-everybody _ _ (new _) (like s _ refl refl refl refl refl refl refl refl h))
 
   pub delay-everybody : (l : List ℕ) (list : ℕ) (t : Transaction) (s : State) → ((time : ℕ) → P (withStamp time (withNext (suc (t .next)) t))) → Everybody P s
       → Everybody P (delay l list t s)
   unfolding delay
   delay-everybody [] list t s p h = h
-  delay-everybody (time ∷ l) list t s p h = toFel-everybody _ _ _ (U .mark false _ (p _)) (like s _ refl refl refl refl refl refl refl h)
+  delay-everybody (time ∷ l) list t s p h = toFel-everybody _ _ _ (U .mark false _ (p _)) (like s _ refl refl refl refl refl refl refl refl h)
 
   pub enters-everybody : (t : Transaction) (s : State) → Everybody P s → Everybody P (enters t s)
   unfolding enters log
-  enters-everybody t s h = like s _ refl refl refl refl refl refl refl h
+  enters-everybody t s h = like s _ refl refl refl refl refl refl refl refl h
 
-  pub inUse-everybody : (v n holder : ℕ) (s : State) → Everybody P s → Everybody P (setUse v n holder s)
+  pub inUse-everybody : (v n holder : ℕ) (preempted : Bool) (s : State) → Everybody P s → Everybody P (setUse v n holder preempted s)
   unfolding setUse
-  inUse-everybody v n holder s h = like s _ refl refl refl refl refl refl refl h
+  inUse-everybody v n holder preempted s h = like s _ refl refl refl refl refl refl refl refl h
 
   pub content-everybody : (q n : ℕ) (s : State) → Everybody P s → Everybody P (setContent q n s)
   unfolding setContent
-  content-everybody q n s h = like s _ refl refl refl refl refl refl refl h
+  content-everybody q n s h = like s _ refl refl refl refl refl refl refl refl h
 
   pub endsOne-everybody : (a : ℕ) (s : State) → Everybody P s → Everybody P (endsOne a s)
   unfolding endsOne
-  endsOne-everybody a s h = like s _ refl refl refl refl refl refl refl h
+  endsOne-everybody a s h = like s _ refl refl refl refl refl refl refl refl h
 
   -- ---- The taking
 
@@ -302,6 +340,7 @@ module _ (P : Transaction → Type 0) (U : Unmoved P) where
         rel = h .rel;
         fel = each-those (λ (e : Event). P (e .who)) _ (s .fel) (h .fel);
         gatherers = h .gatherers;
+        interrupted = h .interrupted;
         moving = h .moving;
       })
 
@@ -314,7 +353,7 @@ module _ (P : Transaction → Type 0) (U : Unmoved P) where
   unfolding takeFirst
   takeFirst-everybody [] s k h = h
   takeFirst-everybody (t ∷ l) s k h =
-      record { ql = h .ql; wel = h .wel; wsl = h .wsl; rel = k .1; fel = h .fel; gatherers = h .gatherers; moving = k .0 }
+      record { ql = h .ql; wel = h .wel; wsl = h .wsl; rel = k .1; fel = h .fel; gatherers = h .gatherers; interrupted = h .interrupted; moving = k .0 }
 
   takeReady-everybody : (l : List Transaction) (s : State) → Each P l → Everybody P s → Everybody P (takeReady l s)
   unfolding takeReady
@@ -338,6 +377,7 @@ module _ (P : Transaction → Type 0) (U : Unmoved P) where
         rel = tt;
         fel = tt;
         gatherers = each-replicate (Each (λ (g : Gatherer). P (g .who))) (length (m .blocks)) [] tt;
+        interrupted = tt;
         moving = tt;
       }
 
@@ -362,6 +402,10 @@ module _ (P : Transaction → Type 0) where
   each-gatherer [] h = tt
   each-gatherer (g ∷ l) h = (h .0, each-gatherer l (h .1))
 
+  each-interrupted : (l : List Interrupted) → Each (λ (i : Interrupted). P (i .who)) l → Each P (map (λ i. i .who) l)
+  each-interrupted [] h = tt
+  each-interrupted (i ∷ l) h = (h .0, each-interrupted l (h .1))
+
   each-moving : (o : Option Transaction) → Maybe P o → Each P (movingOne o)
   unfolding movingOne
   each-moving none h = tt
@@ -371,7 +415,9 @@ module _ (P : Transaction → Type 0) where
   unfolding everyone
   everybody-each s h =
       let fel = map (λ (e : Event). e .who) (s .fel) in
-      each-both P (flat (s .ql) ++ flat (s .wel) ++ s .wsl ++ s .rel ++ fel ++ movingOne (s .moving)) (map (λ (g : Gatherer). g .who) (flat (s .gatherers)))
+      let gatherers = map (λ (g : Gatherer). g .who) (flat (s .gatherers)) in
+      each-both P (flat (s .ql) ++ flat (s .wel) ++ s .wsl ++ s .rel ++ fel ++ movingOne (s .moving) ++ gatherers) (map (λ (i : Interrupted). i .who) (s .interrupted))
+      (each-both P (flat (s .ql) ++ flat (s .wel) ++ s .wsl ++ s .rel ++ fel ++ movingOne (s .moving)) gatherers
       (each-both P (flat (s .ql) ++ flat (s .wel) ++ s .wsl ++ s .rel ++ fel) (movingOne (s .moving))
       (each-both P (flat (s .ql) ++ flat (s .wel) ++ s .wsl ++ s .rel) fel
       (each-both P (flat (s .ql) ++ flat (s .wel) ++ s .wsl) (s .rel)
@@ -380,7 +426,8 @@ module _ (P : Transaction → Type 0) where
       (h .rel))
       (each-who (s .fel) (h .fel)))
       (each-moving (s .moving) (h .moving)))
-      (each-gatherer (flat (s .gatherers)) (each-flat (λ (g : Gatherer). P (g .who)) (s .gatherers) (h .gatherers)))
+      (each-gatherer (flat (s .gatherers)) (each-flat (λ (g : Gatherer). P (g .who)) (s .gatherers) (h .gatherers))))
+      (each-interrupted (s .interrupted) (h .interrupted))
 
 -- one claim from two
 pub everybody-map : {P Q R : Transaction → Type 0} → ((t : Transaction) → P t → Q t → R t) → (s : State) → Everybody P s → Everybody Q s → Everybody R s
@@ -392,6 +439,7 @@ everybody-map {P} {Q} {R} f s h k =
       rel = both (s .rel) (h .rel) (k .rel);
       fel = both-events (s .fel) (h .fel) (k .fel);
       gatherers = both-gatherers (s .gatherers) (h .gatherers) (k .gatherers);
+      interrupted = both-interrupted (s .interrupted) (h .interrupted) (k .interrupted);
       moving = both-moving (s .moving) (h .moving) (k .moving);
     }
   where
@@ -414,6 +462,10 @@ everybody-map {P} {Q} {R} f s h k =
     both-gatherers : (l : List (List Gatherer)) → Each (Each (λ (g : Gatherer). P (g .who))) l → Each (Each (λ (g : Gatherer). Q (g .who))) l → Each (Each (λ (g : Gatherer). R (g .who))) l
     both-gatherers [] h k = tt
     both-gatherers (x ∷ l) h k = (both-ones x (h .0) (k .0), both-gatherers l (h .1) (k .1))
+
+    both-interrupted : (l : List Interrupted) → Each (λ (i : Interrupted). P (i .who)) l → Each (λ (i : Interrupted). Q (i .who)) l → Each (λ (i : Interrupted). R (i .who)) l
+    both-interrupted [] h k = tt
+    both-interrupted (x ∷ l) h k = (f (x .who) (h .0) (k .0), both-interrupted l (h .1) (k .1))
 
     both-moving : (o : Option Transaction) → Maybe P o → Maybe Q o → Maybe R o
     both-moving none h k = tt

@@ -1,28 +1,28 @@
 -- "Copies made by SPLIT belong to the family of the original, and so do copies of copies" (document 02, item 8): in every state of a run
 -- everybody's family is the one that the records tell.
 use Prim.Native.Nat.{ℕ, zero, suc, _+_, _≤_, _<_}
-use mathlib.Core.Path.{_≡_, refl, sym, ap, subst, _∙_}
+use mathlib.Core.Path.{_≡_, refl, sym, ap, _∙_}
 use mathlib.Core.Bool.{Bool, true, false, cond, _&&_}
 use mathlib.Core.List.{List, [], _∷_}
 use mathlib.Core.Option.{Option, none, some}
 use native.Mathlib.Omega.{arith}
 use borrow.Author.Tests.{lt-ltb, le-ltb, le-leb, lt-leb}
 use lib.Dec.{ltb, leb, eqb}
-use Rattle.machine.specs.Transaction.{Transaction, Gatherer, newborn}
+use Rattle.machine.specs.Transaction.{Transaction, newborn, Event, Interrupted, Gatherer}
 use Rattle.machine.specs.Term.{serverAt, free}
-use Rattle.machine.specs.Block.{Code, Share, facility, storage, shareServer, shareUnits, Block, generate, advance, terminate, takes, frees, waitServer, waitTerms, moves, assign, priority, split, counts, assemble, facts, BlockModel, blockAt}
+use Rattle.machine.specs.Block.{Code, Share, facility, shareServer, shareUnits, Block, generate, advance, terminate, takes, frees, waitServer, waitTerms, moves, assign, priority, split, counts, assemble, preempt, giveBack, facts, BlockModel, blockAt}
 use Rattle.machine.specs.State.{State, Logged}
-use Rattle.machine.specs.Setters.{withSerial, setMoving, setTurns, setSerial, setMade, setEnded}
-use Rattle.machine.specs.Moves.{recordOf, log, enters, moveTo, fresh, toRel, toFel, toQl, toWel, toWsl, beginWait, mustWait, wakeQl, wakeFirstWel, wakeWsl, setUse, setContent, useTime, arrival, copyOf, copies, waitsFor, toGatherers, comes, released}
+use Rattle.machine.specs.Setters.{withSerial, setMoving, setTurns, setSerial, setEnded, setMade}
+use Rattle.machine.specs.Moves.{recordOf, log, enters, moveTo, fresh, toRel, toFel, toQl, toWel, toWsl, beginWait, mustWait, wakeQl, wakeFirstWel, wakeWsl, setUse, setContent, arrival, copyOf, copies, toGatherers, comes, released, losersTo, interruptedAt, interrupt, resume, setHolder, useTime, waitsFor}
 use Rattle.machine.specs.Execute.{takeUnits, wakeFor, checkWels, endsOne, delay, effect}
 use Rattle.machine.specs.Turn.{taking, answer, execute, wsScheme, turn}
 use Rattle.machine.specs.Run.{idle, startAt, start}
 use Rattle.machine.specs.Claims.{Each, bit, everyone, factsAt, entered, getsTime, usedBy, madeBy, familyBy}
 use Rattle.machine.proofs.RunLaws.{cond-cases, each-map}
-use Rattle.machine.proofs.Cases.{checkWels-kept, waitServer-cases, waitTerms-cases, assemble-cases, wsScheme-cases, startOf-cases}
+use Rattle.machine.proofs.Cases.{checkWels-kept, waitServer-cases, waitTerms-cases, assemble-cases, wsScheme-cases, startOf-cases, preempt-cases, giveBack-cases}
 use Rattle.machine.proofs.Conservation.{Sound, sound-taking}
 use Rattle.machine.proofs.Taken.{taking-records}
-use Rattle.machine.proofs.Everybody.{Maybe, Everybody, Unmoved, like, everybody-map, everybody-each, toRel-everybody, toFel-everybody, toQl-everybody, toWel-everybody, toWsl-everybody, moveTo-everybody, wakeFor-everybody, wakeFirstWel-everybody, wakeWsl-everybody, delay-everybody, toGatherers-everybody, comes-everybody, released-everybody, waiter-everybody, taking-everybody, idle-everybody}
+use Rattle.machine.proofs.Everybody.{Maybe, Everybody, Unmoved, like, everybody-map, everybody-each, toRel-everybody, toFel-everybody, toQl-everybody, toWel-everybody, toWsl-everybody, moveTo-everybody, wakeFor-everybody, wakeFirstWel-everybody, wakeWsl-everybody, delay-everybody, toGatherers-everybody, comes-everybody, released-everybody, waiter-everybody, taking-everybody, idle-everybody, loser-everybody, interrupted-everybody, interrupt-everybody, resume-everybody}
 
 module _ (m : BlockModel) (tape : List (List ℕ)) where
   -- ---- Families by the records
@@ -89,6 +89,12 @@ module _ (m : BlockModel) (tape : List (List ℕ)) where
   kindred-toWsl : (t : Transaction) (s : State) → Kin (s .records) (s .made) t → Kindred s → Kindred (toWsl t s)
   kindred-toWsl t s p h = unfold toWsl in (toWsl-everybody _ (unmoved (s .records) (s .made)) t s p h)
 
+  kindred-interrupt : (e : Event) (t : Transaction) (f : ℕ) (s : State) → Kin (s .records) (s .made) (e .who) → Kindred s → Kindred (interrupt e t f s)
+  kindred-interrupt e t f s p h = unfold interrupt in (interrupt-everybody _ (unmoved (s .records) (s .made)) e t f s p h)
+
+  kindred-resume : (i : Interrupted) (f : ℕ) (s : State) → Kin (s .records) (s .made) (i .who) → Kindred s → Kindred (resume i f s)
+  kindred-resume i f s p h = unfold resume toFel in (resume-everybody _ (unmoved (s .records) (s .made)) i f s p h)
+
   kindred-toGatherers : (t : Transaction) (s : State) → Kin (s .records) (s .made) t → Kindred s → Kindred (toGatherers t s)
   kindred-toGatherers t s p h = unfold toGatherers in (toGatherers-everybody _ (unmoved (s .records) (s .made)) t s p h)
 
@@ -101,9 +107,9 @@ module _ (m : BlockModel) (tape : List (List ℕ)) where
   kindred-wakeFor : (x : Share) (s : State) → Kindred s → Kindred (wakeFor m x s)
   kindred-wakeFor x s h = unfold wakeFor wakeQl in (wakeFor-everybody _ (unmoved (s .records) (s .made)) m x s h)
 
-  kindred-use : (v n holder : ℕ) (s : State) → Kindred s → Kindred (setUse v n holder s)
+  kindred-use : (v n holder : ℕ) (preempted : Bool) (s : State) → Kindred s → Kindred (setUse v n holder preempted s)
   unfolding setUse
-  kindred-use v n holder s h = like _ (unmoved (s .records) (s .made)) s (setUse v n holder s) refl refl refl refl refl refl refl h
+  kindred-use v n holder preempted s h = like _ (unmoved (s .records) (s .made)) s (setUse v n holder preempted s) refl refl refl refl refl refl refl refl h
 
   kindred-delay : (l : List ℕ) (list : ℕ) (t : Transaction) (s : State) → Kin (s .records) (s .made) t → Kindred s → Kindred (delay l list t s)
   unfolding delay toFel
@@ -120,7 +126,7 @@ module _ (m : BlockModel) (tape : List (List ℕ)) where
       let made : State = setMade (suc (s .made)) (useTime list s) in
       let P : Transaction → Type 0 = Kin (s .records) (suc (s .made)) in
       toFel-everybody P (unmoved (s .records) (suc (s .made))) (s .view .clock + time) (newborn (suc (s .made)) p n) made (omega arith, sym own)
-      (like P (unmoved (s .records) (suc (s .made))) s made refl refl refl refl refl refl refl (everybody-up (λ t p. (omega (arith, p .0), p .1)) s h))
+      (like P (unmoved (s .records) (suc (s .made))) s made refl refl refl refl refl refl refl refl (everybody-up (λ t p. (omega (arith, p .0), p .1)) s h))
 
   kindred-copies : (n target : ℕ) (t : Transaction) (s : State) → ((k : ℕ) → s .made < k → k ≤ s .made + n → t .family ≡ familyBy m tape (s .records) k)
       → Kindred s → Kindred (copies n target t s)
@@ -131,7 +137,7 @@ module _ (m : BlockModel) (tape : List (List ℕ)) where
       let P : Transaction → Type 0 = Kin (s .records) (suc (s .made)) in
       kindred-copies n target t (toRel (copyOf t (suc (s .made)) target) made) (unfold toRel in (λ k low high. of k (omega arith) (omega arith)))
       (kindred-toRel (copyOf t (suc (s .made)) target) made (omega arith, of (suc (s .made)) (omega arith) (omega arith))
-      (like P (unmoved (s .records) (suc (s .made))) s made refl refl refl refl refl refl refl (everybody-up (λ t p. (omega (arith, p .0), p .1)) s h)))
+      (like P (unmoved (s .records) (suc (s .made))) s made refl refl refl refl refl refl refl refl (everybody-up (λ t p. (omega (arith, p .0), p .1)) s h)))
 
   -- ---- One block, for the transaction t whose next block it is
 
@@ -143,7 +149,7 @@ module _ (m : BlockModel) (tape : List (List ℕ)) where
     kindred-log : Kindred (setSerial (fresh s) (log 1 t s))
     unfolding log recordOf
     kindred-log =
-        like _ (unmoved _ (s .made)) s (setSerial (fresh s) (log 1 t s)) refl refl refl refl refl refl refl
+        like _ (unmoved _ (s .made)) s (setSerial (fresh s) (log 1 t s)) refl refl refl refl refl refl refl refl
         (everybody-up (kin-more (record { entry = recordOf 1 t s; priority = t .priority })) s h)
 
     kindred-begin : (put : Transaction → State → State) → ((u : Transaction) (x : State) → Kin (x .records) (x .made) u → Kindred x → Kindred (put u x)) → Kindred (beginWait put t s)
@@ -161,11 +167,11 @@ module _ (m : BlockModel) (tape : List (List ℕ)) where
     h′ : Kindred (enters t s)
     unfolding enters log recordOf
     h′ =
-        like _ (unmoved _ (s .made)) s (enters t s) refl refl refl refl refl refl refl
+        like _ (unmoved _ (s .made)) s (enters t s) refl refl refl refl refl refl refl refl
         (everybody-up (kin-more (record { entry = recordOf 0 t s; priority = t .priority })) s h)
 
     ended : Kindred (setEnded (suc (enters t s .ended)) (enters t s))
-    ended = like _ (unmoved (enters t s .records) (enters t s .made)) (enters t s) (setEnded (suc (enters t s .ended)) (enters t s)) refl refl refl refl refl refl refl h′
+    ended = like _ (unmoved (enters t s .records) (enters t s .made)) (enters t s) (setEnded (suc (enters t s .ended)) (enters t s)) refl refl refl refl refl refl refl refl h′
 
     -- the number that a GENERATE gives next
     next-own : {b : Block} → blockAt m (t .next) ≡ b → facts b .copies ≡ 0 → familyBy m tape (enters t s .records) (suc (s .made)) ≡ suc (s .made)
@@ -204,8 +210,8 @@ module _ (m : BlockModel) (tape : List (List ℕ)) where
     beside-wakeFor : (x : Share) (s′ : State) → Beside s′ → Beside (wakeFor m x s′)
     beside-wakeFor x s′ h = (unfold wakeFor wakeQl in (h .0), kindred-wakeFor x s′ (h .1))
 
-    beside-use : (v n holder : ℕ) (s′ : State) → Beside s′ → Beside (setUse v n holder s′)
-    beside-use v n holder s′ h = (unfold setUse in (h .0), kindred-use v n holder s′ (h .1))
+    beside-use : (v n holder : ℕ) (preempted : Bool) (s′ : State) → Beside s′ → Beside (setUse v n holder preempted s′)
+    beside-use v n holder preempted s′ h = (unfold setUse in (h .0), kindred-use v n holder preempted s′ (h .1))
 
     kin-copies : (n target : ℕ) (s′ : State) → Kin (s′ .records) (s′ .made) t → Kin (copies n target t s′ .records) (copies n target t s′ .made) t
     unfolding copies toRel
@@ -214,23 +220,37 @@ module _ (m : BlockModel) (tape : List (List ℕ)) where
 
     content : (q n : ℕ) → Beside (setContent q n (enters t s))
     unfolding setContent
-    content q n = (p′, like _ (unmoved (enters t s .records) (enters t s .made)) (enters t s) (setContent q n (enters t s)) refl refl refl refl refl refl refl h′)
+    content q n = (p′, like _ (unmoved (enters t s .records) (enters t s .made)) (enters t s) (setContent q n (enters t s)) refl refl refl refl refl refl refl refl h′)
 
     entered-beside : Beside (enters t s)
     entered-beside = (p′, h′)
+
+    kindred-takes : (x : Share) (preempts : Bool) → Kindred (takeUnits m x preempts t s)
+    unfolding takeUnits
+    kindred-takes x preempts =
+        let v : ℕ = shareServer x in
+        cond-cases Kindred (leb (shareUnits x) (free (serverAt (s .view) v))) _ _
+        (λ fit. goes-on _ _ (beside-checkWels v _ (beside-use v _ _ _ (enters t s) entered-beside))) (λ full. kindred-wait (toQl (m .edition) v) (kindred-toQl v))
+
+    beside-interrupt : (x : Event) (f : ℕ) (l : List Event) → losersTo t f s ≡ x ∷ l → Beside (interrupt x t f (enters t s))
+    unfolding serverAt
+    beside-interrupt x f l k =
+        (unfold interrupt in p′, kindred-interrupt x t f _ (unfold enters log in (loser-everybody _ (unmoved _ _) t f (enters t s) x l k h′)) h′)
+
+    beside-resume : (i : Interrupted) (f n : ℕ) (l : List Interrupted) → interruptedAt s f ≡ i ∷ l → Beside (resume i f (setHolder f n false (enters t s)))
+    beside-resume i f n l k =
+        let held : Beside (setHolder f n false (enters t s)) = beside-use f _ _ _ _ entered-beside in
+        (unfold resume toFel in (held .0), kindred-resume i f _ (unfold enters log setUse in (interrupted-everybody _ (unmoved _ _) f (setHolder f n false (enters t s)) i l k (held .1))) (held .1))
 
     effect-kindred : (b : Block) → blockAt m (t .next) ≡ b → Kindred (effect m b t s)
     unfolding effect takeUnits facts
     effect-kindred (generate list q) e = goes-on _ _ (beside-arrival _ list q _ (enters t s) (unfold enters log in (next-own e refl)) entered-beside)
     effect-kindred (advance list) e = kindred-delay _ list t (enters t s) p′ h′
     effect-kindred (terminate a) e =
-        unfold endsOne in (like _ (unmoved (enters t s .records) (enters t s .made)) (enters t s) (endsOne a (enters t s)) refl refl refl refl refl refl refl h′)
-    effect-kindred (takes x) e =
-        let v : ℕ = shareServer x in
-        cond-cases Kindred (leb (shareUnits x) (free (serverAt (s .view) v))) _ _
-        (λ fit. goes-on _ _ (beside-checkWels v _ (beside-use v _ _ (enters t s) entered-beside))) (λ full. kindred-wait (toQl (m .edition) v) (kindred-toQl v))
+        unfold endsOne in (like _ (unmoved (enters t s .records) (enters t s .made)) (enters t s) (endsOne a (enters t s)) refl refl refl refl refl refl refl refl h′)
+    effect-kindred (takes x) e = kindred-takes x false
     effect-kindred (frees x) e =
-        goes-on _ _ (beside-checkWels (shareServer x) _ (beside-wakeFor x _ (beside-use (shareServer x) _ _ (enters t s) entered-beside)))
+        goes-on _ _ (beside-checkWels (shareServer x) _ (beside-wakeFor x _ (beside-use (shareServer x) _ _ _ (enters t s) entered-beside)))
     effect-kindred (waitServer code v c) e =
         waitServer-cases Kindred m code v c t s (λ holds. kindred-wait (toWel (m .edition) v code) (kindred-toWel v code))
         (λ late. kindred-moveTo _ t _ (unfold wakeFirstWel in p) (kindred-wakeFirstWel v code s h))
@@ -257,6 +277,12 @@ module _ (m : BlockModel) (tape : List (List ℕ)) where
         waiter : (g : Gatherer) (l : List Gatherer) → waitsFor t s ≡ g ∷ l
             → Kin (enters t s .records) (enters t s .made) (g .who)
         waiter g l e = unfold enters log in (waiter-everybody _ (unmoved (enters t s .records) (enters t s .made)) t later g l e ended)
+    effect-kindred (preempt f) e =
+        preempt-cases Kindred m f t s (λ k. kindred-takes (facility f) true)
+        (λ x l k. goes-on _ _ (beside-checkWels f _ (beside-use f _ _ _ _ (beside-interrupt x f l k))))
+    effect-kindred (giveBack f) e =
+        giveBack-cases Kindred m f t s (λ k. goes-on _ _ (beside-checkWels f _ (beside-wakeFor (facility f) _ (beside-use f _ _ _ (enters t s) entered-beside))))
+        (λ i l k. goes-on _ _ (beside-checkWels f _ (beside-resume i f _ l k)))
 
   -- ---- A turn
 
@@ -265,8 +291,8 @@ module _ (m : BlockModel) (tape : List (List ℕ)) where
   unfolding answer
   kindred-answer zero t s p makes h =
       effect-kindred t (setMoving none s) p
-      (record { ql = h .ql; wel = h .wel; wsl = h .wsl; rel = h .rel; fel = h .fel; gatherers = h .gatherers; moving = tt }) makes (blockAt m (t .next)) refl
-  kindred-answer (suc n) t s p makes h = like _ (unmoved (s .records) (s .made)) s _ refl refl refl refl refl refl refl h
+      (record { ql = h .ql; wel = h .wel; wsl = h .wsl; rel = h .rel; fel = h .fel; gatherers = h .gatherers; interrupted = h .interrupted; moving = tt }) makes (blockAt m (t .next)) refl
+  kindred-answer (suc n) t s p makes h = like _ (unmoved (s .records) (s .made)) s _ refl refl refl refl refl refl refl refl h
 
   kindred-execute : (o : Option Transaction) (s : State) → Maybe (Kin (s .records) (s .made)) o → s .made ≡ madeBy m tape (s .records) → Kindred s → Kindred (execute o m s)
   unfolding execute
@@ -289,7 +315,7 @@ module _ (m : BlockModel) (tape : List (List ℕ)) where
   kindred-turn s sound h =
       let k : Kindred (taking (s .moving) s) = kindred-taking s sound h in
       let taken : State = setTurns (suc (s .turns)) (taking (s .moving) s) in
-      let k′ : Kindred taken = like _ (unmoved (taken .records) (taken .made)) (taking (s .moving) s) taken refl refl refl refl refl refl refl k in
+      let k′ : Kindred taken = like _ (unmoved (taken .records) (taken .made)) (taking (s .moving) s) taken refl refl refl refl refl refl refl refl k in
       kindred-wsScheme _ (kindred-execute (taken .moving) taken (k′ .moving) (sound-taking m tape s sound .books .makes) k′)
 
   -- ---- The start

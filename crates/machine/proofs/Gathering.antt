@@ -11,22 +11,23 @@ use native.Mathlib.Decide.{ℕ-discrete}
 use borrow.Author.Tests.{eqb-true, eqb-false, eq-eqb, ne-eqb}
 use lib.Arith.{digits-mod}
 use lib.Dec.{eqb, leb}
-use lib.ListN.{length, getD, set, drop, replicate}
+use lib.ListN.{length, getD, replicate}
 use lib.Seq.{getD-set-same, getD-set-other}
-use Rattle.machine.specs.Transaction.{Transaction, Event, Gatherer, precedes}
-use Rattle.machine.specs.Lists.{insert, those, replaceFirst, nth, setNth}
+use Rattle.machine.specs.Transaction.{Transaction, Event, Gatherer, Interrupted}
+use Rattle.machine.specs.Lists.{those, replaceFirst, nth, setNth}
 use Rattle.machine.specs.Term.{serverAt, free}
-use Rattle.machine.specs.Block.{Code, Share, facility, storage, shareServer, shareUnits, Block, generate, advance, terminate, takes, frees, waitServer, waitTerms, moves, assign, priority, split, counts, assemble, facts, BlockModel, blockAt}
+use Rattle.machine.specs.Block.{Share, facility, shareServer, shareUnits, Block, generate, advance, terminate, takes, frees, waitServer, waitTerms, moves, assign, priority, split, counts, assemble, preempt, giveBack, facts, BlockModel, blockAt}
 use Rattle.machine.specs.State.{State, Logged}
 use Rattle.machine.specs.Setters.{withSerial, setMoving, setTurns, setEnd}
-use Rattle.machine.specs.Moves.{gatherersAt, inFamily, waitsFor, recordOf, log, enters, moveTo, toRel, toFel, toQl, toWel, toWsl, mustWait, wakeQl, wakeFirstWel, wakeWsl, setUse, setContent, arrival, copies, toGatherers, comes, released}
+use Rattle.machine.specs.Moves.{gatherersAt, inFamily, waitsFor, recordOf, log, enters, moveTo, toRel, toFel, toQl, toWel, toWsl, mustWait, wakeQl, wakeFirstWel, wakeWsl, setUse, setContent, arrival, copies, toGatherers, comes, released, interrupt, resume}
 use Rattle.machine.specs.Execute.{takeUnits, wakeFor, checkWels, endsOne, delay, effect}
 use Rattle.machine.specs.Turn.{arriveAll, moveClock, nextEvents, takeFirst, takeReady, taking, answer, execute, wsScheme, turn}
 use Rattle.machine.specs.Run.{idle, startAt, start, states}
 use Rattle.machine.specs.Claims.{Each, bit, everyone, familyBy, comeBy, OneGathers}
+use Rattle.machine.proofs.Chosen.{those-insert, those-one, those-else, those-replaced, upto, upto-none, upto-some}
 use Rattle.machine.proofs.Proper.{ProperBlock, Proper}
 use Rattle.machine.proofs.RunLaws.{cond-cases, each-map, each-state}
-use Rattle.machine.proofs.Cases.{checkWels-kept, waitServer-cases, waitTerms-cases, assemble-cases, wsScheme-cases, startOf-cases}
+use Rattle.machine.proofs.Cases.{checkWels-kept, waitServer-cases, waitTerms-cases, assemble-cases, wsScheme-cases, startOf-cases, preempt-cases, giveBack-cases}
 use Rattle.machine.proofs.Sorted.{each-passes}
 use Rattle.machine.proofs.Shape.{Shape, gatherers-at}
 use Rattle.machine.proofs.Steps.{Step, passes, begins, back, returns, assembles, step-effect}
@@ -35,59 +36,6 @@ use Rattle.machine.proofs.Placed.{Placed, placed-turn, placed-start}
 use Rattle.machine.proofs.Conservation.{Sound, sound-start, sound-taking, sound-turn}
 use Rattle.machine.proofs.Taken.{taking-records}
 use Rattle.machine.proofs.Families.{Kindred, kindred-taking, kindred-turn, kindred-start, kindred-families}
-
--- ---- Those that pass a test, with one more and with one replaced
-
-module _ {A : Type 0} (q : A → Bool) where
-  those-join : (k l : List A) → those q (k ++ l) ≡ those q k ++ those q l
-  unfolding those
-  those-join [] l = refl
-  those-join (x ∷ k) l = go (q x) (those-join k l)
-    where
-      go : (b : Bool) → those q (k ++ l) ≡ those q k ++ those q l → cond b (x ∷ those q (k ++ l)) (those q (k ++ l)) ≡ cond b (x ∷ those q k) (those q k) ++ those q l
-      go true h = ap (λ (r : List A). x ∷ r) h
-      go false h = h
-
-  those-insert : (before : A → A → Bool) (x : A) (l : List A) → q x ≡ false → those q (insert before x l) ≡ those q l
-  unfolding insert those
-  those-insert before x [] e = rw e
-  those-insert before x (y ∷ l) e = go (before x y) (those-insert before x l e)
-    where
-      go : (b : Bool) → those q (insert before x l) ≡ those q l → those q (cond b (x ∷ y ∷ l) (y ∷ insert before x l)) ≡ those q (y ∷ l)
-      go true h = unfold those in (rw e)
-      go false h = unfold those in (rw h)
-
-  those-one : (before : A → A → Bool) (x : A) (l : List A) → q x ≡ true → those q l ≡ [] → those q (insert before x l) ≡ x ∷ []
-  unfolding insert those
-  those-one before x [] e h = rw e
-  those-one before x (y ∷ l) e h = go (before x y) (q y) h refl (those-one before x l e)
-    where
-      go : (b c : Bool) → cond c (y ∷ those q l) (those q l) ≡ [] → q y ≡ c → (those q l ≡ [] → those q (insert before x l) ≡ x ∷ [])
-          → those q (cond b (x ∷ y ∷ l) (y ∷ insert before x l)) ≡ x ∷ []
-      go b true h d later = absurd (omega (arith, ap (λ (k : List A). length k) h))
-      go true false h d later = unfold those in (rw (e, d, h))
-      go false false h d later = unfold those in (rw d (later h))
-
-  -- the first that passes another test is replaced
-  those-else : (p : A → Bool) (few l : List A) → ((x : A) → p x ≡ true → q x ≡ false) → those q few ≡ [] → those q (replaceFirst p few l) ≡ those q l
-  unfolding replaceFirst those
-  those-else p few [] out e = refl
-  those-else p few (y ∷ l) out e = go (p y) refl (those-else p few l out e)
-    where
-      go : (b : Bool) → p y ≡ b → those q (replaceFirst p few l) ≡ those q l → those q (cond b (few ++ l) (y ∷ replaceFirst p few l)) ≡ cond (q y) (y ∷ those q l) (those q l)
-      go true d h = those-join few l ∙ rw (e, out y d)
-      go false d h = unfold those in (rw h)
-
-  -- the first that passes the test itself
-  those-replaced : (few l : List A) (x : A) (r : List A) → those q l ≡ x ∷ r → those q (replaceFirst q few l) ≡ those q few ++ r
-  unfolding replaceFirst those
-  those-replaced few [] x r e = absurd (omega (arith, ap (λ (k : List A). length k) e))
-  those-replaced few (y ∷ l) x r e = go (q y) refl e (those-replaced few l x r)
-    where
-      go : (b : Bool) → q y ≡ b → cond b (y ∷ those q l) (those q l) ≡ x ∷ r → (those q l ≡ x ∷ r → those q (replaceFirst q few l) ≡ those q few ++ r)
-          → those q (cond b (few ++ l) (y ∷ replaceFirst q few l)) ≡ those q few ++ r
-      go true d e later = those-join few l ∙ ap (λ (k : List A). those q few ++ drop 1 k) e
-      go false d e later = unfold those in (rw d (later e))
 
 -- ---- Counting up to n
 
@@ -105,24 +53,6 @@ suc-mod k n positive = go (eqb (suc (k % n)) n) refl
       where
         below : (suc (k % n) ≡ n → ⊥) → k % n < n → suc (k % n) < n
         below d h = omega arith
-
--- the counts of those who wait: one, or nobody where it is 0
-abbrev upto : ℕ → List ℕ
-upto k = cond (eqb k 0) [] (k ∷ [])
-
-upto-none : (k : ℕ) → [] ≡ upto k → k ≡ 0
-upto-none k e = go (eqb k 0) refl e
-  where
-    go : (b : Bool) → eqb k 0 ≡ b → [] ≡ cond b [] (k ∷ []) → k ≡ 0
-    go true q e = eqb-true k 0 q
-    go false q e = absurd (omega (arith, ap (λ (l : List ℕ). length l) e))
-
-upto-some : (k x : ℕ) (xs : List ℕ) → x ∷ xs ≡ upto k → (x ≡ k) × (xs ≡ [])
-upto-some k x xs e = go (eqb k 0) e
-  where
-    go : (b : Bool) → x ∷ xs ≡ cond b [] (k ∷ []) → (x ≡ k) × (xs ≡ [])
-    go true e = absurd (omega (arith, ap (λ (l : List ℕ). length l) e))
-    go false e = (ap (λ (l : List ℕ). getD l 0 0) e, ap (λ (l : List ℕ). drop 1 l) e)
 
 none-left : (l : List Gatherer) → map (λ g. g .come) l ≡ [] → l ≡ []
 none-left [] e = refl
@@ -176,6 +106,14 @@ copies-gatherers (suc n) target t s = copies-gatherers n target t _
 -- ---- Other blocks gather nobody
 
 module _ (m : BlockModel) where
+  interrupt-gatherers : (e : Event) (t : Transaction) (f : ℕ) (s : State) → interrupt e t f s .gatherers ≡ s .gatherers
+  unfolding interrupt
+  interrupt-gatherers e t f s = refl
+
+  resume-gatherers : (i : Interrupted) (f : ℕ) (s : State) → resume i f s .gatherers ≡ s .gatherers
+  unfolding resume toFel
+  resume-gatherers i f s = refl
+
   wakeFor-gatherers : (x : Share) (s : State) → wakeFor m x s .gatherers ≡ s .gatherers
   unfolding wakeFor wakeQl
   wakeFor-gatherers x s = refl
@@ -192,14 +130,18 @@ module _ (m : BlockModel) where
     unfolding wakeFirstWel
     checks-same v s′ h = checkWels-kept Same v (λ code s h. h) s′ h
 
+    takes-same : (x : Share) (preempts : Bool) → Same (takeUnits m x preempts t s)
+    unfolding takeUnits moveTo enters log setUse toQl
+    takes-same x preempts =
+        let v : ℕ = shareServer x in
+        cond-cases Same (leb (shareUnits x) (free (serverAt (s .view) v))) _ _ (λ e. checks-same v _ refl) (λ e. waits-same (toQl (m .edition) v) (λ u x. refl))
+
     effect-gatherers : (b : Block) → ProperBlock m b → facts b .gathers ≡ 0 → Same (effect m b t s)
     unfolding effect takeUnits facts moveTo enters log setUse setContent endsOne toQl toWel toWsl toRel wakeFirstWel
     effect-gatherers (generate list p) k z = arrival-gatherers _ list p _ _
     effect-gatherers (advance list) k z = delay-gatherers _ list t _
     effect-gatherers (terminate a) k z = refl
-    effect-gatherers (takes x) k z =
-        let v : ℕ = shareServer x in
-        cond-cases Same (leb (shareUnits x) (free (serverAt (s .view) v))) _ _ (λ e. checks-same v _ refl) (λ e. waits-same (toQl (m .edition) v) (λ u x. refl))
+    effect-gatherers (takes x) k z = takes-same x false
     effect-gatherers (frees x) k z = checks-same (shareServer x) _ (wakeFor-gatherers x _)
     effect-gatherers (waitServer code v c) k z = waitServer-cases Same m code v c t s (λ e. waits-same (toWel (m .edition) v code) (λ u x. refl)) (λ e. refl) (λ e. refl)
     effect-gatherers (waitTerms a r b) k z = waitTerms-cases Same m a r b t s (λ e. waits-same toWsl (λ u x. refl)) (λ e. refl)
@@ -209,6 +151,9 @@ module _ (m : BlockModel) where
     effect-gatherers (split n target) k z = copies-gatherers n target t _
     effect-gatherers (counts c q) k z = refl
     effect-gatherers (assemble n) k z = absurd (omega (arith, k .0))
+    effect-gatherers (preempt f) k z = preempt-cases Same m f t s (λ e. takes-same (facility f) true) (λ x l e. checks-same f _ (interrupt-gatherers x t f _))
+    effect-gatherers (giveBack f) k z =
+        giveBack-cases Same m f t s (λ e. checks-same f _ (wakeFor-gatherers (facility f) _)) (λ i l e. checks-same f _ (resume-gatherers i f _))
 
 -- ---- Which blocks gather
 
@@ -231,6 +176,8 @@ role (priority p) = other refl
 role (split n target) = other refl
 role (counts c q) = other refl
 role (assemble n) = gathering n
+role (preempt f) = other refl
+role (giveBack f) = other refl
 
 -- the invariant
 pub record Gathering (m : BlockModel) (tape : List (List ℕ)) (s : State) : Type 0 where
@@ -353,7 +300,7 @@ module _ {m : BlockModel} {tape : List (List ℕ)} (proper : Proper m tape) wher
         ∙ sym (ap upto (suc-mod come n (omega arith) ∙ ap (λ k. cond (eqb (suc k) n) 0 (suc k)) nobody ∙ ap (λ b. cond b 0 1) (ne-eqb 1 n (λ z. omega arith)))))
 
     module _ (g : Gatherer) (l : List Gatherer) (e : waitsFor t s ≡ g ∷ l) where
-      waits : (g .come ≡ come % n) × (map (λ g. g .come) l ≡ [])
+      waits : (g .come ≡ come % n) × (map (λ g. g .come) l ≡ []) × (0 < come % n)
       unfolding inFamily
       waits = upto-some (come % n) (g .come) (map (λ g. g .come) l) (ap (map (λ g. g .come)) (sym e) ∙ known)
 
@@ -484,7 +431,7 @@ module _ {m : BlockModel} {tape : List (List ℕ)} (proper : Proper m tape) wher
 
   pub gathering-end : (s : State) (e : ℕ) → Gathering m tape s → Gathering m tape (setEnd e s)
   gathering-end s e h =
-      record { kindred = like _ (record { mark = λ b t h. h; serial = λ n t h. h }) s _ refl refl refl refl refl refl refl (h .kindred); gathers = h .gathers }
+      record { kindred = like _ (record { mark = λ b t h. h; serial = λ n t h. h }) s _ refl refl refl refl refl refl refl refl (h .kindred); gathers = h .gathers }
 
   record Whole (s : State) : Type 0 where
     sound : Sound m tape s
@@ -503,7 +450,7 @@ module _ {m : BlockModel} {tape : List (List ℕ)} (proper : Proper m tape) wher
   whole-end s e h =
       record {
         sound = record { shape = h .sound .shape; balanced = h .sound .balanced; books = h .sound .books };
-        everywhere = like _ (record { mark = λ b t h. h; serial = λ n t h. h }) s _ refl refl refl refl refl refl refl (h .everywhere);
+        everywhere = like _ (record { mark = λ b t h. h; serial = λ n t h. h }) s _ refl refl refl refl refl refl refl refl (h .everywhere);
         gathering = gathering-end s e (h .gathering);
       }
 

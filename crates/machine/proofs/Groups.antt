@@ -11,7 +11,7 @@ use lib.ListN.{length, getD}
 use Rattle.machine.specs.Limits.{maxBack}
 use Rattle.machine.specs.Lists.{bit, upTo}
 use Rattle.machine.specs.Facts.{isGenerate}
-use Rattle.machine.specs.Block.{Block, generate, advance, terminate, takes, frees, waitServer, waitTerms, moves, assign, priority, split, counts, assemble, facts, BlockModel, blockAt, backAt, beginsGroup, insideGroup}
+use Rattle.machine.specs.Block.{Block, generate, advance, terminate, takes, frees, waitServer, waitTerms, moves, assign, priority, split, counts, assemble, preempt, giveBack, facts, BlockModel, blockAt, backAt, beginsGroup, insideGroup}
 use Rattle.machine.specs.Validate.{wellPlaced, allOf, joined, targetsMove, wellFormed, sumNames}
 use Rattle.machine.proofs.Proper.{Names, ProperBlock, Proper}
 
@@ -133,6 +133,8 @@ back-most m (priority p) h = omega arith
 back-most m (split n target) h = omega arith
 back-most m (counts c q) h = omega arith
 back-most m (assemble n) h = omega arith
+back-most m (preempt f) h = omega arith
+back-most m (giveBack f) h = omega arith
 
 all-at : {A : Type 0} (p : A → Bool) (l : List A) (d : A) → T (p d) → T (allOf p l) → (i : ℕ) → T (p (getD l i d))
 unfolding allOf

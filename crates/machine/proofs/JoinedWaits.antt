@@ -10,28 +10,28 @@ use native.Mathlib.Omega.{arith}
 use borrow.Author.Tests.{eq-eqb, ne-eqb, ltb-true, ltb-false, lt-ltb}
 use lib.Dec.{eqb, ltb, leb}
 use lib.ListN.{getD}
-use Rattle.machine.specs.Transaction.{Transaction, Event, newborn, earlier, Gatherer}
+use Rattle.machine.specs.Transaction.{Transaction, Event, newborn, earlier, Gatherer, Interrupted}
 use Rattle.machine.specs.Lists.{others, flat}
 use Rattle.machine.specs.Term.{serverAt, free, truth}
-use Rattle.machine.specs.Block.{Code, Share, facility, storage, shareServer, shareUnits, Block, generate, advance, terminate, takes, frees, waitServer, waitTerms, moves, assign, priority, split, counts, assemble, facts, BlockModel, blockAt, backAt, beginsGroup}
+use Rattle.machine.specs.Block.{Code, Share, facility, shareServer, shareUnits, Block, generate, advance, terminate, takes, frees, waitServer, waitTerms, moves, assign, priority, split, counts, assemble, preempt, giveBack, facts, BlockModel, blockAt, backAt, beginsGroup}
 use Rattle.machine.specs.State.{State, Logged}
 use Rattle.machine.specs.Setters.{withNext, withSerial, withReturning, setMoving, setTurns, setSerial, setEnded}
-use Rattle.machine.specs.Moves.{recordOf, log, enters, moveTo, fresh, toRel, toFel, toQl, toWel, toWsl, mustWait, wakeQl, wakeFirstWel, wakeWsl, setUse, setContent, arrival, copies, beginWait, toGatherers, comes, released}
+use Rattle.machine.specs.Moves.{recordOf, log, enters, moveTo, fresh, toRel, toFel, toQl, toWel, toWsl, mustWait, wakeQl, wakeFirstWel, wakeWsl, setUse, setContent, arrival, copies, beginWait, toGatherers, comes, released, interrupt, resume}
 use Rattle.machine.specs.Execute.{stamped, takeUnits, wakeFor, checkWels, endsOne, delay, effect}
 use Rattle.machine.specs.Turn.{sample, arriveAll, due, moveClock, nextEvents, takeFirst, takeReady, taking, answer, execute, wsScheme, turn}
 use Rattle.machine.specs.Run.{idle, startAt, start, states}
 use Rattle.machine.specs.Report.{movingOne}
 use Rattle.machine.specs.Claims.{Each, standing, everyone, lastEntry, WholeGroup, Joined, Stamped}
-use Rattle.machine.proofs.Proper.{ProperBlock, Proper, Role, generating, taking as taking-role, neither, role}
+use Rattle.machine.proofs.Proper.{ProperBlock, Proper, Role, generating, taking as taking-role, neither, role, preempting}
 use Rattle.machine.proofs.RunLaws.{cond-cases, each-map, each-state}
-use Rattle.machine.proofs.Cases.{checkWels-kept, waitServer-cases, waitTerms-cases, wsScheme-cases, startOf-cases, assemble-cases}
+use Rattle.machine.proofs.Cases.{checkWels-kept, waitServer-cases, waitTerms-cases, wsScheme-cases, startOf-cases, assemble-cases, preempt-cases, giveBack-cases}
 use Rattle.machine.proofs.Sums.{sumOn, sum-append, sum-map}
-use Rattle.machine.proofs.Sorted.{each-insert, each-those}
+use Rattle.machine.proofs.Sorted.{each-insert, each-those, each-replace}
 use Rattle.machine.proofs.Conservation.{Sound, sound-start, sound-taking, sound-turn, stands-at-most-once}
 use Rattle.machine.proofs.Taken.{has, has-own, standing-sum}
 use Rattle.machine.proofs.Groups.{Wait8, firstOf, back-within, group-waits, apart, begins, begins-none, target-outside}
-use Rattle.machine.proofs.Ahead.{Rising, Ahead, rising-insert, rising-those}
-use Rattle.machine.proofs.Everybody.{Maybe, Everybody, Unmoved, like as everybody-like, everybody-map, everybody-each, toRel-everybody, toFel-everybody, toQl-everybody, toWel-everybody, toWsl-everybody, moveTo-everybody, wakeFor-everybody, wakeFirstWel-everybody, wakeWsl-everybody, idle-everybody, toGatherers-everybody, comes-everybody, released-everybody, waiter-everybody}
+use Rattle.machine.proofs.Ahead.{Rising, Ahead, rising-insert, rising-those, rising-without}
+use Rattle.machine.proofs.Everybody.{Maybe, Everybody, Unmoved, like as everybody-like, everybody-map, everybody-each, toRel-everybody, toFel-everybody, toQl-everybody, toWel-everybody, toWsl-everybody, moveTo-everybody, wakeFor-everybody, wakeFirstWel-everybody, wakeWsl-everybody, idle-everybody, toGatherers-everybody, comes-everybody, released-everybody, waiter-everybody, interrupt-everybody}
 
 -- ---- Last entries
 
@@ -83,6 +83,10 @@ module _ (n : ℕ) where
   none-who [] e = tt
   none-who (x ∷ l) e = (λ same. omega (arith, has-own n (x .who) same), none-who l (omega arith))
 
+  none-interrupted : (l : List Interrupted) → sumOn (has n) (map (λ i. i .who) l) ≡ 0 → Each (λ (i : Interrupted). Not (i .who)) l
+  none-interrupted [] e = tt
+  none-interrupted (x ∷ l) e = (λ same. omega (arith, has-own n (x .who) same), none-interrupted l (omega arith))
+
   none-gatherer : (l : List Gatherer) → sumOn (λ (g : Gatherer). has n (g .who)) l ≡ 0 → Each (λ (g : Gatherer). Not (g .who)) l
   none-gatherer [] e = tt
   none-gatherer (x ∷ l) e = (λ same. omega (arith, has-own n (x .who) same), none-gatherer l (omega arith))
@@ -106,6 +110,7 @@ module _ (n : ℕ) where
         rel = none-has (s .rel) (omega arith);
         fel = none-who (s .fel) (omega arith);
         gatherers = none-gathers (s .gatherers) (omega (arith, sum-map (has n) (λ (g : Gatherer). g .who) (flat (s .gatherers))));
+        interrupted = none-interrupted (s .interrupted) (omega arith);
         moving = tt;
       }
 
@@ -119,6 +124,7 @@ plain-role : {b : Block} → Role b → (facts b .generates ≡ 0 → ⊥) → (
 unfolding facts
 plain-role (generating list p) n = (refl, refl)
 plain-role (taking-role x) n = absurd (n refl)
+plain-role (preempting f) n = absurd (n refl)
 plain-role (neither e z) n = absurd (n e)
 
 module _ {m : BlockModel} {tape : List (List ℕ)} (proper : Proper m tape) where
@@ -192,24 +198,29 @@ module _ {m : BlockModel} {tape : List (List ℕ)} (proper : Proper m tape) wher
     joined : Joined m tape (s .records)
     clocks : Each (λ (r : Logged). r .entry .clock ≤ s .view .clock) (s .records)
     ahead : Ahead s
+    -- who is delayed or interrupted stands inside no group
+    delayed : Each (λ (e : Event). Outside (e .who .next)) (s .fel)
+    interrupted : Each (λ (i : Interrupted). Outside (i .who .next)) (s .interrupted)
 
   -- ---- Moves that write nothing
 
-  -- where records, clock and FEL stay
-  lists : (s s′ : State) → s′ .records ≡ s .records → s′ .view .clock ≡ s .view .clock → s′ .fel ≡ s .fel → Everybody (Inside (s .records)) s′ → Joins s → Joins s′
-  lists s s′ records clock fel everybody h =
+  -- where records, clock, FEL and the interrupted ones stay
+  lists : (s s′ : State) → s′ .records ≡ s .records → s′ .view .clock ≡ s .view .clock → s′ .fel ≡ s .fel → s′ .interrupted ≡ s .interrupted → Everybody (Inside (s .records)) s′ → Joins s → Joins s′
+  lists s s′ records clock fel interrupted everybody h =
       record {
         everybody = subst (λ l. Everybody (Inside l) s′) (sym records) everybody;
         joined = rw records (h .joined);
         clocks = rw (records, clock) (h .clocks);
         ahead = record { later = rw (fel, clock) (h .ahead .later); rising = rw fel (h .ahead .rising) };
+        delayed = rw fel (h .delayed);
+        interrupted = rw interrupted (h .interrupted);
       }
 
   -- everybody stands where it stood
   like : (s s′ : State) → s′ .records ≡ s .records → s′ .view .clock ≡ s .view .clock → s′ .ql ≡ s .ql → s′ .wel ≡ s .wel → s′ .wsl ≡ s .wsl → s′ .rel ≡ s .rel
-      → s′ .fel ≡ s .fel → s′ .moving ≡ s .moving → s′ .gatherers ≡ s .gatherers → Joins s → Joins s′
-  like s s′ records clock ql wel wsl rel fel moving gatherers h =
-      lists s s′ records clock fel
+      → s′ .fel ≡ s .fel → s′ .moving ≡ s .moving → s′ .gatherers ≡ s .gatherers → s′ .interrupted ≡ s .interrupted → Joins s → Joins s′
+  like s s′ records clock ql wel wsl rel fel moving gatherers interrupted h =
+      lists s s′ records clock fel interrupted
       (record {
         ql = rw ql (h .everybody .ql);
         wel = rw wel (h .everybody .wel);
@@ -217,15 +228,16 @@ module _ {m : BlockModel} {tape : List (List ℕ)} (proper : Proper m tape) wher
         rel = rw rel (h .everybody .rel);
         fel = rw fel (h .everybody .fel);
         gatherers = rw gatherers (h .everybody .gatherers);
+        interrupted = rw interrupted (h .everybody .interrupted);
         moving = rw moving (h .everybody .moving);
       })
       h
 
   joins-moveTo : (n : ℕ) (t : Transaction) (s : State) → Inside (s .records) (withNext n t) → Joins s → Joins (moveTo n t s)
-  joins-moveTo n t s p h = lists s _ (unfold moveTo in refl) (unfold moveTo in refl) (unfold moveTo in refl) (moveTo-everybody _ (unmoved (s .records)) n t s p (h .everybody)) h
+  joins-moveTo n t s p h = lists s _ (unfold moveTo in refl) (unfold moveTo in refl) (unfold moveTo in refl) (unfold moveTo in refl) (moveTo-everybody _ (unmoved (s .records)) n t s p (h .everybody)) h
 
   joins-toRel : (t : Transaction) (s : State) → Inside (s .records) t → Joins s → Joins (toRel t s)
-  joins-toRel t s p h = lists s _ (unfold toRel in refl) (unfold toRel in refl) (unfold toRel in refl) (toRel-everybody _ (unmoved (s .records)) t s p (h .everybody)) h
+  joins-toRel t s p h = lists s _ (unfold toRel in refl) (unfold toRel in refl) (unfold toRel in refl) (unfold toRel in refl) (toRel-everybody _ (unmoved (s .records)) t s p (h .everybody)) h
 
   joins-toFel : (time : ℕ) (t : Transaction) (s : State) → s .view .clock ≤ time → Outside (t .next) → Joins s → Joins (toFel time t s)
   unfolding toFel
@@ -239,60 +251,101 @@ module _ {m : BlockModel} {tape : List (List ℕ)} (proper : Proper m tape) wher
               later = each-insert (λ (e : Event). s .view .clock ≤ e .time) earlier _ (s .fel) le (h .ahead .later);
               rising = rising-insert _ (s .fel) (h .ahead .rising);
             };
+        delayed = each-insert (λ (e : Event). Outside (e .who .next)) earlier _ (s .fel) out (h .delayed);
+        interrupted = h .interrupted;
       }
 
   joins-toQl : (edition v : ℕ) (t : Transaction) (s : State) → Inside (s .records) t → Joins s → Joins (toQl edition v t s)
-  joins-toQl edition v t s p h = lists s _ (unfold toQl in refl) (unfold toQl in refl) (unfold toQl in refl) (toQl-everybody _ (unmoved (s .records)) edition v t s p (h .everybody)) h
+  joins-toQl edition v t s p h = lists s _ (unfold toQl in refl) (unfold toQl in refl) (unfold toQl in refl) (unfold toQl in refl) (toQl-everybody _ (unmoved (s .records)) edition v t s p (h .everybody)) h
 
   joins-toWel : (edition v : ℕ) (code : Code) (t : Transaction) (s : State) → Inside (s .records) t → Joins s → Joins (toWel edition v code t s)
   joins-toWel edition v code t s p h =
-      lists s _ (unfold toWel in refl) (unfold toWel in refl) (unfold toWel in refl) (toWel-everybody _ (unmoved (s .records)) edition v code t s p (h .everybody)) h
+      lists s _ (unfold toWel in refl) (unfold toWel in refl) (unfold toWel in refl) (unfold toWel in refl) (toWel-everybody _ (unmoved (s .records)) edition v code t s p (h .everybody)) h
 
   joins-toWsl : (t : Transaction) (s : State) → Inside (s .records) t → Joins s → Joins (toWsl t s)
-  joins-toWsl t s p h = lists s _ (unfold toWsl in refl) (unfold toWsl in refl) (unfold toWsl in refl) (toWsl-everybody _ (unmoved (s .records)) t s p (h .everybody)) h
+  joins-toWsl t s p h = lists s _ (unfold toWsl in refl) (unfold toWsl in refl) (unfold toWsl in refl) (unfold toWsl in refl) (toWsl-everybody _ (unmoved (s .records)) t s p (h .everybody)) h
 
   joins-toGatherers : (t : Transaction) (s : State) → Inside (s .records) t → Joins s → Joins (toGatherers t s)
   joins-toGatherers t s p h =
-      lists s _ (unfold toGatherers in refl) (unfold toGatherers in refl) (unfold toGatherers in refl) (toGatherers-everybody _ (unmoved (s .records)) t s p (h .everybody)) h
+      lists s _ (unfold toGatherers in refl) (unfold toGatherers in refl) (unfold toGatherers in refl) (unfold toGatherers in refl) (toGatherers-everybody _ (unmoved (s .records)) t s p (h .everybody)) h
 
   joins-comes : (g : Gatherer) (t : Transaction) (s : State) → Inside (s .records) (g .who) → Joins s → Joins (comes g t s)
   joins-comes g t s p h =
-      lists s _ (unfold comes in refl) (unfold comes in refl) (unfold comes in refl) (comes-everybody _ (unmoved (s .records)) g t s p (h .everybody)) h
+      lists s _ (unfold comes in refl) (unfold comes in refl) (unfold comes in refl) (unfold comes in refl) (comes-everybody _ (unmoved (s .records)) g t s p (h .everybody)) h
 
   joins-released : (g : Gatherer) (t : Transaction) (s : State) → Inside (s .records) (withNext (suc (t .next)) (g .who)) → Joins s → Joins (released g t s)
   joins-released g t s p h =
-      lists s _ (unfold released toRel in refl) (unfold released toRel in refl) (unfold released toRel in refl) (released-everybody _ (unmoved (s .records)) g t s p (h .everybody)) h
+      lists s _ (unfold released toRel in refl) (unfold released toRel in refl) (unfold released toRel in refl) (unfold released toRel in refl) (released-everybody _ (unmoved (s .records)) g t s p (h .everybody)) h
 
   joins-wakeFirstWel : (v : ℕ) (code : Code) (s : State) → Joins s → Joins (wakeFirstWel v code s)
   joins-wakeFirstWel v code s h =
-      lists s _ (unfold wakeFirstWel in refl) (unfold wakeFirstWel in refl) (unfold wakeFirstWel in refl) (wakeFirstWel-everybody _ (unmoved (s .records)) v code s (h .everybody)) h
+      lists s _ (unfold wakeFirstWel in refl) (unfold wakeFirstWel in refl) (unfold wakeFirstWel in refl) (unfold wakeFirstWel in refl) (wakeFirstWel-everybody _ (unmoved (s .records)) v code s (h .everybody)) h
 
   joins-checkWels : (v : ℕ) (s : State) → Joins s → Joins (checkWels v s)
   joins-checkWels v s h = checkWels-kept Joins v (joins-wakeFirstWel v) s h
 
   joins-wakeFor : (x : Share) (s : State) → Joins s → Joins (wakeFor m x s)
   joins-wakeFor x s h =
-      lists s _ (unfold wakeFor wakeQl in refl) (unfold wakeFor wakeQl in refl) (unfold wakeFor wakeQl in refl) (wakeFor-everybody _ (unmoved (s .records)) m x s (h .everybody)) h
+      lists s _ (unfold wakeFor wakeQl in refl) (unfold wakeFor wakeQl in refl) (unfold wakeFor wakeQl in refl) (unfold wakeFor wakeQl in refl) (wakeFor-everybody _ (unmoved (s .records)) m x s (h .everybody)) h
 
-  joins-use : (v n holder : ℕ) (s : State) → Joins s → Joins (setUse v n holder s)
+  joins-use : (v n holder : ℕ) (preempted : Bool) (s : State) → Joins s → Joins (setUse v n holder preempted s)
   unfolding setUse
-  joins-use v n holder s h = like s _ refl refl refl refl refl refl refl refl refl h
+  joins-use v n holder preempted s h = like s _ refl refl refl refl refl refl refl refl refl refl h
+
+  joins-interrupt : (e : Event) (t : Transaction) (f : ℕ) (s : State) → Outside (e .who .next) → Joins s → Joins (interrupt e t f s)
+  unfolding interrupt
+  joins-interrupt e t f s out h =
+      record {
+        everybody = interrupt-everybody _ (unmoved (s .records)) e t f s (outside _ _ out) (h .everybody);
+        joined = h .joined;
+        clocks = h .clocks;
+        ahead =
+            record {
+              later = each-replace (λ (e : Event). s .view .clock ≤ e .time) _ [] (s .fel) tt (h .ahead .later);
+              rising = rising-without _ (s .fel) (h .ahead .rising);
+            };
+        delayed = each-replace (λ (e : Event). Outside (e .who .next)) _ [] (s .fel) tt (h .delayed);
+        interrupted = each-insert (λ (i : Interrupted). Outside (i .who .next)) _ _ (s .interrupted) out (h .interrupted);
+      }
+
+  joins-resume : (i : Interrupted) (f : ℕ) (s : State) → Outside (i .who .next) → Joins s → Joins (resume i f s)
+  unfolding resume
+  joins-resume i f s out h =
+      joins-toFel _ _ _ (omega arith) out
+      (record {
+        everybody =
+            record {
+              ql = h .everybody .ql;
+              wel = h .everybody .wel;
+              wsl = h .everybody .wsl;
+              rel = h .everybody .rel;
+              fel = h .everybody .fel;
+              gatherers = h .everybody .gatherers;
+              interrupted = each-replace (λ (i : Interrupted). Inside (s .records) (i .who)) _ [] (s .interrupted) tt (h .everybody .interrupted);
+              moving = h .everybody .moving;
+            };
+        joined = h .joined;
+        clocks = h .clocks;
+        ahead = record { later = h .ahead .later; rising = h .ahead .rising };
+        delayed = h .delayed;
+        interrupted = each-replace (λ (i : Interrupted). Outside (i .who .next)) _ [] (s .interrupted) tt (h .interrupted);
+      })
 
   joins-arrival : (l : List ℕ) (list p n : ℕ) (s : State) → Outside n → Joins s → Joins (arrival l list p n s)
   unfolding arrival newborn
   joins-arrival [] list p n s out h = h
-  joins-arrival (time ∷ l) list p n s out h = joins-toFel _ _ _ (omega arith) out (like s _ refl refl refl refl refl refl refl refl refl h)
+  joins-arrival (time ∷ l) list p n s out h = joins-toFel _ _ _ (omega arith) out (like s _ refl refl refl refl refl refl refl refl refl refl h)
 
   joins-delay : (l : List ℕ) (list : ℕ) (t : Transaction) (s : State) → Outside (suc (t .next)) → Joins s → Joins (delay l list t s)
   unfolding delay
   joins-delay [] list t s out h = h
-  joins-delay (time ∷ l) list t s out h = joins-toFel _ _ _ (omega arith) out (like s _ refl refl refl refl refl refl refl refl refl h)
+  joins-delay (time ∷ l) list t s out h = joins-toFel _ _ _ (omega arith) out (like s _ refl refl refl refl refl refl refl refl refl refl h)
 
   joins-copies : (n target : ℕ) (t : Transaction) (s : State) → Outside target → Joins s → Joins (copies n target t s)
   unfolding copies
   joins-copies zero target t s out h = h
   joins-copies (suc n) target t s out h =
-      joins-copies n target t _ out (joins-toRel _ _ (outside _ _ out) (like s _ refl refl refl refl refl refl refl refl refl h))
+      joins-copies n target t _ out (joins-toRel _ _ (outside _ _ out) (like s _ refl refl refl refl refl refl refl refl refl refl h))
 
   -- ---- Records
 
@@ -303,11 +356,13 @@ module _ {m : BlockModel} {tape : List (List ℕ)} (proper : Proper m tape) wher
     joins-log =
         record {
           everybody =
-              everybody-like _ (unmoved _) s (setSerial (fresh s) (log 1 t s)) refl refl refl refl refl refl refl
+              everybody-like _ (unmoved _) s (setSerial (fresh s) (log 1 t s)) refl refl refl refl refl refl refl refl
               (everybody-map (λ u q n. inside-more (record { entry = recordOf 1 t s; priority = t .priority }) (s .records) u refl q) s (h .everybody) others);
           joined = (λ e. absurd (true≢false (sym e)), h .joined);
           clocks = (omega arith, h .clocks);
           ahead = record { later = h .ahead .later; rising = h .ahead .rising };
+          delayed = h .delayed;
+          interrupted = h .interrupted;
         }
 
     waits-on : Inside (log 1 t s .records) t
@@ -327,13 +382,15 @@ module _ {m : BlockModel} {tape : List (List ℕ)} (proper : Proper m tape) wher
     joins-enters whole =
         record {
           everybody =
-              everybody-like _ (unmoved _) s (enters t s) refl refl refl refl refl refl refl
+              everybody-like _ (unmoved _) s (enters t s) refl refl refl refl refl refl refl refl
               (everybody-map
               (λ u q n. inside-more (record { entry = recordOf 0 t s; priority = t .priority }) (s .records) u (ne-eqb (t .number) (u .number) (λ e. n (sym e))) q)
               s (h .everybody) others);
           joined = (whole, h .joined);
           clocks = (omega arith, h .clocks);
           ahead = record { later = h .ahead .later; rising = h .ahead .rising };
+          delayed = h .delayed;
+          interrupted = h .interrupted;
         }
 
   -- ---- Each kind, for the transaction t whose next block it is
@@ -429,20 +486,24 @@ module _ {m : BlockModel} {tape : List (List ℕ)} (proper : Proper m tape) wher
     target-at : {b : Block} → blockAt m (t .next) ≡ b → 1 ≤ facts b .target → Outside (facts b .target)
     target-at {b} e named = subst Outside (ap (λ b. facts b .target) e) (λ k. target-outside proper (t .next) k (λ z. omega (arith, ap (λ b. facts b .target) e)))
 
+    joins-takes : {b : Block} → blockAt m (t .next) ≡ b → facts b .wel ≡ 0 → facts b .back ≡ 0 → (x : Share) (preempts : Bool) → Joins (takeUnits m x preempts t s)
+    unfolding takeUnits
+    joins-takes e off alone x preempts =
+        let v : ℕ = shareServer x in
+        cond-cases Joins (leb (shareUnits x) (free (serverAt (s .view) v))) _ _
+        (λ fit. joins-moveTo _ t _ (next-outside e off _ _ refl) (joins-checkWels v _ (joins-use v _ _ _ _ (plain e alone))))
+        (λ full. joins-wait t s p others h (toQl (m .edition) v) (joins-toQl (m .edition) v))
+
     effect-joins : (b : Block) → blockAt m (t .next) ≡ b → ProperBlock m b → Joins (effect m b t s)
     unfolding effect facts takeUnits setContent endsOne
     effect-joins (generate list q) e k =
         joins-moveTo _ t _ (next-outside e refl _ _ refl)
         (joins-arrival _ list q _ _ (at-other (t .next) (ap (λ b. facts b .wel) e) (ap (λ b. facts b .back) e)) (plain e refl))
     effect-joins (advance list) e k = joins-delay _ list t _ (after-plain e refl) (plain e refl)
-    effect-joins (terminate a) e k = like (enters t s) _ refl refl refl refl refl refl refl refl refl (plain e refl)
-    effect-joins (takes x) e k =
-        let v : ℕ = shareServer x in
-        cond-cases Joins (leb (shareUnits x) (free (serverAt (s .view) v))) _ _
-        (λ fit. joins-moveTo _ t _ (next-outside e refl _ _ refl) (joins-checkWels v _ (joins-use v _ _ _ (plain e refl))))
-        (λ full. joins-wait t s p others h (toQl (m .edition) v) (joins-toQl (m .edition) v))
+    effect-joins (terminate a) e k = like (enters t s) _ refl refl refl refl refl refl refl refl refl refl (plain e refl)
+    effect-joins (takes x) e k = joins-takes e refl refl x false
     effect-joins (frees x) e k =
-        joins-moveTo _ t _ (next-outside e refl _ _ refl) (joins-checkWels (shareServer x) _ (joins-wakeFor x _ (joins-use (shareServer x) _ _ _ (plain e refl))))
+        joins-moveTo _ t _ (next-outside e refl _ _ refl) (joins-checkWels (shareServer x) _ (joins-wakeFor x _ (joins-use (shareServer x) _ _ _ _ (plain e refl))))
     effect-joins (waitServer code v c) e k =
         let is : backAt m (t .next) ≡ c = ap (λ b. facts b .back) e in
         waitServer-cases Joins m code v c t s (λ holds. joins-wait t s p others h (toWel (m .edition) v code) (joins-toWel (m .edition) v code))
@@ -470,28 +531,40 @@ module _ {m : BlockModel} {tape : List (List ℕ)} (proper : Proper m tape) wher
     effect-joins (split n target) e k =
         joins-moveTo _ t _ (next-outside e refl _ _ refl) (joins-copies n target t _ (target-at e (k .1 .0)) (plain e refl))
     effect-joins (counts c q) e k =
-        joins-moveTo _ t _ (next-outside e refl _ _ refl) (like (enters t s) _ refl refl refl refl refl refl refl refl refl (plain e refl))
+        joins-moveTo _ t _ (next-outside e refl _ _ refl) (like (enters t s) _ refl refl refl refl refl refl refl refl refl refl (plain e refl))
     effect-joins (assemble n) e k =
         assemble-cases Joins m n t s (λ first. joins-begin t s p others h toGatherers joins-toGatherers)
         (λ g l waits last. joins-released g t _ (next-outside e refl _ _ refl) ended)
         (λ g l waits more. joins-comes g t _ (unfold enters log in (waiter-everybody _ (unmoved _) t (setEnded (suc (enters t s .ended)) (enters t s)) g l waits (ended .everybody))) ended)
       where
         ended : Joins (setEnded (suc (enters t s .ended)) (enters t s))
-        ended = like (enters t s) _ refl refl refl refl refl refl refl refl refl (plain e refl)
+        ended = like (enters t s) _ refl refl refl refl refl refl refl refl refl refl (plain e refl)
+    effect-joins (preempt f) e k =
+        preempt-cases Joins m f t s (λ z. joins-takes e refl refl (facility f) true)
+        (λ x l z.
+        joins-moveTo _ t _ (next-outside e refl _ _ refl)
+        (joins-checkWels f _ (joins-use f _ _ _ _ (joins-interrupt x t f _ (subst (Each (λ (e : Event). Outside (e .who .next))) z (each-those (λ (e : Event). Outside (e .who .next)) _ (s .fel) (h .delayed)) .0) (plain e refl)))))
+    effect-joins (giveBack f) e k =
+        giveBack-cases Joins m f t s
+        (λ z. joins-moveTo _ t _ (next-outside e refl _ _ refl) (joins-checkWels f _ (joins-wakeFor (facility f) _ (joins-use f _ _ _ _ (plain e refl)))))
+        (λ i l z.
+        joins-moveTo _ t _ (next-outside e refl _ _ refl)
+        (joins-checkWels f _
+        (joins-resume i f _ (subst (Each (λ (i : Interrupted). Outside (i .who .next))) z (each-those (λ (i : Interrupted). Outside (i .who .next)) _ (s .interrupted) (h .interrupted)) .0) (joins-use f _ _ _ _ (plain e refl)))))
 
   -- ---- A turn
 
   joins-idle : (s : State) → Joins s → Joins (setMoving none s)
   joins-idle s h =
-      lists s _ refl refl refl
-      (record { ql = h .everybody .ql; wel = h .everybody .wel; wsl = h .everybody .wsl; rel = h .everybody .rel; fel = h .everybody .fel; gatherers = h .everybody .gatherers; moving = tt }) h
+      lists s _ refl refl refl refl
+      (record { ql = h .everybody .ql; wel = h .everybody .wel; wsl = h .everybody .wsl; rel = h .everybody .rel; fel = h .everybody .fel; gatherers = h .everybody .gatherers; interrupted = h .everybody .interrupted; moving = tt }) h
 
   joins-answer : (n : ℕ) (t : Transaction) (s : State) → s .moving ≡ some t → Inside (s .records) t → standing s (t .number) ≤ 1 → Joins s
       → Joins (answer n m (blockAt m (t .next)) t s)
   unfolding answer
   joins-answer zero t s e p once h =
       effect-joins t (setMoving none s) p (nobody-else (t .number) s t once e refl) (joins-idle s h) (blockAt m (t .next)) refl (proper .block (t .next))
-  joins-answer (suc n) t s e p once h = like s _ refl refl refl refl refl refl refl refl refl h
+  joins-answer (suc n) t s e p once h = like s _ refl refl refl refl refl refl refl refl refl refl h
 
   joins-execute : (o : Option Transaction) (s : State) → s .moving ≡ o → Maybe (Inside (s .records)) o → ((n : ℕ) → standing s n ≤ 1) → Joins s → Joins (execute o m s)
   unfolding execute
@@ -521,11 +594,14 @@ module _ {m : BlockModel} {tape : List (List ℕ)} (proper : Proper m tape) wher
               rel = h .everybody .rel;
               fel = each-those (λ (y : Event). Inside (s .records) (y .who)) _ (s .fel) (h .everybody .fel);
               gatherers = h .everybody .gatherers;
+              interrupted = h .everybody .interrupted;
               moving = h .everybody .moving;
             };
         joined = h .joined;
         clocks = each-map (λ r (le : r .entry .clock ≤ s .view .clock). omega (arith, le, later .0)) (s .records) (h .clocks);
         ahead = record { later = each-those (λ (y : Event). x .time ≤ y .time) _ (s .fel) all; rising = rising-those _ (s .fel) (h .ahead .rising) };
+        delayed = each-those (λ (y : Event). Outside (y .who .next)) _ (s .fel) (h .delayed);
+        interrupted = h .interrupted;
       })
 
   joins-takeFirst : (l : List Transaction) (s : State) → s .rel ≡ l → Joins s → Joins (takeFirst l s)
@@ -533,8 +609,8 @@ module _ {m : BlockModel} {tape : List (List ℕ)} (proper : Proper m tape) wher
   joins-takeFirst [] s e h = h
   joins-takeFirst (t ∷ l) s e h =
       let rel : Each (Inside (s .records)) (t ∷ l) = subst (Each (Inside (s .records))) e (h .everybody .rel) in
-      lists s _ refl refl refl
-      (record { ql = h .everybody .ql; wel = h .everybody .wel; wsl = h .everybody .wsl; rel = rel .1; fel = h .everybody .fel; gatherers = h .everybody .gatherers; moving = rel .0 }) h
+      lists s _ refl refl refl refl
+      (record { ql = h .everybody .ql; wel = h .everybody .wel; wsl = h .everybody .wsl; rel = rel .1; fel = h .everybody .fel; gatherers = h .everybody .gatherers; interrupted = h .everybody .interrupted; moving = rel .0 }) h
 
   joins-takeReady : (l : List Transaction) (s : State) → s .rel ≡ l → Joins s → Joins (takeReady l s)
   unfolding takeReady
@@ -549,14 +625,14 @@ module _ {m : BlockModel} {tape : List (List ℕ)} (proper : Proper m tape) wher
   joins-wsScheme : (s : State) → Joins s → Joins (wsScheme m s)
   joins-wsScheme s h =
       wsScheme-cases Joins m s
-      (λ e. lists s _ (unfold wakeWsl in refl) (unfold wakeWsl in refl) (unfold wakeWsl in refl) (wakeWsl-everybody _ (unmoved (s .records)) _ s (h .everybody)) h)
+      (λ e. lists s _ (unfold wakeWsl in refl) (unfold wakeWsl in refl) (unfold wakeWsl in refl) (unfold wakeWsl in refl) (wakeWsl-everybody _ (unmoved (s .records)) _ s (h .everybody)) h)
       (λ e. h)
 
   joins-turn : (s : State) → Sound m tape s → Joins s → Joins (turn m s)
   unfolding turn standing everyone
   joins-turn s sound h =
       let taken : State = setTurns (suc (s .turns)) (taking (s .moving) s) in
-      let k : Joins taken = like (taking (s .moving) s) taken refl refl refl refl refl refl refl refl refl (joins-taking (s .moving) s h) in
+      let k : Joins taken = like (taking (s .moving) s) taken refl refl refl refl refl refl refl refl refl refl (joins-taking (s .moving) s h) in
       joins-wsScheme _ (joins-execute (taken .moving) taken refl (k .everybody .moving) (λ n. stands-at-most-once m tape _ (sound-taking m tape s sound) n) k)
 
   -- ---- The start
@@ -585,7 +661,7 @@ module _ {m : BlockModel} {tape : List (List ℕ)} (proper : Proper m tape) wher
   unfolding start idle
   joins-start =
       startAt-joins 1 (m .blocks) (idle m tape) generates-outside
-      (record { everybody = idle-everybody _ (unmoved []) m tape; joined = tt; clocks = tt; ahead = record { later = tt; rising = tt } })
+      (record { everybody = idle-everybody _ (unmoved []) m tape; joined = tt; clocks = tt; ahead = record { later = tt; rising = tt }; delayed = tt; interrupted = tt })
 
   -- ---- The run
 
@@ -604,5 +680,5 @@ module _ {m : BlockModel} {tape : List (List ℕ)} (proper : Proper m tape) wher
       each-map (λ s h. gathered s (h .1)) (states m tape budget room)
       (each-state m budget room (λ s. Sound m tape s × Joins s) (λ s t h. (sound-turn m tape proper s (h .0), joins-turn s (h .0) (h .1)))
       (λ s e c h.
-      (record { shape = h .0 .shape; balanced = h .0 .balanced; books = h .0 .books }, like s _ refl refl refl refl refl refl refl refl refl (h .1))) tape
+      (record { shape = h .0 .shape; balanced = h .0 .balanced; books = h .0 .books }, like s _ refl refl refl refl refl refl refl refl refl refl (h .1))) tape
       (sound-start m tape proper, joins-start))

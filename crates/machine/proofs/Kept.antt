@@ -1,7 +1,7 @@
 -- One walk through a turn for every claim that concerns the moved transactions little: what the single changes of a state keep, a
 -- turn and the start keep.
 use Prim.Native.Nat.{ℕ, zero, suc, _+_, _≤_}
-use mathlib.Core.Bool.{Bool, true, false, not, _||_}
+use mathlib.Core.Bool.{Bool, true, false, not, _&&_, _||_}
 use mathlib.Core.List.{List, [], _∷_}
 use mathlib.Core.Option.{Option, none, some}
 use native.Mathlib.Omega.{arith}
@@ -9,18 +9,18 @@ use borrow.Author.Tests.{leb-true}
 use lib.Dec.{T, eqb, leb}
 use lib.ListN.{set}
 use Rattle.machine.specs.Limits.{maxLiving}
-use Rattle.machine.specs.Transaction.{Transaction, Event, Gatherer}
+use Rattle.machine.specs.Transaction.{Transaction, Event, Gatherer, Interrupted}
 use Rattle.machine.specs.Term.{Queue, serverAt, queueAt, free}
-use Rattle.machine.specs.Block.{Code, Share, facility, storage, shareServer, shareUnits, Change, up, down, Block, generate, advance, terminate, takes, frees, waitServer, waitTerms, moves, assign, priority, split, counts, assemble, BlockModel, blockAt}
+use Rattle.machine.specs.Block.{Code, Share, facility, storage, shareServer, shareUnits, Change, up, down, Block, generate, advance, terminate, takes, frees, waitServer, waitTerms, moves, assign, priority, split, counts, assemble, preempt, giveBack, BlockModel, blockAt}
 use Rattle.machine.specs.State.{State, Logged}
-use Rattle.machine.specs.Setters.{setClock, setEntries, setQueues, setView, setCounter, setSamples, setQl, setWel, setWsl, setRel, setFel, setGatherers, setMoving, setSerial, setMade, setEnded, setTurns, setRecords, setWritten, setEnd}
-use Rattle.machine.specs.Moves.{log, enters, moveTo, toRel, toFel, toQl, toWel, toWsl, beginWait, mustWait, wakeQl, wakeFirstWel, wakeWsl, setUse, setContent, timesLeft, arrival, copies, waitsFor, toGatherers, comes, released}
-use Rattle.machine.specs.Execute.{unless, living, askGenerate, askAdvance, askContent, askEnds, askHolder, held, askGathers, changed, question, takeUnits, wakeFor, checkWels, endsOne, delay, effect, freeUnits}
+use Rattle.machine.specs.Setters.{setClock, setEntries, setQueues, setView, setCounter, setSamples, setQl, setWel, setWsl, setRel, setFel, setGatherers, setInterrupted, setMoving, setSerial, setMade, setEnded, setTurns, setRecords, setWritten, setEnd}
+use Rattle.machine.specs.Moves.{log, enters, moveTo, toRel, toFel, toQl, toWel, toWsl, beginWait, mustWait, wakeQl, wakeFirstWel, wakeWsl, setUse, setHolder, setContent, timesLeft, arrival, copies, waitsFor, toGatherers, comes, released, interruptedAt, interrupt, resume}
+use Rattle.machine.specs.Execute.{unless, living, askGenerate, askAdvance, askContent, askEnds, askHolder, held, askGathers, askResume, askGivesBack, changed, question, takeUnits, wakeFor, checkWels, endsOne, delay, effect, freeUnits}
 use Rattle.machine.specs.Turn.{sample, arriveAll, moveClock, nextEvents, takeFirst, takeReady, taking, answer, execute, wsScheme, turn}
 use Rattle.machine.specs.Run.{startAt, idle, start}
 use Rattle.machine.specs.Claims.{statedEnd}
 use Rattle.machine.proofs.RunLaws.{cond-cases}
-use Rattle.machine.proofs.Cases.{checkWels-kept, waitServer-cases, waitTerms-cases, assemble-cases, wsScheme-cases, startOf-cases}
+use Rattle.machine.proofs.Cases.{checkWels-kept, waitServer-cases, waitTerms-cases, assemble-cases, preempt-cases, giveBack-cases, wsScheme-cases, startOf-cases}
 
 -- ---- Definition
 
@@ -32,8 +32,8 @@ pub record Closed (Q : State → Type 0) : Type 0 where
   pub entries : (i n : ℕ) (s : State) → Q s → Q (setView (setEntries (set (s .view .entries) i n) (s .view)) s)
   pub queues : (i : ℕ) (q : Queue) (s : State) → Q s → Q (setView (setQueues (set (s .view .queues) i q) (s .view)) s)
   -- units in use: at most the capacity, where they were before; any holder
-  pub units : (v n holder : ℕ) (s : State) → (serverAt (s .view) v .inUse ≤ serverAt (s .view) v .capacity → n ≤ serverAt (s .view) v .capacity)
-      → Q s → Q (setUse v n holder s)
+  pub units : (v n holder : ℕ) (preempted : Bool) (s : State) → (serverAt (s .view) v .inUse ≤ serverAt (s .view) v .capacity → n ≤ serverAt (s .view) v .capacity)
+      → Q s → Q (setUse v n holder preempted s)
   pub clock : (time ticks : ℕ) (s : State) → Q s → Q (setView (setClock time (sample ticks s .view)) s)
   pub ql : (i : ℕ) (l : List Transaction) (s : State) → Q s → Q (setQl (set (s .ql) i l) s)
   pub wel : (i : ℕ) (l : List Transaction) (s : State) → Q s → Q (setWel (set (s .wel) i l) s)
@@ -42,6 +42,7 @@ pub record Closed (Q : State → Type 0) : Type 0 where
   pub rel : (l : List Transaction) (s : State) → Q s → Q (setRel l s)
   pub fel : (l : List Event) (s : State) → Q s → Q (setFel l s)
   pub gatherers : (i : ℕ) (l : List Gatherer) (s : State) → Q s → Q (setGatherers (set (s .gatherers) i l) s)
+  pub interrupted : (l : List Interrupted) (s : State) → Q s → Q (setInterrupted l s)
   pub moving : (o : Option Transaction) (s : State) → Q s → Q (setMoving o s)
   pub serial : (n : ℕ) (s : State) → Q s → Q (setSerial n s)
   pub counter : (n : ℕ) (s : State) → Q s → Q (setCounter n s)
@@ -80,7 +81,9 @@ changed-most down n = omega arith
 
 ask-holder : (m : BlockModel) (x : Share) (t : Transaction) (s : State) → Stop (askHolder m x t s)
 unfolding askHolder
-ask-holder m (facility v) t s = unless-stops (not (m .rules .holders) || eqb (serverAt (s .view) v .holder) (t .number)) 27 0 tt tt
+ask-holder m (facility v) t s =
+    unless-stops (not (serverAt (s .view) v .preempted)) 27 _ tt
+    (unless-stops (not (m .rules .holders) || eqb (serverAt (s .view) v .holder) (t .number)) 27 0 tt tt)
 ask-holder m (storage v b) t s = tt
 
 ask-ends : (m : BlockModel) (t : Transaction) (s : State) → Stop (askEnds m t s)
@@ -90,6 +93,17 @@ ask-gathers : (m : BlockModel) (l : List Gatherer) (t : Transaction) (s : State)
 unfolding askGathers
 ask-gathers m [] t s = tt
 ask-gathers m (g ∷ l) t s = ask-ends m t s
+
+ask-resume : (m : BlockModel) (l : List Interrupted) (s : State) → Stop (askResume m l s)
+unfolding askResume
+ask-resume m [] s = tt
+ask-resume m (i ∷ l) s = unless-stops (leb (s .view .clock + i .remaining) (m .rules .maxClock)) 22 0 tt tt
+
+ask-givesBack : (m : BlockModel) (f : ℕ) (t : Transaction) (s : State) → Stop (askGivesBack m f t s)
+unfolding askGivesBack
+ask-givesBack m f t s =
+    unless-stops (leb 1 (serverAt (s .view) f .inUse)) 24 _ tt
+    (unless-stops (serverAt (s .view) f .preempted && eqb (serverAt (s .view) f .holder) (t .number)) 27 _ tt (ask-resume m (interruptedAt s f) s))
 
 pub question-stops : (m : BlockModel) (b : Block) (t : Transaction) (s : State) → Stop (question m b t s)
 unfolding question
@@ -106,6 +120,8 @@ question-stops m (priority p) t s = tt
 question-stops m (split n target) t s = unless-stops (leb (living s + n) maxLiving) 21 0 tt tt
 question-stops m (counts c q) t s = ask-content c (queueAt (s .view) q .content)
 question-stops m (assemble n) t s = ask-gathers m (waitsFor t s) t s
+question-stops m (preempt f) t s = tt
+question-stops m (giveBack f) t s = ask-givesBack m f t s
 
 -- ---- Every part of a turn
 
@@ -146,13 +162,13 @@ module _ (Q : State → Type 0) (C : Closed Q) where
   unfolding toRel
   toRel-kept t s h = C .rel _ _ (C .serial _ s h)
 
-  pub takeUnits-kept : (m : BlockModel) (x : Share) (t : Transaction) (s : State) → Q s → Q (takeUnits m x t s)
+  pub takeUnits-kept : (m : BlockModel) (x : Share) (preempts : Bool) (t : Transaction) (s : State) → Q s → Q (takeUnits m x preempts t s)
   unfolding takeUnits enters log serverAt
-  takeUnits-kept m x t s h =
+  takeUnits-kept m x preempts t s h =
       cond-cases Q (leb b (free (serverAt (s .view) v))) _ _
       (λ e.
       let fits : b ≤ free (serverAt (s .view) v) = leb-true _ _ e in
-      goes-on _ t _ (check-kept v _ (C .units v _ _ (enters t s) (λ w. more fits w) (enters-kept t s h))))
+      goes-on _ t _ (check-kept v _ (C .units v _ _ _ (enters t s) (λ w. more fits w) (enters-kept t s h))))
       (λ e. mustWait-kept (toQl (m .edition) v) (toQl-kept (m .edition) v) t s h)
     where
       v : ℕ
@@ -181,7 +197,7 @@ module _ (Q : State → Type 0) (C : Closed Q) where
   delay-kept (x ∷ l) list t s h = C .fel _ _ (C .serial _ _ (C .samples _ _ s h))
 
   pub freeUnits-kept : (v b : ℕ) (s : State) → Q s → Q (freeUnits v b s)
-  freeUnits-kept v b s h = C .units v _ _ s (λ w. omega arith) h
+  freeUnits-kept v b s h = C .units v _ _ _ s (λ w. omega arith) h
 
   pub endsOne-kept : (a : ℕ) (s : State) → Q s → Q (endsOne a s)
   unfolding endsOne
@@ -207,12 +223,23 @@ module _ (Q : State → Type 0) (C : Closed Q) where
   unfolding released
   released-kept g t s h = toRel-kept _ _ (C .gatherers _ _ s h)
 
+  pub setHolder-kept : (f holder : ℕ) (preempted : Bool) (s : State) → Q s → Q (setHolder f holder preempted s)
+  setHolder-kept f holder preempted s h = C .units f _ holder preempted s (λ w. w) h
+
+  pub interrupt-kept : (e : Event) (t : Transaction) (f : ℕ) (s : State) → Q s → Q (interrupt e t f s)
+  unfolding interrupt
+  interrupt-kept e t f s h = C .interrupted _ _ (C .fel _ s h)
+
+  pub resume-kept : (i : Interrupted) (f : ℕ) (s : State) → Q s → Q (resume i f s)
+  unfolding resume toFel
+  resume-kept i f s h = C .fel _ _ (C .serial _ _ (C .interrupted _ s h))
+
   pub effect-kept : (m : BlockModel) (b : Block) (t : Transaction) (s : State) → Q s → Q (effect m b t s)
   unfolding effect setContent takeUnits
   effect-kept m (generate list p) t s h = goes-on _ t _ (arrival-kept _ list p _ _ (enters-kept t s h))
   effect-kept m (advance list) t s h = delay-kept _ list t _ (enters-kept t s h)
   effect-kept m (terminate a) t s h = endsOne-kept a _ (enters-kept t s h)
-  effect-kept m (takes x) t s h = takeUnits-kept m x t s h
+  effect-kept m (takes x) t s h = takeUnits-kept m x false t s h
   effect-kept m (frees x) t s h =
       goes-on _ t _ (check-kept (shareServer x) _ (wakeFor-kept m x _ (freeUnits-kept (shareServer x) (shareUnits x) _ (enters-kept t s h))))
   effect-kept m (waitServer code v c) t s h =
@@ -228,6 +255,12 @@ module _ (Q : State → Type 0) (C : Closed Q) where
   effect-kept m (assemble n) t s h =
       assemble-cases Q m n t s (λ e. begins-kept t s h) (λ g l e z. released-kept g t _ (C .ended _ _ (enters-kept t s h)))
       (λ g l e z. comes-kept g t _ (C .ended _ _ (enters-kept t s h)))
+  effect-kept m (preempt f) t s h =
+      preempt-cases Q m f t s (λ e. takeUnits-kept m (facility f) true t s h)
+      (λ x l e. goes-on _ t _ (check-kept f _ (setHolder-kept f _ _ _ (interrupt-kept x t f _ (enters-kept t s h)))))
+  effect-kept m (giveBack f) t s h =
+      giveBack-cases Q m f t s (λ e. goes-on _ t _ (check-kept f _ (wakeFor-kept m (facility f) _ (freeUnits-kept f 1 _ (enters-kept t s h)))))
+      (λ i l e. goes-on _ t _ (check-kept f _ (resume-kept i f _ (setHolder-kept f _ _ _ (enters-kept t s h)))))
 
   pub arriveAll-kept : (l : List Event) (s : State) → Q s → Q (arriveAll l s)
   unfolding arriveAll

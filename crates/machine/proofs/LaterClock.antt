@@ -2,7 +2,7 @@
 -- questions only 22 reads the clock limit.
 use Prim.Native.Nat.{ℕ, zero, suc, _+_, _≤_}
 use mathlib.Core.Path.{_≡_, refl, sym, ap, _∙_}
-use mathlib.Core.Bool.{Bool, true, false, not, _||_}
+use mathlib.Core.Bool.{Bool, true, false, not, _||_, _&&_}
 use mathlib.Core.List.{List, [], _∷_}
 use mathlib.Core.Option.{Option, none, some}
 use native.Mathlib.Omega.{arith}
@@ -10,13 +10,13 @@ use borrow.Author.Tests.{leb-true, le-leb}
 use lib.Dec.{leb, eqb}
 use Rattle.machine.specs.Limits.{maxLiving}
 use Rattle.machine.specs.Rules.{Rules}
-use Rattle.machine.specs.Transaction.{Transaction, Gatherer}
+use Rattle.machine.specs.Transaction.{Transaction, Gatherer, Interrupted}
 use Rattle.machine.specs.Term.{serverAt}
-use Rattle.machine.specs.Block.{Share, facility, storage, shareServer, shareUnits, Block, generate, advance, terminate, takes, frees, waitServer, waitTerms, moves, assign, priority, split, counts, assemble, BlockModel, blockAt}
+use Rattle.machine.specs.Block.{Share, facility, storage, shareServer, shareUnits, Block, generate, advance, terminate, takes, frees, waitServer, waitTerms, moves, assign, priority, split, counts, assemble, preempt, giveBack, BlockModel, blockAt}
 use Rattle.machine.specs.State.{State}
 use Rattle.machine.specs.Setters.{setEnd}
-use Rattle.machine.specs.Moves.{wakeWsl, timesLeft, waitsFor}
-use Rattle.machine.specs.Execute.{unless, living, askTime, askGenerate, askAdvance, askHolder, held, question, askGathers}
+use Rattle.machine.specs.Moves.{wakeWsl, timesLeft, waitsFor, interruptedAt}
+use Rattle.machine.specs.Execute.{unless, living, askTime, askGenerate, askAdvance, askHolder, held, question, askGathers, askResume, askGivesBack}
 use Rattle.machine.specs.Turn.{answer, execute, wsScheme, turn}
 use Rattle.machine.specs.Run.{run}
 use Rattle.machine.proofs.RunLaws.{Before, taken, own, closing}
@@ -53,13 +53,30 @@ module _ (new : Rules) (m : BlockModel) (higher : m .rules .maxClock ≤ new .ma
 
   holder-same : (x : Share) (t : Transaction) (s : State) → askHolder m′ x t s ≡ askHolder m x t s
   unfolding askHolder
-  holder-same (facility v) t s = ap (λ b. unless (not b || eqb (serverAt (s .view) v .holder) (t .number)) 27 0) (sym holders)
+  holder-same (facility v) t s =
+      ap (λ b. unless (not (serverAt (s .view) v .preempted)) 27 (unless (not b || eqb (serverAt (s .view) v .holder) (t .number)) 27 0)) (sym holders)
   holder-same (storage v b) t s = refl
 
   gathers-same : (l : List Gatherer) (t : Transaction) (s : State) → askGathers m′ l t s ≡ askGathers m l t s
   unfolding askGathers held
   gathers-same [] t s = refl
   gathers-same (g ∷ l) t s = ap (λ b. unless (not b || eqb (held m (s .view) (t .number)) 0) 28 0) (sym holders)
+
+  resume-same : (l : List Interrupted) (s : State) → (askResume m l s ≡ 22 → ⊥) → askResume m′ l s ≡ askResume m l s
+  unfolding askResume
+  resume-same [] s h = refl
+  resume-same (i ∷ l) s h = time-same (i .remaining) s h
+
+  giveBack-same : (f : ℕ) (t : Transaction) (s : State) → (askGivesBack m f t s ≡ 22 → ⊥) → askGivesBack m′ f t s ≡ askGivesBack m f t s
+  unfolding askGivesBack
+  giveBack-same f t s h =
+      go (leb 1 (serverAt (s .view) f .inUse)) (serverAt (s .view) f .preempted && eqb (serverAt (s .view) f .holder) (t .number)) (interruptedAt s f) h
+    where
+      go : (a b : Bool) (l : List Interrupted) → (unless a 24 (unless b 27 (askResume m l s)) ≡ 22 → ⊥)
+          → unless a 24 (unless b 27 (askResume m′ l s)) ≡ unless a 24 (unless b 27 (askResume m l s))
+      go true true l h = resume-same l s h
+      go true false l h = refl
+      go false b l h = refl
 
   question-same : (b : Block) (t : Transaction) (s : State) → (question m b t s ≡ 22 → ⊥) → question m′ b t s ≡ question m b t s
   unfolding question held
@@ -76,6 +93,8 @@ module _ (new : Rules) (m : BlockModel) (higher : m .rules .maxClock ≤ new .ma
   question-same (split n target) t s h = refl
   question-same (counts c q) t s h = refl
   question-same (assemble n) t s h = gathers-same (waitsFor t s) t s
+  question-same (preempt f) t s h = refl
+  question-same (giveBack f) t s h = giveBack-same f t s h
 
   -- ---- The run
 

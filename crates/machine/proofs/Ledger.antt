@@ -10,20 +10,20 @@ use borrow.Author.Tests.{eqb-true, eqb-false, ne-eqb, lt-ltb, le-ltb}
 use lib.Dec.{eqb, ltb, leb}
 use lib.ListN.{length, drop, length-drop}
 use lib.Seq.{getD-set-same, getD-set-other}
-use Rattle.machine.specs.Transaction.{Transaction, Event}
+use Rattle.machine.specs.Transaction.{Transaction, Event, Interrupted}
 use Rattle.machine.specs.Lists.{nth, setNth}
 use Rattle.machine.specs.Term.{serverAt, free}
 use Rattle.machine.specs.Facts.{Facts}
-use Rattle.machine.specs.Block.{Share, facility, storage, shareServer, shareUnits, Block, generate, advance, terminate, takes, frees, waitServer, waitTerms, moves, assign, priority, split, counts, assemble, facts, BlockModel, blockAt}
+use Rattle.machine.specs.Block.{Share, facility, shareServer, shareUnits, Block, generate, advance, terminate, takes, frees, waitServer, waitTerms, moves, assign, priority, split, counts, assemble, preempt, giveBack, facts, BlockModel, blockAt}
 use Rattle.machine.specs.State.{State, Logged}
 use Rattle.machine.specs.Setters.{setMoving, setEnded}
-use Rattle.machine.specs.Moves.{recordOf, log, enters, moveTo, toRel, toFel, toQl, toWel, toWsl, mustWait, wakeQl, wakeFirstWel, wakeWsl, setUse, setContent, timesLeft, arrival, copies, toGatherers, comes, released}
+use Rattle.machine.specs.Moves.{recordOf, log, enters, moveTo, toRel, toFel, toQl, toWel, toWsl, mustWait, wakeQl, wakeFirstWel, wakeWsl, setUse, setContent, timesLeft, arrival, copies, toGatherers, comes, released, interrupt, resume}
 use Rattle.machine.specs.Execute.{askAdvance, question, takeUnits, wakeFor, checkWels, endsOne, delay, effect}
 use Rattle.machine.specs.Turn.{arriveAll, moveClock, nextEvents, takeFirst, takeReady, taking, answer, execute, wsScheme, turn}
 use Rattle.machine.specs.Claims.{bit, timesOf, factsAt, entered, getsTime, usedBy, madeBy, endedBy, terminates}
 use Rattle.machine.proofs.Proper.{Proper, ProperBlock, Names}
 use Rattle.machine.proofs.RunLaws.{cond-cases}
-use Rattle.machine.proofs.Cases.{waitServer-cases, checkWels-kept, waitTerms-cases, assemble-cases, wsScheme-cases}
+use Rattle.machine.proofs.Cases.{waitServer-cases, checkWels-kept, waitTerms-cases, assemble-cases, wsScheme-cases, preempt-cases, giveBack-cases}
 use Rattle.machine.proofs.Kept.{taking-kept}
 use Rattle.machine.proofs.Shape.{Shape, shape-closed, samples-at}
 use Rattle.machine.proofs.Sums.{count-cons}
@@ -268,6 +268,14 @@ module _ (m : BlockModel) (tape : List (List ℕ)) where
   unfolding wakeFor wakeQl
   booked-wakeFor x s h = h
 
+  booked-interrupt : (e : Event) (t : Transaction) (f : ℕ) (s : State) → Books s → Books (interrupt e t f s)
+  unfolding interrupt
+  booked-interrupt e t f s h = h
+
+  booked-resume : (i : Interrupted) (f : ℕ) (s : State) → Books s → Books (resume i f s)
+  unfolding resume toFel
+  booked-resume i f s h = h
+
   module _ (t : Transaction) (s : State) (h : Books s) where
     module _ (plain : Plain (facts (blockAt m (t .next)))) where
       booked-mustWait : (put : Transaction → State → State) → ((t : Transaction) (s : State) → Books s → Books (put t s)) → Books (mustWait put t s)
@@ -277,9 +285,9 @@ module _ (m : BlockModel) (tape : List (List ℕ)) where
       booked-entered : Books (enters t s)
       booked-entered = booked-enters t s plain h
 
-      booked-takeUnits : (x : Share) → Books (takeUnits m x t s)
+      booked-takeUnits : (x : Share) (preempts : Bool) → Books (takeUnits m x preempts t s)
       unfolding takeUnits moveTo setUse toQl
-      booked-takeUnits x =
+      booked-takeUnits x preempts =
           cond-cases Books (leb (shareUnits x) (free (serverAt (s .view) (shareServer x)))) _ _ (λ e. booked-checkWels (shareServer x) _ booked-entered)
           (λ e. booked-mustWait (toQl (m .edition) (shareServer x)) (λ t s h. h))
 
@@ -293,7 +301,7 @@ module _ (m : BlockModel) (tape : List (List ℕ)) where
         booked-advance t s h list good shape (ap (λ b. facts b .uses) e) (timesLeft s list) refl (setMoving o s) q (ap (λ b. facts b .generates) e)
         (ap (λ b. facts b .copies) e) (ap (λ b. facts b .terminates) e)
     booked-effect (terminate a) o e q good shape = booked-terminate a t s h (ap facts e)
-    booked-effect (takes x) o e q good shape = booked-takeUnits (plain-facts (ap facts e) refl refl refl refl) x
+    booked-effect (takes x) o e q good shape = booked-takeUnits (plain-facts (ap facts e) refl refl refl refl) x false
     booked-effect (frees x) o e q good shape =
         booked-checkWels (shareServer x) _ (booked-wakeFor x _ (booked-entered (plain-facts (ap facts e) refl refl refl refl)))
     booked-effect (waitServer code v c) o e q good shape =
@@ -309,6 +317,13 @@ module _ (m : BlockModel) (tape : List (List ℕ)) where
     booked-effect (counts c q) o e z good shape = booked-entered (plain-facts (ap facts e) refl refl refl refl)
     booked-effect (assemble n) o e z good shape =
         assemble-cases Books m n t s (λ k. booked-first n t s h (ap facts e)) (λ g l k z. booked-later n t s h (ap facts e)) (λ g l k z. booked-later n t s h (ap facts e))
+    booked-effect (preempt f) o e z good shape =
+        let plain : Plain (facts (blockAt m (t .next))) = plain-facts (ap facts e) refl refl refl refl in
+        preempt-cases Books m f t s (λ k. booked-takeUnits plain (facility f) true) (λ x l k. booked-checkWels f _ (booked-interrupt x t f _ (booked-entered plain)))
+    booked-effect (giveBack f) o e z good shape =
+        let plain : Plain (facts (blockAt m (t .next))) = plain-facts (ap facts e) refl refl refl refl in
+        giveBack-cases Books m f t s (λ k. booked-checkWels f _ (booked-wakeFor (facility f) _ (booked-entered plain)))
+        (λ i l k. booked-checkWels f _ (booked-resume i f _ (booked-entered plain)))
 
   booked-answer : (n : ℕ) (t : Transaction) (s : State) → question m (blockAt m (t .next)) t s ≡ n → Proper m tape → Shape m s → Books s
       → Books (answer n m (blockAt m (t .next)) t s)

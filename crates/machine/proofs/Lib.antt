@@ -5,11 +5,13 @@ pub mod Kept
 pub mod Bounds
 pub mod Shape
 pub mod Sums
+pub mod Chosen
 pub mod Balance
 pub mod Ledger
 pub mod StartLedger
 pub mod Conservation
 pub mod Sorted
+pub mod Losers
 pub mod Lines
 pub mod Waiting
 pub mod Ready

@@ -1,8 +1,8 @@
 -- Coming onto a QL or WEL and parting a QL, under either edition: the members and their sums are those of the list, with the new one;
 -- only where it stands depends on the edition. Under edition 1 a line stays in order.
-use Prim.Native.Nat.{ℕ, suc, _+_, _-_}
-use mathlib.Core.Path.{_≡_, refl, ap, subst, _∙_}
-use mathlib.Core.Bool.{Bool, true, false, cond}
+use Prim.Native.Nat.{ℕ, _+_, _-_}
+use mathlib.Core.Path.{_≡_, refl}
+use mathlib.Core.Bool.{Bool}
 use mathlib.Core.List.{List, [], _∷_, _++_, reverse, reverse-cons}
 use native.Mathlib.Omega.{arith}
 use borrow.Author.Tests.{eq-eqb}
@@ -16,7 +16,7 @@ use Rattle.machine.specs.Execute.{unitsOf, firstOfOne, fromFront, queueR
 use Rattle.machine.specs.Claims.{Each}
 use Rattle.machine.proofs.RunLaws.{cond-cases}
 use Rattle.machine.proofs.Sums.{sumOn, sum-append, sum-insert, sum-those, sum-first}
-use Rattle.machine.proofs.Sorted.{Sorted, each-insert, each-those, each-drop, sorted-in}
+use Rattle.machine.proofs.Sorted.{Sorted, each-insert, each-those, sorted-in}
 
 -- ---- From the back
 

@@ -4,12 +4,12 @@ use mathlib.Core.Path.{_≡_, refl, ap, subst, _∙_}
 use mathlib.Core.List.{List, [], _∷_}
 use mathlib.Core.Option.{Option, none, some}
 use native.Mathlib.Omega.{arith}
-use Rattle.machine.specs.Rules.{Rules, item6, item8, document02}
-use Rattle.machine.specs.Transaction.{Transaction, Gatherer}
-use Rattle.machine.specs.Block.{facility, storage, Block, generate, advance, terminate, takes, frees, waitServer, waitTerms, moves, assign, priority, split, counts, assemble, BlockModel, blockAt}
+use Rattle.machine.specs.Rules.{Rules, item6, item11, document02}
+use Rattle.machine.specs.Transaction.{Transaction, Gatherer, Interrupted}
+use Rattle.machine.specs.Block.{facility, storage, Block, generate, advance, terminate, takes, frees, waitServer, waitTerms, moves, assign, priority, split, counts, assemble, preempt, giveBack, BlockModel, blockAt}
 use Rattle.machine.specs.State.{State}
-use Rattle.machine.specs.Moves.{timesLeft, waitsFor}
-use Rattle.machine.specs.Execute.{askGenerate, askAdvance, askHolder, held, question, askGathers}
+use Rattle.machine.specs.Moves.{timesLeft, waitsFor, interruptedAt}
+use Rattle.machine.specs.Execute.{askGenerate, askAdvance, askHolder, held, question, askGathers, askResume, askGivesBack}
 use Rattle.machine.specs.Run.{run}
 use Rattle.machine.specs.Validate.{Validation, accept, reject, validate}
 use Rattle.machine.specs.Outcome.{acceptedRun, refusedRun, outcomeOf, outcome}
@@ -41,6 +41,11 @@ module _ (kinds editions : ℕ) (m : BlockModel) where
   gathers-same [] t s = refl
   gathers-same (g ∷ l) t s = refl
 
+  resume-same : (l : List Interrupted) (s : State) → askResume m′ l s ≡ askResume m l s
+  unfolding askResume
+  resume-same [] s = refl
+  resume-same (i ∷ l) s = refl
+
   question-same : (b : Block) (t : Transaction) (s : State) → question m′ b t s ≡ question m b t s
   unfolding question askHolder held
   question-same (generate list p) t s = generate-same (timesLeft s list) s
@@ -57,6 +62,8 @@ module _ (kinds editions : ℕ) (m : BlockModel) where
   question-same (split n target) t s = refl
   question-same (counts c q) t s = refl
   question-same (assemble n) t s = gathers-same (waitsFor t s) t s
+  question-same (preempt f) t s = refl
+  question-same (giveBack f) t s = unfold askGivesBack in (rw (resume-same (interruptedAt s f) s))
 
   answered-alike : (o : Option Transaction) (s : State) → AnsweredAlike new m o s
   answered-alike none s = tt
@@ -85,11 +92,11 @@ keeps-models rules kinds editions kinds′ editions′ le later model tape budge
         (ap (acceptedRun (m′ kinds′ editions′ m)) (kinds-same kinds′ editions′ m t budget room) ∙ accepted-same (new kinds′ editions′ m) m (run m t budget room))
     go (reject n) v′ e h z = absurd (omega (arith, refusal-from old model tape work report e .0))
 
--- items 7, 8 and 12: "Edition 2 in the model's first number selects it"; what edition 1 gave it gives
+-- items 7, 8, 11 and 12: "Edition 2 in the model's first number selects it"; what edition 1 gave it gives
 pub older-models : (model tape : List ℕ) (budget work room report : ℕ) → outcome item6 model tape budget work room report .refusal ≡ 0
     → outcome document02 model tape budget work room report ≡ outcome item6 model tape budget work room report
 older-models = keeps-models document02 (item6 .kinds) (item6 .editions) (document02 .kinds) (document02 .editions) (omega arith) (omega arith)
 
-pub first-edition : (model tape : List ℕ) (budget work room report : ℕ) → outcome item8 model tape budget work room report .refusal ≡ 0
-    → outcome document02 model tape budget work room report ≡ outcome item8 model tape budget work room report
-first-edition = keeps-models document02 (item8 .kinds) (item8 .editions) (document02 .kinds) (document02 .editions) (omega arith) (omega arith)
+pub first-edition : (model tape : List ℕ) (budget work room report : ℕ) → outcome item11 model tape budget work room report .refusal ≡ 0
+    → outcome document02 model tape budget work room report ≡ outcome item11 model tape budget work room report
+first-edition = keeps-models document02 (item11 .kinds) (item11 .editions) (document02 .kinds) (document02 .editions) (omega arith) (omega arith)

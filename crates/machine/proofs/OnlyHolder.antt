@@ -11,13 +11,13 @@ use lib.Dec.{leb, eqb, T}
 use Rattle.machine.specs.Limits.{workNumbers, reportRoom}
 use Rattle.machine.specs.Rules.{Rules, document01, item1, item6, inForce}
 use Rattle.machine.specs.Parser.{Parsed, parsed, refused}
-use Rattle.machine.specs.Transaction.{Transaction, Gatherer}
+use Rattle.machine.specs.Transaction.{Transaction, Gatherer, Interrupted}
 use Rattle.machine.specs.Term.{serverAt}
-use Rattle.machine.specs.Block.{facility, storage, shareServer, shareUnits, shareFacility, Block, generate, advance, terminate, takes, frees, waitServer, waitTerms, moves, assign, priority, split, counts, assemble, facts, BlockModel, blockAt}
+use Rattle.machine.specs.Block.{facility, storage, shareServer, shareUnits, shareFacility, Block, generate, advance, terminate, takes, frees, waitServer, waitTerms, moves, assign, priority, split, counts, assemble, preempt, giveBack, facts, BlockModel, blockAt}
 use Rattle.machine.specs.State.{State, Logged}
 use Rattle.machine.specs.Setters.{setMoving}
-use Rattle.machine.specs.Moves.{recordOf, log, enters, moveTo, wakeQl, wakeFirstWel, wakeWsl, setUse, timesLeft, waitsFor, beginWait, mustWait, comes, released, toRel}
-use Rattle.machine.specs.Execute.{unless, askGenerate, askAdvance, askHolder, held, question, wakeFor, endsOne, effect, takeUnits, askGathers, gathers, gathering}
+use Rattle.machine.specs.Moves.{recordOf, log, enters, moveTo, wakeQl, wakeFirstWel, wakeWsl, setUse, timesLeft, waitsFor, beginWait, mustWait, comes, released, toRel, interruptedAt}
+use Rattle.machine.specs.Execute.{unless, askGenerate, askAdvance, askHolder, held, question, wakeFor, endsOne, effect, takeUnits, askGathers, gathers, gathering, askResume, askGivesBack}
 use Rattle.machine.specs.Turn.{answer, execute, wsScheme, turn}
 use Rattle.machine.specs.Run.{run}
 use Rattle.machine.specs.Decode.{listField}
@@ -120,6 +120,11 @@ module _ (m : BlockModel) (tape : List (List ℕ)) (proper : Proper m tape) wher
     advance-same [] s = refl
     advance-same (time ∷ l) s = refl
 
+    resume-same : (l : List Interrupted) (s : State) → askResume m′ l s ≡ askResume m l s
+    unfolding askResume
+    resume-same [] s = refl
+    resume-same (i ∷ l) s = refl
+
     -- the answer of either question: yes without it, and yes with it
     asks-alike : (b : Bool) (n : ℕ) → b ≡ true → unless (not true || b) n 0 ≡ unless (not (m .rules .holders) || b) n 0
     asks-alike b n e = rw (e, silent)
@@ -132,7 +137,7 @@ module _ (m : BlockModel) (tape : List (List ℕ)) (proper : Proper m tape) wher
 
       held-told : held m (s .view) (t .number) ≡ heldBy m tape (s .records) (t .number)
       unfolding held heldBy serverAt
-      held-told = upTo-cong _ _ (m .facilities) (λ f low high. ap (λ n. bit (eqb n (t .number))) (holding f (low, high) .told))
+      held-told = upTo-cong _ _ (m .facilities) (λ f low high. ap (λ n. bit (eqb n (t .number))) (holding .each f (low, high) .held .told))
 
       holds-none : facts (blockAt m (t .next)) .terminates ≡ 1 → Own (r ∷ s .records) → eqb (held m (s .view) (t .number)) 0 ≡ true
       unfolding freeHanded recordOf
@@ -148,7 +153,7 @@ module _ (m : BlockModel) (tape : List (List ℕ)) (proper : Proper m tape) wher
       holds-it v at on own =
           let by : T (eqb v 0 || eqb (holderBy m tape (s .records) v) (t .number)) =
           subst (λ f. T (eqb f 0 || eqb (holderBy m tape (s .records) f) (t .number))) on (own-parts r (s .records) own .0) in
-          ap (λ n. eqb n (t .number)) (holding v at .told)
+          ap (λ n. eqb n (t .number)) (holding .each v at .held .told)
           ∙ or-else (eqb v 0) (eqb (holderBy m tape (s .records) v) (t .number)) (ne-eqb v 0 (λ e. omega arith)) by
 
       freed-records : (v : ℕ) → effect m (frees (facility v)) t (setMoving none s) .records ≡ r ∷ s .records
@@ -159,15 +164,16 @@ module _ (m : BlockModel) (tape : List (List ℕ)) (proper : Proper m tape) wher
           → (question m (frees (facility v)) t s ≡ 0 → Own (effect m (frees (facility v)) t (setMoving none s) .records))
           → question m′ (frees (facility v)) t s ≡ question m (frees (facility v)) t s
       unfolding question askHolder shareServer shareUnits
-      release-same v at on own = go (leb 1 (serverAt (s .view) v .inUse)) own
+      release-same v at on own = go (leb 1 (serverAt (s .view) v .inUse)) (not (serverAt (s .view) v .preempted)) own
         where
           ask : Bool → ℕ
           ask b = unless (not b || eqb (serverAt (s .view) v .holder) (t .number)) 27 0
 
-          go : (b : Bool) → (unless b 24 (ask (m .rules .holders)) ≡ 0 → Own (effect m (frees (facility v)) t (setMoving none s) .records))
-              → unless b 24 (ask true) ≡ unless b 24 (ask (m .rules .holders))
-          go true own = asks-alike _ 27 (holds-it v at on (subst Own (freed-records v) (own (ap ask silent))))
-          go false own = refl
+          go : (b c : Bool) → (unless b 24 (unless c 27 (ask (m .rules .holders))) ≡ 0 → Own (effect m (frees (facility v)) t (setMoving none s) .records))
+              → unless b 24 (unless c 27 (ask true)) ≡ unless b 24 (unless c 27 (ask (m .rules .holders)))
+          go true true own = asks-alike _ 27 (holds-it v at on (subst Own (freed-records v) (own (ap ask silent))))
+          go true false own = refl
+          go false c own = refl
 
       -- a later one of a family writes its record
       gathers-records : (n : ℕ) (g : Gatherer) → gathers n g t (enters t (setMoving none s)) .records ≡ r ∷ s .records
@@ -207,6 +213,8 @@ module _ (m : BlockModel) (tape : List (List ℕ)) (proper : Proper m tape) wher
       question-same (split n target) e good own = refl
       question-same (counts c q) e good own = refl
       question-same (assemble n) e good own = gathers-same n (waitsFor t s) e refl own
+      question-same (preempt f) e good own = refl
+      question-same (giveBack f) e good own = unfold askGivesBack in (rw (resume-same (interruptedAt s f) s))
 
     -- ---- The turn and the run
 

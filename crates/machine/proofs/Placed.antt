@@ -10,7 +10,7 @@ use lib.ListN.{length, getD}
 use Rattle.machine.specs.Limits.{maxPriority}
 use Rattle.machine.specs.Transaction.{Transaction, newborn}
 use Rattle.machine.specs.Term.{compare, serverAt, free, truth, Condition, always, whenTrue}
-use Rattle.machine.specs.Block.{Share, shareServer, shareUnits, Block, generate, advance, terminate, takes, frees, waitServer, waitTerms, moves, assign, priority, split, counts, assemble, facts, BlockModel, blockAt, unconditional}
+use Rattle.machine.specs.Block.{Share, shareServer, shareUnits, Block, generate, advance, terminate, takes, frees, waitServer, waitTerms, moves, assign, priority, split, counts, assemble, preempt, giveBack, facts, BlockModel, blockAt, unconditional, facility}
 use Rattle.machine.specs.State.{State}
 use Rattle.machine.specs.Setters.{withNext, setMoving, setTurns}
 use Rattle.machine.specs.Execute.{effect, takeUnits}
@@ -22,8 +22,8 @@ use Rattle.machine.specs.Validate.{wellPlaced}
 use Rattle.machine.proofs.Proper.{Names, ProperBlock, Proper, generates-list}
 use Rattle.machine.proofs.Groups.{and-right, blocks-placed, back-within}
 use Rattle.machine.proofs.RunLaws.{cond-cases, each-state}
-use Rattle.machine.proofs.Cases.{waitServer-cases, waitTerms-cases, assemble-cases, startOf-cases}
-use Rattle.machine.proofs.Everybody.{Maybe, Everybody, Unmoved, toRel-everybody, waitQl-everybody, waitWel-everybody, waitWsl-everybody, moveTo-everybody, wakeFor-everybody, wakeFirstWel-everybody, checkWels-everybody, wsScheme-everybody, arrival-everybody, copies-everybody, delay-everybody, enters-everybody, inUse-everybody, content-everybody, endsOne-everybody, ended-everybody, begins-everybody, waiter-everybody, comes-everybody, released-everybody, taking-everybody, idle-everybody}
+use Rattle.machine.proofs.Cases.{waitServer-cases, waitTerms-cases, assemble-cases, startOf-cases, preempt-cases, giveBack-cases}
+use Rattle.machine.proofs.Everybody.{Maybe, Everybody, Unmoved, toRel-everybody, waitQl-everybody, waitWel-everybody, waitWsl-everybody, moveTo-everybody, wakeFor-everybody, wakeFirstWel-everybody, checkWels-everybody, wsScheme-everybody, arrival-everybody, copies-everybody, delay-everybody, enters-everybody, inUse-everybody, content-everybody, endsOne-everybody, ended-everybody, begins-everybody, waiter-everybody, comes-everybody, released-everybody, taking-everybody, idle-everybody, loser-everybody, interrupted-everybody, interrupt-everybody, resume-everybody}
 
 -- ---- Question 7: behind a block that lets its transaction go on stands another
 
@@ -63,12 +63,12 @@ module _ (m : BlockModel) (tape : List (List ℕ)) (proper : Proper m tape) wher
     h′ : Everybody P (Rattle.machine.specs.Moves.enters t s)
     h′ = enters-everybody P U t s h
 
-    units-placed : (x : Share) → P (withNext (suc (t .next)) t) → Everybody P (takeUnits m x t s)
+    units-placed : (x : Share) (preempts : Bool) → P (withNext (suc (t .next)) t) → Everybody P (takeUnits m x preempts t s)
     unfolding takeUnits
-    units-placed x next =
+    units-placed x preempts next =
         let v : ℕ = shareServer x in
         cond-cases (Everybody P) (leb (shareUnits x) (free (serverAt (s .view) v))) _ _
-        (λ e. moveTo-everybody P U _ t _ next (checkWels-everybody P U v _ (inUse-everybody P U v _ _ _ h′))) (λ e. waitQl-everybody P U (m .edition) v t s p h)
+        (λ e. moveTo-everybody P U _ t _ next (checkWels-everybody P U v _ (inUse-everybody P U v _ _ _ _ h′))) (λ e. waitQl-everybody P U (m .edition) v t s p h)
 
     moves-placed : (c : Condition) (target : ℕ) → Names (length (m .blocks)) target → (unconditional c ≡ false → P (withNext (suc (t .next)) t))
         → P (withNext (cond (truth (m .values) (s .view) (t .parameters) c) target (suc (t .next))) t)
@@ -83,10 +83,10 @@ module _ (m : BlockModel) (tape : List (List ℕ)) (proper : Proper m tape) wher
     effect-placed (generate list k) ok on behind = moveTo-everybody P U _ t _ (on refl) (arrival-everybody P U _ list k _ _ (λ time. (p .0, ok .1)) h′)
     effect-placed (advance list) ok on behind = delay-everybody P U _ list t _ (λ time. on refl) h′
     effect-placed (terminate a) ok on behind = endsOne-everybody P U a _ h′
-    effect-placed (takes x) ok on behind = units-placed x (on refl)
+    effect-placed (takes x) ok on behind = units-placed x false (on refl)
     effect-placed (frees x) ok on behind =
         moveTo-everybody P U _ t _ (on refl)
-        (checkWels-everybody P U (shareServer x) _ (wakeFor-everybody P U m x _ (inUse-everybody P U (shareServer x) _ _ _ h′)))
+        (checkWels-everybody P U (shareServer x) _ (wakeFor-everybody P U m x _ (inUse-everybody P U (shareServer x) _ _ _ _ h′)))
     effect-placed (waitServer code v c) ok on behind =
         waitServer-cases (Everybody P) m code v c t s (λ e. waitWel-everybody P U (m .edition) v code t s p h)
         (λ e. moveTo-everybody P U _ t _ ((omega arith, omega arith), p .1) (wakeFirstWel-everybody P U v code s h))
@@ -102,6 +102,17 @@ module _ (m : BlockModel) (tape : List (List ℕ)) (proper : Proper m tape) wher
         assemble-cases (Everybody P) m n t s (λ e. begins-everybody P U t s p h)
         (λ g l e z. released-everybody P U g t _ (on refl .0, waiter-everybody P U t s g l e h .1) (ended-everybody P U _ _ h′))
         (λ g l e z. comes-everybody P U g t _ (waiter-everybody P U t s g l e h) (ended-everybody P U _ _ h′))
+    effect-placed (preempt f) ok on behind =
+        preempt-cases (Everybody P) m f t s (λ e. units-placed (facility f) true (on refl))
+        (λ x l e.
+        moveTo-everybody P U _ t _ (on refl)
+        (checkWels-everybody P U f _ (inUse-everybody P U f _ _ _ _ (interrupt-everybody P U x t f _ (loser-everybody P U t f s x l e h) h′))))
+    effect-placed (giveBack f) ok on behind =
+        giveBack-cases (Everybody P) m f t s
+        (λ e. moveTo-everybody P U _ t _ (on refl) (checkWels-everybody P U f _ (wakeFor-everybody P U m (facility f) _ (inUse-everybody P U f _ _ _ _ h′))))
+        (λ i l e.
+        moveTo-everybody P U _ t _ (on refl)
+        (checkWels-everybody P U f _ (resume-everybody P U i f _ (interrupted-everybody P U f s i l e h) (inUse-everybody P U f _ _ _ _ h′))))
 
   -- ---- The turn
 
@@ -109,9 +120,9 @@ module _ (m : BlockModel) (tape : List (List ℕ)) (proper : Proper m tape) wher
   unfolding answer
   answer-placed zero t s p h =
       effect-placed t p (setMoving none s)
-      (record { ql = h .ql; wel = h .wel; wsl = h .wsl; rel = h .rel; fel = h .fel; gatherers = h .gatherers; moving = tt })
+      (record { ql = h .ql; wel = h .wel; wsl = h .wsl; rel = h .rel; fel = h .fel; gatherers = h .gatherers; interrupted = h .interrupted; moving = tt })
       (blockAt m (t .next)) (proper .block (t .next)) (after t p) (omega (arith, p .0 .0, back-within proper (t .next)))
-  answer-placed (suc n) t s p h = record { ql = h .ql; wel = h .wel; wsl = h .wsl; rel = h .rel; fel = h .fel; gatherers = h .gatherers; moving = h .moving }
+  answer-placed (suc n) t s p h = record { ql = h .ql; wel = h .wel; wsl = h .wsl; rel = h .rel; fel = h .fel; gatherers = h .gatherers; interrupted = h .interrupted; moving = h .moving }
 
   execute-placed : (o : Option Transaction) (s : State) → Maybe P o → Everybody P s → Everybody P (execute o m s)
   unfolding execute
@@ -124,7 +135,7 @@ module _ (m : BlockModel) (tape : List (List ℕ)) (proper : Proper m tape) wher
       let k : Everybody P (taking (s .moving) s) = taking-everybody P U (s .moving) s h in
       wsScheme-everybody P U m _
       (execute-placed _ (setTurns (suc (s .turns)) (taking (s .moving) s)) (k .moving)
-      (record { ql = k .ql; wel = k .wel; wsl = k .wsl; rel = k .rel; fel = k .fel; gatherers = k .gatherers; moving = k .moving }))
+      (record { ql = k .ql; wel = k .wel; wsl = k .wsl; rel = k .rel; fel = k .fel; gatherers = k .gatherers; interrupted = k .interrupted; moving = k .moving }))
 
   -- ---- The start
 
@@ -149,4 +160,4 @@ module _ (m : BlockModel) (tape : List (List ℕ)) (proper : Proper m tape) wher
   pub placed : (budget room : ℕ) → Each (Everybody P) (states m tape budget room)
   placed budget room =
       each-state m budget room (Everybody P) (λ s t h. placed-turn s h)
-      (λ s e c h. record { ql = h .ql; wel = h .wel; wsl = h .wsl; rel = h .rel; fel = h .fel; gatherers = h .gatherers; moving = h .moving }) tape placed-start
+      (λ s e c h. record { ql = h .ql; wel = h .wel; wsl = h .wsl; rel = h .rel; fel = h .fel; gatherers = h .gatherers; interrupted = h .interrupted; moving = h .moving }) tape placed-start

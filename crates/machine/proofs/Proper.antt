@@ -7,7 +7,7 @@ use lib.Dec.{T}
 use lib.ListN.{length, getD}
 use Rattle.machine.specs.Limits.{maxBlocks, maxCapacity, maxFacilities, maxStorages, maxQueues, maxLists, maxPriority, maxSamples, maxSplit, maxBack, maxAssemble, maxCounter, parameterCount}
 use Rattle.machine.specs.Lists.{nth}
-use Rattle.machine.specs.Block.{Code, U, NU, E, NE, F, NF, Share, facility, storage, shareServer, Block, generate, advance, terminate, takes, frees, waitServer, waitTerms, moves, assign, priority, split, counts, assemble, facts, BlockModel, blockAt}
+use Rattle.machine.specs.Block.{Code, U, NU, E, NE, F, NF, Share, facility, storage, shareServer, Block, generate, advance, terminate, takes, frees, waitServer, waitTerms, moves, assign, priority, split, counts, assemble, preempt, giveBack, facts, BlockModel, blockAt}
 use Rattle.machine.specs.Validate.{wellFormed}
 
 -- from 1 to n
@@ -52,6 +52,8 @@ ProperBlock m (priority p) = p ≤ maxPriority
 ProperBlock m (split n target) = Names maxSplit n × Names (length (m .blocks)) target
 ProperBlock m (counts c q) = Names (m .queues) q
 ProperBlock m (assemble n) = (2 ≤ n) × (n ≤ maxAssemble)
+ProperBlock m (preempt f) = Names (m .facilities) f
+ProperBlock m (giveBack f) = Names (m .facilities) f
 
 -- the server that a status code asks of, or that a share is of, exists
 pub code-server : (m : BlockModel) (code : Code) (v : ℕ) → CodeServer m code v → Names (servers m) v
@@ -72,6 +74,7 @@ share-server m (storage v b) h = (omega arith, h .0 .1)
 pub data Role : Block → Type 0 where
   generating : (list p : ℕ) → Role (generate list p)
   taking : (x : Share) → Role (takes x)
+  preempting : (f : ℕ) → Role (preempt f)
   neither : {b : Block} → facts b .generates ≡ 0 → facts b .server ≡ 0 → Role b
 
 pub role : (b : Block) → Role b
@@ -89,6 +92,8 @@ role (priority p) = neither refl refl
 role (split n target) = neither refl refl
 role (counts c q) = neither refl refl
 role (assemble n) = neither refl refl
+role (preempt f) = preempting f
+role (giveBack f) = neither refl refl
 
 -- a GENERATE names a list and a priority; other blocks have rank 0
 pub generates-list : (m : BlockModel) (b : Block) → ProperBlock m b → (facts b .generates ≡ 0 → ⊥) → Names (m .lists) (facts b .generates) × (facts b .rank ≤ maxPriority)
@@ -97,6 +102,7 @@ generates-list m b h n = go (role b) h n
     go : {b : Block} → Role b → ProperBlock m b → (facts b .generates ≡ 0 → ⊥) → Names (m .lists) (facts b .generates) × (facts b .rank ≤ maxPriority)
     go (generating list p) h n = unfold facts in h
     go (taking x) h n = absurd (n (unfold facts in refl))
+    go (preempting f) h n = absurd (n (unfold facts in refl))
     go (neither e z) h n = absurd (n e)
 
 pub record Proper (m : BlockModel) (tape : List (List ℕ)) : Type 0 where

@@ -213,7 +213,9 @@ module _ (s : List ℕ) (n : Counts) (capacities : List ℕ) where
         (both (eqb kind 17)
         (then (ranged s 1 6)
         (λ code h. then (code-server code (h .0) (h .1)) (λ v g. then (ranged s 1 Limits.maxBack) (λ c k. gives (λ m at. (g m at, k .1), tt)))))
-        (then (ranged s 2 Limits.maxAssemble) (λ k h. gives (λ m at. h, tt)))))))))))))))))))
+        (both (eqb kind 18) (then (ranged s 2 Limits.maxAssemble) (λ k h. gives (λ m at. h, tt)))
+        (both (eqb kind 19) (then (ranged s 1 (n .facilities)) (λ f h. gives (facility-in f (h .0) (h .1), tt)))
+        (then (ranged s 1 (n .facilities)) (λ f h. gives (facility-in f (h .0) (h .1), tt)))))))))))))))))))))
 
     pub block-parsed : (kinds : ℕ) → Ensures Parsed-block (blockField s kinds n capacities)
     unfolding blockField

@@ -1,8 +1,8 @@
 -- LEAVE as one walk from the front of the QL, under either edition: who takes no more than a number goes. Under edition 1 the number is
 -- the free units and stays; under edition 2 it is B, and who goes takes its units off it. So case a of document 000, section 6, is case b (i).
-use Prim.Native.Nat.{ℕ, zero, suc, _-_, _≤_}
-use mathlib.Core.Path.{_≡_, refl, sym, ap, subst, _∙_}
-use mathlib.Core.Bool.{Bool, true, false, cond, not, _||_, true≢false}
+use Prim.Native.Nat.{ℕ, suc, _-_, _≤_}
+use mathlib.Core.Path.{_≡_, refl, sym, ap, _∙_}
+use mathlib.Core.Bool.{Bool, true, false, cond, not}
 use mathlib.Core.List.{List, [], _∷_}
 use native.Mathlib.Omega.{arith}
 use borrow.Author.Tests.{eq-eqb, eqb-true, eqb-false, ltb-true, ltb-false, le-leb, lt-leb}
@@ -11,12 +11,12 @@ use lib.ListN.{getD}
 use Rattle.machine.specs.Transaction.{Transaction}
 use Rattle.machine.specs.Lists.{those, others, anyOf}
 use Rattle.machine.specs.Term.{View, serverAt, free}
-use Rattle.machine.specs.Block.{Share, facility, storage, shareServer, shareUnits, Block, generate, advance, terminate, takes, frees, waitServer, waitTerms, moves, assign, priority, split, counts, assemble, facts, aboveOne, BlockModel, blockAt}
+use Rattle.machine.specs.Block.{facility, storage, shareServer, shareUnits, Block, generate, advance, terminate, takes, frees, waitServer, waitTerms, moves, assign, priority, split, counts, assemble, preempt, giveBack, facts, aboveOne, BlockModel, blockAt}
 use Rattle.machine.specs.Moves.{Parted, nobody, goes, stays, firstOf, partBy}
 use Rattle.machine.specs.Execute.{unitsOf, fits, firstOfOne, fromFront, queueRemove, partFor}
 use Rattle.machine.specs.Claims.{Each}
-use Rattle.machine.proofs.Proper.{Proper, ProperBlock, Role, generating, taking, neither, role}
-use Rattle.machine.proofs.RunLaws.{each-map}
+use Rattle.machine.proofs.Proper.{Proper, ProperBlock, Role, generating, taking, preempting, neither, role}
+use Rattle.machine.proofs.RunLaws.{each-map, none-at}
 use Rattle.machine.proofs.Waiting.{AtServer}
 
 -- ---- Definition
@@ -112,15 +112,8 @@ module _ (m : BlockModel) where
   -- ---- No block takes or frees more than one unit
 
   above-none : (l : List Block) (i : ℕ) → anyOf aboveOne l ≡ false → aboveOne (getD l i (terminate 0)) ≡ false
-  unfolding anyOf aboveOne
-  above-none [] i h = refl
-  above-none (b ∷ l) i h = go i (aboveOne b) refl h (above-none l)
-    where
-      go : (i : ℕ) (x : Bool) → aboveOne b ≡ x → (x || anyOf aboveOne l) ≡ false
-          → ((i : ℕ) → anyOf aboveOne l ≡ false → aboveOne (getD l i (terminate 0)) ≡ false) → aboveOne (getD (b ∷ l) i (terminate 0)) ≡ false
-      go i true e d rest = absurd (true≢false d)
-      go zero false e d rest = e
-      go (suc i) false e d rest = rest i d
+  unfolding aboveOne
+  above-none l i h = none-at aboveOne (terminate 0) refl l i h
 
   taken-one : (b : Block) → aboveOne b ≡ false → facts b .units ≤ 1
   unfolding aboveOne facts
@@ -137,6 +130,8 @@ module _ (m : BlockModel) where
   taken-one (split n target) h = omega arith
   taken-one (counts c q) h = omega arith
   taken-one (assemble n) h = omega arith
+  taken-one (preempt f) h = omega arith
+  taken-one (giveBack f) h = omega arith
 
   -- case a: then the first is the first of one unit
   pub case-a : anyOf aboveOne (m .blocks) ≡ false → (l : List Transaction) → Each Some l → firstOf l ≡ firstOfOne m l
@@ -184,6 +179,7 @@ role-units : (m : BlockModel) {b : Block} → Role b → ProperBlock m b → 1 �
 unfolding facts shareServer shareUnits
 role-units m (generating list p) k a = absurd (omega arith)
 role-units m (taking (facility v)) k a = omega arith
+role-units m (preempting f) k a = omega arith
 role-units m (taking (storage v b)) k a = k .1 .0
 role-units m (neither e z) k a = absurd (omega arith)
 

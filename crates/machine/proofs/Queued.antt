@@ -17,23 +17,24 @@ use Rattle.machine.specs.Setters.{withUse, withReturning}
 use Rattle.machine.specs.Moves.{lineUp, wake, Parted, firstOf, partBy}
 use Rattle.machine.specs.Execute.{unitsOf}
 use Rattle.machine.specs.Claims.{Each}
-use Rattle.machine.proofs.Proper.{Proper, ProperBlock, servers, Role, generating, taking, neither, role}
+use Rattle.machine.proofs.Proper.{Proper, ProperBlock, servers, Role, generating, taking, preempting, neither, role}
 use Rattle.machine.proofs.RunLaws.{each-map}
 use Rattle.machine.proofs.Sorted.{Sorted, each-passes, some-inserted, at-set, sorted-drop, sorted-those}
 use Rattle.machine.proofs.Lines.{each-lineUp, sorted-lineUp, Both}
 use Rattle.machine.proofs.Waiting.{serverOf, AtServer, serverIn, Next, QlWaits, nobodyFits, nextReady, Queued}
 use Rattle.machine.proofs.Ready.{Grows, grows-not, grows-wake, ql-more, ql-else}
 
--- ---- The units of a SEIZE
+-- ---- The units of a SEIZE or PREEMPT
 
 seize-units : (m : BlockModel) {b : Block} → Role b → ProperBlock m b → 1 ≤ facts b .server → facts b .server ≤ m .facilities → facts b .units ≡ 1
 unfolding facts shareServer shareUnits
 seize-units m (generating list p) k a c = omega arith
 seize-units m (taking (facility v)) k a c = refl
 seize-units m (taking (storage v b)) k a c = omega arith
+seize-units m (preempting f) k a c = refl
 seize-units m (neither e z) k a c = omega arith
 
--- who stands at a SEIZE takes one unit
+-- who stands at a SEIZE or PREEMPT takes one unit
 facility-units : {m : BlockModel} {tape : List (List ℕ)} → Proper m tape → (v : ℕ) (t : Transaction) → 1 ≤ v → v ≤ m .facilities
     → AtServer m v t → unitsOf m t ≡ 1
 facility-units {m} proper v t a b e = seize-units m (role (blockAt m (t .next))) (proper .block (t .next)) (omega arith) (omega arith)
@@ -67,15 +68,15 @@ module _ {m : BlockModel} {t : Transaction} {rel : List Transaction} {l : List S
           (ql-more (grows .keeps) (ql-else (leaves v′ a n) (w .ql-waits first v′ a b)))
 
   -- 4 SEIZE and 6 ENTER, getting in
-  pub taken-queued : {tape : List (List ℕ)} (b holder : ℕ) → Proper m tape → v ≤ servers m → (v ≤ m .facilities → serverIn l v .capacity ≡ 1)
-      → AtServer m v t → unitsOf m t ≡ b → Queued m rel rel (setNth l v (withUse (serverIn l v .inUse + b) holder (serverIn l v))) ql
-  taken-queued b holder proper known whole at units =
+  pub taken-queued : {tape : List (List ℕ)} (b holder : ℕ) (preempted : Bool) → Proper m tape → v ≤ servers m → (v ≤ m .facilities → serverIn l v .capacity ≡ 1)
+      → AtServer m v t → unitsOf m t ≡ b → Queued m rel rel (setNth l v (withUse (serverIn l v .inUse + b) holder preempted (serverIn l v))) ql
+  taken-queued b holder preempted proper known whole at units =
       subst (λ ql′. Queued m rel rel (setNth l v x) ql′) (set-getD ql (v - 1) [])
       (queued-set x q rel (λ v′ a n h. n (sym h ∙ at)) (grows-not rel) (λ first. w .ql-sorted first (v - 1)) (w .ql-stands v one)
       (λ first. waits (w .ql-waits first v one known)))
     where
       x : Server
-      x = withUse (serverIn l v .inUse + b) holder (serverIn l v)
+      x = withUse (serverIn l v .inUse + b) holder preempted (serverIn l v)
 
       waits : QlWaits m (t ∷ rel) (serverIn l v) v q → QlWaits m rel x v q
       waits (nobodyFits h) =
@@ -85,6 +86,27 @@ module _ {m : BlockModel} {t : Transaction} {rel : List Transaction} {l : List S
           (each-map
           (λ u e. lt-leb (unitsOf m u) (free x) (omega (arith, whole f, units, facility-units proper v u one f e, facility-units proper v t one f at)))
           q (w .ql-stands v one))
+
+  -- 19 PREEMPT and 20 RETURN: another holds a facility that stays in use
+  pub handed-queued : (holder : ℕ) (preempted : Bool) → v ≤ servers m → ((v′ : ℕ) → 1 ≤ v′ → (v′ ≡ v → ⊥) → AtServer m v′ t → ⊥)
+      → (QlWaits m (t ∷ rel) (serverIn l v) v q → QlWaits m rel (serverIn l v) v q)
+      → Queued m rel rel (setNth l v (withUse (serverIn l v .inUse) holder preempted (serverIn l v))) ql
+  handed-queued holder preempted known leaves waits =
+      subst (λ ql′. Queued m rel rel (setNth l v x) ql′) (set-getD ql (v - 1) [])
+      (queued-set x q rel leaves (grows-not rel) (λ first. w .ql-sorted first (v - 1)) (w .ql-stands v one) (λ first. alike (waits (w .ql-waits first v one known))))
+    where
+      x : Server
+      x = withUse (serverIn l v .inUse) holder preempted (serverIn l v)
+
+      alike : QlWaits m rel (serverIn l v) v q → QlWaits m rel x v q
+      alike (nobodyFits h) = nobodyFits h
+      alike (nextReady f h) = nextReady f h
+
+  -- nobody fits a facility in use
+  pub in-use-waits : {tape : List (List ℕ)} → Proper m tape → v ≤ m .facilities → serverIn l v .capacity ≡ 1 → 1 ≤ serverIn l v .inUse
+      → QlWaits m rel (serverIn l v) v q
+  in-use-waits proper f whole used =
+      nobodyFits (each-map (λ u e. lt-leb (unitsOf m u) (free (serverIn l v)) (omega (arith, whole, used, facility-units proper v u one f e))) q (w .ql-stands v one))
 
   -- and not getting in
   pub waits-queued : {tape : List (List ℕ)} (t′ : Transaction) → Proper m tape → v ≤ servers m → AtServer m v t → AtServer m v t′

@@ -13,7 +13,7 @@ use borrow.Author.Tests.{ltb-true, ltb-false, eqb-true, eq-eqb}
 use Rattle.machine.specs.Lists.{those, others}
 use Rattle.machine.specs.Block.{BlockModel, facts, blockAt}
 use Rattle.machine.specs.State.{Logged}
-use Rattle.machine.specs.Claims.{noRecord, nextRecord, waitEnd, equalWaits, InOrder}
+use Rattle.machine.specs.Claims.{noRecord, nextRecord, waitEnd, equalWaits, InOrder, factsAt, preemptNames}
 use Rattle.machine.proofs.RunLaws.{cond-cases}
 
 -- ---- Members of a list, and pairs in the order of a list
@@ -245,6 +245,7 @@ module _ (m : BlockModel) (tape : List (List ℕ)) where
   pub record Rivals (a b : Key) : Type 0 where
     pub server : facts (blockAt m (a .block)) .server ≡ facts (blockAt m (b .block)) .server
     pub some-server : facts (blockAt m (a .block)) .server ≡ 0 → ⊥
+    pub unnamed : preemptNames m tape (facts (blockAt m (a .block)) .server) ≡ false
     pub units : facts (blockAt m (a .block)) .units ≡ facts (blockAt m (b .block)) .units
     pub priority : a .priority ≡ b .priority
 
@@ -253,9 +254,9 @@ module _ (m : BlockModel) (tape : List (List ℕ)) where
   EndsInOrder n ks = (older k : Key) → Behind older k ks → k .number ≡ n → Rivals older k → ⊥
 
   rivals :
-      (a b : Logged) → T (equalWaits m tape a b) → (a .entry .outcome ≡ 1) × (b .entry .outcome ≡ 1) × Rivals (keyOf a) (keyOf b)
+      (a b : Logged) → T (equalWaits m tape a b) → preemptNames m tape (factsAt m tape a .server) ≡ false → (a .entry .outcome ≡ 1) × (b .entry .outcome ≡ 1) × Rivals (keyOf a) (keyOf b)
   unfolding equalWaits
-  rivals a b h =
+  rivals a b h free =
       let e = all-six (eqb (a .entry .outcome) 1) (eqb (b .entry .outcome) 1) (not (eqb (server a) 0))
       (eqb (server a) (server b)) (eqb (a .priority) (b .priority)) (eqb (units a) (units b)) h in (
         eqb→eq _ _ (e .0),
@@ -263,6 +264,7 @@ module _ (m : BlockModel) (tape : List (List ℕ)) where
         record {
           server = eqb→eq _ _ (e .3);
           some-server = λ z. T-not (eqb (server a) 0) (e .2) (rw z tt);
+          unnamed = free;
           units = eqb→eq _ _ (e .5);
           priority = eqb→eq _ _ (e .4);
         },
@@ -276,10 +278,10 @@ module _ (m : BlockModel) (tape : List (List ℕ)) where
 
   order-step :
       (l : List Logged) (r : Logged) → InOrder m tape l
-      → ((i k : ℕ) → i < k → k < length l → T (equalWaits m tape (recordAt l i) (recordAt l k)) → Open l i → Open l k
+      → ((i k : ℕ) → i < k → k < length l → T (equalWaits m tape (recordAt l i) (recordAt l k)) → preemptNames m tape (factsAt m tape (recordAt l i) .server) ≡ false → Open l i → Open l k
       → r .entry .transaction ≡ numberAt l k → ⊥)
       → InOrder m tape (more l r)
-  order-step l r before alone i k ik h w e = go (last-or-before k (length l) (omega (arith, length-append l (r ∷ []))))
+  order-step l r before alone i k ik h w u e = go (last-or-before k (length l) (omega (arith, length-append l (r ∷ []))))
     where
       go : (k ≡ length l) ⊎ (k < length l) → waitEnd (more l r) i < waitEnd (more l r) k
       go (inl d) = absurd (omega (arith, later (more l r) k, length-append l (r ∷ [])))
@@ -291,6 +293,9 @@ module _ (m : BlockModel) (tape : List (List ℕ)) where
           w′ : T (equalWaits m tape (recordAt l i) (recordAt l k))
           w′ = rw (at-more l r i c, at-more l r k d) at w
 
+          u′ : preemptNames m tape (factsAt m tape (recordAt l i) .server) ≡ false
+          u′ = rw (at-more l r i c) at u
+
           -- the new record ends the wait of k
           closes :
               Open l k → (b : Bool) → eqb (r .entry .transaction) (numberAt l k) ≡ b → waitEnd (more l r) k ≡ length l + cond b 0 1
@@ -298,13 +303,13 @@ module _ (m : BlockModel) (tape : List (List ℕ)) where
           closes o true q n true p =
               let f : waitEnd l i < length l = ltb-true _ _ p in
               omega (arith, end-kept l r i c f)
-          closes o true q n false p = absurd (alone i k ik d w′ (ltb-false _ _ p) o (eqb-true _ _ q))
+          closes o true q n false p = absurd (alone i k ik d w′ u′ (ltb-false _ _ p) o (eqb-true _ _ q))
           closes o false q n x p = absurd (omega (arith, length-append l (r ∷ [])))
 
           ended : (b : Bool) → ltb (waitEnd l k) (length l) ≡ b → waitEnd (more l r) i < waitEnd (more l r) k
           ended true q =
               let f : waitEnd l k < length l = ltb-true _ _ q in
-              let g = before i k ik d w′ f in
+              let g = before i k ik d w′ u′ f in
               omega (arith, end-kept l r i c (omega arith), end-kept l r k d f)
           ended false q =
               let o : Open l k = ltb-false _ _ q in
@@ -315,5 +320,5 @@ module _ (m : BlockModel) (tape : List (List ℕ)) where
     order-more before =
         rw reverse-cons
         (order-step (reverse rs) r before
-        (λ i k ik h w e q n.
-        let v = rivals _ _ w in ends _ _ (found-behind rs i k ik h (v .0) (v .1) e q) (sym n) (v .2)))
+        (λ i k ik h w u e q n.
+        let v = rivals _ _ w u in ends _ _ (found-behind rs i k ik h (v .0) (v .1) e q) (sym n) (v .2)))

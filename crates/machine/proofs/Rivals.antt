@@ -9,17 +9,17 @@ use mathlib.Core.Option.{none}
 use native.Mathlib.Omega.{arith}
 use lib.Dec.{eqb, ltb, leb}
 use lib.ListN.{length, getD}
-use borrow.Author.Tests.{ltb-true, ltb-false}
+use borrow.Author.Tests.{ltb-true, ltb-false, eq-eqb, ne-eqb}
 use Rattle.machine.specs.Transaction.{Transaction, precedes}
 use Rattle.machine.specs.Lists.{flat}
 use Rattle.machine.specs.Term.{View, free}
-use Rattle.machine.specs.Block.{Block, facts, BlockModel, blockAt}
+use Rattle.machine.specs.Block.{Block, facts, BlockModel, blockAt, terminate}
 use Rattle.machine.specs.State.{State}
 use Rattle.machine.specs.Execute.{unitsOf}
 use Rattle.machine.specs.Turn.{holds, waitsOn}
-use Rattle.machine.specs.Claims.{Each, bit}
-use Rattle.machine.proofs.Proper.{servers, Role, generating, taking, neither, role}
-use Rattle.machine.proofs.RunLaws.{cond-cases}
+use Rattle.machine.specs.Claims.{Each, bit, preemptNames}
+use Rattle.machine.proofs.Proper.{servers, Role, generating, taking, preempting, neither, role}
+use Rattle.machine.proofs.RunLaws.{cond-cases, none-at}
 use Rattle.machine.proofs.Sorted.{Some, Before, before-precedes}
 use Rattle.machine.proofs.Waiting.{serverOf, serverIn, QlWaits, nobodyFits, nextReady, Queued, Gated}
 use Rattle.machine.proofs.Records.{Key, Member, Behind, opens, Rivals, EndsInOrder}
@@ -39,7 +39,21 @@ takes-or-not : {b : Block} → Role b → (facts b .server ≡ 0) ⊎ OnlyQl b
 unfolding facts OnlyQl
 takes-or-not (generating list p) = inl refl
 takes-or-not (taking x) = inr (refl, refl)
+takes-or-not (preempting f) = inr (refl, refl)
 takes-or-not (neither e z) = inl z
+
+-- ---- A block that takes a server that no PREEMPT names is no PREEMPT
+
+preempts-none : (m : BlockModel) (tape : List (List ℕ)) (n : ℕ) → (facts (blockAt m n) .server ≡ 0 → ⊥) → preemptNames m tape (facts (blockAt m n) .server) ≡ false
+    → facts (blockAt m n) .preempts ≡ 0
+unfolding preemptNames facts
+preempts-none m tape n some h = go (role (blockAt m n)) some (none-at (λ b. eqb (facts b .preempts) (facts (blockAt m n) .server)) (terminate 0) (ne-eqb _ _ (λ z. some (sym z))) (m .blocks) (n - 1) h)
+  where
+    go : {b : Block} → Role b → (facts b .server ≡ 0 → ⊥) → eqb (facts b .preempts) (facts b .server) ≡ false → facts b .preempts ≡ 0
+    go (generating list p) some e = refl
+    go (taking x) some e = refl
+    go (preempting f) some e = absurd (true≢false (sym (eq-eqb f f refl) ∙ e))
+    go (neither g z) some e = absurd (some z)
 
 -- ---- Who precedes whom
 
@@ -108,6 +122,10 @@ Standing m t s = StandingOn m t (s .view) (s .ql) (s .wel) (s .wsl) (s .rel)
 -- an older rival w of one that gets in stands on none of the lists
 module _ (m : BlockModel) (tape : List (List ℕ)) (t : Transaction) (s : State) (in-place : Standing m t s)
     (gets-in : GetsIn (blockAt m (t .next)) s) (w : Wait) (rival : Rivals m tape (w .key) (waitOf t .key)) (older : w .serial < t .serial) (first : m .edition ≡ 1) where
+  -- the block is no PREEMPT
+  unpreempted : facts (blockAt m (t .next)) .preempts ≡ 0
+  unpreempted = preempts-none m tape (t .next) (λ z. rival .some-server (rival .server ∙ z)) (subst (λ v. preemptNames m tape v ≡ false) (rival .server) (rival .unnamed))
+
   only-ql : (u : Transaction) → w ≡ waitOf u → OnlyQl (blockAt m (u .next))
   only-ql u e = go (takes-or-not (role (blockAt m (u .next))))
     where
@@ -156,7 +174,7 @@ module _ (m : BlockModel) (tape : List (List ℕ)) (t : Transaction) (s : State)
           let units : unitsOf m t ≡ unitsOf m u =
           sym (rival .units) ∙ ap (λ (x : Wait). facts (blockAt m (x .key .block)) .units) (only-equal w _ p) in
           true≢false
-          (sym (gets-in (λ z. omega arith)) ∙ ap₂ (λ (n v : ℕ). leb n (free (serverIn (s .view .servers) v))) units same ∙ q))
+          (sym (gets-in (λ z. omega arith) unpreempted) ∙ ap₂ (λ (n v : ℕ). leb n (free (serverIn (s .view .servers) v))) units same ∙ q))
       waits same (nextReady f (inl n)) = some-each l h (n .1) (λ u p q. unless-before u t (before u (only-equal w _ p)) q)
       waits same (nextReady f (inr r)) =
           some-each (s .rel) r (in-place .queued .rel-sorted .0)

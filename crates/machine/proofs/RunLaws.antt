@@ -7,7 +7,9 @@ use mathlib.Core.List.{List, [], _∷_, _++_}
 use native.Mathlib.Omega.{arith}
 use borrow.Author.Tests.{eqb-true, eqb-false, eq-eqb, ne-eqb, leb-false, ltb-false, not-true, not-false}
 use lib.Dec.{T, eqb, leb, ltb}
+use lib.ListN.{getD}
 use Rattle.machine.specs.Limits.{maxSerial, maxTurns, recordRoom}
+use Rattle.machine.specs.Lists.{anyOf}
 use Rattle.machine.specs.Block.{BlockModel}
 use Rattle.machine.specs.State.{State}
 use Rattle.machine.specs.Setters.{setEnd}
@@ -26,6 +28,16 @@ pub or-false : (a b : Bool) → (a || b) ≡ false → (a ≡ false) × (b ≡ f
 or-false true true e = (e, e)
 or-false true false e = (e, refl)
 or-false false b e = (refl, e)
+
+-- where none of a list passes a test, neither does the one at an index, or the default
+pub none-at : {A : Type 0} (p : A → Bool) (d : A) → p d ≡ false → (l : List A) (i : ℕ) → anyOf p l ≡ false → p (getD l i d) ≡ false
+unfolding anyOf
+none-at p d else [] i h = else
+none-at p d else (b ∷ l) i h = go i (or-false (p b) (anyOf p l) h) (none-at p d else l)
+  where
+    go : (i : ℕ) → (p b ≡ false) × (anyOf p l ≡ false) → ((i : ℕ) → anyOf p l ≡ false → p (getD l i d) ≡ false) → p (getD (b ∷ l) i d) ≡ false
+    go zero both rest = both .0
+    go (suc i) both rest = rest i (both .1)
 
 -- ---- Each
 

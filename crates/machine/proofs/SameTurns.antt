@@ -8,13 +8,13 @@ use mathlib.Core.Option.{Option, none, some}
 use borrow.Author.Tests.{eqb-true, eqb-false}
 use lib.Dec.{eqb}
 use Rattle.machine.specs.Rules.{Rules}
-use Rattle.machine.specs.Transaction.{Transaction}
+use Rattle.machine.specs.Transaction.{Transaction, Event, Interrupted}
 use Rattle.machine.specs.Term.{Server, Queue, View}
-use Rattle.machine.specs.Block.{Share, facility, storage, shareServer, shareUnits, Block, generate, advance, terminate, takes, frees, waitServer, waitTerms, moves, assign, priority, split, counts, assemble, BlockModel, blockAt, beginsGroup}
+use Rattle.machine.specs.Block.{Share, facility, storage, shareServer, shareUnits, Block, generate, advance, terminate, takes, frees, waitServer, waitTerms, moves, assign, priority, split, counts, assemble, preempt, giveBack, BlockModel, blockAt, beginsGroup}
 use Rattle.machine.specs.State.{State, Logged}
 use Rattle.machine.specs.Setters.{setMoving, setTurns, setEnd}
-use Rattle.machine.specs.Moves.{enters, goOn, qlOf, wakeQl}
-use Rattle.machine.specs.Execute.{question, unitsOf, fits, firstOfOne, fromFront, queueRemove, partFor, wakeFor, checkWels, freeUnits, effect, takeUnits}
+use Rattle.machine.specs.Moves.{enters, goOn, qlOf, wakeQl, losersTo, interruptedAt, mustWait, beginWait}
+use Rattle.machine.specs.Execute.{question, unitsOf, fits, firstOfOne, fromFront, queueRemove, partFor, wakeFor, checkWels, freeUnits, effect, takeUnits, preempting, givesBack}
 use Rattle.machine.specs.Turn.{taking, answer, execute, waitsOn, wsScheme, turn}
 use Rattle.machine.specs.Run.{endBefore, idle, start, runFrom, run, steps}
 use Rattle.machine.specs.Report.{recordsAt, serverNumbers, queueNumbers, reportNumbers, reportBytes}
@@ -51,6 +51,17 @@ module _ (new : Rules) (m : BlockModel) where
   unfolding wakeFor wakeQl
   wakes-same x s = rw (part-same x (s .view) (qlOf s (shareServer x)))
 
+  preempt-same : (l : List Event) (f : ℕ) (t : Transaction) (s : State)
+      → preempting (λ f. f (enters t s)) (λ put. mustWait put t s) (λ f. f s) (λ put. beginWait put t s) l m′ f t s
+      ≡ preempting (λ f. f (enters t s)) (λ put. mustWait put t s) (λ f. f s) (λ put. beginWait put t s) l m f t s
+  preempt-same [] f t s = refl
+  preempt-same (e ∷ l) f t s = refl
+
+  gives-same : (l : List Interrupted) (f : ℕ) (s : State) → givesBack m′ l f s ≡ givesBack m l f s
+  unfolding givesBack
+  gives-same [] f s = wakes-same (facility f) (freeUnits f 1 s)
+  gives-same (i ∷ l) f s = refl
+
   effect-same : (b : Block) (t : Transaction) (s : State) → effect m′ b t s ≡ effect m b t s
   unfolding effect takeUnits beginsGroup
   effect-same (generate list p) t s = refl
@@ -66,6 +77,8 @@ module _ (new : Rules) (m : BlockModel) where
   effect-same (split n target) t s = refl
   effect-same (counts c q) t s = refl
   effect-same (assemble n) t s = refl
+  effect-same (preempt f) t s = preempt-same (losersTo t f s) f t s
+  effect-same (giveBack f) t s = ap (λ s. goOn t (checkWels f s)) (gives-same (interruptedAt s f) f (enters t s))
 
   scheme-same : (s : State) → wsScheme m′ s ≡ wsScheme m s
   unfolding wsScheme waitsOn

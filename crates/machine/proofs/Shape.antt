@@ -191,10 +191,10 @@ module _ {m : BlockModel} {w : View} {ql wel : List (List Transaction)} {gathere
         within = h .within;
       }
 
-  pub shape-units : (v n holder : ℕ) → n ≤ serverAt w v .capacity
-      → Shaped m (setServers (setNth (w .servers) v (withUse n holder (serverAt w v))) w) ql wel gatherers samples
+  pub shape-units : (v n holder : ℕ) (preempted : Bool) → n ≤ serverAt w v .capacity
+      → Shaped m (setServers (setNth (w .servers) v (withUse n holder preempted (serverAt w v))) w) ql wel gatherers samples
   unfolding serverAt
-  shape-units v n holder le =
+  shape-units v n holder preempted le =
       record {
         ql-length = h .ql-length;
         wel-length = h .wel-length;
@@ -280,7 +280,7 @@ module _ (m : BlockModel) where
       record {
         entries = λ i n s h. shape-entries h i n;
         queues = λ i q s h. shape-queues h i q;
-        units = λ v n holder s le h. shape-units h v n holder (le (server-within h v));
+        units = λ v n holder preempted s le h. shape-units h v n holder preempted (le (server-within h v));
         clock = λ time ticks s h. shape-clock h time ticks;
         ql = λ i l s h. shape-ql h i l;
         wel = λ i l s h. shape-wel h i l;
@@ -289,6 +289,7 @@ module _ (m : BlockModel) where
         rel = λ l s h. h;
         fel = λ l s h. h;
         gatherers = λ i l s h. shape-gatherers h i l;
+        interrupted = λ l s h. h;
         moving = λ o s h. h;
         serial = λ n s h. h;
         counter = λ n s h. h;

@@ -5,13 +5,13 @@ use Prim.Native.Nat.{ℕ, zero, suc, _<_, _≤_}
 use mathlib.Core.Path.{_≡_, refl, sym, _∙_}
 use mathlib.Core.Bool.{Bool, true, false, _&&_, _||_, true≢false}
 use mathlib.Core.Logic.{_⊎_, inl, inr}
-use mathlib.Core.List.{List, [], _∷_}
+use mathlib.Core.List.{List, [], _∷_, _++_}
 use native.Mathlib.Omega.{arith}
 use lib.Dec.{ltb, eqb}
 use lib.ListN.{getD, set, drop}
 use borrow.Author.Tests.{ltb-true, ltb-false, lt-ltb, eqb-true, eq-eqb}
 use Rattle.machine.specs.Transaction.{Transaction, precedes, Event, earlier}
-use Rattle.machine.specs.Lists.{insert, those}
+use Rattle.machine.specs.Lists.{insert, those, replaceFirst}
 use Rattle.machine.specs.Claims.{Each}
 use Rattle.machine.proofs.RunLaws.{cond-cases, each-map}
 
@@ -37,6 +37,16 @@ module _ {A : Type 0} where
   each-those P p [] h = tt
   each-those P p (x ∷ l) h =
       cond-cases (Each P) (p x) _ _ (λ e. (h .0, each-those P p l (h .1))) (λ e. each-those P p l (h .1))
+
+  pub each-replace : (P : A → Type 0) (p : A → Bool) (few l : List A) → Each P few → Each P l → Each P (replaceFirst p few l)
+  unfolding replaceFirst
+  each-replace P p few [] k h = tt
+  each-replace P p few (x ∷ l) k h =
+      cond-cases (Each P) (p x) _ _ (λ e. joined few l k (h .1)) (λ e. (h .0, each-replace P p few l k (h .1)))
+    where
+      joined : (a b : List A) → Each P a → Each P b → Each P (a ++ b)
+      joined [] b h k = k
+      joined (x ∷ a) b h k = (h .0, joined a b (h .1) k)
 
   -- each of those that pass a test passes it
   pub each-passes : (p : A → Bool) (l : List A) → Each (λ x. p x ≡ true) (those p l)

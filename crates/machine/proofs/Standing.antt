@@ -4,7 +4,7 @@ use mathlib.Core.Path.{_≡_}
 use mathlib.Core.List.{List, _++_, map}
 use native.Mathlib.Omega.{arith}
 use lib.Dec.{eqb}
-use Rattle.machine.specs.Transaction.{Transaction, Event, Gatherer}
+use Rattle.machine.specs.Transaction.{Transaction, Event, Gatherer, Interrupted}
 use Rattle.machine.specs.Lists.{flat}
 use Rattle.machine.specs.State.{State}
 use Rattle.machine.specs.Report.{Place, placed, movingOne, places}
@@ -23,11 +23,15 @@ module _ (f : Place → ℕ) where
   pub sum-places : (s : State) →
       sumOn f (places s)
       ≡ sumOn (at 1) (flat (s .ql)) + sumOn (at 2) (flat (s .wel)) + sumOn (at 3) (s .wsl) + sumOn (λ (e : Event). at 4 (e .who)) (s .fel) + sumOn (at 5) (s .rel)
-      + sumOn (at 6) (movingOne (s .moving)) + sumOn (λ (g : Gatherer). at 7 (g .who)) (flat (s .gatherers))
+      + sumOn (at 6) (movingOne (s .moving)) + sumOn (λ (g : Gatherer). at 7 (g .who)) (flat (s .gatherers)) + sumOn (λ (i : Interrupted). at 8 (i .who)) (s .interrupted)
   unfolding places
   sum-places s =
       omega (
         arith,
+        sum-append f
+            (placed 1 (flat (s .ql)) ++ placed 2 (flat (s .wel)) ++ placed 3 (s .wsl) ++ placed 4 (map (λ e. e .who) (s .fel)) ++ placed 5 (s .rel) ++ placed 6 (movingOne (s .moving))
+            ++ placed 7 (map (λ g. g .who) (flat (s .gatherers))))
+            (placed 8 (map (λ i. i .who) (s .interrupted))),
         sum-append f
             (placed 1 (flat (s .ql)) ++ placed 2 (flat (s .wel)) ++ placed 3 (s .wsl) ++ placed 4 (map (λ e. e .who) (s .fel)) ++ placed 5 (s .rel) ++ placed 6 (movingOne (s .moving)))
             (placed 7 (map (λ g. g .who) (flat (s .gatherers)))),
@@ -45,6 +49,8 @@ module _ (f : Place → ℕ) where
         sum-placed 6 (movingOne (s .moving)),
         sum-placed 7 (map (λ g. g .who) (flat (s .gatherers))),
         sum-map (at 7) (λ (g : Gatherer). g .who) (flat (s .gatherers)),
+        sum-placed 8 (map (λ i. i .who) (s .interrupted)),
+        sum-map (at 8) (λ (i : Interrupted). i .who) (s .interrupted),
       )
 
 -- ---- How often a number stands there
@@ -55,7 +61,8 @@ times-standing s n =
     omega (
       arith,
       sum-places (λ p. bit (eqb (p .number) n)) s,
-      sum-count (λ (t : Transaction). eqb (t .number) n) (flat (s .ql) ++ flat (s .wel) ++ s .wsl ++ s .rel ++ map (λ e. e .who) (s .fel) ++ movingOne (s .moving) ++ map (λ g. g .who) (flat (s .gatherers))),
+      sum-count (λ (t : Transaction). eqb (t .number) n) (flat (s .ql) ++ flat (s .wel) ++ s .wsl ++ s .rel ++ map (λ e. e .who) (s .fel) ++ movingOne (s .moving) ++ map (λ g. g .who) (flat (s .gatherers)) ++ map (λ i. i .who) (s .interrupted)),
+      sum-append is (flat (s .ql) ++ flat (s .wel) ++ s .wsl ++ s .rel ++ map (λ e. e .who) (s .fel) ++ movingOne (s .moving) ++ map (λ g. g .who) (flat (s .gatherers))) (map (λ i. i .who) (s .interrupted)),
       sum-append is (flat (s .ql) ++ flat (s .wel) ++ s .wsl ++ s .rel ++ map (λ e. e .who) (s .fel) ++ movingOne (s .moving)) (map (λ g. g .who) (flat (s .gatherers))),
       sum-append is (flat (s .ql) ++ flat (s .wel) ++ s .wsl ++ s .rel ++ map (λ e. e .who) (s .fel)) (movingOne (s .moving)),
       sum-append is (flat (s .ql) ++ flat (s .wel) ++ s .wsl ++ s .rel) (map (λ e. e .who) (s .fel)),
@@ -64,6 +71,7 @@ times-standing s n =
       sum-append is (flat (s .ql)) (flat (s .wel)),
       sum-map is (λ (e : Event). e .who) (s .fel),
       sum-map is (λ (g : Gatherer). g .who) (flat (s .gatherers)),
+      sum-map is (λ (i : Interrupted). i .who) (s .interrupted),
     )
   where
     is : Transaction → ℕ

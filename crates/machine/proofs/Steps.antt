@@ -2,22 +2,21 @@
 -- family; or it is put back, or goes back to the first block of its group, and nothing is written.
 use Prim.Native.Nat.{ℕ, _+_, _-_, _<_}
 use mathlib.Core.Path.{_≡_, refl}
-use mathlib.Core.Bool.{true, false}
+use mathlib.Core.Bool.{Bool, true, false}
 use mathlib.Core.List.{List}
 use native.Mathlib.Omega.{arith}
 use lib.Dec.{leb}
 use lib.ListN.{length}
-use Rattle.machine.specs.Transaction.{Transaction, precedes, Gatherer}
-use Rattle.machine.specs.Lists.{insert}
+use Rattle.machine.specs.Transaction.{Transaction, precedes, Gatherer, Event, Interrupted}
 use Rattle.machine.specs.Term.{serverAt, free}
-use Rattle.machine.specs.Block.{Code, Share, facility, storage, shareServer, shareUnits, Block, generate, advance, terminate, takes, frees, waitServer, waitTerms, moves, assign, priority, split, counts, assemble, facts, BlockModel, welIndex}
+use Rattle.machine.specs.Block.{Code, Share, facility, shareServer, shareUnits, Block, generate, advance, terminate, takes, frees, waitServer, waitTerms, moves, assign, priority, split, counts, assemble, preempt, giveBack, facts, BlockModel, welIndex}
 use Rattle.machine.specs.State.{State}
 use Rattle.machine.specs.Setters.{withSerial, setSerial, setGatherers, setEnded}
-use Rattle.machine.specs.Moves.{log, enters, moveTo, fresh, qlOf, welOf, lineUp, toQl, toWel, toWsl, mustWait, setUse, setContent, toGatherers, comes, released}
-use Rattle.machine.specs.Execute.{takeUnits, wakeFor, endsOne, effect}
+use Rattle.machine.specs.Moves.{log, enters, moveTo, fresh, qlOf, welOf, lineUp, toQl, toWel, toWsl, mustWait, setUse, setContent, toGatherers, comes, released, toFel, interrupt, resume}
+use Rattle.machine.specs.Execute.{takeUnits, endsOne, effect}
 use Rattle.machine.proofs.Proper.{ProperBlock, servers}
 use Rattle.machine.proofs.RunLaws.{cond-cases}
-use Rattle.machine.proofs.Cases.{waitServer-cases, waitTerms-cases, assemble-cases}
+use Rattle.machine.proofs.Cases.{waitServer-cases, waitTerms-cases, assemble-cases, preempt-cases, giveBack-cases}
 use Rattle.machine.proofs.Shape.{Shape, ql-at, wel-at}
 use Rattle.machine.proofs.Proper.{code-server, share-server}
 use Rattle.machine.proofs.Waiting.{serverIn}
@@ -34,9 +33,9 @@ pub record Puts (t : Transaction) (s s′ : State) : Type 0 where
   pub weights : (f : Wait → ℕ) → waiting f s′ ≡ weight f t + waiting f s
   pub moving : s′ .moving ≡ s .moving
 
--- who is about to take units of a server finds them free
+-- who is about to take units of a server, and not by PREEMPT, finds them free
 abbrev pub GetsIn : Block → State → Type 0
-GetsIn b s = (facts b .server ≡ 0 → ⊥) → leb (facts b .units) (free (serverIn (s .view .servers) (facts b .server))) ≡ true
+GetsIn b s = (facts b .server ≡ 0 → ⊥) → facts b .preempts ≡ 0 → leb (facts b .units) (free (serverIn (s .view .servers) (facts b .server))) ≡ true
 
 pub data Step (b : Block) (t : Transaction) (s s′ : State) : Type 0 where
   passes : GetsIn b s → Quiet (enters t s) s′ → Step b t s s′
@@ -105,9 +104,9 @@ quiet-moveTo : (n : ℕ) (t : Transaction) {a s : State} → Quiet a s → Quiet
 unfolding moveTo waiting
 quiet-moveTo n t h = record { records = h .records; serials = h .serials; weights = h .weights; moving = λ u. refl }
 
-quiet-use : (v n holder : ℕ) (s : State) → Quiet s (setUse v n holder s)
+quiet-use : (v n holder : ℕ) (preempted : Bool) (s : State) → Quiet s (setUse v n holder preempted s)
 unfolding setUse waiting
-quiet-use v n holder s = record { records = refl; serials = omega arith; weights = λ f. refl; moving = λ h. h }
+quiet-use v n holder preempted s = record { records = refl; serials = omega arith; weights = λ f. refl; moving = λ h. h }
 
 quiet-content : (q n : ℕ) (s : State) → Quiet s (setContent q n s)
 unfolding setContent waiting
@@ -117,12 +116,21 @@ quiet-endsOne : (a : ℕ) (s : State) → Quiet s (endsOne a s)
 unfolding endsOne waiting
 quiet-endsOne a s = record { records = refl; serials = omega arith; weights = λ f. refl; moving = λ h. h }
 
-step-takeUnits : (m : BlockModel) (x : Share) (t : Transaction) (s : State) → shareServer x - 1 < length (s .ql) → Step (takes x) t s (takeUnits m x t s)
-unfolding takeUnits facts serverAt
-step-takeUnits m x t s h =
-    cond-cases (Step (takes x) t s) (leb (shareUnits x) (free (serverAt (s .view) (shareServer x)))) _ _
-    (λ e. passes (λ n. e) (quiet-moveTo _ t (quiet-trans (quiet-use (shareServer x) _ _ _) (quiet-checkWels (shareServer x) _))))
-    (λ e. step-ql (takes x) (m .edition) (shareServer x) t s h)
+step-takeUnits : (m : BlockModel) (b : Block) (x : Share) (preempts : Bool) (t : Transaction) (s : State)
+    → (leb (shareUnits x) (free (serverAt (s .view) (shareServer x))) ≡ true → GetsIn b s) → shareServer x - 1 < length (s .ql) → Step b t s (takeUnits m x preempts t s)
+unfolding takeUnits
+step-takeUnits m b x preempts t s gets h =
+    cond-cases (Step b t s) (leb (shareUnits x) (free (serverAt (s .view) (shareServer x)))) _ _
+    (λ e. passes (gets e) (quiet-moveTo _ t (quiet-trans (quiet-use (shareServer x) _ _ _ _) (quiet-checkWels (shareServer x) _))))
+    (λ e. step-ql b (m .edition) (shareServer x) t s h)
+
+quiet-interrupt : (e : Event) (t : Transaction) (f : ℕ) (s : State) → Quiet s (interrupt e t f s)
+unfolding interrupt waiting
+quiet-interrupt e t f s = record { records = refl; serials = omega arith; weights = λ f. refl; moving = λ h. h }
+
+quiet-resume : (i : Interrupted) (f : ℕ) (s : State) → Quiet s (resume i f s)
+unfolding resume toFel waiting
+quiet-resume i f s = record { records = refl; serials = omega arith; weights = λ f. refl; moving = λ h. h }
 
 -- gatherers wait for no units
 quiet-gatherers : (l : List (List Gatherer)) (s : State) → Quiet s (setGatherers l s)
@@ -136,30 +144,40 @@ quiet-ended n s = record { records = refl; serials = omega arith; weights = λ f
 -- ---- Each kind
 
 pub step-effect : (m : BlockModel) (b : Block) (t : Transaction) (s : State) → ProperBlock m b → Shape m s → Step b t s (effect m b t s)
-unfolding effect facts serverAt takeUnits toGatherers comes released
-step-effect m (generate list p) t s h k = passes (λ n. absurd (n refl)) (quiet-moveTo _ t (quiet-arrival _ list p _ _))
-step-effect m (advance list) t s h k = passes (λ n. absurd (n refl)) (quiet-delay _ list t _)
-step-effect m (terminate a) t s h k = passes (λ n. absurd (n refl)) (quiet-endsOne a _)
+unfolding effect facts serverAt takeUnits toGatherers comes released shareServer
+step-effect m (generate list p) t s h k = passes (λ n z. absurd (n refl)) (quiet-moveTo _ t (quiet-arrival _ list p _ _))
+step-effect m (advance list) t s h k = passes (λ n z. absurd (n refl)) (quiet-delay _ list t _)
+step-effect m (terminate a) t s h k = passes (λ n z. absurd (n refl)) (quiet-endsOne a _)
 step-effect m (takes x) t s h k =
     let n = share-server m x h in
-    step-takeUnits m x t s (ql-at k (shareServer x) (n .0) (n .1))
+    step-takeUnits m (takes x) x false t s (λ e n z. e) (ql-at k (shareServer x) (n .0) (n .1))
 step-effect m (frees x) t s h k =
-    passes (λ n. absurd (n refl))
-    (quiet-moveTo _ t (quiet-trans (quiet-use (shareServer x) _ _ _) (quiet-trans (quiet-wakeFor m x _) (quiet-checkWels (shareServer x) _))))
+    passes (λ n z. absurd (n refl))
+    (quiet-moveTo _ t (quiet-trans (quiet-use (shareServer x) _ _ _ _) (quiet-trans (quiet-wakeFor m x _) (quiet-checkWels (shareServer x) _))))
 step-effect m (waitServer code v c) t s h k =
     let n = code-server m code v (h .0) in
     waitServer-cases (Step (waitServer code v c) t s) m code v c t s (λ e. step-wel _ (m .edition) v code t s (wel-at k v code (n .0) (n .1)))
     (λ e. returns refl (quiet-moveTo _ t (quiet-wakeFirstWel v code s)))
-    (λ e. passes (λ n. absurd (n refl)) (quiet-moveTo _ _ (quiet-wakeFirstWel v code _)))
+    (λ e. passes (λ n z. absurd (n refl)) (quiet-moveTo _ _ (quiet-wakeFirstWel v code _)))
 step-effect m (waitTerms a r b) t s h k =
     waitTerms-cases (Step (waitTerms a r b) t s) m a r b t s (λ e. step-wsl _ t s)
-    (λ e. passes (λ n. absurd (n refl)) (quiet-moveTo _ t (quiet-refl _)))
-step-effect m (moves c target) t s h k = passes (λ n. absurd (n refl)) (quiet-moveTo _ t (quiet-refl _))
-step-effect m (assign i a) t s h k = passes (λ n. absurd (n refl)) (quiet-moveTo _ _ (quiet-refl _))
-step-effect m (priority p) t s h k = passes (λ n. absurd (n refl)) (quiet-toRel _ _ refl)
-step-effect m (split n target) t s h k = passes (λ n. absurd (n refl)) (quiet-moveTo _ t (quiet-copies n target t _))
-step-effect m (counts c q) t s h k = passes (λ n. absurd (n refl)) (quiet-moveTo _ t (quiet-content q _ _))
+    (λ e. passes (λ n z. absurd (n refl)) (quiet-moveTo _ t (quiet-refl _)))
+step-effect m (moves c target) t s h k = passes (λ n z. absurd (n refl)) (quiet-moveTo _ t (quiet-refl _))
+step-effect m (assign i a) t s h k = passes (λ n z. absurd (n refl)) (quiet-moveTo _ _ (quiet-refl _))
+step-effect m (priority p) t s h k = passes (λ n z. absurd (n refl)) (quiet-toRel _ _ refl)
+step-effect m (split n target) t s h k = passes (λ n z. absurd (n refl)) (quiet-moveTo _ t (quiet-copies n target t _))
+step-effect m (counts c q) t s h k = passes (λ n z. absurd (n refl)) (quiet-moveTo _ t (quiet-content q _ _))
 step-effect m (assemble n) t s h k =
     assemble-cases (Step (assemble n) t s) m n t s (λ e. assembles refl (quiet-gatherers _ _))
-    (λ g l e z. passes (λ n. absurd (n refl)) (quiet-trans (quiet-ended _ _) (quiet-trans (quiet-gatherers _ _) (quiet-toRel _ _ refl))))
-    (λ g l e z. passes (λ n. absurd (n refl)) (quiet-trans (quiet-ended _ _) (quiet-gatherers _ _)))
+    (λ g l e z. passes (λ n z. absurd (n refl)) (quiet-trans (quiet-ended _ _) (quiet-trans (quiet-gatherers _ _) (quiet-toRel _ _ refl))))
+    (λ g l e z. passes (λ n z. absurd (n refl)) (quiet-trans (quiet-ended _ _) (quiet-gatherers _ _)))
+step-effect m (preempt f) t s h k =
+    preempt-cases (Step (preempt f) t s) m f t s
+    (λ e. step-takeUnits m (preempt f) (facility f) true t s (λ e n z. absurd (omega (arith, h .0))) (ql-at k f (h .0) (omega (arith, h .1))))
+    (λ x l e.
+    passes (λ n z. absurd (omega (arith, h .0)))
+    (quiet-moveTo _ t (quiet-trans (quiet-interrupt x t f _) (quiet-trans (quiet-use f _ _ _ _) (quiet-checkWels f _)))))
+step-effect m (giveBack f) t s h k =
+    giveBack-cases (Step (giveBack f) t s) m f t s
+    (λ e. passes (λ n z. absurd (n refl)) (quiet-moveTo _ t (quiet-trans (quiet-use f _ _ _ _) (quiet-trans (quiet-wakeFor m (facility f) _) (quiet-checkWels f _)))))
+    (λ i l e. passes (λ n z. absurd (n refl)) (quiet-moveTo _ t (quiet-trans (quiet-use f _ _ _ _) (quiet-trans (quiet-resume i f _) (quiet-checkWels f _)))))

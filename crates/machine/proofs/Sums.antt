@@ -12,7 +12,7 @@ use Rattle.machine.specs.Transaction.{Transaction, precedes}
 use Rattle.machine.specs.Setters.{withReturning}
 use Rattle.machine.specs.Lists.{insert, those, others, replaceFirst, flat}
 use Rattle.machine.specs.Moves.{wake}
-use Rattle.machine.specs.Claims.{count, bit, upTo}
+use Rattle.machine.specs.Claims.{count, bit, upTo, Each}
 
 -- ---- Definition
 
@@ -109,6 +109,11 @@ module _ {A : Type 0} (f g : A → ℕ) where
   sum-cong-keys key [] h = refl
   sum-cong-keys key (x ∷ l) h =
       ap₂ _+_ (h x (omega (arith, ap bit (eq-eqb (key x) (key x) refl)))) (sum-cong-keys key l (λ y p. h y (omega arith)))
+
+-- each member of a list passes what follows from its key standing there
+pub each-member : {A : Type 0} (key : A → ℕ) (P : A → Type 0) (l : List A) → ((x : A) → 0 < sumOn (λ y. bit (eqb (key y) (key x))) l → P x) → Each P l
+each-member key P [] h = tt
+each-member key P (x ∷ l) h = (h x (omega (arith, ap bit (eq-eqb (key x) (key x) refl))), each-member key P l (λ y p. h y (omega arith)))
 
 -- ---- Counting
 

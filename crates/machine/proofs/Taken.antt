@@ -41,6 +41,7 @@ module _ (n : ℕ) where
   pub standing-sum : (s : State) → standing s n
       ≡ sumOn has (flat (s .ql)) + sumOn has (flat (s .wel)) + sumOn has (s .wsl) + sumOn has (s .rel)
       + sumOn has (map (λ e. e .who) (s .fel)) + sumOn has (movingOne (s .moving)) + sumOn has (map (λ g. g .who) (flat (s .gatherers)))
+      + sumOn has (map (λ i. i .who) (s .interrupted))
   unfolding standing everyone
   standing-sum s = sym (sum-count (λ t. eqb (t .number) n) (everyone s)) ∙ simp sum-append
 

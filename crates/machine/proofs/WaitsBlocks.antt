@@ -1,7 +1,7 @@
 -- What is known of those who wait is kept by every block: one lemma for each kind, for the one that moves in front of REL.
 use Prim.Native.Nat.{ℕ, zero, suc, _-_, _≤_}
-use mathlib.Core.Path.{_≡_, refl, ap, _∙_}
-use mathlib.Core.Bool.{true, false}
+use mathlib.Core.Path.{_≡_, refl, sym, ap, _∙_}
+use mathlib.Core.Bool.{Bool, true, false}
 use mathlib.Core.List.{List, [], _∷_}
 use native.Mathlib.Omega.{arith}
 use lib.Dec.{leb}
@@ -9,20 +9,20 @@ use lib.ListN.{length, take}
 use lib.Seq.{getD-set-same}
 use borrow.Author.Tests.{eq-eqb}
 use Rattle.machine.specs.Transaction.{Transaction}
-use Rattle.machine.specs.Lists.{those}
 use Rattle.machine.specs.Term.{serverAt, free}
-use Rattle.machine.specs.Block.{Code, status, Share, facility, storage, shareServer, shareUnits, Block, generate, advance, terminate, takes, frees, waitServer, waitTerms, moves, assign, priority, split, counts, assemble, facts, BlockModel, blockAt, welIndex}
+use Rattle.machine.specs.Block.{Code, status, Share, facility, storage, shareServer, shareUnits, Block, generate, advance, terminate, takes, frees, waitServer, waitTerms, moves, assign, priority, split, counts, assemble, preempt, giveBack, facts, BlockModel, blockAt, welIndex}
 use Rattle.machine.specs.State.{State}
 use Rattle.machine.specs.Setters.{withSerial, withUse}
-use Rattle.machine.specs.Moves.{qlOf, welOf, log, enters, moveTo, toRel, toFel, toQl, toWel, toWsl, mustWait, Parted, wakeQl, wakeFirstWel, setUse, setContent, arrival, copies, toGatherers, comes, released}
+use Rattle.machine.specs.Moves.{qlOf, welOf, log, enters, moveTo, toRel, toFel, toQl, toWel, toWsl, mustWait, Parted, wakeQl, wakeFirstWel, setUse, setContent, arrival, copies, toGatherers, comes, released, interrupt, resume}
 use Rattle.machine.specs.Execute.{unitsOf, fits, partFor, takeUnits, checkWels, endsOne, delay, effect, freeUnits, wakeFor}
-use Rattle.machine.proofs.Proper.{Proper, ProperBlock, servers, code-server, share-server, ProperShare}
+use Rattle.machine.proofs.Proper.{Proper, ProperBlock, servers, code-server, share-server, ProperShare, Names}
 use Rattle.machine.proofs.RunLaws.{cond-cases}
-use Rattle.machine.proofs.Cases.{checkWels-kept, waitServer-cases, waitTerms-cases, assemble-cases}
+use Rattle.machine.proofs.Cases.{checkWels-kept, waitServer-cases, waitTerms-cases, assemble-cases, preempt-cases, giveBack-cases}
 use Rattle.machine.proofs.Shape.{Shape, server-length, facility-capacity}
+use Rattle.machine.proofs.Losers.{loser-loses}
 use Rattle.machine.proofs.Waiting.{serverOf, AtServer, AtWel, serverIn, Queued, Gated, WaitsOver}
 use Rattle.machine.proofs.Ready.{grows-not, grows-insert, grows-wake, queued-more, waits-more, ql-else, wel-else}
-use Rattle.machine.proofs.Queued.{taken-queued, waits-queued, Kept, parted-queued, first-kept, fitting-kept}
+use Rattle.machine.proofs.Queued.{taken-queued, waits-queued, Kept, parted-queued, first-kept, fitting-kept, handed-queued, in-use-waits}
 use Rattle.machine.proofs.Lines.{both-partFor}
 use Rattle.machine.proofs.Gated.{Open, WelAt, checks-gated, others-wait, waits-gated, passes-gated}
 
@@ -134,15 +134,15 @@ module _ {m : BlockModel} {tape : List (List ℕ)} (proper : Proper m tape) (t :
         waiting : status code (serverAt (s .view) v) ≡ true → (t′ : Transaction) → AtWel m (welIndex v code) t′ → Walked m (toWel (m .edition) v code t′ s)
         waiting holds t′ at′ = (record { queued = queued-else off; gated = waits-gated (w .gated) v code t′ one at at′ holds }, going)
 
-  -- 4 SEIZE and 6 ENTER
-  takeUnits-walked : (x : Share) → 1 ≤ shareServer x → shareServer x ≤ servers m → AtServer m (shareServer x) t → unitsOf m t ≡ shareUnits x
-      → facts (blockAt m (t .next)) .wel ≡ 0 → Walked m (takeUnits m x t s)
+  -- 4 SEIZE and 6 ENTER, and 19 PREEMPT from whom nobody loses the facility
+  takeUnits-walked : (x : Share) (preempts : Bool) → 1 ≤ shareServer x → shareServer x ≤ servers m → AtServer m (shareServer x) t → unitsOf m t ≡ shareUnits x
+      → facts (blockAt m (t .next)) .wel ≡ 0 → Walked m (takeUnits m x preempts t s)
   unfolding takeUnits mustWait enters log moveTo setUse serverAt toQl
-  takeUnits-walked x one known at units off =
+  takeUnits-walked x preempts one known at units off =
       cond-cases (Walked m) (leb (shareUnits x) (free (serverAt (s .view) v))) _ _
       (λ fit.
       checks-walked m v _ one known
-      (taken-queued (w .queued) v one (in-servers v one known) (in-ql v one known) (shareUnits x) _ proper known (λ f. facility-capacity shape v one f) at units)
+      (taken-queued (w .queued) v one (in-servers v one known) (in-ql v one known) (shareUnits x) _ _ proper known (λ f. facility-capacity shape v one f) at units)
       opened (others-wait (w .gated) v _ (s .rel) one off (grows-not (s .rel))) going)
       (λ full.
       cond-cases (Walked m) (t .returning) _ _ (λ e. waiting full t at units) (λ e. waiting full (withSerial (suc (s .serial)) t) at units))
@@ -169,7 +169,7 @@ module _ {m : BlockModel} {tape : List (List ℕ)} (proper : Proper m tape) (t :
   abbrev KeptOn : (x : Share) → 1 ≤ shareServer x → shareServer x ≤ servers m → Type 0
   KeptOn x one known =
       Kept (w .queued) (shareServer x) one (in-servers (shareServer x) one known) (in-ql (shareServer x) one known)
-      (withUse (serverIn (s .view .servers) (shareServer x) .inUse - shareUnits x) 0 (serverIn (s .view .servers) (shareServer x)))
+      (withUse (serverIn (s .view .servers) (shareServer x) .inUse - shareUnits x) 0 false (serverIn (s .view .servers) (shareServer x)))
       (partFor m x (freed x .view) (qlOf s (shareServer x)))
 
   -- under edition 1 the first of a facility's QL goes, and nobody who fits stays on a storage's
@@ -192,6 +192,30 @@ module _ {m : BlockModel} {tape : List (List ℕ)} (proper : Proper m tape) (t :
       (both-partFor (AtServer m v) m x (freed x .view) (qlOf s v) (w .queued .ql-stands v one)) (λ first. kept first x one known k) off)
       opened (others-wait (w .gated) v _ _ one off′ (grows-wake (part .go) (s .rel))) going
 
+  -- 19 PREEMPT: somebody loses the facility, which stays in use
+  preempt-walked : (f : ℕ) → Names (m .facilities) f → AtServer m f t → unitsOf m t ≡ 1 → facts (blockAt m (t .next)) .wel ≡ 0 → Walked m (effect m (preempt f) t s)
+  unfolding moveTo enters log setUse serverAt interrupt shareServer shareUnits
+  preempt-walked f at-f at units off =
+      let known : f ≤ servers m = omega (arith, at-f .1) in
+      preempt-cases (Walked m) m f t s (λ e. takeUnits-walked (facility f) true (at-f .0) known at units off)
+      (λ x l e.
+      checks-walked m f _ (at-f .0) known
+      (handed-queued (w .queued) f (at-f .0) (in-servers f (at-f .0) known) (in-ql f (at-f .0) known) (t .number) true known (λ v′ a n h. n (sym h ∙ at))
+      (λ waits. in-use-waits (w .queued) f (at-f .0) (in-servers f (at-f .0) known) (in-ql f (at-f .0) known) proper (at-f .1) (facility-capacity shape f (at-f .0) (at-f .1)) (loser-loses t f s x l e .in-use)))
+      opened (others-wait (w .gated) f _ (s .rel) (at-f .0) off (grows-not (s .rel))) going)
+
+  -- 20 RETURN: it does as RELEASE, or the interrupted one gets the facility back
+  giveBack-walked : (f : ℕ) → Names (m .facilities) f → serverOf m t ≡ 0 → facts (blockAt m (t .next)) .wel ≡ 0 → Walked m (effect m (giveBack f) t s)
+  unfolding moveTo enters log setUse serverAt resume toFel shareServer shareUnits
+  giveBack-walked f at-f off off′ =
+      let known : f ≤ servers m = omega (arith, at-f .1) in
+      giveBack-cases (Walked m) m f t s (λ e. frees-walked (facility f) (at-f .0) known at-f off off′)
+      (λ i l e.
+      checks-walked m f _ (at-f .0) known
+      (handed-queued (w .queued) f (at-f .0) (in-servers f (at-f .0) known) (in-ql f (at-f .0) known) (i .who .number) false known (λ v′ a n h. omega arith)
+      (λ waits. ql-else (λ h. omega (arith, at-f .0)) waits))
+      opened (others-wait (w .gated) f _ (s .rel) (at-f .0) off′ (grows-not (s .rel))) going)
+
   pub effect-walked : (b : Block) → blockAt m (t .next) ≡ b → ProperBlock m b → Walked m (effect m b t s)
   unfolding effect mustWait facts enters log moveTo setContent toWsl takeUnits toGatherers comes released
   effect-walked (generate list p) e k = arrival-walked m _ list p _ (enters t s) (quiet (generate list p) e refl refl)
@@ -199,7 +223,7 @@ module _ {m : BlockModel} {tape : List (List ℕ)} (proper : Proper m tape) (t :
   effect-walked (terminate a) e k = endsOne-walked m a (enters t s) (quiet (terminate a) e refl refl)
   effect-walked (takes x) e k =
       let (one, known) = share-server m x k in
-      takeUnits-walked x one known (ap (λ b. facts b .server) e) (ap (λ b. facts b .units) e) (ap (λ b. facts b .wel) e)
+      takeUnits-walked x false one known (ap (λ b. facts b .server) e) (ap (λ b. facts b .units) e) (ap (λ b. facts b .wel) e)
   effect-walked (frees x) e k =
       let (one, known) = share-server m x k in
       frees-walked x one known k (ap (λ b. facts b .server) e) (ap (λ b. facts b .wel) e)
@@ -217,3 +241,5 @@ module _ {m : BlockModel} {tape : List (List ℕ)} (proper : Proper m tape) (t :
   effect-walked (assemble n) e k =
       let q = quiet (assemble n) e refl refl in
       assemble-cases (Walked m) m n t s (λ c. q) (λ g l c z. toRel-walked m _ _ q) (λ g l c z. q)
+  effect-walked (preempt f) e k = preempt-walked f k (ap (λ b. facts b .server) e) (ap (λ b. facts b .units) e) (ap (λ b. facts b .wel) e)
+  effect-walked (giveBack f) e k = giveBack-walked f k (ap (λ b. facts b .server) e) (ap (λ b. facts b .wel) e)

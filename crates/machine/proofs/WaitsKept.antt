@@ -33,14 +33,14 @@ use Rattle.machine.proofs.WaitsBlocks.{Walked, toRel-walked, effect-wal
 
 -- capacity, use and holder are the same
 abbrev pub Alike : Server → Server → Type 0
-Alike x y = (y .capacity ≡ x .capacity) × (y .inUse ≡ x .inUse) × (y .holder ≡ x .holder)
+Alike x y = (y .capacity ≡ x .capacity) × (y .inUse ≡ x .inUse) × (y .holder ≡ x .holder) × (y .preempted ≡ x .preempted)
 
 pub sampled-alike : (ticks : ℕ) (l : List Server) (ql : List (List Transaction)) (k : ℕ) (d : Server)
     → Alike (getD l k d) (getD (sampleServers ticks l ql) k d)
 unfolding sampleServers
-sampled-alike ticks [] ql k d = (refl, refl, refl)
-sampled-alike ticks (x ∷ l) [] k d = (refl, refl, refl)
-sampled-alike ticks (x ∷ l) (q ∷ ql) zero d = (refl, refl, refl)
+sampled-alike ticks [] ql k d = (refl, refl, refl, refl)
+sampled-alike ticks (x ∷ l) [] k d = (refl, refl, refl, refl)
+sampled-alike ticks (x ∷ l) (q ∷ ql) zero d = (refl, refl, refl, refl)
 sampled-alike ticks (x ∷ l) (q ∷ ql) (suc k) d = sampled-alike ticks l ql k d
 
 status-alike : (code : Code) (x y : Server) → Alike x y → status code y ≡ status code x

@@ -9,7 +9,7 @@ use Rattle.machine.specs.Lists.{nth, bit, upTo}
 use Rattle.machine.specs.Limits.{maxBack}
 use Rattle.machine.specs.Rules.{Rules}
 use Rattle.machine.specs.Term.{Server, Term, Relation, Condition, always, whenTrue, Sum}
-use Rattle.machine.specs.Facts.{Facts, noFacts, setGenerates, setRank, setUses, setTerminates, setCopies, setGathers, setServer, setUnits, setQueue, setReleases, setTarget, setLeaves, setWel, setBack, setWaitsWhile, setTerms}
+use Rattle.machine.specs.Facts.{Facts, noFacts, setGenerates, setRank, setUses, setTerminates, setCopies, setGathers, setServer, setUnits, setQueue, setReleases, setPreempts, setTarget, setLeaves, setWel, setBack, setWaitsWhile, setTerms}
 
 -- Lists, "WEL: one per server and status code: 1 U (in use), 2 NU for facilities; 3 E (empty), 4 NE, 5 F (full), 6 NF for storages."
 pub data Code : Type 0 where
@@ -86,6 +86,8 @@ pub data Block : Type 0 where
   counts : (change : Change) (queue : ℕ) → Block
   -- 18 ASSEMBLE n (document 02, item 8)
   assemble : (n : ℕ) → Block
+  -- 19 PREEMPT f and 20 RETURN f (document 02, item 11)
+  preempt giveBack : (facility : ℕ) → Block
 
 -- ---- The paper's kinds that share a line
 
@@ -146,6 +148,8 @@ facts (priority p) = noFacts
 facts (split n target) = setCopies n (setTarget target noFacts)
 facts (counts c q) = setQueue (arrivals c q) noFacts
 facts (assemble n) = setTerminates 1 (setGathers n noFacts)
+facts (preempt f) = setServer f (setUnits 1 (setPreempts f noFacts))
+facts (giveBack f) = setReleases f noFacts
 
 -- Document 000, section 6, "some B > 1": does the block take or free more than one unit? B is the units of an ENTER or LEAVE.
 unfoldable pub aboveOne : Block → Bool
@@ -162,6 +166,8 @@ aboveOne (priority p) = false
 aboveOne (split n target) = false
 aboveOne (counts c q) = false
 aboveOne (assemble n) = false
+aboveOne (preempt f) = false
+aboveOne (giveBack f) = false
 
 -- Bytes, "Model: ..": what is left of it once decoded, and the rules that it was judged by.
 pub record BlockModel : Type 0 where

@@ -1,20 +1,20 @@
 -- "What demand 3 speaks of", word by word, as one claim about the states of a whole run. Proved in ../proofs/Demand3.antt.
 use Prim.Native.Nat.{ℕ, suc, _+_, _*_, _-_, _%_, _≤_, _<_}
 use mathlib.Core.Path.{_≡_}
-use mathlib.Core.Bool.{Bool, true, cond, not, _&&_, _||_}
+use mathlib.Core.Bool.{Bool, true, false, cond, not, _&&_, _||_}
 use mathlib.Core.List.{List, [], _∷_, _++_, map, reverse}
 use mathlib.Core.Option.{Option, none, some}
 use lib.Dec.{ltb, leb, eqb, T}
 use lib.ListN.{length, getD, drop}
 use Rattle.machine.specs.Limits.{maxTurns}
-use Rattle.machine.specs.Transaction.{Transaction}
-use Rattle.machine.specs.Lists.{those, flat, nth}
+use Rattle.machine.specs.Transaction.{Transaction, Interrupted}
+use Rattle.machine.specs.Lists.{those, anyOf, flat, nth}
 unfoldable pub use Rattle.machine.specs.Lists.{bit, upTo}
 use Rattle.machine.specs.Term.{Server, serverAt}
 use Rattle.machine.specs.Facts.{Facts, isGenerate}
 use Rattle.machine.specs.Block.{Code, U, NU, E, NE, F, NF, status, Block, facts, BlockModel, blockAt, backAt}
 use Rattle.machine.specs.State.{State, Logged}
-use Rattle.machine.specs.Moves.{qlOf, welOf, gatherersAt}
+use Rattle.machine.specs.Moves.{qlOf, welOf, gatherersAt, interruptedAt}
 use Rattle.machine.specs.Execute.{fits}
 use Rattle.machine.specs.Turn.{waitsOn}
 use Rattle.machine.specs.Trace.{Record, inRanges}
@@ -36,7 +36,7 @@ count p l = length (those p l)
 unfoldable pub everyone : State → List Transaction
 everyone s =
     flat (s .ql) ++ flat (s .wel) ++ s .wsl ++ s .rel ++ map (λ e. e .who) (s .fel) ++ movingOne (s .moving)
-    ++ map (λ g. g .who) (flat (s .gatherers))
+    ++ map (λ g. g .who) (flat (s .gatherers)) ++ map (λ i. i .who) (s .interrupted)
 
 -- how often a number stands there
 unfoldable pub standing : State → ℕ → ℕ
@@ -120,7 +120,8 @@ module _ (m : BlockModel) (tape : List (List ℕ)) where
   -- whose code is not true; on the WSL, one whose comparison does not hold, with its own parameters." Document 02, item 8: "A gatherer
   -- isn't a waiter able to go."
 
-  -- on a server's QL; a SEIZE waits for the one unit of its facility
+  -- on a server's QL; a SEIZE waits for the one unit of its facility, and so does a PREEMPT (document 02, item 11: it "counts as able to
+  -- go only at an idle facility")
   unfoldable pub ableOnQl : State → ℕ → ℕ
   ableOnQl s v = count (fits m (s .view) v) (qlOf s v)
 
@@ -146,26 +147,44 @@ module _ (m : BlockModel) (tape : List (List ℕ)) where
       eqb (a .entry .outcome) 1 && eqb (b .entry .outcome) 1 && not (eqb (factsAt a .server) 0)
       && eqb (factsAt a .server) (factsAt b .server) && eqb (a .priority) (b .priority) && eqb (factsAt a .units) (factsAt b .units)
 
+  -- Document 02, item 11: does a PREEMPT name the facility? "The order among equals is claimed for facilities that no PREEMPT names."
+  unfoldable pub preemptNames : ℕ → Bool
+  preemptNames f = anyOf (λ b. eqb (facts b .preempts) f) (m .blocks)
+
   -- "the one that began later has ended only if the other ended before it", of records in the order of writing
   abbrev pub InOrder : List Logged → Type 0
   InOrder records =
       (i k : ℕ) → i < k → k < length records → T (equalWaits (getD records i noRecord) (getD records k noRecord))
+      → preemptNames (factsAt (getD records i noRecord) .server) ≡ false
       → waitEnd records k < length records → waitEnd records i < waitEnd records k
 
   -- ---- Document 02, item 6: "A facility in use always has a living holder"
 
-  -- who holds facility f by some records, newest first, 0 for nobody: who entered a SEIZE of it, after which no RELEASE of it stands
-  -- (the server that a SEIZE takes is its facility)
-  unfoldable pub holderBy : List Logged → ℕ → ℕ
-  holderBy [] f = 0
-  holderBy (r ∷ l) f =
-      cond (entered r && eqb (factsAt r .server) f) (r .entry .transaction)
-      (cond (eqb (factsAt r .releases) f) 0
-      (holderBy l f))
+  -- is the record an entry of a SEIZE or PREEMPT of facility f? (the server that it takes is its facility)
+  abbrev pub takesIt : Logged → ℕ → Bool
+  takesIt r f = entered r && eqb (factsAt r .server) f
+
+  unfoldable mutual
+    -- who holds facility f by some records, newest first, 0 for nobody: who took it last, or, after a RELEASE or RETURN, from whom it was
+    -- taken
+    pub holderBy : List Logged → ℕ → ℕ
+    holderBy [] f = 0
+    holderBy (r ∷ l) f = cond (takesIt r f) (r .entry .transaction) (cond (eqb (factsAt r .releases) f) (loserBy l f) (holderBy l f))
+
+    -- Document 02, item 11: from whom its holder took it, 0 for nobody
+    pub loserBy : List Logged → ℕ → ℕ
+    loserBy [] f = 0
+    loserBy (r ∷ l) f = cond (takesIt r f) (holderBy l f) (cond (eqb (factsAt r .releases) f) 0 (loserBy l f))
+
+  -- did its holder take it by PREEMPT?
+  unfoldable pub preemptedBy : List Logged → ℕ → Bool
+  preemptedBy [] f = false
+  preemptedBy (r ∷ l) f = cond (takesIt r f) (eqb (factsAt r .preempts) f) (not (eqb (factsAt r .releases) f) && preemptedBy l f)
 
   -- of facility f, which is v
   pub record Held (v : Server) (f : ℕ) (records : List Logged) : Type 0 where
     pub told : v .holder ≡ holderBy records f
+    pub preempted : v .preempted ≡ preemptedBy records f
     -- its one unit is in use exactly if it has a holder
     pub in-use : v .inUse ≡ bit (ltb 0 (v .holder))
     -- a living one, where the rules ask 27 and 28
@@ -207,6 +226,17 @@ module _ (m : BlockModel) (tape : List (List ℕ)) where
       let k : ℕ = comeBy (s .records) b f % facts (blockAt m b) .gathers in
       map (λ g. g .come) (those (λ g. eqb (g .who .family) f) (gatherersAt s b)) ≡ cond (eqb k 0) [] (k ∷ [])
 
+  -- ---- Document 02, item 11: each interrupted one belongs to one facility, which is preempted, and each facility has at most one
+
+  -- of facility f: the one from whom its holder took it, or nobody
+  abbrev pub OneInterrupted : State → (f : ℕ) → Type 0
+  OneInterrupted s f =
+      let n : ℕ = loserBy (s .records) f in map (λ i. i .who .number) (interruptedAt s f) ≡ cond (eqb n 0) [] (n ∷ [])
+
+  pub record TakenFrom (s : State) (i : Interrupted) : Type 0 where
+    pub facility : (1 ≤ i .facility) × (i .facility ≤ m .facilities)
+    pub preempted : serverAt (s .view) (i .facility) .preempted ≡ true
+
   -- ---- The claims of one state
 
   pub record Keeps (s : State) : Type 0 where
@@ -222,6 +252,8 @@ module _ (m : BlockModel) (tape : List (List ℕ)) where
     pub nobody-able : m .edition ≡ 1 → s .end ≤ 1 → s .moving ≡ none → s .rel ≡ [] → ableToGo s ≡ 0
     pub order : m .edition ≡ 1 → InOrder (reverse (s .records))
     pub held : (f : ℕ) → 1 ≤ f → f ≤ m .facilities → Held (serverAt (s .view) f) f (s .records)
+    pub interrupted : (f : ℕ) → 1 ≤ f → f ≤ m .facilities → OneInterrupted s f
+    pub taken-from : Each (TakenFrom s) (s .interrupted)
     pub joined : Joined (s .records)
     pub stamps : Each (Stamped (s .records)) (everyone s)
     pub families : Each (λ t. t .family ≡ familyBy (s .records) (t .number)) (everyone s)

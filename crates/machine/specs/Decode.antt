@@ -9,7 +9,7 @@ use Rattle.machine.specs.Rules.{Rules}
 use Rattle.machine.specs.Lists.{nth}
 use Rattle.machine.specs.Parser.{Parser, parsed, refused, _>>=_, _>>_, give, refuse, ask, times, field, fieldUpTo}
 use Rattle.machine.specs.Term.{Relation, equal, unequal, less, atMost, greater, atLeast, Term, constant, minusConstant, parameter, clockTerm, entriesOf, contentOf, unitsInUse, unitsFree, facilityInUse, value, comparison, bracket, Sum, nothing, plus, minus}
-use Rattle.machine.specs.Block.{Code, U, NU, E, NE, F, NF, Block, generate, advance, terminate, seize, release, enter, leave, waitServer, waitTerms, branch, goto, assign, priority, split, arrive, depart, assemble, BlockModel}
+use Rattle.machine.specs.Block.{Code, U, NU, E, NE, F, NF, Block, generate, advance, terminate, seize, release, enter, leave, waitServer, waitTerms, branch, goto, assign, priority, split, arrive, depart, assemble, preempt, giveBack, BlockModel}
 
 -- How many there are of each thing that a number may name.
 pub record Counts : Type 0 where
@@ -182,7 +182,9 @@ module _ (s : List ℕ) where
       (cond (eqb kind 16) (do q ← number 1 (n .queues); give (depart q))
       (cond (eqb kind 17)
       (do code ← number 1 6; v ← codeServer n code; c ← number 1 Limits.maxBack; give (waitServer (codeOf code) v c))
-      (do k ← number 2 Limits.maxAssemble; give (assemble k))))))))))))))))))
+      (cond (eqb kind 18) (do k ← number 2 Limits.maxAssemble; give (assemble k))
+      (cond (eqb kind 19) (do f ← number 1 (n .facilities); give (preempt f))
+      (do f ← number 1 (n .facilities); give (giveBack f))))))))))))))))))))
 
   unfoldable pub blockField : (kinds : ℕ) → Counts → List ℕ → Parser Block
   blockField kinds n capacities = do

@@ -2,7 +2,7 @@
 -- `printed` gives what `runmodel` prints, line by line, without the letters.
 use Prim.Native.Nat.{ℕ, suc, _+_}
 use mathlib.Core.Path.{_≡_, refl}
-use mathlib.Core.Bool.{true}
+use mathlib.Core.Bool.{false, true}
 use mathlib.Core.List.{List, [], _∷_, _++_, map}
 use mathlib.Core.Option.{none, some}
 use lib.IntN.{ℤ, pos, negsuc}
@@ -125,7 +125,7 @@ returner : (number serial : ℕ) → Transaction
 returner number serial = withReturning true (withSerial serial (newborn number 0 1))
 
 bothWoken : State
-bothWoken = setRel (returner 1 5 ∷ returner 2 9 ∷ []) (setUse 1 1 3 (idle seizeOnly []))
+bothWoken = setRel (returner 1 5 ∷ returner 2 9 ∷ []) (setUse 1 1 3 false (idle seizeOnly []))
 
 serials : List Transaction → List ℕ
 serials l = map (λ t. t .serial) l

@@ -4,13 +4,13 @@ use mathlib.Core.Bool.{Bool, true, false, cond, not, _&&_, _||_}
 use mathlib.Core.List.{List, [], _∷_}
 use lib.Dec.{ltb, leb, eqb}
 use Rattle.machine.specs.Limits.{maxLiving}
-use Rattle.machine.specs.Transaction.{Transaction, Gatherer}
+use Rattle.machine.specs.Transaction.{Transaction, Event, Gatherer, Interrupted}
 use Rattle.machine.specs.Lists.{setNth, bit, upTo, anyOf}
-use Rattle.machine.specs.Term.{View, serverAt, queueAt, free, evaluate, compare, truth}
-use Rattle.machine.specs.Block.{Code, U, NU, E, NE, F, NF, status, Share, facility, storage, shareServer, shareUnits, shareHolder, Change, up, down, Block, generate, advance, terminate, takes, frees, waitServer, waitTerms, moves, assign, priority, split, counts, assemble, facts, aboveOne, BlockModel, blockAt, beginsGroup}
+use Rattle.machine.specs.Term.{Server, View, serverAt, queueAt, free, evaluate, compare, truth}
+use Rattle.machine.specs.Block.{Code, U, NU, E, NE, F, NF, status, Share, facility, storage, shareServer, shareUnits, shareHolder, Change, up, down, Block, generate, advance, terminate, takes, frees, waitServer, waitTerms, moves, assign, priority, split, counts, assemble, preempt, giveBack, facts, aboveOne, BlockModel, blockAt, beginsGroup}
 use Rattle.machine.specs.State.{State}
 use Rattle.machine.specs.Setters.{withPriority, withParameters, withNext, withReturning, withStamp, setCounter, setEnded, setEnd}
-use Rattle.machine.specs.Moves.{enters, moveTo, goOn, toRel, toFel, toQl, toWel, toWsl, beginWait, mustWait, Parted, nobody, goes, stays, firstOf, partBy, wakeQl, wakeFirstWel, setUse, setContent, timesLeft, useTime, arrival, copies, waitsFor, toGatherers, comes, released}
+use Rattle.machine.specs.Moves.{enters, moveTo, goOn, toRel, toFel, toQl, toWel, toWsl, beginWait, mustWait, Parted, nobody, goes, stays, firstOf, partBy, wakeQl, wakeFirstWel, setUse, setHolder, setContent, timesLeft, useTime, arrival, copies, waitsFor, toGatherers, comes, released, interruptedAt, losersTo, interrupt, resume}
 
 -- ---- Questions, "Inside a turn, after the taking and before the block has any effect, "no" is the end"
 
@@ -41,9 +41,11 @@ unfoldable pub askContent : Change → ℕ → ℕ
 askContent up n = 0
 askContent down n = unless (leb 1 n) 25 0
 
--- Document 02, item 6: "RELEASE by another than the holder" 27, "after 24"; LEAVE asks for none.
+-- Document 02, item 6: "RELEASE by another than the holder" 27, "after 24"; LEAVE asks for none. Item 11: "RELEASE of a preempted
+-- facility" 27
 unfoldable pub askHolder : BlockModel → Share → Transaction → State → ℕ
-askHolder m (facility v) t s = unless (not (m .rules .holders) || eqb (serverAt (s .view) v .holder) (t .number)) 27 0
+askHolder m (facility v) t s =
+    unless (not (serverAt (s .view) v .preempted)) 27 (unless (not (m .rules .holders) || eqb (serverAt (s .view) v .holder) (t .number)) 27 0)
 askHolder m (storage v b) t s = 0
 
 -- how many facilities a transaction holds
@@ -58,6 +60,17 @@ askEnds m t s = unless (not (m .rules .holders) || eqb (held m (s .view) (t .num
 unfoldable pub askGathers : BlockModel → List Gatherer → Transaction → State → ℕ
 askGathers m [] t s = 0
 askGathers m (g ∷ l) t s = askEnds m t s
+
+-- Document 02, item 11: a RETURN "whose clock + remaining passes the clock limit" 22
+unfoldable pub askResume : BlockModel → List Interrupted → State → ℕ
+askResume m [] s = 0
+askResume m (i ∷ l) s = askTime m (i .remaining) s
+
+-- "RETURN of a seized one and RETURN by another end with 27. RETURN of an idle one ends with 24", and 22 is "asked after 27"
+unfoldable pub askGivesBack : BlockModel → (f : ℕ) → Transaction → State → ℕ
+askGivesBack m f t s =
+    let v : Server = serverAt (s .view) f in
+    unless (leb 1 (v .inUse)) 24 (unless (v .preempted && eqb (v .holder) (t .number)) 27 (askResume m (interruptedAt s f) s))
 
 -- For the transaction t whose next block it is.
 unfoldable pub question : BlockModel → Block → Transaction → State → ℕ
@@ -75,10 +88,13 @@ question m (priority p) t s = 0
 question m (split n target) t s = unless (leb (living s + n) maxLiving) 21 0
 question m (counts c q) t s = askContent c (queueAt (s .view) q .content)
 question m (assemble n) t s = askGathers m (waitsFor t s) t s
+question m (preempt f) t s = 0
+question m (giveBack f) t s = askGivesBack m f t s
 
 -- ---- The effects
 
--- "After blocks 4 to 7 enter, each WEL of that server whose code is not true gives its first to REL."
+-- "After blocks 4 to 7 enter, each WEL of that server whose code is not true gives its first to REL." Document 02, item 11: "the WEL check
+-- follows both" PREEMPT and RETURN
 unfoldable pub checkWel : ℕ → Code → State → State
 checkWel v code s = cond (status code (serverAt (s .view) v)) s (wakeFirstWel v code s)
 
@@ -95,7 +111,7 @@ fits m w v t = leb (unitsOf m t) (free (serverAt w v))
 
 -- and nobody holds it
 abbrev pub freeUnits : ℕ → ℕ → State → State
-freeUnits v b s = setUse v (serverAt (s .view) v .inUse - b) 0 s
+freeUnits v b s = setUse v (serverAt (s .view) v .inUse - b) 0 false s
 
 -- ---- Document 02, item 12, edition 2: "LEAVE follows document 000, section 6, cases a and b, B being its units"
 
@@ -144,6 +160,11 @@ changed down n = n - 1
 unfoldable pub gathers : (n : ℕ) → Gatherer → Transaction → State → State
 gathers n g t s = let e : State = setEnded (suc (s .ended)) s in cond (eqb (suc (g .come)) n) (released g t e) (comes g t e)
 
+-- Document 02, item 11: RETURN "gives f back to the interrupted holder ..; if there is none, it acts as RELEASE"
+unfoldable pub givesBack : BlockModel → List Interrupted → (f : ℕ) → State → State
+givesBack m [] f s = wakeFor m (facility f) (freeUnits f 1 s)
+givesBack m (i ∷ l) f s = resume i f (setHolder f (i .who .number) false s)
+
 -- Document 02, item 7: at the first block of a group it takes the clock
 abbrev pub stamped : BlockModel → Transaction → State → Transaction
 stamped m t s = withStamp (cond (beginsGroup m (t .next)) (s .view .clock) (t .stamp)) t
@@ -155,11 +176,11 @@ stamped m t s = withStamp (cond (beginsGroup m (t .next)) (s .view .clock) (t .s
 module _ {A : Type 0} (enter : (State → State) → A) (wait : (Transaction → State → State) → A) (back : (State → State) → A) (begin : (Transaction → State → State) → A) where
   -- 4 SEIZE, "idle, it enters and f is in use; else it waits on the QL", 6 ENTER, "enters if b units are free, else waits"
   -- Document 02, item 6: "the number of its holder, written at SEIZE"
-  abbrev pub takingUnits : BlockModel → Share → Transaction → State → A
-  takingUnits m x t s =
+  abbrev pub takingUnits : BlockModel → Share → (preempts : Bool) → Transaction → State → A
+  takingUnits m x preempts t s =
       let v : ℕ = shareServer x in
       cond (leb (shareUnits x) (free (serverAt (s .view) v)))
-      (enter (λ e. goOn t (checkWels v (setUse v (serverAt (s .view) v .inUse + shareUnits x) (shareHolder x (t .number)) e))))
+      (enter (λ e. goOn t (checkWels v (setUse v (serverAt (s .view) v .inUse + shareUnits x) (shareHolder x (t .number)) preempts e))))
       (wait (toQl (m .edition) v))
 
   -- Document 02, item 8: "The first of a family at the block waits there", "Its record has outcome 1" (nobody comes here returning); "Each
@@ -168,11 +189,17 @@ module _ {A : Type 0} (enter : (State → State) → A) (wait : (Transaction →
   gathering [] n t = begin toGatherers
   gathering (g ∷ l) n t = enter (λ e. gathers n g t e)
 
+  -- Document 02, item 11: "PREEMPT enters if f is idle. It also enters if f was seized by a holder of lower priority that stands on the
+  -- FEL", who loses it. "Otherwise PREEMPT waits on the QL. Whoever enters it is f's holder until RETURN."
+  abbrev pub preempting : List Event → BlockModel → (f : ℕ) → Transaction → State → A
+  preempting [] m f t s = takingUnits m (facility f) true t s
+  preempting (e ∷ l) m f t s = enter (λ s′. goOn t (checkWels f (setHolder f (t .number) true (interrupt e t f s′))))
+
   abbrev pub doing : BlockModel → Block → Transaction → State → A
   doing m (generate list p) t s = enter (λ e. goOn t (arrival (timesLeft s list) list p (t .next) e))
   doing m (advance list) t s = enter (λ e. delay (timesLeft s list) list t e)
   doing m (terminate a) t s = enter (λ e. endsOne a e)
-  doing m (takes x) t s = takingUnits m x t s
+  doing m (takes x) t s = takingUnits m x false t s
   -- "f idle; ..", "frees b; .."
   doing m (frees x) t s =
       enter (λ e. goOn t (checkWels (shareServer x) (wakeFor m x (freeUnits (shareServer x) (shareUnits x) e))))
@@ -196,9 +223,11 @@ module _ {A : Type 0} (enter : (State → State) → A) (wait : (Transaction →
   doing m (split n target) t s = enter (λ e. goOn t (copies n target t e))
   doing m (counts c q) t s = enter (λ e. goOn t (setContent q (changed c (queueAt (s .view) q .content)) e))
   doing m (assemble n) t s = gathering (waitsFor t s) n t
+  doing m (preempt f) t s = preempting (losersTo t f s) m f t s
+  doing m (giveBack f) t s = enter (λ e. goOn t (checkWels f (givesBack m (interruptedAt s f) f e)))
 
-unfoldable pub takeUnits : BlockModel → Share → Transaction → State → State
-takeUnits m x t s = takingUnits (λ f. f (enters t s)) (λ put. mustWait put t s) (λ f. f s) (λ put. beginWait put t s) m x t s
+unfoldable pub takeUnits : BlockModel → Share → (preempts : Bool) → Transaction → State → State
+takeUnits m x preempts t s = takingUnits (λ f. f (enters t s)) (λ put. mustWait put t s) (λ f. f s) (λ put. beginWait put t s) m x preempts t s
 
 unfoldable pub effect : BlockModel → Block → Transaction → State → State
 effect m b t s = doing (λ f. f (enters t s)) (λ put. mustWait put t s) (λ f. f s) (λ put. beginWait put t s) m b t s

@@ -30,3 +30,4 @@ pub mod HolderExamples
 pub mod JoinedExamples
 pub mod GatherExamples
 pub mod EditionExamples
+pub mod PreemptExamples

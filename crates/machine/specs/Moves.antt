@@ -1,17 +1,17 @@
 -- Lists: how transactions get a serial, come onto a list and leave it, and what a record notes.
-use Prim.Native.Nat.{ℕ, zero, suc, _+_}
-use mathlib.Core.Bool.{Bool, true, false, cond}
+use Prim.Native.Nat.{ℕ, zero, suc, _+_, _-_}
+use mathlib.Core.Bool.{Bool, true, false, cond, not, _&&_}
 use mathlib.Core.List.{List, [], _∷_, reverse}
 use mathlib.Core.Option.{some}
-use lib.Dec.{leb, eqb}
+use lib.Dec.{ltb, leb, eqb}
 use lib.ListN.{length, getD, set, take, drop}
-use Rattle.machine.specs.Transaction.{Transaction, Gatherer, precedes, earlier, newborn}
+use Rattle.machine.specs.Transaction.{Transaction, Event, Gatherer, Interrupted, precedes, earlier, newborn}
 use Rattle.machine.specs.Lists.{insert, those, others, replaceFirst, nth, setNth}
-use Rattle.machine.specs.Term.{serverAt, queueAt}
+use Rattle.machine.specs.Term.{Server, serverAt, queueAt}
 use Rattle.machine.specs.Block.{Code, welIndex}
 use Rattle.machine.specs.Trace.{Record, recordBytes}
 use Rattle.machine.specs.State.{State}
-use Rattle.machine.specs.Setters.{withNext, withSerial, withReturning, withStamp, withUse, withContent, setEntries, setQueues, setServers, setView, setSamples, setQl, setWel, setWsl, setRel, setFel, setGatherers, setMoving, setSerial, setMade, setRecords, setWritten}
+use Rattle.machine.specs.Setters.{withNext, withSerial, withReturning, withStamp, withUse, withContent, setEntries, setQueues, setServers, setView, setSamples, setQl, setWel, setWsl, setRel, setFel, setGatherers, setInterrupted, setMoving, setSerial, setMade, setRecords, setWritten}
 
 -- ---- The trace
 
@@ -159,12 +159,46 @@ comes g t s = setWaitsFor t (record { who = g .who; come = suc (g .come) } ∷ [
 unfoldable pub released : Gatherer → Transaction → State → State
 released g t s = toRel (withReturning false (withNext (suc (t .next)) (g .who))) (setWaitsFor t [] s)
 
+-- ---- Interrupted ones (document 02, item 11)
+
+-- the ones from whom a facility was taken: one, or nobody
+unfoldable pub ofFacility : ℕ → Interrupted → Bool
+ofFacility f i = eqb (i .facility) f
+
+abbrev pub interruptedAt : State → (f : ℕ) → List Interrupted
+interruptedAt s f = those (ofFacility f) (s .interrupted)
+
+-- Does PREEMPT by t take facility f from the one of an event? "if f was seized by a holder of lower priority that stands on the FEL"
+unfoldable pub losesTo : Transaction → Server → Event → Bool
+losesTo t f e =
+    ltb 0 (f .inUse) && not (f .preempted) && eqb (e .who .number) (f .holder) && ltb (e .who .priority) (t .priority)
+
+-- who loses it: one, or nobody
+abbrev pub losersTo : Transaction → (f : ℕ) → State → List Event
+losersTo t f s = those (losesTo t (serverAt (s .view) f)) (s .fel)
+
+-- "That holder leaves the FEL for a list of interrupted ones, place 8, with its remaining ticks kept."
+unfoldable pub interrupt : Event → Transaction → (f : ℕ) → State → State
+interrupt e t f s =
+    let left : ℕ = e .time - s .view .clock in
+    setInterrupted
+    (insert (λ a b. precedes (a .who) (b .who)) (record { who = withStamp left (e .who); facility = f; remaining = left }) (s .interrupted))
+    (setFel (replaceFirst (losesTo t (serverAt (s .view) f)) [] (s .fel)) s)
+
+-- "gives f back to the interrupted holder, which goes to the FEL at clock + remaining with a fresh serial"
+unfoldable pub resume : Interrupted → (f : ℕ) → State → State
+resume i f s = toFel (s .view .clock + i .remaining) (i .who) (setInterrupted (replaceFirst (ofFacility f) [] (s .interrupted)) s)
+
 -- ---- Servers and queues
 
--- so many units of a server are in use, and who holds it
-unfoldable pub setUse : (v units holder : ℕ) → State → State
-setUse v units holder s =
-    setView (setServers (setNth (s .view .servers) v (withUse units holder (serverAt (s .view) v))) (s .view)) s
+-- so many units of a server are in use, who holds it, and whether by PREEMPT
+unfoldable pub setUse : (v units holder : ℕ) (preempted : Bool) → State → State
+setUse v units holder preempted s =
+    setView (setServers (setNth (s .view .servers) v (withUse units holder preempted (serverAt (s .view) v))) (s .view)) s
+
+-- its unit stays in use, and another holds it
+abbrev pub setHolder : (f holder : ℕ) (preempted : Bool) → State → State
+setHolder f holder preempted s = setUse f (serverAt (s .view) f .inUse) holder preempted s
 
 unfoldable pub setContent : ℕ → ℕ → State → State
 setContent q n s =

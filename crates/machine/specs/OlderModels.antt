@@ -1,4 +1,4 @@
--- Document 02, items 7 and 8, add a kind of block each and item 12 an edition: every run of a model that is accepted without them stays as it was.
+-- Document 02, items 7, 8 and 11, add kinds of blocks and item 12 an edition: every run of a model that is accepted without them stays as it was.
 -- Proved in ../proofs/OlderModels.antt, for any setting of the other rules.
 use Prim.Native.Nat.{ℕ, _≤_}
 use mathlib.Core.Path.{_≡_}

@@ -14,7 +14,7 @@ use Rattle.machine.specs.Validate.{Validation, accept, reject, validate}
 use Rattle.machine.specs.Outcome.{outcome}
 use Rattle.machine.specs.Claims.{factsAt, terminates, holderBy}
 
--- the rules with the questions 27 and 28, or without them
+-- the rules with the questions 27, of a seized facility, and 28, or without them
 abbrev pub asking : Bool → Rules → Rules
 asking asked r = record { maxClock = r .maxClock; maxTime = r .maxTime; maxNumber = r .maxNumber; holders = asked; kinds = r .kinds; editions = r .editions }
 
@@ -25,7 +25,7 @@ module _ (m : BlockModel) (tape : List (List ℕ)) where
   unfoldable pub heldBy : List Logged → (number : ℕ) → ℕ
   heldBy records n = upTo (m .facilities) (λ f. bit (eqb (holderBy m tape records f) n))
 
-  -- a record behind others: if it is a RELEASE, it is the holder's
+  -- a record behind others: if it is a RELEASE or RETURN, it is the holder's
   unfoldable pub byHolder : (before : List Logged) → Logged → Bool
   byHolder before r = eqb (factsAt m tape r .releases) 0 || eqb (holderBy m tape before (factsAt m tape r .releases)) (r .entry .transaction)
 

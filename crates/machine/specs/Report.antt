@@ -50,11 +50,12 @@ unfoldable pub movingOne : Option Transaction → List Transaction
 movingOne none = []
 movingOne (some t) = t ∷ []
 
--- "1 QL, 2 WEL, 3 WSL, 4 FEL, 5 REL, 6 moving"; document 02, item 8: "waits there, place 7"
+-- "1 QL, 2 WEL, 3 WSL, 4 FEL, 5 REL, 6 moving"; document 02, item 8: "waits there, place 7", item 11: "a list of
+-- interrupted ones, place 8"
 unfoldable pub places : State → List Place
 places s =
     placed 1 (flat (s .ql)) ++ placed 2 (flat (s .wel)) ++ placed 3 (s .wsl) ++ placed 4 (map (λ e. e .who) (s .fel)) ++ placed 5 (s .rel)
-    ++ placed 6 (movingOne (s .moving)) ++ placed 7 (map (λ g. g .who) (flat (s .gatherers)))
+    ++ placed 6 (movingOne (s .moving)) ++ placed 7 (map (λ g. g .who) (flat (s .gatherers))) ++ placed 8 (map (λ i. i .who) (s .interrupted))
 
 unfoldable pub byNumber : List Place → List Place
 byNumber [] = []

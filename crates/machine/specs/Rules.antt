@@ -11,7 +11,7 @@ pub record Rules : Type 0 where
   pub maxTime : ℕ
   -- the largest number of a tape and of a trace
   pub maxNumber : ℕ
-  -- is it asked who holds a facility, at RELEASE and TERMINATE?
+  -- is it asked who holds a facility, at RELEASE of a seized one and where somebody ends? (at RETURN it always is)
   pub holders : Bool
   -- "Kind and operands as stored": how many kinds there are
   pub kinds : ℕ
@@ -37,9 +37,13 @@ item7 = record { maxClock = item6 .maxClock; maxTime = item6 .maxTime; maxNumber
 abbrev pub item8 : Rules
 item8 = record { maxClock = item7 .maxClock; maxTime = item7 .maxTime; maxNumber = item7 .maxNumber; holders = item7 .holders; kinds = 18; editions = item7 .editions }
 
+-- and with item 11, "A crane that can be taken over"
+abbrev pub item11 : Rules
+item11 = record { maxClock = item8 .maxClock; maxTime = item8 .maxTime; maxNumber = item8 .maxNumber; holders = item8 .holders; kinds = 20; editions = item8 .editions }
+
 -- and with item 12, "Runs under the 1996 rules"
 abbrev pub document02 : Rules
-document02 = record { maxClock = item8 .maxClock; maxTime = item8 .maxTime; maxNumber = item8 .maxNumber; holders = item8 .holders; kinds = item8 .kinds; editions = 2 }
+document02 = record { maxClock = item11 .maxClock; maxTime = item11 .maxTime; maxNumber = item11 .maxNumber; holders = item11 .holders; kinds = item11 .kinds; editions = 2 }
 
 -- the rules that the engine keeps
 abbrev pub inForce : Rules

@@ -67,6 +67,7 @@ idle m tape =
       rel = [];
       fel = [];
       gatherers = replicate (length (m .blocks)) [];
+      interrupted = [];
       moving = none;
       serial = 0;
       made = 0;

@@ -4,7 +4,7 @@ use mathlib.Core.Bool.{Bool}
 use mathlib.Core.List.{List}
 use mathlib.Core.Option.{Option}
 use lib.IntN.{ℤ}
-use Rattle.machine.specs.Transaction.{Transaction, Event, Gatherer}
+use Rattle.machine.specs.Transaction.{Transaction, Event, Gatherer, Interrupted}
 use Rattle.machine.specs.Term.{Server, Queue, View}
 use Rattle.machine.specs.State.{State, Logged}
 
@@ -30,8 +30,8 @@ withStamp x t = record { number = t .number; priority = t .priority; parameters 
 
 -- ---- Server
 
-abbrev pub withUse : (units holder : ℕ) → Server → Server
-withUse x y v = record { capacity = v .capacity; inUse = x; holder = y; unitTicks = v .unitTicks; waitTicks = v .waitTicks; longest = v .longest }
+abbrev pub withUse : (units holder : ℕ) (preempted : Bool) → Server → Server
+withUse x y z v = record { capacity = v .capacity; inUse = x; holder = y; preempted = z; unitTicks = v .unitTicks; waitTicks = v .waitTicks; longest = v .longest }
 
 -- ---- Queue
 
@@ -66,6 +66,7 @@ setView x s =
       rel = s .rel;
       fel = s .fel;
       gatherers = s .gatherers;
+      interrupted = s .interrupted;
       moving = s .moving;
       serial = s .serial;
       made = s .made;
@@ -88,6 +89,7 @@ setCounter x s =
       rel = s .rel;
       fel = s .fel;
       gatherers = s .gatherers;
+      interrupted = s .interrupted;
       moving = s .moving;
       serial = s .serial;
       made = s .made;
@@ -110,6 +112,7 @@ setSamples x s =
       rel = s .rel;
       fel = s .fel;
       gatherers = s .gatherers;
+      interrupted = s .interrupted;
       moving = s .moving;
       serial = s .serial;
       made = s .made;
@@ -132,6 +135,7 @@ setQl x s =
       rel = s .rel;
       fel = s .fel;
       gatherers = s .gatherers;
+      interrupted = s .interrupted;
       moving = s .moving;
       serial = s .serial;
       made = s .made;
@@ -154,6 +158,7 @@ setWel x s =
       rel = s .rel;
       fel = s .fel;
       gatherers = s .gatherers;
+      interrupted = s .interrupted;
       moving = s .moving;
       serial = s .serial;
       made = s .made;
@@ -176,6 +181,7 @@ setWsl x s =
       rel = s .rel;
       fel = s .fel;
       gatherers = s .gatherers;
+      interrupted = s .interrupted;
       moving = s .moving;
       serial = s .serial;
       made = s .made;
@@ -198,6 +204,7 @@ setRel x s =
       rel = x;
       fel = s .fel;
       gatherers = s .gatherers;
+      interrupted = s .interrupted;
       moving = s .moving;
       serial = s .serial;
       made = s .made;
@@ -220,6 +227,7 @@ setFel x s =
       rel = s .rel;
       fel = x;
       gatherers = s .gatherers;
+      interrupted = s .interrupted;
       moving = s .moving;
       serial = s .serial;
       made = s .made;
@@ -242,6 +250,30 @@ setGatherers x s =
       rel = s .rel;
       fel = s .fel;
       gatherers = x;
+      interrupted = s .interrupted;
+      moving = s .moving;
+      serial = s .serial;
+      made = s .made;
+      ended = s .ended;
+      turns = s .turns;
+      records = s .records;
+      written = s .written;
+      end = s .end;
+    }
+
+abbrev pub setInterrupted : List Interrupted → State → State
+setInterrupted x s =
+    record {
+      view = s .view;
+      counter = s .counter;
+      samples = s .samples;
+      ql = s .ql;
+      wel = s .wel;
+      wsl = s .wsl;
+      rel = s .rel;
+      fel = s .fel;
+      gatherers = s .gatherers;
+      interrupted = x;
       moving = s .moving;
       serial = s .serial;
       made = s .made;
@@ -264,6 +296,7 @@ setMoving x s =
       rel = s .rel;
       fel = s .fel;
       gatherers = s .gatherers;
+      interrupted = s .interrupted;
       moving = x;
       serial = s .serial;
       made = s .made;
@@ -286,6 +319,7 @@ setSerial x s =
       rel = s .rel;
       fel = s .fel;
       gatherers = s .gatherers;
+      interrupted = s .interrupted;
       moving = s .moving;
       serial = x;
       made = s .made;
@@ -308,6 +342,7 @@ setMade x s =
       rel = s .rel;
       fel = s .fel;
       gatherers = s .gatherers;
+      interrupted = s .interrupted;
       moving = s .moving;
       serial = s .serial;
       made = x;
@@ -330,6 +365,7 @@ setEnded x s =
       rel = s .rel;
       fel = s .fel;
       gatherers = s .gatherers;
+      interrupted = s .interrupted;
       moving = s .moving;
       serial = s .serial;
       made = s .made;
@@ -352,6 +388,7 @@ setTurns x s =
       rel = s .rel;
       fel = s .fel;
       gatherers = s .gatherers;
+      interrupted = s .interrupted;
       moving = s .moving;
       serial = s .serial;
       made = s .made;
@@ -374,6 +411,7 @@ setRecords x s =
       rel = s .rel;
       fel = s .fel;
       gatherers = s .gatherers;
+      interrupted = s .interrupted;
       moving = s .moving;
       serial = s .serial;
       made = s .made;
@@ -396,6 +434,7 @@ setWritten x s =
       rel = s .rel;
       fel = s .fel;
       gatherers = s .gatherers;
+      interrupted = s .interrupted;
       moving = s .moving;
       serial = s .serial;
       made = s .made;
@@ -418,6 +457,7 @@ setEnd x s =
       rel = s .rel;
       fel = s .fel;
       gatherers = s .gatherers;
+      interrupted = s .interrupted;
       moving = s .moving;
       serial = s .serial;
       made = s .made;

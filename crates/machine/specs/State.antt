@@ -2,7 +2,7 @@
 use Prim.Native.Nat.{ℕ}
 use mathlib.Core.List.{List}
 use mathlib.Core.Option.{Option}
-use Rattle.machine.specs.Transaction.{Transaction, Event, Gatherer}
+use Rattle.machine.specs.Transaction.{Transaction, Event, Gatherer, Interrupted}
 use Rattle.machine.specs.Term.{View}
 use Rattle.machine.specs.Trace.{Record}
 
@@ -30,6 +30,8 @@ pub record State : Type 0 where
   pub fel : List Event
   -- document 02, item 8: "a list of its own per block"
   pub gatherers : List (List Gatherer)
+  -- document 02, item 11: "a list of interrupted ones"
+  pub interrupted : List Interrupted
   pub moving : Option Transaction
   -- "Serials count 1, 2, 3.. over the whole run": the last one given
   pub serial : ℕ

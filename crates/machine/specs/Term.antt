@@ -10,18 +10,20 @@ use Rattle.machine.specs.Lists.{nth}
 -- ---- What terms see
 
 -- A server: a facility is one of capacity 1. The facilities come first and the storages are numbered on after them.
--- Document 02, item 6: "A facility now keeps the number of its holder", 0 for none; a storage has none.
+-- Document 02, item 6: "A facility now keeps the number of its holder", 0 for none; a storage has none. Item 11: was a facility in use
+-- preempted by its holder, or seized?
 -- Ticks and the longest queue are statistics (Turn.antt).
 pub record Server : Type 0 where
   pub capacity : ℕ
   pub inUse : ℕ
   pub holder : ℕ
+  pub preempted : Bool
   pub unitTicks : ℕ
   pub waitTicks : ℕ
   pub longest : ℕ
 
 unfoldable pub idleServer : ℕ → Server
-idleServer capacity = record { capacity = capacity; inUse = 0; holder = 0; unitTicks = 0; waitTicks = 0; longest = 0 }
+idleServer capacity = record { capacity = capacity; inUse = 0; holder = 0; preempted = false; unitTicks = 0; waitTicks = 0; longest = 0 }
 
 pub record Queue : Type 0 where
   pub content : ℕ

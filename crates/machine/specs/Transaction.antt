@@ -17,7 +17,7 @@ pub record Transaction : Type 0 where
   pub returning : Bool
   -- Document 02, item 7: the clock at which it "last entered the group's first block". One stamp suffices: groups share no block and are
   -- entered at their first block alone, so whoever stands inside a group entered no other group's first block since. Nobody is delayed
-  -- inside one: on the FEL the move time takes its place.
+  -- inside one: on the FEL the move time takes its place, and for an interrupted one its remaining ticks.
   pub stamp : ℕ
   -- Document 02, item 8: the number of the one that founded its family
   pub family : ℕ
@@ -53,3 +53,9 @@ earlier a b = ltb (a .time) (b .time) || (eqb (a .time) (b .time) && precedes (a
 pub record Gatherer : Type 0 where
   pub who : Transaction
   pub come : ℕ
+
+-- Document 02, item 11: an interrupted one, the facility that was taken from it, and "its remaining ticks".
+pub record Interrupted : Type 0 where
+  pub who : Transaction
+  pub facility : ℕ
+  pub remaining : ℕ

@@ -26,6 +26,7 @@ sampleServers ticks (v ∷ l) (q ∷ ql) =
       capacity = v .capacity;
       inUse = v .inUse;
       holder = v .holder;
+      preempted = v .preempted;
       unitTicks = v .unitTicks + v .inUse * ticks;
       waitTicks = v .waitTicks + length q * ticks;
       longest = max (v .longest) (length q);

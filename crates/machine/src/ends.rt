@@ -30,7 +30,7 @@ pub const NO_CONTENT: u32 = 25;
 // the last serial or the number of turns is at its limit
 pub const WORN_OUT: u32 = 26;
 
-// RELEASE by another than the holder
+// RELEASE by another than the holder or of a preempted facility; RETURN of a seized one or by another (document 02, item 11)
 pub const NOT_HOLDER: u32 = 27;
 
 // TERMINATE while holding a facility

@@ -25,5 +25,10 @@ pub const JOINED_WAIT: u32 = 17;
 // document 02, item 8: families that gather
 pub const ASSEMBLE: u32 = 18;
 
+// document 02, item 11: a crane that can be taken over
+pub const PREEMPT: u32 = 19;
+
+pub const RETURN: u32 = 20;
+
 // how many there are
-pub const KINDS: usize = 18;
+pub const KINDS: usize = 20;

@@ -163,7 +163,7 @@ module _ (tapeBytes : List ℕ) (m : BlockModel) (r : Rows) (t : Transaction) (s
 
 -- Lining up a transaction on list p of a state changes that list and nothing that scalars hold. Under edition 1 the list is in order.
 pub record Puts (edition p : ℕ) (into : Transaction → State → State) (s : State) : Type 0 where
-  pub lists : (t : Transaction) (q : ℕ) → q < 706 → update p (Moves.lineUp edition t (listsOf s p)) (listsOf s) q ≡ listsOf (into t s) q
+  pub lists : (t : Transaction) (q : ℕ) → q < 770 → update p (Moves.lineUp edition t (listsOf s p)) (listsOf s) q ≡ listsOf (into t s) q
   pub sorted : edition ≡ 1 → Sorted precedes (listsOf s p)
   pub stays : (t : Transaction) → Sorted (orderOf p) (Moves.lineUp edition t (listsOf s p))
   pub future : (t : Transaction) → s .fel ≡ into t s .fel
@@ -244,7 +244,7 @@ puts-wsl s sorted =
       moving = λ t. refl;
     }
 
-puts-listing : (edition p : ℕ) → p < 706 → (into : Transaction → State → State) (w : List ℕ) (k : ℕ) (t : Transaction) (s : State) → Puts edition p into s
+puts-listing : (edition p : ℕ) → p < 770 → (into : Transaction → State → State) (w : List ℕ) (k : ℕ) (t : Transaction) (s : State) → Puts edition p into s
     → Listing w k (some t) s → Listing (lineUp edition w p k) 1024 none (into t s)
 puts-listing edition p hp into w k t s puts h =
     listing-line w k t s (into t s) h (rw (← puts .made t, ← puts .ended t)) edition p hp (puts .sorted) (puts .stays t) (puts .lists t) (puts .future t)
@@ -260,7 +260,7 @@ pub record Waits (m : Moved) (b : Bare) : Type 0 where
   pub nobody : b .state .moving ≡ none
   pub note : noteOf (m .scalars .note) ≡ b .note
 
-module _ (edition p : ℕ) (hp : p < 706) (into : Transaction → State → State) (w : List ℕ) (x : Scalars) (t : Transaction) (s : State) (alone : s .moving ≡ none)
+module _ (edition p : ℕ) (hp : p < 770) (into : Transaction → State → State) (w : List ℕ) (x : Scalars) (t : Transaction) (s : State) (alone : s .moving ≡ none)
     (listing : Listing w (x .moving) (some t) s) (counting : Counting x s) where
   put-back-waits : Puts edition p into s → Waits (putBack w x p edition) (record { note = noNote; state = into t s })
   unfolding putBack moved noteOf

@@ -8,7 +8,7 @@ use lib.Dec.{T}
 use lib.ListN.{length, getD, length-append}
 use borrow.Author.Tests.{ne-eqb, lt-ltb}
 use Rattle.machine.specs.Term.{Term, Relation}
-use Rattle.machine.specs.Block.{Code, codeIndex, welIndex, generate, advance, terminate, seize, release, enter, leave, waitServer, waitTerms, branch, goto, assign, priority, split, arrive, depart, assemble}
+use Rattle.machine.specs.Block.{Code, codeIndex, welIndex, generate, advance, terminate, seize, release, enter, leave, waitServer, waitTerms, branch, goto, assign, priority, split, arrive, depart, assemble, preempt, giveBack}
 use Rattle.tables.specs.Forms.{blockForms}
 use Rattle.tables.specs.Numbers.{blockNumbers, termNumbers, relationNumber}
 use Rattle.tables.specs.Represents.{smallTerm}
@@ -142,4 +142,14 @@ formed-depart most q =
 pub formed-assemble : (most : ℕ) (n : ℕ) → Formed most (assemble n)
 unfolding targetFrom backFrom targetInside blockForms
 formed-assemble most n =
+    record { width = omega arith; small = tt; generates = refl; leaves = refl; target = refl; back = refl; waits = refl; inside = tt; names = omega arith }
+
+pub formed-preempt : (most : ℕ) (f : ℕ) → Formed most (preempt f)
+unfolding targetFrom backFrom targetInside blockForms
+formed-preempt most f =
+    record { width = omega arith; small = tt; generates = refl; leaves = refl; target = refl; back = refl; waits = refl; inside = tt; names = omega arith }
+
+pub formed-return : (most : ℕ) (f : ℕ) → Formed most (giveBack f)
+unfolding targetFrom backFrom targetInside blockForms
+formed-return most f =
     record { width = omega arith; small = tt; generates = refl; leaves = refl; target = refl; back = refl; waits = refl; inside = tt; names = omega arith }

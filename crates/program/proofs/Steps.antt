@@ -10,7 +10,7 @@ use borrow.Author.Tests.{le-leb, lt-leb}
 use Rattle.machine.specs.Lists.{nth}
 use Rattle.machine.specs.Parser.{Cursor, Parsed, parsed, refused, Parser, continue, field}
 use Rattle.machine.specs.Term.{Term}
-use Rattle.machine.specs.Block.{codeIndex, Block, generate, advance, terminate, seize, release, enter, leave, waitServer, waitTerms, branch, goto, assign, priority, split, arrive, depart, assemble}
+use Rattle.machine.specs.Block.{codeIndex, Block, generate, advance, terminate, seize, release, enter, leave, waitServer, waitTerms, branch, goto, assign, priority, split, arrive, depart, assemble, preempt, giveBack}
 use Rattle.machine.specs.Decode.{Counts, blockTerm, relationOf, codeOf, codeServer, storageUnits, operands, blockField}
 use Rattle.machine.specs.declared.model.Model.{Model}
 use Rattle.tables.specs.Forms.{blockForms}
@@ -29,7 +29,7 @@ use Rattle.values.proofs.Cells.{sets-above}
 use Rattle.values.proofs.Tags.{by-tag, relation-number}
 use Rattle.program.specs.Formed.{Formed}
 use Rattle.program.specs.Shapes.{pairField, pairShape, Pair, unitsField, unitsShape, watchedField, watchedShape, comparedField, comparedShape, operandsShape, blockShape, capacitiesOf}
-use Rattle.program.proofs.Formed.{formed-generate, formed-advance, formed-terminate, formed-seize, formed-release, formed-enter, formed-leave, formed-wait-server, joined-row, formed-wait-terms, formed-branch, formed-goto, formed-assign, formed-priority, formed-split, formed-arrive, formed-depart, formed-assemble}
+use Rattle.program.proofs.Formed.{formed-generate, formed-advance, formed-terminate, formed-seize, formed-release, formed-enter, formed-leave, formed-wait-server, joined-row, formed-wait-terms, formed-branch, formed-goto, formed-assign, formed-priority, formed-split, formed-arrive, formed-depart, formed-assemble, formed-preempt, formed-return}
 
 -- ---- One number, and two
 
@@ -377,6 +377,14 @@ module _ (s : List ℕ) (n : Counts) (capacities : List ℕ) {p : Place} {to : �
   unfolding operands blockForms
   kind-18 k = made 18 assemble 2 _ k (λ v l h. ap (λ (x : ℕ). x ∷ []) (omega arith)) (λ v l h. formed-assemble (n .blocks) v) (λ v. refl)
 
+  pub kind-19 : Stores (numberShape 1 (n .facilities) 0) p to l₀ l₁ r₁ (field s 3 1 (n .facilities) (cursorOf p)) → Stores (operandsShape (n .blocks) 19) p to l₀ l₁ r₁ (operands s n capacities 19 (cursorOf p))
+  unfolding operands blockForms
+  kind-19 k = made 19 preempt 0 _ k (λ v l h. ap (λ (x : ℕ). x ∷ []) (omega arith)) (λ v l h. formed-preempt (n .blocks) v) (λ v. refl)
+
+  pub kind-20 : Stores (numberShape 1 (n .facilities) 0) p to l₀ l₁ r₁ (field s 3 1 (n .facilities) (cursorOf p)) → Stores (operandsShape (n .blocks) 20) p to l₀ l₁ r₁ (operands s n capacities 20 (cursorOf p))
+  unfolding operands blockForms
+  kind-20 k = made 20 giveBack 0 _ k (λ v l h. ap (λ (x : ℕ). x ∷ []) (omega arith)) (λ v l h. formed-return (n .blocks) v) (λ v. refl)
+
   -- ---- Kinds of two numbers
 
   pub kind-6 : Stores (unitsShape n) p to l₀ l₁ r₁ (unitsField s n capacities (cursorOf p)) → Stores (operandsShape (n .blocks) 6) p to l₀ l₁ r₁ (operands s n capacities 6 (cursorOf p))
@@ -422,14 +430,14 @@ module _ (s : List ℕ) (n : Counts) (capacities : List ℕ) {p : Place} {to : �
 -- ---- A block
 
 module _ (s : List ℕ) (n : Counts) (capacities : List ℕ) {p : Place} {to : ℕ} {l₀ l₁ : List ℕ} {r₁ : Taken}
-    (k₁ : Takes (numberShape 1 18 1) p to l₀ l₁ r₁ (field s 3 1 18 (cursorOf p))) where
-  pub block-stop : {m : ℕ} (after : List ℕ) → r₁ ≡ NotTaken m → Stores (blockShape (n .blocks)) p to l₀ after (Refused m) (blockField s 18 n capacities (cursorOf p))
+    (k₁ : Takes (numberShape 1 20 1) p to l₀ l₁ r₁ (field s 3 1 20 (cursorOf p))) where
+  pub block-stop : {m : ℕ} (after : List ℕ) → r₁ ≡ NotTaken m → Stores (blockShape (n .blocks)) p to l₀ after (Refused m) (blockField s 20 n capacities (cursorOf p))
   unfolding blockField
   block-stop after told = takes-stop (Stores _ _ _ _ _ _) _ _ k₁ told (record { held = refl })
 
   pub block-kept : {kind : ℕ} {q : Place} {l₂ : List ℕ} {r₂ : Stored} → r₁ ≡ Number kind q →
       (l₁ ≡ sets l₀ to (kind ∷ []) → Stores (operandsShape (n .blocks) kind) q (to + 1) l₁ l₂ r₂ (operands s n capacities kind (cursorOf q))) →
-      Stores (blockShape (n .blocks)) p to l₀ l₂ r₂ (blockField s 18 n capacities (cursorOf p))
+      Stores (blockShape (n .blocks)) p to l₀ l₂ r₂ (blockField s 20 n capacities (cursorOf p))
   unfolding blockField
   block-kept {kind} {q} {l₂} {r₂} told k₂ =
       takes-bind (Stores _ _ _ _ _ _) _ _ k₁ told
@@ -454,11 +462,11 @@ past : {i k : ℕ} → i ≤ k → (k ≡ i → ⊥) → suc i ≤ k
 past {i} {k} h n = omega arith
 
 -- a kind that is none of the others is the last
-pub the-last : (k : ℕ) → k ≤ 18 → 1 ≤ k →
-    ((((((((((((((((Unit {0} × (k ≡ 1 → ⊥)) × (k ≡ 2 → ⊥)) × (k ≡ 3 → ⊥)) × (k ≡ 4 → ⊥)) × (k ≡ 5 → ⊥)) × (k ≡ 6 → ⊥)) × (k ≡ 7 → ⊥)) × (k ≡ 8 → ⊥)) × (k ≡ 9 → ⊥)) × (k ≡ 10 → ⊥)) × (k ≡ 11 → ⊥)) × (k ≡ 12 → ⊥)) × (k ≡ 13 → ⊥)) × (k ≡ 14 → ⊥)) × (k ≡ 15 → ⊥)) × (k ≡ 16 → ⊥)) × (k ≡ 17 → ⊥) → k ≡ 18
+pub the-last : (k : ℕ) → k ≤ 20 → 1 ≤ k →
+    ((((((((((((((((((Unit {0} × (k ≡ 1 → ⊥)) × (k ≡ 2 → ⊥)) × (k ≡ 3 → ⊥)) × (k ≡ 4 → ⊥)) × (k ≡ 5 → ⊥)) × (k ≡ 6 → ⊥)) × (k ≡ 7 → ⊥)) × (k ≡ 8 → ⊥)) × (k ≡ 9 → ⊥)) × (k ≡ 10 → ⊥)) × (k ≡ 11 → ⊥)) × (k ≡ 12 → ⊥)) × (k ≡ 13 → ⊥)) × (k ≡ 14 → ⊥)) × (k ≡ 15 → ⊥)) × (k ≡ 16 → ⊥)) × (k ≡ 17 → ⊥)) × (k ≡ 18 → ⊥)) × (k ≡ 19 → ⊥) → k ≡ 20
 the-last k h l n =
     le-antisymm h
-    (past (past (past (past (past (past (past (past (past (past (past (past (past (past (past (past (past l (n .0 .0 .0 .0 .0 .0 .0 .0 .0 .0 .0 .0 .0 .0 .0 .0 .1)) (n .0 .0 .0 .0 .0 .0 .0 .0 .0 .0 .0 .0 .0 .0 .0 .1)) (n .0 .0 .0 .0 .0 .0 .0 .0 .0 .0 .0 .0 .0 .0 .1)) (n .0 .0 .0 .0 .0 .0 .0 .0 .0 .0 .0 .0 .0 .1)) (n .0 .0 .0 .0 .0 .0 .0 .0 .0 .0 .0 .0 .1)) (n .0 .0 .0 .0 .0 .0 .0 .0 .0 .0 .0 .1)) (n .0 .0 .0 .0 .0 .0 .0 .0 .0 .0 .1)) (n .0 .0 .0 .0 .0 .0 .0 .0 .0 .1)) (n .0 .0 .0 .0 .0 .0 .0 .0 .1)) (n .0 .0 .0 .0 .0 .0 .0 .1)) (n .0 .0 .0 .0 .0 .0 .1)) (n .0 .0 .0 .0 .0 .1)) (n .0 .0 .0 .0 .1)) (n .0 .0 .0 .1)) (n .0 .0 .1)) (n .0 .1)) (n .1))
+    (past (past (past (past (past (past (past (past (past (past (past (past (past (past (past (past (past (past (past l (n .0 .0 .0 .0 .0 .0 .0 .0 .0 .0 .0 .0 .0 .0 .0 .0 .0 .0 .1)) (n .0 .0 .0 .0 .0 .0 .0 .0 .0 .0 .0 .0 .0 .0 .0 .0 .0 .1)) (n .0 .0 .0 .0 .0 .0 .0 .0 .0 .0 .0 .0 .0 .0 .0 .0 .1)) (n .0 .0 .0 .0 .0 .0 .0 .0 .0 .0 .0 .0 .0 .0 .0 .1)) (n .0 .0 .0 .0 .0 .0 .0 .0 .0 .0 .0 .0 .0 .0 .1)) (n .0 .0 .0 .0 .0 .0 .0 .0 .0 .0 .0 .0 .0 .1)) (n .0 .0 .0 .0 .0 .0 .0 .0 .0 .0 .0 .0 .1)) (n .0 .0 .0 .0 .0 .0 .0 .0 .0 .0 .0 .1)) (n .0 .0 .0 .0 .0 .0 .0 .0 .0 .0 .1)) (n .0 .0 .0 .0 .0 .0 .0 .0 .0 .1)) (n .0 .0 .0 .0 .0 .0 .0 .0 .1)) (n .0 .0 .0 .0 .0 .0 .0 .1)) (n .0 .0 .0 .0 .0 .0 .1)) (n .0 .0 .0 .0 .0 .1)) (n .0 .0 .0 .0 .1)) (n .0 .0 .0 .1)) (n .0 .0 .1)) (n .0 .1)) (n .1))
 
 -- a block leaves the capacities
 pub block-capacities : (m : Model) {n b : ℕ} {q next : Place} {l l₁ : List ℕ} {r : Stored} (P : Parsed Block) → b < 256 →

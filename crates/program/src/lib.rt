@@ -208,7 +208,9 @@ fn operands(
         15 => single(s, tables, to, p, 1, m.queues, 0),
         16 => single(s, tables, to, p, 1, m.queues, 0),
         17 => joined_wait(s, tables, to, m, p),
-        _ => single(s, tables, to, p, 2, Model::MAX_ASSEMBLE, 2),
+        18 => single(s, tables, to, p, 2, Model::MAX_ASSEMBLE, 2),
+        19 => single(s, tables, to, p, 1, m.facilities, 0),
+        _ => single(s, tables, to, p, 1, m.facilities, 0),
     }
 }
 

@@ -32,24 +32,24 @@ records-few m outcome p l = those-length _ l
 
 -- ---- The sums
 
-module _ (m : BlockModel) (outcome : ℕ) (p : Facts → Bool) (records : List Logged) (tables tally : List ℕ) (first second index base : ℕ)
-    (named : (b : ℕ) → b < length (m .blocks) → names tables first second index b ≡ p (facts (blockAt m (suc b))))
+module _ (m : BlockModel) (outcome : ℕ) (p : Facts → Bool) (records : List Logged) (tables tally : List ℕ) (first second third index base : ℕ)
+    (named : (b : ℕ) → b < length (m .blocks) → names tables first second third index b ≡ p (facts (blockAt m (suc b))))
     (counted : (b : ℕ) → b < length (m .blocks) → getD tally (base + b) 0 ≡ atBlock outcome (suc b) records) where
   abbrev shares : ℕ → ℕ
   shares b = Tallied.share m outcome p records b
 
-  total-shares : (n : ℕ) → n ≤ length (m .blocks) → upTo n shares ≤ 18446744073709551615 → total tables tally first second index base n ≡ upTo n shares
+  total-shares : (n : ℕ) → n ≤ length (m .blocks) → upTo n shares ≤ 18446744073709551615 → total tables tally first second third index base n ≡ upTo n shares
   unfolding total upTo
   total-shares zero h most = refl
   total-shares (suc n) h most =
-      let one : share tables tally first second index base n ≡ shares (suc n) = step in
+      let one : share tables tally first second third index base n ≡ shares (suc n) = step in
       omega (arith, total-shares n (omega arith) (omega arith))
     where
-      step : share tables tally first second index base n ≡ shares (suc n)
+      step : share tables tally first second third index base n ≡ shares (suc n)
       step = unfold share in (ap₂ (λ (t : Bool) (x : ℕ). cond t x 0) (named n h) (counted n h))
 
   pub total-records : Each (λ (r : Logged). InModel m (r .entry)) records → length records ≤ 100000001 →
-      total tables tally first second index base (length (m .blocks)) ≡ recordsAt m outcome p records
+      total tables tally first second third index base (length (m .blocks)) ≡ recordsAt m outcome p records
   total-records inside few =
       let e : recordsAt m outcome p records ≡ upTo (length (m .blocks)) shares = Tallied.records-tallied m outcome p records inside in
       total-shares (length (m .blocks)) (omega arith) (omega (arith, records-few m outcome p records)) ∙ sym e

@@ -10,7 +10,7 @@ use lib.Dec.{eqb}
 use lib.ListN.{length, drop, length-append, length-map, length-replicate}
 use lib.Seq.{sets, length-sets, sets-eq}
 use Rattle.machine.specs.Limits.{maxReportNumber, maxClock}
-use Rattle.machine.specs.Transaction.{Transaction, Event, Gatherer}
+use Rattle.machine.specs.Transaction.{Transaction, Event, Gatherer, Interrupted}
 use Rattle.machine.specs.Lists.{flat}
 use Rattle.machine.specs.Term.{Server, Queue}
 use Rattle.machine.specs.Facts.{Facts}
@@ -96,9 +96,9 @@ module _ {A : Type 0} (P : A → Type 0) where
 
 -- a number of at most four groups and a place of one
 abbrev Short : Place → Type 0
-Short p = (p .number ≤ 100000000) × (p .place ≤ 7)
+Short p = (p .number ≤ 100000000) × (p .place ≤ 8)
 
-each-placed : (c : ℕ) → c ≤ 7 → (l : List Transaction) → Each (λ t. t .number ≤ 100000000) l → Each Short (placed c l)
+each-placed : (c : ℕ) → c ≤ 8 → (l : List Transaction) → Each (λ t. t .number ≤ 100000000) l → Each Short (placed c l)
 unfolding placed
 each-placed c b [] h = tt
 each-placed c b (t ∷ l) h = ((h .0, b), each-placed c b l (h .1))
@@ -166,7 +166,7 @@ module _ (m : BlockModel) (tape : List (List ℕ)) (s : State) (proper : Proper 
   each-mover none h = tt
   each-mover (some t) h = (h, tt)
 
-  short : (c : ℕ) → c ≤ 7 → (l : List Transaction) → Each (Numbered (s .made)) l → Each Short (placed c l)
+  short : (c : ℕ) → c ≤ 8 → (l : List Transaction) → Each (Numbered (s .made)) l → Each Short (placed c l)
   short c b l h = each-placed c b l (each-few l h)
 
   -- the places list by list
@@ -191,10 +191,14 @@ module _ (m : BlockModel) (tape : List (List ℕ)) (s : State) (proper : Proper 
   abbrev gathering : List Place
   gathering = placed 7 (map (λ g. g .who) (flat (s .gatherers)))
 
+  abbrev interrupted : List Place
+  interrupted = placed 8 (map (λ i. i .who) (s .interrupted))
+
   short-places : Each Short (places s)
   unfolding places
   short-places =
-      each-append Short (queued ++ stopped ++ compared ++ later ++ ready ++ mover) gathering
+      each-append Short (queued ++ stopped ++ compared ++ later ++ ready ++ mover ++ gathering) interrupted
+      (each-append Short (queued ++ stopped ++ compared ++ later ++ ready ++ mover) gathering
       (each-append Short (queued ++ stopped ++ compared ++ later ++ ready) mover
       (each-append Short (queued ++ stopped ++ compared ++ later) ready
       (each-append Short (queued ++ stopped ++ compared) later
@@ -206,7 +210,8 @@ module _ (m : BlockModel) (tape : List (List ℕ)) (s : State) (proper : Proper 
       (short 5 (omega arith) (s .rel) (everybody .rel)))
       (short 6 (omega arith) (movingOne (s .moving)) (each-mover (s .moving) (everybody .moving))))
       (short 7 (omega arith) (map (λ g. g .who) (flat (s .gatherers)))
-      (map-each (λ (g : Gatherer). g .who) (Numbered (s .made)) (flat (s .gatherers)) (each-flat (λ (g : Gatherer). Numbered (s .made) (g .who)) (s .gatherers) (everybody .gatherers))))
+      (map-each (λ (g : Gatherer). g .who) (Numbered (s .made)) (flat (s .gatherers)) (each-flat (λ (g : Gatherer). Numbered (s .made) (g .who)) (s .gatherers) (everybody .gatherers)))))
+      (short 8 (omega arith) (map (λ i. i .who) (s .interrupted)) (map-each (λ (i : Interrupted). i .who) (Numbered (s .made)) (s .interrupted) (everybody .interrupted)))
 
   sorted-length : length (byNumber (places s)) ≡ length (places s)
   sorted-length = sym (sum-length (byNumber (places s))) ∙ sum-sorted (λ p. 1) (places s) ∙ sum-length (places s)

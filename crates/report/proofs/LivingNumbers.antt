@@ -10,7 +10,8 @@ use lib.Dec.{leb, eqb}
 use lib.ListN.{length}
 use Rattle.machine.specs.State.{State}
 use Rattle.machine.specs.Report.{Place, places, byNumber, placeNumbers}
-use Rattle.machine.specs.Claims.{bit, standing}
+use Rattle.machine.specs.Claims.{bit, Each, standing}
+use Rattle.machine.proofs.Proper.{Names}
 use Rattle.machine.proofs.Sums.{sumOn, sum-length}
 use Rattle.rows.specs.Layout.{numberField}
 use Rattle.rows.specs.Cells.{read}
@@ -26,12 +27,13 @@ use Rattle.report.proofs.Places.{all-places}
 -- ---- Count and order
 
 module _ (w : List ℕ) (moving : ℕ) (s : State) (h : Listing w moving (s .moving) s) (qls : length (s .ql) ≤ 64) (wels : length (s .wel) ≤ 384) (blocks : length (s .gatherers) ≤ 256)
+    (known : Each (λ i. Names 64 (i .facility)) (s .interrupted))
     (once : (n : ℕ) → standing s n ≤ 1) where
   abbrev total : (Place → ℕ) → ℕ
   total f = all w moving 0 f
 
   same-sum : (f : Place → ℕ) → total f ≡ sumOn f (places s)
-  same-sum f = all-places f w moving s h qls wels blocks
+  same-sum f = all-places f w moving s h qls wels blocks known
 
   count-all : livingCount w moving ≡ total (λ p. 1)
   unfolding livingCount

@@ -12,7 +12,8 @@ use Rattle.machine.specs.Term.{Server, Queue, idleServer, emptyQueue}
 use Rattle.machine.specs.Block.{BlockModel}
 use Rattle.machine.specs.State.{State, Logged}
 use Rattle.machine.specs.Report.{recordsAt, serverNumbers, queueNumbers, places, byNumber, placeNumbers, reportNumbers, reportBytes}
-use Rattle.machine.proofs.Proper.{Proper, servers}
+use Rattle.machine.proofs.Proper.{Proper, Names, servers}
+use Rattle.machine.proofs.RunLaws.{each-map}
 use Rattle.machine.proofs.Conservation.{Sound, stands-at-most-once}
 use Rattle.tables.specs.Layout as Layout
 use Rattle.tables.specs.Represents.{headerOf, Represents}
@@ -97,9 +98,9 @@ module _ (m : BlockModel) (tape : List (List ℕ)) (tapeBytes tables lists : Lis
       rw (
         blocks-all,
         ← next,
-        total-records m 0 (λ f. eqb (f .server) (suc v)) (s .records) tables (r .tally) 4 6 v Layout.entries
+        total-records m 0 (λ f. eqb (f .server) (suc v)) (s .records) tables (r .tally) 4 6 19 v Layout.entries
             (takes-server m tape tapeBytes tables lists proper represents v) entries (traced .records) few,
-        total-records m 1 (λ f. eqb (f .server) (suc v)) (s .records) tables (r .tally) 4 6 v Layout.waits
+        total-records m 1 (λ f. eqb (f .server) (suc v)) (s .records) tables (r .tally) 4 6 19 v Layout.waits
             (takes-server m tape tapeBytes tables lists proper represents v) waits (traced .records) few,
         stands .tallying .servers .unit-ticks v h,
         stands .tallying .servers .wait-ticks v h,
@@ -113,7 +114,7 @@ module _ (m : BlockModel) (tape : List (List ℕ)) (tapeBytes tables lists : Lis
       rw (
         blocks-all,
         ← next,
-        total-records m 0 (λ f. eqb (f .queue) (suc q)) (s .records) tables (r .tally) 15 15 q Layout.entries
+        total-records m 0 (λ f. eqb (f .queue) (suc q)) (s .records) tables (r .tally) 15 15 15 q Layout.entries
             (fills-queue m tape tapeBytes tables lists proper represents q) entries (traced .records) few,
         stands .tallying .queues .content-ticks q h,
         stands .tallying .queues .longest q h,
@@ -140,6 +141,7 @@ module _ (m : BlockModel) (tape : List (List ℕ)) (tapeBytes tables lists : Lis
       (omega (arith, sane .shape .ql-length, proper .facilities, proper .storages))
       (omega (arith, sane .shape .wel-length, proper .facilities, proper .storages))
       (omega (arith, sane .shape .gatherer-length, proper .blocks))
+      (each-map (λ i (n : Names (m .facilities) (i .facility)). (n .0, omega (arith, n .1, proper .facilities))) (s .interrupted) (sane .interrupted))
       (stands-at-most-once m tape s sound)
 
   pub report-numbers : rowNumbers (headerOf m) tables (r .tally) (r .work) (r .scalars) ≡ reportNumbers m s

@@ -32,15 +32,15 @@ putAll-parts a b c d w =
 
 -- ---- Counts
 
-pub total-none : (tables tally : List ℕ) (first second index base : ℕ) → 0 ≡ total tables tally first second index base 0
+pub total-none : (tables tally : List ℕ) (first second third index base : ℕ) → 0 ≡ total tables tally first second third index base 0
 unfolding total
-total-none tables tally first second index base = refl
+total-none tables tally first second third index base = refl
 
-pub total-next : (tables tally : List ℕ) (first second index base n : ℕ) →
-    total tables tally first second index base (n + 1)
-    ≡ min (total tables tally first second index base n + share tables tally first second index base n) 18446744073709551615
+pub total-next : (tables tally : List ℕ) (first second third index base n : ℕ) →
+    total tables tally first second third index base (n + 1)
+    ≡ min (total tables tally first second third index base n + share tables tally first second third index base n) 18446744073709551615
 unfolding total
-total-next tables tally first second index base n = rw add-one
+total-next tables tally first second third index base n = rw add-one
 
 pub sum-none : (f : ℕ → ℕ) → 0 ≡ sumTo 0 f
 unfolding sumTo

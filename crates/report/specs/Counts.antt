@@ -8,31 +8,32 @@ use Rattle.tables.specs.Layout as Layout
 
 -- ---- Records at the blocks that name something
 
--- block b is of one of two kinds, and its first operand is this one
-unfoldable pub names : List ℕ → (first second index b : ℕ) → Bool
-names tables first second index b =
+-- block b is of one of three kinds, and its first operand is this one
+unfoldable pub names : List ℕ → (first second third index b : ℕ) → Bool
+names tables first second third index b =
     cond (eqb (getD tables (Layout.blockWidth * b + 1) 0) index)
-    (cond (eqb (getD tables (Layout.blockWidth * b) 0) first) true (eqb (getD tables (Layout.blockWidth * b) 0) second))
+    (cond (eqb (getD tables (Layout.blockWidth * b) 0) first) true
+    (cond (eqb (getD tables (Layout.blockWidth * b) 0) second) true (eqb (getD tables (Layout.blockWidth * b) 0) third)))
     false
 
 -- the count of block b at an offset of the tally, where it names the index
-unfoldable pub share : (tables tally : List ℕ) → (first second index base b : ℕ) → ℕ
-share tables tally first second index base b = cond (names tables first second index b) (getD tally (base + b) 0) 0
+unfoldable pub share : (tables tally : List ℕ) → (first second third index base b : ℕ) → ℕ
+share tables tally first second third index base b = cond (names tables first second third index b) (getD tally (base + b) 0) 0
 
 -- of the first n blocks; the sum stops at the largest number
-unfoldable pub total : (tables tally : List ℕ) → (first second index base n : ℕ) → ℕ
-total tables tally first second index base zero = 0
-total tables tally first second index base (suc n) =
-    min (total tables tally first second index base n + share tables tally first second index base n) Layout.most64
+unfoldable pub total : (tables tally : List ℕ) → (first second third index base n : ℕ) → ℕ
+total tables tally first second third index base zero = 0
+total tables tally first second third index base (suc n) =
+    min (total tables tally first second third index base n + share tables tally first second third index base n) Layout.most64
 
 -- ---- One server, one queue
 
--- SEIZE is kind 4, ENTER kind 6
+-- SEIZE is kind 4, ENTER kind 6, PREEMPT kind 19
 unfoldable pub serverRow : (tables tally : List ℕ) → (blocks v : ℕ) → List ℕ
 serverRow tables tally blocks v =
-    total tables tally 4 6 v Layout.entries blocks
+    total tables tally 4 6 19 v Layout.entries blocks
     ∷ getD tally (Layout.unitTicks + v) 0
-    ∷ total tables tally 4 6 v Layout.waits blocks
+    ∷ total tables tally 4 6 19 v Layout.waits blocks
     ∷ getD tally (Layout.waitTicks + v) 0
     ∷ getD tally (Layout.longestQl + v) 0
     ∷ []
@@ -40,7 +41,7 @@ serverRow tables tally blocks v =
 -- ARRIVE is kind 15
 unfoldable pub queueRow : (tables tally : List ℕ) → (blocks q : ℕ) → List ℕ
 queueRow tables tally blocks q =
-    total tables tally 15 15 q Layout.entries blocks
+    total tables tally 15 15 15 q Layout.entries blocks
     ∷ getD tally (Layout.contentTicks + q) 0
     ∷ getD tally (Layout.longestContent + q) 0
     ∷ []

@@ -2,6 +2,7 @@
 use codec::write_number;
 use machine::kinds::ARRIVE;
 use machine::kinds::ENTER;
+use machine::kinds::PREEMPT;
 use machine::kinds::SEIZE;
 use state::plus64;
 use tables::BLOCK_WIDTH;
@@ -23,10 +24,10 @@ ghost use Rattle.tables.specs.Layout.{serverCount};
 ghost use Rattle.report.specs.Counts.{names, share, total, serverRow, queueRow, rowsTo};
 ghost use Rattle.report.specs.Writing.{written, putAll};
 
-// Block b is of one of two kinds, and its first operand is this one.
-fn names(tables: &[u32], first: u32, second: u32, index: usize, b: usize) -> bool
+// Block b is of one of three kinds, and its first operand is this one.
+fn names(tables: &[u32], first: u32, second: u32, third: u32, index: usize, b: usize) -> bool
     requires { ⌜ b < maxBlocks ⌝ }
-    ensures { λ r. ⌜ r ≡ names (now (tables .entry)) first second index b ⌝ }
+    ensures { λ r. ⌜ r ≡ names (now (tables .entry)) first second third index b ⌝ }
 {
     let at = BLOCK_WIDTH * b;
     if number(tables, at + FIRST) as usize != index {
@@ -36,7 +37,10 @@ fn names(tables: &[u32], first: u32, second: u32, index: usize, b: usize) -> boo
     if kind == first {
         return true;
     }
-    kind == second
+    if kind == second {
+        return true;
+    }
+    kind == third
 }
 
 fn share(
@@ -44,15 +48,16 @@ fn share(
     tally: &[u64],
     first: u32,
     second: u32,
+    third: u32,
     index: usize,
     base: usize,
     b: usize,
 ) -> u64
     requires { ⌜ base ≤ Layout.waits ⌝ }
     requires { ⌜ b < maxBlocks ⌝ }
-    ensures { λ r. ⌜ r ≡ share (now (tables .entry)) (now (tally .entry)) first second index base b ⌝ }
+    ensures { λ r. ⌜ r ≡ share (now (tables .entry)) (now (tally .entry)) first second third index base b ⌝ }
 {
-    if names(tables, first, second, index, b) {
+    if names(tables, first, second, third, index, b) {
         return count(tally, base + b);
     }
     0
@@ -64,18 +69,22 @@ fn total(
     tally: &[u64],
     first: u32,
     second: u32,
+    third: u32,
     index: usize,
     base: usize,
     n: usize,
 ) -> u64
     requires { ⌜ base ≤ Layout.waits ⌝ }
     requires { ⌜ n ≤ maxBlocks ⌝ }
-    ensures { λ r. ⌜ r ≡ total (now (tables .entry)) (now (tally .entry)) first second index base n ⌝ }
+    ensures { λ r. ⌜ r ≡ total (now (tables .entry)) (now (tally .entry)) first second third index base n ⌝ }
 {
     let mut sum: u64 = 0;
     let mut b = 0;
     while b < n {
-        sum = plus64(sum, share(tables, tally, first, second, index, base, b));
+        sum = plus64(
+            sum,
+            share(tables, tally, first, second, third, index, base, b),
+        );
         b += 1;
     }
     sum
@@ -96,13 +105,13 @@ fn put_server(
     let entered = write_number(
         report,
         at,
-        total(tables, tally, SEIZE, ENTER, v, ENTRIES, blocks),
+        total(tables, tally, SEIZE, ENTER, PREEMPT, v, ENTRIES, blocks),
     );
     let used = write_number(report, entered, count(tally, UNIT_TICKS + v));
     let waits = write_number(
         report,
         used,
-        total(tables, tally, SEIZE, ENTER, v, WAITS, blocks),
+        total(tables, tally, SEIZE, ENTER, PREEMPT, v, WAITS, blocks),
     );
     let waited = write_number(report, waits, count(tally, WAIT_TICKS + v));
     write_number(report, waited, count(tally, LONGEST_QL + v))
@@ -144,7 +153,7 @@ fn put_queue(
     let arrived = write_number(
         report,
         at,
-        total(tables, tally, ARRIVE, ARRIVE, q, ENTRIES, blocks),
+        total(tables, tally, ARRIVE, ARRIVE, ARRIVE, q, ENTRIES, blocks),
     );
     let filled = write_number(report, arrived, count(tally, CONTENT_TICKS + q));
     write_number(report, filled, count(tally, LONGEST_CONTENT + q))

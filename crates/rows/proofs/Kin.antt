@@ -14,16 +14,16 @@ use Rattle.machine.specs.Lists.{insert}
 use Rattle.rows.specs.Layout.{listCount, place, head, rel, fel, free, fieldAt}
 use Rattle.rows.specs.Cells.{load, read, write}
 use Rattle.rows.specs.Lists.{removeAt, put, inFamily, familyCell}
-use Rattle.rows.specs.Holds.{transactionAt, eventAt, occurs, Chain, ending, Listed, Holds, update}
+use Rattle.rows.specs.Holds.{transactionAt, eventAt, occurs, ending, Listed, Holds, update}
 use Rattle.rows.specs.Ordered.{All, Sorted, Ordered}
 use Rattle.rows.specs.Shows.{orderOf, Shows, Loose, moved}
 use Rattle.rows.proofs.Store.{load-other}
 use Rattle.rows.proofs.Occurs.{same-refl, same-other, same-le, occurs-append, occurs-cons}
-use Rattle.rows.proofs.Chain.{chain-row, chain-after}
-use Rattle.rows.proofs.Insertion.{front, back, front-back, sorted-without}
+use Rattle.rows.proofs.Chain.{chain-row}
+use Rattle.rows.proofs.Insertion.{sorted-without}
+use Rattle.rows.proofs.Found.{Found, found}
 use Rattle.rows.proofs.Ordering.{ordered-list}
 use Rattle.rows.proofs.Structure.{row-of}
-use Rattle.rows.proofs.Spot.{short, walk-front}
 use Rattle.rows.proofs.Data.{transaction-kept, event-kept, map-kept}
 use Rattle.rows.proofs.Fields.{write-next}
 use Rattle.rows.proofs.Holding.{remove-holds, remove-keeps}
@@ -36,66 +36,16 @@ use Rattle.rows.proofs.Laws.{Wakes, Takes, Puts, takes, put-shows}
 
 -- ---- The first of a family
 
-module _ {A : Type 0} (r : A → A → Bool) (x : A) where
-  front-none : (l : List A) → All (λ y. r x y ≡ false) (front r x l)
-  unfolding All front
-  front-none [] = tt
-  front-none (y ∷ l) = go (r x y) refl (front-none l)
-    where
-      go : (t : Bool) → r x y ≡ t → All (λ y. r x y ≡ false) (front r x l) → All (λ y. r x y ≡ false) (cond t [] (y ∷ front r x l))
-      go true e h = tt
-      go false e h = (e, h)
-
-  back-first : (l : List A) (y : A) (b : List A) → back r x l ≡ y ∷ b → r x y ≡ true
-  unfolding back
-  back-first [] y b e = absurd (omega (arith, ap (λ (l : List A). length l) e))
-  back-first (z ∷ l) y b e = go (r x z) refl e (back-first l y b)
-    where
-      go : (t : Bool) → r x z ≡ t → cond t (z ∷ l) (back r x l) ≡ y ∷ b → (back r x l ≡ y ∷ b → r x y ≡ true) → r x y ≡ true
-      go true q e later = subst (λ (m : List A). All₁ m) e q
-        where
-          All₁ : List A → Type 0
-          All₁ [] = Unit {0}
-          All₁ (u ∷ m) = r x u ≡ true
-      go false q e later = later e
-
 abbrev pub Other : List ℕ → ℕ → ℕ → Type 0
 Other w f k = eqb (read w 10 k) f ≡ false
 
 -- a list has none of a family, or this row is the first
-pub data Kin (w : List ℕ) (p f : ℕ) (l : List ℕ) : Type 0 where
-  nobody : All (Other w f) l → 1024 ≤ load w (familyCell w p f) → Kin w p f l
-  somebody : (a b : List ℕ) (k : ℕ) → l ≡ a ++ k ∷ b → familyCell w p f ≡ ending (head p) a → load w (familyCell w p f) ≡ k → k < 1024
-      → All (Other w f) a → eqb (read w 10 k) f ≡ true → Kin w p f l
+abbrev pub Kin : (w : List ℕ) (p f : ℕ) (l : List ℕ) → Type 0
+Kin w p f l = Found w p (λ k. eqb (read w 10 k) f) (familyCell w p f) l
 
 pub kin-of : (w : List ℕ) (p f : ℕ) (l : List ℕ) → Listed w p l → Kin w p f l
-unfolding familyCell inFamily Chain
-kin-of w p f l one = go (back (inFamily w f) 0 l) refl
-  where
-    a : List ℕ
-    a = front (inFamily w f) 0 l
-
-    cell : familyCell w p f ≡ ending (head p) a
-    cell = unfold familyCell in (walk-front (inFamily w f) w p 0 1024 (head p) l (one .chain) (short w p l one))
-
-    parts : a ++ back (inFamily w f) 0 l ≡ l
-    parts = front-back (inFamily w f) 0 l
-
-    rest : Chain w (ending (head p) a) (back (inFamily w f) 0 l)
-    rest = chain-after w (head p) a (back (inFamily w f) 0 l) (subst (Chain w (head p)) (sym parts) (one .chain))
-
-    go : (b : List ℕ) → back (inFamily w f) 0 l ≡ b → Kin w p f l
-    go [] e =
-        nobody (subst (All (Other w f)) (sym (append-nil′ a) ∙ ap (λ (m : List ℕ). a ++ m) (sym e) ∙ parts) (unfold inFamily in (front-none (inFamily w f) 0 l)))
-        (rw cell (unfold Chain in (subst (Chain w (ending (head p) a)) e rest)))
-      where
-        append-nil′ : (m : List ℕ) → m ++ [] ≡ m
-        append-nil′ [] = refl
-        append-nil′ (x ∷ m) = ap (λ (k : List ℕ). x ∷ k) (append-nil′ m)
-    go (k ∷ b) e =
-        let at : Chain w (ending (head p) a) (k ∷ b) = subst (Chain w (ending (head p) a)) e rest in
-        somebody a b k (sym parts ∙ ap (λ (m : List ℕ). a ++ m) e) cell (ap (load w) cell ∙ unfold Chain in (at .0)) (unfold Chain in (at .1))
-        (unfold inFamily in (front-none (inFamily w f) 0 l)) (unfold inFamily in (back-first (inFamily w f) 0 l k b e))
+unfolding familyCell inFamily
+kin-of w p f l one = found w p (inFamily w f) l one
 
 -- ---- Its count: the next block of a row that stands on a list is written
 
@@ -115,7 +65,7 @@ module _ {A : Type 0} (r : A → A → Bool) (y y′ : A) (from : (z : A) → r 
   sorted-as [] b h = (behind-as b (h .0), h .1)
   sorted-as (u ∷ a) b h = (all-as u a b (h .0), sorted-as a b (h .1))
 
-module _ (w : List ℕ) (T : ℕ → List Transaction) (E : List Event) (s : Shows w T E) (p k : ℕ) (a b : List ℕ) (hp : p < 706) (hk : k < 1024) (was : s .rows p ≡ a ++ k ∷ b) where
+module _ (w : List ℕ) (T : ℕ → List Transaction) (E : List Event) (s : Shows w T E) (p k : ℕ) (a b : List ℕ) (hp : p < 770) (hk : k < 1024) (was : s .rows p ≡ a ++ k ∷ b) where
   abbrev L : ℕ → List ℕ
   L = s .rows
 
@@ -180,7 +130,7 @@ module _ (w : List ℕ) (T : ℕ → List Transaction) (E : List Event) (s : Sho
               (s .ordered);
         }
       where
-        go : (q : ℕ) → q < 706 → (t : Bool) → eqb q p ≡ t → map (transactionAt w′) (L q) ≡ cond t counted (T q)
+        go : (q : ℕ) → q < 770 → (t : Bool) → eqb q p ≡ t → map (transactionAt w′) (L q) ≡ cond t counted (T q)
         go q hq true e = ap (λ (i : ℕ). map (transactionAt w′) (L i)) (eqb-true q p e) ∙ ap (map (transactionAt w′)) was ∙ own
         go q hq false e = part (L q) (apart q (omega arith) (eqb-false q p e)) ∙ s .shown .lists q hq
 

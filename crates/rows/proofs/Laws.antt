@@ -90,7 +90,7 @@ module _ (w : List ℕ) (T : ℕ → List Transaction) (E : List Event) (s : Sho
 
   -- ---- The first of a list
 
-  pub head-shows : (p : ℕ) → p < 706 → Head w p (transactionAt w) (T p)
+  pub head-shows : (p : ℕ) → p < 770 → Head w p (transactionAt w) (T p)
   head-shows = head-shown w L T E (s .shown)
 
   pub head-fel-shows : Head w fel (eventAt w) E
@@ -109,7 +109,7 @@ module _ (w : List ℕ) (T : ℕ → List Transaction) (E : List Event) (s : Sho
         }
 
     -- what is shown then; the rows compute
-    abbrev pub shows-put : (p : ℕ) → p < 706 → Sorted precedes (T p) → Shows (put w p k) (update p (insert precedes (transactionAt w k) (T p)) T) E
+    abbrev pub shows-put : (p : ℕ) → p < 770 → Sorted precedes (T p) → Shows (put w p k) (update p (insert precedes (transactionAt w k) (T p)) T) E
     shows-put p hp sorted =
         record {
           rows = update p (insert (ahead w p) k (L p)) L;
@@ -118,7 +118,7 @@ module _ (w : List ℕ) (T : ℕ → List Transaction) (E : List Event) (s : Sho
         }
 
     -- onto a line of waiters, by an edition
-    abbrev pub shows-line : (edition p : ℕ) → p < 706 → (edition ≡ 1 → Sorted precedes (T p)) → Sorted (orderOf p) (Moves.lineUp edition (transactionAt w k) (T p))
+    abbrev pub shows-line : (edition p : ℕ) → p < 770 → (edition ≡ 1 → Sorted precedes (T p)) → Sorted (orderOf p) (Moves.lineUp edition (transactionAt w k) (T p))
         → Shows (lineUp edition w p k) (update p (Moves.lineUp edition (transactionAt w k) (T p)) T) E
     shows-line edition p hp sorted stays =
         record {
@@ -127,7 +127,7 @@ module _ (w : List ℕ) (T : ℕ → List Transaction) (E : List Event) (s : Sho
           ordered = ordered-list orderOf T E p _ stays o;
         }
 
-    pub line-shows : (edition p : ℕ) → p < 706 → (edition ≡ 1 → Sorted precedes (T p)) → Sorted (orderOf p) (Moves.lineUp edition (transactionAt w k) (T p))
+    pub line-shows : (edition p : ℕ) → p < 770 → (edition ≡ 1 → Sorted precedes (T p)) → Sorted (orderOf p) (Moves.lineUp edition (transactionAt w k) (T p))
         → Puts w (lineUp edition w p k) k (update p (Moves.lineUp edition (transactionAt w k) (T p)) T) E
     line-shows edition p hp sorted stays =
         puts (lineUp edition w p k) p (update p (Moves.lineUp edition (transactionAt w k) (T p)) T) E (omega arith) (line-keeps w L T E (s .shown) k off edition p hp sorted) (line-placed w L T E (s .shown) k off edition p hp sorted) (shows-line edition p hp sorted stays)
@@ -140,7 +140,7 @@ module _ (w : List ℕ) (T : ℕ → List Transaction) (E : List Event) (s : Sho
           ordered = ordered-fel orderOf T E _ (insert-sorted earlier earlier-order (eventAt w k) E (o .future)) o;
         }
 
-    pub put-shows : (p : ℕ) → p < 706 → Sorted precedes (T p) → Puts w (put w p k) k (update p (insert precedes (transactionAt w k) (T p)) T) E
+    pub put-shows : (p : ℕ) → p < 770 → Sorted precedes (T p) → Puts w (put w p k) k (update p (insert precedes (transactionAt w k) (T p)) T) E
     put-shows p hp sorted =
         puts (put w p k) p (update p (insert precedes (transactionAt w k) (T p)) T) E (omega arith) (put-keeps w L h p k (omega arith) off) (put-placed w L h p k (omega arith) off) (shows-put p hp sorted)
 
@@ -177,7 +177,7 @@ module _ (w : List ℕ) (T : ℕ → List Transaction) (E : List Event) (s : Sho
         }
 
   -- the first
-  pub take-shows : (p : ℕ) → p < 706 → first w p < 1024 → Takes w (takeFirst w p) (first w p) (update p (drop 1 (T p)) T) E
+  pub take-shows : (p : ℕ) → p < 770 → first w p < 1024 → Takes w (takeFirst w p) (first w p) (update p (drop 1 (T p)) T) E
   unfolding ending
   take-shows p hp n =
       let hl : p < listCount = omega arith in
@@ -212,7 +212,7 @@ module _ (w : List ℕ) (T : ℕ → List Transaction) (E : List Event) (s : Sho
 
   -- a row by its number, wherever it stands
   module _ (k : ℕ) (hk : k < 1024) where
-    pub remove-shows : (p : ℕ) → p < 706 → load w (place k) ≡ p → Without (transactionAt w k) (T p) (λ l. Takes w (remove w p k) k (update p l T) E)
+    pub remove-shows : (p : ℕ) → p < 770 → load w (place k) ≡ p → Without (transactionAt w k) (T p) (λ l. Takes w (remove w p k) k (update p l T) E)
     remove-shows p hp at =
         let hl : p < listCount = omega arith in
         let r : (b : List ℕ) × (L p ≡ front eqb k (L p) ++ k ∷ b) = rest-of w L h p k hl hk at in

@@ -32,4 +32,6 @@ pub mod Newborn
 pub mod Starting
 pub mod Population
 pub mod Laws
+pub mod Found
 pub mod Kin
+pub mod Interrupting

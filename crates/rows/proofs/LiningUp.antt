@@ -213,7 +213,7 @@ module _ (w : List ℕ) (p k : ℕ) where
 unfoldable pub lined : (edition : ℕ) → List ℕ → (p k : ℕ) → List ℕ → List ℕ
 lined edition w p k l = cond (eqb edition 1) (insert (ahead w p) k l) (cond (eqb (read w 1 k % 2) 1) (k ∷ l) (backed (atLeast w) k l))
 
-module _ (w : List ℕ) (L : ℕ → List ℕ) (T : ℕ → List Transaction) (E : List Event) (s : Shown w L T E) (k : ℕ) (off : Loose w k) (edition p : ℕ) (hp : p < 706)
+module _ (w : List ℕ) (L : ℕ → List ℕ) (T : ℕ → List Transaction) (E : List Event) (s : Shown w L T E) (k : ℕ) (off : Loose w k) (edition p : ℕ) (hp : p < 770)
     (sorted : edition ≡ 1 → Sorted precedes (T p)) where
   one : Listed w p (L p)
   one = s .holds .listed p (omega arith)

@@ -83,9 +83,9 @@ module _ (w : List ℕ) (L : ℕ → List ℕ) (T : ℕ → List Transaction) (E
   lists-sum : sumTo listCount (λ p. length (L p)) ≡ onLists T E + length (L free)
   unfolding onLists
   lists-sum =
-      sum-short 708 316 (λ p. length (L p)) (λ p a b. ap length (s .spare p (omega arith) (omega arith)))
-      ∙ sum-suc 707 (λ p. length (L p))
-      ∙ omega (arith, sum-suc 706 (λ p. length (L p)), sum-ext 706 (λ p. length (L p)) (λ p. length (T p)) (λ p hp. sym (length-map (L p) (transactionAt w)) ∙ ap length (s .lists p hp)), sym (length-map (L fel) (eventAt w)) ∙ ap length (s .future))
+      sum-short 772 252 (λ p. length (L p)) (λ p a b. ap length (s .spare p (omega arith) (omega arith)))
+      ∙ sum-suc 771 (λ p. length (L p))
+      ∙ omega (arith, sum-suc 770 (λ p. length (L p)), sum-ext 770 (λ p. length (L p)) (λ p. length (T p)) (λ p hp. sym (length-map (L p) (transactionAt w)) ∙ ap length (s .lists p hp)), sym (length-map (L fel) (eventAt w)) ∙ ap length (s .future))
 
   pub population : length (L free) + (onLists T E + loose w) ≡ 1024
   population = omega (arith, lists-sum, all-rows w L (s .holds))

@@ -25,7 +25,7 @@ module _ {A : Type 0} (p : ℕ) (l : A) (L : ℕ → A) where
 
 -- ---- The machine's lists
 
-pub shown-ext : (w : List ℕ) (L : ℕ → List ℕ) (T U : ℕ → List Transaction) (E : List Event) → ((q : ℕ) → q < 706 → T q ≡ U q) → Shown w L T E → Shown w L U E
+pub shown-ext : (w : List ℕ) (L : ℕ → List ℕ) (T U : ℕ → List Transaction) (E : List Event) → ((q : ℕ) → q < 770 → T q ≡ U q) → Shown w L T E → Shown w L U E
 shown-ext w L T U E e s =
     record { holds = s .holds; lists = λ q h. s .lists q h ∙ e q h; future = s .future; spare = s .spare }
 
@@ -39,7 +39,7 @@ events-kept w w′ q l rows one =
     map-kept (eventAt w′) (eventAt w) l (λ j m. event-kept w w′ j (same-row w w′ j (chain-row w′ (head q) l j (one .chain) m) rows))
 
 module _ (w w′ : List ℕ) (L : ℕ → List ℕ) (T : ℕ → List Transaction) (E : List Event) (s : Shown w L T E) (p : ℕ) (l : List ℕ) (h : Holds w′ (update p l L)) (rows : SameData w w′) where
-  list-kept : (q : ℕ) → q < 706 → q ≢ p → map (transactionAt w′) (update p l L q) ≡ T q
+  list-kept : (q : ℕ) → q < 770 → q ≢ p → map (transactionAt w′) (update p l L q) ≡ T q
   list-kept q hq d =
       transactions-kept w w′ q (update p l L q) rows (h .listed q (omega arith))
       ∙ ap (map (transactionAt w)) (update-other p l L q d)
@@ -54,7 +54,7 @@ module _ (w w′ : List ℕ) (L : ℕ → List ℕ) (T : ℕ → List Transactio
   spare-kept : p ≤ free → (q : ℕ) → free < q → q < listCount → update p l L q ≡ []
   spare-kept hp q lo hi = update-other p l L q (λ e. omega arith) ∙ s .spare q lo hi
 
-  pub shown-list : p < 706 → Shown w′ (update p l L) (update p (map (transactionAt w) l) T) E
+  pub shown-list : p < 770 → Shown w′ (update p l L) (update p (map (transactionAt w) l) T) E
   shown-list hp =
       record {
         holds = h;
@@ -63,7 +63,7 @@ module _ (w w′ : List ℕ) (L : ℕ → List ℕ) (T : ℕ → List Transactio
         spare = spare-kept (omega arith);
       }
     where
-      go : (q : ℕ) → q < 706 → (t : Bool) → eqb q p ≡ t → map (transactionAt w′) (update p l L q) ≡ cond t (map (transactionAt w) l) (T q)
+      go : (q : ℕ) → q < 770 → (t : Bool) → eqb q p ≡ t → map (transactionAt w′) (update p l L q) ≡ cond t (map (transactionAt w) l) (T q)
       go q hq true e =
           transactions-kept w w′ q (update p l L q) rows (h .listed q (omega arith))
           ∙ ap (map (transactionAt w)) (update-same p l L q (eqb-true q p e))

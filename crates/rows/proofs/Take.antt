@@ -55,7 +55,7 @@ head-of w p f l l′ one e = go (first-of w p l one)
     go (some m q n) = somebody (map f m) (sym e ∙ ap (map f) q) n
 
 module _ (w : List ℕ) (L : ℕ → List ℕ) (T : ℕ → List Transaction) (E : List Event) (s : Shown w L T E) where
-  pub head-shown : (p : ℕ) → p < 706 → Head w p (transactionAt w) (T p)
+  pub head-shown : (p : ℕ) → p < 770 → Head w p (transactionAt w) (T p)
   head-shown p hp = head-of w p (transactionAt w) (L p) (T p) (s .holds .listed p (omega arith)) (s .lists p hp)
 
   pub head-fel-shown : Head w fel (eventAt w) E
@@ -69,7 +69,7 @@ module _ (w : List ℕ) (L : ℕ → List ℕ) (T : ℕ → List Transaction) (E
       go (some m q k) = (m, q)
 
   module _ (p : ℕ) (hl : p < listCount) (m : List ℕ) (e : L p ≡ first w p ∷ m) (n : first w p < 1024) where
-    pub take-shown : p < 706 → Shown (takeFirst w p) (update p m L) (update p (drop 1 (T p)) T) E
+    pub take-shown : p < 770 → Shown (takeFirst w p) (update p m L) (update p (drop 1 (T p)) T) E
     take-shown hp =
         subst (λ (l : List Transaction). Shown (takeFirst w p) (update p m L) (update p l T) E)
         (ap (λ (l : List ℕ). drop 1 (map (transactionAt w) l)) (sym e) ∙ ap (drop 1) (s .lists p hp))

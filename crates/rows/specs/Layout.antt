@@ -9,21 +9,22 @@
 -- | 6     | next block, of a gatherer its count | 12    | place: its list, 1024 on none      |
 -- | 7     | serial                              | 13    | link: the row after it on its list |
 -- | 8     | move time or stamp, low half        | 14    | heads of lists 0..1023             |
--- |       |                                     | 15    | tails of lists 0..1023             |
+-- |       | (remaining ticks if interrupted)    | 15    | tails of lists 0..1023             |
 --
 -- A cell is a number of the buffer that holds a row: a head or a link. 1024, and any number above it, is no row. The tail of a
 -- list is its last cell: the head itself where the list is empty.
 --
--- | list      | number                                      |
--- |-----------|---------------------------------------------|
--- | QL        | server - 1: 0..63                           |
--- | WEL       | 64 + (server - 1) * 6 + (code - 1): 64..447 |
--- | WSL       | 448                                         |
--- | REL       | 449                                         |
--- | gatherers | 450 + (block - 1): 450..705                 |
--- | FEL       | 706                                         |
--- | free      | 707: the rows that are not living           |
--- | others    | 708..1023 are spare and stay empty          |
+-- | list        | number                                      |
+-- |-------------|---------------------------------------------|
+-- | QL          | server - 1: 0..63                           |
+-- | WEL         | 64 + (server - 1) * 6 + (code - 1): 64..447 |
+-- | WSL         | 448                                         |
+-- | REL         | 449                                         |
+-- | gatherers   | 450 + (block - 1): 450..705                 |
+-- | interrupted | 706 + (facility - 1): 706..769, at most one |
+-- | FEL         | 770                                         |
+-- | free        | 771: the rows that are not living           |
+-- | others      | 772..1023 are spare and stay empty          |
 use Prim.Native.Nat.{ℕ, _+_, _*_, _-_, _≤_}
 use mathlib.Core.List.{List}
 use lib.ListN.{length}
@@ -142,11 +143,18 @@ gatherers = 450
 abbrev pub gathererList : (block : ℕ) → ℕ
 gathererList b = gatherers + (b - 1)
 
+-- where the lists of interrupted ones begin, one for each server: which facility was taken from a row is told by its list
+abbrev pub interrupted : ℕ
+interrupted = 706
+
+abbrev pub interruptedList : (f : ℕ) → ℕ
+interruptedList f = interrupted + (f - 1)
+
 abbrev pub fel : ℕ
-fel = 706
+fel = 770
 
 abbrev pub free : ℕ
-free = 707
+free = 771
 
 -- the place of a row that is on no list, as the moving one
 abbrev pub nowhere : ℕ

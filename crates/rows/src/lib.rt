@@ -1,4 +1,4 @@
-// Transactions and the five kinds of lists in the lent work buffer. specs/Layout.antt has the layout, and the definitions
+// Transactions and the seven kinds of lists in the lent work buffer. specs/Layout.antt has the layout, and the definitions
 // beside it say what each function does to the numbers of the buffer. Functions of several numbers take the buffer first, then
 // the list, then the cell or the row.
 
@@ -64,8 +64,8 @@ pub const SERIAL_END: u32 = 4_000_000_000;
 // What the lowest bit of the high half of a move time is worth.
 pub const WORD_END: u64 = 4_294_967_296;
 
-// Lists: the QL of a server is its number less one, its WELs follow from WELS on; then WSL and REL, the gatherers of each block, FEL and
-// the free rows.
+// Lists: the QL of a server is its number less one, its WELs follow from WELS on; then WSL and REL, the gatherers of each block, the
+// interrupted one of each facility, FEL and the free rows.
 pub const LISTS: u32 = 1_024;
 
 pub const WELS: u32 = 64;
@@ -77,9 +77,12 @@ pub const REL: u32 = 449;
 // the lists of gatherers, one for each block
 pub const GATHERERS: u32 = 450;
 
-pub const FEL: u32 = 706;
+// the lists of interrupted ones, one for each server
+pub const INTERRUPTED: u32 = 706;
 
-pub const FREE: u32 = 707;
+pub const FEL: u32 = 770;
+
+pub const FREE: u32 = 771;
 
 pub const WSL_HEAD: u32 = HEADS + WSL;
 

@@ -9,7 +9,7 @@ use lib.Dec.{eqb, ltb}
 use lib.ListN.{length, getD}
 use Rattle.machine.specs.Lists.{bit, upTo}
 use Rattle.machine.specs.Term.{always, whenTrue}
-use Rattle.machine.specs.Block.{Code, Block, generate, advance, terminate, takes, frees, waitServer, waitTerms, moves, assign, priority, split, counts, assemble, facility, storage, up, down, facts, BlockModel, blockAt, backAt, beginsGroup}
+use Rattle.machine.specs.Block.{Code, Block, generate, advance, terminate, takes, frees, waitServer, waitTerms, moves, assign, priority, split, counts, assemble, preempt, giveBack, facility, storage, up, down, facts, BlockModel, blockAt, backAt, beginsGroup}
 use Rattle.machine.proofs.Sums.{upTo-zero}
 use Rattle.machine.proofs.Proper.{Names, Proper}
 use Rattle.machine.proofs.Placed.{goes-on}
@@ -77,6 +77,8 @@ waits (split n target) = other 14 _ refl refl refl refl refl
 waits (counts up q) = other 15 _ refl refl refl refl refl
 waits (counts down q) = other 16 _ refl refl refl refl refl
 waits (assemble n) = other 18 _ refl refl refl refl refl
+waits (preempt f) = other 19 _ refl refl refl refl refl
+waits (giveBack f) = other 20 _ refl refl refl refl refl
 
 module _ {m : BlockModel} {tape : List (List ℕ)} {tapeBytes tables lists : List ℕ} (proper : Proper m tape) (rep : Represents m tape tapeBytes tables lists) (n : ℕ) (low : 1 ≤ n) where
   -- no block counts back to block n

@@ -10,6 +10,7 @@ use lib.Dec.{ltb, leb, eqb}
 use lib.ListN.{getD, set}
 use Rattle.machine.specs.Rules.{Rules}
 use Rattle.machine.specs.Transaction.{Transaction}
+use Rattle.machine.specs.Lists.{bit}
 use Rattle.machine.specs.Term.{Server, free}
 use Rattle.machine.specs.Term
 use Rattle.machine.specs.Block.{storage, shareServer, shareUnits, Block, release, leave, BlockModel, blockAt}
@@ -39,13 +40,13 @@ use Rattle.moves.specs.Motion.{withTally, goOn, stopped}
 use Rattle.moves.proofs.MotionLaws.{number-read, stop-done, asked, go-on-used}
 use Rattle.tables.proofs.Operands.{operand}
 use Rattle.state.proofs.Moving.{placed, next-low}
-use Rattle.servers.specs.Units.{serverAt, inUse, holder, setUse, capacity}
+use Rattle.servers.specs.Units.{serverAt, inUse, holder, preempted, setUse, capacity}
 use Rattle.servers.specs.Waking.{checkWels, shorter, unitsAt, memberUnits, memberFits, leaveWith, takenOff, leftBehind, memberLeft}
 use Rattle.servers.specs.Freeing.{enterFreed, freeOne, freeSome, askRelease}
 use Rattle.servers.specs.Freeing as Freeing
 use Rattle.servers.proofs.Named.{units-of, named}
 use Rattle.servers.proofs.Ready.{Ready, wakeQl-same, set-ready, first-ready, passed-ready, ready-done}
-use Rattle.servers.proofs.Standing.{high, units-are, holder-is, capacity-is, ready}
+use Rattle.servers.proofs.Standing.{high, units-are, holder-is, preempted-is, capacity-is, ready}
 
 -- ---- The units of the block before which a transaction stands, as the tables have them
 
@@ -107,18 +108,18 @@ module _ (m : BlockModel) (tape : List (List ℕ)) (tapeBytes tables lists : Lis
     -- so many units are in use
     module _ (units : ℕ) where
       abbrev s₁ : State
-      s₁ = Moves.setUse v units 0 s₀
+      s₁ = Moves.setUse v units 0 false s₀
 
-      freed : Ready tapeBytes x t v units (server .capacity) w (setUse tally (v - 1) units 0) s₁
+      freed : Ready tapeBytes x t v units (server .capacity) w (setUse tally (v - 1) units 0 0) s₁
       freed =
-          set-ready tapeBytes x t v low high′ (server .inUse) (server .capacity) w tally s₀ (ready m tape tapeBytes tables lists proper rep s sane r t stands v low there) units 0
+          set-ready tapeBytes x t v low high′ (server .inUse) (server .capacity) w tally s₀ (ready m tape tapeBytes tables lists proper rep s sane r t stands v low there) units 0 false
 
-      one-done : Done tapeBytes (freeOne tables w tally x (v - 1) units) (entering (Moves.goOn t (Execute.checkWels v (wakeQl firstOf v s₁))))
+      pub one-done : Done tapeBytes (freeOne tables w tally x (v - 1) units) (entering (Moves.goOn t (Execute.checkWels v (wakeQl firstOf v s₁))))
       unfolding freeOne enterFreed
       one-done =
           rw (capacity-is m tape tapeBytes tables lists proper rep s sane r t stands v low there)
-          (ready-done tapeBytes x t v low high′ units (server .capacity) (wakeFirst w (v - 1)) (shorter (setUse tally (v - 1) units 0) (v - 1)) (wakeQl firstOf v s₁)
-          (first-ready tapeBytes x t v low high′ units (server .capacity) w (setUse tally (v - 1) units 0) s₁ freed)
+          (ready-done tapeBytes x t v low high′ units (server .capacity) (wakeFirst w (v - 1)) (shorter (setUse tally (v - 1) units 0 0) (v - 1)) (wakeQl firstOf v s₁)
+          (first-ready tapeBytes x t v low high′ units (server .capacity) w (setUse tally (v - 1) units 0 0) s₁ freed)
           (next-low proper t s sane moving))
 
       -- LEAVE of b units, the block before which t stands
@@ -150,7 +151,7 @@ module _ (m : BlockModel) (tape : List (List ℕ)) (tapeBytes tables lists : Lis
         some-done =
             rw (capacity-is m tape tapeBytes tables lists proper rep s sane r t stands v low there, rep .edition, ← wakeQl-same part (partFor m (storage v b) (s₁ .view)) v s₁ same-part)
             (ready-done tapeBytes x t v low high′ units (server .capacity) _ _ (wakeQl part v s₁)
-            (passed-ready tapeBytes x t v low high′ units (server .capacity) w (setUse tally (v - 1) units 0) s₁ freed (memberFits tables) (memberLeft tables (m .edition)) (within (needs tables)) (less (m .edition) (needs tables))
+            (passed-ready tapeBytes x t v low high′ units (server .capacity) w (setUse tally (v - 1) units 0 0) s₁ freed (memberFits tables) (memberLeft tables (m .edition)) (within (needs tables)) (less (m .edition) (needs tables))
             (λ n u j. ap (λ (i : ℕ). leb i n) (units-row tables u j)) (λ n u j. ap (leftBehind (m .edition) n) (units-row tables u j)) left)
             (next-low proper t s sane moving))
 
@@ -176,26 +177,27 @@ module _ (m : BlockModel) (tape : List (List ℕ)) (tapeBytes tables lists : Lis
       go false e = rw (lt-ltb units b (leb-false b units e)) (stop-done tapeBytes r t s 23 m block moving stands)
 
   -- the question of RELEASE
-  release-asked : (v : ℕ) → askRelease (Term.serverAt (s .view) v .inUse) (Term.serverAt (s .view) v .holder) (t .number) ≡ question m (release v) t s
+  release-asked : (v : ℕ) → askRelease (Term.serverAt (s .view) v .inUse) (bit (Term.serverAt (s .view) v .preempted)) (Term.serverAt (s .view) v .holder) (t .number) ≡ question m (release v) t s
   unfolding askRelease question askHolder shareServer shareUnits
   release-asked v =
-      go (leb 1 (server .inUse)) refl (eqb (server .holder) (t .number))
-      ∙ ap (λ (q : Rules). unless (leb 1 (server .inUse)) 24 (unless (not (q .holders) || eqb (server .holder) (t .number)) 27 0)) (sym (sane .rules))
+      go (leb 1 (server .inUse)) refl (server .preempted) (eqb (server .holder) (t .number))
+      ∙ ap (λ (q : Rules). unless (leb 1 (server .inUse)) 24 (unless (not (server .preempted)) 27 (unless (not (q .holders) || eqb (server .holder) (t .number)) 27 0))) (sym (sane .rules))
     where
       server : Server
       server = Term.serverAt (s .view) v
 
-      go : (held : Bool) → leb 1 (server .inUse) ≡ held → (own : Bool) → cond (ltb (server .inUse) 1) 24 (cond own 0 27) ≡ unless held 24 (unless own 27 0)
-      go true e true = rw (le-ltb (server .inUse) 1 (leb-true 1 (server .inUse) e))
-      go true e false = rw (le-ltb (server .inUse) 1 (leb-true 1 (server .inUse) e))
-      go false e own = rw (lt-ltb (server .inUse) 1 (leb-false 1 (server .inUse) e))
+      go : (held : Bool) → leb 1 (server .inUse) ≡ held → (taken own : Bool) → cond (ltb (server .inUse) 1) 24 (cond (eqb (bit taken) 0) (cond own 0 27) 27) ≡ unless held 24 (unless (not taken) 27 (unless own 27 0))
+      go true e true own = rw (le-ltb (server .inUse) 1 (leb-true 1 (server .inUse) e))
+      go true e false true = rw (le-ltb (server .inUse) 1 (leb-true 1 (server .inUse) e))
+      go true e false false = rw (le-ltb (server .inUse) 1 (leb-true 1 (server .inUse) e))
+      go false e taken own = rw (lt-ltb (server .inUse) 1 (leb-false 1 (server .inUse) e))
 
   pub release-done : (v : ℕ) → blockAt m (t .next) ≡ release v → Done tapeBytes (Freeing.release tables w tally x at) (bareAnswer (question m (release v) t s) m (release v) t s)
   unfolding Freeing.release blockForms
   release-done v is =
       let proper′ : Names (m .facilities) v = subst (ProperBlock m) is (proper .block (t .next)) in
       let there : v ≤ servers m = omega (arith, proper′ .1) in
-      rw (named tables (at + 1) v (high′ v (proper′ .0) there) (proper′ .0) (operand m tape tapeBytes tables lists rep (t .next) (placed proper t s sane moving .0) (release v) is 1 (omega arith)), units-are m tape tapeBytes tables lists proper rep s sane r t stands v (proper′ .0) there, holder-is m tape tapeBytes tables lists proper rep s sane r t stands v (proper′ .0) there, number-read w x t s (stands .listing), release-asked v)
+      rw (named tables (at + 1) v (high′ v (proper′ .0) there) (proper′ .0) (operand m tape tapeBytes tables lists rep (t .next) (placed proper t s sane moving .0) (release v) is 1 (omega arith)), units-are m tape tapeBytes tables lists proper rep s sane r t stands v (proper′ .0) there, preempted-is m tape tapeBytes tables lists proper rep s sane r t stands v (proper′ .0) there, holder-is m tape tapeBytes tables lists proper rep s sane r t stands v (proper′ .0) there, number-read w x t s (stands .listing), release-asked v)
       (asked tapeBytes m r t s stands moving (release v) (question m (release v) t s) (freeOne tables w tally x (v - 1) (Term.serverAt (s .view) v .inUse - 1))
       (λ e. release-entered v (proper′ .0) there))
 
@@ -219,7 +221,7 @@ module _ (tables w tally : List ℕ) (x : Scalars) (at : ℕ) where
 
   pub release-used : Freeing.release tables w tally x at .scalars .used ≡ x .used
   unfolding Freeing.release freeOne enterFreed rowsOf stopped
-  release-used = go (askRelease (inUse tally v) (holder tally v) (read w 0 (x .moving)))
+  release-used = go (askRelease (inUse tally v) (preempted tally v) (holder tally v) (read w 0 (x .moving)))
     where
       go : (end : ℕ) → cond {A = Rows} (eqb end 0) (freeOne tables w tally x v (inUse tally v - 1)) (rowsOf (stopped x end) w tally) .scalars .used ≡ x .used
       go zero = go-on-used (checkWels (wakeFirst w v) v (inUse tally v - 1) (capacity tables v)) x

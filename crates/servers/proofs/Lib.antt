@@ -2,6 +2,7 @@ pub mod Begins
 pub mod Checking
 pub mod FreeingLaws
 pub mod Named
+pub mod PreemptLaws
 pub mod Ready
 pub mod Standing
 pub mod Staying

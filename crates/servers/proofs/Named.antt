@@ -6,6 +6,7 @@ use mathlib.Core.List.{List, [], _∷_}
 use native.Mathlib.Omega.{arith}
 use lib.Dec.{eqb}
 use lib.ListN.{length, getD, List·getD-map}
+use Rattle.machine.specs.Lists.{bit}
 use Rattle.machine.specs.Term.{Server, idleServer}
 use Rattle.machine.specs.Term
 use Rattle.machine.specs.Block.{Code, U, NU, E, NE, F, NF, status, codeIndex, Block, facility, storage, facts, BlockModel, blockAt}
@@ -15,10 +16,10 @@ use Rattle.machine.proofs.Shape.{Shape, capacityOf}
 use Rattle.tables.specs.Forms.{blockForms}
 use Rattle.tables.specs.Numbers.{blockNumbers}
 use Rattle.tables.specs.Represents.{At, Represents}
-use Rattle.tables.proofs.BlockKinds.{Kinds, generating, taking, waiting, arriving, other, kinds, unasked}
+use Rattle.tables.proofs.BlockKinds.{Kinds, generating, taking, waiting, arriving, preempting, other, kinds, unasked}
 use Rattle.tables.proofs.Operands.{at-number}
 use Rattle.state.specs.Stands.{Tallying}
-use Rattle.servers.specs.Units.{serverAt, inUse, holder, capacity, statusOf}
+use Rattle.servers.specs.Units.{serverAt, inUse, holder, preempted, capacity, statusOf}
 use Rattle.servers.specs.Waking.{unitsAt}
 
 -- ---- Units that a block takes
@@ -30,9 +31,9 @@ module _ (tables : List ℕ) (at : ℕ) where
       ap (λ (i : ℕ). getD tables i 0) (sym here) ∙ at-number tables at (kind ∷ rest) 0 (omega arith) found
 
   -- a kind that takes none
-  takes-none : (kind : ℕ) (rest : List ℕ) → eqb kind 4 ≡ false → eqb kind 6 ≡ false → At tables at (kind ∷ rest) → unitsAt tables at ≡ 0
+  takes-none : (kind : ℕ) (rest : List ℕ) → eqb kind 4 ≡ false → eqb kind 6 ≡ false → eqb kind 19 ≡ false → At tables at (kind ∷ rest) → unitsAt tables at ≡ 0
   unfolding unitsAt
-  takes-none kind rest e f found = rw (kind-at kind rest found, e, f)
+  takes-none kind rest e f g found = rw (kind-at kind rest found, e, f, g)
 
   takes-one : (v : ℕ) → At tables at (4 ∷ v ∷ []) → unitsAt tables at ≡ 1
   unfolding unitsAt
@@ -41,6 +42,10 @@ module _ (tables : List ℕ) (at : ℕ) where
   takes-some : (v b : ℕ) → At tables at (6 ∷ v ∷ b ∷ []) → unitsAt tables at ≡ b
   unfolding unitsAt
   takes-some v b found = rw (kind-at 6 (v ∷ b ∷ []) found) (at-number tables at (6 ∷ v ∷ b ∷ []) 2 (omega arith) found)
+
+  takes-it : (v : ℕ) → At tables at (19 ∷ v ∷ []) → unitsAt tables at ≡ 1
+  unfolding unitsAt
+  takes-it v found = rw (kind-at 19 (v ∷ []) found)
 
   pub units-at : (b : Block) → At tables at (blockNumbers b) → unitsAt tables at ≡ facts b .units
   units-at b found = go (kinds b)
@@ -52,14 +57,15 @@ module _ (tables : List ℕ) (at : ℕ) where
       here e h = h ∙ sym (ap (λ (x : Block). facts x .units) e)
 
       go : Kinds b → unitsAt tables at ≡ facts b .units
-      go (generating list p e) = here e (unfold blockForms in takes-none 1 _ refl refl (unfold blockForms in numbers e))
+      go (generating list p e) = here e (unfold blockForms in takes-none 1 _ refl refl refl (unfold blockForms in numbers e))
       go (taking (facility v) e) = here e (unfold blockForms in takes-one (v - 1) (numbers e))
       go (taking (storage v n) e) = here e (unfold blockForms in takes-some (v - 1) n (numbers e))
-      go (waiting a r c e) = here e (unfold blockForms in takes-none 9 _ refl refl (numbers e))
-      go (arriving q e) = here e (unfold blockForms in takes-none 15 _ refl refl (numbers e))
+      go (waiting a r c e) = here e (unfold blockForms in takes-none 9 _ refl refl refl (numbers e))
+      go (arriving q e) = here e (unfold blockForms in takes-none 15 _ refl refl refl (numbers e))
+      go (preempting f e) = here e (unfold blockForms in takes-it (f - 1) (numbers e))
       go (other kind rest e f g) =
           let u = unasked kind f in
-          takes-none kind rest (u .no-seize) (u .no-enter) (subst (At tables at) e found) ∙ sym (ap (λ x. x .units) g)
+          takes-none kind rest (u .no-seize) (u .no-enter) (u .no-preempt) (subst (At tables at) e found) ∙ sym (ap (λ x. x .units) g)
 
 -- of block n, found as the engine finds it
 pub units-of : (m : BlockModel) (tape : List (List ℕ)) (tapeBytes tables lists : List ℕ) → Proper m tape → Represents m tape tapeBytes tables lists → (n : ℕ) → Names (length (m .blocks)) n
@@ -87,6 +93,10 @@ module _ (v : ℕ) (low : 1 ≤ v) (high : v ≤ 64) where
   pub holder-held : (tapeBytes tally : List ℕ) (s : State) → Tallying tapeBytes tally s → holder tally (v - 1) ≡ Term.serverAt (s .view) v .holder
   unfolding Term.serverAt
   holder-held tapeBytes tally s h = h .servers .holders (v - 1) (omega arith)
+
+  pub preempted-held : (tapeBytes tally : List ℕ) (s : State) → Tallying tapeBytes tally s → preempted tally (v - 1) ≡ bit (Term.serverAt (s .view) v .preempted)
+  unfolding Term.serverAt
+  preempted-held tapeBytes tally s h = h .servers .preempts (v - 1) (omega arith)
 
   pub capacity-held : {m : BlockModel} {tape : List (List ℕ)} {tapeBytes tables lists : List ℕ} → Represents m tape tapeBytes tables lists → (s : State) → Shape m s → capacity tables (v - 1) ≡ Term.serverAt (s .view) v .capacity
   unfolding Term.serverAt idleServer

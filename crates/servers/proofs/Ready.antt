@@ -9,7 +9,7 @@ use native.Mathlib.Omega.{arith}
 use lib.ListN.{length, getD, set, drop, length-set}
 use lib.Seq.{getD-set-same}
 use Rattle.machine.specs.Transaction.{Transaction}
-use Rattle.machine.specs.Lists.{setNth}
+use Rattle.machine.specs.Lists.{setNth, bit}
 use Rattle.machine.specs.Term.{Server, idleServer}
 use Rattle.machine.specs.Term
 use Rattle.machine.specs.Block.{Code, welIndex}
@@ -56,21 +56,21 @@ wakeQl-same part other v s e = ap (λ (p : Parted). setQl (setNth (s .ql) v (p .
 -- ---- What is done
 
 module _ (tapeBytes : List ℕ) (x : Scalars) (t : Transaction) (v : ℕ) (low : 1 ≤ v) (high : v ≤ 64) (units all : ℕ) (w tally : List ℕ) (s : State) (h : Ready tapeBytes x t v units all w tally s) where
-  -- so many units are in use, and who holds it
-  pub set-ready : (n who : ℕ) → Ready tapeBytes x t v n all w (setUse tally (v - 1) n who) (Moves.setUse v n who s)
+  -- so many units are in use, who holds it, and whether by PREEMPT
+  pub set-ready : (n who : ℕ) (preempts : Bool) → Ready tapeBytes x t v n all w (setUse tally (v - 1) n who (bit preempts)) (Moves.setUse v n who preempts s)
   unfolding Moves.setUse Term.serverAt listsOf
-  set-ready n who =
+  set-ready n who preempts =
       let server : Server = getD (s .view .servers) (v - 1) (idleServer 0) in
-      let now : getD (set (s .view .servers) (v - 1) (withUse n who server)) (v - 1) (idleServer 0) ≡ withUse n who server = getD-set-same (s .view .servers) (v - 1) (withUse n who server) (idleServer 0) (h .server) in
+      let now : getD (set (s .view .servers) (v - 1) (withUse n who preempts server)) (v - 1) (idleServer 0) ≡ withUse n who preempts server = getD-set-same (s .view .servers) (v - 1) (withUse n who preempts server) (idleServer 0) (h .server) in
       record {
-        listing = listing-ext w (x .moving) (some t) s (Moves.setUse v n who s) (λ q hq. refl) refl refl (h .listing);
-        tallying = units-tallying tapeBytes tally s (h .tallying) (h .samples) v low high n who (h .server);
-        counting = counting-ext x s (Moves.setUse v n who s) refl refl refl refl refl refl refl (h .counting);
+        listing = listing-ext w (x .moving) (some t) s (Moves.setUse v n who preempts s) (λ q hq. refl) refl refl (h .listing);
+        tallying = units-tallying tapeBytes tally s (h .tallying) (h .samples) v low high n who preempts (h .server);
+        counting = counting-ext x s (Moves.setUse v n who preempts s) refl refl refl refl refl refl refl (h .counting);
         held = sym (ap (λ (y : Server). y .inUse) now);
         holds = h .holds ∙ sym (ap (λ (y : Server). y .capacity) now);
         wels = h .wels;
         ql = h .ql;
-        server = omega (arith, h .server, length-set (s .view .servers) (v - 1) (withUse n who server));
+        server = omega (arith, h .server, length-set (s .view .servers) (v - 1) (withUse n who preempts server));
         samples = h .samples;
       }
 

@@ -6,6 +6,7 @@ use mathlib.Core.Option.{none, some}
 use native.Mathlib.Omega.{arith}
 use lib.ListN.{length}
 use Rattle.machine.specs.Transaction.{Transaction}
+use Rattle.machine.specs.Lists.{bit}
 use Rattle.machine.specs.Term
 use Rattle.machine.specs.Block.{BlockModel}
 use Rattle.machine.specs.State.{State}
@@ -17,8 +18,8 @@ use Rattle.tables.specs.Represents.{Represents}
 use Rattle.state.specs.Sane.{Sane}
 use Rattle.state.specs.Stands.{Rows, Stands}
 use Rattle.state.proofs.StandsLaws.{stands-moving}
-use Rattle.servers.specs.Units.{inUse, holder, capacity}
-use Rattle.servers.proofs.Named.{few, units-held, holder-held, capacity-held}
+use Rattle.servers.specs.Units.{inUse, holder, preempted, capacity}
+use Rattle.servers.proofs.Named.{few, units-held, holder-held, preempted-held, capacity-held}
 use Rattle.servers.proofs.Ready.{Ready}
 
 module _ (m : BlockModel) (tape : List (List ℕ)) (tapeBytes tables lists : List ℕ) (proper : Proper m tape) (rep : Represents m tape tapeBytes tables lists)
@@ -35,6 +36,9 @@ module _ (m : BlockModel) (tape : List (List ℕ)) (tapeBytes tables lists : Lis
 
   pub holder-is : holder (r .tally) (v - 1) ≡ Term.serverAt (s .view) v .holder
   holder-is = holder-held v low high tapeBytes (r .tally) s (stands .tallying)
+
+  pub preempted-is : preempted (r .tally) (v - 1) ≡ bit (Term.serverAt (s .view) v .preempted)
+  preempted-is = preempted-held v low high tapeBytes (r .tally) s (stands .tallying)
 
   pub capacity-is : capacity tables (v - 1) ≡ Term.serverAt (s .view) v .capacity
   capacity-is = capacity-held v low high rep s (sane .shape)

@@ -8,6 +8,7 @@ use native.Mathlib.Omega.{arith}
 use lib.Dec.{leb}
 use lib.ListN.{getD}
 use Rattle.machine.specs.Transaction.{Transaction, precedes}
+use Rattle.machine.specs.Lists.{bit}
 use Rattle.machine.specs.Term.{Server, free}
 use Rattle.machine.specs.Term
 use Rattle.machine.specs.Block.{shareServer, shareUnits, shareHolder, seize, enter, BlockModel, blockAt}
@@ -52,7 +53,7 @@ module _ (m : BlockModel) (tape : List (List ℕ)) (tapeBytes tables lists : Lis
   s₀ = setMoving none s
 
   -- of a server, whoever holds it then
-  module _ (v b who : ℕ) (low : 1 ≤ v) (there : v ≤ servers m) where
+  module _ (v b who : ℕ) (preempts : Bool) (low : 1 ≤ v) (there : v ≤ servers m) where
     abbrev server : Server
     server = Term.serverAt (s .view) v
 
@@ -63,11 +64,11 @@ module _ (m : BlockModel) (tape : List (List ℕ)) (tapeBytes tables lists : Lis
     ready′ = ready m tape tapeBytes tables lists proper rep s sane r t stands v low there
 
     -- it enters
-    hold-done : Done tapeBytes (holdUnits w tally x (v - 1) (server .inUse + b) who (server .capacity)) (entering (Moves.goOn t (Execute.checkWels v (Moves.setUse v (server .inUse + b) who s₀))))
+    hold-done : Done tapeBytes (holdUnits w tally x (v - 1) (server .inUse + b) who (bit preempts) (server .capacity)) (entering (Moves.goOn t (Execute.checkWels v (Moves.setUse v (server .inUse + b) who preempts s₀))))
     unfolding holdUnits
     hold-done =
-        ready-done tapeBytes x t v low high′ (server .inUse + b) (server .capacity) w (setUse tally (v - 1) (server .inUse + b) who) (Moves.setUse v (server .inUse + b) who s₀)
-        (set-ready tapeBytes x t v low high′ (server .inUse) (server .capacity) w tally s₀ ready′ (server .inUse + b) who)
+        ready-done tapeBytes x t v low high′ (server .inUse + b) (server .capacity) w (setUse tally (v - 1) (server .inUse + b) who (bit preempts)) (Moves.setUse v (server .inUse + b) who preempts s₀)
+        (set-ready tapeBytes x t v low high′ (server .inUse) (server .capacity) w tally s₀ ready′ (server .inUse + b) who preempts)
         (next-low proper t s sane moving)
 
     -- it waits on the QL, which is in order under edition 1
@@ -83,15 +84,15 @@ module _ (m : BlockModel) (tape : List (List ℕ)) (tapeBytes tables lists : Lis
         (puts-ql (m .edition) v (setSerial (suc (s .serial)) s₀) (omega arith) (ready′ .ql) sorted))
         (queued-tallying tapeBytes tally s₀ (ready′ .tallying) (ready′ .samples) v low high′ (ready′ .ql) (short m tape tapeBytes tables lists proper rep s sane r t stands v low there) (m .edition) t)
 
-    take-done : Done tapeBytes (takeUnits tables w tally x (v - 1) b who)
-        (cond (leb b (free server)) (entering (Moves.goOn t (Execute.checkWels v (Moves.setUse v (server .inUse + b) who s₀)))) (waiting (Moves.toQl (m .edition) v) t s₀))
+    pub take-done : Done tapeBytes (takeUnits tables w tally x (v - 1) b who (bit preempts))
+        (cond (leb b (free server)) (entering (Moves.goOn t (Execute.checkWels v (Moves.setUse v (server .inUse + b) who preempts s₀)))) (waiting (Moves.toQl (m .edition) v) t s₀))
     unfolding takeUnits
     take-done =
         rw (capacity-is m tape tapeBytes tables lists proper rep s sane r t stands v low there, units-are m tape tapeBytes tables lists proper rep s sane r t stands v low there, rep .edition)
         (go (leb b (free server)))
       where
-        go : (fits : Bool) → Done tapeBytes (cond fits (holdUnits w tally x (v - 1) (server .inUse + b) who (server .capacity)) (queueUp w tally x (v - 1) (m .edition)))
-            (cond fits (entering (Moves.goOn t (Execute.checkWels v (Moves.setUse v (server .inUse + b) who s₀)))) (waiting (Moves.toQl (m .edition) v) t s₀))
+        go : (fits : Bool) → Done tapeBytes (cond fits (holdUnits w tally x (v - 1) (server .inUse + b) who (bit preempts) (server .capacity)) (queueUp w tally x (v - 1) (m .edition)))
+            (cond fits (entering (Moves.goOn t (Execute.checkWels v (Moves.setUse v (server .inUse + b) who preempts s₀)))) (waiting (Moves.toQl (m .edition) v) t s₀))
         go true = hold-done
         go false = queue-done
 
@@ -103,32 +104,32 @@ module _ (m : BlockModel) (tape : List (List ℕ)) (tapeBytes tables lists : Lis
   seize-done v is =
       let proper′ : Names (m .facilities) v = subst (ProperBlock m) is (proper .block (t .next)) in
       let there : v ≤ servers m = omega (arith, proper′ .1) in
-      rw (named tables (at + 1) v (high′ v 1 (t .number) (proper′ .0) there) (proper′ .0) (operand m tape tapeBytes tables lists rep (t .next) (placed proper t s sane moving .0) (seize v) is 1 (omega arith)), number-read w x t s (stands .listing))
-      (take-done v 1 (t .number) (proper′ .0) there)
+      rw (named tables (at + 1) v (high′ v 1 (t .number) false (proper′ .0) there) (proper′ .0) (operand m tape tapeBytes tables lists rep (t .next) (placed proper t s sane moving .0) (seize v) is 1 (omega arith)), number-read w x t s (stands .listing))
+      (take-done v 1 (t .number) false (proper′ .0) there)
 
   pub enter-done : (v b : ℕ) → blockAt m (t .next) ≡ enter v b → Done tapeBytes (Taking.enter tables w tally x at) (bareAnswer (question m (enter v b) t s) m (enter v b) t s)
   unfolding Taking.enter question bareAnswer bare blockForms shareServer shareUnits shareHolder
   enter-done v b is =
       let proper′ : Storage m v = subst (ProperBlock m) is (proper .block (t .next)) .0 in
       let low : 1 ≤ v = omega (arith, proper′ .0) in
-      rw (named tables (at + 1) v (high′ v b 0 low (proper′ .1)) low (operand m tape tapeBytes tables lists rep (t .next) (placed proper t s sane moving .0) (enter v b) is 1 (omega arith)), operand m tape tapeBytes tables lists rep (t .next) (placed proper t s sane moving .0) (enter v b) is 2 (omega arith))
-      (take-done v b 0 low (proper′ .1))
+      rw (named tables (at + 1) v (high′ v b 0 false low (proper′ .1)) low (operand m tape tapeBytes tables lists rep (t .next) (placed proper t s sane moving .0) (enter v b) is 1 (omega arith)), operand m tape tapeBytes tables lists rep (t .next) (placed proper t s sane moving .0) (enter v b) is 2 (omega arith))
+      (take-done v b 0 false low (proper′ .1))
 
 -- ---- Bytes of trace and turns are counted elsewhere
 
 module _ (tables w tally : List ℕ) (x : Scalars) where
-  take-used : (v b who : ℕ) → takeUnits tables w tally x v b who .scalars .used ≡ x .used
+  pub take-used : (v b who preempts : ℕ) → takeUnits tables w tally x v b who preempts .scalars .used ≡ x .used
   unfolding takeUnits holdUnits queueUp rowsOf
-  take-used v b who = go (leb b (capacity tables v - inUse tally v))
+  take-used v b who preempts = go (leb b (capacity tables v - inUse tally v))
     where
-      go : (fits : Bool) → cond {A = Rows} fits (holdUnits w tally x v (inUse tally v + b) who (capacity tables v)) (queueUp w tally x v (getD tables 2624 0)) .scalars .used ≡ x .used
+      go : (fits : Bool) → cond {A = Rows} fits (holdUnits w tally x v (inUse tally v + b) who preempts (capacity tables v)) (queueUp w tally x v (getD tables 2624 0)) .scalars .used ≡ x .used
       go true = go-on-used (checkWels w v (inUse tally v + b) (capacity tables v)) x
       go false = wait-on-used w x v (getD tables 2624 0)
 
   pub seize-used : (at : ℕ) → Taking.seize tables w tally x at .scalars .used ≡ x .used
   unfolding Taking.seize
-  seize-used at = take-used (serverAt tables (at + 1)) 1 _
+  seize-used at = take-used (serverAt tables (at + 1)) 1 _ 0
 
   pub enter-used : (at : ℕ) → Taking.enter tables w tally x at .scalars .used ≡ x .used
   unfolding Taking.enter
-  enter-used at = take-used (serverAt tables (at + 1)) (getD tables (at + 2) 0) 0
+  enter-used at = take-used (serverAt tables (at + 1)) (getD tables (at + 2) 0) 0 0

@@ -1,4 +1,4 @@
--- The tally follows a server's units, its holder and the length of its QL.
+-- The tally follows a server's units, its holder, whether by PREEMPT, and the length of its QL.
 use Prim.Native.Nat.{ℕ, zero, suc, _+_, _-_, _≤_, _<_, min}
 use mathlib.Core.Path.{_≡_, refl, sym, ap, _∙_}
 use mathlib.Core.Logic.{_≢_}
@@ -9,6 +9,7 @@ use native.Mathlib.Decide.{ℕ-discrete}
 use lib.ListN.{length, getD, set, drop, length-set, length-drop}
 use lib.Seq.{getD-set-same, getD-set-other}
 use Rattle.machine.specs.Transaction.{Transaction}
+use Rattle.machine.specs.Lists.{bit}
 use Rattle.machine.specs.Term.{Server, idleServer}
 use Rattle.machine.specs.Term
 use Rattle.machine.specs.State.{State}
@@ -40,19 +41,22 @@ line-length edition t l = omega (arith, sum-lineUp (λ u. 1) edition t l, sum-le
 -- ---- The cells of each kind
 
 module _ (tapeBytes tally : List ℕ) (s : State) (h : Tallying tapeBytes tally s) (few : length (s .samples) ≤ 16) (v : ℕ) (low : 1 ≤ v) (high : v ≤ 64) where
-  -- so many units are in use, and who holds it
-  module _ (units who : ℕ) (there : v - 1 < length (s .view .servers)) where
+  -- so many units are in use, who holds it, and whether by PREEMPT
+  module _ (units who : ℕ) (preempts : Bool) (there : v - 1 < length (s .view .servers)) where
     abbrev i : ℕ
     i = 512 + (v - 1)
 
     abbrev o : ℕ
     o = 960 + (v - 1)
 
+    abbrev z : ℕ
+    z = 1024 + (v - 1)
+
     abbrev server : Server
     server = getD (s .view .servers) (v - 1) (idleServer 0)
 
     abbrev server′ : Server
-    server′ = withUse units who server
+    server′ = withUse units who preempts server
 
     abbrev servers′ : List Server
     servers′ = set (s .view .servers) (v - 1) server′
@@ -60,61 +64,70 @@ module _ (tapeBytes tally : List ℕ) (s : State) (h : Tallying tapeBytes tally 
     abbrev one : List ℕ
     one = set tally i units
 
-    abbrev both : List ℕ
-    both = set one o who
+    abbrev two : List ℕ
+    two = set one o who
 
-    other : (j : ℕ) → j ≢ i → j ≢ o → getD both j 0 ≡ getD tally j 0
-    other j d e = getD-set-other one o j who 0 e ∙ getD-set-other tally i j units 0 d
+    abbrev all : List ℕ
+    all = set two z (bit preempts)
 
-    -- the cells of one field
-    units-cell : (u : ℕ) → u < 64 → getD both (512 + u) 0 ≡ getD servers′ u (idleServer 0) .inUse
-    units-cell u hu = go (ℕ-discrete u (v - 1))
+    size₂ : length two ≡ length tally
+    size₂ = length-set one o who ∙ length-set tally i units
+
+    other : (j : ℕ) → j ≢ i → j ≢ o → j ≢ z → getD all j 0 ≡ getD tally j 0
+    other j d e f = getD-set-other two z j (bit preempts) 0 f ∙ getD-set-other one o j who 0 e ∙ getD-set-other tally i j units 0 d
+
+    -- the cells of a field that is set
+    set-cell : (base : ℕ) (f : Server → ℕ) → ((u : ℕ) → u < 64 → getD tally (base + u) 0 ≡ f (getD (s .view .servers) u (idleServer 0)))
+        → getD all (base + (v - 1)) 0 ≡ f server′ → ((u : ℕ) → u < 64 → u ≢ v - 1 → (base + u ≢ i) × (base + u ≢ o) × (base + u ≢ z))
+        → (u : ℕ) → u < 64 → getD all (base + u) 0 ≡ f (getD servers′ u (idleServer 0))
+    set-cell base f was is apart u hu = go (ℕ-discrete u (v - 1))
       where
-        go : Dec (u ≡ v - 1) → getD both (512 + u) 0 ≡ getD servers′ u (idleServer 0) .inUse
-        go (yes e) =
-            rw e
-            (getD-set-other one o i who 0 (λ f. omega arith) ∙ getD-set-same tally i units 0 (omega (arith, h .size))
-            ∙ sym (ap (λ (x : Server). x .inUse) (getD-set-same (s .view .servers) (v - 1) server′ (idleServer 0) there)))
+        go : Dec (u ≡ v - 1) → getD all (base + u) 0 ≡ f (getD servers′ u (idleServer 0))
+        go (yes e) = rw e (is ∙ sym (ap f (getD-set-same (s .view .servers) (v - 1) server′ (idleServer 0) there)))
         go (no d) =
-            other (512 + u) (λ e. d (omega arith)) (λ e. omega arith) ∙ h .servers .in-use u hu
-            ∙ sym (ap (λ (x : Server). x .inUse) (getD-set-other (s .view .servers) (v - 1) u server′ (idleServer 0) d))
+            let k = apart u hu d in
+            other (base + u) (k .0) (k .1) (k .2) ∙ was u hu ∙ sym (ap f (getD-set-other (s .view .servers) (v - 1) u server′ (idleServer 0) d))
 
-    holder-cell : (u : ℕ) → u < 64 → getD both (960 + u) 0 ≡ getD servers′ u (idleServer 0) .holder
-    holder-cell u hu = go (ℕ-discrete u (v - 1))
-      where
-        go : Dec (u ≡ v - 1) → getD both (960 + u) 0 ≡ getD servers′ u (idleServer 0) .holder
-        go (yes e) =
-            rw e
-            (getD-set-same one o who 0 (omega (arith, h .size, length-set tally i units))
-            ∙ sym (ap (λ (x : Server). x .holder) (getD-set-same (s .view .servers) (v - 1) server′ (idleServer 0) there)))
-        go (no d) =
-            other (960 + u) (λ e. omega arith) (λ e. d (omega arith)) ∙ h .servers .holders u hu
-            ∙ sym (ap (λ (x : Server). x .holder) (getD-set-other (s .view .servers) (v - 1) u server′ (idleServer 0) d))
+    -- the cells of one that stays
+    kept-cell : (base : ℕ) (f : Server → ℕ) → 576 ≤ base → base + 64 ≤ 960 → f server′ ≡ f server
+        → ((u : ℕ) → u < 64 → getD tally (base + u) 0 ≡ f (getD (s .view .servers) u (idleServer 0))) → (u : ℕ) → u < 64 → getD all (base + u) 0 ≡ f (getD servers′ u (idleServer 0))
+    kept-cell base f from to e was u hu =
+        other (base + u) (λ e. omega arith) (λ e. omega arith) (λ e. omega arith) ∙ was u hu ∙ sym (field-kept f (s .view .servers) (v - 1) server′ (idleServer 0) e u)
 
-    kept : (f : Server → ℕ) → f server′ ≡ f server → (u : ℕ) → f (getD servers′ u (idleServer 0)) ≡ f (getD (s .view .servers) u (idleServer 0))
-    kept f e = field-kept f (s .view .servers) (v - 1) server′ (idleServer 0) e
-
-    pub units-tallying : Tallying tapeBytes (setUse tally (v - 1) units who) (Moves.setUse v units who s)
+    pub units-tallying : Tallying tapeBytes (setUse tally (v - 1) units who (bit preempts)) (Moves.setUse v units who preempts s)
     unfolding Moves.setUse Term.serverAt
     units-tallying =
         record {
-          size = length-set one o who ∙ length-set tally i units ∙ h .size;
-          entries = entries-set one o who (s .view .entries) (omega arith) (entries-set tally i units (s .view .entries) (omega arith) (h .entries));
+          size = length-set two z (bit preempts) ∙ size₂ ∙ h .size;
+          entries =
+              entries-set two z (bit preempts) (s .view .entries) (omega arith)
+              (entries-set one o who (s .view .entries) (omega arith) (entries-set tally i units (s .view .entries) (omega arith) (h .entries)));
           servers =
               record {
-                in-use = units-cell;
-                holders = holder-cell;
-                unit-ticks = λ u hu. other (576 + u) (λ e. omega arith) (λ e. omega arith) ∙ h .servers .unit-ticks u hu ∙ sym (kept (λ (x : Server). x .unitTicks) refl u);
-                wait-ticks = λ u hu. other (640 + u) (λ e. omega arith) (λ e. omega arith) ∙ h .servers .wait-ticks u hu ∙ sym (kept (λ (x : Server). x .waitTicks) refl u);
-                longest = λ u hu. other (704 + u) (λ e. omega arith) (λ e. omega arith) ∙ h .servers .longest u hu ∙ sym (kept (λ (x : Server). x .longest) refl u);
-                waiting = λ u hu. other (768 + u) (λ e. omega arith) (λ e. omega arith) ∙ h .servers .waiting u hu;
+                in-use =
+                    set-cell 512 (λ x. x .inUse) (h .servers .in-use)
+                    (getD-set-other two z i (bit preempts) 0 (λ f. omega arith) ∙ getD-set-other one o i who 0 (λ f. omega arith) ∙ getD-set-same tally i units 0 (omega (arith, h .size)))
+                    (λ u hu d. (λ e. d (omega arith), λ e. omega arith, λ e. omega arith));
+                holders =
+                    set-cell 960 (λ x. x .holder) (h .servers .holders)
+                    (getD-set-other two z o (bit preempts) 0 (λ f. omega arith) ∙ getD-set-same one o who 0 (omega (arith, h .size, length-set tally i units)))
+                    (λ u hu d. (λ e. omega arith, λ e. d (omega arith), λ e. omega arith));
+                preempts =
+                    set-cell 1024 (λ x. bit (x .preempted)) (h .servers .preempts) (getD-set-same two z (bit preempts) 0 (omega (arith, h .size, size₂)))
+                    (λ u hu d. (λ e. omega arith, λ e. omega arith, λ e. d (omega arith)));
+                unit-ticks = kept-cell 576 (λ x. x .unitTicks) (omega arith) (omega arith) refl (h .servers .unit-ticks);
+                wait-ticks = kept-cell 640 (λ x. x .waitTicks) (omega arith) (omega arith) refl (h .servers .wait-ticks);
+                longest = kept-cell 704 (λ x. x .longest) (omega arith) (omega arith) refl (h .servers .longest);
+                waiting = λ u hu. other (768 + u) (λ e. omega arith) (λ e. omega arith) (λ e. omega arith) ∙ h .servers .waiting u hu;
               };
           queues =
-              queueing-set one o who (s .view .queues) (λ j a b e. omega arith)
-              (queueing-set tally i units (s .view .queues) (λ j a b e. omega arith) (h .queues));
+              queueing-set two z (bit preempts) (s .view .queues) (λ j a b e. omega arith)
+              (queueing-set one o who (s .view .queues) (λ j a b e. omega arith)
+              (queueing-set tally i units (s .view .queues) (λ j a b e. omega arith) (h .queues)));
           samples =
-              sampling-set one o who tapeBytes (s .samples) few (λ j a b e. omega arith)
-              (sampling-set tally i units tapeBytes (s .samples) few (λ j a b e. omega arith) (h .samples));
+              sampling-set two z (bit preempts) tapeBytes (s .samples) few (λ j a b e. omega arith)
+              (sampling-set one o who tapeBytes (s .samples) few (λ j a b e. omega arith)
+              (sampling-set tally i units tapeBytes (s .samples) few (λ j a b e. omega arith) (h .samples)));
         }
 
   -- the QL is of such a length
@@ -144,6 +157,7 @@ module _ (tapeBytes tally : List ℕ) (s : State) (h : Tallying tapeBytes tally 
               record {
                 in-use = λ u hu. apart (512 + u) (λ f. omega arith) ∙ h .servers .in-use u hu;
                 holders = λ u hu. apart (960 + u) (λ f. omega arith) ∙ h .servers .holders u hu;
+                preempts = λ u hu. apart (1024 + u) (λ f. omega arith) ∙ h .servers .preempts u hu;
                 unit-ticks = λ u hu. apart (576 + u) (λ f. omega arith) ∙ h .servers .unit-ticks u hu;
                 wait-ticks = λ u hu. apart (640 + u) (λ f. omega arith) ∙ h .servers .wait-ticks u hu;
                 longest = λ u hu. apart (704 + u) (λ f. omega arith) ∙ h .servers .longest u hu;

@@ -11,7 +11,7 @@ use Rattle.rows.specs.Wake.{wakeFirst, wakeWalk}
 use Rattle.state.specs.declared.scalars.Scalars.{Scalars}
 use Rattle.state.specs.Stands.{Rows, rowsOf}
 use Rattle.moves.specs.Motion.{Moved, withTally, goOn, stopped}
-use Rattle.servers.specs.Units.{serverAt, inUse, holder, setUse, capacity}
+use Rattle.servers.specs.Units.{serverAt, inUse, holder, preempted, setUse, capacity}
 use Rattle.servers.specs.Waking.{checkWels, shorter, memberFits, leaveWith, memberLeft, steps, wakeStays}
 
 -- it enters, and so many units are in use
@@ -20,7 +20,7 @@ enterFreed w x v units all = goOn (checkWels w v units all) x
 
 unfoldable pub freeOne : List ℕ → List ℕ → List ℕ → Scalars → (v units : ℕ) → Rows
 freeOne tables w tally x v units =
-    withTally (enterFreed (wakeFirst w v) x v units (capacity tables v)) (shorter (setUse tally v units 0) v)
+    withTally (enterFreed (wakeFirst w v) x v units (capacity tables v)) (shorter (setUse tally v units 0 0) v)
 
 -- whom a LEAVE of b units wakes, where so many are in use then
 unfoldable pub freeSome : List ℕ → List ℕ → List ℕ → Scalars → (v units b : ℕ) → Rows
@@ -28,16 +28,17 @@ freeSome tables w tally x v units b =
     let edition : ℕ = getD tables Layout.edition 0 in
     let left : ℕ = leaveWith edition (capacity tables v - units) b in
     withTally (enterFreed (wakeWalk (memberFits tables) (memberLeft tables edition) steps left w v (head v)) x v units (capacity tables v))
-    (set (setUse tally v units 0) (Layout.qlLength + v) (wakeStays (memberFits tables) (memberLeft tables edition) steps left w v (head v)))
+    (set (setUse tally v units 0 0) (Layout.qlLength + v) (wakeStays (memberFits tables) (memberLeft tables edition) steps left w v (head v)))
 
--- "Is f in use? 24."; document 02, item 6: "27 RELEASE by another than the holder, after 24"
-unfoldable pub askRelease : (units who number : ℕ) → ℕ
-askRelease units who number = cond (ltb units 1) 24 (cond (eqb who number) 0 27)
+-- "Is f in use? 24."; document 02, item 6: "27 RELEASE by another than the holder, after 24"; item 11: "RELEASE of a
+-- preempted facility" 27
+unfoldable pub askRelease : (units taken who number : ℕ) → ℕ
+askRelease units taken who number = cond (ltb units 1) 24 (cond (eqb taken 0) (cond (eqb who number) 0 27) 27)
 
 unfoldable pub release : List ℕ → List ℕ → List ℕ → Scalars → ℕ → Rows
 release tables w tally x at =
     let v : ℕ = serverAt tables (at + 1) in
-    let end : ℕ = askRelease (inUse tally v) (holder tally v) (read w numberField (x .moving)) in
+    let end : ℕ = askRelease (inUse tally v) (preempted tally v) (holder tally v) (read w numberField (x .moving)) in
     cond (eqb end 0) (freeOne tables w tally x v (inUse tally v - 1)) (rowsOf (stopped x end) w tally)
 
 -- "are b units in use? 24."

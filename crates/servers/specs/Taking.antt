@@ -13,9 +13,9 @@ use Rattle.moves.specs.Motion.{withTally, goOn, waitOn}
 use Rattle.servers.specs.Units.{serverAt, inUse, setUse, capacity}
 use Rattle.servers.specs.Waking.{checkWels}
 
--- it enters; so many units are in use, and who holds the server
-unfoldable pub holdUnits : List ℕ → List ℕ → Scalars → (v units who all : ℕ) → Rows
-holdUnits w tally x v units who all = withTally (goOn (checkWels w v units all) x) (setUse tally v units who)
+-- it enters; so many units are in use, who holds the server, and whether by PREEMPT
+unfoldable pub holdUnits : List ℕ → List ℕ → Scalars → (v units who preempts all : ℕ) → Rows
+holdUnits w tally x v units who preempts all = withTally (goOn (checkWels w v units all) x) (setUse tally v units who preempts)
 
 -- the QL is longer by one
 unfoldable pub longer : List ℕ → ℕ → List ℕ
@@ -24,13 +24,13 @@ longer tally v = set tally (Layout.qlLength + v) (min (getD tally (Layout.qlLeng
 unfoldable pub queueUp : List ℕ → List ℕ → Scalars → (v edition : ℕ) → Rows
 queueUp w tally x v edition = withTally (waitOn w x v edition) (longer tally v)
 
-unfoldable pub takeUnits : List ℕ → List ℕ → List ℕ → Scalars → (v b who : ℕ) → Rows
-takeUnits tables w tally x v b who =
-    cond (leb b (capacity tables v - inUse tally v)) (holdUnits w tally x v (inUse tally v + b) who (capacity tables v)) (queueUp w tally x v (getD tables Layout.edition 0))
+unfoldable pub takeUnits : List ℕ → List ℕ → List ℕ → Scalars → (v b who preempts : ℕ) → Rows
+takeUnits tables w tally x v b who preempts =
+    cond (leb b (capacity tables v - inUse tally v)) (holdUnits w tally x v (inUse tally v + b) who preempts (capacity tables v)) (queueUp w tally x v (getD tables Layout.edition 0))
 
 -- document 02, item 6: "the number of its holder, written at SEIZE"
 unfoldable pub seize : List ℕ → List ℕ → List ℕ → Scalars → ℕ → Rows
-seize tables w tally x at = takeUnits tables w tally x (serverAt tables (at + 1)) 1 (read w numberField (x .moving))
+seize tables w tally x at = takeUnits tables w tally x (serverAt tables (at + 1)) 1 (read w numberField (x .moving)) 0
 
 unfoldable pub enter : List ℕ → List ℕ → List ℕ → Scalars → ℕ → Rows
-enter tables w tally x at = takeUnits tables w tally x (serverAt tables (at + 1)) (getD tables (at + 2) 0) 0
+enter tables w tally x at = takeUnits tables w tally x (serverAt tables (at + 1)) (getD tables (at + 2) 0) 0 0

@@ -17,8 +17,12 @@ inUse tally v = getD tally (Layout.inUse + v) 0
 abbrev pub holder : List ℕ → ℕ → ℕ
 holder tally v = getD tally (Layout.holder + v) 0
 
-abbrev pub setUse : List ℕ → (v units who : ℕ) → List ℕ
-setUse tally v units who = set (set tally (Layout.inUse + v) units) (Layout.holder + v) who
+-- 1 where it is held by PREEMPT, else 0
+abbrev pub preempted : List ℕ → ℕ → ℕ
+preempted tally v = getD tally (Layout.preempted + v) 0
+
+abbrev pub setUse : List ℕ → (v units who preempts : ℕ) → List ℕ
+setUse tally v units who preempts = set (set (set tally (Layout.inUse + v) units) (Layout.holder + v) who) (Layout.preempted + v) preempts
 
 abbrev pub capacity : List ℕ → ℕ → ℕ
 capacity tables v = getD tables (Layout.capacities + v) 0

@@ -32,9 +32,9 @@ checkWels w v units all = checkLast (checkFirst w v units all) v units all
 unfoldable pub shorter : List ℕ → ℕ → List ℕ
 shorter tally v = set tally (Layout.qlLength + v) (getD tally (Layout.qlLength + v) 0 - 1)
 
--- the units that the block at an index of the tables takes: one for a SEIZE, 0 for a block that takes none
+-- the units that the block at an index of the tables takes: one for a SEIZE or PREEMPT, 0 for a block that takes none
 unfoldable pub unitsAt : List ℕ → ℕ → ℕ
-unitsAt tables at = cond (eqb (getD tables at 0) 4) 1 (cond (eqb (getD tables at 0) 6) (getD tables (at + 2) 0) 0)
+unitsAt tables at = cond (eqb (getD tables at 0) 4) 1 (cond (eqb (getD tables at 0) 6) (getD tables (at + 2) 0) (cond (eqb (getD tables at 0) 19) 1 0))
 
 -- the units that row k waits for
 unfoldable pub memberUnits : List ℕ → List ℕ → ℕ → ℕ

@@ -2,6 +2,7 @@
 use crate::units::capacity;
 use crate::units::holder;
 use crate::units::in_use;
+use crate::units::preempted;
 use crate::units::server_at;
 use crate::units::set_use;
 use crate::waking::check_wels;
@@ -41,7 +42,7 @@ fn enter_freed(work: &mut [u32], x: Scalars, v: u32, units: u64, capacity: u64) 
     go_on(work, x)
 }
 
-fn free_one(
+pub fn free_one(
     tables: &[u32],
     work: &mut [u32],
     tally: &mut [u64],
@@ -55,7 +56,7 @@ fn free_one(
     ensures { λ r. ⌜ rowsOf r (now (work .exit)) (now (tally .exit)) ≡ freeOne (now (tables .entry)) (now (work .entry)) (now (tally .entry)) x v left ⌝ }
 {
     let all = capacity(tables, v);
-    set_use(tally, v, left, 0);
+    set_use(tally, v, left, 0, 0);
     wake_first_ql(work, tally, v);
     enter_freed(work, x, v, left, all)
 }
@@ -76,7 +77,7 @@ fn free_some(
     ensures { λ r. ⌜ rowsOf r (now (work .exit)) (now (tally .exit)) ≡ freeSome (now (tables .entry)) (now (work .entry)) (now (tally .entry)) x v units b ⌝ }
 {
     let all = capacity(tables, v);
-    set_use(tally, v, units, 0);
+    set_use(tally, v, units, 0, 0);
     let edition = number(tables, EDITION);
     let left = leave_with(edition, less64(all, units), b);
     let stay = wake_ql(tables, work, v, edition, left);
@@ -84,12 +85,16 @@ fn free_some(
     enter_freed(work, x, v, units, all)
 }
 
-// 0 where the transaction of that number may release a facility: "Is f in use? 24", then "by another than the holder" 27.
-fn ask_release(units: u64, who: u64, number: u64) -> u32
-    ensures { λ r. ⌜ r ≡ askRelease units who number ⌝ }
+// 0 where the transaction of that number may release a facility: "Is f in use? 24", then "of a preempted facility" 27, "by another than
+// the holder" 27.
+fn ask_release(units: u64, taken: u64, who: u64, number: u64) -> u32
+    ensures { λ r. ⌜ r ≡ askRelease units taken who number ⌝ }
 {
     if units < 1 {
         return NOT_IN_USE;
+    }
+    if taken != 0 {
+        return NOT_HOLDER;
     }
     if who != number {
         return NOT_HOLDER;
@@ -112,7 +117,7 @@ pub fn release(
     let v = server_at(tables, at + FIRST);
     let units = in_use(tally, v);
     let number = read(work, NUMBER, x.moving) as u64;
-    let end = ask_release(units, holder(tally, v), number);
+    let end = ask_release(units, preempted(tally, v), holder(tally, v), number);
     if end != 0 {
         return stop(x, end);
     }

@@ -25,22 +25,23 @@ ghost use Rattle.rows.specs.Layout.{Room, rowCount};
 ghost use Rattle.state.specs.Stands.{rowsOf};
 ghost use Rattle.servers.specs.Taking.{holdUnits, queueUp, takeUnits, seize, enter};
 
-// It enters; so many units are in use, and `who` holds the server, 0 for nobody.
-fn hold_units(
+// It enters; so many units are in use, and `who` holds the server, 0 for nobody; 1 for by PREEMPT.
+pub fn hold_units(
     work: &mut [u32],
     tally: &mut [u64],
     x: Scalars,
     v: u32,
     units: u64,
     who: u64,
+    preempts: u64,
     capacity: u64,
 ) -> Scalars
     requires { ⌜ Room (now work) ⌝ }
     requires { ⌜ x .moving < rowCount ⌝ }
     requires { ⌜ v < serverCount ⌝ }
-    ensures { λ r. ⌜ rowsOf r (now (work .exit)) (now (tally .exit)) ≡ holdUnits (now (work .entry)) (now (tally .entry)) x v units who capacity ⌝ }
+    ensures { λ r. ⌜ rowsOf r (now (work .exit)) (now (tally .exit)) ≡ holdUnits (now (work .entry)) (now (tally .entry)) x v units who preempts capacity ⌝ }
 {
-    set_use(tally, v, units, who);
+    set_use(tally, v, units, who, preempts);
     check_wels(work, v, units, capacity);
     go_on(work, x)
 }
@@ -58,7 +59,7 @@ fn queue_up(work: &mut [u32], tally: &mut [u64], x: Scalars, v: u32, edition: u3
     wait_on(work, x, v, edition)
 }
 
-fn take_units(
+pub fn take_units(
     tables: &[u32],
     work: &mut [u32],
     tally: &mut [u64],
@@ -66,16 +67,17 @@ fn take_units(
     v: u32,
     b: u64,
     who: u64,
+    preempts: u64,
 ) -> Scalars
     requires { ⌜ Room (now work) ⌝ }
     requires { ⌜ x .moving < rowCount ⌝ }
     requires { ⌜ v < serverCount ⌝ }
-    ensures { λ r. ⌜ rowsOf r (now (work .exit)) (now (tally .exit)) ≡ takeUnits (now (tables .entry)) (now (work .entry)) (now (tally .entry)) x v b who ⌝ }
+    ensures { λ r. ⌜ rowsOf r (now (work .exit)) (now (tally .exit)) ≡ takeUnits (now (tables .entry)) (now (work .entry)) (now (tally .entry)) x v b who preempts ⌝ }
 {
     let units = in_use(tally, v);
     let all = capacity(tables, v);
     if b <= less64(all, units) {
-        return hold_units(work, tally, x, v, units + b, who, all);
+        return hold_units(work, tally, x, v, units + b, who, preempts, all);
     }
     queue_up(work, tally, x, v, number(tables, EDITION))
 }
@@ -88,7 +90,7 @@ pub fn seize(tables: &[u32], work: &mut [u32], tally: &mut [u64], x: Scalars, at
 {
     let v = server_at(tables, at + FIRST);
     let number = read(work, NUMBER, x.moving) as u64;
-    take_units(tables, work, tally, x, v, 1, number)
+    take_units(tables, work, tally, x, v, 1, number, 0)
 }
 
 pub fn enter(tables: &[u32], work: &mut [u32], tally: &mut [u64], x: Scalars, at: usize) -> Scalars
@@ -99,5 +101,5 @@ pub fn enter(tables: &[u32], work: &mut [u32], tally: &mut [u64], x: Scalars, at
 {
     let v = server_at(tables, at + FIRST);
     let b = number(tables, at + SECOND) as u64;
-    take_units(tables, work, tally, x, v, b, 0)
+    take_units(tables, work, tally, x, v, b, 0, 0)
 }

@@ -2,13 +2,14 @@
 use tables::CAPACITIES;
 use tables::HOLDER;
 use tables::IN_USE;
+use tables::PREEMPTED;
 use tables::count;
 use tables::number;
 use tables::set_count;
 ghost use mathlib.Core.Path.{_≡_};
 ghost use Prim.Native.Nat.{_+_, _<_};
 ghost use Rattle.tables.specs.Layout.{serverCount, wordEnd};
-ghost use Rattle.servers.specs.Units.{serverAt, inUse, holder, setUse, capacity, statusOf};
+ghost use Rattle.servers.specs.Units.{serverAt, inUse, holder, preempted, setUse, capacity, statusOf};
 
 const SERVERS: u32 = tables::SERVERS as u32;
 
@@ -37,13 +38,22 @@ pub fn holder(tally: &[u64], v: u32) -> u64
     count(tally, HOLDER + (v as usize))
 }
 
-// So many units are in use, and who holds the server.
-pub fn set_use(tally: &mut [u64], v: u32, units: u64, who: u64)
+// 1 where it is held by PREEMPT, else 0.
+pub fn preempted(tally: &[u64], v: u32) -> u64
     requires { ⌜ v < serverCount ⌝ }
-    ensures { λ _. ⌜ now (tally .exit) ≡ setUse (now (tally .entry)) v units who ⌝ }
+    ensures { λ r. ⌜ r ≡ preempted (now (tally .entry)) v ⌝ }
+{
+    count(tally, PREEMPTED + (v as usize))
+}
+
+// So many units are in use, who holds the server, and whether by PREEMPT.
+pub fn set_use(tally: &mut [u64], v: u32, units: u64, who: u64, preempts: u64)
+    requires { ⌜ v < serverCount ⌝ }
+    ensures { λ _. ⌜ now (tally .exit) ≡ setUse (now (tally .entry)) v units who preempts ⌝ }
 {
     set_count(tally, IN_USE + (v as usize), units);
     set_count(tally, HOLDER + (v as usize), who);
+    set_count(tally, PREEMPTED + (v as usize), preempts);
 }
 
 pub fn capacity(tables: &[u32], v: u32) -> u64

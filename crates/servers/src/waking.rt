@@ -3,6 +3,7 @@ use crate::units::CODES;
 use crate::units::status;
 use machine::Model;
 use machine::kinds::ENTER;
+use machine::kinds::PREEMPT;
 use machine::kinds::SEIZE;
 use rows::HEADS;
 use rows::NEXT;
@@ -85,7 +86,7 @@ pub fn wake_first_ql(work: &mut [u32], tally: &mut [u64], v: u32)
     wake_first(work, v);
 }
 
-// The units that the block at an index of the tables takes: one for a SEIZE, 0 for a block that takes none.
+// The units that the block at an index of the tables takes: one for a SEIZE or PREEMPT, 0 for a block that takes none.
 fn units_at(tables: &[u32], at: usize) -> u64
     requires { ⌜ at < programSize ⌝ }
     ensures { λ r. ⌜ r ≡ unitsAt (now (tables .entry)) at ⌝ }
@@ -96,6 +97,9 @@ fn units_at(tables: &[u32], at: usize) -> u64
     }
     if kind == ENTER {
         return number(tables, at + SECOND) as u64;
+    }
+    if kind == PREEMPT {
+        return 1;
     }
     0
 }

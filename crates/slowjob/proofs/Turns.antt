@@ -1,7 +1,7 @@
 -- Every turn keeps the line, and so it holds in the last state of every run of the program.
 use Prim.Native.Nat.{ℕ, zero, suc, _+_, _*_, _≤_, _<_}
 use mathlib.Core.Path.{_≡_, refl, sym, ap, subst, subst₂, _∙_}
-use mathlib.Core.Bool.{not}
+use mathlib.Core.Bool.{Bool, not}
 use mathlib.Core.List.{List, [], _∷_, _++_, map}
 use mathlib.Core.Option.{Option, none, some}
 use native.Mathlib.Omega.{arith}
@@ -110,19 +110,19 @@ module _ (m : BlockModel) (arrivals services : List ℕ) where
       (getD-set-same (s .samples) 1 (drop 1 (timesLeft s 2)) [] (f .samples) ∙ ap (drop 1) is)
       (lined-advanced m arrivals services time l _ (ap suc e) (with-times refl (sym is) h))
 
-  line-use : (b units holder : ℕ) (s : State) → Fixtures s → Lined m arrivals services b (s .view .clock) units (s .rel) (s .fel) (qlOf s 1) (s .wel) (s .wsl) (timesLeft s 1) (timesLeft s 2) (s .records)
-      → Line m arrivals services b (setUse 1 units holder s)
+  line-use : (b units holder : ℕ) (preempted : Bool) (s : State) → Fixtures s → Lined m arrivals services b (s .view .clock) units (s .rel) (s .fel) (qlOf s 1) (s .wel) (s .wsl) (timesLeft s 1) (timesLeft s 2) (s .records)
+      → Line m arrivals services b (setUse 1 units holder preempted s)
   unfolding setUse
-  line-use b units holder s f h = with-server (ap (λ v. v .inUse) (getD-set-same (s .view .servers) 0 _ (idleServer 0) (f .server))) refl h
+  line-use b units holder preempted s f h = with-server (ap (λ v. v .inUse) (getD-set-same (s .view .servers) 0 _ (idleServer 0) (f .server))) refl h
 
   line-queue : (t : Transaction) (s : State) → t .next ≡ 2 → Fixtures s → (used s ≡ 0 → ⊥) → Line m arrivals services 2 s → Line m arrivals services 0 (toQl (m .edition) 1 t s)
   unfolding toQl
   line-queue t s e f taken h =
       with-server refl (getD-set-same (s .ql) 0 (lineUp (m .edition) t (qlOf s 1)) [] (f .ql)) (lined-queued m arrivals services (m .edition) t e taken h)
 
-  line-release : (units holder : ℕ) (s : State) → Fixtures s → units ≡ 0 → Line m arrivals services 4 s → Line m arrivals services 5 (wakeQl firstOf 1 (setUse 1 units holder s))
+  line-release : (units holder : ℕ) (preempted : Bool) (s : State) → Fixtures s → units ≡ 0 → Line m arrivals services 4 s → Line m arrivals services 5 (wakeQl firstOf 1 (setUse 1 units holder preempted s))
   unfolding wakeQl setUse
-  line-release units holder s f z h =
+  line-release units holder preempted s f z h =
       with-server (ap (λ v. v .inUse) (getD-set-same (s .view .servers) 0 _ (idleServer 0) (f .server)) ∙ z)
       (getD-set-same (s .ql) 0 (drop 1 (qlOf s 1)) [] (f .ql)) (lined-released m arrivals services h)
 
@@ -156,7 +156,7 @@ module _ (m : BlockModel) (arrivals services : List ℕ) where
             block = 3;
             hand = (before-advance, ap suc e);
             line = line-wels m arrivals services 3 1 _
-                (line-use 3 _ _ (enters t before) f
+                (line-use 3 _ _ _ (enters t before) f
                 (with-server (ap (λ n. n + 1) idle) refl (lined-seized m arrivals services idle (line-enters 2 t before plain h))));
           })
           (λ full.
@@ -187,7 +187,7 @@ module _ (m : BlockModel) (arrivals services : List ℕ) where
             block = 5;
             hand = (before-terminate, ap suc e);
             line = line-wels m arrivals services 5 1 _
-                (line-release _ 0 (enters t before) f (omega (arith, f .within)) (line-enters 4 t before (ap (λ b. facts b .terminates) (block-at t e)) h));
+                (line-release _ 0 _ (enters t before) f (omega (arith, f .within)) (line-enters 4 t before (ap (λ b. facts b .terminates) (block-at t e)) h));
           }
 
       sound-terminate : t .next ≡ 5 → Line m arrivals services 5 s → Sound (effect m (terminate 1) t before)

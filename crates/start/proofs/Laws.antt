@@ -9,6 +9,7 @@ use borrow.Author.Tests.{ne-eqb}
 use lib.Dec.{eqb, ltb}
 use lib.ListN.{length, getD, replicate, length-set}
 use Rattle.machine.specs.Transaction.{Transaction}
+use Rattle.machine.specs.Lists.{those}
 use Rattle.machine.specs.Block.{Block, generate, facility, storage, facts, BlockModel, blockAt, terminate}
 use Rattle.machine.specs.State.{State}
 use Rattle.machine.specs.Moves as Moves
@@ -33,27 +34,28 @@ use Rattle.tables.proofs.Operands.{operand}
 use Rattle.flow.proofs.Drawing.{drawn-most}
 use Rattle.flow.proofs.Arrival.{arrives-stands}
 use Rattle.start.proofs.Tally.{same-at, idle-tallying}
-use Rattle.tables.proofs.BlockKinds.{Kinds, generating, taking, waiting, arriving, other, kinds, unasked}
+use Rattle.tables.proofs.BlockKinds.{Kinds, generating, taking, waiting, arriving, preempting, other, kinds, unasked}
 
 -- ---- Before the first block: nobody lives
 
 module _ (m : BlockModel) (tape : List (List ℕ)) where
-  no-lists : (q : ℕ) → q < 706 → _≡_ {A = List Transaction} [] (listsOf (idle m tape) q)
-  unfolding listsOf idle
-  no-lists q hq = go (ltb q 64) (ltb q 448) (eqb q 448) (eqb q 449)
+  no-lists : (q : ℕ) → q < 770 → _≡_ {A = List Transaction} [] (listsOf (idle m tape) q)
+  unfolding listsOf idle those
+  no-lists q hq = go (ltb q 64) (ltb q 448) (eqb q 448) (eqb q 449) (ltb q 706)
     where
       servers : ℕ
       servers = m .facilities + length (m .capacities)
 
-      go : (a b c d : Bool) → _≡_ {A = List Transaction} []
+      go : (a b c d e : Bool) → _≡_ {A = List Transaction} []
           (cond a (getD (replicate servers []) q [])
           (cond b (getD (replicate (servers * 6) []) (q - 64) [])
-          (cond c [] (cond d [] (map gathererRow (getD (replicate (length (m .blocks)) []) (q - 450) []))))))
-      go true b c d = sym (same-at servers q [])
-      go false true c d = sym (same-at (servers * 6) (q - 64) [])
-      go false false true d = refl
-      go false false false true = refl
-      go false false false false = sym (ap (map gathererRow) (same-at (length (m .blocks)) (q - 450) []))
+          (cond c [] (cond d [] (cond e (map gathererRow (getD (replicate (length (m .blocks)) []) (q - 450) [])) [])))))
+      go true b c d e = sym (same-at servers q [])
+      go false true c d e = sym (same-at (servers * 6) (q - 64) [])
+      go false false true d e = refl
+      go false false false true e = refl
+      go false false false false false = refl
+      go false false false false true = sym (ap (map gathererRow) (same-at (length (m .blocks)) (q - 450) []))
 
   module _ (w : List ℕ) (room : 16384 ≤ length w) where
     begun : Shows (initial w) (λ p. []) []
@@ -61,7 +63,7 @@ module _ (m : BlockModel) (tape : List (List ℕ)) where
 
     nobody : onLists (λ p. []) [] ≡ 0
     unfolding onLists
-    nobody = omega (arith, sum-zero 706 (λ p. 0) (λ k h. refl))
+    nobody = omega (arith, sum-zero 770 (λ p. 0) (λ k h. refl))
 
     idle-listing : Listing (initial w) 1024 none (idle m tape)
     unfolding idle
@@ -104,6 +106,7 @@ begins b = go (kinds b)
     go (taking (storage v n) e) = past e (unfold startOf blockForms in passes (omega arith) refl (λ n s. refl))
     go (waiting a r c e) = past e (unfold startOf blockForms in passes (omega arith) refl (λ n s. refl))
     go (arriving q e) = past e (unfold startOf blockForms in passes (omega arith) refl (λ n s. refl))
+    go (preempting v e) = past e (unfold startOf blockForms in passes (omega arith) refl (λ n s. refl))
     go (other kind rest e f g) =
         passes (omega (arith, ap length e)) (rw e (unasked kind f .no-generate))
         (λ n s. unfold startOf in rw (ap (λ x. x .generates) g))
@@ -236,7 +239,7 @@ module _ (m : BlockModel) (tape : List (List ℕ)) (tapeBytes tables lists : Lis
       blocks-stand l (suc b) (beginBlock tables tapeBytes r b) (startOf x (suc b) s) (block-stands b (omega arith) r s h x is) (omega arith)
       (λ i hi. ap (λ (n : ℕ). blockAt m (suc n)) (omega arith) ∙ at (suc i) (omega arith))
 
-  module _ (w tally : List ℕ) (room : 16384 ≤ length w) (size : length tally ≡ 1024) (empty : (i : ℕ) → getD tally i 0 ≡ 0) where
+  module _ (w tally : List ℕ) (room : 16384 ≤ length w) (size : length tally ≡ 1088) (empty : (i : ℕ) → getD tally i 0 ≡ 0) where
     abbrev r₀ : Rows
     r₀ = rowsOf (startScalars (m .counter)) (initial w) (listsSet 16 lists tally)
 

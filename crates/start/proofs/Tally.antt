@@ -1,11 +1,13 @@
 -- The tally of the start: all 0, as it was, but where each list begins and how many times it has.
 use Prim.Native.Nat.{ℕ, zero, suc, _+_, _-_, _≤_, _<_}
 use mathlib.Core.Path.{_≡_, refl, sym, ap, _∙_}
+use mathlib.Core.Bool.{false}
 use mathlib.Core.List.{List, [], _∷_, _++_, map}
 use native.Mathlib.Omega.{arith}
 use native.Mathlib.Decide.{ℕ-discrete}
 use lib.ListN.{length, getD, set, replicate, length-set}
 use lib.Seq.{getD-set-same, getD-set-other}
+use Rattle.machine.specs.Lists.{bit}
 use Rattle.machine.specs.Term.{Server, idleServer, Queue, emptyQueue}
 use Rattle.machine.specs.Block.{BlockModel}
 use Rattle.machine.specs.Run.{idle}
@@ -33,8 +35,8 @@ module _ (lists tally : List ℕ) where
       ∙ getD-set-other (listsSet n lists tally) (928 + n) i (getD lists n 0) 0 (λ e. omega arith)
       ∙ lists-high n i (omega arith) h
 
-module _ (lists tally : List ℕ) (size : length tally ≡ 1024) where
-  lists-length : (n : ℕ) → length (listsSet n lists tally) ≡ 1024
+module _ (lists tally : List ℕ) (size : length tally ≡ 1088) where
+  lists-length : (n : ℕ) → length (listsSet n lists tally) ≡ 1088
   unfolding listsSet listSet
   lists-length zero = size
   lists-length (suc n) =
@@ -70,13 +72,14 @@ same-at (suc n) (suc i) a = same-at n i a
 record Idle (v : Server) : Type 0 where
   in-use : v .inUse ≡ 0
   holder : v .holder ≡ 0
+  preempted : v .preempted ≡ false
   unit-ticks : v .unitTicks ≡ 0
   wait-ticks : v .waitTicks ≡ 0
   longest : v .longest ≡ 0
 
 idle-server : (c : ℕ) → Idle (idleServer c)
 unfolding idleServer
-idle-server c = record { in-use = refl; holder = refl; unit-ticks = refl; wait-ticks = refl; longest = refl }
+idle-server c = record { in-use = refl; holder = refl; preempted = refl; unit-ticks = refl; wait-ticks = refl; longest = refl }
 
 idle-at : (f : ℕ) (l : List ℕ) (v : ℕ) → Idle (getD (replicate f (idleServer 1) ++ map idleServer l) v (idleServer 0))
 idle-at zero [] v = idle-server 0
@@ -87,7 +90,7 @@ idle-at (suc f) l (suc v) = idle-at f l v
 
 -- ---- All of it
 
-module _ (m : BlockModel) (tape : List (List ℕ)) (tapeBytes tables lists tally : List ℕ) (proper : Proper m tape) (rep : Represents m tape tapeBytes tables lists) (size : length tally ≡ 1024) (empty : (i : ℕ) → getD tally i 0 ≡ 0) where
+module _ (m : BlockModel) (tape : List (List ℕ)) (tapeBytes tables lists tally : List ℕ) (proper : Proper m tape) (rep : Represents m tape tapeBytes tables lists) (size : length tally ≡ 1088) (empty : (i : ℕ) → getD tally i 0 ≡ 0) where
   zero-at : (i : ℕ) → i < 928 → getD (listsSet 16 lists tally) i 0 ≡ 0
   zero-at i h = lists-low lists tally 16 i h ∙ empty i
 
@@ -105,6 +108,7 @@ module _ (m : BlockModel) (tape : List (List ℕ)) (tapeBytes tables lists tally
       record {
         in-use = λ v hv. zero-at (512 + v) (omega arith) ∙ sym (server v .in-use);
         holders = λ v hv. lists-high lists tally 16 (960 + v) (omega arith) (omega arith) ∙ empty (960 + v) ∙ sym (server v .holder);
+        preempts = λ v hv. lists-high lists tally 16 (1024 + v) (omega arith) (omega arith) ∙ empty (1024 + v) ∙ sym (ap bit (server v .preempted));
         unit-ticks = λ v hv. zero-at (576 + v) (omega arith) ∙ sym (server v .unit-ticks);
         wait-ticks = λ v hv. zero-at (640 + v) (omega arith) ∙ sym (server v .wait-ticks);
         longest = λ v hv. zero-at (704 + v) (omega arith) ∙ sym (server v .longest);
@@ -127,7 +131,7 @@ module _ (m : BlockModel) (tape : List (List ℕ)) (tapeBytes tables lists tally
         left = λ l hl. list-at l hl .1 ∙ rep .counts l hl;
       }
 
-  start-size : length (listsSet 16 lists tally) ≡ 1024
+  start-size : length (listsSet 16 lists tally) ≡ 1088
   start-size = lists-length lists tally size 16
 
   pub idle-tallying : Tallying tapeBytes (listsSet 16 lists tally) (idle m tape)

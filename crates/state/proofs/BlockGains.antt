@@ -11,21 +11,21 @@ use lib.ListN.{getD, set, drop}
 use lib.Seq.{map-set-same, getD-drop}
 use Rattle.machine.specs.Rules.{inForce}
 use Rattle.machine.specs.Limits.{maxLiving, maxTime}
-use Rattle.machine.specs.Transaction.{Transaction, Event, Gatherer, earlier}
+use Rattle.machine.specs.Transaction.{Transaction, Event, Gatherer, Interrupted, earlier}
 use Rattle.machine.specs.Lists.{insert, nth}
 use Rattle.machine.specs.Term.{Queue, emptyQueue, serverAt, queueAt, idleServer, free, compare}
-use Rattle.machine.specs.Block.{Code, Share, facility, storage, shareServer, shareUnits, shareHolder, Change, up, down, Block, generate, advance, terminate, takes, frees, waitServer, waitTerms, moves, assign, priority, split, counts, assemble, BlockModel, status}
+use Rattle.machine.specs.Block.{Code, Share, facility, storage, shareServer, shareUnits, shareHolder, Change, up, down, Block, generate, advance, terminate, takes, frees, waitServer, waitTerms, moves, assign, priority, split, counts, assemble, preempt, giveBack, BlockModel, status}
 use Rattle.machine.specs.State.{State}
 use Rattle.machine.specs.Setters.{withSerial, setSerial, setMoving, setEnded, setGatherers}
-use Rattle.machine.specs.Moves.{moveTo, fresh, toRel, toFel, toQl, toWel, toWsl, wakeQl, wakeFirstWel, wakeWsl, setUse, setContent, timesLeft, arrival, copies, waitsFor, toGatherers, comes, released}
-use Rattle.machine.specs.Execute.{unless, living, askGenerate, question, checkWels, endsOne, delay, wakeFor, changed, gathers, gathering}
+use Rattle.machine.specs.Moves.{moveTo, fresh, toRel, toFel, toQl, toWel, toWsl, wakeQl, wakeFirstWel, wakeWsl, setUse, setContent, timesLeft, arrival, copies, waitsFor, toGatherers, comes, released, interruptedAt, losersTo, interrupt, resume, setHolder}
+use Rattle.machine.specs.Execute.{unless, living, askGenerate, question, checkWels, endsOne, delay, wakeFor, changed, gathers, gathering, takingUnits, preempting, givesBack}
 use Rattle.machine.specs.Turn.{wsScheme}
-use Rattle.machine.proofs.Ahead.{rising-insert}
+use Rattle.machine.proofs.Ahead.{Ahead, rising-insert, rising-without}
 use Rattle.machine.proofs.Kept.{changed-most}
 use Rattle.machine.proofs.Proper.{ProperBlock}
 use Rattle.machine.proofs.RunLaws.{cond-cases}
 use Rattle.machine.proofs.Shape.{each-getD}
-use Rattle.machine.proofs.Sorted.{each-insert, at-set}
+use Rattle.machine.proofs.Sorted.{each-insert, each-replace, at-set}
 use Rattle.machine.proofs.Clocks.{Samples}
 use Rattle.machine.proofs.Cases.{checkWels-kept, wsScheme-cases}
 use Rattle.state.specs.Bare.{Bare, entering, goingBack, beginning, waiting, bare}
@@ -86,9 +86,9 @@ gains-wsScheme m s = wsScheme-cases (Gains 0 0 0 s) m s (λ e. still s _ refl re
 
 -- ---- Servers, queues, the end of one
 
-gains-use : (v n holder : ℕ) (s : State) → Gains 0 0 0 s (setUse v n holder s)
+gains-use : (v n holder : ℕ) (preempted : Bool) (s : State) → Gains 0 0 0 s (setUse v n holder preempted s)
 unfolding setUse serverAt
-gains-use v n holder s =
+gains-use v n holder preempted s =
     record {
       clock = refl;
       turns = refl;
@@ -240,6 +240,57 @@ gains-gathers n g t s =
     (λ e. gains-trans (gains-ended s) (gains-trans (gains-gatherers _ (setEnded (suc (s .ended)) s)) (gains-toRel _ _)))
     (λ e. gains-most 0 1 0 (omega arith) (omega arith) (omega arith) (gains-trans (gains-ended s) (gains-gatherers _ (setEnded (suc (s .ended)) s))))
 
+-- ---- Interrupting
+
+-- the FEL changes, in order and not before the clock; at most one serial is given
+gains-fel : (k : ℕ) (s s′ : State) → s′ .view ≡ s .view → s′ .samples ≡ s .samples → s′ .turns ≡ s .turns → s′ .records ≡ s .records → s′ .written ≡ s .written
+    → s′ .counter ≡ s .counter → s′ .made ≡ s .made → s′ .ended ≡ s .ended → s′ .serial ≡ s .serial + k → (Ahead s → Ahead s′) → Gains 0 k 0 s s′
+gains-fel k s s′ view samples turns records written counter made ended serial ahead =
+    record {
+      clock = ap (λ w. w .clock) view;
+      turns = turns;
+      entries = ap (λ w. w .entries) view;
+      records = records;
+      written = written;
+      counter = omega arith;
+      made = omega arith;
+      ended = omega arith;
+      pace = omega arith;
+      serials = omega arith;
+      samples = λ h list i. subst (λ (l : List (List ℕ)). getD (nth l list []) i 0 ≤ inForce .maxTime) (sym samples) (h list i);
+      ahead = ahead;
+      servers = ap (λ w. map serverSums (w .servers)) view;
+      queues = ap (λ w. map queueSums (w .queues)) view;
+      contents = λ n h. rw view (more n 0 (s .view .queues) h);
+    }
+
+gains-interrupt : (e : Event) (t : Transaction) (f : ℕ) (s : State) → Gains 0 0 0 s (interrupt e t f s)
+unfolding interrupt
+gains-interrupt e t f s =
+    gains-fel 0 s _ refl refl refl refl refl refl refl refl (omega arith)
+    (λ h.
+    record {
+      later = each-replace (λ (x : Event). s .view .clock ≤ x .time) _ [] (s .fel) tt (h .later);
+      rising = rising-without _ (s .fel) (h .rising);
+    })
+
+gains-resume : (i : Interrupted) (f : ℕ) (s : State) → Gains 0 1 0 s (resume i f s)
+unfolding resume toFel
+gains-resume i f s =
+    gains-fel 1 s _ refl refl refl refl refl refl refl refl (omega arith)
+    (λ h.
+    record {
+      later = each-insert (λ (x : Event). s .view .clock ≤ x .time) earlier _ (s .fel) (omega arith) (h .later);
+      rising = rising-insert _ (s .fel) (h .rising);
+    })
+
+gains-givesBack : (m : BlockModel) (l : List Interrupted) (f : ℕ) (s : State) → Gains 0 1 0 s (givesBack m l f s)
+unfolding givesBack
+gains-givesBack m [] f s =
+    gains-most 0 1 0 (omega arith) (omega arith) (omega arith)
+    (gains-trans (gains-use f (serverAt (s .view) f .inUse - 1) 0 false s) (gains-wakeFor m (facility f) _))
+gains-givesBack m (i ∷ l) f s = gains-trans (gains-use f (serverAt (s .view) f .inUse) (i .who .number) false s) (gains-resume i f _)
+
 -- ---- Each kind
 
 -- a block's gains, where its question was answered with yes
@@ -269,6 +320,15 @@ generates m (time ∷ l) list p n k t s o asked =
       gains = gains-most 1 255 1 (omega arith) (omega arith) (omega arith) (on k t (gains-arrival (time ∷ l) list p n s));
     }
 
+takes-moderate : (m : BlockModel) (x : Share) (preempts : Bool) (t : Transaction) (s : State)
+    → Moderate s (takingUnits (λ f. entering (f s)) (λ put. waiting put t s) (λ f. goingBack (f s)) (λ put. beginning put t s) m x preempts t s .state)
+takes-moderate m x preempts t s =
+    let v : ℕ = shareServer x in
+    cond-cases (λ (r : Bare). Moderate s (r .state)) (leb (shareUnits x) (free (serverAt (s .view) v))) _ _
+    (λ e. moderate (omega arith) (omega arith)
+    (on _ t (gains-trans (gains-use v (serverAt (s .view) v .inUse + shareUnits x) (shareHolder x (t .number)) preempts s) (gains-checkWels v _))))
+    (λ e. moderate (omega arith) (omega arith) (gains-waitQl (m .edition) v t s))
+
 -- no question asks who moves in the state
 pub bare-gains : (m : BlockModel) (b : Block) (t : Transaction) (s : State) (o : Option Transaction) → ProperBlock m b → question m b t (setMoving o s) ≡ 0
     → Moderate s (bare m b t s .state)
@@ -276,16 +336,11 @@ unfolding bare question
 bare-gains m (generate list p) t s o ok asked = generates m _ list p _ _ t s o asked
 bare-gains m (advance list) t s o ok asked = moderate (omega arith) (omega arith) (gains-delay _ list t s)
 bare-gains m (terminate a) t s o ok asked = moderate (omega arith) (omega arith) (gains-endsOne a s)
-bare-gains m (takes x) t s o ok asked =
-    let v : ℕ = shareServer x in
-    cond-cases (λ (r : Bare). Moderate s (r .state)) (leb (shareUnits x) (free (serverAt (s .view) v))) _ _
-    (λ e. moderate (omega arith) (omega arith)
-    (on _ t (gains-trans (gains-use v (serverAt (s .view) v .inUse + shareUnits x) (shareHolder x (t .number)) s) (gains-checkWels v _))))
-    (λ e. moderate (omega arith) (omega arith) (gains-waitQl (m .edition) v t s))
+bare-gains m (takes x) t s o ok asked = takes-moderate m x false t s
 bare-gains m (frees x) t s o ok asked =
     moderate (omega arith) (omega arith)
     (on _ t
-    (gains-trans (gains-use (shareServer x) (serverAt (s .view) (shareServer x) .inUse - shareUnits x) 0 s)
+    (gains-trans (gains-use (shareServer x) (serverAt (s .view) (shareServer x) .inUse - shareUnits x) 0 false s)
     (gains-trans (gains-wakeFor m x _) (gains-checkWels (shareServer x) _))))
 bare-gains m (waitServer code v c) t s o ok asked =
     cond-cases (λ (r : Bare). Moderate s (r .state)) (status code (serverAt (s .view) v)) _ _
@@ -314,3 +369,13 @@ bare-gains m (assemble n) t s o ok asked = gathers-moderate (waitsFor t s)
         → Moderate s (gathering (λ f. entering (f s)) (λ put. waiting put t s) (λ f. goingBack (f s)) (λ put. beginning put t s) l n t .state)
     gathers-moderate [] = moderate (omega arith) (omega arith) (gains-gather t s)
     gathers-moderate (g ∷ l) = moderate (omega arith) (omega arith) (gains-gathers n g t s)
+bare-gains m (preempt f) t s o ok asked = preempts-moderate (losersTo t f s)
+  where
+    preempts-moderate : (l : List Event)
+        → Moderate s (preempting (λ f. entering (f s)) (λ put. waiting put t s) (λ f. goingBack (f s)) (λ put. beginning put t s) l m f t s .state)
+    preempts-moderate [] = takes-moderate m (facility f) true t s
+    preempts-moderate (e ∷ l) =
+        moderate (omega arith) (omega arith)
+        (on _ t (gains-trans (gains-interrupt e t f s) (gains-trans (gains-use f _ (t .number) true _) (gains-checkWels f _))))
+bare-gains m (giveBack f) t s o ok asked =
+    moderate (omega arith) (omega arith) (on _ t (gains-trans (gains-givesBack m (interruptedAt s f) f s) (gains-checkWels f _)))

@@ -1,5 +1,5 @@
 -- The numbered lists of a state: what stands under a number, and what a change of the state's lists does to them.
-use Prim.Native.Nat.{ℕ, _+_, _-_, _≤_, _<_}
+use Prim.Native.Nat.{ℕ, suc, _+_, _-_, _≤_, _<_}
 use mathlib.Core.Path.{_≡_, refl, sym, ap, _∙_}
 use mathlib.Core.Logic.{_≢_}
 use mathlib.Core.Bool.{Bool, true, false, cond}
@@ -9,17 +9,22 @@ use borrow.Author.Tests.{lt-ltb, le-ltb, ltb-true, ltb-false, eqb-true, eqb-fals
 use lib.Dec.{ltb, eqb}
 use lib.ListN.{length, getD, set}
 use lib.Seq.{getD-set-same, getD-set-other}
-use Rattle.machine.specs.Transaction.{Transaction, Gatherer}
+use Rattle.machine.specs.Transaction.{Transaction, Gatherer, Interrupted}
+use Rattle.machine.specs.Lists.{those}
 use Rattle.machine.specs.State.{State}
-use Rattle.machine.specs.Setters.{setQl, setWel, setWsl, setRel, setGatherers}
+use Rattle.machine.specs.Setters.{setQl, setWel, setWsl, setRel, setGatherers, setInterrupted}
+use Rattle.machine.specs.Moves.{ofFacility, interruptedAt}
 use Rattle.rows.specs.Layout.{wsl, rel}
 use Rattle.rows.specs.Holds.{update}
 use Rattle.rows.specs.Shows.{moved}
-use Rattle.state.specs.Stands.{gathererRow, listsOf}
+use Rattle.state.specs.Stands.{gathererRow, interruptedRow, listsOf}
 
--- REL and the gatherers
+-- REL, the gatherers and the interrupted ones
+abbrev beyond : State → ℕ → List Transaction
+beyond s q = cond (ltb q 706) (map gathererRow (getD (s .gatherers) (q - 450) [])) (map interruptedRow (interruptedAt s (suc (q - 706))))
+
 abbrev above : State → ℕ → List Transaction
-above s q = cond (eqb q 449) (s .rel) (map gathererRow (getD (s .gatherers) (q - 450) []))
+above s q = cond (eqb q 449) (s .rel) (beyond s q)
 
 -- ---- What stands under a number
 
@@ -45,7 +50,13 @@ pub lists-gatherers : (s : State) (i : ℕ) → i < 256 → listsOf s (450 + i) 
 unfolding listsOf
 lists-gatherers s i h =
     let back : 450 + i - 450 ≡ i = omega arith in
-    rw (le-ltb (450 + i) 64 (omega arith), le-ltb (450 + i) 448 (omega arith), ne-eqb (450 + i) 448 (λ e. omega arith), ne-eqb (450 + i) 449 (λ e. omega arith), back)
+    rw (le-ltb (450 + i) 64 (omega arith), le-ltb (450 + i) 448 (omega arith), ne-eqb (450 + i) 448 (λ e. omega arith), ne-eqb (450 + i) 449 (λ e. omega arith), lt-ltb (450 + i) 706 (omega arith), back)
+
+pub lists-interrupted : (s : State) (i : ℕ) → i < 64 → listsOf s (706 + i) ≡ map interruptedRow (interruptedAt s (suc i))
+unfolding listsOf
+lists-interrupted s i h =
+    let back : 706 + i - 706 ≡ i = omega arith in
+    rw (le-ltb (706 + i) 64 (omega arith), le-ltb (706 + i) 448 (omega arith), ne-eqb (706 + i) 448 (λ e. omega arith), ne-eqb (706 + i) 449 (λ e. omega arith), le-ltb (706 + i) 706 (omega arith), back)
 
 -- ---- One list replaced
 
@@ -90,12 +101,12 @@ lists-set-wsl s l q = go (eqb q 448) refl (ltb q 64) refl (ltb q 448) refl
     go true e false f false g = refl
     go false e c f d g = refl
 
-pub lists-set-rel : (s : State) (l : List Transaction) (q : ℕ) → q < 706 → update rel l (listsOf s) q ≡ listsOf (setRel l s) q
+pub lists-set-rel : (s : State) (l : List Transaction) (q : ℕ) → q < 770 → update rel l (listsOf s) q ≡ listsOf (setRel l s) q
 unfolding listsOf
 lists-set-rel s l q h = go (eqb q 449) refl (ltb q 64) refl (ltb q 448) refl (eqb q 448) refl
   where
     G : List Transaction
-    G = map gathererRow (getD (s .gatherers) (q - 450) [])
+    G = beyond s q
 
     go : (b : Bool) → eqb q 449 ≡ b → (c : Bool) → ltb q 64 ≡ c → (d : Bool) → ltb q 448 ≡ d → (e : Bool) → eqb q 448 ≡ e
         → cond b l (cond c (getD (s .ql) q []) (cond d (getD (s .wel) (q - 64) []) (cond e (s .wsl) (cond b (s .rel) G))))
@@ -109,31 +120,65 @@ lists-set-rel s l q h = go (eqb q 449) refl (ltb q 64) refl (ltb q 448) refl (eq
 pub lists-set-gatherers : (s : State) (i : ℕ) (l : List Gatherer) → i < 256 → i < length (s .gatherers) → (q : ℕ)
     → update (450 + i) (map gathererRow l) (listsOf s) q ≡ listsOf (setGatherers (set (s .gatherers) i l) s) q
 unfolding listsOf
-lists-set-gatherers s i l h len q = go (eqb q (450 + i)) refl (ltb q 64) refl (ltb q 448) refl (eqb q 448) refl (eqb q 449) refl
+lists-set-gatherers s i l h len q = go (eqb q (450 + i)) refl (ltb q 64) refl (ltb q 448) refl (eqb q 448) refl (eqb q 449) refl (ltb q 706) refl
   where
-    go : (b : Bool) → eqb q (450 + i) ≡ b → (c : Bool) → ltb q 64 ≡ c → (d : Bool) → ltb q 448 ≡ d → (e : Bool) → eqb q 448 ≡ e → (f : Bool) → eqb q 449 ≡ f
-        → cond b (map gathererRow l) (cond c (getD (s .ql) q []) (cond d (getD (s .wel) (q - 64) []) (cond e (s .wsl) (cond f (s .rel) (map gathererRow (getD (s .gatherers) (q - 450) []))))))
-        ≡ cond c (getD (s .ql) q []) (cond d (getD (s .wel) (q - 64) []) (cond e (s .wsl) (cond f (s .rel) (map gathererRow (getD (set (s .gatherers) i l) (q - 450) [])))))
-    go true x true y d z e u f v = absurd (omega (arith, eqb-true q (450 + i) x, ltb-true q 64 y))
-    go true x false y true z e u f v = absurd (omega (arith, eqb-true q (450 + i) x, ltb-true q 448 z))
-    go true x false y false z true u f v = absurd (omega (arith, eqb-true q (450 + i) x, eqb-true q 448 u))
-    go true x false y false z false u true v = absurd (omega (arith, eqb-true q (450 + i) x, eqb-true q 449 v))
-    go true x false y false z false u false v =
+    I : List Transaction
+    I = map interruptedRow (interruptedAt s (suc (q - 706)))
+
+    go : (b : Bool) → eqb q (450 + i) ≡ b → (c : Bool) → ltb q 64 ≡ c → (d : Bool) → ltb q 448 ≡ d → (e : Bool) → eqb q 448 ≡ e → (f : Bool) → eqb q 449 ≡ f → (g : Bool) → ltb q 706 ≡ g
+        → cond b (map gathererRow l) (cond c (getD (s .ql) q []) (cond d (getD (s .wel) (q - 64) []) (cond e (s .wsl) (cond f (s .rel) (cond g (map gathererRow (getD (s .gatherers) (q - 450) [])) I)))))
+        ≡ cond c (getD (s .ql) q []) (cond d (getD (s .wel) (q - 64) []) (cond e (s .wsl) (cond f (s .rel) (cond g (map gathererRow (getD (set (s .gatherers) i l) (q - 450) [])) I))))
+    go true x true y d z e u f v g o = absurd (omega (arith, eqb-true q (450 + i) x, ltb-true q 64 y))
+    go true x false y true z e u f v g o = absurd (omega (arith, eqb-true q (450 + i) x, ltb-true q 448 z))
+    go true x false y false z true u f v g o = absurd (omega (arith, eqb-true q (450 + i) x, eqb-true q 448 u))
+    go true x false y false z false u true v g o = absurd (omega (arith, eqb-true q (450 + i) x, eqb-true q 449 v))
+    go true x false y false z false u false v false o = absurd (omega (arith, eqb-true q (450 + i) x, ltb-false q 706 o))
+    go true x false y false z false u false v true o =
         let back : q - 450 ≡ i = omega (arith, eqb-true q (450 + i) x) in
         rw back (ap (map gathererRow) (sym (getD-set-same (s .gatherers) i l [] len)))
-    go false x true y d z e u f v = refl
-    go false x false y true z e u f v = refl
-    go false x false y false z true u f v = refl
-    go false x false y false z false u true v = refl
-    go false x false y false z false u false v =
+    go false x true y d z e u f v g o = refl
+    go false x false y true z e u f v g o = refl
+    go false x false y false z true u f v g o = refl
+    go false x false y false z false u true v g o = refl
+    go false x false y false z false u false v false o = refl
+    go false x false y false z false u false v true o =
         ap (map gathererRow)
-        (sym (getD-set-other (s .gatherers) i (q - 450) l [] (λ k. eqb-false q (450 + i) x (beyond (ltb-false q 448 z) (eqb-false q 448 u) (eqb-false q 449 v) k))))
+        (sym (getD-set-other (s .gatherers) i (q - 450) l [] (λ k. eqb-false q (450 + i) x (from (ltb-false q 448 z) (eqb-false q 448 u) (eqb-false q 449 v) k))))
       where
-        beyond : 448 ≤ q → q ≢ 448 → q ≢ 449 → q - 450 ≡ i → q ≡ 450 + i
-        beyond low a b k = omega arith
+        from : 448 ≤ q → q ≢ 448 → q ≢ 449 → q - 450 ≡ i → q ≡ 450 + i
+        from low a b k = omega arith
+
+-- the interrupted one of a facility comes or goes
+pub lists-set-interrupted : (s : State) (i : ℕ) (l : List Interrupted) (here : List Transaction) → i < 64 → map interruptedRow (those (ofFacility (suc i)) l) ≡ here
+    → ((j : ℕ) → j ≢ i → those (ofFacility (suc j)) l ≡ interruptedAt s (suc j)) → (q : ℕ)
+    → update (706 + i) here (listsOf s) q ≡ listsOf (setInterrupted l s) q
+unfolding listsOf
+lists-set-interrupted s i l here h is others q = go (eqb q (706 + i)) refl (ltb q 64) refl (ltb q 448) refl (eqb q 448) refl (eqb q 449) refl (ltb q 706) refl
+  where
+    G : List Transaction
+    G = map gathererRow (getD (s .gatherers) (q - 450) [])
+
+    go : (b : Bool) → eqb q (706 + i) ≡ b → (c : Bool) → ltb q 64 ≡ c → (d : Bool) → ltb q 448 ≡ d → (e : Bool) → eqb q 448 ≡ e → (f : Bool) → eqb q 449 ≡ f → (g : Bool) → ltb q 706 ≡ g
+        → cond b here (cond c (getD (s .ql) q []) (cond d (getD (s .wel) (q - 64) []) (cond e (s .wsl) (cond f (s .rel) (cond g G (map interruptedRow (interruptedAt s (suc (q - 706)))))))))
+        ≡ cond c (getD (s .ql) q []) (cond d (getD (s .wel) (q - 64) []) (cond e (s .wsl) (cond f (s .rel) (cond g G (map interruptedRow (those (ofFacility (suc (q - 706))) l))))))
+    go true x true y d z e u f v g o = absurd (omega (arith, eqb-true q (706 + i) x, ltb-true q 64 y))
+    go true x false y true z e u f v g o = absurd (omega (arith, eqb-true q (706 + i) x, ltb-true q 448 z))
+    go true x false y false z true u f v g o = absurd (omega (arith, eqb-true q (706 + i) x, eqb-true q 448 u))
+    go true x false y false z false u true v g o = absurd (omega (arith, eqb-true q (706 + i) x, eqb-true q 449 v))
+    go true x false y false z false u false v true o = absurd (omega (arith, eqb-true q (706 + i) x, ltb-true q 706 o))
+    go true x false y false z false u false v false o =
+        let back : q - 706 ≡ i = omega (arith, eqb-true q (706 + i) x) in
+        rw back (sym is)
+    go false x true y d z e u f v g o = refl
+    go false x false y true z e u f v g o = refl
+    go false x false y false z true u f v g o = refl
+    go false x false y false z false u true v g o = refl
+    go false x false y false z false u false v true o = refl
+    go false x false y false z false u false v false o =
+        ap (map interruptedRow) (sym (others (q - 706) (λ k. eqb-false q (706 + i) x (omega (arith, ltb-false q 706 o)))))
 
 -- ---- One list replaced, and REL
 
-pub lists-moved : (s s′ : State) (p : ℕ) (l r : List Transaction) → ((q : ℕ) → q < 706 → update p l (listsOf s) q ≡ listsOf s′ q) → (q : ℕ) → q < 706 → moved p l r (listsOf s) q ≡ listsOf (setRel r s′) q
+pub lists-moved : (s s′ : State) (p : ℕ) (l r : List Transaction) → ((q : ℕ) → q < 770 → update p l (listsOf s) q ≡ listsOf s′ q) → (q : ℕ) → q < 770 → moved p l r (listsOf s) q ≡ listsOf (setRel r s′) q
 lists-moved s s′ p l r e q hq =
     ap (λ (x : List Transaction). cond (eqb q rel) r x) (e q hq) ∙ lists-set-rel s′ r q hq

@@ -6,14 +6,14 @@ use mathlib.Core.Bool.{Bool, true, false, cond, _&&_}
 use mathlib.Core.List.{List, [], _∷_}
 use mathlib.Core.Option.{none}
 use lib.Dec.{leb, ltb, eqb}
-use Rattle.machine.specs.Transaction.{Transaction, Gatherer}
+use Rattle.machine.specs.Transaction.{Transaction, Event, Gatherer, Interrupted}
 use Rattle.machine.specs.Term.{serverAt, free, compare}
-use Rattle.machine.specs.Block.{Code, U, NU, E, NE, F, NF, status, facility, storage, shareServer, shareUnits, shareHolder, Block, generate, advance, terminate, takes, frees, waitServer, waitTerms, moves, assign, priority, split, counts, assemble, BlockModel}
+use Rattle.machine.specs.Block.{Code, U, NU, E, NE, F, NF, status, Share, facility, storage, shareServer, shareUnits, shareHolder, Block, generate, advance, terminate, takes, frees, waitServer, waitTerms, moves, assign, priority, split, counts, assemble, preempt, giveBack, BlockModel}
 use Rattle.machine.specs.State.{State}
 use Rattle.machine.specs.Setters.{withSerial, setSerial, setMoving, setMade, setEnded}
 use Rattle.machine.specs.Bundle.{everything}
-use Rattle.machine.specs.Moves.{recordOf, log, enters, fresh, moveTo, goOn, mustWait, toRel, toQl, toWel, toWsl, firstOf, wakeQl, wakeFirstWel, setUse, timesLeft, arrival, copyOf, copies, beginWait, waitsFor, toGatherers, comes, released}
-use Rattle.machine.specs.Execute.{effect, checkWel, checkWels, freeUnits, wakeFor, delay, gathers, gathering}
+use Rattle.machine.specs.Moves.{recordOf, log, enters, fresh, moveTo, goOn, mustWait, toRel, toQl, toWel, toWsl, firstOf, wakeQl, wakeFirstWel, setUse, timesLeft, arrival, copyOf, copies, beginWait, waitsFor, toGatherers, comes, released, interruptedAt, losersTo, interrupt, setHolder}
+use Rattle.machine.specs.Execute.{effect, checkWel, checkWels, freeUnits, wakeFor, delay, gathers, gathering, takingUnits, preempting, givesBack}
 use Rattle.machine.specs.Turn.{answer}
 use Rattle.state.specs.Bare.{Bare, Note, enteredNote, waitsNote, noNote, entering, goingBack, beginning, waiting, bare, bareAnswer, logged, countEntry, noteAs, noted}
 
@@ -109,16 +109,36 @@ module _ (m : BlockModel) (t : Transaction) (s : State) where
   checked v f commutes =
       entered-noted t s (checking v f) (ap (λ (y : State). goOn t (checkWels v y)) commutes ∙ ap (goOn t) (checkWels-N t s v (f s)))
 
+  abbrev units-taken : Share → Bool → State → State
+  units-taken x preempts = setUse (shareServer x) (serverAt (s .view) (shareServer x) .inUse + shareUnits x) (shareHolder x (t .number)) preempts
+
+  taking-noted : (x : Share) (preempts : Bool)
+      → noted t s (takingUnits (λ f. entering (f s)) (λ put. waiting put t s) (λ f. goingBack (f s)) (λ put. beginning put t s) m x preempts t s)
+      ≡ takingUnits (λ f. f (enters t s)) (λ put. mustWait put t s) (λ f. f s) (λ put. beginWait put t s) m x preempts t s
+  unfolding everything logged countEntry
+  taking-noted x preempts =
+      let v : ℕ = shareServer x in
+      noted-cond t s (leb (shareUnits x) (free (serverAt (s .view) v))) _ _ _ _ (checked v (units-taken x preempts) refl)
+      (waiting-noted t s (toQl (m .edition) v) (λ u x. refl))
+
+  preempting-noted : (f : ℕ) (l : List Event)
+      → noted t s (preempting (λ f. entering (f s)) (λ put. waiting put t s) (λ f. goingBack (f s)) (λ put. beginning put t s) l m f t s)
+      ≡ preempting (λ f. f (enters t s)) (λ put. mustWait put t s) (λ f. f s) (λ put. beginWait put t s) l m f t s
+  unfolding everything logged countEntry
+  preempting-noted f [] = taking-noted (facility f) true
+  preempting-noted f (e ∷ l) = checked f (λ x. setHolder f (t .number) true (interrupt e t f x)) refl
+
+  givesBack-noted : (f : ℕ) (l : List Interrupted) → noted t s (entering (checking f (givesBack m l f) s)) ≡ checking f (givesBack m l f) (enters t s)
+  unfolding everything logged countEntry
+  givesBack-noted f [] = checked f (givesBack m [] f) refl
+  givesBack-noted f (i ∷ l) = checked f (givesBack m (i ∷ l) f) refl
+
   pub noted-effect : (b : Block) → noted t s (bare m b t s) ≡ effect m b t s
   unfolding everything bare noteAs logged countEntry
   noted-effect (generate list p) = sym (ap (goOn t) (arrival-N t s (timesLeft s list) list p (t .next) s))
   noted-effect (advance list) = sym (delay-N t s (timesLeft s list) list s)
   noted-effect (terminate a) = refl
-  noted-effect (takes x) =
-      let v : ℕ = shareServer x in
-      noted-cond t s (leb (shareUnits x) (free (serverAt (s .view) v))) _ _ _ _
-      (checked v (setUse v (serverAt (s .view) v .inUse + shareUnits x) (shareHolder x (t .number))) refl)
-      (waiting-noted t s (toQl (m .edition) v) (λ u x. refl))
+  noted-effect (takes x) = taking-noted x false
   noted-effect (frees (facility v)) = checked v (λ e. wakeQl firstOf v (freeUnits v 1 e)) refl
   noted-effect (frees (storage v b)) = checked v (λ e. wakeFor m (storage v b) (freeUnits v b e)) refl
   noted-effect (waitServer code v c) =
@@ -132,6 +152,8 @@ module _ (m : BlockModel) (t : Transaction) (s : State) where
   noted-effect (split n target) = sym (ap (goOn t) (copies-N t s n target s))
   noted-effect (counts c q) = refl
   noted-effect (assemble n) = gathering-noted t s n (waitsFor t s)
+  noted-effect (preempt f) = preempting-noted f (losersTo t f s)
+  noted-effect (giveBack f) = givesBack-noted f (interruptedAt s f)
 
 -- a record reads only the clock of the state in which t stood
 note-moving : (n : Note) (t : Transaction) (s x : State) → noteAs n t s x ≡ noteAs n t (setMoving none s) x

@@ -6,7 +6,7 @@ use mathlib.Core.Option.{Option, none, some}
 use native.Mathlib.Omega.{arith}
 use borrow.Author.Tests.{eq-eqb}
 use lib.Dec.{eqb}
-use Rattle.machine.specs.Transaction.{Transaction, Event, Gatherer}
+use Rattle.machine.specs.Transaction.{Transaction, Event, Gatherer, Interrupted}
 use Rattle.machine.specs.Lists.{flat}
 use Rattle.machine.specs.Block.{BlockModel}
 use Rattle.machine.specs.State.{State}
@@ -52,7 +52,10 @@ module _ (P : Transaction → Type 0) where
   each-everyone s h =
       let fel = map (λ (e : Event). e .who) (s .fel) in
       let gatherers = map (λ (g : Gatherer). g .who) (flat (s .gatherers)) in
-      let h0 = each-left P (flat (s .ql) ++ flat (s .wel) ++ s .wsl ++ s .rel ++ fel ++ movingOne (s .moving)) gatherers h in
+      let stopped = map (λ (i : Interrupted). i .who) (s .interrupted) in
+      let all = flat (s .ql) ++ flat (s .wel) ++ s .wsl ++ s .rel ++ fel ++ movingOne (s .moving) in
+      let h9 = each-left P (all ++ gatherers) stopped h in
+      let h0 = each-left P all gatherers h9 in
       let h1 = each-left P (flat (s .ql) ++ flat (s .wel) ++ s .wsl ++ s .rel ++ fel) (movingOne (s .moving)) h0 in
       let h2 = each-left P (flat (s .ql) ++ flat (s .wel) ++ s .wsl ++ s .rel) fel h1 in
       let h3 = each-left P (flat (s .ql) ++ flat (s .wel) ++ s .wsl) (s .rel) h2 in
@@ -65,7 +68,8 @@ module _ (P : Transaction → Type 0) where
         fel = each-mapped (λ (e : Event). e .who) P (s .fel) (each-right P (flat (s .ql) ++ flat (s .wel) ++ s .wsl ++ s .rel) fel h1);
         gatherers =
             each-flat (λ (g : Gatherer). P (g .who)) (s .gatherers)
-            (each-mapped (λ (g : Gatherer). g .who) P (flat (s .gatherers)) (each-right P (flat (s .ql) ++ flat (s .wel) ++ s .wsl ++ s .rel ++ fel ++ movingOne (s .moving)) gatherers h));
+            (each-mapped (λ (g : Gatherer). g .who) P (flat (s .gatherers)) (each-right P all gatherers h9));
+        interrupted = each-mapped (λ (i : Interrupted). i .who) P (s .interrupted) (each-right P (all ++ gatherers) stopped h);
         moving = each-moving (s .moving) (each-right P (flat (s .ql) ++ flat (s .wel) ++ s .wsl ++ s .rel ++ fel) (movingOne (s .moving)) h0);
       }
 

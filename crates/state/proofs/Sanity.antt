@@ -1,22 +1,28 @@
 -- Every state of a run, before a turn and after the taking, is sane.
 use Prim.Native.Nat.{ℕ, zero, suc, _+_, _*_, _-_, _≤_, _<_}
-use mathlib.Core.Path.{_≡_, refl, sym, _∙_, subst}
+use mathlib.Core.Path.{_≡_, refl, sym, ap, _∙_, subst}
+use mathlib.Core.Bool.{Bool, true, false, true≢false}
 use mathlib.Core.List.{List, [], _∷_, map, _++_}
 use native.Mathlib.Omega.{arith}
+use borrow.Author.Tests.{eqb-true, eqb-false}
+use lib.Dec.{eqb}
 use lib.ListN.{length, replicate, length-append, length-map, getD}
 use Rattle.machine.specs.Rules.{Rules, inForce}
 use Rattle.machine.specs.Limits.{maxSerial, maxTurns}
-use Rattle.machine.specs.Transaction.{Transaction, Gatherer}
+use Rattle.machine.specs.Transaction.{Transaction, Gatherer, Interrupted}
 use Rattle.machine.specs.Lists.{flat, nth}
-use Rattle.machine.specs.Term.{Server, Queue, idleServer, emptyQueue}
+use Rattle.machine.specs.Term.{Server, Queue, idleServer, emptyQueue, serverAt}
 use Rattle.machine.specs.Block.{Block, BlockModel, facts, blockAt}
 use Rattle.machine.specs.State.{State}
 use Rattle.machine.specs.Setters.{setTurns, setEnd}
+use Rattle.machine.specs.Moves.{interruptedAt}
 use Rattle.machine.specs.Turn.{taking, turn}
 use Rattle.machine.specs.Run.{idle, startAt, start}
 use Rattle.machine.specs.Report.{placed, places}
-use Rattle.machine.specs.Claims.{Each}
-use Rattle.machine.proofs.Proper.{Proper}
+use Rattle.machine.specs.Claims.{Each, loserBy}
+use Rattle.machine.proofs.Proper.{Proper, Names}
+use Rattle.machine.proofs.Chosen.{upto, none-numbered}
+use Rattle.machine.proofs.Holders.{Holding, holding-taking, holding-turn, holding-start}
 use Rattle.machine.proofs.RunLaws.{each-map, each-pair}
 use Rattle.machine.proofs.Cases.{startOf-cases}
 use Rattle.machine.proofs.Kept.{taking-kept}
@@ -92,10 +98,27 @@ ComeIn m gatherers =
 abbrev Come : BlockModel → State → Type 0
 Come m s = ComeIn m (s .gatherers)
 
+-- who is interrupted lost a facility, and nobody lost a seized one
+abbrev Stopped : BlockModel → State → Type 0
+Stopped m s =
+    Each (λ (i : Interrupted). Names (m .facilities) (i .facility)) (s .interrupted)
+    × ((f : ℕ) → Names (m .facilities) f → serverAt (s .view) f .preempted ≡ false → interruptedAt s f ≡ [])
+
+stopped-of : (m : BlockModel) (tape : List (List ℕ)) (s : State) → Holding m tape s → Stopped m s
+unfolding serverAt
+stopped-of m tape s h = (h .known, λ f at seized. none-numbered (interruptedAt s f) (h .each f at .loser ∙ ap upto (nobody f at seized (eqb (loserBy m tape (s .records) f) 0) refl)))
+  where
+    nobody : (f : ℕ) → (at : Names (m .facilities) f) → getD (s .view .servers) (f - 1) (idleServer 0) .preempted ≡ false → (b : Bool) → eqb (loserBy m tape (s .records) f) 0 ≡ b → loserBy m tape (s .records) f ≡ 0
+    nobody f at seized true e = eqb-true _ 0 e
+    nobody f at seized false e = absurd (true≢false (sym (h .each f at .taken (positive (eqb-false _ 0 e)) .0) ∙ seized))
+      where
+        positive : (loserBy m tape (s .records) f ≡ 0 → ⊥) → 0 < loserBy m tape (s .records) f
+        positive n = omega arith
+
 module _ {m : BlockModel} {n : ℕ} (s : State) (shape : Shape m s) (placed : Everybody (Placed m) s) (waits : Waits m s) (timely : Timely (inForce .maxClock) s) (h : Measured n s) where
-  sane-of : m .rules ≡ inForce → Come m s → n ≤ s .turns → s .serial ≤ 100000000 → s .ended ≤ s .made → s .made - s .ended ≤ 1024 → s .turns ≤ maxTurns + 1
+  sane-of : m .rules ≡ inForce → Come m s → Stopped m s → n ≤ s .turns → s .serial ≤ 100000000 → s .ended ≤ s .made → s .made - s .ended ≤ 1024 → s .turns ≤ maxTurns + 1
       → Each (λ (e : ℕ). e ≤ s .turns) (s .view .entries) → Each (λ (l : List Transaction). length l ≤ 1024) (s .ql) → Sane m s
-  sane-of rules come few serials ended living turns entries waiting =
+  sane-of rules come stopped few serials ended living turns entries waiting =
       record {
         rules = rules;
         shape = shape;
@@ -112,6 +135,8 @@ module _ {m : BlockModel} {n : ℕ} (s : State) (shape : Shape m s) (placed : Ev
         entries = entries;
         contents = each-map (λ q (le : q .content ≤ n). omega arith) (s .view .queues) (h .contents);
         come = come;
+        interrupted = stopped .0;
+        seized = stopped .1;
         waiting = waiting;
         unit-ticks = each-map (λ v (b : ServerBound (s .view .clock) (serverSums v)). b .0) (s .view .servers) (h .servers);
         wait-ticks = each-map (λ v (b : ServerBound (s .view .clock) (serverSums v)). b .1) (s .view .servers) (h .servers);
@@ -195,6 +220,7 @@ pub record Sure (m : BlockModel) (tape : List (List ℕ)) (s : State) : Type 0 w
   pub ahead : Ahead s
   pub sound : Sound m tape s
   pub gathering : Gathering m tape s
+  pub holding : Holding m tape s
 
 module _ {m : BlockModel} {tape : List (List ℕ)} (proper : Proper m tape) (s : State) (h : Sure m tape s) (going : s .end ≡ 0) (serials : s .serial ≤ maxSerial) (turns : s .turns < maxTurns) where
   abbrev hs : Sane m s
@@ -217,12 +243,12 @@ module _ {m : BlockModel} {tape : List (List ℕ)} (proper : Proper m tape) (s :
   taken-placed =
       let U : Unmoved (Placed m) = record { mark = λ b t p. p; serial = λ n t p. p } in
       let k : Everybody (Placed m) (taking (s .moving) s) = taking-everybody (Placed m) U (s .moving) s (hs .placed) in
-      record { ql = k .ql; wel = k .wel; wsl = k .wsl; rel = k .rel; fel = k .fel; gatherers = k .gatherers; moving = k .moving }
+      record { ql = k .ql; wel = k .wel; wsl = k .wsl; rel = k .rel; fel = k .fel; gatherers = k .gatherers; interrupted = k .interrupted; moving = k .moving }
 
   taken-timely : Timely (inForce .maxClock) (takenOf s)
   taken-timely =
       let k : Timely (inForce .maxClock) (taking (s .moving) s) = taking-timely (s .moving) s (hs .timely) in
-      record { clock = k .clock; times = k .times }
+      record { clock = k .clock; times = k .times; remaining = k .remaining }
 
   taken-entries : Few (s .turns) (takenOf s .view .entries)
   taken-entries = subst (Few (s .turns)) (sym (taken-took .entries)) (hs .entries)
@@ -240,7 +266,7 @@ module _ {m : BlockModel} {tape : List (List ℕ)} (proper : Proper m tape) (s :
   -- of the state in which the block of a taken turn finds the machine
   pub sane-taken : Sane m (takenOf s)
   sane-taken =
-      sane-of (takenOf s) taken-shape taken-placed (waits-taken m s going (hs .waits)) taken-timely taken-measured (hs .rules) taken-come (omega arith) (omega (arith, taken-serials))
+      sane-of (takenOf s) taken-shape taken-placed (waits-taken m s going (hs .waits)) taken-timely taken-measured (hs .rules) taken-come (stopped-of m tape (takenOf s) (holding-taking m tape (s .moving) s (h .holding))) (omega arith) (omega (arith, taken-serials))
       (omega (arith, taken-took .made, taken-took .ended, hs .ended)) taken-living (omega arith) (fewer (s .turns) (takenOf s .view .entries) taken-entries)
       (subst (Each (λ (l : List Transaction). length l ≤ 1024)) (sym (taken-took .ql)) (hs .waiting))
 
@@ -254,6 +280,7 @@ module _ {m : BlockModel} {tape : List (List ℕ)} (proper : Proper m tape) (s :
       let a : After (s .turns) (takenOf s) (turn m s) = turn-after in
       let sound : Sound m tape (turn m s) = sound-turn m tape proper s (h .sound) in
       let gathering : Gathering m tape (turn m s) = gathering-turn proper s (h .sound) (hs .placed) (h .gathering) in
+      let holding : Holding m tape (turn m s) = holding-turn m tape proper s (h .sound) (h .holding) in
       let all : length (places (turn m s)) + turn m s .ended ≡ turn m s .made = stand m tape (turn m s) sound in
       let turned-timely : Timely (inForce .maxClock) (turn m s) =
       subst (λ (q : Rules). Timely (q .maxClock) (turn m s)) (hs .rules)
@@ -262,11 +289,12 @@ module _ {m : BlockModel} {tape : List (List ℕ)} (proper : Proper m tape) (s :
       record {
         sane =
             sane-of (turn m s) (shape-turn m s (hs .shape)) (placed-turn m tape proper s (hs .placed)) (waits-kept proper s going (hs .shape) (hs .waits) .0) turned-timely (a .measured) (hs .rules) (come-below proper (turn m s) gathering)
-            (omega (arith, a .turns)) (omega (arith, a .serials, taken-serials)) (omega (arith, all)) (a .living) (omega (arith, a .turns))
+            (stopped-of m tape (turn m s) holding) (omega (arith, a .turns)) (omega (arith, a .serials, taken-serials)) (omega (arith, all)) (a .living) (omega (arith, a .turns))
             (subst (λ (n : ℕ). Few n (turn m s .view .entries)) (sym (a .turns)) (a .entries)) (each-flat (turn m s .ql) 1024 few);
         ahead = a .measured .ahead;
         sound = sound;
         gathering = gathering;
+        holding = holding;
       }
 
 -- ---- The start
@@ -328,12 +356,13 @@ module _ {m : BlockModel} {tape : List (List ℕ)} (proper : Proper m tape) (rul
       record {
         sane =
             sane-of (start m tape) (shape-start m tape (proper .tapes)) (placed-start m tape proper) (waits-start m tape .0) started k rules (come-below proper (start m tape) (gathering-start proper))
-            (omega arith) (omega arith) (omega arith) (omega arith) (omega arith)
+            (stopped-of m tape (start m tape) (holding-start m tape)) (omega arith) (omega arith) (omega arith) (omega arith) (omega arith)
             (each-map (λ e (le : e ≤ 0). omega arith) (start m tape .view .entries) (subst (Few 0) (sym (g .entries)) (z .3)))
             (each-flat (start m tape .ql) 1024 (omega (arith, parts m tape (start m tape) sound)));
         ahead = k .ahead;
         sound = sound;
         gathering = gathering-start proper;
+        holding = holding-start m tape;
       }
 
 -- ---- The run
@@ -344,9 +373,9 @@ sane-turns n e s more few k =
     record {
       rules = k .rules;
       shape = k .shape;
-      placed = record { ql = k .placed .ql; wel = k .placed .wel; wsl = k .placed .wsl; rel = k .placed .rel; fel = k .placed .fel; gatherers = k .placed .gatherers; moving = k .placed .moving };
+      placed = record { ql = k .placed .ql; wel = k .placed .wel; wsl = k .placed .wsl; rel = k .placed .rel; fel = k .placed .fel; gatherers = k .placed .gatherers; interrupted = k .placed .interrupted; moving = k .placed .moving };
       waits = k .waits;
-      timely = record { clock = k .timely .clock; times = k .timely .times };
+      timely = record { clock = k .timely .clock; times = k .timely .times; remaining = k .timely .remaining };
       samples = k .samples;
       serials = k .serials;
       made = k .made;
@@ -357,6 +386,8 @@ sane-turns n e s more few k =
       entries = each-map (λ i (le : i ≤ s .turns). omega arith) (s .view .entries) (k .entries);
       contents = each-map (λ (q : Queue) (le : q .content ≤ s .turns). omega arith) (s .view .queues) (k .contents);
       come = k .come;
+      interrupted = k .interrupted;
+      seized = k .seized;
       waiting = k .waiting;
       unit-ticks = k .unit-ticks;
       wait-ticks = k .wait-ticks;
@@ -373,7 +404,8 @@ sure-end m tape s e h =
       sound = record { shape = h .sound .shape; balanced = h .sound .balanced; books = h .sound .books };
       gathering =
           record {
-            kindred = like _ (record { mark = λ b t p. p; serial = λ n t p. p }) s (setEnd e s) refl refl refl refl refl refl refl (h .gathering .kindred);
+            kindred = like _ (record { mark = λ b t p. p; serial = λ n t p. p }) s (setEnd e s) refl refl refl refl refl refl refl refl (h .gathering .kindred);
             gathers = h .gathering .gathers;
           };
+      holding = h .holding;
     }

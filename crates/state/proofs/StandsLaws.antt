@@ -38,7 +38,7 @@ use Rattle.state.specs.Stands.{Rows, rowsOf, listsOf, Moving, Listing, S
 
 -- a state with the same lists and as many living
 pub listing-ext : (w : List ℕ) (k : ℕ) (o : Option Transaction) (s s′ : State)
-    → ((q : ℕ) → q < 706 → listsOf s q ≡ listsOf s′ q) → s .fel ≡ s′ .fel → s′ .made - s′ .ended ≡ s .made - s .ended
+    → ((q : ℕ) → q < 770 → listsOf s q ≡ listsOf s′ q) → s .fel ≡ s′ .fel → s′ .made - s′ .ended ≡ s .made - s .ended
     → Listing w k o s → Listing w k o s′
 listing-ext w k o s s′ lists future living h =
     record {
@@ -74,7 +74,7 @@ listing-time w k t s time h =
 
 module _ (w : List ℕ) (k : ℕ) (t : Transaction) (s s′ : State) (h : Listing w k (some t) s) (living : s′ .made - s′ .ended ≡ s .made - s .ended) where
   -- the moving row comes onto a list
-  pub listing-put : (p : ℕ) → wsl ≤ p → p < 706 → ((q : ℕ) → q < 706 → update p (insert precedes t (listsOf s p)) (listsOf s) q ≡ listsOf s′ q) → s .fel ≡ s′ .fel
+  pub listing-put : (p : ℕ) → wsl ≤ p → p < 770 → ((q : ℕ) → q < 770 → update p (insert precedes t (listsOf s p)) (listsOf s) q ≡ listsOf s′ q) → s .fel ≡ s′ .fel
       → Listing (put w p k) 1024 none s′
   listing-put p low hp lists future =
       record {
@@ -89,8 +89,8 @@ module _ (w : List ℕ) (k : ℕ) (t : Transaction) (s s′ : State) (h : Listin
       }
 
   -- the moving row comes onto a line of waiters
-  pub listing-line : (edition p : ℕ) → p < 706 → (edition ≡ 1 → Sorted precedes (listsOf s p)) → Sorted (orderOf p) (lineUp edition t (listsOf s p))
-      → ((q : ℕ) → q < 706 → update p (lineUp edition t (listsOf s p)) (listsOf s) q ≡ listsOf s′ q) → s .fel ≡ s′ .fel
+  pub listing-line : (edition p : ℕ) → p < 770 → (edition ≡ 1 → Sorted precedes (listsOf s p)) → Sorted (orderOf p) (lineUp edition t (listsOf s p))
+      → ((q : ℕ) → q < 770 → update p (lineUp edition t (listsOf s p)) (listsOf s) q ≡ listsOf s′ q) → s .fel ≡ s′ .fel
       → Listing (Lines.lineUp edition w p k) 1024 none s′
   listing-line edition p hp sorted stays lists future =
       record {
@@ -105,7 +105,7 @@ module _ (w : List ℕ) (k : ℕ) (t : Transaction) (s s′ : State) (h : Listin
       }
 
   -- the moving row comes onto the FEL
-  pub listing-put-fel : ((q : ℕ) → q < 706 → listsOf s q ≡ listsOf s′ q) → insert earlier (eventAt w k) (s .fel) ≡ s′ .fel
+  pub listing-put-fel : ((q : ℕ) → q < 770 → listsOf s q ≡ listsOf s′ q) → insert earlier (eventAt w k) (s .fel) ≡ s′ .fel
       → Listing (put w fel k) 1024 none s′
   listing-put-fel lists future =
       record {
@@ -159,6 +159,7 @@ module _ (tally : List ℕ) (i x : ℕ) where
       record {
         in-use = λ v hv. other (512 + v) (apart (512 + v) (omega arith) (omega arith)) ∙ h .in-use v hv;
         holders = λ v hv. other (960 + v) (held v) ∙ h .holders v hv;
+        preempts = λ v hv. other (1024 + v) (λ e. held (64 + v) (omega arith)) ∙ h .preempts v hv;
         unit-ticks = λ v hv. other (576 + v) (apart (576 + v) (omega arith) (omega arith)) ∙ h .unit-ticks v hv;
         wait-ticks = λ v hv. other (640 + v) (apart (640 + v) (omega arith) (omega arith)) ∙ h .wait-ticks v hv;
         longest = λ v hv. other (704 + v) (apart (704 + v) (omega arith) (omega arith)) ∙ h .longest v hv;

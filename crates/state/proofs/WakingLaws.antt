@@ -27,7 +27,7 @@ module _ (w : List ℕ) (k : ℕ) (o : Option Transaction) (s : State) (h : List
   -- list p and REL change
   wakes-listing : (w′ : List ℕ) (p : ℕ) (l r l′ r′ : List Transaction) (s′ : State) → l ≡ l′ → r ≡ r′
       → Wakes w w′ (moved p l r (listsOf s)) (s .fel)
-      → ((q : ℕ) → q < 706 → moved p l′ r′ (listsOf s) q ≡ listsOf s′ q) → s .fel ≡ s′ .fel → s′ .made - s′ .ended ≡ s .made - s .ended
+      → ((q : ℕ) → q < 770 → moved p l′ r′ (listsOf s) q ≡ listsOf s′ q) → s .fel ≡ s′ .fel → s′ .made - s′ .ended ≡ s .made - s .ended
       → Listing w′ k o s′
   wakes-listing w′ p l r l′ r′ s′ e f wakes lists future living =
       listing-steady w w′ k o s s′
@@ -37,7 +37,7 @@ module _ (w : List ℕ) (k : ℕ) (o : Option Transaction) (s : State) (h : List
       h
 
   module _ (v : ℕ) (low : v - 1 < 64) (there : v - 1 < length (s .ql)) where
-    ql-lists : (l r : List Transaction) (q : ℕ) → q < 706 → moved (v - 1) l r (listsOf s) q ≡ listsOf (setRel r (setQl (set (s .ql) (v - 1) l) s)) q
+    ql-lists : (l r : List Transaction) (q : ℕ) → q < 770 → moved (v - 1) l r (listsOf s) q ≡ listsOf (setRel r (setQl (set (s .ql) (v - 1) l) s)) q
     ql-lists l r q hq =
         lists-moved s (setQl (set (s .ql) (v - 1) l) s) (v - 1) l r (λ p hp. lists-set-ql s (v - 1) l low there p) q hq
 

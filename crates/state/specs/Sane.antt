@@ -2,14 +2,17 @@
 -- the machine's own (proofs/ of crate machine and proofs/Sanity.antt); no buffer is spoken of.
 use Prim.Native.Nat.{ℕ, _+_, _*_, _-_, _≤_, _<_}
 use mathlib.Core.Path.{_≡_}
+use mathlib.Core.Bool.{false}
+use mathlib.Core.List.{[]}
 use lib.ListN.{length}
 use Rattle.machine.specs.Rules.{inForce}
 use Rattle.machine.specs.Limits.{maxTurns, maxCounter, maxLiving, maxCapacity}
-use Rattle.machine.specs.Term.{Server, Queue}
+use Rattle.machine.specs.Term.{Server, Queue, serverAt}
 use Rattle.machine.specs.Block.{facts, BlockModel, blockAt}
 use Rattle.machine.specs.State.{State}
-use Rattle.machine.specs.Moves.{gatherersAt}
+use Rattle.machine.specs.Moves.{gatherersAt, interruptedAt}
 use Rattle.machine.specs.Claims.{Each}
+use Rattle.machine.proofs.Proper.{Names}
 use Rattle.machine.proofs.Shape.{Shape}
 use Rattle.machine.proofs.Placed.{Placed}
 use Rattle.machine.proofs.Waiting.{Waits}
@@ -35,6 +38,9 @@ pub record Sane (m : BlockModel) (s : State) : Type 0 where
   pub contents : Each (λ (q : Queue). q .content ≤ s .turns) (s .view .queues)
   -- fewer have come than the ASSEMBLE gathers
   pub come : (b : ℕ) → 1 ≤ b → 0 < facts (blockAt m b) .gathers → Each (λ g. g .come < facts (blockAt m b) .gathers) (gatherersAt s b)
+  -- who is interrupted lost a facility of the model; nobody lost one that is seized
+  pub interrupted : Each (λ i. Names (m .facilities) (i .facility)) (s .interrupted)
+  pub seized : (f : ℕ) → Names (m .facilities) f → serverAt (s .view) f .preempted ≡ false → interruptedAt s f ≡ []
   -- no QL is longer than the living are many
   pub waiting : Each (λ l. length l ≤ maxLiving) (s .ql)
   -- sums: at most so much for each tick that passed

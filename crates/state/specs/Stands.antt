@@ -1,6 +1,6 @@
 -- When scalars, work buffer and tally stand for a state of the machine. Every block kind's law is stated over this relation.
 -- The trace and the counts of records stand apart (crate turn, specs/Writes): a block's record is noted in one place.
-use Prim.Native.Nat.{ℕ, _+_, _-_, _<_}
+use Prim.Native.Nat.{ℕ, suc, _+_, _-_, _<_}
 use mathlib.Core.Path.{_≡_}
 use mathlib.Core.Bool.{cond}
 use mathlib.Core.List.{List, [], map}
@@ -8,15 +8,17 @@ use mathlib.Core.Option.{Option, none, some}
 use lib.Dec.{ltb, eqb}
 use lib.ListN.{length, getD}
 use Rattle.machine.specs.Limits.{maxQueues, maxLists, maxBlocks}
-use Rattle.machine.specs.Transaction.{Transaction, Gatherer}
-use Rattle.machine.specs.Setters.{withNext}
+use Rattle.machine.specs.Transaction.{Transaction, Gatherer, Interrupted}
+use Rattle.machine.specs.Lists.{bit}
+use Rattle.machine.specs.Setters.{withNext, withStamp}
 use Rattle.machine.specs.Term.{Server, Queue, idleServer, emptyQueue}
 use Rattle.machine.specs.State.{State}
+use Rattle.machine.specs.Moves.{interruptedAt}
 use Rattle.tables.specs.Layout as Layout
 use Rattle.tables.specs.Represents.{TimesAt}
 use Rattle.rows.specs.Holds.{transactionAt}
 use Rattle.rows.specs.Shows.{Shows, Loose}
-use Rattle.rows.specs.Layout.{free, rowCount, wels, wsl, rel, gatherers}
+use Rattle.rows.specs.Layout.{free, rowCount, wels, wsl, rel, gatherers, interrupted}
 use Rattle.state.specs.declared.scalars.Scalars.{Scalars}
 use Rattle.state.specs.Bare.{Note, enteredNote, waitsNote, noNote, Bare}
 
@@ -33,13 +35,19 @@ rowsOf x work tally = record { scalars = x; work = work; tally = tally }
 abbrev pub gathererRow : Gatherer → Transaction
 gathererRow g = withNext (g .come) (g .who)
 
--- list p of the work buffer: QL 0..63, WEL 64..447, WSL 448, REL 449, gatherers 450..705
+-- the row of an interrupted one: its remaining ticks stand in the place of its stamp; which facility was taken from it, its list tells
+abbrev pub interruptedRow : Interrupted → Transaction
+interruptedRow i = withStamp (i .remaining) (i .who)
+
+-- list p of the work buffer: QL 0..63, WEL 64..447, WSL 448, REL 449, gatherers 450..705, interrupted ones 706..769
 unfoldable pub listsOf : State → ℕ → List Transaction
 listsOf s p =
     cond (ltb p wels) (getD (s .ql) p [])
     (cond (ltb p wsl) (getD (s .wel) (p - wels) [])
     (cond (eqb p wsl) (s .wsl)
-    (cond (eqb p rel) (s .rel) (map gathererRow (getD (s .gatherers) (p - gatherers) [])))))
+    (cond (eqb p rel) (s .rel)
+    (cond (ltb p interrupted) (map gathererRow (getD (s .gatherers) (p - gatherers) []))
+    (map interruptedRow (interruptedAt s (suc (p - interrupted))))))))
 
 -- row k is the transaction that moves, on no list; 1024 for none
 abbrev pub Moving : List ℕ → ℕ → Option Transaction → Type 0
@@ -60,6 +68,7 @@ pub record Listing (work : List ℕ) (moving : ℕ) (o : Option Transaction) (s 
 pub record Serving (tally : List ℕ) (servers : List Server) (ql : List (List Transaction)) : Type 0 where
   pub in-use : (v : ℕ) → v < Layout.serverCount → getD tally (Layout.inUse + v) 0 ≡ getD servers v (idleServer 0) .inUse
   pub holders : (v : ℕ) → v < Layout.serverCount → getD tally (Layout.holder + v) 0 ≡ getD servers v (idleServer 0) .holder
+  pub preempts : (v : ℕ) → v < Layout.serverCount → getD tally (Layout.preempted + v) 0 ≡ bit (getD servers v (idleServer 0) .preempted)
   pub unit-ticks : (v : ℕ) → v < Layout.serverCount → getD tally (Layout.unitTicks + v) 0 ≡ getD servers v (idleServer 0) .unitTicks
   pub wait-ticks : (v : ℕ) → v < Layout.serverCount → getD tally (Layout.waitTicks + v) 0 ≡ getD servers v (idleServer 0) .waitTicks
   pub longest : (v : ℕ) → v < Layout.serverCount → getD tally (Layout.longestQl + v) 0 ≡ getD servers v (idleServer 0) .longest

@@ -8,7 +8,7 @@ use mathlib.Core.Option.{Option, none}
 use lib.Dec.{eqb}
 use Rattle.machine.specs.Term.{Term, Relation, Condition, always, whenTrue}
 use Rattle.machine.specs.Facts.{Facts}
-use Rattle.machine.specs.Block.{Share, facility, storage, up, down, Block, generate, advance, terminate, takes, frees, waitServer, waitTerms, moves, assign, priority, split, counts, assemble, facts}
+use Rattle.machine.specs.Block.{Share, facility, storage, up, down, Block, generate, advance, terminate, takes, frees, waitServer, waitTerms, moves, assign, priority, split, counts, assemble, preempt, giveBack, facts}
 use Rattle.tables.specs.Numbers.{blockNumbers}
 use Rattle.tables.specs.Forms.{blockForms}
 
@@ -29,15 +29,16 @@ askedOf f =
 abbrev pub notAsked : Asked
 notAsked = record { generates = 0; server = 0; units = 0; queue = 0; waitsWhile = none }
 
--- GENERATE, SEIZE, ENTER, WAITIF of terms and ARRIVE
+-- GENERATE, SEIZE, ENTER, WAITIF of terms, ARRIVE and PREEMPT
 abbrev pub asked : ℕ → Bool
-asked kind = eqb kind 1 || (eqb kind 4 || (eqb kind 6 || (eqb kind 9 || eqb kind 15)))
+asked kind = eqb kind 1 || (eqb kind 4 || (eqb kind 6 || (eqb kind 9 || (eqb kind 15 || eqb kind 19))))
 
 pub data Kinds (b : Block) : Type 0 where
   generating : (list p : ℕ) → b ≡ generate list p → Kinds b
   taking : (x : Share) → b ≡ takes x → Kinds b
   waiting : (left : Term) (relation : Relation) (right : Term) → b ≡ waitTerms left relation right → Kinds b
   arriving : (q : ℕ) → b ≡ counts up q → Kinds b
+  preempting : (f : ℕ) → b ≡ preempt f → Kinds b
   other : (kind : ℕ) (rest : List ℕ) → blockNumbers b ≡ kind ∷ rest → asked kind ≡ false → askedOf (facts b) ≡ notAsked → Kinds b
 
 -- ---- The walk
@@ -61,16 +62,19 @@ kinds (split n target) = other 14 _ refl refl refl
 kinds (counts up q) = arriving q refl
 kinds (counts down q) = other 16 _ refl refl refl
 kinds (assemble n) = other 18 _ refl refl refl
+kinds (preempt f) = preempting f refl
+kinds (giveBack f) = other 20 _ refl refl refl
 
 -- ---- Of another kind
 
--- a number that is not asked for is none of the five
+-- a number that is not asked for is none of the six
 pub record Unasked (kind : ℕ) : Type 0 where
   pub no-generate : eqb kind 1 ≡ false
   pub no-seize : eqb kind 4 ≡ false
   pub no-enter : eqb kind 6 ≡ false
   pub no-wait : eqb kind 9 ≡ false
   pub no-arrive : eqb kind 15 ≡ false
+  pub no-preempt : eqb kind 19 ≡ false
 
 either : (a b : Bool) → (a || b) ≡ false → (a ≡ false) × (b ≡ false)
 either true b e = absurd (true≢false e)
@@ -82,4 +86,5 @@ unasked kind e =
     let b = either (eqb kind 4) _ (a .1) in
     let c = either (eqb kind 6) _ (b .1) in
     let d = either (eqb kind 9) _ (c .1) in
-    record { no-generate = a .0; no-seize = b .0; no-enter = c .0; no-wait = d .0; no-arrive = d .1 }
+    let e = either (eqb kind 15) _ (d .1) in
+    record { no-generate = a .0; no-seize = b .0; no-enter = c .0; no-wait = d .0; no-arrive = e .0; no-preempt = e .1 }

@@ -109,8 +109,12 @@ listLeft = 944
 abbrev pub holder : ℕ
 holder = 960
 
+-- per server: 1 where it holds it by PREEMPT (document 02, item 11), else 0
+abbrev pub preempted : ℕ
+preempted = 1024
+
 abbrev pub tallySize : ℕ
-tallySize = 1024
+tallySize = 1088
 
 -- ---- what decoding leaves of the tape: list k (from 0) begins at cell k, and cell 16 + k is its count
 

@@ -3,7 +3,7 @@
 use Prim.Native.Nat.{ℕ, zero, suc, _+_, _-_}
 use mathlib.Core.List.{List, [], _∷_, _++_}
 use Rattle.machine.specs.Term.{Relation, equal, unequal, less, atMost, greater, atLeast, Term, constant, minusConstant, parameter, clockTerm, entriesOf, contentOf, unitsInUse, unitsFree, facilityInUse, value, comparison, bracket, Condition, always, whenTrue, Sum, nothing, plus, minus}
-use Rattle.machine.specs.Block.{Code, codeIndex, Share, facility, storage, Change, up, down, Block, generate, advance, terminate, takes, frees, waitServer, waitTerms, moves, assign, priority, split, counts, assemble}
+use Rattle.machine.specs.Block.{Code, codeIndex, Share, facility, storage, Change, up, down, Block, generate, advance, terminate, takes, frees, waitServer, waitTerms, moves, assign, priority, split, counts, assemble, preempt, giveBack}
 
 unfoldable pub relationNumber : Relation → ℕ
 relationNumber equal = 1
@@ -78,3 +78,5 @@ blockNumbers (priority p) = 13 ∷ p ∷ []
 blockNumbers (split n target) = 14 ∷ n ∷ target ∷ []
 blockNumbers (counts c q) = countKind c ∷ (q - 1) ∷ []
 blockNumbers (assemble n) = 18 ∷ n ∷ []
+blockNumbers (preempt f) = 19 ∷ (f - 1) ∷ []
+blockNumbers (giveBack f) = 20 ∷ (f - 1) ∷ []

@@ -76,7 +76,9 @@ pub const LIST_LEFT: usize = 944;
 // Who holds a server: the number of a transaction, 0 for nobody.
 pub const HOLDER: usize = 960;
 
-pub const TALLY: usize = 1_024;
+pub const PREEMPTED: usize = 1_024;
+
+pub const TALLY: usize = 1_088;
 
 // What decoding leaves of the tape: where the times of each list begin, then how many they are.
 pub const LIST_COUNTS: usize = Model::MAX_LISTS;

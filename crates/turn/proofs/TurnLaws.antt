@@ -73,7 +73,7 @@ writes-like before trace x x′ tally tally′ s s′ used waits records written
 
 -- ---- The taking
 
-module _ (w tally : List ℕ) (x : Scalars) (servers queues : ℕ) (size : length tally ≡ 1024) (few : servers ≤ 64) (short : queues ≤ 32) where
+module _ (w tally : List ℕ) (x : Scalars) (servers queues : ℕ) (size : length tally ≡ 1088) (few : servers ≤ 64) (short : queues ≤ 32) where
   sampled-waits : (ticks : ℕ) → SameWaits tally (sampleQueues queues (sampleServers servers tally ticks) ticks)
   sampled-waits ticks i low high =
       let v = servers-sampled tally ticks size servers few in
@@ -88,7 +88,7 @@ module _ (w tally : List ℕ) (x : Scalars) (servers queues : ℕ) (size : lengt
       go true false = λ i low high. refl
       go false b = λ i low high. refl
 
-take-waits : (w tally : List ℕ) (x : Scalars) (servers queues : ℕ) → length tally ≡ 1024 → servers ≤ 64 → queues ≤ 32 → SameWaits tally (take w tally x servers queues .tally)
+take-waits : (w tally : List ℕ) (x : Scalars) (servers queues : ℕ) → length tally ≡ 1088 → servers ≤ 64 → queues ≤ 32 → SameWaits tally (take w tally x servers queues .tally)
 unfolding take takeReady rowsOf
 take-waits w tally x servers queues size few short = go (ltb (x .moving) 1024) (ltb (first w rel) 1024)
   where

@@ -159,6 +159,8 @@ fn parcels(random: &mut Random, size: Size) -> (Model, Tape) {
     let storage = 1;
     // All of one unit: case a of the 1996 rules.
     let most = if random.one_in(4) { 1 } else { capacity };
+    // Taken one by one and left two at a time: case b, and no ENTER tells it.
+    let together = most == 1 && random.one_in(2);
     // The first sort takes all and the others little: a LEAVE wakes several.
     let unequal = random.one_in(3);
     let mut blocks = Vec::new();
@@ -174,6 +176,9 @@ fn parcels(random: &mut Random, size: Size) -> (Model, Tape) {
             priority: random.number(0, 2),
         });
         blocks.push(Block::Enter { storage, units });
+        if together {
+            blocks.push(Block::Enter { storage, units });
+        }
         blocks.push(Block::Advance { list: 3 });
         let in_parts = sorts < 3 || !size.is_small();
         let part = if in_parts {
@@ -192,7 +197,7 @@ fn parcels(random: &mut Random, size: Size) -> (Model, Tape) {
         }
         blocks.push(Block::Leave {
             storage,
-            units: units - part,
+            units: units - part + u32::from(together),
         });
         blocks.push(Block::Terminate { amount: 1 });
     }

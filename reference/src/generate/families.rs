@@ -11,12 +11,23 @@ pub fn case(rules: Rules, random: &mut Random, size: Size) -> Case {
     if random.one_in(8) {
         return crowd(rules, random, size);
     }
-    let (model, tape) = match random.below(6) {
+    let (mut model, tape) = match random.below(6) {
         0 => late_holder(random, size),
         1 => one_behind_the_other(random, size),
         _ => packing(random, size),
     };
+    if random.one_in(30) {
+        outside(random, &mut model);
+    }
     good_case(rules, random, size, &model, &tape)
+}
+
+/// One ASSEMBLE whose n lies just outside its range.
+fn outside(random: &mut Random, model: &mut Model) {
+    let mut blocks = model.blocks.iter_mut();
+    if let Some(Block::Assemble { count }) = blocks.find(|block| block.kind() == 18) {
+        *count = *random.pick(&[0, 1, 1, 256]);
+    }
 }
 
 /// Parcels split, go ways of their own and gather, once or at several blocks.

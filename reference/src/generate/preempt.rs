@@ -1,29 +1,43 @@
 //! Cases about facilities that are taken over (02, item 11).
 
 use super::contention::{empty_model, small_times};
+use super::interruptions::{both_held, gathering, regain, too_late, watchers};
 use super::random::Random;
 use super::{good_case, Case, Size};
-use crate::model::{Block, Model};
+use crate::model::{Block, Comparison, Model, Term};
 use crate::rules::Rules;
 use crate::tape::Tape;
 
 pub fn case(rules: Rules, random: &mut Random, size: Size) -> Case {
-    let (model, tape) = match random.below(8) {
-        0 if rules.wide_clocks => too_late(rules, random),
-        0..=1 => again(random, size),
-        2..=3 => nested(random, size),
-        4 => cranes(random, size),
-        _ => ward(random, size),
+    let (model, tape) = loop {
+        let drawn = scene(rules, random, size);
+        if !size.is_small() || drawn.0.blocks.len() <= 18 {
+            break drawn;
+        }
     };
     good_case(rules, random, size, &model, &tape)
 }
 
-fn generate(list: u32, priority: u32) -> Block {
+fn scene(rules: Rules, random: &mut Random, size: Size) -> (Model, Tape) {
+    match random.below(18) {
+        0..=1 if rules.wide_clocks => too_late(rules, random),
+        0..=2 => again(random, size),
+        3..=5 => nested(random, size),
+        6 => cranes(random, size),
+        7..=9 => regain(random, size),
+        10 => watchers(random, size),
+        11 => both_held(random, size),
+        12 if rules.assemble => gathering(random, size),
+        _ => ward(rules, random, size),
+    }
+}
+
+pub fn generate(list: u32, priority: u32) -> Block {
     Block::Generate { list, priority }
 }
 
 /// Gives back what was taken; now and then the wrong way.
-fn give(random: &mut Random, facility: u32, preempted: bool) -> Block {
+pub fn give(random: &mut Random, facility: u32, preempted: bool) -> Block {
     if preempted != random.one_in(30) {
         Block::Return { facility }
     } else {
@@ -31,7 +45,8 @@ fn give(random: &mut Random, facility: u32, preempted: bool) -> Block {
     }
 }
 
-fn tape(random: &mut Random, size: Size) -> Tape {
+/// Times of two GENERATEs and of all ADVANCEs.
+pub fn tape(random: &mut Random, size: Size) -> Tape {
     let count = if size.is_small() { 8 } else { 50 };
     let span = random.number(0, 5);
     vec![
@@ -42,16 +57,15 @@ fn tape(random: &mut Random, size: Size) -> Tape {
 }
 
 /// Patients of low priority hold a bed or wait elsewhere; urgent ones take it over.
-fn ward(random: &mut Random, size: Size) -> (Model, Tape) {
+fn ward(rules: Rules, random: &mut Random, size: Size) -> (Model, Tape) {
     let mut model = empty_model();
     model.facilities = 1;
     model.capacities = vec![1];
     model.lists = 3;
     let facility = 1;
     let advance = Block::Advance { list: 3 };
-    let low = random.number(0, 2);
-    let mut blocks = vec![generate(1, low), Block::Seize { facility }];
-    match random.below(6) {
+    let mut blocks = vec![generate(1, random.number(0, 3)), Block::Seize { facility }];
+    match random.below(8) {
         0 => {
             // The holder's priority changes while it holds.
             blocks.push(Block::Priority {
@@ -76,6 +90,23 @@ fn ward(random: &mut Random, size: Size) -> (Model, Tape) {
             code: random.number(3, 6),
             server: 1,
         }),
+        4 => blocks.push(Block::WaitIfComparison {
+            comparison: Comparison {
+                left: Term::Clock,
+                relation: 3,
+                right: Term::Constant(random.number(0, if size.is_small() { 12 } else { 90 })),
+            },
+        }),
+        5 if rules.assemble => blocks.extend([
+            // It waits for a copy, which holds nothing.
+            Block::Split {
+                copies: 1,
+                target: 5,
+            },
+            Block::Goto { target: 6 },
+            advance.clone(),
+            Block::Assemble { count: 2 },
+        ]),
         _ => blocks.push(advance.clone()),
     }
     if !random.one_in(20) {
@@ -83,6 +114,13 @@ fn ward(random: &mut Random, size: Size) -> (Model, Tape) {
         blocks.push(block);
     }
     blocks.push(Block::Terminate { amount: 1 });
+    if random.one_in(5) {
+        // Somebody who holds nothing gives it back.
+        let taken_over = random.one_in(2);
+        blocks.push(generate(random.number(1, 2), random.number(0, 4)));
+        blocks.push(give(random, facility, taken_over));
+        blocks.push(Block::Terminate { amount: 1 });
+    }
     blocks.push(generate(2, random.number(0, 4)));
     if random.one_in(3) {
         blocks.push(Block::Split {
@@ -136,12 +174,20 @@ fn nested(random: &mut Random, size: Size) -> (Model, Tape) {
     let mut model = empty_model();
     model.facilities = 2;
     model.lists = 3;
+    let advance = Block::Advance { list: 3 };
     let mut blocks = Vec::new();
+    let mut first = 1;
     for list in 1..=2 {
-        blocks.push(generate(list, random.number(0, 3)));
+        blocks.push(generate(list, random.number(list - 1, 2 * list)));
+        first = random.number(1, 2);
+        // The same one twice now and then: it waits for itself.
+        let second = if random.one_in(8) { first } else { 3 - first };
+        let mut takes = vec![first, second];
+        if list == 2 && random.one_in(2) {
+            takes.pop();
+        }
         let mut held = Vec::new();
-        for _ in 0..random.number(1, 2) {
-            let facility = random.number(1, 2);
+        for facility in takes {
             let preempts = random.one_in(2);
             blocks.push(if preempts {
                 Block::Preempt { facility }
@@ -149,10 +195,11 @@ fn nested(random: &mut Random, size: Size) -> (Model, Tape) {
                 Block::Seize { facility }
             });
             held.push((facility, preempts));
-            if !random.one_in(3) {
-                blocks.push(Block::Advance { list: 3 });
+            if !size.is_small() && random.one_in(2) {
+                blocks.push(advance.clone());
             }
         }
+        blocks.push(advance.clone());
         if random.one_in(2) {
             held.reverse();
         }
@@ -163,16 +210,14 @@ fn nested(random: &mut Random, size: Size) -> (Model, Tape) {
         blocks.push(Block::Terminate { amount: 1 });
     }
     // A third, urgent one for either.
-    let facility = random.number(1, 2);
+    let facility = if random.one_in(3) { first } else { 3 - first };
     blocks.push(generate(random.number(1, 2), random.number(2, 5)));
     blocks.push(Block::Preempt { facility });
-    blocks.push(Block::Advance { list: 3 });
+    if !size.is_small() {
+        blocks.push(advance);
+    }
     blocks.push(Block::Return { facility });
     blocks.push(Block::Terminate { amount: 1 });
-    if size.is_small() && blocks.len() > 14 {
-        let keep = blocks.len() - 5;
-        blocks.truncate(keep);
-    }
     model.blocks = blocks;
     (model, tape(random, size))
 }
@@ -248,40 +293,4 @@ fn again(random: &mut Random, size: Size) -> (Model, Tape) {
     blocks.push(Block::Terminate { amount: 1 });
     model.blocks = blocks;
     (model, tape(random, size))
-}
-
-/// What was left to the interrupted one passes the last clock, or just reaches it.
-fn too_late(rules: Rules, random: &mut Random) -> (Model, Tape) {
-    let mut model = empty_model();
-    model.facilities = 1;
-    model.lists = 3;
-    let facility = 1;
-    model.blocks = vec![
-        generate(1, 0),
-        Block::Seize { facility },
-        Block::Advance { list: 2 },
-        Block::Release { facility },
-        Block::Terminate { amount: 1 },
-        generate(1, 1),
-        Block::Preempt { facility },
-        Block::Advance { list: 3 },
-        Block::Advance { list: 3 },
-        Block::Advance { list: 3 },
-        give(random, facility, true),
-        Block::Terminate { amount: 1 },
-    ];
-    let most = rules.max_sample();
-    let begins = random.between(0, 20);
-    let later = begins + random.between(0, 20);
-    let held = most - random.between(0, 20);
-    // At clock `later` there are `held - (later - begins)` ticks left.
-    let left = held - (later - begins);
-    let last = rules.max_clock() - left - later;
-    let stays = last + random.between(0, 2) - 1;
-    let tape = vec![
-        vec![begins, later],
-        vec![held],
-        vec![most, most, stays - 2 * most],
-    ];
-    (model, tape)
 }

@@ -63,6 +63,12 @@ wait-server-requires-2 c κs = search needs
 assemble-requires : tie.Need-assemble-requires
 assemble-requires c κs = search needs
 
+preempt-requires : tie.Need-preempt-requires
+preempt-requires c κs = search needs
+
+give-back-requires : tie.Need-give-back-requires
+give-back-requires c κs = search needs
+
 same-length : tie.Need-same-length
 same-length c = search needs
 
@@ -240,11 +246,31 @@ returns-18 : tie.Need-returns-18
 unfolding execute byKind later
 returns-18 c = rw (← c .before .before .before .before .before .before .before .before .number .ensures, c .before .before .before .before .before .before .before .match .keys18) (c .before .before .before .before .assemble .ensures)
 
+same-length-36 : tie.Need-same-length-36
+same-length-36 c = search needs
+
+same-length-37 : tie.Need-same-length-37
+same-length-37 c = search needs
+
 returns-19 : tie.Need-returns-19
 unfolding execute byKind later
-returns-19 c =
+returns-19 c = rw (← c .before .before .before .before .before .before .before .before .number .ensures, c .before .before .before .before .before .before .before .match .keys19) (c .before .before .before .before .preempt .ensures)
+
+same-length-38 : tie.Need-same-length-38
+same-length-38 c = search needs
+
+same-length-39 : tie.Need-same-length-39
+same-length-39 c = search needs
+
+returns-20 : tie.Need-returns-20
+unfolding execute byKind later
+returns-20 c = rw (← c .before .before .before .before .before .before .before .before .number .ensures, c .before .before .before .before .before .before .before .match .keys20) (c .before .before .before .before .give-back .ensures)
+
+returns-21 : tie.Need-returns-21
+unfolding execute byKind later
+returns-21 c =
     let other = c .match .rest in
-    rw (← c .before .number .ensures, ne-eqb _ 1 (other .0 .0 .0 .0 .0 .0 .0 .0 .0 .0 .0 .0 .0 .0 .0 .0 .0 .1), ne-eqb _ 2 (other .0 .0 .0 .0 .0 .0 .0 .0 .0 .0 .0 .0 .0 .0 .0 .0 .1), ne-eqb _ 3 (other .0 .0 .0 .0 .0 .0 .0 .0 .0 .0 .0 .0 .0 .0 .0 .1), ne-eqb _ 4 (other .0 .0 .0 .0 .0 .0 .0 .0 .0 .0 .0 .0 .0 .0 .1), ne-eqb _ 5 (other .0 .0 .0 .0 .0 .0 .0 .0 .0 .0 .0 .0 .0 .1), ne-eqb _ 6 (other .0 .0 .0 .0 .0 .0 .0 .0 .0 .0 .0 .0 .1), ne-eqb _ 7 (other .0 .0 .0 .0 .0 .0 .0 .0 .0 .0 .0 .1), ne-eqb _ 8 (other .0 .0 .0 .0 .0 .0 .0 .0 .0 .0 .1), ne-eqb _ 9 (other .0 .0 .0 .0 .0 .0 .0 .0 .0 .1), ne-eqb _ 10 (other .0 .0 .0 .0 .0 .0 .0 .0 .1), ne-eqb _ 11 (other .0 .0 .0 .0 .0 .0 .0 .1), ne-eqb _ 12 (other .0 .0 .0 .0 .0 .0 .1), ne-eqb _ 13 (other .0 .0 .0 .0 .0 .1), ne-eqb _ 14 (other .0 .0 .0 .0 .1), ne-eqb _ 15 (other .0 .0 .0 .1), ne-eqb _ 16 (other .0 .0 .1), ne-eqb _ 17 (other .0 .1), ne-eqb _ 18 (other .1))
+    rw (← c .before .number .ensures, ne-eqb _ 1 (other .0 .0 .0 .0 .0 .0 .0 .0 .0 .0 .0 .0 .0 .0 .0 .0 .0 .0 .0 .1), ne-eqb _ 2 (other .0 .0 .0 .0 .0 .0 .0 .0 .0 .0 .0 .0 .0 .0 .0 .0 .0 .0 .1), ne-eqb _ 3 (other .0 .0 .0 .0 .0 .0 .0 .0 .0 .0 .0 .0 .0 .0 .0 .0 .0 .1), ne-eqb _ 4 (other .0 .0 .0 .0 .0 .0 .0 .0 .0 .0 .0 .0 .0 .0 .0 .0 .1), ne-eqb _ 5 (other .0 .0 .0 .0 .0 .0 .0 .0 .0 .0 .0 .0 .0 .0 .0 .1), ne-eqb _ 6 (other .0 .0 .0 .0 .0 .0 .0 .0 .0 .0 .0 .0 .0 .0 .1), ne-eqb _ 7 (other .0 .0 .0 .0 .0 .0 .0 .0 .0 .0 .0 .0 .0 .1), ne-eqb _ 8 (other .0 .0 .0 .0 .0 .0 .0 .0 .0 .0 .0 .0 .1), ne-eqb _ 9 (other .0 .0 .0 .0 .0 .0 .0 .0 .0 .0 .0 .1), ne-eqb _ 10 (other .0 .0 .0 .0 .0 .0 .0 .0 .0 .0 .1), ne-eqb _ 11 (other .0 .0 .0 .0 .0 .0 .0 .0 .0 .1), ne-eqb _ 12 (other .0 .0 .0 .0 .0 .0 .0 .0 .1), ne-eqb _ 13 (other .0 .0 .0 .0 .0 .0 .0 .1), ne-eqb _ 14 (other .0 .0 .0 .0 .0 .0 .1), ne-eqb _ 15 (other .0 .0 .0 .0 .0 .1), ne-eqb _ 16 (other .0 .0 .0 .0 .1), ne-eqb _ 17 (other .0 .0 .0 .1), ne-eqb _ 18 (other .0 .0 .1), ne-eqb _ 19 (other .0 .1), ne-eqb _ 20 (other .1))
 
 pub execute-spec : {M : Type 1} → statement M
 execute-spec =
@@ -269,6 +295,8 @@ execute-spec =
     depart-requires
     wait-server-requires-2
     assemble-requires
+    preempt-requires
+    give-back-requires
     same-length
     same-length-2
     returns
@@ -322,4 +350,10 @@ execute-spec =
     same-length-34
     same-length-35
     returns-18
-    returns-19)
+    same-length-36
+    same-length-37
+    returns-19
+    same-length-38
+    same-length-39
+    returns-20
+    returns-21)

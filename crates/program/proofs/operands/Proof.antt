@@ -1,5 +1,5 @@
 -- `program::operands` meets its contract: each arm is its kind's line of the machine's `operands`.
-use Rattle.program.proofs.Steps.{kind-1, kind-2, kind-3, kind-4, kind-5, kind-6, kind-7, kind-8, kind-9, kind-11, kind-13, kind-14, kind-15, kind-16, kind-18, the-last}
+use Rattle.program.proofs.Steps.{kind-1, kind-2, kind-3, kind-4, kind-5, kind-6, kind-7, kind-8, kind-9, kind-11, kind-13, kind-14, kind-15, kind-16, kind-18, kind-19, kind-20, the-last}
 use borrow.Author.Needs.{needs}
 use Rattle.program.proofs.operands.Statement.{statement}
 use Rattle.program.proofs.operands.Tie as tie
@@ -70,6 +70,12 @@ joined-wait-requires c κs = search needs
 single-requires-9 : tie.Need-single-requires-9
 single-requires-9 c κs = search needs
 
+single-requires-10 : tie.Need-single-requires-10
+single-requires-10 c κs = search needs
+
+single-requires-11 : tie.Need-single-requires-11
+single-requires-11 c κs = search needs
+
 returns : tie.Need-returns
 returns c = rw (c .before .before .before .before .match .keys1) (kind-1 _ _ _ _ _ (c .before .before .before .range .ensures) (c .before .before .range2 .ensures) (c .pair .ensures))
 
@@ -122,7 +128,13 @@ returns-17 : tie.Need-returns-17
 returns-17 c = rw (c .before .before .match .keys17) (c .joined-wait .ensures)
 
 returns-18 : tie.Need-returns-18
-returns-18 c = rw (the-last _ (c .before .before .before .before .pre .2) (c .before .before .before .before .pre .3) (c .before .before .match .rest)) (kind-18 _ _ _ (c .single9 .ensures))
+returns-18 c = rw (c .before .before .match .keys18) (kind-18 _ _ _ (c .single9 .ensures))
+
+returns-19 : tie.Need-returns-19
+returns-19 c = rw (c .before .before .match .keys19) (kind-19 _ _ _ (c .single10 .ensures))
+
+returns-20 : tie.Need-returns-20
+returns-20 c = rw (the-last _ (c .before .before .before .before .pre .2) (c .before .before .before .before .pre .3) (c .before .before .match .rest)) (kind-20 _ _ _ (c .single11 .ensures))
 
 pub operands-spec : {M : Type 1} → statement M
 operands-spec =
@@ -150,6 +162,8 @@ operands-spec =
     single-requires-8
     joined-wait-requires
     single-requires-9
+    single-requires-10
+    single-requires-11
     returns
     returns-2
     returns-3
@@ -167,4 +181,6 @@ operands-spec =
     returns-15
     returns-16
     returns-17
-    returns-18)
+    returns-18
+    returns-19
+    returns-20)

@@ -30,9 +30,13 @@ returns-2 c = rw (← c .before .before .before .number .ensures, eq-eqb _ _ (c 
 
 returns-3 : tie.Need-returns-3
 unfolding names
-returns-3 c = rw (← c .before .before .before .number .ensures, eq-eqb _ _ (c .before .before .if1 .left), ← c .before .number2 .ensures, ne-eqb _ _ (c .if2 .left))
+returns-3 c = rw (← c .before .before .before .before .number .ensures, eq-eqb _ _ (c .before .before .before .if1 .left), ← c .before .before .number2 .ensures, ne-eqb _ _ (c .before .if2 .left), eq-eqb _ _ (c .if3 .taken))
+
+returns-4 : tie.Need-returns-4
+unfolding names
+returns-4 c = rw (← c .before .before .before .before .number .ensures, eq-eqb _ _ (c .before .before .before .if1 .left), ← c .before .before .number2 .ensures, ne-eqb _ _ (c .before .if2 .left), ne-eqb _ _ (c .if3 .left))
 
 pub names-spec : {M : Type 1} → statement M
 names-spec =
     tie.close
-    (tie.spec mul-at add-number number-requires cast-if1 returns number-requires-2 returns-2 returns-3)
+    (tie.spec mul-at add-number number-requires cast-if1 returns number-requires-2 returns-2 returns-3 returns-4)

@@ -20,6 +20,9 @@ read-requires c κs = search needs
 cast-number : tie.Need-cast-number
 cast-number c = search needs
 
+preempted-requires : tie.Need-preempted-requires
+preempted-requires c κs = search needs
+
 holder-requires : tie.Need-holder-requires
 holder-requires c κs = search needs
 
@@ -37,7 +40,7 @@ same-length-2 c = search needs
 
 returns : tie.Need-returns
 unfolding release
-returns c = rw (← c .before .before .before .before .before .before .before .before .before .server-at .ensures .0, ← c .before .before .before .before .before .before .before .in-use .ensures, ← c .before .before .before .before .before .read .ensures, ← c .before .before .before .holder .ensures, ← c .before .before .ask-release .ensures, ne-eqb _ 0 (c .before .if1 .taken), c .stop .ensures)
+returns c = rw (← c .before .before .before .before .before .before .before .before .before .before .before .server-at .ensures .0, ← c .before .before .before .before .before .before .before .before .before .in-use .ensures, ← c .before .before .before .before .before .before .before .read .ensures, ← c .before .before .before .before .before .preempted .ensures, ← c .before .before .before .holder .ensures, ← c .before .before .ask-release .ensures, ne-eqb _ 0 (c .before .if1 .taken), c .stop .ensures)
 
 less64-requires : tie.Need-less64-requires
 less64-requires c κs = search needs
@@ -53,7 +56,7 @@ same-length-4 c = search needs
 
 returns-2 : tie.Need-returns-2
 unfolding release
-returns-2 c = rw (← c .before .before .before .before .before .before .before .before .before .before .before .before .before .before .before .before .server-at .ensures .0, ← c .before .before .before .before .before .before .before .before .before .before .before .before .before .before .in-use .ensures, ← c .before .before .before .before .before .before .before .before .before .before .before .before .read .ensures, ← c .before .before .before .before .before .before .before .before .before .before .holder .ensures, ← c .before .before .before .before .before .before .before .before .before .ask-release .ensures, eq-eqb _ 0 (c .before .before .before .before .before .before .before .before .if1 .left), ← c .before .before .before .before .before .less64 .ensures) (c .before .before .before .before .free-one .ensures)
+returns-2 c = rw (← c .before .before .before .before .before .before .before .before .before .before .before .before .before .before .before .before .before .before .server-at .ensures .0, ← c .before .before .before .before .before .before .before .before .before .before .before .before .before .before .before .before .in-use .ensures, ← c .before .before .before .before .before .before .before .before .before .before .before .before .before .before .read .ensures, ← c .before .before .before .before .before .before .before .before .before .before .before .before .preempted .ensures, ← c .before .before .before .before .before .before .before .before .before .before .holder .ensures, ← c .before .before .before .before .before .before .before .before .before .ask-release .ensures, eq-eqb _ 0 (c .before .before .before .before .before .before .before .before .if1 .left), ← c .before .before .before .before .before .less64 .ensures) (c .before .before .before .before .free-one .ensures)
 
 pub release-spec : {M : Type 1} → statement M
 release-spec =
@@ -64,6 +67,7 @@ release-spec =
     in-use-requires
     read-requires
     cast-number
+    preempted-requires
     holder-requires
     ask-release-requires
     stop-requires

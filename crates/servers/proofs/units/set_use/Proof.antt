@@ -1,4 +1,4 @@
--- `set_use` meets its contract: the two cells.
+-- `set_use` meets its contract: the three cells.
 use borrow.Author.Needs.{needs}
 use Rattle.servers.proofs.units.set_use.Statement.{statement}
 use Rattle.servers.proofs.units.set_use.Tie as tie
@@ -15,11 +15,17 @@ add-set-count-2 c = search needs
 set-count-requires-2 : tie.Need-set-count-requires-2
 set-count-requires-2 c κs = search needs
 
+add-set-count-3 : tie.Need-add-set-count-3
+add-set-count-3 c = search needs
+
+set-count-requires-3 : tie.Need-set-count-requires-3
+set-count-requires-3 c κs = search needs
+
 same-length : tie.Need-same-length
 same-length c = search needs
 
 returns : tie.Need-returns
-returns c = rw (← c .before .before .before .before .before .before .set-count .ensures) (c .before .before .set-count2 .ensures)
+returns c = rw (← c .before .before .before .before .before .before .before .before .before .before .set-count .ensures, ← c .before .before .before .before .before .before .set-count2 .ensures) (c .before .before .set-count3 .ensures)
 
 pub set-use-spec : {M : Type 1} → statement M
 set-use-spec =
@@ -29,5 +35,7 @@ set-use-spec =
     set-count-requires
     add-set-count-2
     set-count-requires-2
+    add-set-count-3
+    set-count-requires-3
     same-length
     returns)

@@ -27,9 +27,13 @@ returns-2 c = rw (← c .before .before .before .number .ensures, ne-eqb _ 4 (c 
 
 returns-3 : tie.Need-returns-3
 unfolding unitsAt
-returns-3 c = rw (← c .before .before .number .ensures, ne-eqb _ 4 (c .before .if1 .left), ne-eqb _ 6 (c .if2 .left))
+returns-3 c = rw (← c .before .before .before .number .ensures, ne-eqb _ 4 (c .before .before .if1 .left), ne-eqb _ 6 (c .before .if2 .left), eq-eqb _ 19 (c .if3 .taken))
+
+returns-4 : tie.Need-returns-4
+unfolding unitsAt
+returns-4 c = rw (← c .before .before .before .number .ensures, ne-eqb _ 4 (c .before .before .if1 .left), ne-eqb _ 6 (c .before .if2 .left), ne-eqb _ 19 (c .if3 .left))
 
 pub units-at-spec : {M : Type 1} → statement M
 units-at-spec =
     tie.close
-    (tie.spec number-requires returns add-number number-requires-2 cast-result returns-2 returns-3)
+    (tie.spec number-requires returns add-number number-requires-2 cast-result returns-2 returns-3 returns-4)
