@@ -6,6 +6,7 @@ use mathlib.Core.List.{List, []}
 use lib.ListN.{replicate, set}
 use lib.Seq.{sets}
 use Rattle.machine.specs.Parser.{Parsed, parsed, refused, Parser, continue, field, times}
+use Rattle.machine.specs.Rules.{inForce}
 use Rattle.machine.specs.Decode.{valueFields, blockField, valueField, inValue}
 use Rattle.machine.specs.declared.model.Model.{Model}
 use Rattle.values.specs.declared.Place.{Place}
@@ -171,7 +172,7 @@ module _ (s : List ℕ) (m : Model) {p a b d : Place} {lists counter n : ℕ} {r
     (k₁ : Takes (plainShape 0 16) p 0 [] [] r₁ (field s 3 0 16 (cursorOf p))) (t₁ : r₁ ≡ Number lists a)
     (k₂ : Takes (plainShape 1 65535) a 0 [] [] r₂ (field s 3 1 65535 (cursorOf a))) (t₂ : r₂ ≡ Number counter b)
     (k₃ : Takes (plainShape 1 256) b 0 [] [] r₃ (field s 3 1 256 (cursorOf b))) (t₃ : r₃ ≡ Number n d)
-    (k₄ : Rows (blockShape n) (Formed n) 8 0 d l l₁ r₄ (times n (blockField s 20 (seenByBlocks m lists n) (capacitiesOf m l)) (cursorOf d))) where
+    (k₄ : Rows (blockShape n) (Formed n) 8 0 d l l₁ r₄ (times n (blockField s (inForce .kinds) (seenByBlocks m lists n) (capacitiesOf m l)) (cursorOf d))) where
   pub program-stop : {i : ℕ} → r₄ ≡ NotStored i → Stage programShape m p l l₁ (Refused i) (programField s m (capacitiesOf m l) (cursorOf p))
   unfolding programField
   program-stop told =
@@ -207,8 +208,8 @@ module _ (s : List ℕ) (m : Model) {p a b d : Place} {lists counter n : ℕ} {r
             lists = f₁ .1;
             most = f₃ .1;
             count =
-                rows-length (λ i. blockField s 20 (seenByBlocks m lists n) (capacitiesOf m l)) n 0 (cursorOf d) bs (cursorOf q)
-                (sym (times-rows (blockField s 20 (seenByBlocks m lists n) (capacitiesOf m l)) n 0 (cursorOf d)) ∙ parse);
+                rows-length (λ i. blockField s (inForce .kinds) (seenByBlocks m lists n) (capacitiesOf m l)) n 0 (cursorOf d) bs (cursorOf q)
+                (sym (times-rows (blockField s (inForce .kinds) (seenByBlocks m lists n) (capacitiesOf m l)) n 0 (cursorOf d)) ∙ parse);
             each = f₄;
           },
         );

@@ -1,17 +1,18 @@
 -- Each kind of block, with operands in their ranges, is formed (specs/Formed).
 use Prim.Native.Nat.{ℕ, zero, suc, _+_, _-_, _≤_, _<_}
 use native.Mathlib.Omega.{arith}
-use mathlib.Core.Path.{_≡_, refl}
-use mathlib.Core.Bool.{true, _&&_}
+use mathlib.Core.Path.{_≡_, refl, ap}
+use mathlib.Core.Bool.{Bool, true, false, _&&_, _||_, true≢false}
 use mathlib.Core.List.{List, [], _∷_, _++_}
-use lib.Dec.{T}
+use lib.Dec.{T, eqb}
 use lib.ListN.{length, getD, length-append}
 use borrow.Author.Tests.{ne-eqb, lt-ltb}
 use Rattle.machine.specs.Term.{Term, Relation}
-use Rattle.machine.specs.Block.{Code, codeIndex, welIndex, generate, advance, terminate, seize, release, enter, leave, waitServer, waitTerms, branch, goto, assign, priority, split, arrive, depart, assemble, preempt, giveBack}
+use Rattle.machine.specs.Facts.{Facts}
+use Rattle.machine.specs.Block.{Block, Code, codeIndex, welIndex, generate, terminate, waitServer, waitTerms, branch, goto, assign, split, facts}
 use Rattle.tables.specs.Forms.{blockForms}
 use Rattle.tables.specs.Numbers.{blockNumbers, termNumbers, relationNumber}
-use Rattle.tables.specs.Represents.{smallTerm}
+use Rattle.tables.specs.Represents.{smallBlock, smallTerm}
 use Rattle.values.proofs.Steps.{both}
 use Rattle.program.specs.Formed.{Formed, targetFrom, backFrom, targetInside}
 
@@ -22,39 +23,53 @@ two (x ∷ []) h = absurd (omega arith)
 two (x ∷ y ∷ []) h = refl
 two (x ∷ y ∷ z ∷ l) h = absurd (omega arith)
 
+-- ---- Kinds that question 7 passes by: no GENERATE, no target or back count, no wait for a server, and the next block follows
+
+abbrev askedOf : Facts → ℕ × Bool × ℕ × ℕ × ℕ
+askedOf f = (f .generates, f .leaves, f .target, f .back, f .wel)
+
+abbrev nothing : ℕ × Bool × ℕ × ℕ × ℕ
+nothing = (0, false, 0, 0, 0)
+
+abbrev asked : ℕ → Bool
+asked kind = eqb kind 1 || (eqb kind 3 || (eqb kind 8 || (eqb kind 10 || (eqb kind 11 || (eqb kind 14 || eqb kind 17)))))
+
+either : (a b : Bool) → (a || b) ≡ false → (a ≡ false) × (b ≡ false)
+either true b e = absurd (true≢false e)
+either false b e = (refl, e)
+
+pub formed-plain : (most : ℕ) (b : Block) (kind : ℕ) (rest : List ℕ) → blockNumbers b ≡ kind ∷ rest → length rest ≤ 7 → T (smallBlock b) → asked kind ≡ false → askedOf (facts b) ≡ nothing
+    → Formed most b
+unfolding targetFrom backFrom targetInside
+formed-plain most b kind rest row short small unasked told =
+    let a = either (eqb kind 1) _ unasked in
+    let c = either (eqb kind 3) _ (a .1) in
+    let d = either (eqb kind 8) _ (c .1) in
+    let e = either (eqb kind 10) _ (d .1) in
+    let f = either (eqb kind 11) _ (e .1) in
+    let g = either (eqb kind 14) _ (f .1) in
+    let target : facts b .target ≡ 0 = ap (λ x. x .2) told in
+    let back : facts b .back ≡ 0 = ap (λ x. x .3) told in
+    record {
+      width = rw row (omega arith);
+      small = small;
+      generates = rw (row, a .0, ap (λ x. x .0) told);
+      leaves = rw (row, c .0, f .0, ap (λ x. x .1) told);
+      target = rw (row, e .0, f .0, g .0, target);
+      back = rw (row, g .1, back);
+      waits = rw (row, d .0, ap (λ x. x .4) told);
+      inside = rw (row, lt-ltb 0 (suc (length rest)) (omega arith), e .0, f .0, g .0, g .1) tt;
+      names = omega (arith, target);
+    }
+
 pub formed-generate : (most : ℕ) (list p : ℕ) → 1 ≤ list → Formed most (generate list p)
 unfolding targetFrom backFrom targetInside blockForms
 formed-generate most list p h =
     record { width = omega arith; small = tt; generates = rw (ne-eqb list 0 (omega arith)) refl; leaves = refl; target = refl; back = refl; waits = refl; inside = tt; names = omega arith }
 
-pub formed-advance : (most : ℕ) (list : ℕ) → Formed most (advance list)
-unfolding targetFrom backFrom targetInside blockForms
-formed-advance most list =
-    record { width = omega arith; small = tt; generates = refl; leaves = refl; target = refl; back = refl; waits = refl; inside = tt; names = omega arith }
-
 pub formed-terminate : (most : ℕ) (a : ℕ) → Formed most (terminate a)
 unfolding targetFrom backFrom targetInside blockForms
 formed-terminate most a =
-    record { width = omega arith; small = tt; generates = refl; leaves = refl; target = refl; back = refl; waits = refl; inside = tt; names = omega arith }
-
-pub formed-seize : (most : ℕ) (v : ℕ) → Formed most (seize v)
-unfolding targetFrom backFrom targetInside blockForms
-formed-seize most v =
-    record { width = omega arith; small = tt; generates = refl; leaves = refl; target = refl; back = refl; waits = refl; inside = tt; names = omega arith }
-
-pub formed-release : (most : ℕ) (v : ℕ) → Formed most (release v)
-unfolding targetFrom backFrom targetInside blockForms
-formed-release most v =
-    record { width = omega arith; small = tt; generates = refl; leaves = refl; target = refl; back = refl; waits = refl; inside = tt; names = omega arith }
-
-pub formed-enter : (most : ℕ) (v b : ℕ) → Formed most (enter v b)
-unfolding targetFrom backFrom targetInside blockForms
-formed-enter most v b =
-    record { width = omega arith; small = tt; generates = refl; leaves = refl; target = refl; back = refl; waits = refl; inside = tt; names = omega arith }
-
-pub formed-leave : (most : ℕ) (v b : ℕ) → Formed most (leave v b)
-unfolding targetFrom backFrom targetInside blockForms
-formed-leave most v b =
     record { width = omega arith; small = tt; generates = refl; leaves = refl; target = refl; back = refl; waits = refl; inside = tt; names = omega arith }
 
 pub formed-wait-server : (most : ℕ) (code : Code) (v c : ℕ) → Formed most (waitServer code v c)
@@ -119,37 +134,7 @@ formed-assign most k a h g =
     let n : 0 < length (blockNumbers (assign k a)) = omega arith in
     record { width = omega arith; small = both (smallTerm a) true g tt; generates = refl; leaves = refl; target = refl; back = refl; waits = refl; inside = rw (lt-ltb 0 _ n) tt; names = omega arith }
 
-pub formed-priority : (most : ℕ) (p : ℕ) → Formed most (priority p)
-unfolding targetFrom backFrom targetInside blockForms
-formed-priority most p =
-    record { width = omega arith; small = tt; generates = refl; leaves = refl; target = refl; back = refl; waits = refl; inside = tt; names = omega arith }
-
 pub formed-split : (most : ℕ) (n t : ℕ) → t ≤ most → Formed most (split n t)
 unfolding targetFrom backFrom targetInside blockForms
 formed-split most n t h =
     record { width = omega arith; small = tt; generates = refl; leaves = refl; target = refl; back = refl; waits = refl; inside = tt; names = h }
-
-pub formed-arrive : (most : ℕ) (q : ℕ) → Formed most (arrive q)
-unfolding targetFrom backFrom targetInside blockForms
-formed-arrive most q =
-    record { width = omega arith; small = tt; generates = refl; leaves = refl; target = refl; back = refl; waits = refl; inside = tt; names = omega arith }
-
-pub formed-depart : (most : ℕ) (q : ℕ) → Formed most (depart q)
-unfolding targetFrom backFrom targetInside blockForms
-formed-depart most q =
-    record { width = omega arith; small = tt; generates = refl; leaves = refl; target = refl; back = refl; waits = refl; inside = tt; names = omega arith }
-
-pub formed-assemble : (most : ℕ) (n : ℕ) → Formed most (assemble n)
-unfolding targetFrom backFrom targetInside blockForms
-formed-assemble most n =
-    record { width = omega arith; small = tt; generates = refl; leaves = refl; target = refl; back = refl; waits = refl; inside = tt; names = omega arith }
-
-pub formed-preempt : (most : ℕ) (f : ℕ) → Formed most (preempt f)
-unfolding targetFrom backFrom targetInside blockForms
-formed-preempt most f =
-    record { width = omega arith; small = tt; generates = refl; leaves = refl; target = refl; back = refl; waits = refl; inside = tt; names = omega arith }
-
-pub formed-return : (most : ℕ) (f : ℕ) → Formed most (giveBack f)
-unfolding targetFrom backFrom targetInside blockForms
-formed-return most f =
-    record { width = omega arith; small = tt; generates = refl; leaves = refl; target = refl; back = refl; waits = refl; inside = tt; names = omega arith }

@@ -29,7 +29,7 @@ use Rattle.values.proofs.Cells.{sets-above}
 use Rattle.values.proofs.Tags.{by-tag, relation-number}
 use Rattle.program.specs.Formed.{Formed}
 use Rattle.program.specs.Shapes.{pairField, pairShape, Pair, unitsField, unitsShape, watchedField, watchedShape, comparedField, comparedShape, operandsShape, blockShape, capacitiesOf}
-use Rattle.program.proofs.Formed.{formed-generate, formed-advance, formed-terminate, formed-seize, formed-release, formed-enter, formed-leave, formed-wait-server, joined-row, formed-wait-terms, formed-branch, formed-goto, formed-assign, formed-priority, formed-split, formed-arrive, formed-depart, formed-assemble, formed-preempt, formed-return}
+use Rattle.program.proofs.Formed.{formed-plain, formed-generate, formed-terminate, formed-wait-server, joined-row, formed-wait-terms, formed-branch, formed-goto, formed-assign, formed-split}
 
 -- ---- One number, and two
 
@@ -343,7 +343,7 @@ module _ (s : List ℕ) (n : Counts) (capacities : List ℕ) {p : Place} {to : �
 
   pub kind-2 : Stores (numberShape 1 (n .lists) 0) p to l₀ l₁ r₁ (field s 3 1 (n .lists) (cursorOf p)) → Stores (operandsShape (n .blocks) 2) p to l₀ l₁ r₁ (operands s n capacities 2 (cursorOf p))
   unfolding operands blockForms
-  kind-2 k = made 2 advance 0 _ k (λ v l h. ap (λ (x : ℕ). x ∷ []) (omega arith)) (λ v l h. formed-advance (n .blocks) v) (λ v. refl)
+  kind-2 k = made 2 advance 0 _ k (λ v l h. ap (λ (x : ℕ). x ∷ []) (omega arith)) (λ v l h. formed-plain (n .blocks) (advance v) 2 _ refl (omega arith) tt refl refl) (λ v. refl)
 
   pub kind-3 : Stores (numberShape 0 65535 0) p to l₀ l₁ r₁ (field s 3 0 65535 (cursorOf p)) → Stores (operandsShape (n .blocks) 3) p to l₀ l₁ r₁ (operands s n capacities 3 (cursorOf p))
   unfolding operands blockForms
@@ -351,11 +351,11 @@ module _ (s : List ℕ) (n : Counts) (capacities : List ℕ) {p : Place} {to : �
 
   pub kind-4 : Stores (numberShape 1 (n .facilities) 0) p to l₀ l₁ r₁ (field s 3 1 (n .facilities) (cursorOf p)) → Stores (operandsShape (n .blocks) 4) p to l₀ l₁ r₁ (operands s n capacities 4 (cursorOf p))
   unfolding operands blockForms
-  kind-4 k = made 4 seize 0 _ k (λ v l h. ap (λ (x : ℕ). x ∷ []) (omega arith)) (λ v l h. formed-seize (n .blocks) v) (λ v. refl)
+  kind-4 k = made 4 seize 0 _ k (λ v l h. ap (λ (x : ℕ). x ∷ []) (omega arith)) (λ v l h. formed-plain (n .blocks) (seize v) 4 _ refl (omega arith) tt refl refl) (λ v. refl)
 
   pub kind-5 : Stores (numberShape 1 (n .facilities) 0) p to l₀ l₁ r₁ (field s 3 1 (n .facilities) (cursorOf p)) → Stores (operandsShape (n .blocks) 5) p to l₀ l₁ r₁ (operands s n capacities 5 (cursorOf p))
   unfolding operands blockForms
-  kind-5 k = made 5 release 0 _ k (λ v l h. ap (λ (x : ℕ). x ∷ []) (omega arith)) (λ v l h. formed-release (n .blocks) v) (λ v. refl)
+  kind-5 k = made 5 release 0 _ k (λ v l h. ap (λ (x : ℕ). x ∷ []) (omega arith)) (λ v l h. formed-plain (n .blocks) (release v) 5 _ refl (omega arith) tt refl refl) (λ v. refl)
 
   pub kind-11 : Stores (numberShape 1 (n .blocks) 1) p to l₀ l₁ r₁ (field s 3 1 (n .blocks) (cursorOf p)) → Stores (operandsShape (n .blocks) 11) p to l₀ l₁ r₁ (operands s n capacities 11 (cursorOf p))
   unfolding operands blockForms
@@ -363,27 +363,27 @@ module _ (s : List ℕ) (n : Counts) (capacities : List ℕ) {p : Place} {to : �
 
   pub kind-13 : Stores (numberShape 0 127 0) p to l₀ l₁ r₁ (field s 3 0 127 (cursorOf p)) → Stores (operandsShape (n .blocks) 13) p to l₀ l₁ r₁ (operands s n capacities 13 (cursorOf p))
   unfolding operands blockForms
-  kind-13 k = made 13 priority 0 _ k (λ v l h. ap (λ (x : ℕ). x ∷ []) (omega arith)) (λ v l h. formed-priority (n .blocks) v) (λ v. refl)
+  kind-13 k = made 13 priority 0 _ k (λ v l h. ap (λ (x : ℕ). x ∷ []) (omega arith)) (λ v l h. formed-plain (n .blocks) (priority v) 13 _ refl (omega arith) tt refl refl) (λ v. refl)
 
   pub kind-15 : Stores (numberShape 1 (n .queues) 0) p to l₀ l₁ r₁ (field s 3 1 (n .queues) (cursorOf p)) → Stores (operandsShape (n .blocks) 15) p to l₀ l₁ r₁ (operands s n capacities 15 (cursorOf p))
   unfolding operands blockForms
-  kind-15 k = made 15 arrive 0 _ k (λ v l h. ap (λ (x : ℕ). x ∷ []) (omega arith)) (λ v l h. formed-arrive (n .blocks) v) (λ v. refl)
+  kind-15 k = made 15 arrive 0 _ k (λ v l h. ap (λ (x : ℕ). x ∷ []) (omega arith)) (λ v l h. formed-plain (n .blocks) (arrive v) 15 _ refl (omega arith) tt refl refl) (λ v. refl)
 
   pub kind-16 : Stores (numberShape 1 (n .queues) 0) p to l₀ l₁ r₁ (field s 3 1 (n .queues) (cursorOf p)) → Stores (operandsShape (n .blocks) 16) p to l₀ l₁ r₁ (operands s n capacities 16 (cursorOf p))
   unfolding operands blockForms
-  kind-16 k = made 16 depart 0 _ k (λ v l h. ap (λ (x : ℕ). x ∷ []) (omega arith)) (λ v l h. formed-depart (n .blocks) v) (λ v. refl)
+  kind-16 k = made 16 depart 0 _ k (λ v l h. ap (λ (x : ℕ). x ∷ []) (omega arith)) (λ v l h. formed-plain (n .blocks) (depart v) 16 _ refl (omega arith) tt refl refl) (λ v. refl)
 
   pub kind-18 : Stores (numberShape 2 255 2) p to l₀ l₁ r₁ (field s 3 2 255 (cursorOf p)) → Stores (operandsShape (n .blocks) 18) p to l₀ l₁ r₁ (operands s n capacities 18 (cursorOf p))
   unfolding operands blockForms
-  kind-18 k = made 18 assemble 2 _ k (λ v l h. ap (λ (x : ℕ). x ∷ []) (omega arith)) (λ v l h. formed-assemble (n .blocks) v) (λ v. refl)
+  kind-18 k = made 18 assemble 2 _ k (λ v l h. ap (λ (x : ℕ). x ∷ []) (omega arith)) (λ v l h. formed-plain (n .blocks) (assemble v) 18 _ refl (omega arith) tt refl refl) (λ v. refl)
 
   pub kind-19 : Stores (numberShape 1 (n .facilities) 0) p to l₀ l₁ r₁ (field s 3 1 (n .facilities) (cursorOf p)) → Stores (operandsShape (n .blocks) 19) p to l₀ l₁ r₁ (operands s n capacities 19 (cursorOf p))
   unfolding operands blockForms
-  kind-19 k = made 19 preempt 0 _ k (λ v l h. ap (λ (x : ℕ). x ∷ []) (omega arith)) (λ v l h. formed-preempt (n .blocks) v) (λ v. refl)
+  kind-19 k = made 19 preempt 0 _ k (λ v l h. ap (λ (x : ℕ). x ∷ []) (omega arith)) (λ v l h. formed-plain (n .blocks) (preempt v) 19 _ refl (omega arith) tt refl refl) (λ v. refl)
 
   pub kind-20 : Stores (numberShape 1 (n .facilities) 0) p to l₀ l₁ r₁ (field s 3 1 (n .facilities) (cursorOf p)) → Stores (operandsShape (n .blocks) 20) p to l₀ l₁ r₁ (operands s n capacities 20 (cursorOf p))
   unfolding operands blockForms
-  kind-20 k = made 20 giveBack 0 _ k (λ v l h. ap (λ (x : ℕ). x ∷ []) (omega arith)) (λ v l h. formed-return (n .blocks) v) (λ v. refl)
+  kind-20 k = made 20 giveBack 0 _ k (λ v l h. ap (λ (x : ℕ). x ∷ []) (omega arith)) (λ v l h. formed-plain (n .blocks) (giveBack v) 20 _ refl (omega arith) tt refl refl) (λ v. refl)
 
   -- ---- Kinds of two numbers
 
@@ -391,7 +391,7 @@ module _ (s : List ℕ) (n : Counts) (capacities : List ℕ) {p : Place} {to : �
   unfolding operands blockForms
   kind-6 k =
       rw (← units-then s n capacities enter (cursorOf p))
-      (stores-last (operandsShape (n .blocks) 6) p to l₀ (λ x. enter (x .first) (x .second)) _ k (λ x c cells fact. (refl, cells, (formed-enter (n .blocks) (x .first) (x .second), refl))))
+      (stores-last (operandsShape (n .blocks) 6) p to l₀ (λ x. enter (x .first) (x .second)) _ k (λ x c cells fact. (refl, cells, (formed-plain (n .blocks) (enter (x .first) (x .second)) 6 _ refl (omega arith) tt refl refl, refl))))
 
   pub kind-8 : Stores watchedShape p to l₀ l₁ r₁ (watchedField s n (cursorOf p)) → Stores (operandsShape (n .blocks) 8) p to l₀ l₁ r₁ (operands s n capacities 8 (cursorOf p))
   unfolding operands blockForms
@@ -403,7 +403,7 @@ module _ (s : List ℕ) (n : Counts) (capacities : List ℕ) {p : Place} {to : �
   unfolding operands blockForms
   kind-7 k =
       rw (← units-then s n capacities leave (cursorOf p))
-      (stores-last (operandsShape (n .blocks) 7) p to l₀ (λ x. leave (x .first) (x .second)) _ k (λ x c cells fact. (refl, cells, (formed-leave (n .blocks) (x .first) (x .second), refl))))
+      (stores-last (operandsShape (n .blocks) 7) p to l₀ (λ x. leave (x .first) (x .second)) _ k (λ x c cells fact. (refl, cells, (formed-plain (n .blocks) (leave (x .first) (x .second)) 7 _ refl (omega arith) tt refl refl, refl))))
 
   pub kind-1 : (a b : Range) → (a .lo ≡ 1) × (a .hi ≡ n .lists) × (a .plus ≡ 0) → (b .lo ≡ 0) × (b .hi ≡ 127) × (b .plus ≡ 0) →
       Stores (pairShape a b) p to l₀ l₁ r₁ (pairField s a b (cursorOf p)) → Stores (operandsShape (n .blocks) 1) p to l₀ l₁ r₁ (operands s n capacities 1 (cursorOf p))

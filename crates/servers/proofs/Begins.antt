@@ -8,8 +8,7 @@ use borrow.Author.Tests.{eqb-true, eqb-false, ne-eqb, le-ltb, lt-ltb, ltb-true, 
 use lib.Dec.{eqb, ltb}
 use lib.ListN.{length, getD}
 use Rattle.machine.specs.Lists.{bit, upTo}
-use Rattle.machine.specs.Term.{always, whenTrue}
-use Rattle.machine.specs.Block.{Code, Block, generate, advance, terminate, takes, frees, waitServer, waitTerms, moves, assign, priority, split, counts, assemble, preempt, giveBack, facility, storage, up, down, facts, BlockModel, blockAt, backAt, beginsGroup}
+use Rattle.machine.specs.Block.{Block, facts, BlockModel, blockAt, backAt, beginsGroup}
 use Rattle.machine.proofs.Sums.{upTo-zero}
 use Rattle.machine.proofs.Proper.{Names, Proper}
 use Rattle.machine.proofs.Placed.{goes-on}
@@ -18,6 +17,7 @@ use Rattle.tables.specs.Forms.{blockForms}
 use Rattle.tables.specs.Numbers.{blockNumbers}
 use Rattle.tables.specs.Represents.{Represents}
 use Rattle.tables.proofs.Operands.{operand}
+use Rattle.tables.proofs.BlockKinds.{Waits, closing, plain, elsewhere, waits}
 use Rattle.servers.specs.WaitServer.{beginsFrom}
 
 -- ---- One block behind the other, c blocks behind the first
@@ -49,36 +49,6 @@ module _ (l : List ℕ) (at c : ℕ) where
 pub some-count : (c : ℕ) → (c ≡ 0 → ⊥) → ltb 0 c ≡ true
 some-count zero h = absurd (h refl)
 some-count (suc c) h = lt-ltb 0 (suc c) (omega arith)
-
--- ---- A block is a server wait with a back count, one without, or none
-
-data Waits (b : Block) : Type 0 where
-  closing : (code : Code) (v c : ℕ) → b ≡ waitServer code v (suc c) → Waits b
-  plain : (code : Code) (v : ℕ) → b ≡ waitServer code v 0 → Waits b
-  other : (kind : ℕ) (rest : List ℕ) → blockNumbers b ≡ kind ∷ rest → eqb kind 17 ≡ false → eqb kind 8 ≡ false → facts b .wel ≡ 0 → facts b .back ≡ 0 → Waits b
-
-waits : (b : Block) → Waits b
-unfolding blockForms
-waits (generate list p) = other 1 _ refl refl refl refl refl
-waits (advance list) = other 2 _ refl refl refl refl refl
-waits (terminate a) = other 3 _ refl refl refl refl refl
-waits (takes (facility v)) = other 4 _ refl refl refl refl refl
-waits (takes (storage v b)) = other 6 _ refl refl refl refl refl
-waits (frees (facility v)) = other 5 _ refl refl refl refl refl
-waits (frees (storage v b)) = other 7 _ refl refl refl refl refl
-waits (waitServer code v zero) = plain code v refl
-waits (waitServer code v (suc c)) = closing code v c refl
-waits (waitTerms a r b) = other 9 _ refl refl refl refl refl
-waits (moves always target) = other 11 _ refl refl refl refl refl
-waits (moves (whenTrue a r b) target) = other 10 _ refl refl refl refl refl
-waits (assign k a) = other 12 _ refl refl refl refl refl
-waits (priority p) = other 13 _ refl refl refl refl refl
-waits (split n target) = other 14 _ refl refl refl refl refl
-waits (counts up q) = other 15 _ refl refl refl refl refl
-waits (counts down q) = other 16 _ refl refl refl refl refl
-waits (assemble n) = other 18 _ refl refl refl refl refl
-waits (preempt f) = other 19 _ refl refl refl refl refl
-waits (giveBack f) = other 20 _ refl refl refl refl refl
 
 module _ {m : BlockModel} {tape : List (List ℕ)} {tapeBytes tables lists : List ℕ} (proper : Proper m tape) (rep : Represents m tape tapeBytes tables lists) (n : ℕ) (low : 1 ≤ n) where
   -- no block counts back to block n
@@ -149,7 +119,7 @@ module _ {m : BlockModel} {tape : List (List ℕ)} {tapeBytes tables lists : Lis
           last c low high false e =
               let same : c ≡ i = omega (arith, ltb-false c i e) in
               ap (λ (k : ℕ). backAt m (n + k)) same ∙ ap (λ (b : Block). facts b .back) is
-      go (other kind row e k17 k8 wel back) rest =
+      go (elsewhere kind row e k17 k8 wel back) rest =
           let found : getD tables (8 * (n - 1) + 8 * i) 0 ≡ kind = kind-at i some before there _ refl (some-row e) ∙ ap (λ (xs : List ℕ). getD xs 0 0) e in
           rw (found, k17, k8)
           (stops i some before there (λ h. omega (arith, back, h)) (λ w z. w wel))

@@ -8,7 +8,7 @@ use mathlib.Core.Option.{Option, none}
 use lib.Dec.{eqb}
 use Rattle.machine.specs.Term.{Term, Relation, Condition, always, whenTrue}
 use Rattle.machine.specs.Facts.{Facts}
-use Rattle.machine.specs.Block.{Share, facility, storage, up, down, Block, generate, advance, terminate, takes, frees, waitServer, waitTerms, moves, assign, priority, split, counts, assemble, preempt, giveBack, facts}
+use Rattle.machine.specs.Block.{Code, Share, facility, storage, up, down, Block, generate, advance, terminate, takes, frees, waitServer, waitTerms, moves, assign, priority, split, counts, assemble, preempt, giveBack, facts}
 use Rattle.tables.specs.Numbers.{blockNumbers}
 use Rattle.tables.specs.Forms.{blockForms}
 
@@ -88,3 +88,33 @@ unasked kind e =
     let d = either (eqb kind 9) _ (c .1) in
     let e = either (eqb kind 15) _ (d .1) in
     record { no-generate = a .0; no-seize = b .0; no-enter = c .0; no-wait = d .0; no-arrive = e .0; no-preempt = e .1 }
+
+-- ---- The walk for groups: a server wait with a back count, one without, or none
+
+pub data Waits (b : Block) : Type 0 where
+  closing : (code : Code) (v c : ℕ) → b ≡ waitServer code v (suc c) → Waits b
+  plain : (code : Code) (v : ℕ) → b ≡ waitServer code v 0 → Waits b
+  elsewhere : (kind : ℕ) (rest : List ℕ) → blockNumbers b ≡ kind ∷ rest → eqb kind 17 ≡ false → eqb kind 8 ≡ false → facts b .wel ≡ 0 → facts b .back ≡ 0 → Waits b
+
+pub waits : (b : Block) → Waits b
+unfolding blockForms
+waits (generate list p) = elsewhere 1 _ refl refl refl refl refl
+waits (advance list) = elsewhere 2 _ refl refl refl refl refl
+waits (terminate a) = elsewhere 3 _ refl refl refl refl refl
+waits (takes (facility v)) = elsewhere 4 _ refl refl refl refl refl
+waits (takes (storage v b)) = elsewhere 6 _ refl refl refl refl refl
+waits (frees (facility v)) = elsewhere 5 _ refl refl refl refl refl
+waits (frees (storage v b)) = elsewhere 7 _ refl refl refl refl refl
+waits (waitServer code v zero) = plain code v refl
+waits (waitServer code v (suc c)) = closing code v c refl
+waits (waitTerms a r b) = elsewhere 9 _ refl refl refl refl refl
+waits (moves always target) = elsewhere 11 _ refl refl refl refl refl
+waits (moves (whenTrue a r b) target) = elsewhere 10 _ refl refl refl refl refl
+waits (assign k a) = elsewhere 12 _ refl refl refl refl refl
+waits (priority p) = elsewhere 13 _ refl refl refl refl refl
+waits (split n target) = elsewhere 14 _ refl refl refl refl refl
+waits (counts up q) = elsewhere 15 _ refl refl refl refl refl
+waits (counts down q) = elsewhere 16 _ refl refl refl refl refl
+waits (assemble n) = elsewhere 18 _ refl refl refl refl refl
+waits (preempt f) = elsewhere 19 _ refl refl refl refl refl
+waits (giveBack f) = elsewhere 20 _ refl refl refl refl refl

@@ -4,6 +4,7 @@ use borrow.Author.Needs.{needs}
 use Prim.Native.Nat.{_≤_, _-_}
 use native.Mathlib.Omega.{arith}
 use mathlib.Core.Path.{_≡_, refl, _∙_}
+use Rattle.machine.specs.Rules.{inForce}
 use Rattle.machine.specs.Decode.{blockField}
 use Rattle.values.specs.Shapes.{countsOf}
 use Rattle.program.specs.Formed.{Formed}
@@ -14,7 +15,7 @@ use Rattle.program.proofs.blocks.Statement.{statement}
 use Rattle.program.proofs.blocks.Tie as tie
 
 abbrev Inv-loop : tie.InvT-loop
-Inv-loop s tables₀ m b₀ q₀ tables b q = (b ≤ m .blocks) × (capacitiesOf m tables ≡ capacitiesOf m tables₀) × Leads (blockShape (m .blocks)) (Formed (m .blocks)) (λ i. blockField s 20 (countsOf m) (capacitiesOf m tables₀)) 8 0 (m .blocks) q₀ tables₀ b q tables
+Inv-loop s tables₀ m b₀ q₀ tables b q = (b ≤ m .blocks) × (capacitiesOf m tables ≡ capacitiesOf m tables₀) × Leads (blockShape (m .blocks)) (Formed (m .blocks)) (λ i. blockField s (inForce .kinds) (countsOf m) (capacitiesOf m tables₀)) 8 0 (m .blocks) q₀ tables₀ b q tables
 
 abbrev μ-loop : tie.MeasureT-loop
 μ-loop s tables₀ m b₀ q₀ tables b q = m .blocks - b
