@@ -82,6 +82,7 @@ fn packing(random: &mut Random, size: Size) -> (Model, Tape) {
             blocks.push(Block::Release { facility: 1 });
         }
     }
+    let gather = blocks.len() as u32 + 1;
     blocks.push(Block::Assemble { count });
     if seizes && keeps {
         blocks.push(Block::Release { facility: 1 });
@@ -100,11 +101,14 @@ fn packing(random: &mut Random, size: Size) -> (Model, Tape) {
         });
     }
     if random.one_in(3) {
+        // Round again, by the entries of the SPLIT or of the ASSEMBLE.
+        let rounds = random.number(1, 6);
+        let counted = if rounds % 2 == 0 { again } else { gather };
         blocks.push(Block::If {
             comparison: Comparison {
-                left: Term::Entries(again),
+                left: Term::Entries(counted),
                 relation: 3,
-                right: Term::Constant(random.number(1, 6)),
+                right: Term::Constant(rounds),
             },
             target: again,
         });
