@@ -19,28 +19,29 @@ use servers::release;
 use servers::seize;
 use servers::wait_server;
 use state::Scalars;
+use tables::TABLES;
+use tables::TALLY;
 use tables::number;
 ghost use mathlib.Core.Path.{_≡_};
 ghost use Prim.Native.Nat.{_<_, _≤_};
 ghost use Rattle.machine.specs.Limits.{maxFacilities};
-ghost use Rattle.tables.specs.Layout.{Tables, programSize};
+ghost use Rattle.tables.specs.Layout.{programSize};
 ghost use Rattle.rows.specs.Layout.{Room, rowCount};
 ghost use Rattle.state.specs.Stands.{rowsOf};
 ghost use Rattle.blocks.specs.Execute.{execute};
 
 // The block at `at` of the tables, for the moving transaction. A number that is no kind changes nothing.
 pub fn execute(
-    tables: &[u32],
+    tables: &[u32; TABLES],
     values: usize,
     facilities: usize,
     tape: &[u8],
     work: &mut [u32],
-    tally: &mut [u64],
+    tally: &mut [u64; TALLY],
     x: Scalars,
     at: usize,
 ) -> Scalars
     requires { ⌜ facilities ≤ maxFacilities ⌝ }
-    requires { ⌜ Tables (now tables) ⌝ }
     requires { ⌜ Room (now work) ⌝ }
     requires { ⌜ x .moving < rowCount ⌝ }
     requires { ⌜ at < programSize ⌝ }

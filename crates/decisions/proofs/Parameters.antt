@@ -18,7 +18,6 @@ use Rattle.machine.proofs.Shape.{each-getD}
 use Rattle.tables.specs.Represents.{smallTerm}
 use Rattle.rows.specs.Cells.{read}
 use Rattle.rows.specs.Holds.{transactionAt}
-use Rattle.terms.specs.declared.Parameters.{Parameters}
 use Rattle.terms.specs.Evaluation as Evaluation
 use Rattle.terms.specs.Nested.{nestedTerm}
 use Rattle.terms.specs.Sees.{parametersOf, Sees}
@@ -55,6 +54,11 @@ signed-small n = go (ltb n 2147483648) refl
     go : (b : Bool) → ltb n 2147483648 ≡ b → Small (cond b (pos n) (negsuc (4294967295 - n)))
     go true e = ltb-true n 2147483648 e
     go false e = omega (arith, ltb-false n 2147483648 e)
+
+parameters-small : (p : List ℕ) → Each Small (parametersOf p)
+unfolding parametersOf
+parameters-small [] = tt
+parameters-small (n ∷ p) = (signed-small n, parameters-small p)
 
 wrap-small : (z : ℤ) → Small (wrap z)
 unfolding wrap
@@ -112,11 +116,7 @@ module _ {w : View} {tables tally : List ℕ} {clock : ℕ} (s : Sees w tables t
   term-small (comparison r a b) small nested = absurd nested
   term-small (bracket e) small nested = absurd nested
 
-pub evaluate-small : {w : View} {tables tally : List ℕ} {clock : ℕ} → Sees w tables tally clock → (p : Parameters) (values : List Sum) (t : Term) → T (smallTerm t) → T (nestedTerm 0 t)
+pub evaluate-small : {w : View} {tables tally : List ℕ} {clock : ℕ} → Sees w tables tally clock → (p : List ℕ) (values : List Sum) (t : Term) → T (smallTerm t) → T (nestedTerm 0 t)
     → mag (evaluate values w (parametersOf p) t) < 2147483648
-unfolding evaluate parametersOf
-evaluate-small {w} s p values t =
-    term-small s _ _ four (worths-small w _ values [] tt) t
-  where
-    four : Each Small (signed (p .p1) ∷ signed (p .p2) ∷ signed (p .p3) ∷ signed (p .p4) ∷ [])
-    four = (signed-small (p .p1), (signed-small (p .p2), (signed-small (p .p3), (signed-small (p .p4), tt))))
+unfolding evaluate
+evaluate-small {w} s p values t = term-small s _ _ (parameters-small p) (worths-small w _ values [] tt) t

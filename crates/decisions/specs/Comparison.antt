@@ -1,20 +1,19 @@
 -- The row machine: blocks with terms, of the block whose numbers begin at `at` of the tables.
 use Prim.Native.Nat.{ℕ, _+_}
 use mathlib.Core.Bool.{Bool, cond}
-use mathlib.Core.List.{List}
+use mathlib.Core.List.{List, [], _∷_}
 use lib.Dec.{ltb}
 use lib.ListN.{getD}
 use Rattle.machine.specs.Term.{low32}
 use Rattle.rows.specs.Layout.{wsl, parameterField}
 use Rattle.rows.specs.Cells.{read, write}
-use Rattle.terms.specs.declared.Parameters.{Parameters}
 use Rattle.terms.specs.Evaluation.{termAt, compareAt}
 use Rattle.state.specs.declared.scalars.Scalars.{Scalars}
 use Rattle.moves.specs.Motion.{Moved, inOrder, goTo, goOn, waitOn}
 
 -- the parameters of row k, as bits
-unfoldable pub parametersAt : List ℕ → ℕ → Parameters
-parametersAt w k = record { p1 = read w 2 k; p2 = read w 3 k; p3 = read w 4 k; p4 = read w 5 k }
+unfoldable pub parametersAt : List ℕ → ℕ → List ℕ
+parametersAt w k = read w 2 k ∷ read w 3 k ∷ read w 4 k ∷ read w 5 k ∷ []
 
 -- left, relation and right stand behind the block's kind
 unfoldable pub holdsAt : (tables : List ℕ) (values : ℕ) (w tally : List ℕ) (clock k at : ℕ) → Bool

@@ -15,14 +15,15 @@ use state::Scalars;
 use tables::BRANCH_TARGET;
 use tables::FIRST;
 use tables::SECOND;
+use tables::TABLES;
+use tables::TALLY;
 use tables::number;
-use terms::Parameters;
 use terms::bits;
 use terms::compare_at;
 use terms::term_at;
 ghost use mathlib.Core.Path.{_≡_};
 ghost use Prim.Native.Nat.{_+_, _<_, _≤_};
-ghost use Rattle.tables.specs.Layout.{BlockAt};
+ghost use Rattle.tables.specs.Layout.{programSize};
 ghost use Rattle.rows.specs.Layout.{Room, rowCount};
 ghost use Rattle.moves.specs.Motion.{moved};
 ghost use Rattle.decisions.specs.Comparison.{parametersAt, holdsAt, worthAt, setParameter, waitTerms, branch, assign};
@@ -30,7 +31,7 @@ ghost use Rattle.decisions.specs.Comparison.{parametersAt, holdsAt, wort
 const PARAMETERS: u32 = Model::PARAMETERS as u32;
 
 // The parameters of row k, as bits.
-fn parameters_of(work: &[u32], k: u32) -> Parameters
+fn parameters_of(work: &[u32], k: u32) -> [u32; Model::PARAMETERS]
     requires { ⌜ k < rowCount ⌝ }
     ensures { λ r. ⌜ r ≡ parametersAt (now (work .entry)) k ⌝ }
 {
@@ -38,43 +39,43 @@ fn parameters_of(work: &[u32], k: u32) -> Parameters
     let p2 = read(work, PARAMETER_2, k);
     let p3 = read(work, PARAMETER_3, k);
     let p4 = read(work, PARAMETER_4, k);
-    Parameters { p1, p2, p3, p4 }
+    [p1, p2, p3, p4]
 }
 
 // Does the comparison of the block at `at` hold for row k?
 pub fn holds(
-    tables: &[u32],
+    tables: &[u32; TABLES],
     values: usize,
     work: &[u32],
-    tally: &[u64],
+    tally: &[u64; TALLY],
     clock: u64,
     k: u32,
     at: usize,
 ) -> bool
-    requires { ⌜ BlockAt (now tables) at ⌝ }
+    requires { ⌜ at < programSize ⌝ }
     requires { ⌜ k < rowCount ⌝ }
     ensures { λ r. ⌜ r ≡ holdsAt (now (tables .entry)) values (now (work .entry)) (now (tally .entry)) clock k at ⌝ }
 {
     let parameters = parameters_of(work, k);
-    compare_at(tables, tally, values, clock, parameters, at + FIRST)
+    compare_at(tables, tally, values, clock, &parameters, at + FIRST)
 }
 
 // What the term of the LET at `at` is worth for row k, as bits.
 fn worth(
-    tables: &[u32],
+    tables: &[u32; TABLES],
     values: usize,
     work: &[u32],
-    tally: &[u64],
+    tally: &[u64; TALLY],
     clock: u64,
     k: u32,
     at: usize,
 ) -> u32
-    requires { ⌜ BlockAt (now tables) at ⌝ }
+    requires { ⌜ at < programSize ⌝ }
     requires { ⌜ k < rowCount ⌝ }
     ensures { λ r. ⌜ r ≡ worthAt (now (tables .entry)) values (now (work .entry)) (now (tally .entry)) clock k at ⌝ }
 {
     let parameters = parameters_of(work, k);
-    bits(term_at(tables, tally, values, clock, parameters, at + SECOND))
+    bits(term_at(tables, tally, values, clock, &parameters, at + SECOND))
 }
 
 // Parameter i (from 0) of row k gets these bits.
@@ -91,14 +92,14 @@ fn set_parameter(work: &mut [u32], k: u32, i: u32, x: u32)
 
 // 9 WAITIF left, relation, right: "waits on the WSL while true; else go on".
 pub fn wait_terms(
-    tables: &[u32],
+    tables: &[u32; TABLES],
     values: usize,
     work: &mut [u32],
-    tally: &[u64],
+    tally: &[u64; TALLY],
     x: Scalars,
     at: usize,
 ) -> Scalars
-    requires { ⌜ BlockAt (now tables) at ⌝ }
+    requires { ⌜ at < programSize ⌝ }
     requires { ⌜ Room (now work) ⌝ }
     requires { ⌜ x .moving < rowCount ⌝ }
     ensures { λ r. ⌜ moved r (now (work .exit)) ≡ waitTerms (now (tables .entry)) values (now (work .entry)) (now (tally .entry)) x at ⌝ }
@@ -113,14 +114,14 @@ pub fn wait_terms(
 
 // 10 IF left, relation, right, target: "true, the next block is the target, still moving; else go on".
 pub fn branch(
-    tables: &[u32],
+    tables: &[u32; TABLES],
     values: usize,
     work: &mut [u32],
-    tally: &[u64],
+    tally: &[u64; TALLY],
     x: Scalars,
     at: usize,
 ) -> Scalars
-    requires { ⌜ BlockAt (now tables) at ⌝ }
+    requires { ⌜ at < programSize ⌝ }
     requires { ⌜ Room (now work) ⌝ }
     requires { ⌜ x .moving < rowCount ⌝ }
     ensures { λ r. ⌜ moved r (now (work .exit)) ≡ branch (now (tables .entry)) values (now (work .entry)) (now (tally .entry)) x at ⌝ }
@@ -135,14 +136,14 @@ pub fn branch(
 
 // 12 LET parameter, term: the parameter becomes what the term is worth.
 pub fn assign(
-    tables: &[u32],
+    tables: &[u32; TABLES],
     values: usize,
     work: &mut [u32],
-    tally: &[u64],
+    tally: &[u64; TALLY],
     x: Scalars,
     at: usize,
 ) -> Scalars
-    requires { ⌜ BlockAt (now tables) at ⌝ }
+    requires { ⌜ at < programSize ⌝ }
     requires { ⌜ Room (now work) ⌝ }
     requires { ⌜ x .moving < rowCount ⌝ }
     ensures { λ r. ⌜ moved r (now (work .exit)) ≡ assign (now (tables .entry)) values (now (work .entry)) (now (tally .entry)) x at ⌝ }

@@ -11,11 +11,12 @@ use rows::wake::pass;
 use state::Scalars;
 use state::less32;
 use tables::BLOCK_WIDTH;
+use tables::TABLES;
+use tables::TALLY;
 use tables::number;
 ghost use mathlib.Core.Path.{_≡_};
 ghost use Prim.Native.Nat.{_+_, _*_, _<_, _≤_};
 ghost use Rattle.machine.specs.Limits.{maxBlocks};
-ghost use Rattle.tables.specs.Layout.{Program};
 ghost use Rattle.rows.specs.Layout.{Room, rowCount, wsl};
 ghost use Rattle.rows.specs.Wake.{passRows, passCell};
 ghost use Rattle.decisions.specs.Scheme.{blockOf, leaves, wsScheme};
@@ -31,15 +32,14 @@ fn block_of(work: &[u32], k: u32) -> usize
 
 // Does row k leave the WSL? It does unless it stands at a WAITIF whose comparison holds.
 fn leaves(
-    tables: &[u32],
+    tables: &[u32; TABLES],
     blocks: usize,
     values: usize,
     work: &[u32],
-    tally: &[u64],
+    tally: &[u64; TALLY],
     clock: u64,
     k: u32,
 ) -> bool
-    requires { ⌜ Program (now tables) ⌝ }
     requires { ⌜ blocks ≤ maxBlocks ⌝ }
     requires { ⌜ k < rowCount ⌝ }
     ensures { λ r. ⌜ r ≡ leaves (now (tables .entry)) blocks values (now (tally .entry)) clock (now (work .entry)) k ⌝ }
@@ -56,16 +56,15 @@ fn leaves(
 
 // One step along the WSL, at a cell that holds row k.
 fn step(
-    tables: &[u32],
+    tables: &[u32; TABLES],
     blocks: usize,
     values: usize,
     work: &mut [u32],
-    tally: &[u64],
+    tally: &[u64; TALLY],
     clock: u64,
     cell: u32,
     k: u32,
 ) -> u32
-    requires { ⌜ Program (now tables) ⌝ }
     requires { ⌜ blocks ≤ maxBlocks ⌝ }
     requires { ⌜ Room (now work) ⌝ }
     requires { ⌜ k < rowCount ⌝ }
@@ -77,8 +76,14 @@ fn step(
 }
 
 // The WS scheme follows a turn's block unless that ended the run.
-pub fn ws(tables: &[u32], blocks: usize, values: usize, work: &mut [u32], tally: &[u64], x: Scalars)
-    requires { ⌜ Program (now tables) ⌝ }
+pub fn ws(
+    tables: &[u32; TABLES],
+    blocks: usize,
+    values: usize,
+    work: &mut [u32],
+    tally: &[u64; TALLY],
+    x: Scalars,
+)
     requires { ⌜ blocks ≤ maxBlocks ⌝ }
     requires { ⌜ Room (now work) ⌝ }
     ensures { λ _. ⌜ now (work .exit) ≡ wsScheme (now (tables .entry)) blocks values (now (tally .entry)) x (now (work .entry)) ⌝ }

@@ -12,10 +12,11 @@ ghost use mathlib.Core.Path.{_≡_};
 ghost use Prim.Native.Nat.{_≤_};
 ghost use lib.ListN.{length};
 ghost use Rattle.machine.specs.Limits.{maxBlocks, maxFacilities, maxQueues, maxStorages};
-ghost use Rattle.tables.specs.Layout.{Tables};
 ghost use Rattle.rows.specs.Layout.{Room};
 ghost use Rattle.state.specs.Stands.{rowsOf};
 ghost use Rattle.start.specs.Start.{startRows};
+ghost use Rattle.report.specs.Numbers.{rowNumbers};
+ghost use Rattle.report.specs.Writing.{written, putAll};
 ghost use Rattle.turn.specs.Turn.{traced};
 ghost use Rattle.engine.specs.Turns.{turnsRows};
 ghost use Rattle.engine.specs.Last.{refusedWith, endedWith, lastRows, Finishes};
@@ -54,24 +55,37 @@ fn ended(x: Scalars, report_bytes: usize) -> Outcome
 // From the start to the last turn.
 fn play(
     model: Model,
-    tables: &[u32],
+    tables: &[u32; TABLES],
     lists: &[u64],
     tape: &[u8],
     budget: u64,
     work: &mut [u32],
-    tally: &mut [u64],
+    tally: &mut [u64; TALLY],
     trace: &mut [u8],
 ) -> Scalars
     requires { ⌜ model .facilities ≤ maxFacilities ⌝ }
     requires { ⌜ model .storages ≤ maxStorages ⌝ }
     requires { ⌜ model .queues ≤ maxQueues ⌝ }
     requires { ⌜ model .blocks ≤ maxBlocks ⌝ }
-    requires { ⌜ Tables (now tables) ⌝ }
     requires { ⌜ Room (now work) ⌝ }
     ensures { λ r. ⌜ traced (rowsOf r (now (work .exit)) (now (tally .exit))) (now (trace .exit)) ≡ turnsRows model (now (tables .entry)) (now (tape .entry)) budget (length (now (trace .entry))) (traced (startRows model (now (tables .entry)) (now (tape .entry)) (now (lists .entry)) (now (work .entry)) (now (tally .entry))) (now (trace .entry))) ⌝ }
 {
     let x = begin(model, tables, tape, lists, work, tally);
     turns(model, tables, tape, budget, work, tally, trace, x)
+}
+
+// The report of what a run leaves.
+fn reported(
+    model: Model,
+    tables: &[u32; TABLES],
+    tally: &[u64; TALLY],
+    work: &[u32],
+    x: Scalars,
+    report: &mut [u8],
+) -> usize
+    ensures { λ r. ⌜ written r (now (report .exit)) ≡ putAll (rowNumbers model (now (tables .entry)) (now (tally .entry)) (now (work .entry)) x) (written 0 (now (report .entry))) ⌝ }
+{
+    write_report(model, tables, tally, work, x, report)
 }
 
 // A run of a decoded model: the turns, then the report.
@@ -94,6 +108,6 @@ pub fn accepted(
 {
     let mut tally = [0u64; TALLY];
     let x = play(model, tables, lists, tape, budget, work, &mut tally, trace);
-    let n = write_report(model, tables, &tally, work, x, report);
+    let n = reported(model, tables, &tally, work, x, report);
     ended(x, n)
 }

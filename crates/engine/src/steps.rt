@@ -2,12 +2,13 @@
 use crate::ends::end_before;
 use machine::Model;
 use state::Scalars;
+use tables::TABLES;
+use tables::TALLY;
 use turn::turn;
 ghost use mathlib.Core.Path.{_≡_};
 ghost use Prim.Native.Nat.{_≤_};
 ghost use lib.ListN.{length};
 ghost use Rattle.machine.specs.Limits.{maxBlocks, maxFacilities, maxQueues, maxStorages};
-ghost use Rattle.tables.specs.Layout.{Tables};
 ghost use Rattle.rows.specs.Layout.{Room};
 ghost use Rattle.state.specs.Stands.{rowsOf};
 ghost use Rattle.turn.specs.Turn.{traced};
@@ -18,11 +19,11 @@ const STEPS: u32 = Model::MAX_TURNS + 1;
 
 pub fn turns(
     model: Model,
-    tables: &[u32],
+    tables: &[u32; TABLES],
     tape: &[u8],
     budget: u64,
     work: &mut [u32],
-    tally: &mut [u64],
+    tally: &mut [u64; TALLY],
     trace: &mut [u8],
     x: Scalars,
 ) -> Scalars
@@ -30,7 +31,6 @@ pub fn turns(
     requires { ⌜ model .storages ≤ maxStorages ⌝ }
     requires { ⌜ model .queues ≤ maxQueues ⌝ }
     requires { ⌜ model .blocks ≤ maxBlocks ⌝ }
-    requires { ⌜ Tables (now tables) ⌝ }
     requires { ⌜ Room (now work) ⌝ }
     ensures { λ r. ⌜ traced (rowsOf r (now (work .exit)) (now (tally .exit))) (now (trace .exit)) ≡ turnsRows model (now (tables .entry)) (now (tape .entry)) budget (length (now (trace .entry))) (traced (rowsOf x (now (work .entry)) (now (tally .entry))) (now (trace .entry))) ⌝ }
 {

@@ -8,7 +8,6 @@ use tables::TABLES;
 use tables::TALLY;
 use tables::VALUE_WIDTH;
 use tables::VALUES;
-use terms::Parameters;
 
 // The largest number with a sign, and the bits of -9.
 const MOST: u32 = 2_147_483_647;
@@ -79,36 +78,26 @@ fn show(z: i32) {
 }
 
 // Value k, as a block's term names it: the term stands at position 0.
-fn show_value(tables: &mut [u32], tally: &[u64], k: u32) {
-    let p = Parameters {
-        p1: 5,
-        p2: 0,
-        p3: 0,
-        p4: MINUS_NINE,
-    };
+fn show_value(tables: &mut [u32; TABLES], tally: &[u64; TALLY], k: u32) {
+    let p = [5, 0, 0, MINUS_NINE];
     let named = [9, k];
     put(tables, 0, &named);
-    show(terms::term_at(tables, tally, 8, 7, p, 0));
+    show(terms::term_at(tables, tally, 8, 7, &p, 0));
 }
 
 // Value 1 < 0, as a WAITIF has it: at position 0.
-fn show_comparison(tables: &mut [u32], tally: &[u64]) {
-    let p = Parameters {
-        p1: 5,
-        p2: 0,
-        p3: 0,
-        p4: 0,
-    };
+fn show_comparison(tables: &mut [u32; TABLES], tally: &[u64; TALLY]) {
+    let p = [5, 0, 0, 0];
     let named = [9, 0, 3, 0, 0];
     put(tables, 0, &named);
-    if terms::compare_at(tables, tally, 8, 7, p, 0) {
+    if terms::compare_at(tables, tally, 8, 7, &p, 0) {
         show(1);
     } else {
         show(0);
     }
 }
 
-fn show_all(tables: &mut [u32], tally: &[u64]) {
+fn show_all(tables: &mut [u32; TABLES], tally: &[u64; TALLY]) {
     let mut k: u32 = 0;
     while k < 8 {
         show_value(tables, tally, k);

@@ -12,9 +12,7 @@ use Rattle.tables.specs.Forms.{blockForms}
 use Rattle.tables.specs.Layout as Layout
 use Rattle.tables.specs.Numbers.{relationNumber, termNumbers, blockNumbers}
 use Rattle.tables.specs.Represents.{At, smallTerm, smallBlock, Represents}
-use Rattle.terms.specs.declared.Parameters.{Parameters}
-use Rattle.terms.specs.declared.Worth.{Worth}
-use Rattle.terms.specs.Evaluation.{termAt, compareAt}
+use Rattle.terms.specs.Evaluation.{Worth, termAt, compareAt}
 use Rattle.terms.specs.Nested.{nestedTerm, nestedBlock, Nested}
 use Rattle.terms.specs.Sees.{parametersOf, Sees}
 use Rattle.terms.proofs.Found.{at-first, at-front, at-back}
@@ -38,7 +36,7 @@ two-numbers (comparison r a b) h = absurd h
 two-numbers (bracket e) h = absurd h
 
 module _ {m : BlockModel} {tape : List (List ℕ)} {tapeBytes tables lists : List ℕ} (r : Represents m tape tapeBytes tables lists) (n : Nested m)
-    {w : View} {tally : List ℕ} {clock : ℕ} (s : Sees w tables tally clock) (p : Parameters) where
+    {w : View} {tally : List ℕ} {clock : ℕ} (s : Sees w tables tally clock) (p : List ℕ) where
   values : Values (m .values) tables
   values = record { stored = r .values; small = r .small-values; nested = n .values }
 

@@ -2,7 +2,7 @@
 use Prim.Native.Nat.{ℕ, zero, suc, _+_, _-_, _≤_, _<_}
 use native.Mathlib.Omega.{arith}
 use mathlib.Core.Bool.{Bool, true, false, cond}
-use mathlib.Core.List.{List}
+use mathlib.Core.List.{List, [], _∷_}
 use mathlib.Core.Path.{_≡_, refl, sym, ap, _∙_}
 use lib.Dec.{ltb}
 use lib.ListN.{length, getD, List·getD-eq-default}
@@ -11,8 +11,7 @@ use borrow.Author.Tests.{lt-ltb, ne-eqb, ltb-true, ltb-false}
 use Rattle.machine.specs.Limits.{maxBlocks, maxQueues}
 use Rattle.machine.specs.Term.{Server, idleServer, Queue, emptyQueue, View, signed, wrap, oneIf}
 use Rattle.tables.specs.Layout as Layout
-use Rattle.terms.specs.declared.Parameters.{Parameters}
-use Rattle.terms.specs.Evaluation.{small, within, parameterBits, servers, freeUnits}
+use Rattle.terms.specs.Evaluation.{small, within, servers, freeUnits}
 use Rattle.terms.specs.Sees.{parametersOf, Shows, Sees}
 
 pub small-is : (n : ℕ) → n < 2147483648 → small n ≡ pos n
@@ -93,12 +92,8 @@ module _ {w : View} {tables tally : List ℕ} {clock : ℕ} (s : Sees w tables t
         let most = shown-small _ tables Layout.capacities servers (s .capacities) (capacity-past (w .servers) servers (s .servers-size)) i in
         rw free-is (small-is _ (omega arith))
 
-pub sees-parameter : (p : Parameters) (k : ℕ) → signed (parameterBits p k) ≡ getD (parametersOf p) k (pos 0)
-unfolding parameterBits parametersOf signed
-sees-parameter p zero = refl
-sees-parameter p (suc zero) = refl
-sees-parameter p (suc (suc zero)) = refl
-sees-parameter p (suc (suc (suc zero))) = refl
-sees-parameter p (suc (suc (suc (suc k)))) =
-    let n = suc (suc (suc (suc k))) in
-    rw (ne-eqb n 0 (λ e. omega arith), ne-eqb n 1 (λ e. omega arith), ne-eqb n 2 (λ e. omega arith), ne-eqb n 3 (λ e. omega arith))
+pub sees-parameter : (p : List ℕ) (k : ℕ) → signed (getD p k 0) ≡ getD (parametersOf p) k (pos 0)
+unfolding parametersOf signed
+sees-parameter [] k = refl
+sees-parameter (n ∷ p) zero = refl
+sees-parameter (n ∷ p) (suc k) = sees-parameter p k

@@ -1,5 +1,5 @@
 -- Signed 32-bit numbers and their bits: reading and writing, sums and differences modulo 2 to the 32, equality.
-use Prim.Native.Nat.{ℕ, zero, suc, _+_, _-_, _%_, _≤_, _<_}
+use Prim.Native.Nat.{ℕ, zero, suc, _+_, _-_, _*_, _/_, _%_, _≤_, _<_}
 use native.Mathlib.Omega.{arith}
 use mathlib.Core.Bool.{Bool, true, false, cond}
 use mathlib.Core.Path.{_≡_, refl, sym, ap, _∙_, subst}
@@ -11,7 +11,7 @@ use mir.Val.{Fits, SFits, toZ, ofZ}
 use mir.Facts.{toZ-ofZ, toZ-pos, fits-natAbs}
 use borrow.Author.Tests.{lt-ltb, le-ltb, eq-eqb, ne-eqb, leb-false, ltb-true, ltb-false, eqb-true, eqb-false}
 use Rattle.machine.specs.Term.{signed, low32, wrap, eqZ}
-use Rattle.terms.specs.Evaluation.{small}
+use Rattle.terms.specs.Evaluation.{small, worthAt, unpacked}
 
 -- ---- From bits to number
 
@@ -123,6 +123,16 @@ pub signed-low : (z : ℤ) → mag z < 2147483648 → signed (low32 z) ≡ z
 unfolding low32
 signed-low (pos n) h = low-signed (n % 4294967296) (omega arith) ∙ ap pos (omega arith)
 signed-low (negsuc n) h = high-signed (4294967295 - n % 4294967296) (omega arith) ∙ ap negsuc (omega arith)
+
+-- ---- An answer: a number in range and a position
+
+pub unpacked-is : (z : ℤ) (b next n : ℕ) → mag z < 2147483648 → b ≡ low32 z → n ≡ next * 4294967296 + b → unpacked n ≡ worthAt z next
+unfolding unpacked wrap low32
+unpacked-is z b next n h eb en =
+    let l = low32-lt z in
+    let below : n % 4294967296 ≡ low32 z = omega arith in
+    let above : n / 4294967296 ≡ next = omega arith in
+    rw (below, above) (ap (λ (y : ℤ). worthAt y next) (signed-low z h))
 
 -- ---- Equality by the bits
 

@@ -9,10 +9,8 @@ use lib.ListN.{length, getD}
 use lib.IntN.{ℤ, pos}
 use borrow.Author.Tests.{lt-ltb, le-ltb, ne-eqb, eqb-true, eqb-false}
 use Rattle.machine.specs.Limits.{maxBrackets}
-use Rattle.machine.specs.Term.{oneIf}
 use Rattle.tables.specs.Layout as Layout
-use Rattle.terms.specs.declared.Worth.{Worth}
-use Rattle.terms.specs.Evaluation.{relatedBy, worthAt, joined, sumFrom, comparisonFrom, bracketFrom, pairFrom, nothingAt, taggedTerm, termFrom, valueBy, valueBelow}
+use Rattle.terms.specs.Evaluation.{Worth, worthAt, joined, judged, sumFrom, comparisonFrom, bracketFrom, pairFrom, nothingAt, taggedTerm, termFrom, valueBy, valueBelow}
 
 -- ---- A term by its tag
 
@@ -129,17 +127,23 @@ module _ (tables : List ℕ) (simple : ℕ → ℕ → ℤ) (k : ℕ) where
 -- ---- The same of what calls return
 
 module _ (tables : List ℕ) (term : ℕ → Worth) (at n : ℕ) (en : n ≡ getD tables at 0) where
-  module _ (a b : Worth) (ea : a ≡ term (at + 1)) (eb : b ≡ term (a .next)) where
-    pub comparison-step : (x y : ℤ) → x ≡ a .worth → y ≡ b .worth → (holds : Bool) → holds ≡ relatedBy n x y → (z : ℤ) → z ≡ oneIf holds →
-        worthAt z (b .next) ≡ comparisonFrom tables term at
-    unfolding comparisonFrom
-    comparison-step x y ex ey holds eh z ez = rw (← ea, ← eb, ← en, ← ex, ← ey, ← eh, ez)
+  pub comparison-step : (a : Worth) → a ≡ term (at + 1) → (next : ℕ) → next ≡ a .next → (b : Worth) → b ≡ term next → (r : Worth) → r ≡ judged n a b →
+      r ≡ comparisonFrom tables term at
+  unfolding comparisonFrom judged
+  comparison-step a ea next ex b eb r er = er ∙ rw (eb, ex, ea, en)
 
   pub sum-step : (left : ℕ) → (left ≡ 0 → ⊥) → at < length tables → (so-far : ℤ) (t : Worth) → t ≡ term (at + 1) →
-      (x y z : ℤ) → x ≡ so-far → y ≡ t .worth → z ≡ joined n x y → (r : Worth) → r ≡ sumFrom tables term (left - 1) z (t .next) →
-      r ≡ sumFrom tables term left so-far at
-  sum-step left ne inl so-far t et x y z ex ey ez r er =
-      er ∙ rw (ez, ey, ex, en, et) (sym (sum-more tables term so-far at left ne inl))
+      (x y z : ℤ) → x ≡ so-far → y ≡ t .worth → z ≡ joined n x y → (next : ℕ) → next ≡ t .next →
+      (r : Worth) → r ≡ sumFrom tables term (left - 1) z next → r ≡ sumFrom tables term left so-far at
+  sum-step left ne inl so-far t et x y z ex ey ez next ex′ r er =
+      er ∙ rw (ez, ey, ex, en, ex′, et) (sym (sum-more tables term so-far at left ne inl))
+
+-- past the tables a sum of nothing
+pub value-past : (tables : List ℕ) (simple : ℕ → ℕ → ℤ) (k lower : ℕ) → k < lower → length tables ≤ Layout.values + Layout.valueWidth * k + 1 →
+    pos 0 ≡ valueBelow tables simple lower k
+unfolding valueBy bracketFrom
+value-past tables simple k lower h past =
+    sym (value-some tables simple k lower h ∙ ap (λ (w : Worth). w .worth) (sum-past tables _ (pos 0) _ _ past))
 
 pub value-step : (tables : List ℕ) (simple : ℕ → ℕ → ℤ) (k lower : ℕ) → k < lower → (count : ℕ) →
     count ≡ getD tables (Layout.values + Layout.valueWidth * k) 0 → (r : Worth) →

@@ -12,9 +12,7 @@ use Rattle.machine.specs.Limits.{maxConstant}
 use Rattle.machine.specs.Term.{Relation, equal, unequal, less, atMost, greater, atLeast, related, View, queueAt, serverAt, wrap, oneIf, Term, constant, minusConstant, parameter, clockTerm, entriesOf, contentOf, unitsInUse, unitsFree, facilityInUse, value, comparison, bracket, Sum, nothing, plus, minus, term, sum}
 use Rattle.tables.specs.Numbers.{relationNumber, terms, termNumbers, signedTerms}
 use Rattle.tables.specs.Represents.{At, smallTerm, smallSum}
-use Rattle.terms.specs.declared.Parameters.{Parameters}
-use Rattle.terms.specs.declared.Worth.{Worth}
-use Rattle.terms.specs.Evaluation.{relatedBy, simpleTerm, worthAt, joined, sumFrom, comparisonFrom, termFrom}
+use Rattle.terms.specs.Evaluation.{Worth, relatedBy, simpleTerm, worthAt, joined, judged, sumFrom, comparisonFrom, termFrom}
 use Rattle.terms.specs.Nested.{nestedTerm, nestedSum}
 use Rattle.terms.specs.Sees.{parametersOf, Sees}
 use Rattle.terms.proofs.Found.{at-first, at-front, at-back}
@@ -44,7 +42,7 @@ related-by atLeast a b = refl
 
 -- ---- Simple terms
 
-module _ {w : View} {tables tally : List ℕ} {clock : ℕ} (s : Sees w tables tally clock) (p : Parameters) where
+module _ {w : View} {tables tally : List ℕ} {clock : ℕ} (s : Sees w tables tally clock) (p : List ℕ) where
   constant-worth : (n : ℕ) → n ≤ maxConstant → simpleTerm tables tally clock p 0 n ≡ pos n
   unfolding simpleTerm
   constant-worth n h = small-is n (omega arith)
@@ -97,10 +95,12 @@ module _ (tables : List ℕ) (read : ℕ → Worth) (at : ℕ) where
   comparison-found : (r : Relation) (a b : List ℕ) → At tables at (relationNumber r ∷ (a ++ b)) → (x y : ℤ) →
       read (at + 1) ≡ worthAt x (at + 1 + length a) → read (at + 1 + length a) ≡ worthAt y (at + 1 + length a + length b) →
       comparisonFrom tables read at ≡ worthAt (oneIf (related r x y)) (at + 1 + length a + length b)
+  unfolding judged
   comparison-found r a b h x y ea eb =
+      let end = at + 1 + length a + length b in
       sym (comparison-step tables read at (relationNumber r) (at-first tables at (relationNumber r) (a ++ b) h .found)
-      (worthAt x (at + 1 + length a)) (worthAt y (at + 1 + length a + length b)) (sym ea) (sym eb)
-      x y refl refl _ refl (oneIf (related r x y)) (ap oneIf (sym (related-by r x y))))
+      (worthAt x (at + 1 + length a)) (sym ea) (at + 1 + length a) refl (worthAt y end) (sym eb)
+      (worthAt (oneIf (related r x y)) end) (ap (λ (c : Bool). worthAt (oneIf c) end) (sym (related-by r x y))))
 
   -- a sum, from its first term and the rest
   terms-found : (sign count : ℕ) (a b : List ℕ) → At tables at (sign ∷ (a ++ b)) → (so-far x z : ℤ) → z ≡ joined sign so-far x → (all : ℤ) →
@@ -111,11 +111,11 @@ module _ (tables : List ℕ) (read : ℕ → Worth) (at : ℕ) where
       let one : suc count - 1 ≡ count = omega arith in
       let end : at + 1 + length a + length b ≡ at + suc (length (a ++ b)) = simp length-append (omega arith) in
       sym (sum-step tables read at sign (f .found) (suc count) (λ e. omega arith) (f .inside) so-far
-      (worthAt x (at + 1 + length a)) (sym ea) so-far x z refl refl ez (worthAt all (at + 1 + length a + length b))
+      (worthAt x (at + 1 + length a)) (sym ea) so-far x z refl refl ez (at + 1 + length a) refl (worthAt all (at + 1 + length a + length b))
       (sym eb ∙ ap (λ (n : ℕ). sumFrom tables read n z (at + 1 + length a)) (sym one)))
       ∙ ap (worthAt all) end
 
-module _ {w : View} {tables tally : List ℕ} {clock : ℕ} (s : Sees w tables tally clock) (p : Parameters) (lower : List ℤ) (mention : ℕ → ℤ)
+module _ {w : View} {tables tally : List ℕ} {clock : ℕ} (s : Sees w tables tally clock) (p : List ℕ) (lower : List ℤ) (mention : ℕ → ℤ)
     (agrees : (k : ℕ) → mention k ≡ getD lower k (pos 0)) where
   -- a tag and a number
   simple : (depth at : ℕ) (tag n : ℕ) (z : ℤ) → At tables at (tag ∷ n ∷ []) → tag < 9 → simpleTerm tables tally clock p tag n ≡ z →

@@ -14,9 +14,7 @@ use Rattle.machine.specs.Term.{View, Sum, nothing, sum, worths}
 use Rattle.tables.specs.Layout as Layout
 use Rattle.tables.specs.Numbers.{terms, signedTerms, sumNumbers}
 use Rattle.tables.specs.Represents.{At, smallSum}
-use Rattle.terms.specs.declared.Parameters.{Parameters}
-use Rattle.terms.specs.declared.Worth.{Worth}
-use Rattle.terms.specs.Evaluation.{simpleTerm, sumFrom, bracketFrom, termFrom, valueBy, valueBelow}
+use Rattle.terms.specs.Evaluation.{Worth, simpleTerm, sumFrom, bracketFrom, termFrom, valueBy, valueBelow}
 use Rattle.terms.specs.Nested.{nestedSum}
 use Rattle.terms.specs.Sees.{parametersOf, Sees}
 use Rattle.terms.proofs.Found.{at-first}
@@ -60,7 +58,7 @@ pub record Values (values : List Sum) (tables : List ℕ) : Type 0 where
   pub small : (k : ℕ) → T (smallSum (getD values k nothing))
   pub nested : (k : ℕ) → T (nestedSum maxBrackets (getD values k nothing))
 
-module _ {w : View} {tables tally : List ℕ} {clock : ℕ} (s : Sees w tables tally clock) (p : Parameters) {values : List Sum} (v : Values values tables) where
+module _ {w : View} {tables tally : List ℕ} {clock : ℕ} (s : Sees w tables tally clock) (p : List ℕ) {values : List Sum} (v : Values values tables) where
   -- one value, over the worths of those below it
   value-found : (k : ℕ) → k < length values → (mention : ℕ → ℤ) (lower : List ℤ) → ((j : ℕ) → mention j ≡ getD lower j (pos 0)) →
       valueBy tables (simpleTerm tables tally clock p) mention k ≡ sum w (parametersOf p) lower (getD values k nothing) (pos 0)

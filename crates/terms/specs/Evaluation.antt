@@ -1,6 +1,6 @@
 -- Evaluation over the numbers of the tables and the tally, as the code does it. It asks nothing of them: an index past an end
 -- reads 0, a mention of a value that is not lower is worth 0, and so is a bracket deeper than the limit.
-use Prim.Native.Nat.{ℕ, zero, suc, _+_, _-_, _*_}
+use Prim.Native.Nat.{ℕ, zero, suc, _+_, _-_, _*_, _/_}
 use mathlib.Core.Bool.{Bool, cond, not}
 use mathlib.Core.List.{List}
 use lib.Dec.{ltb, eqb}
@@ -10,8 +10,6 @@ use lib.Signed.{ltZ, leZ}
 use Rattle.machine.specs.Limits.{maxBlocks, maxFacilities, maxStorages, maxQueues, maxBrackets}
 use Rattle.machine.specs.Term.{signed, wrap, eqZ, oneIf}
 use Rattle.tables.specs.Layout as Layout
-use Rattle.terms.specs.declared.Parameters.{Parameters}
-use Rattle.terms.specs.declared.Worth.{Worth}
 
 -- ---- Relations by their number
 
@@ -32,21 +30,18 @@ small n = cond (ltb n 2147483648) (pos n) (pos 0)
 unfoldable pub within : List ℕ → (begin size n : ℕ) → ℕ
 within l begin size n = cond (ltb n size) (getD l (begin + n) 0) 0
 
-unfoldable pub parameterBits : Parameters → ℕ → ℕ
-parameterBits p k = cond (eqb k 0) (p .p1) (cond (eqb k 1) (p .p2) (cond (eqb k 2) (p .p3) (cond (eqb k 3) (p .p4) 0)))
-
 abbrev pub servers : ℕ
 servers = maxFacilities + maxStorages
 
 unfoldable pub freeUnits : (tables tally : List ℕ) → ℕ → ℕ
 freeUnits tables tally v = within tables Layout.capacities servers v - within tally Layout.inUse servers v
 
--- tags 0 to 8
-unfoldable pub simpleTerm : (tables tally : List ℕ) (clock : ℕ) → Parameters → (tag number : ℕ) → ℤ
+-- tags 0 to 8, with the parameters as bits
+unfoldable pub simpleTerm : (tables tally : List ℕ) (clock : ℕ) (parameters : List ℕ) (tag number : ℕ) → ℤ
 simpleTerm tables tally clock p tag n =
     cond (eqb tag 0) (small n)
     (cond (eqb tag 1) (negℤ (small n))
-    (cond (eqb tag 2) (signed (parameterBits p n))
+    (cond (eqb tag 2) (signed (getD p n 0))
     (cond (eqb tag 3) (wrap (pos clock))
     (cond (eqb tag 4) (small (within tally Layout.entries maxBlocks n))
     (cond (eqb tag 5) (small (within tally Layout.content maxQueues n))
@@ -56,8 +51,17 @@ simpleTerm tables tally clock p tag n =
 
 -- ---- Sums and terms that call each other
 
+-- what a term or a sum is worth, and the position after its numbers
+pub record Worth : Type 0 where
+  pub worth : ℤ
+  pub next : ℕ
+
 abbrev pub worthAt : ℤ → ℕ → Worth
 worthAt z next = record { worth = z; next = next }
+
+-- both in one number of 64 bits
+unfoldable pub unpacked : ℕ → Worth
+unpacked n = worthAt (wrap (pos n)) (n / Layout.wordEnd)
 
 -- what a term is worth goes into what follows it
 abbrev pub andThen : Worth → (ℤ → ℕ → Worth) → Worth
@@ -66,6 +70,10 @@ andThen t f = f (t .worth) (t .next)
 -- a sign, "0 plus, 1 minus"
 unfoldable pub joined : ℕ → ℤ → ℤ → ℤ
 joined sign a b = cond (eqb sign 0) (wrap (a +ℤ b)) (wrap (a -ℤ b))
+
+-- a relation between two terms, the second behind the first
+unfoldable pub judged : ℕ → Worth → Worth → Worth
+judged relation a b = worthAt (oneIf (relatedBy relation (a .worth) (b .worth))) (b .next)
 
 module _ (tables : List ℕ) where
   -- that many terms, read by `term`, behind terms worth `so-far`
@@ -79,8 +87,7 @@ module _ (tables : List ℕ) where
   -- a relation and two terms, read by `term`
   unfoldable pub comparisonFrom : (ℕ → Worth) → ℕ → Worth
   comparisonFrom term at =
-      andThen (term (at + 1))
-      (λ a next. andThen (term next) (λ b after. worthAt (oneIf (relatedBy (getD tables at 0) a b)) after))
+      andThen (term (at + 1)) (λ z next. judged (getD tables at 0) (worthAt z next) (term next))
 
   -- a count and as many terms, read by `term`
   unfoldable pub bracketFrom : (ℕ → Worth) → ℕ → Worth
@@ -123,15 +130,15 @@ module _ (tables : List ℕ) where
 -- ---- The entry points
 
 -- a term where brackets may open and the first `lower` values may be named
-abbrev pub termOf : (tables tally : List ℕ) (clock : ℕ) → Parameters → (lower depth : ℕ) → ℕ → Worth
+abbrev pub termOf : (tables tally : List ℕ) (clock : ℕ) (parameters : List ℕ) (lower depth : ℕ) → ℕ → Worth
 termOf tables tally clock p lower depth =
     termFrom tables (simpleTerm tables tally clock p) (valueBelow tables (simpleTerm tables tally clock p) lower) depth
 
 -- a term of a block, which has no brackets
-unfoldable pub termAt : (tables tally : List ℕ) (values clock : ℕ) → Parameters → ℕ → ℤ
+unfoldable pub termAt : (tables tally : List ℕ) (values clock : ℕ) (parameters : List ℕ) → ℕ → ℤ
 termAt tables tally values clock p at = termOf tables tally clock p values 0 at .worth
 
 -- left, relation and right of a block
-unfoldable pub compareAt : (tables tally : List ℕ) (values clock : ℕ) → Parameters → ℕ → Bool
+unfoldable pub compareAt : (tables tally : List ℕ) (values clock : ℕ) (parameters : List ℕ) → ℕ → Bool
 compareAt tables tally values clock p at =
     relatedBy (getD tables (at + 2) 0) (termAt tables tally values clock p at) (termAt tables tally values clock p (at + 3))

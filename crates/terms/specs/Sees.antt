@@ -8,12 +8,12 @@ use lib.IntN.{ℤ}
 use Rattle.machine.specs.Limits.{maxBlocks, maxQueues}
 use Rattle.machine.specs.Term.{idleServer, emptyQueue, View, signed}
 use Rattle.tables.specs.Layout as Layout
-use Rattle.terms.specs.declared.Parameters.{Parameters}
 use Rattle.terms.specs.Evaluation.{servers}
 
--- the four parameters as the machine has them
-unfoldable pub parametersOf : Parameters → List ℤ
-parametersOf p = signed (p .p1) ∷ signed (p .p2) ∷ signed (p .p3) ∷ signed (p .p4) ∷ []
+-- parameters as the machine has them
+unfoldable pub parametersOf : List ℕ → List ℤ
+parametersOf [] = []
+parametersOf (n ∷ l) = signed n ∷ parametersOf l
 
 -- these numbers of a list, at `begin`, are those that f gives, each below 2 to the 31
 pub record Shows (f : ℕ → ℕ) (l : List ℕ) (begin size : ℕ) : Type 0 where

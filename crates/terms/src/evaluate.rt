@@ -1,6 +1,7 @@
 // Sums and terms, which call each other: bracket depth, value number and remaining terms fall.
-use crate::Parameters;
-use crate::Worth;
+use crate::answer::next_of;
+use crate::answer::packed;
+use crate::answer::worth_of;
 use crate::relations::related;
 use crate::simple::simple_term;
 use crate::wrapping::add;
@@ -8,15 +9,21 @@ use crate::wrapping::subtract;
 use machine::Model;
 use tables::RELATION;
 use tables::RIGHT;
-use tables::TERM_WIDTH;
+use tables::TABLES;
+use tables::TALLY;
 use tables::VALUE_WIDTH;
 use tables::VALUES;
 use tables::number;
 ghost use mathlib.Core.Path.{_≡_};
 ghost use Prim.Native.Nat.{_≤_};
-ghost use lib.ListN.{length};
+ghost use lib.ListN.{length, getD};
 ghost use Rattle.machine.specs.Term.{oneIf};
-ghost use Rattle.terms.specs.Evaluation.{joined, simpleTerm, sumFrom, comparisonFrom, valueBelow, termOf, termAt, compareAt};
+ghost use Rattle.tables.specs.Layout.{tablesSize, most32};
+ghost use Rattle.terms.specs.Evaluation.{unpacked, joined, judged, simpleTerm, sumFrom, comparisonFrom, valueBelow, termOf, termAt, compareAt};
+
+const POSITIONS: u32 = TABLES as u32;
+
+const TERM_WIDTH: u32 = tables::TERM_WIDTH as u32;
 
 const VALUE_TAG: u32 = tables::VALUE_TAG as u32;
 
@@ -36,40 +43,53 @@ fn one_if(holds: bool) -> i32
     if holds { 1 } else { 0 }
 }
 
-// A term at a position, where `depth` brackets may still open and the first `lower` values may be named.
+// The answer of a comparison, from those of its terms.
+fn judge(relation: u32, left: u64, right: u64) -> u64
+    ensures { λ r. ⌜ unpacked r ≡ judged relation (unpacked left) (unpacked right) ⌝ }
+{
+    let holds = related(relation, worth_of(left), worth_of(right));
+    packed(one_if(holds), next_of(right))
+}
+
+// The number at a position of the tables; 0 past their end. That the tables are whole is told to those who only pass them on.
+fn number_at(tables: &[u32; TABLES], at: u32) -> u32
+    ensures number { λ r. ⌜ r ≡ getD (now (tables .entry)) at 0 ⌝ }
+    ensures whole { λ _. ⌜ length (now (tables .entry)) ≡ tablesSize ⌝ }
+{
+    number(tables, at as usize)
+}
+
+// A term at a position, where `depth` brackets may still open and the first `lower` values may be named: its answer.
 fn term(
-    tables: &[u32],
-    tally: &[u64],
+    tables: &[u32; TABLES],
+    tally: &[u64; TALLY],
     clock: u64,
-    parameters: Parameters,
+    parameters: &[u32; Model::PARAMETERS],
     lower: usize,
     depth: usize,
-    at: usize,
-) -> Worth
-    ensures { λ r. ⌜ r ≡ termOf (now (tables .entry)) (now (tally .entry)) clock parameters lower depth at ⌝ }
+    at: u32,
+) -> u64
+    ensures { λ r. ⌜ unpacked r ≡ termOf (now (tables .entry)) (now (tally .entry)) clock (now (parameters .entry)) lower depth at ⌝ }
 {
-    if tables.len() <= at {
-        return Worth { worth: 0, next: at };
+    let tag = number_at(tables, at);
+    if POSITIONS <= at {
+        return packed(0, at);
     }
-    let tag = number(tables, at);
-    let n = number(tables, at + 1);
+    let n = number_at(tables, at + 1);
     if tag < VALUE_TAG {
-        return Worth {
-            worth: simple_term(tables, tally, clock, parameters, tag, n),
-            next: at + TERM_WIDTH,
-        };
+        return packed(
+            simple_term(tables, tally, clock, parameters, tag, n),
+            at + TERM_WIDTH,
+        );
     }
     if tag == VALUE_TAG {
-        return Worth {
-            worth: value(tables, tally, clock, parameters, lower, n),
-            next: at + TERM_WIDTH,
-        };
+        return packed(
+            value(tables, tally, clock, parameters, lower, n),
+            at + TERM_WIDTH,
+        );
     }
     if depth == 0 {
-        return Worth {
-            worth: 0,
-            next: at + 1,
-        };
+        return packed(0, at + 1);
     }
     if tag == COMPARISON_TAG {
         return comparison(tables, tally, clock, parameters, lower, depth - 1, at + 1);
@@ -89,53 +109,53 @@ fn term(
 
 // A relation and two terms: 1 if it holds, else 0.
 fn comparison(
-    tables: &[u32],
-    tally: &[u64],
+    tables: &[u32; TABLES],
+    tally: &[u64; TALLY],
     clock: u64,
-    parameters: Parameters,
+    parameters: &[u32; Model::PARAMETERS],
     lower: usize,
     depth: usize,
-    at: usize,
-) -> Worth
-    requires { ⌜ at ≤ length (now tables) ⌝ }
-    ensures { λ r. ⌜ r ≡ comparisonFrom (now (tables .entry)) (termOf (now (tables .entry)) (now (tally .entry)) clock parameters lower depth) at ⌝ }
+    at: u32,
+) -> u64
+    requires { ⌜ at ≤ tablesSize ⌝ }
+    ensures { λ r. ⌜ unpacked r ≡ comparisonFrom (now (tables .entry)) (termOf (now (tables .entry)) (now (tally .entry)) clock (now (parameters .entry)) lower depth) at ⌝ }
 {
     let left = term(tables, tally, clock, parameters, lower, depth, at + 1);
-    let right = term(tables, tally, clock, parameters, lower, depth, left.next);
-    Worth {
-        worth: one_if(related(number(tables, at), left.worth, right.worth)),
-        next: right.next,
-    }
+    let right = term(
+        tables,
+        tally,
+        clock,
+        parameters,
+        lower,
+        depth,
+        next_of(left),
+    );
+    judge(number_at(tables, at), left, right)
 }
 
 // The terms of a sum from a position on, `left` of them, behind terms worth `so_far`.
 fn sum(
-    tables: &[u32],
-    tally: &[u64],
+    tables: &[u32; TABLES],
+    tally: &[u64; TALLY],
     clock: u64,
-    parameters: Parameters,
+    parameters: &[u32; Model::PARAMETERS],
     lower: usize,
     depth: usize,
     left: u32,
     so_far: i32,
-    at: usize,
-) -> Worth
-    ensures { λ r. ⌜ r ≡ sumFrom (now (tables .entry)) (termOf (now (tables .entry)) (now (tally .entry)) clock parameters lower depth) left «so_far» at ⌝ }
+    at: u32,
+) -> u64
+    ensures { λ r. ⌜ unpacked r ≡ sumFrom (now (tables .entry)) (termOf (now (tables .entry)) (now (tally .entry)) clock (now (parameters .entry)) lower depth) left «so_far» at ⌝ }
 {
     if left == 0 {
-        return Worth {
-            worth: so_far,
-            next: at,
-        };
+        return packed(so_far, at);
     }
-    if tables.len() <= at {
-        return Worth {
-            worth: so_far,
-            next: at,
-        };
+    let sign = number_at(tables, at);
+    if POSITIONS <= at {
+        return packed(so_far, at);
     }
     let t = term(tables, tally, clock, parameters, lower, depth, at + 1);
-    let joint = join(number(tables, at), so_far, t.worth);
+    let joint = join(sign, so_far, worth_of(t));
     sum(
         tables,
         tally,
@@ -145,21 +165,21 @@ fn sum(
         depth,
         left - 1,
         joint,
-        t.next,
+        next_of(t),
     )
 }
 
-// Value k (from 0) if it is one of the first `lower`, else 0. With two mentions in each of eight values at most 255 are
-// evaluated, each in time linear in its numbers.
+// Value k (from 0) if it is one of the first `lower`, else 0; past the tables a sum of nothing. With two mentions in each of eight
+// values at most 255 are evaluated, each in time linear in its numbers.
 fn value(
-    tables: &[u32],
-    tally: &[u64],
+    tables: &[u32; TABLES],
+    tally: &[u64; TALLY],
     clock: u64,
-    parameters: Parameters,
+    parameters: &[u32; Model::PARAMETERS],
     lower: usize,
     k: u32,
 ) -> i32
-    ensures { λ r. ⌜ r ≡ valueBelow (now (tables .entry)) (simpleTerm (now (tables .entry)) (now (tally .entry)) clock parameters) lower k ⌝ }
+    ensures { λ r. ⌜ r ≡ valueBelow (now (tables .entry)) (simpleTerm (now (tables .entry)) (now (tally .entry)) clock (now (parameters .entry))) lower k ⌝ }
 {
     let k = k as usize;
     if lower <= k {
@@ -167,6 +187,9 @@ fn value(
     }
     let at = VALUES + VALUE_WIDTH * k;
     let count = number(tables, at);
+    if TABLES <= at + 1 {
+        return 0;
+    }
     let whole = sum(
         tables,
         tally,
@@ -176,37 +199,38 @@ fn value(
         Model::MAX_BRACKETS,
         count,
         0,
-        at + 1,
+        (at + 1) as u32,
     );
-    whole.worth
+    worth_of(whole)
 }
 
 // A term of a block, by the position of its tag. The first `values` values may be named.
 pub fn term_at(
-    tables: &[u32],
-    tally: &[u64],
+    tables: &[u32; TABLES],
+    tally: &[u64; TALLY],
     values: usize,
     clock: u64,
-    parameters: Parameters,
+    parameters: &[u32; Model::PARAMETERS],
     at: usize,
 ) -> i32
-    ensures { λ r. ⌜ r ≡ termAt (now (tables .entry)) (now (tally .entry)) values clock parameters at ⌝ }
+    requires { ⌜ at ≤ most32 ⌝ }
+    ensures { λ r. ⌜ r ≡ termAt (now (tables .entry)) (now (tally .entry)) values clock (now (parameters .entry)) at ⌝ }
 {
-    let t = term(tables, tally, clock, parameters, values, 0, at);
-    t.worth
+    let t = term(tables, tally, clock, parameters, values, 0, at as u32);
+    worth_of(t)
 }
 
 // Left, relation and right of a WAITIF or an IF, by the position of the left term's tag.
 pub fn compare_at(
-    tables: &[u32],
-    tally: &[u64],
+    tables: &[u32; TABLES],
+    tally: &[u64; TALLY],
     values: usize,
     clock: u64,
-    parameters: Parameters,
+    parameters: &[u32; Model::PARAMETERS],
     at: usize,
 ) -> bool
-    requires { ⌜ at ≤ length (now tables) ⌝ }
-    ensures { λ r. ⌜ r ≡ compareAt (now (tables .entry)) (now (tally .entry)) values clock parameters at ⌝ }
+    requires { ⌜ at ≤ tablesSize ⌝ }
+    ensures { λ r. ⌜ r ≡ compareAt (now (tables .entry)) (now (tally .entry)) values clock (now (parameters .entry)) at ⌝ }
 {
     let left = term_at(tables, tally, values, clock, parameters, at);
     let right = term_at(tables, tally, values, clock, parameters, at + RIGHT);

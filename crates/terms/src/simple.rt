@@ -1,5 +1,4 @@
 // Terms of tags 0 to 8: a tag and a number, with no sum inside.
-use crate::Parameters;
 use crate::wrapping::low_signed;
 use crate::wrapping::signed;
 use machine::Model;
@@ -8,6 +7,8 @@ use tables::CONTENT;
 use tables::ENTRIES;
 use tables::IN_USE;
 use tables::SERVERS;
+use tables::TABLES;
+use tables::TALLY;
 use tables::count;
 use tables::number;
 ghost use mathlib.Core.Path.{_≡_};
@@ -17,13 +18,13 @@ ghost use lib.IntN.{negℤ};
 ghost use Rattle.machine.specs.Term.{oneIf};
 ghost use Rattle.tables.specs.Layout as Layout;
 ghost use Rattle.terms.specs.Evaluation as Evaluation;
-ghost use Rattle.terms.specs.Evaluation.{within, parameterBits, servers, freeUnits, simpleTerm};
+ghost use Rattle.terms.specs.Evaluation.{within, servers, freeUnits, simpleTerm};
 
 // the first number that is no positive one of 32 bits with a sign
 const POSITIVE_END: u64 = 2_147_483_648;
 
 // Number n of a part of the tally that begins at `begin` and has `size` of them; 0 if there is none.
-fn tallied(tally: &[u64], begin: usize, size: usize, n: u32) -> u64
+fn tallied(tally: &[u64; TALLY], begin: usize, size: usize, n: u32) -> u64
     requires { ⌜ begin ≤ Layout.tallySize ⌝ }
     ensures { λ r. ⌜ r ≡ within (now (tally .entry)) begin size n ⌝ }
 {
@@ -44,21 +45,8 @@ fn minus(n: u64) -> i32
     0 - small(n)
 }
 
-// The bits of parameter k (from 0); 0 if there is none.
-fn parameter(p: Parameters, k: u32) -> u32
-    ensures { λ r. ⌜ r ≡ parameterBits p k ⌝ }
-{
-    match k {
-        0 => p.p1,
-        1 => p.p2,
-        2 => p.p3,
-        3 => p.p4,
-        _ => 0,
-    }
-}
-
 // The capacity of server v (from 0).
-fn capacity(tables: &[u32], v: u32) -> u64
+fn capacity(tables: &[u32; TABLES], v: u32) -> u64
     ensures { λ r. ⌜ r ≡ within (now (tables .entry)) Layout.capacities servers v ⌝ }
 {
     let i = v as usize;
@@ -70,7 +58,7 @@ fn capacity(tables: &[u32], v: u32) -> u64
 }
 
 // The units free of server v (from 0).
-fn free(tables: &[u32], tally: &[u64], v: u32) -> u64
+fn free(tables: &[u32; TABLES], tally: &[u64; TALLY], v: u32) -> u64
     ensures { λ r. ⌜ r ≡ freeUnits (now (tables .entry)) (now (tally .entry)) v ⌝ }
 {
     let whole = capacity(tables, v);
@@ -79,7 +67,7 @@ fn free(tables: &[u32], tally: &[u64], v: u32) -> u64
 }
 
 // Is server v (from 0) in use? 1 or 0.
-fn in_use(tally: &[u64], v: u32) -> i32
+fn in_use(tally: &[u64; TALLY], v: u32) -> i32
     ensures { λ r. ⌜ r ≡ oneIf (ltb 0 (within (now (tally .entry)) Layout.inUse servers v)) ⌝ }
 {
     if 0 < tallied(tally, IN_USE, SERVERS, v) {
@@ -91,19 +79,19 @@ fn in_use(tally: &[u64], v: u32) -> i32
 
 // Tags 0 to 8; any other counts as 8.
 pub fn simple_term(
-    tables: &[u32],
-    tally: &[u64],
+    tables: &[u32; TABLES],
+    tally: &[u64; TALLY],
     clock: u64,
-    parameters: Parameters,
+    parameters: &[u32; Model::PARAMETERS],
     tag: u32,
     n: u32,
 ) -> i32
-    ensures { λ r. ⌜ r ≡ simpleTerm (now (tables .entry)) (now (tally .entry)) clock parameters tag n ⌝ }
+    ensures { λ r. ⌜ r ≡ simpleTerm (now (tables .entry)) (now (tally .entry)) clock (now (parameters .entry)) tag n ⌝ }
 {
     match tag {
         0 => small(n as u64),
         1 => minus(n as u64),
-        2 => signed(parameter(parameters, n)),
+        2 => signed(number(parameters, n as usize)),
         3 => low_signed(clock),
         4 => small(tallied(tally, ENTRIES, Model::MAX_BLOCKS, n)),
         5 => small(tallied(tally, CONTENT, Model::MAX_QUEUES, n)),

@@ -11,29 +11,29 @@ use rows::cells::read;
 use state::Scalars;
 use state::less32;
 use tables::BLOCK_WIDTH;
+use tables::TABLES;
+use tables::TALLY;
 ghost use mathlib.Core.Path.{_≡_};
 ghost use Prim.Native.Nat.{_+_, _<_, _≤_};
 ghost use Rattle.machine.specs.Limits.{maxBlocks, maxFacilities, maxQueues, maxStorages};
-ghost use Rattle.tables.specs.Layout.{Tables};
 ghost use Rattle.rows.specs.Layout.{Room, rowCount};
 ghost use Rattle.state.specs.Stands.{rowsOf};
 ghost use Rattle.turn.specs.Turn.{traced, act, actMoving, turn};
 
 // The moving transaction, with this number and next block, executes that block, and its record is noted.
 fn act(
-    tables: &[u32],
+    tables: &[u32; TABLES],
     values: usize,
     facilities: usize,
     tape: &[u8],
     work: &mut [u32],
-    tally: &mut [u64],
+    tally: &mut [u64; TALLY],
     trace: &mut [u8],
     x: Scalars,
     number: u32,
     block: u32,
 ) -> Scalars
     requires { ⌜ facilities ≤ maxFacilities ⌝ }
-    requires { ⌜ Tables (now tables) ⌝ }
     requires { ⌜ Room (now work) ⌝ }
     requires { ⌜ x .moving < rowCount ⌝ }
     ensures { λ r. ⌜ traced (rowsOf r (now (work .exit)) (now (tally .exit))) (now (trace .exit)) ≡ act (now (tables .entry)) values facilities (now (tape .entry)) (now (work .entry)) (now (tally .entry)) (now (trace .entry)) x number block ⌝ }
@@ -57,17 +57,16 @@ fn act(
 
 // Who moves, if somebody does, executes its block.
 fn act_moving(
-    tables: &[u32],
+    tables: &[u32; TABLES],
     values: usize,
     facilities: usize,
     tape: &[u8],
     work: &mut [u32],
-    tally: &mut [u64],
+    tally: &mut [u64; TALLY],
     trace: &mut [u8],
     x: Scalars,
 ) -> Scalars
     requires { ⌜ facilities ≤ maxFacilities ⌝ }
-    requires { ⌜ Tables (now tables) ⌝ }
     requires { ⌜ Room (now work) ⌝ }
     ensures { λ r. ⌜ traced (rowsOf r (now (work .exit)) (now (tally .exit))) (now (trace .exit)) ≡ actMoving (now (tables .entry)) values facilities (now (tape .entry)) (now (work .entry)) (now (tally .entry)) (now (trace .entry)) x ⌝ }
 {
@@ -93,10 +92,10 @@ fn act_moving(
 
 pub fn turn(
     model: Model,
-    tables: &[u32],
+    tables: &[u32; TABLES],
     tape: &[u8],
     work: &mut [u32],
-    tally: &mut [u64],
+    tally: &mut [u64; TALLY],
     trace: &mut [u8],
     x: Scalars,
 ) -> Scalars
@@ -104,7 +103,6 @@ pub fn turn(
     requires { ⌜ model .storages ≤ maxStorages ⌝ }
     requires { ⌜ model .queues ≤ maxQueues ⌝ }
     requires { ⌜ model .blocks ≤ maxBlocks ⌝ }
-    requires { ⌜ Tables (now tables) ⌝ }
     requires { ⌜ Room (now work) ⌝ }
     ensures { λ r. ⌜ traced (rowsOf r (now (work .exit)) (now (tally .exit))) (now (trace .exit)) ≡ turn model (now (tables .entry)) (now (tape .entry)) (now (work .entry)) (now (tally .entry)) (now (trace .entry)) x ⌝ }
 {

@@ -1,14 +1,11 @@
--- `sums::show_all` meets its contract. The loop's invariant: the tables keep their length, and `k` is at most 8. The measure is
--- what is left of 8.
+-- `sums::show_all` meets its contract. The loop's invariant: `k` is at most 8. The measure is what is left of 8.
 use Prim.Native.Nat.{_-_, _≤_}
-use mathlib.Core.Path.{_≡_}
-use lib.ListN.{length}
 use borrow.Author.Needs.{needs}
 use Rattle.sums.proofs.show_all.Statement.{statement}
 use Rattle.sums.proofs.show_all.Tie as tie
 
 abbrev Inv-loop : tie.InvT-loop
-Inv-loop tables₀ tally k₀ tables k = (length tables ≡ length tables₀) × (k ≤ 8)
+Inv-loop tables₀ tally k₀ tables k = k ≤ 8
 
 abbrev μ-loop : tie.MeasureT-loop
 μ-loop tables₀ tally k₀ tables k = 8 - k
@@ -31,9 +28,6 @@ loop-again c = search needs
 show-comparison-requires : tie.Need-show-comparison-requires Inv-loop μ-loop
 show-comparison-requires c κs = search needs
 
-same-length : tie.Need-same-length Inv-loop μ-loop
-same-length c = search needs
-
 returns : tie.Need-returns Inv-loop μ-loop
 returns c = search needs
 
@@ -49,5 +43,4 @@ show-all-spec =
     loop-less
     loop-again
     show-comparison-requires
-    same-length
     returns)

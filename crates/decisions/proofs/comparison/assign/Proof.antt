@@ -25,7 +25,7 @@ same-length c = search needs
 
 returns : tie.Need-returns
 unfolding assign
-returns c = c .before .before .go-on .ensures ∙ rw (c .before .before .before .before .before .before .set-parameter .ensures, c .before .before .before .before .before .before .before .number .ensures, c .before .before .before .before .before .before .before .before .before .worth .ensures)
+returns c = c .before .before .go-on .ensures ∙ rw (c .before .before .before .before .before .before .set-parameter .ensures, c .before .before .before .before .before .before .before .number .ensures, c .before .before .before .before .before .before .before .before .before .before .worth .ensures)
 
 pub assign-spec : {M : Type 1} → statement M
 assign-spec =

@@ -22,7 +22,7 @@ same-length c = search needs
 
 returns : tie.Need-returns
 unfolding branch
-returns c = rw (← c .before .before .before .before .before .before .holds .ensures, c .before .before .before .before .before .if1 .taken) (c .before .before .go-to .ensures ∙ rw (c .before .before .before .number .ensures))
+returns c = rw (← c .before .before .before .before .before .before .before .holds .ensures, c .before .before .before .before .before .before .if1 .taken) (c .before .before .go-to .ensures ∙ rw (c .before .before .before .number .ensures))
 
 go-on-requires : tie.Need-go-on-requires
 go-on-requires c κs = search needs

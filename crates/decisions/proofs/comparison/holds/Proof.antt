@@ -16,7 +16,7 @@ compare-at-requires c κs = search needs
 
 returns : tie.Need-returns
 unfolding holdsAt
-returns c = c .compare-at .ensures ∙ rw (c .before .parameters-of .ensures)
+returns c = c .compare-at .ensures ∙ rw (c .before .before .parameters-of .ensures)
 
 pub holds-spec : {M : Type 1} → statement M
 holds-spec =

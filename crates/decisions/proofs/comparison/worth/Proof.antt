@@ -20,7 +20,7 @@ bits-requires c κs = search needs
 
 returns : tie.Need-returns
 unfolding worthAt
-returns c = let worth = back _ (c .before .term-at .ok) ∙ c .before .term-at .ensures in c .bits .ensures ∙ rw (worth, c .before .before .parameters-of .ensures)
+returns c = let worth = back _ (c .before .term-at .ok) ∙ c .before .term-at .ensures in c .bits .ensures ∙ rw (worth, c .before .before .before .parameters-of .ensures)
 
 pub worth-spec : {M : Type 1} → statement M
 worth-spec =

@@ -21,7 +21,7 @@ number-requires c κs = search needs
 
 returns-2 : tie.Need-returns-2
 unfolding leaves
-returns-2 c = rw (← c .before .before .before .block-of .ensures, lt-ltb _ _ (c .before .before .if1 .left), ← c .before .number .ensures, ne-eqb _ 9 (c .if2 .taken))
+returns-2 c = rw (← c .before .before .before .before .block-of .ensures, lt-ltb _ _ (c .before .before .before .if1 .left), ← c .before .number .ensures, ne-eqb _ 9 (c .if2 .taken))
 
 holds-requires : tie.Need-holds-requires
 unfolding blockOf
@@ -29,7 +29,7 @@ holds-requires c κs = (omega arith, omega arith)
 
 returns-3 : tie.Need-returns-3
 unfolding leaves
-returns-3 c = rw (← c .before .before .before .before .block-of .ensures, lt-ltb _ _ (c .before .before .before .if1 .left), ← c .before .before .number .ensures, eq-eqb _ 9 (c .before .if2 .left), ← c .holds .ensures)
+returns-3 c = rw (← c .before .before .before .before .before .block-of .ensures, lt-ltb _ _ (c .before .before .before .before .if1 .left), ← c .before .before .number .ensures, eq-eqb _ 9 (c .before .if2 .left), ← c .holds .ensures)
 
 pub leaves-spec : {M : Type 1} → statement M
 leaves-spec =

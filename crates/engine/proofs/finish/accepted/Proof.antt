@@ -5,17 +5,11 @@ use borrow.Author.Needs.{needs}
 use Rattle.engine.proofs.finish.accepted.Statement.{statement}
 use Rattle.engine.proofs.finish.accepted.Tie as tie
 
-slice-aggregate-play : tie.Need-slice-aggregate-play
-slice-aggregate-play c = search needs
-
 play-requires : tie.Need-play-requires
 play-requires c κs = search needs
 
-slice-aggregate-write-report : tie.Need-slice-aggregate-write-report
-slice-aggregate-write-report c = search needs
-
-write-report-requires : tie.Need-write-report-requires
-write-report-requires c κs = search needs
+reported-requires : tie.Need-reported-requires
+reported-requires c κs = search needs
 
 ended-requires : tie.Need-ended-requires
 ended-requires c κs = search needs
@@ -32,16 +26,14 @@ same-length-3 c = search needs
 returns : tie.Need-returns
 unfolding lastRows
 returns c =
-    finishes _ _ _ _ _ _ _ _ _ _ _ (c .before .before .before .before .before .before .before .before .before .before .before .before .before .play .ensures) (c .ended .ensures) (c .before .before .before .write-report .ensures)
+    finishes _ _ _ _ _ _ _ _ _ _ _ (c .before .before .before .before .before .before .before .before .before .before .before .play .ensures) (c .ended .ensures) (c .before .before .before .reported .ensures)
 
 pub accepted-spec : {M : Type 1} → statement M
 accepted-spec =
     tie.close
     (tie.spec
-    slice-aggregate-play
     play-requires
-    slice-aggregate-write-report
-    write-report-requires
+    reported-requires
     ended-requires
     same-length
     same-length-2

@@ -16,13 +16,13 @@ abbrev Inv-loop : tie.InvT-loop
 Inv-loop model tables tape budget work₀ tally₀ trace₀ y₀ left₀ work tally trace y left =
     (turnsFrom model tables tape budget (length trace₀) left (traced (rowsOf y work tally) trace)
     ≡ turnsFrom model tables tape budget (length trace₀) left₀ (traced (rowsOf y₀ work₀ tally₀) trace₀))
-    × (length work ≡ length work₀) × (length tally ≡ length tally₀) × (length trace ≡ length trace₀)
+    × (length work ≡ length work₀) × (length trace ≡ length trace₀)
 
 abbrev μ-loop : tie.MeasureT-loop
 μ-loop model tables tape budget work₀ tally₀ trace₀ y₀ left₀ work tally trace y left = left
 
 loop-holds : tie.Need-loop-holds Inv-loop μ-loop
-loop-holds c = (refl, refl, refl, refl)
+loop-holds c = (refl, refl, refl)
 
 end-before-requires : tie.Need-end-before-requires Inv-loop μ-loop
 end-before-requires c κs = tt
@@ -33,13 +33,10 @@ same-length c = c .before .before .before .before .loop .inv .1
 same-length-2 : tie.Need-same-length-2 Inv-loop μ-loop
 same-length-2 c = c .before .before .before .before .loop .inv .2
 
-same-length-3 : tie.Need-same-length-3 Inv-loop μ-loop
-same-length-3 c = c .before .before .before .before .loop .inv .3
-
 returns : tie.Need-returns Inv-loop μ-loop
 returns c =
     let at = c .before .before .before .before .loop in
-    let told = c .before .end-before .ensures ∙ ap (endRows (at .work) (at .y) (c .before .before .before .before .before .before .before .before .before .before .args .budget)) (at .inv .3) in
+    let told = c .before .end-before .ensures ∙ ap (endRows (at .work) (at .y) (c .before .before .before .before .before .before .before .before .args .budget)) (at .inv .2) in
     sym (turns-off _ _ _ _ _ _ _ _ _ (at .left) _ (omega arith) told (c .if1 .taken)) ∙ at .inv .0
 
 turn-requires : tie.Need-turn-requires Inv-loop μ-loop
@@ -53,23 +50,19 @@ loop-less c = omega arith
 
 loop-again : tie.Need-loop-again Inv-loop μ-loop
 loop-again c =
-    let at = c .before .before .before .before .before .before .before .before .before .before .before .before .before .before .loop in
-    let call = c .before .before .before .before .before .before .turn in
-    let told = c .before .before .before .before .before .before .before .before .before .before .before .end-before .ensures ∙ ap (endRows (at .work) (at .y) (c .before .before .before .before .before .before .before .before .before .before .before .before .before .before .before .before .before .before .before .before .args .budget)) (at .inv .3) in (
-      turns-on _ _ _ _ _ _ _ _ _ (at .left) _ (omega arith) told (c .before .before .before .before .before .before .before .before .before .before .if1 .left) _ _ (call .ensures) (at .inv .0),
+    let at = c .before .before .before .before .before .before .before .before .before .before .before .before .loop in
+    let call = c .before .before .before .before .turn in
+    let told = c .before .before .before .before .before .before .before .before .before .end-before .ensures ∙ ap (endRows (at .work) (at .y) (c .before .before .before .before .before .before .before .before .before .before .before .before .before .before .before .before .args .budget)) (at .inv .2) in (
+      turns-on _ _ _ _ _ _ _ _ _ (at .left) _ (omega arith) told (c .before .before .before .before .before .before .before .before .if1 .left) _ _ (call .ensures) (at .inv .0),
       call .kept .1 .1 .1 .0 ∙ at .inv .1,
-      call .kept .1 .1 .1 .1 .0 ∙ at .inv .2,
-      call .kept .1 .1 .1 .1 .1 .0 ∙ at .inv .3,
+      call .kept .1 .1 .1 .1 .1 .0 ∙ at .inv .2,
     )
 
+same-length-3 : tie.Need-same-length-3 Inv-loop μ-loop
+same-length-3 c = c .before .loop .inv .1
+
 same-length-4 : tie.Need-same-length-4 Inv-loop μ-loop
-same-length-4 c = c .before .loop .inv .1
-
-same-length-5 : tie.Need-same-length-5 Inv-loop μ-loop
-same-length-5 c = c .before .loop .inv .2
-
-same-length-6 : tie.Need-same-length-6 Inv-loop μ-loop
-same-length-6 c = c .before .loop .inv .3
+same-length-4 c = c .before .loop .inv .2
 
 returns-2 : tie.Need-returns-2 Inv-loop μ-loop
 returns-2 c =
@@ -86,13 +79,11 @@ turns-spec =
     end-before-requires
     same-length
     same-length-2
-    same-length-3
     returns
     turn-requires
     sub-left
     loop-less
     loop-again
+    same-length-3
     same-length-4
-    same-length-5
-    same-length-6
     returns-2)

@@ -27,8 +27,8 @@ related-requires c κs = search needs
 returns : tie.Need-returns
 unfolding compareAt
 returns c =
-    let left = back _ (c .before .before .before .term-at .ok) ∙ c .before .before .before .term-at .ensures in
-    let right = back _ (c .before .before .term-at2 .ok) ∙ c .before .before .term-at2 .ensures in
+    let left = back _ (c .before .before .before .before .term-at .ok) ∙ c .before .before .before .before .term-at .ensures in
+    let right = back _ (c .before .before .before .term-at2 .ok) ∙ c .before .before .before .term-at2 .ensures in
     c .related .ensures ∙ rw (left, right, c .before .number .ensures)
 
 pub compare-at-spec : {M : Type 1} → statement M

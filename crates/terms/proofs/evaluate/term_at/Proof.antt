@@ -1,21 +1,24 @@
 -- `terms::evaluate::term_at` meets its contract: what `term` gives where no bracket may open.
-use mathlib.Core.Path.{_≡_, ap, _∙_}
-use mir.Syntax.{w32}
-use mir.Val.{toZ, ofZ}
+use mathlib.Core.Path.{ap, _∙_}
 use borrow.Author.Needs.{needs}
-use Rattle.terms.specs.declared.Worth.{Worth}
-use Rattle.terms.specs.Evaluation.{termAt}
+use Rattle.terms.specs.Evaluation.{Worth, termAt}
+use Rattle.terms.proofs.Signs.{back}
 use Rattle.terms.proofs.evaluate.term_at.Statement.{statement}
 use Rattle.terms.proofs.evaluate.term_at.Tie as tie
+
+cast-term : tie.Need-cast-term
+cast-term c = search needs
 
 term-requires : tie.Need-term-requires
 term-requires c κs = search needs
 
+worth-of-requires : tie.Need-worth-of-requires
+worth-of-requires c κs = search needs
+
 returns : tie.Need-returns
 unfolding termAt
 returns c =
-    let told : toZ w32 (ofZ w32 (c .before .term .result .worth)) ≡ c .before .term .result .worth = search needs in
-    told ∙ ap (λ (w : Worth). w .worth) (c .before .term .ensures)
+    back _ (c .worth-of .ok) ∙ c .worth-of .ensures ∙ ap (λ (w : Worth). w .worth) (c .before .term .ensures)
 
 pub term-at-spec : {M : Type 1} → statement M
-term-at-spec = tie.close (tie.spec term-requires returns)
+term-at-spec = tie.close (tie.spec cast-term term-requires worth-of-requires returns)

@@ -17,7 +17,7 @@ cast-result c = search needs
 
 returns : tie.Need-returns
 unfolding within
-returns c = c .number .ensures ∙ rw (lt-ltb _ _ (c .before .if1 .taken))
+returns c = c .number .ensures ∙ rw (lt-ltb _ _ (c .before .before .if1 .taken))
 
 returns-2 : tie.Need-returns-2
 unfolding within

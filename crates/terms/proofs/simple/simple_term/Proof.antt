@@ -14,8 +14,8 @@ small-requires c κs = search needs
 minus-requires : tie.Need-minus-requires
 minus-requires c κs = search needs
 
-parameter-requires : tie.Need-parameter-requires
-parameter-requires c κs = search needs
+number-requires : tie.Need-number-requires
+number-requires c κs = search needs
 
 signed-requires : tie.Need-signed-requires
 signed-requires c κs = search needs
@@ -60,7 +60,7 @@ returns-2 c = rw (c .before .match .keys2) (back _ (c .minus .ok) ∙ c .minus .
 
 returns-3 : tie.Need-returns-3
 unfolding simpleTerm
-returns-3 c = rw (c .before .before .match .keys3) (back _ (c .signed .ok) ∙ c .signed .ensures ∙ ap signed (c .before .parameter .ensures))
+returns-3 c = rw (c .before .before .before .match .keys3) (back _ (c .signed .ok) ∙ c .signed .ensures ∙ ap signed (c .before .number .ensures))
 
 returns-4 : tie.Need-returns-4
 unfolding simpleTerm
@@ -104,7 +104,7 @@ simple-term-spec =
     (tie.spec
     small-requires
     minus-requires
-    parameter-requires
+    number-requires
     signed-requires
     low-signed-requires
     tallied-requires

@@ -14,7 +14,7 @@ count-requires c κs = search needs
 
 returns : tie.Need-returns
 unfolding within
-returns c = c .count .ensures ∙ rw (lt-ltb _ _ (c .before .if1 .taken))
+returns c = c .count .ensures ∙ rw (lt-ltb _ _ (c .before .before .if1 .taken))
 
 returns-2 : tie.Need-returns-2
 unfolding within

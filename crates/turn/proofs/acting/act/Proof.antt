@@ -31,12 +31,9 @@ same-length c = search needs
 same-length-2 : tie.Need-same-length-2
 same-length-2 c = search needs
 
-same-length-3 : tie.Need-same-length-3
-same-length-3 c = search needs
-
 returns-2 : tie.Need-returns-2
 unfolding act
-returns-2 c = rw (← c .before .before .before .before .before .before .before .before .before .before .before .before .before .before .before .less32 .ensures, lt-ltb _ 256 (c .before .before .before .before .before .before .before .before .before .before .before .before .before .before .if1 .left)) (note-joined _ _ _ _ _ _ _ _ _ _ (c .before .before .before .before .before .before .before .before .before .before .before .execute .ensures) (c .before .before .before .before .note-record .ensures))
+returns-2 c = rw (← c .before .before .before .before .before .before .before .before .before .before .before .less32 .ensures, lt-ltb _ 256 (c .before .before .before .before .before .before .before .before .before .before .if1 .left)) (note-joined _ _ _ _ _ _ _ _ _ _ (c .before .before .before .before .before .before .before .execute .ensures) (c .before .before .note-record .ensures))
 
 pub act-spec : {M : Type 1} → statement M
 act-spec =
@@ -50,5 +47,4 @@ act-spec =
     note-record-requires
     same-length
     same-length-2
-    same-length-3
     returns-2)

@@ -25,12 +25,9 @@ same-length c = search needs
 same-length-2 : tie.Need-same-length-2
 same-length-2 c = search needs
 
-same-length-3 : tie.Need-same-length-3
-same-length-3 c = search needs
-
 returns-2 : tie.Need-returns-2
 unfolding actMoving
-returns-2 c = rw (lt-ltb _ 1024 (c .before .before .before .before .before .before .before .before .before .before .before .before .before .before .if1 .left)) (c .before .before .before .before .before .before .act .ensures ∙ rw (c .before .before .before .before .before .before .before .before .before .before .before .before .read .ensures, c .before .before .before .before .before .before .before .before .before .before .read2 .ensures))
+returns-2 c = rw (lt-ltb _ 1024 (c .before .before .before .before .before .before .before .before .before .before .before .before .if1 .left)) (c .before .before .before .before .act .ensures ∙ rw (c .before .before .before .before .before .before .before .before .before .before .read .ensures, c .before .before .before .before .before .before .before .before .read2 .ensures))
 
 pub act-moving-spec : {M : Type 1} → statement M
 act-moving-spec =
@@ -42,5 +39,4 @@ act-moving-spec =
     act-requires
     same-length
     same-length-2
-    same-length-3
     returns-2)
