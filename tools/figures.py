@@ -61,13 +61,12 @@ def check_limits_told(values, ends, refusals):
     check(re.findall(r"end (\d+)", told) == asked, f"docs/MANUAL.md: before a turn {told}; Run.antt has {asked}")
     first, second, high, low, whole = re.search(r"`([0-9A-F]{2}) ([0-9A-F]{2})` is (\d+) × 128 \+ (\d+) = (\d+)", MANUAL.read_text()).groups()
     check([int(first, 16) - 128, int(second, 16)] == [int(high), int(low)] and int(high) * 128 + int(low) == int(whole), "docs/MANUAL.md: from bytes to the number")
-    low, high = map(int, re.search(r"(\d+)\.\.(\d+) are spare", (root / "crates/rows/specs/Layout.antt").read_text()).groups())
-    fields = re.findall(r"(\d+) +\| spare:", (root / "crates/rows/specs/Layout.antt").read_text())
+    layout = (root / "crates/rows/specs/Layout.antt").read_text()
+    rows, fields, lists = (int(re.search(rf"^{name} = (\d+)$", layout, re.M)[1]) for name in ("rowCount", "fieldCount", "listCount"))
     servers = values["maxFacilities"] + values["maxStorages"]
     says(
         docs / "ARCHITECTURE.md",
-        f"({low} to {high:,} are spare)",
-        f"({' and '.join(fields)} {'is' if len(fields) == 1 else 'are'} spare)",
+        f"(none of {fields} is spare)",
         f"its {servers} cells in `tables`",
         f"the starts of {stream + 1} streams",
     )
@@ -75,7 +74,7 @@ def check_limits_told(values, ends, refusals):
     covered = [n for low, high in re.findall(r"(\d+)(?: to (\d+))?", listed) for n in range(int(low), int(high or low) + 1)]
     kinds = [int(row[0]) for row in table(MANUAL.read_text(), "Kind", "Example")]
     check(sorted(covered) == kinds, f"docs/ARCHITECTURE.md: the crates of blocks have the kinds {listed}")
-    says(docs / "DECISIONS.md", f"{high - low + 1} lists are spare")
+    says(docs / "DECISIONS.md", f"the {rows - lists} cells behind the heads of the {lists} lists hold hints")
 
 
 def check_grouped(values):

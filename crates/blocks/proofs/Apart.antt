@@ -10,7 +10,8 @@ use lib.Seq.{getD-set-other}
 use Rattle.tables.specs.Layout as Layout
 use Rattle.rows.specs.Layout.{numberField, nextField, interrupted, rowCount}
 use Rattle.rows.specs.Cells.{load, read, priorityOf}
-use Rattle.rows.specs.Lists.{first, loserCell}
+use Rattle.rows.specs.Lists.{first}
+use Rattle.rows.specs.Future.{loser}
 use Rattle.rows.specs.Make.{freeRow}
 use Rattle.state.specs.declared.scalars.Scalars.{Scalars}
 use Rattle.state.specs.Stands.{Rows, rowsOf}
@@ -191,9 +192,9 @@ module _ (tables tape w tally : List ℕ) (x : Scalars) where
   seized-waits : (v number : ℕ) → Stays tally (preemptSeized tables w tally x v number)
   unfolding preemptSeized takeOver
   seized-waits v number =
-      let c : ℕ = loserCell w (holder tally v) (priorityOf w (x .moving)) in
-      either tally (ltb (load w c) rowCount) (holdUnits (interruptOn w (x .clock) v c (load w c)) tally x v (inUse tally v) number 1 (capacity tables v)) (takeUnits tables w tally x v 1 number 1)
-      (held-waits (interruptOn w (x .clock) v c (load w c)) x v (inUse tally v) number 1 (capacity tables v)) (taken-waits v 1 number 1)
+      let j : ℕ = loser w (holder tally v) (priorityOf w (x .moving)) in
+      either tally (ltb j rowCount) (holdUnits (interruptOn w (x .clock) v j) tally x v (inUse tally v) number 1 (capacity tables v)) (takeUnits tables w tally x v 1 number 1)
+      (held-waits (interruptOn w (x .clock) v j) x v (inUse tally v) number 1 (capacity tables v)) (taken-waits v 1 number 1)
 
   preempt-waits : (at : ℕ) → Stays tally (preempt tables w tally x at)
   unfolding preempt

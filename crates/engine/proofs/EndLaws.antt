@@ -12,7 +12,8 @@ use Rattle.machine.specs.State.{State}
 use Rattle.machine.specs.Run.{isNone, isEmpty, nobodyLeft, endBefore}
 use Rattle.rows.specs.Layout.{rel, fel}
 use Rattle.rows.specs.Lists.{first}
-use Rattle.rows.proofs.Take.{Head, nobody, somebody, head-shown, head-fel-shown}
+use Rattle.rows.proofs.Take.{Head, nobody, somebody, head-shown}
+use Rattle.rows.proofs.Later.{head-fel-shown}
 use Rattle.state.specs.Stands.{Rows, listsOf, Moving, Listing, Stands}
 use Rattle.engine.specs.Ends.{nobodyRows, wornRows, fullRows, limitRows, endRows}
 
@@ -46,7 +47,7 @@ pub nobody-left : (work : List ℕ) (moving : ℕ) (s : State) → Listing work 
 unfolding nobodyRows nobodyLeft listsOf
 nobody-left work moving s h =
     let rel-is : ltb (first work rel) 1024 ≡ not (isEmpty (s .rel)) = list-empty (head-shown work _ _ _ (h .shows .shown) rel (omega arith)) in
-    rw (moving-none work moving (s .moving) (h .mover), rel-is, fel-empty (head-fel-shown work _ _ _ (h .shows .shown)))
+    rw (moving-none work moving (s .moving) (h .mover), rel-is, fel-empty (head-fel-shown work _ _ _ (h .shows .shown) (h .shows .ordered .future)))
     (three (isNone (s .moving)) (isEmpty (s .rel)) (isEmpty (s .fel)))
 
 -- ---- The end

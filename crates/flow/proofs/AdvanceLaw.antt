@@ -127,7 +127,7 @@ module _ (m : BlockModel) (tape : List (List ℕ)) (tapeBytes tables lists : Lis
       sent : Follows (sendOn w x time′) 0 none (Moves.toFel time′ t′ s₁)
       unfolding listsOf
       sent =
-          send-follows w x t s₁ (listing-ext w (x .moving) (some t) s₀ s₁ (λ z hz. refl) refl refl (h₀ .listing)) (counting-ext x s₀ s₁ refl refl refl refl refl refl refl (h₀ .counting)) (next-low proper t s sane moving) (omega (arith, sane .serials)) time′
+          send-follows w x t s₁ (listing-ext w (x .moving) (some t) s₀ s₁ (λ z hz. refl) refl refl (h₀ .listing)) (counting-ext x s₀ s₁ refl refl refl refl refl refl refl (h₀ .counting)) (next-low proper t s sane moving) (omega (arith, sane .serials)) time′ (sane .timely .serials)
 
       tallied : Tallying tapeBytes used (Moves.toFel time′ t′ s₁)
       unfolding Moves.toFel

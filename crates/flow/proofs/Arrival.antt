@@ -11,6 +11,7 @@ use Rattle.machine.specs.State.{State}
 use Rattle.machine.specs.Setters.{setMade}
 use Rattle.machine.specs.Moves as Moves
 use Rattle.machine.specs.Limits.{maxClock}
+use Rattle.machine.proofs.Clocks.{Given}
 use Rattle.tables.specs.Layout as Layout
 use Rattle.state.specs.declared.scalars.Scalars.{Scalars}
 use Rattle.state.specs.Stands.{Rows, rowsOf, listsOf, Listing, Serving, Queueing, Sampling, Tallying, Counting, Stands}
@@ -77,7 +78,7 @@ module _ (tapeBytes tally : List ℕ) (s : State) (h : Tallying tapeBytes tally 
 
   -- ---- The new transaction
 
-  module _ (w : List ℕ) (x : Scalars) (o : Option Transaction) (listing : Listing w (x .moving) o s) (counting : Counting x s) (roomy : Roomy s) (p block : ℕ) (small : p ≤ 127) (most : s .view .clock + time ≤ maxClock) where
+  module _ (w : List ℕ) (x : Scalars) (o : Option Transaction) (listing : Listing w (x .moving) o s) (counting : Counting x s) (roomy : Roomy s) (given : Given s) (p block : ℕ) (small : p ≤ 127) (most : s .view .clock + time ≤ maxClock) where
     abbrev s₁ : State
     s₁ = Moves.useTime list s
 
@@ -91,7 +92,7 @@ module _ (tapeBytes tally : List ℕ) (s : State) (h : Tallying tapeBytes tally 
     unfolding listsOf
     follows =
         born-follows w x o s₁ (listing-ext w (x .moving) o s s₁ (λ q hq. refl) refl refl listing) (counting-ext x s s₁ refl refl refl refl refl refl refl counting)
-        (record { room = roomy .room; order = roomy .order; serials = roomy .serials; numbers = roomy .numbers }) time′ p block small
+        (record { room = roomy .room; order = roomy .order; serials = roomy .serials; numbers = roomy .numbers }) time′ p block small given
 
     tallied : Tallying tapeBytes used later
     unfolding Moves.toFel

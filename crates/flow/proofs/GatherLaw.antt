@@ -24,7 +24,7 @@ use Rattle.tables.specs.Represents.{Represents}
 use Rattle.rows.specs.Layout.{head, rel}
 use Rattle.rows.specs.Cells.{load, read, write, setReturning}
 use Rattle.rows.specs.Lists.{removeAt, put, familyCell}
-use Rattle.rows.specs.Lines.{lineSpot, lineUp}
+use Rattle.rows.specs.Lines.{lineUp}
 use Rattle.rows.specs.Make.{freeRow}
 use Rattle.rows.specs.Holds.{transactionAt, ending, update}
 use Rattle.rows.specs.Ordered.{All}
@@ -158,7 +158,7 @@ module _ (m : BlockModel) (tape : List (List ℕ)) (tapeBytes tables lists : Lis
     w₂ = write w₁ 7 (x .moving) (suc (s .serial))
 
     gather-is : gatherOn w x p ≡ moved (putNote 1 (putSerial (suc (s .serial)) (putMoving 1024 x))) (put w₂ p (x .moving))
-    unfolding gatherOn beginWait lineUp lineSpot put
+    unfolding gatherOn beginWait lineUp
     gather-is = rw serial-is
 
     g₁ : Listing w₁ (x .moving) (some (withNext 1 t)) s₀
@@ -299,10 +299,10 @@ module _ (m : BlockModel) (tape : List (List ℕ)) (tapeBytes tables lists : Lis
     v₄ = write v₃ 7 k (suc (s .serial))
 
     removed-row : transactionAt v₁ k ≡ transactionAt w k
-    removed-row = transaction-kept w v₁ k (same-row w v₁ k row (remove-keeps w L (listing .shows .shown .holds) p k a e (omega (arith, few)) row was .rows))
+    removed-row = transaction-kept w v₁ k (same-row w v₁ k row (remove-keeps w L (listing .shows .shown .holds) p k a e (omega (arith, few)) (λ z. omega (arith, few)) row was .rows))
 
     room₁ : 16384 ≤ length v₁
-    room₁ = remove-holds w L (listing .shows .shown .holds) p k a e (omega (arith, few)) row was .room
+    room₁ = remove-holds w L (listing .shows .shown .holds) p k a e (omega (arith, few)) (λ z. omega (arith, few)) row was .room
 
     written₄ : Written v₁ v₄ k
     written₄ =
@@ -424,7 +424,7 @@ module _ (m : BlockModel) (tape : List (List ℕ)) (tapeBytes tables lists : Lis
   pub assemble-done : Done tapeBytes (assembleRows tables (m .facilities) (r .work) (r .tally) (r .scalars) (8 * (t .next - 1))) (bareAnswer (question m b t s) m b t s)
   assemble-done =
       subst (λ (rows : Rows). Done tapeBytes rows (bareAnswer (question m b t s) m b t s)) (sym rows-are)
-      (go (kin-of w p (t .family) (L p) (listing .shows .shown .holds .listed p (omega (arith, few)))))
+      (go (kin-of w p (t .family) (λ z. omega (arith, few)) (L p) (listing .shows .shown .holds .listed p (omega (arith, few)))))
     where
       go : Kin w p (t .family) (L p) → Done tapeBytes (gatherRows (m .facilities) w tally x n p c) (bareAnswer (question m b t s) m b t s)
       go (nobody apart far) = unfold gatherRows in

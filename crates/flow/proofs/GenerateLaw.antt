@@ -154,11 +154,11 @@ module _ (m : BlockModel) (tape : List (List ℕ)) (tapeBytes tables lists : Lis
 
       new-stands : Stands tapeBytes (arrives w′ tally x′ sample (list - 1) p (t .next)) (some t′) (Moves.arrival (time ∷ left) list p (t .next) s₀)
       new-stands =
-          arrives-stands tapeBytes tally s₀ (h₀ .tallying) list (named .0 .0) there few time left e w′ x′ (some t′) (go-to-listing w x t s₀ (h₀ .listing) (suc (t .next))) (go-to-counting w x (suc (t .next)) s₀ (h₀ .counting)) roomy p (t .next) (named .1) (says .1)
+          arrives-stands tapeBytes tally s₀ (h₀ .tallying) list (named .0 .0) there few time left e w′ x′ (some t′) (go-to-listing w x t s₀ (h₀ .listing) (suc (t .next))) (go-to-counting w x (suc (t .next)) s₀ (h₀ .counting)) roomy (sane .timely .serials) p (t .next) (named .1) (says .1)
 
       new-note : arrives w′ tally x′ sample (list - 1) p (t .next) .scalars .note ≡ 0
       new-note =
-          arrives-note tapeBytes tally s₀ (h₀ .tallying) list (named .0 .0) there few time left e w′ x′ (some t′) (go-to-listing w x t s₀ (h₀ .listing) (suc (t .next))) (go-to-counting w x (suc (t .next)) s₀ (h₀ .counting)) roomy p (t .next) (named .1) (says .1)
+          arrives-note tapeBytes tally s₀ (h₀ .tallying) list (named .0 .0) there few time left e w′ x′ (some t′) (go-to-listing w x t s₀ (h₀ .listing) (suc (t .next))) (go-to-counting w x (suc (t .next)) s₀ (h₀ .counting)) roomy (sane .timely .serials) p (t .next) (named .1) (says .1)
           ∙ note-is
 
       entered : Done tapeBytes (arrives w′ tally x′ sample (list - 1) p (t .next)) (entering (Moves.goOn t (Moves.arrival (time ∷ left) list p (t .next) s₀)))

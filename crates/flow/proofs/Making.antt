@@ -11,7 +11,8 @@ use Rattle.machine.specs.Lists.{insert}
 use Rattle.machine.specs.State.{State}
 use Rattle.rows.specs.Layout.{place, rel, fel, free}
 use Rattle.rows.specs.Cells.{load}
-use Rattle.rows.specs.Order.{ahead}
+use Rattle.rows.specs.Future.{schedule}
+use Rattle.rows.specs.Order.{outranks, sooner}
 use Rattle.rows.specs.Lists.{put, first, takeFirst}
 use Rattle.rows.specs.Holds.{transactionAt, eventAt, update}
 use Rattle.rows.specs.Shows.{Shows, Loose}
@@ -21,7 +22,8 @@ use Rattle.rows.proofs.Data.{transaction-kept}
 use Rattle.rows.proofs.Showing.{update-same, update-other}
 use Rattle.rows.proofs.Ordering.{shows-ext}
 use Rattle.rows.proofs.Put.{put-keeps}
-use Rattle.rows.proofs.Laws.{shows-put, shows-put-fel}
+use Rattle.rows.proofs.Laws.{Fresh, shows-put, shows-schedule}
+use Rattle.rows.proofs.Scheduling.{schedule-keeps}
 use Rattle.rows.proofs.Take.{First, none, some, first-of, take-keeps, take-loose, take-free-shown}
 use Rattle.rows.proofs.Steady.{Around, around-loose, kept-around}
 use Rattle.rows.proofs.Making.{Written}
@@ -51,7 +53,7 @@ module _ (w : List ℕ) (moving : ℕ) (o : Option Transaction) (s : State) (h :
   k = first w free
 
   firsts : First w free (L free)
-  firsts = first-of w free (L free) (h .shows .shown .holds .listed free (omega arith))
+  firsts = first-of w free (L free) (λ e. omega arith) (h .shows .shown .holds .listed free (omega arith))
 
   pub row-there : k < 1024
   row-there = go firsts
@@ -74,9 +76,9 @@ module _ (w : List ℕ) (moving : ℕ) (o : Option Transaction) (s : State) (h :
       go (some m e n) =
           let d : moving ≢ first w free = apart-from m e o (h .mover) in
           record {
-            shows = record { rows = update free m L; shown = take-free-shown w L (listsOf s) (s .fel) (h .shows .shown) free (omega arith) m e n refl; ordered = h .shows .ordered };
-            row = take-loose w L (h .shows .shown .holds) free (omega arith) m e n;
-            mover = mover-kept w (takeFirst w free) (first w free) moving o d (kept-around w (takeFirst w free) (first w free) (take-keeps w L (h .shows .shown .holds) free (omega arith) m e n)) (h .mover);
+            shows = record { rows = update free m L; shown = take-free-shown w L (listsOf s) (s .fel) (h .shows .shown) free (omega arith) (λ e. omega arith) m e n refl; ordered = h .shows .ordered };
+            row = take-loose w L (h .shows .shown .holds) free (omega arith) (λ e. omega arith) m e n;
+            mover = mover-kept w (takeFirst w free) (first w free) moving o d (kept-around w (takeFirst w free) (first w free) (take-keeps w L (h .shows .shown .holds) free (omega arith) (λ e. omega arith) m e n)) (h .mover);
             apart = d;
             spare = rw (update-same free m L free refl) (omega (arith, h .spare, ap length e));
           }
@@ -96,15 +98,15 @@ making-written w w′ k moving o s a h =
 -- ---- Its list
 
 module _ (w : List ℕ) (k moving : ℕ) (o : Option Transaction) (s s′ : State) (h : Making w k moving o s) (living : s′ .made - s′ .ended ≡ suc (s .made - s .ended)) where
-  pub making-fel : ((q : ℕ) → q < 770 → listsOf s q ≡ listsOf s′ q) → insert earlier (eventAt w k) (s .fel) ≡ s′ .fel → Listing (put w fel k) moving o s′
-  making-fel lists future =
+  pub making-fel : Fresh (transactionAt w k) (s .fel) → ((q : ℕ) → q < 770 → listsOf s q ≡ listsOf s′ q) → insert earlier (eventAt w k) (s .fel) ≡ s′ .fel → Listing (schedule w k) moving o s′
+  making-fel fresh lists future =
       record {
         shows =
-            shows-ext (put w fel k) (listsOf s) (listsOf s′) (insert earlier (eventAt w k) (s .fel)) (s′ .fel) lists future
-            (shows-put-fel w (listsOf s) (s .fel) (h .shows) k (h .row));
-        mover = mover-kept w (put w fel k) k moving o (h .apart) (kept-around w (put w fel k) k (put-keeps w (h .shows .rows) (h .shows .shown .holds) fel k (omega arith) (h .row))) (h .mover);
+            shows-ext (schedule w k) (listsOf s) (listsOf s′) (insert earlier (eventAt w k) (s .fel)) (s′ .fel) lists future
+            (shows-schedule w (listsOf s) (s .fel) (h .shows) k (h .row) fresh);
+        mover = mover-kept w (schedule w k) k moving o (h .apart) (kept-around w (schedule w k) k (schedule-keeps w (h .shows .rows) (h .shows .shown .holds) k (h .row))) (h .mover);
         spare =
-            rw (update-other fel (insert (ahead w fel) k (h .shows .rows fel)) (h .shows .rows) free (λ e. omega arith), living) (omega (arith, h .spare));
+            rw (update-other fel (insert (sooner w) k (h .shows .rows fel)) (h .shows .rows) free (λ e. omega arith), living) (omega (arith, h .spare));
       }
 
   pub making-rel : ((q : ℕ) → q < 770 → update rel (insert precedes (transactionAt w k) (listsOf s rel)) (listsOf s) q ≡ listsOf s′ q) → s .fel ≡ s′ .fel → Listing (put w rel k) moving o s′
@@ -113,7 +115,7 @@ module _ (w : List ℕ) (k moving : ℕ) (o : Option Transaction) (s s′ : Stat
         shows =
             shows-ext (put w rel k) (update rel (insert precedes (transactionAt w k) (listsOf s rel)) (listsOf s)) (listsOf s′) (s .fel) (s′ .fel) lists future
             (shows-put w (listsOf s) (s .fel) (h .shows) k (h .row) rel (omega arith) (h .shows .ordered .lists rel (omega arith)));
-        mover = mover-kept w (put w rel k) k moving o (h .apart) (kept-around w (put w rel k) k (put-keeps w (h .shows .rows) (h .shows .shown .holds) rel k (omega arith) (h .row))) (h .mover);
+        mover = mover-kept w (put w rel k) k moving o (h .apart) (kept-around w (put w rel k) k (put-keeps w (h .shows .rows) (h .shows .shown .holds) rel k (omega arith) (λ e. omega arith) (h .row))) (h .mover);
         spare =
-            rw (update-other rel (insert (ahead w rel) k (h .shows .rows rel)) (h .shows .rows) free (λ e. omega arith), living) (omega (arith, h .spare));
+            rw (update-other rel (insert (outranks w) k (h .shows .rows rel)) (h .shows .rows) free (λ e. omega arith), living) (omega (arith, h .spare));
       }

@@ -12,11 +12,14 @@ use Rattle.machine.specs.Lists.{insert}
 use Rattle.machine.specs.State.{State}
 use Rattle.machine.specs.Setters.{withSerial, withStamp, setMade}
 use Rattle.machine.specs.Moves.{toRel, toFel, copyOf}
-use Rattle.rows.specs.Layout.{rel, fel, free}
+use Rattle.machine.proofs.Clocks.{Given}
+use Rattle.rows.specs.Layout.{rel, free}
 use Rattle.rows.specs.Cells.{write, setTime}
 use Rattle.rows.specs.Lists.{put, first, takeFirst}
+use Rattle.rows.specs.Future.{schedule}
 use Rattle.rows.specs.Make.{newbornAt, copyAt}
 use Rattle.rows.specs.Holds.{transactionAt, eventAt, update}
+use Rattle.rows.proofs.Laws.{fresh-given}
 use Rattle.rows.proofs.Fields.{write-serial, write-time}
 use Rattle.rows.proofs.Making.{written, time-written, newborn-written, copied-written}
 use Rattle.rows.proofs.Newborn.{newborn-is, copy-is}
@@ -81,7 +84,7 @@ module _ (w : List ℕ) (x : Scalars) (o : Option Transaction) (s : State) (list
     abbrev w₃ : List ℕ
     w₃ = setTime w₂ k time
 
-    born-is : born w x time p block ≡ moved scalars′ (put w₃ fel k)
+    born-is : born w x time p block ≡ moved scalars′ (schedule w₃ k)
     unfolding born bornAt toFuture
     born-is =
         let e : p % 128 ≡ p = omega arith in
@@ -105,13 +108,17 @@ module _ (w : List ℕ) (x : Scalars) (o : Option Transaction) (s : State) (list
         ∙ ap event (write-serial w₁ k (g₁ .shows .shown .holds .room) hk (suc (s .serial)))
         ∙ ap (λ (u : Transaction). event (withSerial (suc (s .serial)) u)) (newborn-is w₀ k (g₀ .shows .shown .holds .room) hk (suc (s .made)) p block)
 
+    serial-given : transactionAt w₃ k .serial ≡ suc (s .serial)
+    unfolding eventAt
+    serial-given = ap (λ (e : Event). e .who .serial) event-is
+
     abbrev later : State
     later = toFel time t (setMade (suc (s .made)) s)
 
-    on-fel : Listing (put w₃ fel k) (x .moving) o later
+    on-fel : Given s → Listing (schedule w₃ k) (x .moving) o later
     unfolding toFel listsOf
-    on-fel =
-        making-fel w₃ k (x .moving) o s later g₃ (omega (arith, roomy .order)) (λ q hq. refl) (ap (λ (e : Event). insert earlier e (s .fel)) event-is)
+    on-fel given =
+        making-fel w₃ k (x .moving) o s later g₃ (omega (arith, roomy .order)) (fresh-given (transactionAt w₃ k) (s .serial) (s .fel) serial-given given) (λ q hq. refl) (ap (λ (e : Event). insert earlier e (s .fel)) event-is)
 
     counted : Counting scalars′ later
     unfolding toFel
@@ -126,10 +133,10 @@ module _ (w : List ℕ) (x : Scalars) (o : Option Transaction) (s : State) (list
           end = counting .end;
         }
 
-    pub born-follows : Follows (born w x time p block) (x .note) o later
+    pub born-follows : Given s → Follows (born w x time p block) (x .note) o later
     unfolding moved
-    born-follows =
-        subst (λ (m : Moved). Follows m (x .note) o later) (sym born-is) (record { listing = on-fel; counting = counted; note = refl })
+    born-follows given =
+        subst (λ (m : Moved). Follows m (x .note) o later) (sym born-is) (record { listing = on-fel given; counting = counted; note = refl })
 
 -- ---- On REL
 

@@ -10,17 +10,20 @@ use Rattle.machine.specs.Lists.{insert}
 use Rattle.machine.specs.State.{State}
 use Rattle.machine.specs.Setters.{withNext, withPriority, withSerial, withReturning, withStamp}
 use Rattle.machine.specs.Moves.{toRel, toFel}
-use Rattle.rows.specs.Layout.{rel, fel}
+use Rattle.machine.proofs.Clocks.{Given}
+use Rattle.rows.specs.Layout.{rel}
 use Rattle.rows.specs.Cells.{write, setTime}
 use Rattle.rows.specs.Lists.{put}
+use Rattle.rows.specs.Future.{schedule}
 use Rattle.rows.specs.Holds.{eventAt}
+use Rattle.rows.proofs.Laws.{fresh-given}
 use Rattle.rows.proofs.Fields.{write-serial, write-time}
 use Rattle.rows.proofs.Newborn.{write-priority}
 use Rattle.state.specs.declared.scalars.Scalars.{Scalars}
 use Rattle.state.specs.ScalarSetters.{putMoving, putSerial}
 use Rattle.state.specs.Stands.{listsOf, Listing, Counting}
 use Rattle.state.proofs.ListsOf.{lists-set-rel}
-use Rattle.state.proofs.StandsLaws.{listing-write, listing-time, listing-put, listing-put-fel}
+use Rattle.state.proofs.StandsLaws.{listing-write, listing-time, listing-put, listing-schedule}
 use Rattle.moves.specs.Motion.{Moved, moved, next32, goTo}
 use Rattle.moves.proofs.MotionLaws.{go-to-listing, go-on-is}
 use Rattle.flow.specs.Sending.{toFuture, toReady}
@@ -62,7 +65,7 @@ module _ (w : List ℕ) (x : Scalars) (t : Transaction) (s : State) (listing : L
     abbrev w₃ : List ℕ
     w₃ = setTime w₂ k time
 
-    send-is : sendOn w x time ≡ moved scalars′ (put w₃ fel k)
+    send-is : sendOn w x time ≡ moved scalars′ (schedule w₃ k)
     unfolding sendOn parked toFuture goTo moved
     send-is = rw (go-on-is w x t s listing next-low, serial-is)
 
@@ -80,12 +83,12 @@ module _ (w : List ℕ) (x : Scalars) (t : Transaction) (s : State) (listing : L
     g₃ : Listing w₃ k (some (withStamp time (withSerial n t′))) s
     g₃ = listing-time w₂ k (withSerial n t′) s time g₂
 
-    pub send-follows : Follows (sendOn w x time) 0 none (toFel time t′ s)
+    pub send-follows : Given s → Follows (sendOn w x time) 0 none (toFel time t′ s)
     unfolding goTo moved toFel listsOf
-    send-follows =
+    send-follows given =
         subst (λ (m : Moved). Follows m 0 none (toFel time t′ s)) (sym send-is)
         (record {
-          listing = listing-put-fel w₃ k (withStamp time (withSerial n t′)) s (toFel time t′ s) g₃ refl (λ q hq. refl) (ap (λ (e : Event). insert earlier e (s .fel)) event-is);
+          listing = listing-schedule w₃ k (withStamp time (withSerial n t′)) s (toFel time t′ s) g₃ refl (fresh-given (withStamp time (withSerial n t′)) (s .serial) (s .fel) refl given) (λ q hq. refl) (ap (λ (e : Event). insert earlier e (s .fel)) event-is);
           counting =
               record {
                 clock = counting .clock;

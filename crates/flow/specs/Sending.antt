@@ -4,9 +4,10 @@ use mathlib.Core.Bool.{cond}
 use mathlib.Core.List.{List}
 use lib.Dec.{ltb}
 use Rattle.tables.specs.Layout.{most32, most64}
-use Rattle.rows.specs.Layout.{serialField, rel, fel, free, rowCount}
+use Rattle.rows.specs.Layout.{serialField, rel, free, rowCount}
 use Rattle.rows.specs.Cells.{write, setTime}
 use Rattle.rows.specs.Lists.{put, first, takeFirst}
+use Rattle.rows.specs.Future.{schedule}
 use Rattle.rows.specs.Make.{newbornAt, copyAt}
 use Rattle.state.specs.declared.scalars.Scalars.{Scalars}
 use Rattle.state.specs.ScalarSetters.{putSerial, putMade}
@@ -28,7 +29,7 @@ plus64 a b = min (a + b) most64
 
 unfoldable pub toFuture : List ℕ → Scalars → ℕ → ℕ → Moved
 toFuture w x k time =
-    moved (putSerial (next32 (x .serial)) x) (put (setTime (write w serialField k (next32 (x .serial))) k time) fel k)
+    moved (putSerial (next32 (x .serial)) x) (schedule (setTime (write w serialField k (next32 (x .serial))) k time) k)
 
 unfoldable pub toReady : List ℕ → Scalars → ℕ → Moved
 toReady w x k = moved (putSerial (next32 (x .serial)) x) (put (write w serialField k (next32 (x .serial))) rel k)

@@ -2,12 +2,12 @@
 use crate::samples::Sample;
 use crate::samples::use_time;
 use machine::Model;
-use rows::FEL;
 use rows::REL;
 use rows::ROWS;
 use rows::SERIAL;
 use rows::cells::set_time;
 use rows::cells::write;
+use rows::future::schedule;
 use rows::lists::put;
 use rows::make::copy;
 use rows::make::make_row;
@@ -33,7 +33,7 @@ pub fn to_future(work: &mut [u32], x: Scalars, k: u32, time: u64) -> Scalars
     let serial = plus32(x.serial, 1);
     write(work, SERIAL, k, serial);
     set_time(work, k, time);
-    put(work, FEL, k);
+    schedule(work, k);
     let mut y = x;
     y.serial = serial;
     y

@@ -19,20 +19,44 @@ const QL: u32 = 0;
 
 const QL_HEAD: u32 = HEADS + QL;
 
-// A new transaction on list p.
-fn enter(w: &mut [u32], p: u32, number: u32, priority: u32, time: u32)
+// A new transaction in a row that is on no list; 1024 or more if all live.
+fn make(w: &mut [u32], number: u32, priority: u32, time: u32) -> u32
     requires { ⌜ Room (now w) ⌝ }
-    requires { ⌜ p < listCount ⌝ }
     requires { ⌜ priority < priorityEnd ⌝ }
 {
     let k = rows::make::make_row(w);
     if k >= ROWS {
-        return;
+        return k;
     }
     rows::make::newborn(w, k, number, priority, 1);
     rows::cells::write(w, SERIAL, k, number);
     rows::cells::write(w, TIME, k, time);
+    k
+}
+
+// On list p.
+fn enter(w: &mut [u32], p: u32, number: u32, priority: u32)
+    requires { ⌜ Room (now w) ⌝ }
+    requires { ⌜ p < listCount ⌝ }
+    requires { ⌜ priority < priorityEnd ⌝ }
+{
+    let k = make(w, number, priority, 0);
+    if k >= ROWS {
+        return;
+    }
     rows::lists::put(w, p, k);
+}
+
+// On the FEL.
+fn enter_later(w: &mut [u32], number: u32, priority: u32, time: u32)
+    requires { ⌜ Room (now w) ⌝ }
+    requires { ⌜ priority < priorityEnd ⌝ }
+{
+    let k = make(w, number, priority, time);
+    if k >= ROWS {
+        return;
+    }
+    rows::future::schedule(w, k);
 }
 
 // The number of the first of list p, which ends; 0 if there is none.
@@ -44,6 +68,20 @@ fn leave(w: &mut [u32], p: u32) -> u32
     if k >= ROWS {
         return 0;
     }
+    let number = rows::cells::read(w, NUMBER, k);
+    rows::make::free_row(w, k);
+    number
+}
+
+// Of the FEL.
+fn leave_later(w: &mut [u32]) -> u32
+    requires { ⌜ Room (now w) ⌝ }
+{
+    let k = rows::lists::first(w, FEL);
+    if k >= ROWS {
+        return 0;
+    }
+    rows::future::cancel(w, k);
     let number = rows::cells::read(w, NUMBER, k);
     rows::make::free_row(w, k);
     number
@@ -70,15 +108,30 @@ fn drain(w: &mut [u32], p: u32)
     }
 }
 
+// Writes all of the FEL.
+fn drain_later(w: &mut [u32])
+    requires { ⌜ Room (now w) ⌝ }
+{
+    let mut i: u32 = 0;
+    while i < ROWS {
+        let number = leave_later(w);
+        if number == 0 {
+            return;
+        }
+        show(number);
+        i += 1;
+    }
+}
+
 // REL by priority, then serial: 5 2 4 1 3.
 fn ready(w: &mut [u32])
     requires { ⌜ Room (now w) ⌝ }
 {
-    enter(w, REL, 1, 0, 0);
-    enter(w, REL, 2, 5, 0);
-    enter(w, REL, 3, 0, 0);
-    enter(w, REL, 4, 5, 0);
-    enter(w, REL, 5, 9, 0);
+    enter(w, REL, 1, 0);
+    enter(w, REL, 2, 5);
+    enter(w, REL, 3, 0);
+    enter(w, REL, 4, 5);
+    enter(w, REL, 5, 9);
     drain(w, REL);
 }
 
@@ -86,10 +139,10 @@ fn ready(w: &mut [u32])
 fn future(w: &mut [u32])
     requires { ⌜ Room (now w) ⌝ }
 {
-    enter(w, FEL, 6, 9, 30);
-    enter(w, FEL, 7, 1, 10);
-    enter(w, FEL, 8, 3, 10);
-    enter(w, FEL, 9, 0, 20);
+    enter_later(w, 6, 9, 30);
+    enter_later(w, 7, 1, 10);
+    enter_later(w, 8, 3, 10);
+    enter_later(w, 9, 0, 20);
     rows::clock::arrive(w, 10, 9);
 }
 
@@ -97,9 +150,9 @@ fn future(w: &mut [u32])
 fn queue(w: &mut [u32])
     requires { ⌜ Room (now w) ⌝ }
 {
-    enter(w, QL, 1, 0, 0);
-    enter(w, QL, 2, 1, 0);
-    enter(w, QL, 3, 0, 0);
+    enter(w, QL, 1, 0);
+    enter(w, QL, 2, 1);
+    enter(w, QL, 3, 0);
     rows::wake::wake_first(w, QL);
     drain(w, REL);
     drain(w, QL);
@@ -109,9 +162,9 @@ fn queue(w: &mut [u32])
 fn middle(w: &mut [u32])
     requires { ⌜ Room (now w) ⌝ }
 {
-    enter(w, QL, 1, 0, 0);
-    enter(w, QL, 2, 0, 0);
-    enter(w, QL, 3, 0, 0);
+    enter(w, QL, 1, 0);
+    enter(w, QL, 2, 0);
+    enter(w, QL, 3, 0);
     let second = rows::wake::after(w, QL_HEAD);
     let k = rows::cells::load(w, second);
     if k >= ROWS {
@@ -129,7 +182,7 @@ fn exercise(w: &mut [u32])
     ready(w);
     future(w);
     drain(w, REL);
-    drain(w, FEL);
+    drain_later(w);
     queue(w);
     middle(w);
 }

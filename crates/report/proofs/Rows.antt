@@ -10,12 +10,11 @@ use lib.Dec.{ltb, eqb}
 use lib.ListN.{length, getD}
 use Rattle.machine.specs.Lists.{flat}
 use Rattle.machine.proofs.Sums.{sumOn, sum-append}
-use Rattle.rows.specs.Layout.{place, head, listCount}
+use Rattle.rows.specs.Layout.{place, listCount}
 use Rattle.rows.specs.Cells.{load}
 use Rattle.rows.specs.Holds.{same, occurs, Holds}
 use Rattle.rows.specs.Living.{sumTo}
 use Rattle.rows.proofs.Occurs.{same-refl}
-use Rattle.rows.proofs.Chain.{chain-row}
 use Rattle.rows.proofs.Sums.{sum-suc, sum-ext, sum-add, sum-zero, sum-at}
 
 -- ---- Parts of a sum
@@ -72,7 +71,7 @@ module _ (w : List ℕ) (L : ℕ → List ℕ) (holds : Holds w L) where
 
   sum-list : (p : ℕ) (g : ℕ → ℕ) → p < listCount → sumOn g (L p) ≡ sumTo 1024 (λ k. cond (eqb (placeField k) p) (g k) 0)
   sum-list p g h =
-      sum-rows g (L p) (λ j m. chain-row w (head p) (L p) j (holds .listed p h .chain) m)
+      sum-rows g (L p) (holds .listed p h .row)
       ∙ sum-ext 1024 (λ k. occurs k (L p) * g k) (λ k. cond (eqb (placeField k) p) (g k) 0)
       (λ k l. ap (λ n. n * g k) (holds .listed p h .once k l) ∙ one (eqb (placeField k) p) (g k))
     where

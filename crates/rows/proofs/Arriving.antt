@@ -1,26 +1,27 @@
 -- A clock move: `arrive` takes those of the first time from the FEL to REL, as the machine's `arriveAll` does.
 use Prim.Native.Nat.{ℕ, zero, suc, _+_, _*_, _/_, _≤_, _<_}
 use mathlib.Core.Path.{_≡_, refl, sym, ap, _∙_, subst}
-use mathlib.Core.Bool.{Bool, true, false, cond}
+use mathlib.Core.Bool.{Bool, true, false, cond, not}
 use mathlib.Core.List.{List, [], _∷_, map}
 use native.Mathlib.Omega.{arith}
 use borrow.Author.Tests.{lt-ltb, le-ltb, eqb-true}
 use lib.Dec.{eqb}
-use lib.ListN.{length, drop}
+use lib.ListN.{length, getD, drop}
 use Rattle.machine.specs.Transaction.{Transaction, Event, precedes, earlier}
 use Rattle.machine.specs.Setters.{withSerial, withReturning}
 use Rattle.machine.specs.Lists.{insert, those, others}
 use Rattle.machine.specs.Turn.{due}
-use Rattle.rows.specs.Layout.{place, head, rel, fel, listCount}
+use Rattle.rows.specs.Layout.{place, rel, fel, listCount}
 use Rattle.rows.specs.Cells.{load, read, write, setReturning}
-use Rattle.rows.specs.Order.{ahead}
-use Rattle.rows.specs.Lists.{put, first, takeFirst}
+use Rattle.rows.specs.Order.{outranks}
+use Rattle.rows.specs.Lists.{put, first}
+use Rattle.rows.specs.Future.{cancel}
 use Rattle.rows.specs.Clock.{isDue, arriveRow, arriveFirst, Arrived, arrived, arrive, arrivals}
-use Rattle.rows.specs.Holds.{transactionAt, eventAt, Chain, update}
-use Rattle.rows.specs.Ordered.{Sorted}
+use Rattle.rows.specs.Holds.{transactionAt, eventAt, update}
+use Rattle.rows.specs.Ordered.{Sorted, Strict}
 use Rattle.rows.specs.Shows.{Shown, Held, Loose}
-use Rattle.rows.proofs.Insertion.{insert-sorted}
-use Rattle.rows.proofs.Orders.{precedes-order}
+use Rattle.rows.proofs.Insertion.{insert-sorted, strict-sorted, sorted-drop}
+use Rattle.rows.proofs.Orders.{precedes-order, earlier-order}
 use Rattle.rows.proofs.Occurs.{same-refl, occurs-cons}
 use Rattle.rows.proofs.Structure.{row-of}
 use Rattle.rows.proofs.Spot.{short}
@@ -28,7 +29,9 @@ use Rattle.rows.proofs.Data.{same-row, transaction-kept}
 use Rattle.rows.proofs.Holding.{Kept}
 use Rattle.rows.proofs.Showing.{shown-ext}
 use Rattle.rows.proofs.Put.{put-shown, put-keeps, put-placed}
-use Rattle.rows.proofs.Take.{take-keeps, take-loose, take-fel-shown}
+use Rattle.rows.proofs.Scheduling.{cancel-keeps, cancel-placed}
+use Rattle.rows.proofs.Take.{First, none, some}
+use Rattle.rows.proofs.Later.{first-fel, cancel-shown}
 use Rattle.rows.proofs.Write.{write-shown, write-loose}
 use Rattle.rows.proofs.Fields.{set-returning, write-serial}
 use Rattle.rows.proofs.Steady.{Steady, steady-refl, steady-trans, around-trans, kept-around, write-around, around-steady}
@@ -45,19 +48,21 @@ module _ (w : List ℕ) (L : ℕ → List ℕ) (T : ℕ → List Transaction) (E
   hl = omega arith
 
   abbrev w₁ : List ℕ
-  w₁ = takeFirst w fel
+  w₁ = cancel w k
 
   abbrev L₁ : ℕ → List ℕ
   L₁ = update fel m L
 
   kept₁ : Kept w w₁ k
-  kept₁ = take-keeps w L (s .holds) fel hl m was hk
+  kept₁ = cancel-keeps w L (s .holds) k hk [] m was
 
   s₁ : Shown w₁ L₁ T (drop 1 E)
-  s₁ = take-fel-shown w L T E s fel hl m was hk refl
+  s₁ =
+      subst (λ (l : List Event). Shown w₁ L₁ T l) (ap (λ (l : List ℕ). drop 1 (map (eventAt w) l)) (sym was) ∙ ap (drop 1) (s .future))
+      (cancel-shown w L T E s k hk [] m was)
 
   loose₁ : Loose w₁ k
-  loose₁ = take-loose w L (s .holds) fel hl m was hk
+  loose₁ = record { row = hk; off = cancel-placed w L (s .holds) k hk [] m was }
 
   abbrev w₂ : List ℕ
   w₂ = setReturning w₁ k 0
@@ -84,7 +89,7 @@ module _ (w : List ℕ) (L : ℕ → List ℕ) (T : ℕ → List Transaction) (E
       ∙ ap (λ (t : Transaction). withSerial serial (withReturning false t)) (transaction-kept w w₁ k (same-row w w₁ k hk (kept₁ .rows)))
 
   abbrev pub arrived-rows : ℕ → List ℕ
-  arrived-rows = update rel (insert (ahead w₃ rel) k (L₁ rel)) L₁
+  arrived-rows = update rel (insert (outranks w₃) k (L₁ rel)) L₁
 
   pub arrived-fel : arrived-rows fel ≡ m
   arrived-fel = refl
@@ -103,11 +108,21 @@ module _ (w : List ℕ) (L : ℕ → List ℕ) (T : ℕ → List Transaction) (E
   unfolding arriveFirst arriveRow
   arrive-steady =
       rw (lt-ltb (first w fel) 1024 hk)
-      (around-steady w (put w₃ rel k) k hk (omega (arith, placed)) (omega (arith, put-placed w₃ L₁ (s₃ .holds) rel k (omega arith) loose₃))
+      (around-steady w (put w₃ rel k) k hk (omega (arith, placed)) (omega (arith, put-placed w₃ L₁ (s₃ .holds) rel k (omega arith) (λ e. omega arith) loose₃))
       (around-trans w w₁ (put w₃ rel k) k (kept-around w w₁ k kept₁)
       (around-trans w₁ w₂ (put w₃ rel k) k (write-around w₁ 1 k (read w₁ 1 k / 2 * 2 + 0) (omega arith) hk)
       (around-trans w₂ w₃ (put w₃ rel k) k (write-around w₂ 7 k serial (omega arith) hk)
-      (kept-around w₃ (put w₃ rel k) k (put-keeps w₃ L₁ (s₃ .holds) rel k (omega arith) loose₃))))))
+      (kept-around w₃ (put w₃ rel k) k (put-keeps w₃ L₁ (s₃ .holds) rel k (omega arith) (λ e. omega arith) loose₃))))))
+
+-- ---- The first, or none
+
+nobody : (w : List ℕ) (l : List ℕ) → First w fel l → l ≡ [] → 1024 ≤ first w fel
+nobody w l (none q h) e = h
+nobody w l (some m q h) e = absurd (omega (arith, ap (λ (x : List ℕ). length x) (sym q ∙ e)))
+
+somebody : (w : List ℕ) (l : List ℕ) → First w fel l → (k : ℕ) (m : List ℕ) → l ≡ k ∷ m → (first w fel ≡ k) × (first w fel < 1024)
+somebody w l (none q h) k m e = absurd (omega (arith, ap (λ (x : List ℕ). length x) (sym q ∙ e)))
+somebody w l (some r q h) k m e = (ap (λ (x : List ℕ). getD x 0 0) (sym q ∙ e), h)
 
 -- ---- All of a time
 
@@ -190,30 +205,29 @@ module _ (time : ℕ) where
         go true q = comes st q rest
         go false q = waits sh q
 
-  pub arrive-run : (n : ℕ) (l : List ℕ) (w : List ℕ) (L : ℕ → List ℕ) (T : ℕ → List Transaction) (E : List Event) (sh : Shown w L T E) → Sorted precedes (T rel) → L fel ≡ l → length l ≤ n → (s : ℕ) → Result n w T E s
-  unfolding Chain run left
-  arrive-run n [] w L T E sh ready was len s =
+  pub arrive-run : (n : ℕ) (l : List ℕ) (w : List ℕ) (L : ℕ → List ℕ) (T : ℕ → List Transaction) (E : List Event) (sh : Shown w L T E) → Sorted precedes (T rel) → Strict earlier E → L fel ≡ l → length l ≤ n → (s : ℕ) → Result n w T E s
+  unfolding run left
+  arrive-run n [] w L T E sh ready strict was len s =
       let e : E ≡ [] = sym (sh .future) ∙ ap (map (eventAt w)) was in
-      let c : Chain w (head fel) [] = rw was at (sh .holds .listed fel (omega arith) .chain) in
-      stops w L T E sh n s (due-none w c) (ap (run time) e) (ap (left time) e ∙ sym e)
-  arrive-run zero (k ∷ l) w L T E sh ready was len s = absurd (omega arith)
-  arrive-run (suc n) (k ∷ l) w L T E sh ready was len s =
-      let c : Chain w (head fel) (k ∷ l) = rw was at (sh .holds .listed fel (omega arith) .chain) in
-      let hk : first w fel < 1024 = omega (arith, c .0, c .1) in
+      stops w L T E sh n s (due-none w (nobody w (L fel) (first-fel w L T E sh strict) was)) (ap (run time) e) (ap (left time) e ∙ sym e)
+  arrive-run zero (k ∷ l) w L T E sh ready strict was len s = absurd (omega arith)
+  arrive-run (suc n) (k ∷ l) w L T E sh ready strict was len s =
+      let c = somebody w (L fel) (first-fel w L T E sh strict) k l was in
+      let hk : first w fel < 1024 = c .1 in
       let was′ : L fel ≡ first w fel ∷ l = was ∙ ap (λ (x : ℕ). x ∷ l) (sym (c .0)) in
       let e : E ≡ eventAt w (first w fel) ∷ map (eventAt w) l = sym (sh .future) ∙ ap (map (eventAt w)) was′ in
       let sh′ : Shown w L T (eventAt w (first w fel) ∷ map (eventAt w) l) = subst (λ (x : List Event). Shown w L T x) e sh in
       subst (λ (x : List Event). Result (suc n) w T x s) (sym e)
       (split n w L T (map (eventAt w) l) s hk sh′
       (arrive-steady w L T (eventAt w (first w fel) ∷ map (eventAt w) l) sh′ l was′ hk (suc s))
-      (arrive-run n l (arriveFirst w (suc s)) (arrived-rows w L T (eventAt w (first w fel) ∷ map (eventAt w) l) sh′ l was′ hk (suc s)) (update rel (R₁ n w L T (map (eventAt w) l) s hk) T) (map (eventAt w) l) (arrive-shown w L T (eventAt w (first w fel) ∷ map (eventAt w) l) sh′ l was′ hk (suc s) ready) (insert-sorted precedes precedes-order (withSerial (suc s) (withReturning false (transactionAt w (first w fel)))) (T rel) ready) (arrived-fel w L T (eventAt w (first w fel) ∷ map (eventAt w) l) sh′ l was′ hk (suc s)) (omega arith) (suc s)))
+      (arrive-run n l (arriveFirst w (suc s)) (arrived-rows w L T (eventAt w (first w fel) ∷ map (eventAt w) l) sh′ l was′ hk (suc s)) (update rel (R₁ n w L T (map (eventAt w) l) s hk) T) (map (eventAt w) l) (arrive-shown w L T (eventAt w (first w fel) ∷ map (eventAt w) l) sh′ l was′ hk (suc s) ready) (insert-sorted precedes precedes-order (withSerial (suc s) (withReturning false (transactionAt w (first w fel)))) (T rel) ready) (sorted-drop (λ y x. not (earlier x y)) _ (subst (Strict earlier) e strict)) (arrived-fel w L T (eventAt w (first w fel) ∷ map (eventAt w) l) sh′ l was′ hk (suc s)) (omega arith) (suc s)))
 
 -- ---- A clock move
 
 -- to the first time of the FEL, which is in order, as is REL
-pub arrive-held : (w : List ℕ) (L : ℕ → List ℕ) (T : ℕ → List Transaction) (E : List Event) → Shown w L T E → Sorted precedes (T rel) → Sorted earlier E → (e : Event) (l : List Event) → E ≡ e ∷ l → (s : ℕ) → Came w (arrive 1024 (e .time) w s) (update rel (arrivals (those (due (e .time)) E) s (T rel)) T) (others (due (e .time)) E) (s + length (those (due (e .time)) E))
+pub arrive-held : (w : List ℕ) (L : ℕ → List ℕ) (T : ℕ → List Transaction) (E : List Event) → Shown w L T E → Sorted precedes (T rel) → Strict earlier E → (e : Event) (l : List Event) → E ≡ e ∷ l → (s : ℕ) → Came w (arrive 1024 (e .time) w s) (update rel (arrivals (those (due (e .time)) E) s (T rel)) T) (others (due (e .time)) E) (s + length (those (due (e .time)) E))
 arrive-held w L T E sh ready future e l q s =
-    let sorted : Sorted earlier (e ∷ l) = rw q at future in
+    let sorted : Sorted earlier (e ∷ l) = strict-sorted earlier earlier-order (e ∷ l) (rw q at future) in
     let r : run (e .time) E ≡ those (due (e .time)) E = ap (run (e .time)) q ∙ run-is e l sorted ∙ ap (those (due (e .time))) (sym q) in
     let f : left (e .time) E ≡ others (due (e .time)) E = ap (left (e .time)) q ∙ left-is e l sorted ∙ ap (others (due (e .time))) (sym q) in
-    rw (r, f) at (arrive-run (e .time) 1024 (L fel) w L T E sh ready refl (short w fel (L fel) (sh .holds .listed fel (omega arith))) s)
+    rw (r, f) at (arrive-run (e .time) 1024 (L fel) w L T E sh ready future refl (short w fel (L fel) (sh .holds .listed fel (omega arith))) s)

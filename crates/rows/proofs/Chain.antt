@@ -1,14 +1,13 @@
 -- Chains of cells: what a chain needs of the buffer, and where it ends.
-use Prim.Native.Nat.{ℕ, _+_, _≤_, _<_}
+use Prim.Native.Nat.{ℕ, _+_, _≤_}
 use mathlib.Core.Path.{_≡_, refl, _∙_}
 use mathlib.Core.Logic.{_≢_}
 use mathlib.Core.List.{List, [], _∷_, _++_}
 use native.Mathlib.Omega.{arith}
-use native.Mathlib.Decide.{ℕ-discrete}
 use Rattle.rows.specs.Layout.{link}
 use Rattle.rows.specs.Cells.{load}
 use Rattle.rows.specs.Holds.{occurs, Chain, ending}
-use Rattle.rows.proofs.Occurs.{same-refl, same-other}
+use Rattle.rows.proofs.Occurs.{same-refl}
 
 -- the rows of l, read from cell c′ of another buffer, where the links of l are the same
 pub chain-moved : (w w′ : List ℕ) (c c′ : ℕ) (l : List ℕ) → load w′ c′ ≡ load w c → ((j : ℕ) → 1 ≤ occurs j l → load w′ (link j) ≡ load w (link j)) → Chain w c l → Chain w′ c′ l
@@ -16,16 +15,6 @@ unfolding Chain occurs
 chain-moved w w′ c c′ [] e kept h = rw e h
 chain-moved w w′ c c′ (k ∷ l) e kept h =
     (e ∙ h .0, h .1, chain-moved w w′ (link k) (link k) l (kept k (omega (arith, same-refl k k refl))) (λ j m. kept j (omega arith)) (h .2))
-
--- each row of a chain is a row
-pub chain-row : (w : List ℕ) (c : ℕ) (l : List ℕ) (j : ℕ) → Chain w c l → 1 ≤ occurs j l → j < 1024
-unfolding Chain occurs
-chain-row w c [] j h m = absurd (omega arith)
-chain-row w c (k ∷ l) j h m = go (ℕ-discrete j k) (chain-row w (link k) l j (h .2))
-  where
-    go : Dec (j ≡ k) → (1 ≤ occurs j l → j < 1024) → j < 1024
-    go (yes e) rest = omega (arith, h .1)
-    go (no d) rest = rest (omega (arith, same-other j k d))
 
 -- ---- Where it ends
 

@@ -6,7 +6,7 @@ use mathlib.Core.List.{List, [], _∷_, _++_}
 use native.Mathlib.Omega.{arith}
 use native.Mathlib.Decide.{ℕ-discrete}
 use lib.ListN.{length}
-use Rattle.rows.specs.Layout.{place, link, head, tail, nowhere, links, listCount, tails}
+use Rattle.rows.specs.Layout.{place, link, head, tail, fel, nowhere, links, listCount, tails}
 use Rattle.rows.specs.Cells.{load}
 use Rattle.rows.specs.Lists.{insertAt, removeRow}
 use Rattle.rows.specs.Holds.{same, occurs, Chain, ending, Listed, update}
@@ -15,7 +15,7 @@ use Rattle.rows.proofs.Chain.{chain-moved, chain-after, ending-append}
 use Rattle.rows.proofs.Structure.{Changed, structure, row-of, at-most-once, end-low, end-high, end-not-link}
 use Rattle.rows.proofs.AtCell
 
-module _ (w : List ℕ) (p k : ℕ) (a b : List ℕ) (room : 16384 ≤ length w) (hp : p < listCount) (hk : k < 1024) where
+module _ (w : List ℕ) (p k : ℕ) (a b : List ℕ) (room : 16384 ≤ length w) (hp : p < listCount) (chained : p ≢ fel) (hk : k < 1024) where
   -- row k, on no list, comes behind a
   module _ (one : Listed w p (a ++ b)) (off : load w (place k) ≡ nowhere) where
     abbrev cell : ℕ
@@ -34,7 +34,7 @@ module _ (w : List ℕ) (p k : ℕ) (a b : List ℕ) (room : 16384 ≤ length w)
     apart e = end-not-link w p a b one k hk (omega (arith, none, occurs-append k a b)) (sym e)
 
     after : Chain w cell b
-    after = chain-after w (head p) a b (one .chain)
+    after = chain-after w (head p) a b (one .chain chained)
 
     kept-link : (j : ℕ) → 1 ≤ occurs j b → load (insertAt w p cell k) (link j) ≡ load w (link j)
     kept-link j m =
@@ -59,7 +59,7 @@ module _ (w : List ℕ) (p k : ℕ) (a b : List ℕ) (room : 16384 ≤ length w)
     insert-last (j ∷ b′) e =
         let h : Chain w cell (j ∷ b′) = rw e at after in
         AtCell.insert-tail-row w p cell k room hp hk low high apart (omega (arith, h .0, h .1))
-        ∙ one .last ∙ ending-append (head p) a b ∙ ap (ending cell) e
+        ∙ one .last chained ∙ ending-append (head p) a b ∙ ap (ending cell) e
 
     insert-once : (j : ℕ) → j < 1024 → occurs j (a ++ k ∷ b) ≡ same (load (insertAt w p cell k) (place j)) p
     insert-once j hj = go (ℕ-discrete j k)
@@ -71,6 +71,13 @@ module _ (w : List ℕ) (p k : ℕ) (a b : List ℕ) (room : 16384 ≤ length w)
             rw (AtCell.insert-kept w p cell k room hp hk low high apart (place j) (λ e. omega (arith, low)) (λ e. omega arith) (λ e. d (omega arith)) (λ e. omega arith))
             (omega (arith, occurs-append j a (k ∷ b), occurs-cons j k b, same-other j k d, occurs-append j a b, one .once j hj))
 
+    insert-row : (j : ℕ) → 1 ≤ occurs j (a ++ k ∷ b) → j < 1024
+    insert-row j m = go (ℕ-discrete j k)
+      where
+        go : Dec (j ≡ k) → j < 1024
+        go (yes e) = omega arith
+        go (no d) = one .row j (omega (arith, occurs-append j a (k ∷ b), occurs-cons j k b, same-other j k d, occurs-append j a b))
+
     pub insert-changed : Changed w (insertAt w p cell k) p k a b (k ∷ b)
     insert-changed =
         record {
@@ -80,11 +87,12 @@ module _ (w : List ℕ) (p k : ℕ) (a b : List ℕ) (room : 16384 ≤ length w)
           is = λ q hq d e. d (sym (sym (AtCell.insert-place w p cell k room hp hk low high apart) ∙ e));
           chain = insert-chain;
           last = insert-last b refl;
+          row = insert-row;
           once = insert-once;
         }
 
     pub insert-listed : (L : ℕ → List ℕ) → ((q : ℕ) → q < listCount → Listed w q (L q)) → (q : ℕ) → q < listCount → Listed (insertAt w p cell k) q (update p (a ++ k ∷ b) L q)
-    insert-listed L listed = structure w (insertAt w p cell k) L listed p k a b (k ∷ b) hp hk one insert-changed
+    insert-listed L listed = structure w (insertAt w p cell k) L listed p k a b (k ∷ b) hp chained hk one insert-changed
 
   -- row k, behind a, leaves
   module _ (one : Listed w p (a ++ k ∷ b)) where
@@ -104,7 +112,7 @@ module _ (w : List ℕ) (p k : ℕ) (a b : List ℕ) (room : 16384 ≤ length w)
         (omega arith, omega arith)
 
     r-after : Chain w spotted (k ∷ b)
-    r-after = chain-after w (head p) a (k ∷ b) (one .chain)
+    r-after = chain-after w (head p) a (k ∷ b) (one .chain chained)
 
     pub removed-row : (load w spotted ≡ k) × Chain w (link k) b
     unfolding Chain
@@ -128,7 +136,7 @@ module _ (w : List ℕ) (p k : ℕ) (a b : List ℕ) (room : 16384 ≤ length w)
     remove-last (j ∷ b′) e =
         let h : Chain w (link k) (j ∷ b′) = rw e at (removed-row .1) in
         AtCell.remove-tail-row w p spotted k room hp hk r-low r-high (omega (arith, h .0, h .1))
-        ∙ one .last ∙ ending-append (head p) a (k ∷ b) ∙ ap (ending (link k)) e
+        ∙ one .last chained ∙ ending-append (head p) a (k ∷ b) ∙ ap (ending (link k)) e
 
     remove-once : (j : ℕ) → j < 1024 → occurs j (a ++ b) ≡ same (load (removeRow w p spotted k) (place j)) p
     remove-once j hj = go (ℕ-discrete j k)
@@ -150,9 +158,10 @@ module _ (w : List ℕ) (p k : ℕ) (a b : List ℕ) (room : 16384 ≤ length w)
           is = λ q hq d e. omega (arith, AtCell.remove-place w p spotted k room hp hk r-low r-high);
           chain = remove-chain;
           last = remove-last b refl;
+          row = λ j m. one .row j (omega (arith, occurs-append j a b, occurs-append j a (k ∷ b), occurs-cons j k b));
           once = remove-once;
         }
 
     pub remove-listed : (L : ℕ → List ℕ) → ((q : ℕ) → q < listCount → Listed w q (L q)) → (q : ℕ) → q < listCount → Listed (removeRow w p spotted k) q (update p (a ++ b) L q)
     remove-listed L listed =
-        structure w (removeRow w p spotted k) L listed p k a (k ∷ b) b hp hk one remove-changed
+        structure w (removeRow w p spotted k) L listed p k a (k ∷ b) b hp chained hk one remove-changed

@@ -3,14 +3,14 @@ use Prim.Native.Nat.{ℕ, _+_, _*_, _≤_, _<_}
 use mathlib.Core.Path.{_≡_, refl}
 use mathlib.Core.List.{List, [], _∷_, map}
 use native.Mathlib.Omega.{arith}
-use Rattle.rows.specs.Layout.{dataFields, places}
+use Rattle.rows.specs.Layout.{dataFields, slots}
 use Rattle.rows.specs.Cells.{load, read, timeOf}
 use Rattle.rows.specs.Holds.{transactionAt, eventAt, occurs}
 use Rattle.rows.proofs.Occurs.{same-refl}
 
 -- the data of all rows is the same
 abbrev pub SameData : List ℕ → List ℕ → Type 0
-SameData w w′ = (i : ℕ) → i < places → load w′ i ≡ load w i
+SameData w w′ = (i : ℕ) → i < slots → load w′ i ≡ load w i
 
 -- the data of row k is the same
 abbrev pub SameRow : List ℕ → List ℕ → ℕ → Type 0

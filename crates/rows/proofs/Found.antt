@@ -1,11 +1,12 @@
 -- A walk along a list finds the first row that passes a test, if there is one.
 use Prim.Native.Nat.{ℕ, _≤_, _<_}
 use mathlib.Core.Path.{_≡_, refl, sym, ap, _∙_, subst}
+use mathlib.Core.Logic.{_≢_}
 use mathlib.Core.Bool.{Bool, true, false, cond}
 use mathlib.Core.List.{List, [], _∷_, _++_}
 use native.Mathlib.Omega.{arith}
 use lib.ListN.{length}
-use Rattle.rows.specs.Layout.{head}
+use Rattle.rows.specs.Layout.{head, fel}
 use Rattle.rows.specs.Cells.{load}
 use Rattle.rows.specs.Lists.{walk}
 use Rattle.rows.specs.Holds.{Chain, ending, Listed}
@@ -43,7 +44,7 @@ pub data Found (w : List ℕ) (p : ℕ) (test : ℕ → Bool) (c : ℕ) (l : Lis
   somebody : (a b : List ℕ) (k : ℕ) → l ≡ a ++ k ∷ b → c ≡ ending (head p) a → load w c ≡ k → k < 1024
       → All (λ k. test k ≡ false) a → test k ≡ true → Found w p test c l
 
-module _ (w : List ℕ) (p : ℕ) (r : ℕ → ℕ → Bool) (l : List ℕ) (one : Listed w p l) where
+module _ (w : List ℕ) (p : ℕ) (r : ℕ → ℕ → Bool) (chained : p ≢ fel) (l : List ℕ) (one : Listed w p l) where
   abbrev a : List ℕ
   a = front r 0 l
 
@@ -51,13 +52,13 @@ module _ (w : List ℕ) (p : ℕ) (r : ℕ → ℕ → Bool) (l : List ℕ) (one
   c = walk r 1024 w 0 (head p)
 
   cell : c ≡ ending (head p) a
-  cell = walk-front r w p 0 1024 (head p) l (one .chain) (short w p l one)
+  cell = walk-front r w p 0 1024 (head p) l (one .chain chained) (short w p l one)
 
   parts : a ++ back r 0 l ≡ l
   parts = front-back r 0 l
 
   rest : Chain w (ending (head p) a) (back r 0 l)
-  rest = chain-after w (head p) a (back r 0 l) (subst (Chain w (head p)) (sym parts) (one .chain))
+  rest = chain-after w (head p) a (back r 0 l) (subst (Chain w (head p)) (sym parts) (one .chain chained))
 
   append-nil : (m : List ℕ) → m ++ [] ≡ m
   append-nil [] = refl

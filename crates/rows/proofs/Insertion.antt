@@ -1,12 +1,13 @@
 -- Sorted insertion, over any order: where the new one comes to stand, and that the list stays sorted.
 use Prim.Native.Nat.{ℕ}
 use mathlib.Core.Path.{_≡_, refl, sym, ap, _∙_}
-use mathlib.Core.Bool.{Bool, true, false, cond}
+use mathlib.Core.Bool.{Bool, true, false, cond, not}
 use mathlib.Core.List.{List, [], _∷_, _++_, map}
 use native.Mathlib.Omega.{arith}
+use borrow.Author.Tests.{not-false}
 use lib.ListN.{drop}
 use Rattle.machine.specs.Lists.{insert, those}
-use Rattle.rows.specs.Ordered.{All, Sorted}
+use Rattle.rows.specs.Ordered.{All, Sorted, Strict}
 
 -- ---- Orders
 
@@ -115,7 +116,7 @@ module _ {A : Type 0} where
         go true i = (p, h)
         go false i = (h .0, i)
 
-    before-none : (z y x : A) → r x y ≡ true → r z y ≡ false → r z x ≡ false
+    pub before-none : (z y x : A) → r x y ≡ true → r z y ≡ false → r z x ≡ false
     before-none z y x e f = go (r z x) refl
       where
         go : (t : Bool) → r z x ≡ t → r z x ≡ false
@@ -132,7 +133,7 @@ module _ {A : Type 0} where
         go false e i = (all-insert (λ z. r z y ≡ false) x l e (h .0), i)
 
     -- one that does not stand before the last stands before nobody
-    not-before : (x m y : A) → r x m ≡ false → r m y ≡ false → r x y ≡ false
+    pub not-before : (x m y : A) → r x m ≡ false → r m y ≡ false → r x y ≡ false
     not-before x m y e f = go (r x y) refl
       where
         go : (t : Bool) → r x y ≡ t → r x y ≡ false
@@ -145,6 +146,30 @@ module _ {A : Type 0} where
     front-all x y (z ∷ l) h e =
         rw (not-before x (lastOf z l) y e (all-last (λ u. r u y ≡ false) z l (h .0)))
         (ap (λ (m : List A). y ∷ m) (front-all x z l (h .1) e))
+
+    -- ---- Lists in which everybody stands before those behind
+
+    before-all : (x : A) (l : List A) → All (λ y. not (r x y) ≡ false) l → All (λ y. r y x ≡ false) l
+    before-all x l h = all-map (λ y. not (r x y) ≡ false) (λ y. r y x ≡ false) l (λ y e. o .asym x y (not-false (r x y) e)) h
+
+    pub strict-sorted : (l : List A) → Strict r l → Sorted r l
+    unfolding Sorted
+    strict-sorted [] h = tt
+    strict-sorted (x ∷ l) h = (before-all x l (h .0), strict-sorted l (h .1))
+
+    pub before-trans : (x y z : A) → r x y ≡ true → r y z ≡ true → r x z ≡ true
+    before-trans x y z e f = o .through x z y e (o .asym y z f)
+
+    -- the new one stands before or behind each
+    pub insert-strict : (x : A) (l : List A) → All (λ y. r x y ≡ false → r y x ≡ true) l → Strict r l → Strict r (insert r x l)
+    unfolding Sorted All insert
+    insert-strict x [] c h = (tt, tt)
+    insert-strict x (y ∷ l) c h = go (r x y) refl (insert-strict x l (c .1) (h .1))
+      where
+        go : (t : Bool) → r x y ≡ t → Strict r (insert r x l) → Strict r (cond t (x ∷ y ∷ l) (y ∷ insert r x l))
+        go true e i =
+            ((ap not e, all-map (λ z. not (r y z) ≡ false) (λ z. not (r x z) ≡ false) l (λ z f. ap not (before-trans x y z e (not-false (r y z) f))) (h .0)), h)
+        go false e i = (all-insert (λ z. not (r y z) ≡ false) x l (ap not (c .0 e)) (h .0), i)
 
 -- ---- The same list under a map
 

@@ -7,19 +7,17 @@ use mathlib.Core.List.{List, [], _∷_, _++_, map, map-append}
 use native.Mathlib.Omega.{arith}
 use borrow.Author.Tests.{eqb-true, eqb-false}
 use lib.Dec.{eqb}
-use lib.ListN.{length}
 use Rattle.machine.specs.Transaction.{Transaction, Event, precedes}
 use Rattle.machine.specs.Setters.{withNext}
 use Rattle.machine.specs.Lists.{insert}
-use Rattle.rows.specs.Layout.{listCount, place, head, rel, fel, free, fieldAt}
+use Rattle.rows.specs.Layout.{listCount, place, head, rel, fel, fieldAt}
 use Rattle.rows.specs.Cells.{load, read, write}
 use Rattle.rows.specs.Lists.{removeAt, put, inFamily, familyCell}
 use Rattle.rows.specs.Holds.{transactionAt, eventAt, occurs, ending, Listed, Holds, update}
-use Rattle.rows.specs.Ordered.{All, Sorted, Ordered}
-use Rattle.rows.specs.Shows.{orderOf, Shows, Loose, moved}
+use Rattle.rows.specs.Ordered.{All, Sorted}
+use Rattle.rows.specs.Shows.{orderOf, Shows, moved}
 use Rattle.rows.proofs.Store.{load-other}
 use Rattle.rows.proofs.Occurs.{same-refl, same-other, same-le, occurs-append, occurs-cons}
-use Rattle.rows.proofs.Chain.{chain-row}
 use Rattle.rows.proofs.Insertion.{sorted-without}
 use Rattle.rows.proofs.Found.{Found, found}
 use Rattle.rows.proofs.Ordering.{ordered-list}
@@ -43,9 +41,9 @@ Other w f k = eqb (read w 10 k) f ≡ false
 abbrev pub Kin : (w : List ℕ) (p f : ℕ) (l : List ℕ) → Type 0
 Kin w p f l = Found w p (λ k. eqb (read w 10 k) f) (familyCell w p f) l
 
-pub kin-of : (w : List ℕ) (p f : ℕ) (l : List ℕ) → Listed w p l → Kin w p f l
+pub kin-of : (w : List ℕ) (p f : ℕ) → p ≢ fel → (l : List ℕ) → Listed w p l → Kin w p f l
 unfolding familyCell inFamily
-kin-of w p f l one = found w p (inFamily w f) l one
+kin-of w p f chained l one = found w p (inFamily w f) chained l one
 
 -- ---- Its count: the next block of a row that stands on a list is written
 
@@ -75,6 +73,9 @@ module _ (w : List ℕ) (T : ℕ → List Transaction) (E : List Event) (s : Sho
   hl : p < listCount
   hl = omega arith
 
+  chained : p ≢ fel
+  chained e = omega arith
+
   at : load w (place k) ≡ p
   at =
       row-of w p a (k ∷ b) (rw was at (h .listed p hl)) k (omega (arith, occurs-append k a (k ∷ b), occurs-cons k k b, same-refl k k refl)) .1
@@ -86,14 +87,14 @@ module _ (w : List ℕ) (T : ℕ → List Transaction) (E : List Event) (s : Sho
     -- the rows of a list that does not hold row k
     apart : (q : ℕ) → q < listCount → q ≢ p → (j : ℕ) → 1 ≤ occurs j (L q) → (j < 1024) × (j ≢ k)
     apart q hq d j m =
-        let row : j < 1024 = chain-row w (head q) (L q) j (h .listed q hq .chain) m in
+        let row : j < 1024 = h .listed q hq .row j m in
         (row, λ e. omega (arith, h .listed q hq .once j row, same-other (load w (place j)) q (λ z. d (sym z ∙ ap (λ (i : ℕ). load w (place i)) e ∙ at))))
 
     -- the others of its own list
     beside : (j : ℕ) → 1 ≤ occurs j a + occurs j b → (j < 1024) × (j ≢ k)
     beside j m =
         let whole : occurs j (L p) ≡ occurs j a + occurs j (k ∷ b) = ap (occurs j) was ∙ occurs-append j a (k ∷ b) in
-        let row : j < 1024 = chain-row w (head p) (L p) j (h .listed p hl .chain) (omega (arith, occurs-cons j k b)) in
+        let row : j < 1024 = h .listed p hl .row j (omega (arith, occurs-cons j k b)) in
         (row, λ e. omega (arith, h .listed p hl .once j row, same-le (load w (place j)) p, occurs-cons j k b, same-refl j k e))
 
     part : (l : List ℕ) → ((j : ℕ) → 1 ≤ occurs j l → (j < 1024) × (j ≢ k)) → map (transactionAt w′) l ≡ map (transactionAt w) l
@@ -115,13 +116,12 @@ module _ (w : List ℕ) (T : ℕ → List Transaction) (E : List Event) (s : Sho
           rows = L;
           shown =
               record {
-                holds = write-holds w 6 k x (omega arith) hk L h;
+                holds = write-holds w 6 k x (omega arith) hk (λ e. omega (arith, at)) L h;
                 lists = λ q hq. go q hq (eqb q p) refl;
                 future =
                     map-kept (eventAt w′) (eventAt w) (L fel)
                     (λ j m. let o = apart fel (omega arith) (λ e. omega arith) j m in event-kept w w′ j (row-other w 6 k x j hk (o .0) (o .1)))
                     ∙ s .shown .future;
-                spare = s .shown .spare;
               };
           ordered =
               ordered-list orderOf T E p counted
@@ -158,7 +158,7 @@ module _ (w : List ℕ) (T : ℕ → List Transaction) (E : List Event) (s : Sho
     without-shows =
         record {
           rows = update p (a ++ b) L;
-          shown = shown-list w w₁ L T E (s .shown) p (a ++ b) (remove-holds w L h p k a b hl hk was) (remove-keeps w L h p k a b hl hk was .rows) hp;
+          shown = shown-list w w₁ L T E (s .shown) p (a ++ b) (remove-holds w L h p k a b hl chained hk was) (remove-keeps w L h p k a b hl chained hk was .rows) hp;
           ordered =
               ordered-list orderOf T E p left
               (rw (map-append (transactionAt w) a b)
@@ -168,7 +168,7 @@ module _ (w : List ℕ) (T : ℕ → List Transaction) (E : List Event) (s : Sho
         }
 
     taken : Takes w w₁ k U E
-    taken = takes w T E s p k a b hl hk was U E without-shows
+    taken = takes w T E s p k a b hl chained hk was U E without-shows
 
     written-shows : Shows v U E
     written-shows =
@@ -189,6 +189,6 @@ module _ (w : List ℕ) (T : ℕ → List Transaction) (E : List Event) (s : Sho
               (update-other p left T rel elsewhere) (puts .shows);
           steady =
               around-steady w (put v rel k) k hk (omega (arith, at))
-              (omega (arith, put-placed v (written-shows .rows) (written-shows .shown .holds) rel k (omega arith) (written .loose (taken .off))))
+              (omega (arith, put-placed v (written-shows .rows) (written-shows .shown .holds) rel k (omega arith) (λ e. omega arith) (written .loose (taken .off))))
               (around-trans w w₁ (put v rel k) k (taken .around) (around-trans w₁ v (put v rel k) k (written .around) (puts .around)));
         }

@@ -1,8 +1,9 @@
 -- The laws that the crates above cite: what each function of this crate does to the machine's lists. `Shows w T E` says that
 -- the buffer w has the lists T and the FEL E; `Loose w k` that row k is on no list, as the moving one.
-use Prim.Native.Nat.{ℕ, suc, _+_, _<_}
+use Prim.Native.Nat.{ℕ, suc, _+_, _≤_, _<_}
 use mathlib.Core.Path.{_≡_, refl, sym, ap, _∙_, subst}
-use mathlib.Core.Bool.{Bool, not}
+use mathlib.Core.Logic.{_≢_}
+use mathlib.Core.Bool.{Bool, false, true, not}
 use mathlib.Core.List.{List, [], _∷_, _++_, map, map-append}
 use native.Mathlib.Omega.{arith}
 use lib.Dec.{eqb}
@@ -13,37 +14,56 @@ use Rattle.machine.specs.Moves.{wake}
 use Rattle.machine.specs.Moves as Moves
 use Rattle.machine.proofs.QueueRemove.{walk}
 use Rattle.machine.specs.Turn.{due}
+use Rattle.machine.specs.Claims.{Each}
 use Rattle.rows.specs.Layout.{listCount, place, head, wsl, rel, fel, free, nowhere}
 use Rattle.rows.specs.Cells.{load}
-use Rattle.rows.specs.Order.{ahead}
+use Rattle.rows.specs.Order.{outranks, sooner}
 use Rattle.rows.specs.Lists.{removeAt, put, first, takeFirst, remove}
+use Rattle.rows.specs.Future.{schedule, cancel}
 use Rattle.rows.specs.Lines.{lineUp}
 use Rattle.rows.specs.Wake.{wakeFirst, wakeWalk, wakeAll}
 use Rattle.rows.specs.Clock.{Arrived, arrive, arrivals}
 use Rattle.rows.specs.Make.{freeRow}
 use Rattle.rows.specs.Living.{loose, onLists}
 use Rattle.rows.specs.Holds.{transactionAt, eventAt, ending, Holds, update}
-use Rattle.rows.specs.Ordered.{Sorted, Ordered}
+use Rattle.rows.specs.Ordered.{All, Sorted, Strict, Ordered}
 use Rattle.rows.specs.Shows.{orderOf, Shows, Loose, moved}
 use Rattle.rows.proofs.Occurs.{same-refl, occurs-append, occurs-cons}
-use Rattle.rows.proofs.Insertion.{front, insert-sorted, sorted-without, sorted-drop, sorted-those}
-use Rattle.rows.proofs.Orders.{precedes-order, earlier-order}
+use Rattle.rows.proofs.Insertion.{all-map, front, insert-sorted, insert-strict, sorted-without, sorted-drop, sorted-those}
+use Rattle.rows.proofs.Orders.{precedes-order, earlier-order, earlier-total}
 use Rattle.rows.proofs.Ordering.{sorted-weaker, sorted-line, ordered-list, ordered-fel, ordered-moved, wake-sorted, arrivals-sorted}
 use Rattle.rows.proofs.Structure.{row-of}
 use Rattle.rows.proofs.Spot.{short}
 use Rattle.rows.proofs.Data.{SameRow, same-row}
 use Rattle.rows.proofs.Holding.{Kept, remove-holds, remove-keeps, remove-placed}
-use Rattle.rows.proofs.Showing.{shown-list, shown-fel}
+use Rattle.rows.proofs.Showing.{shown-list}
 use Rattle.rows.proofs.Loose.{loose-more, loose-less}
 use Rattle.rows.proofs.Steady.{Steady, Around, kept-around}
-use Rattle.rows.proofs.Put.{put-keeps, put-placed, put-shown, put-fel-shown}
+use Rattle.rows.proofs.Put.{put-keeps, put-placed, put-shown}
 use Rattle.rows.proofs.LiningUp.{lined, line-shown, line-keeps, line-placed}
-use Rattle.rows.proofs.Take.{Head, head-shown, head-fel-shown, rows-first, take-shown, take-fel-shown, take-free-shown}
+use Rattle.rows.proofs.Take.{Head, head-shown, rows-first, take-shown, take-free-shown}
+use Rattle.rows.proofs.Later.{head-fel-shown, schedule-shown, cancel-shown}
+use Rattle.rows.proofs.Scheduling.{schedule-keeps, schedule-placed, cancel-was, cancel-keeps, cancel-placed}
 use Rattle.rows.proofs.Removal.{rest-of, remove-is}
 use Rattle.rows.proofs.Making.{free-keeps, free-placed, free-shown}
 use Rattle.rows.proofs.WakingAll
 use Rattle.rows.proofs.Arriving
 use Rattle.rows.proofs.Population
+
+-- a serial above all on the FEL, as every one that comes onto it gets
+abbrev pub Fresh : Transaction → List Event → Type 0
+Fresh t E = All (λ e. e .who .serial < t .serial) E
+
+-- so is the one after the last that was given
+pub fresh-given : (t : Transaction) (n : ℕ) (E : List Event) → t .serial ≡ suc n → Each (λ (e : Event). e .who .serial ≤ n) E → Fresh t E
+unfolding All
+fresh-given t n [] e h = tt
+fresh-given t n (x ∷ E) e h = (omega (arith, h .0), fresh-given t n E e (h .1))
+
+-- so it stands before or behind each
+pub fresh-apart : (w : List ℕ) (k : ℕ) (E : List Event) → Fresh (transactionAt w k) E → All (λ e. earlier (eventAt w k) e ≡ false → earlier e (eventAt w k) ≡ true) E
+unfolding eventAt
+fresh-apart w k E fresh = all-map _ _ E (λ e lt. earlier-total (eventAt w k) e lt) fresh
 
 -- what putting row k leaves: the other rows, and one fewer on no list
 pub record Puts (w w′ : List ℕ) (k : ℕ) (T : ℕ → List Transaction) (E : List Event) : Type 0 where
@@ -94,7 +114,7 @@ module _ (w : List ℕ) (T : ℕ → List Transaction) (E : List Event) (s : Sho
   head-shows = head-shown w L T E (s .shown)
 
   pub head-fel-shows : Head w fel (eventAt w) E
-  head-fel-shows = head-fel-shown w L T E (s .shown)
+  head-fel-shows = head-fel-shown w L T E (s .shown) (o .future)
 
   -- ---- Putting
 
@@ -112,7 +132,7 @@ module _ (w : List ℕ) (T : ℕ → List Transaction) (E : List Event) (s : Sho
     abbrev pub shows-put : (p : ℕ) → p < 770 → Sorted precedes (T p) → Shows (put w p k) (update p (insert precedes (transactionAt w k) (T p)) T) E
     shows-put p hp sorted =
         record {
-          rows = update p (insert (ahead w p) k (L p)) L;
+          rows = update p (insert (outranks w) k (L p)) L;
           shown = put-shown w L T E (s .shown) k off p hp sorted;
           ordered = ordered-list orderOf T E p _ (sorted-weaker p _ (insert-sorted precedes precedes-order (transactionAt w k) (T p) sorted)) o;
         }
@@ -132,21 +152,22 @@ module _ (w : List ℕ) (T : ℕ → List Transaction) (E : List Event) (s : Sho
     line-shows edition p hp sorted stays =
         puts (lineUp edition w p k) p (update p (Moves.lineUp edition (transactionAt w k) (T p)) T) E (omega arith) (line-keeps w L T E (s .shown) k off edition p hp sorted) (line-placed w L T E (s .shown) k off edition p hp sorted) (shows-line edition p hp sorted stays)
 
-    abbrev pub shows-put-fel : Shows (put w fel k) T (insert earlier (eventAt w k) E)
-    shows-put-fel =
+    -- onto the FEL, with a serial above all there
+    abbrev pub shows-schedule : Fresh (transactionAt w k) E → Shows (schedule w k) T (insert earlier (eventAt w k) E)
+    shows-schedule fresh =
         record {
-          rows = update fel (insert (ahead w fel) k (L fel)) L;
-          shown = put-fel-shown w L T E (s .shown) k off (o .future);
-          ordered = ordered-fel orderOf T E _ (insert-sorted earlier earlier-order (eventAt w k) E (o .future)) o;
+          rows = update fel (insert (sooner w) k (L fel)) L;
+          shown = schedule-shown w L T E (s .shown) k off;
+          ordered = ordered-fel orderOf T E _ (insert-strict earlier earlier-order (eventAt w k) E (fresh-apart w k E fresh) (o .future)) o;
         }
 
     pub put-shows : (p : ℕ) → p < 770 → Sorted precedes (T p) → Puts w (put w p k) k (update p (insert precedes (transactionAt w k) (T p)) T) E
     put-shows p hp sorted =
-        puts (put w p k) p (update p (insert precedes (transactionAt w k) (T p)) T) E (omega arith) (put-keeps w L h p k (omega arith) off) (put-placed w L h p k (omega arith) off) (shows-put p hp sorted)
+        puts (put w p k) p (update p (insert precedes (transactionAt w k) (T p)) T) E (omega arith) (put-keeps w L h p k (omega arith) (λ e. omega arith) off) (put-placed w L h p k (omega arith) (λ e. omega arith) off) (shows-put p hp sorted)
 
-    pub put-fel-shows : Puts w (put w fel k) k T (insert earlier (eventAt w k) E)
-    put-fel-shows =
-        puts (put w fel k) fel T (insert earlier (eventAt w k) E) (omega arith) (put-keeps w L h fel k (omega arith) off) (put-placed w L h fel k (omega arith) off) shows-put-fel
+    pub schedule-shows : Fresh (transactionAt w k) E → Puts w (schedule w k) k T (insert earlier (eventAt w k) E)
+    schedule-shows fresh =
+        puts (schedule w k) fel T (insert earlier (eventAt w k) E) (omega arith) (schedule-keeps w L h k off) (schedule-placed w L h k off) (shows-schedule fresh)
 
     -- the row of one that ended
     pub free-shows : Puts w (freeRow w k) k T E
@@ -157,16 +178,16 @@ module _ (w : List ℕ) (T : ℕ → List Transaction) (E : List Event) (s : Sho
   -- ---- Taking
 
   -- a row from where it stands
-  module _ (p k : ℕ) (a b : List ℕ) (hp : p < listCount) (hk : k < 1024) (was : L p ≡ a ++ k ∷ b) where
+  module _ (p k : ℕ) (a b : List ℕ) (hp : p < listCount) (chained : p ≢ fel) (hk : k < 1024) (was : L p ≡ a ++ k ∷ b) where
     abbrev without : List ℕ
     without = removeAt w p (ending (head p) a)
 
     kept : Kept w without k
-    kept = remove-keeps w L h p k a b hp hk was
+    kept = remove-keeps w L h p k a b hp chained hk was
 
     pub takes : (U : ℕ → List Transaction) (F : List Event) → Shows without U F → Takes w without k U F
     takes U F shows =
-        let off : load without (place k) ≡ nowhere = remove-placed w L h p k a b hp hk was in
+        let off : load without (place k) ≡ nowhere = remove-placed w L h p k a b hp chained hk was in
         let at : load w (place k) ≡ p = row-of w p a (k ∷ b) (rw was at (h .listed p hp)) k (omega (arith, occurs-append k a (k ∷ b), occurs-cons k k b, same-refl k k refl)) .1 in
         record {
           shows = shows;
@@ -181,40 +202,55 @@ module _ (w : List ℕ) (T : ℕ → List Transaction) (E : List Event) (s : Sho
   unfolding ending
   take-shows p hp n =
       let hl : p < listCount = omega arith in
-      let r : (m : List ℕ) × (L p ≡ first w p ∷ m) = rows-first w L T E (s .shown) p hl n in
-      takes p (first w p) [] (r .0) hl n (r .1) (update p (drop 1 (T p)) T) E
+      let d : p ≢ fel = λ e. omega arith in
+      let r : (m : List ℕ) × (L p ≡ first w p ∷ m) = rows-first w L T E (s .shown) p hl d n in
+      takes p (first w p) [] (r .0) hl d n (r .1) (update p (drop 1 (T p)) T) E
       (record {
         rows = _;
-        shown = take-shown w L T E (s .shown) p hl (r .0) (r .1) n hp;
+        shown = take-shown w L T E (s .shown) p hl d (r .0) (r .1) n hp;
         ordered = ordered-list orderOf T E p (drop 1 (T p)) (sorted-drop (orderOf p) (T p) (o .lists p hp)) o;
       })
 
-  pub take-fel-shows : first w fel < 1024 → Takes w (takeFirst w fel) (first w fel) T (drop 1 E)
-  unfolding ending
-  take-fel-shows n =
-      let hl : fel < listCount = omega arith in
-      let r : (m : List ℕ) × (L fel ≡ first w fel ∷ m) = rows-first w L T E (s .shown) fel hl n in
-      takes fel (first w fel) [] (r .0) hl n (r .1) T (drop 1 E)
-      (record {
-        rows = _;
-        shown = take-fel-shown w L T E (s .shown) fel hl (r .0) (r .1) n refl;
-        ordered = ordered-fel orderOf T E (drop 1 E) (sorted-drop earlier E (o .future)) o;
-      })
+  -- a row of the FEL
+  module _ (k : ℕ) (a b : List ℕ) (hk : k < 1024) (was : L fel ≡ a ++ k ∷ b) where
+    later : E ≡ map (eventAt w) a ++ eventAt w k ∷ map (eventAt w) b
+    later = sym (s .shown .future) ∙ ap (map (eventAt w)) was ∙ map-append (eventAt w) a (k ∷ b)
+
+    pub cancels : Takes w (cancel w k) k T (map (eventAt w) (a ++ b))
+    cancels =
+        record {
+          shows =
+              record {
+                rows = update fel (a ++ b) L;
+                shown = cancel-shown w L T E (s .shown) k hk a b was;
+                ordered =
+                    ordered-fel orderOf T E _
+                    (rw (map-append (eventAt w) a b)
+                    (sorted-without (λ y x. not (earlier x y)) (map (eventAt w) a) (eventAt w k) (map (eventAt w) b) (subst (Strict earlier) later (o .future))))
+                    o;
+              };
+          around = kept-around w (cancel w k) k (cancel-keeps w L h k hk a b was);
+          same = same-row w (cancel w k) k hk (cancel-keeps w L h k hk a b was .rows);
+          off = record { row = hk; off = cancel-placed w L h k hk a b was };
+          count = loose-more w (cancel w k) k hk (cancel-keeps w L h k hk a b was .places) (omega (arith, cancel-was w L h k hk a b was)) (cancel-placed w L h k hk a b was);
+        }
 
   -- a row for one that is made
   pub make-shows : first w free < 1024 → Takes w (takeFirst w free) (first w free) T E
   unfolding ending
   make-shows n =
       let hl : free < listCount = omega arith in
-      let r : (m : List ℕ) × (L free ≡ first w free ∷ m) = rows-first w L T E (s .shown) free hl n in
-      takes free (first w free) [] (r .0) hl n (r .1) T E
-      (record { rows = _; shown = take-free-shown w L T E (s .shown) free hl (r .0) (r .1) n refl; ordered = o })
+      let d : free ≢ fel = λ e. omega arith in
+      let r : (m : List ℕ) × (L free ≡ first w free ∷ m) = rows-first w L T E (s .shown) free hl d n in
+      takes free (first w free) [] (r .0) hl d n (r .1) T E
+      (record { rows = _; shown = take-free-shown w L T E (s .shown) free hl d (r .0) (r .1) n refl; ordered = o })
 
   -- a row by its number, wherever it stands
   module _ (k : ℕ) (hk : k < 1024) where
     pub remove-shows : (p : ℕ) → p < 770 → load w (place k) ≡ p → Without (transactionAt w k) (T p) (λ l. Takes w (remove w p k) k (update p l T) E)
     remove-shows p hp at =
         let hl : p < listCount = omega arith in
+        let d : p ≢ fel = λ e. omega arith in
         let r : (b : List ℕ) × (L p ≡ front eqb k (L p) ++ k ∷ b) = rest-of w L h p k hl hk at in
         let was : T p ≡ map (transactionAt w) (front eqb k (L p)) ++ transactionAt w k ∷ map (transactionAt w) (r .0) = sym (s .shown .lists p hp) ∙ ap (map (transactionAt w)) (r .1) ∙ map-append (transactionAt w) (front eqb k (L p)) (k ∷ r .0) in
         record {
@@ -222,11 +258,11 @@ module _ (w : List ℕ) (T : ℕ → List Transaction) (E : List Event) (s : Sho
           behind = map (transactionAt w) (r .0);
           parts = was;
           left =
-              rw (remove-is w L h p k hl hk at, ← map-append (transactionAt w) (front eqb k (L p)) (r .0))
-              (takes p k (front eqb k (L p)) (r .0) hl hk (r .1) (update p (map (transactionAt w) (front eqb k (L p) ++ r .0)) T) E
+              rw (remove-is w L h p k hl hk at d, ← map-append (transactionAt w) (front eqb k (L p)) (r .0))
+              (takes p k (front eqb k (L p)) (r .0) hl d hk (r .1) (update p (map (transactionAt w) (front eqb k (L p) ++ r .0)) T) E
               (record {
                 rows = _;
-                shown = shown-list w _ L T E (s .shown) p (front eqb k (L p) ++ r .0) (remove-holds w L h p k (front eqb k (L p)) (r .0) hl hk (r .1)) (kept p k (front eqb k (L p)) (r .0) hl hk (r .1) .rows) hp;
+                shown = shown-list w _ L T E (s .shown) p (front eqb k (L p) ++ r .0) (remove-holds w L h p k (front eqb k (L p)) (r .0) hl d hk (r .1)) (kept p k (front eqb k (L p)) (r .0) hl d hk (r .1) .rows) hp;
                 ordered =
                     ordered-list orderOf T E p _
                     (rw (map-append (transactionAt w) (front eqb k (L p)) (r .0))
@@ -235,27 +271,14 @@ module _ (w : List ℕ) (T : ℕ → List Transaction) (E : List Event) (s : Sho
               }));
         }
 
-    pub remove-fel-shows : load w (place k) ≡ fel → Without (eventAt w k) E (λ l. Takes w (remove w fel k) k T l)
-    remove-fel-shows at =
-        let hl : fel < listCount = omega arith in
-        let r : (b : List ℕ) × (L fel ≡ front eqb k (L fel) ++ k ∷ b) = rest-of w L h fel k hl hk at in
-        let was : E ≡ map (eventAt w) (front eqb k (L fel)) ++ eventAt w k ∷ map (eventAt w) (r .0) = sym (s .shown .future) ∙ ap (map (eventAt w)) (r .1) ∙ map-append (eventAt w) (front eqb k (L fel)) (k ∷ r .0) in
+    pub cancel-shows : load w (place k) ≡ fel → Without (eventAt w k) E (λ l. Takes w (cancel w k) k T l)
+    cancel-shows at =
+        let r : (b : List ℕ) × (L fel ≡ front eqb k (L fel) ++ k ∷ b) = rest-of w L h fel k (omega arith) hk at in
         record {
           ahead = map (eventAt w) (front eqb k (L fel));
           behind = map (eventAt w) (r .0);
-          parts = was;
-          left =
-              rw (remove-is w L h fel k hl hk at, ← map-append (eventAt w) (front eqb k (L fel)) (r .0))
-              (takes fel k (front eqb k (L fel)) (r .0) hl hk (r .1) T (map (eventAt w) (front eqb k (L fel) ++ r .0))
-              (record {
-                rows = _;
-                shown = shown-fel w _ L T E (s .shown) fel (front eqb k (L fel) ++ r .0) (remove-holds w L h fel k (front eqb k (L fel)) (r .0) hl hk (r .1)) (kept fel k (front eqb k (L fel)) (r .0) hl hk (r .1) .rows) refl;
-                ordered =
-                    ordered-fel orderOf T E _
-                    (rw (map-append (eventAt w) (front eqb k (L fel)) (r .0))
-                    (sorted-without earlier (map (eventAt w) (front eqb k (L fel))) (eventAt w k) (map (eventAt w) (r .0)) (rw was at (o .future))))
-                    o;
-              }));
+          parts = later k (front eqb k (L fel)) (r .0) hk (r .1);
+          left = rw (← map-append (eventAt w) (front eqb k (L fel)) (r .0)) (cancels k (front eqb k (L fel)) (r .0) hk (r .1));
         }
 
   -- there is one exactly if fewer than 1,024 live
@@ -322,7 +345,7 @@ module _ (w : List ℕ) (T : ℕ → List Transaction) (E : List Event) (s : Sho
                   rows = r .held .rows;
                   shown = r .held .shown;
                   ordered =
-                      ordered-fel orderOf (update rel (arrivals (those (due (e .time)) E) serial (T rel)) T) E later (sorted-those earlier (λ t. not (due (e .time) t)) E (o .future))
+                      ordered-fel orderOf (update rel (arrivals (those (due (e .time)) E) serial (T rel)) T) E later (sorted-those (λ y x. not (earlier x y)) (λ t. not (due (e .time) t)) E (o .future))
                       (ordered-list orderOf T E rel _ (arrivals-sorted (those (due (e .time)) E) serial (T rel) ready) o);
                 };
             last = r .last;

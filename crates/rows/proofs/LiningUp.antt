@@ -1,6 +1,7 @@
 -- A row comes onto a line of waiters where the machine's `lineUp` puts its transaction, by either edition.
 use Prim.Native.Nat.{ℕ, zero, suc, _-_, _%_, _≤_, _<_}
 use mathlib.Core.Path.{_≡_, refl, sym, ap, _∙_, subst}
+use mathlib.Core.Logic.{_≢_}
 use mathlib.Core.Bool.{Bool, true, false, cond}
 use mathlib.Core.List.{List, [], _∷_, _++_, map, reverse, reverse-cons, reverse-append, append-nil, append-assoc, map-append}
 use native.Mathlib.Omega.{arith}
@@ -10,19 +11,20 @@ use lib.ListN.{length}
 use Rattle.machine.specs.Transaction.{Transaction, Event, precedes}
 use Rattle.machine.specs.Lists.{insert}
 use Rattle.machine.specs.Moves as Moves
-use Rattle.rows.specs.Layout.{place, link, links, head, heads, tail}
+use Rattle.rows.specs.Layout.{fel, place, link, links, head, heads, tail}
 use Rattle.rows.specs.Cells.{load, read}
-use Rattle.rows.specs.Order.{ahead}
-use Rattle.rows.specs.Lists.{insertAt, spot}
-use Rattle.rows.specs.Lines.{atLeast, foundAt, lastCell, lastMeets, backBefore, backSpot, secondSpot, lineSpot, lineUp}
+use Rattle.rows.specs.Order.{outranks}
+use Rattle.rows.specs.Lists.{insertAt, put}
+use Rattle.rows.specs.Lines.{atLeast, foundAt, lastCell, lastMeets, backBefore, backSpot, secondSpot, lineUp}
 use Rattle.rows.specs.Holds.{transactionAt, Chain, ending, Listed, Holds, update}
 use Rattle.rows.specs.Ordered.{All, Sorted}
 use Rattle.rows.specs.Shows.{Shown, Loose}
-use Rattle.rows.proofs.Insertion.{front, back, front-back, insert-split, map-insert, sorted-unmap, order-unmap, append-all, lastOf}
-use Rattle.rows.proofs.Orders.{precedes-order, ahead-list}
+use Rattle.rows.proofs.Insertion.{map-insert, append-all, lastOf}
+use Rattle.rows.proofs.Orders.{outranks-is}
 use Rattle.rows.proofs.Walk.{lastCell-stop, lastCell-next}
-use Rattle.rows.proofs.Chain.{ending-append, chain-row}
-use Rattle.rows.proofs.Spot.{short, spot-front, ending-last, occurs-last}
+use Rattle.rows.proofs.Chain.{ending-append}
+use Rattle.rows.proofs.Spot.{short, ending-last, occurs-last}
+use Rattle.rows.proofs.Put.{put-keeps, put-placed, put-shown}
 use Rattle.rows.proofs.Holding.{Kept, insert-holds, insert-keeps, insert-placed}
 use Rattle.rows.proofs.Showing.{shown-list}
 
@@ -162,9 +164,9 @@ module _ (w : List ℕ) (p k : ℕ) where
     last-spotted (j ∷ l) (suc n) c f a m len h =
         row-found c f a m j l h n (last-spotted l n (link j) (link j) ((a ++ m) ++ j ∷ []) [] (omega arith)) (last-spotted l n (link j) f a (m ++ j ∷ []) (omega arith))
 
-    from-head : Listed w p rows → Spotted p k (lastCell 1024 w k (head p) (head p)) rows (backed meets k rows)
+    from-head : p ≢ fel → Listed w p rows → Spotted p k (lastCell 1024 w k (head p) (head p)) rows (backed meets k rows)
     unfolding ending All Stops
-    from-head one = last-spotted rows 1024 (head p) (head p) [] [] (short w p rows one) (record { whole = refl; at = refl; found = refl; chain = one .chain; low = tt; stops = tt })
+    from-head chained one = last-spotted rows 1024 (head p) (head p) [] [] (short w p rows one) (record { whole = refl; at = refl; found = refl; chain = one .chain chained; low = tt; stops = tt })
 
   -- the last row passes
   last-first : (y : ℕ) (l : List ℕ) → meets k (lastOf y l) ≡ true → (r : List ℕ) × (reverse (y ∷ l) ≡ lastOf y l ∷ r)
@@ -189,17 +191,17 @@ module _ (w : List ℕ) (p k : ℕ) where
       let f : link j - links ≡ j = omega arith in
       rw (le-ltb (link j) links (omega arith), f, lt-ltb j 1024 h)
 
-  back-spotted : (rows : List ℕ) → Listed w p rows → Spotted p k (backSpot w p k) rows (backed meets k rows)
+  back-spotted : p ≢ fel → (rows : List ℕ) → Listed w p rows → Spotted p k (backSpot w p k) rows (backed meets k rows)
   unfolding backSpot backBefore ending
-  back-spotted [] one =
-      let t : load w (tail p) ≡ head p = one .last in
-      rw (t, no-row (head p) (omega arith)) (from-head [] one)
-  back-spotted (y ∷ l) one =
+  back-spotted chained [] one =
+      let t : load w (tail p) ≡ head p = one .last chained in
+      rw (t, no-row (head p) (omega arith)) (from-head [] chained one)
+  back-spotted chained (y ∷ l) one =
       let j : ℕ = lastOf y l in
-      let t : load w (tail p) ≡ link j = one .last ∙ ending-last meets w p k (head p) y l in
-      let row : j < 1024 = chain-row w (head p) (y ∷ l) j (one .chain) (occurs-last meets w p k y l) in
+      let t : load w (tail p) ≡ link j = one .last chained ∙ ending-last meets w p k (head p) y l in
+      let row : j < 1024 = one .row j (occurs-last meets w p k y l) in
       rw (t, a-row j row)
-      (go (meets k j) refl (rw (ending-last meets w p k (head p) y l) at (at-end y l)) (from-head (y ∷ l) one))
+      (go (meets k j) refl (rw (ending-last meets w p k (head p) y l) at (at-end y l)) (from-head (y ∷ l) chained one))
     where
       go : (b : Bool) → meets k (lastOf y l) ≡ b → (meets k (lastOf y l) ≡ true → Spotted p k (link (lastOf y l)) (y ∷ l) (backed meets k (y ∷ l)))
           → Spotted p k (lastCell 1024 w k (head p) (head p)) (y ∷ l) (backed meets k (y ∷ l))
@@ -211,34 +213,21 @@ module _ (w : List ℕ) (p k : ℕ) where
 
 -- with row k
 unfoldable pub lined : (edition : ℕ) → List ℕ → (p k : ℕ) → List ℕ → List ℕ
-lined edition w p k l = cond (eqb edition 1) (insert (ahead w p) k l) (cond (eqb (read w 1 k % 2) 1) (k ∷ l) (backed (atLeast w) k l))
+lined edition w p k l = cond (eqb edition 1) (insert (outranks w) k l) (cond (eqb (read w 1 k % 2) 1) (k ∷ l) (backed (atLeast w) k l))
 
 module _ (w : List ℕ) (L : ℕ → List ℕ) (T : ℕ → List Transaction) (E : List Event) (s : Shown w L T E) (k : ℕ) (off : Loose w k) (edition p : ℕ) (hp : p < 770)
     (sorted : edition ≡ 1 → Sorted precedes (T p)) where
   one : Listed w p (L p)
   one = s .holds .listed p (omega arith)
 
-  spotted : Spotted p k (lineSpot edition w p k) (L p) (lined edition w p k (L p))
-  unfolding lineSpot secondSpot lined ending
-  spotted = go (eqb edition 1) refl (eqb (read w 1 k % 2) 1)
+  -- under edition 2
+  spotted : Spotted p k (secondSpot w p k) (L p) (cond (eqb (read w 1 k % 2) 1) (k ∷ L p) (backed (atLeast w) k (L p)))
+  unfolding secondSpot ending
+  spotted = go (eqb (read w 1 k % 2) 1)
     where
-      agree : (x y : ℕ) → ahead w p x y ≡ precedes (transactionAt w x) (transactionAt w y)
-      agree = ahead-list w p (λ e. omega arith)
-
-      go : (b : Bool) → eqb edition 1 ≡ b → (mark : Bool)
-          → Spotted p k (cond b (spot (ahead w p) w p k) (cond mark (head p) (backSpot w p k))) (L p)
-          (cond b (insert (ahead w p) k (L p)) (cond mark (k ∷ L p) (backed (atLeast w) k (L p))))
-      go true e mark =
-          let rows : Sorted (ahead w p) (L p) = sorted-unmap (transactionAt w) (ahead w p) precedes agree (L p) (rw (s .lists p hp) (sorted (eqb-true edition 1 e))) in
-          record {
-            before = front (ahead w p) k (L p);
-            behind = back (ahead w p) k (L p);
-            parts = sym (front-back (ahead w p) k (L p));
-            cell = spot-front (ahead w p) (order-unmap (transactionAt w) (ahead w p) precedes agree precedes-order) w p k (L p) one rows;
-            is = insert-split (ahead w p) k (L p);
-          }
-      go false e true = record { before = []; behind = L p; parts = refl; cell = refl; is = refl }
-      go false e false = back-spotted w p k (L p) one
+      go : (mark : Bool) → Spotted p k (cond mark (head p) (backSpot w p k)) (L p) (cond mark (k ∷ L p) (backed (atLeast w) k (L p)))
+      go true = record { before = []; behind = L p; parts = refl; cell = refl; is = refl }
+      go false = back-spotted w p k (λ e. omega arith) (L p) one
 
   -- they are the transactions of the machine's line
   lined-is : map (transactionAt w) (lined edition w p k (L p)) ≡ Moves.lineUp edition (transactionAt w k) (T p)
@@ -248,30 +237,44 @@ module _ (w : List ℕ) (L : ℕ → List ℕ) (T : ℕ → List Transaction) (E
       tx : ℕ → Transaction
       tx = transactionAt w
 
-      go : (b mark : Bool) → map tx (cond b (insert (ahead w p) k (L p)) (cond mark (k ∷ L p) (backed (atLeast w) k (L p))))
+      go : (b mark : Bool) → map tx (cond b (insert (outranks w) k (L p)) (cond mark (k ∷ L p) (backed (atLeast w) k (L p))))
           ≡ cond b (insert precedes (tx k) (T p)) (cond mark (tx k ∷ T p) (backed (λ a b. leb (a .priority) (b .priority)) (tx k) (T p)))
       go true mark =
-          map-insert tx (ahead w p) precedes (ahead-list w p (λ e. omega arith)) k (L p) ∙ ap (insert precedes (tx k)) (s .lists p hp)
+          map-insert tx (outranks w) precedes (outranks-is w) k (L p) ∙ ap (insert precedes (tx k)) (s .lists p hp)
       go false true = ap (λ (l : List Transaction). tx k ∷ l) (s .lists p hp)
       go false false =
           map-backed tx (atLeast w) (λ a b. leb (a .priority) (b .priority)) (λ x y. refl) k (L p)
           ∙ ap (backed (λ a b. leb (a .priority) (b .priority)) (tx k)) (s .lists p hp)
 
+  chained : p ≢ fel
+  chained e = omega arith
+
   pub line-keeps : Kept w (lineUp edition w p k) k
   unfolding lineUp
-  line-keeps =
-      rw (spotted .cell) (insert-keeps w L (s .holds) p k (spotted .before) (spotted .behind) (omega arith) (off .row) (spotted .parts) (off .off))
+  line-keeps = go (eqb edition 1)
+    where
+      go : (b : Bool) → Kept w (cond b (put w p k) (insertAt w p (secondSpot w p k) k)) k
+      go true = put-keeps w L (s .holds) p k (omega arith) chained off
+      go false = rw (spotted .cell) (insert-keeps w L (s .holds) p k (spotted .before) (spotted .behind) (omega arith) chained (off .row) (spotted .parts) (off .off))
 
   pub line-placed : load (lineUp edition w p k) (place k) ≡ p
   unfolding lineUp
-  line-placed =
-      rw (spotted .cell) (insert-placed w L (s .holds) p k (spotted .before) (spotted .behind) (omega arith) (off .row) (spotted .parts) (off .off))
+  line-placed = go (eqb edition 1)
+    where
+      go : (b : Bool) → load (cond b (put w p k) (insertAt w p (secondSpot w p k) k)) (place k) ≡ p
+      go true = put-placed w L (s .holds) p k (omega arith) chained off
+      go false = rw (spotted .cell) (insert-placed w L (s .holds) p k (spotted .before) (spotted .behind) (omega arith) chained (off .row) (spotted .parts) (off .off))
 
   line-holds : Holds (lineUp edition w p k) (update p (lined edition w p k (L p)) L)
-  unfolding lineUp
-  line-holds =
-      rw (spotted .cell, spotted .is)
-      (insert-holds w L (s .holds) p k (spotted .before) (spotted .behind) (omega arith) (off .row) (spotted .parts) (off .off))
+  unfolding lineUp lined
+  line-holds = go (eqb edition 1) refl
+    where
+      go : (b : Bool) → eqb edition 1 ≡ b
+          → Holds (cond b (put w p k) (insertAt w p (secondSpot w p k) k)) (update p (cond b (insert (outranks w) k (L p)) (cond (eqb (read w 1 k % 2) 1) (k ∷ L p) (backed (atLeast w) k (L p)))) L)
+      go true e = put-shown w L T E s k off p hp (sorted (eqb-true edition 1 e)) .holds
+      go false e =
+          rw (spotted .cell, spotted .is)
+          (insert-holds w L (s .holds) p k (spotted .before) (spotted .behind) (omega arith) chained (off .row) (spotted .parts) (off .off))
 
   pub line-shown : Shown (lineUp edition w p k) (update p (lined edition w p k (L p)) L) (update p (Moves.lineUp edition (transactionAt w k) (T p)) T) E
   line-shown =

@@ -95,16 +95,16 @@ copied-written w k hk j number block =
 module _ (w : List ℕ) (L : ℕ → List ℕ) (T : ℕ → List Transaction) (E : List Event) (s : Shown w L T E) (k : ℕ) (off : Loose w k) where
   pub free-keeps : Kept w (freeRow w k) k
   unfolding freeRow ending
-  free-keeps = insert-keeps w L (s .holds) free k [] (L free) (omega arith) (off .row) refl (off .off)
+  free-keeps = insert-keeps w L (s .holds) free k [] (L free) (omega arith) (λ e. omega arith) (off .row) refl (off .off)
 
   pub free-placed : load (freeRow w k) (place k) ≡ free
   unfolding freeRow ending
-  free-placed = insert-placed w L (s .holds) free k [] (L free) (omega arith) (off .row) refl (off .off)
+  free-placed = insert-placed w L (s .holds) free k [] (L free) (omega arith) (λ e. omega arith) (off .row) refl (off .off)
 
   pub free-shown : Shown (freeRow w k) (update free (k ∷ L free) L) T E
   unfolding freeRow ending
   free-shown =
       shown-free w (freeRow w k) L T E s free (k ∷ L free)
-      (insert-holds w L (s .holds) free k [] (L free) (omega arith) (off .row) refl (off .off))
+      (insert-holds w L (s .holds) free k [] (L free) (omega arith) (λ e. omega arith) (off .row) refl (off .off))
       (free-keeps .rows)
       refl

@@ -10,7 +10,7 @@ use Rattle.machine.specs.Moves.{wake}
 use Rattle.rows.specs.Layout.{wsl, rel, fel}
 use Rattle.rows.specs.Clock.{arrivals}
 use Rattle.rows.specs.Holds.{update}
-use Rattle.rows.specs.Ordered.{All, Sorted, Ordered}
+use Rattle.rows.specs.Ordered.{All, Sorted, Strict, Ordered}
 use Rattle.rows.specs.Shows.{orderOf, Shows, moved}
 use Rattle.rows.proofs.Insertion.{insert-sorted}
 use Rattle.rows.proofs.Orders.{precedes-order}
@@ -45,7 +45,7 @@ module _ (order : ℕ → Transaction → Transaction → Bool) where
   ordered-ext T U E F lists future h =
       record {
         lists = λ q hq. subst (Sorted (order q)) (lists q hq) (h .lists q hq);
-        future = subst (Sorted earlier) future (h .future);
+        future = subst (Strict earlier) future (h .future);
       }
 
   -- one list changes
@@ -56,8 +56,8 @@ module _ (order : ℕ → Transaction → Transaction → Bool) where
       go q true e was = rw (eqb-true q p e) sorted
       go q false e was = was
 
-  pub ordered-fel : (T : ℕ → List Transaction) (E F : List Event) → Sorted earlier F → Ordered order T E → Ordered order T F
-  ordered-fel T E F sorted h = record { lists = h .lists; future = sorted }
+  pub ordered-fel : (T : ℕ → List Transaction) (E F : List Event) → Strict earlier F → Ordered order T E → Ordered order T F
+  ordered-fel T E F strict h = record { lists = h .lists; future = strict }
 
   -- list p and REL change
   pub ordered-moved : (T : ℕ → List Transaction) (E : List Event) (p : ℕ) (l r : List Transaction) → Sorted (order p) l → Sorted (order rel) r → Ordered order T E → Ordered order (moved p l r T) E

@@ -1,17 +1,18 @@
 -- No operation touches a number past the 16,384th, whatever the buffer holds.
-use Prim.Native.Nat.{ℕ, zero, suc}
+use Prim.Native.Nat.{ℕ, zero, suc, _-_}
 use mathlib.Core.Path.{_≡_, refl, _∙_}
 use mathlib.Core.Bool.{Bool, true, false, cond}
 use mathlib.Core.List.{List}
-use lib.Dec.{ltb}
+use lib.Dec.{ltb, eqb}
 use lib.ListN.{drop}
-use Rattle.rows.specs.Layout.{place, link, head, tail, fel, free, nowhere, fieldAt, listCount}
-use Rattle.rows.specs.Cells.{load, store, read, write, setTime}
-use Rattle.rows.specs.Order.{ahead}
-use Rattle.rows.specs.Lists.{endAt, insertAt, removeRow, removeAt, spot, put, first, takeFirst, cellOf, remove}
+use Rattle.rows.specs.Layout.{slot, place, link, head, tail, fel, free, nowhere, fieldAt, listCount}
+use Rattle.rows.specs.Cells.{load, store, read, write, timeOf, setTime}
+use Rattle.rows.specs.Order.{outranks}
+use Rattle.rows.specs.Lists.{endAt, insertAt, removeRow, removeAt, spot, note, put, first, takeFirst, cellOf, remove}
+use Rattle.rows.specs.Future.{size, settle, pull, above, rise, below, sink, top, keep, scheduleLast, schedule, fillBy, fill, cancelOf, cancel}
 use Rattle.rows.specs.Wake.{wakeRow, wakeAt, passRows, passCell, wakeAll}
 use Rattle.rows.specs.Clock.{isDue, arriveRow, arriveFirst, arrived, arrive}
-use Rattle.rows.specs.Make.{clearParameters, copyParameters, describe, newbornAt, copyAt, freeRow, emptyList, emptyLists, looseRows, freeRows, initial}
+use Rattle.rows.specs.Make.{clearParameters, copyParameters, describe, newbornAt, copyAt, freeRow, emptyList, emptyLists, emptyFel, looseRows, freeRows, initial}
 use Rattle.rows.proofs.Store.{past-store}
 
 abbrev pub past : List ℕ → List ℕ
@@ -53,8 +54,9 @@ past-removeAt w p c = past-cond (ltb (load w c) 1024) w (removeRow w p c (load w
         ∙ past-store w c (load w (link k))
 
 pub past-put : (w : List ℕ) (p k : ℕ) → past (put w p k) ≡ past w
-unfolding put
-past-put w p k = past-insertAt w p (spot (ahead w p) w p k) k
+unfolding put note
+past-put w p k =
+    past-store (insertAt w p (spot (outranks w) w p k) k) _ k ∙ past-insertAt w p (spot (outranks w) w p k) k
 
 pub past-takeFirst : (w : List ℕ) (p : ℕ) → past (takeFirst w p) ≡ past w
 past-takeFirst w p = past-removeAt w p (head p)
@@ -62,6 +64,64 @@ past-takeFirst w p = past-removeAt w p (head p)
 pub past-remove : (w : List ℕ) (p k : ℕ) → past (remove w p k) ≡ past w
 unfolding remove
 past-remove w p k = past-removeAt w p (cellOf w p k)
+
+-- ---- The FEL
+
+past-settle : (w : List ℕ) (i k : ℕ) → past (settle w i k) ≡ past w
+unfolding settle
+past-settle w i k = past-store (store w (slot i) k) (link k) i ∙ past-store w (slot i) k
+
+past-pull : (w : List ℕ) (i j : ℕ) → past (pull w i j) ≡ past w
+unfolding pull
+past-pull w i j = past-cond (ltb (load w (slot j)) 1024) w (settle w i (load w (slot j))) (past-settle w i (load w (slot j)))
+
+past-rise : (n : ℕ) (w : List ℕ) (time k i : ℕ) → past (rise n w time k i) ≡ past w
+unfolding rise
+past-rise zero w time k i = past-settle w i k
+past-rise (suc n) w time k i =
+    go (eqb (above w time k i) i) (past-rise n (pull w i (above w time k i)) time k (above w time k i) ∙ past-pull w i (above w time k i))
+  where
+    go : (t : Bool) → past (rise n (pull w i (above w time k i)) time k (above w time k i)) ≡ past w
+        → past (cond t (settle w i k) (rise n (pull w i (above w time k i)) time k (above w time k i))) ≡ past w
+    go true e = past-settle w i k
+    go false e = e
+
+past-sink : (m : ℕ) (w : List ℕ) (n time k i : ℕ) → past (sink m w n time k i) ≡ past w
+unfolding sink
+past-sink zero w n time k i = past-rise 1024 w time k i
+past-sink (suc m) w n time k i =
+    go (eqb (below w n i) i) (past-sink m (pull w i (below w n i)) n time k (below w n i) ∙ past-pull w i (below w n i))
+  where
+    go : (t : Bool) → past (sink m (pull w i (below w n i)) n time k (below w n i)) ≡ past w
+        → past (cond t (rise 1024 w time k i) (sink m (pull w i (below w n i)) n time k (below w n i))) ≡ past w
+    go true e = past-rise 1024 w time k i
+    go false e = e
+
+past-keep : (w : List ℕ) (n : ℕ) → past (keep w n) ≡ past w
+unfolding keep
+past-keep w n = past-store (store w (tail fel) n) (head fel) (top w n) ∙ past-store w (tail fel) n
+
+pub past-schedule : (w : List ℕ) (k : ℕ) → past (schedule w k) ≡ past w
+unfolding schedule scheduleLast
+past-schedule w k = past-cond (ltb (size w) 1024) w (scheduleLast w (size w) k) (row (size w))
+  where
+    row : (n : ℕ) → past (scheduleLast w n k) ≡ past w
+    row n = past-keep _ _ ∙ past-rise 1024 _ _ k n ∙ past-store w (place k) fel
+
+past-fill : (w : List ℕ) (n i : ℕ) → past (fill w n i) ≡ past w
+unfolding fill fillBy
+past-fill w n i = past-cond (ltb i n) w (fillBy w n i (load w (slot n))) (row (load w (slot n)))
+  where
+    row : (k : ℕ) → past (fillBy w n i k) ≡ past w
+    row k = past-cond (ltb k 1024) w (sink 1024 w n (timeOf w k) k i) (past-sink 1024 w n (timeOf w k) k i)
+
+pub past-cancel : (w : List ℕ) (k : ℕ) → past (cancel w k) ≡ past w
+unfolding cancel cancelOf
+past-cancel w k =
+    past-cond′ (eqb (size w) 0) w (cond (ltb 1024 (size w)) w (cancelOf w (size w - 1) k)) (past-cond′ (ltb 1024 (size w)) w (cancelOf w (size w - 1) k) (row (size w - 1)))
+  where
+    row : (n : ℕ) → past (cancelOf w n k) ≡ past w
+    row n = past-keep _ n ∙ past-fill _ n (load w (link k)) ∙ past-store w (place k) nowhere
 
 -- ---- Waking
 
@@ -89,7 +149,7 @@ past-arriveFirst w s = past-cond (ltb (first w fel) 1024) w (arriveRow w s (firs
   where
     row : (k : ℕ) → past (arriveRow w s k) ≡ past w
     row k =
-        past-put _ _ k ∙ past-store _ _ _ ∙ past-store _ _ _ ∙ past-takeFirst w fel
+        past-put _ _ k ∙ past-store _ _ _ ∙ past-store _ _ _ ∙ past-cancel w k
 
 pub past-arrive : (n time : ℕ) (w : List ℕ) (s : ℕ) → past (arrive n time w s .rows) ≡ past w
 unfolding arrive arrived
@@ -150,4 +210,5 @@ past-free (suc n) w = past-freeRow _ _ ∙ past-free n w
 pub past-initial : (w : List ℕ) → past (initial w) ≡ past w
 unfolding initial
 past-initial w =
-    past-free 1024 (looseRows 1024 (emptyLists listCount w)) ∙ past-loosen 1024 (emptyLists listCount w) ∙ past-empty listCount w
+    past-free 1024 (looseRows 1024 (emptyFel (emptyLists listCount w))) ∙ past-loosen 1024 (emptyFel (emptyLists listCount w))
+    ∙ past-store (emptyLists listCount w) (tail fel) 0 ∙ past-empty listCount w

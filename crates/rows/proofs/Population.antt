@@ -72,19 +72,11 @@ free-kept w w′ L L′ h h′ steady =
 
 -- ---- The machine's lists and the free rows
 
--- a sum whose terms from m on are 0
-sum-short : (m d : ℕ) (f : ℕ → ℕ) → ((k : ℕ) → m ≤ k → k < m + d → f k ≡ 0) → sumTo (m + d) f ≡ sumTo m f
-sum-short m zero f h = ap (λ (n : ℕ). sumTo n f) (omega arith)
-sum-short m (suc d) f h =
-    let e : m + suc d ≡ suc (m + d) = omega arith in
-    rw e (sum-suc (m + d) f ∙ omega (arith, sum-short m d f (λ k a b. h k a (omega arith)), h (m + d) (omega arith) (omega arith)))
-
 module _ (w : List ℕ) (L : ℕ → List ℕ) (T : ℕ → List Transaction) (E : List Event) (s : Shown w L T E) where
   lists-sum : sumTo listCount (λ p. length (L p)) ≡ onLists T E + length (L free)
   unfolding onLists
   lists-sum =
-      sum-short 772 252 (λ p. length (L p)) (λ p a b. ap length (s .spare p (omega arith) (omega arith)))
-      ∙ sum-suc 771 (λ p. length (L p))
+      sum-suc 771 (λ p. length (L p))
       ∙ omega (arith, sum-suc 770 (λ p. length (L p)), sum-ext 770 (λ p. length (L p)) (λ p. length (T p)) (λ p hp. sym (length-map (L p) (transactionAt w)) ∙ ap length (s .lists p hp)), sym (length-map (L fel) (eventAt w)) ∙ ap length (s .future))
 
   pub population : length (L free) + (onLists T E + loose w) ≡ 1024
@@ -92,14 +84,14 @@ module _ (w : List ℕ) (L : ℕ → List ℕ) (T : ℕ → List Transaction) (E
 
   -- a row is free if somebody more may live, and only then
   pub free-if : onLists T E + loose w < 1024 → first w free < 1024
-  free-if h = go (first-of w free (L free) (s .holds .listed free (omega arith)))
+  free-if h = go (first-of w free (L free) (λ e. omega arith) (s .holds .listed free (omega arith)))
     where
       go : First w free (L free) → first w free < 1024
       go (none e n) = absurd (omega (arith, population, ap length e))
       go (some m e n) = n
 
   pub free-only-if : first w free < 1024 → onLists T E + loose w < 1024
-  free-only-if h = go (first-of w free (L free) (s .holds .listed free (omega arith)))
+  free-only-if h = go (first-of w free (L free) (λ e. omega arith) (s .holds .listed free (omega arith)))
     where
       go : First w free (L free) → onLists T E + loose w < 1024
       go (none e n) = absurd (omega arith)

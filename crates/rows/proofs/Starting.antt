@@ -1,16 +1,18 @@
 -- The start of a run: whatever the buffer held, every list is empty and every row is free.
 use Prim.Native.Nat.{ℕ, zero, suc, _≤_, _<_}
 use mathlib.Core.Path.{_≡_, refl, sym, _∙_}
+use mathlib.Core.Logic.{_≢_}
 use mathlib.Core.List.{List, [], _∷_}
 use native.Mathlib.Omega.{arith}
 use native.Mathlib.Decide.{ℕ-discrete}
 use lib.ListN.{length}
 use Rattle.machine.specs.Transaction.{Transaction, Event}
-use Rattle.rows.specs.Layout.{place, head, tail, free, nowhere, links, listCount}
+use Rattle.rows.specs.Layout.{place, head, tail, fel, free, nowhere, links, listCount}
 use Rattle.rows.specs.Cells.{load, store}
-use Rattle.rows.specs.Make.{emptyList, emptyLists, looseRows, freeRow, freeRows, initial}
+use Rattle.rows.specs.Make.{emptyList, emptyLists, emptyFel, looseRows, freeRow, freeRows, initial}
 use Rattle.rows.specs.Living.{loose}
-use Rattle.rows.specs.Holds.{occurs, Chain, ending, Listed, update}
+use Rattle.rows.specs.Holds.{occurs, Chain, ending, Heaped, Listed, update}
+use Rattle.rows.specs.Future.{top}
 use Rattle.rows.specs.Ordered.{Sorted}
 use Rattle.rows.specs.Shows.{Shown, Held, Shows, Loose}
 use Rattle.rows.proofs.Store.{length-store, load-same, load-other}
@@ -81,22 +83,52 @@ module _ (w : List ℕ) (room : 16384 ≤ length w) where
 -- ---- All lists empty
 
 module _ (w : List ℕ) (room : 16384 ≤ length w) where
+  abbrev u : List ℕ
+  u = emptyFel (emptyLists listCount w)
+
+  room-u : 16384 ≤ length u
+  room-u = rw (length-store (emptyLists listCount w) (tail fel) 0) (room-empty w room listCount)
+
   abbrev v : List ℕ
-  v = looseRows 1024 (emptyLists listCount w)
+  v = looseRows 1024 u
 
   room-v : 16384 ≤ length v
-  room-v = room-loosen (emptyLists listCount w) (room-empty w room listCount) 1024
+  room-v = room-loosen u room-u 1024
 
   all-loose : (k : ℕ) → k < 1024 → Loose v k
-  all-loose k hk =
-      record { row = hk; off = loosened (emptyLists listCount w) (room-empty w room listCount) 1024 (omega arith) k hk }
+  all-loose k hk = record { row = hk; off = loosened u room-u 1024 (omega arith) k hk }
+
+  head-empty : (p : ℕ) → p < listCount → load v (head p) ≡ 1024
+  head-empty p hp =
+      loosen-kept u room-u 1024 (omega arith) (head p) (omega arith)
+      ∙ load-other (emptyLists listCount w) (tail fel) 0 (head p) (λ e. omega arith)
+      ∙ emptied w room listCount (omega arith) p hp .0
+
+  tail-empty : (p : ℕ) → p < listCount → p ≢ fel → load v (tail p) ≡ head p
+  tail-empty p hp d =
+      loosen-kept u room-u 1024 (omega arith) (tail p) (omega arith)
+      ∙ load-other (emptyLists listCount w) (tail fel) 0 (tail p) (λ e. d (omega arith))
+      ∙ emptied w room listCount (omega arith) p hp .1
+
+  fel-empty : Heaped v 0
+  unfolding top
+  fel-empty =
+      record {
+        many = loosen-kept u room-u 1024 (omega arith) (tail fel) (omega arith) ∙ load-same (emptyLists listCount w) (tail fel) 0 (room-empty w room listCount) (omega arith);
+        first = head-empty fel (omega arith);
+        seat = λ i hi. absurd (omega arith);
+        seated = λ r hr at. absurd (omega (arith, all-loose r hr .off));
+        order = λ i p hi. absurd (omega arith);
+      }
 
   empty-listed : (p : ℕ) → p < listCount → Listed v p []
   unfolding Chain ending occurs
   empty-listed p hp =
       record {
-        chain = omega (arith, loosen-kept (emptyLists listCount w) (room-empty w room listCount) 1024 (omega arith) (head p) (omega arith), emptied w room listCount (omega arith) p hp .0);
-        last = loosen-kept (emptyLists listCount w) (room-empty w room listCount) 1024 (omega arith) (tail p) (omega arith) ∙ emptied w room listCount (omega arith) p hp .1;
+        chain = λ d. omega (arith, head-empty p hp);
+        last = λ d. tail-empty p hp d;
+        heap = λ e. fel-empty;
+        row = λ k m. absurd (omega arith);
         once = λ k hk. sym (same-other (load v (place k)) p (λ e. omega (arith, all-loose k hk .off)));
       }
 
@@ -106,7 +138,6 @@ module _ (w : List ℕ) (room : 16384 ≤ length w) where
         holds = record { room = room-v; listed = empty-listed };
         lists = λ p hp. refl;
         future = refl;
-        spare = λ p a b. refl;
       }
 
 -- ---- All rows free

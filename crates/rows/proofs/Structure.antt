@@ -9,11 +9,16 @@ use native.Mathlib.Omega.{arith}
 use native.Mathlib.Decide.{ℕ-discrete}
 use borrow.Author.Tests.{eqb-true, eqb-false}
 use lib.Dec.{eqb}
-use Rattle.rows.specs.Layout.{place, link, head, tail, links, listCount}
+use lib.ListN.{length}
+use Rattle.rows.specs.Layout.{slot, place, link, head, tail, fel, links, listCount}
 use Rattle.rows.specs.Cells.{load}
 use Rattle.rows.specs.Holds.{same, occurs, Chain, ending, Listed, update}
 use Rattle.rows.proofs.Occurs.{same-other, same-pos, same-le, occurs-append}
-use Rattle.rows.proofs.Chain.{chain-moved, chain-row, chain-joined, ending-append, EndsAt, start, behind, ends}
+use Rattle.rows.proofs.Data.{SameData}
+use Rattle.rows.proofs.Slots.{sooner-kept}
+use Rattle.rows.proofs.Spot.{short}
+use Rattle.rows.proofs.Heaped.{Unread, heaped-kept}
+use Rattle.rows.proofs.Chain.{chain-moved, chain-joined, ending-append, EndsAt, start, behind, ends}
 
 -- what changed: list p from a ++ b to a ++ b′, with row k going from place o to place o′
 pub record Changed (w w′ : List ℕ) (p k : ℕ) (a b b′ : List ℕ) : Type 0 where
@@ -24,6 +29,7 @@ pub record Changed (w w′ : List ℕ) (p k : ℕ) (a b b′ : List ℕ) : Type 
   pub is : (q : ℕ) → q < listCount → q ≢ p → load w′ (place k) ≢ q
   pub chain : Chain w′ (ending (head p) a) b′
   pub last : load w′ (tail p) ≡ ending (ending (head p) a) b′
+  pub row : (j : ℕ) → 1 ≤ occurs j (a ++ b′) → j < 1024
   pub once : (j : ℕ) → j < 1024 → occurs j (a ++ b′) ≡ same (load w′ (place j)) p
 
 -- ---- The cell behind the first part of a list
@@ -32,7 +38,7 @@ module _ (w : List ℕ) (p : ℕ) (a b : List ℕ) (one : Listed w p (a ++ b)) w
   -- a row of the list is a row, and the list is its place
   pub row-of : (j : ℕ) → 1 ≤ occurs j (a ++ b) → (j < 1024) × (load w (place j) ≡ p)
   row-of j m =
-      let r : j < 1024 = chain-row w (head p) (a ++ b) j (one .chain) m in
+      let r : j < 1024 = one .row j m in
       (r, same-pos (load w (place j)) p (omega (arith, one .once j r)))
 
   row-of-a : (j : ℕ) → 1 ≤ occurs j a → (j < 1024) × (load w (place j) ≡ p)
@@ -79,20 +85,20 @@ module _ (w : List ℕ) (p : ℕ) (a b : List ℕ) (one : Listed w p (a ++ b)) w
 
 -- ---- The law
 
-module _ (w w′ : List ℕ) (L : ℕ → List ℕ) (listed : (q : ℕ) → q < listCount → Listed w q (L q)) (p k : ℕ) (a b b′ : List ℕ) (hp : p < listCount) (hk : k < 1024) (one : Listed w p (a ++ b)) (ch : Changed w w′ p k a b b′) where
+module _ (w w′ : List ℕ) (L : ℕ → List ℕ) (listed : (q : ℕ) → q < listCount → Listed w q (L q)) (p k : ℕ) (a b b′ : List ℕ) (hp : p < listCount) (chained : p ≢ fel) (hk : k < 1024) (one : Listed w p (a ++ b)) (ch : Changed w w′ p k a b b′) where
   -- every other list stays
   module _ (q : ℕ) (hq : q < listCount) (d : q ≢ p) where
     on-q : (j : ℕ) → 1 ≤ occurs j (L q) → (j < 1024) × (load w (place j) ≡ q)
     on-q j m =
-        let r : j < 1024 = chain-row w (head q) (L q) j (listed q hq .chain) m in
+        let r : j < 1024 = listed q hq .row j m in
         (r, same-pos (load w (place j)) q (omega (arith, listed q hq .once j r)))
 
     off-a : (j : ℕ) → (j < 1024) × (load w (place j) ≡ q) → occurs j a ≡ 0
     off-a j f =
         omega (arith, one .once j (f .0), occurs-append j a b, same-other (load w (place j)) p (λ e. d (sym (f .1) ∙ e)))
 
-    other-chain : Chain w′ (head q) (L q)
-    other-chain =
+    other-chain : q ≢ fel → Chain w′ (head q) (L q)
+    other-chain g =
         chain-moved w w′ (head q) (head q) (L q)
         (ch .kept (head q) (end-not-head w p a b one q d) (λ e. omega arith) (λ e. omega arith) (λ e. omega arith))
         (λ j m.
@@ -100,7 +106,7 @@ module _ (w w′ : List ℕ) (L : ℕ → List ℕ) (listed : (q : ℕ) → q < 
         ch .kept (link j) (end-not-link w p a b one j (f .0) (off-a j f))
         (λ e. ch .was q hq d (subst (λ (x : ℕ). load w (place x) ≡ q) (omega arith) (f .1)))
         (λ e. omega arith) (λ e. omega arith))
-        (listed q hq .chain)
+        (listed q hq .chain g)
 
     other-once : (j : ℕ) → j < 1024 → occurs j (L q) ≡ same (load w′ (place j)) q
     other-once j hj = go (ℕ-discrete j k)
@@ -114,11 +120,37 @@ module _ (w w′ : List ℕ) (L : ℕ → List ℕ) (listed : (q : ℕ) → q < 
             listed q hq .once j hj
             ∙ ap (λ (x : ℕ). same x q) (sym (ch .kept (place j) (λ e. omega (arith, end-low w p a b one)) (λ e. omega arith) (λ e. n (omega arith)) (λ e. omega arith)))
 
+    -- the FEL reads nothing that changed
+    unread : q ≡ fel → Unread w w′ (length (L q))
+    unread g =
+        record {
+          heads = ch .kept (head fel) (end-not-head w p a b one fel (λ e. chained (sym e))) (λ e. omega arith) (λ e. omega arith) (λ e. omega arith);
+          tails = ch .kept (tail fel) (λ e. omega (arith, end-high w p a b one)) (λ e. omega arith) (λ e. omega arith) (λ e. chained (omega arith));
+          slots = λ i hi. ch .kept (slot i) (λ e. omega (arith, end-low w p a b one, few)) (λ e. omega (arith, few)) (λ e. omega (arith, few)) (λ e. omega (arith, few));
+          stay = λ r hr at. still r hr (λ e. ch .was q hq d (ap (λ (x : ℕ). load w (place x)) (sym e) ∙ at ∙ sym g)) ∙ at;
+          were = λ r hr at. sym (still r hr (λ e. ch .is q hq d (ap (λ (x : ℕ). load w′ (place x)) (sym e) ∙ at ∙ sym g))) ∙ at;
+          links = λ r hr at.
+              ch .kept (link r) (end-not-link w p a b one r hr (off-a r (hr, at ∙ sym g)))
+              (λ e. ch .was q hq d (ap (λ (x : ℕ). load w (place x)) (omega arith) ∙ at ∙ sym g)) (λ e. omega arith) (λ e. omega arith);
+          order = λ x y hx hy a b. sooner-kept w w′ same-data x y hx hy;
+        }
+      where
+        few : length (L q) ≤ 1024
+        few = short w q (L q) (listed q hq)
+
+        still : (r : ℕ) → r < 1024 → r ≢ k → load w′ (place r) ≡ load w (place r)
+        still r hr e = ch .kept (place r) (λ e. omega (arith, end-low w p a b one)) (λ e. omega arith) (λ f. e (omega arith)) (λ e. omega arith)
+
+        same-data : SameData w w′
+        same-data i hi = ch .kept i (λ e. omega (arith, end-low w p a b one)) (λ e. omega arith) (λ e. omega arith) (λ e. omega arith)
+
     pub other : Listed w′ q (L q)
     other =
         record {
           chain = other-chain;
-          last = ch .kept (tail q) (λ e. omega (arith, end-high w p a b one)) (λ e. omega arith) (λ e. omega arith) (λ e. d (omega arith)) ∙ listed q hq .last;
+          last = λ g. ch .kept (tail q) (λ e. omega (arith, end-high w p a b one)) (λ e. omega arith) (λ e. omega arith) (λ e. d (omega arith)) ∙ listed q hq .last g;
+          heap = λ g. heaped-kept w w′ (length (L q)) (unread g) (listed q hq .heap g);
+          row = listed q hq .row;
           once = other-once;
         }
 
@@ -129,7 +161,7 @@ module _ (w w′ : List ℕ) (L : ℕ → List ℕ) (listed : (q : ℕ) → q < 
   itself =
       record {
         chain =
-            chain-joined w w′ (head p) a b b′
+            λ g. chain-joined w w′ (head p) a b b′
             (λ j m e. omega (arith, own j m))
             (λ j. omega (arith, at-most-once w p a b one j, occurs-append j a b))
             (λ n. ch .kept (head p) n (λ e. omega arith) (λ e. omega arith) (λ e. omega arith))
@@ -138,9 +170,11 @@ module _ (w w′ : List ℕ) (L : ℕ → List ℕ) (listed : (q : ℕ) → q < 
             (λ e. let f : j ≡ k = omega arith in omega (arith, ch .apart, subst (λ (x : ℕ). 1 ≤ occurs x a) f m))
             (λ e. omega arith)
             (λ e. omega (arith, own j m)))
-            (one .chain)
+            (one .chain g)
             (ch .chain);
-        last = ch .last ∙ sym (ending-append (head p) a b′);
+        last = λ g. ch .last ∙ sym (ending-append (head p) a b′);
+        heap = λ g. absurd (chained g);
+        row = ch .row;
         once = ch .once;
       }
 

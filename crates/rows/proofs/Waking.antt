@@ -10,9 +10,9 @@ use borrow.Author.Tests.{lt-ltb}
 use Rattle.machine.specs.Transaction.{Transaction, Event, precedes}
 use Rattle.machine.specs.Setters.{withReturning}
 use Rattle.machine.specs.Lists.{insert}
-use Rattle.rows.specs.Layout.{place, head, rel, listCount}
+use Rattle.rows.specs.Layout.{place, head, rel, fel, listCount}
 use Rattle.rows.specs.Cells.{load, read, setReturning}
-use Rattle.rows.specs.Order.{ahead}
+use Rattle.rows.specs.Order.{outranks}
 use Rattle.rows.specs.Lists.{removeAt, put}
 use Rattle.rows.specs.Wake.{wakeRow, wakeAt}
 use Rattle.rows.specs.Holds.{transactionAt, same, occurs, ending, Listed, update}
@@ -43,6 +43,9 @@ module _ (w : List ℕ) (L : ℕ → List ℕ) (T : ℕ → List Transaction) (E
   hl : p < listCount
   hl = omega arith
 
+  chained : p ≢ fel
+  chained e = omega arith
+
   -- it leaves its list
   abbrev w₁ : List ℕ
   w₁ = removeAt w p cell
@@ -51,18 +54,18 @@ module _ (w : List ℕ) (L : ℕ → List ℕ) (T : ℕ → List Transaction) (E
   T₁ = update p (map (transactionAt w) (a ++ b)) T
 
   kept₁ : Kept w w₁ k
-  kept₁ = remove-keeps w L (s .holds) p k a b hl (woken-row .0) was
+  kept₁ = remove-keeps w L (s .holds) p k a b hl chained (woken-row .0) was
 
   abbrev L₁ : ℕ → List ℕ
   L₁ = update p (a ++ b) L
 
   s₁ : Shown w₁ L₁ T₁ E
   s₁ =
-      shown-list w w₁ L T E s p (a ++ b) (remove-holds w L (s .holds) p k a b hl (woken-row .0) was) (kept₁ .rows) (omega arith)
+      shown-list w w₁ L T E s p (a ++ b) (remove-holds w L (s .holds) p k a b hl chained (woken-row .0) was) (kept₁ .rows) (omega arith)
 
   loose₁ : Loose w₁ k
   loose₁ =
-      record { row = woken-row .0; off = remove-placed w L (s .holds) p k a b hl (woken-row .0) was }
+      record { row = woken-row .0; off = remove-placed w L (s .holds) p k a b hl chained (woken-row .0) was }
 
   -- it is marked
   abbrev w₂ : List ℕ
@@ -80,15 +83,15 @@ module _ (w : List ℕ) (L : ℕ → List ℕ) (T : ℕ → List Transaction) (E
       ∙ ap (withReturning true) (transaction-kept w w₁ k (same-row w w₁ k (woken-row .0) (kept₁ .rows)))
 
   at-cell : load w cell ≡ k
-  at-cell = remove-first w L (s .holds) p k a b hl (woken-row .0) was
+  at-cell = remove-first w L (s .holds) p k a b hl chained (woken-row .0) was
 
   -- it comes onto REL
   abbrev pub woken : ℕ → List ℕ
-  woken = update rel (insert (ahead w₂ rel) k (L₁ rel)) L₁
+  woken = update rel (insert (outranks w₂) k (L₁ rel)) L₁
 
   pub wake-rows : woken p ≡ a ++ b
   wake-rows =
-      update-other rel (insert (ahead w₂ rel) k (L₁ rel)) L₁ p (λ e. omega arith) ∙ update-same p (a ++ b) L p refl
+      update-other rel (insert (outranks w₂) k (L₁ rel)) L₁ p (λ e. omega arith) ∙ update-same p (a ++ b) L p refl
 
   pub wake-shown : Sorted precedes (T rel) → Shown (wakeAt w p cell) woken (moved p (map (transactionAt w) (a ++ b)) (insert precedes (withReturning true (transactionAt w k)) (T rel)) T) E
   unfolding wakeAt wakeRow
@@ -107,11 +110,11 @@ module _ (w : List ℕ) (L : ℕ → List ℕ) (T : ℕ → List Transaction) (E
       rw (at-cell, lt-ltb k 1024 (woken-row .0))
       (around-trans w w₁ (put w₂ rel k) k (kept-around w w₁ k kept₁)
       (around-trans w₁ w₂ (put w₂ rel k) k (write-around w₁ 1 k (read w₁ 1 k / 2 * 2 + 1) (omega arith) (woken-row .0))
-      (kept-around w₂ (put w₂ rel k) k (put-keeps w₂ L₁ (s₂ .holds) rel k (omega arith) loose₂))))
+      (kept-around w₂ (put w₂ rel k) k (put-keeps w₂ L₁ (s₂ .holds) rel k (omega arith) (λ e. omega arith) loose₂))))
 
   on-rel : load (wakeAt w p cell) (place k) ≡ rel
   unfolding wakeAt wakeRow
-  on-rel = rw (at-cell, lt-ltb k 1024 (woken-row .0)) (put-placed w₂ L₁ (s₂ .holds) rel k (omega arith) loose₂)
+  on-rel = rw (at-cell, lt-ltb k 1024 (woken-row .0)) (put-placed w₂ L₁ (s₂ .holds) rel k (omega arith) (λ e. omega arith) loose₂)
 
   pub wake-steady : Steady w (wakeAt w p cell)
   wake-steady =

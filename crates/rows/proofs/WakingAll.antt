@@ -2,7 +2,7 @@
 -- on a `walk`, and of `those`. REL is in order; the list may be in any.
 use Prim.Native.Nat.{ℕ, zero, suc, _+_, _≤_, _<_}
 use mathlib.Core.Path.{_≡_, refl, sym, ap, _∙_, subst}
-use mathlib.Core.Bool.{Bool, true, false, cond, not}
+use mathlib.Core.Bool.{Bool, true, false, cond}
 use mathlib.Core.List.{List, [], _∷_, _++_, map, map-append, append-assoc}
 use native.Mathlib.Omega.{arith}
 use borrow.Author.Tests.{lt-ltb, le-ltb, eqb-true}
@@ -65,7 +65,7 @@ module _ (w : List ℕ) (L : ℕ → List ℕ) (T : ℕ → List Transaction) (E
 
   pub wake-first-held : Woken w (wakeFirst w p) (moved p (drop 1 (T p)) (wake (take 1 (T p)) (T rel)) T) E
   unfolding ending wake
-  wake-first-held = go (first-of w p (L p) (s .holds .listed p (omega arith)))
+  wake-first-held = go (first-of w p (L p) (λ e. omega arith) (s .holds .listed p (omega arith)))
     where
       tx : List ℕ → List Transaction
       tx l = map (transactionAt w) l
@@ -105,7 +105,7 @@ module _ (test : ℕ → List ℕ → ℕ → Bool) (next : ℕ → List ℕ →
   all-done n left w L T s a was =
       let one : Listed w p (a ++ []) = rw was at (s .holds .listed p (omega arith)) in
       let same : map (transactionAt w) a ++ [] ≡ T p = sym (map-append (transactionAt w) a []) ∙ ap (map (transactionAt w)) (sym was) ∙ s .lists p (omega arith) in
-      rw (wakeWalk-stop test next left w p (ending (head p) a) n (chain-after w (head p) a [] (one .chain)))
+      rw (wakeWalk-stop test next left w p (ending (head p) a) n (chain-after w (head p) a [] (one .chain (λ e. omega arith))))
       (record {
         held = record { rows = L; shown = shown-ext w L T (moved p (map (transactionAt w) a ++ []) (T rel) T) E (λ q hq. moved-none p T (map (transactionAt w) a ++ []) (T rel) same refl q) s };
         steady = steady-refl w;
@@ -160,7 +160,7 @@ module _ (test : ℕ → List ℕ → ℕ → Bool) (next : ℕ → List ℕ →
     unfolding Chain walk passRows passCell after
     one-more yes-rest no-rest =
         let one : Listed w p (a ++ k ∷ b) = rw was at (s .holds .listed p (omega arith)) in
-        let c : Chain w cell (k ∷ b) = chain-after w (head p) a (k ∷ b) (one .chain) in
+        let c : Chain w cell (k ∷ b) = chain-after w (head p) a (k ∷ b) (one .chain (λ e. omega arith)) in
         rw (wakeWalk-next test next left w p cell (suc n) n refl (omega (arith, c .0, c .1)), c .0, agree left w k, follow left w k, lt-ltb k 1024 (c .1)) (go (P left (transactionAt w k)))
       where
         go : (t : Bool) → Goal t

@@ -8,7 +8,8 @@ use Rattle.machine.specs.Setters.{withSerial, withReturning}
 use Rattle.machine.specs.Lists.{insert}
 use Rattle.rows.specs.Layout.{serialField, rel, fel, rowCount}
 use Rattle.rows.specs.Cells.{write, setReturning, timeOf}
-use Rattle.rows.specs.Lists.{put, first, takeFirst}
+use Rattle.rows.specs.Lists.{put, first}
+use Rattle.rows.specs.Future.{cancel}
 
 -- the first of the FEL has this time
 unfoldable pub isDue : List ℕ → ℕ → Bool
@@ -16,7 +17,7 @@ isDue w time = ltb (first w fel) rowCount && eqb (timeOf w (first w fel)) time
 
 -- it goes to REL with this serial, not returning
 unfoldable pub arriveRow : List ℕ → ℕ → ℕ → List ℕ
-arriveRow w serial k = put (write (setReturning (takeFirst w fel) k 0) serialField k serial) rel k
+arriveRow w serial k = put (write (setReturning (cancel w k) k 0) serialField k serial) rel k
 
 unfoldable pub arriveFirst : List ℕ → ℕ → List ℕ
 arriveFirst w serial = cond (ltb (first w fel) rowCount) (arriveRow w serial (first w fel)) w

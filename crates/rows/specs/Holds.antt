@@ -2,14 +2,18 @@
 -- proofs/.
 use Prim.Native.Nat.{ℕ, _+_, _%_, _≤_, _<_}
 use mathlib.Core.Path.{_≡_}
-use mathlib.Core.Bool.{cond}
+use mathlib.Core.Logic.{_≢_}
+use mathlib.Core.Bool.{false, cond}
 use mathlib.Core.List.{List, [], _∷_}
 use lib.Dec.{eqb}
+use lib.ListN.{length}
 use mir.Syntax.{w32}
 use mir.Val.{toZ}
 use Rattle.machine.specs.Transaction.{Transaction, Event}
-use Rattle.rows.specs.Layout.{rowCount, listCount, Room, place, link, head, tail, numberField, standingField, parameterField, nextField, serialField, familyField}
+use Rattle.rows.specs.Layout.{rowCount, listCount, Room, slot, place, link, head, tail, fel, numberField, standingField, parameterField, nextField, serialField, familyField}
 use Rattle.rows.specs.Cells.{load, read, priorityOf, timeOf}
+use Rattle.rows.specs.Order.{sooner}
+use Rattle.rows.specs.Future.{up, size, top}
 
 -- ---- Rows as transactions
 
@@ -52,10 +56,21 @@ unfoldable pub ending : ℕ → List ℕ → ℕ
 ending c [] = c
 ending c (k ∷ l) = ending (link k) l
 
--- l is the rows of list p, each row whose place is p once
+-- the FEL has n rows: slots 0..n - 1 and the links of the rows whose place it is lead to each other, no row stands before the one above it, and
+-- the head has the row of slot 0
+pub record Heaped (w : List ℕ) (n : ℕ) : Type 0 where
+  pub many : size w ≡ n
+  pub first : load w (head fel) ≡ top w n
+  pub seat : (i : ℕ) → i < n → (load w (slot i) < rowCount) × (load w (place (load w (slot i))) ≡ fel) × (load w (link (load w (slot i))) ≡ i)
+  pub seated : (k : ℕ) → k < rowCount → load w (place k) ≡ fel → (load w (link k) < n) × (load w (slot (load w (link k))) ≡ k)
+  pub order : (i : ℕ) → 0 < i → i < n → sooner w (load w (slot i)) (load w (slot (up i))) ≡ false
+
+-- l is the rows of list p, each row whose place is p once: in a chain of cells, the FEL in a heap
 pub record Listed (w : List ℕ) (p : ℕ) (l : List ℕ) : Type 0 where
-  pub chain : Chain w (head p) l
-  pub last : load w (tail p) ≡ ending (head p) l
+  pub chain : p ≢ fel → Chain w (head p) l
+  pub last : p ≢ fel → load w (tail p) ≡ ending (head p) l
+  pub heap : p ≡ fel → Heaped w (length l)
+  pub row : (k : ℕ) → 1 ≤ occurs k l → k < rowCount
   pub once : (k : ℕ) → k < rowCount → occurs k l ≡ same (load w (place k)) p
 
 -- L p is the rows of list p, for every list, in whatever order

@@ -5,14 +5,16 @@
 -- |-------|-------------------------------------|-------|------------------------------------|
 -- | 0     | number                              | 9     | move time or stamp, high half      |
 -- | 1     | priority * 2 + returning            | 10    | family                             |
--- | 2..5  | parameters 1..4, the bits of an i32 | 11    | spare: second link                 |
+-- | 2..5  | parameters 1..4, the bits of an i32 | 11    | slots of the FEL, which hold rows  |
 -- | 6     | next block, of a gatherer its count | 12    | place: its list, 1024 on none      |
--- | 7     | serial                              | 13    | link: the row after it on its list |
--- | 8     | move time or stamp, low half        | 14    | heads of lists 0..1023             |
--- |       | (remaining ticks if interrupted)    | 15    | tails of lists 0..1023             |
+-- | 7     | serial                              | 13    | link: the row after it on its list, |
+-- |       |                                     |       | on the FEL its slot                |
+-- | 8     | move time or stamp, low half        | 14    | heads of lists 0..771, then hints  |
+-- |       | (remaining ticks if interrupted)    | 15    | tails of lists 0..771              |
 --
 -- A cell is a number of the buffer that holds a row: a head or a link. 1024, and any number above it, is no row. The tail of a
--- list is its last cell: the head itself where the list is empty.
+-- list is its last cell: the head itself where the list is empty. The FEL is no chain of cells but a heap of slots: its head holds the first row,
+-- or none, and its tail how many there are.
 --
 -- | list        | number                                      |
 -- |-------------|---------------------------------------------|
@@ -24,8 +26,8 @@
 -- | interrupted | 706 + (facility - 1): 706..769, at most one |
 -- | FEL         | 770                                         |
 -- | free        | 771: the rows that are not living           |
--- | others      | 772..1023 are spare and stay empty          |
-use Prim.Native.Nat.{ℕ, _+_, _*_, _-_, _≤_}
+-- | others      | there are none: the rest of field 14 holds hints (Lists), that of field 15 is spare |
+use Prim.Native.Nat.{ℕ, _+_, _*_, _-_, _%_, _≤_}
 use mathlib.Core.List.{List}
 use lib.ListN.{length}
 use Rattle.machine.specs.Limits.{workNumbers}
@@ -40,12 +42,12 @@ rowCount = 1024
 abbrev pub fieldCount : ℕ
 fieldCount = 16
 
--- fields 0..11 are the data of a row
+-- fields 0..10 are the data of a row
 abbrev pub dataFields : ℕ
-dataFields = 12
+dataFields = 11
 
 abbrev pub listCount : ℕ
-listCount = 1024
+listCount = 772
 
 -- from here on, priority * 2 + returning does not fit 32 bits; nor do the serials of one more clock move
 abbrev pub priorityEnd : ℕ
@@ -94,7 +96,10 @@ familyField = 10
 abbrev pub fieldAt : ℕ → ℕ → ℕ
 fieldAt f k = f * rowCount + k
 
--- where the place and the link of row 0, the head and the tail of list 0 stand
+-- where slot 0, the place and the link of row 0, the head and the tail of list 0 stand
+abbrev pub slots : ℕ
+slots = 11264
+
 abbrev pub places : ℕ
 places = 12288
 
@@ -107,6 +112,13 @@ heads = 14336
 abbrev pub tails : ℕ
 tails = 15360
 
+-- where the hints stand, four for each of 63 lists or more that share them
+abbrev pub hints : ℕ
+hints = 15108
+
+abbrev pub slot : ℕ → ℕ
+slot i = slots + i
+
 abbrev pub place : ℕ → ℕ
 place k = places + k
 
@@ -118,6 +130,10 @@ head p = heads + p
 
 abbrev pub tail : ℕ → ℕ
 tail p = tails + p
+
+-- by list and priority
+abbrev pub hint : ℕ → ℕ → ℕ
+hint p priority = hints + (p % 63 * 4 + priority % 4)
 
 -- ---- Lists
 
@@ -158,4 +174,4 @@ free = 771
 
 -- the place of a row that is on no list, as the moving one
 abbrev pub nowhere : ℕ
-nowhere = listCount
+nowhere = 1024

@@ -3,6 +3,7 @@ pub mod Cells
 pub mod Order
 pub mod Lists
 pub mod Lines
+pub mod Future
 pub mod Wake
 pub mod Clock
 pub mod Make
@@ -10,3 +11,4 @@ pub mod Holds
 pub mod Ordered
 pub mod Living
 pub mod Shows
+pub mod First

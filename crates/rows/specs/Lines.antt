@@ -5,8 +5,7 @@ use mathlib.Core.List.{List}
 use lib.Dec.{ltb, leb, eqb}
 use Rattle.rows.specs.Layout.{link, head, tail, links, rowCount, standingField}
 use Rattle.rows.specs.Cells.{load, read, priorityOf}
-use Rattle.rows.specs.Order.{ahead}
-use Rattle.rows.specs.Lists.{insertAt, spot}
+use Rattle.rows.specs.Lists.{insertAt, put}
 
 -- has row j at least the priority of row k?
 abbrev pub atLeast : List ℕ → (k j : ℕ) → Bool
@@ -37,9 +36,6 @@ backSpot w p k = backBefore w p k (load w (tail p))
 unfoldable pub secondSpot : List ℕ → (p k : ℕ) → ℕ
 secondSpot w p k = cond (eqb (read w standingField k % 2) 1) (head p) (backSpot w p k)
 
-unfoldable pub lineSpot : (edition : ℕ) → List ℕ → (p k : ℕ) → ℕ
-lineSpot edition w p k = cond (eqb edition 1) (spot (ahead w p) w p k) (secondSpot w p k)
-
 -- row k comes onto list p
 unfoldable pub lineUp : (edition : ℕ) → List ℕ → (p k : ℕ) → List ℕ
-lineUp edition w p k = insertAt w p (lineSpot edition w p k) k
+lineUp edition w p k = cond (eqb edition 1) (put w p k) (insertAt w p (secondSpot w p k) k)

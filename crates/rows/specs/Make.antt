@@ -1,7 +1,7 @@
 -- The row machine: rows that come to life and end, and the buffer at the start of a run.
 use Prim.Native.Nat.{ℕ, zero, suc, _+_, _*_, _/_}
 use mathlib.Core.List.{List}
-use Rattle.rows.specs.Layout.{place, head, tail, free, nowhere, numberField, standingField, nextField, serialField, familyField, listCount, rowCount, parameterField}
+use Rattle.rows.specs.Layout.{place, head, tail, fel, free, nowhere, numberField, standingField, nextField, serialField, familyField, listCount, rowCount, parameterField}
 use Rattle.rows.specs.Cells.{store, read, write, setTime}
 use Rattle.rows.specs.Lists.{insertAt}
 
@@ -43,6 +43,10 @@ unfoldable pub emptyLists : ℕ → List ℕ → List ℕ
 emptyLists zero w = w
 emptyLists (suc n) w = emptyList (emptyLists n w) n
 
+-- and the heap
+abbrev pub emptyFel : List ℕ → List ℕ
+emptyFel w = store w (tail fel) 0
+
 -- rows 0..n - 1 are on no list
 unfoldable pub looseRows : ℕ → List ℕ → List ℕ
 looseRows zero w = w
@@ -54,4 +58,4 @@ freeRows zero w = w
 freeRows (suc n) w = freeRow (freeRows n w) n
 
 unfoldable pub initial : List ℕ → List ℕ
-initial w = freeRows rowCount (looseRows rowCount (emptyLists listCount w))
+initial w = freeRows rowCount (looseRows rowCount (emptyFel (emptyLists listCount w)))

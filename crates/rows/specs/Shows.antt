@@ -2,10 +2,10 @@
 use Prim.Native.Nat.{ℕ, _<_}
 use mathlib.Core.Path.{_≡_}
 use mathlib.Core.Bool.{Bool, false, cond}
-use mathlib.Core.List.{List, [], map}
+use mathlib.Core.List.{List, map}
 use lib.Dec.{ltb}
 use Rattle.machine.specs.Transaction.{Transaction, Event, precedes}
-use Rattle.rows.specs.Layout.{place, wsl, rel, fel, free, nowhere, listCount, rowCount}
+use Rattle.rows.specs.Layout.{place, wsl, rel, fel, nowhere, rowCount}
 use Rattle.rows.specs.Cells.{load}
 use Rattle.rows.specs.Ordered.{Ordered}
 use Rattle.rows.specs.Holds.{transactionAt, eventAt, Holds, update}
@@ -15,7 +15,6 @@ pub record Shown (w : List ℕ) (L : ℕ → List ℕ) (T : ℕ → List Transac
   pub holds : Holds w L
   pub lists : (p : ℕ) → p < fel → map (transactionAt w) (L p) ≡ T p
   pub future : map (eventAt w) (L fel) ≡ E
-  pub spare : (p : ℕ) → free < p → p < listCount → L p ≡ []
 
 -- with some rows, the lists in whatever order
 pub record Held (w : List ℕ) (T : ℕ → List Transaction) (E : List Event) : Type 0 where

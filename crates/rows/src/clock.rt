@@ -1,6 +1,5 @@
 // A clock move: all of one time go from the FEL to REL.
 
-use crate::FEL;
 use crate::FEL_HEAD;
 use crate::REL;
 use crate::ROWS;
@@ -9,8 +8,8 @@ use crate::cells::load;
 use crate::cells::set_returning;
 use crate::cells::time;
 use crate::cells::write;
+use crate::future::cancel;
 use crate::lists::put;
-use crate::lists::take_first;
 ghost use mathlib.Core.Path.{_≡_};
 ghost use Prim.Native.Nat.{_+_, _<_, _≤_};
 ghost use Rattle.rows.specs.Layout.{rowCount, serialEnd, Room};
@@ -32,7 +31,7 @@ fn arrive_row(w: &mut [u32], serial: u32, k: u32)
     requires { ⌜ k < rowCount ⌝ }
     ensures { λ _. ⌜ now (w .exit) ≡ arriveRow (now (w .entry)) serial k ⌝ }
 {
-    take_first(w, FEL);
+    cancel(w, k);
     set_returning(w, k, 0);
     write(w, SERIAL, k, serial);
     put(w, REL, k);

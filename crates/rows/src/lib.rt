@@ -4,6 +4,7 @@
 
 pub mod cells;
 pub mod clock;
+pub mod future;
 pub mod lines;
 pub mod lists;
 pub mod make;
@@ -40,6 +41,8 @@ pub const TIME_HIGH: u32 = 9;
 
 pub const FAMILY: u32 = 10;
 
+pub const SLOT: u32 = 11;
+
 pub const PLACE: u32 = 12;
 
 pub const LINK: u32 = 13;
@@ -50,6 +53,8 @@ pub const HEAD: u32 = 14;
 pub const TAIL: u32 = 15;
 
 // Where those four fields begin.
+pub const SLOTS: u32 = SLOT * ROWS;
+
 pub const PLACES: u32 = PLACE * ROWS;
 
 pub const LINKS: u32 = LINK * ROWS;
@@ -66,7 +71,7 @@ pub const WORD_END: u64 = 4_294_967_296;
 
 // Lists: the QL of a server is its number less one, its WELs follow from WELS on; then WSL and REL, the gatherers of each block, the
 // interrupted one of each facility, FEL and the free rows.
-pub const LISTS: u32 = 1_024;
+pub const LISTS: u32 = 772;
 
 pub const WELS: u32 = 64;
 
@@ -84,11 +89,20 @@ pub const FEL: u32 = 770;
 
 pub const FREE: u32 = 771;
 
+// Where walks onto a list begin (lists): HINTS_EACH for each of HINTED lists or more that share them.
+pub const HINTS: u32 = HEADS + LISTS;
+
+pub const HINTED: u32 = 63;
+
+pub const HINTS_EACH: u32 = 4;
+
 pub const WSL_HEAD: u32 = HEADS + WSL;
 
 pub const FEL_HEAD: u32 = HEADS + FEL;
 
+pub const FEL_SIZE: u32 = TAILS + FEL;
+
 pub const FREE_HEAD: u32 = HEADS + FREE;
 
 // The place of a row that is on no list.
-pub const NOWHERE: u32 = LISTS;
+pub const NOWHERE: u32 = 1_024;

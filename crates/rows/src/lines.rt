@@ -10,11 +10,11 @@ use crate::cells::load;
 use crate::cells::priority;
 use crate::cells::read;
 use crate::lists::insert_at;
-use crate::lists::spot;
+use crate::lists::put;
 ghost use mathlib.Core.Path.{_≡_};
 ghost use Prim.Native.Nat.{_<_, _≤_};
 ghost use Rattle.rows.specs.Layout.{rowCount, listCount, Room};
-ghost use Rattle.rows.specs.Lines.{atLeast, foundAt, lastCell, lastMeets, backBefore, backSpot, secondSpot, lineSpot, lineUp};
+ghost use Rattle.rows.specs.Lines.{atLeast, foundAt, lastCell, lastMeets, backBefore, backSpot, secondSpot, lineUp};
 
 // Has row j at least the priority of row k?
 fn at_least(w: &[u32], k: u32, j: u32) -> bool
@@ -104,18 +104,6 @@ fn second_spot(w: &[u32], p: u32, k: u32) -> u32
     back_spot(w, p, k)
 }
 
-// The cell at which row k comes onto list p.
-fn line_spot(w: &[u32], p: u32, k: u32, edition: u32) -> u32
-    requires { ⌜ p < listCount ⌝ }
-    requires { ⌜ k < rowCount ⌝ }
-    ensures { λ r. ⌜ r ≡ lineSpot edition (now (w .entry)) p k ⌝ }
-{
-    if edition == 1 {
-        return spot(w, p, k);
-    }
-    second_spot(w, p, k)
-}
-
 // Row k, which is on no list, comes onto list p.
 pub fn line_up(w: &mut [u32], p: u32, k: u32, edition: u32)
     requires { ⌜ Room (now w) ⌝ }
@@ -123,6 +111,10 @@ pub fn line_up(w: &mut [u32], p: u32, k: u32, edition: u32)
     requires { ⌜ k < rowCount ⌝ }
     ensures { λ _. ⌜ now (w .exit) ≡ lineUp edition (now (w .entry)) p k ⌝ }
 {
-    let c = line_spot(w, p, k, edition);
+    if edition == 1 {
+        put(w, p, k);
+        return;
+    }
+    let c = second_spot(w, p, k);
     insert_at(w, p, c, k);
 }

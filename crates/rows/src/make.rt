@@ -1,6 +1,7 @@
 // Rows that come to life and end, and the buffer at the start of a run.
 
 use crate::FAMILY;
+use crate::FEL_SIZE;
 use crate::FREE;
 use crate::FREE_HEAD;
 use crate::HEADS;
@@ -160,6 +161,7 @@ pub fn initialise(w: &mut [u32])
     ensures { λ _. ⌜ now (w .exit) ≡ initial (now (w .entry)) ⌝ }
 {
     empty_lists(w);
+    store(w, FEL_SIZE, 0);
     loose_rows(w);
     free_rows(w);
 }

@@ -26,10 +26,11 @@ use Rattle.machine.proofs.Sorted.{each-those}
 use Rattle.machine.proofs.Chosen.{those-insert, those-one, those-else, those-replaced}
 use Rattle.tables.specs.Forms.{blockForms}
 use Rattle.tables.specs.Represents.{Represents}
-use Rattle.rows.specs.Layout.{head, fel}
-use Rattle.rows.specs.Cells.{load, read, write, priorityOf, timeOf, setTime}
-use Rattle.rows.specs.Lists.{removeAt, put, first, takeFirst, loserCell}
-use Rattle.rows.specs.Holds.{transactionAt, eventAt, ending, update}
+use Rattle.rows.specs.Layout.{fel}
+use Rattle.rows.specs.Cells.{read, write, priorityOf, timeOf, setTime}
+use Rattle.rows.specs.Lists.{put, first, takeFirst}
+use Rattle.rows.specs.Future.{schedule, cancel, loses, loser}
+use Rattle.rows.specs.Holds.{transactionAt, eventAt, update}
 use Rattle.rows.specs.Ordered.{All, Sorted}
 use Rattle.rows.proofs.Data.{transaction-kept}
 use Rattle.rows.proofs.Fields.{write-serial, write-stamp, write-time}
@@ -37,9 +38,9 @@ use Rattle.rows.proofs.Making.{Written, written, written-trans, time-written}
 use Rattle.rows.proofs.Ordering.{shows-ext}
 use Rattle.rows.proofs.Take.{Head}
 use Rattle.rows.proofs.Take as Take
-use Rattle.rows.proofs.Found as Found
-use Rattle.rows.proofs.Interrupting.{Loser, loser-of, taken-later, interrupt-shows, resume-shows}
-use Rattle.rows.proofs.Laws.{Wakes, Takes, head-shows, take-shows}
+use Rattle.rows.proofs.Later.{rows-strict}
+use Rattle.rows.proofs.Interrupting.{Loser, nobody, somebody, loser-of, loses-is, taken-later, interrupt-shows, resume-shows}
+use Rattle.rows.proofs.Laws.{Wakes, Takes, fresh-given, head-shows, take-shows}
 use Rattle.state.specs.declared.scalars.Scalars.{Scalars}
 use Rattle.state.specs.ScalarSetters.{putSerial}
 use Rattle.state.specs.Sane.{Sane}
@@ -149,11 +150,10 @@ module _ (m : BlockModel) (tape : List (List ℕ)) (tapeBytes tables lists : Lis
 
   module _ (used : ltb 0 (server .inUse) ≡ true) (is-seized : server .preempted ≡ false) where
     abbrev Row : ℕ → Bool
-    Row k = cond (eqb (read w 0 k) (server .holder)) (ltb (priorityOf w k) (t .priority)) false
+    Row k = loses w (server .holder) (t .priority) k
 
     row-loses : (k : ℕ) → losesTo t server (eventAt w k) ≡ Row k
-    unfolding eventAt transactionAt
-    row-loses k = loses-seized t server (eventAt w k) used is-seized
+    row-loses k = loses-seized t server (eventAt w k) used is-seized ∙ sym (loses-is w (server .holder) (t .priority) k)
 
     none-lose : (l : List ℕ) → All (λ k. Row k ≡ false) l → Each (λ e. losesTo t server e ≡ false) (map (eventAt w) l)
     unfolding All
@@ -166,7 +166,7 @@ module _ (m : BlockModel) (tape : List (List ℕ)) (tapeBytes tables lists : Lis
     nobody-loses : All (λ k. Row k ≡ false) (L fel) → losersTo t v s ≡ []
     nobody-loses h = ap (those (losesTo t server)) (sym future) ∙ those-none (losesTo t server) (map (eventAt w) (L fel)) (none-lose (L fel) h)
 
-    module _ (a b : List ℕ) (j : ℕ) (was : L fel ≡ a ++ j ∷ b) (row : j < 1024) (others : All (λ k. Row k ≡ false) a) (loses : Row j ≡ true) where
+    module _ (a b : List ℕ) (j : ℕ) (was : L fel ≡ a ++ j ∷ b) (row : j < 1024) (others : All (λ k. Row k ≡ false) a) (lost : Row j ≡ true) where
       abbrev e : Event
       e = eventAt w j
 
@@ -174,19 +174,19 @@ module _ (m : BlockModel) (tape : List (List ℕ)) (tapeBytes tables lists : Lis
       parts = sym future ∙ ap (map (eventAt w)) was ∙ map-append (eventAt w) a (j ∷ b)
 
       losers : losersTo t v s ≡ e ∷ those (losesTo t server) (map (eventAt w) b)
-      losers = ap (those (losesTo t server)) parts ∙ those-first (losesTo t server) (map (eventAt w) a) e (map (eventAt w) b) (none-lose a others) (row-loses j ∙ loses)
+      losers = ap (those (losesTo t server)) parts ∙ those-first (losesTo t server) (map (eventAt w) a) e (map (eventAt w) b) (none-lose a others) (row-loses j ∙ lost)
 
       left-is : replaceFirst (losesTo t server) [] (s .fel) ≡ map (eventAt w) (a ++ b)
       left-is =
           ap (replaceFirst (losesTo t server) []) parts
-          ∙ replaced (losesTo t server) [] (map (eventAt w) a) e (map (eventAt w) b) (none-lose a others) (row-loses j ∙ loses)
+          ∙ replaced (losesTo t server) [] (map (eventAt w) a) e (map (eventAt w) b) (none-lose a others) (row-loses j ∙ lost)
           ∙ sym (map-append (eventAt w) a b)
 
       abbrev left : ℕ
       left = timeOf w j - s .view .clock
 
       abbrev w₁ : List ℕ
-      w₁ = removeAt w fel (ending (head fel) a)
+      w₁ = cancel w j
 
       abbrev w₂ : List ℕ
       w₂ = setTime w₁ j left
@@ -249,15 +249,14 @@ module _ (m : BlockModel) (tape : List (List ℕ)) (tapeBytes tables lists : Lis
             samples = ready′ .samples;
           }
 
-      on-is : (c : ℕ) → c ≡ ending (head fel) a → interruptOn w (x .clock) (v - 1) c j ≡ put w₂ p j
+      on-is : interruptOn w (x .clock) (v - 1) j ≡ put w₂ p j
       unfolding interruptOn
-      on-is c cell = rw (cell, stands .counting .clock)
+      on-is = rw (stands .counting .clock)
 
-      over-done : (c : ℕ) → c ≡ ending (head fel) a
-          → Done tapeBytes (takeOver tables w tally x (v - 1) c j (t .number)) (entering (Moves.goOn t (Execute.checkWels v (setHolder v (t .number) true s₁))))
+      over-done : Done tapeBytes (takeOver tables w tally x (v - 1) j (t .number)) (entering (Moves.goOn t (Execute.checkWels v (setHolder v (t .number) true s₁))))
       unfolding takeOver holdUnits interrupt
-      over-done c cell =
-          rw (on-is c cell, units-are m tape tapeBytes tables lists proper rep s sane r t stands v (fac .0) there, capacity-is m tape tapeBytes tables lists proper rep s sane r t stands v (fac .0) there)
+      over-done =
+          rw (on-is, units-are m tape tapeBytes tables lists proper rep s sane r t stands v (fac .0) there, capacity-is m tape tapeBytes tables lists proper rep s sane r t stands v (fac .0) there)
           (ready-done tapeBytes x t v (fac .0) high′ (server .inUse) (server .capacity) (put w₂ p j) (setUse tally (v - 1) (server .inUse) (t .number) 1) (setHolder v (t .number) true s₁)
           (set-ready tapeBytes x t v (fac .0) high′ (server .inUse) (server .capacity) (put w₂ p j) tally s₁ stopped-ready (server .inUse) (t .number) true)
           (next-low proper t s sane moving))
@@ -283,20 +282,20 @@ module _ (m : BlockModel) (tape : List (List ℕ)) (tapeBytes tables lists : Lis
   unfolding preemptSeized
   seized-done used is-seized =
       rw (holder-is m tape tapeBytes tables lists proper rep s sane r t stands v (fac .0) there, priority-is)
-      (go (loser-of w (server .holder) (t .priority) (L fel) (listing .shows .shown .holds .listed fel (omega arith))))
+      (go (loser-of w (server .holder) (t .priority) (L fel) (listing .shows .shown .holds .listed fel (omega arith)) (rows-strict w L (listsOf s₀) (s .fel) (listing .shows .shown) (listing .shows .ordered .future))))
     where
-      c : ℕ
-      c = loserCell w (server .holder) (t .priority)
+      k₀ : ℕ
+      k₀ = loser w (server .holder) (t .priority)
 
       go : Loser w (server .holder) (t .priority) (L fel)
-          → Done tapeBytes (cond (ltb (load w c) 1024) (takeOver tables w tally x (v - 1) c (load w c) (t .number)) (takeUnits tables w tally x (v - 1) 1 (t .number) 1)) (Doing (losersTo t v s))
-      go (Found.nobody apart far) =
-          rw (le-ltb (load w c) 1024 far)
+          → Done tapeBytes (cond (ltb k₀ 1024) (takeOver tables w tally x (v - 1) k₀ (t .number)) (takeUnits tables w tally x (v - 1) 1 (t .number) 1)) (Doing (losersTo t v s))
+      go (nobody apart far) =
+          rw (le-ltb k₀ 1024 far)
           (subst (λ (l : List Event). Done tapeBytes (takeUnits tables w tally x (v - 1) 1 (t .number) 1) (Doing l)) (sym (nobody-loses used is-seized apart)) as-seize)
-      go (Found.somebody a b k was cell found row others loses) =
+      go (somebody a b k was found row others lost) =
           rw (found, lt-ltb k 1024 row)
-          (subst (λ (l : List Event). Done tapeBytes (takeOver tables w tally x (v - 1) c k (t .number)) (Doing l)) (sym (losers used is-seized a b k was row others loses))
-          (over-done used is-seized a b k was row others loses c cell))
+          (subst (λ (l : List Event). Done tapeBytes (takeOver tables w tally x (v - 1) k (t .number)) (Doing l)) (sym (losers used is-seized a b k was row others lost))
+          (over-done used is-seized a b k was row others lost))
 
   preempt-rows : Done tapeBytes
       (cond (cond (eqb (bit (server .preempted)) 0) (ltb 0 (server .inUse)) false) (preemptSeized tables w tally x (v - 1) (t .number)) (takeUnits tables w tally x (v - 1) 1 (t .number) 1))
@@ -381,8 +380,14 @@ module _ (m : BlockModel) (tape : List (List ℕ)) (tapeBytes tables lists : Lis
         write-time u₂ j (written u₁ 7 j n (omega arith) row .room room-left) row due
         ∙ ap (λ (u : Transaction). record { time = due; who = withStamp due u }) (write-serial u₁ j room-left row n ∙ ap (withSerial n) (transaction-kept w u₁ j (first-taken .same) ∙ row-is))
 
-    resumed : Wakes w (put u₃ fel j) (update p (drop 1 (listsOf s₀ p)) (listsOf s₀)) (insert earlier (eventAt u₃ j) (s .fel))
-    resumed = resume-shows w (listsOf s₀) (s .fel) (listing .shows) p (omega (arith, high′)) row u₃ all-written
+    serial-given : transactionAt u₃ j .serial ≡ suc (s .serial)
+    unfolding eventAt
+    serial-given = ap (λ (e : Event). e .who .serial) event-is
+
+    resumed : Wakes w (schedule u₃ j) (update p (drop 1 (listsOf s₀ p)) (listsOf s₀)) (insert earlier (eventAt u₃ j) (s .fel))
+    resumed =
+        resume-shows w (listsOf s₀) (s .fel) (listing .shows) p (omega (arith, high′)) row u₃ all-written
+        (fresh-given (transactionAt u₃ j) (s .serial) (s .fel) serial-given (sane .timely .serials))
 
     abbrev b₂ : State
     b₂ = resume one v b₁
@@ -407,13 +412,13 @@ module _ (m : BlockModel) (tape : List (List ℕ)) (tapeBytes tables lists : Lis
         of-it : (y : Interrupted) → ofFacility v y ≡ true → y .facility ≡ v
         of-it y z = unfold ofFacility in eqb-true (y .facility) v z
 
-    resumed-ready : Ready tapeBytes (putSerial n x) t v (server .inUse) (server .capacity) (put u₃ fel j) tally₁ b₂
+    resumed-ready : Ready tapeBytes (putSerial n x) t v (server .inUse) (server .capacity) (schedule u₃ j) tally₁ b₂
     unfolding resume toFel Moves.setUse
     resumed-ready =
         record {
           listing =
-              listing-steady w (put u₃ fel j) (x .moving) (some t) s₀ b₂
-              (shows-ext (put u₃ fel j) _ (listsOf b₂) _ (b₂ .fel) on-lists (ap (λ (e : Event). insert earlier e (s .fel)) event-is) (resumed .shows)) (resumed .steady) refl listing;
+              listing-steady w (schedule u₃ j) (x .moving) (some t) s₀ b₂
+              (shows-ext (schedule u₃ j) _ (listsOf b₂) _ (b₂ .fel) on-lists (ap (λ (e : Event). insert earlier e (s .fel)) event-is) (resumed .shows)) (resumed .steady) refl listing;
           tallying = tallying-ext tapeBytes tally₁ b₁ b₂ refl refl refl refl refl (held .tallying);
           counting =
               record {
@@ -433,7 +438,7 @@ module _ (m : BlockModel) (tape : List (List ℕ)) (tapeBytes tables lists : Lis
           samples = held .samples;
         }
 
-    resume-is : resumeOn w x (v - 1) j ≡ moved (putSerial n x) (put u₃ fel j)
+    resume-is : resumeOn w x (v - 1) j ≡ moved (putSerial n x) (schedule u₃ j)
     unfolding resumeOn toFuture
     resume-is = rw (due-is, serial-is)
 
@@ -441,7 +446,7 @@ module _ (m : BlockModel) (tape : List (List ℕ)) (tapeBytes tables lists : Lis
     unfolding resumeRows holdUnits moved
     resume-done =
         rw (resume-is, number-is, units-are m tape tapeBytes tables lists proper rep s sane r t stands v (fac .0) there, capacity-is m tape tapeBytes tables lists proper rep s sane r t stands v (fac .0) there)
-        (ready-done tapeBytes (putSerial n x) t v (fac .0) high′ (server .inUse) (server .capacity) (put u₃ fel j) tally₁ b₂ resumed-ready (next-low proper t s sane moving))
+        (ready-done tapeBytes (putSerial n x) t v (fac .0) high′ (server .inUse) (server .capacity) (schedule u₃ j) tally₁ b₂ resumed-ready (next-low proper t s sane moving))
 
   -- ---- RETURN
 
@@ -510,19 +515,19 @@ module _ (m : BlockModel) (tape : List (List ℕ)) (tapeBytes tables lists : Lis
 -- ---- Bytes of trace and turns are counted elsewhere
 
 module _ (tables w tally : List ℕ) (x : Scalars) where
-  over-used : (v c j number : ℕ) → takeOver tables w tally x v c j number .scalars .used ≡ x .used
+  over-used : (v j number : ℕ) → takeOver tables w tally x v j number .scalars .used ≡ x .used
   unfolding takeOver holdUnits rowsOf
-  over-used v c j number = go-on-used (checkWels (interruptOn w (x .clock) v c j) v (inUse tally v) (capacity tables v)) x
+  over-used v j number = go-on-used (checkWels (interruptOn w (x .clock) v j) v (inUse tally v) (capacity tables v)) x
 
   seized-used : (v number : ℕ) → preemptSeized tables w tally x v number .scalars .used ≡ x .used
   unfolding preemptSeized
-  seized-used v number = go (ltb (load w c) 1024)
+  seized-used v number = go (ltb j 1024)
     where
-      c : ℕ
-      c = loserCell w (holder tally v) (priorityOf w (x .moving))
+      j : ℕ
+      j = loser w (holder tally v) (priorityOf w (x .moving))
 
-      go : (b : Bool) → cond {A = Rows} b (takeOver tables w tally x v c (load w c) number) (takeUnits tables w tally x v 1 number 1) .scalars .used ≡ x .used
-      go true = over-used v c (load w c) number
+      go : (b : Bool) → cond {A = Rows} b (takeOver tables w tally x v j number) (takeUnits tables w tally x v 1 number 1) .scalars .used ≡ x .used
+      go true = over-used v j number
       go false = take-used tables w tally x v 1 number 1
 
   pub preempt-used : (at : ℕ) → Preempting.preempt tables w tally x at .scalars .used ≡ x .used

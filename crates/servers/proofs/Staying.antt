@@ -86,7 +86,7 @@ module _ (test : ℕ → List ℕ → ℕ → Bool) (next : ℕ → List ℕ →
   unfolding Chain
   nobody-stays n left w L T s a was =
       let one : Listed w p (a ++ []) = rw was at (s .holds .listed p (omega arith)) in
-      stays-stop test next left w p (ending (head p) a) n (chain-after w (head p) a [] (one .chain))
+      stays-stop test next left w p (ending (head p) a) n (chain-after w (head p) a [] (one .chain (λ e. omega arith)))
 
   module _ (n left : ℕ) (w : List ℕ) (L : ℕ → List ℕ) (T : ℕ → List Transaction) (s : Shown w L T E) (a : List ℕ) (k : ℕ) (b : List ℕ) (was : L p ≡ a ++ k ∷ b) where
     abbrev cell : ℕ
@@ -101,7 +101,7 @@ module _ (test : ℕ → List ℕ → ℕ → Bool) (next : ℕ → List ℕ →
     unfolding Chain walk
     one-more gone stayed =
         let one : Listed w p (a ++ k ∷ b) = rw was at (s .holds .listed p (omega arith)) in
-        let c : Chain w cell (k ∷ b) = chain-after w (head p) a (k ∷ b) (one .chain) in
+        let c : Chain w cell (k ∷ b) = chain-after w (head p) a (k ∷ b) (one .chain (λ e. omega arith)) in
         rw (passed n left w cell k (c .0) (c .1)) (go (P left (transactionAt w k)))
       where
         rest : Parted

@@ -4,9 +4,10 @@ use Prim.Native.Nat.{ℕ, _+_, _-_}
 use mathlib.Core.Bool.{Bool, false, cond}
 use mathlib.Core.List.{List}
 use lib.Dec.{ltb, eqb}
-use Rattle.rows.specs.Layout.{numberField, interrupted, fel, rowCount}
-use Rattle.rows.specs.Cells.{load, read, priorityOf, timeOf, setTime}
-use Rattle.rows.specs.Lists.{removeAt, put, first, takeFirst, loserCell}
+use Rattle.rows.specs.Layout.{numberField, interrupted, rowCount}
+use Rattle.rows.specs.Cells.{read, priorityOf, timeOf, setTime}
+use Rattle.rows.specs.Lists.{put, first, takeFirst}
+use Rattle.rows.specs.Future.{cancel, loser}
 use Rattle.state.specs.declared.scalars.Scalars.{Scalars}
 use Rattle.state.specs.Stands.{Rows, rowsOf}
 use Rattle.moves.specs.Motion.{Moved, stopped}
@@ -22,20 +23,20 @@ use Rattle.servers.specs.Freeing.{freeOne}
 unfoldable pub seized : List ℕ → (v : ℕ) → Bool
 seized tally v = cond (eqb (preempted tally v) 0) (ltb 0 (inUse tally v)) false
 
--- row j of cell c of the FEL is interrupted, with its remaining ticks kept
-unfoldable pub interruptOn : List ℕ → (clock v c j : ℕ) → List ℕ
-interruptOn w clock v c j = put (setTime (removeAt w fel c) j (timeOf w j - clock)) (interrupted + v) j
+-- row j of the FEL is interrupted, with its remaining ticks kept
+unfoldable pub interruptOn : List ℕ → (clock v j : ℕ) → List ℕ
+interruptOn w clock v j = put (setTime (cancel w j) j (timeOf w j - clock)) (interrupted + v) j
 
 -- the facility is taken from it
-unfoldable pub takeOver : List ℕ → List ℕ → List ℕ → Scalars → (v c j number : ℕ) → Rows
-takeOver tables w tally x v c j number =
-    holdUnits (interruptOn w (x .clock) v c j) tally x v (inUse tally v) number 1 (capacity tables v)
+unfoldable pub takeOver : List ℕ → List ℕ → List ℕ → Scalars → (v j number : ℕ) → Rows
+takeOver tables w tally x v j number =
+    holdUnits (interruptOn w (x .clock) v j) tally x v (inUse tally v) number 1 (capacity tables v)
 
 -- "a holder of lower priority that stands on the FEL" loses it; else PREEMPT waits
 unfoldable pub preemptSeized : List ℕ → List ℕ → List ℕ → Scalars → (v number : ℕ) → Rows
 preemptSeized tables w tally x v number =
-    let c : ℕ = loserCell w (holder tally v) (priorityOf w (x .moving)) in
-    cond (ltb (load w c) rowCount) (takeOver tables w tally x v c (load w c) number) (takeUnits tables w tally x v 1 number 1)
+    let j : ℕ = loser w (holder tally v) (priorityOf w (x .moving)) in
+    cond (ltb j rowCount) (takeOver tables w tally x v j number) (takeUnits tables w tally x v 1 number 1)
 
 unfoldable pub preempt : List ℕ → List ℕ → List ℕ → Scalars → ℕ → Rows
 preempt tables w tally x at =

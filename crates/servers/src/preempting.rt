@@ -12,19 +12,17 @@ use flow::to_future;
 use machine::ends::NOT_HOLDER;
 use machine::ends::NOT_IN_USE;
 use moves::stop;
-use rows::FEL;
 use rows::INTERRUPTED;
 use rows::NUMBER;
 use rows::ROWS;
-use rows::cells::load;
 use rows::cells::priority;
 use rows::cells::read;
 use rows::cells::set_time;
 use rows::cells::time;
+use rows::future::cancel;
+use rows::future::loser;
 use rows::lists::first;
-use rows::lists::loser_cell;
 use rows::lists::put;
-use rows::lists::remove_at;
 use rows::lists::take_first;
 use state::Scalars;
 use state::less64;
@@ -49,15 +47,15 @@ fn seized(tally: &[u64], v: u32) -> bool
     in_use(tally, v) > 0
 }
 
-// Row j of cell c of the FEL goes to the interrupted one's list of a facility, with its remaining ticks kept.
-fn interrupt_on(work: &mut [u32], clock: u64, v: u32, c: u32, j: u32)
+// Row j of the FEL goes to the interrupted one's list of a facility, with its remaining ticks kept.
+fn interrupt_on(work: &mut [u32], clock: u64, v: u32, j: u32)
     requires { ⌜ Room (now work) ⌝ }
     requires { ⌜ v < serverCount ⌝ }
     requires { ⌜ j < rowCount ⌝ }
-    ensures { λ _. ⌜ now (work .exit) ≡ interruptOn (now (work .entry)) clock v c j ⌝ }
+    ensures { λ _. ⌜ now (work .exit) ≡ interruptOn (now (work .entry)) clock v j ⌝ }
 {
     let left = less64(time(work, j), clock);
-    remove_at(work, FEL, c);
+    cancel(work, j);
     set_time(work, j, left);
     put(work, INTERRUPTED + v, j);
 }
@@ -68,7 +66,6 @@ fn take_over(
     tally: &mut [u64],
     x: Scalars,
     v: u32,
-    c: u32,
     j: u32,
     number: u64,
 ) -> Scalars
@@ -76,11 +73,11 @@ fn take_over(
     requires { ⌜ x .moving < rowCount ⌝ }
     requires { ⌜ v < serverCount ⌝ }
     requires { ⌜ j < rowCount ⌝ }
-    ensures { λ r. ⌜ rowsOf r (now (work .exit)) (now (tally .exit)) ≡ takeOver (now (tables .entry)) (now (work .entry)) (now (tally .entry)) x v c j number ⌝ }
+    ensures { λ r. ⌜ rowsOf r (now (work .exit)) (now (tally .exit)) ≡ takeOver (now (tables .entry)) (now (work .entry)) (now (tally .entry)) x v j number ⌝ }
 {
     let units = in_use(tally, v);
     let all = capacity(tables, v);
-    interrupt_on(work, x.clock, v, c, j);
+    interrupt_on(work, x.clock, v, j);
     hold_units(work, tally, x, v, units, number, 1, all)
 }
 
@@ -98,10 +95,9 @@ fn preempt_seized(
     requires { ⌜ v < serverCount ⌝ }
     ensures { λ r. ⌜ rowsOf r (now (work .exit)) (now (tally .exit)) ≡ preemptSeized (now (tables .entry)) (now (work .entry)) (now (tally .entry)) x v number ⌝ }
 {
-    let c = loser_cell(work, holder(tally, v), priority(work, x.moving));
-    let j = load(work, c);
+    let j = loser(work, holder(tally, v), priority(work, x.moving));
     if j < ROWS {
-        return take_over(tables, work, tally, x, v, c, j, number);
+        return take_over(tables, work, tally, x, v, j, number);
     }
     take_units(tables, work, tally, x, v, 1, number, 1)
 }

@@ -14,6 +14,7 @@ use Rattle.machine.specs.Block.{Block, generate, facility, storage, facts, Bloc
 use Rattle.machine.specs.State.{State}
 use Rattle.machine.specs.Moves as Moves
 use Rattle.machine.specs.Run.{startOf, startAt, idle, start}
+use Rattle.machine.proofs.Clocks.{Given, with-fresh}
 use Rattle.machine.proofs.Proper.{Names, ProperBlock, Proper}
 use Rattle.tables.specs.Forms.{blockForms}
 use Rattle.tables.specs.Numbers.{blockNumbers}
@@ -118,11 +119,12 @@ record Beginning (lists b : ℕ) (s : State) : Type 0 where
   made : s .made ≤ b
   serials : s .serial ≤ b
   samples : length (s .samples) ≡ lists
+  given : Given s
 
 arrival-beginning : (lists b list p n : ℕ) (s : State) → Beginning lists b s → (l : List ℕ) → Beginning lists (suc b) (Moves.arrival l list p n s)
 unfolding Moves.arrival Moves.toFel
 arrival-beginning lists b list p n s h [] =
-    record { clock = h .clock; ended = h .ended; made = omega (arith, h .made); serials = omega (arith, h .serials); samples = h .samples }
+    record { clock = h .clock; ended = h .ended; made = omega (arith, h .made); serials = omega (arith, h .serials); samples = h .samples; given = h .given }
 arrival-beginning lists b list p n s h (time ∷ left) =
     record {
       clock = h .clock;
@@ -130,6 +132,7 @@ arrival-beginning lists b list p n s h (time ∷ left) =
       made = omega (arith, h .made);
       serials = omega (arith, h .serials);
       samples = length-set (s .samples) (list - 1) _ ∙ h .samples;
+      given = with-fresh _ s (omega arith) (h .given);
     }
 
 module _ (m : BlockModel) (tape : List (List ℕ)) (tapeBytes tables lists : List ℕ) (proper : Proper m tape) (rep : Represents m tape tapeBytes tables lists) where
@@ -197,7 +200,7 @@ module _ (m : BlockModel) (tape : List (List ℕ)) (tapeBytes tables lists : Lis
               subst (λ (rows : Rows). Stands tapeBytes rows none (Moves.arrival (time ∷ left) list p (suc b) s)) (sym (unspent time left e))
               (arrives-stands tapeBytes (r .tally) s (h .stands .tallying) list (named .0 .0) there few time left e (r .work) (r .scalars) none (h .stands .listing) (h .stands .counting)
               (record { room = omega (arith, h .beginning .made, low); order = omega (arith, h .beginning .ended); serials = omega (arith, h .beginning .serials, low); numbers = omega (arith, h .beginning .made, low) })
-              p (suc b) (named .1)
+              (h .beginning .given) p (suc b) (named .1)
               (omega (arith, h .beginning .clock, drawn-most tapeBytes (r .tally) (s .samples) (list - 1) (h .stands .tallying .samples) (h .stands .tallying .size) (omega (arith, named .0 .0, there)) few time left e)))
 
     -- another kind
@@ -216,6 +219,7 @@ module _ (m : BlockModel) (tape : List (List ℕ)) (tapeBytes tables lists : Lis
           made = omega (arith, h .beginning .made);
           serials = omega (arith, h .beginning .serials);
           samples = h .beginning .samples;
+          given = h .beginning .given;
         }
 
     block-stands : (x : Block) → blockAt m (suc b) ≡ x → Stood (suc b) (beginBlock tables tapeBytes r b) (startOf x (suc b) s)
@@ -248,7 +252,7 @@ module _ (m : BlockModel) (tape : List (List ℕ)) (tapeBytes tables lists : Lis
     first =
         record {
           stands = stands-of tapeBytes (startScalars (m .counter)) (initial w) (listsSet 16 lists tally) none (idle m tape) (idle-listing m tape w room) (idle-tallying m tape tapeBytes tables lists tally proper rep size empty) (idle-counting m tape proper);
-          beginning = record { clock = refl; ended = refl; made = omega arith; serials = omega arith; samples = proper .tapes };
+          beginning = record { clock = refl; ended = refl; made = omega arith; serials = omega arith; samples = proper .tapes; given = tt };
         }
 
     rows-are : startRows (headerOf m) tables tapeBytes lists w tally ≡ beginBlocks (length (m .blocks)) tables tapeBytes r₀ 0

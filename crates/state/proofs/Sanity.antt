@@ -248,7 +248,7 @@ module _ {m : BlockModel} {tape : List (List ℕ)} (proper : Proper m tape) (s :
   taken-timely : Timely (inForce .maxClock) (takenOf s)
   taken-timely =
       let k : Timely (inForce .maxClock) (taking (s .moving) s) = taking-timely (s .moving) s (hs .timely) in
-      record { clock = k .clock; times = k .times; remaining = k .remaining }
+      record { clock = k .clock; times = k .times; remaining = k .remaining; serials = k .serials }
 
   taken-entries : Few (s .turns) (takenOf s .view .entries)
   taken-entries = subst (Few (s .turns)) (sym (taken-took .entries)) (hs .entries)
@@ -375,7 +375,7 @@ sane-turns n e s more few k =
       shape = k .shape;
       placed = record { ql = k .placed .ql; wel = k .placed .wel; wsl = k .placed .wsl; rel = k .placed .rel; fel = k .placed .fel; gatherers = k .placed .gatherers; interrupted = k .placed .interrupted; moving = k .placed .moving };
       waits = k .waits;
-      timely = record { clock = k .timely .clock; times = k .timely .times; remaining = k .timely .remaining };
+      timely = record { clock = k .timely .clock; times = k .timely .times; remaining = k .timely .remaining; serials = k .timely .serials };
       samples = k .samples;
       serials = k .serials;
       made = k .made;

@@ -17,8 +17,9 @@ use Rattle.machine.specs.Setters.{withStamp, setMoving}
 use Rattle.tables.specs.Layout as Layout
 use Rattle.rows.specs.Layout.{wsl, fel, free}
 use Rattle.rows.specs.Cells.{write, setTime}
-use Rattle.rows.specs.Order.{ahead}
+use Rattle.rows.specs.Order.{outranks, sooner}
 use Rattle.rows.specs.Lists.{put}
+use Rattle.rows.specs.Future.{schedule}
 use Rattle.rows.specs.Lines as Lines
 use Rattle.rows.specs.Holds.{transactionAt, eventAt, update}
 use Rattle.rows.specs.Ordered.{Sorted}
@@ -27,7 +28,7 @@ use Rattle.rows.proofs.Showing.{update-other}
 use Rattle.rows.proofs.Ordering.{line-sorted, shows-ext}
 use Rattle.rows.proofs.Write.{write-shown, write-loose}
 use Rattle.rows.proofs.Fields.{write-stamp}
-use Rattle.rows.proofs.Laws.{shows-put, shows-line, shows-put-fel}
+use Rattle.rows.proofs.Laws.{Fresh, shows-put, shows-line, shows-schedule}
 use Rattle.rows.proofs.LiningUp.{lined}
 use Rattle.rows.proofs.Steady.{Steady, steady-transaction}
 use Rattle.rows.proofs.Population.{free-kept}
@@ -48,7 +49,7 @@ listing-ext w k o s s′ lists future living h =
     }
 
 -- a field of the moving row is written
-pub listing-write : (w : List ℕ) (k : ℕ) (t : Transaction) (s : State) (f x : ℕ) (t′ : Transaction) → f < 12
+pub listing-write : (w : List ℕ) (k : ℕ) (t : Transaction) (s : State) (f x : ℕ) (t′ : Transaction) → f < 11
     → Listing w k (some t) s → transactionAt (write w f k x) k ≡ t′ → Listing (write w f k x) k (some t′) s
 listing-write w k t s f x t′ hf h e =
     record {
@@ -85,7 +86,7 @@ module _ (w : List ℕ) (k : ℕ) (t : Transaction) (s s′ : State) (h : Listin
             (shows-put w (listsOf s) (s .fel) (h .shows) k (h .mover .0) p hp (line-sorted p (listsOf s p) low (h .shows .ordered .lists p hp)));
         mover = refl;
         spare =
-            rw (update-other p (insert (ahead w p) k (h .shows .rows p)) (h .shows .rows) free (λ e. omega arith), living) (h .spare);
+            rw (update-other p (insert (outranks w) k (h .shows .rows p)) (h .shows .rows) free (λ e. omega arith), living) (h .spare);
       }
 
   -- the moving row comes onto a line of waiters
@@ -105,16 +106,16 @@ module _ (w : List ℕ) (k : ℕ) (t : Transaction) (s s′ : State) (h : Listin
       }
 
   -- the moving row comes onto the FEL
-  pub listing-put-fel : ((q : ℕ) → q < 770 → listsOf s q ≡ listsOf s′ q) → insert earlier (eventAt w k) (s .fel) ≡ s′ .fel
-      → Listing (put w fel k) 1024 none s′
-  listing-put-fel lists future =
+  pub listing-schedule : Fresh t (s .fel) → ((q : ℕ) → q < 770 → listsOf s q ≡ listsOf s′ q) → insert earlier (eventAt w k) (s .fel) ≡ s′ .fel
+      → Listing (schedule w k) 1024 none s′
+  listing-schedule fresh lists future =
       record {
         shows =
-            shows-ext (put w fel k) (listsOf s) (listsOf s′) (insert earlier (eventAt w k) (s .fel)) (s′ .fel) lists future
-            (shows-put-fel w (listsOf s) (s .fel) (h .shows) k (h .mover .0));
+            shows-ext (schedule w k) (listsOf s) (listsOf s′) (insert earlier (eventAt w k) (s .fel)) (s′ .fel) lists future
+            (shows-schedule w (listsOf s) (s .fel) (h .shows) k (h .mover .0) (rw (h .mover .1) fresh));
         mover = refl;
         spare =
-            rw (update-other fel (insert (ahead w fel) k (h .shows .rows fel)) (h .shows .rows) free (λ e. omega arith), living) (h .spare);
+            rw (update-other fel (insert (sooner w) k (h .shows .rows fel)) (h .shows .rows) free (λ e. omega arith), living) (h .spare);
       }
 
 -- rows move between lists, none of them moving or free

@@ -15,8 +15,8 @@ future-requires c κs = omega arith
 drain-requires : tie.Need-drain-requires
 drain-requires c κs = omega arith
 
-drain-requires-2 : tie.Need-drain-requires-2
-drain-requires-2 c κs = omega arith
+drain-later-requires : tie.Need-drain-later-requires
+drain-later-requires c κs = omega arith
 
 queue-requires : tie.Need-queue-requires
 queue-requires c κs = omega arith
@@ -31,4 +31,4 @@ returns : tie.Need-returns
 returns c = omega arith
 
 pub exercise-spec : {M : Type 1} → statement M
-exercise-spec = tie.close (tie.spec initialise-requires ready-requires future-requires drain-requires drain-requires-2 queue-requires middle-requires same-length returns)
+exercise-spec = tie.close (tie.spec initialise-requires ready-requires future-requires drain-requires drain-later-requires queue-requires middle-requires same-length returns)

@@ -3,17 +3,17 @@ use native.Mathlib.Omega.{arith}
 use Rattle.lists.proofs.future.Statement.{statement}
 use Rattle.lists.proofs.future.Tie as tie
 
-enter-requires : tie.Need-enter-requires
-enter-requires c κs = omega arith
+enter-later-requires : tie.Need-enter-later-requires
+enter-later-requires c κs = omega arith
 
-enter-requires-2 : tie.Need-enter-requires-2
-enter-requires-2 c κs = omega arith
+enter-later-requires-2 : tie.Need-enter-later-requires-2
+enter-later-requires-2 c κs = omega arith
 
-enter-requires-3 : tie.Need-enter-requires-3
-enter-requires-3 c κs = omega arith
+enter-later-requires-3 : tie.Need-enter-later-requires-3
+enter-later-requires-3 c κs = omega arith
 
-enter-requires-4 : tie.Need-enter-requires-4
-enter-requires-4 c κs = omega arith
+enter-later-requires-4 : tie.Need-enter-later-requires-4
+enter-later-requires-4 c κs = omega arith
 
 arrive-requires : tie.Need-arrive-requires
 arrive-requires c κs = omega arith
@@ -25,4 +25,4 @@ returns : tie.Need-returns
 returns c = omega arith
 
 pub future-spec : {M : Type 1} → statement M
-future-spec = tie.close (tie.spec enter-requires enter-requires-2 enter-requires-3 enter-requires-4 arrive-requires same-length returns)
+future-spec = tie.close (tie.spec enter-later-requires enter-later-requires-2 enter-later-requires-3 enter-later-requires-4 arrive-requires same-length returns)

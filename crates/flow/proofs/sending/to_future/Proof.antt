@@ -13,17 +13,17 @@ write-requires c κs = search needs
 set-time-requires : tie.Need-set-time-requires
 set-time-requires c κs = search needs
 
-put-requires : tie.Need-put-requires
-put-requires c κs = search needs
+schedule-requires : tie.Need-schedule-requires
+schedule-requires c κs = search needs
 
 same-length : tie.Need-same-length
 same-length c = search needs
 
 returns : tie.Need-returns
 unfolding toFuture
-returns c = rw (← c .before .before .before .before .before .before .before .before .before .before .before .before .plus32 .ensures, c .before .before .put .ensures, c .before .before .before .before .before .before .set-time .ensures, c .before .before .before .before .before .before .before .before .before .before .write .ensures)
+returns c = rw (← c .before .before .before .before .before .before .before .before .before .before .before .before .plus32 .ensures, c .before .before .schedule .ensures, c .before .before .before .before .before .before .set-time .ensures, c .before .before .before .before .before .before .before .before .before .before .write .ensures)
 
 pub to-future-spec : {M : Type 1} → statement M
 to-future-spec =
     tie.close
-    (tie.spec plus32-requires write-requires set-time-requires put-requires same-length returns)
+    (tie.spec plus32-requires write-requires set-time-requires schedule-requires same-length returns)

@@ -4,8 +4,8 @@ use borrow.Author.Needs.{needs}
 use Rattle.rows.proofs.clock.arrive_row.Statement.{statement}
 use Rattle.rows.proofs.clock.arrive_row.Tie as tie
 
-take-first-requires : tie.Need-take-first-requires
-take-first-requires c κs = search needs
+cancel-requires : tie.Need-cancel-requires
+cancel-requires c κs = search needs
 
 set-returning-requires : tie.Need-set-returning-requires
 set-returning-requires c κs = search needs
@@ -21,13 +21,13 @@ same-length c = search needs
 
 returns : tie.Need-returns
 unfolding arriveRow
-returns c = rw (c .before .before .put .ensures, c .before .before .before .before .before .before .write .ensures, c .before .before .before .before .before .before .before .before .before .before .set-returning .ensures, c .before .before .before .before .before .before .before .before .before .before .before .before .before .before .take-first .ensures .1)
+returns c = rw (c .before .before .put .ensures, c .before .before .before .before .before .before .write .ensures, c .before .before .before .before .before .before .before .before .before .before .set-returning .ensures, c .before .before .before .before .before .before .before .before .before .before .before .before .before .before .cancel .ensures)
 
 pub arrive-row-spec : {M : Type 1} → statement M
 arrive-row-spec =
     tie.close
     (tie.spec
-    take-first-requires
+    cancel-requires
     set-returning-requires
     write-requires
     put-requires

@@ -6,7 +6,7 @@ use native.Mathlib.Omega.{arith}
 use native.Mathlib.Numerals.{add-one}
 use lib.ListN.{length}
 use Rattle.rows.specs.Make.{looseRows}
-use Rattle.rows.specs.Layout.{place, listCount}
+use Rattle.rows.specs.Layout.{place, nowhere}
 use Rattle.rows.specs.Cells.{store}
 use Rattle.rows.proofs.make.loose_rows.Statement.{statement}
 use Rattle.rows.proofs.make.loose_rows.Tie as tie
@@ -35,7 +35,7 @@ loop-less c = omega arith
 
 loop-again : tie.Need-loop-again Inv-loop μ-loop
 unfolding looseRows
-loop-again c = (rw (add-one (c .before .before .before .before .before .loop .k)) (c .before .before .store .ensures ∙ ap (λ (v : List ℕ). store v (place (c .before .before .before .before .before .loop .k)) listCount) (c .before .before .before .before .before .loop .inv .0)), (omega arith, omega (arith, c .before .before .store .kept)))
+loop-again c = (rw (add-one (c .before .before .before .before .before .loop .k)) (c .before .before .store .ensures ∙ ap (λ (v : List ℕ). store v (place (c .before .before .before .before .before .loop .k)) nowhere) (c .before .before .before .before .before .loop .inv .0)), (omega arith, omega (arith, c .before .before .store .kept)))
 
 same-length : tie.Need-same-length Inv-loop μ-loop
 same-length c = omega arith

@@ -10,8 +10,8 @@ time-requires c κs = search needs
 less64-requires : tie.Need-less64-requires
 less64-requires c κs = search needs
 
-remove-at-requires : tie.Need-remove-at-requires
-remove-at-requires c κs = search needs
+cancel-requires : tie.Need-cancel-requires
+cancel-requires c κs = search needs
 
 set-time-requires : tie.Need-set-time-requires
 set-time-requires c κs = search needs
@@ -27,7 +27,7 @@ same-length c = search needs
 
 returns : tie.Need-returns
 unfolding interruptOn
-returns c = rw (← c .before .before .before .before .before .before .before .before .before .before .before .before .before .time .ensures, ← c .before .before .before .before .before .before .before .before .before .before .before .before .less64 .ensures, c .before .before .put .ensures, c .before .before .before .before .before .before .set-time .ensures, c .before .before .before .before .before .before .before .before .before .before .remove-at .ensures)
+returns c = rw (← c .before .before .before .before .before .before .before .before .before .before .before .before .before .time .ensures, ← c .before .before .before .before .before .before .before .before .before .before .before .before .less64 .ensures, c .before .before .put .ensures, c .before .before .before .before .before .before .set-time .ensures, c .before .before .before .before .before .before .before .before .before .before .cancel .ensures)
 
 pub interrupt-on-spec : {M : Type 1} → statement M
 interrupt-on-spec =
@@ -35,7 +35,7 @@ interrupt-on-spec =
     (tie.spec
     time-requires
     less64-requires
-    remove-at-requires
+    cancel-requires
     set-time-requires
     add-put
     put-requires
