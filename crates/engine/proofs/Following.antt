@@ -83,7 +83,7 @@ module _ (model tape : List ℕ) (budget : ℕ) (work trace report : List ℕ) (
   abbrev Good : State → Type 0
   Good = Kept m times (length trace)
 
-  follows : Follows m budget (length trace) (endOf budget (length trace)) (turnRows (headerOf m) tables tape) closeRows R Good
+  pub follows : Follows m budget (length trace) (endOf budget (length trace)) (turnRows (headerOf m) tables tape) closeRows R Good
   follows =
       record {
         end = λ a s g h. ends a s h;

@@ -2,9 +2,15 @@
 -- rows is an instance.
 use Prim.Native.Nat.{ℕ, zero, suc}
 use mathlib.Core.Bool.{true, false}
+use mathlib.Core.List.{List, [], _∷_}
 use lib.Dec.{eqb}
 
 module _ {A : Type 0} (endOf : A → ℕ) (step : A → A) (close : ℕ → A → A) where
   unfoldable pub runSteps : ℕ → A → A
   runSteps zero a = a
   runSteps (suc n) a = elim (eqb (endOf a) 0) [ true ↦ runSteps n (step a) | false ↦ close (endOf a) a ]
+
+  -- what they pass: one before each step, and the last
+  unfoldable pub passed : ℕ → A → List A
+  passed zero a = a ∷ []
+  passed (suc n) a = elim (eqb (endOf a) 0) [ true ↦ a ∷ passed n (step a) | false ↦ close (endOf a) a ∷ [] ]

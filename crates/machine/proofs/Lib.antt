@@ -13,6 +13,7 @@ pub mod Conservation
 pub mod Sorted
 pub mod Losers
 pub mod Lines
+pub mod Serials
 pub mod Waiting
 pub mod Ready
 pub mod Queued

@@ -3,7 +3,7 @@
 use Prim.Native.Nat.{ℕ, zero, suc, _+_, _*_, _/_, _%_, _-_, _<_}
 use mathlib.Core.Path.{_≡_, refl, sym, ap, _∙_, subst}
 use mathlib.Core.Bool.{Bool, true, false, cond}
-use mathlib.Core.List.{List, [], _∷_}
+use mathlib.Core.List.{List, []}
 use mathlib.Core.Option.{Option, none, some}
 use native.Mathlib.Omega.{arith}
 use borrow.Author.Tests.{ne-eqb}
@@ -15,17 +15,16 @@ use Rattle.machine.specs.Block.{Code, Block, BlockModel, welIndex}
 use Rattle.machine.specs.State.{State}
 use Rattle.machine.specs.Setters.{withNext, withSerial, withReturning, setSerial, setMoving, setEnd}
 use Rattle.machine.specs.Moves as Moves
-use Rattle.machine.specs.Claims.{Each}
 use Rattle.machine.proofs.Sorted as Machine
 use Rattle.rows.specs.Layout.{wsl}
 use Rattle.rows.specs.Cells.{read, write}
 use Rattle.rows.specs.Lines.{lineUp}
-use Rattle.rows.specs.Ordered.{All, Sorted}
+use Rattle.rows.specs.Ordered.{Sorted}
 use Rattle.rows.specs.Shows.{orderOf}
 use Rattle.rows.specs.Holds.{transactionAt, update}
 use Rattle.rows.proofs.Insertion.{insert-sorted}
 use Rattle.rows.proofs.Orders.{precedes-order}
-use Rattle.rows.proofs.Ordering.{sorted-line}
+use Rattle.rows.proofs.Ordering.{sorted-of, sorted-line}
 use Rattle.rows.proofs.Fields.{write-next, write-serial, set-returning}
 use Rattle.state.specs.declared.scalars.Scalars.{Scalars}
 use Rattle.state.specs.Stands.{Rows, rowsOf, listsOf, Listing, Tallying, Counting, Stands, noteOf, Done}
@@ -176,24 +175,13 @@ pub record Puts (edition p : ℕ) (into : Transaction → State → State) (s : 
   pub end : (t : Transaction) → s .end ≡ into t s .end
   pub moving : (t : Transaction) → s .moving ≡ into t s .moving
 
--- the machine's sorted lists are the rows'
-all-of : (t : Transaction) (l : List Transaction) → Each (λ u. precedes u t ≡ false) l → All (λ u. precedes u t ≡ false) l
-unfolding All
-all-of t [] h = tt
-all-of t (u ∷ l) h = (h .0, all-of t l (h .1))
-
-sorted-of : (l : List Transaction) → Machine.Sorted precedes l → Sorted precedes l
-unfolding Sorted
-sorted-of [] h = tt
-sorted-of (t ∷ l) h = (all-of t l (h .0), sorted-of l (h .1))
-
 pub puts-ql : (edition v : ℕ) (s : State) → v - 1 < 64 → v - 1 < length (s .ql) → (edition ≡ 1 → Machine.Sorted precedes (getD (s .ql) (v - 1) []))
     → Puts edition (v - 1) (Moves.toQl edition v) s
 unfolding Moves.toQl
 puts-ql edition v s h len sorted =
     record {
       lists = λ t q hq. rw (lists-ql s (v - 1) h) (lists-set-ql s (v - 1) (Moves.lineUp edition t (getD (s .ql) (v - 1) [])) h len q);
-      sorted = λ first. rw (lists-ql s (v - 1) h) (sorted-of (getD (s .ql) (v - 1) []) (sorted first));
+      sorted = λ first. rw (lists-ql s (v - 1) h) (sorted-of precedes (getD (s .ql) (v - 1) []) (sorted first));
       stays = λ t. sorted-line (v - 1) (omega arith) _;
       future = λ t. refl;
       clock = λ t. refl;
@@ -212,7 +200,7 @@ unfolding Moves.toWel
 puts-wel edition v code s h len sorted =
     record {
       lists = λ t q hq. rw (lists-wel s (welIndex v code) h) (lists-set-wel s (welIndex v code) (Moves.lineUp edition t (getD (s .wel) (welIndex v code) [])) h len q);
-      sorted = λ first. rw (lists-wel s (welIndex v code) h) (sorted-of (getD (s .wel) (welIndex v code) []) (sorted first));
+      sorted = λ first. rw (lists-wel s (welIndex v code) h) (sorted-of precedes (getD (s .wel) (welIndex v code) []) (sorted first));
       stays = λ t. sorted-line (64 + welIndex v code) (omega arith) _;
       future = λ t. refl;
       clock = λ t. refl;

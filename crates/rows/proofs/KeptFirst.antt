@@ -4,24 +4,26 @@ use Prim.Native.Nat.{ℕ, zero, suc, _≤_, _<_}
 use mathlib.Core.Path.{_≡_, refl, sym, ap, _∙_, subst}
 use mathlib.Core.Logic.{_≢_}
 use mathlib.Core.Bool.{Bool, true, false, cond, not}
-use mathlib.Core.List.{List, [], _∷_}
+use mathlib.Core.List.{List, [], _∷_, map}
 use native.Mathlib.Omega.{arith}
 use native.Mathlib.Decide.{ℕ-discrete}
 use borrow.Author.Tests.{lt-ltb, le-ltb, eqb-true, eqb-false, not-false}
 use lib.Dec.{eqb}
-use Rattle.machine.specs.Transaction.{Transaction, Event}
+use lib.ListN.{take}
+use Rattle.machine.specs.Transaction.{Transaction, Event, precedes}
 use Rattle.rows.specs.Layout.{place, fel}
 use Rattle.rows.specs.Cells.{load}
-use Rattle.rows.specs.Order.{sooner}
+use Rattle.rows.specs.Order.{outranks, sooner}
 use Rattle.rows.specs.Lists.{first}
-use Rattle.rows.specs.Holds.{occurs, Listed}
+use Rattle.rows.specs.Holds.{transactionAt, occurs, Listed}
 use Rattle.rows.specs.Ordered.{Sorted, Strict}
 use Rattle.rows.specs.Shows.{Shows}
-use Rattle.rows.specs.First.{earlierOf, walkTo, fullWalk, orNone}
+use Rattle.rows.specs.First.{earlierOf, walkTo, fullWalk, orNone, NoneWhenEmpty, KeptFirst, kept, KeptHead}
 use Rattle.rows.proofs.Occurs.{same-refl, same-other, same-pos, occurs-cons}
-use Rattle.rows.proofs.Insertion.{Order, not-both, before-none}
+use Rattle.rows.proofs.Insertion.{Order, not-both, before-none, sorted-unmap, order-unmap}
+use Rattle.rows.proofs.Orders.{precedes-order, outranks-is}
 use Rattle.rows.proofs.Scheduling.{sooner-order}
-use Rattle.rows.proofs.Take.{First, none, some}
+use Rattle.rows.proofs.Take.{First, none, some, first-of, Head, nobody as none-leads, somebody as one-leads, head-of}
 use Rattle.rows.proofs.Later.{all-at, rows-strict, first-fel}
 
 occurs-none : (k : ℕ) → occurs k [] ≡ 0
@@ -81,9 +83,9 @@ module _ (before : ℕ → ℕ → Bool) (o : Order before) (w : List ℕ) (p : 
       go true e best = more (walkTo before w p n) n (omega arith) (eqb-true (load w (place n)) p e) best
       go false e best = same (walkTo before w p n) n (eqb-false (load w (place n)) p e) best
 
-  pub kept-first : (l : List ℕ) → Listed w p l → Strict before l → First w p l → orNone (first w p) ≡ fullWalk before w p
+  walk-finds : (l : List ℕ) → Listed w p l → Strict before l → First w p l → orNone (first w p) ≡ fullWalk before w p
   unfolding fullWalk orNone Sorted
-  kept-first l one strict is = go is (walked 1024 (omega arith))
+  walk-finds l one strict is = go is (walked 1024 (omega arith))
     where
       -- who has the place is on the list
       on : (j : ℕ) → j < 1024 → load w (place j) ≡ p → 1 ≤ occurs j l
@@ -115,8 +117,45 @@ module _ (before : ℕ → ℕ → Bool) (o : Order before) (w : List ℕ) (p : 
           absurd (b (first w p) h (same-pos (load w (place (first w p))) p (omega (arith, one .once (first w p) h, ap (occurs (first w p)) q, occurs-cons (first w p) (first w p) m, same-refl (first w p) (first w p) refl))))
       go (some m q h) (somebody hx at b) = ahead m q h hx at b (ℕ-discrete (walkTo before w p 1024) (first w p))
 
--- the FEL, in every buffer that shows the machine's lists
-pub fel-first : (w : List ℕ) (T : ℕ → List Transaction) (E : List Event) → Shows w T E → orNone (first w fel) ≡ fullWalk (sooner w) w fel
-fel-first w T E s =
-    kept-first (sooner w) (sooner-order w) w fel (s .rows fel) (s .shown .holds .listed fel (omega arith))
-    (rows-strict w (s .rows) T E (s .shown) (s .ordered .future)) (first-fel w (s .rows) T E (s .shown) (s .ordered .future))
+-- who has the place is on the list
+none-empty : (w : List ℕ) (p : ℕ) (l : List ℕ) → Listed w p l → First w p l → NoneWhenEmpty w p
+none-empty w p l one (none q h) =
+    record { empty = λ e k hk at. omega (arith, one .once k hk, same-refl (load w (place k)) p at, ap (occurs k) q, occurs-none k); none = λ e. h }
+none-empty w p l one (some m q h) =
+    record {
+      empty = λ e. absurd (omega arith);
+      none = λ e.
+          absurd (e (first w p) h (same-pos (load w (place (first w p))) p (omega (arith, one .once (first w p) h, ap (occurs (first w p)) q, occurs-cons (first w p) (first w p) m, same-refl (first w p) (first w p) refl))));
+    }
+
+pub kept-first : (before : ℕ → ℕ → Bool) → Order before → (w : List ℕ) (p : ℕ) (l : List ℕ) → Listed w p l → Strict before l → First w p l → KeptFirst before w p
+kept-first before o w p l one strict is = record { found = walk-finds before o w p l one strict is; none-when-empty = none-empty w p l one is }
+
+-- ---- In every buffer that shows the machine's lists
+
+module _ (w : List ℕ) (T : ℕ → List Transaction) (E : List Event) (s : Shows w T E) where
+  pub fel-first : KeptFirst (sooner w) w fel
+  fel-first =
+      kept-first (sooner w) (sooner-order w) w fel (s .rows fel) (s .shown .holds .listed fel (omega arith))
+      (rows-strict w (s .rows) T E (s .shown) (s .ordered .future)) (first-fel w (s .rows) T E (s .shown) (s .ordered .future))
+
+  module _ (p : ℕ) (hp : p < fel) where
+    one : Listed w p (s .rows p)
+    one = s .shown .holds .listed p (omega arith)
+
+    is : First w p (s .rows p)
+    is = first-of w p (s .rows p) (λ e. omega arith) one
+
+    -- the serials of a list tell its rows apart
+    pub list-first : Strict precedes (T p) → KeptFirst (outranks w) w p
+    list-first strict =
+        kept-first (outranks w) (order-unmap (transactionAt w) (outranks w) precedes (outranks-is w) precedes-order) w p (s .rows p) one
+        (sorted-unmap (transactionAt w) (λ y x. not (outranks w x y)) (λ y x. not (precedes x y)) (λ x y. ap not (outranks-is w y x)) (s .rows p) (rw (s .shown .lists p hp) strict)) is
+
+    pub list-head : KeptHead w p (T p)
+    unfolding kept
+    list-head = record { leads = go (head-of w p (transactionAt w) (s .rows p) (T p) is (s .shown .lists p hp)); none-when-empty = none-empty w p (s .rows p) one is }
+      where
+        go : Head w p (transactionAt w) (T p) → map (transactionAt w) (kept w p) ≡ take 1 (T p)
+        go (none-leads e h) = rw (le-ltb (first w p) 1024 h, e)
+        go (one-leads m e h) = rw (lt-ltb (first w p) 1024 h, e)

@@ -1,12 +1,15 @@
 -- What keeps the machine's lists in order, whatever the order of each.
 use Prim.Native.Nat.{ℕ, _≤_, _<_}
 use mathlib.Core.Path.{_≡_, refl, sym, subst}
-use mathlib.Core.Bool.{Bool, true, false, cond}
+use mathlib.Core.Bool.{Bool, true, false, cond, not}
 use mathlib.Core.List.{List, [], _∷_}
 use borrow.Author.Tests.{eqb-true, lt-ltb, le-ltb, ltb-true}
 use lib.Dec.{ltb, eqb}
 use Rattle.machine.specs.Transaction.{Transaction, Event, precedes, earlier}
 use Rattle.machine.specs.Moves.{wake}
+use Rattle.machine.specs.Claims.{Each}
+use Rattle.machine.proofs.Sorted as Machine
+use Rattle.machine.proofs.Serials.{Single, strictly}
 use Rattle.rows.specs.Layout.{wsl, rel, fel}
 use Rattle.rows.specs.Clock.{arrivals}
 use Rattle.rows.specs.Holds.{update}
@@ -15,6 +18,23 @@ use Rattle.rows.specs.Shows.{orderOf, Shows, moved}
 use Rattle.rows.proofs.Insertion.{insert-sorted}
 use Rattle.rows.proofs.Orders.{precedes-order}
 use Rattle.rows.proofs.Showing.{shown-ext}
+
+-- ---- The machine's sorted lists are the rows'
+
+module _ {A : Type 0} where
+  all-of : (P : A → Type 0) (l : List A) → Each P l → All P l
+  unfolding All
+  all-of P [] h = tt
+  all-of P (x ∷ l) h = (h .0, all-of P l (h .1))
+
+  pub sorted-of : (r : A → A → Bool) (l : List A) → Machine.Sorted r l → Sorted r l
+  unfolding Sorted
+  sorted-of r [] h = tt
+  sorted-of r (x ∷ l) h = (all-of (λ y. r y x ≡ false) l (h .0), sorted-of r l (h .1))
+
+-- no two with one serial
+pub strict-of : (l : List Transaction) → Single l → Machine.Sorted precedes l → Strict precedes l
+strict-of l one h = sorted-of (λ y x. not (precedes x y)) l (strictly l one h)
 
 -- ---- The order of a list
 
