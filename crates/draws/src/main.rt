@@ -2,6 +2,20 @@
 use libc::STDOUT_FILENO;
 use streams::Started;
 
+const PUBLISHED_STEPS: u32 = 10_000;
+
+const LAST_STREAM: u32 = 511;
+
+const NO_STREAM: u32 = 512;
+
+const LAST_STATE: u32 = 2_147_483_646;
+
+const MODULUS: u32 = 2_147_483_647;
+
+const BEHIND_MODULUS: u32 = 2_147_483_648;
+
+const LARGEST: u32 = 4_294_967_295;
+
 fn print_line(n: u32) {
     io::print_decimal(STDOUT_FILENO, n as u64);
     io::write_all(STDOUT_FILENO, b"\n");
@@ -27,15 +41,15 @@ fn print_stream(stream: u32) {
 
 fn main() {
     // "1,043,618,065 after 10,000 steps from 1"
-    print_line(streams::advance(1, 10_000));
+    print_line(streams::advance(1, PUBLISHED_STEPS));
     print_stream(0);
     print_stream(1);
-    print_stream(511);
-    print_stream(512);
-    print_stream(4_294_967_295);
+    print_stream(LAST_STREAM);
+    print_stream(NO_STREAM);
+    print_stream(LARGEST);
     print_line(streams::step(0));
-    print_line(streams::step(2_147_483_646));
-    print_line(streams::step(2_147_483_647));
-    print_line(streams::step(2_147_483_648));
-    print_line(streams::step(4_294_967_295));
+    print_line(streams::step(LAST_STATE));
+    print_line(streams::step(MODULUS));
+    print_line(streams::step(BEHIND_MODULUS));
+    print_line(streams::step(LARGEST));
 }

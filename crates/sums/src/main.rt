@@ -14,6 +14,11 @@ const MOST: u32 = 2_147_483_647;
 
 const MINUS_NINE: u32 = 4_294_967_287;
 
+// From here on bits stand for a negative number; how many numbers of 32 bits there are.
+const SIGN: u64 = 2_147_483_648;
+
+const WORDS: u64 = 4_294_967_296;
+
 // Puts numbers into the tables from a position on, as far as there is room.
 fn put(tables: &mut [u32], at: usize, numbers: &[u32]) {
     if tables.len() <= at {
@@ -68,11 +73,11 @@ fn put_others(tables: &mut [u32]) {
 // A number and a line end.
 fn show(z: i32) {
     let n = terms::bits(z) as u64;
-    if n < 2_147_483_648 {
+    if n < SIGN {
         io::print_decimal(STDOUT_FILENO, n);
     } else {
         io::write_all(STDOUT_FILENO, b"-");
-        io::print_decimal(STDOUT_FILENO, 4_294_967_296 - n);
+        io::print_decimal(STDOUT_FILENO, WORDS - n);
     }
     io::write_all(STDOUT_FILENO, b"\n");
 }
