@@ -26,11 +26,11 @@ use Rattle.flow.specs.Gathering.{gatherOn, countOn, laterRows, gatherRows, asse
 use Rattle.servers.specs.Units.{serverAt, inUse, holder, preempted, setUse, capacity}
 use Rattle.servers.specs.Taking.{holdUnits, longer, queueUp, takeUnits, seize, enter}
 use Rattle.servers.specs.Freeing.{freeOne, freeSome, askRelease, release, leave}
-use Rattle.servers.specs.Preempting.{seized, interruptOn, takeOver, preemptSeized, preempt, askGiveBack, resumeOn, resumeRows, giveBackRows, giveBack}
+use Rattle.preempt.specs.Preempting.{seized, interruptOn, takeOver, preemptSeized, preempt, askGiveBack, resumeOn, resumeRows, giveBackRows, giveBack}
 use Rattle.servers.specs.Waking.{shorter}
 use Rattle.servers.proofs.TakingLaws.{seize-used, enter-used}
 use Rattle.servers.proofs.FreeingLaws.{release-used, leave-used}
-use Rattle.servers.proofs.PreemptLaws.{preempt-used, give-back-used}
+use Rattle.preempt.proofs.PreemptLaws.{preempt-used, give-back-used}
 use Rattle.decisions.specs.Queues.{contentCell, arrive, depart}
 use Rattle.decisions.proofs.QueueLaws.{arrive-used, depart-used}
 

@@ -26,7 +26,7 @@ use Rattle.flow.proofs.SplitLaw.{split-done}
 use Rattle.flow.proofs.GatherLaw.{assemble-done}
 use Rattle.servers.proofs.TakingLaws.{seize-done, enter-done}
 use Rattle.servers.proofs.FreeingLaws.{release-done, leave-done}
-use Rattle.servers.proofs.PreemptLaws.{preempt-done, give-back-done}
+use Rattle.preempt.proofs.PreemptLaws.{preempt-done, give-back-done}
 use Rattle.servers.specs.WaitServer as WaitServer
 use Rattle.servers.proofs.WaitingLaws.{wait-server-done, wait-server-used}
 use Rattle.decisions.proofs.Operands.{numbers}

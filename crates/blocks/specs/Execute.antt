@@ -11,7 +11,7 @@ use Rattle.flow.specs.Kinds.{generateRows, advanceRows, terminateRows, priority
 use Rattle.flow.specs.Gathering.{assembleRows}
 use Rattle.servers.specs.Taking.{seize, enter}
 use Rattle.servers.specs.Freeing.{release, leave}
-use Rattle.servers.specs.Preempting.{preempt, giveBack}
+use Rattle.preempt.specs.Preempting.{preempt, giveBack}
 use Rattle.servers.specs.WaitServer.{waitServer}
 use Rattle.decisions.specs.Comparison.{waitTerms, branch, assign}
 use Rattle.decisions.specs.Jumps.{goto}

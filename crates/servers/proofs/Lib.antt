@@ -2,7 +2,6 @@ pub mod Begins
 pub mod Checking
 pub mod FreeingLaws
 pub mod Named
-pub mod PreemptLaws
 pub mod Ready
 pub mod Standing
 pub mod Staying

@@ -2,5 +2,4 @@ pub mod Units
 pub mod Waking
 pub mod Taking
 pub mod Freeing
-pub mod Preempting
 pub mod WaitServer
