@@ -61,7 +61,7 @@ def check_limits_told(values, ends, refusals):
     check(re.findall(r"end (\d+)", told) == asked, f"docs/MANUAL.md: before a turn {told}; Run.antt has {asked}")
     first, second, high, low, whole = re.search(r"`([0-9A-F]{2}) ([0-9A-F]{2})` is (\d+) × 128 \+ (\d+) = (\d+)", MANUAL.read_text()).groups()
     check([int(first, 16) - 128, int(second, 16)] == [int(high), int(low)] and int(high) * 128 + int(low) == int(whole), "docs/MANUAL.md: from bytes to the number")
-    layout = (root / "crates/rows/specs/Layout.antt").read_text()
+    layout = (root / "crates/rows_laws/specs/Layout.antt").read_text()
     rows, fields, lists = (int(re.search(rf"^{name} = (\d+)$", layout, re.M)[1]) for name in ("rowCount", "fieldCount", "listCount"))
     servers = values["maxFacilities"] + values["maxStorages"]
     says(

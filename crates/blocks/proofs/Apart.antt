@@ -8,29 +8,29 @@ use lib.Dec.{ltb, leb, eqb}
 use lib.ListN.{getD, set}
 use lib.Seq.{getD-set-other}
 use Rattle.tables.specs.Layout as Layout
-use Rattle.rows.specs.Layout.{numberField, nextField, interrupted, rowCount}
-use Rattle.rows.specs.Cells.{load, read, priorityOf}
-use Rattle.rows.specs.Lists.{first}
-use Rattle.rows.specs.Future.{loser}
-use Rattle.rows.specs.Make.{freeRow}
+use Rattle.rows_laws.specs.Layout.{numberField, nextField, interrupted, rowCount}
+use Rattle.rows_laws.specs.Cells.{load, read, priorityOf}
+use Rattle.rows_laws.specs.Lists.{first}
+use Rattle.rows_laws.specs.Future.{loser}
+use Rattle.rows_laws.specs.Make.{freeRow}
 use Rattle.state.specs.declared.scalars.Scalars.{Scalars}
 use Rattle.state.specs.Stands.{Rows, rowsOf}
 use Rattle.moves.specs.Motion.{Moved, withTally, next32, goOn, stopped}
-use Rattle.flow.specs.declared.samples.Sample.{Sample}
-use Rattle.flow.specs.Samples.{nextSample, useTime}
-use Rattle.flow.specs.Questions.{askRoom, askTime, askArrival, askHolding}
-use Rattle.flow.specs.Sending.{arrives}
-use Rattle.flow.specs.Kinds.{arriveOn, generateWith, generateNext, generateRows, delayRows, advanceWith, advanceNext, advanceRows, endOne, terminateRows, priorityRows, splitOn, splitRows}
-use Rattle.flow.proofs.Untouched.{generate-untouched, advance-untouched, terminate-untouched, priority-untouched, split-untouched, assemble-untouched}
-use Rattle.flow.specs.Gathering.{gatherOn, countOn, laterRows, gatherRows, assembleRows}
-use Rattle.servers.specs.Units.{serverAt, inUse, holder, preempted, setUse, capacity}
-use Rattle.servers.specs.Taking.{holdUnits, longer, queueUp, takeUnits, seize, enter}
-use Rattle.servers.specs.Freeing.{freeOne, freeSome, askRelease, release, leave}
-use Rattle.preempt.specs.Preempting.{seized, interruptOn, takeOver, preemptSeized, preempt, askGiveBack, resumeOn, resumeRows, giveBackRows, giveBack}
-use Rattle.servers.specs.Waking.{shorter}
-use Rattle.servers.proofs.TakingLaws.{seize-used, enter-used}
-use Rattle.servers.proofs.FreeingLaws.{release-used, leave-used}
-use Rattle.preempt.proofs.PreemptLaws.{preempt-used, give-back-used}
+use Rattle.flow_laws.specs.declared.samples.Sample.{Sample}
+use Rattle.flow_laws.specs.Samples.{nextSample, useTime}
+use Rattle.flow_laws.specs.Questions.{askRoom, askTime, askArrival, askHolding}
+use Rattle.flow_laws.specs.Sending.{arrives}
+use Rattle.flow_laws.specs.Kinds.{arriveOn, generateWith, generateNext, generateRows, delayRows, advanceWith, advanceNext, advanceRows, endOne, terminateRows, priorityRows, splitOn, splitRows}
+use Rattle.flow_laws.proofs.Untouched.{generate-untouched, advance-untouched, terminate-untouched, priority-untouched, split-untouched, assemble-untouched}
+use Rattle.flow_laws.specs.Gathering.{gatherOn, countOn, laterRows, gatherRows, assembleRows}
+use Rattle.servers_laws.specs.Units.{serverAt, inUse, holder, preempted, setUse, capacity}
+use Rattle.servers_laws.specs.Taking.{holdUnits, longer, queueUp, takeUnits, seize, enter}
+use Rattle.servers_laws.specs.Freeing.{freeOne, freeSome, askRelease, release, leave}
+use Rattle.preempt_laws.specs.Preempting.{seized, interruptOn, takeOver, preemptSeized, preempt, askGiveBack, resumeOn, resumeRows, giveBackRows, giveBack}
+use Rattle.servers_laws.specs.Waking.{shorter}
+use Rattle.servers_laws.proofs.TakingLaws.{seize-used, enter-used}
+use Rattle.servers_laws.proofs.FreeingLaws.{release-used, leave-used}
+use Rattle.preempt_laws.proofs.PreemptLaws.{preempt-used, give-back-used}
 use Rattle.decisions.specs.Queues.{contentCell, arrive, depart}
 use Rattle.decisions.proofs.QueueLaws.{arrive-used, depart-used}
 

@@ -18,17 +18,17 @@ use Rattle.terms.proofs.Found.{at-first}
 use Rattle.state.specs.Sane.{Sane}
 use Rattle.state.specs.Stands.{Rows, Stands, Done}
 use Rattle.state.specs.Bare.{Bare, bareAnswer}
-use Rattle.flow.proofs.GenerateLaw.{generate-done}
-use Rattle.flow.proofs.AdvanceLaw.{advance-done}
-use Rattle.flow.proofs.TerminateLaw.{terminate-done}
-use Rattle.flow.proofs.PriorityLaw.{priority-done}
-use Rattle.flow.proofs.SplitLaw.{split-done}
-use Rattle.flow.proofs.GatherLaw.{assemble-done}
-use Rattle.servers.proofs.TakingLaws.{seize-done, enter-done}
-use Rattle.servers.proofs.FreeingLaws.{release-done, leave-done}
-use Rattle.preempt.proofs.PreemptLaws.{preempt-done, give-back-done}
-use Rattle.servers.specs.WaitServer as WaitServer
-use Rattle.servers.proofs.WaitingLaws.{wait-server-done, wait-server-used}
+use Rattle.flow_laws.proofs.GenerateLaw.{generate-done}
+use Rattle.flow_laws.proofs.AdvanceLaw.{advance-done}
+use Rattle.flow_laws.proofs.TerminateLaw.{terminate-done}
+use Rattle.flow_laws.proofs.PriorityLaw.{priority-done}
+use Rattle.flow_laws.proofs.SplitLaw.{split-done}
+use Rattle.flow_laws.proofs.GatherLaw.{assemble-done}
+use Rattle.servers_laws.proofs.TakingLaws.{seize-done, enter-done}
+use Rattle.servers_laws.proofs.FreeingLaws.{release-done, leave-done}
+use Rattle.preempt_laws.proofs.PreemptLaws.{preempt-done, give-back-done}
+use Rattle.servers_laws.specs.WaitServer as WaitServer
+use Rattle.servers_laws.proofs.WaitingLaws.{wait-server-done, wait-server-used}
 use Rattle.decisions.proofs.Operands.{numbers}
 use Rattle.state.proofs.Moving.{inside}
 use Rattle.decisions.specs.Comparison as Comparison

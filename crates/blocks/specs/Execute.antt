@@ -7,12 +7,12 @@ use lib.ListN.{getD}
 use Rattle.state.specs.declared.scalars.Scalars.{Scalars}
 use Rattle.state.specs.Stands.{Rows, rowsOf}
 use Rattle.moves.specs.Motion.{withTally}
-use Rattle.flow.specs.Kinds.{generateRows, advanceRows, terminateRows, priorityRows, splitRows}
-use Rattle.flow.specs.Gathering.{assembleRows}
-use Rattle.servers.specs.Taking.{seize, enter}
-use Rattle.servers.specs.Freeing.{release, leave}
-use Rattle.preempt.specs.Preempting.{preempt, giveBack}
-use Rattle.servers.specs.WaitServer.{waitServer}
+use Rattle.flow_laws.specs.Kinds.{generateRows, advanceRows, terminateRows, priorityRows, splitRows}
+use Rattle.flow_laws.specs.Gathering.{assembleRows}
+use Rattle.servers_laws.specs.Taking.{seize, enter}
+use Rattle.servers_laws.specs.Freeing.{release, leave}
+use Rattle.preempt_laws.specs.Preempting.{preempt, giveBack}
+use Rattle.servers_laws.specs.WaitServer.{waitServer}
 use Rattle.decisions.specs.Comparison.{waitTerms, branch, assign}
 use Rattle.decisions.specs.Jumps.{goto}
 use Rattle.decisions.specs.Queues.{arrive, depart}

@@ -17,12 +17,12 @@ use Rattle.machine.specs.Turn as Machine
 use Rattle.machine.specs.Claims.{Each}
 use Rattle.machine.proofs.Proper.{Proper, servers}
 use Rattle.machine.proofs.Sums.{sum-length, sum-insert, sum-those}
-use Rattle.rows.specs.Layout.{rel, fel}
-use Rattle.rows.specs.Lists.{first}
-use Rattle.rows.specs.Clock.{Arrived, arrive, arrivals}
-use Rattle.rows.specs.Holds.{eventAt, update}
-use Rattle.rows.proofs.Take.{Head, nobody, somebody}
-use Rattle.rows.proofs.Laws.{Arrives, head-fel-shows, arrive-shows}
+use Rattle.rows_laws.specs.Layout.{rel, fel}
+use Rattle.rows_laws.specs.Lists.{first}
+use Rattle.rows_laws.specs.Clock.{Arrived, arrive, arrivals}
+use Rattle.rows_laws.specs.Holds.{eventAt, update}
+use Rattle.rows_laws.proofs.Take.{Head, nobody, somebody}
+use Rattle.rows_laws.proofs.Laws.{Arrives, head-fel-shows, arrive-shows}
 use Rattle.state.specs.declared.scalars.Scalars.{Scalars}
 use Rattle.state.specs.ScalarSetters.{putClock, putSerial}
 use Rattle.state.specs.Sane.{Sane}

@@ -11,12 +11,12 @@ use lib.Dec.{eqb}
 use lib.ListN.{length}
 use Rattle.machine.specs.Transaction.{Transaction, Event}
 use Rattle.machine.specs.State.{State}
-use Rattle.rows.specs.Layout.{rel}
-use Rattle.rows.specs.Holds.{update}
-use Rattle.rows.specs.Living.{sumTo, loose, onLists}
-use Rattle.rows.specs.Shows.{Shows}
-use Rattle.rows.proofs.Ordering.{shows-ext}
-use Rattle.rows.proofs.Population.{population}
+use Rattle.rows_laws.specs.Layout.{rel}
+use Rattle.rows_laws.specs.Holds.{update}
+use Rattle.rows_laws.specs.Living.{sumTo, loose, onLists}
+use Rattle.rows_laws.specs.Shows.{Shows}
+use Rattle.rows_laws.proofs.Ordering.{shows-ext}
+use Rattle.rows_laws.proofs.Population.{population}
 use Rattle.state.specs.Stands.{listsOf, Moving, Listing}
 
 -- ---- Lengths summed over the lists

@@ -10,13 +10,13 @@ use Rattle.machine.specs.Transaction.{Transaction}
 use Rattle.machine.specs.State.{State}
 use Rattle.machine.specs.Setters.{setRel, setMoving}
 use Rattle.machine.specs.Turn as Machine
-use Rattle.rows.specs.Layout.{rel}
-use Rattle.rows.specs.Lists.{removeAt, first, takeFirst}
-use Rattle.rows.specs.Holds.{transactionAt, update}
-use Rattle.rows.specs.Shows.{Shows}
-use Rattle.rows.proofs.Data.{transaction-kept}
-use Rattle.rows.proofs.Take.{Head, nobody, somebody}
-use Rattle.rows.proofs.Laws.{Takes, head-shows, take-shows}
+use Rattle.rows_laws.specs.Layout.{rel}
+use Rattle.rows_laws.specs.Lists.{removeAt, first, takeFirst}
+use Rattle.rows_laws.specs.Holds.{transactionAt, update}
+use Rattle.rows_laws.specs.Shows.{Shows}
+use Rattle.rows_laws.proofs.Data.{transaction-kept}
+use Rattle.rows_laws.proofs.Take.{Head, nobody, somebody}
+use Rattle.rows_laws.proofs.Laws.{Takes, head-shows, take-shows}
 use Rattle.state.specs.ScalarSetters.{putMoving}
 use Rattle.state.specs.Stands.{Rows, rowsOf, listsOf, Stands}
 use Rattle.state.proofs.ListsOf.{lists-set-rel}

@@ -3,9 +3,9 @@ use Prim.Native.Nat.{ℕ, _+_, min, _≤_, _<_}
 use mathlib.Core.Path.{_≡_, ap, _∙_}
 use mathlib.Core.List.{List}
 use borrow.Author.Tests.{lt-ltb, le-ltb}
-use Rattle.rows.specs.Layout.{rel, fel}
-use Rattle.rows.specs.Lists.{first}
-use Rattle.rows.specs.Clock.{Arrived, arrived, arrive}
+use Rattle.rows_laws.specs.Layout.{rel, fel}
+use Rattle.rows_laws.specs.Lists.{first}
+use Rattle.rows_laws.specs.Clock.{Arrived, arrived, arrive}
 use Rattle.state.specs.declared.scalars.Scalars.{Scalars}
 use Rattle.state.specs.ScalarSetters.{putTurns}
 use Rattle.state.specs.Stands.{Rows, rowsOf}

@@ -15,11 +15,11 @@ use Rattle.machine.specs.Setters.{setTurns, withReturning}
 use Rattle.machine.specs.Moves.{toRel}
 use Rattle.machine.specs.Turn as Machine
 use Rattle.machine.proofs.Proper.{Proper, servers}
-use Rattle.rows.specs.Layout.{rel}
-use Rattle.rows.specs.Lists.{first}
-use Rattle.rows.specs.Holds.{transactionAt}
-use Rattle.rows.proofs.Take.{Head, nobody, somebody}
-use Rattle.rows.proofs.Laws.{head-shows}
+use Rattle.rows_laws.specs.Layout.{rel}
+use Rattle.rows_laws.specs.Lists.{first}
+use Rattle.rows_laws.specs.Holds.{transactionAt}
+use Rattle.rows_laws.proofs.Take.{Head, nobody, somebody}
+use Rattle.rows_laws.proofs.Laws.{head-shows}
 use Rattle.state.specs.Sane.{Sane}
 use Rattle.state.specs.Stands.{Rows, rowsOf, listsOf, Stands}
 use Rattle.state.proofs.Sanity.{takenOf, sane-turns}

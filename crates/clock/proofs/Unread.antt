@@ -4,8 +4,8 @@ use mathlib.Core.Path.{_≡_, refl, _∙_}
 use mathlib.Core.Bool.{Bool, true, false, cond}
 use mathlib.Core.List.{List}
 use lib.Dec.{ltb}
-use Rattle.rows.specs.Layout.{rel, fel}
-use Rattle.rows.specs.Lists.{first}
+use Rattle.rows_laws.specs.Layout.{rel, fel}
+use Rattle.rows_laws.specs.Lists.{first}
 use Rattle.state.specs.declared.scalars.Scalars.{Scalars}
 use Rattle.state.specs.ScalarSetters.{putMoving}
 use Rattle.state.specs.Stands.{Rows, rowsOf}

@@ -4,10 +4,10 @@ use mathlib.Core.Bool.{cond}
 use mathlib.Core.List.{List}
 use lib.Dec.{ltb}
 use Rattle.tables.specs.Layout.{most32}
-use Rattle.rows.specs.Layout.{rel, fel, rowCount, serialEnd}
-use Rattle.rows.specs.Cells.{timeOf}
-use Rattle.rows.specs.Lists.{first, takeFirst}
-use Rattle.rows.specs.Clock.{Arrived, arrive}
+use Rattle.rows_laws.specs.Layout.{rel, fel, rowCount, serialEnd}
+use Rattle.rows_laws.specs.Cells.{timeOf}
+use Rattle.rows_laws.specs.Lists.{first, takeFirst}
+use Rattle.rows_laws.specs.Clock.{Arrived, arrive}
 use Rattle.state.specs.declared.scalars.Scalars.{Scalars}
 use Rattle.state.specs.ScalarSetters.{putClock, putMoving, putSerial, putTurns}
 use Rattle.state.specs.Ticks.{mostTicks}

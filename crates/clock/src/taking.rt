@@ -16,7 +16,7 @@ ghost use mathlib.Core.Path.{_≡_};
 ghost use Prim.Native.Nat.{_<_, _≤_};
 ghost use Rattle.machine.specs.Limits.{maxQueues};
 ghost use Rattle.tables.specs.Layout.{serverCount};
-ghost use Rattle.rows.specs.Layout.{Room, serialEnd};
+ghost use Rattle.rows_laws.specs.Layout.{Room, serialEnd};
 ghost use Rattle.state.specs.Ticks.{mostTicks};
 ghost use Rattle.state.specs.Stands.{rowsOf};
 ghost use Rattle.clock.specs.Taking.{ticksTo, moveClock, nextEvents, readyScalars, readyWork, take};

@@ -1,6 +1,6 @@
 // Numbers in bytes (document 01, "Bytes"): groups of seven bits, highest first, top bit set on all
 // bytes but the last, shortest form.
-use machine::Model;
+use constants::Model;
 ghost use mathlib.Core.Path.{_≡_};
 ghost use mathlib.Core.Bool.{cond};
 ghost use Prim.Native.Nat.{ℕ, _+_, _≤_, _<_};

@@ -3,7 +3,7 @@ use crate::walk::Walk;
 use codec::Read;
 use codec::read_number;
 use codec::write_number;
-use machine::Model;
+use constants::Model;
 ghost use mathlib.Core.Path.{_≡_};
 ghost use Prim.Native.Nat.{_≤_};
 ghost use Rattle.machine.specs.Limits.{maxClock};

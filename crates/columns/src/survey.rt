@@ -3,7 +3,7 @@ use crate::walk::MAX_RECORDS;
 use crate::walk::Walk;
 use codec::Field;
 use codec::number_len;
-use machine::Model;
+use constants::Model;
 use trace::MAX_BLOCK;
 use trace::MAX_OUTCOME;
 use trace::trace_field;

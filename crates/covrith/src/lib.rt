@@ -1,6 +1,6 @@
 // Covrith for other languages: functions that C, or Rust by C's calling convention, can call. include/covrith.h declares them.
 // A slice crosses the boundary as a pointer and a length in elements.
-use machine::refusals::NO_MORE;
+use constants::refusals::NO_MORE;
 use streams::Started;
 use tapes::Made;
 use trace::Reading;

@@ -20,10 +20,10 @@ use Rattle.machine.specs.Execute.{question}
 use Rattle.machine.proofs.Proper.{Proper, ProperBlock}
 use Rattle.tables.specs.Layout as Layout
 use Rattle.tables.specs.Represents.{Represents}
-use Rattle.rows.specs.Layout.{wsl, parameterField}
-use Rattle.rows.specs.Cells.{write}
-use Rattle.rows.specs.Ordered.{Sorted}
-use Rattle.rows.proofs.Fields.{write-parameter}
+use Rattle.rows_laws.specs.Layout.{wsl, parameterField}
+use Rattle.rows_laws.specs.Cells.{write}
+use Rattle.rows_laws.specs.Ordered.{Sorted}
+use Rattle.rows_laws.proofs.Fields.{write-parameter}
 use Rattle.terms.specs.Evaluation.{compareAt}
 use Rattle.terms.specs.Nested.{Nested}
 use Rattle.terms.specs.Sees.{parametersOf, Sees}

@@ -16,8 +16,8 @@ use Rattle.machine.specs.Term.{View, idleServer, serverAt, queueAt, signed, low
 use Rattle.machine.specs.Claims.{Each}
 use Rattle.machine.proofs.Shape.{each-getD}
 use Rattle.tables.specs.Represents.{smallTerm}
-use Rattle.rows.specs.Cells.{read}
-use Rattle.rows.specs.Holds.{transactionAt}
+use Rattle.rows_laws.specs.Cells.{read}
+use Rattle.rows_laws.specs.Holds.{transactionAt}
 use Rattle.terms.specs.Evaluation as Evaluation
 use Rattle.terms.specs.Nested.{nestedTerm}
 use Rattle.terms.specs.Sees.{parametersOf, Sees}

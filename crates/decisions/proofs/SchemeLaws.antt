@@ -20,10 +20,10 @@ use Rattle.tables.specs.Forms.{blockForms}
 use Rattle.tables.specs.Layout as Layout
 use Rattle.tables.specs.Numbers.{blockNumbers}
 use Rattle.tables.specs.Represents.{At, Represents}
-use Rattle.rows.specs.Layout.{head, wsl}
-use Rattle.rows.specs.Cells.{read}
-use Rattle.rows.specs.Wake.{wakeAll}
-use Rattle.rows.specs.Holds.{transactionAt}
+use Rattle.rows_laws.specs.Layout.{head, wsl}
+use Rattle.rows_laws.specs.Cells.{read}
+use Rattle.rows_laws.specs.Wake.{wakeAll}
+use Rattle.rows_laws.specs.Holds.{transactionAt}
 use Rattle.terms.specs.Nested.{Nested}
 use Rattle.terms.specs.Sees.{Sees}
 use Rattle.terms.proofs.Found.{at-first}

@@ -5,8 +5,8 @@ use mathlib.Core.List.{List, [], _∷_}
 use lib.Dec.{ltb}
 use lib.ListN.{getD}
 use Rattle.machine.specs.Term.{low32}
-use Rattle.rows.specs.Layout.{wsl, parameterField}
-use Rattle.rows.specs.Cells.{read, write}
+use Rattle.rows_laws.specs.Layout.{wsl, parameterField}
+use Rattle.rows_laws.specs.Cells.{read, write}
 use Rattle.terms.specs.Evaluation.{termAt, compareAt}
 use Rattle.state.specs.declared.scalars.Scalars.{Scalars}
 use Rattle.moves.specs.Motion.{Moved, inOrder, goTo, goOn, waitOn}

@@ -5,9 +5,9 @@ use mathlib.Core.List.{List}
 use lib.Dec.{ltb, eqb}
 use lib.ListN.{getD}
 use Rattle.tables.specs.Layout as Layout
-use Rattle.rows.specs.Layout.{head, wsl, nextField, rowCount}
-use Rattle.rows.specs.Cells.{read}
-use Rattle.rows.specs.Wake.{wakeAll}
+use Rattle.rows_laws.specs.Layout.{head, wsl, nextField, rowCount}
+use Rattle.rows_laws.specs.Cells.{read}
+use Rattle.rows_laws.specs.Wake.{wakeAll}
 use Rattle.state.specs.declared.scalars.Scalars.{Scalars}
 use Rattle.decisions.specs.Comparison.{holdsAt}
 

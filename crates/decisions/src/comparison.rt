@@ -1,5 +1,5 @@
 // Blocks with terms, which are read with the moving transaction's own parameters: WAITIF, IF and LET.
-use machine::Model;
+use constants::Model;
 use moves::IN_ORDER;
 use moves::go_on;
 use moves::go_to;
@@ -24,7 +24,7 @@ use terms::term_at;
 ghost use mathlib.Core.Path.{_≡_};
 ghost use Prim.Native.Nat.{_+_, _<_, _≤_};
 ghost use Rattle.tables.specs.Layout.{programSize};
-ghost use Rattle.rows.specs.Layout.{Room, rowCount};
+ghost use Rattle.rows_laws.specs.Layout.{Room, rowCount};
 ghost use Rattle.moves.specs.Motion.{moved};
 ghost use Rattle.decisions.specs.Comparison.{parametersAt, holdsAt, worthAt, setParameter, waitTerms, branch, assign};
 

@@ -6,7 +6,7 @@ use tables::number;
 ghost use mathlib.Core.Path.{_≡_};
 ghost use Prim.Native.Nat.{_+_, _<_, _≤_};
 ghost use Rattle.tables.specs.Layout.{BlockAt};
-ghost use Rattle.rows.specs.Layout.{Room, rowCount};
+ghost use Rattle.rows_laws.specs.Layout.{Room, rowCount};
 ghost use Rattle.moves.specs.Motion.{moved};
 ghost use Rattle.decisions.specs.Jumps.{goto};
 

@@ -1,5 +1,5 @@
 // Blocks that count: ARRIVE and DEPART, on the content of a queue in the tally.
-use machine::ends::NO_CONTENT;
+use constants::ends::NO_CONTENT;
 use moves::go_on;
 use moves::stop;
 use state::Scalars;
@@ -12,7 +12,7 @@ use tables::set_count;
 ghost use mathlib.Core.Path.{_≡_};
 ghost use Prim.Native.Nat.{_+_, _<_, _≤_};
 ghost use Rattle.tables.specs.Layout.{BlockAt};
-ghost use Rattle.rows.specs.Layout.{Room, rowCount};
+ghost use Rattle.rows_laws.specs.Layout.{Room, rowCount};
 ghost use Rattle.state.specs.Stands.{rowsOf};
 ghost use Rattle.decisions.specs.Queues.{contentCell, arrive, depart};
 

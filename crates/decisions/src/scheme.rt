@@ -1,6 +1,6 @@
 // The WS scheme: "every WSL member whose comparison no longer holds goes to REL".
 use crate::comparison::holds;
-use machine::kinds::WAIT_TERMS;
+use constants::kinds::WAIT_TERMS;
 use rows::NEXT;
 use rows::ROWS;
 use rows::WSL;
@@ -17,8 +17,8 @@ use tables::number;
 ghost use mathlib.Core.Path.{_≡_};
 ghost use Prim.Native.Nat.{_+_, _*_, _<_, _≤_};
 ghost use Rattle.machine.specs.Limits.{maxBlocks};
-ghost use Rattle.rows.specs.Layout.{Room, rowCount, wsl};
-ghost use Rattle.rows.specs.Wake.{passRows, passCell};
+ghost use Rattle.rows_laws.specs.Layout.{Room, rowCount, wsl};
+ghost use Rattle.rows_laws.specs.Wake.{passRows, passCell};
 ghost use Rattle.decisions.specs.Scheme.{blockOf, leaves, wsScheme};
 
 // Where the block of row k stands in the tables.

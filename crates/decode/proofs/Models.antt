@@ -12,7 +12,7 @@ use Rattle.machine.specs.Parser.{Cursor, Parsed, parsed, refused, continue, ask
 use Rattle.machine.specs.Block.{BlockModel}
 use Rattle.machine.specs.Decode.{modelFields, atEnd}
 use Rattle.machine.specs.Validate.{targetsMove, wellFormed, modelOf, beginning}
-use Rattle.machine.specs.declared.model.Model.{Model}
+use Rattle.constants.specs.declared.model.Model.{Model}
 use Rattle.tables.specs.Numbers.{sumNumbers, blockNumbers}
 use Rattle.tables.specs.Represents.{headerOf}
 use Rattle.values.specs.declared.Place.{Place}

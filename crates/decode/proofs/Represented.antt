@@ -10,7 +10,7 @@ use lib.Seq.{sets, getD-set-same, getD-set-other, length-sets, ext-getD, getD-ta
 use borrow.Author.Tests.{ltb-true, ltb-false}
 use Rattle.machine.specs.Term.{Sum, nothing}
 use Rattle.machine.specs.Block.{terminate, BlockModel}
-use Rattle.machine.specs.declared.model.Model.{Model}
+use Rattle.constants.specs.declared.model.Model.{Model}
 use Rattle.tables.specs.Forms.{blockForms}
 use Rattle.tables.specs.Numbers.{sumNumbers, blockNumbers}
 use Rattle.tables.specs.Represents.{At, smallBlock, smallSum}

@@ -8,7 +8,7 @@ use lib.Seq.{sets}
 use Rattle.machine.specs.Parser.{Parsed, parsed, refused, Parser, continue, field, times}
 use Rattle.machine.specs.Rules.{inForce}
 use Rattle.machine.specs.Decode.{valueFields, blockField, valueField, inValue}
-use Rattle.machine.specs.declared.model.Model.{Model}
+use Rattle.constants.specs.declared.model.Model.{Model}
 use Rattle.values.specs.declared.Place.{Place}
 use Rattle.values.specs.declared.Taken.{Taken}
 use Rattle.values.specs.declared.Taken.the-variants.{Number}

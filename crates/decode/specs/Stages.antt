@@ -10,7 +10,7 @@ use Rattle.machine.specs.Term.{Sum}
 use Rattle.machine.specs.Block.{Block}
 use Rattle.machine.specs.Rules.{inForce}
 use Rattle.machine.specs.Decode.{Counts, valueFields, blockField}
-use Rattle.machine.specs.declared.model.Model.{Model}
+use Rattle.constants.specs.declared.model.Model.{Model}
 use Rattle.tables.specs.Layout as Layout
 use Rattle.tables.specs.Numbers.{sumNumbers, blockNumbers}
 use Rattle.values.specs.declared.Place.{Place}

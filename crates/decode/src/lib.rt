@@ -2,13 +2,13 @@
 // What a run needs of them is left in two arrays that the caller lends (crate `tables`).
 use codec::Field;
 use codec::read_field;
-use machine::Model;
-use machine::refusals::ILL_FORMED;
-use machine::refusals::MODEL_GOES_ON;
-use machine::refusals::SHORT_REPORT;
-use machine::refusals::SHORT_WORK;
-use machine::refusals::TAPE_GOES_ON;
-use machine::refusals::TAPE_NUMBER;
+use constants::Model;
+use constants::refusals::ILL_FORMED;
+use constants::refusals::MODEL_GOES_ON;
+use constants::refusals::SHORT_REPORT;
+use constants::refusals::SHORT_WORK;
+use constants::refusals::TAPE_GOES_ON;
+use constants::refusals::TAPE_NUMBER;
 use program::blocks;
 use program::groups_whole;
 use program::single;

@@ -10,10 +10,10 @@ use lib.Dec.{ltb, leb, eqb}
 use Rattle.machine.specs.Transaction.{Transaction}
 use Rattle.machine.specs.State.{State}
 use Rattle.machine.specs.Run.{isNone, isEmpty, nobodyLeft, endBefore}
-use Rattle.rows.specs.Layout.{rel, fel}
-use Rattle.rows.specs.Lists.{first}
-use Rattle.rows.proofs.Take.{Head, nobody, somebody, head-shown}
-use Rattle.rows.proofs.Later.{head-fel-shown}
+use Rattle.rows_laws.specs.Layout.{rel, fel}
+use Rattle.rows_laws.specs.Lists.{first}
+use Rattle.rows_laws.proofs.Take.{Head, nobody, somebody, head-shown}
+use Rattle.rows_laws.proofs.Later.{head-fel-shown}
 use Rattle.state.specs.Stands.{Rows, listsOf, Moving, Listing, Stands}
 use Rattle.engine.specs.Ends.{nobodyRows, wornRows, fullRows, limitRows, endRows}
 

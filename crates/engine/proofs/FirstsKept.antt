@@ -19,10 +19,10 @@ use Rattle.machine.proofs.Waiting.{Waits}
 use Rattle.machine.proofs.Serials.{Apart, apart-turn, apart-start, single-rel, single-ql, single-wel}
 use Rattle.tables.specs.Layout.{tallySize}
 use Rattle.tables.specs.Represents.{headerOf, Represents}
-use Rattle.rows.specs.Layout.{wsl, rel}
-use Rattle.rows.specs.Ordered.{Strict}
-use Rattle.rows.proofs.Ordering.{strict-of}
-use Rattle.rows.proofs.KeptFirst.{fel-first, list-first, list-head}
+use Rattle.rows_laws.specs.Layout.{wsl, rel}
+use Rattle.rows_laws.specs.Ordered.{Strict}
+use Rattle.rows_laws.proofs.Ordering.{strict-of}
+use Rattle.rows_laws.proofs.KeptFirst.{fel-first, list-first, list-head}
 use Rattle.terms.proofs.NestedFrom.{nested-from}
 use Rattle.state.specs.Stands.{listsOf}
 use Rattle.state.proofs.ListsOf.{lists-ql, lists-wel, lists-rel}

@@ -6,7 +6,7 @@ use lib.ListN.{length}
 use Rattle.machine.specs.Rules.{inForce}
 use Rattle.machine.specs.Block.{BlockModel}
 use Rattle.machine.specs.Validate.{validate}
-use Rattle.machine.specs.declared.model.Model.{Model}
+use Rattle.constants.specs.declared.model.Model.{Model}
 use Rattle.machine.proofs.Proper.{Proper}
 use Rattle.machine.proofs.ProperFrom.{proper-from}
 use Rattle.tables.specs.Represents.{headerOf}

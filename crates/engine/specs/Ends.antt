@@ -4,8 +4,8 @@ use mathlib.Core.Bool.{Bool, false, cond, _||_}
 use mathlib.Core.List.{List}
 use lib.Dec.{ltb, leb, eqb}
 use Rattle.machine.specs.Limits.{maxSerial, maxTurns, recordRoom}
-use Rattle.rows.specs.Layout.{rel, fel, rowCount}
-use Rattle.rows.specs.Lists.{first}
+use Rattle.rows_laws.specs.Layout.{rel, fel, rowCount}
+use Rattle.rows_laws.specs.Lists.{first}
 use Rattle.state.specs.declared.scalars.Scalars.{Scalars}
 
 -- nobody moves, and REL and FEL have no first row

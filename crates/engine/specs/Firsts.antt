@@ -5,7 +5,7 @@ use Prim.Native.Nat.{ℕ, _<_}
 use mathlib.Core.Path.{_≡_}
 use mathlib.Core.List.{List, [], _∷_}
 use lib.ListN.{length, replicate}
-use Rattle.machine.specs.declared.model.Model.{Model}
+use Rattle.constants.specs.declared.model.Model.{Model}
 use Rattle.machine.specs.Rules.{inForce}
 use Rattle.machine.specs.Block.{BlockModel}
 use Rattle.machine.specs.State.{State}
@@ -13,9 +13,9 @@ use Rattle.machine.specs.Run.{states, steps}
 use Rattle.machine.specs.Validate.{accept, validate}
 use Rattle.tables.specs.Layout.{tallySize}
 use Rattle.tables.specs.Represents.{headerOf, Represents}
-use Rattle.rows.specs.Layout.{wsl, rel, fel}
-use Rattle.rows.specs.Order.{outranks, sooner}
-use Rattle.rows.specs.First.{KeptFirst, KeptHead}
+use Rattle.rows_laws.specs.Layout.{wsl, rel, fel}
+use Rattle.rows_laws.specs.Order.{outranks, sooner}
+use Rattle.rows_laws.specs.First.{KeptFirst, KeptHead}
 use Rattle.state.specs.Stands.{listsOf}
 use Rattle.turn.specs.Turn.{Traced, traced}
 use Rattle.start.specs.Start.{startRows}

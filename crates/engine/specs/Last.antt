@@ -3,7 +3,7 @@ use Prim.Native.Nat.{ℕ}
 use mathlib.Core.Path.{_≡_}
 use mathlib.Core.List.{List}
 use lib.ListN.{length, replicate}
-use Rattle.machine.specs.declared.model.Model.{Model}
+use Rattle.constants.specs.declared.model.Model.{Model}
 use Rattle.tables.specs.Layout.{tallySize}
 use Rattle.state.specs.declared.scalars.Scalars.{Scalars}
 use Rattle.turn.specs.Turn.{Traced, traced}

@@ -1,7 +1,7 @@
 -- The row machine: the turns of a run.
 use Prim.Native.Nat.{ℕ}
 use mathlib.Core.List.{List}
-use Rattle.machine.specs.declared.model.Model.{Model}
+use Rattle.constants.specs.declared.model.Model.{Model}
 use Rattle.machine.specs.Run.{steps}
 use Rattle.state.specs.ScalarSetters.{putEnd}
 use Rattle.state.specs.Stands.{rowsOf}

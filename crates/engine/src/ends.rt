@@ -1,10 +1,10 @@
 // "Before each turn, in this order: .." the end of the turn before, dry, the limits on serials and turns, the budget, the room
 // for a record.
-use machine::Model;
-use machine::ends::BUDGET;
-use machine::ends::DRY;
-use machine::ends::TRACE_FULL;
-use machine::ends::WORN_OUT;
+use constants::Model;
+use constants::ends::BUDGET;
+use constants::ends::DRY;
+use constants::ends::TRACE_FULL;
+use constants::ends::WORN_OUT;
 use rows::FEL;
 use rows::REL;
 use rows::ROWS;

@@ -1,7 +1,7 @@
 // The results of a run.
 use crate::outcome::Outcome;
 use crate::steps::turns;
-use machine::Model;
+use constants::Model;
 use report::write_report;
 use start::begin;
 use state::Scalars;
@@ -12,7 +12,7 @@ ghost use mathlib.Core.Path.{_≡_};
 ghost use Prim.Native.Nat.{_≤_};
 ghost use lib.ListN.{length};
 ghost use Rattle.machine.specs.Limits.{maxBlocks, maxFacilities, maxQueues, maxStorages};
-ghost use Rattle.rows.specs.Layout.{Room};
+ghost use Rattle.rows_laws.specs.Layout.{Room};
 ghost use Rattle.state.specs.Stands.{rowsOf};
 ghost use Rattle.start.specs.Start.{startRows};
 ghost use Rattle.report.specs.Numbers.{rowNumbers};

@@ -1,6 +1,6 @@
 // The turns of a run, until an end.
 use crate::ends::end_before;
-use machine::Model;
+use constants::Model;
 use state::Scalars;
 use tables::TABLES;
 use tables::TALLY;
@@ -9,7 +9,7 @@ ghost use mathlib.Core.Path.{_≡_};
 ghost use Prim.Native.Nat.{_≤_};
 ghost use lib.ListN.{length};
 ghost use Rattle.machine.specs.Limits.{maxBlocks, maxFacilities, maxQueues, maxStorages};
-ghost use Rattle.rows.specs.Layout.{Room};
+ghost use Rattle.rows_laws.specs.Layout.{Room};
 ghost use Rattle.state.specs.Stands.{rowsOf};
 ghost use Rattle.turn.specs.Turn.{traced};
 ghost use Rattle.engine.specs.Turns.{turnsRows};

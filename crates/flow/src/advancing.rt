@@ -1,11 +1,11 @@
 // 2 ADVANCE list.
 use crate::questions::ask_time;
-use crate::samples::Sample;
 use crate::samples::next_sample;
 use crate::samples::times_left;
 use crate::samples::use_time;
 use crate::sending::to_future;
-use machine::ends::NO_TIME;
+use constants::ends::NO_TIME;
+use flow_laws::Sample;
 use moves::go_on;
 use moves::stop;
 use state::NOBODY;
@@ -16,10 +16,10 @@ use tables::number;
 ghost use mathlib.Core.Path.{_≡_};
 ghost use Prim.Native.Nat.{_+_, _<_, _≤_};
 ghost use Rattle.tables.specs.Layout.{programSize};
-ghost use Rattle.rows.specs.Layout.{Room, rowCount};
+ghost use Rattle.rows_laws.specs.Layout.{Room, rowCount};
 ghost use Rattle.moves.specs.Motion.{moved};
 ghost use Rattle.state.specs.Stands.{rowsOf};
-ghost use Rattle.flow.specs.Kinds.{sendOn, delayRows, advanceNext, advanceRows};
+ghost use Rattle.flow_laws.specs.Kinds.{sendOn, delayRows, advanceNext, advanceRows};
 
 // The moving one goes to the FEL at a time, its next block plus one.
 fn send_on(work: &mut [u32], x: Scalars, time: u64) -> Scalars

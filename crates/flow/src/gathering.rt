@@ -1,7 +1,7 @@
 // 18 ASSEMBLE n.
 use crate::questions::ask_holding;
 use crate::sending::to_ready;
-use machine::Model;
+use constants::Model;
 use moves::IN_ORDER;
 use moves::begin_wait;
 use moves::stop;
@@ -28,10 +28,10 @@ ghost use mathlib.Core.Path.{_≡_};
 ghost use Prim.Native.Nat.{_+_, _<_, _≤_};
 ghost use Rattle.machine.specs.Limits.{maxFacilities};
 ghost use Rattle.tables.specs.Layout.{programSize};
-ghost use Rattle.rows.specs.Layout.{Room, listCount, rowCount};
+ghost use Rattle.rows_laws.specs.Layout.{Room, listCount, rowCount};
 ghost use Rattle.moves.specs.Motion.{moved};
 ghost use Rattle.state.specs.Stands.{rowsOf};
-ghost use Rattle.flow.specs.Gathering.{listAt, gatherOn, releaseOn, endOn, countOn, laterRows, gatherRows, assembleRows};
+ghost use Rattle.flow_laws.specs.Gathering.{listAt, gatherOn, releaseOn, endOn, countOn, laterRows, gatherRows, assembleRows};
 
 const BLOCKS: u32 = Model::MAX_BLOCKS as u32;
 

@@ -1,9 +1,9 @@
 // 1 GENERATE list, priority.
 use crate::questions::ask_arrival;
-use crate::samples::Sample;
 use crate::samples::next_sample;
 use crate::samples::times_left;
 use crate::sending::arrives;
+use flow_laws::Sample;
 use moves::go_on;
 use moves::stop;
 use rows::NEXT;
@@ -15,9 +15,9 @@ use tables::number;
 ghost use mathlib.Core.Path.{_≡_};
 ghost use Prim.Native.Nat.{_+_, _<_, _≤_};
 ghost use Rattle.tables.specs.Layout.{programSize};
-ghost use Rattle.rows.specs.Layout.{Room, rowCount};
+ghost use Rattle.rows_laws.specs.Layout.{Room, rowCount};
 ghost use Rattle.state.specs.Stands.{rowsOf};
-ghost use Rattle.flow.specs.Kinds.{arriveOn, generateNext, generateRows};
+ghost use Rattle.flow_laws.specs.Kinds.{arriveOn, generateNext, generateRows};
 
 // The transaction goes on, and a new one comes.
 fn arrive_on(

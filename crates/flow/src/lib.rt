@@ -15,7 +15,6 @@ pub use gathering::assemble;
 pub use generating::generate;
 pub use questions::ask_time;
 pub use ranking::priority;
-pub use samples::Sample;
 pub use samples::next_sample;
 pub use samples::times_left;
 pub use sending::arrives;

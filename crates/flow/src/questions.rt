@@ -1,8 +1,8 @@
 // The questions of GENERATE, ADVANCE, SPLIT and TERMINATE: 0 where the answer is yes, else the number of the end.
-use machine::Model;
-use machine::ends::HOLDING;
-use machine::ends::NO_PLACE;
-use machine::ends::TOO_LATE;
+use constants::Model;
+use constants::ends::HOLDING;
+use constants::ends::NO_PLACE;
+use constants::ends::TOO_LATE;
 use state::Scalars;
 use state::less32;
 use state::plus32;
@@ -15,7 +15,7 @@ ghost use lib.ListN.{length};
 ghost use Rattle.machine.specs.Limits.{maxFacilities};
 ghost use Rattle.machine.specs.Lists.{bit};
 ghost use Rattle.tables.specs.Layout.{tallySize};
-ghost use Rattle.flow.specs.Questions.{askRoom, askTime, firstNo, askArrival, heldBy, askHolding};
+ghost use Rattle.flow_laws.specs.Questions.{askRoom, askTime, firstNo, askArrival, heldBy, askHolding};
 
 const MAX_LIVING: u32 = Model::MAX_LIVING as u32;
 

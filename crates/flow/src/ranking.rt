@@ -11,10 +11,10 @@ use tables::number;
 ghost use mathlib.Core.Path.{_≡_};
 ghost use Prim.Native.Nat.{_+_, _<_, _≤_};
 ghost use Rattle.tables.specs.Layout.{programSize};
-ghost use Rattle.rows.specs.Layout.{Room, rowCount};
+ghost use Rattle.rows_laws.specs.Layout.{Room, rowCount};
 ghost use Rattle.moves.specs.Motion.{moved};
 ghost use Rattle.state.specs.Stands.{rowsOf};
-ghost use Rattle.flow.specs.Kinds.{rankOn, priorityRows};
+ghost use Rattle.flow_laws.specs.Kinds.{rankOn, priorityRows};
 
 // The moving one goes to REL with a priority, its next block plus one.
 fn rank_on(work: &mut [u32], x: Scalars, p: u32) -> Scalars

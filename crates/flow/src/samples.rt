@@ -1,7 +1,8 @@
 // The next time of a sample list: where it stands in the tape and how many are left are numbers of the tally.
 use codec::Read;
 use codec::read_number;
-use machine::Model;
+use constants::Model;
+use flow_laws::Sample;
 use state::less64;
 use tables::LIST_AT;
 use tables::LIST_LEFT;
@@ -11,13 +12,7 @@ ghost use mathlib.Core.Path.{_≡_};
 ghost use Prim.Native.Nat.{_+_};
 ghost use lib.ListN.{getD};
 ghost use Rattle.tables.specs.Layout as Layout;
-ghost use Rattle.flow.specs.Samples.{sampleAt, nextSample, useTime};
-
-// A time and the position after it.
-pub struct Sample {
-    pub time: u64,
-    pub next: usize,
-}
+ghost use Rattle.flow_laws.specs.Samples.{sampleAt, nextSample, useTime};
 
 fn sample_at(tape: &[u8], at: usize) -> Sample
     ensures { λ r. ⌜ r ≡ sampleAt (now (tape .entry)) at ⌝ }

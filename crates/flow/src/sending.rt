@@ -1,7 +1,7 @@
 // Rows on no list go to the FEL or to REL with a fresh serial; new rows for both.
-use crate::samples::Sample;
 use crate::samples::use_time;
-use machine::Model;
+use constants::Model;
+use flow_laws::Sample;
 use rows::REL;
 use rows::ROWS;
 use rows::SERIAL;
@@ -17,10 +17,10 @@ use state::plus32;
 use state::plus64;
 ghost use mathlib.Core.Path.{_≡_};
 ghost use Prim.Native.Nat.{_<_, _≤_};
-ghost use Rattle.rows.specs.Layout.{Room, rowCount};
+ghost use Rattle.rows_laws.specs.Layout.{Room, rowCount};
 ghost use Rattle.moves.specs.Motion.{moved};
 ghost use Rattle.state.specs.Stands.{rowsOf};
-ghost use Rattle.flow.specs.Sending.{toFuture, toReady, bornAt, born, arrives, copyTo, copyOne};
+ghost use Rattle.flow_laws.specs.Sending.{toFuture, toReady, bornAt, born, arrives, copyTo, copyOne};
 
 // A priority is below this number.
 pub const PRIORITIES: u32 = Model::MAX_PRIORITY as u32 + 1;

@@ -10,10 +10,10 @@ use tables::number;
 ghost use mathlib.Core.Path.{_≡_};
 ghost use Prim.Native.Nat.{_+_, _<_, _≤_};
 ghost use Rattle.tables.specs.Layout.{programSize};
-ghost use Rattle.rows.specs.Layout.{Room, rowCount};
+ghost use Rattle.rows_laws.specs.Layout.{Room, rowCount};
 ghost use Rattle.moves.specs.Motion.{moved};
 ghost use Rattle.state.specs.Stands.{rowsOf};
-ghost use Rattle.flow.specs.Kinds.{copiesOf, splitOn, splitRows};
+ghost use Rattle.flow_laws.specs.Kinds.{copiesOf, splitOn, splitRows};
 
 // n copies of the moving one at a block, one after the other.
 fn copies(work: &mut [u32], x: Scalars, n: u32, target: u32) -> Scalars

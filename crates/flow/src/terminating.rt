@@ -1,6 +1,6 @@
 // 3 TERMINATE a.
 use crate::questions::ask_holding;
-use machine::ends::COUNTED;
+use constants::ends::COUNTED;
 use moves::stop;
 use rows::NUMBER;
 use rows::cells::read;
@@ -18,9 +18,9 @@ ghost use Prim.Native.Nat.{_+_, _<_, _≤_};
 ghost use lib.Dec.{leb};
 ghost use Rattle.machine.specs.Limits.{maxFacilities};
 ghost use Rattle.tables.specs.Layout.{programSize};
-ghost use Rattle.rows.specs.Layout.{Room, rowCount};
+ghost use Rattle.rows_laws.specs.Layout.{Room, rowCount};
 ghost use Rattle.state.specs.Stands.{rowsOf};
-ghost use Rattle.flow.specs.Kinds.{endOne, terminateRows};
+ghost use Rattle.flow_laws.specs.Kinds.{endOne, terminateRows};
 
 // "At or below 0, end 2."
 fn end_after(counter: u32, a: u32) -> u32

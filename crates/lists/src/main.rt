@@ -9,7 +9,7 @@ use rows::ROWS;
 use rows::SERIAL;
 use rows::TIME;
 ghost use Prim.Native.Nat.{_<_};
-ghost use Rattle.rows.specs.Layout.{listCount, priorityEnd, Room};
+ghost use Rattle.rows_laws.specs.Layout.{listCount, priorityEnd, Room};
 
 // More than the layout needs.
 const LENT: usize = 16_400;

@@ -1,17 +1,17 @@
--- What holds of both arms of a choice holds of the choice: the check of a WEL, WAITIF, ASSEMBLE, PREEMPT, RETURN, the WS scheme, the start. The
+-- What holds of both arms of a choice holds of the choice: the check of a WEL, SEIZE and ENTER, WAITIF, ASSEMBLE, PREEMPT, RETURN, the WS scheme, the start. The
 -- other choices of a block, by `cond-cases`, stand in the proof of each claim.
-use Prim.Native.Nat.{ℕ, suc, _-_}
+use Prim.Native.Nat.{ℕ, suc, _+_, _-_}
 use mathlib.Core.Path.{_≡_, refl, sym}
 use mathlib.Core.Bool.{Bool, true, false, not, _&&_}
 use mathlib.Core.List.{List, [], _∷_}
 use borrow.Author.Tests.{eqb-true, eqb-false}
-use lib.Dec.{ltb, eqb}
+use lib.Dec.{ltb, eqb, leb}
 use Rattle.machine.specs.Transaction.{Transaction, Event, Gatherer, Interrupted}
-use Rattle.machine.specs.Term.{Term, Relation, serverAt, compare}
+use Rattle.machine.specs.Term.{Term, Relation, free, serverAt, compare}
 use Rattle.machine.specs.Facts.{isGenerate}
-use Rattle.machine.specs.Block.{Code, U, NU, E, NE, F, NF, status, facility, Block, waitServer, waitTerms, assemble, preempt, giveBack, facts, BlockModel}
+use Rattle.machine.specs.Block.{Code, U, NU, E, NE, F, NF, status, Share, shareServer, shareUnits, shareHolder, facility, Block, waitServer, waitTerms, assemble, preempt, giveBack, facts, BlockModel}
 use Rattle.machine.specs.State.{State}
-use Rattle.machine.specs.Moves.{enters, moveTo, goOn, toWel, toWsl, beginWait, mustWait, wakeFirstWel, wakeWsl, timesLeft, arrival, waitsFor, toGatherers, comes, released, interruptedAt, losersTo, interrupt, resume, setHolder}
+use Rattle.machine.specs.Moves.{enters, moveTo, goOn, toQl, toWel, toWsl, beginWait, mustWait, wakeFirstWel, wakeWsl, timesLeft, arrival, waitsFor, toGatherers, comes, released, interruptedAt, losersTo, interrupt, resume, setUse, setHolder}
 use Rattle.machine.specs.Setters.{setEnded}
 use Rattle.machine.specs.Execute.{checkWel, checkWels, stamped, wakeFor, freeUnits, gathers, givesBack, effect, takeUnits, gathering}
 use Rattle.machine.specs.Turn.{waitsOn, wsScheme}
@@ -39,6 +39,14 @@ module _ (Q : State → Type 0) where
     where
       one : (code : Code) (s : State) → Q s → Q (checkWel v code s)
       one code s q = checkWel-cases v code s (λ e. q) (λ e. wakes code s q)
+
+  -- it takes its units, or waits
+  pub takes-cases : (m : BlockModel) (x : Share) (preempts : Bool) (t : Transaction) (s : State)
+      → (leb (shareUnits x) (free (serverAt (s .view) (shareServer x))) ≡ true
+      → Q (goOn t (checkWels (shareServer x) (setUse (shareServer x) (serverAt (s .view) (shareServer x) .inUse + shareUnits x) (shareHolder x (t .number)) preempts (enters t s)))))
+      → (leb (shareUnits x) (free (serverAt (s .view) (shareServer x))) ≡ false → Q (mustWait (toQl (m .edition) (shareServer x)) t s)) → Q (takeUnits m x preempts t s)
+  unfolding takeUnits
+  takes-cases m x preempts t s = cond-cases Q _ _ _
 
   -- it waits, or goes back, or enters
   pub waitServer-cases : (m : BlockModel) (code : Code) (v c : ℕ) (t : Transaction) (s : State)

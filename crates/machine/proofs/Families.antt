@@ -19,7 +19,7 @@ use Rattle.machine.specs.Turn.{taking, answer, execute, wsScheme, turn}
 use Rattle.machine.specs.Run.{idle, startAt, start}
 use Rattle.machine.specs.Claims.{Each, bit, everyone, factsAt, entered, getsTime, usedBy, madeBy, familyBy}
 use Rattle.machine.proofs.RunLaws.{cond-cases, each-map}
-use Rattle.machine.proofs.Cases.{checkWels-kept, waitServer-cases, waitTerms-cases, assemble-cases, wsScheme-cases, startOf-cases, preempt-cases, giveBack-cases}
+use Rattle.machine.proofs.Cases.{checkWels-kept, waitServer-cases, waitTerms-cases, assemble-cases, wsScheme-cases, startOf-cases, preempt-cases, giveBack-cases, takes-cases}
 use Rattle.machine.proofs.Conservation.{Sound, sound-taking}
 use Rattle.machine.proofs.Taken.{taking-records}
 use Rattle.machine.proofs.Everybody.{Maybe, Everybody, Unmoved, like, everybody-map, everybody-each, toRel-everybody, toFel-everybody, toQl-everybody, toWel-everybody, toWsl-everybody, moveTo-everybody, wakeFor-everybody, wakeFirstWel-everybody, wakeWsl-everybody, delay-everybody, toGatherers-everybody, comes-everybody, released-everybody, waiter-everybody, taking-everybody, idle-everybody, loser-everybody, interrupted-everybody, interrupt-everybody, resume-everybody}
@@ -226,11 +226,10 @@ module _ (m : BlockModel) (tape : List (List ℕ)) where
     entered-beside = (p′, h′)
 
     kindred-takes : (x : Share) (preempts : Bool) → Kindred (takeUnits m x preempts t s)
-    unfolding takeUnits
     kindred-takes x preempts =
-        let v : ℕ = shareServer x in
-        cond-cases Kindred (leb (shareUnits x) (free (serverAt (s .view) v))) _ _
-        (λ fit. goes-on _ _ (beside-checkWels v _ (beside-use v _ _ _ (enters t s) entered-beside))) (λ full. kindred-wait (toQl (m .edition) v) (kindred-toQl v))
+        takes-cases Kindred m x preempts t s
+        (λ fit. goes-on _ _ (beside-checkWels (shareServer x) _ (beside-use (shareServer x) _ _ _ (enters t s) entered-beside)))
+        (λ full. kindred-wait (toQl (m .edition) (shareServer x)) (kindred-toQl (shareServer x)))
 
     beside-interrupt : (x : Event) (f : ℕ) (l : List Event) → losersTo t f s ≡ x ∷ l → Beside (interrupt x t f (enters t s))
     unfolding serverAt

@@ -1,10 +1,11 @@
 -- Demand 3 speaks of something: in accepted examples waits of each kind begin and end, and two equal waits end in their order.
-use Prim.Native.Nat.{ℕ, zero, suc}
+use Prim.Native.Nat.{ℕ, suc, _+_}
 use mathlib.Core.Path.{_≡_, refl}
 use mathlib.Core.Bool.{cond}
 use mathlib.Core.List.{List, [], _∷_, reverse}
 use lib.Dec.{eqb}
 use lib.ListN.{length, getD}
+use Rattle.machine.specs.Block.{BlockModel}
 use Rattle.machine.specs.State.{Logged}
 use Rattle.machine.specs.Run.{run}
 use Rattle.machine.specs.Rules.{document01}
@@ -13,30 +14,31 @@ use Rattle.machine.specs.Claims.{noRecord, waitEnd, equalWaits, bit}
 use Rattle.machine.specs.Bundle.{everything}
 use Rattle.machine.specs.Examples.{firstModel, firstTape, storageModel, storageTape, chainModel, chainTape, freedByOtherModel, freedByOtherTape, returnersModel, returnersTape}
 
--- from position i on, among all records: where each wait begins and ends
-spansFrom : (left i : ℕ) → List Logged → List (List ℕ)
-spansFrom zero i records = []
-spansFrom (suc left) i records =
-    cond (eqb (getD records i noRecord .entry .outcome) 1) ((i ∷ waitEnd records i ∷ []) ∷ spansFrom left (suc i) records)
-    (spansFrom left (suc i) records)
+-- the records from position i on: where each wait begins and ends
+spansFrom : ℕ → List Logged → List (List ℕ)
+spansFrom i [] = []
+spansFrom i (r ∷ l) = cond (eqb (r .entry .outcome) 1) ((i ∷ (i + waitEnd (r ∷ l) 0) ∷ []) ∷ spansFrom (suc i) l) (spansFrom (suc i) l)
 
--- the waits of a run, behind its number of records
+-- the waits of some records, behind their number
+spansOf : List Logged → List (List ℕ)
+spansOf records = (length records ∷ []) ∷ spansFrom 0 records
+
+-- the waits of a run
 spans : List ℕ → List ℕ → List (List ℕ)
 spans model tape =
     elim (validate document01 model tape 16384 10240) [
-      | accept m t ↦
-          let records : List Logged = reverse (run m t 1000000 65536 .records) in
-          (length records ∷ []) ∷ spansFrom (length records) 0 records
+      | accept m t ↦ spansOf (reverse (run m t 1000000 65536 .records))
       | reject n ↦ []
     ]
+
+equalOf : BlockModel → List (List ℕ) → List Logged → ℕ → ℕ → ℕ
+equalOf m t records i k = bit (equalWaits m t (getD records i noRecord) (getD records k noRecord))
 
 -- are the waits begun at two positions equal ones?
 equalAt : List ℕ → List ℕ → ℕ → ℕ → ℕ
 equalAt model tape i k =
     elim (validate document01 model tape 16384 10240) [
-      | accept m t ↦
-          let records : List Logged = reverse (run m t 1000000 65536 .records) in
-          bit (equalWaits m t (getD records i noRecord) (getD records k noRecord))
+      | accept m t ↦ equalOf m t (reverse (run m t 1000000 65536 .records)) i k
       | reject n ↦ 0
     ]
 
@@ -63,5 +65,5 @@ pub waits : waitsFound
     ∷ ((20 ∷ []) ∷ (4 ∷ 14 ∷ []) ∷ (6 ∷ 17 ∷ []) ∷ [])
     ∷ ((1 ∷ []) ∷ [])
     ∷ []
-unfolding everything spansFrom spans equalAt waitsFound firstModel firstTape storageModel storageTape chainModel chainTape freedByOtherModel freedByOtherTape returnersModel returnersTape
+unfolding everything spansFrom spansOf spans equalOf equalAt waitsFound firstModel firstTape storageModel storageTape chainModel chainTape freedByOtherModel freedByOtherTape returnersModel returnersTape
 waits = refl

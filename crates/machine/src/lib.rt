@@ -1,8 +1,2 @@
-// The machine of document 01. Its rules are the definitions of specs/; the code here is the header of a decoded model,
-// with the limits as named constants, and the paper's numbers of kinds, ends and refusals.
-pub mod ends;
-pub mod kinds;
-mod model;
-pub mod refusals;
-
-pub use model::Model;
+// The machine of documents 01 and 02. A crate of definitions and laws: the rules are specs/, what is claimed of them and shown is in
+// proofs/, and there is no code.

@@ -16,16 +16,16 @@ use Rattle.machine.specs.State.{State}
 use Rattle.machine.specs.Setters.{withNext, withSerial, withReturning, setSerial, setMoving, setEnd}
 use Rattle.machine.specs.Moves as Moves
 use Rattle.machine.proofs.Sorted as Machine
-use Rattle.rows.specs.Layout.{wsl}
-use Rattle.rows.specs.Cells.{read, write}
-use Rattle.rows.specs.Lines.{lineUp}
-use Rattle.rows.specs.Ordered.{Sorted}
-use Rattle.rows.specs.Shows.{orderOf}
-use Rattle.rows.specs.Holds.{transactionAt, update}
-use Rattle.rows.proofs.Insertion.{insert-sorted}
-use Rattle.rows.proofs.Orders.{precedes-order}
-use Rattle.rows.proofs.Ordering.{sorted-of, sorted-line}
-use Rattle.rows.proofs.Fields.{write-next, write-serial, set-returning}
+use Rattle.rows_laws.specs.Layout.{wsl}
+use Rattle.rows_laws.specs.Cells.{read, write}
+use Rattle.rows_laws.specs.Lines.{lineUp}
+use Rattle.rows_laws.specs.Ordered.{Sorted}
+use Rattle.rows_laws.specs.Shows.{orderOf}
+use Rattle.rows_laws.specs.Holds.{transactionAt, update}
+use Rattle.rows_laws.proofs.Insertion.{insert-sorted}
+use Rattle.rows_laws.proofs.Orders.{precedes-order}
+use Rattle.rows_laws.proofs.Ordering.{sorted-of, sorted-line}
+use Rattle.rows_laws.proofs.Fields.{write-next, write-serial, set-returning}
 use Rattle.state.specs.declared.scalars.Scalars.{Scalars}
 use Rattle.state.specs.Stands.{Rows, rowsOf, listsOf, Listing, Tallying, Counting, Stands, noteOf, Done}
 use Rattle.state.specs.Bare.{waitsNote, noNote, Bare, entering, goingBack, waiting, bare, bareAnswer}

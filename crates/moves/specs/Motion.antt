@@ -4,9 +4,9 @@ use mathlib.Core.Bool.{cond}
 use mathlib.Core.List.{List}
 use lib.Dec.{eqb}
 use Rattle.tables.specs.Layout.{most32}
-use Rattle.rows.specs.Layout.{standingField, nextField, serialField, rowCount}
-use Rattle.rows.specs.Cells.{read, write, setReturning}
-use Rattle.rows.specs.Lines.{lineUp}
+use Rattle.rows_laws.specs.Layout.{standingField, nextField, serialField, rowCount}
+use Rattle.rows_laws.specs.Cells.{read, write, setReturning}
+use Rattle.rows_laws.specs.Lines.{lineUp}
 use Rattle.state.specs.declared.scalars.Scalars.{Scalars}
 use Rattle.state.specs.ScalarSetters.{putMoving, putSerial, putEnd, putNote}
 use Rattle.state.specs.Stands.{Rows, rowsOf}

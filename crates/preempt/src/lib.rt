@@ -1,8 +1,8 @@
 // 19 PREEMPT f and 20 RETURN f (document 02, item 11).
+use constants::ends::NOT_HOLDER;
+use constants::ends::NOT_IN_USE;
 use flow::ask_time;
 use flow::to_future;
-use machine::ends::NOT_HOLDER;
-use machine::ends::NOT_IN_USE;
 use moves::stop;
 use rows::INTERRUPTED;
 use rows::NUMBER;
@@ -31,10 +31,10 @@ use tables::FIRST;
 ghost use mathlib.Core.Path.{_≡_};
 ghost use Prim.Native.Nat.{_<_};
 ghost use Rattle.tables.specs.Layout.{programSize, serverCount};
-ghost use Rattle.rows.specs.Layout.{Room, rowCount};
+ghost use Rattle.rows_laws.specs.Layout.{Room, rowCount};
 ghost use Rattle.moves.specs.Motion.{moved};
 ghost use Rattle.state.specs.Stands.{rowsOf};
-ghost use Rattle.preempt.specs.Preempting.{seized, interruptOn, takeOver, preemptSeized, preempt, askResume, askGiveBack, resumeOn, resumeRows, giveBackRows, giveBack};
+ghost use Rattle.preempt_laws.specs.Preempting.{seized, interruptOn, takeOver, preemptSeized, preempt, askResume, askGiveBack, resumeOn, resumeRows, giveBackRows, giveBack};
 
 // In use, and not by PREEMPT.
 fn seized(tally: &[u64], v: u32) -> bool

@@ -12,7 +12,7 @@ use Rattle.machine.specs.Parser.{Cursor, Parsed, parsed, refused, Parser, conti
 use Rattle.machine.specs.Term.{Term}
 use Rattle.machine.specs.Block.{codeIndex, Block, generate, advance, terminate, seize, release, enter, leave, waitServer, waitTerms, branch, goto, assign, priority, split, arrive, depart, assemble, preempt, giveBack}
 use Rattle.machine.specs.Decode.{Counts, blockTerm, relationOf, codeOf, codeServer, storageUnits, operands, blockField}
-use Rattle.machine.specs.declared.model.Model.{Model}
+use Rattle.constants.specs.declared.model.Model.{Model}
 use Rattle.tables.specs.Forms.{blockForms}
 use Rattle.tables.specs.Numbers.{termNumbers, blockNumbers}
 use Rattle.values.specs.declared.Place.{Place}

@@ -9,7 +9,7 @@ use Rattle.machine.specs.Parser.{Parser, parsed, continue, field}
 use Rattle.machine.specs.Term.{Term}
 use Rattle.machine.specs.Block.{codeIndex, Block}
 use Rattle.machine.specs.Decode.{Counts, blockTerm, codeOf, codeServer}
-use Rattle.machine.specs.declared.model.Model.{Model}
+use Rattle.constants.specs.declared.model.Model.{Model}
 use Rattle.tables.specs.Layout as Layout
 use Rattle.tables.specs.Numbers.{termNumbers, blockNumbers}
 use Rattle.tables.specs.Represents.{smallTerm}

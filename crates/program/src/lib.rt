@@ -1,14 +1,14 @@
 // The program of a model (document 01, "Blocks", "Kind and operands as stored"): blocks read with
 // questions 3 and 4 and stored in the tables as they are read; then what question 7 asks of them.
-use machine::Model;
-use machine::kinds::BRANCH;
-use machine::kinds::GENERATE;
-use machine::kinds::GOTO;
-use machine::kinds::JOINED_WAIT;
-use machine::kinds::KINDS;
-use machine::kinds::SPLIT;
-use machine::kinds::TERMINATE;
-use machine::kinds::WAIT_SERVER;
+use constants::Model;
+use constants::kinds::BRANCH;
+use constants::kinds::GENERATE;
+use constants::kinds::GOTO;
+use constants::kinds::JOINED_WAIT;
+use constants::kinds::KINDS;
+use constants::kinds::SPLIT;
+use constants::kinds::TERMINATE;
+use constants::kinds::WAIT_SERVER;
 use tables::BLOCK_WIDTH;
 use tables::BRANCH_TARGET;
 use tables::CAPACITIES;

@@ -1,7 +1,7 @@
 // Runs the codec: the paper's numbers as bytes and back, and a thousand records there and back.
 use codec::Read;
+use constants::Model;
 use libc::STDOUT_FILENO;
-use machine::Model;
 use trace::Reading;
 use trace::Record;
 use trace::Written;

@@ -13,9 +13,9 @@ use Rattle.machine.specs.Report.{Place, places, byNumber, placeNumbers}
 use Rattle.machine.specs.Claims.{bit, Each, standing}
 use Rattle.machine.proofs.Proper.{Names}
 use Rattle.machine.proofs.Sums.{sumOn, sum-length}
-use Rattle.rows.specs.Layout.{numberField}
-use Rattle.rows.specs.Cells.{read}
-use Rattle.rows.proofs.Sums.{sum-ext}
+use Rattle.rows_laws.specs.Layout.{numberField}
+use Rattle.rows_laws.specs.Cells.{read}
+use Rattle.rows_laws.proofs.Sums.{sum-ext}
 use Rattle.state.specs.Stands.{Listing}
 use Rattle.report.specs.Living.{placeOf, placeAt, lives, livingCount, counts, rising}
 use Rattle.report.specs.Numbers.{livingNumbers}

@@ -17,11 +17,11 @@ use Rattle.machine.proofs.Proper.{Names}
 use Rattle.machine.specs.Report.{Place, movingOne, places}
 use Rattle.machine.proofs.Standing.{sum-places}
 use Rattle.machine.proofs.Sums.{sumOn, sum-map}
-use Rattle.rows.specs.Layout.{place, fel, nowhere, numberField}
-use Rattle.rows.specs.Cells.{load, read}
-use Rattle.rows.specs.Holds.{transactionAt, eventAt}
-use Rattle.rows.specs.Living.{sumTo}
-use Rattle.rows.proofs.Sums.{sum-suc, sum-ext, sum-add, sum-zero}
+use Rattle.rows_laws.specs.Layout.{place, fel, nowhere, numberField}
+use Rattle.rows_laws.specs.Cells.{load, read}
+use Rattle.rows_laws.specs.Holds.{transactionAt, eventAt}
+use Rattle.rows_laws.specs.Living.{sumTo}
+use Rattle.rows_laws.proofs.Sums.{sum-suc, sum-ext, sum-add, sum-zero}
 use Rattle.state.specs.Stands.{gathererRow, interruptedRow, listsOf, Moving, Listing}
 use Rattle.state.proofs.ListsOf.{lists-gatherers, lists-interrupted}
 use Rattle.report.specs.Living.{listPlace, placeOf, placeAt, counts}

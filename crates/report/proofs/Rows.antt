@@ -10,12 +10,12 @@ use lib.Dec.{ltb, eqb}
 use lib.ListN.{length, getD}
 use Rattle.machine.specs.Lists.{flat}
 use Rattle.machine.proofs.Sums.{sumOn, sum-append}
-use Rattle.rows.specs.Layout.{place, listCount}
-use Rattle.rows.specs.Cells.{load}
-use Rattle.rows.specs.Holds.{same, occurs, Holds}
-use Rattle.rows.specs.Living.{sumTo}
-use Rattle.rows.proofs.Occurs.{same-refl}
-use Rattle.rows.proofs.Sums.{sum-suc, sum-ext, sum-add, sum-zero, sum-at}
+use Rattle.rows_laws.specs.Layout.{place, listCount}
+use Rattle.rows_laws.specs.Cells.{load}
+use Rattle.rows_laws.specs.Holds.{same, occurs, Holds}
+use Rattle.rows_laws.specs.Living.{sumTo}
+use Rattle.rows_laws.proofs.Occurs.{same-refl}
+use Rattle.rows_laws.proofs.Sums.{sum-suc, sum-ext, sum-add, sum-zero, sum-at}
 
 -- ---- Parts of a sum
 

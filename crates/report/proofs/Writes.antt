@@ -6,9 +6,9 @@ use native.Mathlib.Numerals.{add-one}
 use native.Mathlib.Omega.{arith}
 use borrow.Author.Tests.{lt-ltb, le-ltb}
 use Rattle.machine.specs.Report.{placeNumbers}
-use Rattle.rows.specs.Layout.{numberField}
-use Rattle.rows.specs.Cells.{read}
-use Rattle.rows.specs.Living.{sumTo}
+use Rattle.rows_laws.specs.Layout.{numberField}
+use Rattle.rows_laws.specs.Cells.{read}
+use Rattle.rows_laws.specs.Living.{sumTo}
 use Rattle.report.specs.Writing.{Written, put, putAll}
 use Rattle.report.specs.Counts.{share, total, rowsTo}
 use Rattle.report.specs.Living.{placeAt, behind, better, least, rising}

@@ -3,7 +3,7 @@ use Prim.Native.Nat.{ℕ, _+_, min}
 use mathlib.Core.List.{List, [], _∷_, _++_}
 use Rattle.machine.specs.Limits.{maxFacilities, maxStorages, maxBlocks, maxQueues}
 use Rattle.machine.specs.Report.{placeNumbers}
-use Rattle.machine.specs.declared.model.Model.{Model}
+use Rattle.constants.specs.declared.model.Model.{Model}
 use Rattle.state.specs.declared.scalars.Scalars.{Scalars}
 use Rattle.report.specs.Counts.{serverRow, queueRow, rowsTo}
 use Rattle.report.specs.Living.{livingCount, lowest, rising}

@@ -1,9 +1,9 @@
 // The numbers of servers and queues, from tables and tally.
 use codec::write_number;
-use machine::kinds::ARRIVE;
-use machine::kinds::ENTER;
-use machine::kinds::PREEMPT;
-use machine::kinds::SEIZE;
+use constants::kinds::ARRIVE;
+use constants::kinds::ENTER;
+use constants::kinds::PREEMPT;
+use constants::kinds::SEIZE;
 use state::plus64;
 use tables::BLOCK_WIDTH;
 use tables::CONTENT_TICKS;

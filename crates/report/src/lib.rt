@@ -4,10 +4,10 @@ mod counts;
 mod living;
 
 use codec::write_number;
+use constants::Model;
 use counts::put_queues;
 use counts::put_servers;
 use living::put_living;
-use machine::Model;
 use state::Scalars;
 ghost use mathlib.Core.Path.{_≡_};
 ghost use mathlib.Core.List.{[], _∷_};

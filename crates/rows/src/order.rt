@@ -6,8 +6,8 @@ use crate::cells::read;
 use crate::cells::time;
 ghost use mathlib.Core.Path.{_≡_};
 ghost use Prim.Native.Nat.{_<_};
-ghost use Rattle.rows.specs.Layout.{rowCount};
-ghost use Rattle.rows.specs.Order.{outranks, soonerAt};
+ghost use Rattle.rows_laws.specs.Layout.{rowCount};
+ghost use Rattle.rows_laws.specs.Order.{outranks, soonerAt};
 
 // By priority, high first, then serial, low first.
 pub fn outranks(w: &[u32], x: u32, y: u32) -> bool

@@ -10,8 +10,8 @@ use crate::lists::put;
 use crate::lists::remove_at;
 ghost use mathlib.Core.Path.{_≡_};
 ghost use Prim.Native.Nat.{_<_, _≤_};
-ghost use Rattle.rows.specs.Layout.{rowCount, listCount, Room};
-ghost use Rattle.rows.specs.Wake.{wakeRow, wakeAt, wakeFirst, after, passRows, passCell};
+ghost use Rattle.rows_laws.specs.Layout.{rowCount, listCount, Room};
+ghost use Rattle.rows_laws.specs.Wake.{wakeRow, wakeAt, wakeFirst, after, passRows, passCell};
 
 fn wake_row(w: &mut [u32], p: u32, c: u32, k: u32)
     requires { ⌜ Room (now w) ⌝ }

@@ -8,7 +8,7 @@ use lib.Seq.{sets}
 use Rattle.machine.specs.Limits.{maxReportNumberBytes, maxReportNumber}
 use Rattle.machine.specs.Number.{readNumber}
 use Rattle.machine.specs.Validate.{Validation, accept, reject}
-use Rattle.machine.specs.declared.model.Model.{Model}
+use Rattle.constants.specs.declared.model.Model.{Model}
 use Rattle.tables.specs.Represents.{headerOf}
 use Rattle.codec.specs.declared.Read.{Read}
 use Rattle.codec.specs.declared.Read.the-variants.{Number as Whole, Refused as Unread}

@@ -6,7 +6,7 @@ use lib.ListN.{drop}
 use Rattle.machine.specs.Limits.{maxReportNumberBytes, maxReportNumber}
 use Rattle.machine.specs.Number.{Number, readNumber}
 use Rattle.machine.specs.Validate.{Validation, accept, reject}
-use Rattle.machine.specs.declared.model.Model.{Model}
+use Rattle.constants.specs.declared.model.Model.{Model}
 use Rattle.tables.specs.Represents.{headerOf}
 use Rattle.runmodel.specs.declared.printing.Field.{Field}
 

@@ -4,9 +4,9 @@ mod files;
 mod lines;
 mod printing;
 
+use constants::Model;
 use files::File;
 use files::read_file;
-use machine::Model;
 use printing::print_accepted;
 use printing::print_refused;
 

@@ -2,10 +2,10 @@
 use crate::lines::LINE;
 use crate::lines::line;
 use codec::Read;
+use constants::Model;
 use decode::Decoded;
 use engine::Outcome;
 use libc::STDOUT_FILENO;
-use machine::Model;
 use tables::LIST_CELLS;
 use tables::TABLES;
 use trace::Reading;

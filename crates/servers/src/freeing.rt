@@ -9,8 +9,8 @@ use crate::waking::check_wels;
 use crate::waking::leave_with;
 use crate::waking::wake_first_ql;
 use crate::waking::wake_ql;
-use machine::ends::NOT_HOLDER;
-use machine::ends::NOT_IN_USE;
+use constants::ends::NOT_HOLDER;
+use constants::ends::NOT_IN_USE;
 use moves::go_on;
 use moves::stop;
 use rows::NUMBER;
@@ -26,10 +26,10 @@ use tables::set_count;
 ghost use mathlib.Core.Path.{_≡_};
 ghost use Prim.Native.Nat.{_+_, _<_, _≤_};
 ghost use Rattle.tables.specs.Layout.{programSize, serverCount};
-ghost use Rattle.rows.specs.Layout.{Room, rowCount};
+ghost use Rattle.rows_laws.specs.Layout.{Room, rowCount};
 ghost use Rattle.moves.specs.Motion.{moved};
 ghost use Rattle.state.specs.Stands.{rowsOf};
-ghost use Rattle.servers.specs.Freeing.{enterFreed, freeOne, freeSome, askRelease, release, leave};
+ghost use Rattle.servers_laws.specs.Freeing.{enterFreed, freeOne, freeSome, askRelease, release, leave};
 
 // It enters, and so many units are in use.
 fn enter_freed(work: &mut [u32], x: Scalars, v: u32, units: u64, capacity: u64) -> Scalars

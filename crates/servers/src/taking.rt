@@ -21,9 +21,9 @@ use tables::set_count;
 ghost use mathlib.Core.Path.{_≡_};
 ghost use Prim.Native.Nat.{_+_, _<_, _≤_};
 ghost use Rattle.tables.specs.Layout.{programSize, serverCount};
-ghost use Rattle.rows.specs.Layout.{Room, rowCount};
+ghost use Rattle.rows_laws.specs.Layout.{Room, rowCount};
 ghost use Rattle.state.specs.Stands.{rowsOf};
-ghost use Rattle.servers.specs.Taking.{holdUnits, queueUp, takeUnits, seize, enter};
+ghost use Rattle.servers_laws.specs.Taking.{holdUnits, queueUp, takeUnits, seize, enter};
 
 // It enters; so many units are in use, and `who` holds the server, 0 for nobody; 1 for by PREEMPT.
 pub fn hold_units(

@@ -9,7 +9,7 @@ use tables::set_count;
 ghost use mathlib.Core.Path.{_≡_};
 ghost use Prim.Native.Nat.{_+_, _<_};
 ghost use Rattle.tables.specs.Layout.{serverCount, wordEnd};
-ghost use Rattle.servers.specs.Units.{serverAt, inUse, holder, preempted, setUse, capacity, statusOf};
+ghost use Rattle.servers_laws.specs.Units.{serverAt, inUse, holder, preempted, setUse, capacity, statusOf};
 
 const SERVERS: u32 = tables::SERVERS as u32;
 

@@ -4,9 +4,9 @@ use crate::units::capacity;
 use crate::units::in_use;
 use crate::units::server_at;
 use crate::units::status;
-use machine::Model;
-use machine::kinds::JOINED_WAIT;
-use machine::kinds::WAIT_SERVER;
+use constants::Model;
+use constants::kinds::JOINED_WAIT;
+use constants::kinds::WAIT_SERVER;
 use moves::go_back;
 use moves::go_on;
 use moves::wait_on;
@@ -26,9 +26,9 @@ ghost use mathlib.Core.Bool.{_&&_};
 ghost use Prim.Native.Nat.{_+_, _*_, _-_, _<_, _≤_};
 ghost use Rattle.machine.specs.Limits.{maxBack};
 ghost use Rattle.tables.specs.Layout.{blockWidth, programSize};
-ghost use Rattle.rows.specs.Layout.{Room, listCount, rowCount};
+ghost use Rattle.rows_laws.specs.Layout.{Room, listCount, rowCount};
 ghost use Rattle.moves.specs.Motion.{moved};
-ghost use Rattle.servers.specs.WaitServer.{backOf, beginsFrom, isLate, backFrom, stampOn, passOn, passOrBack, waitWhile, waitServer};
+ghost use Rattle.servers_laws.specs.WaitServer.{backOf, beginsFrom, isLate, backFrom, stampOn, passOn, passOrBack, waitWhile, waitServer};
 
 // The back count of the block at `at`, 0 for kind 8.
 fn back_count(tables: &[u32], at: usize) -> u32

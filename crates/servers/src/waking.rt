@@ -1,10 +1,10 @@
 // Whom a change of a server's units wakes: the first of its QL or those that fit, and the first of each WEL whose code is not true.
 use crate::units::CODES;
 use crate::units::status;
-use machine::Model;
-use machine::kinds::ENTER;
-use machine::kinds::PREEMPT;
-use machine::kinds::SEIZE;
+use constants::Model;
+use constants::kinds::ENTER;
+use constants::kinds::PREEMPT;
+use constants::kinds::SEIZE;
 use rows::HEADS;
 use rows::NEXT;
 use rows::ROWS;
@@ -24,9 +24,9 @@ use tables::set_count;
 ghost use mathlib.Core.Path.{_≡_};
 ghost use Prim.Native.Nat.{_+_, _<_, _≤_};
 ghost use Rattle.tables.specs.Layout.{codeCount, programSize, serverCount};
-ghost use Rattle.rows.specs.Layout.{head, Room, rowCount};
-ghost use Rattle.rows.specs.Wake.{wakeWalk, wakeFirst};
-ghost use Rattle.servers.specs.Waking.{checkWel, checkFirst, checkLast, checkWels, shorter, unitsAt, memberUnits, memberFits, leaveWith, takenOff, leftBehind, memberLeft, steps, oneUnless, wakeStays};
+ghost use Rattle.rows_laws.specs.Layout.{head, Room, rowCount};
+ghost use Rattle.rows_laws.specs.Wake.{wakeWalk, wakeFirst};
+ghost use Rattle.servers_laws.specs.Waking.{checkWel, checkFirst, checkLast, checkWels, shorter, unitsAt, memberUnits, memberFits, leaveWith, takenOff, leftBehind, memberLeft, steps, oneUnless, wakeStays};
 
 const BLOCKS: u32 = Model::MAX_BLOCKS as u32;
 

@@ -12,14 +12,14 @@ use Rattle.machine.specs.Block.{Block, BlockModel}
 use Rattle.machine.specs.State.{State}
 use Rattle.machine.specs.Moves as Moves
 use Rattle.machine.specs.Run.{startOf, startAt, idle, start}
-use Rattle.machine.specs.declared.model.Model.{Model}
+use Rattle.constants.specs.declared.model.Model.{Model}
 use Rattle.machine.proofs.Cases.{startOf-cases}
-use Rattle.rows.specs.Make.{initial}
+use Rattle.rows_laws.specs.Make.{initial}
 use Rattle.state.specs.Stands.{Rows, rowsOf}
 use Rattle.state.specs.declared.scalars.Scalars.{Scalars}
-use Rattle.flow.specs.declared.samples.Sample.{Sample}
-use Rattle.flow.specs.Samples.{useTime}
-use Rattle.flow.specs.Sending.{arrives}
+use Rattle.flow_laws.specs.declared.samples.Sample.{Sample}
+use Rattle.flow_laws.specs.Samples.{useTime}
+use Rattle.flow_laws.specs.Sending.{arrives}
 use Rattle.start.specs.Start.{listsSet, startScalars, beginList, beginBlock, beginBlocks, startRows}
 use Rattle.start.proofs.Tally.{same-at, lists-low}
 

@@ -19,21 +19,21 @@ use Rattle.machine.proofs.Proper.{Names, ProperBlock, Proper}
 use Rattle.tables.specs.Forms.{blockForms}
 use Rattle.tables.specs.Numbers.{blockNumbers}
 use Rattle.tables.specs.Represents.{headerOf, Represents}
-use Rattle.rows.specs.Make.{initial}
-use Rattle.rows.specs.Living.{onLists}
-use Rattle.rows.specs.Shows.{Shows}
-use Rattle.rows.proofs.Sums.{sum-zero}
-use Rattle.rows.proofs.Ordering.{shows-ext}
-use Rattle.rows.proofs.Starting.{initial-shows, initial-loose}
-use Rattle.rows.proofs.Population.{population}
+use Rattle.rows_laws.specs.Make.{initial}
+use Rattle.rows_laws.specs.Living.{onLists}
+use Rattle.rows_laws.specs.Shows.{Shows}
+use Rattle.rows_laws.proofs.Sums.{sum-zero}
+use Rattle.rows_laws.proofs.Ordering.{shows-ext}
+use Rattle.rows_laws.proofs.Starting.{initial-shows, initial-loose}
+use Rattle.rows_laws.proofs.Population.{population}
 use Rattle.state.specs.Stands.{Rows, rowsOf, gathererRow, listsOf, Listing, Counting, Stands}
 use Rattle.state.proofs.StandsLaws.{stands-of}
-use Rattle.flow.specs.Samples.{nextSample}
-use Rattle.flow.specs.Sending.{arrives}
+use Rattle.flow_laws.specs.Samples.{nextSample}
+use Rattle.flow_laws.specs.Sending.{arrives}
 use Rattle.start.specs.Start.{listsSet, startScalars, beginList, beginBlock, beginBlocks, startRows}
 use Rattle.tables.proofs.Operands.{operand}
-use Rattle.flow.proofs.Drawing.{drawn-most}
-use Rattle.flow.proofs.Arrival.{arrives-stands}
+use Rattle.flow_laws.proofs.Drawing.{drawn-most}
+use Rattle.flow_laws.proofs.Arrival.{arrives-stands}
 use Rattle.start.proofs.Tally.{same-at, idle-tallying}
 use Rattle.tables.proofs.BlockKinds.{Kinds, generating, taking, waiting, arriving, preempting, other, kinds, unasked}
 

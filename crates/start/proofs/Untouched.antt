@@ -4,10 +4,10 @@ use mathlib.Core.Path.{refl}
 use mathlib.Core.List.{List}
 use lib.Dec.{eqb}
 use lib.ListN.{getD}
-use Rattle.machine.specs.declared.model.Model.{Model}
-use Rattle.rows.specs.Make.{initial}
+use Rattle.constants.specs.declared.model.Model.{Model}
+use Rattle.rows_laws.specs.Make.{initial}
 use Rattle.state.specs.Stands.{Rows, rowsOf}
-use Rattle.flow.proofs.Untouched.{Untouched, untouched-trans, either, arrives-untouched}
+use Rattle.flow_laws.proofs.Untouched.{Untouched, untouched-trans, either, arrives-untouched}
 use Rattle.start.specs.Start.{listsSet, startScalars, beginList, beginBlock, beginBlocks, startRows}
 
 block-untouched : (tables tape : List ℕ) (r : Rows) (b : ℕ) → Untouched (r .scalars) (beginBlock tables tape r b .scalars)

@@ -5,14 +5,14 @@ use mathlib.Core.List.{List}
 use lib.Dec.{eqb}
 use lib.ListN.{getD, set}
 use Rattle.machine.specs.Limits.{maxBlocks, maxLists}
-use Rattle.rows.specs.Layout.{rowCount}
-use Rattle.machine.specs.declared.model.Model.{Model}
+use Rattle.rows_laws.specs.Layout.{rowCount}
+use Rattle.constants.specs.declared.model.Model.{Model}
 use Rattle.tables.specs.Layout.{listAt, listLeft, listCounts, most32, blockWidth}
-use Rattle.rows.specs.Make.{initial}
+use Rattle.rows_laws.specs.Make.{initial}
 use Rattle.state.specs.declared.scalars.Scalars.{Scalars}
 use Rattle.state.specs.Stands.{Rows, rowsOf}
-use Rattle.flow.specs.Samples.{nextSample}
-use Rattle.flow.specs.Sending.{arrives}
+use Rattle.flow_laws.specs.Samples.{nextSample}
+use Rattle.flow_laws.specs.Sending.{arrives}
 
 -- ---- Tally: where each list begins and how many times it has
 

@@ -1,10 +1,10 @@
 // The start of a run: "clock 0; for each GENERATE in block order, if its sample list has a time, one transaction on the FEL at that
 // time". Nothing is asked.
+use constants::Model;
+use constants::kinds::GENERATE;
 use flow::arrives;
 use flow::next_sample;
 use flow::times_left;
-use machine::Model;
-use machine::kinds::GENERATE;
 use rows::make::initialise;
 use state::ENTERED;
 use state::NOBODY;
@@ -22,7 +22,7 @@ ghost use mathlib.Core.Path.{_≡_};
 ghost use Prim.Native.Nat.{_<_, _≤_, min};
 ghost use Rattle.machine.specs.Limits.{maxBlocks, maxLists};
 ghost use Rattle.tables.specs.Layout.{most32};
-ghost use Rattle.rows.specs.Layout.{Room};
+ghost use Rattle.rows_laws.specs.Layout.{Room};
 ghost use Rattle.state.specs.Stands.{rowsOf};
 ghost use Rattle.start.specs.Start.{listSet, listsSet, startScalars, beginList, beginBlock, beginBlocks, startRows};
 

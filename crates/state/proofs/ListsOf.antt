@@ -14,9 +14,9 @@ use Rattle.machine.specs.Lists.{those}
 use Rattle.machine.specs.State.{State}
 use Rattle.machine.specs.Setters.{setQl, setWel, setWsl, setRel, setGatherers, setInterrupted}
 use Rattle.machine.specs.Moves.{ofFacility, interruptedAt}
-use Rattle.rows.specs.Layout.{wsl, rel}
-use Rattle.rows.specs.Holds.{update}
-use Rattle.rows.specs.Shows.{moved}
+use Rattle.rows_laws.specs.Layout.{wsl, rel}
+use Rattle.rows_laws.specs.Holds.{update}
+use Rattle.rows_laws.specs.Shows.{moved}
 use Rattle.state.specs.Stands.{gathererRow, interruptedRow, listsOf}
 
 -- REL, the gatherers and the interrupted ones

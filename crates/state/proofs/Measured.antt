@@ -22,8 +22,8 @@ use Rattle.machine.proofs.RunLaws.{cond-cases, each-map, each-pair}
 use Rattle.machine.proofs.Sorted.{each-those}
 use Rattle.machine.proofs.Shape.{Shape, Within, capacityOf, allCapacities}
 use Rattle.machine.proofs.Clocks.{Samples}
-use Rattle.rows.specs.Clock.{arrivals}
-use Rattle.rows.proofs.Arrivals.{arriveAll-is}
+use Rattle.rows_laws.specs.Clock.{arrivals}
+use Rattle.rows_laws.proofs.Arrivals.{arriveAll-is}
 use Rattle.machine.proofs.Ahead.{Rising, rising-those, Ahead}
 use Rattle.state.proofs.Gains.{each-alike, each-mapped, Sums, serverSums, queueSums, Gains}
 

@@ -15,23 +15,23 @@ use Rattle.machine.specs.Term.{Server, Queue}
 use Rattle.machine.specs.State.{State}
 use Rattle.machine.specs.Setters.{withStamp, setMoving}
 use Rattle.tables.specs.Layout as Layout
-use Rattle.rows.specs.Layout.{wsl, fel, free}
-use Rattle.rows.specs.Cells.{write, setTime}
-use Rattle.rows.specs.Order.{outranks, sooner}
-use Rattle.rows.specs.Lists.{put}
-use Rattle.rows.specs.Future.{schedule}
-use Rattle.rows.specs.Lines as Lines
-use Rattle.rows.specs.Holds.{transactionAt, eventAt, update}
-use Rattle.rows.specs.Ordered.{Sorted}
-use Rattle.rows.specs.Shows.{orderOf, Shows}
-use Rattle.rows.proofs.Showing.{update-other}
-use Rattle.rows.proofs.Ordering.{line-sorted, shows-ext}
-use Rattle.rows.proofs.Write.{write-shown, write-loose}
-use Rattle.rows.proofs.Fields.{write-stamp}
-use Rattle.rows.proofs.Laws.{Fresh, shows-put, shows-line, shows-schedule}
-use Rattle.rows.proofs.LiningUp.{lined}
-use Rattle.rows.proofs.Steady.{Steady, steady-transaction}
-use Rattle.rows.proofs.Population.{free-kept}
+use Rattle.rows_laws.specs.Layout.{wsl, fel, free}
+use Rattle.rows_laws.specs.Cells.{write, setTime}
+use Rattle.rows_laws.specs.Order.{outranks, sooner}
+use Rattle.rows_laws.specs.Lists.{put}
+use Rattle.rows_laws.specs.Future.{schedule}
+use Rattle.rows_laws.specs.Lines as Lines
+use Rattle.rows_laws.specs.Holds.{transactionAt, eventAt, update}
+use Rattle.rows_laws.specs.Ordered.{Sorted}
+use Rattle.rows_laws.specs.Shows.{orderOf, Shows}
+use Rattle.rows_laws.proofs.Showing.{update-other}
+use Rattle.rows_laws.proofs.Ordering.{line-sorted, shows-ext}
+use Rattle.rows_laws.proofs.Write.{write-shown, write-loose}
+use Rattle.rows_laws.proofs.Fields.{write-stamp}
+use Rattle.rows_laws.proofs.Laws.{Fresh, shows-put, shows-line, shows-schedule}
+use Rattle.rows_laws.proofs.LiningUp.{lined}
+use Rattle.rows_laws.proofs.Steady.{Steady, steady-transaction}
+use Rattle.rows_laws.proofs.Population.{free-kept}
 use Rattle.state.specs.declared.scalars.Scalars.{Scalars}
 use Rattle.state.specs.Stands.{Rows, rowsOf, listsOf, Moving, Listing, Serving, Queueing, Sampling, Tallying, Counting, Stands}
 

@@ -13,12 +13,12 @@ use Rattle.machine.specs.State.{State}
 use Rattle.machine.specs.Setters.{setQl, setWel, setWsl, setRel}
 use Rattle.machine.specs.Moves.{wake, qlOf, welOf, firstOf, wakeQl, wakeFirstWel, wakeWsl}
 use Rattle.machine.proofs.QueueRemove.{walk}
-use Rattle.rows.specs.Layout.{head, wsl, rel}
-use Rattle.rows.specs.Wake.{wakeFirst, wakeWalk, wakeAll}
-use Rattle.rows.specs.Holds.{transactionAt}
-use Rattle.rows.specs.Shows.{moved}
-use Rattle.rows.proofs.Ordering.{shows-ext}
-use Rattle.rows.proofs.Laws.{Wakes, wake-first-shows, wake-walk-shows, wake-all-shows}
+use Rattle.rows_laws.specs.Layout.{head, wsl, rel}
+use Rattle.rows_laws.specs.Wake.{wakeFirst, wakeWalk, wakeAll}
+use Rattle.rows_laws.specs.Holds.{transactionAt}
+use Rattle.rows_laws.specs.Shows.{moved}
+use Rattle.rows_laws.proofs.Ordering.{shows-ext}
+use Rattle.rows_laws.proofs.Laws.{Wakes, wake-first-shows, wake-walk-shows, wake-all-shows}
 use Rattle.state.specs.Stands.{listsOf, Listing}
 use Rattle.state.proofs.ListsOf.{lists-ql, lists-wel, lists-wsl, lists-rel, lists-set-ql, lists-set-wel, lists-set-wsl, lists-moved}
 use Rattle.state.proofs.StandsLaws.{listing-steady}

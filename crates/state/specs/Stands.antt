@@ -16,9 +16,9 @@ use Rattle.machine.specs.State.{State}
 use Rattle.machine.specs.Moves.{interruptedAt}
 use Rattle.tables.specs.Layout as Layout
 use Rattle.tables.specs.Represents.{TimesAt}
-use Rattle.rows.specs.Holds.{transactionAt}
-use Rattle.rows.specs.Shows.{Shows, Loose}
-use Rattle.rows.specs.Layout.{free, rowCount, wels, wsl, rel, gatherers, interrupted}
+use Rattle.rows_laws.specs.Holds.{transactionAt}
+use Rattle.rows_laws.specs.Shows.{Shows, Loose}
+use Rattle.rows_laws.specs.Layout.{free, rowCount, wels, wsl, rel, gatherers, interrupted}
 use Rattle.state.specs.declared.scalars.Scalars.{Scalars}
 use Rattle.state.specs.Bare.{Note, enteredNote, waitsNote, noNote, Bare}
 

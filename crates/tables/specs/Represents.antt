@@ -11,7 +11,7 @@ use Rattle.machine.specs.Parser.{Cursor, parsed, times, fieldUpTo}
 use Rattle.machine.specs.Term.{Term, constant, minusConstant, parameter, clockTerm, entriesOf, contentOf, unitsInUse, unitsFree, facilityInUse, value, comparison, bracket, Sum, nothing, plus, minus}
 use Rattle.machine.specs.Block.{Block, terminate, facts, BlockModel}
 use Rattle.machine.specs.Validate.{allOf}
-use Rattle.machine.specs.declared.model.Model.{Model}
+use Rattle.constants.specs.declared.model.Model.{Model}
 use Rattle.tables.specs.Layout as Layout
 use Rattle.tables.specs.Numbers.{sumNumbers, blockNumbers}
 

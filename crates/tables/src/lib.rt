@@ -1,6 +1,6 @@
 // The layout of a run's two arrays, as constants (specs/Layout). `TABLES` numbers of 32 bits are filled once by decoding;
 // `TALLY` numbers of 64 bits change with the run.
-use machine::Model;
+use constants::Model;
 ghost use mathlib.Core.Path.{_≡_};
 ghost use lib.ListN.{getD, set};
 

@@ -6,7 +6,7 @@ use crate::relations::related;
 use crate::simple::simple_term;
 use crate::wrapping::add;
 use crate::wrapping::subtract;
-use machine::Model;
+use constants::Model;
 use tables::RELATION;
 use tables::RIGHT;
 use tables::TABLES;

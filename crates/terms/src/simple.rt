@@ -1,7 +1,7 @@
 // Terms of tags 0 to 8: a tag and a number, with no sum inside.
 use crate::wrapping::low_signed;
 use crate::wrapping::signed;
-use machine::Model;
+use constants::Model;
 use tables::CAPACITIES;
 use tables::CONTENT;
 use tables::ENTRIES;

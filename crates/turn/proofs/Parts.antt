@@ -2,7 +2,7 @@
 use Prim.Native.Nat.{ℕ, _+_}
 use mathlib.Core.Path.{_≡_, ap, subst}
 use mathlib.Core.List.{List}
-use Rattle.machine.specs.declared.model.Model.{Model}
+use Rattle.constants.specs.declared.model.Model.{Model}
 use Rattle.state.specs.declared.scalars.Scalars.{Scalars}
 use Rattle.state.specs.Stands.{Rows, rowsOf}
 use Rattle.clock.specs.Taking.{take}

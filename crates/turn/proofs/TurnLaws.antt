@@ -22,8 +22,8 @@ use Rattle.machine.proofs.Everybody.{Maybe}
 use Rattle.machine.proofs.RunLaws.{Taken}
 use Rattle.tables.specs.Layout as Layout
 use Rattle.tables.specs.Represents.{Represents, headerOf}
-use Rattle.rows.specs.Layout.{rel, fel}
-use Rattle.rows.specs.Lists.{first}
+use Rattle.rows_laws.specs.Layout.{rel, fel}
+use Rattle.rows_laws.specs.Lists.{first}
 use Rattle.terms.specs.Nested.{Nested}
 use Rattle.state.specs.declared.scalars.Scalars.{Scalars}
 use Rattle.state.specs.Sane.{Sane}

@@ -4,10 +4,10 @@ use mathlib.Core.Bool.{cond}
 use mathlib.Core.List.{List}
 use lib.Dec.{ltb}
 use Rattle.machine.specs.Limits.{maxBlocks}
-use Rattle.machine.specs.declared.model.Model.{Model}
+use Rattle.constants.specs.declared.model.Model.{Model}
 use Rattle.tables.specs.Layout as Layout
-use Rattle.rows.specs.Layout.{numberField, nextField, rowCount}
-use Rattle.rows.specs.Cells.{read}
+use Rattle.rows_laws.specs.Layout.{numberField, nextField, rowCount}
+use Rattle.rows_laws.specs.Cells.{read}
 use Rattle.state.specs.declared.scalars.Scalars.{Scalars}
 use Rattle.state.specs.Stands.{Rows, rowsOf}
 use Rattle.clock.specs.Taking.{take}

@@ -2,8 +2,8 @@
 use crate::note::note_record;
 use blocks::execute;
 use clock::take;
+use constants::Model;
 use decisions::ws;
-use machine::Model;
 use rows::NEXT;
 use rows::NUMBER;
 use rows::ROWS;
@@ -16,7 +16,7 @@ use tables::TALLY;
 ghost use mathlib.Core.Path.{_≡_};
 ghost use Prim.Native.Nat.{_+_, _<_, _≤_};
 ghost use Rattle.machine.specs.Limits.{maxBlocks, maxFacilities, maxQueues, maxStorages};
-ghost use Rattle.rows.specs.Layout.{Room, rowCount};
+ghost use Rattle.rows_laws.specs.Layout.{Room, rowCount};
 ghost use Rattle.state.specs.Stands.{rowsOf};
 ghost use Rattle.turn.specs.Turn.{traced, act, actMoving, turn};
 

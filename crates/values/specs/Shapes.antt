@@ -9,7 +9,7 @@ use Rattle.machine.specs.Limits.{maxFacilities, maxStorages, maxQueues, maxValu
 use Rattle.machine.specs.Parser.{Cursor, Parser}
 use Rattle.machine.specs.Decode.{Counts, simpleTerm, valueNumber, mentionField}
 use Rattle.machine.specs.Term.{Term, constant, minusConstant, parameter, clockTerm, entriesOf, contentOf, unitsInUse, unitsFree, facilityInUse, value, comparison, bracket, Sum, nothing, plus, minus}
-use Rattle.machine.specs.declared.model.Model.{Model}
+use Rattle.constants.specs.declared.model.Model.{Model}
 use Rattle.tables.specs.Numbers.{termNumbers, signedTerms, sumNumbers, terms}
 use Rattle.tables.specs.Represents.{smallTerm, smallSum}
 use Rattle.values.specs.declared.Place.{Place}

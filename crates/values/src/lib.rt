@@ -1,9 +1,9 @@
 // Numbers, terms and values of a model (document 01, "Terms are a tag and a number", "A value is a
 // sum"): read with questions 3, 4 and 5, and stored in the tables as they are read.
 use codec::Field;
-use machine::Model;
-use machine::refusals::LARGE_VALUE;
-use machine::refusals::MODEL_NUMBER;
+use constants::Model;
+use constants::refusals::LARGE_VALUE;
+use constants::refusals::MODEL_NUMBER;
 use tables::BRACKET_TAG;
 use tables::COMPARISON_TAG;
 use tables::ENTRIES_TAG;

@@ -5,9 +5,9 @@
 // A case: lengths of model and tape in bytes, budget, lengths of work buffer in 32-bit numbers and of trace and report in bytes, each as
 // a seven-bit number; then the bytes of model and tape.
 use codec::Read;
+use constants::Model;
 use libc::STDIN_FILENO;
 use libc::STDOUT_FILENO;
-use machine::Model;
 ghost use Prim.Native.Nat.{_<_};
 
 const CASES_BYTES: usize = 262_144;

@@ -5,7 +5,7 @@ use mathlib.Core.Path.{_≡_, sym, _∙_}
 use borrow.Author.Tests.{ne-eqb}
 use Rattle.state.specs.declared.scalars.Scalars.{Scalars}
 use Rattle.state.specs.Stands.{rowsOf}
-use Rattle.servers.proofs.Tallied.{tallied}
+use Rattle.servers_laws.proofs.Tallied.{tallied}
 use Rattle.blocks.specs.Execute.{later, byKind, execute}
 use borrow.Author.Needs.{needs}
 use Rattle.blocks.proofs.execute.Statement.{statement}

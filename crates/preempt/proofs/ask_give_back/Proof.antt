@@ -1,6 +1,6 @@
 -- `ask_give_back` meets its contract: 24, then 27, then 22.
 use borrow.Author.Tests.{lt-ltb, le-ltb, eq-eqb, ne-eqb}
-use Rattle.preempt.specs.Preempting.{askGiveBack}
+use Rattle.preempt_laws.specs.Preempting.{askGiveBack}
 use borrow.Author.Needs.{needs}
 use Rattle.preempt.proofs.ask_give_back.Statement.{statement}
 use Rattle.preempt.proofs.ask_give_back.Tie as tie

@@ -1,6 +1,6 @@
 -- `ask_resume` meets its contract, by cases on whether there is a row.
 use borrow.Author.Tests.{lt-ltb, le-ltb}
-use Rattle.preempt.specs.Preempting.{askResume}
+use Rattle.preempt_laws.specs.Preempting.{askResume}
 use borrow.Author.Needs.{needs}
 use Rattle.preempt.proofs.ask_resume.Statement.{statement}
 use Rattle.preempt.proofs.ask_resume.Tie as tie

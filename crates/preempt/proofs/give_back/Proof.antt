@@ -1,6 +1,6 @@
 -- `give_back` meets its contract, by cases on the question.
 use borrow.Author.Tests.{eq-eqb, ne-eqb}
-use Rattle.preempt.specs.Preempting.{giveBack}
+use Rattle.preempt_laws.specs.Preempting.{giveBack}
 use borrow.Author.Needs.{needs}
 use Rattle.preempt.proofs.give_back.Statement.{statement}
 use Rattle.preempt.proofs.give_back.Tie as tie

@@ -1,6 +1,6 @@
 -- `give_back_now` meets its contract, by cases on the first of the facility's list.
 use borrow.Author.Tests.{lt-ltb, le-ltb}
-use Rattle.preempt.specs.Preempting.{giveBackRows}
+use Rattle.preempt_laws.specs.Preempting.{giveBackRows}
 use borrow.Author.Needs.{needs}
 use Rattle.preempt.proofs.give_back_now.Statement.{statement}
 use Rattle.preempt.proofs.give_back_now.Tie as tie

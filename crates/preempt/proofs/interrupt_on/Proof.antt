@@ -1,5 +1,5 @@
 -- `interrupt_on` meets its contract: the steps in order.
-use Rattle.preempt.specs.Preempting.{interruptOn}
+use Rattle.preempt_laws.specs.Preempting.{interruptOn}
 use borrow.Author.Needs.{needs}
 use Rattle.preempt.proofs.interrupt_on.Statement.{statement}
 use Rattle.preempt.proofs.interrupt_on.Tie as tie

@@ -1,5 +1,5 @@
 -- `preempt` meets its contract, by cases on whether the facility is seized.
-use Rattle.preempt.specs.Preempting.{preempt}
+use Rattle.preempt_laws.specs.Preempting.{preempt}
 use borrow.Author.Needs.{needs}
 use Rattle.preempt.proofs.preempt.Statement.{statement}
 use Rattle.preempt.proofs.preempt.Tie as tie

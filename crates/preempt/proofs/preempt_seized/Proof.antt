@@ -1,6 +1,6 @@
 -- `preempt_seized` meets its contract, by cases on the row that loses.
 use borrow.Author.Tests.{lt-ltb, le-ltb}
-use Rattle.preempt.specs.Preempting.{preemptSeized}
+use Rattle.preempt_laws.specs.Preempting.{preemptSeized}
 use borrow.Author.Needs.{needs}
 use Rattle.preempt.proofs.preempt_seized.Statement.{statement}
 use Rattle.preempt.proofs.preempt_seized.Tie as tie

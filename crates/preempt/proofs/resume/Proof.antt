@@ -1,8 +1,8 @@
 -- `resume` meets its contract: the steps in order. The moving row stays.
 use mathlib.Core.Path.{ap}
 use Rattle.moves.specs.Motion.{Moved, moved}
-use Rattle.flow.specs.Sending.{toFuture}
-use Rattle.preempt.specs.Preempting.{resumeOn, resumeRows}
+use Rattle.flow_laws.specs.Sending.{toFuture}
+use Rattle.preempt_laws.specs.Preempting.{resumeOn, resumeRows}
 use borrow.Author.Needs.{needs}
 use Rattle.preempt.proofs.resume.Statement.{statement}
 use Rattle.preempt.proofs.resume.Tie as tie

@@ -1,5 +1,5 @@
 -- `resume_on` meets its contract: the steps in order.
-use Rattle.preempt.specs.Preempting.{resumeOn}
+use Rattle.preempt_laws.specs.Preempting.{resumeOn}
 use borrow.Author.Needs.{needs}
 use Rattle.preempt.proofs.resume_on.Statement.{statement}
 use Rattle.preempt.proofs.resume_on.Tie as tie

@@ -1,6 +1,6 @@
 -- `seized` meets its contract, by cases on who holds it.
 use borrow.Author.Tests.{eq-eqb, ne-eqb}
-use Rattle.preempt.specs.Preempting.{seized}
+use Rattle.preempt_laws.specs.Preempting.{seized}
 use borrow.Author.Needs.{needs}
 use Rattle.preempt.proofs.seized.Statement.{statement}
 use Rattle.preempt.proofs.seized.Tie as tie

@@ -1,5 +1,5 @@
 -- `take_over` meets its contract: the steps in order.
-use Rattle.preempt.specs.Preempting.{takeOver}
+use Rattle.preempt_laws.specs.Preempting.{takeOver}
 use borrow.Author.Needs.{needs}
 use Rattle.preempt.proofs.take_over.Statement.{statement}
 use Rattle.preempt.proofs.take_over.Tie as tie

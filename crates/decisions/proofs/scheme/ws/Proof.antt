@@ -5,9 +5,9 @@ use native.Mathlib.Omega.{arith}
 use borrow.Author.Needs.{needs}
 use borrow.Author.Tests.{eq-eqb, ne-eqb}
 use lib.ListN.{length}
-use Rattle.rows.specs.Layout.{head, wsl}
-use Rattle.rows.specs.Wake.{wakeAll}
-use Rattle.rows.proofs.Steps.{wakeAll-end, wakeAll-stop, wakeAll-next}
+use Rattle.rows_laws.specs.Layout.{head, wsl}
+use Rattle.rows_laws.specs.Wake.{wakeAll}
+use Rattle.rows_laws.proofs.Steps.{wakeAll-end, wakeAll-stop, wakeAll-next}
 use Rattle.decisions.specs.Scheme.{leaves, wsScheme}
 use Rattle.decisions.proofs.scheme.ws.Statement.{statement}
 use Rattle.decisions.proofs.scheme.ws.Tie as tie

@@ -1,6 +1,6 @@
 -- `advance` meets its contract: by cases on the times left.
 use borrow.Author.Tests.{eq-eqb, ne-eqb}
-use Rattle.flow.specs.Kinds.{advanceRows}
+use Rattle.flow_laws.specs.Kinds.{advanceRows}
 use borrow.Author.Needs.{needs}
 use Rattle.flow.proofs.advancing.advance.Statement.{statement}
 use Rattle.flow.proofs.advancing.advance.Tie as tie

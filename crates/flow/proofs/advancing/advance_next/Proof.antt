@@ -1,6 +1,6 @@
 -- `advance_next` meets its contract: by cases on the question.
 use borrow.Author.Tests.{eq-eqb, ne-eqb}
-use Rattle.flow.specs.Kinds.{advanceWith, advanceNext}
+use Rattle.flow_laws.specs.Kinds.{advanceWith, advanceNext}
 use borrow.Author.Needs.{needs}
 use Rattle.flow.proofs.advancing.advance_next.Statement.{statement}
 use Rattle.flow.proofs.advancing.advance_next.Tie as tie

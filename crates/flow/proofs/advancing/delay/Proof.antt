@@ -1,6 +1,6 @@
 -- `delay` meets its contract: the sample, then the row.
 use Rattle.moves.specs.Motion.{moved}
-use Rattle.flow.specs.Kinds.{delayRows}
+use Rattle.flow_laws.specs.Kinds.{delayRows}
 use borrow.Author.Needs.{needs}
 use Rattle.flow.proofs.advancing.delay.Statement.{statement}
 use Rattle.flow.proofs.advancing.delay.Tie as tie

@@ -1,6 +1,6 @@
 -- `send_on` meets its contract: on, then the FEL.
 use Rattle.moves.specs.Motion.{moved}
-use Rattle.flow.specs.Kinds.{parked, sendOn}
+use Rattle.flow_laws.specs.Kinds.{parked, sendOn}
 use borrow.Author.Needs.{needs}
 use Rattle.flow.proofs.advancing.send_on.Statement.{statement}
 use Rattle.flow.proofs.advancing.send_on.Tie as tie

@@ -1,5 +1,5 @@
 -- `assemble` meets its contract: its operand, its list and the cell of its family.
-use Rattle.flow.specs.Gathering.{assembleRows}
+use Rattle.flow_laws.specs.Gathering.{assembleRows}
 use borrow.Author.Needs.{needs}
 use Rattle.flow.proofs.gathering.assemble.Statement.{statement}
 use Rattle.flow.proofs.gathering.assemble.Tie as tie

@@ -1,7 +1,7 @@
 -- `count_on` meets its contract, by cases on the count.
 use borrow.Author.Tests.{eq-eqb, ne-eqb}
 use Rattle.moves.specs.Motion.{moved}
-use Rattle.flow.specs.Gathering.{countOn}
+use Rattle.flow_laws.specs.Gathering.{countOn}
 use borrow.Author.Needs.{needs}
 use Rattle.flow.proofs.gathering.count_on.Statement.{statement}
 use Rattle.flow.proofs.gathering.count_on.Tie as tie

@@ -1,5 +1,5 @@
 -- `end_on` meets its contract: the row is free, and the scalars.
-use Rattle.flow.specs.Gathering.{endOn}
+use Rattle.flow_laws.specs.Gathering.{endOn}
 use borrow.Author.Needs.{needs}
 use Rattle.flow.proofs.gathering.end_on.Statement.{statement}
 use Rattle.flow.proofs.gathering.end_on.Tie as tie

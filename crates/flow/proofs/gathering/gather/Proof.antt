@@ -1,7 +1,7 @@
 -- `gather` meets its contract, by cases on the row of the cell.
 use borrow.Author.Tests.{lt-ltb, le-ltb}
 use Rattle.moves.specs.Motion.{moved}
-use Rattle.flow.specs.Gathering.{gatherRows}
+use Rattle.flow_laws.specs.Gathering.{gatherRows}
 use borrow.Author.Needs.{needs}
 use Rattle.flow.proofs.gathering.gather.Statement.{statement}
 use Rattle.flow.proofs.gathering.gather.Tie as tie

@@ -1,5 +1,5 @@
 -- `gather_on` meets its contract: the count is written, then the wait begins.
-use Rattle.flow.specs.Gathering.{gatherOn}
+use Rattle.flow_laws.specs.Gathering.{gatherOn}
 use borrow.Author.Needs.{needs}
 use Rattle.flow.proofs.gathering.gather_on.Statement.{statement}
 use Rattle.flow.proofs.gathering.gather_on.Tie as tie

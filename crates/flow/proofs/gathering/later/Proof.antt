@@ -1,7 +1,7 @@
 -- `later` meets its contract: by cases on the question; then the count.
 use borrow.Author.Tests.{eq-eqb, ne-eqb}
 use Rattle.moves.specs.Motion.{moved}
-use Rattle.flow.specs.Gathering.{laterRows}
+use Rattle.flow_laws.specs.Gathering.{laterRows}
 use borrow.Author.Needs.{needs}
 use Rattle.flow.proofs.gathering.later.Statement.{statement}
 use Rattle.flow.proofs.gathering.later.Tie as tie

@@ -1,7 +1,7 @@
 -- `list_at` meets its contract: the block less one, behind the lists before it.
 use mathlib.Core.Path.{refl}
 use native.Mathlib.Omega.{arith}
-use Rattle.flow.specs.Gathering.{listAt}
+use Rattle.flow_laws.specs.Gathering.{listAt}
 use borrow.Author.Needs.{needs}
 use Rattle.flow.proofs.gathering.list_at.Statement.{statement}
 use Rattle.flow.proofs.gathering.list_at.Tie as tie

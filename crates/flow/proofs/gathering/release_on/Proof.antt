@@ -1,5 +1,5 @@
 -- `release_on` meets its contract: the row leaves its list and goes to REL.
-use Rattle.flow.specs.Gathering.{releaseOn}
+use Rattle.flow_laws.specs.Gathering.{releaseOn}
 use borrow.Author.Needs.{needs}
 use Rattle.flow.proofs.gathering.release_on.Statement.{statement}
 use Rattle.flow.proofs.gathering.release_on.Tie as tie

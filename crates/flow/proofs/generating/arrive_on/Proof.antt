@@ -1,6 +1,6 @@
 -- `arrive_on` meets its contract: on, then the new one.
 use Rattle.moves.specs.Motion.{moved}
-use Rattle.flow.specs.Kinds.{arriveOn}
+use Rattle.flow_laws.specs.Kinds.{arriveOn}
 use borrow.Author.Needs.{needs}
 use Rattle.flow.proofs.generating.arrive_on.Statement.{statement}
 use Rattle.flow.proofs.generating.arrive_on.Tie as tie

@@ -1,7 +1,7 @@
 -- `generate` meets its contract: by cases on the times left.
 use borrow.Author.Tests.{eq-eqb, ne-eqb}
 use Rattle.moves.specs.Motion.{moved}
-use Rattle.flow.specs.Kinds.{generateRows}
+use Rattle.flow_laws.specs.Kinds.{generateRows}
 use borrow.Author.Needs.{needs}
 use Rattle.flow.proofs.generating.generate.Statement.{statement}
 use Rattle.flow.proofs.generating.generate.Tie as tie

@@ -1,6 +1,6 @@
 -- `generate_next` meets its contract: by cases on the question.
 use borrow.Author.Tests.{eq-eqb, ne-eqb}
-use Rattle.flow.specs.Kinds.{generateWith, generateNext}
+use Rattle.flow_laws.specs.Kinds.{generateWith, generateNext}
 use borrow.Author.Needs.{needs}
 use Rattle.flow.proofs.generating.generate_next.Statement.{statement}
 use Rattle.flow.proofs.generating.generate_next.Tie as tie

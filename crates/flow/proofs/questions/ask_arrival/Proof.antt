@@ -1,5 +1,5 @@
 -- `ask_arrival` meets its contract: the two questions.
-use Rattle.flow.specs.Questions.{askArrival}
+use Rattle.flow_laws.specs.Questions.{askArrival}
 use borrow.Author.Needs.{needs}
 use Rattle.flow.proofs.questions.ask_arrival.Statement.{statement}
 use Rattle.flow.proofs.questions.ask_arrival.Tie as tie

@@ -1,6 +1,6 @@
 -- `ask_holding` meets its contract: by cases on the count.
 use borrow.Author.Tests.{lt-ltb, le-ltb, eq-eqb, ne-eqb}
-use Rattle.flow.specs.Questions.{askHolding}
+use Rattle.flow_laws.specs.Questions.{askHolding}
 use borrow.Author.Needs.{needs}
 use Rattle.flow.proofs.questions.ask_holding.Statement.{statement}
 use Rattle.flow.proofs.questions.ask_holding.Tie as tie

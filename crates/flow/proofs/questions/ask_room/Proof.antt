@@ -1,6 +1,6 @@
 -- `ask_room` meets its contract: by cases on the sum.
 use borrow.Author.Tests.{le-leb, lt-leb}
-use Rattle.flow.specs.Questions.{askRoom}
+use Rattle.flow_laws.specs.Questions.{askRoom}
 use borrow.Author.Needs.{needs}
 use Rattle.flow.proofs.questions.ask_room.Statement.{statement}
 use Rattle.flow.proofs.questions.ask_room.Tie as tie

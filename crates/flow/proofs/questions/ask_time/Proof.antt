@@ -1,6 +1,6 @@
 -- `ask_time` meets its contract: by cases on the sum.
 use borrow.Author.Tests.{le-leb, lt-leb}
-use Rattle.flow.specs.Questions.{askTime}
+use Rattle.flow_laws.specs.Questions.{askTime}
 use borrow.Author.Needs.{needs}
 use Rattle.flow.proofs.questions.ask_time.Statement.{statement}
 use Rattle.flow.proofs.questions.ask_time.Tie as tie

@@ -1,6 +1,6 @@
 -- `first_no` meets its contract: by cases on the first.
 use borrow.Author.Tests.{eq-eqb, ne-eqb}
-use Rattle.flow.specs.Questions.{firstNo}
+use Rattle.flow_laws.specs.Questions.{firstNo}
 use Rattle.flow.proofs.questions.first_no.Statement.{statement}
 use Rattle.flow.proofs.questions.first_no.Tie as tie
 

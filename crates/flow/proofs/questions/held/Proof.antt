@@ -6,7 +6,7 @@ use native.Mathlib.Omega.{arith}
 use lib.Dec.{eqb}
 use lib.ListN.{getD}
 use Rattle.machine.specs.Lists.{bit}
-use Rattle.flow.specs.Questions.{heldBy}
+use Rattle.flow_laws.specs.Questions.{heldBy}
 use Rattle.flow.proofs.questions.held.Statement.{statement}
 use Rattle.flow.proofs.questions.held.Tie as tie
 

@@ -1,6 +1,6 @@
 -- `priority` meets its contract: the operand, then the row.
 use Rattle.moves.specs.Motion.{moved}
-use Rattle.flow.specs.Kinds.{priorityRows}
+use Rattle.flow_laws.specs.Kinds.{priorityRows}
 use borrow.Author.Needs.{needs}
 use Rattle.flow.proofs.ranking.priority.Statement.{statement}
 use Rattle.flow.proofs.ranking.priority.Tie as tie

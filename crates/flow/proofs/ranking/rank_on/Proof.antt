@@ -1,6 +1,6 @@
 -- `rank_on` meets its contract: on, the priority, then REL.
 use Rattle.moves.specs.Motion.{moved}
-use Rattle.flow.specs.Kinds.{parked, rankOn}
+use Rattle.flow_laws.specs.Kinds.{parked, rankOn}
 use borrow.Author.Needs.{needs}
 use Rattle.flow.proofs.ranking.rank_on.Statement.{statement}
 use Rattle.flow.proofs.ranking.rank_on.Tie as tie

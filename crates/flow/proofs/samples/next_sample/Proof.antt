@@ -1,5 +1,5 @@
 -- `next_sample` meets its contract: the number where the tally says.
-use Rattle.flow.specs.Samples.{nextSample}
+use Rattle.flow_laws.specs.Samples.{nextSample}
 use borrow.Author.Needs.{needs}
 use Rattle.flow.proofs.samples.next_sample.Statement.{statement}
 use Rattle.flow.proofs.samples.next_sample.Tie as tie

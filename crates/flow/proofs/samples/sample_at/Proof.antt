@@ -1,6 +1,6 @@
 -- `sample_at` meets its contract: by cases on the number read.
 use native.Mathlib.Omega.{arith}
-use Rattle.flow.proofs.Answers.{sample-refused, sample-read}
+use Rattle.flow_laws.proofs.Answers.{sample-refused, sample-read}
 use borrow.Author.Needs.{needs}
 use Rattle.flow.proofs.samples.sample_at.Statement.{statement}
 use Rattle.flow.proofs.samples.sample_at.Tie as tie

@@ -1,5 +1,5 @@
 -- `use_time` meets its contract: the two numbers of the list.
-use Rattle.flow.specs.Samples.{useTime}
+use Rattle.flow_laws.specs.Samples.{useTime}
 use borrow.Author.Needs.{needs}
 use Rattle.flow.proofs.samples.use_time.Statement.{statement}
 use Rattle.flow.proofs.samples.use_time.Tie as tie

@@ -1,6 +1,6 @@
 -- `arrives` meets its contract: the sample, then the new transaction.
 use Rattle.moves.specs.Motion.{moved}
-use Rattle.flow.specs.Sending.{arrives}
+use Rattle.flow_laws.specs.Sending.{arrives}
 use borrow.Author.Needs.{needs}
 use Rattle.flow.proofs.sending.arrives.Statement.{statement}
 use Rattle.flow.proofs.sending.arrives.Tie as tie

@@ -1,6 +1,6 @@
 -- `born` meets its contract: by cases on the first free row.
 use borrow.Author.Tests.{lt-ltb, le-ltb}
-use Rattle.flow.specs.Sending.{born}
+use Rattle.flow_laws.specs.Sending.{born}
 use borrow.Author.Needs.{needs}
 use Rattle.flow.proofs.sending.born.Statement.{statement}
 use Rattle.flow.proofs.sending.born.Tie as tie

@@ -1,5 +1,5 @@
 -- `born_at` meets its contract: the row, then the FEL.
-use Rattle.flow.specs.Sending.{bornAt}
+use Rattle.flow_laws.specs.Sending.{bornAt}
 use borrow.Author.Needs.{needs}
 use Rattle.flow.proofs.sending.born_at.Statement.{statement}
 use Rattle.flow.proofs.sending.born_at.Tie as tie

@@ -1,6 +1,6 @@
 -- `copy_one` meets its contract: by cases on the first free row.
 use borrow.Author.Tests.{lt-ltb, le-ltb}
-use Rattle.flow.specs.Sending.{copyOne}
+use Rattle.flow_laws.specs.Sending.{copyOne}
 use borrow.Author.Needs.{needs}
 use Rattle.flow.proofs.sending.copy_one.Statement.{statement}
 use Rattle.flow.proofs.sending.copy_one.Tie as tie

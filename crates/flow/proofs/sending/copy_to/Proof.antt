@@ -1,5 +1,5 @@
 -- `copy_to` meets its contract: the row, then REL.
-use Rattle.flow.specs.Sending.{copyTo}
+use Rattle.flow_laws.specs.Sending.{copyTo}
 use borrow.Author.Needs.{needs}
 use Rattle.flow.proofs.sending.copy_to.Statement.{statement}
 use Rattle.flow.proofs.sending.copy_to.Tie as tie

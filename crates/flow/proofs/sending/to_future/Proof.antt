@@ -1,5 +1,5 @@
 -- `to_future` meets its contract: serial and time, then the list.
-use Rattle.flow.specs.Sending.{toFuture}
+use Rattle.flow_laws.specs.Sending.{toFuture}
 use borrow.Author.Needs.{needs}
 use Rattle.flow.proofs.sending.to_future.Statement.{statement}
 use Rattle.flow.proofs.sending.to_future.Tie as tie

@@ -1,5 +1,5 @@
 -- `to_ready` meets its contract: the serial, then the list.
-use Rattle.flow.specs.Sending.{toReady}
+use Rattle.flow_laws.specs.Sending.{toReady}
 use borrow.Author.Needs.{needs}
 use Rattle.flow.proofs.sending.to_ready.Statement.{statement}
 use Rattle.flow.proofs.sending.to_ready.Tie as tie

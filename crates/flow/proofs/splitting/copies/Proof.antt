@@ -4,8 +4,8 @@ use Prim.Native.Nat.{_-_, _≤_}
 use mathlib.Core.Path.{_≡_, refl, sym, _∙_}
 use native.Mathlib.Omega.{arith}
 use lib.ListN.{length}
-use Rattle.flow.specs.Kinds.{copiesOf}
-use Rattle.flow.proofs.Copies.{copies-begin, copies-end, copies-again, copy-moved}
+use Rattle.flow_laws.specs.Kinds.{copiesOf}
+use Rattle.flow_laws.proofs.Copies.{copies-begin, copies-end, copies-again, copy-moved}
 use Rattle.flow.proofs.splitting.copies.Statement.{statement}
 use Rattle.flow.proofs.splitting.copies.Tie as tie
 

@@ -1,7 +1,7 @@
 -- `split` meets its contract: by cases on the question.
 use borrow.Author.Tests.{eq-eqb, ne-eqb}
 use Rattle.moves.specs.Motion.{moved}
-use Rattle.flow.specs.Kinds.{splitRows}
+use Rattle.flow_laws.specs.Kinds.{splitRows}
 use borrow.Author.Needs.{needs}
 use Rattle.flow.proofs.splitting.split.Statement.{statement}
 use Rattle.flow.proofs.splitting.split.Tie as tie

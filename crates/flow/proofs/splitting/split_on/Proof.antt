@@ -1,8 +1,8 @@
 -- `split_on` meets its contract: on, then the copies.
 use native.Mathlib.Omega.{arith}
 use Rattle.moves.specs.Motion.{moved}
-use Rattle.flow.specs.Kinds.{splitOn}
-use Rattle.flow.proofs.Copies.{go-on-moved}
+use Rattle.flow_laws.specs.Kinds.{splitOn}
+use Rattle.flow_laws.proofs.Copies.{go-on-moved}
 use borrow.Author.Needs.{needs}
 use Rattle.flow.proofs.splitting.split_on.Statement.{statement}
 use Rattle.flow.proofs.splitting.split_on.Tie as tie

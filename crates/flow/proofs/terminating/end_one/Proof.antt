@@ -1,5 +1,5 @@
 -- `end_one` meets its contract: each scalar.
-use Rattle.flow.specs.Kinds.{endOne}
+use Rattle.flow_laws.specs.Kinds.{endOne}
 use borrow.Author.Needs.{needs}
 use Rattle.flow.proofs.terminating.end_one.Statement.{statement}
 use Rattle.flow.proofs.terminating.end_one.Tie as tie

@@ -1,6 +1,6 @@
 -- `terminate` meets its contract: by cases on the question; then the row and the scalars.
 use borrow.Author.Tests.{eq-eqb, ne-eqb}
-use Rattle.flow.specs.Kinds.{terminateRows}
+use Rattle.flow_laws.specs.Kinds.{terminateRows}
 use borrow.Author.Needs.{needs}
 use Rattle.flow.proofs.terminating.terminate.Statement.{statement}
 use Rattle.flow.proofs.terminating.terminate.Tie as tie

@@ -1,6 +1,6 @@
 -- `set_time` meets its contract: the two writes, one after the other.
 use borrow.Author.Needs.{needs}
-use Rattle.rows.specs.Cells.{setTime}
+use Rattle.rows_laws.specs.Cells.{setTime}
 use Rattle.rows.proofs.cells.set_time.Statement.{statement}
 use Rattle.rows.proofs.cells.set_time.Tie as tie
 

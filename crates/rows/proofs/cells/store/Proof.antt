@@ -1,6 +1,6 @@
 -- `store` meets its contract: by its bound.
 use borrow.Author.Tests.{lt-ltb, le-ltb}
-use Rattle.rows.specs.Cells.{store}
+use Rattle.rows_laws.specs.Cells.{store}
 use borrow.Author.Needs.{needs}
 use Rattle.rows.proofs.cells.store.Statement.{statement}
 use Rattle.rows.proofs.cells.store.Tie as tie

@@ -1,7 +1,7 @@
 -- `time` meets its contract: the two fields that were read.
 use mathlib.Core.Path.{sym}
 use borrow.Author.Needs.{needs}
-use Rattle.rows.specs.Cells.{timeOf}
+use Rattle.rows_laws.specs.Cells.{timeOf}
 use Rattle.rows.proofs.cells.time.Statement.{statement}
 use Rattle.rows.proofs.cells.time.Tie as tie
 

@@ -4,8 +4,8 @@ use mathlib.Core.Path.{_≡_, refl, sym, _∙_}
 use native.Mathlib.Omega.{arith}
 use borrow.Author.Tests.{not-true, not-false}
 use lib.ListN.{length}
-use Rattle.rows.specs.Clock.{arrive}
-use Rattle.rows.proofs.Steps.{arrive-end, arrive-stop, arrive-next}
+use Rattle.rows_laws.specs.Clock.{arrive}
+use Rattle.rows_laws.proofs.Steps.{arrive-end, arrive-stop, arrive-next}
 use Rattle.rows.proofs.clock.arrive.Statement.{statement}
 use Rattle.rows.proofs.clock.arrive.Tie as tie
 

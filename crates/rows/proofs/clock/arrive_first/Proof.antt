@@ -1,6 +1,6 @@
 -- `arrive_first` meets its contract, by cases on whether the FEL has a first.
 use borrow.Author.Tests.{lt-ltb, le-ltb}
-use Rattle.rows.specs.Clock.{arriveFirst}
+use Rattle.rows_laws.specs.Clock.{arriveFirst}
 use borrow.Author.Needs.{needs}
 use Rattle.rows.proofs.clock.arrive_first.Statement.{statement}
 use Rattle.rows.proofs.clock.arrive_first.Tie as tie

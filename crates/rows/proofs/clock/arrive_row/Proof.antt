@@ -1,5 +1,5 @@
 -- `arrive_row` meets its contract: the steps in order.
-use Rattle.rows.specs.Clock.{arriveRow}
+use Rattle.rows_laws.specs.Clock.{arriveRow}
 use borrow.Author.Needs.{needs}
 use Rattle.rows.proofs.clock.arrive_row.Statement.{statement}
 use Rattle.rows.proofs.clock.arrive_row.Tie as tie

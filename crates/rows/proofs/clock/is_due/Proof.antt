@@ -1,6 +1,6 @@
 -- `is_due` meets its contract, by cases on whether the FEL has a first.
 use borrow.Author.Tests.{lt-ltb, le-ltb}
-use Rattle.rows.specs.Clock.{isDue}
+use Rattle.rows_laws.specs.Clock.{isDue}
 use borrow.Author.Needs.{needs}
 use Rattle.rows.proofs.clock.is_due.Statement.{statement}
 use Rattle.rows.proofs.clock.is_due.Tie as tie

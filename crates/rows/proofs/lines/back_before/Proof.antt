@@ -1,6 +1,6 @@
 -- `back_before` meets its contract, by cases on the last row.
 use mathlib.Core.Path.{sym, _∙_}
-use Rattle.rows.specs.Lines.{backBefore}
+use Rattle.rows_laws.specs.Lines.{backBefore}
 use borrow.Author.Needs.{needs}
 use Rattle.rows.proofs.lines.back_before.Statement.{statement}
 use Rattle.rows.proofs.lines.back_before.Tie as tie

@@ -1,5 +1,5 @@
 -- `back_spot` meets its contract: the last cell, and from it the spot.
-use Rattle.rows.specs.Lines.{backSpot}
+use Rattle.rows_laws.specs.Lines.{backSpot}
 use borrow.Author.Needs.{needs}
 use Rattle.rows.proofs.lines.back_spot.Statement.{statement}
 use Rattle.rows.proofs.lines.back_spot.Tie as tie

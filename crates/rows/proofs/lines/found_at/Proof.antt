@@ -1,6 +1,6 @@
 -- `found_at` meets its contract, by cases on the row's priority.
 use mathlib.Core.Path.{sym, _∙_}
-use Rattle.rows.specs.Lines.{foundAt}
+use Rattle.rows_laws.specs.Lines.{foundAt}
 use borrow.Author.Needs.{needs}
 use Rattle.rows.proofs.lines.found_at.Statement.{statement}
 use Rattle.rows.proofs.lines.found_at.Tie as tie

@@ -2,8 +2,8 @@
 use Prim.Native.Nat.{_-_, _≤_}
 use mathlib.Core.Path.{_≡_, refl, sym, _∙_}
 use native.Mathlib.Omega.{arith}
-use Rattle.rows.specs.Lines.{lastCell}
-use Rattle.rows.proofs.Walk.{lastCell-end, lastCell-stop, lastCell-next}
+use Rattle.rows_laws.specs.Lines.{lastCell}
+use Rattle.rows_laws.proofs.Walk.{lastCell-end, lastCell-stop, lastCell-next}
 use Rattle.rows.proofs.lines.last_cell.Statement.{statement}
 use Rattle.rows.proofs.lines.last_cell.Tie as tie
 

@@ -1,7 +1,7 @@
 -- `last_meets` meets its contract, by cases on the cell and its row.
 use borrow.Author.Tests.{lt-ltb, le-ltb}
-use Rattle.rows.specs.Layout.{links}
-use Rattle.rows.specs.Lines.{lastMeets}
+use Rattle.rows_laws.specs.Layout.{links}
+use Rattle.rows_laws.specs.Lines.{lastMeets}
 use borrow.Author.Needs.{needs}
 use Rattle.rows.proofs.lines.last_meets.Statement.{statement}
 use Rattle.rows.proofs.lines.last_meets.Tie as tie

@@ -1,6 +1,6 @@
 -- `line_up` meets its contract, by the edition.
 use borrow.Author.Tests.{eq-eqb, ne-eqb}
-use Rattle.rows.specs.Lines.{lineUp}
+use Rattle.rows_laws.specs.Lines.{lineUp}
 use borrow.Author.Needs.{needs}
 use Rattle.rows.proofs.lines.line_up.Statement.{statement}
 use Rattle.rows.proofs.lines.line_up.Tie as tie

@@ -1,6 +1,6 @@
 -- `second_spot` meets its contract, by cases on the returning mark.
 use borrow.Author.Tests.{eq-eqb, ne-eqb}
-use Rattle.rows.specs.Lines.{secondSpot}
+use Rattle.rows_laws.specs.Lines.{secondSpot}
 use borrow.Author.Needs.{needs}
 use Rattle.rows.proofs.lines.second_spot.Statement.{statement}
 use Rattle.rows.proofs.lines.second_spot.Tie as tie

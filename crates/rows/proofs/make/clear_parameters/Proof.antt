@@ -1,5 +1,5 @@
 -- `clear_parameters` meets its contract: the writes in order.
-use Rattle.rows.specs.Make.{clearParameters}
+use Rattle.rows_laws.specs.Make.{clearParameters}
 use borrow.Author.Needs.{needs}
 use Rattle.rows.proofs.make.clear_parameters.Statement.{statement}
 use Rattle.rows.proofs.make.clear_parameters.Tie as tie

@@ -1,5 +1,5 @@
 -- `copy` meets its contract: the description, then the parameters.
-use Rattle.rows.specs.Make.{copyAt}
+use Rattle.rows_laws.specs.Make.{copyAt}
 use borrow.Author.Needs.{needs}
 use Rattle.rows.proofs.make.copy.Statement.{statement}
 use Rattle.rows.proofs.make.copy.Tie as tie

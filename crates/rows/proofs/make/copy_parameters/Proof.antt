@@ -1,5 +1,5 @@
 -- `copy_parameters` meets its contract: the writes in order, of what was read.
-use Rattle.rows.specs.Make.{copyParameters}
+use Rattle.rows_laws.specs.Make.{copyParameters}
 use borrow.Author.Needs.{needs}
 use Rattle.rows.proofs.make.copy_parameters.Statement.{statement}
 use Rattle.rows.proofs.make.copy_parameters.Tie as tie

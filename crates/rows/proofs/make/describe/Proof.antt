@@ -1,5 +1,5 @@
 -- `describe` meets its contract: the writes in order.
-use Rattle.rows.specs.Make.{describe}
+use Rattle.rows_laws.specs.Make.{describe}
 use borrow.Author.Needs.{needs}
 use Rattle.rows.proofs.make.describe.Statement.{statement}
 use Rattle.rows.proofs.make.describe.Tie as tie

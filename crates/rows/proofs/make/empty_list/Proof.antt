@@ -1,5 +1,5 @@
 -- `empty_list` meets its contract: the stores in order.
-use Rattle.rows.specs.Make.{emptyList}
+use Rattle.rows_laws.specs.Make.{emptyList}
 use borrow.Author.Needs.{needs}
 use Rattle.rows.proofs.make.empty_list.Statement.{statement}
 use Rattle.rows.proofs.make.empty_list.Tie as tie

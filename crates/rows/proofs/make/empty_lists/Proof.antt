@@ -5,8 +5,8 @@ use mathlib.Core.List.{List}
 use native.Mathlib.Omega.{arith}
 use native.Mathlib.Numerals.{add-one}
 use lib.ListN.{length}
-use Rattle.rows.specs.Layout.{listCount}
-use Rattle.rows.specs.Make.{emptyLists, emptyList}
+use Rattle.rows_laws.specs.Layout.{listCount}
+use Rattle.rows_laws.specs.Make.{emptyLists, emptyList}
 use Rattle.rows.proofs.make.empty_lists.Statement.{statement}
 use Rattle.rows.proofs.make.empty_lists.Tie as tie
 

@@ -1,5 +1,5 @@
 -- `free_row` meets its contract: insertion at the head of the free rows.
-use Rattle.rows.specs.Make.{freeRow}
+use Rattle.rows_laws.specs.Make.{freeRow}
 use borrow.Author.Needs.{needs}
 use Rattle.rows.proofs.make.free_row.Statement.{statement}
 use Rattle.rows.proofs.make.free_row.Tie as tie

@@ -4,7 +4,7 @@ use mathlib.Core.Path.{_≡_, refl, ap, _∙_}
 use native.Mathlib.Omega.{arith}
 use native.Mathlib.Numerals.{add-one}
 use lib.ListN.{length}
-use Rattle.rows.specs.Make.{freeRows}
+use Rattle.rows_laws.specs.Make.{freeRows}
 use Rattle.rows.proofs.make.free_rows.Statement.{statement}
 use Rattle.rows.proofs.make.free_rows.Tie as tie
 

@@ -1,5 +1,5 @@
 -- `initialise` meets its contract: the loops in order, the heap emptied between.
-use Rattle.rows.specs.Make.{initial}
+use Rattle.rows_laws.specs.Make.{initial}
 use borrow.Author.Needs.{needs}
 use Rattle.rows.proofs.make.initialise.Statement.{statement}
 use Rattle.rows.proofs.make.initialise.Tie as tie

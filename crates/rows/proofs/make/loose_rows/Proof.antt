@@ -5,9 +5,9 @@ use mathlib.Core.List.{List}
 use native.Mathlib.Omega.{arith}
 use native.Mathlib.Numerals.{add-one}
 use lib.ListN.{length}
-use Rattle.rows.specs.Make.{looseRows}
-use Rattle.rows.specs.Layout.{place, nowhere}
-use Rattle.rows.specs.Cells.{store}
+use Rattle.rows_laws.specs.Make.{looseRows}
+use Rattle.rows_laws.specs.Layout.{place, nowhere}
+use Rattle.rows_laws.specs.Cells.{store}
 use Rattle.rows.proofs.make.loose_rows.Statement.{statement}
 use Rattle.rows.proofs.make.loose_rows.Tie as tie
 

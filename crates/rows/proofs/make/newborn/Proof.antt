@@ -1,5 +1,5 @@
 -- `newborn` meets its contract: the description, then the parameters.
-use Rattle.rows.specs.Make.{newbornAt}
+use Rattle.rows_laws.specs.Make.{newbornAt}
 use borrow.Author.Needs.{needs}
 use Rattle.rows.proofs.make.newborn.Statement.{statement}
 use Rattle.rows.proofs.make.newborn.Tie as tie

@@ -1,7 +1,7 @@
 -- `outranks` meets its contract, by cases on the priorities.
 use native.Mathlib.Omega.{arith}
 use borrow.Author.Tests.{lt-ltb, le-ltb, eq-eqb, ne-eqb}
-use Rattle.rows.specs.Order.{outranks}
+use Rattle.rows_laws.specs.Order.{outranks}
 use borrow.Author.Needs.{needs}
 use Rattle.rows.proofs.order.outranks.Statement.{statement}
 use Rattle.rows.proofs.order.outranks.Tie as tie

@@ -1,7 +1,7 @@
 -- `sooner_at` meets its contract, by cases on the times.
 use native.Mathlib.Omega.{arith}
 use borrow.Author.Tests.{lt-ltb, le-ltb, eq-eqb, ne-eqb}
-use Rattle.rows.specs.Order.{soonerAt}
+use Rattle.rows_laws.specs.Order.{soonerAt}
 use borrow.Author.Needs.{needs}
 use Rattle.rows.proofs.order.sooner_at.Statement.{statement}
 use Rattle.rows.proofs.order.sooner_at.Tie as tie

@@ -1,6 +1,6 @@
 -- `after` meets its contract, by cases on the row of the cell.
 use borrow.Author.Tests.{lt-ltb, le-ltb}
-use Rattle.rows.specs.Wake.{after}
+use Rattle.rows_laws.specs.Wake.{after}
 use borrow.Author.Needs.{needs}
 use Rattle.rows.proofs.wake.after.Statement.{statement}
 use Rattle.rows.proofs.wake.after.Tie as tie

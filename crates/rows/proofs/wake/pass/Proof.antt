@@ -1,5 +1,5 @@
 -- `pass` meets its contract, by cases on whether the row moves.
-use Rattle.rows.specs.Wake.{passRows, passCell}
+use Rattle.rows_laws.specs.Wake.{passRows, passCell}
 use borrow.Author.Needs.{needs}
 use Rattle.rows.proofs.wake.pass.Statement.{statement}
 use Rattle.rows.proofs.wake.pass.Tie as tie

@@ -1,6 +1,6 @@
 -- `wake_at` meets its contract, by cases on the row of the cell.
 use borrow.Author.Tests.{lt-ltb, le-ltb}
-use Rattle.rows.specs.Wake.{wakeAt}
+use Rattle.rows_laws.specs.Wake.{wakeAt}
 use borrow.Author.Needs.{needs}
 use Rattle.rows.proofs.wake.wake_at.Statement.{statement}
 use Rattle.rows.proofs.wake.wake_at.Tie as tie

@@ -1,5 +1,5 @@
 -- `wake_row` meets its contract: the steps in order.
-use Rattle.rows.specs.Wake.{wakeRow}
+use Rattle.rows_laws.specs.Wake.{wakeRow}
 use borrow.Author.Needs.{needs}
 use Rattle.rows.proofs.wake.wake_row.Statement.{statement}
 use Rattle.rows.proofs.wake.wake_row.Tie as tie

@@ -1,6 +1,6 @@
 -- `ask_release` meets its contract: 24, then 27.
 use borrow.Author.Tests.{lt-ltb, le-ltb, eq-eqb, ne-eqb}
-use Rattle.servers.specs.Freeing.{askRelease}
+use Rattle.servers_laws.specs.Freeing.{askRelease}
 use Rattle.servers.proofs.freeing.ask_release.Statement.{statement}
 use Rattle.servers.proofs.freeing.ask_release.Tie as tie
 

@@ -1,5 +1,5 @@
 -- `enter_freed` meets its contract: the steps in order.
-use Rattle.servers.specs.Freeing.{enterFreed}
+use Rattle.servers_laws.specs.Freeing.{enterFreed}
 use borrow.Author.Needs.{needs}
 use Rattle.servers.proofs.freeing.enter_freed.Statement.{statement}
 use Rattle.servers.proofs.freeing.enter_freed.Tie as tie

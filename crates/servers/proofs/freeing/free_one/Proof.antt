@@ -1,6 +1,6 @@
 -- `free_one` meets its contract: the steps in order.
-use Rattle.servers.proofs.Tallied.{tallied}
-use Rattle.servers.specs.Freeing.{freeOne}
+use Rattle.servers_laws.proofs.Tallied.{tallied}
+use Rattle.servers_laws.specs.Freeing.{freeOne}
 use borrow.Author.Needs.{needs}
 use Rattle.servers.proofs.freeing.free_one.Statement.{statement}
 use Rattle.servers.proofs.freeing.free_one.Tie as tie

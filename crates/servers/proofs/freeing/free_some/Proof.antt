@@ -1,6 +1,6 @@
 -- `free_some` meets its contract: the steps in order.
-use Rattle.servers.proofs.Tallied.{tallied}
-use Rattle.servers.specs.Freeing.{freeSome}
+use Rattle.servers_laws.proofs.Tallied.{tallied}
+use Rattle.servers_laws.specs.Freeing.{freeSome}
 use borrow.Author.Needs.{needs}
 use Rattle.servers.proofs.freeing.free_some.Statement.{statement}
 use Rattle.servers.proofs.freeing.free_some.Tie as tie

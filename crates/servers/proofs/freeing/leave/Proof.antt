@@ -1,6 +1,6 @@
 -- `leave` meets its contract, by cases on the question.
 use borrow.Author.Tests.{lt-ltb, le-ltb}
-use Rattle.servers.specs.Freeing.{leave}
+use Rattle.servers_laws.specs.Freeing.{leave}
 use borrow.Author.Needs.{needs}
 use Rattle.servers.proofs.freeing.leave.Statement.{statement}
 use Rattle.servers.proofs.freeing.leave.Tie as tie

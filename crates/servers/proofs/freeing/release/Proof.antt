@@ -1,6 +1,6 @@
 -- `release` meets its contract, by cases on the question.
 use borrow.Author.Tests.{eq-eqb, ne-eqb}
-use Rattle.servers.specs.Freeing.{release}
+use Rattle.servers_laws.specs.Freeing.{release}
 use borrow.Author.Needs.{needs}
 use Rattle.servers.proofs.freeing.release.Statement.{statement}
 use Rattle.servers.proofs.freeing.release.Tie as tie

@@ -1,5 +1,5 @@
 -- `enter` meets its contract: the units and the server that the block names.
-use Rattle.servers.specs.Taking.{enter}
+use Rattle.servers_laws.specs.Taking.{enter}
 use borrow.Author.Needs.{needs}
 use Rattle.servers.proofs.taking.enter.Statement.{statement}
 use Rattle.servers.proofs.taking.enter.Tie as tie

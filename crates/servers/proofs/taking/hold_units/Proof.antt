@@ -1,6 +1,6 @@
 -- `hold_units` meets its contract: the steps in order.
-use Rattle.servers.proofs.Tallied.{tallied}
-use Rattle.servers.specs.Taking.{holdUnits}
+use Rattle.servers_laws.proofs.Tallied.{tallied}
+use Rattle.servers_laws.specs.Taking.{holdUnits}
 use borrow.Author.Needs.{needs}
 use Rattle.servers.proofs.taking.hold_units.Statement.{statement}
 use Rattle.servers.proofs.taking.hold_units.Tie as tie

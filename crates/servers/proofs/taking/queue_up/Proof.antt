@@ -1,6 +1,6 @@
 -- `queue_up` meets its contract: the length in the tally, then the wait.
-use Rattle.servers.proofs.Tallied.{tallied}
-use Rattle.servers.specs.Taking.{longer, queueUp}
+use Rattle.servers_laws.proofs.Tallied.{tallied}
+use Rattle.servers_laws.specs.Taking.{longer, queueUp}
 use borrow.Author.Needs.{needs}
 use Rattle.servers.proofs.taking.queue_up.Statement.{statement}
 use Rattle.servers.proofs.taking.queue_up.Tie as tie

@@ -1,5 +1,5 @@
 -- `seize` meets its contract: one unit of the server that the block names, held by the moving one.
-use Rattle.servers.specs.Taking.{seize}
+use Rattle.servers_laws.specs.Taking.{seize}
 use borrow.Author.Needs.{needs}
 use Rattle.servers.proofs.taking.seize.Statement.{statement}
 use Rattle.servers.proofs.taking.seize.Tie as tie

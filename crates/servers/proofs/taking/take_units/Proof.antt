@@ -1,6 +1,6 @@
 -- `take_units` meets its contract, by cases on the free units.
 use borrow.Author.Tests.{le-leb, lt-leb}
-use Rattle.servers.specs.Taking.{takeUnits}
+use Rattle.servers_laws.specs.Taking.{takeUnits}
 use borrow.Author.Needs.{needs}
 use Rattle.servers.proofs.taking.take_units.Statement.{statement}
 use Rattle.servers.proofs.taking.take_units.Tie as tie

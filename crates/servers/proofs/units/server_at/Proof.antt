@@ -2,7 +2,7 @@
 use Prim.Native.Nat.{ℕ, _%_}
 use mathlib.Core.Path.{ap}
 use native.Mathlib.Omega.{arith}
-use Rattle.servers.specs.Units.{serverAt}
+use Rattle.servers_laws.specs.Units.{serverAt}
 use borrow.Author.Needs.{needs}
 use Rattle.servers.proofs.units.server_at.Statement.{statement}
 use Rattle.servers.proofs.units.server_at.Tie as tie

@@ -1,6 +1,6 @@
 -- `status` meets its contract, code by code.
 use borrow.Author.Tests.{eq-eqb, ne-eqb}
-use Rattle.servers.specs.Units.{statusOf}
+use Rattle.servers_laws.specs.Units.{statusOf}
 use Rattle.servers.proofs.units.status.Statement.{statement}
 use Rattle.servers.proofs.units.status.Tie as tie
 

@@ -1,6 +1,6 @@
 -- `back_count` meets its contract: by the kind, where the back count stands.
 use borrow.Author.Tests.{eq-eqb, ne-eqb}
-use Rattle.servers.specs.WaitServer.{backOf}
+use Rattle.servers_laws.specs.WaitServer.{backOf}
 use borrow.Author.Needs.{needs}
 use Rattle.servers.proofs.waiting.back_count.Statement.{statement}
 use Rattle.servers.proofs.waiting.back_count.Tie as tie

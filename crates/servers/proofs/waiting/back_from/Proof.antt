@@ -1,5 +1,5 @@
 -- `back_from` meets its contract: the steps in order.
-use Rattle.servers.specs.WaitServer.{backFrom}
+use Rattle.servers_laws.specs.WaitServer.{backFrom}
 use borrow.Author.Needs.{needs}
 use Rattle.servers.proofs.waiting.back_from.Statement.{statement}
 use Rattle.servers.proofs.waiting.back_from.Tie as tie

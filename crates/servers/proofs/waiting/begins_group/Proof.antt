@@ -3,8 +3,8 @@
 use Prim.Native.Nat.{_+_, _*_, _-_, _≤_}
 use native.Mathlib.Omega.{arith}
 use mathlib.Core.Path.{_≡_, refl, sym, _∙_}
-use Rattle.servers.specs.WaitServer.{beginsFrom}
-use Rattle.servers.proofs.Begins.{look-found, look-other, look-next, look-end}
+use Rattle.servers_laws.specs.WaitServer.{beginsFrom}
+use Rattle.servers_laws.proofs.Begins.{look-found, look-other, look-next, look-end}
 use Rattle.servers.proofs.waiting.begins_group.Statement.{statement}
 use Rattle.servers.proofs.waiting.begins_group.Tie as tie
 

@@ -1,6 +1,6 @@
 -- `late` meets its contract: no back count, or the two times.
-use Rattle.servers.specs.WaitServer.{isLate}
-use Rattle.servers.proofs.Begins.{some-count}
+use Rattle.servers_laws.specs.WaitServer.{isLate}
+use Rattle.servers_laws.proofs.Begins.{some-count}
 use borrow.Author.Needs.{needs}
 use Rattle.servers.proofs.waiting.late.Statement.{statement}
 use Rattle.servers.proofs.waiting.late.Tie as tie

@@ -1,5 +1,5 @@
 -- `pass_on` meets its contract, by cases on whether a group begins.
-use Rattle.servers.specs.WaitServer.{passOn}
+use Rattle.servers_laws.specs.WaitServer.{passOn}
 use borrow.Author.Needs.{needs}
 use Rattle.servers.proofs.waiting.pass_on.Statement.{statement}
 use Rattle.servers.proofs.waiting.pass_on.Tie as tie

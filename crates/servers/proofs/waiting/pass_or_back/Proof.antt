@@ -1,6 +1,6 @@
 -- `pass_or_back` meets its contract: by back count and stamp it goes back or enters.
 use mathlib.Core.Path.{sym, _∙_}
-use Rattle.servers.specs.WaitServer.{passOrBack}
+use Rattle.servers_laws.specs.WaitServer.{passOrBack}
 use borrow.Author.Needs.{needs}
 use Rattle.servers.proofs.waiting.pass_or_back.Statement.{statement}
 use Rattle.servers.proofs.waiting.pass_or_back.Tie as tie

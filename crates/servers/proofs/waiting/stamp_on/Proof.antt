@@ -1,5 +1,5 @@
 -- `stamp_on` meets its contract: the steps in order.
-use Rattle.servers.specs.WaitServer.{stampOn}
+use Rattle.servers_laws.specs.WaitServer.{stampOn}
 use borrow.Author.Needs.{needs}
 use Rattle.servers.proofs.waiting.stamp_on.Statement.{statement}
 use Rattle.servers.proofs.waiting.stamp_on.Tie as tie

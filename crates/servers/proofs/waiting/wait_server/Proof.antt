@@ -1,5 +1,5 @@
 -- `wait_server` meets its contract: code and server that the block names.
-use Rattle.servers.specs.WaitServer.{waitServer}
+use Rattle.servers_laws.specs.WaitServer.{waitServer}
 use borrow.Author.Needs.{needs}
 use Rattle.servers.proofs.waiting.wait_server.Statement.{statement}
 use Rattle.servers.proofs.waiting.wait_server.Tie as tie

@@ -1,5 +1,5 @@
 -- `wait_while` meets its contract, by cases on the status.
-use Rattle.servers.specs.WaitServer.{waitWhile}
+use Rattle.servers_laws.specs.WaitServer.{waitWhile}
 use borrow.Author.Needs.{needs}
 use Rattle.servers.proofs.waiting.wait_while.Statement.{statement}
 use Rattle.servers.proofs.waiting.wait_while.Tie as tie

@@ -1,5 +1,5 @@
 -- `check_first` meets its contract: three codes in order.
-use Rattle.servers.specs.Waking.{checkFirst}
+use Rattle.servers_laws.specs.Waking.{checkFirst}
 use borrow.Author.Needs.{needs}
 use Rattle.servers.proofs.waking.check_first.Statement.{statement}
 use Rattle.servers.proofs.waking.check_first.Tie as tie

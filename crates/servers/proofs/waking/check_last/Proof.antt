@@ -1,5 +1,5 @@
 -- `check_last` meets its contract: three codes in order.
-use Rattle.servers.specs.Waking.{checkLast}
+use Rattle.servers_laws.specs.Waking.{checkLast}
 use borrow.Author.Needs.{needs}
 use Rattle.servers.proofs.waking.check_last.Statement.{statement}
 use Rattle.servers.proofs.waking.check_last.Tie as tie

@@ -1,5 +1,5 @@
 -- `check_wel` meets its contract, by cases on the status.
-use Rattle.servers.specs.Waking.{checkWel}
+use Rattle.servers_laws.specs.Waking.{checkWel}
 use borrow.Author.Needs.{needs}
 use Rattle.servers.proofs.waking.check_wel.Statement.{statement}
 use Rattle.servers.proofs.waking.check_wel.Tie as tie

@@ -1,5 +1,5 @@
 -- `check_wels` meets its contract: six codes in order.
-use Rattle.servers.specs.Waking.{checkWels}
+use Rattle.servers_laws.specs.Waking.{checkWels}
 use borrow.Author.Needs.{needs}
 use Rattle.servers.proofs.waking.check_wels.Statement.{statement}
 use Rattle.servers.proofs.waking.check_wels.Tie as tie

@@ -1,6 +1,6 @@
 -- `leave_with` meets its contract, by the edition.
 use borrow.Author.Tests.{eq-eqb, ne-eqb}
-use Rattle.servers.specs.Waking.{leaveWith}
+use Rattle.servers_laws.specs.Waking.{leaveWith}
 use Rattle.servers.proofs.waking.leave_with.Statement.{statement}
 use Rattle.servers.proofs.waking.leave_with.Tie as tie
 

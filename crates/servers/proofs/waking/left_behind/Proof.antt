@@ -1,6 +1,6 @@
 -- `left_behind` meets its contract, by the edition.
 use borrow.Author.Tests.{eq-eqb, ne-eqb}
-use Rattle.servers.specs.Waking.{leftBehind}
+use Rattle.servers_laws.specs.Waking.{leftBehind}
 use borrow.Author.Needs.{needs}
 use Rattle.servers.proofs.waking.left_behind.Statement.{statement}
 use Rattle.servers.proofs.waking.left_behind.Tie as tie

@@ -1,5 +1,5 @@
 -- `member_units` meets its contract: the units of the block before which the row stands.
-use Rattle.servers.specs.Waking.{memberUnits}
+use Rattle.servers_laws.specs.Waking.{memberUnits}
 use borrow.Author.Needs.{needs}
 use Rattle.servers.proofs.waking.member_units.Statement.{statement}
 use Rattle.servers.proofs.waking.member_units.Tie as tie

@@ -1,6 +1,6 @@
 -- `taken_off` meets its contract, by who goes.
 use borrow.Author.Tests.{lt-ltb, le-ltb}
-use Rattle.servers.specs.Waking.{takenOff}
+use Rattle.servers_laws.specs.Waking.{takenOff}
 use Rattle.servers.proofs.waking.taken_off.Statement.{statement}
 use Rattle.servers.proofs.waking.taken_off.Tie as tie
 

@@ -1,6 +1,6 @@
 -- `units_at` meets its contract, by cases on the kind.
 use borrow.Author.Tests.{eq-eqb, ne-eqb}
-use Rattle.servers.specs.Waking.{unitsAt}
+use Rattle.servers_laws.specs.Waking.{unitsAt}
 use borrow.Author.Needs.{needs}
 use Rattle.servers.proofs.waking.units_at.Statement.{statement}
 use Rattle.servers.proofs.waking.units_at.Tie as tie

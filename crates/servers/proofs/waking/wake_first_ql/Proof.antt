@@ -1,5 +1,5 @@
 -- `wake_first_ql` meets its contract: the length in the tally, then the rows.
-use Rattle.servers.specs.Waking.{shorter}
+use Rattle.servers_laws.specs.Waking.{shorter}
 use borrow.Author.Needs.{needs}
 use Rattle.servers.proofs.waking.wake_first_ql.Statement.{statement}
 use Rattle.servers.proofs.waking.wake_first_ql.Tie as tie

@@ -5,10 +5,10 @@ use mathlib.Core.Path.{_≡_, refl, ap, _∙_}
 use native.Mathlib.Omega.{arith}
 use lib.Dec.{leb}
 use lib.ListN.{length}
-use Rattle.rows.specs.Layout.{head}
-use Rattle.rows.specs.Wake.{wakeWalk}
-use Rattle.servers.specs.Waking.{memberFits, leftBehind, memberLeft, steps, wakeStays}
-use Rattle.servers.proofs.Staying.{end-rows, end-stays, stop-rows, stop-stays, step-rows, step-stays}
+use Rattle.rows_laws.specs.Layout.{head}
+use Rattle.rows_laws.specs.Wake.{wakeWalk}
+use Rattle.servers_laws.specs.Waking.{memberFits, leftBehind, memberLeft, steps, wakeStays}
+use Rattle.servers_laws.proofs.Staying.{end-rows, end-stays, stop-rows, stop-stays, step-rows, step-stays}
 use Rattle.servers.proofs.waking.wake_ql.Statement.{statement}
 use Rattle.servers.proofs.waking.wake_ql.Tie as tie
 

@@ -1,0 +1,60 @@
+-- The row machine: rows on no list go to the FEL or to REL with a fresh serial, and new rows are made for both.
+use Prim.Native.Nat.{ℕ, _+_, _%_, min}
+use mathlib.Core.Bool.{cond}
+use mathlib.Core.List.{List}
+use lib.Dec.{ltb}
+use Rattle.tables.specs.Layout.{most32, most64}
+use Rattle.rows_laws.specs.Layout.{serialField, rel, free, rowCount}
+use Rattle.rows_laws.specs.Cells.{write, setTime}
+use Rattle.rows_laws.specs.Lists.{put, first, takeFirst}
+use Rattle.rows_laws.specs.Future.{schedule}
+use Rattle.rows_laws.specs.Make.{newbornAt, copyAt}
+use Rattle.state.specs.declared.scalars.Scalars.{Scalars}
+use Rattle.state.specs.ScalarSetters.{putSerial, putMade}
+use Rattle.state.specs.Stands.{Rows}
+use Rattle.moves.specs.Motion.{Moved, moved, withTally, next32}
+use Rattle.flow_laws.specs.declared.samples.Sample.{Sample}
+use Rattle.flow_laws.specs.Samples.{useTime}
+
+-- a priority is below this number
+abbrev pub priorities : ℕ
+priorities = 128
+
+-- sums that stop at the largest number
+abbrev pub plus32 : ℕ → ℕ → ℕ
+plus32 a b = min (a + b) most32
+
+abbrev pub plus64 : ℕ → ℕ → ℕ
+plus64 a b = min (a + b) most64
+
+unfoldable pub toFuture : List ℕ → Scalars → ℕ → ℕ → Moved
+toFuture w x k time =
+    moved (putSerial (next32 (x .serial)) x) (schedule (setTime (write w serialField k (next32 (x .serial))) k time) k)
+
+unfoldable pub toReady : List ℕ → Scalars → ℕ → Moved
+toReady w x k = moved (putSerial (next32 (x .serial)) x) (put (write w serialField k (next32 (x .serial))) rel k)
+
+-- ---- A new transaction on the FEL
+
+unfoldable pub bornAt : List ℕ → Scalars → ℕ → (time priority block : ℕ) → Moved
+bornAt w x k time priority block =
+    toFuture (newbornAt w k (next32 (x .made)) (priority % priorities) block) (putMade (next32 (x .made)) x) k time
+
+-- in the first free row; nothing where there is none
+unfoldable pub born : List ℕ → Scalars → (time priority block : ℕ) → Moved
+born w x time priority block =
+    cond (ltb (first w free) rowCount) (bornAt (takeFirst w free) x (first w free) time priority block) (moved x (takeFirst w free))
+
+-- at the clock plus a sample, which is used
+unfoldable pub arrives : List ℕ → List ℕ → Scalars → Sample → (list priority block : ℕ) → Rows
+arrives w tally x sample list priority block =
+    withTally (born w x (plus64 (x .clock) (sample .time)) priority block) (useTime tally list (sample .next))
+
+-- ---- A copy of the moving one on REL
+
+unfoldable pub copyTo : List ℕ → Scalars → ℕ → (target : ℕ) → Moved
+copyTo w x k target = toReady (copyAt w (x .moving) k (next32 (x .made)) target) (putMade (next32 (x .made)) x) k
+
+unfoldable pub copyOne : List ℕ → Scalars → (target : ℕ) → Moved
+copyOne w x target =
+    cond (ltb (first w free) rowCount) (copyTo (takeFirst w free) x (first w free) target) (moved x (takeFirst w free))

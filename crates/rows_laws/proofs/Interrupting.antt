@@ -1,0 +1,241 @@
+-- Document 02, item 11: a row goes from the FEL to a list, and from the head of a list to the FEL.
+use Prim.Native.Nat.{ℕ, zero, suc, _+_, _≤_, _<_}
+use mathlib.Core.Path.{_≡_, refl, sym, ap, subst}
+use mathlib.Core.Bool.{Bool, true, false, cond, not}
+use mathlib.Core.List.{List, [], _∷_, _++_, map}
+use native.Mathlib.Omega.{arith}
+use native.Mathlib.Decide.{ℕ-discrete}
+use borrow.Author.Tests.{lt-ltb, ltb-true, ltb-false, not-false}
+use lib.Dec.{ltb, eqb}
+use lib.ListN.{length, drop}
+use Rattle.machine.specs.Transaction.{Transaction, Event, precedes, earlier}
+use Rattle.machine.specs.Lists.{insert}
+use Rattle.rows_laws.specs.Layout.{listCount, slot, place, link, fel, free}
+use Rattle.rows_laws.specs.Cells.{load}
+use Rattle.rows_laws.specs.Order.{sooner}
+use Rattle.rows_laws.specs.Lists.{put, first, takeFirst}
+use Rattle.rows_laws.specs.Future.{schedule, cancel, loses, soonerRow, loserOf, loserFrom, loser}
+use Rattle.rows_laws.specs.Holds.{transactionAt, eventAt, occurs, Heaped, Listed, Holds, update}
+use Rattle.rows_laws.specs.Ordered.{All, Sorted, Strict}
+use Rattle.rows_laws.specs.Shows.{Shows, Loose}
+use Rattle.rows_laws.proofs.Occurs.{same-refl, same-pos, occurs-append, occurs-cons}
+use Rattle.rows_laws.proofs.Insertion.{not-both, before-none, all-append, front}
+use Rattle.rows_laws.proofs.Steps.{loser-end, loser-stop, loser-next}
+use Rattle.rows_laws.proofs.Structure.{row-of}
+use Rattle.rows_laws.proofs.Spot.{short, front-self}
+use Rattle.rows_laws.proofs.Steady.{around-trans, around-steady}
+use Rattle.rows_laws.proofs.Put.{put-placed}
+use Rattle.rows_laws.proofs.Take.{rows-first}
+use Rattle.rows_laws.proofs.Making.{Written}
+use Rattle.rows_laws.proofs.Scheduling.{sooner-order, schedule-placed}
+use Rattle.rows_laws.proofs.Later.{all-at, irreflexive}
+use Rattle.rows_laws.proofs.Laws.{Fresh, Wakes, Takes, Puts, cancels, take-shows, put-shows, schedule-shows}
+
+-- ---- The holder among later events
+
+-- the FEL has nobody of this number and a lower priority, or this row is the first
+pub data Loser (w : List ℕ) (n p : ℕ) (l : List ℕ) : Type 0 where
+  nobody : All (λ k. loses w n p k ≡ false) l → 1024 ≤ loser w n p → Loser w n p l
+  somebody : (a b : List ℕ) (k : ℕ) → l ≡ a ++ k ∷ b → loser w n p ≡ k → k < 1024 → All (λ k. loses w n p k ≡ false) a → loses w n p k ≡ true → Loser w n p l
+
+-- "a holder of lower priority": of this number, and its priority below
+pub loses-is : (w : List ℕ) (n p k : ℕ) → loses w n p k ≡ cond (eqb (eventAt w k .who .number) n) (ltb (eventAt w k .who .priority) p) false
+unfolding loses eventAt transactionAt
+loses-is w n p k = refl
+
+-- each of the first part of a list stands before those of the second
+part-before : (r : ℕ → ℕ → Bool) (a b : List ℕ) (k : ℕ) → Strict r (a ++ k ∷ b) → All (λ x. r x k ≡ true) a
+unfolding Sorted All
+part-before r [] b k h = tt
+part-before r (x ∷ a) b k h =
+    (not-false (r x k) (all-append (λ y. not (r x y) ≡ false) a (k ∷ b) (h .0) .1 .0), part-before r a b k (h .1))
+
+module _ (w : List ℕ) (n p : ℕ) (l : List ℕ) (one : Listed w fel l) (strict : Strict (sooner w) l) where
+  heap : Heaped w (length l)
+  heap = one .heap refl
+
+  -- row x is on the FEL
+  on : (x : ℕ) → 1 ≤ occurs x l → (x < 1024) × (load w (place x) ≡ fel)
+  on x m = let row : x < 1024 = one .row x m in (row, same-pos (load w (place x)) fel (omega (arith, one .once x row)))
+
+  -- row j is the first such row in the slots below i, or there is none
+  data Best (j i : ℕ) : Type 0 where
+    missed : j ≡ 1024 → ((h : ℕ) → h < i → loses w n p (load w (slot h)) ≡ false) → Best j i
+    met : j < 1024 → load w (place j) ≡ fel → loses w n p j ≡ true
+        → ((h : ℕ) → h < i → loses w n p (load w (slot h)) ≡ true → sooner w (load w (slot h)) j ≡ false) → Best j i
+
+  loserOf-not : (j k : ℕ) → k < 1024 → loses w n p k ≡ false → loserOf w n p j k ≡ j
+  unfolding loserOf
+  loserOf-not j k h e = rw (lt-ltb k 1024 h, e)
+
+  loserOf-first : (k : ℕ) → k < 1024 → loses w n p k ≡ true → loserOf w n p 1024 k ≡ k
+  unfolding loserOf soonerRow
+  loserOf-first k h e = rw (lt-ltb k 1024 h, e)
+
+  loserOf-both : (j k : ℕ) → k < 1024 → j < 1024 → loses w n p k ≡ true → loserOf w n p j k ≡ cond (sooner w k j) k j
+  unfolding loserOf soonerRow
+  loserOf-both j k h g e = rw (lt-ltb k 1024 h, e, lt-ltb j 1024 g)
+
+  -- one slot more
+  module _ (j i : ℕ) (hi : i < length l) where
+    abbrev k : ℕ
+    k = load w (slot i)
+
+    row : k < 1024
+    row = heap .seat i hi .0
+
+    -- slots below i + 1 are those below i, and i
+    last : (P : ℕ → Type 0) → P i → ((h : ℕ) → h < i → P h) → (h : ℕ) → h < i + 1 → P h
+    last P now before h hh = go (ℕ-discrete h i)
+      where
+        go : Dec (h ≡ i) → P h
+        go (yes e) = subst P (sym e) now
+        go (no d) = before h (omega arith)
+
+    passes : loses w n p k ≡ false → Best j i → Best (loserOf w n p j k) (i + 1)
+    passes e (missed q h) = rw (loserOf-not j k row e) (missed q (last (λ x. loses w n p (load w (slot x)) ≡ false) e h))
+    passes e (met r at t h) =
+        rw (loserOf-not j k row e)
+        (met r at t (last (λ x. loses w n p (load w (slot x)) ≡ true → sooner w (load w (slot x)) j ≡ false) (λ f. not-both (loses w n p k) f e) h))
+
+    takes-it : loses w n p k ≡ true → Best j i → Best (loserOf w n p j k) (i + 1)
+    takes-it e (missed q h) =
+        rw (q, loserOf-first k row e)
+        (met row (heap .seat i hi .1) e
+        (last (λ x. loses w n p (load w (slot x)) ≡ true → sooner w (load w (slot x)) k ≡ false) (λ f. irreflexive w (length l) heap k) (λ x hx f. not-both (loses w n p (load w (slot x))) f (h x hx))))
+    takes-it e (met r at t h) = rw (loserOf-both j k row r e) (go (sooner w k j) refl)
+      where
+        go : (b : Bool) → sooner w k j ≡ b → Best (cond b k j) (i + 1)
+        go true f =
+            met row (heap .seat i hi .1) e
+            (last (λ x. loses w n p (load w (slot x)) ≡ true → sooner w (load w (slot x)) k ≡ false) (λ g. irreflexive w (length l) heap k)
+            (λ x hx g. before-none (sooner w) (sooner-order w) (load w (slot x)) j k f (h x hx g)))
+        go false f = met r at t (last (λ x. loses w n p (load w (slot x)) ≡ true → sooner w (load w (slot x)) j ≡ false) (λ g. f) h)
+
+    more : Best j i → Best (loserOf w n p j k) (i + 1)
+    more best = go (loses w n p k) refl
+      where
+        go : (b : Bool) → loses w n p k ≡ b → Best (loserOf w n p j k) (i + 1)
+        go true e = takes-it e best
+        go false e = passes e best
+
+  -- of all slots
+  fewer : (j i : ℕ) → length l ≤ i → Best j i → Best j (length l)
+  fewer j i le (missed q h) = missed q (λ x hx. h x (omega arith))
+  fewer j i le (met r at t h) = met r at t (λ x hx. h x (omega arith))
+
+  scan : (m j i : ℕ) → length l ≤ m + i → Best j i → Best (loserFrom m w n p j i) (length l)
+  scan zero j i le best = rw (loser-end w n p j i 0 refl) (fewer j i (omega arith) best)
+  scan (suc m) j i le best = go (ltb i (length l)) refl (scan m (loserOf w n p j (load w (slot i))) (i + 1) (omega arith))
+    where
+      go : (t : Bool) → ltb i (length l) ≡ t → (Best (loserOf w n p j (load w (slot i))) (i + 1) → Best (loserFrom m w n p (loserOf w n p j (load w (slot i))) (i + 1)) (length l))
+          → Best (loserFrom (suc m) w n p j i) (length l)
+      go false e rest = rw (loser-stop w n p j i (suc m) (omega (arith, heap .many, ltb-false i (length l) e))) (fewer j i (ltb-false i (length l) e) best)
+      go true e rest = let hi : i < length l = ltb-true i (length l) e in rw (loser-next w n p j i (suc m) m refl (omega (arith, heap .many))) (rest (more j i hi best))
+
+  -- slots and rows
+  all-rows : (P : ℕ → Type 0) → ((i : ℕ) → i < length l → P (load w (slot i))) → (x : ℕ) → 1 ≤ occurs x l → P x
+  all-rows P h x m =
+      let at = on x m in
+      let s = heap .seated x (at .0) (at .1) in
+      subst P (s .1) (h (load w (link x)) (s .0))
+
+  all-of : (P : ℕ → Type 0) (m : List ℕ) → ((x : ℕ) → 1 ≤ occurs x m → P x) → All P m
+  unfolding All
+  all-of P [] h = tt
+  all-of P (x ∷ m) h = (h x (omega (arith, occurs-cons x x m, same-refl x x refl)), all-of P m (λ y q. h y (omega (arith, occurs-cons y x m))))
+
+  pub loser-of : Loser w n p l
+  unfolding loser
+  loser-of = go (scan 1024 1024 0 (omega (arith, short w fel l one)) (missed refl (λ h hh. absurd (omega arith))))
+    where
+      go : Best (loser w n p) (length l) → Loser w n p l
+      go (missed q h) = nobody (all-of (λ k. loses w n p k ≡ false) l (all-rows (λ k. loses w n p k ≡ false) h)) (omega (arith, q))
+      go (met r at t h) =
+          let j : ℕ = loser w n p in
+          let parts = front-self j l (omega (arith, one .once j r, same-refl (load w (place j)) fel at)) in
+          let a : List ℕ = front eqb j l in
+          let before : All (λ x. sooner w x j ≡ true) a = part-before (sooner w) a (parts .0) j (subst (Strict (sooner w)) (parts .1) strict) in
+          somebody a (parts .0) j (parts .1) refl r
+          (all-of (λ k. loses w n p k ≡ false) a (λ x m. apart x j (all-at (λ y. sooner w y j ≡ true) x a before m)
+          (all-rows (λ y. loses w n p y ≡ true → sooner w y j ≡ false) h x (omega (arith, ap (occurs x) (parts .1), occurs-append x a (j ∷ parts .0))))))
+          t
+        where
+          apart : (x j : ℕ) → sooner w x j ≡ true → (loses w n p x ≡ true → sooner w x j ≡ false) → loses w n p x ≡ false
+          apart x j e f = pick (loses w n p x) refl
+            where
+              pick : (b : Bool) → loses w n p x ≡ b → loses w n p x ≡ false
+              pick true q = not-both (sooner w x j) e (f q)
+              pick false q = q
+
+-- ---- A row that was taken from a list has data written and comes onto one
+
+module _ (w w₁ v : List ℕ) (k : ℕ) (U : ℕ → List Transaction) (F : List Event) (was : load w (place k) < free) (taken : Takes w w₁ k U F) (written : Written w₁ v k) where
+  written-shows : Shows v U F
+  written-shows =
+      record {
+        rows = taken .shows .rows;
+        shown = written .shown (taken .shows .rows) U F (taken .off) (taken .shows .shown);
+        ordered = taken .shows .ordered;
+      }
+
+  again : (u : List ℕ) (T : ℕ → List Transaction) (E : List Event) → load u (place k) < free → Puts v u k T E → Wakes w u T E
+  again u T E there puts =
+      record {
+        shows = puts .shows;
+        steady =
+            around-steady w u k (taken .off .row) was there
+            (around-trans w w₁ u k (taken .around) (around-trans w₁ v u k (written .around) (puts .around)));
+      }
+
+module _ (w : List ℕ) (T : ℕ → List Transaction) (E : List Event) (s : Shows w T E) where
+  abbrev L : ℕ → List ℕ
+  L = s .rows
+
+  h : Holds w L
+  h = s .shown .holds
+
+  -- where the rows of a list stand
+  placed : (p k : ℕ) (a b : List ℕ) → p < listCount → L p ≡ a ++ k ∷ b → k < 1024 → load w (place k) ≡ p
+  placed p k a b hp was hk =
+      row-of w p a (k ∷ b) (rw was at (h .listed p hp)) k (omega (arith, occurs-append k a (k ∷ b), occurs-cons k k b, same-refl k k refl)) .1
+
+  -- ---- From the FEL to a list
+
+  module _ (k : ℕ) (a b : List ℕ) (hk : k < 1024) (was : L fel ≡ a ++ k ∷ b) where
+    abbrev w₁ : List ℕ
+    w₁ = cancel w k
+
+    abbrev left : List Event
+    left = map (eventAt w) (a ++ b)
+
+    pub taken-later : Takes w w₁ k T left
+    taken-later = cancels w T E s k a b hk was
+
+    pub interrupt-shows : (v : List ℕ) → Written w₁ v k → (p : ℕ) → p < fel → Sorted precedes (T p)
+        → Wakes w (put v p k) (update p (insert precedes (transactionAt v k) (T p)) T) left
+    interrupt-shows v written p hp sorted =
+        let there : load w (place k) < free = omega (arith, placed fel k a b (omega arith) was hk) in
+        let shows : Shows v T left = written-shows w w₁ v k T left there taken-later written in
+        let off : Loose v k = written .loose (taken-later .off) in
+        again w w₁ v k T left there taken-later written (put v p k) _ left
+        (omega (arith, put-placed v (shows .rows) (shows .shown .holds) p k (omega arith) (λ e. omega arith) off)) (put-shows v T left shows k off p hp sorted)
+
+  -- ---- From the head of a list to the FEL
+
+  module _ (p : ℕ) (hp : p < fel) (row : first w p < 1024) where
+    abbrev j : ℕ
+    j = first w p
+
+    abbrev without : List ℕ
+    without = takeFirst w p
+
+    pub resume-shows : (v : List ℕ) → Written without v j → Fresh (transactionAt v j) E → Wakes w (schedule v j) (update p (drop 1 (T p)) T) (insert earlier (eventAt v j) E)
+    resume-shows v written fresh =
+        let r = rows-first w L T E (s .shown) p (omega arith) (λ e. omega arith) row in
+        let there : load w (place j) < free = omega (arith, placed p j [] (r .0) (omega arith) (r .1) row) in
+        let taken : Takes w without j (update p (drop 1 (T p)) T) E = take-shows w T E s p hp row in
+        let shows : Shows v (update p (drop 1 (T p)) T) E = written-shows w without v j (update p (drop 1 (T p)) T) E there taken written in
+        let off : Loose v j = written .loose (taken .off) in
+        again w without v j (update p (drop 1 (T p)) T) E there taken written (schedule v j) _ _
+        (omega (arith, schedule-placed v (shows .rows) (shows .shown .holds) j off)) (schedule-shows v (update p (drop 1 (T p)) T) E shows j off fresh)

@@ -1,0 +1,116 @@
+-- What a block on a server names, and what the tables and the tally hold of that server.
+use Prim.Native.Nat.{ℕ, _+_, _*_, _-_, _%_, _≤_}
+use mathlib.Core.Path.{_≡_, refl, sym, ap, _∙_, subst}
+use mathlib.Core.Bool.{false}
+use mathlib.Core.List.{List, [], _∷_}
+use native.Mathlib.Omega.{arith}
+use lib.Dec.{eqb}
+use lib.ListN.{length, getD, List·getD-map}
+use Rattle.machine.specs.Lists.{bit}
+use Rattle.machine.specs.Term.{Server, idleServer}
+use Rattle.machine.specs.Term
+use Rattle.machine.specs.Block.{Code, U, NU, E, NE, F, NF, status, codeIndex, Block, facility, storage, facts, BlockModel, blockAt}
+use Rattle.machine.specs.State.{State}
+use Rattle.machine.proofs.Proper.{Proper, Names, servers}
+use Rattle.machine.proofs.Shape.{Shape, capacityOf}
+use Rattle.tables.specs.Forms.{blockForms}
+use Rattle.tables.specs.Numbers.{blockNumbers}
+use Rattle.tables.specs.Represents.{At, Represents}
+use Rattle.tables.proofs.BlockKinds.{Kinds, generating, taking, waiting, arriving, preempting, other, kinds, unasked}
+use Rattle.tables.proofs.Operands.{at-number}
+use Rattle.state.specs.Stands.{Tallying}
+use Rattle.servers_laws.specs.Units.{serverAt, inUse, holder, preempted, capacity, statusOf}
+use Rattle.servers_laws.specs.Waking.{unitsAt}
+
+-- ---- Units that a block takes
+
+module _ (tables : List ℕ) (at : ℕ) where
+  kind-at : (kind : ℕ) (rest : List ℕ) → At tables at (kind ∷ rest) → getD tables at 0 ≡ kind
+  kind-at kind rest found =
+      let here : at + 0 ≡ at = omega arith in
+      ap (λ (i : ℕ). getD tables i 0) (sym here) ∙ at-number tables at (kind ∷ rest) 0 (omega arith) found
+
+  -- a kind that takes none
+  takes-none : (kind : ℕ) (rest : List ℕ) → eqb kind 4 ≡ false → eqb kind 6 ≡ false → eqb kind 19 ≡ false → At tables at (kind ∷ rest) → unitsAt tables at ≡ 0
+  unfolding unitsAt
+  takes-none kind rest e f g found = rw (kind-at kind rest found, e, f, g)
+
+  takes-one : (v : ℕ) → At tables at (4 ∷ v ∷ []) → unitsAt tables at ≡ 1
+  unfolding unitsAt
+  takes-one v found = rw (kind-at 4 (v ∷ []) found)
+
+  takes-some : (v b : ℕ) → At tables at (6 ∷ v ∷ b ∷ []) → unitsAt tables at ≡ b
+  unfolding unitsAt
+  takes-some v b found = rw (kind-at 6 (v ∷ b ∷ []) found) (at-number tables at (6 ∷ v ∷ b ∷ []) 2 (omega arith) found)
+
+  takes-it : (v : ℕ) → At tables at (19 ∷ v ∷ []) → unitsAt tables at ≡ 1
+  unfolding unitsAt
+  takes-it v found = rw (kind-at 19 (v ∷ []) found)
+
+  pub units-at : (b : Block) → At tables at (blockNumbers b) → unitsAt tables at ≡ facts b .units
+  units-at b found = go (kinds b)
+    where
+      numbers : {c : Block} → b ≡ c → At tables at (blockNumbers c)
+      numbers e = subst (λ (x : Block). At tables at (blockNumbers x)) e found
+
+      here : {c : Block} → b ≡ c → unitsAt tables at ≡ facts c .units → unitsAt tables at ≡ facts b .units
+      here e h = h ∙ sym (ap (λ (x : Block). facts x .units) e)
+
+      go : Kinds b → unitsAt tables at ≡ facts b .units
+      go (generating list p e) = here e (unfold blockForms in takes-none 1 _ refl refl refl (unfold blockForms in numbers e))
+      go (taking (facility v) e) = here e (unfold blockForms in takes-one (v - 1) (numbers e))
+      go (taking (storage v n) e) = here e (unfold blockForms in takes-some (v - 1) n (numbers e))
+      go (waiting a r c e) = here e (unfold blockForms in takes-none 9 _ refl refl refl (numbers e))
+      go (arriving q e) = here e (unfold blockForms in takes-none 15 _ refl refl refl (numbers e))
+      go (preempting f e) = here e (unfold blockForms in takes-it (f - 1) (numbers e))
+      go (other kind rest e f g) =
+          let u = unasked kind f in
+          takes-none kind rest (u .no-seize) (u .no-enter) (u .no-preempt) (subst (At tables at) e found) ∙ sym (ap (λ x. x .units) g)
+
+-- of block n, found as the engine finds it
+pub units-of : (m : BlockModel) (tape : List (List ℕ)) (tapeBytes tables lists : List ℕ) → Proper m tape → Represents m tape tapeBytes tables lists → (n : ℕ) → Names (length (m .blocks)) n
+    → unitsAt tables (8 * ((n - 1) % 256)) ≡ facts (blockAt m n) .units
+units-of m tape tapeBytes tables lists proper rep n placed =
+    let small : (n - 1) % 256 ≡ n - 1 = omega (arith, proper .blocks .1) in
+    ap (λ (i : ℕ). unitsAt tables (8 * i)) small ∙ units-at tables (8 * (n - 1)) (blockAt m n) (rep .blocks (n - 1) (omega arith))
+
+-- ---- The server that it names
+
+pub few : (m : BlockModel) (tape : List (List ℕ)) → Proper m tape → servers m ≤ 64
+few m tape proper = omega (arith, proper .facilities, proper .storages)
+
+pub named : (tables : List ℕ) (at v : ℕ) → v ≤ 64 → 1 ≤ v → getD tables at 0 ≡ v - 1 → serverAt tables at ≡ v - 1
+unfolding serverAt
+named tables at v high low e =
+    let small : (v - 1) % 64 ≡ v - 1 = omega arith in
+    rw (e, small)
+
+module _ (v : ℕ) (low : 1 ≤ v) (high : v ≤ 64) where
+  pub units-held : (tapeBytes tally : List ℕ) (s : State) → Tallying tapeBytes tally s → inUse tally (v - 1) ≡ Term.serverAt (s .view) v .inUse
+  unfolding Term.serverAt
+  units-held tapeBytes tally s h = h .servers .in-use (v - 1) (omega arith)
+
+  pub holder-held : (tapeBytes tally : List ℕ) (s : State) → Tallying tapeBytes tally s → holder tally (v - 1) ≡ Term.serverAt (s .view) v .holder
+  unfolding Term.serverAt
+  holder-held tapeBytes tally s h = h .servers .holders (v - 1) (omega arith)
+
+  pub preempted-held : (tapeBytes tally : List ℕ) (s : State) → Tallying tapeBytes tally s → preempted tally (v - 1) ≡ bit (Term.serverAt (s .view) v .preempted)
+  unfolding Term.serverAt
+  preempted-held tapeBytes tally s h = h .servers .preempts (v - 1) (omega arith)
+
+  pub capacity-held : {m : BlockModel} {tape : List (List ℕ)} {tapeBytes tables lists : List ℕ} → Represents m tape tapeBytes tables lists → (s : State) → Shape m s → capacity tables (v - 1) ≡ Term.serverAt (s .view) v .capacity
+  unfolding Term.serverAt idleServer
+  capacity-held rep s shape =
+      rep .capacities (v - 1) (omega arith) ∙ ap (λ (l : List ℕ). getD l (v - 1) 0) (sym (shape .capacities))
+      ∙ List·getD-map capacityOf (s .view .servers) (v - 1) (idleServer 0)
+
+-- ---- Status codes
+
+pub status-is : (code : Code) (v : Server) → statusOf (codeIndex code) (v .inUse) (v .capacity) ≡ status code v
+unfolding statusOf codeIndex status
+status-is U v = refl
+status-is NU v = refl
+status-is E v = refl
+status-is NE v = refl
+status-is F v = refl
+status-is NF v = refl

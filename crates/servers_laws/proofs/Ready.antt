@@ -1,0 +1,125 @@
+-- The rows stand for a state in which a server's units are known: what setting them, waking from the QL and the check of the
+-- WELs make of it.
+use Prim.Native.Nat.{ℕ, _+_, _-_, _≤_, _<_}
+use mathlib.Core.Path.{_≡_, refl, sym, ap, _∙_}
+use mathlib.Core.Bool.{Bool}
+use mathlib.Core.List.{List}
+use mathlib.Core.Option.{some}
+use native.Mathlib.Omega.{arith}
+use lib.ListN.{length, getD, set, drop, length-set}
+use lib.Seq.{getD-set-same}
+use Rattle.machine.specs.Transaction.{Transaction}
+use Rattle.machine.specs.Lists.{setNth, bit}
+use Rattle.machine.specs.Term.{Server, idleServer}
+use Rattle.machine.specs.Term
+use Rattle.machine.specs.Block.{Code, welIndex}
+use Rattle.machine.specs.State.{State}
+use Rattle.machine.specs.Setters.{withUse, setQl, setRel}
+use Rattle.machine.specs.Moves.{wake, qlOf, Parted, firstOf, wakeQl}
+use Rattle.machine.proofs.QueueRemove.{walk}
+use Rattle.machine.specs.Moves as Moves
+use Rattle.machine.specs.Execute as Execute
+use Rattle.machine.proofs.Shape.{wel-below}
+use Rattle.rows_laws.specs.Layout.{head}
+use Rattle.rows_laws.specs.Wake.{wakeFirst, wakeWalk}
+use Rattle.rows_laws.specs.Holds.{transactionAt}
+use Rattle.state.specs.declared.scalars.Scalars.{Scalars}
+use Rattle.state.specs.Stands.{listsOf, Listing, Tallying, Counting, Done}
+use Rattle.state.specs.Bare.{entering}
+use Rattle.state.proofs.ListsOf.{lists-ql}
+use Rattle.state.proofs.StandsLaws.{listing-ext, tallying-ext, counting-ext}
+use Rattle.state.proofs.WakingLaws.{wake-first-ql-listing, wake-ql-listing}
+use Rattle.moves.specs.Motion.{withTally, goOn}
+use Rattle.servers_laws.specs.Units.{setUse}
+use Rattle.servers_laws.specs.Waking.{checkWels, shorter, wakeStays}
+use Rattle.servers_laws.proofs.Staying.{stays-shows}
+use Rattle.servers_laws.proofs.Tallies.{units-tallying, length-tallying, first-tallying}
+use Rattle.servers_laws.proofs.Checking.{unchecked, all-checked, checked-done}
+
+pub record Ready (tapeBytes : List ℕ) (x : Scalars) (t : Transaction) (v units all : ℕ) (w tally : List ℕ) (s : State) : Type 0 where
+  pub listing : Listing w (x .moving) (some t) s
+  pub tallying : Tallying tapeBytes tally s
+  pub counting : Counting x s
+  pub held : units ≡ Term.serverAt (s .view) v .inUse
+  pub holds : all ≡ Term.serverAt (s .view) v .capacity
+  pub wels : (code : Code) → welIndex v code < length (s .wel)
+  pub ql : v - 1 < length (s .ql)
+  pub server : v - 1 < length (s .view .servers)
+  pub samples : length (s .samples) ≤ 16
+
+-- ---- Partings that agree on the QL
+
+pub wakeQl-same : (part other : List Transaction → Parted) (v : ℕ) (s : State) → part (qlOf s v) ≡ other (qlOf s v) → wakeQl part v s ≡ wakeQl other v s
+unfolding wakeQl
+wakeQl-same part other v s e = ap (λ (p : Parted). setQl (setNth (s .ql) v (p .stay)) (setRel (wake (p .go) (s .rel)) s)) e
+
+-- ---- What is done
+
+module _ (tapeBytes : List ℕ) (x : Scalars) (t : Transaction) (v : ℕ) (low : 1 ≤ v) (high : v ≤ 64) (units all : ℕ) (w tally : List ℕ) (s : State) (h : Ready tapeBytes x t v units all w tally s) where
+  -- so many units are in use, who holds it, and whether by PREEMPT
+  pub set-ready : (n who : ℕ) (preempts : Bool) → Ready tapeBytes x t v n all w (setUse tally (v - 1) n who (bit preempts)) (Moves.setUse v n who preempts s)
+  unfolding Moves.setUse Term.serverAt listsOf
+  set-ready n who preempts =
+      let server : Server = getD (s .view .servers) (v - 1) (idleServer 0) in
+      let now : getD (set (s .view .servers) (v - 1) (withUse n who preempts server)) (v - 1) (idleServer 0) ≡ withUse n who preempts server = getD-set-same (s .view .servers) (v - 1) (withUse n who preempts server) (idleServer 0) (h .server) in
+      record {
+        listing = listing-ext w (x .moving) (some t) s (Moves.setUse v n who preempts s) (λ q hq. refl) refl refl (h .listing);
+        tallying = units-tallying tapeBytes tally s (h .tallying) (h .samples) v low high n who preempts (h .server);
+        counting = counting-ext x s (Moves.setUse v n who preempts s) refl refl refl refl refl refl refl (h .counting);
+        held = sym (ap (λ (y : Server). y .inUse) now);
+        holds = h .holds ∙ sym (ap (λ (y : Server). y .capacity) now);
+        wels = h .wels;
+        ql = h .ql;
+        server = omega (arith, h .server, length-set (s .view .servers) (v - 1) (withUse n who preempts server));
+        samples = h .samples;
+      }
+
+  -- the first of the QL is woken
+  pub first-ready : Ready tapeBytes x t v units all (wakeFirst w (v - 1)) (shorter tally (v - 1)) (wakeQl firstOf v s)
+  unfolding wakeQl
+  first-ready =
+      record {
+        listing = wake-first-ql-listing w (x .moving) (some t) s (h .listing) v (omega arith) (h .ql);
+        tallying = first-tallying tapeBytes tally s (h .tallying) (h .samples) v low high (h .ql);
+        counting = counting-ext x s (wakeQl firstOf v s) refl refl refl refl refl refl refl (h .counting);
+        held = h .held;
+        holds = h .holds;
+        wels = h .wels;
+        ql = omega (arith, h .ql, length-set (s .ql) (v - 1) (drop 1 (qlOf s v)));
+        server = h .server;
+        samples = h .samples;
+      }
+
+  -- those of the QL that a walk takes are woken
+  module _ (test : ℕ → List ℕ → ℕ → Bool) (next : ℕ → List ℕ → ℕ → ℕ) (P : ℕ → Transaction → Bool) (N : ℕ → Transaction → ℕ)
+      (agree : (n : ℕ) (u : List ℕ) (j : ℕ) → test n u j ≡ P n (transactionAt u j)) (follow : (n : ℕ) (u : List ℕ) (j : ℕ) → next n u j ≡ N n (transactionAt u j)) (left : ℕ) where
+    stay : wakeStays test next 1024 left w (v - 1) (head (v - 1)) ≡ length (walk P N left (qlOf s v) .stay)
+    stay =
+        stays-shows test next P N agree follow (s .fel) (v - 1) (omega arith) left w (listsOf s) (h .listing .shows)
+        ∙ ap (λ (l : List Transaction). length (walk P N left l .stay)) (lists-ql s (v - 1) (omega arith))
+
+    pub passed-ready : Ready tapeBytes x t v units all (wakeWalk test next 1024 left w (v - 1) (head (v - 1))) (set tally (768 + (v - 1)) (wakeStays test next 1024 left w (v - 1) (head (v - 1)))) (wakeQl (walk P N left) v s)
+    unfolding wakeQl
+    passed-ready =
+        let n : ℕ = wakeStays test next 1024 left w (v - 1) (head (v - 1)) in
+        let l : List Transaction = walk P N left (qlOf s v) .stay in
+        record {
+          listing = wake-ql-listing w (x .moving) (some t) s (h .listing) v (omega arith) (h .ql) test next P N agree follow left;
+          tallying =
+              tallying-ext tapeBytes (set tally (768 + (v - 1)) n) (setQl (set (s .ql) (v - 1) l) s) (wakeQl (walk P N left) v s) refl refl refl refl refl
+              (length-tallying tapeBytes tally s (h .tallying) (h .samples) v low high l n stay (h .ql));
+          counting = counting-ext x s (wakeQl (walk P N left) v s) refl refl refl refl refl refl refl (h .counting);
+          held = h .held;
+          holds = h .holds;
+          wels = h .wels;
+          ql = omega (arith, h .ql, length-set (s .ql) (v - 1) l);
+          server = h .server;
+          samples = h .samples;
+        }
+
+  -- the WELs are checked and the transaction goes on
+  pub ready-done : t .next < 4294967295 → Done tapeBytes (withTally (goOn (checkWels w (v - 1) units all) x) tally) (entering (Moves.goOn t (Execute.checkWels v s)))
+  ready-done next =
+      checked-done tapeBytes tally x t s (checkWels w (v - 1) units all) (Execute.checkWels v s)
+      (all-checked (x .moving) (some t) s v units all (h .held) (h .holds) (λ code. wel-below v code 64 low high) (h .wels) w s (unchecked (x .moving) (some t) s w (h .listing)))
+      (h .tallying) (h .counting) next

@@ -1,0 +1,200 @@
+-- The tally follows a server's units, its holder, whether by PREEMPT, and the length of its QL.
+use Prim.Native.Nat.{ℕ, zero, suc, _+_, _-_, _≤_, _<_, min}
+use mathlib.Core.Path.{_≡_, refl, sym, ap, _∙_}
+use mathlib.Core.Logic.{_≢_}
+use mathlib.Core.Bool.{Bool, true, false, cond}
+use mathlib.Core.List.{List, [], _∷_}
+use native.Mathlib.Omega.{arith}
+use native.Mathlib.Decide.{ℕ-discrete}
+use lib.ListN.{length, getD, set, drop, length-set, length-drop}
+use lib.Seq.{getD-set-same, getD-set-other}
+use Rattle.machine.specs.Transaction.{Transaction}
+use Rattle.machine.specs.Lists.{bit}
+use Rattle.machine.specs.Term.{Server, idleServer}
+use Rattle.machine.specs.Term
+use Rattle.machine.specs.State.{State}
+use Rattle.machine.specs.Setters.{withUse, withSerial, setQl, setSerial}
+use Rattle.machine.specs.Moves as Moves
+use Rattle.machine.proofs.Sums.{sum-length}
+use Rattle.machine.proofs.Lines.{sum-lineUp}
+use Rattle.state.specs.Stands.{Tallying}
+use Rattle.state.specs.Bare.{Bare, waitsNote, noNote, waiting}
+use Rattle.state.proofs.StandsLaws.{tallying-ext, entries-set, queueing-set, sampling-set}
+use Rattle.servers_laws.specs.Units.{setUse}
+use Rattle.servers_laws.specs.Waking.{shorter}
+use Rattle.servers_laws.specs.Taking.{longer}
+
+-- ---- Lists
+
+-- a field that a change of element i leaves
+field-kept : {A : Type 0} (f : A → ℕ) (l : List A) (i : ℕ) (a d : A) → f a ≡ f (getD l i d) → (j : ℕ) → f (getD (set l i a) j d) ≡ f (getD l j d)
+field-kept f [] i a d e j = refl
+field-kept f (x ∷ l) zero a d e zero = e
+field-kept f (x ∷ l) zero a d e (suc j) = refl
+field-kept f (x ∷ l) (suc i) a d e zero = refl
+field-kept f (x ∷ l) (suc i) a d e (suc j) = field-kept f l i a d e j
+
+-- under either edition
+line-length : (edition : ℕ) (t : Transaction) (l : List Transaction) → length (Moves.lineUp edition t l) ≡ suc (length l)
+line-length edition t l = omega (arith, sum-lineUp (λ u. 1) edition t l, sum-length (Moves.lineUp edition t l), sum-length l)
+
+-- ---- The cells of each kind
+
+module _ (tapeBytes tally : List ℕ) (s : State) (h : Tallying tapeBytes tally s) (few : length (s .samples) ≤ 16) (v : ℕ) (low : 1 ≤ v) (high : v ≤ 64) where
+  -- so many units are in use, who holds it, and whether by PREEMPT
+  module _ (units who : ℕ) (preempts : Bool) (there : v - 1 < length (s .view .servers)) where
+    abbrev i : ℕ
+    i = 512 + (v - 1)
+
+    abbrev o : ℕ
+    o = 960 + (v - 1)
+
+    abbrev z : ℕ
+    z = 1024 + (v - 1)
+
+    abbrev server : Server
+    server = getD (s .view .servers) (v - 1) (idleServer 0)
+
+    abbrev server′ : Server
+    server′ = withUse units who preempts server
+
+    abbrev servers′ : List Server
+    servers′ = set (s .view .servers) (v - 1) server′
+
+    abbrev one : List ℕ
+    one = set tally i units
+
+    abbrev two : List ℕ
+    two = set one o who
+
+    abbrev all : List ℕ
+    all = set two z (bit preempts)
+
+    size₂ : length two ≡ length tally
+    size₂ = length-set one o who ∙ length-set tally i units
+
+    other : (j : ℕ) → j ≢ i → j ≢ o → j ≢ z → getD all j 0 ≡ getD tally j 0
+    other j d e f = getD-set-other two z j (bit preempts) 0 f ∙ getD-set-other one o j who 0 e ∙ getD-set-other tally i j units 0 d
+
+    -- the cells of a field that is set
+    set-cell : (base : ℕ) (f : Server → ℕ) → ((u : ℕ) → u < 64 → getD tally (base + u) 0 ≡ f (getD (s .view .servers) u (idleServer 0)))
+        → getD all (base + (v - 1)) 0 ≡ f server′ → ((u : ℕ) → u < 64 → u ≢ v - 1 → (base + u ≢ i) × (base + u ≢ o) × (base + u ≢ z))
+        → (u : ℕ) → u < 64 → getD all (base + u) 0 ≡ f (getD servers′ u (idleServer 0))
+    set-cell base f was is apart u hu = go (ℕ-discrete u (v - 1))
+      where
+        go : Dec (u ≡ v - 1) → getD all (base + u) 0 ≡ f (getD servers′ u (idleServer 0))
+        go (yes e) = rw e (is ∙ sym (ap f (getD-set-same (s .view .servers) (v - 1) server′ (idleServer 0) there)))
+        go (no d) =
+            let k = apart u hu d in
+            other (base + u) (k .0) (k .1) (k .2) ∙ was u hu ∙ sym (ap f (getD-set-other (s .view .servers) (v - 1) u server′ (idleServer 0) d))
+
+    -- the cells of one that stays
+    kept-cell : (base : ℕ) (f : Server → ℕ) → 576 ≤ base → base + 64 ≤ 960 → f server′ ≡ f server
+        → ((u : ℕ) → u < 64 → getD tally (base + u) 0 ≡ f (getD (s .view .servers) u (idleServer 0))) → (u : ℕ) → u < 64 → getD all (base + u) 0 ≡ f (getD servers′ u (idleServer 0))
+    kept-cell base f from to e was u hu =
+        other (base + u) (λ e. omega arith) (λ e. omega arith) (λ e. omega arith) ∙ was u hu ∙ sym (field-kept f (s .view .servers) (v - 1) server′ (idleServer 0) e u)
+
+    pub units-tallying : Tallying tapeBytes (setUse tally (v - 1) units who (bit preempts)) (Moves.setUse v units who preempts s)
+    unfolding Moves.setUse Term.serverAt
+    units-tallying =
+        record {
+          size = length-set two z (bit preempts) ∙ size₂ ∙ h .size;
+          entries =
+              entries-set two z (bit preempts) (s .view .entries) (omega arith)
+              (entries-set one o who (s .view .entries) (omega arith) (entries-set tally i units (s .view .entries) (omega arith) (h .entries)));
+          servers =
+              record {
+                in-use =
+                    set-cell 512 (λ x. x .inUse) (h .servers .in-use)
+                    (getD-set-other two z i (bit preempts) 0 (λ f. omega arith) ∙ getD-set-other one o i who 0 (λ f. omega arith) ∙ getD-set-same tally i units 0 (omega (arith, h .size)))
+                    (λ u hu d. (λ e. d (omega arith), λ e. omega arith, λ e. omega arith));
+                holders =
+                    set-cell 960 (λ x. x .holder) (h .servers .holders)
+                    (getD-set-other two z o (bit preempts) 0 (λ f. omega arith) ∙ getD-set-same one o who 0 (omega (arith, h .size, length-set tally i units)))
+                    (λ u hu d. (λ e. omega arith, λ e. d (omega arith), λ e. omega arith));
+                preempts =
+                    set-cell 1024 (λ x. bit (x .preempted)) (h .servers .preempts) (getD-set-same two z (bit preempts) 0 (omega (arith, h .size, size₂)))
+                    (λ u hu d. (λ e. omega arith, λ e. omega arith, λ e. d (omega arith)));
+                unit-ticks = kept-cell 576 (λ x. x .unitTicks) (omega arith) (omega arith) refl (h .servers .unit-ticks);
+                wait-ticks = kept-cell 640 (λ x. x .waitTicks) (omega arith) (omega arith) refl (h .servers .wait-ticks);
+                longest = kept-cell 704 (λ x. x .longest) (omega arith) (omega arith) refl (h .servers .longest);
+                waiting = λ u hu. other (768 + u) (λ e. omega arith) (λ e. omega arith) (λ e. omega arith) ∙ h .servers .waiting u hu;
+              };
+          queues =
+              queueing-set two z (bit preempts) (s .view .queues) (λ j a b e. omega arith)
+              (queueing-set one o who (s .view .queues) (λ j a b e. omega arith)
+              (queueing-set tally i units (s .view .queues) (λ j a b e. omega arith) (h .queues)));
+          samples =
+              sampling-set two z (bit preempts) tapeBytes (s .samples) few (λ j a b e. omega arith)
+              (sampling-set one o who tapeBytes (s .samples) few (λ j a b e. omega arith)
+              (sampling-set tally i units tapeBytes (s .samples) few (λ j a b e. omega arith) (h .samples)));
+        }
+
+  -- the QL is of such a length
+  module _ (l : List Transaction) (n : ℕ) (e : n ≡ length l) (there : v - 1 < length (s .ql)) where
+    abbrev k : ℕ
+    k = 768 + (v - 1)
+
+    apart : (j : ℕ) → j ≢ k → getD (set tally k n) j 0 ≡ getD tally j 0
+    apart j d = getD-set-other tally k j n 0 d
+
+    length-cell : (u : ℕ) → u < 64 → getD (set tally k n) (768 + u) 0 ≡ length (getD (set (s .ql) (v - 1) l) u [])
+    length-cell u hu = go (ℕ-discrete u (v - 1))
+      where
+        go : Dec (u ≡ v - 1) → getD (set tally k n) (768 + u) 0 ≡ length (getD (set (s .ql) (v - 1) l) u [])
+        go (yes f) =
+            rw f
+            (getD-set-same tally k n 0 (omega (arith, h .size)) ∙ e ∙ sym (ap length (getD-set-same (s .ql) (v - 1) l [] there)))
+        go (no d) =
+            apart (768 + u) (λ f. d (omega arith)) ∙ h .servers .waiting u hu ∙ sym (ap length (getD-set-other (s .ql) (v - 1) u l [] d))
+
+    pub length-tallying : Tallying tapeBytes (set tally k n) (setQl (set (s .ql) (v - 1) l) s)
+    length-tallying =
+        record {
+          size = length-set tally k n ∙ h .size;
+          entries = entries-set tally k n (s .view .entries) (omega arith) (h .entries);
+          servers =
+              record {
+                in-use = λ u hu. apart (512 + u) (λ f. omega arith) ∙ h .servers .in-use u hu;
+                holders = λ u hu. apart (960 + u) (λ f. omega arith) ∙ h .servers .holders u hu;
+                preempts = λ u hu. apart (1024 + u) (λ f. omega arith) ∙ h .servers .preempts u hu;
+                unit-ticks = λ u hu. apart (576 + u) (λ f. omega arith) ∙ h .servers .unit-ticks u hu;
+                wait-ticks = λ u hu. apart (640 + u) (λ f. omega arith) ∙ h .servers .wait-ticks u hu;
+                longest = λ u hu. apart (704 + u) (λ f. omega arith) ∙ h .servers .longest u hu;
+                waiting = length-cell;
+              };
+          queues = queueing-set tally k n (s .view .queues) (λ j a b f. omega arith) (h .queues);
+          samples = sampling-set tally k n tapeBytes (s .samples) few (λ j a b f. omega arith) (h .samples);
+        }
+
+  -- ---- Waiting and waking
+
+  module _ (there : v - 1 < length (s .ql)) where
+    ql-length : getD tally (768 + (v - 1)) 0 ≡ length (Moves.qlOf s v)
+    ql-length = h .servers .waiting (v - 1) (omega arith)
+
+    -- the first of the QL leaves
+    pub first-tallying : Tallying tapeBytes (shorter tally (v - 1)) (Moves.wakeQl Moves.firstOf v s)
+    unfolding shorter Moves.wakeQl
+    first-tallying =
+        let l : List Transaction = drop 1 (Moves.qlOf s v) in
+        tallying-ext tapeBytes (shorter tally (v - 1)) (setQl (set (s .ql) (v - 1) l) s) (Moves.wakeQl Moves.firstOf v s) refl refl refl refl refl
+        (length-tallying l (getD tally (768 + (v - 1)) 0 - 1) (ap (λ (n : ℕ). n - 1) ql-length ∙ sym (length-drop 1 (Moves.qlOf s v))) there)
+
+    -- one more waits
+    module _ (short : length (Moves.qlOf s v) ≤ 1024) where
+      one-more : (edition : ℕ) (t : Transaction) → min (getD tally (768 + (v - 1)) 0 + 1) 18446744073709551615 ≡ length (Moves.lineUp edition t (Moves.qlOf s v))
+      one-more edition t = omega (arith, ql-length, line-length edition t (Moves.qlOf s v))
+
+      pub queued-tallying : (edition : ℕ) (t : Transaction) → Tallying tapeBytes (longer tally (v - 1)) (waiting (Moves.toQl edition v) t s .state)
+      unfolding longer waiting Moves.toQl
+      queued-tallying edition t = go (t .returning)
+        where
+          u : Transaction
+          u = withSerial (Moves.fresh s) t
+
+          go : (b : Bool) → Tallying tapeBytes (longer tally (v - 1)) (cond {A = Bare} b (record { note = noNote; state = Moves.toQl edition v t s }) (record { note = waitsNote; state = Moves.toQl edition v u (setSerial (Moves.fresh s) s) }) .state)
+          go true = length-tallying (Moves.lineUp edition t (Moves.qlOf s v)) _ (one-more edition t) there
+          go false =
+              tallying-ext tapeBytes (longer tally (v - 1)) (setQl (set (s .ql) (v - 1) (Moves.lineUp edition u (Moves.qlOf s v))) s) (Moves.toQl edition v u (setSerial (Moves.fresh s) s)) refl refl refl refl refl
+              (length-tallying (Moves.lineUp edition u (Moves.qlOf s v)) _ (one-more edition u) there)

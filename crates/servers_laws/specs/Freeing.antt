@@ -1,0 +1,49 @@
+-- The row machine: 5 RELEASE and 7 LEAVE.
+use Prim.Native.Nat.{ℕ, _+_, _-_}
+use mathlib.Core.Bool.{cond}
+use mathlib.Core.List.{List}
+use lib.Dec.{ltb, eqb}
+use lib.ListN.{getD, set}
+use Rattle.tables.specs.Layout as Layout
+use Rattle.rows_laws.specs.Layout.{head, numberField}
+use Rattle.rows_laws.specs.Cells.{read}
+use Rattle.rows_laws.specs.Wake.{wakeFirst, wakeWalk}
+use Rattle.state.specs.declared.scalars.Scalars.{Scalars}
+use Rattle.state.specs.Stands.{Rows, rowsOf}
+use Rattle.moves.specs.Motion.{Moved, withTally, goOn, stopped}
+use Rattle.servers_laws.specs.Units.{serverAt, inUse, holder, preempted, setUse, capacity}
+use Rattle.servers_laws.specs.Waking.{checkWels, shorter, memberFits, leaveWith, memberLeft, steps, wakeStays}
+
+-- it enters, and so many units are in use
+unfoldable pub enterFreed : List ℕ → Scalars → (v units all : ℕ) → Moved
+enterFreed w x v units all = goOn (checkWels w v units all) x
+
+unfoldable pub freeOne : List ℕ → List ℕ → List ℕ → Scalars → (v units : ℕ) → Rows
+freeOne tables w tally x v units =
+    withTally (enterFreed (wakeFirst w v) x v units (capacity tables v)) (shorter (setUse tally v units 0 0) v)
+
+-- whom a LEAVE of b units wakes, where so many are in use then
+unfoldable pub freeSome : List ℕ → List ℕ → List ℕ → Scalars → (v units b : ℕ) → Rows
+freeSome tables w tally x v units b =
+    let edition : ℕ = getD tables Layout.edition 0 in
+    let left : ℕ = leaveWith edition (capacity tables v - units) b in
+    withTally (enterFreed (wakeWalk (memberFits tables) (memberLeft tables edition) steps left w v (head v)) x v units (capacity tables v))
+    (set (setUse tally v units 0 0) (Layout.qlLength + v) (wakeStays (memberFits tables) (memberLeft tables edition) steps left w v (head v)))
+
+-- "Is f in use? 24."; document 02, item 6: "27 RELEASE by another than the holder, after 24"; item 11: "RELEASE of a
+-- preempted facility" 27
+unfoldable pub askRelease : (units taken who number : ℕ) → ℕ
+askRelease units taken who number = cond (ltb units 1) 24 (cond (eqb taken 0) (cond (eqb who number) 0 27) 27)
+
+unfoldable pub release : List ℕ → List ℕ → List ℕ → Scalars → ℕ → Rows
+release tables w tally x at =
+    let v : ℕ = serverAt tables (at + 1) in
+    let end : ℕ = askRelease (inUse tally v) (preempted tally v) (holder tally v) (read w numberField (x .moving)) in
+    cond (eqb end 0) (freeOne tables w tally x v (inUse tally v - 1)) (rowsOf (stopped x end) w tally)
+
+-- "are b units in use? 24."
+unfoldable pub leave : List ℕ → List ℕ → List ℕ → Scalars → ℕ → Rows
+leave tables w tally x at =
+    let v : ℕ = serverAt tables (at + 1) in
+    let b : ℕ = getD tables (at + 2) 0 in
+    cond (ltb (inUse tally v) b) (rowsOf (stopped x 24) w tally) (freeSome tables w tally x v (inUse tally v - b) b)

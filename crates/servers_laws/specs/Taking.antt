@@ -1,0 +1,36 @@
+-- The row machine: 4 SEIZE and 6 ENTER.
+use Prim.Native.Nat.{ℕ, _+_, _-_, min}
+use mathlib.Core.Bool.{cond}
+use mathlib.Core.List.{List}
+use lib.Dec.{leb}
+use lib.ListN.{getD, set}
+use Rattle.tables.specs.Layout as Layout
+use Rattle.rows_laws.specs.Layout.{numberField}
+use Rattle.rows_laws.specs.Cells.{read}
+use Rattle.state.specs.declared.scalars.Scalars.{Scalars}
+use Rattle.state.specs.Stands.{Rows}
+use Rattle.moves.specs.Motion.{withTally, goOn, waitOn}
+use Rattle.servers_laws.specs.Units.{serverAt, inUse, setUse, capacity}
+use Rattle.servers_laws.specs.Waking.{checkWels}
+
+-- it enters; so many units are in use, who holds the server, and whether by PREEMPT
+unfoldable pub holdUnits : List ℕ → List ℕ → Scalars → (v units who preempts all : ℕ) → Rows
+holdUnits w tally x v units who preempts all = withTally (goOn (checkWels w v units all) x) (setUse tally v units who preempts)
+
+-- the QL is longer by one
+unfoldable pub longer : List ℕ → ℕ → List ℕ
+longer tally v = set tally (Layout.qlLength + v) (min (getD tally (Layout.qlLength + v) 0 + 1) Layout.most64)
+
+unfoldable pub queueUp : List ℕ → List ℕ → Scalars → (v edition : ℕ) → Rows
+queueUp w tally x v edition = withTally (waitOn w x v edition) (longer tally v)
+
+unfoldable pub takeUnits : List ℕ → List ℕ → List ℕ → Scalars → (v b who preempts : ℕ) → Rows
+takeUnits tables w tally x v b who preempts =
+    cond (leb b (capacity tables v - inUse tally v)) (holdUnits w tally x v (inUse tally v + b) who preempts (capacity tables v)) (queueUp w tally x v (getD tables Layout.edition 0))
+
+-- document 02, item 6: "the number of its holder, written at SEIZE"
+unfoldable pub seize : List ℕ → List ℕ → List ℕ → Scalars → ℕ → Rows
+seize tables w tally x at = takeUnits tables w tally x (serverAt tables (at + 1)) 1 (read w numberField (x .moving)) 0
+
+unfoldable pub enter : List ℕ → List ℕ → List ℕ → Scalars → ℕ → Rows
+enter tables w tally x at = takeUnits tables w tally x (serverAt tables (at + 1)) (getD tables (at + 2) 0) 0 0
