@@ -1,5 +1,5 @@
-/* Covrith: one run of a block model on a tape, the records of its trace, traces by column, and streams of random
- * numbers.
+/* Covrith: one run of a block model on a tape, the records of its trace, traces by column, streams of random
+ * numbers, tapes from distributions, and two models joined to one.
  *
  * Link target/staticlib/libcovrith.a, which `rt staticlib covrith` writes (x86-64 Linux).
  *
@@ -135,6 +135,27 @@ enum { COVRITH_FIXED, COVRITH_SPREAD, COVRITH_CURVE };
 
 uint32_t covrith_make_tape(uint32_t stream, const uint32_t *lists, size_t lists_len, const double *numbers, size_t numbers_len,
                            uint8_t *tape, size_t tape_len, uint64_t *written);
+
+/* Two plants as one model.
+ *
+ * Joins two pairs of model and tape, both models of one edition: the second's facilities, storages, queues, values, lists and blocks are
+ * numbered on after the first's, the counters are added, and the tapes are laid end to end.
+ *
+ * Answers 0 and writes the joined model to `model`, the joined tape to `tape`, and how many bytes each has to `written`, which points to
+ * 2 numbers; or writes nothing to `model` and `tape`, 0 and 0 to `written`, and answers, in this order:
+ * 3 to 7 for the first model and 8 to 10 for its tape, then the same for the second model and its tape, as a run refuses them;
+ * 61 the editions differ, or a joined count or the counter passes its limit;
+ * 62 the joined model needs more than `model_len` bytes, or the joined tape more than `tape_len`.
+ * What is joined is accepted by a run. The joined model needs at most model1_len + 2 * model2_len bytes, the joined tape
+ * tape1_len + tape2_len.
+ *
+ * Suppose that neither model has the clock term anywhere, that under edition 2 both or neither have an ENTER or LEAVE of more than one unit, and that the
+ * joined run and each run alone end dry. Then the records of either part, with its blocks numbered as before and its transactions by
+ * their rank within the part, are those of that part alone.
+ */
+uint32_t covrith_join(const uint8_t *model1, size_t model1_len, const uint8_t *tape1, size_t tape1_len,
+                      const uint8_t *model2, size_t model2_len, const uint8_t *tape2, size_t tape2_len,
+                      uint8_t *model, size_t model_len, uint8_t *tape, size_t tape_len, uint64_t *written);
 
 #ifdef __cplusplus
 }

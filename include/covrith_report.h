@@ -93,6 +93,8 @@ static inline const char *covrith_refusal_words(uint64_t refusal) {
     case 43: return "the tape needs more bytes than were lent";
     case 51: return "not a trace that is taken, or not the columns of one";
     case 52: return "the output needs more bytes than were lent";
+    case 61: return "the editions differ, or a joined count or the counter passes its limit";
+    case 62: return "the joined model or tape needs more bytes than were lent";
     default: return NULL;
     }
 }

@@ -32,7 +32,7 @@ from covrith_report import Header, Living, Queue, Report, Server
 
 __all__ = [
     "run", "load", "Run", "Header", "Report", "Server", "Queue", "Living", "Record", "records", "record_bytes", "count", "to_columns", "from_columns", "draws",
-    "make_tape", "Distribution", "Fixed", "Spread", "Curve",
+    "make_tape", "join", "Distribution", "Fixed", "Spread", "Curve",
     "End", "Kind", "NoReport", "Place", "Refusal", "Refused", "Model", "tape", "CLOCK", "bracket", "comparison", "constant", "content",
     "entries", "in_use", "parameter", "summed", "units_free", "units_in_use", "value",
     "BUDGET", "REPORT_BYTES", "TRACE_BYTES", "WORK_NUMBERS",
@@ -79,6 +79,7 @@ _FUNCTIONS: Dict[str, Tuple[Any, List[Any]]] = {
     "covrith_stream_start": (_ANSWER, [ctypes.c_uint32, _OUT32]),
     "covrith_stream_step": (ctypes.c_uint32, [ctypes.c_uint32]),
     "covrith_make_tape": (_ANSWER, [ctypes.c_uint32, _IN32, _LENGTH, _DOUBLES, _LENGTH, _OUT, _LENGTH, _OUT64]),
+    "covrith_join": (_ANSWER, [_IN, _LENGTH] * 4 + [_OUT, _LENGTH] * 2 + [_OUT64]),
     "covrith_columns": (_ANSWER, [_IN, _LENGTH, _OUT, _LENGTH, _OUT64]),
     "covrith_uncolumns": (_ANSWER, [_IN, _LENGTH, _OUT, _LENGTH, _OUT64]),
 }
@@ -241,6 +242,27 @@ def load(folder: Union[str, os.PathLike]) -> Tuple[bytes, bytes]:
     """The bytes of model.bin and tape.bin of a folder."""
     path = pathlib.Path(folder)
     return (path / "model.bin").read_bytes(), (path / "tape.bin").read_bytes()
+
+
+def join(
+    model1: Union[BytesLike, Model],
+    tape1: Union[BytesLike, Sequence[Iterable[int]]],
+    model2: Union[BytesLike, Model],
+    tape2: Union[BytesLike, Sequence[Iterable[int]]],
+) -> Tuple[bytes, bytes]:
+    """The bytes of the model and the tape that two models with their tapes are joined to, the second numbered on after the first.
+
+    `Refused` as a run refuses the first model, its tape, the second model or its tape; with 61 where the editions differ, or a
+    joined count or the counter passes its limit.
+    """
+    given = model_bytes(model1), tape_bytes(tape1), model_bytes(model2), tape_bytes(tape2)
+    # A number of the second takes at most one byte more when it is numbered on.
+    model_room, tape_room = len(given[0]) + 2 * len(given[2]), len(given[1]) + len(given[3])
+    model, tape_out = _buffer(ctypes.c_uint8, model_room), _buffer(ctypes.c_uint8, tape_room)
+    written = _buffer(ctypes.c_uint64, 2)
+    lent_bytes = [argument for data in given for argument in (data, len(data))]
+    _accepted(_library().covrith_join(*lent_bytes, model, model_room, tape_out, tape_room, written))
+    return ctypes.string_at(model, written[0]), ctypes.string_at(tape_out, written[1])
 
 
 def run(

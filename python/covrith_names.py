@@ -67,6 +67,8 @@ class Refusal(_Named):
     TAPE_ROOM = 43, "the tape needs more bytes than were lent"
     NOT_COLUMNS = 51, "not a trace that is taken, or not the columns of one"
     COLUMNS_ROOM = 52, "the output needs more bytes than were lent"
+    NOT_JOINED = 61, "the editions differ, or a joined count or the counter passes its limit"
+    JOIN_ROOM = 62, "the joined model or tape needs more bytes than were lent"
 
 
 class Place(_Named):

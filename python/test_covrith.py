@@ -258,6 +258,26 @@ class Refusals(unittest.TestCase):
         self.refused(51, covrith.from_columns, columns + b"\0")
         self.assertRaises(TypeError, covrith.to_columns, None)
 
+    def test_join(self):
+        # the first example twice, with a counter that it does not reach
+        model = MODEL[:6] + b"\x09" + MODEL[7:]
+        later = [[4, 1], [3, 6]]
+        joined, laid = covrith.join(model, TAPE, model, later)
+        self.assertEqual(joined, bytes([1, 2, 0, 0, 0, 4, 18, 10]) + MODEL[8:] + bytes([1, 3, 0, 4, 2, 2, 4, 5, 2, 3, 1]))
+        self.assertEqual(laid, TAPE + covrith.tape(later))
+        run = covrith.run(joined, laid)
+        self.assertEqual(run.end, End.DRY)
+        own = [r for r in run.records() if r.block <= 5]
+        ranks = sorted({r.transaction for r in own})
+        self.assertEqual([(r.clock, ranks.index(r.transaction) + 1, r.block, r.outcome) for r in own], RECORDS)
+        second = b"\x02" + model[1:]
+        self.refused(61, covrith.join, model, TAPE, second, TAPE)
+        self.refused(8, covrith.join, model, TAPE, second, b"")
+        self.refused(3, covrith.join, b"", b"", second, b"")
+        self.refused(3, covrith.join, model, TAPE, b"", b"")
+        self.refused(8, covrith.join, model, b"", b"", b"")
+        self.assertRaises(TypeError, covrith.join, model, TAPE, None, TAPE)
+
     def test_make_tape(self):
         lists = [(covrith.Spread(12.5, 4), 3), (covrith.Fixed(7), 2), (covrith.Curve([(0, 1), (0.5, 3), (1, 10)]), 2)]
         self.assertEqual(covrith.make_tape(0, lists), bytes([3, 8, 9, 14, 2, 7, 7, 2, 2, 3]))

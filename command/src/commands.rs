@@ -5,6 +5,7 @@ mod check;
 mod columns;
 mod compare;
 mod follow;
+mod join;
 mod list;
 mod run;
 mod tape;
@@ -46,6 +47,7 @@ pub const COMMANDS: &[Command] = &[
     template::COMMAND,
     columns::COMMAND,
     tape::COMMAND,
+    join::COMMAND,
 ];
 
 /// The version of the engine: its number and the commit that it was built from.

@@ -84,6 +84,11 @@ fn tapes() {
 }
 
 #[test]
+fn joins() {
+    session("joins");
+}
+
+#[test]
 fn usage() {
     session("usage");
 }

@@ -56,6 +56,14 @@ impl<T: Element> Lent<T> {
         }
     }
 
+    /// A part with these contents.
+    pub fn of(random: &mut Random, contents: &[T]) -> Lent<T> {
+        let mut lent = Lent::new(random, contents.len());
+        lent.lend().copy_from_slice(contents);
+        lent.before = lent.all.clone();
+        lent
+    }
+
     pub fn lend(&mut self) -> &mut [T] {
         &mut self.all[self.start..self.start + self.length]
     }

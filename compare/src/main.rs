@@ -5,10 +5,12 @@
 //! `compare --long`: the two runs that reach end 26, by turns and by serials (some 100 million turns each).
 //! `compare --streams`: the starts of all streams, steps along each and steps of other states.
 //! `compare --tapes N SEED`: N random calls of the tape maker.
+//! `compare --join N SEED`: N random calls of the join of two models.
 //! `compare --counts`: the counter of low bytes at all lengths to 4,096 and all addresses modulo 64.
 
 mod columns;
 mod counts;
+mod joins;
 mod lent;
 mod long;
 mod records;
@@ -29,7 +31,7 @@ fn main() {
     let mut numbers = Vec::new();
     let mut size = Size::Full;
     let mut coverage = false;
-    let mut made = false;
+    let mut calls: Option<fn(u64, u64) -> bool> = None;
     for argument in std::env::args().skip(1) {
         match argument.as_str() {
             "--small" => size = Size::Small,
@@ -38,7 +40,8 @@ fn main() {
             "--long" => exit(i32::from(!long::compare())),
             "--counts" => exit(i32::from(!counts::compare())),
             "--streams" => exit(i32::from(!streams::compare())),
-            "--tapes" => made = true,
+            "--tapes" => calls = Some(tapes::compare),
+            "--join" => calls = Some(joins::compare),
             text => match text.parse::<u64>() {
                 Ok(number) => numbers.push(number),
                 Err(_) => usage(),
@@ -46,8 +49,8 @@ fn main() {
         }
     }
     let [count, seed] = numbers[..] else { usage() };
-    if made {
-        exit(i32::from(!tapes::compare(count, seed)));
+    if let Some(compare) = calls {
+        exit(i32::from(!compare(count, seed)));
     }
     std::panic::set_hook(Box::new(|_| {})); // a panic of the second implementation is a difference
     random_cases(count, seed, size, coverage);
@@ -55,7 +58,8 @@ fn main() {
 
 fn usage() -> ! {
     eprintln!("usage: compare N SEED [--small] [--coverage]");
-    eprintln!("       compare --check | --long | --streams | --counts | --tapes N SEED");
+    eprintln!("       compare --check | --long | --streams | --counts");
+    eprintln!("       compare --tapes N SEED | --join N SEED");
     exit(2);
 }
 

@@ -2,6 +2,7 @@
 
 mod common;
 use common::*;
+use reference::decode::decode_model_with;
 use reference::generate::fields::{encode_model, encode_tape};
 use reference::generate::pairs::{call, clockless};
 use reference::generate::random::Random;
@@ -9,6 +10,7 @@ use reference::join::{join_models, join_with, part_records, uses_clock};
 use reference::model::{Block, Model, Term};
 use reference::tape::Tape;
 use reference::Rules;
+use std::collections::BTreeMap;
 
 type Pair = (Vec<u8>, Vec<u8>);
 
@@ -282,16 +284,73 @@ fn a_clock_term_breaks_the_conclusion() {
     assert_eq!(part[2], [7, 1, 2, 0]);
 }
 
+/// What a joined model of these would pass: the edition or a limit.
+fn obstacles(first: &Model, second: &Model) -> Vec<&'static str> {
+    let past = |one: usize, other: usize, limit: u32| one + other > limit as usize;
+    let whole = |one: u32, other: u32, limit: u32| past(one as usize, other as usize, limit);
+    let (a, b) = (first, second);
+    let found = [
+        ("edition", a.edition != b.edition),
+        (
+            "facilities",
+            whole(a.facilities, b.facilities, Model::MAX_FACILITIES),
+        ),
+        (
+            "storages",
+            past(a.capacities.len(), b.capacities.len(), Model::MAX_STORAGES),
+        ),
+        ("queues", whole(a.queues, b.queues, Model::MAX_QUEUES)),
+        (
+            "values",
+            past(a.values.len(), b.values.len(), Model::MAX_VALUES),
+        ),
+        ("lists", whole(a.lists, b.lists, Model::MAX_LISTS)),
+        ("counter", whole(a.counter, b.counter, Model::MAX_COUNTER)),
+        (
+            "blocks",
+            past(a.blocks.len(), b.blocks.len(), Model::MAX_BLOCKS),
+        ),
+    ];
+    let is = found.iter().filter(|(_, is)| *is);
+    is.map(|(name, _)| *name).collect()
+}
+
 #[test]
 fn random_calls_meet_every_answer_and_joined_pairs_are_accepted() {
     let mut random = Random::new(152);
-    let mut met = std::collections::BTreeMap::new();
-    for _ in 0..3_000 {
+    let mut met = BTreeMap::new();
+    let mut causes = BTreeMap::new();
+    for _ in 0..6_000 {
         let call = call(Rules::ALL, &mut random);
         let rooms = (call.model_room, call.tape_room);
         let answer = join(&call.first, &call.second, rooms);
-        if let Ok((model, tape)) = &answer {
-            assert_eq!(refusal_under(Rules::ALL, model, tape), 0);
+        let most = call.first.0.len() + 2 * call.second.0.len();
+        let laid = call.first.1.len() + call.second.1.len();
+        match &answer {
+            Ok((model, tape)) => {
+                assert_eq!(refusal_under(Rules::ALL, model, tape), 0);
+                assert!(model.len() <= most && tape.len() == laid);
+            }
+            Err(61) => {
+                let decoded = |pair: &Pair| decode_model_with(Rules::ALL, &pair.0).unwrap();
+                let found = obstacles(&decoded(&call.first), &decoded(&call.second));
+                assert!(!found.is_empty());
+                if let [alone] = found[..] {
+                    *causes.entry(alone).or_insert(0) += 1;
+                }
+            }
+            Err(62) => {
+                let (model, tape) = join(&call.first, &call.second, (most, laid)).unwrap();
+                let short = (rooms.0 < model.len(), rooms.1 < tape.len());
+                let name = match short {
+                    (true, true) => "both rooms",
+                    (true, false) => "room of the model",
+                    (false, true) => "room of the tape",
+                    (false, false) => panic!("62 with room for both"),
+                };
+                *causes.entry(name).or_insert(0) += 1;
+            }
+            Err(_) => {}
         }
         *met.entry(answer.err().unwrap_or(0)).or_insert(0) += 1;
     }
@@ -299,4 +358,6 @@ fn random_calls_meet_every_answer_and_joined_pairs_are_accepted() {
         assert!(met.contains_key(&answer), "{answer}: {met:?}");
     }
     assert!(met[&0] > 500 && met[&61] > 100 && met[&62] > 100, "{met:?}");
+    // Each cause of 61 alone, and 62 by either room alone and by both.
+    assert!(causes.len() == 11, "{causes:?}");
 }

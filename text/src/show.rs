@@ -71,14 +71,54 @@ impl Names {
     pub fn label(&self, block: u32) -> Option<String> {
         self.labels.get((block as usize).wrapping_sub(1))?.clone()
     }
+
+    /// These and behind them the others, of which each that is taken gets a number: a second `crane` is `crane2`.
+    pub fn followed_by(&self, others: &Names) -> Names {
+        let all = |own: &[String], others: &[String]| {
+            let mut all = own.to_vec();
+            for name in others {
+                all.push(unused(name, all.iter()));
+            }
+            all
+        };
+        let mut labels = self.labels.clone();
+        for label in &others.labels {
+            let new = label
+                .as_ref()
+                .map(|name| unused(name, labels.iter().flatten()));
+            labels.push(new);
+        }
+        Names {
+            facilities: all(&self.facilities, &others.facilities),
+            storages: all(&self.storages, &others.storages),
+            queues: all(&self.queues, &others.queues),
+            lists: all(&self.lists, &others.lists),
+            values: all(&self.values, &others.values),
+            labels,
+        }
+    }
+}
+
+/// The name, or the first of `name2`, `name3` .. that is not among these.
+fn unused<'a>(name: &str, among: impl Iterator<Item = &'a String> + Clone) -> String {
+    let taken = |name: &str| among.clone().any(|other| other.eq_ignore_ascii_case(name));
+    let numbered = (2..).map(|k| format!("{name}{k}"));
+    let mut all = std::iter::once(name.to_string()).chain(numbered);
+    all.find(|name| !taken(name)).unwrap_or_default()
 }
 
 pub fn model(m: &Model) -> String {
-    let names = Names::numbered(m);
-    let mut out = declarations(m, &names);
+    text(m, &Names::numbered(m))
+}
+
+/// A model's text with these names.
+pub fn text(m: &Model, names: &Names) -> String {
+    let mut out = declarations(m, names);
+    let longest = names.labels.iter().flatten().map(String::len).max();
+    let width = longest.map_or(8, |length| (length + 1).max(8));
     for (i, block) in m.blocks.iter().enumerate() {
         let label = names.label(i as u32 + 1).unwrap_or_default();
-        let _ = writeln!(out, "{label:8}{}", block_text(block, &names));
+        let _ = writeln!(out, "{label:width$}{}", block_text(block, names));
     }
     out
 }

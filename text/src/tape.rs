@@ -246,6 +246,11 @@ pub fn bytes(text: &str) -> Result<Vec<u8>, Vec<Fault>> {
 
 /// A text for a tape's bytes; it gives the same bytes again.
 pub fn text(bytes: &[u8]) -> Result<String, String> {
+    text_with(bytes, &[])
+}
+
+/// The same with names for its lists; those behind the last name are called by their numbers.
+pub fn text_with(bytes: &[u8], names: &[String]) -> Result<String, String> {
     let numbers = number::read_all(bytes)?;
     let mut out = String::new();
     let mut at = 0;
@@ -258,7 +263,10 @@ pub fn text(bytes: &[u8]) -> Result<String, String> {
             .and_then(|end| numbers.get(at..end))
             .ok_or_else(|| format!("list {list} ends early"))?;
         at += count;
-        let _ = write!(out, "l{list}:");
+        let _ = match names.get(list - 1) {
+            Some(name) => write!(out, "{name}:"),
+            None => write!(out, "l{list}:"),
+        };
         for time in times {
             let _ = write!(out, " {time}");
         }

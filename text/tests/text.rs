@@ -1,5 +1,6 @@
 //! Text and bytes there and back, and what errors say.
 
+use modeltext::show::{self, Names};
 use modeltext::{model_bytes, model_text, read, tape};
 
 fn bytes(hex: &str) -> Vec<u8> {
@@ -22,6 +23,33 @@ fn bytes_to_text_to_bytes() {
         let text = tape::text(&bytes(times)).unwrap();
         assert_eq!(tape::bytes(&text).unwrap(), bytes(times));
     }
+}
+
+#[test]
+fn names_of_two_models() {
+    let text = |label: &str| {
+        format!("FACILITY crane, crane2\nSTORAGE crane = 2\nQUEUE q\nLIST l\nVALUE v = q$q\nCOUNTER 1\n{label} SEIZE crane\n GOTO {label}\n")
+    };
+    let names = |label: &str| Names::of(&read::model(&text(label)));
+    let both = names("again").followed_by(&names("Again"));
+    assert_eq!(both.facilities, ["crane", "crane2", "crane3", "crane22"]);
+    assert_eq!(both.storages, ["crane", "crane2"]);
+    assert_eq!((both.queues, both.lists), (words("q q2"), words("l l2")));
+    assert_eq!(both.values, ["v", "v2"]);
+    let labels = [Some("again"), None, Some("Again2"), None];
+    assert_eq!(both.labels, labels.map(|label| label.map(str::to_string)));
+    // a label that is longer than its column
+    let model = read::model(&text("beginning"));
+    let shown = show::text(&model.model, &Names::of(&model));
+    assert!(shown.contains("\nbeginning SEIZE crane\n"), "{shown}");
+    assert_eq!(model_bytes(&shown).unwrap(), model.model.bytes());
+    // names of a tape's lists, and numbers behind the last name
+    let times = tape::text_with(&[1, 5, 0], &words("arrivals")).unwrap();
+    assert_eq!(times, "arrivals: 5\nl2:\n");
+}
+
+fn words(text: &str) -> Vec<String> {
+    text.split(' ').map(str::to_string).collect()
 }
 
 const FIRST: &str = "\

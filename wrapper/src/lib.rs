@@ -1,5 +1,5 @@
 //! The proved engine for Rust: a run of a block model on a tape, the records of its trace, traces by column and its report by names;
-//! streams of random numbers, and tapes drawn from distributions.
+//! streams of random numbers, tapes drawn from distributions, and two models joined to one.
 //!
 //! ```
 //! use covrith::simulate;
@@ -21,6 +21,7 @@
 
 mod columns;
 mod header;
+mod join;
 mod names;
 mod number;
 mod report;
@@ -32,6 +33,7 @@ mod trace;
 
 pub use columns::{from_columns, to_columns};
 pub use header::Header;
+pub use join::{join, write_joined};
 pub use names::{End, Place, Refusal};
 pub use report::{Living, NoReport, Queue, Report, Server};
 pub use run::{run, simulate, Outcome, Run, REPORT_BYTES, WORK_NUMBERS};

@@ -97,6 +97,8 @@ numbered! {
         43 TapeRoom "the tape needs more bytes than were lent",
         51 NotColumns "not a trace that is taken, or not the columns of one",
         52 ColumnsRoom "the output needs more bytes than were lent",
+        61 NotJoined "the editions differ, or a joined count or the counter passes its limit",
+        62 JoinRoom "the joined model or tape needs more bytes than were lent",
     }
 }
 

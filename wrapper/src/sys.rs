@@ -64,4 +64,20 @@ extern "C" {
         tape_len: usize,
         written: *mut u64,
     ) -> u32;
+
+    pub fn covrith_join(
+        model1: *const u8,
+        model1_len: usize,
+        tape1: *const u8,
+        tape1_len: usize,
+        model2: *const u8,
+        model2_len: usize,
+        tape2: *const u8,
+        tape2_len: usize,
+        model: *mut u8,
+        model_len: usize,
+        tape: *mut u8,
+        tape_len: usize,
+        written: *mut u64,
+    ) -> u32;
 }

@@ -1,2 +1,3 @@
+mod Joins
 mod Records
 mod Tapes

@@ -5,6 +5,7 @@ use lib.ListN.{length}
 use Rattle.streams.specs.declared.Started.{Started}
 use Rattle.streams.specs.declared.Started.the-variants.{State, Refused}
 use Rattle.tapes.specs.Tape.{Making, made, refusal as unmade}
+use Rattle.join_laws.specs.Joining.{Joining, joined, refused}
 use Rattle.machine.specs.Trace.{Reading, taken, refusal, noMore, Writing, written, rejected}
 
 -- ---- Reader: 0 and five numbers, or 30 for "no more", 31 or 32; a refusal leaves the numbers as they were
@@ -49,3 +50,13 @@ tapeAnswer (unmade n) = n
 unfoldable pub tapeCount : Making → ℕ
 tapeCount (made b) = length b
 tapeCount (unmade n) = 0
+
+-- ---- Join: 0 and how many bytes the joined model and tape have, or the number of the refusal and none
+
+unfoldable pub joinAnswer : Joining → ℕ
+joinAnswer (joined model tape) = 0
+joinAnswer (refused n) = n
+
+unfoldable pub joinLengths : Joining → List ℕ
+joinLengths (joined model tape) = length model ∷ length tape ∷ []
+joinLengths (refused n) = 0 ∷ 0 ∷ []

@@ -1,6 +1,7 @@
 // Covrith for other languages: functions that C, or Rust by C's calling convention, can call. include/covrith.h declares them.
 // A slice crosses the boundary as a pointer and a length in elements.
 use constants::refusals::NO_MORE;
+use join::Joined;
 use streams::Started;
 use tapes::Made;
 use trace::Reading;
@@ -16,13 +17,18 @@ ghost use Rattle.engine.specs.Contract.{Contract};
 ghost use Rattle.streams.specs.Stream.{next, startOf};
 ghost use Rattle.tapes.specs.Tape.{makeTape, leaves};
 ghost use Rattle.tapes.specs.Contract.{Accepts};
-ghost use Rattle.covrith.specs.Answers.{readAnswer, readNumbers, writeAnswer, writeCount, startAnswer, startState, tapeAnswer, tapeCount};
+ghost use Rattle.join_laws.specs.Joining.{join};
+ghost use Rattle.join.specs.Contract.{modelLeft, tapeLeft};
+ghost use Rattle.covrith.specs.Answers.{readAnswer, readNumbers, writeAnswer, writeCount, startAnswer, startState, tapeAnswer, tapeCount, joinAnswer, joinLengths};
 ghost use Rattle.covrith.specs.Results.{results};
 
 // The eight results of a run; a record and the position behind it.
 pub const OUTCOME: usize = 8;
 
 pub const RECORD: usize = 5;
+
+// The lengths of a joined model and its tape.
+pub const LENGTHS: usize = 2;
 
 // One run of a model on a tape. `outcome` gets the eight results.
 #[no_mangle]
@@ -186,6 +192,34 @@ pub extern "C" fn covrith_make_tape(
         }
         Made::Refused(n) => {
             *used = 0;
+            n
+        }
+    }
+}
+
+// Joins two pairs of model and tape. `lengths` gets how many bytes the joined model and tape have, 0 and 0 for a refusal.
+#[no_mangle]
+pub extern "C" fn covrith_join(
+    model1: &[u8],
+    tape1: &[u8],
+    model2: &[u8],
+    tape2: &[u8],
+    model: &mut [u8],
+    tape: &mut [u8],
+    lengths: &mut [u64; LENGTHS],
+) -> u32
+    ensures { λ r. ⌜ r ≡ joinAnswer (join (now (model1 .entry)) (now (tape1 .entry)) (now (model2 .entry)) (now (tape2 .entry)) (length (now (model .entry))) (length (now (tape .entry)))) ⌝ }
+    ensures { λ _. ⌜ now (lengths .exit) ≡ joinLengths (join (now (model1 .entry)) (now (tape1 .entry)) (now (model2 .entry)) (now (tape2 .entry)) (length (now (model .entry))) (length (now (tape .entry)))) ⌝ }
+    ensures { λ _. ⌜ now (model .exit) ≡ modelLeft (join (now (model1 .entry)) (now (tape1 .entry)) (now (model2 .entry)) (now (tape2 .entry)) (length (now (model .entry))) (length (now (tape .entry)))) (now (model .entry)) ⌝ }
+    ensures { λ _. ⌜ now (tape .exit) ≡ tapeLeft (join (now (model1 .entry)) (now (tape1 .entry)) (now (model2 .entry)) (now (tape2 .entry)) (length (now (model .entry))) (length (now (tape .entry)))) (now (tape .entry)) ⌝ }
+{
+    match join::join(model1, tape1, model2, tape2, model, tape) {
+        Joined::Bytes(m, t) => {
+            *lengths = [m as u64, t as u64];
+            0
+        }
+        Joined::Refused(n) => {
+            *lengths = [0, 0];
             n
         }
     }

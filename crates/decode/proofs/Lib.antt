@@ -3,3 +3,4 @@ pub mod Represented
 pub mod Models
 pub mod Lists
 pub mod Answers
+pub mod Told

@@ -4,7 +4,6 @@ pub mod TurnsLaws
 pub mod Reading
 pub mod Outcomes
 pub mod Following
-pub mod Decoding
 pub mod Laws
 pub mod Running
 pub mod FirstsKept

@@ -16,7 +16,7 @@ use Rattle.decode.specs.Decodes.{Decodes}
 use Rattle.engine.specs.declared.outcome.Outcome.{Outcome as Results}
 use Rattle.engine.specs.Last.{refusedWith, lastRows, Finishes}
 use Rattle.engine.specs.Contract.{Contract}
-use Rattle.engine.proofs.Decoding.{Told, decoded-refused, decoded-model}
+use Rattle.decode.proofs.Told.{Told, decoded-refused, decoded-model}
 use Rattle.engine.proofs.Outcomes.{rooms, refused-runs}
 use Rattle.engine.proofs.Following.{run-accepted}
 use Rattle.terms.proofs.NestedFrom.{nested-from}

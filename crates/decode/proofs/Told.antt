@@ -1,4 +1,4 @@
--- What decoding tells of the machine's answer to the questions.
+-- What an answer of `decode` tells of the machine's answer to the questions.
 use Prim.Native.Nat.{ℕ}
 use mathlib.Core.Path.{_≡_, refl, ap}
 use mathlib.Core.List.{List}

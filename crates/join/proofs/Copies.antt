@@ -1,0 +1,19 @@
+-- Bytes copied one by one, pure.
+use Prim.Native.Nat.{ℕ, suc, _+_, _≤_, _<_}
+use native.Mathlib.Omega.{arith}
+use mathlib.Core.Path.{_≡_, refl, sym, ap, ap₂, _∙_}
+use mathlib.Core.List.{List, [], _∷_, _++_}
+use lib.ListN.{length, take, set, getD}
+use lib.Seq.{sets, take-suc, length-take-le}
+use Rattle.codec.proofs.Stores.{sets-append}
+
+module _ (s l : List ℕ) (at : ℕ) where
+  pub copy-step : (i : ℕ) (m : List ℕ) → i < length s → m ≡ sets l at (take i s) → set m (at + i) (getD s i 0) ≡ sets l at (take (i + 1) s)
+  copy-step i m h e =
+      let n : length (take i s) ≡ i = length-take-le i s (omega arith) in
+      let next : suc i ≡ i + 1 = omega arith in
+      ap₂ (λ u j. set u (at + j) (getD s i 0)) e (sym n) ∙ sets-append (take i s) (getD s i 0 ∷ []) l at
+      ∙ ap (sets l at) (sym (take-suc s i 0 h) ∙ ap (λ j. take j s) next)
+
+  pub copy-done : (count i : ℕ) (m : List ℕ) → i ≤ count → count ≤ i → m ≡ sets l at (take i s) → m ≡ sets l at (take count s)
+  copy-done count i m low high e = let same : i ≡ count = omega arith in e ∙ ap (λ j. sets l at (take j s)) same
