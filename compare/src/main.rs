@@ -1,6 +1,7 @@
 //! `compare N SEED [--small] [--coverage]`: N random cases through the engine's interface for other languages and through
 //! `reference/`, each with readings and writings of trace records and traces by column. Ends at the first that differs, printed and
 //! shrunk.
+//! `compare --waits N SEED`: the same with models that wait on values.
 //! `compare --check`: the same for the cases of standard input, printed as by `cases` of `reference/`.
 //! `compare --long`: the two runs that reach end 26, by turns and by serials (some 100 million turns each).
 //! `compare --streams`: the starts of all streams, steps along each and steps of other states.
@@ -23,14 +24,16 @@ mod tapes;
 use records::Answers;
 use reference::coverage::Coverage;
 use reference::generate::random::Random;
-use reference::generate::{case, Case, Size};
+use reference::generate::{case, waits, Case, Size};
 use reference::line::{given, parse};
+use reference::rules::Rules;
 use std::process::exit;
 
 fn main() {
     let mut numbers = Vec::new();
     let mut size = Size::Full;
     let mut coverage = false;
+    let mut waiting = false;
     let mut calls: Option<fn(u64, u64) -> bool> = None;
     for argument in std::env::args().skip(1) {
         match argument.as_str() {
@@ -40,6 +43,7 @@ fn main() {
             "--long" => exit(i32::from(!long::compare())),
             "--counts" => exit(i32::from(!counts::compare())),
             "--streams" => exit(i32::from(!streams::compare())),
+            "--waits" => waiting = true,
             "--tapes" => calls = Some(tapes::compare),
             "--join" => calls = Some(joins::compare),
             text => match text.parse::<u64>() {
@@ -53,23 +57,35 @@ fn main() {
         exit(i32::from(!compare(count, seed)));
     }
     std::panic::set_hook(Box::new(|_| {})); // a panic of the second implementation is a difference
-    random_cases(count, seed, size, coverage);
+    let next = if waiting { waits_case } else { case };
+    random_cases(count, seed, size, coverage, next);
 }
 
 fn usage() -> ! {
-    eprintln!("usage: compare N SEED [--small] [--coverage]");
+    eprintln!("usage: compare [--waits] N SEED [--small] [--coverage]");
     eprintln!("       compare --check | --long | --streams | --counts");
     eprintln!("       compare --tapes N SEED | --join N SEED");
     exit(2);
 }
 
-fn random_cases(count: u64, seed: u64, size: Size, table: bool) {
+/// A case that waits on values.
+fn waits_case(random: &mut Random, size: Size) -> Case {
+    waits::case(Rules::LANDED, random, size)
+}
+
+fn random_cases(
+    count: u64,
+    seed: u64,
+    size: Size,
+    table: bool,
+    next: fn(&mut Random, Size) -> Case,
+) {
     let mut random = Random::new(seed);
     let mut coverage = Coverage::default();
     let mut answers = Answers::default();
     let mut stored = columns::Answers::default();
     for number in 1..=count {
-        let case = case(&mut random, size);
+        let case = next(&mut random, size);
         let stale = random.next_u64();
         let agreed = match runs::compare(&case, stale, &mut coverage) {
             Ok(agreed) => agreed,

@@ -21,6 +21,7 @@ pub mod sums;
 pub mod tapes;
 pub mod targets;
 pub mod traces;
+pub mod waits;
 pub mod wide;
 
 use crate::model::Model;

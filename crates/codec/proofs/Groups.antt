@@ -1,7 +1,7 @@
 -- Groups of seven bits, pure: a number of j groups is below 128 ^ j; `upper` does not depend on its fuel; what `upper`
 -- writes, `groups` reads, and the other way round.
 use Prim.Native.Nat.{ℕ, zero, suc, _+_, _*_, _-_, _/_, _%_, _^_, _≤_, _<_}
-use native.Mathlib.Nat.{pow-suc, pow-le-pow-right, lt-of-lt-of-le}
+use native.Mathlib.Nat.{pow-suc, pow-le-pow-right, one-le-pow, lt-of-lt-of-le}
 use native.Mathlib.Omega.{arith}
 use mathlib.Core.Bool.{Bool, true, false}
 use mathlib.Core.List.{List, [], _∷_, _++_, append-assoc}
@@ -28,6 +28,9 @@ upper-step k v h = rw (ne-eqb v 0 h)
 pub above-lt : (j : ℕ) {v : ℕ} → v < 128 ^ suc j → v / 128 < 128 ^ j
 above-lt j {v} h = omega (arith, rw (pow-suc 128 j) at h)
 
+pub above-le : (j : ℕ) {v : ℕ} → 128 ^ suc j ≤ v → 128 ^ j ≤ v / 128
+above-le j {v} h = omega (arith, rw (pow-suc 128 j) at h)
+
 -- more fuel than groups changes nothing
 pub upper-more : (j v : ℕ) → v < 128 ^ j → upper (suc j) v ≡ upper j v
 upper-more zero v h = let e : v ≡ 0 = omega arith in rw e (simp upper-zero)
@@ -46,6 +49,15 @@ upper-length (suc k) (suc j) v h = go (eqb v 0) refl (upper-length k j (v / 128)
     go : (t : Bool) → eqb v 0 ≡ t → length (upper k (v / 128)) ≤ j → length (upper (suc k) v) ≤ suc j
     go true e ih = rw (eqb-true v 0 e, upper-zero) (omega arith)
     go false e ih = rw (upper-step k v (eqb-false v 0 e), length-append) (omega arith)
+
+-- one that is not has more, where the fuel lasts
+pub upper-least : (k j v : ℕ) → 128 ^ j ≤ v → suc j ≤ k → suc j ≤ length (upper k v)
+upper-least zero j v h fuel = absurd (omega arith)
+upper-least (suc k) zero v h fuel =
+    rw (upper-step k v (λ e. omega (arith, one-le-pow 0 128 (lit< tt))), length-append) (omega arith)
+upper-least (suc k) (suc j) v h fuel =
+    rw (upper-step k v (λ e. omega (arith, one-le-pow (suc j) 128 (lit< tt))), length-append)
+    (omega (arith, upper-least k j (v / 128) (above-le j h) (omega arith)))
 
 -- no more groups than fuel
 pub upper-fuel : (k v : ℕ) → length (upper k v) ≤ k

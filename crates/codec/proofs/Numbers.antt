@@ -1,18 +1,18 @@
 -- Whole numbers, pure: a written number reads back whatever stands before and after it; every number that is accepted
 -- is, written again, the same bytes; how many bytes a number takes.
-use Prim.Native.Nat.{ℕ, suc, _+_, _-_, _/_, _%_, _^_, _≤_, _<_}
+use Prim.Native.Nat.{ℕ, zero, suc, _+_, _-_, _/_, _%_, _^_, _≤_, _<_}
 use native.Mathlib.Omega.{arith}
 use mathlib.Core.Bool.{Bool, true, false, cond}
 use mathlib.Core.List.{List, [], _∷_, _++_, append-assoc}
 use mathlib.Core.Option.{Option, none, some}
 use mathlib.Core.Path.{_≡_, refl, sym, ap, ap₂, _∙_}
-use lib.Dec.{leb}
+use lib.Dec.{leb, lit≤}
 use lib.ListN.{length, drop, take, length-append}
 use lib.Seq.{drop-append-seam}
 use borrow.Author.Tests.{le-leb, leb-true}
 use Rattle.machine.specs.Limits.{maxNumberBytes, fiveGroups, maxReportNumberBytes, maxReportNumber}
 use Rattle.machine.specs.Number.{Number, upper, numberBytes, groups, padded, within, readNumber}
-use Rattle.codec.proofs.Groups.{Bytes, above-lt, upper-zero, upper-step, upper-length, upper-fuel, lengthened, lengthened-some, groups-last, groups-upper, groups-bytes, groups-size, padded-upper, none-some}
+use Rattle.codec.proofs.Groups.{Bytes, above-lt, above-le, upper-zero, upper-length, upper-least, upper-fuel, lengthened, lengthened-some, groups-last, groups-upper, groups-bytes, groups-size, padded-upper, none-some}
 
 -- ---- Length
 
@@ -28,24 +28,23 @@ pub numberBytes-positive : (v : ℕ) → 1 ≤ length (numberBytes v)
 unfolding numberBytes
 numberBytes-positive v = rw length-append (omega arith)
 
--- the length counted from the last group up
-pub length-start : (v : ℕ) → 1 + length (upper 8 (v / 128)) ≡ length (numberBytes v)
-unfolding numberBytes
-length-start v = rw length-append (omega arith)
+-- and as many as its groups
+pub numberBytes-least : (j v : ℕ) → 128 ^ j ≤ v → j ≤ 8 → suc j ≤ length (numberBytes v)
+numberBytes-least zero v h most = numberBytes-positive v
+numberBytes-least (suc j) v h most = go (upper-least 8 j (v / 128) (above-le j h) most)
+  where
+    go : suc j ≤ length (upper 8 (v / 128)) → suc (suc j) ≤ length (numberBytes v)
+    go up = unfold numberBytes in rw length-append (omega arith)
 
-pub length-step : (len v : ℕ) → len < 9 → (v ≡ 0 → ⊥) →
-    len + 1 + length (upper (9 - (len + 1)) (v / 128)) ≡ len + length (upper (9 - len) v)
-length-step len v h n =
-    let e : 9 - len ≡ suc (9 - (len + 1)) = omega arith in
-    rw (e, upper-step _ v n, length-append) (omega arith)
+-- so between two powers of 128 there is one length
+pub numberBytes-one : (v : ℕ) → v < 128 → length (numberBytes v) ≡ 1
+numberBytes-one v h = omega (arith, numberBytes-length 0 v h, numberBytes-positive v)
 
--- nine bytes, or nothing above
-pub length-full : (len v : ℕ) → len ≡ 9 → len ≡ len + length (upper (9 - len) v)
-unfolding upper
-length-full len v e = rw (e) (omega arith)
+pub numberBytes-exact : (j v : ℕ) → 128 ^ j ≤ v → v < 128 ^ suc j → j ≤ 8 → length (numberBytes v) ≡ suc j
+numberBytes-exact j v least h most = omega (arith, numberBytes-length j v h, numberBytes-least j v least most)
 
-pub length-done : (len v : ℕ) → v ≡ 0 → len ≡ len + length (upper (9 - len) v)
-length-done len v e = rw (e, upper-zero (9 - len)) (omega arith)
+pub numberBytes-nine : (v : ℕ) → 128 ^ 8 ≤ v → length (numberBytes v) ≡ 9
+numberBytes-nine v h = omega (arith, numberBytes-longest v, numberBytes-least 8 v h (lit≤ tt))
 
 -- ---- Written, then read
 

@@ -1,17 +1,15 @@
 -- A number at a position, pure: with room its bytes stand there, without room nothing changes.
 use Prim.Native.Nat.{ℕ, _+_, _≤_, _<_}
-use native.Mathlib.Nat.{zero-add}
 use native.Mathlib.Omega.{arith}
 use mathlib.Core.Bool.{Bool, true, false}
-use mathlib.Core.List.{List, _++_}
-use mathlib.Core.Path.{_≡_, refl, sym, ap, ap₂, _∙_}
+use mathlib.Core.List.{List}
+use mathlib.Core.Path.{_≡_, refl, ap, _∙_}
 use lib.Dec.{leb}
-use lib.ListN.{length, length-append}
+use lib.ListN.{length}
 use lib.Seq.{sets, length-sets}
 use borrow.Author.Tests.{le-leb, lt-leb, leb-true, leb-false}
 use Rattle.machine.specs.Number.{numberBytes}
 use Rattle.codec.specs.Writing.{Written, written, put}
-use Rattle.codec.proofs.Stores.{sets-append}
 
 pub put-room : (at v : ℕ) (l : List ℕ) → at + length (numberBytes v) ≤ length l →
     put v (written at l) ≡ written (at + length (numberBytes v)) (sets l at (numberBytes v))
@@ -44,11 +42,3 @@ put-inside at v r l m h e = go (leb (at + length (numberBytes v)) (length l)) re
     go false f =
         let same = e ∙ put-full at v l (leb-false _ _ f) in
         omega (arith, written-at _ _ _ _ same, ap length (written-bytes _ _ _ _ same))
-
--- behind bytes that stand at the front
-pub put-behind : (u l : List ℕ) (v : ℕ) → length (u ++ numberBytes v) ≤ length l →
-    put v (written (length u) (sets l 0 u)) ≡ written (length (u ++ numberBytes v)) (sets l 0 (u ++ numberBytes v))
-put-behind u l v h =
-    let n = length-append u (numberBytes v) in
-    put-room (length u) v (sets l 0 u) (omega (arith, length-sets l 0 u))
-    ∙ ap₂ written (sym n) (ap (λ (i : ℕ). sets (sets l 0 u) i (numberBytes v)) (sym (zero-add (length u))) ∙ sets-append u (numberBytes v) l 0)

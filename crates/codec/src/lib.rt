@@ -7,7 +7,7 @@ ghost use Prim.Native.Nat.{ℕ, _+_, _≤_, _<_};
 ghost use lib.Dec.{leb};
 ghost use lib.ListN.{length, drop};
 ghost use lib.Seq.{sets};
-ghost use Rattle.machine.specs.Limits.{maxNumberBytes, maxReportNumberBytes, maxReportNumber};
+ghost use Rattle.machine.specs.Limits.{fiveGroups, maxNumberBytes, maxReportNumberBytes, maxReportNumber};
 ghost use Rattle.machine.specs.Number.{groups, within, readNumber, numberBytes};
 ghost use Rattle.machine.specs.Parser.{fieldUpTo};
 ghost use Rattle.codec.specs.Answers.{numberOf, readAs, cursorAt, parsedOf};
@@ -116,20 +116,52 @@ pub fn read_field(s: &[u8], at: usize, most: u64, lo: u64, hi: u64, code: u8) ->
     Field::Value(v, next)
 }
 
+// Numbers below these take so many bytes.
+const END_1: u64 = 128;
+
+const END_2: u64 = 16_384;
+
+const END_3: u64 = 2_097_152;
+
+const END_4: u64 = 268_435_456;
+
+const END_5: u64 = 34_359_738_368;
+
+const END_6: u64 = 4_398_046_511_104;
+
+const END_7: u64 = 562_949_953_421_312;
+
+const END_8: u64 = 72_057_594_037_927_936;
+
 // How many bytes a number takes.
 pub fn number_len(v: u64) -> usize
     ensures { λ r. ⌜ r ≡ length (numberBytes v) ⌝ }
 {
-    let mut len = 1;
-    let mut above = v / GROUP;
-    while above != 0 {
-        if len == Model::REPORT_NUMBER_BYTES {
-            return len;
-        }
-        len += 1;
-        above /= GROUP;
+    if v < END_1 {
+        return 1;
     }
-    len
+    if v < END_2 {
+        return 2;
+    }
+    if v < END_3 {
+        return 3;
+    }
+    if v < END_4 {
+        return 4;
+    }
+    if v < END_5 {
+        return 5;
+    }
+    if v < END_6 {
+        return 6;
+    }
+    if v < END_7 {
+        return 7;
+    }
+    if v < END_8 {
+        return 8;
+    }
+    Model::REPORT_NUMBER_BYTES
 }
 
 // Writes the `len` bytes of a number at a position with room for them.
@@ -161,4 +193,32 @@ pub fn write_number(out: &mut [u8], at: usize, v: u64) -> usize
     }
     store_number(out, at, v, len);
     at + len
+}
+
+// Writes a number of at most five groups where there is room for it and returns the position after it. Each length has its own
+// stores, so that nothing is counted.
+pub fn put_number(out: &mut [u8], at: usize, v: u64) -> usize
+    requires { ⌜ v ≤ fiveGroups ⌝ }
+    requires { ⌜ at + length (numberBytes v) ≤ length (now out) ⌝ }
+    ensures position { λ r. ⌜ r ≡ at + length (numberBytes v) ⌝ }
+    ensures bytes { λ _. ⌜ now (out .exit) ≡ sets (now (out .entry)) at (numberBytes v) ⌝ }
+{
+    if v < END_1 {
+        store_number(out, at, v, 1);
+        return at + 1;
+    }
+    if v < END_2 {
+        store_number(out, at, v, 2);
+        return at + 2;
+    }
+    if v < END_3 {
+        store_number(out, at, v, 3);
+        return at + 3;
+    }
+    if v < END_4 {
+        store_number(out, at, v, 4);
+        return at + 4;
+    }
+    store_number(out, at, v, Model::NUMBER_BYTES);
+    at + Model::NUMBER_BYTES
 }

@@ -7,7 +7,7 @@ use mathlib.Core.List.{List, [], _∷_, _++_, reverse}
 use mathlib.Core.Option.{Option, none, some}
 use mathlib.Core.Path.{_≡_, refl, sym, ap, subst, _∙_}
 use lib.ListN.{length, length-map, length-reverse}
-use lib.Dec.{leb}
+use lib.Dec.{T, leb}
 use borrow.Author.Tests.{le-leb}
 use Rattle.codec.proofs.Fields.{both-true}
 use Rattle.machine.specs.Rules.{inForce}
@@ -21,7 +21,7 @@ use Rattle.machine.specs.Turn.{arriveAll, moveClock, nextEvents, takeFirst, tak
 use Rattle.machine.specs.Run.{idle, start, run}
 use Rattle.machine.specs.Validate.{Validation, accept, reject, validate}
 use Rattle.machine.specs.Outcome.{recordsOf, acceptedRun, refusedRun, outcomeOf, outcome}
-use Rattle.machine.specs.Claims.{Each}
+use Rattle.machine.specs.Claims.{Each, statedEnd}
 use Rattle.machine.proofs.Proper.{Proper}
 use Rattle.machine.proofs.ProperFrom.{proper-from, rules-from}
 use Rattle.machine.proofs.RunLaws.{Taken, each-map, last-state}
@@ -149,7 +149,7 @@ module _ {m : BlockModel} {tape : List (List ℕ)} (proper : Proper m tape) (rul
   both-turn s t h = (kept-turn proper rules room budget s t (h .0), noted-turn proper s (h .0 .sure) (t .no-end) (t .serials) (t .turns-left) (h .1))
 
   both-last : Both (run m tape budget room)
-  both-last = last-state m budget room Both both-turn (λ s e c h. (kept-end proper rules room budget s e (h .0), h .1)) tape both-start
+  both-last = last-state m budget room Both both-turn (λ s e c h. (kept-end proper rules room budget s e (λ z. subst (λ (n : ℕ). T (statedEnd n)) z (c .stated)) (h .0), h .1)) tape both-start
 
   pub run-taken : Such (traceBytes (recordsOf (run m tape budget room))) (recordsOf (run m tape budget room))
   run-taken =

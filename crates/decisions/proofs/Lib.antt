@@ -5,3 +5,4 @@ pub mod Parameters
 pub mod QueueLaws
 pub mod SchemeLaws
 pub mod Sees
+pub mod Sharing

@@ -1,5 +1,5 @@
 -- The WS scheme over the rows is the machine's.
-use Prim.Native.Nat.{ℕ, _-_, _*_, _≤_, _<_}
+use Prim.Native.Nat.{ℕ, _+_, _-_, _*_, _≤_, _<_}
 use mathlib.Core.Path.{_≡_, refl, sym, ap, _∙_, subst}
 use mathlib.Core.Bool.{Bool, true, false, cond, not}
 use mathlib.Core.List.{List, _∷_}
@@ -8,7 +8,6 @@ use native.Mathlib.Omega.{arith}
 use borrow.Author.Tests.{ltb-true, ltb-false, lt-ltb, le-ltb}
 use lib.Dec.{ltb, eqb}
 use lib.ListN.{length, getD, List·getD-eq-default}
-use lib.IntN.{ℤ}
 use Rattle.machine.specs.Transaction.{Transaction}
 use Rattle.machine.specs.Term.{View, compare, Term, Relation, truth}
 use Rattle.machine.specs.Block.{Block, terminate, facility, storage, waitTerms, facts, BlockModel}
@@ -24,19 +23,19 @@ use Rattle.rows_laws.specs.Layout.{head, wsl}
 use Rattle.rows_laws.specs.Cells.{read}
 use Rattle.rows_laws.specs.Wake.{wakeAll}
 use Rattle.rows_laws.specs.Holds.{transactionAt}
+use Rattle.terms.specs.Evaluation.{relatedBy}
 use Rattle.terms.specs.Nested.{Nested}
 use Rattle.terms.specs.Sees.{Sees}
 use Rattle.terms.proofs.Found.{at-first}
-use Rattle.terms.proofs.Laws.{wait-law}
 use Rattle.state.specs.Sane.{Sane}
 use Rattle.state.specs.Stands.{Rows, rowsOf, Stands}
 use Rattle.state.proofs.StandsLaws.{tallying-ext, counting-ext, stands-of}
 use Rattle.state.proofs.WakingLaws.{wake-wsl-listing}
-use Rattle.decisions.specs.Comparison.{parametersAt, holdsAt}
-use Rattle.decisions.specs.Scheme.{blockOf, leaves, wsScheme}
+use Rattle.decisions.specs.Scheme.{blockOf, leavesFrom, leaves, wsScheme}
+use Rattle.decisions.specs.Sides.{sideAt}
 use Rattle.decisions.proofs.Sees.{Low, sees}
-use Rattle.decisions.proofs.Parameters.{parameters-are}
 use Rattle.decisions.proofs.Operands.{numbers}
+use Rattle.decisions.proofs.Sharing.{sides-law}
 use Rattle.tables.proofs.BlockKinds.{Kinds, generating, taking, waiting, arriving, preempting, other, kinds, unasked}
 
 -- ---- Whether a row leaves
@@ -47,7 +46,9 @@ module _ {m : BlockModel} {tape : List (List ℕ)} {tapeBytes tables lists : Lis
   i = read w 6 k - 1
 
   abbrev holding : Bool
-  holding = holdsAt tables (length (m .values)) w tally clock k (blockOf w k)
+  holding =
+      relatedBy (getD tables (blockOf w k + 3) 0) (sideAt tables (length (m .values)) tally clock w k (blockOf w k + 1))
+      (sideAt tables (length (m .values)) tally clock w k (blockOf w k + 4))
 
   abbrev waitsAt : Block → Bool
   waitsAt b = Turn.holds (m .values) view (transactionAt w k .parameters) (facts b .waitsWhile)
@@ -73,9 +74,8 @@ module _ {m : BlockModel} {tape : List (List ℕ)} {tapeBytes tables lists : Lis
 
         compared : (a : Term) (o : Relation) (c : Term) → b ≡ waitTerms a o c → holding ≡ compare (m .values) view (transactionAt w k .parameters) a o c
         compared a o c e =
-            unfold holdsAt blockOf in
-            wait-law rep nested seen (parametersAt w k) i inside a o c (f ∙ e)
-            ∙ ap (λ (l : List ℤ). compare (m .values) view l a o c) (parameters-are w k)
+            unfold blockOf in
+            sides-law rep nested seen w k i inside a o c (f ∙ e)
 
         go : Kinds b → cond (eqb (getD tables (blockOf w k) 0) 9) (not holding) true ≡ not (waitsAt b)
         go (generating list p e) = like e (unfold blockForms in another _ 1 _ refl refl refl (f ∙ e))
@@ -100,7 +100,7 @@ module _ {m : BlockModel} {tape : List (List ℕ)} {tapeBytes tables lists : Lis
   outside h = rw (List·getD-eq-default (m .blocks) (terminate 0) h)
 
   pub leaves-agrees : leaves tables (length (m .blocks)) (length (m .values)) tally clock w k ≡ not (Turn.waitsOn m view (transactionAt w k))
-  unfolding leaves Turn.waitsOn transactionAt
+  unfolding leaves leavesFrom Turn.waitsOn transactionAt
   leaves-agrees = go (ltb i (length (m .blocks))) refl
     where
       go : (b : Bool) → ltb i (length (m .blocks)) ≡ b

@@ -31,7 +31,7 @@ ghost use Rattle.decisions.specs.Comparison.{parametersAt, holdsAt, wort
 const PARAMETERS: u32 = Model::PARAMETERS as u32;
 
 // The parameters of row k, as bits.
-fn parameters_of(work: &[u32], k: u32) -> [u32; Model::PARAMETERS]
+pub fn parameters_of(work: &[u32], k: u32) -> [u32; Model::PARAMETERS]
     requires { ⌜ k < rowCount ⌝ }
     ensures { λ r. ⌜ r ≡ parametersAt (now (work .entry)) k ⌝ }
 {

@@ -3,6 +3,7 @@ mod comparison;
 mod jumps;
 mod queues;
 mod scheme;
+mod sides;
 
 pub use comparison::assign;
 pub use comparison::branch;

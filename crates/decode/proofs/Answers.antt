@@ -11,6 +11,7 @@ use Rattle.machine.specs.Block.{BlockModel}
 use Rattle.machine.specs.Validate.{modelOf, tapeOf, beginning, Validation, accept, reject, withTape, withModel, validate}
 use Rattle.constants.specs.declared.model.Model.{Model}
 use Rattle.tables.specs.Represents.{headerOf, Represents}
+use Rattle.watch.specs.Watch.{watched}
 use Rattle.decode.specs.declared.Decoded.{Decoded}
 use Rattle.decode.specs.declared.Decoded.the-variants.{Model as Accepted, Refused}
 use Rattle.decode.specs.declared.Tape.{Tape}
@@ -18,21 +19,23 @@ use Rattle.decode.specs.declared.Tape.the-variants.{At, Refused as NoTap
 use Rattle.decode.specs.Models.{tablesOf, ProperModel, Models}
 use Rattle.decode.specs.Lists.{emptyLists, Filled, Lists}
 use Rattle.decode.specs.Decodes.{Decodes, refusalOf}
-use Rattle.decode.proofs.Represented.{block-at, block-small, value-at, value-small, capacity-at, edition-at}
+use Rattle.decode.proofs.Represented.{allTables, block-stays, block-small, value-stays, value-small, capacity-stays, edition-stays, all-watching, all-sharing}
 use Rattle.decode.proofs.Lists.{tape-length, all-begin, all-counts}
 
-represented : (m : BlockModel) (tape : List (List ℕ)) (bytes cells : List ℕ) → ProperModel m → length tape ≡ m .lists → Filled bytes 0 emptyLists cells tape →
-    Represents m tape bytes (tablesOf m) cells
+represented : (m : BlockModel) (tape : List (List ℕ)) (bytes cells : List ℕ) → (w : ProperModel m) → length tape ≡ m .lists → Filled bytes 0 emptyLists cells tape →
+    Represents m tape bytes (allTables m w) cells
 represented m tape bytes cells w n f =
     let few : length tape ≤ 16 = rw n (w .lists) in
     record {
       rules = w .rules;
-      edition = edition-at m w;
-      blocks = block-at m w;
+      edition = edition-stays m w;
+      blocks = block-stays m w;
       small-blocks = block-small m w;
-      values = value-at m w;
+      values = value-stays m w;
       small-values = value-small m w;
-      capacities = λ v h. capacity-at m w v h;
+      capacities = λ v h. capacity-stays m w v h;
+      watching = all-watching m w;
+      sharing = all-sharing m w;
       begins = λ k h. all-begin bytes tape cells few f k (omega arith);
       counts = λ k h. all-counts bytes tape cells few f k h;
     }
@@ -46,6 +49,17 @@ few-lists (parsed m c) {tables} {r} {h} d told =
     let g = ap (λ (x : Model). x .lists) f in
     omega (arith, d .held .2 .lists)
 few-lists (refused i) d told = let e = sym told ∙ d .held in let z : _≡_ {A = ℕ} 0 1 = cc in absurd (omega arith)
+
+-- and at most 256 blocks and 8 values
+pub few-rows : (P : Parsed BlockModel) {tables : List ℕ} {r : Decoded} {h : Model} → Models tables r P → r ≡ Accepted h → (h .blocks ≤ 256) × (h .values ≤ 8)
+unfolding headerOf
+few-rows (parsed m c) {tables} {r} {h} d told =
+    let e = sym told ∙ d .held .0 in
+    let f : h ≡ headerOf m = cc in
+    let g = ap (λ (x : Model). x .blocks) f in
+    let i = ap (λ (x : Model). x .values) f in
+    (omega (arith, d .held .2 .blocks), omega (arith, d .held .2 .values))
+few-rows (refused i) d told = let e = sym told ∙ d .held in let z : _≡_ {A = ℕ} 0 1 = cc in absurd (omega arith)
 
 -- the number of the answer
 pub refusal-of : (v : Validation) (tape tables lists : List ℕ) (r : Decoded) → Decodes tape r tables lists v →
@@ -96,20 +110,21 @@ module _ (model tape : List ℕ) (work report : ℕ) (tables lists : List ℕ) w
                   last m _ (subst (λ (q : Rules). Lists tape 0 emptyLists lists r₂ (tapeOf q tape (m .lists) beginning)) (sym (d .held .2 .rules)) (rw (ap (λ (x : Model). x .lists) f) at k₂))
               go (refused i) d = let e = sym told ∙ d .held in let z : _≡_ {A = ℕ} 0 1 = cc in absurd (omega arith)
 
-          pub all-answered : {end : ℕ} → r₂ ≡ At end → Decodes tape (Accepted h) tables lists (validate inForce model tape work report)
+          pub all-answered : {end : ℕ} {after : List ℕ} → r₂ ≡ At end → after ≡ watched (h .blocks) (h .values) tables
+              → Decodes tape (Accepted h) after lists (validate inForce model tape work report)
           unfolding withModel withTape headerOf
-          all-answered {end} told₂ = rw asked (go (modelOf inForce model beginning) k)
+          all-answered {end} {after} told₂ marked = rw asked (go (modelOf inForce model beginning) k)
             where
               last : (m : BlockModel) → h ≡ headerOf m → tables ≡ tablesOf m → ProperModel m → (P : Parsed (List (List ℕ))) → tapeOf inForce tape (m .lists) beginning ≡ P →
-                  Lists tape 0 emptyLists lists r₂ P → Decodes tape (Accepted h) tables lists (withTape m P)
+                  Lists tape 0 emptyLists lists r₂ P → Decodes tape (Accepted h) after lists (withTape m P)
               last m f cells w (parsed t c) p d =
-                  (ap Accepted f, rw cells (represented m t tape lists w (tape-length tape (m .lists) t c p) (d .held .1)))
+                  (ap Accepted f, rw (marked, cells, f) (represented m t tape lists w (tape-length tape (m .lists) t c p) (d .held .1)))
               last m f cells w (refused i) p d = let e = sym told₂ ∙ d .held in let z : _≡_ {A = ℕ} 0 1 = cc in absurd (omega arith)
 
-              go : (P : Parsed BlockModel) → Models tables r P → Decodes tape (Accepted h) tables lists (withModel tape P)
+              go : (P : Parsed BlockModel) → Models tables r P → Decodes tape (Accepted h) after lists (withModel tape P)
               go (parsed m c) d =
                   let e = sym told ∙ d .held .0 in
                   let f : h ≡ headerOf m = cc in
-                  subst (λ (q : Rules). Decodes tape (Accepted h) tables lists (withTape m (tapeOf q tape (m .lists) beginning))) (sym (d .held .2 .rules))
+                  subst (λ (q : Rules). Decodes tape (Accepted h) after lists (withTape m (tapeOf q tape (m .lists) beginning))) (sym (d .held .2 .rules))
                   (last m f (d .held .1) (d .held .2) (tapeOf inForce tape (m .lists) beginning) refl (rw (ap (λ (x : Model). x .lists) f) at k₂))
               go (refused i) d = let e = sym told ∙ d .held in let z : _≡_ {A = ℕ} 0 1 = cc in absurd (omega arith)

@@ -13,7 +13,7 @@ use Rattle.machine.specs.Block.{terminate, BlockModel}
 use Rattle.constants.specs.declared.model.Model.{Model}
 use Rattle.tables.specs.Forms.{blockForms}
 use Rattle.tables.specs.Numbers.{sumNumbers, blockNumbers}
-use Rattle.tables.specs.Represents.{At, smallBlock, smallSum}
+use Rattle.tables.specs.Represents.{At, smallBlock, smallSum, Watching, Sharing}
 use Rattle.values.specs.Keeps.{numberShape}
 use Rattle.values.specs.Rows.{storedRows, Each}
 use Rattle.values.specs.Shapes.{ProperValue}
@@ -22,6 +22,9 @@ use Rattle.values.proofs.Rows.{each-at, each-map}
 use Rattle.program.specs.Formed.{Formed}
 use Rattle.program.specs.Shapes.{capacitiesOf}
 use Rattle.program.proofs.Question.{Standing}
+use Rattle.watch.specs.Watch.{watched}
+use Rattle.watch.proofs.Reaching.{Stored}
+use Rattle.watch.proofs.Watching.{watched-frame, watched-length, stored-same, watching, sharing}
 use Rattle.decode.specs.Stages.{emptyTables, Capacity, Servers, ProperServers, serversCells}
 use Rattle.decode.specs.Models.{tablesOf, ProperModel}
 
@@ -32,17 +35,17 @@ zeros zero i = refl
 zeros (suc n) zero = refl
 zeros (suc n) (suc i) = zeros n i
 
-length-empty : (edition : ℕ) → length (emptyTables edition) ≡ 2625
+length-empty : (edition : ℕ) → length (emptyTables edition) ≡ 2890
 unfolding emptyTables
-length-empty edition = length-set (replicate 2625 0) 2624 edition ∙ length-replicate {A = ℕ} 2625 0
+length-empty edition = length-set (replicate 2890 0) 2624 edition ∙ length-replicate {A = ℕ} 2890 0
 
 empty-zero : (edition i : ℕ) → (i ≡ 2624 → ⊥) → getD (emptyTables edition) i 0 ≡ 0
 unfolding emptyTables
-empty-zero edition i ne = getD-set-other (replicate 2625 0) 2624 i edition 0 ne ∙ zeros 2625 i
+empty-zero edition i ne = getD-set-other (replicate 2890 0) 2624 i edition 0 ne ∙ zeros 2890 i
 
 empty-edition : (edition : ℕ) → getD (emptyTables edition) 2624 0 ≡ edition
 unfolding emptyTables
-empty-edition edition = getD-set-same (replicate 2625 0) 2624 edition 0 (omega (arith, length-replicate {A = ℕ} 2625 0))
+empty-edition edition = getD-set-same (replicate 2890 0) 2624 edition 0 (omega (arith, length-replicate {A = ℕ} 2890 0))
 
 -- ---- Facilities and storages
 
@@ -53,7 +56,7 @@ module _ (a : Servers) (w : ProperServers a) where
   abbrev empty : List ℕ
   empty = emptyTables (a .edition)
 
-  pub length-servers : length (serversCells a) ≡ 2625
+  pub length-servers : length (serversCells a) ≡ 2890
   length-servers = length-rows number 1 (a .capacities) (2560 + a .facilities) _ ∙ length-sets empty 2560 (replicate (a .facilities) 1) ∙ length-empty (a .edition)
 
   single : (l : List ℕ) → Each (λ v. length (number v) ≤ 1) l
@@ -129,7 +132,7 @@ module _ (a : Servers) (w : ProperServers a) (sums : List Sum) (few : length sum
   abbrev cells : List ℕ
   cells = storedRows sumNumbers 64 2048 sums (serversCells a)
 
-  length-cells : length cells ≡ 2625
+  length-cells : length cells ≡ 2890
   length-cells = length-rows sumNumbers 64 sums 2048 (serversCells a) ∙ length-servers a w
 
   after-values : (i : ℕ) → 2560 ≤ i → getD cells i 0 ≡ getD (serversCells a) i 0
@@ -165,13 +168,13 @@ module _ (m : BlockModel) (w : ProperModel m) where
   abbrev below-blocks : List ℕ
   below-blocks = cells servers proper-servers (m .values) (w .values) (w .value)
 
-  length-below : length below-blocks ≡ 2625
+  length-below : length below-blocks ≡ 2890
   length-below = length-cells servers proper-servers (m .values) (w .values) (w .value)
 
   fits-block : Each (λ b. length (blockNumbers b) ≤ 8) (m .blocks)
   fits-block = each-map (Formed (length (m .blocks))) (λ b. length (blockNumbers b) ≤ 8) (λ b h. h .width) (m .blocks) (w .block)
 
-  length-tables : length (tablesOf m) ≡ 2625
+  pub length-tables : length (tablesOf m) ≡ 2890
   unfolding tablesOf
   length-tables = length-rows blockNumbers 8 (m .blocks) 0 below-blocks ∙ length-below
 
@@ -229,3 +232,42 @@ module _ (m : BlockModel) (w : ProperModel m) where
       go : (x : Bool) → ltb k (length (m .values)) ≡ x → T (smallSum (getD (m .values) k nothing))
       go true e = each-at ProperValue (m .values) nothing (w .value) k (ltb-true k (length (m .values)) e) .1
       go false e = rw (List·getD-eq-default (m .values) nothing (ltb-false k (length (m .values)) e)) tt
+
+  -- ---- With the cells that say what the WAITIFs read
+
+  stored : Stored m (tablesOf m)
+  stored =
+      record {
+        blocks = block-at;
+        narrow = λ b h. each-at (Formed (length (m .blocks))) (m .blocks) (terminate 0) (w .block) b h .width;
+        values = value-at;
+        short = λ k h. each-at ProperValue (m .values) nothing (w .value) k h .0;
+        few = w .values;
+        most = w .blocks;
+      }
+
+  abbrev pub allTables : List ℕ
+  allTables = watched (length (m .blocks)) (length (m .values)) (tablesOf m)
+
+  stored-all : Stored m allTables
+  stored-all =
+      stored-same (tablesOf m) allTables (watched-length (length (m .blocks)) (length (m .values)) (tablesOf m))
+      (watched-frame (length (m .blocks)) (length (m .values)) (tablesOf m)) stored
+
+  pub block-stays : (b : ℕ) → b < length (m .blocks) → At allTables (8 * b) (blockNumbers (getD (m .blocks) b (terminate 0)))
+  block-stays = stored-all .blocks
+
+  pub value-stays : (k : ℕ) → k < length (m .values) → At allTables (2048 + 64 * k) (sumNumbers (getD (m .values) k nothing))
+  value-stays = stored-all .values
+
+  pub capacity-stays : (v : ℕ) → v < 64 → getD allTables (2560 + v) 0 ≡ getD (replicate (m .facilities) 1 ++ m .capacities) v 0
+  capacity-stays v small = watched-frame (length (m .blocks)) (length (m .values)) (tablesOf m) (2560 + v) (omega arith) ∙ capacity-at v small
+
+  pub edition-stays : getD allTables 2624 0 ≡ m .edition
+  edition-stays = watched-frame (length (m .blocks)) (length (m .values)) (tablesOf m) 2624 (omega arith) ∙ edition-at
+
+  pub all-watching : Watching m allTables
+  all-watching = watching stored (omega (arith, length-tables))
+
+  pub all-sharing : Sharing m allTables
+  all-sharing = sharing stored (omega (arith, length-tables))

@@ -24,6 +24,7 @@ use values::Stored;
 use values::Taken;
 use values::number;
 use values::values;
+use watch::watch;
 ghost use mathlib.Core.Path.{_≡_};
 ghost use Prim.Native.Nat.{ℕ, _+_, _*_, _≤_, _<_};
 ghost use lib.ListN.{replicate};
@@ -342,7 +343,10 @@ pub fn decode(
         Decoded::Refused(n) => Decoded::Refused(n),
         Decoded::Model(m) => match whole_tape(tape, lists, m.lists) {
             Tape::Refused(n) => Decoded::Refused(n),
-            Tape::At(_) => Decoded::Model(m),
+            Tape::At(_) => {
+                watch(tables, m.blocks, m.values);
+                Decoded::Model(m)
+            }
         },
     }
 }

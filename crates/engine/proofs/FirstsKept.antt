@@ -92,7 +92,7 @@ module _ (model tape : List ℕ) (budget : ℕ) (work trace report : List ℕ) (
         turns = λ a s t g h. f .turns a s t (g .kept) h;
         closes = f .closes;
         good-turn = λ s t g. record { kept = f .good-turn s t (g .kept); apart = λ w. apart-turn w m s (g .apart w) };
-        good-end = λ s e g. record { kept = f .good-end s e (g .kept); apart = g .apart };
+        good-end = λ s e z g. record { kept = f .good-end s e z (g .kept); apart = g .apart };
       }
 
   along : Along (Firsts m) (statesRows (headerOf m) tables lists tape budget work trace) (states m times budget (length trace))

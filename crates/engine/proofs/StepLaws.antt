@@ -62,7 +62,7 @@ pub record Follows (m : BlockModel) (budget room : ℕ) {A : Type 0} (endOf : A 
   pub turns : (a : A) (s : State) → Taken budget room s → Good s → R a s → R (step a) (turn m s)
   pub closes : (a : A) (s : State) (e : ℕ) → R a s → R (close e a) (setEnd e s)
   pub good-turn : (s : State) → Taken budget room s → Good s → Good (turn m s)
-  pub good-end : (s : State) (e : ℕ) → Good s → Good (setEnd e s)
+  pub good-end : (s : State) (e : ℕ) → (e ≡ 0 → ⊥) → Good s → Good (setEnd e s)
 
 module _ (m : BlockModel) (budget room : ℕ) {A : Type 0} (endOf : A → ℕ) (step : A → A) (close : ℕ → A → A) (R : A → State → Type 0) (Good : State → Type 0)
     (f : Follows m budget room endOf step close R Good) where
@@ -87,7 +87,7 @@ module _ (m : BlockModel) (budget room : ℕ) {A : Type 0} (endOf : A → ℕ) (
       go false e rest =
           let z : (endBefore budget room s ≡ 0 → ⊥) = eqb-false _ _ e in
           rw (run-off m budget room n s z, steps-off endOf step close n a (λ q. z (sym same ∙ q)), same)
-          (f .closes a s (endBefore budget room s) h, f .good-end s (endBefore budget room s) g)
+          (f .closes a s (endBefore budget room s) h, f .good-end s (endBefore budget room s) z g)
 
   -- what follows from both in each state, each state of the run has beside the machine's
   pub states-follow : (P : A → State → Type 0) → ((a : A) (s : State) → R a s → Good s → P a s) → (n : ℕ) (a : A) (s : State) → R a s → Good s
@@ -109,4 +109,4 @@ module _ (m : BlockModel) (budget room : ℕ) {A : Type 0} (endOf : A → ℕ) (
       go false e rest =
           let z : (endBefore budget room s ≡ 0 → ⊥) = eqb-false _ _ e in
           rw (states-off m budget room n s z, passed-off endOf step close n a (λ q. z (sym same ∙ q)), same)
-          (p _ _ (f .closes a s (endBefore budget room s) h) (f .good-end s (endBefore budget room s) g), tt)
+          (p _ _ (f .closes a s (endBefore budget room s) h) (f .good-end s (endBefore budget room s) z g), tt)

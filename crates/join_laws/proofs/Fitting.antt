@@ -1,5 +1,6 @@
 -- A joined model is at most 8,632 numbers, so it fits the room that is kept for it; and there its bytes stand at the front.
 use Prim.Native.Nat.{ℕ, zero, suc, _+_, _*_, _-_, _≤_, _<_}
+use native.Mathlib.Nat.{zero-add}
 use native.Mathlib.Omega.{arith}
 use mathlib.Core.Path.{_≡_, refl, sym, ap, ap₂, subst, _∙_}
 use mathlib.Core.List.{List, [], _∷_, _++_, map, append-assoc, append-nil}
@@ -15,7 +16,8 @@ use Rattle.tables.specs.Layout as Layout
 use Rattle.tables.specs.Numbers.{relationNumber, terms, termNumbers, signedTerms, sumNumbers}
 use Rattle.tables.specs.Represents.{At, headerOf}
 use Rattle.codec.specs.Writing.{Written, written, put}
-use Rattle.codec.proofs.Writing.{put-behind}
+use Rattle.codec.proofs.Stores.{sets-append}
+use Rattle.codec.proofs.Writing.{put-room}
 use Rattle.joined.specs.Join.{Part, first, second, termIn, sumIn}
 use Rattle.join_laws.specs.declared.shift.Shift.{Shift}
 use Rattle.join_laws.specs.Written.{storedTerm, storedTerms, storedSum, numbersBytes}
@@ -142,6 +144,14 @@ module _ (m₁ m₂ : BlockModel) (tables₁ tables₂ : List ℕ) (size₁ : le
   joined-most = omega (arith, rows-most, bytes-most (joinedRows tables₁ (headerOf m₁) tables₂ (headerOf m₂)))
 
 -- ---- Written with room
+
+-- behind bytes that stand at the front
+put-behind : (u l : List ℕ) (v : ℕ) → length (u ++ numberBytes v) ≤ length l
+    → put v (written (length u) (sets l 0 u)) ≡ written (length (u ++ numberBytes v)) (sets l 0 (u ++ numberBytes v))
+put-behind u l v h =
+    let n = length-append u (numberBytes v) in
+    put-room (length u) v (sets l 0 u) (omega (arith, length-sets l 0 u))
+    ∙ ap₂ written (sym n) (ap (λ (i : ℕ). sets (sets l 0 u) i (numberBytes v)) (sym (zero-add (length u))) ∙ sets-append u (numberBytes v) l 0)
 
 puts-behind : (l u base : List ℕ) → length (u ++ numbersBytes l) ≤ length base
     → puts l (written (length u) (sets base 0 u)) ≡ written (length (u ++ numbersBytes l)) (sets base 0 (u ++ numbersBytes l))

@@ -15,12 +15,14 @@ pub mod Losers
 pub mod Lines
 pub mod Serials
 pub mod Waiting
+pub mod Named
 pub mod Ready
 pub mod Queued
 pub mod QueueRemove
 pub mod Gated
 pub mod WaitsBlocks
 pub mod WaitsKept
+pub mod StillWaiting
 pub mod NobodyAble
 pub mod SumFacts
 pub mod Records

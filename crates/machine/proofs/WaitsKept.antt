@@ -258,3 +258,8 @@ unfolding start
 waits-start m tape =
     let h = startAt-begun m 1 (m .blocks) (idle m tape) (idle-begun m tape) in
     (walked-waits m (start m tape) (h .0), λ o e. rw (h .1) tt)
+
+-- nobody waits on the WSL
+pub wsl-start : (m : BlockModel) (tape : List (List ℕ)) → start m tape .wsl ≡ []
+unfolding start
+wsl-start m tape = startAt-begun m 1 (m .blocks) (idle m tape) (idle-begun m tape) .1

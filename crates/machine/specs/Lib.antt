@@ -13,6 +13,7 @@ pub mod Setters
 pub mod Moves
 pub mod Execute
 pub mod Turn
+pub mod Watched
 pub mod Run
 pub mod Report
 pub mod Decode

@@ -31,6 +31,7 @@ use Rattle.machine.proofs.Everybody.{Everybody, Unmoved, taking-everybody, like
 use Rattle.machine.proofs.Placed.{Placed, placed-turn, placed-start}
 use Rattle.machine.proofs.Waiting.{Waits}
 use Rattle.machine.proofs.WaitsKept.{waits-taken, waits-kept, waits-start}
+use Rattle.machine.proofs.StillWaiting.{AllHold, settled-turn, settled-start}
 use Rattle.machine.proofs.Clocks.{Timely, taking-timely, timely-turn, timely-start}
 use Rattle.machine.proofs.Conservation.{Sound, Conserved, sound-conserved, sound-start, sound-turn}
 use Rattle.state.specs.Bare.{Note, enteredNote, waitsNote, noNote, logged, countEntry, noteAs}
@@ -221,6 +222,8 @@ pub record Sure (m : BlockModel) (tape : List (List ℕ)) (s : State) : Type 0 w
   pub sound : Sound m tape s
   pub gathering : Gathering m tape s
   pub holding : Holding m tape s
+  -- where the WS scheme ran, every comparison on which one waits holds
+  pub settled : s .end ≡ 0 → AllHold m s
 
 module _ {m : BlockModel} {tape : List (List ℕ)} (proper : Proper m tape) (s : State) (h : Sure m tape s) (going : s .end ≡ 0) (serials : s .serial ≤ maxSerial) (turns : s .turns < maxTurns) where
   abbrev hs : Sane m s
@@ -295,6 +298,7 @@ module _ {m : BlockModel} {tape : List (List ℕ)} (proper : Proper m tape) (s :
         sound = sound;
         gathering = gathering;
         holding = holding;
+        settled = settled-turn m s;
       }
 
 -- ---- The start
@@ -363,6 +367,7 @@ module _ {m : BlockModel} {tape : List (List ℕ)} (proper : Proper m tape) (rul
         sound = sound;
         gathering = gathering-start proper;
         holding = holding-start m tape;
+        settled = λ e. settled-start m tape;
       }
 
 -- ---- The run
@@ -396,8 +401,8 @@ sane-turns n e s more few k =
       longest-content = k .longest-content;
     }
 
-pub sure-end : (m : BlockModel) (tape : List (List ℕ)) (s : State) (e : ℕ) → Sure m tape s → Sure m tape (setEnd e s)
-sure-end m tape s e h =
+pub sure-end : (m : BlockModel) (tape : List (List ℕ)) (s : State) (e : ℕ) → (e ≡ 0 → ⊥) → Sure m tape s → Sure m tape (setEnd e s)
+sure-end m tape s e ends h =
     record {
       sane = sane-turns (s .turns) e s (omega arith) (h .sane .turns) (h .sane);
       ahead = record { later = h .ahead .later; rising = h .ahead .rising };
@@ -408,4 +413,5 @@ sure-end m tape s e h =
             gathers = h .gathering .gathers;
           };
       holding = h .holding;
+      settled = λ z. absurd (ends z);
     }

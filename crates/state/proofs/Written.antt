@@ -255,6 +255,6 @@ module _ {m : BlockModel} {tape : List (List ℕ)} (proper : Proper m tape) (rul
           traced = traced-turn proper s (h .sure) (t .no-end) (t .serials) (t .turns-left) (t .room-left) (h .traced);
         }
 
-    pub kept-end : (s : State) (e : ℕ) → Kept m tape room s → Kept m tape room (setEnd e s)
-    kept-end s e h =
-        record { sure = sure-end m tape s e (h .sure); traced = traced-like s (setEnd e s) refl refl refl (omega arith) (h .traced) }
+    pub kept-end : (s : State) (e : ℕ) → (e ≡ 0 → ⊥) → Kept m tape room s → Kept m tape room (setEnd e s)
+    kept-end s e ends h =
+        record { sure = sure-end m tape s e ends (h .sure); traced = traced-like s (setEnd e s) refl refl refl (omega arith) (h .traced) }

@@ -49,8 +49,20 @@ capacities = 2560
 abbrev pub edition : ℕ
 edition = 2624
 
+-- block b (from 0) at asked + b: 0 where no WAITIF on a comparison reads what the block changes
+abbrev pub asked : ℕ
+asked = 2625
+
+-- 0 where none reads the clock
+abbrev pub clockAsked : ℕ
+clockAsked = 2881
+
+-- value k (from 0) at namesOwn + k: 0 where it names no parameter, through lower values either
+abbrev pub namesOwn : ℕ
+namesOwn = 2882
+
 abbrev pub tablesSize : ℕ
-tablesSize = 2625
+tablesSize = 2890
 
 -- the tables are whole; they have the program; they have the row of the block at `at`
 abbrev pub Tables : List ℕ → Type 0

@@ -1,17 +1,19 @@
 -- When header, tables and list cells stand for a model and a tape of the machine.
-use Prim.Native.Nat.{ℕ, _+_, _*_, _-_, _<_}
+use Prim.Native.Nat.{ℕ, suc, _+_, _*_, _-_, _<_}
 use mathlib.Core.Path.{_≡_}
-use mathlib.Core.Bool.{Bool, true, _&&_}
+use mathlib.Core.Bool.{Bool, true, false, _&&_}
 use mathlib.Core.List.{List, [], _++_}
 use lib.Dec.{leb, T}
 use lib.ListN.{length, getD, take, drop, replicate}
+use lib.IntN.{ℤ}
 use Rattle.machine.specs.Rules.{inForce}
 use Rattle.machine.specs.Limits.{maxConstant, maxLists}
 use Rattle.machine.specs.Parser.{Cursor, parsed, times, fieldUpTo}
-use Rattle.machine.specs.Term.{Term, constant, minusConstant, parameter, clockTerm, entriesOf, contentOf, unitsInUse, unitsFree, facilityInUse, value, comparison, bracket, Sum, nothing, plus, minus}
+use Rattle.machine.specs.Term.{View, evaluate, Term, constant, minusConstant, parameter, clockTerm, entriesOf, contentOf, unitsInUse, unitsFree, facilityInUse, value, comparison, bracket, Sum, nothing, plus, minus}
 use Rattle.machine.specs.Block.{Block, terminate, facts, BlockModel}
 use Rattle.machine.specs.Validate.{allOf}
 use Rattle.constants.specs.declared.model.Model.{Model}
+use Rattle.machine.specs.Watched.{Thing, theClock, entry, Watches, Spares}
 use Rattle.tables.specs.Layout as Layout
 use Rattle.tables.specs.Numbers.{sumNumbers, blockNumbers}
 
@@ -60,6 +62,21 @@ abbrev pub TimesAt : List ℕ → ℕ → List ℕ → Type 0
 TimesAt bytes p l =
     (c : Cursor) → c .position ≡ p → (d : Cursor) × (times (length l) (fieldUpTo (inForce .maxNumber) bytes 8 0 (inForce .maxTime)) c ≡ parsed l d)
 
+-- a set of things that has all that the WAITIFs on comparisons read: where the cell of a block is 0, the block changes nothing of it, and
+-- where that of the clock is 0, it has not the clock
+pub record Watching (m : BlockModel) (tables : List ℕ) : Type 0 where
+  pub watched : Thing → Bool
+  pub watches : Watches (λ x. watched x ≡ true) m
+  pub clock : getD tables Layout.clockAsked 0 ≡ 0 → watched theClock ≡ false
+  pub entries : (b : ℕ) → b < length (m .blocks) → getD tables (Layout.asked + b) 0 ≡ 0 → watched (entry b) ≡ false
+  pub changes : (b : ℕ) → b < length (m .blocks) → getD tables (Layout.asked + b) 0 ≡ 0 → Spares (λ x. watched x ≡ true) (getD (m .blocks) b (terminate 0))
+
+-- where the cell of a value is 0, its worth is the same with any parameters
+abbrev pub Sharing : BlockModel → List ℕ → Type 0
+Sharing m tables =
+    (k : ℕ) → k < length (m .values) → getD tables (Layout.namesOwn + k) 0 ≡ 0 → (w : View) (p p′ : List ℤ)
+    → evaluate (m .values) w p (value (suc k)) ≡ evaluate (m .values) w p′ (value (suc k))
+
 -- the model was judged by the rules that the engine keeps
 pub record Represents (m : BlockModel) (tape : List (List ℕ)) (tapeBytes tables lists : List ℕ) : Type 0 where
   pub rules : m .rules ≡ inForce
@@ -70,6 +87,8 @@ pub record Represents (m : BlockModel) (tape : List (List ℕ)) (tapeBytes table
   pub small-values : (k : ℕ) → T (smallSum (getD (m .values) k nothing))
   -- of all 64 servers; 0 where there is none
   pub capacities : (v : ℕ) → v < Layout.serverCount → getD tables (Layout.capacities + v) 0 ≡ getD (replicate (m .facilities) 1 ++ m .capacities) v 0
+  pub watching : Watching m tables
+  pub sharing : Sharing m tables
   -- list k: where its times begin, at k, and its count, at 16 + k; a list that is not there has no times
   pub begins : (k : ℕ) → k < m .lists → TimesAt tapeBytes (getD lists k 0) (getD tape k [])
   pub counts : (k : ℕ) → k < maxLists → getD lists (Layout.listCounts + k) 0 ≡ length (getD tape k [])

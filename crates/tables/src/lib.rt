@@ -47,7 +47,15 @@ pub const CAPACITIES: usize = 2_560;
 
 pub const EDITION: usize = 2_624;
 
-pub const TABLES: usize = 2_625;
+// Behind the edition, what the WAITIFs on comparisons read: of each block, is one asked again after it? Is one asked again when the
+// clock has moved? Of each value, does it name a parameter?
+pub const ASKED: usize = 2_625;
+
+pub const CLOCK_ASKED: usize = 2_881;
+
+pub const NAMES_OWN: usize = 2_882;
+
+pub const TABLES: usize = 2_890;
 
 pub const ENTRIES: usize = 0;
 

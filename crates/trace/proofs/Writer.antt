@@ -5,20 +5,19 @@ use native.Mathlib.Nat.{zero-add}
 use native.Mathlib.Omega.{arith}
 use mathlib.Core.Bool.{true, false, _&&_}
 use mathlib.Core.List.{List, [], _∷_, _++_, append-assoc}
-use mathlib.Core.Path.{_≡_, refl, sym, ap, _∙_}
+use mathlib.Core.Path.{_≡_, refl, sym, ap, ap₂, _∙_}
 use lib.Dec.{leb, lit≤}
 use lib.ListN.{length, take, drop, length-append}
 use lib.Seq.{sets, sets-eq, take-append-seam}
 use borrow.Author.Tests.{le-leb, lt-leb, leb-true}
 use Rattle.machine.specs.Rules.{inForce}
-use Rattle.machine.specs.Limits.{maxClock, maxTransaction, maxBlocks, recordRoom}
+use Rattle.machine.specs.Limits.{fiveGroups, maxClock, maxTransaction, maxBlocks, recordRoom}
 use Rattle.machine.specs.Number.{numberBytes}
 use Rattle.machine.specs.Trace.{Record, recordBytes, traceBytes, inRanges, written, rejected, writeRecord}
 use Rattle.machine.proofs.RecordRoom.{record-room as room}
 use Rattle.codec.proofs.Fields.{both-true, between}
 use Rattle.codec.proofs.Numbers.{numberBytes-positive}
-use Rattle.codec.specs.Writing.{put, written as at}
-use Rattle.codec.proofs.Writing.{put-behind, written-bytes}
+use Rattle.codec.proofs.Stores.{sets-append}
 use Rattle.trace.specs.declared.Written.the-variants.{Bytes, Refused}
 use Rattle.trace.specs.Answers.{entry, after}
 
@@ -92,28 +91,29 @@ record-positive r =
       numberBytes-positive (r .outcome),
     ))
 
+-- so each of its numbers is one of at most five groups
+pub record Small (r : Record) : Type 0 where
+  pub clock : r .clock ≤ fiveGroups
+  pub transaction : r .transaction ≤ fiveGroups
+  pub block : r .block ≤ fiveGroups
+  pub outcome : r .outcome ≤ fiveGroups
+
+pub small : (r : Record) → inRanges inForce r ≡ true → Small r
+small r e =
+    let h = ranges r e in
+    record {
+      clock = omega (arith, h .clock);
+      transaction = omega (arith, h .transaction);
+      block = omega (arith, h .block);
+      outcome = omega (arith, h .outcome);
+    }
+
 -- ---- Stored
 
--- four numbers put one after the other, where there is room for all
-pub record-stored : (clock transaction block outcome p1 p2 p3 p4 : ℕ) (l l1 l2 l3 l4 : List ℕ) →
-    length (recordBytes (entry clock transaction block outcome)) ≤ length l →
-    at p1 l1 ≡ put clock (at 0 l) →
-    at p2 l2 ≡ put transaction (at p1 l1) →
-    at p3 l3 ≡ put block (at p2 l2) →
-    at p4 l4 ≡ put outcome (at p3 l3) →
-    l4 ≡ sets l 0 (recordBytes (entry clock transaction block outcome))
-unfolding recordBytes
-record-stored clock transaction block outcome p1 p2 p3 p4 l l1 l2 l3 l4 room e1 e2 e3 e4 =
-    let a = numberBytes clock in
-    let b = numberBytes transaction in
-    let c = numberBytes block in
-    let ab = length-append a b in
-    let abc = length-append (a ++ b) c in
-    let abcd = length-append (a ++ b ++ c) (numberBytes outcome) in
-    let one = e1 ∙ put-behind [] l clock (omega arith) in
-    let two = e2 ∙ ap (put transaction) one ∙ put-behind a l transaction (omega arith) in
-    let three = e3 ∙ ap (put block) two ∙ put-behind (a ++ b) l block (omega arith) in
-    written-bytes _ _ _ _ (e4 ∙ ap (put outcome) three ∙ put-behind (a ++ b ++ c) l outcome room)
+-- bytes stored behind those at the front
+pub stored-behind : (u w l m n : List ℕ) (p : ℕ) → p ≡ length u → m ≡ sets l 0 u → n ≡ sets m p w → n ≡ sets l 0 (u ++ w)
+stored-behind u w l m n p at first then =
+    then ∙ ap₂ (λ (k : List ℕ) (i : ℕ). sets k i w) first (at ∙ sym (zero-add (length u))) ∙ sets-append u w l 0
 
 -- ---- The answer and the rest afterwards
 

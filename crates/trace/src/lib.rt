@@ -4,8 +4,8 @@ mod words;
 
 use codec::Field;
 use codec::number_len;
+use codec::put_number;
 use codec::read_field;
-use codec::write_number;
 use constants::Model;
 use constants::refusals::NO_ROOM;
 use constants::refusals::TRACE_NUMBER;
@@ -15,7 +15,9 @@ use words::count_8;
 use words::count_32;
 use words::count_128;
 ghost use mathlib.Core.Path.{_≡_};
+ghost use mathlib.Core.Bool.{true};
 ghost use Prim.Native.Nat.{ℕ, _+_, _≤_, _<_};
+ghost use lib.Dec.{leb};
 ghost use lib.ListN.{length};
 ghost use lib.Seq.{sets};
 ghost use Rattle.machine.specs.Rules.{inForce};
@@ -114,15 +116,28 @@ fn record_len(clock: u64, transaction: u64, block: u64, outcome: u64) -> usize
     number_len(clock) + number_len(transaction) + number_len(block) + number_len(outcome)
 }
 
-// Writes the four numbers of a record at the front of a rest with room for them.
-fn put_record(rest: &mut [u8], clock: u64, transaction: u64, block: u64, outcome: u64)
-    requires { ⌜ length (recordBytes (entry clock transaction block outcome)) ≤ length (now rest) ⌝ }
-    ensures { λ _. ⌜ now (rest .exit) ≡ sets (now (rest .entry)) 0 (recordBytes (entry clock transaction block outcome)) ⌝ }
+// Does a record whose numbers are in range fit into so much room? Any does into RECORD_ROOM.
+fn fits(room: usize, clock: u64, transaction: u64, block: u64, outcome: u64) -> bool
+    requires { ⌜ inRanges inForce (entry clock transaction block outcome) ≡ true ⌝ }
+    ensures { λ r. ⌜ r ≡ leb (length (recordBytes (entry clock transaction block outcome))) room ⌝ }
 {
-    let p1 = write_number(rest, 0, clock);
-    let p2 = write_number(rest, p1, transaction);
-    let p3 = write_number(rest, p2, block);
-    write_number(rest, p3, outcome);
+    if Model::RECORD_ROOM <= room {
+        return true;
+    }
+    record_len(clock, transaction, block, outcome) <= room
+}
+
+// Writes the four numbers of a record at the front of a rest with room for them; answers how many bytes they take.
+fn put_record(rest: &mut [u8], clock: u64, transaction: u64, block: u64, outcome: u64) -> usize
+    requires { ⌜ inRanges inForce (entry clock transaction block outcome) ≡ true ⌝ }
+    requires { ⌜ length (recordBytes (entry clock transaction block outcome)) ≤ length (now rest) ⌝ }
+    ensures count { λ r. ⌜ r ≡ length (recordBytes (entry clock transaction block outcome)) ⌝ }
+    ensures bytes { λ _. ⌜ now (rest .exit) ≡ sets (now (rest .entry)) 0 (recordBytes (entry clock transaction block outcome)) ⌝ }
+{
+    let p1 = put_number(rest, 0, clock);
+    let p2 = put_number(rest, p1, transaction);
+    let p3 = put_number(rest, p2, block);
+    put_number(rest, p3, outcome)
 }
 
 // Writes one record into the unused rest of the trace buffer.
@@ -140,12 +155,10 @@ pub fn write_record(
     if !in_ranges(clock, transaction, block, outcome) {
         return Written::Refused(TRACE_RANGE);
     }
-    let len = record_len(clock, transaction, block, outcome);
-    if rest.len() < len {
+    if !fits(rest.len(), clock, transaction, block, outcome) {
         return Written::Refused(NO_ROOM);
     }
-    put_record(rest, clock, transaction, block, outcome);
-    Written::Bytes(len)
+    Written::Bytes(put_record(rest, clock, transaction, block, outcome))
 }
 
 // How many bytes are below 80 hexadecimal: by sixteen words, four words and single words, and the bytes that are left singly.

@@ -1,11 +1,11 @@
 -- A turn over scalars, buffers and trace is the machine's turn.
 use Prim.Native.Nat.{ℕ, suc, _+_, _-_, _*_, _≤_, _<_}
 use mathlib.Core.Path.{_≡_, refl, sym, ap, _∙_, subst}
-use mathlib.Core.Bool.{Bool, true, false, cond, not}
+use mathlib.Core.Bool.{Bool, true, false, cond, not, true≢false}
 use mathlib.Core.List.{List, _++_}
 use mathlib.Core.Option.{Option, none, some}
 use native.Mathlib.Omega.{arith}
-use borrow.Author.Tests.{lt-ltb, le-ltb}
+use borrow.Author.Tests.{lt-ltb, le-ltb, eqb-true, not-false}
 use lib.Dec.{ltb, eqb}
 use lib.ListN.{length, getD, drop}
 use Rattle.machine.specs.Transaction.{Transaction}
@@ -20,9 +20,12 @@ use Rattle.machine.proofs.Proper.{Proper, Names, servers}
 use Rattle.machine.proofs.Placed.{Placed}
 use Rattle.machine.proofs.Everybody.{Maybe}
 use Rattle.machine.proofs.RunLaws.{Taken}
+use Rattle.machine.specs.Watched.{Thing, theClock, entry}
+use Rattle.machine.proofs.StillWaiting.{MoverSpares, scheme-unread}
 use Rattle.tables.specs.Layout as Layout
 use Rattle.tables.specs.Represents.{Represents, headerOf}
 use Rattle.rows_laws.specs.Layout.{rel, fel}
+use Rattle.rows_laws.specs.Cells.{read}
 use Rattle.rows_laws.specs.Lists.{first}
 use Rattle.terms.specs.Nested.{Nested}
 use Rattle.state.specs.declared.scalars.Scalars.{Scalars}
@@ -42,14 +45,13 @@ use Rattle.clock.specs.Sample.{sampleServers, sampleQueues}
 use Rattle.clock.proofs.Sampled.{servers-sampled, queues-sampled}
 use Rattle.clock.proofs.TakingLaws.{take-stands}
 use Rattle.clock.proofs.Unread.{take-used}
-use Rattle.decisions.specs.Scheme.{wsScheme}
 use Rattle.decisions.proofs.SchemeLaws.{scheme-stands, scheme-low}
 use Rattle.blocks.specs.Execute.{execute}
 use Rattle.blocks.proofs.Apart.{Apart}
 use Rattle.blocks.proofs.ExecuteLaws.{execute-apart, execute-done}
 use Rattle.turn.specs.Note.{noteRecord}
 use Rattle.turn.specs.Writes.{Writes}
-use Rattle.turn.specs.Turn.{Traced, traced, withNote, act, actMoving, withScheme, afterTaking, turn}
+use Rattle.turn.specs.Turn.{Traced, traced, withNote, act, actMoving, clockAsks, asks, schemeIf, withScheme, afterTaking, turn}
 use Rattle.turn.specs.Runs.{Runs}
 use Rattle.turn.proofs.NoteLaws.{Follows, note-follows}
 use Rattle.turn.proofs.Unwritten.{Unwritten, unwritten}
@@ -226,17 +228,79 @@ module _ {m : BlockModel} {tape : List (List ℕ)} {tapeBytes tables lists befor
   unfolding Machine.turn
   ended = sure-turn proper s sure (taken .no-end) (taken .serials) (taken .turns-left)
 
-  schemed : Runs tapeBytes before (withScheme tables (length (m .blocks)) (length (m .values)) acted) (Machine.wsScheme m z)
-  unfolding withScheme traced rowsOf
+  abbrev asking : Bool
+  asking = asks tables (r₁ .work) (r .scalars .clock) (r₁ .scalars)
+
+  -- they are asked
+  schemed : Runs tapeBytes before (withScheme true tables (length (m .blocks)) (length (m .values)) acted) (Machine.wsScheme m z)
+  unfolding withScheme schemeIf traced rowsOf
   schemed =
       record {
         stands =
-            subst (λ (o : Option Transaction). Stands tapeBytes (withScheme tables (length (m .blocks)) (length (m .values)) acted .rows) o (Machine.wsScheme m z)) (sym (scheme-moving z))
+            subst (λ (o : Option Transaction). Stands tapeBytes (withScheme true tables (length (m .blocks)) (length (m .values)) acted .rows) o (Machine.wsScheme m z)) (sym (scheme-moving z))
             (scheme-stands proper rep nested (acted .rows) (z .moving) z (scheme-low z (ended .sane)) (acts .stands));
         writes =
             writes-like before (acted .trace) (acted .rows .scalars) (acted .rows .scalars) (acted .rows .tally) (acted .rows .tally) z (Machine.wsScheme m z) refl (λ i low high. refl) (scheme-gains .records) (scheme-gains .written) (acts .writes);
       }
 
+  -- ---- They are not: none reads what the turn changed
+
+  abbrev S : Thing → Type 0
+  S x = rep .watching .watched x ≡ true
+
+  not-in : (x : Thing) → rep .watching .watched x ≡ false → S x → ⊥
+  not-in x e h = true≢false (sym h ∙ e)
+
+  stands₁ : Stands tapeBytes r₁ (y .moving) y
+  stands₁ = take-stands proper tapeBytes r s (sure .sane) (taken .turns-left) (runs .stands)
+
+  clock-kept : clockAsks tables (r .scalars .clock) (r₁ .scalars .clock) ≡ false → S theClock → s .view .clock ≡ y .view .clock
+  unfolding clockAsks
+  clock-kept q h = go (eqb (r .scalars .clock) (r₁ .scalars .clock)) refl q
+    where
+      go : (c : Bool) → eqb (r .scalars .clock) (r₁ .scalars .clock) ≡ c → cond c false (not (eqb (getD tables Layout.clockAsked 0) 0)) ≡ false → s .view .clock ≡ y .view .clock
+      go true e q = sym (runs .stands .counting .clock) ∙ eqb-true _ _ e ∙ stands₁ .counting .clock
+      go false e q = absurd (not-in theClock (rep .watching .clock (eqb-true _ 0 (not-false _ q))) h)
+
+  mover-spares : (o : Option Transaction) → y .moving ≡ o → Stands tapeBytes r₁ o y
+      → cond (ltb (r₁ .scalars .moving) 1024) (cond (ltb (read (r₁ .work) 6 (r₁ .scalars .moving) - 1) 256) (not (eqb (getD tables (Layout.asked + (read (r₁ .work) 6 (r₁ .scalars .moving) - 1)) 0) 0)) true) true ≡ false
+      → MoverSpares S m o
+  mover-spares none e h q = tt
+  mover-spares (some t) e h q =
+      let next = next-read (r₁ .work) (r₁ .scalars) t y (h .listing) in
+      let placed : Placed m t = subst (Maybe (Placed m)) e (sane₁ .placed .moving) in
+      let inside : t .next - 1 < length (m .blocks) = omega (arith, placed .0 .1, proper .blocks .0, placed .0 .0) in
+      let low : t .next - 1 < 256 = omega (arith, inside, proper .blocks .1) in
+      let cell : getD tables (Layout.asked + (t .next - 1)) 0 ≡ 0 = eqb-true _ 0 (not-false _ (rw (lt-ltb (r₁ .scalars .moving) 1024 (h .listing .mover .0 .row), next, lt-ltb (t .next - 1) 256 low) at q)) in
+      (not-in (entry (t .next - 1)) (rep .watching .entries (t .next - 1) inside cell), rep .watching .changes (t .next - 1) inside cell)
+
+  still : asking ≡ false → Machine.wsScheme m z ≡ z
+  unfolding asks
+  still f = go (clockAsks tables (r .scalars .clock) (r₁ .scalars .clock)) refl f
+    where
+      rest : Bool
+      rest = cond (ltb (r₁ .scalars .moving) 1024) (cond (ltb (read (r₁ .work) 6 (r₁ .scalars .moving) - 1) 256) (not (eqb (getD tables (Layout.asked + (read (r₁ .work) 6 (r₁ .scalars .moving) - 1)) 0) 0)) true) true
+
+      go : (c : Bool) → clockAsks tables (r .scalars .clock) (r₁ .scalars .clock) ≡ c → cond c true rest ≡ false → Machine.wsScheme m z ≡ z
+      go true e q = absurd (true≢false q)
+      go false e q = scheme-unread S m (rep .watching .watches) s (sure .settled (taken .no-end)) (clock-kept e) (mover-spares (y .moving) refl stands₁ q)
+
+  unasked : asking ≡ false → Runs tapeBytes before (withScheme false tables (length (m .blocks)) (length (m .values)) acted) (Machine.wsScheme m z)
+  unasked f =
+      subst (λ (u : State). Runs tapeBytes before (withScheme false tables (length (m .blocks)) (length (m .values)) acted) u) (sym (still f)) left-alone
+    where
+      left-alone : Runs tapeBytes before (withScheme false tables (length (m .blocks)) (length (m .values)) acted) z
+      left-alone =
+          unfold withScheme schemeIf traced rowsOf in
+          record {
+            stands = record { listing = acts .stands .listing; tallying = acts .stands .tallying; counting = acts .stands .counting };
+            writes = record { bytes = acts .writes .bytes; written = acts .writes .written; used = acts .writes .used; waits = acts .writes .waits };
+          }
+
+  either : (c : Bool) → asking ≡ c → Runs tapeBytes before (withScheme c tables (length (m .blocks)) (length (m .values)) acted) (Machine.wsScheme m z)
+  either true e = schemed
+  either false e = unasked e
+
   pub turn-runs : Runs tapeBytes before (turn (headerOf m) tables tapeBytes (r .work) (r .tally) (a .trace) (r .scalars)) (Machine.turn m s)
   unfolding turn afterTaking headerOf Machine.turn
-  turn-runs = schemed
+  turn-runs = either asking refl

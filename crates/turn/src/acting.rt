@@ -10,7 +10,9 @@ use rows::ROWS;
 use rows::cells::read;
 use state::Scalars;
 use state::less32;
+use tables::ASKED;
 use tables::BLOCK_WIDTH;
+use tables::CLOCK_ASKED;
 use tables::TABLES;
 use tables::TALLY;
 ghost use mathlib.Core.Path.{_≡_};
@@ -18,7 +20,7 @@ ghost use Prim.Native.Nat.{_+_, _<_, _≤_};
 ghost use Rattle.machine.specs.Limits.{maxBlocks, maxFacilities, maxQueues, maxStorages};
 ghost use Rattle.rows_laws.specs.Layout.{Room, rowCount};
 ghost use Rattle.state.specs.Stands.{rowsOf};
-ghost use Rattle.turn.specs.Turn.{traced, act, actMoving, turn};
+ghost use Rattle.turn.specs.Turn.{traced, act, actMoving, clockAsks, asks, schemeIf, afterTaking, turn};
 
 // The moving transaction, with this number and next block, executes that block, and its record is noted.
 fn act(
@@ -90,6 +92,87 @@ fn act_moving(
     )
 }
 
+// Has the clock moved, and does a WAITIF on a comparison read it?
+fn clock_asked(tables: &[u32; TABLES], before: u64, after: u64) -> bool
+    ensures { λ r. ⌜ r ≡ clockAsks (now (tables .entry)) before «after» ⌝ }
+{
+    if before == after {
+        return false;
+    }
+    tables::number(tables, CLOCK_ASKED) != 0
+}
+
+// Are those that wait on comparisons asked again after this turn, of a clock before it and the scalars after the taking? Not if none of
+// them reads what the block of whoever moves changes.
+fn asked(tables: &[u32; TABLES], work: &[u32], before: u64, x: Scalars) -> bool
+    ensures { λ r. ⌜ r ≡ asks (now (tables .entry)) (now (work .entry)) before x ⌝ }
+{
+    let clock = x.clock;
+    if clock_asked(tables, before, clock) {
+        return true;
+    }
+    let k = x.moving;
+    if k >= ROWS {
+        return true;
+    }
+    let b = less32(read(work, NEXT, k), 1) as usize;
+    if b >= Model::MAX_BLOCKS {
+        return true;
+    }
+    tables::number(tables, ASKED + b) != 0
+}
+
+// The WS scheme, where they are asked.
+fn scheme(
+    tables: &[u32; TABLES],
+    blocks: usize,
+    values: usize,
+    work: &mut [u32],
+    tally: &[u64; TALLY],
+    x: Scalars,
+    asks: bool,
+)
+    requires { ⌜ blocks ≤ maxBlocks ⌝ }
+    requires { ⌜ Room (now work) ⌝ }
+    ensures { λ _. ⌜ now (work .exit) ≡ schemeIf asks (now (tables .entry)) blocks values (now (tally .entry)) x (now (work .entry)) ⌝ }
+{
+    if !asks {
+        return;
+    }
+    ws(tables, blocks, values, work, tally, x);
+}
+
+// A turn after the taking, of the clock before it.
+fn after_taking(
+    model: Model,
+    tables: &[u32; TABLES],
+    tape: &[u8],
+    work: &mut [u32],
+    tally: &mut [u64; TALLY],
+    trace: &mut [u8],
+    before: u64,
+    x: Scalars,
+) -> Scalars
+    requires { ⌜ model .facilities ≤ maxFacilities ⌝ }
+    requires { ⌜ model .blocks ≤ maxBlocks ⌝ }
+    requires { ⌜ Room (now work) ⌝ }
+    ensures { λ r. ⌜ traced (rowsOf r (now (work .exit)) (now (tally .exit))) (now (trace .exit)) ≡ afterTaking (now (tables .entry)) (model .blocks) (model .values) (model .facilities) (now (tape .entry)) (now (trace .entry)) before (rowsOf x (now (work .entry)) (now (tally .entry))) ⌝ }
+{
+    let asks = asked(tables, work, before, x);
+    let y = act_moving(
+        tables,
+        model.values,
+        model.facilities,
+        tape,
+        work,
+        tally,
+        trace,
+        x,
+    );
+    scheme(tables, model.blocks, model.values, work, tally, y, asks);
+    y
+}
+
 pub fn turn(
     model: Model,
     tables: &[u32; TABLES],
@@ -107,17 +190,7 @@ pub fn turn(
     ensures { λ r. ⌜ traced (rowsOf r (now (work .exit)) (now (tally .exit))) (now (trace .exit)) ≡ turn model (now (tables .entry)) (now (tape .entry)) (now (work .entry)) (now (tally .entry)) (now (trace .entry)) x ⌝ }
 {
     let servers = model.facilities + model.storages;
+    let before = x.clock;
     let y = take(work, tally, x, servers, model.queues);
-    let z = act_moving(
-        tables,
-        model.values,
-        model.facilities,
-        tape,
-        work,
-        tally,
-        trace,
-        y,
-    );
-    ws(tables, model.blocks, model.values, work, tally, z);
-    z
+    after_taking(model, tables, tape, work, tally, trace, before, y)
 }

@@ -28,7 +28,7 @@ fn constant(random: &mut Random) -> u32 {
 }
 
 /// A term that the run changes, if there is any.
-fn state_term(random: &mut Random, scope: &Scope) -> Term {
+pub fn state_term(random: &mut Random, scope: &Scope) -> Term {
     for _ in 0..8 {
         match random.below(5) {
             0 if scope.queues > 0 => return Term::Content(random.number(1, scope.queues)),

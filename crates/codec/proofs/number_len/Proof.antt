@@ -1,41 +1,36 @@
--- `codec::number_len` meets its contract. The loop's invariant: the number takes the bytes counted and those of the groups
--- still above. The measure is what is left of nine.
-use Prim.Native.Nat.{_+_, _-_, _≤_, _<_}
-use mathlib.Core.Path.{_≡_, _∙_}
+-- `codec::number_len` meets its contract: between two powers of 128 a number has one length.
+use mathlib.Core.Path.{sym}
 use native.Mathlib.Omega.{arith}
-use lib.ListN.{length}
-use Rattle.machine.specs.Number.{upper, numberBytes}
-use Rattle.codec.proofs.Numbers.{length-start, length-step, length-full, length-done}
+use Rattle.codec.proofs.Numbers.{numberBytes-one, numberBytes-exact, numberBytes-nine}
 use Rattle.codec.proofs.number_len.Statement.{statement}
 use Rattle.codec.proofs.number_len.Tie as tie
 
-abbrev Inv-loop : tie.InvT-loop
-Inv-loop v len₀ above₀ len above =
-    (1 ≤ len) × (len ≤ 9) × (len + length (upper (9 - len) above) ≡ length (numberBytes v))
+returns : tie.Need-returns
+returns c = sym (numberBytes-one _ (c .if1 .taken))
 
-abbrev μ-loop : tie.MeasureT-loop
-μ-loop v len₀ above₀ len above = 9 - len
+returns-2 : tie.Need-returns-2
+returns-2 c = sym (numberBytes-exact 1 _ (omega arith) (c .if2 .taken) (omega arith))
 
-loop-holds : tie.Need-loop-holds Inv-loop μ-loop
-loop-holds c = (omega arith, omega arith, length-start _)
+returns-3 : tie.Need-returns-3
+returns-3 c = sym (numberBytes-exact 2 _ (omega arith) (c .if3 .taken) (omega arith))
 
-returns : tie.Need-returns Inv-loop μ-loop
-returns c = length-full _ _ (c .if1 .taken) ∙ c .before .before .loop .inv .2
+returns-4 : tie.Need-returns-4
+returns-4 c = sym (numberBytes-exact 3 _ (omega arith) (c .if4 .taken) (omega arith))
 
-add-len : tie.Need-add-len Inv-loop μ-loop
-add-len c = omega arith
+returns-5 : tie.Need-returns-5
+returns-5 c = sym (numberBytes-exact 4 _ (omega arith) (c .if5 .taken) (omega arith))
 
-loop-less : tie.Need-loop-less Inv-loop μ-loop
-loop-less c = omega arith
+returns-6 : tie.Need-returns-6
+returns-6 c = sym (numberBytes-exact 5 _ (omega arith) (c .if6 .taken) (omega arith))
 
-loop-again : tie.Need-loop-again Inv-loop μ-loop
-loop-again c = let w = c .before .before in
-    let h : w .loop .len < 9 = omega arith in
-    (omega arith, omega arith, length-step _ _ h (c .before .loop-test .taken) ∙ w .loop .inv .2)
+returns-7 : tie.Need-returns-7
+returns-7 c = sym (numberBytes-exact 6 _ (omega arith) (c .if7 .taken) (omega arith))
 
-returns-2 : tie.Need-returns-2 Inv-loop μ-loop
-returns-2 c = length-done _ _ (c .loop-test .left) ∙ c .before .loop .inv .2
+returns-8 : tie.Need-returns-8
+returns-8 c = sym (numberBytes-exact 7 _ (omega arith) (c .if8 .taken) (omega arith))
+
+returns-9 : tie.Need-returns-9
+returns-9 c = sym (numberBytes-nine _ (c .if8 .left))
 
 pub number-len-spec : {M : Type 1} → statement M
-number-len-spec =
-    tie.close (tie.spec Inv-loop μ-loop loop-holds returns add-len loop-less loop-again returns-2)
+number-len-spec = tie.close (tie.spec returns returns-2 returns-3 returns-4 returns-5 returns-6 returns-7 returns-8 returns-9)

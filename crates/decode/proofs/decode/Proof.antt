@@ -1,5 +1,5 @@
 -- `decode::decode` meets its contract: the two lengths, the model and the tape, in the order of the questions.
-use Rattle.decode.proofs.Answers.{few-lists, small-work, small-report, no-model, no-tape, all-answered}
+use Rattle.decode.proofs.Answers.{few-lists, few-rows, small-work, small-report, no-model, no-tape, all-answered}
 use borrow.Author.Needs.{needs}
 use Rattle.decode.proofs.decode.Statement.{statement}
 use Rattle.decode.proofs.decode.Tie as tie
@@ -28,6 +28,9 @@ enum-known-n-2 c = search needs
 enum-told : tie.Need-enum-told
 enum-told c = search needs
 
+watch-requires : tie.Need-watch-requires
+watch-requires c κs = few-rows _ (c .before .before .before .before .before .before .before .before .formed-model .ensures) (c .before .before .before .before .before .before .m .given .1)
+
 returns-3 : tie.Need-returns-3
 returns-3 c = no-model _ _ _ _ _ _ (c .before .before .before .before .before .before .if1 .left) (c .before .before .before .before .before .if2 .left) (c .before .before .before .formed-model .ensures) (c .before .n .given .1)
 
@@ -35,7 +38,7 @@ returns-4 : tie.Need-returns-4
 returns-4 c = no-tape _ _ _ _ _ _ (c .before .before .before .before .before .before .before .before .before .before .before .if1 .left) (c .before .before .before .before .before .before .before .before .before .before .if2 .left) (c .before .before .before .before .before .before .before .before .formed-model .ensures) (c .before .before .before .before .before .before .m .given .1) (c .before .before .before .whole-tape .ensures) (c .before .n2 .given .1)
 
 returns-5 : tie.Need-returns-5
-returns-5 c = all-answered _ _ _ _ _ _ (c .before .before .before .before .before .before .before .before .before .before .if1 .left) (c .before .before .before .before .before .before .before .before .before .if2 .left) (c .before .before .before .before .before .before .before .formed-model .ensures) (c .before .before .before .before .before .m .given .1) (c .before .before .whole-tape .ensures) (c .enum-told .given .1)
+returns-5 c = all-answered _ _ _ _ _ _ (c .before .before .before .before .before .before .before .before .before .before .before .before .if1 .left) (c .before .before .before .before .before .before .before .before .before .before .before .if2 .left) (c .before .before .before .before .before .before .before .before .before .formed-model .ensures) (c .before .before .before .before .before .before .before .m .given .1) (c .before .before .before .before .whole-tape .ensures) (c .before .before .enum-told .given .1) (c .watch .ensures)
 
 pub decode-spec : {M : Type 1} → statement M
 decode-spec =
@@ -49,6 +52,7 @@ decode-spec =
     whole-tape-requires
     enum-known-n-2
     enum-told
+    watch-requires
     returns-3
     returns-4
     returns-5)

@@ -1,6 +1,6 @@
 -- `trace::write_record` meets its contract: out of range, no room, or the record stored at the front of the rest.
 use mathlib.Core.Path.{sym, ap, _∙_}
-use borrow.Author.Tests.{not-true, not-false}
+use borrow.Author.Tests.{not-true, not-false, leb-true, leb-false}
 use Rattle.machine.specs.Trace.{written}
 use Rattle.trace.proofs.Writer.{
   refused-range,
@@ -23,26 +23,30 @@ returns : tie.Need-returns
 returns c = let e = refused-range _ (c .before .before .before .args .rest .now) (sym (c .before .in-ranges .ensures) ∙ not-true _ (c .if1 .taken)) in
     (e, (after-refused _ _ 32 e, λ n h. absurd (refused-bytes h)))
 
-record-len-requires : tie.Need-record-len-requires
-record-len-requires c κs = search needs
+fits-requires : tie.Need-fits-requires
+fits-requires c κs = sym (c .before .in-ranges .ensures) ∙ not-false _ (c .if1 .left)
 
 returns-2 : tie.Need-returns-2
 returns-2 c = let ranges = sym (c .before .before .before .in-ranges .ensures) ∙ not-false _ (c .before .before .if1 .left) in
-    let e = refused-room _ (c .before .before .before .before .before .args .rest .now) ranges (rw (c .before .record-len .ensures) at (c .if2 .taken)) in
+    let full = leb-false _ _ (sym (c .before .fits2 .ensures) ∙ not-true _ (c .if2 .taken)) in
+    let e = refused-room _ (c .before .before .before .before .before .args .rest .now) ranges full in
     (e, (after-refused _ _ 33 e, λ n h. absurd (refused-bytes h)))
 
 put-record-requires : tie.Need-put-record-requires
-put-record-requires c κs = search needs
+put-record-requires c κs = (
+  sym (c .before .before .before .before .in-ranges .ensures) ∙ not-false _ (c .before .before .before .if1 .left),
+  leb-true _ _ (sym (c .before .before .fits2 .ensures) ∙ not-false _ (c .before .if2 .left)),
+)
 
 same-length : tie.Need-same-length
 same-length c = search needs
 
 returns-3 : tie.Need-returns-3
 returns-3 c = let l = c .before .before .before .before .before .before .before .before .before .args .rest .now in
-    let len = c .before .before .before .before .before .record-len .ensures in
     let ranges = sym (c .before .before .before .before .before .before .before .in-ranges .ensures) ∙ not-false _ (c .before .before .before .before .before .before .if1 .left) in
-    let room = rw len at (c .before .before .before .before .if2 .left) in
-    let stored = c .before .before .put-record .ensures in
+    let room = leb-true _ _ (sym (c .before .before .before .before .before .fits2 .ensures) ∙ not-false _ (c .before .before .before .before .if2 .left)) in
+    let len = c .before .before .put-record .ensures .0 in
+    let stored = c .before .before .put-record .ensures .1 in
     let e = written-record _ l ranges room in (
       rw (len, stored) (ap written (front-written _ l room) ∙ e),
       (stored ∙ after-written _ l e room, λ n h. bytes-count h len room),
@@ -54,7 +58,7 @@ write-record-spec =
     (tie.spec
     in-ranges-requires
     returns
-    record-len-requires
+    fits-requires
     returns-2
     put-record-requires
     same-length

@@ -1,4 +1,5 @@
 -- `block_of` meets its contract.
+use native.Mathlib.Omega.{arith}
 use Rattle.decisions.specs.Scheme.{blockOf}
 use borrow.Author.Needs.{needs}
 use Rattle.decisions.proofs.scheme.block_of.Statement.{statement}
@@ -18,7 +19,7 @@ mul-result c = search needs
 
 returns : tie.Need-returns
 unfolding blockOf
-returns c = rw (c .less32 .ensures, c .before .read .ensures)
+returns c = (rw (c .less32 .ensures, c .before .read .ensures), omega arith)
 
 pub block-of-spec : {M : Type 1} → statement M
 block-of-spec = tie.close (tie.spec read-requires less32-requires cast-i mul-result returns)

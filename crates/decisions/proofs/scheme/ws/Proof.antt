@@ -1,5 +1,6 @@
--- `ws` meets its contract. The invariant: the rest of the walk from here is the whole walk. The measure: the steps left.
-use Prim.Native.Nat.{_-_, _≤_}
+-- `ws` meets its contract. The invariant: the rest of the walk from here is the whole walk, and the answers for all are those of the
+-- block that was seen last. The measure: the steps left.
+use Prim.Native.Nat.{_+_, _-_, _≤_}
 use mathlib.Core.Path.{_≡_, refl, sym, _∙_}
 use native.Mathlib.Omega.{arith}
 use borrow.Author.Needs.{needs}
@@ -9,23 +10,25 @@ use Rattle.rows_laws.specs.Layout.{head, wsl}
 use Rattle.rows_laws.specs.Wake.{wakeAll}
 use Rattle.rows_laws.proofs.Steps.{wakeAll-end, wakeAll-stop, wakeAll-next}
 use Rattle.decisions.specs.Scheme.{leaves, wsScheme}
+use Rattle.decisions.specs.Sides.{ForAll}
+use Rattle.decisions.proofs.Sharing.{leaves-by, for-all-past}
 use Rattle.decisions.proofs.scheme.ws.Statement.{statement}
 use Rattle.decisions.proofs.scheme.ws.Tie as tie
 
 abbrev Inv-loop : tie.InvT-loop
-Inv-loop tables blocks values work₀ tally clock cell₀ i₀ work cell i =
+Inv-loop tables blocks values work₀ tally clock cell₀ seen₀ left₀ right₀ i₀ work cell seen left right i =
     (wakeAll (leaves tables blocks values tally clock) (1024 - i) work 448 cell ≡ wakeAll (leaves tables blocks values tally clock) 1024 work₀ 448 (head wsl))
-    × ((i ≤ 1024) × (length work ≡ length work₀))
+    × ((i ≤ 1024) × ((length work ≡ length work₀) × ((seen ≤ 34359738360) × (ForAll tables values tally clock (seen + 1) left × ForAll tables values tally clock (seen + 4) right))))
 
 abbrev μ-loop : tie.MeasureT-loop
-μ-loop tables blocks values work₀ tally clock cell₀ i₀ work cell i = 1024 - i
+μ-loop tables blocks values work₀ tally clock cell₀ seen₀ left₀ right₀ i₀ work cell seen left right i = 1024 - i
 
 returns : tie.Need-returns Inv-loop μ-loop
 unfolding wsScheme
 returns c = rw (ne-eqb _ 0 (c .if1 .taken))
 
 loop-holds : tie.Need-loop-holds Inv-loop μ-loop
-loop-holds c = (refl, (omega arith, refl))
+loop-holds c = (refl, (omega arith, (refl, (omega arith, (for-all-past (omega arith), for-all-past (omega arith))))))
 
 load-requires : tie.Need-load-requires Inv-loop μ-loop
 load-requires c κs = search needs
@@ -37,6 +40,27 @@ returns-2 : tie.Need-returns-2 Inv-loop μ-loop
 unfolding wsScheme
 returns-2 c = rw (eq-eqb _ 0 (c .before .before .before .before .before .if1 .left)) (sym (wakeAll-stop _ _ _ _ _ (omega arith)) ∙ c .before .before .before .before .loop .inv .0)
 
+block-of-requires : tie.Need-block-of-requires Inv-loop μ-loop
+block-of-requires c κs = search needs
+
+add-shared : tie.Need-add-shared Inv-loop μ-loop
+add-shared c = omega arith
+
+add-shared-2 : tie.Need-add-shared-2 Inv-loop μ-loop
+add-shared-2 c = omega arith
+
+shared-requires : tie.Need-shared-requires Inv-loop μ-loop
+shared-requires c κs = search needs
+
+add-shared-3 : tie.Need-add-shared-3 Inv-loop μ-loop
+add-shared-3 c = omega arith
+
+add-shared-4 : tie.Need-add-shared-4 Inv-loop μ-loop
+add-shared-4 c = omega arith
+
+shared-requires-2 : tie.Need-shared-requires-2 Inv-loop μ-loop
+shared-requires-2 c κs = search needs
+
 step-requires : tie.Need-step-requires Inv-loop μ-loop
 step-requires c κs = search needs
 
@@ -47,7 +71,13 @@ loop-less : tie.Need-loop-less Inv-loop μ-loop
 loop-less c = omega arith
 
 loop-again : tie.Need-loop-again Inv-loop μ-loop
-loop-again c = (rw (c .before .before .step .ensures .1, c .before .before .step .ensures .0, c .before .before .before .before .before .load .ensures) (sym (wakeAll-next _ _ _ _ _ _ (omega arith) (omega arith)) ∙ c .before .before .before .before .before .before .before .before .loop .inv .0), (omega arith, omega (arith, c .before .before .step .kept)))
+loop-again c =
+    let left = c .before .before .before .before .before .shared .ensures (c .before .before .before .before .before .before .before .before .before .before .before .before .loop .inv .1 .1 .1 .1 .0) in
+    let right = c .before .before .before .before .shared2 .ensures (c .before .before .before .before .before .before .before .before .before .before .before .before .loop .inv .1 .1 .1 .1 .1) in (
+      rw (c .before .before .step .ensures .1, c .before .before .step .ensures .0, leaves-by _ _ _ _ _ _ (c .before .before .before .before .before .before .block-of .ensures .0) left right, c .before .before .before .before .before .before .before .before .before .load .ensures)
+          (sym (wakeAll-next _ _ _ _ _ _ (omega arith) (omega arith)) ∙ c .before .before .before .before .before .before .before .before .before .before .before .before .loop .inv .0),
+      (omega arith, (omega (arith, c .before .before .step .kept), (c .before .before .before .before .before .before .block-of .ensures .1, (left, right)))),
+    )
 
 same-length-2 : tie.Need-same-length-2 Inv-loop μ-loop
 same-length-2 c = omega arith
@@ -67,6 +97,13 @@ ws-spec =
     load-requires
     same-length
     returns-2
+    block-of-requires
+    add-shared
+    add-shared-2
+    shared-requires
+    add-shared-3
+    add-shared-4
+    shared-requires-2
     step-requires
     add-i
     loop-less

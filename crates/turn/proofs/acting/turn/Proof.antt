@@ -1,4 +1,4 @@
--- `turn` meets its contract: the taking, the block with its record, the WS scheme.
+-- `turn` meets its contract: the taking, and what follows it.
 use native.Mathlib.Omega.{arith}
 use Rattle.turn.proofs.Parts.{turned}
 use borrow.Author.Needs.{needs}
@@ -11,12 +11,8 @@ add-servers c = search needs
 take-requires : tie.Need-take-requires
 take-requires c κs = search needs
 
-act-moving-requires : tie.Need-act-moving-requires
-act-moving-requires c κs = (omega (arith, c .before .before .before .before .before .before .before .before .before .before .before .before .pre), omega (arith, c .before .before .before .before .before .before .before .before .before .before .before .before .pre, c .before .before .before .before .before .take .kept))
-
-ws-requires : tie.Need-ws-requires
-ws-requires c κs =
-    (omega (arith, c .before .before .before .before .before .before .before .before .before .before .before .before .before .before .before .before .before .before .before .pre), omega (arith, c .before .before .before .before .before .before .before .before .before .before .before .before .before .before .before .before .before .before .before .pre, c .before .before .before .before .before .before .before .before .before .before .before .before .take .kept, c .before .before .before .before .before .before .act-moving .kept))
+after-taking-requires : tie.Need-after-taking-requires
+after-taking-requires c κs = (omega (arith, c .before .before .before .before .before .before .before .before .before .before .before .before .pre), (omega (arith, c .before .before .before .before .before .before .before .before .before .before .before .before .pre), omega (arith, c .before .before .before .before .before .before .before .before .before .before .before .before .pre, c .before .before .before .before .before .take .kept)))
 
 same-length : tie.Need-same-length
 same-length c = search needs
@@ -25,7 +21,7 @@ same-length-2 : tie.Need-same-length-2
 same-length-2 c = search needs
 
 returns : tie.Need-returns
-returns c = turned _ _ _ _ _ _ _ _ _ _ _ _ _ _ _ (c .before .before .before .before .before .before .before .before .before .before .before .before .before .before .before .take .ensures) (c .before .before .before .before .before .before .before .before .before .act-moving .ensures) (c .before .before .ws .ensures)
+returns c = turned _ _ _ _ _ _ _ _ _ _ _ (c .before .before .before .before .before .before .before .before .before .before .take .ensures) (c .before .before .before .before .after-taking .ensures)
 
 pub turn-spec : {M : Type 1} → statement M
 turn-spec =
@@ -33,8 +29,7 @@ turn-spec =
     (tie.spec
     add-servers
     take-requires
-    act-moving-requires
-    ws-requires
+    after-taking-requires
     same-length
     same-length-2
     returns)
