@@ -11,7 +11,7 @@ use Rattle.tables.specs.Layout as Layout
 use Rattle.rows_laws.specs.Layout.{numberField, nextField, interrupted, rowCount}
 use Rattle.rows_laws.specs.Cells.{load, read, priorityOf}
 use Rattle.rows_laws.specs.Lists.{first}
-use Rattle.rows_laws.specs.Future.{loser}
+use Rattle.rows_laws.specs.Future.{findLoser}
 use Rattle.rows_laws.specs.Make.{freeRow}
 use Rattle.state.specs.declared.scalars.Scalars.{Scalars}
 use Rattle.state.specs.Stands.{Rows, rowsOf}
@@ -145,9 +145,9 @@ module _ (tables tape w tally : List ℕ) (x : Scalars) where
       (two-set tally (Layout.inUse + v) units (Layout.holder + v) who (omega arith) (omega arith))
 
   -- whatever the work buffer and the scalars
-  held-waits : (u : List ℕ) (y : Scalars) (v units who preempts all : ℕ) → Stays tally (holdUnits u tally y v units who preempts all)
+  held-waits : (u : List ℕ) (y : Scalars) (v units who k preempts all : ℕ) → Stays tally (holdUnits u tally y v units who k preempts all)
   unfolding holdUnits rowsOf
-  held-waits u y v units who preempts all = record { waits = used-units v units who preempts }
+  held-waits u y v units who k preempts all = record { waits = used-units v units who preempts }
 
   queued-waits : (v edition : ℕ) → Stays tally (queueUp w tally x v edition)
   unfolding queueUp longer rowsOf
@@ -156,8 +156,8 @@ module _ (tables tape w tally : List ℕ) (x : Scalars) where
   taken-waits : (v b who preempts : ℕ) → Stays tally (takeUnits tables w tally x v b who preempts)
   unfolding takeUnits
   taken-waits v b who preempts =
-      either tally (leb b (capacity tables v - inUse tally v)) (holdUnits w tally x v (inUse tally v + b) who preempts (capacity tables v)) (queueUp w tally x v (getD tables Layout.edition 0))
-      (held-waits w x v (inUse tally v + b) who preempts (capacity tables v)) (queued-waits v (getD tables Layout.edition 0))
+      either tally (leb b (capacity tables v - inUse tally v)) (holdUnits w tally x v (inUse tally v + b) who (x .moving) preempts (capacity tables v)) (queueUp w tally x v (getD tables Layout.edition 0))
+      (held-waits w x v (inUse tally v + b) who (x .moving) preempts (capacity tables v)) (queued-waits v (getD tables Layout.edition 0))
 
   seize-waits : (at : ℕ) → Stays tally (seize tables w tally x at)
   unfolding seize
@@ -192,9 +192,9 @@ module _ (tables tape w tally : List ℕ) (x : Scalars) where
   seized-waits : (v number : ℕ) → Stays tally (preemptSeized tables w tally x v number)
   unfolding preemptSeized takeOver
   seized-waits v number =
-      let j : ℕ = loser w (holder tally v) (priorityOf w (x .moving)) in
-      either tally (ltb j rowCount) (holdUnits (interruptOn w (x .clock) v j) tally x v (inUse tally v) number 1 (capacity tables v)) (takeUnits tables w tally x v 1 number 1)
-      (held-waits (interruptOn w (x .clock) v j) x v (inUse tally v) number 1 (capacity tables v)) (taken-waits v 1 number 1)
+      let j : ℕ = findLoser w (holder tally v) (priorityOf w (x .moving)) (x .moving) v in
+      either tally (ltb j rowCount) (holdUnits (interruptOn w (x .clock) v j) tally x v (inUse tally v) number (x .moving) 1 (capacity tables v)) (takeUnits tables w tally x v 1 number 1)
+      (held-waits (interruptOn w (x .clock) v j) x v (inUse tally v) number (x .moving) 1 (capacity tables v)) (taken-waits v 1 number 1)
 
   preempt-waits : (at : ℕ) → Stays tally (preempt tables w tally x at)
   unfolding preempt
@@ -208,8 +208,8 @@ module _ (tables tape w tally : List ℕ) (x : Scalars) where
   back-waits v =
       let j : ℕ = first w (interrupted + v) in
       let on : Moved = resumeOn w x v j in
-      either tally (ltb j rowCount) (holdUnits (on .work) tally (on .scalars) v (inUse tally v) (read w numberField j) 0 (capacity tables v)) (freeOne tables w tally x v (inUse tally v - 1))
-      (held-waits (on .work) (on .scalars) v (inUse tally v) (read w numberField j) 0 (capacity tables v)) (freed-waits v (inUse tally v - 1))
+      either tally (ltb j rowCount) (holdUnits (on .work) tally (on .scalars) v (inUse tally v) (read w numberField j) j 0 (capacity tables v)) (freeOne tables w tally x v (inUse tally v - 1))
+      (held-waits (on .work) (on .scalars) v (inUse tally v) (read w numberField j) j 0 (capacity tables v)) (freed-waits v (inUse tally v - 1))
 
   give-back-waits : (at : ℕ) → Stays tally (giveBack tables w tally x at)
   unfolding giveBack

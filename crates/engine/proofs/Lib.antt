@@ -7,3 +7,4 @@ pub mod Following
 pub mod Laws
 pub mod Running
 pub mod FirstsKept
+pub mod FirstsRead

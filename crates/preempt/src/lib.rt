@@ -12,7 +12,7 @@ use rows::cells::read;
 use rows::cells::set_time;
 use rows::cells::time;
 use rows::future::cancel;
-use rows::future::loser;
+use rows::future::find_loser;
 use rows::lists::first;
 use rows::lists::put;
 use rows::lists::take_first;
@@ -78,7 +78,7 @@ fn take_over(
     let units = in_use(tally, v);
     let all = capacity(tables, v);
     interrupt_on(work, x.clock, v, j);
-    hold_units(work, tally, x, v, units, number, 1, all)
+    hold_units(work, tally, x, v, units, number, x.moving, 1, all)
 }
 
 // Of a seized facility: "a holder of lower priority that stands on the FEL" loses it, or PREEMPT waits.
@@ -95,7 +95,8 @@ fn preempt_seized(
     requires { ⌜ v < serverCount ⌝ }
     ensures { λ r. ⌜ rowsOf r (now (work .exit)) (now (tally .exit)) ≡ preemptSeized (now (tables .entry)) (now (work .entry)) (now (tally .entry)) x v number ⌝ }
 {
-    let j = loser(work, holder(tally, v), priority(work, x.moving));
+    let who = holder(tally, v);
+    let j = find_loser(work, who, priority(work, x.moving), x.moving, v);
     if j < ROWS {
         return take_over(tables, work, tally, x, v, j, number);
     }
@@ -179,7 +180,7 @@ fn resume(
     let all = capacity(tables, v);
     let who = read(work, NUMBER, j) as u64;
     let y = resume_on(work, x, v, j);
-    hold_units(work, tally, y, v, units, who, 0, all)
+    hold_units(work, tally, y, v, units, who, j, 0, all)
 }
 
 // The interrupted one has the facility again; "if there is none, it acts as RELEASE".

@@ -26,10 +26,10 @@ use Rattle.machine.proofs.Sorted.{each-those}
 use Rattle.machine.proofs.Chosen.{those-insert, those-one, those-else, those-replaced}
 use Rattle.tables.specs.Forms.{blockForms}
 use Rattle.tables.specs.Represents.{Represents}
-use Rattle.rows_laws.specs.Layout.{fel}
-use Rattle.rows_laws.specs.Cells.{read, write, priorityOf, timeOf, setTime}
+use Rattle.rows_laws.specs.Layout.{fel, holderCell}
+use Rattle.rows_laws.specs.Cells.{load, read, write, priorityOf, timeOf, setTime}
 use Rattle.rows_laws.specs.Lists.{put, first, takeFirst}
-use Rattle.rows_laws.specs.Future.{schedule, cancel, loses, loser}
+use Rattle.rows_laws.specs.Future.{schedule, cancel, loses, keepHolder, findLoser}
 use Rattle.rows_laws.specs.Holds.{transactionAt, eventAt, update}
 use Rattle.rows_laws.specs.Ordered.{All, Sorted}
 use Rattle.rows_laws.proofs.Data.{transaction-kept}
@@ -39,13 +39,14 @@ use Rattle.rows_laws.proofs.Ordering.{shows-ext}
 use Rattle.rows_laws.proofs.Take.{Head}
 use Rattle.rows_laws.proofs.Take as Take
 use Rattle.rows_laws.proofs.Later.{rows-strict}
-use Rattle.rows_laws.proofs.Interrupting.{Loser, nobody, somebody, loser-of, loses-is, taken-later, interrupt-shows, resume-shows}
+use Rattle.rows_laws.proofs.Interrupting.{Loser, nobody, somebody, find-of, loses-is, taken-later, interrupt-shows, resume-shows}
 use Rattle.rows_laws.proofs.Laws.{Wakes, Takes, fresh-given, head-shows, take-shows}
 use Rattle.state.specs.declared.scalars.Scalars.{Scalars}
 use Rattle.state.specs.ScalarSetters.{putSerial}
 use Rattle.state.specs.Sane.{Sane}
 use Rattle.state.specs.Stands.{Rows, rowsOf, interruptedRow, listsOf, Listing, Stands, Done}
 use Rattle.state.specs.Bare.{Bare, entering, goingBack, beginning, waiting, bare, bareAnswer}
+use Rattle.state.proofs.Alone.{alone}
 use Rattle.state.proofs.ListsOf.{lists-interrupted, lists-set-interrupted}
 use Rattle.state.proofs.StandsLaws.{listing-steady, tallying-ext, counting-ext}
 use Rattle.state.proofs.Moving.{placed, next-low, serial-low}
@@ -64,7 +65,7 @@ use Rattle.servers_laws.specs.Freeing.{freeOne, enterFreed}
 use Rattle.preempt_laws.specs.Preempting.{seized, interruptOn, takeOver, preemptSeized, askResume, askGiveBack, resumeOn, resumeRows, giveBackRows}
 use Rattle.preempt_laws.specs.Preempting as Preempting
 use Rattle.servers_laws.proofs.Named.{named}
-use Rattle.servers_laws.proofs.Ready.{Ready, set-ready, ready-done}
+use Rattle.servers_laws.proofs.Ready.{Ready, set-ready, keep-ready, ready-done}
 use Rattle.servers_laws.proofs.Standing.{high, units-are, holder-is, preempted-is, capacity-is, ready}
 use Rattle.servers_laws.proofs.TakingLaws.{take-done, take-used}
 use Rattle.servers_laws.proofs.FreeingLaws.{one-done}
@@ -257,8 +258,9 @@ module _ (m : BlockModel) (tape : List (List ℕ)) (tapeBytes tables lists : Lis
       unfolding takeOver holdUnits interrupt
       over-done =
           rw (on-is, units-are m tape tapeBytes tables lists proper rep s sane r t stands v (fac .0) there, capacity-is m tape tapeBytes tables lists proper rep s sane r t stands v (fac .0) there)
-          (ready-done tapeBytes x t v (fac .0) high′ (server .inUse) (server .capacity) (put w₂ p j) (setUse tally (v - 1) (server .inUse) (t .number) 1) (setHolder v (t .number) true s₁)
-          (set-ready tapeBytes x t v (fac .0) high′ (server .inUse) (server .capacity) (put w₂ p j) tally s₁ stopped-ready (server .inUse) (t .number) true)
+          (ready-done tapeBytes x t v (fac .0) high′ (server .inUse) (server .capacity) (keepHolder (put w₂ p j) (v - 1) (x .moving)) (setUse tally (v - 1) (server .inUse) (t .number) 1) (setHolder v (t .number) true s₁)
+          (keep-ready tapeBytes x t v (fac .0) high′ (server .inUse) (server .capacity) (put w₂ p j) (setUse tally (v - 1) (server .inUse) (t .number) 1) (setHolder v (t .number) true s₁)
+          (set-ready tapeBytes x t v (fac .0) high′ (server .inUse) (server .capacity) (put w₂ p j) tally s₁ stopped-ready (server .inUse) (t .number) true) (x .moving))
           (next-low proper t s sane moving))
 
   -- ---- PREEMPT
@@ -282,12 +284,13 @@ module _ (m : BlockModel) (tape : List (List ℕ)) (tapeBytes tables lists : Lis
   unfolding preemptSeized
   seized-done used is-seized =
       rw (holder-is m tape tapeBytes tables lists proper rep s sane r t stands v (fac .0) there, priority-is)
-      (go (loser-of w (server .holder) (t .priority) (L fel) (listing .shows .shown .holds .listed fel (omega arith)) (rows-strict w L (listsOf s₀) (s .fel) (listing .shows .shown) (listing .shows .ordered .future))))
+      (go (find-of w (server .holder) (t .priority) (L fel) (listing .shows .shown .holds .listed fel (omega arith)) (rows-strict w L (listsOf s₀) (s .fel) (listing .shows .shown) (listing .shows .ordered .future))
+      (x .moving) (v - 1) (alone m w (x .moving) t s (stands .listing) moving (server .holder) (sane .alone (server .holder)) (load w (holderCell (v - 1))))))
     where
       k₀ : ℕ
-      k₀ = loser w (server .holder) (t .priority)
+      k₀ = findLoser w (server .holder) (t .priority) (x .moving) (v - 1)
 
-      go : Loser w (server .holder) (t .priority) (L fel)
+      go : Loser w (server .holder) (t .priority) (L fel) k₀
           → Done tapeBytes (cond (ltb k₀ 1024) (takeOver tables w tally x (v - 1) k₀ (t .number)) (takeUnits tables w tally x (v - 1) 1 (t .number) 1)) (Doing (losersTo t v s))
       go (nobody apart far) =
           rw (le-ltb k₀ 1024 far)
@@ -446,7 +449,8 @@ module _ (m : BlockModel) (tape : List (List ℕ)) (tapeBytes tables lists : Lis
     unfolding resumeRows holdUnits moved
     resume-done =
         rw (resume-is, number-is, units-are m tape tapeBytes tables lists proper rep s sane r t stands v (fac .0) there, capacity-is m tape tapeBytes tables lists proper rep s sane r t stands v (fac .0) there)
-        (ready-done tapeBytes (putSerial n x) t v (fac .0) high′ (server .inUse) (server .capacity) (schedule u₃ j) tally₁ b₂ resumed-ready (next-low proper t s sane moving))
+        (ready-done tapeBytes (putSerial n x) t v (fac .0) high′ (server .inUse) (server .capacity) (keepHolder (schedule u₃ j) (v - 1) j) tally₁ b₂
+        (keep-ready tapeBytes (putSerial n x) t v (fac .0) high′ (server .inUse) (server .capacity) (schedule u₃ j) tally₁ b₂ resumed-ready j) (next-low proper t s sane moving))
 
   -- ---- RETURN
 
@@ -517,14 +521,14 @@ module _ (m : BlockModel) (tape : List (List ℕ)) (tapeBytes tables lists : Lis
 module _ (tables w tally : List ℕ) (x : Scalars) where
   over-used : (v j number : ℕ) → takeOver tables w tally x v j number .scalars .used ≡ x .used
   unfolding takeOver holdUnits rowsOf
-  over-used v j number = go-on-used (checkWels (interruptOn w (x .clock) v j) v (inUse tally v) (capacity tables v)) x
+  over-used v j number = go-on-used (checkWels (keepHolder (interruptOn w (x .clock) v j) v (x .moving)) v (inUse tally v) (capacity tables v)) x
 
   seized-used : (v number : ℕ) → preemptSeized tables w tally x v number .scalars .used ≡ x .used
   unfolding preemptSeized
   seized-used v number = go (ltb j 1024)
     where
       j : ℕ
-      j = loser w (holder tally v) (priorityOf w (x .moving))
+      j = findLoser w (holder tally v) (priorityOf w (x .moving)) (x .moving) v
 
       go : (b : Bool) → cond {A = Rows} b (takeOver tables w tally x v j number) (takeUnits tables w tally x v 1 number 1) .scalars .used ≡ x .used
       go true = over-used v j number

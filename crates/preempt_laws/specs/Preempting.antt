@@ -7,7 +7,7 @@ use lib.Dec.{ltb, eqb}
 use Rattle.rows_laws.specs.Layout.{numberField, interrupted, rowCount}
 use Rattle.rows_laws.specs.Cells.{read, priorityOf, timeOf, setTime}
 use Rattle.rows_laws.specs.Lists.{put, first, takeFirst}
-use Rattle.rows_laws.specs.Future.{cancel, loser}
+use Rattle.rows_laws.specs.Future.{cancel, findLoser}
 use Rattle.state.specs.declared.scalars.Scalars.{Scalars}
 use Rattle.state.specs.Stands.{Rows, rowsOf}
 use Rattle.moves.specs.Motion.{Moved, stopped}
@@ -30,12 +30,12 @@ interruptOn w clock v j = put (setTime (cancel w j) j (timeOf w j - clock)) (int
 -- the facility is taken from it
 unfoldable pub takeOver : List ℕ → List ℕ → List ℕ → Scalars → (v j number : ℕ) → Rows
 takeOver tables w tally x v j number =
-    holdUnits (interruptOn w (x .clock) v j) tally x v (inUse tally v) number 1 (capacity tables v)
+    holdUnits (interruptOn w (x .clock) v j) tally x v (inUse tally v) number (x .moving) 1 (capacity tables v)
 
 -- "a holder of lower priority that stands on the FEL" loses it; else PREEMPT waits
 unfoldable pub preemptSeized : List ℕ → List ℕ → List ℕ → Scalars → (v number : ℕ) → Rows
 preemptSeized tables w tally x v number =
-    let j : ℕ = loser w (holder tally v) (priorityOf w (x .moving)) in
+    let j : ℕ = findLoser w (holder tally v) (priorityOf w (x .moving)) (x .moving) v in
     cond (ltb j rowCount) (takeOver tables w tally x v j number) (takeUnits tables w tally x v 1 number 1)
 
 unfoldable pub preempt : List ℕ → List ℕ → List ℕ → Scalars → ℕ → Rows
@@ -64,7 +64,7 @@ resumeOn w x v j = toFuture (takeFirst w (interrupted + v)) x j (plus64 (x .cloc
 -- and has the facility again
 unfoldable pub resumeRows : List ℕ → List ℕ → List ℕ → Scalars → (v j : ℕ) → Rows
 resumeRows tables w tally x v j =
-    holdUnits (resumeOn w x v j .work) tally (resumeOn w x v j .scalars) v (inUse tally v) (read w numberField j) 0 (capacity tables v)
+    holdUnits (resumeOn w x v j .work) tally (resumeOn w x v j .scalars) v (inUse tally v) (read w numberField j) j 0 (capacity tables v)
 
 -- "if there is none, it acts as RELEASE"
 unfoldable pub giveBackRows : List ℕ → List ℕ → List ℕ → Scalars → (v : ℕ) → Rows

@@ -8,6 +8,7 @@ use crate::WORD_END;
 use crate::WORK_NUMBERS;
 ghost use mathlib.Core.Path.{_≡_};
 ghost use Prim.Native.Nat.{_+_, _*_, _<_, _≤_};
+ghost use Rattle.machine.specs.Limits.{workNumbers};
 ghost use Rattle.rows_laws.specs.Layout.{rowCount, fieldCount, Room};
 ghost use Rattle.rows_laws.specs.Cells.{load, store, read, write, priorityOf, setReturning, timeOf, setTime};
 
@@ -19,6 +20,16 @@ pub fn load(w: &[u32], i: u32) -> u32
         return w[at];
     }
     0
+}
+
+// The same of a buffer that has room for it, with no test.
+pub fn get(w: &[u32], i: u32) -> u32
+    requires { ⌜ Room (now w) ⌝ }
+    requires { ⌜ i < workNumbers ⌝ }
+    ensures { λ r. ⌜ r ≡ load (now (w .entry)) i ⌝ }
+{
+    let at = i as usize;
+    w[at]
 }
 
 pub fn store(w: &mut [u32], i: u32, x: u32)
@@ -75,6 +86,17 @@ pub fn time(w: &[u32], k: u32) -> u64
 {
     let low = read(w, TIME, k) as u64;
     let high = read(w, TIME_HIGH, k) as u64;
+    high * WORD_END + low
+}
+
+// The same of a buffer that has room for it, with no test.
+pub fn get_time(w: &[u32], k: u32) -> u64
+    requires { ⌜ Room (now w) ⌝ }
+    requires { ⌜ k < rowCount ⌝ }
+    ensures { λ r. ⌜ r ≡ timeOf (now (w .entry)) k ⌝ }
+{
+    let low = get(w, TIME * ROWS + k) as u64;
+    let high = get(w, TIME_HIGH * ROWS + k) as u64;
     high * WORD_END + low
 }
 

@@ -96,6 +96,9 @@ pub const HINTED: u32 = 63;
 
 pub const HINTS_EACH: u32 = 4;
 
+// Where the rows of holders stand, one for each server (future).
+pub const HOLDERS: u32 = TAILS + LISTS;
+
 pub const WSL_HEAD: u32 = HEADS + WSL;
 
 pub const FEL_HEAD: u32 = HEADS + FEL;

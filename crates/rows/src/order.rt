@@ -1,12 +1,12 @@
 // Who stands before whom on a list.
 
 use crate::SERIAL;
+use crate::cells::get_time;
 use crate::cells::priority;
 use crate::cells::read;
-use crate::cells::time;
 ghost use mathlib.Core.Path.{_≡_};
 ghost use Prim.Native.Nat.{_<_};
-ghost use Rattle.rows_laws.specs.Layout.{rowCount};
+ghost use Rattle.rows_laws.specs.Layout.{rowCount, Room};
 ghost use Rattle.rows_laws.specs.Order.{outranks, soonerAt};
 
 // By priority, high first, then serial, low first.
@@ -28,11 +28,12 @@ pub fn outranks(w: &[u32], x: u32, y: u32) -> bool
 
 // On the FEL by time first, row x having this time.
 pub fn sooner_at(w: &[u32], due: u64, x: u32, y: u32) -> bool
+    requires { ⌜ Room (now w) ⌝ }
     requires { ⌜ x < rowCount ⌝ }
     requires { ⌜ y < rowCount ⌝ }
     ensures { λ r. ⌜ r ≡ soonerAt (now (w .entry)) due x y ⌝ }
 {
-    let other = time(w, y);
+    let other = get_time(w, y);
     if due < other {
         return true;
     }

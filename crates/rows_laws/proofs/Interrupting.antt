@@ -1,28 +1,32 @@
 -- Document 02, item 11: a row goes from the FEL to a list, and from the head of a list to the FEL.
 use Prim.Native.Nat.{ℕ, zero, suc, _+_, _≤_, _<_}
-use mathlib.Core.Path.{_≡_, refl, sym, ap, subst}
-use mathlib.Core.Bool.{Bool, true, false, cond, not}
+use mathlib.Core.Path.{_≡_, refl, sym, ap, _∙_, subst}
+use mathlib.Core.Bool.{Bool, true, false, cond, not, true≢false}
 use mathlib.Core.List.{List, [], _∷_, _++_, map}
 use native.Mathlib.Omega.{arith}
 use native.Mathlib.Decide.{ℕ-discrete}
-use borrow.Author.Tests.{lt-ltb, ltb-true, ltb-false, not-false}
+use borrow.Author.Tests.{lt-ltb, ltb-true, ltb-false, eq-eqb, eqb-true, eqb-false, not-false}
 use lib.Dec.{ltb, eqb}
 use lib.ListN.{length, drop}
 use Rattle.machine.specs.Transaction.{Transaction, Event, precedes, earlier}
 use Rattle.machine.specs.Lists.{insert}
-use Rattle.rows_laws.specs.Layout.{listCount, slot, place, link, fel, free}
-use Rattle.rows_laws.specs.Cells.{load}
+use Rattle.rows_laws.specs.Layout.{listCount, numberField, slot, place, link, holderCell, fel, free}
+use Rattle.rows_laws.specs.Cells.{load, store, read, priorityOf}
 use Rattle.rows_laws.specs.Order.{sooner}
 use Rattle.rows_laws.specs.Lists.{put, first, takeFirst}
-use Rattle.rows_laws.specs.Future.{schedule, cancel, loses, soonerRow, loserOf, loserFrom, loser}
+use Rattle.rows_laws.specs.Future.{schedule, cancel, loses, soonerRow, loserOf, loserFrom, loser, keepHolder, isHolder, loserAt, findLoser}
 use Rattle.rows_laws.specs.Holds.{transactionAt, eventAt, occurs, Heaped, Listed, Holds, update}
 use Rattle.rows_laws.specs.Ordered.{All, Sorted, Strict}
+use Rattle.rows_laws.specs.Living.{loose}
 use Rattle.rows_laws.specs.Shows.{Shows, Loose}
 use Rattle.rows_laws.proofs.Occurs.{same-refl, same-pos, occurs-append, occurs-cons}
 use Rattle.rows_laws.proofs.Insertion.{not-both, before-none, all-append, front}
-use Rattle.rows_laws.proofs.Steps.{loser-end, loser-stop, loser-next}
+use Rattle.rows_laws.proofs.Steps.{loser-end, loser-stop, loser-next, Holder, holder-of}
 use Rattle.rows_laws.proofs.Structure.{row-of}
 use Rattle.rows_laws.proofs.Spot.{short, front-self}
+use Rattle.rows_laws.proofs.Sums.{sum-ext}
+use Rattle.rows_laws.proofs.Data.{same-row}
+use Rattle.rows_laws.proofs.Noting.{aside-below, aside-shown, holder-aside}
 use Rattle.rows_laws.proofs.Steady.{around-trans, around-steady}
 use Rattle.rows_laws.proofs.Put.{put-placed}
 use Rattle.rows_laws.proofs.Take.{rows-first}
@@ -33,15 +37,23 @@ use Rattle.rows_laws.proofs.Laws.{Fresh, Wakes, Takes, Puts, cancels, t
 
 -- ---- The holder among later events
 
--- the FEL has nobody of this number and a lower priority, or this row is the first
-pub data Loser (w : List ℕ) (n p : ℕ) (l : List ℕ) : Type 0 where
-  nobody : All (λ k. loses w n p k ≡ false) l → 1024 ≤ loser w n p → Loser w n p l
-  somebody : (a b : List ℕ) (k : ℕ) → l ≡ a ++ k ∷ b → loser w n p ≡ k → k < 1024 → All (λ k. loses w n p k ≡ false) a → loses w n p k ≡ true → Loser w n p l
+-- the FEL has nobody of this number and a lower priority and j is no row, or row j is the first
+pub data Loser (w : List ℕ) (n p : ℕ) (l : List ℕ) (j : ℕ) : Type 0 where
+  nobody : All (λ k. loses w n p k ≡ false) l → 1024 ≤ j → Loser w n p l j
+  somebody : (a b : List ℕ) (k : ℕ) → l ≡ a ++ k ∷ b → j ≡ k → k < 1024 → All (λ k. loses w n p k ≡ false) a → loses w n p k ≡ true → Loser w n p l j
 
 -- "a holder of lower priority": of this number, and its priority below
 pub loses-is : (w : List ℕ) (n p k : ℕ) → loses w n p k ≡ cond (eqb (eventAt w k .who .number) n) (ltb (eventAt w k .who .priority) p) false
 unfolding loses eventAt transactionAt
 loses-is w n p k = refl
+
+loses-own : (w : List ℕ) (n p k : ℕ) → loses w n p k ≡ true → read w numberField k ≡ n
+unfolding loses
+loses-own w n p k e = go (eqb (read w numberField k) n) refl e
+  where
+    go : (b : Bool) → eqb (read w numberField k) n ≡ b → cond b (ltb (priorityOf w k) p) false ≡ true → read w numberField k ≡ n
+    go true f e = eqb-true _ _ f
+    go false f e = absurd (true≢false (sym e))
 
 -- each of the first part of a list stands before those of the second
 part-before : (r : ℕ → ℕ → Bool) (a b : List ℕ) (k : ℕ) → Strict r (a ++ k ∷ b) → All (λ x. r x k ≡ true) a
@@ -145,11 +157,11 @@ module _ (w : List ℕ) (n p : ℕ) (l : List ℕ) (one : Listed w fel l) (stric
   all-of P [] h = tt
   all-of P (x ∷ m) h = (h x (omega (arith, occurs-cons x x m, same-refl x x refl)), all-of P m (λ y q. h y (omega (arith, occurs-cons y x m))))
 
-  pub loser-of : Loser w n p l
+  loser-of : Loser w n p l (loser w n p)
   unfolding loser
   loser-of = go (scan 1024 1024 0 (omega (arith, short w fel l one)) (missed refl (λ h hh. absurd (omega arith))))
     where
-      go : Best (loser w n p) (length l) → Loser w n p l
+      go : Best (loser w n p) (length l) → Loser w n p l (loser w n p)
       go (missed q h) = nobody (all-of (λ k. loses w n p k ≡ false) l (all-rows (λ k. loses w n p k ≡ false) h)) (omega (arith, q))
       go (met r at t h) =
           let j : ℕ = loser w n p in
@@ -167,6 +179,67 @@ module _ (w : List ℕ) (n p : ℕ) (l : List ℕ) (one : Listed w fel l) (stric
               pick : (b : Bool) → loses w n p x ≡ b → loses w n p x ≡ false
               pick true q = not-both (sooner w x j) e (f q)
               pick false q = q
+
+  -- ---- By the row that is kept for a server
+
+  -- row k has the number, and no other of the FEL
+  module _ (k : ℕ) (row : k < 1024) (own : read w numberField k ≡ n) (alone : (x : ℕ) → x < 1024 → load w (place x) ≡ fel → read w numberField x ≡ n → x ≡ k) where
+    only : (x : ℕ) → 1 ≤ occurs x l → loses w n p x ≡ true → x ≡ k
+    only x m e = alone x (on x m .0) (on x m .1) (loses-own w n p x e)
+
+    none-but : (m : List ℕ) → ((x : ℕ) → 1 ≤ occurs x m → 1 ≤ occurs x l) → ((x : ℕ) → 1 ≤ occurs x m → x ≡ k → loses w n p k ≡ false) → All (λ x. loses w n p x ≡ false) m
+    none-but m part h = all-of (λ x. loses w n p x ≡ false) m (λ x o. pick x o (loses w n p x) refl)
+      where
+        pick : (x : ℕ) → 1 ≤ occurs x m → (b : Bool) → loses w n p x ≡ b → loses w n p x ≡ false
+        pick x o false e = e
+        pick x o true e = let q : x ≡ k = only x (part x o) e in not-both (loses w n p k) (ap (loses w n p) (sym q) ∙ e) (h x o q)
+
+    loses-below : loses w n p k ≡ ltb (priorityOf w k) p
+    unfolding loses
+    loses-below = rw (eq-eqb (read w numberField k) n own)
+
+    at-of : Loser w n p l (loserAt w p k)
+    unfolding loserAt
+    at-of = go (eqb (load w (place k)) fel) (ltb (priorityOf w k) p) refl refl
+      where
+        go : (a b : Bool) → eqb (load w (place k)) fel ≡ a → ltb (priorityOf w k) p ≡ b → Loser w n p l (cond a (cond b k 1024) 1024)
+        go false b e f = nobody (none-but l (λ x o. o) (λ x o q. absurd (eqb-false _ _ e (ap (λ y. load w (place y)) (sym q) ∙ on x o .1)))) (omega arith)
+        go true false e f = nobody (none-but l (λ x o. o) (λ x o q. loses-below ∙ f)) (omega arith)
+        go true true e f =
+            let one-there : occurs k l ≡ 1 = one .once k row ∙ same-refl (load w (place k)) fel (eqb-true _ _ e) in
+            let parts = front-self k l (omega arith) in
+            let a : List ℕ = front eqb k l in
+            let twice : (x : ℕ) → occurs x l ≡ occurs x a + occurs x (k ∷ parts .0) = λ x. ap (occurs x) (parts .1) ∙ occurs-append x a (k ∷ parts .0) in
+            somebody a (parts .0) k (parts .1) refl row
+            (none-but a (λ x o. omega (arith, twice x)) (λ x o q. absurd (omega (arith, ap (λ y. occurs y a) q, twice k, occurs-cons k k (parts .0), same-refl k k refl))))
+            (loses-below ∙ f)
+
+  pub find-of : (moving v : ℕ) → (Holder w n moving (load w (holderCell v)) → (x : ℕ) → x < 1024 → load w (place x) ≡ fel → read w numberField x ≡ n → x ≡ load w (holderCell v))
+      → Loser w n p l (findLoser w n p moving v)
+  unfolding findLoser
+  find-of moving v alone = go (isHolder w n moving (load w (holderCell v))) refl
+    where
+      go : (b : Bool) → isHolder w n moving (load w (holderCell v)) ≡ b → Loser w n p l (cond b (loserAt w p (load w (holderCell v))) (loser w n p))
+      go false e = loser-of
+      go true e = let h : Holder w n moving (load w (holderCell v)) = holder-of w n moving (load w (holderCell v)) e in at-of (load w (holderCell v)) (h .row) (h .own) (alone h)
+
+-- no list reads the row that is kept
+pub keep-holder-wakes : (w : List ℕ) (T : ℕ → List Transaction) (E : List Event) → Shows w T E → (v k : ℕ) → Wakes w (keepHolder w v k) T E
+unfolding keepHolder
+keep-holder-wakes w T E s v k =
+    record {
+      shows = record { rows = s .rows; shown = aside-shown w (holderCell v) k (holder-aside v) (s .rows) T E (s .shown); ordered = s .ordered };
+      steady =
+          record {
+            loose = λ m l. record { row = l .row; off = kept m (l .row) ∙ l .off };
+            same = λ m l. same-row w (store w (holderCell v) k) m (l .row) (λ i hi. aside-below w (holderCell v) k (holder-aside v) i (omega arith));
+            count = unfold loose in sum-ext 1024 _ _ (λ m hm. ap (λ (x : ℕ). cond (ltb x listCount) 0 1) (kept m hm));
+            frees = λ m hm. ap (λ (x : ℕ). eqb x free) (kept m hm);
+          };
+    }
+  where
+    kept : (m : ℕ) → m < 1024 → load (store w (holderCell v) k) (place m) ≡ load w (place m)
+    kept m hm = aside-below w (holderCell v) k (holder-aside v) (place m) (omega arith)
 
 -- ---- A row that was taken from a list has data written and comes onto one
 

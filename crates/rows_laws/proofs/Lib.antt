@@ -16,9 +16,9 @@ pub mod Heap
 pub mod Sifting
 pub mod Heaped
 pub mod Holding
-pub mod Noting
 pub mod Scheduling
 pub mod Showing
+pub mod Noting
 pub mod Ordering
 pub mod Put
 pub mod LiningUp

@@ -1,71 +1,95 @@
--- A hint is read by no list: noting one leaves them all.
+-- Behind the heads and the tails stand numbers that no list reads, hints and rows of holders: storing one leaves every list.
 use Prim.Native.Nat.{ℕ, _≤_, _<_}
 use mathlib.Core.Path.{_≡_, sym, ap, _∙_}
 use mathlib.Core.Logic.{_≢_}
 use mathlib.Core.List.{List}
 use native.Mathlib.Omega.{arith}
 use lib.ListN.{length}
-use Rattle.rows_laws.specs.Layout.{slot, place, link, head, tail, hint, fel, hints, tails, listCount}
-use Rattle.rows_laws.specs.Cells.{load, priorityOf}
+use Rattle.machine.specs.Transaction.{Transaction, Event}
+use Rattle.rows_laws.specs.Layout.{slot, place, link, head, tail, hint, holderCell, fel, hints, listCount}
+use Rattle.rows_laws.specs.Cells.{load, store, priorityOf}
 use Rattle.rows_laws.specs.Lists.{note}
 use Rattle.rows_laws.specs.Holds.{same, Listed, Holds}
+use Rattle.rows_laws.specs.Shows.{Shown}
 use Rattle.rows_laws.proofs.Store.{length-store, load-other}
 use Rattle.rows_laws.proofs.Chain.{chain-moved}
 use Rattle.rows_laws.proofs.Slots.{sooner-kept}
 use Rattle.rows_laws.proofs.Heaped.{Unread, heaped-kept}
 use Rattle.rows_laws.proofs.Spot.{short}
 use Rattle.rows_laws.proofs.Holding.{Kept}
+use Rattle.rows_laws.proofs.Showing.{transactions-kept, events-kept}
 
-module _ (w : List ℕ) (p k : ℕ) where
-  low : hints ≤ hint p (priorityOf w k)
-  low = omega arith
+-- ---- Any of them
 
-  high : hint p (priorityOf w k) < tails
-  high = omega arith
+pub record Aside (c : ℕ) : Type 0 where
+  pub low : hints ≤ c
+  pub apart : (q : ℕ) → q < listCount → tail q ≢ c
 
-  note-length : length (note w p k) ≡ length w
-  unfolding note
-  note-length = length-store w (hint p (priorityOf w k)) k
+module _ (w : List ℕ) (c x : ℕ) (aside : Aside c) where
+  abbrev w₁ : List ℕ
+  w₁ = store w c x
 
-  note-other : (x : ℕ) → x ≢ hint p (priorityOf w k) → load (note w p k) x ≡ load w x
-  unfolding note
-  note-other x d = load-other w (hint p (priorityOf w k)) k x d
+  pub aside-below : (i : ℕ) → i < hints → load w₁ i ≡ load w i
+  aside-below i h = load-other w c x i (λ e. omega (arith, aside .low))
 
-  below-hints : (x : ℕ) → x < hints → load (note w p k) x ≡ load w x
-  below-hints x h = note-other x (λ e. omega (arith, low))
+  tails-kept : (q : ℕ) → q < listCount → load w₁ (tail q) ≡ load w (tail q)
+  tails-kept q hq = load-other w c x (tail q) (aside .apart q hq)
 
-  unread : (n : ℕ) → n ≤ 1024 → Unread w (note w p k) n
+  unread : (n : ℕ) → n ≤ 1024 → Unread w w₁ n
   unread n few =
       record {
-        heads = below-hints (head fel) (omega arith);
-        tails = note-other (tail fel) (λ e. omega (arith, high));
-        slots = λ i hi. below-hints (slot i) (omega arith);
-        stay = λ r hr at. below-hints (place r) (omega arith) ∙ at;
-        were = λ r hr at. sym (below-hints (place r) (omega arith)) ∙ at;
-        links = λ r hr at. below-hints (link r) (omega arith);
-        order = λ x y hx hy a b. sooner-kept w (note w p k) (λ i hi. below-hints i (omega arith)) x y hx hy;
+        heads = aside-below (head fel) (omega arith);
+        tails = tails-kept fel (omega arith);
+        slots = λ i hi. aside-below (slot i) (omega arith);
+        stay = λ r hr at. aside-below (place r) (omega arith) ∙ at;
+        were = λ r hr at. sym (aside-below (place r) (omega arith)) ∙ at;
+        links = λ r hr at. aside-below (link r) (omega arith);
+        order = λ x y hx hy a b. sooner-kept w w₁ (λ i hi. aside-below i (omega arith)) x y hx hy;
       }
 
-  note-listed : (q : ℕ) (l : List ℕ) → q < listCount → Listed w q l → Listed (note w p k) q l
-  note-listed q l hq one =
+  aside-listed : (q : ℕ) (l : List ℕ) → q < listCount → Listed w q l → Listed w₁ q l
+  aside-listed q l hq one =
       record {
-        chain = λ d.
-            chain-moved w (note w p k) (head q) (head q) l (below-hints (head q) (omega arith)) (λ j m. below-hints (link j) (omega (arith, one .row j m))) (one .chain d);
-        last = λ d. note-other (tail q) (λ e. omega (arith, high)) ∙ one .last d;
-        heap = λ e. heaped-kept w (note w p k) (length l) (unread (length l) (short w q l one)) (one .heap e);
+        chain = λ d. chain-moved w w₁ (head q) (head q) l (aside-below (head q) (omega arith)) (λ j m. aside-below (link j) (omega (arith, one .row j m))) (one .chain d);
+        last = λ d. tails-kept q hq ∙ one .last d;
+        heap = λ e. heaped-kept w w₁ (length l) (unread (length l) (short w q l one)) (one .heap e);
         row = one .row;
-        once = λ j hj. one .once j hj ∙ ap (λ (y : ℕ). same y q) (sym (below-hints (place j) (omega arith)));
+        once = λ j hj. one .once j hj ∙ ap (λ (y : ℕ). same y q) (sym (aside-below (place j) (omega arith)));
       }
+
+  pub aside-holds : (L : ℕ → List ℕ) → Holds w L → Holds w₁ L
+  aside-holds L h = record { room = rw (length-store w c x) (h .room); listed = λ q hq. aside-listed q (L q) hq (h .listed q hq) }
+
+  pub aside-shown : (L : ℕ → List ℕ) (T : ℕ → List Transaction) (E : List Event) → Shown w L T E → Shown w₁ L T E
+  aside-shown L T E s =
+      let h : Holds w₁ L = aside-holds L (s .holds) in
+      record {
+        holds = h;
+        lists = λ q hq. transactions-kept w w₁ q (L q) (λ i hi. aside-below i (omega arith)) (h .listed q (omega arith)) ∙ s .lists q hq;
+        future = events-kept w w₁ fel (L fel) (λ i hi. aside-below i (omega arith)) (h .listed fel (omega arith)) ∙ s .future;
+      }
+
+pub holder-aside : (v : ℕ) → Aside (holderCell v)
+holder-aside v = record { low = omega arith; apart = λ q hq e. omega arith }
+
+-- ---- Hints
+
+module _ (w : List ℕ) (p k : ℕ) where
+  hint-aside : Aside (hint p (priorityOf w k))
+  hint-aside = record { low = omega arith; apart = λ q hq e. omega arith }
 
   pub note-holds : (L : ℕ → List ℕ) → Holds w L → Holds (note w p k) L
-  note-holds L h = record { room = rw note-length (h .room); listed = λ q hq. note-listed q (L q) hq (h .listed q hq) }
+  unfolding note
+  note-holds = aside-holds w (hint p (priorityOf w k)) k hint-aside
 
   pub note-placed : (j : ℕ) → j < 1024 → load (note w p k) (place j) ≡ load w (place j)
-  note-placed j hj = below-hints (place j) (omega arith)
+  unfolding note
+  note-placed j hj = aside-below w (hint p (priorityOf w k)) k hint-aside (place j) (omega arith)
 
   pub note-keeps : (v : List ℕ) → Kept v w k → Kept v (note w p k) k
+  unfolding note
   note-keeps v kept =
       record {
-        rows = λ i h. below-hints i (omega arith) ∙ kept .rows i h;
-        places = λ j h d. note-placed j h ∙ kept .places j h d;
+        rows = λ i h. aside-below w (hint p (priorityOf w k)) k hint-aside i (omega arith) ∙ kept .rows i h;
+        places = λ j h d. aside-below w (hint p (priorityOf w k)) k hint-aside (place j) (omega arith) ∙ kept .places j h d;
       }

@@ -1,12 +1,12 @@
 -- No operation touches a number past the 16,384th, whatever the buffer holds.
-use Prim.Native.Nat.{ℕ, zero, suc, _-_}
+use Prim.Native.Nat.{ℕ, zero, suc, _+_, _*_, _-_, _/_, _%_}
 use mathlib.Core.Path.{_≡_, refl, _∙_}
 use mathlib.Core.Bool.{Bool, true, false, cond}
 use mathlib.Core.List.{List}
 use lib.Dec.{ltb, eqb}
 use lib.ListN.{drop}
-use Rattle.rows_laws.specs.Layout.{slot, place, link, head, tail, fel, free, nowhere, fieldAt, listCount}
-use Rattle.rows_laws.specs.Cells.{load, store, read, write, timeOf, setTime}
+use Rattle.rows_laws.specs.Layout.{slot, place, link, head, tail, hint, rel, fel, free, nowhere, fieldAt, listCount, wordEnd}
+use Rattle.rows_laws.specs.Cells.{load, store, read, write, priorityOf, setReturning, timeOf, setTime}
 use Rattle.rows_laws.specs.Order.{outranks}
 use Rattle.rows_laws.specs.Lists.{endAt, insertAt, removeRow, removeAt, spot, note, put, first, takeFirst, cellOf, remove}
 use Rattle.rows_laws.specs.Future.{size, settle, pull, above, rise, below, sink, top, keep, scheduleLast, schedule, fillBy, fill, cancelOf, cancel}
@@ -56,7 +56,9 @@ past-removeAt w p c = past-cond (ltb (load w c) 1024) w (removeRow w p c (load w
 pub past-put : (w : List ℕ) (p k : ℕ) → past (put w p k) ≡ past w
 unfolding put note
 past-put w p k =
-    past-store (insertAt w p (spot (outranks w) w p k) k) _ k ∙ past-insertAt w p (spot (outranks w) w p k) k
+    let c : ℕ = spot (outranks w) w p k in
+    let a : List ℕ = insertAt w p c k in
+    past-store a (hint p (priorityOf a k)) k ∙ past-insertAt w p c k
 
 pub past-takeFirst : (w : List ℕ) (p : ℕ) → past (takeFirst w p) ≡ past w
 past-takeFirst w p = past-removeAt w p (head p)
@@ -106,7 +108,9 @@ unfolding schedule scheduleLast
 past-schedule w k = past-cond (ltb (size w) 1024) w (scheduleLast w (size w) k) (row (size w))
   where
     row : (n : ℕ) → past (scheduleLast w n k) ≡ past w
-    row n = past-keep _ _ ∙ past-rise 1024 _ _ k n ∙ past-store w (place k) fel
+    row n =
+        let a : List ℕ = store w (place k) fel in
+        past-keep (rise 1024 a (timeOf w k) k n) (n + 1) ∙ past-rise 1024 a (timeOf w k) k n ∙ past-store w (place k) fel
 
 past-fill : (w : List ℕ) (n i : ℕ) → past (fill w n i) ≡ past w
 unfolding fill fillBy
@@ -121,7 +125,9 @@ past-cancel w k =
     past-cond′ (eqb (size w) 0) w (cond (ltb 1024 (size w)) w (cancelOf w (size w - 1) k)) (past-cond′ (ltb 1024 (size w)) w (cancelOf w (size w - 1) k) (row (size w - 1)))
   where
     row : (n : ℕ) → past (cancelOf w n k) ≡ past w
-    row n = past-keep _ n ∙ past-fill _ n (load w (link k)) ∙ past-store w (place k) nowhere
+    row n =
+        let a : List ℕ = store w (place k) nowhere in
+        past-keep (fill a n (load w (link k))) n ∙ past-fill a n (load w (link k)) ∙ past-store w (place k) nowhere
 
 -- ---- Waking
 
@@ -131,7 +137,8 @@ past-wakeAt w p c = past-cond (ltb (load w c) 1024) w (wakeRow w p c (load w c))
   where
     row : (k : ℕ) → past (wakeRow w p c k) ≡ past w
     row k =
-        past-put _ _ k ∙ past-store _ _ _ ∙ past-removeAt w p c
+        let a : List ℕ = removeAt w p c in
+        past-put (setReturning a k 1) rel k ∙ past-write a 1 k (read a 1 k / 2 * 2 + 1) ∙ past-removeAt w p c
 
 pub past-wakeAll : (test : List ℕ → ℕ → Bool) (n : ℕ) (w : List ℕ) (p c : ℕ) → past (wakeAll test n w p c) ≡ past w
 unfolding wakeAll passRows
@@ -149,7 +156,9 @@ past-arriveFirst w s = past-cond (ltb (first w fel) 1024) w (arriveRow w s (firs
   where
     row : (k : ℕ) → past (arriveRow w s k) ≡ past w
     row k =
-        past-put _ _ k ∙ past-store _ _ _ ∙ past-store _ _ _ ∙ past-cancel w k
+        let a : List ℕ = cancel w k in
+        let b : List ℕ = setReturning a k 0 in
+        past-put (write b 7 k s) rel k ∙ past-write b 7 k s ∙ past-write a 1 k (read a 1 k / 2 * 2 + 0) ∙ past-cancel w k
 
 pub past-arrive : (n time : ℕ) (w : List ℕ) (s : ℕ) → past (arrive n time w s .rows) ≡ past w
 unfolding arrive arrived
@@ -164,20 +173,31 @@ past-arrive (suc n) time w s = go (isDue w time) (past-arrive n time (arriveFirs
 
 past-clear : (w : List ℕ) (k : ℕ) → past (clearParameters w k) ≡ past w
 unfolding clearParameters
-past-clear w k = past-write _ 5 k 0 ∙ past-write _ 4 k 0 ∙ past-write _ 3 k 0 ∙ past-write _ 2 k 0
+past-clear w k =
+    let a : List ℕ = write w 2 k 0 in
+    let b : List ℕ = write a 3 k 0 in
+    past-write (write b 4 k 0) 5 k 0 ∙ past-write b 4 k 0 ∙ past-write a 3 k 0 ∙ past-write w 2 k 0
 
 past-copy : (w : List ℕ) (j k : ℕ) → past (copyParameters w j k) ≡ past w
 unfolding copyParameters
 past-copy w j k =
-    past-write _ 5 k (read w 5 j) ∙ past-write _ 4 k (read w 4 j) ∙ past-write _ 3 k (read w 3 j) ∙ past-write _ 2 k (read w 2 j)
+    let a : List ℕ = write w 2 k (read w 2 j) in
+    let b : List ℕ = write a 3 k (read w 3 j) in
+    past-write (write b 4 k (read w 4 j)) 5 k (read w 5 j) ∙ past-write b 4 k (read w 4 j) ∙ past-write a 3 k (read w 3 j) ∙ past-write w 2 k (read w 2 j)
 
 past-time : (w : List ℕ) (k time : ℕ) → past (setTime w k time) ≡ past w
 unfolding setTime
-past-time w k time = past-write _ 9 k (_) ∙ past-write _ 8 k (_)
+past-time w k time =
+    past-write (write w 8 k (time % wordEnd)) 9 k (time / wordEnd) ∙ past-write w 8 k (time % wordEnd)
 
 past-describe : (w : List ℕ) (k n p b f : ℕ) → past (describe w k n p b f) ≡ past w
 unfolding describe
-past-describe w k n p b f = past-write _ 10 k f ∙ past-time _ k 0 ∙ past-write _ 7 k 0 ∙ past-write _ 6 k b ∙ past-write _ 1 k (_) ∙ past-write _ 0 k n
+past-describe w k n p b f =
+    let numbered : List ℕ = write w 0 k n in
+    let ranked : List ℕ = write numbered 1 k (p * 2) in
+    let next : List ℕ = write ranked 6 k b in
+    let bare : List ℕ = write next 7 k 0 in
+    past-write (setTime bare k 0) 10 k f ∙ past-time bare k 0 ∙ past-write next 7 k 0 ∙ past-write ranked 6 k b ∙ past-write numbered 1 k (p * 2) ∙ past-write w 0 k n
 
 pub past-newbornAt : (w : List ℕ) (k n p b : ℕ) → past (newbornAt w k n p b) ≡ past w
 unfolding newbornAt
@@ -185,7 +205,8 @@ past-newbornAt w k n p b = past-clear (describe w k n p b n) k ∙ past-describe
 
 pub past-copyAt : (w : List ℕ) (j k n b : ℕ) → past (copyAt w j k n b) ≡ past w
 unfolding copyAt
-past-copyAt w j k n b = past-copy _ j k ∙ past-describe w k n (_) b (_)
+past-copyAt w j k n b =
+    past-copy (describe w k n (read w 1 j / 2) b (read w 10 j)) j k ∙ past-describe w k n (read w 1 j / 2) b (read w 10 j)
 
 pub past-freeRow : (w : List ℕ) (k : ℕ) → past (freeRow w k) ≡ past w
 unfolding freeRow
@@ -205,7 +226,7 @@ past-loosen (suc n) w = past-store (looseRows n w) (place n) nowhere ∙ past-lo
 past-free : (n : ℕ) (w : List ℕ) → past (freeRows n w) ≡ past w
 unfolding freeRows
 past-free zero w = refl
-past-free (suc n) w = past-freeRow _ _ ∙ past-free n w
+past-free (suc n) w = past-freeRow (freeRows n w) n ∙ past-free n w
 
 pub past-initial : (w : List ℕ) → past (initial w) ≡ past w
 unfolding initial

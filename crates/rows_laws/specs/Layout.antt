@@ -10,7 +10,7 @@
 -- | 7     | serial                              | 13    | link: the row after it on its list, |
 -- |       |                                     |       | on the FEL its slot                |
 -- | 8     | move time or stamp, low half        | 14    | heads of lists 0..771, then hints  |
--- |       | (remaining ticks if interrupted)    | 15    | tails of lists 0..771              |
+-- |       | (remaining ticks if interrupted)    | 15    | tails of lists 0..771, then rows of holders |
 --
 -- A cell is a number of the buffer that holds a row: a head or a link. 1024, and any number above it, is no row. The tail of a
 -- list is its last cell: the head itself where the list is empty. The FEL is no chain of cells but a heap of slots: its head holds the first row,
@@ -26,7 +26,7 @@
 -- | interrupted | 706 + (facility - 1): 706..769, at most one |
 -- | FEL         | 770                                         |
 -- | free        | 771: the rows that are not living           |
--- | others      | there are none: the rest of field 14 holds hints (Lists), that of field 15 is spare |
+-- | others      | there are none: the rest of field 14 holds hints (Lists), that of field 15 rows of holders (Future), 64 of them |
 use Prim.Native.Nat.{ℕ, _+_, _*_, _-_, _%_, _≤_}
 use mathlib.Core.List.{List}
 use lib.ListN.{length}
@@ -116,6 +116,10 @@ tails = 15360
 abbrev pub hints : ℕ
 hints = 15108
 
+-- where the rows of holders stand, one for each server
+abbrev pub holders : ℕ
+holders = 16132
+
 abbrev pub slot : ℕ → ℕ
 slot i = slots + i
 
@@ -130,6 +134,10 @@ head p = heads + p
 
 abbrev pub tail : ℕ → ℕ
 tail p = tails + p
+
+-- of server v, counted from 0
+abbrev pub holderCell : ℕ → ℕ
+holderCell v = holders + v
 
 -- by list and priority
 abbrev pub hint : ℕ → ℕ → ℕ

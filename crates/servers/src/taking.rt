@@ -8,6 +8,7 @@ use moves::go_on;
 use moves::wait_on;
 use rows::NUMBER;
 use rows::cells::read;
+use rows::future::keep_holder;
 use state::Scalars;
 use state::less64;
 use state::plus64;
@@ -25,7 +26,7 @@ ghost use Rattle.rows_laws.specs.Layout.{Room, rowCount};
 ghost use Rattle.state.specs.Stands.{rowsOf};
 ghost use Rattle.servers_laws.specs.Taking.{holdUnits, queueUp, takeUnits, seize, enter};
 
-// It enters; so many units are in use, and `who` holds the server, 0 for nobody; 1 for by PREEMPT.
+// It enters; so many units are in use, and `who`, whose row is k, holds the server, 0 for nobody; 1 for by PREEMPT.
 pub fn hold_units(
     work: &mut [u32],
     tally: &mut [u64],
@@ -33,15 +34,17 @@ pub fn hold_units(
     v: u32,
     units: u64,
     who: u64,
+    k: u32,
     preempts: u64,
     capacity: u64,
 ) -> Scalars
     requires { ⌜ Room (now work) ⌝ }
     requires { ⌜ x .moving < rowCount ⌝ }
     requires { ⌜ v < serverCount ⌝ }
-    ensures { λ r. ⌜ rowsOf r (now (work .exit)) (now (tally .exit)) ≡ holdUnits (now (work .entry)) (now (tally .entry)) x v units who preempts capacity ⌝ }
+    ensures { λ r. ⌜ rowsOf r (now (work .exit)) (now (tally .exit)) ≡ holdUnits (now (work .entry)) (now (tally .entry)) x v units who k preempts capacity ⌝ }
 {
     set_use(tally, v, units, who, preempts);
+    keep_holder(work, v, k);
     check_wels(work, v, units, capacity);
     go_on(work, x)
 }
@@ -77,7 +80,7 @@ pub fn take_units(
     let units = in_use(tally, v);
     let all = capacity(tables, v);
     if b <= less64(all, units) {
-        return hold_units(work, tally, x, v, units + b, who, preempts, all);
+        return hold_units(work, tally, x, v, units + b, who, x.moving, preempts, all);
     }
     queue_up(work, tally, x, v, number(tables, EDITION))
 }

@@ -21,13 +21,16 @@ use Rattle.machine.specs.Moves as Moves
 use Rattle.machine.specs.Execute as Execute
 use Rattle.machine.proofs.Shape.{wel-below}
 use Rattle.rows_laws.specs.Layout.{head}
+use Rattle.rows_laws.specs.Future.{keepHolder}
 use Rattle.rows_laws.specs.Wake.{wakeFirst, wakeWalk}
 use Rattle.rows_laws.specs.Holds.{transactionAt}
+use Rattle.rows_laws.proofs.Interrupting.{keep-holder-wakes}
+use Rattle.rows_laws.proofs.Laws.{Wakes}
 use Rattle.state.specs.declared.scalars.Scalars.{Scalars}
 use Rattle.state.specs.Stands.{listsOf, Listing, Tallying, Counting, Done}
 use Rattle.state.specs.Bare.{entering}
 use Rattle.state.proofs.ListsOf.{lists-ql}
-use Rattle.state.proofs.StandsLaws.{listing-ext, tallying-ext, counting-ext}
+use Rattle.state.proofs.StandsLaws.{listing-ext, listing-steady, tallying-ext, counting-ext}
 use Rattle.state.proofs.WakingLaws.{wake-first-ql-listing, wake-ql-listing}
 use Rattle.moves.specs.Motion.{withTally, goOn}
 use Rattle.servers_laws.specs.Units.{setUse}
@@ -71,6 +74,22 @@ module _ (tapeBytes : List ℕ) (x : Scalars) (t : Transaction) (v : ℕ) (low :
         wels = h .wels;
         ql = h .ql;
         server = omega (arith, h .server, length-set (s .view .servers) (v - 1) (withUse n who preempts server));
+        samples = h .samples;
+      }
+
+  -- the row of its holder is kept
+  pub keep-ready : (k : ℕ) → Ready tapeBytes x t v units all (keepHolder w (v - 1) k) tally s
+  keep-ready k =
+      let kept : Wakes w (keepHolder w (v - 1) k) (listsOf s) (s .fel) = keep-holder-wakes w (listsOf s) (s .fel) (h .listing .shows) (v - 1) k in
+      record {
+        listing = listing-steady w (keepHolder w (v - 1) k) (x .moving) (some t) s s (kept .shows) (kept .steady) refl (h .listing);
+        tallying = h .tallying;
+        counting = h .counting;
+        held = h .held;
+        holds = h .holds;
+        wels = h .wels;
+        ql = h .ql;
+        server = h .server;
         samples = h .samples;
       }
 

@@ -21,6 +21,7 @@ use Rattle.machine.proofs.Sorted.{Sorted}
 use Rattle.machine.proofs.Proper.{Proper, ProperBlock, Names, Storage, servers}
 use Rattle.tables.specs.Forms.{blockForms}
 use Rattle.tables.specs.Represents.{Represents}
+use Rattle.rows_laws.specs.Future.{keepHolder}
 use Rattle.state.specs.declared.scalars.Scalars.{Scalars}
 use Rattle.state.specs.Sane.{Sane}
 use Rattle.state.specs.Stands.{Rows, rowsOf, Stands, Done}
@@ -35,7 +36,7 @@ use Rattle.servers_laws.specs.Taking.{holdUnits, longer, queueUp, takeUn
 use Rattle.servers_laws.specs.Taking as Taking
 use Rattle.servers_laws.proofs.Named.{named}
 use Rattle.servers_laws.proofs.Tallies.{queued-tallying}
-use Rattle.servers_laws.proofs.Ready.{Ready, set-ready, ready-done}
+use Rattle.servers_laws.proofs.Ready.{Ready, set-ready, keep-ready, ready-done}
 use Rattle.servers_laws.proofs.Standing.{high, units-are, capacity-is, short, ready}
 
 module _ (m : BlockModel) (tape : List (List ℕ)) (tapeBytes tables lists : List ℕ) (proper : Proper m tape) (rep : Represents m tape tapeBytes tables lists)
@@ -64,11 +65,12 @@ module _ (m : BlockModel) (tape : List (List ℕ)) (tapeBytes tables lists : Lis
     ready′ = ready m tape tapeBytes tables lists proper rep s sane r t stands v low there
 
     -- it enters
-    hold-done : Done tapeBytes (holdUnits w tally x (v - 1) (server .inUse + b) who (bit preempts) (server .capacity)) (entering (Moves.goOn t (Execute.checkWels v (Moves.setUse v (server .inUse + b) who preempts s₀))))
+    hold-done : Done tapeBytes (holdUnits w tally x (v - 1) (server .inUse + b) who (x .moving) (bit preempts) (server .capacity)) (entering (Moves.goOn t (Execute.checkWels v (Moves.setUse v (server .inUse + b) who preempts s₀))))
     unfolding holdUnits
     hold-done =
-        ready-done tapeBytes x t v low high′ (server .inUse + b) (server .capacity) w (setUse tally (v - 1) (server .inUse + b) who (bit preempts)) (Moves.setUse v (server .inUse + b) who preempts s₀)
-        (set-ready tapeBytes x t v low high′ (server .inUse) (server .capacity) w tally s₀ ready′ (server .inUse + b) who preempts)
+        ready-done tapeBytes x t v low high′ (server .inUse + b) (server .capacity) (keepHolder w (v - 1) (x .moving)) (setUse tally (v - 1) (server .inUse + b) who (bit preempts)) (Moves.setUse v (server .inUse + b) who preempts s₀)
+        (keep-ready tapeBytes x t v low high′ (server .inUse + b) (server .capacity) w (setUse tally (v - 1) (server .inUse + b) who (bit preempts)) (Moves.setUse v (server .inUse + b) who preempts s₀)
+        (set-ready tapeBytes x t v low high′ (server .inUse) (server .capacity) w tally s₀ ready′ (server .inUse + b) who preempts) (x .moving))
         (next-low proper t s sane moving)
 
     -- it waits on the QL, which is in order under edition 1
@@ -91,7 +93,7 @@ module _ (m : BlockModel) (tape : List (List ℕ)) (tapeBytes tables lists : Lis
         rw (capacity-is m tape tapeBytes tables lists proper rep s sane r t stands v low there, units-are m tape tapeBytes tables lists proper rep s sane r t stands v low there, rep .edition)
         (go (leb b (free server)))
       where
-        go : (fits : Bool) → Done tapeBytes (cond fits (holdUnits w tally x (v - 1) (server .inUse + b) who (bit preempts) (server .capacity)) (queueUp w tally x (v - 1) (m .edition)))
+        go : (fits : Bool) → Done tapeBytes (cond fits (holdUnits w tally x (v - 1) (server .inUse + b) who (x .moving) (bit preempts) (server .capacity)) (queueUp w tally x (v - 1) (m .edition)))
             (cond fits (entering (Moves.goOn t (Execute.checkWels v (Moves.setUse v (server .inUse + b) who preempts s₀)))) (waiting (Moves.toQl (m .edition) v) t s₀))
         go true = hold-done
         go false = queue-done
@@ -122,8 +124,8 @@ module _ (tables w tally : List ℕ) (x : Scalars) where
   unfolding takeUnits holdUnits queueUp rowsOf
   take-used v b who preempts = go (leb b (capacity tables v - inUse tally v))
     where
-      go : (fits : Bool) → cond {A = Rows} fits (holdUnits w tally x v (inUse tally v + b) who preempts (capacity tables v)) (queueUp w tally x v (getD tables 2624 0)) .scalars .used ≡ x .used
-      go true = go-on-used (checkWels w v (inUse tally v + b) (capacity tables v)) x
+      go : (fits : Bool) → cond {A = Rows} fits (holdUnits w tally x v (inUse tally v + b) who (x .moving) preempts (capacity tables v)) (queueUp w tally x v (getD tables 2624 0)) .scalars .used ≡ x .used
+      go true = go-on-used (checkWels (keepHolder w v (x .moving)) v (inUse tally v + b) (capacity tables v)) x
       go false = wait-on-used w x v (getD tables 2624 0)
 
   pub seize-used : (at : ℕ) → Taking.seize tables w tally x at .scalars .used ≡ x .used

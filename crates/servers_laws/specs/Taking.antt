@@ -7,15 +7,16 @@ use lib.ListN.{getD, set}
 use Rattle.tables.specs.Layout as Layout
 use Rattle.rows_laws.specs.Layout.{numberField}
 use Rattle.rows_laws.specs.Cells.{read}
+use Rattle.rows_laws.specs.Future.{keepHolder}
 use Rattle.state.specs.declared.scalars.Scalars.{Scalars}
 use Rattle.state.specs.Stands.{Rows}
 use Rattle.moves.specs.Motion.{withTally, goOn, waitOn}
 use Rattle.servers_laws.specs.Units.{serverAt, inUse, setUse, capacity}
 use Rattle.servers_laws.specs.Waking.{checkWels}
 
--- it enters; so many units are in use, who holds the server, and whether by PREEMPT
-unfoldable pub holdUnits : List ℕ → List ℕ → Scalars → (v units who preempts all : ℕ) → Rows
-holdUnits w tally x v units who preempts all = withTally (goOn (checkWels w v units all) x) (setUse tally v units who preempts)
+-- it enters; so many units are in use, who holds the server, with its row k, and whether by PREEMPT
+unfoldable pub holdUnits : List ℕ → List ℕ → Scalars → (v units who k preempts all : ℕ) → Rows
+holdUnits w tally x v units who k preempts all = withTally (goOn (checkWels (keepHolder w v k) v units all) x) (setUse tally v units who preempts)
 
 -- the QL is longer by one
 unfoldable pub longer : List ℕ → ℕ → List ℕ
@@ -26,7 +27,7 @@ queueUp w tally x v edition = withTally (waitOn w x v edition) (longer tally v)
 
 unfoldable pub takeUnits : List ℕ → List ℕ → List ℕ → Scalars → (v b who preempts : ℕ) → Rows
 takeUnits tables w tally x v b who preempts =
-    cond (leb b (capacity tables v - inUse tally v)) (holdUnits w tally x v (inUse tally v + b) who preempts (capacity tables v)) (queueUp w tally x v (getD tables Layout.edition 0))
+    cond (leb b (capacity tables v - inUse tally v)) (holdUnits w tally x v (inUse tally v + b) who (x .moving) preempts (capacity tables v)) (queueUp w tally x v (getD tables Layout.edition 0))
 
 -- document 02, item 6: "the number of its holder, written at SEIZE"
 unfoldable pub seize : List ℕ → List ℕ → List ℕ → Scalars → ℕ → Rows

@@ -19,7 +19,7 @@ use Rattle.machine.specs.Moves.{interruptedAt}
 use Rattle.machine.specs.Turn.{taking, turn}
 use Rattle.machine.specs.Run.{idle, startAt, start}
 use Rattle.machine.specs.Report.{placed, places}
-use Rattle.machine.specs.Claims.{Each, loserBy}
+use Rattle.machine.specs.Claims.{Each, everyone, standing, loserBy}
 use Rattle.machine.proofs.Proper.{Proper, Names}
 use Rattle.machine.proofs.Chosen.{upto, none-numbered}
 use Rattle.machine.proofs.Holders.{Holding, holding-taking, holding-turn, holding-start}
@@ -33,7 +33,7 @@ use Rattle.machine.proofs.Waiting.{Waits}
 use Rattle.machine.proofs.WaitsKept.{waits-taken, waits-kept, waits-start}
 use Rattle.machine.proofs.StillWaiting.{AllHold, settled-turn, settled-start}
 use Rattle.machine.proofs.Clocks.{Timely, taking-timely, timely-turn, timely-start}
-use Rattle.machine.proofs.Conservation.{Sound, Conserved, sound-conserved, sound-start, sound-turn}
+use Rattle.machine.proofs.Conservation.{Sound, Conserved, sound-conserved, stands-at-most-once, sound-start, sound-taking, sound-turn}
 use Rattle.state.specs.Bare.{Note, enteredNote, waitsNote, noNote, logged, countEntry, noteAs}
 use Rattle.state.specs.Sane.{Sane}
 use Rattle.machine.proofs.Ahead.{Ahead}
@@ -117,9 +117,9 @@ stopped-of m tape s h = (h .known, λ f at seized. none-numbered (interruptedAt 
         positive n = omega arith
 
 module _ {m : BlockModel} {n : ℕ} (s : State) (shape : Shape m s) (placed : Everybody (Placed m) s) (waits : Waits m s) (timely : Timely (inForce .maxClock) s) (h : Measured n s) where
-  sane-of : m .rules ≡ inForce → Come m s → Stopped m s → n ≤ s .turns → s .serial ≤ 100000000 → s .ended ≤ s .made → s .made - s .ended ≤ 1024 → s .turns ≤ maxTurns + 1
+  sane-of : m .rules ≡ inForce → Come m s → Stopped m s → ((i : ℕ) → standing s i ≤ 1) → n ≤ s .turns → s .serial ≤ 100000000 → s .ended ≤ s .made → s .made - s .ended ≤ 1024 → s .turns ≤ maxTurns + 1
       → Each (λ (e : ℕ). e ≤ s .turns) (s .view .entries) → Each (λ (l : List Transaction). length l ≤ 1024) (s .ql) → Sane m s
-  sane-of rules come stopped few serials ended living turns entries waiting =
+  sane-of rules come stopped alone few serials ended living turns entries waiting =
       record {
         rules = rules;
         shape = shape;
@@ -138,6 +138,7 @@ module _ {m : BlockModel} {n : ℕ} (s : State) (shape : Shape m s) (placed : Ev
         come = come;
         interrupted = stopped .0;
         seized = stopped .1;
+        alone = alone;
         waiting = waiting;
         unit-ticks = each-map (λ v (b : ServerBound (s .view .clock) (serverSums v)). b .0) (s .view .servers) (h .servers);
         wait-ticks = each-map (λ v (b : ServerBound (s .view .clock) (serverSums v)). b .1) (s .view .servers) (h .servers);
@@ -266,10 +267,14 @@ module _ {m : BlockModel} {tape : List (List ℕ)} (proper : Proper m tape) (s :
   taken-come : Come m (takenOf s)
   taken-come = subst (ComeIn m) (sym (taking-gatherers (s .moving) s)) (hs .come)
 
+  taken-alone : (n : ℕ) → standing (takenOf s) n ≤ 1
+  unfolding standing everyone
+  taken-alone = stands-at-most-once m tape (taking (s .moving) s) (sound-taking m tape s (h .sound))
+
   -- of the state in which the block of a taken turn finds the machine
   pub sane-taken : Sane m (takenOf s)
   sane-taken =
-      sane-of (takenOf s) taken-shape taken-placed (waits-taken m s going (hs .waits)) taken-timely taken-measured (hs .rules) taken-come (stopped-of m tape (takenOf s) (holding-taking m tape (s .moving) s (h .holding))) (omega arith) (omega (arith, taken-serials))
+      sane-of (takenOf s) taken-shape taken-placed (waits-taken m s going (hs .waits)) taken-timely taken-measured (hs .rules) taken-come (stopped-of m tape (takenOf s) (holding-taking m tape (s .moving) s (h .holding))) taken-alone (omega arith) (omega (arith, taken-serials))
       (omega (arith, taken-took .made, taken-took .ended, hs .ended)) taken-living (omega arith) (fewer (s .turns) (takenOf s .view .entries) taken-entries)
       (subst (Each (λ (l : List Transaction). length l ≤ 1024)) (sym (taken-took .ql)) (hs .waiting))
 
@@ -292,7 +297,7 @@ module _ {m : BlockModel} {tape : List (List ℕ)} (proper : Proper m tape) (s :
       record {
         sane =
             sane-of (turn m s) (shape-turn m s (hs .shape)) (placed-turn m tape proper s (hs .placed)) (waits-kept proper s going (hs .shape) (hs .waits) .0) turned-timely (a .measured) (hs .rules) (come-below proper (turn m s) gathering)
-            (stopped-of m tape (turn m s) holding) (omega (arith, a .turns)) (omega (arith, a .serials, taken-serials)) (omega (arith, all)) (a .living) (omega (arith, a .turns))
+            (stopped-of m tape (turn m s) holding) (stands-at-most-once m tape (turn m s) sound) (omega (arith, a .turns)) (omega (arith, a .serials, taken-serials)) (omega (arith, all)) (a .living) (omega (arith, a .turns))
             (subst (λ (n : ℕ). Few n (turn m s .view .entries)) (sym (a .turns)) (a .entries)) (each-flat (turn m s .ql) 1024 few);
         ahead = a .measured .ahead;
         sound = sound;
@@ -360,7 +365,7 @@ module _ {m : BlockModel} {tape : List (List ℕ)} (proper : Proper m tape) (rul
       record {
         sane =
             sane-of (start m tape) (shape-start m tape (proper .tapes)) (placed-start m tape proper) (waits-start m tape .0) started k rules (come-below proper (start m tape) (gathering-start proper))
-            (stopped-of m tape (start m tape) (holding-start m tape)) (omega arith) (omega arith) (omega arith) (omega arith) (omega arith)
+            (stopped-of m tape (start m tape) (holding-start m tape)) (stands-at-most-once m tape (start m tape) sound) (omega arith) (omega arith) (omega arith) (omega arith) (omega arith)
             (each-map (λ e (le : e ≤ 0). omega arith) (start m tape .view .entries) (subst (Few 0) (sym (g .entries)) (z .3)))
             (each-flat (start m tape .ql) 1024 (omega (arith, parts m tape (start m tape) sound)));
         ahead = k .ahead;
@@ -393,6 +398,7 @@ sane-turns n e s more few k =
       come = k .come;
       interrupted = k .interrupted;
       seized = k .seized;
+      alone = unfold standing everyone in (k .alone);
       waiting = k .waiting;
       unit-ticks = k .unit-ticks;
       wait-ticks = k .wait-ticks;

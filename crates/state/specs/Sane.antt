@@ -11,7 +11,7 @@ use Rattle.machine.specs.Term.{Server, Queue, serverAt}
 use Rattle.machine.specs.Block.{facts, BlockModel, blockAt}
 use Rattle.machine.specs.State.{State}
 use Rattle.machine.specs.Moves.{gatherersAt, interruptedAt}
-use Rattle.machine.specs.Claims.{Each}
+use Rattle.machine.specs.Claims.{Each, standing}
 use Rattle.machine.proofs.Proper.{Names}
 use Rattle.machine.proofs.Shape.{Shape}
 use Rattle.machine.proofs.Placed.{Placed}
@@ -41,6 +41,8 @@ pub record Sane (m : BlockModel) (s : State) : Type 0 where
   -- who is interrupted lost a facility of the model; nobody lost one that is seized
   pub interrupted : Each (λ i. Names (m .facilities) (i .facility)) (s .interrupted)
   pub seized : (f : ℕ) → Names (m .facilities) f → serverAt (s .view) f .preempted ≡ false → interruptedAt s f ≡ []
+  -- no number stands twice
+  pub alone : (n : ℕ) → standing s n ≤ 1
   -- no QL is longer than the living are many
   pub waiting : Each (λ l. length l ≤ maxLiving) (s .ql)
   -- sums: at most so much for each tick that passed

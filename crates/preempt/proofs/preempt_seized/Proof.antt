@@ -11,8 +11,8 @@ holder-requires c κs = search needs
 priority-requires : tie.Need-priority-requires
 priority-requires c κs = search needs
 
-loser-requires : tie.Need-loser-requires
-loser-requires c κs = search needs
+find-loser-requires : tie.Need-find-loser-requires
+find-loser-requires c κs = search needs
 
 take-over-requires : tie.Need-take-over-requires
 take-over-requires c κs = search needs
@@ -25,7 +25,7 @@ same-length-2 c = search needs
 
 returns : tie.Need-returns
 unfolding preemptSeized
-returns c = rw (← c .before .before .before .before .before .before .before .before .before .before .holder .ensures, ← c .before .before .before .before .before .before .before .before .before .priority .ensures, ← c .before .before .before .before .before .before .before .before .loser .ensures, lt-ltb _ 1024 (c .before .before .before .before .before .before .before .if1 .taken)) (c .before .before .before .before .take-over .ensures)
+returns c = rw (← c .before .before .before .before .before .before .before .before .before .before .before .holder .ensures, ← c .before .before .before .before .before .before .before .before .before .priority .ensures, ← c .before .before .before .before .before .before .before .before .find-loser .ensures, lt-ltb _ 1024 (c .before .before .before .before .before .before .before .if1 .taken)) (c .before .before .before .before .take-over .ensures)
 
 take-units-requires : tie.Need-take-units-requires
 take-units-requires c κs = search needs
@@ -38,7 +38,7 @@ same-length-4 c = search needs
 
 returns-2 : tie.Need-returns-2
 unfolding preemptSeized
-returns-2 c = rw (← c .before .before .before .before .before .before .before .before .before .before .holder .ensures, ← c .before .before .before .before .before .before .before .before .before .priority .ensures, ← c .before .before .before .before .before .before .before .before .loser .ensures, le-ltb _ 1024 (c .before .before .before .before .before .before .before .if1 .left)) (c .before .before .before .before .take-units .ensures)
+returns-2 c = rw (← c .before .before .before .before .before .before .before .before .before .before .before .holder .ensures, ← c .before .before .before .before .before .before .before .before .before .priority .ensures, ← c .before .before .before .before .before .before .before .before .find-loser .ensures, le-ltb _ 1024 (c .before .before .before .before .before .before .before .if1 .left)) (c .before .before .before .before .take-units .ensures)
 
 pub preempt-seized-spec : {M : Type 1} → statement M
 preempt-seized-spec =
@@ -46,7 +46,7 @@ preempt-seized-spec =
     (tie.spec
     holder-requires
     priority-requires
-    loser-requires
+    find-loser-requires
     take-over-requires
     same-length
     same-length-2
