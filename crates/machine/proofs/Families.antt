@@ -1,6 +1,6 @@
 -- "Copies made by SPLIT belong to the family of the original, and so do copies of copies" (document 02, item 8): in every state of a run
 -- everybody's family is the one that the records tell.
-use Prim.Native.Nat.{ℕ, zero, suc, _+_, _≤_, _<_}
+use Prim.Native.Nat.{ℕ, zero, suc, _+_, _-_, _≤_, _<_}
 use mathlib.Core.Path.{_≡_, refl, sym, ap, _∙_}
 use mathlib.Core.Bool.{Bool, true, false, cond, _&&_}
 use mathlib.Core.List.{List, [], _∷_}
@@ -9,12 +9,12 @@ use native.Mathlib.Omega.{arith}
 use borrow.Author.Tests.{lt-ltb, le-ltb, le-leb, lt-leb}
 use lib.Dec.{ltb, leb, eqb}
 use Rattle.machine.specs.Transaction.{Transaction, newborn, Event, Interrupted, Gatherer}
-use Rattle.machine.specs.Term.{serverAt, free}
-use Rattle.machine.specs.Block.{Code, Share, facility, shareServer, shareUnits, Block, generate, advance, terminate, takes, frees, waitServer, waitTerms, moves, assign, priority, split, counts, assemble, preempt, giveBack, facts, BlockModel, blockAt}
+use Rattle.machine.specs.Term.{serverAt}
+use Rattle.machine.specs.Block.{Code, Share, facility, shareServer, shareUnits, shareHolder, Block, generate, advance, terminate, takes, frees, waitServer, waitTerms, moves, assign, priority, split, counts, assemble, preempt, giveBack, facts, BlockModel, blockAt}
 use Rattle.machine.specs.State.{State, Logged}
 use Rattle.machine.specs.Setters.{withSerial, setMoving, setTurns, setSerial, setEnded, setMade}
-use Rattle.machine.specs.Moves.{recordOf, log, enters, moveTo, fresh, toRel, toFel, toQl, toWel, toWsl, beginWait, mustWait, wakeQl, wakeFirstWel, wakeWsl, setUse, setContent, arrival, copyOf, copies, toGatherers, comes, released, losersTo, interruptedAt, interrupt, resume, setHolder, useTime, waitsFor}
-use Rattle.machine.specs.Execute.{takeUnits, wakeFor, checkWels, endsOne, delay, effect}
+use Rattle.machine.specs.Moves.{recordOf, log, enters, moveTo, goOn, fresh, toRel, toFel, toQl, toWel, toWsl, beginWait, mustWait, wakeQl, wakeFirstWel, wakeWsl, setUse, setContent, arrival, copyOf, copies, toGatherers, comes, released, losersTo, interruptedAt, interrupt, resume, setHolder, timesLeft, useTime, waitsFor}
+use Rattle.machine.specs.Execute.{takeUnits, freeUnits, wakeFor, checkWels, endsOne, delay, effect}
 use Rattle.machine.specs.Turn.{taking, answer, execute, wsScheme, turn}
 use Rattle.machine.specs.Run.{idle, startAt, start}
 use Rattle.machine.specs.Claims.{Each, bit, everyone, factsAt, entered, getsTime, usedBy, madeBy, familyBy}
@@ -213,6 +213,10 @@ module _ (m : BlockModel) (tape : List (List ℕ)) where
     beside-use : (v n holder : ℕ) (preempted : Bool) (s′ : State) → Beside s′ → Beside (setUse v n holder preempted s′)
     beside-use v n holder preempted s′ h = (unfold setUse in (h .0), kindred-use v n holder preempted s′ (h .1))
 
+    -- its WELs are checked, and it goes on
+    checked : (v : ℕ) (s′ : State) → Beside s′ → Kindred (goOn t (checkWels v s′))
+    checked v s′ h = goes-on (suc (t .next)) (checkWels v s′) (beside-checkWels v s′ h)
+
     kin-copies : (n target : ℕ) (s′ : State) → Kin (s′ .records) (s′ .made) t → Kin (copies n target t s′ .records) (copies n target t s′ .made) t
     unfolding copies toRel
     kin-copies zero target s′ k = k
@@ -227,9 +231,15 @@ module _ (m : BlockModel) (tape : List (List ℕ)) where
 
     kindred-takes : (x : Share) (preempts : Bool) → Kindred (takeUnits m x preempts t s)
     kindred-takes x preempts =
+        let v : ℕ = shareServer x in
+        let units : ℕ = serverAt (s .view) v .inUse + shareUnits x in
+        let holder : ℕ = shareHolder x (t .number) in
         takes-cases Kindred m x preempts t s
-        (λ fit. goes-on _ _ (beside-checkWels (shareServer x) _ (beside-use (shareServer x) _ _ _ (enters t s) entered-beside)))
-        (λ full. kindred-wait (toQl (m .edition) (shareServer x)) (kindred-toQl (shareServer x)))
+        (λ fit. checked v (setUse v units holder preempts (enters t s)) (beside-use v units holder preempts (enters t s) entered-beside))
+        (λ full. kindred-wait (toQl (m .edition) v) (kindred-toQl v))
+
+    beside-free : (v b : ℕ) → Beside (freeUnits v b (enters t s))
+    beside-free v b = beside-use v (serverAt (enters t s .view) v .inUse - b) 0 false (enters t s) entered-beside
 
     beside-interrupt : (x : Event) (f : ℕ) (l : List Event) → losersTo t f s ≡ x ∷ l → Beside (interrupt x t f (enters t s))
     unfolding serverAt
@@ -243,13 +253,17 @@ module _ (m : BlockModel) (tape : List (List ℕ)) where
 
     effect-kindred : (b : Block) → blockAt m (t .next) ≡ b → Kindred (effect m b t s)
     unfolding effect takeUnits facts
-    effect-kindred (generate list q) e = goes-on _ _ (beside-arrival _ list q _ (enters t s) (unfold enters log in (next-own e refl)) entered-beside)
+    effect-kindred (generate list q) e =
+        goes-on (suc (t .next)) (arrival (timesLeft s list) list q (t .next) (enters t s))
+        (beside-arrival (timesLeft s list) list q (t .next) (enters t s) (unfold enters log in (next-own e refl)) entered-beside)
     effect-kindred (advance list) e = kindred-delay _ list t (enters t s) p′ h′
     effect-kindred (terminate a) e =
         unfold endsOne in (like _ (unmoved (enters t s .records) (enters t s .made)) (enters t s) (endsOne a (enters t s)) refl refl refl refl refl refl refl refl h′)
     effect-kindred (takes x) e = kindred-takes x false
     effect-kindred (frees x) e =
-        goes-on _ _ (beside-checkWels (shareServer x) _ (beside-wakeFor x _ (beside-use (shareServer x) _ _ _ (enters t s) entered-beside)))
+        let v : ℕ = shareServer x in
+        let freed : State = freeUnits v (shareUnits x) (enters t s) in
+        checked v (wakeFor m x freed) (beside-wakeFor x freed (beside-free v (shareUnits x)))
     effect-kindred (waitServer code v c) e =
         waitServer-cases Kindred m code v c t s (λ holds. kindred-wait (toWel (m .edition) v code) (kindred-toWel v code))
         (λ late. kindred-moveTo _ t _ (unfold wakeFirstWel in p) (kindred-wakeFirstWel v code s h))
@@ -260,7 +274,7 @@ module _ (m : BlockModel) (tape : List (List ℕ)) where
     effect-kindred (assign i a) e = kindred-moveTo _ _ (enters t s) p′ h′
     effect-kindred (priority q) e = kindred-toRel _ (enters t s) p′ h′
     effect-kindred (split n target) e =
-        goes-on _ _ (
+        goes-on (suc (t .next)) (copies n target t (enters t s)) (
           kin-copies n target (enters t s) p′,
           kindred-copies n target t (enters t s) (unfold enters log in (of-original n (ap (λ b. facts b .copies) e))) h′,
         )
@@ -278,10 +292,16 @@ module _ (m : BlockModel) (tape : List (List ℕ)) where
         waiter g l e = unfold enters log in (waiter-everybody _ (unmoved (enters t s .records) (enters t s .made)) t later g l e ended)
     effect-kindred (preempt f) e =
         preempt-cases Kindred m f t s (λ k. kindred-takes (facility f) true)
-        (λ x l k. goes-on _ _ (beside-checkWels f _ (beside-use f _ _ _ _ (beside-interrupt x f l k))))
+        (λ x l k. taken-over x (beside-interrupt x f l k))
+      where
+        taken-over : (x : Event) → Beside (interrupt x t f (enters t s)) → Kindred (goOn t (checkWels f (setHolder f (t .number) true (interrupt x t f (enters t s)))))
+        taken-over x b =
+            let lost : State = interrupt x t f (enters t s) in
+            checked f (setHolder f (t .number) true lost) (beside-use f (serverAt (lost .view) f .inUse) (t .number) true lost b)
     effect-kindred (giveBack f) e =
-        giveBack-cases Kindred m f t s (λ k. goes-on _ _ (beside-checkWels f _ (beside-wakeFor (facility f) _ (beside-use f _ _ _ (enters t s) entered-beside))))
-        (λ i l k. goes-on _ _ (beside-checkWels f _ (beside-resume i f _ l k)))
+        giveBack-cases Kindred m f t s
+        (λ k. checked f (wakeFor m (facility f) (freeUnits f 1 (enters t s))) (beside-wakeFor (facility f) (freeUnits f 1 (enters t s)) (beside-free f 1)))
+        (λ i l k. checked f (resume i f (setHolder f (i .who .number) false (enters t s))) (beside-resume i f (i .who .number) l k))
 
   -- ---- A turn
 
