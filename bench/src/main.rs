@@ -1,6 +1,8 @@
-//! Measures the proved engine, the second implementation and SimPy on the same work and prints tables.
+//! Measures the proved engine, the second implementation and SimPy on the same work and prints tables; then the two engines on work
+//! that goes on for ever, in nanoseconds a turn.
 //! Processor time; of the engine and the second implementation the best of several runs, from model bytes to report.
 
+mod turns;
 mod work;
 
 use covrith::{Outcome, REPORT_BYTES, WORK_NUMBERS};
@@ -171,6 +173,46 @@ fn main() {
             m.simpy / customers
         );
     }
+    println!("\nturns without end, ns a turn (engine, reference)");
+    for work in turns::all() {
+        let (engine, reference) = endless(&work);
+        println!("{:<44}{engine:>8.1}{reference:>10.1}", work.title);
+    }
+}
+
+/// Nanoseconds a turn of the two engines, which must agree.
+fn endless(work: &turns::Endless) -> (f64, f64) {
+    let (model, tape) = (encode_model(&work.model), encode_tape(&work.tape));
+    let mut buffer = vec![0; WORK_NUMBERS];
+    let mut trace = vec![0; 64_000_000];
+    let mut report = vec![0; REPORT_BYTES];
+    let mut outcome = Outcome::default();
+    let engine = best(|| {
+        outcome = covrith::run(
+            &model,
+            &tape,
+            work.budget,
+            &mut buffer,
+            &mut trace,
+            &mut report,
+        );
+    });
+    let mut wanted = [0; 8];
+    let reference = best(|| {
+        wanted = reference::run(
+            &model,
+            &tape,
+            work.budget,
+            WORK_NUMBERS,
+            &mut trace,
+            &mut report,
+        )
+        .numbers();
+    });
+    assert_eq!(outcome, Outcome::of(wanted), "{}", work.title);
+    assert_eq!(outcome.refusal, 0, "{}", work.title);
+    let turns = outcome.turns as f64 / 1e9;
+    (engine / turns, reference / turns)
 }
 
 /// A rate in thousands.

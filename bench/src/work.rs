@@ -16,7 +16,7 @@ pub struct Work {
     pub customers: u32,
 }
 
-const MOST: u32 = 65_535;
+pub const MOST: u32 = 65_535;
 
 /// Every piece of work, in the order of the table.
 pub fn all() -> Vec<Work> {
@@ -29,13 +29,13 @@ pub fn all() -> Vec<Work> {
     work
 }
 
-fn times(random: &mut Random, count: u32, low: u32, high: u32) -> Vec<u64> {
+pub fn times(random: &mut Random, count: u32, low: u32, high: u32) -> Vec<u64> {
     (0..count)
         .map(|_| u64::from(random.number(low, high)))
         .collect()
 }
 
-fn model(facilities: u32, capacities: Vec<u32>, lists: u32, customers: u32) -> Model {
+pub fn model(facilities: u32, capacities: Vec<u32>, lists: u32, customers: u32) -> Model {
     Model {
         edition: Model::FIRST_EDITION,
         facilities,
@@ -48,7 +48,7 @@ fn model(facilities: u32, capacities: Vec<u32>, lists: u32, customers: u32) -> M
     }
 }
 
-const GENERATE: Block = Block::Generate {
+pub const GENERATE: Block = Block::Generate {
     list: 1,
     priority: 0,
 };
@@ -80,7 +80,7 @@ fn single_server() -> Work {
 }
 
 /// `living` transactions come at time 0 and go through `own`; each that finishes is followed by another.
-fn closed(model: &mut Model, living: u32, own: Vec<Block>) {
+pub fn closed(model: &mut Model, living: u32, own: Vec<Block>) {
     let mut blocks = vec![GENERATE];
     let mut more = living - 1;
     let splits = more.div_ceil(255);
@@ -161,11 +161,11 @@ fn stampede(living: u32) -> Work {
     }
 }
 
-fn plus(term: Term) -> Part {
+pub fn plus(term: Term) -> Part {
     Part { minus: false, term }
 }
 
-fn is(left: Term, relation: u32, right: Term) -> Comparison {
+pub fn is(left: Term, relation: u32, right: Term) -> Comparison {
     Comparison {
         left,
         relation,

@@ -1,13 +1,13 @@
 // Columns to a trace.
 use crate::restore::write_trace;
-use crate::survey::Survey;
 use crate::survey::survey_columns;
+use columns_laws::Survey;
 use trace::Written;
 ghost use mathlib.Core.Path.{_≡_};
 ghost use Prim.Native.Nat.{ℕ, _≤_};
 ghost use lib.ListN.{length};
 ghost use Rattle.trace.specs.Answers.{writingOf, after};
-ghost use Rattle.columns.specs.Columns.{fromColumns};
+ghost use Rattle.columns_laws.specs.Columns.{fromColumns};
 
 // 51 not such columns; then 52 the output needs more bytes than were lent. A refusal writes nothing.
 pub fn from_columns(columns: &[u8], out: &mut [u8]) -> Written

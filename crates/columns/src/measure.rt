@@ -1,7 +1,8 @@
 // The first walk over a trace: is it taken, how many records has it, and how many bytes has each column?
-use crate::walk::MAX_RECORDS;
-use crate::walk::Walk;
+use crate::MAX_RECORDS;
 use codec::number_len;
+use columns_laws::Measured;
+use columns_laws::Walk;
 use trace::Reading;
 use trace::Record;
 use trace::read_record;
@@ -10,14 +11,8 @@ ghost use Prim.Native.Nat.{_≤_};
 ghost use Rattle.machine.specs.Rules.{inForce};
 ghost use Rattle.machine.specs.Trace.{readRecord};
 ghost use Rattle.trace.specs.Answers.{entry};
-ghost use Rattle.columns.specs.Columns.{maxRecords, wholeFrom};
-ghost use Rattle.columns.specs.Walks.{Short, longer, measuring, atStart, totals, totalsOf};
-
-// The number of records and a walk whose columns count bytes.
-pub enum Measured {
-    Taken(u64, Walk),
-    Refused,
-}
+ghost use Rattle.columns_laws.specs.Columns.{maxRecords, wholeFrom};
+ghost use Rattle.columns_laws.specs.Walks.{Short, longer, measuring, atStart, totals, totalsOf};
 
 // One record more.
 fn longer(count: u64, t: Walk, r: Record, next: usize) -> Walk

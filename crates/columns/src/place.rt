@@ -1,20 +1,12 @@
 // The second walk over a trace: each record's numbers go to the four columns.
-use crate::walk::Walk;
 use codec::write_number;
+use columns_laws::Entry;
+use columns_laws::Walk;
 use trace::Reading;
 use trace::read_record;
 ghost use mathlib.Core.Path.{_≡_};
 ghost use Prim.Native.Nat.{_-_};
-ghost use Rattle.columns.specs.Walks.{recordAt, moved, place, placeAll};
-
-// A record and the position after it.
-pub struct Entry {
-    pub clock: u64,
-    pub transaction: u64,
-    pub block: u64,
-    pub outcome: u64,
-    pub next: usize,
-}
+ghost use Rattle.columns_laws.specs.Walks.{recordAt, moved, place, placeAll};
 
 fn difference(clock: u64, before: u64) -> u64
     ensures { λ r. ⌜ r ≡ clock - before ⌝ }

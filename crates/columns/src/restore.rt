@@ -1,19 +1,14 @@
 // The second walk over columns: record by record, the four numbers go to the trace.
-use crate::walk::Walk;
 use codec::Read;
 use codec::read_number;
 use codec::write_number;
+use columns_laws::Number;
+use columns_laws::Walk;
 use constants::Model;
 ghost use mathlib.Core.Path.{_≡_};
 ghost use Prim.Native.Nat.{_≤_};
 ghost use Rattle.machine.specs.Limits.{maxClock};
-ghost use Rattle.columns.specs.Walks.{numberAt, later, moved, restore, restoreAll};
-
-// A number and the position after it.
-pub struct Number {
-    pub value: u64,
-    pub next: usize,
-}
+ghost use Rattle.columns_laws.specs.Walks.{numberAt, later, moved, restore, restoreAll};
 
 // The number at a position; zero where none is read.
 fn number_at(s: &[u8], at: usize) -> Number

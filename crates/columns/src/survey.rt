@@ -1,8 +1,11 @@
 // The first walk over columns: are they taken, where does each begin, and how many bytes has the trace?
-use crate::walk::MAX_RECORDS;
-use crate::walk::Walk;
+use crate::MAX_RECORDS;
 use codec::Field;
 use codec::number_len;
+use columns_laws::Clocks;
+use columns_laws::Column;
+use columns_laws::Survey;
+use columns_laws::Walk;
 use constants::Model;
 use trace::MAX_BLOCK;
 use trace::MAX_OUTCOME;
@@ -13,26 +16,8 @@ ghost use Rattle.machine.specs.Rules.{inForce};
 ghost use Rattle.machine.specs.Parser.{times};
 ghost use Rattle.machine.specs.Trace.{traceField};
 ghost use Rattle.codec.specs.Answers.{cursorAt};
-ghost use Rattle.columns.specs.Columns.{maxRecords, clocksFrom};
-ghost use Rattle.columns.specs.Walks.{sized, ends, Surveyed};
-
-// The position after the differences, and how many bytes their clocks take.
-enum Clocks {
-    End(usize, usize),
-    Refused,
-}
-
-// The position after a column.
-enum Column {
-    End(usize),
-    Refused,
-}
-
-// The number of records, where each column begins, and the bytes of the trace.
-pub enum Survey {
-    Taken(u64, Walk, usize),
-    Refused,
-}
+ghost use Rattle.columns_laws.specs.Columns.{maxRecords, clocksFrom};
+ghost use Rattle.columns_laws.specs.Walks.{sized, ends, Surveyed};
 
 fn scan_clocks(s: &[u8], at: usize, count: u64) -> Clocks
     requires { ⌜ count ≤ maxRecords ⌝ }

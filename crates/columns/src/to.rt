@@ -1,16 +1,16 @@
 // A trace to columns.
-use crate::measure::Measured;
 use crate::measure::measure;
 use crate::place::write_columns;
-use crate::walk::Walk;
 use codec::number_len;
 use codec::write_number;
+use columns_laws::Measured;
+use columns_laws::Walk;
 use trace::Written;
 ghost use mathlib.Core.Path.{_≡_};
 ghost use Prim.Native.Nat.{ℕ, _≤_};
 ghost use lib.ListN.{length};
 ghost use Rattle.trace.specs.Answers.{writingOf, after};
-ghost use Rattle.columns.specs.Columns.{toColumns};
+ghost use Rattle.columns_laws.specs.Columns.{toColumns};
 
 // 51 not such a trace; then 52 the output needs more bytes than were lent. A refusal writes nothing.
 pub fn to_columns(trace: &[u8], out: &mut [u8]) -> Written

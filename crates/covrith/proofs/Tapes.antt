@@ -3,10 +3,10 @@ use Prim.Native.Nat.{ℕ}
 use native.Mathlib.Omega.{arith}
 use mathlib.Core.Path.{_≡_, refl, sym, _∙_}
 use lib.ListN.{length}
-use Rattle.tapes.specs.declared.Made.{Made}
-use Rattle.tapes.specs.declared.Made.the-variants.{Bytes, Refused}
-use Rattle.tapes.specs.Tape.{Making, made, refusal}
-use Rattle.tapes.specs.Answers.{answer}
+use Rattle.tapes_laws.specs.declared.Made.{Made}
+use Rattle.tapes_laws.specs.declared.Made.the-variants.{Bytes, Refused}
+use Rattle.tapes_laws.specs.Tape.{Making, made, refusal}
+use Rattle.tapes_laws.specs.Answers.{answer}
 use Rattle.covrith.specs.Answers.{tapeAnswer, tapeCount}
 
 module _ (x : Made) (m : Making) (e : x ≡ answer m) (n : ℕ) where

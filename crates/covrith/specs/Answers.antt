@@ -4,7 +4,7 @@ use mathlib.Core.List.{List, [], _∷_}
 use lib.ListN.{length}
 use Rattle.streams.specs.declared.Started.{Started}
 use Rattle.streams.specs.declared.Started.the-variants.{State, Refused}
-use Rattle.tapes.specs.Tape.{Making, made, refusal as unmade}
+use Rattle.tapes_laws.specs.Tape.{Making, made, refusal as unmade}
 use Rattle.join_laws.specs.Joining.{Joining, joined, refused}
 use Rattle.machine.specs.Trace.{Reading, taken, refusal, noMore, Writing, written, rejected}
 

@@ -1,5 +1,5 @@
 pub mod Writes
-pub mod Selection
+pub mod Ranking
 pub mod Rows
 pub mod Places
 pub mod Blocks

@@ -5,9 +5,9 @@ use native.Mathlib.Omega.{arith}
 use mathlib.Core.Path.{_≡_, refl, sym, ap, ap₂, _∙_}
 use mathlib.Core.Bool.{Bool, true, false, cond}
 use mathlib.Core.List.{List, _∷_, _++_}
-use borrow.Author.Tests.{le-leb, eq-eqb}
-use lib.Dec.{leb, eqb}
-use lib.ListN.{length}
+use borrow.Author.Tests.{eq-eqb}
+use lib.Dec.{eqb}
+use lib.ListN.{length, replicate, length-replicate}
 use Rattle.machine.specs.State.{State}
 use Rattle.machine.specs.Report.{Place, places, byNumber, placeNumbers}
 use Rattle.machine.specs.Claims.{bit, Each, standing}
@@ -17,11 +17,12 @@ use Rattle.rows_laws.specs.Layout.{numberField}
 use Rattle.rows_laws.specs.Cells.{read}
 use Rattle.rows_laws.proofs.Sums.{sum-ext}
 use Rattle.state.specs.Stands.{Listing}
-use Rattle.report.specs.Living.{placeOf, placeAt, lives, livingCount, counts, rising}
+use Rattle.report.specs.Living.{placeOf, placeAt, lives, livingCount, placeRow}
 use Rattle.report.specs.Numbers.{livingNumbers}
 use Rattle.machine.proofs.Standing.{times-standing}
 use Rattle.machine.proofs.Sorting.{sorted-is}
-use Rattle.report.proofs.Selection.{sum-two, weight, all, rising-sum, rising-rises}
+use Rattle.report.proofs.Ranking.{weight, all, listTo, list-numbers, ranking, ranking-sum, ranking-rises}
+use Rattle.report.proofs.Rows.{sum-two}
 use Rattle.report.proofs.Places.{all-places}
 
 -- ---- Count and order
@@ -30,33 +31,26 @@ module _ (w : List ℕ) (moving : ℕ) (s : State) (h : Listing w moving (s .mov
     (known : Each (λ i. Names 64 (i .facility)) (s .interrupted))
     (once : (n : ℕ) → standing s n ≤ 1) where
   abbrev total : (Place → ℕ) → ℕ
-  total f = all w moving 0 f
+  total f = all w moving f
 
   same-sum : (f : Place → ℕ) → total f ≡ sumOn f (places s)
   same-sum f = all-places f w moving s h qls wels blocks known
 
   count-all : livingCount w moving ≡ total (λ p. 1)
   unfolding livingCount
-  count-all = sum-ext 1024 (lives w moving) (weight w moving 0 (λ p. 1)) (λ k l. each k)
-    where
-      go : (t u : Bool) → u ≡ true → _≡_ {A = ℕ} (cond t 0 1) (cond (cond t false u) 1 0)
-      go true u e = refl
-      go false u e = ap {B = ℕ} (λ b. cond b 1 0) (sym e)
-
-      each : (k : ℕ) → lives w moving k ≡ weight w moving 0 (λ p. 1) k
-      each k = unfold lives counts in (go (eqb (placeOf w moving k) 0) (leb 0 (read w numberField k)) (le-leb 0 (read w numberField k) (omega arith)))
+  count-all = sum-ext 1024 (lives w moving) (weight w moving (λ p. 1)) (λ k l. unfold lives in refl)
 
   pub count-places : livingCount w moving ≡ length (places s)
   count-places = count-all ∙ same-sum (λ p. 1) ∙ sum-length (places s)
 
   -- two living rows have two numbers
-  apart : (j k : ℕ) → j < 1024 → k < 1024 → counts w moving 0 j ≡ true → counts w moving 0 k ≡ true → read w numberField j ≡ read w numberField k → j ≡ k
+  apart : (j k : ℕ) → j < 1024 → k < 1024 → eqb (placeOf w moving j) 0 ≡ false → eqb (placeOf w moving k) 0 ≡ false → read w numberField j ≡ read w numberField k → j ≡ k
   apart j k a b cj ck e = go (ℕ-discrete j k)
     where
       is : Place → ℕ
       is p = bit (eqb (p .number) (read w numberField j))
 
-      one : (i : ℕ) → counts w moving 0 i ≡ true → read w numberField i ≡ read w numberField j → weight w moving 0 is i ≡ 1
+      one : (i : ℕ) → eqb (placeOf w moving i) 0 ≡ false → read w numberField i ≡ read w numberField j → weight w moving is i ≡ 1
       one i c q = unfold placeAt in (rw (c, eq-eqb (read w numberField i) (read w numberField j) q))
 
       go : Dec (j ≡ k) → j ≡ k
@@ -65,7 +59,7 @@ module _ (w : List ℕ) (moving : ℕ) (s : State) (h : Listing w moving (s .mov
           absurd
           (omega (
             arith,
-            sum-two 1024 (weight w moving 0 is) j k a b d,
+            sum-two 1024 (weight w moving is) j k a b d,
             one j cj refl,
             one k ck (sym e),
             same-sum is,
@@ -73,12 +67,16 @@ module _ (w : List ℕ) (moving : ℕ) (s : State) (h : Listing w moving (s .mov
             once (read w numberField j),
           ))
 
-  pub rising-places : rising (livingCount w moving) w moving 0 ≡ byNumber (places s)
-  rising-places =
-      sorted-is (places s) (rising (livingCount w moving) w moving 0) (λ n. omega (arith, times-standing s n, once n))
-      (rising-rises w moving apart (livingCount w moving) 0)
-      (λ f. rising-sum w moving apart (livingCount w moving) 0 f (omega (arith, count-all)) ∙ same-sum f)
+  abbrev zeros : List ℕ
+  zeros = replicate 1024 0
+
+  pub ranked-places : listTo (livingCount w moving) (ranking w moving zeros (length-replicate {A = ℕ} 1024 0)) ≡ byNumber (places s)
+  unfolding livingCount
+  ranked-places =
+      sorted-is (places s) _ (λ n. omega (arith, times-standing s n, once n))
+      (ranking-rises w moving zeros (length-replicate {A = ℕ} 1024 0) apart)
+      (λ f. ranking-sum w moving zeros (length-replicate {A = ℕ} 1024 0) f ∙ same-sum f)
 
   pub living-numbers : livingNumbers w moving ≡ length (places s) ∷ placeNumbers (byNumber (places s))
-  unfolding livingNumbers
-  living-numbers = ap₂ _∷_ count-places (ap placeNumbers rising-places)
+  unfolding livingNumbers placeRow
+  living-numbers = ap₂ _∷_ count-places (list-numbers _ _ ∙ ap placeNumbers ranked-places)

@@ -5,7 +5,7 @@ use mathlib.Core.Path.{_≡_, refl, sym, ap, _∙_}
 use mathlib.Core.Bool.{Bool, true, false, cond}
 use mathlib.Core.List.{List, [], _∷_, _++_, map}
 use mathlib.Core.Option.{Option, none, some}
-use borrow.Author.Tests.{lt-ltb, le-ltb, le-leb, eq-eqb, ne-eqb, ltb-true, ltb-false, eqb-true, eqb-false}
+use borrow.Author.Tests.{lt-ltb, le-ltb, eq-eqb, ne-eqb, ltb-true, ltb-false, eqb-true, eqb-false}
 use lib.Dec.{ltb, eqb}
 use lib.ListN.{length, getD}
 use Rattle.machine.specs.Transaction.{Transaction, Event, Gatherer, Interrupted}
@@ -24,8 +24,8 @@ use Rattle.rows_laws.specs.Living.{sumTo}
 use Rattle.rows_laws.proofs.Sums.{sum-suc, sum-ext, sum-add, sum-zero}
 use Rattle.state.specs.Stands.{gathererRow, interruptedRow, listsOf, Moving, Listing}
 use Rattle.state.proofs.ListsOf.{lists-gatherers, lists-interrupted}
-use Rattle.report.specs.Living.{listPlace, placeOf, placeAt, counts}
-use Rattle.report.proofs.Selection.{all, weight}
+use Rattle.report.specs.Living.{listPlace, placeOf, placeAt}
+use Rattle.report.proofs.Ranking.{all, weight}
 use Rattle.report.proofs.Rows.{sum-split, sum-only, sum-flat, sum-lists}
 
 -- ---- Places of lists
@@ -220,26 +220,26 @@ module _ (f : Place → ℕ) where
     -- ---- All
 
     row-weight : (k : ℕ) → k < 1024 →
-        weight w moving 0 f k ≡ cond (ltb (load w (place k)) 771) (row (listPlace (load w (place k))) k) 0 + cond (eqb k moving) (row 6 k) 0
-    unfolding counts placeAt placeOf
-    row-weight k l = rw (le-leb 0 (read w numberField k) (omega arith)) (go (eqb k moving) refl (ltb (load w (place k)) 771) refl)
+        weight w moving f k ≡ cond (ltb (load w (place k)) 771) (row (listPlace (load w (place k))) k) 0 + cond (eqb k moving) (row 6 k) 0
+    unfolding placeAt placeOf
+    row-weight k l = go (eqb k moving) refl (ltb (load w (place k)) 771) refl
       where
         p : ℕ
         p = load w (place k)
 
         go : (t : Bool) → eqb k moving ≡ t → (u : Bool) → ltb p 771 ≡ u →
-            cond (cond (eqb (cond t 6 (listPlace p)) 0) false true) (row (cond t 6 (listPlace p)) k) 0 ≡ cond u (row (listPlace p) k) 0 + cond t (row 6 k) 0
+            cond (eqb (cond t 6 (listPlace p)) 0) 0 (row (cond t 6 (listPlace p)) k) ≡ cond u (row (listPlace p) k) 0 + cond t (row 6 k) 0
         go true e true q =
             absurd (omega (arith, ltb-true p 771 q, off-lists (s .moving) (h .mover) (omega (arith, eqb-true k moving e)), ap (λ n. load w (place n)) (eqb-true k moving e)))
         go true e false q = omega arith
         go false e true q = rw (place-living p (ltb-true p 771 q)) (omega arith)
         go false e false q = rw (place-free p (ltb-false p 771 q))
 
-    pub all-places : all w moving 0 f ≡ sumOn f (places s)
+    pub all-places : all w moving f ≡ sumOn f (places s)
     all-places =
         omega (
           arith,
-          sum-ext 1024 (weight w moving 0 f) (λ k. cond (ltb (load w (place k)) 771) (row (listPlace (load w (place k))) k) 0 + cond (eqb k moving) (row 6 k) 0) row-weight,
+          sum-ext 1024 (weight w moving f) (λ k. cond (ltb (load w (place k)) 771) (row (listPlace (load w (place k))) k) 0 + cond (eqb k moving) (row 6 k) 0) row-weight,
           sum-add 1024 (λ k. cond (ltb (load w (place k)) 771) (row (listPlace (load w (place k))) k) 0) (λ k. cond (eqb k moving) (row 6 k) 0),
           sum-lists w L (h .shows .shown .holds) 771 (λ p k. row (listPlace p) k) (omega arith),
           lists-weight,

@@ -1,8 +1,10 @@
 -- Sums over rows: the rows of a list weigh as all rows weigh that have the list for their place.
 use Prim.Native.Nat.{ℕ, zero, suc, _+_, _*_, _≤_, _<_}
 use native.Mathlib.Nat.{add-zero, add-suc}
+use native.Mathlib.Decide.{ℕ-discrete}
 use native.Mathlib.Omega.{arith}
 use mathlib.Core.Path.{_≡_, refl, sym, ap, _∙_}
+use mathlib.Core.Logic.{_≢_}
 use mathlib.Core.Bool.{Bool, true, false, cond}
 use mathlib.Core.List.{List, [], _∷_}
 use borrow.Author.Tests.{le-ltb, eq-eqb, ne-eqb, ltb-true, ltb-false, eqb-true, eqb-false}
@@ -46,6 +48,25 @@ sum-flat g [] n h = sum-zero n (λ i. 0) (λ k l. refl)
 sum-flat g (l ∷ ls) zero h = absurd (omega arith)
 sum-flat g (l ∷ ls) (suc n) h =
     omega (arith, sum-front n (λ i. sumOn g (getD (l ∷ ls) i [])), sum-flat g ls n (omega arith), sum-append g l (flat ls))
+
+-- ---- One row, two rows
+
+pub sum-one : (n : ℕ) (g : ℕ → ℕ) (k : ℕ) → k < n → g k ≤ sumTo n g
+sum-one zero g k h = absurd (omega arith)
+sum-one (suc n) g k h = go (ℕ-discrete k n) (sum-one n g k)
+  where
+    go : Dec (k ≡ n) → (k < n → g k ≤ sumTo n g) → g k ≤ sumTo (suc n) g
+    go (yes e) rest = omega (arith, sum-suc n g, ap g e)
+    go (no d) rest = omega (arith, sum-suc n g, rest (omega arith))
+
+pub sum-two : (n : ℕ) (g : ℕ → ℕ) (j k : ℕ) → j < n → k < n → j ≢ k → g j + g k ≤ sumTo n g
+sum-two zero g j k hj hk d = absurd (omega arith)
+sum-two (suc n) g j k hj hk d = go (ℕ-discrete j n) (ℕ-discrete k n) (λ a b. sum-two n g j k a b d)
+  where
+    go : Dec (j ≡ n) → Dec (k ≡ n) → (j < n → k < n → g j + g k ≤ sumTo n g) → g j + g k ≤ sumTo (suc n) g
+    go (yes e) q rest = omega (arith, sum-suc n g, ap g e, sum-one n g k (omega arith))
+    go (no e) (yes q) rest = omega (arith, sum-suc n g, ap g q, sum-one n g j (omega arith))
+    go (no e) (no q) rest = omega (arith, sum-suc n g, rest (omega arith) (omega arith))
 
 -- ---- The rows of a list
 

@@ -1,17 +1,17 @@
 -- Numbers written one after another, and one more turn of each loop, as the functions' proofs need them.
 use Prim.Native.Nat.{ℕ, suc, _+_, _-_, min, _≤_, _<_}
-use mathlib.Core.Path.{_≡_, refl, ap, _∙_}
+use mathlib.Core.Path.{_≡_, refl, sym, ap, _∙_}
+use mathlib.Core.Bool.{Bool, true, false, cond}
+use lib.Dec.{eqb}
 use mathlib.Core.List.{List, [], _∷_, _++_}
 use native.Mathlib.Numerals.{add-one}
 use native.Mathlib.Omega.{arith}
-use borrow.Author.Tests.{lt-ltb, le-ltb}
-use Rattle.machine.specs.Report.{placeNumbers}
-use Rattle.rows_laws.specs.Layout.{numberField}
-use Rattle.rows_laws.specs.Cells.{read}
+use borrow.Author.Tests.{le-leb, lt-leb}
+use lib.ListN.{getD, set}
 use Rattle.rows_laws.specs.Living.{sumTo}
 use Rattle.report.specs.Writing.{Written, put, putAll}
 use Rattle.report.specs.Counts.{share, total, rowsTo}
-use Rattle.report.specs.Living.{placeAt, behind, better, least, rising}
+use Rattle.report.specs.Living.{placeOf, lives, sift, rankOne, rankTo}
 
 -- ---- Lists of numbers
 
@@ -60,46 +60,39 @@ rows-next n f w = rw add-one (putAll-append (rowsTo n f) (f n) w)
 
 -- ---- The living
 
-module _ (w : List ℕ) (moving low : ℕ) where
-  pub least-none : 1024 ≡ least w moving low 0
-  unfolding least
-  least-none = refl
-
-  pub least-next : (n : ℕ) → least w moving low (n + 1) ≡ better w moving low (least w moving low n) n
-  unfolding least
-  least-next n = rw add-one
-
-module _ (w : List ℕ) (moving low left : ℕ) (to : Written) where
-  -- the rest of the living, written
-  abbrev rest : Written
-  rest = putAll (placeNumbers (rising left w moving low)) to
-
-  pub rising-end : left ≤ 0 → rest ≡ to
-  rising-end h = ap (λ n. putAll (placeNumbers (rising n w moving low)) to) zeros ∙ none
+module _ (w : List ℕ) (moving : ℕ) where
+  pub lives-most : (k : ℕ) → lives w moving k ≤ 1
+  unfolding lives
+  lives-most k = go (eqb (placeOf w moving k) 0)
     where
-      zeros : left ≡ 0
-      zeros = omega arith
+      go : (t : Bool) → cond t 0 1 ≤ 1
+      go true = omega arith
+      go false = omega arith
 
-      none : putAll (placeNumbers (rising 0 w moving low)) to ≡ to
-      none = unfold rising placeNumbers putAll in refl
+  pub rank-none : (l : List ℕ) → l ≡ rankTo w moving 0 l
+  unfolding rankTo
+  rank-none l = refl
 
-  module _ (pos : 0 < left) where
-    one-more : left ≡ suc (left - 1)
+  pub rank-next : (n : ℕ) (l : List ℕ) → rankTo w moving (n + 1) l ≡ rankOne w moving (sumTo n (lives w moving)) n (rankTo w moving n l)
+  unfolding rankTo
+  rank-next n l = rw add-one
+
+module _ (x i : ℕ) (l : List ℕ) where
+  pub sift-first : i ≤ 0 → set l 0 x ≡ sift i x l
+  sift-first h = let e : i ≡ 0 = omega arith in rw e (unfold sift in refl)
+
+  module _ (pos : 0 < i) where
+    one-more : i ≡ suc (i - 1)
     one-more = omega arith
 
-    pub rising-out : 1024 ≤ least w moving low 1024 → rest ≡ to
-    rising-out h = ap (λ n. putAll (placeNumbers (rising n w moving low)) to) one-more ∙ none
+    pub sift-here : getD l (i - 1) 0 ≤ x → set l i x ≡ sift i x l
+    sift-here h = ap (λ n. set l n x) one-more ∙ here ∙ ap (λ n. sift n x l) (sym one-more)
       where
-        none : putAll (placeNumbers (rising (suc (left - 1)) w moving low)) to ≡ to
-        none = unfold rising placeNumbers putAll in (rw (le-ltb _ _ h))
+        here : set l (suc (i - 1)) x ≡ sift (suc (i - 1)) x l
+        here = unfold sift in (rw (le-leb _ _ h))
 
-    pub rising-next : least w moving low 1024 < 1024 →
-        rest
-        ≡ putAll (placeNumbers (rising (left - 1) w moving (behind (read w numberField (least w moving low 1024)))))
-        (putAll (placeNumbers (placeAt w moving (least w moving low 1024) ∷ [])) to)
-    rising-next h = ap (λ n. putAll (placeNumbers (rising n w moving low)) to) one-more ∙ some
+    pub sift-next : x < getD l (i - 1) 0 → sift (i - 1) x (set l i (getD l (i - 1) 0)) ≡ sift i x l
+    sift-next h = ap (λ n. sift (i - 1) x (set l n (getD l (i - 1) 0))) one-more ∙ next ∙ ap (λ n. sift n x l) (sym one-more)
       where
-        some : putAll (placeNumbers (rising (suc (left - 1)) w moving low)) to
-            ≡ putAll (placeNumbers (rising (left - 1) w moving (behind (read w numberField (least w moving low 1024)))))
-            (putAll (placeNumbers (placeAt w moving (least w moving low 1024) ∷ [])) to)
-        some = unfold rising placeNumbers putAll in (rw (lt-ltb _ _ h))
+        next : sift (i - 1) x (set l (suc (i - 1)) (getD l (i - 1) 0)) ≡ sift (suc (i - 1)) x l
+        next = unfold sift in (rw (lt-leb _ _ h))

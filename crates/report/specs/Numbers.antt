@@ -2,14 +2,16 @@
 use Prim.Native.Nat.{ℕ, _+_, min}
 use mathlib.Core.List.{List, [], _∷_, _++_}
 use Rattle.machine.specs.Limits.{maxFacilities, maxStorages, maxBlocks, maxQueues}
-use Rattle.machine.specs.Report.{placeNumbers}
+use lib.ListN.{replicate}
+use Rattle.rows_laws.specs.Layout.{rowCount}
 use Rattle.constants.specs.declared.model.Model.{Model}
 use Rattle.state.specs.declared.scalars.Scalars.{Scalars}
 use Rattle.report.specs.Counts.{serverRow, queueRow, rowsTo}
-use Rattle.report.specs.Living.{livingCount, lowest, rising}
+use Rattle.report.specs.Living.{livingCount, rankTo, placeRow}
 
 unfoldable pub livingNumbers : List ℕ → ℕ → List ℕ
-livingNumbers w moving = livingCount w moving ∷ placeNumbers (rising (livingCount w moving) w moving lowest)
+livingNumbers w moving =
+    livingCount w moving ∷ rowsTo (livingCount w moving) (placeRow w moving (rankTo w moving rowCount (replicate rowCount 0)))
 
 -- a header's counts are at most the limits; larger ones are cut
 unfoldable pub rowNumbers : Model → (tables tally work : List ℕ) → Scalars → List ℕ

@@ -19,7 +19,7 @@ use Rattle.machine.proofs.Proper.{Proper, ProperBlock}
 use Rattle.machine.proofs.ProperFrom.{proper-from, rules-from}
 use Rattle.trace.specs.Whole.{Reads}
 use Rattle.trace.proofs.RoundTrip.{reads-once}
-use Rattle.columns.proofs.Runs.{run-taken}
+use Rattle.columns_laws.proofs.Runs.{run-taken}
 use Rattle.slowjob.specs.SlowJob.{jobs, JobLine, raised, ends, endsOf, Delayed, SlowJob, SlowJobBytes, SlowJobRead, leaves, EachEnd}
 use Rattle.slowjob.proofs.Recurrence.{leaves-late}
 use Rattle.slowjob.proofs.Line.{firsts}

@@ -1,6 +1,6 @@
 // Calls of the tape maker at the limits of its rules: answers, lengths and the twelve bytes that were lent.
 use libc::STDOUT_FILENO;
-use tapes::Made;
+use tapes_laws::Made;
 
 fn print_byte(b: u8) {
     io::write_all(STDOUT_FILENO, b" ");

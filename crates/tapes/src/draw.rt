@@ -1,14 +1,14 @@
 // One time from a distribution.
-use super::Distribution;
 use floats::Segment;
+use tapes_laws::Distribution;
 ghost use mathlib.Core.Path.{_≡_};
 ghost use mathlib.Core.List.{List};
 ghost use Prim.Native.Nat.{ℕ, _+_, _≤_, _<_};
 ghost use Rattle.floats.specs.Limits.{drawParts, maxTime};
 ghost use Rattle.floats.specs.Value.{Is};
 ghost use Rattle.streams.specs.Stream.{Inside};
-ghost use Rattle.tapes.specs.Source.{Point, Source, drawOf, around, after, timeOf};
-ghost use Rattle.tapes.specs.Held.{Points, Meant, Surrounds};
+ghost use Rattle.tapes_laws.specs.Source.{Point, Source, drawOf, around, after, timeOf};
+ghost use Rattle.tapes_laws.specs.Held.{Points, Meant, Surrounds};
 
 // "(r - 1) divided by 32,768, whole part"
 const STATES_PER_PART: u32 = 32_768;

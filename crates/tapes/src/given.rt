@@ -1,16 +1,17 @@
 // What a call gives, checked: doubles, distributions and lists.
-use super::Choice;
-use super::Distribution;
-use super::Row;
 use floats::Parts;
+use tapes_laws::Choice;
+use tapes_laws::Distribution;
+use tapes_laws::Point;
+use tapes_laws::Row;
 ghost use mathlib.Core.Path.{_≡_};
 ghost use Prim.Native.Nat.{ℕ, _+_, _*_, _≤_, _<_};
 ghost use lib.ListN.{length};
 ghost use Rattle.floats.specs.Answers.{countOf};
-ghost use Rattle.tapes.specs.Limits.{mostTimes};
-ghost use Rattle.tapes.specs.Given.{timeAt, uAt, fixedAt, spreadAt, pointAt, pointsBehind, curveAt, sourceAt, listAt, listsFrom};
-ghost use Rattle.tapes.specs.Held.{Chosen, Listing};
-ghost use Rattle.tapes.specs.Answers.{pointOf, stepOf, corner, isGiven};
+ghost use Rattle.tapes_laws.specs.Limits.{mostTimes};
+ghost use Rattle.tapes_laws.specs.Given.{timeAt, uAt, fixedAt, spreadAt, pointAt, pointsBehind, curveAt, sourceAt, listAt, listsFrom};
+ghost use Rattle.tapes_laws.specs.Held.{Chosen, Listing};
+ghost use Rattle.tapes_laws.specs.Answers.{pointOf, stepOf, corner, isGiven};
 
 // "a count per list (0..65,535)"
 const MOST_TIMES: u32 = 65_535;
@@ -25,12 +26,6 @@ const MOST_POINTS: u32 = 24;
 
 // u = 1, in 65,536ths
 const LAST_U: u64 = 65_536;
-
-// A point of a curve, in whole numbers.
-pub enum Point {
-    At(u64, u64),
-    Refused,
-}
 
 // The time at an index, in 64ths.
 pub fn time_at(numbers: &[f64], at: usize) -> Parts

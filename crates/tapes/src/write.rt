@@ -1,10 +1,10 @@
 // A tape measured, and written.
-use super::Distribution;
-use super::Row;
 use super::draw::draw;
 use super::given::list_at;
 use codec::number_len;
 use codec::write_number;
+use tapes_laws::Distribution;
+use tapes_laws::Row;
 ghost use mathlib.Core.Path.{_≡_};
 ghost use mathlib.Core.List.{List};
 ghost use mathlib.Core.Option.{some};
@@ -12,11 +12,11 @@ ghost use Prim.Native.Nat.{ℕ, _+_, _*_, _≤_};
 ghost use lib.ListN.{length};
 ghost use lib.Seq.{sets};
 ghost use Rattle.streams.specs.Stream.{Inside};
-ghost use Rattle.tapes.specs.Limits.{mostLists, mostTimes};
-ghost use Rattle.tapes.specs.Source.{Source};
-ghost use Rattle.tapes.specs.Given.{Listed, listsFrom};
-ghost use Rattle.tapes.specs.Tape.{tapeBytes, timesBytes};
-ghost use Rattle.tapes.specs.Held.{Meant, TimesMeasured, TimesWritten};
+ghost use Rattle.tapes_laws.specs.Limits.{mostLists, mostTimes};
+ghost use Rattle.tapes_laws.specs.Source.{Source};
+ghost use Rattle.tapes_laws.specs.Given.{Listed, listsFrom};
+ghost use Rattle.tapes_laws.specs.Tape.{tapeBytes, timesBytes};
+ghost use Rattle.tapes_laws.specs.Held.{Meant, TimesMeasured, TimesWritten};
 
 // Bytes so far, and the state of the stream.
 pub struct Progress {

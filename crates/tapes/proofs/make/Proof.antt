@@ -1,6 +1,6 @@
 -- `tapes::make` meets its contract: 41 first, then the tape from the state where the stream begins.
 use mathlib.Core.Path.{sym, _∙_}
-use Rattle.tapes.proofs.Accepted.{contract-refused, contract-made}
+use Rattle.tapes_laws.proofs.Accepted.{contract-refused, contract-made}
 use borrow.Author.Needs.{needs}
 use Rattle.tapes.proofs.make.Statement.{statement}
 use Rattle.tapes.proofs.make.Tie as tie

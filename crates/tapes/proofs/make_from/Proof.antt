@@ -1,7 +1,7 @@
 -- `tapes::make_from` meets its contract: the questions in their order, then the tape.
 use mathlib.Core.Path.{sym, _∙_}
 use borrow.Author.Tests.{not-true, not-false}
-use Rattle.tapes.proofs.Making.{uneven, seventeenth, some-refused, all-lists, found, answer-42, answer-43, answer-made}
+use Rattle.tapes_laws.proofs.Making.{uneven, seventeenth, some-refused, all-lists, found, answer-42, answer-43, answer-made}
 use borrow.Author.Needs.{needs}
 use Rattle.tapes.proofs.make_from.Statement.{statement}
 use Rattle.tapes.proofs.make_from.Tie as tie

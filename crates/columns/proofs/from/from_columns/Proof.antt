@@ -3,7 +3,7 @@ use mathlib.Core.Path.{refl}
 use native.Mathlib.Omega.{arith}
 use borrow.Author.Needs.{needs}
 use Rattle.trace.proofs.Writer.{refused-bytes, bytes-count}
-use Rattle.columns.proofs.Answers.{surveyed-none, surveyed-taken, from-51, from-52, from-bytes}
+use Rattle.columns_laws.proofs.Answers.{surveyed-none, surveyed-taken, from-51, from-52, from-bytes}
 use Rattle.columns.proofs.from.from_columns.Statement.{statement}
 use Rattle.columns.proofs.from.from_columns.Tie as tie
 

@@ -3,7 +3,7 @@ use Prim.Native.Nat.{_-_}
 use native.Mathlib.Omega.{arith}
 use borrow.Author.Needs.{needs}
 use Rattle.codec.proofs.Numbers.{numberBytes-longest}
-use Rattle.columns.specs.Walks.{longer}
+use Rattle.columns_laws.specs.Walks.{longer}
 use Rattle.columns.proofs.measure.longer.Statement.{statement}
 use Rattle.columns.proofs.measure.longer.Tie as tie
 

@@ -4,9 +4,9 @@ use Prim.Native.Nat.{_-_}
 use mathlib.Core.Path.{_≡_, refl, sym, _∙_}
 use native.Mathlib.Omega.{arith}
 use borrow.Author.Needs.{needs}
-use Rattle.columns.specs.Columns.{maxRecords}
-use Rattle.columns.specs.Walks.{Short, atStart}
-use Rattle.columns.proofs.Measuring.{Rest, step-refused, step-taken, step-end}
+use Rattle.columns_laws.specs.Columns.{maxRecords}
+use Rattle.columns_laws.specs.Walks.{Short, atStart}
+use Rattle.columns_laws.proofs.Measuring.{Rest, step-refused, step-taken, step-end}
 use Rattle.columns.proofs.measure.measure.Statement.{statement}
 use Rattle.columns.proofs.measure.measure.Tie as tie
 

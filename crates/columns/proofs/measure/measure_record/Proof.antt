@@ -1,5 +1,5 @@
 -- `columns::measure::measure_record` meets its contract: what the reader answers, then the two tests.
-use Rattle.columns.proofs.Measuring.{measured-refusal, measured-more, measured-fallen, measured-many, measured-taken}
+use Rattle.columns_laws.proofs.Measuring.{measured-refusal, measured-more, measured-fallen, measured-many, measured-taken}
 use borrow.Author.Needs.{needs}
 use Rattle.columns.proofs.measure.measure_record.Statement.{statement}
 use Rattle.columns.proofs.measure.measure_record.Tie as tie

@@ -1,5 +1,5 @@
 -- `columns::place::place` meets its contract: four numbers written one after the other.
-use Rattle.columns.proofs.Placing.{placed}
+use Rattle.columns_laws.proofs.Placing.{placed}
 use borrow.Author.Needs.{needs}
 use Rattle.columns.proofs.place.place.Statement.{statement}
 use Rattle.columns.proofs.place.place.Tie as tie

@@ -1,5 +1,5 @@
 -- `columns::place::record_at` meets its contract: what the reader answers.
-use Rattle.columns.proofs.Placing.{entry-taken, entry-refused, entry-none}
+use Rattle.columns_laws.proofs.Placing.{entry-taken, entry-refused, entry-none}
 use borrow.Author.Needs.{needs}
 use Rattle.columns.proofs.place.record_at.Statement.{statement}
 use Rattle.columns.proofs.place.record_at.Tie as tie

@@ -3,8 +3,8 @@
 use mathlib.Core.Path.{_≡_, refl, _∙_}
 use native.Mathlib.Omega.{arith}
 use lib.ListN.{length}
-use Rattle.columns.specs.Walks.{placeAll}
-use Rattle.columns.proofs.Placing.{place-more, place-none}
+use Rattle.columns_laws.specs.Walks.{placeAll}
+use Rattle.columns_laws.proofs.Placing.{place-more, place-none}
 use borrow.Author.Needs.{needs}
 use Rattle.columns.proofs.place.write_columns.Statement.{statement}
 use Rattle.columns.proofs.place.write_columns.Tie as tie

@@ -2,7 +2,7 @@
 use borrow.Author.Needs.{needs}
 use borrow.Author.Tests.{lt-ltb, le-ltb}
 use native.Mathlib.Omega.{arith}
-use Rattle.columns.specs.Walks.{later}
+use Rattle.columns_laws.specs.Walks.{later}
 use Rattle.columns.proofs.restore.later.Statement.{statement}
 use Rattle.columns.proofs.restore.later.Tie as tie
 

@@ -1,6 +1,6 @@
 -- `columns::restore::number_at` meets its contract: what the codec answers.
 use native.Mathlib.Omega.{arith}
-use Rattle.columns.proofs.Restoring.{number-read, number-unread}
+use Rattle.columns_laws.proofs.Restoring.{number-read, number-unread}
 use borrow.Author.Needs.{needs}
 use Rattle.columns.proofs.restore.number_at.Statement.{statement}
 use Rattle.columns.proofs.restore.number_at.Tie as tie

@@ -1,5 +1,5 @@
 -- `columns::restore::restore` meets its contract: four numbers read, four written one after the other.
-use Rattle.columns.proofs.Restoring.{restored}
+use Rattle.columns_laws.proofs.Restoring.{restored}
 use borrow.Author.Needs.{needs}
 use Rattle.columns.proofs.restore.restore.Statement.{statement}
 use Rattle.columns.proofs.restore.restore.Tie as tie

@@ -5,8 +5,8 @@ use mathlib.Core.Path.{_≡_, refl, _∙_}
 use native.Mathlib.Omega.{arith}
 use lib.ListN.{length}
 use Rattle.machine.specs.Limits.{maxClock}
-use Rattle.columns.specs.Walks.{restoreAll}
-use Rattle.columns.proofs.Restoring.{restore-more, restore-none}
+use Rattle.columns_laws.specs.Walks.{restoreAll}
+use Rattle.columns_laws.proofs.Restoring.{restore-more, restore-none}
 use Rattle.columns.proofs.restore.write_trace.Statement.{statement}
 use Rattle.columns.proofs.restore.write_trace.Tie as tie
 

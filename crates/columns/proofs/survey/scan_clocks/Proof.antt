@@ -6,9 +6,9 @@ use native.Mathlib.Omega.{arith}
 use borrow.Author.Needs.{needs}
 use Rattle.machine.specs.Limits.{maxClock}
 use Rattle.codec.specs.Answers.{cursorAt}
-use Rattle.columns.specs.Columns.{clocksFrom}
-use Rattle.columns.specs.Walks.{sized}
-use Rattle.columns.proofs.Surveying.{nine, clocks-none, clocks-stop, clocks-step}
+use Rattle.columns_laws.specs.Columns.{clocksFrom}
+use Rattle.columns_laws.specs.Walks.{sized}
+use Rattle.columns_laws.proofs.Surveying.{nine, clocks-none, clocks-stop, clocks-step}
 use Rattle.columns.proofs.survey.scan_clocks.Statement.{statement}
 use Rattle.columns.proofs.survey.scan_clocks.Tie as tie
 

@@ -7,8 +7,8 @@ use Rattle.machine.specs.Rules.{inForce}
 use Rattle.machine.specs.Parser.{times}
 use Rattle.machine.specs.Trace.{traceField}
 use Rattle.codec.specs.Answers.{cursorAt}
-use Rattle.columns.specs.Walks.{ends}
-use Rattle.columns.proofs.Surveying.{column-none, column-stop, column-step}
+use Rattle.columns_laws.specs.Walks.{ends}
+use Rattle.columns_laws.proofs.Surveying.{column-none, column-stop, column-step}
 use Rattle.columns.proofs.survey.scan_column.Statement.{statement}
 use Rattle.columns.proofs.survey.scan_column.Tie as tie
 

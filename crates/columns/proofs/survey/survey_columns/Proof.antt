@@ -3,7 +3,7 @@ use mathlib.Core.Path.{sym, _∙_}
 use native.Mathlib.Omega.{arith}
 use borrow.Author.Needs.{needs}
 use Rattle.codec.proofs.Fields.{value-parsed, refusal-parsed}
-use Rattle.columns.proofs.Surveying.{survey-count, survey-clocks, survey-transactions, survey-blocks, survey-outcomes, survey-long, survey-fits, survey-taken}
+use Rattle.columns_laws.proofs.Surveying.{survey-count, survey-clocks, survey-transactions, survey-blocks, survey-outcomes, survey-long, survey-fits, survey-taken}
 use Rattle.columns.proofs.survey.survey_columns.Statement.{statement}
 use Rattle.columns.proofs.survey.survey_columns.Tie as tie
 

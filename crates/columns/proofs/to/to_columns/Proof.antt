@@ -3,9 +3,9 @@ use mathlib.Core.Path.{refl, sym, ap, _∙_}
 use native.Mathlib.Omega.{arith}
 use borrow.Author.Needs.{needs}
 use Rattle.trace.proofs.Writer.{refused-bytes, bytes-count}
-use Rattle.columns.specs.Walks.{totalsOf}
-use Rattle.columns.proofs.Surveying.{nine}
-use Rattle.columns.proofs.Answers.{measured-none, measured-some, measured-fits, to-51, to-52, to-bytes}
+use Rattle.columns_laws.specs.Walks.{totalsOf}
+use Rattle.columns_laws.proofs.Surveying.{nine}
+use Rattle.columns_laws.proofs.Answers.{measured-none, measured-some, measured-fits, to-51, to-52, to-bytes}
 use Rattle.columns.proofs.to.to_columns.Statement.{statement}
 use Rattle.columns.proofs.to.to_columns.Tie as tie
 

@@ -1,6 +1,6 @@
 -- `tapes::draw` meets its contract: kind by kind.
 use mathlib.Core.Path.{_∙_}
-use Rattle.tapes.proofs.Drawing.{fixed-drawn, spread-drawn, curve-drawn}
+use Rattle.tapes_laws.proofs.Drawing.{fixed-drawn, spread-drawn, curve-drawn}
 use borrow.Author.Needs.{needs}
 use Rattle.tapes.proofs.draw.draw.Statement.{statement}
 use Rattle.tapes.proofs.draw.draw.Tie as tie

@@ -5,9 +5,9 @@ use mathlib.Core.List.{List}
 use lib.ListN.{length}
 use Rattle.floats.specs.Limits.{drawParts}
 use Rattle.floats.specs.Value.{Is}
-use Rattle.tapes.specs.Source.{Point}
-use Rattle.tapes.specs.Held.{Points}
-use Rattle.tapes.proofs.Drawing.{Here, here-start, here-stops, here-goes, here-inside}
+use Rattle.tapes_laws.specs.Source.{Point}
+use Rattle.tapes_laws.specs.Held.{Points}
+use Rattle.tapes_laws.proofs.Drawing.{Here, here-start, here-stops, here-goes, here-inside}
 use borrow.Author.Needs.{needs}
 use Rattle.tapes.proofs.draw.segment.Statement.{statement}
 use Rattle.tapes.proofs.draw.segment.Tie as tie

@@ -1,5 +1,5 @@
 -- `tapes::uniform` meets its contract.
-use Rattle.tapes.specs.Source.{drawOf}
+use Rattle.tapes_laws.specs.Source.{drawOf}
 use borrow.Author.Needs.{needs}
 use Rattle.tapes.proofs.draw.uniform.Statement.{statement}
 use Rattle.tapes.proofs.draw.uniform.Tie as tie

@@ -1,7 +1,7 @@
 -- `tapes::all_given` meets its contract. The invariant: the lists from k on answer as all do; the measure is how many are left.
 use Prim.Native.Nat.{_-_, _≤_}
 use native.Mathlib.Omega.{arith}
-use Rattle.tapes.proofs.Lists.{AsAll, all-start, all-stops, all-goes, all-done}
+use Rattle.tapes_laws.proofs.Lists.{AsAll, all-start, all-stops, all-goes, all-done}
 use borrow.Author.Needs.{needs}
 use Rattle.tapes.proofs.given.all_given.Statement.{statement}
 use Rattle.tapes.proofs.given.all_given.Tie as tie

@@ -1,6 +1,6 @@
 -- `tapes::choose` meets its contract: kind by kind.
 use borrow.Author.Tests.{eq-eqb, ne-eqb}
-use Rattle.tapes.specs.Given.{sourceAt}
+use Rattle.tapes_laws.specs.Given.{sourceAt}
 use borrow.Author.Needs.{needs}
 use Rattle.tapes.proofs.given.choose.Statement.{statement}
 use Rattle.tapes.proofs.given.choose.Tie as tie

@@ -1,6 +1,6 @@
 -- `tapes::curve` meets its contract: each of the questions in turn.
 use mathlib.Core.Path.{sym, _∙_}
-use Rattle.tapes.proofs.Curves.{pointed, unpointed, curve-few, curve-many, curve-no-point, curve-late, curve-broken, curve-taken}
+use Rattle.tapes_laws.proofs.Curves.{pointed, unpointed, curve-few, curve-many, curve-no-point, curve-late, curve-broken, curve-taken}
 use borrow.Author.Needs.{needs}
 use Rattle.tapes.proofs.given.curve.Statement.{statement}
 use Rattle.tapes.proofs.given.curve.Tie as tie

@@ -1,5 +1,5 @@
 -- `tapes::fixed` meets its contract.
-use Rattle.tapes.proofs.Reading.{counted, uncounted, time-inside, fixed-refused, fixed-taken}
+use Rattle.tapes_laws.proofs.Reading.{counted, uncounted, time-inside, fixed-refused, fixed-taken}
 use borrow.Author.Needs.{needs}
 use Rattle.tapes.proofs.given.fixed.Statement.{statement}
 use Rattle.tapes.proofs.given.fixed.Tie as tie

@@ -1,5 +1,5 @@
 -- `tapes::list_at` meets its contract: the count, then the distribution.
-use Rattle.tapes.proofs.Lists.{row-many, row-refused, row-taken, no-row, row-most}
+use Rattle.tapes_laws.proofs.Lists.{row-many, row-refused, row-taken, no-row, row-most}
 use borrow.Author.Needs.{needs}
 use Rattle.tapes.proofs.given.list_at.Statement.{statement}
 use Rattle.tapes.proofs.given.list_at.Tie as tie

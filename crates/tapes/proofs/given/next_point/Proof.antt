@@ -1,6 +1,6 @@
 -- `tapes::next_point` meets its contract.
-use Rattle.tapes.specs.Answers.{pointOf}
-use Rattle.tapes.proofs.Curves.{pointed, unpointed, step-none, step-back, step-falls, step-taken, no-point, point-inside}
+use Rattle.tapes_laws.specs.Answers.{pointOf}
+use Rattle.tapes_laws.proofs.Curves.{pointed, unpointed, step-none, step-back, step-falls, step-taken, no-point, point-inside}
 use borrow.Author.Needs.{needs}
 use Rattle.tapes.proofs.given.next_point.Statement.{statement}
 use Rattle.tapes.proofs.given.next_point.Tie as tie

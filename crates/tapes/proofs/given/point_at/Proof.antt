@@ -1,8 +1,8 @@
 -- `tapes::point_at` meets its contract.
 use native.Mathlib.Omega.{arith}
-use Rattle.tapes.specs.Answers.{pointOf}
-use Rattle.tapes.proofs.Reading.{counted, uncounted, u-inside}
-use Rattle.tapes.proofs.Curves.{point-no-u, point-no-time, point-taken}
+use Rattle.tapes_laws.specs.Answers.{pointOf}
+use Rattle.tapes_laws.proofs.Reading.{counted, uncounted, u-inside}
+use Rattle.tapes_laws.proofs.Curves.{point-no-u, point-no-time, point-taken}
 use borrow.Author.Needs.{needs}
 use Rattle.tapes.proofs.given.point_at.Statement.{statement}
 use Rattle.tapes.proofs.given.point_at.Tie as tie

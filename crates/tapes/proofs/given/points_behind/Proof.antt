@@ -1,9 +1,9 @@
 -- `tapes::points_behind` meets its contract. The invariant: the points that are left answer as all of them; the measure is their number.
 use native.Mathlib.Omega.{arith}
 use mathlib.Core.Path.{_≡_, refl, _∙_}
-use Rattle.tapes.specs.Given.{pointsBehind}
-use Rattle.tapes.specs.Answers.{corner, isGiven}
-use Rattle.tapes.proofs.Curves.{pointed, unpointed, behind-stops, behind-goes, behind-ends}
+use Rattle.tapes_laws.specs.Given.{pointsBehind}
+use Rattle.tapes_laws.specs.Answers.{corner, isGiven}
+use Rattle.tapes_laws.proofs.Curves.{pointed, unpointed, behind-stops, behind-goes, behind-ends}
 use borrow.Author.Needs.{needs}
 use Rattle.tapes.proofs.given.points_behind.Statement.{statement}
 use Rattle.tapes.proofs.given.points_behind.Tie as tie

@@ -1,5 +1,5 @@
 -- `tapes::spread` meets its contract: each of the questions in turn.
-use Rattle.tapes.proofs.Reading.{counted, uncounted, time-inside, spread-no-mean, spread-no-half, spread-wide, spread-late, spread-taken}
+use Rattle.tapes_laws.proofs.Reading.{counted, uncounted, time-inside, spread-no-mean, spread-no-half, spread-wide, spread-late, spread-taken}
 use borrow.Author.Needs.{needs}
 use Rattle.tapes.proofs.given.spread.Statement.{statement}
 use Rattle.tapes.proofs.given.spread.Tie as tie

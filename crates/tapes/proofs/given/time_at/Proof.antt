@@ -1,7 +1,7 @@
 -- `tapes::time_at` meets its contract: past the end there is no number.
 use Rattle.floats.specs.Answers.{countOf}
-use Rattle.tapes.specs.Given.{timeAt}
-use Rattle.tapes.proofs.Reading.{time-past}
+use Rattle.tapes_laws.specs.Given.{timeAt}
+use Rattle.tapes_laws.proofs.Reading.{time-past}
 use borrow.Author.Needs.{needs}
 use Rattle.tapes.proofs.given.time_at.Statement.{statement}
 use Rattle.tapes.proofs.given.time_at.Tie as tie

@@ -1,7 +1,7 @@
 -- `tapes::u_at` meets its contract: past the end there is no number.
 use Rattle.floats.specs.Answers.{countOf}
-use Rattle.tapes.specs.Given.{uAt}
-use Rattle.tapes.proofs.Reading.{u-past}
+use Rattle.tapes_laws.specs.Given.{uAt}
+use Rattle.tapes_laws.proofs.Reading.{u-past}
 use borrow.Author.Needs.{needs}
 use Rattle.tapes.proofs.given.u_at.Statement.{statement}
 use Rattle.tapes.proofs.given.u_at.Tie as tie

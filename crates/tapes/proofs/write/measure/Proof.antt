@@ -5,9 +5,9 @@ use mathlib.Core.Path.{_≡_}
 use mathlib.Core.List.{List}
 use mathlib.Core.Option.{some}
 use Rattle.streams.specs.Stream.{Inside}
-use Rattle.tapes.specs.Given.{Listed, listsFrom}
-use Rattle.tapes.proofs.Times.{len-most}
-use Rattle.tapes.proofs.Tapes.{MeasureLeft, measure-lists, measure-barred, measure-next, measured}
+use Rattle.tapes_laws.specs.Given.{Listed, listsFrom}
+use Rattle.tapes_laws.proofs.Times.{len-most}
+use Rattle.tapes_laws.proofs.Tapes.{MeasureLeft, measure-lists, measure-barred, measure-next, measured}
 use borrow.Author.Needs.{needs}
 use Rattle.tapes.proofs.write.measure.Statement.{statement}
 use Rattle.tapes.proofs.write.measure.Tie as tie

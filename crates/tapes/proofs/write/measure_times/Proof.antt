@@ -3,9 +3,9 @@ use Prim.Native.Nat.{ℕ, _+_, _*_, _≤_}
 use native.Mathlib.Omega.{arith}
 use mathlib.Core.Path.{_∙_, ap}
 use Rattle.streams.specs.Stream.{Inside}
-use Rattle.tapes.specs.Source.{Source}
-use Rattle.tapes.specs.Held.{Meant}
-use Rattle.tapes.proofs.Times.{MeasureRest, measure-start, measure-goes, measure-done, len-most}
+use Rattle.tapes_laws.specs.Source.{Source}
+use Rattle.tapes_laws.specs.Held.{Meant}
+use Rattle.tapes_laws.proofs.Times.{MeasureRest, measure-start, measure-goes, measure-done, len-most}
 use borrow.Author.Needs.{needs}
 use Rattle.tapes.proofs.write.measure_times.Statement.{statement}
 use Rattle.tapes.proofs.write.measure_times.Tie as tie

@@ -6,9 +6,9 @@ use lib.ListN.{length}
 use mathlib.Core.List.{List}
 use mathlib.Core.Option.{some}
 use Rattle.streams.specs.Stream.{Inside}
-use Rattle.tapes.specs.Given.{Listed, listsFrom}
-use Rattle.tapes.specs.Tape.{tapeBytes}
-use Rattle.tapes.proofs.Tapes.{WriteLeft, write-lists, write-barred, write-next, all-written}
+use Rattle.tapes_laws.specs.Given.{Listed, listsFrom}
+use Rattle.tapes_laws.specs.Tape.{tapeBytes}
+use Rattle.tapes_laws.proofs.Tapes.{WriteLeft, write-lists, write-barred, write-next, all-written}
 use borrow.Author.Needs.{needs}
 use Rattle.tapes.proofs.write.write.Statement.{statement}
 use Rattle.tapes.proofs.write.write.Tie as tie

@@ -4,10 +4,10 @@ use native.Mathlib.Omega.{arith}
 use mathlib.Core.Path.{_≡_, refl, ap, _∙_}
 use lib.ListN.{length}
 use Rattle.streams.specs.Stream.{Inside}
-use Rattle.tapes.specs.Source.{Source}
-use Rattle.tapes.specs.Tape.{timesBytes}
-use Rattle.tapes.specs.Held.{Meant}
-use Rattle.tapes.proofs.Times.{WriteRest, write-start, write-goes, write-done}
+use Rattle.tapes_laws.specs.Source.{Source}
+use Rattle.tapes_laws.specs.Tape.{timesBytes}
+use Rattle.tapes_laws.specs.Held.{Meant}
+use Rattle.tapes_laws.proofs.Times.{WriteRest, write-start, write-goes, write-done}
 use borrow.Author.Needs.{needs}
 use Rattle.tapes.proofs.write.write_times.Statement.{statement}
 use Rattle.tapes.proofs.write.write_times.Tie as tie

@@ -1,0 +1,40 @@
+-- What the answers of this crate say in the paper's terms.
+use Prim.Native.Nat.{ℕ}
+use mathlib.Core.Bool.{Bool, true, false}
+use mathlib.Core.List.{List}
+use mathlib.Core.Option.{Option, none, some}
+use lib.Ieee.{Float}
+use lib.ListN.{length}
+use Rattle.tapes_laws.specs.declared.Made.{Made}
+use Rattle.tapes_laws.specs.declared.Made.the-variants.{Bytes, Refused}
+use Rattle.tapes_laws.specs.declared.Point.{Point as Corner}
+use Rattle.tapes_laws.specs.declared.Point.the-variants.{At, Refused as Unread}
+use Rattle.tapes_laws.specs.Options.{_>>=_, _>>_, ask}
+use Rattle.tapes_laws.specs.Source.{Point}
+use Rattle.tapes_laws.specs.Given.{pointAt, follows}
+use Rattle.tapes_laws.specs.Tape.{Making, made, refusal}
+
+-- how many bytes the tape has, or the number of the refusal
+unfoldable pub answer : Making → Made
+answer (made b) = Bytes (length b)
+answer (refusal n) = Refused n
+
+-- ---- Points
+
+abbrev pub corner : ℕ → ℕ → Point
+corner u time = record { u = u; time = time }
+
+unfoldable pub pointOf : Corner → Option Point
+pointOf (At u time) = some (corner u time)
+pointOf Unread = none
+
+-- the next point, if it follows
+unfoldable pub stepOf : List Float → ℕ → Point → Option Point
+stepOf numbers at p = do
+  q ← pointAt numbers at
+  ask (follows p q)
+  some q
+
+unfoldable pub isGiven : {A : Type 0} → Option A → Bool
+isGiven none = false
+isGiven (some a) = true
