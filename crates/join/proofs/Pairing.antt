@@ -27,7 +27,7 @@ use Rattle.join.specs.Contract.{Contract}
 use Rattle.join_laws.specs.Joining.{Joining, refused, judged, fitted, joinedPair, join}
 use Rattle.join_laws.specs.Whole.{Fits, mayJoin, joinedRows, mayJoinTables, joinedTables, Ready}
 use Rattle.join_laws.proofs.Decoded.{Decoded}
-use Rattle.join_laws.proofs.Joint.{within-limits}
+use Rattle.joined.proofs.ProperJoined.{fits}
 use Rattle.join_laws.proofs.Accepted.{judged-decoded}
 use Rattle.join_laws.proofs.JoinedRows.{Table, table, rows-are}
 use Rattle.join_laws.proofs.Fitting.{joined-most}
@@ -62,7 +62,7 @@ module _ (m₁ m₂ : BlockModel) (tables₁ tables₂ : List ℕ) (t₁ : Table
       record {
         first = header-fits m₁ (t₁ .decoded);
         second = header-fits m₂ (t₂ .decoded);
-        room = λ size₁ size₂ e. joined-most m₁ m₂ tables₁ tables₂ size₁ size₂ t₁ t₂ (within-limits m₁ m₂ (sym may-join ∙ e));
+        room = λ size₁ size₂ e. joined-most m₁ m₂ tables₁ tables₂ size₁ size₂ t₁ t₂ (fits m₁ m₂ (sym may-join ∙ e));
       }
 
   -- the code's tables give what the definition says of the two models

@@ -21,7 +21,8 @@ use Rattle.join_laws.specs.Joining.{Joining, joined, judged, fitted, joi
 use Rattle.join_laws.specs.Joining as Joining
 use Rattle.join_laws.proofs.Carrying.{Passed}
 use Rattle.join_laws.proofs.Decoded.{Decoded, decoded}
-use Rattle.join_laws.proofs.Joint.{within-limits, model-read}
+use Rattle.joined.proofs.ProperJoined.{fits}
+use Rattle.join_laws.proofs.Joint.{model-read}
 use Rattle.join_laws.proofs.Formed.{well-formed, joined-formed}
 use Rattle.join_laws.proofs.EndToEnd.{tapes-read}
 
@@ -131,7 +132,7 @@ join-accepted model₁ tape₁ model₂ tape₂ modelRoom tapeRoom work report m
     let proper₁ = proper-from inForce model₁ tape₁ work report v₁ in
     let proper₂ = proper-from inForce model₂ tape₂ work report v₂ in
     let x = parts model₁ tape₁ model₂ tape₂ modelRoom tapeRoom work report m₁ m₂ times₁ times₂ v₁ v₂ model tape e in
-    let limits = within-limits m₁ m₂ (x .within) in
+    let limits = fits m₁ m₂ (x .within) in
     let read = model-read m₁ m₂ limits (d₁ .0) (d₂ .0) (well-formed (d₁ .1) .names) (well-formed (d₂ .1) .names) beginning beginning in
     let whole = model-accepted (joinModels m₁ m₂) (read .from (modelBytes (joinModels m₁ m₂)) [] beginning (sym (append-nil (modelBytes (joinModels m₁ m₂)))) tt) (joined-formed proper₁ proper₂) in
     let tapes = tapes-read inForce tape₁ tape₂ (m₁ .lists) (m₂ .lists) (under m₁ tape₁ (d₁ .0 .rules) (p₁ .tape-is)) (under m₂ tape₂ (d₂ .0 .rules) (p₂ .tape-is)) in

@@ -23,7 +23,7 @@ use Rattle.join_laws.specs.declared.shift.Shift.{Shift}
 use Rattle.join_laws.specs.Written.{storedTerm, storedTerms, storedSum, numbersBytes}
 use Rattle.join_laws.specs.Rows.{puts, valueRows, blockRows}
 use Rattle.join_laws.specs.Whole.{keptRoom, firstShift, secondShift, cellRow, serverRows, thingRows, allBlocks, programRows, joinedRows, joinedBytes}
-use Rattle.join_laws.proofs.Joint.{Joinable}
+use Rattle.joined.proofs.ProperJoined.{Fits}
 use Rattle.join_laws.proofs.Numbered.{NumberedSum}
 use Rattle.join_laws.proofs.BlockRows.{Moves}
 use Rattle.join_laws.proofs.JoinedRows.{from-zero, value-rows, Table, moves₁, moves₂}
@@ -99,7 +99,7 @@ values-most p by joint same m tables size own t =
       sums-most joint p (m .values) (λ i low. omega (arith, size, at-most tables (Layout.values + Layout.valueWidth * i) (sumNumbers (getD (m .values) i nothing)) (t .values i low))),
     )
 
-module _ (m₁ m₂ : BlockModel) (tables₁ tables₂ : List ℕ) (size₁ : length tables₁ ≡ Layout.tablesSize) (size₂ : length tables₂ ≡ Layout.tablesSize) (t₁ : Table m₁ tables₁) (t₂ : Table m₂ tables₂) (within : Joinable m₁ m₂) where
+module _ (m₁ m₂ : BlockModel) (tables₁ tables₂ : List ℕ) (size₁ : length tables₁ ≡ Layout.tablesSize) (size₂ : length tables₂ ≡ Layout.tablesSize) (t₁ : Table m₁ tables₁) (t₂ : Table m₂ tables₂) (within : Fits m₁ m₂) where
   abbrev shift₁ : Shift
   shift₁ = firstShift (headerOf m₁)
 

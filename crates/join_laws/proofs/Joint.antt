@@ -20,46 +20,14 @@ use Rattle.machine.specs.Parser.{times}
 use Rattle.machine.proofs.RunLaws.{each-map}
 use Rattle.machine.proofs.Shape.{each-getD}
 use Rattle.machine.proofs.ParserLaws.{and-true}
-use Rattle.joined.specs.Join.{Part, first, second, sumIn, blockIn, joinModels, joinable}
+use Rattle.joined.specs.Join.{Part, first, second, sumIn, blockIn, joinModels}
+use Rattle.joined.proofs.ProperJoined.{Fits}
 use Rattle.join_laws.specs.Written.{storedSum, storedBlock, storedModel}
 use Rattle.join_laws.proofs.Carrying.{Anywhere}
 use Rattle.join_laws.proofs.Placing.{Placing}
 use Rattle.join_laws.proofs.CarriedBlocks.{Program}
 use Rattle.join_laws.proofs.Decoded.{counts, early, ValueSpot, BlockSpot, Between, Decoded}
 use Rattle.join_laws.proofs.Together.{any-then, any-give, any-number, any-numbers, any-each, any-times, any-values}
-
--- ---- What may be joined
-
-pub record Joinable (m₁ m₂ : BlockModel) : Type 0 where
-  pub edition : m₁ .edition ≡ m₂ .edition
-  pub facilities : m₁ .facilities + m₂ .facilities ≤ Limits.maxFacilities
-  pub storages : length (m₁ .capacities) + length (m₂ .capacities) ≤ Limits.maxStorages
-  pub queues : m₁ .queues + m₂ .queues ≤ Limits.maxQueues
-  pub values : length (m₁ .values) + length (m₂ .values) ≤ Limits.maxValues
-  pub lists : m₁ .lists + m₂ .lists ≤ Limits.maxLists
-  pub counter : m₁ .counter + m₂ .counter ≤ Limits.maxCounter
-  pub blocks : length (m₁ .blocks) + length (m₂ .blocks) ≤ Limits.maxBlocks
-
-pub within-limits : (m₁ m₂ : BlockModel) → joinable m₁ m₂ ≡ true → Joinable m₁ m₂
-unfolding joinable
-within-limits m₁ m₂ e =
-    let b = and-true _ _ e in
-    let c = and-true _ _ (b .0) in
-    let l = and-true _ _ (c .0) in
-    let v = and-true _ _ (l .0) in
-    let q = and-true _ _ (v .0) in
-    let s = and-true _ _ (q .0) in
-    let f = and-true _ _ (s .0) in
-    record {
-      edition = eqb-true _ _ (f .0);
-      facilities = leb-true _ _ (f .1);
-      storages = leb-true _ _ (s .1);
-      queues = leb-true _ _ (q .1);
-      values = leb-true _ _ (v .1);
-      lists = leb-true _ _ (l .1);
-      counter = leb-true _ _ (c .1);
-      blocks = leb-true _ _ (b .1);
-    }
 
 -- ---- Lists
 
@@ -93,7 +61,7 @@ length-both f g k l = length-append (map f k) (map g l) ∙ ap₂ (λ i j. i + j
 
 -- ---- The two parts
 
-module _ (m₁ m₂ : BlockModel) (ok : Joinable m₁ m₂) (d₁ : Decoded m₁) (d₂ : Decoded m₂) where
+module _ (m₁ m₂ : BlockModel) (ok : Fits m₁ m₂) (d₁ : Decoded m₁) (d₂ : Decoded m₂) where
   abbrev joint : (values lists blocks : ℕ) → Counts
   joint v l b = counts (m₁ .facilities + m₂ .facilities) (length (m₁ .capacities) + length (m₂ .capacities)) (m₁ .queues + m₂ .queues) v l b
 
