@@ -14,7 +14,9 @@ use Rattle.rows_laws.specs.Lists.{first}
 use Rattle.rows_laws.specs.Future.{findLoser}
 use Rattle.rows_laws.specs.Make.{freeRow}
 use Rattle.state.specs.declared.scalars.Scalars.{Scalars}
+use Rattle.state.specs.Statistics.{updateServer, updateQueue}
 use Rattle.state.specs.Stands.{Rows, rowsOf}
+use Rattle.state.proofs.StatisticsLaws.{server-low, queue-low}
 use Rattle.moves.specs.Motion.{Moved, withTally, next32, goOn, stopped}
 use Rattle.flow_laws.specs.declared.samples.Sample.{Sample}
 use Rattle.flow_laws.specs.Samples.{nextSample, useTime}
@@ -31,7 +33,7 @@ use Rattle.servers_laws.specs.Waking.{shorter}
 use Rattle.servers_laws.proofs.TakingLaws.{seize-used, enter-used}
 use Rattle.servers_laws.proofs.FreeingLaws.{release-used, leave-used}
 use Rattle.preempt_laws.proofs.PreemptLaws.{preempt-used, give-back-used}
-use Rattle.decisions.specs.Queues.{contentCell, arrive, depart}
+use Rattle.decisions.specs.Queues.{queueOf, content, change, arrive, depart}
 use Rattle.decisions.proofs.QueueLaws.{arrive-used, depart-used}
 
 -- the tally from 256 to 511
@@ -139,19 +141,24 @@ module _ (tables tape w tally : List ℕ) (x : Scalars) where
   unfolding assembleRows
   assemble-waits facilities at = gather-waits facilities _ _ _
 
-  used-units : (v units who preempts : ℕ) → Waits tally (setUse tally v units who preempts)
-  used-units v units who preempts =
-      more-set tally (set (set tally (Layout.inUse + v) units) (Layout.holder + v) who) (Layout.preempted + v) preempts (omega arith)
-      (two-set tally (Layout.inUse + v) units (Layout.holder + v) who (omega arith) (omega arith))
+  -- a server's statistics are brought up to date
+  updated : (v clock : ℕ) → Waits tally (updateServer tally v clock)
+  updated v clock i low high = server-low tally v clock i (omega arith)
+
+  used-units : (v clock units who preempts : ℕ) → Waits tally (setUse (updateServer tally v clock) v units who preempts)
+  used-units v clock units who preempts =
+      let t : List ℕ = updateServer tally v clock in
+      more-set tally (set (set t (Layout.inUse + v) units) (Layout.holder + v) who) (Layout.preempted + v) preempts (omega arith)
+      (more-set tally (set t (Layout.inUse + v) units) (Layout.holder + v) who (omega arith) (more-set tally t (Layout.inUse + v) units (omega arith) (updated v clock)))
 
   -- whatever the work buffer and the scalars
   held-waits : (u : List ℕ) (y : Scalars) (v units who k preempts all : ℕ) → Stays tally (holdUnits u tally y v units who k preempts all)
   unfolding holdUnits rowsOf
-  held-waits u y v units who k preempts all = record { waits = used-units v units who preempts }
+  held-waits u y v units who k preempts all = record { waits = used-units v (y .clock) units who preempts }
 
   queued-waits : (v edition : ℕ) → Stays tally (queueUp w tally x v edition)
   unfolding queueUp longer rowsOf
-  queued-waits v edition = record { waits = one-set tally (Layout.qlLength + v) _ (omega arith) }
+  queued-waits v edition = record { waits = more-set tally (updateServer tally v (x .clock)) (Layout.qlLength + v) _ (omega arith) (updated v (x .clock)) }
 
   taken-waits : (v b who preempts : ℕ) → Stays tally (takeUnits tables w tally x v b who preempts)
   unfolding takeUnits
@@ -169,7 +176,7 @@ module _ (tables tape w tally : List ℕ) (x : Scalars) where
 
   freed-waits : (v units : ℕ) → Stays tally (freeOne tables w tally x v units)
   unfolding freeOne shorter rowsOf
-  freed-waits v units = record { waits = more-set tally (setUse tally v units 0 0) (Layout.qlLength + v) _ (omega arith) (used-units v units 0 0) }
+  freed-waits v units = record { waits = more-set tally (setUse (updateServer tally v (x .clock)) v units 0 0) (Layout.qlLength + v) _ (omega arith) (used-units v (x .clock) units 0 0) }
 
   release-waits : (at : ℕ) → Stays tally (release tables w tally x at)
   unfolding release
@@ -181,7 +188,7 @@ module _ (tables tape w tally : List ℕ) (x : Scalars) where
 
   left-waits : (v units b : ℕ) → Stays tally (freeSome tables w tally x v units b)
   unfolding freeSome rowsOf
-  left-waits v units b = record { waits = more-set tally (setUse tally v units 0 0) (Layout.qlLength + v) _ (omega arith) (used-units v units 0 0) }
+  left-waits v units b = record { waits = more-set tally (setUse (updateServer tally v (x .clock)) v units 0 0) (Layout.qlLength + v) _ (omega arith) (used-units v (x .clock) units 0 0) }
 
   leave-waits : (at : ℕ) → Stays tally (leave tables w tally x at)
   unfolding leave
@@ -218,17 +225,20 @@ module _ (tables tape w tally : List ℕ) (x : Scalars) where
       let end : ℕ = askGiveBack w tally x v (read w numberField (x .moving)) in
       either tally (eqb end 0) (giveBackRows tables w tally x v) (rowsOf (stopped x end) w tally) (back-waits v) (plain tally (stopped x end) w)
 
+  change-waits : (q n : ℕ) → Stays tally (change w tally x q n)
+  unfolding change rowsOf
+  change-waits q n =
+      record { waits = more-set tally (updateQueue tally q (x .clock)) (Layout.content + q) n (omega arith) (λ i low high. queue-low tally q (x .clock) i (omega arith)) }
+
   arrive-waits : (at : ℕ) → Stays tally (arrive tables w tally x at)
-  unfolding arrive contentCell rowsOf
-  arrive-waits at = record { waits = one-set tally (Layout.content + getD tables (at + 1) 0) _ (omega arith) }
+  unfolding arrive
+  arrive-waits at = change-waits (queueOf tables at) _
 
   depart-waits : (at : ℕ) → Stays tally (depart tables w tally x at)
-  unfolding depart contentCell rowsOf
-  depart-waits at = go (eqb (getD tally (Layout.content + getD tables (at + 1) 0) 0) 0)
-    where
-      go : (c : Bool) → Stays tally (cond c (rowsOf (stopped x 25) w tally) (withTally (goOn w x) (set tally (Layout.content + getD tables (at + 1) 0) (getD tally (Layout.content + getD tables (at + 1) 0) 0 - 1))))
-      go true = plain tally (stopped x 25) w
-      go false = record { waits = one-set tally (Layout.content + getD tables (at + 1) 0) _ (omega arith) }
+  unfolding depart
+  depart-waits at =
+      either tally (eqb (content tally (queueOf tables at)) 0) (rowsOf (stopped x 25) w tally) (change w tally x (queueOf tables at) (content tally (queueOf tables at) - 1))
+      (plain tally (stopped x 25) w) (change-waits (queueOf tables at) _)
 
 -- the tally stays
 pub kept : (x : Scalars) (tally : List ℕ) (m : Moved) → m .scalars .used ≡ x .used → Apart x tally (withTally m tally)

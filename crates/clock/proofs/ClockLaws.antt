@@ -1,12 +1,12 @@
--- A clock move follows the machine: statistics first, then all of the first time come from the FEL to REL.
-use Prim.Native.Nat.{ℕ, suc, _+_, _-_, _≤_, _<_, min}
+-- A clock move follows the machine: it is counted, and all of the first time come from the FEL to REL.
+use Prim.Native.Nat.{ℕ, suc, _+_, _≤_, _<_}
 use mathlib.Core.Path.{_≡_, refl, sym, ap, _∙_, subst}
 use mathlib.Core.Bool.{Bool, false}
 use mathlib.Core.List.{List, [], _∷_}
 use mathlib.Core.Option.{none}
 use native.Mathlib.Omega.{arith}
 use borrow.Author.Tests.{lt-ltb, le-ltb}
-use lib.ListN.{length}
+use lib.ListN.{length, getD}
 use Rattle.machine.specs.Limits.{maxClock}
 use Rattle.machine.specs.Transaction.{Transaction, Event, precedes}
 use Rattle.machine.specs.Lists.{insert, those, others}
@@ -15,8 +15,9 @@ use Rattle.machine.specs.State.{State}
 use Rattle.machine.specs.Setters.{setRel, setSerial, withSerial, withReturning}
 use Rattle.machine.specs.Turn as Machine
 use Rattle.machine.specs.Claims.{Each}
-use Rattle.machine.proofs.Proper.{Proper, servers}
+use Rattle.machine.proofs.Proper.{Proper}
 use Rattle.machine.proofs.Sums.{sum-length, sum-insert, sum-those}
+use Rattle.tables.specs.Layout.{clockMoves}
 use Rattle.rows_laws.specs.Layout.{rel, fel}
 use Rattle.rows_laws.specs.Lists.{first}
 use Rattle.rows_laws.specs.Clock.{Arrived, arrive, arrivals}
@@ -26,14 +27,12 @@ use Rattle.rows_laws.proofs.Laws.{Arrives, head-fel-shows, arrive-shows}
 use Rattle.state.specs.declared.scalars.Scalars.{Scalars}
 use Rattle.state.specs.ScalarSetters.{putClock, putSerial}
 use Rattle.state.specs.Sane.{Sane}
-use Rattle.state.specs.Ticks.{mostTicks}
 use Rattle.state.specs.Stands.{Rows, rowsOf, listsOf, Listing, Tallying, Counting, Stands}
 use Rattle.state.proofs.Measured.{clocked, moved-clock}
 use Rattle.state.proofs.ListsOf.{lists-set-rel}
-use Rattle.clock.specs.Sample.{sampleServers, sampleQueues}
-use Rattle.clock.specs.Taking.{moveClock, nextEvents}
+use Rattle.clock.specs.Taking.{countMove, moveClock, nextEvents}
 use Rattle.clock.proofs.Population.{listing-ready}
-use Rattle.clock.proofs.SampleLaws.{tally-sampled}
+use Rattle.clock.proofs.SampleLaws.{tally-moved}
 
 -- ---- How many arrive
 
@@ -54,7 +53,7 @@ split-length : (p : Event → Bool) (l : List Event) → length (those p l) + le
 split-length p l = omega (arith, sum-those (λ x. 1) p l, sum-length l, sum-length (those p l), sum-length (others p l))
 
 module _ {m : BlockModel} {tape : List (List ℕ)} (proper : Proper m tape) (tapeBytes : List ℕ) (r : Rows) (s : State) (sane : Sane m s)
-    (h : Stands tapeBytes r none s) where
+    (h : Stands tapeBytes r none s) (fewer : getD (r .tally) clockMoves 0 < s .turns) where
   abbrev w : List ℕ
   w = r .work
 
@@ -90,6 +89,9 @@ module _ {m : BlockModel} {tape : List (List ℕ)} (proper : Proper m tape) (tap
     in-time : e .time ≤ maxClock
     in-time = subst (Each (λ (y : Event). y .time ≤ maxClock)) future (sane .timely .times) .0
 
+    ahead : s .view .clock ≤ e .time
+    ahead = subst (Each (λ (y : Event). s .view .clock ≤ y .time)) future (sane .ahead) .0
+
     listed : Listing (a .rows) (x .moving) none s′
     unfolding clocked listsOf
     listed =
@@ -97,10 +99,9 @@ module _ {m : BlockModel} {tape : List (List ℕ)} (proper : Proper m tape) (tap
         (omega (arith, arrives .steady .count, arrivals-length due (s .serial) (s .rel), split-length (Machine.due (e .time)) (s .fel)))
         (λ q hq. lists-set-rel s ready q hq) refl refl (h .listing .mover)
 
-    tallied : Tallying tapeBytes (sampleQueues (m .queues) (sampleServers (servers m) (r .tally) (time - s .view .clock)) (time - s .view .clock)) s′
+    tallied : Tallying tapeBytes (countMove (r .tally)) s′
     unfolding clocked Machine.sample
-    tallied =
-        tally-sampled proper s sane (time - s .view .clock) (omega (arith, in-time)) tapeBytes (r .tally) (h .tallying) s′ refl refl refl refl refl
+    tallied = tally-moved proper s sane (e .time) ahead in-time tapeBytes (r .tally) (h .tallying) fewer s′ refl refl refl refl refl refl refl
 
     counted : Counting (putSerial (a .serial) (putClock (e .time) x)) s′
     unfolding clocked
@@ -115,17 +116,15 @@ module _ {m : BlockModel} {tape : List (List ℕ)} (proper : Proper m tape) (tap
           end = h .counting .end;
         }
 
-    moved : Stands tapeBytes (moveClock w (r .tally) x (servers m) (m .queues) (e .time)) none s′
+    moved : Stands tapeBytes (moveClock w (r .tally) x (e .time)) none s′
     unfolding moveClock rowsOf
     moved =
-        let c : x .clock ≡ s .view .clock = h .counting .clock in
         let n : x .serial ≡ s .serial = h .counting .serial in
-        let ticks : min (e .time - s .view .clock) mostTicks ≡ e .time - s .view .clock = omega (arith, in-time) in
-        rw (c, n, ticks) (record { listing = listed; tallying = tallied; counting = counted })
+        rw n (record { listing = listed; tallying = tallied; counting = counted })
 
-    pub clock-stands : Stands tapeBytes (moveClock w (r .tally) x (servers m) (m .queues) (e .time)) none (Machine.moveClock (e .time) s)
+    pub clock-stands : Stands tapeBytes (moveClock w (r .tally) x (e .time)) none (Machine.moveClock (e .time) s)
     clock-stands =
-        subst (Stands tapeBytes (moveClock w (r .tally) x (servers m) (m .queues) (e .time)) none) (sym (moved-clock (e .time) s)) moved
+        subst (Stands tapeBytes (moveClock w (r .tally) x (e .time)) none) (sym (moved-clock (e .time) s)) moved
 
     pub clock-moving : Machine.moveClock (e .time) s .moving ≡ s .moving
     unfolding clocked
@@ -133,24 +132,24 @@ module _ {m : BlockModel} {tape : List (List ℕ)} (proper : Proper m tape) (tap
 
   -- ---- Where there is one
 
-  events-none : 1024 ≤ first w fel → nextEvents w (r .tally) x (servers m) (m .queues) ≡ r
+  events-none : 1024 ≤ first w fel → nextEvents w (r .tally) x ≡ r
   unfolding nextEvents rowsOf
   events-none n = rw (le-ltb (first w fel) 1024 n)
 
   events-some : first w fel < 1024
-      → nextEvents w (r .tally) x (servers m) (m .queues) ≡ moveClock w (r .tally) x (servers m) (m .queues) (eventAt w (first w fel) .time)
+      → nextEvents w (r .tally) x ≡ moveClock w (r .tally) x (eventAt w (first w fel) .time)
   unfolding nextEvents eventAt
   events-some n =
       let small : x .serial < 4000000000 = omega (arith, h .counting .serial, sane .serials) in
       rw (lt-ltb (first w fel) 1024 n, lt-ltb (x .serial) 4000000000 small)
 
   pub events-stands : s .moving ≡ none
-      → Stands tapeBytes (nextEvents w (r .tally) x (servers m) (m .queues)) none (Machine.nextEvents (s .fel) s) × (Machine.nextEvents (s .fel) s .moving ≡ none)
+      → Stands tapeBytes (nextEvents w (r .tally) x) none (Machine.nextEvents (s .fel) s) × (Machine.nextEvents (s .fel) s .moving ≡ none)
   unfolding Machine.nextEvents
   events-stands idle = go (head-fel-shows w (listsOf s) (s .fel) (h .listing .shows))
     where
       Goal : List Event → Type 0
-      Goal l = Stands tapeBytes (nextEvents w (r .tally) x (servers m) (m .queues)) none (Machine.nextEvents l s) × (Machine.nextEvents l s .moving ≡ none)
+      Goal l = Stands tapeBytes (nextEvents w (r .tally) x) none (Machine.nextEvents l s) × (Machine.nextEvents l s .moving ≡ none)
 
       go : Head w fel (eventAt w) (s .fel) → Goal (s .fel)
       go (nobody e n) = subst Goal (sym e) (subst (λ (y : Rows). Stands tapeBytes y none s) (sym (events-none n)) h, idle)

@@ -1,6 +1,4 @@
-pub mod Loops
 pub mod Steps
-pub mod Sampled
 pub mod SampleLaws
 pub mod Population
 pub mod ReadyLaws

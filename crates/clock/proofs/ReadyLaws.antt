@@ -58,6 +58,7 @@ module _ (tapeBytes : List ℕ) (r : Rows) (s : State) (h : Stands tapeBytes r n
             record {
               size = h .tallying .size;
               entries = h .tallying .entries;
+              seen = h .tallying .seen;
               servers = h .tallying .servers;
               queues = h .tallying .queues;
               samples = h .tallying .samples;

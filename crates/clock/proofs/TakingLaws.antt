@@ -14,7 +14,7 @@ use Rattle.machine.specs.State.{State}
 use Rattle.machine.specs.Setters.{setTurns, withReturning}
 use Rattle.machine.specs.Moves.{toRel}
 use Rattle.machine.specs.Turn as Machine
-use Rattle.machine.proofs.Proper.{Proper, servers}
+use Rattle.machine.proofs.Proper.{Proper}
 use Rattle.rows_laws.specs.Layout.{rel}
 use Rattle.rows_laws.specs.Lists.{first}
 use Rattle.rows_laws.specs.Holds.{transactionAt}
@@ -66,6 +66,13 @@ stands-counted tapeBytes r o s few h =
           record {
             size = h .tallying .size;
             entries = h .tallying .entries;
+            seen =
+                record {
+                  moves = omega (arith, h .tallying .seen .moves);
+                  before = h .tallying .seen .before;
+                  clocks = h .tallying .seen .clocks;
+                  current = h .tallying .seen .current;
+                };
             servers = h .tallying .servers;
             queues = h .tallying .queues;
             samples = h .tallying .samples;
@@ -86,7 +93,7 @@ stands-counted tapeBytes r o s few h =
 
 module _ {m : BlockModel} {tape : List (List ℕ)} (proper : Proper m tape) (tapeBytes : List ℕ) (r : Rows) (s : State) (sane : Sane m s) (few : s .turns < maxTurns) where
   abbrev taken : Rows
-  taken = take (r .work) (r .tally) (r .scalars) (servers m) (m .queues)
+  taken = take (r .work) (r .tally) (r .scalars)
 
   -- the rows and the state with the turn counted
   abbrev r⁺ : Rows
@@ -121,10 +128,10 @@ module _ {m : BlockModel} {tape : List (List ℕ)} (proper : Proper m tape) (tap
           (rw (le-ltb (r .scalars .moving) 1024 nobody-moves, lt-ltb (first (r .work) rel) 1024 n)
           (subst (λ (x : List Transaction). Stands tapeBytes (takeReady r⁺) (Machine.takeFirst x s⁺ .moving) (Machine.takeFirst x s⁺)) e (ready-stands tapeBytes r⁺ s⁺ h⁺ idle)))
       go (nobody e n) =
-          let later = events-stands proper tapeBytes r⁺ s⁺ (sane-counted s few sane) h⁺ idle in
+          let later = events-stands proper tapeBytes r⁺ s⁺ (sane-counted s few sane) h⁺ (omega (arith, h .tallying .seen .moves)) idle in
           subst Goal (sym e)
           (rw (le-ltb (r .scalars .moving) 1024 nobody-moves, le-ltb (first (r .work) rel) 1024 n)
-          (ready-stands tapeBytes (nextEvents (r .work) (r .tally) (counted (r .scalars)) (servers m) (m .queues)) (Machine.nextEvents (s .fel) s⁺) (later .0) (later .1)))
+          (ready-stands tapeBytes (nextEvents (r .work) (r .tally) (counted (r .scalars))) (Machine.nextEvents (s .fel) s⁺) (later .0) (later .1)))
 
   take-by : (o : Option Transaction) → s .moving ≡ o → Stands tapeBytes r o s
       → Stands tapeBytes taken (Machine.taking o s .moving) (setTurns (suc (s .turns)) (Machine.taking o s))

@@ -19,23 +19,23 @@ ready-used r = go (ltb (first (r .work) rel) 1024)
     go true = refl
     go false = refl
 
-module _ (w t : List ℕ) (x : Scalars) (servers queues : ℕ) where
-  events-used : nextEvents w t x servers queues .scalars .used ≡ x .used
+module _ (w t : List ℕ) (x : Scalars) where
+  events-used : nextEvents w t x .scalars .used ≡ x .used
   unfolding nextEvents moveClock rowsOf
   events-used = go (ltb (first w fel) 1024) (ltb (x .serial) 4000000000)
     where
       go : (a b : Bool)
-          → cond a (cond b (moveClock w t x servers queues (firstTime w)) (rowsOf x w t)) (rowsOf x w t) .scalars .used ≡ x .used
+          → cond a (cond b (moveClock w t x (firstTime w)) (rowsOf x w t)) (rowsOf x w t) .scalars .used ≡ x .used
       go true true = refl
       go true false = refl
       go false b = refl
 
-pub take-used : (w t : List ℕ) (x : Scalars) (servers queues : ℕ) → take w t x servers queues .scalars .used ≡ x .used
+pub take-used : (w t : List ℕ) (x : Scalars) → take w t x .scalars .used ≡ x .used
 unfolding take counted rowsOf
-take-used w t x servers queues = go (ltb (x .moving) 1024) (ltb (first w rel) 1024)
+take-used w t x = go (ltb (x .moving) 1024) (ltb (first w rel) 1024)
   where
     go : (a b : Bool)
-        → cond a (rowsOf (counted x) w t) (takeReady (cond b (rowsOf (counted x) w t) (nextEvents w t (counted x) servers queues))) .scalars .used ≡ x .used
+        → cond a (rowsOf (counted x) w t) (takeReady (cond b (rowsOf (counted x) w t) (nextEvents w t (counted x)))) .scalars .used ≡ x .used
     go true b = refl
     go false true = ready-used (rowsOf (counted x) w t)
-    go false false = ready-used (nextEvents w t (counted x) servers queues) ∙ events-used w t (counted x) servers queues
+    go false false = ready-used (nextEvents w t (counted x)) ∙ events-used w t (counted x)

@@ -1,5 +1,4 @@
 // Who moves in a turn.
-use crate::sample::sample;
 use rows::FEL;
 use rows::REL;
 use rows::ROWS;
@@ -8,47 +7,33 @@ use rows::cells::time;
 use rows::clock::arrive;
 use rows::lists::first;
 use rows::lists::take_first;
-use state::MOST_TICKS;
 use state::Scalars;
-use state::less64;
 use state::plus32;
+use state::plus64;
+use tables::CLOCK_MOVES;
+use tables::count;
+use tables::set_count;
 ghost use mathlib.Core.Path.{_≡_};
-ghost use Prim.Native.Nat.{_<_, _≤_};
-ghost use Rattle.machine.specs.Limits.{maxQueues};
-ghost use Rattle.tables.specs.Layout.{serverCount};
+ghost use Prim.Native.Nat.{_<_};
 ghost use Rattle.rows_laws.specs.Layout.{Room, serialEnd};
-ghost use Rattle.state.specs.Ticks.{mostTicks};
 ghost use Rattle.state.specs.Stands.{rowsOf};
-ghost use Rattle.clock.specs.Taking.{ticksTo, moveClock, nextEvents, readyScalars, readyWork, take};
+ghost use Rattle.clock.specs.Taking.{countMove, moveClock, nextEvents, readyScalars, readyWork, take};
 
-// The ticks to a time, no more than a clock has.
-fn ticks_to(time: u64, x: Scalars) -> u64
-    ensures { λ r. ⌜ (r ≡ ticksTo time x) × (r ≤ mostTicks) ⌝ }
+// One clock move more.
+fn count_move(tally: &mut [u64])
+    ensures { λ _. ⌜ now (tally .exit) ≡ countMove (now (tally .entry)) ⌝ }
 {
-    let ticks = less64(time, x.clock);
-    if ticks <= MOST_TICKS {
-        return ticks;
-    }
-    MOST_TICKS
+    let moves = plus64(count(tally, CLOCK_MOVES), 1);
+    set_count(tally, CLOCK_MOVES, moves);
 }
 
-// The clock moves to a time: statistics first, then all of that time come from the FEL to REL.
-fn move_clock(
-    work: &mut [u32],
-    tally: &mut [u64],
-    x: Scalars,
-    servers: usize,
-    queues: usize,
-    time: u64,
-) -> Scalars
+// The clock moves to a time: the move is counted, and all of that time come from the FEL to REL.
+fn move_clock(work: &mut [u32], tally: &mut [u64], x: Scalars, time: u64) -> Scalars
     requires { ⌜ Room (now work) ⌝ }
-    requires { ⌜ servers ≤ serverCount ⌝ }
-    requires { ⌜ queues ≤ maxQueues ⌝ }
     requires { ⌜ x .serial < serialEnd ⌝ }
-    ensures { λ r. ⌜ rowsOf r (now (work .exit)) (now (tally .exit)) ≡ moveClock (now (work .entry)) (now (tally .entry)) x servers queues time ⌝ }
+    ensures { λ r. ⌜ rowsOf r (now (work .exit)) (now (tally .exit)) ≡ moveClock (now (work .entry)) (now (tally .entry)) x time ⌝ }
 {
-    let ticks = ticks_to(time, x);
-    sample(tally, servers, queues, ticks);
+    count_move(tally);
     let serial = arrive(work, time, x.serial);
     let mut y = x;
     y.clock = time;
@@ -57,17 +42,9 @@ fn move_clock(
 }
 
 // A clock move to the first time of the FEL, where it has one.
-fn next_events(
-    work: &mut [u32],
-    tally: &mut [u64],
-    x: Scalars,
-    servers: usize,
-    queues: usize,
-) -> Scalars
+fn next_events(work: &mut [u32], tally: &mut [u64], x: Scalars) -> Scalars
     requires { ⌜ Room (now work) ⌝ }
-    requires { ⌜ servers ≤ serverCount ⌝ }
-    requires { ⌜ queues ≤ maxQueues ⌝ }
-    ensures { λ r. ⌜ rowsOf r (now (work .exit)) (now (tally .exit)) ≡ nextEvents (now (work .entry)) (now (tally .entry)) x servers queues ⌝ }
+    ensures { λ r. ⌜ rowsOf r (now (work .exit)) (now (tally .exit)) ≡ nextEvents (now (work .entry)) (now (tally .entry)) x ⌝ }
 {
     let k = first(work, FEL);
     if k >= ROWS {
@@ -77,7 +54,7 @@ fn next_events(
         return x;
     }
     let due = time(work, k);
-    move_clock(work, tally, x, servers, queues, due)
+    move_clock(work, tally, x, due)
 }
 
 // The first of REL moves, where there is one.
@@ -96,17 +73,9 @@ fn take_ready(work: &mut [u32], x: Scalars) -> Scalars
 }
 
 // The taking of a turn, which counts.
-pub fn take(
-    work: &mut [u32],
-    tally: &mut [u64],
-    x: Scalars,
-    servers: usize,
-    queues: usize,
-) -> Scalars
+pub fn take(work: &mut [u32], tally: &mut [u64], x: Scalars) -> Scalars
     requires { ⌜ Room (now work) ⌝ }
-    requires { ⌜ servers ≤ serverCount ⌝ }
-    requires { ⌜ queues ≤ maxQueues ⌝ }
-    ensures { λ r. ⌜ rowsOf r (now (work .exit)) (now (tally .exit)) ≡ take (now (work .entry)) (now (tally .entry)) x servers queues ⌝ }
+    ensures { λ r. ⌜ rowsOf r (now (work .exit)) (now (tally .exit)) ≡ take (now (work .entry)) (now (tally .entry)) x ⌝ }
 {
     let mut y = x;
     y.turns = plus32(x.turns, 1);
@@ -116,6 +85,6 @@ pub fn take(
     if first(work, REL) < ROWS {
         return take_ready(work, y);
     }
-    let z = next_events(work, tally, y, servers, queues);
+    let z = next_events(work, tally, y);
     take_ready(work, z)
 }

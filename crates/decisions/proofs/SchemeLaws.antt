@@ -126,7 +126,7 @@ module _ {m : BlockModel} {tape : List (List ℕ)} {tapeBytes tables lists : Lis
   woken =
       stands-of tapeBytes (r .scalars) (wakeAll test 1024 (r .work) wsl (head wsl)) (r .tally) o (wakeWsl P s)
       (wake-wsl-listing (r .work) (r .scalars .moving) o s (stands .listing) test P (leaves-agrees rep nested (sees proper rep r o s low stands)))
-      (unfold wakeWsl in tallying-ext tapeBytes (r .tally) s (wakeWsl P s) refl refl refl refl refl (stands .tallying))
+      (unfold wakeWsl in tallying-ext tapeBytes (r .tally) s (wakeWsl P s) refl refl refl refl refl refl refl (stands .tallying))
       (unfold wakeWsl in counting-ext (r .scalars) s (wakeWsl P s) refl refl refl refl refl refl refl (stands .counting))
 
   pub scheme-stands : Stands tapeBytes (rowsOf (r .scalars) (wsScheme tables (length (m .blocks)) (length (m .values)) (r .tally) (r .scalars) (r .work)) (r .tally)) o (Turn.wsScheme m s)

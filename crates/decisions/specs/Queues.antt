@@ -1,24 +1,32 @@
 -- The row machine: ARRIVE and DEPART.
-use Prim.Native.Nat.{ℕ, _+_, _-_, min}
+use Prim.Native.Nat.{ℕ, _+_, _-_, _%_, min}
 use mathlib.Core.Bool.{cond}
 use mathlib.Core.List.{List}
 use lib.Dec.{eqb}
 use lib.ListN.{getD, set}
+use Rattle.machine.specs.Limits.{maxQueues}
 use Rattle.tables.specs.Layout as Layout
 use Rattle.state.specs.declared.scalars.Scalars.{Scalars}
+use Rattle.state.specs.Statistics.{updateQueue}
 use Rattle.state.specs.Stands.{Rows, rowsOf}
 use Rattle.moves.specs.Motion.{goOn, withTally, stopped}
 
--- where the content of the queue of the block at `at` stands in the tally
-unfoldable pub contentCell : List ℕ → ℕ → ℕ
-contentCell tables at = Layout.content + getD tables (at + 1) 0
+-- the queue, from 0, that the block at `at` names
+unfoldable pub queueOf : List ℕ → ℕ → ℕ
+queueOf tables at = getD tables (at + 1) 0 % maxQueues
+
+abbrev pub content : List ℕ → ℕ → ℕ
+content tally q = getD tally (Layout.content + q) 0
+
+-- the content is n from now on: its statistics are brought up to date first
+unfoldable pub change : List ℕ → List ℕ → Scalars → (q n : ℕ) → Rows
+change w tally x q n = withTally (goOn w x) (set (updateQueue tally q (x .clock)) (Layout.content + q) n)
 
 module _ (tables w tally : List ℕ) (x : Scalars) (at : ℕ) where
   unfoldable pub arrive : Rows
-  arrive =
-      withTally (goOn w x) (set tally (contentCell tables at) (min (getD tally (contentCell tables at) 0 + 1) Layout.most64))
+  arrive = change w tally x (queueOf tables at) (min (content tally (queueOf tables at) + 1) Layout.most64)
 
   unfoldable pub depart : Rows
   depart =
-      cond (eqb (getD tally (contentCell tables at) 0) 0) (rowsOf (stopped x 25) w tally)
-      (withTally (goOn w x) (set tally (contentCell tables at) (getD tally (contentCell tables at) 0 - 1)))
+      cond (eqb (content tally (queueOf tables at)) 0) (rowsOf (stopped x 25) w tally)
+      (change w tally x (queueOf tables at) (content tally (queueOf tables at) - 1))

@@ -1,9 +1,11 @@
 // Blocks that count: ARRIVE and DEPART, on the content of a queue in the tally.
+use constants::Model;
 use constants::ends::NO_CONTENT;
 use moves::go_on;
 use moves::stop;
 use state::Scalars;
 use state::plus64;
+use state::update_queue;
 use tables::CONTENT;
 use tables::FIRST;
 use tables::count;
@@ -11,18 +13,33 @@ use tables::number;
 use tables::set_count;
 ghost use mathlib.Core.Path.{_≡_};
 ghost use Prim.Native.Nat.{_+_, _<_, _≤_};
+ghost use Rattle.machine.specs.Limits.{maxQueues};
 ghost use Rattle.tables.specs.Layout.{BlockAt};
 ghost use Rattle.rows_laws.specs.Layout.{Room, rowCount};
 ghost use Rattle.state.specs.Stands.{rowsOf};
-ghost use Rattle.decisions.specs.Queues.{contentCell, arrive, depart};
+ghost use Rattle.decisions.specs.Queues.{queueOf, change, arrive, depart};
 
-// Where the content of the queue of the block at `at` stands.
-fn content_cell(tables: &[u32], at: usize) -> usize
+const QUEUES: u32 = Model::MAX_QUEUES as u32;
+
+// The queue that the block at `at` names.
+fn queue_at(tables: &[u32], at: usize) -> usize
     requires { ⌜ BlockAt (now tables) at ⌝ }
-    ensures { λ r. ⌜ r ≡ contentCell (now (tables .entry)) at ⌝ }
+    ensures queue { λ r. ⌜ r ≡ queueOf (now (tables .entry)) at ⌝ }
+    ensures small { λ r. ⌜ r < maxQueues ⌝ }
 {
-    let q = number(tables, at + FIRST) as usize;
-    CONTENT + q
+    (number(tables, at + FIRST) % QUEUES) as usize
+}
+
+// Its content is n from now on, and the transaction goes on.
+fn change(work: &mut [u32], tally: &mut [u64], x: Scalars, q: usize, n: u64) -> Scalars
+    requires { ⌜ Room (now work) ⌝ }
+    requires { ⌜ x .moving < rowCount ⌝ }
+    requires { ⌜ q < maxQueues ⌝ }
+    ensures { λ r. ⌜ rowsOf r (now (work .exit)) (now (tally .exit)) ≡ change (now (work .entry)) (now (tally .entry)) x q n ⌝ }
+{
+    update_queue(tally, q, x.clock);
+    set_count(tally, CONTENT + q, n);
+    go_on(work, x)
 }
 
 // 15 ARRIVE q: one more content.
@@ -32,10 +49,8 @@ pub fn arrive(tables: &[u32], work: &mut [u32], tally: &mut [u64], x: Scalars, a
     requires { ⌜ x .moving < rowCount ⌝ }
     ensures { λ r. ⌜ rowsOf r (now (work .exit)) (now (tally .exit)) ≡ arrive (now (tables .entry)) (now (work .entry)) (now (tally .entry)) x at ⌝ }
 {
-    let cell = content_cell(tables, at);
-    let content = plus64(count(tally, cell), 1);
-    set_count(tally, cell, content);
-    go_on(work, x)
+    let q = queue_at(tables, at);
+    change(work, tally, x, q, plus64(count(tally, CONTENT + q), 1))
 }
 
 // 16 DEPART q: "Has the queue content? 25." One content less.
@@ -45,11 +60,10 @@ pub fn depart(tables: &[u32], work: &mut [u32], tally: &mut [u64], x: Scalars, a
     requires { ⌜ x .moving < rowCount ⌝ }
     ensures { λ r. ⌜ rowsOf r (now (work .exit)) (now (tally .exit)) ≡ depart (now (tables .entry)) (now (work .entry)) (now (tally .entry)) x at ⌝ }
 {
-    let cell = content_cell(tables, at);
-    let content = count(tally, cell);
+    let q = queue_at(tables, at);
+    let content = count(tally, CONTENT + q);
     if content == 0 {
         return stop(x, NO_CONTENT);
     }
-    set_count(tally, cell, content - 1);
-    go_on(work, x)
+    change(work, tally, x, q, content - 1)
 }

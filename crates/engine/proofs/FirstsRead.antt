@@ -15,9 +15,9 @@ use Rattle.state.specs.Stands.{Rows, rowsOf}
 use Rattle.clock.specs.Taking.{moveClock, nextEvents, readyScalars, takeReady, counted, take}
 use Rattle.engine.specs.Ends.{nobodyRows}
 
-module _ (w w′ tally tally′ : List ℕ) (x : Scalars) (servers queues : ℕ) where
+module _ (w w′ tally tally′ : List ℕ) (x : Scalars) where
   -- who moves, and all else that the pick leaves in the scalars
-  pub pick-reads : first w rel ≡ first w′ rel → first w rel < rowCount → take w tally x servers queues .scalars ≡ take w′ tally′ x servers queues .scalars
+  pub pick-reads : first w rel ≡ first w′ rel → first w rel < rowCount → take w tally x .scalars ≡ take w′ tally′ x .scalars
   unfolding take takeReady readyScalars rowsOf
   pick-reads same some = rw (← same, lt-ltb (first w rel) rowCount some) (go (ltb (x .moving) rowCount))
     where
@@ -27,12 +27,12 @@ module _ (w w′ tally tally′ : List ℕ) (x : Scalars) (servers queues : ℕ)
       go false = unfold takeReady readyScalars rowsOf in (rw (← same))
 
   -- the clock, from the time of the FEL's kept first
-  pub move-reads : first w fel ≡ first w′ fel → timeOf w (first w fel) ≡ timeOf w′ (first w fel) → nextEvents w tally x servers queues .scalars .clock ≡ nextEvents w′ tally′ x servers queues .scalars .clock
+  pub move-reads : first w fel ≡ first w′ fel → timeOf w (first w fel) ≡ timeOf w′ (first w fel) → nextEvents w tally x .scalars .clock ≡ nextEvents w′ tally′ x .scalars .clock
   unfolding nextEvents moveClock rowsOf
   move-reads same time = rw (← same, time) (go (ltb (first w fel) rowCount) (ltb (x .serial) 4000000000))
     where
-      go : (a b : Bool) → cond {A = Rows} a (cond b (moveClock w tally x servers queues (timeOf w′ (first w fel))) (rowsOf x w tally)) (rowsOf x w tally) .scalars .clock
-          ≡ cond {A = Rows} a (cond b (moveClock w′ tally′ x servers queues (timeOf w′ (first w fel))) (rowsOf x w′ tally′)) (rowsOf x w′ tally′) .scalars .clock
+      go : (a b : Bool) → cond {A = Rows} a (cond b (moveClock w tally x (timeOf w′ (first w fel))) (rowsOf x w tally)) (rowsOf x w tally) .scalars .clock
+          ≡ cond {A = Rows} a (cond b (moveClock w′ tally′ x (timeOf w′ (first w fel))) (rowsOf x w′ tally′)) (rowsOf x w′ tally′) .scalars .clock
       go true true = unfold moveClock rowsOf in refl
       go true false = unfold rowsOf in refl
       go false b = unfold rowsOf in refl

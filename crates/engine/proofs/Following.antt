@@ -42,6 +42,7 @@ closed-stands tape a s e h =
           record {
             size = h .tallying .size;
             entries = h .tallying .entries;
+            seen = h .tallying .seen;
             servers = h .tallying .servers;
             queues = h .tallying .queues;
             samples = h .tallying .samples;

@@ -64,7 +64,7 @@ module _ {m : BlockModel} {times : List (List ℕ)} {tape tables lists : List �
       record {
         stands =
             subst (λ (o : Option Transaction). Stands tape (first work) o (start m times)) (sym (start-moving m times))
-            (start-stands m times tape tables lists proper represents work (replicate Layout.tallySize 0) room (length-replicate {A = ℕ} 1088 0) (λ i. same-at 1088 i 0));
+            (start-stands m times tape tables lists proper represents work (replicate Layout.tallySize 0) room (length-replicate {A = ℕ} Layout.tallySize 0) (λ i. same-at Layout.tallySize i 0));
         writes =
             record {
               bytes = sym (rw (no-bytes, nothing-written));

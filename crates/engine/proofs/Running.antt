@@ -37,14 +37,14 @@ module _ (model tape : List ℕ) (budget : ℕ) (work trace report tables lists 
     work-room = rooms model tape (length work) (length report) (told .model) (told .times) (told .accepted) .0
 
     -- what a run over rows asks
-    pub fits : (h .facilities ≤ 32) × ((h .storages ≤ 32) × ((h .queues ≤ 32) × ((h .blocks ≤ 256) × (16384 ≤ length work))))
+    pub fits : (h .facilities ≤ 32) × ((h .blocks ≤ 256) × (16384 ≤ length work))
     fits =
-        subst (λ (x : Model). (x .facilities ≤ 32) × ((x .storages ≤ 32) × ((x .queues ≤ 32) × ((x .blocks ≤ 256) × (16384 ≤ length work))))) (sym (told .header))
+        subst (λ (x : Model). (x .facilities ≤ 32) × ((x .blocks ≤ 256) × (16384 ≤ length work))) (sym (told .header))
         (header-fits (told .model) (told .times) (proper-from inForce model tape (length work) (length report) (told .accepted)))
       where
         header-fits : (m : BlockModel) (times : List (List ℕ)) → Proper m times
-            → (headerOf m .facilities ≤ 32) × ((headerOf m .storages ≤ 32) × ((headerOf m .queues ≤ 32) × ((headerOf m .blocks ≤ 256) × (16384 ≤ length work))))
-        header-fits m times p = unfold headerOf in (p .facilities, (p .storages, (p .queues, (p .blocks .1, work-room))))
+            → (headerOf m .facilities ≤ 32) × ((headerOf m .blocks ≤ 256) × (16384 ≤ length work))
+        header-fits m times p = unfold headerOf in (p .facilities, (p .blocks .1, work-room))
 
     pub run-finished : (o : Results) (work′ trace′ report′ : List ℕ) → Finishes h tables (lastRows h tables lists tape budget work trace) report o trace′ report′
         → Contract model tape budget work trace report o work′ trace′ report′

@@ -11,7 +11,7 @@ use tables::TALLY;
 ghost use mathlib.Core.Path.{_≡_};
 ghost use Prim.Native.Nat.{_≤_};
 ghost use lib.ListN.{length};
-ghost use Rattle.machine.specs.Limits.{maxBlocks, maxFacilities, maxQueues, maxStorages};
+ghost use Rattle.machine.specs.Limits.{maxBlocks, maxFacilities};
 ghost use Rattle.rows_laws.specs.Layout.{Room};
 ghost use Rattle.state.specs.Stands.{rowsOf};
 ghost use Rattle.start.specs.Start.{startRows};
@@ -64,8 +64,6 @@ fn play(
     trace: &mut [u8],
 ) -> Scalars
     requires { ⌜ model .facilities ≤ maxFacilities ⌝ }
-    requires { ⌜ model .storages ≤ maxStorages ⌝ }
-    requires { ⌜ model .queues ≤ maxQueues ⌝ }
     requires { ⌜ model .blocks ≤ maxBlocks ⌝ }
     requires { ⌜ Room (now work) ⌝ }
     ensures { λ r. ⌜ traced (rowsOf r (now (work .exit)) (now (tally .exit))) (now (trace .exit)) ≡ turnsRows model (now (tables .entry)) (now (tape .entry)) budget (length (now (trace .entry))) (traced (startRows model (now (tables .entry)) (now (tape .entry)) (now (lists .entry)) (now (work .entry)) (now (tally .entry))) (now (trace .entry))) ⌝ }
@@ -100,8 +98,6 @@ pub fn accepted(
     report: &mut [u8],
 ) -> Outcome
     requires { ⌜ model .facilities ≤ maxFacilities ⌝ }
-    requires { ⌜ model .storages ≤ maxStorages ⌝ }
-    requires { ⌜ model .queues ≤ maxQueues ⌝ }
     requires { ⌜ model .blocks ≤ maxBlocks ⌝ }
     requires { ⌜ Room (now work) ⌝ }
     ensures { λ r. ⌜ Finishes model (now (tables .entry)) (lastRows model (now (tables .entry)) (now (lists .entry)) (now (tape .entry)) budget (now (work .entry)) (now (trace .entry))) (now (report .entry)) r (now (trace .exit)) (now (report .exit)) ⌝ }

@@ -8,7 +8,7 @@ use turn::turn;
 ghost use mathlib.Core.Path.{_≡_};
 ghost use Prim.Native.Nat.{_≤_};
 ghost use lib.ListN.{length};
-ghost use Rattle.machine.specs.Limits.{maxBlocks, maxFacilities, maxQueues, maxStorages};
+ghost use Rattle.machine.specs.Limits.{maxBlocks, maxFacilities};
 ghost use Rattle.rows_laws.specs.Layout.{Room};
 ghost use Rattle.state.specs.Stands.{rowsOf};
 ghost use Rattle.turn.specs.Turn.{traced};
@@ -28,8 +28,6 @@ pub fn turns(
     x: Scalars,
 ) -> Scalars
     requires { ⌜ model .facilities ≤ maxFacilities ⌝ }
-    requires { ⌜ model .storages ≤ maxStorages ⌝ }
-    requires { ⌜ model .queues ≤ maxQueues ⌝ }
     requires { ⌜ model .blocks ≤ maxBlocks ⌝ }
     requires { ⌜ Room (now work) ⌝ }
     ensures { λ r. ⌜ traced (rowsOf r (now (work .exit)) (now (tally .exit))) (now (trace .exit)) ≡ turnsRows model (now (tables .entry)) (now (tape .entry)) budget (length (now (trace .entry))) (traced (rowsOf x (now (work .entry)) (now (tally .entry))) (now (trace .entry))) ⌝ }

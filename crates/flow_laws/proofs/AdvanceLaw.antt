@@ -132,7 +132,7 @@ module _ (m : BlockModel) (tape : List (List ℕ)) (tapeBytes tables lists : Lis
       tallied : Tallying tapeBytes used (Moves.toFel time′ t′ s₁)
       unfolding Moves.toFel
       tallied =
-          tallying-ext tapeBytes used s₁ (Moves.toFel time′ t′ s₁) refl refl refl refl refl (used-tallying tapeBytes tally s₀ (h₀ .tallying) list (named .0) there few time left e)
+          tallying-ext tapeBytes used s₁ (Moves.toFel time′ t′ s₁) refl refl refl refl refl refl refl (used-tallying tapeBytes tally s₀ (h₀ .tallying) list (named .0) there few time left e)
 
       delayed : Done tapeBytes (withTally (sendOn w x time′) used) (entering (delay (time ∷ left) list t s₀))
       unfolding delay noteOf rowsOf Moves.toFel

@@ -14,8 +14,8 @@ use Rattle.machine.specs.Limits.{maxClock}
 use Rattle.machine.proofs.Clocks.{Given}
 use Rattle.tables.specs.Layout as Layout
 use Rattle.state.specs.declared.scalars.Scalars.{Scalars}
-use Rattle.state.specs.Stands.{Rows, rowsOf, listsOf, Listing, Serving, Queueing, Sampling, Tallying, Counting, Stands}
-use Rattle.state.proofs.StandsLaws.{listing-ext, tallying-ext, counting-ext, entries-set, serving-set, queueing-set, stands-of}
+use Rattle.state.specs.Stands.{Rows, rowsOf, listsOf, Listing, Seen, Serving, Queueing, Sampling, Tallying, Counting, Stands}
+use Rattle.state.proofs.StandsLaws.{listing-ext, tallying-ext, counting-ext, entries-set, seen-set, serving-set, queueing-set, stands-of}
 use Rattle.moves.specs.Motion.{withTally}
 use Rattle.flow_laws.specs.declared.samples.Sample.{Sample}
 use Rattle.flow_laws.specs.Samples.{nextSample, useTime}
@@ -48,23 +48,30 @@ module _ (tapeBytes tally : List ℕ) (s : State) (h : Tallying tapeBytes tally 
       entries-set (set tally (928 + l) (sample .next)) (944 + l) (getD tally (944 + l) 0 - 1) (s .view .entries) (omega arith)
       (entries-set tally (928 + l) (sample .next) (s .view .entries) (omega arith) (h .entries))
 
-  used-servers : Serving used (s .view .servers) (s .ql)
+  used-seen : Seen used (s .view .clock) (s .turns)
+  unfolding useTime
+  used-seen =
+      seen-set (set tally (928 + l) (sample .next)) (944 + l) (getD tally (944 + l) 0 - 1) (s .view .clock) (s .turns) (omega arith)
+      (seen-set tally (928 + l) (sample .next) (s .view .clock) (s .turns) (omega arith) (h .seen))
+
+  used-servers : Serving used (s .view .clock) (s .view .servers) (s .ql)
   unfolding useTime
   used-servers =
-      serving-set (set tally (928 + l) (sample .next)) (944 + l) (getD tally (944 + l) 0 - 1) (s .view .servers) (s .ql) (λ j a b e. omega arith) (λ v e. omega arith)
-      (serving-set tally (928 + l) (sample .next) (s .view .servers) (s .ql) (λ j a b e. omega arith) (λ v e. omega arith) (h .servers))
+      serving-set (set tally (928 + l) (sample .next)) (944 + l) (getD tally (944 + l) 0 - 1) (s .view .clock) (s .view .servers) (s .ql) (omega arith) (λ j a b e. omega arith)
+      (serving-set tally (928 + l) (sample .next) (s .view .clock) (s .view .servers) (s .ql) (omega arith) (λ j a b e. omega arith) (h .servers))
 
-  used-queues : Queueing used (s .view .queues)
+  used-queues : Queueing used (s .view .clock) (s .view .queues)
   unfolding useTime
   used-queues =
-      queueing-set (set tally (928 + l) (sample .next)) (944 + l) (getD tally (944 + l) 0 - 1) (s .view .queues) (λ j a b e. omega arith)
-      (queueing-set tally (928 + l) (sample .next) (s .view .queues) (λ j a b e. omega arith) (h .queues))
+      queueing-set (set tally (928 + l) (sample .next)) (944 + l) (getD tally (944 + l) 0 - 1) (s .view .clock) (s .view .queues) (omega arith) (λ j a b e. omega arith)
+      (queueing-set tally (928 + l) (sample .next) (s .view .clock) (s .view .queues) (omega arith) (λ j a b e. omega arith) (h .queues))
 
   pub used-tallying : Tallying tapeBytes used (Moves.useTime list s)
   used-tallying =
       record {
         size = drawn-size tapeBytes tally (s .samples) l (h .samples) (h .size) hl few time left is;
         entries = used-entries;
+        seen = used-seen;
         servers = used-servers;
         queues = used-queues;
         samples = subst (λ (q : List ℕ). Sampling tapeBytes used (set (s .samples) l q)) (ap (drop 1) (sym is)) (drawn-sampling tapeBytes tally (s .samples) l (h .samples) (h .size) hl few time left is);
@@ -96,7 +103,7 @@ module _ (tapeBytes tally : List ℕ) (s : State) (h : Tallying tapeBytes tally 
 
     tallied : Tallying tapeBytes used later
     unfolding Moves.toFel
-    tallied = tallying-ext tapeBytes used s₁ later refl refl refl refl refl used-tallying
+    tallied = tallying-ext tapeBytes used s₁ later refl refl refl refl refl refl refl used-tallying
 
     arrives-is : arrives w tally x sample l p block ≡ withTally (born w x time′ p block) used
     unfolding arrives

@@ -91,7 +91,7 @@ module _ (bytes tally : List ℕ) (samples : List (List ℕ)) (l : ℕ) (h : Sam
   pub left-is : l < 16 → getD tally (Layout.listLeft + l) 0 ≡ length (getD samples l [])
   left-is hl = h .left l hl
 
-  module _ (size : length tally ≡ 1088) (hl : l < length samples) (few : length samples ≤ 16) (time : ℕ) (left : List ℕ) (is : getD samples l [] ≡ time ∷ left) where
+  module _ (size : length tally ≡ Layout.tallySize) (hl : l < length samples) (few : length samples ≤ 16) (time : ℕ) (left : List ℕ) (is : getD samples l [] ≡ time ∷ left) where
     stands : TimesAt bytes (getD tally (Layout.listAt + l) 0) (time ∷ left)
     stands = subst (TimesAt bytes (getD tally (Layout.listAt + l) 0)) is (h .begins l hl)
 
@@ -133,7 +133,7 @@ module _ (bytes tally : List ℕ) (samples : List (List ℕ)) (l : ℕ) (h : Sam
         getD-set-same (set tally (928 + l) next) (944 + l) (getD tally (944 + l) 0 - 1) 0 (omega (arith, length-set tally (928 + l) next))
         ∙ left-now
 
-    pub drawn-size : length after ≡ 1088
+    pub drawn-size : length after ≡ Layout.tallySize
     unfolding useTime
     drawn-size = length-set (set tally (928 + l) next) (944 + l) (getD tally (944 + l) 0 - 1) ∙ length-set tally (928 + l) next ∙ size
 

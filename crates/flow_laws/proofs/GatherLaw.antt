@@ -192,7 +192,7 @@ module _ (m : BlockModel) (tape : List (List ℕ)) (tapeBytes tables lists : Lis
         (record {
           stands =
               stands-of tapeBytes (putNote 1 (putSerial (suc (s .serial)) (putMoving 1024 x))) (put w₂ p (x .moving)) tally none (toGatherers t′ later) g₄
-              (tallying-ext tapeBytes tally s₀ (toGatherers t′ later) refl refl refl refl refl (h₀ .tallying))
+              (tallying-ext tapeBytes tally s₀ (toGatherers t′ later) refl refl refl refl refl refl refl (h₀ .tallying))
               (record {
                 clock = stands .counting .clock;
                 counter = stands .counting .counter;
@@ -361,7 +361,7 @@ module _ (m : BlockModel) (tape : List (List ℕ)) (tapeBytes tables lists : Lis
           stands =
               stands-of tapeBytes (putNote 0 (putEnded (next32 (x .ended)) (putMoving 1024 (putSerial (suc (s .serial)) x)))) (freeRow (put v₄ rel k) (x .moving)) tally none (released g t ended)
               (free-listing (put v₄ rel k) (x .moving) t (released g t s₀) (released g t ended) last-listing (λ q. refl) refl refl refl)
-              (tallying-ext tapeBytes tally s₀ (released g t ended) refl refl refl refl refl (h₀ .tallying))
+              (tallying-ext tapeBytes tally s₀ (released g t ended) refl refl refl refl refl refl refl (h₀ .tallying))
               (record {
                 clock = stands .counting .clock;
                 counter = stands .counting .counter;
@@ -381,7 +381,7 @@ module _ (m : BlockModel) (tape : List (List ℕ)) (tapeBytes tables lists : Lis
           stands =
               stands-of tapeBytes (putNote 0 (putEnded (next32 (x .ended)) (putMoving 1024 x))) (freeRow v (x .moving)) tally none (comes g t ended)
               (free-listing v (x .moving) t (comes g t s₀) (comes g t ended) more-listing (λ q. refl) refl refl refl)
-              (tallying-ext tapeBytes tally s₀ (comes g t ended) refl refl refl refl refl (h₀ .tallying))
+              (tallying-ext tapeBytes tally s₀ (comes g t ended) refl refl refl refl refl refl refl (h₀ .tallying))
               (record {
                 clock = stands .counting .clock;
                 counter = stands .counting .counter;

@@ -77,7 +77,7 @@ module _ (m : BlockModel) (tape : List (List ℕ)) (tapeBytes tables lists : Lis
   unfolding toRel rowsOf noteOf
   done =
       record {
-        stands = stands-of tapeBytes (rankOn w x p .scalars) (rankOn w x p .work) tally none (toRel u s₀) (ranked .listing) (tallying-ext tapeBytes tally s₀ (toRel u s₀) refl refl refl refl refl (h₀ .tallying)) (ranked .counting);
+        stands = stands-of tapeBytes (rankOn w x p .scalars) (rankOn w x p .work) tally none (toRel u s₀) (ranked .listing) (tallying-ext tapeBytes tally s₀ (toRel u s₀) refl refl refl refl refl refl refl (h₀ .tallying)) (ranked .counting);
         note = ap noteOf (ranked .note);
       }
 

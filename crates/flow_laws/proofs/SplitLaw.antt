@@ -76,7 +76,7 @@ module _ (target : ℕ) (t : Transaction) where
   unfolding Moves.copies Moves.toRel
   copies-tally tapeBytes tally zero s h = h
   copies-tally tapeBytes tally (suc n) s h =
-      copies-tally tapeBytes tally n (oneMore target t s) (tallying-ext tapeBytes tally s (oneMore target t s) refl refl refl refl refl h)
+      copies-tally tapeBytes tally n (oneMore target t s) (tallying-ext tapeBytes tally s (oneMore target t s) refl refl refl refl refl refl refl h)
 
   -- where the transaction stands does not matter to its copies
   copies-on : (block n : ℕ) (s : State) → Moves.copies n target (withReturning false (withNext block t)) s ≡ Moves.copies n target t s

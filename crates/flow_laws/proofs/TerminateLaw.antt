@@ -110,7 +110,7 @@ module _ (m : BlockModel) (tape : List (List ℕ)) (tapeBytes tables lists : Lis
   unfolding endOne endsOne rowsOf noteOf listsOf
   ended =
       record {
-        stands = stands-of tapeBytes (endOne x a) (freeRow w (x .moving)) tally none (endsOne a s₀) (free-listing w (x .moving) t s₀ (endsOne a s₀) (h₀ .listing) (λ q. refl) refl refl refl) (tallying-ext tapeBytes tally s₀ (endsOne a s₀) refl refl refl refl refl (h₀ .tallying)) counted;
+        stands = stands-of tapeBytes (endOne x a) (freeRow w (x .moving)) tally none (endsOne a s₀) (free-listing w (x .moving) t s₀ (endsOne a s₀) (h₀ .listing) (λ q. refl) refl refl refl) (tallying-ext tapeBytes tally s₀ (endsOne a s₀) refl refl refl refl refl refl refl (h₀ .tallying)) counted;
         note = refl;
       }
 

@@ -136,7 +136,7 @@ stop-done tapeBytes r t s n m b moving h =
           subst (λ (o : Option Transaction). Stands tapeBytes (rowsOf (stopped (r .scalars) (suc n)) (r .work) (r .tally)) o (setEnd (suc n) s)) (sym moving)
           (record {
             listing = listing-ext (r .work) (r .scalars .moving) (some t) s (setEnd (suc n) s) (λ q hq. refl) refl refl (h .listing);
-            tallying = tallying-ext tapeBytes (r .tally) s (setEnd (suc n) s) refl refl refl refl refl (h .tallying);
+            tallying = tallying-ext tapeBytes (r .tally) s (setEnd (suc n) s) refl refl refl refl refl refl refl (h .tallying);
             counting =
                 record {
                   clock = h .counting .clock;
@@ -331,16 +331,16 @@ module _ (tapeBytes tally : List ℕ) (t : Transaction) (s : State) (h : Tallyin
   wel-tallying edition v code = go (t .returning)
     where
       go : (b : Bool) → Tallying tapeBytes tally (cond {A = Bare} b (record { note = noNote; state = Moves.toWel edition v code t s }) (record { note = waitsNote; state = Moves.toWel edition v code (withSerial (Moves.fresh s) t) (setSerial (Moves.fresh s) s) }) .state)
-      go true = tallying-ext tapeBytes tally s (Moves.toWel edition v code t s) refl refl refl refl refl h
-      go false = tallying-ext tapeBytes tally s (Moves.toWel edition v code (withSerial (Moves.fresh s) t) (setSerial (Moves.fresh s) s)) refl refl refl refl refl h
+      go true = tallying-ext tapeBytes tally s (Moves.toWel edition v code t s) refl refl refl refl refl refl refl h
+      go false = tallying-ext tapeBytes tally s (Moves.toWel edition v code (withSerial (Moves.fresh s) t) (setSerial (Moves.fresh s) s)) refl refl refl refl refl refl refl h
 
   pub wsl-tallying : Tallying tapeBytes tally (waiting Moves.toWsl t s .state)
   unfolding waiting Moves.toWsl
   wsl-tallying = go (t .returning)
     where
       go : (b : Bool) → Tallying tapeBytes tally (cond {A = Bare} b (record { note = noNote; state = Moves.toWsl t s }) (record { note = waitsNote; state = Moves.toWsl (withSerial (Moves.fresh s) t) (setSerial (Moves.fresh s) s) }) .state)
-      go true = tallying-ext tapeBytes tally s (Moves.toWsl t s) refl refl refl refl refl h
-      go false = tallying-ext tapeBytes tally s (Moves.toWsl (withSerial (Moves.fresh s) t) (setSerial (Moves.fresh s) s)) refl refl refl refl refl h
+      go true = tallying-ext tapeBytes tally s (Moves.toWsl t s) refl refl refl refl refl refl refl h
+      go false = tallying-ext tapeBytes tally s (Moves.toWsl (withSerial (Moves.fresh s) t) (setSerial (Moves.fresh s) s)) refl refl refl refl refl refl refl h
 
 -- ---- Bytes of trace and turns are counted elsewhere
 

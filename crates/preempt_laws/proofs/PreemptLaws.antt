@@ -44,6 +44,7 @@ use Rattle.rows_laws.proofs.Laws.{Wakes, Takes, fresh-given, head-shows, take-s
 use Rattle.state.specs.declared.scalars.Scalars.{Scalars}
 use Rattle.state.specs.ScalarSetters.{putSerial}
 use Rattle.state.specs.Sane.{Sane}
+use Rattle.state.specs.Statistics.{updateServer}
 use Rattle.state.specs.Stands.{Rows, rowsOf, interruptedRow, listsOf, Listing, Stands, Done}
 use Rattle.state.specs.Bare.{Bare, entering, goingBack, beginning, waiting, bare, bareAnswer}
 use Rattle.state.proofs.Alone.{alone}
@@ -65,7 +66,7 @@ use Rattle.servers_laws.specs.Freeing.{freeOne, enterFreed}
 use Rattle.preempt_laws.specs.Preempting.{seized, interruptOn, takeOver, preemptSeized, askResume, askGiveBack, resumeOn, resumeRows, giveBackRows}
 use Rattle.preempt_laws.specs.Preempting as Preempting
 use Rattle.servers_laws.proofs.Named.{named}
-use Rattle.servers_laws.proofs.Ready.{Ready, set-ready, keep-ready, ready-done}
+use Rattle.servers_laws.proofs.Ready.{Ready, update-ready, update-current, set-ready, keep-ready, ready-done}
 use Rattle.servers_laws.proofs.Standing.{high, units-are, holder-is, preempted-is, capacity-is, ready}
 use Rattle.servers_laws.proofs.TakingLaws.{take-done, take-used}
 use Rattle.servers_laws.proofs.FreeingLaws.{one-done}
@@ -240,7 +241,7 @@ module _ (m : BlockModel) (tape : List (List ℕ)) (tapeBytes tables lists : Lis
             listing =
                 listing-steady w (put w₂ p j) (x .moving) (some t) s₀ s₁
                 (shows-ext (put w₂ p j) _ (listsOf s₁) _ (s₁ .fel) on-list (sym left-is) (stopped-shows .shows)) (stopped-shows .steady) refl listing;
-            tallying = tallying-ext tapeBytes tally s₀ s₁ refl refl refl refl refl (ready′ .tallying);
+            tallying = tallying-ext tapeBytes tally s₀ s₁ refl refl refl refl refl refl refl (ready′ .tallying);
             counting = counting-ext x s₀ s₁ refl refl refl refl refl refl refl (ready′ .counting);
             held = refl;
             holds = refl;
@@ -258,9 +259,12 @@ module _ (m : BlockModel) (tape : List (List ℕ)) (tapeBytes tables lists : Lis
       unfolding takeOver holdUnits interrupt
       over-done =
           rw (on-is, units-are m tape tapeBytes tables lists proper rep s sane r t stands v (fac .0) there, capacity-is m tape tapeBytes tables lists proper rep s sane r t stands v (fac .0) there)
-          (ready-done tapeBytes x t v (fac .0) high′ (server .inUse) (server .capacity) (keepHolder (put w₂ p j) (v - 1) (x .moving)) (setUse tally (v - 1) (server .inUse) (t .number) 1) (setHolder v (t .number) true s₁)
-          (keep-ready tapeBytes x t v (fac .0) high′ (server .inUse) (server .capacity) (put w₂ p j) (setUse tally (v - 1) (server .inUse) (t .number) 1) (setHolder v (t .number) true s₁)
-          (set-ready tapeBytes x t v (fac .0) high′ (server .inUse) (server .capacity) (put w₂ p j) tally s₁ stopped-ready (server .inUse) (t .number) true) (x .moving))
+          (ready-done tapeBytes x t v (fac .0) high′ (server .inUse) (server .capacity) (keepHolder (put w₂ p j) (v - 1) (x .moving)) (setUse (updateServer tally (v - 1) (x .clock)) (v - 1) (server .inUse) (t .number) 1)
+          (setHolder v (t .number) true s₁)
+          (keep-ready tapeBytes x t v (fac .0) high′ (server .inUse) (server .capacity) (put w₂ p j) (setUse (updateServer tally (v - 1) (x .clock)) (v - 1) (server .inUse) (t .number) 1) (setHolder v (t .number) true s₁)
+          (set-ready tapeBytes x t v (fac .0) high′ (server .inUse) (server .capacity) (put w₂ p j) (updateServer tally (v - 1) (x .clock)) s₁
+          (update-ready tapeBytes x t v (fac .0) high′ (server .inUse) (server .capacity) (put w₂ p j) tally s₁ stopped-ready)
+          (update-current tapeBytes x t v (fac .0) high′ (server .inUse) (server .capacity) (put w₂ p j) tally s₁ stopped-ready) (server .inUse) (t .number) true) (x .moving))
           (next-low proper t s sane moving))
 
   -- ---- PREEMPT
@@ -355,10 +359,13 @@ module _ (m : BlockModel) (tape : List (List ℕ)) (tapeBytes tables lists : Lis
     b₁ = setHolder v (one .who .number) false s₀
 
     abbrev tally₁ : List ℕ
-    tally₁ = setUse tally (v - 1) (server .inUse) (one .who .number) 0
+    tally₁ = setUse (updateServer tally (v - 1) (x .clock)) (v - 1) (server .inUse) (one .who .number) 0
 
     held : Ready tapeBytes x t v (server .inUse) (server .capacity) w tally₁ b₁
-    held = set-ready tapeBytes x t v (fac .0) high′ (server .inUse) (server .capacity) w tally s₀ ready′ (server .inUse) (one .who .number) false
+    held =
+        set-ready tapeBytes x t v (fac .0) high′ (server .inUse) (server .capacity) w (updateServer tally (v - 1) (x .clock)) s₀
+        (update-ready tapeBytes x t v (fac .0) high′ (server .inUse) (server .capacity) w tally s₀ ready′)
+        (update-current tapeBytes x t v (fac .0) high′ (server .inUse) (server .capacity) w tally s₀ ready′) (server .inUse) (one .who .number) false
 
     abbrev u₁ : List ℕ
     u₁ = takeFirst w p
@@ -422,7 +429,7 @@ module _ (m : BlockModel) (tape : List (List ℕ)) (tapeBytes tables lists : Lis
           listing =
               listing-steady w (schedule u₃ j) (x .moving) (some t) s₀ b₂
               (shows-ext (schedule u₃ j) _ (listsOf b₂) _ (b₂ .fel) on-lists (ap (λ (e : Event). insert earlier e (s .fel)) event-is) (resumed .shows)) (resumed .steady) refl listing;
-          tallying = tallying-ext tapeBytes tally₁ b₁ b₂ refl refl refl refl refl (held .tallying);
+          tallying = tallying-ext tapeBytes tally₁ b₁ b₂ refl refl refl refl refl refl refl (held .tallying);
           counting =
               record {
                 clock = stands .counting .clock;

@@ -91,7 +91,7 @@ module _ (m : BlockModel) (tape : List (List ℕ)) (tapeBytes tables lists : Lis
   blocks-all : min (length (m .blocks)) 256 ≡ length (m .blocks)
   blocks-all = omega (arith, proper .blocks .1)
 
-  server-row : (v : ℕ) → v < 64 → serverRow tables (r .tally) (min (length (m .blocks)) 256) v ≡ serverFive m (s .records) (1 + v) (getD (s .view .servers) v (idleServer 0))
+  server-row : (v : ℕ) → v < 64 → serverRow tables (r .tally) (s .view .clock) (min (length (m .blocks)) 256) v ≡ serverFive m (s .records) (1 + v) (getD (s .view .servers) v (idleServer 0))
   unfolding serverRow
   server-row v h =
       let next : suc v ≡ 1 + v = omega arith in
@@ -107,7 +107,7 @@ module _ (m : BlockModel) (tape : List (List ℕ)) (tapeBytes tables lists : Lis
         stands .tallying .servers .longest v h,
       )
 
-  queue-row : (q : ℕ) → q < 32 → queueRow tables (r .tally) (min (length (m .blocks)) 256) q ≡ queueThree m (s .records) (1 + q) (getD (s .view .queues) q emptyQueue)
+  queue-row : (q : ℕ) → q < 32 → queueRow tables (r .tally) (s .view .clock) (min (length (m .blocks)) 256) q ≡ queueThree m (s .records) (1 + q) (getD (s .view .queues) q emptyQueue)
   unfolding queueRow
   queue-row q h =
       let next : suc q ≡ 1 + q = omega arith in
@@ -120,18 +120,18 @@ module _ (m : BlockModel) (tape : List (List ℕ)) (tapeBytes tables lists : Lis
         stands .tallying .queues .longest q h,
       )
 
-  servers-all : rowsTo (min (m .facilities) 32 + min (length (m .capacities)) 32) (serverRow tables (r .tally) (min (length (m .blocks)) 256))
+  servers-all : rowsTo (min (m .facilities) 32 + min (length (m .capacities)) 32) (serverRow tables (r .tally) (s .view .clock) (min (length (m .blocks)) 256))
       ≡ serverNumbers m (s .records) 1 (s .view .servers)
   servers-all =
       let n : min (m .facilities) 32 + min (length (m .capacities)) 32 ≡ length (s .view .servers) = omega (arith, servers-length m tape s proper sane sound, proper .facilities, proper .storages) in
-      ap (λ k. rowsTo k (serverRow tables (r .tally) (min (length (m .blocks)) 256))) n
+      ap (λ k. rowsTo k (serverRow tables (r .tally) (s .view .clock) (min (length (m .blocks)) 256))) n
       ∙ rows-same (length (s .view .servers)) _ _ (λ i b. server-row i (omega (arith, servers-length m tape s proper sane sound, proper .facilities, proper .storages)))
       ∙ sym (servers-rows m (s .records) (s .view .servers))
 
-  queues-all : rowsTo (min (m .queues) 32) (queueRow tables (r .tally) (min (length (m .blocks)) 256)) ≡ queueNumbers m (s .records) 1 (s .view .queues)
+  queues-all : rowsTo (min (m .queues) 32) (queueRow tables (r .tally) (s .view .clock) (min (length (m .blocks)) 256)) ≡ queueNumbers m (s .records) 1 (s .view .queues)
   queues-all =
       let n : min (m .queues) 32 ≡ length (s .view .queues) = omega (arith, sane .shape .queue-length, proper .queues) in
-      ap (λ k. rowsTo k (queueRow tables (r .tally) (min (length (m .blocks)) 256))) n
+      ap (λ k. rowsTo k (queueRow tables (r .tally) (s .view .clock) (min (length (m .blocks)) 256))) n
       ∙ rows-same (length (s .view .queues)) _ _ (λ i b. queue-row i (omega (arith, sane .shape .queue-length, proper .queues)))
       ∙ sym (queues-rows m (s .records) (s .view .queues))
 

@@ -5,6 +5,7 @@ use mathlib.Core.List.{List, [], _∷_, _++_}
 use lib.Dec.{eqb}
 use lib.ListN.{getD}
 use Rattle.tables.specs.Layout as Layout
+use Rattle.state.specs.Statistics.{sumNow, longestNow}
 
 -- ---- Records at the blocks that name something
 
@@ -26,24 +27,24 @@ total tables tally first second third index base zero = 0
 total tables tally first second third index base (suc n) =
     min (total tables tally first second third index base n + share tables tally first second third index base n) Layout.most64
 
--- ---- One server, one queue
+-- ---- One server, one queue, their statistics brought up to date
 
 -- SEIZE is kind 4, ENTER kind 6, PREEMPT kind 19
-unfoldable pub serverRow : (tables tally : List ℕ) → (blocks v : ℕ) → List ℕ
-serverRow tables tally blocks v =
+unfoldable pub serverRow : (tables tally : List ℕ) → (clock blocks v : ℕ) → List ℕ
+serverRow tables tally clock blocks v =
     total tables tally 4 6 19 v Layout.entries blocks
-    ∷ getD tally (Layout.unitTicks + v) 0
+    ∷ sumNow tally (Layout.unitTicks + v) (Layout.inUse + v) v clock
     ∷ total tables tally 4 6 19 v Layout.waits blocks
-    ∷ getD tally (Layout.waitTicks + v) 0
-    ∷ getD tally (Layout.longestQl + v) 0
+    ∷ sumNow tally (Layout.waitTicks + v) (Layout.qlLength + v) v clock
+    ∷ longestNow tally (Layout.longestQl + v) (Layout.qlLength + v) v
     ∷ []
 
 -- ARRIVE is kind 15
-unfoldable pub queueRow : (tables tally : List ℕ) → (blocks q : ℕ) → List ℕ
-queueRow tables tally blocks q =
+unfoldable pub queueRow : (tables tally : List ℕ) → (clock blocks q : ℕ) → List ℕ
+queueRow tables tally clock blocks q =
     total tables tally 15 15 15 q Layout.entries blocks
-    ∷ getD tally (Layout.contentTicks + q) 0
-    ∷ getD tally (Layout.longestContent + q) 0
+    ∷ sumNow tally (Layout.contentTicks + q) (Layout.content + q) (Layout.serverCount + q) clock
+    ∷ longestNow tally (Layout.longestContent + q) (Layout.content + q) (Layout.serverCount + q)
     ∷ []
 
 -- f 0 ++ .. ++ f (n - 1)

@@ -4,23 +4,30 @@ use constants::kinds::ARRIVE;
 use constants::kinds::ENTER;
 use constants::kinds::PREEMPT;
 use constants::kinds::SEIZE;
+use state::longest_now;
 use state::plus64;
+use state::sum_now;
 use tables::BLOCK_WIDTH;
+use tables::CONTENT;
 use tables::CONTENT_TICKS;
 use tables::ENTRIES;
 use tables::FIRST;
+use tables::IN_USE;
 use tables::LONGEST_CONTENT;
 use tables::LONGEST_QL;
+use tables::QL_LENGTH;
+use tables::SERVERS;
 use tables::UNIT_TICKS;
 use tables::WAIT_TICKS;
 use tables::WAITS;
 use tables::count;
 use tables::number;
 ghost use mathlib.Core.Path.{_≡_};
-ghost use Prim.Native.Nat.{_≤_, _<_};
+ghost use Prim.Native.Nat.{_+_, _≤_, _<_};
 ghost use Rattle.machine.specs.Limits.{maxBlocks, maxQueues};
 ghost use Rattle.tables.specs.Layout as Layout;
 ghost use Rattle.tables.specs.Layout.{serverCount};
+ghost use Rattle.state.specs.Statistics.{sumNow, longestNow};
 ghost use Rattle.report.specs.Counts.{names, share, total, serverRow, queueRow, rowsTo};
 ghost use Rattle.report.specs.Writing.{written, putAll};
 
@@ -90,9 +97,47 @@ fn total(
     sum
 }
 
+// Of server v, brought up to date: ticks of units in use, ticks waited, the longest QL.
+fn unit_ticks(tally: &[u64], v: usize, clock: u64) -> u64
+    requires { ⌜ v < serverCount ⌝ }
+    ensures { λ r. ⌜ r ≡ sumNow (now (tally .entry)) (Layout.unitTicks + v) (Layout.inUse + v) v clock ⌝ }
+{
+    sum_now(tally, UNIT_TICKS + v, IN_USE + v, v, clock)
+}
+
+fn wait_ticks(tally: &[u64], v: usize, clock: u64) -> u64
+    requires { ⌜ v < serverCount ⌝ }
+    ensures { λ r. ⌜ r ≡ sumNow (now (tally .entry)) (Layout.waitTicks + v) (Layout.qlLength + v) v clock ⌝ }
+{
+    sum_now(tally, WAIT_TICKS + v, QL_LENGTH + v, v, clock)
+}
+
+fn longest_ql(tally: &[u64], v: usize) -> u64
+    requires { ⌜ v < serverCount ⌝ }
+    ensures { λ r. ⌜ r ≡ longestNow (now (tally .entry)) (Layout.longestQl + v) (Layout.qlLength + v) v ⌝ }
+{
+    longest_now(tally, LONGEST_QL + v, QL_LENGTH + v, v)
+}
+
+// Of queue q: content ticks and the longest content.
+fn content_ticks(tally: &[u64], q: usize, clock: u64) -> u64
+    requires { ⌜ q < maxQueues ⌝ }
+    ensures { λ r. ⌜ r ≡ sumNow (now (tally .entry)) (Layout.contentTicks + q) (Layout.content + q) (serverCount + q) clock ⌝ }
+{
+    sum_now(tally, CONTENT_TICKS + q, CONTENT + q, SERVERS + q, clock)
+}
+
+fn longest_content(tally: &[u64], q: usize) -> u64
+    requires { ⌜ q < maxQueues ⌝ }
+    ensures { λ r. ⌜ r ≡ longestNow (now (tally .entry)) (Layout.longestContent + q) (Layout.content + q) (serverCount + q) ⌝ }
+{
+    longest_now(tally, LONGEST_CONTENT + q, CONTENT + q, SERVERS + q)
+}
+
 fn put_server(
     tables: &[u32],
     tally: &[u64],
+    clock: u64,
     blocks: usize,
     v: usize,
     report: &mut [u8],
@@ -100,26 +145,27 @@ fn put_server(
 ) -> usize
     requires { ⌜ blocks ≤ maxBlocks ⌝ }
     requires { ⌜ v < serverCount ⌝ }
-    ensures { λ r. ⌜ written r (now (report .exit)) ≡ putAll (serverRow (now (tables .entry)) (now (tally .entry)) blocks v) (written at (now (report .entry))) ⌝ }
+    ensures { λ r. ⌜ written r (now (report .exit)) ≡ putAll (serverRow (now (tables .entry)) (now (tally .entry)) clock blocks v) (written at (now (report .entry))) ⌝ }
 {
     let entered = write_number(
         report,
         at,
         total(tables, tally, SEIZE, ENTER, PREEMPT, v, ENTRIES, blocks),
     );
-    let used = write_number(report, entered, count(tally, UNIT_TICKS + v));
+    let used = write_number(report, entered, unit_ticks(tally, v, clock));
     let waits = write_number(
         report,
         used,
         total(tables, tally, SEIZE, ENTER, PREEMPT, v, WAITS, blocks),
     );
-    let waited = write_number(report, waits, count(tally, WAIT_TICKS + v));
-    write_number(report, waited, count(tally, LONGEST_QL + v))
+    let waited = write_number(report, waits, wait_ticks(tally, v, clock));
+    write_number(report, waited, longest_ql(tally, v))
 }
 
 pub fn put_servers(
     tables: &[u32],
     tally: &[u64],
+    clock: u64,
     blocks: usize,
     servers: usize,
     report: &mut [u8],
@@ -127,12 +173,12 @@ pub fn put_servers(
 ) -> usize
     requires { ⌜ blocks ≤ maxBlocks ⌝ }
     requires { ⌜ servers ≤ serverCount ⌝ }
-    ensures { λ r. ⌜ written r (now (report .exit)) ≡ putAll (rowsTo servers (serverRow (now (tables .entry)) (now (tally .entry)) blocks)) (written at (now (report .entry))) ⌝ }
+    ensures { λ r. ⌜ written r (now (report .exit)) ≡ putAll (rowsTo servers (serverRow (now (tables .entry)) (now (tally .entry)) clock blocks)) (written at (now (report .entry))) ⌝ }
 {
     let mut next = at;
     let mut v = 0;
     while v < servers {
-        next = put_server(tables, tally, blocks, v, report, next);
+        next = put_server(tables, tally, clock, blocks, v, report, next);
         v += 1;
     }
     next
@@ -141,6 +187,7 @@ pub fn put_servers(
 fn put_queue(
     tables: &[u32],
     tally: &[u64],
+    clock: u64,
     blocks: usize,
     q: usize,
     report: &mut [u8],
@@ -148,20 +195,21 @@ fn put_queue(
 ) -> usize
     requires { ⌜ blocks ≤ maxBlocks ⌝ }
     requires { ⌜ q < maxQueues ⌝ }
-    ensures { λ r. ⌜ written r (now (report .exit)) ≡ putAll (queueRow (now (tables .entry)) (now (tally .entry)) blocks q) (written at (now (report .entry))) ⌝ }
+    ensures { λ r. ⌜ written r (now (report .exit)) ≡ putAll (queueRow (now (tables .entry)) (now (tally .entry)) clock blocks q) (written at (now (report .entry))) ⌝ }
 {
     let arrived = write_number(
         report,
         at,
         total(tables, tally, ARRIVE, ARRIVE, ARRIVE, q, ENTRIES, blocks),
     );
-    let filled = write_number(report, arrived, count(tally, CONTENT_TICKS + q));
-    write_number(report, filled, count(tally, LONGEST_CONTENT + q))
+    let filled = write_number(report, arrived, content_ticks(tally, q, clock));
+    write_number(report, filled, longest_content(tally, q))
 }
 
 pub fn put_queues(
     tables: &[u32],
     tally: &[u64],
+    clock: u64,
     blocks: usize,
     queues: usize,
     report: &mut [u8],
@@ -169,12 +217,12 @@ pub fn put_queues(
 ) -> usize
     requires { ⌜ blocks ≤ maxBlocks ⌝ }
     requires { ⌜ queues ≤ maxQueues ⌝ }
-    ensures { λ r. ⌜ written r (now (report .exit)) ≡ putAll (rowsTo queues (queueRow (now (tables .entry)) (now (tally .entry)) blocks)) (written at (now (report .entry))) ⌝ }
+    ensures { λ r. ⌜ written r (now (report .exit)) ≡ putAll (rowsTo queues (queueRow (now (tables .entry)) (now (tally .entry)) clock blocks)) (written at (now (report .entry))) ⌝ }
 {
     let mut next = at;
     let mut q = 0;
     while q < queues {
-        next = put_queue(tables, tally, blocks, q, report, next);
+        next = put_queue(tables, tally, clock, blocks, q, report, next);
         q += 1;
     }
     next

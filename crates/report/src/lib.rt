@@ -48,7 +48,7 @@ pub fn write_report(
         + at_most(model.storages, Model::MAX_STORAGES);
     let queues = at_most(model.queues, Model::MAX_QUEUES);
     let head = put_scalars(x, report, 0);
-    let served = put_servers(tables, tally, blocks, servers, report, head);
-    let queued = put_queues(tables, tally, blocks, queues, report, served);
+    let served = put_servers(tables, tally, x.clock, blocks, servers, report, head);
+    let queued = put_queues(tables, tally, x.clock, blocks, queues, report, served);
     put_living(work, x.moving, report, queued)
 }

@@ -1,10 +1,10 @@
 // 5 RELEASE f and 7 LEAVE s, b, which ask first whether the units are in use; a RELEASE then asks for the holder.
 use crate::units::capacity;
+use crate::units::change_use;
 use crate::units::holder;
 use crate::units::in_use;
 use crate::units::preempted;
 use crate::units::server_at;
-use crate::units::set_use;
 use crate::waking::check_wels;
 use crate::waking::leave_with;
 use crate::waking::wake_first_ql;
@@ -56,7 +56,7 @@ pub fn free_one(
     ensures { λ r. ⌜ rowsOf r (now (work .exit)) (now (tally .exit)) ≡ freeOne (now (tables .entry)) (now (work .entry)) (now (tally .entry)) x v left ⌝ }
 {
     let all = capacity(tables, v);
-    set_use(tally, v, left, 0, 0);
+    change_use(tally, v, x.clock, left, 0, 0);
     wake_first_ql(work, tally, v);
     enter_freed(work, x, v, left, all)
 }
@@ -77,7 +77,7 @@ fn free_some(
     ensures { λ r. ⌜ rowsOf r (now (work .exit)) (now (tally .exit)) ≡ freeSome (now (tables .entry)) (now (work .entry)) (now (tally .entry)) x v units b ⌝ }
 {
     let all = capacity(tables, v);
-    set_use(tally, v, units, 0, 0);
+    change_use(tally, v, x.clock, units, 0, 0);
     let edition = number(tables, EDITION);
     let left = leave_with(edition, less64(all, units), b);
     let stay = wake_ql(tables, work, v, edition, left);

@@ -1,8 +1,8 @@
 // 4 SEIZE f and 6 ENTER s, b: a SEIZE takes one unit, and its transaction holds the facility.
 use crate::units::capacity;
+use crate::units::change_use;
 use crate::units::in_use;
 use crate::units::server_at;
-use crate::units::set_use;
 use crate::waking::check_wels;
 use moves::go_on;
 use moves::wait_on;
@@ -12,6 +12,7 @@ use rows::future::keep_holder;
 use state::Scalars;
 use state::less64;
 use state::plus64;
+use state::update_server;
 use tables::EDITION;
 use tables::FIRST;
 use tables::QL_LENGTH;
@@ -43,7 +44,7 @@ pub fn hold_units(
     requires { ⌜ v < serverCount ⌝ }
     ensures { λ r. ⌜ rowsOf r (now (work .exit)) (now (tally .exit)) ≡ holdUnits (now (work .entry)) (now (tally .entry)) x v units who k preempts capacity ⌝ }
 {
-    set_use(tally, v, units, who, preempts);
+    change_use(tally, v, x.clock, units, who, preempts);
     keep_holder(work, v, k);
     check_wels(work, v, units, capacity);
     go_on(work, x)
@@ -56,6 +57,7 @@ fn queue_up(work: &mut [u32], tally: &mut [u64], x: Scalars, v: u32, edition: u3
     requires { ⌜ v < serverCount ⌝ }
     ensures { λ r. ⌜ rowsOf r (now (work .exit)) (now (tally .exit)) ≡ queueUp (now (work .entry)) (now (tally .entry)) x v edition ⌝ }
 {
+    update_server(tally, v as usize, x.clock);
     let at = QL_LENGTH + (v as usize);
     let n = plus64(count(tally, at), 1);
     set_count(tally, at, n);

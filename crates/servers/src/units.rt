@@ -1,4 +1,5 @@
 // Units, holders, capacities and status codes of servers.
+use state::update_server;
 use tables::CAPACITIES;
 use tables::HOLDER;
 use tables::IN_USE;
@@ -9,7 +10,7 @@ use tables::set_count;
 ghost use mathlib.Core.Path.{_≡_};
 ghost use Prim.Native.Nat.{_+_, _<_};
 ghost use Rattle.tables.specs.Layout.{serverCount, wordEnd};
-ghost use Rattle.servers_laws.specs.Units.{serverAt, inUse, holder, preempted, setUse, capacity, statusOf};
+ghost use Rattle.servers_laws.specs.Units.{serverAt, inUse, holder, preempted, setUse, changeUse, capacity, statusOf};
 
 const SERVERS: u32 = tables::SERVERS as u32;
 
@@ -47,13 +48,22 @@ pub fn preempted(tally: &[u64], v: u32) -> u64
 }
 
 // So many units are in use, who holds the server, and whether by PREEMPT.
-pub fn set_use(tally: &mut [u64], v: u32, units: u64, who: u64, preempts: u64)
+fn set_use(tally: &mut [u64], v: u32, units: u64, who: u64, preempts: u64)
     requires { ⌜ v < serverCount ⌝ }
     ensures { λ _. ⌜ now (tally .exit) ≡ setUse (now (tally .entry)) v units who preempts ⌝ }
 {
     set_count(tally, IN_USE + (v as usize), units);
     set_count(tally, HOLDER + (v as usize), who);
     set_count(tally, PREEMPTED + (v as usize), preempts);
+}
+
+// The same from now on: the server's statistics are brought up to date first.
+pub fn change_use(tally: &mut [u64], v: u32, clock: u64, units: u64, who: u64, preempts: u64)
+    requires { ⌜ v < serverCount ⌝ }
+    ensures { λ _. ⌜ now (tally .exit) ≡ changeUse (now (tally .entry)) v clock units who preempts ⌝ }
+{
+    update_server(tally, v as usize, clock);
+    set_use(tally, v, units, who, preempts);
 }
 
 pub fn capacity(tables: &[u32], v: u32) -> u64

@@ -84,7 +84,7 @@ module _ (k : ℕ) (o : Option Transaction) (s₀ : State) (w : List ℕ) (s : S
   pub checked-tallying : (tapeBytes tally : List ℕ) → Tallying tapeBytes tally s₀ → Tallying tapeBytes tally s
   checked-tallying tapeBytes tally tallying =
       let e = unchanged in
-      tallying-ext tapeBytes tally s₀ s (ap (λ (y : State). y .view .entries) e) (ap (λ (y : State). y .view .servers) e) (ap (λ (y : State). y .ql) e) (ap (λ (y : State). y .view .queues) e) (ap (λ (y : State). y .samples) e) tallying
+      tallying-ext tapeBytes tally s₀ s (ap (λ (y : State). y .view .entries) e) (ap (λ (y : State). y .view .servers) e) (ap (λ (y : State). y .ql) e) (ap (λ (y : State). y .view .queues) e) (ap (λ (y : State). y .samples) e) (ap (λ (y : State). y .view .clock) e) (ap (λ (y : State). y .turns) e) tallying
 
   pub checked-counting : (x : Scalars) → Counting x s₀ → Counting x s
   checked-counting x counting =

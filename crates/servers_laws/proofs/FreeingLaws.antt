@@ -34,6 +34,7 @@ use Rattle.rows_laws.specs.Wake.{wakeFirst, wakeWalk}
 use Rattle.rows_laws.specs.Holds.{transactionAt}
 use Rattle.state.specs.declared.scalars.Scalars.{Scalars}
 use Rattle.state.specs.Sane.{Sane}
+use Rattle.state.specs.Statistics.{behind, updateServer}
 use Rattle.state.specs.Stands.{Rows, rowsOf, Stands, Done}
 use Rattle.state.specs.Bare.{entering, bare, bareAnswer}
 use Rattle.moves.specs.Motion.{withTally, goOn, stopped}
@@ -45,7 +46,7 @@ use Rattle.servers_laws.specs.Waking.{checkWels, shorter, unitsAt, membe
 use Rattle.servers_laws.specs.Freeing.{enterFreed, freeOne, freeSome, askRelease}
 use Rattle.servers_laws.specs.Freeing as Freeing
 use Rattle.servers_laws.proofs.Named.{units-of, named}
-use Rattle.servers_laws.proofs.Ready.{Ready, wakeQl-same, set-ready, first-ready, passed-ready, ready-done}
+use Rattle.servers_laws.proofs.Ready.{Ready, wakeQl-same, update-ready, update-current, set-ready, set-current, first-ready, passed-ready, ready-done}
 use Rattle.servers_laws.proofs.Standing.{high, units-are, holder-is, preempted-is, capacity-is, ready}
 
 -- ---- The units of the block before which a transaction stands, as the tables have them
@@ -105,21 +106,36 @@ module _ (m : BlockModel) (tape : List (List ℕ)) (tapeBytes tables lists : Lis
     high′ : v ≤ 64
     high′ = high m tape tapeBytes tables lists proper rep s sane r t stands v low there
 
+    -- its statistics are brought up to date
+    abbrev current : List ℕ
+    current = updateServer tally (v - 1) (x .clock)
+
+    ready′ : Ready tapeBytes x t v (server .inUse) (server .capacity) w tally s₀
+    ready′ = ready m tape tapeBytes tables lists proper rep s sane r t stands v low there
+
+    ready-now : Ready tapeBytes x t v (server .inUse) (server .capacity) w current s₀
+    ready-now = update-ready tapeBytes x t v low high′ (server .inUse) (server .capacity) w tally s₀ ready′
+
+    now : behind current (v - 1) ≡ false
+    now = update-current tapeBytes x t v low high′ (server .inUse) (server .capacity) w tally s₀ ready′
+
     -- so many units are in use
     module _ (units : ℕ) where
       abbrev s₁ : State
       s₁ = Moves.setUse v units 0 false s₀
 
-      freed : Ready tapeBytes x t v units (server .capacity) w (setUse tally (v - 1) units 0 0) s₁
-      freed =
-          set-ready tapeBytes x t v low high′ (server .inUse) (server .capacity) w tally s₀ (ready m tape tapeBytes tables lists proper rep s sane r t stands v low there) units 0 false
+      freed : Ready tapeBytes x t v units (server .capacity) w (setUse current (v - 1) units 0 0) s₁
+      freed = set-ready tapeBytes x t v low high′ (server .inUse) (server .capacity) w current s₀ ready-now now units 0 false
+
+      freed-now : behind (setUse current (v - 1) units 0 0) (v - 1) ≡ false
+      freed-now = set-current tapeBytes x t v low high′ (server .inUse) (server .capacity) w current s₀ ready-now now units 0 false
 
       pub one-done : Done tapeBytes (freeOne tables w tally x (v - 1) units) (entering (Moves.goOn t (Execute.checkWels v (wakeQl firstOf v s₁))))
       unfolding freeOne enterFreed
       one-done =
           rw (capacity-is m tape tapeBytes tables lists proper rep s sane r t stands v low there)
-          (ready-done tapeBytes x t v low high′ units (server .capacity) (wakeFirst w (v - 1)) (shorter (setUse tally (v - 1) units 0 0) (v - 1)) (wakeQl firstOf v s₁)
-          (first-ready tapeBytes x t v low high′ units (server .capacity) w (setUse tally (v - 1) units 0 0) s₁ freed)
+          (ready-done tapeBytes x t v low high′ units (server .capacity) (wakeFirst w (v - 1)) (shorter (setUse current (v - 1) units 0 0) (v - 1)) (wakeQl firstOf v s₁)
+          (first-ready tapeBytes x t v low high′ units (server .capacity) w (setUse current (v - 1) units 0 0) s₁ freed freed-now)
           (next-low proper t s sane moving))
 
       -- LEAVE of b units, the block before which t stands
@@ -151,8 +167,8 @@ module _ (m : BlockModel) (tape : List (List ℕ)) (tapeBytes tables lists : Lis
         some-done =
             rw (capacity-is m tape tapeBytes tables lists proper rep s sane r t stands v low there, rep .edition, ← wakeQl-same part (partFor m (storage v b) (s₁ .view)) v s₁ same-part)
             (ready-done tapeBytes x t v low high′ units (server .capacity) _ _ (wakeQl part v s₁)
-            (passed-ready tapeBytes x t v low high′ units (server .capacity) w (setUse tally (v - 1) units 0 0) s₁ freed (memberFits tables) (memberLeft tables (m .edition)) (within (needs tables)) (less (m .edition) (needs tables))
-            (λ n u j. ap (λ (i : ℕ). leb i n) (units-row tables u j)) (λ n u j. ap (leftBehind (m .edition) n) (units-row tables u j)) left)
+            (passed-ready tapeBytes x t v low high′ units (server .capacity) w (setUse current (v - 1) units 0 0) s₁ freed (memberFits tables) (memberLeft tables (m .edition)) (within (needs tables)) (less (m .edition) (needs tables))
+            (λ n u j. ap (λ (i : ℕ). leb i n) (units-row tables u j)) (λ n u j. ap (leftBehind (m .edition) n) (units-row tables u j)) left freed-now)
             (next-low proper t s sane moving))
 
     -- the block enters

@@ -1,8 +1,8 @@
 -- The rows stand for a state in which a server's units are known: what setting them, waking from the QL and the check of the
 -- WELs make of it.
 use Prim.Native.Nat.{ℕ, _+_, _-_, _≤_, _<_}
-use mathlib.Core.Path.{_≡_, refl, sym, ap, _∙_}
-use mathlib.Core.Bool.{Bool}
+use mathlib.Core.Path.{_≡_, refl, sym, ap, _∙_, subst}
+use mathlib.Core.Bool.{Bool, false}
 use mathlib.Core.List.{List}
 use mathlib.Core.Option.{some}
 use native.Mathlib.Omega.{arith}
@@ -27,16 +27,18 @@ use Rattle.rows_laws.specs.Holds.{transactionAt}
 use Rattle.rows_laws.proofs.Interrupting.{keep-holder-wakes}
 use Rattle.rows_laws.proofs.Laws.{Wakes}
 use Rattle.state.specs.declared.scalars.Scalars.{Scalars}
+use Rattle.state.specs.Statistics.{behind, updateServer}
 use Rattle.state.specs.Stands.{listsOf, Listing, Tallying, Counting, Done}
 use Rattle.state.specs.Bare.{entering}
 use Rattle.state.proofs.ListsOf.{lists-ql}
 use Rattle.state.proofs.StandsLaws.{listing-ext, listing-steady, tallying-ext, counting-ext}
+use Rattle.state.proofs.StatisticsLaws.{server-tallying, server-current}
 use Rattle.state.proofs.WakingLaws.{wake-first-ql-listing, wake-ql-listing}
 use Rattle.moves.specs.Motion.{withTally, goOn}
 use Rattle.servers_laws.specs.Units.{setUse}
 use Rattle.servers_laws.specs.Waking.{checkWels, shorter, wakeStays}
 use Rattle.servers_laws.proofs.Staying.{stays-shows}
-use Rattle.servers_laws.proofs.Tallies.{units-tallying, length-tallying, first-tallying}
+use Rattle.servers_laws.proofs.Tallies.{units-tallying, units-current, length-tallying, first-tallying}
 use Rattle.servers_laws.proofs.Checking.{unchecked, all-checked, checked-done}
 
 pub record Ready (tapeBytes : List ℕ) (x : Scalars) (t : Transaction) (v units all : ℕ) (w tally : List ℕ) (s : State) : Type 0 where
@@ -59,23 +61,48 @@ wakeQl-same part other v s e = ap (λ (p : Parted). setQl (setNth (s .ql) v (p .
 -- ---- What is done
 
 module _ (tapeBytes : List ℕ) (x : Scalars) (t : Transaction) (v : ℕ) (low : 1 ≤ v) (high : v ≤ 64) (units all : ℕ) (w tally : List ℕ) (s : State) (h : Ready tapeBytes x t v units all w tally s) where
+  -- its statistics are brought up to date
+  pub update-ready : Ready tapeBytes x t v units all w (updateServer tally (v - 1) (x .clock)) s
+  update-ready =
+      record {
+        listing = h .listing;
+        tallying =
+            subst (λ (c : ℕ). Tallying tapeBytes (updateServer tally (v - 1) c) s) (sym (h .counting .clock))
+            (server-tallying tapeBytes tally s (h .tallying) (h .samples) (v - 1) (omega arith));
+        counting = h .counting;
+        held = h .held;
+        holds = h .holds;
+        wels = h .wels;
+        ql = h .ql;
+        server = h .server;
+        samples = h .samples;
+      }
+
+  pub update-current : behind (updateServer tally (v - 1) (x .clock)) (v - 1) ≡ false
+  update-current =
+      subst (λ (c : ℕ). behind (updateServer tally (v - 1) c) (v - 1) ≡ false) (sym (h .counting .clock))
+      (server-current tapeBytes tally s (h .tallying) (h .samples) (v - 1) (omega arith))
+
   -- so many units are in use, who holds it, and whether by PREEMPT
-  pub set-ready : (n who : ℕ) (preempts : Bool) → Ready tapeBytes x t v n all w (setUse tally (v - 1) n who (bit preempts)) (Moves.setUse v n who preempts s)
+  pub set-ready : behind tally (v - 1) ≡ false → (n who : ℕ) (preempts : Bool) → Ready tapeBytes x t v n all w (setUse tally (v - 1) n who (bit preempts)) (Moves.setUse v n who preempts s)
   unfolding Moves.setUse Term.serverAt listsOf
-  set-ready n who preempts =
+  set-ready now n who preempts =
       let server : Server = getD (s .view .servers) (v - 1) (idleServer 0) in
-      let now : getD (set (s .view .servers) (v - 1) (withUse n who preempts server)) (v - 1) (idleServer 0) ≡ withUse n who preempts server = getD-set-same (s .view .servers) (v - 1) (withUse n who preempts server) (idleServer 0) (h .server) in
+      let is : getD (set (s .view .servers) (v - 1) (withUse n who preempts server)) (v - 1) (idleServer 0) ≡ withUse n who preempts server = getD-set-same (s .view .servers) (v - 1) (withUse n who preempts server) (idleServer 0) (h .server) in
       record {
         listing = listing-ext w (x .moving) (some t) s (Moves.setUse v n who preempts s) (λ q hq. refl) refl refl (h .listing);
-        tallying = units-tallying tapeBytes tally s (h .tallying) (h .samples) v low high n who preempts (h .server);
+        tallying = units-tallying tapeBytes tally s (h .tallying) (h .samples) v low high now n who preempts (h .server);
         counting = counting-ext x s (Moves.setUse v n who preempts s) refl refl refl refl refl refl refl (h .counting);
-        held = sym (ap (λ (y : Server). y .inUse) now);
-        holds = h .holds ∙ sym (ap (λ (y : Server). y .capacity) now);
+        held = sym (ap (λ (y : Server). y .inUse) is);
+        holds = h .holds ∙ sym (ap (λ (y : Server). y .capacity) is);
         wels = h .wels;
         ql = h .ql;
         server = omega (arith, h .server, length-set (s .view .servers) (v - 1) (withUse n who preempts server));
         samples = h .samples;
       }
+
+  pub set-current : behind tally (v - 1) ≡ false → (n who : ℕ) (preempts : Bool) → behind (setUse tally (v - 1) n who (bit preempts)) (v - 1) ≡ false
+  set-current now n who preempts = units-current tapeBytes tally s (h .tallying) (h .samples) v low high now n who preempts (h .server)
 
   -- the row of its holder is kept
   pub keep-ready : (k : ℕ) → Ready tapeBytes x t v units all (keepHolder w (v - 1) k) tally s
@@ -94,12 +121,12 @@ module _ (tapeBytes : List ℕ) (x : Scalars) (t : Transaction) (v : ℕ) (low :
       }
 
   -- the first of the QL is woken
-  pub first-ready : Ready tapeBytes x t v units all (wakeFirst w (v - 1)) (shorter tally (v - 1)) (wakeQl firstOf v s)
+  pub first-ready : behind tally (v - 1) ≡ false → Ready tapeBytes x t v units all (wakeFirst w (v - 1)) (shorter tally (v - 1)) (wakeQl firstOf v s)
   unfolding wakeQl
-  first-ready =
+  first-ready now =
       record {
         listing = wake-first-ql-listing w (x .moving) (some t) s (h .listing) v (omega arith) (h .ql);
-        tallying = first-tallying tapeBytes tally s (h .tallying) (h .samples) v low high (h .ql);
+        tallying = first-tallying tapeBytes tally s (h .tallying) (h .samples) v low high now (h .ql);
         counting = counting-ext x s (wakeQl firstOf v s) refl refl refl refl refl refl refl (h .counting);
         held = h .held;
         holds = h .holds;
@@ -117,16 +144,16 @@ module _ (tapeBytes : List ℕ) (x : Scalars) (t : Transaction) (v : ℕ) (low :
         stays-shows test next P N agree follow (s .fel) (v - 1) (omega arith) left w (listsOf s) (h .listing .shows)
         ∙ ap (λ (l : List Transaction). length (walk P N left l .stay)) (lists-ql s (v - 1) (omega arith))
 
-    pub passed-ready : Ready tapeBytes x t v units all (wakeWalk test next 1024 left w (v - 1) (head (v - 1))) (set tally (768 + (v - 1)) (wakeStays test next 1024 left w (v - 1) (head (v - 1)))) (wakeQl (walk P N left) v s)
+    pub passed-ready : behind tally (v - 1) ≡ false → Ready tapeBytes x t v units all (wakeWalk test next 1024 left w (v - 1) (head (v - 1))) (set tally (768 + (v - 1)) (wakeStays test next 1024 left w (v - 1) (head (v - 1)))) (wakeQl (walk P N left) v s)
     unfolding wakeQl
-    passed-ready =
+    passed-ready now =
         let n : ℕ = wakeStays test next 1024 left w (v - 1) (head (v - 1)) in
         let l : List Transaction = walk P N left (qlOf s v) .stay in
         record {
           listing = wake-ql-listing w (x .moving) (some t) s (h .listing) v (omega arith) (h .ql) test next P N agree follow left;
           tallying =
-              tallying-ext tapeBytes (set tally (768 + (v - 1)) n) (setQl (set (s .ql) (v - 1) l) s) (wakeQl (walk P N left) v s) refl refl refl refl refl
-              (length-tallying tapeBytes tally s (h .tallying) (h .samples) v low high l n stay (h .ql));
+              tallying-ext tapeBytes (set tally (768 + (v - 1)) n) (setQl (set (s .ql) (v - 1) l) s) (wakeQl (walk P N left) v s) refl refl refl refl refl refl refl
+              (length-tallying tapeBytes tally s (h .tallying) (h .samples) v low high now l n stay (h .ql));
           counting = counting-ext x s (wakeQl (walk P N left) v s) refl refl refl refl refl refl refl (h .counting);
           held = h .held;
           holds = h .holds;

@@ -24,6 +24,7 @@ use Rattle.tables.specs.Represents.{Represents}
 use Rattle.rows_laws.specs.Future.{keepHolder}
 use Rattle.state.specs.declared.scalars.Scalars.{Scalars}
 use Rattle.state.specs.Sane.{Sane}
+use Rattle.state.specs.Statistics.{behind, updateServer}
 use Rattle.state.specs.Stands.{Rows, rowsOf, Stands, Done}
 use Rattle.state.specs.Bare.{entering, waiting, bare, bareAnswer}
 use Rattle.moves.specs.Motion.{goOn, waitOn}
@@ -36,7 +37,7 @@ use Rattle.servers_laws.specs.Taking.{holdUnits, longer, queueUp, takeUn
 use Rattle.servers_laws.specs.Taking as Taking
 use Rattle.servers_laws.proofs.Named.{named}
 use Rattle.servers_laws.proofs.Tallies.{queued-tallying}
-use Rattle.servers_laws.proofs.Ready.{Ready, set-ready, keep-ready, ready-done}
+use Rattle.servers_laws.proofs.Ready.{Ready, update-ready, update-current, set-ready, keep-ready, ready-done}
 use Rattle.servers_laws.proofs.Standing.{high, units-are, capacity-is, short, ready}
 
 module _ (m : BlockModel) (tape : List (List ℕ)) (tapeBytes tables lists : List ℕ) (proper : Proper m tape) (rep : Represents m tape tapeBytes tables lists)
@@ -64,13 +65,23 @@ module _ (m : BlockModel) (tape : List (List ℕ)) (tapeBytes tables lists : Lis
     ready′ : Ready tapeBytes x t v (server .inUse) (server .capacity) w tally s₀
     ready′ = ready m tape tapeBytes tables lists proper rep s sane r t stands v low there
 
+    -- its statistics are brought up to date
+    abbrev current : List ℕ
+    current = updateServer tally (v - 1) (x .clock)
+
+    ready-now : Ready tapeBytes x t v (server .inUse) (server .capacity) w current s₀
+    ready-now = update-ready tapeBytes x t v low high′ (server .inUse) (server .capacity) w tally s₀ ready′
+
+    now : behind current (v - 1) ≡ false
+    now = update-current tapeBytes x t v low high′ (server .inUse) (server .capacity) w tally s₀ ready′
+
     -- it enters
     hold-done : Done tapeBytes (holdUnits w tally x (v - 1) (server .inUse + b) who (x .moving) (bit preempts) (server .capacity)) (entering (Moves.goOn t (Execute.checkWels v (Moves.setUse v (server .inUse + b) who preempts s₀))))
     unfolding holdUnits
     hold-done =
-        ready-done tapeBytes x t v low high′ (server .inUse + b) (server .capacity) (keepHolder w (v - 1) (x .moving)) (setUse tally (v - 1) (server .inUse + b) who (bit preempts)) (Moves.setUse v (server .inUse + b) who preempts s₀)
-        (keep-ready tapeBytes x t v low high′ (server .inUse + b) (server .capacity) w (setUse tally (v - 1) (server .inUse + b) who (bit preempts)) (Moves.setUse v (server .inUse + b) who preempts s₀)
-        (set-ready tapeBytes x t v low high′ (server .inUse) (server .capacity) w tally s₀ ready′ (server .inUse + b) who preempts) (x .moving))
+        ready-done tapeBytes x t v low high′ (server .inUse + b) (server .capacity) (keepHolder w (v - 1) (x .moving)) (setUse current (v - 1) (server .inUse + b) who (bit preempts)) (Moves.setUse v (server .inUse + b) who preempts s₀)
+        (keep-ready tapeBytes x t v low high′ (server .inUse + b) (server .capacity) w (setUse current (v - 1) (server .inUse + b) who (bit preempts)) (Moves.setUse v (server .inUse + b) who preempts s₀)
+        (set-ready tapeBytes x t v low high′ (server .inUse) (server .capacity) w current s₀ ready-now now (server .inUse + b) who preempts) (x .moving))
         (next-low proper t s sane moving)
 
     -- it waits on the QL, which is in order under edition 1
@@ -80,11 +91,11 @@ module _ (m : BlockModel) (tape : List (List ℕ)) (tapeBytes tables lists : Lis
     queue-done : Done tapeBytes (queueUp w tally x (v - 1) (m .edition)) (waiting (Moves.toQl (m .edition) v) t s₀)
     unfolding queueUp
     queue-done =
-        waits-done tapeBytes (longer tally (v - 1)) (waitOn w x (v - 1) (m .edition)) (waiting (Moves.toQl (m .edition) v) t s₀)
+        waits-done tapeBytes (longer current (v - 1)) (waitOn w x (v - 1) (m .edition)) (waiting (Moves.toQl (m .edition) v) t s₀)
         (wait-on-waits (m .edition) (v - 1) (omega arith) (Moves.toQl (m .edition) v) w x t s₀ refl (ready′ .listing) (ready′ .counting) (omega (arith, sane .serials))
         (puts-ql (m .edition) v s₀ (omega arith) (ready′ .ql) sorted)
         (puts-ql (m .edition) v (setSerial (suc (s .serial)) s₀) (omega arith) (ready′ .ql) sorted))
-        (queued-tallying tapeBytes tally s₀ (ready′ .tallying) (ready′ .samples) v low high′ (ready′ .ql) (short m tape tapeBytes tables lists proper rep s sane r t stands v low there) (m .edition) t)
+        (queued-tallying tapeBytes current s₀ (ready-now .tallying) (ready′ .samples) v low high′ now (ready′ .ql) (short m tape tapeBytes tables lists proper rep s sane r t stands v low there) (m .edition) t)
 
     pub take-done : Done tapeBytes (takeUnits tables w tally x (v - 1) b who (bit preempts))
         (cond (leb b (free server)) (entering (Moves.goOn t (Execute.checkWels v (Moves.setUse v (server .inUse + b) who preempts s₀)))) (waiting (Moves.toQl (m .edition) v) t s₀))

@@ -1,4 +1,4 @@
--- The tally follows a server's units, its holder, whether by PREEMPT, and the length of its QL.
+-- The tally follows a server's units, its holder, whether by PREEMPT, and the length of its QL, where its statistics are up to date.
 use Prim.Native.Nat.{ℕ, zero, suc, _+_, _-_, _≤_, _<_, min}
 use mathlib.Core.Path.{_≡_, refl, sym, ap, _∙_}
 use mathlib.Core.Logic.{_≢_}
@@ -17,9 +17,11 @@ use Rattle.machine.specs.Setters.{withUse, withSerial, setQl, setSerial}
 use Rattle.machine.specs.Moves as Moves
 use Rattle.machine.proofs.Sums.{sum-length}
 use Rattle.machine.proofs.Lines.{sum-lineUp}
+use Rattle.state.specs.Statistics.{behind, sumNow, longestNow}
 use Rattle.state.specs.Stands.{Tallying}
 use Rattle.state.specs.Bare.{Bare, waitsNote, noNote, waiting}
-use Rattle.state.proofs.StandsLaws.{tallying-ext, entries-set, queueing-set, sampling-set}
+use Rattle.state.proofs.StandsLaws.{tallying-ext, entries-set, pair-set, seen-set, queueing-set, sampling-set}
+use Rattle.state.proofs.StatisticsLaws.{SamePair, behind-same, sum-same, longest-same, sum-moved, longest-moved}
 use Rattle.servers_laws.specs.Units.{setUse}
 use Rattle.servers_laws.specs.Waking.{shorter}
 use Rattle.servers_laws.specs.Taking.{longer}
@@ -40,7 +42,14 @@ line-length edition t l = omega (arith, sum-lineUp (λ u. 1) edition t l, sum-le
 
 -- ---- The cells of each kind
 
-module _ (tapeBytes tally : List ℕ) (s : State) (h : Tallying tapeBytes tally s) (few : length (s .samples) ≤ 16) (v : ℕ) (low : 1 ≤ v) (high : v ≤ 64) where
+module _ (tapeBytes tally : List ℕ) (s : State) (h : Tallying tapeBytes tally s) (few : length (s .samples) ≤ 16) (v : ℕ) (low : 1 ≤ v) (high : v ≤ 64)
+    (now : behind tally (v - 1) ≡ false) where
+  abbrev clock : ℕ
+  clock = s .view .clock
+
+  at-clock : getD tally (1088 + (v - 1)) 0 ≡ clock
+  at-clock = h .seen .current (v - 1) (omega arith) now
+
   -- so many units are in use, who holds it, and whether by PREEMPT
   module _ (units who : ℕ) (preempts : Bool) (there : v - 1 < length (s .view .servers)) where
     abbrev i : ℕ
@@ -88,11 +97,30 @@ module _ (tapeBytes tally : List ℕ) (s : State) (h : Tallying tapeBytes tally 
             let k = apart u hu d in
             other (base + u) (k .0) (k .1) (k .2) ∙ was u hu ∙ sym (ap f (getD-set-other (s .view .servers) (v - 1) u server′ (idleServer 0) d))
 
-    -- the cells of one that stays
-    kept-cell : (base : ℕ) (f : Server → ℕ) → 576 ≤ base → base + 64 ≤ 960 → f server′ ≡ f server
-        → ((u : ℕ) → u < 64 → getD tally (base + u) 0 ≡ f (getD (s .view .servers) u (idleServer 0))) → (u : ℕ) → u < 64 → getD all (base + u) 0 ≡ f (getD servers′ u (idleServer 0))
-    kept-cell base f from to e was u hu =
-        other (base + u) (λ e. omega arith) (λ e. omega arith) (λ e. omega arith) ∙ was u hu ∙ sym (field-kept f (s .view .servers) (v - 1) server′ (idleServer 0) e u)
+    -- the pairs stay
+    pair : (j : ℕ) → SamePair tally all j
+    pair j =
+        record {
+          clock = other (1088 + j) (λ e. omega arith) (λ e. omega arith) (λ e. omega arith);
+          moves = other (1184 + j) (λ e. omega arith) (λ e. omega arith) (λ e. omega arith);
+          all = other 1280 (λ e. omega arith) (λ e. omega arith) (λ e. omega arith);
+        }
+
+    -- cells between them stay
+    mid : (j : ℕ) → 576 ≤ j → j < 960 → getD all j 0 ≡ getD tally j 0
+    mid j a b = other j (λ e. omega arith) (λ e. omega arith) (λ e. omega arith)
+
+    unit-sum : (u : ℕ) → u < 64 → Dec (u ≡ v - 1) → sumNow all (576 + u) (512 + u) u clock ≡ sumNow tally (576 + u) (512 + u) u clock
+    unit-sum u hu (yes e) = rw e (sum-moved tally all (v - 1) (pair (v - 1)) (576 + (v - 1)) i (mid (576 + (v - 1)) (omega arith) (omega arith)) clock at-clock)
+    unit-sum u hu (no d) =
+        sum-same tally all u (pair u) (576 + u) (512 + u) clock (mid (576 + u) (omega arith) (omega arith)) (other (512 + u) (λ e. d (omega arith)) (λ e. omega arith) (λ e. omega arith))
+
+    pub units-current : behind (setUse tally (v - 1) units who (bit preempts)) (v - 1) ≡ false
+    units-current = behind-same tally all (v - 1) (pair (v - 1)) ∙ now
+
+    -- what the change leaves of each server
+    kept : (f : Server → ℕ) → f server′ ≡ f server → (u : ℕ) → f (getD (s .view .servers) u (idleServer 0)) ≡ f (getD servers′ u (idleServer 0))
+    kept f e u = sym (field-kept f (s .view .servers) (v - 1) server′ (idleServer 0) e u)
 
     pub units-tallying : Tallying tapeBytes (setUse tally (v - 1) units who (bit preempts)) (Moves.setUse v units who preempts s)
     unfolding Moves.setUse Term.serverAt
@@ -102,6 +130,9 @@ module _ (tapeBytes tally : List ℕ) (s : State) (h : Tallying tapeBytes tally 
           entries =
               entries-set two z (bit preempts) (s .view .entries) (omega arith)
               (entries-set one o who (s .view .entries) (omega arith) (entries-set tally i units (s .view .entries) (omega arith) (h .entries)));
+          seen =
+              seen-set two z (bit preempts) clock (s .turns) (omega arith)
+              (seen-set one o who clock (s .turns) (omega arith) (seen-set tally i units clock (s .turns) (omega arith) (h .seen)));
           servers =
               record {
                 in-use =
@@ -115,15 +146,19 @@ module _ (tapeBytes tally : List ℕ) (s : State) (h : Tallying tapeBytes tally 
                 preempts =
                     set-cell 1024 (λ x. bit (x .preempted)) (h .servers .preempts) (getD-set-same two z (bit preempts) 0 (omega (arith, h .size, size₂)))
                     (λ u hu d. (λ e. omega arith, λ e. omega arith, λ e. d (omega arith)));
-                unit-ticks = kept-cell 576 (λ x. x .unitTicks) (omega arith) (omega arith) refl (h .servers .unit-ticks);
-                wait-ticks = kept-cell 640 (λ x. x .waitTicks) (omega arith) (omega arith) refl (h .servers .wait-ticks);
-                longest = kept-cell 704 (λ x. x .longest) (omega arith) (omega arith) refl (h .servers .longest);
+                unit-ticks = λ u hu. unit-sum u hu (ℕ-discrete u (v - 1)) ∙ h .servers .unit-ticks u hu ∙ kept (λ x. x .unitTicks) refl u;
+                wait-ticks = λ u hu.
+                    sum-same tally all u (pair u) (640 + u) (768 + u) clock (mid (640 + u) (omega arith) (omega arith)) (mid (768 + u) (omega arith) (omega arith)) ∙ h .servers .wait-ticks u hu
+                    ∙ kept (λ x. x .waitTicks) refl u;
+                longest = λ u hu.
+                    longest-same tally all u (pair u) (704 + u) (768 + u) (mid (704 + u) (omega arith) (omega arith)) (mid (768 + u) (omega arith) (omega arith)) ∙ h .servers .longest u hu
+                    ∙ kept (λ x. x .longest) refl u;
                 waiting = λ u hu. other (768 + u) (λ e. omega arith) (λ e. omega arith) (λ e. omega arith) ∙ h .servers .waiting u hu;
               };
           queues =
-              queueing-set two z (bit preempts) (s .view .queues) (λ j a b e. omega arith)
-              (queueing-set one o who (s .view .queues) (λ j a b e. omega arith)
-              (queueing-set tally i units (s .view .queues) (λ j a b e. omega arith) (h .queues)));
+              queueing-set two z (bit preempts) clock (s .view .queues) (omega arith) (λ j a b e. omega arith)
+              (queueing-set one o who clock (s .view .queues) (omega arith) (λ j a b e. omega arith)
+              (queueing-set tally i units clock (s .view .queues) (omega arith) (λ j a b e. omega arith) (h .queues)));
           samples =
               sampling-set two z (bit preempts) tapeBytes (s .samples) few (λ j a b e. omega arith)
               (sampling-set one o who tapeBytes (s .samples) few (λ j a b e. omega arith)
@@ -148,22 +183,37 @@ module _ (tapeBytes tally : List ℕ) (s : State) (h : Tallying tapeBytes tally 
         go (no d) =
             apart (768 + u) (λ f. d (omega arith)) ∙ h .servers .waiting u hu ∙ sym (ap length (getD-set-other (s .ql) (v - 1) u l [] d))
 
+    pair-kept : (j : ℕ) → SamePair tally (set tally k n) j
+    pair-kept j = pair-set tally k n (omega arith) j
+
+    wait-sum : (u : ℕ) → u < 64 → Dec (u ≡ v - 1) → sumNow (set tally k n) (640 + u) (768 + u) u clock ≡ sumNow tally (640 + u) (768 + u) u clock
+    wait-sum u hu (yes f) = rw f (sum-moved tally (set tally k n) (v - 1) (pair-kept (v - 1)) (640 + (v - 1)) k (apart (640 + (v - 1)) (λ g. omega arith)) clock at-clock)
+    wait-sum u hu (no d) =
+        sum-same tally (set tally k n) u (pair-kept u) (640 + u) (768 + u) clock (apart (640 + u) (λ g. omega arith)) (apart (768 + u) (λ g. d (omega arith)))
+
+    longest-cell : (u : ℕ) → u < 64 → Dec (u ≡ v - 1) → longestNow (set tally k n) (704 + u) (768 + u) u ≡ longestNow tally (704 + u) (768 + u) u
+    longest-cell u hu (yes f) = rw f (longest-moved tally (set tally k n) (v - 1) (pair-kept (v - 1)) (704 + (v - 1)) k (apart (704 + (v - 1)) (λ g. omega arith)) now)
+    longest-cell u hu (no d) =
+        longest-same tally (set tally k n) u (pair-kept u) (704 + u) (768 + u) (apart (704 + u) (λ g. omega arith)) (apart (768 + u) (λ g. d (omega arith)))
+
     pub length-tallying : Tallying tapeBytes (set tally k n) (setQl (set (s .ql) (v - 1) l) s)
     length-tallying =
         record {
           size = length-set tally k n ∙ h .size;
           entries = entries-set tally k n (s .view .entries) (omega arith) (h .entries);
+          seen = seen-set tally k n clock (s .turns) (omega arith) (h .seen);
           servers =
               record {
                 in-use = λ u hu. apart (512 + u) (λ f. omega arith) ∙ h .servers .in-use u hu;
                 holders = λ u hu. apart (960 + u) (λ f. omega arith) ∙ h .servers .holders u hu;
                 preempts = λ u hu. apart (1024 + u) (λ f. omega arith) ∙ h .servers .preempts u hu;
-                unit-ticks = λ u hu. apart (576 + u) (λ f. omega arith) ∙ h .servers .unit-ticks u hu;
-                wait-ticks = λ u hu. apart (640 + u) (λ f. omega arith) ∙ h .servers .wait-ticks u hu;
-                longest = λ u hu. apart (704 + u) (λ f. omega arith) ∙ h .servers .longest u hu;
+                unit-ticks = λ u hu.
+                    sum-same tally (set tally k n) u (pair-kept u) (576 + u) (512 + u) clock (apart (576 + u) (λ f. omega arith)) (apart (512 + u) (λ f. omega arith)) ∙ h .servers .unit-ticks u hu;
+                wait-ticks = λ u hu. wait-sum u hu (ℕ-discrete u (v - 1)) ∙ h .servers .wait-ticks u hu;
+                longest = λ u hu. longest-cell u hu (ℕ-discrete u (v - 1)) ∙ h .servers .longest u hu;
                 waiting = length-cell;
               };
-          queues = queueing-set tally k n (s .view .queues) (λ j a b f. omega arith) (h .queues);
+          queues = queueing-set tally k n clock (s .view .queues) (omega arith) (λ j a b f. omega arith) (h .queues);
           samples = sampling-set tally k n tapeBytes (s .samples) few (λ j a b f. omega arith) (h .samples);
         }
 
@@ -178,7 +228,7 @@ module _ (tapeBytes tally : List ℕ) (s : State) (h : Tallying tapeBytes tally 
     unfolding shorter Moves.wakeQl
     first-tallying =
         let l : List Transaction = drop 1 (Moves.qlOf s v) in
-        tallying-ext tapeBytes (shorter tally (v - 1)) (setQl (set (s .ql) (v - 1) l) s) (Moves.wakeQl Moves.firstOf v s) refl refl refl refl refl
+        tallying-ext tapeBytes (shorter tally (v - 1)) (setQl (set (s .ql) (v - 1) l) s) (Moves.wakeQl Moves.firstOf v s) refl refl refl refl refl refl refl
         (length-tallying l (getD tally (768 + (v - 1)) 0 - 1) (ap (λ (n : ℕ). n - 1) ql-length ∙ sym (length-drop 1 (Moves.qlOf s v))) there)
 
     -- one more waits
@@ -196,5 +246,5 @@ module _ (tapeBytes tally : List ℕ) (s : State) (h : Tallying tapeBytes tally 
           go : (b : Bool) → Tallying tapeBytes (longer tally (v - 1)) (cond {A = Bare} b (record { note = noNote; state = Moves.toQl edition v t s }) (record { note = waitsNote; state = Moves.toQl edition v u (setSerial (Moves.fresh s) s) }) .state)
           go true = length-tallying (Moves.lineUp edition t (Moves.qlOf s v)) _ (one-more edition t) there
           go false =
-              tallying-ext tapeBytes (longer tally (v - 1)) (setQl (set (s .ql) (v - 1) (Moves.lineUp edition u (Moves.qlOf s v))) s) (Moves.toQl edition v u (setSerial (Moves.fresh s) s)) refl refl refl refl refl
+              tallying-ext tapeBytes (longer tally (v - 1)) (setQl (set (s .ql) (v - 1) (Moves.lineUp edition u (Moves.qlOf s v))) s) (Moves.toQl edition v u (setSerial (Moves.fresh s) s)) refl refl refl refl refl refl refl
               (length-tallying (Moves.lineUp edition u (Moves.qlOf s v)) _ (one-more edition u) there)

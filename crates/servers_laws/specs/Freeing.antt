@@ -11,7 +11,7 @@ use Rattle.rows_laws.specs.Wake.{wakeFirst, wakeWalk}
 use Rattle.state.specs.declared.scalars.Scalars.{Scalars}
 use Rattle.state.specs.Stands.{Rows, rowsOf}
 use Rattle.moves.specs.Motion.{Moved, withTally, goOn, stopped}
-use Rattle.servers_laws.specs.Units.{serverAt, inUse, holder, preempted, setUse, capacity}
+use Rattle.servers_laws.specs.Units.{serverAt, inUse, holder, preempted, changeUse, capacity}
 use Rattle.servers_laws.specs.Waking.{checkWels, shorter, memberFits, leaveWith, memberLeft, steps, wakeStays}
 
 -- it enters, and so many units are in use
@@ -20,7 +20,7 @@ enterFreed w x v units all = goOn (checkWels w v units all) x
 
 unfoldable pub freeOne : List ℕ → List ℕ → List ℕ → Scalars → (v units : ℕ) → Rows
 freeOne tables w tally x v units =
-    withTally (enterFreed (wakeFirst w v) x v units (capacity tables v)) (shorter (setUse tally v units 0 0) v)
+    withTally (enterFreed (wakeFirst w v) x v units (capacity tables v)) (shorter (changeUse tally v (x .clock) units 0 0) v)
 
 -- whom a LEAVE of b units wakes, where so many are in use then
 unfoldable pub freeSome : List ℕ → List ℕ → List ℕ → Scalars → (v units b : ℕ) → Rows
@@ -28,7 +28,7 @@ freeSome tables w tally x v units b =
     let edition : ℕ = getD tables Layout.edition 0 in
     let left : ℕ = leaveWith edition (capacity tables v - units) b in
     withTally (enterFreed (wakeWalk (memberFits tables) (memberLeft tables edition) steps left w v (head v)) x v units (capacity tables v))
-    (set (setUse tally v units 0 0) (Layout.qlLength + v) (wakeStays (memberFits tables) (memberLeft tables edition) steps left w v (head v)))
+    (set (changeUse tally v (x .clock) units 0 0) (Layout.qlLength + v) (wakeStays (memberFits tables) (memberLeft tables edition) steps left w v (head v)))
 
 -- "Is f in use? 24."; document 02, item 6: "27 RELEASE by another than the holder, after 24"; item 11: "RELEASE of a
 -- preempted facility" 27

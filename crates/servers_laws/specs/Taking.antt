@@ -9,21 +9,22 @@ use Rattle.rows_laws.specs.Layout.{numberField}
 use Rattle.rows_laws.specs.Cells.{read}
 use Rattle.rows_laws.specs.Future.{keepHolder}
 use Rattle.state.specs.declared.scalars.Scalars.{Scalars}
+use Rattle.state.specs.Statistics.{updateServer}
 use Rattle.state.specs.Stands.{Rows}
 use Rattle.moves.specs.Motion.{withTally, goOn, waitOn}
-use Rattle.servers_laws.specs.Units.{serverAt, inUse, setUse, capacity}
+use Rattle.servers_laws.specs.Units.{serverAt, inUse, changeUse, capacity}
 use Rattle.servers_laws.specs.Waking.{checkWels}
 
--- it enters; so many units are in use, who holds the server, with its row k, and whether by PREEMPT
+-- it enters; so many units are in use from now on, who holds the server, with its row k, and whether by PREEMPT
 unfoldable pub holdUnits : List ℕ → List ℕ → Scalars → (v units who k preempts all : ℕ) → Rows
-holdUnits w tally x v units who k preempts all = withTally (goOn (checkWels (keepHolder w v k) v units all) x) (setUse tally v units who preempts)
+holdUnits w tally x v units who k preempts all = withTally (goOn (checkWels (keepHolder w v k) v units all) x) (changeUse tally v (x .clock) units who preempts)
 
 -- the QL is longer by one
 unfoldable pub longer : List ℕ → ℕ → List ℕ
 longer tally v = set tally (Layout.qlLength + v) (min (getD tally (Layout.qlLength + v) 0 + 1) Layout.most64)
 
 unfoldable pub queueUp : List ℕ → List ℕ → Scalars → (v edition : ℕ) → Rows
-queueUp w tally x v edition = withTally (waitOn w x v edition) (longer tally v)
+queueUp w tally x v edition = withTally (waitOn w x v edition) (longer (updateServer tally v (x .clock)) v)
 
 unfoldable pub takeUnits : List ℕ → List ℕ → List ℕ → Scalars → (v b who preempts : ℕ) → Rows
 takeUnits tables w tally x v b who preempts =

@@ -5,6 +5,7 @@ use mathlib.Core.List.{List}
 use lib.Dec.{ltb, eqb}
 use lib.ListN.{getD, set}
 use Rattle.tables.specs.Layout as Layout
+use Rattle.state.specs.Statistics.{updateServer}
 
 -- the server that a block names at an index of the tables
 unfoldable pub serverAt : List ℕ → ℕ → ℕ
@@ -23,6 +24,10 @@ preempted tally v = getD tally (Layout.preempted + v) 0
 
 abbrev pub setUse : List ℕ → (v units who preempts : ℕ) → List ℕ
 setUse tally v units who preempts = set (set (set tally (Layout.inUse + v) units) (Layout.holder + v) who) (Layout.preempted + v) preempts
+
+-- from now on: the server's statistics are brought up to date first
+abbrev pub changeUse : List ℕ → (v clock units who preempts : ℕ) → List ℕ
+changeUse tally v clock units who preempts = setUse (updateServer tally v clock) v units who preempts
 
 abbrev pub capacity : List ℕ → ℕ → ℕ
 capacity tables v = getD tables (Layout.capacities + v) 0

@@ -16,6 +16,7 @@ use Rattle.machine.specs.Moves as Moves
 use Rattle.machine.specs.Run.{startOf, startAt, idle, start}
 use Rattle.machine.proofs.Clocks.{Given, with-fresh}
 use Rattle.machine.proofs.Proper.{Names, ProperBlock, Proper}
+use Rattle.tables.specs.Layout.{tallySize}
 use Rattle.tables.specs.Forms.{blockForms}
 use Rattle.tables.specs.Numbers.{blockNumbers}
 use Rattle.tables.specs.Represents.{headerOf, Represents}
@@ -243,7 +244,7 @@ module _ (m : BlockModel) (tape : List (List ℕ)) (tapeBytes tables lists : Lis
       blocks-stand l (suc b) (beginBlock tables tapeBytes r b) (startOf x (suc b) s) (block-stands b (omega arith) r s h x is) (omega arith)
       (λ i hi. ap (λ (n : ℕ). blockAt m (suc n)) (omega arith) ∙ at (suc i) (omega arith))
 
-  module _ (w tally : List ℕ) (room : 16384 ≤ length w) (size : length tally ≡ 1088) (empty : (i : ℕ) → getD tally i 0 ≡ 0) where
+  module _ (w tally : List ℕ) (room : 16384 ≤ length w) (size : length tally ≡ tallySize) (empty : (i : ℕ) → getD tally i 0 ≡ 0) where
     abbrev r₀ : Rows
     r₀ = rowsOf (startScalars (m .counter)) (initial w) (listsSet 16 lists tally)
 

@@ -12,8 +12,11 @@ use Rattle.machine.specs.Term.{Server, idleServer, Queue, emptyQueue}
 use Rattle.machine.specs.Block.{BlockModel}
 use Rattle.machine.specs.Run.{idle}
 use Rattle.machine.proofs.Proper.{Proper}
+use Rattle.tables.specs.Layout as Layout
 use Rattle.tables.specs.Represents.{Represents}
-use Rattle.state.specs.Stands.{Serving, Queueing, Sampling, Tallying}
+use Rattle.state.specs.Statistics.{sumNow, longestNow}
+use Rattle.state.specs.Stands.{Seen, Serving, Queueing, Sampling, Tallying}
+use Rattle.state.proofs.StatisticsLaws.{sum-current, longest-current, seen-now}
 use Rattle.start.specs.Start.{listSet, listsSet}
 
 -- ---- Its numbers
@@ -35,8 +38,8 @@ module _ (lists tally : List ℕ) where
       ∙ getD-set-other (listsSet n lists tally) (928 + n) i (getD lists n 0) 0 (λ e. omega arith)
       ∙ lists-high n i (omega arith) h
 
-module _ (lists tally : List ℕ) (size : length tally ≡ 1088) where
-  lists-length : (n : ℕ) → length (listsSet n lists tally) ≡ 1088
+module _ (lists tally : List ℕ) (size : length tally ≡ Layout.tallySize) where
+  lists-length : (n : ℕ) → length (listsSet n lists tally) ≡ Layout.tallySize
   unfolding listsSet listSet
   lists-length zero = size
   lists-length (suc n) =
@@ -90,7 +93,7 @@ idle-at (suc f) l (suc v) = idle-at f l v
 
 -- ---- All of it
 
-module _ (m : BlockModel) (tape : List (List ℕ)) (tapeBytes tables lists tally : List ℕ) (proper : Proper m tape) (rep : Represents m tape tapeBytes tables lists) (size : length tally ≡ 1088) (empty : (i : ℕ) → getD tally i 0 ≡ 0) where
+module _ (m : BlockModel) (tape : List (List ℕ)) (tapeBytes tables lists tally : List ℕ) (proper : Proper m tape) (rep : Represents m tape tapeBytes tables lists) (size : length tally ≡ Layout.tallySize) (empty : (i : ℕ) → getD tally i 0 ≡ 0) where
   zero-at : (i : ℕ) → i < 928 → getD (listsSet 16 lists tally) i 0 ≡ 0
   zero-at i h = lists-low lists tally 16 i h ∙ empty i
 
@@ -103,25 +106,45 @@ module _ (m : BlockModel) (tape : List (List ℕ)) (tapeBytes tables lists tally
   server : (v : ℕ) → Idle (getD servers v (idleServer 0))
   server v = idle-at (m .facilities) (m .capacities) v
 
-  serving : Serving (listsSet 16 lists tally) servers (replicate (m .facilities + length (m .capacities)) [])
+  high-at : (i : ℕ) → 960 ≤ i → getD (listsSet 16 lists tally) i 0 ≡ 0
+  high-at i h = lists-high lists tally 16 i (omega arith) h ∙ empty i
+
+  -- nothing has passed
+  no-sum : (at from i : ℕ) → at < 928 → sumNow (listsSet 16 lists tally) at from i 0 ≡ 0
+  no-sum at from i h = sum-current (listsSet 16 lists tally) at from i 0 (high-at (1088 + i) (omega arith)) ∙ omega (arith, zero-at at h)
+
+  no-longest : (at from i : ℕ) → at < 928 → longestNow (listsSet 16 lists tally) at from i ≡ 0
+  no-longest at from i h =
+      longest-current (listsSet 16 lists tally) at from i (seen-now (listsSet 16 lists tally) i (high-at (1184 + i) (omega arith) ∙ sym (high-at 1280 (omega arith)))) ∙ zero-at at h
+
+  seen : Seen (listsSet 16 lists tally) 0 0
+  seen =
+      record {
+        moves = omega (arith, high-at 1280 (omega arith));
+        before = λ i hi. omega (arith, high-at (1184 + i) (omega arith));
+        clocks = λ i hi. omega (arith, high-at (1088 + i) (omega arith));
+        current = λ i hi n. high-at (1088 + i) (omega arith);
+      }
+
+  serving : Serving (listsSet 16 lists tally) 0 servers (replicate (m .facilities + length (m .capacities)) [])
   serving =
       record {
         in-use = λ v hv. zero-at (512 + v) (omega arith) ∙ sym (server v .in-use);
-        holders = λ v hv. lists-high lists tally 16 (960 + v) (omega arith) (omega arith) ∙ empty (960 + v) ∙ sym (server v .holder);
-        preempts = λ v hv. lists-high lists tally 16 (1024 + v) (omega arith) (omega arith) ∙ empty (1024 + v) ∙ sym (ap bit (server v .preempted));
-        unit-ticks = λ v hv. zero-at (576 + v) (omega arith) ∙ sym (server v .unit-ticks);
-        wait-ticks = λ v hv. zero-at (640 + v) (omega arith) ∙ sym (server v .wait-ticks);
-        longest = λ v hv. zero-at (704 + v) (omega arith) ∙ sym (server v .longest);
+        holders = λ v hv. high-at (960 + v) (omega arith) ∙ sym (server v .holder);
+        preempts = λ v hv. high-at (1024 + v) (omega arith) ∙ sym (ap bit (server v .preempted));
+        unit-ticks = λ v hv. no-sum (576 + v) (512 + v) v (omega arith) ∙ sym (server v .unit-ticks);
+        wait-ticks = λ v hv. no-sum (640 + v) (768 + v) v (omega arith) ∙ sym (server v .wait-ticks);
+        longest = λ v hv. no-longest (704 + v) (768 + v) v (omega arith) ∙ sym (server v .longest);
         waiting = λ v hv. zero-at (768 + v) (omega arith) ∙ sym (ap length (same-at (m .facilities + length (m .capacities)) v []));
       }
 
-  queueing : Queueing (listsSet 16 lists tally) (replicate (m .queues) emptyQueue)
+  queueing : Queueing (listsSet 16 lists tally) 0 (replicate (m .queues) emptyQueue)
   unfolding emptyQueue
   queueing =
       record {
         contents = λ q hq. zero-at (832 + q) (omega arith) ∙ sym (ap (λ (x : Queue). x .content) (same-at (m .queues) q emptyQueue));
-        content-ticks = λ q hq. zero-at (864 + q) (omega arith) ∙ sym (ap (λ (x : Queue). x .contentTicks) (same-at (m .queues) q emptyQueue));
-        longest = λ q hq. zero-at (896 + q) (omega arith) ∙ sym (ap (λ (x : Queue). x .longest) (same-at (m .queues) q emptyQueue));
+        content-ticks = λ q hq. no-sum (864 + q) (832 + q) (64 + q) (omega arith) ∙ sym (ap (λ (x : Queue). x .contentTicks) (same-at (m .queues) q emptyQueue));
+        longest = λ q hq. no-longest (896 + q) (832 + q) (64 + q) (omega arith) ∙ sym (ap (λ (x : Queue). x .longest) (same-at (m .queues) q emptyQueue));
       }
 
   sampling : Sampling tapeBytes (listsSet 16 lists tally) tape
@@ -131,7 +154,7 @@ module _ (m : BlockModel) (tape : List (List ℕ)) (tapeBytes tables lists tally
         left = λ l hl. list-at l hl .1 ∙ rep .counts l hl;
       }
 
-  start-size : length (listsSet 16 lists tally) ≡ 1088
+  start-size : length (listsSet 16 lists tally) ≡ Layout.tallySize
   start-size = lists-length lists tally size 16
 
   pub idle-tallying : Tallying tapeBytes (listsSet 16 lists tally) (idle m tape)
@@ -140,6 +163,7 @@ module _ (m : BlockModel) (tape : List (List ℕ)) (tapeBytes tables lists tally
       record {
         size = start-size;
         entries = λ b hb. zero-at (0 + b) (omega arith) ∙ sym (same-at (length (m .blocks)) b 0);
+        seen = seen;
         servers = serving;
         queues = queueing;
         samples = sampling;

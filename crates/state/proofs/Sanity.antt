@@ -126,6 +126,7 @@ module _ {m : BlockModel} {n : ℕ} (s : State) (shape : Shape m s) (placed : Ev
         placed = placed;
         waits = waits;
         timely = timely;
+        ahead = h .ahead .later;
         samples = h .samples;
         serials = serials;
         made = h .made;
@@ -386,6 +387,7 @@ sane-turns n e s more few k =
       placed = record { ql = k .placed .ql; wel = k .placed .wel; wsl = k .placed .wsl; rel = k .placed .rel; fel = k .placed .fel; gatherers = k .placed .gatherers; interrupted = k .placed .interrupted; moving = k .placed .moving };
       waits = k .waits;
       timely = record { clock = k .timely .clock; times = k .timely .times; remaining = k .timely .remaining; serials = k .timely .serials };
+      ahead = k .ahead;
       samples = k .samples;
       serials = k .serials;
       made = k .made;

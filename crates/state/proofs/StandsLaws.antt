@@ -1,7 +1,7 @@
 -- What the relation reads of a state, and single changes that it follows. Lists, tally and scalars each have their own laws, so
 -- that a block's law puts them together as its effect needs.
 use Prim.Native.Nat.{ℕ, _+_, _-_, _/_, _%_, _≤_, _<_}
-use mathlib.Core.Path.{_≡_, refl, ap, _∙_, subst}
+use mathlib.Core.Path.{_≡_, refl, sym, ap, _∙_, subst}
 use mathlib.Core.Logic.{_≢_}
 use mathlib.Core.List.{List}
 use mathlib.Core.Option.{Option, none, some}
@@ -33,7 +33,8 @@ use Rattle.rows_laws.proofs.LiningUp.{lined}
 use Rattle.rows_laws.proofs.Steady.{Steady, steady-transaction}
 use Rattle.rows_laws.proofs.Population.{free-kept}
 use Rattle.state.specs.declared.scalars.Scalars.{Scalars}
-use Rattle.state.specs.Stands.{Rows, rowsOf, listsOf, Moving, Listing, Serving, Queueing, Sampling, Tallying, Counting, Stands}
+use Rattle.state.proofs.StatisticsLaws.{SamePair, behind-same, sum-same, longest-same}
+use Rattle.state.specs.Stands.{Rows, rowsOf, listsOf, Moving, Listing, Seen, Serving, Queueing, Sampling, Tallying, Counting, Stands}
 
 -- ---- Lists
 
@@ -134,16 +135,22 @@ listing-steady w w′ k o s s′ shows steady living h =
 
 -- ---- Tally
 
--- a state with the same entries, servers, lengths of QLs, queues and samples
+-- a state with the same entries, servers, lengths of QLs, queues and samples, at the same clock and turn
 pub tallying-ext : (tapeBytes tally : List ℕ) (s s′ : State)
     → s .view .entries ≡ s′ .view .entries → s .view .servers ≡ s′ .view .servers → s .ql ≡ s′ .ql → s .view .queues ≡ s′ .view .queues → s .samples ≡ s′ .samples
+    → s .view .clock ≡ s′ .view .clock → s .turns ≡ s′ .turns
     → Tallying tapeBytes tally s → Tallying tapeBytes tally s′
-tallying-ext tapeBytes tally s s′ e v l q p h =
+tallying-ext tapeBytes tally s s′ e v l q p c n h =
     record {
       size = h .size;
       entries = subst (λ (x : List ℕ). (b : ℕ) → b < 256 → getD tally (Layout.entries + b) 0 ≡ getD x b 0) e (h .entries);
-      servers = subst (λ (x : List Server). Serving tally x (s′ .ql)) v (subst (λ (x : List (List Transaction)). Serving tally (s .view .servers) x) l (h .servers));
-      queues = subst (λ (x : List Queue). Queueing tally x) q (h .queues);
+      seen = subst (λ (x : ℕ). Seen tally (s′ .view .clock) x) n (subst (λ (x : ℕ). Seen tally x (s .turns)) c (h .seen));
+      servers =
+          subst (λ (x : List Server). Serving tally (s′ .view .clock) x (s′ .ql)) v
+          (subst (λ (x : List (List Transaction)). Serving tally (s′ .view .clock) (s .view .servers) x) l
+          (subst (λ (x : ℕ). Serving tally x (s .view .servers) (s .ql)) c (h .servers)));
+      queues =
+          subst (λ (x : List Queue). Queueing tally (s′ .view .clock) x) q (subst (λ (x : ℕ). Queueing tally x (s .view .queues)) c (h .queues));
       samples = subst (λ (x : List (List ℕ)). Sampling tapeBytes tally x) p (h .samples);
     }
 
@@ -155,24 +162,51 @@ module _ (tally : List ℕ) (i x : ℕ) where
   pub entries-set : (l : List ℕ) → 256 ≤ i → ((b : ℕ) → b < 256 → getD tally (Layout.entries + b) 0 ≡ getD l b 0) → (b : ℕ) → b < 256 → getD (set tally i x) (Layout.entries + b) 0 ≡ getD l b 0
   entries-set l h e b hb = other (Layout.entries + b) (λ z. omega arith) ∙ e b hb
 
-  pub serving-set : (servers : List Server) (ql : List (List Transaction)) → ((j : ℕ) → 512 ≤ j → j < 832 → j ≢ i) → ((v : ℕ) → 960 + v ≢ i) → Serving tally servers ql → Serving (set tally i x) servers ql
-  serving-set servers ql apart held h =
+  pub pair-set : i < 1088 → (j : ℕ) → SamePair tally (set tally i x) j
+  pair-set low j =
+      record {
+        clock = other (1088 + j) (λ e. omega arith);
+        moves = other (1184 + j) (λ e. omega arith);
+        all = other 1280 (λ e. omega arith);
+      }
+
+  pub seen-set : (clock turns : ℕ) → i < 1088 → Seen tally clock turns → Seen (set tally i x) clock turns
+  seen-set clock turns low h =
+      record {
+        moves = omega (arith, other 1280 (λ e. omega arith), h .moves);
+        before = λ j hj. omega (arith, pair-set low j .moves, pair-set low j .all, h .before j hj);
+        clocks = λ j hj. omega (arith, pair-set low j .clock, h .clocks j hj);
+        current = λ j hj n. pair-set low j .clock ∙ h .current j hj (sym (behind-same tally (set tally i x) j (pair-set low j)) ∙ n);
+      }
+
+  pub serving-set : (clock : ℕ) (servers : List Server) (ql : List (List Transaction)) → i < 960 → ((j : ℕ) → 512 ≤ j → j < 832 → j ≢ i) → Serving tally clock servers ql → Serving (set tally i x) clock servers ql
+  serving-set clock servers ql low apart h =
       record {
         in-use = λ v hv. other (512 + v) (apart (512 + v) (omega arith) (omega arith)) ∙ h .in-use v hv;
-        holders = λ v hv. other (960 + v) (held v) ∙ h .holders v hv;
-        preempts = λ v hv. other (1024 + v) (λ e. held (64 + v) (omega arith)) ∙ h .preempts v hv;
-        unit-ticks = λ v hv. other (576 + v) (apart (576 + v) (omega arith) (omega arith)) ∙ h .unit-ticks v hv;
-        wait-ticks = λ v hv. other (640 + v) (apart (640 + v) (omega arith) (omega arith)) ∙ h .wait-ticks v hv;
-        longest = λ v hv. other (704 + v) (apart (704 + v) (omega arith) (omega arith)) ∙ h .longest v hv;
+        holders = λ v hv. other (960 + v) (λ e. omega arith) ∙ h .holders v hv;
+        preempts = λ v hv. other (1024 + v) (λ e. omega arith) ∙ h .preempts v hv;
+        unit-ticks = λ v hv.
+            sum-same tally (set tally i x) v (pair-set (omega arith) v) (576 + v) (512 + v) clock (other (576 + v) (apart (576 + v) (omega arith) (omega arith))) (other (512 + v) (apart (512 + v) (omega arith) (omega arith)))
+            ∙ h .unit-ticks v hv;
+        wait-ticks = λ v hv.
+            sum-same tally (set tally i x) v (pair-set (omega arith) v) (640 + v) (768 + v) clock (other (640 + v) (apart (640 + v) (omega arith) (omega arith))) (other (768 + v) (apart (768 + v) (omega arith) (omega arith)))
+            ∙ h .wait-ticks v hv;
+        longest = λ v hv.
+            longest-same tally (set tally i x) v (pair-set (omega arith) v) (704 + v) (768 + v) (other (704 + v) (apart (704 + v) (omega arith) (omega arith))) (other (768 + v) (apart (768 + v) (omega arith) (omega arith)))
+            ∙ h .longest v hv;
         waiting = λ v hv. other (768 + v) (apart (768 + v) (omega arith) (omega arith)) ∙ h .waiting v hv;
       }
 
-  pub queueing-set : (queues : List Queue) → ((j : ℕ) → 832 ≤ j → j < 928 → j ≢ i) → Queueing tally queues → Queueing (set tally i x) queues
-  queueing-set queues apart h =
+  pub queueing-set : (clock : ℕ) (queues : List Queue) → i < 1088 → ((j : ℕ) → 832 ≤ j → j < 928 → j ≢ i) → Queueing tally clock queues → Queueing (set tally i x) clock queues
+  queueing-set clock queues low apart h =
       record {
         contents = λ q hq. other (832 + q) (apart (832 + q) (omega arith) (omega arith)) ∙ h .contents q hq;
-        content-ticks = λ q hq. other (864 + q) (apart (864 + q) (omega arith) (omega arith)) ∙ h .content-ticks q hq;
-        longest = λ q hq. other (896 + q) (apart (896 + q) (omega arith) (omega arith)) ∙ h .longest q hq;
+        content-ticks = λ q hq.
+            sum-same tally (set tally i x) (64 + q) (pair-set low (64 + q)) (864 + q) (832 + q) clock (other (864 + q) (apart (864 + q) (omega arith) (omega arith))) (other (832 + q) (apart (832 + q) (omega arith) (omega arith)))
+            ∙ h .content-ticks q hq;
+        longest = λ q hq.
+            longest-same tally (set tally i x) (64 + q) (pair-set low (64 + q)) (896 + q) (832 + q) (other (896 + q) (apart (896 + q) (omega arith) (omega arith))) (other (832 + q) (apart (832 + q) (omega arith) (omega arith)))
+            ∙ h .longest q hq;
       }
 
   pub sampling-set : (tapeBytes : List ℕ) (samples : List (List ℕ)) → length samples ≤ 16 → ((j : ℕ) → 928 ≤ j → j < 960 → j ≢ i) → Sampling tapeBytes tally samples → Sampling tapeBytes (set tally i x) samples
@@ -212,6 +246,6 @@ unfolding listsOf
 stands-moving tapeBytes r o p s h =
     record {
       listing = listing-ext (r .work) (r .scalars .moving) o s (setMoving p s) (λ q hq. refl) refl refl (h .listing);
-      tallying = tallying-ext tapeBytes (r .tally) s (setMoving p s) refl refl refl refl refl (h .tallying);
+      tallying = tallying-ext tapeBytes (r .tally) s (setMoving p s) refl refl refl refl refl refl refl (h .tallying);
       counting = counting-ext (r .scalars) s (setMoving p s) refl refl refl refl refl refl refl (h .counting);
     }

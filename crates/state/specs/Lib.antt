@@ -1,4 +1,5 @@
 pub mod Ticks
+pub mod Statistics
 pub mod Bare
 pub mod ScalarSetters
 pub mod Stands

@@ -7,6 +7,7 @@ use mathlib.Core.List.{[]}
 use lib.ListN.{length}
 use Rattle.machine.specs.Rules.{inForce}
 use Rattle.machine.specs.Limits.{maxTurns, maxCounter, maxLiving, maxCapacity}
+use Rattle.machine.specs.Transaction.{Event}
 use Rattle.machine.specs.Term.{Server, Queue, serverAt}
 use Rattle.machine.specs.Block.{facts, BlockModel, blockAt}
 use Rattle.machine.specs.State.{State}
@@ -26,6 +27,8 @@ pub record Sane (m : BlockModel) (s : State) : Type 0 where
   -- who waits where, and under edition 1 in which order
   pub waits : Waits m s
   pub timely : Timely (inForce .maxClock) s
+  -- no event lies behind the clock
+  pub ahead : Each (λ (e : Event). s .view .clock ≤ e .time) (s .fel)
   pub samples : Samples (inForce .maxTime) s
   -- serials stay below 100,000,000 through a turn; every transaction has had one
   pub serials : s .serial ≤ 100000000

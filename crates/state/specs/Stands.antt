@@ -1,8 +1,8 @@
 -- When scalars, work buffer and tally stand for a state of the machine. Every block kind's law is stated over this relation.
 -- The trace and the counts of records stand apart (crate turn, specs/Writes): a block's record is noted in one place.
-use Prim.Native.Nat.{ℕ, suc, _+_, _-_, _<_}
+use Prim.Native.Nat.{ℕ, suc, _+_, _-_, _<_, _≤_}
 use mathlib.Core.Path.{_≡_}
-use mathlib.Core.Bool.{cond}
+use mathlib.Core.Bool.{false, cond}
 use mathlib.Core.List.{List, [], map}
 use mathlib.Core.Option.{Option, none, some}
 use lib.Dec.{ltb, eqb}
@@ -20,6 +20,7 @@ use Rattle.rows_laws.specs.Holds.{transactionAt}
 use Rattle.rows_laws.specs.Shows.{Shows, Loose}
 use Rattle.rows_laws.specs.Layout.{free, rowCount, wels, wsl, rel, gatherers, interrupted}
 use Rattle.state.specs.declared.scalars.Scalars.{Scalars}
+use Rattle.state.specs.Statistics.{behind, sumNow, longestNow}
 use Rattle.state.specs.Bare.{Note, enteredNote, waitsNote, noNote, Bare}
 
 -- What a step of the engine leaves: its scalars and the numbers of the two buffers.
@@ -64,20 +65,28 @@ pub record Listing (work : List ℕ) (moving : ℕ) (o : Option Transaction) (s 
 
 -- ---- Tally
 
--- of all 64 servers; a server that is not there is idle
-pub record Serving (tally : List ℕ) (servers : List Server) (ql : List (List Transaction)) : Type 0 where
+-- of all servers and queues: they were brought up to date at no later clock and after no more clock moves, and at this clock where
+-- the clock has not moved since. There are no more clock moves than turns.
+pub record Seen (tally : List ℕ) (clock turns : ℕ) : Type 0 where
+  pub moves : getD tally Layout.clockMoves 0 ≤ turns
+  pub before : (i : ℕ) → i < Layout.measuredCount → getD tally (Layout.seenMoves + i) 0 ≤ getD tally Layout.clockMoves 0
+  pub clocks : (i : ℕ) → i < Layout.measuredCount → getD tally (Layout.seenClock + i) 0 ≤ clock
+  pub current : (i : ℕ) → i < Layout.measuredCount → behind tally i ≡ false → getD tally (Layout.seenClock + i) 0 ≡ clock
+
+-- of all 64 servers; a server that is not there is idle. Sums and longest are those of the tally brought up to date.
+pub record Serving (tally : List ℕ) (clock : ℕ) (servers : List Server) (ql : List (List Transaction)) : Type 0 where
   pub in-use : (v : ℕ) → v < Layout.serverCount → getD tally (Layout.inUse + v) 0 ≡ getD servers v (idleServer 0) .inUse
   pub holders : (v : ℕ) → v < Layout.serverCount → getD tally (Layout.holder + v) 0 ≡ getD servers v (idleServer 0) .holder
   pub preempts : (v : ℕ) → v < Layout.serverCount → getD tally (Layout.preempted + v) 0 ≡ bit (getD servers v (idleServer 0) .preempted)
-  pub unit-ticks : (v : ℕ) → v < Layout.serverCount → getD tally (Layout.unitTicks + v) 0 ≡ getD servers v (idleServer 0) .unitTicks
-  pub wait-ticks : (v : ℕ) → v < Layout.serverCount → getD tally (Layout.waitTicks + v) 0 ≡ getD servers v (idleServer 0) .waitTicks
-  pub longest : (v : ℕ) → v < Layout.serverCount → getD tally (Layout.longestQl + v) 0 ≡ getD servers v (idleServer 0) .longest
+  pub unit-ticks : (v : ℕ) → v < Layout.serverCount → sumNow tally (Layout.unitTicks + v) (Layout.inUse + v) v clock ≡ getD servers v (idleServer 0) .unitTicks
+  pub wait-ticks : (v : ℕ) → v < Layout.serverCount → sumNow tally (Layout.waitTicks + v) (Layout.qlLength + v) v clock ≡ getD servers v (idleServer 0) .waitTicks
+  pub longest : (v : ℕ) → v < Layout.serverCount → longestNow tally (Layout.longestQl + v) (Layout.qlLength + v) v ≡ getD servers v (idleServer 0) .longest
   pub waiting : (v : ℕ) → v < Layout.serverCount → getD tally (Layout.qlLength + v) 0 ≡ length (getD ql v [])
 
-pub record Queueing (tally : List ℕ) (queues : List Queue) : Type 0 where
+pub record Queueing (tally : List ℕ) (clock : ℕ) (queues : List Queue) : Type 0 where
   pub contents : (q : ℕ) → q < maxQueues → getD tally (Layout.content + q) 0 ≡ getD queues q emptyQueue .content
-  pub content-ticks : (q : ℕ) → q < maxQueues → getD tally (Layout.contentTicks + q) 0 ≡ getD queues q emptyQueue .contentTicks
-  pub longest : (q : ℕ) → q < maxQueues → getD tally (Layout.longestContent + q) 0 ≡ getD queues q emptyQueue .longest
+  pub content-ticks : (q : ℕ) → q < maxQueues → sumNow tally (Layout.contentTicks + q) (Layout.content + q) (Layout.serverCount + q) clock ≡ getD queues q emptyQueue .contentTicks
+  pub longest : (q : ℕ) → q < maxQueues → longestNow tally (Layout.longestContent + q) (Layout.content + q) (Layout.serverCount + q) ≡ getD queues q emptyQueue .longest
 
 pub record Sampling (tapeBytes tally : List ℕ) (samples : List (List ℕ)) : Type 0 where
   pub begins : (l : ℕ) → l < length samples → TimesAt tapeBytes (getD tally (Layout.listAt + l) 0) (getD samples l [])
@@ -86,8 +95,9 @@ pub record Sampling (tapeBytes tally : List ℕ) (samples : List (List ℕ)) : T
 pub record Tallying (tapeBytes tally : List ℕ) (s : State) : Type 0 where
   pub size : length tally ≡ Layout.tallySize
   pub entries : (b : ℕ) → b < maxBlocks → getD tally (Layout.entries + b) 0 ≡ getD (s .view .entries) b 0
-  pub servers : Serving tally (s .view .servers) (s .ql)
-  pub queues : Queueing tally (s .view .queues)
+  pub seen : Seen tally (s .view .clock) (s .turns)
+  pub servers : Serving tally (s .view .clock) (s .view .servers) (s .ql)
+  pub queues : Queueing tally (s .view .clock) (s .view .queues)
   pub samples : Sampling tapeBytes tally (s .samples)
 
 -- ---- Scalars

@@ -2,6 +2,7 @@
 // the tally (crate tables). specs/Stands says when the three stand for a state of the machine.
 mod arith;
 mod scalars;
+mod statistics;
 
 pub use arith::MOST_TICKS;
 pub use arith::less32;
@@ -14,3 +15,7 @@ pub use scalars::NO_RECORD;
 pub use scalars::NOBODY;
 pub use scalars::Scalars;
 pub use scalars::WAITS;
+pub use statistics::longest_now;
+pub use statistics::sum_now;
+pub use statistics::update_queue;
+pub use statistics::update_server;

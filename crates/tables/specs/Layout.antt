@@ -125,8 +125,23 @@ holder = 960
 abbrev pub preempted : ℕ
 preempted = 1024
 
+-- per server, and behind the 64 servers per queue: the clock when its statistics were last brought up to date, and how many clock
+-- moves there had been
+abbrev pub measuredCount : ℕ
+measuredCount = 96
+
+abbrev pub seenClock : ℕ
+seenClock = 1088
+
+abbrev pub seenMoves : ℕ
+seenMoves = 1184
+
+-- how many clock moves there have been
+abbrev pub clockMoves : ℕ
+clockMoves = 1280
+
 abbrev pub tallySize : ℕ
-tallySize = 1088
+tallySize = 1281
 
 -- ---- what decoding leaves of the tape: list k (from 0) begins at cell k, and cell 16 + k is its count
 

@@ -32,7 +32,7 @@ use Rattle.state.specs.ScalarSetters.{putUsed}
 use Rattle.state.specs.Sane.{Sane}
 use Rattle.state.specs.Stands.{Rows, rowsOf, listsOf, Tallying, Stands, noteOf}
 use Rattle.state.specs.Bare.{Note, logged, countEntry, noteAs}
-use Rattle.state.proofs.StandsLaws.{entries-set, serving-set, queueing-set, listing-ext}
+use Rattle.state.proofs.StandsLaws.{entries-set, seen-set, serving-set, queueing-set, listing-ext}
 use Rattle.state.proofs.Written.{atBlock, inOrder, bytes-cons, at-block-cons}
 use Rattle.turn.specs.Note.{Bytes, bytes, appended, appendRecord, cellOf, countRecord, Noted, noted, noteRecord}
 use Rattle.turn.specs.Writes.{Writes}
@@ -61,13 +61,14 @@ module _ (tapeBytes tally : List ℕ) (i n : ℕ) (low : i < 512) where
 
   counts-tallying : (s s′ : State) → ((b : ℕ) → b < 256 → getD (set tally i n) (Layout.entries + b) 0 ≡ getD (s′ .view .entries) b 0)
       → s .view .servers ≡ s′ .view .servers → s .ql ≡ s′ .ql → s .view .queues ≡ s′ .view .queues → s .samples ≡ s′ .samples
-      → Tallying tapeBytes tally s → Tallying tapeBytes (set tally i n) s′
-  counts-tallying s s′ entries v l q p h =
+      → s .view .clock ≡ s′ .view .clock → s .turns ≡ s′ .turns → Tallying tapeBytes tally s → Tallying tapeBytes (set tally i n) s′
+  counts-tallying s s′ entries v l q p c z h =
       record {
         size = length-set tally i n ∙ h .size;
         entries = entries;
-        servers = rw (← v, ← l) (serving-set tally i n (s .view .servers) (s .ql) (λ j a b. above j (omega arith)) (λ v. above (960 + v) (omega arith)) (h .servers));
-        queues = rw (← q) (queueing-set tally i n (s .view .queues) (λ j a b. above j (omega arith)) (h .queues));
+        seen = rw (← c, ← z) (seen-set tally i n (s .view .clock) (s .turns) (omega arith) (h .seen));
+        servers = rw (← c, ← v, ← l) (serving-set tally i n (s .view .clock) (s .view .servers) (s .ql) (omega arith) (λ j a b. above j (omega arith)) (h .servers));
+        queues = rw (← c, ← q) (queueing-set tally i n (s .view .clock) (s .view .queues) (omega arith) (λ j a b. above j (omega arith)) (h .queues));
         samples =
             rw (← p)
             (record {
@@ -218,7 +219,7 @@ module _ {m : BlockModel} {tape : List (List ℕ)} {tapeBytes before : List ℕ}
           stands =
               record {
                 listing = listing-ext (r .work) (x .moving) (later .moving) later after (λ q hq. refl) refl refl (stands .listing);
-                tallying = counts-tallying tapeBytes (r .tally) cell counted (omega (arith, below)) later after entries-counted refl refl refl refl (stands .tallying);
+                tallying = counts-tallying tapeBytes (r .tally) cell counted (omega (arith, below)) later after entries-counted refl refl refl refl refl refl (stands .tallying);
                 counting =
                     record {
                       clock = stands .counting .clock;
@@ -288,7 +289,7 @@ module _ {m : BlockModel} {tape : List (List ℕ)} {tapeBytes before : List ℕ}
                 record {
                   listing = listing-ext (r .work) (x .moving) (later .moving) later after (λ q hq. refl) refl refl (stands .listing);
                   tallying =
-                      counts-tallying tapeBytes (r .tally) waiting begun (omega (arith, below)) later after (entries-set (r .tally) waiting begun (later .view .entries) (omega arith) (stands .tallying .entries)) refl refl refl refl (stands .tallying);
+                      counts-tallying tapeBytes (r .tally) waiting begun (omega (arith, below)) later after (entries-set (r .tally) waiting begun (later .view .entries) (omega arith) (stands .tallying .entries)) refl refl refl refl refl refl (stands .tallying);
                   counting =
                       record {
                         clock = stands .counting .clock;

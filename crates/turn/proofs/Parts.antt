@@ -39,7 +39,7 @@ after-turned tables blocks values facilities tape trace before y w₁ tally₁ b
     (ap (λ (v : List ℕ). traced (rowsOf z v tally₂) trace₂) schemed))
 
 pub turned : (model : Model) (tables tape w tally trace : List ℕ) (x y : Scalars) (w₁ tally₁ : List ℕ) (a : Traced)
-    → rowsOf y w₁ tally₁ ≡ take w tally x (model .facilities + model .storages) (model .queues)
+    → rowsOf y w₁ tally₁ ≡ take w tally x
     → a ≡ afterTaking tables (model .blocks) (model .values) (model .facilities) tape trace (x .clock) (rowsOf y w₁ tally₁)
     → a ≡ turn model tables tape w tally trace x
 unfolding turn

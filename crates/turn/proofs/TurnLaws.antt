@@ -8,6 +8,7 @@ use native.Mathlib.Omega.{arith}
 use borrow.Author.Tests.{lt-ltb, le-ltb, eqb-true, not-false}
 use lib.Dec.{ltb, eqb}
 use lib.ListN.{length, getD, drop}
+use lib.Seq.{getD-set-other}
 use Rattle.machine.specs.Transaction.{Transaction}
 use Rattle.machine.specs.Trace.{Record, traceBytes}
 use Rattle.machine.specs.Block.{Block, BlockModel, blockAt}
@@ -16,7 +17,7 @@ use Rattle.machine.specs.Outcome.{recordsOf}
 use Rattle.machine.specs.Moves.{wakeWsl}
 use Rattle.machine.specs.Execute.{question}
 use Rattle.machine.specs.Turn as Machine
-use Rattle.machine.proofs.Proper.{Proper, Names, servers}
+use Rattle.machine.proofs.Proper.{Proper, Names}
 use Rattle.machine.proofs.Placed.{Placed}
 use Rattle.machine.proofs.Everybody.{Maybe}
 use Rattle.machine.proofs.RunLaws.{Taken}
@@ -40,9 +41,7 @@ use Rattle.state.proofs.Sanity.{takenOf, Sure, taken-took, sane-taken, sure-tur
 use Rattle.state.proofs.Numbered.{numbered-taken}
 use Rattle.state.proofs.Written.{atBlock, inOrder}
 use Rattle.moves.proofs.MotionLaws.{next-read, number-read}
-use Rattle.clock.specs.Taking.{take, takeReady, counted, nextEvents, moveClock, firstTime, ticksTo}
-use Rattle.clock.specs.Sample.{sampleServers, sampleQueues}
-use Rattle.clock.proofs.Sampled.{servers-sampled, queues-sampled}
+use Rattle.clock.specs.Taking.{take, takeReady, counted, nextEvents, moveClock, countMove, firstTime}
 use Rattle.clock.proofs.TakingLaws.{take-stands}
 use Rattle.clock.proofs.Unread.{take-used}
 use Rattle.decisions.proofs.SchemeLaws.{scheme-stands, scheme-low}
@@ -75,29 +74,24 @@ writes-like before trace x x′ tally tally′ s s′ used waits records written
 
 -- ---- The taking
 
-module _ (w tally : List ℕ) (x : Scalars) (servers queues : ℕ) (size : length tally ≡ 1088) (few : servers ≤ 64) (short : queues ≤ 32) where
-  sampled-waits : (ticks : ℕ) → SameWaits tally (sampleQueues queues (sampleServers servers tally ticks) ticks)
-  sampled-waits ticks i low high =
-      let v = servers-sampled tally ticks size servers few in
-      queues-sampled (sampleServers servers tally ticks) ticks (v .size) queues short .below i (omega arith) ∙ v .below i (omega arith)
-
-  events-waits : SameWaits tally (nextEvents w tally x servers queues .tally)
-  unfolding nextEvents moveClock rowsOf
+module _ (w tally : List ℕ) (x : Scalars) where
+  events-waits : SameWaits tally (nextEvents w tally x .tally)
+  unfolding nextEvents moveClock countMove rowsOf
   events-waits = go (ltb (first w fel) 1024) (ltb (x .serial) 4000000000)
     where
-      go : (a b : Bool) → SameWaits tally (cond {A = Rows} a (cond b (moveClock w tally x servers queues (firstTime w)) (rowsOf x w tally)) (rowsOf x w tally) .tally)
-      go true true = sampled-waits (ticksTo (firstTime w) x)
+      go : (a b : Bool) → SameWaits tally (cond {A = Rows} a (cond b (moveClock w tally x (firstTime w)) (rowsOf x w tally)) (rowsOf x w tally) .tally)
+      go true true = λ i low high. getD-set-other tally Layout.clockMoves i _ 0 (λ e. omega arith)
       go true false = λ i low high. refl
       go false b = λ i low high. refl
 
-take-waits : (w tally : List ℕ) (x : Scalars) (servers queues : ℕ) → length tally ≡ 1088 → servers ≤ 64 → queues ≤ 32 → SameWaits tally (take w tally x servers queues .tally)
+take-waits : (w tally : List ℕ) (x : Scalars) → SameWaits tally (take w tally x .tally)
 unfolding take takeReady rowsOf
-take-waits w tally x servers queues size few short = go (ltb (x .moving) 1024) (ltb (first w rel) 1024)
+take-waits w tally x = go (ltb (x .moving) 1024) (ltb (first w rel) 1024)
   where
-    go : (a b : Bool) → SameWaits tally (cond {A = Rows} a (rowsOf (counted x) w tally) (takeReady (cond b (rowsOf (counted x) w tally) (nextEvents w tally (counted x) servers queues))) .tally)
+    go : (a b : Bool) → SameWaits tally (cond {A = Rows} a (rowsOf (counted x) w tally) (takeReady (cond b (rowsOf (counted x) w tally) (nextEvents w tally (counted x)))) .tally)
     go true b = λ i low high. refl
     go false true = λ i low high. refl
-    go false false = events-waits w tally (counted x) servers queues size few short
+    go false false = events-waits w tally (counted x)
 
 -- ---- The block and its record
 
@@ -184,7 +178,7 @@ module _ {m : BlockModel} {tape : List (List ℕ)} {tapeBytes tables lists befor
   y = takenOf s
 
   abbrev r₁ : Rows
-  r₁ = take (r .work) (r .tally) (r .scalars) (servers m) (m .queues)
+  r₁ = take (r .work) (r .tally) (r .scalars)
 
   sane₁ : Sane m y
   sane₁ = sane-taken proper s sure (taken .no-end) (taken .serials) (taken .turns-left)
@@ -195,8 +189,8 @@ module _ {m : BlockModel} {tape : List (List ℕ)} {tapeBytes tables lists befor
   writes₁ : Writes before (r₁ .scalars) (r₁ .tally) (a .trace) y
   writes₁ =
       writes-like before (a .trace) (r .scalars) (r₁ .scalars) (r .tally) (r₁ .tally) s y
-      (take-used (r .work) (r .tally) (r .scalars) (servers m) (m .queues))
-      (take-waits (r .work) (r .tally) (r .scalars) (servers m) (m .queues) (runs .stands .tallying .size) (omega (arith, proper .facilities, proper .storages)) (proper .queues))
+      (take-used (r .work) (r .tally) (r .scalars))
+      (take-waits (r .work) (r .tally) (r .scalars))
       (took .records) (took .written) (runs .writes)
 
   -- after the block and its note

@@ -65,4 +65,4 @@ afterTaking tables blocks values facilities tape trace before r =
 
 unfoldable pub turn : Model → (tables tape w tally trace : List ℕ) → Scalars → Traced
 turn model tables tape w tally trace x =
-    afterTaking tables (model .blocks) (model .values) (model .facilities) tape trace (x .clock) (take w tally x (model .facilities + model .storages) (model .queues))
+    afterTaking tables (model .blocks) (model .values) (model .facilities) tape trace (x .clock) (take w tally x)

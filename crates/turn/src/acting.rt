@@ -17,7 +17,7 @@ use tables::TABLES;
 use tables::TALLY;
 ghost use mathlib.Core.Path.{_≡_};
 ghost use Prim.Native.Nat.{_+_, _<_, _≤_};
-ghost use Rattle.machine.specs.Limits.{maxBlocks, maxFacilities, maxQueues, maxStorages};
+ghost use Rattle.machine.specs.Limits.{maxBlocks, maxFacilities};
 ghost use Rattle.rows_laws.specs.Layout.{Room, rowCount};
 ghost use Rattle.state.specs.Stands.{rowsOf};
 ghost use Rattle.turn.specs.Turn.{traced, act, actMoving, clockAsks, asks, schemeIf, afterTaking, turn};
@@ -183,14 +183,11 @@ pub fn turn(
     x: Scalars,
 ) -> Scalars
     requires { ⌜ model .facilities ≤ maxFacilities ⌝ }
-    requires { ⌜ model .storages ≤ maxStorages ⌝ }
-    requires { ⌜ model .queues ≤ maxQueues ⌝ }
     requires { ⌜ model .blocks ≤ maxBlocks ⌝ }
     requires { ⌜ Room (now work) ⌝ }
     ensures { λ r. ⌜ traced (rowsOf r (now (work .exit)) (now (tally .exit))) (now (trace .exit)) ≡ turn model (now (tables .entry)) (now (tape .entry)) (now (work .entry)) (now (tally .entry)) (now (trace .entry)) x ⌝ }
 {
-    let servers = model.facilities + model.storages;
     let before = x.clock;
-    let y = take(work, tally, x, servers, model.queues);
+    let y = take(work, tally, x);
     after_taking(model, tables, tape, work, tally, trace, before, y)
 }

@@ -12,13 +12,13 @@ same-length : tie.Need-same-length
 same-length c = search needs
 
 returns : tie.Need-returns
-returns c = events-none _ _ _ _ _ (omega (arith, c .before .first .ensures, c .if1 .taken))
+returns c = events-none _ _ _ (omega (arith, c .before .first .ensures, c .if1 .taken))
 
 same-length-2 : tie.Need-same-length-2
 same-length-2 c = search needs
 
 returns-2 : tie.Need-returns-2
-returns-2 c = events-spent _ _ _ _ _ (omega (arith, c .before .before .before .first .ensures, c .before .before .if1 .left)) (c .if2 .taken)
+returns-2 c = events-spent _ _ _ (omega (arith, c .before .before .before .first .ensures, c .before .before .if1 .left)) (c .if2 .taken)
 
 time-requires : tie.Need-time-requires
 time-requires c κs = search needs
@@ -33,7 +33,7 @@ same-length-4 : tie.Need-same-length-4
 same-length-4 c = search needs
 
 returns-3 : tie.Need-returns-3
-returns-3 c = events-come _ _ _ _ _ _ _ (omega (arith, c .before .before .before .before .before .before .before .before .before .before .before .before .first .ensures, c .before .before .before .before .before .before .before .before .before .before .before .if1 .left)) (omega (arith, c .before .before .before .before .before .before .before .before .before .if2 .left)) (rw (← c .before .before .before .before .before .before .before .before .before .before .before .before .first .ensures) (c .before .before .before .before .before .before .before .time .ensures)) (c .before .before .before .before .move-clock .ensures)
+returns-3 c = events-come _ _ _ _ _ (omega (arith, c .before .before .before .before .before .before .before .before .before .before .before .before .first .ensures, c .before .before .before .before .before .before .before .before .before .before .before .if1 .left)) (omega (arith, c .before .before .before .before .before .before .before .before .before .if2 .left)) (rw (← c .before .before .before .before .before .before .before .before .before .before .before .before .first .ensures) (c .before .before .before .before .before .before .before .time .ensures)) (c .before .before .before .before .move-clock .ensures)
 
 pub next-events-spec : {M : Type 1} → statement M
 next-events-spec =

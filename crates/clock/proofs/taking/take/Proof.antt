@@ -9,7 +9,7 @@ plus32-requires : tie.Need-plus32-requires
 plus32-requires c κs = search needs
 
 returns : tie.Need-returns
-returns c = take-moving _ _ _ _ _ _ (c .before .before .plus32 .ensures) (c .if1 .taken)
+returns c = take-moving _ _ _ _ (c .before .before .plus32 .ensures) (c .if1 .taken)
 
 first-requires : tie.Need-first-requires
 first-requires c κs = search needs
@@ -21,7 +21,7 @@ same-length : tie.Need-same-length
 same-length c = search needs
 
 returns-2 : tie.Need-returns-2
-returns-2 c = take-first _ _ _ _ _ _ (c .before .before .before .before .before .before .before .before .before .plus32 .ensures) _ _ (omega (arith, c .before .before .before .before .before .before .before .if1 .left)) (omega (arith, c .before .before .before .before .before .first .ensures, c .before .before .before .before .if2 .taken)) (c .before .before .take-ready .ensures .0) (c .before .before .take-ready .ensures .1)
+returns-2 c = take-first _ _ _ _ (c .before .before .before .before .before .before .before .before .before .plus32 .ensures) _ _ (omega (arith, c .before .before .before .before .before .before .before .if1 .left)) (omega (arith, c .before .before .before .before .before .first .ensures, c .before .before .before .before .if2 .taken)) (c .before .before .take-ready .ensures .0) (c .before .before .take-ready .ensures .1)
 
 next-events-requires : tie.Need-next-events-requires
 next-events-requires c κs = search needs
@@ -36,7 +36,7 @@ same-length-3 : tie.Need-same-length-3
 same-length-3 c = search needs
 
 returns-3 : tie.Need-returns-3
-returns-3 c = take-later _ _ _ _ _ _ (c .before .before .before .before .before .before .before .before .before .before .before .before .before .before .before .before .plus32 .ensures) _ _ _ _ _ (omega (arith, c .before .before .before .before .before .before .before .before .before .before .before .before .before .before .if1 .left)) (omega (arith, c .before .before .before .before .before .before .before .before .before .before .before .before .first .ensures, c .before .before .before .before .before .before .before .before .before .before .before .if2 .left)) (c .before .before .before .before .before .before .before .before .next-events .ensures) (c .before .before .take-ready2 .ensures .0) (c .before .before .take-ready2 .ensures .1)
+returns-3 c = take-later _ _ _ _ (c .before .before .before .before .before .before .before .before .before .before .before .before .before .before .before .before .plus32 .ensures) _ _ _ _ _ (omega (arith, c .before .before .before .before .before .before .before .before .before .before .before .before .before .before .if1 .left)) (omega (arith, c .before .before .before .before .before .before .before .before .before .before .before .before .first .ensures, c .before .before .before .before .before .before .before .before .before .before .before .if2 .left)) (c .before .before .before .before .before .before .before .before .next-events .ensures) (c .before .before .take-ready2 .ensures .0) (c .before .before .take-ready2 .ensures .1)
 
 pub take-spec : {M : Type 1} → statement M
 take-spec =

@@ -11,7 +11,7 @@ begin-requires c κs = search needs
 turns-requires : tie.Need-turns-requires
 turns-requires c κs =
     let p = c .before .before .before .before .before .before .before .before .before .before .before .before .before .pre in
-    (p .0, (p .1 .0, (p .1 .1 .0, (p .1 .1 .1 .0, omega (arith, p .1 .1 .1 .1, c .before .before .before .before .before .begin .kept .1 .1 .1 .1 .0)))))
+    (p .0, (p .1 .0, omega (arith, p .1 .1, c .before .before .before .before .before .begin .kept .1 .1 .1 .1 .0)))
 
 same-length : tie.Need-same-length
 same-length c = search needs

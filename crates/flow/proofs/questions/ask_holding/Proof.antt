@@ -1,5 +1,6 @@
 -- `ask_holding` meets its contract: by cases on the count.
 use borrow.Author.Tests.{lt-ltb, le-ltb, eq-eqb, ne-eqb}
+use Rattle.tables.specs.Layout.{tallySize}
 use Rattle.flow_laws.specs.Questions.{askHolding}
 use borrow.Author.Needs.{needs}
 use Rattle.flow.proofs.questions.ask_holding.Statement.{statement}
@@ -7,18 +8,18 @@ use Rattle.flow.proofs.questions.ask_holding.Tie as tie
 
 returns : tie.Need-returns
 unfolding askHolding
-returns c = rw (lt-ltb _ 1088 (c .if1 .taken))
+returns c = rw (lt-ltb _ tallySize (c .if1 .taken))
 
 held-requires : tie.Need-held-requires
 held-requires c κs = search needs
 
 returns-2 : tie.Need-returns-2
 unfolding askHolding
-returns-2 c = rw (le-ltb _ 1088 (c .before .before .if1 .left), ← c .before .held .ensures, eq-eqb _ 0 (c .if2 .taken))
+returns-2 c = rw (le-ltb _ tallySize (c .before .before .if1 .left), ← c .before .held .ensures, eq-eqb _ 0 (c .if2 .taken))
 
 returns-3 : tie.Need-returns-3
 unfolding askHolding
-returns-3 c = rw (le-ltb _ 1088 (c .before .before .if1 .left), ← c .before .held .ensures, ne-eqb _ 0 (c .if2 .left))
+returns-3 c = rw (le-ltb _ tallySize (c .before .before .if1 .left), ← c .before .held .ensures, ne-eqb _ 0 (c .if2 .left))
 
 pub ask-holding-spec : {M : Type 1} → statement M
 ask-holding-spec = tie.close (tie.spec returns held-requires returns-2 returns-3)

@@ -6,51 +6,12 @@ use Rattle.report.specs.Counts.{queueRow}
 use Rattle.report.proofs.counts.put_queue.Statement.{statement}
 use Rattle.report.proofs.counts.put_queue.Tie as tie
 
-total-requires : tie.Need-total-requires
-total-requires c κs = search needs
-
-write-number-requires : tie.Need-write-number-requires
-write-number-requires c κs = search needs
-
-add-count : tie.Need-add-count
-add-count c = search needs
-
-count-requires : tie.Need-count-requires
-count-requires c κs = search needs
-
-write-number-requires-2 : tie.Need-write-number-requires-2
-write-number-requires-2 c κs = search needs
-
-add-count-2 : tie.Need-add-count-2
-add-count-2 c = search needs
-
-count-requires-2 : tie.Need-count-requires-2
-count-requires-2 c κs = search needs
-
-write-number-requires-3 : tie.Need-write-number-requires-3
-write-number-requires-3 c κs = search needs
-
-same-length : tie.Need-same-length
-same-length c = search needs
-
 returns : tie.Need-returns
 unfolding queueRow putAll
 returns c =
     c .before .before .write-number3 .ensures
-    ∙ ap₂ put (c .before .before .before .count2 .ensures)
-    (c .before .before .before .before .before .before .before .write-number2 .ensures ∙ ap₂ put (c .before .before .before .before .before .before .before .before .count .ensures) (c .before .before .before .before .before .before .before .before .before .before .before .before .write-number .ensures ∙ ap₂ put (c .before .before .before .before .before .before .before .before .before .before .before .before .before .total .ensures) refl))
+    ∙ ap₂ put (c .before .before .before .longest-content .ensures)
+    (c .before .before .before .before .before .before .before .write-number2 .ensures ∙ ap₂ put (c .before .before .before .before .before .before .before .before .content-ticks .ensures) (c .before .before .before .before .before .before .before .before .before .before .before .before .write-number .ensures ∙ ap₂ put (c .before .before .before .before .before .before .before .before .before .before .before .before .before .total .ensures) refl))
 
 pub put-queue-spec : {M : Type 1} → statement M
-put-queue-spec =
-    tie.close
-    (tie.spec
-    total-requires
-    write-number-requires
-    add-count
-    count-requires
-    write-number-requires-2
-    add-count-2
-    count-requires-2
-    write-number-requires-3
-    same-length
-    returns)
+put-queue-spec = tie.close (tie.spec (search needs) (search needs) (search needs) (search needs) (search needs) (search needs) (search needs) returns)

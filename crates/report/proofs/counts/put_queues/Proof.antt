@@ -11,12 +11,12 @@ use Rattle.report.proofs.counts.put_queues.Statement.{statement}
 use Rattle.report.proofs.counts.put_queues.Tie as tie
 
 abbrev Inv-loop : tie.InvT-loop
-Inv-loop tables tally blocks queues report₀ at next₀ q₀ report next q = (length report ≡ length report₀)
+Inv-loop tables tally clock blocks queues report₀ at next₀ q₀ report next q = (length report ≡ length report₀)
     × (q ≤ queues)
-    × (written next report ≡ putAll (rowsTo q (queueRow tables tally blocks)) (written at report₀))
+    × (written next report ≡ putAll (rowsTo q (queueRow tables tally clock blocks)) (written at report₀))
 
 abbrev μ-loop : tie.MeasureT-loop
-μ-loop tables tally blocks queues report₀ at next₀ q₀ report next q = queues - q
+μ-loop tables tally clock blocks queues report₀ at next₀ q₀ report next q = queues - q
 
 loop-holds : tie.Need-loop-holds Inv-loop μ-loop
 loop-holds c = (refl, omega arith, rows-none _ _)

@@ -11,12 +11,12 @@ use Rattle.report.proofs.counts.put_servers.Statement.{statement}
 use Rattle.report.proofs.counts.put_servers.Tie as tie
 
 abbrev Inv-loop : tie.InvT-loop
-Inv-loop tables tally blocks servers report₀ at next₀ v₀ report next v = (length report ≡ length report₀)
+Inv-loop tables tally clock blocks servers report₀ at next₀ v₀ report next v = (length report ≡ length report₀)
     × (v ≤ servers)
-    × (written next report ≡ putAll (rowsTo v (serverRow tables tally blocks)) (written at report₀))
+    × (written next report ≡ putAll (rowsTo v (serverRow tables tally clock blocks)) (written at report₀))
 
 abbrev μ-loop : tie.MeasureT-loop
-μ-loop tables tally blocks servers report₀ at next₀ v₀ report next v = servers - v
+μ-loop tables tally clock blocks servers report₀ at next₀ v₀ report next v = servers - v
 
 loop-holds : tie.Need-loop-holds Inv-loop μ-loop
 loop-holds c = (refl, omega arith, rows-none _ _)

@@ -5,14 +5,11 @@ use borrow.Author.Needs.{needs}
 use Rattle.turn.proofs.acting.turn.Statement.{statement}
 use Rattle.turn.proofs.acting.turn.Tie as tie
 
-add-servers : tie.Need-add-servers
-add-servers c = search needs
-
 take-requires : tie.Need-take-requires
 take-requires c κs = search needs
 
 after-taking-requires : tie.Need-after-taking-requires
-after-taking-requires c κs = (omega (arith, c .before .before .before .before .before .before .before .before .before .before .before .before .pre), (omega (arith, c .before .before .before .before .before .before .before .before .before .before .before .before .pre), omega (arith, c .before .before .before .before .before .before .before .before .before .before .before .before .pre, c .before .before .before .before .before .take .kept)))
+after-taking-requires c κs = (omega (arith, c .before .before .before .before .before .before .before .before .before .before .before .pre), (omega (arith, c .before .before .before .before .before .before .before .before .before .before .before .pre), omega (arith, c .before .before .before .before .before .before .before .before .before .before .before .pre, c .before .before .before .before .before .take .kept)))
 
 same-length : tie.Need-same-length
 same-length c = search needs
@@ -27,7 +24,6 @@ pub turn-spec : {M : Type 1} → statement M
 turn-spec =
     tie.close
     (tie.spec
-    add-servers
     take-requires
     after-taking-requires
     same-length
