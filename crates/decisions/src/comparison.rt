@@ -32,6 +32,7 @@ const PARAMETERS: u32 = Model::PARAMETERS as u32;
 
 // The parameters of row k, as bits.
 pub fn parameters_of(work: &[u32], k: u32) -> [u32; Model::PARAMETERS]
+    requires { ⌜ Room (now work) ⌝ }
     requires { ⌜ k < rowCount ⌝ }
     ensures { λ r. ⌜ r ≡ parametersAt (now (work .entry)) k ⌝ }
 {
@@ -53,6 +54,7 @@ pub fn holds(
     at: usize,
 ) -> bool
     requires { ⌜ at < programSize ⌝ }
+    requires { ⌜ Room (now work) ⌝ }
     requires { ⌜ k < rowCount ⌝ }
     ensures { λ r. ⌜ r ≡ holdsAt (now (tables .entry)) values (now (work .entry)) (now (tally .entry)) clock k at ⌝ }
 {
@@ -71,6 +73,7 @@ fn worth(
     at: usize,
 ) -> u32
     requires { ⌜ at < programSize ⌝ }
+    requires { ⌜ Room (now work) ⌝ }
     requires { ⌜ k < rowCount ⌝ }
     ensures { λ r. ⌜ r ≡ worthAt (now (tables .entry)) values (now (work .entry)) (now (tally .entry)) clock k at ⌝ }
 {

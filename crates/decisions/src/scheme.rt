@@ -35,6 +35,7 @@ const RIGHT_SIDE: usize = FIRST + RIGHT;
 
 // Where the block of row k stands in the tables.
 fn block_of(work: &[u32], k: u32) -> usize
+    requires { ⌜ Room (now work) ⌝ }
     requires { ⌜ k < rowCount ⌝ }
     ensures block { λ r. ⌜ r ≡ blockOf (now (work .entry)) k ⌝ }
     ensures most { λ r. ⌜ r ≤ blockWidth * most32 ⌝ }
@@ -57,6 +58,7 @@ fn leaves(
     right: u64,
 ) -> bool
     requires { ⌜ blocks ≤ maxBlocks ⌝ }
+    requires { ⌜ Room (now work) ⌝ }
     requires { ⌜ k < rowCount ⌝ }
     ensures { λ r. ⌜ r ≡ leavesBy (now (tables .entry)) blocks values (now (tally .entry)) clock (now (work .entry)) k at left right ⌝ }
 {

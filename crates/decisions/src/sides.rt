@@ -15,7 +15,7 @@ ghost use mathlib.Core.Path.{_≡_};
 ghost use Prim.Native.Nat.{_+_, _<_};
 ghost use lib.ListN.{getD};
 ghost use Rattle.tables.specs.Layout.{tablesSize};
-ghost use Rattle.rows_laws.specs.Layout.{rowCount};
+ghost use Rattle.rows_laws.specs.Layout.{Room, rowCount};
 ghost use Rattle.terms.specs.Evaluation.{termAt};
 ghost use Rattle.decisions.specs.Comparison.{parametersAt};
 ghost use Rattle.decisions.specs.Sides.{namesOwn, sideBy, ForAll};
@@ -84,6 +84,7 @@ pub fn shared(
 
 // Parameter i (from 0) of row k, as bits; 0 if there is none.
 fn parameter(work: &[u32], k: u32, i: u32) -> u32
+    requires { ⌜ Room (now work) ⌝ }
     requires { ⌜ k < rowCount ⌝ }
     ensures { λ r. ⌜ r ≡ getD (parametersAt (now (work .entry)) k) i 0 ⌝ }
 {
@@ -104,6 +105,7 @@ fn own(
     at: usize,
 ) -> i32
     requires { ⌜ at < tablesSize ⌝ }
+    requires { ⌜ Room (now work) ⌝ }
     requires { ⌜ k < rowCount ⌝ }
     ensures { λ r. ⌜ r ≡ termAt (now (tables .entry)) (now (tally .entry)) values clock (parametersAt (now (work .entry)) k) at ⌝ }
 {
@@ -126,6 +128,7 @@ pub fn side(
     answer: u64,
 ) -> i32
     requires { ⌜ at < tablesSize ⌝ }
+    requires { ⌜ Room (now work) ⌝ }
     requires { ⌜ k < rowCount ⌝ }
     ensures { λ r. ⌜ r ≡ sideBy (now (tables .entry)) values (now (tally .entry)) clock answer (now (work .entry)) k at ⌝ }
 {

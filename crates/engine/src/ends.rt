@@ -11,10 +11,12 @@ use rows::ROWS;
 use rows::lists::first;
 use state::Scalars;
 ghost use mathlib.Core.Path.{_≡_};
+ghost use Rattle.rows_laws.specs.Layout.{Room};
 ghost use Rattle.engine.specs.Ends.{nobodyRows, wornRows, fullRows, limitRows, endRows};
 
 // Nobody moves, and REL and FEL are empty.
 fn nobody_left(work: &[u32], moving: u32) -> bool
+    requires { ⌜ Room (now work) ⌝ }
     ensures { λ r. ⌜ r ≡ nobodyRows (now (work .entry)) moving ⌝ }
 {
     if moving < ROWS {
@@ -63,6 +65,7 @@ fn limit(x: Scalars, budget: u64, room: usize) -> u32
 
 // The number of the end before the next turn, 0 for none.
 pub fn end_before(work: &[u32], x: Scalars, budget: u64, room: usize) -> u32
+    requires { ⌜ Room (now work) ⌝ }
     ensures { λ r. ⌜ r ≡ endRows (now (work .entry)) x budget room ⌝ }
 {
     if x.end != 0 {

@@ -81,6 +81,7 @@ fn reported(
     x: Scalars,
     report: &mut [u8],
 ) -> usize
+    requires { ⌜ Room (now work) ⌝ }
     ensures { λ r. ⌜ written r (now (report .exit)) ≡ putAll (rowNumbers model (now (tables .entry)) (now (tally .entry)) (now (work .entry)) x) (written 0 (now (report .entry))) ⌝ }
 {
     write_report(model, tables, tally, work, x, report)

@@ -37,6 +37,7 @@ const BLOCKS: u32 = Model::MAX_BLOCKS as u32;
 
 // The list of gatherers of the block at which row k stands.
 fn list_at(work: &[u32], k: u32) -> u32
+    requires { ⌜ Room (now work) ⌝ }
     requires { ⌜ k < rowCount ⌝ }
     ensures list { λ r. ⌜ r ≡ listAt (now (work .entry)) k ⌝ }
     ensures there { λ r. ⌜ r < listCount ⌝ }

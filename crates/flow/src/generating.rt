@@ -3,6 +3,7 @@ use crate::questions::ask_arrival;
 use crate::samples::next_sample;
 use crate::samples::times_left;
 use crate::sending::arrives;
+use crate::sending::one_made;
 use flow_laws::Sample;
 use moves::go_on;
 use moves::stop;
@@ -34,7 +35,18 @@ fn arrive_on(
 {
     let block = read(work, NEXT, x.moving);
     let y = go_on(work, x);
-    arrives(work, tally, y, sample, list, priority, block)
+    let made = arrives(
+        work,
+        tally,
+        y.made,
+        y.serial,
+        y.clock,
+        sample,
+        list,
+        priority,
+        block,
+    );
+    one_made(y, made)
 }
 
 fn generate_next(

@@ -18,6 +18,7 @@ pub use ranking::priority;
 pub use samples::next_sample;
 pub use samples::times_left;
 pub use sending::arrives;
+pub use sending::one_made;
 pub use sending::to_future;
 pub use splitting::split;
 pub use terminating::terminate;

@@ -1,6 +1,6 @@
 -- The row machine: rows on no list go to the FEL or to REL with a fresh serial, and new rows are made for both.
 use Prim.Native.Nat.{ℕ, _+_, _%_, min}
-use mathlib.Core.Bool.{cond}
+use mathlib.Core.Bool.{Bool, cond}
 use mathlib.Core.List.{List}
 use lib.Dec.{ltb}
 use Rattle.tables.specs.Layout.{most32, most64}
@@ -35,6 +35,10 @@ unfoldable pub toReady : List ℕ → Scalars → ℕ → Moved
 toReady w x k = moved (putSerial (next32 (x .serial)) x) (put (write w serialField k (next32 (x .serial))) rel k)
 
 -- ---- A new transaction on the FEL
+
+-- the scalars where one was made, if one was: the next number and serial are used
+unfoldable pub oneMade : Scalars → Bool → Scalars
+oneMade x made = cond made (putSerial (next32 (x .serial)) (putMade (next32 (x .made)) x)) x
 
 unfoldable pub bornAt : List ℕ → Scalars → ℕ → (time priority block : ℕ) → Moved
 bornAt w x k time priority block =

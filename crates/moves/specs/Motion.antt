@@ -27,6 +27,12 @@ withTally m tally = rowsOf (m .scalars) (m .work) tally
 abbrev pub next32 : ℕ → ℕ
 next32 n = min (n + 1) most32
 
+-- The scalars where the moving one entered (0), began to wait with the next serial (1), or came back to wait (2).
+unfoldable pub withOutcome : Scalars → ℕ → Scalars
+withOutcome x outcome =
+    cond (eqb outcome 0) (putNote outcome x)
+    (cond (eqb outcome 1) (putNote outcome (putSerial (next32 (x .serial)) (putMoving rowCount x))) (putNote outcome (putMoving rowCount x)))
+
 unfoldable pub goTo : List ℕ → Scalars → ℕ → Moved
 goTo w x block = moved (putNote 0 x) (setReturning (write w nextField (x .moving) block) (x .moving) 0)
 

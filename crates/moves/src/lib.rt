@@ -1,4 +1,6 @@
-// How the moving transaction goes on or comes to wait: its row of the work buffer and the scalars.
+// How the moving transaction goes on or comes to wait: its row of the work buffer and the scalars. What is done to the row stands apart
+// and takes plain numbers, since a call that hands scalars over copies them through memory; its contract is of any scalars with these
+// numbers.
 use rows::NEXT;
 use rows::SERIAL;
 use rows::STANDING;
@@ -16,10 +18,36 @@ use state::plus32;
 ghost use mathlib.Core.Path.{_≡_};
 ghost use Prim.Native.Nat.{_<_, _≤_};
 ghost use Rattle.rows_laws.specs.Layout.{Room, listCount, rowCount};
-ghost use Rattle.moves.specs.Motion.{moved, goTo, goOn, goBack, putBack, beginWait, waitOn, stopped};
+ghost use Rattle.moves.specs.Motion.{moved, withOutcome, goTo, goOn, goBack, beginWait, waitOn, stopped};
 
 // The WSL and the lists of gatherers are in the order of edition 1 under either edition.
 pub const IN_ORDER: u32 = 1;
+
+// The scalars after `ENTERED`, after `WAITS`, with the next serial, or, of one that came back to wait, after `NO_RECORD`.
+pub fn with_outcome(x: Scalars, outcome: u32) -> Scalars
+    ensures { λ r. ⌜ r ≡ withOutcome x outcome ⌝ }
+{
+    let mut y = x;
+    y.note = outcome;
+    if outcome == ENTERED {
+        return y;
+    }
+    y.moving = NOBODY;
+    if outcome == WAITS {
+        y.serial = plus32(x.serial, 1);
+    }
+    y
+}
+
+// Row k stands before a block, not returning.
+fn row_goes_to(work: &mut [u32], k: u32, block: u32)
+    requires { ⌜ Room (now work) ⌝ }
+    requires { ⌜ k < rowCount ⌝ }
+    ensures { λ _. ⌜ ((x : Scalars) → x .moving ≡ k → moved (withOutcome x 0) (now (work .exit)) ≡ goTo (now (work .entry)) x block) ⌝ }
+{
+    write(work, NEXT, k, block);
+    set_returning(work, k, 0);
+}
 
 // The transaction stands before a block, still moving; it entered.
 pub fn go_to(work: &mut [u32], x: Scalars, block: u32) -> Scalars
@@ -27,12 +55,18 @@ pub fn go_to(work: &mut [u32], x: Scalars, block: u32) -> Scalars
     requires { ⌜ x .moving < rowCount ⌝ }
     ensures { λ r. ⌜ moved r (now (work .exit)) ≡ goTo (now (work .entry)) x block ⌝ }
 {
-    let k = x.moving;
-    write(work, NEXT, k, block);
-    set_returning(work, k, 0);
-    let mut y = x;
-    y.note = ENTERED;
-    y
+    row_goes_to(work, x.moving, block);
+    with_outcome(x, ENTERED)
+}
+
+// Row k stands before the next block plus one.
+pub fn row_goes_on(work: &mut [u32], k: u32)
+    requires { ⌜ Room (now work) ⌝ }
+    requires { ⌜ k < rowCount ⌝ }
+    ensures { λ _. ⌜ ((x : Scalars) → x .moving ≡ k → moved (withOutcome x 0) (now (work .exit)) ≡ goOn (now (work .entry)) x) ⌝ }
+{
+    let next = plus32(read(work, NEXT, k), 1);
+    row_goes_to(work, k, next);
 }
 
 // "Go on": the next block plus one.
@@ -41,9 +75,8 @@ pub fn go_on(work: &mut [u32], x: Scalars) -> Scalars
     requires { ⌜ x .moving < rowCount ⌝ }
     ensures { λ r. ⌜ moved r (now (work .exit)) ≡ goOn (now (work .entry)) x ⌝ }
 {
-    let k = x.moving;
-    let next = plus32(read(work, NEXT, k), 1);
-    go_to(work, x, next)
+    row_goes_on(work, x.moving);
+    with_outcome(x, ENTERED)
 }
 
 // Back by so many blocks, still moving; no record is written.
@@ -61,37 +94,42 @@ pub fn go_back(work: &mut [u32], x: Scalars, blocks: u32) -> Scalars
     y
 }
 
-// A returning one comes back onto list p with its own serial.
-fn put_back(work: &mut [u32], x: Scalars, p: u32, edition: u32) -> Scalars
+// Row k begins to wait on list p with the serial after this one.
+fn row_begins_wait(work: &mut [u32], k: u32, serial: u32, p: u32, edition: u32)
     requires { ⌜ Room (now work) ⌝ }
-    requires { ⌜ x .moving < rowCount ⌝ }
+    requires { ⌜ k < rowCount ⌝ }
     requires { ⌜ p < listCount ⌝ }
-    ensures { λ r. ⌜ moved r (now (work .exit)) ≡ putBack (now (work .entry)) x p edition ⌝ }
+    ensures { λ _. ⌜ ((x : Scalars) → x .moving ≡ k → x .serial ≡ serial → moved (withOutcome x 1) (now (work .exit)) ≡ beginWait (now (work .entry)) x p edition) ⌝ }
 {
-    let k = x.moving;
+    write(work, SERIAL, k, plus32(serial, 1));
     line_up(work, p, k, edition);
-    let mut y = x;
-    y.moving = NOBODY;
-    y.note = NO_RECORD;
-    y
 }
 
-// Another one begins to wait on list p with a fresh serial.
+// The transaction begins to wait on list p with a fresh serial.
 pub fn begin_wait(work: &mut [u32], x: Scalars, p: u32, edition: u32) -> Scalars
     requires { ⌜ Room (now work) ⌝ }
     requires { ⌜ x .moving < rowCount ⌝ }
     requires { ⌜ p < listCount ⌝ }
     ensures { λ r. ⌜ moved r (now (work .exit)) ≡ beginWait (now (work .entry)) x p edition ⌝ }
 {
-    let k = x.moving;
-    let serial = plus32(x.serial, 1);
-    write(work, SERIAL, k, serial);
-    line_up(work, p, k, edition);
-    let mut y = x;
-    y.moving = NOBODY;
-    y.serial = serial;
-    y.note = WAITS;
-    y
+    row_begins_wait(work, x.moving, x.serial, p, edition);
+    with_outcome(x, WAITS)
+}
+
+// Row k comes onto list p, where the edition places it: a returning one with its own serial, another begins to wait. Answers which
+// record that writes.
+pub fn row_waits(work: &mut [u32], k: u32, serial: u32, p: u32, edition: u32) -> u32
+    requires { ⌜ Room (now work) ⌝ }
+    requires { ⌜ k < rowCount ⌝ }
+    requires { ⌜ p < listCount ⌝ }
+    ensures { λ r. ⌜ ((x : Scalars) → x .moving ≡ k → x .serial ≡ serial → moved (withOutcome x r) (now (work .exit)) ≡ waitOn (now (work .entry)) x p edition) ⌝ }
+{
+    if read(work, STANDING, k) % 2 == 1 {
+        line_up(work, p, k, edition);
+        return NO_RECORD;
+    }
+    row_begins_wait(work, k, serial, p, edition);
+    WAITS
 }
 
 // The transaction must wait on list p, where the edition places it.
@@ -101,11 +139,8 @@ pub fn wait_on(work: &mut [u32], x: Scalars, p: u32, edition: u32) -> Scalars
     requires { ⌜ p < listCount ⌝ }
     ensures { λ r. ⌜ moved r (now (work .exit)) ≡ waitOn (now (work .entry)) x p edition ⌝ }
 {
-    let k = x.moving;
-    if read(work, STANDING, k) % 2 == 1 {
-        return put_back(work, x, p, edition);
-    }
-    begin_wait(work, x, p, edition)
+    let outcome = row_waits(work, x.moving, x.serial, p, edition);
+    with_outcome(x, outcome)
 }
 
 // A question stops the turn with the number of an end; no record is written.

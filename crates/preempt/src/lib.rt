@@ -4,6 +4,7 @@ use constants::ends::NOT_IN_USE;
 use flow::ask_time;
 use flow::to_future;
 use moves::stop;
+use moves::with_outcome;
 use rows::INTERRUPTED;
 use rows::NUMBER;
 use rows::ROWS;
@@ -24,6 +25,7 @@ use servers::units::holder;
 use servers::units::in_use;
 use servers::units::preempted;
 use servers::units::server_at;
+use state::ENTERED;
 use state::Scalars;
 use state::less64;
 use state::plus64;
@@ -78,7 +80,19 @@ fn take_over(
     let units = in_use(tally, v);
     let all = capacity(tables, v);
     interrupt_on(work, x.clock, v, j);
-    hold_units(work, tally, x, v, units, number, x.moving, 1, all)
+    hold_units(
+        work,
+        tally,
+        x.moving,
+        x.clock,
+        v,
+        units,
+        number,
+        x.moving,
+        1,
+        all,
+    );
+    with_outcome(x, ENTERED)
 }
 
 // Of a seized facility: "a holder of lower priority that stands on the FEL" loses it, or PREEMPT waits.
@@ -100,7 +114,19 @@ fn preempt_seized(
     if j < ROWS {
         return take_over(tables, work, tally, x, v, j, number);
     }
-    take_units(tables, work, tally, x, v, 1, number, 1)
+    let outcome = take_units(
+        tables,
+        work,
+        tally,
+        x.moving,
+        x.serial,
+        x.clock,
+        v,
+        1,
+        number,
+        1,
+    );
+    with_outcome(x, outcome)
 }
 
 pub fn preempt(
@@ -120,11 +146,24 @@ pub fn preempt(
     if seized(tally, v) {
         return preempt_seized(tables, work, tally, x, v, number);
     }
-    take_units(tables, work, tally, x, v, 1, number, 1)
+    let outcome = take_units(
+        tables,
+        work,
+        tally,
+        x.moving,
+        x.serial,
+        x.clock,
+        v,
+        1,
+        number,
+        1,
+    );
+    with_outcome(x, outcome)
 }
 
 // Row j, if it is one, goes on at the clock plus its remaining ticks.
 fn ask_resume(work: &[u32], x: Scalars, j: u32) -> u32
+    requires { ⌜ Room (now work) ⌝ }
     ensures { λ r. ⌜ r ≡ askResume (now (work .entry)) x j ⌝ }
 {
     if j >= ROWS {
@@ -135,6 +174,7 @@ fn ask_resume(work: &[u32], x: Scalars, j: u32) -> u32
 
 // 0 where the transaction of that number may give a facility back: 24, then 27, then 22.
 fn ask_give_back(work: &[u32], tally: &[u64], x: Scalars, v: u32, number: u64) -> u32
+    requires { ⌜ Room (now work) ⌝ }
     requires { ⌜ v < serverCount ⌝ }
     ensures { λ r. ⌜ r ≡ askGiveBack (now (work .entry)) (now (tally .entry)) x v number ⌝ }
 {
@@ -180,7 +220,8 @@ fn resume(
     let all = capacity(tables, v);
     let who = read(work, NUMBER, j) as u64;
     let y = resume_on(work, x, v, j);
-    hold_units(work, tally, y, v, units, who, j, 0, all)
+    hold_units(work, tally, y.moving, y.clock, v, units, who, j, 0, all);
+    with_outcome(y, ENTERED)
 }
 
 // The interrupted one has the facility again; "if there is none, it acts as RELEASE".
@@ -195,7 +236,8 @@ fn give_back_now(tables: &[u32], work: &mut [u32], tally: &mut [u64], x: Scalars
         return resume(tables, work, tally, x, v, j);
     }
     let left = less64(in_use(tally, v), 1);
-    free_one(tables, work, tally, x, v, left)
+    free_one(tables, work, tally, x.moving, x.clock, v, left);
+    with_outcome(x, ENTERED)
 }
 
 pub fn give_back(

@@ -12,6 +12,7 @@ use state::Scalars;
 ghost use mathlib.Core.Path.{_≡_};
 ghost use mathlib.Core.List.{[], _∷_};
 ghost use Prim.Native.Nat.{min};
+ghost use Rattle.rows_laws.specs.Layout.{Room};
 ghost use Rattle.report.specs.Numbers.{rowNumbers};
 ghost use Rattle.report.specs.Writing.{written, putAll};
 
@@ -41,6 +42,7 @@ pub fn write_report(
     x: Scalars,
     report: &mut [u8],
 ) -> usize
+    requires { ⌜ Room (now work) ⌝ }
     ensures { λ r. ⌜ written r (now (report .exit)) ≡ putAll (rowNumbers model (now (tables .entry)) (now (tally .entry)) (now (work .entry)) x) (written 0 (now (report .entry))) ⌝ }
 {
     let blocks = at_most(model.blocks, Model::MAX_BLOCKS);

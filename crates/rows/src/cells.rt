@@ -43,13 +43,24 @@ pub fn store(w: &mut [u32], i: u32, x: u32)
     w[at] = x;
 }
 
+// The same of a number of the layout, with no test.
+pub fn set(w: &mut [u32], i: u32, x: u32)
+    requires { ⌜ Room (now w) ⌝ }
+    requires { ⌜ i < workNumbers ⌝ }
+    ensures { λ _. ⌜ now (w .exit) ≡ store (now (w .entry)) i x ⌝ }
+{
+    let at = i as usize;
+    w[at] = x;
+}
+
 // Field f of row k.
 pub fn read(w: &[u32], f: u32, k: u32) -> u32
+    requires { ⌜ Room (now w) ⌝ }
     requires { ⌜ f < fieldCount ⌝ }
     requires { ⌜ k < rowCount ⌝ }
     ensures { λ r. ⌜ r ≡ read (now (w .entry)) f k ⌝ }
 {
-    load(w, f * ROWS + k)
+    get(w, f * ROWS + k)
 }
 
 pub fn write(w: &mut [u32], f: u32, k: u32, x: u32)
@@ -58,10 +69,11 @@ pub fn write(w: &mut [u32], f: u32, k: u32, x: u32)
     requires { ⌜ k < rowCount ⌝ }
     ensures { λ _. ⌜ now (w .exit) ≡ write (now (w .entry)) f k x ⌝ }
 {
-    store(w, f * ROWS + k, x);
+    set(w, f * ROWS + k, x);
 }
 
 pub fn priority(w: &[u32], k: u32) -> u32
+    requires { ⌜ Room (now w) ⌝ }
     requires { ⌜ k < rowCount ⌝ }
     ensures { λ r. ⌜ r ≡ priorityOf (now (w .entry)) k ⌝ }
 {
@@ -81,22 +93,12 @@ pub fn set_returning(w: &mut [u32], k: u32, mark: u32)
 
 // The move time, in two fields.
 pub fn time(w: &[u32], k: u32) -> u64
+    requires { ⌜ Room (now w) ⌝ }
     requires { ⌜ k < rowCount ⌝ }
     ensures { λ r. ⌜ r ≡ timeOf (now (w .entry)) k ⌝ }
 {
     let low = read(w, TIME, k) as u64;
     let high = read(w, TIME_HIGH, k) as u64;
-    high * WORD_END + low
-}
-
-// The same of a buffer that has room for it, with no test.
-pub fn get_time(w: &[u32], k: u32) -> u64
-    requires { ⌜ Room (now w) ⌝ }
-    requires { ⌜ k < rowCount ⌝ }
-    ensures { λ r. ⌜ r ≡ timeOf (now (w .entry)) k ⌝ }
-{
-    let low = get(w, TIME * ROWS + k) as u64;
-    let high = get(w, TIME_HIGH * ROWS + k) as u64;
     high * WORD_END + low
 }
 

@@ -4,7 +4,7 @@ use crate::FEL_HEAD;
 use crate::REL;
 use crate::ROWS;
 use crate::SERIAL;
-use crate::cells::load;
+use crate::cells::get;
 use crate::cells::set_returning;
 use crate::cells::time;
 use crate::cells::write;
@@ -17,9 +17,10 @@ ghost use Rattle.rows_laws.specs.Clock.{isDue, arriveRow, arriveFirst, arrived,
 
 // The first of the FEL has this time.
 pub fn is_due(w: &[u32], due: u64) -> bool
+    requires { ⌜ Room (now w) ⌝ }
     ensures { λ r. ⌜ r ≡ isDue (now (w .entry)) due ⌝ }
 {
-    let first = load(w, FEL_HEAD);
+    let first = get(w, FEL_HEAD);
     if first >= ROWS {
         return false;
     }
@@ -42,7 +43,7 @@ pub fn arrive_first(w: &mut [u32], serial: u32)
     requires { ⌜ Room (now w) ⌝ }
     ensures { λ _. ⌜ now (w .exit) ≡ arriveFirst (now (w .entry)) serial ⌝ }
 {
-    let k = load(w, FEL_HEAD);
+    let k = get(w, FEL_HEAD);
     if k >= ROWS {
         return;
     }

@@ -6,6 +6,7 @@ use crate::LINKS;
 use crate::ROWS;
 use crate::STANDING;
 use crate::TAILS;
+use crate::cells::get;
 use crate::cells::load;
 use crate::cells::priority;
 use crate::cells::read;
@@ -18,6 +19,7 @@ ghost use Rattle.rows_laws.specs.Lines.{atLeast, foundAt, lastCell, lastMeets, 
 
 // Has row j at least the priority of row k?
 fn at_least(w: &[u32], k: u32, j: u32) -> bool
+    requires { ⌜ Room (now w) ⌝ }
     requires { ⌜ k < rowCount ⌝ }
     requires { ⌜ j < rowCount ⌝ }
     ensures { λ r. ⌜ r ≡ atLeast (now (w .entry)) k j ⌝ }
@@ -27,6 +29,7 @@ fn at_least(w: &[u32], k: u32, j: u32) -> bool
 
 // The cell behind row j, if it has; else as found.
 fn found_at(w: &[u32], k: u32, j: u32, found: u32) -> u32
+    requires { ⌜ Room (now w) ⌝ }
     requires { ⌜ k < rowCount ⌝ }
     requires { ⌜ j < rowCount ⌝ }
     ensures { λ r. ⌜ r ≡ foundAt (now (w .entry)) k j found ⌝ }
@@ -39,6 +42,7 @@ fn found_at(w: &[u32], k: u32, j: u32, found: u32) -> u32
 
 // The cell behind the last row from a cell on that has; the cell itself where none has. Links lead forward only.
 fn last_cell(w: &[u32], k: u32, from: u32) -> u32
+    requires { ⌜ Room (now w) ⌝ }
     requires { ⌜ k < rowCount ⌝ }
     ensures { λ r. ⌜ r ≡ lastCell rowCount (now (w .entry)) k from from ⌝ }
 {
@@ -59,6 +63,7 @@ fn last_cell(w: &[u32], k: u32, from: u32) -> u32
 
 // Has the row whose link cell t is?
 fn last_meets(w: &[u32], k: u32, t: u32) -> bool
+    requires { ⌜ Room (now w) ⌝ }
     requires { ⌜ k < rowCount ⌝ }
     ensures { λ r. ⌜ r ≡ lastMeets (now (w .entry)) k t ⌝ }
 {
@@ -73,6 +78,7 @@ fn last_meets(w: &[u32], k: u32, t: u32) -> bool
 }
 
 fn back_before(w: &[u32], p: u32, k: u32, t: u32) -> u32
+    requires { ⌜ Room (now w) ⌝ }
     requires { ⌜ p < listCount ⌝ }
     requires { ⌜ k < rowCount ⌝ }
     ensures { λ r. ⌜ r ≡ backBefore (now (w .entry)) p k t ⌝ }
@@ -85,15 +91,17 @@ fn back_before(w: &[u32], p: u32, k: u32, t: u32) -> u32
 
 // The cell behind the first row met from the back of list p that has.
 fn back_spot(w: &[u32], p: u32, k: u32) -> u32
+    requires { ⌜ Room (now w) ⌝ }
     requires { ⌜ p < listCount ⌝ }
     requires { ⌜ k < rowCount ⌝ }
     ensures { λ r. ⌜ r ≡ backSpot (now (w .entry)) p k ⌝ }
 {
-    let t = load(w, TAILS + p);
+    let t = get(w, TAILS + p);
     back_before(w, p, k, t)
 }
 
 fn second_spot(w: &[u32], p: u32, k: u32) -> u32
+    requires { ⌜ Room (now w) ⌝ }
     requires { ⌜ p < listCount ⌝ }
     requires { ⌜ k < rowCount ⌝ }
     ensures { λ r. ⌜ r ≡ secondSpot (now (w .entry)) p k ⌝ }

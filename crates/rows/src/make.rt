@@ -19,8 +19,8 @@ use crate::SERIAL;
 use crate::STANDING;
 use crate::TAILS;
 use crate::cells::read;
+use crate::cells::set;
 use crate::cells::set_time;
-use crate::cells::store;
 use crate::cells::write;
 use crate::lists::insert_at;
 use crate::lists::take_first;
@@ -118,8 +118,8 @@ fn empty_list(w: &mut [u32], p: u32)
     requires { ⌜ p < listCount ⌝ }
     ensures { λ _. ⌜ now (w .exit) ≡ emptyList (now (w .entry)) p ⌝ }
 {
-    store(w, HEADS + p, ROWS);
-    store(w, TAILS + p, HEADS + p);
+    set(w, HEADS + p, ROWS);
+    set(w, TAILS + p, HEADS + p);
 }
 
 fn empty_lists(w: &mut [u32])
@@ -139,7 +139,7 @@ fn loose_rows(w: &mut [u32])
 {
     let mut k: u32 = 0;
     while k < ROWS {
-        store(w, PLACES + k, NOWHERE);
+        set(w, PLACES + k, NOWHERE);
         k += 1;
     }
 }
@@ -161,7 +161,7 @@ pub fn initialise(w: &mut [u32])
     ensures { λ _. ⌜ now (w .exit) ≡ initial (now (w .entry)) ⌝ }
 {
     empty_lists(w);
-    store(w, FEL_SIZE, 0);
+    set(w, FEL_SIZE, 0);
     loose_rows(w);
     free_rows(w);
 }

@@ -1,9 +1,9 @@
 // Who stands before whom on a list.
 
 use crate::SERIAL;
-use crate::cells::get_time;
 use crate::cells::priority;
 use crate::cells::read;
+use crate::cells::time;
 ghost use mathlib.Core.Path.{_≡_};
 ghost use Prim.Native.Nat.{_<_};
 ghost use Rattle.rows_laws.specs.Layout.{rowCount, Room};
@@ -11,6 +11,7 @@ ghost use Rattle.rows_laws.specs.Order.{outranks, soonerAt};
 
 // By priority, high first, then serial, low first.
 pub fn outranks(w: &[u32], x: u32, y: u32) -> bool
+    requires { ⌜ Room (now w) ⌝ }
     requires { ⌜ x < rowCount ⌝ }
     requires { ⌜ y < rowCount ⌝ }
     ensures { λ r. ⌜ r ≡ outranks (now (w .entry)) x y ⌝ }
@@ -33,7 +34,7 @@ pub fn sooner_at(w: &[u32], due: u64, x: u32, y: u32) -> bool
     requires { ⌜ y < rowCount ⌝ }
     ensures { λ r. ⌜ r ≡ soonerAt (now (w .entry)) due x y ⌝ }
 {
-    let other = get_time(w, y);
+    let other = time(w, y);
     if due < other {
         return true;
     }

@@ -11,10 +11,12 @@ use crate::waking::wake_first_ql;
 use crate::waking::wake_ql;
 use constants::ends::NOT_HOLDER;
 use constants::ends::NOT_IN_USE;
-use moves::go_on;
+use moves::row_goes_on;
 use moves::stop;
+use moves::with_outcome;
 use rows::NUMBER;
 use rows::cells::read;
+use state::ENTERED;
 use state::Scalars;
 use state::less64;
 use tables::EDITION;
@@ -27,38 +29,39 @@ ghost use mathlib.Core.Path.{_≡_};
 ghost use Prim.Native.Nat.{_+_, _<_, _≤_};
 ghost use Rattle.tables.specs.Layout.{programSize, serverCount};
 ghost use Rattle.rows_laws.specs.Layout.{Room, rowCount};
-ghost use Rattle.moves.specs.Motion.{moved};
+ghost use Rattle.moves.specs.Motion.{moved, withOutcome};
 ghost use Rattle.state.specs.Stands.{rowsOf};
 ghost use Rattle.servers_laws.specs.Freeing.{enterFreed, freeOne, freeSome, askRelease, release, leave};
 
-// It enters, and so many units are in use.
-fn enter_freed(work: &mut [u32], x: Scalars, v: u32, units: u64, capacity: u64) -> Scalars
+// Row k enters, and so many units are in use.
+fn enter_freed(work: &mut [u32], k: u32, v: u32, units: u64, capacity: u64)
     requires { ⌜ Room (now work) ⌝ }
-    requires { ⌜ x .moving < rowCount ⌝ }
+    requires { ⌜ k < rowCount ⌝ }
     requires { ⌜ v < serverCount ⌝ }
-    ensures { λ r. ⌜ moved r (now (work .exit)) ≡ enterFreed (now (work .entry)) x v units capacity ⌝ }
+    ensures { λ _. ⌜ ((x : Scalars) → x .moving ≡ k → moved (withOutcome x 0) (now (work .exit)) ≡ enterFreed (now (work .entry)) x v units capacity) ⌝ }
 {
     check_wels(work, v, units, capacity);
-    go_on(work, x)
+    row_goes_on(work, k);
 }
 
 pub fn free_one(
     tables: &[u32],
     work: &mut [u32],
     tally: &mut [u64],
-    x: Scalars,
+    k: u32,
+    clock: u64,
     v: u32,
     left: u64,
-) -> Scalars
+)
     requires { ⌜ Room (now work) ⌝ }
-    requires { ⌜ x .moving < rowCount ⌝ }
+    requires { ⌜ k < rowCount ⌝ }
     requires { ⌜ v < serverCount ⌝ }
-    ensures { λ r. ⌜ rowsOf r (now (work .exit)) (now (tally .exit)) ≡ freeOne (now (tables .entry)) (now (work .entry)) (now (tally .entry)) x v left ⌝ }
+    ensures { λ _. ⌜ ((x : Scalars) → x .moving ≡ k → x .clock ≡ clock → rowsOf (withOutcome x 0) (now (work .exit)) (now (tally .exit)) ≡ freeOne (now (tables .entry)) (now (work .entry)) (now (tally .entry)) x v left) ⌝ }
 {
     let all = capacity(tables, v);
-    change_use(tally, v, x.clock, left, 0, 0);
+    change_use(tally, v, clock, left, 0, 0);
     wake_first_ql(work, tally, v);
-    enter_freed(work, x, v, left, all)
+    enter_freed(work, k, v, left, all);
 }
 
 // So many units are in use then, b of them just given back.
@@ -66,23 +69,24 @@ fn free_some(
     tables: &[u32],
     work: &mut [u32],
     tally: &mut [u64],
-    x: Scalars,
+    k: u32,
+    clock: u64,
     v: u32,
     units: u64,
     b: u64,
-) -> Scalars
+)
     requires { ⌜ Room (now work) ⌝ }
-    requires { ⌜ x .moving < rowCount ⌝ }
+    requires { ⌜ k < rowCount ⌝ }
     requires { ⌜ v < serverCount ⌝ }
-    ensures { λ r. ⌜ rowsOf r (now (work .exit)) (now (tally .exit)) ≡ freeSome (now (tables .entry)) (now (work .entry)) (now (tally .entry)) x v units b ⌝ }
+    ensures { λ _. ⌜ ((x : Scalars) → x .moving ≡ k → x .clock ≡ clock → rowsOf (withOutcome x 0) (now (work .exit)) (now (tally .exit)) ≡ freeSome (now (tables .entry)) (now (work .entry)) (now (tally .entry)) x v units b) ⌝ }
 {
     let all = capacity(tables, v);
-    change_use(tally, v, x.clock, units, 0, 0);
+    change_use(tally, v, clock, units, 0, 0);
     let edition = number(tables, EDITION);
     let left = leave_with(edition, less64(all, units), b);
     let stay = wake_ql(tables, work, v, edition, left);
     set_count(tally, QL_LENGTH + (v as usize), stay);
-    enter_freed(work, x, v, units, all)
+    enter_freed(work, k, v, units, all);
 }
 
 // 0 where the transaction of that number may release a facility: "Is f in use? 24", then "of a preempted facility" 27, "by another than
@@ -121,7 +125,8 @@ pub fn release(
     if end != 0 {
         return stop(x, end);
     }
-    free_one(tables, work, tally, x, v, less64(units, 1))
+    free_one(tables, work, tally, x.moving, x.clock, v, less64(units, 1));
+    with_outcome(x, ENTERED)
 }
 
 pub fn leave(tables: &[u32], work: &mut [u32], tally: &mut [u64], x: Scalars, at: usize) -> Scalars
@@ -136,5 +141,6 @@ pub fn leave(tables: &[u32], work: &mut [u32], tally: &mut [u64], x: Scalars, at
     if units < b {
         return stop(x, NOT_IN_USE);
     }
-    free_some(tables, work, tally, x, v, units - b, b)
+    free_some(tables, work, tally, x.moving, x.clock, v, units - b, b);
+    with_outcome(x, ENTERED)
 }

@@ -4,11 +4,13 @@ use crate::units::change_use;
 use crate::units::in_use;
 use crate::units::server_at;
 use crate::waking::check_wels;
-use moves::go_on;
-use moves::wait_on;
+use moves::row_goes_on;
+use moves::row_waits;
+use moves::with_outcome;
 use rows::NUMBER;
 use rows::cells::read;
 use rows::future::keep_holder;
+use state::ENTERED;
 use state::Scalars;
 use state::less64;
 use state::plus64;
@@ -25,66 +27,80 @@ ghost use Prim.Native.Nat.{_+_, _<_, _≤_};
 ghost use Rattle.tables.specs.Layout.{programSize, serverCount};
 ghost use Rattle.rows_laws.specs.Layout.{Room, rowCount};
 ghost use Rattle.state.specs.Stands.{rowsOf};
+ghost use Rattle.moves.specs.Motion.{withOutcome};
 ghost use Rattle.servers_laws.specs.Taking.{holdUnits, queueUp, takeUnits, seize, enter};
 
-// It enters; so many units are in use, and `who`, whose row is k, holds the server, 0 for nobody; 1 for by PREEMPT.
+// Row `moving` enters; so many units are in use, and `who`, whose row is k, holds the server, 0 for nobody; 1 for by PREEMPT.
 pub fn hold_units(
     work: &mut [u32],
     tally: &mut [u64],
-    x: Scalars,
+    moving: u32,
+    clock: u64,
     v: u32,
     units: u64,
     who: u64,
     k: u32,
     preempts: u64,
     capacity: u64,
-) -> Scalars
+)
     requires { ⌜ Room (now work) ⌝ }
-    requires { ⌜ x .moving < rowCount ⌝ }
+    requires { ⌜ moving < rowCount ⌝ }
     requires { ⌜ v < serverCount ⌝ }
-    ensures { λ r. ⌜ rowsOf r (now (work .exit)) (now (tally .exit)) ≡ holdUnits (now (work .entry)) (now (tally .entry)) x v units who k preempts capacity ⌝ }
+    ensures { λ _. ⌜ ((x : Scalars) → x .moving ≡ moving → x .clock ≡ clock → rowsOf (withOutcome x 0) (now (work .exit)) (now (tally .exit)) ≡ holdUnits (now (work .entry)) (now (tally .entry)) x v units who k preempts capacity) ⌝ }
 {
-    change_use(tally, v, x.clock, units, who, preempts);
+    change_use(tally, v, clock, units, who, preempts);
     keep_holder(work, v, k);
     check_wels(work, v, units, capacity);
-    go_on(work, x)
+    row_goes_on(work, moving);
 }
 
-// It waits on the QL.
-fn queue_up(work: &mut [u32], tally: &mut [u64], x: Scalars, v: u32, edition: u32) -> Scalars
+// Row k waits on the QL.
+fn queue_up(
+    work: &mut [u32],
+    tally: &mut [u64],
+    k: u32,
+    serial: u32,
+    clock: u64,
+    v: u32,
+    edition: u32,
+) -> u32
     requires { ⌜ Room (now work) ⌝ }
-    requires { ⌜ x .moving < rowCount ⌝ }
+    requires { ⌜ k < rowCount ⌝ }
     requires { ⌜ v < serverCount ⌝ }
-    ensures { λ r. ⌜ rowsOf r (now (work .exit)) (now (tally .exit)) ≡ queueUp (now (work .entry)) (now (tally .entry)) x v edition ⌝ }
+    ensures { λ r. ⌜ ((x : Scalars) → x .moving ≡ k → x .serial ≡ serial → x .clock ≡ clock → rowsOf (withOutcome x r) (now (work .exit)) (now (tally .exit)) ≡ queueUp (now (work .entry)) (now (tally .entry)) x v edition) ⌝ }
 {
-    update_server(tally, v as usize, x.clock);
+    update_server(tally, v as usize, clock);
     let at = QL_LENGTH + (v as usize);
     let n = plus64(count(tally, at), 1);
     set_count(tally, at, n);
-    wait_on(work, x, v, edition)
+    row_waits(work, k, serial, v, edition)
 }
 
+// Row k enters with b units, or waits.
 pub fn take_units(
     tables: &[u32],
     work: &mut [u32],
     tally: &mut [u64],
-    x: Scalars,
+    k: u32,
+    serial: u32,
+    clock: u64,
     v: u32,
     b: u64,
     who: u64,
     preempts: u64,
-) -> Scalars
+) -> u32
     requires { ⌜ Room (now work) ⌝ }
-    requires { ⌜ x .moving < rowCount ⌝ }
+    requires { ⌜ k < rowCount ⌝ }
     requires { ⌜ v < serverCount ⌝ }
-    ensures { λ r. ⌜ rowsOf r (now (work .exit)) (now (tally .exit)) ≡ takeUnits (now (tables .entry)) (now (work .entry)) (now (tally .entry)) x v b who preempts ⌝ }
+    ensures { λ r. ⌜ ((x : Scalars) → x .moving ≡ k → x .serial ≡ serial → x .clock ≡ clock → rowsOf (withOutcome x r) (now (work .exit)) (now (tally .exit)) ≡ takeUnits (now (tables .entry)) (now (work .entry)) (now (tally .entry)) x v b who preempts) ⌝ }
 {
     let units = in_use(tally, v);
     let all = capacity(tables, v);
     if b <= less64(all, units) {
-        return hold_units(work, tally, x, v, units + b, who, x.moving, preempts, all);
+        hold_units(work, tally, k, clock, v, units + b, who, k, preempts, all);
+        return ENTERED;
     }
-    queue_up(work, tally, x, v, number(tables, EDITION))
+    queue_up(work, tally, k, serial, clock, v, number(tables, EDITION))
 }
 
 pub fn seize(tables: &[u32], work: &mut [u32], tally: &mut [u64], x: Scalars, at: usize) -> Scalars
@@ -95,7 +111,19 @@ pub fn seize(tables: &[u32], work: &mut [u32], tally: &mut [u64], x: Scalars, at
 {
     let v = server_at(tables, at + FIRST);
     let number = read(work, NUMBER, x.moving) as u64;
-    take_units(tables, work, tally, x, v, 1, number, 0)
+    let outcome = take_units(
+        tables,
+        work,
+        tally,
+        x.moving,
+        x.serial,
+        x.clock,
+        v,
+        1,
+        number,
+        0,
+    );
+    with_outcome(x, outcome)
 }
 
 pub fn enter(tables: &[u32], work: &mut [u32], tally: &mut [u64], x: Scalars, at: usize) -> Scalars
@@ -106,5 +134,6 @@ pub fn enter(tables: &[u32], work: &mut [u32], tally: &mut [u64], x: Scalars, at
 {
     let v = server_at(tables, at + FIRST);
     let b = number(tables, at + SECOND) as u64;
-    take_units(tables, work, tally, x, v, b, 0, 0)
+    let outcome = take_units(tables, work, tally, x.moving, x.serial, x.clock, v, b, 0, 0);
+    with_outcome(x, outcome)
 }

@@ -63,6 +63,7 @@ fn begins_group(tables: &[u32], at: usize) -> bool
 
 // With a back count: it last entered the first block of its group at an earlier clock.
 fn late(work: &[u32], x: Scalars, c: u32) -> bool
+    requires { ⌜ Room (now work) ⌝ }
     requires { ⌜ x .moving < rowCount ⌝ }
     ensures { λ r. ⌜ r ≡ isLate (now (work .entry)) x c ⌝ }
 {

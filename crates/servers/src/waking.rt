@@ -106,6 +106,7 @@ fn units_at(tables: &[u32], at: usize) -> u64
 
 // The units that row k waits for.
 fn member_units(tables: &[u32], work: &[u32], k: u32) -> u64
+    requires { ⌜ Room (now work) ⌝ }
     requires { ⌜ k < rowCount ⌝ }
     ensures { λ r. ⌜ r ≡ memberUnits (now (tables .entry)) (now (work .entry)) k ⌝ }
 {

@@ -4,6 +4,7 @@ use constants::Model;
 use constants::kinds::GENERATE;
 use flow::arrives;
 use flow::next_sample;
+use flow::one_made;
 use flow::times_left;
 use rows::make::initialise;
 use state::ENTERED;
@@ -94,7 +95,18 @@ fn begin_list(
     }
     let priority = number(tables, BLOCK_WIDTH * b + SECOND);
     let sample = next_sample(tape, tally, list);
-    arrives(work, tally, x, sample, list, priority, (b + 1) as u32)
+    let made = arrives(
+        work,
+        tally,
+        x.made,
+        x.serial,
+        x.clock,
+        sample,
+        list,
+        priority,
+        (b + 1) as u32,
+    );
+    one_made(x, made)
 }
 
 fn begin_block(

@@ -1,4 +1,5 @@
 use rows::ROWS;
+ghost use mathlib.Core.Path.{_≡_};
 
 pub const NOBODY: u32 = ROWS;
 
@@ -22,4 +23,22 @@ pub struct Scalars {
     pub clock: u64,
     pub end: u32,
     pub note: u32,
+}
+
+// The same scalars, field by field: loads of single fields in place of a copy, which waits for the stores before it.
+pub fn fresh(x: Scalars) -> Scalars
+    ensures { λ r. ⌜ r ≡ x ⌝ }
+{
+    Scalars {
+        counter: x.counter,
+        moving: x.moving,
+        serial: x.serial,
+        made: x.made,
+        ended: x.ended,
+        turns: x.turns,
+        used: x.used,
+        clock: x.clock,
+        end: x.end,
+        note: x.note,
+    }
 }

@@ -9,6 +9,7 @@ use rows::NUMBER;
 use rows::ROWS;
 use rows::cells::read;
 use state::Scalars;
+use state::fresh;
 use state::less32;
 use tables::ASKED;
 use tables::BLOCK_WIDTH;
@@ -54,7 +55,7 @@ fn act(
         x,
         BLOCK_WIDTH * b,
     );
-    note_record(tally, trace, y, number, block)
+    note_record(tally, trace, fresh(y), number, block)
 }
 
 // Who moves, if somebody does, executes its block.
@@ -105,6 +106,7 @@ fn clock_asked(tables: &[u32; TABLES], before: u64, after: u64) -> bool
 // Are those that wait on comparisons asked again after this turn, of a clock before it and the scalars after the taking? Not if none of
 // them reads what the block of whoever moves changes.
 fn asked(tables: &[u32; TABLES], work: &[u32], before: u64, x: Scalars) -> bool
+    requires { ⌜ Room (now work) ⌝ }
     ensures { λ r. ⌜ r ≡ asks (now (tables .entry)) (now (work .entry)) before x ⌝ }
 {
     let clock = x.clock;

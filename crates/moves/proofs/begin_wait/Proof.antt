@@ -1,25 +1,21 @@
--- `begin_wait` meets its contract: the fresh serial is written, then the row comes onto the list.
-use Rattle.moves.specs.Motion.{beginWait}
+-- `begin_wait` meets its contract: its row, then the scalars.
+use mathlib.Core.Path.{refl}
 use borrow.Author.Needs.{needs}
 use Rattle.moves.proofs.begin_wait.Statement.{statement}
 use Rattle.moves.proofs.begin_wait.Tie as tie
 
-plus32-requires : tie.Need-plus32-requires
-plus32-requires c κs = search needs
+row-begins-wait-requires : tie.Need-row-begins-wait-requires
+row-begins-wait-requires c κs = search needs
 
-write-requires : tie.Need-write-requires
-write-requires c κs = search needs
-
-line-up-requires : tie.Need-line-up-requires
-line-up-requires c κs = search needs
+with-outcome-requires : tie.Need-with-outcome-requires
+with-outcome-requires c κs = search needs
 
 same-length : tie.Need-same-length
 same-length c = search needs
 
 returns : tie.Need-returns
-unfolding beginWait
-returns c = rw (c .before .before .line-up .ensures, c .before .before .before .before .before .before .write .ensures, c .before .before .before .before .before .before .before .before .plus32 .ensures)
+returns c = rw (c .with-outcome .ensures) (c .before .before .before .row-begins-wait .ensures _ refl refl)
 
 pub begin-wait-spec : {M : Type 1} → statement M
 begin-wait-spec =
-    tie.close (tie.spec plus32-requires write-requires line-up-requires same-length returns)
+    tie.close (tie.spec row-begins-wait-requires with-outcome-requires same-length returns)

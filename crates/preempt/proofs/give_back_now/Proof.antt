@@ -1,4 +1,5 @@
 -- `give_back_now` meets its contract, by cases on the first of the facility's list.
+use mathlib.Core.Path.{refl}
 use borrow.Author.Tests.{lt-ltb, le-ltb}
 use Rattle.preempt_laws.specs.Preempting.{giveBackRows}
 use borrow.Author.Needs.{needs}
@@ -33,6 +34,9 @@ less64-requires c κs = search needs
 free-one-requires : tie.Need-free-one-requires
 free-one-requires c κs = search needs
 
+with-outcome-requires : tie.Need-with-outcome-requires
+with-outcome-requires c κs = search needs
+
 same-length-3 : tie.Need-same-length-3
 same-length-3 c = search needs
 
@@ -41,7 +45,7 @@ same-length-4 c = search needs
 
 returns-2 : tie.Need-returns-2
 unfolding giveBackRows
-returns-2 c = rw (← c .before .before .before .before .before .before .before .before .before .before .before .first .ensures, le-ltb _ 1024 (c .before .before .before .before .before .before .before .before .before .before .if1 .left), ← c .before .before .before .before .before .before .before .before .in-use .ensures, ← c .before .before .before .before .before .before .before .less64 .ensures) (c .before .before .before .before .free-one .ensures)
+returns-2 c = rw (c .with-outcome .ensures, ← c .before .before .before .before .before .before .before .before .before .before .before .before .first .ensures, le-ltb _ 1024 (c .before .before .before .before .before .before .before .before .before .before .before .if1 .left), ← c .before .before .before .before .before .before .before .before .before .in-use .ensures, ← c .before .before .before .before .before .before .before .before .less64 .ensures) (c .before .before .before .before .before .free-one .ensures _ refl refl)
 
 pub give-back-now-spec : {M : Type 1} → statement M
 give-back-now-spec =
@@ -56,6 +60,7 @@ give-back-now-spec =
     in-use-requires
     less64-requires
     free-one-requires
+    with-outcome-requires
     same-length-3
     same-length-4
     returns-2)

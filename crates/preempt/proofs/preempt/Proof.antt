@@ -1,4 +1,5 @@
 -- `preempt` meets its contract, by cases on whether the facility is seized.
+use mathlib.Core.Path.{refl}
 use Rattle.preempt_laws.specs.Preempting.{preempt}
 use borrow.Author.Needs.{needs}
 use Rattle.preempt.proofs.preempt.Statement.{statement}
@@ -35,6 +36,9 @@ returns c = rw (← c .before .before .before .before .before .before .before .b
 take-units-requires : tie.Need-take-units-requires
 take-units-requires c κs = search needs
 
+with-outcome-requires : tie.Need-with-outcome-requires
+with-outcome-requires c κs = search needs
+
 same-length-3 : tie.Need-same-length-3
 same-length-3 c = search needs
 
@@ -43,7 +47,7 @@ same-length-4 c = search needs
 
 returns-2 : tie.Need-returns-2
 unfolding preempt
-returns-2 c = rw (← c .before .before .before .before .before .before .before .before .before .before .before .before .server-at .ensures .0, ← c .before .before .before .before .before .before .before .before .before .before .read .ensures, ← c .before .before .before .before .before .before .before .before .seized .ensures, c .before .before .before .before .before .before .before .if1 .left) (c .before .before .before .before .take-units .ensures)
+returns-2 c = rw (c .with-outcome .ensures, ← c .before .before .before .before .before .before .before .before .before .before .before .before .before .server-at .ensures .0, ← c .before .before .before .before .before .before .before .before .before .before .before .read .ensures, ← c .before .before .before .before .before .before .before .before .before .seized .ensures, c .before .before .before .before .before .before .before .before .if1 .left) (c .before .before .before .before .before .take-units .ensures _ refl refl refl)
 
 pub preempt-spec : {M : Type 1} → statement M
 preempt-spec =
@@ -59,6 +63,7 @@ preempt-spec =
     same-length-2
     returns
     take-units-requires
+    with-outcome-requires
     same-length-3
     same-length-4
     returns-2)

@@ -1,4 +1,5 @@
 -- `preempt_seized` meets its contract, by cases on the row that loses.
+use mathlib.Core.Path.{refl}
 use borrow.Author.Tests.{lt-ltb, le-ltb}
 use Rattle.preempt_laws.specs.Preempting.{preemptSeized}
 use borrow.Author.Needs.{needs}
@@ -30,6 +31,9 @@ returns c = rw (← c .before .before .before .before .before .before .before .b
 take-units-requires : tie.Need-take-units-requires
 take-units-requires c κs = search needs
 
+with-outcome-requires : tie.Need-with-outcome-requires
+with-outcome-requires c κs = search needs
+
 same-length-3 : tie.Need-same-length-3
 same-length-3 c = search needs
 
@@ -38,7 +42,7 @@ same-length-4 c = search needs
 
 returns-2 : tie.Need-returns-2
 unfolding preemptSeized
-returns-2 c = rw (← c .before .before .before .before .before .before .before .before .before .before .before .holder .ensures, ← c .before .before .before .before .before .before .before .before .before .priority .ensures, ← c .before .before .before .before .before .before .before .before .find-loser .ensures, le-ltb _ 1024 (c .before .before .before .before .before .before .before .if1 .left)) (c .before .before .before .before .take-units .ensures)
+returns-2 c = rw (c .with-outcome .ensures, ← c .before .before .before .before .before .before .before .before .before .before .before .before .holder .ensures, ← c .before .before .before .before .before .before .before .before .before .before .priority .ensures, ← c .before .before .before .before .before .before .before .before .before .find-loser .ensures, le-ltb _ 1024 (c .before .before .before .before .before .before .before .before .if1 .left)) (c .before .before .before .before .before .take-units .ensures _ refl refl refl)
 
 pub preempt-seized-spec : {M : Type 1} → statement M
 preempt-seized-spec =
@@ -52,6 +56,7 @@ preempt-seized-spec =
     same-length-2
     returns
     take-units-requires
+    with-outcome-requires
     same-length-3
     same-length-4
     returns-2)

@@ -1,5 +1,5 @@
 -- `resume` meets its contract: the steps in order. The moving row stays.
-use mathlib.Core.Path.{ap}
+use mathlib.Core.Path.{refl, ap}
 use Rattle.moves.specs.Motion.{Moved, moved}
 use Rattle.flow_laws.specs.Sending.{toFuture}
 use Rattle.preempt_laws.specs.Preempting.{resumeOn, resumeRows}
@@ -26,6 +26,9 @@ hold-units-requires : tie.Need-hold-units-requires
 unfolding resumeOn toFuture moved
 hold-units-requires c κs = search (ap (λ (y : Moved). y .scalars .moving) (c .before .before .before .before .resume-on .ensures), needs)
 
+with-outcome-requires : tie.Need-with-outcome-requires
+with-outcome-requires c κs = search needs
+
 same-length : tie.Need-same-length
 same-length c = search needs
 
@@ -34,7 +37,7 @@ same-length-2 c = search needs
 
 returns : tie.Need-returns
 unfolding resumeRows moved
-returns c = rw (← c .before .before .before .before .before .before .before .before .before .before .before .before .before .before .in-use .ensures, ← c .before .before .before .before .before .before .before .before .before .before .before .before .before .capacity .ensures .0, ← c .before .before .before .before .before .before .before .before .before .before .before .read .ensures, ← c .before .before .before .before .before .before .before .before .before .resume-on .ensures) (c .before .before .before .before .hold-units .ensures)
+returns c = rw (c .with-outcome .ensures, ← c .before .before .before .before .before .before .before .before .before .before .before .before .before .before .before .in-use .ensures, ← c .before .before .before .before .before .before .before .before .before .before .before .before .before .before .capacity .ensures .0, ← c .before .before .before .before .before .before .before .before .before .before .before .before .read .ensures, ← c .before .before .before .before .before .before .before .before .before .before .resume-on .ensures) (c .before .before .before .before .before .hold-units .ensures _ refl refl)
 
 pub resume-spec : {M : Type 1} → statement M
 resume-spec =
@@ -46,6 +49,7 @@ resume-spec =
     cast-who
     resume-on-requires
     hold-units-requires
+    with-outcome-requires
     same-length
     same-length-2
     returns)

@@ -1,4 +1,5 @@
 -- `take_over` meets its contract: the steps in order.
+use mathlib.Core.Path.{refl}
 use Rattle.preempt_laws.specs.Preempting.{takeOver}
 use borrow.Author.Needs.{needs}
 use Rattle.preempt.proofs.take_over.Statement.{statement}
@@ -16,6 +17,9 @@ interrupt-on-requires c κs = search needs
 hold-units-requires : tie.Need-hold-units-requires
 hold-units-requires c κs = search needs
 
+with-outcome-requires : tie.Need-with-outcome-requires
+with-outcome-requires c κs = search needs
+
 same-length : tie.Need-same-length
 same-length c = search needs
 
@@ -24,7 +28,7 @@ same-length-2 c = search needs
 
 returns : tie.Need-returns
 unfolding takeOver
-returns c = rw (← c .before .before .before .before .before .before .before .before .before .before .before .before .in-use .ensures, ← c .before .before .before .before .before .before .before .before .before .before .before .capacity .ensures .0, ← c .before .before .before .before .before .before .before .before .before .interrupt-on .ensures) (c .before .before .before .before .hold-units .ensures)
+returns c = rw (c .with-outcome .ensures, ← c .before .before .before .before .before .before .before .before .before .before .before .before .before .in-use .ensures, ← c .before .before .before .before .before .before .before .before .before .before .before .before .capacity .ensures .0, ← c .before .before .before .before .before .before .before .before .before .before .interrupt-on .ensures) (c .before .before .before .before .before .hold-units .ensures _ refl refl)
 
 pub take-over-spec : {M : Type 1} → statement M
 take-over-spec =
@@ -34,6 +38,7 @@ take-over-spec =
     capacity-requires
     interrupt-on-requires
     hold-units-requires
+    with-outcome-requires
     same-length
     same-length-2
     returns)

@@ -1,4 +1,5 @@
 -- `begin_list` meets its contract: by cases on the times left.
+use mathlib.Core.Path.{refl}
 use borrow.Author.Tests.{eq-eqb, ne-eqb}
 use Rattle.state.specs.Stands.{rowsOf}
 use Rattle.start.specs.Start.{beginList}
@@ -46,6 +47,9 @@ cast-arrives c = search needs
 arrives-requires : tie.Need-arrives-requires
 arrives-requires c κs = search needs
 
+one-made-requires : tie.Need-one-made-requires
+one-made-requires c κs = search needs
+
 same-length-2 : tie.Need-same-length-2
 same-length-2 c = search needs
 
@@ -54,7 +58,7 @@ same-length-3 c = search needs
 
 returns-2 : tie.Need-returns-2
 unfolding beginList rowsOf
-returns-2 c = rw (← c .before .before .before .before .before .before .before .before .before .before .before .before .before .number .ensures, ← c .before .before .before .before .before .before .before .before .before .number2 .ensures, ← c .before .before .before .before .before .before .before .before .before .before .before .times-left .ensures, ne-eqb _ 0 (c .before .before .before .before .before .before .before .before .before .before .if1 .left), ← c .before .before .before .before .before .before .before .next-sample .ensures) (c .before .before .before .before .arrives .ensures)
+returns-2 c = rw (c .one-made .ensures, ← c .before .before .before .before .before .before .before .before .before .before .before .before .before .before .number .ensures, ← c .before .before .before .before .before .before .before .before .before .before .number2 .ensures, ← c .before .before .before .before .before .before .before .before .before .before .before .before .times-left .ensures, ne-eqb _ 0 (c .before .before .before .before .before .before .before .before .before .before .before .if1 .left), ← c .before .before .before .before .before .before .before .before .next-sample .ensures) (c .before .before .before .before .before .arrives .ensures _ refl refl refl)
 
 pub begin-list-spec : {M : Type 1} → statement M
 begin-list-spec =
@@ -73,6 +77,7 @@ begin-list-spec =
     add-arrives
     cast-arrives
     arrives-requires
+    one-made-requires
     same-length-2
     same-length-3
     returns-2)

@@ -1,29 +1,20 @@
--- `to_future` meets its contract: serial and time, then the list.
-use Rattle.flow_laws.specs.Sending.{toFuture}
+-- `to_future` meets its contract: the row, then the scalars.
+use mathlib.Core.Path.{refl}
 use borrow.Author.Needs.{needs}
 use Rattle.flow.proofs.sending.to_future.Statement.{statement}
 use Rattle.flow.proofs.sending.to_future.Tie as tie
 
+row-to-future-requires : tie.Need-row-to-future-requires
+row-to-future-requires c κs = search needs
+
 plus32-requires : tie.Need-plus32-requires
 plus32-requires c κs = search needs
-
-write-requires : tie.Need-write-requires
-write-requires c κs = search needs
-
-set-time-requires : tie.Need-set-time-requires
-set-time-requires c κs = search needs
-
-schedule-requires : tie.Need-schedule-requires
-schedule-requires c κs = search needs
 
 same-length : tie.Need-same-length
 same-length c = search needs
 
 returns : tie.Need-returns
-unfolding toFuture
-returns c = rw (← c .before .before .before .before .before .before .before .before .before .before .before .before .plus32 .ensures, c .before .before .schedule .ensures, c .before .before .before .before .before .before .set-time .ensures, c .before .before .before .before .before .before .before .before .before .before .write .ensures)
+returns c = rw (c .plus32 .ensures) (c .before .before .before .row-to-future .ensures _ refl)
 
 pub to-future-spec : {M : Type 1} → statement M
-to-future-spec =
-    tie.close
-    (tie.spec plus32-requires write-requires set-time-requires schedule-requires same-length returns)
+to-future-spec = tie.close (tie.spec row-to-future-requires plus32-requires same-length returns)

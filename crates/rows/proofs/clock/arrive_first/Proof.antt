@@ -5,15 +5,15 @@ use borrow.Author.Needs.{needs}
 use Rattle.rows.proofs.clock.arrive_first.Statement.{statement}
 use Rattle.rows.proofs.clock.arrive_first.Tie as tie
 
-load-requires : tie.Need-load-requires
-load-requires c κs = search needs
+get-requires : tie.Need-get-requires
+get-requires c κs = search needs
 
 same-length : tie.Need-same-length
 same-length c = search needs
 
 returns : tie.Need-returns
 unfolding arriveFirst
-returns c = rw (← c .before .load .ensures, le-ltb _ 1024 (c .if1 .taken))
+returns c = rw (← c .before .get .ensures, le-ltb _ 1024 (c .if1 .taken))
 
 arrive-row-requires : tie.Need-arrive-row-requires
 arrive-row-requires c κs = search needs
@@ -23,9 +23,9 @@ same-length-2 c = search needs
 
 returns-2 : tie.Need-returns-2
 unfolding arriveFirst
-returns-2 c = rw (← c .before .before .before .before .before .load .ensures, lt-ltb _ 1024 (c .before .before .before .before .if1 .left)) (c .before .before .arrive-row .ensures)
+returns-2 c = rw (← c .before .before .before .before .before .get .ensures, lt-ltb _ 1024 (c .before .before .before .before .if1 .left)) (c .before .before .arrive-row .ensures)
 
 pub arrive-first-spec : {M : Type 1} → statement M
 arrive-first-spec =
     tie.close
-    (tie.spec load-requires same-length returns arrive-row-requires same-length-2 returns-2)
+    (tie.spec get-requires same-length returns arrive-row-requires same-length-2 returns-2)

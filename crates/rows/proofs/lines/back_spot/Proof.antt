@@ -6,7 +6,7 @@ use Rattle.rows.proofs.lines.back_spot.Tie as tie
 
 returns : tie.Need-returns
 unfolding backSpot
-returns c = rw (← c .before .load .ensures) (c .back-before .ensures)
+returns c = rw (← c .before .get .ensures) (c .back-before .ensures)
 
 pub back-spot-spec : {M : Type 1} → statement M
 back-spot-spec = tie.close (tie.spec (search needs) (search needs) (search needs) returns)

@@ -21,11 +21,11 @@ loop-holds : tie.Need-loop-holds Inv-loop μ-loop
 unfolding looseRows
 loop-holds c = (refl, (omega arith, refl))
 
-add-store : tie.Need-add-store Inv-loop μ-loop
-add-store c = omega arith
+add-set : tie.Need-add-set Inv-loop μ-loop
+add-set c = omega arith
 
-store-requires : tie.Need-store-requires Inv-loop μ-loop
-store-requires c κs = omega arith
+set-requires : tie.Need-set-requires Inv-loop μ-loop
+set-requires c κs = omega arith
 
 add-k : tie.Need-add-k Inv-loop μ-loop
 add-k c = omega arith
@@ -35,7 +35,7 @@ loop-less c = omega arith
 
 loop-again : tie.Need-loop-again Inv-loop μ-loop
 unfolding looseRows
-loop-again c = (rw (add-one (c .before .before .before .before .before .loop .k)) (c .before .before .store .ensures ∙ ap (λ (v : List ℕ). store v (place (c .before .before .before .before .before .loop .k)) nowhere) (c .before .before .before .before .before .loop .inv .0)), (omega arith, omega (arith, c .before .before .store .kept)))
+loop-again c = (rw (add-one (c .before .before .before .before .before .loop .k)) (c .before .before .set .ensures ∙ ap (λ (v : List ℕ). store v (place (c .before .before .before .before .before .loop .k)) nowhere) (c .before .before .before .before .before .loop .inv .0)), (omega arith, omega (arith, c .before .before .set .kept)))
 
 same-length : tie.Need-same-length Inv-loop μ-loop
 same-length c = omega arith
@@ -50,8 +50,8 @@ loose-rows-spec =
     Inv-loop
     μ-loop
     loop-holds
-    add-store
-    store-requires
+    add-set
+    set-requires
     add-k
     loop-less
     loop-again

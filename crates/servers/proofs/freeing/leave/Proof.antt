@@ -1,4 +1,5 @@
 -- `leave` meets its contract, by cases on the question.
+use mathlib.Core.Path.{refl}
 use borrow.Author.Tests.{lt-ltb, le-ltb}
 use Rattle.servers_laws.specs.Freeing.{leave}
 use borrow.Author.Needs.{needs}
@@ -36,6 +37,9 @@ returns c = rw (← c .before .before .before .before .before .server-at .ensure
 free-some-requires : tie.Need-free-some-requires
 free-some-requires c κs = search needs
 
+with-outcome-requires : tie.Need-with-outcome-requires
+with-outcome-requires c κs = search needs
+
 same-length-2 : tie.Need-same-length-2
 same-length-2 c = search needs
 
@@ -44,7 +48,7 @@ same-length-3 c = search needs
 
 returns-2 : tie.Need-returns-2
 unfolding leave
-returns-2 c = rw (← c .before .before .before .before .before .before .before .before .before .before .before .server-at .ensures .0, ← c .before .before .before .before .before .before .before .before .before .before .number .ensures, ← c .before .before .before .before .before .before .before .before .in-use .ensures, le-ltb _ _ (c .before .before .before .before .before .before .before .if1 .left)) (c .before .before .before .before .free-some .ensures)
+returns-2 c = rw (c .with-outcome .ensures, ← c .before .before .before .before .before .before .before .before .before .before .before .before .server-at .ensures .0, ← c .before .before .before .before .before .before .before .before .before .before .before .number .ensures, ← c .before .before .before .before .before .before .before .before .before .in-use .ensures, le-ltb _ _ (c .before .before .before .before .before .before .before .before .if1 .left)) (c .before .before .before .before .before .free-some .ensures _ refl refl)
 
 pub leave-spec : {M : Type 1} → statement M
 leave-spec =
@@ -60,6 +64,7 @@ leave-spec =
     same-length
     returns
     free-some-requires
+    with-outcome-requires
     same-length-2
     same-length-3
     returns-2)

@@ -1,4 +1,5 @@
 -- `release` meets its contract, by cases on the question.
+use mathlib.Core.Path.{refl}
 use borrow.Author.Tests.{eq-eqb, ne-eqb}
 use Rattle.servers_laws.specs.Freeing.{release}
 use borrow.Author.Needs.{needs}
@@ -48,6 +49,9 @@ less64-requires c κs = search needs
 free-one-requires : tie.Need-free-one-requires
 free-one-requires c κs = search needs
 
+with-outcome-requires : tie.Need-with-outcome-requires
+with-outcome-requires c κs = search needs
+
 same-length-3 : tie.Need-same-length-3
 same-length-3 c = search needs
 
@@ -56,7 +60,7 @@ same-length-4 c = search needs
 
 returns-2 : tie.Need-returns-2
 unfolding release
-returns-2 c = rw (← c .before .before .before .before .before .before .before .before .before .before .before .before .before .before .before .before .before .before .server-at .ensures .0, ← c .before .before .before .before .before .before .before .before .before .before .before .before .before .before .before .before .in-use .ensures, ← c .before .before .before .before .before .before .before .before .before .before .before .before .before .before .read .ensures, ← c .before .before .before .before .before .before .before .before .before .before .before .before .preempted .ensures, ← c .before .before .before .before .before .before .before .before .before .before .holder .ensures, ← c .before .before .before .before .before .before .before .before .before .ask-release .ensures, eq-eqb _ 0 (c .before .before .before .before .before .before .before .before .if1 .left), ← c .before .before .before .before .before .less64 .ensures) (c .before .before .before .before .free-one .ensures)
+returns-2 c = rw (c .with-outcome .ensures, ← c .before .before .before .before .before .before .before .before .before .before .before .before .before .before .before .before .before .before .before .server-at .ensures .0, ← c .before .before .before .before .before .before .before .before .before .before .before .before .before .before .before .before .before .in-use .ensures, ← c .before .before .before .before .before .before .before .before .before .before .before .before .before .before .before .read .ensures, ← c .before .before .before .before .before .before .before .before .before .before .before .before .before .preempted .ensures, ← c .before .before .before .before .before .before .before .before .before .before .before .holder .ensures, ← c .before .before .before .before .before .before .before .before .before .before .ask-release .ensures, eq-eqb _ 0 (c .before .before .before .before .before .before .before .before .before .if1 .left), ← c .before .before .before .before .before .before .less64 .ensures) (c .before .before .before .before .before .free-one .ensures _ refl refl)
 
 pub release-spec : {M : Type 1} → statement M
 release-spec =
@@ -76,6 +80,7 @@ release-spec =
     returns
     less64-requires
     free-one-requires
+    with-outcome-requires
     same-length-3
     same-length-4
     returns-2)

@@ -1,4 +1,5 @@
 -- `enter` meets its contract: the units and the server that the block names.
+use mathlib.Core.Path.{refl}
 use Rattle.servers_laws.specs.Taking.{enter}
 use borrow.Author.Needs.{needs}
 use Rattle.servers.proofs.taking.enter.Statement.{statement}
@@ -22,6 +23,9 @@ cast-b c = search needs
 take-units-requires : tie.Need-take-units-requires
 take-units-requires c κs = search needs
 
+with-outcome-requires : tie.Need-with-outcome-requires
+with-outcome-requires c κs = search needs
+
 same-length : tie.Need-same-length
 same-length c = search needs
 
@@ -30,7 +34,7 @@ same-length-2 c = search needs
 
 returns : tie.Need-returns
 unfolding enter
-returns c = rw (← c .before .before .before .before .before .before .before .before .server-at .ensures .0, ← c .before .before .before .before .before .before .before .number .ensures) (c .before .before .before .before .take-units .ensures)
+returns c = rw (c .with-outcome .ensures, ← c .before .before .before .before .before .before .before .before .before .server-at .ensures .0, ← c .before .before .before .before .before .before .before .before .number .ensures) (c .before .before .before .before .before .take-units .ensures _ refl refl refl)
 
 pub enter-spec : {M : Type 1} → statement M
 enter-spec =
@@ -42,6 +46,7 @@ enter-spec =
     number-requires
     cast-b
     take-units-requires
+    with-outcome-requires
     same-length
     same-length-2
     returns)

@@ -1,4 +1,5 @@
 -- `seize` meets its contract: one unit of the server that the block names, held by the moving one.
+use mathlib.Core.Path.{refl}
 use Rattle.servers_laws.specs.Taking.{seize}
 use borrow.Author.Needs.{needs}
 use Rattle.servers.proofs.taking.seize.Statement.{statement}
@@ -19,6 +20,9 @@ cast-number c = search needs
 take-units-requires : tie.Need-take-units-requires
 take-units-requires c κs = search needs
 
+with-outcome-requires : tie.Need-with-outcome-requires
+with-outcome-requires c κs = search needs
+
 same-length : tie.Need-same-length
 same-length c = search needs
 
@@ -27,7 +31,7 @@ same-length-2 c = search needs
 
 returns : tie.Need-returns
 unfolding seize
-returns c = rw (← c .before .before .before .before .before .before .before .before .before .server-at .ensures .0, ← c .before .before .before .before .before .before .before .read .ensures) (c .before .before .before .before .take-units .ensures)
+returns c = rw (c .with-outcome .ensures, ← c .before .before .before .before .before .before .before .before .before .before .server-at .ensures .0, ← c .before .before .before .before .before .before .before .before .read .ensures) (c .before .before .before .before .before .take-units .ensures _ refl refl refl)
 
 pub seize-spec : {M : Type 1} → statement M
 seize-spec =
@@ -38,6 +42,7 @@ seize-spec =
     read-requires
     cast-number
     take-units-requires
+    with-outcome-requires
     same-length
     same-length-2
     returns)

@@ -1,4 +1,5 @@
 -- `take_units` meets its contract, by cases on the free units.
+use mathlib.Core.Path.{refl}
 use borrow.Author.Tests.{le-leb, lt-leb}
 use Rattle.servers_laws.specs.Taking.{takeUnits}
 use borrow.Author.Needs.{needs}
@@ -28,7 +29,10 @@ same-length-2 c = search needs
 
 returns : tie.Need-returns
 unfolding takeUnits
-returns c = rw (← c .before .before .before .before .before .before .before .before .before .capacity .ensures .0, ← c .before .before .before .before .before .before .before .before .before .before .in-use .ensures, ← c .before .before .before .before .before .before .before .before .less64 .ensures, le-leb _ _ (c .before .before .before .before .before .before .before .if1 .taken)) (c .before .before .before .before .hold-units .ensures)
+returns c = λ x e f g. rw (e, ← c .before .before .before .before .before .before .before .before .before .capacity .ensures .0, ← c .before .before .before .before .before .before .before .before .before .before .in-use .ensures, ← c .before .before .before .before .before .before .before .before .less64 .ensures, le-leb _ _ (c .before .before .before .before .before .before .before .if1 .taken)) (c .before .before .before .before .hold-units .ensures _ refl g)
+
+number-requires : tie.Need-number-requires
+number-requires c κs = search needs
 
 queue-up-requires : tie.Need-queue-up-requires
 queue-up-requires c κs = search needs
@@ -39,12 +43,9 @@ same-length-3 c = search needs
 same-length-4 : tie.Need-same-length-4
 same-length-4 c = search needs
 
-number-requires : tie.Need-number-requires
-number-requires c κs = search needs
-
 returns-2 : tie.Need-returns-2
 unfolding takeUnits
-returns-2 c = rw (← c .before .before .before .before .before .before .before .before .before .before .capacity .ensures .0, ← c .before .before .before .before .before .before .before .before .before .before .before .in-use .ensures, ← c .before .before .before .before .before .before .before .before .before .less64 .ensures, lt-leb _ _ (c .before .before .before .before .before .before .before .before .if1 .left), ← c .before .before .before .before .before .number .ensures) (c .before .before .before .before .queue-up .ensures)
+returns-2 c = λ x e f g. rw (← c .before .before .before .before .before .before .before .before .before .before .capacity .ensures .0, ← c .before .before .before .before .before .before .before .before .before .before .before .in-use .ensures, ← c .before .before .before .before .before .before .before .before .before .less64 .ensures, lt-leb _ _ (c .before .before .before .before .before .before .before .before .if1 .left), ← c .before .before .before .before .before .number .ensures) (c .before .before .before .before .queue-up .ensures x e f g)
 
 pub take-units-spec : {M : Type 1} → statement M
 take-units-spec =

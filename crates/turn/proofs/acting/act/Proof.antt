@@ -22,6 +22,9 @@ mul-execute c = search needs
 execute-requires : tie.Need-execute-requires
 execute-requires c κs = search needs
 
+fresh-requires : tie.Need-fresh-requires
+fresh-requires c κs = search needs
+
 note-record-requires : tie.Need-note-record-requires
 note-record-requires c κs = search needs
 
@@ -33,7 +36,7 @@ same-length-2 c = search needs
 
 returns-2 : tie.Need-returns-2
 unfolding act
-returns-2 c = rw (← c .before .before .before .before .before .before .before .before .before .before .before .less32 .ensures, lt-ltb _ 256 (c .before .before .before .before .before .before .before .before .before .before .if1 .left)) (note-joined _ _ _ _ _ _ _ _ _ _ (c .before .before .before .before .before .before .before .execute .ensures) (c .before .before .note-record .ensures))
+returns-2 c = rw (← c .before .before .before .before .before .before .before .before .before .before .before .before .less32 .ensures, lt-ltb _ 256 (c .before .before .before .before .before .before .before .before .before .before .before .if1 .left)) (note-joined _ _ _ _ _ _ _ _ _ _ (rw (c .before .before .before .fresh .ensures) (c .before .before .before .before .before .before .before .before .execute .ensures)) (c .before .before .note-record .ensures))
 
 pub act-spec : {M : Type 1} → statement M
 act-spec =
@@ -44,6 +47,7 @@ act-spec =
     returns
     mul-execute
     execute-requires
+    fresh-requires
     note-record-requires
     same-length
     same-length-2
