@@ -1,9 +1,7 @@
 -- Demand 3 speaks of something: in accepted examples waits of each kind begin and end, and two equal waits end in their order.
-use Prim.Native.Nat.{ℕ, suc, _+_}
+use Prim.Native.Nat.{ℕ}
 use mathlib.Core.Path.{_≡_, refl}
-use mathlib.Core.Bool.{cond}
 use mathlib.Core.List.{List, [], _∷_, reverse}
-use lib.Dec.{eqb}
 use lib.ListN.{length, getD}
 use Rattle.machine.specs.Block.{BlockModel}
 use Rattle.machine.specs.State.{Logged}
@@ -14,20 +12,15 @@ use Rattle.machine.specs.Claims.{noRecord, waitEnd, equalWaits, bit}
 use Rattle.machine.specs.Bundle.{everything}
 use Rattle.machine.specs.Examples.{firstModel, firstTape, storageModel, storageTape, chainModel, chainTape, freedByOtherModel, freedByOtherTape, returnersModel, returnersTape}
 
--- the records from position i on: where each wait begins and ends
-spansFrom : ℕ → List Logged → List (List ℕ)
-spansFrom i [] = []
-spansFrom i (r ∷ l) = cond (eqb (r .entry .outcome) 1) ((i ∷ (i + waitEnd (r ∷ l) 0) ∷ []) ∷ spansFrom (suc i) l) (spansFrom (suc i) l)
+-- of the record at a position: its outcome, the position of the record that ends its wait, how many records there are
+waitAt : List Logged → ℕ → List ℕ
+waitAt records i = getD records i noRecord .entry .outcome ∷ waitEnd records i ∷ length records ∷ []
 
--- the waits of some records, behind their number
-spansOf : List Logged → List (List ℕ)
-spansOf records = (length records ∷ []) ∷ spansFrom 0 records
-
--- the waits of a run
-spans : List ℕ → List ℕ → List (List ℕ)
-spans model tape =
+-- the same of a run
+waitOf : List ℕ → List ℕ → ℕ → List ℕ
+waitOf model tape i =
     elim (validate document01 model tape 16384 10240) [
-      | accept m t ↦ spansOf (reverse (run m t 1000000 65536 .records))
+      | accept m t ↦ waitAt (reverse (run m t 1000000 65536 .records)) i
       | reject n ↦ []
     ]
 
@@ -42,28 +35,30 @@ equalAt model tape i k =
       | reject n ↦ 0
     ]
 
-pub waitsFound : List (List (List ℕ))
+pub waitsFound : List (List ℕ)
 waitsFound =
     -- on the QL of a facility
-    spans firstModel firstTape ∷
+    waitOf firstModel firstTape 4 ∷
     -- on the QL of a storage
-    spans storageModel storageTape ∷
+    waitOf storageModel storageTape 7 ∷
     -- on a WEL
-    spans chainModel chainTape ∷
+    waitOf chainModel chainTape 4 ∷
     -- on the WSL
-    spans freedByOtherModel freedByOtherTape ∷
+    waitOf freedByOtherModel freedByOtherTape 1 ∷
     -- two equal waits for a facility
-    spans returnersModel returnersTape ∷
-    ((equalAt returnersModel returnersTape 4 6 ∷ []) ∷ []) ∷
+    waitOf returnersModel returnersTape 4 ∷
+    waitOf returnersModel returnersTape 6 ∷
+    (equalAt returnersModel returnersTape 4 6 ∷ []) ∷
     []
 
 pub waits : waitsFound
-    ≡ ((11 ∷ []) ∷ (4 ∷ 7 ∷ []) ∷ [])
-    ∷ ((14 ∷ []) ∷ (7 ∷ 12 ∷ []) ∷ [])
-    ∷ ((17 ∷ []) ∷ (4 ∷ 11 ∷ []) ∷ (6 ∷ 13 ∷ []) ∷ (8 ∷ 15 ∷ []) ∷ [])
-    ∷ ((8 ∷ []) ∷ (1 ∷ 5 ∷ []) ∷ [])
-    ∷ ((20 ∷ []) ∷ (4 ∷ 14 ∷ []) ∷ (6 ∷ 17 ∷ []) ∷ [])
-    ∷ ((1 ∷ []) ∷ [])
+    ≡ (1 ∷ 7 ∷ 11 ∷ [])
+    ∷ (1 ∷ 12 ∷ 14 ∷ [])
+    ∷ (1 ∷ 11 ∷ 17 ∷ [])
+    ∷ (1 ∷ 5 ∷ 8 ∷ [])
+    ∷ (1 ∷ 14 ∷ 20 ∷ [])
+    ∷ (1 ∷ 17 ∷ 20 ∷ [])
+    ∷ (1 ∷ [])
     ∷ []
-unfolding everything spansFrom spansOf spans equalOf equalAt waitsFound firstModel firstTape storageModel storageTape chainModel chainTape freedByOtherModel freedByOtherTape returnersModel returnersTape
+unfolding everything waitAt waitOf equalOf equalAt waitsFound firstModel firstTape storageModel storageTape chainModel chainTape freedByOtherModel freedByOtherTape returnersModel returnersTape
 waits = refl
