@@ -1,4 +1,4 @@
-//! The stored cases of crate `vectors` and what must come out of them: the
+//! The stored cases of crate `test_vectors` and what must come out of them: the
 //! first example, the limits of 02, item 1, the holders of item 6, the joined waits
 //! of item 7, the families of item 8, the facilities taken over of item 11, the 1996 rules
 //! of item 12, and random cases: each refusal, each end that a short run can meet, each kind

@@ -1,4 +1,4 @@
-//! The stored cases of crate `vectors` are those that this program writes, and
+//! The stored cases of crate `test_vectors` are those that this program writes, and
 //! each refusal, end, kind with its outcomes and list is among them.
 
 use reference::blocks::Done;
@@ -18,7 +18,7 @@ use reference::trace::TraceReader;
 use reference::Rules;
 
 fn stored(name: &str) -> Vec<u8> {
-    let folder = concat!(env!("CARGO_MANIFEST_DIR"), "/../crates/vectors/");
+    let folder = concat!(env!("CARGO_MANIFEST_DIR"), "/../crates/test_vectors/");
     std::fs::read(format!("{folder}{name}")).expect("stored with the crate")
 }
 
@@ -26,7 +26,7 @@ fn stored(name: &str) -> Vec<u8> {
 fn stored_cases_are_up_to_date() {
     let (cases, met) = cases();
     let same = stored("stdin") == encode(&cases);
-    assert!(same, "run `vectors crates/vectors`");
+    assert!(same, "run `vectors crates/test_vectors`");
     assert!(stored("stdout") == expected(&cases).into_bytes());
     let mut wanted: Vec<String> = (0..=10).map(|n| format!("refusal {n}")).collect();
     wanted.extend(ends(Rules::LANDED).iter().map(|n| format!("end {n}")));
