@@ -9,7 +9,7 @@ use Rattle.machine.specs.Term.{always, whenTrue}
 use Rattle.machine.specs.Block.{Block, generate, advance, terminate, waitServer, waitTerms, assign, priority, split, BlockModel, blockAt, facility, storage, up, down, takes, frees, moves, counts, assemble, preempt, giveBack}
 use Rattle.machine.specs.State.{State}
 use Rattle.machine.specs.Execute.{question, changed, askContent}
-use Rattle.machine.proofs.Proper.{Proper, ProperBlock}
+use Rattle.machine.proofs.decoding.Proper.{Proper, ProperBlock}
 use Rattle.tables.specs.Forms.{blockForms}
 use Rattle.tables.specs.Numbers.{blockNumbers}
 use Rattle.tables.specs.Represents.{At, Represents}

@@ -15,8 +15,8 @@ use Rattle.machine.specs.State.{State}
 use Rattle.machine.specs.Setters.{setRel, setSerial, withSerial, withReturning}
 use Rattle.machine.specs.Turn as Machine
 use Rattle.machine.specs.Claims.{Each}
-use Rattle.machine.proofs.Proper.{Proper}
-use Rattle.machine.proofs.Sums.{sum-length, sum-insert, sum-those}
+use Rattle.machine.proofs.decoding.Proper.{Proper}
+use Rattle.machine.proofs.lists.Sums.{sum-length, sum-insert, sum-those}
 use Rattle.tables.specs.Layout.{clockMoves}
 use Rattle.rows_laws.specs.Layout.{rel, fel}
 use Rattle.rows_laws.specs.Lists.{first}

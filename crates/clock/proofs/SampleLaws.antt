@@ -19,8 +19,8 @@ use Rattle.machine.specs.Block.{BlockModel}
 use Rattle.machine.specs.State.{State}
 use Rattle.machine.specs.Turn as Machine
 use Rattle.machine.specs.Claims.{Each}
-use Rattle.machine.proofs.Proper.{Proper, servers}
-use Rattle.machine.proofs.Shape.{each-getD, server-length}
+use Rattle.machine.proofs.decoding.Proper.{Proper, servers}
+use Rattle.machine.proofs.runs.Shape.{each-getD, server-length}
 use Rattle.tables.specs.Layout.{most64}
 use Rattle.state.specs.Sane.{Sane}
 use Rattle.state.specs.Statistics.{sumNow, longestNow}

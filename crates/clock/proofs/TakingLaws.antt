@@ -14,7 +14,7 @@ use Rattle.machine.specs.State.{State}
 use Rattle.machine.specs.Setters.{setTurns, withReturning}
 use Rattle.machine.specs.Moves.{toRel}
 use Rattle.machine.specs.Turn as Machine
-use Rattle.machine.proofs.Proper.{Proper}
+use Rattle.machine.proofs.decoding.Proper.{Proper}
 use Rattle.rows_laws.specs.Layout.{rel}
 use Rattle.rows_laws.specs.Lists.{first}
 use Rattle.rows_laws.specs.Holds.{transactionAt}

@@ -22,13 +22,13 @@ use Rattle.machine.specs.Run.{idle, start, run}
 use Rattle.machine.specs.Validate.{Validation, accept, reject, validate}
 use Rattle.machine.specs.Outcome.{recordsOf, acceptedRun, refusedRun, outcomeOf, outcome}
 use Rattle.machine.specs.Claims.{Each, statedEnd}
-use Rattle.machine.proofs.Proper.{Proper}
-use Rattle.machine.proofs.ProperFrom.{proper-from, rules-from}
-use Rattle.machine.proofs.RunLaws.{Taken, each-map, last-state}
-use Rattle.machine.proofs.Bounds.{bounded}
+use Rattle.machine.proofs.decoding.Proper.{Proper}
+use Rattle.machine.proofs.decoding.ProperFrom.{proper-from, rules-from}
+use Rattle.machine.proofs.runs.RunLaws.{Taken, each-map, last-state}
+use Rattle.machine.proofs.runs.Bounds.{bounded}
 use Rattle.trace.proofs.RoundTrip.{trace-reads-whole}
 use Rattle.state.specs.Bare.{Note, enteredNote, waitsNote, noNote, logged, countEntry, noteAs}
-use Rattle.machine.proofs.Ahead.{Ahead}
+use Rattle.machine.proofs.runs.Ahead.{Ahead}
 use Rattle.state.proofs.TurnGains.{Turned, unnoted, noted, turned}
 use Rattle.state.proofs.Sanity.{takenOf, Sure, taken-took, start-is}
 use Rattle.state.proofs.Written.{inOrder, in-order-cons, Kept, kept-start, kept-turn, kept-end}

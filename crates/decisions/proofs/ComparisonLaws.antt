@@ -17,7 +17,7 @@ use Rattle.machine.specs.State.{State}
 use Rattle.machine.specs.Setters.{withParameters, setMoving}
 use Rattle.machine.specs.Moves as Moves
 use Rattle.machine.specs.Execute.{question}
-use Rattle.machine.proofs.Proper.{Proper, ProperBlock}
+use Rattle.machine.proofs.decoding.Proper.{Proper, ProperBlock}
 use Rattle.tables.specs.Layout as Layout
 use Rattle.tables.specs.Represents.{Represents}
 use Rattle.rows_laws.specs.Layout.{wsl, parameterField}

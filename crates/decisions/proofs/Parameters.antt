@@ -14,7 +14,7 @@ use mir.Val.{toZ, sel}
 use Rattle.machine.specs.Limits.{maxConstant}
 use Rattle.machine.specs.Term.{View, idleServer, serverAt, queueAt, signed, low32, wrap, oneIf, Term, constant, minusConstant, parameter, clockTerm, entriesOf, contentOf, unitsInUse, unitsFree, facilityInUse, value, comparison, bracket, Sum, nothing, plus, minus, term, sum, worths, evaluate}
 use Rattle.machine.specs.Claims.{Each}
-use Rattle.machine.proofs.Shape.{each-getD}
+use Rattle.machine.proofs.runs.Shape.{each-getD}
 use Rattle.tables.specs.Represents.{smallTerm}
 use Rattle.rows_laws.specs.Cells.{read}
 use Rattle.rows_laws.specs.Holds.{transactionAt}

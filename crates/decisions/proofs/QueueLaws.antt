@@ -18,7 +18,7 @@ use Rattle.machine.specs.State.{State}
 use Rattle.machine.specs.Setters.{withContent, setMoving}
 use Rattle.machine.specs.Moves as Moves
 use Rattle.machine.specs.Execute.{unless, question, askContent, changed}
-use Rattle.machine.proofs.Proper.{Proper, ProperBlock, Names}
+use Rattle.machine.proofs.decoding.Proper.{Proper, ProperBlock, Names}
 use Rattle.tables.specs.Layout as Layout
 use Rattle.tables.specs.Represents.{Represents}
 use Rattle.state.specs.declared.scalars.Scalars.{Scalars}

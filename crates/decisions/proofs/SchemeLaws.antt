@@ -14,7 +14,7 @@ use Rattle.machine.specs.Block.{Block, terminate, facility, storage, waitTerms,
 use Rattle.machine.specs.State.{State}
 use Rattle.machine.specs.Moves.{wakeWsl}
 use Rattle.machine.specs.Turn as Turn
-use Rattle.machine.proofs.Proper.{Proper}
+use Rattle.machine.proofs.decoding.Proper.{Proper}
 use Rattle.tables.specs.Forms.{blockForms}
 use Rattle.tables.specs.Layout as Layout
 use Rattle.tables.specs.Numbers.{blockNumbers}

@@ -10,9 +10,9 @@ use Rattle.machine.specs.Transaction.{Transaction}
 use Rattle.machine.specs.Term.{Queue, idleServer, emptyQueue}
 use Rattle.machine.specs.Block.{BlockModel}
 use Rattle.machine.specs.State.{State}
-use Rattle.machine.proofs.Proper.{Proper}
+use Rattle.machine.proofs.decoding.Proper.{Proper}
 use Rattle.machine.specs.Claims.{Each}
-use Rattle.machine.proofs.Shape.{Shape, Within, capacityOf, allCapacities, each-getD, server-length}
+use Rattle.machine.proofs.runs.Shape.{Shape, Within, capacityOf, allCapacities, each-getD, server-length}
 use Rattle.tables.specs.Represents.{Represents}
 use Rattle.terms.specs.Sees.{Sees}
 use Rattle.state.specs.Sane.{Sane}

@@ -13,10 +13,10 @@ use Rattle.machine.specs.Block.{BlockModel}
 use Rattle.machine.specs.State.{State}
 use Rattle.machine.specs.Run.{start, states, steps}
 use Rattle.machine.specs.Validate.{accept, validate}
-use Rattle.machine.proofs.Proper.{Proper}
-use Rattle.machine.proofs.ProperFrom.{proper-from}
-use Rattle.machine.proofs.Waiting.{Waits}
-use Rattle.machine.proofs.Serials.{Apart, apart-turn, apart-start, single-rel, single-ql, single-wel}
+use Rattle.machine.proofs.decoding.Proper.{Proper}
+use Rattle.machine.proofs.decoding.ProperFrom.{proper-from}
+use Rattle.machine.proofs.nobody_able.Waiting.{Waits}
+use Rattle.machine.proofs.order.Serials.{Apart, apart-turn, apart-start, single-rel, single-ql, single-wel}
 use Rattle.tables.specs.Layout.{tallySize}
 use Rattle.tables.specs.Represents.{headerOf, Represents}
 use Rattle.rows_laws.specs.Layout.{wsl, rel}

@@ -11,9 +11,9 @@ use Rattle.machine.specs.Turn.{turn}
 use Rattle.machine.specs.Run.{endBefore, start, run, steps}
 use Rattle.machine.specs.Validate.{accept, validate}
 use Rattle.machine.specs.Outcome.{recordsOf}
-use Rattle.machine.proofs.Proper.{Proper}
-use Rattle.machine.proofs.ProperFrom.{proper-from}
-use Rattle.machine.proofs.RunLaws.{Taken}
+use Rattle.machine.proofs.decoding.Proper.{Proper}
+use Rattle.machine.proofs.decoding.ProperFrom.{proper-from}
+use Rattle.machine.proofs.runs.RunLaws.{Taken}
 use Rattle.tables.specs.Layout.{tallySize}
 use Rattle.tables.specs.Represents.{headerOf, Represents}
 use Rattle.state.specs.Stands.{rowsOf, listsOf, Stands}

@@ -14,8 +14,8 @@ use Rattle.machine.specs.Turn.{turn}
 use Rattle.machine.specs.Run.{idle, start}
 use Rattle.machine.specs.Outcome.{recordsOf}
 use Rattle.machine.specs.Claims.{count}
-use Rattle.machine.proofs.Proper.{Proper}
-use Rattle.machine.proofs.RunLaws.{Taken}
+use Rattle.machine.proofs.decoding.Proper.{Proper}
+use Rattle.machine.proofs.runs.RunLaws.{Taken}
 use Rattle.tables.specs.Layout as Layout
 use Rattle.tables.specs.Represents.{headerOf, Represents}
 use Rattle.terms.specs.Nested.{Nested}

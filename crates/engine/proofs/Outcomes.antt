@@ -19,11 +19,11 @@ use Rattle.machine.specs.Run.{run}
 use Rattle.machine.specs.Report.{reportNumbers, reportBytes}
 use Rattle.machine.specs.Claims.{Each, LivingListed}
 use Rattle.machine.specs.Outcome.{Outcome, recordsOf, acceptedRun, refusedRun, outcomeOf, outcome}
-use Rattle.machine.proofs.Proper.{Proper}
-use Rattle.machine.proofs.ProperFrom.{proper-from}
-use Rattle.machine.proofs.LivingListed.{living-listed}
+use Rattle.machine.proofs.decoding.Proper.{Proper}
+use Rattle.machine.proofs.decoding.ProperFrom.{proper-from}
+use Rattle.machine.proofs.conservation.LivingListed.{living-listed}
 use Rattle.machine.proofs.Demand3.{demand3}
-use Rattle.machine.proofs.OutcomeLaws.{outcome-keeps}
+use Rattle.machine.proofs.runs.OutcomeLaws.{outcome-keeps}
 use Rattle.tables.specs.Represents.{headerOf, Represents}
 use Rattle.state.specs.Stands.{Rows, Stands}
 use Rattle.state.proofs.Written.{Kept}

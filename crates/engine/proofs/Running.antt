@@ -7,8 +7,8 @@ use Rattle.machine.specs.Rules.{inForce}
 use Rattle.machine.specs.Block.{BlockModel}
 use Rattle.machine.specs.Validate.{validate}
 use Rattle.constants.specs.declared.model.Model.{Model}
-use Rattle.machine.proofs.Proper.{Proper}
-use Rattle.machine.proofs.ProperFrom.{proper-from}
+use Rattle.machine.proofs.decoding.Proper.{Proper}
+use Rattle.machine.proofs.decoding.ProperFrom.{proper-from}
 use Rattle.tables.specs.Represents.{headerOf}
 use Rattle.decode.specs.declared.Decoded.{Decoded}
 use Rattle.decode.specs.declared.Decoded.the-variants.{Model as Accepted, Refused}

@@ -11,7 +11,7 @@ use Rattle.machine.specs.State.{State}
 use Rattle.machine.specs.Setters.{setEnd}
 use Rattle.machine.specs.Turn.{turn}
 use Rattle.machine.specs.Run.{endBefore, runFrom, statesFrom}
-use Rattle.machine.proofs.RunLaws.{Taken, before, taken-of, run-on, run-off, states-on, states-off}
+use Rattle.machine.proofs.runs.RunLaws.{Taken, before, taken-of, run-on, run-off, states-on, states-off}
 use Rattle.engine.specs.Steps.{runSteps, passed}
 use Rattle.engine.specs.Firsts.{Along}
 

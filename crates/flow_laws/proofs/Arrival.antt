@@ -11,7 +11,7 @@ use Rattle.machine.specs.State.{State}
 use Rattle.machine.specs.Setters.{setMade}
 use Rattle.machine.specs.Moves as Moves
 use Rattle.machine.specs.Limits.{maxClock}
-use Rattle.machine.proofs.Clocks.{Given}
+use Rattle.machine.proofs.runs.Clocks.{Given}
 use Rattle.tables.specs.Layout as Layout
 use Rattle.state.specs.declared.scalars.Scalars.{Scalars}
 use Rattle.state.specs.Stands.{Rows, rowsOf, listsOf, Listing, Seen, Serving, Queueing, Sampling, Tallying, Counting, Stands}

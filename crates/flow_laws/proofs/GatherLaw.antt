@@ -16,9 +16,9 @@ use Rattle.machine.specs.Setters.{withNext, withSerial, withReturning, setMovin
 use Rattle.machine.specs.Moves.{fresh, toRel, inFamily, waitsFor, toGatherers, comes, released}
 use Rattle.machine.specs.Execute.{question, askGathers, gathers, gathering}
 use Rattle.machine.specs.Claims.{Each}
-use Rattle.machine.proofs.Proper.{ProperBlock, Proper}
-use Rattle.machine.proofs.Placed.{Placed}
-use Rattle.machine.proofs.Shape.{gatherers-at}
+use Rattle.machine.proofs.decoding.Proper.{ProperBlock, Proper}
+use Rattle.machine.proofs.runs.Placed.{Placed}
+use Rattle.machine.proofs.runs.Shape.{gatherers-at}
 use Rattle.tables.specs.Forms.{blockForms}
 use Rattle.tables.specs.Represents.{Represents}
 use Rattle.rows_laws.specs.Layout.{head, rel}

@@ -12,7 +12,7 @@ use Rattle.machine.specs.Lists.{insert}
 use Rattle.machine.specs.State.{State}
 use Rattle.machine.specs.Setters.{withSerial, withStamp, setMade}
 use Rattle.machine.specs.Moves.{toRel, toFel, copyOf}
-use Rattle.machine.proofs.Clocks.{Given}
+use Rattle.machine.proofs.runs.Clocks.{Given}
 use Rattle.rows_laws.specs.Layout.{rel, free}
 use Rattle.rows_laws.specs.Cells.{write, setTime}
 use Rattle.rows_laws.specs.Lists.{put, first, takeFirst}

@@ -12,8 +12,8 @@ use Rattle.machine.specs.State.{State}
 use Rattle.machine.specs.Setters.{withNext, withPriority, withReturning, setMoving}
 use Rattle.machine.specs.Moves.{toRel}
 use Rattle.machine.specs.Execute.{question}
-use Rattle.machine.proofs.Proper.{ProperBlock, Proper}
-use Rattle.machine.proofs.Placed.{Placed}
+use Rattle.machine.proofs.decoding.Proper.{ProperBlock, Proper}
+use Rattle.machine.proofs.runs.Placed.{Placed}
 use Rattle.tables.specs.Forms.{blockForms}
 use Rattle.tables.specs.Represents.{Represents}
 use Rattle.state.specs.declared.scalars.Scalars.{Scalars}

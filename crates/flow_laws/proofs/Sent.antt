@@ -10,7 +10,7 @@ use Rattle.machine.specs.Lists.{insert}
 use Rattle.machine.specs.State.{State}
 use Rattle.machine.specs.Setters.{withNext, withPriority, withSerial, withReturning, withStamp}
 use Rattle.machine.specs.Moves.{toRel, toFel}
-use Rattle.machine.proofs.Clocks.{Given}
+use Rattle.machine.proofs.runs.Clocks.{Given}
 use Rattle.rows_laws.specs.Layout.{rel}
 use Rattle.rows_laws.specs.Cells.{write, setTime}
 use Rattle.rows_laws.specs.Lists.{put}

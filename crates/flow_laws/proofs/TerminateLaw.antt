@@ -12,8 +12,8 @@ use Rattle.machine.specs.Block.{Block, terminate, BlockModel, blockAt}
 use Rattle.machine.specs.State.{State}
 use Rattle.machine.specs.Setters.{setMoving}
 use Rattle.machine.specs.Execute.{question, endsOne}
-use Rattle.machine.proofs.Proper.{Proper}
-use Rattle.machine.proofs.Placed.{Placed}
+use Rattle.machine.proofs.decoding.Proper.{Proper}
+use Rattle.machine.proofs.runs.Placed.{Placed}
 use Rattle.tables.specs.Forms.{blockForms}
 use Rattle.tables.specs.Represents.{Represents}
 use Rattle.rows_laws.specs.Layout.{free}

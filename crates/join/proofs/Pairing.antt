@@ -11,7 +11,7 @@ use Rattle.machine.specs.Rules.{inForce}
 use Rattle.machine.specs.Block.{BlockModel}
 use Rattle.machine.specs.Validate.{Validation, accept, reject, validate}
 use Rattle.constants.specs.declared.model.Model.{Model}
-use Rattle.machine.proofs.ProperFrom.{proper-from}
+use Rattle.machine.proofs.decoding.ProperFrom.{proper-from}
 use Rattle.tables.specs.Layout as Layout
 use Rattle.tables.specs.Represents.{headerOf, Represents}
 use Rattle.terms.proofs.NestedFrom.{nested-from}

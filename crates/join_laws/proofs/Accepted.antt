@@ -14,7 +14,7 @@ use Rattle.machine.specs.Parser.{Cursor, Parsed, parsed, refused, continue, ask
 use Rattle.machine.specs.Block.{BlockModel}
 use Rattle.machine.specs.Decode.{modelFields, atEnd}
 use Rattle.machine.specs.Validate.{beginning, wellFormed, modelOf, tapeOf, Validation, accept, reject, withTape, withModel, validate}
-use Rattle.machine.proofs.ProperFrom.{proper-from}
+use Rattle.machine.proofs.decoding.ProperFrom.{proper-from}
 use Rattle.joined.specs.Join.{joinModels, joinTapes, joinable}
 use Rattle.join_laws.specs.Written.{storedModel, numbersBytes, modelBytes}
 use Rattle.join_laws.specs.Joining.{Joining, joined, judged, fitted, joinedPair, join, JoinAccepted}

@@ -12,8 +12,8 @@ use Rattle.machine.specs.Claims.{Each}
 use Rattle.machine.specs.Validate.{allOf}
 use Rattle.machine.specs.Term.{Term, constant, minusConstant, parameter, clockTerm, entriesOf, contentOf, unitsInUse, unitsFree, facilityInUse, value, comparison, bracket, Condition, always, whenTrue}
 use Rattle.machine.specs.Block.{Code, U, NU, E, NE, F, NF, codeIndex, Share, facility, storage, Change, up, down, Block, generate, advance, terminate, takes, frees, waitServer, waitTerms, moves, assign, priority, split, counts, assemble, preempt, giveBack, facts, compared, BlockModel}
-use Rattle.machine.proofs.Groups.{and-left, and-right}
-use Rattle.machine.proofs.Proper.{ProperBlock}
+use Rattle.machine.proofs.decoding.Groups.{and-left, and-right}
+use Rattle.machine.proofs.decoding.Proper.{ProperBlock}
 use Rattle.tables.specs.Numbers.{relationNumber, termNumbers, takeNumbers, freeNumbers, moveNumbers, waitNumbers, countKind, blockNumbers}
 use Rattle.tables.specs.Represents.{At}
 use Rattle.terms.specs.Nested.{nestedTerm, nestedBlock}

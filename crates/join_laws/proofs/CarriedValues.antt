@@ -15,7 +15,7 @@ use Rattle.machine.specs.Term.{Term, constant, minusConstant, parameter, clockT
 use Rattle.machine.specs.Decode.{Counts, relationOf, mentioned, valueNumber, sumTerms, sumField, bracketField, comparisonField, mentionField, taggedTerm, valueTerm, valueField, inValue, valueFields}
 use Rattle.machine.specs.Claims.{Each}
 use Rattle.machine.specs.Validate.{allOf, termNames, sumNames}
-use Rattle.machine.proofs.Groups.{and-left, and-right}
+use Rattle.machine.proofs.decoding.Groups.{and-left, and-right}
 use Rattle.tables.specs.Numbers.{relationNumber, terms}
 use Rattle.values.proofs.Tags.{relation-number}
 use Rattle.joined.specs.Join.{Part, termIn, sumIn}

@@ -15,8 +15,8 @@ use Rattle.machine.specs.Number.{Number, numberBytes, readNumber}
 use Rattle.machine.specs.Parser.{Cursor, Parsed, parsed, refused, Parser, continue, _>>=_, give, refuse, times, forward, fieldOf, fieldUpTo}
 use Rattle.machine.specs.Claims.{Each}
 use Rattle.machine.specs.Validate.{allOf}
-use Rattle.machine.proofs.RunLaws.{cond-cases}
-use Rattle.machine.proofs.Groups.{and-left, and-right}
+use Rattle.machine.proofs.runs.RunLaws.{cond-cases}
+use Rattle.machine.proofs.decoding.Groups.{and-left, and-right}
 use Rattle.codec.proofs.Fields.{between, field-reads, drop-past}
 use Rattle.join_laws.specs.Written.{numbersBytes}
 

@@ -16,9 +16,9 @@ use Rattle.machine.specs.Block.{Block, BlockModel}
 use Rattle.machine.specs.Decode.{Counts, number, inValue, valueFields, blockField, modelFields, atEnd}
 use Rattle.machine.specs.Validate.{allOf, sumNames, wellFormed, modelOf}
 use Rattle.machine.specs.Claims.{Each}
-use Rattle.machine.proofs.RunLaws.{each-map}
-use Rattle.machine.proofs.Shape.{each-getD}
-use Rattle.machine.proofs.ParserLaws as Parsers
+use Rattle.machine.proofs.runs.RunLaws.{each-map}
+use Rattle.machine.proofs.runs.Shape.{each-getD}
+use Rattle.machine.proofs.decoding.ParserLaws as Parsers
 use Rattle.joined.specs.Join.{Part, sumIn, blockIn}
 use Rattle.join_laws.specs.Written.{storedSum, storedBlock}
 use Rattle.join_laws.proofs.Carrying.{Maps, Anywhere, Given, Gives, follows, given, images, repeated}

@@ -16,10 +16,10 @@ use Rattle.machine.specs.Term.{Term, constant, minusConstant, parameter, clockT
 use Rattle.machine.specs.Block.{Share, facility, storage, shareServer, shareUnits, shareFacility, welIndex, unconditional, compared, Change, up, down, arrivals, Block, generate, advance, terminate, takes, frees, waitServer, waitTerms, moves, assign, priority, split, counts, assemble, preempt, giveBack, facts, BlockModel, blockAt, backAt, insideGroup}
 use Rattle.machine.specs.Validate.{wellPlaced, allOf, joined, targetsMove, termNames, sumNames, wellFormed}
 use Rattle.machine.specs.Claims.{Each}
-use Rattle.machine.proofs.Proper.{Names, ProperBlock, Proper}
-use Rattle.machine.proofs.Sums.{upTo-cong}
-use Rattle.machine.proofs.StartLedger.{each-of}
-use Rattle.machine.proofs.Groups.{and-left, and-right, back-within}
+use Rattle.machine.proofs.decoding.Proper.{Names, ProperBlock, Proper}
+use Rattle.machine.proofs.lists.Sums.{upTo-cong}
+use Rattle.machine.proofs.conservation.StartLedger.{each-of}
+use Rattle.machine.proofs.decoding.Groups.{and-left, and-right, back-within}
 use Rattle.joined.specs.Join.{Part, first, second, serverIn, termIn, sumIn, shareIn, conditionIn, blockIn, joinModels}
 
 -- ---- Tests

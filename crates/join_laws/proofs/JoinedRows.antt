@@ -14,8 +14,8 @@ use Rattle.machine.specs.Claims.{Each}
 use Rattle.machine.specs.Term.{Sum, nothing}
 use Rattle.machine.specs.Block.{Block, terminate, BlockModel, blockAt}
 use Rattle.constants.specs.declared.model.Model.{Model}
-use Rattle.machine.proofs.Proper.{ProperBlock, Proper}
-use Rattle.machine.proofs.Shape.{each-getD}
+use Rattle.machine.proofs.decoding.Proper.{ProperBlock, Proper}
+use Rattle.machine.proofs.runs.Shape.{each-getD}
 use Rattle.tables.specs.Layout as Layout
 use Rattle.tables.specs.Numbers.{terms, sumNumbers, signedTerms, blockNumbers}
 use Rattle.tables.specs.Represents.{At, headerOf, Represents}

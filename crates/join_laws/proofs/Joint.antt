@@ -17,9 +17,9 @@ use Rattle.machine.specs.Decode.{Counts, number, inValue, valueFields, blockFie
 use Rattle.machine.specs.Validate.{allOf, sumNames}
 use Rattle.machine.specs.Claims.{Each}
 use Rattle.machine.specs.Parser.{times}
-use Rattle.machine.proofs.RunLaws.{each-map}
-use Rattle.machine.proofs.Shape.{each-getD}
-use Rattle.machine.proofs.ParserLaws.{and-true}
+use Rattle.machine.proofs.runs.RunLaws.{each-map}
+use Rattle.machine.proofs.runs.Shape.{each-getD}
+use Rattle.machine.proofs.decoding.ParserLaws.{and-true}
 use Rattle.joined.specs.Join.{Part, first, second, sumIn, blockIn, joinModels}
 use Rattle.joined.proofs.ProperJoined.{Fits}
 use Rattle.join_laws.specs.Written.{storedSum, storedBlock, storedModel}

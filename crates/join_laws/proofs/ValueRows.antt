@@ -9,7 +9,7 @@ use borrow.Author.Tests.{le-leb, lt-leb, ltb-true}
 use lib.Dec.{T, leb, ltb, eqb}
 use lib.ListN.{length, getD, length-append}
 use Rattle.machine.specs.Term.{Term, constant, minusConstant, parameter, clockTerm, entriesOf, contentOf, unitsInUse, unitsFree, facilityInUse, value, comparison, bracket, Sum, nothing, plus, minus}
-use Rattle.machine.proofs.Groups.{and-left, and-right}
+use Rattle.machine.proofs.decoding.Groups.{and-left, and-right}
 use Rattle.tables.specs.Numbers.{relationNumber, termNumbers, signedTerms, sumNumbers, terms}
 use Rattle.tables.specs.Represents.{At}
 use Rattle.terms.specs.Nested.{nestedTerm, nestedSum}

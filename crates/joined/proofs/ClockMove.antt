@@ -17,9 +17,9 @@ use Rattle.machine.specs.Setters.{withReturning, withSerial, setClock, setView,
 use Rattle.machine.specs.Moves.{fresh, toRel}
 use Rattle.machine.specs.Turn.{sampleServers, sampleQueue, sample, arriveAll, due, moveClock, nextEvents}
 use Rattle.machine.specs.Claims.{Each}
-use Rattle.machine.proofs.Proper.{servers}
-use Rattle.machine.proofs.RunLaws.{each-map}
-use Rattle.machine.proofs.Sorted.{Sorted, each-those, sorted-those, later-time}
+use Rattle.machine.proofs.decoding.Proper.{servers}
+use Rattle.machine.proofs.runs.RunLaws.{each-map}
+use Rattle.machine.proofs.lists.Sorted.{Sorted, each-those, sorted-those, later-time}
 use Rattle.joined.specs.Join.{Part}
 use Rattle.joined.proofs.Lists.{strictly, all-same, those-map, those-those, those-none, those-all, those-insert-other, sorted-insert, by-precedence, map-same}
 use Rattle.joined.proofs.Naming.{Naming, mine, Known, eventAs}

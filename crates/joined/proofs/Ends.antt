@@ -17,8 +17,8 @@ use Rattle.machine.specs.Moves.{log, enters, moveTo, toRel, toFel, toQl, toWel,
 use Rattle.machine.specs.Execute.{unless, living, askGenerate, askAdvance, askContent, askHolder, held, askGathers, askResume, askGivesBack, question, checkWels, wakeFor, freeUnits, endsOne, delay, takeUnits, effect}
 use Rattle.machine.specs.Turn.{nextEvents, takeFirst, takeReady, taking, answer, execute, turn}
 use Rattle.machine.specs.Run.{endBefore, nobodyLeft, runFrom}
-use Rattle.machine.proofs.RunLaws.{cond-cases, Before, before, taken, own, closing, run-on, run-off}
-use Rattle.machine.proofs.Cases.{checkWels-kept, waitServer-cases, waitTerms-cases, assemble-cases, preempt-cases, giveBack-cases, wsScheme-cases}
+use Rattle.machine.proofs.runs.RunLaws.{cond-cases, Before, before, taken, own, closing, run-on, run-off}
+use Rattle.machine.proofs.lists.Cases.{checkWels-kept, waitServer-cases, waitTerms-cases, assemble-cases, preempt-cases, giveBack-cases, wsScheme-cases}
 use Rattle.joined.proofs.ClockMove.{moveClock-unmoved}
 
 abbrev Not1 : ℕ → Type 0

@@ -14,9 +14,9 @@ use Rattle.machine.specs.Facts.{isGenerate}
 use Rattle.machine.specs.Block.{Block, generate, advance, terminate, takes, frees, waitServer, waitTerms, moves, assign, priority, split, counts, assemble, preempt, giveBack, facts, BlockModel, blockAt, backAt, welIndex, insideGroup}
 use Rattle.machine.specs.Validate.{wellPlaced, allOf, joined, targetsMove, termNames, sumNames, wellFormed}
 use Rattle.machine.specs.Claims.{Each}
-use Rattle.machine.proofs.Proper.{Names, ProperBlock, Proper}
-use Rattle.machine.proofs.Sums.{upTo-cong}
-use Rattle.machine.proofs.Groups.{and-left, and-right}
+use Rattle.machine.proofs.decoding.Proper.{Names, ProperBlock, Proper}
+use Rattle.machine.proofs.lists.Sums.{upTo-cong}
+use Rattle.machine.proofs.decoding.Groups.{and-left, and-right}
 use Rattle.joined.specs.Join.{Part, first, second, serverIn, termIn, sumIn, blockIn, joinModels}
 use Rattle.joined.proofs.Strangers.{leaves-in, back-in}
 use Rattle.joined.proofs.Instance.{blocks-long, block-first, block-second, back-first, back-second, back-past, group-first}

@@ -10,7 +10,7 @@ use Rattle.machine.specs.Term.{View, whenTrue}
 use Rattle.machine.specs.Block.{Share, facility, storage, shareServer, shareUnits, Block, generate, advance, terminate, takes, frees, waitServer, waitTerms, moves, assign, priority, split, counts, assemble, preempt, giveBack, facts, aboveOne, BlockModel, blockAt, beginsGroup}
 use Rattle.machine.specs.Execute.{unitsOf}
 use Rattle.machine.specs.Turn.{holds, waitsOn}
-use Rattle.machine.proofs.Proper.{Names, ProperBlock}
+use Rattle.machine.proofs.decoding.Proper.{Names, ProperBlock}
 use Rattle.joined.specs.Join.{Part, serverIn, shareIn, conditionIn, blockIn}
 use Rattle.joined.proofs.Naming.{Naming, Known}
 use Rattle.joined.proofs.Seen.{size, Tables, aloneAs, Fixtures}

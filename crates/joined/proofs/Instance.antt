@@ -12,10 +12,10 @@ use Rattle.machine.specs.Lists.{anyOf, bit}
 use Rattle.machine.specs.Block.{Block, generate, advance, terminate, takes, frees, waitServer, waitTerms, moves, assign, priority, split, counts, assemble, preempt, giveBack, facts, aboveOne, BlockModel, blockAt, backAt, beginsGroup, compared}
 use Rattle.machine.specs.Term.{always, whenTrue}
 use Rattle.machine.specs.Claims.{Each}
-use Rattle.machine.proofs.Proper.{Names, servers, Proper}
-use Rattle.machine.proofs.Sums.{upTo-cong}
-use Rattle.machine.proofs.Groups.{blocks-placed, back-within}
-use Rattle.machine.proofs.Placed.{goes-on}
+use Rattle.machine.proofs.decoding.Proper.{Names, servers, Proper}
+use Rattle.machine.proofs.lists.Sums.{upTo-cong}
+use Rattle.machine.proofs.decoding.Groups.{blocks-placed, back-within}
+use Rattle.machine.proofs.runs.Placed.{goes-on}
 use Rattle.joined.specs.Join.{Part, first, second, serverIn, sumIn, blockIn, joinModels}
 use Rattle.joined.specs.Parts.{inPart}
 use Rattle.joined.proofs.Seen.{size, serverThere}

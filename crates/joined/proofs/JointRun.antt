@@ -12,7 +12,7 @@ use Rattle.machine.specs.State.{State}
 use Rattle.machine.specs.Setters.{setEnd}
 use Rattle.machine.specs.Turn.{nextEvents, takeFirst, takeReady, taking, turn}
 use Rattle.machine.specs.Run.{isNone, isEmpty, nobodyLeft, runFrom}
-use Rattle.machine.proofs.Proper.{Proper}
+use Rattle.machine.proofs.decoding.Proper.{Proper}
 use Rattle.joined.specs.Join.{Part}
 use Rattle.joined.proofs.Naming.{Naming, mine, eventAs}
 use Rattle.joined.proofs.Seen.{size, aloneAs, Seen}

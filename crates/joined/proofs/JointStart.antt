@@ -14,9 +14,9 @@ use Rattle.machine.specs.State.{State}
 use Rattle.machine.specs.Run.{startAt, idle, start}
 use Rattle.machine.specs.Turn.{waitsOn}
 use Rattle.machine.specs.Claims.{Each}
-use Rattle.machine.proofs.Proper.{Names, servers, ProperBlock, Proper}
-use Rattle.machine.proofs.Shape.{wel-below}
-use Rattle.machine.proofs.WaitsKept.{waits-start}
+use Rattle.machine.proofs.decoding.Proper.{Names, servers, ProperBlock, Proper}
+use Rattle.machine.proofs.runs.Shape.{wel-below}
+use Rattle.machine.proofs.nobody_able.WaitsKept.{waits-start}
 use Rattle.joined.specs.Join.{Part, first, second, serverIn, blockIn, joinModels, joinTapes}
 use Rattle.joined.specs.Parts.{inPart}
 use Rattle.joined.proofs.Terms.{getD-behind}

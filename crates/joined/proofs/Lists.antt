@@ -11,8 +11,8 @@ use borrow.Author.Tests.{ltb-true, ltb-false, lt-ltb, eqb-true, eqb-false, eq-eq
 use Rattle.machine.specs.Transaction.{Transaction, precedes, Event, earlier}
 use Rattle.machine.specs.Lists.{insert, those, replaceFirst}
 use Rattle.machine.specs.Claims.{Each}
-use Rattle.machine.proofs.RunLaws.{cond-cases, each-map}
-use Rattle.machine.proofs.Sorted.{Sorted, each-those, each-insert, each-replace, Before, precedes-before, before-precedes}
+use Rattle.machine.proofs.runs.RunLaws.{cond-cases, each-map}
+use Rattle.machine.proofs.lists.Sorted.{Sorted, each-those, each-insert, each-replace, Before, precedes-before, before-precedes}
 
 pub no-true : (b : Bool) → (b ≡ true → ⊥) → b ≡ false
 no-true true h = absurd (h refl)

@@ -16,12 +16,12 @@ use Rattle.machine.specs.Parser.{Parsed, parsed, refused, Parser}
 use Rattle.machine.specs.Decode.{Counts, simpleTerm, number, blockTerm, counted, mentioned, valueNumber, sumTerms, sumField, bracketField, comparisonField, mentionField, taggedTerm, valueTerm, valueField, inValue, valueFields, modelFields, atEnd}
 use Rattle.machine.specs.Validate.{wellPlaced, targetsMove, joined, termNames, sumNames, allOf, wellFormed, beginning, modelOf, tapeOf, Validation, accept, reject, withTape, withModel, validate}
 use Rattle.machine.specs.Claims.{Each}
-use Rattle.machine.proofs.Proper.{Names, servers}
-use Rattle.machine.proofs.RunLaws.{cond-cases, each-map, or-false}
-use Rattle.machine.proofs.ParserLaws.{Refusal, Gives, Ensures, Any, then, gives, refuses, choice, weaken, repeated, asked, in-range}
-use Rattle.machine.proofs.ProperFrom.{block-parsed}
-use Rattle.machine.proofs.Groups.{and-left, and-right}
-use Rattle.machine.proofs.Shape.{each-getD}
+use Rattle.machine.proofs.decoding.Proper.{Names, servers}
+use Rattle.machine.proofs.runs.RunLaws.{cond-cases, each-map, or-false}
+use Rattle.machine.proofs.decoding.ParserLaws.{Refusal, Gives, Ensures, Any, then, gives, refuses, choice, weaken, repeated, asked, in-range}
+use Rattle.machine.proofs.decoding.ProperFrom.{block-parsed}
+use Rattle.machine.proofs.decoding.Groups.{and-left, and-right}
+use Rattle.machine.proofs.runs.Shape.{each-getD}
 use Rattle.joined.specs.Join.{Part}
 use Rattle.joined.specs.Parts.{clockIn, clockInSum, usesClock}
 use Rattle.joined.proofs.Terms.{Plain, PlainSum}

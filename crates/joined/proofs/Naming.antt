@@ -9,9 +9,9 @@ use Rattle.machine.specs.Lists.{insert, those}
 use Rattle.machine.specs.Setters.{withReturning}
 use Rattle.machine.specs.Moves.{lineUp, fromBack, wake, inFamily}
 use Rattle.machine.specs.Claims.{Each}
-use Rattle.machine.proofs.RunLaws.{each-map}
-use Rattle.machine.proofs.Sorted.{Sorted, sorted-in, each-insert}
-use Rattle.machine.proofs.Lines.{meets}
+use Rattle.machine.proofs.runs.RunLaws.{each-map}
+use Rattle.machine.proofs.lists.Sorted.{Sorted, sorted-in, each-insert}
+use Rattle.machine.proofs.lists.Lines.{meets}
 use Rattle.joined.specs.Join.{Part}
 use Rattle.joined.specs.Parts.{inPart}
 use Rattle.joined.proofs.Lists.{insert-map, reverse-map, all-same, those-insert, those-insert-other, by-precedence}

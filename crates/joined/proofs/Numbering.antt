@@ -6,7 +6,7 @@ use native.Mathlib.Omega.{arith}
 use lib.Dec.{ltb, leb}
 use borrow.Author.Tests.{ltb-true, leb-true, leb-false, lt-ltb, le-leb, lt-leb}
 use Rattle.machine.specs.Block.{Code, U, NU, E, NE, F, NF, codeIndex, BlockModel, welIndex}
-use Rattle.machine.proofs.Proper.{servers}
+use Rattle.machine.proofs.decoding.Proper.{servers}
 use Rattle.joined.specs.Join.{Part, serverIn}
 use Rattle.joined.specs.Parts.{inPart}
 use Rattle.joined.proofs.Seen.{Tables, Gate, gateThere, gateHere}

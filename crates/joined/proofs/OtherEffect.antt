@@ -16,11 +16,11 @@ use Rattle.machine.specs.Setters.{withNext, withSerial, withReturning, setEnded
 use Rattle.machine.specs.Moves.{log, enters, moveTo, fresh, toQl, toWel, toWsl, beginWait, mustWait, setUse, arrival, copies, toGatherers, comes, released, ofFacility, interruptedAt, losesTo, losersTo, interrupt, resume, qlOf}
 use Rattle.machine.specs.Execute.{checkWels, wakeFor, freeUnits, endsOne, delay, takeUnits, effect}
 use Rattle.machine.specs.Claims.{Each}
-use Rattle.machine.proofs.Proper.{Names}
-use Rattle.machine.proofs.RunLaws.{each-map, each-pair, cond-cases}
-use Rattle.machine.proofs.Sorted.{each-insert, each-those, each-replace, each-passes}
-use Rattle.machine.proofs.Lines.{both-partFor}
-use Rattle.machine.proofs.Cases.{checkWels-kept, waitServer-cases, waitTerms-cases, assemble-cases, preempt-cases, giveBack-cases}
+use Rattle.machine.proofs.decoding.Proper.{Names}
+use Rattle.machine.proofs.runs.RunLaws.{each-map, each-pair, cond-cases}
+use Rattle.machine.proofs.lists.Sorted.{each-insert, each-those, each-replace, each-passes}
+use Rattle.machine.proofs.lists.Lines.{both-partFor}
+use Rattle.machine.proofs.lists.Cases.{checkWels-kept, waitServer-cases, waitTerms-cases, assemble-cases, preempt-cases, giveBack-cases}
 use Rattle.joined.specs.Join.{Part, serverIn}
 use Rattle.joined.specs.Parts.{inPart}
 use Rattle.joined.proofs.Lists.{those-insert-other, those-replace-other, sorted-insert, sorted-replace, by-holder}

@@ -14,9 +14,9 @@ use Rattle.machine.specs.State.{State}
 use Rattle.machine.specs.Setters.{withSerial, setEntries, setQueues, setServers, setView, setSamples, setQl, setWel, setWsl, setRel, setFel, setGatherers, setInterrupted, setSerial, setMade}
 use Rattle.machine.specs.Moves.{recordOf, log, enters, fresh, toRel, toFel, toQl, toWel, toWsl, qlOf, welOf, wake, wakeQl, wakeFirstWel, Parted, setUse, setContent, useTime, setGatherersAt}
 use Rattle.machine.specs.Claims.{Each}
-use Rattle.machine.proofs.Proper.{Names, servers}
-use Rattle.machine.proofs.Sorted.{each-drop, at-set}
-use Rattle.machine.proofs.Lines.{each-lineUp}
+use Rattle.machine.proofs.decoding.Proper.{Names, servers}
+use Rattle.machine.proofs.lists.Sorted.{each-drop, at-set}
+use Rattle.machine.proofs.lists.Lines.{each-lineUp}
 use Rattle.joined.specs.Join.{Part}
 use Rattle.joined.proofs.Lists.{those-insert-other, those-none, sorted-insert, by-precedence, by-time}
 use Rattle.joined.proofs.Rows.{Rows, rows-other}

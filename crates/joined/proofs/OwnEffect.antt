@@ -17,7 +17,7 @@ use Rattle.machine.specs.Setters.{withPriority, withParameters, withNext, withR
 use Rattle.machine.specs.Moves.{log, enters, moveTo, goOn, toRel, toQl, toWel, toWsl, beginWait, mustWait, wakeFirstWel, setUse, setHolder, setContent, timesLeft, arrival, waitsFor, toGatherers, comes, released, interruptedAt, losersTo, wakeQl}
 use Rattle.machine.specs.Execute.{checkWels, wakeFor, freeUnits, endsOne, delay, changed, gathers, givesBack, stamped, takeUnits, effect, gathering, preempting, partFor}
 use Rattle.machine.specs.Claims.{Each}
-use Rattle.machine.proofs.Proper.{Names, servers, ProperShare, ProperBlock, code-server, share-server}
+use Rattle.machine.proofs.decoding.Proper.{Names, servers, ProperShare, ProperBlock, code-server, share-server}
 use Rattle.joined.specs.Join.{Part, serverIn, shareIn, termIn, conditionIn, blockIn}
 use Rattle.joined.specs.Parts.{inPart}
 use Rattle.joined.proofs.Ranks.{listed, nobody, rankIn, rank-zero, Named}

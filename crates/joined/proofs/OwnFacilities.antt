@@ -14,9 +14,9 @@ use Rattle.machine.specs.State.{State}
 use Rattle.machine.specs.Setters.{withStamp, setInterrupted}
 use Rattle.machine.specs.Moves.{toFel, ofFacility, interruptedAt, losesTo, interrupt, resume}
 use Rattle.machine.specs.Claims.{Each}
-use Rattle.machine.proofs.Proper.{Names, servers}
-use Rattle.machine.proofs.RunLaws.{each-map, each-pair}
-use Rattle.machine.proofs.Sorted.{each-insert, each-those, each-replace, each-passes}
+use Rattle.machine.proofs.decoding.Proper.{Names, servers}
+use Rattle.machine.proofs.runs.RunLaws.{each-map, each-pair}
+use Rattle.machine.proofs.lists.Sorted.{each-insert, each-those, each-replace, each-passes}
 use Rattle.joined.specs.Join.{Part, serverIn}
 use Rattle.joined.proofs.Lists.{insert-map, those-map, replace-map, those-those, those-all, those-replace, those-insert, sorted-insert, sorted-replace, by-holder}
 use Rattle.joined.proofs.Ranks.{Named, listed, nobody, rank-eqb}

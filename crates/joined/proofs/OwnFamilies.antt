@@ -10,8 +10,8 @@ use Rattle.machine.specs.State.{State}
 use Rattle.machine.specs.Setters.{withNext, withReturning}
 use Rattle.machine.specs.Moves.{toRel, gatherersAt, setGatherersAt, inFamily, waitsFor, setWaitsFor, toGatherers, comes, released}
 use Rattle.machine.specs.Claims.{Each}
-use Rattle.machine.proofs.RunLaws.{each-map}
-use Rattle.machine.proofs.Sorted.{each-insert, each-those, each-replace}
+use Rattle.machine.proofs.runs.RunLaws.{each-map}
+use Rattle.machine.proofs.lists.Sorted.{each-insert, each-those, each-replace}
 use Rattle.joined.specs.Join.{Part}
 use Rattle.joined.specs.Parts.{inPart}
 use Rattle.joined.proofs.Lists.{insert-map, those-map, replace-map}

@@ -10,7 +10,7 @@ use Rattle.machine.specs.State.{State}
 use Rattle.machine.specs.Setters.{withNext, withSerial, withReturning, setSerial, setMade}
 use Rattle.machine.specs.Moves.{log, fresh, toRel, toFel, beginWait, mustWait, useTime, arrival, copyOf, copies}
 use Rattle.machine.specs.Execute.{delay}
-use Rattle.machine.proofs.Proper.{Names}
+use Rattle.machine.proofs.decoding.Proper.{Names}
 use Rattle.joined.specs.Join.{Part}
 use Rattle.joined.specs.Parts.{inPart}
 use Rattle.joined.proofs.Ranks.{rankIn, rank-zero, rank-noted, noted}

@@ -16,10 +16,10 @@ use Rattle.machine.specs.State.{State}
 use Rattle.machine.specs.Setters.{setEntries, setQueues, setServers, setView, setSamples, setQl, setWel, setWsl, setRel, setFel, setGatherers, setInterrupted}
 use Rattle.machine.specs.Moves.{recordOf, log, enters, toQl, toWel, toWsl, lineUp}
 use Rattle.machine.specs.Claims.{Each}
-use Rattle.machine.proofs.Proper.{Names, servers}
-use Rattle.machine.proofs.RunLaws.{each-map}
-use Rattle.machine.proofs.Sorted.{each-insert}
-use Rattle.machine.proofs.Lines.{each-lineUp}
+use Rattle.machine.proofs.decoding.Proper.{Names, servers}
+use Rattle.machine.proofs.runs.RunLaws.{each-map}
+use Rattle.machine.proofs.lists.Sorted.{each-insert}
+use Rattle.machine.proofs.lists.Lines.{each-lineUp}
 use Rattle.joined.specs.Join.{Part, serverIn}
 use Rattle.joined.specs.Parts.{inPart}
 use Rattle.joined.proofs.Lists.{insert-map, those-insert, sorted-insert, by-time, by-precedence}

@@ -12,8 +12,8 @@ use Rattle.machine.specs.Block.{Share, facility, storage, shareServer, aboveOne
 use Rattle.machine.specs.Moves.{Parted, firstOf, partBy, goes, stays}
 use Rattle.machine.specs.Execute.{unitsOf, fits, firstOfOne, fromFront, queueRemove, partFor}
 use Rattle.machine.specs.Claims.{Each}
-use Rattle.machine.proofs.RunLaws.{each-map}
-use Rattle.machine.proofs.Lines.{both-partFor}
+use Rattle.machine.proofs.runs.RunLaws.{each-map}
+use Rattle.machine.proofs.lists.Lines.{both-partFor}
 use Rattle.joined.specs.Join.{Part, serverIn, shareIn}
 use Rattle.joined.proofs.Lists.{those-map, take-map, drop-map}
 use Rattle.joined.proofs.Naming.{Naming, Known}

@@ -13,9 +13,9 @@ use Rattle.machine.specs.Setters.{withSerial, withStamp, setRel, setFel, setSer
 use Rattle.machine.specs.Moves.{fresh, toRel, toFel, qlOf, welOf, wake, Parted, wakeQl, wakeFirstWel, wakeWsl, setUse, setContent, timesLeft, useTime}
 use Rattle.machine.specs.Execute.{checkWel, checkWels}
 use Rattle.machine.specs.Claims.{Each}
-use Rattle.machine.proofs.Proper.{Names, servers}
-use Rattle.machine.proofs.RunLaws.{each-map}
-use Rattle.machine.proofs.Sorted.{each-those, each-drop, sorted-those}
+use Rattle.machine.proofs.decoding.Proper.{Names, servers}
+use Rattle.machine.proofs.runs.RunLaws.{each-map}
+use Rattle.machine.proofs.lists.Sorted.{each-those, each-drop, sorted-those}
 use Rattle.joined.specs.Join.{Part, serverIn}
 use Rattle.joined.proofs.Lists.{those-map, take-map, drop-map, those-those, those-all}
 use Rattle.joined.proofs.Rows.{rows-set}

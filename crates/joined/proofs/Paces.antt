@@ -14,8 +14,8 @@ use Rattle.machine.specs.State.{State}
 use Rattle.machine.specs.Setters.{setMoving, setRel, setTurns}
 use Rattle.machine.specs.Turn.{nextEvents, moveClock, takeFirst, takeReady, taking, waitsOn}
 use Rattle.machine.specs.Claims.{Each}
-use Rattle.machine.proofs.RunLaws.{each-map, each-pair}
-use Rattle.machine.proofs.Sorted.{Sorted}
+use Rattle.machine.proofs.runs.RunLaws.{each-map, each-pair}
+use Rattle.machine.proofs.lists.Sorted.{Sorted}
 use Rattle.joined.specs.Join.{Part}
 use Rattle.joined.proofs.Naming.{Naming, mine, Known}
 use Rattle.joined.proofs.Seen.{size, Tables, aloneAs, Alike, Seen}

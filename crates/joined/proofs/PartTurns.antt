@@ -15,8 +15,8 @@ use Rattle.machine.specs.Moves.{qlOf, welOf, losesTo, wake, wakeWsl}
 use Rattle.machine.specs.Execute.{effect}
 use Rattle.machine.specs.Turn.{taking, waitsOn, turn}
 use Rattle.machine.specs.Claims.{Each}
-use Rattle.machine.proofs.RunLaws.{each-map, each-pair}
-use Rattle.machine.proofs.Sorted.{sorted-those}
+use Rattle.machine.proofs.runs.RunLaws.{each-map, each-pair}
+use Rattle.machine.proofs.lists.Sorted.{sorted-those}
 use Rattle.joined.specs.Join.{Part}
 use Rattle.joined.specs.Parts.{inPart}
 use Rattle.joined.proofs.Lists.{those-those, those-none, those-all}

@@ -10,12 +10,12 @@ use Rattle.machine.specs.Trace.{Record}
 use Rattle.machine.specs.State.{State}
 use Rattle.machine.specs.Moves.{toFel, arrival}
 use Rattle.machine.specs.Run.{startAt, idle, start, run, steps}
-use Rattle.machine.proofs.Proper.{Proper}
-use Rattle.machine.proofs.Cases.{startOf-cases}
-use Rattle.machine.proofs.Shape.{shape-start}
-use Rattle.machine.proofs.WaitsKept.{waits-start}
-use Rattle.machine.proofs.Placed.{placed-start}
-use Rattle.machine.proofs.ProperFrom.{proper-from, rules-from}
+use Rattle.machine.proofs.decoding.Proper.{Proper}
+use Rattle.machine.proofs.lists.Cases.{startOf-cases}
+use Rattle.machine.proofs.runs.Shape.{shape-start}
+use Rattle.machine.proofs.nobody_able.WaitsKept.{waits-start}
+use Rattle.machine.proofs.runs.Placed.{placed-start}
+use Rattle.machine.proofs.decoding.ProperFrom.{proper-from, rules-from}
 use Rattle.joined.specs.Join.{first, second, joinModels, joinTapes}
 use Rattle.joined.specs.Parts.{partOf, Dry, Apart, TwoPlants}
 use Rattle.joined.proofs.Lists.{strictly}

@@ -9,7 +9,7 @@ use lib.ListN.{length, getD, length-append, List·getD-append}
 use borrow.Author.Tests.{leb-true, leb-false, eqb-true}
 use Rattle.machine.specs.Limits as Limits
 use Rattle.machine.specs.Block.{Code, U, NU, E, NE, F, NF, facility, storage, Block, generate, advance, terminate, takes, frees, waitServer, waitTerms, moves, assign, priority, split, counts, assemble, preempt, giveBack, BlockModel, blockAt}
-use Rattle.machine.proofs.Proper.{Names, Storage, CodeServer, Units, ProperBlock, Proper}
+use Rattle.machine.proofs.decoding.Proper.{Names, Storage, CodeServer, Units, ProperBlock, Proper}
 use Rattle.joined.specs.Join.{Part, first, second, serverIn, shareIn, blockIn, joinModels, joinTapes, joinable}
 use Rattle.joined.proofs.Terms.{getD-behind}
 use Rattle.joined.proofs.Numbering.{in-facility, in-storage}

@@ -12,8 +12,8 @@ use Rattle.machine.specs.Trace.{Record}
 use Rattle.machine.specs.State.{State, Logged}
 use Rattle.machine.specs.Outcome.{recordsOf}
 use Rattle.machine.specs.Claims.{Each}
-use Rattle.machine.proofs.RunLaws.{each-map}
-use Rattle.machine.proofs.Sums.{upTo-cong}
+use Rattle.machine.proofs.runs.RunLaws.{each-map}
+use Rattle.machine.proofs.lists.Sums.{upTo-cong}
 use Rattle.joined.specs.Join.{Part}
 use Rattle.joined.specs.Parts.{inPart, recordsIn, rank, byRank, partOf}
 use Rattle.joined.proofs.Lists.{reverse-map, map-same, no-true, all-same}

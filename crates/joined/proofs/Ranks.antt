@@ -6,7 +6,7 @@ use native.Mathlib.Omega.{arith}
 use lib.Dec.{ltb, eqb}
 use borrow.Author.Tests.{ltb-true, ltb-false, lt-ltb, le-ltb, eqb-true, eqb-false, eq-eqb, ne-eqb}
 use Rattle.machine.specs.Lists.{bit, upTo}
-use Rattle.machine.proofs.Sums.{upTo-cong}
+use Rattle.machine.proofs.lists.Sums.{upTo-cong}
 use Rattle.joined.proofs.Lists.{strictly}
 
 abbrev pub Roll : Type 0

@@ -20,18 +20,18 @@ use Rattle.machine.specs.Turn.{sampleServers, sample, arriveAll, moveClock, nex
 use Rattle.machine.specs.Run.{startAt, idle, start, states, run, runFrom, steps, nobodyLeft}
 use Rattle.machine.specs.Report.{movingOne}
 use Rattle.machine.specs.Claims.{Each, count, everyone, standing, isLiving, madeBy, terminates, Keeps}
-use Rattle.machine.proofs.Proper.{Proper, servers}
-use Rattle.machine.proofs.RunLaws.{cond-cases, each-map, each-state, each-last, last}
+use Rattle.machine.proofs.decoding.Proper.{Proper, servers}
+use Rattle.machine.proofs.runs.RunLaws.{cond-cases, each-map, each-state, each-last, last}
 use Rattle.machine.proofs.Demand3.{keeps-all}
 use Rattle.joined.proofs.Ends.{Dries, dry, turns, dries}
 use Rattle.joined.proofs.Paces.{each-mapped}
 use Rattle.joined.proofs.JointRun.{empty-of}
-use Rattle.machine.proofs.Sorted.{each-insert, each-those, each-drop, each-replace}
-use Rattle.machine.proofs.Shape.{each-set, each-getD}
-use Rattle.machine.proofs.Lines.{each-lineUp, both-partFor}
-use Rattle.machine.proofs.Everybody.{Maybe}
-use Rattle.machine.proofs.Losers.{loser-loses}
-use Rattle.machine.proofs.Cases.{checkWels-kept, waitServer-cases, waitTerms-cases, assemble-cases, preempt-cases, giveBack-cases, wsScheme-cases, startOf-cases}
+use Rattle.machine.proofs.lists.Sorted.{each-insert, each-those, each-drop, each-replace}
+use Rattle.machine.proofs.runs.Shape.{each-set, each-getD}
+use Rattle.machine.proofs.lists.Lines.{each-lineUp, both-partFor}
+use Rattle.machine.proofs.runs.Everybody.{Maybe}
+use Rattle.machine.proofs.order.Losers.{loser-loses}
+use Rattle.machine.proofs.lists.Cases.{checkWels-kept, waitServer-cases, waitTerms-cases, assemble-cases, preempt-cases, giveBack-cases, wsScheme-cases, startOf-cases}
 
 -- ---- Definition
 

@@ -12,7 +12,7 @@ use Rattle.machine.specs.Trace.{Record}
 use Rattle.machine.specs.State.{State, Logged}
 use Rattle.machine.specs.Setters.{withSerial, setSerial, setMade}
 use Rattle.machine.specs.Moves.{fresh}
-use Rattle.machine.proofs.RunLaws.{each-map}
+use Rattle.machine.proofs.runs.RunLaws.{each-map}
 use Rattle.joined.specs.Join.{Part}
 use Rattle.joined.specs.Parts.{inPart}
 use Rattle.joined.proofs.Lists.{map-same}

@@ -14,8 +14,8 @@ use Rattle.machine.specs.Block.{Code, BlockModel, welIndex}
 use Rattle.machine.specs.Trace.{Record}
 use Rattle.machine.specs.State.{State, Logged}
 use Rattle.machine.specs.Claims.{Each}
-use Rattle.machine.proofs.Proper.{Names, servers}
-use Rattle.machine.proofs.Sorted.{Sorted}
+use Rattle.machine.proofs.decoding.Proper.{Names, servers}
+use Rattle.machine.proofs.lists.Sorted.{Sorted}
 use Rattle.joined.specs.Join.{Part, serverIn}
 use Rattle.joined.specs.Parts.{inPart}
 use Rattle.joined.proofs.Rows.{Rows, Matched}

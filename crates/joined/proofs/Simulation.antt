@@ -12,14 +12,14 @@ use Rattle.machine.specs.State.{State}
 use Rattle.machine.specs.Turn.{nextEvents, takeFirst, takeReady, taking, turn, waitsOn}
 use Rattle.machine.specs.Run.{nobodyLeft}
 use Rattle.machine.specs.Claims.{Each}
-use Rattle.machine.proofs.Proper.{Names, Proper}
-use Rattle.machine.proofs.RunLaws.{each-map}
-use Rattle.machine.proofs.Kept.{taking-kept}
-use Rattle.machine.proofs.Shape.{Shape, shape-closed, shape-turn, server-length}
-use Rattle.machine.proofs.Waiting.{Waits}
-use Rattle.machine.proofs.WaitsKept.{waits-kept, waits-taken}
-use Rattle.machine.proofs.Everybody.{Everybody, Unmoved, taking-everybody, Maybe}
-use Rattle.machine.proofs.Placed.{Placed, placed-turn}
+use Rattle.machine.proofs.decoding.Proper.{Names, Proper}
+use Rattle.machine.proofs.runs.RunLaws.{each-map}
+use Rattle.machine.proofs.runs.Kept.{taking-kept}
+use Rattle.machine.proofs.runs.Shape.{Shape, shape-closed, shape-turn, server-length}
+use Rattle.machine.proofs.nobody_able.Waiting.{Waits}
+use Rattle.machine.proofs.nobody_able.WaitsKept.{waits-kept, waits-taken}
+use Rattle.machine.proofs.runs.Everybody.{Everybody, Unmoved, taking-everybody, Maybe}
+use Rattle.machine.proofs.runs.Placed.{Placed, placed-turn}
 use Rattle.joined.specs.Join.{Part}
 use Rattle.joined.proofs.Ranks.{listed-within}
 use Rattle.joined.proofs.Naming.{Naming}

@@ -11,8 +11,8 @@ use Rattle.machine.specs.State.{State}
 use Rattle.machine.specs.Moves.{toFel, timesLeft, arrival}
 use Rattle.machine.specs.Run.{startOf, startAt}
 use Rattle.machine.specs.Claims.{Each}
-use Rattle.machine.proofs.Proper.{Names, ProperBlock, Role, role, generating, taking, preempting, neither}
-use Rattle.machine.proofs.Cases.{startOf-cases}
+use Rattle.machine.proofs.decoding.Proper.{Names, ProperBlock, Role, role, generating, taking, preempting, neither}
+use Rattle.machine.proofs.lists.Cases.{startOf-cases}
 use Rattle.joined.specs.Join.{Part, blockIn}
 use Rattle.joined.specs.Parts.{inPart}
 use Rattle.joined.proofs.Naming.{Naming}

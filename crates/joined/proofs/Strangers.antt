@@ -14,8 +14,8 @@ use Rattle.machine.specs.Block.{Code, facility, storage, shareServer, Block, ge
 use Rattle.machine.specs.State.{State}
 use Rattle.machine.specs.Moves.{qlOf, welOf, losesTo}
 use Rattle.machine.specs.Claims.{Each}
-use Rattle.machine.proofs.Proper.{Names, servers, ProperBlock, code-server, share-server}
-use Rattle.machine.proofs.RunLaws.{each-map, each-pair}
+use Rattle.machine.proofs.decoding.Proper.{Names, servers, ProperBlock, code-server, share-server}
+use Rattle.machine.proofs.runs.RunLaws.{each-map, each-pair}
 use Rattle.joined.specs.Join.{Part, serverIn, shareIn, conditionIn, blockIn}
 use Rattle.joined.specs.Parts.{inPart}
 use Rattle.joined.proofs.Lists.{no-true}

@@ -10,7 +10,7 @@ use Rattle.machine.specs.Lists.{nth}
 use Rattle.machine.specs.Term.{View, Term, constant, minusConstant, parameter, clockTerm, entriesOf, contentOf, unitsInUse, unitsFree, facilityInUse, value, comparison, bracket, Sum, nothing, plus, minus, term, sum, worths, evaluate, compare, truth, Condition, always, whenTrue, related, wrap, oneIf, serverAt, queueAt}
 use Rattle.machine.specs.Block.{BlockModel}
 use Rattle.machine.specs.Claims.{Each}
-use Rattle.machine.proofs.Proper.{Names, servers}
+use Rattle.machine.proofs.decoding.Proper.{Names, servers}
 use Rattle.joined.specs.Join.{Part, termIn, sumIn, conditionIn}
 use Rattle.joined.proofs.Naming.{Naming}
 use Rattle.joined.proofs.Seen.{size, Fixtures}

@@ -16,8 +16,8 @@ use Rattle.machine.specs.Moves.{wakeWsl}
 use Rattle.machine.specs.Execute.{effect}
 use Rattle.machine.specs.Turn.{nextEvents, takeFirst, takeReady, taking, answer, execute, waitsOn, wsScheme, turn}
 use Rattle.machine.specs.Claims.{Each}
-use Rattle.machine.proofs.RunLaws.{cond-cases, each-map}
-use Rattle.machine.proofs.Sorted.{each-passes}
+use Rattle.machine.proofs.runs.RunLaws.{cond-cases, each-map}
+use Rattle.machine.proofs.lists.Sorted.{each-passes}
 
 module _ (m : BlockModel) where
   -- the WS scheme, where no end was set

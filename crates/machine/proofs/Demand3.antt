@@ -13,16 +13,16 @@ use Rattle.machine.specs.Rules.{Rules}
 use Rattle.machine.specs.Validate.{accept, validate}
 use Rattle.machine.specs.Run.{states}
 use Rattle.machine.specs.Claims.{InOrder, Keeps, Demand3, Proved}
-use Rattle.machine.proofs.Proper.{Proper}
-use Rattle.machine.proofs.ProperFrom.{proper-from}
-use Rattle.machine.proofs.RunLaws.{each-map, each-pair, each-under, last}
-use Rattle.machine.proofs.Bounds.{bounded}
-use Rattle.machine.proofs.Conservation.{Conserved, conserved}
-use Rattle.machine.proofs.NobodyAble.{Waited, waited, able-none}
-use Rattle.machine.proofs.InOrder.{in-order}
-use Rattle.machine.proofs.Holders.{Holding, holding, taken-from}
-use Rattle.machine.proofs.JoinedWaits.{Gathered, joined-waits}
-use Rattle.machine.proofs.Gathering.{Assembled, assembled}
+use Rattle.machine.proofs.decoding.Proper.{Proper}
+use Rattle.machine.proofs.decoding.ProperFrom.{proper-from}
+use Rattle.machine.proofs.runs.RunLaws.{each-map, each-pair, each-under, last}
+use Rattle.machine.proofs.runs.Bounds.{bounded}
+use Rattle.machine.proofs.conservation.Conservation.{Conserved, conserved}
+use Rattle.machine.proofs.nobody_able.NobodyAble.{Waited, waited, able-none}
+use Rattle.machine.proofs.order.InOrder.{in-order}
+use Rattle.machine.proofs.later.Holders.{Holding, holding, taken-from}
+use Rattle.machine.proofs.later.JoinedWaits.{Gathered, joined-waits}
+use Rattle.machine.proofs.later.Gathering.{Assembled, assembled}
 
 -- by edition 1 alone
 abbrev Ordered : BlockModel → List (List ℕ) → State → Type 0

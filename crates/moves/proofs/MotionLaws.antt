@@ -15,7 +15,7 @@ use Rattle.machine.specs.Block.{Code, Block, BlockModel, welIndex}
 use Rattle.machine.specs.State.{State}
 use Rattle.machine.specs.Setters.{withNext, withSerial, withReturning, setSerial, setMoving, setEnd}
 use Rattle.machine.specs.Moves as Moves
-use Rattle.machine.proofs.Sorted as Machine
+use Rattle.machine.proofs.lists.Sorted as Machine
 use Rattle.rows_laws.specs.Layout.{wsl}
 use Rattle.rows_laws.specs.Cells.{read, write}
 use Rattle.rows_laws.specs.Lines.{lineUp}

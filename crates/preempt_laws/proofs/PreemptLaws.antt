@@ -21,9 +21,9 @@ use Rattle.machine.specs.Moves as Moves
 use Rattle.machine.specs.Execute.{unless, question, askGivesBack, preempting, givesBack, wakeFor, partFor}
 use Rattle.machine.specs.Execute as Execute
 use Rattle.machine.specs.Claims.{Each}
-use Rattle.machine.proofs.Proper.{Proper, Names, servers}
-use Rattle.machine.proofs.Sorted.{each-those}
-use Rattle.machine.proofs.Chosen.{those-insert, those-one, those-else, those-replaced}
+use Rattle.machine.proofs.decoding.Proper.{Proper, Names, servers}
+use Rattle.machine.proofs.lists.Sorted.{each-those}
+use Rattle.machine.proofs.lists.Chosen.{those-insert, those-one, those-else, those-replaced}
 use Rattle.tables.specs.Forms.{blockForms}
 use Rattle.tables.specs.Represents.{Represents}
 use Rattle.rows_laws.specs.Layout.{fel, holderCell}

@@ -10,7 +10,7 @@ use lib.Dec.{eqb}
 use lib.ListN.{length, getD, drop}
 use lib.Seq.{getD-take, getD-drop}
 use Rattle.machine.specs.Block.{Block, terminate, facility, storage, facts, BlockModel, blockAt}
-use Rattle.machine.proofs.Proper.{Proper, ProperBlock}
+use Rattle.machine.proofs.decoding.Proper.{Proper, ProperBlock}
 use Rattle.tables.specs.Forms.{blockForms}
 use Rattle.tables.specs.Numbers.{blockNumbers}
 use Rattle.tables.specs.Represents.{At, Represents}

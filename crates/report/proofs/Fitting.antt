@@ -19,11 +19,11 @@ use Rattle.machine.specs.State.{State, Logged}
 use Rattle.machine.specs.Number.{numberBytes}
 use Rattle.machine.specs.Report.{recordsAt, serverNumbers, queueNumbers, Place, placed, movingOne, places, byNumber, placeNumbers, reportNumbers, reportBytes}
 use Rattle.machine.specs.Claims.{Each}
-use Rattle.machine.proofs.Proper.{Proper, servers}
-use Rattle.machine.proofs.Sorted.{each-insert}
-use Rattle.machine.proofs.Sums.{sum-length}
-use Rattle.machine.proofs.Everybody.{Maybe, Everybody}
-use Rattle.machine.proofs.Conservation.{Sound, Conserved, sound-conserved}
+use Rattle.machine.proofs.decoding.Proper.{Proper, servers}
+use Rattle.machine.proofs.lists.Sorted.{each-insert}
+use Rattle.machine.proofs.lists.Sums.{sum-length}
+use Rattle.machine.proofs.runs.Everybody.{Maybe, Everybody}
+use Rattle.machine.proofs.conservation.Conservation.{Sound, Conserved, sound-conserved}
 use Rattle.codec.proofs.Numbers.{numberBytes-length, numberBytes-longest}
 use Rattle.codec.proofs.Stores.{sets-append}
 use Rattle.state.specs.Sane.{Sane}
@@ -32,7 +32,7 @@ use Rattle.state.proofs.Numbered.{Numbered, numbered}
 use Rattle.report.specs.Writing.{written, putAll}
 use Rattle.codec.proofs.Writing.{put-room}
 use Rattle.report.proofs.Writes.{putAll-cons}
-use Rattle.machine.proofs.Sorting.{sum-sorted}
+use Rattle.machine.proofs.lists.Sorting.{sum-sorted}
 use Rattle.report.proofs.Counted.{records-few}
 
 -- ---- Sizes

@@ -11,16 +11,16 @@ use lib.ListN.{length, replicate, length-replicate}
 use Rattle.machine.specs.State.{State}
 use Rattle.machine.specs.Report.{Place, places, byNumber, placeNumbers}
 use Rattle.machine.specs.Claims.{bit, Each, standing}
-use Rattle.machine.proofs.Proper.{Names}
-use Rattle.machine.proofs.Sums.{sumOn, sum-length}
+use Rattle.machine.proofs.decoding.Proper.{Names}
+use Rattle.machine.proofs.lists.Sums.{sumOn, sum-length}
 use Rattle.rows_laws.specs.Layout.{numberField}
 use Rattle.rows_laws.specs.Cells.{read}
 use Rattle.rows_laws.proofs.Sums.{sum-ext}
 use Rattle.state.specs.Stands.{Listing}
 use Rattle.report.specs.Living.{placeOf, placeAt, lives, livingCount, placeRow}
 use Rattle.report.specs.Numbers.{livingNumbers}
-use Rattle.machine.proofs.Standing.{times-standing}
-use Rattle.machine.proofs.Sorting.{sorted-is}
+use Rattle.machine.proofs.conservation.Standing.{times-standing}
+use Rattle.machine.proofs.lists.Sorting.{sorted-is}
 use Rattle.report.proofs.Ranking.{weight, all, listTo, list-numbers, ranking, ranking-sum, ranking-rises}
 use Rattle.report.proofs.Rows.{sum-two}
 use Rattle.report.proofs.Places.{all-places}

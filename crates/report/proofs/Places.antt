@@ -13,10 +13,10 @@ use Rattle.machine.specs.Lists.{flat, those}
 use Rattle.machine.specs.State.{State}
 use Rattle.machine.specs.Moves.{ofFacility, interruptedAt}
 use Rattle.machine.specs.Claims.{Each}
-use Rattle.machine.proofs.Proper.{Names}
+use Rattle.machine.proofs.decoding.Proper.{Names}
 use Rattle.machine.specs.Report.{Place, movingOne, places}
-use Rattle.machine.proofs.Standing.{sum-places}
-use Rattle.machine.proofs.Sums.{sumOn, sum-map}
+use Rattle.machine.proofs.conservation.Standing.{sum-places}
+use Rattle.machine.proofs.lists.Sums.{sumOn, sum-map}
 use Rattle.rows_laws.specs.Layout.{place, fel, nowhere, numberField}
 use Rattle.rows_laws.specs.Cells.{load, read}
 use Rattle.rows_laws.specs.Holds.{transactionAt, eventAt}

@@ -12,8 +12,8 @@ use lib.ListN.{length, getD, set, length-set}
 use lib.Seq.{getD-set-same, getD-set-other}
 use Rattle.machine.specs.Report.{Place, placeNumbers}
 use Rattle.machine.specs.Claims.{Each}
-use Rattle.machine.proofs.Sums.{sumOn, sum-append}
-use Rattle.machine.proofs.Sorting.{Rising}
+use Rattle.machine.proofs.lists.Sums.{sumOn, sum-append}
+use Rattle.machine.proofs.lists.Sorting.{Rising}
 use Rattle.rows_laws.specs.Layout.{numberField}
 use Rattle.rows_laws.specs.Cells.{read}
 use Rattle.rows_laws.specs.Living.{sumTo}

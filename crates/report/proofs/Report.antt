@@ -12,9 +12,9 @@ use Rattle.machine.specs.Term.{Server, Queue, idleServer, emptyQueue}
 use Rattle.machine.specs.Block.{BlockModel}
 use Rattle.machine.specs.State.{State, Logged}
 use Rattle.machine.specs.Report.{recordsAt, serverNumbers, queueNumbers, places, byNumber, placeNumbers, reportNumbers, reportBytes}
-use Rattle.machine.proofs.Proper.{Proper, Names, servers}
-use Rattle.machine.proofs.RunLaws.{each-map}
-use Rattle.machine.proofs.Conservation.{Sound, stands-at-most-once}
+use Rattle.machine.proofs.decoding.Proper.{Proper, Names, servers}
+use Rattle.machine.proofs.runs.RunLaws.{each-map}
+use Rattle.machine.proofs.conservation.Conservation.{Sound, stands-at-most-once}
 use Rattle.tables.specs.Layout as Layout
 use Rattle.tables.specs.Represents.{headerOf, Represents}
 use Rattle.state.specs.Sane.{Sane}

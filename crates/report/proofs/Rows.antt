@@ -11,7 +11,7 @@ use borrow.Author.Tests.{le-ltb, eq-eqb, ne-eqb, ltb-true, ltb-false, eqb-true, 
 use lib.Dec.{ltb, eqb}
 use lib.ListN.{length, getD}
 use Rattle.machine.specs.Lists.{flat}
-use Rattle.machine.proofs.Sums.{sumOn, sum-append}
+use Rattle.machine.proofs.lists.Sums.{sumOn, sum-append}
 use Rattle.rows_laws.specs.Layout.{place, listCount}
 use Rattle.rows_laws.specs.Cells.{load}
 use Rattle.rows_laws.specs.Holds.{same, occurs, Holds}

@@ -12,7 +12,7 @@ use Rattle.machine.specs.Transaction.{Transaction, Event, precedes, earlier}
 use Rattle.machine.specs.Lists.{insert, those, others}
 use Rattle.machine.specs.Moves.{wake}
 use Rattle.machine.specs.Moves as Moves
-use Rattle.machine.proofs.QueueRemove.{walk}
+use Rattle.machine.proofs.nobody_able.QueueRemove.{walk}
 use Rattle.machine.specs.Turn.{due}
 use Rattle.machine.specs.Claims.{Each}
 use Rattle.rows_laws.specs.Layout.{listCount, place, head, wsl, rel, fel, free, nowhere}

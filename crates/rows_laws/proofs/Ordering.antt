@@ -8,8 +8,8 @@ use lib.Dec.{ltb, eqb}
 use Rattle.machine.specs.Transaction.{Transaction, Event, precedes, earlier}
 use Rattle.machine.specs.Moves.{wake}
 use Rattle.machine.specs.Claims.{Each}
-use Rattle.machine.proofs.Sorted as Machine
-use Rattle.machine.proofs.Serials.{Single, strictly}
+use Rattle.machine.proofs.lists.Sorted as Machine
+use Rattle.machine.proofs.order.Serials.{Single, strictly}
 use Rattle.rows_laws.specs.Layout.{wsl, rel, fel}
 use Rattle.rows_laws.specs.Clock.{arrivals}
 use Rattle.rows_laws.specs.Holds.{update}

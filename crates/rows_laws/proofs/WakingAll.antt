@@ -12,7 +12,7 @@ use Rattle.machine.specs.Transaction.{Transaction, Event, precedes}
 use Rattle.machine.specs.Setters.{withReturning}
 use Rattle.machine.specs.Lists.{insert, those, others}
 use Rattle.machine.specs.Moves.{wake, Parted, goes, stays}
-use Rattle.machine.proofs.QueueRemove.{walk, walk-fixed}
+use Rattle.machine.proofs.nobody_able.QueueRemove.{walk, walk-fixed}
 use Rattle.rows_laws.specs.Layout.{link, head, rel}
 use Rattle.rows_laws.specs.Lists.{first}
 use Rattle.rows_laws.specs.Wake.{wakeAt, wakeFirst, after, passRows, passCell, wakeWalk, wakeAll}

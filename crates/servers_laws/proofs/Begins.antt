@@ -9,10 +9,10 @@ use lib.Dec.{eqb, ltb}
 use lib.ListN.{length, getD}
 use Rattle.machine.specs.Lists.{bit, upTo}
 use Rattle.machine.specs.Block.{Block, facts, BlockModel, blockAt, backAt, beginsGroup}
-use Rattle.machine.proofs.Sums.{upTo-zero}
-use Rattle.machine.proofs.Proper.{Names, Proper}
-use Rattle.machine.proofs.Placed.{goes-on}
-use Rattle.machine.proofs.Groups.{begins, blocks-placed, group-waits}
+use Rattle.machine.proofs.lists.Sums.{upTo-zero}
+use Rattle.machine.proofs.decoding.Proper.{Names, Proper}
+use Rattle.machine.proofs.runs.Placed.{goes-on}
+use Rattle.machine.proofs.decoding.Groups.{begins, blocks-placed, group-waits}
 use Rattle.tables.specs.Forms.{blockForms}
 use Rattle.tables.specs.Numbers.{blockNumbers}
 use Rattle.tables.specs.Represents.{Represents}

@@ -21,11 +21,11 @@ use Rattle.machine.specs.Moves as Moves
 use Rattle.machine.specs.Execute.{unitsOf, unless, askHolder, question, partFor, wakeFor}
 use Rattle.machine.specs.Execute as Execute
 use Rattle.machine.specs.Claims.{Each}
-use Rattle.machine.proofs.Proper.{Proper, ProperBlock, Names, Storage, servers}
-use Rattle.machine.proofs.Placed.{Placed}
-use Rattle.machine.proofs.Waiting.{AtServer}
-use Rattle.machine.proofs.QueueRemove.{walk, walk-same, within, leftAfter, leave-walks, some-units}
-use Rattle.machine.proofs.Shape.{each-getD}
+use Rattle.machine.proofs.decoding.Proper.{Proper, ProperBlock, Names, Storage, servers}
+use Rattle.machine.proofs.runs.Placed.{Placed}
+use Rattle.machine.proofs.nobody_able.Waiting.{AtServer}
+use Rattle.machine.proofs.nobody_able.QueueRemove.{walk, walk-same, within, leftAfter, leave-walks, some-units}
+use Rattle.machine.proofs.runs.Shape.{each-getD}
 use Rattle.tables.specs.Forms.{blockForms}
 use Rattle.tables.specs.Represents.{Represents}
 use Rattle.rows_laws.specs.Layout.{head}

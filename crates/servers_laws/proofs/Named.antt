@@ -11,8 +11,8 @@ use Rattle.machine.specs.Term.{Server, idleServer}
 use Rattle.machine.specs.Term
 use Rattle.machine.specs.Block.{Code, U, NU, E, NE, F, NF, status, codeIndex, Block, facility, storage, facts, BlockModel, blockAt}
 use Rattle.machine.specs.State.{State}
-use Rattle.machine.proofs.Proper.{Proper, Names, servers}
-use Rattle.machine.proofs.Shape.{Shape, capacityOf}
+use Rattle.machine.proofs.decoding.Proper.{Proper, Names, servers}
+use Rattle.machine.proofs.runs.Shape.{Shape, capacityOf}
 use Rattle.tables.specs.Forms.{blockForms}
 use Rattle.tables.specs.Numbers.{blockNumbers}
 use Rattle.tables.specs.Represents.{At, Represents}

@@ -16,10 +16,10 @@ use Rattle.machine.specs.Block.{Code, welIndex}
 use Rattle.machine.specs.State.{State}
 use Rattle.machine.specs.Setters.{withUse, setQl, setRel}
 use Rattle.machine.specs.Moves.{wake, qlOf, Parted, firstOf, wakeQl}
-use Rattle.machine.proofs.QueueRemove.{walk}
+use Rattle.machine.proofs.nobody_able.QueueRemove.{walk}
 use Rattle.machine.specs.Moves as Moves
 use Rattle.machine.specs.Execute as Execute
-use Rattle.machine.proofs.Shape.{wel-below}
+use Rattle.machine.proofs.runs.Shape.{wel-below}
 use Rattle.rows_laws.specs.Layout.{head}
 use Rattle.rows_laws.specs.Future.{keepHolder}
 use Rattle.rows_laws.specs.Wake.{wakeFirst, wakeWalk}

@@ -12,8 +12,8 @@ use Rattle.machine.specs.Block.{BlockModel}
 use Rattle.machine.specs.State.{State}
 use Rattle.machine.specs.Setters.{setMoving}
 use Rattle.machine.specs.Moves.{qlOf}
-use Rattle.machine.proofs.Proper.{Proper, servers}
-use Rattle.machine.proofs.Shape.{each-getD, server-length, ql-at, wel-at}
+use Rattle.machine.proofs.decoding.Proper.{Proper, servers}
+use Rattle.machine.proofs.runs.Shape.{each-getD, server-length, ql-at, wel-at}
 use Rattle.tables.specs.Represents.{Represents}
 use Rattle.state.specs.Sane.{Sane}
 use Rattle.state.specs.Stands.{Rows, Stands}

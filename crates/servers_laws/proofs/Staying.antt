@@ -8,7 +8,7 @@ use borrow.Author.Tests.{lt-ltb, le-ltb}
 use lib.ListN.{length}
 use Rattle.machine.specs.Transaction.{Transaction, Event, precedes}
 use Rattle.machine.specs.Moves.{Parted, goes, stays}
-use Rattle.machine.proofs.QueueRemove.{walk}
+use Rattle.machine.proofs.nobody_able.QueueRemove.{walk}
 use Rattle.rows_laws.specs.Layout.{link, head, rel}
 use Rattle.rows_laws.specs.Cells.{load}
 use Rattle.rows_laws.specs.Wake.{wakeAt, after, passRows, passCell, wakeWalk}

@@ -17,8 +17,8 @@ use Rattle.machine.specs.Setters.{setMoving, setSerial}
 use Rattle.machine.specs.Moves as Moves
 use Rattle.machine.specs.Execute.{question}
 use Rattle.machine.specs.Execute as Execute
-use Rattle.machine.proofs.Sorted.{Sorted}
-use Rattle.machine.proofs.Proper.{Proper, ProperBlock, Names, Storage, servers}
+use Rattle.machine.proofs.lists.Sorted.{Sorted}
+use Rattle.machine.proofs.decoding.Proper.{Proper, ProperBlock, Names, Storage, servers}
 use Rattle.tables.specs.Forms.{blockForms}
 use Rattle.tables.specs.Represents.{Represents}
 use Rattle.rows_laws.specs.Future.{keepHolder}

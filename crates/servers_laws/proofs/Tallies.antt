@@ -15,8 +15,8 @@ use Rattle.machine.specs.Term
 use Rattle.machine.specs.State.{State}
 use Rattle.machine.specs.Setters.{withUse, withSerial, setQl, setSerial}
 use Rattle.machine.specs.Moves as Moves
-use Rattle.machine.proofs.Sums.{sum-length}
-use Rattle.machine.proofs.Lines.{sum-lineUp}
+use Rattle.machine.proofs.lists.Sums.{sum-length}
+use Rattle.machine.proofs.lists.Lines.{sum-lineUp}
 use Rattle.state.specs.Statistics.{behind, sumNow, longestNow}
 use Rattle.state.specs.Stands.{Tallying}
 use Rattle.state.specs.Bare.{Bare, waitsNote, noNote, waiting}

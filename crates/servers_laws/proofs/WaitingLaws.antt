@@ -16,9 +16,9 @@ use Rattle.machine.specs.Setters.{withStamp, setMoving, setSerial}
 use Rattle.machine.specs.Moves.{wakeFirstWel}
 use Rattle.machine.specs.Moves as Moves
 use Rattle.machine.specs.Execute.{question, stamped}
-use Rattle.machine.proofs.Sorted.{Sorted}
-use Rattle.machine.proofs.Proper.{Proper, ProperBlock, CodeServer, servers}
-use Rattle.machine.proofs.Shape.{wel-below}
+use Rattle.machine.proofs.lists.Sorted.{Sorted}
+use Rattle.machine.proofs.decoding.Proper.{Proper, ProperBlock, CodeServer, servers}
+use Rattle.machine.proofs.runs.Shape.{wel-below}
 use Rattle.tables.specs.Forms.{blockForms}
 use Rattle.tables.specs.Numbers.{blockNumbers}
 use Rattle.tables.specs.Represents.{Represents}

@@ -12,7 +12,7 @@ use Rattle.machine.specs.Block.{BlockModel}
 use Rattle.machine.specs.State.{State}
 use Rattle.machine.specs.Setters.{setClock, setView, setFel, setRel, setSerial}
 use Rattle.machine.specs.Turn.{sampleServers, sample, due, moveClock, nextEvents}
-use Rattle.machine.proofs.Sums.{sumOn}
+use Rattle.machine.proofs.lists.Sums.{sumOn}
 use Rattle.slowjob.proofs.Events.{at, Pending, Step, absent, stays, falls-due, Moved, moved, Arrival, arrive}
 use Rattle.slowjob.proofs.Line.{Coming, nobody, later, here-now, Serving, idle, seized, busy, done, Line}
 

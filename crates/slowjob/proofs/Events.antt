@@ -15,9 +15,9 @@ use Rattle.machine.specs.Setters.{withReturning, withSerial, setRel, setSerial}
 use Rattle.machine.specs.Moves.{fresh, toRel}
 use Rattle.machine.specs.Turn.{arriveAll, due}
 use Rattle.machine.specs.Claims.{Each}
-use Rattle.machine.proofs.RunLaws.{cond-cases}
-use Rattle.machine.proofs.Sorted.{each-insert, earlier-time, later-time}
-use Rattle.machine.proofs.Sums.{sumOn, sum-insert}
+use Rattle.machine.proofs.runs.RunLaws.{cond-cases}
+use Rattle.machine.proofs.lists.Sorted.{each-insert, earlier-time, later-time}
+use Rattle.machine.proofs.lists.Sums.{sumOn, sum-insert}
 
 -- ---- Where somebody stands
 

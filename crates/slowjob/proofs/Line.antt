@@ -17,9 +17,9 @@ use Rattle.machine.specs.Setters.{setRel, setWel, setWsl}
 use Rattle.machine.specs.Moves.{qlOf, welOf, timesLeft, wake, wakeFirstWel, wakeWsl}
 use Rattle.machine.specs.Execute.{checkWels}
 use Rattle.machine.specs.Claims.{Each}
-use Rattle.machine.proofs.Cases.{checkWels-kept}
-use Rattle.machine.proofs.Shape.{each-set, each-getD}
-use Rattle.machine.proofs.Sums.{sumOn}
+use Rattle.machine.proofs.lists.Cases.{checkWels-kept}
+use Rattle.machine.proofs.runs.Shape.{each-set, each-getD}
+use Rattle.machine.proofs.lists.Sums.{sumOn}
 use Rattle.slowjob.specs.SlowJob.{ends, comes, leaves}
 use Rattle.slowjob.proofs.Events.{at, AllReady, Pending}
 

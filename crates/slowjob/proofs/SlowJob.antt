@@ -15,8 +15,8 @@ use Rattle.machine.specs.Trace.{Record}
 use Rattle.machine.specs.Run.{run}
 use Rattle.machine.specs.Validate.{accept, validate}
 use Rattle.machine.specs.Outcome.{recordsOf, acceptedRun, outcomeOf, outcome}
-use Rattle.machine.proofs.Proper.{Proper, ProperBlock}
-use Rattle.machine.proofs.ProperFrom.{proper-from, rules-from}
+use Rattle.machine.proofs.decoding.Proper.{Proper, ProperBlock}
+use Rattle.machine.proofs.decoding.ProperFrom.{proper-from, rules-from}
 use Rattle.trace.specs.Whole.{Reads}
 use Rattle.trace.proofs.RoundTrip.{reads-once}
 use Rattle.columns_laws.proofs.Runs.{run-taken}

@@ -16,9 +16,9 @@ use Rattle.machine.specs.Trace.{Record}
 use Rattle.machine.specs.State.{Logged}
 use Rattle.machine.specs.Moves.{lineUp, wake}
 use Rattle.machine.specs.Claims.{Each}
-use Rattle.machine.proofs.Sorted.{each-insert}
-use Rattle.machine.proofs.Lines.{sum-lineUp, each-lineUp}
-use Rattle.machine.proofs.Sums.{sumOn, sum-insert, sum-length}
+use Rattle.machine.proofs.lists.Sorted.{each-insert}
+use Rattle.machine.proofs.lists.Lines.{sum-lineUp, each-lineUp}
+use Rattle.machine.proofs.lists.Sums.{sumOn, sum-insert, sum-length}
 use Rattle.slowjob.specs.SlowJob.{ends, comes, leaves}
 use Rattle.slowjob.proofs.Events.{at, Ready, seizes, Pending, insert-coming, insert-served}
 use Rattle.slowjob.proofs.Line.{Seeking, firsts, Coming, nobody, later, here-now, Serving, idle, seized, busy, done, before, Gone, Lined}

@@ -20,10 +20,10 @@ use Rattle.machine.specs.Execute.{askAdvance, question, partFor, wakeFor, endsO
 use Rattle.machine.specs.Turn.{nextEvents, takeFirst, takeReady, taking, answer, execute, waitsOn, wsScheme, turn}
 use Rattle.machine.specs.Run.{startOf, startAt, idle, start, run}
 use Rattle.machine.specs.Claims.{Each}
-use Rattle.machine.proofs.RunLaws.{cond-cases, last-state}
-use Rattle.machine.proofs.Cases.{wsScheme-cases}
-use Rattle.machine.proofs.Kept.{taking-kept}
-use Rattle.machine.proofs.Shape.{Shape, shape-closed, shape-turn, shape-start, ql-at, samples-at, server-length, server-within, facility-capacity}
+use Rattle.machine.proofs.runs.RunLaws.{cond-cases, last-state}
+use Rattle.machine.proofs.lists.Cases.{wsScheme-cases}
+use Rattle.machine.proofs.runs.Kept.{taking-kept}
+use Rattle.machine.proofs.runs.Shape.{Shape, shape-closed, shape-turn, shape-start, ql-at, samples-at, server-length, server-within, facility-capacity}
 use Rattle.slowjob.specs.SlowJob.{jobs, JobLine, ends, comes, leaves}
 use Rattle.slowjob.proofs.Events.{Ready, generates, seizes, releases, AllReady, neither, coming}
 use Rattle.slowjob.proofs.Line.{used, Nobody, Lists, Serving, Gone, Lined, Line, line-wels, line-wsl, line-taken}

@@ -13,7 +13,7 @@ use Rattle.machine.specs.State.{State}
 use Rattle.machine.specs.Moves as Moves
 use Rattle.machine.specs.Run.{startOf, startAt, idle, start}
 use Rattle.constants.specs.declared.model.Model.{Model}
-use Rattle.machine.proofs.Cases.{startOf-cases}
+use Rattle.machine.proofs.lists.Cases.{startOf-cases}
 use Rattle.rows_laws.specs.Make.{initial}
 use Rattle.state.specs.Stands.{Rows, rowsOf}
 use Rattle.state.specs.declared.scalars.Scalars.{Scalars}

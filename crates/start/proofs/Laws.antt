@@ -14,8 +14,8 @@ use Rattle.machine.specs.Block.{Block, generate, facility, storage, facts, Bloc
 use Rattle.machine.specs.State.{State}
 use Rattle.machine.specs.Moves as Moves
 use Rattle.machine.specs.Run.{startOf, startAt, idle, start}
-use Rattle.machine.proofs.Clocks.{Given, with-fresh}
-use Rattle.machine.proofs.Proper.{Names, ProperBlock, Proper}
+use Rattle.machine.proofs.runs.Clocks.{Given, with-fresh}
+use Rattle.machine.proofs.decoding.Proper.{Names, ProperBlock, Proper}
 use Rattle.tables.specs.Layout.{tallySize}
 use Rattle.tables.specs.Forms.{blockForms}
 use Rattle.tables.specs.Numbers.{blockNumbers}

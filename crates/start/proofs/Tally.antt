@@ -11,7 +11,7 @@ use Rattle.machine.specs.Lists.{bit}
 use Rattle.machine.specs.Term.{Server, idleServer, Queue, emptyQueue}
 use Rattle.machine.specs.Block.{BlockModel}
 use Rattle.machine.specs.Run.{idle}
-use Rattle.machine.proofs.Proper.{Proper}
+use Rattle.machine.proofs.decoding.Proper.{Proper}
 use Rattle.tables.specs.Layout as Layout
 use Rattle.tables.specs.Represents.{Represents}
 use Rattle.state.specs.Statistics.{sumNow, longestNow}

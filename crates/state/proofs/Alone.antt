@@ -16,9 +16,9 @@ use Rattle.machine.specs.Block.{BlockModel}
 use Rattle.machine.specs.State.{State}
 use Rattle.machine.specs.Moves.{ofFacility, interruptedAt}
 use Rattle.machine.specs.Claims.{bit, everyone, standing}
-use Rattle.machine.proofs.Sums.{sumOn, sum-append, sum-those, sum-map, sum-count}
-use Rattle.machine.proofs.Balance.{listed, held}
-use Rattle.machine.proofs.Conservation.{sum-everyone}
+use Rattle.machine.proofs.lists.Sums.{sumOn, sum-append, sum-those, sum-map, sum-count}
+use Rattle.machine.proofs.conservation.Balance.{listed, held}
+use Rattle.machine.proofs.conservation.Conservation.{sum-everyone}
 use Rattle.rows_laws.specs.Layout.{place, fel, free}
 use Rattle.rows_laws.specs.Cells.{load, read}
 use Rattle.rows_laws.specs.Future.{lives}

@@ -20,14 +20,14 @@ use Rattle.machine.specs.Setters.{withSerial, setSerial, setMoving, setEnded, s
 use Rattle.machine.specs.Moves.{moveTo, fresh, toRel, toFel, toQl, toWel, toWsl, wakeQl, wakeFirstWel, wakeWsl, setUse, setContent, timesLeft, arrival, copies, waitsFor, toGatherers, comes, released, interruptedAt, losersTo, interrupt, resume, setHolder}
 use Rattle.machine.specs.Execute.{unless, living, askGenerate, question, checkWels, endsOne, delay, wakeFor, changed, gathers, gathering, takingUnits, preempting, givesBack}
 use Rattle.machine.specs.Turn.{wsScheme}
-use Rattle.machine.proofs.Ahead.{Ahead, rising-insert, rising-without}
-use Rattle.machine.proofs.Kept.{changed-most}
-use Rattle.machine.proofs.Proper.{ProperBlock}
-use Rattle.machine.proofs.RunLaws.{cond-cases}
-use Rattle.machine.proofs.Shape.{each-getD}
-use Rattle.machine.proofs.Sorted.{each-insert, each-replace, at-set}
-use Rattle.machine.proofs.Clocks.{Samples}
-use Rattle.machine.proofs.Cases.{checkWels-kept, wsScheme-cases}
+use Rattle.machine.proofs.runs.Ahead.{Ahead, rising-insert, rising-without}
+use Rattle.machine.proofs.runs.Kept.{changed-most}
+use Rattle.machine.proofs.decoding.Proper.{ProperBlock}
+use Rattle.machine.proofs.runs.RunLaws.{cond-cases}
+use Rattle.machine.proofs.runs.Shape.{each-getD}
+use Rattle.machine.proofs.lists.Sorted.{each-insert, each-replace, at-set}
+use Rattle.machine.proofs.runs.Clocks.{Samples}
+use Rattle.machine.proofs.lists.Cases.{checkWels-kept, wsScheme-cases}
 use Rattle.state.specs.Bare.{Bare, entering, goingBack, beginning, waiting, bare}
 use Rattle.state.proofs.Gains.{each-set, serverSums, queueSums, more, Gains, gains-trans, gains-most}
 

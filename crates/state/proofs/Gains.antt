@@ -9,9 +9,9 @@ use Rattle.machine.specs.Rules.{inForce}
 use Rattle.machine.specs.Term.{Server, Queue}
 use Rattle.machine.specs.State.{State}
 use Rattle.machine.specs.Claims.{Each}
-use Rattle.machine.proofs.Ahead.{Ahead}
-use Rattle.machine.proofs.RunLaws.{each-map}
-use Rattle.machine.proofs.Clocks.{Samples}
+use Rattle.machine.proofs.runs.Ahead.{Ahead}
+use Rattle.machine.proofs.runs.RunLaws.{each-map}
+use Rattle.machine.proofs.runs.Clocks.{Samples}
 
 -- ---- Lists of which each passes
 

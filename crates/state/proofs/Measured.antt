@@ -17,14 +17,14 @@ use Rattle.machine.specs.State.{State}
 use Rattle.machine.specs.Setters.{setClock, setView, setFel, setRel, setSerial}
 use Rattle.machine.specs.Turn.{sampleServers, sampleQueue, sample, due, moveClock, nextEvents, takeFirst, takeReady, taking}
 use Rattle.machine.specs.Claims.{Each}
-use Rattle.machine.proofs.Proper.{Proper}
-use Rattle.machine.proofs.RunLaws.{cond-cases, each-map, each-pair}
-use Rattle.machine.proofs.Sorted.{each-those}
-use Rattle.machine.proofs.Shape.{Shape, Within, capacityOf, allCapacities}
-use Rattle.machine.proofs.Clocks.{Samples}
+use Rattle.machine.proofs.decoding.Proper.{Proper}
+use Rattle.machine.proofs.runs.RunLaws.{cond-cases, each-map, each-pair}
+use Rattle.machine.proofs.lists.Sorted.{each-those}
+use Rattle.machine.proofs.runs.Shape.{Shape, Within, capacityOf, allCapacities}
+use Rattle.machine.proofs.runs.Clocks.{Samples}
 use Rattle.rows_laws.specs.Clock.{arrivals}
 use Rattle.rows_laws.proofs.Arrivals.{arriveAll-is}
-use Rattle.machine.proofs.Ahead.{Rising, rising-those, Ahead}
+use Rattle.machine.proofs.runs.Ahead.{Rising, rising-those, Ahead}
 use Rattle.state.proofs.Gains.{each-alike, each-mapped, Sums, serverSums, queueSums, Gains}
 
 -- ---- Definition

@@ -8,9 +8,9 @@ use lib.ListN.{length}
 use Rattle.machine.specs.Transaction.{Transaction}
 use Rattle.machine.specs.Block.{BlockModel}
 use Rattle.machine.specs.State.{State}
-use Rattle.machine.proofs.Proper.{Proper}
-use Rattle.machine.proofs.Placed.{Placed}
-use Rattle.machine.proofs.Everybody.{Maybe}
+use Rattle.machine.proofs.decoding.Proper.{Proper}
+use Rattle.machine.proofs.runs.Placed.{Placed}
+use Rattle.machine.proofs.runs.Everybody.{Maybe}
 use Rattle.state.specs.Sane.{Sane}
 
 module _ {m : BlockModel} {tape : List (List ℕ)} (proper : Proper m tape) (t : Transaction) (s : State) (sane : Sane m s) (moving : s .moving ≡ some t) where

@@ -13,10 +13,10 @@ use Rattle.machine.specs.State.{State}
 use Rattle.machine.specs.Turn.{taking}
 use Rattle.machine.specs.Report.{movingOne}
 use Rattle.machine.specs.Claims.{Each, count, bit, everyone, standing}
-use Rattle.machine.proofs.Proper.{Names}
-use Rattle.machine.proofs.Sums.{count-cons}
-use Rattle.machine.proofs.Everybody.{Maybe, Everybody, Unmoved, taking-everybody}
-use Rattle.machine.proofs.Conservation.{Sound, stands-made}
+use Rattle.machine.proofs.decoding.Proper.{Names}
+use Rattle.machine.proofs.lists.Sums.{count-cons}
+use Rattle.machine.proofs.runs.Everybody.{Maybe, Everybody, Unmoved, taking-everybody}
+use Rattle.machine.proofs.conservation.Conservation.{Sound, stands-made}
 use Rattle.state.proofs.Gains.{each-mapped}
 
 -- what holds of each number that occurs holds of each transaction

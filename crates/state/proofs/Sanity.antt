@@ -20,28 +20,28 @@ use Rattle.machine.specs.Turn.{taking, turn}
 use Rattle.machine.specs.Run.{idle, startAt, start}
 use Rattle.machine.specs.Report.{placed, places}
 use Rattle.machine.specs.Claims.{Each, everyone, standing, loserBy}
-use Rattle.machine.proofs.Proper.{Proper, Names}
-use Rattle.machine.proofs.Chosen.{upto, none-numbered}
-use Rattle.machine.proofs.Holders.{Holding, holding-taking, holding-turn, holding-start}
-use Rattle.machine.proofs.RunLaws.{each-map, each-pair}
-use Rattle.machine.proofs.Cases.{startOf-cases}
-use Rattle.machine.proofs.Kept.{taking-kept}
-use Rattle.machine.proofs.Shape.{Shape, shape-closed, shape-turn, shape-start, each-getD}
-use Rattle.machine.proofs.Everybody.{Everybody, Unmoved, taking-everybody, like}
-use Rattle.machine.proofs.Placed.{Placed, placed-turn, placed-start}
-use Rattle.machine.proofs.Waiting.{Waits}
-use Rattle.machine.proofs.WaitsKept.{waits-taken, waits-kept, waits-start}
-use Rattle.machine.proofs.StillWaiting.{AllHold, settled-turn, settled-start}
-use Rattle.machine.proofs.Clocks.{Timely, taking-timely, timely-turn, timely-start}
-use Rattle.machine.proofs.Conservation.{Sound, Conserved, sound-conserved, stands-at-most-once, sound-start, sound-taking, sound-turn}
+use Rattle.machine.proofs.decoding.Proper.{Proper, Names}
+use Rattle.machine.proofs.lists.Chosen.{upto, none-numbered}
+use Rattle.machine.proofs.later.Holders.{Holding, holding-taking, holding-turn, holding-start}
+use Rattle.machine.proofs.runs.RunLaws.{each-map, each-pair}
+use Rattle.machine.proofs.lists.Cases.{startOf-cases}
+use Rattle.machine.proofs.runs.Kept.{taking-kept}
+use Rattle.machine.proofs.runs.Shape.{Shape, shape-closed, shape-turn, shape-start, each-getD}
+use Rattle.machine.proofs.runs.Everybody.{Everybody, Unmoved, taking-everybody, like}
+use Rattle.machine.proofs.runs.Placed.{Placed, placed-turn, placed-start}
+use Rattle.machine.proofs.nobody_able.Waiting.{Waits}
+use Rattle.machine.proofs.nobody_able.WaitsKept.{waits-taken, waits-kept, waits-start}
+use Rattle.machine.proofs.nobody_able.StillWaiting.{AllHold, settled-turn, settled-start}
+use Rattle.machine.proofs.runs.Clocks.{Timely, taking-timely, timely-turn, timely-start}
+use Rattle.machine.proofs.conservation.Conservation.{Sound, Conserved, sound-conserved, stands-at-most-once, sound-start, sound-taking, sound-turn}
 use Rattle.state.specs.Bare.{Note, enteredNote, waitsNote, noNote, logged, countEntry, noteAs}
 use Rattle.state.specs.Sane.{Sane}
-use Rattle.machine.proofs.Ahead.{Ahead}
+use Rattle.machine.proofs.runs.Ahead.{Ahead}
 use Rattle.state.proofs.Gains.{each-set, serverSums, queueSums, Gains, gains-trans, gains-most}
 use Rattle.state.proofs.BlockGains.{gains-none, gains-arrival}
 use Rattle.state.proofs.TurnGains.{Turned, unnoted, noted, turned}
 use Rattle.state.proofs.Measured.{ServerBound, QueueBound, Measured, measured-gains, measured-like, units-small, Took, took}
-use Rattle.machine.proofs.Gathering.{Gathering, gathering-turn, gathering-start, come-below, taking-gatherers}
+use Rattle.machine.proofs.later.Gathering.{Gathering, gathering-turn, gathering-start, come-below, taking-gatherers}
 
 -- the state in which the block of a turn finds the machine
 abbrev pub takenOf : State → State

@@ -17,8 +17,8 @@ use Rattle.machine.specs.State.{State, Logged}
 use Rattle.machine.specs.Report.{recordsAt}
 use Rattle.machine.specs.Outcome.{recordsOf}
 use Rattle.machine.specs.Claims.{Each, count, bit, upTo, InModel}
-use Rattle.machine.proofs.Proper.{Names}
-use Rattle.machine.proofs.Sums.{count-cons, upTo-cong, upTo-zero, upTo-one}
+use Rattle.machine.proofs.decoding.Proper.{Names}
+use Rattle.machine.proofs.lists.Sums.{count-cons, upTo-cong, upTo-zero, upTo-one}
 use Rattle.trace.specs.Whole.{AllInRanges}
 use Rattle.state.proofs.Written.{atBlock, at-block-cons, Traced, inOrder, in-order-cons}
 

@@ -10,7 +10,7 @@ use Rattle.machine.specs.State.{State}
 use Rattle.machine.specs.Setters.{setMoving}
 use Rattle.machine.specs.Execute.{question}
 use Rattle.machine.specs.Turn.{answer, execute, wsScheme}
-use Rattle.machine.proofs.Proper.{Proper}
+use Rattle.machine.proofs.decoding.Proper.{Proper}
 use Rattle.state.specs.Bare.{Note, noteAs, bare, bareAnswer}
 use Rattle.state.proofs.Noted.{noted-answer}
 use Rattle.state.proofs.Gains.{Gains, gains-trans, gains-most}

@@ -12,7 +12,7 @@ use Rattle.machine.specs.Block.{Code, welIndex}
 use Rattle.machine.specs.State.{State}
 use Rattle.machine.specs.Setters.{setQl, setWel, setWsl, setRel}
 use Rattle.machine.specs.Moves.{wake, qlOf, welOf, firstOf, wakeQl, wakeFirstWel, wakeWsl}
-use Rattle.machine.proofs.QueueRemove.{walk}
+use Rattle.machine.proofs.nobody_able.QueueRemove.{walk}
 use Rattle.rows_laws.specs.Layout.{head, wsl, rel}
 use Rattle.rows_laws.specs.Wake.{wakeFirst, wakeWalk, wakeAll}
 use Rattle.rows_laws.specs.Holds.{transactionAt}

@@ -23,11 +23,11 @@ use Rattle.machine.specs.Turn.{turn}
 use Rattle.machine.specs.Run.{idle, start}
 use Rattle.machine.specs.Outcome.{recordsOf}
 use Rattle.machine.specs.Claims.{Each, count, bit, InModel}
-use Rattle.machine.proofs.Proper.{Proper, Names}
-use Rattle.machine.proofs.RunLaws.{Taken}
-use Rattle.machine.proofs.Everybody.{Maybe}
-use Rattle.machine.proofs.Placed.{Placed}
-use Rattle.machine.proofs.Sums.{count-cons}
+use Rattle.machine.proofs.decoding.Proper.{Proper, Names}
+use Rattle.machine.proofs.runs.RunLaws.{Taken}
+use Rattle.machine.proofs.runs.Everybody.{Maybe}
+use Rattle.machine.proofs.runs.Placed.{Placed}
+use Rattle.machine.proofs.lists.Sums.{count-cons}
 use Rattle.trace.proofs.Writer.{Ranges, in-ranges, record-room}
 use Rattle.state.specs.Bare.{Note, enteredNote, waitsNote, noNote, logged, countEntry, noteAs}
 use Rattle.state.specs.Sane.{Sane}

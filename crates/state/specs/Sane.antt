@@ -13,12 +13,12 @@ use Rattle.machine.specs.Block.{facts, BlockModel, blockAt}
 use Rattle.machine.specs.State.{State}
 use Rattle.machine.specs.Moves.{gatherersAt, interruptedAt}
 use Rattle.machine.specs.Claims.{Each, standing}
-use Rattle.machine.proofs.Proper.{Names}
-use Rattle.machine.proofs.Shape.{Shape}
-use Rattle.machine.proofs.Placed.{Placed}
-use Rattle.machine.proofs.Waiting.{Waits}
-use Rattle.machine.proofs.Everybody.{Everybody}
-use Rattle.machine.proofs.Clocks.{Timely, Samples}
+use Rattle.machine.proofs.decoding.Proper.{Names}
+use Rattle.machine.proofs.runs.Shape.{Shape}
+use Rattle.machine.proofs.runs.Placed.{Placed}
+use Rattle.machine.proofs.nobody_able.Waiting.{Waits}
+use Rattle.machine.proofs.runs.Everybody.{Everybody}
+use Rattle.machine.proofs.runs.Clocks.{Timely, Samples}
 
 pub record Sane (m : BlockModel) (s : State) : Type 0 where
   pub rules : m .rules ≡ inForce

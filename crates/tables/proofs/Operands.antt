@@ -6,7 +6,7 @@ use native.Mathlib.Omega.{arith}
 use lib.ListN.{length, getD, drop}
 use lib.Seq.{getD-take, getD-drop}
 use Rattle.machine.specs.Block.{Block, BlockModel, blockAt}
-use Rattle.machine.proofs.Proper.{Names}
+use Rattle.machine.proofs.decoding.Proper.{Names}
 use Rattle.tables.specs.Numbers.{blockNumbers}
 use Rattle.tables.specs.Represents.{At, Represents}
 

@@ -16,11 +16,11 @@ use Rattle.machine.specs.Parser.{Parsed, parsed, refused, Parser}
 use Rattle.machine.specs.Decode.{Counts, relationOf, simpleTerm, number, blockTerm, counted, mentioned, valueNumber, sumTerms, sumField, bracketField, comparisonField, mentionField, taggedTerm, valueTerm, valueField, inValue, valueFields, codeServer, storageUnits, operands, blockField, modelFields, atEnd}
 use Rattle.machine.specs.Validate.{wellFormed, beginning, modelOf, tapeOf, Validation, accept, reject, withTape, withModel, validate, allOf}
 use Rattle.machine.specs.Claims.{Each}
-use Rattle.machine.proofs.RunLaws.{cond-cases}
-use Rattle.machine.proofs.ParserLaws.{Refusal, Gives, Ensures, Any, then, gives, refuses, choice, weaken, repeated, asked, in-range}
-use Rattle.machine.proofs.Shape.{each-getD}
+use Rattle.machine.proofs.runs.RunLaws.{cond-cases}
+use Rattle.machine.proofs.decoding.ParserLaws.{Refusal, Gives, Ensures, Any, then, gives, refuses, choice, weaken, repeated, asked, in-range}
+use Rattle.machine.proofs.runs.Shape.{each-getD}
 use Rattle.terms.specs.Nested.{nestedTerm, nestedSum, nestedBlock, Nested}
-use Rattle.machine.proofs.ProperFrom.{block-parsed}
+use Rattle.machine.proofs.decoding.ProperFrom.{block-parsed}
 
 -- ---- Depth
 

@@ -14,7 +14,7 @@ use Rattle.machine.specs.Rules.{inForce}
 use Rattle.machine.specs.Limits.{fiveGroups, maxClock, maxTransaction, maxBlocks, recordRoom}
 use Rattle.machine.specs.Number.{numberBytes}
 use Rattle.machine.specs.Trace.{Record, recordBytes, traceBytes, inRanges, written, rejected, writeRecord}
-use Rattle.machine.proofs.RecordRoom.{record-room as room}
+use Rattle.machine.proofs.runs.RecordRoom.{record-room as room}
 use Rattle.codec.proofs.Fields.{both-true, between}
 use Rattle.codec.proofs.Numbers.{numberBytes-positive}
 use Rattle.codec.proofs.Stores.{sets-append}

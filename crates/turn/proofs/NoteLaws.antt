@@ -20,10 +20,10 @@ use Rattle.machine.specs.Moves.{recordOf}
 use Rattle.machine.specs.Outcome.{recordsOf}
 use Rattle.machine.specs.Lists.{those}
 use Rattle.machine.specs.Claims.{count, bit}
-use Rattle.machine.proofs.Proper.{Proper, Names}
-use Rattle.machine.proofs.Placed.{Placed}
-use Rattle.machine.proofs.Everybody.{Maybe}
-use Rattle.machine.proofs.Shape.{each-getD}
+use Rattle.machine.proofs.decoding.Proper.{Proper, Names}
+use Rattle.machine.proofs.runs.Placed.{Placed}
+use Rattle.machine.proofs.runs.Everybody.{Maybe}
+use Rattle.machine.proofs.runs.Shape.{each-getD}
 use Rattle.tables.specs.Layout as Layout
 use Rattle.trace.specs.Answers.{entry}
 use Rattle.trace.proofs.Writer.{in-ranges, record-room, written-record}

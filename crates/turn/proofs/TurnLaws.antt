@@ -17,12 +17,12 @@ use Rattle.machine.specs.Outcome.{recordsOf}
 use Rattle.machine.specs.Moves.{wakeWsl}
 use Rattle.machine.specs.Execute.{question}
 use Rattle.machine.specs.Turn as Machine
-use Rattle.machine.proofs.Proper.{Proper, Names}
-use Rattle.machine.proofs.Placed.{Placed}
-use Rattle.machine.proofs.Everybody.{Maybe}
-use Rattle.machine.proofs.RunLaws.{Taken}
+use Rattle.machine.proofs.decoding.Proper.{Proper, Names}
+use Rattle.machine.proofs.runs.Placed.{Placed}
+use Rattle.machine.proofs.runs.Everybody.{Maybe}
+use Rattle.machine.proofs.runs.RunLaws.{Taken}
 use Rattle.machine.specs.Watched.{Thing, theClock, entry}
-use Rattle.machine.proofs.StillWaiting.{MoverSpares, scheme-unread}
+use Rattle.machine.proofs.nobody_able.StillWaiting.{MoverSpares, scheme-unread}
 use Rattle.tables.specs.Layout as Layout
 use Rattle.tables.specs.Represents.{Represents, headerOf}
 use Rattle.rows_laws.specs.Layout.{rel, fel}

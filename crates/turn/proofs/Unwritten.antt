@@ -7,7 +7,7 @@ use Rattle.machine.specs.Block.{Block, BlockModel}
 use Rattle.machine.specs.State.{State}
 use Rattle.machine.specs.Setters.{setMoving}
 use Rattle.machine.specs.Execute.{question}
-use Rattle.machine.proofs.Proper.{ProperBlock}
+use Rattle.machine.proofs.decoding.Proper.{ProperBlock}
 use Rattle.state.specs.Bare.{bareAnswer}
 use Rattle.state.proofs.BlockGains.{bare-gains}
 

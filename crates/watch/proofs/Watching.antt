@@ -12,7 +12,7 @@ use lib.Seq.{getD-set-same, getD-set-other}
 use Rattle.machine.specs.Term.{View, evaluate, value, nothing}
 use Rattle.machine.specs.Block.{Share, facility, storage, shareServer, Change, up, down, Block, generate, advance, terminate, takes, frees, waitServer, waitTerms, moves, assign, priority, split, counts, assemble, preempt, giveBack, BlockModel}
 use Rattle.machine.specs.Watched.{Thing, theClock, entry, queue, server, Watches, Spares}
-use Rattle.machine.proofs.Named.{agrees-same, evaluate-same}
+use Rattle.machine.proofs.nobody_able.Named.{agrees-same, evaluate-same}
 use Rattle.tables.specs.Forms.{blockForms}
 use Rattle.tables.specs.Layout as Layout
 use Rattle.tables.specs.Numbers.{blockNumbers, sumNumbers}
