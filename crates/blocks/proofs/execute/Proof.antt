@@ -24,204 +24,81 @@ module _ (tables : List ℕ) (values facilities : ℕ) (tape w tally : List ℕ)
   unfolding byKind
   none-first h1 h2 h3 h4 h5 h6 h7 h8 = rw (ne-eqb kind 1 h1, ne-eqb kind 2 h2, ne-eqb kind 3 h3, ne-eqb kind 4 h4, ne-eqb kind 5 h5, ne-eqb kind 6 h6, ne-eqb kind 7 h7, ne-eqb kind 8 h8)
 
-number-requires : tie.Need-number-requires
-number-requires c κs = search needs
-
-generate-requires : tie.Need-generate-requires
-generate-requires c κs = search needs
-
-advance-requires : tie.Need-advance-requires
-advance-requires c κs = search needs
-
-terminate-requires : tie.Need-terminate-requires
-terminate-requires c κs = search needs
-
-seize-requires : tie.Need-seize-requires
-seize-requires c κs = search needs
-
-release-requires : tie.Need-release-requires
-release-requires c κs = search needs
-
-enter-requires : tie.Need-enter-requires
-enter-requires c κs = search needs
-
-leave-requires : tie.Need-leave-requires
-leave-requires c κs = search needs
-
-wait-server-requires : tie.Need-wait-server-requires
-wait-server-requires c κs = search needs
-
-wait-terms-requires : tie.Need-wait-terms-requires
-wait-terms-requires c κs = search needs
-
-branch-requires : tie.Need-branch-requires
-branch-requires c κs = search needs
-
-goto-requires : tie.Need-goto-requires
-goto-requires c κs = search needs
-
-assign-requires : tie.Need-assign-requires
-assign-requires c κs = search needs
-
-priority-requires : tie.Need-priority-requires
-priority-requires c κs = search needs
-
-split-requires : tie.Need-split-requires
-split-requires c κs = search needs
-
-arrive-requires : tie.Need-arrive-requires
-arrive-requires c κs = search needs
-
-depart-requires : tie.Need-depart-requires
-depart-requires c κs = search needs
-
-wait-server-requires-2 : tie.Need-wait-server-requires-2
-wait-server-requires-2 c κs = search needs
-
-assemble-requires : tie.Need-assemble-requires
-assemble-requires c κs = search needs
-
-preempt-requires : tie.Need-preempt-requires
-preempt-requires c κs = search needs
-
-give-back-requires : tie.Need-give-back-requires
-give-back-requires c κs = search needs
-
-same-length : tie.Need-same-length
-same-length c = search needs
-
 returns : tie.Need-returns
 unfolding execute byKind
 returns c = rw (← c .before .before .before .before .before .before .before .number .ensures, c .before .before .before .before .before .before .match .keys1) (c .before .before .generate .ensures)
-
-same-length-2 : tie.Need-same-length-2
-same-length-2 c = search needs
 
 returns-2 : tie.Need-returns-2
 unfolding execute byKind
 returns-2 c = rw (← c .before .before .before .before .before .before .before .number .ensures, c .before .before .before .before .before .before .match .keys2) (c .before .before .advance .ensures)
 
-same-length-3 : tie.Need-same-length-3
-same-length-3 c = search needs
-
 returns-3 : tie.Need-returns-3
 unfolding execute byKind
 returns-3 c = rw (← c .before .before .before .before .before .before .before .number .ensures, c .before .before .before .before .before .before .match .keys3) (c .before .before .terminate .ensures)
-
-same-length-4 : tie.Need-same-length-4
-same-length-4 c = search needs
 
 returns-4 : tie.Need-returns-4
 unfolding execute byKind
 returns-4 c = rw (← c .before .before .before .before .before .before .before .number .ensures, c .before .before .before .before .before .before .match .keys4) (c .before .before .seize .ensures)
 
-same-length-5 : tie.Need-same-length-5
-same-length-5 c = search needs
-
 returns-5 : tie.Need-returns-5
 unfolding execute byKind
 returns-5 c = rw (← c .before .before .before .before .before .before .before .number .ensures, c .before .before .before .before .before .before .match .keys5) (c .before .before .release .ensures)
-
-same-length-6 : tie.Need-same-length-6
-same-length-6 c = search needs
 
 returns-6 : tie.Need-returns-6
 unfolding execute byKind
 returns-6 c = rw (← c .before .before .before .before .before .before .before .number .ensures, c .before .before .before .before .before .before .match .keys6) (c .before .before .enter .ensures)
 
-same-length-7 : tie.Need-same-length-7
-same-length-7 c = search needs
-
 returns-7 : tie.Need-returns-7
 unfolding execute byKind
 returns-7 c = rw (← c .before .before .before .before .before .before .before .number .ensures, c .before .before .before .before .before .before .match .keys7) (c .before .before .leave .ensures)
-
-same-length-8 : tie.Need-same-length-8
-same-length-8 c = search needs
 
 returns-8 : tie.Need-returns-8
 unfolding execute byKind
 returns-8 c = rw (← c .before .before .before .before .before .before .before .before .number .ensures, c .before .before .before .before .before .before .before .match .keys8) (tallied _ _ _ _ (c .before .before .wait-server .ensures))
 
-same-length-9 : tie.Need-same-length-9
-same-length-9 c = search needs
-
 returns-9 : tie.Need-returns-9
 unfolding execute byKind later
 returns-9 c = rw (← c .before .before .before .before .before .before .number .ensures, c .before .before .before .before .before .match .keys9) (tallied _ _ _ _ (c .before .before .wait-terms .ensures))
-
-same-length-10 : tie.Need-same-length-10
-same-length-10 c = search needs
 
 returns-10 : tie.Need-returns-10
 unfolding execute byKind later
 returns-10 c = rw (← c .before .before .before .before .before .before .number .ensures, c .before .before .before .before .before .match .keys10) (tallied _ _ _ _ (c .before .before .branch .ensures))
 
-same-length-11 : tie.Need-same-length-11
-same-length-11 c = search needs
-
 returns-11 : tie.Need-returns-11
 unfolding execute byKind later
 returns-11 c = rw (← c .before .before .before .before .before .before .number .ensures, c .before .before .before .before .before .match .keys11) (tallied _ _ _ _ (c .before .before .goto .ensures))
-
-same-length-12 : tie.Need-same-length-12
-same-length-12 c = search needs
 
 returns-12 : tie.Need-returns-12
 unfolding execute byKind later
 returns-12 c = rw (← c .before .before .before .before .before .before .number .ensures, c .before .before .before .before .before .match .keys12) (tallied _ _ _ _ (c .before .before .assign .ensures))
 
-same-length-13 : tie.Need-same-length-13
-same-length-13 c = search needs
-
 returns-13 : tie.Need-returns-13
 unfolding execute byKind later
 returns-13 c = rw (← c .before .before .before .before .before .before .before .number .ensures, c .before .before .before .before .before .before .match .keys13) (c .before .before .priority .ensures)
-
-same-length-14 : tie.Need-same-length-14
-same-length-14 c = search needs
 
 returns-14 : tie.Need-returns-14
 unfolding execute byKind later
 returns-14 c = rw (← c .before .before .before .before .before .before .before .number .ensures, c .before .before .before .before .before .before .match .keys14) (c .before .before .split .ensures)
 
-same-length-15 : tie.Need-same-length-15
-same-length-15 c = search needs
-
 returns-15 : tie.Need-returns-15
 unfolding execute byKind later
 returns-15 c = rw (← c .before .before .before .before .before .before .before .number .ensures, c .before .before .before .before .before .before .match .keys15) (c .before .before .arrive .ensures)
-
-same-length-16 : tie.Need-same-length-16
-same-length-16 c = search needs
 
 returns-16 : tie.Need-returns-16
 unfolding execute byKind later
 returns-16 c = rw (← c .before .before .before .before .before .before .before .number .ensures, c .before .before .before .before .before .before .match .keys16) (c .before .before .depart .ensures)
 
-same-length-17 : tie.Need-same-length-17
-same-length-17 c = search needs
-
 returns-17 : tie.Need-returns-17
 unfolding execute byKind later
 returns-17 c = rw (← c .before .before .before .before .before .before .before .before .number .ensures, c .before .before .before .before .before .before .before .match .keys17) (tallied _ _ _ _ (c .before .before .wait-server2 .ensures))
-
-same-length-18 : tie.Need-same-length-18
-same-length-18 c = search needs
 
 returns-18 : tie.Need-returns-18
 unfolding execute byKind later
 returns-18 c = rw (← c .before .before .before .before .before .before .before .number .ensures, c .before .before .before .before .before .before .match .keys18) (c .before .before .assemble .ensures)
 
-same-length-19 : tie.Need-same-length-19
-same-length-19 c = search needs
-
 returns-19 : tie.Need-returns-19
 unfolding execute byKind later
 returns-19 c = rw (← c .before .before .before .before .before .before .before .number .ensures, c .before .before .before .before .before .before .match .keys19) (c .before .before .preempt .ensures)
-
-same-length-20 : tie.Need-same-length-20
-same-length-20 c = search needs
 
 returns-20 : tie.Need-returns-20
 unfolding execute byKind later
@@ -239,65 +116,65 @@ pub execute-spec : {M : Type 1} → statement M
 execute-spec =
     tie.close
     (tie.spec
-    number-requires
-    generate-requires
-    advance-requires
-    terminate-requires
-    seize-requires
-    release-requires
-    enter-requires
-    leave-requires
-    wait-server-requires
-    wait-terms-requires
-    branch-requires
-    goto-requires
-    assign-requires
-    priority-requires
-    split-requires
-    arrive-requires
-    depart-requires
-    wait-server-requires-2
-    assemble-requires
-    preempt-requires
-    give-back-requires
-    same-length
+    (search needs)
+    (search needs)
+    (search needs)
+    (search needs)
+    (search needs)
+    (search needs)
+    (search needs)
+    (search needs)
+    (search needs)
+    (search needs)
+    (search needs)
+    (search needs)
+    (search needs)
+    (search needs)
+    (search needs)
+    (search needs)
+    (search needs)
+    (search needs)
+    (search needs)
+    (search needs)
+    (search needs)
+    (search needs)
     returns
-    same-length-2
+    (search needs)
     returns-2
-    same-length-3
+    (search needs)
     returns-3
-    same-length-4
+    (search needs)
     returns-4
-    same-length-5
+    (search needs)
     returns-5
-    same-length-6
+    (search needs)
     returns-6
-    same-length-7
+    (search needs)
     returns-7
-    same-length-8
+    (search needs)
     returns-8
-    same-length-9
+    (search needs)
     returns-9
-    same-length-10
+    (search needs)
     returns-10
-    same-length-11
+    (search needs)
     returns-11
-    same-length-12
+    (search needs)
     returns-12
-    same-length-13
+    (search needs)
     returns-13
-    same-length-14
+    (search needs)
     returns-14
-    same-length-15
+    (search needs)
     returns-15
-    same-length-16
+    (search needs)
     returns-16
-    same-length-17
+    (search needs)
     returns-17
-    same-length-18
+    (search needs)
     returns-18
-    same-length-19
+    (search needs)
     returns-19
-    same-length-20
+    (search needs)
     returns-20
     returns-21)

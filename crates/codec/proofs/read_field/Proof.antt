@@ -8,15 +8,6 @@ use borrow.Author.Needs.{needs}
 use Rattle.codec.proofs.read_field.Statement.{statement}
 use Rattle.codec.proofs.read_field.Tie as tie
 
-add-out-of-range : tie.Need-add-out-of-range
-add-out-of-range c = search needs
-
-read-number-requires : tie.Need-read-number-requires
-read-number-requires c κs = search needs
-
-enum-known-v : tie.Need-enum-known-v
-enum-known-v c = search needs
-
 enum-told : tie.Need-enum-told
 enum-told c = search needs
 
@@ -60,9 +51,9 @@ pub read-field-spec : {M : Type 1} → statement M
 read-field-spec =
     tie.close
     (tie.spec
-    add-out-of-range
-    read-number-requires
-    enum-known-v
+    (search needs)
+    (search needs)
+    (search needs)
     enum-told
     returns
     returns-2

@@ -21,14 +21,8 @@ loop-holds c = (c .before .pre, room-start _ (c .before .pre), refl)
 returns : tie.Need-returns Inv-loop μ-loop
 returns c = sym (read-end _ _ _ _ _ (c .if1 .taken)) ∙ c .before .before .loop .inv .2
 
-shared-slice-read-b : tie.Need-shared-slice-read-b Inv-loop μ-loop
-shared-slice-read-b c = omega arith
-
 cast-b : tie.Need-cast-b Inv-loop μ-loop
 cast-b c = omega (arith, c .shared-slice-known2 .given (c .before .before .before .loop .next))
-
-add-next : tie.Need-add-next Inv-loop μ-loop
-add-next c = omega arith
 
 mul-in-size : tie.Need-mul-in-size Inv-loop μ-loop
 mul-in-size c = let w = c .before .before .before .before in
@@ -41,9 +35,6 @@ add-in-size c = let w = c .before .before .before .before in
       room-fits (w .loop .value) (w .loop .left) (c .before .before .before .loop-test .taken) (w .loop .inv .1),
       c .before .shared-slice-known2 .given (w .loop .next),
     )
-
-in-size-requires : tie.Need-in-size-requires Inv-loop μ-loop
-in-size-requires c κs = search needs
 
 returns-2 : tie.Need-returns-2 Inv-loop μ-loop
 returns-2 c = let w = c .before .before .before .before .before in
@@ -62,12 +53,6 @@ add-value c = let w = c .before .before .before .before in
       room-fits (w .loop .value) (w .loop .left) (c .before .before .before .loop-test .taken) (w .loop .inv .1),
       c .before .shared-slice-known2 .given (w .loop .next),
     )
-
-sub-left : tie.Need-sub-left Inv-loop μ-loop
-sub-left c = omega arith
-
-loop-less : tie.Need-loop-less Inv-loop μ-loop
-loop-less c = omega arith
 
 loop-again : tie.Need-loop-again Inv-loop μ-loop
 loop-again c = let w = c .before .before .before .before in
@@ -88,16 +73,16 @@ read-groups-spec =
     μ-loop
     loop-holds
     returns
-    shared-slice-read-b
+    (omega arith)
     cast-b
-    add-next
+    (omega arith)
     mul-in-size
     add-in-size
-    in-size-requires
+    (search needs)
     returns-2
     mul-value
     add-value
-    sub-left
-    loop-less
+    (omega arith)
+    (omega arith)
     loop-again
     returns-3)

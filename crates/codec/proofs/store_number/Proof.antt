@@ -21,9 +21,6 @@ abbrev μ-loop : tie.MeasureT-loop
 sub-left : tie.Need-sub-left Inv-loop μ-loop
 sub-left c = omega (arith, numberBytes-positive (c .args .v), c .pre)
 
-cast-out : tie.Need-cast-out Inv-loop μ-loop
-cast-out c = omega arith
-
 add-out : tie.Need-add-out Inv-loop μ-loop
 add-out c = omega (arith, c .pre)
 
@@ -32,15 +29,6 @@ slice-write-out c = omega (arith, numberBytes-positive (c .args .v), c .pre)
 
 loop-holds : tie.Need-loop-holds Inv-loop μ-loop
 loop-holds c = (refl, omega arith, rw (c .pre .0) (store-start _), refl)
-
-sub-left-2 : tie.Need-sub-left-2 Inv-loop μ-loop
-sub-left-2 c = omega arith
-
-add-out-2 : tie.Need-add-out-2 Inv-loop μ-loop
-add-out-2 c = omega arith
-
-cast-out-2 : tie.Need-cast-out-2 Inv-loop μ-loop
-cast-out-2 c = omega arith
 
 add-out-3 : tie.Need-add-out-3 Inv-loop μ-loop
 add-out-3 c = omega (
@@ -59,9 +47,6 @@ slice-write-out-2 c = omega (
   numberBytes-positive (c .before .before .args .v),
   c .before .before .pre,
 )
-
-loop-less : tie.Need-loop-less Inv-loop μ-loop
-loop-less c = omega arith
 
 loop-again : tie.Need-loop-again Inv-loop μ-loop
 loop-again c = let w = c .before .loop .inv in (
@@ -85,16 +70,16 @@ store-number-spec =
     Inv-loop
     μ-loop
     sub-left
-    cast-out
+    (omega arith)
     add-out
     slice-write-out
     loop-holds
-    sub-left-2
-    add-out-2
-    cast-out-2
+    (omega arith)
+    (omega arith)
+    (omega arith)
     add-out-3
     slice-write-out-2
-    loop-less
+    (omega arith)
     loop-again
     same-length
     returns)

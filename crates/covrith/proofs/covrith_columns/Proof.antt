@@ -5,27 +5,12 @@ use borrow.Author.Needs.{needs}
 use Rattle.covrith.proofs.covrith_columns.Statement.{statement}
 use Rattle.covrith.proofs.covrith_columns.Tie as tie
 
-to-columns-requires : tie.Need-to-columns-requires
-to-columns-requires c κs = search needs
-
-enum-known-n : tie.Need-enum-known-n
-enum-known-n c = search needs
-
-enum-known-n-2 : tie.Need-enum-known-n-2
-enum-known-n-2 c = search needs
-
-same-length : tie.Need-same-length
-same-length c = search needs
-
 returns : tie.Need-returns
 returns c =
     let call = c .before .before .before .before .before .to-columns in
     let case = c .before .n .given .1 in
     let answer = wrote-bytes (call .last .1 .0) (call .ensures .0) _ case (omega (arith, call .ensures .1 .1 _ case)) in
     (answer .0, (answer .1, call .ensures .1 .0))
-
-same-length-2 : tie.Need-same-length-2
-same-length-2 c = search needs
 
 returns-2 : tie.Need-returns-2
 returns-2 c =
@@ -37,10 +22,10 @@ pub covrith-columns-spec : {M : Type 1} → statement M
 covrith-columns-spec =
     tie.close
     (tie.spec
-    to-columns-requires
-    enum-known-n
-    enum-known-n-2
-    same-length
+    (search needs)
+    (search needs)
+    (search needs)
+    (search needs)
     returns
-    same-length-2
+    (search needs)
     returns-2)

@@ -29,22 +29,10 @@ add-single-2 c = omega (arith, c .before .before .before .before .before .before
 single-requires : tie.Need-single-requires Inv-loop μ-loop
 single-requires c κs = (omega (arith, c .before .before .before .before .before .before .pre .facilities, c .before .before .before .before .before .before .pre .storages), omega arith)
 
-enum-known-n : tie.Need-enum-known-n Inv-loop μ-loop
-enum-known-n c = search needs
-
 returns : tie.Need-returns Inv-loop μ-loop
 returns c = let e : 2560 + c .before .before .before .before .before .before .before .before .before .before .args .m .facilities + c .before .before .before .before .before .before .before .before .loop .k ≡ 2560 + c .before .before .before .before .before .before .before .before .before .before .args .m .facilities + 1 * c .before .before .before .before .before .before .before .before .loop .k = omega arith in
     rw (times-rows _ _ 0)
     (from-all _ _ _ _ _ _ (c .before .before .before .before .before .before .before .before .loop .inv .1 _ _ (from-stop _ _ _ _ _ _ (c .before .before .before .before .before .before .if1 .taken) (rw e at (c .before .before .before .single .ensures)) _ (c .before .n .given .1))))
-
-enum-known-next : tie.Need-enum-known-next Inv-loop μ-loop
-enum-known-next c = search needs
-
-add-k : tie.Need-add-k Inv-loop μ-loop
-add-k c = omega arith
-
-loop-less : tie.Need-loop-less Inv-loop μ-loop
-loop-less c = omega arith
 
 loop-again : tie.Need-loop-again Inv-loop μ-loop
 loop-again c = let e : 2560 + c .before .before .before .before .before .before .before .before .before .before .args .m .facilities + c .before .before .before .before .before .before .before .before .loop .k ≡ 2560 + c .before .before .before .before .before .before .before .before .before .before .args .m .facilities + 1 * c .before .before .before .before .before .before .before .before .loop .k = omega arith in (
@@ -67,10 +55,10 @@ capacities-spec =
     add-single
     add-single-2
     single-requires
-    enum-known-n
+    (search needs)
     returns
-    enum-known-next
-    add-k
-    loop-less
+    (search needs)
+    (omega arith)
+    (omega arith)
     loop-again
     returns-2)

@@ -10,20 +10,8 @@ returns c = small-work _ _ _ _ _ _ (c .if1 .taken)
 returns-2 : tie.Need-returns-2
 returns-2 c = small-report _ _ _ _ _ _ (c .before .if1 .left) (c .if2 .taken)
 
-formed-model-requires : tie.Need-formed-model-requires
-formed-model-requires c κs = search needs
-
-enum-known-n : tie.Need-enum-known-n
-enum-known-n c = search needs
-
-enum-known-m : tie.Need-enum-known-m
-enum-known-m c = search needs
-
 whole-tape-requires : tie.Need-whole-tape-requires
 whole-tape-requires c κs = few-lists _ (c .before .before .before .before .formed-model .ensures) (c .before .before .m .given .1)
-
-enum-known-n-2 : tie.Need-enum-known-n-2
-enum-known-n-2 c = search needs
 
 enum-told : tie.Need-enum-told
 enum-told c = search needs
@@ -46,11 +34,11 @@ decode-spec =
     (tie.spec
     returns
     returns-2
-    formed-model-requires
-    enum-known-n
-    enum-known-m
+    (search needs)
+    (search needs)
+    (search needs)
     whole-tape-requires
-    enum-known-n-2
+    (search needs)
     enum-told
     watch-requires
     returns-3

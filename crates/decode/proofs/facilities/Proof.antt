@@ -18,21 +18,6 @@ abbrev μ-loop : tie.MeasureT-loop
 loop-holds : tie.Need-loop-holds Inv-loop μ-loop
 loop-holds c = (omega arith, ones-begin (c .args .count) 0 (c .args .tables .now) (c .args .tables .now))
 
-add-tables : tie.Need-add-tables Inv-loop μ-loop
-add-tables c = omega arith
-
-mul-tables : tie.Need-mul-tables Inv-loop μ-loop
-mul-tables c = omega arith
-
-element-write-tables : tie.Need-element-write-tables Inv-loop μ-loop
-element-write-tables c = omega arith
-
-add-v : tie.Need-add-v Inv-loop μ-loop
-add-v c = omega arith
-
-loop-less : tie.Need-loop-less Inv-loop μ-loop
-loop-less c = omega arith
-
 loop-again : tie.Need-loop-again Inv-loop μ-loop
 loop-again c = (omega arith, ones-step _ _ _ _ (c .loop-test .taken) (c .before .loop .inv .1))
 
@@ -46,10 +31,10 @@ facilities-spec =
     Inv-loop
     μ-loop
     loop-holds
-    add-tables
-    mul-tables
-    element-write-tables
-    add-v
-    loop-less
+    (omega arith)
+    (omega arith)
+    (omega arith)
+    (omega arith)
+    (omega arith)
     loop-again
     returns)

@@ -6,15 +6,6 @@ use borrow.Author.Needs.{needs}
 use Rattle.decode.proofs.formed_model.Statement.{statement}
 use Rattle.decode.proofs.formed_model.Tie as tie
 
-model-requires : tie.Need-model-requires
-model-requires c κs = search needs
-
-enum-known-n : tie.Need-enum-known-n
-enum-known-n c = search needs
-
-enum-known-m : tie.Need-enum-known-m
-enum-known-m c = search needs
-
 returns : tie.Need-returns
 returns c = formed-long _ (c .before .before .before .before .before .model .ensures) (c .before .before .before .m .given .1) (c .if1 .taken)
 
@@ -53,9 +44,9 @@ pub formed-model-spec : {M : Type 1} → statement M
 formed-model-spec =
     tie.close
     (tie.spec
-    model-requires
-    enum-known-n
-    enum-known-m
+    (search needs)
+    (search needs)
+    (search needs)
     returns
     well-placed-requires
     returns-2

@@ -4,23 +4,8 @@ use borrow.Author.Needs.{needs}
 use Rattle.decode.proofs.model.Statement.{statement}
 use Rattle.decode.proofs.model.Tie as tie
 
-servers-requires : tie.Need-servers-requires
-servers-requires c κs = search needs
-
-enum-known-n : tie.Need-enum-known-n
-enum-known-n c = search needs
-
-enum-known-a : tie.Need-enum-known-a
-enum-known-a c = search needs
-
 things-requires : tie.Need-things-requires
 things-requires c κs = c .before .before .before .before .servers .ensures .1 _ _ (c .before .before .a .given .1)
-
-enum-known-n-2 : tie.Need-enum-known-n-2
-enum-known-n-2 c = search needs
-
-enum-known-b : tie.Need-enum-known-b
-enum-known-b c = search needs
 
 program-requires : tie.Need-program-requires
 program-requires c κs = c .before .before .before .before .things .ensures .1 _ _ (c .before .before .b .given .1)
@@ -38,12 +23,12 @@ pub model-spec : {M : Type 1} → statement M
 model-spec =
     tie.close
     (tie.spec
-    servers-requires
-    enum-known-n
-    enum-known-a
+    (search needs)
+    (search needs)
+    (search needs)
     things-requires
-    enum-known-n-2
-    enum-known-b
+    (search needs)
+    (search needs)
     program-requires
     returns
     returns-2

@@ -7,44 +7,11 @@ use borrow.Author.Needs.{needs}
 use Rattle.decode.proofs.program.Statement.{statement}
 use Rattle.decode.proofs.program.Tie as tie
 
-number-requires : tie.Need-number-requires
-number-requires c κs = search needs
-
-enum-known-n : tie.Need-enum-known-n
-enum-known-n c = search needs
-
-enum-known-lists : tie.Need-enum-known-lists
-enum-known-lists c = search needs
-
-number-requires-2 : tie.Need-number-requires-2
-number-requires-2 c κs = search needs
-
-enum-known-n-2 : tie.Need-enum-known-n-2
-enum-known-n-2 c = search needs
-
-enum-known-counter : tie.Need-enum-known-counter
-enum-known-counter c = search needs
-
-number-requires-3 : tie.Need-number-requires-3
-number-requires-3 c κs = search needs
-
-enum-known-n-3 : tie.Need-enum-known-n-3
-enum-known-n-3 c = search needs
-
-enum-known-block-count : tie.Need-enum-known-block-count
-enum-known-block-count c = search needs
-
 blocks-requires : tie.Need-blocks-requires
 blocks-requires c κs = let w = c .before .before .before .before .before .before .before .before .before .before .before .before .before .before .pre in
     let l = c .before .before .before .before .before .before .before .before .before .before .before .before .number .ensures .1 _ _ (c .before .before .before .before .before .before .before .before .before .before .lists .given .1) in
     let n = c .before .before .before .before .number3 .ensures .1 _ _ (c .before .before .block-count .given .1) in
     record { facilities = w .facilities; storages = w .storages; queues = w .queues; values = w .values; lists = l .1; blocks = n .1 }
-
-enum-known-n-4 : tie.Need-enum-known-n-4
-enum-known-n-4 c = search needs
-
-enum-known-q : tie.Need-enum-known-q
-enum-known-q c = search needs
 
 returns : tie.Need-returns
 unfolding programField
@@ -74,18 +41,18 @@ pub program-spec : {M : Type 1} → statement M
 program-spec =
     tie.close
     (tie.spec
-    number-requires
-    enum-known-n
-    enum-known-lists
-    number-requires-2
-    enum-known-n-2
-    enum-known-counter
-    number-requires-3
-    enum-known-n-3
-    enum-known-block-count
+    (search needs)
+    (search needs)
+    (search needs)
+    (search needs)
+    (search needs)
+    (search needs)
+    (search needs)
+    (search needs)
+    (search needs)
     blocks-requires
-    enum-known-n-4
-    enum-known-q
+    (search needs)
+    (search needs)
     returns
     returns-2
     returns-3

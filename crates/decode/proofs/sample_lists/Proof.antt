@@ -19,20 +19,8 @@ loop-holds c = (omega arith, lists-begin _ _ _)
 sample-list-requires : tie.Need-sample-list-requires Inv-loop μ-loop
 sample-list-requires c κs = omega (arith, c .before .before .before .before .pre)
 
-enum-known-n : tie.Need-enum-known-n Inv-loop μ-loop
-enum-known-n c = search needs
-
 returns : tie.Need-returns Inv-loop μ-loop
 returns c = c .before .before .before .before .before .before .loop .inv .1 _ _ (lists-stop _ _ _ _ _ _ _ (c .before .before .before .before .before .loop-test .taken) (c .before .before .before .sample-list .ensures) _ (c .before .n .given .1))
-
-enum-known-after : tie.Need-enum-known-after Inv-loop μ-loop
-enum-known-after c = search needs
-
-add-k : tie.Need-add-k Inv-loop μ-loop
-add-k c = omega arith
-
-loop-less : tie.Need-loop-less Inv-loop μ-loop
-loop-less c = omega arith
 
 loop-again : tie.Need-loop-again Inv-loop μ-loop
 loop-again c = (
@@ -51,10 +39,10 @@ sample-lists-spec =
     μ-loop
     loop-holds
     sample-list-requires
-    enum-known-n
+    (search needs)
     returns
-    enum-known-after
-    add-k
-    loop-less
+    (search needs)
+    (omega arith)
+    (omega arith)
     loop-again
     returns-2)

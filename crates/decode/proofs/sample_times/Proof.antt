@@ -15,23 +15,8 @@ abbrev μ-loop : tie.MeasureT-loop
 loop-holds : tie.Need-loop-holds Inv-loop μ-loop
 loop-holds c = λ i j r h. h
 
-tape-field-requires : tie.Need-tape-field-requires Inv-loop μ-loop
-tape-field-requires c κs = search needs
-
-enum-known-n : tie.Need-enum-known-n Inv-loop μ-loop
-enum-known-n c = search needs
-
 returns : tie.Need-returns Inv-loop μ-loop
 returns c = λ i j. c .before .before .before .before .before .loop .inv i j _ (times-stop _ _ _ _ (c .before .before .before .before .loop-test .taken) (c .before .before .before .tape-field .ensures) i j (c .before .n .given .1))
-
-enum-known-after : tie.Need-enum-known-after Inv-loop μ-loop
-enum-known-after c = search needs
-
-sub-left : tie.Need-sub-left Inv-loop μ-loop
-sub-left c = omega arith
-
-loop-less : tie.Need-loop-less Inv-loop μ-loop
-loop-less c = omega arith
 
 loop-again : tie.Need-loop-again Inv-loop μ-loop
 loop-again c = λ i j r h. c .before .before .before .before .before .loop .inv i j r (times-step _ _ _ _ (c .before .before .before .before .loop-test .taken) (c .before .before .before .tape-field .ensures) (c .before .after .given .1) i j r h)
@@ -46,11 +31,11 @@ sample-times-spec =
     Inv-loop
     μ-loop
     loop-holds
-    tape-field-requires
-    enum-known-n
+    (search needs)
+    (search needs)
     returns
-    enum-known-after
-    sub-left
-    loop-less
+    (search needs)
+    (omega arith)
+    (omega arith)
     loop-again
     returns-2)

@@ -9,41 +9,8 @@ use borrow.Author.Needs.{needs}
 use Rattle.decode.proofs.servers.Statement.{statement}
 use Rattle.decode.proofs.servers.Tie as tie
 
-number-requires : tie.Need-number-requires
-number-requires c κs = search needs
-
-enum-known-n : tie.Need-enum-known-n
-enum-known-n c = search needs
-
-enum-known-edition : tie.Need-enum-known-edition
-enum-known-edition c = search needs
-
-number-requires-2 : tie.Need-number-requires-2
-number-requires-2 c κs = search needs
-
-enum-known-n-2 : tie.Need-enum-known-n-2
-enum-known-n-2 c = search needs
-
-enum-known-facility-count : tie.Need-enum-known-facility-count
-enum-known-facility-count c = search needs
-
-number-requires-3 : tie.Need-number-requires-3
-number-requires-3 c κs = search needs
-
-enum-known-n-3 : tie.Need-enum-known-n-3
-enum-known-n-3 c = search needs
-
-enum-known-storages : tie.Need-enum-known-storages
-enum-known-storages c = search needs
-
-empty-requires : tie.Need-empty-requires
-empty-requires c κs = search needs
-
 cast-clear : tie.Need-cast-clear
 cast-clear c = let h = c .before .before .before .before .before .before .before .before .before .before .before .before .before .number .ensures .1 _ _ (c .before .before .before .before .before .before .before .before .before .before .before .edition .given .1) in omega (arith, h .1)
-
-clear-requires : tie.Need-clear-requires
-clear-requires c κs = search needs
 
 facilities-requires : tie.Need-facilities-requires
 facilities-requires c κs = let h = c .before .before .before .before .before .before .before .before .before .before .before .number2 .ensures .1 _ _ (c .before .before .before .before .before .before .before .before .before .facility-count .given .1) in h .1
@@ -53,12 +20,6 @@ capacities-requires c κs = let f = c .before .before .before .before .before .b
     let n = c .before .before .before .before .before .before .before .before .before .number3 .ensures .1 _ _ (c .before .before .before .before .before .before .before .storages .given .1) in
     let z = c .before .before .before .before .before .empty .ensures .0 in
     record { facilities = f .1; storages = n .1; queues = omega (arith, z .2); values = omega (arith, z .3); lists = omega (arith, z .4); blocks = omega (arith, z .6) }
-
-enum-known-n-4 : tie.Need-enum-known-n-4
-enum-known-n-4 c = search needs
-
-enum-known-q : tie.Need-enum-known-q
-enum-known-q c = search needs
 
 returns : tie.Need-returns
 unfolding serversField
@@ -104,22 +65,22 @@ pub servers-spec : {M : Type 1} → statement M
 servers-spec =
     tie.close
     (tie.spec
-    number-requires
-    enum-known-n
-    enum-known-edition
-    number-requires-2
-    enum-known-n-2
-    enum-known-facility-count
-    number-requires-3
-    enum-known-n-3
-    enum-known-storages
-    empty-requires
+    (search needs)
+    (search needs)
+    (search needs)
+    (search needs)
+    (search needs)
+    (search needs)
+    (search needs)
+    (search needs)
+    (search needs)
+    (search needs)
     cast-clear
-    clear-requires
+    (search needs)
     facilities-requires
     capacities-requires
-    enum-known-n-4
-    enum-known-q
+    (search needs)
+    (search needs)
     returns
     returns-2
     returns-3

@@ -8,35 +8,11 @@ use borrow.Author.Needs.{needs}
 use Rattle.decode.proofs.things.Statement.{statement}
 use Rattle.decode.proofs.things.Tie as tie
 
-number-requires : tie.Need-number-requires
-number-requires c κs = search needs
-
-enum-known-n : tie.Need-enum-known-n
-enum-known-n c = search needs
-
-enum-known-queues : tie.Need-enum-known-queues
-enum-known-queues c = search needs
-
-number-requires-2 : tie.Need-number-requires-2
-number-requires-2 c κs = search needs
-
-enum-known-n-2 : tie.Need-enum-known-n-2
-enum-known-n-2 c = search needs
-
-enum-known-value-count : tie.Need-enum-known-value-count
-enum-known-value-count c = search needs
-
 values-requires : tie.Need-values-requires
 values-requires c κs = let w = c .before .before .before .before .before .before .before .before .before .before .pre in
     let f = c .before .before .before .before .before .before .before .before .number .ensures .1 _ _ (c .before .before .before .before .before .before .queues .given .1) in
     let n = c .before .before .before .before .number2 .ensures .1 _ _ (c .before .before .value-count .given .1) in
     record { facilities = w .facilities; storages = w .storages; queues = f .1; values = n .1; lists = w .lists; blocks = w .blocks }
-
-enum-known-n-3 : tie.Need-enum-known-n-3
-enum-known-n-3 c = search needs
-
-enum-known-q : tie.Need-enum-known-q
-enum-known-q c = search needs
 
 returns : tie.Need-returns
 unfolding thingsField
@@ -71,15 +47,15 @@ pub things-spec : {M : Type 1} → statement M
 things-spec =
     tie.close
     (tie.spec
-    number-requires
-    enum-known-n
-    enum-known-queues
-    number-requires-2
-    enum-known-n-2
-    enum-known-value-count
+    (search needs)
+    (search needs)
+    (search needs)
+    (search needs)
+    (search needs)
+    (search needs)
     values-requires
-    enum-known-n-3
-    enum-known-q
+    (search needs)
+    (search needs)
     returns
     returns-2
     returns-3

@@ -4,18 +4,6 @@ use borrow.Author.Needs.{needs}
 use Rattle.decode.proofs.whole_tape.Statement.{statement}
 use Rattle.decode.proofs.whole_tape.Tie as tie
 
-clear-lists-requires : tie.Need-clear-lists-requires
-clear-lists-requires c κs = search needs
-
-sample-lists-requires : tie.Need-sample-lists-requires
-sample-lists-requires c κs = search needs
-
-enum-known-n : tie.Need-enum-known-n
-enum-known-n c = search needs
-
-enum-known-end : tie.Need-enum-known-end
-enum-known-end c = search needs
-
 returns : tie.Need-returns
 returns c = tape-long _ _ (rw (c .before .before .before .before .before .before .clear-lists .ensures) at (c .before .before .before .before .sample-lists .ensures)) (c .before .before .end .given .1) (c .if1 .taken)
 
@@ -29,10 +17,10 @@ pub whole-tape-spec : {M : Type 1} → statement M
 whole-tape-spec =
     tie.close
     (tie.spec
-    clear-lists-requires
-    sample-lists-requires
-    enum-known-n
-    enum-known-end
+    (search needs)
+    (search needs)
+    (search needs)
+    (search needs)
     returns
     returns-2
     returns-3)

@@ -4,18 +4,6 @@ use borrow.Author.Needs.{needs}
 use Rattle.engine.proofs.run.Statement.{statement}
 use Rattle.engine.proofs.run.Tie as tie
 
-decode-requires : tie.Need-decode-requires
-decode-requires c κs = search needs
-
-enum-known-decoded : tie.Need-enum-known-decoded
-enum-known-decoded c = search needs
-
-refused-requires : tie.Need-refused-requires
-refused-requires c κs = search needs
-
-enum-known-decoded-2 : tie.Need-enum-known-decoded-2
-enum-known-decoded-2 c = search needs
-
 accepted-requires : tie.Need-accepted-requires
 accepted-requires c κs =
     let with = c .before .before .before .before .before .before .before .before .before .before .before .before .before .before .before .before .args in
@@ -27,15 +15,6 @@ returns : tie.Need-returns
 returns c =
     run-refused _ _ _ _ _ _ _ _ _ (c .before .before .before .before .decode .ensures) _ _ (c .before .before .decoded .given .1) (c .refused .ensures)
 
-same-length : tie.Need-same-length
-same-length c = search needs
-
-same-length-2 : tie.Need-same-length-2
-same-length-2 c = search needs
-
-same-length-3 : tie.Need-same-length-3
-same-length-3 c = search needs
-
 returns-2 : tie.Need-returns-2
 returns-2 c =
     run-finished _ _ _ _ _ _ _ _ _ (c .before .before .before .before .before .before .before .before .before .before .before .before .before .before .before .decode .ensures) _
@@ -46,13 +25,13 @@ pub run-spec : {M : Type 1} → statement M
 run-spec =
     tie.close
     (tie.spec
-    decode-requires
-    enum-known-decoded
-    refused-requires
-    enum-known-decoded-2
+    (search needs)
+    (search needs)
+    (search needs)
+    (search needs)
     accepted-requires
     returns
-    same-length
-    same-length-2
-    same-length-3
+    (search needs)
+    (search needs)
+    (search needs)
     returns-2)

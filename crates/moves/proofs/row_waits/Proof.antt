@@ -6,24 +6,9 @@ use borrow.Author.Needs.{needs}
 use Rattle.moves.proofs.row_waits.Statement.{statement}
 use Rattle.moves.proofs.row_waits.Tie as tie
 
-read-requires : tie.Need-read-requires
-read-requires c κs = search needs
-
-line-up-requires : tie.Need-line-up-requires
-line-up-requires c κs = search needs
-
-same-length : tie.Need-same-length
-same-length c = search needs
-
 returns : tie.Need-returns
 unfolding withOutcome putBack waitOn
 returns c = λ x e f. rw (e, ← c .before .before .before .before .before .read .ensures, eq-eqb _ _ (c .before .before .before .before .if1 .taken), c .before .before .line-up .ensures)
-
-row-begins-wait-requires : tie.Need-row-begins-wait-requires
-row-begins-wait-requires c κs = search needs
-
-same-length-2 : tie.Need-same-length-2
-same-length-2 c = search needs
 
 returns-2 : tie.Need-returns-2
 unfolding waitOn
@@ -33,10 +18,10 @@ pub row-waits-spec : {M : Type 1} → statement M
 row-waits-spec =
     tie.close
     (tie.spec
-    read-requires
-    line-up-requires
-    same-length
+    (search needs)
+    (search needs)
+    (search needs)
     returns
-    row-begins-wait-requires
-    same-length-2
+    (search needs)
+    (search needs)
     returns-2)

@@ -5,35 +5,17 @@ use borrow.Author.Needs.{needs}
 use Rattle.preempt.proofs.ask_give_back.Statement.{statement}
 use Rattle.preempt.proofs.ask_give_back.Tie as tie
 
-in-use-requires : tie.Need-in-use-requires
-in-use-requires c κs = search needs
-
 returns : tie.Need-returns
 unfolding askGiveBack
 returns c = rw (← c .before .in-use .ensures, lt-ltb _ 1 (c .if1 .taken))
-
-preempted-requires : tie.Need-preempted-requires
-preempted-requires c κs = search needs
 
 returns-2 : tie.Need-returns-2
 unfolding askGiveBack
 returns-2 c = rw (← c .before .before .before .in-use .ensures, le-ltb _ 1 (c .before .before .if1 .left), ← c .before .preempted .ensures, eq-eqb _ 0 (c .if2 .taken))
 
-holder-requires : tie.Need-holder-requires
-holder-requires c κs = search needs
-
 returns-3 : tie.Need-returns-3
 unfolding askGiveBack
 returns-3 c = rw (← c .before .before .before .before .before .in-use .ensures, le-ltb _ 1 (c .before .before .before .before .if1 .left), ← c .before .before .before .preempted .ensures, ne-eqb _ 0 (c .before .before .if2 .left), ← c .before .holder .ensures, ne-eqb _ _ (c .if3 .taken))
-
-add-first : tie.Need-add-first
-add-first c = search needs
-
-first-requires : tie.Need-first-requires
-first-requires c κs = search needs
-
-ask-resume-requires : tie.Need-ask-resume-requires
-ask-resume-requires c κs = search needs
 
 returns-4 : tie.Need-returns-4
 unfolding askGiveBack
@@ -43,13 +25,13 @@ pub ask-give-back-spec : {M : Type 1} → statement M
 ask-give-back-spec =
     tie.close
     (tie.spec
-    in-use-requires
+    (search needs)
     returns
-    preempted-requires
+    (search needs)
     returns-2
-    holder-requires
+    (search needs)
     returns-3
-    add-first
-    first-requires
-    ask-resume-requires
+    (search needs)
+    (search needs)
+    (search needs)
     returns-4)

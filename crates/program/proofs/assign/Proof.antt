@@ -4,21 +4,6 @@ use borrow.Author.Needs.{needs}
 use Rattle.program.proofs.assign.Statement.{statement}
 use Rattle.program.proofs.assign.Tie as tie
 
-single-requires : tie.Need-single-requires
-single-requires c κs = search needs
-
-enum-known-n : tie.Need-enum-known-n
-enum-known-n c = search needs
-
-enum-known-q : tie.Need-enum-known-q
-enum-known-q c = search needs
-
-add-block-term : tie.Need-add-block-term
-add-block-term c = search needs
-
-block-term-requires : tie.Need-block-term-requires
-block-term-requires c κs = search needs
-
 returns : tie.Need-returns
 returns c = assign-stop _ _ _ (c .before .before .before .single .ensures) _ (c .before .n .given .1)
 
@@ -29,10 +14,10 @@ pub assign-spec : {M : Type 1} → statement M
 assign-spec =
     tie.close
     (tie.spec
-    single-requires
-    enum-known-n
-    enum-known-q
-    add-block-term
-    block-term-requires
+    (search needs)
+    (search needs)
+    (search needs)
+    (search needs)
+    (search needs)
     returns
     returns-2)

@@ -10,21 +10,6 @@ use borrow.Author.Needs.{needs}
 use Rattle.program.proofs.block.Statement.{statement}
 use Rattle.program.proofs.block.Tie as tie
 
-mul-to : tie.Need-mul-to
-mul-to c = search needs
-
-keep-requires : tie.Need-keep-requires
-keep-requires c κs = search needs
-
-enum-known-n : tie.Need-enum-known-n
-enum-known-n c = search needs
-
-enum-known-kind : tie.Need-enum-known-kind
-enum-known-kind c = search needs
-
-add-operands : tie.Need-add-operands
-add-operands c = search needs
-
 operands-requires : tie.Need-operands-requires
 operands-requires c κs = let h = c .before .before .before .before .keep .ensures .1 _ _ (c .before .before .kind .given .1) in (omega (arith, c .before .before .before .before .before .before .before .pre .0), c .before .before .before .before .before .before .before .pre .1, h .1, h .0)
 
@@ -41,11 +26,11 @@ pub block-spec : {M : Type 1} → statement M
 block-spec =
     tie.close
     (tie.spec
-    mul-to
-    keep-requires
-    enum-known-n
-    enum-known-kind
-    add-operands
+    (search needs)
+    (search needs)
+    (search needs)
+    (search needs)
+    (search needs)
     operands-requires
     returns
     returns-2)

@@ -26,22 +26,10 @@ loop-holds c = (omega arith, refl, λ after r h. h)
 block-requires : tie.Need-block-requires Inv-loop μ-loop
 block-requires c κs = (omega (arith, c .before .before .before .before .before .pre .blocks), c .before .before .before .before .before .pre)
 
-enum-known-n : tie.Need-enum-known-n Inv-loop μ-loop
-enum-known-n c = search needs
-
 returns : tie.Need-returns Inv-loop μ-loop
 returns c = let w = c .before .before .before .before .before .before .before .loop .inv in
     rw (times-rows _ _ 0)
     (from-all _ _ _ _ _ _ (w .2 _ _ (from-stop _ _ _ _ _ _ (c .before .before .before .before .before .if1 .taken) (rw (w .1) at (c .before .before .before .block .ensures)) _ (c .before .n .given .1))))
-
-enum-known-next : tie.Need-enum-known-next Inv-loop μ-loop
-enum-known-next c = search needs
-
-add-b : tie.Need-add-b Inv-loop μ-loop
-add-b c = omega arith
-
-loop-less : tie.Need-loop-less Inv-loop μ-loop
-loop-less c = omega arith
 
 loop-again : tie.Need-loop-again Inv-loop μ-loop
 loop-again c = let w = c .before .before .before .before .before .before .before .loop .inv in (
@@ -63,10 +51,10 @@ blocks-spec =
     μ-loop
     loop-holds
     block-requires
-    enum-known-n
+    (search needs)
     returns
-    enum-known-next
-    add-b
-    loop-less
+    (search needs)
+    (omega arith)
+    (omega arith)
     loop-again
     returns-2)

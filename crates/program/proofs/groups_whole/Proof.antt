@@ -20,29 +20,8 @@ loop-holds c = (omega arith, omega arith, joined-all _ _ 0)
 back-requires : tie.Need-back-requires Inv-loop μ-loop
 back-requires c κs = omega (arith, c .before .before .pre)
 
-cast-if1 : tie.Need-cast-if1 Inv-loop μ-loop
-cast-if1 c = omega arith
-
 returns : tie.Need-returns Inv-loop μ-loop
 returns c = joined-bad _ _ _ _ (c .before .before .loop-test .taken) (omega (arith, c .if1 .taken, c .before .back .ensures)) ∙ c .before .before .before .loop .inv .2
-
-mul-waits-after : tie.Need-mul-waits-after Inv-loop μ-loop
-mul-waits-after c = omega arith
-
-mul-waits-after-2 : tie.Need-mul-waits-after-2 Inv-loop μ-loop
-mul-waits-after-2 c = omega arith
-
-element-copy-out-waits-after : tie.Need-element-copy-out-waits-after Inv-loop μ-loop
-element-copy-out-waits-after c = omega arith
-
-waits-after-requires : tie.Need-waits-after-requires Inv-loop μ-loop
-waits-after-requires c κs = omega arith
-
-add-b : tie.Need-add-b Inv-loop μ-loop
-add-b c = omega arith
-
-loop-less : tie.Need-loop-less Inv-loop μ-loop
-loop-less c = omega arith
 
 loop-again : tie.Need-loop-again Inv-loop μ-loop
 loop-again c = (
@@ -64,13 +43,13 @@ groups-whole-spec =
     μ-loop
     loop-holds
     back-requires
-    cast-if1
+    (omega arith)
     returns
-    mul-waits-after
-    mul-waits-after-2
-    element-copy-out-waits-after
-    waits-after-requires
-    add-b
-    loop-less
+    (omega arith)
+    (omega arith)
+    (omega arith)
+    (omega arith)
+    (omega arith)
+    (omega arith)
     loop-again
     returns-2)

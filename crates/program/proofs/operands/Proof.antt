@@ -4,78 +4,6 @@ use borrow.Author.Needs.{needs}
 use Rattle.program.proofs.operands.Statement.{statement}
 use Rattle.program.proofs.operands.Tie as tie
 
-range-requires : tie.Need-range-requires
-range-requires c κs = search needs
-
-range-requires-2 : tie.Need-range-requires-2
-range-requires-2 c κs = search needs
-
-pair-requires : tie.Need-pair-requires
-pair-requires c κs = search needs
-
-single-requires : tie.Need-single-requires
-single-requires c κs = search needs
-
-single-requires-2 : tie.Need-single-requires-2
-single-requires-2 c κs = search needs
-
-single-requires-3 : tie.Need-single-requires-3
-single-requires-3 c κs = search needs
-
-single-requires-4 : tie.Need-single-requires-4
-single-requires-4 c κs = search needs
-
-units-requires : tie.Need-units-requires
-units-requires c κs = search needs
-
-units-requires-2 : tie.Need-units-requires-2
-units-requires-2 c κs = search needs
-
-watched-requires : tie.Need-watched-requires
-watched-requires c κs = search needs
-
-compared-requires : tie.Need-compared-requires
-compared-requires c κs = search needs
-
-branch-requires : tie.Need-branch-requires
-branch-requires c κs = search needs
-
-single-requires-5 : tie.Need-single-requires-5
-single-requires-5 c κs = search needs
-
-assign-requires : tie.Need-assign-requires
-assign-requires c κs = search needs
-
-single-requires-6 : tie.Need-single-requires-6
-single-requires-6 c κs = search needs
-
-range-requires-3 : tie.Need-range-requires-3
-range-requires-3 c κs = search needs
-
-range-requires-4 : tie.Need-range-requires-4
-range-requires-4 c κs = search needs
-
-pair-requires-2 : tie.Need-pair-requires-2
-pair-requires-2 c κs = search needs
-
-single-requires-7 : tie.Need-single-requires-7
-single-requires-7 c κs = search needs
-
-single-requires-8 : tie.Need-single-requires-8
-single-requires-8 c κs = search needs
-
-joined-wait-requires : tie.Need-joined-wait-requires
-joined-wait-requires c κs = search needs
-
-single-requires-9 : tie.Need-single-requires-9
-single-requires-9 c κs = search needs
-
-single-requires-10 : tie.Need-single-requires-10
-single-requires-10 c κs = search needs
-
-single-requires-11 : tie.Need-single-requires-11
-single-requires-11 c κs = search needs
-
 returns : tie.Need-returns
 returns c = rw (c .before .before .before .before .match .keys1) (kind-1 _ _ _ _ _ (c .before .before .before .range .ensures) (c .before .before .range2 .ensures) (c .pair .ensures))
 
@@ -140,30 +68,30 @@ pub operands-spec : {M : Type 1} → statement M
 operands-spec =
     tie.close
     (tie.spec
-    range-requires
-    range-requires-2
-    pair-requires
-    single-requires
-    single-requires-2
-    single-requires-3
-    single-requires-4
-    units-requires
-    units-requires-2
-    watched-requires
-    compared-requires
-    branch-requires
-    single-requires-5
-    assign-requires
-    single-requires-6
-    range-requires-3
-    range-requires-4
-    pair-requires-2
-    single-requires-7
-    single-requires-8
-    joined-wait-requires
-    single-requires-9
-    single-requires-10
-    single-requires-11
+    (search needs)
+    (search needs)
+    (search needs)
+    (search needs)
+    (search needs)
+    (search needs)
+    (search needs)
+    (search needs)
+    (search needs)
+    (search needs)
+    (search needs)
+    (search needs)
+    (search needs)
+    (search needs)
+    (search needs)
+    (search needs)
+    (search needs)
+    (search needs)
+    (search needs)
+    (search needs)
+    (search needs)
+    (search needs)
+    (search needs)
+    (search needs)
     returns
     returns-2
     returns-3

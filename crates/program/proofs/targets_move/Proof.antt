@@ -24,12 +24,6 @@ misnames-requires c κs = (c .before .before .pre, omega (arith, c .before .befo
 returns : tie.Need-returns Inv-loop μ-loop
 returns c = targets-bad _ _ _ (c .before .before .loop-test .taken) (sym (c .before .misnames .ensures) ∙ c .if1 .taken) ∙ c .before .before .before .loop .inv .1
 
-add-b : tie.Need-add-b Inv-loop μ-loop
-add-b c = omega arith
-
-loop-less : tie.Need-loop-less Inv-loop μ-loop
-loop-less c = omega arith
-
 loop-again : tie.Need-loop-again Inv-loop μ-loop
 loop-again c = (omega arith, targets-next _ _ _ (c .before .before .loop-test .taken) (sym (c .before .misnames .ensures) ∙ c .if1 .left) ∙ c .before .before .before .loop .inv .1)
 
@@ -45,7 +39,7 @@ targets-move-spec =
     loop-holds
     misnames-requires
     returns
-    add-b
-    loop-less
+    (omega arith)
+    (omega arith)
     loop-again
     returns-2)

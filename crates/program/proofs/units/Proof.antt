@@ -5,18 +5,6 @@ use borrow.Author.Needs.{needs}
 use Rattle.program.proofs.units.Statement.{statement}
 use Rattle.program.proofs.units.Tie as tie
 
-keep-requires : tie.Need-keep-requires
-keep-requires c κs = search needs
-
-enum-known-n : tie.Need-enum-known-n
-enum-known-n c = search needs
-
-enum-known-k : tie.Need-enum-known-k
-enum-known-k c = search needs
-
-add-wide : tie.Need-add-wide
-add-wide c = search needs
-
 sub-wide : tie.Need-sub-wide
 sub-wide c = omega (arith, c .before .before .before .before .before .before .before .pre .1 .facilities, c .before .before .before .before .before .before .before .pre .1 .storages, c .before .before .before .before .keep .ensures .1 _ _ (c .before .before .k .given .1))
 
@@ -29,15 +17,6 @@ mul-wide c = omega (arith, c .before .before .before .before .before .before .be
 element-copy-out-wide : tie.Need-element-copy-out-wide
 element-copy-out-wide c = omega (arith, c .before .before .before .before .before .before .before .pre .1 .facilities, c .before .before .before .before .before .before .before .pre .1 .storages, c .before .before .before .before .keep .ensures .1 _ _ (c .before .before .k .given .1))
 
-wide-requires : tie.Need-wide-requires
-wide-requires c κs = search needs
-
-add-single : tie.Need-add-single
-add-single c = search needs
-
-single-requires : tie.Need-single-requires
-single-requires c κs = search needs
-
 returns : tie.Need-returns
 returns c = units-stop _ (c .before .before .before .before .before .before .args .m) (c .before .before .before .keep .ensures .0) _ (c .before .n .given .1)
 
@@ -48,16 +27,16 @@ pub units-spec : {M : Type 1} → statement M
 units-spec =
     tie.close
     (tie.spec
-    keep-requires
-    enum-known-n
-    enum-known-k
-    add-wide
+    (search needs)
+    (search needs)
+    (search needs)
+    (search needs)
     sub-wide
     add-wide-2
     mul-wide
     element-copy-out-wide
-    wide-requires
-    add-single
-    single-requires
+    (search needs)
+    (search needs)
+    (search needs)
     returns
     returns-2)

@@ -4,29 +4,8 @@ use borrow.Author.Needs.{needs}
 use Rattle.program.proofs.watched.Statement.{statement}
 use Rattle.program.proofs.watched.Tie as tie
 
-keep-requires : tie.Need-keep-requires
-keep-requires c κs = search needs
-
-enum-known-n : tie.Need-enum-known-n
-enum-known-n c = search needs
-
-enum-known-code : tie.Need-enum-known-code
-enum-known-code c = search needs
-
-add-single : tie.Need-add-single
-add-single c = search needs
-
-single-requires : tie.Need-single-requires
-single-requires c κs = search needs
-
 returns : tie.Need-returns
 returns c = watched-facility _ _ (c .before .before .before .before .before .before .keep .ensures .0) (c .before .before .before .before .code .given .1) (c .before .before .if1 .taken) (c .single .ensures)
-
-add-single-2 : tie.Need-add-single-2
-add-single-2 c = search needs
-
-single-requires-2 : tie.Need-single-requires-2
-single-requires-2 c κs = search needs
 
 returns-2 : tie.Need-returns-2
 returns-2 c = watched-stop _ _ (c .before .before .before .keep .ensures .0) _ (c .before .n .given .1)
@@ -38,13 +17,13 @@ pub watched-spec : {M : Type 1} → statement M
 watched-spec =
     tie.close
     (tie.spec
-    keep-requires
-    enum-known-n
-    enum-known-code
-    add-single
-    single-requires
+    (search needs)
+    (search needs)
+    (search needs)
+    (search needs)
+    (search needs)
     returns
-    add-single-2
-    single-requires-2
+    (search needs)
+    (search needs)
     returns-2
     returns-3)

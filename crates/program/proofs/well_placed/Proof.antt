@@ -20,29 +20,8 @@ abbrev μ-loop : tie.MeasureT-loop
 loop-holds : tie.Need-loop-holds Inv-loop μ-loop
 loop-holds c = (omega arith, placed-all _ _ 0)
 
-mul-kind : tie.Need-mul-kind Inv-loop μ-loop
-mul-kind c = omega arith
-
-mul-kind-2 : tie.Need-mul-kind-2 Inv-loop μ-loop
-mul-kind-2 c = omega arith
-
-element-copy-out-kind : tie.Need-element-copy-out-kind Inv-loop μ-loop
-element-copy-out-kind c = omega arith
-
-misplaced-requires : tie.Need-misplaced-requires Inv-loop μ-loop
-misplaced-requires c κs = search needs
-
 returns : tie.Need-returns Inv-loop μ-loop
 returns c = placed-bad _ _ _ _ (c .before .before .before .loop-test .taken) (sym (c .before .misplaced .ensures) ∙ c .if1 .taken) ∙ c .before .before .before .before .loop .inv .1
-
-leaves-requires : tie.Need-leaves-requires Inv-loop μ-loop
-leaves-requires c κs = search needs
-
-add-b : tie.Need-add-b Inv-loop μ-loop
-add-b c = omega arith
-
-loop-less : tie.Need-loop-less Inv-loop μ-loop
-loop-less c = omega arith
 
 loop-again : tie.Need-loop-again Inv-loop μ-loop
 loop-again c = (omega arith, rw (c .leaves .ensures) (placed-next _ _ _ _ (c .before .before .before .before .loop-test .taken) (sym (c .before .before .misplaced .ensures) ∙ c .before .if1 .left) ∙ c .before .before .before .before .before .loop .inv .1))
@@ -57,13 +36,13 @@ well-placed-spec =
     Inv-loop
     μ-loop
     loop-holds
-    mul-kind
-    mul-kind-2
-    element-copy-out-kind
-    misplaced-requires
+    (omega arith)
+    (omega arith)
+    (omega arith)
+    (search needs)
     returns
-    leaves-requires
-    add-b
-    loop-less
+    (search needs)
+    (omega arith)
+    (omega arith)
     loop-again
     returns-2)

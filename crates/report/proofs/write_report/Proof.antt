@@ -8,23 +8,8 @@ use Rattle.report.proofs.Writes.{putAll-parts}
 use Rattle.report.proofs.write_report.Statement.{statement}
 use Rattle.report.proofs.write_report.Tie as tie
 
-at-most-requires : tie.Need-at-most-requires
-at-most-requires c κs = search needs
-
-at-most-requires-2 : tie.Need-at-most-requires-2
-at-most-requires-2 c κs = search needs
-
-at-most-requires-3 : tie.Need-at-most-requires-3
-at-most-requires-3 c κs = search needs
-
 add-servers : tie.Need-add-servers
 add-servers c = omega (arith, c .at-most3 .ensures, c .before .at-most2 .ensures)
-
-at-most-requires-4 : tie.Need-at-most-requires-4
-at-most-requires-4 c κs = search needs
-
-put-scalars-requires : tie.Need-put-scalars-requires
-put-scalars-requires c κs = search needs
 
 put-servers-requires : tie.Need-put-servers-requires
 put-servers-requires c κs =
@@ -32,12 +17,6 @@ put-servers-requires c κs =
 
 put-queues-requires : tie.Need-put-queues-requires
 put-queues-requires c κs = (omega (arith, c .before .before .before .before .before .before .before .before .before .before .before .before .at-most .ensures), omega (arith, c .before .before .before .before .before .before .before .before .before .at-most4 .ensures))
-
-put-living-requires : tie.Need-put-living-requires
-put-living-requires c κs = search needs
-
-same-length : tie.Need-same-length
-same-length c = search needs
 
 returns : tie.Need-returns
 unfolding rowNumbers
@@ -51,14 +30,14 @@ pub write-report-spec : {M : Type 1} → statement M
 write-report-spec =
     tie.close
     (tie.spec
-    at-most-requires
-    at-most-requires-2
-    at-most-requires-3
+    (search needs)
+    (search needs)
+    (search needs)
     add-servers
-    at-most-requires-4
-    put-scalars-requires
+    (search needs)
+    (search needs)
     put-servers-requires
     put-queues-requires
-    put-living-requires
-    same-length
+    (search needs)
+    (search needs)
     returns)

@@ -5,24 +5,9 @@ use borrow.Author.Needs.{needs}
 use Rattle.start.proofs.begin_block.Statement.{statement}
 use Rattle.start.proofs.begin_block.Tie as tie
 
-mul-number : tie.Need-mul-number
-mul-number c = search needs
-
-number-requires : tie.Need-number-requires
-number-requires c κs = search needs
-
 returns : tie.Need-returns
 unfolding beginBlock
 returns c = rw (← c .before .number .ensures, ne-eqb _ 1 (c .if1 .taken))
-
-begin-list-requires : tie.Need-begin-list-requires
-begin-list-requires c κs = search needs
-
-same-length : tie.Need-same-length
-same-length c = search needs
-
-same-length-2 : tie.Need-same-length-2
-same-length-2 c = search needs
 
 returns-2 : tie.Need-returns-2
 unfolding beginBlock
@@ -32,10 +17,10 @@ pub begin-block-spec : {M : Type 1} → statement M
 begin-block-spec =
     tie.close
     (tie.spec
-    mul-number
-    number-requires
+    (search needs)
+    (search needs)
     returns
-    begin-list-requires
-    same-length
-    same-length-2
+    (search needs)
+    (search needs)
+    (search needs)
     returns-2)

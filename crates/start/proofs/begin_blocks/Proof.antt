@@ -18,23 +18,8 @@ abbrev μ-loop : tie.MeasureT-loop
 loop-holds : tie.Need-loop-holds Inv-loop μ-loop
 loop-holds c = (begin-first _ _ _ _, (omega arith, (refl, refl)))
 
-begin-block-requires : tie.Need-begin-block-requires Inv-loop μ-loop
-begin-block-requires c κs = omega arith
-
-add-b : tie.Need-add-b Inv-loop μ-loop
-add-b c = omega arith
-
-loop-less : tie.Need-loop-less Inv-loop μ-loop
-loop-less c = omega arith
-
 loop-again : tie.Need-loop-again Inv-loop μ-loop
 loop-again c = (begin-again _ _ _ _ _ _ (c .before .before .before .before .begin-block .ensures) (c .before .before .before .before .before .before .before .loop-test .taken) ∙ c .before .before .before .before .before .before .before .before .loop .inv .0, (omega arith, (omega (arith, c .before .before .before .before .begin-block .kept), omega (arith, c .before .before .before .before .begin-block .kept))))
-
-same-length : tie.Need-same-length Inv-loop μ-loop
-same-length c = omega arith
-
-same-length-2 : tie.Need-same-length-2 Inv-loop μ-loop
-same-length-2 c = omega arith
 
 returns : tie.Need-returns Inv-loop μ-loop
 returns c = sym (begin-end _ _ _ _ _ (omega arith)) ∙ c .before .loop .inv .0
@@ -46,10 +31,10 @@ begin-blocks-spec =
     Inv-loop
     μ-loop
     loop-holds
-    begin-block-requires
-    add-b
-    loop-less
+    (omega arith)
+    (omega arith)
+    (omega arith)
     loop-again
-    same-length
-    same-length-2
+    (omega arith)
+    (omega arith)
     returns)

@@ -7,54 +7,9 @@ use borrow.Author.Needs.{needs}
 use Rattle.start.proofs.begin_list.Statement.{statement}
 use Rattle.start.proofs.begin_list.Tie as tie
 
-mul-number : tie.Need-mul-number
-mul-number c = search needs
-
-add-number : tie.Need-add-number
-add-number c = search needs
-
-number-requires : tie.Need-number-requires
-number-requires c κs = search needs
-
-times-left-requires : tie.Need-times-left-requires
-times-left-requires c κs = search needs
-
-same-length : tie.Need-same-length
-same-length c = search needs
-
 returns : tie.Need-returns
 unfolding beginList rowsOf
 returns c = rw (← c .before .before .before .number .ensures, ← c .before .times-left .ensures, eq-eqb _ 0 (c .if1 .taken))
-
-mul-number-2 : tie.Need-mul-number-2
-mul-number-2 c = search needs
-
-add-number-2 : tie.Need-add-number-2
-add-number-2 c = search needs
-
-number-requires-2 : tie.Need-number-requires-2
-number-requires-2 c κs = search needs
-
-next-sample-requires : tie.Need-next-sample-requires
-next-sample-requires c κs = search needs
-
-add-arrives : tie.Need-add-arrives
-add-arrives c = search needs
-
-cast-arrives : tie.Need-cast-arrives
-cast-arrives c = search needs
-
-arrives-requires : tie.Need-arrives-requires
-arrives-requires c κs = search needs
-
-one-made-requires : tie.Need-one-made-requires
-one-made-requires c κs = search needs
-
-same-length-2 : tie.Need-same-length-2
-same-length-2 c = search needs
-
-same-length-3 : tie.Need-same-length-3
-same-length-3 c = search needs
 
 returns-2 : tie.Need-returns-2
 unfolding beginList rowsOf
@@ -64,20 +19,20 @@ pub begin-list-spec : {M : Type 1} → statement M
 begin-list-spec =
     tie.close
     (tie.spec
-    mul-number
-    add-number
-    number-requires
-    times-left-requires
-    same-length
+    (search needs)
+    (search needs)
+    (search needs)
+    (search needs)
+    (search needs)
     returns
-    mul-number-2
-    add-number-2
-    number-requires-2
-    next-sample-requires
-    add-arrives
-    cast-arrives
-    arrives-requires
-    one-made-requires
-    same-length-2
-    same-length-3
+    (search needs)
+    (search needs)
+    (search needs)
+    (search needs)
+    (search needs)
+    (search needs)
+    (search needs)
+    (search needs)
+    (search needs)
+    (search needs)
     returns-2)

@@ -19,21 +19,9 @@ loop-holds : tie.Need-loop-holds Inv-loop μ-loop
 unfolding listsSet
 loop-holds c = (refl, (omega arith, refl))
 
-set-list-requires : tie.Need-set-list-requires Inv-loop μ-loop
-set-list-requires c κs = omega arith
-
-add-l : tie.Need-add-l Inv-loop μ-loop
-add-l c = omega arith
-
-loop-less : tie.Need-loop-less Inv-loop μ-loop
-loop-less c = omega arith
-
 loop-again : tie.Need-loop-again Inv-loop μ-loop
 unfolding listsSet
 loop-again c = (rw (add-one (c .before .before .before .before .before .loop .l)) (c .before .before .set-list .ensures ∙ ap (λ (v : List ℕ). listSet (c .before .before .before .before .before .before .before .before .args .lists .now) v (c .before .before .before .before .before .loop .l)) (c .before .before .before .before .before .loop .inv .0)), (omega arith, omega (arith, c .before .before .set-list .kept)))
-
-same-length : tie.Need-same-length Inv-loop μ-loop
-same-length c = omega arith
 
 returns : tie.Need-returns Inv-loop μ-loop
 returns c = c .before .loop .inv .0 ∙ ap (λ (n : ℕ). listsSet n (c .before .before .before .before .args .lists .now) (c .before .before .before .before .args .tally .now)) (omega arith)
@@ -45,9 +33,9 @@ set-lists-spec =
     Inv-loop
     μ-loop
     loop-holds
-    set-list-requires
-    add-l
-    loop-less
+    (omega arith)
+    (omega arith)
+    (omega arith)
     loop-again
-    same-length
+    (omega arith)
     returns)

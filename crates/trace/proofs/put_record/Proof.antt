@@ -30,9 +30,6 @@ put-number-requires-4 c κs =
     let w = c .before .before .before .before .before .before .before .before .before .before .before .before .before .before in let r = entry (w .args .clock) (w .args .transaction) (w .args .block) (w .args .outcome) in
     (small r (w .pre .0) .outcome, omega (arith, w .pre .1, recordBytes-length r, c .before .before .before .before .before .before .before .before .before .before .before .put-number .ensures .0, c .before .before .before .before .before .before .before .put-number2 .ensures .0, c .before .before .before .put-number3 .ensures .0))
 
-same-length : tie.Need-same-length
-same-length c = search needs
-
 returns : tie.Need-returns
 unfolding recordBytes
 returns c =
@@ -56,5 +53,5 @@ put-record-spec =
     put-number-requires-2
     put-number-requires-3
     put-number-requires-4
-    same-length
+    (search needs)
     returns)

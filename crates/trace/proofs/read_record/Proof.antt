@@ -15,42 +15,6 @@ use Rattle.trace.proofs.read_record.Tie as tie
 returns : tie.Need-returns
 returns c = past-end _ _ (c .if1 .taken)
 
-trace-field-requires : tie.Need-trace-field-requires
-trace-field-requires c κs = search needs
-
-enum-known-n : tie.Need-enum-known-n
-enum-known-n c = search needs
-
-enum-known-clock : tie.Need-enum-known-clock
-enum-known-clock c = search needs
-
-trace-field-requires-2 : tie.Need-trace-field-requires-2
-trace-field-requires-2 c κs = search needs
-
-enum-known-n-2 : tie.Need-enum-known-n-2
-enum-known-n-2 c = search needs
-
-enum-known-transaction : tie.Need-enum-known-transaction
-enum-known-transaction c = search needs
-
-trace-field-requires-3 : tie.Need-trace-field-requires-3
-trace-field-requires-3 c κs = search needs
-
-enum-known-n-3 : tie.Need-enum-known-n-3
-enum-known-n-3 c = search needs
-
-enum-known-block : tie.Need-enum-known-block
-enum-known-block c = search needs
-
-trace-field-requires-4 : tie.Need-trace-field-requires-4
-trace-field-requires-4 c κs = search needs
-
-enum-known-n-4 : tie.Need-enum-known-n-4
-enum-known-n-4 c = search needs
-
-enum-known-outcome : tie.Need-enum-known-outcome
-enum-known-outcome c = search needs
-
 returns-2 : tie.Need-returns-2
 returns-2 c = clock-refused _ _ (c .before .before .before .before .if1 .left) _ (refusal-parsed 0 0 _ (c .before .before .before .trace-field .ensures .0 0 0) (c .before .n .given .1))
 
@@ -77,18 +41,18 @@ read-record-spec =
     tie.close
     (tie.spec
     returns
-    trace-field-requires
-    enum-known-n
-    enum-known-clock
-    trace-field-requires-2
-    enum-known-n-2
-    enum-known-transaction
-    trace-field-requires-3
-    enum-known-n-3
-    enum-known-block
-    trace-field-requires-4
-    enum-known-n-4
-    enum-known-outcome
+    (search needs)
+    (search needs)
+    (search needs)
+    (search needs)
+    (search needs)
+    (search needs)
+    (search needs)
+    (search needs)
+    (search needs)
+    (search needs)
+    (search needs)
+    (search needs)
     returns-2
     returns-3
     returns-4

@@ -7,23 +7,11 @@ use borrow.Author.Needs.{needs}
 use Rattle.trace.proofs.record_len.Statement.{statement}
 use Rattle.trace.proofs.record_len.Tie as tie
 
-number-len-requires : tie.Need-number-len-requires
-number-len-requires c κs = search needs
-
-number-len-requires-2 : tie.Need-number-len-requires-2
-number-len-requires-2 c κs = search needs
-
 add-result : tie.Need-add-result
 add-result c = omega (arith, c .before .number-len .ensures, numberBytes-longest (c .before .before .args .clock), c .number-len2 .ensures, numberBytes-longest (c .before .before .args .transaction))
 
-number-len-requires-3 : tie.Need-number-len-requires-3
-number-len-requires-3 c κs = search needs
-
 add-result-2 : tie.Need-add-result-2
 add-result-2 c = omega (arith, c .before .before .number-len .ensures, numberBytes-longest (c .before .before .before .args .clock), c .before .number-len2 .ensures, numberBytes-longest (c .before .before .before .args .transaction), c .number-len3 .ensures, numberBytes-longest (c .before .before .before .args .block))
-
-number-len-requires-4 : tie.Need-number-len-requires-4
-number-len-requires-4 c κs = search needs
 
 add-result-3 : tie.Need-add-result-3
 add-result-3 c = omega (arith, c .before .before .before .number-len .ensures, numberBytes-longest (c .before .before .before .before .args .clock), c .before .before .number-len2 .ensures, numberBytes-longest (c .before .before .before .before .args .transaction), c .before .number-len3 .ensures, numberBytes-longest (c .before .before .before .before .args .block), c .number-len4 .ensures, numberBytes-longest (c .before .before .before .before .args .outcome))
@@ -37,11 +25,11 @@ pub record-len-spec : {M : Type 1} → statement M
 record-len-spec =
     tie.close
     (tie.spec
-    number-len-requires
-    number-len-requires-2
+    (search needs)
+    (search needs)
     add-result
-    number-len-requires-3
+    (search needs)
     add-result-2
-    number-len-requires-4
+    (search needs)
     add-result-3
     returns)

@@ -16,9 +16,6 @@ use borrow.Author.Needs.{needs}
 use Rattle.trace.proofs.write_record.Statement.{statement}
 use Rattle.trace.proofs.write_record.Tie as tie
 
-in-ranges-requires : tie.Need-in-ranges-requires
-in-ranges-requires c κs = search needs
-
 returns : tie.Need-returns
 returns c = let e = refused-range _ (c .before .before .before .args .rest .now) (sym (c .before .in-ranges .ensures) ∙ not-true _ (c .if1 .taken)) in
     (e, (after-refused _ _ 32 e, λ n h. absurd (refused-bytes h)))
@@ -38,9 +35,6 @@ put-record-requires c κs = (
   leb-true _ _ (sym (c .before .before .fits2 .ensures) ∙ not-false _ (c .before .if2 .left)),
 )
 
-same-length : tie.Need-same-length
-same-length c = search needs
-
 returns-3 : tie.Need-returns-3
 returns-3 c = let l = c .before .before .before .before .before .before .before .before .before .args .rest .now in
     let ranges = sym (c .before .before .before .before .before .before .before .in-ranges .ensures) ∙ not-false _ (c .before .before .before .before .before .before .if1 .left) in
@@ -56,10 +50,10 @@ pub write-record-spec : {M : Type 1} → statement M
 write-record-spec =
     tie.close
     (tie.spec
-    in-ranges-requires
+    (search needs)
     returns
     fits-requires
     returns-2
     put-record-requires
-    same-length
+    (search needs)
     returns-3)

@@ -5,15 +5,6 @@ use borrow.Author.Needs.{needs}
 use Rattle.values.proofs.keep.Statement.{statement}
 use Rattle.values.proofs.keep.Tie as tie
 
-number-requires : tie.Need-number-requires
-number-requires c κs = search needs
-
-enum-known-n : tie.Need-enum-known-n
-enum-known-n c = search needs
-
-enum-known-v : tie.Need-enum-known-v
-enum-known-v c = search needs
-
 sub-tables : tie.Need-sub-tables
 sub-tables c = omega (arith, c .before .before .before .number .ensures .1 _ _ (c .before .v .given .1))
 
@@ -22,12 +13,6 @@ add-tables c = omega (arith, c .before .before .before .number .ensures .1 _ _ (
 
 cast-tables : tie.Need-cast-tables
 cast-tables c = omega (arith, c .before .before .before .number .ensures .1 _ _ (c .before .v .given .1))
-
-mul-tables : tie.Need-mul-tables
-mul-tables c = search needs
-
-element-write-tables : tie.Need-element-write-tables
-element-write-tables c = search needs
 
 returns : tie.Need-returns
 returns c = (keep-refused (c .before .before .before .number .ensures .0) _ _ _ _ _ (c .before .n .given .1), λ v q e. absurd (taken-number e))
@@ -42,13 +27,13 @@ pub keep-spec : {M : Type 1} → statement M
 keep-spec =
     tie.close
     (tie.spec
-    number-requires
-    enum-known-n
-    enum-known-v
+    (search needs)
+    (search needs)
+    (search needs)
     sub-tables
     add-tables
     cast-tables
-    mul-tables
-    element-write-tables
+    (search needs)
+    (search needs)
     returns
     returns-2)

@@ -5,15 +5,6 @@ use borrow.Author.Needs.{needs}
 use Rattle.values.proofs.keep_counted.Statement.{statement}
 use Rattle.values.proofs.keep_counted.Tie as tie
 
-number-requires : tie.Need-number-requires
-number-requires c κs = search needs
-
-enum-known-n : tie.Need-enum-known-n
-enum-known-n c = search needs
-
-enum-known-v : tie.Need-enum-known-v
-enum-known-v c = search needs
-
 returns : tie.Need-returns
 returns c = (counted-past _ (c .before .before .before .before .number .ensures .0) _ _ _ _ (c .before .before .v .given .1) (c .if1 .taken), λ v q e. absurd (taken-number e))
 
@@ -25,18 +16,6 @@ add-tables c = omega (arith, c .before .before .before .before .number .ensures 
 
 cast-tables : tie.Need-cast-tables
 cast-tables c = omega (arith, c .before .before .before .before .number .ensures .1 _ _ (c .before .before .v .given .1))
-
-add-tables-2 : tie.Need-add-tables-2
-add-tables-2 c = search needs
-
-mul-tables : tie.Need-mul-tables
-mul-tables c = search needs
-
-element-write-tables : tie.Need-element-write-tables
-element-write-tables c = search needs
-
-add-t15 : tie.Need-add-t15
-add-t15 c = search needs
 
 returns-2 : tie.Need-returns-2
 returns-2 c = (counted-refused _ (c .before .before .before .number .ensures .0) _ _ _ _ (c .before .n .given .1), λ v q e. absurd (taken-number e))
@@ -51,16 +30,16 @@ pub keep-counted-spec : {M : Type 1} → statement M
 keep-counted-spec =
     tie.close
     (tie.spec
-    number-requires
-    enum-known-n
-    enum-known-v
+    (search needs)
+    (search needs)
+    (search needs)
     returns
     sub-tables
     add-tables
     cast-tables
-    add-tables-2
-    mul-tables
-    element-write-tables
-    add-t15
+    (search needs)
+    (search needs)
+    (search needs)
+    (search needs)
     returns-2
     returns-3)

@@ -4,23 +4,8 @@ use borrow.Author.Needs.{needs}
 use Rattle.values.proofs.operand.Statement.{statement}
 use Rattle.values.proofs.operand.Tie as tie
 
-term-range-requires : tie.Need-term-range-requires
-term-range-requires c κs = search needs
-
-keep-counted-requires : tie.Need-keep-counted-requires
-keep-counted-requires c κs = search needs
-
-enum-known-n : tie.Need-enum-known-n
-enum-known-n c = search needs
-
-enum-known-v : tie.Need-enum-known-v
-enum-known-v c = search needs
-
 returns : tie.Need-returns
 returns c = operand-third _ _ _ _ (c .before .before .before .before .before .before .before .before .before .before .pre .2) (rw (c .before .before .before .before .before .before .before .before .term-range .ensures .0) at (c .before .before .before .before .before .before .keep-counted .ensures .0)) (c .before .before .before .before .v .given .1) (c .before .before .if1 .taken) (c .if2 .taken)
-
-add-t16 : tie.Need-add-t16
-add-t16 c = search needs
 
 returns-2 : tie.Need-returns-2
 returns-2 c = operand-mention _ _ _ _ (c .before .before .before .before .before .before .before .before .before .before .before .pre .2) (rw (c .before .before .before .before .before .before .before .before .before .term-range .ensures .0) at (c .before .before .before .before .before .before .before .keep-counted .ensures .0)) (c .before .before .before .before .before .v .given .1) (c .before .before .before .if1 .taken) (c .before .if2 .left)
@@ -41,12 +26,12 @@ pub operand-spec : {M : Type 1} → statement M
 operand-spec =
     tie.close
     (tie.spec
-    term-range-requires
-    keep-counted-requires
-    enum-known-n
-    enum-known-v
+    (search needs)
+    (search needs)
+    (search needs)
+    (search needs)
     returns
-    add-t16
+    (search needs)
     returns-2
     returns-3
     returns-4

@@ -22,21 +22,9 @@ value-requires : tie.Need-value-requires Inv-loop μ-loop
 value-requires c κs = let w = c .before .before .before .before .before .pre in
     (omega (arith, w .values), record { facilities = w .facilities; storages = w .storages; queues = w .queues; values = omega (arith, w .values); lists = omega arith; blocks = omega arith })
 
-enum-known-n : tie.Need-enum-known-n Inv-loop μ-loop
-enum-known-n c = search needs
-
 returns : tie.Need-returns Inv-loop μ-loop
 returns c = rw (values-rows _ _ _ 0)
     (from-all _ _ _ _ _ _ (c .before .before .before .before .before .before .before .loop .inv .1 _ _ (from-stop _ _ _ _ _ _ (c .before .before .before .before .before .if1 .taken) (c .before .before .before .value .ensures) _ (c .before .n .given .1))))
-
-enum-known-next : tie.Need-enum-known-next Inv-loop μ-loop
-enum-known-next c = search needs
-
-add-k : tie.Need-add-k Inv-loop μ-loop
-add-k c = omega arith
-
-loop-less : tie.Need-loop-less Inv-loop μ-loop
-loop-less c = omega arith
 
 loop-again : tie.Need-loop-again Inv-loop μ-loop
 loop-again c = (
@@ -55,10 +43,10 @@ values-spec =
     μ-loop
     loop-holds
     value-requires
-    enum-known-n
+    (search needs)
     returns
-    enum-known-next
-    add-k
-    loop-less
+    (search needs)
+    (omega arith)
+    (omega arith)
     loop-again
     returns-2)

@@ -5,32 +5,11 @@ use borrow.Author.Needs.{needs}
 use Rattle.clock.proofs.taking.next_events.Statement.{statement}
 use Rattle.clock.proofs.taking.next_events.Tie as tie
 
-first-requires : tie.Need-first-requires
-first-requires c κs = search needs
-
-same-length : tie.Need-same-length
-same-length c = search needs
-
 returns : tie.Need-returns
 returns c = events-none _ _ _ (omega (arith, c .before .first .ensures, c .if1 .taken))
 
-same-length-2 : tie.Need-same-length-2
-same-length-2 c = search needs
-
 returns-2 : tie.Need-returns-2
 returns-2 c = events-spent _ _ _ (omega (arith, c .before .before .before .first .ensures, c .before .before .if1 .left)) (c .if2 .taken)
-
-time-requires : tie.Need-time-requires
-time-requires c κs = search needs
-
-move-clock-requires : tie.Need-move-clock-requires
-move-clock-requires c κs = search needs
-
-same-length-3 : tie.Need-same-length-3
-same-length-3 c = search needs
-
-same-length-4 : tie.Need-same-length-4
-same-length-4 c = search needs
 
 returns-3 : tie.Need-returns-3
 returns-3 c = events-come _ _ _ _ _ (omega (arith, c .before .before .before .before .before .before .before .before .before .before .before .before .first .ensures, c .before .before .before .before .before .before .before .before .before .before .before .if1 .left)) (omega (arith, c .before .before .before .before .before .before .before .before .before .if2 .left)) (rw (← c .before .before .before .before .before .before .before .before .before .before .before .before .first .ensures) (c .before .before .before .before .before .before .before .time .ensures)) (c .before .before .before .before .move-clock .ensures)
@@ -39,13 +18,13 @@ pub next-events-spec : {M : Type 1} → statement M
 next-events-spec =
     tie.close
     (tie.spec
-    first-requires
-    same-length
+    (search needs)
+    (search needs)
     returns
-    same-length-2
+    (search needs)
     returns-2
-    time-requires
-    move-clock-requires
-    same-length-3
-    same-length-4
+    (search needs)
+    (search needs)
+    (search needs)
+    (search needs)
     returns-3)

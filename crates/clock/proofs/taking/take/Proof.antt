@@ -5,35 +5,11 @@ use borrow.Author.Needs.{needs}
 use Rattle.clock.proofs.taking.take.Statement.{statement}
 use Rattle.clock.proofs.taking.take.Tie as tie
 
-plus32-requires : tie.Need-plus32-requires
-plus32-requires c κs = search needs
-
 returns : tie.Need-returns
 returns c = take-moving _ _ _ _ (c .before .before .plus32 .ensures) (c .if1 .taken)
 
-first-requires : tie.Need-first-requires
-first-requires c κs = search needs
-
-take-ready-requires : tie.Need-take-ready-requires
-take-ready-requires c κs = search needs
-
-same-length : tie.Need-same-length
-same-length c = search needs
-
 returns-2 : tie.Need-returns-2
 returns-2 c = take-first _ _ _ _ (c .before .before .before .before .before .before .before .before .before .plus32 .ensures) _ _ (omega (arith, c .before .before .before .before .before .before .before .if1 .left)) (omega (arith, c .before .before .before .before .before .first .ensures, c .before .before .before .before .if2 .taken)) (c .before .before .take-ready .ensures .0) (c .before .before .take-ready .ensures .1)
-
-next-events-requires : tie.Need-next-events-requires
-next-events-requires c κs = search needs
-
-take-ready-requires-2 : tie.Need-take-ready-requires-2
-take-ready-requires-2 c κs = search needs
-
-same-length-2 : tie.Need-same-length-2
-same-length-2 c = search needs
-
-same-length-3 : tie.Need-same-length-3
-same-length-3 c = search needs
 
 returns-3 : tie.Need-returns-3
 returns-3 c = take-later _ _ _ _ (c .before .before .before .before .before .before .before .before .before .before .before .before .before .before .before .before .plus32 .ensures) _ _ _ _ _ (omega (arith, c .before .before .before .before .before .before .before .before .before .before .before .before .before .before .if1 .left)) (omega (arith, c .before .before .before .before .before .before .before .before .before .before .before .before .first .ensures, c .before .before .before .before .before .before .before .before .before .before .before .if2 .left)) (c .before .before .before .before .before .before .before .before .next-events .ensures) (c .before .before .take-ready2 .ensures .0) (c .before .before .take-ready2 .ensures .1)
@@ -42,14 +18,14 @@ pub take-spec : {M : Type 1} → statement M
 take-spec =
     tie.close
     (tie.spec
-    plus32-requires
+    (search needs)
     returns
-    first-requires
-    take-ready-requires
-    same-length
+    (search needs)
+    (search needs)
+    (search needs)
     returns-2
-    next-events-requires
-    take-ready-requires-2
-    same-length-2
-    same-length-3
+    (search needs)
+    (search needs)
+    (search needs)
+    (search needs)
     returns-3)

@@ -7,12 +7,6 @@ use Rattle.columns_laws.proofs.Answers.{surveyed-none, surveyed-taken, from-51,
 use Rattle.columns.proofs.from.from_columns.Statement.{statement}
 use Rattle.columns.proofs.from.from_columns.Tie as tie
 
-survey-columns-requires : tie.Need-survey-columns-requires
-survey-columns-requires c κs = search needs
-
-enum-known-count : tie.Need-enum-known-count
-enum-known-count c = search needs
-
 enum-told : tie.Need-enum-told
 enum-told c = search needs
 
@@ -25,9 +19,6 @@ returns-2 c = let a = from-52 _ _ _ _ (surveyed-taken _ _ (c .before .before .be
 write-trace-requires : tie.Need-write-trace-requires
 write-trace-requires c κs = omega (arith, (surveyed-taken _ _ (c .before .before .before .before .before .survey-columns .ensures) (c .before .before .before .count .given .1)) .clock)
 
-same-length : tie.Need-same-length
-same-length c = search needs
-
 returns-3 : tie.Need-returns-3
 returns-3 c =
     let room = c .before .before .before .before .if1 .left in
@@ -38,11 +29,11 @@ pub from-columns-spec : {M : Type 1} → statement M
 from-columns-spec =
     tie.close
     (tie.spec
-    survey-columns-requires
-    enum-known-count
+    (search needs)
+    (search needs)
     enum-told
     returns
     returns-2
     write-trace-requires
-    same-length
+    (search needs)
     returns-3)

@@ -7,29 +7,14 @@ use Rattle.columns_laws.specs.Walks.{longer}
 use Rattle.columns.proofs.measure.longer.Statement.{statement}
 use Rattle.columns.proofs.measure.longer.Tie as tie
 
-sub-number-len : tie.Need-sub-number-len
-sub-number-len c = search needs
-
-number-len-requires : tie.Need-number-len-requires
-number-len-requires c κs = search needs
-
 add-t7 : tie.Need-add-t7
 add-t7 c = omega (arith, c .before .before .before .before .pre, c .before .number-len .ensures, numberBytes-longest (c .before .before .before .before .args .r .clock - c .before .before .before .before .args .t .clock))
-
-number-len-requires-2 : tie.Need-number-len-requires-2
-number-len-requires-2 c κs = search needs
 
 add-t9 : tie.Need-add-t9
 add-t9 c = omega (arith, c .before .before .before .before .before .before .pre, c .before .number-len2 .ensures, numberBytes-longest (c .before .before .before .before .before .before .args .r .transaction))
 
-number-len-requires-3 : tie.Need-number-len-requires-3
-number-len-requires-3 c κs = search needs
-
 add-t11 : tie.Need-add-t11
 add-t11 c = omega (arith, c .before .before .before .before .before .before .before .before .pre, c .before .number-len3 .ensures, numberBytes-longest (c .before .before .before .before .before .before .before .before .args .r .block))
-
-number-len-requires-4 : tie.Need-number-len-requires-4
-number-len-requires-4 c κs = search needs
 
 add-t13 : tie.Need-add-t13
 add-t13 c = omega (arith, c .before .before .before .before .before .before .before .before .before .before .pre, c .before .number-len4 .ensures, numberBytes-longest (c .before .before .before .before .before .before .before .before .before .before .args .r .outcome))
@@ -42,13 +27,13 @@ pub longer-spec : {M : Type 1} → statement M
 longer-spec =
     tie.close
     (tie.spec
-    sub-number-len
-    number-len-requires
+    (search needs)
+    (search needs)
     add-t7
-    number-len-requires-2
+    (search needs)
     add-t9
-    number-len-requires-3
+    (search needs)
     add-t11
-    number-len-requires-4
+    (search needs)
     add-t13
     returns)

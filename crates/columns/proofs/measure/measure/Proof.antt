@@ -28,9 +28,6 @@ enum-told c = search needs
 returns : tie.Need-returns Inv-loop μ-loop
 returns c = step-refused _ _ _ (c .before .before .before .before .before .loop .inv .0) (c .before .before .before .if1 .taken) (sym (c .enum-told .given .1) ∙ c .before .before .measure-record .ensures) ∙ c .before .before .before .before .before .loop .inv .1
 
-enum-known-n : tie.Need-enum-known-n Inv-loop μ-loop
-enum-known-n c = search needs
-
 loop-less : tie.Need-loop-less Inv-loop μ-loop
 loop-less c = let st = step-taken _ _ _ (c .before .before .before .before .before .before .loop .inv .0) _ _ (sym (c .before .n .given .1) ∙ c .before .before .before .measure-record .ensures) in omega (arith, st .room, st .count-more)
 
@@ -50,7 +47,7 @@ measure-spec =
     measure-record-requires
     enum-told
     returns
-    enum-known-n
+    (search needs)
     loop-less
     loop-again
     returns-2)

@@ -4,29 +4,14 @@ use borrow.Author.Needs.{needs}
 use Rattle.columns.proofs.measure.measure_record.Statement.{statement}
 use Rattle.columns.proofs.measure.measure_record.Tie as tie
 
-read-record-requires : tie.Need-read-record-requires
-read-record-requires c κs = search needs
-
 enum-told : tie.Need-enum-told
 enum-told c = search needs
-
-enum-told-2 : tie.Need-enum-told-2
-enum-told-2 c = search needs
-
-enum-known-r : tie.Need-enum-known-r
-enum-known-r c = search needs
 
 returns : tie.Need-returns
 returns c = measured-fallen _ _ _ (c .before .before .before .before .before .before .read-record .ensures) (c .before .before .before .before .r .given .1) (c .if1 .taken)
 
 returns-2 : tie.Need-returns-2
 returns-2 c = measured-many _ _ _ (c .before .before .before .before .before .before .before .read-record .ensures) (c .before .before .before .before .before .r .given .1) (c .before .if1 .left) (c .if2 .taken)
-
-add-t9 : tie.Need-add-t9
-add-t9 c = search needs
-
-longer-requires : tie.Need-longer-requires
-longer-requires c κs = search needs
 
 returns-3 : tie.Need-returns-3
 returns-3 c = measured-refusal _ _ _ (c .before .before .read-record .ensures) (c .enum-told .given .1)
@@ -41,14 +26,14 @@ pub measure-record-spec : {M : Type 1} → statement M
 measure-record-spec =
     tie.close
     (tie.spec
-    read-record-requires
+    (search needs)
     enum-told
-    enum-told-2
-    enum-known-r
+    (search needs)
+    (search needs)
     returns
     returns-2
-    add-t9
-    longer-requires
+    (search needs)
+    (search needs)
     returns-3
     returns-4
     returns-5)

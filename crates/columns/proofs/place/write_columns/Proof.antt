@@ -18,15 +18,6 @@ abbrev μ-loop : tie.MeasureT-loop
 loop-holds : tie.Need-loop-holds Inv-loop μ-loop
 loop-holds c = (refl, refl)
 
-place-requires : tie.Need-place-requires Inv-loop μ-loop
-place-requires c κs = search needs
-
-sub-left : tie.Need-sub-left Inv-loop μ-loop
-sub-left c = omega arith
-
-loop-less : tie.Need-loop-less Inv-loop μ-loop
-loop-less c = omega arith
-
 loop-again : tie.Need-loop-again Inv-loop μ-loop
 loop-again c = (omega (arith, c .before .before .place .kept), place-more _ _ _ _ _ _ (c .before .before .before .before .loop-test .taken) (c .before .before .place .ensures) ∙ c .before .before .before .before .before .loop .inv .1)
 
@@ -43,9 +34,9 @@ write-columns-spec =
     Inv-loop
     μ-loop
     loop-holds
-    place-requires
-    sub-left
-    loop-less
+    (search needs)
+    (omega arith)
+    (omega arith)
     loop-again
     same-length
     returns)

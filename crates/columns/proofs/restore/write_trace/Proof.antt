@@ -22,12 +22,6 @@ loop-holds c = (refl, refl, c .before .before .pre)
 restore-requires : tie.Need-restore-requires Inv-loop μ-loop
 restore-requires c κs = c .before .before .loop .inv .2
 
-sub-left : tie.Need-sub-left Inv-loop μ-loop
-sub-left c = omega arith
-
-loop-less : tie.Need-loop-less Inv-loop μ-loop
-loop-less c = omega arith
-
 loop-again : tie.Need-loop-again Inv-loop μ-loop
 loop-again c = (omega (arith, c .before .before .restore .kept), restore-more _ _ _ _ _ _ (c .before .before .before .before .loop-test .taken) (c .before .before .restore .ensures .0) ∙ c .before .before .before .before .before .loop .inv .1, c .before .before .restore .ensures .1)
 
@@ -45,8 +39,8 @@ write-trace-spec =
     μ-loop
     loop-holds
     restore-requires
-    sub-left
-    loop-less
+    (omega arith)
+    (omega arith)
     loop-again
     same-length
     returns)

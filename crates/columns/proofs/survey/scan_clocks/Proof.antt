@@ -21,35 +21,17 @@ abbrev μ-loop : tie.MeasureT-loop
 loop-holds : tie.Need-loop-holds Inv-loop μ-loop
 loop-holds c = (omega arith, omega arith, omega arith, refl)
 
-sub-trace-field : tie.Need-sub-trace-field Inv-loop μ-loop
-sub-trace-field c = omega arith
-
-trace-field-requires : tie.Need-trace-field-requires Inv-loop μ-loop
-trace-field-requires c κs = search needs
-
 enum-told : tie.Need-enum-told Inv-loop μ-loop
 enum-told c = search needs
 
 returns : tie.Need-returns Inv-loop μ-loop
 returns c = clocks-stop _ _ _ _ _ _ (c .before .before .before .loop-test .taken) (c .before .before .trace-field .ensures .0) (c .enum-told .given .1) ∙ c .before .before .before .before .loop .inv .3
 
-enum-known-difference : tie.Need-enum-known-difference Inv-loop μ-loop
-enum-known-difference c = search needs
-
 add-clock : tie.Need-add-clock Inv-loop μ-loop
 add-clock c = omega (arith, c .before .before .before .before .before .loop .inv .0, c .before .before .before .trace-field .ensures .1 _ _ (c .before .difference .given .1))
 
-number-len-requires : tie.Need-number-len-requires Inv-loop μ-loop
-number-len-requires c κs = search needs
-
 add-size : tie.Need-add-size Inv-loop μ-loop
 add-size c = omega (arith, c .before .before .before .before .before .before .loop .inv .2, nine _ _ (c .number-len .ensures))
-
-sub-left : tie.Need-sub-left Inv-loop μ-loop
-sub-left c = omega arith
-
-loop-less : tie.Need-loop-less Inv-loop μ-loop
-loop-less c = omega arith
 
 loop-again : tie.Need-loop-again Inv-loop μ-loop
 loop-again c = (
@@ -69,15 +51,15 @@ scan-clocks-spec =
     Inv-loop
     μ-loop
     loop-holds
-    sub-trace-field
-    trace-field-requires
+    (omega arith)
+    (search needs)
     enum-told
     returns
-    enum-known-difference
+    (search needs)
     add-clock
-    number-len-requires
+    (search needs)
     add-size
-    sub-left
-    loop-less
+    (omega arith)
+    (omega arith)
     loop-again
     returns-2)

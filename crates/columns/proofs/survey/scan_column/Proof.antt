@@ -21,23 +21,11 @@ abbrev μ-loop : tie.MeasureT-loop
 loop-holds : tie.Need-loop-holds Inv-loop μ-loop
 loop-holds c = refl
 
-trace-field-requires : tie.Need-trace-field-requires Inv-loop μ-loop
-trace-field-requires c κs = search needs
-
 enum-told : tie.Need-enum-told Inv-loop μ-loop
 enum-told c = search needs
 
 returns : tie.Need-returns Inv-loop μ-loop
 returns c = column-stop _ _ _ _ _ _ (c .before .before .before .loop-test .taken) (c .before .before .trace-field .ensures .0) (c .enum-told .given .1) ∙ c .before .before .before .before .loop .inv
-
-enum-known-after : tie.Need-enum-known-after Inv-loop μ-loop
-enum-known-after c = search needs
-
-sub-left : tie.Need-sub-left Inv-loop μ-loop
-sub-left c = omega arith
-
-loop-less : tie.Need-loop-less Inv-loop μ-loop
-loop-less c = omega arith
 
 loop-again : tie.Need-loop-again Inv-loop μ-loop
 loop-again c = column-step _ _ _ _ _ _ (c .before .before .before .before .loop-test .taken) (c .before .before .before .trace-field .ensures .0) (c .before .after .given .1) ∙ c .before .before .before .before .before .loop .inv
@@ -52,11 +40,11 @@ scan-column-spec =
     Inv-loop
     μ-loop
     loop-holds
-    trace-field-requires
+    (search needs)
     enum-told
     returns
-    enum-known-after
-    sub-left
-    loop-less
+    (search needs)
+    (omega arith)
+    (omega arith)
     loop-again
     returns-2)

@@ -7,12 +7,6 @@ use Rattle.columns_laws.proofs.Surveying.{survey-count, survey-clocks, survey-t
 use Rattle.columns.proofs.survey.survey_columns.Statement.{statement}
 use Rattle.columns.proofs.survey.survey_columns.Tie as tie
 
-trace-field-requires : tie.Need-trace-field-requires
-trace-field-requires c κs = search needs
-
-enum-known-count : tie.Need-enum-known-count
-enum-known-count c = search needs
-
 enum-told : tie.Need-enum-told
 enum-told c = search needs
 
@@ -22,47 +16,14 @@ returns c = survey-count (c .before .before .before .before .args .s .now) (λ i
 scan-clocks-requires : tie.Need-scan-clocks-requires
 scan-clocks-requires c κs = (c .before .before .before .trace-field .ensures .1 _ _ (c .before .count .given .1) .1)
 
-enum-known-transactions : tie.Need-enum-known-transactions
-enum-known-transactions c = search needs
-
-enum-told-2 : tie.Need-enum-told-2
-enum-told-2 c = search needs
-
 returns-2 : tie.Need-returns-2
 returns-2 c = survey-clocks (c .before .before .before .before .before .before .before .before .args .s .now) (λ i. omega (arith, c .before .before .before .before .before .before .before .shared-slice-known .given i)) _ _ (c .before .before .before .before .before .before .trace-field .ensures .1 _ _ (c .before .before .before .before .count .given .1) .1) (value-parsed 0 0 _ (c .before .before .before .before .before .before .trace-field .ensures .0 0 0) (c .before .before .before .before .count .given .1)) (sym (c .enum-told2 .given .1) ∙ c .before .before .scan-clocks .ensures)
-
-scan-column-requires : tie.Need-scan-column-requires
-scan-column-requires c κs = search needs
-
-enum-known-blocks : tie.Need-enum-known-blocks
-enum-known-blocks c = search needs
-
-enum-told-3 : tie.Need-enum-told-3
-enum-told-3 c = search needs
 
 returns-3 : tie.Need-returns-3
 returns-3 c = survey-transactions (c .before .before .before .before .before .before .before .before .before .before .before .before .args .s .now) (λ i. omega (arith, c .before .before .before .before .before .before .before .before .before .before .before .shared-slice-known .given i)) _ _ (c .before .before .before .before .before .before .before .before .before .before .trace-field .ensures .1 _ _ (c .before .before .before .before .before .before .before .before .count .given .1) .1) (value-parsed 0 0 _ (c .before .before .before .before .before .before .before .before .before .before .trace-field .ensures .0 0 0) (c .before .before .before .before .before .before .before .before .count .given .1)) _ _ (sym (c .before .before .before .before .transactions .given .1) ∙ c .before .before .before .before .before .before .scan-clocks .ensures) (sym (c .enum-told3 .given .1) ∙ c .before .before .scan-column .ensures)
 
-scan-column-requires-2 : tie.Need-scan-column-requires-2
-scan-column-requires-2 c κs = search needs
-
-enum-known-outcomes : tie.Need-enum-known-outcomes
-enum-known-outcomes c = search needs
-
-enum-told-4 : tie.Need-enum-told-4
-enum-told-4 c = search needs
-
 returns-4 : tie.Need-returns-4
 returns-4 c = survey-blocks (c .before .before .before .before .before .before .before .before .before .before .before .before .before .before .before .before .args .s .now) (λ i. omega (arith, c .before .before .before .before .before .before .before .before .before .before .before .before .before .before .before .shared-slice-known .given i)) _ _ (c .before .before .before .before .before .before .before .before .before .before .before .before .before .before .trace-field .ensures .1 _ _ (c .before .before .before .before .before .before .before .before .before .before .before .before .count .given .1) .1) (value-parsed 0 0 _ (c .before .before .before .before .before .before .before .before .before .before .before .before .before .before .trace-field .ensures .0 0 0) (c .before .before .before .before .before .before .before .before .before .before .before .before .count .given .1)) _ _ (sym (c .before .before .before .before .before .before .before .before .transactions .given .1) ∙ c .before .before .before .before .before .before .before .before .before .before .scan-clocks .ensures) _ (sym (c .before .before .before .before .blocks2 .given .1) ∙ c .before .before .before .before .before .before .scan-column .ensures) (sym (c .enum-told4 .given .1) ∙ c .before .before .scan-column2 .ensures)
-
-scan-column-requires-3 : tie.Need-scan-column-requires-3
-scan-column-requires-3 c κs = search needs
-
-enum-known-end : tie.Need-enum-known-end
-enum-known-end c = search needs
-
-enum-told-5 : tie.Need-enum-told-5
-enum-told-5 c = search needs
 
 returns-5 : tie.Need-returns-5
 returns-5 c = survey-outcomes (c .before .before .before .before .before .before .before .before .before .before .before .before .before .before .before .before .before .before .before .before .args .s .now) (λ i. omega (arith, c .before .before .before .before .before .before .before .before .before .before .before .before .before .before .before .before .before .before .before .shared-slice-known .given i)) _ _ (c .before .before .before .before .before .before .before .before .before .before .before .before .before .before .before .before .before .before .trace-field .ensures .1 _ _ (c .before .before .before .before .before .before .before .before .before .before .before .before .before .before .before .before .count .given .1) .1) (value-parsed 0 0 _ (c .before .before .before .before .before .before .before .before .before .before .before .before .before .before .before .before .before .before .trace-field .ensures .0 0 0) (c .before .before .before .before .before .before .before .before .before .before .before .before .before .before .before .before .count .given .1)) _ _ (sym (c .before .before .before .before .before .before .before .before .before .before .before .before .transactions .given .1) ∙ c .before .before .before .before .before .before .before .before .before .before .before .before .before .before .scan-clocks .ensures) _ (sym (c .before .before .before .before .before .before .before .before .blocks2 .given .1) ∙ c .before .before .before .before .before .before .before .before .before .before .scan-column .ensures) _ (sym (c .before .before .before .before .outcomes .given .1) ∙ c .before .before .before .before .before .before .scan-column2 .ensures) (sym (c .enum-told5 .given .1) ∙ c .before .before .scan-column3 .ensures)
@@ -83,25 +44,25 @@ pub survey-columns-spec : {M : Type 1} → statement M
 survey-columns-spec =
     tie.close
     (tie.spec
-    trace-field-requires
-    enum-known-count
+    (search needs)
+    (search needs)
     enum-told
     returns
     scan-clocks-requires
-    enum-known-transactions
-    enum-told-2
+    (search needs)
+    (search needs)
     returns-2
-    scan-column-requires
-    enum-known-blocks
-    enum-told-3
+    (search needs)
+    (search needs)
+    (search needs)
     returns-3
-    scan-column-requires-2
-    enum-known-outcomes
-    enum-told-4
+    (search needs)
+    (search needs)
+    (search needs)
     returns-4
-    scan-column-requires-3
-    enum-known-end
-    enum-told-5
+    (search needs)
+    (search needs)
+    (search needs)
     returns-5
     returns-6
     sub-t14

@@ -9,20 +9,11 @@ use Rattle.columns_laws.proofs.Answers.{measured-none, measured-some, measured-
 use Rattle.columns.proofs.to.to_columns.Statement.{statement}
 use Rattle.columns.proofs.to.to_columns.Tie as tie
 
-measure-requires : tie.Need-measure-requires
-measure-requires c κs = search needs
-
-enum-known-count : tie.Need-enum-known-count
-enum-known-count c = search needs
-
 enum-told : tie.Need-enum-told
 enum-told c = search needs
 
 returns : tie.Need-returns
 returns c = let a = to-51 _ _ (measured-none _ (ap totalsOf (sym (c .enum-told .given .1)) ∙ c .before .before .measure .ensures)) in (a .0, (a .1, λ n h. absurd (refused-bytes h)))
-
-number-len-requires : tie.Need-number-len-requires
-number-len-requires c κs = search needs
 
 add-transactions : tie.Need-add-transactions
 add-transactions c = omega (arith, measured-fits _ _ _ (measured-some _ _ _ (ap totalsOf (sym (c .before .before .before .count .given .1)) ∙ c .before .before .before .before .before .measure .ensures)), nine _ _ (c .before .number-len .ensures))
@@ -39,15 +30,6 @@ add-len c = omega (arith, measured-fits _ _ _ (measured-some _ _ _ (ap totalsOf 
 returns-2 : tie.Need-returns-2
 returns-2 c = let a = to-52 _ _ _ (measured-some _ _ _ (ap totalsOf (sym (c .before .before .before .before .before .before .before .count .given .1)) ∙ c .before .before .before .before .before .before .before .before .before .measure .ensures)) _ (c .before .before .before .before .before .number-len .ensures) _ (c .if1 .taken) in (a .0, (a .1, λ n h. absurd (refused-bytes h)))
 
-write-number-requires : tie.Need-write-number-requires
-write-number-requires c κs = search needs
-
-write-columns-requires : tie.Need-write-columns-requires
-write-columns-requires c κs = search needs
-
-same-length : tie.Need-same-length
-same-length c = search needs
-
 returns-3 : tie.Need-returns-3
 returns-3 c =
     let room = c .before .before .before .before .before .before .before .before .if1 .left in
@@ -58,17 +40,17 @@ pub to-columns-spec : {M : Type 1} → statement M
 to-columns-spec =
     tie.close
     (tie.spec
-    measure-requires
-    enum-known-count
+    (search needs)
+    (search needs)
     enum-told
     returns
-    number-len-requires
+    (search needs)
     add-transactions
     add-blocks
     add-outcomes
     add-len
     returns-2
-    write-number-requires
-    write-columns-requires
-    same-length
+    (search needs)
+    (search needs)
+    (search needs)
     returns-3)

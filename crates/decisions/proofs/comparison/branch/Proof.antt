@@ -5,30 +5,9 @@ use borrow.Author.Needs.{needs}
 use Rattle.decisions.proofs.comparison.branch.Statement.{statement}
 use Rattle.decisions.proofs.comparison.branch.Tie as tie
 
-holds-requires : tie.Need-holds-requires
-holds-requires c κs = search needs
-
-add-number : tie.Need-add-number
-add-number c = search needs
-
-number-requires : tie.Need-number-requires
-number-requires c κs = search needs
-
-go-to-requires : tie.Need-go-to-requires
-go-to-requires c κs = search needs
-
-same-length : tie.Need-same-length
-same-length c = search needs
-
 returns : tie.Need-returns
 unfolding branch
 returns c = rw (← c .before .before .before .before .before .before .before .holds .ensures, c .before .before .before .before .before .before .if1 .taken) (c .before .before .go-to .ensures ∙ rw (c .before .before .before .number .ensures))
-
-go-on-requires : tie.Need-go-on-requires
-go-on-requires c κs = search needs
-
-same-length-2 : tie.Need-same-length-2
-same-length-2 c = search needs
 
 returns-2 : tie.Need-returns-2
 unfolding branch
@@ -38,12 +17,12 @@ pub branch-spec : {M : Type 1} → statement M
 branch-spec =
     tie.close
     (tie.spec
-    holds-requires
-    add-number
-    number-requires
-    go-to-requires
-    same-length
+    (search needs)
+    (search needs)
+    (search needs)
+    (search needs)
+    (search needs)
     returns
-    go-on-requires
-    same-length-2
+    (search needs)
+    (search needs)
     returns-2)

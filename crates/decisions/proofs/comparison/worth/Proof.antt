@@ -6,18 +6,6 @@ use borrow.Author.Needs.{needs}
 use Rattle.decisions.proofs.comparison.worth.Statement.{statement}
 use Rattle.decisions.proofs.comparison.worth.Tie as tie
 
-parameters-of-requires : tie.Need-parameters-of-requires
-parameters-of-requires c κs = search needs
-
-add-term-at : tie.Need-add-term-at
-add-term-at c = search needs
-
-term-at-requires : tie.Need-term-at-requires
-term-at-requires c κs = search needs
-
-bits-requires : tie.Need-bits-requires
-bits-requires c κs = search needs
-
 returns : tie.Need-returns
 unfolding worthAt
 returns c = let worth = back _ (c .before .term-at .ok) ∙ c .before .term-at .ensures in c .bits .ensures ∙ rw (worth, c .before .before .before .parameters-of .ensures)
@@ -26,8 +14,8 @@ pub worth-spec : {M : Type 1} → statement M
 worth-spec =
     tie.close
     (tie.spec
-    parameters-of-requires
-    add-term-at
-    term-at-requires
-    bits-requires
+    (search needs)
+    (search needs)
+    (search needs)
+    (search needs)
     returns)

@@ -6,40 +6,13 @@ use borrow.Author.Needs.{needs}
 use Rattle.decisions.proofs.scheme.leaves.Statement.{statement}
 use Rattle.decisions.proofs.scheme.leaves.Tie as tie
 
-mul-if1 : tie.Need-mul-if1
-mul-if1 c = search needs
-
 returns : tie.Need-returns
 unfolding leavesBy leavesFrom
 returns c = rw (le-ltb _ _ (c .if1 .taken))
 
-number-requires : tie.Need-number-requires
-number-requires c κs = search needs
-
 returns-2 : tie.Need-returns-2
 unfolding leavesBy leavesFrom
 returns-2 c = rw (lt-ltb _ _ (c .before .before .before .if1 .left), ← c .before .number .ensures, ne-eqb _ 9 (c .if2 .taken))
-
-add-side : tie.Need-add-side
-add-side c = search needs
-
-side-requires : tie.Need-side-requires
-side-requires c κs = search needs
-
-add-side-2 : tie.Need-add-side-2
-add-side-2 c = search needs
-
-side-requires-2 : tie.Need-side-requires-2
-side-requires-2 c κs = search needs
-
-add-number : tie.Need-add-number
-add-number c = search needs
-
-number-requires-2 : tie.Need-number-requires-2
-number-requires-2 c κs = search needs
-
-related-requires : tie.Need-related-requires
-related-requires c κs = search needs
 
 returns-3 : tie.Need-returns-3
 unfolding leavesBy leavesFrom
@@ -49,15 +22,15 @@ pub leaves-spec : {M : Type 1} → statement M
 leaves-spec =
     tie.close
     (tie.spec
-    mul-if1
+    (search needs)
     returns
-    number-requires
+    (search needs)
     returns-2
-    add-side
-    side-requires
-    add-side-2
-    side-requires-2
-    add-number
-    number-requires-2
-    related-requires
+    (search needs)
+    (search needs)
+    (search needs)
+    (search needs)
+    (search needs)
+    (search needs)
+    (search needs)
     returns-3)

@@ -30,45 +30,9 @@ returns c = rw (ne-eqb _ 0 (c .if1 .taken))
 loop-holds : tie.Need-loop-holds Inv-loop μ-loop
 loop-holds c = (refl, (omega arith, (refl, (omega arith, (for-all-past (omega arith), for-all-past (omega arith))))))
 
-load-requires : tie.Need-load-requires Inv-loop μ-loop
-load-requires c κs = search needs
-
-same-length : tie.Need-same-length Inv-loop μ-loop
-same-length c = omega arith
-
 returns-2 : tie.Need-returns-2 Inv-loop μ-loop
 unfolding wsScheme
 returns-2 c = rw (eq-eqb _ 0 (c .before .before .before .before .before .if1 .left)) (sym (wakeAll-stop _ _ _ _ _ (omega arith)) ∙ c .before .before .before .before .loop .inv .0)
-
-block-of-requires : tie.Need-block-of-requires Inv-loop μ-loop
-block-of-requires c κs = search needs
-
-add-shared : tie.Need-add-shared Inv-loop μ-loop
-add-shared c = omega arith
-
-add-shared-2 : tie.Need-add-shared-2 Inv-loop μ-loop
-add-shared-2 c = omega arith
-
-shared-requires : tie.Need-shared-requires Inv-loop μ-loop
-shared-requires c κs = search needs
-
-add-shared-3 : tie.Need-add-shared-3 Inv-loop μ-loop
-add-shared-3 c = omega arith
-
-add-shared-4 : tie.Need-add-shared-4 Inv-loop μ-loop
-add-shared-4 c = omega arith
-
-shared-requires-2 : tie.Need-shared-requires-2 Inv-loop μ-loop
-shared-requires-2 c κs = search needs
-
-step-requires : tie.Need-step-requires Inv-loop μ-loop
-step-requires c κs = search needs
-
-add-i : tie.Need-add-i Inv-loop μ-loop
-add-i c = omega arith
-
-loop-less : tie.Need-loop-less Inv-loop μ-loop
-loop-less c = omega arith
 
 loop-again : tie.Need-loop-again Inv-loop μ-loop
 loop-again c =
@@ -78,9 +42,6 @@ loop-again c =
           (sym (wakeAll-next _ _ _ _ _ _ (omega arith) (omega arith)) ∙ c .before .before .before .before .before .before .before .before .before .before .before .before .loop .inv .0),
       (omega arith, (omega (arith, c .before .before .step .kept), (c .before .before .before .before .before .before .block-of .ensures .1, (left, right)))),
     )
-
-same-length-2 : tie.Need-same-length-2 Inv-loop μ-loop
-same-length-2 c = omega arith
 
 returns-3 : tie.Need-returns-3 Inv-loop μ-loop
 unfolding wsScheme
@@ -94,19 +55,19 @@ ws-spec =
     μ-loop
     returns
     loop-holds
-    load-requires
-    same-length
+    (search needs)
+    (omega arith)
     returns-2
-    block-of-requires
-    add-shared
-    add-shared-2
-    shared-requires
-    add-shared-3
-    add-shared-4
-    shared-requires-2
-    step-requires
-    add-i
-    loop-less
+    (search needs)
+    (omega arith)
+    (omega arith)
+    (search needs)
+    (omega arith)
+    (omega arith)
+    (search needs)
+    (search needs)
+    (omega arith)
+    (omega arith)
     loop-again
-    same-length-2
+    (omega arith)
     returns-3)

@@ -9,9 +9,6 @@ returns : tie.Need-returns
 unfolding namesOwn
 returns c = rw (le-ltb _ 2890 (c .if1 .taken))
 
-number-requires : tie.Need-number-requires
-number-requires c κs = search needs
-
 returns-2 : tie.Need-returns-2
 unfolding namesOwn
 returns-2 c = rw (lt-ltb _ 2890 (c .before .before .before .if1 .left), ← c .before .number .ensures, eq-eqb _ 2 (c .if2 .taken))
@@ -19,21 +16,6 @@ returns-2 c = rw (lt-ltb _ 2890 (c .before .before .before .if1 .left), ← c .b
 returns-3 : tie.Need-returns-3
 unfolding namesOwn
 returns-3 c = rw (lt-ltb _ 2890 (c .before .before .before .before .if1 .left), ← c .before .before .number .ensures, ne-eqb _ 2 (c .before .if2 .left), lt-ltb _ 9 (c .if3 .taken))
-
-add-number : tie.Need-add-number
-add-number c = search needs
-
-number-requires-2 : tie.Need-number-requires-2
-number-requires-2 c κs = search needs
-
-cast-k : tie.Need-cast-k
-cast-k c = search needs
-
-add-number-2 : tie.Need-add-number-2
-add-number-2 c = search needs
-
-number-requires-3 : tie.Need-number-requires-3
-number-requires-3 c κs = search needs
 
 returns-4 : tie.Need-returns-4
 unfolding namesOwn
@@ -44,12 +26,12 @@ names-own-spec =
     tie.close
     (tie.spec
     returns
-    number-requires
+    (search needs)
     returns-2
     returns-3
-    add-number
-    number-requires-2
-    cast-k
-    add-number-2
-    number-requires-3
+    (search needs)
+    (search needs)
+    (search needs)
+    (search needs)
+    (search needs)
     returns-4)

@@ -7,29 +7,8 @@ use borrow.Author.Needs.{needs}
 use Rattle.decisions.proofs.sides.own.Statement.{statement}
 use Rattle.decisions.proofs.sides.own.Tie as tie
 
-number-requires : tie.Need-number-requires
-number-requires c κs = search needs
-
-add-number : tie.Need-add-number
-add-number c = search needs
-
-number-requires-2 : tie.Need-number-requires-2
-number-requires-2 c κs = search needs
-
-parameter-requires : tie.Need-parameter-requires
-parameter-requires c κs = search needs
-
-signed-requires : tie.Need-signed-requires
-signed-requires c κs = search needs
-
 returns : tie.Need-returns
 returns c = back _ (c .signed .ok) ∙ c .signed .ensures ∙ ap signed (c .before .parameter .ensures) ∙ rw (c .before .before .number2 .ensures) (sym (parameter-term _ _ _ _ _ _ (sym (c .before .before .before .before .before .number .ensures) ∙ c .before .before .before .before .if1 .taken)))
-
-parameters-of-requires : tie.Need-parameters-of-requires
-parameters-of-requires c κs = search needs
-
-term-at-requires : tie.Need-term-at-requires
-term-at-requires c κs = search needs
 
 returns-2 : tie.Need-returns-2
 returns-2 c = back _ (c .term-at .ok) ∙ c .term-at .ensures ∙ rw (c .before .before .parameters-of .ensures)
@@ -38,12 +17,12 @@ pub own-spec : {M : Type 1} → statement M
 own-spec =
     tie.close
     (tie.spec
-    number-requires
-    add-number
-    number-requires-2
-    parameter-requires
-    signed-requires
+    (search needs)
+    (search needs)
+    (search needs)
+    (search needs)
+    (search needs)
     returns
-    parameters-of-requires
-    term-at-requires
+    (search needs)
+    (search needs)
     returns-2)

@@ -24,9 +24,6 @@ abbrev μ-loop : tie.MeasureT-loop
 loop-holds : tie.Need-loop-holds Inv-loop μ-loop
 loop-holds c = (refl, refl, refl)
 
-end-before-requires : tie.Need-end-before-requires Inv-loop μ-loop
-end-before-requires c κs = search needs
-
 same-length : tie.Need-same-length Inv-loop μ-loop
 same-length c = c .before .before .before .before .loop .inv .1
 
@@ -38,15 +35,6 @@ returns c =
     let at = c .before .before .before .before .loop in
     let told = c .before .end-before .ensures ∙ ap (endRows (at .work) (at .y) (c .before .before .before .before .before .before .before .before .args .budget)) (at .inv .2) in
     sym (turns-off _ _ _ _ _ _ _ _ _ (at .left) _ (omega arith) told (c .if1 .taken)) ∙ at .inv .0
-
-turn-requires : tie.Need-turn-requires Inv-loop μ-loop
-turn-requires c κs = search needs
-
-sub-left : tie.Need-sub-left Inv-loop μ-loop
-sub-left c = omega arith
-
-loop-less : tie.Need-loop-less Inv-loop μ-loop
-loop-less c = omega arith
 
 loop-again : tie.Need-loop-again Inv-loop μ-loop
 loop-again c =
@@ -76,13 +64,13 @@ turns-spec =
     Inv-loop
     μ-loop
     loop-holds
-    end-before-requires
+    (search needs)
     same-length
     same-length-2
     returns
-    turn-requires
-    sub-left
-    loop-less
+    (search needs)
+    (omega arith)
+    (omega arith)
     loop-again
     same-length-3
     same-length-4

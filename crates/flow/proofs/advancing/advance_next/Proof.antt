@@ -5,30 +5,9 @@ use borrow.Author.Needs.{needs}
 use Rattle.flow.proofs.advancing.advance_next.Statement.{statement}
 use Rattle.flow.proofs.advancing.advance_next.Tie as tie
 
-next-sample-requires : tie.Need-next-sample-requires
-next-sample-requires c κs = search needs
-
-ask-time-requires : tie.Need-ask-time-requires
-ask-time-requires c κs = search needs
-
-stop-requires : tie.Need-stop-requires
-stop-requires c κs = search needs
-
-same-length : tie.Need-same-length
-same-length c = search needs
-
 returns : tie.Need-returns
 unfolding advanceNext advanceWith
 returns c = rw (← c .before .before .before .next-sample .ensures, ← c .before .before .ask-time .ensures, ne-eqb _ 0 (c .before .if1 .taken), c .stop .ensures)
-
-delay-requires : tie.Need-delay-requires
-delay-requires c κs = search needs
-
-same-length-2 : tie.Need-same-length-2
-same-length-2 c = search needs
-
-same-length-3 : tie.Need-same-length-3
-same-length-3 c = search needs
 
 returns-2 : tie.Need-returns-2
 unfolding advanceNext advanceWith
@@ -38,12 +17,12 @@ pub advance-next-spec : {M : Type 1} → statement M
 advance-next-spec =
     tie.close
     (tie.spec
-    next-sample-requires
-    ask-time-requires
-    stop-requires
-    same-length
+    (search needs)
+    (search needs)
+    (search needs)
+    (search needs)
     returns
-    delay-requires
-    same-length-2
-    same-length-3
+    (search needs)
+    (search needs)
+    (search needs)
     returns-2)

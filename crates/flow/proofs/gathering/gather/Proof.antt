@@ -6,27 +6,9 @@ use borrow.Author.Needs.{needs}
 use Rattle.flow.proofs.gathering.gather.Statement.{statement}
 use Rattle.flow.proofs.gathering.gather.Tie as tie
 
-load-requires : tie.Need-load-requires
-load-requires c κs = search needs
-
-later-requires : tie.Need-later-requires
-later-requires c κs = search needs
-
-same-length : tie.Need-same-length
-same-length c = search needs
-
-same-length-2 : tie.Need-same-length-2
-same-length-2 c = search needs
-
 returns : tie.Need-returns
 unfolding gatherRows
 returns c = rw (← c .before .before .before .before .before .before .before .before .load .ensures, lt-ltb _ 1024 (c .before .before .before .before .before .before .before .if1 .taken)) (c .before .before .before .before .later .ensures)
-
-gather-on-requires : tie.Need-gather-on-requires
-gather-on-requires c κs = search needs
-
-same-length-3 : tie.Need-same-length-3
-same-length-3 c = search needs
 
 returns-2 : tie.Need-returns-2
 unfolding gatherRows moved
@@ -36,11 +18,11 @@ pub gather-spec : {M : Type 1} → statement M
 gather-spec =
     tie.close
     (tie.spec
-    load-requires
-    later-requires
-    same-length
-    same-length-2
+    (search needs)
+    (search needs)
+    (search needs)
+    (search needs)
     returns
-    gather-on-requires
-    same-length-3
+    (search needs)
+    (search needs)
     returns-2)

@@ -29,27 +29,6 @@ loop-holds : tie.Need-loop-holds Inv-loop μ-loop
 unfolding heldBy
 loop-holds c = (refl, (omega arith, omega arith))
 
-add-one-if : tie.Need-add-one-if Inv-loop μ-loop
-add-one-if c = omega arith
-
-mul-one-if : tie.Need-mul-one-if Inv-loop μ-loop
-mul-one-if c = omega arith
-
-shared-slice-read-one-if : tie.Need-shared-slice-read-one-if Inv-loop μ-loop
-shared-slice-read-one-if c = omega arith
-
-one-if-requires : tie.Need-one-if-requires Inv-loop μ-loop
-one-if-requires c κs = omega arith
-
-add-n : tie.Need-add-n Inv-loop μ-loop
-add-n c = omega arith
-
-add-f : tie.Need-add-f Inv-loop μ-loop
-add-f c = omega arith
-
-loop-less : tie.Need-loop-less Inv-loop μ-loop
-loop-less c = omega arith
-
 loop-again : tie.Need-loop-again Inv-loop μ-loop
 loop-again c = (held-next _ _ _ _ _ (c .before .before .before .loop .inv .0) (c .one-if .ensures .0), (omega arith, omega (arith, c .one-if .ensures .1)))
 
@@ -63,12 +42,12 @@ held-spec =
     Inv-loop
     μ-loop
     loop-holds
-    add-one-if
-    mul-one-if
-    shared-slice-read-one-if
-    one-if-requires
-    add-n
-    add-f
-    loop-less
+    (omega arith)
+    (omega arith)
+    (omega arith)
+    (omega arith)
+    (omega arith)
+    (omega arith)
+    (omega arith)
     loop-again
     returns)

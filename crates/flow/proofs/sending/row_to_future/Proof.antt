@@ -4,21 +4,6 @@ use borrow.Author.Needs.{needs}
 use Rattle.flow.proofs.sending.row_to_future.Statement.{statement}
 use Rattle.flow.proofs.sending.row_to_future.Tie as tie
 
-plus32-requires : tie.Need-plus32-requires
-plus32-requires c κs = search needs
-
-write-requires : tie.Need-write-requires
-write-requires c κs = search needs
-
-set-time-requires : tie.Need-set-time-requires
-set-time-requires c κs = search needs
-
-schedule-requires : tie.Need-schedule-requires
-schedule-requires c κs = search needs
-
-same-length : tie.Need-same-length
-same-length c = search needs
-
 returns : tie.Need-returns
 unfolding toFuture
 returns c = λ x f. rw (f, c .before .before .schedule .ensures, c .before .before .before .before .before .before .set-time .ensures, c .before .before .before .before .before .before .before .before .before .before .write .ensures, c .before .before .before .before .before .before .before .before .before .before .before .plus32 .ensures)
@@ -27,9 +12,9 @@ pub row-to-future-spec : {M : Type 1} → statement M
 row-to-future-spec =
     tie.close
     (tie.spec
-    plus32-requires
-    write-requires
-    set-time-requires
-    schedule-requires
-    same-length
+    (search needs)
+    (search needs)
+    (search needs)
+    (search needs)
+    (search needs)
     returns)

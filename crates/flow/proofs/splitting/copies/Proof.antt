@@ -18,20 +18,8 @@ abbrev μ-loop : tie.MeasureT-loop
 loop-holds : tie.Need-loop-holds Inv-loop μ-loop
 loop-holds c = (copies-begin _ _ _ _, (omega arith, (refl, refl)))
 
-copy-one-requires : tie.Need-copy-one-requires Inv-loop μ-loop
-copy-one-requires c κs = omega arith
-
-add-i : tie.Need-add-i Inv-loop μ-loop
-add-i c = omega arith
-
-loop-less : tie.Need-loop-less Inv-loop μ-loop
-loop-less c = omega arith
-
 loop-again : tie.Need-loop-again Inv-loop μ-loop
 loop-again c = (copies-again _ _ _ _ _ (c .before .before .copy-one .ensures) _ _ (c .before .before .before .before .loop-test .taken) ∙ c .before .before .before .before .before .loop .inv .0, (omega arith, (omega (arith, c .before .before .copy-one .kept), copy-moved _ _ _ _ _ (c .before .before .copy-one .ensures) ∙ c .before .before .before .before .before .loop .inv .1 .1 .1)))
-
-same-length : tie.Need-same-length Inv-loop μ-loop
-same-length c = omega arith
 
 returns : tie.Need-returns Inv-loop μ-loop
 returns c = sym (copies-end _ _ _ _ (omega arith)) ∙ c .before .loop .inv .0
@@ -43,9 +31,9 @@ copies-spec =
     Inv-loop
     μ-loop
     loop-holds
-    copy-one-requires
-    add-i
-    loop-less
+    (omega arith)
+    (omega arith)
+    (omega arith)
     loop-again
-    same-length
+    (omega arith)
     returns)

@@ -6,33 +6,9 @@ use borrow.Author.Needs.{needs}
 use Rattle.flow.proofs.splitting.split.Statement.{statement}
 use Rattle.flow.proofs.splitting.split.Tie as tie
 
-add-number : tie.Need-add-number
-add-number c = search needs
-
-number-requires : tie.Need-number-requires
-number-requires c κs = search needs
-
-ask-room-requires : tie.Need-ask-room-requires
-ask-room-requires c κs = search needs
-
-stop-requires : tie.Need-stop-requires
-stop-requires c κs = search needs
-
 returns : tie.Need-returns
 unfolding splitRows
 returns c = rw (← c .before .before .before .number .ensures, ← c .before .before .ask-room .ensures, ne-eqb _ 0 (c .before .if1 .taken), c .stop .ensures)
-
-add-number-2 : tie.Need-add-number-2
-add-number-2 c = search needs
-
-number-requires-2 : tie.Need-number-requires-2
-number-requires-2 c κs = search needs
-
-split-on-requires : tie.Need-split-on-requires
-split-on-requires c κs = search needs
-
-same-length : tie.Need-same-length
-same-length c = search needs
 
 returns-2 : tie.Need-returns-2
 unfolding splitRows moved
@@ -42,13 +18,13 @@ pub split-spec : {M : Type 1} → statement M
 split-spec =
     tie.close
     (tie.spec
-    add-number
-    number-requires
-    ask-room-requires
-    stop-requires
+    (search needs)
+    (search needs)
+    (search needs)
+    (search needs)
     returns
-    add-number-2
-    number-requires-2
-    split-on-requires
-    same-length
+    (search needs)
+    (search needs)
+    (search needs)
+    (search needs)
     returns-2)

@@ -18,32 +18,11 @@ abbrev μ-loop : tie.MeasureT-loop
 loop-holds : tie.Need-loop-holds Inv-loop μ-loop
 loop-holds c = (refl, (omega arith, (refl, omega arith)))
 
-is-due-requires : tie.Need-is-due-requires Inv-loop μ-loop
-is-due-requires c κs = omega arith
-
-same-length : tie.Need-same-length Inv-loop μ-loop
-same-length c = omega arith
-
 returns : tie.Need-returns Inv-loop μ-loop
 returns c = sym (arrive-stop _ _ _ _ (sym (c .before .is-due .ensures) ∙ not-true _ (c .if1 .taken))) ∙ c .before .before .before .before .loop .inv .0
 
-add-s : tie.Need-add-s Inv-loop μ-loop
-add-s c = omega arith
-
-arrive-first-requires : tie.Need-arrive-first-requires Inv-loop μ-loop
-arrive-first-requires c κs = omega arith
-
-add-i : tie.Need-add-i Inv-loop μ-loop
-add-i c = omega arith
-
-loop-less : tie.Need-loop-less Inv-loop μ-loop
-loop-less c = omega arith
-
 loop-again : tie.Need-loop-again Inv-loop μ-loop
 loop-again c = (rw (c .before .before .arrive-first .ensures) (sym (arrive-next _ _ _ _ _ (omega arith) (sym (c .before .before .before .before .before .is-due .ensures) ∙ not-false _ (c .before .before .before .before .if1 .left))) ∙ c .before .before .before .before .before .before .before .before .loop .inv .0), (omega arith, (omega (arith, c .before .before .arrive-first .kept), omega arith)))
-
-same-length-2 : tie.Need-same-length-2 Inv-loop μ-loop
-same-length-2 c = omega arith
 
 returns-2 : tie.Need-returns-2 Inv-loop μ-loop
 returns-2 c = sym (arrive-end _ _ _ _ (omega arith)) ∙ c .before .loop .inv .0
@@ -55,13 +34,13 @@ arrive-spec =
     Inv-loop
     μ-loop
     loop-holds
-    is-due-requires
-    same-length
+    (omega arith)
+    (omega arith)
     returns
-    add-s
-    arrive-first-requires
-    add-i
-    loop-less
+    (omega arith)
+    (omega arith)
+    (omega arith)
+    (omega arith)
     loop-again
-    same-length-2
+    (omega arith)
     returns-2)

@@ -16,23 +16,8 @@ abbrev μ-loop : tie.MeasureT-loop
 loop-holds : tie.Need-loop-holds Inv-loop μ-loop
 loop-holds c = (refl, omega arith)
 
-load-requires : tie.Need-load-requires Inv-loop μ-loop
-load-requires c κs = omega arith
-
 returns : tie.Need-returns Inv-loop μ-loop
 returns c = sym (lastCell-stop _ _ _ _ _ (omega (arith, c .before .load .ensures, c .if1 .taken))) ∙ c .before .before .before .loop .inv .0
-
-found-at-requires : tie.Need-found-at-requires Inv-loop μ-loop
-found-at-requires c κs = omega arith
-
-add-c : tie.Need-add-c Inv-loop μ-loop
-add-c c = omega arith
-
-add-i : tie.Need-add-i Inv-loop μ-loop
-add-i c = omega arith
-
-loop-less : tie.Need-loop-less Inv-loop μ-loop
-loop-less c = omega arith
 
 loop-again : tie.Need-loop-again Inv-loop μ-loop
 loop-again c = (
@@ -51,11 +36,11 @@ last-cell-spec =
     Inv-loop
     μ-loop
     loop-holds
-    load-requires
+    (omega arith)
     returns
-    found-at-requires
-    add-c
-    add-i
-    loop-less
+    (omega arith)
+    (omega arith)
+    (omega arith)
+    (omega arith)
     loop-again
     returns-2)

@@ -20,21 +20,9 @@ loop-holds : tie.Need-loop-holds Inv-loop μ-loop
 unfolding emptyLists
 loop-holds c = (refl, (omega arith, refl))
 
-empty-list-requires : tie.Need-empty-list-requires Inv-loop μ-loop
-empty-list-requires c κs = omega arith
-
-add-p : tie.Need-add-p Inv-loop μ-loop
-add-p c = omega arith
-
-loop-less : tie.Need-loop-less Inv-loop μ-loop
-loop-less c = omega arith
-
 loop-again : tie.Need-loop-again Inv-loop μ-loop
 unfolding emptyLists
 loop-again c = (rw (add-one (c .before .before .before .before .before .loop .p)) (c .before .before .empty-list .ensures ∙ ap (λ (v : List ℕ). emptyList v (c .before .before .before .before .before .loop .p)) (c .before .before .before .before .before .loop .inv .0)), (omega arith, omega (arith, c .before .before .empty-list .kept)))
-
-same-length : tie.Need-same-length Inv-loop μ-loop
-same-length c = omega arith
 
 returns : tie.Need-returns Inv-loop μ-loop
 returns c = c .before .loop .inv .0 ∙ ap (λ (n : ℕ). emptyLists n (c .before .before .before .args .w .now)) (omega arith)
@@ -46,9 +34,9 @@ empty-lists-spec =
     Inv-loop
     μ-loop
     loop-holds
-    empty-list-requires
-    add-p
-    loop-less
+    (omega arith)
+    (omega arith)
+    (omega arith)
     loop-again
-    same-length
+    (omega arith)
     returns)

@@ -18,21 +18,9 @@ loop-holds : tie.Need-loop-holds Inv-loop μ-loop
 unfolding freeRows
 loop-holds c = (refl, (omega arith, refl))
 
-free-row-requires : tie.Need-free-row-requires Inv-loop μ-loop
-free-row-requires c κs = omega arith
-
-add-k : tie.Need-add-k Inv-loop μ-loop
-add-k c = omega arith
-
-loop-less : tie.Need-loop-less Inv-loop μ-loop
-loop-less c = omega arith
-
 loop-again : tie.Need-loop-again Inv-loop μ-loop
 unfolding freeRows
 loop-again c = (rw (add-one (c .before .before .before .before .before .loop .k), ← c .before .before .before .before .before .loop .inv .0) (c .before .before .free-row .ensures), (omega arith, omega (arith, c .before .before .free-row .kept)))
-
-same-length : tie.Need-same-length Inv-loop μ-loop
-same-length c = omega arith
 
 returns : tie.Need-returns Inv-loop μ-loop
 returns c = c .before .loop .inv .0 ∙ ap (λ (n : ℕ). freeRows n (c .before .before .before .args .w .now)) (omega arith)
@@ -44,9 +32,9 @@ free-rows-spec =
     Inv-loop
     μ-loop
     loop-holds
-    free-row-requires
-    add-k
-    loop-less
+    (omega arith)
+    (omega arith)
+    (omega arith)
     loop-again
-    same-length
+    (omega arith)
     returns)

@@ -21,24 +21,9 @@ loop-holds : tie.Need-loop-holds Inv-loop μ-loop
 unfolding looseRows
 loop-holds c = (refl, (omega arith, refl))
 
-add-set : tie.Need-add-set Inv-loop μ-loop
-add-set c = omega arith
-
-set-requires : tie.Need-set-requires Inv-loop μ-loop
-set-requires c κs = omega arith
-
-add-k : tie.Need-add-k Inv-loop μ-loop
-add-k c = omega arith
-
-loop-less : tie.Need-loop-less Inv-loop μ-loop
-loop-less c = omega arith
-
 loop-again : tie.Need-loop-again Inv-loop μ-loop
 unfolding looseRows
 loop-again c = (rw (add-one (c .before .before .before .before .before .loop .k)) (c .before .before .set .ensures ∙ ap (λ (v : List ℕ). store v (place (c .before .before .before .before .before .loop .k)) nowhere) (c .before .before .before .before .before .loop .inv .0)), (omega arith, omega (arith, c .before .before .set .kept)))
-
-same-length : tie.Need-same-length Inv-loop μ-loop
-same-length c = omega arith
 
 returns : tie.Need-returns Inv-loop μ-loop
 returns c = c .before .loop .inv .0 ∙ ap (λ (n : ℕ). looseRows n (c .before .before .before .args .w .now)) (omega arith)
@@ -50,10 +35,10 @@ loose-rows-spec =
     Inv-loop
     μ-loop
     loop-holds
-    add-set
-    set-requires
-    add-k
-    loop-less
+    (omega arith)
+    (omega arith)
+    (omega arith)
+    (omega arith)
     loop-again
-    same-length
+    (omega arith)
     returns)

@@ -18,35 +18,8 @@ Inv-loop fd name buffer₀ done₀ buffer done = (done ≤ length buffer) × (le
 abbrev μ-loop : tie.MeasureT-loop
 μ-loop fd name buffer₀ done₀ buffer done = length buffer₀ - done
 
-loop-holds : tie.Need-loop-holds Inv-loop μ-loop
-loop-holds c = search needs
-
-sub-read-some : tie.Need-sub-read-some Inv-loop μ-loop
-sub-read-some c = search needs
-
-part-read-some-start : tie.Need-part-read-some-start Inv-loop μ-loop
-part-read-some-start c = search needs
-
-part-read-some-end : tie.Need-part-read-some-end Inv-loop μ-loop
-part-read-some-end c = search needs
-
-read-some-requires : tie.Need-read-some-requires Inv-loop μ-loop
-read-some-requires c κs = search needs
-
-enum-told : tie.Need-enum-told Inv-loop μ-loop
-enum-told c = search needs
-
-same-length : tie.Need-same-length Inv-loop μ-loop
-same-length c = search needs
-
 returns : tie.Need-returns Inv-loop μ-loop
 returns c = failed (λ k. Counts k _)
-
-enum-known-n : tie.Need-enum-known-n Inv-loop μ-loop
-enum-known-n c = search needs
-
-same-length-2 : tie.Need-same-length-2 Inv-loop μ-loop
-same-length-2 c = search needs
 
 returns-2 : tie.Need-returns-2 Inv-loop μ-loop
 returns-2 c = λ n. counted (λ k. Counts k _) _ n (omega arith, sym (length-take-le _ _ (omega arith)))
@@ -62,9 +35,6 @@ loop-again : tie.Need-loop-again Inv-loop μ-loop
 loop-again c = let count = c .before .before .before .before .before .before .read-some .ensures _ (c .before .before .n .given .1) in
     (omega (arith, simp (length-take, length-drop) at count), omega arith)
 
-same-length-3 : tie.Need-same-length-3 Inv-loop μ-loop
-same-length-3 c = search needs
-
 returns-3 : tie.Need-returns-3 Inv-loop μ-loop
 returns-3 c = λ n. counted (λ k. Counts k _) _ n (c .before .loop .inv .0, sym (length-take-le _ _ (c .before .loop .inv .0)))
 
@@ -74,19 +44,19 @@ read-all-spec =
     (tie.spec
     Inv-loop
     μ-loop
-    loop-holds
-    sub-read-some
-    part-read-some-start
-    part-read-some-end
-    read-some-requires
-    enum-told
-    same-length
+    (search needs)
+    (search needs)
+    (search needs)
+    (search needs)
+    (search needs)
+    (search needs)
+    (search needs)
     returns
-    enum-known-n
-    same-length-2
+    (search needs)
+    (search needs)
     returns-2
     add-done
     loop-less
     loop-again
-    same-length-3
+    (search needs)
     returns-3)

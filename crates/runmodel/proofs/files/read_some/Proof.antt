@@ -7,23 +7,8 @@ use Rattle.runmodel.proofs.Reading.{failed, counted}
 use Rattle.runmodel.proofs.files.read_some.Statement.{statement}
 use Rattle.runmodel.proofs.files.read_some.Tie as tie
 
-read-requires : tie.Need-read-requires
-read-requires c κs = search needs
-
-fail-requires : tie.Need-fail-requires
-fail-requires c κs = search needs
-
-same-length : tie.Need-same-length
-same-length c = search needs
-
 returns : tie.Need-returns
 returns c = failed (λ k. k ≤ length (c .before .before .before .before .before .before .before .before .args .rest .now))
-
-count-requires : tie.Need-count-requires
-count-requires c κs = search needs
-
-same-length-2 : tie.Need-same-length-2
-same-length-2 c = search needs
 
 returns-2 : tie.Need-returns-2
 returns-2 c = λ n. counted (λ k. k ≤ length (c .before .before .before .before .before .before .before .before .before .args .rest .now)) _ n (omega (arith, c .count .ensures .0 .0, c .before .before .before .before .before .read .kept .1 .0))
@@ -32,10 +17,10 @@ pub read-some-spec : {M : Type 1} → statement M
 read-some-spec =
     tie.close
     (tie.spec
-    read-requires
-    fail-requires
-    same-length
+    (search needs)
+    (search needs)
+    (search needs)
     returns
-    count-requires
-    same-length-2
+    (search needs)
+    (search needs)
     returns-2)

@@ -14,21 +14,6 @@ Inv-loop report at letters things count numbers₀ next₀ k₀ numbers next k =
 abbrev μ-loop : tie.MeasureT-loop
 μ-loop report at letters things count numbers₀ next₀ k₀ numbers next k = things - k
 
-loop-holds : tie.Need-loop-holds Inv-loop μ-loop
-loop-holds c = search needs
-
-add-k : tie.Need-add-k Inv-loop μ-loop
-add-k c = search needs
-
-array-write-numbers : tie.Need-array-write-numbers Inv-loop μ-loop
-array-write-numbers c = search needs
-
-read-fields-requires : tie.Need-read-fields-requires Inv-loop μ-loop
-read-fields-requires c κs = search needs
-
-add-numbers : tie.Need-add-numbers Inv-loop μ-loop
-add-numbers c = search needs
-
 array-share-prefix-numbers : tie.Need-array-share-prefix-numbers Inv-loop μ-loop
 array-share-prefix-numbers c = omega (arith, simp (length-sets, length-set) at (ap length (c .read-fields .ensures .1)))
 
@@ -38,17 +23,8 @@ slice-aggregate-print-line c = sym (length-take-le _ _ (omega (arith, simp (leng
 print-line-requires : tie.Need-print-line-requires Inv-loop μ-loop
 print-line-requires c κs = simp length-take (omega (arith, simp (length-sets, length-set) at (ap length (c .before .read-fields .ensures .1))))
 
-returns : tie.Need-returns Inv-loop μ-loop
-returns c = search needs
-
-loop-less : tie.Need-loop-less Inv-loop μ-loop
-loop-less c = search needs
-
 loop-again : tie.Need-loop-again Inv-loop μ-loop
 loop-again c = (omega arith, omega (arith, simp (length-sets, length-set) at (ap length (c .before .before .before .read-fields .ensures .1))))
-
-returns-2 : tie.Need-returns-2 Inv-loop μ-loop
-returns-2 c = search needs
 
 pub print-all-spec : {M : Type 1} → statement M
 print-all-spec =
@@ -56,15 +32,15 @@ print-all-spec =
     (tie.spec
     Inv-loop
     μ-loop
-    loop-holds
-    add-k
-    array-write-numbers
-    read-fields-requires
-    add-numbers
+    (search needs)
+    (search needs)
+    (search needs)
+    (search needs)
+    (search needs)
     array-share-prefix-numbers
     slice-aggregate-print-line
     print-line-requires
-    returns
-    loop-less
+    (search needs)
+    (search needs)
     loop-again
-    returns-2)
+    (search needs))

@@ -4,9 +4,6 @@ use Rattle.runmodel.proofs.Stored.{line-part}
 use Rattle.runmodel.proofs.printing.print_line.Statement.{statement}
 use Rattle.runmodel.proofs.printing.print_line.Tie as tie
 
-line-requires : tie.Need-line-requires
-line-requires c κs = search needs
-
 array-share-prefix-out : tie.Need-array-share-prefix-out
 array-share-prefix-out c = let a = c .before .before .before .before .args in
     line-part (a .letters .now) (a .numbers .now) _ _ (c .line .ensures .1 .1) (c .line .ensures .0) .0
@@ -15,18 +12,12 @@ slice-aggregate-write-all : tie.Need-slice-aggregate-write-all
 slice-aggregate-write-all c = let a = c .before .before .before .before .before .args in
     line-part (a .letters .now) (a .numbers .now) _ _ (c .before .line .ensures .1 .1) (c .before .line .ensures .0) .1
 
-write-all-requires : tie.Need-write-all-requires
-write-all-requires c κs = search needs
-
-returns : tie.Need-returns
-returns c = search needs
-
 pub print-line-spec : {M : Type 1} → statement M
 print-line-spec =
     tie.close
     (tie.spec
-    line-requires
+    (search needs)
     array-share-prefix-out
     slice-aggregate-write-all
-    write-all-requires
-    returns)
+    (search needs)
+    (search needs))

@@ -17,35 +17,20 @@ abbrev μ-loop : tie.MeasureT-loop
 loop-holds : tie.Need-loop-holds Inv-loop μ-loop
 loop-holds c = (omega arith, omega arith, refl)
 
-mul-next : tie.Need-mul-next Inv-loop μ-loop
-mul-next c = omega arith
-
 add-next : tie.Need-add-next Inv-loop μ-loop
 add-next c = omega (arith, c .before .before .before .pre)
 
 number-requires : tie.Need-number-requires Inv-loop μ-loop
 number-requires c κs = tt
 
-add-number : tie.Need-add-number Inv-loop μ-loop
-add-number c = omega arith
-
 number-requires-2 : tie.Need-number-requires-2 Inv-loop μ-loop
 number-requires-2 c κs = tt
-
-cast-result : tie.Need-cast-result Inv-loop μ-loop
-cast-result c = omega arith
 
 returns : tie.Need-returns Inv-loop μ-loop
 returns c = rw (c .number2 .ensures) (look-found _ _ _ (c .before .before .before .loop-test .taken) (sym (c .before .before .number .ensures) ∙ c .before .if1 .taken) ∙ c .before .before .before .before .loop .inv .2)
 
 returns-2 : tie.Need-returns-2 Inv-loop μ-loop
 returns-2 c = look-other _ _ _ _ (c .before .before .before .loop-test .taken) (c .before .before .number .ensures) (c .before .if1 .left) (c .if2 .taken) ∙ c .before .before .before .before .loop .inv .2
-
-add-c : tie.Need-add-c Inv-loop μ-loop
-add-c c = omega arith
-
-loop-less : tie.Need-loop-less Inv-loop μ-loop
-loop-less c = omega arith
 
 loop-again : tie.Need-loop-again Inv-loop μ-loop
 loop-again c = (omega arith, omega arith, look-next _ _ _ (c .before .before .before .loop-test .taken) (sym (c .before .before .number .ensures) ∙ c .if2 .left) ∙ c .before .before .before .before .loop .inv .2)
@@ -60,15 +45,15 @@ begins-group-spec =
     Inv-loop
     μ-loop
     loop-holds
-    mul-next
+    (omega arith)
     add-next
     number-requires
-    add-number
+    (omega arith)
     number-requires-2
-    cast-result
+    (omega arith)
     returns
     returns-2
-    add-c
-    loop-less
+    (omega arith)
+    (omega arith)
     loop-again
     returns-3)

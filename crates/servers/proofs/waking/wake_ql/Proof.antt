@@ -21,44 +21,14 @@ Inv-loop tables w₀ v edition all c₀ left₀ stay₀ i₀ w c left stay i =
 abbrev μ-loop : tie.MeasureT-loop
 μ-loop tables w₀ v edition all c₀ left₀ stay₀ i₀ w c left stay i = steps - i
 
-add-c : tie.Need-add-c Inv-loop μ-loop
-add-c c = omega arith
-
 loop-holds : tie.Need-loop-holds Inv-loop μ-loop
 loop-holds c = (refl, (omega arith, (omega arith, (refl, omega arith))))
-
-load-requires : tie.Need-load-requires Inv-loop μ-loop
-load-requires c κs = omega arith
-
-same-length : tie.Need-same-length Inv-loop μ-loop
-same-length c = omega arith
 
 returns : tie.Need-returns Inv-loop μ-loop
 returns c = (
   stop-rows _ _ _ _ _ _ _ _ (c .before .load .ensures) (c .if1 .taken) _ (c .before .before .before .before .loop .inv .0),
   stop-stays _ _ _ _ _ _ _ _ (c .before .load .ensures) (c .if1 .taken) _ _ (c .before .before .before .before .loop .inv .1 .0),
 )
-
-member-units-requires : tie.Need-member-units-requires Inv-loop μ-loop
-member-units-requires c κs = omega arith
-
-one-unless-requires : tie.Need-one-unless-requires Inv-loop μ-loop
-one-unless-requires c κs = omega arith
-
-add-stay : tie.Need-add-stay Inv-loop μ-loop
-add-stay c = omega arith
-
-left-behind-requires : tie.Need-left-behind-requires Inv-loop μ-loop
-left-behind-requires c κs = omega arith
-
-pass-requires : tie.Need-pass-requires Inv-loop μ-loop
-pass-requires c κs = omega arith
-
-add-i : tie.Need-add-i Inv-loop μ-loop
-add-i c = omega arith
-
-loop-less : tie.Need-loop-less Inv-loop μ-loop
-loop-less c = omega arith
 
 loop-again : tie.Need-loop-again Inv-loop μ-loop
 loop-again c = (
@@ -68,9 +38,6 @@ loop-again c = (
     (omega arith, (omega (arith, c .before .before .before .pass .kept), omega arith)),
   ),
 )
-
-same-length-2 : tie.Need-same-length-2 Inv-loop μ-loop
-same-length-2 c = omega arith
 
 returns-2 : tie.Need-returns-2 Inv-loop μ-loop
 returns-2 c = (
@@ -84,18 +51,18 @@ wake-ql-spec =
     (tie.spec
     Inv-loop
     μ-loop
-    add-c
+    (omega arith)
     loop-holds
-    load-requires
-    same-length
+    (omega arith)
+    (omega arith)
     returns
-    member-units-requires
-    one-unless-requires
-    add-stay
-    pass-requires
-    left-behind-requires
-    add-i
-    loop-less
+    (omega arith)
+    (omega arith)
+    (omega arith)
+    (omega arith)
+    (omega arith)
+    (omega arith)
+    (omega arith)
     loop-again
-    same-length-2
+    (omega arith)
     returns-2)

@@ -6,24 +6,6 @@ use Rattle.terms.proofs.Signs.{back}
 use Rattle.terms.proofs.evaluate.compare_at.Statement.{statement}
 use Rattle.terms.proofs.evaluate.compare_at.Tie as tie
 
-term-at-requires : tie.Need-term-at-requires
-term-at-requires c κs = search needs
-
-add-term-at : tie.Need-add-term-at
-add-term-at c = search needs
-
-term-at-requires-2 : tie.Need-term-at-requires-2
-term-at-requires-2 c κs = search needs
-
-add-number : tie.Need-add-number
-add-number c = search needs
-
-number-requires : tie.Need-number-requires
-number-requires c κs = search needs
-
-related-requires : tie.Need-related-requires
-related-requires c κs = search needs
-
 returns : tie.Need-returns
 unfolding compareAt
 returns c =
@@ -35,10 +17,10 @@ pub compare-at-spec : {M : Type 1} → statement M
 compare-at-spec =
     tie.close
     (tie.spec
-    term-at-requires
-    add-term-at
-    term-at-requires-2
-    add-number
-    number-requires
-    related-requires
+    (search needs)
+    (search needs)
+    (search needs)
+    (search needs)
+    (search needs)
+    (search needs)
     returns)

@@ -8,48 +8,6 @@ use Rattle.terms.proofs.Signs.{back}
 use Rattle.terms.proofs.simple.simple_term.Statement.{statement}
 use Rattle.terms.proofs.simple.simple_term.Tie as tie
 
-small-requires : tie.Need-small-requires
-small-requires c κs = search needs
-
-minus-requires : tie.Need-minus-requires
-minus-requires c κs = search needs
-
-number-requires : tie.Need-number-requires
-number-requires c κs = search needs
-
-signed-requires : tie.Need-signed-requires
-signed-requires c κs = search needs
-
-low-signed-requires : tie.Need-low-signed-requires
-low-signed-requires c κs = search needs
-
-tallied-requires : tie.Need-tallied-requires
-tallied-requires c κs = search needs
-
-small-requires-2 : tie.Need-small-requires-2
-small-requires-2 c κs = search needs
-
-tallied-requires-2 : tie.Need-tallied-requires-2
-tallied-requires-2 c κs = search needs
-
-small-requires-3 : tie.Need-small-requires-3
-small-requires-3 c κs = search needs
-
-tallied-requires-3 : tie.Need-tallied-requires-3
-tallied-requires-3 c κs = search needs
-
-small-requires-4 : tie.Need-small-requires-4
-small-requires-4 c κs = search needs
-
-free-requires : tie.Need-free-requires
-free-requires c κs = search needs
-
-small-requires-5 : tie.Need-small-requires-5
-small-requires-5 c κs = search needs
-
-in-use-requires : tie.Need-in-use-requires
-in-use-requires c κs = search needs
-
 returns : tie.Need-returns
 unfolding simpleTerm
 returns c = rw (c .before .match .keys1) (back _ (c .small .ok) ∙ c .small .ensures)
@@ -102,20 +60,20 @@ pub simple-term-spec : {M : Type 1} → statement M
 simple-term-spec =
     tie.close
     (tie.spec
-    small-requires
-    minus-requires
-    number-requires
-    signed-requires
-    low-signed-requires
-    tallied-requires
-    small-requires-2
-    tallied-requires-2
-    small-requires-3
-    tallied-requires-3
-    small-requires-4
-    free-requires
-    small-requires-5
-    in-use-requires
+    (search needs)
+    (search needs)
+    (search needs)
+    (search needs)
+    (search needs)
+    (search needs)
+    (search needs)
+    (search needs)
+    (search needs)
+    (search needs)
+    (search needs)
+    (search needs)
+    (search needs)
+    (search needs)
     returns
     returns-2
     returns-3

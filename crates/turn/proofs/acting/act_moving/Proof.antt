@@ -10,21 +10,6 @@ returns : tie.Need-returns
 unfolding actMoving
 returns c = rw (le-ltb _ 1024 (c .if1 .taken))
 
-read-requires : tie.Need-read-requires
-read-requires c κs = search needs
-
-read-requires-2 : tie.Need-read-requires-2
-read-requires-2 c κs = search needs
-
-act-requires : tie.Need-act-requires
-act-requires c κs = search needs
-
-same-length : tie.Need-same-length
-same-length c = search needs
-
-same-length-2 : tie.Need-same-length-2
-same-length-2 c = search needs
-
 returns-2 : tie.Need-returns-2
 unfolding actMoving
 returns-2 c = rw (lt-ltb _ 1024 (c .before .before .before .before .before .before .before .before .before .before .before .before .if1 .left)) (c .before .before .before .before .act .ensures ∙ rw (c .before .before .before .before .before .before .before .before .before .before .read .ensures, c .before .before .before .before .before .before .before .before .read2 .ensures))
@@ -34,9 +19,9 @@ act-moving-spec =
     tie.close
     (tie.spec
     returns
-    read-requires
-    read-requires-2
-    act-requires
-    same-length
-    same-length-2
+    (search needs)
+    (search needs)
+    (search needs)
+    (search needs)
+    (search needs)
     returns-2)

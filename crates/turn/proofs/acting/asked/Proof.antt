@@ -6,9 +6,6 @@ use borrow.Author.Needs.{needs}
 use Rattle.turn.proofs.acting.asked.Statement.{statement}
 use Rattle.turn.proofs.acting.asked.Tie as tie
 
-clock-asked-requires : tie.Need-clock-asked-requires
-clock-asked-requires c κs = search needs
-
 returns : tie.Need-returns
 unfolding asks
 returns c = rw (← c .before .clock-asked .ensures, c .if1 .taken)
@@ -17,24 +14,9 @@ returns-2 : tie.Need-returns-2
 unfolding asks
 returns-2 c = rw (← c .before .before .clock-asked .ensures, c .before .if1 .left, le-ltb _ 1024 (c .if2 .taken))
 
-read-requires : tie.Need-read-requires
-read-requires c κs = search needs
-
-less32-requires : tie.Need-less32-requires
-less32-requires c κs = search needs
-
-cast-b : tie.Need-cast-b
-cast-b c = search needs
-
 returns-3 : tie.Need-returns-3
 unfolding asks
 returns-3 c = rw (← c .before .before .before .before .before .clock-asked .ensures, c .before .before .before .before .if1 .left, lt-ltb _ 1024 (c .before .before .before .if2 .left), ← c .before .before .read .ensures, ← c .before .less32 .ensures, le-ltb _ 256 (c .if3 .taken))
-
-add-number : tie.Need-add-number
-add-number c = search needs
-
-number-requires : tie.Need-number-requires
-number-requires c κs = search needs
 
 returns-4 : tie.Need-returns-4
 unfolding asks
@@ -44,13 +26,13 @@ pub asked-spec : {M : Type 1} → statement M
 asked-spec =
     tie.close
     (tie.spec
-    clock-asked-requires
+    (search needs)
     returns
     returns-2
-    read-requires
-    less32-requires
-    cast-b
+    (search needs)
+    (search needs)
+    (search needs)
     returns-3
-    add-number
-    number-requires
+    (search needs)
+    (search needs)
     returns-4)

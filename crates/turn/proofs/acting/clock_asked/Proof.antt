@@ -9,9 +9,6 @@ returns : tie.Need-returns
 unfolding clockAsks
 returns c = rw (eq-eqb _ _ (c .if1 .taken))
 
-number-requires : tie.Need-number-requires
-number-requires c κs = search needs
-
 returns-2 : tie.Need-returns-2
 unfolding clockAsks
 returns-2 c = rw (ne-eqb _ _ (c .before .before .if1 .left), ← c .number .ensures)
@@ -21,5 +18,5 @@ clock-asked-spec =
     tie.close
     (tie.spec
     returns
-    number-requires
+    (search needs)
     returns-2)

@@ -12,9 +12,6 @@ returns c = scheme-not _ _ _ _ _ _ _ (not-true _ (c .if1 .taken))
 ws-requires : tie.Need-ws-requires
 ws-requires c κs = (omega (arith, c .before .before .before .pre), omega (arith, c .before .before .before .pre))
 
-same-length : tie.Need-same-length
-same-length c = search needs
-
 returns-2 : tie.Need-returns-2
 returns-2 c = scheme-so _ _ _ _ _ _ _ _ (not-false _ (c .before .before .before .before .if1 .left)) (c .before .before .ws .ensures)
 
@@ -24,5 +21,5 @@ scheme-spec =
     (tie.spec
     returns
     ws-requires
-    same-length
+    (search needs)
     returns-2)

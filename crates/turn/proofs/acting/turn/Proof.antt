@@ -5,17 +5,8 @@ use borrow.Author.Needs.{needs}
 use Rattle.turn.proofs.acting.turn.Statement.{statement}
 use Rattle.turn.proofs.acting.turn.Tie as tie
 
-take-requires : tie.Need-take-requires
-take-requires c κs = search needs
-
 after-taking-requires : tie.Need-after-taking-requires
 after-taking-requires c κs = (omega (arith, c .before .before .before .before .before .before .before .before .before .before .before .pre), (omega (arith, c .before .before .before .before .before .before .before .before .before .before .before .pre), omega (arith, c .before .before .before .before .before .before .before .before .before .before .before .pre, c .before .before .before .before .before .take .kept)))
-
-same-length : tie.Need-same-length
-same-length c = search needs
-
-same-length-2 : tie.Need-same-length-2
-same-length-2 c = search needs
 
 returns : tie.Need-returns
 returns c = turned _ _ _ _ _ _ _ _ _ _ _ (c .before .before .before .before .before .before .before .before .before .before .take .ensures) (c .before .before .before .before .after-taking .ensures)
@@ -24,8 +15,8 @@ pub turn-spec : {M : Type 1} → statement M
 turn-spec =
     tie.close
     (tie.spec
-    take-requires
+    (search needs)
     after-taking-requires
-    same-length
-    same-length-2
+    (search needs)
+    (search needs)
     returns)

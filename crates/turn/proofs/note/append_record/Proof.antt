@@ -14,21 +14,6 @@ returns : tie.Need-returns
 unfolding bytes appendRecord
 returns c = sym (rw (lt-leb _ _ (c .if1 .taken)))
 
-sub-write-record : tie.Need-sub-write-record
-sub-write-record c = search needs
-
-part-write-record-start : tie.Need-part-write-record-start
-part-write-record-start c = search needs
-
-part-write-record-end : tie.Need-part-write-record-end
-part-write-record-end c = search needs
-
-write-record-requires : tie.Need-write-record-requires
-write-record-requires c κs = search needs
-
-enum-known-n : tie.Need-enum-known-n
-enum-known-n c = search needs
-
 add-result : tie.Need-add-result
 add-result c =
     let count = c .before .before .before .before .before .write-record .ensures .1 .1 _ (c .before .n .given .1) in
@@ -37,18 +22,12 @@ add-result c =
 enum-told : tie.Need-enum-told
 enum-told c = search needs
 
-same-length : tie.Need-same-length
-same-length c = search needs
-
 returns-2 : tie.Need-returns-2
 returns-2 c =
     let w = c .before .before .before .before .before .write-record in
     let start = c .before .before .before .before .before .before .before .before .before .args in
     appends (start .trace .now) (w .last .0) (start .used) (start .clock) (start .number) (start .block) (start .outcome)
     (c .before .before .before .before .before .before .before .if1 .left) _ _ _ (rest-is (start .trace .now) (start .used)) (ap (writingOf (w .last .0)) (sym (c .before .n .given .1)) ∙ w .ensures .0) (w .ensures .1 .0) (w .ensures .1 .1 _ (c .before .n .given .1) .0)
-
-same-length-2 : tie.Need-same-length-2
-same-length-2 c = search needs
 
 returns-3 : tie.Need-returns-3
 returns-3 c =
@@ -63,14 +42,14 @@ append-record-spec =
     tie.close
     (tie.spec
     returns
-    sub-write-record
-    part-write-record-start
-    part-write-record-end
-    write-record-requires
-    enum-known-n
+    (search needs)
+    (search needs)
+    (search needs)
+    (search needs)
+    (search needs)
     add-result
     enum-told
-    same-length
+    (search needs)
     returns-2
-    same-length-2
+    (search needs)
     returns-3)

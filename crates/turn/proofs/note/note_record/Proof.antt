@@ -10,18 +10,6 @@ returns : tie.Need-returns
 unfolding noteRecord
 returns c = rw (le-ltb _ 2 (c .if1 .taken))
 
-count-record-requires : tie.Need-count-record-requires
-count-record-requires c κs = search needs
-
-append-record-requires : tie.Need-append-record-requires
-append-record-requires c κs = search needs
-
-same-length : tie.Need-same-length
-same-length c = search needs
-
-same-length-2 : tie.Need-same-length-2
-same-length-2 c = search needs
-
 returns-2 : tie.Need-returns-2
 returns-2 c =
     notes _ _ _ _ _ _ _ _ (c .before .before .before .before .before .before .before .before .if1 .left) (c .before .before .before .before .before .before .count-record .ensures) (c .before .before .append-record .ensures)
@@ -31,8 +19,8 @@ note-record-spec =
     tie.close
     (tie.spec
     returns
-    count-record-requires
-    append-record-requires
-    same-length
-    same-length-2
+    (search needs)
+    (search needs)
+    (search needs)
+    (search needs)
     returns-2)

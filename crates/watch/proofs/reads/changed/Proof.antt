@@ -5,45 +5,6 @@ use borrow.Author.Needs.{needs}
 use Rattle.watch.proofs.reads.changed.Statement.{statement}
 use Rattle.watch.proofs.reads.changed.Tie as tie
 
-mul-at : tie.Need-mul-at
-mul-at c = search needs
-
-add-number : tie.Need-add-number
-add-number c = search needs
-
-number-requires : tie.Need-number-requires
-number-requires c κs = search needs
-
-cast-n : tie.Need-cast-n
-cast-n c = search needs
-
-number-requires-2 : tie.Need-number-requires-2
-number-requires-2 c κs = search needs
-
-add-result : tie.Need-add-result
-add-result c = search needs
-
-add-result-2 : tie.Need-add-result-2
-add-result-2 c = search needs
-
-add-result-3 : tie.Need-add-result-3
-add-result-3 c = search needs
-
-add-result-4 : tie.Need-add-result-4
-add-result-4 c = search needs
-
-add-result-5 : tie.Need-add-result-5
-add-result-5 c = search needs
-
-add-result-6 : tie.Need-add-result-6
-add-result-6 c = search needs
-
-add-result-7 : tie.Need-add-result-7
-add-result-7 c = search needs
-
-add-result-8 : tie.Need-add-result-8
-add-result-8 c = search needs
-
 returns : tie.Need-returns
 unfolding changedCell
 returns c = rw (← c .before .number2 .ensures, c .match .keys1, ← c .before .before .number .ensures)
@@ -84,19 +45,19 @@ pub changed-spec : {M : Type 1} → statement M
 changed-spec =
     tie.close
     (tie.spec
-    mul-at
-    add-number
-    number-requires
-    cast-n
-    number-requires-2
-    add-result
-    add-result-2
-    add-result-3
-    add-result-4
-    add-result-5
-    add-result-6
-    add-result-7
-    add-result-8
+    (search needs)
+    (search needs)
+    (search needs)
+    (search needs)
+    (search needs)
+    (search needs)
+    (search needs)
+    (search needs)
+    (search needs)
+    (search needs)
+    (search needs)
+    (search needs)
+    (search needs)
     returns
     returns-2
     returns-3

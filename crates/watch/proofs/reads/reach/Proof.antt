@@ -18,20 +18,8 @@ abbrev μ-loop : tie.MeasureT-loop
 loop-holds : tie.Need-loop-holds Inv-loop μ-loop
 loop-holds c = (refl, (omega arith, refl))
 
-sub-k : tie.Need-sub-k Inv-loop μ-loop
-sub-k c = omega arith
-
-reach-value-requires : tie.Need-reach-value-requires Inv-loop μ-loop
-reach-value-requires c κs = omega arith
-
-loop-less : tie.Need-loop-less Inv-loop μ-loop
-loop-less c = omega arith
-
 loop-again : tie.Need-loop-again Inv-loop μ-loop
 loop-again c = (sym (reach-next _ _ _ _ _ (omega arith) (omega arith) (c .before .before .reach-value .ensures)) ∙ c .before .before .before .before .before .loop .inv .0, (omega arith, omega (arith, c .before .before .reach-value .kept)))
-
-same-length : tie.Need-same-length Inv-loop μ-loop
-same-length c = omega arith
 
 returns : tie.Need-returns Inv-loop μ-loop
 returns c = sym (reach-end _ _ _ (omega arith)) ∙ c .before .loop .inv .0
@@ -43,9 +31,9 @@ reach-spec =
     Inv-loop
     μ-loop
     loop-holds
-    sub-k
-    reach-value-requires
-    loop-less
+    (omega arith)
+    (omega arith)
+    (omega arith)
     loop-again
-    same-length
+    (omega arith)
     returns)

@@ -18,26 +18,8 @@ abbrev μ-loop : tie.MeasureT-loop
 loop-holds : tie.Need-loop-holds Inv-loop μ-loop
 loop-holds c = (asked-none _ _, (omega arith, refl))
 
-asked-requires : tie.Need-asked-requires Inv-loop μ-loop
-asked-requires c κs = omega arith
-
-add-store : tie.Need-add-store Inv-loop μ-loop
-add-store c = omega arith
-
-store-requires : tie.Need-store-requires Inv-loop μ-loop
-store-requires c κs = search needs
-
-add-b : tie.Need-add-b Inv-loop μ-loop
-add-b c = omega arith
-
-loop-less : tie.Need-loop-less Inv-loop μ-loop
-loop-less c = omega arith
-
 loop-again : tie.Need-loop-again Inv-loop μ-loop
 loop-again c = (asked-next _ _ _ _ _ _ (c .before .before .before .before .before .before .before .loop .inv .0) (c .before .before .before .before .asked .ensures) (c .before .before .store .ensures), (omega arith, omega (arith, c .before .before .store .kept)))
-
-same-length : tie.Need-same-length Inv-loop μ-loop
-same-length c = omega arith
 
 returns : tie.Need-returns Inv-loop μ-loop
 returns c = c .before .loop .inv .0 ∙ asked-all _ _ _ _ (omega arith) (omega arith)
@@ -49,11 +31,11 @@ store-asked-spec =
     Inv-loop
     μ-loop
     loop-holds
-    asked-requires
-    add-store
-    store-requires
-    add-b
-    loop-less
+    (omega arith)
+    (omega arith)
+    (search needs)
+    (omega arith)
+    (omega arith)
     loop-again
-    same-length
+    (omega arith)
     returns)

@@ -21,23 +21,8 @@ loop-holds c = (own-none _ _, (omega arith, refl))
 names-own-requires : tie.Need-names-own-requires Inv-loop μ-loop
 names-own-requires c κs = (omega arith, omega arith)
 
-add-store : tie.Need-add-store Inv-loop μ-loop
-add-store c = omega arith
-
-store-requires : tie.Need-store-requires Inv-loop μ-loop
-store-requires c κs = search needs
-
-add-k : tie.Need-add-k Inv-loop μ-loop
-add-k c = omega arith
-
-loop-less : tie.Need-loop-less Inv-loop μ-loop
-loop-less c = omega arith
-
 loop-again : tie.Need-loop-again Inv-loop μ-loop
 loop-again c = (own-next _ _ _ _ _ _ (c .before .before .before .before .before .before .before .loop .inv .0) (c .before .before .before .before .names-own .ensures) (c .before .before .store .ensures), (omega arith, omega (arith, c .before .before .store .kept)))
-
-same-length : tie.Need-same-length Inv-loop μ-loop
-same-length c = omega arith
 
 returns : tie.Need-returns Inv-loop μ-loop
 returns c = c .before .loop .inv .0 ∙ own-all _ _ _ _ (omega arith) (omega arith)
@@ -50,10 +35,10 @@ store-own-spec =
     μ-loop
     loop-holds
     names-own-requires
-    add-store
-    store-requires
-    add-k
-    loop-less
+    (omega arith)
+    (search needs)
+    (omega arith)
+    (omega arith)
     loop-again
-    same-length
+    (omega arith)
     returns)

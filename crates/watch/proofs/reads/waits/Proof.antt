@@ -18,20 +18,8 @@ abbrev μ-loop : tie.MeasureT-loop
 loop-holds : tie.Need-loop-holds Inv-loop μ-loop
 loop-holds c = (waits-none _ _ _, (omega arith, refl))
 
-wait-requires : tie.Need-wait-requires Inv-loop μ-loop
-wait-requires c κs = omega arith
-
-add-b : tie.Need-add-b Inv-loop μ-loop
-add-b c = omega arith
-
-loop-less : tie.Need-loop-less Inv-loop μ-loop
-loop-less c = omega arith
-
 loop-again : tie.Need-loop-again Inv-loop μ-loop
 loop-again c = (waits-next _ _ _ _ _ _ (c .before .before .before .before .before .loop .inv .0) (c .before .before .wait .ensures), (omega arith, omega (arith, c .before .before .wait .kept)))
-
-same-length : tie.Need-same-length Inv-loop μ-loop
-same-length c = omega arith
 
 returns : tie.Need-returns Inv-loop μ-loop
 returns c = c .before .loop .inv .0 ∙ waits-all _ _ _ _ _ (omega arith) (omega arith)
@@ -43,9 +31,9 @@ waits-spec =
     Inv-loop
     μ-loop
     loop-holds
-    wait-requires
-    add-b
-    loop-less
+    (omega arith)
+    (omega arith)
+    (omega arith)
     loop-again
-    same-length
+    (omega arith)
     returns)

@@ -21,22 +21,13 @@ returns-4 : tie.Need-returns-4
 unfolding cellOf
 returns-4 c = rw (le-ltb _ 2 (c .before .before .before .if1 .left), ne-eqb _ 2 (c .before .before .if2 .left), ne-eqb _ 3 (c .before .if3 .left), eq-eqb _ 4 (c .if4 .taken))
 
-add-result : tie.Need-add-result
-add-result c = search needs
-
 returns-5 : tie.Need-returns-5
 unfolding cellOf
 returns-5 c = rw (le-ltb _ 2 (c .before .before .before .before .if1 .left), ne-eqb _ 2 (c .before .before .before .if2 .left), ne-eqb _ 3 (c .before .before .if3 .left), ne-eqb _ 4 (c .before .if4 .left), eq-eqb _ 5 (c .if5 .taken))
 
-add-result-2 : tie.Need-add-result-2
-add-result-2 c = search needs
-
 returns-6 : tie.Need-returns-6
 unfolding cellOf
 returns-6 c = rw (le-ltb _ 2 (c .before .before .before .before .before .if1 .left), ne-eqb _ 2 (c .before .before .before .before .if2 .left), ne-eqb _ 3 (c .before .before .before .if3 .left), ne-eqb _ 4 (c .before .before .if4 .left), ne-eqb _ 5 (c .before .if5 .left), lt-ltb _ 9 (c .if6 .taken))
-
-add-result-3 : tie.Need-add-result-3
-add-result-3 c = search needs
 
 returns-7 : tie.Need-returns-7
 unfolding cellOf
@@ -54,10 +45,10 @@ cell-spec =
     returns-2
     returns-3
     returns-4
-    add-result
+    (search needs)
     returns-5
-    add-result-2
+    (search needs)
     returns-6
-    add-result-3
+    (search needs)
     returns-7
     returns-8)
