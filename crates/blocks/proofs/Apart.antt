@@ -33,8 +33,8 @@ use Rattle.servers_laws.specs.Waking.{shorter}
 use Rattle.servers_laws.proofs.TakingLaws.{seize-used, enter-used}
 use Rattle.servers_laws.proofs.FreeingLaws.{release-used, leave-used}
 use Rattle.preempt_laws.proofs.PreemptLaws.{preempt-used, give-back-used}
-use Rattle.decisions.specs.Queues.{queueOf, content, change, arrive, depart}
-use Rattle.decisions.proofs.QueueLaws.{arrive-used, depart-used}
+use Rattle.decisions_laws.specs.Queues.{queueOf, content, change, arrive, depart}
+use Rattle.decisions_laws.proofs.QueueLaws.{arrive-used, depart-used}
 
 -- the tally from 256 to 511
 abbrev Waits : List ℕ → List ℕ → Type 0

@@ -29,12 +29,12 @@ use Rattle.servers_laws.proofs.FreeingLaws.{release-done, leave-done}
 use Rattle.preempt_laws.proofs.PreemptLaws.{preempt-done, give-back-done}
 use Rattle.servers_laws.specs.WaitServer as WaitServer
 use Rattle.servers_laws.proofs.WaitingLaws.{wait-server-done, wait-server-used}
-use Rattle.decisions.proofs.Operands.{numbers}
+use Rattle.decisions_laws.proofs.Operands.{numbers}
 use Rattle.state.proofs.Moving.{inside}
-use Rattle.decisions.specs.Comparison as Comparison
-use Rattle.decisions.specs.Jumps as Jumps
-use Rattle.decisions.proofs.ComparisonLaws.{wait-terms-done, branch-done, goto-done, assign-done, wait-terms-used, branch-used, goto-used, assign-used}
-use Rattle.decisions.proofs.QueueLaws.{arrive-done, depart-done}
+use Rattle.decisions_laws.specs.Comparison as Comparison
+use Rattle.decisions_laws.specs.Jumps as Jumps
+use Rattle.decisions_laws.proofs.ComparisonLaws.{wait-terms-done, branch-done, goto-done, assign-done, wait-terms-used, branch-used, goto-used, assign-used}
+use Rattle.decisions_laws.proofs.QueueLaws.{arrive-done, depart-done}
 use Rattle.blocks.specs.Execute as Rows
 use Rattle.blocks.proofs.Apart.{Apart, kept, generate-apart, advance-apart, terminate-apart, priority-apart, split-apart, assemble-apart, preempt-apart, give-back-apart, seize-apart, enter-apart, release-apart, leave-apart, arrive-apart, depart-apart}
 

@@ -13,9 +13,9 @@ use Rattle.servers_laws.specs.Taking.{seize, enter}
 use Rattle.servers_laws.specs.Freeing.{release, leave}
 use Rattle.preempt_laws.specs.Preempting.{preempt, giveBack}
 use Rattle.servers_laws.specs.WaitServer.{waitServer}
-use Rattle.decisions.specs.Comparison.{waitTerms, branch, assign}
-use Rattle.decisions.specs.Jumps.{goto}
-use Rattle.decisions.specs.Queues.{arrive, depart}
+use Rattle.decisions_laws.specs.Comparison.{waitTerms, branch, assign}
+use Rattle.decisions_laws.specs.Jumps.{goto}
+use Rattle.decisions_laws.specs.Queues.{arrive, depart}
 
 module _ (tables : List ℕ) (values facilities : ℕ) (tape w tally : List ℕ) (x : Scalars) (at : ℕ) where
   -- kinds 9 to 20

@@ -2,7 +2,7 @@
 use Prim.Native.Nat.{ℕ}
 use mathlib.Core.List.{List}
 use lib.ListN.{getD}
-use Rattle.engine.specs.declared.outcome.Outcome.{Outcome}
+use Rattle.engine_laws.specs.declared.outcome.Outcome.{Outcome}
 
 abbrev pub results : List ℕ → Outcome
 results l = record {

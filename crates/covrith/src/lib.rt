@@ -13,7 +13,7 @@ ghost use Rattle.machine.specs.Number.{countLow};
 ghost use Rattle.machine.specs.Trace.{readRecord, writeRecord};
 ghost use Rattle.trace.specs.Answers.{entry, after};
 ghost use Rattle.columns_laws.specs.Columns.{toColumns, fromColumns};
-ghost use Rattle.engine.specs.Contract.{Contract};
+ghost use Rattle.engine_laws.specs.Contract.{Contract};
 ghost use Rattle.streams.specs.Stream.{next, startOf};
 ghost use Rattle.tapes_laws.specs.Tape.{makeTape, leaves};
 ghost use Rattle.tapes_laws.specs.Contract.{Accepts};

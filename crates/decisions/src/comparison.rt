@@ -26,7 +26,7 @@ ghost use Prim.Native.Nat.{_+_, _<_, _≤_};
 ghost use Rattle.tables.specs.Layout.{programSize};
 ghost use Rattle.rows_laws.specs.Layout.{Room, rowCount};
 ghost use Rattle.moves.specs.Motion.{moved};
-ghost use Rattle.decisions.specs.Comparison.{parametersAt, holdsAt, worthAt, setParameter, waitTerms, branch, assign};
+ghost use Rattle.decisions_laws.specs.Comparison.{parametersAt, holdsAt, worthAt, setParameter, waitTerms, branch, assign};
 
 const PARAMETERS: u32 = Model::PARAMETERS as u32;
 

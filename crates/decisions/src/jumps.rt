@@ -8,7 +8,7 @@ ghost use Prim.Native.Nat.{_+_, _<_, _≤_};
 ghost use Rattle.tables.specs.Layout.{BlockAt};
 ghost use Rattle.rows_laws.specs.Layout.{Room, rowCount};
 ghost use Rattle.moves.specs.Motion.{moved};
-ghost use Rattle.decisions.specs.Jumps.{goto};
+ghost use Rattle.decisions_laws.specs.Jumps.{goto};
 
 // 11 GOTO target: the next block is the target, still moving.
 pub fn goto(tables: &[u32], work: &mut [u32], x: Scalars, at: usize) -> Scalars

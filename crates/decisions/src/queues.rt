@@ -17,7 +17,7 @@ ghost use Rattle.machine.specs.Limits.{maxQueues};
 ghost use Rattle.tables.specs.Layout.{BlockAt};
 ghost use Rattle.rows_laws.specs.Layout.{Room, rowCount};
 ghost use Rattle.state.specs.Stands.{rowsOf};
-ghost use Rattle.decisions.specs.Queues.{queueOf, change, arrive, depart};
+ghost use Rattle.decisions_laws.specs.Queues.{queueOf, change, arrive, depart};
 
 const QUEUES: u32 = Model::MAX_QUEUES as u32;
 

@@ -26,7 +26,7 @@ ghost use Rattle.machine.specs.Limits.{maxBlocks};
 ghost use Rattle.tables.specs.Layout.{blockWidth, most32};
 ghost use Rattle.rows_laws.specs.Layout.{Room, rowCount, wsl};
 ghost use Rattle.rows_laws.specs.Wake.{passRows, passCell};
-ghost use Rattle.decisions.specs.Scheme.{blockOf, leavesBy, wsScheme};
+ghost use Rattle.decisions_laws.specs.Scheme.{blockOf, leavesBy, wsScheme};
 
 // The left term of a block at a position, and the right one.
 const LEFT_SIDE: usize = FIRST;

@@ -17,8 +17,8 @@ ghost use lib.ListN.{getD};
 ghost use Rattle.tables.specs.Layout.{tablesSize};
 ghost use Rattle.rows_laws.specs.Layout.{Room, rowCount};
 ghost use Rattle.terms.specs.Evaluation.{termAt};
-ghost use Rattle.decisions.specs.Comparison.{parametersAt};
-ghost use Rattle.decisions.specs.Sides.{namesOwn, sideBy, ForAll};
+ghost use Rattle.decisions_laws.specs.Comparison.{parametersAt};
+ghost use Rattle.decisions_laws.specs.Sides.{namesOwn, sideBy, ForAll};
 
 const PARAMETERS: u32 = Model::PARAMETERS as u32;
 

@@ -12,7 +12,7 @@ use rows::lists::first;
 use state::Scalars;
 ghost use mathlib.Core.Path.{_≡_};
 ghost use Rattle.rows_laws.specs.Layout.{Room};
-ghost use Rattle.engine.specs.Ends.{nobodyRows, wornRows, fullRows, limitRows, endRows};
+ghost use Rattle.engine_laws.specs.Ends.{nobodyRows, wornRows, fullRows, limitRows, endRows};
 
 // Nobody moves, and REL and FEL are empty.
 fn nobody_left(work: &[u32], moving: u32) -> bool

@@ -1,7 +1,7 @@
 // The results of a run.
-use crate::outcome::Outcome;
 use crate::steps::turns;
 use constants::Model;
+use engine_laws::Outcome;
 use report::write_report;
 use start::begin;
 use state::Scalars;
@@ -15,11 +15,11 @@ ghost use Rattle.machine.specs.Limits.{maxBlocks, maxFacilities};
 ghost use Rattle.rows_laws.specs.Layout.{Room};
 ghost use Rattle.state.specs.Stands.{rowsOf};
 ghost use Rattle.start.specs.Start.{startRows};
-ghost use Rattle.report.specs.Numbers.{rowNumbers};
-ghost use Rattle.report.specs.Writing.{written, putAll};
-ghost use Rattle.turn.specs.Turn.{traced};
-ghost use Rattle.engine.specs.Turns.{turnsRows};
-ghost use Rattle.engine.specs.Last.{refusedWith, endedWith, lastRows, Finishes};
+ghost use Rattle.report_laws.specs.Numbers.{rowNumbers};
+ghost use Rattle.report_laws.specs.Writing.{written, putAll};
+ghost use Rattle.turn_laws.specs.Turn.{traced};
+ghost use Rattle.engine_laws.specs.Turns.{turnsRows};
+ghost use Rattle.engine_laws.specs.Last.{refusedWith, endedWith, lastRows, Finishes};
 
 // "the refusal number listed for it, all other results zero"
 pub fn refused(n: u32) -> Outcome

@@ -2,17 +2,16 @@
 // `run` promises for all inputs and buffer lengths.
 mod ends;
 mod finish;
-mod outcome;
 mod steps;
 
 use decode::Decoded;
 use decode::decode;
+pub use engine_laws::Outcome;
 use finish::accepted;
 use finish::refused;
-pub use outcome::Outcome;
 use tables::LIST_CELLS;
 use tables::TABLES;
-ghost use Rattle.engine.specs.Contract.{Contract};
+ghost use Rattle.engine_laws.specs.Contract.{Contract};
 
 // Validates model and tape, runs, and writes trace and report.
 pub fn run(

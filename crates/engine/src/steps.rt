@@ -11,8 +11,8 @@ ghost use lib.ListN.{length};
 ghost use Rattle.machine.specs.Limits.{maxBlocks, maxFacilities};
 ghost use Rattle.rows_laws.specs.Layout.{Room};
 ghost use Rattle.state.specs.Stands.{rowsOf};
-ghost use Rattle.turn.specs.Turn.{traced};
-ghost use Rattle.engine.specs.Turns.{turnsRows};
+ghost use Rattle.turn_laws.specs.Turn.{traced};
+ghost use Rattle.engine_laws.specs.Turns.{turnsRows};
 
 // Each step asks for the end before the turn, so one step more than the most turns is never used up.
 const STEPS: u32 = Model::MAX_TURNS + 1;

@@ -28,8 +28,8 @@ ghost use Rattle.machine.specs.Limits.{maxBlocks, maxQueues};
 ghost use Rattle.tables.specs.Layout as Layout;
 ghost use Rattle.tables.specs.Layout.{serverCount};
 ghost use Rattle.state.specs.Statistics.{sumNow, longestNow};
-ghost use Rattle.report.specs.Counts.{names, share, total, serverRow, queueRow, rowsTo};
-ghost use Rattle.report.specs.Writing.{written, putAll};
+ghost use Rattle.report_laws.specs.Counts.{names, share, total, serverRow, queueRow, rowsTo};
+ghost use Rattle.report_laws.specs.Writing.{written, putAll};
 
 // Block b is of one of three kinds, and its first operand is this one.
 fn names(tables: &[u32], first: u32, second: u32, third: u32, index: usize, b: usize) -> bool

@@ -13,8 +13,8 @@ ghost use mathlib.Core.Path.{_≡_};
 ghost use mathlib.Core.List.{[], _∷_};
 ghost use Prim.Native.Nat.{min};
 ghost use Rattle.rows_laws.specs.Layout.{Room};
-ghost use Rattle.report.specs.Numbers.{rowNumbers};
-ghost use Rattle.report.specs.Writing.{written, putAll};
+ghost use Rattle.report_laws.specs.Numbers.{rowNumbers};
+ghost use Rattle.report_laws.specs.Writing.{written, putAll};
 
 fn put_scalars(x: Scalars, report: &mut [u8], at: usize) -> usize
     ensures { λ r. ⌜ written r (now (report .exit)) ≡ putAll (x .clock ∷ x .made ∷ x .ended ∷ []) (written at (now (report .entry))) ⌝ }

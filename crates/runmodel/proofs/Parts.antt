@@ -6,8 +6,8 @@ use mathlib.Core.Path.{_≡_, sym}
 use lib.ListN.{length, drop, length-append}
 use lib.Seq.{length-take-le}
 use Rattle.io.specs.Counts.{Counts}
-use Rattle.engine.specs.declared.outcome.Outcome.{Outcome}
-use Rattle.engine.specs.Contract.{Begins, wanted, Contract}
+use Rattle.engine_laws.specs.declared.outcome.Outcome.{Outcome}
+use Rattle.engine_laws.specs.Contract.{Begins, wanted, Contract}
 
 begun : (bytes before after : List ℕ) (n : ℕ) → n ≡ length bytes → Begins bytes before after → Counts n after
 begun bytes before after n e s =

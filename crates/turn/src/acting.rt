@@ -21,7 +21,7 @@ ghost use Prim.Native.Nat.{_+_, _<_, _≤_};
 ghost use Rattle.machine.specs.Limits.{maxBlocks, maxFacilities};
 ghost use Rattle.rows_laws.specs.Layout.{Room, rowCount};
 ghost use Rattle.state.specs.Stands.{rowsOf};
-ghost use Rattle.turn.specs.Turn.{traced, act, actMoving, clockAsks, asks, schemeIf, afterTaking, turn};
+ghost use Rattle.turn_laws.specs.Turn.{traced, act, actMoving, clockAsks, asks, schemeIf, afterTaking, turn};
 
 // The moving transaction, with this number and next block, executes that block, and its record is noted.
 fn act(

@@ -10,6 +10,9 @@ returns c = small-work _ _ _ _ _ _ (c .if1 .taken)
 returns-2 : tie.Need-returns-2
 returns-2 c = small-report _ _ _ _ _ _ (c .before .if1 .left) (c .if2 .taken)
 
+enum-known-m : tie.Need-enum-known-m
+enum-known-m c = search needs
+
 whole-tape-requires : tie.Need-whole-tape-requires
 whole-tape-requires c κs = few-lists _ (c .before .before .before .before .formed-model .ensures) (c .before .before .m .given .1)
 
@@ -36,7 +39,7 @@ decode-spec =
     returns-2
     (search needs)
     (search needs)
-    (search needs)
+    enum-known-m
     whole-tape-requires
     (search needs)
     enum-told

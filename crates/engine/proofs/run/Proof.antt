@@ -1,8 +1,11 @@
 -- `run` meets its contract: a refused run touches nothing; an accepted one is the machine's. Assumes nothing.
-use Rattle.engine.proofs.Running.{run-refused, fits, run-finished}
+use Rattle.engine_laws.proofs.Running.{run-refused, fits, run-finished}
 use borrow.Author.Needs.{needs}
 use Rattle.engine.proofs.run.Statement.{statement}
 use Rattle.engine.proofs.run.Tie as tie
+
+refused-requires : tie.Need-refused-requires
+refused-requires c κs = search needs
 
 accepted-requires : tie.Need-accepted-requires
 accepted-requires c κs =
@@ -14,6 +17,15 @@ accepted-requires c κs =
 returns : tie.Need-returns
 returns c =
     run-refused _ _ _ _ _ _ _ _ _ (c .before .before .before .before .decode .ensures) _ _ (c .before .before .decoded .given .1) (c .refused .ensures)
+
+same-length : tie.Need-same-length
+same-length c = search needs
+
+same-length-2 : tie.Need-same-length-2
+same-length-2 c = search needs
+
+same-length-3 : tie.Need-same-length-3
+same-length-3 c = search needs
 
 returns-2 : tie.Need-returns-2
 returns-2 c =
@@ -27,11 +39,11 @@ run-spec =
     (tie.spec
     (search needs)
     (search needs)
-    (search needs)
+    refused-requires
     (search needs)
     accepted-requires
     returns
-    (search needs)
-    (search needs)
-    (search needs)
+    same-length
+    same-length-2
+    same-length-3
     returns-2)

@@ -1,7 +1,7 @@
 -- `put_scalars` meets its contract: three numbers in order.
 use mathlib.Core.Path.{ap, _∙_}
 use borrow.Author.Needs.{needs}
-use Rattle.report.specs.Writing.{put, putAll}
+use Rattle.report_laws.specs.Writing.{put, putAll}
 use Rattle.report.proofs.put_scalars.Statement.{statement}
 use Rattle.report.proofs.put_scalars.Tie as tie
 

@@ -2,9 +2,9 @@
 use mathlib.Core.Path.{sym, ap, _∙_}
 use borrow.Author.Needs.{needs}
 use native.Mathlib.Omega.{arith}
-use Rattle.report.specs.Writing.{putAll}
-use Rattle.report.specs.Numbers.{rowNumbers}
-use Rattle.report.proofs.Writes.{putAll-parts}
+use Rattle.report_laws.specs.Writing.{putAll}
+use Rattle.report_laws.specs.Numbers.{rowNumbers}
+use Rattle.report_laws.proofs.Writes.{putAll-parts}
 use Rattle.report.proofs.write_report.Statement.{statement}
 use Rattle.report.proofs.write_report.Tie as tie
 

@@ -1,6 +1,6 @@
 -- `assign` meets its contract: the parameter is written, then the transaction goes on.
 use mathlib.Core.Path.{_∙_}
-use Rattle.decisions.specs.Comparison.{assign}
+use Rattle.decisions_laws.specs.Comparison.{assign}
 use borrow.Author.Needs.{needs}
 use Rattle.decisions.proofs.comparison.assign.Statement.{statement}
 use Rattle.decisions.proofs.comparison.assign.Tie as tie

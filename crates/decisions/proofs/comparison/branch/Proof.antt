@@ -1,6 +1,6 @@
 -- `branch` meets its contract, by cases on the comparison.
 use mathlib.Core.Path.{_∙_}
-use Rattle.decisions.specs.Comparison.{branch}
+use Rattle.decisions_laws.specs.Comparison.{branch}
 use borrow.Author.Needs.{needs}
 use Rattle.decisions.proofs.comparison.branch.Statement.{statement}
 use Rattle.decisions.proofs.comparison.branch.Tie as tie

@@ -1,6 +1,6 @@
 -- `holds` meets its contract: the comparison with the parameters of the row.
 use mathlib.Core.Path.{_∙_}
-use Rattle.decisions.specs.Comparison.{holdsAt}
+use Rattle.decisions_laws.specs.Comparison.{holdsAt}
 use borrow.Author.Needs.{needs}
 use Rattle.decisions.proofs.comparison.holds.Statement.{statement}
 use Rattle.decisions.proofs.comparison.holds.Tie as tie

@@ -1,5 +1,5 @@
 -- `parameters_of` meets its contract: four reads.
-use Rattle.decisions.specs.Comparison.{parametersAt}
+use Rattle.decisions_laws.specs.Comparison.{parametersAt}
 use borrow.Author.Needs.{needs}
 use Rattle.decisions.proofs.comparison.parameters_of.Statement.{statement}
 use Rattle.decisions.proofs.comparison.parameters_of.Tie as tie

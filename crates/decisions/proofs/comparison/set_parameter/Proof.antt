@@ -1,6 +1,6 @@
 -- `set_parameter` meets its contract, by cases on whether there is such a parameter.
 use borrow.Author.Tests.{lt-ltb, le-ltb}
-use Rattle.decisions.specs.Comparison.{setParameter}
+use Rattle.decisions_laws.specs.Comparison.{setParameter}
 use borrow.Author.Needs.{needs}
 use Rattle.decisions.proofs.comparison.set_parameter.Statement.{statement}
 use Rattle.decisions.proofs.comparison.set_parameter.Tie as tie

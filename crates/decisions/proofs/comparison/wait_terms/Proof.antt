@@ -1,5 +1,5 @@
 -- `wait_terms` meets its contract, by cases on the comparison.
-use Rattle.decisions.specs.Comparison.{waitTerms}
+use Rattle.decisions_laws.specs.Comparison.{waitTerms}
 use borrow.Author.Needs.{needs}
 use Rattle.decisions.proofs.comparison.wait_terms.Statement.{statement}
 use Rattle.decisions.proofs.comparison.wait_terms.Tie as tie

@@ -1,6 +1,6 @@
 -- `worth` meets its contract: the bits of what the term is worth.
 use mathlib.Core.Path.{_∙_}
-use Rattle.decisions.specs.Comparison.{worthAt}
+use Rattle.decisions_laws.specs.Comparison.{worthAt}
 use Rattle.terms.proofs.Signs.{back}
 use borrow.Author.Needs.{needs}
 use Rattle.decisions.proofs.comparison.worth.Statement.{statement}

@@ -1,6 +1,6 @@
 -- `goto` meets its contract: it goes to the block that the tables name.
 use mathlib.Core.Path.{_∙_}
-use Rattle.decisions.specs.Jumps.{goto}
+use Rattle.decisions_laws.specs.Jumps.{goto}
 use borrow.Author.Needs.{needs}
 use Rattle.decisions.proofs.jumps.goto.Statement.{statement}
 use Rattle.decisions.proofs.jumps.goto.Tie as tie

@@ -1,5 +1,5 @@
 -- `arrive` meets its contract: one content more.
-use Rattle.decisions.specs.Queues.{arrive}
+use Rattle.decisions_laws.specs.Queues.{arrive}
 use borrow.Author.Needs.{needs}
 use Rattle.decisions.proofs.queues.arrive.Statement.{statement}
 use Rattle.decisions.proofs.queues.arrive.Tie as tie

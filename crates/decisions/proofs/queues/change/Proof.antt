@@ -1,7 +1,7 @@
 -- `change` meets its contract: the statistics, one store to the tally, then the transaction goes on.
 use mathlib.Core.Path.{_∙_}
-use Rattle.decisions.specs.Queues.{change}
-use Rattle.decisions.proofs.Joined.{joined}
+use Rattle.decisions_laws.specs.Queues.{change}
+use Rattle.decisions_laws.proofs.Joined.{joined}
 use borrow.Author.Needs.{needs}
 use Rattle.decisions.proofs.queues.change.Statement.{statement}
 use Rattle.decisions.proofs.queues.change.Tie as tie

@@ -1,6 +1,6 @@
 -- `depart` meets its contract, by cases on whether there is content.
 use borrow.Author.Tests.{eq-eqb, ne-eqb}
-use Rattle.decisions.specs.Queues.{depart}
+use Rattle.decisions_laws.specs.Queues.{depart}
 use borrow.Author.Needs.{needs}
 use Rattle.decisions.proofs.queues.depart.Statement.{statement}
 use Rattle.decisions.proofs.queues.depart.Tie as tie

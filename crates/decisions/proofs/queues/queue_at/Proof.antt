@@ -2,7 +2,7 @@
 use Prim.Native.Nat.{ℕ, _%_}
 use mathlib.Core.Path.{ap}
 use native.Mathlib.Omega.{arith}
-use Rattle.decisions.specs.Queues.{queueOf}
+use Rattle.decisions_laws.specs.Queues.{queueOf}
 use borrow.Author.Needs.{needs}
 use Rattle.decisions.proofs.queues.queue_at.Statement.{statement}
 use Rattle.decisions.proofs.queues.queue_at.Tie as tie

@@ -1,6 +1,6 @@
 -- `block_of` meets its contract.
 use native.Mathlib.Omega.{arith}
-use Rattle.decisions.specs.Scheme.{blockOf}
+use Rattle.decisions_laws.specs.Scheme.{blockOf}
 use borrow.Author.Needs.{needs}
 use Rattle.decisions.proofs.scheme.block_of.Statement.{statement}
 use Rattle.decisions.proofs.scheme.block_of.Tie as tie

@@ -1,7 +1,7 @@
 -- `leaves` meets its contract, by cases on the block at which the row stands.
 use borrow.Author.Tests.{lt-ltb, le-ltb, eq-eqb, ne-eqb}
-use Rattle.decisions.specs.Scheme.{leavesFrom, leavesBy}
-use Rattle.decisions.proofs.Sharing.{not-related}
+use Rattle.decisions_laws.specs.Scheme.{leavesFrom, leavesBy}
+use Rattle.decisions_laws.proofs.Sharing.{not-related}
 use borrow.Author.Needs.{needs}
 use Rattle.decisions.proofs.scheme.leaves.Statement.{statement}
 use Rattle.decisions.proofs.scheme.leaves.Tie as tie

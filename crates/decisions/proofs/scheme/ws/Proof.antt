@@ -9,9 +9,9 @@ use lib.ListN.{length}
 use Rattle.rows_laws.specs.Layout.{head, wsl}
 use Rattle.rows_laws.specs.Wake.{wakeAll}
 use Rattle.rows_laws.proofs.Steps.{wakeAll-end, wakeAll-stop, wakeAll-next}
-use Rattle.decisions.specs.Scheme.{leaves, wsScheme}
-use Rattle.decisions.specs.Sides.{ForAll}
-use Rattle.decisions.proofs.Sharing.{leaves-by, for-all-past}
+use Rattle.decisions_laws.specs.Scheme.{leaves, wsScheme}
+use Rattle.decisions_laws.specs.Sides.{ForAll}
+use Rattle.decisions_laws.proofs.Sharing.{leaves-by, for-all-past}
 use Rattle.decisions.proofs.scheme.ws.Statement.{statement}
 use Rattle.decisions.proofs.scheme.ws.Tie as tie
 

@@ -1,7 +1,7 @@
 -- `for_all` meets its contract, by cases on whether a parameter is named.
 use native.Mathlib.Omega.{arith}
 use mathlib.Core.Path.{sym, _∙_}
-use Rattle.decisions.proofs.Sharing.{own-inside, for-all-none, for-all-bits}
+use Rattle.decisions_laws.proofs.Sharing.{own-inside, for-all-none, for-all-bits}
 use borrow.Author.Needs.{needs}
 use Rattle.decisions.proofs.sides.for_all.Statement.{statement}
 use Rattle.decisions.proofs.sides.for_all.Tie as tie

@@ -1,6 +1,6 @@
 -- `names_own` meets its contract, by cases on the tag.
 use borrow.Author.Tests.{lt-ltb, le-ltb, eq-eqb, ne-eqb}
-use Rattle.decisions.specs.Sides.{namesOwn}
+use Rattle.decisions_laws.specs.Sides.{namesOwn}
 use borrow.Author.Needs.{needs}
 use Rattle.decisions.proofs.sides.names_own.Statement.{statement}
 use Rattle.decisions.proofs.sides.names_own.Tie as tie

@@ -2,7 +2,7 @@
 use mathlib.Core.Path.{sym, ap, _∙_}
 use Rattle.machine.specs.Term.{signed}
 use Rattle.terms.proofs.Signs.{back}
-use Rattle.decisions.proofs.Sharing.{parameter-term}
+use Rattle.decisions_laws.proofs.Sharing.{parameter-term}
 use borrow.Author.Needs.{needs}
 use Rattle.decisions.proofs.sides.own.Statement.{statement}
 use Rattle.decisions.proofs.sides.own.Tie as tie

@@ -1,6 +1,6 @@
 -- `parameter` meets its contract, by cases on whether there is one.
 use mathlib.Core.Path.{_∙_}
-use Rattle.decisions.proofs.Sharing.{parameter-past, parameter-read}
+use Rattle.decisions_laws.proofs.Sharing.{parameter-past, parameter-read}
 use borrow.Author.Needs.{needs}
 use Rattle.decisions.proofs.sides.parameter.Statement.{statement}
 use Rattle.decisions.proofs.sides.parameter.Tie as tie

@@ -1,5 +1,5 @@
 -- `shared` meets its contract: what is known stays, or is found anew.
-use Rattle.decisions.proofs.Sharing.{for-all-same}
+use Rattle.decisions_laws.proofs.Sharing.{for-all-same}
 use borrow.Author.Needs.{needs}
 use Rattle.decisions.proofs.sides.shared.Statement.{statement}
 use Rattle.decisions.proofs.sides.shared.Tie as tie

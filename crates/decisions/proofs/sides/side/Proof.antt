@@ -2,7 +2,7 @@
 use mathlib.Core.Path.{_∙_}
 use borrow.Author.Tests.{lt-ltb, le-ltb}
 use Rattle.terms.proofs.Signs.{back}
-use Rattle.decisions.specs.Sides.{sideBy}
+use Rattle.decisions_laws.specs.Sides.{sideBy}
 use borrow.Author.Needs.{needs}
 use Rattle.decisions.proofs.sides.side.Statement.{statement}
 use Rattle.decisions.proofs.sides.side.Tie as tie

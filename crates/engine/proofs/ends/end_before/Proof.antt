@@ -1,7 +1,7 @@
 -- `end_before` meets its contract: the end of the turn before, dry, the limits. Assumes nothing.
 use mathlib.Core.Path.{sym, _∙_}
 use borrow.Author.Tests.{eq-eqb, ne-eqb}
-use Rattle.engine.specs.Ends.{endRows}
+use Rattle.engine_laws.specs.Ends.{endRows}
 use borrow.Author.Needs.{needs}
 use Rattle.engine.proofs.ends.end_before.Statement.{statement}
 use Rattle.engine.proofs.ends.end_before.Tie as tie

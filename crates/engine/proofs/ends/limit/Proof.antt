@@ -1,7 +1,7 @@
 -- `limit` meets its contract: limit by limit. Assumes nothing.
 use mathlib.Core.Path.{sym, _∙_}
 use borrow.Author.Tests.{le-leb, lt-leb}
-use Rattle.engine.specs.Ends.{limitRows}
+use Rattle.engine_laws.specs.Ends.{limitRows}
 use borrow.Author.Needs.{needs}
 use Rattle.engine.proofs.ends.limit.Statement.{statement}
 use Rattle.engine.proofs.ends.limit.Tie as tie

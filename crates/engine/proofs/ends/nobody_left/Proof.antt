@@ -1,7 +1,7 @@
 -- `nobody_left` meets its contract: list by list. Assumes nothing.
 use mathlib.Core.Path.{sym}
 use borrow.Author.Tests.{lt-ltb, le-ltb}
-use Rattle.engine.specs.Ends.{nobodyRows}
+use Rattle.engine_laws.specs.Ends.{nobodyRows}
 use borrow.Author.Needs.{needs}
 use Rattle.engine.proofs.ends.nobody_left.Statement.{statement}
 use Rattle.engine.proofs.ends.nobody_left.Tie as tie

@@ -6,7 +6,7 @@ use native.Mathlib.Omega.{arith}
 use lib.Dec.{ltb}
 use borrow.Author.Tests.{lt-ltb, le-ltb, ltb-true, ltb-false}
 use Rattle.machine.specs.Limits.{recordRoom}
-use Rattle.engine.specs.Ends.{fullRows}
+use Rattle.engine_laws.specs.Ends.{fullRows}
 use Rattle.engine.proofs.ends.trace_full.Statement.{statement}
 use Rattle.engine.proofs.ends.trace_full.Tie as tie
 

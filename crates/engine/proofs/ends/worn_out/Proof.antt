@@ -1,7 +1,7 @@
 -- `worn_out` meets its contract: serials, then turns. Assumes nothing.
 use mathlib.Core.Path.{sym}
 use borrow.Author.Tests.{lt-ltb, le-ltb}
-use Rattle.engine.specs.Ends.{wornRows}
+use Rattle.engine_laws.specs.Ends.{wornRows}
 use Rattle.engine.proofs.ends.worn_out.Statement.{statement}
 use Rattle.engine.proofs.ends.worn_out.Tie as tie
 

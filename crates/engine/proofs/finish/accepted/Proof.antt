@@ -1,6 +1,6 @@
 -- `accepted` meets its contract: the turns, the report, the results. Assumes nothing.
-use Rattle.engine.specs.Last.{lastRows}
-use Rattle.engine.proofs.TurnsLaws.{finishes}
+use Rattle.engine_laws.specs.Last.{lastRows}
+use Rattle.engine_laws.proofs.TurnsLaws.{finishes}
 use borrow.Author.Needs.{needs}
 use Rattle.engine.proofs.finish.accepted.Statement.{statement}
 use Rattle.engine.proofs.finish.accepted.Tie as tie

@@ -1,6 +1,6 @@
 -- `play` meets its contract: the start, then the turns. Assumes nothing.
 use native.Mathlib.Omega.{arith}
-use Rattle.engine.proofs.TurnsLaws.{turns-begun}
+use Rattle.engine_laws.proofs.TurnsLaws.{turns-begun}
 use borrow.Author.Needs.{needs}
 use Rattle.engine.proofs.finish.play.Statement.{statement}
 use Rattle.engine.proofs.finish.play.Tie as tie

@@ -4,10 +4,10 @@ use mathlib.Core.Path.{_≡_, refl, sym, ap, _∙_}
 use native.Mathlib.Omega.{arith}
 use lib.ListN.{length}
 use Rattle.state.specs.Stands.{rowsOf}
-use Rattle.turn.specs.Turn.{traced}
-use Rattle.engine.specs.Ends.{endRows}
-use Rattle.engine.specs.Turns.{turnsFrom}
-use Rattle.engine.proofs.TurnsLaws.{turns-none, turns-on, turns-off}
+use Rattle.turn_laws.specs.Turn.{traced}
+use Rattle.engine_laws.specs.Ends.{endRows}
+use Rattle.engine_laws.specs.Turns.{turnsFrom}
+use Rattle.engine_laws.proofs.TurnsLaws.{turns-none, turns-on, turns-off}
 use borrow.Author.Needs.{needs}
 use Rattle.engine.proofs.steps.turns.Statement.{statement}
 use Rattle.engine.proofs.steps.turns.Tie as tie

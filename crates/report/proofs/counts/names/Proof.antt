@@ -1,7 +1,7 @@
 -- `names` meets its contract, by cases on operand and kind.
 use borrow.Author.Needs.{needs}
 use borrow.Author.Tests.{eq-eqb, ne-eqb}
-use Rattle.report.specs.Counts.{names}
+use Rattle.report_laws.specs.Counts.{names}
 use Rattle.report.proofs.counts.names.Statement.{statement}
 use Rattle.report.proofs.counts.names.Tie as tie
 

@@ -1,8 +1,8 @@
 -- `put_queue` meets its contract: three numbers in order.
 use mathlib.Core.Path.{refl, ap₂, _∙_}
 use borrow.Author.Needs.{needs}
-use Rattle.report.specs.Writing.{put, putAll}
-use Rattle.report.specs.Counts.{queueRow}
+use Rattle.report_laws.specs.Writing.{put, putAll}
+use Rattle.report_laws.specs.Counts.{queueRow}
 use Rattle.report.proofs.counts.put_queue.Statement.{statement}
 use Rattle.report.proofs.counts.put_queue.Tie as tie
 

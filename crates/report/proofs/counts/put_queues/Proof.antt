@@ -4,9 +4,9 @@ use mathlib.Core.Path.{_≡_, refl, sym, ap, _∙_}
 use native.Mathlib.Omega.{arith}
 use borrow.Author.Needs.{needs}
 use lib.ListN.{length}
-use Rattle.report.specs.Writing.{written, putAll}
-use Rattle.report.specs.Counts.{queueRow, rowsTo}
-use Rattle.report.proofs.Writes.{rows-none, rows-next}
+use Rattle.report_laws.specs.Writing.{written, putAll}
+use Rattle.report_laws.specs.Counts.{queueRow, rowsTo}
+use Rattle.report_laws.proofs.Writes.{rows-none, rows-next}
 use Rattle.report.proofs.counts.put_queues.Statement.{statement}
 use Rattle.report.proofs.counts.put_queues.Tie as tie
 

@@ -1,8 +1,8 @@
 -- `put_server` meets its contract: five numbers in order.
 use mathlib.Core.Path.{refl, ap₂, _∙_}
 use borrow.Author.Needs.{needs}
-use Rattle.report.specs.Writing.{put, putAll}
-use Rattle.report.specs.Counts.{serverRow}
+use Rattle.report_laws.specs.Writing.{put, putAll}
+use Rattle.report_laws.specs.Counts.{serverRow}
 use Rattle.report.proofs.counts.put_server.Statement.{statement}
 use Rattle.report.proofs.counts.put_server.Tie as tie
 

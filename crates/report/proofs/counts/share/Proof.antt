@@ -1,6 +1,6 @@
 -- `share` meets its contract, by cases on whether the block names the index.
 use borrow.Author.Needs.{needs}
-use Rattle.report.specs.Counts.{share}
+use Rattle.report_laws.specs.Counts.{share}
 use Rattle.report.proofs.counts.share.Statement.{statement}
 use Rattle.report.proofs.counts.share.Tie as tie
 

@@ -2,8 +2,8 @@
 use Prim.Native.Nat.{_+_, _-_, _≤_, min}
 use mathlib.Core.Path.{_≡_, sym, ap, ap₂, _∙_}
 use native.Mathlib.Omega.{arith}
-use Rattle.report.specs.Counts.{total}
-use Rattle.report.proofs.Writes.{total-none, total-next}
+use Rattle.report_laws.specs.Counts.{total}
+use Rattle.report_laws.proofs.Writes.{total-none, total-next}
 use Rattle.report.proofs.counts.total.Statement.{statement}
 use Rattle.report.proofs.counts.total.Tie as tie
 

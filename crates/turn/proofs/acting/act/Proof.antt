@@ -1,7 +1,7 @@
 -- `act` meets its contract: the block, then its record.
 use borrow.Author.Tests.{lt-ltb, le-ltb}
-use Rattle.turn.specs.Turn.{act}
-use Rattle.turn.proofs.Parts.{note-joined}
+use Rattle.turn_laws.specs.Turn.{act}
+use Rattle.turn_laws.proofs.Parts.{note-joined}
 use borrow.Author.Needs.{needs}
 use Rattle.turn.proofs.acting.act.Statement.{statement}
 use Rattle.turn.proofs.acting.act.Tie as tie
@@ -9,6 +9,9 @@ use Rattle.turn.proofs.acting.act.Tie as tie
 returns : tie.Need-returns
 unfolding act
 returns c = rw (← c .before .less32 .ensures, le-ltb _ 256 (c .if1 .taken))
+
+note-record-requires : tie.Need-note-record-requires
+note-record-requires c κs = search needs
 
 returns-2 : tie.Need-returns-2
 unfolding act
@@ -24,7 +27,7 @@ act-spec =
     (search needs)
     (search needs)
     (search needs)
-    (search needs)
+    note-record-requires
     (search needs)
     (search needs)
     returns-2)

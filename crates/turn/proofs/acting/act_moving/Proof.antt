@@ -1,7 +1,7 @@
 -- `act_moving` meets its contract, by cases on whether somebody moves.
 use mathlib.Core.Path.{_∙_}
 use borrow.Author.Tests.{lt-ltb, le-ltb}
-use Rattle.turn.specs.Turn.{actMoving}
+use Rattle.turn_laws.specs.Turn.{actMoving}
 use borrow.Author.Needs.{needs}
 use Rattle.turn.proofs.acting.act_moving.Statement.{statement}
 use Rattle.turn.proofs.acting.act_moving.Tie as tie

@@ -1,6 +1,6 @@
 -- `after_taking` meets its contract: are they asked, the block with its record, the WS scheme.
 use native.Mathlib.Omega.{arith}
-use Rattle.turn.proofs.Parts.{after-turned}
+use Rattle.turn_laws.proofs.Parts.{after-turned}
 use borrow.Author.Needs.{needs}
 use Rattle.turn.proofs.acting.after_taking.Statement.{statement}
 use Rattle.turn.proofs.acting.after_taking.Tie as tie

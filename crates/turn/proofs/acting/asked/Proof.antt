@@ -1,7 +1,7 @@
 -- `asked` meets its contract: the clock first, then the block of whoever moves.
 use mathlib.Core.Path.{sym, _∙_}
 use borrow.Author.Tests.{lt-ltb, le-ltb}
-use Rattle.turn.specs.Turn.{asks}
+use Rattle.turn_laws.specs.Turn.{asks}
 use borrow.Author.Needs.{needs}
 use Rattle.turn.proofs.acting.asked.Statement.{statement}
 use Rattle.turn.proofs.acting.asked.Tie as tie

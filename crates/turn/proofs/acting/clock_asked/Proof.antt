@@ -1,6 +1,6 @@
 -- `clock_asked` meets its contract, by cases on whether the clock moved.
 use borrow.Author.Tests.{eq-eqb, ne-eqb}
-use Rattle.turn.specs.Turn.{clockAsks}
+use Rattle.turn_laws.specs.Turn.{clockAsks}
 use borrow.Author.Needs.{needs}
 use Rattle.turn.proofs.acting.clock_asked.Statement.{statement}
 use Rattle.turn.proofs.acting.clock_asked.Tie as tie

@@ -1,7 +1,7 @@
 -- `scheme` meets its contract, by cases on whether they are asked.
 use native.Mathlib.Omega.{arith}
 use borrow.Author.Tests.{not-true, not-false}
-use Rattle.turn.proofs.Parts.{scheme-not, scheme-so}
+use Rattle.turn_laws.proofs.Parts.{scheme-not, scheme-so}
 use borrow.Author.Needs.{needs}
 use Rattle.turn.proofs.acting.scheme.Statement.{statement}
 use Rattle.turn.proofs.acting.scheme.Tie as tie

@@ -1,6 +1,6 @@
 -- `turn` meets its contract: the taking, and what follows it.
 use native.Mathlib.Omega.{arith}
-use Rattle.turn.proofs.Parts.{turned}
+use Rattle.turn_laws.proofs.Parts.{turned}
 use borrow.Author.Needs.{needs}
 use Rattle.turn.proofs.acting.turn.Statement.{statement}
 use Rattle.turn.proofs.acting.turn.Tie as tie

@@ -4,8 +4,8 @@ use native.Mathlib.Omega.{arith}
 use lib.ListN.{length-take, length-drop}
 use borrow.Author.Tests.{lt-leb}
 use Rattle.trace.specs.Answers.{writingOf}
-use Rattle.turn.specs.Note.{bytes, appendRecord}
-use Rattle.turn.proofs.Notes.{rest-is, appends, refuses}
+use Rattle.turn_laws.specs.Note.{bytes, appendRecord}
+use Rattle.turn_laws.proofs.Notes.{rest-is, appends, refuses}
 use borrow.Author.Needs.{needs}
 use Rattle.turn.proofs.note.append_record.Statement.{statement}
 use Rattle.turn.proofs.note.append_record.Tie as tie

@@ -1,6 +1,6 @@
 -- `cell` meets its contract: by the outcome. Assumes nothing.
 use borrow.Author.Tests.{eq-eqb, ne-eqb}
-use Rattle.turn.specs.Note.{cellOf}
+use Rattle.turn_laws.specs.Note.{cellOf}
 use borrow.Author.Needs.{needs}
 use Rattle.turn.proofs.note.cell.Statement.{statement}
 use Rattle.turn.proofs.note.cell.Tie as tie

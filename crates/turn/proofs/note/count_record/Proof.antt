@@ -1,6 +1,6 @@
 -- `count_record` meets its contract: one store. Assumes nothing.
 use mathlib.Core.Path.{_∙_}
-use Rattle.turn.specs.Note.{countRecord}
+use Rattle.turn_laws.specs.Note.{countRecord}
 use borrow.Author.Needs.{needs}
 use Rattle.turn.proofs.note.count_record.Statement.{statement}
 use Rattle.turn.proofs.note.count_record.Tie as tie

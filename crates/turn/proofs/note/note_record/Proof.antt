@@ -1,7 +1,7 @@
 -- `note_record` meets its contract: a count, then the record's bytes.
 use borrow.Author.Tests.{le-ltb}
-use Rattle.turn.specs.Note.{noteRecord}
-use Rattle.turn.proofs.Notes.{notes}
+use Rattle.turn_laws.specs.Note.{noteRecord}
+use Rattle.turn_laws.proofs.Notes.{notes}
 use borrow.Author.Needs.{needs}
 use Rattle.turn.proofs.note.note_record.Statement.{statement}
 use Rattle.turn.proofs.note.note_record.Tie as tie

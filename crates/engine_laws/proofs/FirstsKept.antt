@@ -1,0 +1,113 @@
+-- Document 02, item 9: in every state of every run over rows the first of REL, the FEL and each QL and WEL is kept (specs/Firsts).
+use Prim.Native.Nat.{ℕ, _+_, _-_, _<_}
+use mathlib.Core.Path.{_≡_, refl, subst}
+use mathlib.Core.Bool.{Bool, true, false}
+use mathlib.Core.List.{List, [], _∷_, _++_}
+use native.Mathlib.Omega.{arith}
+use borrow.Author.Tests.{ltb-true, ltb-false}
+use lib.Dec.{ltb}
+use lib.ListN.{length, getD, replicate}
+use Rattle.machine.specs.Rules.{inForce}
+use Rattle.machine.specs.Transaction.{precedes}
+use Rattle.machine.specs.Block.{BlockModel}
+use Rattle.machine.specs.State.{State}
+use Rattle.machine.specs.Run.{start, states, steps}
+use Rattle.machine.specs.Validate.{accept, validate}
+use Rattle.machine.proofs.decoding.Proper.{Proper}
+use Rattle.machine.proofs.decoding.ProperFrom.{proper-from}
+use Rattle.machine.proofs.nobody_able.Waiting.{Waits}
+use Rattle.machine.proofs.order.Serials.{Apart, apart-turn, apart-start, single-rel, single-ql, single-wel}
+use Rattle.tables.specs.Layout.{tallySize}
+use Rattle.tables.specs.Represents.{headerOf, Represents}
+use Rattle.rows_laws.specs.Layout.{wsl, rel}
+use Rattle.rows_laws.specs.Ordered.{Strict}
+use Rattle.rows_laws.proofs.Ordering.{strict-of}
+use Rattle.rows_laws.proofs.KeptFirst.{fel-first, list-first, list-head}
+use Rattle.terms.proofs.NestedFrom.{nested-from}
+use Rattle.state.specs.Stands.{listsOf}
+use Rattle.state.proofs.ListsOf.{lists-ql, lists-wel, lists-rel}
+use Rattle.state.proofs.Written.{Kept, kept-start}
+use Rattle.turn_laws.specs.Turn.{Traced, traced}
+use Rattle.turn_laws.specs.Runs.{Runs}
+use Rattle.start.specs.Start.{startRows}
+use Rattle.engine_laws.specs.Turns.{endOf, closeRows, turnRows}
+use Rattle.engine_laws.specs.Last.{lastRows}
+use Rattle.engine_laws.specs.Firsts.{Firsts, Along, statesRows, KeepsFirsts}
+use Rattle.engine_laws.proofs.StepLaws.{Follows, passed-last, states-follow}
+use Rattle.engine_laws.proofs.Outcomes.{rooms}
+use Rattle.engine_laws.proofs.Following.{follows}
+use Rattle.engine_laws.proofs.Laws.{started, turned}
+
+-- ---- One state
+
+-- with the serials told apart
+record Good (m : BlockModel) (tape : List (List ℕ)) (room : ℕ) (s : State) : Type 0 where
+  kept : Kept m tape room s
+  apart : (f : ℕ → ℕ) → Apart f s
+
+module _ (m : BlockModel) (s : State) (apart : (f : ℕ → ℕ) → Apart f s) (waits : Waits m s) where
+  rel-strict : Strict precedes (listsOf s rel)
+  rel-strict = rw (lists-rel s) (strict-of (s .rel) (single-rel s apart) (waits .queued .rel-sorted))
+
+  line-strict : m .edition ≡ 1 → (p : ℕ) → p < wsl → Strict precedes (listsOf s p)
+  line-strict first p h = go (ltb p 64) refl
+    where
+      go : (b : Bool) → ltb p 64 ≡ b → Strict precedes (listsOf s p)
+      go true e =
+          let i : p < 64 = ltb-true p 64 e in
+          rw (lists-ql s p i) (strict-of (getD (s .ql) p []) (single-ql s apart p) (waits .queued .ql-sorted first p))
+      go false e =
+          let is : 64 + (p - 64) ≡ p = omega (arith, ltb-false p 64 e) in
+          subst (λ (q : ℕ). Strict precedes (listsOf s q)) is
+          (rw (lists-wel s (p - 64) (omega arith)) (strict-of (getD (s .wel) (p - 64) []) (single-wel s apart (p - 64)) (waits .gated .wel-sorted first (p - 64))))
+
+firsts : (m : BlockModel) (times : List (List ℕ)) (tape trace : List ℕ) (a : Traced) (s : State) → Runs tape trace a s → Good m times (length trace) s → Firsts m a s
+firsts m times tape trace a s h g =
+    let shows = h .stands .listing .shows in
+    let waits : Waits m s = g .kept .sure .sane .waits in
+    record {
+      rel-first = list-first (a .rows .work) (listsOf s) (s .fel) shows rel (omega arith) (rel-strict m s (g .apart) waits);
+      fel-first = fel-first (a .rows .work) (listsOf s) (s .fel) shows;
+      line-first = λ first p hp. list-first (a .rows .work) (listsOf s) (s .fel) shows p (omega arith) (line-strict m s (g .apart) waits first p hp);
+      line-head = λ p hp. list-head (a .rows .work) (listsOf s) (s .fel) shows p (omega arith);
+    }
+
+-- ---- Every state
+
+module _ (model tape : List ℕ) (budget : ℕ) (work trace report : List ℕ) (m : BlockModel) (times : List (List ℕ))
+    (accepted : validate inForce model tape (length work) (length report) ≡ accept m times) (tables lists : List ℕ) (represents : Represents m times tape tables lists) where
+  proper : Proper m times
+  proper = proper-from inForce model tape (length work) (length report) accepted
+
+  begins : Runs tape trace (traced (startRows (headerOf m) tables tape lists work (replicate tallySize 0)) trace) (start m times)
+  begins =
+      started proper represents (nested-from model tape (length work) (length report) accepted) trace work
+      (rooms model tape (length work) (length report) m times accepted .0)
+
+  follows-apart : Follows m budget (length trace) (endOf budget (length trace)) (turnRows (headerOf m) tables tape) closeRows (Runs tape trace) (Good m times (length trace))
+  follows-apart =
+      let f = follows model tape budget work trace report m times accepted tables lists represents begins (turned proper represents (nested-from model tape (length work) (length report) accepted) trace budget) in
+      record {
+        end = λ a s g h. f .end a s (g .kept) h;
+        turns = λ a s t g h. f .turns a s t (g .kept) h;
+        closes = f .closes;
+        good-turn = λ s t g. record { kept = f .good-turn s t (g .kept); apart = λ w. apart-turn w m s (g .apart w) };
+        good-end = λ s e z g. record { kept = f .good-end s e z (g .kept); apart = g .apart };
+      }
+
+  along : Along (Firsts m) (statesRows (headerOf m) tables lists tape budget work trace) (states m times budget (length trace))
+  unfolding statesRows states
+  along =
+      states-follow m budget (length trace) (endOf budget (length trace)) (turnRows (headerOf m) tables tape) closeRows (Runs tape trace) (Good m times (length trace)) follows-apart
+      (Firsts m) (firsts m times tape trace) steps (traced (startRows (headerOf m) tables tape lists work (replicate tallySize 0)) trace) (start m times) begins
+      (record { kept = kept-start proper (represents .rules) (length trace); apart = λ w. apart-start w m times })
+
+  -- the last of these states is what the code leaves (crate engine, fn accepted)
+  pub last-of-states : (front : List Traced) × (statesRows (headerOf m) tables lists tape budget work trace ≡ front ++ (lastRows (headerOf m) tables lists tape budget work trace ∷ []))
+  unfolding statesRows lastRows
+  last-of-states =
+      passed-last (endOf budget (length trace)) (turnRows (headerOf m) tables tape) closeRows steps
+      (traced (startRows (headerOf m) tables tape lists work (replicate tallySize 0)) trace)
+
+pub firsts-kept : KeepsFirsts
+firsts-kept = along

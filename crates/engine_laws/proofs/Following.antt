@@ -1,0 +1,119 @@
+-- A whole run over rows follows the machine's: from the laws of the start and of one turn to what `run` promises.
+use Prim.Native.Nat.{ℕ}
+use mathlib.Core.Path.{_≡_, refl, sym, subst}
+use mathlib.Core.List.{List}
+use lib.ListN.{length, replicate}
+use Rattle.machine.specs.Rules.{inForce}
+use Rattle.machine.specs.Block.{BlockModel}
+use Rattle.machine.specs.State.{State}
+use Rattle.machine.specs.Setters.{setEnd}
+use Rattle.machine.specs.Turn.{turn}
+use Rattle.machine.specs.Run.{endBefore, start, run, steps}
+use Rattle.machine.specs.Validate.{accept, validate}
+use Rattle.machine.specs.Outcome.{recordsOf}
+use Rattle.machine.proofs.decoding.Proper.{Proper}
+use Rattle.machine.proofs.decoding.ProperFrom.{proper-from}
+use Rattle.machine.proofs.runs.RunLaws.{Taken}
+use Rattle.tables.specs.Layout.{tallySize}
+use Rattle.tables.specs.Represents.{headerOf, Represents}
+use Rattle.state.specs.Stands.{rowsOf, listsOf, Stands}
+use Rattle.state.proofs.StandsLaws.{listing-ext}
+use Rattle.state.proofs.Written.{Kept, kept-start, kept-turn, kept-end}
+use Rattle.turn_laws.specs.Turn.{Traced, traced}
+use Rattle.turn_laws.specs.Writes.{Writes}
+use Rattle.turn_laws.specs.Runs.{Runs}
+use Rattle.start.specs.Start.{startRows}
+use Rattle.engine_laws.specs.declared.outcome.Outcome.{Outcome as Results}
+use Rattle.engine_laws.specs.Turns.{endOf, closeRows, turnRows}
+use Rattle.engine_laws.specs.Last.{lastRows, Finishes}
+use Rattle.engine_laws.specs.Contract.{Contract}
+use Rattle.engine_laws.proofs.EndLaws.{end-before}
+use Rattle.engine_laws.proofs.StepLaws.{Follows, run-follows}
+use Rattle.engine_laws.proofs.Outcomes.{accepted-runs}
+
+-- ---- The end before a turn, kept
+
+closed-stands : (tape : List ℕ) (a : Traced) (s : State) (e : ℕ) → Stands tape (a .rows) (s .moving) s → Stands tape (closeRows e a .rows) (s .moving) (setEnd e s)
+unfolding closeRows traced rowsOf listsOf
+closed-stands tape a s e h =
+    record {
+      listing = listing-ext (a .rows .work) (a .rows .scalars .moving) (s .moving) s (setEnd e s) (λ q b. refl) refl refl (h .listing);
+      tallying =
+          record {
+            size = h .tallying .size;
+            entries = h .tallying .entries;
+            seen = h .tallying .seen;
+            servers = h .tallying .servers;
+            queues = h .tallying .queues;
+            samples = h .tallying .samples;
+          };
+      counting =
+          record {
+            clock = h .counting .clock;
+            counter = h .counting .counter;
+            serial = h .counting .serial;
+            made = h .counting .made;
+            ended = h .counting .ended;
+            turns = h .counting .turns;
+            end = refl;
+          };
+    }
+
+pub closed : (tape before : List ℕ) (a : Traced) (s : State) (e : ℕ) → Runs tape before a s
+    → Runs tape before (closeRows e a) (setEnd e s)
+unfolding closeRows traced rowsOf recordsOf
+closed tape before a s e h =
+    record {
+      stands = closed-stands tape a s e (h .stands);
+      writes = record { bytes = h .writes .bytes; written = h .writes .written; used = h .writes .used; waits = h .writes .waits };
+    }
+
+-- ---- All turns
+
+module _ (model tape : List ℕ) (budget : ℕ) (work trace report : List ℕ) (m : BlockModel) (times : List (List ℕ))
+    (accepted : validate inForce model tape (length work) (length report) ≡ accept m times) (tables lists : List ℕ) (represents : Represents m times tape tables lists)
+    (started : Runs tape trace (traced (startRows (headerOf m) tables tape lists work (replicate tallySize 0)) trace) (start m times))
+    (turned : (a : Traced) (s : State) → Taken budget (length trace) s → Kept m times (length trace) s → Runs tape trace a s
+    → Runs tape trace (turnRows (headerOf m) tables tape a) (turn m s)) where
+  proper : Proper m times
+  proper = proper-from inForce model tape (length work) (length report) accepted
+
+  abbrev R : Traced → State → Type 0
+  R = Runs tape trace
+
+  abbrev Good : State → Type 0
+  Good = Kept m times (length trace)
+
+  pub follows : Follows m budget (length trace) (endOf budget (length trace)) (turnRows (headerOf m) tables tape) closeRows R Good
+  follows =
+      record {
+        end = λ a s g h. ends a s h;
+        turns = turned;
+        closes = λ a s e h. closed tape trace a s e h;
+        good-turn = kept-turn proper (represents .rules) (length trace) budget;
+        good-end = kept-end proper (represents .rules) (length trace) budget;
+      }
+    where
+      ends : (a : Traced) (s : State) → R a s → endOf budget (length trace) a ≡ endBefore budget (length trace) s
+      ends a s h = unfold endOf in end-before tape (a .rows) s (h .stands) (h .writes .used) budget (length trace)
+
+  abbrev last : Traced
+  last = lastRows (headerOf m) tables lists tape budget work trace
+
+  last-follows : R last (run m times budget (length trace)) × Good (run m times budget (length trace))
+  unfolding run lastRows
+  last-follows =
+      run-follows m budget (length trace) (endOf budget (length trace)) (turnRows (headerOf m) tables tape) closeRows R Good follows steps
+      (traced (startRows (headerOf m) tables tape lists work (replicate tallySize 0)) trace) (start m times) started (kept-start proper (represents .rules) (length trace))
+
+  pub run-accepted : (r : Results) (work′ trace′ report′ : List ℕ) → Finishes (headerOf m) tables last report r trace′ report′
+      → Contract model tape budget work trace report r work′ trace′ report′
+  run-accepted r work′ trace′ report′ f =
+      subst (λ (x : Results). Contract model tape budget work trace report x work′ trace′ report′) (sym (f .results))
+      (accepted-runs model tape budget work trace report m times accepted (last .rows) work′ trace′ report′ (r .«report_bytes») tables lists represents
+      (last-follows .0 .stands) writes (last-follows .1) (f .reported))
+    where
+      writes : Writes trace (last .rows .scalars) (last .rows .tally) trace′ (run m times budget (length trace))
+      writes =
+          subst (λ (l : List ℕ). Writes trace (last .rows .scalars) (last .rows .tally) l (run m times budget (length trace))) (sym (f .trace-is))
+          (last-follows .0 .writes)

@@ -1,0 +1,169 @@
+-- The outcome: what `run` promises of a refused run that touches nothing, and of an accepted one from what stands for the last
+-- state of the machine's run.
+use Prim.Native.Nat.{ℕ, _≤_}
+use mathlib.Core.Path.{_≡_, refl, sym, ap, _∙_, subst}
+use mathlib.Core.Bool.{Bool, true, false, cond}
+use mathlib.Core.List.{List, _++_}
+use native.Mathlib.Omega.{arith}
+use borrow.Author.Tests.{leb-true}
+use lib.Dec.{leb}
+use lib.ListN.{length, take, drop}
+use lib.Seq.{take-at}
+use Rattle.machine.specs.Rules.{inForce}
+use Rattle.machine.specs.Limits.{workNumbers, reportRoom, maxReportNumber}
+use Rattle.machine.specs.Trace.{traceBytes}
+use Rattle.machine.specs.Block.{BlockModel}
+use Rattle.machine.specs.State.{State}
+use Rattle.machine.specs.Validate.{Validation, accept, reject, validate}
+use Rattle.machine.specs.Run.{run}
+use Rattle.machine.specs.Report.{reportNumbers, reportBytes}
+use Rattle.machine.specs.Claims.{Each, LivingListed}
+use Rattle.machine.specs.Outcome.{Outcome, recordsOf, acceptedRun, refusedRun, outcomeOf, outcome}
+use Rattle.machine.proofs.decoding.Proper.{Proper}
+use Rattle.machine.proofs.decoding.ProperFrom.{proper-from}
+use Rattle.machine.proofs.conservation.LivingListed.{living-listed}
+use Rattle.machine.proofs.Demand3.{demand3}
+use Rattle.machine.proofs.runs.OutcomeLaws.{outcome-keeps}
+use Rattle.tables.specs.Represents.{headerOf, Represents}
+use Rattle.state.specs.Stands.{Rows, Stands}
+use Rattle.state.proofs.Written.{Kept}
+use Rattle.turn_laws.specs.Writes.{Writes}
+use Rattle.report_laws.specs.Writing.{written, putAll}
+use Rattle.report_laws.specs.Numbers.{rowNumbers}
+use Rattle.report_laws.proofs.Fitting.{report-small}
+use Rattle.report_laws.proofs.Report.{report-written}
+use Rattle.engine_laws.specs.Last.{refusedWith, endedWith}
+use Rattle.engine_laws.specs.Contract.{Gives, Begins, ReadsBack, Accepted, wanted, Contract}
+use Rattle.engine_laws.proofs.Reading.{reads-back}
+
+-- ---- Accepted: the buffers have their lengths
+
+-- what the two first questions ask
+pub rooms : (model tape : List ℕ) (work report : ℕ) (m : BlockModel) (times : List (List ℕ)) → validate inForce model tape work report ≡ accept m times
+    → (workNumbers ≤ work) × (reportRoom ≤ report)
+unfolding validate
+rooms model tape work report m times e = go (leb workNumbers work) (leb reportRoom report) refl refl _ e
+  where
+    go : (a b : Bool) → leb workNumbers work ≡ a → leb reportRoom report ≡ b → (v : Validation) → cond a (cond b v (reject 2)) (reject 1) ≡ accept m times
+        → (workNumbers ≤ work) × (reportRoom ≤ report)
+    go true true p q v e = (leb-true _ _ p, leb-true _ _ q)
+    go true false p q v e = let z : _≡_ {A = ℕ} 0 1 = cc in absurd (omega arith)
+    go false b p q v e = let z : _≡_ {A = ℕ} 0 1 = cc in absurd (omega arith)
+
+module _ (model tape : List ℕ) (budget : ℕ) (work trace report : List ℕ) where
+  abbrev answer : Validation
+  answer = validate inForce model tape (length work) (length report)
+
+  abbrev o : Outcome
+  o = wanted model tape budget work trace report
+
+  -- ---- Refused
+
+  pub refused-runs : (n : ℕ) → answer ≡ reject n → Contract model tape budget work trace report (refusedWith n) work trace report
+  unfolding outcome outcomeOf refusedRun
+  refused-runs n e =
+      let is : o ≡ refusedRun n = ap (outcomeOf budget (length trace)) e in
+      record {
+        results =
+            subst (λ (x : Outcome). Gives x (refusedWith n)) (sym is)
+            (record {
+              refusal = refl;
+              end = refl;
+              clock = refl;
+              turns = refl;
+              made = refl;
+              ended = refl;
+              trace-bytes = refl;
+              report-bytes = refl;
+            });
+        keeps = outcome-keeps inForce model tape budget (length work) (length trace) (length report);
+        trace-holds = subst (λ (x : Outcome). Begins (x .trace) trace trace) (sym is) refl;
+        report-holds = subst (λ (x : Outcome). Begins (x .report) report report) (sym is) refl;
+        refused = λ z. (refl, refl, refl);
+        accepted = λ m times h. absurd (never m times h);
+      }
+    where
+      never : (m : BlockModel) (times : List (List ℕ)) → answer ≡ accept m times → ⊥
+      never m times h = let z : _≡_ {A = ℕ} 0 1 = cc in omega arith
+
+  -- ---- Accepted
+
+  module _ (m : BlockModel) (times : List (List ℕ)) (accepted : answer ≡ accept m times) where
+    abbrev s : State
+    s = run m times budget (length trace)
+
+    accepted-is : o ≡ acceptedRun m s
+    unfolding outcome outcomeOf
+    accepted-is = ap (outcomeOf budget (length trace)) accepted
+
+    same-model : (m′ : BlockModel) (times′ : List (List ℕ)) → answer ≡ accept m′ times′ → m ≡ m′
+    same-model m′ times′ h′ = cc
+
+    same-times : (m′ : BlockModel) (times′ : List (List ℕ)) → answer ≡ accept m′ times′ → times ≡ times′
+    same-times m′ times′ h′ = cc
+
+    module _ (r : Rows) (work′ trace′ report′ : List ℕ) (n : ℕ) (tables lists : List ℕ) (represents : Represents m times tape tables lists)
+        (stands : Stands tape r (s .moving) s) (writes : Writes trace (r .scalars) (r .tally) trace′ s) (kept : Kept m times (length trace) s)
+        (reported : written n report′ ≡ putAll (rowNumbers (headerOf m) tables (r .tally) (r .work) (r .scalars)) (written 0 report)) where
+      proper : Proper m times
+      proper = proper-from inForce model tape (length work) (length report) accepted
+
+      bytes : r .scalars .used ≡ length (traceBytes (recordsOf s))
+      bytes = writes .used ∙ kept .traced .written
+
+      trace-begins : Begins (traceBytes (recordsOf s)) trace trace′
+      trace-begins = writes .bytes ∙ ap (λ (k : ℕ). traceBytes (recordsOf s) ++ drop k trace) (kept .traced .written)
+
+      front : take (r .scalars .used) trace′ ≡ traceBytes (recordsOf s)
+      front =
+          ap (take (r .scalars .used)) trace-begins
+          ∙ take-at (traceBytes (recordsOf s)) (drop (length (traceBytes (recordsOf s))) trace) (r .scalars .used) (sym bytes)
+
+      report-begins : (n ≡ length (reportBytes m s)) × Begins (reportBytes m s) report report′
+      report-begins =
+          report-written m times tape tables lists (length trace) r s proper represents (kept .sure .sane) (kept .sure .sound) (kept .traced) stands (λ b h. writes .waits b (omega (arith, proper .blocks .1)))
+          n report report′ (rooms model tape (length work) (length report) m times accepted .1) reported
+
+      gives : Gives (acceptedRun m s) (endedWith (r .scalars) n)
+      unfolding acceptedRun
+      gives =
+          record {
+            refusal = refl;
+            end = stands .counting .end;
+            clock = stands .counting .clock;
+            turns = stands .counting .turns;
+            made = stands .counting .made;
+            ended = stands .counting .ended;
+            trace-bytes = bytes;
+            report-bytes = report-begins .0;
+          }
+
+      all : (m′ : BlockModel) (times′ : List (List ℕ)) → answer ≡ accept m′ times′ → m ≡ m′ → times ≡ times′
+          → Accepted m′ times′ budget (length trace) (take (r .scalars .used) trace′)
+      all m′ times′ h′ e f =
+          record {
+            demand3 = demand3 inForce model tape (length work) (length report) budget (length trace) h′;
+            report-small =
+                subst (λ (x : BlockModel). Each (λ (k : ℕ). k ≤ maxReportNumber) (reportNumbers x (run x times′ budget (length trace)))) e
+                (subst (λ (x : List (List ℕ)). Each (λ (k : ℕ). k ≤ maxReportNumber) (reportNumbers m (run m x budget (length trace)))) f
+                (report-small m times s proper (kept .sure .sane) (kept .sure .sound) (kept .traced .number)));
+            read-back =
+                subst (λ (x : BlockModel). ReadsBack x (take (r .scalars .used) trace′) (recordsOf (run x times′ budget (length trace)))) e
+                (subst (λ (x : List (List ℕ)). ReadsBack m (take (r .scalars .used) trace′) (recordsOf (run m x budget (length trace)))) f
+                (subst (λ (l : List ℕ). ReadsBack m l (recordsOf s)) (sym front) (reads-back s (kept .traced))));
+            living =
+                subst (λ (x : BlockModel). LivingListed x times′ (run x times′ budget (length trace))) e
+                (subst (λ (x : List (List ℕ)). LivingListed m x (run m x budget (length trace))) f (living-listed s (kept .sure .sound)));
+          }
+
+      pub accepted-runs : Contract model tape budget work trace report (endedWith (r .scalars) n) work′ trace′ report′
+      unfolding acceptedRun
+      accepted-runs =
+          record {
+            results = subst (λ (x : Outcome). Gives x (endedWith (r .scalars) n)) (sym accepted-is) gives;
+            keeps = outcome-keeps inForce model tape budget (length work) (length trace) (length report);
+            trace-holds = subst (λ (x : Outcome). Begins (x .trace) trace trace′) (sym accepted-is) trace-begins;
+            report-holds = subst (λ (x : Outcome). Begins (x .report) report report′) (sym accepted-is) (report-begins .1);
+            refused = λ z. absurd (z refl);
+            accepted = λ m′ times′ h′. all m′ times′ h′ (same-model m′ times′ h′) (same-times m′ times′ h′);
+          }

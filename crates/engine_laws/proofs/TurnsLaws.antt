@@ -1,0 +1,90 @@
+-- The turns of a run over rows, one by one, and what is left after the report.
+use Prim.Native.Nat.{ℕ, suc, _-_, _≤_, _<_}
+use mathlib.Core.Path.{_≡_, refl, sym, ap, _∙_, subst}
+use mathlib.Core.List.{List}
+use native.Mathlib.Omega.{arith}
+use Rattle.constants.specs.declared.model.Model.{Model}
+use Rattle.state.specs.declared.scalars.Scalars.{Scalars}
+use Rattle.state.specs.ScalarSetters.{putEnd}
+use Rattle.state.specs.Stands.{Rows, rowsOf}
+use Rattle.turn_laws.specs.Turn.{Traced, traced, turn}
+use Rattle.report_laws.specs.Writing.{written, putAll}
+use Rattle.report_laws.specs.Numbers.{rowNumbers}
+use Rattle.engine_laws.specs.declared.outcome.Outcome.{Outcome as Results}
+use Rattle.engine_laws.specs.Ends.{endRows}
+use Rattle.engine_laws.specs.Turns.{endOf, closeRows, turnRows, turnsFrom, turnsRows}
+use Rattle.engine_laws.specs.Last.{endedWith, Finishes}
+use Rattle.engine_laws.proofs.StepLaws.{steps-on, steps-off, steps-none}
+
+-- ---- One turn
+
+module _ (model : Model) (tables tape : List ℕ) (budget room : ℕ) (x : Scalars) (work tally trace : List ℕ) where
+  abbrev here : Traced
+  here = traced (rowsOf x work tally) trace
+
+  end-of : endOf budget room here ≡ endRows work x budget room
+  unfolding endOf traced rowsOf
+  end-of = refl
+
+  turn-of : turnRows model tables tape here ≡ turn model tables tape work tally trace x
+  unfolding turnRows traced rowsOf
+  turn-of = refl
+
+  close-of : (e : ℕ) → closeRows e here ≡ traced (rowsOf (putEnd e x) work tally) trace
+  unfolding closeRows traced rowsOf
+  close-of e = refl
+
+  pub turns-none : (n : ℕ) → n ≤ 0 → turnsFrom model tables tape budget room n here ≡ here
+  turns-none n h =
+      ap (λ (k : ℕ). turnsFrom model tables tape budget room k here) (zero-is n h)
+      ∙ steps-none (endOf budget room) (turnRows model tables tape) closeRows here
+    where
+      zero-is : (n : ℕ) → n ≤ 0 → n ≡ 0
+      zero-is n h = omega arith
+
+  module _ (n e : ℕ) (some : 0 < n) (told : e ≡ endRows work x budget room) where
+    next : n ≡ suc (n - 1)
+    next = omega arith
+
+    -- an end: the run stops with it
+    pub turns-off : (e ≡ 0 → ⊥) → turnsFrom model tables tape budget room n here ≡ traced (rowsOf (putEnd e x) work tally) trace
+    turns-off z =
+        ap (λ (k : ℕ). turnsFrom model tables tape budget room k here) next
+        ∙ steps-off (endOf budget room) (turnRows model tables tape) closeRows (n - 1) here (λ q. z (told ∙ sym end-of ∙ q))
+        ∙ ap (λ (k : ℕ). closeRows k here) (end-of ∙ sym told)
+        ∙ close-of e
+
+    -- no end: what is left of the run after a turn is what was
+    pub turns-on : e ≡ 0 → (there whole : Traced) → there ≡ turn model tables tape work tally trace x → turnsFrom model tables tape budget room n here ≡ whole
+        → turnsFrom model tables tape budget room (n - 1) there ≡ whole
+    turns-on z there whole step rest =
+        ap (turnsFrom model tables tape budget room (n - 1)) (step ∙ sym turn-of)
+        ∙ sym
+        (ap (λ (k : ℕ). turnsFrom model tables tape budget room k here) next
+        ∙ steps-on (endOf budget room) (turnRows model tables tape) closeRows (n - 1) here (end-of ∙ sym told ∙ z))
+        ∙ rest
+
+-- ---- From the start on
+
+pub turns-begun : (model : Model) (tables tape : List ℕ) (budget room : ℕ) (x : Scalars) (work tally trace : List ℕ) (r : Rows) (there : Traced)
+    → there ≡ turnsRows model tables tape budget room (traced (rowsOf x work tally) trace) → rowsOf x work tally ≡ r
+    → there ≡ turnsRows model tables tape budget room (traced r trace)
+turns-begun model tables tape budget room x work tally trace r there e f =
+    e ∙ ap (λ (q : Rows). turnsRows model tables tape budget room (traced q trace)) f
+
+-- ---- After the report
+
+pub finishes : (model : Model) (tables : List ℕ) (x : Scalars) (work tally trace : List ℕ) (last : Traced) (n : ℕ) (r : Results) (report report′ : List ℕ)
+    → traced (rowsOf x work tally) trace ≡ last → r ≡ endedWith x n
+    → written n report′ ≡ putAll (rowNumbers model tables tally work x) (written 0 report) → Finishes model tables last report r trace report′
+unfolding traced rowsOf
+finishes model tables x work tally trace last n r report report′ e f g =
+    subst (λ (q : Traced). Finishes model tables q report r trace report′) e
+    (record {
+      results = f ∙ ap (endedWith x) (sym bytes);
+      trace-is = refl;
+      reported = ap (λ (k : ℕ). written k report′) bytes ∙ g;
+    })
+  where
+    bytes : r .«report_bytes» ≡ n
+    bytes = ap (λ (q : Results). q .«report_bytes») f

@@ -1,0 +1,65 @@
+-- What `run` promises, for all bytes, budgets and buffer lengths: the machine's outcome, its trace and report in the buffers,
+-- nothing touched by a refused run, demand 3 of the whole run, a trace that reads back, and the living by rising number.
+--
+-- Left free by the papers: the work buffer after an accepted run, of which nothing is said (a lent slice keeps its length).
+use Prim.Native.Nat.{ℕ, _≤_}
+use mathlib.Core.Path.{_≡_}
+use mathlib.Core.List.{List, _++_}
+use lib.ListN.{length, take, drop}
+use Rattle.machine.specs.Rules.{inForce}
+use Rattle.machine.specs.Limits.{maxReportNumber}
+use Rattle.machine.specs.Trace.{Record, traceBytes}
+use Rattle.machine.specs.Block.{BlockModel}
+use Rattle.machine.specs.Validate.{accept, validate}
+use Rattle.machine.specs.Run.{run}
+use Rattle.machine.specs.Report.{reportNumbers}
+use Rattle.machine.specs.Outcome.{Outcome, recordsOf, outcome}
+use Rattle.machine.specs.Claims.{Each, Proved, Keeping, InModel, LivingListed}
+use Rattle.trace.specs.Whole.{Reads}
+use Rattle.engine_laws.specs.declared.outcome.Outcome.{Outcome as Results}
+
+-- "A run returns refusal (0 for none), end, clock, turns, made, ended, bytes of trace and of report."
+pub record Gives (o : Outcome) (r : Results) : Type 0 where
+  pub refusal : r .refusal ≡ o .refusal
+  pub end : r .end ≡ o .end
+  pub clock : r .clock ≡ o .clock
+  pub turns : r .turns ≡ o .turns
+  pub made : r .made ≡ o .made
+  pub ended : r .ended ≡ o .ended
+  pub trace-bytes : r .«trace_bytes» ≡ length (o .trace)
+  pub report-bytes : r .«report_bytes» ≡ length (o .report)
+
+-- these bytes, and behind them what stood in the buffer before
+abbrev pub Begins : (bytes before after : List ℕ) → Type 0
+Begins bytes before after = after ≡ bytes ++ drop (length bytes) before
+
+-- the reader takes exactly these records and then answers "no more"; whatever records it takes are, written again, the same bytes
+pub record ReadsBack (m : BlockModel) (bytes : List ℕ) (records : List Record) : Type 0 where
+  -- clock at most 32,000,000,000, transaction at most 100,000,000, a block of the model
+  pub in-model : Each (InModel m) records
+  pub reads : Reads bytes 0 records
+  pub written-again : (l : List Record) → Reads bytes 0 l → traceBytes l ≡ bytes
+
+-- of an accepted run, with what its trace buffer begins with
+pub record Accepted (m : BlockModel) (times : List (List ℕ)) (budget room : ℕ) (bytes : List ℕ) : Type 0 where
+  -- demand 3, of the start, of what each turn left and of the last state; the bounds on turns and the stated end
+  pub demand3 : Proved m times budget room
+  -- no number of the report is cut: each fits nine groups
+  pub report-small : Each (λ (n : ℕ). n ≤ maxReportNumber) (reportNumbers m (run m times budget room))
+  pub read-back : ReadsBack m bytes (recordsOf (run m times budget room))
+  -- the report's living part: by rising number, each a living one, each with its place
+  pub living : LivingListed m times (run m times budget room)
+
+module _ (model tape : List ℕ) (budget : ℕ) (work trace report : List ℕ) where
+  abbrev pub wanted : Outcome
+  wanted = outcome inForce model tape budget (length work) (length trace) (length report)
+
+  pub record Contract (r : Results) (work′ trace′ report′ : List ℕ) : Type 0 where
+    pub results : Gives wanted r
+    -- a refusal of 1 to 10, or else a stated end within the bounds on turns
+    pub keeps : Keeping budget wanted
+    pub trace-holds : Begins (wanted .trace) trace trace′
+    pub report-holds : Begins (wanted .report) report report′
+    pub refused : (r .refusal ≡ 0 → ⊥) → (work′ ≡ work) × (trace′ ≡ trace) × (report′ ≡ report)
+    pub accepted : (m : BlockModel) (times : List (List ℕ)) → validate inForce model tape (length work) (length report) ≡ accept m times
+        → Accepted m times budget (length trace) (take (r .«trace_bytes») trace′)

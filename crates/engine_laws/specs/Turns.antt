@@ -1,0 +1,26 @@
+-- The row machine: the turns of a run.
+use Prim.Native.Nat.{ℕ}
+use mathlib.Core.List.{List}
+use Rattle.constants.specs.declared.model.Model.{Model}
+use Rattle.machine.specs.Run.{steps}
+use Rattle.state.specs.ScalarSetters.{putEnd}
+use Rattle.state.specs.Stands.{rowsOf}
+use Rattle.turn_laws.specs.Turn.{Traced, traced, turn}
+use Rattle.engine_laws.specs.Ends.{endRows}
+use Rattle.engine_laws.specs.Steps.{runSteps}
+
+unfoldable pub endOf : (budget room : ℕ) → Traced → ℕ
+endOf budget room a = endRows (a .rows .work) (a .rows .scalars) budget room
+
+unfoldable pub closeRows : ℕ → Traced → Traced
+closeRows e a = traced (rowsOf (putEnd e (a .rows .scalars)) (a .rows .work) (a .rows .tally)) (a .trace)
+
+unfoldable pub turnRows : Model → (tables tape : List ℕ) → Traced → Traced
+turnRows model tables tape a = turn model tables tape (a .rows .work) (a .rows .tally) (a .trace) (a .rows .scalars)
+
+abbrev pub turnsFrom : Model → (tables tape : List ℕ) → (budget room n : ℕ) → Traced → Traced
+turnsFrom model tables tape budget room n a = runSteps (endOf budget room) (turnRows model tables tape) closeRows n a
+
+-- all turns of a run, from its start
+abbrev pub turnsRows : Model → (tables tape : List ℕ) → (budget room : ℕ) → Traced → Traced
+turnsRows model tables tape budget room a = turnsFrom model tables tape budget room steps a

@@ -1,0 +1,22 @@
+-- The numbers of the report, from what a run leaves: header, tables, tally, work buffer and scalars.
+use Prim.Native.Nat.{ℕ, _+_, min}
+use mathlib.Core.List.{List, [], _∷_, _++_}
+use Rattle.machine.specs.Limits.{maxFacilities, maxStorages, maxBlocks, maxQueues}
+use lib.ListN.{replicate}
+use Rattle.rows_laws.specs.Layout.{rowCount}
+use Rattle.constants.specs.declared.model.Model.{Model}
+use Rattle.state.specs.declared.scalars.Scalars.{Scalars}
+use Rattle.report_laws.specs.Counts.{serverRow, queueRow, rowsTo}
+use Rattle.report_laws.specs.Living.{livingCount, rankTo, placeRow}
+
+unfoldable pub livingNumbers : List ℕ → ℕ → List ℕ
+livingNumbers w moving =
+    livingCount w moving ∷ rowsTo (livingCount w moving) (placeRow w moving (rankTo w moving rowCount (replicate rowCount 0)))
+
+-- a header's counts are at most the limits; larger ones are cut
+unfoldable pub rowNumbers : Model → (tables tally work : List ℕ) → Scalars → List ℕ
+rowNumbers model tables tally work x =
+    (x .clock ∷ x .made ∷ x .ended ∷ [])
+    ++ (rowsTo (min (model .facilities) maxFacilities + min (model .storages) maxStorages) (serverRow tables tally (x .clock) (min (model .blocks) maxBlocks))
+    ++ (rowsTo (min (model .queues) maxQueues) (queueRow tables tally (x .clock) (min (model .blocks) maxBlocks))
+    ++ livingNumbers work (x .moving)))

@@ -1,0 +1,47 @@
+-- The parts of a turn, each given by an equation, make the turn.
+use Prim.Native.Nat.{ℕ, _+_}
+use mathlib.Core.Bool.{Bool, true, false, cond}
+use mathlib.Core.Path.{_≡_, sym, ap, subst, _∙_}
+use mathlib.Core.List.{List}
+use Rattle.constants.specs.declared.model.Model.{Model}
+use Rattle.state.specs.declared.scalars.Scalars.{Scalars}
+use Rattle.state.specs.Stands.{Rows, rowsOf}
+use Rattle.clock.specs.Taking.{take}
+use Rattle.decisions_laws.specs.Scheme.{wsScheme}
+use Rattle.turn_laws.specs.Note.{Noted, noted, noteRecord}
+use Rattle.turn_laws.specs.Turn.{Traced, traced, withNote, actMoving, asks, schemeIf, withScheme, afterTaking, turn}
+
+pub note-joined : (y : Scalars) (w tally : List ℕ) (r : Rows) (z : Scalars) (tally′ trace trace′ : List ℕ) (number block : ℕ)
+    → rowsOf y w tally ≡ r → noted z tally′ trace′ ≡ noteRecord tally trace y number block → traced (rowsOf z w tally′) trace′ ≡ withNote r trace number block
+unfolding withNote rowsOf noted
+note-joined y w tally r z tally′ trace trace′ number block e f =
+    subst (λ (a : Rows). traced (rowsOf z w tally′) trace′ ≡ withNote a trace number block) e
+    (ap (λ (n : Noted). traced (rowsOf (n .scalars) w (n .tally)) (n .trace)) f)
+
+-- the scheme, where they are asked, and nothing where they are not
+pub scheme-not : (b : Bool) (tables : List ℕ) (blocks values : ℕ) (tally : List ℕ) (x : Scalars) (w : List ℕ) → b ≡ false → w ≡ schemeIf b tables blocks values tally x w
+unfolding schemeIf
+scheme-not b tables blocks values tally x w e = ap (λ (c : Bool). cond c (wsScheme tables blocks values tally x w) w) (sym e)
+
+pub scheme-so : (b : Bool) (tables : List ℕ) (blocks values : ℕ) (tally : List ℕ) (x : Scalars) (w w′ : List ℕ) → b ≡ true
+    → w′ ≡ wsScheme tables blocks values tally x w → w′ ≡ schemeIf b tables blocks values tally x w
+unfolding schemeIf
+scheme-so b tables blocks values tally x w w′ e f = f ∙ ap (λ (c : Bool). cond c (wsScheme tables blocks values tally x w) w) (sym e)
+
+pub after-turned : (tables : List ℕ) (blocks values facilities : ℕ) (tape trace : List ℕ) (before : ℕ) (y : Scalars) (w₁ tally₁ : List ℕ) (b : Bool) (z : Scalars) (w₂ tally₂ trace₂ w₃ : List ℕ)
+    → b ≡ asks tables w₁ before y → traced (rowsOf z w₂ tally₂) trace₂ ≡ actMoving tables values facilities tape w₁ tally₁ trace y
+    → w₃ ≡ schemeIf b tables blocks values tally₂ z w₂
+    → traced (rowsOf z w₃ tally₂) trace₂ ≡ afterTaking tables blocks values facilities tape trace before (rowsOf y w₁ tally₁)
+unfolding afterTaking withScheme rowsOf traced
+after-turned tables blocks values facilities tape trace before y w₁ tally₁ b z w₂ tally₂ trace₂ w₃ asked acted schemed =
+    subst (λ (c : Bool). traced (rowsOf z w₃ tally₂) trace₂ ≡ withScheme c tables blocks values (actMoving tables values facilities tape w₁ tally₁ trace y)) asked
+    (subst (λ (a : Traced). traced (rowsOf z w₃ tally₂) trace₂ ≡ withScheme b tables blocks values a) acted
+    (ap (λ (v : List ℕ). traced (rowsOf z v tally₂) trace₂) schemed))
+
+pub turned : (model : Model) (tables tape w tally trace : List ℕ) (x y : Scalars) (w₁ tally₁ : List ℕ) (a : Traced)
+    → rowsOf y w₁ tally₁ ≡ take w tally x
+    → a ≡ afterTaking tables (model .blocks) (model .values) (model .facilities) tape trace (x .clock) (rowsOf y w₁ tally₁)
+    → a ≡ turn model tables tape w tally trace x
+unfolding turn
+turned model tables tape w tally trace x y w₁ tally₁ a taken after =
+    after ∙ ap (afterTaking tables (model .blocks) (model .values) (model .facilities) tape trace (x .clock)) taken
