@@ -13,6 +13,9 @@ Inv-loop tables₀ at numbers i₀ tables i = (length tables ≡ length tables�
 abbrev μ-loop : tie.MeasureT-loop
 μ-loop tables₀ at numbers i₀ tables i = length numbers - i
 
+loop-again : tie.Need-loop-again Inv-loop μ-loop
+loop-again c = search needs
+
 pub put-spec : {M : Type 1} → statement M
 put-spec =
     tie.close
@@ -30,6 +33,6 @@ put-spec =
     (search needs)
     (search needs)
     (search needs)
-    (search needs)
+    loop-again
     (search needs)
     (search needs))
