@@ -1,9 +1,11 @@
 -- Behind the heads and the tails stand numbers that no list reads, hints and rows of holders: storing one leaves every list.
 use Prim.Native.Nat.{ℕ, _≤_, _<_}
-use mathlib.Core.Path.{_≡_, sym, ap, _∙_}
+use mathlib.Core.Path.{_≡_, refl, sym, ap, _∙_}
 use mathlib.Core.Logic.{_≢_}
+use mathlib.Core.Bool.{Bool, true, false, cond}
 use mathlib.Core.List.{List}
 use native.Mathlib.Omega.{arith}
+use lib.Dec.{eqb}
 use lib.ListN.{length}
 use Rattle.machine.specs.Transaction.{Transaction, Event}
 use Rattle.rows_laws.specs.Layout.{slot, place, link, head, tail, hint, holderCell, fel, hints, listCount}
@@ -74,22 +76,34 @@ holder-aside v = record { low = omega arith; apart = λ q hq e. omega arith }
 
 -- ---- Hints
 
-module _ (w : List ℕ) (p k : ℕ) where
-  hint-aside : Aside (hint p (priorityOf w k))
+module _ (w : List ℕ) (p k c t : ℕ) where
+  abbrev own : ℕ
+  own = hint p (priorityOf w k)
+
+  hint-aside : Aside own
   hint-aside = record { low = omega arith; apart = λ q hq e. omega arith }
 
-  pub note-holds : (L : ℕ → List ℕ) → Holds w L → Holds (note w p k) L
+  -- what holds of the buffer without the hint and with it
+  noted : (P : List ℕ → Type 0) → P w → P (store w own k) → P (note w p k c t)
   unfolding note
-  note-holds = aside-holds w (hint p (priorityOf w k)) k hint-aside
+  noted P without with = go (eqb c t)
+    where
+      go : (b : Bool) → P (cond b w (store w own k))
+      go true = without
+      go false = with
 
-  pub note-placed : (j : ℕ) → j < 1024 → load (note w p k) (place j) ≡ load w (place j)
-  unfolding note
-  note-placed j hj = aside-below w (hint p (priorityOf w k)) k hint-aside (place j) (omega arith)
+  note-below : (i : ℕ) → i < hints → load (note w p k c t) i ≡ load w i
+  note-below i h = noted (λ v. load v i ≡ load w i) refl (aside-below w own k hint-aside i h)
 
-  pub note-keeps : (v : List ℕ) → Kept v w k → Kept v (note w p k) k
-  unfolding note
+  pub note-holds : (L : ℕ → List ℕ) → Holds w L → Holds (note w p k c t) L
+  note-holds L h = noted (λ v. Holds v L) h (aside-holds w own k hint-aside L h)
+
+  pub note-placed : (j : ℕ) → j < 1024 → load (note w p k c t) (place j) ≡ load w (place j)
+  note-placed j hj = note-below (place j) (omega arith)
+
+  pub note-keeps : (v : List ℕ) → Kept v w k → Kept v (note w p k c t) k
   note-keeps v kept =
       record {
-        rows = λ i h. aside-below w (hint p (priorityOf w k)) k hint-aside i (omega arith) ∙ kept .rows i h;
-        places = λ j h d. aside-below w (hint p (priorityOf w k)) k hint-aside (place j) (omega arith) ∙ kept .places j h d;
+        rows = λ i h. note-below i (omega arith) ∙ kept .rows i h;
+        places = λ j h d. note-below (place j) (omega arith) ∙ kept .places j h d;
       }

@@ -58,7 +58,8 @@ unfolding put note
 past-put w p k =
     let c : ℕ = spot (outranks w) w p k in
     let a : List ℕ = insertAt w p c k in
-    past-store a (hint p (priorityOf a k)) k ∙ past-insertAt w p c k
+    past-cond′ (eqb c (load w (tail p))) a (store a (hint p (priorityOf a k)) k) (past-store a (hint p (priorityOf a k)) k)
+    ∙ past-insertAt w p c k
 
 pub past-takeFirst : (w : List ℕ) (p : ℕ) → past (takeFirst w p) ≡ past w
 past-takeFirst w p = past-removeAt w p (head p)
