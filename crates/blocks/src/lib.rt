@@ -19,6 +19,7 @@ use servers::release;
 use servers::seize;
 use servers::wait_server;
 use state::Scalars;
+use state::by_fields;
 use tables::TABLES;
 use tables::TALLY;
 use tables::number;
@@ -49,26 +50,26 @@ pub fn execute(
 {
     let kind = number(tables, at);
     match kind {
-        1 => generate(tables, tape, work, tally, x, at),
-        2 => advance(tables, tape, work, tally, x, at),
-        3 => terminate(tables, facilities, work, tally, x, at),
-        4 => seize(tables, work, tally, x, at),
-        5 => release(tables, work, tally, x, at),
-        6 => enter(tables, work, tally, x, at),
-        7 => leave(tables, work, tally, x, at),
-        8 => wait_server(tables, work, tally, x, at),
-        9 => wait_terms(tables, values, work, tally, x, at),
-        10 => branch(tables, values, work, tally, x, at),
-        11 => goto(tables, work, x, at),
-        12 => assign(tables, values, work, tally, x, at),
-        13 => priority(tables, work, tally, x, at),
-        14 => split(tables, work, tally, x, at),
-        15 => arrive(tables, work, tally, x, at),
-        16 => depart(tables, work, tally, x, at),
-        17 => wait_server(tables, work, tally, x, at),
-        18 => assemble(tables, facilities, work, tally, x, at),
-        19 => preempt(tables, work, tally, x, at),
-        20 => give_back(tables, work, tally, x, at),
+        1 => by_fields(generate(tables, tape, work, tally, by_fields(x), at)),
+        2 => by_fields(advance(tables, tape, work, tally, by_fields(x), at)),
+        3 => by_fields(terminate(tables, facilities, work, tally, by_fields(x), at)),
+        4 => by_fields(seize(tables, work, tally, by_fields(x), at)),
+        5 => by_fields(release(tables, work, tally, by_fields(x), at)),
+        6 => by_fields(enter(tables, work, tally, by_fields(x), at)),
+        7 => by_fields(leave(tables, work, tally, by_fields(x), at)),
+        8 => by_fields(wait_server(tables, work, tally, by_fields(x), at)),
+        9 => by_fields(wait_terms(tables, values, work, tally, by_fields(x), at)),
+        10 => by_fields(branch(tables, values, work, tally, by_fields(x), at)),
+        11 => by_fields(goto(tables, work, by_fields(x), at)),
+        12 => by_fields(assign(tables, values, work, tally, by_fields(x), at)),
+        13 => by_fields(priority(tables, work, tally, by_fields(x), at)),
+        14 => by_fields(split(tables, work, tally, by_fields(x), at)),
+        15 => by_fields(arrive(tables, work, tally, by_fields(x), at)),
+        16 => by_fields(depart(tables, work, tally, by_fields(x), at)),
+        17 => by_fields(wait_server(tables, work, tally, by_fields(x), at)),
+        18 => by_fields(assemble(tables, facilities, work, tally, by_fields(x), at)),
+        19 => by_fields(preempt(tables, work, tally, by_fields(x), at)),
+        20 => by_fields(give_back(tables, work, tally, by_fields(x), at)),
         _ => x,
     }
 }

@@ -26,7 +26,7 @@ pub struct Scalars {
 }
 
 // The same scalars, field by field: loads of single fields in place of a copy, which waits for the stores before it.
-pub fn fresh(x: Scalars) -> Scalars
+pub fn by_fields(x: Scalars) -> Scalars
     ensures { λ r. ⌜ r ≡ x ⌝ }
 {
     Scalars {

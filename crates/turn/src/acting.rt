@@ -9,7 +9,6 @@ use rows::NUMBER;
 use rows::ROWS;
 use rows::cells::read;
 use state::Scalars;
-use state::fresh;
 use state::less32;
 use tables::ASKED;
 use tables::BLOCK_WIDTH;
@@ -55,7 +54,7 @@ fn act(
         x,
         BLOCK_WIDTH * b,
     );
-    note_record(tally, trace, fresh(y), number, block)
+    note_record(tally, trace, y, number, block)
 }
 
 // Who moves, if somebody does, executes its block.

@@ -26,83 +26,83 @@ module _ (tables : List ℕ) (values facilities : ℕ) (tape w tally : List ℕ)
 
 returns : tie.Need-returns
 unfolding execute byKind
-returns c = rw (← c .before .before .before .before .before .before .before .number .ensures, c .before .before .before .before .before .before .match .keys1) (c .before .before .generate .ensures)
+returns c = rw (c .by-fields2 .ensures, ← c .before .before .before .before .before .before .before .before .before .number .ensures, c .before .before .before .before .before .before .before .before .match .keys1, ← c .before .before .before .before .by-fields .ensures) (c .before .before .before .generate .ensures)
 
 returns-2 : tie.Need-returns-2
 unfolding execute byKind
-returns-2 c = rw (← c .before .before .before .before .before .before .before .number .ensures, c .before .before .before .before .before .before .match .keys2) (c .before .before .advance .ensures)
+returns-2 c = rw (c .by-fields4 .ensures, ← c .before .before .before .before .before .before .before .before .before .number .ensures, c .before .before .before .before .before .before .before .before .match .keys2, ← c .before .before .before .before .by-fields3 .ensures) (c .before .before .before .advance .ensures)
 
 returns-3 : tie.Need-returns-3
 unfolding execute byKind
-returns-3 c = rw (← c .before .before .before .before .before .before .before .number .ensures, c .before .before .before .before .before .before .match .keys3) (c .before .before .terminate .ensures)
+returns-3 c = rw (c .by-fields6 .ensures, ← c .before .before .before .before .before .before .before .before .before .number .ensures, c .before .before .before .before .before .before .before .before .match .keys3, ← c .before .before .before .before .by-fields5 .ensures) (c .before .before .before .terminate .ensures)
 
 returns-4 : tie.Need-returns-4
 unfolding execute byKind
-returns-4 c = rw (← c .before .before .before .before .before .before .before .number .ensures, c .before .before .before .before .before .before .match .keys4) (c .before .before .seize .ensures)
+returns-4 c = rw (c .by-fields8 .ensures, ← c .before .before .before .before .before .before .before .before .before .number .ensures, c .before .before .before .before .before .before .before .before .match .keys4, ← c .before .before .before .before .by-fields7 .ensures) (c .before .before .before .seize .ensures)
 
 returns-5 : tie.Need-returns-5
 unfolding execute byKind
-returns-5 c = rw (← c .before .before .before .before .before .before .before .number .ensures, c .before .before .before .before .before .before .match .keys5) (c .before .before .release .ensures)
+returns-5 c = rw (c .by-fields10 .ensures, ← c .before .before .before .before .before .before .before .before .before .number .ensures, c .before .before .before .before .before .before .before .before .match .keys5, ← c .before .before .before .before .by-fields9 .ensures) (c .before .before .before .release .ensures)
 
 returns-6 : tie.Need-returns-6
 unfolding execute byKind
-returns-6 c = rw (← c .before .before .before .before .before .before .before .number .ensures, c .before .before .before .before .before .before .match .keys6) (c .before .before .enter .ensures)
+returns-6 c = rw (c .by-fields12 .ensures, ← c .before .before .before .before .before .before .before .before .before .number .ensures, c .before .before .before .before .before .before .before .before .match .keys6, ← c .before .before .before .before .by-fields11 .ensures) (c .before .before .before .enter .ensures)
 
 returns-7 : tie.Need-returns-7
 unfolding execute byKind
-returns-7 c = rw (← c .before .before .before .before .before .before .before .number .ensures, c .before .before .before .before .before .before .match .keys7) (c .before .before .leave .ensures)
+returns-7 c = rw (c .by-fields14 .ensures, ← c .before .before .before .before .before .before .before .before .before .number .ensures, c .before .before .before .before .before .before .before .before .match .keys7, ← c .before .before .before .before .by-fields13 .ensures) (c .before .before .before .leave .ensures)
 
 returns-8 : tie.Need-returns-8
 unfolding execute byKind
-returns-8 c = rw (← c .before .before .before .before .before .before .before .before .number .ensures, c .before .before .before .before .before .before .before .match .keys8) (tallied _ _ _ _ (c .before .before .wait-server .ensures))
+returns-8 c = rw (c .by-fields16 .ensures, ← c .before .before .before .before .before .before .before .before .before .before .number .ensures, c .before .before .before .before .before .before .before .before .before .match .keys8, ← c .before .before .before .before .by-fields15 .ensures) (tallied _ _ _ _ (c .before .before .before .wait-server .ensures))
 
 returns-9 : tie.Need-returns-9
 unfolding execute byKind later
-returns-9 c = rw (← c .before .before .before .before .before .before .number .ensures, c .before .before .before .before .before .match .keys9) (tallied _ _ _ _ (c .before .before .wait-terms .ensures))
+returns-9 c = rw (c .by-fields18 .ensures, ← c .before .before .before .before .before .before .before .before .number .ensures, c .before .before .before .before .before .before .before .match .keys9, ← c .before .before .before .before .by-fields17 .ensures) (tallied _ _ _ _ (c .before .before .before .wait-terms .ensures))
 
 returns-10 : tie.Need-returns-10
 unfolding execute byKind later
-returns-10 c = rw (← c .before .before .before .before .before .before .number .ensures, c .before .before .before .before .before .match .keys10) (tallied _ _ _ _ (c .before .before .branch .ensures))
+returns-10 c = rw (c .by-fields20 .ensures, ← c .before .before .before .before .before .before .before .before .number .ensures, c .before .before .before .before .before .before .before .match .keys10, ← c .before .before .before .before .by-fields19 .ensures) (tallied _ _ _ _ (c .before .before .before .branch .ensures))
 
 returns-11 : tie.Need-returns-11
 unfolding execute byKind later
-returns-11 c = rw (← c .before .before .before .before .before .before .number .ensures, c .before .before .before .before .before .match .keys11) (tallied _ _ _ _ (c .before .before .goto .ensures))
+returns-11 c = rw (c .by-fields22 .ensures, ← c .before .before .before .before .before .before .before .before .number .ensures, c .before .before .before .before .before .before .before .match .keys11, ← c .before .before .before .before .by-fields21 .ensures) (tallied _ _ _ _ (c .before .before .before .goto .ensures))
 
 returns-12 : tie.Need-returns-12
 unfolding execute byKind later
-returns-12 c = rw (← c .before .before .before .before .before .before .number .ensures, c .before .before .before .before .before .match .keys12) (tallied _ _ _ _ (c .before .before .assign .ensures))
+returns-12 c = rw (c .by-fields24 .ensures, ← c .before .before .before .before .before .before .before .before .number .ensures, c .before .before .before .before .before .before .before .match .keys12, ← c .before .before .before .before .by-fields23 .ensures) (tallied _ _ _ _ (c .before .before .before .assign .ensures))
 
 returns-13 : tie.Need-returns-13
 unfolding execute byKind later
-returns-13 c = rw (← c .before .before .before .before .before .before .before .number .ensures, c .before .before .before .before .before .before .match .keys13) (c .before .before .priority .ensures)
+returns-13 c = rw (c .by-fields26 .ensures, ← c .before .before .before .before .before .before .before .before .before .number .ensures, c .before .before .before .before .before .before .before .before .match .keys13, ← c .before .before .before .before .by-fields25 .ensures) (c .before .before .before .priority .ensures)
 
 returns-14 : tie.Need-returns-14
 unfolding execute byKind later
-returns-14 c = rw (← c .before .before .before .before .before .before .before .number .ensures, c .before .before .before .before .before .before .match .keys14) (c .before .before .split .ensures)
+returns-14 c = rw (c .by-fields28 .ensures, ← c .before .before .before .before .before .before .before .before .before .number .ensures, c .before .before .before .before .before .before .before .before .match .keys14, ← c .before .before .before .before .by-fields27 .ensures) (c .before .before .before .split .ensures)
 
 returns-15 : tie.Need-returns-15
 unfolding execute byKind later
-returns-15 c = rw (← c .before .before .before .before .before .before .before .number .ensures, c .before .before .before .before .before .before .match .keys15) (c .before .before .arrive .ensures)
+returns-15 c = rw (c .by-fields30 .ensures, ← c .before .before .before .before .before .before .before .before .before .number .ensures, c .before .before .before .before .before .before .before .before .match .keys15, ← c .before .before .before .before .by-fields29 .ensures) (c .before .before .before .arrive .ensures)
 
 returns-16 : tie.Need-returns-16
 unfolding execute byKind later
-returns-16 c = rw (← c .before .before .before .before .before .before .before .number .ensures, c .before .before .before .before .before .before .match .keys16) (c .before .before .depart .ensures)
+returns-16 c = rw (c .by-fields32 .ensures, ← c .before .before .before .before .before .before .before .before .before .number .ensures, c .before .before .before .before .before .before .before .before .match .keys16, ← c .before .before .before .before .by-fields31 .ensures) (c .before .before .before .depart .ensures)
 
 returns-17 : tie.Need-returns-17
 unfolding execute byKind later
-returns-17 c = rw (← c .before .before .before .before .before .before .before .before .number .ensures, c .before .before .before .before .before .before .before .match .keys17) (tallied _ _ _ _ (c .before .before .wait-server2 .ensures))
+returns-17 c = rw (c .by-fields34 .ensures, ← c .before .before .before .before .before .before .before .before .before .before .number .ensures, c .before .before .before .before .before .before .before .before .before .match .keys17, ← c .before .before .before .before .by-fields33 .ensures) (tallied _ _ _ _ (c .before .before .before .wait-server2 .ensures))
 
 returns-18 : tie.Need-returns-18
 unfolding execute byKind later
-returns-18 c = rw (← c .before .before .before .before .before .before .before .number .ensures, c .before .before .before .before .before .before .match .keys18) (c .before .before .assemble .ensures)
+returns-18 c = rw (c .by-fields36 .ensures, ← c .before .before .before .before .before .before .before .before .before .number .ensures, c .before .before .before .before .before .before .before .before .match .keys18, ← c .before .before .before .before .by-fields35 .ensures) (c .before .before .before .assemble .ensures)
 
 returns-19 : tie.Need-returns-19
 unfolding execute byKind later
-returns-19 c = rw (← c .before .before .before .before .before .before .before .number .ensures, c .before .before .before .before .before .before .match .keys19) (c .before .before .preempt .ensures)
+returns-19 c = rw (c .by-fields38 .ensures, ← c .before .before .before .before .before .before .before .before .before .number .ensures, c .before .before .before .before .before .before .before .before .match .keys19, ← c .before .before .before .before .by-fields37 .ensures) (c .before .before .before .preempt .ensures)
 
 returns-20 : tie.Need-returns-20
 unfolding execute byKind later
-returns-20 c = rw (← c .before .before .before .before .before .before .before .number .ensures, c .before .before .before .before .before .before .match .keys20) (c .before .before .give-back .ensures)
+returns-20 c = rw (c .by-fields40 .ensures, ← c .before .before .before .before .before .before .before .before .before .number .ensures, c .before .before .before .before .before .before .before .before .match .keys20, ← c .before .before .before .before .by-fields39 .ensures) (c .before .before .before .give-back .ensures)
 
 returns-21 : tie.Need-returns-21
 unfolding execute
@@ -118,24 +118,64 @@ execute-spec =
     (tie.spec
     (search needs)
     (search needs)
+    (λ c κs. rw (c .by-fields .ensures) (search needs))
     (search needs)
     (search needs)
+    (λ c κs. rw (c .by-fields3 .ensures) (search needs))
     (search needs)
     (search needs)
+    (λ c κs. rw (c .by-fields5 .ensures) (search needs))
     (search needs)
     (search needs)
+    (λ c κs. rw (c .by-fields7 .ensures) (search needs))
     (search needs)
     (search needs)
+    (λ c κs. rw (c .by-fields9 .ensures) (search needs))
     (search needs)
     (search needs)
+    (λ c κs. rw (c .by-fields11 .ensures) (search needs))
     (search needs)
     (search needs)
+    (λ c κs. rw (c .by-fields13 .ensures) (search needs))
     (search needs)
     (search needs)
+    (λ c κs. rw (c .by-fields15 .ensures) (search needs))
     (search needs)
     (search needs)
+    (λ c κs. rw (c .by-fields17 .ensures) (search needs))
     (search needs)
     (search needs)
+    (λ c κs. rw (c .by-fields19 .ensures) (search needs))
+    (search needs)
+    (search needs)
+    (λ c κs. rw (c .by-fields21 .ensures) (search needs))
+    (search needs)
+    (search needs)
+    (λ c κs. rw (c .by-fields23 .ensures) (search needs))
+    (search needs)
+    (search needs)
+    (λ c κs. rw (c .by-fields25 .ensures) (search needs))
+    (search needs)
+    (search needs)
+    (λ c κs. rw (c .by-fields27 .ensures) (search needs))
+    (search needs)
+    (search needs)
+    (λ c κs. rw (c .by-fields29 .ensures) (search needs))
+    (search needs)
+    (search needs)
+    (λ c κs. rw (c .by-fields31 .ensures) (search needs))
+    (search needs)
+    (search needs)
+    (λ c κs. rw (c .by-fields33 .ensures) (search needs))
+    (search needs)
+    (search needs)
+    (λ c κs. rw (c .by-fields35 .ensures) (search needs))
+    (search needs)
+    (search needs)
+    (λ c κs. rw (c .by-fields37 .ensures) (search needs))
+    (search needs)
+    (search needs)
+    (λ c κs. rw (c .by-fields39 .ensures) (search needs))
     (search needs)
     (search needs)
     returns

@@ -6,28 +6,45 @@ use borrow.Author.Needs.{needs}
 use Rattle.turn.proofs.acting.act.Statement.{statement}
 use Rattle.turn.proofs.acting.act.Tie as tie
 
+less32-requires : tie.Need-less32-requires
+less32-requires c κs = search needs
+
+cast-b : tie.Need-cast-b
+cast-b c = search needs
+
 returns : tie.Need-returns
 unfolding act
 returns c = rw (← c .before .less32 .ensures, le-ltb _ 256 (c .if1 .taken))
 
+mul-execute : tie.Need-mul-execute
+mul-execute c = search needs
+
+execute-requires : tie.Need-execute-requires
+execute-requires c κs = search needs
+
 note-record-requires : tie.Need-note-record-requires
 note-record-requires c κs = search needs
 
+same-length : tie.Need-same-length
+same-length c = search needs
+
+same-length-2 : tie.Need-same-length-2
+same-length-2 c = search needs
+
 returns-2 : tie.Need-returns-2
 unfolding act
-returns-2 c = rw (← c .before .before .before .before .before .before .before .before .before .before .before .before .less32 .ensures, lt-ltb _ 256 (c .before .before .before .before .before .before .before .before .before .before .before .if1 .left)) (note-joined _ _ _ _ _ _ _ _ _ _ (rw (c .before .before .before .fresh .ensures) (c .before .before .before .before .before .before .before .before .execute .ensures)) (c .before .before .note-record .ensures))
+returns-2 c = rw (← c .before .before .before .before .before .before .before .before .before .before .before .less32 .ensures, lt-ltb _ 256 (c .before .before .before .before .before .before .before .before .before .before .if1 .left)) (note-joined _ _ _ _ _ _ _ _ _ _ (c .before .before .before .before .before .before .before .execute .ensures) (c .before .before .note-record .ensures))
 
 pub act-spec : {M : Type 1} → statement M
 act-spec =
     tie.close
     (tie.spec
-    (search needs)
-    (search needs)
+    less32-requires
+    cast-b
     returns
-    (search needs)
-    (search needs)
-    (search needs)
+    mul-execute
+    execute-requires
     note-record-requires
-    (search needs)
-    (search needs)
+    same-length
+    same-length-2
     returns-2)
