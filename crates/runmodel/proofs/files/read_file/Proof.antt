@@ -8,6 +8,9 @@ use Rattle.runmodel.proofs.files.read_file.Tie as tie
 returns : tie.Need-returns
 returns c = failed (λ k. Counts k _)
 
+returns-2 : tie.Need-returns-2
+returns-2 c = search needs
+
 pub read-file-spec : {M : Type 1} → statement M
 read-file-spec =
     tie.close
@@ -18,4 +21,4 @@ read-file-spec =
     (search needs)
     (search needs)
     (search needs)
-    (search needs))
+    returns-2)
