@@ -30,6 +30,7 @@ use Rattle.servers_laws.specs.Taking.{holdUnits, longer, queueUp, takeUnits, se
 use Rattle.servers_laws.specs.Freeing.{freeOne, freeSome, askRelease, release, leave}
 use Rattle.preempt_laws.specs.Preempting.{seized, interruptOn, takeOver, preemptSeized, preempt, askGiveBack, resumeOn, resumeRows, giveBackRows, giveBack}
 use Rattle.servers_laws.specs.Waking.{shorter}
+use Rattle.servers_laws.proofs.Tallies.{use-low}
 use Rattle.servers_laws.proofs.TakingLaws.{seize-used, enter-used}
 use Rattle.servers_laws.proofs.FreeingLaws.{release-used, leave-used}
 use Rattle.preempt_laws.proofs.PreemptLaws.{preempt-used, give-back-used}
@@ -146,10 +147,7 @@ module _ (tables tape w tally : List ℕ) (x : Scalars) where
   updated v clock i low high = server-low tally v clock i (omega arith)
 
   used-units : (v clock units who preempts : ℕ) → Waits tally (setUse (updateServer tally v clock) v units who preempts)
-  used-units v clock units who preempts =
-      let t : List ℕ = updateServer tally v clock in
-      more-set tally (set (set t (Layout.inUse + v) units) (Layout.holder + v) who) (Layout.preempted + v) preempts (omega arith)
-      (more-set tally (set t (Layout.inUse + v) units) (Layout.holder + v) who (omega arith) (more-set tally t (Layout.inUse + v) units (omega arith) (updated v clock)))
+  used-units v clock units who preempts i low high = use-low (updateServer tally v clock) v units who preempts i high ∙ updated v clock i low high
 
   -- whatever the work buffer and the scalars
   held-waits : (u : List ℕ) (y : Scalars) (v units who k preempts all : ℕ) → Stays tally (holdUnits u tally y v units who k preempts all)

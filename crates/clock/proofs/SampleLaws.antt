@@ -25,6 +25,7 @@ use Rattle.tables.specs.Layout.{most64}
 use Rattle.state.specs.Sane.{Sane}
 use Rattle.state.specs.Statistics.{sumNow, longestNow}
 use Rattle.state.specs.Stands.{Seen, Serving, Queueing, Sampling, Tallying}
+use Rattle.state.proofs.Held.{held-same}
 use Rattle.state.proofs.Measured.{units-small}
 use Rattle.state.proofs.StatisticsLaws.{seen-later, sum-later, longest-later}
 use Rattle.clock.specs.Taking.{countMove}
@@ -71,7 +72,7 @@ map-at f (x ∷ l) (suc i) a b h = map-at f l i a b (omega arith)
 -- ---- The laws: a move to a time, in a turn that is counted already
 
 module _ {m : BlockModel} {tape : List (List ℕ)} (proper : Proper m tape) (s : State) (sane : Sane m s) (time : ℕ) (on : s .view .clock ≤ time) (most : time ≤ maxClock)
-    (tapeBytes t : List ℕ) (h : Tallying tapeBytes t s) (fewer : getD t 1280 0 < s .turns) where
+    (tapeBytes t : List ℕ) (h : Tallying tapeBytes t s) (fewer : getD t 1536 0 < s .turns) where
   abbrev n : ℕ
   n = servers m
 
@@ -95,25 +96,25 @@ module _ {m : BlockModel} {tape : List (List ℕ)} (proper : Proper m tape) (s :
 
   -- ---- The tally
 
-  other : (i : ℕ) → i ≢ 1280 → getD t′ i 0 ≡ getD t i 0
+  other : (i : ℕ) → i ≢ 1536 → getD t′ i 0 ≡ getD t i 0
   unfolding countMove
-  other i d = getD-set-other t 1280 i _ 0 d
+  other i d = getD-set-other t 1536 i _ 0 d
 
-  moves : getD t′ 1280 0 ≡ getD t 1280 0 + 1
+  moves : getD t′ 1536 0 ≡ getD t 1536 0 + 1
   unfolding countMove
-  moves = getD-set-same t 1280 _ 0 (omega (arith, h .size)) ∙ omega (arith, sane .turns)
+  moves = getD-set-same t 1536 _ 0 (omega (arith, h .size)) ∙ omega (arith, sane .turns)
 
-  below : (i : ℕ) → i < 1280 → getD t′ i 0 ≡ getD t i 0
+  below : (i : ℕ) → i < 1536 → getD t′ i 0 ≡ getD t i 0
   below i low = other i (λ e. omega arith)
 
   seen : Seen t′ time (s .turns)
   seen = seen-later t t′ clock time (s .turns) (h .seen) on most below moves fewer
 
-  sum-after : (at from i : ℕ) → i < 96 → at < 1088 → from < 1088 → (sum k : ℕ) → sumNow t at from i clock ≡ sum → getD t from 0 ≡ k → k ≤ 100000001 → sum + k * ticks < most64
+  sum-after : (at from i : ℕ) → i < 96 → at < 1344 → from < 1344 → (sum k : ℕ) → sumNow t at from i clock ≡ sum → getD t from 0 ≡ k → k ≤ 100000001 → sum + k * ticks < most64
       → sumNow t′ at from i time ≡ sum + k * ticks
   sum-after at from i hi a f = sum-later t t′ clock time (s .turns) (h .seen) on most below moves at from i hi (omega arith) (omega arith)
 
-  longest-after : (at from i : ℕ) → i < 96 → at < 1088 → from < 1088 → (longest k : ℕ) → longestNow t at from i ≡ longest → getD t from 0 ≡ k → longestNow t′ at from i ≡ max longest k
+  longest-after : (at from i : ℕ) → i < 96 → at < 1344 → from < 1344 → (longest k : ℕ) → longestNow t at from i ≡ longest → getD t from 0 ≡ k → longestNow t′ at from i ≡ max longest k
   longest-after at from i hi a f = longest-later t t′ clock time (s .turns) (h .seen) on most below moves at from i hi (omega arith) (omega arith)
 
   -- ---- Servers
@@ -198,6 +199,9 @@ module _ {m : BlockModel} {tape : List (List ℕ)} (proper : Proper m tape) (s :
         in-use = λ v hv. other (512 + v) (λ e. omega arith) ∙ h .servers .in-use v hv ∙ sym (after-at v .in-use);
         holders = λ v hv. other (960 + v) (λ e. omega arith) ∙ h .servers .holders v hv ∙ sym (after-at v .holder);
         preempts = λ v hv. other (1024 + v) (λ e. omega arith) ∙ h .servers .preempts v hv ∙ sym (after-at v .preempted);
+        held = λ r hr.
+            other (1088 + r) (λ e. omega arith) ∙ h .servers .held r hr
+            ∙ sym (held-same r (Machine.sampleServers ticks (s .view .servers) (s .ql)) (s .view .servers) (λ v hv. after-at v .holder));
         unit-ticks = λ v hv.
             sum-after (576 + v) (512 + v) v (omega arith) (omega arith) (omega arith) (server v .unitTicks) (server v .inUse) (h .servers .unit-ticks v hv) (h .servers .in-use v hv) (omega (arith, units-few v))
             (omega (arith, unit-sum v, product-le (server v .inUse) 65535 ticks (units-few v) few))
@@ -293,7 +297,7 @@ module _ {m : BlockModel} {tape : List (List ℕ)} (proper : Proper m tape) (s :
   unfolding countMove
   tally-moved s′ e v l q p c z =
       record {
-        size = length-set t 1280 _ ∙ h .size;
+        size = length-set t 1536 _ ∙ h .size;
         entries = λ b hb. other (0 + b) (λ f. omega arith) ∙ h .entries b hb ∙ ap (λ (x : List ℕ). getD x b 0) (sym e);
         seen = rw (c, z) seen;
         servers = rw (c, v, l) serving;

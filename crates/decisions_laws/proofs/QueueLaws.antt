@@ -39,7 +39,7 @@ use Rattle.state.proofs.Moving.{inside, next-low}
 -- ---- The content of one queue set, whose statistics are up to date
 
 module _ (tally : List ℕ) (clock : ℕ) (queues : List Queue) (i n : ℕ) (low : i < 32) (there : i < length queues) (size : length tally ≡ Layout.tallySize)
-    (now : behind tally (64 + i) ≡ false) (at-clock : getD tally (1088 + (64 + i)) 0 ≡ clock) where
+    (now : behind tally (64 + i) ≡ false) (at-clock : getD tally (1344 + (64 + i)) 0 ≡ clock) where
   abbrev q′ : Queue
   q′ = withContent n (getD queues i emptyQueue)
 

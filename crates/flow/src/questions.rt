@@ -7,6 +7,7 @@ use state::Scalars;
 use state::less32;
 use state::plus32;
 use state::plus64;
+use tables::HELD;
 use tables::HOLDER;
 use tables::TALLY;
 ghost use mathlib.Core.Path.{_≡_};
@@ -18,6 +19,8 @@ ghost use Rattle.tables.specs.Layout.{tallySize};
 ghost use Rattle.flow_laws.specs.Questions.{askRoom, askTime, firstNo, askArrival, heldBy, askHolding};
 
 const MAX_LIVING: u32 = Model::MAX_LIVING as u32;
+
+const RESIDUES: u64 = tables::RESIDUES as u64;
 
 // "Is a living place free for each new one?"
 pub fn ask_room(x: Scalars, n: u32) -> u32
@@ -81,12 +84,15 @@ fn held(tally: &[u64], facilities: usize, number: u64) -> u64
     n
 }
 
-// "TERMINATE while holding a facility"
+// "TERMINATE while holding a facility". The holders are looked at only where a facility is held by a number of the same residue.
 pub fn ask_holding(tally: &[u64], facilities: usize, number: u64) -> u32
     requires { ⌜ facilities ≤ maxFacilities ⌝ }
     ensures { λ r. ⌜ r ≡ askHolding (now (tally .entry)) facilities number ⌝ }
 {
     if tally.len() < TALLY {
+        return 0;
+    }
+    if tally[HELD + ((number % RESIDUES) as usize)] == 0 {
         return 0;
     }
     if held(tally, facilities, number) == 0 {

@@ -1,10 +1,10 @@
 -- The questions, asked of the scalars, are the machine's.
-use Prim.Native.Nat.{ℕ, zero, suc, _+_, _-_, _≤_, min}
+use Prim.Native.Nat.{ℕ, zero, suc, _+_, _-_, _%_, _≤_, min}
 use mathlib.Core.Path.{_≡_, refl, subst, _∙_, ap, sym}
 use mathlib.Core.Bool.{Bool, true, false, cond, not, _||_}
 use mathlib.Core.List.{List, _∷_}
 use native.Mathlib.Omega.{arith}
-use borrow.Author.Tests.{le-ltb, leb-true}
+use borrow.Author.Tests.{le-ltb, leb-true, eqb-true, eq-eqb, ne-eqb}
 use lib.Dec.{eqb, leb}
 use lib.ListN.{length, getD}
 use Rattle.machine.specs.Rules.{Rules, inForce}
@@ -17,9 +17,11 @@ use Rattle.machine.specs.Block.{terminate, BlockModel}
 use Rattle.machine.specs.State.{State}
 use Rattle.machine.specs.Moves.{timesLeft}
 use Rattle.machine.specs.Execute.{unless, living, askGenerate, held, question}
+use Rattle.machine.proofs.lists.Sums.{upTo-zero}
 use Rattle.state.specs.declared.scalars.Scalars.{Scalars}
 use Rattle.state.specs.Sane.{Sane}
-use Rattle.state.specs.Stands.{Tallying, Counting}
+use Rattle.state.specs.Stands.{ofResidue, Tallying, Counting}
+use Rattle.state.proofs.Held.{held-at}
 use Rattle.flow_laws.specs.Questions.{askRoom, askTime, firstNo, askArrival, heldBy, askHolding}
 
 -- the first time of a list
@@ -96,12 +98,35 @@ module _ (m : BlockModel) (rules : m .rules ≡ inForce) (few : m .facilities �
       ∙ ap (λ (k : ℕ). upTo n (λ f. bit (eqb (serverAt (s .view) f .holder) (t .number))) + bit (eqb k (t .number)))
       (h .servers .holders n (omega arith) ∙ ap (λ (i : ℕ). getD (s .view .servers) i (idleServer 0) .holder) e)
 
-  pub holding-asked : (a : ℕ) → askHolding tally (m .facilities) (t .number) ≡ question m (terminate a) t s
-  unfolding askHolding question held
-  holding-asked a =
-      rw (le-ltb (length tally) tallySize (omega (arith, h .size)), held-is (m .facilities) few)
-      (go (eqb (held m (s .view) (t .number)) 0) ∙ ap (λ (q : Rules). unless (not (q .holders) || eqb (held m (s .view) (t .number)) 0) 28 0) (sym rules))
+  -- one that holds a facility is counted in its residue
+  held-none : 1 ≤ t .number → getD tally (1088 + t .number % 256) 0 ≡ 0 → held m (s .view) (t .number) ≡ 0
+  unfolding held serverAt ofResidue
+  held-none low none = upTo-zero (m .facilities) (λ f. bit (eqb (serverAt (s .view) f .holder) (t .number))) (λ f a b. ap bit (ne-eqb _ (t .number) (counted f a b)))
     where
+      r : ℕ
+      r = t .number % 256
+
+      counted : (f : ℕ) → 1 ≤ f → f ≤ m .facilities → serverAt (s .view) f .holder ≡ t .number → ⊥
+      counted f a b e =
+          omega (arith, none, h .servers .held r (omega arith), held-at r (s .view .servers) (f - 1) (omega arith), ap (ofResidue r) e, own)
+        where
+          own : ofResidue r (t .number) ≡ 1
+          own = rw (ne-eqb (t .number) 0 (λ z. omega arith), eq-eqb r r refl) refl
+
+  pub holding-asked : 1 ≤ t .number → (a : ℕ) → askHolding tally (m .facilities) (t .number) ≡ question m (terminate a) t s
+  unfolding askHolding question held
+  holding-asked low a =
+      rw (le-ltb (length tally) tallySize (omega (arith, h .size)), held-is (m .facilities) few)
+      (counts (eqb (getD tally (1088 + t .number % 256) 0) 0) refl ∙ go (eqb (held m (s .view) (t .number)) 0)
+      ∙ ap (λ (q : Rules). unless (not (q .holders) || eqb (held m (s .view) (t .number)) 0) 28 0) (sym rules))
+    where
+      asked : Bool → ℕ
+      asked none = cond none 0 28
+
+      counts : (none : Bool) → eqb (getD tally (1088 + t .number % 256) 0) 0 ≡ none → cond none 0 (asked (eqb (held m (s .view) (t .number)) 0)) ≡ asked (eqb (held m (s .view) (t .number)) 0)
+      counts true e = rw (held-none low (eqb-true _ 0 e)) refl
+      counts false e = refl
+
       go : (none : Bool) → cond none 0 28 ≡ unless none 28 0
       go true = refl
       go false = refl

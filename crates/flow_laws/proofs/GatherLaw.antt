@@ -45,7 +45,7 @@ use Rattle.state.specs.Sane.{Sane}
 use Rattle.state.specs.Stands.{Rows, rowsOf, gathererRow, listsOf, Listing, Counting, Tallying, Stands, noteOf, Done}
 use Rattle.state.proofs.ListsOf.{lists-gatherers, lists-set-gatherers, lists-moved}
 use Rattle.state.proofs.StandsLaws.{listing-ext, listing-write, listing-put, listing-steady, tallying-ext, stands-of, stands-moving}
-use Rattle.state.proofs.Moving.{placed, next-low, serial-low}
+use Rattle.state.proofs.Moving.{placed, named, next-low, serial-low}
 use Rattle.moves.specs.Motion.{Moved, moved, withTally, next32, beginWait}
 use Rattle.moves.proofs.MotionLaws.{next-read, number-read, asked}
 use Rattle.tables.proofs.Operands.{operand}
@@ -417,7 +417,7 @@ module _ (m : BlockModel) (tape : List (List ℕ)) (tapeBytes tables lists : Lis
     later-done : Done tapeBytes (laterRows (m .facilities) w tally x n p c k) (bareAnswer (question m b t s) m b t s)
     unfolding laterRows
     later-done =
-        rw (number-read w x t s (stands .listing), holding-asked m (sane .rules) (omega (arith, proper .facilities)) tapeBytes tally s (stands .tallying) t 0, asked-is)
+        rw (number-read w x t s (stands .listing), holding-asked m (sane .rules) (omega (arith, proper .facilities)) tapeBytes tally s (stands .tallying) t (named proper t s sane moving) 0, asked-is)
         (asked tapeBytes m r t s stands moving b (question m b t s) (withTally (countOn w x n p c k (next32 (read w 6 k))) tally)
         (λ z. subst (Done tapeBytes (withTally (countOn w x n p c k (next32 (read w 6 k))) tally)) (sym bare-is) counts-done))
 

@@ -35,7 +35,7 @@ use Rattle.flow_laws.specs.Kinds.{endOne, terminateRows}
 use Rattle.tables.proofs.Operands.{operand}
 use Rattle.flow_laws.proofs.Asked.{holding-asked}
 use Rattle.flow_laws.proofs.New.{next32-suc}
-use Rattle.state.proofs.Moving.{placed}
+use Rattle.state.proofs.Moving.{placed, named}
 
 -- ---- The row of the transaction is free
 
@@ -117,5 +117,5 @@ module _ (m : BlockModel) (tape : List (List ℕ)) (tapeBytes tables lists : Lis
   pub terminate-done : Done tapeBytes (terminateRows tables (m .facilities) (r .work) (r .tally) (r .scalars) (8 * (t .next - 1))) (bareAnswer (question m b t s) m b t s)
   unfolding terminateRows bare
   terminate-done =
-      rw (operand-is, number-read w x t s (stands .listing), holding-asked m (sane .rules) (omega (arith, proper .facilities)) tapeBytes tally s (stands .tallying) t a)
+      rw (operand-is, number-read w x t s (stands .listing), holding-asked m (sane .rules) (omega (arith, proper .facilities)) tapeBytes tally s (stands .tallying) t (named proper t s sane moving) a)
       (asked tapeBytes m r t s stands moving b (question m b t s) (rowsOf (endOne x a) (freeRow w (x .moving)) tally) (λ e. ended))

@@ -1,12 +1,12 @@
 -- The questions of GENERATE, ADVANCE, SPLIT and TERMINATE, asked of the scalars and the tally: 0 where the answer is yes, else the number of the end.
-use Prim.Native.Nat.{ℕ, zero, suc, _+_, _-_}
+use Prim.Native.Nat.{ℕ, zero, suc, _+_, _-_, _%_}
 use mathlib.Core.Bool.{cond}
 use mathlib.Core.List.{List}
 use lib.Dec.{eqb, ltb, leb}
 use lib.ListN.{length, getD}
 use Rattle.machine.specs.Limits.{maxLiving, maxClock}
 use Rattle.machine.specs.Lists.{bit}
-use Rattle.tables.specs.Layout.{holder, tallySize}
+use Rattle.tables.specs.Layout.{holder, residues, held, tallySize}
 use Rattle.state.specs.declared.scalars.Scalars.{Scalars}
 use Rattle.flow_laws.specs.Sending.{plus32, plus64}
 
@@ -30,6 +30,9 @@ unfoldable pub heldBy : List ℕ → (n number : ℕ) → ℕ
 heldBy tally zero number = 0
 heldBy tally (suc n) number = heldBy tally n number + bit (eqb (getD tally (holder + n) 0) number)
 
--- document 02, item 6: "28 TERMINATE while holding a facility"
+-- document 02, item 6: "28 TERMINATE while holding a facility". Where none is held by a number of that residue, no holder is looked at
 unfoldable pub askHolding : List ℕ → (facilities number : ℕ) → ℕ
-askHolding tally facilities number = cond (ltb (length tally) tallySize) 0 (cond (eqb (heldBy tally facilities number) 0) 0 28)
+askHolding tally facilities number =
+    cond (ltb (length tally) tallySize) 0
+    (cond (eqb (getD tally (held + number % residues) 0) 0) 0
+    (cond (eqb (heldBy tally facilities number) 0) 0 28))

@@ -1,18 +1,24 @@
 // Units, holders, capacities and status codes of servers.
+use state::less64;
+use state::plus64;
 use state::update_server;
 use tables::CAPACITIES;
+use tables::HELD;
 use tables::HOLDER;
 use tables::IN_USE;
 use tables::PREEMPTED;
+use tables::TALLY;
 use tables::count;
 use tables::number;
-use tables::set_count;
 ghost use mathlib.Core.Path.{_≡_};
-ghost use Prim.Native.Nat.{_+_, _<_};
-ghost use Rattle.tables.specs.Layout.{serverCount, wordEnd};
-ghost use Rattle.servers_laws.specs.Units.{serverAt, inUse, holder, preempted, setUse, changeUse, capacity, statusOf};
+ghost use Prim.Native.Nat.{_+_, _<_, _≤_};
+ghost use lib.ListN.{length};
+ghost use Rattle.tables.specs.Layout.{serverCount, wordEnd, tallySize};
+ghost use Rattle.servers_laws.specs.Units.{serverAt, inUse, holder, preempted, residueCell, heldLess, heldMore, storeUse, setUse, changeUse, capacity, statusOf};
 
 const SERVERS: u32 = tables::SERVERS as u32;
+
+const RESIDUES: u64 = tables::RESIDUES as u64;
 
 pub const CODES: u32 = tables::CODES as u32;
 
@@ -47,14 +53,60 @@ pub fn preempted(tally: &[u64], v: u32) -> u64
     count(tally, PREEMPTED + (v as usize))
 }
 
-// So many units are in use, who holds the server, and whether by PREEMPT.
+// Where facilities are counted that such a number holds.
+fn residue_cell(n: u64) -> usize
+    ensures cell { λ r. ⌜ r ≡ residueCell n ⌝ }
+    ensures low { λ r. ⌜ r < tallySize ⌝ }
+{
+    HELD + ((n % RESIDUES) as usize)
+}
+
+// One facility fewer is held by that number, 0 for nobody.
+fn held_less(tally: &mut [u64], n: u64)
+    requires { ⌜ tallySize ≤ length (now tally) ⌝ }
+    ensures { λ _. ⌜ now (tally .exit) ≡ heldLess (now (tally .entry)) n ⌝ }
+{
+    if n == 0 {
+        return;
+    }
+    let at = residue_cell(n);
+    tally[at] = less64(tally[at], 1);
+}
+
+// One more.
+fn held_more(tally: &mut [u64], n: u64)
+    requires { ⌜ tallySize ≤ length (now tally) ⌝ }
+    ensures { λ _. ⌜ now (tally .exit) ≡ heldMore (now (tally .entry)) n ⌝ }
+{
+    if n == 0 {
+        return;
+    }
+    let at = residue_cell(n);
+    tally[at] = plus64(tally[at], 1);
+}
+
+fn store_use(tally: &mut [u64], v: u32, units: u64, who: u64, preempts: u64)
+    requires { ⌜ v < serverCount ⌝ }
+    requires { ⌜ tallySize ≤ length (now tally) ⌝ }
+    ensures { λ _. ⌜ now (tally .exit) ≡ storeUse (now (tally .entry)) v units who preempts ⌝ }
+{
+    tally[IN_USE + (v as usize)] = units;
+    tally[HOLDER + (v as usize)] = who;
+    tally[PREEMPTED + (v as usize)] = preempts;
+}
+
+// So many units are in use, who holds the server, and whether by PREEMPT. One test of the length serves all cells.
 fn set_use(tally: &mut [u64], v: u32, units: u64, who: u64, preempts: u64)
     requires { ⌜ v < serverCount ⌝ }
     ensures { λ _. ⌜ now (tally .exit) ≡ setUse (now (tally .entry)) v units who preempts ⌝ }
 {
-    set_count(tally, IN_USE + (v as usize), units);
-    set_count(tally, HOLDER + (v as usize), who);
-    set_count(tally, PREEMPTED + (v as usize), preempts);
+    if tally.len() < TALLY {
+        return;
+    }
+    let old = tally[HOLDER + (v as usize)];
+    held_less(tally, old);
+    held_more(tally, who);
+    store_use(tally, v, units, who, preempts);
 }
 
 // The same from now on: the server's statistics are brought up to date first.

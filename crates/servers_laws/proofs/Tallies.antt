@@ -1,11 +1,13 @@
 -- The tally follows a server's units, its holder, whether by PREEMPT, and the length of its QL, where its statistics are up to date.
-use Prim.Native.Nat.{ℕ, zero, suc, _+_, _-_, _≤_, _<_, min}
-use mathlib.Core.Path.{_≡_, refl, sym, ap, _∙_}
+use Prim.Native.Nat.{ℕ, zero, suc, _+_, _-_, _%_, _≤_, _<_, min}
+use mathlib.Core.Path.{_≡_, refl, sym, ap, subst, _∙_}
 use mathlib.Core.Logic.{_≢_}
 use mathlib.Core.Bool.{Bool, true, false, cond}
 use mathlib.Core.List.{List, [], _∷_}
 use native.Mathlib.Omega.{arith}
 use native.Mathlib.Decide.{ℕ-discrete}
+use borrow.Author.Tests.{le-ltb, eq-eqb, ne-eqb}
+use lib.Dec.{ltb, eqb}
 use lib.ListN.{length, getD, set, drop, length-set, length-drop}
 use lib.Seq.{getD-set-same, getD-set-other}
 use Rattle.machine.specs.Transaction.{Transaction}
@@ -17,12 +19,15 @@ use Rattle.machine.specs.Setters.{withUse, withSerial, setQl, setSerial}
 use Rattle.machine.specs.Moves as Moves
 use Rattle.machine.proofs.lists.Sums.{sum-length}
 use Rattle.machine.proofs.lists.Lines.{sum-lineUp}
+use Rattle.tables.specs.Layout as Layout
+use Rattle.tables.specs.Layout.{most64}
 use Rattle.state.specs.Statistics.{behind, sumNow, longestNow}
-use Rattle.state.specs.Stands.{Tallying}
+use Rattle.state.specs.Stands.{ofResidue, heldIn, Tallying}
 use Rattle.state.specs.Bare.{Bare, waitsNote, noNote, waiting}
-use Rattle.state.proofs.StandsLaws.{tallying-ext, entries-set, pair-set, seen-set, queueing-set, sampling-set}
+use Rattle.state.proofs.StandsLaws.{tallying-ext, entries-set, pair-set, seen-same, seen-set, queueing-same, queueing-set, sampling-same, sampling-set}
+use Rattle.state.proofs.Held.{held-most, held-at, held-set}
 use Rattle.state.proofs.StatisticsLaws.{SamePair, behind-same, sum-same, longest-same, sum-moved, longest-moved}
-use Rattle.servers_laws.specs.Units.{setUse}
+use Rattle.servers_laws.specs.Units.{holder, residueCell, setHeld, heldLess, heldMore, storeUse, setUse}
 use Rattle.servers_laws.specs.Waking.{shorter}
 use Rattle.servers_laws.specs.Taking.{longer}
 
@@ -40,6 +45,82 @@ field-kept f (x ∷ l) (suc i) a d e (suc j) = field-kept f l i a d e j
 line-length : (edition : ℕ) (t : Transaction) (l : List Transaction) → length (Moves.lineUp edition t l) ≡ suc (length l)
 line-length edition t l = omega (arith, sum-lineUp (λ u. 1) edition t l, sum-length (Moves.lineUp edition t l), sum-length l)
 
+-- ---- Counts of what is held
+
+module _ (tally : List ℕ) (n : ℕ) where
+  set-length : (count : ℕ) → length (setHeld tally n count) ≡ length tally
+  unfolding setHeld
+  set-length count = go (eqb n 0)
+    where
+      go : (b : Bool) → length (cond b tally (set tally (residueCell n) count)) ≡ length tally
+      go true = refl
+      go false = length-set tally (residueCell n) count
+
+  -- no cell but that of the residue is changed
+  set-other : (count j : ℕ) → j ≢ residueCell n → getD (setHeld tally n count) j 0 ≡ getD tally j 0
+  unfolding setHeld
+  set-other count j d = go (eqb n 0)
+    where
+      go : (b : Bool) → getD (cond b tally (set tally (residueCell n) count)) j 0 ≡ getD tally j 0
+      go true = refl
+      go false = getD-set-other tally (residueCell n) j count 0 d
+
+  less-length : length (heldLess tally n) ≡ length tally
+  unfolding heldLess
+  less-length = set-length _
+
+  more-length : length (heldMore tally n) ≡ length tally
+  unfolding heldMore
+  more-length = set-length _
+
+  less-other : (j : ℕ) → j ≢ residueCell n → getD (heldLess tally n) j 0 ≡ getD tally j 0
+  unfolding heldLess
+  less-other = set-other _
+
+  more-other : (j : ℕ) → j ≢ residueCell n → getD (heldMore tally n) j 0 ≡ getD tally j 0
+  unfolding heldMore
+  more-other = set-other _
+
+  -- the cell of a residue
+  module _ (size : length tally ≡ Layout.tallySize) (r : ℕ) (hr : r < 256) where
+    less-cell : getD (heldLess tally n) (1088 + r) 0 ≡ getD tally (1088 + r) 0 - ofResidue r n
+    unfolding heldLess setHeld ofResidue
+    less-cell = go (eqb n 0) (ℕ-discrete (n % 256) r)
+      where
+        go : (b : Bool) → Dec (n % 256 ≡ r) → getD (cond b tally (set tally (residueCell n) (getD tally (residueCell n) 0 - 1))) (1088 + r) 0 ≡ getD tally (1088 + r) 0 - cond b 0 (bit (eqb (n % 256) r))
+        go true d = omega arith
+        go false (yes e) = rw (e, eq-eqb r r refl) (getD-set-same tally (1088 + r) (getD tally (1088 + r) 0 - 1) 0 (omega arith))
+        go false (no d) =
+            rw (ne-eqb (n % 256) r d) (getD-set-other tally (1088 + n % 256) (1088 + r) (getD tally (1088 + n % 256) 0 - 1) 0 (λ e. d (omega arith)) ∙ omega arith)
+
+    more-cell : getD tally (1088 + r) 0 ≤ 64 → getD (heldMore tally n) (1088 + r) 0 ≡ getD tally (1088 + r) 0 + ofResidue r n
+    unfolding heldMore setHeld ofResidue
+    more-cell few = go (eqb n 0) (ℕ-discrete (n % 256) r)
+      where
+        go : (b : Bool) → Dec (n % 256 ≡ r) → getD (cond b tally (set tally (residueCell n) (min (getD tally (residueCell n) 0 + 1) most64))) (1088 + r) 0 ≡ getD tally (1088 + r) 0 + cond b 0 (bit (eqb (n % 256) r))
+        go true d = omega arith
+        go false (yes e) =
+            rw (e, eq-eqb r r refl) (getD-set-same tally (1088 + r) (min (getD tally (1088 + r) 0 + 1) most64) 0 (omega arith) ∙ omega arith)
+        go false (no d) =
+            rw (ne-eqb (n % 256) r d) (getD-set-other tally (1088 + n % 256) (1088 + r) (min (getD tally (1088 + n % 256) 0 + 1) most64) 0 (λ e. d (omega arith)) ∙ omega arith)
+
+-- cells below those of the servers stay
+pub use-low : (tally : List ℕ) (v units who preempts j : ℕ) → j < 512 → getD (setUse tally v units who preempts) j 0 ≡ getD tally j 0
+unfolding setUse
+use-low tally v units who preempts j low = go (ltb (length tally) Layout.tallySize)
+  where
+    off : List ℕ
+    off = heldLess tally (holder tally v)
+
+    on : List ℕ
+    on = heldMore off who
+
+    go : (short : Bool) → getD (cond short tally (storeUse on v units who preempts)) j 0 ≡ getD tally j 0
+    go true = refl
+    go false =
+        getD-set-other (set (set on (512 + v) units) (960 + v) who) (1024 + v) j preempts 0 (λ e. omega arith) ∙ getD-set-other (set on (512 + v) units) (960 + v) j who 0 (λ e. omega arith)
+        ∙ getD-set-other on (512 + v) j units 0 (λ e. omega arith) ∙ more-other off who j (λ e. omega arith) ∙ less-other tally (holder tally v) j (λ e. omega arith)
+
 -- ---- The cells of each kind
 
 module _ (tapeBytes tally : List ℕ) (s : State) (h : Tallying tapeBytes tally s) (few : length (s .samples) ≤ 16) (v : ℕ) (low : 1 ≤ v) (high : v ≤ 64)
@@ -47,7 +128,7 @@ module _ (tapeBytes tally : List ℕ) (s : State) (h : Tallying tapeBytes tally 
   abbrev clock : ℕ
   clock = s .view .clock
 
-  at-clock : getD tally (1088 + (v - 1)) 0 ≡ clock
+  at-clock : getD tally (1344 + (v - 1)) 0 ≡ clock
   at-clock = h .seen .current (v - 1) (omega arith) now
 
   -- so many units are in use, who holds it, and whether by PREEMPT
@@ -70,8 +151,18 @@ module _ (tapeBytes tally : List ℕ) (s : State) (h : Tallying tapeBytes tally 
     abbrev servers′ : List Server
     servers′ = set (s .view .servers) (v - 1) server′
 
+    -- who held it
+    abbrev old : ℕ
+    old = getD tally o 0
+
+    abbrev off : List ℕ
+    off = heldLess tally old
+
+    abbrev on : List ℕ
+    on = heldMore off who
+
     abbrev one : List ℕ
-    one = set tally i units
+    one = set on i units
 
     abbrev two : List ℕ
     two = set one o who
@@ -79,73 +170,92 @@ module _ (tapeBytes tally : List ℕ) (s : State) (h : Tallying tapeBytes tally 
     abbrev all : List ℕ
     all = set two z (bit preempts)
 
-    size₂ : length two ≡ length tally
-    size₂ = length-set one o who ∙ length-set tally i units
+    size₀ : length on ≡ Layout.tallySize
+    size₀ = more-length off who ∙ less-length tally old ∙ h .size
 
-    other : (j : ℕ) → j ≢ i → j ≢ o → j ≢ z → getD all j 0 ≡ getD tally j 0
-    other j d e f = getD-set-other two z j (bit preempts) 0 f ∙ getD-set-other one o j who 0 e ∙ getD-set-other tally i j units 0 d
+    size₁ : length one ≡ Layout.tallySize
+    size₁ = length-set on i units ∙ size₀
+
+    size₂ : length two ≡ Layout.tallySize
+    size₂ = length-set one o who ∙ size₁
+
+    set-is : setUse tally (v - 1) units who (bit preempts) ≡ all
+    unfolding setUse
+    set-is = rw (le-ltb (length tally) Layout.tallySize (omega (arith, h .size))) refl
+
+    sets : (j : ℕ) → j ≢ i → j ≢ o → j ≢ z → getD all j 0 ≡ getD on j 0
+    sets j d e f = getD-set-other two z j (bit preempts) 0 f ∙ getD-set-other one o j who 0 e ∙ getD-set-other on i j units 0 d
+
+    -- cells below the counts, and above them
+    other : (j : ℕ) → j < 1088 → j ≢ i → j ≢ o → j ≢ z → getD all j 0 ≡ getD tally j 0
+    other j a d e f = sets j d e f ∙ more-other off who j (λ q. omega arith) ∙ less-other tally old j (λ q. omega arith)
+
+    above : (j : ℕ) → 1344 ≤ j → getD all j 0 ≡ getD tally j 0
+    above j a =
+        sets j (λ e. omega arith) (λ e. omega arith) (λ e. omega arith) ∙ more-other off who j (λ q. omega arith) ∙ less-other tally old j (λ q. omega arith)
+
+    -- the counts
+    held-cell : (r : ℕ) → r < 256 → getD all (1088 + r) 0 ≡ heldIn servers′ r
+    held-cell r hr =
+        let was : getD tally (1088 + r) 0 ≡ heldIn (s .view .servers) r = h .servers .held r hr in
+        let gone : getD off (1088 + r) 0 ≡ getD tally (1088 + r) 0 - ofResidue r old = less-cell tally old (h .size) r hr in
+        sets (1088 + r) (λ e. omega arith) (λ e. omega arith) (λ e. omega arith)
+        ∙ more-cell off who (less-length tally old ∙ h .size) r hr (omega (arith, held-most r (s .view .servers)))
+        ∙ omega (arith, held-set r (s .view .servers) (v - 1) server′ (omega arith) there, held-at r (s .view .servers) (v - 1) (omega arith), ap (ofResidue r) (h .servers .holders (v - 1) (omega arith)))
 
     -- the cells of a field that is set
-    set-cell : (base : ℕ) (f : Server → ℕ) → ((u : ℕ) → u < 64 → getD tally (base + u) 0 ≡ f (getD (s .view .servers) u (idleServer 0)))
+    set-cell : (base : ℕ) (f : Server → ℕ) → base ≤ 1024 → ((u : ℕ) → u < 64 → getD tally (base + u) 0 ≡ f (getD (s .view .servers) u (idleServer 0)))
         → getD all (base + (v - 1)) 0 ≡ f server′ → ((u : ℕ) → u < 64 → u ≢ v - 1 → (base + u ≢ i) × (base + u ≢ o) × (base + u ≢ z))
         → (u : ℕ) → u < 64 → getD all (base + u) 0 ≡ f (getD servers′ u (idleServer 0))
-    set-cell base f was is apart u hu = go (ℕ-discrete u (v - 1))
+    set-cell base f b was is apart u hu = go (ℕ-discrete u (v - 1))
       where
         go : Dec (u ≡ v - 1) → getD all (base + u) 0 ≡ f (getD servers′ u (idleServer 0))
         go (yes e) = rw e (is ∙ sym (ap f (getD-set-same (s .view .servers) (v - 1) server′ (idleServer 0) there)))
         go (no d) =
             let k = apart u hu d in
-            other (base + u) (k .0) (k .1) (k .2) ∙ was u hu ∙ sym (ap f (getD-set-other (s .view .servers) (v - 1) u server′ (idleServer 0) d))
+            other (base + u) (omega arith) (k .0) (k .1) (k .2) ∙ was u hu ∙ sym (ap f (getD-set-other (s .view .servers) (v - 1) u server′ (idleServer 0) d))
 
     -- the pairs stay
     pair : (j : ℕ) → SamePair tally all j
-    pair j =
-        record {
-          clock = other (1088 + j) (λ e. omega arith) (λ e. omega arith) (λ e. omega arith);
-          moves = other (1184 + j) (λ e. omega arith) (λ e. omega arith) (λ e. omega arith);
-          all = other 1280 (λ e. omega arith) (λ e. omega arith) (λ e. omega arith);
-        }
+    pair j = record { clock = above (1344 + j) (omega arith); moves = above (1440 + j) (omega arith); all = above 1536 (omega arith) }
 
     -- cells between them stay
     mid : (j : ℕ) → 576 ≤ j → j < 960 → getD all j 0 ≡ getD tally j 0
-    mid j a b = other j (λ e. omega arith) (λ e. omega arith) (λ e. omega arith)
+    mid j a b = other j (omega arith) (λ e. omega arith) (λ e. omega arith) (λ e. omega arith)
 
     unit-sum : (u : ℕ) → u < 64 → Dec (u ≡ v - 1) → sumNow all (576 + u) (512 + u) u clock ≡ sumNow tally (576 + u) (512 + u) u clock
     unit-sum u hu (yes e) = rw e (sum-moved tally all (v - 1) (pair (v - 1)) (576 + (v - 1)) i (mid (576 + (v - 1)) (omega arith) (omega arith)) clock at-clock)
     unit-sum u hu (no d) =
-        sum-same tally all u (pair u) (576 + u) (512 + u) clock (mid (576 + u) (omega arith) (omega arith)) (other (512 + u) (λ e. d (omega arith)) (λ e. omega arith) (λ e. omega arith))
+        sum-same tally all u (pair u) (576 + u) (512 + u) clock (mid (576 + u) (omega arith) (omega arith)) (other (512 + u) (omega arith) (λ e. d (omega arith)) (λ e. omega arith) (λ e. omega arith))
 
     pub units-current : behind (setUse tally (v - 1) units who (bit preempts)) (v - 1) ≡ false
-    units-current = behind-same tally all (v - 1) (pair (v - 1)) ∙ now
+    units-current = ap (λ (l : List ℕ). behind l (v - 1)) set-is ∙ behind-same tally all (v - 1) (pair (v - 1)) ∙ now
 
     -- what the change leaves of each server
     kept : (f : Server → ℕ) → f server′ ≡ f server → (u : ℕ) → f (getD (s .view .servers) u (idleServer 0)) ≡ f (getD servers′ u (idleServer 0))
     kept f e u = sym (field-kept f (s .view .servers) (v - 1) server′ (idleServer 0) e u)
 
-    pub units-tallying : Tallying tapeBytes (setUse tally (v - 1) units who (bit preempts)) (Moves.setUse v units who preempts s)
+    all-tallying : Tallying tapeBytes all (Moves.setUse v units who preempts s)
     unfolding Moves.setUse Term.serverAt
-    units-tallying =
+    all-tallying =
         record {
-          size = length-set two z (bit preempts) ∙ size₂ ∙ h .size;
-          entries =
-              entries-set two z (bit preempts) (s .view .entries) (omega arith)
-              (entries-set one o who (s .view .entries) (omega arith) (entries-set tally i units (s .view .entries) (omega arith) (h .entries)));
-          seen =
-              seen-set two z (bit preempts) clock (s .turns) (omega arith)
-              (seen-set one o who clock (s .turns) (omega arith) (seen-set tally i units clock (s .turns) (omega arith) (h .seen)));
+          size = length-set two z (bit preempts) ∙ size₂;
+          entries = λ b hb. other (0 + b) (omega arith) (λ e. omega arith) (λ e. omega arith) (λ e. omega arith) ∙ h .entries b hb;
+          seen = seen-same tally all pair clock (s .turns) (h .seen);
           servers =
               record {
                 in-use =
-                    set-cell 512 (λ x. x .inUse) (h .servers .in-use)
-                    (getD-set-other two z i (bit preempts) 0 (λ f. omega arith) ∙ getD-set-other one o i who 0 (λ f. omega arith) ∙ getD-set-same tally i units 0 (omega (arith, h .size)))
+                    set-cell 512 (λ x. x .inUse) (omega arith) (h .servers .in-use)
+                    (getD-set-other two z i (bit preempts) 0 (λ f. omega arith) ∙ getD-set-other one o i who 0 (λ f. omega arith) ∙ getD-set-same on i units 0 (omega (arith, size₀)))
                     (λ u hu d. (λ e. d (omega arith), λ e. omega arith, λ e. omega arith));
                 holders =
-                    set-cell 960 (λ x. x .holder) (h .servers .holders)
-                    (getD-set-other two z o (bit preempts) 0 (λ f. omega arith) ∙ getD-set-same one o who 0 (omega (arith, h .size, length-set tally i units)))
+                    set-cell 960 (λ x. x .holder) (omega arith) (h .servers .holders)
+                    (getD-set-other two z o (bit preempts) 0 (λ f. omega arith) ∙ getD-set-same one o who 0 (omega (arith, size₁)))
                     (λ u hu d. (λ e. omega arith, λ e. d (omega arith), λ e. omega arith));
                 preempts =
-                    set-cell 1024 (λ x. bit (x .preempted)) (h .servers .preempts) (getD-set-same two z (bit preempts) 0 (omega (arith, h .size, size₂)))
+                    set-cell 1024 (λ x. bit (x .preempted)) (omega arith) (h .servers .preempts) (getD-set-same two z (bit preempts) 0 (omega (arith, size₂)))
                     (λ u hu d. (λ e. omega arith, λ e. omega arith, λ e. d (omega arith)));
+                held = held-cell;
                 unit-ticks = λ u hu. unit-sum u hu (ℕ-discrete u (v - 1)) ∙ h .servers .unit-ticks u hu ∙ kept (λ x. x .unitTicks) refl u;
                 wait-ticks = λ u hu.
                     sum-same tally all u (pair u) (640 + u) (768 + u) clock (mid (640 + u) (omega arith) (omega arith)) (mid (768 + u) (omega arith) (omega arith)) ∙ h .servers .wait-ticks u hu
@@ -153,17 +263,14 @@ module _ (tapeBytes tally : List ℕ) (s : State) (h : Tallying tapeBytes tally 
                 longest = λ u hu.
                     longest-same tally all u (pair u) (704 + u) (768 + u) (mid (704 + u) (omega arith) (omega arith)) (mid (768 + u) (omega arith) (omega arith)) ∙ h .servers .longest u hu
                     ∙ kept (λ x. x .longest) refl u;
-                waiting = λ u hu. other (768 + u) (λ e. omega arith) (λ e. omega arith) (λ e. omega arith) ∙ h .servers .waiting u hu;
+                waiting = λ u hu. mid (768 + u) (omega arith) (omega arith) ∙ h .servers .waiting u hu;
               };
-          queues =
-              queueing-set two z (bit preempts) clock (s .view .queues) (omega arith) (λ j a b e. omega arith)
-              (queueing-set one o who clock (s .view .queues) (omega arith) (λ j a b e. omega arith)
-              (queueing-set tally i units clock (s .view .queues) (omega arith) (λ j a b e. omega arith) (h .queues)));
-          samples =
-              sampling-set two z (bit preempts) tapeBytes (s .samples) few (λ j a b e. omega arith)
-              (sampling-set one o who tapeBytes (s .samples) few (λ j a b e. omega arith)
-              (sampling-set tally i units tapeBytes (s .samples) few (λ j a b e. omega arith) (h .samples)));
+          queues = queueing-same tally all pair clock (s .view .queues) (λ j a b. mid j (omega arith) (omega arith)) (h .queues);
+          samples = sampling-same tally all tapeBytes (s .samples) few (λ j a b. mid j (omega arith) b) (h .samples);
         }
+
+    pub units-tallying : Tallying tapeBytes (setUse tally (v - 1) units who (bit preempts)) (Moves.setUse v units who preempts s)
+    units-tallying = subst (λ (l : List ℕ). Tallying tapeBytes l (Moves.setUse v units who preempts s)) (sym set-is) all-tallying
 
   -- the QL is of such a length
   module _ (l : List Transaction) (n : ℕ) (e : n ≡ length l) (there : v - 1 < length (s .ql)) where
@@ -207,6 +314,7 @@ module _ (tapeBytes tally : List ℕ) (s : State) (h : Tallying tapeBytes tally 
                 in-use = λ u hu. apart (512 + u) (λ f. omega arith) ∙ h .servers .in-use u hu;
                 holders = λ u hu. apart (960 + u) (λ f. omega arith) ∙ h .servers .holders u hu;
                 preempts = λ u hu. apart (1024 + u) (λ f. omega arith) ∙ h .servers .preempts u hu;
+                held = λ r hr. apart (1088 + r) (λ f. omega arith) ∙ h .servers .held r hr;
                 unit-ticks = λ u hu.
                     sum-same tally (set tally k n) u (pair-kept u) (576 + u) (512 + u) clock (apart (576 + u) (λ f. omega arith)) (apart (512 + u) (λ f. omega arith)) ∙ h .servers .unit-ticks u hu;
                 wait-ticks = λ u hu. wait-sum u hu (ℕ-discrete u (v - 1)) ∙ h .servers .wait-ticks u hu;

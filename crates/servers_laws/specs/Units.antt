@@ -1,9 +1,9 @@
 -- The row machine: units, holders, capacities and status codes of servers, which count from 0 here.
-use Prim.Native.Nat.{ℕ, _+_, _%_}
+use Prim.Native.Nat.{ℕ, _+_, _-_, _%_, min}
 use mathlib.Core.Bool.{Bool, cond, not}
 use mathlib.Core.List.{List}
 use lib.Dec.{ltb, eqb}
-use lib.ListN.{getD, set}
+use lib.ListN.{length, getD, set}
 use Rattle.tables.specs.Layout as Layout
 use Rattle.state.specs.Statistics.{updateServer}
 
@@ -22,8 +22,28 @@ holder tally v = getD tally (Layout.holder + v) 0
 abbrev pub preempted : List ℕ → ℕ → ℕ
 preempted tally v = getD tally (Layout.preempted + v) 0
 
-abbrev pub setUse : List ℕ → (v units who preempts : ℕ) → List ℕ
-setUse tally v units who preempts = set (set (set tally (Layout.inUse + v) units) (Layout.holder + v) who) (Layout.preempted + v) preempts
+-- where facilities are counted that such a number holds
+abbrev pub residueCell : ℕ → ℕ
+residueCell n = Layout.held + n % Layout.residues
+
+-- so many are; 0 is nobody's number
+unfoldable pub setHeld : List ℕ → (n count : ℕ) → List ℕ
+setHeld tally n count = cond (eqb n 0) tally (set tally (residueCell n) count)
+
+-- one fewer, and one more
+unfoldable pub heldLess : List ℕ → ℕ → List ℕ
+heldLess tally n = setHeld tally n (getD tally (residueCell n) 0 - 1)
+
+unfoldable pub heldMore : List ℕ → ℕ → List ℕ
+heldMore tally n = setHeld tally n (min (getD tally (residueCell n) 0 + 1) Layout.most64)
+
+abbrev pub storeUse : List ℕ → (v units who preempts : ℕ) → List ℕ
+storeUse tally v units who preempts = set (set (set tally (Layout.inUse + v) units) (Layout.holder + v) who) (Layout.preempted + v) preempts
+
+-- nothing where the tally is too short: one test for all cells
+unfoldable pub setUse : List ℕ → (v units who preempts : ℕ) → List ℕ
+setUse tally v units who preempts =
+    cond (ltb (length tally) Layout.tallySize) tally (storeUse (heldMore (heldLess tally (holder tally v)) who) v units who preempts)
 
 -- from now on: the server's statistics are brought up to date first
 abbrev pub changeUse : List ℕ → (v clock units who preempts : ℕ) → List ℕ

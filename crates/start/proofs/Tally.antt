@@ -16,6 +16,7 @@ use Rattle.tables.specs.Layout as Layout
 use Rattle.tables.specs.Represents.{Represents}
 use Rattle.state.specs.Statistics.{sumNow, longestNow}
 use Rattle.state.specs.Stands.{Seen, Serving, Queueing, Sampling, Tallying}
+use Rattle.state.proofs.Held.{held-none}
 use Rattle.state.proofs.StatisticsLaws.{sum-current, longest-current, seen-now}
 use Rattle.start.specs.Start.{listSet, listsSet}
 
@@ -111,19 +112,19 @@ module _ (m : BlockModel) (tape : List (List ℕ)) (tapeBytes tables lists tally
 
   -- nothing has passed
   no-sum : (at from i : ℕ) → at < 928 → sumNow (listsSet 16 lists tally) at from i 0 ≡ 0
-  no-sum at from i h = sum-current (listsSet 16 lists tally) at from i 0 (high-at (1088 + i) (omega arith)) ∙ omega (arith, zero-at at h)
+  no-sum at from i h = sum-current (listsSet 16 lists tally) at from i 0 (high-at (1344 + i) (omega arith)) ∙ omega (arith, zero-at at h)
 
   no-longest : (at from i : ℕ) → at < 928 → longestNow (listsSet 16 lists tally) at from i ≡ 0
   no-longest at from i h =
-      longest-current (listsSet 16 lists tally) at from i (seen-now (listsSet 16 lists tally) i (high-at (1184 + i) (omega arith) ∙ sym (high-at 1280 (omega arith)))) ∙ zero-at at h
+      longest-current (listsSet 16 lists tally) at from i (seen-now (listsSet 16 lists tally) i (high-at (1440 + i) (omega arith) ∙ sym (high-at 1536 (omega arith)))) ∙ zero-at at h
 
   seen : Seen (listsSet 16 lists tally) 0 0
   seen =
       record {
-        moves = omega (arith, high-at 1280 (omega arith));
-        before = λ i hi. omega (arith, high-at (1184 + i) (omega arith));
-        clocks = λ i hi. omega (arith, high-at (1088 + i) (omega arith));
-        current = λ i hi n. high-at (1088 + i) (omega arith);
+        moves = omega (arith, high-at 1536 (omega arith));
+        before = λ i hi. omega (arith, high-at (1440 + i) (omega arith));
+        clocks = λ i hi. omega (arith, high-at (1344 + i) (omega arith));
+        current = λ i hi n. high-at (1344 + i) (omega arith);
       }
 
   serving : Serving (listsSet 16 lists tally) 0 servers (replicate (m .facilities + length (m .capacities)) [])
@@ -132,6 +133,7 @@ module _ (m : BlockModel) (tape : List (List ℕ)) (tapeBytes tables lists tally
         in-use = λ v hv. zero-at (512 + v) (omega arith) ∙ sym (server v .in-use);
         holders = λ v hv. high-at (960 + v) (omega arith) ∙ sym (server v .holder);
         preempts = λ v hv. high-at (1024 + v) (omega arith) ∙ sym (ap bit (server v .preempted));
+        held = λ r hr. high-at (1088 + r) (omega arith) ∙ sym (held-none r servers (λ v hv. server v .holder));
         unit-ticks = λ v hv. no-sum (576 + v) (512 + v) v (omega arith) ∙ sym (server v .unit-ticks);
         wait-ticks = λ v hv. no-sum (640 + v) (768 + v) v (omega arith) ∙ sym (server v .wait-ticks);
         longest = λ v hv. no-longest (704 + v) (768 + v) v (omega arith) ∙ sym (server v .longest);

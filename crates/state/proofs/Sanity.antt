@@ -27,7 +27,7 @@ use Rattle.machine.proofs.runs.RunLaws.{each-map, each-pair}
 use Rattle.machine.proofs.lists.Cases.{startOf-cases}
 use Rattle.machine.proofs.runs.Kept.{taking-kept}
 use Rattle.machine.proofs.runs.Shape.{Shape, shape-closed, shape-turn, shape-start, each-getD}
-use Rattle.machine.proofs.runs.Everybody.{Everybody, Unmoved, taking-everybody, like}
+use Rattle.machine.proofs.runs.Everybody.{Maybe, Everybody, Unmoved, taking-everybody, like}
 use Rattle.machine.proofs.runs.Placed.{Placed, placed-turn, placed-start}
 use Rattle.machine.proofs.nobody_able.Waiting.{Waits}
 use Rattle.machine.proofs.nobody_able.WaitsKept.{waits-taken, waits-kept, waits-start}
@@ -40,6 +40,7 @@ use Rattle.machine.proofs.runs.Ahead.{Ahead}
 use Rattle.state.proofs.Gains.{each-set, serverSums, queueSums, Gains, gains-trans, gains-most}
 use Rattle.state.proofs.BlockGains.{gains-none, gains-arrival}
 use Rattle.state.proofs.TurnGains.{Turned, unnoted, noted, turned}
+use Rattle.state.proofs.Numbered.{Numbered, numbered}
 use Rattle.state.proofs.Measured.{ServerBound, QueueBound, Measured, measured-gains, measured-like, units-small, Took, took}
 use Rattle.machine.proofs.later.Gathering.{Gathering, gathering-turn, gathering-start, come-below, taking-gatherers}
 
@@ -117,9 +118,9 @@ stopped-of m tape s h = (h .known, λ f at seized. none-numbered (interruptedAt 
         positive n = omega arith
 
 module _ {m : BlockModel} {n : ℕ} (s : State) (shape : Shape m s) (placed : Everybody (Placed m) s) (waits : Waits m s) (timely : Timely (inForce .maxClock) s) (h : Measured n s) where
-  sane-of : m .rules ≡ inForce → Come m s → Stopped m s → ((i : ℕ) → standing s i ≤ 1) → n ≤ s .turns → s .serial ≤ 100000000 → s .ended ≤ s .made → s .made - s .ended ≤ 1024 → s .turns ≤ maxTurns + 1
+  sane-of : m .rules ≡ inForce → Come m s → Stopped m s → Maybe (Numbered (s .made)) (s .moving) → ((i : ℕ) → standing s i ≤ 1) → n ≤ s .turns → s .serial ≤ 100000000 → s .ended ≤ s .made → s .made - s .ended ≤ 1024 → s .turns ≤ maxTurns + 1
       → Each (λ (e : ℕ). e ≤ s .turns) (s .view .entries) → Each (λ (l : List Transaction). length l ≤ 1024) (s .ql) → Sane m s
-  sane-of rules come stopped alone few serials ended living turns entries waiting =
+  sane-of rules come stopped mover alone few serials ended living turns entries waiting =
       record {
         rules = rules;
         shape = shape;
@@ -139,6 +140,7 @@ module _ {m : BlockModel} {n : ℕ} (s : State) (shape : Shape m s) (placed : Ev
         come = come;
         interrupted = stopped .0;
         seized = stopped .1;
+        mover = mover;
         alone = alone;
         waiting = waiting;
         unit-ticks = each-map (λ v (b : ServerBound (s .view .clock) (serverSums v)). b .0) (s .view .servers) (h .servers);
@@ -272,10 +274,13 @@ module _ {m : BlockModel} {tape : List (List ℕ)} (proper : Proper m tape) (s :
   unfolding standing everyone
   taken-alone = stands-at-most-once m tape (taking (s .moving) s) (sound-taking m tape s (h .sound))
 
+  taken-mover : Maybe (Numbered (takenOf s .made)) (takenOf s .moving)
+  taken-mover = numbered m tape (taking (s .moving) s) (sound-taking m tape s (h .sound)) .moving
+
   -- of the state in which the block of a taken turn finds the machine
   pub sane-taken : Sane m (takenOf s)
   sane-taken =
-      sane-of (takenOf s) taken-shape taken-placed (waits-taken m s going (hs .waits)) taken-timely taken-measured (hs .rules) taken-come (stopped-of m tape (takenOf s) (holding-taking m tape (s .moving) s (h .holding))) taken-alone (omega arith) (omega (arith, taken-serials))
+      sane-of (takenOf s) taken-shape taken-placed (waits-taken m s going (hs .waits)) taken-timely taken-measured (hs .rules) taken-come (stopped-of m tape (takenOf s) (holding-taking m tape (s .moving) s (h .holding))) taken-mover taken-alone (omega arith) (omega (arith, taken-serials))
       (omega (arith, taken-took .made, taken-took .ended, hs .ended)) taken-living (omega arith) (fewer (s .turns) (takenOf s .view .entries) taken-entries)
       (subst (Each (λ (l : List Transaction). length l ≤ 1024)) (sym (taken-took .ql)) (hs .waiting))
 
@@ -298,7 +303,7 @@ module _ {m : BlockModel} {tape : List (List ℕ)} (proper : Proper m tape) (s :
       record {
         sane =
             sane-of (turn m s) (shape-turn m s (hs .shape)) (placed-turn m tape proper s (hs .placed)) (waits-kept proper s going (hs .shape) (hs .waits) .0) turned-timely (a .measured) (hs .rules) (come-below proper (turn m s) gathering)
-            (stopped-of m tape (turn m s) holding) (stands-at-most-once m tape (turn m s) sound) (omega (arith, a .turns)) (omega (arith, a .serials, taken-serials)) (omega (arith, all)) (a .living) (omega (arith, a .turns))
+            (stopped-of m tape (turn m s) holding) (numbered m tape (turn m s) sound .moving) (stands-at-most-once m tape (turn m s) sound) (omega (arith, a .turns)) (omega (arith, a .serials, taken-serials)) (omega (arith, all)) (a .living) (omega (arith, a .turns))
             (subst (λ (n : ℕ). Few n (turn m s .view .entries)) (sym (a .turns)) (a .entries)) (each-flat (turn m s .ql) 1024 few);
         ahead = a .measured .ahead;
         sound = sound;
@@ -366,7 +371,7 @@ module _ {m : BlockModel} {tape : List (List ℕ)} (proper : Proper m tape) (rul
       record {
         sane =
             sane-of (start m tape) (shape-start m tape (proper .tapes)) (placed-start m tape proper) (waits-start m tape .0) started k rules (come-below proper (start m tape) (gathering-start proper))
-            (stopped-of m tape (start m tape) (holding-start m tape)) (stands-at-most-once m tape (start m tape) sound) (omega arith) (omega arith) (omega arith) (omega arith) (omega arith)
+            (stopped-of m tape (start m tape) (holding-start m tape)) (numbered m tape (start m tape) sound .moving) (stands-at-most-once m tape (start m tape) sound) (omega arith) (omega arith) (omega arith) (omega arith) (omega arith)
             (each-map (λ e (le : e ≤ 0). omega arith) (start m tape .view .entries) (subst (Few 0) (sym (g .entries)) (z .3)))
             (each-flat (start m tape .ql) 1024 (omega (arith, parts m tape (start m tape) sound)));
         ahead = k .ahead;
@@ -400,6 +405,7 @@ sane-turns n e s more few k =
       come = k .come;
       interrupted = k .interrupted;
       seized = k .seized;
+      mover = k .mover;
       alone = unfold standing everyone in (k .alone);
       waiting = k .waiting;
       unit-ticks = k .unit-ticks;

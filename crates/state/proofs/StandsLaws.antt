@@ -154,6 +154,34 @@ tallying-ext tapeBytes tally s s′ e v l q p c n h =
       samples = subst (λ (x : List (List ℕ)). Sampling tapeBytes tally x) p (h .samples);
     }
 
+-- a tally of the same cells
+module _ (tally after : List ℕ) (pair : (j : ℕ) → SamePair tally after j) where
+  pub seen-same : (clock turns : ℕ) → Seen tally clock turns → Seen after clock turns
+  seen-same clock turns h =
+      record {
+        moves = omega (arith, pair 0 .all, h .moves);
+        before = λ j hj. omega (arith, pair j .moves, pair j .all, h .before j hj);
+        clocks = λ j hj. omega (arith, pair j .clock, h .clocks j hj);
+        current = λ j hj n. pair j .clock ∙ h .current j hj (sym (behind-same tally after j (pair j)) ∙ n);
+      }
+
+  pub queueing-same : (clock : ℕ) (queues : List Queue) → ((j : ℕ) → 832 ≤ j → j < 928 → getD after j 0 ≡ getD tally j 0) → Queueing tally clock queues → Queueing after clock queues
+  queueing-same clock queues same h =
+      record {
+        contents = λ q hq. same (832 + q) (omega arith) (omega arith) ∙ h .contents q hq;
+        content-ticks = λ q hq.
+            sum-same tally after (64 + q) (pair (64 + q)) (864 + q) (832 + q) clock (same (864 + q) (omega arith) (omega arith)) (same (832 + q) (omega arith) (omega arith)) ∙ h .content-ticks q hq;
+        longest = λ q hq.
+            longest-same tally after (64 + q) (pair (64 + q)) (896 + q) (832 + q) (same (896 + q) (omega arith) (omega arith)) (same (832 + q) (omega arith) (omega arith)) ∙ h .longest q hq;
+      }
+
+pub sampling-same : (tally after tapeBytes : List ℕ) (samples : List (List ℕ)) → length samples ≤ 16 → ((j : ℕ) → 928 ≤ j → j < 960 → getD after j 0 ≡ getD tally j 0) → Sampling tapeBytes tally samples → Sampling tapeBytes after samples
+sampling-same tally after tapeBytes samples few same h =
+    record {
+      begins = λ l hl. rw (same (928 + l) (omega arith) (omega arith)) (h .begins l hl);
+      left = λ l hl. same (944 + l) (omega arith) (omega arith) ∙ h .left l hl;
+    }
+
 -- a cell elsewhere is set
 module _ (tally : List ℕ) (i x : ℕ) where
   other : (j : ℕ) → j ≢ i → getD (set tally i x) j 0 ≡ getD tally j 0
@@ -162,22 +190,16 @@ module _ (tally : List ℕ) (i x : ℕ) where
   pub entries-set : (l : List ℕ) → 256 ≤ i → ((b : ℕ) → b < 256 → getD tally (Layout.entries + b) 0 ≡ getD l b 0) → (b : ℕ) → b < 256 → getD (set tally i x) (Layout.entries + b) 0 ≡ getD l b 0
   entries-set l h e b hb = other (Layout.entries + b) (λ z. omega arith) ∙ e b hb
 
-  pub pair-set : i < 1088 → (j : ℕ) → SamePair tally (set tally i x) j
+  pub pair-set : i < 1344 → (j : ℕ) → SamePair tally (set tally i x) j
   pair-set low j =
       record {
-        clock = other (1088 + j) (λ e. omega arith);
-        moves = other (1184 + j) (λ e. omega arith);
-        all = other 1280 (λ e. omega arith);
+        clock = other (1344 + j) (λ e. omega arith);
+        moves = other (1440 + j) (λ e. omega arith);
+        all = other 1536 (λ e. omega arith);
       }
 
-  pub seen-set : (clock turns : ℕ) → i < 1088 → Seen tally clock turns → Seen (set tally i x) clock turns
-  seen-set clock turns low h =
-      record {
-        moves = omega (arith, other 1280 (λ e. omega arith), h .moves);
-        before = λ j hj. omega (arith, pair-set low j .moves, pair-set low j .all, h .before j hj);
-        clocks = λ j hj. omega (arith, pair-set low j .clock, h .clocks j hj);
-        current = λ j hj n. pair-set low j .clock ∙ h .current j hj (sym (behind-same tally (set tally i x) j (pair-set low j)) ∙ n);
-      }
+  pub seen-set : (clock turns : ℕ) → i < 1344 → Seen tally clock turns → Seen (set tally i x) clock turns
+  seen-set clock turns low = seen-same tally (set tally i x) (pair-set low) clock turns
 
   pub serving-set : (clock : ℕ) (servers : List Server) (ql : List (List Transaction)) → i < 960 → ((j : ℕ) → 512 ≤ j → j < 832 → j ≢ i) → Serving tally clock servers ql → Serving (set tally i x) clock servers ql
   serving-set clock servers ql low apart h =
@@ -185,6 +207,7 @@ module _ (tally : List ℕ) (i x : ℕ) where
         in-use = λ v hv. other (512 + v) (apart (512 + v) (omega arith) (omega arith)) ∙ h .in-use v hv;
         holders = λ v hv. other (960 + v) (λ e. omega arith) ∙ h .holders v hv;
         preempts = λ v hv. other (1024 + v) (λ e. omega arith) ∙ h .preempts v hv;
+        held = λ r hr. other (1088 + r) (λ e. omega arith) ∙ h .held r hr;
         unit-ticks = λ v hv.
             sum-same tally (set tally i x) v (pair-set (omega arith) v) (576 + v) (512 + v) clock (other (576 + v) (apart (576 + v) (omega arith) (omega arith))) (other (512 + v) (apart (512 + v) (omega arith) (omega arith)))
             ∙ h .unit-ticks v hv;
@@ -197,24 +220,11 @@ module _ (tally : List ℕ) (i x : ℕ) where
         waiting = λ v hv. other (768 + v) (apart (768 + v) (omega arith) (omega arith)) ∙ h .waiting v hv;
       }
 
-  pub queueing-set : (clock : ℕ) (queues : List Queue) → i < 1088 → ((j : ℕ) → 832 ≤ j → j < 928 → j ≢ i) → Queueing tally clock queues → Queueing (set tally i x) clock queues
-  queueing-set clock queues low apart h =
-      record {
-        contents = λ q hq. other (832 + q) (apart (832 + q) (omega arith) (omega arith)) ∙ h .contents q hq;
-        content-ticks = λ q hq.
-            sum-same tally (set tally i x) (64 + q) (pair-set low (64 + q)) (864 + q) (832 + q) clock (other (864 + q) (apart (864 + q) (omega arith) (omega arith))) (other (832 + q) (apart (832 + q) (omega arith) (omega arith)))
-            ∙ h .content-ticks q hq;
-        longest = λ q hq.
-            longest-same tally (set tally i x) (64 + q) (pair-set low (64 + q)) (896 + q) (832 + q) (other (896 + q) (apart (896 + q) (omega arith) (omega arith))) (other (832 + q) (apart (832 + q) (omega arith) (omega arith)))
-            ∙ h .longest q hq;
-      }
+  pub queueing-set : (clock : ℕ) (queues : List Queue) → i < 1344 → ((j : ℕ) → 832 ≤ j → j < 928 → j ≢ i) → Queueing tally clock queues → Queueing (set tally i x) clock queues
+  queueing-set clock queues low apart = queueing-same tally (set tally i x) (pair-set low) clock queues (λ j a b. other j (apart j a b))
 
   pub sampling-set : (tapeBytes : List ℕ) (samples : List (List ℕ)) → length samples ≤ 16 → ((j : ℕ) → 928 ≤ j → j < 960 → j ≢ i) → Sampling tapeBytes tally samples → Sampling tapeBytes (set tally i x) samples
-  sampling-set tapeBytes samples few apart h =
-      record {
-        begins = λ l hl. rw (other (928 + l) (apart (928 + l) (omega arith) (omega arith))) (h .begins l hl);
-        left = λ l hl. other (944 + l) (apart (944 + l) (omega arith) (omega arith)) ∙ h .left l hl;
-      }
+  sampling-set tapeBytes samples few apart = sampling-same tally (set tally i x) tapeBytes samples few (λ j a b. other j (apart j a b))
 
 -- ---- Scalars
 

@@ -24,9 +24,9 @@ use Rattle.state.specs.Stands.{Seen, Serving, Queueing, Sampling, Tallyi
 
 -- the pair of i and the number of clock moves are as they were
 pub record SamePair (t t′ : List ℕ) (i : ℕ) : Type 0 where
-  pub clock : getD t′ (1088 + i) 0 ≡ getD t (1088 + i) 0
-  pub moves : getD t′ (1184 + i) 0 ≡ getD t (1184 + i) 0
-  pub all : getD t′ 1280 0 ≡ getD t 1280 0
+  pub clock : getD t′ (1344 + i) 0 ≡ getD t (1344 + i) 0
+  pub moves : getD t′ (1440 + i) 0 ≡ getD t (1440 + i) 0
+  pub all : getD t′ 1536 0 ≡ getD t 1536 0
 
 module _ (t t′ : List ℕ) (i : ℕ) (h : SamePair t t′ i) where
   pub behind-same : behind t′ i ≡ behind t i
@@ -56,11 +56,11 @@ product-none n = go (ltb n countEnd)
     go false = refl
 
 module _ (t : List ℕ) (at from i : ℕ) where
-  no-ticks : (clock : ℕ) → getD t (1088 + i) 0 ≡ clock → ticksSince t i clock ≡ 0
+  no-ticks : (clock : ℕ) → getD t (1344 + i) 0 ≡ clock → ticksSince t i clock ≡ 0
   unfolding ticksSince
   no-ticks clock e = omega arith
 
-  pub sum-current : (clock : ℕ) → getD t (1088 + i) 0 ≡ clock → sumNow t at from i clock ≡ min (getD t at 0) Layout.most64
+  pub sum-current : (clock : ℕ) → getD t (1344 + i) 0 ≡ clock → sumNow t at from i clock ≡ min (getD t at 0) Layout.most64
   unfolding sumNow
   sum-current clock e = rw (no-ticks clock e, product-none (getD t from 0)) (omega arith)
 
@@ -74,7 +74,7 @@ module _ (t : List ℕ) (at from i : ℕ) where
 
 -- the number at `from` changes
 module _ (t t′ : List ℕ) (i : ℕ) (h : SamePair t t′ i) (at from : ℕ) (same : getD t′ at 0 ≡ getD t at 0) where
-  pub sum-moved : (clock : ℕ) → getD t (1088 + i) 0 ≡ clock → sumNow t′ at from i clock ≡ sumNow t at from i clock
+  pub sum-moved : (clock : ℕ) → getD t (1344 + i) 0 ≡ clock → sumNow t′ at from i clock ≡ sumNow t at from i clock
   sum-moved clock e =
       sum-current t′ at from i clock (h .clock ∙ e) ∙ ap (λ (n : ℕ). min n Layout.most64) same ∙ sym (sum-current t at from i clock e)
 
@@ -93,27 +93,27 @@ sum-grows sum n ticks more small fits =
 
 -- the move is counted, and no other cell of the tally changes
 module _ (t t′ : List ℕ) (clock time turns : ℕ) (h : Seen t clock turns) (on : clock ≤ time) (most : time ≤ maxClock)
-    (same : (j : ℕ) → j < 1280 → getD t′ j 0 ≡ getD t j 0) (more : getD t′ 1280 0 ≡ getD t 1280 0 + 1) where
+    (same : (j : ℕ) → j < 1536 → getD t′ j 0 ≡ getD t j 0) (more : getD t′ 1536 0 ≡ getD t 1536 0 + 1) where
   -- nothing is up to date then
   behind-all : (i : ℕ) → i < 96 → behind t′ i ≡ true
   unfolding behind
-  behind-all i hi = rw (ne-eqb (getD t′ (1184 + i) 0) (getD t′ 1280 0) (λ e. omega (arith, e, more, same (1184 + i) (omega arith), h .before i hi)))
+  behind-all i hi = rw (ne-eqb (getD t′ (1440 + i) 0) (getD t′ 1536 0) (λ e. omega (arith, e, more, same (1440 + i) (omega arith), h .before i hi)))
 
-  pub seen-later : getD t 1280 0 < turns → Seen t′ time turns
+  pub seen-later : getD t 1536 0 < turns → Seen t′ time turns
   seen-later fewer =
       record {
         moves = omega (arith, more);
-        before = λ i hi. omega (arith, more, same (1184 + i) (omega arith), h .before i hi);
-        clocks = λ i hi. omega (arith, same (1088 + i) (omega arith), h .clocks i hi);
+        before = λ i hi. omega (arith, more, same (1440 + i) (omega arith), h .before i hi);
+        clocks = λ i hi. omega (arith, same (1344 + i) (omega arith), h .clocks i hi);
         current = λ i hi e. absurd (true≢false (sym (behind-all i hi) ∙ e));
       }
 
   -- the ticks of the move more
   ticks-later : (i : ℕ) → i < 96 → ticksSince t′ i time ≡ ticksSince t i clock + (time - clock)
   unfolding ticksSince
-  ticks-later i hi = omega (arith, same (1088 + i) (omega arith), h .clocks i hi)
+  ticks-later i hi = omega (arith, same (1344 + i) (omega arith), h .clocks i hi)
 
-  module _ (at from i : ℕ) (hi : i < 96) (a : at < 1280) (f : from < 1280) where
+  module _ (at from i : ℕ) (hi : i < 96) (a : at < 1536) (f : from < 1536) where
     pub sum-later : (sum n : ℕ) → sumNow t at from i clock ≡ sum → getD t from 0 ≡ n → n ≤ 100000001 → sum + n * (time - clock) < Layout.most64
         → sumNow t′ at from i time ≡ sum + n * (time - clock)
     unfolding sumNow
@@ -133,13 +133,13 @@ module _ (t t′ : List ℕ) (clock time turns : ℕ) (h : Seen t clock turns) (
 
 -- ---- One is brought up to date
 
-pub seen-now : (t : List ℕ) (i : ℕ) → getD t (1184 + i) 0 ≡ getD t 1280 0 → behind t i ≡ false
+pub seen-now : (t : List ℕ) (i : ℕ) → getD t (1440 + i) 0 ≡ getD t 1536 0 → behind t i ≡ false
 unfolding behind
 seen-now t i e = rw (eq-eqb _ _ e)
 
-now-seen : (t : List ℕ) (i : ℕ) → behind t i ≡ false → getD t (1184 + i) 0 ≡ getD t 1280 0
+now-seen : (t : List ℕ) (i : ℕ) → behind t i ≡ false → getD t (1440 + i) 0 ≡ getD t 1536 0
 unfolding behind
-now-seen t i e = eqb-true _ _ (go (eqb (getD t (1184 + i) 0) (getD t 1280 0)) e)
+now-seen t i e = eqb-true _ _ (go (eqb (getD t (1440 + i) 0) (getD t 1536 0)) e)
   where
     go : (b : Bool) → not b ≡ false → b ≡ true
     go true f = refl
@@ -148,9 +148,9 @@ now-seen t i e = eqb-true _ _ (go (eqb (getD t (1184 + i) 0) (getD t 1280 0)) e)
 -- i is up to date, and the pairs of the others are as they were
 pub record Updated (t t′ : List ℕ) (i time : ℕ) : Type 0 where
   pub size : length t′ ≡ length t
-  pub clock : getD t′ (1088 + i) 0 ≡ time
-  pub moves : getD t′ (1184 + i) 0 ≡ getD t 1280 0
-  pub all : getD t′ 1280 0 ≡ getD t 1280 0
+  pub clock : getD t′ (1344 + i) 0 ≡ time
+  pub moves : getD t′ (1440 + i) 0 ≡ getD t 1536 0
+  pub all : getD t′ 1536 0 ≡ getD t 1536 0
   pub others : (j : ℕ) → j < 96 → j ≢ i → SamePair t t′ j
 
 module _ (t t′ : List ℕ) (i clock : ℕ) (u : Updated t t′ i clock) where
@@ -166,66 +166,66 @@ module _ (t t′ : List ℕ) (i clock : ℕ) (u : Updated t t′ i clock) where
         current = λ j hj. current j hj (ℕ-discrete j i);
       }
     where
-      before : (j : ℕ) → j < 96 → Dec (j ≡ i) → getD t′ (1184 + j) 0 ≤ getD t′ 1280 0
+      before : (j : ℕ) → j < 96 → Dec (j ≡ i) → getD t′ (1440 + j) 0 ≤ getD t′ 1536 0
       before j hj (yes e) = rw e (omega (arith, u .moves, u .all))
       before j hj (no d) = omega (arith, u .others j hj d .moves, u .all, h .before j hj)
 
-      clocks : (j : ℕ) → j < 96 → Dec (j ≡ i) → getD t′ (1088 + j) 0 ≤ clock
+      clocks : (j : ℕ) → j < 96 → Dec (j ≡ i) → getD t′ (1344 + j) 0 ≤ clock
       clocks j hj (yes e) = rw e (omega (arith, u .clock))
       clocks j hj (no d) = omega (arith, u .others j hj d .clock, h .clocks j hj)
 
-      current : (j : ℕ) → j < 96 → Dec (j ≡ i) → behind t′ j ≡ false → getD t′ (1088 + j) 0 ≡ clock
+      current : (j : ℕ) → j < 96 → Dec (j ≡ i) → behind t′ j ≡ false → getD t′ (1344 + j) 0 ≡ clock
       current j hj (yes e) n = rw e (u .clock)
       current j hj (no d) n = u .others j hj d .clock ∙ h .current j hj (sym (behind-same t t′ j (u .others j hj d)) ∙ n)
 
 -- it was before
-same-updated : (t : List ℕ) (i clock : ℕ) → behind t i ≡ false → getD t (1088 + i) 0 ≡ clock → Updated t t i clock
+same-updated : (t : List ℕ) (i clock : ℕ) → behind t i ≡ false → getD t (1344 + i) 0 ≡ clock → Updated t t i clock
 same-updated t i clock n e =
     record { size = refl; clock = e; moves = now-seen t i n; all = refl; others = λ j hj d. record { clock = refl; moves = refl; all = refl } }
 
 -- the pair of i is set
 module _ (t : List ℕ) (i clock : ℕ) where
   abbrev one : List ℕ
-  one = set t (1088 + i) clock
+  one = set t (1344 + i) clock
 
   abbrev two : List ℕ
-  two = set one (1184 + i) (getD t 1280 0)
+  two = set one (1440 + i) (getD t 1536 0)
 
-  see-other : (j : ℕ) → j ≢ 1088 + i → j ≢ 1184 + i → getD (see t i clock) j 0 ≡ getD t j 0
+  see-other : (j : ℕ) → j ≢ 1344 + i → j ≢ 1440 + i → getD (see t i clock) j 0 ≡ getD t j 0
   unfolding see
-  see-other j d e = getD-set-other one (1184 + i) j (getD t 1280 0) 0 e ∙ getD-set-other t (1088 + i) j clock 0 d
+  see-other j d e = getD-set-other one (1440 + i) j (getD t 1536 0) 0 e ∙ getD-set-other t (1344 + i) j clock 0 d
 
-  module _ (size : length t ≡ 1281) (hi : i < 96) where
+  module _ (size : length t ≡ 1537) (hi : i < 96) where
     see-updated : Updated t (see t i clock) i clock
     unfolding see
     see-updated =
         record {
-          size = length-set one (1184 + i) (getD t 1280 0) ∙ length-set t (1088 + i) clock;
-          clock = getD-set-other one (1184 + i) (1088 + i) (getD t 1280 0) 0 (λ e. omega arith) ∙ getD-set-same t (1088 + i) clock 0 (omega arith);
-          moves = getD-set-same one (1184 + i) (getD t 1280 0) 0 (omega (arith, length-set t (1088 + i) clock));
-          all = see-other 1280 (λ e. omega arith) (λ e. omega arith);
+          size = length-set one (1440 + i) (getD t 1536 0) ∙ length-set t (1344 + i) clock;
+          clock = getD-set-other one (1440 + i) (1344 + i) (getD t 1536 0) 0 (λ e. omega arith) ∙ getD-set-same t (1344 + i) clock 0 (omega arith);
+          moves = getD-set-same one (1440 + i) (getD t 1536 0) 0 (omega (arith, length-set t (1344 + i) clock));
+          all = see-other 1536 (λ e. omega arith) (λ e. omega arith);
           others = λ j hj d.
               record {
-                clock = see-other (1088 + j) (λ e. d (omega arith)) (λ e. omega arith);
-                moves = see-other (1184 + j) (λ e. omega arith) (λ e. d (omega arith));
-                all = see-other 1280 (λ e. omega arith) (λ e. omega arith);
+                clock = see-other (1344 + j) (λ e. d (omega arith)) (λ e. omega arith);
+                moves = see-other (1440 + j) (λ e. omega arith) (λ e. d (omega arith));
+                all = see-other 1536 (λ e. omega arith) (λ e. omega arith);
               };
         }
 
 -- after cells that no pair has
-after-updated : (t t₁ t′ : List ℕ) (i clock : ℕ) → length t₁ ≡ length t → ((j : ℕ) → 1088 ≤ j → getD t₁ j 0 ≡ getD t j 0) → Updated t₁ t′ i clock → Updated t t′ i clock
+after-updated : (t t₁ t′ : List ℕ) (i clock : ℕ) → length t₁ ≡ length t → ((j : ℕ) → 1344 ≤ j → getD t₁ j 0 ≡ getD t j 0) → Updated t₁ t′ i clock → Updated t t′ i clock
 after-updated t t₁ t′ i clock len same u =
     record {
       size = u .size ∙ len;
       clock = u .clock;
-      moves = u .moves ∙ same 1280 (omega arith);
-      all = u .all ∙ same 1280 (omega arith);
+      moves = u .moves ∙ same 1536 (omega arith);
+      all = u .all ∙ same 1536 (omega arith);
       others = λ j hj d.
           let p : SamePair t₁ t′ j = u .others j hj d in
           record {
-            clock = p .clock ∙ same (1088 + j) (omega arith);
-            moves = p .moves ∙ same (1184 + j) (omega arith);
-            all = p .all ∙ same 1280 (omega arith);
+            clock = p .clock ∙ same (1344 + j) (omega arith);
+            moves = p .moves ∙ same (1440 + j) (omega arith);
+            all = p .all ∙ same 1536 (omega arith);
           };
     }
 
@@ -233,7 +233,7 @@ after-updated t t₁ t′ i clock len same u =
 
 pub record ServerUpdated (t t′ : List ℕ) (v clock : ℕ) : Type 0 where
   pub pairs : Updated t t′ v clock
-  pub other : (j : ℕ) → j < 1088 → j ≢ 576 + v → j ≢ 640 + v → j ≢ 704 + v → getD t′ j 0 ≡ getD t j 0
+  pub other : (j : ℕ) → j < 1344 → j ≢ 576 + v → j ≢ 640 + v → j ≢ 704 + v → getD t′ j 0 ≡ getD t j 0
   pub units : sumNow t′ (576 + v) (512 + v) v clock ≡ sumNow t (576 + v) (512 + v) v clock
   pub waits : sumNow t′ (640 + v) (768 + v) v clock ≡ sumNow t (640 + v) (768 + v) v clock
   pub longest : longestNow t′ (704 + v) (768 + v) v ≡ longestNow t (704 + v) (768 + v) v
@@ -264,7 +264,7 @@ module _ (t : List ℕ) (v clock : ℕ) where
   other₃ j a b c = getD-set-other t₂ (704 + v) j l₀ 0 c ∙ getD-set-other t₁ (640 + v) j w₀ 0 b ∙ getD-set-other t (576 + v) j u₀ 0 a
 
   -- below the pairs
-  below : (j : ℕ) → j < 1088 → getD t₄ j 0 ≡ getD t₃ j 0
+  below : (j : ℕ) → j < 1344 → getD t₄ j 0 ≡ getD t₃ j 0
   below j h = see-other t₃ v clock j (λ e. omega arith) (λ e. omega arith)
 
   -- entries and waits are as they were
@@ -276,14 +276,14 @@ module _ (t : List ℕ) (v clock : ℕ) where
       go true = below j (omega arith) ∙ other₃ j (λ e. omega arith) (λ e. omega arith) (λ e. omega arith)
       go false = refl
 
-  module _ (size : length t ≡ 1281) (hv : v < 64) where
-    size₁ : length t₁ ≡ 1281
+  module _ (size : length t ≡ 1537) (hv : v < 64) where
+    size₁ : length t₁ ≡ 1537
     size₁ = length-set t (576 + v) u₀ ∙ size
 
-    size₂ : length t₂ ≡ 1281
+    size₂ : length t₂ ≡ 1537
     size₂ = length-set t₁ (640 + v) w₀ ∙ size₁
 
-    size₃ : length t₃ ≡ 1281
+    size₃ : length t₃ ≡ 1537
     size₃ = length-set t₂ (704 + v) l₀ ∙ size₂
 
     paired : Updated t t₄ v clock
@@ -308,7 +308,7 @@ module _ (t : List ℕ) (v clock : ℕ) where
               ∙ below (704 + v) (omega arith) ∙ getD-set-same t₂ (704 + v) l₀ 0 (omega (arith, size₂));
         }
 
-    kept : behind t v ≡ false → getD t (1088 + v) 0 ≡ clock → ServerUpdated t t v clock
+    kept : behind t v ≡ false → getD t (1344 + v) 0 ≡ clock → ServerUpdated t t v clock
     kept n e =
         record {
           pairs = same-updated t v clock n e;
@@ -330,7 +330,7 @@ module _ (t : List ℕ) (v clock : ℕ) where
 
 pub record QueueUpdated (t t′ : List ℕ) (q clock : ℕ) : Type 0 where
   pub pairs : Updated t t′ (64 + q) clock
-  pub other : (j : ℕ) → j < 1088 → j ≢ 864 + q → j ≢ 896 + q → getD t′ j 0 ≡ getD t j 0
+  pub other : (j : ℕ) → j < 1344 → j ≢ 864 + q → j ≢ 896 + q → getD t′ j 0 ≡ getD t j 0
   pub contents : sumNow t′ (864 + q) (832 + q) (64 + q) clock ≡ sumNow t (864 + q) (832 + q) (64 + q) clock
   pub longest : longestNow t′ (896 + q) (832 + q) (64 + q) ≡ longestNow t (896 + q) (832 + q) (64 + q)
 
@@ -353,7 +353,7 @@ module _ (t : List ℕ) (q clock : ℕ) where
   qother : (j : ℕ) → j ≢ 864 + q → j ≢ 896 + q → getD q₂ j 0 ≡ getD t j 0
   qother j a b = getD-set-other q₁ (896 + q) j m₀ 0 b ∙ getD-set-other t (864 + q) j c₀ 0 a
 
-  qbelow : (j : ℕ) → j < 1088 → getD q₃ j 0 ≡ getD q₂ j 0
+  qbelow : (j : ℕ) → j < 1344 → getD q₃ j 0 ≡ getD q₂ j 0
   qbelow j h = see-other q₂ (64 + q) clock j (λ e. omega arith) (λ e. omega arith)
 
   pub queue-low : (j : ℕ) → j < 864 → getD (updateQueue t q clock) j 0 ≡ getD t j 0
@@ -364,11 +364,11 @@ module _ (t : List ℕ) (q clock : ℕ) where
       go true = qbelow j (omega arith) ∙ qother j (λ e. omega arith) (λ e. omega arith)
       go false = refl
 
-  module _ (size : length t ≡ 1281) (hq : q < 32) where
-    qsize₁ : length q₁ ≡ 1281
+  module _ (size : length t ≡ 1537) (hq : q < 32) where
+    qsize₁ : length q₁ ≡ 1537
     qsize₁ = length-set t (864 + q) c₀ ∙ size
 
-    qsize₂ : length q₂ ≡ 1281
+    qsize₂ : length q₂ ≡ 1537
     qsize₂ = length-set q₁ (896 + q) m₀ ∙ qsize₁
 
     qpaired : Updated t q₃ (64 + q) clock
@@ -390,7 +390,7 @@ module _ (t : List ℕ) (q clock : ℕ) where
               ∙ qbelow (896 + q) (omega arith) ∙ getD-set-same q₁ (896 + q) m₀ 0 (omega (arith, qsize₁));
         }
 
-    qkept : behind t (64 + q) ≡ false → getD t (1088 + (64 + q)) 0 ≡ clock → QueueUpdated t t q clock
+    qkept : behind t (64 + q) ≡ false → getD t (1344 + (64 + q)) 0 ≡ clock → QueueUpdated t t q clock
     qkept n e = record { pairs = same-updated t (64 + q) clock n e; other = λ j h a b. refl; contents = refl; longest = refl }
 
     pub queue-updated : (turns : ℕ) → Seen t clock turns → QueueUpdated t (updateQueue t q clock) q clock
@@ -417,7 +417,7 @@ module _ (tapeBytes t : List ℕ) (s : State) (h : Tallying tapeBytes t s) (few 
     low : (j : ℕ) → j < 576 → getD t′ j 0 ≡ getD t j 0
     low j a = u .other j (omega arith) (λ e. omega arith) (λ e. omega arith) (λ e. omega arith)
 
-    high : (j : ℕ) → 768 ≤ j → j < 1088 → getD t′ j 0 ≡ getD t j 0
+    high : (j : ℕ) → 768 ≤ j → j < 1344 → getD t′ j 0 ≡ getD t j 0
     high j a b = u .other j b (λ e. omega arith) (λ e. omega arith) (λ e. omega arith)
 
     server-sums : Serving t′ clock (s .view .servers) (s .ql)
@@ -426,6 +426,7 @@ module _ (tapeBytes t : List ℕ) (s : State) (h : Tallying tapeBytes t s) (few 
           in-use = λ i hi. low (512 + i) (omega arith) ∙ h .servers .in-use i hi;
           holders = λ i hi. high (960 + i) (omega arith) (omega arith) ∙ h .servers .holders i hi;
           preempts = λ i hi. high (1024 + i) (omega arith) (omega arith) ∙ h .servers .preempts i hi;
+          held = λ r hr. high (1088 + r) (omega arith) (omega arith) ∙ h .servers .held r hr;
           unit-ticks = λ i hi. units i hi (ℕ-discrete i v) ∙ h .servers .unit-ticks i hi;
           wait-ticks = λ i hi. waits i hi (ℕ-discrete i v) ∙ h .servers .wait-ticks i hi;
           longest = λ i hi. longest i hi (ℕ-discrete i v) ∙ h .servers .longest i hi;
@@ -496,7 +497,7 @@ module _ (tapeBytes t : List ℕ) (s : State) (h : Tallying tapeBytes t s) (few 
     below′ : (j : ℕ) → j < 864 → getD q′ j 0 ≡ getD t j 0
     below′ j a = w .other j (omega arith) (λ e. omega arith) (λ e. omega arith)
 
-    above′ : (j : ℕ) → 928 ≤ j → j < 1088 → getD q′ j 0 ≡ getD t j 0
+    above′ : (j : ℕ) → 928 ≤ j → j < 1344 → getD q′ j 0 ≡ getD t j 0
     above′ j a b = w .other j b (λ e. omega arith) (λ e. omega arith)
 
     servers-kept : Serving q′ clock (s .view .servers) (s .ql)
@@ -505,6 +506,7 @@ module _ (tapeBytes t : List ℕ) (s : State) (h : Tallying tapeBytes t s) (few 
           in-use = λ i hi. below′ (512 + i) (omega arith) ∙ h .servers .in-use i hi;
           holders = λ i hi. above′ (960 + i) (omega arith) (omega arith) ∙ h .servers .holders i hi;
           preempts = λ i hi. above′ (1024 + i) (omega arith) (omega arith) ∙ h .servers .preempts i hi;
+          held = λ r hr. above′ (1088 + r) (omega arith) (omega arith) ∙ h .servers .held r hr;
           unit-ticks = λ i hi. sum-same t q′ i (pair i hi) (576 + i) (512 + i) clock (below′ (576 + i) (omega arith)) (below′ (512 + i) (omega arith)) ∙ h .servers .unit-ticks i hi;
           wait-ticks = λ i hi. sum-same t q′ i (pair i hi) (640 + i) (768 + i) clock (below′ (640 + i) (omega arith)) (below′ (768 + i) (omega arith)) ∙ h .servers .wait-ticks i hi;
           longest = λ i hi. longest-same t q′ i (pair i hi) (704 + i) (768 + i) (below′ (704 + i) (omega arith)) (below′ (768 + i) (omega arith)) ∙ h .servers .longest i hi;

@@ -17,7 +17,7 @@ use Rattle.machine.proofs.decoding.Proper.{Names}
 use Rattle.machine.proofs.runs.Shape.{Shape}
 use Rattle.machine.proofs.runs.Placed.{Placed}
 use Rattle.machine.proofs.nobody_able.Waiting.{Waits}
-use Rattle.machine.proofs.runs.Everybody.{Everybody}
+use Rattle.machine.proofs.runs.Everybody.{Maybe, Everybody}
 use Rattle.machine.proofs.runs.Clocks.{Timely, Samples}
 
 pub record Sane (m : BlockModel) (s : State) : Type 0 where
@@ -44,6 +44,8 @@ pub record Sane (m : BlockModel) (s : State) : Type 0 where
   -- who is interrupted lost a facility of the model; nobody lost one that is seized
   pub interrupted : Each (λ i. Names (m .facilities) (i .facility)) (s .interrupted)
   pub seized : (f : ℕ) → Names (m .facilities) f → serverAt (s .view) f .preempted ≡ false → interruptedAt s f ≡ []
+  -- who moves has a number
+  pub mover : Maybe (λ t. Names (s .made) (t .number)) (s .moving)
   -- no number stands twice
   pub alone : (n : ℕ) → standing s n ≤ 1
   -- no QL is longer than the living are many

@@ -1,6 +1,6 @@
 -- When scalars, work buffer and tally stand for a state of the machine. Every block kind's law is stated over this relation.
 -- The trace and the counts of records stand apart (crate turn, specs/Writes): a block's record is noted in one place.
-use Prim.Native.Nat.{ℕ, suc, _+_, _-_, _<_, _≤_}
+use Prim.Native.Nat.{ℕ, suc, _+_, _-_, _%_, _<_, _≤_}
 use mathlib.Core.Path.{_≡_}
 use mathlib.Core.Bool.{false, cond}
 use mathlib.Core.List.{List, [], map}
@@ -9,7 +9,7 @@ use lib.Dec.{ltb, eqb}
 use lib.ListN.{length, getD}
 use Rattle.machine.specs.Limits.{maxQueues, maxLists, maxBlocks}
 use Rattle.machine.specs.Transaction.{Transaction, Gatherer, Interrupted}
-use Rattle.machine.specs.Lists.{bit}
+use Rattle.machine.specs.Lists.{bit, nth, upTo}
 use Rattle.machine.specs.Setters.{withNext, withStamp}
 use Rattle.machine.specs.Term.{Server, Queue, idleServer, emptyQueue}
 use Rattle.machine.specs.State.{State}
@@ -73,11 +73,20 @@ pub record Seen (tally : List ℕ) (clock turns : ℕ) : Type 0 where
   pub clocks : (i : ℕ) → i < Layout.measuredCount → getD tally (Layout.seenClock + i) 0 ≤ clock
   pub current : (i : ℕ) → i < Layout.measuredCount → behind tally i ≡ false → getD tally (Layout.seenClock + i) 0 ≡ clock
 
+-- 1 for the number of a transaction in that residue, else 0: nobody's number is 0
+unfoldable pub ofResidue : (r n : ℕ) → ℕ
+ofResidue r n = cond (eqb n 0) 0 (bit (eqb (n % Layout.residues) r))
+
+-- how many servers are held by a number in that residue
+unfoldable pub heldIn : List Server → ℕ → ℕ
+heldIn servers r = upTo Layout.serverCount (λ v. ofResidue r (nth servers v (idleServer 0) .holder))
+
 -- of all 64 servers; a server that is not there is idle. Sums and longest are those of the tally brought up to date.
 pub record Serving (tally : List ℕ) (clock : ℕ) (servers : List Server) (ql : List (List Transaction)) : Type 0 where
   pub in-use : (v : ℕ) → v < Layout.serverCount → getD tally (Layout.inUse + v) 0 ≡ getD servers v (idleServer 0) .inUse
   pub holders : (v : ℕ) → v < Layout.serverCount → getD tally (Layout.holder + v) 0 ≡ getD servers v (idleServer 0) .holder
   pub preempts : (v : ℕ) → v < Layout.serverCount → getD tally (Layout.preempted + v) 0 ≡ bit (getD servers v (idleServer 0) .preempted)
+  pub held : (r : ℕ) → r < Layout.residues → getD tally (Layout.held + r) 0 ≡ heldIn servers r
   pub unit-ticks : (v : ℕ) → v < Layout.serverCount → sumNow tally (Layout.unitTicks + v) (Layout.inUse + v) v clock ≡ getD servers v (idleServer 0) .unitTicks
   pub wait-ticks : (v : ℕ) → v < Layout.serverCount → sumNow tally (Layout.waitTicks + v) (Layout.qlLength + v) v clock ≡ getD servers v (idleServer 0) .waitTicks
   pub longest : (v : ℕ) → v < Layout.serverCount → longestNow tally (Layout.longestQl + v) (Layout.qlLength + v) v ≡ getD servers v (idleServer 0) .longest

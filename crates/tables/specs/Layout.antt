@@ -125,23 +125,30 @@ holder = 960
 abbrev pub preempted : ℕ
 preempted = 1024
 
+-- per residue of a transaction's number: how many facilities are held by such a number
+abbrev pub residues : ℕ
+residues = 256
+
+abbrev pub held : ℕ
+held = 1088
+
 -- per server, and behind the 64 servers per queue: the clock when its statistics were last brought up to date, and how many clock
 -- moves there had been
 abbrev pub measuredCount : ℕ
 measuredCount = 96
 
 abbrev pub seenClock : ℕ
-seenClock = 1088
+seenClock = 1344
 
 abbrev pub seenMoves : ℕ
-seenMoves = 1184
+seenMoves = 1440
 
 -- how many clock moves there have been
 abbrev pub clockMoves : ℕ
-clockMoves = 1280
+clockMoves = 1536
 
 abbrev pub tallySize : ℕ
-tallySize = 1281
+tallySize = 1537
 
 -- ---- what decoding leaves of the tape: list k (from 0) begins at cell k, and cell 16 + k is its count
 

@@ -86,15 +86,20 @@ pub const HOLDER: usize = 960;
 
 pub const PREEMPTED: usize = 1_024;
 
+// How many facilities are held by the numbers of each residue modulo 256.
+pub const RESIDUES: usize = 256;
+
+pub const HELD: usize = 1_088;
+
 // When the statistics of a server were brought up to date, and behind the servers those of a queue: the clock, and how many
 // clock moves there had been. Last, how many there have been.
-pub const SEEN_CLOCK: usize = 1_088;
+pub const SEEN_CLOCK: usize = 1_344;
 
-pub const SEEN_MOVES: usize = 1_184;
+pub const SEEN_MOVES: usize = 1_440;
 
-pub const CLOCK_MOVES: usize = 1_280;
+pub const CLOCK_MOVES: usize = 1_536;
 
-pub const TALLY: usize = 1_281;
+pub const TALLY: usize = 1_537;
 
 // What decoding leaves of the tape: where the times of each list begin, then how many they are.
 pub const LIST_COUNTS: usize = Model::MAX_LISTS;
