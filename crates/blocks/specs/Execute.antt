@@ -9,41 +9,41 @@ use Rattle.state.specs.Stands.{Rows, rowsOf}
 use Rattle.moves.specs.Motion.{withTally}
 use Rattle.flow_laws.specs.Kinds.{generateRows, advanceRows, terminateRows, priorityRows, splitRows}
 use Rattle.flow_laws.specs.Gathering.{assembleRows}
-use Rattle.servers_laws.specs.Taking.{seize, enter}
-use Rattle.servers_laws.specs.Freeing.{release, leave}
-use Rattle.preempt_laws.specs.Preempting.{preempt, giveBack}
-use Rattle.servers_laws.specs.WaitServer.{waitServer}
-use Rattle.decisions_laws.specs.Comparison.{waitTerms, branch, assign}
-use Rattle.decisions_laws.specs.Jumps.{goto}
-use Rattle.decisions_laws.specs.Queues.{arrive, depart}
+use Rattle.servers_laws.specs.Taking.{seizeRows, enterRows}
+use Rattle.servers_laws.specs.Freeing.{releaseRows, leaveRows}
+use Rattle.preempt_laws.specs.Preempting.{preemptRows, giveBackRows}
+use Rattle.servers_laws.specs.WaitServer.{waitServerRows}
+use Rattle.decisions_laws.specs.Comparison.{waitTermsRows, branchRows, assignRows}
+use Rattle.decisions_laws.specs.Jumps.{gotoRows}
+use Rattle.decisions_laws.specs.Queues.{arriveRows, departRows}
 
 module _ (tables : List ℕ) (values facilities : ℕ) (tape w tally : List ℕ) (x : Scalars) (at : ℕ) where
   -- kinds 9 to 20
   unfoldable pub later : ℕ → Rows
   later kind =
-      cond (eqb kind 9) (withTally (waitTerms tables values w tally x at) tally)
-      (cond (eqb kind 10) (withTally (branch tables values w tally x at) tally)
-      (cond (eqb kind 11) (withTally (goto tables w x at) tally)
-      (cond (eqb kind 12) (withTally (assign tables values w tally x at) tally)
-      (cond (eqb kind 13) (priorityRows tables w tally x at)
-      (cond (eqb kind 14) (splitRows tables w tally x at)
-      (cond (eqb kind 15) (arrive tables w tally x at)
-      (cond (eqb kind 16) (depart tables w tally x at)
-      (cond (eqb kind 17) (withTally (waitServer tables w tally x at) tally)
-      (cond (eqb kind 18) (assembleRows tables facilities w tally x at)
-      (cond (eqb kind 19) (preempt tables w tally x at)
-      (cond (eqb kind 20) (giveBack tables w tally x at) (rowsOf x w tally))))))))))))
+      cond (eqb kind 9) (withTally (waitTermsRows tables values w tally x at) tally)
+      (cond (eqb kind 10) (withTally (branchRows tables values w tally x at) tally)
+      (cond (eqb kind 11) (withTally (gotoRows tables w x at) tally)
+      (cond (eqb kind 12) (withTally (assignRows tables values w tally x at) tally)
+      (cond (eqb kind 13) (withTally (priorityRows tables w x at) tally)
+      (cond (eqb kind 14) (withTally (splitRows tables w x at) tally)
+      (cond (eqb kind 15) (arriveRows tables w tally x at)
+      (cond (eqb kind 16) (departRows tables w tally x at)
+      (cond (eqb kind 17) (withTally (waitServerRows tables w tally x at) tally)
+      (cond (eqb kind 18) (withTally (assembleRows tables facilities w tally x at) tally)
+      (cond (eqb kind 19) (preemptRows tables w tally x at)
+      (cond (eqb kind 20) (giveBackRows tables w tally x at) (rowsOf x w tally))))))))))))
 
   unfoldable pub byKind : ℕ → Rows
   byKind kind =
       cond (eqb kind 1) (generateRows tables tape w tally x at)
       (cond (eqb kind 2) (advanceRows tables tape w tally x at)
-      (cond (eqb kind 3) (terminateRows tables facilities w tally x at)
-      (cond (eqb kind 4) (seize tables w tally x at)
-      (cond (eqb kind 5) (release tables w tally x at)
-      (cond (eqb kind 6) (enter tables w tally x at)
-      (cond (eqb kind 7) (leave tables w tally x at)
-      (cond (eqb kind 8) (withTally (waitServer tables w tally x at) tally) (later kind))))))))
+      (cond (eqb kind 3) (withTally (terminateRows tables facilities w tally x at) tally)
+      (cond (eqb kind 4) (seizeRows tables w tally x at)
+      (cond (eqb kind 5) (releaseRows tables w tally x at)
+      (cond (eqb kind 6) (enterRows tables w tally x at)
+      (cond (eqb kind 7) (leaveRows tables w tally x at)
+      (cond (eqb kind 8) (withTally (waitServerRows tables w tally x at) tally) (later kind))))))))
 
   unfoldable pub execute : Rows
   execute = byKind (getD tables at 0)

@@ -27,7 +27,7 @@ use Rattle.rows_laws.proofs.Laws.{Arrives, head-fel-shows, arrive-shows}
 use Rattle.state.specs.declared.scalars.Scalars.{Scalars}
 use Rattle.state.specs.ScalarSetters.{putClock, putSerial}
 use Rattle.state.specs.Sane.{Sane}
-use Rattle.state.specs.Stands.{Rows, rowsOf, listsOf, Listing, Tallying, Counting, Stands}
+use Rattle.state.specs.Stands.{Rows, rowsOf, listsIn, listsOf, Listing, Tallying, Counting, Stands}
 use Rattle.state.proofs.Measured.{clocked, moved-clock}
 use Rattle.state.proofs.ListsOf.{lists-set-rel}
 use Rattle.clock.specs.Taking.{countMove, moveClock, nextEvents}
@@ -83,7 +83,7 @@ module _ {m : BlockModel} {tape : List (List ℕ)} (proper : Proper m tape) (tap
     a = arrive 1024 (e .time) w (s .serial)
 
     arrives : Arrives w a (update rel ready (listsOf s)) later (s .serial + length due)
-    unfolding listsOf
+    unfolding listsIn
     arrives = arrive-shows w (listsOf s) (s .fel) (h .listing .shows) e l future (s .serial)
 
     in-time : e .time ≤ maxClock
@@ -93,7 +93,7 @@ module _ {m : BlockModel} {tape : List (List ℕ)} (proper : Proper m tape) (tap
     ahead = subst (Each (λ (y : Event). s .view .clock ≤ y .time)) future (sane .ahead) .0
 
     listed : Listing (a .rows) (x .moving) none s′
-    unfolding clocked listsOf
+    unfolding clocked listsIn
     listed =
         listing-ready w (a .rows) (x .moving) (x .moving) none none s s′ (h .listing) ready later (arrives .shows)
         (omega (arith, arrives .steady .count, arrivals-length due (s .serial) (s .rel), split-length (Machine.due (e .time)) (s .fel)))
@@ -101,7 +101,7 @@ module _ {m : BlockModel} {tape : List (List ℕ)} (proper : Proper m tape) (tap
 
     tallied : Tallying tapeBytes (countMove (r .tally)) s′
     unfolding clocked Machine.sample
-    tallied = tally-moved proper s sane (e .time) ahead in-time tapeBytes (r .tally) (h .tallying) fewer s′ refl refl refl refl refl refl refl
+    tallied = tally-moved proper s sane (e .time) ahead in-time tapeBytes (r .tally) (h .tallying) fewer
 
     counted : Counting (putSerial (a .serial) (putClock (e .time) x)) s′
     unfolding clocked
@@ -113,6 +113,7 @@ module _ {m : BlockModel} {tape : List (List ℕ)} (proper : Proper m tape) (tap
           made = h .counting .made;
           ended = h .counting .ended;
           turns = h .counting .turns;
+          used = h .counting .used;
           end = h .counting .end;
         }
 

@@ -4,4 +4,3 @@ pub mod Population
 pub mod ReadyLaws
 pub mod ClockLaws
 pub mod TakingLaws
-pub mod Unread

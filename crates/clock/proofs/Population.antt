@@ -17,7 +17,7 @@ use Rattle.rows_laws.specs.Living.{sumTo, loose, onLists}
 use Rattle.rows_laws.specs.Shows.{Shows}
 use Rattle.rows_laws.proofs.Ordering.{shows-ext}
 use Rattle.rows_laws.proofs.Population.{population}
-use Rattle.state.specs.Stands.{listsOf, Moving, Listing}
+use Rattle.state.specs.Stands.{listsIn, listsOf, Moving, Listing}
 
 -- ---- Lengths summed over the lists
 
@@ -60,7 +60,7 @@ module _ (w w′ : List ℕ) (k k′ : ℕ) (o o′ : Option Transaction) (s s�
       → loose w′ + length r + length E ≡ loose w + length (s .rel) + length (s .fel)
       → ((q : ℕ) → q < 770 → update rel r (listsOf s) q ≡ listsOf s′ q) → E ≡ s′ .fel → s′ .made - s′ .ended ≡ s .made - s .ended
       → Moving w′ k′ o′ → Listing w′ k′ o′ s′
-  unfolding onLists listsOf
+  unfolding onLists listsIn
   listing-ready r E shows count lists future living moving =
       record {
         shows = shows-ext w′ (update rel r (listsOf s)) (listsOf s′) E (s′ .fel) lists future shows;

@@ -18,7 +18,7 @@ use Rattle.rows_laws.proofs.Data.{transaction-kept}
 use Rattle.rows_laws.proofs.Take.{Head, nobody, somebody}
 use Rattle.rows_laws.proofs.Laws.{Takes, head-shows, take-shows}
 use Rattle.state.specs.ScalarSetters.{putMoving}
-use Rattle.state.specs.Stands.{Rows, rowsOf, listsOf, Stands}
+use Rattle.state.specs.Stands.{Rows, rowsOf, listsIn, listsOf, Stands}
 use Rattle.state.proofs.ListsOf.{lists-set-rel}
 use Rattle.clock.specs.Taking.{readyScalars, takeReady}
 use Rattle.clock.proofs.Population.{listing-ready}
@@ -42,7 +42,7 @@ module _ (tapeBytes : List ℕ) (r : Rows) (s : State) (h : Stands tapeBytes r n
   -- the first of REL is taken
   taken : (m : List Transaction) → s .rel ≡ transactionAt w k ∷ m → k < 1024
       → Stands tapeBytes (takeReady r) (some (transactionAt w k)) (setMoving (some (transactionAt w k)) (setRel m s))
-  unfolding listsOf rowsOf
+  unfolding listsIn rowsOf
   taken m e n =
       let t : Transaction = transactionAt w k in
       let c : Takes w (takeFirst w rel) k (update rel (drop 1 (listsOf s rel)) (listsOf s)) (s .fel) = take-shows w (listsOf s) (s .fel) (h .listing .shows) rel (omega arith) n in
@@ -54,29 +54,12 @@ module _ (tapeBytes : List ℕ) (r : Rows) (s : State) (h : Stands tapeBytes r n
             listing-ready w (takeFirst w rel) (r .scalars .moving) k none (some (transactionAt w k)) s (setMoving (some (transactionAt w k)) (setRel m s)) (h .listing) m (s .fel)
             (subst (λ (l : List Transaction). Shows (takeFirst w rel) (update rel l (listsOf s)) (s .fel)) tail (c .shows))
             (omega (arith, c .count, len)) (λ q hq. lists-set-rel s m q hq) refl refl (c .off, transaction-kept w (takeFirst w rel) k (c .same));
-        tallying =
-            record {
-              size = h .tallying .size;
-              entries = h .tallying .entries;
-              seen = h .tallying .seen;
-              servers = h .tallying .servers;
-              queues = h .tallying .queues;
-              samples = h .tallying .samples;
-            };
-        counting =
-            record {
-              clock = h .counting .clock;
-              counter = h .counting .counter;
-              serial = h .counting .serial;
-              made = h .counting .made;
-              ended = h .counting .ended;
-              turns = h .counting .turns;
-              end = h .counting .end;
-            };
+        tallying = h .tallying;
+        counting = h .counting;
       })
 
   pub ready-stands : s .moving ≡ none → Stands tapeBytes (takeReady r) (Machine.takeFirst (s .rel) s .moving) (Machine.takeFirst (s .rel) s)
-  unfolding Machine.takeFirst listsOf
+  unfolding Machine.takeFirst listsIn
   ready-stands none-moves = go (head-shows w (listsOf s) (s .fel) (h .listing .shows) rel (omega arith))
     where
       Goal : List Transaction → Type 0

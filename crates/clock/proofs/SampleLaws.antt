@@ -24,7 +24,7 @@ use Rattle.machine.proofs.runs.Shape.{each-getD, server-length}
 use Rattle.tables.specs.Layout.{most64}
 use Rattle.state.specs.Sane.{Sane}
 use Rattle.state.specs.Statistics.{sumNow, longestNow}
-use Rattle.state.specs.Stands.{Seen, Serving, Queueing, Sampling, Tallying}
+use Rattle.state.specs.Stands.{Seen, Serving, Queueing, Sampling, Tallied, Tallying}
 use Rattle.state.proofs.Held.{held-same}
 use Rattle.state.proofs.Measured.{units-small}
 use Rattle.state.proofs.StatisticsLaws.{seen-later, sum-later, longest-later}
@@ -291,16 +291,17 @@ module _ {m : BlockModel} {tape : List (List ℕ)} (proper : Proper m tape) (s :
       few-lists : length (s .samples) ≤ 16
       few-lists = omega (arith, sane .shape .sample-lists, proper .lists)
 
-  pub tally-moved : (s′ : State) → s′ .view .entries ≡ s .view .entries → s′ .view .servers ≡ Machine.sampleServers ticks (s .view .servers) (s .ql)
-      → s′ .ql ≡ s .ql → s′ .view .queues ≡ map (Machine.sampleQueue ticks) (s .view .queues) → s′ .samples ≡ s .samples → s′ .view .clock ≡ time → s′ .turns ≡ s .turns
-      → Tallying tapeBytes (countMove t) s′
+  pub tally-moved : Tallied tapeBytes (countMove t)
+      (record { clock = time; entries = s .view .entries; queues = map (Machine.sampleQueue ticks) (s .view .queues); servers = Machine.sampleServers ticks (s .view .servers) (s .ql) })
+      (s .ql) (s .samples) (s .turns) (s .records)
   unfolding countMove
-  tally-moved s′ e v l q p c z =
+  tally-moved =
       record {
         size = length-set t 1536 _ ∙ h .size;
-        entries = λ b hb. other (0 + b) (λ f. omega arith) ∙ h .entries b hb ∙ ap (λ (x : List ℕ). getD x b 0) (sym e);
-        seen = rw (c, z) seen;
-        servers = rw (c, v, l) serving;
-        queues = rw (c, q) queueing;
-        samples = rw p sampling;
+        entries = λ b hb. other (0 + b) (λ f. omega arith) ∙ h .entries b hb;
+        waits = λ b hb. other (256 + b) (λ f. omega arith) ∙ h .waits b hb;
+        seen = seen;
+        servers = serving;
+        queues = queueing;
+        samples = sampling;
       }

@@ -21,7 +21,7 @@ use Rattle.rows_laws.specs.Holds.{transactionAt}
 use Rattle.rows_laws.proofs.Take.{Head, nobody, somebody}
 use Rattle.rows_laws.proofs.Laws.{head-shows}
 use Rattle.state.specs.Sane.{Sane}
-use Rattle.state.specs.Stands.{Rows, rowsOf, listsOf, Stands}
+use Rattle.state.specs.Stands.{Rows, rowsOf, listsIn, listsOf, Stands}
 use Rattle.state.proofs.Sanity.{takenOf, sane-turns}
 use Rattle.clock.specs.Taking.{nextEvents, takeReady, counted, take}
 use Rattle.clock.proofs.ReadyLaws.{ready-stands}
@@ -58,14 +58,15 @@ sane-counted s few k = sane-turns (suc (s .turns)) (s .end) s (omega arith) (ome
 
 stands-counted : (tapeBytes : List ℕ) (r : Rows) (o : Option Transaction) (s : State) → s .turns < maxTurns → Stands tapeBytes r o s
     → Stands tapeBytes (rowsOf (counted (r .scalars)) (r .work) (r .tally)) o (setTurns (suc (s .turns)) s)
-unfolding counted rowsOf listsOf
+unfolding counted rowsOf
 stands-counted tapeBytes r o s few h =
     record {
-      listing = record { shows = h .listing .shows; mover = h .listing .mover; spare = h .listing .spare };
+      listing = h .listing;
       tallying =
           record {
             size = h .tallying .size;
             entries = h .tallying .entries;
+            waits = h .tallying .waits;
             seen =
                 record {
                   moves = omega (arith, h .tallying .seen .moves);
@@ -85,6 +86,7 @@ stands-counted tapeBytes r o s few h =
             made = h .counting .made;
             ended = h .counting .ended;
             turns = omega (arith, h .counting .turns);
+            used = h .counting .used;
             end = h .counting .end;
           };
     }
@@ -110,7 +112,7 @@ module _ {m : BlockModel} {tape : List (List ℕ)} (proper : Proper m tape) (tap
 
   -- else somebody is on REL, or the clock moves
   take-next : Stands tapeBytes r none s → s .moving ≡ none → Stands tapeBytes taken (Machine.takeReady (s .rel) s⁺ .moving) (Machine.takeReady (s .rel) s⁺)
-  unfolding take Machine.takeReady rowsOf counted listsOf
+  unfolding take Machine.takeReady rowsOf counted listsIn
   take-next h idle = go (head-shows (r .work) (listsOf s) (s .fel) (h .listing .shows) rel (omega arith))
     where
       h⁺ : Stands tapeBytes r⁺ none s⁺

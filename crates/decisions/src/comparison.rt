@@ -26,7 +26,7 @@ ghost use Prim.Native.Nat.{_+_, _<_, _≤_};
 ghost use Rattle.tables.specs.Layout.{programSize};
 ghost use Rattle.rows_laws.specs.Layout.{Room, rowCount};
 ghost use Rattle.moves.specs.Motion.{moved};
-ghost use Rattle.decisions_laws.specs.Comparison.{parametersAt, holdsAt, worthAt, setParameter, waitTerms, branch, assign};
+ghost use Rattle.decisions_laws.specs.Comparison.{parametersAt, holdsAt, worthAt, setParameter, waitTermsRows, branchRows, assignRows};
 
 const PARAMETERS: u32 = Model::PARAMETERS as u32;
 
@@ -105,7 +105,7 @@ pub fn wait_terms(
     requires { ⌜ at < programSize ⌝ }
     requires { ⌜ Room (now work) ⌝ }
     requires { ⌜ x .moving < rowCount ⌝ }
-    ensures { λ r. ⌜ moved r (now (work .exit)) ≡ waitTerms (now (tables .entry)) values (now (work .entry)) (now (tally .entry)) x at ⌝ }
+    ensures { λ r. ⌜ moved r (now (work .exit)) ≡ waitTermsRows (now (tables .entry)) values (now (work .entry)) (now (tally .entry)) x at ⌝ }
 {
     let k = x.moving;
     let clock = x.clock;
@@ -127,7 +127,7 @@ pub fn branch(
     requires { ⌜ at < programSize ⌝ }
     requires { ⌜ Room (now work) ⌝ }
     requires { ⌜ x .moving < rowCount ⌝ }
-    ensures { λ r. ⌜ moved r (now (work .exit)) ≡ branch (now (tables .entry)) values (now (work .entry)) (now (tally .entry)) x at ⌝ }
+    ensures { λ r. ⌜ moved r (now (work .exit)) ≡ branchRows (now (tables .entry)) values (now (work .entry)) (now (tally .entry)) x at ⌝ }
 {
     let k = x.moving;
     let clock = x.clock;
@@ -149,7 +149,7 @@ pub fn assign(
     requires { ⌜ at < programSize ⌝ }
     requires { ⌜ Room (now work) ⌝ }
     requires { ⌜ x .moving < rowCount ⌝ }
-    ensures { λ r. ⌜ moved r (now (work .exit)) ≡ assign (now (tables .entry)) values (now (work .entry)) (now (tally .entry)) x at ⌝ }
+    ensures { λ r. ⌜ moved r (now (work .exit)) ≡ assignRows (now (tables .entry)) values (now (work .entry)) (now (tally .entry)) x at ⌝ }
 {
     let k = x.moving;
     let clock = x.clock;

@@ -5,17 +5,17 @@ use tables::FIRST;
 use tables::number;
 ghost use mathlib.Core.Path.{_≡_};
 ghost use Prim.Native.Nat.{_+_, _<_, _≤_};
-ghost use Rattle.tables.specs.Layout.{BlockAt};
+ghost use Rattle.tables.specs.Layout.{programSize};
 ghost use Rattle.rows_laws.specs.Layout.{Room, rowCount};
 ghost use Rattle.moves.specs.Motion.{moved};
-ghost use Rattle.decisions_laws.specs.Jumps.{goto};
+ghost use Rattle.decisions_laws.specs.Jumps.{gotoRows};
 
 // 11 GOTO target: the next block is the target, still moving.
 pub fn goto(tables: &[u32], work: &mut [u32], x: Scalars, at: usize) -> Scalars
-    requires { ⌜ BlockAt (now tables) at ⌝ }
+    requires { ⌜ at < programSize ⌝ }
     requires { ⌜ Room (now work) ⌝ }
     requires { ⌜ x .moving < rowCount ⌝ }
-    ensures { λ r. ⌜ moved r (now (work .exit)) ≡ goto (now (tables .entry)) (now (work .entry)) x at ⌝ }
+    ensures { λ r. ⌜ moved r (now (work .exit)) ≡ gotoRows (now (tables .entry)) (now (work .entry)) x at ⌝ }
 {
     go_to(work, x, number(tables, at + FIRST))
 }

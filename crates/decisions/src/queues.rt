@@ -14,16 +14,16 @@ use tables::set_count;
 ghost use mathlib.Core.Path.{_≡_};
 ghost use Prim.Native.Nat.{_+_, _<_, _≤_};
 ghost use Rattle.machine.specs.Limits.{maxQueues};
-ghost use Rattle.tables.specs.Layout.{BlockAt};
+ghost use Rattle.tables.specs.Layout.{programSize};
 ghost use Rattle.rows_laws.specs.Layout.{Room, rowCount};
 ghost use Rattle.state.specs.Stands.{rowsOf};
-ghost use Rattle.decisions_laws.specs.Queues.{queueOf, change, arrive, depart};
+ghost use Rattle.decisions_laws.specs.Queues.{queueOf, change, arriveRows, departRows};
 
 const QUEUES: u32 = Model::MAX_QUEUES as u32;
 
 // The queue that the block at `at` names.
 fn queue_at(tables: &[u32], at: usize) -> usize
-    requires { ⌜ BlockAt (now tables) at ⌝ }
+    requires { ⌜ at < programSize ⌝ }
     ensures queue { λ r. ⌜ r ≡ queueOf (now (tables .entry)) at ⌝ }
     ensures small { λ r. ⌜ r < maxQueues ⌝ }
 {
@@ -44,10 +44,10 @@ fn change(work: &mut [u32], tally: &mut [u64], x: Scalars, q: usize, n: u64) -> 
 
 // 15 ARRIVE q: one more content.
 pub fn arrive(tables: &[u32], work: &mut [u32], tally: &mut [u64], x: Scalars, at: usize) -> Scalars
-    requires { ⌜ BlockAt (now tables) at ⌝ }
+    requires { ⌜ at < programSize ⌝ }
     requires { ⌜ Room (now work) ⌝ }
     requires { ⌜ x .moving < rowCount ⌝ }
-    ensures { λ r. ⌜ rowsOf r (now (work .exit)) (now (tally .exit)) ≡ arrive (now (tables .entry)) (now (work .entry)) (now (tally .entry)) x at ⌝ }
+    ensures { λ r. ⌜ rowsOf r (now (work .exit)) (now (tally .exit)) ≡ arriveRows (now (tables .entry)) (now (work .entry)) (now (tally .entry)) x at ⌝ }
 {
     let q = queue_at(tables, at);
     change(work, tally, x, q, plus64(count(tally, CONTENT + q), 1))
@@ -55,10 +55,10 @@ pub fn arrive(tables: &[u32], work: &mut [u32], tally: &mut [u64], x: Scalars, a
 
 // 16 DEPART q: "Has the queue content? 25." One content less.
 pub fn depart(tables: &[u32], work: &mut [u32], tally: &mut [u64], x: Scalars, at: usize) -> Scalars
-    requires { ⌜ BlockAt (now tables) at ⌝ }
+    requires { ⌜ at < programSize ⌝ }
     requires { ⌜ Room (now work) ⌝ }
     requires { ⌜ x .moving < rowCount ⌝ }
-    ensures { λ r. ⌜ rowsOf r (now (work .exit)) (now (tally .exit)) ≡ depart (now (tables .entry)) (now (work .entry)) (now (tally .entry)) x at ⌝ }
+    ensures { λ r. ⌜ rowsOf r (now (work .exit)) (now (tally .exit)) ≡ departRows (now (tables .entry)) (now (work .entry)) (now (tally .entry)) x at ⌝ }
 {
     let q = queue_at(tables, at);
     let content = count(tally, CONTENT + q);

@@ -1,6 +1,6 @@
 -- WAITIF and IF on a comparison, GOTO and LET leave what the machine's do.
-use Prim.Native.Nat.{ℕ, suc, _+_, _-_, _*_, _≤_, _<_}
-use mathlib.Core.Path.{_≡_, refl, sym, ap, _∙_, subst}
+use Prim.Native.Nat.{ℕ, suc, _+_, _-_, _≤_}
+use mathlib.Core.Path.{_≡_, refl, sym, ap, _∙_}
 use mathlib.Core.Bool.{Bool, true, false, cond}
 use mathlib.Core.List.{List}
 use mathlib.Core.Option.{none, some}
@@ -12,188 +12,134 @@ use mir.Syntax.{w32}
 use mir.Val.{toZ}
 use Rattle.machine.specs.Transaction.{Transaction, precedes}
 use Rattle.machine.specs.Term.{Term, Relation, signed, low32, evaluate, compare, truth}
-use Rattle.machine.specs.Block.{waitTerms, branch, goto, assign, BlockModel, blockAt}
+use Rattle.machine.specs.Block.{Block, waitTerms, branch, goto, assign, BlockModel}
 use Rattle.machine.specs.State.{State}
 use Rattle.machine.specs.Setters.{withParameters, setMoving}
 use Rattle.machine.specs.Moves as Moves
 use Rattle.machine.specs.Execute.{question}
-use Rattle.machine.proofs.decoding.Proper.{Proper, ProperBlock}
-use Rattle.tables.specs.Layout as Layout
-use Rattle.tables.specs.Represents.{Represents}
+use Rattle.tables.specs.Forms.{blockForms}
 use Rattle.rows_laws.specs.Layout.{wsl, parameterField}
 use Rattle.rows_laws.specs.Cells.{write}
 use Rattle.rows_laws.specs.Ordered.{Sorted}
 use Rattle.rows_laws.proofs.Fields.{write-parameter}
 use Rattle.terms.specs.Evaluation.{compareAt}
-use Rattle.terms.specs.Nested.{Nested}
 use Rattle.terms.specs.Sees.{parametersOf, Sees}
 use Rattle.terms.proofs.Signs.{signed-low}
 use Rattle.terms.proofs.Laws.{let-law, wait-law, if-law}
 use Rattle.state.specs.declared.scalars.Scalars.{Scalars}
-use Rattle.state.specs.Sane.{Sane}
-use Rattle.state.specs.Stands.{Rows, listsOf, Listing, Stands, Done}
+use Rattle.state.specs.Stands.{listsIn, Listing, Done}
 use Rattle.state.specs.Bare.{entering, waiting, bare, bareAnswer}
-use Rattle.state.proofs.StandsLaws.{listing-write, stands-moving}
-use Rattle.moves.specs.Motion.{Moved, withTally, goTo, goOn, waitOn}
-use Rattle.moves.proofs.MotionLaws.{go-to-done, go-on-done, puts-wsl, wait-on-waits, waits-done, wsl-tallying, go-to-used, go-on-used, wait-on-used}
-use Rattle.decisions_laws.specs.Comparison as Rows
-use Rattle.decisions_laws.specs.Comparison.{parametersAt, holdsAt, worthAt, setParameter}
-use Rattle.decisions_laws.specs.Jumps as Jumps
+use Rattle.state.proofs.StandsLaws.{listing-write}
+use Rattle.moves.specs.Before.{placeOf, bareBlock, Before}
+use Rattle.moves.specs.Motion.{withTally, goTo, goOn, waitOn}
+use Rattle.moves.proofs.BeforeLaws.{inside, next-low, serial-low, proper-block, operand}
+use Rattle.moves.proofs.MotionLaws.{go-to-done, go-on-done, puts-wsl, wait-on-done}
+use Rattle.decisions_laws.specs.Comparison.{parametersAt, holdsAt, worthAt, setParameter, waitTermsRows, branchRows, assignRows}
+use Rattle.decisions_laws.specs.Jumps.{gotoRows}
 use Rattle.decisions_laws.proofs.Sees.{sane-low, sees}
 use Rattle.decisions_laws.proofs.Parameters.{signed-toZ, parameters-are, evaluate-small}
-use Rattle.decisions_laws.proofs.Operands.{goto-target, assign-parameter, assign-term, branch-target}
-use Rattle.state.proofs.Moving.{inside, next-low, serial-low}
+use Rattle.decisions_laws.proofs.Operands.{assign-term, branch-target}
 
-module _ {m : BlockModel} {tape : List (List ℕ)} {tapeBytes tables lists : List ℕ} (proper : Proper m tape) (rep : Represents m tape tapeBytes tables lists) (nested : Nested m)
-    (r : Rows) (t : Transaction) (s : State) (sane : Sane m s) (stands : Stands tapeBytes r (some t) s) (moving : s .moving ≡ some t) where
-  -- the block of t, from 0
-  abbrev i : ℕ
-  i = t .next - 1
+module _ {m : BlockModel} {tape : List (List ℕ)} {tapeBytes tables lists w tally : List ℕ} {x : Scalars} {t : Transaction} {s : State} {block : Block}
+    (h : Before m tape tapeBytes tables lists w tally x t s block) where
+  abbrev s₀ : State
+  s₀ = setMoving none s
 
-  abbrev base : ℕ
-  base = Layout.blockWidth * i
+  seen : Sees (s .view) tables tally (x .clock)
+  seen = sees (sane-low (h .sane)) x (h .proper) (h .rep) (h .tallying) (h .counting)
 
-  abbrev x : Scalars
-  x = r .scalars
-
-  abbrev values : ℕ
-  values = length (m .values)
-
-  there : i < length (m .blocks)
-  there = inside proper t s sane moving
-
-  abbrev alone : State
-  alone = setMoving none s
-
-  still : Stands tapeBytes r (some t) alone
-  still = stands-moving tapeBytes r (some t) none s stands
-
-  seen : Sees (s .view) tables (r .tally) (x .clock)
-  seen = sees proper rep r (some t) s (sane-low s sane) stands
-
-  own : parametersOf (parametersAt (r .work) (x .moving)) ≡ t .parameters
-  own = parameters-are (r .work) (x .moving) ∙ ap (λ (u : Transaction). u .parameters) (stands .listing .mover .1)
+  own : parametersOf (parametersAt w (x .moving)) ≡ t .parameters
+  own = parameters-are w (x .moving) ∙ ap (λ (u : Transaction). u .parameters) (h .listing .mover .1)
 
   holds-is : (a : Term) (o : Relation) (b : Term)
-      → compareAt tables (r .tally) values (x .clock) (parametersAt (r .work) (x .moving)) (base + 1) ≡ compare (m .values) (s .view) (parametersOf (parametersAt (r .work) (x .moving))) a o b
-      → holdsAt tables values (r .work) (r .tally) (x .clock) (x .moving) base ≡ compare (m .values) (s .view) (t .parameters) a o b
+      → compareAt tables tally (length (m .values)) (x .clock) (parametersAt w (x .moving)) (placeOf t + 1) ≡ compare (m .values) (s .view) (parametersOf (parametersAt w (x .moving))) a o b
+      → holdsAt tables (length (m .values)) w tally (x .clock) (x .moving) (placeOf t) ≡ compare (m .values) (s .view) (t .parameters) a o b
   unfolding holdsAt
   holds-is a o b e = e ∙ ap (λ (l : List ℤ). compare (m .values) (s .view) l a o b) own
 
-  go-on : Done tapeBytes (withTally (goOn (r .work) x) (r .tally)) (entering (Moves.goOn t alone))
-  go-on =
-      go-on-done tapeBytes (r .work) (r .tally) x t alone (still .listing) (still .tallying) (still .counting) (next-low proper t s sane moving)
+  go-on : Done tapeBytes (withTally (goOn w x) tally) (entering (Moves.goOn t s₀))
+  go-on = go-on-done x s₀ (h .listing) (h .tallying) (h .counting) (next-low h)
 
-  go-to : (block : ℕ) → Done tapeBytes (withTally (goTo (r .work) x block) (r .tally)) (entering (Moves.moveTo block t alone))
-  go-to = go-to-done tapeBytes (r .work) (r .tally) x t alone (still .listing) (still .tallying) (still .counting)
-
-  -- ---- 9 WAITIF
+  go-to : (block : ℕ) → Done tapeBytes (withTally (goTo w x block) tally) (entering (Moves.moveTo block t s₀))
+  go-to = go-to-done x s₀ (h .listing) (h .tallying) (h .counting)
 
   sorted : Sorted precedes (s .wsl)
-  unfolding listsOf
-  sorted = stands .listing .shows .ordered .lists wsl (omega arith)
+  unfolding listsIn
+  sorted = h .listing .shows .ordered .lists wsl (omega arith)
 
-  wait-on : Done tapeBytes (withTally (waitOn (r .work) x wsl 1) (r .tally)) (waiting Moves.toWsl t alone)
-  wait-on =
-      waits-done tapeBytes (r .tally) (waitOn (r .work) x wsl 1) (waiting Moves.toWsl t alone)
-      (wait-on-waits 1 wsl (omega arith) Moves.toWsl (r .work) x t alone refl (still .listing) (still .counting) (serial-low m s sane) (puts-wsl alone sorted) (puts-wsl _ sorted))
-      (wsl-tallying tapeBytes (r .tally) t alone (still .tallying))
+  wait-on : Done tapeBytes (withTally (waitOn w x wsl 1) tally) (waiting Moves.toWsl t s₀)
+  unfolding Moves.toWsl
+  wait-on = wait-on-done x s₀ (h .listing) (h .counting) 1 wsl (omega arith) Moves.toWsl refl (serial-low h) (puts-wsl s₀ sorted) (puts-wsl _ sorted) (h .tallying) (h .tallying)
 
-  pub wait-terms-done : (a : Term) (o : Relation) (b : Term) → blockAt m (t .next) ≡ waitTerms a o b
-      → Done tapeBytes (withTally (Rows.waitTerms tables values (r .work) (r .tally) x base) (r .tally)) (bareAnswer (question m (waitTerms a o b) t s) m (waitTerms a o b) t s)
-  unfolding Rows.waitTerms question bareAnswer bare
-  wait-terms-done a o b e =
-      rw (holds-is a o b (wait-law rep nested seen (parametersAt (r .work) (x .moving)) i there a o b e)) (go (compare (m .values) (s .view) (t .parameters) a o b))
+module _ {m : BlockModel} {tape : List (List ℕ)} {tapeBytes tables lists w tally : List ℕ} {x : Scalars} {t : Transaction} {s : State} where
+  -- ---- 9 WAITIF
+
+  pub wait-terms-done : {a : Term} {o : Relation} {b : Term} → Before m tape tapeBytes tables lists w tally x t s (waitTerms a o b)
+      → Done tapeBytes (withTally (waitTermsRows tables (length (m .values)) w tally x (placeOf t)) tally) (bareBlock m (waitTerms a o b) t s)
+  unfolding waitTermsRows question bareAnswer bare
+  wait-terms-done {a} {o} {b} h =
+      rw (holds-is h a o b (wait-law (h .rep) (h .nested) (seen h) (parametersAt w (x .moving)) (t .next - 1) (inside h) a o b (h .is))) (go (compare (m .values) (s .view) (t .parameters) a o b))
     where
-      go : (c : Bool) → Done tapeBytes (withTally (cond c (waitOn (r .work) x wsl 1) (goOn (r .work) x)) (r .tally)) (cond c (waiting Moves.toWsl t alone) (entering (Moves.goOn t alone)))
-      go true = wait-on
-      go false = go-on
+      go : (c : Bool) → Done tapeBytes (withTally (cond c (waitOn w x wsl 1) (goOn w x)) tally) (cond c (waiting Moves.toWsl t (setMoving none s)) (entering (Moves.goOn t (setMoving none s))))
+      go true = wait-on h
+      go false = go-on h
 
   -- ---- 10 IF
 
-  pub branch-done : (a : Term) (o : Relation) (b : Term) (target : ℕ) → blockAt m (t .next) ≡ branch a o b target
-      → Done tapeBytes (withTally (Rows.branch tables values (r .work) (r .tally) x base) (r .tally)) (bareAnswer (question m (branch a o b target) t s) m (branch a o b target) t s)
-  unfolding Rows.branch question bareAnswer bare truth
-  branch-done a o b target e =
-      rw (holds-is a o b (if-law rep nested seen (parametersAt (r .work) (x .moving)) i there a o b target e), branch-target rep i there nested a o b target e)
+  pub branch-done : {a : Term} {o : Relation} {b : Term} {target : ℕ} → Before m tape tapeBytes tables lists w tally x t s (branch a o b target)
+      → Done tapeBytes (withTally (branchRows tables (length (m .values)) w tally x (placeOf t)) tally) (bareBlock m (branch a o b target) t s)
+  unfolding branchRows question bareAnswer bare truth
+  branch-done {a} {o} {b} {target} h =
+      rw (holds-is h a o b (if-law (h .rep) (h .nested) (seen h) (parametersAt w (x .moving)) (t .next - 1) (inside h) a o b target (h .is)), branch-target (h .rep) (t .next - 1) (inside h) (h .nested) a o b target (h .is))
       (go (compare (m .values) (s .view) (t .parameters) a o b))
     where
-      go : (c : Bool) → Done tapeBytes (withTally (cond c (goTo (r .work) x target) (goOn (r .work) x)) (r .tally)) (entering (Moves.moveTo (cond c target (suc (t .next))) t alone))
-      go true = go-to target
-      go false = go-on
+      go : (c : Bool) → Done tapeBytes (withTally (cond c (goTo w x target) (goOn w x)) tally) (entering (Moves.moveTo (cond c target (suc (t .next))) t (setMoving none s)))
+      go true = go-to h target
+      go false = go-on h
 
   -- ---- 11 GOTO
 
-  pub goto-done : (target : ℕ) → blockAt m (t .next) ≡ goto target
-      → Done tapeBytes (withTally (Jumps.goto tables (r .work) x base) (r .tally)) (bareAnswer (question m (goto target) t s) m (goto target) t s)
-  unfolding Jumps.goto question bareAnswer bare truth
-  goto-done target e = rw (goto-target rep i there target e) (go-to target)
+  pub goto-done : {target : ℕ} → Before m tape tapeBytes tables lists w tally x t s (goto target) → Done tapeBytes (withTally (gotoRows tables w x (placeOf t)) tally) (bareBlock m (goto target) t s)
+  unfolding gotoRows question bareAnswer bare truth blockForms
+  goto-done {target} h = rw (operand h 1 (omega arith)) (go-to h target)
 
-  -- ---- 12 LET
+-- ---- 12 LET
 
-  module _ (k : ℕ) (a : Term) (e : blockAt m (t .next) ≡ assign k a) where
-    abbrev z : ℤ
-    z = evaluate (m .values) (s .view) (t .parameters) a
+module _ {m : BlockModel} {tape : List (List ℕ)} {tapeBytes tables lists w tally : List ℕ} {x : Scalars} {t : Transaction} {s : State}
+    {k : ℕ} {a : Term} (h : Before m tape tapeBytes tables lists w tally x t s (assign k a)) where
+  abbrev z : ℤ
+  z = evaluate (m .values) (s .view) (t .parameters) a
 
-    abbrev t′ : Transaction
-    t′ = withParameters (set (t .parameters) (k - 1) z) t
+  abbrev t′ : Transaction
+  t′ = withParameters (set (t .parameters) (k - 1) z) t
 
-    -- the stored bits stand for what the term is worth
-    stored : toZ w32 (worthAt tables values (r .work) (r .tally) (x .clock) (x .moving) base) ≡ z
-    unfolding worthAt
-    stored =
-        let p = parametersAt (r .work) (x .moving) in
-        let ok = assign-term rep i there nested k a e in
-        sym (signed-toZ _)
-        ∙ ap (λ (y : ℤ). signed (low32 y)) (let-law rep nested seen p i there k a e)
-        ∙ signed-low _ (evaluate-small seen p (m .values) a (ok .0) (ok .1))
-        ∙ ap (λ (l : List ℤ). evaluate (m .values) (s .view) l a) own
+  abbrev worth : ℕ
+  worth = worthAt tables (length (m .values)) w tally (x .clock) (x .moving) (placeOf t)
 
-    named : (1 ≤ k) × (k ≤ 4)
-    named = subst (ProperBlock m) e (proper .block (t .next))
+  -- the stored bits stand for what the term is worth
+  stored : toZ w32 worth ≡ z
+  unfolding worthAt
+  stored =
+      let p = parametersAt w (x .moving) in
+      let ok = assign-term (h .rep) (t .next - 1) (inside h) (h .nested) k a (h .is) in
+      sym (signed-toZ _)
+      ∙ ap (λ (y : ℤ). signed (low32 y)) (let-law (h .rep) (h .nested) (seen h) p (t .next - 1) (inside h) k a (h .is))
+      ∙ signed-low _ (evaluate-small (seen h) p (m .values) a (ok .0) (ok .1))
+      ∙ ap (λ (l : List ℤ). evaluate (m .values) (s .view) l a) (own h)
 
-    written : setParameter (r .work) (x .moving) (getD tables (base + 1) 0) (worthAt tables values (r .work) (r .tally) (x .clock) (x .moving) base)
-        ≡ write (r .work) (parameterField + (k - 1)) (x .moving) (worthAt tables values (r .work) (r .tally) (x .clock) (x .moving) base)
-    unfolding setParameter
-    written = rw (assign-parameter rep i there k a e, lt-ltb (k - 1) 4 (omega (arith, named .0, named .1)))
+  named : (1 ≤ k) × (k ≤ 4)
+  named = proper-block h
 
-    listing : Listing (write (r .work) (parameterField + (k - 1)) (x .moving) (worthAt tables values (r .work) (r .tally) (x .clock) (x .moving) base)) (x .moving) (some t′) alone
-    listing =
-        let h = still .listing in
-        let worth = worthAt tables values (r .work) (r .tally) (x .clock) (x .moving) base in
-        listing-write (r .work) (x .moving) t alone (parameterField + (k - 1)) worth t′ (omega (arith, named .1)) h
-        (write-parameter (r .work) (x .moving) (h .shows .shown .holds .room) (h .mover .0 .row) (k - 1) worth (omega (arith, named .0, named .1))
-        ∙ rw (stored, h .mover .1))
+  written : setParameter w (x .moving) (getD tables (placeOf t + 1) 0) worth ≡ write w (parameterField + (k - 1)) (x .moving) worth
+  unfolding setParameter blockForms
+  written = rw (operand h 1 (omega arith), lt-ltb (k - 1) 4 (omega (arith, named .0, named .1)))
 
-    pub assign-done : Done tapeBytes (withTally (Rows.assign tables values (r .work) (r .tally) x base) (r .tally)) (bareAnswer (question m (assign k a) t s) m (assign k a) t s)
-    unfolding Rows.assign question bareAnswer bare
-    assign-done =
-        rw written
-        (go-on-done tapeBytes (write (r .work) (parameterField + (k - 1)) (x .moving) (worthAt tables values (r .work) (r .tally) (x .clock) (x .moving) base)) (r .tally) x t′ alone listing (still .tallying) (still .counting) (next-low proper t s sane moving))
+  listing : Listing (write w (parameterField + (k - 1)) (x .moving) worth) (x .moving) (some t′) s
+  listing =
+      listing-write (h .listing) (parameterField + (k - 1)) worth (omega (arith, named .1))
+      (write-parameter w (x .moving) (h .listing .shows .shown .holds .room) (h .listing .mover .0 .row) (k - 1) worth (omega (arith, named .0, named .1))
+      ∙ rw (stored, h .listing .mover .1))
 
--- ---- Bytes of trace are counted elsewhere
-
-module _ (tables : List ℕ) (values : ℕ) (w tally : List ℕ) (x : Scalars) (at : ℕ) where
-  pub wait-terms-used : Rows.waitTerms tables values w tally x at .scalars .used ≡ x .used
-  unfolding Rows.waitTerms
-  wait-terms-used = go (holdsAt tables values w tally (x .clock) (x .moving) at)
-    where
-      go : (c : Bool) → cond {A = Moved} c (waitOn w x wsl 1) (goOn w x) .scalars .used ≡ x .used
-      go true = wait-on-used w x wsl 1
-      go false = go-on-used w x
-
-  pub branch-used : Rows.branch tables values w tally x at .scalars .used ≡ x .used
-  unfolding Rows.branch
-  branch-used = go (holdsAt tables values w tally (x .clock) (x .moving) at)
-    where
-      go : (c : Bool) → cond {A = Moved} c (goTo w x (getD tables (at + 6) 0)) (goOn w x) .scalars .used ≡ x .used
-      go true = go-to-used w x (getD tables (at + 6) 0)
-      go false = go-on-used w x
-
-  pub goto-used : Jumps.goto tables w x at .scalars .used ≡ x .used
-  unfolding Jumps.goto
-  goto-used = go-to-used w x (getD tables (at + 1) 0)
-
-  pub assign-used : Rows.assign tables values w tally x at .scalars .used ≡ x .used
-  unfolding Rows.assign
-  assign-used = go-on-used _ x
+  pub assign-done : Done tapeBytes (withTally (assignRows tables (length (m .values)) w tally x (placeOf t)) tally) (bareBlock m (assign k a) t s)
+  unfolding assignRows question bareAnswer bare
+  assign-done = rw written (go-on-done x (setMoving none s) listing (h .tallying) (h .counting) (next-low h))

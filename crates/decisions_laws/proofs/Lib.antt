@@ -1,5 +1,4 @@
 pub mod ComparisonLaws
-pub mod Joined
 pub mod Operands
 pub mod Parameters
 pub mod QueueLaws

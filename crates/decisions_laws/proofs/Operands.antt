@@ -1,5 +1,5 @@
--- The operands of block i (from 0) in the tables, for the kinds of this crate.
-use Prim.Native.Nat.{ℕ, _+_, _-_, _*_, _<_}
+-- The terms of block i (from 0) in the tables, and what stands behind them.
+use Prim.Native.Nat.{ℕ, _+_, _*_, _<_}
 use mathlib.Core.Path.{_≡_, sym, ap, _∙_, subst}
 use mathlib.Core.Bool.{true, _&&_}
 use mathlib.Core.List.{List, [], _∷_, _++_}
@@ -7,10 +7,10 @@ use native.Mathlib.Omega.{arith}
 use lib.Dec.{T}
 use lib.ListN.{length, getD}
 use Rattle.machine.specs.Term.{Term, Relation}
-use Rattle.machine.specs.Block.{Block, branch, goto, assign, arrive, depart, terminate, BlockModel, Change, counts}
+use Rattle.machine.specs.Block.{Block, branch, assign, terminate, BlockModel}
 use Rattle.tables.specs.Forms.{blockForms}
 use Rattle.tables.specs.Layout as Layout
-use Rattle.tables.specs.Numbers.{relationNumber, termNumbers, blockNumbers, countKind}
+use Rattle.tables.specs.Numbers.{relationNumber, termNumbers, blockNumbers}
 use Rattle.tables.specs.Represents.{At, smallTerm, smallBlock, Represents}
 use Rattle.terms.specs.Nested.{nestedTerm, nestedBlock, Nested}
 use Rattle.terms.proofs.Found.{at-first, at-back}
@@ -20,23 +20,6 @@ use Rattle.terms.proofs.Laws.{two-numbers}
 module _ {m : BlockModel} {tape : List (List ℕ)} {tapeBytes tables lists : List ℕ} (rep : Represents m tape tapeBytes tables lists) (i : ℕ) (inside : i < length (m .blocks)) where
   pub numbers : (b : Block) → getD (m .blocks) i (terminate 0) ≡ b → At tables (Layout.blockWidth * i) (blockNumbers b)
   numbers b e = subst (λ (x : Block). At tables (Layout.blockWidth * i) (blockNumbers x)) e (rep .blocks i inside)
-
-  -- the number behind the kind
-  second : (kind n : ℕ) (rest : List ℕ) → At tables (Layout.blockWidth * i) (kind ∷ n ∷ rest) → getD tables (Layout.blockWidth * i + 1) 0 ≡ n
-  second kind n rest h =
-      sym (at-first tables (Layout.blockWidth * i + 1) n rest (at-first tables (Layout.blockWidth * i) kind (n ∷ rest) h .after) .found)
-
-  pub goto-target : (target : ℕ) → getD (m .blocks) i (terminate 0) ≡ goto target → getD tables (Layout.blockWidth * i + 1) 0 ≡ target
-  unfolding blockForms
-  goto-target target e = second 11 target [] (numbers (goto target) e)
-
-  pub assign-parameter : (k : ℕ) (a : Term) → getD (m .blocks) i (terminate 0) ≡ assign k a → getD tables (Layout.blockWidth * i + 1) 0 ≡ k - 1
-  unfolding blockForms
-  assign-parameter k a e = second 12 (k - 1) (termNumbers a) (numbers (assign k a) e)
-
-  pub count-queue : (c : Change) (q : ℕ) → getD (m .blocks) i (terminate 0) ≡ counts c q → getD tables (Layout.blockWidth * i + 1) 0 ≡ q - 1
-  unfolding blockNumbers
-  count-queue c q e = second (countKind c) (q - 1) [] (numbers (counts c q) e)
 
   module _ (nested : Nested m) where
     -- a term of a LET: small constants, no brackets

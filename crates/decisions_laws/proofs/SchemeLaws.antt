@@ -29,7 +29,7 @@ use Rattle.terms.specs.Sees.{Sees}
 use Rattle.terms.proofs.Found.{at-first}
 use Rattle.state.specs.Sane.{Sane}
 use Rattle.state.specs.Stands.{Rows, rowsOf, Stands}
-use Rattle.state.proofs.StandsLaws.{tallying-ext, counting-ext, stands-of}
+use Rattle.state.proofs.StandsLaws.{stands-of}
 use Rattle.state.proofs.WakingLaws.{wake-wsl-listing}
 use Rattle.decisions_laws.specs.Scheme.{blockOf, leavesFrom, leaves, wsScheme}
 use Rattle.decisions_laws.specs.Sides.{sideAt}
@@ -124,10 +124,9 @@ module _ {m : BlockModel} {tape : List (List ℕ)} {tapeBytes tables lists : Lis
 
   woken : Stands tapeBytes (rowsOf (r .scalars) (wakeAll test 1024 (r .work) wsl (head wsl)) (r .tally)) o (wakeWsl P s)
   woken =
-      stands-of tapeBytes (r .scalars) (wakeAll test 1024 (r .work) wsl (head wsl)) (r .tally) o (wakeWsl P s)
-      (wake-wsl-listing (r .work) (r .scalars .moving) o s (stands .listing) test P (leaves-agrees rep nested (sees proper rep r o s low stands)))
-      (unfold wakeWsl in tallying-ext tapeBytes (r .tally) s (wakeWsl P s) refl refl refl refl refl refl refl (stands .tallying))
-      (unfold wakeWsl in counting-ext (r .scalars) s (wakeWsl P s) refl refl refl refl refl refl refl (stands .counting))
+      stands-of (r .scalars)
+      (wake-wsl-listing (r .work) (r .scalars .moving) o s (stands .listing) test P (leaves-agrees rep nested (sees low (r .scalars) proper rep (stands .tallying) (stands .counting))))
+      (unfold wakeWsl in stands .tallying) (unfold wakeWsl in stands .counting)
 
   pub scheme-stands : Stands tapeBytes (rowsOf (r .scalars) (wsScheme tables (length (m .blocks)) (length (m .values)) (r .tally) (r .scalars) (r .work)) (r .tally)) o (Turn.wsScheme m s)
   unfolding wsScheme Turn.wsScheme

@@ -1,12 +1,10 @@
 -- What terms see of tables, tally and clock is what the machine's view holds.
-use Prim.Native.Nat.{ℕ, zero, suc, _+_, _-_, _≤_, _<_}
+use Prim.Native.Nat.{ℕ, zero, suc, _+_, _≤_, _<_}
 use mathlib.Core.Path.{_≡_, sym, ap, _∙_}
 use mathlib.Core.List.{List, [], _∷_, _++_}
-use mathlib.Core.Option.{Option}
 use native.Mathlib.Omega.{arith}
 use lib.ListN.{length, getD, replicate, List·getD-map}
 use Rattle.machine.specs.Limits.{maxCapacity, maxTurns}
-use Rattle.machine.specs.Transaction.{Transaction}
 use Rattle.machine.specs.Term.{Queue, idleServer, emptyQueue}
 use Rattle.machine.specs.Block.{BlockModel}
 use Rattle.machine.specs.State.{State}
@@ -16,7 +14,8 @@ use Rattle.machine.proofs.runs.Shape.{Shape, Within, capacityOf, allCapacities,
 use Rattle.tables.specs.Represents.{Represents}
 use Rattle.terms.specs.Sees.{Sees}
 use Rattle.state.specs.Sane.{Sane}
-use Rattle.state.specs.Stands.{Rows, Stands}
+use Rattle.state.specs.declared.scalars.Scalars.{Scalars}
+use Rattle.state.specs.Stands.{Tallying, Counting}
 
 -- ---- Capacities
 
@@ -39,19 +38,17 @@ pub record Low (m : BlockModel) (s : State) : Type 0 where
   pub entries : Each (λ (n : ℕ). n ≤ s .turns) (s .view .entries)
   pub contents : Each (λ (q : Queue). q .content ≤ s .turns) (s .view .queues)
 
-pub sane-low : {m : BlockModel} (s : State) → Sane m s → Low m s
-sane-low s h =
-    record { shape = h .shape; turns = h .turns; entries = h .entries; contents = h .contents }
+pub sane-low : {m : BlockModel} {s : State} → Sane m s → Low m s
+sane-low h = record { shape = h .shape; turns = h .turns; entries = h .entries; contents = h .contents }
 
-module _ {m : BlockModel} {tape : List (List ℕ)} {tapeBytes tables lists : List ℕ} (proper : Proper m tape) (rep : Represents m tape tapeBytes tables lists)
-    (r : Rows) (o : Option Transaction) (s : State) (lows : Low m s) (stands : Stands tapeBytes r o s) where
+module _ {m : BlockModel} {s : State} (lows : Low m s) where
   capacity-is : (v : ℕ) → getD (s .view .servers) v (idleServer 0) .capacity ≡ getD (allCapacities m) v 0
   unfolding idleServer
   capacity-is v =
       sym (List·getD-map capacityOf (s .view .servers) v (idleServer 0)) ∙ ap (λ (l : List ℕ). getD l v 0) (lows .shape .capacities)
 
-  capacity-low : (v : ℕ) → getD (s .view .servers) v (idleServer 0) .capacity ≤ maxCapacity
-  capacity-low v =
+  capacity-low : {tape : List (List ℕ)} → Proper m tape → (v : ℕ) → getD (s .view .servers) v (idleServer 0) .capacity ≤ maxCapacity
+  capacity-low proper v =
       omega (arith, capacity-is v, all-low (m .facilities) (m .capacities) (low (m .capacities) (λ k lt. proper .capacity k lt .1)) v)
 
   in-use-low : (v : ℕ) → getD (s .view .servers) v (idleServer 0) .inUse ≤ getD (s .view .servers) v (idleServer 0) .capacity
@@ -66,31 +63,32 @@ module _ {m : BlockModel} {tape : List (List ℕ)} {tapeBytes tables lists : Lis
   content-low q =
       each-getD (λ (a : Queue). a .content ≤ s .turns) (s .view .queues) q emptyQueue (lows .contents) (omega arith)
 
-  pub sees : Sees (s .view) tables (r .tally) (r .scalars .clock)
-  sees =
+  pub sees : {tape : List (List ℕ)} {tapeBytes tables lists tally : List ℕ} (x : Scalars) → Proper m tape → Represents m tape tapeBytes tables lists → Tallying tapeBytes tally s → Counting x s
+      → Sees (s .view) tables tally (x .clock)
+  sees x proper rep tallying counting =
       record {
-        time = sym (stands .counting .clock);
+        time = sym (counting .clock);
         entries =
             record {
-              shown = λ b hb. sym (stands .tallying .entries b hb);
+              shown = λ b hb. sym (tallying .entries b hb);
               small = λ b hb. omega (arith, entries-low b, lows .turns);
             };
         entries-size = omega (arith, lows .shape .entry-length, proper .blocks .1);
         contents =
             record {
-              shown = λ q hq. sym (stands .tallying .queues .contents q hq);
+              shown = λ q hq. sym (tallying .queues .contents q hq);
               small = λ q hq. omega (arith, content-low q, lows .turns);
             };
         queues-size = omega (arith, lows .shape .queue-length, proper .queues);
         in-use =
             record {
-              shown = λ v hv. sym (stands .tallying .servers .in-use v hv);
-              small = λ v hv. omega (arith, in-use-low v, capacity-low v);
+              shown = λ v hv. sym (tallying .servers .in-use v hv);
+              small = λ v hv. omega (arith, in-use-low v, capacity-low proper v);
             };
         capacities =
             record {
               shown = λ v hv. capacity-is v ∙ sym (rep .capacities v hv);
-              small = λ v hv. omega (arith, capacity-low v);
+              small = λ v hv. omega (arith, capacity-low proper v);
             };
         servers-size = omega (arith, server-length (lows .shape), proper .facilities, proper .storages);
       }

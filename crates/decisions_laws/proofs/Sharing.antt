@@ -21,7 +21,7 @@ use Rattle.rows_laws.specs.Cells.{read}
 use Rattle.rows_laws.specs.Holds.{transactionAt}
 use Rattle.terms.specs.Evaluation.{Worth, simpleTerm, termAt, relatedBy}
 use Rattle.terms.specs.Nested.{nestedTerm, nestedBlock, Nested}
-use Rattle.terms.specs.Sees.{parametersOf, Sees}
+use Rattle.terms.specs.Sees.{Sees}
 use Rattle.terms.proofs.Found.{at-first, at-front, at-back}
 use Rattle.terms.proofs.Signs.{low32-lt, back, signed-low}
 use Rattle.terms.proofs.Steps.{term-simple}

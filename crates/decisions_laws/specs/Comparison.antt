@@ -27,12 +27,12 @@ unfoldable pub setParameter : List ℕ → (k i x : ℕ) → List ℕ
 setParameter w k i x = cond (ltb i 4) (write w (parameterField + i) k x) w
 
 module _ (tables : List ℕ) (values : ℕ) (w tally : List ℕ) (x : Scalars) (at : ℕ) where
-  unfoldable pub waitTerms : Moved
-  waitTerms = cond (holdsAt tables values w tally (x .clock) (x .moving) at) (waitOn w x wsl inOrder) (goOn w x)
+  unfoldable pub waitTermsRows : Moved
+  waitTermsRows = cond (holdsAt tables values w tally (x .clock) (x .moving) at) (waitOn w x wsl inOrder) (goOn w x)
 
-  unfoldable pub branch : Moved
-  branch = cond (holdsAt tables values w tally (x .clock) (x .moving) at) (goTo w x (getD tables (at + 6) 0)) (goOn w x)
+  unfoldable pub branchRows : Moved
+  branchRows = cond (holdsAt tables values w tally (x .clock) (x .moving) at) (goTo w x (getD tables (at + 6) 0)) (goOn w x)
 
-  unfoldable pub assign : Moved
-  assign =
+  unfoldable pub assignRows : Moved
+  assignRows =
       goOn (setParameter w (x .moving) (getD tables (at + 1) 0) (worthAt tables values w tally (x .clock) (x .moving) at)) x

@@ -5,5 +5,5 @@ use lib.ListN.{getD}
 use Rattle.state.specs.declared.scalars.Scalars.{Scalars}
 use Rattle.moves.specs.Motion.{Moved, goTo}
 
-unfoldable pub goto : (tables w : List ℕ) (x : Scalars) (at : ℕ) → Moved
-goto tables w x at = goTo w x (getD tables (at + 1) 0)
+unfoldable pub gotoRows : (tables w : List ℕ) (x : Scalars) (at : ℕ) → Moved
+gotoRows tables w x at = goTo w x (getD tables (at + 1) 0)

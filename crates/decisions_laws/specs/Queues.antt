@@ -23,10 +23,10 @@ unfoldable pub change : List ℕ → List ℕ → Scalars → (q n : ℕ) → Ro
 change w tally x q n = withTally (goOn w x) (set (updateQueue tally q (x .clock)) (Layout.content + q) n)
 
 module _ (tables w tally : List ℕ) (x : Scalars) (at : ℕ) where
-  unfoldable pub arrive : Rows
-  arrive = change w tally x (queueOf tables at) (min (content tally (queueOf tables at) + 1) Layout.most64)
+  unfoldable pub arriveRows : Rows
+  arriveRows = change w tally x (queueOf tables at) (min (content tally (queueOf tables at) + 1) Layout.most64)
 
-  unfoldable pub depart : Rows
-  depart =
+  unfoldable pub departRows : Rows
+  departRows =
       cond (eqb (content tally (queueOf tables at)) 0) (rowsOf (stopped x 25) w tally)
       (change w tally x (queueOf tables at) (content tally (queueOf tables at) - 1))

@@ -14,7 +14,7 @@ use Rattle.rows_laws.specs.Layout.{rel, fel}
 use Rattle.rows_laws.specs.Lists.{first}
 use Rattle.rows_laws.proofs.Take.{Head, nobody, somebody, head-shown}
 use Rattle.rows_laws.proofs.Later.{head-fel-shown}
-use Rattle.state.specs.Stands.{Rows, listsOf, Moving, Listing, Stands}
+use Rattle.state.specs.Stands.{Rows, listsIn, Moving, Listing, Stands}
 use Rattle.engine_laws.specs.Ends.{nobodyRows, wornRows, fullRows, limitRows, endRows}
 
 -- ---- Nobody left
@@ -44,7 +44,7 @@ three false false true = refl
 three false false false = refl
 
 pub nobody-left : (work : List ℕ) (moving : ℕ) (s : State) → Listing work moving (s .moving) s → nobodyRows work moving ≡ nobodyLeft s
-unfolding nobodyRows nobodyLeft listsOf
+unfolding nobodyRows nobodyLeft listsIn
 nobody-left work moving s h =
     let rel-is : ltb (first work rel) 1024 ≡ not (isEmpty (s .rel)) = list-empty (head-shown work _ _ _ (h .shows .shown) rel (omega arith)) in
     rw (moving-none work moving (s .moving) (h .mover), rel-is, fel-empty (head-fel-shown work _ _ _ (h .shows .shown) (h .shows .ordered .future)))
@@ -56,7 +56,7 @@ turned : {A : Type 0} (a : Bool) (x y : A) → cond a x y ≡ cond (not a) y x
 turned true x y = refl
 turned false x y = refl
 
-module _ (tapeBytes : List ℕ) (r : Rows) (s : State) (stands : Stands tapeBytes r (s .moving) s) (used : r .scalars .used ≡ s .written) where
+module _ (tapeBytes : List ℕ) (r : Rows) (s : State) (stands : Stands tapeBytes r (s .moving) s) where
   pub end-before : (budget room : ℕ) → endRows (r .work) (r .scalars) budget room ≡ endBefore budget room s
   unfolding endRows limitRows wornRows fullRows endBefore
   end-before budget room =
@@ -65,6 +65,6 @@ module _ (tapeBytes : List ℕ) (r : Rows) (s : State) (stands : Stands tapeByte
         stands .counting .end,
         stands .counting .serial,
         stands .counting .turns,
-        used,
+        stands .counting .used,
       )
       (turned (eqb (s .end) 0) _ _)

@@ -16,8 +16,7 @@ use Rattle.machine.proofs.decoding.ProperFrom.{proper-from}
 use Rattle.machine.proofs.runs.RunLaws.{Taken}
 use Rattle.tables.specs.Layout.{tallySize}
 use Rattle.tables.specs.Represents.{headerOf, Represents}
-use Rattle.state.specs.Stands.{rowsOf, listsOf, Stands}
-use Rattle.state.proofs.StandsLaws.{listing-ext}
+use Rattle.state.specs.Stands.{rowsOf, Stands}
 use Rattle.state.proofs.Written.{Kept, kept-start, kept-turn, kept-end}
 use Rattle.turn_laws.specs.Turn.{Traced, traced}
 use Rattle.turn_laws.specs.Writes.{Writes}
@@ -34,19 +33,11 @@ use Rattle.engine_laws.proofs.Outcomes.{accepted-runs}
 -- ---- The end before a turn, kept
 
 closed-stands : (tape : List ℕ) (a : Traced) (s : State) (e : ℕ) → Stands tape (a .rows) (s .moving) s → Stands tape (closeRows e a .rows) (s .moving) (setEnd e s)
-unfolding closeRows traced rowsOf listsOf
+unfolding closeRows traced rowsOf
 closed-stands tape a s e h =
     record {
-      listing = listing-ext (a .rows .work) (a .rows .scalars .moving) (s .moving) s (setEnd e s) (λ q b. refl) refl refl (h .listing);
-      tallying =
-          record {
-            size = h .tallying .size;
-            entries = h .tallying .entries;
-            seen = h .tallying .seen;
-            servers = h .tallying .servers;
-            queues = h .tallying .queues;
-            samples = h .tallying .samples;
-          };
+      listing = h .listing;
+      tallying = h .tallying;
       counting =
           record {
             clock = h .counting .clock;
@@ -55,6 +46,7 @@ closed-stands tape a s e h =
             made = h .counting .made;
             ended = h .counting .ended;
             turns = h .counting .turns;
+            used = h .counting .used;
             end = refl;
           };
     }
@@ -65,7 +57,7 @@ unfolding closeRows traced rowsOf recordsOf
 closed tape before a s e h =
     record {
       stands = closed-stands tape a s e (h .stands);
-      writes = record { bytes = h .writes .bytes; written = h .writes .written; used = h .writes .used; waits = h .writes .waits };
+      writes = record { bytes = h .writes .bytes; written = h .writes .written };
     }
 
 -- ---- All turns
@@ -95,7 +87,7 @@ module _ (model tape : List ℕ) (budget : ℕ) (work trace report : List ℕ) (
       }
     where
       ends : (a : Traced) (s : State) → R a s → endOf budget (length trace) a ≡ endBefore budget (length trace) s
-      ends a s h = unfold endOf in end-before tape (a .rows) s (h .stands) (h .writes .used) budget (length trace)
+      ends a s h = unfold endOf in end-before tape (a .rows) s (h .stands) budget (length trace)
 
   abbrev last : Traced
   last = lastRows (headerOf m) tables lists tape budget work trace
@@ -113,7 +105,6 @@ module _ (model tape : List ℕ) (budget : ℕ) (work trace report : List ℕ) (
       (accepted-runs model tape budget work trace report m times accepted (last .rows) work′ trace′ report′ (r .«report_bytes») tables lists represents
       (last-follows .0 .stands) writes (last-follows .1) (f .reported))
     where
-      writes : Writes trace (last .rows .scalars) (last .rows .tally) trace′ (run m times budget (length trace))
+      writes : Writes trace trace′ (run m times budget (length trace))
       writes =
-          subst (λ (l : List ℕ). Writes trace (last .rows .scalars) (last .rows .tally) l (run m times budget (length trace))) (sym (f .trace-is))
-          (last-follows .0 .writes)
+          subst (λ (l : List ℕ). Writes trace l (run m times budget (length trace))) (sym (f .trace-is)) (last-follows .0 .writes)

@@ -1,19 +1,16 @@
 -- The start and one turn over rows follow the machine.
-use Prim.Native.Nat.{ℕ, suc, _+_, _≤_}
+use Prim.Native.Nat.{ℕ, _≤_}
 use mathlib.Core.Path.{_≡_, refl, sym, ap, _∙_, subst}
 use mathlib.Core.List.{List, []}
 use mathlib.Core.Option.{Option}
-use native.Mathlib.Omega.{arith}
 use lib.ListN.{length, replicate, length-replicate}
 use Rattle.machine.specs.Transaction.{Transaction}
-use Rattle.machine.specs.Lists.{those}
 use Rattle.machine.specs.Trace.{traceBytes}
 use Rattle.machine.specs.Block.{BlockModel}
 use Rattle.machine.specs.State.{State, Logged}
 use Rattle.machine.specs.Turn.{turn}
 use Rattle.machine.specs.Run.{idle, start}
 use Rattle.machine.specs.Outcome.{recordsOf}
-use Rattle.machine.specs.Claims.{count}
 use Rattle.machine.proofs.decoding.Proper.{Proper}
 use Rattle.machine.proofs.runs.RunLaws.{Taken}
 use Rattle.tables.specs.Layout as Layout
@@ -21,16 +18,15 @@ use Rattle.tables.specs.Represents.{headerOf, Represents}
 use Rattle.terms.specs.Nested.{Nested}
 use Rattle.state.specs.Stands.{Rows, Stands}
 use Rattle.state.proofs.Sanity.{start-is}
-use Rattle.state.proofs.Written.{atBlock, inOrder, Kept}
-use Rattle.start.specs.Start.{startScalars, startRows}
+use Rattle.state.proofs.Written.{inOrder, Kept}
+use Rattle.start.specs.Start.{startRows}
 use Rattle.start.proofs.Laws.{start-stands}
 use Rattle.start.proofs.Tally.{same-at}
-use Rattle.start.proofs.Untouched.{start-untouched}
 use Rattle.turn_laws.specs.Turn.{Traced, traced}
 use Rattle.turn_laws.specs.Runs.{Runs}
 use Rattle.turn_laws.proofs.TurnLaws.{turn-runs}
 use Rattle.engine_laws.specs.Turns.{turnRows}
-use Rattle.start.proofs.AtStart.{start-low, start-moving}
+use Rattle.start.proofs.AtStart.{start-moving}
 
 module _ {m : BlockModel} {times : List (List ℕ)} {tape tables lists : List ℕ} (proper : Proper m times) (represents : Represents m times tape tables lists) (nested : Nested m) (trace : List ℕ) where
   abbrev first : List ℕ → Rows
@@ -52,12 +48,6 @@ module _ {m : BlockModel} {times : List (List ℕ)} {tape tables lists : List �
   unfolding recordsOf traceBytes
   no-bytes = ap (λ (l : List Logged). traceBytes (inOrder l)) no-records
 
-  no-waits : (b : ℕ) → atBlock 1 b (start m times .records) ≡ 0
-  no-waits b = ap (atBlock 1 b) no-records ∙ none-yet
-    where
-      none-yet : atBlock 1 b [] ≡ 0
-      none-yet = unfold atBlock count those in refl
-
   pub started : (work : List ℕ) → 16384 ≤ length work → Runs tape trace (traced (first work) trace) (start m times)
   unfolding traced
   started work room =
@@ -69,13 +59,8 @@ module _ {m : BlockModel} {times : List (List ℕ)} {tape tables lists : List �
             record {
               bytes = sym (rw (no-bytes, nothing-written));
               written = rw (no-bytes, nothing-written);
-              used = start-untouched (headerOf m) tables tape lists work (replicate Layout.tallySize 0) .used ∙ unused ∙ sym nothing-written;
-              waits = λ b h. start-low tables tape (256 + b) (omega arith) (headerOf m) lists work Layout.tallySize ∙ sym (no-waits (suc b));
             };
       }
-    where
-      unused : startScalars (headerOf m .counter) .used ≡ 0
-      unused = unfold startScalars in refl
 
   pub turned : (budget : ℕ) (a : Traced) (s : State) → Taken budget (length trace) s → Kept m times (length trace) s → Runs tape trace a s
       → Runs tape trace (turnRows (headerOf m) tables tape a) (turn m s)

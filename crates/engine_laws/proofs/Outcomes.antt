@@ -103,13 +103,13 @@ module _ (model tape : List ℕ) (budget : ℕ) (work trace report : List ℕ) w
     same-times m′ times′ h′ = cc
 
     module _ (r : Rows) (work′ trace′ report′ : List ℕ) (n : ℕ) (tables lists : List ℕ) (represents : Represents m times tape tables lists)
-        (stands : Stands tape r (s .moving) s) (writes : Writes trace (r .scalars) (r .tally) trace′ s) (kept : Kept m times (length trace) s)
+        (stands : Stands tape r (s .moving) s) (writes : Writes trace trace′ s) (kept : Kept m times (length trace) s)
         (reported : written n report′ ≡ putAll (rowNumbers (headerOf m) tables (r .tally) (r .work) (r .scalars)) (written 0 report)) where
       proper : Proper m times
       proper = proper-from inForce model tape (length work) (length report) accepted
 
       bytes : r .scalars .used ≡ length (traceBytes (recordsOf s))
-      bytes = writes .used ∙ kept .traced .written
+      bytes = stands .counting .used ∙ kept .traced .written
 
       trace-begins : Begins (traceBytes (recordsOf s)) trace trace′
       trace-begins = writes .bytes ∙ ap (λ (k : ℕ). traceBytes (recordsOf s) ++ drop k trace) (kept .traced .written)
@@ -121,7 +121,7 @@ module _ (model tape : List ℕ) (budget : ℕ) (work trace report : List ℕ) w
 
       report-begins : (n ≡ length (reportBytes m s)) × Begins (reportBytes m s) report report′
       report-begins =
-          report-written m times tape tables lists (length trace) r s proper represents (kept .sure .sane) (kept .sure .sound) (kept .traced) stands (λ b h. writes .waits b (omega (arith, proper .blocks .1)))
+          report-written m times tape tables lists (length trace) r s proper represents (kept .sure .sane) (kept .sure .sound) (kept .traced) stands
           n report report′ (rooms model tape (length work) (length report) m times accepted .1) reported
 
       gives : Gives (acceptedRun m s) (endedWith (r .scalars) n)

@@ -30,7 +30,6 @@ ghost use Rattle.machine.specs.Limits.{maxFacilities};
 ghost use Rattle.tables.specs.Layout.{programSize};
 ghost use Rattle.rows_laws.specs.Layout.{Room, listCount, rowCount};
 ghost use Rattle.moves.specs.Motion.{moved};
-ghost use Rattle.state.specs.Stands.{rowsOf};
 ghost use Rattle.flow_laws.specs.Gathering.{listAt, gatherOn, releaseOn, endOn, countOn, laterRows, gatherRows, assembleRows};
 
 const BLOCKS: u32 = Model::MAX_BLOCKS as u32;
@@ -106,7 +105,7 @@ fn count_on(work: &mut [u32], x: Scalars, n: u32, p: u32, c: u32, j: u32, come: 
 fn later(
     facilities: usize,
     work: &mut [u32],
-    tally: &mut [u64],
+    tally: &[u64],
     x: Scalars,
     n: u32,
     p: u32,
@@ -118,7 +117,7 @@ fn later(
     requires { ⌜ x .moving < rowCount ⌝ }
     requires { ⌜ p < listCount ⌝ }
     requires { ⌜ j < rowCount ⌝ }
-    ensures { λ r. ⌜ rowsOf r (now (work .exit)) (now (tally .exit)) ≡ laterRows facilities (now (work .entry)) (now (tally .entry)) x n p c j ⌝ }
+    ensures { λ r. ⌜ moved r (now (work .exit)) ≡ laterRows facilities (now (work .entry)) (now (tally .entry)) x n p c j ⌝ }
 {
     let end = ask_holding(tally, facilities, read(work, NUMBER, x.moving) as u64);
     if end != 0 {
@@ -131,7 +130,7 @@ fn later(
 fn gather(
     facilities: usize,
     work: &mut [u32],
-    tally: &mut [u64],
+    tally: &[u64],
     x: Scalars,
     n: u32,
     p: u32,
@@ -141,7 +140,7 @@ fn gather(
     requires { ⌜ Room (now work) ⌝ }
     requires { ⌜ x .moving < rowCount ⌝ }
     requires { ⌜ p < listCount ⌝ }
-    ensures { λ r. ⌜ rowsOf r (now (work .exit)) (now (tally .exit)) ≡ gatherRows facilities (now (work .entry)) (now (tally .entry)) x n p c ⌝ }
+    ensures { λ r. ⌜ moved r (now (work .exit)) ≡ gatherRows facilities (now (work .entry)) (now (tally .entry)) x n p c ⌝ }
 {
     let j = load(work, c);
     if j < ROWS {
@@ -154,7 +153,7 @@ pub fn assemble(
     tables: &[u32],
     facilities: usize,
     work: &mut [u32],
-    tally: &mut [u64],
+    tally: &[u64],
     x: Scalars,
     at: usize,
 ) -> Scalars
@@ -162,7 +161,7 @@ pub fn assemble(
     requires { ⌜ Room (now work) ⌝ }
     requires { ⌜ x .moving < rowCount ⌝ }
     requires { ⌜ at < programSize ⌝ }
-    ensures { λ r. ⌜ rowsOf r (now (work .exit)) (now (tally .exit)) ≡ assembleRows (now (tables .entry)) facilities (now (work .entry)) (now (tally .entry)) x at ⌝ }
+    ensures { λ r. ⌜ moved r (now (work .exit)) ≡ assembleRows (now (tables .entry)) facilities (now (work .entry)) (now (tally .entry)) x at ⌝ }
 {
     let n = number(tables, at + FIRST);
     let p = list_at(work, x.moving);

@@ -13,7 +13,6 @@ ghost use Prim.Native.Nat.{_+_, _<_, _≤_};
 ghost use Rattle.tables.specs.Layout.{programSize};
 ghost use Rattle.rows_laws.specs.Layout.{Room, rowCount};
 ghost use Rattle.moves.specs.Motion.{moved};
-ghost use Rattle.state.specs.Stands.{rowsOf};
 ghost use Rattle.flow_laws.specs.Kinds.{rankOn, priorityRows};
 
 // The moving one goes to REL with a priority, its next block plus one.
@@ -30,17 +29,11 @@ fn rank_on(work: &mut [u32], x: Scalars, p: u32) -> Scalars
     z
 }
 
-pub fn priority(
-    tables: &[u32],
-    work: &mut [u32],
-    tally: &mut [u64],
-    x: Scalars,
-    at: usize,
-) -> Scalars
+pub fn priority(tables: &[u32], work: &mut [u32], x: Scalars, at: usize) -> Scalars
     requires { ⌜ Room (now work) ⌝ }
     requires { ⌜ x .moving < rowCount ⌝ }
     requires { ⌜ at < programSize ⌝ }
-    ensures { λ r. ⌜ rowsOf r (now (work .exit)) (now (tally .exit)) ≡ priorityRows (now (tables .entry)) (now (work .entry)) (now (tally .entry)) x at ⌝ }
+    ensures { λ r. ⌜ moved r (now (work .exit)) ≡ priorityRows (now (tables .entry)) (now (work .entry)) x at ⌝ }
 {
     let p = number(tables, at + FIRST);
     rank_on(work, x, p)

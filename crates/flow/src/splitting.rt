@@ -12,7 +12,6 @@ ghost use Prim.Native.Nat.{_+_, _<_, _≤_};
 ghost use Rattle.tables.specs.Layout.{programSize};
 ghost use Rattle.rows_laws.specs.Layout.{Room, rowCount};
 ghost use Rattle.moves.specs.Motion.{moved};
-ghost use Rattle.state.specs.Stands.{rowsOf};
 ghost use Rattle.flow_laws.specs.Kinds.{copiesOf, splitOn, splitRows};
 
 // n copies of the moving one at a block, one after the other.
@@ -39,11 +38,11 @@ fn split_on(work: &mut [u32], x: Scalars, n: u32, target: u32) -> Scalars
     copies(work, y, n, target)
 }
 
-pub fn split(tables: &[u32], work: &mut [u32], tally: &mut [u64], x: Scalars, at: usize) -> Scalars
+pub fn split(tables: &[u32], work: &mut [u32], x: Scalars, at: usize) -> Scalars
     requires { ⌜ Room (now work) ⌝ }
     requires { ⌜ x .moving < rowCount ⌝ }
     requires { ⌜ at < programSize ⌝ }
-    ensures { λ r. ⌜ rowsOf r (now (work .exit)) (now (tally .exit)) ≡ splitRows (now (tables .entry)) (now (work .entry)) (now (tally .entry)) x at ⌝ }
+    ensures { λ r. ⌜ moved r (now (work .exit)) ≡ splitRows (now (tables .entry)) (now (work .entry)) x at ⌝ }
 {
     let n = number(tables, at + FIRST);
     let end = ask_room(x, n);

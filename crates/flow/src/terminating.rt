@@ -19,7 +19,7 @@ ghost use lib.Dec.{leb};
 ghost use Rattle.machine.specs.Limits.{maxFacilities};
 ghost use Rattle.tables.specs.Layout.{programSize};
 ghost use Rattle.rows_laws.specs.Layout.{Room, rowCount};
-ghost use Rattle.state.specs.Stands.{rowsOf};
+ghost use Rattle.moves.specs.Motion.{moved};
 ghost use Rattle.flow_laws.specs.Kinds.{endOne, terminateRows};
 
 // "At or below 0, end 2."
@@ -48,7 +48,7 @@ pub fn terminate(
     tables: &[u32],
     facilities: usize,
     work: &mut [u32],
-    tally: &mut [u64],
+    tally: &[u64],
     x: Scalars,
     at: usize,
 ) -> Scalars
@@ -56,7 +56,7 @@ pub fn terminate(
     requires { ⌜ Room (now work) ⌝ }
     requires { ⌜ x .moving < rowCount ⌝ }
     requires { ⌜ at < programSize ⌝ }
-    ensures { λ r. ⌜ rowsOf r (now (work .exit)) (now (tally .exit)) ≡ terminateRows (now (tables .entry)) facilities (now (work .entry)) (now (tally .entry)) x at ⌝ }
+    ensures { λ r. ⌜ moved r (now (work .exit)) ≡ terminateRows (now (tables .entry)) facilities (now (work .entry)) (now (tally .entry)) x at ⌝ }
 {
     let a = number(tables, at + FIRST);
     let end = ask_holding(tally, facilities, read(work, NUMBER, x.moving) as u64);

@@ -1,7 +1,7 @@
 -- `arrives` is the machine's `arrival`: the first time of a list is used, and a new transaction comes onto the FEL at the clock plus
 -- that time.
 use Prim.Native.Nat.{ℕ, suc, _+_, _-_, _≤_, _<_}
-use mathlib.Core.Path.{_≡_, refl, sym, ap, _∙_, subst}
+use mathlib.Core.Path.{_≡_, sym, ap, _∙_, subst}
 use mathlib.Core.List.{List, _∷_}
 use mathlib.Core.Option.{Option}
 use native.Mathlib.Omega.{arith}
@@ -14,8 +14,8 @@ use Rattle.machine.specs.Limits.{maxClock}
 use Rattle.machine.proofs.runs.Clocks.{Given}
 use Rattle.tables.specs.Layout as Layout
 use Rattle.state.specs.declared.scalars.Scalars.{Scalars}
-use Rattle.state.specs.Stands.{Rows, rowsOf, listsOf, Listing, Seen, Serving, Queueing, Sampling, Tallying, Counting, Stands}
-use Rattle.state.proofs.StandsLaws.{listing-ext, tallying-ext, counting-ext, entries-set, seen-set, serving-set, queueing-set, stands-of}
+use Rattle.state.specs.Stands.{Rows, rowsOf, atBlock, Listing, Seen, Serving, Queueing, Sampling, Tallying, Counting, Stands}
+use Rattle.state.proofs.StandsLaws.{entries-set, waits-set, seen-set, serving-set, queueing-set, stands-of}
 use Rattle.moves.specs.Motion.{withTally}
 use Rattle.flow_laws.specs.declared.samples.Sample.{Sample}
 use Rattle.flow_laws.specs.Samples.{nextSample, useTime}
@@ -25,8 +25,8 @@ use Rattle.flow_laws.proofs.New.{Follows, Roomy, born-follows}
 
 -- ---- The tally after a draw
 
-module _ (tapeBytes tally : List ℕ) (s : State) (h : Tallying tapeBytes tally s) (list : ℕ) (named : 1 ≤ list) (there : list ≤ length (s .samples)) (few : length (s .samples) ≤ 16)
-    (time : ℕ) (left : List ℕ) (is : Moves.timesLeft s list ≡ time ∷ left) where
+module _ {tapeBytes tally : List ℕ} (s : State) (h : Tallying tapeBytes tally s) (list : ℕ) (named : 1 ≤ list) (there : list ≤ length (s .samples)) (few : length (s .samples) ≤ 16)
+    {time : ℕ} {left : List ℕ} (is : Moves.timesLeft s list ≡ time ∷ left) where
   abbrev l : ℕ
   l = list - 1
 
@@ -47,6 +47,12 @@ module _ (tapeBytes tally : List ℕ) (s : State) (h : Tallying tapeBytes tally 
   used-entries =
       entries-set (set tally (928 + l) (sample .next)) (944 + l) (getD tally (944 + l) 0 - 1) (s .view .entries) (omega arith)
       (entries-set tally (928 + l) (sample .next) (s .view .entries) (omega arith) (h .entries))
+
+  used-waits : (b : ℕ) → b < 256 → getD used (Layout.waits + b) 0 ≡ atBlock 1 (suc b) (s .records)
+  unfolding useTime
+  used-waits =
+      waits-set (set tally (928 + l) (sample .next)) (944 + l) (getD tally (944 + l) 0 - 1) (s .records) (omega arith)
+      (waits-set tally (928 + l) (sample .next) (s .records) (omega arith) (h .waits))
 
   used-seen : Seen used (s .view .clock) (s .turns)
   unfolding useTime
@@ -71,6 +77,7 @@ module _ (tapeBytes tally : List ℕ) (s : State) (h : Tallying tapeBytes tally 
       record {
         size = drawn-size tapeBytes tally (s .samples) l (h .samples) (h .size) hl few time left is;
         entries = used-entries;
+        waits = used-waits;
         seen = used-seen;
         servers = used-servers;
         queues = used-queues;
@@ -85,7 +92,7 @@ module _ (tapeBytes tally : List ℕ) (s : State) (h : Tallying tapeBytes tally 
 
   -- ---- The new transaction
 
-  module _ (w : List ℕ) (x : Scalars) (o : Option Transaction) (listing : Listing w (x .moving) o s) (counting : Counting x s) (roomy : Roomy s) (given : Given s) (p block : ℕ) (small : p ≤ 127) (most : s .view .clock + time ≤ maxClock) where
+  module _ {w : List ℕ} (x : Scalars) {o : Option Transaction} (listing : Listing w (x .moving) o s) (counting : Counting x s) (roomy : Roomy s) (given : Given s) (p block : ℕ) (small : p ≤ 127) (most : s .view .clock + time ≤ maxClock) where
     abbrev s₁ : State
     s₁ = Moves.useTime list s
 
@@ -96,25 +103,17 @@ module _ (tapeBytes tally : List ℕ) (s : State) (h : Tallying tapeBytes tally 
     later = Moves.toFel time′ (newborn (suc (s .made)) p block) (setMade (suc (s .made)) s₁)
 
     follows : Follows (born w x time′ p block) (x .note) o later
-    unfolding listsOf
     follows =
-        born-follows w x o s₁ (listing-ext w (x .moving) o s s₁ (λ q hq. refl) refl refl listing) (counting-ext x s s₁ refl refl refl refl refl refl refl counting)
+        born-follows x {s = s₁} listing counting
         (record { room = roomy .room; order = roomy .order; serials = roomy .serials; numbers = roomy .numbers }) time′ p block small given
-
-    tallied : Tallying tapeBytes used later
-    unfolding Moves.toFel
-    tallied = tallying-ext tapeBytes used s₁ later refl refl refl refl refl refl refl used-tallying
 
     arrives-is : arrives w tally x sample l p block ≡ withTally (born w x time′ p block) used
     unfolding arrives
-    arrives-is =
-        ap (λ (n : ℕ). withTally (born w x n p block) used) (move-time x counting most)
+    arrives-is = ap (λ (n : ℕ). withTally (born w x n p block) used) (move-time x counting most)
 
     pub arrives-stands : Stands tapeBytes (arrives w tally x sample l p block) o (Moves.arrival (time ∷ left) list p block s)
-    unfolding Moves.arrival
-    arrives-stands =
-        subst (λ (r : Rows). Stands tapeBytes r o later) (sym arrives-is)
-        (stands-of tapeBytes (born w x time′ p block .scalars) (born w x time′ p block .work) used o later (follows .listing) tallied (follows .counting))
+    unfolding Moves.arrival Moves.toFel
+    arrives-stands = subst (λ (r : Rows). Stands tapeBytes r o later) (sym arrives-is) (stands-of (born w x time′ p block .scalars) (follows .listing) used-tallying (follows .counting))
 
     pub arrives-note : arrives w tally x sample l p block .scalars .note ≡ x .note
     unfolding rowsOf

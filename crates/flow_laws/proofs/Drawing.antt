@@ -13,7 +13,7 @@ use lib.ListN.{length, getD, set, drop, length-set}
 use lib.Seq.{getD-set-same, getD-set-other}
 use Rattle.machine.specs.Limits.{maxNumberBytes, fiveGroups, maxTime}
 use Rattle.machine.specs.Number.{Number, readNumber}
-use Rattle.machine.specs.Parser.{Cursor, Parsed, parsed, refused, Parser, continue, give, times, forward, fieldOf, field, fieldUpTo}
+use Rattle.machine.specs.Parser.{Cursor, Parsed, parsed, refused, Parser, continue, give, times, forward, fieldOf, fieldUpTo}
 use Rattle.tables.specs.Layout as Layout
 use Rattle.tables.specs.Represents.{TimesAt}
 use Rattle.state.specs.Stands.{Sampling}

@@ -1,5 +1,5 @@
 -- 18 ASSEMBLE: the row machine does what the machine does.
-use Prim.Native.Nat.{ℕ, suc, _+_, _-_, _*_, _%_, _≤_, _<_}
+use Prim.Native.Nat.{ℕ, suc, _+_, _-_, _%_, _≤_, _<_}
 use mathlib.Core.Path.{_≡_, refl, sym, ap, _∙_, subst}
 use mathlib.Core.Bool.{Bool, true, false, cond}
 use mathlib.Core.List.{List, [], _∷_, _++_, map, map-append}
@@ -12,15 +12,12 @@ use Rattle.machine.specs.Transaction.{Transaction, Gatherer, precedes}
 use Rattle.machine.specs.Lists.{insert, those, replaceFirst, setNth}
 use Rattle.machine.specs.Block.{Block, terminate, assemble, facts, BlockModel, blockAt}
 use Rattle.machine.specs.State.{State}
-use Rattle.machine.specs.Setters.{withNext, withSerial, withReturning, setMoving, setSerial, setEnded, setRel, setGatherers}
-use Rattle.machine.specs.Moves.{fresh, toRel, inFamily, waitsFor, toGatherers, comes, released}
+use Rattle.machine.specs.Setters.{withNext, withSerial, withReturning, setMoving, setSerial, setEnded, setGatherers}
+use Rattle.machine.specs.Moves.{toRel, inFamily, waitsFor, toGatherers, comes, released}
 use Rattle.machine.specs.Execute.{question, askGathers, gathers, gathering}
 use Rattle.machine.specs.Claims.{Each}
-use Rattle.machine.proofs.decoding.Proper.{ProperBlock, Proper}
-use Rattle.machine.proofs.runs.Placed.{Placed}
 use Rattle.machine.proofs.runs.Shape.{gatherers-at}
 use Rattle.tables.specs.Forms.{blockForms}
-use Rattle.tables.specs.Represents.{Represents}
 use Rattle.rows_laws.specs.Layout.{head, rel}
 use Rattle.rows_laws.specs.Cells.{load, read, write, setReturning}
 use Rattle.rows_laws.specs.Lists.{removeAt, put, familyCell}
@@ -28,7 +25,7 @@ use Rattle.rows_laws.specs.Lines.{lineUp}
 use Rattle.rows_laws.specs.Make.{freeRow}
 use Rattle.rows_laws.specs.Holds.{transactionAt, ending, update}
 use Rattle.rows_laws.specs.Ordered.{All}
-use Rattle.rows_laws.specs.Shows.{Shows, moved as movedLists}
+use Rattle.rows_laws.specs.Shows.{moved as movedLists}
 use Rattle.rows_laws.proofs.Data.{same-row, transaction-kept}
 use Rattle.rows_laws.proofs.Fields.{write-next, write-serial, set-returning}
 use Rattle.rows_laws.proofs.Holding.{remove-holds, remove-keeps}
@@ -39,65 +36,38 @@ use Rattle.rows_laws.proofs.Laws.{Wakes}
 use Rattle.rows_laws.proofs.Found.{nobody, somebody}
 use Rattle.rows_laws.proofs.Kin.{Other, Kin, kin-of, counts-shows, release-shows}
 use Rattle.state.specs.declared.scalars.Scalars.{Scalars}
-use Rattle.state.specs.ScalarSetters.{putMoving, putSerial, putEnded, putNote}
-use Rattle.state.specs.Bare.{Bare, entering, goingBack, beginning, waiting, bare, bareAnswer}
-use Rattle.state.specs.Sane.{Sane}
-use Rattle.state.specs.Stands.{Rows, rowsOf, gathererRow, listsOf, Listing, Counting, Tallying, Stands, noteOf, Done}
+use Rattle.state.specs.ScalarSetters.{putMoving, putSerial, putNote}
+use Rattle.state.specs.Bare.{entering, goingBack, beginning, waiting, bare, bareAnswer}
+use Rattle.state.specs.Stands.{rowsOf, gathererRow, listsIn, listsOf, Listed, Listing, noteOf, Done}
 use Rattle.state.proofs.ListsOf.{lists-gatherers, lists-set-gatherers, lists-moved}
-use Rattle.state.proofs.StandsLaws.{listing-ext, listing-write, listing-put, listing-steady, tallying-ext, stands-of, stands-moving}
-use Rattle.state.proofs.Moving.{placed, named, next-low, serial-low}
-use Rattle.moves.specs.Motion.{Moved, moved, withTally, next32, beginWait}
-use Rattle.moves.proofs.MotionLaws.{next-read, number-read, asked}
-use Rattle.tables.proofs.Operands.{operand}
+use Rattle.state.proofs.StandsLaws.{listing-write, listing-put, listing-steady, renumber}
+use Rattle.moves.specs.Before.{placeOf, bareBlock, Before}
+use Rattle.moves.specs.Motion.{moved, withTally, next32, beginWait}
+use Rattle.moves.proofs.BeforeLaws.{placed, next-low, serial-low, proper-block, operand, asked-moved}
+use Rattle.moves.proofs.MotionLaws.{next32-suc, next-read, number-read}
 use Rattle.flow_laws.specs.Sending.{toReady}
 use Rattle.flow_laws.specs.Gathering.{listAt, gatherOn, releaseOn, endOn, countOn, laterRows, gatherRows, assembleRows}
 use Rattle.flow_laws.proofs.Asked.{holding-asked}
-use Rattle.flow_laws.proofs.New.{next32-suc}
 use Rattle.flow_laws.proofs.TerminateLaw.{free-listing}
 use Rattle.flow_laws.proofs.Kin.{Match, Split, split, none-of, one-of, those-none, those-first, replaced, each-at}
 
-module _ (m : BlockModel) (tape : List (List ℕ)) (tapeBytes tables lists : List ℕ) (proper : Proper m tape) (rep : Represents m tape tapeBytes tables lists)
-    (s : State) (sane : Sane m s) (r : Rows) (t : Transaction) (stands : Stands tapeBytes r (some t) s) (moving : s .moving ≡ some t)
-    (n : ℕ) (is : blockAt m (t .next) ≡ assemble n) where
-  abbrev b : Block
-  b = assemble n
-
-  abbrev at : ℕ
-  at = 8 * (t .next - 1)
-
-  abbrev w : List ℕ
-  w = r .work
-
-  abbrev tally : List ℕ
-  tally = r .tally
-
-  abbrev x : Scalars
-  x = r .scalars
-
-  stood : Placed m t
-  stood = placed proper t s sane moving
-
-  operand-is : getD tables (at + 1) 0 ≡ n
+module _ {m : BlockModel} {tape : List (List ℕ)} {tapeBytes tables lists w tally : List ℕ} {x : Scalars} {t : Transaction} {s : State}
+    {n : ℕ} (h : Before m tape tapeBytes tables lists w tally x t s (assemble n)) where
+  operand-is : getD tables (placeOf t + 1) 0 ≡ n
   unfolding blockForms
-  operand-is = operand m tape tapeBytes tables lists rep (t .next) (stood .0) b is 1 (omega arith)
+  operand-is = operand h 1 (omega arith)
 
   range : (2 ≤ n) × (n ≤ 255)
-  range = subst (ProperBlock m) is (proper .block (t .next))
+  range = proper-block h
 
   abbrev s₀ : State
   s₀ = setMoving none s
 
-  h₀ : Stands tapeBytes r (some t) s₀
-  h₀ = stands-moving tapeBytes r (some t) none s stands
-
-  abbrev listing : Listing w (x .moving) (some t) s₀
-  listing = h₀ .listing
-
   hk : x .moving < 1024
-  hk = listing .mover .0 .row
+  hk = h .listing .mover .0 .row
 
   room : 16384 ≤ length w
-  room = listing .shows .shown .holds .room
+  room = h .listing .shows .shown .holds .room
 
   -- ---- The block's list
 
@@ -105,10 +75,10 @@ module _ (m : BlockModel) (tape : List (List ℕ)) (tapeBytes tables lists : Lis
   i = t .next - 1
 
   few : i < 256
-  few = omega (arith, stood .0, proper .blocks)
+  few = omega (arith, placed h .0, h .proper .blocks)
 
   there : i < length (s .gatherers)
-  there = gatherers-at (sane .shape) (t .next) n is
+  there = gatherers-at (h .sane .shape) (t .next) n (h .is)
 
   abbrev p : ℕ
   p = 450 + i
@@ -117,30 +87,30 @@ module _ (m : BlockModel) (tape : List (List ℕ)) (tapeBytes tables lists : Lis
   here = getD (s .gatherers) i []
 
   abbrev L : ℕ → List ℕ
-  L = listing .shows .rows
+  L = h .listing .shows .rows
 
   matches : Match w (L p) here
-  matches = listing .shows .shown .lists p (omega (arith, few)) ∙ lists-gatherers s₀ i few
+  matches = h .listing .shows .shown .lists p (omega (arith, few)) ∙ lists-gatherers s₀ i few
 
   list-is : listAt w (x .moving) ≡ p
   unfolding listAt
   list-is =
       let e : i % 256 ≡ i = omega (arith, few) in
-      ap (λ (k : ℕ). 450 + (k - 1) % 256) (next-read w x t s (stands .listing)) ∙ ap (λ (k : ℕ). 450 + k) e
+      ap (λ (k : ℕ). 450 + (k - 1) % 256) (next-read (h .listing)) ∙ ap (λ (k : ℕ). 450 + k) e
 
   family-is : read w 10 (x .moving) ≡ t .family
   unfolding transactionAt
-  family-is = ap (λ (u : Transaction). u .family) (listing .mover .1)
+  family-is = ap (λ (u : Transaction). u .family) (h .listing .mover .1)
 
   abbrev c : ℕ
   c = familyCell w p (t .family)
 
-  rows-are : assembleRows tables (m .facilities) w tally x at ≡ gatherRows (m .facilities) w tally x n p c
+  rows-are : assembleRows tables (m .facilities) w tally x (placeOf t) ≡ gatherRows (m .facilities) w tally x n p c
   unfolding assembleRows
   rows-are = rw (operand-is, list-is, family-is)
 
   serial-is : next32 (x .serial) ≡ suc (s .serial)
-  serial-is = ap next32 (stands .counting .serial) ∙ next32-suc (s .serial) (serial-low m s sane)
+  serial-is = ap next32 (h .counting .serial) ∙ next32-suc (s .serial) (serial-low h)
 
   -- ---- The first of its family
 
@@ -162,16 +132,12 @@ module _ (m : BlockModel) (tape : List (List ℕ)) (tapeBytes tables lists : Lis
     gather-is = rw serial-is
 
     g₁ : Listing w₁ (x .moving) (some (withNext 1 t)) s₀
-    g₁ = listing-write w (x .moving) t s₀ 6 1 (withNext 1 t) (omega arith) listing (write-next w (x .moving) room hk 1 ∙ ap (withNext 1) (listing .mover .1))
+    g₁ = listing-write (h .listing) 6 1 (omega arith) (write-next w (x .moving) room hk 1 ∙ ap (withNext 1) (h .listing .mover .1))
 
-    g₂ : Listing w₂ (x .moving) (some (withNext 1 t′)) s₀
+    g₂ : Listing w₂ (x .moving) (some (withNext 1 t′)) later
     g₂ =
-        listing-write w₁ (x .moving) (withNext 1 t) s₀ 7 (suc (s .serial)) (withNext 1 t′) (omega arith) g₁
+        listing-write g₁ 7 (suc (s .serial)) (omega arith)
         (write-serial w₁ (x .moving) (g₁ .shows .shown .holds .room) hk (suc (s .serial)) ∙ ap (withSerial (suc (s .serial))) (g₁ .mover .1))
-
-    g₃ : Listing w₂ (x .moving) (some (withNext 1 t′)) later
-    unfolding listsOf
-    g₃ = listing-ext w₂ (x .moving) (some (withNext 1 t′)) s₀ later (λ q hq. refl) refl refl g₂
 
     on-list : (q : ℕ) → q < 770 → update p (insert precedes (withNext 1 t′) (listsOf later p)) (listsOf later) q ≡ listsOf (toGatherers t′ later) q
     unfolding toGatherers
@@ -181,34 +147,24 @@ module _ (m : BlockModel) (tape : List (List ℕ)) (tapeBytes tables lists : Lis
         (sym (map-insert gathererRow (λ a b. precedes (a .who) (b .who)) precedes (λ a b. unfold precedes in refl) (record { who = t′; come = 1 }) here))
         ∙ lists-set-gatherers later i (insert (λ a b. precedes (a .who) (b .who)) (record { who = t′; come = 1 }) here) few there q
 
-    g₄ : Listing (put w₂ p (x .moving)) 1024 none (toGatherers t′ later)
-    unfolding toGatherers
-    g₄ = listing-put w₂ (x .moving) (withNext 1 t′) later (toGatherers t′ later) g₃ refl p (omega arith) (omega (arith, few)) on-list refl
-
     first-done : Done tapeBytes (withTally (gatherOn w x p) tally) (beginning toGatherers t s₀)
     unfolding moved rowsOf noteOf toGatherers
     first-done =
-        subst (λ (mv : Moved). Done tapeBytes (withTally mv tally) (beginning toGatherers t s₀)) (sym gather-is)
+        rw gather-is
         (record {
           stands =
-              stands-of tapeBytes (putNote 1 (putSerial (suc (s .serial)) (putMoving 1024 x))) (put w₂ p (x .moving)) tally none (toGatherers t′ later) g₄
-              (tallying-ext tapeBytes tally s₀ (toGatherers t′ later) refl refl refl refl refl refl refl (h₀ .tallying))
-              (record {
-                clock = stands .counting .clock;
-                counter = stands .counting .counter;
-                serial = refl;
-                made = stands .counting .made;
-                ended = stands .counting .ended;
-                turns = stands .counting .turns;
-                end = stands .counting .end;
-              });
+              record {
+                listing = listing-put g₂ p (omega arith) (omega (arith, few)) on-list;
+                tallying = h .tallying;
+                counting = renumber (h .counting) refl (h .counting .made) (h .counting .ended);
+              };
           note = refl;
         })
 
-    first-is : bareAnswer (question m b t s) m b t s ≡ beginning toGatherers t s₀
+    first-is : bareBlock m (assemble n) t s ≡ beginning toGatherers t s₀
     unfolding question askGathers
     first-is =
-        ap (λ (l : List Gatherer). bareAnswer (askGathers m l t s) m b t s) alone
+        ap (λ (l : List Gatherer). bareAnswer (askGathers m l t s) m (assemble n) t s) alone
         ∙ unfold bareAnswer bare in (ap (λ (l : List Gatherer). gathering (λ f. entering (f s₀)) (λ put. waiting put t s₀) (λ f. goingBack (f s₀)) (λ put. beginning put t s₀) l n t) alone)
 
   -- ---- A later one
@@ -240,18 +196,18 @@ module _ (m : BlockModel) (tape : List (List ℕ)) (tapeBytes tables lists : Lis
 
     gathers-at : facts (blockAt m (t .next)) .gathers ≡ n
     unfolding facts
-    gathers-at = ap (λ (b : Block). facts b .gathers) is
+    gathers-at = ap (λ (b : Block). facts b .gathers) (h .is)
 
     below : g .come < n
     below =
-        let all = sane .come (t .next) (stood .0 .0) (omega (arith, gathers-at, range)) in
+        let all = h .sane .come (t .next) (placed h .0 .0) (omega (arith, gathers-at, range)) in
         omega (arith, gathers-at, each-at (λ g. g .come < facts (blockAt m (t .next)) .gathers) (part .ahead) g (part .behind) (subst (Each (λ g. g .come < facts (blockAt m (t .next)) .gathers)) (part .parts) all))
 
     count-is : next32 (read w 6 k) ≡ suc (g .come)
     count-is = ap next32 come-read ∙ next32-suc (g .come) (omega (arith, below, range))
 
     ended-is : next32 (x .ended) ≡ suc (s .ended)
-    ended-is = ap next32 (stands .counting .ended) ∙ next32-suc (s .ended) (omega (arith, sane .ended, sane .made, sane .serials))
+    ended-is = ap next32 (h .counting .ended) ∙ next32-suc (s .ended) (omega (arith, h .sane .ended, h .sane .made, h .sane .serials))
 
     abbrev ended : State
     ended = setEnded (suc (s .ended)) s₀
@@ -265,7 +221,7 @@ module _ (m : BlockModel) (tape : List (List ℕ)) (tapeBytes tables lists : Lis
     v = write w 6 k (suc (g .come))
 
     counted : Wakes w v (update p (map (transactionAt w) a ++ withNext (suc (g .come)) (transactionAt w k) ∷ map (transactionAt w) e) (listsOf s₀)) (s .fel)
-    counted = counts-shows w (listsOf s₀) (s .fel) (listing .shows) p k a e (omega (arith, few)) row was (suc (g .come))
+    counted = counts-shows w (listsOf s₀) (s .fel) (h .listing .shows) p k a e (omega (arith, few)) row was (suc (g .come))
 
     counted-list : map (transactionAt w) a ++ withNext (suc (g .come)) (transactionAt w k) ∷ map (transactionAt w) e ≡ map gathererRow (replaceFirst (inFamily t) (g′ ∷ []) here)
     counted-list =
@@ -275,11 +231,11 @@ module _ (m : BlockModel) (tape : List (List ℕ)) (tapeBytes tables lists : Lis
     more-listing : Listing v (x .moving) (some t) (comes g t s₀)
     unfolding comes
     more-listing =
-        listing-steady w v (x .moving) (some t) s₀ (comes g t s₀)
+        listing-steady
         (shows-ext v _ (listsOf (comes g t s₀)) (s .fel) (s .fel)
         (λ q hq. ap (λ (l : List Transaction). update p l (listsOf s₀) q) counted-list ∙ lists-set-gatherers s₀ i (replaceFirst (inFamily t) (g′ ∷ []) here) few there q)
         refl (counted .shows))
-        (counted .steady) refl listing
+        (counted .steady) (h .listing)
 
     -- ---- The n-th: the first goes on
 
@@ -299,10 +255,10 @@ module _ (m : BlockModel) (tape : List (List ℕ)) (tapeBytes tables lists : Lis
     v₄ = write v₃ 7 k (suc (s .serial))
 
     removed-row : transactionAt v₁ k ≡ transactionAt w k
-    removed-row = transaction-kept w v₁ k (same-row w v₁ k row (remove-keeps w L (listing .shows .shown .holds) p k a e (omega (arith, few)) (λ z. omega (arith, few)) row was .rows))
+    removed-row = transaction-kept w v₁ k (same-row w v₁ k row (remove-keeps w L (h .listing .shows .shown .holds) p k a e (omega (arith, few)) (λ z. omega (arith, few)) row was .rows))
 
     room₁ : 16384 ≤ length v₁
-    room₁ = remove-holds w L (listing .shows .shown .holds) p k a e (omega (arith, few)) (λ z. omega (arith, few)) row was .room
+    room₁ = remove-holds w L (h .listing .shows .shown .holds) p k a e (omega (arith, few)) (λ z. omega (arith, few)) row was .room
 
     written₄ : Written v₁ v₄ k
     written₄ =
@@ -319,7 +275,7 @@ module _ (m : BlockModel) (tape : List (List ℕ)) (tapeBytes tables lists : Lis
         ∙ ap (λ (y : Transaction). withSerial (suc (s .serial)) (withReturning false (withNext (suc (t .next)) y))) (removed-row ∙ part .here)
 
     gone : Wakes w (put v₄ rel k) (movedLists p (map (transactionAt w) (a ++ e)) (insert precedes (transactionAt v₄ k) (listsOf s₀ rel)) (listsOf s₀)) (s .fel)
-    gone = release-shows w (listsOf s₀) (s .fel) (listing .shows) p k a e (omega (arith, few)) row was v₄ written₄ (λ z. omega arith)
+    gone = release-shows w (listsOf s₀) (s .fel) (h .listing .shows) p k a e (omega (arith, few)) row was v₄ written₄ (λ z. omega arith)
 
     left-list : map (transactionAt w) (a ++ e) ≡ map gathererRow (replaceFirst (inFamily t) [] here)
     left-list =
@@ -337,60 +293,47 @@ module _ (m : BlockModel) (tape : List (List ℕ)) (tapeBytes tables lists : Lis
         ∙ ap (λ (y : Transaction). movedLists p (map gathererRow (replaceFirst (inFamily t) [] here)) (insert precedes y (listsOf s₀ rel)) (listsOf s₀) q) row-is
         ∙ lists-moved s₀ without p (map gathererRow (replaceFirst (inFamily t) [] here)) (insert precedes (withSerial (suc (s .serial)) u) (listsOf s₀ rel))
         (λ j hj. lists-set-gatherers s₀ i (replaceFirst (inFamily t) [] here) few there j) q hq
-        ∙ unfold listsOf in refl
+        ∙ unfold listsIn in refl
 
     last-listing : Listing (put v₄ rel k) (x .moving) (some t) (released g t s₀)
     unfolding released toRel
     last-listing =
-        listing-steady w (put v₄ rel k) (x .moving) (some t) s₀ (released g t s₀)
-        (shows-ext (put v₄ rel k) _ (listsOf (released g t s₀)) (s .fel) (s .fel) last-lists refl (gone .shows))
-        (gone .steady) refl listing
+        listing-steady (shows-ext (put v₄ rel k) _ (listsOf (released g t s₀)) (s .fel) (s .fel) last-lists refl (gone .shows)) (gone .steady) (h .listing)
 
     release-is : releaseOn w x p c k ≡ moved (putSerial (suc (s .serial)) x) (put v₄ rel k)
     unfolding releaseOn toReady
     release-is =
-        rw (cell, serial-is, next-read w x t s (stands .listing), next32-suc (t .next) (next-low proper t s sane moving))
+        rw (cell, serial-is, next-read (h .listing), next32-suc (t .next) (next-low h))
 
     -- ---- It ends
 
+    one-less : s .made - s .ended - 1 ≡ s .made - suc (s .ended)
+    one-less = omega arith
+
     last-done : Done tapeBytes (withTally (endOn (releaseOn w x p c k .work) (releaseOn w x p c k .scalars) (x .moving)) tally) (entering (released g t ended))
-    unfolding endOn moved rowsOf noteOf released toRel listsOf
+    unfolding endOn moved rowsOf noteOf released toRel
     last-done =
         rw release-is
         (record {
           stands =
-              stands-of tapeBytes (putNote 0 (putEnded (next32 (x .ended)) (putMoving 1024 (putSerial (suc (s .serial)) x)))) (freeRow (put v₄ rel k) (x .moving)) tally none (released g t ended)
-              (free-listing (put v₄ rel k) (x .moving) t (released g t s₀) (released g t ended) last-listing (λ q. refl) refl refl refl)
-              (tallying-ext tapeBytes tally s₀ (released g t ended) refl refl refl refl refl refl refl (h₀ .tallying))
-              (record {
-                clock = stands .counting .clock;
-                counter = stands .counting .counter;
-                serial = refl;
-                made = stands .counting .made;
-                ended = ended-is;
-                turns = stands .counting .turns;
-                end = stands .counting .end;
-              });
+              record {
+                listing = subst (Listed (freeRow (put v₄ rel k) (x .moving)) 1024 none (listsOf (released g t ended)) (s .fel)) one-less (free-listing last-listing);
+                tallying = h .tallying;
+                counting = renumber (h .counting) refl (h .counting .made) ended-is;
+              };
           note = refl;
         })
 
     more-done : Done tapeBytes (withTally (endOn v x (x .moving)) tally) (entering (comes g t ended))
-    unfolding endOn moved rowsOf noteOf comes listsOf
+    unfolding endOn moved rowsOf noteOf comes
     more-done =
         record {
           stands =
-              stands-of tapeBytes (putNote 0 (putEnded (next32 (x .ended)) (putMoving 1024 x))) (freeRow v (x .moving)) tally none (comes g t ended)
-              (free-listing v (x .moving) t (comes g t s₀) (comes g t ended) more-listing (λ q. refl) refl refl refl)
-              (tallying-ext tapeBytes tally s₀ (comes g t ended) refl refl refl refl refl refl refl (h₀ .tallying))
-              (record {
-                clock = stands .counting .clock;
-                counter = stands .counting .counter;
-                serial = stands .counting .serial;
-                made = stands .counting .made;
-                ended = ended-is;
-                turns = stands .counting .turns;
-                end = stands .counting .end;
-              });
+              record {
+                listing = subst (Listed (freeRow v (x .moving)) 1024 none (listsOf (comes g t ended)) (s .fel)) one-less (free-listing more-listing);
+                tallying = h .tallying;
+                counting = renumber (h .counting) (h .counting .serial) (h .counting .made) ended-is;
+              };
           note = refl;
         }
 
@@ -404,29 +347,29 @@ module _ (m : BlockModel) (tape : List (List ℕ)) (tapeBytes tables lists : Lis
         go true = last-done
         go false = more-done
 
-    bare-is : bare m b t s₀ ≡ entering (gathers n g t s₀)
+    bare-is : bare m (assemble n) t s₀ ≡ entering (gathers n g t s₀)
     unfolding bare
     bare-is =
         ap (λ (l : List Gatherer). gathering (λ f. entering (f s₀)) (λ put. waiting put t s₀) (λ f. goingBack (f s₀)) (λ put. beginning put t s₀) l n t) waits
 
     -- the question of a TERMINATE
-    asked-is : question m (terminate 0) t s ≡ question m b t s
+    asked-is : question m (terminate 0) t s ≡ question m (assemble n) t s
     unfolding question askGathers
     asked-is = sym (ap (λ (l : List Gatherer). askGathers m l t s) waits)
 
-    later-done : Done tapeBytes (laterRows (m .facilities) w tally x n p c k) (bareAnswer (question m b t s) m b t s)
+    later-done : Done tapeBytes (withTally (laterRows (m .facilities) w tally x n p c k) tally) (bareBlock m (assemble n) t s)
     unfolding laterRows
     later-done =
-        rw (number-read w x t s (stands .listing), holding-asked m (sane .rules) (omega (arith, proper .facilities)) tapeBytes tally s (stands .tallying) t (named proper t s sane moving) 0, asked-is)
-        (asked tapeBytes m r t s stands moving b (question m b t s) (withTally (countOn w x n p c k (next32 (read w 6 k))) tally)
+        rw (number-read (h .listing), holding-asked h 0, asked-is)
+        (asked-moved h (question m (assemble n) t s) (countOn w x n p c k (next32 (read w 6 k)))
         (λ z. subst (Done tapeBytes (withTally (countOn w x n p c k (next32 (read w 6 k))) tally)) (sym bare-is) counts-done))
 
-  pub assemble-done : Done tapeBytes (assembleRows tables (m .facilities) (r .work) (r .tally) (r .scalars) (8 * (t .next - 1))) (bareAnswer (question m b t s) m b t s)
+  pub assemble-done : Done tapeBytes (withTally (assembleRows tables (m .facilities) w tally x (placeOf t)) tally) (bareBlock m (assemble n) t s)
   assemble-done =
-      subst (λ (rows : Rows). Done tapeBytes rows (bareAnswer (question m b t s) m b t s)) (sym rows-are)
-      (go (kin-of w p (t .family) (λ z. omega (arith, few)) (L p) (listing .shows .shown .holds .listed p (omega (arith, few)))))
+      rw rows-are
+      (go (kin-of w p (t .family) (λ z. omega (arith, few)) (L p) (h .listing .shows .shown .holds .listed p (omega (arith, few)))))
     where
-      go : Kin w p (t .family) (L p) → Done tapeBytes (gatherRows (m .facilities) w tally x n p c) (bareAnswer (question m b t s) m b t s)
+      go : Kin w p (t .family) (L p) → Done tapeBytes (withTally (gatherRows (m .facilities) w tally x n p c) tally) (bareBlock m (assemble n) t s)
       go (nobody apart far) = unfold gatherRows in
           (rw (le-ltb (load w c) 1024 far)
           (let alone : waitsFor t s ≡ [] = those-none (inFamily t) here (none-of w t (L p) here matches apart) in

@@ -11,6 +11,5 @@ pub mod AdvanceLaw
 pub mod TerminateLaw
 pub mod PriorityLaw
 pub mod SplitLaw
-pub mod Untouched
 pub mod Kin
 pub mod GatherLaw

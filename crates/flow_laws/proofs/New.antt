@@ -2,7 +2,6 @@
 -- number and a fresh serial.
 use Prim.Native.Nat.{ℕ, suc, _-_, _%_, _≤_, _<_}
 use mathlib.Core.Path.{_≡_, refl, sym, ap, _∙_, subst}
-use mathlib.Core.Bool.{false}
 use mathlib.Core.List.{List}
 use mathlib.Core.Option.{Option, some}
 use native.Mathlib.Omega.{arith}
@@ -25,20 +24,29 @@ use Rattle.rows_laws.proofs.Making.{written, time-written, newborn-written, cop
 use Rattle.rows_laws.proofs.Newborn.{newborn-is, copy-is}
 use Rattle.state.specs.declared.scalars.Scalars.{Scalars}
 use Rattle.state.specs.ScalarSetters.{putSerial, putMade}
-use Rattle.state.specs.Stands.{listsOf, Listing, Counting}
+use Rattle.state.specs.Stands.{rowsOf, listsIn, listsOf, Listing, Tallying, Counting, Stands, noteOf, Done}
+use Rattle.state.specs.Bare.{entering}
 use Rattle.state.proofs.ListsOf.{lists-set-rel}
-use Rattle.moves.specs.Motion.{Moved, moved, next32}
+use Rattle.state.proofs.StandsLaws.{renumber}
+use Rattle.moves.specs.Motion.{Moved, moved, withTally, next32}
+use Rattle.moves.proofs.MotionLaws.{next32-suc}
 use Rattle.flow_laws.specs.Sending.{toFuture, toReady, bornAt, born, copyTo, copyOne}
 use Rattle.flow_laws.proofs.Making.{Making, row-there, made, making-written, making-fel, making-rel}
-
-pub next32-suc : (n : ℕ) → n < 4294967295 → next32 n ≡ suc n
-next32-suc n h = omega arith
 
 -- what scalars and rows say of a state, with the tally apart
 pub record Follows (m : Moved) (n : ℕ) (o : Option Transaction) (s : State) : Type 0 where
   pub listing : Listing (m .work) (m .scalars .moving) o s
   pub counting : Counting (m .scalars) s
   pub note : m .scalars .note ≡ n
+
+-- with a tally that fits, where it entered
+pub follows-done : {tapeBytes tally : List ℕ} {m : Moved} {o : Option Transaction} {s : State} → Follows m 0 o s → s .moving ≡ o → Tallying tapeBytes tally s → Done tapeBytes (withTally m tally) (entering s)
+unfolding rowsOf noteOf
+follows-done {tapeBytes} {tally} {m} {s = s} h e tallying =
+    record {
+      stands = subst (λ (o : Option Transaction). Stands tapeBytes (withTally m tally) o s) (sym e) (record { listing = h .listing; tallying = tallying; counting = h .counting });
+      note = ap noteOf (h .note);
+    }
 
 -- one more living, and serials and numbers to come
 pub record Roomy (s : State) : Type 0 where
@@ -47,7 +55,7 @@ pub record Roomy (s : State) : Type 0 where
   pub serials : s .serial < 4294967295
   pub numbers : s .made < 4294967295
 
-module _ (w : List ℕ) (x : Scalars) (o : Option Transaction) (s : State) (listing : Listing w (x .moving) o s) (counting : Counting x s) (roomy : Roomy s) where
+module _ {w : List ℕ} (x : Scalars) {o : Option Transaction} {s : State} (listing : Listing w (x .moving) o s) (counting : Counting x s) (roomy : Roomy s) where
   abbrev k : ℕ
   k = first w free
 
@@ -116,42 +124,29 @@ module _ (w : List ℕ) (x : Scalars) (o : Option Transaction) (s : State) (list
     later = toFel time t (setMade (suc (s .made)) s)
 
     on-fel : Given s → Listing (schedule w₃ k) (x .moving) o later
-    unfolding toFel listsOf
+    unfolding toFel
     on-fel given =
         making-fel w₃ k (x .moving) o s later g₃ (omega (arith, roomy .order)) (fresh-given (transactionAt w₃ k) (s .serial) (s .fel) serial-given given) (λ q hq. refl) (ap (λ (e : Event). insert earlier e (s .fel)) event-is)
 
-    counted : Counting scalars′ later
-    unfolding toFel
-    counted =
-        record {
-          clock = counting .clock;
-          counter = counting .counter;
-          serial = refl;
-          made = refl;
-          ended = counting .ended;
-          turns = counting .turns;
-          end = counting .end;
-        }
-
     pub born-follows : Given s → Follows (born w x time p block) (x .note) o later
-    unfolding moved
+    unfolding moved toFel
     born-follows given =
-        subst (λ (m : Moved). Follows m (x .note) o later) (sym born-is) (record { listing = on-fel given; counting = counted; note = refl })
+        subst (λ (m : Moved). Follows m (x .note) o later) (sym born-is) (record { listing = on-fel given; counting = renumber counting refl refl (counting .ended); note = refl })
 
 -- ---- On REL
 
-module _ (w : List ℕ) (x : Scalars) (t : Transaction) (s : State) (listing : Listing w (x .moving) (some t) s) (counting : Counting x s) (roomy : Roomy s) (target : ℕ) where
+module _ {w : List ℕ} (x : Scalars) {t : Transaction} {s : State} (listing : Listing w (x .moving) (some t) s) (counting : Counting x s) (roomy : Roomy s) (target : ℕ) where
   abbrev j : ℕ
   j = first w free
 
   hj : j < 1024
-  hj = hk w x (some t) s listing counting roomy
+  hj = hk x listing counting roomy
 
   abbrev v₀ : List ℕ
   v₀ = takeFirst w free
 
   f₀ : Making v₀ j (x .moving) (some t) s
-  f₀ = g₀ w x (some t) s listing counting roomy
+  f₀ = g₀ x listing counting roomy
 
   abbrev v₁ : List ℕ
   v₁ = copyAt v₀ (x .moving) j (suc (s .made)) target
@@ -160,12 +155,12 @@ module _ (w : List ℕ) (x : Scalars) (t : Transaction) (s : State) (listing : L
   v₂ = write v₁ 7 j (suc (s .serial))
 
   abbrev y : Scalars
-  y = scalars′ w x (some t) s listing counting roomy
+  y = scalars′ x listing counting roomy
 
   copy-one-is : copyOne w x target ≡ moved y (put v₂ rel j)
   unfolding copyOne copyTo toReady
   copy-one-is =
-      rw (lt-ltb (first w free) 1024 hj, number-is w x (some t) s listing counting roomy, serial-is w x (some t) s listing counting roomy)
+      rw (lt-ltb (first w free) 1024 hj, number-is x listing counting roomy, serial-is x listing counting roomy)
 
   f₁ : Making v₁ j (x .moving) (some t) s
   f₁ =
@@ -184,7 +179,7 @@ module _ (w : List ℕ) (x : Scalars) (t : Transaction) (s : State) (listing : L
   after = toRel (copyOf t (suc (s .made)) target) (setMade (suc (s .made)) s)
 
   lists : (q : ℕ) → q < 770 → update rel (insert precedes (transactionAt v₂ j) (listsOf s rel)) (listsOf s) q ≡ listsOf after q
-  unfolding toRel listsOf
+  unfolding toRel listsIn
   lists q hq =
       rw copied (lists-set-rel s (insert precedes (withSerial (suc (s .serial)) (copyOf t (suc (s .made)) target)) (s .rel)) q hq)
 
@@ -192,20 +187,7 @@ module _ (w : List ℕ) (x : Scalars) (t : Transaction) (s : State) (listing : L
   unfolding toRel
   on-rel = making-rel v₂ j (x .moving) (some t) s after f₂ (omega (arith, roomy .order)) lists refl
 
-  counts : Counting y after
-  unfolding toRel
-  counts =
-      record {
-        clock = counting .clock;
-        counter = counting .counter;
-        serial = refl;
-        made = refl;
-        ended = counting .ended;
-        turns = counting .turns;
-        end = counting .end;
-      }
-
   pub copy-follows : Follows (copyOne w x target) (x .note) (some t) after
-  unfolding moved
+  unfolding moved toRel
   copy-follows =
-      subst (λ (m : Moved). Follows m (x .note) (some t) after) (sym copy-one-is) (record { listing = on-rel; counting = counts; note = refl })
+      subst (λ (m : Moved). Follows m (x .note) (some t) after) (sym copy-one-is) (record { listing = on-rel; counting = renumber counting refl refl (counting .ended); note = refl })

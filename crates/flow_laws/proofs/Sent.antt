@@ -1,5 +1,5 @@
 -- The moving transaction goes to the FEL or to REL with its next block plus one and a fresh serial, as the machine's does.
-use Prim.Native.Nat.{ℕ, suc, _-_, _*_, _%_, _≤_, _<_}
+use Prim.Native.Nat.{ℕ, suc, _*_, _%_, _≤_, _<_}
 use mathlib.Core.Path.{_≡_, refl, sym, ap, _∙_, subst}
 use mathlib.Core.List.{List}
 use mathlib.Core.Option.{none, some}
@@ -21,16 +21,16 @@ use Rattle.rows_laws.proofs.Fields.{write-serial, write-time}
 use Rattle.rows_laws.proofs.Newborn.{write-priority}
 use Rattle.state.specs.declared.scalars.Scalars.{Scalars}
 use Rattle.state.specs.ScalarSetters.{putMoving, putSerial}
-use Rattle.state.specs.Stands.{listsOf, Listing, Counting}
+use Rattle.state.specs.Stands.{listsIn, Listing, Counting}
 use Rattle.state.proofs.ListsOf.{lists-set-rel}
-use Rattle.state.proofs.StandsLaws.{listing-write, listing-time, listing-put, listing-schedule}
+use Rattle.state.proofs.StandsLaws.{listing-write, listing-time, listing-put, listing-schedule, renumber}
 use Rattle.moves.specs.Motion.{Moved, moved, next32, goTo}
-use Rattle.moves.proofs.MotionLaws.{go-to-listing, go-on-is}
+use Rattle.moves.proofs.MotionLaws.{next32-suc, go-to-listing, go-on-is}
 use Rattle.flow_laws.specs.Sending.{toFuture, toReady}
 use Rattle.flow_laws.specs.Kinds.{parked, sendOn, rankOn}
-use Rattle.flow_laws.proofs.New.{Follows, next32-suc}
+use Rattle.flow_laws.proofs.New.{Follows}
 
-module _ (w : List ℕ) (x : Scalars) (t : Transaction) (s : State) (listing : Listing w (x .moving) (some t) s) (counting : Counting x s) (next-low : t .next < 4294967295) (serials : s .serial < 4294967295) where
+module _ {w : List ℕ} (x : Scalars) {t : Transaction} (s : State) (listing : Listing w (x .moving) (some t) s) (counting : Counting x s) (next-low : t .next < 4294967295) (serials : s .serial < 4294967295) where
   abbrev k : ℕ
   k = x .moving
 
@@ -51,7 +51,7 @@ module _ (w : List ℕ) (x : Scalars) (t : Transaction) (s : State) (listing : L
 
   g₁ : Listing w₁ k (some t′) s
   unfolding goTo moved
-  g₁ = go-to-listing w x t s listing (suc (t .next))
+  g₁ = go-to-listing x listing (suc (t .next))
 
   abbrev scalars′ : Scalars
   scalars′ = putMoving 1024 (putSerial n (goTo w x (suc (t .next)) .scalars))
@@ -67,11 +67,11 @@ module _ (w : List ℕ) (x : Scalars) (t : Transaction) (s : State) (listing : L
 
     send-is : sendOn w x time ≡ moved scalars′ (schedule w₃ k)
     unfolding sendOn parked toFuture goTo moved
-    send-is = rw (go-on-is w x t s listing next-low, serial-is)
+    send-is = rw (go-on-is x listing next-low, serial-is)
 
     g₂ : Listing w₂ k (some (withSerial n t′)) s
     g₂ =
-        listing-write w₁ k t′ s 7 n (withSerial n t′) (omega arith) g₁
+        listing-write g₁ 7 n (omega arith)
         (write-serial w₁ k (g₁ .shows .shown .holds .room) hk n ∙ ap (withSerial n) (g₁ .mover .1))
 
     abbrev event : Transaction → Event
@@ -81,24 +81,15 @@ module _ (w : List ℕ) (x : Scalars) (t : Transaction) (s : State) (listing : L
     event-is = write-time w₂ k (g₂ .shows .shown .holds .room) hk time ∙ ap event (g₂ .mover .1)
 
     g₃ : Listing w₃ k (some (withStamp time (withSerial n t′))) s
-    g₃ = listing-time w₂ k (withSerial n t′) s time g₂
+    g₃ = listing-time g₂ time
 
     pub send-follows : Given s → Follows (sendOn w x time) 0 none (toFel time t′ s)
-    unfolding goTo moved toFel listsOf
+    unfolding goTo moved toFel
     send-follows given =
         subst (λ (m : Moved). Follows m 0 none (toFel time t′ s)) (sym send-is)
         (record {
-          listing = listing-schedule w₃ k (withStamp time (withSerial n t′)) s (toFel time t′ s) g₃ refl (fresh-given (withStamp time (withSerial n t′)) (s .serial) (s .fel) refl given) (λ q hq. refl) (ap (λ (e : Event). insert earlier e (s .fel)) event-is);
-          counting =
-              record {
-                clock = counting .clock;
-                counter = counting .counter;
-                serial = refl;
-                made = counting .made;
-                ended = counting .ended;
-                turns = counting .turns;
-                end = counting .end;
-              };
+          listing = listing-schedule g₃ (fresh-given (withStamp time (withSerial n t′)) (s .serial) (s .fel) refl given) (ap (λ (e : Event). insert earlier e (s .fel)) event-is);
+          counting = renumber counting refl (counting .made) (counting .ended);
           note = refl;
         })
 
@@ -118,33 +109,24 @@ module _ (w : List ℕ) (x : Scalars) (t : Transaction) (s : State) (listing : L
     unfolding rankOn parked toReady goTo moved
     rank-is =
         let e : p % 128 ≡ p = omega arith in
-        rw (go-on-is w x t s listing next-low, serial-is, e)
+        rw (go-on-is x listing next-low, serial-is, e)
 
     h₂ : Listing v₂ k (some u) s
     h₂ =
-        listing-write w₁ k t′ s 1 (p * 2) u (omega arith) g₁
+        listing-write g₁ 1 (p * 2) (omega arith)
         (write-priority w₁ k (g₁ .shows .shown .holds .room) hk p ∙ ap (λ (y : Transaction). withReturning false (withPriority p y)) (g₁ .mover .1))
 
     h₃ : Listing v₃ k (some (withSerial n u)) s
     h₃ =
-        listing-write v₂ k u s 7 n (withSerial n u) (omega arith) h₂
+        listing-write h₂ 7 n (omega arith)
         (write-serial v₂ k (h₂ .shows .shown .holds .room) hk n ∙ ap (withSerial n) (h₂ .mover .1))
 
     pub rank-follows : Follows (rankOn w x p) 0 none (toRel u s)
-    unfolding goTo moved toRel listsOf
+    unfolding goTo moved toRel listsIn
     rank-follows =
         subst (λ (m : Moved). Follows m 0 none (toRel u s)) (sym rank-is)
         (record {
-          listing = listing-put v₃ k (withSerial n u) s (toRel u s) h₃ refl rel (omega arith) (omega arith) (λ q hq. lists-set-rel s (insert precedes (withSerial n u) (s .rel)) q hq) refl;
-          counting =
-              record {
-                clock = counting .clock;
-                counter = counting .counter;
-                serial = refl;
-                made = counting .made;
-                ended = counting .ended;
-                turns = counting .turns;
-                end = counting .end;
-              };
+          listing = listing-put h₃ rel (omega arith) (omega arith) (λ q hq. lists-set-rel s (insert precedes (withSerial n u) (s .rel)) q hq);
+          counting = renumber counting refl (counting .made) (counting .ended);
           note = refl;
         })

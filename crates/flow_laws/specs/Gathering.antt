@@ -12,8 +12,7 @@ use Rattle.rows_laws.specs.Lists.{removeAt, familyCell}
 use Rattle.rows_laws.specs.Make.{freeRow}
 use Rattle.state.specs.declared.scalars.Scalars.{Scalars}
 use Rattle.state.specs.ScalarSetters.{putMoving, putEnded, putNote}
-use Rattle.state.specs.Stands.{Rows, rowsOf}
-use Rattle.moves.specs.Motion.{Moved, moved, inOrder, withTally, next32, beginWait, stopped}
+use Rattle.moves.specs.Motion.{Moved, moved, inOrder, next32, beginWait, stopped}
 use Rattle.flow_laws.specs.Sending.{toReady}
 use Rattle.flow_laws.specs.Questions.{askHolding}
 
@@ -39,17 +38,17 @@ unfoldable pub countOn : List ℕ → Scalars → (n p c j come : ℕ) → Moved
 countOn w x n p c j come =
     cond (eqb come n) (endOn (releaseOn w x p c j .work) (releaseOn w x p c j .scalars) (x .moving)) (endOn (write w nextField j come) x (x .moving))
 
-unfoldable pub laterRows : (facilities : ℕ) → List ℕ → List ℕ → Scalars → (n p c j : ℕ) → Rows
+unfoldable pub laterRows : (facilities : ℕ) → List ℕ → List ℕ → Scalars → (n p c j : ℕ) → Moved
 laterRows facilities w tally x n p c j =
     let end : ℕ = askHolding tally facilities (read w numberField (x .moving)) in
-    cond (eqb end 0) (withTally (countOn w x n p c j (next32 (read w nextField j))) tally) (rowsOf (stopped x end) w tally)
+    cond (eqb end 0) (countOn w x n p c j (next32 (read w nextField j))) (moved (stopped x end) w)
 
 -- cell c holds the one of its family that waits, or none
-unfoldable pub gatherRows : (facilities : ℕ) → List ℕ → List ℕ → Scalars → (n p c : ℕ) → Rows
+unfoldable pub gatherRows : (facilities : ℕ) → List ℕ → List ℕ → Scalars → (n p c : ℕ) → Moved
 gatherRows facilities w tally x n p c =
-    cond (ltb (load w c) rowCount) (laterRows facilities w tally x n p c (load w c)) (withTally (gatherOn w x p) tally)
+    cond (ltb (load w c) rowCount) (laterRows facilities w tally x n p c (load w c)) (gatherOn w x p)
 
-unfoldable pub assembleRows : (tables : List ℕ) → (facilities : ℕ) → List ℕ → List ℕ → Scalars → (at : ℕ) → Rows
+unfoldable pub assembleRows : (tables : List ℕ) → (facilities : ℕ) → List ℕ → List ℕ → Scalars → (at : ℕ) → Moved
 assembleRows tables facilities w tally x at =
     let p : ℕ = listAt w (x .moving) in
     gatherRows facilities w tally x (getD tables (at + 1) 0) p (familyCell w p (read w familyField (x .moving)))

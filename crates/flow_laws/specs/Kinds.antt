@@ -68,18 +68,18 @@ unfoldable pub endOne : Scalars → ℕ → Scalars
 endOne x a =
     putNote 0 (putEnd (cond (leb (x .counter) a) 2 0) (putCounter (x .counter - a) (putEnded (next32 (x .ended)) (putMoving rowCount x))))
 
-unfoldable pub terminateRows : (tables : List ℕ) → (facilities : ℕ) → List ℕ → List ℕ → Scalars → (at : ℕ) → Rows
+unfoldable pub terminateRows : (tables : List ℕ) → (facilities : ℕ) → List ℕ → List ℕ → Scalars → (at : ℕ) → Moved
 terminateRows tables facilities w tally x at =
     let end : ℕ = askHolding tally facilities (read w numberField (x .moving)) in
-    cond (eqb end 0) (rowsOf (endOne x (getD tables (at + 1) 0)) (freeRow w (x .moving)) tally) (rowsOf (stopped x end) w tally)
+    cond (eqb end 0) (moved (endOne x (getD tables (at + 1) 0)) (freeRow w (x .moving))) (moved (stopped x end) w)
 
 -- ---- 13 PRIORITY p
 
 unfoldable pub rankOn : List ℕ → Scalars → ℕ → Moved
 rankOn w x p = parked (toReady (write (goOn w x .work) standingField (x .moving) (p % priorities * 2)) (goOn w x .scalars) (x .moving))
 
-unfoldable pub priorityRows : (tables : List ℕ) → List ℕ → List ℕ → Scalars → (at : ℕ) → Rows
-priorityRows tables w tally x at = withTally (rankOn w x (getD tables (at + 1) 0)) tally
+unfoldable pub priorityRows : (tables : List ℕ) → List ℕ → Scalars → (at : ℕ) → Moved
+priorityRows tables w x at = rankOn w x (getD tables (at + 1) 0)
 
 -- ---- 14 SPLIT n, target
 
@@ -90,8 +90,8 @@ copiesOf (suc n) w x target = copiesOf n (copyOne w x target .work) (copyOne w x
 unfoldable pub splitOn : List ℕ → Scalars → (n target : ℕ) → Moved
 splitOn w x n target = copiesOf n (goOn w x .work) (goOn w x .scalars) target
 
-unfoldable pub splitRows : (tables : List ℕ) → List ℕ → List ℕ → Scalars → (at : ℕ) → Rows
-splitRows tables w tally x at =
+unfoldable pub splitRows : (tables : List ℕ) → List ℕ → Scalars → (at : ℕ) → Moved
+splitRows tables w x at =
     cond (eqb (askRoom x (getD tables (at + 1) 0)) 0)
-    (withTally (splitOn w x (getD tables (at + 1) 0) (getD tables (at + 2) 0)) tally)
-    (rowsOf (stopped x (askRoom x (getD tables (at + 1) 0))) w tally)
+    (splitOn w x (getD tables (at + 1) 0) (getD tables (at + 2) 0))
+    (moved (stopped x (askRoom x (getD tables (at + 1) 0))) w)

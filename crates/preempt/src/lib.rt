@@ -36,7 +36,7 @@ ghost use Rattle.tables.specs.Layout.{programSize, serverCount};
 ghost use Rattle.rows_laws.specs.Layout.{Room, rowCount};
 ghost use Rattle.moves.specs.Motion.{moved};
 ghost use Rattle.state.specs.Stands.{rowsOf};
-ghost use Rattle.preempt_laws.specs.Preempting.{seized, interruptOn, takeOver, preemptSeized, preempt, askResume, askGiveBack, resumeOn, resumeRows, giveBackRows, giveBack};
+ghost use Rattle.preempt_laws.specs.Preempting.{seized, interruptOn, takeOver, preemptSeized, preemptRows, askResume, askGiveBack, resumeOn, resumeRows, giveBackNow, giveBackRows};
 
 // In use, and not by PREEMPT.
 fn seized(tally: &[u64], v: u32) -> bool
@@ -139,7 +139,7 @@ pub fn preempt(
     requires { ⌜ Room (now work) ⌝ }
     requires { ⌜ x .moving < rowCount ⌝ }
     requires { ⌜ at < programSize ⌝ }
-    ensures { λ r. ⌜ rowsOf r (now (work .exit)) (now (tally .exit)) ≡ preempt (now (tables .entry)) (now (work .entry)) (now (tally .entry)) x at ⌝ }
+    ensures { λ r. ⌜ rowsOf r (now (work .exit)) (now (tally .exit)) ≡ preemptRows (now (tables .entry)) (now (work .entry)) (now (tally .entry)) x at ⌝ }
 {
     let v = server_at(tables, at + FIRST);
     let number = read(work, NUMBER, x.moving) as u64;
@@ -229,7 +229,7 @@ fn give_back_now(tables: &[u32], work: &mut [u32], tally: &mut [u64], x: Scalars
     requires { ⌜ Room (now work) ⌝ }
     requires { ⌜ x .moving < rowCount ⌝ }
     requires { ⌜ v < serverCount ⌝ }
-    ensures { λ r. ⌜ rowsOf r (now (work .exit)) (now (tally .exit)) ≡ giveBackRows (now (tables .entry)) (now (work .entry)) (now (tally .entry)) x v ⌝ }
+    ensures { λ r. ⌜ rowsOf r (now (work .exit)) (now (tally .exit)) ≡ giveBackNow (now (tables .entry)) (now (work .entry)) (now (tally .entry)) x v ⌝ }
 {
     let j = first(work, INTERRUPTED + v);
     if j < ROWS {
@@ -250,7 +250,7 @@ pub fn give_back(
     requires { ⌜ Room (now work) ⌝ }
     requires { ⌜ x .moving < rowCount ⌝ }
     requires { ⌜ at < programSize ⌝ }
-    ensures { λ r. ⌜ rowsOf r (now (work .exit)) (now (tally .exit)) ≡ giveBack (now (tables .entry)) (now (work .entry)) (now (tally .entry)) x at ⌝ }
+    ensures { λ r. ⌜ rowsOf r (now (work .exit)) (now (tally .exit)) ≡ giveBackRows (now (tables .entry)) (now (work .entry)) (now (tally .entry)) x at ⌝ }
 {
     let v = server_at(tables, at + FIRST);
     let number = read(work, NUMBER, x.moving) as u64;

@@ -1,10 +1,10 @@
 -- 19 PREEMPT and 20 RETURN do to the rows what the machine does to its state (document 02, item 11).
-use Prim.Native.Nat.{ℕ, zero, suc, _+_, _*_, _-_, _≤_, _<_, min}
+use Prim.Native.Nat.{ℕ, suc, _+_, _-_, _≤_, _<_, min}
 use mathlib.Core.Path.{_≡_, refl, sym, ap, _∙_, subst}
 use mathlib.Core.Logic.{_≢_}
 use mathlib.Core.Bool.{Bool, true, false, cond, not, _&&_}
 use mathlib.Core.List.{List, [], _∷_, _++_, map, map-append}
-use mathlib.Core.Option.{none, some}
+use mathlib.Core.Option.{none}
 use native.Mathlib.Omega.{arith}
 use borrow.Author.Tests.{lt-ltb, le-ltb, leb-true, leb-false, eq-eqb, ne-eqb, eqb-true}
 use lib.Dec.{ltb, leb, eqb}
@@ -13,7 +13,7 @@ use Rattle.machine.specs.Transaction.{Transaction, Event, Interrupted, precedes
 use Rattle.machine.specs.Lists.{insert, those, replaceFirst, bit}
 use Rattle.machine.specs.Term.{Server}
 use Rattle.machine.specs.Term
-use Rattle.machine.specs.Block.{facility, shareServer, shareUnits, shareHolder, preempt, giveBack, BlockModel, blockAt}
+use Rattle.machine.specs.Block.{Block, facility, shareServer, shareUnits, shareHolder, preempt, giveBack, BlockModel}
 use Rattle.machine.specs.State.{State}
 use Rattle.machine.specs.Setters.{withSerial, withStamp, setMoving}
 use Rattle.machine.specs.Moves.{toFel, ofFacility, interruptedAt, losesTo, losersTo, interrupt, resume, setHolder}
@@ -21,15 +21,14 @@ use Rattle.machine.specs.Moves as Moves
 use Rattle.machine.specs.Execute.{unless, question, askGivesBack, preempting, givesBack, wakeFor, partFor}
 use Rattle.machine.specs.Execute as Execute
 use Rattle.machine.specs.Claims.{Each}
-use Rattle.machine.proofs.decoding.Proper.{Proper, Names, servers}
+use Rattle.machine.proofs.decoding.Proper.{Names, servers}
 use Rattle.machine.proofs.lists.Sorted.{each-those}
 use Rattle.machine.proofs.lists.Chosen.{those-insert, those-one, those-else, those-replaced}
 use Rattle.tables.specs.Forms.{blockForms}
-use Rattle.tables.specs.Represents.{Represents}
 use Rattle.rows_laws.specs.Layout.{fel, holderCell}
 use Rattle.rows_laws.specs.Cells.{load, read, write, priorityOf, timeOf, setTime}
 use Rattle.rows_laws.specs.Lists.{put, first, takeFirst}
-use Rattle.rows_laws.specs.Future.{schedule, cancel, loses, keepHolder, findLoser}
+use Rattle.rows_laws.specs.Future.{schedule, cancel, loses, findLoser}
 use Rattle.rows_laws.specs.Holds.{transactionAt, eventAt, update}
 use Rattle.rows_laws.specs.Ordered.{All, Sorted}
 use Rattle.rows_laws.proofs.Data.{transaction-kept}
@@ -43,32 +42,28 @@ use Rattle.rows_laws.proofs.Interrupting.{Loser, nobody, somebody, find-of, los
 use Rattle.rows_laws.proofs.Laws.{Wakes, Takes, fresh-given, head-shows, take-shows}
 use Rattle.state.specs.declared.scalars.Scalars.{Scalars}
 use Rattle.state.specs.ScalarSetters.{putSerial}
-use Rattle.state.specs.Sane.{Sane}
 use Rattle.state.specs.Statistics.{updateServer}
-use Rattle.state.specs.Stands.{Rows, rowsOf, interruptedRow, listsOf, Listing, Stands, Done}
+use Rattle.state.specs.Stands.{interruptedRow, listsIn, listsOf, Done}
 use Rattle.state.specs.Bare.{Bare, entering, goingBack, beginning, waiting, bare, bareAnswer}
 use Rattle.state.proofs.Alone.{alone}
 use Rattle.state.proofs.ListsOf.{lists-interrupted, lists-set-interrupted}
-use Rattle.state.proofs.StandsLaws.{listing-steady, tallying-ext, counting-ext}
-use Rattle.state.proofs.Moving.{placed, next-low, serial-low}
-use Rattle.moves.specs.Motion.{moved, next32, stopped}
-use Rattle.moves.proofs.MotionLaws.{number-read, asked, go-on-used}
+use Rattle.state.proofs.StandsLaws.{listing-steady, renumber}
+use Rattle.moves.specs.Before.{placeOf, bareBlock, Before}
+use Rattle.moves.specs.Motion.{moved, next32}
+use Rattle.moves.proofs.BeforeLaws.{next-low, serial-low, proper-block, operand, asked}
+use Rattle.moves.proofs.MotionLaws.{next32-suc, number-read}
 use Rattle.flow_laws.specs.Sending.{plus64, toFuture}
 use Rattle.flow_laws.specs.Questions.{askTime}
 use Rattle.flow_laws.proofs.Asked.{time-asked}
-use Rattle.flow_laws.proofs.New.{next32-suc}
 use Rattle.flow_laws.proofs.Kin.{those-none, those-first, replaced}
-use Rattle.tables.proofs.Operands.{operand}
-use Rattle.servers_laws.specs.Units.{serverAt, inUse, holder, preempted, setUse, capacity}
-use Rattle.servers_laws.specs.Waking.{checkWels}
+use Rattle.servers_laws.specs.Units.{inUse, setUse}
 use Rattle.servers_laws.specs.Taking.{holdUnits, takeUnits}
-use Rattle.servers_laws.specs.Freeing.{freeOne, enterFreed}
-use Rattle.preempt_laws.specs.Preempting.{seized, interruptOn, takeOver, preemptSeized, askResume, askGiveBack, resumeOn, resumeRows, giveBackRows}
-use Rattle.preempt_laws.specs.Preempting as Preempting
+use Rattle.servers_laws.specs.Freeing.{freeOne}
+use Rattle.preempt_laws.specs.Preempting.{seized, interruptOn, takeOver, preemptSeized, preemptRows, askResume, askGiveBack, resumeOn, resumeRows, giveBackNow, giveBackRows}
 use Rattle.servers_laws.proofs.Named.{named}
-use Rattle.servers_laws.proofs.Ready.{Ready, update-ready, update-current, set-ready, keep-ready, ready-done}
+use Rattle.servers_laws.proofs.Ready.{Ready, as-ready, update-ready, update-current, set-ready, keep-ready, ready-done}
 use Rattle.servers_laws.proofs.Standing.{high, units-are, holder-is, preempted-is, capacity-is, ready}
-use Rattle.servers_laws.proofs.TakingLaws.{take-done, take-used}
+use Rattle.servers_laws.proofs.TakingLaws.{take-done}
 use Rattle.servers_laws.proofs.FreeingLaws.{one-done}
 
 -- ---- Tests
@@ -95,18 +90,8 @@ loses-none t v untaken (e ∷ l) = rw (go (v .preempted) (ltb 0 (v .inUse)) unta
     go false true e = absurd (omega (arith, ap bit e))
     go false false e = refl
 
-module _ (m : BlockModel) (tape : List (List ℕ)) (tapeBytes tables lists : List ℕ) (proper : Proper m tape) (rep : Represents m tape tapeBytes tables lists)
-    (s : State) (sane : Sane m s) (r : Rows) (t : Transaction) (stands : Stands tapeBytes r (some t) s) (moving : s .moving ≡ some t)
-    (v : ℕ) (fac : Names (m .facilities) v) where
-  abbrev w : List ℕ
-  w = r .work
-
-  abbrev tally : List ℕ
-  tally = r .tally
-
-  abbrev x : Scalars
-  x = r .scalars
-
+module _ {m : BlockModel} {tape : List (List ℕ)} {tapeBytes tables lists w tally : List ℕ} {x : Scalars} {t : Transaction} {s : State} {block : Block}
+    (h : Before m tape tapeBytes tables lists w tally x t s block) (v : ℕ) (fac : Names (m .facilities) v) where
   abbrev s₀ : State
   s₀ = setMoving none s
 
@@ -116,20 +101,11 @@ module _ (m : BlockModel) (tape : List (List ℕ)) (tapeBytes tables lists : Lis
   there : v ≤ servers m
   there = omega (arith, fac .1)
 
-  high′ : v ≤ 64
-  high′ = high m tape tapeBytes tables lists proper rep s sane r t stands v (fac .0) there
-
   ready′ : Ready tapeBytes x t v (server .inUse) (server .capacity) w tally s₀
-  ready′ = ready m tape tapeBytes tables lists proper rep s sane r t stands v (fac .0) there
-
-  abbrev listing : Listing w (x .moving) (some t) s₀
-  listing = ready′ .listing
+  ready′ = ready h v (fac .0) there
 
   abbrev L : ℕ → List ℕ
-  L = listing .shows .rows
-
-  room : 16384 ≤ length w
-  room = listing .shows .shown .holds .room
+  L = h .listing .shows .rows
 
   -- the facility's list
   abbrev i : ℕ
@@ -142,7 +118,7 @@ module _ (m : BlockModel) (tape : List (List ℕ)) (tapeBytes tables lists : Lis
   own = omega (arith, fac .0)
 
   here : listsOf s₀ p ≡ map interruptedRow (interruptedAt s v)
-  here = lists-interrupted s₀ i (omega (arith, high′)) ∙ ap (λ f. map interruptedRow (interruptedAt s f)) own
+  here = lists-interrupted s₀ i (omega (arith, ready′ .high)) ∙ ap (λ f. map interruptedRow (interruptedAt s f)) own
 
   at-else : (j : ℕ) → j ≢ i → (y : Interrupted) → y .facility ≡ v → ofFacility (suc j) y ≡ false
   unfolding ofFacility
@@ -163,7 +139,7 @@ module _ (m : BlockModel) (tape : List (List ℕ)) (tapeBytes tables lists : Lis
     none-lose (k ∷ l) h = (row-loses k ∙ h .0, none-lose l (h .1))
 
     future : map (eventAt w) (L fel) ≡ s .fel
-    future = listing .shows .shown .future
+    future = h .listing .shows .shown .future
 
     nobody-loses : All (λ k. Row k ≡ false) (L fel) → losersTo t v s ≡ []
     nobody-loses h = ap (those (losesTo t server)) (sym future) ∙ those-none (losesTo t server) (map (eventAt w) (L fel)) (none-lose (L fel) h)
@@ -194,7 +170,7 @@ module _ (m : BlockModel) (tape : List (List ℕ)) (tapeBytes tables lists : Lis
       w₂ = setTime w₁ j left
 
       taken : Takes w w₁ j (listsOf s₀) (map (eventAt w) (a ++ b))
-      taken = taken-later w (listsOf s₀) (s .fel) (listing .shows) j a b row was
+      taken = taken-later w (listsOf s₀) (s .fel) (h .listing .shows) j a b row was
 
       row-is : transactionAt w₂ j ≡ withStamp left (transactionAt w j)
       row-is =
@@ -208,10 +184,10 @@ module _ (m : BlockModel) (tape : List (List ℕ)) (tapeBytes tables lists : Lis
       before a b = precedes (a .who) (b .who)
 
       none-there : interruptedAt s (suc i) ≡ []
-      none-there = ap (λ f. interruptedAt s f) own ∙ sane .seized v fac is-seized
+      none-there = ap (λ f. interruptedAt s f) own ∙ h .sane .seized v fac is-seized
 
       empty : listsOf s₀ p ≡ []
-      empty = here ∙ ap (map interruptedRow) (sane .seized v fac is-seized)
+      empty = here ∙ ap (map interruptedRow) (h .sane .seized v fac is-seized)
 
       only : map interruptedRow (those (ofFacility (suc i)) (insert before one (s .interrupted))) ≡ withStamp left (transactionAt w j) ∷ []
       unfolding ofFacility eventAt
@@ -225,52 +201,33 @@ module _ (m : BlockModel) (tape : List (List ℕ)) (tapeBytes tables lists : Lis
       on-list q hq =
           ap (λ (l : List Transaction). update p (insert precedes (transactionAt w₂ j) l) (listsOf s₀) q) empty
           ∙ ap (λ (u : Transaction). update p (u ∷ []) (listsOf s₀) q) row-is
-          ∙ lists-set-interrupted s₀ i (insert before one (s .interrupted)) (withStamp left (transactionAt w j) ∷ []) (omega (arith, high′)) only
+          ∙ lists-set-interrupted s₀ i (insert before one (s .interrupted)) (withStamp left (transactionAt w j) ∷ []) (omega (arith, ready′ .high)) only
           (λ k d. those-insert (ofFacility (suc k)) before one (s .interrupted) (at-else k d one refl)) q
-          ∙ unfold listsOf in refl
+          ∙ unfold listsIn in refl
 
       stopped-shows : Wakes w (put w₂ p j) (update p (insert precedes (transactionAt w₂ j) (listsOf s₀ p)) (listsOf s₀)) (map (eventAt w) (a ++ b))
       stopped-shows =
-          interrupt-shows w (listsOf s₀) (s .fel) (listing .shows) j a b row was w₂ (time-written w₁ j row left) p (omega (arith, high′))
+          interrupt-shows w (listsOf s₀) (s .fel) (h .listing .shows) j a b row was w₂ (time-written w₁ j row left) p (omega (arith, ready′ .high))
           (subst (Sorted precedes) (sym empty) (unfold Sorted in tt))
 
       stopped-ready : Ready tapeBytes x t v (server .inUse) (server .capacity) (put w₂ p j) tally s₁
       unfolding interrupt
       stopped-ready =
-          record {
-            listing =
-                listing-steady w (put w₂ p j) (x .moving) (some t) s₀ s₁
-                (shows-ext (put w₂ p j) _ (listsOf s₁) _ (s₁ .fel) on-list (sym left-is) (stopped-shows .shows)) (stopped-shows .steady) refl listing;
-            tallying = tallying-ext tapeBytes tally s₀ s₁ refl refl refl refl refl refl refl (ready′ .tallying);
-            counting = counting-ext x s₀ s₁ refl refl refl refl refl refl refl (ready′ .counting);
-            held = refl;
-            holds = refl;
-            wels = ready′ .wels;
-            ql = ready′ .ql;
-            server = ready′ .server;
-            samples = ready′ .samples;
-          }
+          as-ready ready′
+          (listing-steady (shows-ext (put w₂ p j) _ (listsOf s₁) _ (s₁ .fel) on-list (sym left-is) (stopped-shows .shows)) (stopped-shows .steady) (h .listing))
+          (h .tallying) (h .counting) refl refl refl refl
 
       on-is : interruptOn w (x .clock) (v - 1) j ≡ put w₂ p j
       unfolding interruptOn
-      on-is = rw (stands .counting .clock)
+      on-is = rw (h .counting .clock)
 
       over-done : Done tapeBytes (takeOver tables w tally x (v - 1) j (t .number)) (entering (Moves.goOn t (Execute.checkWels v (setHolder v (t .number) true s₁))))
       unfolding takeOver holdUnits interrupt
       over-done =
-          rw (on-is, units-are m tape tapeBytes tables lists proper rep s sane r t stands v (fac .0) there, capacity-is m tape tapeBytes tables lists proper rep s sane r t stands v (fac .0) there)
-          (ready-done tapeBytes x t v (fac .0) high′ (server .inUse) (server .capacity) (keepHolder (put w₂ p j) (v - 1) (x .moving)) (setUse (updateServer tally (v - 1) (x .clock)) (v - 1) (server .inUse) (t .number) 1)
-          (setHolder v (t .number) true s₁)
-          (keep-ready tapeBytes x t v (fac .0) high′ (server .inUse) (server .capacity) (put w₂ p j) (setUse (updateServer tally (v - 1) (x .clock)) (v - 1) (server .inUse) (t .number) 1) (setHolder v (t .number) true s₁)
-          (set-ready tapeBytes x t v (fac .0) high′ (server .inUse) (server .capacity) (put w₂ p j) (updateServer tally (v - 1) (x .clock)) s₁
-          (update-ready tapeBytes x t v (fac .0) high′ (server .inUse) (server .capacity) (put w₂ p j) tally s₁ stopped-ready)
-          (update-current tapeBytes x t v (fac .0) high′ (server .inUse) (server .capacity) (put w₂ p j) tally s₁ stopped-ready) (server .inUse) (t .number) true) (x .moving))
-          (next-low proper t s sane moving))
+          rw (on-is, units-are h v (fac .0) there, capacity-is h v (fac .0) there)
+          (ready-done (keep-ready (set-ready (update-ready stopped-ready) (update-current stopped-ready) (server .inUse) (t .number) true) (x .moving)) (next-low h))
 
   -- ---- PREEMPT
-
-  abbrev at : ℕ
-  at = 8 * (t .next - 1)
 
   abbrev Doing : List Event → Bare
   Doing l = preempting (λ f. entering (f s₀)) (λ put. waiting put t s₀) (λ f. goingBack (f s₀)) (λ put. beginning put t s₀) l m v t s₀
@@ -278,18 +235,18 @@ module _ (m : BlockModel) (tape : List (List ℕ)) (tapeBytes tables lists : Lis
   -- as SEIZE
   as-seize : Done tapeBytes (takeUnits tables w tally x (v - 1) 1 (t .number) 1) (Doing [])
   unfolding shareServer shareUnits shareHolder
-  as-seize = take-done m tape tapeBytes tables lists proper rep s sane r t stands moving v 1 (t .number) true (fac .0) there
+  as-seize = take-done h v 1 (t .number) true (fac .0) there
 
   priority-is : priorityOf w (x .moving) ≡ t .priority
   unfolding transactionAt
-  priority-is = ap (λ (u : Transaction). u .priority) (listing .mover .1)
+  priority-is = ap (λ (u : Transaction). u .priority) (h .listing .mover .1)
 
   seized-done : ltb 0 (server .inUse) ≡ true → server .preempted ≡ false → Done tapeBytes (preemptSeized tables w tally x (v - 1) (t .number)) (Doing (losersTo t v s))
   unfolding preemptSeized
   seized-done used is-seized =
-      rw (holder-is m tape tapeBytes tables lists proper rep s sane r t stands v (fac .0) there, priority-is)
-      (go (find-of w (server .holder) (t .priority) (L fel) (listing .shows .shown .holds .listed fel (omega arith)) (rows-strict w L (listsOf s₀) (s .fel) (listing .shows .shown) (listing .shows .ordered .future))
-      (x .moving) (v - 1) (alone m w (x .moving) t s (stands .listing) moving (server .holder) (sane .alone (server .holder)) (load w (holderCell (v - 1))))))
+      rw (holder-is h v (fac .0) there, priority-is)
+      (go (find-of w (server .holder) (t .priority) (L fel) (h .listing .shows .shown .holds .listed fel (omega arith)) (rows-strict w L (listsOf s₀) (s .fel) (h .listing .shows .shown) (h .listing .shows .ordered .future))
+      (x .moving) (v - 1) (alone m w (x .moving) t s (h .listing) (h .moving) (server .holder) (h .sane .alone (server .holder)) (load w (holderCell (v - 1))))))
     where
       k₀ : ℕ
       k₀ = findLoser w (server .holder) (t .priority) (x .moving) (v - 1)
@@ -318,16 +275,10 @@ module _ (m : BlockModel) (tape : List (List ℕ)) (tapeBytes tables lists : Lis
       go false e false f = nobody-there (ap (λ b. cond (eqb (bit b) 0) (ltb 0 (server .inUse)) false) e ∙ f)
       go false e true f = seized-done f e
 
-  pub preempt-done : blockAt m (t .next) ≡ preempt v → Done tapeBytes (Preempting.preempt tables w tally x at) (bareAnswer (question m (preempt v) t s) m (preempt v) t s)
-  unfolding Preempting.preempt seized question bareAnswer bare blockForms
-  preempt-done is =
-      rw (named tables (at + 1) v high′ (fac .0) (operand m tape tapeBytes tables lists rep (t .next) (placed proper t s sane moving .0) (preempt v) is 1 (omega arith)), number-read w x t s (stands .listing), preempted-is m tape tapeBytes tables lists proper rep s sane r t stands v (fac .0) there, units-are m tape tapeBytes tables lists proper rep s sane r t stands v (fac .0) there)
-      preempt-rows
-
   -- ---- RETURN: the interrupted one has it again
 
   serial-is : next32 (x .serial) ≡ suc (s .serial)
-  serial-is = ap next32 (stands .counting .serial) ∙ next32-suc (s .serial) (serial-low m s sane)
+  serial-is = ap next32 (h .counting .serial) ∙ next32-suc (s .serial) (serial-low h)
 
   -- the row of who is interrupted
   module _ (one : Interrupted) (l : List Interrupted) (stopped-is : interruptedAt s v ≡ one ∷ l) (row : first w p < 1024) (row-is : transactionAt w (first w p) ≡ interruptedRow one) where
@@ -335,7 +286,7 @@ module _ (m : BlockModel) (tape : List (List ℕ)) (tapeBytes tables lists : Lis
     j = first w p
 
     few : one .remaining ≤ 32000000000
-    few = subst (Each (λ (i : Interrupted). i .remaining ≤ 32000000000)) stopped-is (each-those (λ (i : Interrupted). i .remaining ≤ 32000000000) (ofFacility v) (s .interrupted) (sane .timely .remaining)) .0
+    few = subst (Each (λ (i : Interrupted). i .remaining ≤ 32000000000)) stopped-is (each-those (λ (i : Interrupted). i .remaining ≤ 32000000000) (ofFacility v) (s .interrupted) (h .sane .timely .remaining)) .0
 
     time-is : timeOf w j ≡ one .remaining
     unfolding transactionAt
@@ -349,7 +300,7 @@ module _ (m : BlockModel) (tape : List (List ℕ)) (tapeBytes tables lists : Lis
     due = s .view .clock + one .remaining
 
     due-is : plus64 (x .clock) (timeOf w j) ≡ due
-    due-is = ap (λ (n : ℕ). min (x .clock + n) 18446744073709551615) time-is ∙ omega (arith, stands .counting .clock, sane .timely .clock, few)
+    due-is = ap (λ (n : ℕ). min (x .clock + n) 18446744073709551615) time-is ∙ omega (arith, h .counting .clock, h .sane .timely .clock, few)
 
     abbrev n : ℕ
     n = suc (s .serial)
@@ -362,10 +313,7 @@ module _ (m : BlockModel) (tape : List (List ℕ)) (tapeBytes tables lists : Lis
     tally₁ = setUse (updateServer tally (v - 1) (x .clock)) (v - 1) (server .inUse) (one .who .number) 0
 
     held : Ready tapeBytes x t v (server .inUse) (server .capacity) w tally₁ b₁
-    held =
-        set-ready tapeBytes x t v (fac .0) high′ (server .inUse) (server .capacity) w (updateServer tally (v - 1) (x .clock)) s₀
-        (update-ready tapeBytes x t v (fac .0) high′ (server .inUse) (server .capacity) w tally s₀ ready′)
-        (update-current tapeBytes x t v (fac .0) high′ (server .inUse) (server .capacity) w tally s₀ ready′) (server .inUse) (one .who .number) false
+    held = set-ready (update-ready ready′) (update-current ready′) (server .inUse) (one .who .number) false
 
     abbrev u₁ : List ℕ
     u₁ = takeFirst w p
@@ -377,7 +325,7 @@ module _ (m : BlockModel) (tape : List (List ℕ)) (tapeBytes tables lists : Lis
     u₃ = setTime u₂ j due
 
     first-taken : Takes w u₁ j (update p (drop 1 (listsOf s₀ p)) (listsOf s₀)) (s .fel)
-    first-taken = take-shows w (listsOf s₀) (s .fel) (listing .shows) p (omega (arith, high′)) row
+    first-taken = take-shows w (listsOf s₀) (s .fel) (h .listing .shows) p (omega (arith, ready′ .high)) row
 
     room-left : 16384 ≤ length u₁
     room-left = first-taken .shows .shown .holds .room
@@ -396,8 +344,8 @@ module _ (m : BlockModel) (tape : List (List ℕ)) (tapeBytes tables lists : Lis
 
     resumed : Wakes w (schedule u₃ j) (update p (drop 1 (listsOf s₀ p)) (listsOf s₀)) (insert earlier (eventAt u₃ j) (s .fel))
     resumed =
-        resume-shows w (listsOf s₀) (s .fel) (listing .shows) p (omega (arith, high′)) row u₃ all-written
-        (fresh-given (transactionAt u₃ j) (s .serial) (s .fel) serial-given (sane .timely .serials))
+        resume-shows w (listsOf s₀) (s .fel) (h .listing .shows) p (omega (arith, ready′ .high)) row u₃ all-written
+        (fresh-given (transactionAt u₃ j) (s .serial) (s .fel) serial-given (h .sane .timely .serials))
 
     abbrev b₂ : State
     b₂ = resume one v b₁
@@ -415,9 +363,9 @@ module _ (m : BlockModel) (tape : List (List ℕ)) (tapeBytes tables lists : Lis
     on-lists : (q : ℕ) → q < 770 → update p (drop 1 (listsOf s₀ p)) (listsOf s₀) q ≡ listsOf b₂ q
     unfolding resume toFel Moves.setUse
     on-lists q hq =
-        lists-set-interrupted s₀ i rest (drop 1 (listsOf s₀ p)) (omega (arith, high′)) left-list
+        lists-set-interrupted s₀ i rest (drop 1 (listsOf s₀ p)) (omega (arith, ready′ .high)) left-list
         (λ k d. those-else (ofFacility (suc k)) (ofFacility v) [] (s .interrupted) (λ y z. at-else k d y (of-it y z)) (unfold those in refl)) q
-        ∙ unfold listsOf in refl
+        ∙ unfold listsIn in refl
       where
         of-it : (y : Interrupted) → ofFacility v y ≡ true → y .facility ≡ v
         of-it y z = unfold ofFacility in eqb-true (y .facility) v z
@@ -425,28 +373,10 @@ module _ (m : BlockModel) (tape : List (List ℕ)) (tapeBytes tables lists : Lis
     resumed-ready : Ready tapeBytes (putSerial n x) t v (server .inUse) (server .capacity) (schedule u₃ j) tally₁ b₂
     unfolding resume toFel Moves.setUse
     resumed-ready =
-        record {
-          listing =
-              listing-steady w (schedule u₃ j) (x .moving) (some t) s₀ b₂
-              (shows-ext (schedule u₃ j) _ (listsOf b₂) _ (b₂ .fel) on-lists (ap (λ (e : Event). insert earlier e (s .fel)) event-is) (resumed .shows)) (resumed .steady) refl listing;
-          tallying = tallying-ext tapeBytes tally₁ b₁ b₂ refl refl refl refl refl refl refl (held .tallying);
-          counting =
-              record {
-                clock = stands .counting .clock;
-                counter = stands .counting .counter;
-                serial = refl;
-                made = stands .counting .made;
-                ended = stands .counting .ended;
-                turns = stands .counting .turns;
-                end = stands .counting .end;
-              };
-          held = held .held;
-          holds = held .holds;
-          wels = held .wels;
-          ql = held .ql;
-          server = held .server;
-          samples = held .samples;
-        }
+        as-ready held
+        (listing-steady
+        (shows-ext (schedule u₃ j) _ (listsOf b₂) _ (b₂ .fel) on-lists (ap (λ (e : Event). insert earlier e (s .fel)) event-is) (resumed .shows)) (resumed .steady) (h .listing))
+        (held .tallying) (renumber (h .counting) refl (h .counting .made) (h .counting .ended)) refl refl refl refl
 
     resume-is : resumeOn w x (v - 1) j ≡ moved (putSerial n x) (schedule u₃ j)
     unfolding resumeOn toFuture
@@ -455,9 +385,8 @@ module _ (m : BlockModel) (tape : List (List ℕ)) (tapeBytes tables lists : Lis
     resume-done : Done tapeBytes (resumeRows tables w tally x (v - 1) j) (entering (Moves.goOn t (Execute.checkWels v b₂)))
     unfolding resumeRows holdUnits moved
     resume-done =
-        rw (resume-is, number-is, units-are m tape tapeBytes tables lists proper rep s sane r t stands v (fac .0) there, capacity-is m tape tapeBytes tables lists proper rep s sane r t stands v (fac .0) there)
-        (ready-done tapeBytes (putSerial n x) t v (fac .0) high′ (server .inUse) (server .capacity) (keepHolder (schedule u₃ j) (v - 1) j) tally₁ b₂
-        (keep-ready tapeBytes (putSerial n x) t v (fac .0) high′ (server .inUse) (server .capacity) (schedule u₃ j) tally₁ b₂ resumed-ready j) (next-low proper t s sane moving))
+        rw (resume-is, number-is, units-are h v (fac .0) there, capacity-is h v (fac .0) there)
+        (ready-done (keep-ready resumed-ready j) (next-low h))
 
   -- ---- RETURN
 
@@ -466,7 +395,7 @@ module _ (m : BlockModel) (tape : List (List ℕ)) (tapeBytes tables lists : Lis
 
   free-done : Done tapeBytes (freeOne tables w tally x (v - 1) (server .inUse - 1)) (Giving [])
   unfolding givesBack wakeFor partFor shareServer
-  free-done = one-done m tape tapeBytes tables lists proper rep s sane r t stands moving v (fac .0) there (server .inUse - 1)
+  free-done = one-done h v (fac .0) there (server .inUse - 1)
 
   -- the head of the facility's list is its interrupted one, or there is none
   data Stopped : Type 0 where
@@ -474,7 +403,7 @@ module _ (m : BlockModel) (tape : List (List ℕ)) (tapeBytes tables lists : Lis
     some-stopped : (one : Interrupted) (l : List Interrupted) → interruptedAt s v ≡ one ∷ l → first w p < 1024 → transactionAt w (first w p) ≡ interruptedRow one → Stopped
 
   stopped-there : Stopped
-  stopped-there = go (head-shows w (listsOf s₀) (s .fel) (listing .shows) p (omega (arith, high′))) (interruptedAt s v) refl
+  stopped-there = go (head-shows w (listsOf s₀) (s .fel) (h .listing .shows) p (omega (arith, ready′ .high))) (interruptedAt s v) refl
     where
       go : Head w p (transactionAt w) (listsOf s₀ p) → (l : List Interrupted) → interruptedAt s v ≡ l → Stopped
       go (Take.nobody e far) [] is = none-stopped is far
@@ -491,12 +420,12 @@ module _ (m : BlockModel) (tape : List (List ℕ)) (tapeBytes tables lists : Lis
       go (none-stopped is far) = rw (le-ltb (first w p) 1024 far, is)
       go (some-stopped one l is row row-is) =
           rw (lt-ltb (first w p) 1024 row, is, time-is one l is row row-is)
-          (time-asked m (sane .rules) x s (stands .counting) (one .remaining) (sane .timely .clock) (few one l is row row-is))
+          (time-asked h (one .remaining) (few one l is row row-is))
 
   back-asked : askGiveBack w tally x (v - 1) (t .number) ≡ question m (giveBack v) t s
   unfolding askGiveBack question askGivesBack
   back-asked =
-      rw (units-are m tape tapeBytes tables lists proper rep s sane r t stands v (fac .0) there, preempted-is m tape tapeBytes tables lists proper rep s sane r t stands v (fac .0) there, holder-is m tape tapeBytes tables lists proper rep s sane r t stands v (fac .0) there, resume-asked)
+      rw (units-are h v (fac .0) there, preempted-is h v (fac .0) there, holder-is h v (fac .0) there, resume-asked)
       (go (leb 1 (server .inUse)) refl (server .preempted) (eqb (server .holder) (t .number)) (Execute.askResume m (interruptedAt s v) s))
     where
       go : (used : Bool) → leb 1 (server .inUse) ≡ used → (taken own : Bool) (later : ℕ)
@@ -506,61 +435,29 @@ module _ (m : BlockModel) (tape : List (List ℕ)) (tapeBytes tables lists : Lis
       go true e false own later = rw (le-ltb (server .inUse) 1 (leb-true 1 (server .inUse) e))
       go false e taken own later = rw (lt-ltb (server .inUse) 1 (leb-false 1 (server .inUse) e))
 
-  back-rows : Done tapeBytes (giveBackRows tables w tally x (v - 1)) (Giving (interruptedAt s v))
-  unfolding giveBackRows
+  back-rows : Done tapeBytes (giveBackNow tables w tally x (v - 1)) (Giving (interruptedAt s v))
+  unfolding giveBackNow
   back-rows = go stopped-there
     where
       go : Stopped → Done tapeBytes (cond (ltb (first w p) 1024) (resumeRows tables w tally x (v - 1) (first w p)) (freeOne tables w tally x (v - 1) (inUse tally (v - 1) - 1))) (Giving (interruptedAt s v))
       go (none-stopped is far) =
-          rw (le-ltb (first w p) 1024 far, is, units-are m tape tapeBytes tables lists proper rep s sane r t stands v (fac .0) there) free-done
+          rw (le-ltb (first w p) 1024 far, is, units-are h v (fac .0) there) free-done
       go (some-stopped one l is row row-is) =
           rw (lt-ltb (first w p) 1024 row)
           (subst (λ (k : List Interrupted). Done tapeBytes (resumeRows tables w tally x (v - 1) (first w p)) (Giving k)) (sym is) (unfold givesBack in (resume-done one l is row row-is)))
 
-  pub give-back-done : blockAt m (t .next) ≡ giveBack v → Done tapeBytes (Preempting.giveBack tables w tally x at) (bareAnswer (question m (giveBack v) t s) m (giveBack v) t s)
-  unfolding Preempting.giveBack bare blockForms
-  give-back-done is =
-      rw (named tables (at + 1) v high′ (fac .0) (operand m tape tapeBytes tables lists rep (t .next) (placed proper t s sane moving .0) (giveBack v) is 1 (omega arith)), number-read w x t s (stands .listing), back-asked)
-      (asked tapeBytes m r t s stands moving (giveBack v) (question m (giveBack v) t s) (giveBackRows tables w tally x (v - 1)) (λ z. back-rows))
+module _ {m : BlockModel} {tape : List (List ℕ)} {tapeBytes tables lists w tally : List ℕ} {x : Scalars} {t : Transaction} {s : State} {v : ℕ} where
+  pub preempt-done : Before m tape tapeBytes tables lists w tally x t s (preempt v) → Done tapeBytes (preemptRows tables w tally x (placeOf t)) (bareBlock m (preempt v) t s)
+  unfolding preemptRows seized question bareAnswer bare blockForms
+  preempt-done h =
+      let fac : Names (m .facilities) v = proper-block h in
+      let there : v ≤ servers m = omega (arith, fac .1) in
+      rw (named tables (placeOf t + 1) v (high h v (fac .0) there) (fac .0) (operand h 1 (omega arith)), number-read (h .listing), preempted-is h v (fac .0) there, units-are h v (fac .0) there)
+      (preempt-rows h v fac)
 
--- ---- Bytes of trace and turns are counted elsewhere
-
-module _ (tables w tally : List ℕ) (x : Scalars) where
-  over-used : (v j number : ℕ) → takeOver tables w tally x v j number .scalars .used ≡ x .used
-  unfolding takeOver holdUnits rowsOf
-  over-used v j number = go-on-used (checkWels (keepHolder (interruptOn w (x .clock) v j) v (x .moving)) v (inUse tally v) (capacity tables v)) x
-
-  seized-used : (v number : ℕ) → preemptSeized tables w tally x v number .scalars .used ≡ x .used
-  unfolding preemptSeized
-  seized-used v number = go (ltb j 1024)
-    where
-      j : ℕ
-      j = findLoser w (holder tally v) (priorityOf w (x .moving)) (x .moving) v
-
-      go : (b : Bool) → cond {A = Rows} b (takeOver tables w tally x v j number) (takeUnits tables w tally x v 1 number 1) .scalars .used ≡ x .used
-      go true = over-used v j number
-      go false = take-used tables w tally x v 1 number 1
-
-  pub preempt-used : (at : ℕ) → Preempting.preempt tables w tally x at .scalars .used ≡ x .used
-  unfolding Preempting.preempt
-  preempt-used at = go (seized tally (serverAt tables (at + 1)))
-    where
-      go : (b : Bool) → cond {A = Rows} b (preemptSeized tables w tally x (serverAt tables (at + 1)) (read w 0 (x .moving))) (takeUnits tables w tally x (serverAt tables (at + 1)) 1 (read w 0 (x .moving)) 1) .scalars .used ≡ x .used
-      go true = seized-used (serverAt tables (at + 1)) (read w 0 (x .moving))
-      go false = take-used tables w tally x (serverAt tables (at + 1)) 1 (read w 0 (x .moving)) 1
-
-  back-used : (v : ℕ) → giveBackRows tables w tally x v .scalars .used ≡ x .used
-  unfolding giveBackRows resumeRows holdUnits freeOne enterFreed rowsOf resumeOn toFuture moved
-  back-used v = go (ltb (first w (706 + v)) 1024)
-    where
-      go : (b : Bool) → cond {A = Rows} b (resumeRows tables w tally x v (first w (706 + v))) (freeOne tables w tally x v (inUse tally v - 1)) .scalars .used ≡ x .used
-      go true = unfold resumeRows holdUnits rowsOf resumeOn toFuture moved in go-on-used _ _
-      go false = unfold freeOne enterFreed rowsOf in go-on-used _ x
-
-  pub give-back-used : (at : ℕ) → Preempting.giveBack tables w tally x at .scalars .used ≡ x .used
-  unfolding Preempting.giveBack rowsOf stopped
-  give-back-used at = go (askGiveBack w tally x (serverAt tables (at + 1)) (read w 0 (x .moving)))
-    where
-      go : (end : ℕ) → cond {A = Rows} (eqb end 0) (giveBackRows tables w tally x (serverAt tables (at + 1))) (rowsOf (stopped x end) w tally) .scalars .used ≡ x .used
-      go zero = back-used (serverAt tables (at + 1))
-      go (suc n) = unfold rowsOf stopped in (rw (ne-eqb (suc n) 0 (λ e. omega arith)))
+  pub give-back-done : Before m tape tapeBytes tables lists w tally x t s (giveBack v) → Done tapeBytes (giveBackRows tables w tally x (placeOf t)) (bareBlock m (giveBack v) t s)
+  unfolding giveBackRows bare blockForms
+  give-back-done h =
+      let fac : Names (m .facilities) v = proper-block h in
+      rw (named tables (placeOf t + 1) v (high h v (fac .0) (omega (arith, fac .1))) (fac .0) (operand h 1 (omega arith)), number-read (h .listing), back-asked h v fac)
+      (asked h (question m (giveBack v) t s) (giveBackNow tables w tally x (v - 1)) (λ z. back-rows h v fac))

@@ -38,8 +38,8 @@ preemptSeized tables w tally x v number =
     let j : ℕ = findLoser w (holder tally v) (priorityOf w (x .moving)) (x .moving) v in
     cond (ltb j rowCount) (takeOver tables w tally x v j number) (takeUnits tables w tally x v 1 number 1)
 
-unfoldable pub preempt : List ℕ → List ℕ → List ℕ → Scalars → ℕ → Rows
-preempt tables w tally x at =
+unfoldable pub preemptRows : List ℕ → List ℕ → List ℕ → Scalars → ℕ → Rows
+preemptRows tables w tally x at =
     let v : ℕ = serverAt tables (at + 1) in
     let number : ℕ = read w numberField (x .moving) in
     cond (seized tally v) (preemptSeized tables w tally x v number) (takeUnits tables w tally x v 1 number 1)
@@ -67,13 +67,13 @@ resumeRows tables w tally x v j =
     holdUnits (resumeOn w x v j .work) tally (resumeOn w x v j .scalars) v (inUse tally v) (read w numberField j) j 0 (capacity tables v)
 
 -- "if there is none, it acts as RELEASE"
-unfoldable pub giveBackRows : List ℕ → List ℕ → List ℕ → Scalars → (v : ℕ) → Rows
-giveBackRows tables w tally x v =
+unfoldable pub giveBackNow : List ℕ → List ℕ → List ℕ → Scalars → (v : ℕ) → Rows
+giveBackNow tables w tally x v =
     let j : ℕ = first w (interrupted + v) in
     cond (ltb j rowCount) (resumeRows tables w tally x v j) (freeOne tables w tally x v (inUse tally v - 1))
 
-unfoldable pub giveBack : List ℕ → List ℕ → List ℕ → Scalars → ℕ → Rows
-giveBack tables w tally x at =
+unfoldable pub giveBackRows : List ℕ → List ℕ → List ℕ → Scalars → ℕ → Rows
+giveBackRows tables w tally x at =
     let v : ℕ = serverAt tables (at + 1) in
     let end : ℕ = askGiveBack w tally x v (read w numberField (x .moving)) in
-    cond (eqb end 0) (giveBackRows tables w tally x v) (rowsOf (stopped x end) w tally)
+    cond (eqb end 0) (giveBackNow tables w tally x v) (rowsOf (stopped x end) w tally)

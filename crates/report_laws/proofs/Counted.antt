@@ -11,7 +11,7 @@ use Rattle.machine.specs.Block.{facts, BlockModel, blockAt}
 use Rattle.machine.specs.State.{Logged}
 use Rattle.machine.specs.Report.{recordsAt}
 use Rattle.machine.specs.Claims.{Each, upTo, InModel}
-use Rattle.state.proofs.Written.{atBlock}
+use Rattle.state.specs.Stands.{atBlock}
 use Rattle.state.proofs.Tallied as Tallied
 use Rattle.report_laws.specs.Counts.{names, share, total}
 

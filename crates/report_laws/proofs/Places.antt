@@ -22,7 +22,7 @@ use Rattle.rows_laws.specs.Cells.{load, read}
 use Rattle.rows_laws.specs.Holds.{transactionAt, eventAt}
 use Rattle.rows_laws.specs.Living.{sumTo}
 use Rattle.rows_laws.proofs.Sums.{sum-suc, sum-ext, sum-add, sum-zero}
-use Rattle.state.specs.Stands.{gathererRow, interruptedRow, listsOf, Moving, Listing}
+use Rattle.state.specs.Stands.{gathererRow, interruptedRow, listsIn, listsOf, Moving, Listing}
 use Rattle.state.proofs.ListsOf.{lists-gatherers, lists-interrupted}
 use Rattle.report_laws.specs.Living.{listPlace, placeOf, placeAt}
 use Rattle.report_laws.proofs.Ranking.{all, weight}
@@ -71,20 +71,20 @@ place-interrupted i h =
     rw (le-ltb (706 + i) 64 (omega arith), le-ltb (706 + i) 448 (omega arith), ne-eqb (706 + i) 448 (λ e. omega arith), ne-eqb (706 + i) 770 (λ e. omega arith), ne-eqb (706 + i) 449 (λ e. omega arith), le-ltb (706 + i) 706 (omega arith), lt-ltb (706 + i) 770 (omega arith))
 
 lists-ql : (s : State) (p : ℕ) → p < 64 → listsOf s p ≡ getD (s .ql) p []
-unfolding listsOf
+unfolding listsIn
 lists-ql s p h = rw (lt-ltb p 64 h)
 
 lists-wel : (s : State) (i : ℕ) → i < 384 → listsOf s (64 + i) ≡ getD (s .wel) i []
-unfolding listsOf
+unfolding listsIn
 lists-wel s i h =
     rw (le-ltb (64 + i) 64 (omega arith), lt-ltb (64 + i) 448 (omega arith)) (ap (λ n. getD (s .wel) n []) (omega arith))
 
 lists-wsl : (s : State) → listsOf s 448 ≡ s .wsl
-unfolding listsOf
+unfolding listsIn
 lists-wsl s = refl
 
 lists-rel : (s : State) → listsOf s 449 ≡ s .rel
-unfolding listsOf
+unfolding listsIn
 lists-rel s = refl
 
 place-wsl : listPlace 448 ≡ 3

@@ -18,8 +18,8 @@ use Rattle.machine.proofs.conservation.Conservation.{Sound, stands-at-most-once
 use Rattle.tables.specs.Layout as Layout
 use Rattle.tables.specs.Represents.{headerOf, Represents}
 use Rattle.state.specs.Sane.{Sane}
-use Rattle.state.specs.Stands.{Rows, Stands}
-use Rattle.state.proofs.Written.{atBlock, Traced}
+use Rattle.state.specs.Stands.{atBlock, Rows, Stands}
+use Rattle.state.proofs.Written.{Traced}
 use Rattle.report_laws.specs.Writing.{Written, written, putAll}
 use Rattle.report_laws.specs.Counts.{serverRow, queueRow, rowsTo}
 use Rattle.report_laws.specs.Numbers.{livingNumbers, rowNumbers}
@@ -77,8 +77,7 @@ queues-rows m records l =
 
 module _ (m : BlockModel) (tape : List (List ℕ)) (tapeBytes tables lists : List ℕ) (room : ℕ) (r : Rows) (s : State) (proper : Proper m tape)
     (represents : Represents m tape tapeBytes tables lists) (sane : Sane m s) (sound : Sound m tape s) (traced : Traced m room s)
-    (stands : Stands tapeBytes r (s .moving) s)
-    (waits : (b : ℕ) → b < length (m .blocks) → getD (r .tally) (Layout.waits + b) 0 ≡ atBlock 1 (suc b) (s .records)) where
+    (stands : Stands tapeBytes r (s .moving) s) where
   entries : (b : ℕ) → b < length (m .blocks) → getD (r .tally) (Layout.entries + b) 0 ≡ atBlock 0 (suc b) (s .records)
   entries b h =
       stands .tallying .entries b (omega (arith, proper .blocks .1))
@@ -101,7 +100,7 @@ module _ (m : BlockModel) (tape : List (List ℕ)) (tapeBytes tables lists : Lis
         total-records m 0 (λ f. eqb (f .server) (suc v)) (s .records) tables (r .tally) 4 6 19 v Layout.entries
             (takes-server m tape tapeBytes tables lists proper represents v) entries (traced .records) few,
         total-records m 1 (λ f. eqb (f .server) (suc v)) (s .records) tables (r .tally) 4 6 19 v Layout.waits
-            (takes-server m tape tapeBytes tables lists proper represents v) waits (traced .records) few,
+            (takes-server m tape tapeBytes tables lists proper represents v) (λ b h. stands .tallying .waits b (omega (arith, proper .blocks .1))) (traced .records) few,
         stands .tallying .servers .unit-ticks v h,
         stands .tallying .servers .wait-ticks v h,
         stands .tallying .servers .longest v h,

@@ -31,7 +31,7 @@ ghost use Rattle.tables.specs.Layout.{programSize, serverCount};
 ghost use Rattle.rows_laws.specs.Layout.{Room, rowCount};
 ghost use Rattle.moves.specs.Motion.{moved, withOutcome};
 ghost use Rattle.state.specs.Stands.{rowsOf};
-ghost use Rattle.servers_laws.specs.Freeing.{enterFreed, freeOne, freeSome, askRelease, release, leave};
+ghost use Rattle.servers_laws.specs.Freeing.{enterFreed, freeOne, freeSome, askRelease, releaseRows, leaveRows};
 
 // Row k enters, and so many units are in use.
 fn enter_freed(work: &mut [u32], k: u32, v: u32, units: u64, capacity: u64)
@@ -116,7 +116,7 @@ pub fn release(
     requires { ⌜ Room (now work) ⌝ }
     requires { ⌜ x .moving < rowCount ⌝ }
     requires { ⌜ at < programSize ⌝ }
-    ensures { λ r. ⌜ rowsOf r (now (work .exit)) (now (tally .exit)) ≡ release (now (tables .entry)) (now (work .entry)) (now (tally .entry)) x at ⌝ }
+    ensures { λ r. ⌜ rowsOf r (now (work .exit)) (now (tally .exit)) ≡ releaseRows (now (tables .entry)) (now (work .entry)) (now (tally .entry)) x at ⌝ }
 {
     let v = server_at(tables, at + FIRST);
     let units = in_use(tally, v);
@@ -133,7 +133,7 @@ pub fn leave(tables: &[u32], work: &mut [u32], tally: &mut [u64], x: Scalars, at
     requires { ⌜ Room (now work) ⌝ }
     requires { ⌜ x .moving < rowCount ⌝ }
     requires { ⌜ at < programSize ⌝ }
-    ensures { λ r. ⌜ rowsOf r (now (work .exit)) (now (tally .exit)) ≡ leave (now (tables .entry)) (now (work .entry)) (now (tally .entry)) x at ⌝ }
+    ensures { λ r. ⌜ rowsOf r (now (work .exit)) (now (tally .exit)) ≡ leaveRows (now (tables .entry)) (now (work .entry)) (now (tally .entry)) x at ⌝ }
 {
     let v = server_at(tables, at + FIRST);
     let b = number(tables, at + SECOND) as u64;

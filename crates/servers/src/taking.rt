@@ -28,7 +28,7 @@ ghost use Rattle.tables.specs.Layout.{programSize, serverCount};
 ghost use Rattle.rows_laws.specs.Layout.{Room, rowCount};
 ghost use Rattle.state.specs.Stands.{rowsOf};
 ghost use Rattle.moves.specs.Motion.{withOutcome};
-ghost use Rattle.servers_laws.specs.Taking.{holdUnits, queueUp, takeUnits, seize, enter};
+ghost use Rattle.servers_laws.specs.Taking.{holdUnits, queueUp, takeUnits, seizeRows, enterRows};
 
 // Row `moving` enters; so many units are in use, and `who`, whose row is k, holds the server, 0 for nobody; 1 for by PREEMPT.
 pub fn hold_units(
@@ -107,7 +107,7 @@ pub fn seize(tables: &[u32], work: &mut [u32], tally: &mut [u64], x: Scalars, at
     requires { ⌜ Room (now work) ⌝ }
     requires { ⌜ x .moving < rowCount ⌝ }
     requires { ⌜ at < programSize ⌝ }
-    ensures { λ r. ⌜ rowsOf r (now (work .exit)) (now (tally .exit)) ≡ seize (now (tables .entry)) (now (work .entry)) (now (tally .entry)) x at ⌝ }
+    ensures { λ r. ⌜ rowsOf r (now (work .exit)) (now (tally .exit)) ≡ seizeRows (now (tables .entry)) (now (work .entry)) (now (tally .entry)) x at ⌝ }
 {
     let v = server_at(tables, at + FIRST);
     let number = read(work, NUMBER, x.moving) as u64;
@@ -130,7 +130,7 @@ pub fn enter(tables: &[u32], work: &mut [u32], tally: &mut [u64], x: Scalars, at
     requires { ⌜ Room (now work) ⌝ }
     requires { ⌜ x .moving < rowCount ⌝ }
     requires { ⌜ at < programSize ⌝ }
-    ensures { λ r. ⌜ rowsOf r (now (work .exit)) (now (tally .exit)) ≡ enter (now (tables .entry)) (now (work .entry)) (now (tally .entry)) x at ⌝ }
+    ensures { λ r. ⌜ rowsOf r (now (work .exit)) (now (tally .exit)) ≡ enterRows (now (tables .entry)) (now (work .entry)) (now (tally .entry)) x at ⌝ }
 {
     let v = server_at(tables, at + FIRST);
     let b = number(tables, at + SECOND) as u64;

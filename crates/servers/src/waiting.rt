@@ -28,7 +28,7 @@ ghost use Rattle.machine.specs.Limits.{maxBack};
 ghost use Rattle.tables.specs.Layout.{blockWidth, programSize};
 ghost use Rattle.rows_laws.specs.Layout.{Room, listCount, rowCount};
 ghost use Rattle.moves.specs.Motion.{moved};
-ghost use Rattle.servers_laws.specs.WaitServer.{backOf, beginsFrom, isLate, backFrom, stampOn, passOn, passOrBack, waitWhile, waitServer};
+ghost use Rattle.servers_laws.specs.WaitServer.{backOf, beginsFrom, isLate, backFrom, stampOn, passOn, passOrBack, waitWhile, waitServerRows};
 
 // The back count of the block at `at`, 0 for kind 8.
 fn back_count(tables: &[u32], at: usize) -> u32
@@ -155,7 +155,7 @@ pub fn wait_server(
     requires { ⌜ Room (now work) ⌝ }
     requires { ⌜ x .moving < rowCount ⌝ }
     requires { ⌜ at < programSize ⌝ }
-    ensures { λ r. ⌜ moved r (now (work .exit)) ≡ waitServer (now (tables .entry)) (now (work .entry)) (now (tally .entry)) x at ⌝ }
+    ensures { λ r. ⌜ moved r (now (work .exit)) ≡ waitServerRows (now (tables .entry)) (now (work .entry)) (now (tally .entry)) x at ⌝ }
 {
     let code = number(tables, at + FIRST) % CODES;
     let v = server_at(tables, at + SECOND);

@@ -1,8 +1,8 @@
 -- Looking ahead in the tables tells whether a group begins with a block, as the machine does.
 use Prim.Native.Nat.{ℕ, zero, suc, _+_, _*_, _-_, _≤_, _<_}
 use mathlib.Core.Path.{_≡_, refl, sym, ap, _∙_, subst}
-use mathlib.Core.Bool.{Bool, true, false, not, cond, _&&_, _||_}
-use mathlib.Core.List.{List, [], _∷_}
+use mathlib.Core.Bool.{Bool, true, false, cond}
+use mathlib.Core.List.{List, _∷_}
 use native.Mathlib.Omega.{arith}
 use borrow.Author.Tests.{eqb-true, eqb-false, ne-eqb, le-ltb, lt-ltb, ltb-true, ltb-false}
 use lib.Dec.{eqb, ltb}
@@ -10,7 +10,7 @@ use lib.ListN.{length, getD}
 use Rattle.machine.specs.Lists.{bit, upTo}
 use Rattle.machine.specs.Block.{Block, facts, BlockModel, blockAt, backAt, beginsGroup}
 use Rattle.machine.proofs.lists.Sums.{upTo-zero}
-use Rattle.machine.proofs.decoding.Proper.{Names, Proper}
+use Rattle.machine.proofs.decoding.Proper.{Proper}
 use Rattle.machine.proofs.runs.Placed.{goes-on}
 use Rattle.machine.proofs.decoding.Groups.{begins, blocks-placed, group-waits}
 use Rattle.tables.specs.Forms.{blockForms}

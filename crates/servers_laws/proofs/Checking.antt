@@ -1,6 +1,6 @@
 -- The check of a server's WELs after its units changed: the rows follow the machine's, and nothing but WELs and REL changes.
 use Prim.Native.Nat.{ℕ, _+_, _*_, _-_, _<_}
-use mathlib.Core.Path.{_≡_, refl, sym, ap, _∙_}
+use mathlib.Core.Path.{_≡_, refl, ap, _∙_, subst}
 use mathlib.Core.Bool.{Bool, true, false, cond}
 use mathlib.Core.List.{List, []}
 use mathlib.Core.Option.{Option, some}
@@ -18,7 +18,6 @@ use Rattle.rows_laws.specs.Wake.{wakeFirst}
 use Rattle.state.specs.declared.scalars.Scalars.{Scalars}
 use Rattle.state.specs.Stands.{Listing, Tallying, Counting, Done}
 use Rattle.state.specs.Bare.{entering}
-use Rattle.state.proofs.StandsLaws.{tallying-ext, counting-ext}
 use Rattle.state.proofs.WakingLaws.{wake-first-wel-listing}
 use Rattle.moves.specs.Motion.{withTally, goOn}
 use Rattle.moves.proofs.MotionLaws.{go-on-done}
@@ -34,15 +33,15 @@ rest s = setWel [] (setRel [] s)
 pub record Checked (k : ℕ) (o : Option Transaction) (s₀ : State) (w : List ℕ) (s : State) : Type 0 where
   pub listing : Listing w k o s
   pub room : length (s .wel) ≡ length (s₀ .wel)
-  pub same : setWel [] (setRel [] s) ≡ setWel [] (setRel [] s₀)
+  pub same : setWel [] (setRel [] s₀) ≡ setWel [] (setRel [] s)
 
-pub unchecked : (k : ℕ) (o : Option Transaction) (s : State) (w : List ℕ) → Listing w k o s → Checked k o s w s
-unchecked k o s w h = record { listing = h; room = refl; same = refl }
+pub unchecked : {k : ℕ} {o : Option Transaction} {w : List ℕ} (s : State) → Listing w k o s → Checked k o s w s
+unchecked s h = record { listing = h; room = refl; same = refl }
 
 -- the first of a WEL is woken
-pub woken-checked : (k : ℕ) (o : Option Transaction) (s₀ : State) (w : List ℕ) (s : State) (v : ℕ) (code : Code) → welIndex v code < 384 → welIndex v code < length (s₀ .wel)
+pub woken-checked : {k : ℕ} {o : Option Transaction} {s₀ : State} {w : List ℕ} {s : State} (v : ℕ) (code : Code) → welIndex v code < 384 → welIndex v code < length (s₀ .wel)
     → Checked k o s₀ w s → Checked k o s₀ (wakeFirst w (64 + welIndex v code)) (wakeFirstWel v code s)
-woken-checked k o s₀ w s v code low there h =
+woken-checked {k} {o} {s₀} {w} {s} v code low there h =
     record {
       listing = wake-first-wel-listing w k o s (h .listing) v code low (omega (arith, h .room));
       room = room;
@@ -52,7 +51,7 @@ woken-checked k o s₀ w s v code low there h =
     room : length (wakeFirstWel v code s .wel) ≡ length (s₀ .wel)
     room = unfold wakeFirstWel in (length-set (s .wel) (welIndex v code) (drop 1 (welOf s v code)) ∙ h .room)
 
-    same : rest (wakeFirstWel v code s) ≡ rest s₀
+    same : rest s₀ ≡ rest (wakeFirstWel v code s)
     same = unfold wakeFirstWel in (h .same)
 
 module _ (k : ℕ) (o : Option Transaction) (s₀ : State) (v units all : ℕ) (held : units ≡ Term.serverAt (s₀ .view) v .inUse) (holds : all ≡ Term.serverAt (s₀ .view) v .capacity)
@@ -66,33 +65,18 @@ module _ (k : ℕ) (o : Option Transaction) (s₀ : State) (v units all : ℕ) (
           ap (λ (n : ℕ). statusOf (codeIndex code) n all) held
           ∙ ap (λ (n : ℕ). statusOf (codeIndex code) (Term.serverAt (s₀ .view) v .inUse) n) holds
           ∙ status-is code (Term.serverAt (s₀ .view) v)
-          ∙ ap (λ (x : State). status code (Term.serverAt (x .view) v)) (sym (h .same))
+          ∙ ap (λ (x : State). status code (Term.serverAt (x .view) v)) (h .same)
 
       go : (b : Bool) → Checked k o s₀ (cond b w (wakeFirst w (64 + ((v - 1) * 6 + codeIndex code)))) (cond b s (wakeFirstWel v code s))
       go true = h
-      go false = woken-checked k o s₀ w s v code (low code) (there code) h
+      go false = woken-checked v code (low code) (there code) h
 
   pub all-checked : (w : List ℕ) (s : State) → Checked k o s₀ w s → Checked k o s₀ (checkWels w (v - 1) units all) (Execute.checkWels v s)
   unfolding checkWels checkFirst checkLast Execute.checkWels codeIndex
   all-checked w s h = one _ _ NF (one _ _ F (one _ _ NE (one _ _ E (one _ _ NU (one w s U h)))))
 
--- the check leaves what tally and scalars hold
-module _ (k : ℕ) (o : Option Transaction) (s₀ : State) (w : List ℕ) (s : State) (h : Checked k o s₀ w s) where
-  unchanged : rest s₀ ≡ rest s
-  unchanged = sym (h .same)
-
-  pub checked-tallying : (tapeBytes tally : List ℕ) → Tallying tapeBytes tally s₀ → Tallying tapeBytes tally s
-  checked-tallying tapeBytes tally tallying =
-      let e = unchanged in
-      tallying-ext tapeBytes tally s₀ s (ap (λ (y : State). y .view .entries) e) (ap (λ (y : State). y .view .servers) e) (ap (λ (y : State). y .ql) e) (ap (λ (y : State). y .view .queues) e) (ap (λ (y : State). y .samples) e) (ap (λ (y : State). y .view .clock) e) (ap (λ (y : State). y .turns) e) tallying
-
-  pub checked-counting : (x : Scalars) → Counting x s₀ → Counting x s
-  checked-counting x counting =
-      let e = unchanged in
-      counting-ext x s₀ s (ap (λ (y : State). y .view .clock) e) (ap (λ (y : State). y .counter) e) (ap (λ (y : State). y .serial) e) (ap (λ (y : State). y .made) e) (ap (λ (y : State). y .ended) e) (ap (λ (y : State). y .turns) e) (ap (λ (y : State). y .end) e) counting
-
--- it goes on after the check
-pub checked-done : (tapeBytes tally : List ℕ) (x : Scalars) (t : Transaction) (s₀ : State) (w : List ℕ) (s : State) → Checked (x .moving) (some t) s₀ w s → Tallying tapeBytes tally s₀ → Counting x s₀ → t .next < 4294967295
+-- it goes on after the check, which leaves what tally and scalars hold
+pub checked-done : {tapeBytes tally : List ℕ} (x : Scalars) {t : Transaction} {s₀ : State} {w : List ℕ} {s : State} → Checked (x .moving) (some t) s₀ w s → Tallying tapeBytes tally s₀ → Counting x s₀ → t .next < 4294967295
     → Done tapeBytes (withTally (goOn w x) tally) (entering (Moves.goOn t s))
-checked-done tapeBytes tally x t s₀ w s h tallying counting low =
-    go-on-done tapeBytes w tally x t s (h .listing) (checked-tallying (x .moving) (some t) s₀ w s h tapeBytes tally tallying) (checked-counting (x .moving) (some t) s₀ w s h x counting) low
+checked-done {tapeBytes} {tally} x {s = s} h tallying counting =
+    go-on-done x s (h .listing) (subst (Tallying tapeBytes tally) (h .same) tallying) (subst (Counting x) (h .same) counting)

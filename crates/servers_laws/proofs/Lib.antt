@@ -1,3 +1,4 @@
+pub mod AtClock
 pub mod Begins
 pub mod Checking
 pub mod FreeingLaws
@@ -6,6 +7,5 @@ pub mod Ready
 pub mod Standing
 pub mod Staying
 pub mod TakingLaws
-pub mod Tallied
 pub mod Tallies
 pub mod WaitingLaws

@@ -5,21 +5,17 @@ use mathlib.Core.Bool.{false}
 use mathlib.Core.List.{List, [], _∷_}
 use native.Mathlib.Omega.{arith}
 use lib.Dec.{eqb}
-use lib.ListN.{length, getD, List·getD-map}
-use Rattle.machine.specs.Lists.{bit}
-use Rattle.machine.specs.Term.{Server, idleServer}
+use lib.ListN.{length, getD}
+use Rattle.machine.specs.Term.{Server}
 use Rattle.machine.specs.Term
 use Rattle.machine.specs.Block.{Code, U, NU, E, NE, F, NF, status, codeIndex, Block, facility, storage, facts, BlockModel, blockAt}
-use Rattle.machine.specs.State.{State}
-use Rattle.machine.proofs.decoding.Proper.{Proper, Names, servers}
-use Rattle.machine.proofs.runs.Shape.{Shape, capacityOf}
+use Rattle.machine.proofs.decoding.Proper.{Proper, Names}
 use Rattle.tables.specs.Forms.{blockForms}
 use Rattle.tables.specs.Numbers.{blockNumbers}
 use Rattle.tables.specs.Represents.{At, Represents}
 use Rattle.tables.proofs.BlockKinds.{Kinds, generating, taking, waiting, arriving, preempting, other, kinds, unasked}
 use Rattle.tables.proofs.Operands.{at-number}
-use Rattle.state.specs.Stands.{Tallying}
-use Rattle.servers_laws.specs.Units.{serverAt, inUse, holder, preempted, capacity, statusOf}
+use Rattle.servers_laws.specs.Units.{serverAt, inUse, capacity, statusOf}
 use Rattle.servers_laws.specs.Waking.{unitsAt}
 
 -- ---- Units that a block takes
@@ -68,41 +64,19 @@ module _ (tables : List ℕ) (at : ℕ) where
           takes-none kind rest (u .no-seize) (u .no-enter) (u .no-preempt) (subst (At tables at) e found) ∙ sym (ap (λ x. x .units) g)
 
 -- of block n, found as the engine finds it
-pub units-of : (m : BlockModel) (tape : List (List ℕ)) (tapeBytes tables lists : List ℕ) → Proper m tape → Represents m tape tapeBytes tables lists → (n : ℕ) → Names (length (m .blocks)) n
+pub units-of : {m : BlockModel} {tape : List (List ℕ)} {tapeBytes tables lists : List ℕ} → Proper m tape → Represents m tape tapeBytes tables lists → (n : ℕ) → Names (length (m .blocks)) n
     → unitsAt tables (8 * ((n - 1) % 256)) ≡ facts (blockAt m n) .units
-units-of m tape tapeBytes tables lists proper rep n placed =
+units-of {m} {tables = tables} proper rep n placed =
     let small : (n - 1) % 256 ≡ n - 1 = omega (arith, proper .blocks .1) in
     ap (λ (i : ℕ). unitsAt tables (8 * i)) small ∙ units-at tables (8 * (n - 1)) (blockAt m n) (rep .blocks (n - 1) (omega arith))
 
 -- ---- The server that it names
-
-pub few : (m : BlockModel) (tape : List (List ℕ)) → Proper m tape → servers m ≤ 64
-few m tape proper = omega (arith, proper .facilities, proper .storages)
 
 pub named : (tables : List ℕ) (at v : ℕ) → v ≤ 64 → 1 ≤ v → getD tables at 0 ≡ v - 1 → serverAt tables at ≡ v - 1
 unfolding serverAt
 named tables at v high low e =
     let small : (v - 1) % 64 ≡ v - 1 = omega arith in
     rw (e, small)
-
-module _ (v : ℕ) (low : 1 ≤ v) (high : v ≤ 64) where
-  pub units-held : (tapeBytes tally : List ℕ) (s : State) → Tallying tapeBytes tally s → inUse tally (v - 1) ≡ Term.serverAt (s .view) v .inUse
-  unfolding Term.serverAt
-  units-held tapeBytes tally s h = h .servers .in-use (v - 1) (omega arith)
-
-  pub holder-held : (tapeBytes tally : List ℕ) (s : State) → Tallying tapeBytes tally s → holder tally (v - 1) ≡ Term.serverAt (s .view) v .holder
-  unfolding Term.serverAt
-  holder-held tapeBytes tally s h = h .servers .holders (v - 1) (omega arith)
-
-  pub preempted-held : (tapeBytes tally : List ℕ) (s : State) → Tallying tapeBytes tally s → preempted tally (v - 1) ≡ bit (Term.serverAt (s .view) v .preempted)
-  unfolding Term.serverAt
-  preempted-held tapeBytes tally s h = h .servers .preempts (v - 1) (omega arith)
-
-  pub capacity-held : {m : BlockModel} {tape : List (List ℕ)} {tapeBytes tables lists : List ℕ} → Represents m tape tapeBytes tables lists → (s : State) → Shape m s → capacity tables (v - 1) ≡ Term.serverAt (s .view) v .capacity
-  unfolding Term.serverAt idleServer
-  capacity-held rep s shape =
-      rep .capacities (v - 1) (omega arith) ∙ ap (λ (l : List ℕ). getD l (v - 1) 0) (sym (shape .capacities))
-      ∙ List·getD-map capacityOf (s .view .servers) (v - 1) (idleServer 0)
 
 -- ---- Status codes
 

@@ -7,7 +7,7 @@ use mathlib.Core.List.{List, [], _∷_}
 use native.Mathlib.Omega.{arith}
 use native.Mathlib.Decide.{ℕ-discrete}
 use borrow.Author.Tests.{le-ltb, eq-eqb, ne-eqb}
-use lib.Dec.{ltb, eqb}
+use lib.Dec.{eqb}
 use lib.ListN.{length, getD, set, drop, length-set, length-drop}
 use lib.Seq.{getD-set-same, getD-set-other}
 use Rattle.machine.specs.Transaction.{Transaction}
@@ -15,7 +15,7 @@ use Rattle.machine.specs.Lists.{bit}
 use Rattle.machine.specs.Term.{Server, idleServer}
 use Rattle.machine.specs.Term
 use Rattle.machine.specs.State.{State}
-use Rattle.machine.specs.Setters.{withUse, withSerial, setQl, setSerial}
+use Rattle.machine.specs.Setters.{withUse, setQl}
 use Rattle.machine.specs.Moves as Moves
 use Rattle.machine.proofs.lists.Sums.{sum-length}
 use Rattle.machine.proofs.lists.Lines.{sum-lineUp}
@@ -23,11 +23,10 @@ use Rattle.tables.specs.Layout as Layout
 use Rattle.tables.specs.Layout.{most64}
 use Rattle.state.specs.Statistics.{behind, sumNow, longestNow}
 use Rattle.state.specs.Stands.{ofResidue, heldIn, Tallying}
-use Rattle.state.specs.Bare.{Bare, waitsNote, noNote, waiting}
-use Rattle.state.proofs.StandsLaws.{tallying-ext, entries-set, pair-set, seen-same, seen-set, queueing-same, queueing-set, sampling-same, sampling-set}
+use Rattle.state.proofs.StandsLaws.{entries-set, waits-set, pair-set, seen-same, seen-set, queueing-same, queueing-set, sampling-same, sampling-set}
 use Rattle.state.proofs.Held.{held-most, held-at, held-set}
 use Rattle.state.proofs.StatisticsLaws.{SamePair, behind-same, sum-same, longest-same, sum-moved, longest-moved}
-use Rattle.servers_laws.specs.Units.{holder, residueCell, setHeld, heldLess, heldMore, storeUse, setUse}
+use Rattle.servers_laws.specs.Units.{holder, residueCell, setHeld, heldLess, heldMore, setUse}
 use Rattle.servers_laws.specs.Waking.{shorter}
 use Rattle.servers_laws.specs.Taking.{longer}
 
@@ -103,23 +102,6 @@ module _ (tally : List ℕ) (n : ℕ) where
             rw (e, eq-eqb r r refl) (getD-set-same tally (1088 + r) (min (getD tally (1088 + r) 0 + 1) most64) 0 (omega arith) ∙ omega arith)
         go false (no d) =
             rw (ne-eqb (n % 256) r d) (getD-set-other tally (1088 + n % 256) (1088 + r) (min (getD tally (1088 + n % 256) 0 + 1) most64) 0 (λ e. d (omega arith)) ∙ omega arith)
-
--- cells below those of the servers stay
-pub use-low : (tally : List ℕ) (v units who preempts j : ℕ) → j < 512 → getD (setUse tally v units who preempts) j 0 ≡ getD tally j 0
-unfolding setUse
-use-low tally v units who preempts j low = go (ltb (length tally) Layout.tallySize)
-  where
-    off : List ℕ
-    off = heldLess tally (holder tally v)
-
-    on : List ℕ
-    on = heldMore off who
-
-    go : (short : Bool) → getD (cond short tally (storeUse on v units who preempts)) j 0 ≡ getD tally j 0
-    go true = refl
-    go false =
-        getD-set-other (set (set on (512 + v) units) (960 + v) who) (1024 + v) j preempts 0 (λ e. omega arith) ∙ getD-set-other (set on (512 + v) units) (960 + v) j who 0 (λ e. omega arith)
-        ∙ getD-set-other on (512 + v) j units 0 (λ e. omega arith) ∙ more-other off who j (λ e. omega arith) ∙ less-other tally (holder tally v) j (λ e. omega arith)
 
 -- ---- The cells of each kind
 
@@ -241,6 +223,7 @@ module _ (tapeBytes tally : List ℕ) (s : State) (h : Tallying tapeBytes tally 
         record {
           size = length-set two z (bit preempts) ∙ size₂;
           entries = λ b hb. other (0 + b) (omega arith) (λ e. omega arith) (λ e. omega arith) (λ e. omega arith) ∙ h .entries b hb;
+          waits = λ b hb. other (256 + b) (omega arith) (λ e. omega arith) (λ e. omega arith) (λ e. omega arith) ∙ h .waits b hb;
           seen = seen-same tally all pair clock (s .turns) (h .seen);
           servers =
               record {
@@ -308,6 +291,7 @@ module _ (tapeBytes tally : List ℕ) (s : State) (h : Tallying tapeBytes tally 
         record {
           size = length-set tally k n ∙ h .size;
           entries = entries-set tally k n (s .view .entries) (omega arith) (h .entries);
+          waits = waits-set tally k n (s .records) (omega arith) (h .waits);
           seen = seen-set tally k n clock (s .turns) (omega arith) (h .seen);
           servers =
               record {
@@ -336,23 +320,13 @@ module _ (tapeBytes tally : List ℕ) (s : State) (h : Tallying tapeBytes tally 
     unfolding shorter Moves.wakeQl
     first-tallying =
         let l : List Transaction = drop 1 (Moves.qlOf s v) in
-        tallying-ext tapeBytes (shorter tally (v - 1)) (setQl (set (s .ql) (v - 1) l) s) (Moves.wakeQl Moves.firstOf v s) refl refl refl refl refl refl refl
-        (length-tallying l (getD tally (768 + (v - 1)) 0 - 1) (ap (λ (n : ℕ). n - 1) ql-length ∙ sym (length-drop 1 (Moves.qlOf s v))) there)
+        length-tallying l (getD tally (768 + (v - 1)) 0 - 1) (ap (λ (n : ℕ). n - 1) ql-length ∙ sym (length-drop 1 (Moves.qlOf s v))) there
 
     -- one more waits
     module _ (short : length (Moves.qlOf s v) ≤ 1024) where
       one-more : (edition : ℕ) (t : Transaction) → min (getD tally (768 + (v - 1)) 0 + 1) 18446744073709551615 ≡ length (Moves.lineUp edition t (Moves.qlOf s v))
       one-more edition t = omega (arith, ql-length, line-length edition t (Moves.qlOf s v))
 
-      pub queued-tallying : (edition : ℕ) (t : Transaction) → Tallying tapeBytes (longer tally (v - 1)) (waiting (Moves.toQl edition v) t s .state)
-      unfolding longer waiting Moves.toQl
-      queued-tallying edition t = go (t .returning)
-        where
-          u : Transaction
-          u = withSerial (Moves.fresh s) t
-
-          go : (b : Bool) → Tallying tapeBytes (longer tally (v - 1)) (cond {A = Bare} b (record { note = noNote; state = Moves.toQl edition v t s }) (record { note = waitsNote; state = Moves.toQl edition v u (setSerial (Moves.fresh s) s) }) .state)
-          go true = length-tallying (Moves.lineUp edition t (Moves.qlOf s v)) _ (one-more edition t) there
-          go false =
-              tallying-ext tapeBytes (longer tally (v - 1)) (setQl (set (s .ql) (v - 1) (Moves.lineUp edition u (Moves.qlOf s v))) s) (Moves.toQl edition v u (setSerial (Moves.fresh s) s)) refl refl refl refl refl refl refl
-              (length-tallying (Moves.lineUp edition u (Moves.qlOf s v)) _ (one-more edition u) there)
+      pub queued-tallying : (edition : ℕ) (t : Transaction) → Tallying tapeBytes (longer tally (v - 1)) (Moves.toQl edition v t s)
+      unfolding longer Moves.toQl
+      queued-tallying edition t = length-tallying (Moves.lineUp edition t (Moves.qlOf s v)) _ (one-more edition t) there

@@ -35,15 +35,15 @@ freeSome tables w tally x v units b =
 unfoldable pub askRelease : (units taken who number : ℕ) → ℕ
 askRelease units taken who number = cond (ltb units 1) 24 (cond (eqb taken 0) (cond (eqb who number) 0 27) 27)
 
-unfoldable pub release : List ℕ → List ℕ → List ℕ → Scalars → ℕ → Rows
-release tables w tally x at =
+unfoldable pub releaseRows : List ℕ → List ℕ → List ℕ → Scalars → ℕ → Rows
+releaseRows tables w tally x at =
     let v : ℕ = serverAt tables (at + 1) in
     let end : ℕ = askRelease (inUse tally v) (preempted tally v) (holder tally v) (read w numberField (x .moving)) in
     cond (eqb end 0) (freeOne tables w tally x v (inUse tally v - 1)) (rowsOf (stopped x end) w tally)
 
 -- "are b units in use? 24."
-unfoldable pub leave : List ℕ → List ℕ → List ℕ → Scalars → ℕ → Rows
-leave tables w tally x at =
+unfoldable pub leaveRows : List ℕ → List ℕ → List ℕ → Scalars → ℕ → Rows
+leaveRows tables w tally x at =
     let v : ℕ = serverAt tables (at + 1) in
     let b : ℕ = getD tables (at + 2) 0 in
     cond (ltb (inUse tally v) b) (rowsOf (stopped x 24) w tally) (freeSome tables w tally x v (inUse tally v - b) b)

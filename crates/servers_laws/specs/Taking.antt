@@ -31,8 +31,8 @@ takeUnits tables w tally x v b who preempts =
     cond (leb b (capacity tables v - inUse tally v)) (holdUnits w tally x v (inUse tally v + b) who (x .moving) preempts (capacity tables v)) (queueUp w tally x v (getD tables Layout.edition 0))
 
 -- document 02, item 6: "the number of its holder, written at SEIZE"
-unfoldable pub seize : List ℕ → List ℕ → List ℕ → Scalars → ℕ → Rows
-seize tables w tally x at = takeUnits tables w tally x (serverAt tables (at + 1)) 1 (read w numberField (x .moving)) 0
+unfoldable pub seizeRows : List ℕ → List ℕ → List ℕ → Scalars → ℕ → Rows
+seizeRows tables w tally x at = takeUnits tables w tally x (serverAt tables (at + 1)) 1 (read w numberField (x .moving)) 0
 
-unfoldable pub enter : List ℕ → List ℕ → List ℕ → Scalars → ℕ → Rows
-enter tables w tally x at = takeUnits tables w tally x (serverAt tables (at + 1)) (getD tables (at + 2) 0) 0 0
+unfoldable pub enterRows : List ℕ → List ℕ → List ℕ → Scalars → ℕ → Rows
+enterRows tables w tally x at = takeUnits tables w tally x (serverAt tables (at + 1)) (getD tables (at + 2) 0) 0 0

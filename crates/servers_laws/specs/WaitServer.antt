@@ -46,8 +46,8 @@ passOrBack tables w x at p =
 unfoldable pub waitWhile : List ℕ → List ℕ → Scalars → (at p : ℕ) → Bool → Moved
 waitWhile tables w x at p holds = cond holds (waitOn w x p (getD tables edition 0)) (passOrBack tables w x at p)
 
-unfoldable pub waitServer : List ℕ → List ℕ → List ℕ → Scalars → ℕ → Moved
-waitServer tables w tally x at =
+unfoldable pub waitServerRows : List ℕ → List ℕ → List ℕ → Scalars → ℕ → Moved
+waitServerRows tables w tally x at =
     let code : ℕ = getD tables (at + 1) 0 % codeCount in
     let v : ℕ = serverAt tables (at + 2) in
     waitWhile tables w x at (wels + (v * codeCount + code)) (statusOf code (inUse tally v) (capacity tables v))

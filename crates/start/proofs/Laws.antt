@@ -27,7 +27,7 @@ use Rattle.rows_laws.proofs.Sums.{sum-zero}
 use Rattle.rows_laws.proofs.Ordering.{shows-ext}
 use Rattle.rows_laws.proofs.Starting.{initial-shows, initial-loose}
 use Rattle.rows_laws.proofs.Population.{population}
-use Rattle.state.specs.Stands.{Rows, rowsOf, gathererRow, listsOf, Listing, Counting, Stands}
+use Rattle.state.specs.Stands.{Rows, rowsOf, gathererRow, listsIn, listsOf, Listing, Counting, Stands}
 use Rattle.state.proofs.StandsLaws.{stands-of}
 use Rattle.flow_laws.specs.Samples.{nextSample}
 use Rattle.flow_laws.specs.Sending.{arrives}
@@ -42,7 +42,7 @@ use Rattle.tables.proofs.BlockKinds.{Kinds, generating, taking, waiting, arrivi
 
 module _ (m : BlockModel) (tape : List (List ℕ)) where
   no-lists : (q : ℕ) → q < 770 → _≡_ {A = List Transaction} [] (listsOf (idle m tape) q)
-  unfolding listsOf idle those
+  unfolding listsIn idle those
   no-lists q hq = go (ltb q 64) (ltb q 448) (eqb q 448) (eqb q 449) (ltb q 706)
     where
       servers : ℕ
@@ -86,6 +86,7 @@ module _ (m : BlockModel) (tape : List (List ℕ)) where
         made = refl;
         ended = refl;
         turns = refl;
+        used = refl;
         end = refl;
       }
 
@@ -199,7 +200,7 @@ module _ (m : BlockModel) (tape : List (List ℕ)) (tapeBytes tables lists : Lis
           go [] e = rw (spent e) (h .stands)
           go (time ∷ left) e =
               subst (λ (rows : Rows). Stands tapeBytes rows none (Moves.arrival (time ∷ left) list p (suc b) s)) (sym (unspent time left e))
-              (arrives-stands tapeBytes (r .tally) s (h .stands .tallying) list (named .0 .0) there few time left e (r .work) (r .scalars) none (h .stands .listing) (h .stands .counting)
+              (arrives-stands s (h .stands .tallying) list (named .0 .0) there few e (r .scalars) (h .stands .listing) (h .stands .counting)
               (record { room = omega (arith, h .beginning .made, low); order = omega (arith, h .beginning .ended); serials = omega (arith, h .beginning .serials, low); numbers = omega (arith, h .beginning .made, low) })
               (h .beginning .given) p (suc b) (named .1)
               (omega (arith, h .beginning .clock, drawn-most tapeBytes (r .tally) (s .samples) (list - 1) (h .stands .tallying .samples) (h .stands .tallying .size) (omega (arith, named .0 .0, there)) few time left e)))
@@ -252,7 +253,7 @@ module _ (m : BlockModel) (tape : List (List ℕ)) (tapeBytes tables lists : Lis
     unfolding startScalars idle
     first =
         record {
-          stands = stands-of tapeBytes (startScalars (m .counter)) (initial w) (listsSet 16 lists tally) none (idle m tape) (idle-listing m tape w room) (idle-tallying m tape tapeBytes tables lists tally proper rep size empty) (idle-counting m tape proper);
+          stands = stands-of (startScalars (m .counter)) (idle-listing m tape w room) (idle-tallying m tape tapeBytes tables lists tally proper rep size empty) (idle-counting m tape proper);
           beginning = record { clock = refl; ended = refl; made = omega arith; serials = omega arith; samples = proper .tapes; given = tt };
         }
 

@@ -2,4 +2,3 @@ pub mod AtStart
 pub mod BlockSteps
 pub mod Laws
 pub mod Tally
-pub mod Untouched

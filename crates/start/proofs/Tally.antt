@@ -1,5 +1,5 @@
 -- The tally of the start: all 0, as it was, but where each list begins and how many times it has.
-use Prim.Native.Nat.{ℕ, zero, suc, _+_, _-_, _≤_, _<_}
+use Prim.Native.Nat.{ℕ, zero, suc, _+_, _≤_, _<_}
 use mathlib.Core.Path.{_≡_, refl, sym, ap, _∙_}
 use mathlib.Core.Bool.{false}
 use mathlib.Core.List.{List, [], _∷_, _++_, map}
@@ -7,7 +7,8 @@ use native.Mathlib.Omega.{arith}
 use native.Mathlib.Decide.{ℕ-discrete}
 use lib.ListN.{length, getD, set, replicate, length-set}
 use lib.Seq.{getD-set-same, getD-set-other}
-use Rattle.machine.specs.Lists.{bit}
+use Rattle.machine.specs.Lists.{bit, those}
+use Rattle.machine.specs.Claims.{count}
 use Rattle.machine.specs.Term.{Server, idleServer, Queue, emptyQueue}
 use Rattle.machine.specs.Block.{BlockModel}
 use Rattle.machine.specs.Run.{idle}
@@ -15,7 +16,7 @@ use Rattle.machine.proofs.decoding.Proper.{Proper}
 use Rattle.tables.specs.Layout as Layout
 use Rattle.tables.specs.Represents.{Represents}
 use Rattle.state.specs.Statistics.{sumNow, longestNow}
-use Rattle.state.specs.Stands.{Seen, Serving, Queueing, Sampling, Tallying}
+use Rattle.state.specs.Stands.{Seen, Serving, Queueing, Sampling, atBlock, Tallying}
 use Rattle.state.proofs.Held.{held-none}
 use Rattle.state.proofs.StatisticsLaws.{sum-current, longest-current, seen-now}
 use Rattle.start.specs.Start.{listSet, listsSet}
@@ -23,7 +24,7 @@ use Rattle.start.specs.Start.{listSet, listsSet}
 -- ---- Its numbers
 
 module _ (lists tally : List ℕ) where
-  pub lists-low : (n i : ℕ) → i < 928 → getD (listsSet n lists tally) i 0 ≡ getD tally i 0
+  lists-low : (n i : ℕ) → i < 928 → getD (listsSet n lists tally) i 0 ≡ getD tally i 0
   unfolding listsSet listSet
   lists-low zero i h = refl
   lists-low (suc n) i h =
@@ -160,11 +161,12 @@ module _ (m : BlockModel) (tape : List (List ℕ)) (tapeBytes tables lists tally
   start-size = lists-length lists tally size 16
 
   pub idle-tallying : Tallying tapeBytes (listsSet 16 lists tally) (idle m tape)
-  unfolding idle
+  unfolding idle atBlock count those
   idle-tallying =
       record {
         size = start-size;
         entries = λ b hb. zero-at (0 + b) (omega arith) ∙ sym (same-at (length (m .blocks)) b 0);
+        waits = λ b hb. zero-at (256 + b) (omega arith);
         seen = seen;
         servers = serving;
         queues = queueing;

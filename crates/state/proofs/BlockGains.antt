@@ -14,10 +14,10 @@ use Rattle.machine.specs.Limits.{maxLiving, maxTime}
 use Rattle.machine.specs.Transaction.{Transaction, Event, Gatherer, Interrupted, earlier}
 use Rattle.machine.specs.Lists.{insert, nth}
 use Rattle.machine.specs.Term.{Queue, emptyQueue, serverAt, queueAt, idleServer, free, compare}
-use Rattle.machine.specs.Block.{Code, Share, facility, storage, shareServer, shareUnits, shareHolder, Change, up, down, Block, generate, advance, terminate, takes, frees, waitServer, waitTerms, moves, assign, priority, split, counts, assemble, preempt, giveBack, BlockModel, status}
+use Rattle.machine.specs.Block.{Code, Share, facility, shareServer, shareUnits, shareHolder, Block, generate, advance, terminate, takes, frees, waitServer, waitTerms, moves, assign, priority, split, counts, assemble, preempt, giveBack, BlockModel, status}
 use Rattle.machine.specs.State.{State}
 use Rattle.machine.specs.Setters.{withSerial, setSerial, setMoving, setEnded, setGatherers}
-use Rattle.machine.specs.Moves.{moveTo, fresh, toRel, toFel, toQl, toWel, toWsl, wakeQl, wakeFirstWel, wakeWsl, setUse, setContent, timesLeft, arrival, copies, waitsFor, toGatherers, comes, released, interruptedAt, losersTo, interrupt, resume, setHolder}
+use Rattle.machine.specs.Moves.{moveTo, fresh, toRel, toFel, toQl, toWel, toWsl, wakeQl, wakeFirstWel, wakeWsl, setUse, setContent, timesLeft, arrival, copies, waitsFor, toGatherers, comes, released, interruptedAt, losersTo, interrupt, resume}
 use Rattle.machine.specs.Execute.{unless, living, askGenerate, question, checkWels, endsOne, delay, wakeFor, changed, gathers, gathering, takingUnits, preempting, givesBack}
 use Rattle.machine.specs.Turn.{wsScheme}
 use Rattle.machine.proofs.runs.Ahead.{Ahead, rising-insert, rising-without}

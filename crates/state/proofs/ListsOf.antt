@@ -17,7 +17,7 @@ use Rattle.machine.specs.Moves.{ofFacility, interruptedAt}
 use Rattle.rows_laws.specs.Layout.{wsl, rel}
 use Rattle.rows_laws.specs.Holds.{update}
 use Rattle.rows_laws.specs.Shows.{moved}
-use Rattle.state.specs.Stands.{gathererRow, interruptedRow, listsOf}
+use Rattle.state.specs.Stands.{gathererRow, interruptedRow, listsIn, listsOf}
 
 -- REL, the gatherers and the interrupted ones
 abbrev beyond : State → ℕ → List Transaction
@@ -29,31 +29,31 @@ above s q = cond (eqb q 449) (s .rel) (beyond s q)
 -- ---- What stands under a number
 
 pub lists-ql : (s : State) (i : ℕ) → i < 64 → listsOf s i ≡ getD (s .ql) i []
-unfolding listsOf
+unfolding listsIn
 lists-ql s i h = rw (lt-ltb i 64 h)
 
 pub lists-wel : (s : State) (i : ℕ) → i < 384 → listsOf s (64 + i) ≡ getD (s .wel) i []
-unfolding listsOf
+unfolding listsIn
 lists-wel s i h =
     let back : 64 + i - 64 ≡ i = omega arith in
     rw (le-ltb (64 + i) 64 (omega arith), lt-ltb (64 + i) 448 (omega arith), back)
 
 pub lists-wsl : (s : State) → listsOf s wsl ≡ s .wsl
-unfolding listsOf
+unfolding listsIn
 lists-wsl s = refl
 
 pub lists-rel : (s : State) → listsOf s rel ≡ s .rel
-unfolding listsOf
+unfolding listsIn
 lists-rel s = refl
 
 pub lists-gatherers : (s : State) (i : ℕ) → i < 256 → listsOf s (450 + i) ≡ map gathererRow (getD (s .gatherers) i [])
-unfolding listsOf
+unfolding listsIn
 lists-gatherers s i h =
     let back : 450 + i - 450 ≡ i = omega arith in
     rw (le-ltb (450 + i) 64 (omega arith), le-ltb (450 + i) 448 (omega arith), ne-eqb (450 + i) 448 (λ e. omega arith), ne-eqb (450 + i) 449 (λ e. omega arith), lt-ltb (450 + i) 706 (omega arith), back)
 
 pub lists-interrupted : (s : State) (i : ℕ) → i < 64 → listsOf s (706 + i) ≡ map interruptedRow (interruptedAt s (suc i))
-unfolding listsOf
+unfolding listsIn
 lists-interrupted s i h =
     let back : 706 + i - 706 ≡ i = omega arith in
     rw (le-ltb (706 + i) 64 (omega arith), le-ltb (706 + i) 448 (omega arith), ne-eqb (706 + i) 448 (λ e. omega arith), ne-eqb (706 + i) 449 (λ e. omega arith), le-ltb (706 + i) 706 (omega arith), back)
@@ -61,7 +61,7 @@ lists-interrupted s i h =
 -- ---- One list replaced
 
 pub lists-set-ql : (s : State) (i : ℕ) (l : List Transaction) → i < 64 → i < length (s .ql) → (q : ℕ) → update i l (listsOf s) q ≡ listsOf (setQl (set (s .ql) i l) s) q
-unfolding listsOf
+unfolding listsIn
 lists-set-ql s i l h len q = go (eqb q i) refl (ltb q 64) refl
   where
     go : (b : Bool) → eqb q i ≡ b → (c : Bool) → ltb q 64 ≡ c
@@ -73,7 +73,7 @@ lists-set-ql s i l h len q = go (eqb q i) refl (ltb q 64) refl
     go false e false f = refl
 
 pub lists-set-wel : (s : State) (i : ℕ) (l : List Transaction) → i < 384 → i < length (s .wel) → (q : ℕ) → update (64 + i) l (listsOf s) q ≡ listsOf (setWel (set (s .wel) i l) s) q
-unfolding listsOf
+unfolding listsIn
 lists-set-wel s i l h len q = go (eqb q (64 + i)) refl (ltb q 64) refl (ltb q 448) refl
   where
     go : (b : Bool) → eqb q (64 + i) ≡ b → (c : Bool) → ltb q 64 ≡ c → (d : Bool) → ltb q 448 ≡ d
@@ -90,7 +90,7 @@ lists-set-wel s i l h len q = go (eqb q (64 + i)) refl (ltb q 64) refl (ltb q 44
     go false e false f false g = refl
 
 pub lists-set-wsl : (s : State) (l : List Transaction) (q : ℕ) → update wsl l (listsOf s) q ≡ listsOf (setWsl l s) q
-unfolding listsOf
+unfolding listsIn
 lists-set-wsl s l q = go (eqb q 448) refl (ltb q 64) refl (ltb q 448) refl
   where
     go : (b : Bool) → eqb q 448 ≡ b → (c : Bool) → ltb q 64 ≡ c → (d : Bool) → ltb q 448 ≡ d
@@ -102,7 +102,7 @@ lists-set-wsl s l q = go (eqb q 448) refl (ltb q 64) refl (ltb q 448) refl
     go false e c f d g = refl
 
 pub lists-set-rel : (s : State) (l : List Transaction) (q : ℕ) → q < 770 → update rel l (listsOf s) q ≡ listsOf (setRel l s) q
-unfolding listsOf
+unfolding listsIn
 lists-set-rel s l q h = go (eqb q 449) refl (ltb q 64) refl (ltb q 448) refl (eqb q 448) refl
   where
     G : List Transaction
@@ -119,7 +119,7 @@ lists-set-rel s l q h = go (eqb q 449) refl (ltb q 64) refl (ltb q 448) refl (eq
 
 pub lists-set-gatherers : (s : State) (i : ℕ) (l : List Gatherer) → i < 256 → i < length (s .gatherers) → (q : ℕ)
     → update (450 + i) (map gathererRow l) (listsOf s) q ≡ listsOf (setGatherers (set (s .gatherers) i l) s) q
-unfolding listsOf
+unfolding listsIn
 lists-set-gatherers s i l h len q = go (eqb q (450 + i)) refl (ltb q 64) refl (ltb q 448) refl (eqb q 448) refl (eqb q 449) refl (ltb q 706) refl
   where
     I : List Transaction
@@ -152,7 +152,7 @@ lists-set-gatherers s i l h len q = go (eqb q (450 + i)) refl (ltb q 64) refl (l
 pub lists-set-interrupted : (s : State) (i : ℕ) (l : List Interrupted) (here : List Transaction) → i < 64 → map interruptedRow (those (ofFacility (suc i)) l) ≡ here
     → ((j : ℕ) → j ≢ i → those (ofFacility (suc j)) l ≡ interruptedAt s (suc j)) → (q : ℕ)
     → update (706 + i) here (listsOf s) q ≡ listsOf (setInterrupted l s) q
-unfolding listsOf
+unfolding listsIn
 lists-set-interrupted s i l here h is others q = go (eqb q (706 + i)) refl (ltb q 64) refl (ltb q 448) refl (eqb q 448) refl (eqb q 449) refl (ltb q 706) refl
   where
     G : List Transaction

@@ -1,21 +1,22 @@
 -- What the relation reads of a state, and single changes that it follows. Lists, tally and scalars each have their own laws, so
 -- that a block's law puts them together as its effect needs.
-use Prim.Native.Nat.{ℕ, _+_, _-_, _/_, _%_, _≤_, _<_}
-use mathlib.Core.Path.{_≡_, refl, sym, ap, _∙_, subst}
+use Prim.Native.Nat.{ℕ, suc, _+_, _%_, _≤_, _<_}
+use mathlib.Core.Path.{_≡_, refl, sym, ap, _∙_}
 use mathlib.Core.Logic.{_≢_}
 use mathlib.Core.List.{List}
 use mathlib.Core.Option.{Option, none, some}
 use native.Mathlib.Omega.{arith}
 use lib.ListN.{length, getD, set}
 use lib.Seq.{getD-set-other}
-use Rattle.machine.specs.Transaction.{Transaction, precedes, earlier}
+use Rattle.machine.specs.Transaction.{Transaction, Event, precedes, earlier}
 use Rattle.machine.specs.Lists.{insert}
 use Rattle.machine.specs.Moves.{lineUp}
 use Rattle.machine.specs.Term.{Server, Queue}
-use Rattle.machine.specs.State.{State}
+use Rattle.machine.specs.State.{State, Logged}
 use Rattle.machine.specs.Setters.{withStamp, setMoving}
 use Rattle.tables.specs.Layout as Layout
-use Rattle.rows_laws.specs.Layout.{wsl, fel, free}
+use Rattle.rows_laws.specs.Layout.{wsl, free}
+use Rattle.rows_laws.specs.Layout as Layout′
 use Rattle.rows_laws.specs.Cells.{write, setTime}
 use Rattle.rows_laws.specs.Order.{outranks, sooner}
 use Rattle.rows_laws.specs.Lists.{put}
@@ -34,99 +35,82 @@ use Rattle.rows_laws.proofs.Steady.{Steady, steady-transaction}
 use Rattle.rows_laws.proofs.Population.{free-kept}
 use Rattle.state.specs.declared.scalars.Scalars.{Scalars}
 use Rattle.state.proofs.StatisticsLaws.{SamePair, behind-same, sum-same, longest-same}
-use Rattle.state.specs.Stands.{Rows, rowsOf, listsOf, Moving, Listing, Seen, Serving, Queueing, Sampling, Tallying, Counting, Stands}
+use Rattle.state.specs.Stands.{Rows, rowsOf, Moving, Listed, Listing, Seen, Serving, Queueing, Sampling, atBlock, Tallying, Numbers, Counted, Counting, Stands}
 
 -- ---- Lists
 
--- a state with the same lists and as many living
-pub listing-ext : (w : List ℕ) (k : ℕ) (o : Option Transaction) (s s′ : State)
-    → ((q : ℕ) → q < 770 → listsOf s q ≡ listsOf s′ q) → s .fel ≡ s′ .fel → s′ .made - s′ .ended ≡ s .made - s .ended
-    → Listing w k o s → Listing w k o s′
-listing-ext w k o s s′ lists future living h =
-    record {
-      shows = shows-ext w (listsOf s) (listsOf s′) (s .fel) (s′ .fel) lists future (h .shows);
-      mover = h .mover;
-      spare = rw living (h .spare);
-    }
-
--- a field of the moving row is written
-pub listing-write : (w : List ℕ) (k : ℕ) (t : Transaction) (s : State) (f x : ℕ) (t′ : Transaction) → f < 11
-    → Listing w k (some t) s → transactionAt (write w f k x) k ≡ t′ → Listing (write w f k x) k (some t′) s
-listing-write w k t s f x t′ hf h e =
-    record {
-      shows =
-          record {
-            rows = h .shows .rows;
-            shown = write-shown w f k x hf (h .mover .0) (h .shows .rows) (listsOf s) (s .fel) (h .shows .shown);
-            ordered = h .shows .ordered;
-          };
-      mover = (write-loose w f k x hf k (h .mover .0 .row) (h .mover .0), e);
-      spare = h .spare;
-    }
-
--- the move time of the moving one is its stamp
-pub listing-time : (w : List ℕ) (k : ℕ) (t : Transaction) (s : State) (time : ℕ) → Listing w k (some t) s → Listing (setTime w k time) k (some (withStamp time t)) s
-unfolding setTime
-listing-time w k t s time h =
-    let room : 16384 ≤ length w = h .shows .shown .holds .room in
-    let low : List ℕ = write w 8 k (time % 4294967296) in
-    let g : Listing low k (some (transactionAt low k)) s = listing-write w k t s 8 (time % 4294967296) (transactionAt low k) (omega arith) h refl in
-    listing-write low k (transactionAt low k) s 9 (time / 4294967296) (withStamp time t) (omega arith) g
-    (write-stamp w k room (h .mover .0 .row) time ∙ ap (withStamp time) (h .mover .1))
-
-module _ (w : List ℕ) (k : ℕ) (t : Transaction) (s s′ : State) (h : Listing w k (some t) s) (living : s′ .made - s′ .ended ≡ s .made - s .ended) where
-  -- the moving row comes onto a list
-  pub listing-put : (p : ℕ) → wsl ≤ p → p < 770 → ((q : ℕ) → q < 770 → update p (insert precedes t (listsOf s p)) (listsOf s) q ≡ listsOf s′ q) → s .fel ≡ s′ .fel
-      → Listing (put w p k) 1024 none s′
-  listing-put p low hp lists future =
+module _ {w : List ℕ} {k : ℕ} {t : Transaction} {lists : ℕ → List Transaction} {fel : List Event} {living : ℕ} (h : Listed w k (some t) lists fel living) where
+  -- a field of the moving row is written
+  pub listing-write : (f x : ℕ) {t′ : Transaction} → f < 11 → transactionAt (write w f k x) k ≡ t′ → Listed (write w f k x) k (some t′) lists fel living
+  listing-write f x hf e =
       record {
         shows =
-            shows-ext (put w p k) (update p (insert precedes (transactionAt w k) (listsOf s p)) (listsOf s)) (listsOf s′) (s .fel) (s′ .fel)
-            (λ q hq. ap (λ (u : Transaction). update p (insert precedes u (listsOf s p)) (listsOf s) q) (h .mover .1) ∙ lists q hq)
-            future
-            (shows-put w (listsOf s) (s .fel) (h .shows) k (h .mover .0) p hp (line-sorted p (listsOf s p) low (h .shows .ordered .lists p hp)));
+            record {
+              rows = h .shows .rows;
+              shown = write-shown w f k x hf (h .mover .0) (h .shows .rows) lists fel (h .shows .shown);
+              ordered = h .shows .ordered;
+            };
+        mover = (write-loose w f k x hf k (h .mover .0 .row) (h .mover .0), e);
+        spare = h .spare;
+      }
+
+  -- the moving row comes onto a list
+  pub listing-put : {lists′ : ℕ → List Transaction} (p : ℕ) → wsl ≤ p → p < 770 → ((q : ℕ) → q < 770 → update p (insert precedes t (lists p)) lists q ≡ lists′ q)
+      → Listed (put w p k) 1024 none lists′ fel living
+  listing-put {lists′} p low hp same =
+      record {
+        shows =
+            shows-ext (put w p k) (update p (insert precedes (transactionAt w k) (lists p)) lists) lists′ fel fel
+            (λ q hq. ap (λ (u : Transaction). update p (insert precedes u (lists p)) lists q) (h .mover .1) ∙ same q hq)
+            refl
+            (shows-put w lists fel (h .shows) k (h .mover .0) p hp (line-sorted p (lists p) low (h .shows .ordered .lists p hp)));
         mover = refl;
-        spare =
-            rw (update-other p (insert (outranks w) k (h .shows .rows p)) (h .shows .rows) free (λ e. omega arith), living) (h .spare);
+        spare = rw (update-other p (insert (outranks w) k (h .shows .rows p)) (h .shows .rows) free (λ e. omega arith)) (h .spare);
       }
 
   -- the moving row comes onto a line of waiters
-  pub listing-line : (edition p : ℕ) → p < 770 → (edition ≡ 1 → Sorted precedes (listsOf s p)) → Sorted (orderOf p) (lineUp edition t (listsOf s p))
-      → ((q : ℕ) → q < 770 → update p (lineUp edition t (listsOf s p)) (listsOf s) q ≡ listsOf s′ q) → s .fel ≡ s′ .fel
-      → Listing (Lines.lineUp edition w p k) 1024 none s′
-  listing-line edition p hp sorted stays lists future =
+  pub listing-line : {lists′ : ℕ → List Transaction} (edition p : ℕ) → p < 770 → (edition ≡ 1 → Sorted precedes (lists p)) → Sorted (orderOf p) (lineUp edition t (lists p))
+      → ((q : ℕ) → q < 770 → update p (lineUp edition t (lists p)) lists q ≡ lists′ q)
+      → Listed (Lines.lineUp edition w p k) 1024 none lists′ fel living
+  listing-line {lists′} edition p hp sorted stays same =
       record {
         shows =
-            shows-ext (Lines.lineUp edition w p k) (update p (lineUp edition (transactionAt w k) (listsOf s p)) (listsOf s)) (listsOf s′) (s .fel) (s′ .fel)
-            (λ q hq. ap (λ (u : Transaction). update p (lineUp edition u (listsOf s p)) (listsOf s) q) (h .mover .1) ∙ lists q hq)
-            future
-            (shows-line w (listsOf s) (s .fel) (h .shows) k (h .mover .0) edition p hp sorted (rw (h .mover .1) stays));
+            shows-ext (Lines.lineUp edition w p k) (update p (lineUp edition (transactionAt w k) (lists p)) lists) lists′ fel fel
+            (λ q hq. ap (λ (u : Transaction). update p (lineUp edition u (lists p)) lists q) (h .mover .1) ∙ same q hq)
+            refl
+            (shows-line w lists fel (h .shows) k (h .mover .0) edition p hp sorted (rw (h .mover .1) stays));
         mover = refl;
-        spare =
-            rw (update-other p (lined edition w p k (h .shows .rows p)) (h .shows .rows) free (λ e. omega arith), living) (h .spare);
+        spare = rw (update-other p (lined edition w p k (h .shows .rows p)) (h .shows .rows) free (λ e. omega arith)) (h .spare);
       }
 
   -- the moving row comes onto the FEL
-  pub listing-schedule : Fresh t (s .fel) → ((q : ℕ) → q < 770 → listsOf s q ≡ listsOf s′ q) → insert earlier (eventAt w k) (s .fel) ≡ s′ .fel
-      → Listing (schedule w k) 1024 none s′
-  listing-schedule fresh lists future =
+  pub listing-schedule : {fel′ : List Event} → Fresh t fel → insert earlier (eventAt w k) fel ≡ fel′ → Listed (schedule w k) 1024 none lists fel′ living
+  listing-schedule {fel′} fresh future =
       record {
         shows =
-            shows-ext (schedule w k) (listsOf s) (listsOf s′) (insert earlier (eventAt w k) (s .fel)) (s′ .fel) lists future
-            (shows-schedule w (listsOf s) (s .fel) (h .shows) k (h .mover .0) (rw (h .mover .1) fresh));
+            shows-ext (schedule w k) lists lists (insert earlier (eventAt w k) fel) fel′ (λ q hq. refl) future
+            (shows-schedule w lists fel (h .shows) k (h .mover .0) (rw (h .mover .1) fresh));
         mover = refl;
-        spare =
-            rw (update-other fel (insert (sooner w) k (h .shows .rows fel)) (h .shows .rows) free (λ e. omega arith), living) (h .spare);
+        spare = rw (update-other Layout′.fel (insert (sooner w) k (h .shows .rows Layout′.fel)) (h .shows .rows) free (λ e. omega arith)) (h .spare);
       }
 
+-- the move time of the moving one is its stamp
+pub listing-time : {w : List ℕ} {k : ℕ} {t : Transaction} {lists : ℕ → List Transaction} {fel : List Event} {living : ℕ} → Listed w k (some t) lists fel living
+    → (time : ℕ) → Listed (setTime w k time) k (some (withStamp time t)) lists fel living
+unfolding setTime
+listing-time {w} {k} {t} {lists} {fel} {living} h time =
+    let low : List ℕ = write w 8 k (time % 4294967296) in
+    let g : Listed low k (some (transactionAt low k)) lists fel living = listing-write h 8 _ (omega arith) refl in
+    listing-write g 9 _ (omega arith) (write-stamp w k (h .shows .shown .holds .room) (h .mover .0 .row) time ∙ ap (withStamp time) (h .mover .1))
+
 -- rows move between lists, none of them moving or free
-pub listing-steady : (w w′ : List ℕ) (k : ℕ) (o : Option Transaction) (s s′ : State) → Shows w′ (listsOf s′) (s′ .fel) → Steady w w′ → s′ .made - s′ .ended ≡ s .made - s .ended
-    → Listing w k o s → Listing w′ k o s′
-listing-steady w w′ k o s s′ shows steady living h =
+pub listing-steady : {w w′ : List ℕ} {k : ℕ} {o : Option Transaction} {lists lists′ : ℕ → List Transaction} {fel fel′ : List Event} {living : ℕ} → Shows w′ lists′ fel′ → Steady w w′
+    → Listed w k o lists fel living → Listed w′ k o lists′ fel′ living
+listing-steady {w} {w′} {k} {o} shows steady h =
     record {
       shows = shows;
       mover = go o (h .mover);
-      spare = rw (living, free-kept w w′ (h .shows .rows) (shows .rows) (h .shows .shown .holds) (shows .shown .holds) steady) (h .spare);
+      spare = rw (free-kept w w′ (h .shows .rows) (shows .rows) (h .shows .shown .holds) (shows .shown .holds) steady) (h .spare);
     }
   where
     go : (o′ : Option Transaction) → Moving w k o′ → Moving w′ k o′
@@ -134,25 +118,6 @@ listing-steady w w′ k o s s′ shows steady living h =
     go (some t) e = (steady .loose k (e .0), steady-transaction w w′ k steady (e .0) ∙ e .1)
 
 -- ---- Tally
-
--- a state with the same entries, servers, lengths of QLs, queues and samples, at the same clock and turn
-pub tallying-ext : (tapeBytes tally : List ℕ) (s s′ : State)
-    → s .view .entries ≡ s′ .view .entries → s .view .servers ≡ s′ .view .servers → s .ql ≡ s′ .ql → s .view .queues ≡ s′ .view .queues → s .samples ≡ s′ .samples
-    → s .view .clock ≡ s′ .view .clock → s .turns ≡ s′ .turns
-    → Tallying tapeBytes tally s → Tallying tapeBytes tally s′
-tallying-ext tapeBytes tally s s′ e v l q p c n h =
-    record {
-      size = h .size;
-      entries = subst (λ (x : List ℕ). (b : ℕ) → b < 256 → getD tally (Layout.entries + b) 0 ≡ getD x b 0) e (h .entries);
-      seen = subst (λ (x : ℕ). Seen tally (s′ .view .clock) x) n (subst (λ (x : ℕ). Seen tally x (s .turns)) c (h .seen));
-      servers =
-          subst (λ (x : List Server). Serving tally (s′ .view .clock) x (s′ .ql)) v
-          (subst (λ (x : List (List Transaction)). Serving tally (s′ .view .clock) (s .view .servers) x) l
-          (subst (λ (x : ℕ). Serving tally x (s .view .servers) (s .ql)) c (h .servers)));
-      queues =
-          subst (λ (x : List Queue). Queueing tally (s′ .view .clock) x) q (subst (λ (x : ℕ). Queueing tally x (s .view .queues)) c (h .queues));
-      samples = subst (λ (x : List (List ℕ)). Sampling tapeBytes tally x) p (h .samples);
-    }
 
 -- a tally of the same cells
 module _ (tally after : List ℕ) (pair : (j : ℕ) → SamePair tally after j) where
@@ -189,6 +154,9 @@ module _ (tally : List ℕ) (i x : ℕ) where
 
   pub entries-set : (l : List ℕ) → 256 ≤ i → ((b : ℕ) → b < 256 → getD tally (Layout.entries + b) 0 ≡ getD l b 0) → (b : ℕ) → b < 256 → getD (set tally i x) (Layout.entries + b) 0 ≡ getD l b 0
   entries-set l h e b hb = other (Layout.entries + b) (λ z. omega arith) ∙ e b hb
+
+  pub waits-set : (l : List Logged) → 512 ≤ i → ((b : ℕ) → b < 256 → getD tally (Layout.waits + b) 0 ≡ atBlock 1 (suc b) l) → (b : ℕ) → b < 256 → getD (set tally i x) (Layout.waits + b) 0 ≡ atBlock 1 (suc b) l
+  waits-set l h e b hb = other (Layout.waits + b) (λ z. omega arith) ∙ e b hb
 
   pub pair-set : i < 1344 → (j : ℕ) → SamePair tally (set tally i x) j
   pair-set low j =
@@ -228,34 +196,32 @@ module _ (tally : List ℕ) (i x : ℕ) where
 
 -- ---- Scalars
 
-pub counting-ext : (x : Scalars) (s s′ : State)
-    → s .view .clock ≡ s′ .view .clock → s .counter ≡ s′ .counter → s .serial ≡ s′ .serial → s .made ≡ s′ .made → s .ended ≡ s′ .ended → s .turns ≡ s′ .turns → s .end ≡ s′ .end
-    → Counting x s → Counting x s′
-counting-ext x s s′ clock counter serial made ended turns end h =
+-- other numbers of serials, transactions made and ended
+abbrev renumbered : (serial made ended : ℕ) → Numbers → Numbers
+renumbered serial made ended a =
+    record { clock = a .clock; counter = a .counter; serial = serial; made = made; ended = ended; turns = a .turns; used = a .used; end = a .end }
+
+pub renumber : {a b : Numbers} → Counted a b → {serial made ended serial′ made′ ended′ : ℕ} → serial ≡ serial′ → made ≡ made′ → ended ≡ ended′
+    → Counted (renumbered serial made ended a) (renumbered serial′ made′ ended′ b)
+renumber h e f g =
     record {
-      clock = h .clock ∙ clock;
-      counter = h .counter ∙ counter;
-      serial = h .serial ∙ serial;
-      made = h .made ∙ made;
-      ended = h .ended ∙ ended;
-      turns = h .turns ∙ turns;
-      end = h .end ∙ end;
+      clock = h .clock;
+      counter = h .counter;
+      serial = e;
+      made = f;
+      ended = g;
+      turns = h .turns;
+      used = h .used;
+      end = h .end;
     }
 
 -- ---- All three
 
-pub stands-of : (tapeBytes : List ℕ) (x : Scalars) (w tally : List ℕ) (o : Option Transaction) (s : State)
+pub stands-of : {tapeBytes : List ℕ} (x : Scalars) {w tally : List ℕ} {o : Option Transaction} {s : State}
     → Listing w (x .moving) o s → Tallying tapeBytes tally s → Counting x s → Stands tapeBytes (rowsOf x w tally) o s
 unfolding rowsOf
-stands-of tapeBytes x w tally o s listing tallying counting =
-    record { listing = listing; tallying = tallying; counting = counting }
+stands-of x listing tallying counting = record { listing = listing; tallying = tallying; counting = counting }
 
 -- the relation does not read who moves in the state
 pub stands-moving : (tapeBytes : List ℕ) (r : Rows) (o p : Option Transaction) (s : State) → Stands tapeBytes r o s → Stands tapeBytes r o (setMoving p s)
-unfolding listsOf
-stands-moving tapeBytes r o p s h =
-    record {
-      listing = listing-ext (r .work) (r .scalars .moving) o s (setMoving p s) (λ q hq. refl) refl refl (h .listing);
-      tallying = tallying-ext tapeBytes (r .tally) s (setMoving p s) refl refl refl refl refl refl refl (h .tallying);
-      counting = counting-ext (r .scalars) s (setMoving p s) refl refl refl refl refl refl refl (h .counting);
-    }
+stands-moving tapeBytes r o p s h = record { listing = h .listing; tallying = h .tallying; counting = h .counting }

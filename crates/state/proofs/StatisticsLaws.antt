@@ -18,7 +18,7 @@ use Rattle.tables.specs.Layout as Layout
 use Rattle.state.specs.Ticks.{countEnd, product}
 use Rattle.state.specs.Statistics.{ticksSince, behind, sumNow, longestNow, see, storeServer, updateServer, storeQueue, updateQueue}
 use Rattle.state.proofs.Products.{product-is}
-use Rattle.state.specs.Stands.{Seen, Serving, Queueing, Sampling, Tallying}
+use Rattle.state.specs.Stands.{Seen, Serving, Queueing, Tallying}
 
 -- ---- What they read
 
@@ -267,15 +267,6 @@ module _ (t : List ℕ) (v clock : ℕ) where
   below : (j : ℕ) → j < 1344 → getD t₄ j 0 ≡ getD t₃ j 0
   below j h = see-other t₃ v clock j (λ e. omega arith) (λ e. omega arith)
 
-  -- entries and waits are as they were
-  pub server-low : (j : ℕ) → j < 576 → getD (updateServer t v clock) j 0 ≡ getD t j 0
-  unfolding updateServer storeServer
-  server-low j h = go (behind t v)
-    where
-      go : (b : Bool) → getD (cond b t₄ t) j 0 ≡ getD t j 0
-      go true = below j (omega arith) ∙ other₃ j (λ e. omega arith) (λ e. omega arith) (λ e. omega arith)
-      go false = refl
-
   module _ (size : length t ≡ 1537) (hv : v < 64) where
     size₁ : length t₁ ≡ 1537
     size₁ = length-set t (576 + v) u₀ ∙ size
@@ -355,14 +346,6 @@ module _ (t : List ℕ) (q clock : ℕ) where
 
   qbelow : (j : ℕ) → j < 1344 → getD q₃ j 0 ≡ getD q₂ j 0
   qbelow j h = see-other q₂ (64 + q) clock j (λ e. omega arith) (λ e. omega arith)
-
-  pub queue-low : (j : ℕ) → j < 864 → getD (updateQueue t q clock) j 0 ≡ getD t j 0
-  unfolding updateQueue storeQueue
-  queue-low j h = go (behind t (64 + q))
-    where
-      go : (b : Bool) → getD (cond b q₃ t) j 0 ≡ getD t j 0
-      go true = qbelow j (omega arith) ∙ qother j (λ e. omega arith) (λ e. omega arith)
-      go false = refl
 
   module _ (size : length t ≡ 1537) (hq : q < 32) where
     qsize₁ : length q₁ ≡ 1537
@@ -474,6 +457,7 @@ module _ (tapeBytes t : List ℕ) (s : State) (h : Tallying tapeBytes t s) (few 
         record {
           size = u .pairs .size ∙ h .size;
           entries = λ b hb. low (0 + b) (omega arith) ∙ h .entries b hb;
+          waits = λ b hb. low (256 + b) (omega arith) ∙ h .waits b hb;
           seen = seen-updated t t′ v clock (u .pairs) (s .turns) (h .seen);
           servers = server-sums;
           queues = queue-sums;
@@ -544,6 +528,7 @@ module _ (tapeBytes t : List ℕ) (s : State) (h : Tallying tapeBytes t s) (few 
         record {
           size = w .pairs .size ∙ h .size;
           entries = λ b hb. below′ (0 + b) (omega arith) ∙ h .entries b hb;
+          waits = λ b hb. below′ (256 + b) (omega arith) ∙ h .waits b hb;
           seen = seen-updated t q′ (64 + q) clock (w .pairs) (s .turns) (h .seen);
           servers = servers-kept;
           queues = queues-kept;

@@ -20,7 +20,8 @@ use Rattle.machine.specs.Claims.{Each, count, bit, upTo, InModel}
 use Rattle.machine.proofs.decoding.Proper.{Names}
 use Rattle.machine.proofs.lists.Sums.{count-cons, upTo-cong, upTo-zero, upTo-one}
 use Rattle.trace.specs.Whole.{AllInRanges}
-use Rattle.state.proofs.Written.{atBlock, at-block-cons, Traced, inOrder, in-order-cons}
+use Rattle.state.specs.Stands.{atBlock}
+use Rattle.state.proofs.Written.{at-block-cons, Traced, inOrder, in-order-cons}
 
 -- ---- Sums over the numbers from 1 on
 

@@ -30,11 +30,8 @@ module _ (w : List ℕ) (k : ℕ) (o : Option Transaction) (s : State) (h : List
       → ((q : ℕ) → q < 770 → moved p l′ r′ (listsOf s) q ≡ listsOf s′ q) → s .fel ≡ s′ .fel → s′ .made - s′ .ended ≡ s .made - s .ended
       → Listing w′ k o s′
   wakes-listing w′ p l r l′ r′ s′ e f wakes lists future living =
-      listing-steady w w′ k o s s′
-      (shows-ext w′ (moved p l r (listsOf s)) (listsOf s′) (s .fel) (s′ .fel) (λ q hq. rw (e, f) (lists q hq)) future (wakes .shows))
-      (wakes .steady)
-      living
-      h
+      rw living
+      (listing-steady (shows-ext w′ (moved p l r (listsOf s)) (listsOf s′) (s .fel) (s′ .fel) (λ q hq. rw (e, f) (lists q hq)) future (wakes .shows)) (wakes .steady) h)
 
   module _ (v : ℕ) (low : v - 1 < 64) (there : v - 1 < length (s .ql)) where
     ql-lists : (l r : List Transaction) (q : ℕ) → q < 770 → moved (v - 1) l r (listsOf s) q ≡ listsOf (setRel r (setQl (set (s .ql) (v - 1) l) s)) q

@@ -31,6 +31,7 @@ use Rattle.machine.proofs.lists.Sums.{count-cons}
 use Rattle.trace.proofs.Writer.{Ranges, in-ranges, record-room}
 use Rattle.state.specs.Bare.{Note, enteredNote, waitsNote, noNote, logged, countEntry, noteAs}
 use Rattle.state.specs.Sane.{Sane}
+use Rattle.state.specs.Stands.{atBlock}
 use Rattle.state.proofs.Gains.{Gains}
 use Rattle.state.proofs.TurnGains.{Turned, unnoted, noted, turned}
 use Rattle.state.proofs.Measured.{Took}
@@ -38,10 +39,6 @@ use Rattle.state.proofs.Sanity.{takenOf, Sure, sure-turn, sure-start, s
 use Rattle.state.proofs.Numbered.{numbered-taken}
 
 -- ---- Definition
-
--- how many records of an outcome stand at a block
-unfoldable pub atBlock : (outcome block : ℕ) → List Logged → ℕ
-atBlock outcome block l = count (λ r. eqb (r .entry .outcome) outcome && eqb (r .entry .block) block) l
 
 pub record Traced (m : BlockModel) (room : ℕ) (s : State) : Type 0 where
   pub rules : m .rules ≡ inForce

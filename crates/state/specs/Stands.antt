@@ -1,19 +1,21 @@
 -- When scalars, work buffer and tally stand for a state of the machine. Every block kind's law is stated over this relation.
--- The trace and the counts of records stand apart (crate turn, specs/Writes): a block's record is noted in one place.
+-- Each part is said of those parts of the state that it reads, so that it is the same for states that differ elsewhere. The trace stands
+-- apart (crate turn, specs/Writes).
 use Prim.Native.Nat.{ℕ, suc, _+_, _-_, _%_, _<_, _≤_}
 use mathlib.Core.Path.{_≡_}
-use mathlib.Core.Bool.{false, cond}
+use mathlib.Core.Bool.{false, cond, _&&_}
 use mathlib.Core.List.{List, [], map}
 use mathlib.Core.Option.{Option, none, some}
 use lib.Dec.{ltb, eqb}
 use lib.ListN.{length, getD}
 use Rattle.machine.specs.Limits.{maxQueues, maxLists, maxBlocks}
-use Rattle.machine.specs.Transaction.{Transaction, Gatherer, Interrupted}
-use Rattle.machine.specs.Lists.{bit, nth, upTo}
+use Rattle.machine.specs.Transaction.{Transaction, Event, Gatherer, Interrupted}
+use Rattle.machine.specs.Lists.{bit, nth, those, upTo}
 use Rattle.machine.specs.Setters.{withNext, withStamp}
-use Rattle.machine.specs.Term.{Server, Queue, idleServer, emptyQueue}
-use Rattle.machine.specs.State.{State}
-use Rattle.machine.specs.Moves.{interruptedAt}
+use Rattle.machine.specs.Term.{Server, Queue, View, idleServer, emptyQueue}
+use Rattle.machine.specs.State.{State, Logged}
+use Rattle.machine.specs.Moves.{ofFacility}
+use Rattle.machine.specs.Claims.{count}
 use Rattle.tables.specs.Layout as Layout
 use Rattle.tables.specs.Represents.{TimesAt}
 use Rattle.rows_laws.specs.Holds.{transactionAt}
@@ -41,14 +43,17 @@ abbrev pub interruptedRow : Interrupted → Transaction
 interruptedRow i = withStamp (i .remaining) (i .who)
 
 -- list p of the work buffer: QL 0..63, WEL 64..447, WSL 448, REL 449, gatherers 450..705, interrupted ones 706..769
-unfoldable pub listsOf : State → ℕ → List Transaction
-listsOf s p =
-    cond (ltb p wels) (getD (s .ql) p [])
-    (cond (ltb p wsl) (getD (s .wel) (p - wels) [])
-    (cond (eqb p wsl) (s .wsl)
-    (cond (eqb p rel) (s .rel)
-    (cond (ltb p interrupted) (map gathererRow (getD (s .gatherers) (p - gatherers) []))
-    (map interruptedRow (interruptedAt s (suc (p - interrupted))))))))
+unfoldable pub listsIn : (ql wel : List (List Transaction)) (wsl rel : List Transaction) → List (List Gatherer) → List Interrupted → ℕ → List Transaction
+listsIn ql wel waiting ready gather stopped p =
+    cond (ltb p wels) (getD ql p [])
+    (cond (ltb p wsl) (getD wel (p - wels) [])
+    (cond (eqb p wsl) waiting
+    (cond (eqb p rel) ready
+    (cond (ltb p interrupted) (map gathererRow (getD gather (p - gatherers) []))
+    (map interruptedRow (those (ofFacility (suc (p - interrupted))) stopped))))))
+
+abbrev pub listsOf : State → ℕ → List Transaction
+listsOf s = listsIn (s .ql) (s .wel) (s .wsl) (s .rel) (s .gatherers) (s .interrupted)
 
 -- row k is the transaction that moves, on no list; 1024 for none
 abbrev pub Moving : List ℕ → ℕ → Option Transaction → Type 0
@@ -57,11 +62,14 @@ Moving work k (some t) = Loose work k × (transactionAt work k ≡ t)
 
 -- ---- Lists
 
-pub record Listing (work : List ℕ) (moving : ℕ) (o : Option Transaction) (s : State) : Type 0 where
-  pub shows : Shows work (listsOf s) (s .fel)
+pub record Listed (work : List ℕ) (moving : ℕ) (o : Option Transaction) (lists : ℕ → List Transaction) (fel : List Event) (living : ℕ) : Type 0 where
+  pub shows : Shows work lists fel
   pub mover : Moving work moving o
   -- a free row for each transaction that may still live
-  pub spare : length (shows .rows free) + (s .made - s .ended) ≡ rowCount
+  pub spare : length (shows .rows free) + living ≡ rowCount
+
+abbrev pub Listing : List ℕ → ℕ → Option Transaction → State → Type 0
+Listing work moving o s = Listed work moving o (listsOf s) (s .fel) (s .made - s .ended)
 
 -- ---- Tally
 
@@ -101,24 +109,69 @@ pub record Sampling (tapeBytes tally : List ℕ) (samples : List (List ℕ)) : T
   pub begins : (l : ℕ) → l < length samples → TimesAt tapeBytes (getD tally (Layout.listAt + l) 0) (getD samples l [])
   pub left : (l : ℕ) → l < maxLists → getD tally (Layout.listLeft + l) 0 ≡ length (getD samples l [])
 
-pub record Tallying (tapeBytes tally : List ℕ) (s : State) : Type 0 where
+-- how many records of an outcome stand at a block
+unfoldable pub atBlock : (outcome block : ℕ) → List Logged → ℕ
+atBlock outcome block l = count (λ r. eqb (r .entry .outcome) outcome && eqb (r .entry .block) block) l
+
+pub record Tallied (tapeBytes tally : List ℕ) (view : View) (ql : List (List Transaction)) (times : List (List ℕ)) (turns : ℕ) (records : List Logged) : Type 0 where
   pub size : length tally ≡ Layout.tallySize
-  pub entries : (b : ℕ) → b < maxBlocks → getD tally (Layout.entries + b) 0 ≡ getD (s .view .entries) b 0
-  pub seen : Seen tally (s .view .clock) (s .turns)
-  pub servers : Serving tally (s .view .clock) (s .view .servers) (s .ql)
-  pub queues : Queueing tally (s .view .clock) (s .view .queues)
-  pub samples : Sampling tapeBytes tally (s .samples)
+  pub entries : (b : ℕ) → b < maxBlocks → getD tally (Layout.entries + b) 0 ≡ getD (view .entries) b 0
+  -- of the blocks from 1 on, records of outcome 1
+  pub waits : (b : ℕ) → b < maxBlocks → getD tally (Layout.waits + b) 0 ≡ atBlock 1 (suc b) records
+  pub seen : Seen tally (view .clock) turns
+  pub servers : Serving tally (view .clock) (view .servers) ql
+  pub queues : Queueing tally (view .clock) (view .queues)
+  pub samples : Sampling tapeBytes tally times
+
+abbrev pub Tallying : List ℕ → List ℕ → State → Type 0
+Tallying tapeBytes tally s = Tallied tapeBytes tally (s .view) (s .ql) (s .samples) (s .turns) (s .records)
 
 -- ---- Scalars
 
-pub record Counting (x : Scalars) (s : State) : Type 0 where
-  pub clock : x .clock ≡ s .view .clock
-  pub counter : x .counter ≡ s .counter
-  pub serial : x .serial ≡ s .serial
-  pub made : x .made ≡ s .made
-  pub ended : x .ended ≡ s .ended
-  pub turns : x .turns ≡ s .turns
-  pub end : x .end ≡ s .end
+-- the numbers that scalars and states both hold
+pub record Numbers : Type 0 where
+  pub clock : ℕ
+  pub counter : ℕ
+  pub serial : ℕ
+  pub made : ℕ
+  pub ended : ℕ
+  pub turns : ℕ
+  pub used : ℕ
+  pub end : ℕ
+
+pub record Counted (a b : Numbers) : Type 0 where
+  pub clock : a .clock ≡ b .clock
+  pub counter : a .counter ≡ b .counter
+  pub serial : a .serial ≡ b .serial
+  pub made : a .made ≡ b .made
+  pub ended : a .ended ≡ b .ended
+  pub turns : a .turns ≡ b .turns
+  pub used : a .used ≡ b .used
+  pub end : a .end ≡ b .end
+
+abbrev pub Counting : Scalars → State → Type 0
+Counting x s =
+    Counted
+    (record {
+      clock = x .clock;
+      counter = x .counter;
+      serial = x .serial;
+      made = x .made;
+      ended = x .ended;
+      turns = x .turns;
+      used = x .used;
+      end = x .end;
+    })
+    (record {
+      clock = s .view .clock;
+      counter = s .counter;
+      serial = s .serial;
+      made = s .made;
+      ended = s .ended;
+      turns = s .turns;
+      used = s .written;
+      end = s .end;
+    })
 
 -- ---- All three
 

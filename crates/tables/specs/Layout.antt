@@ -64,15 +64,12 @@ namesOwn = 2882
 abbrev pub tablesSize : ℕ
 tablesSize = 2890
 
--- the tables are whole; they have the program; they have the row of the block at `at`
+-- the tables are whole; they have the program
 abbrev pub Tables : List ℕ → Type 0
 Tables tables = tablesSize ≤ length tables
 
 abbrev pub Program : List ℕ → Type 0
 Program tables = programSize ≤ length tables
-
-abbrev pub BlockAt : List ℕ → ℕ → Type 0
-BlockAt tables at = at + blockWidth ≤ length tables
 
 -- ---- tally
 

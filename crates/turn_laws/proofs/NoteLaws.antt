@@ -4,7 +4,6 @@ use mathlib.Core.Path.{_≡_, refl, sym, ap, _∙_, subst}
 use mathlib.Core.Logic.{_≢_}
 use mathlib.Core.Bool.{Bool, true, false, cond, _&&_}
 use mathlib.Core.List.{List, [], _∷_, _++_, append-assoc}
-use mathlib.Core.Option.{some}
 use native.Mathlib.Omega.{arith}
 use native.Mathlib.Decide.{ℕ-discrete}
 use borrow.Author.Tests.{le-leb, le-ltb, eq-eqb, ne-eqb}
@@ -14,28 +13,28 @@ use lib.Seq.{take-at, drop-at, drop-drop, getD-set-same, getD-set-other}
 use Rattle.machine.specs.Rules.{inForce}
 use Rattle.machine.specs.Transaction.{Transaction}
 use Rattle.machine.specs.Trace.{recordBytes, traceBytes, inRanges, written, writeRecord}
-use Rattle.machine.specs.Block.{BlockModel}
+use Rattle.machine.specs.Block.{Block, BlockModel}
 use Rattle.machine.specs.State.{State, Logged}
 use Rattle.machine.specs.Moves.{recordOf}
 use Rattle.machine.specs.Outcome.{recordsOf}
 use Rattle.machine.specs.Lists.{those}
 use Rattle.machine.specs.Claims.{count, bit}
-use Rattle.machine.proofs.decoding.Proper.{Proper, Names}
-use Rattle.machine.proofs.runs.Placed.{Placed}
-use Rattle.machine.proofs.runs.Everybody.{Maybe}
+use Rattle.machine.specs.Setters.{setEntries, setWritten}
 use Rattle.machine.proofs.runs.Shape.{each-getD}
 use Rattle.tables.specs.Layout as Layout
 use Rattle.trace.specs.Answers.{entry}
 use Rattle.trace.proofs.Writer.{in-ranges, record-room, written-record}
 use Rattle.state.specs.declared.scalars.Scalars.{Scalars}
 use Rattle.state.specs.ScalarSetters.{putUsed}
-use Rattle.state.specs.Sane.{Sane}
-use Rattle.state.specs.Stands.{Rows, rowsOf, listsOf, Tallying, Stands, noteOf}
+use Rattle.state.specs.Stands.{Rows, rowsOf, atBlock, Tallied, Tallying, Counting, Stands, noteOf}
 use Rattle.state.specs.Bare.{Note, logged, countEntry, noteAs}
-use Rattle.state.proofs.StandsLaws.{entries-set, seen-set, serving-set, queueing-set, listing-ext}
-use Rattle.state.proofs.Written.{atBlock, inOrder, bytes-cons, at-block-cons}
+use Rattle.state.proofs.StandsLaws.{entries-set, seen-set, serving-set, queueing-set}
+use Rattle.state.proofs.Written.{inOrder, bytes-cons, at-block-cons}
+use Rattle.moves.specs.Before.{Before}
+use Rattle.moves.proofs.BeforeLaws.{placed, numbered}
 use Rattle.turn_laws.specs.Note.{Bytes, bytes, appended, appendRecord, cellOf, countRecord, Noted, noted, noteRecord}
 use Rattle.turn_laws.specs.Writes.{Writes}
+use Rattle.turn_laws.proofs.Unwritten.{Unwritten}
 
 -- ---- Bytes
 
@@ -59,22 +58,22 @@ module _ (tapeBytes tally : List ℕ) (i n : ℕ) (low : i < 512) where
   above : (j : ℕ) → 512 ≤ j → j ≢ i
   above j h e = omega arith
 
-  counts-tallying : (s s′ : State) → ((b : ℕ) → b < 256 → getD (set tally i n) (Layout.entries + b) 0 ≡ getD (s′ .view .entries) b 0)
-      → s .view .servers ≡ s′ .view .servers → s .ql ≡ s′ .ql → s .view .queues ≡ s′ .view .queues → s .samples ≡ s′ .samples
-      → s .view .clock ≡ s′ .view .clock → s .turns ≡ s′ .turns → Tallying tapeBytes tally s → Tallying tapeBytes (set tally i n) s′
-  counts-tallying s s′ entries v l q p c z h =
+  counts-tallying : (s : State) (entries : List ℕ) (records : List Logged) → Tallying tapeBytes tally s
+      → ((b : ℕ) → b < 256 → getD (set tally i n) (Layout.entries + b) 0 ≡ getD entries b 0) → ((b : ℕ) → b < 256 → getD (set tally i n) (Layout.waits + b) 0 ≡ atBlock 1 (suc b) records)
+      → Tallied tapeBytes (set tally i n) (setEntries entries (s .view)) (s .ql) (s .samples) (s .turns) records
+  counts-tallying s entries records h entered waiting =
       record {
         size = length-set tally i n ∙ h .size;
-        entries = entries;
-        seen = rw (← c, ← z) (seen-set tally i n (s .view .clock) (s .turns) (omega arith) (h .seen));
-        servers = rw (← c, ← v, ← l) (serving-set tally i n (s .view .clock) (s .view .servers) (s .ql) (omega arith) (λ j a b. above j (omega arith)) (h .servers));
-        queues = rw (← c, ← q) (queueing-set tally i n (s .view .clock) (s .view .queues) (omega arith) (λ j a b. above j (omega arith)) (h .queues));
+        entries = entered;
+        waits = waiting;
+        seen = seen-set tally i n (s .view .clock) (s .turns) (omega arith) (h .seen);
+        servers = serving-set tally i n (s .view .clock) (s .view .servers) (s .ql) (omega arith) (λ j a b. above j (omega arith)) (h .servers);
+        queues = queueing-set tally i n (s .view .clock) (s .view .queues) (omega arith) (λ j a b. above j (omega arith)) (h .queues);
         samples =
-            rw (← p)
-            (record {
+            record {
               begins = λ k hk. rw (getD-set-other tally i (928 + k) n 0 (above (928 + k) (omega arith))) (h .samples .begins k hk);
               left = λ k hk. getD-set-other tally i (944 + k) n 0 (above (944 + k) (omega arith)) ∙ h .samples .left k hk;
-            });
+            };
       }
 
 -- no more records than there are
@@ -92,23 +91,19 @@ at-block-few o b (x ∷ l) =
 -- scalars, tally and trace buffer beside a work buffer stand for a state and its records
 pub record Follows (tapeBytes before work : List ℕ) (n : Noted) (s : State) : Type 0 where
   pub stands : Stands tapeBytes (rowsOf (n .scalars) work (n .tally)) (s .moving) s
-  pub writes : Writes before (n .scalars) (n .tally) (n .trace) s
+  pub writes : Writes before (n .trace) s
 
-module _ {m : BlockModel} {tape : List (List ℕ)} {tapeBytes before : List ℕ} (proper : Proper m tape)
+module _ {m : BlockModel} {tape : List (List ℕ)} {tapeBytes tables lists w tally : List ℕ} {y : Scalars} {t : Transaction} {s : State} {block : Block} {before : List ℕ}
     -- t stood before its block in s, with room for a record
-    (t : Transaction) (s : State) (sane : Sane m s) (moving : s .moving ≡ some t) (named : Names (s .made) (t .number)) (room : s .written + 12 ≤ length before)
+    (h : Before m tape tapeBytes tables lists w tally y t s block) (room : s .written + 12 ≤ length before) (few : length (s .records) ≤ s .turns)
     -- what the block left, which wrote nothing yet
-    (later : State) (r : Rows) (trace : List ℕ) (stands : Stands tapeBytes r (later .moving) later) (writes : Writes before (r .scalars) (r .tally) trace later)
-    (clock : later .view .clock ≡ s .view .clock) (entries : later .view .entries ≡ s .view .entries) (records : later .records ≡ s .records) (wrote : later .written ≡ s .written)
+    (later : State) (same : Unwritten s later) (r : Rows) {trace : List ℕ} (stands : Stands tapeBytes r (later .moving) later) (writes : Writes before trace later)
   where
     abbrev x : Scalars
     x = r .scalars
 
-    placed : Names (length (m .blocks)) (t .next)
-    placed = subst (Maybe (Placed m)) moving (sane .placed .moving) .0
-
     below : t .next - 1 < 256
-    below = omega (arith, placed .0, placed .1, proper .blocks .1)
+    below = omega (arith, placed h .0 .0, placed h .0 .1, h .proper .blocks .1)
 
     -- ---- Its record
 
@@ -121,17 +116,17 @@ module _ {m : BlockModel} {tape : List (List ℕ)} {tapeBytes before : List ℕ}
       fits =
           in-ranges (recordOf o t s)
           (record {
-            clock = sane .timely .clock;
-            first = named .0;
-            transaction = omega (arith, named .1, sane .made, sane .serials);
-            one = placed .0;
-            block = omega (arith, placed .1, proper .blocks .1);
+            clock = h .sane .timely .clock;
+            first = numbered h .0;
+            transaction = omega (arith, numbered h .1, h .sane .made, h .sane .serials);
+            one = placed h .0 .0;
+            block = omega (arith, placed h .0 .1, h .proper .blocks .1);
             outcome = le;
           })
 
       same-record : entry (x .clock) (t .number) (t .next) o ≡ recordOf o t s
       unfolding recordOf
-      same-record = ap (λ (n : ℕ). entry n (t .number) (t .next) o) (stands .counting .clock ∙ clock)
+      same-record = ap (λ (n : ℕ). entry n (t .number) (t .next) o) (stands .counting .clock ∙ same .clock)
 
       abbrev T : List ℕ
       T = traceBytes (recordsOf later)
@@ -143,20 +138,20 @@ module _ {m : BlockModel} {tape : List (List ℕ)} {tapeBytes before : List ℕ}
       long = ap length (writes .bytes) ∙ length-append T (drop (later .written) before) ∙ ap (λ (n : ℕ). length T + n) (length-drop (later .written) before)
 
       inside : x .used ≤ length trace
-      inside = omega (arith, long, writes .used, writes .written)
+      inside = omega (arith, long, stands .counting .used, writes .written)
 
       written-is : writeRecord inForce (length (drop (x .used) trace)) (entry (x .clock) (t .number) (t .next) o) ≡ written B
       written-is =
           ap (writeRecord inForce (length (drop (x .used) trace))) same-record
           ∙ sym (written-record (recordOf o t s) (drop (x .used) trace) fits
-          (omega (arith, record-room (recordOf o t s) fits, length-drop (x .used) trace, long, writes .used, writes .written, wrote)))
+          (omega (arith, record-room (recordOf o t s) fits, length-drop (x .used) trace, long, stands .counting .used, writes .written, same .written)))
 
       appends : appendRecord trace (x .used) (x .clock) (t .number) (t .next) o ≡ bytes (later .written + length B) ((T ++ B) ++ drop (later .written + length B) before)
       appends =
           append-is trace (x .used) (x .clock) (t .number) (t .next) o B inside written-is
           ∙ ap (λ (l : List ℕ). bytes (x .used + length B) (take (x .used) l ++ (B ++ drop (length B) (drop (x .used) l)))) (writes .bytes)
-          ∙ ap (bytes (x .used + length B)) (behind T B before (x .used) (later .written) (sym (writes .written)) (writes .used))
-          ∙ ap (λ (n : ℕ). bytes (n + length B) ((T ++ B) ++ drop (later .written + length B) before)) (writes .used)
+          ∙ ap (bytes (x .used + length B)) (behind T B before (x .used) (later .written) (sym (writes .written)) (stands .counting .used))
+          ∙ ap (λ (n : ℕ). bytes (n + length B) ((T ++ B) ++ drop (later .written + length B) before)) (stands .counting .used)
 
       grown : traceBytes (inOrder (entered ∷ later .records)) ≡ T ++ B
       unfolding recordsOf
@@ -172,10 +167,10 @@ module _ {m : BlockModel} {tape : List (List ℕ)} {tapeBytes before : List ℕ}
 
     entry-low : getD (later .view .entries) cell 0 ≤ 100000001
     entry-low =
-        omega (arith, each-getD (λ (n : ℕ). n ≤ s .turns) (s .view .entries) cell 0 (sane .entries) (omega arith), ap (λ (l : List ℕ). getD l cell 0) entries, sane .turns)
+        omega (arith, each-getD (λ (n : ℕ). n ≤ s .turns) (s .view .entries) cell 0 (h .sane .entries) (omega arith), ap (λ (l : List ℕ). getD l cell 0) (same .entries), h .sane .turns)
 
     entry-there : cell < length (later .view .entries)
-    entry-there = omega (arith, ap length entries, sane .shape .entry-length, placed .0, placed .1)
+    entry-there = omega (arith, ap length (same .entries), h .sane .shape .entry-length, placed h .0 .0, placed h .0 .1)
 
     abbrev counted : ℕ
     counted = plus (getD (r .tally) cell 0)
@@ -211,36 +206,42 @@ module _ {m : BlockModel} {tape : List (List ℕ)} {tapeBytes before : List ℕ}
     one-low : 1 ≤ 1
     one-low = omega arith
 
+    -- so many bytes are written then
+    counting : (n : ℕ) → Counting (putUsed n x) (setWritten n later)
+    counting n =
+        let c = stands .counting in
+        record {
+          clock = c .clock;
+          counter = c .counter;
+          serial = c .serial;
+          made = c .made;
+          ended = c .ended;
+          turns = c .turns;
+          used = refl;
+          end = c .end;
+        }
+
+    now-writes : (o : ℕ) (le : o ≤ 1) → Writes before (recorded o le [] .trace) (logged o t s later)
+    unfolding logged noted recordsOf
+    now-writes o le =
+        record {
+          bytes = ap (λ (l : List ℕ). l ++ drop (later .written + length (B o le)) before) (sym (grown o le));
+          written = omega (arith, ap length (grown o le), length-append (T o le) (B o le), writes .written);
+        }
+
     enters : Follows tapeBytes before (r .work) (recorded 0 zero-low (set (r .tally) cell counted)) (logged 0 t s (countEntry (t .next) later))
-    unfolding logged countEntry noted rowsOf listsOf recordsOf
+    unfolding logged countEntry noted rowsOf recordsOf
     enters =
-        let after : State = logged 0 t s (countEntry (t .next) later) in
         record {
           stands =
               record {
-                listing = listing-ext (r .work) (x .moving) (later .moving) later after (λ q hq. refl) refl refl (stands .listing);
-                tallying = counts-tallying tapeBytes (r .tally) cell counted (omega (arith, below)) later after entries-counted refl refl refl refl refl refl (stands .tallying);
-                counting =
-                    record {
-                      clock = stands .counting .clock;
-                      counter = stands .counting .counter;
-                      serial = stands .counting .serial;
-                      made = stands .counting .made;
-                      ended = stands .counting .ended;
-                      turns = stands .counting .turns;
-                      end = stands .counting .end;
-                    };
+                listing = stands .listing;
+                tallying =
+                    counts-tallying tapeBytes (r .tally) cell counted (omega (arith, below)) later _ _ (stands .tallying) entries-counted
+                    (λ b hb. getD-set-other (r .tally) cell (Layout.waits + b) counted 0 (λ e. omega (arith, below)) ∙ stands .tallying .waits b hb ∙ sym (not-waits b));
+                counting = counting (later .written + length (B 0 zero-low));
               };
-          writes =
-              record {
-                bytes = ap (λ (l : List ℕ). l ++ drop (later .written + length (B 0 zero-low)) before) (sym (grown 0 zero-low));
-                written = omega (arith, ap length (grown 0 zero-low), length-append (T 0 zero-low) (B 0 zero-low), writes .written);
-                used = refl;
-                waits = λ b hb.
-                    getD-set-other (r .tally) cell (Layout.waits + b) counted 0 (λ e. omega (arith, below))
-                    ∙ writes .waits b hb
-                    ∙ sym (not-waits b);
-              };
+          writes = record { bytes = now-writes 0 zero-low .bytes; written = now-writes 0 zero-low .written };
         }
       where
         not-waits : (b : ℕ) → atBlock 1 (suc b) (entered 0 zero-low ∷ later .records) ≡ atBlock 1 (suc b) (later .records)
@@ -248,103 +249,87 @@ module _ {m : BlockModel} {tape : List (List ℕ)} {tapeBytes before : List ℕ}
 
     -- ---- Outcome 1
 
-    module _ (few : length (s .records) ≤ s .turns) where
-      abbrev waiting : ℕ
-      waiting = Layout.waits + cell
+    abbrev waiting : ℕ
+    waiting = Layout.waits + cell
 
-      abbrev begun : ℕ
-      begun = plus (getD (r .tally) waiting 0)
+    abbrev begun : ℕ
+    begun = plus (getD (r .tally) waiting 0)
 
-      begun-is : begun ≡ suc (atBlock 1 (suc cell) (later .records))
-      begun-is =
-          omega (arith, writes .waits cell below, at-block-few 1 (suc cell) (later .records), ap length records, few, sane .turns)
+    begun-is : begun ≡ suc (atBlock 1 (suc cell) (later .records))
+    begun-is =
+        omega (arith, stands .tallying .waits cell below, at-block-few 1 (suc cell) (later .records), ap length (same .records), few, h .sane .turns)
 
-      at-own : suc cell ≡ t .next
-      at-own = omega (arith, placed .0)
+    at-own : suc cell ≡ t .next
+    at-own = omega (arith, placed h .0)
 
-      one-more : (b : ℕ) → b < 256 → Dec (b ≡ cell) → getD (set (r .tally) waiting begun) (Layout.waits + b) 0 ≡ atBlock 1 (suc b) (entered 1 one-low ∷ later .records)
-      one-more b hb (yes e) =
-          ap (λ (j : ℕ). getD (set (r .tally) waiting begun) (Layout.waits + j) 0) e
-          ∙ getD-set-same (r .tally) waiting begun 0 (omega (arith, stands .tallying .size, below))
-          ∙ begun-is
-          ∙ ap (λ (j : ℕ). suc (atBlock 1 (suc j) (later .records))) (sym e)
-          ∙ sym (at-block-cons 1 (suc b) (entered 1 one-low) (later .records) ∙ own)
-        where
-          own : bit (eqb (recordOf 1 t s .outcome) 1 && eqb (recordOf 1 t s .block) (suc b)) + atBlock 1 (suc b) (later .records) ≡ suc (atBlock 1 (suc b) (later .records))
-          own = unfold recordOf in rw (eq-eqb (t .next) (suc b) (omega (arith, at-own))) (omega arith)
-      one-more b hb (no d) =
-          getD-set-other (r .tally) waiting (Layout.waits + b) begun 0 (λ e. d (omega arith))
-          ∙ writes .waits b hb
-          ∙ sym (at-block-cons 1 (suc b) (entered 1 one-low) (later .records) ∙ other)
-        where
-          other : bit (eqb (recordOf 1 t s .outcome) 1 && eqb (recordOf 1 t s .block) (suc b)) + atBlock 1 (suc b) (later .records) ≡ atBlock 1 (suc b) (later .records)
-          other = unfold recordOf in rw (ne-eqb (t .next) (suc b) (λ e. d (omega (arith, at-own)))) (omega arith)
+    one-more : (b : ℕ) → b < 256 → Dec (b ≡ cell) → getD (set (r .tally) waiting begun) (Layout.waits + b) 0 ≡ atBlock 1 (suc b) (entered 1 one-low ∷ later .records)
+    one-more b hb (yes e) =
+        ap (λ (j : ℕ). getD (set (r .tally) waiting begun) (Layout.waits + j) 0) e
+        ∙ getD-set-same (r .tally) waiting begun 0 (omega (arith, stands .tallying .size, below))
+        ∙ begun-is
+        ∙ ap (λ (j : ℕ). suc (atBlock 1 (suc j) (later .records))) (sym e)
+        ∙ sym (at-block-cons 1 (suc b) (entered 1 one-low) (later .records) ∙ own)
+      where
+        own : bit (eqb (recordOf 1 t s .outcome) 1 && eqb (recordOf 1 t s .block) (suc b)) + atBlock 1 (suc b) (later .records) ≡ suc (atBlock 1 (suc b) (later .records))
+        own = unfold recordOf in rw (eq-eqb (t .next) (suc b) (omega (arith, at-own))) (omega arith)
+    one-more b hb (no d) =
+        getD-set-other (r .tally) waiting (Layout.waits + b) begun 0 (λ e. d (omega arith))
+        ∙ stands .tallying .waits b hb
+        ∙ sym (at-block-cons 1 (suc b) (entered 1 one-low) (later .records) ∙ other)
+      where
+        other : bit (eqb (recordOf 1 t s .outcome) 1 && eqb (recordOf 1 t s .block) (suc b)) + atBlock 1 (suc b) (later .records) ≡ atBlock 1 (suc b) (later .records)
+        other = unfold recordOf in rw (ne-eqb (t .next) (suc b) (λ e. d (omega (arith, at-own)))) (omega arith)
 
-      waits : Follows tapeBytes before (r .work) (recorded 1 one-low (set (r .tally) waiting begun)) (logged 1 t s later)
-      unfolding logged noted rowsOf listsOf recordsOf
-      waits =
-          let after : State = logged 1 t s later in
-          record {
-            stands =
-                record {
-                  listing = listing-ext (r .work) (x .moving) (later .moving) later after (λ q hq. refl) refl refl (stands .listing);
-                  tallying =
-                      counts-tallying tapeBytes (r .tally) waiting begun (omega (arith, below)) later after (entries-set (r .tally) waiting begun (later .view .entries) (omega arith) (stands .tallying .entries)) refl refl refl refl refl refl (stands .tallying);
-                  counting =
-                      record {
-                        clock = stands .counting .clock;
-                        counter = stands .counting .counter;
-                        serial = stands .counting .serial;
-                        made = stands .counting .made;
-                        ended = stands .counting .ended;
-                        turns = stands .counting .turns;
-                        end = stands .counting .end;
-                      };
-                };
-            writes =
-                record {
-                  bytes = ap (λ (l : List ℕ). l ++ drop (later .written + length (B 1 one-low)) before) (sym (grown 1 one-low));
-                  written = omega (arith, ap length (grown 1 one-low), length-append (T 1 one-low) (B 1 one-low), writes .written);
-                  used = refl;
-                  waits = λ b hb. one-more b hb (ℕ-discrete b cell);
-                };
-          }
+    waits : Follows tapeBytes before (r .work) (recorded 1 one-low (set (r .tally) waiting begun)) (logged 1 t s later)
+    unfolding logged noted rowsOf recordsOf
+    waits =
+        record {
+          stands =
+              record {
+                listing = stands .listing;
+                tallying =
+                    counts-tallying tapeBytes (r .tally) waiting begun (omega (arith, below)) later _ _ (stands .tallying)
+                    (entries-set (r .tally) waiting begun (later .view .entries) (omega arith) (stands .tallying .entries)) (λ b hb. one-more b hb (ℕ-discrete b cell));
+                counting = counting (later .written + length (B 1 one-low));
+              };
+          writes = now-writes 1 one-low;
+        }
 
-      -- ---- By the note
+    -- ---- By the note
 
-      -- what the scalars' note does
-      abbrev by-note : ℕ → Noted
-      by-note n =
-          let b : Bytes = appendRecord trace (x .used) (x .clock) (t .number) (t .next) n in
-          cond (ltb n 2) (noted (putUsed (b .used) x) (countRecord (r .tally) (t .next) n) (b .trace)) (noted x (r .tally) trace)
+    -- what the scalars' note does
+    abbrev by-note : ℕ → Noted
+    by-note n =
+        let b : Bytes = appendRecord trace (x .used) (x .clock) (t .number) (t .next) n in
+        cond (ltb n 2) (noted (putUsed (b .used) x) (countRecord (r .tally) (t .next) n) (b .trace)) (noted x (r .tally) trace)
 
-      note-0 : by-note 0 ≡ recorded 0 zero-low (set (r .tally) cell counted)
-      unfolding bytes countRecord cellOf
-      note-0 = ap (λ (b : Bytes). noted (putUsed (b .used) x) (countRecord (r .tally) (t .next) 0) (b .trace)) (appends 0 zero-low)
+    note-0 : by-note 0 ≡ recorded 0 zero-low (set (r .tally) cell counted)
+    unfolding bytes countRecord cellOf
+    note-0 = ap (λ (b : Bytes). noted (putUsed (b .used) x) (countRecord (r .tally) (t .next) 0) (b .trace)) (appends 0 zero-low)
 
-      note-1 : by-note 1 ≡ recorded 1 one-low (set (r .tally) waiting begun)
-      unfolding bytes countRecord cellOf
-      note-1 = ap (λ (b : Bytes). noted (putUsed (b .used) x) (countRecord (r .tally) (t .next) 1) (b .trace)) (appends 1 one-low)
+    note-1 : by-note 1 ≡ recorded 1 one-low (set (r .tally) waiting begun)
+    unfolding bytes countRecord cellOf
+    note-1 = ap (λ (b : Bytes). noted (putUsed (b .used) x) (countRecord (r .tally) (t .next) 1) (b .trace)) (appends 1 one-low)
 
-      nothing : Follows tapeBytes before (r .work) (noted x (r .tally) trace) later
-      unfolding noted rowsOf
-      nothing =
-          record {
-            stands = record { listing = stands .listing; tallying = stands .tallying; counting = stands .counting };
-            writes = record { bytes = writes .bytes; written = writes .written; used = writes .used; waits = writes .waits };
-          }
+    nothing : Follows tapeBytes before (r .work) (noted x (r .tally) trace) later
+    unfolding noted rowsOf
+    nothing =
+        record {
+          stands = record { listing = stands .listing; tallying = stands .tallying; counting = stands .counting };
+          writes = writes;
+        }
 
-      noted-by : (n : ℕ) → Follows tapeBytes before (r .work) (by-note n) (noteAs (noteOf n) t s later)
-      unfolding noteAs noteOf
-      noted-by zero = subst (λ (a : Noted). Follows tapeBytes before (r .work) a (logged 0 t s (countEntry (t .next) later))) (sym note-0) enters
-      noted-by (suc zero) = subst (λ (a : Noted). Follows tapeBytes before (r .work) a (logged 1 t s later)) (sym note-1) waits
-      noted-by (suc (suc n)) =
-          rw (ne-eqb (suc (suc n)) 0 (λ e. omega arith), ne-eqb (suc (suc n)) 1 (λ e. omega arith)) (subst (λ (a : Noted). Follows tapeBytes before (r .work) a later) (sym more) nothing)
-        where
-          more : by-note (suc (suc n)) ≡ noted x (r .tally) trace
-          more = rw (le-ltb (suc (suc n)) 2 (omega arith))
+    noted-by : (n : ℕ) → Follows tapeBytes before (r .work) (by-note n) (noteAs (noteOf n) t s later)
+    unfolding noteAs noteOf
+    noted-by zero = subst (λ (a : Noted). Follows tapeBytes before (r .work) a (logged 0 t s (countEntry (t .next) later))) (sym note-0) enters
+    noted-by (suc zero) = subst (λ (a : Noted). Follows tapeBytes before (r .work) a (logged 1 t s later)) (sym note-1) waits
+    noted-by (suc (suc n)) =
+        rw (ne-eqb (suc (suc n)) 0 (λ e. omega arith), ne-eqb (suc (suc n)) 1 (λ e. omega arith)) (subst (λ (a : Noted). Follows tapeBytes before (r .work) a later) (sym more) nothing)
+      where
+        more : by-note (suc (suc n)) ≡ noted x (r .tally) trace
+        more = rw (le-ltb (suc (suc n)) 2 (omega arith))
 
-      -- the note of a block, in tally and trace
-      pub note-follows : (n : Note) → noteOf (x .note) ≡ n → Follows tapeBytes before (r .work) (noteRecord (r .tally) trace x (t .number) (t .next)) (noteAs n t s later)
-      unfolding noteRecord
-      note-follows n e = subst (λ (k : Note). Follows tapeBytes before (r .work) (by-note (x .note)) (noteAs k t s later)) e (noted-by (x .note))
+    -- the note of a block, in tally and trace
+    pub note-follows : (n : Note) → noteOf (x .note) ≡ n → Follows tapeBytes before (r .work) (noteRecord (r .tally) trace x (t .number) (t .next)) (noteAs n t s later)
+    unfolding noteRecord
+    note-follows n e = subst (λ (k : Note). Follows tapeBytes before (r .work) (by-note (x .note)) (noteAs k t s later)) e (noted-by (x .note))

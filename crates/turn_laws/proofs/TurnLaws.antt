@@ -1,5 +1,5 @@
 -- A turn over scalars, buffers and trace is the machine's turn.
-use Prim.Native.Nat.{ℕ, suc, _+_, _-_, _*_, _≤_, _<_}
+use Prim.Native.Nat.{ℕ, _+_, _-_, _*_, _≤_, _<_}
 use mathlib.Core.Path.{_≡_, refl, sym, ap, _∙_, subst}
 use mathlib.Core.Bool.{Bool, true, false, cond, not, true≢false}
 use mathlib.Core.List.{List, _++_}
@@ -8,7 +8,6 @@ use native.Mathlib.Omega.{arith}
 use borrow.Author.Tests.{lt-ltb, le-ltb, eqb-true, not-false}
 use lib.Dec.{ltb, eqb}
 use lib.ListN.{length, getD, drop}
-use lib.Seq.{getD-set-other}
 use Rattle.machine.specs.Transaction.{Transaction}
 use Rattle.machine.specs.Trace.{Record, traceBytes}
 use Rattle.machine.specs.Block.{Block, BlockModel, blockAt}
@@ -17,7 +16,7 @@ use Rattle.machine.specs.Outcome.{recordsOf}
 use Rattle.machine.specs.Moves.{wakeWsl}
 use Rattle.machine.specs.Execute.{question}
 use Rattle.machine.specs.Turn as Machine
-use Rattle.machine.proofs.decoding.Proper.{Proper, Names}
+use Rattle.machine.proofs.decoding.Proper.{Proper}
 use Rattle.machine.proofs.runs.Placed.{Placed}
 use Rattle.machine.proofs.runs.Everybody.{Maybe}
 use Rattle.machine.proofs.runs.RunLaws.{Taken}
@@ -25,29 +24,26 @@ use Rattle.machine.specs.Watched.{Thing, theClock, entry}
 use Rattle.machine.proofs.nobody_able.StillWaiting.{MoverSpares, scheme-unread}
 use Rattle.tables.specs.Layout as Layout
 use Rattle.tables.specs.Represents.{Represents, headerOf}
-use Rattle.rows_laws.specs.Layout.{rel, fel}
 use Rattle.rows_laws.specs.Cells.{read}
-use Rattle.rows_laws.specs.Lists.{first}
 use Rattle.terms.specs.Nested.{Nested}
 use Rattle.state.specs.declared.scalars.Scalars.{Scalars}
 use Rattle.state.specs.Sane.{Sane}
 use Rattle.state.specs.Stands.{Rows, rowsOf, Stands, Done}
-use Rattle.state.specs.Bare.{Bare, bareAnswer, noteAs}
+use Rattle.state.specs.Bare.{Bare, noteAs}
 use Rattle.state.proofs.Noted.{noted-answer}
 use Rattle.state.proofs.Gains.{Gains}
 use Rattle.state.proofs.BlockGains.{gains-wsScheme}
 use Rattle.state.proofs.Measured.{Took}
 use Rattle.state.proofs.Sanity.{takenOf, Sure, taken-took, sane-taken, sure-turn}
-use Rattle.state.proofs.Numbered.{numbered-taken}
-use Rattle.state.proofs.Written.{atBlock, inOrder}
+use Rattle.state.proofs.Written.{inOrder}
+use Rattle.moves.specs.Before.{bareBlock, Before}
+use Rattle.moves.proofs.BeforeLaws.{inside}
 use Rattle.moves.proofs.MotionLaws.{next-read, number-read}
-use Rattle.clock.specs.Taking.{take, takeReady, counted, nextEvents, moveClock, countMove, firstTime}
+use Rattle.clock.specs.Taking.{take}
 use Rattle.clock.proofs.TakingLaws.{take-stands}
-use Rattle.clock.proofs.Unread.{take-used}
 use Rattle.decisions_laws.proofs.SchemeLaws.{scheme-stands, scheme-low}
 use Rattle.blocks.specs.Execute.{execute}
-use Rattle.blocks.proofs.Apart.{Apart}
-use Rattle.blocks.proofs.ExecuteLaws.{execute-apart, execute-done}
+use Rattle.blocks.proofs.ExecuteLaws.{execute-done}
 use Rattle.turn_laws.specs.Note.{noteRecord}
 use Rattle.turn_laws.specs.Writes.{Writes}
 use Rattle.turn_laws.specs.Turn.{Traced, traced, withNote, act, actMoving, clockAsks, asks, schemeIf, withScheme, afterTaking, turn}
@@ -57,47 +53,20 @@ use Rattle.turn_laws.proofs.Unwritten.{Unwritten, unwritten}
 
 -- ---- Where no record is written
 
-abbrev SameWaits : List ℕ → List ℕ → Type 0
-SameWaits tally tally′ = (i : ℕ) → 256 ≤ i → i < 512 → getD tally′ i 0 ≡ getD tally i 0
-
-writes-like : (before trace : List ℕ) (x x′ : Scalars) (tally tally′ : List ℕ) (s s′ : State) → x′ .used ≡ x .used → SameWaits tally tally′ → s′ .records ≡ s .records → s′ .written ≡ s .written
-    → Writes before x tally trace s → Writes before x′ tally′ trace s′
+writes-like : {before trace : List ℕ} {s s′ : State} → s′ .records ≡ s .records → s′ .written ≡ s .written → Writes before trace s → Writes before trace s′
 unfolding recordsOf
-writes-like before trace x x′ tally tally′ s s′ used waits records written h =
+writes-like {before} {s = s} {s′ = s′} records written h =
     let same : recordsOf s ≡ recordsOf s′ = ap (λ (l : List Logged). inOrder l) (sym records) in
     record {
       bytes = h .bytes ∙ ap (λ (l : List Record). traceBytes l ++ drop (s .written) before) same ∙ ap (λ (n : ℕ). traceBytes (recordsOf s′) ++ drop n before) (sym written);
       written = written ∙ h .written ∙ ap (λ (l : List Record). length (traceBytes l)) same;
-      used = used ∙ h .used ∙ sym written;
-      waits = λ b hb. waits (Layout.waits + b) (omega arith) (omega arith) ∙ h .waits b hb ∙ ap (atBlock 1 (suc b)) (sym records);
     }
-
--- ---- The taking
-
-module _ (w tally : List ℕ) (x : Scalars) where
-  events-waits : SameWaits tally (nextEvents w tally x .tally)
-  unfolding nextEvents moveClock countMove rowsOf
-  events-waits = go (ltb (first w fel) 1024) (ltb (x .serial) 4000000000)
-    where
-      go : (a b : Bool) → SameWaits tally (cond {A = Rows} a (cond b (moveClock w tally x (firstTime w)) (rowsOf x w tally)) (rowsOf x w tally) .tally)
-      go true true = λ i low high. getD-set-other tally Layout.clockMoves i _ 0 (λ e. omega arith)
-      go true false = λ i low high. refl
-      go false b = λ i low high. refl
-
-take-waits : (w tally : List ℕ) (x : Scalars) → SameWaits tally (take w tally x .tally)
-unfolding take takeReady rowsOf
-take-waits w tally x = go (ltb (x .moving) 1024) (ltb (first w rel) 1024)
-  where
-    go : (a b : Bool) → SameWaits tally (cond {A = Rows} a (rowsOf (counted x) w tally) (takeReady (cond b (rowsOf (counted x) w tally) (nextEvents w tally (counted x)))) .tally)
-    go true b = λ i low high. refl
-    go false true = λ i low high. refl
-    go false false = events-waits w tally (counted x)
 
 -- ---- The block and its record
 
 module _ {m : BlockModel} {tape : List (List ℕ)} {tapeBytes tables lists before : List ℕ} (proper : Proper m tape) (rep : Represents m tape tapeBytes tables lists) (nested : Nested m)
-    (s : State) (sane : Sane m s) (named : (t : Transaction) → s .moving ≡ some t → Names (s .made) (t .number)) (room : s .written + 12 ≤ length before) (few : length (s .records) ≤ s .turns)
-    (r : Rows) (trace : List ℕ) (writes : Writes before (r .scalars) (r .tally) trace s) where
+    (s : State) (sane : Sane m s) (room : s .written + 12 ≤ length before) (few : length (s .records) ≤ s .turns)
+    (r : Rows) (trace : List ℕ) (writes : Writes before trace s) where
   abbrev w : List ℕ
   w = r .work
 
@@ -118,23 +87,32 @@ module _ {m : BlockModel} {tape : List (List ℕ)} {tapeBytes tables lists befor
     b = blockAt m (t .next)
 
     abbrev left : Bare
-    left = bareAnswer (question m b t s) m b t s
+    left = bareBlock m b t s
+
+    stood : Before m tape tapeBytes tables lists w tally x t s b
+    stood =
+        record {
+          proper = proper;
+          rep = rep;
+          nested = nested;
+          sane = sane;
+          moving = moving;
+          is = refl;
+          listing = stands .listing;
+          tallying = stands .tallying;
+          counting = stands .counting;
+        }
 
     done : Done tapeBytes after left
-    done = execute-done proper rep nested s sane r t stands moving b refl
+    done = execute-done b stood
 
     untouched : Unwritten s (left .state)
     untouched = unwritten m b t s (proper .block (t .next))
 
-    later-writes : Writes before (after .scalars) (after .tally) trace (left .state)
-    later-writes =
-        let apart : Apart x tally after = execute-apart proper rep nested s sane r t stands moving b refl in
-        writes-like before trace x (after .scalars) tally (after .tally) s (left .state) (apart .used) (apart .waits) (untouched .records) (untouched .written) writes
-
     note : Follows tapeBytes before (after .work) (noteRecord (after .tally) trace (after .scalars) (t .number) (t .next)) (noteAs (left .note) t s (left .state))
     note =
-        note-follows proper t s sane moving (named t moving) room (left .state) after trace (done .stands) later-writes
-        (untouched .clock) (untouched .entries) (untouched .records) (untouched .written) few (left .note) (done .note)
+        note-follows stood room few (left .state) untouched after (done .stands) (writes-like (untouched .records) (untouched .written) writes)
+        (left .note) (done .note)
 
     noted-runs : Runs tapeBytes before (withNote after trace (t .number) (t .next)) (Machine.execute (some t) m s)
     unfolding withNote traced Machine.execute rowsOf noteRecord
@@ -143,11 +121,11 @@ module _ {m : BlockModel} {tape : List (List ℕ)} {tapeBytes tables lists befor
         (record { stands = note .stands; writes = note .writes })
 
     below : t .next - 1 < 256
-    below = omega (arith, subst (Maybe (Placed m)) moving (sane .placed .moving) .0 .1, proper .blocks .1)
+    below = omega (arith, inside stood, proper .blocks .1)
 
     acting : Runs tapeBytes before (actMoving tables values (m .facilities) tapeBytes w tally trace x) (Machine.execute (some t) m s)
     unfolding actMoving act
-    acting = rw (lt-ltb (x .moving) 1024 (stands .listing .mover .0 .row), number-read w x t s (stands .listing), next-read w x t s (stands .listing), lt-ltb (t .next - 1) 256 below) noted-runs
+    acting = rw (lt-ltb (x .moving) 1024 (stands .listing .mover .0 .row), number-read (stands .listing), next-read (stands .listing), lt-ltb (t .next - 1) 256 below) noted-runs
 
   nobody : s .moving ≡ none → Stands tapeBytes r none s → Runs tapeBytes before (actMoving tables values (m .facilities) tapeBytes w tally trace x) s
   unfolding actMoving
@@ -159,7 +137,7 @@ module _ {m : BlockModel} {tape : List (List ℕ)} {tapeBytes tables lists befor
           unfold traced rowsOf in
           record {
             stands = subst (λ (o : Option Transaction). Stands tapeBytes (rowsOf x w tally) o s) (sym e) (record { listing = stands .listing; tallying = stands .tallying; counting = stands .counting });
-            writes = record { bytes = writes .bytes; written = writes .written; used = writes .used; waits = writes .waits };
+            writes = writes;
           }
 
   pub act-runs : (o : Option Transaction) → s .moving ≡ o → Stands tapeBytes r o s → Runs tapeBytes before (actMoving tables values (m .facilities) tapeBytes w tally trace x) (Machine.execute o m s)
@@ -186,13 +164,6 @@ module _ {m : BlockModel} {tape : List (List ℕ)} {tapeBytes tables lists befor
   took : Took (s .turns) s (Machine.taking (s .moving) s)
   took = taken-took proper s sure (taken .no-end) (taken .serials) (taken .turns-left)
 
-  writes₁ : Writes before (r₁ .scalars) (r₁ .tally) (a .trace) y
-  writes₁ =
-      writes-like before (a .trace) (r .scalars) (r₁ .scalars) (r .tally) (r₁ .tally) s y
-      (take-used (r .work) (r .tally) (r .scalars))
-      (take-waits (r .work) (r .tally) (r .scalars))
-      (took .records) (took .written) (runs .writes)
-
   -- after the block and its note
   abbrev acted : Traced
   acted = actMoving tables (length (m .values)) (m .facilities) tapeBytes (r₁ .work) (r₁ .tally) (a .trace) (r₁ .scalars)
@@ -202,8 +173,7 @@ module _ {m : BlockModel} {tape : List (List ℕ)} {tapeBytes tables lists befor
 
   acts : Runs tapeBytes before acted z
   acts =
-      act-runs proper rep nested y sane₁ (λ t e. subst (λ (n : ℕ). Names n (t .number)) (sym (took .made)) (numbered-taken m tape s (sure .sound) t e))
-      (omega (arith, took .written, taken .room-left)) (omega (arith, ap length (took .records), few)) r₁ (a .trace) writes₁ (y .moving) refl
+      act-runs proper rep nested y sane₁ (omega (arith, took .written, taken .room-left)) (omega (arith, ap length (took .records), few)) r₁ (a .trace) (writes-like (took .records) (took .written) (runs .writes)) (y .moving) refl
       (take-stands proper tapeBytes r s (sure .sane) (taken .turns-left) (runs .stands))
 
   -- the scheme leaves who moves and the records
@@ -234,7 +204,7 @@ module _ {m : BlockModel} {tape : List (List ℕ)} {tapeBytes tables lists befor
             subst (λ (o : Option Transaction). Stands tapeBytes (withScheme true tables (length (m .blocks)) (length (m .values)) acted .rows) o (Machine.wsScheme m z)) (sym (scheme-moving z))
             (scheme-stands proper rep nested (acted .rows) (z .moving) z (scheme-low z (ended .sane)) (acts .stands));
         writes =
-            writes-like before (acted .trace) (acted .rows .scalars) (acted .rows .scalars) (acted .rows .tally) (acted .rows .tally) z (Machine.wsScheme m z) refl (λ i low high. refl) (scheme-gains .records) (scheme-gains .written) (acts .writes);
+            writes-like (scheme-gains .records) (scheme-gains .written) (acts .writes);
       }
 
   -- ---- They are not: none reads what the turn changed
@@ -261,7 +231,7 @@ module _ {m : BlockModel} {tape : List (List ℕ)} {tapeBytes tables lists befor
       → MoverSpares S m o
   mover-spares none e h q = tt
   mover-spares (some t) e h q =
-      let next = next-read (r₁ .work) (r₁ .scalars) t y (h .listing) in
+      let next = next-read (h .listing) in
       let placed : Placed m t = subst (Maybe (Placed m)) e (sane₁ .placed .moving) in
       let inside : t .next - 1 < length (m .blocks) = omega (arith, placed .0 .1, proper .blocks .0, placed .0 .0) in
       let low : t .next - 1 < 256 = omega (arith, inside, proper .blocks .1) in
@@ -288,7 +258,7 @@ module _ {m : BlockModel} {tape : List (List ℕ)} {tapeBytes tables lists befor
           unfold withScheme schemeIf traced rowsOf in
           record {
             stands = record { listing = acts .stands .listing; tallying = acts .stands .tallying; counting = acts .stands .counting };
-            writes = record { bytes = acts .writes .bytes; written = acts .writes .written; used = acts .writes .used; waits = acts .writes .waits };
+            writes = acts .writes;
           }
 
   either : (c : Bool) → asking ≡ c → Runs tapeBytes before (withScheme c tables (length (m .blocks)) (length (m .values)) acted) (Machine.wsScheme m z)

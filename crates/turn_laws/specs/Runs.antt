@@ -8,4 +8,4 @@ use Rattle.turn_laws.specs.Writes.{Writes}
 
 pub record Runs (tapeBytes before : List ℕ) (a : Traced) (s : State) : Type 0 where
   pub stands : Stands tapeBytes (a .rows) (s .moving) s
-  pub writes : Writes before (a .rows .scalars) (a .rows .tally) (a .trace) s
+  pub writes : Writes before (a .trace) s

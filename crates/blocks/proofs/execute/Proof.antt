@@ -1,11 +1,11 @@
 -- `execute` meets its contract: each kind by its function, anything else by nothing.
 use Prim.Native.Nat.{ℕ}
 use mathlib.Core.List.{List}
-use mathlib.Core.Path.{_≡_, sym, _∙_}
+use mathlib.Core.Path.{_≡_, sym, _∙_, refl}
 use borrow.Author.Tests.{ne-eqb}
 use Rattle.state.specs.declared.scalars.Scalars.{Scalars}
 use Rattle.state.specs.Stands.{rowsOf}
-use Rattle.servers_laws.proofs.Tallied.{tallied}
+use Rattle.moves.proofs.MotionLaws.{tallied}
 use Rattle.blocks.specs.Execute.{later, byKind, execute}
 use borrow.Author.Needs.{needs}
 use Rattle.blocks.proofs.execute.Statement.{statement}
@@ -34,7 +34,7 @@ returns-2 c = rw (c .by-fields4 .ensures, ← c .before .before .before .before 
 
 returns-3 : tie.Need-returns-3
 unfolding execute byKind
-returns-3 c = rw (c .by-fields6 .ensures, ← c .before .before .before .before .before .before .before .before .before .number .ensures, c .before .before .before .before .before .before .before .before .match .keys3, ← c .before .before .before .before .by-fields5 .ensures) (c .before .before .before .terminate .ensures)
+returns-3 c = rw (c .by-fields6 .ensures, ← c .before .before .before .before .before .before .before .before .before .before .number .ensures, c .before .before .before .before .before .before .before .before .before .match .keys3, ← c .before .before .before .before .by-fields5 .ensures) (tallied _ _ _ _ _ (c .before .before .before .terminate .ensures) refl)
 
 returns-4 : tie.Need-returns-4
 unfolding execute byKind
@@ -54,31 +54,31 @@ returns-7 c = rw (c .by-fields14 .ensures, ← c .before .before .before .before
 
 returns-8 : tie.Need-returns-8
 unfolding execute byKind
-returns-8 c = rw (c .by-fields16 .ensures, ← c .before .before .before .before .before .before .before .before .before .before .number .ensures, c .before .before .before .before .before .before .before .before .before .match .keys8, ← c .before .before .before .before .by-fields15 .ensures) (tallied _ _ _ _ (c .before .before .before .wait-server .ensures))
+returns-8 c = rw (c .by-fields16 .ensures, ← c .before .before .before .before .before .before .before .before .before .before .number .ensures, c .before .before .before .before .before .before .before .before .before .match .keys8, ← c .before .before .before .before .by-fields15 .ensures) (tallied _ _ _ _ _ (c .before .before .before .wait-server .ensures) refl)
 
 returns-9 : tie.Need-returns-9
 unfolding execute byKind later
-returns-9 c = rw (c .by-fields18 .ensures, ← c .before .before .before .before .before .before .before .before .number .ensures, c .before .before .before .before .before .before .before .match .keys9, ← c .before .before .before .before .by-fields17 .ensures) (tallied _ _ _ _ (c .before .before .before .wait-terms .ensures))
+returns-9 c = rw (c .by-fields18 .ensures, ← c .before .before .before .before .before .before .before .before .number .ensures, c .before .before .before .before .before .before .before .match .keys9, ← c .before .before .before .before .by-fields17 .ensures) (tallied _ _ _ _ _ (c .before .before .before .wait-terms .ensures) refl)
 
 returns-10 : tie.Need-returns-10
 unfolding execute byKind later
-returns-10 c = rw (c .by-fields20 .ensures, ← c .before .before .before .before .before .before .before .before .number .ensures, c .before .before .before .before .before .before .before .match .keys10, ← c .before .before .before .before .by-fields19 .ensures) (tallied _ _ _ _ (c .before .before .before .branch .ensures))
+returns-10 c = rw (c .by-fields20 .ensures, ← c .before .before .before .before .before .before .before .before .number .ensures, c .before .before .before .before .before .before .before .match .keys10, ← c .before .before .before .before .by-fields19 .ensures) (tallied _ _ _ _ _ (c .before .before .before .branch .ensures) refl)
 
 returns-11 : tie.Need-returns-11
 unfolding execute byKind later
-returns-11 c = rw (c .by-fields22 .ensures, ← c .before .before .before .before .before .before .before .before .number .ensures, c .before .before .before .before .before .before .before .match .keys11, ← c .before .before .before .before .by-fields21 .ensures) (tallied _ _ _ _ (c .before .before .before .goto .ensures))
+returns-11 c = rw (c .by-fields22 .ensures, ← c .before .before .before .before .before .before .before .before .number .ensures, c .before .before .before .before .before .before .before .match .keys11, ← c .before .before .before .before .by-fields21 .ensures) (tallied _ _ _ _ _ (c .before .before .before .goto .ensures) refl)
 
 returns-12 : tie.Need-returns-12
 unfolding execute byKind later
-returns-12 c = rw (c .by-fields24 .ensures, ← c .before .before .before .before .before .before .before .before .number .ensures, c .before .before .before .before .before .before .before .match .keys12, ← c .before .before .before .before .by-fields23 .ensures) (tallied _ _ _ _ (c .before .before .before .assign .ensures))
+returns-12 c = rw (c .by-fields24 .ensures, ← c .before .before .before .before .before .before .before .before .number .ensures, c .before .before .before .before .before .before .before .match .keys12, ← c .before .before .before .before .by-fields23 .ensures) (tallied _ _ _ _ _ (c .before .before .before .assign .ensures) refl)
 
 returns-13 : tie.Need-returns-13
 unfolding execute byKind later
-returns-13 c = rw (c .by-fields26 .ensures, ← c .before .before .before .before .before .before .before .before .before .number .ensures, c .before .before .before .before .before .before .before .before .match .keys13, ← c .before .before .before .before .by-fields25 .ensures) (c .before .before .before .priority .ensures)
+returns-13 c = rw (c .by-fields26 .ensures, ← c .before .before .before .before .before .before .before .before .number .ensures, c .before .before .before .before .before .before .before .match .keys13, ← c .before .before .before .before .by-fields25 .ensures) (tallied _ _ _ _ _ (c .before .before .before .priority .ensures) refl)
 
 returns-14 : tie.Need-returns-14
 unfolding execute byKind later
-returns-14 c = rw (c .by-fields28 .ensures, ← c .before .before .before .before .before .before .before .before .before .number .ensures, c .before .before .before .before .before .before .before .before .match .keys14, ← c .before .before .before .before .by-fields27 .ensures) (c .before .before .before .split .ensures)
+returns-14 c = rw (c .by-fields28 .ensures, ← c .before .before .before .before .before .before .before .before .number .ensures, c .before .before .before .before .before .before .before .match .keys14, ← c .before .before .before .before .by-fields27 .ensures) (tallied _ _ _ _ _ (c .before .before .before .split .ensures) refl)
 
 returns-15 : tie.Need-returns-15
 unfolding execute byKind later
@@ -90,11 +90,11 @@ returns-16 c = rw (c .by-fields32 .ensures, ← c .before .before .before .befor
 
 returns-17 : tie.Need-returns-17
 unfolding execute byKind later
-returns-17 c = rw (c .by-fields34 .ensures, ← c .before .before .before .before .before .before .before .before .before .before .number .ensures, c .before .before .before .before .before .before .before .before .before .match .keys17, ← c .before .before .before .before .by-fields33 .ensures) (tallied _ _ _ _ (c .before .before .before .wait-server2 .ensures))
+returns-17 c = rw (c .by-fields34 .ensures, ← c .before .before .before .before .before .before .before .before .before .before .number .ensures, c .before .before .before .before .before .before .before .before .before .match .keys17, ← c .before .before .before .before .by-fields33 .ensures) (tallied _ _ _ _ _ (c .before .before .before .wait-server2 .ensures) refl)
 
 returns-18 : tie.Need-returns-18
 unfolding execute byKind later
-returns-18 c = rw (c .by-fields36 .ensures, ← c .before .before .before .before .before .before .before .before .before .number .ensures, c .before .before .before .before .before .before .before .before .match .keys18, ← c .before .before .before .before .by-fields35 .ensures) (c .before .before .before .assemble .ensures)
+returns-18 c = rw (c .by-fields36 .ensures, ← c .before .before .before .before .before .before .before .before .before .before .number .ensures, c .before .before .before .before .before .before .before .before .before .match .keys18, ← c .before .before .before .before .by-fields35 .ensures) (tallied _ _ _ _ _ (c .before .before .before .assemble .ensures) refl)
 
 returns-19 : tie.Need-returns-19
 unfolding execute byKind later

@@ -1,6 +1,6 @@
 -- `goto` meets its contract: it goes to the block that the tables name.
 use mathlib.Core.Path.{_∙_}
-use Rattle.decisions_laws.specs.Jumps.{goto}
+use Rattle.decisions_laws.specs.Jumps.{gotoRows}
 use borrow.Author.Needs.{needs}
 use Rattle.decisions.proofs.jumps.goto.Statement.{statement}
 use Rattle.decisions.proofs.jumps.goto.Tie as tie
@@ -18,7 +18,7 @@ same-length : tie.Need-same-length
 same-length c = search needs
 
 returns : tie.Need-returns
-unfolding goto
+unfolding gotoRows
 returns c = c .before .before .go-to .ensures ∙ rw (c .before .before .before .number .ensures)
 
 pub goto-spec : {M : Type 1} → statement M

@@ -6,13 +6,12 @@ use Rattle.flow.proofs.gathering.assemble.Tie as tie
 
 returns : tie.Need-returns
 unfolding assembleRows
-returns c = rw (← c .before .before .before .before .before .before .before .before .before .before .before .before .number .ensures, ← c .before .before .before .before .before .before .before .before .before .before .list-at .ensures .0, ← c .before .before .before .before .before .before .before .before .read .ensures, ← c .before .before .before .before .before .before .before .family-cell .ensures) (c .before .before .before .before .gather .ensures)
+returns c = rw (← c .before .before .before .before .before .before .before .before .before .number .ensures, ← c .before .before .before .before .before .before .before .list-at .ensures .0, ← c .before .before .before .before .before .read .ensures, ← c .before .before .before .before .family-cell .ensures) (c .before .before .gather .ensures)
 
 pub assemble-spec : {M : Type 1} → statement M
 assemble-spec =
     tie.close
     (tie.spec
-    (search needs)
     (search needs)
     (search needs)
     (search needs)

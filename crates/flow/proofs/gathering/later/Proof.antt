@@ -1,6 +1,5 @@
 -- `later` meets its contract: by cases on the question; then the count.
 use borrow.Author.Tests.{eq-eqb, ne-eqb}
-use Rattle.moves.specs.Motion.{moved}
 use Rattle.flow_laws.specs.Gathering.{laterRows}
 use borrow.Author.Needs.{needs}
 use Rattle.flow.proofs.gathering.later.Statement.{statement}
@@ -11,8 +10,8 @@ unfolding laterRows
 returns c = rw (← c .before .before .before .read .ensures, ← c .before .before .ask-holding .ensures, ne-eqb _ 0 (c .before .if1 .taken), c .stop .ensures)
 
 returns-2 : tie.Need-returns-2
-unfolding laterRows moved
-returns-2 c = rw (← c .before .before .before .before .before .before .before .before .before .read .ensures, ← c .before .before .before .before .before .before .before .before .ask-holding .ensures, eq-eqb _ 0 (c .before .before .before .before .before .before .before .if1 .left), ← c .before .before .before .before .before .read2 .ensures, ← c .before .before .before .before .plus32 .ensures, ← c .before .before .count-on .ensures)
+unfolding laterRows
+returns-2 c = rw (← c .before .before .before .before .before .before .before .before .before .read .ensures, ← c .before .before .before .before .before .before .before .before .ask-holding .ensures, eq-eqb _ 0 (c .before .before .before .before .before .before .before .if1 .left), ← c .before .before .before .before .before .read2 .ensures, ← c .before .before .before .before .plus32 .ensures) (c .before .before .count-on .ensures)
 
 pub later-spec : {M : Type 1} → statement M
 later-spec =
@@ -23,9 +22,7 @@ later-spec =
     (search needs)
     (search needs)
     (search needs)
-    (search needs)
     returns
-    (search needs)
     (search needs)
     (search needs)
     (search needs)

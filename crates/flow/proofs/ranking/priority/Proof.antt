@@ -1,5 +1,4 @@
 -- `priority` meets its contract: the operand, then the row.
-use Rattle.moves.specs.Motion.{moved}
 use Rattle.flow_laws.specs.Kinds.{priorityRows}
 use borrow.Author.Needs.{needs}
 use Rattle.flow.proofs.ranking.priority.Statement.{statement}
@@ -18,8 +17,8 @@ same-length : tie.Need-same-length
 same-length c = search needs
 
 returns : tie.Need-returns
-unfolding priorityRows moved
-returns c = rw (← c .before .before .before .before .number .ensures, ← c .before .before .rank-on .ensures)
+unfolding priorityRows
+returns c = rw (← c .before .before .before .before .number .ensures) (c .before .before .rank-on .ensures)
 
 pub priority-spec : {M : Type 1} → statement M
 priority-spec =

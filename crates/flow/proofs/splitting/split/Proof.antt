@@ -1,6 +1,5 @@
 -- `split` meets its contract: by cases on the question.
 use borrow.Author.Tests.{eq-eqb, ne-eqb}
-use Rattle.moves.specs.Motion.{moved}
 use Rattle.flow_laws.specs.Kinds.{splitRows}
 use borrow.Author.Needs.{needs}
 use Rattle.flow.proofs.splitting.split.Statement.{statement}
@@ -11,8 +10,8 @@ unfolding splitRows
 returns c = rw (← c .before .before .before .number .ensures, ← c .before .before .ask-room .ensures, ne-eqb _ 0 (c .before .if1 .taken), c .stop .ensures)
 
 returns-2 : tie.Need-returns-2
-unfolding splitRows moved
-returns-2 c = rw (← c .before .before .before .before .before .before .before .number .ensures, ← c .before .before .before .before .number2 .ensures, ← c .before .before .before .before .before .before .ask-room .ensures, eq-eqb _ 0 (c .before .before .before .before .before .if1 .left), ← c .before .before .split-on .ensures)
+unfolding splitRows
+returns-2 c = rw (← c .before .before .before .before .before .before .before .number .ensures, ← c .before .before .before .before .number2 .ensures, ← c .before .before .before .before .before .before .ask-room .ensures, eq-eqb _ 0 (c .before .before .before .before .before .if1 .left)) (c .before .before .split-on .ensures)
 
 pub split-spec : {M : Type 1} → statement M
 split-spec =

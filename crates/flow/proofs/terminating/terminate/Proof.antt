@@ -11,7 +11,7 @@ returns c = rw (← c .before .before .before .read .ensures, ← c .before .bef
 
 returns-2 : tie.Need-returns-2
 unfolding terminateRows
-returns-2 c = rw (← c .before .before .before .before .before .before .before .read .ensures, ← c .before .before .before .before .before .before .ask-holding .ensures, eq-eqb _ 0 (c .before .before .before .before .before .if1 .left), ← c .before .before .before .before .before .before .before .before .before .before .number .ensures, c .end-one .ensures, c .before .before .before .free-row .ensures)
+returns-2 c = rw (← c .before .before .before .before .before .before .before .read .ensures, ← c .before .before .before .before .before .before .ask-holding .ensures, eq-eqb _ 0 (c .before .before .before .before .before .if1 .left), ← c .before .before .before .before .before .before .before .before .before .number .ensures, c .end-one .ensures, c .before .before .before .free-row .ensures)
 
 pub terminate-spec : {M : Type 1} → statement M
 terminate-spec =
@@ -24,9 +24,7 @@ terminate-spec =
     (search needs)
     (search needs)
     (search needs)
-    (search needs)
     returns
-    (search needs)
     (search needs)
     (search needs)
     (search needs)

@@ -1,16 +1,9 @@
--- Scalars and work buffer from one equation, with a tally beside them; a tally brought up to date at the clock of some scalars.
+-- A tally brought up to date at the clock of some scalars.
 use Prim.Native.Nat.{ℕ}
 use mathlib.Core.Path.{_≡_, sym, ap, _∙_}
 use mathlib.Core.List.{List}
-use Rattle.state.specs.declared.scalars.Scalars.{Scalars}
-use Rattle.state.specs.Stands.{rowsOf}
 use Rattle.state.specs.Statistics.{updateServer}
-use Rattle.moves.specs.Motion.{Moved, moved, withTally}
 use Rattle.servers_laws.specs.Units.{changeUse}
-
-pub tallied : (x : Scalars) (w tally : List ℕ) (m : Moved) → moved x w ≡ m → rowsOf x w tally ≡ withTally m tally
-unfolding moved
-tallied x w tally m e = ap (λ (y : Moved). withTally y tally) e
 
 pub updated-at : (tally after : List ℕ) (v clock now : ℕ) → after ≡ updateServer tally v clock → now ≡ clock → after ≡ updateServer tally v now
 updated-at tally after v clock now e n = e ∙ ap (updateServer tally v) (sym n)
