@@ -118,7 +118,7 @@ def check_text_form():
         (folder / "tape.txt").write_text(tape)
         (folder / "distributions.txt").write_text(distributions)
         for words in (["folder", folder], ["distributions", folder / "distributions.txt"]):
-            done = subprocess.run([root / "text/target/release/modeltext", *words], capture_output=True, text=True)
+            done = subprocess.run([root / "target/release/modeltext", *words], capture_output=True, text=True)
             check(done.returncode == 0, f"docs/TEXT.md: {done.stdout}{done.stderr}")
 
 

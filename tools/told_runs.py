@@ -159,7 +159,7 @@ def ends_of(model, lists):
         folder = pathlib.Path(scratch)
         (folder / "model.txt").write_text(model)
         (folder / "tape.txt").write_text("".join(f"{name}: {' '.join(map(str, times))}\n" for name, times in lists.items()))
-        subprocess.run([root / "text/target/release/modeltext", "folder", folder], check=True, capture_output=True)
+        subprocess.run([root / "target/release/modeltext", "folder", folder], check=True, capture_output=True)
         printed = subprocess.run([root / "reference/target/release/run", folder], check=True, capture_output=True, text=True).stdout
     rows = [list(map(int, line.split())) for line in printed.splitlines() if line[0].isdigit()]
     kinds = [line.split() for line in model.splitlines() if not re.match(r"\s*(FACILITY|LIST|COUNTER)", line)]
