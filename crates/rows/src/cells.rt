@@ -1,6 +1,6 @@
 // Single numbers of the buffer, and the fields of a row.
 
-use crate::ROWS;
+use crate::FIELD_WIDTH;
 use crate::STANDING;
 use crate::TIME;
 use crate::TIME_HIGH;
@@ -60,7 +60,7 @@ pub fn read(w: &[u32], f: u32, k: u32) -> u32
     requires { ⌜ k < rowCount ⌝ }
     ensures { λ r. ⌜ r ≡ read (now (w .entry)) f k ⌝ }
 {
-    get(w, f * ROWS + k)
+    get(w, f * FIELD_WIDTH + k)
 }
 
 pub fn write(w: &mut [u32], f: u32, k: u32, x: u32)
@@ -69,7 +69,7 @@ pub fn write(w: &mut [u32], f: u32, k: u32, x: u32)
     requires { ⌜ k < rowCount ⌝ }
     ensures { λ _. ⌜ now (w .exit) ≡ write (now (w .entry)) f k x ⌝ }
 {
-    set(w, f * ROWS + k, x);
+    set(w, f * FIELD_WIDTH + k, x);
 }
 
 pub fn priority(w: &[u32], k: u32) -> u32
@@ -88,6 +88,9 @@ pub fn set_returning(w: &mut [u32], k: u32, mark: u32)
     ensures { λ _. ⌜ now (w .exit) ≡ setReturning (now (w .entry)) k mark ⌝ }
 {
     let standing = read(w, STANDING, k);
+    if standing % 2 == mark {
+        return;
+    }
     write(w, STANDING, k, standing / 2 * 2 + mark);
 }
 

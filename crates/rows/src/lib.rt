@@ -11,12 +11,14 @@ pub mod make;
 pub mod order;
 pub mod wake;
 
-// The layout of the work buffer (specs/Layout): FIELDS of ROWS numbers each. A number that is not below ROWS is no row.
+// The layout of the work buffer (specs/Layout): FIELDS of ROWS numbers each, FIELD_WIDTH apart. A number that is not below ROWS is no row.
 pub const ROWS: u32 = 1_024;
 
-pub const FIELDS: u32 = 16;
+pub const FIELDS: u32 = 14;
 
-pub const WORK_NUMBERS: u32 = FIELDS * ROWS;
+pub const FIELD_WIDTH: u32 = 1_032;
+
+pub const WORK_NUMBERS: u32 = 16_384;
 
 // Fields of a row.
 pub const NUMBER: u32 = 0;
@@ -47,21 +49,16 @@ pub const PLACE: u32 = 12;
 
 pub const LINK: u32 = 13;
 
-// Fields of the lists.
-pub const HEAD: u32 = 14;
+// Where the last three begin, and behind them what lists keep.
+pub const SLOTS: u32 = SLOT * FIELD_WIDTH;
 
-pub const TAIL: u32 = 15;
+pub const PLACES: u32 = PLACE * FIELD_WIDTH;
 
-// Where those four fields begin.
-pub const SLOTS: u32 = SLOT * ROWS;
+pub const LINKS: u32 = LINK * FIELD_WIDTH;
 
-pub const PLACES: u32 = PLACE * ROWS;
+pub const HEADS: u32 = FIELDS * FIELD_WIDTH;
 
-pub const LINKS: u32 = LINK * ROWS;
-
-pub const HEADS: u32 = HEAD * ROWS;
-
-pub const TAILS: u32 = TAIL * ROWS;
+pub const TAILS: u32 = HEADS + ROWS;
 
 // From here on, the serials of one more clock move may not fit 32 bits.
 pub const SERIAL_END: u32 = 4_000_000_000;

@@ -3,7 +3,7 @@ use Prim.Native.Nat.{ℕ, _+_, _*_, _≤_, _<_}
 use mathlib.Core.Path.{_≡_, refl}
 use mathlib.Core.List.{List, [], _∷_, map}
 use native.Mathlib.Omega.{arith}
-use Rattle.rows_laws.specs.Layout.{dataFields, slots}
+use Rattle.rows_laws.specs.Layout.{dataFields, slots, fieldAt}
 use Rattle.rows_laws.specs.Cells.{load, read, timeOf}
 use Rattle.rows_laws.specs.Holds.{transactionAt, eventAt, occurs}
 use Rattle.rows_laws.proofs.Occurs.{same-refl}
@@ -17,7 +17,7 @@ abbrev pub SameRow : List ℕ → List ℕ → ℕ → Type 0
 SameRow w w′ k = (f : ℕ) → f < dataFields → read w′ f k ≡ read w f k
 
 pub same-row : (w w′ : List ℕ) (k : ℕ) → k < 1024 → SameData w w′ → SameRow w w′ k
-same-row w w′ k h kept f g = kept (f * 1024 + k) (omega arith)
+same-row w w′ k h kept f g = kept (fieldAt f k) (omega arith)
 
 pub transaction-kept : (w w′ : List ℕ) (k : ℕ) → SameRow w w′ k → transactionAt w′ k ≡ transactionAt w k
 unfolding transactionAt timeOf

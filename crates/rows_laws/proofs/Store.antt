@@ -1,6 +1,6 @@
 -- What a store leaves of the buffer: length, other numbers, and everything past the 16,384th.
-use Prim.Native.Nat.{ℕ, _≤_, _<_}
-use mathlib.Core.Path.{_≡_, refl}
+use Prim.Native.Nat.{ℕ, _%_, _≤_, _<_}
+use mathlib.Core.Path.{_≡_, refl, ap, _∙_}
 use mathlib.Core.Logic.{_≢_}
 use mathlib.Core.Bool.{Bool, true, false, cond}
 use mathlib.Core.List.{List}
@@ -8,8 +8,9 @@ use native.Mathlib.Omega.{arith}
 use borrow.Author.Tests.{lt-ltb, ltb-true}
 use lib.Dec.{ltb}
 use lib.ListN.{length, set, drop, length-set}
-use lib.Seq.{getD-set-same, getD-set-other, drop-set-lt}
-use Rattle.rows_laws.specs.Cells.{load, store}
+use lib.Seq.{getD-set-same, getD-set-other, set-getD, drop-set-lt}
+use Rattle.rows_laws.specs.Layout.{standingField, fieldAt}
+use Rattle.rows_laws.specs.Cells.{load, store, read, setReturning}
 
 pub length-store : (w : List ℕ) (i x : ℕ) → length (store w i x) ≡ length w
 unfolding store
@@ -30,6 +31,19 @@ load-other w i x j d = go (ltb i 16384)
     go : (b : Bool) → load (cond b (set w i x) w) j ≡ load w j
     go true = getD-set-other w i j x 0 d
     go false = refl
+
+-- what a number holds already may be stored
+pub store-kept : (w : List ℕ) (i : ℕ) → store w i (load w i) ≡ w
+unfolding store
+store-kept w i = go (ltb i 16384)
+  where
+    go : (b : Bool) → cond b (set w i (load w i)) w ≡ w
+    go true = set-getD w i 0
+    go false = refl
+
+-- a mark that stands may be set
+pub returning-kept : (w : List ℕ) (k mark : ℕ) → read w standingField k % 2 ≡ mark → setReturning w k mark ≡ w
+returning-kept w k mark e = ap (store w (fieldAt standingField k)) (omega (arith, e)) ∙ store-kept w (fieldAt standingField k)
 
 pub past-store : (w : List ℕ) (i x : ℕ) → drop 16384 (store w i x) ≡ drop 16384 w
 unfolding store

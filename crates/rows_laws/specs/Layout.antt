@@ -1,5 +1,6 @@
--- The work buffer: 16 fields of 1,024 rows, field f of row k at f * 1024 + k, one row for each living transaction. Numbers
--- past the 16,384th are never touched.
+-- The work buffer: 14 fields of 1,024 rows, one row for each living transaction, field f of row k at f * 1032 + k; behind them
+-- heads and tails of lists. 8 numbers stay unused behind each field: fields that lie 4,096 bytes apart would share a place
+-- in the processor's cache. Numbers past the 16,384th are never touched.
 --
 -- | field | holds                               | field | holds                              |
 -- |-------|-------------------------------------|-------|------------------------------------|
@@ -9,8 +10,8 @@
 -- | 6     | next block, of a gatherer its count | 12    | place: its list, 1024 on none      |
 -- | 7     | serial                              | 13    | link: the row after it on its list, |
 -- |       |                                     |       | on the FEL its slot                |
--- | 8     | move time or stamp, low half        | 14    | heads of lists 0..771, then hints  |
--- |       | (remaining ticks if interrupted)    | 15    | tails of lists 0..771, then rows of holders |
+-- | 8     | move time or stamp, low half        |       | heads of lists 0..771, then hints  |
+-- |       | (remaining ticks if interrupted)    |       | tails of lists 0..771, then rows of holders |
 --
 -- A cell is a number of the buffer that holds a row: a head or a link. 1024, and any number above it, is no row. The tail of a
 -- list is its last cell: the head itself where the list is empty. The FEL is no chain of cells but a heap of slots: its head holds the first row,
@@ -26,7 +27,7 @@
 -- | interrupted | 706 + (facility - 1): 706..769, at most one |
 -- | FEL         | 770                                         |
 -- | free        | 771: the rows that are not living           |
--- | others      | there are none: the rest of field 14 holds hints (Lists), that of field 15 rows of holders (Future), 64 of them |
+-- | others      | there are none: behind the heads stand 252 hints (Lists), behind the tails 64 rows of holders (Future) |
 use Prim.Native.Nat.{ℕ, _+_, _*_, _-_, _%_, _≤_}
 use mathlib.Core.List.{List}
 use lib.ListN.{length}
@@ -40,7 +41,11 @@ abbrev pub rowCount : ℕ
 rowCount = 1024
 
 abbrev pub fieldCount : ℕ
-fieldCount = 16
+fieldCount = 14
+
+-- from a field to the next
+abbrev pub fieldWidth : ℕ
+fieldWidth = 1032
 
 -- fields 0..10 are the data of a row
 abbrev pub dataFields : ℕ
@@ -94,31 +99,31 @@ abbrev pub familyField : ℕ
 familyField = 10
 
 abbrev pub fieldAt : ℕ → ℕ → ℕ
-fieldAt f k = f * rowCount + k
+fieldAt f k = f * fieldWidth + k
 
 -- where slot 0, the place and the link of row 0, the head and the tail of list 0 stand
 abbrev pub slots : ℕ
-slots = 11264
+slots = 11352
 
 abbrev pub places : ℕ
-places = 12288
+places = 12384
 
 abbrev pub links : ℕ
-links = 13312
+links = 13416
 
 abbrev pub heads : ℕ
-heads = 14336
+heads = 14448
 
 abbrev pub tails : ℕ
-tails = 15360
+tails = 15472
 
 -- where the hints stand, four for each of 63 lists or more that share them
 abbrev pub hints : ℕ
-hints = 15108
+hints = 15220
 
 -- where the rows of holders stand, one for each server
 abbrev pub holders : ℕ
-holders = 16132
+holders = 16244
 
 abbrev pub slot : ℕ → ℕ
 slot i = slots + i
