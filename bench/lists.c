@@ -6,6 +6,7 @@
 #include <time.h>
 void bench_initialise(uint32_t *, size_t);
 uint32_t bench_make(uint32_t *, size_t);
+uint32_t bench_read(const uint32_t *, size_t, uint32_t, uint32_t);
 void bench_write(uint32_t *, size_t, uint32_t, uint32_t, uint32_t);
 void bench_put(uint32_t *, size_t, uint32_t);
 uint32_t bench_take(uint32_t *, size_t);
@@ -51,7 +52,7 @@ static void lists(int later, int living) {
     for (int i = 0; i < TURNS; i++) {
         uint32_t k = later ? bench_take_later(w, ROOM) : bench_take(w, ROOM);
         if (later) {
-            time = w[TIME * 1024 + k] | (uint64_t)w[TIME_HIGH * 1024 + k] << 32;
+            time = bench_read(w, ROOM, TIME, k) | (uint64_t)bench_read(w, ROOM, TIME_HIGH, k) << 32;
             set_time(k, time + draw());
         }
         bench_write(w, ROOM, SERIAL, k, ++serial);
