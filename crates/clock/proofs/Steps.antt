@@ -7,16 +7,21 @@ use Rattle.rows_laws.specs.Layout.{rel, fel}
 use Rattle.rows_laws.specs.Lists.{first}
 use Rattle.rows_laws.specs.Clock.{Arrived, arrived, arrive}
 use Rattle.state.specs.declared.scalars.Scalars.{Scalars}
-use Rattle.state.specs.ScalarSetters.{putTurns}
+use Rattle.state.specs.ScalarSetters.{putTurns, putMoving}
 use Rattle.state.specs.Stands.{Rows, rowsOf}
 use Rattle.clock.specs.Taking.{countMove, movedTo, moveClock, firstTime, nextEvents, readyScalars, readyWork, takeReady, counted, take}
 
+pub ready-taken : (w : List ℕ) (x y : Scalars) (k : ℕ) → y ≡ x → k ≡ first w rel → k < 1024 → putMoving k y ≡ readyScalars w x
+unfolding readyScalars
+ready-taken w x y k same e h = rw (same, ← e, lt-ltb k 1024 h)
+
 module _ (w t : List ℕ) (x : Scalars) where
-  pub clock-moved : (time : ℕ) (w′ t′ : List ℕ) (serial : ℕ) → t′ ≡ countMove t → arrived w′ serial ≡ arrive 1024 time w (x .serial)
-      → rowsOf (movedTo time serial x) w′ t′ ≡ moveClock w t x time
+  pub clock-moved : (y : Scalars) (time : ℕ) (w′ t′ : List ℕ) (serial : ℕ) → y ≡ x → t′ ≡ countMove t → arrived w′ serial ≡ arrive 1024 time w (x .serial)
+      → rowsOf (movedTo time serial y) w′ t′ ≡ moveClock w t x time
   unfolding moveClock rowsOf arrived
-  clock-moved time w′ t′ serial counts arrives =
-      ap (λ (l : List ℕ). rowsOf (movedTo time serial x) w′ l) counts
+  clock-moved y time w′ t′ serial same counts arrives =
+      ap (λ (z : Scalars). rowsOf (movedTo time serial z) w′ t′) same
+      ∙ ap (λ (l : List ℕ). rowsOf (movedTo time serial x) w′ l) counts
       ∙ ap (λ (a : Arrived). rowsOf (movedTo time (a .serial) x) (a .rows) (countMove t)) arrives
 
   pub events-none : 1024 ≤ first w fel → rowsOf x w t ≡ nextEvents w t x

@@ -8,6 +8,7 @@ use rows::clock::arrive;
 use rows::lists::first;
 use rows::lists::take_first;
 use state::Scalars;
+use state::by_fields;
 use state::plus32;
 use state::plus64;
 use tables::CLOCK_MOVES;
@@ -33,9 +34,9 @@ fn move_clock(work: &mut [u32], tally: &mut [u64], x: Scalars, time: u64) -> Sca
     requires { ⌜ x .serial < serialEnd ⌝ }
     ensures { λ r. ⌜ rowsOf r (now (work .exit)) (now (tally .exit)) ≡ moveClock (now (work .entry)) (now (tally .entry)) x time ⌝ }
 {
+    let mut y = by_fields(x);
     count_move(tally);
     let serial = arrive(work, time, x.serial);
-    let mut y = x;
     y.clock = time;
     y.serial = serial;
     y
@@ -67,7 +68,7 @@ fn take_ready(work: &mut [u32], x: Scalars) -> Scalars
     if k >= ROWS {
         return x;
     }
-    let mut y = x;
+    let mut y = by_fields(x);
     y.moving = k;
     y
 }

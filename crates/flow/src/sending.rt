@@ -13,6 +13,7 @@ use rows::make::copy;
 use rows::make::make_row;
 use rows::make::newborn;
 use state::Scalars;
+use state::by_fields;
 use state::plus32;
 use state::plus64;
 ghost use mathlib.Core.Path.{_≡_};
@@ -43,8 +44,8 @@ pub fn to_future(work: &mut [u32], x: Scalars, k: u32, time: u64) -> Scalars
     requires { ⌜ k < rowCount ⌝ }
     ensures { λ r. ⌜ moved r (now (work .exit)) ≡ toFuture (now (work .entry)) x k time ⌝ }
 {
+    let mut y = by_fields(x);
     row_to_future(work, x.serial, k, time);
-    let mut y = x;
     y.serial = plus32(x.serial, 1);
     y
 }
@@ -90,7 +91,7 @@ pub fn one_made(x: Scalars, made: bool) -> Scalars
     ensures { λ r. ⌜ r ≡ oneMade x made ⌝ }
 {
     if made {
-        let mut y = x;
+        let mut y = by_fields(x);
         y.made = plus32(x.made, 1);
         y.serial = plus32(x.serial, 1);
         return y;

@@ -8,6 +8,7 @@ use rows::make::free_row;
 use state::ENTERED;
 use state::NOBODY;
 use state::Scalars;
+use state::by_fields;
 use state::less32;
 use state::plus32;
 use tables::FIRST;
@@ -35,7 +36,7 @@ fn end_after(counter: u32, a: u32) -> u32
 fn end_one(x: Scalars, a: u32) -> Scalars
     ensures { λ r. ⌜ r ≡ endOne x a ⌝ }
 {
-    let mut y = x;
+    let mut y = by_fields(x);
     y.moving = NOBODY;
     y.ended = plus32(x.ended, 1);
     y.counter = less32(x.counter, a);

@@ -13,6 +13,7 @@ use state::NO_RECORD;
 use state::NOBODY;
 use state::Scalars;
 use state::WAITS;
+use state::by_fields;
 use state::less32;
 use state::plus32;
 ghost use mathlib.Core.Path.{_≡_};
@@ -27,7 +28,7 @@ pub const IN_ORDER: u32 = 1;
 pub fn with_outcome(x: Scalars, outcome: u32) -> Scalars
     ensures { λ r. ⌜ r ≡ withOutcome x outcome ⌝ }
 {
-    let mut y = x;
+    let mut y = by_fields(x);
     y.note = outcome;
     if outcome == ENTERED {
         return y;

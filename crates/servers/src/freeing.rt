@@ -64,6 +64,27 @@ pub fn free_one(
     enter_freed(work, k, v, left, all);
 }
 
+// The same for RELEASE, which is built into the turn as the only caller of it.
+fn release_one(
+    tables: &[u32],
+    work: &mut [u32],
+    tally: &mut [u64],
+    k: u32,
+    clock: u64,
+    v: u32,
+    left: u64,
+)
+    requires { ⌜ Room (now work) ⌝ }
+    requires { ⌜ k < rowCount ⌝ }
+    requires { ⌜ v < serverCount ⌝ }
+    ensures { λ _. ⌜ ((x : Scalars) → x .moving ≡ k → x .clock ≡ clock → rowsOf (withOutcome x 0) (now (work .exit)) (now (tally .exit)) ≡ freeOne (now (tables .entry)) (now (work .entry)) (now (tally .entry)) x v left) ⌝ }
+{
+    let all = capacity(tables, v);
+    change_use(tally, v, clock, left, 0, 0);
+    wake_first_ql(work, tally, v);
+    enter_freed(work, k, v, left, all);
+}
+
 // So many units are in use then, b of them just given back.
 fn free_some(
     tables: &[u32],
@@ -125,7 +146,7 @@ pub fn release(
     if end != 0 {
         return stop(x, end);
     }
-    free_one(tables, work, tally, x.moving, x.clock, v, less64(units, 1));
+    release_one(tables, work, tally, x.moving, x.clock, v, less64(units, 1));
     with_outcome(x, ENTERED)
 }
 

@@ -54,6 +54,28 @@ pub fn hold_units(
     row_goes_on(work, moving);
 }
 
+// The same of a SEIZE, whose row holds the server. What has one caller is built into the turn, where tests of indices fall away.
+fn hold_one(
+    work: &mut [u32],
+    tally: &mut [u64],
+    moving: u32,
+    clock: u64,
+    v: u32,
+    units: u64,
+    who: u64,
+    capacity: u64,
+)
+    requires { ⌜ Room (now work) ⌝ }
+    requires { ⌜ moving < rowCount ⌝ }
+    requires { ⌜ v < serverCount ⌝ }
+    ensures { λ _. ⌜ ((x : Scalars) → x .moving ≡ moving → x .clock ≡ clock → rowsOf (withOutcome x 0) (now (work .exit)) (now (tally .exit)) ≡ holdUnits (now (work .entry)) (now (tally .entry)) x v units who moving 0 capacity) ⌝ }
+{
+    change_use(tally, v, clock, units, who, 0);
+    keep_holder(work, v, moving);
+    check_wels(work, v, units, capacity);
+    row_goes_on(work, moving);
+}
+
 // Row k waits on the QL.
 fn queue_up(
     work: &mut [u32],
@@ -103,6 +125,31 @@ pub fn take_units(
     queue_up(work, tally, k, serial, clock, v, number(tables, EDITION))
 }
 
+// The same with one unit, for SEIZE.
+fn seize_one(
+    tables: &[u32],
+    work: &mut [u32],
+    tally: &mut [u64],
+    k: u32,
+    serial: u32,
+    clock: u64,
+    v: u32,
+    who: u64,
+) -> u32
+    requires { ⌜ Room (now work) ⌝ }
+    requires { ⌜ k < rowCount ⌝ }
+    requires { ⌜ v < serverCount ⌝ }
+    ensures { λ r. ⌜ ((x : Scalars) → x .moving ≡ k → x .serial ≡ serial → x .clock ≡ clock → rowsOf (withOutcome x r) (now (work .exit)) (now (tally .exit)) ≡ takeUnits (now (tables .entry)) (now (work .entry)) (now (tally .entry)) x v 1 who 0) ⌝ }
+{
+    let units = in_use(tally, v);
+    let all = capacity(tables, v);
+    if 1 <= less64(all, units) {
+        hold_one(work, tally, k, clock, v, units + 1, who, all);
+        return ENTERED;
+    }
+    queue_up(work, tally, k, serial, clock, v, number(tables, EDITION))
+}
+
 pub fn seize(tables: &[u32], work: &mut [u32], tally: &mut [u64], x: Scalars, at: usize) -> Scalars
     requires { ⌜ Room (now work) ⌝ }
     requires { ⌜ x .moving < rowCount ⌝ }
@@ -111,18 +158,7 @@ pub fn seize(tables: &[u32], work: &mut [u32], tally: &mut [u64], x: Scalars, at
 {
     let v = server_at(tables, at + FIRST);
     let number = read(work, NUMBER, x.moving) as u64;
-    let outcome = take_units(
-        tables,
-        work,
-        tally,
-        x.moving,
-        x.serial,
-        x.clock,
-        v,
-        1,
-        number,
-        0,
-    );
+    let outcome = seize_one(tables, work, tally, x.moving, x.serial, x.clock, v, number);
     with_outcome(x, outcome)
 }
 

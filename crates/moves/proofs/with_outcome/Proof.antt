@@ -1,24 +1,37 @@
 -- `with_outcome` meets its contract, by cases on the outcome.
+use Prim.Native.Nat.{ℕ}
+use mathlib.Core.Path.{_≡_}
+use mathlib.Core.Logic.{_≢_}
 use borrow.Author.Tests.{eq-eqb, ne-eqb}
-use Rattle.moves.specs.Motion.{withOutcome}
+use Rattle.state.specs.declared.scalars.Scalars.{Scalars}
+use Rattle.state.specs.ScalarSetters.{putNote, putMoving, putSerial}
+use Rattle.moves.specs.Motion.{next32, withOutcome}
 use borrow.Author.Needs.{needs}
 use Rattle.moves.proofs.with_outcome.Statement.{statement}
 use Rattle.moves.proofs.with_outcome.Tie as tie
 
-returns : tie.Need-returns
-unfolding withOutcome
-returns c = rw (eq-eqb _ 0 (c .if1 .taken))
+module _ (y x : Scalars) (o : ℕ) (same : y ≡ x) where
+  entered : o ≡ 0 → putNote o y ≡ withOutcome x o
+  unfolding withOutcome
+  entered h = rw (same, eq-eqb o 0 h)
 
-plus32-requires : tie.Need-plus32-requires
-plus32-requires c κs = search needs
+  begins : (n : ℕ) → o ≢ 0 → o ≡ 1 → n ≡ next32 (x .serial) → putSerial n (putMoving 1024 (putNote o y)) ≡ withOutcome x o
+  unfolding withOutcome
+  begins n d h e = rw (same, ne-eqb o 0 d, eq-eqb o 1 h, e)
+
+  returned : o ≢ 0 → o ≢ 1 → putMoving 1024 (putNote o y) ≡ withOutcome x o
+  unfolding withOutcome
+  returned d h = rw (same, ne-eqb o 0 d, ne-eqb o 1 h)
+
+returns : tie.Need-returns
+returns c = entered _ _ _ (c .before .by-fields .ensures) (c .if1 .taken)
 
 returns-2 : tie.Need-returns-2
-unfolding withOutcome
-returns-2 c = rw (ne-eqb _ 0 (c .before .before .if1 .left), eq-eqb _ 1 (c .before .if2 .taken), c .plus32 .ensures)
+returns-2 c =
+    begins _ _ _ (c .before .before .before .by-fields .ensures) _ (c .before .before .if1 .left) (c .before .if2 .taken) (c .plus32 .ensures)
 
 returns-3 : tie.Need-returns-3
-unfolding withOutcome
-returns-3 c = rw (ne-eqb _ 0 (c .before .if1 .left), ne-eqb _ 1 (c .if2 .left))
+returns-3 c = returned _ _ _ (c .before .before .by-fields .ensures) (c .before .if1 .left) (c .if2 .left)
 
 pub with-outcome-spec : {M : Type 1} → statement M
-with-outcome-spec = tie.close (tie.spec returns plus32-requires returns-2 returns-3)
+with-outcome-spec = tie.close (tie.spec (search needs) returns (search needs) returns-2 returns-3)

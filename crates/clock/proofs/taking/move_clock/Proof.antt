@@ -5,7 +5,7 @@ use Rattle.clock.proofs.taking.move_clock.Statement.{statement}
 use Rattle.clock.proofs.taking.move_clock.Tie as tie
 
 returns : tie.Need-returns
-returns c = clock-moved _ _ _ _ _ _ _ (c .before .before .before .before .before .before .count-move .ensures) (c .before .before .arrive .ensures)
+returns c = clock-moved _ _ _ _ _ _ _ _ (c .before .before .before .before .before .before .before .before .by-fields .ensures) (c .before .before .before .before .before .before .count-move .ensures) (c .before .before .arrive .ensures)
 
 pub move-clock-spec : {M : Type 1} → statement M
-move-clock-spec = tie.close (tie.spec (search needs) (search needs) (search needs) (search needs) returns)
+move-clock-spec = tie.close (tie.spec (search needs) (search needs) (search needs) (search needs) (search needs) returns)

@@ -1,22 +1,25 @@
 -- `one_made` meets its contract, by cases on whether one was made.
+use Prim.Native.Nat.{ℕ}
+use mathlib.Core.Path.{_≡_}
+use mathlib.Core.Bool.{Bool, true}
+use Rattle.state.specs.declared.scalars.Scalars.{Scalars}
+use Rattle.state.specs.ScalarSetters.{putSerial, putMade}
+use Rattle.moves.specs.Motion.{next32}
 use Rattle.flow_laws.specs.Sending.{oneMade}
 use borrow.Author.Needs.{needs}
 use Rattle.flow.proofs.sending.one_made.Statement.{statement}
 use Rattle.flow.proofs.sending.one_made.Tie as tie
 
-plus32-requires : tie.Need-plus32-requires
-plus32-requires c κs = search needs
-
-plus32-requires-2 : tie.Need-plus32-requires-2
-plus32-requires-2 c κs = search needs
+made : (y x : Scalars) (a b : ℕ) (m : Bool) → y ≡ x → a ≡ next32 (x .made) → b ≡ next32 (x .serial) → m ≡ true → putSerial b (putMade a y) ≡ oneMade x m
+unfolding oneMade
+made y x a b m same e f h = rw (same, e, f, h)
 
 returns : tie.Need-returns
-unfolding oneMade
-returns c = rw (c .before .before .if1 .taken, c .plus322 .ensures, c .before .plus32 .ensures)
+returns c = made _ _ _ _ _ (c .before .before .by-fields .ensures) (c .before .plus32 .ensures) (c .plus322 .ensures) (c .before .before .before .if1 .taken)
 
 returns-2 : tie.Need-returns-2
 unfolding oneMade
 returns-2 c = rw (c .if1 .left)
 
 pub one-made-spec : {M : Type 1} → statement M
-one-made-spec = tie.close (tie.spec plus32-requires plus32-requires-2 returns returns-2)
+one-made-spec = tie.close (tie.spec (search needs) (search needs) (search needs) returns returns-2)

@@ -1,20 +1,19 @@
 -- `to_future` meets its contract: the row, then the scalars.
-use mathlib.Core.Path.{refl}
+use Prim.Native.Nat.{ℕ}
+use mathlib.Core.Path.{_≡_, refl}
+use mathlib.Core.List.{List}
+use Rattle.state.specs.declared.scalars.Scalars.{Scalars}
+use Rattle.state.specs.ScalarSetters.{putSerial}
+use Rattle.moves.specs.Motion.{Moved, moved, next32}
 use borrow.Author.Needs.{needs}
 use Rattle.flow.proofs.sending.to_future.Statement.{statement}
 use Rattle.flow.proofs.sending.to_future.Tie as tie
 
-row-to-future-requires : tie.Need-row-to-future-requires
-row-to-future-requires c κs = search needs
-
-plus32-requires : tie.Need-plus32-requires
-plus32-requires c κs = search needs
-
-same-length : tie.Need-same-length
-same-length c = search needs
+next-serial : (y x : Scalars) (n : ℕ) (w : List ℕ) (r : Moved) → y ≡ x → n ≡ next32 (x .serial) → moved (putSerial (next32 (x .serial)) x) w ≡ r → moved (putSerial n y) w ≡ r
+next-serial y x n w r same e h = rw (same, e) h
 
 returns : tie.Need-returns
-returns c = rw (c .plus32 .ensures) (c .before .before .before .row-to-future .ensures _ refl)
+returns c = next-serial _ _ _ _ _ (c .before .before .before .before .before .by-fields .ensures) (c .plus32 .ensures) (c .before .before .before .row-to-future .ensures _ refl)
 
 pub to-future-spec : {M : Type 1} → statement M
-to-future-spec = tie.close (tie.spec row-to-future-requires plus32-requires same-length returns)
+to-future-spec = tie.close (tie.spec (search needs) (search needs) (search needs) (search needs) returns)

@@ -1,21 +1,23 @@
 -- `end_one` meets its contract: each scalar.
+use Prim.Native.Nat.{ℕ, _-_}
+use mathlib.Core.Path.{_≡_}
+use mathlib.Core.Bool.{cond}
+use lib.Dec.{leb}
+use Rattle.state.specs.declared.scalars.Scalars.{Scalars}
+use Rattle.state.specs.ScalarSetters.{putNote, putEnd, putCounter, putEnded, putMoving}
+use Rattle.moves.specs.Motion.{next32}
 use Rattle.flow_laws.specs.Kinds.{endOne}
 use borrow.Author.Needs.{needs}
 use Rattle.flow.proofs.terminating.end_one.Statement.{statement}
 use Rattle.flow.proofs.terminating.end_one.Tie as tie
 
-plus32-requires : tie.Need-plus32-requires
-plus32-requires c κs = search needs
-
-less32-requires : tie.Need-less32-requires
-less32-requires c κs = search needs
-
-end-after-requires : tie.Need-end-after-requires
-end-after-requires c κs = search needs
+ended : (y x : Scalars) (a n counter end : ℕ) → y ≡ x → n ≡ next32 (x .ended) → counter ≡ x .counter - a → end ≡ cond (leb (x .counter) a) 2 0
+    → putNote 0 (putEnd end (putCounter counter (putEnded n (putMoving 1024 y)))) ≡ endOne x a
+unfolding endOne
+ended y x a n counter end same e f g = rw (same, e, f, g)
 
 returns : tie.Need-returns
-unfolding endOne
-returns c = rw (c .end-after .ensures, c .before .less32 .ensures, c .before .before .plus32 .ensures)
+returns c = ended _ _ _ _ _ _ (c .before .before .before .by-fields .ensures) (c .before .before .plus32 .ensures) (c .before .less32 .ensures) (c .end-after .ensures)
 
 pub end-one-spec : {M : Type 1} → statement M
-end-one-spec = tie.close (tie.spec plus32-requires less32-requires end-after-requires returns)
+end-one-spec = tie.close (tie.spec (search needs) (search needs) (search needs) (search needs) returns)

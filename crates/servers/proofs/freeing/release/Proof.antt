@@ -12,7 +12,7 @@ returns c = rw (← c .before .before .before .before .before .before .before .b
 
 returns-2 : tie.Need-returns-2
 unfolding releaseRows
-returns-2 c = rw (c .with-outcome .ensures, ← c .before .before .before .before .before .before .before .before .before .before .before .before .before .before .before .before .before .before .before .server-at .ensures .0, ← c .before .before .before .before .before .before .before .before .before .before .before .before .before .before .before .before .before .in-use .ensures, ← c .before .before .before .before .before .before .before .before .before .before .before .before .before .before .before .read .ensures, ← c .before .before .before .before .before .before .before .before .before .before .before .before .before .preempted .ensures, ← c .before .before .before .before .before .before .before .before .before .before .before .holder .ensures, ← c .before .before .before .before .before .before .before .before .before .before .ask-release .ensures, eq-eqb _ 0 (c .before .before .before .before .before .before .before .before .before .if1 .left), ← c .before .before .before .before .before .before .less64 .ensures) (c .before .before .before .before .before .free-one .ensures _ refl refl)
+returns-2 c = rw (c .with-outcome .ensures, ← c .before .before .before .before .before .before .before .before .before .before .before .before .before .before .before .before .before .before .before .server-at .ensures .0, ← c .before .before .before .before .before .before .before .before .before .before .before .before .before .before .before .before .before .in-use .ensures, ← c .before .before .before .before .before .before .before .before .before .before .before .before .before .before .before .read .ensures, ← c .before .before .before .before .before .before .before .before .before .before .before .before .before .preempted .ensures, ← c .before .before .before .before .before .before .before .before .before .before .before .holder .ensures, ← c .before .before .before .before .before .before .before .before .before .before .ask-release .ensures, eq-eqb _ 0 (c .before .before .before .before .before .before .before .before .before .if1 .left), ← c .before .before .before .before .before .before .less64 .ensures) (c .before .before .before .before .before .release-one .ensures _ refl refl)
 
 pub release-spec : {M : Type 1} → statement M
 release-spec =

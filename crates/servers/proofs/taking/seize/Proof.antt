@@ -7,7 +7,7 @@ use Rattle.servers.proofs.taking.seize.Tie as tie
 
 returns : tie.Need-returns
 unfolding seizeRows
-returns c = rw (c .with-outcome .ensures, ← c .before .before .before .before .before .before .before .before .before .before .server-at .ensures .0, ← c .before .before .before .before .before .before .before .before .read .ensures) (c .before .before .before .before .before .take-units .ensures _ refl refl refl)
+returns c = rw (c .with-outcome .ensures, ← c .before .before .before .before .before .before .before .before .before .before .server-at .ensures .0, ← c .before .before .before .before .before .before .before .before .read .ensures) (c .before .before .before .before .before .seize-one .ensures _ refl refl refl)
 
 pub seize-spec : {M : Type 1} → statement M
 seize-spec =
