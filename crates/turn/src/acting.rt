@@ -7,7 +7,9 @@ use decisions::ws;
 use rows::NEXT;
 use rows::NUMBER;
 use rows::ROWS;
+use rows::WSL;
 use rows::cells::read;
+use rows::lists::first;
 use state::Scalars;
 use state::less32;
 use tables::ASKED;
@@ -16,9 +18,11 @@ use tables::CLOCK_ASKED;
 use tables::TABLES;
 use tables::TALLY;
 ghost use mathlib.Core.Path.{_≡_};
-ghost use Prim.Native.Nat.{_+_, _<_, _≤_};
+ghost use Prim.Native.Nat.{ℕ, _+_, _<_, _≤_};
+ghost use mathlib.Core.List.{List};
 ghost use Rattle.machine.specs.Limits.{maxBlocks, maxFacilities};
-ghost use Rattle.rows_laws.specs.Layout.{Room, rowCount};
+ghost use Rattle.rows_laws.specs.Layout.{Room, rowCount, nextField};
+ghost use Rattle.rows_laws.specs.Cells.{read};
 ghost use Rattle.state.specs.Stands.{rowsOf};
 ghost use Rattle.turn_laws.specs.Turn.{traced, act, actMoving, clockAsks, asks, schemeIf, afterTaking, turn};
 
@@ -102,21 +106,29 @@ fn clock_asked(tables: &[u32; TABLES], before: u64, after: u64) -> bool
     tables::number(tables, CLOCK_ASKED) != 0
 }
 
-// Are those that wait on comparisons asked again after this turn, of a clock before it and the scalars after the taking? Not if none of
-// them reads what the block of whoever moves changes.
-fn asked(tables: &[u32; TABLES], work: &[u32], before: u64, x: Scalars) -> bool
+// The block that row k stands before, if it is one.
+fn next_of(work: &[u32], k: u32) -> u32
     requires { ⌜ Room (now work) ⌝ }
-    ensures { λ r. ⌜ r ≡ asks (now (tables .entry)) (now (work .entry)) before x ⌝ }
+    ensures { λ r. ⌜ (k < rowCount → r ≡ read (now (work .entry)) nextField k) ⌝ }
 {
-    let clock = x.clock;
+    if k >= ROWS {
+        return 0;
+    }
+    read(work, NEXT, k)
+}
+
+// Are those that wait on comparisons asked again after a turn, of a clock before it, the clock after the taking, the row that moves and
+// the block that it stood before? Not if none of them reads what the block of whoever moves changes.
+fn asked(tables: &[u32; TABLES], before: u64, clock: u64, k: u32, block: u32) -> bool
+    ensures { λ r. ⌜ ((w : List ℕ) (x : Scalars) → x .clock ≡ clock → x .moving ≡ k → (k < rowCount → block ≡ read w nextField k) → r ≡ asks (now (tables .entry)) w before x) ⌝ }
+{
     if clock_asked(tables, before, clock) {
         return true;
     }
-    let k = x.moving;
     if k >= ROWS {
         return true;
     }
-    let b = less32(read(work, NEXT, k), 1) as usize;
+    let b = less32(block, 1) as usize;
     if b >= Model::MAX_BLOCKS {
         return true;
     }
@@ -143,6 +155,30 @@ fn scheme(
     ws(tables, blocks, values, work, tally, x);
 }
 
+// The same after a turn; where nobody is on the WSL, it does nothing, and whether they are asked is not looked at.
+fn scheme_after(
+    tables: &[u32; TABLES],
+    blocks: usize,
+    values: usize,
+    work: &mut [u32],
+    tally: &[u64; TALLY],
+    x: Scalars,
+    before: u64,
+    clock: u64,
+    k: u32,
+    block: u32,
+)
+    requires { ⌜ blocks ≤ maxBlocks ⌝ }
+    requires { ⌜ Room (now work) ⌝ }
+    ensures { λ _. ⌜ ((w : List ℕ) (y : Scalars) → y .clock ≡ clock → y .moving ≡ k → (k < rowCount → block ≡ read w nextField k) → now (work .exit) ≡ schemeIf (asks (now (tables .entry)) w before y) (now (tables .entry)) blocks values (now (tally .entry)) x (now (work .entry))) ⌝ }
+{
+    if first(work, WSL) >= ROWS {
+        return;
+    }
+    let asks = asked(tables, before, clock, k, block);
+    scheme(tables, blocks, values, work, tally, x, asks);
+}
+
 // A turn after the taking, of the clock before it.
 fn after_taking(
     model: Model,
@@ -159,7 +195,9 @@ fn after_taking(
     requires { ⌜ Room (now work) ⌝ }
     ensures { λ r. ⌜ traced (rowsOf r (now (work .exit)) (now (tally .exit))) (now (trace .exit)) ≡ afterTaking (now (tables .entry)) (model .blocks) (model .values) (model .facilities) (now (tape .entry)) (now (trace .entry)) before (rowsOf x (now (work .entry)) (now (tally .entry))) ⌝ }
 {
-    let asks = asked(tables, work, before, x);
+    let clock = x.clock;
+    let k = x.moving;
+    let block = next_of(work, k);
     let y = act_moving(
         tables,
         model.values,
@@ -170,7 +208,18 @@ fn after_taking(
         trace,
         x,
     );
-    scheme(tables, model.blocks, model.values, work, tally, y, asks);
+    scheme_after(
+        tables,
+        model.blocks,
+        model.values,
+        work,
+        tally,
+        y,
+        before,
+        clock,
+        k,
+        block,
+    );
     y
 }
 

@@ -1,13 +1,18 @@
 -- The parts of a turn, each given by an equation, make the turn.
-use Prim.Native.Nat.{ℕ}
+use Prim.Native.Nat.{ℕ, _+_, _≤_}
 use mathlib.Core.Bool.{Bool, true, false, cond}
-use mathlib.Core.Path.{_≡_, sym, ap, subst, _∙_}
+use mathlib.Core.Path.{_≡_, refl, sym, ap, subst, _∙_}
 use mathlib.Core.List.{List}
+use lib.Dec.{eqb}
 use Rattle.constants.specs.declared.model.Model.{Model}
+use Rattle.rows_laws.specs.Layout.{head, wsl}
+use Rattle.rows_laws.specs.Lists.{first}
+use Rattle.rows_laws.specs.Wake.{wakeAll}
+use Rattle.rows_laws.proofs.Steps.{wakeAll-stop}
 use Rattle.state.specs.declared.scalars.Scalars.{Scalars}
 use Rattle.state.specs.Stands.{Rows, rowsOf}
 use Rattle.clock.specs.Taking.{take}
-use Rattle.decisions_laws.specs.Scheme.{wsScheme}
+use Rattle.decisions_laws.specs.Scheme.{leaves, wsScheme}
 use Rattle.turn_laws.specs.Note.{Noted, noted, noteRecord}
 use Rattle.turn_laws.specs.Turn.{Traced, traced, withNote, actMoving, asks, schemeIf, withScheme, afterTaking, turn}
 
@@ -27,6 +32,16 @@ pub scheme-so : (b : Bool) (tables : List ℕ) (blocks values : ℕ) (tally : Li
     → w′ ≡ wsScheme tables blocks values tally x w → w′ ≡ schemeIf b tables blocks values tally x w
 unfolding schemeIf
 scheme-so b tables blocks values tally x w w′ e f = f ∙ ap (λ (c : Bool). cond c (wsScheme tables blocks values tally x w) w) (sym e)
+
+-- where nobody is on the WSL, asked or not
+pub scheme-none : (b : Bool) (tables : List ℕ) (blocks values : ℕ) (tally : List ℕ) (x : Scalars) (w : List ℕ) → 1024 ≤ first w wsl → w ≡ schemeIf b tables blocks values tally x w
+unfolding schemeIf wsScheme
+scheme-none b tables blocks values tally x w h = go b (eqb (x .end) 0)
+  where
+    go : (c e : Bool) → w ≡ cond c (cond e (wakeAll (leaves tables blocks values tally (x .clock)) 1024 w wsl (head wsl)) w) w
+    go true true = sym (wakeAll-stop _ _ _ _ 1024 h)
+    go true false = refl
+    go false e = refl
 
 pub after-turned : (tables : List ℕ) (blocks values facilities : ℕ) (tape trace : List ℕ) (before : ℕ) (y : Scalars) (w₁ tally₁ : List ℕ) (b : Bool) (z : Scalars) (w₂ tally₂ trace₂ w₃ : List ℕ)
     → b ≡ asks tables w₁ before y → traced (rowsOf z w₂ tally₂) trace₂ ≡ actMoving tables values facilities tape w₁ tally₁ trace y
