@@ -1,18 +1,9 @@
 -- One block over the rows leaves what the machine's block does, apart from its record.
-use Prim.Native.Nat.{ℕ, zero, suc, _-_}
-use mathlib.Core.Path.{_≡_, refl, subst}
-use mathlib.Core.List.{List, _∷_}
-use lib.ListN.{length}
-use Rattle.machine.specs.Transaction.{Transaction}
-use Rattle.machine.specs.Term.{always, whenTrue}
-use Rattle.machine.specs.Block.{Block, generate, advance, terminate, waitServer, waitTerms, assign, priority, split, BlockModel, facility, storage, up, down, takes, frees, moves, counts, assemble, preempt, giveBack}
-use Rattle.machine.specs.State.{State}
-use Rattle.tables.specs.Forms.{blockForms}
-use Rattle.tables.specs.Numbers.{blockNumbers}
-use Rattle.tables.specs.Represents.{At}
+use Rattle.machine.specs.All.{ℕ, zero, suc, _-_, _≡_, refl, subst, List, _∷_, length, Transaction, always, whenTrue, Block, generate, advance, terminate, waitServer, waitTerms, assign, priority, split, BlockModel, facility, storage, up, down, takes, frees, moves, counts, assemble, preempt, giveBack, State}
+use Rattle.tables.specs.All.{blockForms, blockNumbers, At}
 use Rattle.terms.proofs.Found.{at-first}
 use Rattle.state.specs.declared.scalars.Scalars.{Scalars}
-use Rattle.state.specs.Stands.{Done}
+use Rattle.state.specs.All.{Done}
 use Rattle.moves.specs.Before.{placeOf, bareBlock, Before}
 use Rattle.moves.proofs.BeforeLaws.{inside}
 use Rattle.flow_laws.proofs.GenerateLaw.{generate-done}

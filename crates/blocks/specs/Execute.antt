@@ -1,11 +1,7 @@
 -- The row machine: one block, by its kind.
-use Prim.Native.Nat.{ℕ}
-use mathlib.Core.Bool.{cond}
-use mathlib.Core.List.{List}
-use lib.Dec.{eqb}
-use lib.ListN.{getD}
+use Rattle.machine.specs.All.{ℕ, cond, List, eqb, getD}
 use Rattle.state.specs.declared.scalars.Scalars.{Scalars}
-use Rattle.state.specs.Stands.{Rows, rowsOf}
+use Rattle.state.specs.All.{Rows, rowsOf}
 use Rattle.moves.specs.Motion.{withTally}
 use Rattle.flow_laws.specs.Kinds.{generateRows, advanceRows, terminateRows, priorityRows, splitRows}
 use Rattle.flow_laws.specs.Gathering.{assembleRows}

@@ -1,1 +1,2 @@
 pub mod Execute
+unfoldable pub use Execute.*

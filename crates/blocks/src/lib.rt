@@ -23,12 +23,10 @@ use state::by_fields;
 use tables::TABLES;
 use tables::TALLY;
 use tables::number;
-ghost use mathlib.Core.Path.{_≡_};
-ghost use Prim.Native.Nat.{_<_, _≤_};
-ghost use Rattle.machine.specs.Limits.{maxFacilities};
-ghost use Rattle.tables.specs.Layout.{programSize};
-ghost use Rattle.rows_laws.specs.Layout.{Room, rowCount};
-ghost use Rattle.state.specs.Stands.{rowsOf};
+ghost use Rattle.machine.specs.All.{_≡_, _<_, _≤_, maxFacilities};
+ghost use Rattle.tables.specs.All.{programSize};
+ghost use Rattle.rows_laws.specs.All.{Room, rowCount};
+ghost use Rattle.state.specs.All.{rowsOf};
 ghost use Rattle.blocks.specs.Execute.{execute};
 
 // The block at `at` of the tables, for the moving transaction. A number that is no kind changes nothing.

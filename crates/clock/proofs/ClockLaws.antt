@@ -1,36 +1,17 @@
 -- A clock move follows the machine: it is counted, and all of the first time come from the FEL to REL.
-use Prim.Native.Nat.{ℕ, suc, _+_, _≤_, _<_}
-use mathlib.Core.Path.{_≡_, refl, sym, ap, _∙_, subst}
-use mathlib.Core.Bool.{Bool, false}
-use mathlib.Core.List.{List, [], _∷_}
-use mathlib.Core.Option.{none}
-use native.Mathlib.Omega.{arith}
-use borrow.Author.Tests.{lt-ltb, le-ltb}
-use lib.ListN.{length, getD}
-use Rattle.machine.specs.Limits.{maxClock}
-use Rattle.machine.specs.Transaction.{Transaction, Event, precedes}
-use Rattle.machine.specs.Lists.{insert, those, others}
-use Rattle.machine.specs.Block.{BlockModel}
-use Rattle.machine.specs.State.{State}
-use Rattle.machine.specs.Setters.{setRel, setSerial, withSerial, withReturning}
+use Rattle.machine.specs.All.{ℕ, suc, _+_, _≤_, _<_, _≡_, refl, sym, ap, _∙_, subst, Bool, false, List, [], _∷_, none, arith, lt-ltb, le-ltb, length, getD, maxClock, Transaction, Event, precedes, insert, those, others, BlockModel, State, setRel, setSerial, withSerial, withReturning, Each}
 use Rattle.machine.specs.Turn as Machine
-use Rattle.machine.specs.Claims.{Each}
 use Rattle.machine.proofs.decoding.Proper.{Proper}
 use Rattle.machine.proofs.lists.Sums.{sum-length, sum-insert, sum-those}
-use Rattle.tables.specs.Layout.{clockMoves}
-use Rattle.rows_laws.specs.Layout.{rel, fel}
-use Rattle.rows_laws.specs.Lists.{first}
-use Rattle.rows_laws.specs.Clock.{Arrived, arrive, arrivals}
-use Rattle.rows_laws.specs.Holds.{eventAt, update}
+use Rattle.tables.specs.All.{clockMoves}
+use Rattle.rows_laws.specs.All.{rel, fel, first, Arrived, arrive, arrivals, eventAt, update}
 use Rattle.rows_laws.proofs.Take.{Head, nobody, somebody}
 use Rattle.rows_laws.proofs.Laws.{Arrives, head-fel-shows, arrive-shows}
 use Rattle.state.specs.declared.scalars.Scalars.{Scalars}
-use Rattle.state.specs.ScalarSetters.{putClock, putSerial}
-use Rattle.state.specs.Sane.{Sane}
-use Rattle.state.specs.Stands.{Rows, rowsOf, listsIn, listsOf, Listing, Tallying, Counting, Stands}
+use Rattle.state.specs.All.{putClock, putSerial, Sane, Rows, rowsOf, listsIn, listsOf, Listing, Tallying, Counting, Stands}
 use Rattle.state.proofs.Measured.{clocked, moved-clock}
 use Rattle.state.proofs.ListsOf.{lists-set-rel}
-use Rattle.clock.specs.Taking.{countMove, moveClock, nextEvents}
+use Rattle.clock.specs.{countMove, moveClock, nextEvents}
 use Rattle.clock.proofs.Population.{listing-ready}
 use Rattle.clock.proofs.SampleLaws.{tally-moved}
 

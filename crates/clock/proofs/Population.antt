@@ -1,23 +1,9 @@
 -- A change of REL and the FEL alone: how many rows stand on lists, and the relation to the state that has these lists.
-use Prim.Native.Nat.{ℕ, zero, suc, _+_, _-_, _≤_, _<_}
-use mathlib.Core.Path.{_≡_, refl, ap}
-use mathlib.Core.Logic.{_≢_}
-use mathlib.Core.Bool.{Bool, true, false}
-use mathlib.Core.List.{List}
-use mathlib.Core.Option.{Option}
-use native.Mathlib.Omega.{arith}
-use borrow.Author.Tests.{eqb-true, eqb-false, eq-eqb, ne-eqb}
-use lib.Dec.{eqb}
-use lib.ListN.{length}
-use Rattle.machine.specs.Transaction.{Transaction, Event}
-use Rattle.machine.specs.State.{State}
-use Rattle.rows_laws.specs.Layout.{rel}
-use Rattle.rows_laws.specs.Holds.{update}
-use Rattle.rows_laws.specs.Living.{sumTo, loose, onLists}
-use Rattle.rows_laws.specs.Shows.{Shows}
+use Rattle.machine.specs.All.{ℕ, zero, suc, _+_, _-_, _≤_, _<_, _≡_, refl, ap, _≢_, Bool, true, false, List, Option, arith, eqb-true, eqb-false, eq-eqb, ne-eqb, eqb, length, Transaction, Event, State}
+use Rattle.rows_laws.specs.All.{rel, update, sumTo, loose, onLists, Shows}
 use Rattle.rows_laws.proofs.Ordering.{shows-ext}
 use Rattle.rows_laws.proofs.Population.{population}
-use Rattle.state.specs.Stands.{listsIn, listsOf, Moving, Listing}
+use Rattle.state.specs.All.{listsIn, listsOf, Moving, Listing}
 
 -- ---- Lengths summed over the lists
 

@@ -1,26 +1,13 @@
 -- Taking the first of REL follows the machine.
-use Prim.Native.Nat.{ℕ, suc, _≤_, _<_}
-use mathlib.Core.Path.{_≡_, refl, sym, ap, subst}
-use mathlib.Core.List.{List, _∷_}
-use mathlib.Core.Option.{Option, none, some}
-use native.Mathlib.Omega.{arith}
-use borrow.Author.Tests.{lt-ltb, le-ltb}
-use lib.ListN.{length, drop}
-use Rattle.machine.specs.Transaction.{Transaction}
-use Rattle.machine.specs.State.{State}
-use Rattle.machine.specs.Setters.{setRel, setMoving}
+use Rattle.machine.specs.All.{ℕ, suc, _≤_, _<_, _≡_, refl, sym, ap, subst, List, _∷_, Option, none, some, arith, lt-ltb, le-ltb, length, drop, Transaction, State, setRel, setMoving}
 use Rattle.machine.specs.Turn as Machine
-use Rattle.rows_laws.specs.Layout.{rel}
-use Rattle.rows_laws.specs.Lists.{removeAt, first, takeFirst}
-use Rattle.rows_laws.specs.Holds.{transactionAt, update}
-use Rattle.rows_laws.specs.Shows.{Shows}
+use Rattle.rows_laws.specs.All.{rel, removeAt, first, takeFirst, transactionAt, update, Shows}
 use Rattle.rows_laws.proofs.Data.{transaction-kept}
 use Rattle.rows_laws.proofs.Take.{Head, nobody, somebody}
 use Rattle.rows_laws.proofs.Laws.{Takes, head-shows, take-shows}
-use Rattle.state.specs.ScalarSetters.{putMoving}
-use Rattle.state.specs.Stands.{Rows, rowsOf, listsIn, listsOf, Stands}
+use Rattle.state.specs.All.{putMoving, Rows, rowsOf, listsIn, listsOf, Stands}
 use Rattle.state.proofs.ListsOf.{lists-set-rel}
-use Rattle.clock.specs.Taking.{readyScalars, takeReady}
+use Rattle.clock.specs.{readyScalars, takeReady}
 use Rattle.clock.proofs.Population.{listing-ready}
 
 -- nobody is on REL: nothing changes

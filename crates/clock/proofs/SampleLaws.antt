@@ -1,34 +1,15 @@
 -- A clock move that is only counted stands for the machine's sampled servers and queues: their sums and longest, brought up to date, are
 -- the machine's. Sums of 64 bits hold them.
-use Prim.Native.Nat.{ℕ, zero, suc, _+_, _*_, _-_, max, _≤_, _<_}
-use mathlib.Core.Path.{_≡_, refl, sym, ap, _∙_}
-use mathlib.Core.Logic.{_≢_}
-use mathlib.Core.Bool.{Bool, true, false}
-use mathlib.Core.List.{List, [], _∷_, map}
-use native.Mathlib.Nat.{mul-le-mul}
-use native.Mathlib.Omega.{arith}
-use borrow.Author.Tests.{ltb-true, ltb-false}
-use lib.Dec.{ltb}
-use lib.ListN.{length, getD, length-map, length-set, List·getD-eq-default}
-use lib.Seq.{getD-set-same, getD-set-other}
-use Rattle.machine.specs.Limits.{maxClock}
-use Rattle.machine.specs.Transaction.{Transaction}
-use Rattle.machine.specs.Lists.{bit}
-use Rattle.machine.specs.Term.{Server, Queue, idleServer, emptyQueue}
-use Rattle.machine.specs.Block.{BlockModel}
-use Rattle.machine.specs.State.{State}
+use Rattle.machine.specs.All.{ℕ, zero, suc, _+_, _*_, _-_, max, _≤_, _<_, _≡_, refl, sym, ap, _∙_, _≢_, Bool, true, false, List, [], _∷_, map, mul-le-mul, arith, ltb-true, ltb-false, ltb, length, getD, length-map, length-set, List·getD-eq-default, getD-set-same, getD-set-other, maxClock, Transaction, bit, Server, Queue, idleServer, emptyQueue, BlockModel, State, Each}
 use Rattle.machine.specs.Turn as Machine
-use Rattle.machine.specs.Claims.{Each}
 use Rattle.machine.proofs.decoding.Proper.{Proper, servers}
 use Rattle.machine.proofs.runs.Shape.{each-getD, server-length}
-use Rattle.tables.specs.Layout.{most64}
-use Rattle.state.specs.Sane.{Sane}
-use Rattle.state.specs.Statistics.{sumNow, longestNow}
-use Rattle.state.specs.Stands.{Seen, Serving, Queueing, Sampling, Tallied, Tallying}
+use Rattle.tables.specs.All.{most64}
+use Rattle.state.specs.All.{Sane, sumNow, longestNow, Seen, Serving, Queueing, Sampling, Tallied, Tallying}
 use Rattle.state.proofs.Held.{held-same}
 use Rattle.state.proofs.Measured.{units-small}
 use Rattle.state.proofs.StatisticsLaws.{seen-later, sum-later, longest-later}
-use Rattle.clock.specs.Taking.{countMove}
+use Rattle.clock.specs.{countMove}
 
 -- ---- Numbers of 64 bits: a sum over at most as many ticks as a clock has
 

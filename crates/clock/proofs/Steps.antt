@@ -1,15 +1,9 @@
 -- What each way through the functions of the taking returns.
-use Prim.Native.Nat.{ℕ, _+_, min, _≤_, _<_}
-use mathlib.Core.Path.{_≡_, ap, _∙_}
-use mathlib.Core.List.{List}
-use borrow.Author.Tests.{lt-ltb, le-ltb}
-use Rattle.rows_laws.specs.Layout.{rel, fel}
-use Rattle.rows_laws.specs.Lists.{first}
-use Rattle.rows_laws.specs.Clock.{Arrived, arrived, arrive}
+use Rattle.machine.specs.All.{ℕ, _+_, min, _≤_, _<_, _≡_, ap, _∙_, List, lt-ltb, le-ltb}
+use Rattle.rows_laws.specs.All.{rel, fel, first, Arrived, arrived, arrive}
 use Rattle.state.specs.declared.scalars.Scalars.{Scalars}
-use Rattle.state.specs.ScalarSetters.{putTurns, putMoving}
-use Rattle.state.specs.Stands.{Rows, rowsOf}
-use Rattle.clock.specs.Taking.{countMove, movedTo, moveClock, firstTime, nextEvents, readyScalars, readyWork, takeReady, counted, take}
+use Rattle.state.specs.All.{putTurns, putMoving, Rows, rowsOf}
+use Rattle.clock.specs.{countMove, movedTo, moveClock, firstTime, nextEvents, readyScalars, readyWork, takeReady, counted, take}
 
 pub ready-taken : (w : List ℕ) (x y : Scalars) (k : ℕ) → y ≡ x → k ≡ first w rel → k < 1024 → putMoving k y ≡ readyScalars w x
 unfolding readyScalars

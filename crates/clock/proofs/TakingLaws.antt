@@ -1,29 +1,14 @@
 -- The taking follows the machine: where the rows stand for a state before a turn, what `take` leaves stands for the state in which
 -- the turn's block finds the machine.
-use Prim.Native.Nat.{ℕ, suc, _≤_, _<_}
-use mathlib.Core.Path.{_≡_, refl, sym, ap, _∙_, subst}
-use mathlib.Core.Bool.{false}
-use mathlib.Core.List.{List, [], _∷_}
-use mathlib.Core.Option.{Option, none, some}
-use native.Mathlib.Omega.{arith}
-use borrow.Author.Tests.{lt-ltb, le-ltb}
-use Rattle.machine.specs.Limits.{maxTurns}
-use Rattle.machine.specs.Transaction.{Transaction, Event}
-use Rattle.machine.specs.Block.{BlockModel}
-use Rattle.machine.specs.State.{State}
-use Rattle.machine.specs.Setters.{setTurns, withReturning}
-use Rattle.machine.specs.Moves.{toRel}
+use Rattle.machine.specs.All.{ℕ, suc, _≤_, _<_, _≡_, refl, sym, ap, _∙_, subst, false, List, [], _∷_, Option, none, some, arith, lt-ltb, le-ltb, maxTurns, Transaction, Event, BlockModel, State, setTurns, withReturning, toRel}
 use Rattle.machine.specs.Turn as Machine
 use Rattle.machine.proofs.decoding.Proper.{Proper}
-use Rattle.rows_laws.specs.Layout.{rel}
-use Rattle.rows_laws.specs.Lists.{first}
-use Rattle.rows_laws.specs.Holds.{transactionAt}
+use Rattle.rows_laws.specs.All.{rel, first, transactionAt}
 use Rattle.rows_laws.proofs.Take.{Head, nobody, somebody}
 use Rattle.rows_laws.proofs.Laws.{head-shows}
-use Rattle.state.specs.Sane.{Sane}
-use Rattle.state.specs.Stands.{Rows, rowsOf, listsIn, listsOf, Stands}
+use Rattle.state.specs.All.{Sane, Rows, rowsOf, listsIn, listsOf, Stands}
 use Rattle.state.proofs.Sanity.{takenOf, sane-turns}
-use Rattle.clock.specs.Taking.{nextEvents, takeReady, counted, take}
+use Rattle.clock.specs.{nextEvents, takeReady, counted, take}
 use Rattle.clock.proofs.ReadyLaws.{ready-stands}
 use Rattle.clock.proofs.ClockLaws.{events-stands}
 

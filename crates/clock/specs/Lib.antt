@@ -1,1 +1,2 @@
 pub mod Taking
+unfoldable pub use Taking.*

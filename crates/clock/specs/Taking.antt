@@ -1,17 +1,9 @@
 -- The row machine: the taking of a turn.
-use Prim.Native.Nat.{ℕ, _+_, min}
-use mathlib.Core.Bool.{cond}
-use mathlib.Core.List.{List}
-use lib.Dec.{ltb}
-use lib.ListN.{getD, set}
-use Rattle.tables.specs.Layout.{most32, most64, clockMoves}
-use Rattle.rows_laws.specs.Layout.{rel, fel, rowCount, serialEnd}
-use Rattle.rows_laws.specs.Cells.{timeOf}
-use Rattle.rows_laws.specs.Lists.{first, takeFirst}
-use Rattle.rows_laws.specs.Clock.{Arrived, arrive}
+use Rattle.machine.specs.All.{ℕ, _+_, min, cond, List, ltb, getD, set}
+use Rattle.tables.specs.All.{most32, most64, clockMoves}
+use Rattle.rows_laws.specs.All.{rel, fel, rowCount, serialEnd, timeOf, first, takeFirst, Arrived, arrive}
 use Rattle.state.specs.declared.scalars.Scalars.{Scalars}
-use Rattle.state.specs.ScalarSetters.{putClock, putMoving, putSerial, putTurns}
-use Rattle.state.specs.Stands.{Rows, rowsOf}
+use Rattle.state.specs.All.{putClock, putMoving, putSerial, putTurns, Rows, rowsOf}
 
 -- one clock move more; what it means for statistics is found when they are brought up to date
 unfoldable pub countMove : List ℕ → List ℕ

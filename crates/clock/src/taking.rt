@@ -14,10 +14,9 @@ use state::plus64;
 use tables::CLOCK_MOVES;
 use tables::count;
 use tables::set_count;
-ghost use mathlib.Core.Path.{_≡_};
-ghost use Prim.Native.Nat.{_<_};
-ghost use Rattle.rows_laws.specs.Layout.{Room, serialEnd};
-ghost use Rattle.state.specs.Stands.{rowsOf};
+ghost use Rattle.machine.specs.All.{_≡_, _<_};
+ghost use Rattle.rows_laws.specs.All.{Room, serialEnd};
+ghost use Rattle.state.specs.All.{rowsOf};
 ghost use Rattle.clock.specs.Taking.{countMove, moveClock, nextEvents, readyScalars, readyWork, take};
 
 // One clock move more.

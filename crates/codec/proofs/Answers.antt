@@ -1,20 +1,9 @@
 -- The answers, pure: from the definition's number to `Read`, and from a `Read` to a field.
-use Prim.Native.Nat.{ℕ, suc, _+_, _-_, _≤_, _<_}
-use native.Mathlib.Nat.{add-sub-cancel-left}
-use native.Mathlib.Omega.{arith}
-use mathlib.Core.List.{List}
-use mathlib.Core.Option.{Option, none, some}
-use mathlib.Core.Path.{_≡_, refl, sym, ap, _∙_}
-use lib.ListN.{length, drop, getD, drop-of-length-le, length-drop}
-use lib.Seq.{drop-cons}
-use borrow.Author.Tests.{eq-eqb, ne-eqb, le-leb, lt-leb}
-use Rattle.machine.specs.Limits.{maxNumberBytes}
-use Rattle.machine.specs.Number.{Number, groups, padded, within, readNumber}
-use Rattle.machine.specs.Parser.{parsed, refused, fieldOf, fieldUpTo}
+use Rattle.machine.specs.All.{ℕ, suc, _+_, _-_, _≤_, _<_, add-sub-cancel-left, arith, List, Option, none, some, _≡_, refl, sym, ap, _∙_, length, drop, getD, drop-of-length-le, length-drop, drop-cons, eq-eqb, ne-eqb, le-leb, lt-leb, maxNumberBytes, Number, groups, padded, within, readNumber, parsed, refused, fieldOf, fieldUpTo}
 use Rattle.codec.specs.declared.Read.{Read}
 use Rattle.codec.specs.declared.Read.the-variants.{Number as Whole, Refused as Unread}
 use Rattle.codec.specs.declared.Field.the-variants.{Value, Refused}
-use Rattle.codec.specs.Answers.{numberOf, readAs, cursorAt}
+use Rattle.codec.specs.{numberOf, readAs, cursorAt}
 use Rattle.codec.proofs.Numbers.{accepted}
 use Rattle.codec.proofs.Steps.{groups-empty}
 

@@ -1,21 +1,9 @@
 -- A field, pure: the answer of `read_field` in the paper's terms; a number within the range reads back; what a field takes
 -- is, written again, the same bytes.
-use Prim.Native.Nat.{ℕ, suc, _+_, _≤_}
-use native.Mathlib.Omega.{arith}
-use mathlib.Core.Bool.{Bool, true, false, cond, _&&_}
-use mathlib.Core.List.{List, _++_}
-use mathlib.Core.Option.{Option, none, some}
-use mathlib.Core.Path.{_≡_, refl, sym, ap, _∙_}
-use lib.Dec.{leb}
-use lib.ListN.{length, drop, take, take-append-drop}
-use lib.Seq.{drop-append-seam, drop-drop, length-take-le}
-use borrow.Author.Tests.{le-leb, leb-true}
-use Rattle.machine.specs.Limits.{maxNumberBytes, fiveGroups}
-use Rattle.machine.specs.Number.{Number, numberBytes, readNumber}
-use Rattle.machine.specs.Parser.{Cursor, Parsed, parsed, refused, fieldOf, fieldUpTo}
+use Rattle.machine.specs.All.{ℕ, suc, _+_, _≤_, arith, Bool, true, false, cond, _&&_, List, _++_, Option, none, some, _≡_, refl, sym, ap, _∙_, leb, length, drop, take, take-append-drop, drop-append-seam, drop-drop, length-take-le, le-leb, leb-true, maxNumberBytes, fiveGroups, Number, numberBytes, readNumber, Cursor, Parsed, parsed, refused, fieldOf, fieldUpTo}
 use Rattle.codec.specs.declared.Field.{Field}
 use Rattle.codec.specs.declared.Field.the-variants.{Value, Refused}
-use Rattle.codec.specs.Answers.{cursorAt, parsedOf}
+use Rattle.codec.specs.{cursorAt, parsedOf}
 use Rattle.codec.proofs.Groups.{Bytes, bytes-drop}
 use Rattle.codec.proofs.Numbers.{numberBytes-length, numberBytes-reads, numberBytes-read, accepted}
 

@@ -1,17 +1,6 @@
 -- Groups of seven bits, pure: a number of j groups is below 128 ^ j; `upper` does not depend on its fuel; what `upper`
 -- writes, `groups` reads, and the other way round.
-use Prim.Native.Nat.{ℕ, zero, suc, _+_, _*_, _-_, _/_, _%_, _^_, _≤_, _<_}
-use native.Mathlib.Nat.{pow-suc, pow-le-pow-right, one-le-pow, lt-of-lt-of-le}
-use native.Mathlib.Omega.{arith}
-use mathlib.Core.Bool.{Bool, true, false}
-use mathlib.Core.List.{List, [], _∷_, _++_, append-assoc}
-use mathlib.Core.Option.{Option, none, some}
-use mathlib.Core.Path.{_≡_, refl, sym, ap, _∙_}
-use lib.Dec.{ltb, eqb, lit<}
-use lib.ListN.{length, drop, take, getD, length-append}
-use lib.Seq.{getD-drop}
-use borrow.Author.Tests.{lt-ltb, le-ltb, ne-eqb, eqb-true, eqb-false, ltb-true, ltb-false}
-use Rattle.machine.specs.Number.{Number, upper, numberBytes, longer, groups, padded}
+use Rattle.machine.specs.All.{ℕ, zero, suc, _+_, _*_, _-_, _/_, _%_, _^_, _≤_, _<_, pow-suc, pow-le-pow-right, one-le-pow, lt-of-lt-of-le, arith, Bool, true, false, List, [], _∷_, _++_, append-assoc, Option, none, some, _≡_, refl, sym, ap, _∙_, ltb, eqb, lit<, length, drop, take, getD, length-append, getD-drop, lt-ltb, le-ltb, ne-eqb, eqb-true, eqb-false, ltb-true, ltb-false, Number, upper, numberBytes, longer, groups, padded}
 
 -- ---- Groups written
 

@@ -1,17 +1,6 @@
 -- Whole numbers, pure: a written number reads back whatever stands before and after it; every number that is accepted
 -- is, written again, the same bytes; how many bytes a number takes.
-use Prim.Native.Nat.{ℕ, zero, suc, _+_, _-_, _/_, _%_, _^_, _≤_, _<_}
-use native.Mathlib.Omega.{arith}
-use mathlib.Core.Bool.{Bool, true, false, cond}
-use mathlib.Core.List.{List, [], _∷_, _++_, append-assoc}
-use mathlib.Core.Option.{Option, none, some}
-use mathlib.Core.Path.{_≡_, refl, sym, ap, ap₂, _∙_}
-use lib.Dec.{leb, lit≤}
-use lib.ListN.{length, drop, take, length-append}
-use lib.Seq.{drop-append-seam}
-use borrow.Author.Tests.{le-leb, leb-true}
-use Rattle.machine.specs.Limits.{maxNumberBytes, fiveGroups, maxReportNumberBytes, maxReportNumber}
-use Rattle.machine.specs.Number.{Number, upper, numberBytes, groups, padded, within, readNumber}
+use Rattle.machine.specs.All.{ℕ, zero, suc, _+_, _-_, _/_, _%_, _^_, _≤_, _<_, arith, Bool, true, false, cond, List, [], _∷_, _++_, append-assoc, Option, none, some, _≡_, refl, sym, ap, ap₂, _∙_, leb, lit≤, length, drop, take, length-append, drop-append-seam, le-leb, leb-true, maxNumberBytes, fiveGroups, maxReportNumberBytes, maxReportNumber, Number, upper, numberBytes, groups, padded, within, readNumber}
 use Rattle.codec.proofs.Groups.{Bytes, above-lt, above-le, upper-zero, upper-length, upper-least, upper-fuel, lengthened, lengthened-some, groups-last, groups-upper, groups-bytes, groups-size, padded-upper, none-some}
 
 -- ---- Length

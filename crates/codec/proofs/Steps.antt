@@ -1,19 +1,9 @@
 -- One turn of the reading loop, pure: what the rest of the bytes gives is what is left after one more group.
 -- And its numbers fit: a number of at most nine groups with `left` groups to come has (v + 1) * 128 ^ left ≤ 128 ^ 9.
-use Prim.Native.Nat.{ℕ, zero, suc, _+_, _*_, _-_, _^_, _≤_, _<_}
-use native.Mathlib.Nat.{pow-suc, pow-le-pow-right, one-le-pow, mul-assoc, mul-comm, mul-le-mul-right, le-mul-of-pos-right, le-trans, one-mul}
-use native.Mathlib.Omega.{arith}
-use mathlib.Core.Bool.{Bool, true, false, cond}
-use mathlib.Core.List.{List, [], _∷_}
-use mathlib.Core.Option.{Option, none, some}
-use mathlib.Core.Path.{_≡_, refl, sym, ap, _∙_}
-use lib.Dec.{leb, lit<}
-use lib.ListN.{length, drop, getD, drop-of-length-le}
-use lib.Seq.{drop-cons}
-use Rattle.machine.specs.Number.{Number, groups, longer, within}
+use Rattle.machine.specs.All.{ℕ, zero, suc, _+_, _*_, _-_, _^_, _≤_, _<_, pow-suc, pow-le-pow-right, one-le-pow, mul-assoc, mul-comm, mul-le-mul-right, le-mul-of-pos-right, le-trans, one-mul, arith, Bool, true, false, cond, List, [], _∷_, Option, none, some, _≡_, refl, sym, ap, _∙_, leb, lit<, length, drop, getD, drop-of-length-le, drop-cons, Number, groups, longer, within}
 use Rattle.codec.specs.declared.Read.{Read}
 use Rattle.codec.specs.declared.Read.the-variants.{Number as Whole, Refused as Unread}
-use Rattle.codec.specs.Answers.{readAs}
+use Rattle.codec.specs.{readAs}
 use Rattle.codec.proofs.Groups.{groups-last, groups-more}
 
 -- the answer at p to the groups that begin there

@@ -1,15 +1,5 @@
 -- Stores from the last group up, pure: what is stored first stands last.
-use Prim.Native.Nat.{ℕ, zero, suc, _+_, _-_, _/_, _%_, _≤_, _<_}
-use native.Mathlib.Nat.{add-zero}
-use native.Mathlib.Omega.{arith}
-use mathlib.Core.Bool.{Bool, true, false}
-use mathlib.Core.List.{List, [], _∷_, _++_}
-use mathlib.Core.Path.{_≡_, refl, sym, ap, _∙_}
-use lib.Dec.{eqb}
-use lib.ListN.{length, set, length-append}
-use lib.Seq.{sets, set-comm}
-use borrow.Author.Tests.{eqb-true, eqb-false}
-use Rattle.machine.specs.Number.{upper, numberBytes}
+use Rattle.machine.specs.All.{ℕ, zero, suc, _+_, _-_, _/_, _%_, _≤_, _<_, add-zero, arith, Bool, true, false, List, [], _∷_, _++_, _≡_, refl, sym, ap, _∙_, eqb, length, set, length-append, sets, set-comm, eqb-true, eqb-false, upper, numberBytes}
 use Rattle.codec.proofs.Groups.{upper-zero, upper-step}
 
 -- storing the last element first

@@ -1,15 +1,6 @@
 -- A number at a position, pure: with room its bytes stand there, without room nothing changes.
-use Prim.Native.Nat.{ℕ, _+_, _≤_, _<_}
-use native.Mathlib.Omega.{arith}
-use mathlib.Core.Bool.{Bool, true, false}
-use mathlib.Core.List.{List}
-use mathlib.Core.Path.{_≡_, refl, ap, _∙_}
-use lib.Dec.{leb}
-use lib.ListN.{length}
-use lib.Seq.{sets, length-sets}
-use borrow.Author.Tests.{le-leb, lt-leb, leb-true, leb-false}
-use Rattle.machine.specs.Number.{numberBytes}
-use Rattle.codec.specs.Writing.{Written, written, put}
+use Rattle.machine.specs.All.{ℕ, _+_, _≤_, _<_, arith, Bool, true, false, List, _≡_, refl, ap, _∙_, leb, length, sets, length-sets, le-leb, lt-leb, leb-true, leb-false, numberBytes}
+use Rattle.codec.specs.{Written, written, put}
 
 pub put-room : (at v : ℕ) (l : List ℕ) → at + length (numberBytes v) ≤ length l →
     put v (written at l) ≡ written (at + length (numberBytes v)) (sets l at (numberBytes v))

@@ -1,8 +1,5 @@
 -- What the answers of this crate say in the paper's terms. The contracts use these.
-use Prim.Native.Nat.{ℕ, _+_, _-_}
-use mathlib.Core.Option.{Option, none, some}
-use Rattle.machine.specs.Number.{Number}
-use Rattle.machine.specs.Parser.{Cursor, Parsed, parsed, refused}
+use Rattle.machine.specs.All.{ℕ, _+_, _-_, Option, none, some, Number, Cursor, Parsed, parsed, refused}
 use Rattle.codec.specs.declared.Read.{Read}
 use Rattle.codec.specs.declared.Read.the-variants.{Number as Whole, Refused as Unread}
 use Rattle.codec.specs.declared.Field.{Field}

@@ -1,2 +1,4 @@
 pub mod Answers
 pub mod Writing
+unfoldable pub use Answers.*
+unfoldable pub use Writing.*

@@ -1,11 +1,5 @@
 -- A number written at a position, if there is room for it.
-use Prim.Native.Nat.{ℕ, _+_}
-use mathlib.Core.Bool.{cond}
-use mathlib.Core.List.{List}
-use lib.Dec.{leb}
-use lib.ListN.{length}
-use lib.Seq.{sets}
-use Rattle.machine.specs.Number.{numberBytes}
+use Rattle.machine.specs.All.{ℕ, _+_, cond, List, leb, length, sets, numberBytes}
 
 -- a buffer, and the position after what was written
 pub record Written : Type 0 where

@@ -1,15 +1,7 @@
 // Numbers in bytes (document 01, "Bytes"): groups of seven bits, highest first, top bit set on all
 // bytes but the last, shortest form.
 use constants::Model;
-ghost use mathlib.Core.Path.{_≡_};
-ghost use mathlib.Core.Bool.{cond};
-ghost use Prim.Native.Nat.{ℕ, _+_, _≤_, _<_};
-ghost use lib.Dec.{leb};
-ghost use lib.ListN.{length, drop};
-ghost use lib.Seq.{sets};
-ghost use Rattle.machine.specs.Limits.{fiveGroups, maxNumberBytes, maxReportNumberBytes, maxReportNumber};
-ghost use Rattle.machine.specs.Number.{groups, within, readNumber, numberBytes};
-ghost use Rattle.machine.specs.Parser.{fieldUpTo};
+ghost use Rattle.machine.specs.All.{_≡_, cond, ℕ, _+_, _≤_, _<_, leb, length, drop, sets, fiveGroups, maxNumberBytes, maxReportNumberBytes, maxReportNumber, groups, within, readNumber, numberBytes, fieldUpTo};
 ghost use Rattle.codec.specs.Answers.{numberOf, readAs, cursorAt, parsedOf};
 ghost use Rattle.codec.specs.Writing.{written, put};
 

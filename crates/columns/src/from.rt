@@ -3,9 +3,7 @@ use crate::restore::write_trace;
 use crate::survey::survey_columns;
 use columns_laws::Survey;
 use trace::Written;
-ghost use mathlib.Core.Path.{_≡_};
-ghost use Prim.Native.Nat.{ℕ, _≤_};
-ghost use lib.ListN.{length};
+ghost use Rattle.machine.specs.All.{_≡_, ℕ, _≤_, length};
 ghost use Rattle.trace.specs.Answers.{writingOf, after};
 ghost use Rattle.columns_laws.specs.Columns.{fromColumns};
 

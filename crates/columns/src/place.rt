@@ -4,8 +4,7 @@ use columns_laws::Entry;
 use columns_laws::Walk;
 use trace::Reading;
 use trace::read_record;
-ghost use mathlib.Core.Path.{_≡_};
-ghost use Prim.Native.Nat.{_-_};
+ghost use Rattle.machine.specs.All.{_≡_, _-_};
 ghost use Rattle.columns_laws.specs.Walks.{recordAt, moved, place, placeAll};
 
 fn difference(clock: u64, before: u64) -> u64

@@ -5,9 +5,7 @@ use codec::write_number;
 use columns_laws::Number;
 use columns_laws::Walk;
 use constants::Model;
-ghost use mathlib.Core.Path.{_≡_};
-ghost use Prim.Native.Nat.{_≤_};
-ghost use Rattle.machine.specs.Limits.{maxClock};
+ghost use Rattle.machine.specs.All.{_≡_, _≤_, maxClock};
 ghost use Rattle.columns_laws.specs.Walks.{numberAt, later, moved, restore, restoreAll};
 
 // The number at a position; zero where none is read.

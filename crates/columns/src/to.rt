@@ -6,9 +6,7 @@ use codec::write_number;
 use columns_laws::Measured;
 use columns_laws::Walk;
 use trace::Written;
-ghost use mathlib.Core.Path.{_≡_};
-ghost use Prim.Native.Nat.{ℕ, _≤_};
-ghost use lib.ListN.{length};
+ghost use Rattle.machine.specs.All.{_≡_, ℕ, _≤_, length};
 ghost use Rattle.trace.specs.Answers.{writingOf, after};
 ghost use Rattle.columns_laws.specs.Columns.{toColumns};
 

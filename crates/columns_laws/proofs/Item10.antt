@@ -1,5 +1,5 @@
 -- Item 10 holds of the definitions.
-use Rattle.columns_laws.specs.Claims.{Item10}
+use Rattle.columns_laws.specs.{Item10}
 use Rattle.columns_laws.proofs.Claims.{taken-such, such-taken, taken-produced, produced-taken, trace-51, trace-52, columns-51, columns-52, inverse, inverse-back}
 use Rattle.columns_laws.proofs.Runs.{outcome-taken}
 

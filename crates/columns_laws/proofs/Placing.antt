@@ -1,14 +1,6 @@
 -- The second walk over a trace, pure: numbers stored by turns at four positions are, in the end, the four columns.
-use Prim.Native.Nat.{ℕ, suc, _+_, _-_, _≤_, _<_}
-use native.Mathlib.Nat.{zero-add}
-use native.Mathlib.Omega.{arith}
-use mathlib.Core.List.{List, [], _∷_, _++_}
-use mathlib.Core.Path.{_≡_, refl, sym, ap, _∙_}
-use lib.ListN.{length, set, length-append}
-use lib.Seq.{sets, set-comm, length-sets}
-use Rattle.machine.specs.Number.{numberBytes}
+use Rattle.machine.specs.All.{ℕ, suc, _+_, _-_, _≤_, _<_, zero-add, arith, List, [], _∷_, _++_, _≡_, refl, sym, ap, _∙_, length, set, length-append, sets, set-comm, length-sets, numberBytes, Record}
 use Rattle.machine.specs.Trace as machine
-use Rattle.machine.specs.Trace.{Record}
 use Rattle.codec.specs.Writing.{put, written}
 use Rattle.codec.proofs.Stores.{sets-append}
 use Rattle.codec.proofs.Writing.{put-room}
@@ -19,8 +11,7 @@ use Rattle.trace.specs.Answers.{readingOf}
 use Rattle.trace.specs.Whole.{Reads, ends, takes}
 use Rattle.columns_laws.specs.declared.walk.Walk.{Walk}
 use Rattle.columns_laws.specs.declared.place.Entry.{Entry}
-use Rattle.columns_laws.specs.Columns.{clocks, transactions, blocks, outcomes, differences, column, columnBytes}
-use Rattle.columns_laws.specs.Walks.{Moved, moved, entryOf, recordAt, place, placeAll}
+use Rattle.columns_laws.specs.{clocks, transactions, blocks, outcomes, differences, column, columnBytes, Moved, moved, entryOf, recordAt, place, placeAll}
 
 -- ---- The record at a position, by the reader's answer
 
@@ -54,7 +45,7 @@ pub place-more : (left : ℕ) (s : List ℕ) (t t′ : Walk) (out out′ : List 
     placeAll (left - 1) s t′ out′ ≡ placeAll left s t out
 place-more left s t t′ out out′ h e =
     let more : suc (left - 1) ≡ left = omega arith in
-    first ∙ ap (λ (p : Moved). placeAll (left - 1) s (p .walk) (p .bytes)) e ∙ last ∙ ap (λ (n : ℕ). placeAll n s t out) more
+    cc (first, e, last, more)
   where
     first : placeAll (left - 1) s t′ out′ ≡ placeAll (left - 1) s (moved t′ out′ .walk) (moved t′ out′ .bytes)
     first = unfold moved in refl
@@ -71,12 +62,12 @@ place-none left s t out h = let e : left ≡ 0 = omega arith in rw e
 set-past : (u l : List ℕ) (i j x : ℕ) → j < i → set (sets l i u) j x ≡ sets (set l j x) i u
 set-past [] l i j x h = refl
 set-past (y ∷ u) l i j x h =
-    set-past u (set l i y) (suc i) j x (omega arith) ∙ ap (λ (m : List ℕ). sets m (suc i) u) (set-comm l i j y x (λ e. omega arith))
+    cc (set-past u (set l i y) (suc i) j x (omega arith), set-comm l i j y x (λ e. omega arith))
 
 sets-past : (w u l : List ℕ) (i j : ℕ) → j + length w ≤ i → sets (sets l i u) j w ≡ sets (sets l j w) i u
 sets-past [] u l i j h = refl
 sets-past (x ∷ w) u l i j h =
-    ap (λ (m : List ℕ). sets m (suc j) w) (set-past u l i j x (omega arith)) ∙ sets-past w u (set l j x) i (suc j) (omega arith)
+    cc (set-past u l i j x (omega arith), sets-past w u (set l j x) i (suc j) (omega arith))
 
 -- four stores, then one behind each
 module _ (a b c d a′ b′ c′ d′ l : List ℕ) (i j k m : ℕ) (ij : i + length a + length a′ ≤ j) (jk : j + length b + length b′ ≤ k) (km : k + length c + length c′ ≤ m) where
@@ -101,10 +92,7 @@ module _ (a b c d a′ b′ c′ d′ l : List ℕ) (i j k m : ℕ) (ij : i + le
       let w = sets z j (b ++ b′) in
       let three : sets (sets (sets w k c) m d) (k + length c) c′ ≡ sets (sets w k (c ++ c′)) m d =
       sets-past c′ d (sets w k c) m (k + length c) (omega arith) ∙ ap (λ (y : List ℕ). sets y m d) (sets-append c c′ w k) in
-      ap (λ (y : List ℕ). sets (sets (sets y (j + length b) b′) (k + length c) c′) (m + length d) d′) one
-      ∙ ap (λ (y : List ℕ). sets (sets y (k + length c) c′) (m + length d) d′) two
-      ∙ ap (λ (y : List ℕ). sets y (m + length d) d′) three
-      ∙ sets-append d d′ (sets w k (c ++ c′)) m
+      cc (one, two, three, sets-append d d′ (sets w k (c ++ c′)) m)
 
 -- ---- Records placed
 
@@ -145,13 +133,13 @@ storedOne t r out =
 
 column-cons : (v : ℕ) (l : List ℕ) → length (column (v ∷ l)) ≡ length (numberBytes v) + length (column l)
 unfolding column
-column-cons v l = length-append (numberBytes v) (column l)
+column-cons v l = length-append (numberBytes v) _
 
 module _ (t : Walk) (r : Record) (l : List Record) (next : ℕ) (out : List ℕ) (room : Room t (r ∷ l) (length out)) where
   first-difference : length (column (differences (t .clock) (clocks (r ∷ l))))
       ≡ length (numberBytes (r .clock - t .clock)) + length (column (differences (r .clock) (clocks l)))
   unfolding differences
-  first-difference = column-cons (r .clock - t .clock) (differences (r .clock) (clocks l))
+  first-difference = column-cons _ _
 
   placed-one : place (record { clock = r .clock; transaction = r .transaction; block = r .block; outcome = r .outcome; next = next }) t out
       ≡ moved (behindOne t r next) (storedOne t r out)
@@ -163,7 +151,7 @@ module _ (t : Walk) (r : Record) (l : List Record) (next : ℕ) (out : List ℕ)
       let o1 = sets out (t .differences) (numberBytes (r .clock - t .clock)) in
       let o2 = sets o1 (t .transactions) (numberBytes (r .transaction)) in
       let o3 = sets o2 (t .blocks) (numberBytes (r .block)) in
-      let l1 : length o1 ≡ length out = length-sets out (t .differences) (numberBytes (r .clock - t .clock)) in
+      let l1 = length-sets out (t .differences) (numberBytes (r .clock - t .clock)) in
       let l2 : length o2 ≡ length out = length-sets o1 (t .transactions) (numberBytes (r .transaction)) ∙ l1 in
       let l3 : length o3 ≡ length out = length-sets o2 (t .blocks) (numberBytes (r .block)) ∙ l2 in
       let p1 = put-room (t .differences) (r .clock - t .clock) out (omega (arith, first-difference, n2, n3, n4, room)) in
@@ -177,28 +165,28 @@ module _ (t : Walk) (r : Record) (l : List Record) (next : ℕ) (out : List ℕ)
       let n2 = column-cons (r .transaction) (transactions l) in
       let n3 = column-cons (r .block) (blocks l) in
       let n4 = column-cons (r .outcome) (outcomes l) in
-      let o1 = sets out (t .differences) (numberBytes (r .clock - t .clock)) in
-      let o2 = sets o1 (t .transactions) (numberBytes (r .transaction)) in
-      let o3 = sets o2 (t .blocks) (numberBytes (r .block)) in
+      let o1 = sets out _ (numberBytes _) in
+      let o2 = sets o1 _ (numberBytes _) in
+      let o3 = sets o2 _ (numberBytes _) in
       let l4 : length (storedOne t r out) ≡ length out =
-      length-sets o3 (t .outcomes) (numberBytes (r .outcome)) ∙ length-sets o2 (t .blocks) (numberBytes (r .block))
-      ∙ length-sets o1 (t .transactions) (numberBytes (r .transaction)) ∙ length-sets out (t .differences) (numberBytes (r .clock - t .clock)) in
+      length-sets o3 _ (numberBytes _) ∙ length-sets o2 _ (numberBytes _)
+      ∙ length-sets o1 _ (numberBytes _) ∙ length-sets out _ (numberBytes _) in
       record {
-        differences = omega (arith, first-difference, room);
-        transactions = omega (arith, n2, room);
-        blocks = omega (arith, n3, room);
-        outcomes = omega (arith, n4, room, l4);
+        differences = omega (arith, first-difference);
+        transactions = omega arith;
+        blocks = omega arith;
+        outcomes = omega arith;
       }
 
   laid-behind : laid (behindOne t r next) l (storedOne t r out) ≡ laid t (r ∷ l) out
   unfolding column differences
   laid-behind =
-      stores-turned (numberBytes (r .clock - t .clock)) (numberBytes (r .transaction)) (numberBytes (r .block)) (numberBytes (r .outcome))
-      (column (differences (r .clock) (clocks l))) (column (transactions l)) (column (blocks l)) (column (outcomes l)) out
-      (t .differences) (t .transactions) (t .blocks) (t .outcomes)
-      (omega (arith, first-difference, room))
-      (omega (arith, column-cons (r .transaction) (transactions l), room))
-      (omega (arith, column-cons (r .block) (blocks l), room))
+      stores-turned (numberBytes _) (numberBytes _) (numberBytes _) (numberBytes _)
+      _ _ _ _ out
+      _ _ _ _
+      (omega (arith, first-difference))
+      (omega (arith, column-cons (r .transaction) (transactions l)))
+      (omega (arith, column-cons (r .block) (blocks l)))
 
 pub placed-all : {s : List ℕ} {at : ℕ} {l : List Record} → Reads s at l → (t : Walk) → t .at ≡ at → (out : List ℕ) → Room t l (length out) →
     placeAll (length l) s t out ≡ laid t l out
@@ -206,7 +194,7 @@ placed-all (ends e) t h out room = unfold placeAll column differences in refl
 placed-all {s = s} (takes {at = at} {next = next} {r = r} {l = l} e more) t h out room =
     let read : recordAt s (t .at) ≡ record { clock = r .clock; transaction = r .transaction; block = r .block; outcome = r .outcome; next = next } =
     rw (h, e) (unfold entryOf in refl) in
-    let one : place (recordAt s (t .at)) t out ≡ moved (behindOne t r next) (storedOne t r out) =
+    let one =
     ap (λ (x : Entry). place x t out) read ∙ placed-one t r l next out room in
     let rest = placed-all more (behindOne t r next) refl (storedOne t r out) (room-behind t r l next out room) in
     step one ∙ rest ∙ laid-behind t r l next out room
@@ -225,7 +213,7 @@ placed-all {s = s} (takes {at = at} {next = next} {r = r} {l = l} e more) t h ou
 -- ---- From the beginning
 
 sets-front : (u w l : List ℕ) (j : ℕ) → j ≡ length u → sets (sets l 0 u) j w ≡ sets l 0 (u ++ w)
-sets-front u w l j e = ap (λ (i : ℕ). sets (sets l 0 u) i w) (e ∙ sym (zero-add (length u))) ∙ sets-append u w l 0
+sets-front u w l j e = cc (e, zero-add (length u), sets-append u w l 0)
 
 pub columns-length : (l : List Record) → length (columnBytes l)
     ≡ length (numberBytes (length l)) + length (column (differences 0 (clocks l))) + length (column (transactions l)) + length (column (blocks l))
@@ -250,22 +238,22 @@ module _ (l : List Record) (out : List ℕ) (fits : length (columnBytes l) ≤ l
   pub columns-placed : {s : List ℕ} → Reads s 0 l → placeAll (length l) s firstColumns (sets out 0 (numberBytes (length l))) ≡ sets out 0 (columnBytes l)
   columns-placed {s} reads =
       let a = numberBytes (length l) in
-      let b = column (differences 0 (clocks l)) in
-      let c = column (transactions l) in
-      let d = column (blocks l) in
-      let e = column (outcomes l) in
+      let b = column _ in
+      let c = column _ in
+      let d = column _ in
+      let e = column _ in
       let ab = length-append a b in
       let abc = length-append (a ++ b) c in
       let abcd = length-append (a ++ b ++ c) d in
       let len = length-sets out 0 a in
       let room : Room firstColumns l (length (sets out 0 a)) =
       record { differences = omega arith; transactions = omega arith; blocks = omega arith; outcomes = omega (arith, columns-length l) } in
-      placed-all reads firstColumns refl (sets out 0 a) room
+      placed-all reads firstColumns refl _ room
       ∙ ap (λ (x : List ℕ). sets (sets (sets x (length a + length b) c) (length a + length b + length c) d) (length a + length b + length c + length d) e)
-      (sets-front a b out (length a) refl)
+      (sets-front a b out _ refl)
       ∙ ap (λ (x : List ℕ). sets (sets x (length a + length b + length c) d) (length a + length b + length c + length d) e)
-      (sets-front (a ++ b) c out (length a + length b) (sym ab))
+      (sets-front (a ++ b) c out _ (sym ab))
       ∙ ap (λ (x : List ℕ). sets x (length a + length b + length c + length d) e)
-      (sets-front (a ++ b ++ c) d out (length a + length b + length c) (omega arith))
-      ∙ sets-front (a ++ b ++ c ++ d) e out (length a + length b + length c + length d) (omega arith)
+      (sets-front (a ++ b ++ c) d out _ (omega arith))
+      ∙ sets-front (a ++ b ++ c ++ d) e out _ (omega arith)
       ∙ unfold columnBytes in refl

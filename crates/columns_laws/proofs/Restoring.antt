@@ -1,15 +1,7 @@
 -- The second walk over columns, pure: the records found, written one after the other, are the trace.
-use Prim.Native.Nat.{ℕ, zero, suc, _+_, _-_, _≤_, _<_}
-use native.Mathlib.Omega.{arith}
-use mathlib.Core.List.{List, _∷_, _++_}
-use mathlib.Core.Option.{Option}
-use mathlib.Core.Path.{_≡_, refl, sym, ap, ap₂, _∙_}
-use lib.ListN.{length, length-append}
-use lib.Seq.{sets, length-sets}
-use Rattle.machine.specs.Number.{numberBytes}
+use Rattle.machine.specs.All.{ℕ, zero, suc, _+_, _-_, _≤_, _<_, arith, List, _++_, Option, _≡_, refl, ap, ap₂, _∙_, length, length-append, sets, length-sets, numberBytes, Record, recordBytes, traceBytes}
 use Rattle.machine.specs.Number as bytes
-use Rattle.machine.specs.Trace.{Record, recordBytes, traceBytes}
-use Rattle.codec.specs.Writing.{Written, put, written}
+use Rattle.codec.specs.Writing.{put, written}
 use Rattle.codec.specs.declared.Read.{Read}
 use Rattle.codec.specs.declared.Read.the-variants.{Number as Whole, Refused as Unread}
 use Rattle.codec.specs.Answers.{numberOf}
@@ -18,7 +10,7 @@ use Rattle.codec.proofs.Writing.{put-room}
 use Rattle.trace.proofs.Writer.{recordBytes-length}
 use Rattle.columns_laws.specs.declared.walk.Walk.{Walk}
 use Rattle.columns_laws.specs.declared.restore.Number.{Number}
-use Rattle.columns_laws.specs.Walks.{numberOr, numberAt, later, Moved, moved, found, passed, restore, restoreAll, foundAll}
+use Rattle.columns_laws.specs.{numberOr, numberAt, later, moved, found, passed, restore, restoreAll, foundAll}
 
 -- ---- The number at a position, by the codec's answer
 
@@ -31,7 +23,7 @@ module _ (at : ℕ) (x : Read) {o : Option bytes.Number} (e : numberOf at x ≡ 
   unfolding numberOr numberOf
   number-read {v} {next} h after =
       let n : next ≡ at + (next - at) = omega arith in
-      rw (← e, h) (ap (λ (i : ℕ). record { value = v; next = i }) n)
+      rw (← e, h) (cc n)
 
 -- ---- One step of the code
 
@@ -51,7 +43,7 @@ pub restore-more : (left : ℕ) (s : List ℕ) (t t′ : Walk) (out out′ : Lis
     restoreAll (left - 1) s t′ out′ ≡ restoreAll left s t out
 restore-more left s t t′ out out′ h e =
     let more : suc (left - 1) ≡ left = omega arith in
-    first ∙ ap (λ (p : Moved). restoreAll (left - 1) s (p .walk) (p .bytes)) e ∙ last ∙ ap (λ (n : ℕ). restoreAll n s t out) more
+    cc (first, e, last, more)
   where
     first : restoreAll (left - 1) s t′ out′ ≡ restoreAll (left - 1) s (moved t′ out′ .walk) (moved t′ out′ .bytes)
     first = unfold moved in refl
@@ -87,11 +79,7 @@ module _ (r : Record) (at : ℕ) (out : List ℕ) (room : at + length (recordByt
       let p4 : put (r .outcome) (written (at + length (a ++ b ++ c)) (sets out at (a ++ b ++ c))) ≡ written (at + length (recordBytes r)) (sets out at (a ++ b ++ c ++ d)) =
       put-room (at + length (a ++ b ++ c)) (r .outcome) (sets out at (a ++ b ++ c)) (omega arith) ∙ ap₂ written (omega arith) (sets-append (a ++ b ++ c) d out at) in
       let all : a ++ b ++ c ++ d ≡ recordBytes r = unfold recordBytes in refl in
-      ap (λ (w : Written). put (r .outcome) (put (r .block) (put (r .transaction) w))) p1
-      ∙ ap (λ (w : Written). put (r .outcome) (put (r .block) w)) p2
-      ∙ ap (put (r .outcome)) p3
-      ∙ p4
-      ∙ ap (λ (u : List ℕ). written (at + length (recordBytes r)) (sets out at u)) all
+      cc (p1, p2, p3, p4, all)
 
 -- ---- All records
 
@@ -99,14 +87,14 @@ module _ (r : Record) (at : ℕ) (out : List ℕ) (room : at + length (recordByt
 found-at : (n : ℕ) (s : List ℕ) (t : Walk) (a b : ℕ) → foundAll n s (passed s t a) ≡ foundAll n s (passed s t b)
 unfolding foundAll found passed
 found-at zero s t a b = refl
-found-at (suc n) s t a b = ap (λ (l : List Record). found s (passed s t a) ∷ l) (found-at n s (passed s t a) a b)
+found-at (suc n) s t a b = cc (found-at n s (passed s t a) a b)
 
 pub restored-all : (n : ℕ) (s : List ℕ) (t : Walk) (out : List ℕ) → t .at + length (traceBytes (foundAll n s t)) ≤ length out →
     restoreAll n s t out ≡ sets out (t .at) (traceBytes (foundAll n s t))
 restored-all zero s t out room = unfold restoreAll foundAll traceBytes in refl
 restored-all (suc n) s t out room =
     step
-    (restored-all n s (passed s t (t .at + length (recordBytes (found s t)))) (sets out (t .at) (recordBytes (found s t))))
+    (restored-all n s _ _)
   where
     r : Record
     r = found s t
@@ -121,10 +109,10 @@ restored-all (suc n) s t out room =
     bytes-is = unfold foundAll traceBytes in refl
 
     same : traceBytes (foundAll n s (passed s t after)) ≡ rest
-    same = ap traceBytes (found-at n s t after (t .at))
+    same = cc (found-at n s t after (t .at))
 
     sum : length (traceBytes (foundAll (suc n) s t)) ≡ length (recordBytes r) + length rest
-    sum = ap length bytes-is ∙ length-append (recordBytes r) rest
+    sum = cc (bytes-is, length-append (recordBytes r) rest)
 
     one : restore s t out ≡ moved (passed s t after) (sets out (t .at) (recordBytes r))
     one = unfold restore in rw (record-put r (t .at) out (omega (arith, sum))) (unfold written in refl)
@@ -144,10 +132,4 @@ restored-all (suc n) s t out room =
         ≡ sets (sets out (t .at) (recordBytes r)) (passed s t after .at) (traceBytes (foundAll n s (passed s t after)))) →
         restoreAll (suc n) s t out ≡ sets out (t .at) (traceBytes (foundAll (suc n) s t))
     step again =
-        first
-        ∙ ap (λ (p : Moved). restoreAll n s (p .walk) (p .bytes)) one
-        ∙ last
-        ∙ again (omega (arith, position, ap length same, sum, length-sets out (t .at) (recordBytes r)))
-        ∙ ap₂ (λ (i : ℕ) (u : List ℕ). sets (sets out (t .at) (recordBytes r)) i u) position same
-        ∙ sets-append (recordBytes r) rest out (t .at)
-        ∙ ap (sets out (t .at)) (sym bytes-is)
+        cc (first, one, last, again (omega (arith, position, ap length same, sum, length-sets out (t .at) (recordBytes r))), position, same, sets-append (recordBytes r) rest out (t .at), bytes-is)

@@ -1,14 +1,7 @@
 -- The records of a whole trace, pure: `wholeFrom` by what the reader answers, and what it says of the bytes.
-use Prim.Native.Nat.{ℕ, zero, suc, _-_, _≤_}
-use native.Mathlib.Omega.{arith}
-use mathlib.Core.List.{List, [], _∷_}
-use mathlib.Core.Option.{Option, none, some}
-use mathlib.Core.Path.{_≡_, refl, sym, ap, _∙_}
-use lib.ListN.{length}
-use Rattle.machine.specs.Rules.{inForce}
-use Rattle.machine.specs.Trace.{Record, Reading, taken, refusal, noMore, readRecord}
+use Rattle.machine.specs.All.{ℕ, zero, suc, _-_, _≤_, arith, List, [], _∷_, Option, none, some, _≡_, refl, sym, ap, _∙_, length, inForce, Record, Reading, taken, refusal, noMore, readRecord}
 use Rattle.trace.specs.Whole.{Reads, ends, takes}
-use Rattle.columns_laws.specs.Columns.{behind, wholeFrom}
+use Rattle.columns_laws.specs.{behind, wholeFrom}
 
 module _ (s : List ℕ) where
   pub whole-refusal : (k n : ℕ) → wholeFrom k s (refusal n) ≡ none
@@ -61,7 +54,7 @@ module _ (s : List ℕ) where
           ((next : ℕ) (m : List Record) → wholeFrom k s (readRecord inForce s next) ≡ some m → Reads s next m × (length m ≤ k)) →
           wholeFrom (suc k) s y ≡ some l → Reads s at l × (length l ≤ suc k)
       go (taken r next) h again f =
-          let x = first r (wholeFrom k s (readRecord inForce s next)) l (sym (whole-taken s r next k) ∙ f) in
+          let x = first r _ l (sym (whole-taken s r next k) ∙ f) in
           let rest = again next (x .tail) (x .found) in
           rw (x .all) (takes h (rest .0), omega (arith, rest .1))
       go (refusal n) h again f = let z : _≡_ {A = ℕ} 0 1 = cc (whole-refusal s (suc k) n) in absurd (omega arith)
@@ -73,5 +66,5 @@ reads-whole {s = s} k (ends {at = at} e) h = rw e (whole-more s k)
 reads-whole {s = s} k (takes {at = at} {next = next} {r = r} {l = l} e t) h =
     let n : k ≡ suc (k - 1) = omega arith in
     let rest = reads-whole (k - 1) t (omega arith) in
-    ap (λ (m : ℕ). wholeFrom m s (readRecord inForce s at)) n ∙ ap (wholeFrom (suc (k - 1)) s) e ∙ whole-taken s r next (k - 1) ∙ ap (behind r) rest
+    ap (λ (m : ℕ). wholeFrom m s (readRecord inForce s at)) n ∙ ap (wholeFrom _ s) e ∙ whole-taken s r next _ ∙ ap (behind r) rest
     ∙ unfold behind in refl

@@ -1,13 +1,5 @@
 -- What is claimed of the definitions of item 10, as one statement (proved in ../proofs/Item10.antt).
-use Prim.Native.Nat.{ℕ, _≤_, _<_}
-use mathlib.Core.Bool.{true}
-use mathlib.Core.List.{List}
-use mathlib.Core.Option.{some}
-use mathlib.Core.Path.{_≡_}
-use lib.ListN.{length, getD}
-use Rattle.machine.specs.Rules.{inForce}
-use Rattle.machine.specs.Trace.{Record, traceBytes, written, rejected}
-use Rattle.machine.specs.Outcome.{outcome}
+use Rattle.machine.specs.All.{ℕ, _≤_, _<_, true, List, some, _≡_, length, getD, inForce, Record, traceBytes, written, rejected, outcome}
 use Rattle.trace.specs.Whole.{Reads}
 use Rattle.columns_laws.specs.Columns.{maxRecords, clocks, columnBytes, neverFall, takenTrace, takenColumns, toColumns, fromColumns}
 

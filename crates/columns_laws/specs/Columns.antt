@@ -1,17 +1,5 @@
 -- Document 02, item 10, "Traces by column": the bytes of both forms, and which traces and columns are taken.
-use Prim.Native.Nat.{ℕ, zero, suc, _+_, _-_}
-use mathlib.Core.Bool.{Bool, true, cond, _&&_}
-use mathlib.Core.List.{List, [], _∷_, _++_, map}
-use mathlib.Core.Option.{Option, none, some}
-use lib.Dec.{leb}
-use lib.ListN.{length}
-use Rattle.machine.specs.Rules.{inForce}
-use Rattle.machine.specs.Limits.{maxClock, maxTransaction, maxBlocks}
-use Rattle.machine.specs.Number.{numberBytes}
-use Rattle.machine.specs.Parser.{Parser, Parsed, parsed, refused, _>>=_, _>>_, give, times}
-use Rattle.machine.specs.Decode.{atEnd}
-use Rattle.machine.specs.Validate.{beginning}
-use Rattle.machine.specs.Trace.{Record, traceBytes, Reading, taken, refusal, noMore, traceField, readRecord, Writing, written, rejected}
+use Rattle.machine.specs.All.{ℕ, zero, suc, _+_, _-_, Bool, true, cond, _&&_, List, [], _∷_, _++_, map, Option, none, some, leb, length, inForce, maxClock, maxTransaction, maxBlocks, numberBytes, Parser, Parsed, parsed, refused, _>>=_, _>>_, give, times, atEnd, beginning, Record, traceBytes, Reading, taken, refusal, noMore, traceField, readRecord, Writing, written, rejected}
 
 -- "up to 100,000,000 records"
 abbrev pub maxRecords : ℕ

@@ -1,9 +1,5 @@
 -- Item 10 by examples: three records at clocks 3, 5 and 133 and their columns; the empty trace; and the answers 51 and 52.
-use mathlib.Core.List.{List, [], _∷_}
-use mathlib.Core.Path.{_≡_, refl}
-use Prim.Native.Nat.{ℕ}
-use Rattle.machine.specs.Bundle.{everything}
-use Rattle.machine.specs.Trace.{written, rejected}
+use Rattle.machine.specs.All.{List, [], _∷_, _≡_, refl, ℕ, everything, written, rejected}
 use Rattle.columns_laws.specs.Columns.{differences, column, columnBytes, neverFall, behind, wholeFrom, rising, takenTrace, rows, clocksFrom, columnFields, recordsOf, takenColumns, answer, toColumns, fromColumns}
 
 unfoldable all : Unit {0}

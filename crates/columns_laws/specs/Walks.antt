@@ -1,17 +1,6 @@
 -- The walks of the code over positions: what each step reads, counts and writes.
-use Prim.Native.Nat.{ℕ, zero, suc, _+_, _*_, _-_, _≤_}
-use mathlib.Core.Bool.{cond}
-use mathlib.Core.List.{List, [], _∷_}
-use mathlib.Core.Option.{Option, none, some}
-use mathlib.Core.Path.{_≡_}
-use lib.Dec.{ltb, eqb}
-use lib.ListN.{length, drop}
-use Rattle.machine.specs.Rules.{inForce}
-use Rattle.machine.specs.Limits.{maxClock, maxNumberBytes, fiveGroups}
+use Rattle.machine.specs.All.{ℕ, zero, suc, _+_, _*_, _-_, _≤_, cond, List, [], _∷_, Option, none, some, _≡_, ltb, eqb, length, drop, inForce, maxClock, maxNumberBytes, fiveGroups, numberBytes, readNumber, Parsed, parsed, refused, Record, traceBytes, Reading, taken, refusal, noMore, readRecord}
 use Rattle.machine.specs.Number as bytes
-use Rattle.machine.specs.Number.{numberBytes, readNumber}
-use Rattle.machine.specs.Parser.{Parsed, parsed, refused}
-use Rattle.machine.specs.Trace.{Record, traceBytes, Reading, taken, refusal, noMore, readRecord}
 use Rattle.codec.specs.Writing as at
 use Rattle.codec.specs.Writing.{put}
 use Rattle.columns_laws.specs.Columns.{maxRecords, clocks, transactions, blocks, outcomes, differences, column, neverFall, takenColumns}

@@ -1,6 +1,5 @@
 // The header of a model, and the limits of documents 01 and 02 as its constants.
-ghost use mathlib.Core.Path.{_≡_};
-ghost use Rattle.machine.specs.Limits.{maxFacilities, maxStorages, maxCapacity, maxQueues, maxValues, maxLists, maxCounter, maxBlocks, maxLiving, maxSamples, maxTime, maxPriority, parameterCount, maxTerminate, maxSplit, maxBack, maxAssemble, maxConstant, maxTerms, maxValueNumbers, maxBrackets, maxMentions, maxSerial, maxTurns, recordRoom, maxClock, maxTransaction, maxNumberBytes, maxNumber, fiveGroups, maxReportNumberBytes, maxReportNumber, workNumbers, reportRoom};
+ghost use Rattle.machine.specs.All.{_≡_, maxFacilities, maxStorages, maxCapacity, maxQueues, maxValues, maxLists, maxCounter, maxBlocks, maxLiving, maxSamples, maxTime, maxPriority, parameterCount, maxTerminate, maxSplit, maxBack, maxAssemble, maxConstant, maxTerms, maxValueNumbers, maxBrackets, maxMentions, maxSerial, maxTurns, recordRoom, maxClock, maxTransaction, maxNumberBytes, maxNumber, fiveGroups, maxReportNumberBytes, maxReportNumber, workNumbers, reportRoom};
 
 // The header of a decoded model: how many there are of each thing, and the counter.
 pub struct Model {

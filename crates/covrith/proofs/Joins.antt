@@ -1,14 +1,10 @@
 -- The answers of the join in the numbers that cross the boundary.
-use Prim.Native.Nat.{ℕ}
-use native.Mathlib.Omega.{arith}
-use mathlib.Core.List.{List, [], _∷_}
-use mathlib.Core.Path.{_≡_, refl, sym, _∙_}
-use lib.ListN.{length}
+use Rattle.machine.specs.All.{ℕ, arith, [], _∷_, _≡_, refl, sym, _∙_}
 use Rattle.join.specs.declared.Joined.{Joined}
 use Rattle.join.specs.declared.Joined.the-variants.{Bytes, Refused}
 use Rattle.join_laws.specs.Joining.{Joining, joined, refused}
 use Rattle.join.specs.Contract.{answer}
-use Rattle.covrith.specs.Answers.{joinAnswer, joinLengths}
+use Rattle.covrith.specs.{joinAnswer, joinLengths}
 
 module _ (x : Joined) (j : Joining) (e : x ≡ answer j) where
   pub joined-bytes : (m t : ℕ) → x ≡ Bytes m t → (0 ≡ joinAnswer j) × (m ∷ t ∷ [] ≡ joinLengths j)

@@ -1,9 +1,5 @@
 -- The answers of reader and writer as numbers, for each case of the covered functions' answers.
-use Prim.Native.Nat.{ℕ, _≤_}
-use mathlib.Core.List.{List, [], _∷_}
-use mathlib.Core.Path.{_≡_, refl, sym}
-use lib.ListN.{length}
-use lib.Seq.{length-take-le}
+use Rattle.machine.specs.All.{ℕ, _≤_, List, [], _∷_, _≡_, refl, sym, length, length-take-le}
 use Rattle.machine.specs.Trace as machine
 use Rattle.trace.specs.Answers.{readingOf, writingOf}
 use Rattle.trace.specs.declared.Record.{Record}
@@ -11,7 +7,7 @@ use Rattle.trace.specs.declared.Reading.{Reading}
 use Rattle.trace.specs.declared.Reading.the-variants.{Taken, Refused, NoMore}
 use Rattle.trace.specs.declared.Written.{Written}
 use Rattle.trace.specs.declared.Written.the-variants.{Bytes, Refused as Rejected}
-use Rattle.covrith.specs.Answers.{readAnswer, readNumbers, writeAnswer, writeCount}
+use Rattle.covrith.specs.{readAnswer, readNumbers, writeAnswer, writeCount}
 
 -- ---- Reader
 

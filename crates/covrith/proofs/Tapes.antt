@@ -1,13 +1,10 @@
 -- The answers of the tape maker in the numbers that cross the boundary.
-use Prim.Native.Nat.{ℕ}
-use native.Mathlib.Omega.{arith}
-use mathlib.Core.Path.{_≡_, refl, sym, _∙_}
-use lib.ListN.{length}
+use Rattle.machine.specs.All.{ℕ, arith, _≡_, refl, sym, _∙_}
 use Rattle.tapes_laws.specs.declared.Made.{Made}
 use Rattle.tapes_laws.specs.declared.Made.the-variants.{Bytes, Refused}
 use Rattle.tapes_laws.specs.Tape.{Making, made, refusal}
 use Rattle.tapes_laws.specs.Answers.{answer}
-use Rattle.covrith.specs.Answers.{tapeAnswer, tapeCount}
+use Rattle.covrith.specs.{tapeAnswer, tapeCount}
 
 module _ (x : Made) (m : Making) (e : x ≡ answer m) (n : ℕ) where
   pub made-bytes : x ≡ Bytes n → (0 ≡ tapeAnswer m) × (n ≡ tapeCount m)

@@ -1,12 +1,9 @@
 -- What the functions for other languages answer, in the numbers that cross the boundary.
-use Prim.Native.Nat.{ℕ}
-use mathlib.Core.List.{List, [], _∷_}
-use lib.ListN.{length}
+use Rattle.machine.specs.All.{ℕ, List, [], _∷_, length, Reading, taken, refusal, noMore, Writing, written, rejected}
 use Rattle.streams.specs.declared.Started.{Started}
 use Rattle.streams.specs.declared.Started.the-variants.{State, Refused}
 use Rattle.tapes_laws.specs.Tape.{Making, made, refusal as unmade}
 use Rattle.join_laws.specs.Joining.{Joining, joined, refused}
-use Rattle.machine.specs.Trace.{Reading, taken, refusal, noMore, Writing, written, rejected}
 
 -- ---- Reader: 0 and five numbers, or 30 for "no more", 31 or 32; a refusal leaves the numbers as they were
 

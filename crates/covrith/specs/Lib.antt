@@ -1,2 +1,3 @@
 pub mod Answers
 pub mod Results
+unfoldable pub use Answers.*

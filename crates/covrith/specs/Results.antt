@@ -1,7 +1,5 @@
 -- The eight numbers of a run, in the paper's order: "refusal (0 for none), end, clock, turns, made, ended, bytes of trace and of report".
-use Prim.Native.Nat.{ℕ}
-use mathlib.Core.List.{List}
-use lib.ListN.{getD}
+use Rattle.machine.specs.All.{ℕ, List, getD}
 use Rattle.engine_laws.specs.declared.outcome.Outcome.{Outcome}
 
 abbrev pub results : List ℕ → Outcome

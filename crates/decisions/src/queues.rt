@@ -11,12 +11,10 @@ use tables::FIRST;
 use tables::count;
 use tables::number;
 use tables::set_count;
-ghost use mathlib.Core.Path.{_≡_};
-ghost use Prim.Native.Nat.{_+_, _<_, _≤_};
-ghost use Rattle.machine.specs.Limits.{maxQueues};
-ghost use Rattle.tables.specs.Layout.{programSize};
-ghost use Rattle.rows_laws.specs.Layout.{Room, rowCount};
-ghost use Rattle.state.specs.Stands.{rowsOf};
+ghost use Rattle.machine.specs.All.{_≡_, _+_, _<_, _≤_, maxQueues};
+ghost use Rattle.tables.specs.All.{programSize};
+ghost use Rattle.rows_laws.specs.All.{Room, rowCount};
+ghost use Rattle.state.specs.All.{rowsOf};
 ghost use Rattle.decisions_laws.specs.Queues.{queueOf, change, arriveRows, departRows};
 
 const QUEUES: u32 = Model::MAX_QUEUES as u32;

@@ -20,12 +20,9 @@ use tables::TALLY;
 use tables::THIRD;
 use tables::number;
 use terms::related;
-ghost use mathlib.Core.Path.{_≡_};
-ghost use Prim.Native.Nat.{_+_, _*_, _<_, _≤_};
-ghost use Rattle.machine.specs.Limits.{maxBlocks};
-ghost use Rattle.tables.specs.Layout.{blockWidth, most32};
-ghost use Rattle.rows_laws.specs.Layout.{Room, rowCount, wsl};
-ghost use Rattle.rows_laws.specs.Wake.{passRows, passCell};
+ghost use Rattle.machine.specs.All.{_≡_, _+_, _*_, _<_, _≤_, maxBlocks};
+ghost use Rattle.tables.specs.All.{blockWidth, most32};
+ghost use Rattle.rows_laws.specs.All.{Room, rowCount, wsl, passRows, passCell};
 ghost use Rattle.decisions_laws.specs.Scheme.{blockOf, leavesBy, wsScheme};
 
 // The left term of a block at a position, and the right one.

@@ -1,41 +1,24 @@
 -- WAITIF and IF on a comparison, GOTO and LET leave what the machine's do.
-use Prim.Native.Nat.{ℕ, suc, _+_, _-_, _≤_}
-use mathlib.Core.Path.{_≡_, refl, sym, ap, _∙_}
-use mathlib.Core.Bool.{Bool, true, false, cond}
-use mathlib.Core.List.{List}
-use mathlib.Core.Option.{none, some}
-use native.Mathlib.Omega.{arith}
-use borrow.Author.Tests.{lt-ltb}
-use lib.ListN.{length, getD, set}
+use Rattle.machine.specs.All.{ℕ, suc, _+_, _-_, _≤_, _≡_, refl, sym, ap, _∙_, Bool, true, false, cond, List, none, some, arith, lt-ltb, length, getD, set, Transaction, precedes, Term, Relation, signed, low32, evaluate, compare, truth, Block, waitTerms, branch, goto, assign, BlockModel, State, withParameters, setMoving, question}
 use lib.IntN.{ℤ}
 use mir.Syntax.{w32}
 use mir.Val.{toZ}
-use Rattle.machine.specs.Transaction.{Transaction, precedes}
-use Rattle.machine.specs.Term.{Term, Relation, signed, low32, evaluate, compare, truth}
-use Rattle.machine.specs.Block.{Block, waitTerms, branch, goto, assign, BlockModel}
-use Rattle.machine.specs.State.{State}
-use Rattle.machine.specs.Setters.{withParameters, setMoving}
 use Rattle.machine.specs.Moves as Moves
-use Rattle.machine.specs.Execute.{question}
-use Rattle.tables.specs.Forms.{blockForms}
-use Rattle.rows_laws.specs.Layout.{wsl, parameterField}
-use Rattle.rows_laws.specs.Cells.{write}
-use Rattle.rows_laws.specs.Ordered.{Sorted}
+use Rattle.tables.specs.All.{blockForms}
+use Rattle.rows_laws.specs.All.{wsl, parameterField, write, Sorted}
 use Rattle.rows_laws.proofs.Fields.{write-parameter}
 use Rattle.terms.specs.Evaluation.{compareAt}
 use Rattle.terms.specs.Sees.{parametersOf, Sees}
 use Rattle.terms.proofs.Signs.{signed-low}
 use Rattle.terms.proofs.Laws.{let-law, wait-law, if-law}
 use Rattle.state.specs.declared.scalars.Scalars.{Scalars}
-use Rattle.state.specs.Stands.{listsIn, Listing, Done}
-use Rattle.state.specs.Bare.{entering, waiting, bare, bareAnswer}
+use Rattle.state.specs.All.{listsIn, Listing, Done, entering, waiting, bare, bareAnswer}
 use Rattle.state.proofs.StandsLaws.{listing-write}
 use Rattle.moves.specs.Before.{placeOf, bareBlock, Before}
 use Rattle.moves.specs.Motion.{withTally, goTo, goOn, waitOn}
 use Rattle.moves.proofs.BeforeLaws.{inside, next-low, serial-low, proper-block, operand}
 use Rattle.moves.proofs.MotionLaws.{go-to-done, go-on-done, puts-wsl, wait-on-done}
-use Rattle.decisions_laws.specs.Comparison.{parametersAt, holdsAt, worthAt, setParameter, waitTermsRows, branchRows, assignRows}
-use Rattle.decisions_laws.specs.Jumps.{gotoRows}
+use Rattle.decisions_laws.specs.{parametersAt, holdsAt, worthAt, setParameter, waitTermsRows, branchRows, assignRows, gotoRows}
 use Rattle.decisions_laws.proofs.Sees.{sane-low, sees}
 use Rattle.decisions_laws.proofs.Parameters.{signed-toZ, parameters-are, evaluate-small}
 use Rattle.decisions_laws.proofs.Operands.{assign-term, branch-target}

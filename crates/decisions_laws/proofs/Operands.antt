@@ -1,17 +1,7 @@
 -- The terms of block i (from 0) in the tables, and what stands behind them.
-use Prim.Native.Nat.{ℕ, _+_, _*_, _<_}
-use mathlib.Core.Path.{_≡_, sym, ap, _∙_, subst}
-use mathlib.Core.Bool.{true, _&&_}
-use mathlib.Core.List.{List, [], _∷_, _++_}
-use native.Mathlib.Omega.{arith}
-use lib.Dec.{T}
-use lib.ListN.{length, getD}
-use Rattle.machine.specs.Term.{Term, Relation}
-use Rattle.machine.specs.Block.{Block, branch, assign, terminate, BlockModel}
-use Rattle.tables.specs.Forms.{blockForms}
+use Rattle.machine.specs.All.{ℕ, _+_, _*_, _<_, _≡_, sym, ap, _∙_, subst, true, _&&_, List, [], _∷_, _++_, arith, T, length, getD, Term, Relation, Block, branch, assign, terminate, BlockModel}
+use Rattle.tables.specs.All.{blockForms, relationNumber, termNumbers, blockNumbers, At, smallTerm, smallBlock, Represents}
 use Rattle.tables.specs.Layout as Layout
-use Rattle.tables.specs.Numbers.{relationNumber, termNumbers, blockNumbers}
-use Rattle.tables.specs.Represents.{At, smallTerm, smallBlock, Represents}
 use Rattle.terms.specs.Nested.{nestedTerm, nestedBlock, Nested}
 use Rattle.terms.proofs.Found.{at-first, at-back}
 use Rattle.terms.proofs.Terms.{and-left, and-right}

@@ -1,28 +1,17 @@
 -- Parameters as bits are the machine's signed ones, and whatever a term of a block is worth lies in the range of 32 bits.
-use Prim.Native.Nat.{ℕ, zero, suc, _-_, _≤_, _<_}
-use mathlib.Core.Path.{_≡_, refl, ap, subst}
-use mathlib.Core.Bool.{Bool, true, false, cond}
-use mathlib.Core.List.{List, [], _∷_, _++_}
-use native.Mathlib.Omega.{arith}
-use borrow.Author.Tests.{ltb-true, ltb-false}
-use lib.Dec.{T, ltb, leb→le, lit<}
-use lib.ListN.{getD}
+use Rattle.machine.specs.All.{ℕ, zero, suc, _-_, _≤_, _<_, _≡_, refl, ap, subst, Bool, true, false, cond, List, [], _∷_, _++_, arith, ltb-true, ltb-false, T, ltb, leb→le, lit<, getD, maxConstant, View, idleServer, serverAt, queueAt, signed, low32, wrap, oneIf, Term, constant, minusConstant, parameter, clockTerm, entriesOf, contentOf, unitsInUse, unitsFree, facilityInUse, value, comparison, bracket, Sum, nothing, plus, minus, term, sum, worths, evaluate, Each}
 use lib.IntN.{ℤ, pos, negsuc, negℤ}
 use lib.Signed.{mag}
 use mir.Syntax.{w32}
 use mir.Val.{toZ, sel}
-use Rattle.machine.specs.Limits.{maxConstant}
-use Rattle.machine.specs.Term.{View, idleServer, serverAt, queueAt, signed, low32, wrap, oneIf, Term, constant, minusConstant, parameter, clockTerm, entriesOf, contentOf, unitsInUse, unitsFree, facilityInUse, value, comparison, bracket, Sum, nothing, plus, minus, term, sum, worths, evaluate}
-use Rattle.machine.specs.Claims.{Each}
 use Rattle.machine.proofs.runs.Shape.{each-getD}
-use Rattle.tables.specs.Represents.{smallTerm}
-use Rattle.rows_laws.specs.Cells.{read}
-use Rattle.rows_laws.specs.Holds.{transactionAt}
+use Rattle.tables.specs.All.{smallTerm}
+use Rattle.rows_laws.specs.All.{read, transactionAt}
 use Rattle.terms.specs.Evaluation as Evaluation
 use Rattle.terms.specs.Nested.{nestedTerm}
 use Rattle.terms.specs.Sees.{parametersOf, Sees}
 use Rattle.terms.proofs.Seen.{sees-entries, sees-content, sees-in-use, sees-free}
-use Rattle.decisions_laws.specs.Comparison.{parametersAt}
+use Rattle.decisions_laws.specs.{parametersAt}
 
 -- ---- Parameters
 

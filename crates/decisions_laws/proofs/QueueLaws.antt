@@ -1,37 +1,18 @@
 -- ARRIVE and DEPART leave what the machine's do.
-use Prim.Native.Nat.{ℕ, zero, suc, _+_, _-_, _%_, _≤_, _<_, min}
-use mathlib.Core.Path.{_≡_, refl, sym, ap, _∙_, subst}
-use mathlib.Core.Logic.{_≢_}
-use mathlib.Core.Bool.{false, cond}
-use mathlib.Core.List.{List}
-use mathlib.Core.Option.{none}
-use native.Mathlib.Omega.{arith}
-use native.Mathlib.Decide.{ℕ-discrete}
-use borrow.Author.Tests.{ne-eqb, le-leb}
-use lib.Dec.{leb, eqb}
-use lib.ListN.{length, getD, set, length-set}
-use lib.Seq.{getD-set-same, getD-set-other}
-use Rattle.machine.specs.Transaction.{Transaction}
-use Rattle.machine.specs.Term.{Queue, emptyQueue, queueAt}
-use Rattle.machine.specs.Block.{arrive, depart, BlockModel, Change, counts}
-use Rattle.machine.specs.State.{State}
-use Rattle.machine.specs.Setters.{withContent, setMoving}
+use Rattle.machine.specs.All.{ℕ, zero, suc, _+_, _-_, _%_, _≤_, _<_, min, _≡_, refl, sym, ap, _∙_, subst, _≢_, false, cond, List, none, arith, ℕ-discrete, ne-eqb, le-leb, leb, eqb, length, getD, set, length-set, getD-set-same, getD-set-other, Transaction, Queue, emptyQueue, queueAt, arrive, depart, BlockModel, Change, counts, State, withContent, setMoving, unless, question, askContent, changed}
 use Rattle.machine.specs.Moves as Moves
-use Rattle.machine.specs.Execute.{unless, question, askContent, changed}
 use Rattle.machine.proofs.decoding.Proper.{Names}
 use Rattle.tables.specs.Layout as Layout
-use Rattle.tables.specs.Numbers.{blockNumbers}
+use Rattle.tables.specs.All.{blockNumbers}
 use Rattle.state.specs.declared.scalars.Scalars.{Scalars}
-use Rattle.state.specs.Statistics.{behind, sumNow, longestNow, updateQueue}
-use Rattle.state.specs.Stands.{rowsOf, Queueing, Tallying, Done}
-use Rattle.state.specs.Bare.{entering, bare, bareAnswer}
+use Rattle.state.specs.All.{behind, sumNow, longestNow, updateQueue, rowsOf, Queueing, Tallying, Done, entering, bare, bareAnswer}
 use Rattle.state.proofs.StandsLaws.{entries-set, waits-set, pair-set, seen-set, serving-set, sampling-set}
 use Rattle.state.proofs.StatisticsLaws.{SamePair, sum-same, longest-same, sum-moved, longest-moved, queue-tallying, queue-current}
 use Rattle.moves.specs.Before.{placeOf, bareBlock, Before}
 use Rattle.moves.specs.Motion.{stopped}
 use Rattle.moves.proofs.BeforeLaws.{next-low, few-lists, proper-block, operand, stop-done}
 use Rattle.moves.proofs.MotionLaws.{go-on-done}
-use Rattle.decisions_laws.specs.Queues.{queueOf, content, change, arriveRows, departRows}
+use Rattle.decisions_laws.specs.{queueOf, content, change, arriveRows, departRows}
 use Rattle.decisions_laws.proofs.Sees.{sane-low, content-low}
 
 -- ---- The content of one queue set, whose statistics are up to date

@@ -1,38 +1,18 @@
 -- The WS scheme over the rows is the machine's.
-use Prim.Native.Nat.{ℕ, _+_, _-_, _*_, _≤_, _<_}
-use mathlib.Core.Path.{_≡_, refl, sym, ap, _∙_, subst}
-use mathlib.Core.Bool.{Bool, true, false, cond, not}
-use mathlib.Core.List.{List, _∷_}
-use mathlib.Core.Option.{Option, none}
-use native.Mathlib.Omega.{arith}
-use borrow.Author.Tests.{ltb-true, ltb-false, lt-ltb, le-ltb}
-use lib.Dec.{ltb, eqb}
-use lib.ListN.{length, getD, List·getD-eq-default}
-use Rattle.machine.specs.Transaction.{Transaction}
-use Rattle.machine.specs.Term.{View, compare, Term, Relation, truth}
-use Rattle.machine.specs.Block.{Block, terminate, facility, storage, waitTerms, facts, BlockModel}
-use Rattle.machine.specs.State.{State}
-use Rattle.machine.specs.Moves.{wakeWsl}
+use Rattle.machine.specs.All.{ℕ, _+_, _-_, _*_, _≤_, _<_, _≡_, refl, sym, ap, _∙_, subst, Bool, true, false, cond, not, List, _∷_, Option, none, arith, ltb-true, ltb-false, lt-ltb, le-ltb, ltb, eqb, length, getD, List·getD-eq-default, Transaction, View, compare, Term, Relation, truth, Block, terminate, facility, storage, waitTerms, facts, BlockModel, State, wakeWsl}
 use Rattle.machine.specs.Turn as Turn
 use Rattle.machine.proofs.decoding.Proper.{Proper}
-use Rattle.tables.specs.Forms.{blockForms}
+use Rattle.tables.specs.All.{blockForms, blockNumbers, At, Represents}
 use Rattle.tables.specs.Layout as Layout
-use Rattle.tables.specs.Numbers.{blockNumbers}
-use Rattle.tables.specs.Represents.{At, Represents}
-use Rattle.rows_laws.specs.Layout.{head, wsl}
-use Rattle.rows_laws.specs.Cells.{read}
-use Rattle.rows_laws.specs.Wake.{wakeAll}
-use Rattle.rows_laws.specs.Holds.{transactionAt}
+use Rattle.rows_laws.specs.All.{head, wsl, read, wakeAll, transactionAt}
 use Rattle.terms.specs.Evaluation.{relatedBy}
 use Rattle.terms.specs.Nested.{Nested}
 use Rattle.terms.specs.Sees.{Sees}
 use Rattle.terms.proofs.Found.{at-first}
-use Rattle.state.specs.Sane.{Sane}
-use Rattle.state.specs.Stands.{Rows, rowsOf, Stands}
+use Rattle.state.specs.All.{Sane, Rows, rowsOf, Stands}
 use Rattle.state.proofs.StandsLaws.{stands-of}
 use Rattle.state.proofs.WakingLaws.{wake-wsl-listing}
-use Rattle.decisions_laws.specs.Scheme.{blockOf, leavesFrom, leaves, wsScheme}
-use Rattle.decisions_laws.specs.Sides.{sideAt}
+use Rattle.decisions_laws.specs.{blockOf, leavesFrom, leaves, wsScheme, sideAt}
 use Rattle.decisions_laws.proofs.Sees.{Low, sees}
 use Rattle.decisions_laws.proofs.Operands.{numbers}
 use Rattle.decisions_laws.proofs.Sharing.{sides-law}

@@ -1,21 +1,11 @@
 -- What terms see of tables, tally and clock is what the machine's view holds.
-use Prim.Native.Nat.{ℕ, zero, suc, _+_, _≤_, _<_}
-use mathlib.Core.Path.{_≡_, sym, ap, _∙_}
-use mathlib.Core.List.{List, [], _∷_, _++_}
-use native.Mathlib.Omega.{arith}
-use lib.ListN.{length, getD, replicate, List·getD-map}
-use Rattle.machine.specs.Limits.{maxCapacity, maxTurns}
-use Rattle.machine.specs.Term.{Queue, idleServer, emptyQueue}
-use Rattle.machine.specs.Block.{BlockModel}
-use Rattle.machine.specs.State.{State}
+use Rattle.machine.specs.All.{ℕ, zero, suc, _+_, _≤_, _<_, _≡_, sym, ap, _∙_, List, [], _∷_, _++_, arith, length, getD, replicate, List·getD-map, maxCapacity, maxTurns, Queue, idleServer, emptyQueue, BlockModel, State, Each}
 use Rattle.machine.proofs.decoding.Proper.{Proper}
-use Rattle.machine.specs.Claims.{Each}
 use Rattle.machine.proofs.runs.Shape.{Shape, Within, capacityOf, allCapacities, each-getD, server-length}
-use Rattle.tables.specs.Represents.{Represents}
+use Rattle.tables.specs.All.{Represents}
 use Rattle.terms.specs.Sees.{Sees}
-use Rattle.state.specs.Sane.{Sane}
+use Rattle.state.specs.All.{Sane, Tallying, Counting}
 use Rattle.state.specs.declared.scalars.Scalars.{Scalars}
-use Rattle.state.specs.Stands.{Tallying, Counting}
 
 -- ---- Capacities
 

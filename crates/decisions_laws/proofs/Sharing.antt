@@ -1,24 +1,12 @@
 -- What a side of a comparison is worth to a row is what the machine says: a side that names no parameter is worth the same with any.
-use Prim.Native.Nat.{ℕ, zero, suc, _+_, _-_, _*_, _≤_, _<_}
-use mathlib.Core.Path.{_≡_, refl, sym, ap, _∙_, subst}
-use mathlib.Core.Bool.{Bool, true, false, cond, not, _&&_, true≢false}
-use mathlib.Core.List.{List, [], _∷_, _++_}
-use native.Mathlib.Omega.{arith}
-use borrow.Author.Tests.{ltb-true, ltb-false, lt-ltb, le-ltb, eqb-true, not-false}
-use lib.Dec.{T, ltb, eqb, lit<}
-use lib.ListN.{length, getD, List·getD-eq-default}
+use Rattle.machine.specs.All.{ℕ, zero, suc, _+_, _-_, _*_, _≤_, _<_, _≡_, refl, sym, ap, _∙_, subst, Bool, true, false, cond, not, _&&_, true≢false, List, [], _∷_, _++_, arith, ltb-true, ltb-false, lt-ltb, le-ltb, eqb-true, not-false, T, ltb, eqb, lit<, length, getD, List·getD-eq-default, signed, low32, View, Term, constant, minusConstant, parameter, clockTerm, entriesOf, contentOf, unitsInUse, unitsFree, facilityInUse, value, comparison, bracket, Relation, term, worths, evaluate, compare, waitTerms, terminate, BlockModel}
 use lib.IntN.{ℤ, pos}
 use lib.Signed.{mag}
 use mir.Syntax.{w32}
 use mir.Val.{toZ, ofZ}
-use Rattle.machine.specs.Term.{signed, low32, View, Term, constant, minusConstant, parameter, clockTerm, entriesOf, contentOf, unitsInUse, unitsFree, facilityInUse, value, comparison, bracket, Relation, term, worths, evaluate, compare}
-use Rattle.machine.specs.Block.{waitTerms, terminate, BlockModel}
-use Rattle.tables.specs.Forms.{blockForms}
+use Rattle.tables.specs.All.{blockForms, relationNumber, termNumbers, At, smallTerm, smallBlock, Represents}
 use Rattle.tables.specs.Layout as Layout
-use Rattle.tables.specs.Numbers.{relationNumber, termNumbers}
-use Rattle.tables.specs.Represents.{At, smallTerm, smallBlock, Represents}
-use Rattle.rows_laws.specs.Cells.{read}
-use Rattle.rows_laws.specs.Holds.{transactionAt}
+use Rattle.rows_laws.specs.All.{read, transactionAt}
 use Rattle.terms.specs.Evaluation.{Worth, simpleTerm, termAt, relatedBy}
 use Rattle.terms.specs.Nested.{nestedTerm, nestedBlock, Nested}
 use Rattle.terms.specs.Sees.{Sees}
@@ -28,9 +16,7 @@ use Rattle.terms.proofs.Steps.{term-simple}
 use Rattle.terms.proofs.Terms.{and-left, and-right, related-by}
 use Rattle.terms.proofs.Values.{worths-length}
 use Rattle.terms.proofs.Laws.{two-numbers, term-law}
-use Rattle.decisions_laws.specs.Comparison.{parametersAt}
-use Rattle.decisions_laws.specs.Scheme.{blockOf, leavesFrom, leaves, leavesBy}
-use Rattle.decisions_laws.specs.Sides.{namesOwn, noParameters, sideAt, sideBy, ForAll}
+use Rattle.decisions_laws.specs.{parametersAt, blockOf, leavesFrom, leaves, leavesBy, namesOwn, noParameters, sideAt, sideBy, ForAll}
 use Rattle.decisions_laws.proofs.Operands.{numbers}
 use Rattle.decisions_laws.proofs.Parameters.{parameters-are}
 

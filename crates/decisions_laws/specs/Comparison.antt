@@ -1,12 +1,6 @@
 -- The row machine: blocks with terms, of the block whose numbers begin at `at` of the tables.
-use Prim.Native.Nat.{ℕ, _+_}
-use mathlib.Core.Bool.{Bool, cond}
-use mathlib.Core.List.{List, [], _∷_}
-use lib.Dec.{ltb}
-use lib.ListN.{getD}
-use Rattle.machine.specs.Term.{low32}
-use Rattle.rows_laws.specs.Layout.{wsl, parameterField}
-use Rattle.rows_laws.specs.Cells.{read, write}
+use Rattle.machine.specs.All.{ℕ, _+_, Bool, cond, List, [], _∷_, ltb, getD, low32}
+use Rattle.rows_laws.specs.All.{wsl, parameterField, read, write}
 use Rattle.terms.specs.Evaluation.{termAt, compareAt}
 use Rattle.state.specs.declared.scalars.Scalars.{Scalars}
 use Rattle.moves.specs.Motion.{Moved, inOrder, goTo, goOn, waitOn}

@@ -1,7 +1,5 @@
 -- The row machine: GOTO.
-use Prim.Native.Nat.{ℕ, _+_}
-use mathlib.Core.List.{List}
-use lib.ListN.{getD}
+use Rattle.machine.specs.All.{ℕ, _+_, List, getD}
 use Rattle.state.specs.declared.scalars.Scalars.{Scalars}
 use Rattle.moves.specs.Motion.{Moved, goTo}
 

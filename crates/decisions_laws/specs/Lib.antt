@@ -3,3 +3,8 @@ pub mod Jumps
 pub mod Queues
 pub mod Scheme
 pub mod Sides
+unfoldable pub use Comparison.*
+unfoldable pub use Jumps.*
+unfoldable pub use Queues.*
+unfoldable pub use Scheme.*
+unfoldable pub use Sides.*

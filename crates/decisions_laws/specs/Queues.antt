@@ -1,14 +1,8 @@
 -- The row machine: ARRIVE and DEPART.
-use Prim.Native.Nat.{ℕ, _+_, _-_, _%_, min}
-use mathlib.Core.Bool.{cond}
-use mathlib.Core.List.{List}
-use lib.Dec.{eqb}
-use lib.ListN.{getD, set}
-use Rattle.machine.specs.Limits.{maxQueues}
+use Rattle.machine.specs.All.{ℕ, _+_, _-_, _%_, min, cond, List, eqb, getD, set, maxQueues}
 use Rattle.tables.specs.Layout as Layout
 use Rattle.state.specs.declared.scalars.Scalars.{Scalars}
-use Rattle.state.specs.Statistics.{updateQueue}
-use Rattle.state.specs.Stands.{Rows, rowsOf}
+use Rattle.state.specs.All.{updateQueue, Rows, rowsOf}
 use Rattle.moves.specs.Motion.{goOn, withTally, stopped}
 
 -- the queue, from 0, that the block at `at` names

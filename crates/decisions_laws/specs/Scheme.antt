@@ -1,14 +1,8 @@
 -- The row machine: the WS scheme.
-use Prim.Native.Nat.{ℕ, _+_, _*_, _-_}
-use mathlib.Core.Bool.{Bool, true, cond, not}
-use mathlib.Core.List.{List}
-use lib.Dec.{ltb, eqb}
-use lib.ListN.{getD}
+use Rattle.machine.specs.All.{ℕ, _+_, _*_, _-_, Bool, true, cond, not, List, ltb, eqb, getD}
 use lib.IntN.{ℤ}
 use Rattle.tables.specs.Layout as Layout
-use Rattle.rows_laws.specs.Layout.{head, wsl, nextField, rowCount}
-use Rattle.rows_laws.specs.Cells.{read}
-use Rattle.rows_laws.specs.Wake.{wakeAll}
+use Rattle.rows_laws.specs.All.{head, wsl, nextField, rowCount, read, wakeAll}
 use Rattle.terms.specs.Evaluation.{relatedBy}
 use Rattle.state.specs.declared.scalars.Scalars.{Scalars}
 use Rattle.decisions_laws.specs.Sides.{sideAt, sideBy}

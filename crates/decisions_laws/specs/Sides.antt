@@ -1,12 +1,6 @@
 -- The row machine: a side of a comparison, for those that wait on it. One that names no parameter is worth the same to all.
-use Prim.Native.Nat.{ℕ, _+_}
-use mathlib.Core.Path.{_≡_}
-use mathlib.Core.Bool.{Bool, true, false, cond, not}
-use mathlib.Core.List.{List}
-use lib.Dec.{ltb, eqb}
-use lib.ListN.{getD, replicate}
+use Rattle.machine.specs.All.{ℕ, _+_, _≡_, Bool, true, false, cond, not, List, ltb, eqb, getD, replicate, signed}
 use lib.IntN.{ℤ}
-use Rattle.machine.specs.Term.{signed}
 use Rattle.tables.specs.Layout as Layout
 use Rattle.terms.specs.Evaluation.{termAt}
 use Rattle.decisions_laws.specs.Comparison.{parametersAt}

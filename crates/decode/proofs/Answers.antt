@@ -1,24 +1,16 @@
 -- All questions, pure: from the answers for the model and for the tape to the machine's `validate`.
-use Prim.Native.Nat.{ℕ, _≤_, _<_}
-use native.Mathlib.Omega.{arith}
-use mathlib.Core.Path.{_≡_, refl, sym, ap, _∙_, subst}
-use mathlib.Core.List.{List}
-use lib.ListN.{length}
-use borrow.Author.Tests.{le-leb, lt-leb}
-use Rattle.machine.specs.Rules.{Rules, inForce}
-use Rattle.machine.specs.Parser.{Parsed, parsed, refused}
-use Rattle.machine.specs.Block.{BlockModel}
-use Rattle.machine.specs.Validate.{modelOf, tapeOf, beginning, Validation, accept, reject, withTape, withModel, validate}
+use Rattle.machine.specs.All.{ℕ, _≤_, _<_, arith, _≡_, refl, sym, ap, _∙_, subst, List, length, le-leb, lt-leb, Rules, inForce, Parsed, parsed, refused, BlockModel, modelOf, tapeOf, beginning, Validation, accept, reject, withTape, withModel, validate}
 use Rattle.constants.specs.declared.model.Model.{Model}
-use Rattle.tables.specs.Represents.{headerOf, Represents}
+use Rattle.tables.specs.All.{headerOf, Represents}
 use Rattle.watch.specs.Watch.{watched}
 use Rattle.decode.specs.declared.Decoded.{Decoded}
 use Rattle.decode.specs.declared.Decoded.the-variants.{Model as Accepted, Refused}
 use Rattle.decode.specs.declared.Tape.{Tape}
 use Rattle.decode.specs.declared.Tape.the-variants.{At, Refused as NoTape}
-use Rattle.decode.specs.Models.{tablesOf, ProperModel, Models}
-use Rattle.decode.specs.Lists.{emptyLists, Filled, Lists}
-use Rattle.decode.specs.Decodes.{Decodes, refusalOf}
+use Rattle.decode.specs.{tablesOf, ProperModel, emptyLists, Filled, refusalOf}
+use Rattle.decode.specs.Models.{Models}
+use Rattle.decode.specs.Lists.{Lists}
+use Rattle.decode.specs.Decodes.{Decodes}
 use Rattle.decode.proofs.Represented.{allTables, block-stays, block-small, value-stays, value-small, capacity-stays, edition-stays, all-watching, all-sharing}
 use Rattle.decode.proofs.Lists.{tape-length, all-begin, all-counts}
 

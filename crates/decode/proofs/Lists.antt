@@ -1,30 +1,15 @@
 -- The sample lists of a tape, pure: time by time, list by list, and what their cells then hold.
-use Prim.Native.Nat.{ℕ, zero, suc, _+_, _-_, _≤_, _<_}
-use native.Mathlib.Numerals.{add-one}
-use native.Mathlib.Omega.{arith}
-use mathlib.Core.Path.{_≡_, refl, sym, ap, _∙_}
-use mathlib.Core.Bool.{Bool, true, false, cond, _&&_}
-use mathlib.Core.Option.{Option, none, some}
-use mathlib.Core.List.{List, [], _∷_}
-use lib.ListN.{length, getD, set, length-set, length-replicate, List·getD-eq-default}
-use lib.Seq.{getD-set-same, getD-set-other}
-use lib.Dec.{ltb, leb, eqb}
-use borrow.Author.Tests.{ltb-true, ltb-false, eq-eqb, ne-eqb}
+use Rattle.machine.specs.All.{ℕ, zero, suc, _+_, _-_, _≤_, _<_, add-one, arith, _≡_, refl, sym, ap, _∙_, Bool, true, false, cond, _&&_, Option, none, some, List, [], _∷_, length, getD, set, length-set, length-replicate, List·getD-eq-default, getD-set-same, getD-set-other, ltb, leb, eqb, ltb-true, ltb-false, eq-eqb, ne-eqb, inForce, maxTime, maxSamples, Number, Cursor, Parsed, parsed, refused, Parser, continue, fieldOf, times, ask, fieldUpTo, listField, atEnd, tapeOf, beginning}
 use Rattle.codec.specs.declared.Field.{Field}
 use Rattle.codec.specs.declared.Field.the-variants.{Value, Refused as NoField}
 use Rattle.codec.specs.Answers.{parsedOf}
-use Rattle.machine.specs.Rules.{inForce}
-use Rattle.machine.specs.Limits.{maxTime, maxSamples}
-use Rattle.machine.specs.Number.{Number}
-use Rattle.machine.specs.Parser.{Cursor, Parsed, parsed, refused, Parser, continue, fieldOf, times, ask, fieldUpTo}
-use Rattle.machine.specs.Decode.{listField, atEnd}
-use Rattle.machine.specs.Validate.{tapeOf, beginning}
-use Rattle.tables.specs.Represents.{TimesAt}
+use Rattle.tables.specs.All.{TimesAt}
 use Rattle.decode.specs.declared.Tape.{Tape}
 use Rattle.decode.specs.declared.Tape.the-variants.{At, Refused}
 use Rattle.values.proofs.Rows.{rows-length, times-rows}
 use Rattle.decode.proofs.Represented.{zeros}
-use Rattle.decode.specs.Lists.{cursorAt, tapeField, emptyLists, Skips, OneList, Listed, Filled, Lists}
+use Rattle.decode.specs.{cursorAt, tapeField, emptyLists, Skips, OneList, Listed, Filled}
+use Rattle.decode.specs.Lists.{Lists}
 
 -- ---- Reading does not depend on what was counted in a value
 

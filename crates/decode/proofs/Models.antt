@@ -1,20 +1,7 @@
 -- The whole model, pure: its three parts make it, and questions 6 and 7 are those of the machine.
-use Prim.Native.Nat.{ℕ, _-_, _≤_, _<_}
-use native.Mathlib.Omega.{arith}
-use mathlib.Core.Path.{_≡_, refl, ap, _∙_}
-use mathlib.Core.Bool.{true, false, _&&_}
-use mathlib.Core.List.{List}
-use lib.Dec.{leb, leb·zero}
-use lib.ListN.{length}
-use borrow.Author.Tests.{eq-eqb, ne-eqb, le-leb, lt-leb}
-use Rattle.machine.specs.Rules.{inForce}
-use Rattle.machine.specs.Parser.{Cursor, Parsed, parsed, refused, continue, ask}
-use Rattle.machine.specs.Block.{BlockModel}
-use Rattle.machine.specs.Decode.{modelFields, atEnd}
-use Rattle.machine.specs.Validate.{targetsMove, wellFormed, modelOf, beginning}
+use Rattle.machine.specs.All.{ℕ, _≤_, _<_, arith, _≡_, refl, ap, _∙_, true, false, _&&_, List, leb, leb·zero, length, eq-eqb, ne-eqb, le-leb, lt-leb, inForce, Cursor, Parsed, parsed, refused, continue, ask, BlockModel, modelFields, atEnd, targetsMove, wellFormed, modelOf, beginning}
 use Rattle.constants.specs.declared.model.Model.{Model}
-use Rattle.tables.specs.Numbers.{sumNumbers, blockNumbers}
-use Rattle.tables.specs.Represents.{headerOf}
+use Rattle.tables.specs.All.{sumNumbers, blockNumbers, headerOf}
 use Rattle.values.specs.declared.Place.{Place}
 use Rattle.values.specs.Keeps.{cursorOf}
 use Rattle.values.specs.Rows.{storedRows, allNamed}
@@ -27,8 +14,8 @@ use Rattle.program.proofs.Question.{placed-machine, targets-machine, joined-mac
 use Rattle.decode.specs.declared.Header.{Header}
 use Rattle.decode.specs.declared.Header.the-variants.{Read, Refused as NoHeader}
 use Rattle.decode.specs.declared.Decoded.the-variants.{Model as Accepted, Refused}
-use Rattle.decode.specs.Stages.{noModel, noPlace, Stage, Servers, serversField, withServers, serversShape, Things, thingsField, withThings, thingsShape, Program, programField, programShape}
-use Rattle.decode.specs.Models.{tablesOf, ProperModel, modelShape, Models}
+use Rattle.decode.specs.{noModel, noPlace, Stage, Servers, serversField, withServers, serversShape, Things, thingsField, withThings, thingsShape, Program, programField, programShape, tablesOf, ProperModel, modelShape}
+use Rattle.decode.specs.Models.{Models}
 use Rattle.decode.proofs.Stages.{stage-known, stage-stop, stage-bind}
 use Rattle.decode.proofs.Represented.{capacities-stand, blocks-stand}
 

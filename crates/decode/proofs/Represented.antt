@@ -1,19 +1,7 @@
 -- The cells of a whole model (specs/Models) represent it, pure.
-use Prim.Native.Nat.{ℕ, zero, suc, _+_, _*_, _-_, _≤_, _<_}
-use native.Mathlib.Omega.{arith}
-use mathlib.Core.Path.{_≡_, refl, sym, ap, _∙_}
-use mathlib.Core.Bool.{Bool, true, false}
-use mathlib.Core.List.{List, [], _∷_, _++_}
-use lib.Dec.{ltb, T}
-use lib.ListN.{length, getD, drop, replicate, length-set, length-replicate, getD-replicate, length-take, length-drop, List·getD-append, List·getD-eq-default}
-use lib.Seq.{sets, getD-set-same, getD-set-other, length-sets, ext-getD, getD-take, getD-drop, getD-append-add}
-use borrow.Author.Tests.{ltb-true, ltb-false}
-use Rattle.machine.specs.Term.{Sum, nothing}
-use Rattle.machine.specs.Block.{terminate, BlockModel}
+use Rattle.machine.specs.All.{ℕ, zero, suc, _+_, _*_, _-_, _≤_, _<_, arith, _≡_, refl, sym, ap, _∙_, Bool, true, false, List, [], _∷_, _++_, ltb, T, length, getD, drop, replicate, length-set, length-replicate, getD-replicate, length-take, length-drop, List·getD-append, List·getD-eq-default, sets, getD-set-same, getD-set-other, length-sets, ext-getD, getD-take, getD-drop, getD-append-add, ltb-true, ltb-false, Sum, nothing, terminate, BlockModel}
 use Rattle.constants.specs.declared.model.Model.{Model}
-use Rattle.tables.specs.Forms.{blockForms}
-use Rattle.tables.specs.Numbers.{sumNumbers, blockNumbers}
-use Rattle.tables.specs.Represents.{At, smallBlock, smallSum, Watching, Sharing}
+use Rattle.tables.specs.All.{blockForms, sumNumbers, blockNumbers, At, smallBlock, smallSum, Watching, Sharing}
 use Rattle.values.specs.Keeps.{numberShape}
 use Rattle.values.specs.Rows.{storedRows, Each}
 use Rattle.values.specs.Shapes.{ProperValue}
@@ -25,8 +13,7 @@ use Rattle.program.proofs.Question.{Standing}
 use Rattle.watch.specs.Watch.{watched}
 use Rattle.watch.proofs.Reaching.{Stored}
 use Rattle.watch.proofs.Watching.{watched-frame, watched-length, stored-same, watching, sharing}
-use Rattle.decode.specs.Stages.{emptyTables, Capacity, Servers, ProperServers, serversCells}
-use Rattle.decode.specs.Models.{tablesOf, ProperModel}
+use Rattle.decode.specs.{emptyTables, Capacity, Servers, ProperServers, serversCells, tablesOf, ProperModel}
 
 -- ---- Before decoding
 

@@ -1,13 +1,5 @@
 -- The parts of a model, pure: from what each call kept to what the part keeps.
-use Prim.Native.Nat.{ℕ, suc, _+_, _-_, _≤_, _<_}
-use native.Mathlib.Omega.{arith}
-use mathlib.Core.Path.{_≡_, refl, sym, ap, _∙_}
-use mathlib.Core.List.{List, []}
-use lib.ListN.{replicate, set}
-use lib.Seq.{sets}
-use Rattle.machine.specs.Parser.{Parsed, parsed, refused, Parser, continue, field, times}
-use Rattle.machine.specs.Rules.{inForce}
-use Rattle.machine.specs.Decode.{valueFields, blockField, valueField, inValue}
+use Rattle.machine.specs.All.{ℕ, suc, _+_, _-_, _≤_, _<_, arith, _≡_, refl, sym, ap, _∙_, List, [], replicate, set, sets, Parsed, parsed, refused, Parser, continue, field, times, inForce, valueFields, blockField, valueField, inValue}
 use Rattle.constants.specs.declared.model.Model.{Model}
 use Rattle.values.specs.declared.Place.{Place}
 use Rattle.values.specs.declared.Taken.{Taken}
@@ -23,7 +15,7 @@ use Rattle.program.specs.Formed.{Formed}
 use Rattle.program.specs.Shapes.{blockShape, capacitiesOf}
 use Rattle.decode.specs.declared.Header.{Header}
 use Rattle.decode.specs.declared.Header.the-variants.{Read, Refused}
-use Rattle.decode.specs.Stages.{emptyTables, Capacity, noModel, StageShape, Stage, serversField, serversShape, seenByValues, thingsField, thingsShape, seenByBlocks, programField, programShape}
+use Rattle.decode.specs.{emptyTables, Capacity, noModel, StageShape, Stage, serversField, serversShape, seenByValues, thingsField, thingsShape, seenByBlocks, programField, programShape}
 
 -- ---- Facilities
 

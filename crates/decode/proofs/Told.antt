@@ -1,12 +1,7 @@
 -- What an answer of `decode` tells of the machine's answer to the questions.
-use Prim.Native.Nat.{ℕ}
-use mathlib.Core.Path.{_≡_, refl, ap}
-use mathlib.Core.List.{List}
-use native.Mathlib.Omega.{arith}
-use Rattle.machine.specs.Block.{BlockModel}
-use Rattle.machine.specs.Validate.{Validation, accept, reject}
+use Rattle.machine.specs.All.{ℕ, _≡_, refl, ap, List, arith, BlockModel, Validation, accept, reject}
 use Rattle.constants.specs.declared.model.Model.{Model}
-use Rattle.tables.specs.Represents.{headerOf, Represents}
+use Rattle.tables.specs.All.{headerOf, Represents}
 use Rattle.decode.specs.declared.Decoded.{Decoded}
 use Rattle.decode.specs.declared.Decoded.the-variants.{Model as Accepted, Refused}
 use Rattle.decode.specs.Decodes.{Decodes}

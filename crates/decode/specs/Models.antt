@@ -1,15 +1,8 @@
 -- The whole model: its cells of the tables, and the answer to questions 3 to 7.
-use Prim.Native.Nat.{ℕ, _≤_}
-use mathlib.Core.Path.{_≡_}
-use mathlib.Core.List.{List}
-use lib.ListN.{length}
-use Rattle.machine.specs.Rules.{inForce}
+use Rattle.machine.specs.All.{ℕ, _≤_, _≡_, List, length, inForce, Parsed, parsed, refused, BlockModel}
 use Rattle.machine.specs.Limits as Limits
-use Rattle.machine.specs.Parser.{Parsed, parsed, refused}
-use Rattle.machine.specs.Block.{BlockModel}
 use Rattle.tables.specs.Layout as Layout
-use Rattle.tables.specs.Numbers.{sumNumbers, blockNumbers}
-use Rattle.tables.specs.Represents.{headerOf}
+use Rattle.tables.specs.All.{sumNumbers, blockNumbers, headerOf}
 use Rattle.values.specs.Rows.{storedRows, allNamed, Each}
 use Rattle.values.specs.Shapes.{sumNamed, ProperValue}
 use Rattle.program.specs.Formed.{Formed}

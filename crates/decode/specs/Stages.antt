@@ -1,18 +1,9 @@
 -- A model read in three parts, each with its header and its cells of the tables.
-use Prim.Native.Nat.{ℕ, _+_, _≤_}
-use mathlib.Core.Path.{_≡_}
-use mathlib.Core.List.{List}
-use lib.ListN.{length, set, replicate}
-use lib.Seq.{sets}
+use Rattle.machine.specs.All.{ℕ, _+_, _≤_, _≡_, List, length, set, replicate, sets, Parsed, parsed, refused, Parser, continue, field, times, Sum, Block, inForce, Counts, valueFields, blockField}
 use Rattle.machine.specs.Limits as Limits
-use Rattle.machine.specs.Parser.{Parsed, parsed, refused, Parser, continue, field, times}
-use Rattle.machine.specs.Term.{Sum}
-use Rattle.machine.specs.Block.{Block}
-use Rattle.machine.specs.Rules.{inForce}
-use Rattle.machine.specs.Decode.{Counts, valueFields, blockField}
 use Rattle.constants.specs.declared.model.Model.{Model}
 use Rattle.tables.specs.Layout as Layout
-use Rattle.tables.specs.Numbers.{sumNumbers, blockNumbers}
+use Rattle.tables.specs.All.{sumNumbers, blockNumbers}
 use Rattle.values.specs.declared.Place.{Place}
 use Rattle.values.specs.Keeps.{placeOf, numberShape}
 use Rattle.values.specs.Rows.{storedRows, allNamed, Each}

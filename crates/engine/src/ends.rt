@@ -10,8 +10,8 @@ use rows::REL;
 use rows::ROWS;
 use rows::lists::first;
 use state::Scalars;
-ghost use mathlib.Core.Path.{_≡_};
-ghost use Rattle.rows_laws.specs.Layout.{Room};
+ghost use Rattle.machine.specs.All.{_≡_};
+ghost use Rattle.rows_laws.specs.All.{Room};
 ghost use Rattle.engine_laws.specs.Ends.{nobodyRows, wornRows, fullRows, limitRows, endRows};
 
 // Nobody moves, and REL and FEL are empty.

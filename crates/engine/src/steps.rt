@@ -5,12 +5,9 @@ use state::Scalars;
 use tables::TABLES;
 use tables::TALLY;
 use turn::turn;
-ghost use mathlib.Core.Path.{_≡_};
-ghost use Prim.Native.Nat.{_≤_};
-ghost use lib.ListN.{length};
-ghost use Rattle.machine.specs.Limits.{maxBlocks, maxFacilities};
-ghost use Rattle.rows_laws.specs.Layout.{Room};
-ghost use Rattle.state.specs.Stands.{rowsOf};
+ghost use Rattle.machine.specs.All.{_≡_, _≤_, length, maxBlocks, maxFacilities};
+ghost use Rattle.rows_laws.specs.All.{Room};
+ghost use Rattle.state.specs.All.{rowsOf};
 ghost use Rattle.turn_laws.specs.Turn.{traced};
 ghost use Rattle.engine_laws.specs.Turns.{turnsRows};
 

@@ -1,21 +1,10 @@
 -- The end before a turn over rows is the machine's.
-use Prim.Native.Nat.{ℕ}
-use mathlib.Core.Path.{_≡_, refl, sym, ap, _∙_}
-use mathlib.Core.Bool.{Bool, true, false, cond, not, _&&_}
-use mathlib.Core.List.{List}
-use mathlib.Core.Option.{Option, none, some}
-use native.Mathlib.Omega.{arith}
-use borrow.Author.Tests.{lt-ltb, le-ltb, le-leb, lt-leb}
-use lib.Dec.{ltb, leb, eqb}
-use Rattle.machine.specs.Transaction.{Transaction}
-use Rattle.machine.specs.State.{State}
-use Rattle.machine.specs.Run.{isNone, isEmpty, nobodyLeft, endBefore}
-use Rattle.rows_laws.specs.Layout.{rel, fel}
-use Rattle.rows_laws.specs.Lists.{first}
+use Rattle.machine.specs.All.{ℕ, _≡_, refl, sym, ap, _∙_, Bool, true, false, cond, not, _&&_, List, Option, none, some, arith, lt-ltb, le-ltb, le-leb, lt-leb, ltb, leb, eqb, Transaction, State, isNone, isEmpty, nobodyLeft, endBefore}
+use Rattle.rows_laws.specs.All.{rel, fel, first}
 use Rattle.rows_laws.proofs.Take.{Head, nobody, somebody, head-shown}
 use Rattle.rows_laws.proofs.Later.{head-fel-shown}
-use Rattle.state.specs.Stands.{Rows, listsIn, Moving, Listing, Stands}
-use Rattle.engine_laws.specs.Ends.{nobodyRows, wornRows, fullRows, limitRows, endRows}
+use Rattle.state.specs.All.{Rows, listsIn, Moving, Listing, Stands}
+use Rattle.engine_laws.specs.{nobodyRows, wornRows, fullRows, limitRows, endRows}
 
 -- ---- Nobody left
 

@@ -1,38 +1,22 @@
 -- Document 02, item 9: in every state of every run over rows the first of REL, the FEL and each QL and WEL is kept (specs/Firsts).
-use Prim.Native.Nat.{ℕ, _+_, _-_, _<_}
-use mathlib.Core.Path.{_≡_, refl, subst}
-use mathlib.Core.Bool.{Bool, true, false}
-use mathlib.Core.List.{List, [], _∷_, _++_}
-use native.Mathlib.Omega.{arith}
-use borrow.Author.Tests.{ltb-true, ltb-false}
-use lib.Dec.{ltb}
-use lib.ListN.{length, getD, replicate}
-use Rattle.machine.specs.Rules.{inForce}
-use Rattle.machine.specs.Transaction.{precedes}
-use Rattle.machine.specs.Block.{BlockModel}
-use Rattle.machine.specs.State.{State}
-use Rattle.machine.specs.Run.{start, states, steps}
-use Rattle.machine.specs.Validate.{accept, validate}
+use Rattle.machine.specs.All.{ℕ, _+_, _-_, _<_, _≡_, refl, subst, Bool, true, false, List, [], _∷_, _++_, arith, ltb-true, ltb-false, ltb, length, getD, replicate, inForce, precedes, BlockModel, State, start, states, steps, accept, validate}
 use Rattle.machine.proofs.decoding.Proper.{Proper}
 use Rattle.machine.proofs.decoding.ProperFrom.{proper-from}
 use Rattle.machine.proofs.nobody_able.Waiting.{Waits}
 use Rattle.machine.proofs.order.Serials.{Apart, apart-turn, apart-start, single-rel, single-ql, single-wel}
-use Rattle.tables.specs.Layout.{tallySize}
-use Rattle.tables.specs.Represents.{headerOf, Represents}
-use Rattle.rows_laws.specs.Layout.{wsl, rel}
-use Rattle.rows_laws.specs.Ordered.{Strict}
+use Rattle.tables.specs.All.{tallySize, headerOf, Represents}
+use Rattle.rows_laws.specs.All.{wsl, rel, Strict}
 use Rattle.rows_laws.proofs.Ordering.{strict-of}
 use Rattle.rows_laws.proofs.KeptFirst.{fel-first, list-first, list-head}
 use Rattle.terms.proofs.NestedFrom.{nested-from}
-use Rattle.state.specs.Stands.{listsOf}
+use Rattle.state.specs.All.{listsOf}
 use Rattle.state.proofs.ListsOf.{lists-ql, lists-wel, lists-rel}
 use Rattle.state.proofs.Written.{Kept, kept-start}
 use Rattle.turn_laws.specs.Turn.{Traced, traced}
 use Rattle.turn_laws.specs.Runs.{Runs}
 use Rattle.start.specs.Start.{startRows}
-use Rattle.engine_laws.specs.Turns.{endOf, closeRows, turnRows}
-use Rattle.engine_laws.specs.Last.{lastRows}
-use Rattle.engine_laws.specs.Firsts.{Firsts, Along, statesRows, KeepsFirsts}
+use Rattle.engine_laws.specs.{endOf, closeRows, turnRows, lastRows, Along, statesRows, KeepsFirsts}
+use Rattle.engine_laws.specs.Firsts.{Firsts}
 use Rattle.engine_laws.proofs.StepLaws.{Follows, passed-last, states-follow}
 use Rattle.engine_laws.proofs.Outcomes.{rooms}
 use Rattle.engine_laws.proofs.Following.{follows}

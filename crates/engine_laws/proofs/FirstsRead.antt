@@ -1,19 +1,11 @@
 -- Document 02, item 9: "The pick then reads that and no list". What is picked, whereto the clock moves and whether anybody is left are functions of the kept
 -- firsts: two buffers that keep the same have the same, whatever else stands in them. A server's first that is woken is the kept one too.
-use Prim.Native.Nat.{ℕ, _<_}
-use mathlib.Core.Path.{_≡_, refl}
-use mathlib.Core.Bool.{Bool, true, false, cond}
-use mathlib.Core.List.{List}
-use borrow.Author.Tests.{lt-ltb}
-use lib.Dec.{ltb}
-use Rattle.rows_laws.specs.Layout.{head, rel, fel, rowCount}
-use Rattle.rows_laws.specs.Cells.{timeOf}
-use Rattle.rows_laws.specs.Lists.{first}
-use Rattle.rows_laws.specs.Wake.{wakeRow, wakeAt, wakeFirst}
+use Rattle.machine.specs.All.{ℕ, _<_, _≡_, refl, Bool, true, false, cond, List, lt-ltb, ltb}
+use Rattle.rows_laws.specs.All.{head, rel, fel, rowCount, timeOf, first, wakeRow, wakeAt, wakeFirst}
 use Rattle.state.specs.declared.scalars.Scalars.{Scalars}
-use Rattle.state.specs.Stands.{Rows, rowsOf}
+use Rattle.state.specs.All.{Rows, rowsOf}
 use Rattle.clock.specs.Taking.{moveClock, nextEvents, readyScalars, takeReady, counted, take}
-use Rattle.engine_laws.specs.Ends.{nobodyRows}
+use Rattle.engine_laws.specs.{nobodyRows}
 
 module _ (w w′ tally tally′ : List ℕ) (x : Scalars) where
   -- who moves, and all else that the pick leaves in the scalars

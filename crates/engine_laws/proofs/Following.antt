@@ -1,30 +1,17 @@
 -- A whole run over rows follows the machine's: from the laws of the start and of one turn to what `run` promises.
-use Prim.Native.Nat.{ℕ}
-use mathlib.Core.Path.{_≡_, refl, sym, subst}
-use mathlib.Core.List.{List}
-use lib.ListN.{length, replicate}
-use Rattle.machine.specs.Rules.{inForce}
-use Rattle.machine.specs.Block.{BlockModel}
-use Rattle.machine.specs.State.{State}
-use Rattle.machine.specs.Setters.{setEnd}
-use Rattle.machine.specs.Turn.{turn}
-use Rattle.machine.specs.Run.{endBefore, start, run, steps}
-use Rattle.machine.specs.Validate.{accept, validate}
-use Rattle.machine.specs.Outcome.{recordsOf}
+use Rattle.machine.specs.All.{ℕ, _≡_, refl, sym, subst, List, length, replicate, inForce, BlockModel, State, setEnd, turn, endBefore, start, run, steps, accept, validate, recordsOf}
 use Rattle.machine.proofs.decoding.Proper.{Proper}
 use Rattle.machine.proofs.decoding.ProperFrom.{proper-from}
 use Rattle.machine.proofs.runs.RunLaws.{Taken}
-use Rattle.tables.specs.Layout.{tallySize}
-use Rattle.tables.specs.Represents.{headerOf, Represents}
-use Rattle.state.specs.Stands.{rowsOf, Stands}
+use Rattle.tables.specs.All.{tallySize, headerOf, Represents}
+use Rattle.state.specs.All.{rowsOf, Stands}
 use Rattle.state.proofs.Written.{Kept, kept-start, kept-turn, kept-end}
 use Rattle.turn_laws.specs.Turn.{Traced, traced}
 use Rattle.turn_laws.specs.Writes.{Writes}
 use Rattle.turn_laws.specs.Runs.{Runs}
 use Rattle.start.specs.Start.{startRows}
 use Rattle.engine_laws.specs.declared.outcome.Outcome.{Outcome as Results}
-use Rattle.engine_laws.specs.Turns.{endOf, closeRows, turnRows}
-use Rattle.engine_laws.specs.Last.{lastRows, Finishes}
+use Rattle.engine_laws.specs.{endOf, closeRows, turnRows, lastRows, Finishes}
 use Rattle.engine_laws.specs.Contract.{Contract}
 use Rattle.engine_laws.proofs.EndLaws.{end-before}
 use Rattle.engine_laws.proofs.StepLaws.{Follows, run-follows}

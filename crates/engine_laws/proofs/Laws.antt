@@ -1,22 +1,11 @@
 -- The start and one turn over rows follow the machine.
-use Prim.Native.Nat.{ℕ, _≤_}
-use mathlib.Core.Path.{_≡_, refl, sym, ap, _∙_, subst}
-use mathlib.Core.List.{List, []}
-use mathlib.Core.Option.{Option}
-use lib.ListN.{length, replicate, length-replicate}
-use Rattle.machine.specs.Transaction.{Transaction}
-use Rattle.machine.specs.Trace.{traceBytes}
-use Rattle.machine.specs.Block.{BlockModel}
-use Rattle.machine.specs.State.{State, Logged}
-use Rattle.machine.specs.Turn.{turn}
-use Rattle.machine.specs.Run.{idle, start}
-use Rattle.machine.specs.Outcome.{recordsOf}
+use Rattle.machine.specs.All.{ℕ, _≤_, _≡_, refl, sym, ap, _∙_, subst, List, [], Option, length, replicate, length-replicate, Transaction, traceBytes, BlockModel, State, Logged, turn, idle, start, recordsOf}
 use Rattle.machine.proofs.decoding.Proper.{Proper}
 use Rattle.machine.proofs.runs.RunLaws.{Taken}
 use Rattle.tables.specs.Layout as Layout
-use Rattle.tables.specs.Represents.{headerOf, Represents}
+use Rattle.tables.specs.All.{headerOf, Represents}
 use Rattle.terms.specs.Nested.{Nested}
-use Rattle.state.specs.Stands.{Rows, Stands}
+use Rattle.state.specs.All.{Rows, Stands}
 use Rattle.state.proofs.Sanity.{start-is}
 use Rattle.state.proofs.Written.{inOrder, Kept}
 use Rattle.start.specs.Start.{startRows}
@@ -25,7 +14,7 @@ use Rattle.start.proofs.Tally.{same-at}
 use Rattle.turn_laws.specs.Turn.{Traced, traced}
 use Rattle.turn_laws.specs.Runs.{Runs}
 use Rattle.turn_laws.proofs.TurnLaws.{turn-runs}
-use Rattle.engine_laws.specs.Turns.{turnRows}
+use Rattle.engine_laws.specs.{turnRows}
 use Rattle.start.proofs.AtStart.{start-moving}
 
 module _ {m : BlockModel} {times : List (List ℕ)} {tape tables lists : List ℕ} (proper : Proper m times) (represents : Represents m times tape tables lists) (nested : Nested m) (trace : List ℕ) where

@@ -1,39 +1,21 @@
 -- The outcome: what `run` promises of a refused run that touches nothing, and of an accepted one from what stands for the last
 -- state of the machine's run.
-use Prim.Native.Nat.{ℕ, _≤_}
-use mathlib.Core.Path.{_≡_, refl, sym, ap, _∙_, subst}
-use mathlib.Core.Bool.{Bool, true, false, cond}
-use mathlib.Core.List.{List, _++_}
-use native.Mathlib.Omega.{arith}
-use borrow.Author.Tests.{leb-true}
-use lib.Dec.{leb}
-use lib.ListN.{length, take, drop}
-use lib.Seq.{take-at}
-use Rattle.machine.specs.Rules.{inForce}
-use Rattle.machine.specs.Limits.{workNumbers, reportRoom, maxReportNumber}
-use Rattle.machine.specs.Trace.{traceBytes}
-use Rattle.machine.specs.Block.{BlockModel}
-use Rattle.machine.specs.State.{State}
-use Rattle.machine.specs.Validate.{Validation, accept, reject, validate}
-use Rattle.machine.specs.Run.{run}
-use Rattle.machine.specs.Report.{reportNumbers, reportBytes}
-use Rattle.machine.specs.Claims.{Each, LivingListed}
-use Rattle.machine.specs.Outcome.{Outcome, recordsOf, acceptedRun, refusedRun, outcomeOf, outcome}
+use Rattle.machine.specs.All.{ℕ, _≤_, _≡_, refl, sym, ap, _∙_, subst, Bool, true, false, cond, List, _++_, arith, leb-true, leb, length, take, drop, take-at, inForce, workNumbers, reportRoom, maxReportNumber, traceBytes, BlockModel, State, Validation, accept, reject, validate, run, reportNumbers, reportBytes, Each, LivingListed, Outcome, recordsOf, acceptedRun, refusedRun, outcomeOf, outcome}
 use Rattle.machine.proofs.decoding.Proper.{Proper}
 use Rattle.machine.proofs.decoding.ProperFrom.{proper-from}
 use Rattle.machine.proofs.conservation.LivingListed.{living-listed}
 use Rattle.machine.proofs.Demand3.{demand3}
 use Rattle.machine.proofs.runs.OutcomeLaws.{outcome-keeps}
-use Rattle.tables.specs.Represents.{headerOf, Represents}
-use Rattle.state.specs.Stands.{Rows, Stands}
+use Rattle.tables.specs.All.{headerOf, Represents}
+use Rattle.state.specs.All.{Rows, Stands}
 use Rattle.state.proofs.Written.{Kept}
 use Rattle.turn_laws.specs.Writes.{Writes}
 use Rattle.report_laws.specs.Writing.{written, putAll}
 use Rattle.report_laws.specs.Numbers.{rowNumbers}
 use Rattle.report_laws.proofs.Fitting.{report-small}
 use Rattle.report_laws.proofs.Report.{report-written}
-use Rattle.engine_laws.specs.Last.{refusedWith, endedWith}
-use Rattle.engine_laws.specs.Contract.{Gives, Begins, ReadsBack, Accepted, wanted, Contract}
+use Rattle.engine_laws.specs.{refusedWith, endedWith, Gives, Begins, ReadsBack, Accepted, wanted}
+use Rattle.engine_laws.specs.Contract.{Contract}
 use Rattle.engine_laws.proofs.Reading.{reads-back}
 
 -- ---- Accepted: the buffers have their lengths

@@ -1,17 +1,10 @@
 -- The trace of a state of a run reads back to its records and then "no more", and written again they are the same bytes.
-use Prim.Native.Nat.{ℕ}
-use mathlib.Core.Path.{sym, ap, subst}
-use mathlib.Core.List.{List, [], _∷_, _++_}
-use Rattle.machine.specs.Trace.{Record, traceBytes}
-use Rattle.machine.specs.Block.{BlockModel}
-use Rattle.machine.specs.State.{State, Logged}
-use Rattle.machine.specs.Outcome.{recordsOf}
-use Rattle.machine.specs.Claims.{Each, InModel}
+use Rattle.machine.specs.All.{ℕ, sym, ap, subst, List, [], _∷_, _++_, Record, traceBytes, BlockModel, State, Logged, recordsOf, Each, InModel}
 use Rattle.trace.specs.Whole.{Reads}
 use Rattle.trace.proofs.RoundTrip.{trace-reads-whole, reads-once}
 use Rattle.state.proofs.Written.{Traced, inOrder, in-order-cons}
 use Rattle.state.proofs.Tallied.{traced-ranges}
-use Rattle.engine_laws.specs.Contract.{ReadsBack}
+use Rattle.engine_laws.specs.{ReadsBack}
 
 each-end : (P : Record → Type 0) (k : List Record) (r : Record) → Each P k → P r → Each P (k ++ (r ∷ []))
 each-end P [] r h e = (e, tt)

@@ -1,20 +1,14 @@
 -- What `run` promises, from what decoding tells and what the run over rows leaves.
-use Prim.Native.Nat.{ℕ, _≤_}
-use mathlib.Core.Path.{_≡_, sym, subst}
-use mathlib.Core.List.{List}
-use lib.ListN.{length}
-use Rattle.machine.specs.Rules.{inForce}
-use Rattle.machine.specs.Block.{BlockModel}
-use Rattle.machine.specs.Validate.{validate}
+use Rattle.machine.specs.All.{ℕ, _≤_, _≡_, sym, subst, List, length, inForce, BlockModel, validate}
 use Rattle.constants.specs.declared.model.Model.{Model}
 use Rattle.machine.proofs.decoding.Proper.{Proper}
 use Rattle.machine.proofs.decoding.ProperFrom.{proper-from}
-use Rattle.tables.specs.Represents.{headerOf}
+use Rattle.tables.specs.All.{headerOf}
 use Rattle.decode.specs.declared.Decoded.{Decoded}
 use Rattle.decode.specs.declared.Decoded.the-variants.{Model as Accepted, Refused}
 use Rattle.decode.specs.Decodes.{Decodes}
 use Rattle.engine_laws.specs.declared.outcome.Outcome.{Outcome as Results}
-use Rattle.engine_laws.specs.Last.{refusedWith, lastRows, Finishes}
+use Rattle.engine_laws.specs.{refusedWith, lastRows, Finishes}
 use Rattle.engine_laws.specs.Contract.{Contract}
 use Rattle.decode.proofs.Told.{Told, decoded-refused, decoded-model}
 use Rattle.engine_laws.proofs.Outcomes.{rooms, refused-runs}

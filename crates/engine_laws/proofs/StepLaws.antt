@@ -1,19 +1,8 @@
 -- The run by induction on its steps: whatever follows the machine turn by turn, and tells the machine's end before each turn,
 -- follows its run.
-use Prim.Native.Nat.{ℕ, zero, suc}
-use mathlib.Core.Path.{_≡_, refl, sym, ap, _∙_}
-use mathlib.Core.Bool.{Bool, true, false}
-use mathlib.Core.List.{List, [], _∷_, _++_}
-use borrow.Author.Tests.{eqb-true, eqb-false, eq-eqb, ne-eqb}
-use lib.Dec.{eqb}
-use Rattle.machine.specs.Block.{BlockModel}
-use Rattle.machine.specs.State.{State}
-use Rattle.machine.specs.Setters.{setEnd}
-use Rattle.machine.specs.Turn.{turn}
-use Rattle.machine.specs.Run.{endBefore, runFrom, statesFrom}
+use Rattle.machine.specs.All.{ℕ, zero, suc, _≡_, refl, sym, ap, _∙_, Bool, true, false, List, [], _∷_, _++_, eqb-true, eqb-false, eq-eqb, ne-eqb, eqb, BlockModel, State, setEnd, turn, endBefore, runFrom, statesFrom}
 use Rattle.machine.proofs.runs.RunLaws.{Taken, before, taken-of, run-on, run-off, states-on, states-off}
-use Rattle.engine_laws.specs.Steps.{runSteps, passed}
-use Rattle.engine_laws.specs.Firsts.{Along}
+use Rattle.engine_laws.specs.{runSteps, passed, Along}
 
 -- ---- One step, of any number of steps
 

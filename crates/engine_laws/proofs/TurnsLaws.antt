@@ -1,19 +1,13 @@
 -- The turns of a run over rows, one by one, and what is left after the report.
-use Prim.Native.Nat.{ℕ, suc, _-_, _≤_, _<_}
-use mathlib.Core.Path.{_≡_, refl, sym, ap, _∙_, subst}
-use mathlib.Core.List.{List}
-use native.Mathlib.Omega.{arith}
+use Rattle.machine.specs.All.{ℕ, suc, _-_, _≤_, _<_, _≡_, refl, sym, ap, _∙_, subst, List, arith}
 use Rattle.constants.specs.declared.model.Model.{Model}
 use Rattle.state.specs.declared.scalars.Scalars.{Scalars}
-use Rattle.state.specs.ScalarSetters.{putEnd}
-use Rattle.state.specs.Stands.{Rows, rowsOf}
+use Rattle.state.specs.All.{putEnd, Rows, rowsOf}
 use Rattle.turn_laws.specs.Turn.{Traced, traced, turn}
 use Rattle.report_laws.specs.Writing.{written, putAll}
 use Rattle.report_laws.specs.Numbers.{rowNumbers}
 use Rattle.engine_laws.specs.declared.outcome.Outcome.{Outcome as Results}
-use Rattle.engine_laws.specs.Ends.{endRows}
-use Rattle.engine_laws.specs.Turns.{endOf, closeRows, turnRows, turnsFrom, turnsRows}
-use Rattle.engine_laws.specs.Last.{endedWith, Finishes}
+use Rattle.engine_laws.specs.{endRows, endOf, closeRows, turnRows, turnsFrom, turnsRows, endedWith, Finishes}
 use Rattle.engine_laws.proofs.StepLaws.{steps-on, steps-off, steps-none}
 
 -- ---- One turn

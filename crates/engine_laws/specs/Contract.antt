@@ -2,19 +2,7 @@
 -- nothing touched by a refused run, demand 3 of the whole run, a trace that reads back, and the living by rising number.
 --
 -- Left free by the papers: the work buffer after an accepted run, of which nothing is said (a lent slice keeps its length).
-use Prim.Native.Nat.{ℕ, _≤_}
-use mathlib.Core.Path.{_≡_}
-use mathlib.Core.List.{List, _++_}
-use lib.ListN.{length, take, drop}
-use Rattle.machine.specs.Rules.{inForce}
-use Rattle.machine.specs.Limits.{maxReportNumber}
-use Rattle.machine.specs.Trace.{Record, traceBytes}
-use Rattle.machine.specs.Block.{BlockModel}
-use Rattle.machine.specs.Validate.{accept, validate}
-use Rattle.machine.specs.Run.{run}
-use Rattle.machine.specs.Report.{reportNumbers}
-use Rattle.machine.specs.Outcome.{Outcome, recordsOf, outcome}
-use Rattle.machine.specs.Claims.{Each, Proved, Keeping, InModel, LivingListed}
+use Rattle.machine.specs.All.{ℕ, _≤_, _≡_, List, _++_, length, take, drop, inForce, maxReportNumber, Record, traceBytes, BlockModel, accept, validate, run, reportNumbers, Outcome, recordsOf, outcome, Each, Proved, Keeping, InModel, LivingListed}
 use Rattle.trace.specs.Whole.{Reads}
 use Rattle.engine_laws.specs.declared.outcome.Outcome.{Outcome as Results}
 

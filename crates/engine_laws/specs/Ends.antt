@@ -1,11 +1,6 @@
 -- The row machine: the end before a turn, from scalars and work buffer.
-use Prim.Native.Nat.{ℕ, _+_}
-use mathlib.Core.Bool.{Bool, false, cond, _||_}
-use mathlib.Core.List.{List}
-use lib.Dec.{ltb, leb, eqb}
-use Rattle.machine.specs.Limits.{maxSerial, maxTurns, recordRoom}
-use Rattle.rows_laws.specs.Layout.{rel, fel, rowCount}
-use Rattle.rows_laws.specs.Lists.{first}
+use Rattle.machine.specs.All.{ℕ, _+_, Bool, false, cond, _||_, List, ltb, leb, eqb, maxSerial, maxTurns, recordRoom}
+use Rattle.rows_laws.specs.All.{rel, fel, rowCount, first}
 use Rattle.state.specs.declared.scalars.Scalars.{Scalars}
 
 -- nobody moves, and REL and FEL have no first row

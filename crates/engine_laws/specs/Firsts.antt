@@ -1,22 +1,11 @@
 -- Document 02, item 9: "keep the first of REL, FEL and each QL and WEL true through all turns", "For every run the kept first is the first that a full
 -- walk finds, and none exactly when the list is empty". The machine's lists are plain and keep no first, so this is of the run over rows, whose last
 -- state the code leaves: of every state before a turn and after it. `KeepsFirsts` is the claim; proved in proofs/FirstsKept.
-use Prim.Native.Nat.{ℕ, _<_}
-use mathlib.Core.Path.{_≡_}
-use mathlib.Core.List.{List, [], _∷_}
-use lib.ListN.{length, replicate}
+use Rattle.machine.specs.All.{ℕ, _<_, _≡_, List, [], _∷_, length, replicate, inForce, BlockModel, State, states, steps, accept, validate}
 use Rattle.constants.specs.declared.model.Model.{Model}
-use Rattle.machine.specs.Rules.{inForce}
-use Rattle.machine.specs.Block.{BlockModel}
-use Rattle.machine.specs.State.{State}
-use Rattle.machine.specs.Run.{states, steps}
-use Rattle.machine.specs.Validate.{accept, validate}
-use Rattle.tables.specs.Layout.{tallySize}
-use Rattle.tables.specs.Represents.{headerOf, Represents}
-use Rattle.rows_laws.specs.Layout.{wsl, rel, fel}
-use Rattle.rows_laws.specs.Order.{outranks, sooner}
-use Rattle.rows_laws.specs.First.{KeptFirst, KeptHead}
-use Rattle.state.specs.Stands.{listsOf}
+use Rattle.tables.specs.All.{tallySize, headerOf, Represents}
+use Rattle.rows_laws.specs.All.{wsl, rel, fel, outranks, sooner, KeptFirst, KeptHead}
+use Rattle.state.specs.All.{listsOf}
 use Rattle.turn_laws.specs.Turn.{Traced, traced}
 use Rattle.start.specs.Start.{startRows}
 use Rattle.engine_laws.specs.Steps.{passed}

@@ -1,9 +1,6 @@
 -- Steps until an end, of anything that tells the end before a step, takes one and keeps the end: the machine's `runFrom` over
 -- rows is an instance.
-use Prim.Native.Nat.{ℕ, zero, suc}
-use mathlib.Core.Bool.{true, false}
-use mathlib.Core.List.{List, [], _∷_}
-use lib.Dec.{eqb}
+use Rattle.machine.specs.All.{ℕ, zero, suc, true, false, List, [], _∷_, eqb}
 
 module _ {A : Type 0} (endOf : A → ℕ) (step : A → A) (close : ℕ → A → A) where
   unfoldable pub runSteps : ℕ → A → A

@@ -1,10 +1,7 @@
 -- The row machine: the turns of a run.
-use Prim.Native.Nat.{ℕ}
-use mathlib.Core.List.{List}
+use Rattle.machine.specs.All.{ℕ, List, steps}
 use Rattle.constants.specs.declared.model.Model.{Model}
-use Rattle.machine.specs.Run.{steps}
-use Rattle.state.specs.ScalarSetters.{putEnd}
-use Rattle.state.specs.Stands.{rowsOf}
+use Rattle.state.specs.All.{putEnd, rowsOf}
 use Rattle.turn_laws.specs.Turn.{Traced, traced, turn}
 use Rattle.engine_laws.specs.Ends.{endRows}
 use Rattle.engine_laws.specs.Steps.{runSteps}

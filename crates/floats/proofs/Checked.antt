@@ -1,7 +1,7 @@
 -- The check of a caller's double, pure: multiplied, cut to a whole number, divided again and compared, it is taken exactly
 -- where it is a whole number of parts in range.
 use Prim.Native.Nat.{ℕ, _+_, _*_, _/_, _%_, _^_, _≤_, _<_}
-use native.Mathlib.Nat.{mul-assoc, mul-one, one-mul, mul-comm, mul-pos, zero-mul, mul-div-cancel, mul-mod-left, div-one, div-add-mod', div-eq-of-eq-mul-left, le-trans, lt-of-le-of-lt}
+use native.Mathlib.Nat.{mul-assoc, mul-one, one-mul, mul-pos, mul-div-cancel, mul-mod-left, div-one, div-add-mod', le-trans, lt-of-le-of-lt}
 use native.Mathlib.Omega.{arith}
 use mathlib.Core.Bool.{Bool, true, false, cond, _&&_}
 use mathlib.Core.Option.{Option, none, some}
@@ -9,12 +9,11 @@ use mathlib.Core.Path.{_≡_, refl, sym, ap, _∙_, subst}
 use lib.IntN.{pos}
 use lib.Dec.{T, eqb, leb, le→leb, lit≤, lit<}
 use lib.Pow.{pow-pos}
-use borrow.Author.Tests.{le-leb, leb-true, eq-eqb, eqb-true}
-use lib.Ieee.{Float, nan, inf, fin, binary64, prec, low, up, down, mul, div, eq, ofInt, inFloat}
+use borrow.Author.Tests.{le-leb, leb-true, eqb-true}
+use lib.Ieee.{Float, nan, inf, fin, binary64, prec, up, down, mul, div, eq, ofInt, inFloat}
 use lib.Ieee.Fits.{down-pos}
-use Rattle.floats.specs.Limits.{maxTimeParts}
-use Rattle.floats.specs.Value.{Is, partsOf, wholePart}
-use Rattle.floats.proofs.Values.{Rounds, rounds-rescaled, rounds-exact, mul-rounds, div-rounds}
+use Rattle.floats.specs.{maxTimeParts, Is, partsOf, wholePart}
+use Rattle.floats.proofs.Values.{rounds-rescaled, rounds-exact, mul-rounds, div-rounds}
 use Rattle.floats.proofs.Whole.{both, whole-is, equal-is, is-equal, whole-number}
 
 -- ---- Parts and value

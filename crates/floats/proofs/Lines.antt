@@ -1,7 +1,7 @@
 -- A segment of a curve and a spread, pure: all operations but the division and the last sum are exact, and these two are off
 -- by half of 2 ^ -33 at most.
-use Prim.Native.Nat.{ℕ, suc, _+_, _-_, _*_, _/_, _%_, _^_, _≤_, _<_}
-use native.Mathlib.Nat.{le-trans, le-of-eq, lt-of-le-of-lt, lt-of-lt-of-le, mul-assoc, mul-comm, mul-left-comm, mul-right-comm, mul-one, one-mul, add-mul, mul-add, mul-pos, mul-le-mul, mul-le-mul-right, le-of-mul-le-mul-right, lt-of-mul-lt-mul-right, mul-lt-mul-of-pos-right, mul-le-mul-left, mul-mul-mul-comm, mul-mod-left, div-mul-le-self, lt-div-mul-add, div-eq-of-lt-le, div-lt-iff-lt-mul, div-add-mod', mul-add-mod-self-right}
+use Prim.Native.Nat.{ℕ, _+_, _-_, _*_, _/_, _%_, _^_, _≤_, _<_}
+use native.Mathlib.Nat.{le-trans, le-of-eq, lt-of-le-of-lt, mul-assoc, mul-comm, mul-left-comm, mul-right-comm, one-mul, add-mul, mul-pos, mul-le-mul, mul-le-mul-right, le-of-mul-le-mul-right, lt-of-mul-lt-mul-right, mul-le-mul-left, mul-mul-mul-comm, mul-mod-left, div-mul-le-self, lt-div-mul-add, div-eq-of-lt-le, div-lt-iff-lt-mul, div-add-mod', mul-add-mod-self-right}
 use native.Mathlib.Omega.{arith}
 use mathlib.Core.Bool.{Bool, true, false}
 use mathlib.Core.Path.{_≡_, refl, sym, ap, _∙_, subst}
@@ -9,11 +9,9 @@ use lib.Arith.{lt-of-le-ne}
 use lib.Dec.{eqb, lit≤, lit<}
 use borrow.Author.Tests.{eqb-true, eqb-false}
 use lib.Ieee.Nearest.{div-same}
-use lib.Pow.{pow-add, pow-pos, pow-mono}
+use lib.Pow.{pow-add, pow-pos}
 use lib.Ieee.{Float, binary64, prec, low, ofBits, add, sub, mul, div}
-use Rattle.floats.specs.Limits.{timeParts, maxTimeParts, maxMeanParts, drawParts, million}
-use Rattle.floats.specs.Value.{Is, wholePart}
-use Rattle.floats.specs.Line.{lineDouble, lineOver, lineUnder, Ends, Near, OnLine, spreadDouble, spreadOver, spreadUnder, Width, Exactly}
+use Rattle.floats.specs.{maxTimeParts, maxMeanParts, drawParts, million, Is, wholePart, lineDouble, lineOver, lineUnder, Ends, Near, OnLine, spreadDouble, spreadOver, spreadUnder, Width, Exactly}
 use Rattle.floats.proofs.Values.{Rounds, Off, one, is-rescaled, rounds-rescaled, rounds-exact, rounds-off, add-rounds, sub-rounds, mul-rounds, div-rounds}
 use Rattle.floats.proofs.Whole.{whole-is}
 
@@ -48,20 +46,13 @@ module _ (mean half u : Float) (m h v : ℕ) (w : Width mean half m h) (at : Is 
   product : 2 * h * v ≤ maxTimeParts * drawParts
   product = mul-le-mul {n₂ = maxTimeParts} {m₂ = drawParts} (omega (arith, w .half-most, w .mean-most)) inside
 
-  drawn : Is (mul binary64 (mul binary64 (ofBits binary64 0x4000000000000000) half) u) (2 * h * v) (2 ^ 22)
-  drawn = exact-mul _ u (2 * h) v 6 16 (lit≤ tt) (few (2 * h * v) (maxTimeParts * drawParts) product (lit< tt)) doubled at
-
-  lowest : Is (sub binary64 mean half) ((m - h) * drawParts) (2 ^ 22)
-  lowest =
-      is-rescaled (sub binary64 mean half) (m - h) (2 ^ 6) ((m - h) * drawParts) (2 ^ 22) (pow-pos 6) (mul-assoc (m - h) drawParts 64)
-      (exact-sub 6 (lit≤ tt) mean half m h maxMeanParts (w .half-most) (w .mean-most) (lit< tt) (w .mean-is) (w .half-is))
-
   over-most : spreadOver m h v ≤ 8388608000000
   over-most = omega (arith, product, w .mean-most)
 
   spread-is : Is (spreadDouble mean half u) (spreadOver m h v) spreadUnder
   unfolding spreadDouble
-  spread-is = exact-add 22 (lit≤ tt) _ _ ((m - h) * drawParts) (2 * h * v) (few (spreadOver m h v) 8388608000000 over-most (lit< tt)) lowest drawn
+  spread-is = exact-add 22 (lit≤ tt) _ _ ((m - h) * drawParts) (2 * h * v) (few (spreadOver m h v) 8388608000000 over-most (lit< tt)) (is-rescaled (sub binary64 mean half) (m - h) (2 ^ 6) ((m - h) * drawParts) (2 ^ 22) (pow-pos 6) (mul-assoc (m - h) drawParts 64)
+      (exact-sub 6 (lit≤ tt) mean half m h maxMeanParts (w .half-most) (w .mean-most) (lit< tt) (w .mean-is) (w .half-is))) (exact-mul _ u (2 * h) v 6 16 (lit≤ tt) (few (2 * h * v) (maxTimeParts * drawParts) product (lit< tt)) doubled at)
 
   pub spread-exactly : Exactly (spreadDouble mean half u) (spreadOver m h v) spreadUnder
   spread-exactly =
@@ -96,19 +87,13 @@ module _ (C E w P t0 t1 g h : ℕ) (ce : C ≡ 134217728 * E) (e0 : 0 < E) (w0 :
       omega arith
 
   module _ (L : ℕ) (l0 : 0 < L) (h-below : 2 * (h * L) ≤ 2 * ((t0 * C + g) * L) + E * L) (h-above : 2 * ((t0 * C + g) * L) ≤ 2 * (h * L) + E * L) where
-    sum-below : 2 * h ≤ 2 * (t0 * C + g) + E
-    sum-below = le-of-mul-le-mul-right {k = L} (rw (add-mul (2 * (t0 * C + g)) E L, mul-assoc 2 h L, mul-assoc 2 (t0 * C + g) L) h-below) l0
-
-    sum-above : 2 * (t0 * C + g) ≤ 2 * h + E
-    sum-above = le-of-mul-le-mul-right {k = L} (rw (add-mul (2 * h) E L, mul-assoc 2 h L, mul-assoc 2 (t0 * C + g) L) h-above) l0
-
     -- the line in units, times w
     exact : (t0 * w + P) * C ≡ t0 * C * w + P * C
     exact = add-mul (t0 * w) P C ∙ ap (λ (z : ℕ). z + P * C) (mul-right-comm t0 w C)
 
     pub line-below : h * w ≤ (t0 * w + P) * C + E * w
     line-below =
-        let a : 2 * h * w ≤ (2 * (t0 * C + g) + E) * w = mul-le-mul-right w sum-below in
+        let a : 2 * h * w ≤ (2 * (t0 * C + g) + E) * w = mul-le-mul-right w (le-of-mul-le-mul-right {k = L} (rw (add-mul (2 * (t0 * C + g)) E L, mul-assoc 2 h L, mul-assoc 2 (t0 * C + g) L) h-below) l0) in
         let b : 2 * h * w ≡ 2 * (h * w) = mul-assoc 2 h w in
         let d : (2 * (t0 * C + g) + E) * w ≡ 2 * (t0 * C + g) * w + E * w = add-mul (2 * (t0 * C + g)) E w in
         let f : 2 * (t0 * C + g) * w ≡ 2 * ((t0 * C + g) * w) = mul-assoc 2 (t0 * C + g) w in
@@ -120,7 +105,7 @@ module _ (C E w P t0 t1 g h : ℕ) (ce : C ≡ 134217728 * E) (e0 : 0 < E) (w0 :
 
     pub line-above : (t0 * w + P) * C ≤ h * w + E * w
     line-above =
-        let a : 2 * (t0 * C + g) * w ≤ (2 * h + E) * w = mul-le-mul-right w sum-above in
+        let a : 2 * (t0 * C + g) * w ≤ (2 * h + E) * w = mul-le-mul-right w (le-of-mul-le-mul-right {k = L} (rw (add-mul (2 * h) E L, mul-assoc 2 h L, mul-assoc 2 (t0 * C + g) L) h-above) l0) in
         let b : 2 * h * w ≡ 2 * (h * w) = mul-assoc 2 h w in
         let d : (2 * h + E) * w ≡ 2 * h * w + E * w = add-mul (2 * h) E w in
         let f : 2 * (t0 * C + g) * w ≡ 2 * ((t0 * C + g) * w) = mul-assoc 2 (t0 * C + g) w in
@@ -216,12 +201,6 @@ module _ (u0 time0 u1 time1 u : Float) (v0 t0 v1 t1 v : ℕ) (ends : Ends u0 tim
   w-most : w ≤ drawParts
   w-most = omega (arith, ends .last)
 
-  rise : Is (sub binary64 time1 time0) (t1 - t0) (2 ^ 6)
-  rise = exact-sub 6 (lit≤ tt) time1 time0 t1 t0 maxTimeParts (ends .not-falling) (ends .most) (lit< tt) (ends .to-time) (ends .from-time)
-
-  run : Is (sub binary64 u u0) (v - v0) (2 ^ 16)
-  run = exact-sub 16 (lit≤ tt) u u0 v v0 drawParts from (omega (arith, ends .last)) (lit< tt) at (ends .from-u)
-
   width : Is (sub binary64 u1 u0) w (2 ^ 16)
   width = exact-sub 16 (lit≤ tt) u1 u0 v1 v0 drawParts (omega (arith, ends .rising)) (ends .last) (lit< tt) (ends .to-u) (ends .from-u)
 
@@ -231,16 +210,12 @@ module _ (u0 time0 u1 time1 u : Float) (v0 t0 v1 t1 v : ℕ) (ends : Ends u0 tim
   P-most : P ≤ maxTimeParts * w
   P-most = le-trans P-line (mul-le-mul-right w (omega (arith, ends .most)))
 
-  rise-run : Is (mul binary64 (sub binary64 time1 time0) (sub binary64 u u0)) P (2 ^ 22)
-  rise-run =
-      exact-mul (sub binary64 time1 time0) (sub binary64 u u0) (t1 - t0) (v - v0) 6 16 (lit≤ tt)
-      (few P (maxTimeParts * drawParts) (le-trans P-most (mul-le-mul-left maxTimeParts w-most)) (lit< tt)) rise run
-
   quotient-rounds : Rounds quotient P (64 * w)
   quotient-rounds =
       rounds-rescaled quotient (P * 2 ^ 16) (2 ^ 22 * w) P (64 * w) (mul-pos (pow-pos 22) w-pos) (mul-pos (pow-pos 6) w-pos)
       (mul-assoc P 65536 (64 * w) ∙ ap (λ (z : ℕ). P * z) (sym (mul-assoc 65536 64 w)))
-      (div-rounds (mul binary64 (sub binary64 time1 time0) (sub binary64 u u0)) (sub binary64 u1 u0) P (2 ^ 22) w (2 ^ 16) (pow-pos 22) (pow-pos 16) w-pos rise-run width)
+      (div-rounds (mul binary64 (sub binary64 time1 time0) (sub binary64 u u0)) (sub binary64 u1 u0) P (2 ^ 22) w (2 ^ 16) (pow-pos 22) (pow-pos 16) w-pos (exact-mul (sub binary64 time1 time0) (sub binary64 u u0) (t1 - t0) (v - v0) 6 16 (lit≤ tt)
+      (few P (maxTimeParts * drawParts) (le-trans P-most (mul-le-mul-left maxTimeParts w-most)) (lit< tt)) (exact-sub 6 (lit≤ tt) time1 time0 t1 t0 maxTimeParts (ends .not-falling) (ends .most) (lit< tt) (ends .to-time) (ends .from-time)) (exact-sub 16 (lit≤ tt) u u0 v v0 drawParts from (omega (arith, ends .last)) (lit< tt) at (ends .from-u))) width)
 
   quotient-off : Off quotient P (64 * w)
   quotient-off = rounds-off quotient P (64 * w) (mul-pos (pow-pos 6) w-pos) (omega (arith, P-most, w-pos)) quotient-rounds
@@ -256,16 +231,13 @@ module _ (u0 time0 u1 time1 u : Float) (v0 t0 v1 t1 v : ℕ) (ends : Ends u0 tim
   unfolding g
   g-above = subst (λ (z : ℕ). 2 * (P * z) ≤ 2 * (g * (64 * w)) + error * (64 * w)) one-is (quotient-off .above)
 
-  time0-units : Is time0 (t0 * per64) one
-  time0-units = is-rescaled time0 t0 64 (t0 * per64) one (pow-pos 6) (mul-assoc t0 per64 64 ∙ ap (λ (z : ℕ). t0 * z) (mul-comm per64 64 ∙ sym one-is)) (ends .from-time)
-
   line-off : Off (lineDouble u0 time0 u1 time1 u) (t0 * per64 + g) one
   unfolding lineDouble g
   line-off =
       rounds-off (lineDouble u0 time0 u1 time1 u) (t0 * per64 + g) one (pow-pos 1074)
       (subst (λ (z : ℕ). t0 * per64 + g < 1048576 * z) (sym one-is)
       (sum-small per64 error w P t0 t1 g 0 per64-is (pow-pos 1041) w-pos (ends .not-falling) (ends .most) P-line g-below g-above))
-      (add-rounds one (pow-pos 1074) time0 quotient (t0 * per64) g time0-units (quotient-off .is))
+      (add-rounds one (pow-pos 1074) time0 quotient (t0 * per64) g (is-rescaled time0 t0 64 (t0 * per64) one (pow-pos 6) (mul-assoc t0 per64 64 ∙ ap (λ (z : ℕ). t0 * z) (mul-comm per64 64 ∙ sym one-is)) (ends .from-time)) (quotient-off .is))
 
   h : ℕ
   h = line-off .units

@@ -36,12 +36,8 @@ HalfOff g u n = (2 * (g * u) ≤ 2 * n + u) × (2 * n ≤ 2 * (g * u) + u)
 
 half-off : (q r u : ℕ) (o : Ordering) → Compared o (r * 2) u → r < u → HalfOff (nearest q o) u (q * u + r)
 half-off q r u Ordering·lt h s = omega arith
-half-off q r u Ordering·eq h s = odd (q % 2) (omega arith)
-  where
-    odd : (t : ℕ) → t < 2 → HalfOff (q + t) u (q * u + r)
-    odd t k =
-        let more : t * u ≤ 1 * u = mul-le-mul-right u (omega arith) in
-        rw (add-mul q t u) (omega arith)
+half-off q r u Ordering·eq h s = (let more : (q % 2) * u ≤ 1 * u = mul-le-mul-right u (omega arith) in
+    rw (add-mul q (q % 2) u) (omega arith))
 half-off q r u Ordering·gt h s = rw (suc-mul q u) (omega arith)
 
 closest-off : (n u : ℕ) → 0 < u → HalfOff (closest n u) u n
@@ -73,7 +69,4 @@ module _ (f : Format) (a c d : ℕ) (pos : 0 < c) (below : a < 2 ^ d * c) where
       let m : c * 2 ^ k ≤ 2 ^ (d + low f - prec f) * c =
       le-trans (le-of-eq (mul-comm c (2 ^ k))) (mul-le-mul-right c (pow-mono dropped)) in
       let o : HalfOff (closest n (c * 2 ^ k)) (c * 2 ^ k) n = off in
-      go (closest n (c * 2 ^ k) * (c * 2 ^ k)) (grid f a c * c) n (c * 2 ^ k) (2 ^ (d + low f - prec f) * c) e m (o .0) (o .1)
-    where
-      go : (x y n u w : ℕ) → x ≡ y → u ≤ w → 2 * x ≤ 2 * n + u → 2 * n ≤ 2 * x + u → (2 * y ≤ 2 * n + w) × (2 * n ≤ 2 * y + w)
-      go x y n u w e m lo hi = omega arith
+      omega arith

@@ -5,18 +5,18 @@ use native.Mathlib.Nat.{le-trans, lt-of-lt-of-le, le-of-eq, mul-assoc, mul-comm,
 use native.Mathlib.Omega.{arith}
 use mathlib.Core.Bool.{Bool, true, false, not, _&&_, Bool·beq, cond}
 use mathlib.Core.Path.{_≡_, refl, sym, ap, _∙_, subst}
-use lib.IntN.{ℤ, pos}
+use lib.IntN.{ℤ}
 use lib.Dec.{ltb, lit≤}
 use lib.Pow.{pow-add, pow-pos, pow-mono, shl-lt}
 use borrow.Author.Tests.{le-ltb, ltb-false, ne-eqb}
-use lib.Ieee.{Float, nan, inf, fin, Format, binary64, prec, emax, low, up, down, round, neg, sum, add, sub, mul, div}
+use lib.Ieee.{Float, nan, inf, fin, binary64, prec, emax, low, up, down, round, neg, sum, add, sub, mul, div}
 use lib.Ieee.Fits.{up-pos, down-pos}
 use lib.Ieee.Digits.{back}
 use lib.Ieee.Exact.{HasValue, round-exact}
 use lib.Ieee.Positive.{first-pos}
 use lib.Ieee.Scale.{grid, overflow, round-same, round-val}
 use Rattle.floats.proofs.Rounding.{grid-off}
-use Rattle.floats.specs.Value.{Is}
+use Rattle.floats.specs.{Is}
 
 -- ---- One value, several fractions
 
@@ -90,22 +90,15 @@ module _ (c : ℕ) (p : 0 < c) where
     plus : (A + B) * c ≡ (a + b) * C
     plus = rw (add-mul A B c, add-mul a b C, e, f)
 
-    minus : (A - B) * c ≡ (a - b) * C
-    minus =
-        mul-comm (A - B) c ∙ mul-sub c A B ∙ rw (mul-comm c A, mul-comm c B, e, f)
-        (sym (mul-comm (a - b) C ∙ mul-sub C a b ∙ rw (mul-comm C a, mul-comm C b)))
-
-    ordered : b ≤ a → B ≤ A
-    ordered h = le-of-mul-le-mul-right (le-trans (le-of-eq f) (le-trans (mul-le-mul-right C h) (le-of-eq (sym e)))) p
-
     like-signs : (s : Bool) → (s ≡ true → a + b ≡ 0) → Rounds (round binary64 s (A + B) C) (a + b) c
     like-signs s z = formed s (A + B) C (a + b) c q p plus z refl
 
     taken-off : (s t : Bool) → b ≤ a → (s ≡ true → a ≡ 0) →
         Rounds (cond (ltb A B) (round binary64 t (B - A) C) (round binary64 (s && ltb B A) (A - B) C)) (a - b) c
     taken-off s t h z =
-        rw (le-ltb A B (ordered h))
-        (formed (s && ltb B A) (A - B) C (a - b) c q p minus (λ g. omega (arith, z (first-of s (ltb B A) g))) refl)
+        rw (le-ltb A B (le-of-mul-le-mul-right (le-trans (le-of-eq f) (le-trans (mul-le-mul-right C h) (le-of-eq (sym e)))) p))
+        (formed (s && ltb B A) (A - B) C (a - b) c q p (mul-comm (A - B) c ∙ mul-sub c A B ∙ rw (mul-comm c A, mul-comm c B, e, f)
+        (sym (mul-comm (a - b) C ∙ mul-sub C a b ∙ rw (mul-comm C a, mul-comm C b)))) (λ g. omega (arith, z (first-of s (ltb B A) g))) refl)
 
     over-zero : a ≡ 0 → Rounds (cond (ltb A B) (round binary64 false (B - A) C) (round binary64 (ltb B A) (A - B) C)) (a + b) c
     over-zero z =
@@ -267,19 +260,15 @@ under-overflow g B l E top h k m = omega (arith, add-mul B 1 l)
 pub rounds-off : (x : Float) (a c : ℕ) → 0 < c → a < 2 ^ 20 * c → Rounds x a c → Off x a c
 rounds-off x a c p h r = go (r .sign) refl
   where
-    up-to : grid binary64 a c < overflow binary64
-    up-to =
-        under-overflow (grid binary64 a c) (2 ^ 20) one (2 ^ 1041) (overflow binary64)
-        (bounded (grid binary64 a c) c a one (2 ^ 1041) (2 ^ 20) p (pow-pos (low binary64)) h (grid-off binary64 a c 20 p h .0))
-        (pow-mono {i = 1041} {j = low binary64} (lit≤ tt)) (lit≤ tt)
-
     go : (s : Bool) → r .sign ≡ s → Off x a c
     go false e =
         record {
           units = grid binary64 a c;
           is =
               value-is x false (grid binary64 a c) one (pow-pos (low binary64)) never
-              (subst (λ (z : Float). HasValue z false (grid binary64 a c) one) (sym (r .rounded ∙ ap (λ (t : Bool). round binary64 t a c) e)) (round-val binary64 a c up-to));
+              (subst (λ (z : Float). HasValue z false (grid binary64 a c) one) (sym (r .rounded ∙ ap (λ (t : Bool). round binary64 t a c) e)) (round-val binary64 a c (under-overflow (grid binary64 a c) (2 ^ 20) one (2 ^ 1041) (overflow binary64)
+              (bounded (grid binary64 a c) c a one (2 ^ 1041) (2 ^ 20) p (pow-pos (low binary64)) h (grid-off binary64 a c 20 p h .0))
+              (pow-mono {i = 1041} {j = low binary64} (lit≤ tt)) (lit≤ tt))));
           below = grid-off binary64 a c 20 p h .0;
           above = grid-off binary64 a c 20 p h .1;
         }

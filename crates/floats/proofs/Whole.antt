@@ -1,16 +1,16 @@
 -- Whole parts, equality and small whole numbers of doubles, pure.
-use Prim.Native.Nat.{ℕ, suc, _+_, _-_, _*_, _/_, _^_, _≤_, _<_, min}
-use native.Mathlib.Nat.{zero-add, le-of-eq, mul-one, one-mul, mul-comm, mul-right-comm, zero-mul, zero-div, mul-pos, div-lt-iff-lt-mul, min-eq-left, eq-of-mul-eq-mul-right, mul-le-mul-right, mul-lt-mul-of-pos-right, le-of-mul-le-mul-right, lt-of-mul-lt-mul-right}
+use Prim.Native.Nat.{ℕ, _+_, _*_, _/_, _^_, _≤_, _<_}
+use native.Mathlib.Nat.{zero-add, mul-right-comm, zero-mul, zero-div, mul-pos, div-lt-iff-lt-mul, min-eq-left, eq-of-mul-eq-mul-right, mul-le-mul-right, mul-lt-mul-of-pos-right, le-of-mul-le-mul-right, lt-of-mul-lt-mul-right}
 use native.Mathlib.Omega.{arith}
-use mathlib.Core.Bool.{Bool, true, false, cond, _&&_, _||_, Bool·beq}
+use mathlib.Core.Bool.{Bool, true, false, _&&_}
 use mathlib.Core.Path.{_≡_, refl, sym, ap, _∙_, subst}
 use lib.IntN.{ℤ, pos}
-use lib.Dec.{ltb, eqb, lit≤}
+use lib.Dec.{ltb, lit≤}
 use borrow.Author.Tests.{lt-ltb, le-ltb, ltb-true, ltb-false, eq-eqb, eqb-true}
 use lib.Ieee.{Float, nan, inf, fin, binary64, prec, up, down, below, lt, eq, toUnsigned, ofInt}
 use lib.Ieee.Fits.{up-pos, down-pos}
 use lib.Ieee.Nearest.{div-same}
-use Rattle.floats.specs.Value.{Is, wholePart}
+use Rattle.floats.specs.{Is, wholePart}
 use Rattle.floats.proofs.Values.{rounds-exact, no-true, zero-left, size-of, first, second}
 
 -- ---- Whole part
@@ -19,18 +19,18 @@ module _ (a c : ℕ) (p : 0 < c) (small : a / c < 18446744073709551616) where
   above : (d b : ℕ) → 0 < d → ltb 0 (1 * 1 * d + b) ≡ true
   above d b q = lt-ltb 0 (1 * 1 * d + b) (omega arith)
 
-  under : (m d : ℕ) → 0 < d → m / d ≡ a / c → ltb (m * 1) (1 * 18446744073709551616 * d) ≡ true
-  under m d q e =
-      let h : m < 18446744073709551616 * d = div-lt-iff-lt-mul q .0 (subst (λ (z : ℕ). z < 18446744073709551616) (sym e) small) in
-      lt-ltb (m * 1) (1 * 18446744073709551616 * d) (omega arith)
-
   pub whole-is : (x : Float) → Is x a c → wholePart x ≡ a / c
   unfolding wholePart lt toUnsigned
   whole-is nan h = absurd h
   whole-is (inf s) h = absurd h
   whole-is (fin false m e) h =
       let same : m * up e / down e ≡ a / c = div-same (m * up e) (down e) a c (down-pos e) p h in
-      rw (above (down e) (m * up e * 1) (down-pos e), under (m * up e) (down e) (down-pos e) same, same)
+      rw (
+        above (down e) (m * up e * 1) (down-pos e),
+        (let h : (m * up e) < 18446744073709551616 * (down e) = div-lt-iff-lt-mul (down-pos e) .0 (subst (λ (z : ℕ). z < 18446744073709551616) (sym same) small) in
+            lt-ltb ((m * up e) * 1) (1 * 18446744073709551616 * (down e)) (omega arith)),
+        same,
+      )
       (min-eq-left (omega arith))
   whole-is (fin true m e) h =
       let none : m * up e * 1 ≡ 0 = rw (h .0, zero-mul (up e)) in

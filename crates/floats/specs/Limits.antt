@@ -1,5 +1,5 @@
 -- The limits of document 02, item 4, on what a distribution holds in doubles.
-use Prim.Native.Nat.{ℕ, _*_}
+use Prim.Native.Nat.{ℕ}
 
 -- "Times, means and halves are multiples of 1/64"
 abbrev pub timeParts : ℕ

@@ -13,12 +13,11 @@ use state::Scalars;
 use state::plus64;
 use tables::FIRST;
 use tables::number;
-ghost use mathlib.Core.Path.{_≡_};
-ghost use Prim.Native.Nat.{_+_, _<_, _≤_};
-ghost use Rattle.tables.specs.Layout.{programSize};
-ghost use Rattle.rows_laws.specs.Layout.{Room, rowCount};
+ghost use Rattle.machine.specs.All.{_≡_, _+_, _<_, _≤_};
+ghost use Rattle.tables.specs.All.{programSize};
+ghost use Rattle.rows_laws.specs.All.{Room, rowCount};
 ghost use Rattle.moves.specs.Motion.{moved};
-ghost use Rattle.state.specs.Stands.{rowsOf};
+ghost use Rattle.state.specs.All.{rowsOf};
 ghost use Rattle.flow_laws.specs.Kinds.{sendOn, delayRows, advanceNext, advanceRows};
 
 // The moving one goes to the FEL at a time, its next block plus one.

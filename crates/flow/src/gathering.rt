@@ -24,11 +24,9 @@ use state::less32;
 use state::plus32;
 use tables::FIRST;
 use tables::number;
-ghost use mathlib.Core.Path.{_≡_};
-ghost use Prim.Native.Nat.{_+_, _<_, _≤_};
-ghost use Rattle.machine.specs.Limits.{maxFacilities};
-ghost use Rattle.tables.specs.Layout.{programSize};
-ghost use Rattle.rows_laws.specs.Layout.{Room, listCount, rowCount};
+ghost use Rattle.machine.specs.All.{_≡_, _+_, _<_, _≤_, maxFacilities};
+ghost use Rattle.tables.specs.All.{programSize};
+ghost use Rattle.rows_laws.specs.All.{Room, listCount, rowCount};
 ghost use Rattle.moves.specs.Motion.{moved};
 ghost use Rattle.flow_laws.specs.Gathering.{listAt, gatherOn, releaseOn, endOn, countOn, laterRows, gatherRows, assembleRows};
 

@@ -13,11 +13,10 @@ use state::Scalars;
 use tables::FIRST;
 use tables::SECOND;
 use tables::number;
-ghost use mathlib.Core.Path.{_≡_};
-ghost use Prim.Native.Nat.{_+_, _<_, _≤_};
-ghost use Rattle.tables.specs.Layout.{programSize};
-ghost use Rattle.rows_laws.specs.Layout.{Room, rowCount};
-ghost use Rattle.state.specs.Stands.{rowsOf};
+ghost use Rattle.machine.specs.All.{_≡_, _+_, _<_, _≤_};
+ghost use Rattle.tables.specs.All.{programSize};
+ghost use Rattle.rows_laws.specs.All.{Room, rowCount};
+ghost use Rattle.state.specs.All.{rowsOf};
 ghost use Rattle.flow_laws.specs.Kinds.{arriveOn, generateNext, generateRows};
 
 // The transaction goes on, and a new one comes.

@@ -10,12 +10,8 @@ use state::plus64;
 use tables::HELD;
 use tables::HOLDER;
 use tables::TALLY;
-ghost use mathlib.Core.Path.{_≡_};
-ghost use Prim.Native.Nat.{_≤_};
-ghost use lib.ListN.{length};
-ghost use Rattle.machine.specs.Limits.{maxFacilities};
-ghost use Rattle.machine.specs.Lists.{bit};
-ghost use Rattle.tables.specs.Layout.{tallySize};
+ghost use Rattle.machine.specs.All.{_≡_, _≤_, length, maxFacilities, bit};
+ghost use Rattle.tables.specs.All.{tallySize};
 ghost use Rattle.flow_laws.specs.Questions.{askRoom, askTime, firstNo, askArrival, heldBy, askHolding};
 
 const MAX_LIVING: u32 = Model::MAX_LIVING as u32;

@@ -8,9 +8,7 @@ use tables::LIST_AT;
 use tables::LIST_LEFT;
 use tables::count;
 use tables::set_count;
-ghost use mathlib.Core.Path.{_≡_};
-ghost use Prim.Native.Nat.{_+_};
-ghost use lib.ListN.{getD};
+ghost use Rattle.machine.specs.All.{_≡_, _+_, getD};
 ghost use Rattle.tables.specs.Layout as Layout;
 ghost use Rattle.flow_laws.specs.Samples.{sampleAt, nextSample, useTime};
 

@@ -16,13 +16,10 @@ use state::Scalars;
 use state::by_fields;
 use state::plus32;
 use state::plus64;
-ghost use mathlib.Core.Path.{_≡_};
-ghost use mathlib.Core.Bool.{true};
-ghost use Prim.Native.Nat.{_<_, _≤_};
-ghost use Rattle.rows_laws.specs.Layout.{Room, rowCount};
+ghost use Rattle.machine.specs.All.{_≡_, true, _<_, _≤_};
+ghost use Rattle.rows_laws.specs.All.{Room, rowCount};
 ghost use Rattle.moves.specs.Motion.{moved, next32};
-ghost use Rattle.state.specs.ScalarSetters.{putSerial};
-ghost use Rattle.state.specs.Stands.{rowsOf};
+ghost use Rattle.state.specs.All.{putSerial, rowsOf};
 ghost use Rattle.flow_laws.specs.Sending.{toFuture, toReady, bornAt, born, oneMade, arrives, copyTo, copyOne};
 
 // A priority is below this number.

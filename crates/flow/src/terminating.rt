@@ -13,13 +13,9 @@ use state::less32;
 use state::plus32;
 use tables::FIRST;
 use tables::number;
-ghost use mathlib.Core.Path.{_≡_};
-ghost use mathlib.Core.Bool.{cond};
-ghost use Prim.Native.Nat.{_+_, _<_, _≤_};
-ghost use lib.Dec.{leb};
-ghost use Rattle.machine.specs.Limits.{maxFacilities};
-ghost use Rattle.tables.specs.Layout.{programSize};
-ghost use Rattle.rows_laws.specs.Layout.{Room, rowCount};
+ghost use Rattle.machine.specs.All.{_≡_, cond, _+_, _<_, _≤_, leb, maxFacilities};
+ghost use Rattle.tables.specs.All.{programSize};
+ghost use Rattle.rows_laws.specs.All.{Room, rowCount};
 ghost use Rattle.moves.specs.Motion.{moved};
 ghost use Rattle.flow_laws.specs.Kinds.{endOne, terminateRows};
 

@@ -1,32 +1,15 @@
 -- 2 ADVANCE: the row machine does what the machine does.
-use Prim.Native.Nat.{ℕ, suc, _+_, _-_, _≤_}
-use mathlib.Core.Path.{_≡_, refl, ap, _∙_}
-use mathlib.Core.Bool.{false, cond}
-use mathlib.Core.List.{List, [], _∷_}
-use mathlib.Core.Option.{none}
-use native.Mathlib.Omega.{arith}
-use borrow.Author.Tests.{ne-eqb}
-use lib.Dec.{eqb, leb}
-use lib.ListN.{length, getD}
-use Rattle.machine.specs.Limits.{maxClock}
-use Rattle.machine.specs.Transaction.{Transaction}
-use Rattle.machine.specs.Block.{advance, BlockModel}
-use Rattle.machine.specs.State.{State}
-use Rattle.machine.specs.Setters.{withNext, withReturning, setMoving}
+use Rattle.machine.specs.All.{ℕ, suc, _+_, _-_, _≤_, _≡_, refl, ap, _∙_, false, cond, List, [], _∷_, none, arith, ne-eqb, eqb, leb, length, getD, maxClock, Transaction, advance, BlockModel, State, withNext, withReturning, setMoving, unless, askAdvance, question, delay}
 use Rattle.machine.specs.Moves as Moves
-use Rattle.machine.specs.Execute.{unless, askAdvance, question, delay}
 use Rattle.machine.proofs.decoding.Proper.{Names}
-use Rattle.tables.specs.Forms.{blockForms}
+use Rattle.tables.specs.All.{blockForms}
 use Rattle.state.specs.declared.scalars.Scalars.{Scalars}
-use Rattle.state.specs.Bare.{bare, bareAnswer}
-use Rattle.state.specs.Stands.{rowsOf, Done}
+use Rattle.state.specs.All.{bare, bareAnswer, rowsOf, Done}
 use Rattle.moves.specs.Before.{placeOf, bareBlock, Before}
 use Rattle.moves.specs.Motion.{withTally, stopped}
 use Rattle.moves.proofs.BeforeLaws.{next-low, serial-low, few-lists, proper-block, operand, stop-done, asked}
 use Rattle.flow_laws.specs.declared.samples.Sample.{Sample}
-use Rattle.flow_laws.specs.Samples.{nextSample, useTime}
-use Rattle.flow_laws.specs.Questions.{askTime}
-use Rattle.flow_laws.specs.Kinds.{sendOn, delayRows, advanceWith, advanceNext, advanceRows}
+use Rattle.flow_laws.specs.{nextSample, useTime, askTime, sendOn, delayRows, advanceWith, advanceNext, advanceRows}
 use Rattle.flow_laws.proofs.New.{Follows, follows-done}
 use Rattle.flow_laws.proofs.Arrival.{sampled, used-tallying, move-time}
 use Rattle.flow_laws.proofs.Asked.{time-most, time-asked, time-yes}

@@ -1,16 +1,10 @@
 -- A sample from the answer of `read_number`.
-use Prim.Native.Nat.{ℕ, _<_}
-use mathlib.Core.Path.{_≡_, ap}
-use mathlib.Core.List.{List}
-use native.Mathlib.Omega.{arith}
-use lib.ListN.{drop}
-use Rattle.machine.specs.Limits.{maxNumberBytes, fiveGroups}
-use Rattle.machine.specs.Number.{readNumber}
+use Rattle.machine.specs.All.{ℕ, _<_, _≡_, ap, List, arith, drop, maxNumberBytes, fiveGroups, readNumber}
 use Rattle.codec.specs.declared.Read.{Read}
 use Rattle.codec.specs.declared.Read.the-variants.{Number as Whole, Refused as Unread}
 use Rattle.codec.specs.Answers.{numberOf}
 use Rattle.flow_laws.specs.declared.samples.Sample.{Sample}
-use Rattle.flow_laws.specs.Samples.{sampleOf, sampleAt}
+use Rattle.flow_laws.specs.{sampleOf, sampleAt}
 
 abbrev sample : ℕ → ℕ → Sample
 sample time next = record { time = time; next = next }

@@ -1,25 +1,15 @@
 -- `arrives` is the machine's `arrival`: the first time of a list is used, and a new transaction comes onto the FEL at the clock plus
 -- that time.
-use Prim.Native.Nat.{ℕ, suc, _+_, _-_, _≤_, _<_}
-use mathlib.Core.Path.{_≡_, sym, ap, _∙_, subst}
-use mathlib.Core.List.{List, _∷_}
-use mathlib.Core.Option.{Option}
-use native.Mathlib.Omega.{arith}
-use lib.ListN.{length, getD, set, drop}
-use Rattle.machine.specs.Transaction.{Transaction, newborn}
-use Rattle.machine.specs.State.{State}
-use Rattle.machine.specs.Setters.{setMade}
+use Rattle.machine.specs.All.{ℕ, suc, _+_, _-_, _≤_, _<_, _≡_, sym, ap, _∙_, subst, List, _∷_, Option, arith, length, getD, set, drop, Transaction, newborn, State, setMade, maxClock}
 use Rattle.machine.specs.Moves as Moves
-use Rattle.machine.specs.Limits.{maxClock}
 use Rattle.machine.proofs.runs.Clocks.{Given}
 use Rattle.tables.specs.Layout as Layout
 use Rattle.state.specs.declared.scalars.Scalars.{Scalars}
-use Rattle.state.specs.Stands.{Rows, rowsOf, atBlock, Listing, Seen, Serving, Queueing, Sampling, Tallying, Counting, Stands}
+use Rattle.state.specs.All.{Rows, rowsOf, atBlock, Listing, Seen, Serving, Queueing, Sampling, Tallying, Counting, Stands}
 use Rattle.state.proofs.StandsLaws.{entries-set, waits-set, seen-set, serving-set, queueing-set, stands-of}
 use Rattle.moves.specs.Motion.{withTally}
 use Rattle.flow_laws.specs.declared.samples.Sample.{Sample}
-use Rattle.flow_laws.specs.Samples.{nextSample, useTime}
-use Rattle.flow_laws.specs.Sending.{plus64, born, arrives}
+use Rattle.flow_laws.specs.{nextSample, useTime, plus64, born, arrives}
 use Rattle.flow_laws.proofs.Drawing.{drawn-time, drawn-size, drawn-sampling}
 use Rattle.flow_laws.proofs.New.{Follows, Roomy, born-follows}
 

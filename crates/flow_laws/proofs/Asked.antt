@@ -1,29 +1,13 @@
 -- The questions, asked of the scalars, are the machine's.
-use Prim.Native.Nat.{ℕ, zero, suc, _+_, _-_, _%_, _≤_, min}
-use mathlib.Core.Path.{_≡_, refl, subst, _∙_, ap, sym}
-use mathlib.Core.Bool.{Bool, true, false, cond, not, _||_}
-use mathlib.Core.List.{List, _∷_}
-use native.Mathlib.Omega.{arith}
-use borrow.Author.Tests.{le-ltb, leb-true, eqb-true, eq-eqb, ne-eqb}
-use lib.Dec.{eqb, leb}
-use lib.ListN.{length, getD}
-use Rattle.machine.specs.Rules.{Rules, inForce}
-use Rattle.machine.specs.Limits.{maxLiving}
-use Rattle.tables.specs.Layout.{most64, holder, tallySize}
-use Rattle.machine.specs.Transaction.{Transaction}
-use Rattle.machine.specs.Lists.{bit, upTo}
-use Rattle.machine.specs.Term.{idleServer, serverAt}
-use Rattle.machine.specs.Block.{Block, terminate, BlockModel}
-use Rattle.machine.specs.State.{State}
-use Rattle.machine.specs.Moves.{timesLeft}
-use Rattle.machine.specs.Execute.{unless, living, askGenerate, held, question}
+use Rattle.machine.specs.All.{ℕ, zero, suc, _+_, _-_, _%_, _≤_, min, _≡_, refl, subst, _∙_, ap, sym, Bool, true, false, cond, not, _||_, List, _∷_, arith, le-ltb, leb-true, eqb-true, eq-eqb, ne-eqb, eqb, leb, length, getD, Rules, inForce, maxLiving, Transaction, bit, upTo, idleServer, serverAt, Block, terminate, BlockModel, State, timesLeft, unless, living, askGenerate, held, question}
+use Rattle.tables.specs.All.{most64, holder, tallySize}
 use Rattle.machine.proofs.lists.Sums.{upTo-zero}
 use Rattle.state.specs.declared.scalars.Scalars.{Scalars}
-use Rattle.state.specs.Stands.{ofResidue}
+use Rattle.state.specs.All.{ofResidue}
 use Rattle.state.proofs.Held.{held-at}
 use Rattle.moves.specs.Before.{Before}
 use Rattle.moves.proofs.BeforeLaws.{numbered}
-use Rattle.flow_laws.specs.Questions.{askRoom, askTime, firstNo, askArrival, heldBy, askHolding}
+use Rattle.flow_laws.specs.{askRoom, askTime, firstNo, askArrival, heldBy, askHolding}
 
 unless-yes : (b : Bool) (n later : ℕ) → unless b (suc n) later ≡ 0 → (b ≡ true) × (later ≡ 0)
 unless-yes true n later e = (refl, e)

@@ -1,16 +1,9 @@
 -- Copies, one after the other.
-use Prim.Native.Nat.{ℕ, suc, _+_, _-_, _<_}
-use mathlib.Core.Path.{_≡_, refl, sym, ap, _∙_}
-use mathlib.Core.Bool.{Bool, true, false, cond}
-use mathlib.Core.List.{List}
-use native.Mathlib.Omega.{arith}
-use lib.Dec.{ltb}
-use Rattle.rows_laws.specs.Layout.{free}
-use Rattle.rows_laws.specs.Lists.{first, takeFirst}
+use Rattle.machine.specs.All.{ℕ, suc, _+_, _-_, _<_, _≡_, refl, sym, ap, _∙_, Bool, true, false, cond, List, arith, ltb}
+use Rattle.rows_laws.specs.All.{free, first, takeFirst}
 use Rattle.state.specs.declared.scalars.Scalars.{Scalars}
 use Rattle.moves.specs.Motion.{Moved, moved, goTo, goOn}
-use Rattle.flow_laws.specs.Sending.{toReady, copyTo, copyOne}
-use Rattle.flow_laws.specs.Kinds.{copiesOf}
+use Rattle.flow_laws.specs.{toReady, copyTo, copyOne, copiesOf}
 
 module _ (w : List ℕ) (x : Scalars) (target : ℕ) where
   pub copies-begin : (n : ℕ) → copiesOf (n - 0) w x target ≡ copiesOf n w x target

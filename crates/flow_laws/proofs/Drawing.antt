@@ -1,23 +1,9 @@
 -- The next time of a sample list: the number read is the head of the list, and after it is used the tally stands for the rest.
-use Prim.Native.Nat.{ℕ, _+_, _-_, _≤_, _<_}
-use mathlib.Core.Path.{_≡_, refl, ap, _∙_, subst}
-use mathlib.Core.Logic.{_≢_}
-use mathlib.Core.Bool.{Bool, true, false, cond, _&&_}
-use mathlib.Core.List.{List, [], _∷_}
-use mathlib.Core.Option.{Option, none, some}
-use native.Mathlib.Omega.{arith}
-use native.Mathlib.Decide.{ℕ-discrete}
-use borrow.Author.Tests.{leb-true}
-use lib.Dec.{leb}
-use lib.ListN.{length, getD, set, drop, length-set}
-use lib.Seq.{getD-set-same, getD-set-other}
-use Rattle.machine.specs.Limits.{maxNumberBytes, fiveGroups, maxTime}
-use Rattle.machine.specs.Number.{Number, readNumber}
-use Rattle.machine.specs.Parser.{Cursor, Parsed, parsed, refused, Parser, continue, give, times, forward, fieldOf, fieldUpTo}
+use Rattle.machine.specs.All.{ℕ, _+_, _-_, _≤_, _<_, _≡_, refl, ap, _∙_, subst, _≢_, Bool, true, false, cond, _&&_, List, [], _∷_, Option, none, some, arith, ℕ-discrete, leb-true, leb, length, getD, set, drop, length-set, getD-set-same, getD-set-other, maxNumberBytes, fiveGroups, maxTime, Number, readNumber, Cursor, Parsed, parsed, refused, Parser, continue, give, times, forward, fieldOf, fieldUpTo}
 use Rattle.tables.specs.Layout as Layout
-use Rattle.tables.specs.Represents.{TimesAt}
-use Rattle.state.specs.Stands.{Sampling}
-use Rattle.flow_laws.specs.Samples.{sampleOf, sampleAt, nextSample, useTime}
+use Rattle.tables.specs.All.{TimesAt}
+use Rattle.state.specs.All.{Sampling}
+use Rattle.flow_laws.specs.{sampleOf, sampleAt, nextSample, useTime}
 
 -- ---- The parser of a list's times, opened
 

@@ -1,31 +1,8 @@
 -- 18 ASSEMBLE: the row machine does what the machine does.
-use Prim.Native.Nat.{ℕ, suc, _+_, _-_, _%_, _≤_, _<_}
-use mathlib.Core.Path.{_≡_, refl, sym, ap, _∙_, subst}
-use mathlib.Core.Bool.{Bool, true, false, cond}
-use mathlib.Core.List.{List, [], _∷_, _++_, map, map-append}
-use mathlib.Core.Option.{none, some}
-use native.Mathlib.Omega.{arith}
-use borrow.Author.Tests.{lt-ltb, le-ltb}
-use lib.Dec.{eqb}
-use lib.ListN.{length, getD}
-use Rattle.machine.specs.Transaction.{Transaction, Gatherer, precedes}
-use Rattle.machine.specs.Lists.{insert, those, replaceFirst, setNth}
-use Rattle.machine.specs.Block.{Block, terminate, assemble, facts, BlockModel, blockAt}
-use Rattle.machine.specs.State.{State}
-use Rattle.machine.specs.Setters.{withNext, withSerial, withReturning, setMoving, setSerial, setEnded, setGatherers}
-use Rattle.machine.specs.Moves.{toRel, inFamily, waitsFor, toGatherers, comes, released}
-use Rattle.machine.specs.Execute.{question, askGathers, gathers, gathering}
-use Rattle.machine.specs.Claims.{Each}
+use Rattle.machine.specs.All.{ℕ, suc, _+_, _-_, _%_, _≤_, _<_, _≡_, refl, sym, ap, _∙_, subst, Bool, true, false, cond, List, [], _∷_, _++_, map, map-append, none, some, arith, lt-ltb, le-ltb, eqb, length, getD, Transaction, Gatherer, precedes, insert, those, replaceFirst, setNth, Block, terminate, assemble, facts, BlockModel, blockAt, State, withNext, withSerial, withReturning, setMoving, setSerial, setEnded, setGatherers, toRel, inFamily, waitsFor, toGatherers, comes, released, question, askGathers, gathers, gathering, Each}
 use Rattle.machine.proofs.runs.Shape.{gatherers-at}
-use Rattle.tables.specs.Forms.{blockForms}
-use Rattle.rows_laws.specs.Layout.{head, rel}
-use Rattle.rows_laws.specs.Cells.{load, read, write, setReturning}
-use Rattle.rows_laws.specs.Lists.{removeAt, put, familyCell}
-use Rattle.rows_laws.specs.Lines.{lineUp}
-use Rattle.rows_laws.specs.Make.{freeRow}
-use Rattle.rows_laws.specs.Holds.{transactionAt, ending, update}
-use Rattle.rows_laws.specs.Ordered.{All}
-use Rattle.rows_laws.specs.Shows.{moved as movedLists}
+use Rattle.tables.specs.All.{blockForms}
+use Rattle.rows_laws.specs.All.{head, rel, load, read, write, setReturning, removeAt, put, familyCell, lineUp, freeRow, transactionAt, ending, update, All, moved as movedLists}
 use Rattle.rows_laws.proofs.Data.{same-row, transaction-kept}
 use Rattle.rows_laws.proofs.Fields.{write-next, write-serial, set-returning}
 use Rattle.rows_laws.proofs.Holding.{remove-holds, remove-keeps}
@@ -36,17 +13,14 @@ use Rattle.rows_laws.proofs.Laws.{Wakes}
 use Rattle.rows_laws.proofs.Found.{nobody, somebody}
 use Rattle.rows_laws.proofs.Kin.{Other, Kin, kin-of, counts-shows, release-shows}
 use Rattle.state.specs.declared.scalars.Scalars.{Scalars}
-use Rattle.state.specs.ScalarSetters.{putMoving, putSerial, putNote}
-use Rattle.state.specs.Bare.{entering, goingBack, beginning, waiting, bare, bareAnswer}
-use Rattle.state.specs.Stands.{rowsOf, gathererRow, listsIn, listsOf, Listed, Listing, noteOf, Done}
+use Rattle.state.specs.All.{putMoving, putSerial, putNote, entering, goingBack, beginning, waiting, bare, bareAnswer, rowsOf, gathererRow, listsIn, listsOf, Listed, Listing, noteOf, Done}
 use Rattle.state.proofs.ListsOf.{lists-gatherers, lists-set-gatherers, lists-moved}
 use Rattle.state.proofs.StandsLaws.{listing-write, listing-put, listing-steady, renumber}
 use Rattle.moves.specs.Before.{placeOf, bareBlock, Before}
 use Rattle.moves.specs.Motion.{moved, withTally, next32, beginWait}
 use Rattle.moves.proofs.BeforeLaws.{placed, next-low, serial-low, proper-block, operand, asked-moved}
 use Rattle.moves.proofs.MotionLaws.{next32-suc, next-read, number-read}
-use Rattle.flow_laws.specs.Sending.{toReady}
-use Rattle.flow_laws.specs.Gathering.{listAt, gatherOn, releaseOn, endOn, countOn, laterRows, gatherRows, assembleRows}
+use Rattle.flow_laws.specs.{toReady, listAt, gatherOn, releaseOn, endOn, countOn, laterRows, gatherRows, assembleRows}
 use Rattle.flow_laws.proofs.Asked.{holding-asked}
 use Rattle.flow_laws.proofs.TerminateLaw.{free-listing}
 use Rattle.flow_laws.proofs.Kin.{Match, Split, split, none-of, one-of, those-none, those-first, replaced, each-at}

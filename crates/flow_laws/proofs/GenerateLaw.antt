@@ -1,35 +1,17 @@
 -- 1 GENERATE: the row machine does what the machine does.
-use Prim.Native.Nat.{ℕ, suc, _+_, _-_, _≤_}
-use mathlib.Core.Path.{_≡_, refl, ap, _∙_}
-use mathlib.Core.Bool.{false, cond}
-use mathlib.Core.List.{List, [], _∷_}
-use mathlib.Core.Option.{none, some}
-use native.Mathlib.Omega.{arith}
-use borrow.Author.Tests.{ne-eqb}
-use lib.Dec.{eqb}
-use lib.ListN.{length, getD}
-use Rattle.machine.specs.Transaction.{Transaction}
-use Rattle.machine.specs.Block.{generate, BlockModel}
-use Rattle.machine.specs.State.{State}
-use Rattle.machine.specs.Setters.{withNext, withReturning, setMoving}
+use Rattle.machine.specs.All.{ℕ, suc, _+_, _-_, _≤_, _≡_, refl, ap, _∙_, false, cond, List, [], _∷_, none, some, arith, ne-eqb, eqb, length, getD, Transaction, generate, BlockModel, State, withNext, withReturning, setMoving, askGenerate, question, maxClock}
 use Rattle.machine.specs.Moves as Moves
-use Rattle.machine.specs.Execute.{askGenerate, question}
 use Rattle.machine.proofs.decoding.Proper.{Names}
-use Rattle.tables.specs.Forms.{blockForms}
+use Rattle.tables.specs.All.{blockForms}
 use Rattle.state.specs.declared.scalars.Scalars.{Scalars}
-use Rattle.state.specs.Bare.{bare, bareAnswer}
-use Rattle.state.specs.Stands.{rowsOf, Stands, noteOf, Done}
-use Rattle.machine.specs.Limits.{maxClock}
+use Rattle.state.specs.All.{bare, bareAnswer, rowsOf, Stands, noteOf, Done}
 use Rattle.state.proofs.StandsLaws.{stands-moving}
 use Rattle.moves.specs.Before.{placeOf, bareBlock, Before}
 use Rattle.moves.specs.Motion.{moved, goTo, stopped}
 use Rattle.moves.proofs.BeforeLaws.{next-low, serial-low, few-lists, proper-block, operand, asked}
 use Rattle.moves.proofs.MotionLaws.{go-to-listing, go-to-counting, next-read, go-on-is, go-on-done}
 use Rattle.flow_laws.specs.declared.samples.Sample.{Sample}
-use Rattle.flow_laws.specs.Samples.{nextSample}
-use Rattle.flow_laws.specs.Questions.{askArrival}
-use Rattle.flow_laws.specs.Sending.{arrives}
-use Rattle.flow_laws.specs.Kinds.{arriveOn, generateWith, generateNext, generateRows}
+use Rattle.flow_laws.specs.{nextSample, askArrival, arrives, arriveOn, generateWith, generateNext, generateRows}
 use Rattle.flow_laws.proofs.New.{Roomy}
 use Rattle.flow_laws.proofs.Arrival.{sampled, arrives-stands, arrives-note}
 use Rattle.flow_laws.proofs.Asked.{time-most, arrival-asked, arrival-yes}

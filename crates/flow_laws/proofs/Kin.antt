@@ -1,21 +1,9 @@
 -- The rows of a block's list are its gatherers; what is asked of the rows of one family, and what one of them changes, is what the machine
 -- asks and changes.
-use Prim.Native.Nat.{ℕ}
-use mathlib.Core.Path.{_≡_, refl, sym, ap, _∙_}
-use mathlib.Core.Bool.{Bool, true, false}
-use mathlib.Core.List.{List, [], _∷_, _++_, map}
-use native.Mathlib.Omega.{arith}
-use lib.Dec.{eqb}
-use lib.ListN.{length, getD, drop}
-use Rattle.machine.specs.Transaction.{Transaction, Gatherer}
-use Rattle.machine.specs.Lists.{those, replaceFirst}
-use Rattle.machine.specs.Moves.{inFamily}
-use Rattle.machine.specs.Claims.{Each}
-use Rattle.rows_laws.specs.Cells.{read}
-use Rattle.rows_laws.specs.Holds.{transactionAt}
-use Rattle.rows_laws.specs.Ordered.{All}
+use Rattle.machine.specs.All.{ℕ, _≡_, refl, sym, ap, _∙_, Bool, true, false, List, [], _∷_, _++_, map, arith, eqb, length, getD, drop, Transaction, Gatherer, those, replaceFirst, inFamily, Each}
+use Rattle.rows_laws.specs.All.{read, transactionAt, All}
 use Rattle.rows_laws.proofs.Kin.{Other}
-use Rattle.state.specs.Stands.{gathererRow}
+use Rattle.state.specs.All.{gathererRow}
 
 module _ (w : List ℕ) where
   abbrev pub Match : List ℕ → List Gatherer → Type 0

@@ -1,21 +1,6 @@
 -- A free row becomes a transaction beside whoever moves: taken from the free rows, written, and put on the FEL or on REL.
-use Prim.Native.Nat.{ℕ, suc, _+_, _-_, _<_}
-use mathlib.Core.Path.{_≡_, refl, ap, _∙_}
-use mathlib.Core.Logic.{_≢_}
-use mathlib.Core.List.{List, [], _∷_}
-use mathlib.Core.Option.{Option, none, some}
-use native.Mathlib.Omega.{arith}
-use lib.ListN.{length}
-use Rattle.machine.specs.Transaction.{Transaction, precedes, earlier}
-use Rattle.machine.specs.Lists.{insert}
-use Rattle.machine.specs.State.{State}
-use Rattle.rows_laws.specs.Layout.{place, rel, fel, free}
-use Rattle.rows_laws.specs.Cells.{load}
-use Rattle.rows_laws.specs.Future.{schedule}
-use Rattle.rows_laws.specs.Order.{outranks, sooner}
-use Rattle.rows_laws.specs.Lists.{put, first, takeFirst}
-use Rattle.rows_laws.specs.Holds.{transactionAt, eventAt, update}
-use Rattle.rows_laws.specs.Shows.{Shows, Loose}
+use Rattle.machine.specs.All.{ℕ, suc, _+_, _-_, _<_, _≡_, refl, ap, _∙_, _≢_, List, [], _∷_, Option, none, some, arith, length, Transaction, precedes, earlier, insert, State}
+use Rattle.rows_laws.specs.All.{place, rel, fel, free, load, schedule, outranks, sooner, put, first, takeFirst, transactionAt, eventAt, update, Shows, Loose}
 use Rattle.rows_laws.proofs.Occurs.{same-refl, occurs-cons}
 use Rattle.rows_laws.proofs.Structure.{row-of}
 use Rattle.rows_laws.proofs.Data.{transaction-kept}
@@ -27,7 +12,7 @@ use Rattle.rows_laws.proofs.Scheduling.{schedule-keeps}
 use Rattle.rows_laws.proofs.Take.{First, none, some, first-of, take-keeps, take-loose, take-free-shown}
 use Rattle.rows_laws.proofs.Steady.{Around, around-loose, kept-around}
 use Rattle.rows_laws.proofs.Making.{Written}
-use Rattle.state.specs.Stands.{listsOf, Moving, Listing}
+use Rattle.state.specs.All.{listsOf, Moving, Listing}
 
 -- who moves is another row
 mover-kept : (w w′ : List ℕ) (k moving : ℕ) (o : Option Transaction) → moving ≢ k → Around w w′ k → Moving w moving o → Moving w′ moving o

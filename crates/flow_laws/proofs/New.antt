@@ -1,36 +1,19 @@
 -- New transactions: `born` is the machine's newborn on the FEL, `copyOne` a copy of the moving transaction on REL, both with the next
 -- number and a fresh serial.
-use Prim.Native.Nat.{ℕ, suc, _-_, _%_, _≤_, _<_}
-use mathlib.Core.Path.{_≡_, refl, sym, ap, _∙_, subst}
-use mathlib.Core.List.{List}
-use mathlib.Core.Option.{Option, some}
-use native.Mathlib.Omega.{arith}
-use borrow.Author.Tests.{lt-ltb}
-use Rattle.machine.specs.Transaction.{Transaction, Event, precedes, earlier, newborn}
-use Rattle.machine.specs.Lists.{insert}
-use Rattle.machine.specs.State.{State}
-use Rattle.machine.specs.Setters.{withSerial, withStamp, setMade}
-use Rattle.machine.specs.Moves.{toRel, toFel, copyOf}
+use Rattle.machine.specs.All.{ℕ, suc, _-_, _%_, _≤_, _<_, _≡_, refl, sym, ap, _∙_, subst, List, Option, some, arith, lt-ltb, Transaction, Event, precedes, earlier, newborn, insert, State, withSerial, withStamp, setMade, toRel, toFel, copyOf}
 use Rattle.machine.proofs.runs.Clocks.{Given}
-use Rattle.rows_laws.specs.Layout.{rel, free}
-use Rattle.rows_laws.specs.Cells.{write, setTime}
-use Rattle.rows_laws.specs.Lists.{put, first, takeFirst}
-use Rattle.rows_laws.specs.Future.{schedule}
-use Rattle.rows_laws.specs.Make.{newbornAt, copyAt}
-use Rattle.rows_laws.specs.Holds.{transactionAt, eventAt, update}
+use Rattle.rows_laws.specs.All.{rel, free, write, setTime, put, first, takeFirst, schedule, newbornAt, copyAt, transactionAt, eventAt, update}
 use Rattle.rows_laws.proofs.Laws.{fresh-given}
 use Rattle.rows_laws.proofs.Fields.{write-serial, write-time}
 use Rattle.rows_laws.proofs.Making.{written, time-written, newborn-written, copied-written}
 use Rattle.rows_laws.proofs.Newborn.{newborn-is, copy-is}
 use Rattle.state.specs.declared.scalars.Scalars.{Scalars}
-use Rattle.state.specs.ScalarSetters.{putSerial, putMade}
-use Rattle.state.specs.Stands.{rowsOf, listsIn, listsOf, Listing, Tallying, Counting, Stands, noteOf, Done}
-use Rattle.state.specs.Bare.{entering}
+use Rattle.state.specs.All.{putSerial, putMade, rowsOf, listsIn, listsOf, Listing, Tallying, Counting, Stands, noteOf, Done, entering}
 use Rattle.state.proofs.ListsOf.{lists-set-rel}
 use Rattle.state.proofs.StandsLaws.{renumber}
 use Rattle.moves.specs.Motion.{Moved, moved, withTally, next32}
 use Rattle.moves.proofs.MotionLaws.{next32-suc}
-use Rattle.flow_laws.specs.Sending.{toFuture, toReady, bornAt, born, copyTo, copyOne}
+use Rattle.flow_laws.specs.{toFuture, toReady, bornAt, born, copyTo, copyOne}
 use Rattle.flow_laws.proofs.Making.{Making, row-there, made, making-written, making-fel, making-rel}
 
 -- what scalars and rows say of a state, with the tally apart

@@ -1,25 +1,12 @@
 -- 13 PRIORITY: the row machine does what the machine does.
-use Prim.Native.Nat.{ℕ, suc, _+_}
-use mathlib.Core.Path.{_≡_, refl}
-use mathlib.Core.Bool.{false}
-use mathlib.Core.List.{List}
-use mathlib.Core.Option.{none}
-use native.Mathlib.Omega.{arith}
-use lib.ListN.{getD}
-use Rattle.machine.specs.Transaction.{Transaction}
-use Rattle.machine.specs.Block.{priority, BlockModel}
-use Rattle.machine.specs.State.{State}
-use Rattle.machine.specs.Setters.{withNext, withPriority, withReturning, setMoving}
-use Rattle.machine.specs.Moves.{toRel}
-use Rattle.machine.specs.Execute.{question}
-use Rattle.tables.specs.Forms.{blockForms}
+use Rattle.machine.specs.All.{ℕ, suc, _+_, _≡_, refl, false, List, none, arith, getD, Transaction, priority, BlockModel, State, withNext, withPriority, withReturning, setMoving, toRel, question}
+use Rattle.tables.specs.All.{blockForms}
 use Rattle.state.specs.declared.scalars.Scalars.{Scalars}
-use Rattle.state.specs.Bare.{bare, bareAnswer}
-use Rattle.state.specs.Stands.{Done}
+use Rattle.state.specs.All.{bare, bareAnswer, Done}
 use Rattle.moves.specs.Before.{placeOf, bareBlock, Before}
 use Rattle.moves.specs.Motion.{withTally}
 use Rattle.moves.proofs.BeforeLaws.{next-low, serial-low, proper-block, operand}
-use Rattle.flow_laws.specs.Kinds.{rankOn, priorityRows}
+use Rattle.flow_laws.specs.{rankOn, priorityRows}
 use Rattle.flow_laws.proofs.New.{Follows, follows-done}
 use Rattle.flow_laws.proofs.Sent.{rank-follows}
 

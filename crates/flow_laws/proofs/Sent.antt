@@ -1,33 +1,17 @@
 -- The moving transaction goes to the FEL or to REL with its next block plus one and a fresh serial, as the machine's does.
-use Prim.Native.Nat.{ℕ, suc, _*_, _%_, _≤_, _<_}
-use mathlib.Core.Path.{_≡_, refl, sym, ap, _∙_, subst}
-use mathlib.Core.List.{List}
-use mathlib.Core.Option.{none, some}
-use mathlib.Core.Bool.{false}
-use native.Mathlib.Omega.{arith}
-use Rattle.machine.specs.Transaction.{Transaction, Event, precedes, earlier}
-use Rattle.machine.specs.Lists.{insert}
-use Rattle.machine.specs.State.{State}
-use Rattle.machine.specs.Setters.{withNext, withPriority, withSerial, withReturning, withStamp}
-use Rattle.machine.specs.Moves.{toRel, toFel}
+use Rattle.machine.specs.All.{ℕ, suc, _*_, _%_, _≤_, _<_, _≡_, refl, sym, ap, _∙_, subst, List, none, some, false, arith, Transaction, Event, precedes, earlier, insert, State, withNext, withPriority, withSerial, withReturning, withStamp, toRel, toFel}
 use Rattle.machine.proofs.runs.Clocks.{Given}
-use Rattle.rows_laws.specs.Layout.{rel}
-use Rattle.rows_laws.specs.Cells.{write, setTime}
-use Rattle.rows_laws.specs.Lists.{put}
-use Rattle.rows_laws.specs.Future.{schedule}
-use Rattle.rows_laws.specs.Holds.{eventAt}
+use Rattle.rows_laws.specs.All.{rel, write, setTime, put, schedule, eventAt}
 use Rattle.rows_laws.proofs.Laws.{fresh-given}
 use Rattle.rows_laws.proofs.Fields.{write-serial, write-time}
 use Rattle.rows_laws.proofs.Newborn.{write-priority}
 use Rattle.state.specs.declared.scalars.Scalars.{Scalars}
-use Rattle.state.specs.ScalarSetters.{putMoving, putSerial}
-use Rattle.state.specs.Stands.{listsIn, Listing, Counting}
+use Rattle.state.specs.All.{putMoving, putSerial, listsIn, Listing, Counting}
 use Rattle.state.proofs.ListsOf.{lists-set-rel}
 use Rattle.state.proofs.StandsLaws.{listing-write, listing-time, listing-put, listing-schedule, renumber}
 use Rattle.moves.specs.Motion.{Moved, moved, next32, goTo}
 use Rattle.moves.proofs.MotionLaws.{next32-suc, go-to-listing, go-on-is}
-use Rattle.flow_laws.specs.Sending.{toFuture, toReady}
-use Rattle.flow_laws.specs.Kinds.{parked, sendOn, rankOn}
+use Rattle.flow_laws.specs.{toFuture, toReady, parked, sendOn, rankOn}
 use Rattle.flow_laws.proofs.New.{Follows}
 
 module _ {w : List ℕ} (x : Scalars) {t : Transaction} (s : State) (listing : Listing w (x .moving) (some t) s) (counting : Counting x s) (next-low : t .next < 4294967295) (serials : s .serial < 4294967295) where

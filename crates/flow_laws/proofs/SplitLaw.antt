@@ -1,30 +1,15 @@
 -- 14 SPLIT: the row machine does what the machine does.
-use Prim.Native.Nat.{ℕ, zero, suc, _+_, _-_, _≤_}
-use mathlib.Core.Path.{_≡_, refl, _∙_, subst}
-use mathlib.Core.Bool.{false}
-use mathlib.Core.List.{List}
-use mathlib.Core.Option.{none, some}
-use native.Mathlib.Omega.{arith}
-use lib.Dec.{leb}
-use lib.ListN.{length, getD}
-use Rattle.machine.specs.Limits.{maxLiving}
-use Rattle.machine.specs.Transaction.{Transaction}
-use Rattle.machine.specs.Block.{split, BlockModel}
-use Rattle.machine.specs.State.{State}
-use Rattle.machine.specs.Setters.{withNext, withReturning, setMade, setMoving}
+use Rattle.machine.specs.All.{ℕ, zero, suc, _+_, _-_, _≤_, _≡_, refl, _∙_, subst, false, List, none, some, arith, leb, length, getD, maxLiving, Transaction, split, BlockModel, State, withNext, withReturning, setMade, setMoving, unless, question}
 use Rattle.machine.specs.Moves as Moves
-use Rattle.machine.specs.Execute.{unless, question}
 use Rattle.machine.proofs.decoding.Proper.{Names}
-use Rattle.tables.specs.Forms.{blockForms}
+use Rattle.tables.specs.All.{blockForms}
 use Rattle.state.specs.declared.scalars.Scalars.{Scalars}
-use Rattle.state.specs.Bare.{bare}
-use Rattle.state.specs.Stands.{Listing, Tallying, Counting, Done}
+use Rattle.state.specs.All.{bare, Listing, Tallying, Counting, Done}
 use Rattle.moves.specs.Before.{placeOf, bareBlock, Before}
 use Rattle.moves.specs.Motion.{moved, withTally, goTo}
 use Rattle.moves.proofs.BeforeLaws.{next-low, proper-block, operand, asked-moved}
 use Rattle.moves.proofs.MotionLaws.{go-to-listing, go-to-counting, go-on-is}
-use Rattle.flow_laws.specs.Sending.{copyOne}
-use Rattle.flow_laws.specs.Kinds.{copiesOf, splitOn, splitRows}
+use Rattle.flow_laws.specs.{copyOne, copiesOf, splitOn, splitRows}
 use Rattle.flow_laws.proofs.New.{Follows, follows-done, Roomy, copy-follows}
 use Rattle.flow_laws.proofs.Asked.{room-asked, room-yes}
 

@@ -1,33 +1,17 @@
 -- 3 TERMINATE: the row machine does what the machine does.
-use Prim.Native.Nat.{ℕ, suc, _+_, _-_}
-use mathlib.Core.Path.{_≡_, refl, ap, _∙_, subst}
-use mathlib.Core.Bool.{cond}
-use mathlib.Core.List.{List, _∷_}
-use mathlib.Core.Option.{none, some}
-use native.Mathlib.Omega.{arith}
-use lib.Dec.{leb}
-use lib.ListN.{getD}
-use Rattle.machine.specs.Transaction.{Transaction, Event}
-use Rattle.machine.specs.Block.{terminate, BlockModel}
-use Rattle.machine.specs.State.{State}
-use Rattle.machine.specs.Setters.{setMoving}
-use Rattle.machine.specs.Execute.{question, endsOne}
-use Rattle.tables.specs.Forms.{blockForms}
-use Rattle.rows_laws.specs.Layout.{free}
-use Rattle.rows_laws.specs.Make.{freeRow}
-use Rattle.rows_laws.specs.Holds.{update}
-use Rattle.rows_laws.specs.Shows.{Shown}
+use Rattle.machine.specs.All.{ℕ, suc, _+_, _-_, _≡_, refl, ap, _∙_, subst, cond, List, _∷_, none, some, arith, leb, getD, Transaction, Event, terminate, BlockModel, State, setMoving, question, endsOne}
+use Rattle.tables.specs.All.{blockForms}
+use Rattle.rows_laws.specs.All.{free, freeRow, update, Shown}
 use Rattle.rows_laws.proofs.Showing.{update-same}
 use Rattle.rows_laws.proofs.Spot.{short}
 use Rattle.rows_laws.proofs.Making.{free-shown}
 use Rattle.state.specs.declared.scalars.Scalars.{Scalars}
-use Rattle.state.specs.Bare.{entering, bare}
-use Rattle.state.specs.Stands.{rowsOf, listsOf, Listed, Listing, Counting, noteOf, Done}
+use Rattle.state.specs.All.{entering, bare, rowsOf, listsOf, Listed, Listing, Counting, noteOf, Done}
 use Rattle.moves.specs.Before.{placeOf, bareBlock, Before}
 use Rattle.moves.specs.Motion.{moved, withTally, next32}
 use Rattle.moves.proofs.BeforeLaws.{operand, asked-moved}
 use Rattle.moves.proofs.MotionLaws.{next32-suc, number-read}
-use Rattle.flow_laws.specs.Kinds.{endOne, terminateRows}
+use Rattle.flow_laws.specs.{endOne, terminateRows}
 use Rattle.flow_laws.proofs.Asked.{holding-asked}
 
 -- ---- The row of the transaction is free

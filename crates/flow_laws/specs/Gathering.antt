@@ -1,17 +1,9 @@
 -- The row machine: 18 ASSEMBLE n (document 02, item 8). `at` is where the block stands in the tables. A gatherer's row holds how many of its
 -- family have come in the place of its next block.
-use Prim.Native.Nat.{ℕ, _+_, _-_, _%_}
-use mathlib.Core.Bool.{cond}
-use mathlib.Core.List.{List}
-use lib.Dec.{eqb, ltb}
-use lib.ListN.{getD}
-use Rattle.machine.specs.Limits.{maxBlocks}
-use Rattle.rows_laws.specs.Layout.{numberField, nextField, familyField, gatherers, rowCount}
-use Rattle.rows_laws.specs.Cells.{load, read, write, setReturning}
-use Rattle.rows_laws.specs.Lists.{removeAt, familyCell}
-use Rattle.rows_laws.specs.Make.{freeRow}
+use Rattle.machine.specs.All.{ℕ, _+_, _-_, _%_, cond, List, eqb, ltb, getD, maxBlocks}
+use Rattle.rows_laws.specs.All.{numberField, nextField, familyField, gatherers, rowCount, load, read, write, setReturning, removeAt, familyCell, freeRow}
 use Rattle.state.specs.declared.scalars.Scalars.{Scalars}
-use Rattle.state.specs.ScalarSetters.{putMoving, putEnded, putNote}
+use Rattle.state.specs.All.{putMoving, putEnded, putNote}
 use Rattle.moves.specs.Motion.{Moved, moved, inOrder, next32, beginWait, stopped}
 use Rattle.flow_laws.specs.Sending.{toReady}
 use Rattle.flow_laws.specs.Questions.{askHolding}

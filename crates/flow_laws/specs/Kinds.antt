@@ -1,16 +1,9 @@
 -- The row machine: the five kinds. `at` is where the block stands in the tables; its operands follow its kind.
-use Prim.Native.Nat.{ℕ, zero, suc, _+_, _*_, _-_, _%_}
-use mathlib.Core.Bool.{cond}
-use mathlib.Core.List.{List}
-use lib.Dec.{eqb, leb}
-use lib.ListN.{getD}
-use Rattle.tables.specs.Layout.{listLeft}
-use Rattle.rows_laws.specs.Layout.{numberField, standingField, nextField, rowCount}
-use Rattle.rows_laws.specs.Cells.{read, write}
-use Rattle.rows_laws.specs.Make.{freeRow}
+use Rattle.machine.specs.All.{ℕ, zero, suc, _+_, _*_, _-_, _%_, cond, List, eqb, leb, getD}
+use Rattle.tables.specs.All.{listLeft}
+use Rattle.rows_laws.specs.All.{numberField, standingField, nextField, rowCount, read, write, freeRow}
 use Rattle.state.specs.declared.scalars.Scalars.{Scalars}
-use Rattle.state.specs.ScalarSetters.{putCounter, putMoving, putEnded, putEnd, putNote}
-use Rattle.state.specs.Stands.{Rows, rowsOf}
+use Rattle.state.specs.All.{putCounter, putMoving, putEnded, putEnd, putNote, Rows, rowsOf}
 use Rattle.moves.specs.Motion.{Moved, moved, withTally, next32, goOn, stopped}
 use Rattle.flow_laws.specs.declared.samples.Sample.{Sample}
 use Rattle.flow_laws.specs.Samples.{nextSample, useTime}

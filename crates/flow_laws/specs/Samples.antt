@@ -1,11 +1,6 @@
 -- The next time of a sample list: the number that stands in the tape where the tally says, read and then used.
-use Prim.Native.Nat.{ℕ, _+_, _-_}
-use mathlib.Core.List.{List}
-use mathlib.Core.Option.{Option, none, some}
-use lib.ListN.{getD, set, drop}
-use Rattle.machine.specs.Limits.{maxNumberBytes, fiveGroups}
-use Rattle.machine.specs.Number.{Number, readNumber}
-use Rattle.tables.specs.Layout.{listAt, listLeft}
+use Rattle.machine.specs.All.{ℕ, _+_, _-_, List, Option, none, some, getD, set, drop, maxNumberBytes, fiveGroups, Number, readNumber}
+use Rattle.tables.specs.All.{listAt, listLeft}
 use Rattle.flow_laws.specs.declared.samples.Sample.{Sample}
 
 unfoldable pub sampleOf : ℕ → Option Number → Sample

@@ -1,17 +1,9 @@
 -- The row machine: rows on no list go to the FEL or to REL with a fresh serial, and new rows are made for both.
-use Prim.Native.Nat.{ℕ, _+_, _%_, min}
-use mathlib.Core.Bool.{Bool, cond}
-use mathlib.Core.List.{List}
-use lib.Dec.{ltb}
-use Rattle.tables.specs.Layout.{most32, most64}
-use Rattle.rows_laws.specs.Layout.{serialField, rel, free, rowCount}
-use Rattle.rows_laws.specs.Cells.{write, setTime}
-use Rattle.rows_laws.specs.Lists.{put, first, takeFirst}
-use Rattle.rows_laws.specs.Future.{schedule}
-use Rattle.rows_laws.specs.Make.{newbornAt, copyAt}
+use Rattle.machine.specs.All.{ℕ, _+_, _%_, min, Bool, cond, List, ltb}
+use Rattle.tables.specs.All.{most32, most64}
+use Rattle.rows_laws.specs.All.{serialField, rel, free, rowCount, write, setTime, put, first, takeFirst, schedule, newbornAt, copyAt}
 use Rattle.state.specs.declared.scalars.Scalars.{Scalars}
-use Rattle.state.specs.ScalarSetters.{putSerial, putMade}
-use Rattle.state.specs.Stands.{Rows}
+use Rattle.state.specs.All.{putSerial, putMade, Rows}
 use Rattle.moves.specs.Motion.{Moved, moved, withTally, next32}
 use Rattle.flow_laws.specs.declared.samples.Sample.{Sample}
 use Rattle.flow_laws.specs.Samples.{useTime}

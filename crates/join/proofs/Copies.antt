@@ -1,10 +1,5 @@
 -- Bytes copied one by one, pure.
-use Prim.Native.Nat.{ℕ, suc, _+_, _≤_, _<_}
-use native.Mathlib.Omega.{arith}
-use mathlib.Core.Path.{_≡_, refl, sym, ap, ap₂, _∙_}
-use mathlib.Core.List.{List, [], _∷_, _++_}
-use lib.ListN.{length, take, set, getD}
-use lib.Seq.{sets, take-suc, length-take-le}
+use Rattle.machine.specs.All.{ℕ, suc, _+_, _≤_, _<_, arith, _≡_, sym, ap, ap₂, _∙_, List, [], _∷_, length, take, set, getD, sets, take-suc, length-take-le}
 use Rattle.codec.proofs.Stores.{sets-append}
 
 module _ (s l : List ℕ) (at : ℕ) where

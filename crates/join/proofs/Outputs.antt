@@ -1,14 +1,5 @@
 -- The two outputs of the call, pure: bytes copied to the front, two tapes end to end, and what is left where there is no room.
-use Prim.Native.Nat.{ℕ, _+_, _-_, _≤_, _<_}
-use native.Mathlib.Nat.{zero-add}
-use native.Mathlib.Omega.{arith}
-use mathlib.Core.Path.{_≡_, refl, sym, ap, ap₂, subst, _∙_}
-use mathlib.Core.Bool.{Bool, true, false, cond, _&&_}
-use mathlib.Core.List.{List, _++_}
-use borrow.Author.Tests.{le-leb, lt-leb, leb-true, leb-false}
-use lib.Dec.{leb}
-use lib.ListN.{length, getD, take, drop, length-append}
-use lib.Seq.{sets, length-sets, take-length}
+use Rattle.machine.specs.All.{ℕ, _+_, _-_, _≤_, _<_, zero-add, arith, _≡_, refl, sym, ap, ap₂, _∙_, Bool, true, false, cond, _&&_, List, _++_, le-leb, lt-leb, leb-true, leb-false, leb, length, getD, take, drop, length-append, sets, length-sets, take-length}
 use Rattle.constants.specs.declared.model.Model.{Model}
 use Rattle.tables.specs.Layout as Layout
 use Rattle.codec.specs.Writing.{written}
@@ -17,10 +8,11 @@ use Rattle.join.specs.declared.Joined.{Joined}
 use Rattle.join.specs.declared.Joined.the-variants.{Bytes, Refused}
 use Rattle.join_laws.specs.Rows.{puts}
 use Rattle.join_laws.specs.Written.{numbersBytes}
-use Rattle.join_laws.specs.Joining.{Joining, joined, refused, fitted}
-use Rattle.join.specs.Contract.{Contract, answer, modelLeft, tapeLeft}
+use Rattle.join_laws.specs.Joining.{joined, refused, fitted}
+use Rattle.join.specs.{answer, modelLeft, tapeLeft}
+use Rattle.join.specs.Contract.{Contract}
 use Rattle.join_laws.specs.Whole.{keptRoom, atFront, mayJoin, mayJoinTables, joinedTables, joinedBytes}
-use Rattle.join_laws.proofs.Fitting.{Front, puts-front, front-sets}
+use Rattle.join_laws.proofs.Fitting.{puts-front, front-sets}
 
 -- ---- Two tapes
 

@@ -1,31 +1,22 @@
 -- From two decoded pairs to the definition of the call.
-use Prim.Native.Nat.{ℕ, _≤_}
-use native.Mathlib.Omega.{arith}
-use mathlib.Core.Path.{_≡_, refl, sym, ap, ap₂, subst, _∙_}
-use mathlib.Core.Bool.{Bool, true, false, cond, _&&_}
-use mathlib.Core.List.{List, _++_}
-use lib.Dec.{leb, eqb}
-use lib.ListN.{length, getD}
+use Rattle.machine.specs.All.{ℕ, _≡_, refl, sym, ap₂, subst, _∙_, cond, List, _++_, length, inForce, BlockModel, accept, validate}
 use Rattle.machine.specs.Limits as Limits
-use Rattle.machine.specs.Rules.{inForce}
-use Rattle.machine.specs.Block.{BlockModel}
-use Rattle.machine.specs.Validate.{Validation, accept, reject, validate}
 use Rattle.constants.specs.declared.model.Model.{Model}
 use Rattle.machine.proofs.decoding.ProperFrom.{proper-from}
 use Rattle.tables.specs.Layout as Layout
-use Rattle.tables.specs.Represents.{headerOf, Represents}
+use Rattle.tables.specs.All.{headerOf, Represents}
 use Rattle.terms.proofs.NestedFrom.{nested-from}
 use Rattle.decode.specs.declared.Decoded.{Decoded as Answer}
 use Rattle.decode.specs.declared.Decoded.the-variants as Decode
 use Rattle.decode.specs.Decodes.{Decodes}
 use Rattle.decode.proofs.Told.{Told, decoded-refused, decoded-model}
-use Rattle.joined.specs.Join.{joinModels, joinable}
-use Rattle.join_laws.specs.Written.{storedModel, numbersBytes, modelBytes}
+use Rattle.joined.specs.Join.{joinable}
+use Rattle.join_laws.specs.Written.{numbersBytes}
 use Rattle.join.specs.declared.Joined.{Joined}
 use Rattle.join.specs.declared.Joined.the-variants.{Refused}
 use Rattle.join.specs.Contract.{Contract}
-use Rattle.join_laws.specs.Joining.{Joining, refused, judged, fitted, joinedPair, join}
-use Rattle.join_laws.specs.Whole.{Fits, mayJoin, joinedRows, mayJoinTables, joinedTables, Ready}
+use Rattle.join_laws.specs.Joining.{refused, judged, fitted, joinedPair, join}
+use Rattle.join_laws.specs.Whole.{Fits, mayJoin, mayJoinTables, joinedTables, Ready}
 use Rattle.join_laws.proofs.Decoded.{Decoded}
 use Rattle.joined.proofs.ProperJoined.{fits}
 use Rattle.join_laws.proofs.Accepted.{judged-decoded}

@@ -1,8 +1,5 @@
 -- What a call of the join promises, for all bytes and lengths.
-use Prim.Native.Nat.{ℕ}
-use mathlib.Core.List.{List, _++_}
-use mathlib.Core.Path.{_≡_}
-use lib.ListN.{length, drop}
+use Rattle.machine.specs.All.{ℕ, List, _++_, _≡_, length, drop}
 use Rattle.join.specs.declared.Joined.{Joined}
 use Rattle.join.specs.declared.Joined.the-variants.{Bytes, Refused}
 use Rattle.join_laws.specs.Joining.{Joining, joined, refused}

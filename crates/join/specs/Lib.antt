@@ -1,1 +1,2 @@
 pub mod Contract
+unfoldable pub use Contract.*

@@ -1,10 +1,5 @@
 // Bytes as they are.
-ghost use mathlib.Core.Path.{_≡_};
-ghost use Prim.Native.Nat.{_+_, _≤_};
-ghost use mathlib.Core.List.{_++_};
-ghost use lib.Dec.{leb};
-ghost use lib.ListN.{length, take, drop};
-ghost use lib.Seq.{sets};
+ghost use Rattle.machine.specs.All.{_≡_, _+_, _≤_, _++_, leb, length, take, drop, sets};
 
 // Writes the first `count` bytes of `from` at a position.
 pub fn copy(from: &[u8], count: usize, out: &mut [u8], at: usize)

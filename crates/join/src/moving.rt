@@ -1,8 +1,7 @@
 // One number of a part, written as the joined model numbers it.
 use codec::write_number;
 use join_laws::Shift;
-ghost use mathlib.Core.Path.{_≡_};
-ghost use Prim.Native.Nat.{_-_};
+ghost use Rattle.machine.specs.All.{_≡_, _-_};
 ghost use Rattle.codec.specs.Writing.{written, put};
 ghost use Rattle.join_laws.specs.Rows.{movedBy};
 

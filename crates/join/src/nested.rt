@@ -5,11 +5,8 @@ use join_laws::Shift;
 use tables::VALUE_WIDTH;
 use tables::VALUES;
 use tables::number;
-ghost use mathlib.Core.Path.{_≡_};
-ghost use Prim.Native.Nat.{_+_, _≤_, _<_};
-ghost use lib.ListN.{length};
-ghost use Rattle.machine.specs.Limits.{maxValues};
-ghost use Rattle.tables.specs.Layout.{tablesSize};
+ghost use Rattle.machine.specs.All.{_≡_, _+_, _≤_, _<_, length, maxValues};
+ghost use Rattle.tables.specs.All.{tablesSize};
 ghost use Rattle.codec.specs.Writing.{written};
 ghost use Rattle.join_laws.specs.Rows.{opened as openedTerms, signsIn, signAt, itemAt, itemsFrom, valueRow, valueRows, Wrote, puts};
 

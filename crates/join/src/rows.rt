@@ -3,10 +3,8 @@ use super::moving::emit;
 use join_laws::Shift;
 use tables::BLOCK_WIDTH;
 use tables::number;
-ghost use mathlib.Core.Path.{_≡_};
-ghost use Prim.Native.Nat.{_+_, _*_, _≤_, _<_};
-ghost use Rattle.machine.specs.Limits.{maxBlocks};
-ghost use Rattle.tables.specs.Layout.{tablesSize};
+ghost use Rattle.machine.specs.All.{_≡_, _+_, _*_, _≤_, _<_, maxBlocks};
+ghost use Rattle.tables.specs.All.{tablesSize};
 ghost use Rattle.codec.specs.Writing.{written};
 ghost use Rattle.join_laws.specs.Rows.{shapeOf, roleOf, operandAt, operandsFrom, blockRow, blockRows, puts};
 

@@ -1,9 +1,5 @@
 -- The records of either part are its own: from the law of what was joined and the theorem over decoded models.
-use Prim.Native.Nat.{ℕ}
-use mathlib.Core.Path.{_≡_, sym, ap, subst, _∙_}
-use mathlib.Core.List.{List, []}
-use Rattle.machine.specs.Block.{BlockModel}
-use Rattle.machine.specs.Validate.{Validation, accept, reject}
+use Rattle.machine.specs.All.{ℕ, _≡_, sym, ap, subst, _∙_, List, [], BlockModel, Validation, accept, reject}
 use Rattle.joined.specs.Join.{joinModels, joinTapes}
 use Rattle.joined.specs.Parts.{Dry}
 use Rattle.joined.proofs.Parts.{in-force}
@@ -25,4 +21,4 @@ as-alone model₁ tape₁ model₂ tape₂ model tape modelRoom tapeRoom work re
     let same-tape : times ≡ joinTapes times₁ times₂ = ap tapeIn (sym v ∙ whole) in
     in-force model₁ tape₁ model₂ tape₂ work report m₁ m₂ times₁ times₂ v₁ v₂
     (join-within model₁ tape₁ model₂ tape₂ modelRoom tapeRoom work report m₁ m₂ times₁ times₂ v₁ v₂ model tape e) clock₁ clock₂ units joint alone₁ alone₂
-    (subst (λ t. Dry (joinModels m₁ m₂) t joint) same-tape (subst (λ k. Dry k times joint) same-model d)) d₁ d₂
+    (rw same-tape at (subst (λ k. Dry k times joint) same-model d)) d₁ d₂

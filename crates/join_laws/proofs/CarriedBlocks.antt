@@ -1,21 +1,9 @@
 -- Blocks, carried from a part's bytes to the joined model's.
-use Prim.Native.Nat.{ℕ, zero, suc, _+_, _≤_}
-use native.Mathlib.Omega.{arith}
-use mathlib.Core.Path.{_≡_, refl, sym, ap, ap₂, _∙_}
-use mathlib.Core.Bool.{Bool, true, false, cond, _&&_}
-use mathlib.Core.List.{List, [], _∷_, _++_, append-nil}
-use borrow.Author.Tests.{eqb-true, eqb-false}
-use lib.Dec.{T, leb, eqb}
+use Rattle.machine.specs.All.{ℕ, zero, suc, _+_, _≤_, arith, _≡_, refl, sym, ap, ap₂, _∙_, Bool, true, false, List, [], _∷_, append-nil, eqb-true, leb, eqb, nth, Each, Code, codeIndex, Block, generate, advance, enter, leave, seize, release, waitServer, waitTerms, goto, assign, split, arrive, depart, preempt, giveBack, facts, compared, Counts, relationOf, codeOf, number, codeServer, storageUnits, operands, blockField}
 use Rattle.machine.specs.Limits as Limits
-use Rattle.machine.specs.Lists.{nth}
-use Rattle.machine.specs.Claims.{Each}
-use Rattle.machine.specs.Parser.{Parser}
-use Rattle.machine.specs.Term.{whenTrue}
-use Rattle.machine.specs.Block.{Code, codeIndex, Block, generate, advance, terminate, takes, frees, enter, leave, seize, release, waitServer, waitTerms, moves, branch, goto, assign, priority, split, arrive, depart, assemble, preempt, giveBack, facts, compared}
-use Rattle.machine.specs.Decode.{Counts, relationOf, codeOf, number, codeServer, storageUnits, operands, blockField}
 use Rattle.values.proofs.Tags.{relation-number}
 use Rattle.joined.specs.Join.{Part, serverIn, termIn, shareIn, conditionIn, blockIn}
-use Rattle.join_laws.specs.Written.{ownNumber, storedTerm, storedTake, storedFree, storedWait, storedMove, storedCount, storedBlock}
+use Rattle.join_laws.specs.{ownNumber, storedTerm, storedTake, storedFree, storedWait, storedMove, storedCount, storedBlock}
 use Rattle.join_laws.proofs.Carrying.{Maps, Carries, Becomes, then, and, gives, choice, maps, walked}
 use Rattle.join_laws.proofs.Placing.{Placing, facility-in, storage-in, own-facility, own-storage}
 use Rattle.join_laws.proofs.Numbered.{Numbered}
@@ -60,44 +48,44 @@ module _ (s : List ℕ) (p : Part) (n joint : Counts) (capacities capacities′ 
 
   own-facility-in : (v : ℕ) → v ≤ n .facilities → ownNumber (joint .facilities) (serverIn p v) ≡ v + p .toFacility
   own-facility-in v h =
-      ap (ownNumber (joint .facilities)) (facility-in p n joint at v h) ∙ own-facility p n joint at (v + p .toFacility) (omega (arith, at .facilities))
+      cc (facility-in p n joint at v h, own-facility p n joint at (v + p .toFacility) (omega (arith, at .facilities)))
 
   own-storage-in : (k : ℕ) → 1 ≤ k → ownNumber (joint .facilities) (serverIn p (n .facilities + k)) ≡ k + at .among
-  own-storage-in k h = ap (ownNumber (joint .facilities)) (storage-in p n joint at k h) ∙ own-storage p n joint at (k + at .among) (omega arith)
+  own-storage-in k h = cc (storage-in p n joint at k h, own-storage p n joint at (k + at .among) (omega arith))
 
   facility : Maps false (λ v. (1 ≤ v) × (v ≤ n .facilities)) (λ v. v + p .toFacility) (λ v. (v + p .toFacility) ∷ []) (λ v. true) (number s 1 (n .facilities))
       (λ s′. number s′ 1 (joint .facilities))
-  facility = goes moving-number s (p .toFacility) (n .facilities) (joint .facilities) (at .facilities) (omega (arith, at .most-facilities))
+  facility = goes moving-number s _ _ _ (at .facilities) (omega arith)
 
   storage : Maps false (λ v. (1 ≤ v) × (v ≤ n .storages)) (λ v. v + at .among) (λ v. (v + at .among) ∷ []) (λ v. true) (number s 1 (n .storages))
       (λ s′. number s′ 1 (joint .storages))
-  storage = goes moving-number s (at .among) (n .storages) (joint .storages) (at .storages) (omega (arith, at .most-storages))
+  storage = goes moving-number s _ _ _ (at .storages) (omega arith)
 
   queue : Maps false (λ v. (1 ≤ v) × (v ≤ n .queues)) (λ v. v + p .toQueue) (λ v. (v + p .toQueue) ∷ []) (λ v. true) (number s 1 (n .queues))
       (λ s′. number s′ 1 (joint .queues))
-  queue = goes moving-number s (p .toQueue) (n .queues) (joint .queues) (at .queues) (omega (arith, at .most-queues))
+  queue = goes moving-number s _ _ _ (at .queues) (omega arith)
 
   list : Maps false (λ v. (1 ≤ v) × (v ≤ n .lists)) (λ v. v + p .toList) (λ v. (v + p .toList) ∷ []) (λ v. true) (number s 1 (n .lists))
       (λ s′. number s′ 1 (joint .lists))
-  list = goes moving-number s (p .toList) (n .lists) (joint .lists) (program .lists) (omega (arith, program .most-lists))
+  list = goes moving-number s _ _ _ (program .lists) (omega arith)
 
   target : Maps false (λ v. (1 ≤ v) × (v ≤ n .blocks)) (λ v. v + p .toBlock) (λ v. (v + p .toBlock) ∷ []) (λ v. true) (number s 1 (n .blocks))
       (λ s′. number s′ 1 (joint .blocks))
-  target = goes moving-number s (p .toBlock) (n .blocks) (joint .blocks) (program .blocks) (omega (arith, at .most-blocks))
+  target = goes moving-number s _ _ _ (program .blocks) (omega arith)
 
   code-server : (code : ℕ) → Maps false (λ v. Unit {0}) (serverIn p) (λ v. ownNumber (joint .facilities) (serverIn p v) ∷ []) (λ v. true) (codeServer s n code) (λ s′. codeServer s′ joint code)
   unfolding codeServer
   code-server code =
       maps
-      (choice (leb code 2) (λ e. walked facility (λ v h. record { fact = tt; image = sym (facility-in p n joint at v (h .1)); numbers = ap (λ i. i ∷ []) (sym (own-facility-in v (h .1))); holds = λ x. x }))
+      (choice (leb code 2) (λ e. walked facility (λ v h. record { fact = tt; image = sym (facility-in p n joint at v (h .1)); numbers = cc (own-facility-in v (h .1)); holds = λ x. x }))
       (λ e.
       then storage
       (λ k k′ h f.
       gives
       (record {
         fact = tt;
-        image = ap (λ i. joint .facilities + i) f ∙ sym (storage-in p n joint at k (h .0));
-        numbers = ap (λ i. i ∷ []) (sym (own-storage-in k (h .0)));
+        image = cc (f, storage-in p n joint at k (h .0));
+        numbers = cc (own-storage-in k (h .0));
         holds = λ x. tt;
       }))))
 
@@ -109,15 +97,15 @@ module _ (s : List ℕ) (p : Part) (n joint : Counts) (capacities capacities′ 
       then storage
       (λ k k′ h f.
       and
-      (moving-number s 1 (nth capacities k 0) 1 (nth capacities′ k′ 0) (λ v. v) (λ v. true)
+      (moving-number s 1 _ 1 _ (λ v. v) (λ v. true)
       (λ v low high c. (low, omega (arith, program .capacity k (h .0) (h .1), ap (λ i. nth capacities′ i 0) f)))
       (omega (arith, program .most-capacity k′)))
       (λ b g.
       gives
       (record {
-        fact = plain (n .facilities + k) b;
-        image = ap (λ i. make i b) (ap (λ i. joint .facilities + i) f ∙ sym (storage-in p n joint at k (h .0))) ∙ sym (moved (n .facilities + k) b);
-        numbers = sym (ap (storedBlock (joint .facilities)) (moved (n .facilities + k) b) ∙ stored (serverIn p (n .facilities + k)) b ∙ ap (λ i. kind ∷ i ∷ b ∷ []) (own-storage-in k (h .0)));
+        fact = plain _ b;
+        image = cc (f, storage-in p n joint at k (h .0), moved (n .facilities + k) b);
+        numbers = cc (moved (n .facilities + k) b, stored (serverIn p (n .facilities + k)) b, own-storage-in k (h .0));
         holds = λ x. tt;
       })))
 
@@ -153,7 +141,7 @@ module _ (s : List ℕ) (p : Part) (n joint : Counts) (capacities capacities′ 
       (λ e. then (block-term s p n joint at (program .blocks)) (λ a a′ z f. and (stays moving-number s 1 6 (omega arith)) (λ r h. then (block-term s p n joint at (program .blocks)) (λ b b′ y g. gives (record { fact = (z, (y, tt)); image = ap₂ (λ x y. waitTerms x (relationOf r) y) f g; numbers = rw (eqb-true kind 9 e, relation-number r (h .0) (h .1), append-nil (storedTerm (joint .facilities) (termIn p b))); holds = λ x. tt })))))
       (λ e9.
       choice (eqb kind 10)
-      (λ e. then (block-term s p n joint at (program .blocks)) (λ a a′ z f. and (stays moving-number s 1 6 (omega arith)) (λ r h. then (block-term s p n joint at (program .blocks)) (λ b b′ y g. then target (λ t t′ x k. gives (record { fact = (z, (y, tt)); image = ap₂ (λ x y. branch x (relationOf r) y t′) f g ∙ ap (λ i. branch (termIn p a) (relationOf r) (termIn p b) i) k; numbers = rw (eqb-true kind 10 e, relation-number r (h .0) (h .1)); holds = λ x. tt }))))))
+      (λ e. then (block-term s p n joint at (program .blocks)) (λ a a′ z f. and (stays moving-number s 1 6 (omega arith)) (λ r h. then (block-term s p n joint at (program .blocks)) (λ b b′ y g. then target (λ t t′ x k. gives (record { fact = (z, (y, tt)); image = cc (f, g, k); numbers = rw (eqb-true kind 10 e, relation-number r (h .0) (h .1)); holds = λ x. tt }))))))
       (λ e10.
       choice (eqb kind 11)
       (λ e. then target (λ t t′ h f. gives (record { fact = tt; image = ap goto f; numbers = ap (λ i. i ∷ (t + p .toBlock) ∷ []) (eqb-true kind 11 e); holds = λ x. tt })))
@@ -190,4 +178,4 @@ module _ (s : List ℕ) (p : Part) (n joint : Counts) (capacities capacities′ 
       (λ s′. blockField s′ kinds joint capacities′)
   unfolding blockField
   block-field kinds most =
-      maps (and (stays moving-number s 1 kinds (omega arith)) (λ kind h. operands-carried kind (h .0) (omega (arith, h .1))))
+      maps (and (stays moving-number s 1 kinds (omega arith)) (λ kind h. operands-carried kind (h .0) (omega arith)))

@@ -1,23 +1,11 @@
 -- Terms and values, carried from a part's bytes to the joined model's.
-use Prim.Native.Nat.{ℕ, zero, suc, _+_, _≤_}
-use native.Mathlib.Nat.{add-zero}
-use native.Mathlib.Omega.{arith}
-use mathlib.Core.Path.{_≡_, refl, sym, ap, subst, _∙_}
-use mathlib.Core.Bool.{Bool, true, false, cond, _&&_}
-use mathlib.Core.List.{List, [], _∷_, _++_, map}
-use borrow.Author.Tests.{eqb-true, eqb-false}
-use lib.Dec.{T, ltb, eqb}
+use Rattle.machine.specs.All.{ℕ, suc, _+_, _≤_, add-zero, arith, _≡_, refl, sym, ap, _∙_, Bool, true, false, cond, _&&_, List, [], _∷_, eqb-true, eqb-false, T, ltb, eqb, flat, Cursor, parsed, refused, Parser, Term, entriesOf, contentOf, unitsFree, facilityInUse, Counts, simpleTerm, number, blockTerm, counted, mentioned, valueNumber}
 use Rattle.machine.specs.Limits as Limits
-use Rattle.machine.specs.Lists.{flat}
-use Rattle.machine.specs.Parser.{Cursor, parsed, refused, Parser}
-use Rattle.machine.specs.Term.{Term, constant, minusConstant, parameter, clockTerm, entriesOf, contentOf, unitsInUse, unitsFree, facilityInUse, value, comparison, bracket, Sum, nothing, plus, minus}
-use Rattle.machine.specs.Decode.{Counts, relationOf, simpleTerm, number, blockTerm, counted, mentioned, valueNumber, sumTerms, sumField, bracketField, comparisonField, mentionField, taggedTerm, valueTerm, valueField, inValue, valueFields}
-use Rattle.machine.specs.Validate.{allOf}
-use Rattle.joined.specs.Join.{Part, serverIn, termIn, sumIn}
-use Rattle.join_laws.specs.Written.{ownNumber, storedTerm, storedTerms, storedSum, numbersBytes}
-use Rattle.join_laws.proofs.Carrying.{Tied, Reads, Maps, Carried, Carries, Becomes, then, and, gives, choice, maps, walked, field-maps}
+use Rattle.joined.specs.Join.{Part, serverIn, termIn}
+use Rattle.join_laws.specs.{ownNumber, storedTerm, numbersBytes}
+use Rattle.join_laws.proofs.Carrying.{Maps, Carried, Carries, Becomes, then, and, gives, choice, maps, field-maps}
 use Rattle.join_laws.proofs.Numbered.{Numbered}
-use Rattle.join_laws.proofs.Placing.{Placing, facility-in, storage-in, own-facility, own-storage}
+use Rattle.join_laws.proofs.Placing.{Placing, facility-in, storage-in, own-storage}
 
 -- ---- A number, by the parser that reads it
 
@@ -81,7 +69,7 @@ module _ {t : Bool} {read : List ℕ → ℕ → ℕ → Parser ℕ} (moving : M
         gives
         (record {
           fact = omega (arith, h .0);
-          image = ap (λ i. unitsInUse (joint .facilities + i)) f ∙ ap unitsInUse (sym (storage-in p n joint at k (h .0)));
+          image = cc (f, storage-in p n joint at k (h .0));
           numbers = stored-storage k (h .0) tag 6 (eqb-true tag 6 e);
           holds = λ x. tt;
         })))
@@ -126,18 +114,18 @@ module _ (s : List ℕ) (p : Part) (n joint : Counts) (at : Placing p n joint) (
       maps
       (and (stays moving-number s 0 9 (omega arith))
       (λ tag h.
-      choice (eqb tag 9)
+      choice _
       (λ e.
-      then (goes moving-number s (p .toValue) (n .values) (joint .values) (at .values) (omega (arith, at .most-values)))
-      (λ k k′ h f. gives (record { fact = h .0; image = ap value f; numbers = ap (λ i. i ∷ (k + p .toValue) ∷ []) (eqb-true tag 9 e); holds = λ x. tt })))
-      (λ e. simple-term moving-number s p n joint at (λ a. true) (λ b low c. omega arith) tag (omega (arith, h .1, eqb-false tag 9 e)))))
+      then (goes moving-number s _ _ _ (at .values) (omega arith))
+      (λ k k′ h f. gives (record { fact = h .0; image = cc f; numbers = cc (eqb-true tag 9 e); holds = λ x. tt })))
+      (λ e. simple-term moving-number s p n joint at (λ a. true) (λ b low c. omega arith) tag (omega (arith, eqb-false tag 9 e)))))
 
 -- ---- Numbers of values
 
 module _ {Q : ℕ → ℕ → List ℕ → Bool → Type 0} (s : List ℕ) (v v′ : ℕ) (claim : Q v v′ [] true) where
   counted-carries : Carries true Q (counted s v) (λ s′. counted s′ v′)
   unfolding counted numbersBytes flat
-  counted-carries = record { from = λ c. go c (ltb (c .numbers) Limits.maxValueNumbers) refl }
+  counted-carries = record { from = λ c. go c _ refl }
     where
       more : Cursor → Cursor
       more c = record { position = c .position; numbers = suc (c .numbers); mentions = c .mentions }
@@ -155,8 +143,8 @@ module _ {Q : ℕ → ℕ → List ℕ → Bool → Type 0} (s : List ℕ) (v v�
                       record {
                         after = more d;
                         reads = rw (← m .0, e);
-                        position = sym (add-zero (d .position));
-                        tied = (ap suc (m .0), m .1);
+                        position = sym (add-zero _);
+                        tied = (cc (m .0), m .1);
                       };
                 };
           }
@@ -164,7 +152,7 @@ module _ {Q : ℕ → ℕ → List ℕ → Bool → Type 0} (s : List ℕ) (v v�
 
   pub mentioned-carries : Carries true Q (mentioned s v) (λ s′. mentioned s′ v′)
   unfolding mentioned numbersBytes flat
-  mentioned-carries = record { from = λ c. go c (ltb (c .mentions) Limits.maxMentions) refl }
+  mentioned-carries = record { from = λ c. go c _ refl }
     where
       more : Cursor → Cursor
       more c = record { position = c .position; numbers = c .numbers; mentions = suc (c .mentions) }
@@ -182,8 +170,8 @@ module _ {Q : ℕ → ℕ → List ℕ → Bool → Type 0} (s : List ℕ) (v v�
                       record {
                         after = more d;
                         reads = rw (← m .1, e);
-                        position = sym (add-zero (d .position));
-                        tied = (m .0, ap suc (m .1));
+                        position = sym (add-zero _);
+                        tied = (m .0, cc (m .1));
                       };
                 };
           }

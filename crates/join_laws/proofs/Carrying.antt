@@ -1,35 +1,22 @@
 -- From a part's bytes to the joined model's: what a parser read in the one, with its numbers moved on, another reads in any bytes where the
 -- moved numbers stand. One law for each way to build a parser.
-use Prim.Native.Nat.{ℕ, zero, suc, _+_, _≤_}
-use native.Mathlib.Nat.{add-assoc, add-zero}
-use native.Mathlib.Omega.{arith}
-use mathlib.Core.Path.{_≡_, refl, sym, ap, ap₂, subst, _∙_}
-use mathlib.Core.Bool.{Bool, true, false, cond, _&&_}
-use mathlib.Core.List.{List, [], _∷_, _++_, map, append-assoc, append-nil}
-use mathlib.Core.Option.{Option, none, some}
-use lib.Dec.{T, leb}
-use lib.ListN.{length, drop, length-append}
+use Rattle.machine.specs.All.{ℕ, zero, suc, _+_, _≤_, add-assoc, add-zero, _≡_, refl, sym, ap, subst, _∙_, Bool, true, false, cond, _&&_, List, [], _∷_, _++_, map, append-assoc, append-nil, Option, none, some, T, length, drop, length-append, flat, Number, numberBytes, readNumber, Cursor, Parsed, parsed, refused, Parser, continue, _>>=_, give, refuse, times, forward, fieldOf, fieldUpTo, Each, allOf}
 use Rattle.machine.specs.Limits as Limits
-use Rattle.machine.specs.Lists.{flat}
-use Rattle.machine.specs.Number.{Number, numberBytes, readNumber}
-use Rattle.machine.specs.Parser.{Cursor, Parsed, parsed, refused, Parser, continue, _>>=_, give, refuse, times, forward, fieldOf, fieldUpTo}
-use Rattle.machine.specs.Claims.{Each}
-use Rattle.machine.specs.Validate.{allOf}
 use Rattle.machine.proofs.runs.RunLaws.{cond-cases}
 use Rattle.machine.proofs.decoding.Groups.{and-left, and-right}
 use Rattle.codec.proofs.Fields.{between, field-reads, drop-past}
-use Rattle.join_laws.specs.Written.{numbersBytes}
+use Rattle.join_laws.specs.{numbersBytes}
 
 -- ---- Bytes of numbers
 
 pub numbers-append : (k l : List ℕ) → numbersBytes (k ++ l) ≡ numbersBytes k ++ numbersBytes l
 unfolding numbersBytes flat
 numbers-append [] l = refl
-numbers-append (v ∷ k) l = ap (λ (u : List ℕ). numberBytes v ++ u) (numbers-append k l) ∙ sym (append-assoc (numberBytes v) _ _)
+numbers-append (v ∷ k) l = cc (numbers-append k l, append-assoc (numberBytes v) _ _)
 
 pub numbers-one : (v : ℕ) → numbersBytes (v ∷ []) ≡ numberBytes v
 unfolding numbersBytes flat
-numbers-one v = append-nil (numberBytes v)
+numbers-one v = append-nil _
 
 -- ---- Definition
 
@@ -92,23 +79,22 @@ unfolding continue
 reads-then k {l = l} {l′ = l′} h g =
     record {
       from = λ s rest d e m.
-          let here = e ∙ ap (λ (u : List ℕ). u ++ rest) (numbers-append l l′) ∙ append-assoc (numbersBytes l) (numbersBytes l′) rest in
-          let x = h .from s (numbersBytes l′ ++ rest) d here m in
+          let here = e ∙ ap (λ (u : List ℕ). u ++ rest) (numbers-append l l′) ∙ append-assoc (numbersBytes l) _ rest in
+          let x = h .from s _ d here m in
           let y =
-          g .from s rest (x .after) (ap (λ (i : ℕ). drop i s) (x .position) ∙ drop-past s (numbersBytes l) (numbersBytes l′ ++ rest) (d .position) here) (x .tied) in
+          g .from s rest _ (cc (x .position, drop-past s (numbersBytes l) (numbersBytes l′ ++ rest) (d .position) here)) (x .tied) in
           record {
             after = y .after;
-            reads = ap (λ r. continue r (k s)) (x .reads) ∙ y .reads;
+            reads = cc (x .reads, y .reads);
             position =
-                y .position ∙ ap (λ (i : ℕ). i + length (numbersBytes l′)) (x .position) ∙ add-assoc (d .position) (length (numbersBytes l)) (length (numbersBytes l′))
-                ∙ ap (λ (i : ℕ). d .position + i) (sym (ap length (numbers-append l l′) ∙ length-append (numbersBytes l) (numbersBytes l′)));
+                cc (y .position, x .position, add-assoc (d .position) (length (numbersBytes l)) (length (numbersBytes l′)), numbers-append l l′, length-append (numbersBytes l) (numbersBytes l′));
             tied = y .tied;
           };
     }
 
 pub reads-give : {B : Type 0} {t : Bool} {c : Cursor} {b : B} → Reads t (λ s. give b) c c [] b
 unfolding numbersBytes flat
-reads-give = record { from = λ s rest d e m. record { after = d; reads = refl; position = sym (add-zero (d .position)); tied = m } }
+reads-give = record { from = λ s rest d e m. record { after = d; reads = refl; position = sym (add-zero _); tied = m } }
 
 module _ {A B : Type 0} {t : Bool} {Q : A → B → List ℕ → Bool → Type 0} where
   -- the second goes on with the image of what the first gave
@@ -126,12 +112,12 @@ module _ {A B : Type 0} {t : Bool} {Q : A → B → List ℕ → Bool → Type 0
             numbers = w a ++ n .numbers;
             holds = C a && n .holds;
             claim = n .claim;
-            reads = λ x. reads-then k′ (m (and-left (C a) (n .holds) x)) (n .reads (and-right (C a) (n .holds) x));
+            reads = λ x. reads-then k′ (m (and-left (C a) _ x)) (n .reads (and-right (C a) _ x));
           }
       second c c₁ a m (refused n) z = tt
 
       first : (c : Cursor) (r : Parsed A₁) → Mapped t F f w C q c r → Carried t Q (λ s. q s >>= k′ s) c (continue r k)
-      first c (parsed a c₁) m = second c c₁ a (m .1) (k a c₁) (g a (f a) (m .0) refl .from c₁)
+      first c (parsed a c₁) m = second c c₁ a (m .1) (k a c₁) (g a _ (m .0) refl .from c₁)
       first c (refused n) m = tt
 
   -- the same where the image is what was given
@@ -139,7 +125,7 @@ module _ {A B : Type 0} {t : Bool} {Q : A → B → List ℕ → Bool → Type 0
       {k′ : List ℕ → A₁ → Parser B} → Maps t F (λ a. a) w C p q
       → ((a : A₁) → F a → Carries t (λ r r′ l x. Q r r′ (w a ++ l) (C a && x)) (k a) (λ s. k′ s a)) → Carries t Q (p >>= k) (λ s. q s >>= k′ s)
   and {w = w} {C = C} {k = k} {k′ = k′} h g =
-      then h (λ a b y e. subst (λ x. Carries t (λ r r′ l x. Q r r′ (w a ++ l) (C a && x)) (k a) (λ s. k′ s x)) (sym e) (g a y))
+      then h (λ a b y e. rw e (g a y))
 
   pub gives : {a : A} {b : B} → Q a b [] true → Carries t Q (give a) (λ s. give b)
   gives {a} {b} h = record { from = λ c. record { image = b; numbers = []; holds = true; claim = h; reads = λ x. reads-give } }
@@ -180,10 +166,10 @@ reads-number {t} {c} most code lo hi v size low high all groups =
       from = λ s rest d e m.
           let here = e ∙ ap (λ (u : List ℕ). u ++ rest) (numbers-one v) in
           record {
-            after = forward d (length (numberBytes v));
-            reads = field-reads s rest most (d .position) v code lo hi (d .numbers) (d .mentions) here low high all groups;
-            position = ap (λ (u : List ℕ). d .position + length u) (sym (numbers-one v));
-            tied = tied-forward t c d size (length (numberBytes v)) m;
+            after = forward d _;
+            reads = field-reads s rest most _ v code lo hi _ _ here low high all groups;
+            position = cc (numbers-one v);
+            tied = tied-forward t c d size _ m;
           };
     }
 
@@ -193,20 +179,20 @@ module _ {t : Bool} (most code : ℕ) (s : List ℕ) where
       → most ≤ Limits.fiveGroups → Maps t (λ v. (lo ≤ v) × (v ≤ hi)) f (λ v. f v ∷ []) C (fieldUpTo most s code lo hi) (λ s′. fieldUpTo most s′ code lo′ hi′)
   unfolding fieldUpTo fieldOf
   field-maps lo hi lo′ hi′ f C h small groups =
-      record { from = λ c. go c (readNumber Limits.maxNumberBytes most (drop (c .position) s)) }
+      record { from = λ c. go c (readNumber Limits.maxNumberBytes most _) }
     where
       go : (c : Cursor) (o : Option Number)
           → Mapped t (λ v. (lo ≤ v) × (v ≤ hi)) f (λ v. f v ∷ []) C (λ s′. fieldUpTo most s′ code lo′ hi′) c (fieldOf code lo hi o c)
       go c none = tt
       go c (some n) =
-          cond-cases (Mapped t (λ v. (lo ≤ v) × (v ≤ hi)) f (λ v. f v ∷ []) C (λ s′. fieldUpTo most s′ code lo′ hi′) c) (leb lo (n .value) && leb (n .value) hi)
-          (parsed (n .value) (forward c (n .size))) (refused (suc code))
+          cond-cases (Mapped t (λ v. (lo ≤ v) × _) f (λ v. f v ∷ []) C (λ s′. fieldUpTo most s′ code lo′ hi′) c) _
+          _ _
           (λ e.
           let r = between lo (n .value) hi e in (
             r,
             λ x.
-                let in-range = h (n .value) (r .0) (r .1) x in
-                reads-number most code lo′ hi′ (f (n .value)) (n .size) (in-range .0) (in-range .1) small groups,
+                let in-range = h _ (r .0) (r .1) x in
+                reads-number most code lo′ hi′ _ _ (in-range .0) (in-range .1) small groups,
           ))
           (λ e. tt)
 
@@ -227,7 +213,7 @@ repeated {w = w} {C = C} h (suc n) =
     (λ a b z f.
     then (repeated h n)
     (λ l l′ g f′.
-    gives (record { fact = (ap suc (g .0), (z, g .1)); image = ap₂ (λ x y. x ∷ y) f f′; numbers = ap (λ u. w a ++ u) (append-nil _); holds = and-both (C a) (allOf C l) }))))
+    gives (record { fact = (cc (g .0), (z, g .1)); image = cc (f, f′); numbers = cc (append-nil _); holds = and-both (C a) _ }))))
 
 -- ---- Whatever was read before
 

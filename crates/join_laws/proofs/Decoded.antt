@@ -1,26 +1,11 @@
 -- What is known of a model that was read: its counts are in range, and its values and blocks, moved on to wherever there is room for them, are read again.
-use Prim.Native.Nat.{ℕ, zero, suc, _+_, _-_, _≤_}
-use native.Mathlib.Nat.{zero-add, add-zero}
-use native.Mathlib.Omega.{arith}
-use mathlib.Core.Path.{_≡_, refl, sym, ap, subst, _∙_}
-use mathlib.Core.Bool.{Bool, true, false}
-use mathlib.Core.List.{List, [], _∷_, map}
-use lib.Dec.{T, eqb}
-use lib.ListN.{length}
+use Rattle.machine.specs.All.{ℕ, _+_, _≤_, zero-add, add-zero, arith, _≡_, refl, sym, ap, subst, Bool, true, false, List, [], _∷_, map, T, length, inForce, flat, nth, Cursor, Parsed, parsed, refused, Parser, ask, times, Sum, Block, BlockModel, Counts, number, inValue, valueFields, blockField, modelFields, allOf, sumNames, wellFormed, modelOf, Each}
 use Rattle.machine.specs.Limits as Limits
-use Rattle.machine.specs.Rules.{inForce}
-use Rattle.machine.specs.Lists.{flat, nth}
-use Rattle.machine.specs.Parser.{Cursor, Parsed, parsed, refused, Parser, ask, times}
-use Rattle.machine.specs.Term.{Sum}
-use Rattle.machine.specs.Block.{Block, BlockModel}
-use Rattle.machine.specs.Decode.{Counts, number, inValue, valueFields, blockField, modelFields, atEnd}
-use Rattle.machine.specs.Validate.{allOf, sumNames, wellFormed, modelOf}
-use Rattle.machine.specs.Claims.{Each}
 use Rattle.machine.proofs.runs.RunLaws.{each-map}
 use Rattle.machine.proofs.runs.Shape.{each-getD}
 use Rattle.machine.proofs.decoding.ParserLaws as Parsers
 use Rattle.joined.specs.Join.{Part, sumIn, blockIn}
-use Rattle.join_laws.specs.Written.{storedSum, storedBlock}
+use Rattle.join_laws.specs.{storedSum, storedBlock}
 use Rattle.join_laws.proofs.Carrying.{Maps, Anywhere, Given, Gives, follows, given, images, repeated}
 use Rattle.join_laws.proofs.Placing.{Placing}
 use Rattle.join_laws.proofs.Numbered.{NumberedSum}
@@ -169,7 +154,7 @@ module _ (s : List ℕ) where
           → Maps false (λ l. (length l ≡ values) × Each (NumberedSum f) l) (map (sumIn (i .part))) (λ l. flat (map (λ e. storedSum (i .joint .facilities) (sumIn (i .part) e)) l))
           (allOf (sumNames (i .size))) (valueFields s (early f storages q) values 0) (λ s′. valueFields s′ (i .joint) values (i .part .toValue))
       spot i =
-          value-fields s (i .part) (early f storages q) (i .joint) (i .size) (i .room) (i .inside) values 0 (i .part .toValue) (sym (zero-add (i .part .toValue))) (i .fits)
+          value-fields s _ _ _ _ (i .room) (i .inside) values 0 _ (sym (zero-add _)) (i .fits)
 
       own : ValueSpot (early f storages q) values
       own =
@@ -190,38 +175,37 @@ module _ (s : List ℕ) where
       spot : (i : BlockSpot n capacities)
           → Maps false (NumberedBlock (n .facilities)) (blockIn (i .part)) (λ b. storedBlock (i .joint .facilities) (blockIn (i .part) b)) (λ b. true)
           (blockField s (inForce .kinds) n capacities) (λ s′. blockField s′ (inForce .kinds) (i .joint) (i .capacities′))
-      spot i = block-field s (i .part) n (i .joint) capacities (i .capacities′) (i .at) (i .program) (inForce .kinds) (omega arith)
+      spot i = block-field s _ n _ capacities _ (i .at) (i .program) _ (omega arith)
 
   -- ---- The model
 
   fields-known : Gives Decoded (modelFields s inForce)
   unfolding modelFields
   fields-known =
-      follows (ranged 1 (inForce .editions)) (λ edition he. follows (ranged 0 Limits.maxFacilities) (λ f hf. follows (ranged 0 Limits.maxStorages) (λ storages hs.
+      follows (ranged 1 _) (λ edition he. follows (ranged 0 Limits.maxFacilities) (λ f hf. follows (ranged 0 Limits.maxStorages) (λ storages hs.
       follows (capacities-known storages) (λ capacities hc. follows (ranged 0 Limits.maxQueues) (λ q hq. follows (ranged 0 Limits.maxValues) (λ values hv.
       follows (sums-known f storages q values (hf .1) (hs .1) (hq .1) (hv .1)) (λ sums hm. follows (ranged 0 Limits.maxLists) (λ lists hl. follows (ranged 1 Limits.maxCounter) (λ counter hn.
       follows (ranged 1 Limits.maxBlocks) (λ blocks hb.
-      follows (blocks-known (counts f storages q values lists blocks) capacities blocks (own f storages q values lists blocks capacities hf hs (hc .1) hq hv hl hb)) (λ program hp.
+      follows (blocks-known _ capacities blocks (own f storages q values lists blocks capacities hf hs (hc .1) hq hv hl hb)) (λ program hp.
       given
       (record {
         rules = refl;
         edition = he;
         facilities = hf .1;
-        storages = omega (arith, hc .0, hs .1);
+        storages = omega arith;
         capacity = hc .1;
         queues = hq .1;
-        values = omega (arith, hm .0 .0, hv .1);
+        values = omega arith;
         lists = hl .1;
         counter = hn;
-        blocks = (omega (arith, hp .0 .0, hb .0), omega (arith, hp .0 .0, hb .1));
+        blocks = (omega arith, omega arith);
         sums-numbered = hm .0 .1;
         blocks-numbered = hp .0 .1;
         sums-read =
-            subst (λ i. SumsRead (early f i q) (length sums) sums) (sym (hc .0)) (subst (λ i. SumsRead (early f storages q) i sums) (sym (hm .0 .0)) (hm .1));
+            rw (hc .0) (subst (λ i. SumsRead (early f storages q) i sums) (sym (hm .0 .0)) (hm .1));
         blocks-read =
             subst (λ i. BlocksRead (counts f i q (length sums) lists (length program)) capacities (length program) program) (sym (hc .0))
-            (subst (λ i. BlocksRead (counts f storages q i lists (length program)) capacities (length program) program) (sym (hm .0 .0))
-            (subst (λ i. BlocksRead (counts f storages q values lists i) capacities i program) (sym (hp .0 .0)) (hp .1)));
+            (rw (hm .0 .0) (subst (λ i. BlocksRead (counts f storages q values lists i) capacities i program) (sym (hp .0 .0)) (hp .1)));
       }))))))))))))
     where
       own : (f storages q v l b : ℕ) (capacities : List ℕ) → Between 0 Limits.maxFacilities f → Between 0 Limits.maxStorages storages → Each (Between 1 Limits.maxCapacity) capacities
@@ -238,17 +222,17 @@ module _ (s : List ℕ) where
                   most-lists = ml .1;
                   blocks = omega arith;
                   capacity = λ k low high. omega (arith, ap (λ i. nth capacities i 0) (add-zero k));
-                  most-capacity = λ k. each-getD (λ v. v ≤ Limits.maxCapacity) capacities (k - 1) 0 (each-map (λ v h. h .1) capacities mc) (omega arith);
+                  most-capacity = λ k. each-getD (λ v. v ≤ Limits.maxCapacity) capacities _ 0 (each-map (λ v h. h .1) capacities mc) (omega arith);
                 };
           }
 
   model-known : Gives (λ m. Decoded m × T (wellFormed m)) (modelOf inForce s)
   unfolding modelOf
-  model-known = follows fields-known (λ m h. follows anything (λ u z. follows (asked (wellFormed m)) (λ u x. given (h, x))))
+  model-known = follows fields-known (λ m h. follows anything (λ u z. follows (asked _) (λ u x. given (h, x))))
     where
       asked : (b : Bool) → Gives (λ u. T b) (ask b 7)
       asked b = known (Parsers.asked b 7 (omega arith, omega arith))
 
 -- a model that is accepted
 pub decoded : (s : List ℕ) (c : Cursor) {m : BlockModel} {after : Cursor} → modelOf inForce s c ≡ parsed m after → Decoded m × T (wellFormed m)
-decoded s c e = subst (Given (λ m. Decoded m × T (wellFormed m))) e (model-known s .from c)
+decoded s c e = rw e at (model-known s .from c)

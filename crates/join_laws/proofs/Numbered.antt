@@ -1,6 +1,5 @@
 -- "Servers, queues, lists, values and blocks are numbered from 1": the numbers in a term that was read, where the facilities are f.
-use Prim.Native.Nat.{ℕ, _≤_, _<_}
-use Rattle.machine.specs.Term.{Term, constant, minusConstant, parameter, clockTerm, entriesOf, contentOf, unitsInUse, unitsFree, facilityInUse, value, comparison, bracket, Sum, nothing, plus, minus}
+use Rattle.machine.specs.All.{ℕ, _≤_, _<_, Term, constant, minusConstant, parameter, clockTerm, entriesOf, contentOf, unitsInUse, unitsFree, facilityInUse, value, comparison, bracket, Sum, nothing, plus, minus}
 
 abbrev mutual
   pub Numbered : ℕ → Term → Type 0

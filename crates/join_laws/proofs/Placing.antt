@@ -1,13 +1,8 @@
 -- Where the numbers of a part stand among those of the joined model: its counts and the joined ones.
-use Prim.Native.Nat.{ℕ, _+_, _-_, _≤_}
-use native.Mathlib.Omega.{arith}
-use mathlib.Core.Path.{_≡_, refl, ap, sym, _∙_}
-use borrow.Author.Tests.{le-leb, lt-leb}
-use lib.Dec.{leb}
+use Rattle.machine.specs.All.{ℕ, _+_, _≤_, arith, _≡_, le-leb, lt-leb, Counts}
 use Rattle.machine.specs.Limits as Limits
-use Rattle.machine.specs.Decode.{Counts}
 use Rattle.joined.specs.Join.{Part, serverIn}
-use Rattle.join_laws.specs.Written.{ownNumber}
+use Rattle.join_laws.specs.{ownNumber}
 
 -- how far its storages are moved on among the storages is `among`
 pub record Placing (p : Part) (n joint : Counts) : Type 0 where
@@ -27,15 +22,15 @@ pub record Placing (p : Part) (n joint : Counts) : Type 0 where
 module _ (p : Part) (n joint : Counts) (at : Placing p n joint) where
   pub facility-in : (f : ℕ) → f ≤ n .facilities → serverIn p f ≡ f + p .toFacility
   unfolding serverIn
-  facility-in f h = rw (le-leb f (p .facilities) (omega (arith, at .own)))
+  facility-in f h = rw (le-leb f (p .facilities) (omega arith))
 
   pub storage-in : (k : ℕ) → 1 ≤ k → serverIn p (n .facilities + k) ≡ joint .facilities + (k + at .among)
   unfolding serverIn
-  storage-in k h = rw (lt-leb (n .facilities + k) (p .facilities) (omega (arith, at .own))) (omega (arith, at .servers))
+  storage-in k h = rw (lt-leb (n .facilities + k) (p .facilities) (omega arith)) (omega arith)
 
   pub own-facility : (v : ℕ) → v ≤ joint .facilities → ownNumber (joint .facilities) v ≡ v
   unfolding ownNumber
-  own-facility v h = rw (le-leb v (joint .facilities) h)
+  own-facility v h = rw le-leb
 
   pub own-storage : (k : ℕ) → 1 ≤ k → ownNumber (joint .facilities) (joint .facilities + k) ≡ k
   unfolding ownNumber

@@ -1,22 +1,9 @@
 -- Reading one thing after the other where both stand, and the joined model's bytes.
-use Prim.Native.Nat.{ℕ, zero, suc, _+_, _≤_}
-use native.Mathlib.Nat.{zero-add, add-zero, suc-add, add-suc, add-assoc}
-use native.Mathlib.Omega.{arith}
-use mathlib.Core.Path.{_≡_, refl, sym, ap, ap₂, subst, _∙_, fun-ext}
-use mathlib.Core.Bool.{Bool, true, false, _&&_}
-use mathlib.Core.List.{List, [], _∷_, _++_, map, append-nil, append-assoc}
-use lib.Dec.{T, eqb}
-use lib.ListN.{length, length-append}
+use Rattle.machine.specs.All.{ℕ, zero, suc, _+_, _≤_, zero-add, add-zero, suc-add, arith, _≡_, refl, sym, _∙_, fun-ext, false, List, [], _∷_, _++_, append-nil, length, Cursor, Parsed, parsed, refused, Parser, continue, _>>=_, give, times, Sum, Counts, number, valueField, valueFields, Each}
 use Rattle.machine.specs.Limits as Limits
-use Rattle.machine.specs.Lists.{flat}
-use Rattle.machine.specs.Parser.{Cursor, Parsed, parsed, refused, Parser, continue, _>>=_, give, times}
-use Rattle.machine.specs.Term.{Sum}
-use Rattle.machine.specs.Decode.{Counts, number, valueField, inValue, valueFields}
-use Rattle.machine.specs.Validate.{beginning}
-use Rattle.machine.specs.Claims.{Each}
 use Rattle.values.specs.Rows.{rowsField}
 use Rattle.values.proofs.Rows.{times-rows, values-rows}
-use Rattle.join_laws.proofs.Carrying.{Reads, reads-then, reads-give, reads-number, Anywhere, anywhere}
+use Rattle.join_laws.proofs.Carrying.{reads-then, reads-give, reads-number, Anywhere, anywhere}
 use Rattle.join_laws.proofs.Decoded.{Between}
 
 -- ---- One after the other
@@ -33,7 +20,7 @@ any-number lo hi v low high small c c′ = anywhere (reads-number {t = false} {c
 
 -- the same numbers, and a parser that does the same
 pub any-numbers : {B : Type 0} {q : List ℕ → Parser B} {l l′ : List ℕ} {b : B} → l ≡ l′ → Anywhere q l b → Anywhere q l′ b
-any-numbers {q = q} {b = b} e h = subst (λ u. Anywhere q u b) e h
+any-numbers {q = q} {b = b} e h = rw e at h
 
 pub any-same : {B : Type 0} {q q′ : List ℕ → Parser B} {l : List ℕ} {b : B} → ((s : List ℕ) (d : Cursor) → q′ s d ≡ q s d) → Anywhere q l b → Anywhere q′ l b
 any-same e h c c′ =
@@ -49,18 +36,18 @@ pub any-each : (lo hi : ℕ) → hi ≤ Limits.maxNumber → (l : List ℕ) → 
 unfolding times
 any-each lo hi small [] h = any-give
 any-each lo hi small (v ∷ l) h =
-    any-numbers (ap (λ u. v ∷ u) (append-nil l)) (any-then _ (any-number lo hi v (h .0 .0) (h .0 .1) small) (any-then _ (any-each lo hi small l (h .1)) any-give))
+    any-numbers (cc (append-nil l)) (any-then _ (any-number lo hi v (h .0 .0) (h .0 .1) small) (any-then _ (any-each lo hi small l (h .1)) any-give))
 
 module _ {A : Type 0} (p : ℕ → Parser A) where
   -- a and then b things
   rows-apart : (a b k : ℕ) (c : Cursor) → rowsField p (a + b) k c ≡ continue (rowsField p a k c) (λ x d. continue (rowsField p b (k + a) d) (λ y e. parsed (x ++ y) e))
   unfolding rowsField continue
-  rows-apart zero b k c = ap₂ (λ i j. rowsField p i j c) (zero-add b) (sym (add-zero k)) ∙ whole (rowsField p b (k + 0) c)
+  rows-apart zero b k c = cc (zero-add b, add-zero k, whole (rowsField p b (k + 0) c))
     where
       whole : (r : Parsed (List A)) → r ≡ continue r (λ y e. parsed y e)
       whole (parsed y e) = refl
       whole (refused n) = refl
-  rows-apart (suc a) b k c = ap (λ i. rowsField p i k c) (suc-add a b) ∙ first (p k c) (λ d. rows-apart a b (suc k) d)
+  rows-apart (suc a) b k c = cc (suc-add a b, first (p k c) (λ d. rows-apart a b (suc k) d))
     where
       end : (x : A) (l : List A) (r : Parsed (List A)) → continue (continue r (λ y e. parsed (l ++ y) e)) (λ l e. parsed (x ∷ l) e) ≡ continue r (λ y e. parsed (x ∷ (l ++ y)) e)
       end x l (parsed y e) = refl
@@ -71,37 +58,36 @@ module _ {A : Type 0} (p : ℕ → Parser A) where
           ≡ continue (continue r (λ l d. parsed (x ∷ l) d)) (λ l d. continue (rowsField p b (k + suc a) d) (λ y e. parsed (l ++ y) e))
       last x (parsed l d) =
           let e : suc k + a ≡ k + suc a = omega arith in
-          end x l (rowsField p b (suc k + a) d) ∙ ap (λ i. continue (rowsField p b i d) (λ y e. parsed (x ∷ (l ++ y)) e)) e
+          cc (end x l (rowsField p b (suc k + a) d), e)
       last x (refused n) = refl
 
       first : (r : Parsed A) → ((d : Cursor) → rowsField p (a + b) (suc k) d ≡ continue (rowsField p a (suc k) d) (λ x e. continue (rowsField p b (suc k + a) e) (λ y f. parsed (x ++ y) f)))
           → continue r (λ x d. continue (rowsField p (a + b) (suc k) d) (λ l e. parsed (x ∷ l) e))
           ≡ continue (continue r (λ x d. continue (rowsField p a (suc k) d) (λ l e. parsed (x ∷ l) e))) (λ l d. continue (rowsField p b (k + suc a) d) (λ y e. parsed (l ++ y) e))
-      first (parsed x d) ih = ap (λ r. continue r (λ l e. parsed (x ∷ l) e)) (ih d) ∙ last x (rowsField p a (suc k) d)
+      first (parsed x d) ih = cc (ih d, last x (rowsField p a (suc k) d))
       first (refused n) ih = refl
 
 pub times-apart : {A : Type 0} (p : Parser A) (a b : ℕ) (c : Cursor)
     → times (a + b) p c ≡ continue (times a p c) (λ x d. continue (times b p d) (λ y e. parsed (x ++ y) e))
 times-apart {A} p a b c =
-    times-rows p (a + b) 0 c ∙ rows-apart (λ i. p) a b 0 c
-    ∙ ap₂ (λ (f g : Parser (List A)). continue (f c) (λ x d. continue (g d) (λ y e. parsed (x ++ y) e))) (fun-ext (λ d. sym (times-rows p a 0 d))) (fun-ext (λ d. sym (times-rows p b (0 + a) d)))
+    rw (times-rows p (a + b) 0 c, rows-apart (λ i. p) a b 0 c, fun-ext (λ d. sym (times-rows p a 0 d)), fun-ext (λ d. sym (times-rows p b (0 + a) d)))
 
 any-rows : {A : Type 0} (q : List ℕ → ℕ → Parser A) (a b k : ℕ) {l l′ : List ℕ} {x y : List A} → Anywhere (λ s. rowsField (q s) a k) l x
     → Anywhere (λ s. rowsField (q s) b (k + a)) l′ y → Anywhere (λ s. rowsField (q s) (a + b) k) (l ++ l′) (x ++ y)
 any-rows q a b k {l} {l′} {x} {y} h g =
-    any-same (λ s d. rows-apart (q s) a b k d)
-    (any-numbers (ap (λ u. l ++ u) (append-nil l′))
-    (any-then (λ s x. rowsField (q s) b (k + a) >>= λ y. give (x ++ y)) h (any-then (λ s y. give (x ++ y)) g any-give)))
+    any-same (λ s d. rows-apart _ a b k d)
+    (any-numbers (cc (append-nil l′))
+    (any-then (λ s x. rowsField _ b _ >>= λ y. give _) h (any-then (λ s y. give _) g any-give)))
 
 pub any-times : {A : Type 0} (q : List ℕ → Parser A) (a b : ℕ) {l l′ : List ℕ} {x y : List A} → Anywhere (λ s. times a (q s)) l x → Anywhere (λ s. times b (q s)) l′ y
     → Anywhere (λ s. times (a + b) (q s)) (l ++ l′) (x ++ y)
 any-times q a b h g =
-    any-same (λ s d. times-rows (q s) (a + b) 0 d)
-    (any-rows (λ s i. q s) a b 0 (any-same (λ s d. sym (times-rows (q s) a 0 d)) h) (any-same (λ s d. sym (times-rows (q s) b (0 + a) d)) g))
+    any-same (λ s d. times-rows _ _ 0 d)
+    (any-rows (λ s i. q s) a b 0 (any-same (λ s d. sym (times-rows _ a 0 d)) h) (any-same (λ s d. sym (times-rows _ b _ d)) g))
 
 pub any-values : (n : Counts) (a b : ℕ) {l l′ : List ℕ} {x y : List Sum} → Anywhere (λ s. valueFields s n a 0) l x → Anywhere (λ s. valueFields s n b a) l′ y
     → Anywhere (λ s. valueFields s n (a + b) 0) (l ++ l′) (x ++ y)
 any-values n a b h g =
-    any-same (λ s d. values-rows s n (a + b) 0 d)
-    (any-rows (λ s i. valueField s (inValue s n i)) a b 0 (any-same (λ s d. sym (values-rows s n a 0 d)) h)
-    (any-same (λ s d. sym (ap (λ i. valueFields s n b i d) (sym (zero-add a)) ∙ values-rows s n b (0 + a) d)) g))
+    any-same (λ s d. values-rows s n _ 0 d)
+    (any-rows (λ s i. valueField s _) a b 0 (any-same (λ s d. sym (values-rows s n a 0 d)) h)
+    (any-same (λ s d. cc (zero-add a, values-rows s n b (0 + a) d)) g))

@@ -1,28 +1,17 @@
 -- The numbers that are written for a value are those that the joined model stores for it.
-use Prim.Native.Nat.{ℕ, zero, suc, _+_, _*_, _-_, _≤_, _<_}
-use native.Mathlib.Nat.{add-zero}
-use native.Mathlib.Omega.{arith}
-use mathlib.Core.Path.{_≡_, refl, sym, ap, ap₂, subst, _∙_}
-use mathlib.Core.Bool.{Bool, true, false, cond, _&&_}
-use mathlib.Core.List.{List, [], _∷_, _++_, append-assoc, append-nil}
-use borrow.Author.Tests.{le-leb, lt-leb, ltb-true}
-use lib.Dec.{T, leb, ltb, eqb}
-use lib.ListN.{length, getD, length-append}
-use Rattle.machine.specs.Term.{Term, constant, minusConstant, parameter, clockTerm, entriesOf, contentOf, unitsInUse, unitsFree, facilityInUse, value, comparison, bracket, Sum, nothing, plus, minus}
+use Rattle.machine.specs.All.{ℕ, suc, _+_, _-_, _≤_, _<_, add-zero, arith, _≡_, refl, sym, ap, subst, _∙_, Bool, true, false, _&&_, List, [], _∷_, _++_, append-assoc, append-nil, le-leb, lt-leb, ltb-true, T, ltb, length, getD, length-append, Term, constant, minusConstant, parameter, clockTerm, entriesOf, contentOf, unitsInUse, unitsFree, facilityInUse, value, comparison, bracket, Sum, nothing, plus, minus}
 use Rattle.machine.proofs.decoding.Groups.{and-left, and-right}
-use Rattle.tables.specs.Numbers.{relationNumber, termNumbers, signedTerms, sumNumbers, terms}
-use Rattle.tables.specs.Represents.{At}
+use Rattle.tables.specs.All.{relationNumber, termNumbers, signedTerms, terms, At}
 use Rattle.terms.specs.Nested.{nestedTerm, nestedSum}
-use Rattle.terms.proofs.Found.{First, at-first, at-front, at-back}
+use Rattle.terms.proofs.Found.{at-first, at-back}
 use Rattle.codec.specs.Writing.{written}
 use Rattle.joined.specs.Join.{Part, termIn, sumIn}
 use Rattle.join_laws.specs.declared.shift.Shift.{Shift}
-use Rattle.join_laws.specs.Written.{storedTerm, storedTerms, storedSum}
-use Rattle.join_laws.specs.Rows.{movedBy, Items, items, behind, opened, signsIn, signAt, itemAt, itemsFrom, valueRow}
+use Rattle.join_laws.specs.{storedTerm, storedTerms, movedBy, items, behind, opened, signsIn, signAt, itemAt, itemsFrom}
 use Rattle.join_laws.proofs.Numbered.{Numbered, NumberedSum}
 use Rattle.join_laws.proofs.RowSteps.{inner, inner-more, one-more, items-end}
 use Rattle.join_laws.proofs.CarriedValues.{terms-in}
-use Rattle.join_laws.proofs.BlockRows.{Moves, Pair, pair}
+use Rattle.join_laws.proofs.BlockRows.{Moves, pair}
 
 module _ (tables : List ℕ) (by : Shift) where
   -- ---- One term, by its tag
@@ -30,7 +19,7 @@ module _ (tables : List ℕ) (by : Shift) where
   item-is : (from signs tag n : ℕ) → tag ≡ getD tables (from + signs) 0 → n ≡ getD tables (from + signs + 1) 0
       → itemAt tables by from signs ≡ signAt tables by from signs ++ (tag ∷ movedBy by tag n ∷ [])
   unfolding itemAt movedBy
-  item-is from signs tag n et en = sym (ap₂ (λ t m. signAt tables by from signs ++ (t ∷ movedBy by t m ∷ [])) et en)
+  item-is from signs tag n et en = cc (et, en)
 
   module _ (d left signs from tag n : ℕ) (within : from < length tables) (et : tag ≡ getD tables (from + signs) 0) (en : n ≡ getD tables (from + signs + 1) 0) where
     abbrev next : ℕ
@@ -39,9 +28,9 @@ module _ (tables : List ℕ) (by : Shift) where
     step-plain : tag ≤ 9 → itemsFrom tables by d (suc left) signs from ≡ behind (signAt tables by from signs ++ (tag ∷ movedBy by tag n ∷ [])) (itemsFrom tables by d left signs next)
     step-plain small =
         let e : suc left - 1 ≡ left = omega arith in
-        one-more tables by d (suc left) signs from (written 0 []) (λ z. omega arith)
-        ∙ rw (lt-leb (length tables) from within, le-leb (getD tables (from + signs) 0) 9 (omega (arith, et)))
-        (ap₂ (λ l i. behind l (itemsFrom tables by d i signs next)) (item-is from signs tag n et en) e)
+        one-more tables by d _ signs from (written 0 []) (λ z. omega arith)
+        ∙ rw (lt-leb, le-leb (getD tables (from + signs) 0) 9 (omega arith))
+        (cc (item-is from signs tag n et en, e))
 
     step-open : (depth : ℕ) → d ≡ suc depth → 9 < tag
         → itemsFrom tables by d (suc left) signs from
@@ -49,18 +38,14 @@ module _ (tables : List ℕ) (by : Shift) where
         (behind (itemsFrom tables by depth (opened tag n) (signsIn tag) next .numbers) (itemsFrom tables by d left signs (itemsFrom tables by depth (opened tag n) (signsIn tag) next .next)))
     step-open depth ed large =
         let e : suc left - 1 ≡ left = omega arith in
-        one-more tables by d (suc left) signs from (written 0 []) (λ z. omega arith)
-        ∙ rw (lt-leb (length tables) from within, lt-leb (getD tables (from + signs) 0) 9 (omega (arith, et)))
-        (ap₂ (λ l x. behind l (behind (x .numbers) (itemsFrom tables by d (suc left - 1) signs (x .next)))) (item-is from signs tag n et en) opens-are
-        ∙ ap (λ i. behind (signAt tables by from signs ++ (tag ∷ movedBy by tag n ∷ []))
-        (behind (itemsFrom tables by depth (opened tag n) (signsIn tag) next .numbers) (itemsFrom tables by d i signs (itemsFrom tables by depth (opened tag n) (signsIn tag) next .next)))) e)
+        one-more tables by d _ signs from (written 0 []) (λ z. omega arith)
+        ∙ rw (lt-leb, lt-leb (getD tables (from + signs) 0) 9 (omega arith))
+        (cc (item-is from signs tag n et en, opens-are, e))
       where
         opens-are : inner tables by d (opened (getD tables (from + signs) 0) (getD tables (from + signs + 1) 0)) (signsIn (getD tables (from + signs) 0)) (from + signs + 2)
             ≡ itemsFrom tables by depth (opened tag n) (signsIn tag) (from + signs + 2)
         opens-are =
-            ap (λ k. inner tables by k (opened (getD tables (from + signs) 0) (getD tables (from + signs + 1) 0)) (signsIn (getD tables (from + signs) 0)) (from + signs + 2)) ed
-            ∙ inner-more tables by depth _ _ _
-            ∙ sym (ap₂ (λ t m. itemsFrom tables by depth (opened t m) (signsIn t) (from + signs + 2)) et en)
+            cc (ed, inner-more tables by depth _ _ _, et, en)
 
 -- ---- Terms and sums
 
@@ -75,11 +60,10 @@ module _ (p : Part) (by : Shift) (joint : ℕ) (same : Moves p by joint) (tables
   simple : (t : Term) → T (nestedTerm 0 t) → Numbered (p .facilities) t → Writes t
   simple t flat k d left signs from rest h one at =
       let x = pair p by joint same t flat k in
-      let there : At tables (from + signs) (x .tag ∷ x .number ∷ rest) = subst (λ l. At tables (from + signs) (l ++ rest)) (x .numbers) at in
-      let f = at-first tables (from + signs) (x .tag) (x .number ∷ rest) there in
-      let g = at-first tables (from + signs + 1) (x .number) rest (f .after) in
-      step-plain tables by d left signs from (x .tag) (x .number) (omega (arith, f .inside)) (f .found) (g .found) (x .small)
-      ∙ ap₂ (λ l i. behind (signAt tables by from signs ++ l) (itemsFrom tables by d left signs (from + signs + i))) (sym (x .stored)) (sym (ap length (x .numbers)))
+      let there = rw (x .numbers) at at in
+      let f = at-first tables _ _ _ there in
+      let g = at-first tables _ _ rest (f .after) in
+      cc (step-plain tables by d left signs from (x .tag) (x .number) (omega (arith, f .inside)) (f .found) (g .found) (x .small), x .stored, x .numbers)
 
   deeper : (d : ℕ) → ltb 0 d ≡ true → d ≡ suc (d - 1)
   deeper d e = omega (arith, ltb-true 0 d e)
@@ -98,10 +82,7 @@ module _ (p : Part) (by : Shift) (joint : ℕ) (same : Moves p by joint) (tables
       let at₁ : At tables (from + 0) (l ++ (k ++ rest)) = subst (λ i. At tables i (l ++ (k ++ rest))) (sym (add-zero from)) (subst (At tables from) (append-assoc l k rest) at) in
       let at₂ : At tables (from + 0 + length l + 0) (k ++ rest) = subst (λ i. At tables i (k ++ rest)) (sym (add-zero (from + 0 + length l))) (at-back tables (from + 0) l (k ++ rest) at₁) in
       let end : from + 0 + length l + 0 + length k ≡ from + length (l ++ k) = omega (arith, length-append l k) in
-      wa d 1 0 from (k ++ rest) (and-left (nestedTerm d a) _ h) (omega arith) at₁
-      ∙ ap (behind (storedTerm joint (termIn p a))) (wb d 0 0 (from + 0 + length l) rest (and-right (nestedTerm d a) _ h) (omega arith) at₂)
-      ∙ ap (λ i. behind (storedTerm joint (termIn p a)) (behind (storedTerm joint (termIn p b)) i)) (items-end tables by d 0 (from + 0 + length l + 0 + length k))
-      ∙ ap₂ (λ u i. items (storedTerm joint (termIn p a) ++ u) i) (append-nil (storedTerm joint (termIn p b))) end
+      cc (wa d 1 0 from (k ++ rest) (and-left (nestedTerm d a) _ h) (omega arith) at₁, wb d 0 0 (from + 0 + length l) rest (and-right (nestedTerm d a) _ h) (omega arith) at₂, items-end tables by d 0 (from + 0 + length l + 0 + length k), append-nil (storedTerm joint (termIn p b)), end)
 
   -- a bracket or a comparison, by what it opens
   opening : (tag n : ℕ) (numbers stored : List ℕ) → 9 < tag → movedBy by tag n ≡ n → (d left signs from : ℕ) (rest : List ℕ) → ltb 0 d ≡ true → signs ≤ 1
@@ -115,10 +96,7 @@ module _ (p : Part) (by : Shift) (joint : ℕ) (same : Moves p by joint) (tables
       let place : from + signs + 1 + 1 ≡ from + signs + 2 = omega arith in
       let i = inside (from + signs + 2) (subst (λ j. At tables j (numbers ++ rest)) place (g .after)) in
       let end : from + signs + 2 + length numbers ≡ from + signs + suc (suc (length numbers)) = omega arith in
-      step-open tables by d left signs from tag n (omega (arith, f .inside)) (f .found) (g .found) (d - 1) (deeper d deep) large
-      ∙ ap (λ x. behind (signAt tables by from signs ++ (tag ∷ movedBy by tag n ∷ [])) (behind (x .numbers) (itemsFrom tables by d left signs (x .next)))) i
-      ∙ ap₂ (λ m j. behind (signAt tables by from signs ++ (tag ∷ m ∷ [])) (behind stored (itemsFrom tables by d left signs j))) plain end
-      ∙ ap (λ l. items l (itemsFrom tables by d left signs (from + signs + suc (suc (length numbers))) .next)) shuffle
+      cc (step-open tables by d left signs from tag n (omega (arith, f .inside)) (f .found) (g .found) (d - 1) (deeper d deep) large, i, plain, end, shuffle)
     where
       shuffle : (signAt tables by from signs ++ (tag ∷ n ∷ [])) ++ (stored ++ itemsFrom tables by d left signs (from + signs + suc (suc (length numbers))) .numbers)
           ≡ (signAt tables by from signs ++ (tag ∷ n ∷ stored)) ++ itemsFrom tables by d left signs (from + signs + suc (suc (length numbers))) .numbers
@@ -135,13 +113,11 @@ module _ (p : Part) (by : Shift) (joint : ℕ) (same : Moves p by joint) (tables
   signed-writes sign t e wt d we from rest ht he at =
       let l = termNumbers t in
       let k = signedTerms e in
-      let f = at-first tables from sign ((l ++ k) ++ rest) at in
-      let at₁ : At tables (from + 1) (l ++ (k ++ rest)) = subst (At tables (from + 1)) (append-assoc l k rest) (f .after) in
-      let at₂ : At tables (from + 1 + length l) (k ++ rest) = at-back tables (from + 1) l (k ++ rest) at₁ in
+      let f = at-first tables from sign _ at in
+      let at₁ = rw (append-assoc l k rest) at (f .after) in
+      let at₂ = at-back tables (from + 1) l _ at₁ in
       let end : from + 1 + length l + length k ≡ from + suc (length (l ++ k)) = omega (arith, length-append l k) in
-      wt d (terms e) 1 from (k ++ rest) ht (omega arith) at₁
-      ∙ ap (behind (getD tables from 0 ∷ storedTerm joint (termIn p t))) (we (from + 1 + length l) rest he at₂)
-      ∙ ap₂ (λ s i. items (s ∷ (storedTerm joint (termIn p t) ++ storedTerms joint (sumIn p e))) i) (sym (f .found)) end
+      rw (wt d (terms e) 1 from (k ++ rest) ht (omega arith) at₁, we (from + 1 + length l) rest he at₂, ← f .found, end)
 
   mutual
     unfolding nestedTerm termNumbers terms termIn storedTerm movedBy opened signsIn

@@ -1,14 +1,7 @@
 -- Document 02, item 13, over bytes: "If neither model uses the clock term, under edition 2 both or neither have an ENTER or LEAVE of more than 1 unit,
 -- and the joined run and each run alone end dry, then the records of either part, with blocks numbered as before and transactions by rank within
 -- the part, are those of that part alone." Proved in ../proofs/AsAlone.antt.
-use Prim.Native.Nat.{ℕ}
-use mathlib.Core.Path.{_≡_}
-use mathlib.Core.Bool.{false}
-use mathlib.Core.List.{List}
-use Rattle.machine.specs.Rules.{inForce}
-use Rattle.machine.specs.Block.{BlockModel}
-use Rattle.machine.specs.Trace.{Record}
-use Rattle.machine.specs.Validate.{accept, validate}
+use Rattle.machine.specs.All.{ℕ, _≡_, false, List, inForce, BlockModel, Record, accept, validate}
 use Rattle.joined.specs.Parts.{usesClock, SameUnits, Dry, Apart}
 use Rattle.join_laws.specs.Joining.{joined, join}
 

@@ -1,14 +1,6 @@
 -- Document 02, item 13, over bytes: "Answers: each model's, then its tape's own numbers, first pair first; then 61 editions differ or a joined
 -- count or the counter passes its limit; then 62 the output needs more bytes than were lent."
-use Prim.Native.Nat.{ℕ}
-use mathlib.Core.Path.{_≡_}
-use mathlib.Core.Bool.{cond, _&&_}
-use mathlib.Core.List.{List, _++_}
-use lib.Dec.{leb}
-use lib.ListN.{length}
-use Rattle.machine.specs.Rules.{inForce}
-use Rattle.machine.specs.Block.{BlockModel}
-use Rattle.machine.specs.Validate.{beginning, modelOf, Validation, accept, reject, withModel, validate}
+use Rattle.machine.specs.All.{ℕ, _≡_, cond, _&&_, List, _++_, leb, length, inForce, BlockModel, beginning, modelOf, Validation, accept, reject, withModel, validate}
 use Rattle.joined.specs.Join.{joinModels, joinTapes, joinable}
 use Rattle.join_laws.specs.Written.{modelBytes}
 

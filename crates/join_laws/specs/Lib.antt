@@ -4,3 +4,7 @@ pub mod Rows
 pub mod Whole
 pub mod AsAlone
 pub mod Examples
+unfoldable pub use Written.*
+unfoldable pub use Joining.*
+unfoldable pub use Rows.*
+unfoldable pub use Whole.*

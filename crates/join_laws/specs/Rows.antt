@@ -1,10 +1,5 @@
 -- The join as the code does it: the numbers of blocks and values in the tables, moved on by what they name, and written one after the other.
-use Prim.Native.Nat.{ℕ, zero, suc, _+_, _*_, _-_, _/_, _%_}
-use mathlib.Core.Path.{_≡_}
-use mathlib.Core.Bool.{cond}
-use mathlib.Core.List.{List, [], _∷_, _++_}
-use lib.Dec.{ltb, leb, eqb}
-use lib.ListN.{length, getD}
+use Rattle.machine.specs.All.{ℕ, zero, suc, _+_, _*_, _-_, _/_, _%_, _≡_, cond, List, [], _∷_, _++_, ltb, leb, eqb, length, getD}
 use Rattle.tables.specs.Layout as Layout
 use Rattle.codec.specs.Writing.{Written, put}
 use Rattle.join_laws.specs.declared.shift.Shift.{Shift}

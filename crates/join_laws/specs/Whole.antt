@@ -1,10 +1,5 @@
 -- The whole join as the code does it, from two headers and their tables.
-use Prim.Native.Nat.{ℕ, zero, suc, _+_, _≤_}
-use mathlib.Core.Path.{_≡_}
-use mathlib.Core.Bool.{Bool, true, cond, _&&_}
-use mathlib.Core.List.{List, [], _∷_, _++_}
-use lib.Dec.{leb, eqb}
-use lib.ListN.{length, getD, drop}
+use Rattle.machine.specs.All.{ℕ, zero, suc, _+_, _≤_, _≡_, Bool, true, cond, _&&_, List, [], _∷_, _++_, leb, eqb, length, getD, drop}
 use Rattle.machine.specs.Limits as Limits
 use Rattle.constants.specs.declared.model.Model.{Model}
 use Rattle.tables.specs.Layout as Layout

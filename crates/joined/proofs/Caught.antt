@@ -1,21 +1,9 @@
 -- The taking of a turn of the joined run, as a part sees it: one of its own is in hand, or one of the other part.
-use Prim.Native.Nat.{ℕ, suc}
-use mathlib.Core.Path.{_≡_, refl, sym, ap, _∙_, subst}
-use mathlib.Core.Bool.{Bool, true, false, true≢false, _&&_}
-use mathlib.Core.List.{List, [], _∷_}
-use mathlib.Core.Option.{Option, none, some}
-use Rattle.machine.specs.Transaction.{Transaction, Event}
-use Rattle.machine.specs.Block.{BlockModel}
-use Rattle.machine.specs.State.{State}
-use Rattle.machine.specs.Setters.{setMoving, setRel, setTurns}
-use Rattle.machine.specs.Turn.{nextEvents, takeFirst, taking, waitsOn}
-use Rattle.machine.specs.Run.{isNone, isEmpty, nobodyLeft}
-use Rattle.machine.specs.Claims.{Each}
-use Rattle.joined.specs.Join.{Part}
+use Rattle.machine.specs.All.{cases, ℕ, suc, _≡_, refl, sym, ap, _∙_, Bool, true, false, true≢false, _&&_, List, [], _∷_, Option, none, some, Transaction, Event, BlockModel, State, setMoving, setTurns, nextEvents, takeFirst, taking, waitsOn, isNone, isEmpty, nobodyLeft, Each}
+use Rattle.joined.specs.{Part}
 use Rattle.joined.proofs.Naming.{Naming, mine, Known}
 use Rattle.joined.proofs.Seen.{size, aloneAs, Seen}
 use Rattle.joined.proofs.Inside.{Inside}
-use Rattle.joined.proofs.OwnMoves.{Together}
 use Rattle.joined.proofs.OtherEffect.{other}
 use Rattle.joined.proofs.ClockMove.{moveClock-filled, moveClock-unmoved}
 use Rattle.joined.proofs.Turned.{Ready, asIs, clockMoved, readied, handed, hand, first-taken}
@@ -24,7 +12,7 @@ use Rattle.joined.proofs.Paces.{Moving, own, away, Clocked, level, rest
 -- ---- Whom a turn takes
 
 not-some : {A : Type 0} (t : Transaction) → none ≡ some t → A
-not-some t e = absurd (true≢false (ap blank e))
+not-some t e = absurd (true≢false (cc e))
   where
     blank : Option Transaction → Bool
     blank none = true
@@ -40,12 +28,12 @@ takings s e = go (s .moving) refl
   where
     filled : (o : Option Transaction) (l : List Transaction) (f : List Event) → (isNone o && isEmpty l && isEmpty f) ≡ false → o ≡ none → l ≡ [] → f ≡ [] → ⊥
     filled none [] [] e a b c = true≢false e
-    filled none [] (x ∷ f) e a b c = true≢false (ap has c)
+    filled none [] (x ∷ f) e a b c = true≢false (cc c)
       where
         has : List Event → Bool
         has [] = false
         has (x ∷ l) = true
-    filled none (x ∷ l) f e a b c = true≢false (ap has b)
+    filled none (x ∷ l) f e a b c = true≢false (cc b)
       where
         has : List Transaction → Bool
         has [] = false
@@ -53,7 +41,7 @@ takings s e = go (s .moving) refl
     filled (some t) l f e a b c = not-some t (sym a)
 
     empty-rel : s .moving ≡ none → (r : State) → Ready s r → r .rel ≡ [] → ⊥
-    empty-rel o r (asIs t l a) z = true≢false (ap has (sym a ∙ z))
+    empty-rel o r (asIs t l a) z = true≢false (cc (a, z))
       where
         has : List Transaction → Bool
         has [] = false
@@ -82,19 +70,17 @@ module _ (p : Part) (m M : BlockModel) (I : Inside p m M) where
         → Caught N t q a
 
   clocks-hand : (r b q : State) → q .view .clock ≡ r .view .clock → Clocked p m r b → Clocked p m q b
-  clocks-hand r b q e (level c) = level (c ∙ sym e)
+  clocks-hand r b q e (level c) = level (cc (c, e))
   clocks-hand r b q e (resting o z) = resting o z
 
   catch-first : (N : Naming) (r a : State) → Pace p m N r a → r .moving ≡ none → (t : Transaction) (l : List Transaction) → r .rel ≡ t ∷ l → (k : ℕ) → Caught N t (hand k t l r) a
-  catch-first N r a h o t l e k = go (mine p (size p m) t) refl
+  catch-first N r a h o t l e k =
+      cases (mine p (size p m) t)
+      (λ d. ours d (own-hand p m M I N r (h .seen-as) (h .seen) t l e k d a (h .stands) still (h .clocked)))
+      (λ d. theirs d (h .seen-as) (other-hand p m M I N r (h .seen-as) (h .seen) t l e k d) (h .stands) still (h .holding) (clocks-hand r (h .seen-as) (hand k t l r) refl (h .clocked)))
     where
       still : h .seen-as .moving ≡ none
       still = moving-none p m M I (h .moving) o
-
-      go : (b : Bool) → mine p (size p m) t ≡ b → Caught N t (hand k t l r) a
-      go true d = ours d (own-hand p m M I N r (h .seen-as) (h .seen) t l e k d a (h .stands) still (h .clocked))
-      go false d =
-          theirs d (h .seen-as) (other-hand p m M I N r (h .seen-as) (h .seen) t l e k d) (h .stands) still (h .holding) (clocks-hand r (h .seen-as) (hand k t l r) refl (h .clocked))
 
   -- a clock move lets nobody move
   events-still : (l : List Event) (a : State) → nextEvents l a .moving ≡ a .moving
@@ -106,13 +92,12 @@ module _ (p : Part) (m M : BlockModel) (I : Inside p m M) where
       → Takes p m M I N t (setMoving none (setTurns k s)) a
   unfolding taking
   takes-moving N s a b same h t q e clocked k =
-      let taken : taking (a .moving) a ≡ a = ap (λ (o : Option Transaction). taking o a) e in
+      let taken : taking (a .moving) a ≡ a = cc e in
       record {
         known = q;
-        takes = ap (λ (x : State). x .moving) taken ∙ e;
+        takes = cc (taken, e);
         together =
-            subst (λ (x : State). Together p m N (setMoving none (setTurns k s)) (setMoving none (setTurns (suc (a .turns)) x))) (sym taken)
-            (record {
+            rw taken (record {
               seen = record { counted = h .counted; fixtures = h .fixtures; lined = h .lined; listed = h .listed; told = h .told };
               clock = clocks clocked;
               still = (refl, refl);
@@ -121,11 +106,11 @@ module _ (p : Part) (m M : BlockModel) (I : Inside p m M) where
     where
       clocks : Clocked p m s a → a .view .clock ≡ s .view .clock
       clocks (level c) = c
-      clocks (resting o z) = not-some (aloneAs p m N t) (sym o ∙ e)
-  takes-moving N s a b (behind o z n) h t q e clocked k = not-some (aloneAs p m N t) (sym o ∙ sym (events-still (a .fel) a) ∙ e)
+      clocks (resting o z) = cc
+  takes-moving N s a b (behind o z n) h t q e clocked k = not-some (aloneAs p m N t) (cc (o, events-still (a .fel) a, e))
 
   catch-moving : (N : Naming) (s a : State) → Pace p m N s a → (t : Transaction) → s .moving ≡ some t → (k : ℕ) → Caught N t (setMoving none (setTurns k s)) a
-  catch-moving N s a h t e k = go (subst (λ (o : Option Transaction). Moving p m N o (h .seen-as .moving)) e (h .moving)) refl
+  catch-moving N s a h t e k = go (rw e at (h .moving)) refl
     where
       go : {o′ : Option Transaction} → Moving p m N (some t) o′ → h .seen-as .moving ≡ o′ → Caught N t (setMoving none (setTurns k s)) a
       go (own u q) d = ours (q .own) (takes-moving N s a (h .seen-as) (h .stands) (h .seen) t q d (h .clocked) k)
@@ -148,7 +133,7 @@ module _ (p : Part) (m M : BlockModel) (I : Inside p m M) where
       record {
         naming = N;
         caught =
-            subst (λ (x : State). Caught N t (setMoving none (setTurns (suc (s .turns)) x)) a) (sym (ap (λ (o : Option Transaction). taking o s) e)) (catch-moving N s a h t e (suc (s .turns)));
+            rw e (catch-moving N s a h t e (suc (s .turns)));
         numbers = λ k a. refl;
         since = refl;
       }
@@ -157,12 +142,11 @@ module _ (p : Part) (m M : BlockModel) (I : Inside p m M) where
       → (t : Transaction) (l : List Transaction) → r .rel ≡ t ∷ l → Catch N t s a
   catch-ready N s a h r ready taken o t l e =
       let ahead = ready-pace p m M I N s a r h o ready in
-      let all : taking (s .moving) s ≡ setMoving (some t) (setRel l r) = ap (λ (x : Option Transaction). taking x s) o ∙ taken ∙ first-taken t l r e in
+      let all = ap (λ (x : Option Transaction). taking x s) o ∙ taken ∙ first-taken t l r e in
       record {
         naming = ahead .0 .naming;
         caught =
-            subst (λ (x : State). Caught (ahead .0 .naming) t (setMoving none (setTurns (suc (s .turns)) x)) a) (sym all)
-            (catch-first (ahead .0 .naming) r a (ahead .0 .pace) (ahead .1) t l e (suc (s .turns)));
+            rw all (catch-first (ahead .0 .naming) r a (ahead .0 .pace) (ahead .1) t l e (suc (s .turns)));
         numbers = ahead .0 .numbers;
         since = ahead .0 .since;
       }
@@ -170,7 +154,7 @@ module _ (p : Part) (m M : BlockModel) (I : Inside p m M) where
   -- who is taken
   pub taken-moves : (s : State) (t : Transaction) → s .moving ≡ some t → taking (s .moving) s .moving ≡ some t
   unfolding taking
-  taken-moves s t e = ap (λ (o : Option Transaction). taking o s .moving) e ∙ e
+  taken-moves s t e = cc
 
   pub taken-first : (s r : State) → taking none s ≡ takeFirst (r .rel) r → s .moving ≡ none → (t : Transaction) (l : List Transaction) → r .rel ≡ t ∷ l → taking (s .moving) s .moving ≡ some t
-  taken-first s r taken o t l e = ap (λ (x : State). x .moving) (ap (λ (x : Option Transaction). taking x s) o ∙ taken ∙ first-taken t l r e)
+  taken-first s r taken o t l e = cc (o, taken, first-taken t l r e)

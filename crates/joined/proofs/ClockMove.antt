@@ -1,33 +1,15 @@
 -- A clock move of the joined run: of a part that has events due it is that part's clock move, and others see nothing of it.
-use Prim.Native.Nat.{ℕ, zero, suc, _-_, _≤_, _<_}
-use mathlib.Core.Path.{_≡_, refl, sym, ap, _∙_, subst}
-use mathlib.Core.Bool.{Bool, true, false, cond, not, true≢false}
-use mathlib.Core.List.{List, [], _∷_, map}
-use mathlib.Core.Option.{none}
-use native.Mathlib.Omega.{arith}
-use lib.Dec.{eqb}
-use lib.ListN.{length, getD, length-map}
-use borrow.Author.Tests.{eqb-true, eqb-false, eq-eqb, ne-eqb}
-use Rattle.machine.specs.Transaction.{Transaction, precedes, Event, earlier}
-use Rattle.machine.specs.Lists.{insert, those, others}
-use Rattle.machine.specs.Term.{Server, Queue, idleServer, emptyQueue, View}
-use Rattle.machine.specs.Block.{BlockModel}
-use Rattle.machine.specs.State.{State}
-use Rattle.machine.specs.Setters.{withReturning, withSerial, setClock, setView, setFel}
-use Rattle.machine.specs.Moves.{fresh, toRel}
-use Rattle.machine.specs.Turn.{sampleServers, sampleQueue, sample, arriveAll, due, moveClock, nextEvents}
-use Rattle.machine.specs.Claims.{Each}
+use Rattle.machine.specs.All.{cases, ℕ, zero, suc, _-_, _≤_, _<_, _≡_, refl, sym, ap, _∙_, Bool, true, false, cond, not, true≢false, List, [], _∷_, map, none, arith, eqb, length, getD, length-map, eqb-true, eqb-false, eq-eqb, ne-eqb, Transaction, precedes, Event, earlier, insert, those, others, Server, Queue, idleServer, emptyQueue, View, BlockModel, State, withReturning, withSerial, setClock, setView, setFel, fresh, toRel, sampleServers, sampleQueue, sample, arriveAll, due, moveClock, nextEvents, Each}
 use Rattle.machine.proofs.decoding.Proper.{servers}
 use Rattle.machine.proofs.runs.RunLaws.{each-map}
 use Rattle.machine.proofs.lists.Sorted.{Sorted, each-those, sorted-those, later-time}
-use Rattle.joined.specs.Join.{Part}
+use Rattle.joined.specs.{Part}
 use Rattle.joined.proofs.Lists.{strictly, all-same, those-map, those-those, those-none, those-all, those-insert-other, sorted-insert, by-precedence, map-same}
 use Rattle.joined.proofs.Naming.{Naming, mine, Known, eventAs}
-use Rattle.joined.proofs.Seen.{size, Tables, serverThere, queueThere, here, aloneAs, Alike, SameServer, Fixtures, Seen}
+use Rattle.joined.proofs.Seen.{size, Tables, serverThere, queueThere, here, SameServer, Fixtures, Seen}
 use Rattle.joined.proofs.Renaming.{serial-other}
 use Rattle.joined.proofs.OwnMoves.{Together}
 use Rattle.joined.proofs.OwnMakes.{After, after-here, after-then, toRel-after}
-use Rattle.joined.proofs.Ranks.{Named, rankIn}
 
 -- ---- Statistics are not seen
 
@@ -51,7 +33,7 @@ sampled-length : (k : ℕ) (l : List Server) (q : List (List Transaction)) → l
 unfolding sampleServers
 sampled-length k [] q = refl
 sampled-length k (v ∷ l) [] = refl
-sampled-length k (v ∷ l) (x ∷ q) = ap suc (sampled-length k l q)
+sampled-length k (v ∷ l) (x ∷ q) = cc (sampled-length k l q)
 
 sampled-content : (k : ℕ) (l : List Queue) (i : ℕ) → getD (map (sampleQueue k) l) i emptyQueue .content ≡ getD l i emptyQueue .content
 unfolding sampleQueue emptyQueue
@@ -63,20 +45,16 @@ sampled-content k (q ∷ l) (suc i) = sampled-content k l i
 
 insert-filled : {A : Type 0} (before : A → A → Bool) (x : A) (l : List A) → insert before x l ≡ [] → ⊥
 unfolding insert
-insert-filled {A} before x [] e = true≢false (ap filled e)
+insert-filled {A} before x [] e = true≢false (cc e)
   where
     filled : List A → Bool
     filled [] = false
     filled (x ∷ l) = true
-insert-filled {A} before x (y ∷ l) e = go (before x y) e
+insert-filled {A} before x (y ∷ l) e = cases (before x y) (λ z. true≢false (cc e)) (λ z. true≢false (cc e))
   where
     filled : List A → Bool
     filled [] = false
     filled (x ∷ l) = true
-
-    go : (b : Bool) → cond b (x ∷ y ∷ l) (y ∷ insert before x l) ≡ [] → ⊥
-    go true e = true≢false (ap filled e)
-    go false e = true≢false (ap filled e)
 
 arriveAll-filled : (l : List Event) (s : State) → (s .rel ≡ [] → ⊥) → arriveAll l s .rel ≡ [] → ⊥
 unfolding arriveAll toRel
@@ -86,13 +64,10 @@ arriveAll-filled (x ∷ l) s h e = arriveAll-filled l (toRel (withReturning fals
 pub moveClock-filled : (time : ℕ) (s : State) (x : Event) (l : List Event) → s .fel ≡ x ∷ l → x .time ≡ time → moveClock time s .rel ≡ [] → ⊥
 unfolding moveClock arriveAll those due toRel
 moveClock-filled time s x l f t e =
-    arriveAll-filled (those (due time) l) (toRel (withReturning false (x .who)) b) (insert-filled precedes _ _) (subst (λ (k : List Event). arriveAll k b .rel ≡ []) first e)
+    arriveAll-filled (those (due time) l) (toRel (withReturning false (x .who)) (setFel (others (due time) (s .fel)) (setView (setClock time (sample (time - s .view .clock) s .view)) s))) (insert-filled precedes _ _) (rw first at e)
   where
-    b : State
-    b = setFel (others (due time) (s .fel)) (setView (setClock time (sample (time - s .view .clock) s .view)) s)
-
     first : those (due time) (s .fel) ≡ x ∷ those (due time) l
-    first = ap (those (due time)) f ∙ ap (λ (c : Bool). cond c (x ∷ those (due time) l) (those (due time) l)) (eq-eqb (x .time) time t)
+    first = cc (f, eq-eqb (x .time) time t)
 
 -- a view with its clock moved
 abbrev pub moved : ℕ → List (List Transaction) → View → View
@@ -113,12 +88,12 @@ module _ (p : Part) (m : BlockModel) (N : Naming) where
         entries = h .entries;
         queues =
             record {
-              exists = λ i k. (subst (λ (n : ℕ). queueThere p m i < n) (sym (length-map (w .queues) (sampleQueue _))) (h .queues .exists i k .0), h .queues .exists i k .1);
-              alike = λ i k. h .queues .alike i k ∙ sym (sampled-content _ (w .queues) (queueThere p m i));
+              exists = λ i k. (rw (length-map (w .queues) (sampleQueue _)) (h .queues .exists i k .0), h .queues .exists i k .1);
+              alike = λ i k. cc (h .queues .alike i k, sampled-content _ (w .queues) (queueThere p m i));
             };
         servers =
             record {
-              exists = λ i k. (subst (λ (n : ℕ). serverThere p m i < n) (sym (sampled-length _ (w .servers) ql)) (h .servers .exists i k .0), h .servers .exists i k .1);
+              exists = λ i k. (rw (sampled-length _ (w .servers) ql) (h .servers .exists i k .0), h .servers .exists i k .1);
               alike = λ i k. there (sampled _ (w .servers) ql (serverThere p m i) (idleServer 0)) (h .servers .alike i k);
             };
         lists = h .lists;
@@ -127,11 +102,11 @@ module _ (p : Part) (m : BlockModel) (N : Naming) where
       there : {u v v′ : Server} → Likewise u v → SameServer p m N v v′ → SameServer p m N u v′
       there {u} {v} {v′} l k =
           record {
-            capacity = k .capacity ∙ sym (l .capacity);
-            inUse = k .inUse ∙ sym (l .inUse);
-            holder = k .holder ∙ ap (rankIn (N .numbers)) (sym (l .holder));
-            preempted = k .preempted ∙ sym (l .preempted);
-            holder-named = subst (Named (N .numbers)) (sym (l .holder)) (k .holder-named);
+            capacity = cc (k .capacity, l .capacity);
+            inUse = cc (k .inUse, l .inUse);
+            holder = cc (k .holder, l .holder);
+            preempted = cc (k .preempted, l .preempted);
+            holder-named = rw (l .holder) (k .holder-named);
           }
 
   -- in the part's own
@@ -142,12 +117,12 @@ module _ (p : Part) (m : BlockModel) (N : Naming) where
         entries = h .entries;
         queues =
             record {
-              exists = λ i k. (h .queues .exists i k .0, subst (λ (n : ℕ). here p m i < n) (sym (length-map (w′ .queues) (sampleQueue _))) (h .queues .exists i k .1));
+              exists = λ i k. (h .queues .exists i k .0, rw (length-map (w′ .queues) (sampleQueue _)) (h .queues .exists i k .1));
               alike = λ i k. sampled-content _ (w′ .queues) (here p m i) ∙ h .queues .alike i k;
             };
         servers =
             record {
-              exists = λ i k. (h .servers .exists i k .0, subst (λ (n : ℕ). here p m i < n) (sym (sampled-length _ (w′ .servers) ql)) (h .servers .exists i k .1));
+              exists = λ i k. (h .servers .exists i k .0, rw (sampled-length _ (w′ .servers) ql) (h .servers .exists i k .1));
               alike = λ i k. own (sampled _ (w′ .servers) ql (here p m i) (idleServer 0)) (h .servers .alike i k);
             };
         lists = h .lists;
@@ -185,8 +160,7 @@ module _ (p : Part) (m : BlockModel) (T : Tables p m) where
               rel =
                   record {
                     part =
-                        subst (λ (r : List Transaction). Alike p m N (aloneAs p m N) (λ t. t) r (s′ .rel))
-                        (sym (those-insert-other (mine p (size p m)) precedes (withSerial (fresh s) t) (s .rel) e)) (l .rel .part);
+                        rw (those-insert-other (mine p (size p m)) precedes (withSerial (fresh s) t) (s .rel) e) (l .rel .part);
                     sorted = sorted-insert precedes by-precedence (withSerial (fresh s) t) (s .rel) (l .rel .sorted);
                   };
               fel = l .fel;
@@ -195,10 +169,6 @@ module _ (p : Part) (m : BlockModel) (T : Tables p m) where
             };
         told = k .told;
       }
-
-  arrives-other : (N : Naming) (s s′ : State) → Together p m N s s′ → (t : Transaction) → mine p (size p m) t ≡ false → Together p m N (toRel t s) s′
-  unfolding toRel
-  arrives-other N s s′ h t e = record { seen = arrives-seen N s s′ (h .seen) t e; clock = h .clock; still = h .still }
 
   arriveAll-seen : (l : List Event) (N : Naming) (s s′ : State) → Each (λ e. ours? e ≡ false) l → Seen p m N s s′ → Seen p m N (arriveAll l s) s′
   unfolding arriveAll
@@ -223,15 +193,14 @@ module _ (p : Part) (m : BlockModel) (T : Tables p m) where
       go true d k more =
           let a = toRel-after p m T N s s′ h (withReturning false (e .who)) (record { own = k .0 .own; number = k .0 .number; family = k .0 .family }) in
           after-then p m a
-          (subst (λ (r : List Event). After p m (a .naming) (arriveAll l (toRel (withReturning false (e .who)) s)) (arriveAll r (toRel (withReturning false (aloneAs p m N (e .who))) s′)))
-          (same a (k .1)) (more (a .naming) _ _ (a .together) (each-map (λ (x : Event) q. a .keeps .known (x .who) q) (those ours? l) (k .1))))
+          (rw (same a (k .1)) at (more (a .naming) _ _ (a .together) (each-map (λ (x : Event) q. a .keeps .known (x .who) q) (those ours? l) (k .1))))
         where
           same : {r r′ : State} (a : After p m N r r′) → Each (λ e. Known p (size p m) N (e .who)) (those ours? l)
               → map (eventAs p (size p m) (a .naming)) (those ours? l) ≡ map (eventAs p (size p m) N) (those ours? l)
           same a q =
               map-same (eventAs p (size p m) (a .naming)) (eventAs p (size p m) N) (those ours? l)
-              (each-map (λ (x : Event) c. ap {B = Event} (λ (u : Transaction). record { time = x .time; who = u }) (sym (a .keeps .same (x .who) c))) (those ours? l) q)
-      go false d k more = more N _ _ (arrives-other N s s′ h (withReturning false (e .who)) d) k
+              (each-map (λ x c. cc (a .keeps .same (x .who) c)) (those ours? l) q)
+      go false d k more = more N _ _ (unfold toRel in record { seen = arrives-seen N s s′ (h .seen) (withReturning false (e .who)) d; clock = h .clock; still = h .still }) k
 
   -- ---- The clock moves
 
@@ -241,7 +210,7 @@ module _ (p : Part) (m : BlockModel) (T : Tables p m) where
   none-of q (e ∷ l) h = go (q e) refl h (none-of q l)
     where
       go : (b : Bool) → q e ≡ b → cond b (e ∷ those q l) (those q l) ≡ [] → (those q l ≡ [] → Each (λ e. q e ≡ false) l) → (q e ≡ false) × Each (λ e. q e ≡ false) l
-      go true d k more = absurd (true≢false (ap filled k))
+      go true d k more = absurd (true≢false (cc k))
         where
           filled : List Event → Bool
           filled [] = false
@@ -262,32 +231,21 @@ module _ (p : Part) (m : BlockModel) (T : Tables p m) where
     -- those due, and the FEL without them
     pub due-now : those (due time) (s′ .fel) ≡ map asEvent (those ours? (those (due time) (s .fel)))
     due-now =
-        ap (those (due time)) (h .listed .fel .part .same)
-        ∙ those-map asEvent (due time) (due time) (those ours? (s .fel)) (all-same (λ (e : Event). due time (asEvent e) ≡ due time e) (due-seen N time) (those ours? (s .fel)))
-        ∙ ap (map asEvent) (sym (those-those ours? (due time) (s .fel)))
-
-    known-now : Each (λ e. Known p (size p m) N (e .who)) (those ours? (those (due time) (s .fel)))
-    known-now =
-        subst (Each (λ (e : Event). Known p (size p m) N (e .who))) (sym (those-those ours? (due time) (s .fel)))
-        (each-those (λ (e : Event). Known p (size p m) N (e .who)) (due time) (those ours? (s .fel)) (h .listed .fel .part .known))
+        cc (h .listed .fel .part .same, those-map asEvent (due time) (due time) (those ours? (s .fel)) (all-same (λ (e : Event). due time (asEvent e) ≡ due time e) (due-seen N time) (those ours? (s .fel))), those-those ours? (due time) (s .fel))
 
     later-known : Each (λ e. Known p (size p m) N (e .who)) (those ours? (others (due time) (s .fel)))
     later-known =
-        subst (Each (λ (e : Event). Known p (size p m) N (e .who))) (sym (those-those ours? later (s .fel)))
-        (each-those (λ (e : Event). Known p (size p m) N (e .who)) later (those ours? (s .fel)) (h .listed .fel .part .known))
+        rw (those-those ours? later (s .fel)) (each-those (λ (e : Event). Known p (size p m) N (e .who)) later (those ours? (s .fel)) (h .listed .fel .part .known))
 
     later-seen : others (due time) (s′ .fel) ≡ map asEvent (those ours? (others (due time) (s .fel)))
     later-seen =
-        ap (others (due time)) (h .listed .fel .part .same)
-        ∙ those-map asEvent later later (those ours? (s .fel)) (all-same (λ (e : Event). later (asEvent e) ≡ later e) (λ e. ap not (due-seen N time e)) (those ours? (s .fel)))
-        ∙ ap (map asEvent) (sym (those-those ours? later (s .fel)))
+        cc (h .listed .fel .part .same, those-map asEvent later later (those ours? (s .fel)) (all-same (λ (e : Event). later (asEvent e) ≡ later e) (λ e. ap not (due-seen N time e)) (those ours? (s .fel))), those-those ours? later (s .fel))
 
     -- on both sides
     pub moveClock-own : s .moving ≡ none → s′ .moving ≡ none → After p m N (moveClock time s) (moveClock time s′)
     unfolding moveClock sample
     moveClock-own o o′ =
-        subst (λ (l : List Event). After p m N (moveClock time s) (arriveAll l (setFel (others (due time) (s′ .fel)) (setView (moved time (s′ .ql) (s′ .view)) s′)))) (sym due-now)
-        (arriveAll-own (those (due time) (s .fel)) N _ _
+        rw due-now (arriveAll-own (those (due time) (s .fel)) N _ _
         (record {
           seen =
               record {
@@ -306,7 +264,7 @@ module _ (p : Part) (m : BlockModel) (T : Tables p m) where
               };
           clock = refl;
           still = (o, o′);
-        }) known-now)
+        }) (rw (those-those ours? (due time) (s .fel)) (each-those (λ (e : Event). Known p (size p m) N (e .who)) (due time) (those ours? (s .fel)) (h .listed .fel .part .known))))
 
     -- nothing of the part is due
     pub moveClock-other : those ours? (those (due time) (s .fel)) ≡ [] → Seen p m N (moveClock time s) s′
@@ -321,15 +279,12 @@ module _ (p : Part) (m : BlockModel) (T : Tables p m) where
               record {
                 wsl = h .listed .wsl;
                 rel = h .listed .rel;
-                fel = record { part = record { same = sym (all-later (s′ .fel) (due-now ∙ ap (map asEvent) e)) ∙ later-seen; known = later-known }; sorted = sorted-those earlier later (s .fel) (h .listed .fel .sorted) };
+                fel = record { part = record { same = sym (those-all later (s′ .fel) (each-map (λ x q. cc q) (s′ .fel) (none-of (due time) (s′ .fel) (cc (due-now, e))))) ∙ later-seen; known = later-known }; sorted = sorted-those earlier later (s .fel) (h .listed .fel .sorted) };
                 interrupted = h .listed .interrupted;
                 facilities = h .listed .facilities;
               };
           told = h .told;
         })
-      where
-        all-later : (l : List Event) → those (due time) l ≡ [] → others (due time) l ≡ l
-        all-later l d = those-all later l (each-map (λ x q. ap not q) l (none-of (due time) l d))
 
   -- ---- Is anything of the part due?
 
@@ -348,38 +303,34 @@ module _ (p : Part) (m : BlockModel) (T : Tables p m) where
       first : (x : Event) → earlier x e ≡ false → e .time ≤ x .time
       first x d = later-time x e d
 
-      all : Each (λ x. e .time ≤ x .time) (s .fel)
-      all =
-          let sorted : Sorted earlier (e ∷ l) = subst (Sorted earlier) k (h .listed .fel .sorted) in
-          subst (Each (λ (x : Event). e .time ≤ x .time)) (sym k) (omega arith, each-map first l (sorted .0))
-
       go : (r : List Event) → those ours? (s .fel) ≡ r → Due s s′ (e .time)
-      go [] d = notYet (those-those ours? (due (e .time)) (s .fel) ∙ ap (those (due (e .time))) d ∙ none)
+      go [] d = notYet (cc (those-those ours? (due (e .time)) (s .fel), d, none))
         where
           none : those (due (e .time)) [] ≡ []
           none = those-none (due (e .time)) [] tt
       go (x ∷ r) d = either (eqb (x .time) (e .time)) refl
         where
           fel′ : s′ .fel ≡ map (eventAs p (size p m) N) (x ∷ r)
-          fel′ = h .listed .fel .part .same ∙ ap (map (eventAs p (size p m) N)) d
+          fel′ = cc
 
           ours-sorted : Sorted earlier (x ∷ r)
-          ours-sorted = subst (Sorted earlier) d (sorted-those earlier ours? (s .fel) (h .listed .fel .sorted))
+          ours-sorted = rw d at (sorted-those earlier ours? (s .fel) (h .listed .fel .sorted))
 
           ours-later : Each (λ y. e .time ≤ y .time) (x ∷ r)
-          ours-later = subst (Each (λ (y : Event). e .time ≤ y .time)) d (each-those (λ (y : Event). e .time ≤ y .time) ours? (s .fel) all)
+          ours-later = rw d at (each-those (λ (y : Event). e .time ≤ y .time) ours? (s .fel) (let sorted = rw k at (h .listed .fel .sorted) in
+              rw k (omega arith, each-map first l (sorted .0))))
 
           never : (x .time ≡ e .time → ⊥) → Each (λ y. due (e .time) y ≡ false) (x ∷ r)
           never n =
-              let lt : e .time < x .time = strictly (e .time) (x .time) (ours-later .0) (λ q. n (sym q)) in
-              (not-due (e .time) x lt, each-map (λ y q. not-due (e .time) y (omega (arith, later-time y x q))) r (ours-sorted .0))
+              let lt = strictly (e .time) (x .time) (ours-later .0) (λ q. n (sym q)) in
+              (not-due (e .time) x lt, each-map (λ y q. not-due (e .time) y (omega (arith, later-time))) r (ours-sorted .0))
 
           either : (b : Bool) → eqb (x .time) (e .time) ≡ b → Due s s′ (e .time)
           either true q =
-              now (ap (λ (f : List Event). nextEvents f s′) fel′ ∙ ap (λ (n : ℕ). moveClock n s′) (eqb-true (x .time) (e .time) q))
+              now (cc (fel′, eqb-true (x .time) (e .time) q))
               (moveClock-filled (e .time) s′ (eventAs p (size p m) N x) (map (eventAs p (size p m) N) r) fel′ (eqb-true (x .time) (e .time) q))
           either false q =
-              notYet (those-those ours? (due (e .time)) (s .fel) ∙ ap (those (due (e .time))) d ∙ those-none (due (e .time)) (x ∷ r) (never (eqb-false (x .time) (e .time) q)))
+              notYet (cc (those-those ours? (due (e .time)) (s .fel), d, those-none (due (e .time)) (x ∷ r) (never (eqb-false (x .time) (e .time) q))))
 
 -- ---- What a clock move leaves as it was
 

@@ -1,22 +1,5 @@
 -- No turn ends a run dry: end 1 comes before a turn alone. So a run that ends dry has no other end anywhere.
-use Prim.Native.Nat.{ℕ, zero, suc, _+_}
-use mathlib.Core.Path.{_≡_, refl, sym, ap, _∙_}
-use mathlib.Core.Bool.{Bool, true, false, not, _&&_, _||_}
-use mathlib.Core.List.{List, [], _∷_}
-use mathlib.Core.Option.{Option, none, some}
-use native.Mathlib.Omega.{arith}
-use lib.Dec.{leb, eqb}
-use borrow.Author.Tests.{eqb-true, eqb-false}
-use Rattle.machine.specs.Limits.{maxLiving}
-use Rattle.machine.specs.Transaction.{Transaction, Event, Gatherer, Interrupted}
-use Rattle.machine.specs.Term.{serverAt, queueAt, free}
-use Rattle.machine.specs.Block.{Share, facility, storage, shareServer, shareUnits, shareHolder, Change, up, down, Block, generate, advance, terminate, takes, frees, waitServer, waitTerms, moves, assign, priority, split, counts, assemble, preempt, giveBack, BlockModel, blockAt}
-use Rattle.machine.specs.State.{State}
-use Rattle.machine.specs.Setters.{setMoving, setTurns, setEnd}
-use Rattle.machine.specs.Moves.{log, enters, moveTo, toRel, toFel, toQl, toWel, toWsl, mustWait, wakeQl, wakeFirstWel, wakeWsl, setUse, setHolder, setContent, timesLeft, arrival, copies, waitsFor, toGatherers, comes, released, interruptedAt, interrupt, resume}
-use Rattle.machine.specs.Execute.{unless, living, askGenerate, askAdvance, askContent, askHolder, held, askGathers, askResume, askGivesBack, question, checkWels, wakeFor, freeUnits, endsOne, delay, takeUnits, effect}
-use Rattle.machine.specs.Turn.{nextEvents, takeFirst, takeReady, taking, answer, execute, turn}
-use Rattle.machine.specs.Run.{endBefore, nobodyLeft, runFrom}
+use Rattle.machine.specs.All.{cases, ℕ, zero, suc, _+_, _≡_, refl, sym, ap, _∙_, Bool, true, false, not, _&&_, _||_, List, [], _∷_, Option, none, some, arith, leb, eqb, eqb-true, eqb-false, maxLiving, Transaction, Event, Gatherer, Interrupted, serverAt, queueAt, free, Share, facility, storage, shareServer, shareUnits, shareHolder, Change, up, down, Block, generate, advance, terminate, takes, frees, waitServer, waitTerms, moves, assign, priority, split, counts, assemble, preempt, giveBack, BlockModel, blockAt, State, setMoving, setTurns, setEnd, log, enters, moveTo, toRel, toFel, toQl, toWel, toWsl, mustWait, wakeQl, wakeFirstWel, wakeWsl, setUse, setHolder, setContent, timesLeft, arrival, copies, waitsFor, toGatherers, comes, released, interruptedAt, interrupt, resume, unless, living, askGenerate, askAdvance, askContent, askHolder, held, askGathers, askResume, askGivesBack, question, checkWels, wakeFor, freeUnits, endsOne, delay, takeUnits, effect, nextEvents, takeFirst, takeReady, taking, answer, execute, turn, endBefore, nobodyLeft, runFrom}
 use Rattle.machine.proofs.runs.RunLaws.{cond-cases, Before, before, taken, own, closing, run-on, run-off}
 use Rattle.machine.proofs.lists.Cases.{checkWels-kept, waitServer-cases, waitTerms-cases, assemble-cases, preempt-cases, giveBack-cases, wsScheme-cases}
 use Rattle.joined.proofs.ClockMove.{moveClock-unmoved}
@@ -70,12 +53,6 @@ unfolding askResume
 ask-resume m [] s = none-of
 ask-resume m (i ∷ l) s = unless-not (leb (s .view .clock + i .remaining) (m .rules .maxClock)) 22 0 far none-of
 
-ask-givesBack : (m : BlockModel) (f : ℕ) (t : Transaction) (s : State) → Not1 (askGivesBack m f t s)
-unfolding askGivesBack
-ask-givesBack m f t s =
-    unless-not (leb 1 (serverAt (s .view) f .inUse)) 24 _ far
-    (unless-not (serverAt (s .view) f .preempted && eqb (serverAt (s .view) f .holder) (t .number)) 27 _ far (ask-resume m (interruptedAt s f) s))
-
 asks : (m : BlockModel) (b : Block) (t : Transaction) (s : State) → Not1 (question m b t s)
 unfolding question
 asks m (generate list p) t s = ask-generate m (timesLeft s list) s
@@ -92,7 +69,8 @@ asks m (split n target) t s = unless-not (leb (living s + n) maxLiving) 21 0 far
 asks m (counts c q) t s = ask-content c (queueAt (s .view) q .content)
 asks m (assemble n) t s = ask-gathers m (waitsFor t s) t s
 asks m (preempt f) t s = none-of
-asks m (giveBack f) t s = ask-givesBack m f t s
+asks m (giveBack f) t s = unfold askGivesBack in unless-not (leb 1 (serverAt (s .view) f .inUse)) 24 _ far
+    (unless-not (serverAt (s .view) f .preempted && eqb (serverAt (s .view) f .holder) (t .number)) 27 _ far (ask-resume m (interruptedAt s f) s))
 
 -- ---- Blocks
 
@@ -158,7 +136,7 @@ first-going (t ∷ l) s h = h
 events-going : (l : List Event) (s : State) → Going s → Going (nextEvents l s)
 unfolding nextEvents
 events-going [] s h = h
-events-going (e ∷ l) s h = λ q. h (sym (moveClock-unmoved (e .time) s .end) ∙ q)
+events-going (e ∷ l) s h = λ q. h (cc (moveClock-unmoved (e .time) s .end, q))
 
 ready-going : (l : List Transaction) (s : State) → Going s → Going (takeReady l s)
 unfolding takeReady
@@ -183,9 +161,9 @@ execute-going (some t) m s h = answer-going _ (asks m (blockAt m (t .next)) t s)
 pub turn-going : (m : BlockModel) (s : State) → s .end ≡ 0 → turn m s .end ≡ 1 → ⊥
 unfolding turn wakeWsl
 turn-going m s e =
-    let r : State = setTurns (suc (s .turns)) (taking (s .moving) s) in
-    let h : Going r = taking-going (s .moving) s (λ q. omega arith) in
-    let x : Going (execute (r .moving) m r) = execute-going (r .moving) m r h in
+    let r = setTurns (suc (s .turns)) (taking (s .moving) s) in
+    let h = taking-going (s .moving) s (λ q. omega arith) in
+    let x = execute-going (r .moving) m r h in
     wsScheme-cases Going m (execute (r .moving) m r) (λ q. x) (λ q. x)
 
 -- ---- A run that ends dry
@@ -200,21 +178,19 @@ module _ (m : BlockModel) (budget room : ℕ) where
   no-end : (k : ℕ) (x : State) → Not1 (x .end) → runFrom k m budget room x .end ≡ 1 → x .end ≡ 0
   unfolding runFrom
   no-end zero x h z = absurd (h z)
-  no-end (suc k) x h z = go (eqb (x .end) 0) refl
+  no-end (suc k) x h z =
+      cases (eqb (x .end) 0)
+      (λ e. eqb-true _ _ e)
+      (λ e. let n = eqb-false _ _ e in
+      absurd (h (cc (stops n, run-off m budget room k x (λ q. n (sym (stops n) ∙ q)), z))))
     where
       stops : (x .end ≡ 0 → ⊥) → endBefore budget room x ≡ x .end
       stops n = found (before budget room x)
         where
           found : {e : ℕ} → Before budget room x e → e ≡ x .end
-          found (taken t) = absurd (n (t .no-end))
+          found (taken t) = cc
           found (own o) = refl
           found (closing c) = absurd (n (c .no-end))
-
-      go : (b : Bool) → eqb (x .end) 0 ≡ b → x .end ≡ 0
-      go true e = eqb-true _ _ e
-      go false e =
-          let n : (x .end ≡ 0 → ⊥) = eqb-false _ _ e in
-          absurd (h (sym (stops n) ∙ sym (ap (λ (r : State). r .end) (run-off m budget room k x (λ q. n (sym (stops n) ∙ q)))) ∙ z))
 
   pub dries : (k : ℕ) (s : State) → s .end ≡ 0 → runFrom k m budget room s .end ≡ 1 → Dries s k
   unfolding runFrom
@@ -227,7 +203,7 @@ module _ (m : BlockModel) (budget room : ℕ) where
           turns (t .somebody) (no-end k (turn m s) (turn-going m s e) (ap (λ (r : State). r .end) (sym on) ∙ z)) on
       go (own o) q = absurd (o e)
       go (closing {e = n} c) q =
-          let off : runFrom (suc k) m budget room s ≡ setEnd (suc n) s = run-off m budget room k s (λ d. nonzero (sym q ∙ d)) ∙ ap (λ (i : ℕ). setEnd i s) q in
+          let off = run-off m budget room k s (λ d. nonzero (sym q ∙ d)) ∙ ap (λ (i : ℕ). setEnd i s) q in
           let one : suc n ≡ 1 = ap (λ (r : State). r .end) (sym off) ∙ z in
           dry (c .dry one) (off ∙ ap (λ (i : ℕ). setEnd i s) one)
         where

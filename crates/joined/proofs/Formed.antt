@@ -1,23 +1,9 @@
 -- The joined model passes question 7 where its parts do.
-use Prim.Native.Nat.{ℕ, suc, _+_, _-_, _≤_, _<_}
-use mathlib.Core.Path.{_≡_, refl, sym, ap, ap₂, _∙_, subst}
-use mathlib.Core.Bool.{Bool, true, false, cond, not, _&&_, _||_}
-use mathlib.Core.List.{List, [], _∷_, _++_, map}
-use native.Mathlib.Omega.{arith}
-use lib.Dec.{T, ltb, leb, eqb}
-use lib.ListN.{length, getD}
-use borrow.Author.Tests.{leb-true, leb-false, le-leb, lt-leb, ne-eqb}
-use Rattle.machine.specs.Limits.{maxBack}
-use Rattle.machine.specs.Lists.{bit}
-use Rattle.machine.specs.Term.{Term, constant, minusConstant, parameter, clockTerm, entriesOf, contentOf, unitsInUse, unitsFree, facilityInUse, value, comparison, bracket, Sum, nothing, plus, minus}
-use Rattle.machine.specs.Facts.{isGenerate}
-use Rattle.machine.specs.Block.{Block, generate, advance, terminate, takes, frees, waitServer, waitTerms, moves, assign, priority, split, counts, assemble, preempt, giveBack, facts, BlockModel, blockAt, backAt, welIndex, insideGroup}
-use Rattle.machine.specs.Validate.{wellPlaced, allOf, joined, targetsMove, termNames, sumNames, wellFormed}
-use Rattle.machine.specs.Claims.{Each}
+use Rattle.machine.specs.All.{ℕ, suc, _+_, _-_, _≤_, _<_, _≡_, refl, sym, ap, subst, Bool, true, false, cond, not, _&&_, _||_, List, [], _∷_, _++_, map, arith, T, ltb, leb, eqb, length, getD, leb-true, leb-false, le-leb, lt-leb, ne-eqb, maxBack, bit, Term, constant, minusConstant, parameter, clockTerm, entriesOf, contentOf, unitsInUse, unitsFree, facilityInUse, value, comparison, bracket, Sum, nothing, plus, minus, isGenerate, Block, generate, advance, terminate, takes, frees, waitServer, waitTerms, moves, assign, priority, split, counts, assemble, preempt, giveBack, facts, BlockModel, blockAt, backAt, welIndex, insideGroup, wellPlaced, allOf, joined, targetsMove, termNames, sumNames, wellFormed, Each}
 use Rattle.machine.proofs.decoding.Proper.{Names, ProperBlock, Proper}
 use Rattle.machine.proofs.lists.Sums.{upTo-cong}
 use Rattle.machine.proofs.decoding.Groups.{and-left, and-right}
-use Rattle.joined.specs.Join.{Part, first, second, serverIn, termIn, sumIn, blockIn, joinModels}
+use Rattle.joined.specs.{Part, first, second, serverIn, termIn, sumIn, blockIn, joinModels}
 use Rattle.joined.proofs.Strangers.{leaves-in, back-in}
 use Rattle.joined.proofs.Instance.{blocks-long, block-first, block-second, back-first, back-second, back-past, group-first}
 
@@ -37,7 +23,7 @@ some-wel k = ne-eqb (suc k) 0 (λ e. omega arith)
 module _ (p : Part) (m : BlockModel) where
   pub generates-in : (b : Block) → ProperBlock m b → isGenerate (facts (blockIn p b)) ≡ isGenerate (facts b)
   unfolding facts blockIn
-  generates-in (generate list k) ok = ap not (ne-eqb (list + p .toList) 0 (λ e. omega (arith, ok .0 .0)) ∙ sym (ne-eqb list 0 (λ e. omega (arith, ok .0 .0))))
+  generates-in (generate list k) ok = cc (ne-eqb (list + p .toList) 0 (λ e. omega (arith, ok .0 .0)), ne-eqb list 0 (λ e. omega (arith, ok .0 .0)))
   generates-in (advance list) ok = refl
   generates-in (terminate a) ok = refl
   generates-in (takes x) ok = refl
@@ -60,7 +46,7 @@ module _ (p : Part) (m : BlockModel) where
   wel-in (terminate a) = refl
   wel-in (takes x) = refl
   wel-in (frees x) = refl
-  wel-in (waitServer code v c) = some-wel (welIndex (serverIn p v) code) ∙ sym (some-wel (welIndex v code))
+  wel-in (waitServer code v c) = cc (some-wel (welIndex (serverIn p v) code), some-wel (welIndex v code))
   wel-in (waitTerms a r b) = refl
   wel-in (moves c target) = refl
   wel-in (assign k a) = refl
@@ -100,7 +86,7 @@ module _ (p : Part) (m : BlockModel) where
   unfolding wellPlaced
   placed-map left [] h = refl
   placed-map left (b ∷ l) h =
-      ap₂ (λ (x y : Bool). (not x || left) && y) (generates-in b (h .0)) (ap (λ (x : Bool). wellPlaced x (map (blockIn p) l)) (leaves-in p b) ∙ placed-map (facts b .leaves) l (h .1))
+      cc (generates-in b (h .0), leaves-in p b, placed-map (facts b .leaves) l (h .1))
 
   -- ---- Groups
 
@@ -108,12 +94,11 @@ module _ (p : Part) (m : BlockModel) where
   unfolding joined
   joined-map w [] = refl
   joined-map w (b ∷ l) =
-      ap₂ (λ (x : ℕ) (y : Bool). leb x w && y) (back-in p b)
-      (ap₂ (λ (x : Bool) (y : ℕ). joined (cond (not x && eqb y 0) (suc w) 0) (map (blockIn p) l)) (wel-in b) (back-in p b) ∙ joined-map (cond (not (eqb (facts b .wel) 0) && eqb (facts b .back) 0) (suc w) 0) l)
+      cc (back-in p b, wel-in b, joined-map (cond (not (eqb (facts b .wel) 0) && eqb (facts b .back) 0) (suc w) 0) l)
 
 placed-append : (left : Bool) (k l : List Block) → T (wellPlaced left k) → T (wellPlaced true l) → T (wellPlaced left (k ++ l))
 unfolding wellPlaced
-placed-append left [] l h g = subst (λ (x : Bool). T (wellPlaced x l)) (sym (is-true left h)) g
+placed-append left [] l h g = rw (is-true left h) g
 placed-append left (b ∷ k) l h g =
     both-of (not (isGenerate (facts b)) || left) _ (and-left (not (isGenerate (facts b)) || left) _ h) (placed-append (facts b .leaves) k l (and-right (not (isGenerate (facts b)) || left) _ h) g)
 
@@ -121,7 +106,7 @@ joined-more : (w w′ : ℕ) (l : List Block) → w ≤ w′ → T (joined w l) 
 unfolding joined
 joined-more w w′ [] le h = tt
 joined-more w w′ (b ∷ l) le h =
-    both-of (leb (facts b .back) w′) _ (subst T (sym (le-leb (facts b .back) w′ (omega (arith, leb-true (facts b .back) w (is-true _ (and-left (leb (facts b .back) w) _ h)))))) tt)
+    both-of (leb (facts b .back) w′) _ (rw (le-leb (facts b .back) w′ (omega (arith, leb-true (facts b .back) w (is-true _ (and-left (leb (facts b .back) w) _ h))))) tt)
     (go (not (eqb (facts b .wel) 0) && eqb (facts b .back) 0) (and-right (leb (facts b .back) w) _ h) (λ x y z. joined-more x y l z))
   where
     go : (c : Bool) → T (joined (cond c (suc w) 0) l) → ((x y : ℕ) → x ≤ y → T (joined x l) → T (joined y l)) → T (joined (cond c (suc w′) 0) l)
@@ -186,53 +171,45 @@ aims-in : (p : Part) (m M : BlockModel) → ((n : ℕ) → Names (length (m .blo
 aims-in p m M same b ok h = go (target-in p m b ok)
   where
     go : Target p m b → T (Aims M (blockIn p b))
-    go (none e d) = subst (λ (n : ℕ). T (eqb n 0 || Good M n)) (sym d) tt
+    go (none e d) = rw d tt
     go (some n d) =
-        subst (λ (k : ℕ). T (eqb k 0 || Good M k)) (sym d)
-        (subst (λ (x : Bool). T (x || Good M (facts b .target + p .toBlock))) (sym (ne-eqb (facts b .target + p .toBlock) 0 (λ e. omega (arith, n .0))))
-        (subst T (sym (same (facts b .target) n)) (subst (λ (x : Bool). T (x || Good m (facts b .target))) (ne-eqb (facts b .target) 0 (λ e. omega (arith, n .0))) h)))
+        subst (λ k. T (eqb k 0 || Good M k)) (sym d)
+        (rw (ne-eqb (facts b .target + p .toBlock) 0 (λ e. omega (arith, n .0))) (subst T (sym (same (facts b .target) n)) (subst (λ (x : Bool). T (x || Good m (facts b .target))) (ne-eqb (facts b .target) 0 (λ e. omega (arith, n .0))) h)))
 
 module _ (m₁ m₂ : BlockModel) {t₁ t₂ : List (List ℕ)} (proper₁ : Proper m₁ t₁) (proper₂ : Proper m₂ t₂) where
   inside-first : (b : ℕ) → Names (length (m₁ .blocks)) b → insideGroup (joinModels m₁ m₂) b ≡ insideGroup m₁ b
   unfolding insideGroup
   inside-first b n =
-      ap (ltb 0) (upTo-cong (λ c. bit (leb c (backAt (joinModels m₁ m₂) (b + c - 1)))) (λ c. bit (leb c (backAt m₁ (b + c - 1)))) maxBack (λ c low high. ap bit (same c low)))
+      cc (upTo-cong (λ c. bit (leb c (backAt (joinModels m₁ m₂) (b + c - 1)))) (λ c. bit (leb c (backAt m₁ (b + c - 1)))) maxBack (λ c low high. ap bit (same c low)))
     where
       same : (c : ℕ) → 1 ≤ c → leb c (backAt (joinModels m₁ m₂) (b + c - 1)) ≡ leb c (backAt m₁ (b + c - 1))
       same c low = go (leb (b + c - 1) (length (m₁ .blocks))) refl
         where
           go : (x : Bool) → leb (b + c - 1) (length (m₁ .blocks)) ≡ x → leb c (backAt (joinModels m₁ m₂) (b + c - 1)) ≡ leb c (backAt m₁ (b + c - 1))
-          go true e = ap (leb c) (back-first m₁ m₂ (b + c - 1) (omega (arith, n .0)) (leb-true _ _ e))
+          go true e = ap (leb c) (back-first m₁ m₂ (b + c - 1) (omega arith) (leb-true _ _ e))
           go false e =
               let far : length (m₁ .blocks) < b + c - 1 = leb-false _ _ e in
               let index : b + (c - 1) ≡ b + c - 1 = omega arith in
-              let lt = subst (λ (i : ℕ). backAt (joinModels m₁ m₂) i < c - 1) index (group-first m₁ m₂ proper₁ proper₂ b (c - 1) (n .0) (n .1) (omega (arith, n .1)) (omega arith)) in
+              let lt = rw index at (group-first m₁ m₂ proper₁ proper₂ b (c - 1) (n .0) (n .1) (omega (arith, n .1)) (omega arith)) in
               let z = back-past m₁ m₂ m₁ (b + c - 1) far in
-              lt-leb c (backAt (joinModels m₁ m₂) (b + c - 1)) (omega arith) ∙ sym (lt-leb c (backAt m₁ (b + c - 1)) (omega arith))
+              cc (lt-leb c (backAt (joinModels m₁ m₂) (b + c - 1)) (omega arith), lt-leb c (backAt m₁ (b + c - 1)) (omega arith))
 
   inside-second : (b : ℕ) → 1 ≤ b → insideGroup (joinModels m₁ m₂) (b + length (m₁ .blocks)) ≡ insideGroup m₂ b
   unfolding insideGroup
   inside-second b one =
       ap (ltb 0)
       (upTo-cong (λ c. bit (leb c (backAt (joinModels m₁ m₂) (b + length (m₁ .blocks) + c - 1)))) (λ c. bit (leb c (backAt m₂ (b + c - 1)))) maxBack
-      (λ c low high. ap (λ (i : ℕ). bit (leb c i)) (ap (backAt (joinModels m₁ m₂)) (turn c low) ∙ back-second m₁ m₂ (b + c - 1) (omega arith))))
+      (λ c low high. cc (turn c low, back-second m₁ m₂ (b + c - 1) (omega arith))))
     where
       turn : (c : ℕ) → 1 ≤ c → b + length (m₁ .blocks) + c - 1 ≡ b + c - 1 + length (m₁ .blocks)
       turn c low = omega arith
 
   good-first : (n : ℕ) → Names (length (m₁ .blocks)) n → Good (joinModels m₁ m₂) (n + 0) ≡ Good m₁ n
   good-first n i =
-      ap (Good (joinModels m₁ m₂)) plus-zero
-      ∙ ap₂ (λ (x y : Bool). not x && not y)
-      (ap (λ (b : Block). isGenerate (facts b)) (block-first m₁ m₂ n (i .1) (i .0)) ∙ generates-in (first m₁ m₂) m₁ (blockAt m₁ n) (proper₁ .block n)) (inside-first n i)
+      cc (plus-zero, block-first m₁ m₂ n (i .1) (i .0), generates-in (first m₁ m₂) m₁ (blockAt m₁ n) (proper₁ .block n), inside-first n i)
     where
       plus-zero : n + 0 ≡ n
       plus-zero = omega arith
-
-  good-second : (n : ℕ) → Names (length (m₂ .blocks)) n → Good (joinModels m₁ m₂) (n + length (m₁ .blocks)) ≡ Good m₂ n
-  good-second n i =
-      ap₂ (λ (x y : Bool). not x && not y)
-      (ap (λ (b : Block). isGenerate (facts b)) (block-second m₁ m₂ n (i .0)) ∙ generates-in (second m₁ m₂) m₂ (blockAt m₂ n) (proper₂ .block n)) (inside-second n (i .0))
 
   -- each block of a proper model is proper
   each-proper : (m : BlockModel) (l : List Block) → ((i : ℕ) → ProperBlock m (getD l i (terminate 0))) → Each (ProperBlock m) l
@@ -240,7 +217,7 @@ module _ (m₁ m₂ : BlockModel) {t₁ t₂ : List (List ℕ)} (proper₁ : Pro
   each-proper m (b ∷ l) h = (h 0, each-proper m l (λ i. h (suc i)))
 
   at-index : {m : BlockModel} {t : List (List ℕ)} → Proper m t → (i : ℕ) → ProperBlock m (getD (m .blocks) i (terminate 0))
-  at-index {m} proper i = subst (λ (j : ℕ). ProperBlock m (getD (m .blocks) j (terminate 0))) less (proper .block (suc i))
+  at-index {m} proper i = rw less at (proper .block (suc i))
     where
       less : suc i - 1 ≡ i
       less = omega arith
@@ -252,22 +229,22 @@ module _ (m₁ m₂ : BlockModel) {t₁ t₂ : List (List ℕ)} (proper₁ : Pro
       let e₂ = each-proper m₂ (m₂ .blocks) (at-index proper₂) in
       let f₁ = parts m₁ (proper₁ .formed) in
       let f₂ = parts m₂ (proper₂ .formed) in
-      let placed : T (wellPlaced true (map (blockIn (first m₁ m₂)) (m₁ .blocks) ++ map (blockIn (second m₁ m₂)) (m₂ .blocks))) =
-      placed-append true (map (blockIn (first m₁ m₂)) (m₁ .blocks)) (map (blockIn (second m₁ m₂)) (m₂ .blocks)) (subst T (sym (placed-map (first m₁ m₂) m₁ true (m₁ .blocks) e₁)) (f₁ .0))
-      (subst T (sym (placed-map (second m₁ m₂) m₂ true (m₂ .blocks) e₂)) (f₂ .0)) in
-      let aimed : T (allOf (Aims (joinModels m₁ m₂)) (map (blockIn (first m₁ m₂)) (m₁ .blocks) ++ map (blockIn (second m₁ m₂)) (m₂ .blocks))) =
+      let placed =
+      placed-append true (map (blockIn (first m₁ m₂)) (m₁ .blocks)) (map (blockIn (second m₁ m₂)) (m₂ .blocks)) (rw (placed-map (first m₁ m₂) m₁ true (m₁ .blocks) e₁) (f₁ .0))
+      (rw (placed-map (second m₁ m₂) m₂ true (m₂ .blocks) e₂) (f₂ .0)) in
+      let aimed =
       all-append (Aims (joinModels m₁ m₂)) (map (blockIn (first m₁ m₂)) (m₁ .blocks)) (map (blockIn (second m₁ m₂)) (m₂ .blocks))
       (all-map (ProperBlock m₁) (Aims m₁) (Aims (joinModels m₁ m₂)) (blockIn (first m₁ m₂)) (aims-in (first m₁ m₂) m₁ (joinModels m₁ m₂) good-first) (m₁ .blocks) e₁ (f₁ .1))
-      (all-map (ProperBlock m₂) (Aims m₂) (Aims (joinModels m₁ m₂)) (blockIn (second m₁ m₂)) (aims-in (second m₁ m₂) m₂ (joinModels m₁ m₂) good-second) (m₂ .blocks) e₂ (f₂ .1)) in
-      let total : ℕ = length (joinModels m₁ m₂ .blocks) in
-      let named : T (allOf (sumNames total) (map (sumIn (first m₁ m₂)) (m₁ .values) ++ map (sumIn (second m₁ m₂)) (m₂ .values))) =
+      (all-map (ProperBlock m₂) (Aims m₂) (Aims (joinModels m₁ m₂)) (blockIn (second m₁ m₂)) (aims-in (second m₁ m₂) m₂ (joinModels m₁ m₂) (λ n i. cc (block-second m₁ m₂ n (i .0), generates-in (second m₁ m₂) m₂ (blockAt m₂ n) (proper₂ .block n), inside-second n (i .0)))) (m₂ .blocks) e₂ (f₂ .1)) in
+      let total = length (joinModels m₁ m₂ .blocks) in
+      let named =
       all-append (sumNames total) (map (sumIn (first m₁ m₂)) (m₁ .values)) (map (sumIn (second m₁ m₂)) (m₂ .values))
       (values-named (first m₁ m₂) (length (m₁ .blocks)) total (omega (arith, blocks-long m₁ m₂)) (m₁ .values) (f₁ .2))
       (values-named (second m₁ m₂) (length (m₂ .blocks)) total (omega (arith, blocks-long m₁ m₂)) (m₂ .values) (f₂ .2)) in
-      let grouped : T (joined 0 (map (blockIn (first m₁ m₂)) (m₁ .blocks) ++ map (blockIn (second m₁ m₂)) (m₂ .blocks))) =
-      joined-append 0 (map (blockIn (first m₁ m₂)) (m₁ .blocks)) (map (blockIn (second m₁ m₂)) (m₂ .blocks)) (subst T (sym (joined-map (first m₁ m₂) m₁ 0 (m₁ .blocks))) (f₁ .3))
-      (subst T (sym (joined-map (second m₁ m₂) m₂ 0 (m₂ .blocks))) (f₂ .3)) in
-      let blocks : List Block = map (blockIn (first m₁ m₂)) (m₁ .blocks) ++ map (blockIn (second m₁ m₂)) (m₂ .blocks) in
+      let grouped =
+      joined-append 0 (map (blockIn (first m₁ m₂)) (m₁ .blocks)) (map (blockIn (second m₁ m₂)) (m₂ .blocks)) (rw (joined-map (first m₁ m₂) m₁ 0 (m₁ .blocks)) (f₁ .3))
+      (rw (joined-map (second m₁ m₂) m₂ 0 (m₂ .blocks)) (f₂ .3)) in
+      let blocks = map (blockIn (first m₁ m₂)) (m₁ .blocks) ++ map (blockIn (second m₁ m₂)) (m₂ .blocks) in
       all-of (wellPlaced true blocks) (allOf (Aims (joinModels m₁ m₂)) blocks)
       (allOf (sumNames total) (map (sumIn (first m₁ m₂)) (m₁ .values) ++ map (sumIn (second m₁ m₂)) (m₂ .values))) (joined 0 blocks) placed aimed named grouped
     where

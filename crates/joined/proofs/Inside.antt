@@ -1,17 +1,8 @@
 -- A part inside the joined model: what its own turns ask of the two models, and what blocks have in common with their images.
-use Prim.Native.Nat.{ℕ, suc, _+_, _-_, _≤_, _<_}
-use mathlib.Core.Path.{_≡_, refl, sym, ap, _∙_, subst}
-use mathlib.Core.Bool.{false}
-use mathlib.Core.List.{List}
+use Rattle.machine.specs.All.{ℕ, suc, _+_, _-_, _≤_, _<_, _≡_, refl, false, List, Transaction, anyOf, View, whenTrue, Share, facility, storage, shareServer, shareUnits, Block, generate, advance, terminate, takes, frees, waitServer, waitTerms, moves, assign, priority, split, counts, assemble, preempt, giveBack, facts, aboveOne, BlockModel, blockAt, beginsGroup, unitsOf, holds, waitsOn}
 use lib.IntN.{ℤ}
-use Rattle.machine.specs.Transaction.{Transaction}
-use Rattle.machine.specs.Lists.{anyOf}
-use Rattle.machine.specs.Term.{View, whenTrue}
-use Rattle.machine.specs.Block.{Share, facility, storage, shareServer, shareUnits, Block, generate, advance, terminate, takes, frees, waitServer, waitTerms, moves, assign, priority, split, counts, assemble, preempt, giveBack, facts, aboveOne, BlockModel, blockAt, beginsGroup}
-use Rattle.machine.specs.Execute.{unitsOf}
-use Rattle.machine.specs.Turn.{holds, waitsOn}
 use Rattle.machine.proofs.decoding.Proper.{Names, ProperBlock}
-use Rattle.joined.specs.Join.{Part, serverIn, shareIn, conditionIn, blockIn}
+use Rattle.joined.specs.{Part, serverIn, shareIn, conditionIn, blockIn}
 use Rattle.joined.proofs.Naming.{Naming, Known}
 use Rattle.joined.proofs.Seen.{size, Tables, aloneAs, Fixtures}
 use Rattle.joined.proofs.Terms.{Plain, PlainCondition, Values, truth-same}
@@ -86,10 +77,10 @@ module _ (p : Part) (m M : BlockModel) (I : Inside p m M) where
   pub block-seen : (N : Naming) (t : Transaction) → Known p (size p m) N t → blockAt M (t .next) ≡ blockIn p (blockAt m (t .next - p .toBlock))
   block-seen N t k =
       let at = standing p m (t .next) (k .own) in
-      subst (λ (b : ℕ). blockAt M b ≡ blockIn p (blockAt m (t .next - p .toBlock))) (at .there) (I .block (t .next - p .toBlock) (at .names))
+      rw (at .there) at (I .block (t .next - p .toBlock) (at .names))
 
   pub units-seen : (N : Naming) (t : Transaction) → Known p (size p m) N t → unitsOf m (aloneAs p m N t) ≡ unitsOf M t
-  units-seen N t k = sym (ap (λ (b : Block). facts b .units) (block-seen N t k) ∙ units-in p (blockAt m (t .next - p .toBlock)))
+  units-seen N t k = cc (block-seen N t k, units-in p (blockAt m (t .next - p .toBlock)))
 
   -- ---- What a member of the WSL waits for
 
@@ -116,5 +107,4 @@ module _ (p : Part) (m M : BlockModel) (I : Inside p m M) where
     unfolding waitsOn
     waitsOn-seen t k =
         let at = standing p m (t .next) (k .own) in
-        holds-in (t .parameters) (blockAt m (t .next - p .toBlock)) (I .plain _ (at .names))
-        ∙ ap (λ (b : Block). holds (M .values) w (t .parameters) (facts b .waitsWhile)) (sym (block-seen N t k))
+        cc (holds-in (t .parameters) (blockAt m (t .next - p .toBlock)) (I .plain _ (at .names)), block-seen N t k)

@@ -1,19 +1,7 @@
 -- Three runs that end dry: the joined one and those of its parts end in related states.
-use Prim.Native.Nat.{ℕ, zero, suc}
-use mathlib.Core.Path.{_≡_, refl, sym, ap, _∙_, subst}
-use mathlib.Core.Bool.{Bool, true, false, _&&_, true≢false}
-use mathlib.Core.List.{List, [], _∷_, map}
-use mathlib.Core.Option.{Option, none, some}
-use native.Mathlib.Omega.{arith}
-use Rattle.machine.specs.Transaction.{Transaction, Event}
-use Rattle.machine.specs.Lists.{those}
-use Rattle.machine.specs.Block.{BlockModel}
-use Rattle.machine.specs.State.{State}
-use Rattle.machine.specs.Setters.{setEnd}
-use Rattle.machine.specs.Turn.{nextEvents, takeFirst, takeReady, taking, turn}
-use Rattle.machine.specs.Run.{isNone, isEmpty, nobodyLeft, runFrom}
+use Rattle.machine.specs.All.{ℕ, zero, suc, _≡_, refl, sym, ap, _∙_, Bool, true, false, _&&_, true≢false, List, [], _∷_, map, Option, none, some, arith, Transaction, Event, those, BlockModel, State, setEnd, nextEvents, takeFirst, takeReady, taking, turn, isNone, isEmpty, nobodyLeft, runFrom}
 use Rattle.machine.proofs.decoding.Proper.{Proper}
-use Rattle.joined.specs.Join.{Part}
+use Rattle.joined.specs.{Part}
 use Rattle.joined.proofs.Naming.{Naming, mine, eventAs}
 use Rattle.joined.proofs.Seen.{size, aloneAs, Seen}
 use Rattle.joined.proofs.Inside.{Inside}
@@ -43,27 +31,27 @@ empty-of s e =
 
     none-of : (o : Option Transaction) → isNone o ≡ true → o ≡ none
     none-of none e = refl
-    none-of (some t) e = absurd (true≢false (sym e))
+    none-of (some t) e = cc
 
     empty-rel : (l : List Transaction) → isEmpty l ≡ true → l ≡ []
     empty-rel [] e = refl
-    empty-rel (x ∷ l) e = absurd (true≢false (sym e))
+    empty-rel (x ∷ l) e = cc
 
     empty-fel : (l : List Event) → isEmpty l ≡ true → l ≡ []
     empty-fel [] e = refl
-    empty-fel (x ∷ l) e = absurd (true≢false (sym e))
+    empty-fel (x ∷ l) e = cc
 
 nobody-in : (s : State) → Empty s → nobodyLeft s ≡ true
 unfolding nobodyLeft isNone isEmpty
-nobody-in s e = rw (e .moving, e .rel, e .fel) refl
+nobody-in s e = cc
 
 -- then nobody is taken
 none-taken : (s : State) → Empty s → taking (s .moving) s .moving ≡ none
 unfolding taking takeReady takeFirst nextEvents
-none-taken s e = ap (λ (o : Option Transaction). taking o s .moving) (e .moving) ∙ rest
+none-taken s e = cc
   where
     rest : takeReady (s .rel) s .moving ≡ none
-    rest = ap (λ (l : List Transaction). takeReady l s .moving) (e .rel) ∙ ap (λ (f : List Event). takeFirst (nextEvents f s .rel) (nextEvents f s) .moving) (e .fel) ∙ ap (λ (l : List Transaction). takeFirst l s .moving) (e .rel) ∙ e .moving
+    rest = cc
 
 module _ (p : Part) (m M : BlockModel) (I : Inside p m M) where
   -- neither in the part
@@ -80,7 +68,7 @@ module _ (p : Part) (m M : BlockModel) (I : Inside p m M) where
         },
         k,
       )
-      go b (behind x z n) k o = absurd (n (k .listed .rel .part .same ∙ ap (λ (l : List Transaction). map (aloneAs p m N) (those (mine p (size p m)) l)) (e .rel)))
+      go b (behind x z n) k o = absurd (n (cc (k .listed .rel .part .same, e .rel)))
 
   -- the last states
   pub record Last (s a : State) : Type 0 where
@@ -88,14 +76,11 @@ module _ (p : Part) (m M : BlockModel) (I : Inside p m M) where
     pub seen : Seen p m naming s a
     pub nobody : naming .numbers 0 ≡ false
 
-  ended : (N : Naming) (s a : State) → N .numbers 0 ≡ false → Seen p m N s a → Last (setEnd 1 s) (setEnd 1 a)
-  ended N s a z h = record { naming = N; seen = record { counted = h .counted; fixtures = h .fixtures; lined = h .lined; listed = h .listed; told = h .told }; nobody = z }
-
   module _ (budget room : ℕ) where
     -- the part has nobody left either
     last-of : (N : Naming) (s a : State) → N .numbers 0 ≡ false → Pace p m N s a → Empty s → {k : ℕ} → Dries m budget room a k → Last (setEnd 1 s) (runFrom k m budget room a)
-    last-of N s a z h e (dry left q) = subst (Last (setEnd 1 s)) (sym q) (ended N s a z (empty-there N s a h e .1))
-    last-of N s a o h e (turns left z q) = absurd (true≢false (sym (nobody-in a (empty-there N s a h e .0)) ∙ left))
+    last-of N s a z h e (dry left q) = rw q (record { naming = N; seen = record { counted = (empty-there N s a h e .1) .counted; fixtures = (empty-there N s a h e .1) .fixtures; lined = (empty-there N s a h e .1) .lined; listed = (empty-there N s a h e .1) .listed; told = (empty-there N s a h e .1) .told }; nobody = z })
+    last-of N s a o h e (turns left z q) = absurd (true≢false (cc (nobody-in a (empty-there N s a h e .0), left)))
 
 -- ---- The runs
 
@@ -119,7 +104,7 @@ module _ {M : BlockModel} {tape : List (List ℕ)} (proper : Proper M tape) (p :
           → Both (runFrom n M budget room s) (runFrom k m budget₁ room₁ a) (runFrom k′ m′ budget₂ room₂ b)
 
       somebody : (x : State) (t : Transaction) → taking (x .moving) x .moving ≡ some t → nobodyLeft x ≡ true → ⊥
-      somebody x t taken left = true≢false (ap blank (sym (none-taken x (empty-of x left)) ∙ taken))
+      somebody x t taken left = true≢false (cc (none-taken x (empty-of x left), taken))
         where
           blank : Option Transaction → Bool
           blank none = true
@@ -130,27 +115,24 @@ module _ {M : BlockModel} {tape : List (List ℕ)} (proper : Proper M tape) (p :
           → Both (runFrom n M budget room (turn M s)) (runFrom k m budget₁ room₁ a) (runFrom k′ m′ budget₂ room₂ b)
       first-on zt t taken next (dry left q) f f₁ f₂ rest = absurd (somebody a t taken left)
       first-on zt t taken next (turns {k = i} left z q) f f₁ f₂ rest =
-          subst (λ (x : State). Both (runFrom n M budget room (turn M s)) x (runFrom k′ m′ budget₂ room₂ b)) (sym q)
-          (rest (turn M s) (turn m a) b (next z) (sane-turn proper s zs sane) zt z zb i k′ f (ap (λ (x : State). x .end) (sym q) ∙ f₁) f₂)
+          rw q (rest (turn M s) (turn m a) b (next z) (sane-turn proper s zs sane) zt z zb i k′ f (ap (λ (x : State). x .end) (sym q) ∙ f₁) f₂)
 
       second-on : turn M s .end ≡ 0 → (t : Transaction) → taking (b .moving) b .moving ≡ some t → (turn m′ b .end ≡ 0 → Joint p m p′ m′ (turn M s) a (turn m′ b)) → {k′ : ℕ} → Dries m′ budget₂ room₂ b k′
           → runFrom n M budget room (turn M s) .end ≡ 1 → runFrom k m budget₁ room₁ a .end ≡ 1 → runFrom k′ m′ budget₂ room₂ b .end ≡ 1 → Rest
           → Both (runFrom n M budget room (turn M s)) (runFrom k m budget₁ room₁ a) (runFrom k′ m′ budget₂ room₂ b)
       second-on zt t taken next (dry left q) f f₁ f₂ rest = absurd (somebody b t taken left)
       second-on zt t taken next (turns {k = i} left z q) f f₁ f₂ rest =
-          subst (λ (x : State). Both (runFrom n M budget room (turn M s)) (runFrom k m budget₁ room₁ a) x) (sym q)
-          (rest (turn M s) a (turn m′ b) (next z) (sane-turn proper s zs sane) zt za z k i f f₁ (ap (λ (x : State). x .end) (sym q) ∙ f₂))
+          rw q (rest (turn M s) a (turn m′ b) (next z) (sane-turn proper s zs sane) zt za z k i f f₁ (ap (λ (x : State). x .end) (sym q) ∙ f₂))
 
       go : Dries M budget room s (suc n) → Dries m budget₁ room₁ a k → Dries m′ budget₂ room₂ b k′
           → runFrom (suc n) M budget room s .end ≡ 1 → runFrom k m budget₁ room₁ a .end ≡ 1 → runFrom k′ m′ budget₂ room₂ b .end ≡ 1 → Rest
           → Both (runFrom (suc n) M budget room s) (runFrom k m budget₁ room₁ a) (runFrom k′ m′ budget₂ room₂ b)
       go (dry left q) d₁ d₂ f f₁ f₂ rest =
-          let empty : Empty s = empty-of s left in
-          subst (λ (x : State). Both x (runFrom k m budget₁ room₁ a) (runFrom k′ m′ budget₂ room₂ b)) (sym q)
-          (record { first = last-of p m M I budget₁ room₁ (j .naming) s a (j .rolls .nobody) (j .pace) empty d₁; second = last-of p′ m′ M I′ budget₂ room₂ (j .naming′) s b (j .rolls .nobody′) (j .pace′) empty d₂ })
+          let empty = empty-of s left in
+          rw q (record { first = last-of p m M I budget₁ room₁ (j .naming) s a (j .rolls .nobody) (j .pace) empty d₁; second = last-of p′ m′ M I′ budget₂ room₂ (j .naming′) s b (j .rolls .nobody′) (j .pace′) empty d₂ })
       go (turns left zt q) d₁ d₂ f f₁ f₂ rest =
-          let f′ : runFrom n M budget room (turn M s) .end ≡ 1 = ap (λ (x : State). x .end) (sym q) ∙ f in
-          subst (λ (x : State). Both x (runFrom k m budget₁ room₁ a) (runFrom k′ m′ budget₂ room₂ b)) (sym q) (next (whose proper p m p′ m′ I I′ F F′ s a b j zs sane left zt) f′)
+          let f′ = ap (λ (x : State). x .end) (sym q) ∙ f in
+          rw q (next (whose proper p m p′ m′ I I′ F F′ s a b j zs sane left zt) f′)
         where
           next : Turns proper p m p′ m′ I I′ F F′ s a b → runFrom n M budget room (turn M s) .end ≡ 1
               → Both (runFrom n M budget room (turn M s)) (runFrom k m budget₁ room₁ a) (runFrom k′ m′ budget₂ room₂ b)

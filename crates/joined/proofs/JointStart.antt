@@ -1,33 +1,18 @@
 -- The starts of the joined run and of its parts are related.
-use Prim.Native.Nat.{ℕ, zero, suc, _+_, _-_, _*_, _≤_, _<_}
-use mathlib.Core.Path.{_≡_, refl, sym, ap, ap₂, _∙_, subst}
-use mathlib.Core.Bool.{true, false, true≢false}
-use mathlib.Core.List.{List, [], _∷_, _++_, map}
-use mathlib.Core.Option.{Option, none}
-use native.Mathlib.Omega.{arith}
-use lib.ListN.{length, getD, replicate, length-replicate, length-append, length-map, getD-replicate, List·getD-append, List·getD-map}
-use Rattle.machine.specs.Transaction.{Transaction, Gatherer}
-use Rattle.machine.specs.Lists.{those}
-use Rattle.machine.specs.Term.{Server, idleServer, Queue, emptyQueue}
-use Rattle.machine.specs.Block.{Block, terminate, BlockModel}
-use Rattle.machine.specs.State.{State}
-use Rattle.machine.specs.Run.{startAt, idle, start}
-use Rattle.machine.specs.Turn.{waitsOn}
-use Rattle.machine.specs.Claims.{Each}
+use Rattle.machine.specs.All.{ℕ, zero, suc, _+_, _-_, _*_, _≤_, _<_, _≡_, refl, sym, _∙_, subst, true, false, true≢false, List, [], _++_, map, none, arith, length, getD, replicate, length-replicate, length-append, length-map, getD-replicate, List·getD-append, List·getD-map, Transaction, Gatherer, those, idleServer, emptyQueue, Block, terminate, BlockModel, State, startAt, idle, start, waitsOn, Each}
 use Rattle.machine.proofs.decoding.Proper.{Names, servers, ProperBlock, Proper}
 use Rattle.machine.proofs.runs.Shape.{wel-below}
 use Rattle.machine.proofs.nobody_able.WaitsKept.{waits-start}
-use Rattle.joined.specs.Join.{Part, first, second, serverIn, blockIn, joinModels, joinTapes}
-use Rattle.joined.specs.Parts.{inPart}
+use Rattle.joined.specs.{Part, first, second, serverIn, blockIn, joinModels, joinTapes}
 use Rattle.joined.proofs.Terms.{getD-behind}
 use Rattle.joined.proofs.Ranks.{rank-zero, nobody, listed-within}
 use Rattle.joined.proofs.Naming.{Naming}
-use Rattle.joined.proofs.Seen.{size, Alike, SameServer}
+use Rattle.joined.proofs.Seen.{Alike, SameServer}
 use Rattle.joined.proofs.Inside.{Inside}
 use Rattle.joined.proofs.OwnMoves.{Together}
 use Rattle.joined.proofs.OwnMakes.{After}
 use Rattle.joined.proofs.OwnEffect.{in-part}
-use Rattle.joined.proofs.OtherEffect.{Outside, nobody as nobodyMoves}
+use Rattle.joined.proofs.OtherEffect.{nobody as nobodyMoves}
 use Rattle.joined.proofs.Paces.{Moving, away, level, same, Pace, rebased, rebase}
 use Rattle.joined.proofs.Strangers.{Facing, outside-in}
 use Rattle.joined.proofs.Simulation.{Joint}
@@ -46,7 +31,7 @@ capacities m = replicate (m .facilities) 1 ++ m .capacities
 
 idle-servers : (n : ℕ) (l : List ℕ) → replicate n (idleServer 1) ++ map idleServer l ≡ map idleServer (replicate n 1 ++ l)
 idle-servers zero l = refl
-idle-servers (suc n) l = ap (λ (r : List Server). idleServer 1 ∷ r) (idle-servers n l)
+idle-servers (suc n) l = cc (idle-servers n l)
 
 empty-row : {A : Type 0} (n i : ℕ) (a : A) → getD (replicate n a) i a ≡ a
 empty-row zero i a = refl
@@ -63,34 +48,27 @@ pub record Rooms (p : Part) (m M : BlockModel) (tape tape′ : List (List ℕ)) 
   pub times : (l : ℕ) → Names (m .lists) l → getD tape′ (l - 1) [] ≡ getD tape (l + p .toList - 1) []
 
 module _ (p : Part) (m M : BlockModel) (tape tape′ : List (List ℕ)) (R : Rooms p m M tape tape′) where
-  idle-same : (a b : ℕ) → b ≡ a → SameServer p m nobodyYet (idleServer a) (idleServer b)
-  unfolding idleServer
-  idle-same a b e = record { capacity = e; inUse = refl; holder = sym (rank-zero (λ k. false)); preempted = refl; holder-named = nobody refl }
-
   servers-same : (u : ℕ) → Names (servers m) u
       → SameServer p m nobodyYet (getD (replicate (M .facilities) (idleServer 1) ++ map idleServer (M .capacities)) (serverIn p u - 1) (idleServer 0))
       (getD (replicate (m .facilities) (idleServer 1) ++ map idleServer (m .capacities)) (u - 1) (idleServer 0))
   servers-same u i =
-      subst (λ (v : Server). SameServer p m nobodyYet v (getD (replicate (m .facilities) (idleServer 1) ++ map idleServer (m .capacities)) (u - 1) (idleServer 0)))
-      (sym (row M (serverIn p u - 1)))
-      (subst (SameServer p m nobodyYet (idleServer (getD (capacities M) (serverIn p u - 1) 0))) (sym (row m (u - 1))) (idle-same _ _ (R .capacity u i)))
+      rw (row M (serverIn p u - 1)) (subst (SameServer p m nobodyYet (idleServer (getD (capacities M) (serverIn p u - 1) 0))) (sym (row m (u - 1))) (unfold idleServer in record { capacity = (R .capacity u i); inUse = refl; holder = sym (rank-zero (λ k. false)); preempted = refl; holder-named = nobody refl }))
     where
       row : (m : BlockModel) (i : ℕ) → getD (replicate (m .facilities) (idleServer 1) ++ map idleServer (m .capacities)) i (idleServer 0) ≡ idleServer (getD (capacities m) i 0)
-      row m i = ap (λ (l : List Server). getD l i (idleServer 0)) (idle-servers (m .facilities) (m .capacities)) ∙ List·getD-map idleServer (capacities m) i 0
+      row m i = cc (idle-servers (m .facilities) (m .capacities), List·getD-map idleServer (capacities m) i 0)
 
   servers-number : (m : BlockModel) → length (replicate (m .facilities) (idleServer 1) ++ map idleServer (m .capacities)) ≡ servers m
   servers-number m =
-      length-append (replicate (m .facilities) (idleServer 1)) (map idleServer (m .capacities))
-      ∙ ap₂ (λ (a b : ℕ). a + b) (length-replicate (m .facilities) (idleServer 1)) (length-map (m .capacities) idleServer)
+      cc (length-append (replicate (m .facilities) (idleServer 1)) (map idleServer (m .capacities)), length-replicate (m .facilities) (idleServer 1), length-map (m .capacities) idleServer)
 
   -- empty lists
   none-here : {A : Type 0} (f : A → A) (who : A → Transaction) (n k i j : ℕ) → Alike p m nobodyYet f who (getD (replicate n []) i []) (getD (replicate k []) j [])
   none-here {A} f who n k i j =
-      subst (λ (l : List A). Alike p m nobodyYet f who l (getD (replicate k []) j [])) (sym (empty-row n i []))
+      subst (λ l. Alike p m nobodyYet f who l (getD (replicate k []) j [])) (sym (empty-row n i []))
       (subst (Alike p m nobodyYet f who []) (sym (empty-row k j [])) (record { same = refl; known = tt }))
 
   long : {A : Type 0} (n i : ℕ) (a : A) → i < n → i < length (replicate n a)
-  long n i a h = subst (λ (k : ℕ). i < k) (sym (length-replicate n a)) h
+  long n i a h = rw (length-replicate n a) h
 
   pub idle-together : Together p m nobodyYet (idle M tape) (idle m tape′)
   unfolding idle those
@@ -103,17 +81,17 @@ module _ (p : Part) (m M : BlockModel) (tape tape′ : List (List ℕ)) (R : Roo
                   record {
                     entries =
                         record {
-                          exists = λ b i. (long {A = ℕ} _ _ 0 (R .blocks b i), long {A = ℕ} (length (m .blocks)) (b - 1) 0 (omega (arith, i .0, i .1)));
+                          exists = λ b i. (long {A = ℕ} _ _ 0 (R .blocks b i), long {A = ℕ} (length (m .blocks)) (b - 1) 0 (omega arith));
                           alike = λ b i. empty-row (length (m .blocks)) (b - 1) 0 ∙ sym (empty-row (length (M .blocks)) (b + p .toBlock - 1) 0);
                         };
                     queues =
                         record {
-                          exists = λ q i. (long _ _ emptyQueue (R .queues q i), long (m .queues) (q - 1) emptyQueue (omega (arith, i .0, i .1)));
-                          alike = λ q i. ap (λ (x : Queue). x .content) (empty-row (m .queues) (q - 1) emptyQueue ∙ sym (empty-row (M .queues) (q + p .toQueue - 1) emptyQueue));
+                          exists = λ q i. (long _ _ emptyQueue (R .queues q i), long (m .queues) (q - 1) emptyQueue (omega arith));
+                          alike = λ q i. cc (empty-row (m .queues) (q - 1) emptyQueue, empty-row (M .queues) (q + p .toQueue - 1) emptyQueue);
                         };
                     servers =
                         record {
-                          exists = λ u i. (omega (arith, servers-number M, R .servers-in u i .0, R .servers-in u i .1), omega (arith, servers-number m, i .0, i .1));
+                          exists = λ u i. (omega (arith, servers-number M, R .servers-in u i .0, R .servers-in u i .1), omega (arith, servers-number m, i .1));
                           alike = servers-same;
                         };
                     lists = record { exists = R .lists; alike = R .times };
@@ -122,7 +100,7 @@ module _ (p : Part) (m M : BlockModel) (tape tape′ : List (List ℕ)) (R : Roo
                   record {
                     ql =
                         record {
-                          exists = λ u i. (long {A = List Transaction} (servers M) (serverIn p u - 1) [] (omega (arith, R .servers-in u i .0, R .servers-in u i .1)), long {A = List Transaction} (servers m) (u - 1) [] (omega (arith, i .0, i .1)));
+                          exists = λ u i. (long {A = List Transaction} (servers M) (serverIn p u - 1) [] (omega (arith, R .servers-in u i .0, R .servers-in u i .1)), long {A = List Transaction} (servers m) (u - 1) [] (omega arith));
                           alike = λ u i. none-here _ _ (servers M) (servers m) _ _;
                         };
                     wel =
@@ -133,7 +111,7 @@ module _ (p : Part) (m M : BlockModel) (tape tape′ : List (List ℕ)) (R : Roo
                         };
                     gatherers =
                         record {
-                          exists = λ b i. (long {A = List Gatherer} _ _ [] (R .blocks b i), long {A = List Gatherer} (length (m .blocks)) (b - 1) [] (omega (arith, i .0, i .1)));
+                          exists = λ b i. (long {A = List Gatherer} _ _ [] (R .blocks b i), long {A = List Gatherer} (length (m .blocks)) (b - 1) [] (omega arith));
                           alike = λ b i. none-here _ _ (length (M .blocks)) (length (m .blocks)) _ _;
                         };
                   };
@@ -158,7 +136,7 @@ facility-row n i l h = List·getD-append (replicate n 1) l 0 i (omega (arith, le
 
 storage-row : (n k : ℕ) (l : List ℕ) → getD (replicate n 1 ++ l) (k + n) 0 ≡ getD l k 0
 storage-row n k l =
-    ap (λ (i : ℕ). getD (replicate n 1 ++ l) (k + i) 0) (sym (length-replicate {A = ℕ} n 1)) ∙ getD-behind (replicate n 1) l k 0
+    cc (length-replicate {A = ℕ} n 1, getD-behind (replicate n 1) l k 0)
 
 module _ (m₁ m₂ : BlockModel) {t₁ t₂ : List (List ℕ)} (proper₁ : Proper m₁ t₁) (proper₂ : Proper m₂ t₂) where
   abbrev p₁ : Part
@@ -173,16 +151,11 @@ module _ (m₁ m₂ : BlockModel) {t₁ t₂ : List (List ℕ)} (proper₁ : Pro
     where
       go : Place p₁ u → getD (capacities m₁) (u - 1) 0 ≡ getD (replicate (m₁ .facilities + m₂ .facilities) 1 ++ (m₁ .capacities ++ m₂ .capacities)) (serverIn p₁ u - 1) 0
       go (facility h e) =
-          facility-row (m₁ .facilities) (u - 1) (m₁ .capacities) (omega (arith, i .0))
-          ∙ sym (facility-row (m₁ .facilities + m₂ .facilities) (serverIn p₁ u - 1) (m₁ .capacities ++ m₂ .capacities) (omega (arith, i .0)))
+          cc (facility-row (m₁ .facilities) (u - 1) (m₁ .capacities) (omega (arith, i .0)), facility-row (m₁ .facilities + m₂ .facilities) (serverIn p₁ u - 1) (m₁ .capacities ++ m₂ .capacities) (omega (arith, i .0)))
       go (storage h e) =
-          let k : ℕ = u - m₁ .facilities - 1 in
           let a : u - m₁ .facilities - 1 + m₁ .facilities ≡ u - 1 = omega arith in
           let b : u - m₁ .facilities - 1 + (m₁ .facilities + m₂ .facilities) ≡ serverIn p₁ u - 1 = omega arith in
-          ap (λ (j : ℕ). getD (capacities m₁) j 0) (sym a) ∙ storage-row (m₁ .facilities) (u - m₁ .facilities - 1) (m₁ .capacities)
-          ∙ sym (List·getD-append (m₁ .capacities) (m₂ .capacities) 0 (u - m₁ .facilities - 1) (omega (arith, i .1)))
-          ∙ sym (storage-row (m₁ .facilities + m₂ .facilities) (u - m₁ .facilities - 1) (m₁ .capacities ++ m₂ .capacities))
-          ∙ ap (λ (j : ℕ). getD (replicate (m₁ .facilities + m₂ .facilities) 1 ++ (m₁ .capacities ++ m₂ .capacities)) j 0) b
+          cc (a, storage-row (m₁ .facilities) (u - m₁ .facilities - 1) (m₁ .capacities), List·getD-append (m₁ .capacities) (m₂ .capacities) 0 (u - m₁ .facilities - 1) (omega (arith, i .1)), storage-row (m₁ .facilities + m₂ .facilities) (u - m₁ .facilities - 1) (m₁ .capacities ++ m₂ .capacities), b)
 
   capacity₂ : (u : ℕ) → Names (servers m₂) u → getD (capacities m₂) (u - 1) 0 ≡ getD (capacities (joinModels m₁ m₂)) (serverIn p₂ u - 1) 0
   unfolding joinModels
@@ -190,41 +163,37 @@ module _ (m₁ m₂ : BlockModel) {t₁ t₂ : List (List ℕ)} (proper₁ : Pro
     where
       go : Place p₂ u → getD (capacities m₂) (u - 1) 0 ≡ getD (replicate (m₁ .facilities + m₂ .facilities) 1 ++ (m₁ .capacities ++ m₂ .capacities)) (serverIn p₂ u - 1) 0
       go (facility h e) =
-          facility-row (m₂ .facilities) (u - 1) (m₂ .capacities) (omega (arith, i .0))
-          ∙ sym (facility-row (m₁ .facilities + m₂ .facilities) (serverIn p₂ u - 1) (m₁ .capacities ++ m₂ .capacities) (omega (arith, i .0)))
+          cc (facility-row (m₂ .facilities) (u - 1) (m₂ .capacities) (omega (arith, i .0)), facility-row (m₁ .facilities + m₂ .facilities) (serverIn p₂ u - 1) (m₁ .capacities ++ m₂ .capacities) (omega (arith, i .0)))
       go (storage h e) =
           let a : u - m₂ .facilities - 1 + m₂ .facilities ≡ u - 1 = omega arith in
           let b : u - m₂ .facilities - 1 + length (m₁ .capacities) + (m₁ .facilities + m₂ .facilities) ≡ serverIn p₂ u - 1 = omega arith in
-          ap (λ (j : ℕ). getD (capacities m₂) j 0) (sym a) ∙ storage-row (m₂ .facilities) (u - m₂ .facilities - 1) (m₂ .capacities)
-          ∙ sym (getD-behind (m₁ .capacities) (m₂ .capacities) (u - m₂ .facilities - 1) 0)
-          ∙ sym (storage-row (m₁ .facilities + m₂ .facilities) (u - m₂ .facilities - 1 + length (m₁ .capacities)) (m₁ .capacities ++ m₂ .capacities))
-          ∙ ap (λ (j : ℕ). getD (replicate (m₁ .facilities + m₂ .facilities) 1 ++ (m₁ .capacities ++ m₂ .capacities)) j 0) b
+          cc (a, storage-row (m₂ .facilities) (u - m₂ .facilities - 1) (m₂ .capacities), getD-behind (m₁ .capacities) (m₂ .capacities) (u - m₂ .facilities - 1) 0, storage-row (m₁ .facilities + m₂ .facilities) (u - m₂ .facilities - 1 + length (m₁ .capacities)) (m₁ .capacities ++ m₂ .capacities), b)
 
   -- a server of a part is one of the joined model
   servers₁ : (u : ℕ) → Names (servers m₁) u → Names (servers (joinModels m₁ m₂)) (serverIn p₁ u)
   servers₁ u i = go (place p₁ u)
     where
       go : Place p₁ u → Names (servers (joinModels m₁ m₂)) (serverIn p₁ u)
-      go (facility h e) = (omega (arith, i .0), omega (arith, servers-long m₁ m₂))
-      go (storage h e) = (omega (arith, i .0), omega (arith, servers-long m₁ m₂, i .1))
+      go (facility h e) = (omega arith, omega (arith, servers-long m₁ m₂))
+      go (storage h e) = (omega arith, omega (arith, servers-long m₁ m₂))
 
   servers₂ : (u : ℕ) → Names (servers m₂) u → Names (servers (joinModels m₁ m₂)) (serverIn p₂ u)
   servers₂ u i = go (place p₂ u)
     where
       go : Place p₂ u → Names (servers (joinModels m₁ m₂)) (serverIn p₂ u)
-      go (facility h e) = (omega (arith, i .0), omega (arith, servers-long m₁ m₂))
-      go (storage h e) = (omega (arith, i .0), omega (arith, servers-long m₁ m₂, i .1))
+      go (facility h e) = (omega arith, omega (arith, servers-long m₁ m₂))
+      go (storage h e) = (omega arith, omega (arith, servers-long m₁ m₂))
 
   rooms₁ : Rooms p₁ m₁ (joinModels m₁ m₂) (joinTapes t₁ t₂) t₁
   unfolding joinModels
   rooms₁ =
       record {
-        blocks = λ b i. omega (arith, i .0, i .1, blocks-long m₁ m₂);
-        queues = λ q i. omega (arith, i .0, i .1);
+        blocks = λ b i. omega (arith, i .1, blocks-long m₁ m₂);
+        queues = λ q i. omega arith;
         servers-in = servers₁;
-        lists = λ l i. (omega (arith, i .0, i .1, length-append t₁ t₂, proper₁ .tapes), omega (arith, i .0, i .1, proper₁ .tapes));
+        lists = λ l i. (omega (arith, i .0, i .1, length-append t₁ t₂), omega arith);
         capacity = capacity₁;
-        times = λ l i. sym (ap (λ (j : ℕ). getD (t₁ ++ t₂) j []) (less l) ∙ List·getD-append t₁ t₂ [] (l - 1) (omega (arith, i .0, i .1, proper₁ .tapes)));
+        times = λ l i. cc (less l, List·getD-append t₁ t₂ [] (l - 1) (omega (arith, i .0, i .1, proper₁ .tapes)));
       }
     where
       less : (l : ℕ) → l + 0 - 1 ≡ l - 1
@@ -234,16 +203,16 @@ module _ (m₁ m₂ : BlockModel) {t₁ t₂ : List (List ℕ)} (proper₁ : Pro
   unfolding joinModels
   rooms₂ =
       record {
-        blocks = λ b i. omega (arith, i .0, i .1, blocks-long m₁ m₂);
-        queues = λ q i. omega (arith, i .0, i .1);
+        blocks = λ b i. omega (arith, i .1, blocks-long m₁ m₂);
+        queues = λ q i. omega arith;
         servers-in = servers₂;
-        lists = λ l i. (omega (arith, i .0, i .1, length-append t₁ t₂, proper₁ .tapes, proper₂ .tapes), omega (arith, i .0, i .1, proper₂ .tapes));
+        lists = λ l i. (omega (arith, i .0, i .1, length-append t₁ t₂, proper₂ .tapes), omega arith);
         capacity = capacity₂;
-        times = λ l i. sym (ap (λ (j : ℕ). getD (t₁ ++ t₂) j []) (index l (i .0)) ∙ getD-behind t₁ t₂ (l - 1) []);
+        times = λ l i. cc (index l (i .0), getD-behind t₁ t₂ (l - 1) []);
       }
     where
       index : (l : ℕ) → 1 ≤ l → l + m₁ .lists - 1 ≡ l - 1 + length t₁
-      index l h = omega (arith, proper₁ .tapes)
+      index l h = omega arith
 
   -- ---- The starts
 
@@ -256,15 +225,14 @@ module _ (m₁ m₂ : BlockModel) {t₁ t₂ : List (List ℕ)} (proper₁ : Pro
   start-is : start (joinModels m₁ m₂) (joinTapes t₁ t₂) ≡ startAt (1 + length (m₁ .blocks)) (map (blockIn p₂) (m₂ .blocks)) s₁
   unfolding start joinModels
   start-is =
-      startAt-append 1 (map (blockIn p₁) (m₁ .blocks)) (map (blockIn p₂) (m₂ .blocks)) s₀
-      ∙ ap (λ (i : ℕ). startAt (1 + i) (map (blockIn p₂) (m₂ .blocks)) s₁) (length-map (m₁ .blocks) (blockIn p₁))
+      cc (startAt-append 1 (map (blockIn p₁) (m₁ .blocks)) (map (blockIn p₂) (m₂ .blocks)) s₀, length-map (m₁ .blocks) (blockIn p₁))
 
   no-gates : (i : ℕ) → getD (s₀ .wel) i [] ≡ []
   unfolding idle
   no-gates i = empty-row (servers (joinModels m₁ m₂) * 6) i []
 
   at-index : {m : BlockModel} {t : List (List ℕ)} → Proper m t → (i : ℕ) → ProperBlock m (getD (m .blocks) i (terminate 0))
-  at-index {m} proper i = subst (λ (j : ℕ). ProperBlock m (getD (m .blocks) j (terminate 0))) less (proper .block (suc i))
+  at-index {m} proper i = rw less at (proper .block (suc i))
     where
       less : suc i - 1 ≡ i
       less = omega arith
@@ -282,9 +250,9 @@ module _ (m₁ m₂ : BlockModel) {t₁ t₂ : List (List ℕ)} (proper₁ : Pro
     first-start =
         others-start p₁ m₁ (I₁ .tables) (own₁ .naming) (start m₁ t₁) (map (blockIn p₂) (m₂ .blocks)) (1 + length (m₁ .blocks)) s₁
         (λ i lt. (
-          subst (Outside p₁ m₁) (sym (image-at p₂ (m₂ .blocks) i)) (outside-in p₁ m₁ p₂ m₂ (joinModels m₁ m₂) F₁ (getD (m₂ .blocks) i (terminate 0)) (at-index proper₂ i)),
+          rw (image-at p₂ (m₂ .blocks) i) (outside-in p₁ m₁ p₂ m₂ (joinModels m₁ m₂) F₁ (getD (m₂ .blocks) i (terminate 0)) (at-index proper₂ i)),
           F₁ .blocks (1 + length (m₁ .blocks) + i)
-              (subst (λ (b : ℕ). inPart p₂ (size p₂ m₂) b ≡ true) (number i) (in-part p₂ m₂ (suc i) (omega arith, omega (arith, length-map (m₂ .blocks) (blockIn p₂))))),
+              (rw (number i) at (in-part p₂ m₂ (suc i) (omega arith, omega (arith, length-map (m₂ .blocks) (blockIn p₂))))),
         )) (record { together = own₁ .together; gates = startAt-gates 1 (map (blockIn p₁) (m₁ .blocks)) s₀ no-gates })
       where
         number : (i : ℕ) → suc i + length (m₁ .blocks) ≡ 1 + length (m₁ .blocks) + i
@@ -294,8 +262,8 @@ module _ (m₁ m₂ : BlockModel) {t₁ t₂ : List (List ℕ)} (proper₁ : Pro
     before₂ =
         others-start p₂ m₂ (I₂ .tables) nobodyYet (idle m₂ t₂) (map (blockIn p₁) (m₁ .blocks)) 1 s₀
         (λ i lt. (
-          subst (Outside p₂ m₂) (sym (image-at p₁ (m₁ .blocks) i)) (outside-in p₂ m₂ p₁ m₁ (joinModels m₁ m₂) F₂ (getD (m₁ .blocks) i (terminate 0)) (at-index proper₁ i)),
-          F₂ .blocks (1 + i) (subst (λ (b : ℕ). inPart p₁ (size p₁ m₁) b ≡ true) (number i) (in-part p₁ m₁ (suc i) (omega arith, omega (arith, length-map (m₁ .blocks) (blockIn p₁))))),
+          rw (image-at p₁ (m₁ .blocks) i) (outside-in p₂ m₂ p₁ m₁ (joinModels m₁ m₂) F₂ (getD (m₁ .blocks) i (terminate 0)) (at-index proper₁ i)),
+          F₂ .blocks (1 + i) (rw (number i) at (in-part p₁ m₁ (suc i) (omega arith, omega (arith, length-map (m₁ .blocks) (blockIn p₁))))),
         )) (record { together = idle-together p₂ m₂ (joinModels m₁ m₂) (joinTapes t₁ t₂) t₂ rooms₂; gates = no-gates })
       where
         number : (i : ℕ) → suc i + 0 ≡ 1 + i
@@ -318,16 +286,14 @@ module _ (m₁ m₂ : BlockModel) {t₁ t₂ : List (List ℕ)} (proper₁ : Pro
           stands = same;
           seen = h .seen;
           moving =
-              subst (λ (o : Option Transaction). Moving p m N o (start m t .moving)) (sym (h .still .0))
-              (subst (Moving p m N none) (sym (h .still .1)) (away nobodyMoves));
+              rw (h .still .0) (subst (Moving p m N none) (sym (h .still .1)) (away nobodyMoves));
           clocked = level (h .clock);
           holding = holding m t (h .still .1) z;
         }
 
     pub joint-start : start m₁ t₁ .end ≡ 0 → start m₂ t₂ .end ≡ 0 → Joint p₁ m₁ p₂ m₂ (start (joinModels m₁ m₂) (joinTapes t₁ t₂)) (start m₁ t₁) (start m₂ t₂)
     joint-start z₁ z₂ =
-        subst (λ (s : State). Joint p₁ m₁ p₂ m₂ s (start m₁ t₁) (start m₂ t₂)) (sym start-is)
-        (record {
+        rw start-is (record {
           naming = own₁ .naming;
           naming′ = own₂ .naming;
           pace = pace-of p₁ m₁ (own₁ .naming) _ t₁ (first-start .together) z₁;

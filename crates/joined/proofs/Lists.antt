@@ -1,16 +1,5 @@
 -- Part of a sorted list, and a list whose members are renamed: insertion, selection and replacement go through both.
-use Prim.Native.Nat.{ℕ, _<_, _≤_}
-use mathlib.Core.Path.{_≡_, refl, sym, ap, ap₂, _∙_, subst}
-use mathlib.Core.Bool.{Bool, true, false, cond, _&&_, _||_, true≢false}
-use mathlib.Core.Logic.{_⊎_, inl, inr}
-use mathlib.Core.List.{List, [], _∷_, _++_, map, reverse, reverseAux}
-use native.Mathlib.Omega.{arith}
-use lib.Dec.{ltb, eqb}
-use lib.ListN.{take, drop}
-use borrow.Author.Tests.{ltb-true, ltb-false, lt-ltb, eqb-true, eqb-false, eq-eqb}
-use Rattle.machine.specs.Transaction.{Transaction, precedes, Event, earlier}
-use Rattle.machine.specs.Lists.{insert, those, replaceFirst}
-use Rattle.machine.specs.Claims.{Each}
+use Rattle.machine.specs.All.{cases, ℕ, _<_, _≤_, _≡_, refl, sym, subst, Bool, true, false, cond, _&&_, _||_, true≢false, _⊎_, inl, inr, List, [], _∷_, _++_, map, reverse, reverseAux, arith, ltb, eqb, take, drop, ltb-true, ltb-false, lt-ltb, eqb-true, eqb-false, eq-eqb, Transaction, precedes, Event, earlier, insert, those, replaceFirst, Each}
 use Rattle.machine.proofs.runs.RunLaws.{cond-cases, each-map}
 use Rattle.machine.proofs.lists.Sorted.{Sorted, each-those, each-insert, each-replace, Before, precedes-before, before-precedes}
 
@@ -19,11 +8,7 @@ no-true true h = absurd (h refl)
 no-true false h = refl
 
 pub strictly : (a b : ℕ) → a ≤ b → (a ≡ b → ⊥) → a < b
-strictly a b h n = go (ltb a b) refl
-  where
-    go : (c : Bool) → ltb a b ≡ c → a < b
-    go true e = ltb-true a b e
-    go false e = absurd (n (omega (arith, ltb-false a b e)))
+strictly a b h n = cases (ltb a b) (λ e. ltb-true a b e) (λ e. omega arith)
 
 -- ---- Renamed
 
@@ -37,7 +22,7 @@ module _ {A B : Type 0} (f : A → B) where
       go : (b : Bool) → before (f x) (f y) ≡ b → insert before (f x) (map f l) ≡ map f (insert before′ x l)
           → cond (before (f x) (f y)) (f x ∷ f y ∷ map f l) (f y ∷ insert before (f x) (map f l)) ≡ map f (cond b (x ∷ y ∷ l) (y ∷ insert before′ x l))
       go true e k = rw e
-      go false e k = rw e (ap (λ r. f y ∷ r) k)
+      go false e k = cc
 
   pub those-map : (p : B → Bool) (q : A → Bool) (l : List A) → Each (λ x. p (f x) ≡ q x) l → those p (map f l) ≡ map f (those q l)
   unfolding those
@@ -45,7 +30,7 @@ module _ {A B : Type 0} (f : A → B) where
   those-map p q (x ∷ l) h = go (q x) (h .0) (those-map p q l (h .1))
     where
       go : (b : Bool) → p (f x) ≡ b → those p (map f l) ≡ map f (those q l) → cond (p (f x)) (f x ∷ those p (map f l)) (those p (map f l)) ≡ map f (cond b (x ∷ those q l) (those q l))
-      go true e k = rw e (ap (λ r. f x ∷ r) k)
+      go true e k = cc
       go false e k = rw e k
 
   pub replace-map : (p : B → Bool) (q : A → Bool) (few l : List A) → Each (λ x. p (f x) ≡ q x) l
@@ -56,12 +41,12 @@ module _ {A B : Type 0} (f : A → B) where
     where
       join : (k : List A) → map f k ++ map f l ≡ map f (k ++ l)
       join [] = refl
-      join (y ∷ k) = ap (λ r. f y ∷ r) (join k)
+      join (y ∷ k) = cc (join k)
 
       go : (b : Bool) → p (f x) ≡ b → replaceFirst p (map f few) (map f l) ≡ map f (replaceFirst q few l)
           → cond (p (f x)) (map f few ++ map f l) (f x ∷ replaceFirst p (map f few) (map f l)) ≡ map f (cond b (few ++ l) (x ∷ replaceFirst q few l))
       go true e k = rw e (join few)
-      go false e k = rw e (ap (λ r. f x ∷ r) k)
+      go false e k = cc
 
   pub take-map : (l : List A) → take 1 (map f l) ≡ map f (take 1 l)
   take-map [] = refl
@@ -81,7 +66,7 @@ module _ {A B : Type 0} (f : A → B) where
   -- two names for each member
   pub map-same : (g : A → B) (l : List A) → Each (λ x. f x ≡ g x) l → map f l ≡ map g l
   map-same g [] h = refl
-  map-same g (x ∷ l) h = ap₂ (λ y r. y ∷ r) (h .0) (map-same g l (h .1))
+  map-same g (x ∷ l) h = cc (h .0, map-same g l (h .1))
 
 -- a test that says the same of every member
 pub all-same : {A : Type 0} (P : A → Type 0) → ((x : A) → P x) → (l : List A) → Each P l
@@ -97,14 +82,14 @@ module _ {A : Type 0} (p : A → Bool) where
   those-insert-other before x [] e = rw e
   those-insert-other before x (y ∷ l) e =
       let rest = those-insert-other before x l e in
-      cond-cases (λ (k : List A). those p k ≡ cond (p y) (y ∷ those p l) (those p l)) (before x y) _ _ (λ d. rw e) (λ d. rw rest)
+      cond-cases (λ k. those p k ≡ cond (p y) (y ∷ those p l) (those p l)) (before x y) _ _ (λ d. rw e) (λ d. rw rest)
 
   pub those-replace-other : (q : A → Bool) (l : List A) → Each (λ x. q x ≡ true → p x ≡ false) l → those p (replaceFirst q [] l) ≡ those p l
   unfolding replaceFirst those
   those-replace-other q [] h = refl
   those-replace-other q (x ∷ l) h =
       let rest = those-replace-other q l (h .1) in
-      cond-cases (λ (k : List A). those p k ≡ cond (p x) (x ∷ those p l) (those p l)) (q x) _ _ (λ e. rw (h .0 e)) (λ e. rw rest)
+      cond-cases (λ k. those p k ≡ cond (p x) (x ∷ those p l) (those p l)) (q x) _ _ (λ e. rw (h .0 e)) (λ e. rw rest)
 
   -- only such members are replaced
   pub those-replace : (q : A → Bool) (l : List A) → Each (λ x. q x ≡ true → p x ≡ true) l → those p (replaceFirst q [] l) ≡ replaceFirst q [] (those p l)
@@ -115,7 +100,7 @@ module _ {A : Type 0} (p : A → Bool) where
       go : (b : Bool) → q x ≡ b → (c : Bool) → p x ≡ c → those p (replaceFirst q [] l) ≡ replaceFirst q [] (those p l)
           → those p (cond b l (x ∷ replaceFirst q [] l)) ≡ replaceFirst q [] (cond c (x ∷ those p l) (those p l))
       go true e true d k = rw e
-      go true e false d k = absurd (true≢false (sym (h .0 e) ∙ d))
+      go true e false d k = absurd (true≢false (cc (h .0 e, d)))
       go false e true d k = rw (e, d, k)
       go false e false d k = rw (d, k)
 
@@ -157,15 +142,12 @@ module _ {A : Type 0} (before : A → A → Bool) (O : Order before) where
 
   pub those-insert : (p : A → Bool) (x : A) (l : List A) → Sorted before l → p x ≡ true → those p (insert before x l) ≡ insert before x (those p l)
   unfolding insert those
-  those-insert p x [] h d = rw d (sym (insert-front x [] tt))
+  those-insert p x [] h d = cc
   those-insert p x (y ∷ l) h d = go (before x y) refl (p y) refl (those-insert p x l (h .1) d)
     where
-      all : before x y ≡ true → Each (λ z. before x z ≡ true) (those p (y ∷ l))
-      all e = each-those (λ z. before x z ≡ true) p (y ∷ l) (e, each-map (λ z n. O .after x y z e n) l (h .0))
-
       go : (b : Bool) → before x y ≡ b → (c : Bool) → p y ≡ c → those p (insert before x l) ≡ insert before x (those p l)
           → those p (cond b (x ∷ y ∷ l) (y ∷ insert before x l)) ≡ insert before x (cond c (y ∷ those p l) (those p l))
-      go true e c q k = rw d (ap (λ (r : List A). x ∷ r) (ap (λ (b : Bool). cond b (y ∷ those p l) (those p l)) q) ∙ sym (insert-front x _ (subst (λ (b : Bool). Each (λ z. before x z ≡ true) (cond b (y ∷ those p l) (those p l))) q (all e))))
+      go true e c q k = rw d (rw (q, ← insert-front x _ (subst (λ (b : Bool). Each (λ z. before x z ≡ true) (cond b (y ∷ those p l) (those p l))) q (each-those (λ z. before x z ≡ true) p (y ∷ l) (e, each-map (λ z n. O .after x y z e n) l (h .0))))))
       go false e true q k = rw (q, e, k)
       go false e false q k = rw (q, k)
 
@@ -233,12 +215,12 @@ earlier-sooner a b = go (ltb (a .time) (b .time)) refl (eqb (a .time) (b .time))
 
 sooner-earlier : (a b : Event) → Sooner a b → earlier a b ≡ true
 unfolding earlier
-sooner-earlier a b (sooner h) = rw (lt-ltb _ _ h)
+sooner-earlier a b (sooner h) = rw lt-ltb
 sooner-earlier a b (tied e h) = go (ltb (a .time) (b .time))
   where
     go : (x : Bool) → (x || (eqb (a .time) (b .time) && precedes (a .who) (b .who))) ≡ true
     go true = refl
-    go false = rw (eq-eqb _ _ e) h
+    go false = rw eq-eqb h
 
 not-sooner : (a b : Event) → earlier a b ≡ false → (b .time < a .time) ⊎ ((a .time ≡ b .time) × (precedes (a .who) (b .who) ≡ false))
 unfolding earlier
@@ -252,15 +234,15 @@ not-sooner a b = go (ltb (a .time) (b .time)) refl (eqb (a .time) (b .time)) ref
 
 sooner-after : (x y z : Event) → Sooner x y → (y .time < z .time) ⊎ ((z .time ≡ y .time) × (precedes (z .who) (y .who) ≡ false)) → Sooner x z
 sooner-after x y z (sooner h) (inl k) = sooner (omega arith)
-sooner-after x y z (sooner h) (inr k) = sooner (omega (arith, k .0))
+sooner-after x y z (sooner h) (inr k) = sooner (omega arith)
 sooner-after x y z (tied e h) (inl k) = sooner (omega arith)
-sooner-after x y z (tied e h) (inr k) = tied (e ∙ sym (k .0)) (by-precedence .after (x .who) (y .who) (z .who) h (k .1))
+sooner-after x y z (tied e h) (inr k) = tied (cc (e, k .0)) (by-precedence .after (x .who) (y .who) (z .who) h (k .1))
 
 sooner-asym : (x y : Event) → Sooner x y → Sooner y x → ⊥
 sooner-asym x y (sooner h) (sooner k) = omega arith
 sooner-asym x y (sooner h) (tied e k) = omega arith
 sooner-asym x y (tied e h) (sooner k) = omega arith
-sooner-asym x y (tied e h) (tied d k) = true≢false (sym k ∙ by-precedence .asym (x .who) (y .who) h)
+sooner-asym x y (tied e h) (tied d k) = true≢false (cc (k, by-precedence .asym (x .who) (y .who) h))
 
 pub by-time : Order earlier
 by-time =

@@ -1,29 +1,13 @@
 -- What an accepted model's terms name exists: blocks, queues, servers and values are in their ranges. Without the clock term they are plain.
-use Prim.Native.Nat.{ℕ, zero, suc, _+_, _-_, _≤_}
-use mathlib.Core.Path.{_≡_, refl, ap, subst}
-use mathlib.Core.Bool.{Bool, true, false, cond, _&&_, true≢false}
-use mathlib.Core.List.{List, [], _∷_}
-use native.Mathlib.Omega.{arith}
-use borrow.Author.Tests.{leb-true}
-use lib.Dec.{T, leb, ltb, eqb}
-use lib.ListN.{length}
+use Rattle.machine.specs.All.{ℕ, zero, suc, _+_, _-_, _≤_, _≡_, refl, Bool, true, false, cond, _&&_, true≢false, List, [], _∷_, arith, leb-true, T, leb, ltb, eqb, length, Rules, anyOf, Term, constant, minusConstant, parameter, clockTerm, entriesOf, contentOf, unitsInUse, unitsFree, facilityInUse, value, comparison, bracket, Sum, nothing, plus, minus, Block, terminate, facts, BlockModel, Parsed, parsed, refused, Parser, Counts, simpleTerm, number, blockTerm, counted, mentioned, valueNumber, sumTerms, sumField, bracketField, comparisonField, mentionField, taggedTerm, valueTerm, valueField, inValue, valueFields, modelFields, atEnd, wellPlaced, targetsMove, joined, termNames, sumNames, allOf, wellFormed, beginning, modelOf, tapeOf, Validation, accept, reject, withTape, withModel, validate, Each}
 use Rattle.machine.specs.Limits as Limits
-use Rattle.machine.specs.Rules.{Rules}
-use Rattle.machine.specs.Lists.{anyOf}
-use Rattle.machine.specs.Term.{Term, constant, minusConstant, parameter, clockTerm, entriesOf, contentOf, unitsInUse, unitsFree, facilityInUse, value, comparison, bracket, Sum, nothing, plus, minus}
-use Rattle.machine.specs.Block.{Block, terminate, facts, BlockModel}
-use Rattle.machine.specs.Parser.{Parsed, parsed, refused, Parser}
-use Rattle.machine.specs.Decode.{Counts, simpleTerm, number, blockTerm, counted, mentioned, valueNumber, sumTerms, sumField, bracketField, comparisonField, mentionField, taggedTerm, valueTerm, valueField, inValue, valueFields, modelFields, atEnd}
-use Rattle.machine.specs.Validate.{wellPlaced, targetsMove, joined, termNames, sumNames, allOf, wellFormed, beginning, modelOf, tapeOf, Validation, accept, reject, withTape, withModel, validate}
-use Rattle.machine.specs.Claims.{Each}
 use Rattle.machine.proofs.decoding.Proper.{Names, servers}
 use Rattle.machine.proofs.runs.RunLaws.{cond-cases, each-map, or-false}
 use Rattle.machine.proofs.decoding.ParserLaws.{Refusal, Gives, Ensures, Any, then, gives, refuses, choice, weaken, repeated, asked, in-range}
 use Rattle.machine.proofs.decoding.ProperFrom.{block-parsed}
 use Rattle.machine.proofs.decoding.Groups.{and-left, and-right}
 use Rattle.machine.proofs.runs.Shape.{each-getD}
-use Rattle.joined.specs.Join.{Part}
-use Rattle.joined.specs.Parts.{clockIn, clockInSum, usesClock}
+use Rattle.joined.specs.{Part, clockIn, clockInSum, usesClock}
 use Rattle.joined.proofs.Terms.{Plain, PlainSum}
 use Rattle.joined.proofs.Instance.{PlainModel}
 
@@ -77,9 +61,9 @@ module _ (read : ℕ → ℕ → Parser ℕ) (reads : (lo hi : ℕ) → Ensures 
       (both (eqb tag 3) (then (reads 0 0) (λ k h. gives tt))
       (both (eqb tag 4) (then (reads 1 (n .blocks)) (λ k h. gives h))
       (both (eqb tag 5) (then (reads 1 (n .queues)) (λ k h. gives h))
-      (both (eqb tag 6) (then (reads 1 (n .storages)) (λ k h. gives (omega (arith, h .0), omega (arith, h .1))))
-      (both (eqb tag 7) (then (reads 1 (n .storages)) (λ k h. gives (omega (arith, h .0), omega (arith, h .1))))
-      (then (reads 1 (n .facilities)) (λ k h. gives (h .0, omega (arith, h .1)))))))))))
+      (both (eqb tag 6) (then (reads 1 (n .storages)) (λ k h. gives (omega arith, omega arith)))
+      (both (eqb tag 7) (then (reads 1 (n .storages)) (λ k h. gives (omega arith, omega arith)))
+      (then (reads 1 (n .facilities)) (λ k h. gives (h .0, omega arith))))))))))
 
 module _ (s : List ℕ) where
   ranged : (lo hi : ℕ) → Ensures (InRange lo hi) (number s lo hi)
@@ -89,17 +73,13 @@ module _ (s : List ℕ) where
   unfolding blockTerm
   block-term n = then (ranged 0 9) (λ tag h. both (eqb tag 9) (then (ranged 1 (n .values)) (λ k h. gives h)) (simple-ranged (number s) ranged n tag))
 
-  counted-same : (P : ℕ → Type 0) (n : ℕ) → P n → Ensures P (counted s n)
-  unfolding counted
-  counted-same P n h = record { from = λ c. cond-cases (Gives P) (ltb (c .numbers) Limits.maxValueNumbers) _ _ (λ e. h) (λ e. (omega arith, omega arith)) }
-
   mentioned-same : (P : ℕ → Type 0) (n : ℕ) → P n → Ensures P (mentioned s n)
   unfolding mentioned
   mentioned-same P n h = record { from = λ c. cond-cases (Gives P) (ltb (c .mentions) Limits.maxMentions) _ _ (λ e. h) (λ e. (omega arith, omega arith)) }
 
   value-number : (lo hi : ℕ) → Ensures (InRange lo hi) (valueNumber s lo hi)
   unfolding valueNumber
-  value-number lo hi = then (ranged lo hi) (λ n h. counted-same (InRange lo hi) n h)
+  value-number lo hi = then (ranged lo hi) (λ n h. (unfold counted in record { from = λ c. cond-cases (Gives (InRange lo hi)) (ltb (c .numbers) Limits.maxValueNumbers) _ _ (λ e. h) (λ e. (omega arith, omega arith)) }))
 
   module _ (b : Bounds) where
     sum-terms : (n : ℕ) (inner : Parser Term) → Ensures (Ranged b) inner → Ensures (RangedSum b) (sumTerms s n inner)
@@ -120,15 +100,11 @@ module _ (s : List ℕ) where
     unfolding comparisonField
     comparison-field inner e = then (value-number 1 6) (λ r h. then e (λ x k. then e (λ y g. gives (k, g))))
 
-  mention-field : (n : Counts) → Ensures (Ranged (within n)) (mentionField s n)
-  unfolding mentionField
-  mention-field n = then (value-number 1 (n .values)) (λ k h. then (mentioned-same (InRange 1 (n .values)) k h) (λ m g. gives g))
-
   tagged-term : (n : Counts) (p q : Parser Term) → Ensures (Ranged (within n)) p → Ensures (Ranged (within n)) q → Ensures (Ranged (within n)) (taggedTerm s n p q)
   unfolding taggedTerm
   tagged-term n p q h k =
       then (value-number 0 11)
-      (λ tag g. both (eqb tag 9) (mention-field n) (both (eqb tag 10) h (both (eqb tag 11) k (simple-ranged (valueNumber s) value-number n tag))))
+      (λ tag g. both (eqb tag 9) (unfold mentionField in then (value-number 1 (n .values)) (λ k h. then (mentioned-same (InRange 1 (n .values)) k h) (λ m g. gives g))) (both (eqb tag 10) h (both (eqb tag 11) k (simple-ranged (valueNumber s) value-number n tag))))
 
   value-term : (n : Counts) (d : ℕ) → Ensures (Ranged (within n)) (valueTerm s n d)
   unfolding valueTerm
@@ -167,7 +143,7 @@ value-fields : (s : List ℕ) (n : Counts) (total left lower : ℕ) → lower + 
 unfolding valueFields valueField
 value-fields s n total zero lower le = gives (refl, tt)
 value-fields s n total (suc left) lower le =
-    then one (λ e h. then (value-fields s n total left (suc lower) (omega arith)) (λ l k. gives (ap suc (k .0), (h, k .1))))
+    then one (λ e h. then (value-fields s n total left (suc lower) (omega arith)) (λ l k. gives (cc (k .0), (h, k .1))))
   where
     one : Ensures (RangedSum (behind n total)) (valueField s (inValue s n lower))
     one =
@@ -205,12 +181,12 @@ model-named rules s =
       values =
           each-map
           (λ e g.
-          sum-wider (behind (record { facilities = facilities; storages = storages; queues = queues; values = 0; lists = 0; blocks = 0 }) values) (valueBounds m) (omega arith) (omega arith) (omega (arith, hc .0)) (omega (arith, hm .0)) e g)
+          sum-wider (behind (record { facilities = facilities; storages = storages; queues = queues; values = 0; lists = 0; blocks = 0 }) values) (valueBounds m) (omega arith) (omega arith) (omega arith) (omega arith) e g)
           sums (hm .1);
       blocks =
           each-map
-          (λ (b : Block) g.
-          each-map (λ (t : Term) k. term-wider (within n) (boundsOf m) (omega (arith, hp .0)) (omega arith) (omega (arith, hc .0)) (omega (arith, hm .0)) t k) (facts b .terms) (g .1))
+          (λ b g.
+          each-map (λ t k. term-wider (within n) (boundsOf m) (omega arith) (omega arith) (omega arith) (omega arith) t k) (facts b .terms) (g .1))
           program (hp .1);
     }))))))))))))
 
@@ -326,7 +302,7 @@ module _ (p : Part) (m : BlockModel) where
       let d = or-false (anyOf clockInSum (m .values)) (anyOf (λ b. anyOf clockIn (facts b .terms)) (m .blocks)) e in
       record {
         values = plain-values (m .values) (h .values) (third f) (d .0);
-        blocks = λ b. each-getD (λ (x : Block). Each (Plain p m) (facts x .terms)) (m .blocks) (b - 1) (terminate 0) (plain-blocks (m .blocks) (h .blocks) (d .1)) tt;
+        blocks = λ b. each-getD (λ x. Each (Plain p m) (facts x .terms)) (m .blocks) (b - 1) (terminate 0) (plain-blocks (m .blocks) (h .blocks) (d .1)) tt;
       }
     where
       third : T (wellFormed m) → T (allOf (sumNames (length (m .blocks))) (m .values))
@@ -340,7 +316,7 @@ module _ (p : Part) (m : BlockModel) where
 
 module _ (rules : Rules) (model tape : List ℕ) (work report : ℕ) {m : BlockModel} {t : List (List ℕ)} (accepted : validate rules model tape work report ≡ accept m t) where
   named : NamedModel rules m
-  named = subst (Names-of rules) accepted (names-of rules model tape work report)
+  named = rw accepted at (names-of rules model tape work report)
 
   pub edition-from : (1 ≤ m .edition) × (m .edition ≤ rules .editions)
   edition-from = named .edition

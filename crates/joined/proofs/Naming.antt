@@ -1,19 +1,9 @@
 -- A transaction of the joined run as its part alone has it: block numbered back, number and serial by rank. Orders, lines and waking go through.
-use Prim.Native.Nat.{ℕ, _-_}
-use mathlib.Core.Path.{_≡_, refl, sym, ap, _∙_}
-use mathlib.Core.Bool.{Bool, true, false, cond, _&&_, _||_}
-use mathlib.Core.List.{List, [], _∷_, map, reverse}
-use lib.Dec.{ltb, eqb}
-use Rattle.machine.specs.Transaction.{Transaction, precedes, Event, earlier, Gatherer}
-use Rattle.machine.specs.Lists.{insert, those}
-use Rattle.machine.specs.Setters.{withReturning}
-use Rattle.machine.specs.Moves.{lineUp, fromBack, wake, inFamily}
-use Rattle.machine.specs.Claims.{Each}
+use Rattle.machine.specs.All.{ℕ, _-_, _≡_, refl, Bool, true, false, cond, List, [], _∷_, map, reverse, eqb, Transaction, precedes, Event, earlier, Gatherer, insert, those, withReturning, lineUp, fromBack, wake, inFamily, Each}
 use Rattle.machine.proofs.runs.RunLaws.{each-map}
 use Rattle.machine.proofs.lists.Sorted.{Sorted, sorted-in, each-insert}
 use Rattle.machine.proofs.lists.Lines.{meets}
-use Rattle.joined.specs.Join.{Part}
-use Rattle.joined.specs.Parts.{inPart}
+use Rattle.joined.specs.{Part, inPart}
 use Rattle.joined.proofs.Lists.{insert-map, reverse-map, all-same, those-insert, those-insert-other, by-precedence}
 use Rattle.joined.proofs.Ranks.{Roll, rankIn, rank-ltb, rank-eqb, listed}
 
@@ -72,12 +62,12 @@ module _ (p : Part) (n : ℕ) where
     pub precedes-seen : (a b : Transaction) → Known N a → Known N b → precedes (seenAs N a) (seenAs N b) ≡ precedes a b
     unfolding precedes
     precedes-seen a b h k =
-        ap (λ (c : Bool). ltb (b .priority) (a .priority) || (eqb (a .priority) (b .priority) && c)) (rank-ltb (N .serials) (a .serial) (b .serial) (h .serial) (k .serial))
+        cc (rank-ltb (N .serials) (a .serial) (b .serial) (h .serial) (k .serial))
 
     pub earlier-seen : (a b : Event) → Known N (a .who) → Known N (b .who) → earlier (eventAs a) (eventAs b) ≡ earlier a b
     unfolding earlier
     earlier-seen a b h k =
-        ap (λ (c : Bool). ltb (a .time) (b .time) || (eqb (a .time) (b .time) && c)) (precedes-seen (a .who) (b .who) h k)
+        cc (precedes-seen (a .who) (b .who) h k)
 
     pub family-seen : (t : Transaction) (g : Gatherer) → Known N t → Known N (g .who) → inFamily (seenAs N t) (gathererAs g) ≡ inFamily t g
     unfolding inFamily
@@ -92,23 +82,17 @@ module _ (p : Part) (n : ℕ) where
     unfolding lineUp fromBack
     lineUp-seen edition t l h k = go (eqb edition 1) (t .returning)
       where
-        behind : reverse (insert meets (seenAs N t) (reverse (map (seenAs N) l))) ≡ map (seenAs N) (reverse (insert meets t (reverse l)))
-        behind =
-            ap (λ (r : List Transaction). reverse (insert meets (seenAs N t) r)) (reverse-map (seenAs N) l)
-            ∙ ap reverse (insert-map (seenAs N) meets meets t (reverse l) (all-same (λ (u : Transaction). meets (seenAs N t) (seenAs N u) ≡ meets t u) (λ u. refl) (reverse l)))
-            ∙ reverse-map (seenAs N) (insert meets t (reverse l))
-
         go : (a b : Bool) → cond a (insert precedes (seenAs N t) (map (seenAs N) l)) (cond b (seenAs N t ∷ map (seenAs N) l) (reverse (insert meets (seenAs N t) (reverse (map (seenAs N) l)))))
             ≡ map (seenAs N) (cond a (insert precedes t l) (cond b (t ∷ l) (reverse (insert meets t (reverse l)))))
         go true b = insert-seen t l h k
         go false true = refl
-        go false false = behind
+        go false false = cc (reverse-map (seenAs N) l, insert-map (seenAs N) meets meets t (reverse l) (all-same (λ (u : Transaction). meets (seenAs N t) (seenAs N u) ≡ meets t u) (λ u. refl) (reverse l)), reverse-map (seenAs N) (insert meets t (reverse l)))
 
     -- ---- The part of a sorted list
 
     pub part-insert : (t : Transaction) (l : List Transaction) → Sorted precedes l → Known N t → Each (Known N) (those mine l)
         → insert precedes (seenAs N t) (map (seenAs N) (those mine l)) ≡ map (seenAs N) (those mine (insert precedes t l))
-    part-insert t l s h k = insert-seen t (those mine l) h k ∙ ap (map (seenAs N)) (sym (those-insert precedes by-precedence mine t l s (h .own)))
+    part-insert t l s h k = cc (insert-seen t (those mine l) h k, those-insert precedes by-precedence mine t l s (h .own))
 
     pub known-insert : (t : Transaction) (l : List Transaction) → Sorted precedes l → Known N t → Each (Known N) (those mine l) → Each (Known N) (those mine (insert precedes t l))
     known-insert t l s h k = rw (those-insert precedes by-precedence mine t l s (h .own)) (each-insert (Known N) precedes t (those mine l) h k)
@@ -136,18 +120,18 @@ module _ (p : Part) (n : ℕ) where
 
         go : (b : Bool) → mine t ≡ b → Each (Known N) (cond b (t ∷ those mine l) (those mine l)) → Rest → Woken (t ∷ l) rel
         go true e h′ more =
-            let h₀ : Known N t′ = known-returning true t (h′ .0) in
+            let h₀ = known-returning true t (h′ .0) in
             let rest = more (insert precedes t′ rel) (sorted-in t′ rel s) (h′ .1) (known-insert t′ rel s h₀ k) in
             record {
-              same = rw e (ap (wake (map (seenAs N) (those mine l))) (part-insert t′ rel s h₀ k) ∙ rest .same);
+              same = rw e (cc (part-insert t′ rel s h₀ k, rest .same));
               known = rest .known;
               sorted = rest .sorted;
             }
         go false e h′ more =
-            let gone : those mine (insert precedes t′ rel) ≡ those mine rel = those-insert-other mine precedes t′ rel e in
+            let gone = those-insert-other mine precedes t′ rel e in
             let rest = more (insert precedes t′ rel) (sorted-in t′ rel s) h′ (rw gone k) in
             record {
-              same = rw e (ap (λ (r : List Transaction). wake (map (seenAs N) (those mine l)) (map (seenAs N) r)) (sym gone) ∙ rest .same);
+              same = rw e (cc (gone, rest .same));
               known = rest .known;
               sorted = rest .sorted;
             }

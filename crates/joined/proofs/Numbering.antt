@@ -1,26 +1,19 @@
 -- How the rows of two parts lie in those of the joined model: the numbers of a part rise with its own, and no number is of both.
-use Prim.Native.Nat.{ℕ, _+_, _-_, _≤_, _<_}
-use mathlib.Core.Path.{_≡_, refl, sym, ap}
-use mathlib.Core.Bool.{Bool, true, false, _&&_, true≢false}
-use native.Mathlib.Omega.{arith}
-use lib.Dec.{ltb, leb}
-use borrow.Author.Tests.{ltb-true, leb-true, leb-false, lt-ltb, le-leb, lt-leb}
-use Rattle.machine.specs.Block.{Code, U, NU, E, NE, F, NF, codeIndex, BlockModel, welIndex}
+use Rattle.machine.specs.All.{cases, ℕ, _+_, _-_, _≤_, _<_, _≡_, refl, sym, ap, Bool, true, false, _&&_, true≢false, arith, ltb, leb, ltb-true, leb-true, leb-false, lt-ltb, le-leb, lt-leb, Code, U, NU, E, NE, F, NF, codeIndex, BlockModel, welIndex}
 use Rattle.machine.proofs.decoding.Proper.{servers}
-use Rattle.joined.specs.Join.{Part, serverIn}
-use Rattle.joined.specs.Parts.{inPart}
-use Rattle.joined.proofs.Seen.{Tables, Gate, gateThere, gateHere}
+use Rattle.joined.specs.{Part, serverIn, inPart}
+use Rattle.joined.proofs.Seen.{Tables}
 
 -- ---- Servers
 
 module _ (p : Part) where
   pub in-facility : (v : ℕ) → v ≤ p .facilities → serverIn p v ≡ v + p .toFacility
   unfolding serverIn
-  in-facility v h = rw (le-leb v (p .facilities) h) refl
+  in-facility v h = rw le-leb refl
 
   pub in-storage : (v : ℕ) → p .facilities < v → serverIn p v ≡ v + p .toStorage
   unfolding serverIn
-  in-storage v h = rw (lt-leb v (p .facilities) h) refl
+  in-storage v h = rw lt-leb refl
 
   -- either
   pub data Place (v : ℕ) : Type 0 where
@@ -28,11 +21,10 @@ module _ (p : Part) where
     storage : p .facilities < v → serverIn p v ≡ v + p .toStorage → Place v
 
   pub place : (v : ℕ) → Place v
-  place v = go (leb v (p .facilities)) refl
-    where
-      go : (b : Bool) → leb v (p .facilities) ≡ b → Place v
-      go true e = facility (leb-true _ _ e) (in-facility v (leb-true _ _ e))
-      go false e = storage (leb-false _ _ e) (in-storage v (leb-false _ _ e))
+  place v =
+      cases (leb v (p .facilities))
+      (λ e. facility (leb-true _ _ e) (in-facility v (leb-true _ _ e)))
+      (λ e. storage (leb-false _ _ e) (in-storage v (leb-false _ _ e)))
 
   -- storages lie behind facilities
   module _ (order : p .toFacility ≤ p .toStorage) where
@@ -55,35 +47,27 @@ module _ (p : Part) where
       code-below F = omega arith
       code-below NF = omega arith
 
-      gates-forth : (g k : Gate p m) → 1 ≤ g .server → 1 ≤ k .server → gateThere p m g ≡ gateThere p m k → gateHere p m g ≡ gateHere p m k
-      unfolding welIndex
-      gates-forth g k a b e =
-          let x = code-below (g .code) in
-          let y = code-below (k .code) in
-          let same : g .server ≡ k .server = server-once (g .server) (k .server) a b (omega arith) in
-          let codes : codeIndex (g .code) ≡ codeIndex (k .code) = omega (arith, ap (serverIn p) same) in
-          omega arith
-
-      gates-back : (g k : Gate p m) → 1 ≤ g .server → 1 ≤ k .server → gateHere p m g ≡ gateHere p m k → gateThere p m g ≡ gateThere p m k
-      unfolding welIndex
-      gates-back g k a b e =
-          let x = code-below (g .code) in
-          let y = code-below (k .code) in
-          let same : g .server ≡ k .server = omega arith in
-          omega (arith, ap (serverIn p) same)
-
       pub tables : Tables p m
       tables =
           record {
-            blocks = record { forth = λ i k a b e. omega (arith, a .0, b .0); back = λ i k a b e. omega (arith, a .0, b .0) };
-            queues = record { forth = λ i k a b e. omega (arith, a .0, b .0); back = λ i k a b e. omega (arith, a .0, b .0) };
-            lists = record { forth = λ i k a b e. omega (arith, a .0, b .0); back = λ i k a b e. omega (arith, a .0, b .0) };
+            blocks = record { forth = λ i k a b e. omega arith; back = λ i k a b e. omega arith };
+            queues = record { forth = λ i k a b e. omega arith; back = λ i k a b e. omega arith };
+            lists = record { forth = λ i k a b e. omega arith; back = λ i k a b e. omega arith };
             servers =
                 record {
-                  forth = λ i k a b e. ap (λ (n : ℕ). n - 1) (server-once i k (a .0) (b .0) e);
-                  back = λ i k a b e. ap (λ (n : ℕ). serverIn p n - 1) (same i k (a .0) (b .0) e);
+                  forth = λ i k a b e. cc (server-once i k (a .0) (b .0) e);
+                  back = λ i k a b e. cc (same i k (a .0) (b .0) e);
                 };
-            gates = record { forth = λ g k a b e. gates-forth g k (a .0) (b .0) e; back = λ g k a b e. gates-back g k (a .0) (b .0) e };
+            gates = record {
+              forth = λ g k a b e. (unfold welIndex in let x = code-below (g .code) in
+                  let y = code-below (k .code) in
+                  let same = server-once (g .server) (k .server) (a .0) (b .0) (omega arith) in
+                  omega arith);
+              back = λ g k a b e. (unfold welIndex in let x = code-below (g .code) in
+                  let y = code-below (k .code) in
+                  let same : g .server ≡ k .server = omega arith in
+                  omega (arith, ap (serverIn p) same));
+            };
           }
         where
           same : (i k : ℕ) → 1 ≤ i → 1 ≤ k → i - 1 ≡ k - 1 → i ≡ k
@@ -92,14 +76,10 @@ module _ (p : Part) where
 -- ---- Blocks
 
 pub not-in : (p : Part) (n b : ℕ) → (p .toBlock < b → p .toBlock + n < b) → inPart p n b ≡ false
-not-in p n b h = go (ltb (p .toBlock) b) refl
-  where
-    go : (c : Bool) → ltb (p .toBlock) b ≡ c → (c && leb b (p .toBlock + n)) ≡ false
-    go true e = lt-leb b (p .toBlock + n) (h (ltb-true _ _ e))
-    go false e = refl
+not-in p n b h = cases (ltb (p .toBlock) b) (λ e. rw e (lt-leb b (p .toBlock + n) (h (ltb-true _ _ e)))) (λ e. rw e)
 
 pub is-in : (p : Part) (n b : ℕ) → p .toBlock < b → b ≤ p .toBlock + n → inPart p n b ≡ true
-is-in p n b h k = rw (lt-ltb (p .toBlock) b h, le-leb b (p .toBlock + n) k) refl
+is-in p n b h k = rw (lt-ltb, le-leb) refl
 
 both-true : (a b : Bool) → (a && b) ≡ true → (a ≡ true) × (b ≡ true)
 both-true true true e = (refl, refl)

@@ -1,31 +1,14 @@
 -- One block of the other part: what the part sees stays as it is.
-use Prim.Native.Nat.{ℕ, zero, suc, _+_, _-_, _≤_}
-use mathlib.Core.Path.{_≡_, refl, sym, ap, _∙_, subst}
-use mathlib.Core.Bool.{Bool, true, false, cond, true≢false}
-use mathlib.Core.List.{List, [], _∷_}
-use mathlib.Core.Option.{Option, none, some}
-use native.Mathlib.Omega.{arith}
-use lib.Dec.{leb}
-use borrow.Author.Tests.{eqb-true}
-use Rattle.machine.specs.Transaction.{Transaction, precedes, Event, Gatherer, Interrupted, newborn}
-use Rattle.machine.specs.Lists.{replaceFirst}
-use Rattle.machine.specs.Term.{Condition, always, whenTrue, serverAt, free, truth, compare}
-use Rattle.machine.specs.Block.{Share, facility, shareServer, shareUnits, Block, generate, advance, terminate, takes, frees, waitServer, waitTerms, moves, assign, priority, split, counts, assemble, preempt, giveBack, facts, BlockModel, unconditional}
-use Rattle.machine.specs.State.{State}
-use Rattle.machine.specs.Setters.{withNext, withSerial, withReturning, setEnded, setFel}
-use Rattle.machine.specs.Moves.{log, enters, moveTo, fresh, toQl, toWel, toWsl, beginWait, mustWait, setUse, arrival, copies, toGatherers, comes, released, ofFacility, interruptedAt, losesTo, losersTo, interrupt, resume, qlOf}
-use Rattle.machine.specs.Execute.{checkWels, wakeFor, freeUnits, endsOne, delay, takeUnits, effect}
-use Rattle.machine.specs.Claims.{Each}
+use Rattle.machine.specs.All.{cases, ℕ, zero, suc, _+_, _-_, _≤_, _≡_, refl, Bool, true, false, cond, true≢false, List, [], _∷_, Option, none, some, arith, leb, eqb-true, Transaction, precedes, Event, Interrupted, newborn, replaceFirst, Condition, always, whenTrue, serverAt, free, truth, compare, Share, facility, shareServer, shareUnits, Block, generate, advance, terminate, takes, frees, waitServer, waitTerms, moves, assign, priority, split, counts, assemble, preempt, giveBack, facts, BlockModel, unconditional, State, withNext, withSerial, withReturning, setEnded, setFel, log, enters, moveTo, fresh, toQl, toWel, toWsl, beginWait, mustWait, setUse, arrival, copies, toGatherers, comes, released, ofFacility, interruptedAt, losesTo, losersTo, interrupt, resume, qlOf, checkWels, wakeFor, freeUnits, endsOne, delay, takeUnits, effect, Each}
 use Rattle.machine.proofs.decoding.Proper.{Names}
 use Rattle.machine.proofs.runs.RunLaws.{each-map, each-pair, cond-cases}
 use Rattle.machine.proofs.lists.Sorted.{each-insert, each-those, each-replace, each-passes}
 use Rattle.machine.proofs.lists.Lines.{both-partFor}
 use Rattle.machine.proofs.lists.Cases.{checkWels-kept, waitServer-cases, waitTerms-cases, assemble-cases, preempt-cases, giveBack-cases}
-use Rattle.joined.specs.Join.{Part, serverIn}
-use Rattle.joined.specs.Parts.{inPart}
+use Rattle.joined.specs.{Part, serverIn, inPart}
 use Rattle.joined.proofs.Lists.{those-insert-other, those-replace-other, sorted-insert, sorted-replace, by-holder}
-use Rattle.joined.proofs.Naming.{Naming, mine, eventAs}
-use Rattle.joined.proofs.Seen.{size, Tables, interruptedAs, Alike, OfPart, Seen}
+use Rattle.joined.proofs.Naming.{Naming, mine}
+use Rattle.joined.proofs.Seen.{size, Tables, OfPart, Seen}
 use Rattle.joined.proofs.OtherSteps.{OtherServer, OtherQueue, OtherList, OtherRow, Beside, put-fel, put-interrupted, log-other, enters-other, toRel-other, toFel-other, wsl-other, ql-other, wel-other, wakeQl-other, wakeFirstWel-other, setUse-other, setContent-other, useTime-other, gatherers-other, fresh-other, made-other}
 
 -- ---- What a block of the other part names
@@ -69,7 +52,7 @@ module _ (p : Part) (m : BlockModel) where
     mine? = mine p (size p m)
 
     left-still : (s : State) → B s → L s
-    left-still s h = record { seen = h .seen; time = h .time; moving = subst Away (sym (h .still)) nobody }
+    left-still s h = record { seen = h .seen; time = h .time; moving = rw (h .still) nobody }
 
     left-goes : (s : State) → B s → (b : ℕ) (t : Transaction) → inPart p (size p m) b ≡ false → L (moveTo b t s)
     unfolding moveTo
@@ -118,20 +101,18 @@ module _ (p : Part) (m : BlockModel) where
         put-interrupted p m T N c s′ _ gone _
         (record {
           part =
-              subst (λ (r : List Interrupted). Alike p m N (interruptedAs p m N) (λ i. i .who) r (s′ .interrupted))
-              (sym (those-insert-other (λ (i : Interrupted). mine? (i .who)) (λ a b. precedes (a .who) (b .who)) _ (s .interrupted) d)) (h .seen .listed .interrupted .part);
-          sorted = sorted-insert (λ a b. precedes (a .who) (b .who)) (by-holder (λ (i : Interrupted). i .who)) _ (s .interrupted) (h .seen .listed .interrupted .sorted);
+              rw (← those-insert-other (λ (i : Interrupted). mine? (i .who)) (λ a b. precedes (a .who) (b .who)) _ (s .interrupted) d) at (h .seen .listed .interrupted .part);
+          sorted = sorted-insert (λ a b. precedes (a .who) (b .who)) (by-holder (λ i. i .who)) _ (s .interrupted) (h .seen .listed .interrupted .sorted);
         })
         (each-insert (OfPart p m N) (λ a b. precedes (a .who) (b .who)) _ (s .interrupted)
-        (record { own = λ x. absurd (true≢false (sym x ∙ d)); other = λ x u i same. o u i (ap (λ (n : ℕ). n - 1) same) }) (h .seen .listed .facilities))
+        (record { own = λ x. absurd (true≢false (cc (x, d))); other = λ x u i same. o u i (cc same) }) (h .seen .listed .facilities))
       where
         gone : B (setFel (replaceFirst (losesTo t (serverAt (s .view) f)) [] (s .fel)) s)
         gone =
             put-fel p m T N c s′ s h _
             (record {
               part =
-                  subst (λ (r : List Event). Alike p m N (eventAs p (size p m) N) (λ y. y .who) r (s′ .fel))
-                  (sym (those-replace-other (λ (y : Event). mine? (y .who)) (losesTo t (serverAt (s .view) f)) (s .fel) q)) (h .seen .listed .fel .part);
+                  rw (those-replace-other (λ (y : Event). mine? (y .who)) (losesTo t (serverAt (s .view) f)) (s .fel) q) (h .seen .listed .fel .part);
               sorted = sorted-replace _ _ (s .fel) (h .seen .listed .fel .sorted);
             })
 
@@ -139,19 +120,15 @@ module _ (p : Part) (m : BlockModel) where
     module _ (facilities : (u : ℕ) → Names (m .facilities) u → serverIn p u ≡ u + p .toFacility) where
       taken-other : (f : ℕ) → OtherServer p m f → (i : Interrupted) → OfPart p m N i → ofFacility f i ≡ true → mine? (i .who) ≡ false
       unfolding ofFacility
-      taken-other f o i k e = go (mine? (i .who)) refl
+      taken-other f o i k e = cases (mine? (i .who)) (λ d. absurd (never (k .own d) (eqb-true _ _ e))) (λ d. d)
         where
           back : 1 ≤ i .facility - p .toFacility → i .facility - p .toFacility + p .toFacility ≡ i .facility
           back h = omega arith
 
           never : Names (m .facilities) (i .facility - p .toFacility) → i .facility ≡ f → ⊥
           never u same =
-              o (i .facility - p .toFacility) (u .0, omega (arith, u .1))
-              (ap (λ (n : ℕ). n - 1) (facilities (i .facility - p .toFacility) u ∙ back (u .0) ∙ same))
-
-          go : (b : Bool) → mine? (i .who) ≡ b → mine? (i .who) ≡ false
-          go true d = absurd (never (k .own d) (eqb-true _ _ e))
-          go false d = d
+              o (i .facility - p .toFacility) (u .0, omega arith)
+              (cc (facilities (i .facility - p .toFacility) u, back (u .0), same))
 
       resume-other : (i : Interrupted) (f : ℕ) → OtherServer p m f → mine? (i .who) ≡ false → (s : State) → B s → B (resume i f s)
       unfolding resume
@@ -160,10 +137,7 @@ module _ (p : Part) (m : BlockModel) where
           (put-interrupted p m T N c s′ s h _
           (record {
             part =
-                subst (λ (r : List Interrupted). Alike p m N (interruptedAs p m N) (λ i. i .who) r (s′ .interrupted))
-                (sym
-                (those-replace-other (λ (y : Interrupted). mine? (y .who)) (ofFacility f) (s .interrupted)
-                (each-map (λ (y : Interrupted) k. taken-other f o y k) (s .interrupted) (h .seen .listed .facilities)))) (h .seen .listed .interrupted .part);
+                rw (those-replace-other (λ (y : Interrupted). mine? (y .who)) (ofFacility f) (s .interrupted) (each-map (λ (y : Interrupted) k. taken-other f o y k) (s .interrupted) (h .seen .listed .facilities))) (h .seen .listed .interrupted .part);
             sorted = sorted-replace _ _ (s .interrupted) (h .seen .listed .interrupted .sorted);
           })
           (each-replace (OfPart p m N) (ofFacility f) [] (s .interrupted) tt (h .seen .listed .facilities))) _ _ d
@@ -182,7 +156,7 @@ module _ (p : Part) (m : BlockModel) where
         units-other : (x : Share) (preempts : Bool) → OtherServer p m (shareServer x) → On → L (takeUnits M x preempts t s)
         unfolding takeUnits
         units-other x preempts o on =
-            let v : ℕ = shareServer x in
+            let v = shareServer x in
             cond-cases L (leb (shareUnits x) (free (serverAt (s .view) v))) _ _
             (λ d. left-goes _ (checkWels-other v o _ (setUse-other p m T N c s′ _ h₁ v _ _ _ o)) _ t on)
             (λ d. left-still _ (waits-other (toQl (M .edition) v) t e (λ u k n s h. ql-other p m T N c s′ s h (M .edition) v u o) s h))
@@ -196,16 +170,9 @@ module _ (p : Part) (m : BlockModel) where
         loser : (f : ℕ) → OtherServer p m f → (y : Event) (l : List Event) → losersTo t f s ≡ y ∷ l → mine? (y .who) ≡ false
         loser f o y l k =
             let v = serverAt (s .view) f in
-            let both = each-pair (λ (z : Event). losesTo t v z ≡ true → mine? (z .who) ≡ false) (λ z. losesTo t v z ≡ true) (losersTo t f s)
-            (each-those (λ (z : Event). losesTo t v z ≡ true → mine? (z .who) ≡ false) (losesTo t v) (s .fel) (losers f o)) (each-passes (losesTo t v) (s .fel)) in
-            first (subst (Each (λ (z : Event). (losesTo t v z ≡ true → mine? (z .who) ≡ false) × (losesTo t v z ≡ true))) k both .0)
-          where
-            first : {A C : Type 0} → (A → C) × A → C
-            first q = q .0 (q .1)
-
-        entered-losers : (f : ℕ) → OtherServer p m f → Each (λ (y : Event). losesTo t (serverAt (enters t s .view) f) y ≡ true → mine? (y .who) ≡ false) (enters t s .fel)
-        unfolding enters log serverAt
-        entered-losers f o = losers f o
+            let both = each-pair (λ z. losesTo t v z ≡ true → mine? (z .who) ≡ false) (λ z. losesTo t v z ≡ true) (losersTo t f s)
+            (each-those (λ z. losesTo t v z ≡ true → mine? (z .who) ≡ false) (losesTo t v) (s .fel) (losers f o)) (each-passes (losesTo t v) (s .fel)) in
+            (rw k at both .0) .0 ((rw k at both .0) .1)
 
         -- the other part's counter, ends, gatherers and interrupted ones
         ends-other : (a : ℕ) → B (endsOne a (enters t s))
@@ -229,20 +196,12 @@ module _ (p : Part) (m : BlockModel) where
 
         gathers-other : (u : Transaction) → mine? u ≡ false → u .next ≡ t .next → (s : State) → B s → B (toGatherers u s)
         unfolding toGatherers
-        gathers-other u d n s h = gatherers-other p m T N c s′ s h (u .next) _ (subst (OtherRow p m) (sym n) row)
-
-        comes-other : (g : Gatherer) → B (comes g t (setEnded (suc (enters t s .ended)) (enters t s)))
-        unfolding comes
-        comes-other g = gatherers-other p m T N c s′ _ ended-other (t .next) _ row
-
-        released-other : (g : Gatherer) → On → B (released g t (setEnded (suc (enters t s .ended)) (enters t s)))
-        unfolding released
-        released-other g on = toRel-other p m T N c s′ _ (gatherers-other p m T N c s′ _ ended-other (t .next) _ row) _ on
+        gathers-other u d n s h = gatherers-other p m T N c s′ s h (u .next) _ (rw n row)
 
         stopped : (f : ℕ) → OtherServer p m f → (i : Interrupted) (l : List Interrupted) → interruptedAt s f ≡ i ∷ l → mine? (i .who) ≡ false
         stopped f o i l k =
             let both = each-pair (OfPart p m N) (λ x. ofFacility f x ≡ true) (interruptedAt s f) (each-those (OfPart p m N) (ofFacility f) (s .interrupted) (h .seen .listed .facilities)) (each-passes (ofFacility f) (s .interrupted)) in
-            let first = subst (Each (λ (x : Interrupted). OfPart p m N x × (ofFacility f x ≡ true))) k both .0 in
+            let first = rw k at both .0 in
             taken-other f o i (first .0) (first .1)
 
         goes-out : (k : Condition) (target : ℕ) → inPart p (size p m) target ≡ false → (unconditional k ≡ false → On)
@@ -250,7 +209,7 @@ module _ (p : Part) (m : BlockModel) where
         unfolding truth unconditional
         goes-out always target o on = o
         goes-out (whenTrue a r b) target o on =
-            cond-cases (λ (n : ℕ). inPart p (size p m) n ≡ false) (compare (M .values) (s .view) (t .parameters) a r b) _ _ (λ d. o) (λ d. on refl)
+            cond-cases (λ n. inPart p (size p m) n ≡ false) (compare (M .values) (s .view) (t .parameters) a r b) _ _ (λ d. o) (λ d. on refl)
 
         pub effect-other : (b : Block) → Outside b → (facts b .leaves ≡ false → On) → inPart p (size p m) (t .next - facts b .back) ≡ false → L (effect M b t s)
         unfolding effect facts takeUnits shareServer shareUnits
@@ -272,11 +231,11 @@ module _ (p : Part) (m : BlockModel) where
         effect-other (counts k q) o on back = left-goes _ (setContent-other p m T N c s′ _ h₁ q _ o) _ t (on refl)
         effect-other (assemble n) o on back =
             assemble-cases L M n t s (λ d. left-still _ (begins-other toGatherers t e gathers-other s h))
-            (λ g l d q. left-still _ (released-other g (on refl))) (λ g l d q. left-still _ (comes-other g))
+            (λ g l d q. left-still _ (unfold released in toRel-other p m T N c s′ _ (gatherers-other p m T N c s′ _ ended-other (t .next) _ row) _ (on refl))) (λ g l d q. left-still _ (unfold comes in gatherers-other p m T N c s′ _ ended-other (t .next) _ row))
         effect-other (preempt f) o on back =
             preempt-cases L M f t s (λ d. units-other (facility f) true o (on refl))
             (λ x l d.
-            left-goes _ (checkWels-other f o _ (setUse-other p m T N c s′ _ (interrupt-other x t f o (loser f o x l d) _ h₁ (entered-losers f o)) f _ _ _ o)) _ t (on refl))
+            left-goes _ (checkWels-other f o _ (setUse-other p m T N c s′ _ (interrupt-other x t f o (loser f o x l d) _ h₁ (unfold enters log serverAt in losers f o)) f _ _ _ o)) _ t (on refl))
         effect-other (giveBack f) o on back =
             giveBack-cases L M f t s (λ d. left-goes _ (checkWels-other f o _ (frees-other (facility f) o)) _ t (on refl))
             (λ i l d.

@@ -1,26 +1,12 @@
 -- The steps of a transaction of the other part: the part sees nothing of them.
-use Prim.Native.Nat.{ℕ, suc, _-_, _<_}
-use mathlib.Core.Path.{_≡_, sym, subst}
-use mathlib.Core.Bool.{Bool, false}
-use mathlib.Core.List.{List, [], _∷_, map}
-use mathlib.Core.Option.{none}
-use native.Mathlib.Omega.{arith}
-use lib.ListN.{getD, take}
-use Rattle.machine.specs.Transaction.{Transaction, precedes, Event, earlier, Gatherer, Interrupted}
-use Rattle.machine.specs.Lists.{insert, those}
-use Rattle.machine.specs.Term.{Server, Queue, idleServer, emptyQueue}
-use Rattle.machine.specs.Block.{Code, U, NU, E, NE, F, NF, codeIndex, BlockModel, welIndex}
-use Rattle.machine.specs.State.{State}
-use Rattle.machine.specs.Setters.{withSerial, setEntries, setQueues, setServers, setView, setSamples, setQl, setWel, setWsl, setRel, setFel, setGatherers, setInterrupted, setSerial, setMade}
-use Rattle.machine.specs.Moves.{recordOf, log, enters, fresh, toRel, toFel, toQl, toWel, toWsl, qlOf, welOf, wake, wakeQl, wakeFirstWel, Parted, setUse, setContent, useTime, setGatherersAt}
-use Rattle.machine.specs.Claims.{Each}
+use Rattle.machine.specs.All.{ℕ, suc, _-_, _<_, _≡_, sym, subst, Bool, false, List, [], _∷_, none, arith, getD, take, Transaction, precedes, Event, earlier, Gatherer, Interrupted, insert, those, Server, Queue, idleServer, emptyQueue, Code, U, NU, E, NE, F, NF, codeIndex, BlockModel, welIndex, State, withSerial, setEntries, setQueues, setServers, setView, setSamples, setQl, setWel, setWsl, setRel, setFel, setInterrupted, setSerial, setMade, recordOf, log, enters, fresh, toRel, toFel, toQl, toWel, toWsl, qlOf, welOf, wake, wakeQl, wakeFirstWel, Parted, setUse, setContent, useTime, setGatherersAt, Each}
 use Rattle.machine.proofs.decoding.Proper.{Names, servers}
 use Rattle.machine.proofs.lists.Sorted.{each-drop, at-set}
 use Rattle.machine.proofs.lists.Lines.{each-lineUp}
-use Rattle.joined.specs.Join.{Part}
+use Rattle.joined.specs.{Part}
 use Rattle.joined.proofs.Lists.{those-insert-other, those-none, sorted-insert, by-precedence, by-time}
 use Rattle.joined.proofs.Rows.{Rows, rows-other}
-use Rattle.joined.proofs.Naming.{Naming, mine, Known, eventAs, gathererAs}
+use Rattle.joined.proofs.Naming.{Naming, mine, Known, eventAs}
 use Rattle.joined.proofs.Seen.{size, blockThere, queueThere, listThere, serverThere, here, Gate, AtServer, gateThere, gateHere, aloneAs, interruptedAs, Alike, Shown, SameServer, OfPart, Seen, Tables}
 use Rattle.joined.proofs.Renaming.{serial-other, number-other}
 use Rattle.joined.proofs.OwnSteps.{shown-wake}
@@ -52,7 +38,7 @@ module _ (p : Part) (m : BlockModel) where
   -- nor its WELs
   pub other-gate : (v : ℕ) (code : Code) → OtherServer v → (g : Gate p m) → AtServer p m g → gateThere p m g ≡ welIndex v code → ⊥
   unfolding welIndex
-  other-gate v code o g i e = o (g .server) i (omega (arith, e, code-below code, code-below (g .code)))
+  other-gate v code o g i e = o (g .server) i (omega (arith, code-below code, code-below (g .code)))
 
   -- the state beside which the part stands still
   pub record Beside (N : Naming) (c : ℕ) (s s′ : State) : Type 0 where
@@ -96,9 +82,6 @@ module _ (p : Part) (m : BlockModel) where
       put-wel : (l : List (List Transaction)) → Rows (AtServer p m) (gateThere p m) (gateHere p m) (Alike p m N alone (λ t. t)) [] [] l (s′ .wel) → Gates l → B (setWel l s)
       put-wel l k g = record { seen = record { counted = h .seen .counted; fixtures = h .seen .fixtures; lined = record { ql = h .seen .lined .ql; wel = k; gatherers = h .seen .lined .gatherers }; listed = h .seen .listed; told = h .seen .told }; time = h .time; still = h .still; gates = g }
 
-      put-gatherers : (l : List (List Gatherer)) → Rows (Names (size p m)) (blockThere p m) (here p m) (Alike p m N (gathererAs p (size p m) N) (λ x. x .who)) [] [] l (s′ .gatherers) → B (setGatherers l s)
-      put-gatherers l k = record { seen = record { counted = h .seen .counted; fixtures = h .seen .fixtures; lined = record { ql = h .seen .lined .ql; wel = h .seen .lined .wel; gatherers = k }; listed = h .seen .listed; told = h .seen .told }; time = h .time; still = h .still; gates = h .gates }
-
       put-samples : (l : List (List ℕ)) → Rows (Names (m .lists)) (listThere p m) (here p m) (λ (x y : List ℕ). y ≡ x) [] [] l (s′ .samples) → B (setSamples l s)
       put-samples l k = record { seen = record { counted = h .seen .counted; fixtures = record { entries = h .seen .fixtures .entries; queues = h .seen .fixtures .queues; servers = h .seen .fixtures .servers; lists = k }; lined = h .seen .lined; listed = h .seen .listed; told = h .seen .told }; time = h .time; still = h .still; gates = h .gates }
 
@@ -122,7 +105,7 @@ module _ (p : Part) (m : BlockModel) where
       shown-other : {l l′ : List Transaction} → Shown p m N alone (λ t. t) precedes l l′ → (t : Transaction) → mine? t ≡ false → Shown p m N alone (λ t. t) precedes (insert precedes t l) l′
       shown-other {l} {l′} k t e =
           record {
-            part = subst (λ (r : List Transaction). Alike p m N alone (λ t. t) r l′) (sym (those-insert-other mine? precedes t l e)) (k .part);
+            part = rw (those-insert-other mine? precedes t l e) (k .part);
             sorted = sorted-insert precedes by-precedence t l (k .sorted);
           }
 
@@ -138,8 +121,7 @@ module _ (p : Part) (m : BlockModel) where
           put-fel _
           (record {
             part =
-                subst (λ (r : List Event). Alike p m N (eventAs p (size p m) N) (λ y. y .who) r (s′ .fel))
-                (sym (those-insert-other (λ (y : Event). mine? (y .who)) earlier x (s .fel) e)) (h .seen .listed .fel .part);
+                rw (those-insert-other (λ (y : Event). mine? (y .who)) earlier x (s .fel) e) (h .seen .listed .fel .part);
             sorted = sorted-insert earlier by-time x (s .fel) (h .seen .listed .fel .sorted);
           })
 
@@ -159,10 +141,9 @@ module _ (p : Part) (m : BlockModel) where
       rel-woken : (l : List Transaction) → Each (λ t. mine? t ≡ false) l → B (setRel (wake l (s .rel)) s)
       unfolding wake
       rel-woken l e =
-          let nobody : those mine? l ≡ [] = those-none mine? l e in
+          let nobody = those-none mine? l e in
           put-rel _
-          (subst (λ (r : List Transaction). Shown p m N alone (λ t. t) precedes (wake l (s .rel)) (wake (map alone r) (s′ .rel))) nobody
-          (shown-wake p m T N (h .seen .listed .rel) l (subst (Each (Known p (size p m) N)) (sym nobody) tt)))
+          (rw nobody at (shown-wake p m T N (h .seen .listed .rel) l (subst (Each (Known p (size p m) N)) (sym nobody) tt)))
 
       pub setUse-other : (v units holder : ℕ) (preempted : Bool) → OtherServer v → B (setUse v units holder preempted s)
       unfolding setUse
@@ -176,7 +157,7 @@ module _ (p : Part) (m : BlockModel) where
       useTime-other l o = put-samples _ (rows-other _ _ _ _ _ _ _ _ (h .seen .fixtures .lists) (l - 1) o _)
 
       pub gatherers-other : (b : ℕ) (l : List Gatherer) → OtherRow b → B (setGatherersAt b l s)
-      gatherers-other b l o = put-gatherers _ (rows-other _ _ _ _ _ _ _ _ (h .seen .lined .gatherers) (b - 1) o _)
+      gatherers-other b l o = record { seen = record { counted = h .seen .counted; fixtures = h .seen .fixtures; lined = record { ql = h .seen .lined .ql; wel = h .seen .lined .wel; gatherers = (rows-other _ _ _ _ _ _ _ _ (h .seen .lined .gatherers) (b - 1) o _) }; listed = h .seen .listed; told = h .seen .told }; time = h .time; still = h .still; gates = h .gates }
 
       pub fresh-other : B (setSerial (fresh s) s)
       fresh-other = record { seen = serial-other p m N s s′ (h .seen); time = h .time; still = h .still; gates = h .gates }

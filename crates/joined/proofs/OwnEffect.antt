@@ -1,25 +1,7 @@
 -- One block of the part, executed in the joined state and in the part's own: the relation is kept.
-use Prim.Native.Nat.{ℕ, suc, _+_, _-_, _≤_, _<_}
-use mathlib.Core.Path.{_≡_, refl, sym, ap₂, subst}
-use mathlib.Core.Bool.{Bool, true, false, cond, _&&_}
-use mathlib.Core.List.{List, [], _∷_, map}
-use mathlib.Core.Option.{Option, none, some}
-use native.Mathlib.Omega.{arith}
-use lib.Dec.{ltb, leb, eqb}
-use lib.IntN.{ℤ}
-use borrow.Author.Tests.{lt-ltb, le-leb}
-use Rattle.machine.specs.Transaction.{Transaction, Event, Gatherer, Interrupted}
-use Rattle.machine.specs.Lists.{setNth}
-use Rattle.machine.specs.Term.{Term, Relation, serverAt, queueAt, free, evaluate, truth, compare, Condition, always, whenTrue}
-use Rattle.machine.specs.Block.{Code, status, Share, facility, storage, shareServer, shareUnits, shareHolder, Change, Block, generate, advance, terminate, takes, frees, waitServer, waitTerms, moves, assign, priority, split, counts, assemble, preempt, giveBack, facts, BlockModel, beginsGroup, unconditional}
-use Rattle.machine.specs.State.{State}
-use Rattle.machine.specs.Setters.{withPriority, withParameters, withNext, withReturning, withStamp, setEnded}
-use Rattle.machine.specs.Moves.{log, enters, moveTo, goOn, toRel, toQl, toWel, toWsl, beginWait, mustWait, wakeFirstWel, setUse, setHolder, setContent, timesLeft, arrival, waitsFor, toGatherers, comes, released, interruptedAt, losersTo, wakeQl}
-use Rattle.machine.specs.Execute.{checkWels, wakeFor, freeUnits, endsOne, delay, changed, gathers, givesBack, stamped, takeUnits, effect, gathering, preempting, partFor}
-use Rattle.machine.specs.Claims.{Each}
+use Rattle.machine.specs.All.{cases, ℕ, suc, _+_, _-_, _≤_, _<_, _≡_, refl, sym, ap₂, subst, Bool, true, false, cond, _&&_, List, [], _∷_, map, Option, none, some, arith, ltb, leb, eqb, lt-ltb, le-leb, Transaction, Event, Gatherer, Interrupted, setNth, Term, serverAt, queueAt, free, evaluate, truth, compare, Condition, always, whenTrue, Code, status, Share, facility, storage, shareServer, shareUnits, shareHolder, Block, generate, advance, terminate, takes, frees, waitServer, waitTerms, moves, assign, priority, split, counts, assemble, preempt, giveBack, facts, BlockModel, unconditional, State, withPriority, withParameters, withNext, withReturning, withStamp, setEnded, log, enters, moveTo, goOn, toQl, toWel, toWsl, beginWait, mustWait, wakeFirstWel, setUse, setHolder, timesLeft, waitsFor, toGatherers, comes, released, interruptedAt, losersTo, wakeQl, checkWels, wakeFor, freeUnits, endsOne, changed, gathers, givesBack, stamped, takeUnits, effect, gathering, preempting, partFor, Each}
 use Rattle.machine.proofs.decoding.Proper.{Names, servers, ProperShare, ProperBlock, code-server, share-server}
-use Rattle.joined.specs.Join.{Part, serverIn, shareIn, termIn, conditionIn, blockIn}
-use Rattle.joined.specs.Parts.{inPart}
+use Rattle.joined.specs.{Part, serverIn, shareIn, termIn, conditionIn, blockIn, inPart}
 use Rattle.joined.proofs.Ranks.{listed, nobody, rankIn, rank-zero, Named}
 use Rattle.joined.proofs.Naming.{Naming, Known, eventAs, gathererAs}
 use Rattle.joined.proofs.Seen.{size, Tables, aloneAs, interruptedAs, Seen}
@@ -56,7 +38,7 @@ module _ (p : Part) (m : BlockModel) where
         naming = a .naming;
         seen = a .together .seen;
         clock = a .together .clock;
-        moving = subst (λ (o : Option Transaction). Moved (a .naming) o (s′ .moving)) (sym (a .together .still .0)) (subst (λ (o : Option Transaction). Moved (a .naming) none o) (sym (a .together .still .1)) still);
+        moving = rw (a .together .still .0) (subst (λ (o : Option Transaction). Moved (a .naming) none o) (sym (a .together .still .1)) still);
         numbers = a .keeps .numbers;
         since = a .keeps .since;
       }
@@ -73,7 +55,7 @@ module _ (p : Part) (m : BlockModel) where
         seen = record { counted = h .counted; fixtures = h .fixtures; lined = h .lined; listed = h .listed; told = h .told };
         clock = a .together .clock;
         moving =
-            subst (λ (u : Transaction). Moved (a .naming) (some (withReturning false (withNext b t))) (some (withReturning false (withNext (b - p .toBlock) u)))) (sym (a .keeps .same t k))
+            subst (λ u. Moved (a .naming) (some (withReturning false (withNext b t))) (some (withReturning false (withNext (b - p .toBlock) u)))) (sym (a .keeps .same t k))
             (goes (withReturning false (withNext b t)) (record { own = on; serial = k′ .serial; number = k′ .number; family = k′ .family }));
         numbers = a .keeps .numbers;
         since = a .keeps .since;
@@ -84,7 +66,7 @@ module _ (p : Part) (m : BlockModel) where
     done-on : {N : Naming} {s s′ : State} → After p m N s s′ → (t : Transaction) → Known p (size p m) N t → inPart p (size p m) (suc (t .next)) ≡ true
         → Done N (goOn t s) (goOn (aloneAs p m N t) s′)
     done-on {N} {s} {s′} a t k on =
-        subst (λ (b : ℕ). Done N (goOn t s) (moveTo b (aloneAs p m N t) s′)) (next-back p m T t (k .own)) (done-moves a t k (suc (t .next)) on)
+        rw (next-back p m T t (k .own)) at (done-moves a t k (suc (t .next)) on)
 
 -- ---- Each kind
 
@@ -105,15 +87,13 @@ module _ (p : Part) (m M : BlockModel) (I : Inside p m M) (N : Naming) (s s′ :
   unfolding effect
   generate-own list rank i on =
       done-on p m T
-      (subst (λ (l : List ℕ). After p m N (arrival (timesLeft s (list + p .toList)) (list + p .toList) rank (t .next) (enters t s)) (arrival l list rank (t .next - p .toBlock) (enters t′ s′)))
-      (sym (times-seen p m T N s s′ h list i)) (arrival-own p m T (timesLeft s (list + p .toList)) list rank (t .next) i (k .own) N _ _ h₁)) t k on
+      (rw (times-seen p m T N s s′ h list i) (arrival-own p m T (timesLeft s (list + p .toList)) list rank (t .next) i (k .own) N _ _ h₁)) t k on
 
   advance-own : (list : ℕ) → Names (m .lists) list → On → Done p m N (effect M (advance (list + p .toList)) t s) (effect m (advance list) t′ s′)
   unfolding effect
   advance-own list i on =
       done-still p m
-      (subst (λ (l : List ℕ). After p m N (delay (timesLeft s (list + p .toList)) (list + p .toList) t (enters t s)) (delay l list t′ (enters t′ s′)))
-      (sym (times-seen p m T N s s′ h list i)) (delay-own p m T (timesLeft s (list + p .toList)) list i t N _ _ h₁ k on))
+      (rw (times-seen p m T N s s′ h list i) (delay-own p m T (timesLeft s (list + p .toList)) list i t N _ _ h₁ k on))
 
   terminate-own : (a : ℕ) → Done p m N (effect M (terminate a) t s) (effect m (terminate a) t′ s′)
   unfolding effect endsOne
@@ -131,21 +111,13 @@ module _ (p : Part) (m M : BlockModel) (I : Inside p m M) (N : Naming) (s s′ :
   -- on the QL, on a WEL
   queues-own : (v : ℕ) → Names (servers m) v → Done p m N (mustWait (toQl (M .edition) (serverIn p v)) t s) (mustWait (toQl (m .edition) v) t′ s′)
   queues-own v i =
-      subst (λ (e : ℕ). Done p m N (mustWait (toQl e (serverIn p v)) t s) (mustWait (toQl (m .edition) v) t′ s′)) (sym (I .edition))
-      (done-still p m (mustWait-own p m T (toQl (m .edition) (serverIn p v)) (toQl (m .edition) v) (λ N s s′ h u q. ql-own p m T N s s′ h (m .edition) v i u q) t N s s′ h k))
-
-  gates-own : (v : ℕ) (code : Code) → Names (servers m) v → Done p m N (mustWait (toWel (M .edition) (serverIn p v) code) t s) (mustWait (toWel (m .edition) v code) t′ s′)
-  gates-own v code i =
-      subst (λ (e : ℕ). Done p m N (mustWait (toWel e (serverIn p v) code) t s) (mustWait (toWel (m .edition) v code) t′ s′)) (sym (I .edition))
-      (done-still p m
-      (mustWait-own p m T (toWel (m .edition) (serverIn p v) code) (toWel (m .edition) v code) (λ N s s′ h u q. wel-own p m T N s s′ h (m .edition) v code i u q) t N s s′ h k))
+      rw (I .edition) (done-still p m (mustWait-own p m T (toQl (m .edition) (serverIn p v)) (toQl (m .edition) v) (λ N s s′ h u q. ql-own p m T N s s′ h (m .edition) v i u q) t N s s′ h k))
 
   -- it holds units of a server, and the WEL check follows
   holds-own : (v units holder holder′ : ℕ) (preempted : Bool) → Names (servers m) v → Named (N .numbers) holder → rankIn (N .numbers) holder ≡ holder′
       → (r r′ : State) → Together p m N r r′ → Together p m N (checkWels (serverIn p v) (setUse (serverIn p v) units holder preempted r)) (checkWels v (setUse v units holder′ preempted r′))
   holds-own v units holder holder′ preempted i n e r r′ q =
-      subst (λ (x : ℕ). Together p m N (checkWels (serverIn p v) (setUse (serverIn p v) units holder preempted r)) (checkWels v (setUse v units x preempted r′))) e
-      (checkWels-own p m T N v i _ _ (setUse-own p m T N r r′ q v units holder preempted i n))
+      rw e at (checkWels-own p m T N v i _ _ (setUse-own p m T N r r′ q v units holder preempted i n))
 
   takes-own : (v b holder holder′ : ℕ) (preempted : Bool) → Names (servers m) v → Named (N .numbers) holder → rankIn (N .numbers) holder ≡ holder′ → On
       → Done p m N
@@ -155,24 +127,12 @@ module _ (p : Part) (m M : BlockModel) (I : Inside p m M) (N : Naming) (s s′ :
   takes-own v b holder holder′ preempted i n e on =
       let same = server-seen p m T N s s′ h v i in
       subst
-      (λ (c : Bool).
+      (λ c.
       Done p m N
       (cond (leb b (free (serverAt (s .view) (serverIn p v)))) (goOn t (checkWels (serverIn p v) (setUse (serverIn p v) (serverAt (s .view) (serverIn p v) .inUse + b) holder preempted (enters t s))))
       (mustWait (toQl (M .edition) (serverIn p v)) t s))
       (cond c (goOn t′ (checkWels v (setUse v (serverAt (s′ .view) v .inUse + b) holder′ preempted (enters t′ s′)))) (mustWait (toQl (m .edition) v) t′ s′)))
-      (ap₂ (λ (x y : ℕ). leb b (x - y)) (sym (same .capacity)) (sym (same .inUse))) (go (leb b (free (serverAt (s .view) (serverIn p v)))) (same .inUse))
-    where
-      go : (c : Bool) → serverAt (s′ .view) v .inUse ≡ serverAt (s .view) (serverIn p v) .inUse
-          → Done p m N
-          (cond c (goOn t (checkWels (serverIn p v) (setUse (serverIn p v) (serverAt (s .view) (serverIn p v) .inUse + b) holder preempted (enters t s)))) (mustWait (toQl (M .edition) (serverIn p v)) t s))
-          (cond c (goOn t′ (checkWels v (setUse v (serverAt (s′ .view) v .inUse + b) holder′ preempted (enters t′ s′)))) (mustWait (toQl (m .edition) v) t′ s′))
-      go true same =
-          subst
-          (λ (x : ℕ).
-          Done p m N (goOn t (checkWels (serverIn p v) (setUse (serverIn p v) (serverAt (s .view) (serverIn p v) .inUse + b) holder preempted (enters t s))))
-          (goOn t′ (checkWels v (setUse v (x + b) holder′ preempted (enters t′ s′)))))
-          (sym same) (done-on p m T (after-here p m (holds-own v _ holder holder′ preempted i n e _ _ h₁)) t k on)
-      go false same = queues-own v i
+      (ap₂ (λ x y. leb b (x - y)) (sym (same .capacity)) (sym (same .inUse))) (cases (leb b (free (serverAt (s .view) (serverIn p v)))) (λ z. rw z (rw (same .inUse) (done-on p m T (after-here p m (holds-own v _ holder holder′ preempted i n e _ _ h₁)) t k on))) (λ e. rw e (queues-own v i)))
 
   units-own : (x : Share) (preempts : Bool) → ProperShare m x → On → Done p m N (takeUnits M (shareIn p x) preempts t s) (takeUnits m x preempts t′ s′)
   unfolding takeUnits shareIn shareServer shareUnits shareHolder
@@ -185,64 +145,44 @@ module _ (p : Part) (m M : BlockModel) (I : Inside p m M) (N : Naming) (s s′ :
       → Together p m N (wakeFor M (shareIn p x) (freeUnits (shareServer (shareIn p x)) (shareUnits (shareIn p x)) r)) (wakeFor m x (freeUnits (shareServer x) (shareUnits x) r′))
   unfolding wakeFor
   frees-own x i r r′ q =
-      let v : ℕ = shareServer x in
-      let b : ℕ = shareUnits x in
-      subst
-      (λ (v″ : ℕ). Together p m N (wakeQl (partFor M (shareIn p x) (freeUnits v″ (shareUnits (shareIn p x)) r .view)) v″ (freeUnits v″ (shareUnits (shareIn p x)) r)) (wakeFor m x (freeUnits v b r′)))
-      (sym (share-image p x))
-      (subst
+      let v = shareServer x in
+      let b = shareUnits x in
+      rw (share-image p x) (subst
       (λ (b″ : ℕ). Together p m N (wakeQl (partFor M (shareIn p x) (freeUnits (serverIn p v) b″ r .view)) (serverIn p v) (freeUnits (serverIn p v) b″ r)) (wakeFor m x (freeUnits v b r′)))
       (sym (share-units p x))
-      (woken v b))
-    where
-      freed : (v b : ℕ) → Names (servers m) v → Together p m N (freeUnits (serverIn p v) b r) (freeUnits v b r′)
-      freed v b i =
-          subst (λ (y : ℕ). Together p m N (freeUnits (serverIn p v) b r) (setUse v (y - b) 0 false r′)) (sym (server-seen p m T N r r′ q v i .inUse))
-          (subst (λ (z : ℕ). Together p m N (freeUnits (serverIn p v) b r) (setUse v (serverAt (r .view) (serverIn p v) .inUse - b) z false r′)) (rank-zero (N .numbers))
-          (setUse-own p m T N r r′ q v (serverAt (r .view) (serverIn p v) .inUse - b) 0 false i (nobody refl)))
-
-      woken : (v b : ℕ) → Together p m N (wakeQl (partFor M (shareIn p x) (freeUnits (serverIn p (shareServer x)) (shareUnits x) r .view)) (serverIn p (shareServer x)) (freeUnits (serverIn p (shareServer x)) (shareUnits x) r)) (wakeFor m x (freeUnits (shareServer x) (shareUnits x) r′))
-      woken v b =
-          let f = freed (shareServer x) (shareUnits x) i in
-          wakeQl-own p m T N _ _ f _ _ (shareServer x) i
-          (parts-own p m M I N x _ _ (server-seen p m T N _ _ f (shareServer x) i) _ _ (ql-seen p m T N _ _ f (shareServer x) i))
+      (let f = (subst (λ y. Together p m N (freeUnits (serverIn p (shareServer x)) (shareUnits x) r) (setUse (shareServer x) (y - (shareUnits x)) 0 false r′)) (sym (server-seen p m T N r r′ q (shareServer x) i .inUse))
+      (rw (rank-zero (N .numbers)) at (setUse-own p m T N r r′ q (shareServer x) (serverAt (r .view) (serverIn p (shareServer x)) .inUse - (shareUnits x)) 0 false i (nobody refl)))) in
+      wakeQl-own p m T N _ _ f _ _ (shareServer x) i
+      (parts-own p m M I N x _ _ (server-seen p m T N _ _ f (shareServer x) i) _ _ (ql-seen p m T N _ _ f (shareServer x) i))))
 
   release-own : (x : Share) → ProperShare m x → On → Done p m N (effect M (frees (shareIn p x)) t s) (effect m (frees x) t′ s′)
   unfolding effect
   release-own x ok on =
       let i = share-server m x ok in
       let f = frees-own x i _ _ h₁ in
-      subst
-      (λ (v : ℕ).
-      Done p m N (goOn t (checkWels v (wakeFor M (shareIn p x) (freeUnits (shareServer (shareIn p x)) (shareUnits (shareIn p x)) (enters t s)))))
-      (goOn t′ (checkWels (shareServer x) (wakeFor m x (freeUnits (shareServer x) (shareUnits x) (enters t′ s′))))))
-      (sym (share-image p x)) (done-on p m T (after-here p m (checkWels-own p m T N (shareServer x) i _ _ f)) t k on)
+      rw (← share-image p x) at (done-on p m T (after-here p m (checkWels-own p m T N (shareServer x) i _ _ f)) t k on)
 
   -- ---- Waits on a code
 
   at : Standing p m (t .next)
   at = standing p m (t .next) (k .own)
 
-  stamp-same : beginsGroup m (t .next - p .toBlock) ≡ beginsGroup M (t .next)
-  stamp-same = sym (subst (λ (b : ℕ). beginsGroup M b ≡ beginsGroup m (t .next - p .toBlock)) (at .there) (I .groups (t .next - p .toBlock) (at .names)))
-
   passes-own : (code : Code) (v : ℕ) → Names (servers m) v → On
       → Done p m N (goOn (stamped M t s) (wakeFirstWel (serverIn p v) code (enters t s))) (goOn (stamped m t′ s′) (wakeFirstWel v code (enters t′ s′)))
   passes-own code v i on =
       subst
-      (λ (x : ℕ).
+      (λ x.
       Done p m N (goOn (stamped M t s) (wakeFirstWel (serverIn p v) code (enters t s))) (goOn (withStamp x t′) (wakeFirstWel v code (enters t′ s′))))
-      (ap₂ (λ (b : Bool) (c : ℕ). cond b c (t .stamp)) (sym stamp-same) (sym (h .clock)))
+      (cc ((sym (rw (at .there) at (I .groups (t .next - p .toBlock) (at .names)))), h .clock))
       (done-on p m T (after-here p m (wakeFirstWel-own p m T N _ _ h₁ v code i)) (stamped M t s) (record { own = k .own; serial = k .serial; number = k .number; family = k .family }) on)
 
   back-own : (code : Code) (v c : ℕ) → Names (servers m) v → c < t .next - p .toBlock
       → Done p m N (moveTo (t .next - c) t (wakeFirstWel (serverIn p v) code s)) (moveTo (t .next - p .toBlock - c) t′ (wakeFirstWel v code s′))
   back-own code v c i lt =
       let b : Names (size p m) (t .next - p .toBlock - c) = (omega arith, omega (arith, at .names .1)) in
-      let e : t .next - p .toBlock - c + p .toBlock ≡ t .next - c = omega (arith, at .there) in
-      let e′ : t .next - c - p .toBlock ≡ t .next - p .toBlock - c = omega (arith, at .there) in
-      subst (λ (n : ℕ). Done p m N (moveTo (t .next - c) t (wakeFirstWel (serverIn p v) code s)) (moveTo n t′ (wakeFirstWel v code s′))) e′
-      (done-moves p m (after-here p m (wakeFirstWel-own p m T N s s′ h v code i)) t k (t .next - c)
+      let e : t .next - p .toBlock - c + p .toBlock ≡ t .next - c = omega arith in
+      let e′ : t .next - c - p .toBlock ≡ t .next - p .toBlock - c = omega arith in
+      rw e′ at (done-moves p m (after-here p m (wakeFirstWel-own p m T N s s′ h v code i)) t k (t .next - c)
       (subst (λ (n : ℕ). inPart p (size p m) n ≡ true) e (in-part p m (t .next - p .toBlock - c) b)))
 
   waitServer-own : (code : Code) (v c : ℕ) → Names (servers m) v → c < t .next - p .toBlock → On
@@ -251,7 +191,7 @@ module _ (p : Part) (m M : BlockModel) (I : Inside p m M) (N : Naming) (s s′ :
   waitServer-own code v c i lt on =
       rw (status-seen p m T N code _ _ (server-seen p m T N s s′ h v i))
       (subst
-      (λ (n : ℕ).
+      (λ n.
       Done p m N
       (cond (status code (serverAt (s .view) (serverIn p v))) (mustWait (toWel (M .edition) (serverIn p v) code) t s)
       (cond (ltb 0 c && ltb (t .stamp) (s .view .clock)) (moveTo (t .next - c) t (wakeFirstWel (serverIn p v) code s)) (goOn (stamped M t s) (wakeFirstWel (serverIn p v) code (enters t s)))))
@@ -265,7 +205,8 @@ module _ (p : Part) (m M : BlockModel) (I : Inside p m M) (N : Naming) (s s′ :
           (cond b (moveTo (t .next - c) t (wakeFirstWel (serverIn p v) code s)) (goOn (stamped M t s) (wakeFirstWel (serverIn p v) code (enters t s)))))
           (cond a (mustWait (toWel (m .edition) v code) t′ s′)
           (cond b (moveTo (t .next - p .toBlock - c) t′ (wakeFirstWel v code s′)) (goOn (stamped m t′ s′) (wakeFirstWel v code (enters t′ s′)))))
-      go true b = gates-own v code i
+      go true b = (rw (I .edition) (done-still p m
+          (mustWait-own p m T (toWel (m .edition) (serverIn p v) code) (toWel (m .edition) v code) (λ N s s′ h u q. wel-own p m T N s s′ h (m .edition) v code i u q) t N s s′ h k)))
       go false true = back-own code v c i lt
       go false false = passes-own code v i on
 
@@ -273,18 +214,6 @@ module _ (p : Part) (m M : BlockModel) (I : Inside p m M) (N : Naming) (s s′ :
 
   truth-own : (c : Condition) → PlainCondition p m c → truth (m .values) (s′ .view) (t .parameters) c ≡ truth (M .values) (s .view) (t .parameters) (conditionIn p c)
   truth-own c q = truth-same p m M (I .values) N _ _ _ _ (h .seen .fixtures) (t .parameters) c q
-
-  waitTerms-own : (a : Term) (r : Relation) (b : Term) → PlainBlock p m (waitTerms a r b) → On
-      → Done p m N (effect M (waitTerms (termIn p a) r (termIn p b)) t s) (effect m (waitTerms a r b) t′ s′)
-  unfolding effect truth conditionIn
-  waitTerms-own a r b q on =
-      subst
-      (λ (c : Bool). Done p m N (effect M (waitTerms (termIn p a) r (termIn p b)) t s) (cond c (mustWait toWsl t′ s′) (goOn t′ (enters t′ s′))))
-      (sym (truth-own (whenTrue a r b) q)) (go (compare (M .values) (s .view) (t .parameters) (termIn p a) r (termIn p b)))
-    where
-      go : (c : Bool) → Done p m N (cond c (mustWait toWsl t s) (goOn t (enters t s))) (cond c (mustWait toWsl t′ s′) (goOn t′ (enters t′ s′)))
-      go true = done-still p m (mustWait-own p m T toWsl toWsl (λ N s s′ h u q. wsl-own p m T N s s′ h u q) t N s s′ h k)
-      go false = done-on p m T (after-here p m h₁) t k on
 
   falls : (c : Condition) → truth (M .values) (s .view) (t .parameters) (conditionIn p c) ≡ false → unconditional c ≡ false
   unfolding truth conditionIn unconditional
@@ -294,43 +223,23 @@ module _ (p : Part) (m M : BlockModel) (I : Inside p m M) (N : Naming) (s s′ :
   moves-own : (c : Condition) (target : ℕ) → PlainBlock p m (moves c target) → Names (size p m) target → (unconditional c ≡ false → On)
       → Done p m N (effect M (moves (conditionIn p c) (target + p .toBlock)) t s) (effect m (moves c target) t′ s′)
   unfolding effect
-  moves-own c target q n on = rw (truth-own c q) (go (truth (M .values) (s .view) (t .parameters) (conditionIn p c)) (falls c))
+  moves-own c target q n on = rw truth-own (cases (truth (M .values) (s .view) (t .parameters) (conditionIn p c)) (λ e. rw e (rw back at (done-moves p m (after-here p m h₁) t k (target + p .toBlock) (in-part p m target n)))) (λ e. rw e (done-on p m T (after-here p m h₁) t k (on ((rw e at (falls c)) refl)))))
     where
       back : target + p .toBlock - p .toBlock ≡ target
       back = omega arith
 
-      go : (b : Bool) → (b ≡ false → unconditional c ≡ false)
-          → Done p m N (moveTo (cond b (target + p .toBlock) (suc (t .next))) t (enters t s)) (moveTo (cond b target (suc (t .next - p .toBlock))) t′ (enters t′ s′))
-      go true f =
-          subst (λ (b : ℕ). Done p m N (moveTo (target + p .toBlock) t (enters t s)) (moveTo b t′ (enters t′ s′))) back
-          (done-moves p m (after-here p m h₁) t k (target + p .toBlock) (in-part p m target n))
-      go false f = done-on p m T (after-here p m h₁) t k (on (f refl))
-
   assign-own : (i : ℕ) (a : Term) → PlainBlock p m (assign i a) → On → Done p m N (effect M (assign i (termIn p a)) t s) (effect m (assign i a) t′ s′)
   unfolding effect
   assign-own i a q on =
-      let x : ℤ = evaluate (M .values) (s .view) (t .parameters) (termIn p a) in
-      subst (λ (y : ℤ). Done p m N (effect M (assign i (termIn p a)) t s) (goOn (withParameters (setNth (t .parameters) i y) t′) (enters t′ s′)))
-      (sym (evaluate-same p m M (I .values) N _ _ _ _ (h .seen .fixtures) (t .parameters) a q))
-      (done-on p m T (after-here p m h₁) (withParameters (setNth (t .parameters) i x) t) (record { own = k .own; serial = k .serial; number = k .number; family = k .family }) on)
+      let x = evaluate (M .values) (s .view) (t .parameters) (termIn p a) in
+      rw (evaluate-same p m M (I .values) N _ _ _ _ (h .seen .fixtures) (t .parameters) a q) (done-on p m T (after-here p m h₁) (withParameters (setNth (t .parameters) i x) t) (record { own = k .own; serial = k .serial; number = k .number; family = k .family }) on)
 
   -- ---- Flow
 
   priority-own : (r : ℕ) → On → Done p m N (effect M (priority r) t s) (effect m (priority r) t′ s′)
   unfolding effect
   priority-own r on =
-      subst (λ (b : ℕ). Done p m N (effect M (priority r) t s) (toRel (withPriority r (withReturning false (withNext b t′))) (enters t′ s′))) (next-back p m T t (k .own))
-      (done-still p m (toRel-after p m T N _ _ h₁ (withPriority r (withReturning false (withNext (suc (t .next)) t))) (record { own = on; number = k .number; family = k .family })))
-
-  split-own : (n target : ℕ) → Names (size p m) target → On → Done p m N (effect M (split n (target + p .toBlock)) t s) (effect m (split n target) t′ s′)
-  unfolding effect
-  split-own n target i on = done-on p m T (copies-own p m T n target (in-part p m target i) t N _ _ h₁ k) t k on
-
-  counts-own : (c : Change) (q : ℕ) → Names (m .queues) q → On → Done p m N (effect M (counts c (q + p .toQueue)) t s) (effect m (counts c q) t′ s′)
-  unfolding effect
-  counts-own c q i on =
-      subst (λ (x : ℕ). Done p m N (effect M (counts c (q + p .toQueue)) t s) (goOn t′ (setContent q (changed c x) (enters t′ s′)))) (sym (content-seen p m T N s s′ h q i))
-      (done-on p m T (after-here p m (setContent-own p m T N _ _ h₁ q (changed c (queueAt (s .view) (q + p .toQueue) .content)) i)) t k on)
+      rw (next-back p m T t (k .own)) at (done-still p m (toRel-after p m T N _ _ h₁ (withPriority r (withReturning false (withNext (suc (t .next)) t))) (record { own = on; number = k .number; family = k .family })))
 
   -- ---- Families
 
@@ -346,10 +255,7 @@ module _ (p : Part) (m M : BlockModel) (I : Inside p m M) (N : Naming) (s s′ :
   unfolding effect gathers
   assemble-own n on =
       let w = waitsFor-seen p m T N s s′ h t k in
-      subst
-      (λ (l : List Gatherer).
-      Done p m N (effect M (assemble n) t s) (gathering (λ f. f (enters t′ s′)) (λ put. mustWait put t′ s′) (λ f. f s′) (λ put. beginWait put t′ s′) l n t′))
-      (sym (w .same)) (go (waitsFor t s) (w .known))
+      rw (w .same) (go (waitsFor t s) (w .known))
     where
       go : (l : List Gatherer) → Each (λ g. Known p (size p m) N (g .who)) l
           → Done p m N (gathering (λ f. f (enters t s)) (λ put. mustWait put t s) (λ f. f s) (λ put. beginWait put t s) l n t)
@@ -368,26 +274,18 @@ module _ (p : Part) (m M : BlockModel) (I : Inside p m M) (N : Naming) (s s′ :
   server-of : (f : ℕ) → Names (m .facilities) f → Names (servers m) f
   server-of f ok = (ok .0, omega arith)
 
-  others-entered : Others p m T N (s .fel) → Others p m T N (enters t s .fel)
-  unfolding enters log
-  others-entered o = o
-
   -- another holds a facility
   holder-own : (f holder : ℕ) (preempted : Bool) → Names (servers m) f → Named (N .numbers) holder → (r r′ : State) → Together p m N r r′
       → Together p m N (setHolder (serverIn p f) holder preempted r) (setHolder f (rankIn (N .numbers) holder) preempted r′)
   holder-own f holder preempted i n r r′ q =
-      subst (λ (x : ℕ). Together p m N (setHolder (serverIn p f) holder preempted r) (setUse f x (rankIn (N .numbers) holder) preempted r′)) (sym (server-seen p m T N r r′ q f i .inUse))
-      (setUse-own p m T N r r′ q f (serverAt (r .view) (serverIn p f) .inUse) holder preempted i n)
+      rw (server-seen p m T N r r′ q f i .inUse) (setUse-own p m T N r r′ q f (serverAt (r .view) (serverIn p f) .inUse) holder preempted i n)
 
   preempt-own : (f : ℕ) → Names (m .facilities) f → On → Others p m T N (s .fel) → Done p m N (effect M (preempt (serverIn p f)) t s) (effect m (preempt f) t′ s′)
   unfolding effect takeUnits
   preempt-own f ok on o =
       let i = server-of f ok in
       let w = losers-seen p m T N t _ _ (server-seen p m T N s s′ h f i) (s .fel) (s′ .fel) (h .seen .listed .fel .part) o in
-      subst
-      (λ (l : List Event).
-      Done p m N (effect M (preempt (serverIn p f)) t s) (preempting (λ f. f (enters t′ s′)) (λ put. mustWait put t′ s′) (λ f. f s′) (λ put. beginWait put t′ s′) l m f t′ s′))
-      (sym (w .same)) (go i (losersTo t (serverIn p f) s) (w .known))
+      rw (w .same) (go i (losersTo t (serverIn p f) s) (w .known))
     where
       go : Names (servers m) f → (l : List Event) → Each (λ e. Known p (size p m) N (e .who)) l
           → Done p m N (preempting (λ f. f (enters t s)) (λ put. mustWait put t s) (λ f. f s) (λ put. beginWait put t s) l M (serverIn p f) t s)
@@ -396,14 +294,14 @@ module _ (p : Part) (m M : BlockModel) (I : Inside p m M) (N : Naming) (s s′ :
       go i (e ∷ l) q =
           done-on p m T
           (after-here p m
-          (checkWels-own p m T N f i _ _ (holder-own f (t .number) true i (listed (k .number)) _ _ (interrupt-own p m T N _ _ h₁ f ok (I .facility f ok) e t (q .0) (others-entered o))))) t k on
+          (checkWels-own p m T N f i _ _ (holder-own f (t .number) true i (listed (k .number)) _ _ (interrupt-own p m T N _ _ h₁ f ok (I .facility f ok) e t (q .0) (unfold enters log in o))))) t k on
 
   giveBack-own : (f : ℕ) → Names (m .facilities) f → On → Done p m N (effect M (giveBack (serverIn p f)) t s) (effect m (giveBack f) t′ s′)
   unfolding effect givesBack shareIn shareServer shareUnits
   giveBack-own f ok on =
       let i = server-of f ok in
       let w = interruptedAt-seen p m T N s s′ h f ok (I .facility f ok) in
-      subst (λ (l : List Interrupted). Done p m N (effect M (giveBack (serverIn p f)) t s) (goOn t′ (checkWels f (givesBack m l f (enters t′ s′))))) (sym (w .same)) (go i (interruptedAt s (serverIn p f)) (w .known))
+      rw (w .same) (go i (interruptedAt s (serverIn p f)) (w .known))
     where
       go : Names (servers m) f → (l : List Interrupted) → Each (λ x. Known p (size p m) N (x .who)) l
           → Done p m N (goOn t (checkWels (serverIn p f) (givesBack M l (serverIn p f) (enters t s)))) (goOn t′ (checkWels f (givesBack m (map (interruptedAs p m N) l) f (enters t′ s′))))
@@ -423,12 +321,12 @@ module _ (p : Part) (m M : BlockModel) (I : Inside p m M) (N : Naming) (s s′ :
   effect-own (takes x) ok q on lt o = unfold effect takeUnits in units-own x false ok (on refl)
   effect-own (frees x) ok q on lt o = release-own x ok (on refl)
   effect-own (waitServer code v c) ok q on lt o = waitServer-own code v c (code-server m code v (ok .0)) lt (on refl)
-  effect-own (waitTerms a r b) ok q on lt o = waitTerms-own a r b q (on refl)
+  effect-own (waitTerms a r b) ok q on lt o = (unfold effect truth conditionIn in rw (truth-own (whenTrue a r b) q) (cases (compare (M .values) (s .view) (t .parameters) (termIn p a) r (termIn p b)) (λ e. rw e (done-still p m (mustWait-own p m T toWsl toWsl (λ N s s′ h u q. wsl-own p m T N s s′ h u q) t N s s′ h k))) (λ e. rw e (done-on p m T (after-here p m h₁) t k (on refl)))))
   effect-own (moves c target) ok q on lt o = moves-own c target q ok on
   effect-own (assign i a) ok q on lt o = assign-own i a q (on refl)
   effect-own (priority r) ok q on lt o = priority-own r (on refl)
-  effect-own (split n target) ok q on lt o = split-own n target (ok .1) (on refl)
-  effect-own (counts c i) ok q on lt o = counts-own c i ok (on refl)
+  effect-own (split n target) ok q on lt o = (unfold effect in done-on p m T (copies-own p m T n target (in-part p m target (ok .1)) t N _ _ h₁ k) t k (on refl))
+  effect-own (counts c i) ok q on lt o = (unfold effect in rw (content-seen p m T N s s′ h i ok) (done-on p m T (after-here p m (setContent-own p m T N _ _ h₁ i (changed c (queueAt (s .view) (i + p .toQueue) .content)) ok)) t k (on refl)))
   effect-own (assemble n) ok q on lt o = assemble-own n (on refl)
   effect-own (preempt f) ok q on lt o = preempt-own f ok (on refl) o
   effect-own (giveBack f) ok q on lt o = giveBack-own f ok (on refl)

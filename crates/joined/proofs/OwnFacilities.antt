@@ -1,23 +1,9 @@
 -- Steps of the part at a PREEMPT and a RETURN (document 02, item 11).
-use Prim.Native.Nat.{ℕ, _+_, _-_, _≤_}
-use mathlib.Core.Path.{_≡_, refl, sym, ap, ap₂, _∙_, subst}
-use mathlib.Core.Bool.{Bool, true, false, not, _&&_, true≢false}
-use mathlib.Core.List.{List, [], map}
-use native.Mathlib.Omega.{arith}
-use lib.Dec.{ltb, eqb}
-use borrow.Author.Tests.{eqb-true, eqb-false, eq-eqb, ne-eqb}
-use Rattle.machine.specs.Transaction.{Transaction, precedes, Event, Interrupted}
-use Rattle.machine.specs.Lists.{insert, those, replaceFirst}
-use Rattle.machine.specs.Term.{Server}
-use Rattle.machine.specs.Block.{BlockModel}
-use Rattle.machine.specs.State.{State}
-use Rattle.machine.specs.Setters.{withStamp, setInterrupted}
-use Rattle.machine.specs.Moves.{toFel, ofFacility, interruptedAt, losesTo, interrupt, resume}
-use Rattle.machine.specs.Claims.{Each}
+use Rattle.machine.specs.All.{cases, ℕ, _+_, _-_, _≤_, _≡_, refl, sym, ap, _∙_, subst, Bool, true, false, not, _&&_, true≢false, List, [], map, arith, ltb, eqb, eqb-true, eqb-false, eq-eqb, ne-eqb, Transaction, precedes, Event, Interrupted, those, replaceFirst, Server, BlockModel, State, withStamp, setInterrupted, toFel, ofFacility, interruptedAt, losesTo, interrupt, resume, Each}
 use Rattle.machine.proofs.decoding.Proper.{Names, servers}
 use Rattle.machine.proofs.runs.RunLaws.{each-map, each-pair}
 use Rattle.machine.proofs.lists.Sorted.{each-insert, each-those, each-replace, each-passes}
-use Rattle.joined.specs.Join.{Part, serverIn}
+use Rattle.joined.specs.{Part, serverIn}
 use Rattle.joined.proofs.Lists.{insert-map, those-map, replace-map, those-those, those-all, those-replace, those-insert, sorted-insert, sorted-replace, by-holder}
 use Rattle.joined.proofs.Ranks.{Named, listed, nobody, rank-eqb}
 use Rattle.joined.proofs.Naming.{Naming, mine, Known, ours, eventAs, precedes-seen}
@@ -38,9 +24,9 @@ those-passing {A} p q l h =
 
 all-four : (a b c d : Bool) → (a && b && c && d) ≡ true → c ≡ true
 all-four true true true d e = refl
-all-four true true false d e = absurd (true≢false (sym e))
-all-four true false c d e = absurd (true≢false (sym e))
-all-four false b c d e = absurd (true≢false (sym e))
+all-four true true false d e = cc
+all-four true false c d e = cc
+all-four false b c d e = cc
 
 module _ (p : Part) (m : BlockModel) (T : Tables p m) where
   abbrev n : ℕ
@@ -63,30 +49,21 @@ module _ (p : Part) (m : BlockModel) (T : Tables p m) where
 
     loser-ours : (e : Event) → (mine p n (e .who) ≡ false → NotOurs N (e .who)) → losesTo t v e ≡ true → mine p n (e .who) ≡ true
     unfolding losesTo
-    loser-ours e other l = go (mine p n (e .who)) refl
+    loser-ours e other l = cases (mine p n (e .who)) (λ d. d) (λ d. absurd (never (k .holder-named) (eqb-true _ _ (all-four (ltb 0 (v .inUse)) (not (v .preempted)) (eqb (e .who .number) (v .holder)) (ltb (e .who .priority) (t .priority)) l)) (other d)))
       where
-        holder : e .who .number ≡ v .holder
-        holder = eqb-true _ _ (all-four (ltb 0 (v .inUse)) (not (v .preempted)) (eqb (e .who .number) (v .holder)) (ltb (e .who .priority) (t .priority)) l)
-
         never : {x : ℕ} → Named (N .numbers) x → e .who .number ≡ x → NotOurs N (e .who) → ⊥
-        never {x} (listed a) q o = true≢false (sym a ∙ ap (N .numbers) (sym q) ∙ o .number)
-        never (nobody a) q o = omega (arith, o .born)
-
-        go : (b : Bool) → mine p n (e .who) ≡ b → mine p n (e .who) ≡ true
-        go true d = d
-        go false d = absurd (never (k .holder-named) holder (other d))
+        never {x} (listed a) q o = true≢false (cc (a, q, o .number))
+        never (nobody a) q o = omega arith
 
     pub losers-seen : (l l′ : List Event) → Alike p m N (eventAs p n N) (λ e. e .who) (those ours? l) l′ → Others N l
         → Alike p m N (eventAs p n N) (λ e. e .who) (those (losesTo t v) l) (those (losesTo (aloneAs p m N t) v′) l′)
     losers-seen l l′ h o =
         let all = those-passing ours? (losesTo t v) l (each-map (λ e q. loser-ours e q) l o) in
-        let turned : those (losesTo t v) (those ours? l) ≡ those (losesTo t v) l = sym (those-those ours? (losesTo t v) l) ∙ all in
+        let turned = sym (those-those ours? (losesTo t v) l) ∙ all in
         record {
           same =
-              ap (those (losesTo (aloneAs p m N t) v′)) (h .same)
-              ∙ those-map (eventAs p n N) (losesTo (aloneAs p m N t) v′) (losesTo t v) (those ours? l) (each-map (λ e q. loses-seen e q) (those ours? l) (h .known))
-              ∙ ap (map (eventAs p n N)) turned;
-          known = subst (Each (λ (e : Event). Known p n N (e .who))) turned (each-those (λ (e : Event). Known p n N (e .who)) (losesTo t v) (those ours? l) (h .known));
+              cc (h .same, those-map (eventAs p n N) (losesTo (aloneAs p m N t) v′) (losesTo t v) (those ours? l) (each-map (λ e q. loses-seen e q) (those ours? l) (h .known)), turned);
+          known = rw turned at (each-those (λ (e : Event). Known p n N (e .who)) (losesTo t v) (those ours? l) (h .known));
         }
 
     -- the FEL without its first
@@ -96,10 +73,8 @@ module _ (p : Part) (m : BlockModel) (T : Tables p m) where
         let split = those-replace ours? (losesTo t v) l (each-map (λ e q. loser-ours e q) l o) in
         record {
           same =
-              ap (replaceFirst (losesTo (aloneAs p m N t) v′) []) (h .same)
-              ∙ replace-map (eventAs p n N) (losesTo (aloneAs p m N t) v′) (losesTo t v) [] (those ours? l) (each-map (λ e q. loses-seen e q) (those ours? l) (h .known))
-              ∙ ap (map (eventAs p n N)) (sym split);
-          known = subst (Each (λ (e : Event). Known p n N (e .who))) (sym split) (each-replace (λ (e : Event). Known p n N (e .who)) (losesTo t v) [] (those ours? l) tt (h .known));
+              cc (h .same, replace-map (eventAs p n N) (losesTo (aloneAs p m N t) v′) (losesTo t v) [] (those ours? l) (each-map (λ e q. loses-seen e q) (those ours? l) (h .known)), split);
+          known = rw split (each-replace (λ (e : Event). Known p n N (e .who)) (losesTo t v) [] (those ours? l) tt (h .known));
         }
 
   abbrev ahead : Interrupted → Interrupted → Bool
@@ -118,11 +93,11 @@ module _ (p : Part) (m : BlockModel) (T : Tables p m) where
         → Together p m N (interrupt e t (serverIn p f) s) (interrupt (eventAs p n N e) (aloneAs p m N t) f s′)
     unfolding interrupt
     interrupt-own e t q o =
-        let left : ℕ = e .time - s .view .clock in
+        let left = e .time - s .view .clock in
         let x : Interrupted = record { who = withStamp left (e .who); facility = serverIn p f; remaining = left } in
         let q′ : Known p n N (x .who) = record { own = q .own; serial = q .serial; number = q .number; family = q .family } in
         let l = h .seen .listed .interrupted in
-        let split = those-insert ahead (by-holder (λ (y : Interrupted). y .who)) ours-i x (s .interrupted) (l .sorted) (q .own) in
+        let split = those-insert ahead (by-holder (λ y. y .who)) ours-i x (s .interrupted) (l .sorted) (q .own) in
         let named : interruptedAs p m N x ≡ record { who = withStamp (e .time - s′ .view .clock) (aloneAs p m N (e .who)); facility = f; remaining = e .time - s′ .view .clock } =
         rw (h .clock, own, back) refl in
         let gone = put-fel p m T N s s′ h _ _
@@ -135,39 +110,25 @@ module _ (p : Part) (m : BlockModel) (T : Tables p m) where
           part =
               record {
                 same =
-                    ap₂ (insert ahead) (sym named) (l .part .same)
-                    ∙ insert-map (interruptedAs p m N) ahead ahead x (those ours-i (s .interrupted))
-                    (each-map (λ (y : Interrupted) r. precedes-seen p n N (x .who) (y .who) q′ r) (those ours-i (s .interrupted)) (l .part .known))
-                    ∙ ap (map (interruptedAs p m N)) (sym split);
-                known = subst (Each (λ (y : Interrupted). Known p n N (y .who))) (sym split) (each-insert (λ (y : Interrupted). Known p n N (y .who)) ahead x (those ours-i (s .interrupted)) q′ (l .part .known));
+                    cc (named, l .part .same, insert-map (interruptedAs p m N) ahead ahead x (those ours-i (s .interrupted)) (each-map (λ (y : Interrupted) r. precedes-seen p n N (x .who) (y .who) q′ r) (those ours-i (s .interrupted)) (l .part .known)), split);
+                known = rw split (each-insert (λ (y : Interrupted). Known p n N (y .who)) ahead x (those ours-i (s .interrupted)) q′ (l .part .known));
               };
-          sorted = sorted-insert ahead (by-holder (λ (y : Interrupted). y .who)) x (s .interrupted) (l .sorted);
+          sorted = sorted-insert ahead (by-holder (λ y. y .who)) x (s .interrupted) (l .sorted);
         })
-        (each-insert (OfPart p m N) ahead x (s .interrupted) (record { own = λ d. behind; other = λ d. absurd (true≢false (sym (q .own) ∙ d)) }) (h .seen .listed .facilities))
+        (each-insert (OfPart p m N) ahead x (s .interrupted) (record { own = λ d. (omega arith); other = λ d. absurd (true≢false (cc (q .own, d))) }) (h .seen .listed .facilities))
       where
         back : f + p .toFacility - p .toFacility ≡ f
         back = omega arith
-
-        behind : Names (m .facilities) (serverIn p f - p .toFacility)
-        behind = (omega (arith, own, ok .0), omega (arith, own, ok .1))
 
     -- ---- Giving it back
 
     of-seen : (x : Interrupted) → Names (m .facilities) (x .facility - p .toFacility) → ofFacility f (interruptedAs p m N x) ≡ ofFacility (serverIn p f) x
     unfolding ofFacility
-    of-seen x lt = rw own (go (eqb (x .facility) (f + p .toFacility)) refl)
-      where
-        go : (b : Bool) → eqb (x .facility) (f + p .toFacility) ≡ b → eqb (x .facility - p .toFacility) f ≡ b
-        go true e = eq-eqb (x .facility - p .toFacility) f (omega (arith, lt .0, eqb-true (x .facility) (f + p .toFacility) e))
-        go false e = ne-eqb (x .facility - p .toFacility) f (λ d. eqb-false (x .facility) (f + p .toFacility) e (omega (arith, lt .0)))
+    of-seen x lt = rw own (cases (eqb (x .facility) (f + p .toFacility)) (λ e. rw e (eq-eqb (x .facility - p .toFacility) f (omega (arith, lt .0, eqb-true)))) (λ e. rw e (ne-eqb (x .facility - p .toFacility) f (λ d. eqb-false (x .facility) (f + p .toFacility) e (omega arith)))))
 
     of-ours : (x : Interrupted) → OfPart p m N x → ofFacility (serverIn p f) x ≡ true → mine p n (x .who) ≡ true
     unfolding ofFacility
-    of-ours x k e = go (mine p n (x .who)) refl
-      where
-        go : (b : Bool) → mine p n (x .who) ≡ b → mine p n (x .who) ≡ true
-        go true d = d
-        go false d = absurd (k .other d f i (sym (eqb-true _ _ e)))
+    of-ours x k e = cases (mine p n (x .who)) (λ d. d) (λ d. absurd (k .other d f i (sym (eqb-true _ _ e))))
 
     same-of : Each (λ x. ofFacility f (interruptedAs p m N x) ≡ ofFacility (serverIn p f) x) (those ours-i (s .interrupted))
     same-of =
@@ -178,12 +139,11 @@ module _ (p : Part) (m : BlockModel) (T : Tables p m) where
     interruptedAt-seen =
         let l = h .seen .listed .interrupted in
         let all = those-passing ours-i (ofFacility (serverIn p f)) (s .interrupted) (each-map (λ x q. of-ours x q) (s .interrupted) (h .seen .listed .facilities)) in
-        let turned : those (ofFacility (serverIn p f)) (those ours-i (s .interrupted)) ≡ interruptedAt s (serverIn p f) = sym (those-those ours-i (ofFacility (serverIn p f)) (s .interrupted)) ∙ all in
+        let turned = sym (those-those ours-i (ofFacility (serverIn p f)) (s .interrupted)) ∙ all in
         record {
           same =
-              ap (those (ofFacility f)) (l .part .same) ∙ those-map (interruptedAs p m N) (ofFacility f) (ofFacility (serverIn p f)) (those ours-i (s .interrupted)) same-of
-              ∙ ap (map (interruptedAs p m N)) turned;
-          known = subst (Each (λ (x : Interrupted). Known p n N (x .who))) turned (each-those (λ (x : Interrupted). Known p n N (x .who)) (ofFacility (serverIn p f)) (those ours-i (s .interrupted)) (l .part .known));
+              cc (l .part .same, those-map (interruptedAs p m N) (ofFacility f) (ofFacility (serverIn p f)) (those ours-i (s .interrupted)) same-of, turned);
+          known = rw turned at (each-those (λ (x : Interrupted). Known p n N (x .who)) (ofFacility (serverIn p f)) (those ours-i (s .interrupted)) (l .part .known));
         }
 
     pub resume-own : (x : Interrupted) → Known p n N (x .who) → After p m N (resume x (serverIn p f) s) (resume (interruptedAs p m N x) f s′)
@@ -199,10 +159,10 @@ module _ (p : Part) (m : BlockModel) (T : Tables p m) where
                     ap (replaceFirst (ofFacility f) []) (l .part .same)
                     ∙ replace-map (interruptedAs p m N) (ofFacility f) (ofFacility (serverIn p f)) [] (those ours-i (s .interrupted)) same-of
                     ∙ ap (map (interruptedAs p m N)) (sym split);
-                known = subst (Each (λ (y : Interrupted). Known p n N (y .who))) (sym split) (each-replace (λ (y : Interrupted). Known p n N (y .who)) (ofFacility (serverIn p f)) [] (those ours-i (s .interrupted)) tt (l .part .known));
+                known = rw split (each-replace (λ (y : Interrupted). Known p n N (y .who)) (ofFacility (serverIn p f)) [] (those ours-i (s .interrupted)) tt (l .part .known));
               };
           sorted = sorted-replace ahead (ofFacility (serverIn p f)) (s .interrupted) (l .sorted);
         })
         (each-replace (OfPart p m N) (ofFacility (serverIn p f)) [] (s .interrupted) tt (h .seen .listed .facilities)) in
-        subst (λ (c : ℕ). After p m N (resume x (serverIn p f) s) (toFel (c + x .remaining) (aloneAs p m N (x .who)) (setInterrupted (replaceFirst (ofFacility f) [] (s′ .interrupted)) s′))) (sym (h .clock))
+        subst (λ c. After p m N (resume x (serverIn p f) s) (toFel (c + x .remaining) (aloneAs p m N (x .who)) (setInterrupted (replaceFirst (ofFacility f) [] (s′ .interrupted)) s′))) (sym (h .clock))
         (toFel-after p m T N _ _ gone (s .view .clock + x .remaining) (x .who) (ours p n k))

@@ -1,19 +1,8 @@
 -- Steps of the part at an ASSEMBLE (document 02, item 8).
-use Prim.Native.Nat.{ℕ, suc, _-_}
-use mathlib.Core.Path.{_≡_, refl, ap, _∙_, subst}
-use mathlib.Core.Bool.{Bool, true, false}
-use mathlib.Core.List.{List, [], _∷_, map}
-use Rattle.machine.specs.Transaction.{Transaction, precedes, Gatherer}
-use Rattle.machine.specs.Lists.{insert, those, replaceFirst}
-use Rattle.machine.specs.Block.{BlockModel}
-use Rattle.machine.specs.State.{State}
-use Rattle.machine.specs.Setters.{withNext, withReturning}
-use Rattle.machine.specs.Moves.{toRel, gatherersAt, setGatherersAt, inFamily, waitsFor, setWaitsFor, toGatherers, comes, released}
-use Rattle.machine.specs.Claims.{Each}
+use Rattle.machine.specs.All.{ℕ, suc, _-_, _≡_, refl, Bool, true, false, List, [], _∷_, map, Transaction, precedes, Gatherer, BlockModel, State, withNext, withReturning, gatherersAt, setGatherersAt, inFamily, waitsFor, setWaitsFor, toGatherers, comes, released, Each}
 use Rattle.machine.proofs.runs.RunLaws.{each-map}
 use Rattle.machine.proofs.lists.Sorted.{each-insert, each-those, each-replace}
-use Rattle.joined.specs.Join.{Part}
-use Rattle.joined.specs.Parts.{inPart}
+use Rattle.joined.specs.{Part, inPart}
 use Rattle.joined.proofs.Lists.{insert-map, those-map, replace-map}
 use Rattle.joined.proofs.Rows.{rows-put, rows-at}
 use Rattle.joined.proofs.Naming.{Naming, Known, gathererAs, precedes-seen, family-seen}
@@ -33,7 +22,7 @@ module _ (p : Part) (m : BlockModel) (T : Tables p m) where
     at = standing p m (t .next) (k .own)
 
     index : blockThere p m (t .next - p .toBlock) ≡ t .next - 1
-    index = ap (λ (b : ℕ). b - 1) (at .there)
+    index = cc (at .there)
 
     -- who waits at its block
     pub gatherers-seen : GathersAs N (gatherersAt s (t .next)) (gatherersAt s′ (t .next - p .toBlock))
@@ -49,8 +38,8 @@ module _ (p : Part) (m : BlockModel) (T : Tables p m) where
     pub waitsFor-seen : GathersAs N (waitsFor t s) (waitsFor (aloneAs p m N t) s′)
     waitsFor-seen =
         record {
-          same = ap (those (inFamily (aloneAs p m N t))) (gatherers-seen .same) ∙ those-map (gathererAs p n N) _ (inFamily t) (gatherersAt s (t .next)) same-family;
-          known = each-those (λ (g : Gatherer). Known p n N (g .who)) (inFamily t) (gatherersAt s (t .next)) (gatherers-seen .known);
+          same = rw (gatherers-seen .same, those-map (gathererAs p n N) _ (inFamily t) (gatherersAt s (t .next)) same-family);
+          known = each-those (λ g. Known p n N (g .who)) (inFamily t) (gatherersAt s (t .next)) (gatherers-seen .known);
         }
 
     gathers-replace : (few : List Gatherer) → Each (λ g. Known p n N (g .who)) few
@@ -59,9 +48,8 @@ module _ (p : Part) (m : BlockModel) (T : Tables p m) where
         gathers-put _ _
         (record {
           same =
-              ap (replaceFirst (inFamily (aloneAs p m N t)) (map (gathererAs p n N) few)) (gatherers-seen .same)
-              ∙ replace-map (gathererAs p n N) (inFamily (aloneAs p m N t)) (inFamily t) few (gatherersAt s (t .next)) same-family;
-          known = each-replace (λ (g : Gatherer). Known p n N (g .who)) (inFamily t) few (gatherersAt s (t .next)) f (gatherers-seen .known);
+              cc (gatherers-seen .same, replace-map (gathererAs p n N) (inFamily (aloneAs p m N t)) (inFamily t) few (gatherersAt s (t .next)) same-family);
+          known = each-replace (λ g. Known p n N (g .who)) (inFamily t) few (gatherersAt s (t .next)) f (gatherers-seen .known);
         })
 
     pub comes-own : (g : Gatherer) → Known p n N (g .who) → Together p m N (comes g t s) (comes (gathererAs p n N g) (aloneAs p m N t) s′)
@@ -71,21 +59,17 @@ module _ (p : Part) (m : BlockModel) (T : Tables p m) where
     pub released-own : (g : Gatherer) → Known p n N (g .who) → inPart p n (suc (t .next)) ≡ true → After p m N (released g t s) (released (gathererAs p n N g) (aloneAs p m N t) s′)
     unfolding released
     released-own g q on =
-        subst (λ (b : ℕ). After p m N (released g t s) (toRel (withReturning false (withNext b (aloneAs p m N (g .who)))) (setWaitsFor (aloneAs p m N t) [] s′)))
-        (next-back p m T t (k .own))
-        (toRel-after p m T N _ _ (gathers-replace [] tt) (withReturning false (withNext (suc (t .next)) (g .who))) (record { own = on; number = q .number; family = q .family }))
+        rw (next-back p m T t (k .own)) at (toRel-after p m T N _ _ (gathers-replace [] tt) (withReturning false (withNext (suc (t .next)) (g .who))) (record { own = on; number = q .number; family = q .family }))
 
   pub gatherers-put : Puts p m T toGatherers toGatherers
   unfolding toGatherers
   gatherers-put N s s′ h t k =
       let one : Gatherer = record { who = t; come = 1 } in
-      let now : GathersAs N (gatherersAt s (t .next)) (gatherersAt s′ (t .next - p .toBlock)) = gatherers-seen N s s′ h t k in
+      let now = gatherers-seen N s s′ h t k in
       let ahead : Gatherer → Gatherer → Bool = λ a b. precedes (a .who) (b .who) in
       gathers-put N s s′ h t k _ _
       (record {
         same =
-            ap (insert ahead (gathererAs p n N one)) (now .same)
-            ∙ insert-map (gathererAs p n N) ahead ahead one (gatherersAt s (t .next))
-            (each-map (λ (g : Gatherer) q. precedes-seen p n N t (g .who) k q) (gatherersAt s (t .next)) (now .known));
-        known = each-insert (λ (g : Gatherer). Known p n N (g .who)) ahead one (gatherersAt s (t .next)) k (now .known);
+            cc (now .same, insert-map (gathererAs p n N) ahead ahead one (gatherersAt s (t .next)) (each-map (λ (g : Gatherer) q. precedes-seen p n N t (g .who) k q) (gatherersAt s (t .next)) (now .known)));
+        known = each-insert (λ g. Known p n N (g .who)) ahead one (gatherersAt s (t .next)) k (now .known);
       })

@@ -1,18 +1,7 @@
 -- Steps of the part that give names: arrivals, copies, delays, waits that begin.
-use Prim.Native.Nat.{ℕ, zero, suc, _+_, _-_}
-use mathlib.Core.Path.{_≡_, refl, sym, ap, _∙_, subst}
-use mathlib.Core.Bool.{Bool, true, false, cond}
-use mathlib.Core.List.{List, [], _∷_}
-use native.Mathlib.Omega.{arith}
-use Rattle.machine.specs.Transaction.{Transaction, newborn}
-use Rattle.machine.specs.Block.{BlockModel}
-use Rattle.machine.specs.State.{State}
-use Rattle.machine.specs.Setters.{withNext, withSerial, withReturning, setSerial, setMade}
-use Rattle.machine.specs.Moves.{log, fresh, toRel, toFel, beginWait, mustWait, useTime, arrival, copyOf, copies}
-use Rattle.machine.specs.Execute.{delay}
+use Rattle.machine.specs.All.{ℕ, zero, suc, _+_, _-_, _≡_, refl, sym, ap, _∙_, subst, Bool, true, false, cond, List, [], _∷_, arith, Transaction, newborn, BlockModel, State, withNext, withSerial, withReturning, setMade, log, fresh, toRel, toFel, beginWait, mustWait, useTime, arrival, copyOf, copies, delay}
 use Rattle.machine.proofs.decoding.Proper.{Names}
-use Rattle.joined.specs.Join.{Part}
-use Rattle.joined.specs.Parts.{inPart}
+use Rattle.joined.specs.{Part, inPart}
 use Rattle.joined.proofs.Ranks.{rankIn, rank-zero, rank-noted, noted}
 use Rattle.joined.proofs.Naming.{Naming, mine, Known, Ours, ours}
 use Rattle.joined.proofs.Seen.{size, Tables, aloneAs}
@@ -37,7 +26,7 @@ module _ (p : Part) (m : BlockModel) where
         known = λ t q. k .known t (h .known t q);
         same = λ t q. h .same t q ∙ k .same t (h .known t q);
         since = k .since ∙ h .since;
-        numbers = λ n a. k .numbers n (omega (arith, h .since)) ∙ h .numbers n a;
+        numbers = λ n a. k .numbers n (omega arith) ∙ h .numbers n a;
       }
 
   pub after-here : {N : Naming} {s s′ : State} → Together p m N s s′ → After N s s′
@@ -62,7 +51,7 @@ module _ (p : Part) (m : BlockModel) where
       made-own = record { seen = number-seen p m N s s′ (h .seen); clock = h .clock; still = h .still }
 
       number-new : rankIn (withNumberOf N (s .made) .numbers) (suc (s .made)) ≡ suc (s′ .made)
-      number-new = rank-noted (N .numbers) (s .made) true ∙ one-more ∙ ap suc (sym (h .seen .counted .made))
+      number-new = cc (rank-noted (N .numbers) (s .made) true, one-more, h .seen .counted .made)
         where
           one-more : rankIn (N .numbers) (s .made) + 1 ≡ suc (rankIn (N .numbers) (s .made))
           one-more = omega arith
@@ -71,7 +60,7 @@ module _ (p : Part) (m : BlockModel) where
 
     alone-newborn : (N : Naming) (a b priority block : ℕ) → rankIn (N .numbers) a ≡ b → aloneAs p m N (newborn a priority block) ≡ newborn b priority (block - p .toBlock)
     unfolding newborn
-    alone-newborn N a b priority block e = rw (e, rank-zero (N .serials)) refl
+    alone-newborn N a b priority block e = rw (e, rank-zero) refl
 
     ours-newborn : (N : Naming) (a priority block : ℕ) → inPart p (size p m) block ≡ true → N .numbers a ≡ true → Ours p (size p m) N (newborn a priority block)
     unfolding newborn
@@ -84,21 +73,18 @@ module _ (p : Part) (m : BlockModel) where
     arrival-own (time ∷ left) list priority block i own N s s′ h =
         let used = useTime-own p m T N s s′ h list i in
         let born = made-own N (useTime (list + p .toList) s) (useTime list s′) used in
-        let N′ : Naming = withNumberOf N (s .made) in
-        let t : Transaction = newborn (suc (s .made)) priority block in
-        let new : N′ .numbers (suc (s .made)) ≡ true = noted (N .numbers) (s .made) true in
-        let k : Ours p (size p m) N′ t = ours-newborn N′ (suc (s .made)) priority block own new in
+        let N′ = withNumberOf N (s .made) in
+        let t = newborn (suc (s .made)) priority block in
+        let new = noted (N .numbers) (s .made) true in
+        let k = ours-newborn N′ (suc (s .made)) priority block own new in
         let done = toFel-after N′ _ _ born (s .view .clock + time) t k in
         after-then (record { naming = N′; together = born; keeps = keeps-number p m N (useTime (list + p .toList) s) (useTime list s′) (used .seen) })
-        (subst
-        (λ (u : Transaction). After N′ (toFel (s .view .clock + time) t (setMade (suc (s .made)) (useTime (list + p .toList) s))) (toFel (s′ .view .clock + time) u (setMade (suc (s′ .made)) (useTime list s′))))
-        (alone-newborn N′ (suc (s .made)) (suc (s′ .made)) priority block (number-new N (useTime (list + p .toList) s) (useTime list s′) used))
-        (subst
+        (rw (alone-newborn N′ (suc (s .made)) (suc (s′ .made)) priority block (number-new N (useTime (list + p .toList) s) (useTime list s′) used)) at (subst
         (λ (c : ℕ). After N′ (toFel (s .view .clock + time) t (setMade (suc (s .made)) (useTime (list + p .toList) s))) (toFel (c + time) (aloneAs p m N′ t) (setMade (suc (s′ .made)) (useTime list s′))))
         (sym (h .clock)) done))
 
     alone-copy : (N : Naming) (t : Transaction) (a b target : ℕ) → rankIn (N .numbers) a ≡ b → aloneAs p m N (copyOf t a (target + p .toBlock)) ≡ copyOf (aloneAs p m N t) b target
-    alone-copy N t a b target e = rw (e, rank-zero (N .serials), back) refl
+    alone-copy N t a b target e = rw (e, rank-zero, back) refl
       where
         back : target + p .toBlock - p .toBlock ≡ target
         back = omega arith
@@ -129,17 +115,14 @@ module _ (p : Part) (m : BlockModel) where
     pub next-back : (t : Transaction) → mine p (size p m) t ≡ true → suc (t .next) - p .toBlock ≡ suc (t .next - p .toBlock)
     next-back t own =
         let at = standing p m (t .next) own in
-        omega (arith, at .there, at .names .0)
+        omega arith
 
     pub delay-own : (times : List ℕ) (list : ℕ) → Names (m .lists) list → (t : Transaction) (N : Naming) (s s′ : State) → Together p m N s s′ → Known p (size p m) N t
         → inPart p (size p m) (suc (t .next)) ≡ true → After N (delay times (list + p .toList) t s) (delay times list (aloneAs p m N t) s′)
     unfolding delay
     delay-own [] list i t N s s′ h k on = after-here h
     delay-own (time ∷ left) list i t N s s′ h k on =
-        subst
-        (λ (n : ℕ). After N (toFel (s .view .clock + time) (withReturning false (withNext (suc (t .next)) t)) (useTime (list + p .toList) s)) (toFel (s′ .view .clock + time) (withReturning false (withNext n (aloneAs p m N t))) (useTime list s′)))
-        (next-back t (k .own))
-        (subst
+        rw (next-back t (k .own)) at (subst
         (λ (c : ℕ). After N (toFel (s .view .clock + time) (withReturning false (withNext (suc (t .next)) t)) (useTime (list + p .toList) s)) (toFel (c + time) (withReturning false (withNext (suc (t .next) - p .toBlock) (aloneAs p m N t))) (useTime list s′)))
         (sym (h .clock))
         (toFel-after N _ _ (useTime-own p m T N s s′ h list i) (s .view .clock + time) (withReturning false (withNext (suc (t .next)) t)) (record { own = on; number = k .number; family = k .family })))
@@ -156,13 +139,11 @@ module _ (p : Part) (m : BlockModel) where
     unfolding log
     beginWait-own put put′ P t N s s′ h k =
         let logged = log-own p m T N s s′ h 1 t k in
-        let N′ : Naming = withSerialOf N (s .serial) in
+        let N′ = withSerialOf N (s .serial) in
         record {
           naming = N′;
           together =
-              subst (λ (u : Transaction). Together p m N′ (beginWait put t s) (put′ u (setSerial (fresh s′) (log 1 (aloneAs p m N t) s′))))
-              (alone-fresh p m N (log 1 t s) (log 1 (aloneAs p m N t) s′) (logged .seen) t)
-              (P N′ _ _ (record { seen = serial-seen p m N _ _ (logged .seen); clock = logged .clock; still = logged .still }) (withSerial (fresh s) t) (known-fresh p m N (log 1 t s) (log 1 (aloneAs p m N t) s′) (logged .seen) t (ours p (size p m) k)));
+              rw (alone-fresh p m N (log 1 t s) (log 1 (aloneAs p m N t) s′) (logged .seen) t) at (P N′ _ _ (record { seen = serial-seen p m N _ _ (logged .seen); clock = logged .clock; still = logged .still }) (withSerial (fresh s) t) (known-fresh p m N (log 1 t s) (log 1 (aloneAs p m N t) s′) (logged .seen) t (ours p (size p m) k)));
           keeps = keeps-serial p m N (log 1 t s) (log 1 (aloneAs p m N t) s′) (logged .seen);
         }
 

@@ -1,31 +1,14 @@
 -- The single moves of a transaction of the part, made in the joined state and in the part's own: they keep the relation.
-use Prim.Native.Nat.{ℕ, suc, _+_, _-_, _≤_, _<_}
-use mathlib.Core.Path.{_≡_, refl, sym, ap, _∙_, subst}
-use mathlib.Core.Bool.{Bool, true, false, _&&_, true≢false}
-use mathlib.Core.List.{List, [], _∷_, map}
-use mathlib.Core.Option.{none}
-use native.Mathlib.Omega.{arith}
-use lib.Dec.{ltb, leb}
-use borrow.Author.Tests.{ltb-true, leb-true}
-use Rattle.machine.specs.Transaction.{Transaction, precedes, Event, earlier, Gatherer, Interrupted}
-use Rattle.machine.specs.Lists.{insert, those, nth, setNth}
-use Rattle.machine.specs.Term.{Server, Queue, idleServer, emptyQueue}
-use Rattle.machine.specs.Block.{Code, BlockModel}
-use Rattle.machine.specs.Trace.{Record}
-use Rattle.machine.specs.State.{State}
-use Rattle.machine.specs.Setters.{setEntries, setQueues, setServers, setView, setSamples, setQl, setWel, setWsl, setRel, setFel, setGatherers, setInterrupted}
-use Rattle.machine.specs.Moves.{recordOf, log, enters, toQl, toWel, toWsl, lineUp}
-use Rattle.machine.specs.Claims.{Each}
+use Rattle.machine.specs.All.{ℕ, suc, _+_, _-_, _≤_, _<_, _≡_, refl, sym, Bool, true, false, _&&_, true≢false, List, [], none, arith, ltb, leb, ltb-true, leb-true, Transaction, precedes, Event, earlier, Gatherer, Interrupted, insert, those, nth, setNth, Server, Queue, idleServer, emptyQueue, Code, BlockModel, State, setEntries, setQueues, setServers, setView, setSamples, setQl, setWel, setWsl, setRel, setFel, setGatherers, setInterrupted, recordOf, log, enters, toQl, toWel, toWsl, lineUp, Each}
 use Rattle.machine.proofs.decoding.Proper.{Names, servers}
 use Rattle.machine.proofs.runs.RunLaws.{each-map}
 use Rattle.machine.proofs.lists.Sorted.{each-insert}
 use Rattle.machine.proofs.lists.Lines.{each-lineUp}
-use Rattle.joined.specs.Join.{Part, serverIn}
-use Rattle.joined.specs.Parts.{inPart}
+use Rattle.joined.specs.{Part, serverIn, inPart}
 use Rattle.joined.proofs.Lists.{insert-map, those-insert, sorted-insert, by-time, by-precedence}
 use Rattle.joined.proofs.Rows.{Rows, rows-set, rows-put, rows-at}
 use Rattle.joined.proofs.Naming.{Naming, mine, Known, eventAs, gathererAs, earlier-seen, part-insert, known-insert, lineUp-seen}
-use Rattle.joined.proofs.Seen.{size, blockThere, queueThere, listThere, serverThere, here, Gate, AtServer, gateThere, gateHere, Tables, aloneAs, recordAs, interruptedAs, Alike, Shown, SameServer, OfPart, Seen}
+use Rattle.joined.proofs.Seen.{size, blockThere, queueThere, listThere, serverThere, here, Gate, AtServer, gateThere, gateHere, Tables, aloneAs, interruptedAs, Alike, Shown, SameServer, OfPart, Seen}
 
 both-true : (a b : Bool) → (a && b) ≡ true → (a ≡ true) × (b ≡ true)
 both-true true true e = (refl, refl)
@@ -73,7 +56,7 @@ module _ (p : Part) (m : BlockModel) where
                   listed = h .seen .listed;
                   told =
                       record {
-                        same = rw (k .own, h .clock) (ap (λ (l : List Record). recordAs p m N (recordOf outcome t s) ∷ l) (h .seen .told .same));
+                        same = rw (k .own, h .clock) (cc (h .seen .told .same));
                         known = rw (k .own) (k .number, h .seen .told .known);
                       };
                 };
@@ -89,10 +72,7 @@ module _ (p : Part) (m : BlockModel) where
         at = standing p m (t .next) (k .own)
 
         index : blockThere p m (t .next - p .toBlock) ≡ t .next - 1
-        index = ap (λ (b : ℕ). b - 1) (at .there)
-
-        same : nth (s′ .view .entries) (t .next - p .toBlock) 0 ≡ nth (s .view .entries) (t .next) 0
-        same = rows-at _ _ _ _ _ _ _ _ (h .seen .fixtures .entries) (t .next - p .toBlock) (at .names) _ _ index refl
+        index = cc (at .there)
 
         counted : Together N
             (setView (setEntries (setNth (s .view .entries) (t .next) (suc (nth (s .view .entries) (t .next) 0))) (s .view)) s)
@@ -105,7 +85,7 @@ module _ (p : Part) (m : BlockModel) where
                     fixtures =
                         record {
                           entries =
-                              rows-put _ _ _ _ _ _ _ _ (h .seen .fixtures .entries) (T .blocks) (t .next - p .toBlock) (at .names) _ _ index refl _ _ (ap suc same);
+                              rows-put _ _ _ _ _ _ _ _ (h .seen .fixtures .entries) (T .blocks) (t .next - p .toBlock) (at .names) _ _ index refl _ _ (cc (rows-at _ _ _ _ _ _ _ _ (h .seen .fixtures .entries) (t .next - p .toBlock) (at .names) _ _ index refl));
                           queues = h .seen .fixtures .queues;
                           servers = h .seen .fixtures .servers;
                           lists = h .seen .fixtures .lists;
@@ -126,7 +106,7 @@ module _ (p : Part) (m : BlockModel) where
         record {
           part =
               record {
-                same = ap (insert precedes (alone t)) (h .part .same) ∙ part-insert p (size p m) N t l (h .sorted) k (h .part .known);
+                same = cc (h .part .same, part-insert p (size p m) N t l (h .sorted) k (h .part .known));
                 known = known-insert p (size p m) N t l (h .sorted) k (h .part .known);
               };
           sorted = sorted-insert precedes by-precedence t l (h .sorted);
@@ -139,10 +119,8 @@ module _ (p : Part) (m : BlockModel) where
           part =
               record {
                 same =
-                    ap (insert earlier (eventAs p (size p m) N e)) (h .part .same)
-                    ∙ insert-map (eventAs p (size p m) N) earlier earlier e ours (each-map (λ (y : Event) q. earlier-seen p (size p m) N e y k q) ours (h .part .known))
-                    ∙ ap (map (eventAs p (size p m) N)) (sym split);
-                known = subst (Each (λ (y : Event). K (y .who))) (sym split) (each-insert (λ (y : Event). K (y .who)) earlier e ours k (h .part .known));
+                    cc (h .part .same, insert-map (eventAs p (size p m) N) earlier earlier e ours (each-map (λ (y : Event) q. earlier-seen p (size p m) N e y k q) ours (h .part .known)), split);
+                known = rw split (each-insert (λ (y : Event). K (y .who)) earlier e ours k (h .part .known));
               };
           sorted = sorted-insert earlier by-time e l (h .sorted);
         }
@@ -151,13 +129,13 @@ module _ (p : Part) (m : BlockModel) where
         ours = those (λ y. mine p (size p m) (y .who)) l
 
         split : those (λ y. mine p (size p m) (y .who)) (insert earlier e l) ≡ insert earlier e ours
-        split = those-insert earlier by-time (λ (y : Event). mine p (size p m) (y .who)) e l (h .sorted) (k .own)
+        split = those-insert earlier by-time (λ y. mine p (size p m) (y .who)) e l (h .sorted) (k .own)
 
     alike-lineUp : (edition : ℕ) {l l′ : List Transaction} (t : Transaction) → K t → Alike p m N alone (λ t. t) l l′
         → Alike p m N alone (λ t. t) (lineUp edition t l) (lineUp edition (alone t) l′)
     alike-lineUp edition {l} {l′} t k h =
         record {
-          same = ap (lineUp edition (alone t)) (h .same) ∙ lineUp-seen p (size p m) N edition t l k (h .known);
+          same = cc (h .same, lineUp-seen p (size p m) N edition t l k (h .known));
           known = each-lineUp K edition t l k (h .known);
         }
 

@@ -1,20 +1,8 @@
 -- A QL of the part is parted as it is in the part alone.
-use Prim.Native.Nat.{ℕ, _-_}
-use mathlib.Core.Path.{_≡_, refl, sym, ap, ap₂, _∙_}
-use mathlib.Core.Bool.{Bool, true, false, cond, not}
-use mathlib.Core.List.{List, [], _∷_, map}
-use lib.Dec.{ltb, leb, eqb}
-use borrow.Author.Tests.{eqb-false}
-use Rattle.machine.specs.Transaction.{Transaction}
-use Rattle.machine.specs.Lists.{anyOf}
-use Rattle.machine.specs.Term.{View, serverAt, free}
-use Rattle.machine.specs.Block.{Share, facility, storage, shareServer, aboveOne, BlockModel}
-use Rattle.machine.specs.Moves.{Parted, firstOf, partBy, goes, stays}
-use Rattle.machine.specs.Execute.{unitsOf, fits, firstOfOne, fromFront, queueRemove, partFor}
-use Rattle.machine.specs.Claims.{Each}
+use Rattle.machine.specs.All.{ℕ, _-_, _≡_, refl, ap, _∙_, Bool, true, false, cond, not, List, [], _∷_, map, ltb, eqb, eqb-false, Transaction, anyOf, View, serverAt, Share, facility, storage, shareServer, aboveOne, BlockModel, Parted, firstOf, partBy, goes, stays, unitsOf, fits, firstOfOne, fromFront, queueRemove, partFor, Each}
 use Rattle.machine.proofs.runs.RunLaws.{each-map}
 use Rattle.machine.proofs.lists.Lines.{both-partFor}
-use Rattle.joined.specs.Join.{Part, serverIn, shareIn}
+use Rattle.joined.specs.{Part, serverIn, shareIn}
 use Rattle.joined.proofs.Lists.{those-map, take-map, drop-map}
 use Rattle.joined.proofs.Naming.{Naming, Known}
 use Rattle.joined.proofs.Seen.{size, aloneAs, Alike, SameServer}
@@ -32,7 +20,7 @@ module _ (p : Part) (m M : BlockModel) (I : Inside p m M) (N : Naming) where
   parted x = record { go = map alone (x .go); stay = map alone (x .stay) }
 
   first-same : (l : List Transaction) → firstOf (map alone l) ≡ parted (firstOf l)
-  first-same l = ap₂ {C = Parted} (λ (a b : List Transaction). record { go = a; stay = b }) (take-map alone l) (drop-map alone l)
+  first-same l = cc (take-map alone l, drop-map alone l)
 
   of-one-same : (l : List Transaction) → Each K l → firstOfOne m (map alone l) ≡ parted (firstOfOne M l)
   unfolding firstOfOne
@@ -41,8 +29,8 @@ module _ (p : Part) (m M : BlockModel) (I : Inside p m M) (N : Naming) where
     where
       go : (b : Bool) → firstOfOne m (map alone l) ≡ parted (firstOfOne M l)
           → cond b (firstOf (alone t ∷ map alone l)) (stays (alone t) (firstOfOne m (map alone l))) ≡ parted (cond b (firstOf (t ∷ l)) (stays t (firstOfOne M l)))
-      go true e = first-same (t ∷ l)
-      go false e = ap (stays (alone t)) e
+      go true e = cc
+      go false e = cc
 
   from-front-same : (b : ℕ) (l : List Transaction) → Each K l → fromFront m b (map alone l) ≡ parted (fromFront M b l)
   unfolding fromFront
@@ -53,28 +41,23 @@ module _ (p : Part) (m M : BlockModel) (I : Inside p m M) (N : Naming) where
       go : (x y : Bool) → fromFront m b (map alone l) ≡ parted (fromFront M b l) → fromFront m (b - unitsOf M t) (map alone l) ≡ parted (fromFront M (b - unitsOf M t) l)
           → cond x (firstOf (alone t ∷ map alone l)) (cond y (stays (alone t) (fromFront m b (map alone l))) (goes (alone t) (fromFront m (b - unitsOf M t) (map alone l))))
           ≡ parted (cond x (firstOf (t ∷ l)) (cond y (stays t (fromFront M b l)) (goes t (fromFront M (b - unitsOf M t) l))))
-      go true y e d = first-same (t ∷ l)
-      go false true e d = ap (stays (alone t)) e
-      go false false e d = ap (goes (alone t)) d
+      go true y e d = cc
+      go false true e d = cc
+      go false false e d = cc
 
   by-same : (q q′ : Transaction → Bool) (l : List Transaction) → Each (λ t. q′ (alone t) ≡ q t) l → partBy q′ (map alone l) ≡ parted (partBy q l)
   by-same q q′ l e =
-      ap₂ {C = Parted} (λ (a b : List Transaction). record { go = a; stay = b }) (those-map alone q′ q l e)
-      (those-map alone (λ t. not (q′ t)) (λ t. not (q t)) l (each-map (λ t d. ap not d) l e))
+      cc (those-map alone q′ q l e, those-map alone (λ t. not (q′ t)) (λ t. not (q t)) l (each-map (λ t d. ap not d) l e))
 
   part-same : (x : Share) (w w′ : View) → SameServer p m N (serverAt w (serverIn p (shareServer x))) (serverAt w′ (shareServer x)) → (l : List Transaction) → Each K l
       → partFor m x w′ (map alone l) ≡ parted (partFor M (shareIn p x) w l)
   unfolding partFor queueRemove shareIn shareServer fits
   part-same (facility v) w w′ e l h = first-same l
   part-same (storage v b) w w′ e l h =
-      go (eqb (m .edition) 1) refl
-      ∙ ap (λ (c : Bool). parted (cond c (partBy (fits M w (serverIn p v)) l) (queueRemove M b l))) (ap (λ (k : ℕ). eqb k 1) (sym (I .edition)))
+      cc (go (eqb (m .edition) 1) refl, I .edition)
     where
-      fits-same : Each (λ t. leb (unitsOf m (alone t)) (free (serverAt w′ v)) ≡ leb (unitsOf M t) (free (serverAt w (serverIn p v)))) l
-      fits-same = each-map (λ (t : Transaction) k. ap₂ leb (units-seen p m M I N t k) (ap₂ (λ (a b : ℕ). a - b) (e .capacity) (e .inUse))) l h
-
       go : (c : Bool) → eqb (m .edition) 1 ≡ c → cond c (partBy (fits m w′ v) (map alone l)) (queueRemove m b (map alone l)) ≡ parted (cond c (partBy (fits M w (serverIn p v)) l) (queueRemove M b l))
-      go true d = by-same (fits M w (serverIn p v)) (fits m w′ v) l fits-same
+      go true d = by-same (fits M w (serverIn p v)) (fits m w′ v) l (each-map (λ t k. cc (units-seen p m M I N t k, e .capacity, e .inUse)) l h)
       go false d = rw (I .units (eqb-false _ _ d)) (other (anyOf aboveOne (m .blocks)) (eqb b 1))
         where
           other : (c d : Bool) → cond c (cond d (firstOfOne m (map alone l)) (fromFront m b (map alone l))) (firstOf (map alone l)) ≡ parted (cond c (cond d (firstOfOne M l) (fromFront M b l)) (firstOf l))
@@ -85,9 +68,9 @@ module _ (p : Part) (m M : BlockModel) (I : Inside p m M) (N : Naming) where
   pub parts-own : (x : Share) (w w′ : View) → SameServer p m N (serverAt w (serverIn p (shareServer x))) (serverAt w′ (shareServer x)) → (l l′ : List Transaction) → Alike p m N alone (λ t. t) l l′
       → Parting p m (I .tables) N (partFor M (shareIn p x) w l) (partFor m x w′ l′)
   parts-own x w w′ e l l′ h =
-      let same : partFor m x w′ l′ ≡ parted (partFor M (shareIn p x) w l) = ap (partFor m x w′) (h .same) ∙ part-same x w w′ e l (h .known) in
+      let same = ap (partFor m x w′) (h .same) ∙ part-same x w w′ e l (h .known) in
       let known = both-partFor K M (shareIn p x) w l (h .known) in
       record {
-        go = record { same = ap (λ (y : Parted). y .go) same; known = known .0 };
-        stay = record { same = ap (λ (y : Parted). y .stay) same; known = known .1 };
+        go = record { same = cc same; known = known .0 };
+        stay = record { same = cc same; known = known .1 };
       }

@@ -1,22 +1,9 @@
 -- The steps that blocks are made of, for a transaction of the part: serials, waking, servers, queues, times.
-use Prim.Native.Nat.{ℕ, _+_}
-use mathlib.Core.Path.{_≡_, refl, sym, ap, _∙_, subst}
-use mathlib.Core.Bool.{Bool, true, false, cond, not}
-use mathlib.Core.List.{List, [], _∷_, map}
-use lib.ListN.{take, drop}
-use Rattle.machine.specs.Transaction.{Transaction, precedes, earlier}
-use Rattle.machine.specs.Lists.{insert, those, others}
-use Rattle.machine.specs.Term.{Server, serverAt, queueAt}
-use Rattle.machine.specs.Block.{Code, U, NU, E, NE, F, NF, status, BlockModel}
-use Rattle.machine.specs.State.{State}
-use Rattle.machine.specs.Setters.{withSerial, withStamp, setRel, setFel, setSerial}
-use Rattle.machine.specs.Moves.{fresh, toRel, toFel, qlOf, welOf, wake, Parted, wakeQl, wakeFirstWel, wakeWsl, setUse, setContent, timesLeft, useTime}
-use Rattle.machine.specs.Execute.{checkWel, checkWels}
-use Rattle.machine.specs.Claims.{Each}
+use Rattle.machine.specs.All.{cases, ℕ, _+_, _≡_, refl, sym, ap, _∙_, subst, Bool, not, List, [], _∷_, map, take, Transaction, precedes, earlier, insert, those, others, Server, serverAt, queueAt, Code, U, NU, E, NE, F, NF, status, BlockModel, State, withSerial, withStamp, setFel, setSerial, fresh, toRel, toFel, qlOf, welOf, wake, Parted, wakeQl, wakeFirstWel, wakeWsl, setUse, setContent, timesLeft, useTime, checkWel, checkWels, Each}
 use Rattle.machine.proofs.decoding.Proper.{Names, servers}
 use Rattle.machine.proofs.runs.RunLaws.{each-map}
 use Rattle.machine.proofs.lists.Sorted.{each-those, each-drop, sorted-those}
-use Rattle.joined.specs.Join.{Part, serverIn}
+use Rattle.joined.specs.{Part, serverIn}
 use Rattle.joined.proofs.Lists.{those-map, take-map, drop-map, those-those, those-all}
 use Rattle.joined.proofs.Rows.{rows-set}
 use Rattle.joined.proofs.Ranks.{Named, rankIn}
@@ -35,17 +22,14 @@ module _ (p : Part) (m : BlockModel) (T : Tables p m) where
     pub toRel-own : (t : Transaction) → Ours p (size p m) N t → Together p m (withSerialOf N (s .serial)) (toRel t s) (toRel (aloneAs p m N t) s′)
     unfolding toRel
     toRel-own t k =
-        subst
-        (λ (u : Transaction). Together p m (withSerialOf N (s .serial)) (setRel (insert precedes (withSerial (fresh s) t) (s .rel)) (setSerial (fresh s) s)) (setRel (insert precedes u (s′ .rel)) (setSerial (fresh s′) s′)))
-        (alone-fresh p m N s s′ (h .seen) t)
-        (rel-own p m T (withSerialOf N (s .serial)) _ _ begun (withSerial (fresh s) t) (known-fresh p m N s s′ (h .seen) t k))
+        rw (alone-fresh p m N s s′ (h .seen) t) at (rel-own p m T (withSerialOf N (s .serial)) _ _ begun (withSerial (fresh s) t) (known-fresh p m N s s′ (h .seen) t k))
 
     pub toFel-own : (time : ℕ) (t : Transaction) → Ours p (size p m) N t → Together p m (withSerialOf N (s .serial)) (toFel time t s) (toFel time (aloneAs p m N t) s′)
     unfolding toFel
     toFel-own time t k =
         let k′ = known-fresh p m N s s′ (h .seen) t k in
         subst
-        (λ (u : Transaction).
+        (λ u.
         Together p m (withSerialOf N (s .serial)) (setFel (insert earlier (record { time = time; who = withStamp time (withSerial (fresh s) t) }) (s .fel)) (setSerial (fresh s) s))
         (setFel (insert earlier (record { time = time; who = withStamp time u }) (s′ .fel)) (setSerial (fresh s′) s′)))
         (alone-fresh p m N s s′ (h .seen) t)
@@ -66,7 +50,7 @@ module _ (p : Part) (m : BlockModel) (T : Tables p m) where
     shown-wake {rel} {rel′} h l k =
         let w = wake-seen p (size p m) N l rel (h .sorted) k (h .part .known) in
         record {
-          part = record { same = ap (wake (map alone (those (mine p (size p m)) l))) (h .part .same) ∙ w .same; known = w .known };
+          part = record { same = cc (h .part .same, w .same); known = w .known };
           sorted = w .sorted;
         }
 
@@ -74,9 +58,8 @@ module _ (p : Part) (m : BlockModel) (T : Tables p m) where
     shown-wake-own : {rel rel′ : List Transaction} → Shown p m N alone (λ t. t) precedes rel rel′ → (l : List Transaction) → Each K l
         → Shown p m N alone (λ t. t) precedes (wake l rel) (wake (map alone l) rel′)
     shown-wake-own {rel} {rel′} h l k =
-        let all : those (mine p (size p m)) l ≡ l = those-all (mine p (size p m)) l (each-map (λ t q. q .own) l k) in
-        subst (λ (r : List Transaction). Shown p m N alone (λ t. t) precedes (wake l rel) (wake (map alone r) rel′)) all
-        (shown-wake h l (subst (Each K) (sym all) k))
+        let all = those-all (mine p (size p m)) l (each-map (λ t q. q .own) l k) in
+        rw all at (shown-wake h l (subst (Each K) (sym all) k))
 
     -- a list parted on both sides alike
     pub record Parting (x x′ : Parted) : Type 0 where
@@ -96,22 +79,21 @@ module _ (p : Part) (m : BlockModel) (T : Tables p m) where
       unfolding wakeQl
       wakeQl-own part part′ v i k =
           let woken = put-rel p m T N s s′ h (wake (part (qlOf s (serverIn p v)) .go) (s .rel)) (wake (part′ (qlOf s′ v) .go) (s′ .rel))
-          (subst (λ (l : List Transaction). Shown p m N alone (λ t. t) precedes (wake (part (qlOf s (serverIn p v)) .go) (s .rel)) (wake l (s′ .rel)))
-          (sym (k .go .same)) (shown-wake-own (h .seen .listed .rel) _ (k .go .known))) in
+          (rw (k .go .same) (shown-wake-own (h .seen .listed .rel) _ (k .go .known))) in
           put-ql p m T N _ _ woken _ _ (rows-set _ _ _ _ _ _ _ _ (h .seen .lined .ql) (T .servers) v i _ _ (k .stay))
 
       pub wakeFirstWel-own : (v : ℕ) (code : Code) → Names (servers m) v → Together p m N (wakeFirstWel (serverIn p v) code s) (wakeFirstWel v code s′)
       unfolding wakeFirstWel
       wakeFirstWel-own v code i =
           let g : Gate p m = record { server = v; code = code } in
-          let l : Alike p m N alone (λ t. t) (welOf s (serverIn p v) code) (welOf s′ v code) = h .seen .lined .wel .alike g i in
+          let l = h .seen .lined .wel .alike g i in
           let woken = put-rel p m T N s s′ h (wake (take 1 (welOf s (serverIn p v) code)) (s .rel)) (wake (take 1 (welOf s′ v code)) (s′ .rel))
-          (subst (λ (r : List Transaction). Shown p m N alone (λ t. t) precedes (wake (take 1 (welOf s (serverIn p v) code)) (s .rel)) (wake r (s′ .rel)))
-          (sym (ap (take 1) (l .same) ∙ take-map alone (welOf s (serverIn p v) code)))
+          (subst (λ r. Shown p m N alone (λ t. t) precedes (wake (take 1 (welOf s (serverIn p v) code)) (s .rel)) (wake r (s′ .rel)))
+          (cc (l .same, take-map alone (welOf s (serverIn p v) code)))
           (shown-wake-own (h .seen .listed .rel) _ (first (welOf s (serverIn p v) code) (l .known)))) in
           put-wel p m T N _ _ woken _ _
           (rows-set _ _ _ _ _ _ _ _ (h .seen .lined .wel) (T .gates) g i _ _
-          (record { same = ap (drop 1) (l .same) ∙ drop-map alone (welOf s (serverIn p v) code); known = each-drop K (welOf s (serverIn p v) code) (l .known) }))
+          (record { same = cc (l .same, drop-map alone (welOf s (serverIn p v) code)); known = each-drop K (welOf s (serverIn p v) code) (l .known) }))
         where
           first : (l : List Transaction) → Each K l → Each K (take 1 l)
           first [] k = tt
@@ -132,8 +114,7 @@ module _ (p : Part) (m : BlockModel) (T : Tables p m) where
           let known : (r : Transaction → Bool) → Each K (those (mine p (size p m)) (those r (s .wsl))) =
           λ r. subst (Each K) (sym (those-those (mine p (size p m)) r (s .wsl))) (each-those K r ours (l .part .known)) in
           let woken = put-rel p m T N s s′ h (wake (those q (s .wsl)) (s .rel)) (wake (those q′ (s′ .wsl)) (s′ .rel))
-          (subst (λ (r : List Transaction). Shown p m N alone (λ t. t) precedes (wake (those q (s .wsl)) (s .rel)) (wake r (s′ .rel))) (sym go)
-          (shown-wake (h .seen .listed .rel) (those q (s .wsl)) (known q))) in
+          (rw go (shown-wake (h .seen .listed .rel) (those q (s .wsl)) (known q))) in
           put-wsl p m T N _ _ woken _ _
           (record { part = record { same = stay; known = known (λ t. not (q t)) }; sorted = sorted-those precedes (λ t. not (q t)) (s .wsl) (l .sorted) })
 
@@ -161,7 +142,7 @@ module _ (p : Part) (m : BlockModel) (T : Tables p m) where
 
       pub useTime-own : (l : ℕ) → Names (m .lists) l → Together p m N (useTime (l + p .toList) s) (useTime l s′)
       useTime-own l i =
-          put-samples p m T N s s′ h _ _ (rows-set _ _ _ _ _ _ _ _ (h .seen .fixtures .lists) (T .lists) l i _ _ (ap (drop 1) (times-seen l i)))
+          put-samples p m T N s s′ h _ _ (rows-set _ _ _ _ _ _ _ _ (h .seen .fixtures .lists) (T .lists) l i _ _ (cc (times-seen l i)))
 
     -- ---- The check of the WELs
 
@@ -171,16 +152,12 @@ module _ (p : Part) (m : BlockModel) (T : Tables p m) where
     status-seen NU v v′ h = rw (h .inUse)
     status-seen E v v′ h = rw (h .inUse)
     status-seen NE v v′ h = rw (h .inUse)
-    status-seen F v v′ h = rw (h .inUse, h .capacity)
-    status-seen NF v v′ h = rw (h .inUse, h .capacity)
+    status-seen F v v′ h = cc
+    status-seen NF v v′ h = cc
 
     checkWel-own : (v : ℕ) (code : Code) → Names (servers m) v → (s s′ : State) → Together p m N s s′ → Together p m N (checkWel (serverIn p v) code s) (checkWel v code s′)
     unfolding checkWel
-    checkWel-own v code i s s′ h = rw (status-seen code _ _ (server-seen s s′ h v i)) (go (status code (serverAt (s .view) (serverIn p v))))
-      where
-        go : (b : Bool) → Together p m N (cond b s (wakeFirstWel (serverIn p v) code s)) (cond b s′ (wakeFirstWel v code s′))
-        go true = h
-        go false = wakeFirstWel-own s s′ h v code i
+    checkWel-own v code i s s′ h = rw (status-seen code _ _ (server-seen s s′ h v i)) (cases (status code (serverAt (s .view) (serverIn p v))) (λ e. rw e h) (λ e. rw e (wakeFirstWel-own s s′ h v code i)))
 
     pub checkWels-own : (v : ℕ) → Names (servers m) v → (s s′ : State) → Together p m N s s′ → Together p m N (checkWels (serverIn p v) s) (checkWels v s′)
     unfolding checkWels

@@ -1,24 +1,11 @@
 -- How far a part alone is, beside the joined run: level with it, at rest at an older clock, or behind by one clock move, which the joined run made
 -- before that part had its turn.
-use Prim.Native.Nat.{ℕ, suc, _≤_}
-use mathlib.Core.Path.{_≡_, refl, sym, ap, _∙_, subst}
-use mathlib.Core.Bool.{Bool, true, false, cond, true≢false}
-use mathlib.Core.List.{List, [], _∷_, map}
-use mathlib.Core.Option.{Option, none, some}
-use native.Mathlib.Omega.{arith}
-use Rattle.machine.specs.Transaction.{Transaction, precedes, Event}
-use Rattle.machine.specs.Lists.{those}
-use Rattle.machine.specs.Term.{View}
-use Rattle.machine.specs.Block.{BlockModel}
-use Rattle.machine.specs.State.{State}
-use Rattle.machine.specs.Setters.{setMoving, setRel, setTurns}
-use Rattle.machine.specs.Turn.{nextEvents, moveClock, takeFirst, takeReady, taking, waitsOn}
-use Rattle.machine.specs.Claims.{Each}
+use Rattle.machine.specs.All.{ℕ, suc, _≤_, _≡_, refl, sym, _∙_, subst, Bool, true, false, true≢false, List, [], _∷_, map, Option, none, some, arith, Transaction, precedes, Event, those, BlockModel, State, setMoving, setRel, nextEvents, moveClock, takeReady, taking, waitsOn, Each}
 use Rattle.machine.proofs.runs.RunLaws.{each-map, each-pair}
 use Rattle.machine.proofs.lists.Sorted.{Sorted}
-use Rattle.joined.specs.Join.{Part}
+use Rattle.joined.specs.{Part}
 use Rattle.joined.proofs.Naming.{Naming, mine, Known}
-use Rattle.joined.proofs.Seen.{size, Tables, aloneAs, Alike, Seen}
+use Rattle.joined.proofs.Seen.{size, Tables, aloneAs, Seen}
 use Rattle.joined.proofs.Renaming.{Extends, fixtures-more, lined-more, listed-more, told-more}
 use Rattle.joined.proofs.Inside.{Inside, waitsOn-seen}
 use Rattle.joined.proofs.OwnMoves.{Together}
@@ -109,7 +96,7 @@ module _ (p : Part) (m : BlockModel) where
     T = I .tables
 
     not-none : {A : Type 0} (t : Transaction) → some t ≡ none → A
-    not-none t e = absurd (true≢false (ap filled e))
+    not-none t e = absurd (true≢false (cc e))
       where
         filled : Option Transaction → Bool
         filled none = false
@@ -122,7 +109,7 @@ module _ (p : Part) (m : BlockModel) where
     -- nothing of the part is on an empty list
     nothing-seen : (N : Naming) (s a : State) → Seen p m N s a → s .rel ≡ [] → a .rel ≡ []
     unfolding those
-    nothing-seen N s a h e = h .listed .rel .part .same ∙ ap (λ (l : List Transaction). map (aloneAs p m N) (those (mine p (size p m)) l)) e
+    nothing-seen N s a h e = cc
 
     abbrev Arrived : Naming → (s a r : State) → Type 0
     Arrived N s a r = Paced N r a × (r .moving ≡ none)
@@ -151,19 +138,18 @@ module _ (p : Part) (m : BlockModel) where
       -- nobody of the WSL is woken by a clock move
       waits-later : (time : ℕ) → Each (λ u. waitsOn m (moveClock time a .view) u ≡ true) (moveClock time a .wsl)
       waits-later time =
-          let ours : List Transaction = those (mine p (size p m)) (s .wsl) in
+          let ours = those (mine p (size p m)) (s .wsl) in
           let l = k .listed .wsl .part in
           let there = moved-there p m N time (s .ql) _ _ _ _ (k .fixtures) in
-          let before = each-unmap (aloneAs p m N) (λ (u : Transaction). waitsOn m (a .view) u ≡ true) ours (subst (Each (λ (u : Transaction). waitsOn m (a .view) u ≡ true)) (l .same) w) in
-          let both = each-pair (Known p (size p m) N) (λ (t : Transaction). waitsOn m (a .view) (aloneAs p m N t) ≡ true) ours (l .known) before in
-          let after : Each (λ (t : Transaction). waitsOn m (moved time (a .ql) (a .view)) (aloneAs p m N t) ≡ true) ours =
+          let before = each-unmap (aloneAs p m N) (λ u. waitsOn m (a .view) u ≡ true) ours (rw (l .same) at w) in
+          let both = each-pair (Known p (size p m) N) (λ t. waitsOn m (a .view) (aloneAs p m N t) ≡ true) ours (l .known) before in
+          let after =
           each-map
-          (λ (t : Transaction) h.
+          (λ t h.
           waitsOn-seen p m M I N _ _ _ _ (moved-here p m N time (a .ql) _ _ _ _ there) t (h .0)
           ∙ sym (waitsOn-seen p m M I N _ _ _ _ there t (h .0)) ∙ h .1) ours both in
-          subst (λ (v : View). Each (λ u. waitsOn m v u ≡ true) (moveClock time a .wsl)) (sym (moveClock-view time a))
-          (subst (Each (λ (u : Transaction). waitsOn m (moved time (a .ql) (a .view)) u ≡ true)) (sym (l .same) ∙ sym (moveClock-unmoved time a .wsl))
-          (each-mapped (aloneAs p m N) (λ (u : Transaction). waitsOn m (moved time (a .ql) (a .view)) u ≡ true) ours after))
+          subst (λ v. Each (λ u. waitsOn m v u ≡ true) (moveClock time a .wsl)) (sym (moveClock-view time a))
+          (rw (moveClock-unmoved time a .wsl, l .same) (each-mapped (aloneAs p m N) (λ (u : Transaction). waitsOn m (moved time (a .ql) (a .view)) u ≡ true) ours after))
 
       by-events : (l : List Event) → s .fel ≡ l → Arrived N s a (nextEvents l s)
       unfolding nextEvents
@@ -217,8 +203,8 @@ module _ (p : Part) (m : BlockModel) where
     takes-first : (a b : State) → Stands a b → b .moving ≡ none → (t : Transaction) (l : List Transaction) → b .rel ≡ t ∷ l → taking (a .moving) a ≡ setMoving (some t) (setRel l b)
     unfolding taking takeReady
     takes-first a b same o t l e =
-        ap (λ (x : Option Transaction). taking x a) o ∙ ap (λ (r : List Transaction). takeReady r a) e ∙ ap (λ (r : List Transaction). takeFirst r a) (sym e) ∙ first-taken t l a e
-    takes-first a b (behind o z n) o′ t l e = ap (λ (x : Option Transaction). taking x a) o ∙ ap (λ (r : List Transaction). takeReady r a) z ∙ first-taken t l b e
+        cc (o, e, first-taken t l a e)
+    takes-first a b (behind o z n) o′ t l e = cc (o, z, first-taken t l b e)
 
     pub record Takes (N : Naming) (t : Transaction) (q a : State) : Type 0 where
       pub known : Known p (size p m) N t
@@ -227,7 +213,7 @@ module _ (p : Part) (m : BlockModel) where
 
     module _ (N : Naming) (r b : State) (h : Seen p m N r b) (t : Transaction) (l : List Transaction) (e : r .rel ≡ t ∷ l) (n : ℕ) where
       sorted-rest : Sorted precedes l
-      sorted-rest = subst (Sorted precedes) e (h .listed .rel .sorted) .1
+      sorted-rest = rw e at (h .listed .rel .sorted) .1
 
       -- one of the part
       module _ (mine! : mine p (size p m) t ≡ true) where
@@ -236,13 +222,13 @@ module _ (p : Part) (m : BlockModel) where
 
         split : those (mine p (size p m)) (r .rel) ≡ t ∷ those (mine p (size p m)) l
         unfolding those
-        split = ap (those (mine p (size p m))) e ∙ ap (λ (c : Bool). cond c (t ∷ those (mine p (size p m)) l) (those (mine p (size p m)) l)) mine!
+        split = cc
 
         all-known : Each (Known p (size p m) N) (t ∷ those (mine p (size p m)) l)
-        all-known = subst (Each (Known p (size p m) N)) split (h .listed .rel .part .known)
+        all-known = rw split at (h .listed .rel .part .known)
 
         first-seen : b .rel ≡ aloneAs p m N t ∷ map (aloneAs p m N) (those (mine p (size p m)) l)
-        first-seen = h .listed .rel .part .same ∙ ap (map (aloneAs p m N)) split
+        first-seen = cc (h .listed .rel .part .same, split)
 
         in-hand : (k : ℕ) → b .view .clock ≡ r .view .clock → Together p m N (hand n t l r) (hand k (aloneAs p m N t) (map (aloneAs p m N) (those (mine p (size p m)) l)) b)
         in-hand k c =
@@ -268,13 +254,13 @@ module _ (p : Part) (m : BlockModel) where
 
         pub own-hand : (a : State) → Stands a b → b .moving ≡ none → Clocked r b → Takes N t (hand n t l r) a
         own-hand a stands o clocked =
-            let taken : taking (a .moving) a ≡ setMoving (some (aloneAs p m N t)) (setRel (map (aloneAs p m N) (those (mine p (size p m)) l)) b) =
+            let taken =
             takes-first a b stands o (aloneAs p m N t) (map (aloneAs p m N) (those (mine p (size p m)) l)) first-seen in
             record {
               known = all-known .0;
-              takes = ap (λ (x : State). x .moving) taken;
+              takes = cc taken;
               together =
-                  subst (λ (x : State). Together p m N (hand n t l r) (setMoving none (setTurns (suc (a .turns)) x))) (sym taken) (in-hand (suc (a .turns)) (clocks clocked));
+                  rw taken (in-hand (suc (a .turns)) (clocks clocked));
             }
           where
             clocks : Clocked r b → b .view .clock ≡ r .view .clock
@@ -282,7 +268,7 @@ module _ (p : Part) (m : BlockModel) where
             clocks (resting o z) = absurd (empty (sym z ∙ first-seen))
               where
                 empty : {x : Transaction} {k : List Transaction} → [] ≡ x ∷ k → ⊥
-                empty q = true≢false (ap blank q)
+                empty q = true≢false (cc q)
                   where
                     blank : List Transaction → Bool
                     blank [] = true
@@ -299,7 +285,7 @@ module _ (p : Part) (m : BlockModel) where
             listed =
                 record {
                   wsl = h .listed .wsl;
-                  rel = record { part = subst (λ (x : List Transaction). Alike p m N (aloneAs p m N) (λ t. t) x (b .rel)) gone (h .listed .rel .part); sorted = sorted-rest };
+                  rel = record { part = rw gone at (h .listed .rel .part); sorted = sorted-rest };
                   fel = h .listed .fel;
                   interrupted = h .listed .interrupted;
                   facilities = h .listed .facilities;
@@ -308,4 +294,4 @@ module _ (p : Part) (m : BlockModel) where
           }
         where
           gone : those (mine p (size p m)) (r .rel) ≡ those (mine p (size p m)) l
-          gone = ap (those (mine p (size p m))) e ∙ ap (λ (c : Bool). cond c (t ∷ those (mine p (size p m)) l) (those (mine p (size p m)) l)) d
+          gone = cc

@@ -1,27 +1,11 @@
 -- A turn of the joined run, for one part: its own turn, or nothing.
-use Prim.Native.Nat.{ℕ, suc, _+_, _-_, _≤_}
-use mathlib.Core.Path.{_≡_, refl, sym, ap, _∙_, subst}
-use mathlib.Core.Bool.{Bool, true, false, not}
-use mathlib.Core.List.{List, [], map}
-use mathlib.Core.Option.{Option, none, some}
-use native.Mathlib.Omega.{arith}
-use Rattle.machine.specs.Transaction.{Transaction, precedes, Event}
-use Rattle.machine.specs.Lists.{those, others}
-use Rattle.machine.specs.Term.{serverAt}
-use Rattle.machine.specs.Block.{Code, Block, facts, BlockModel, blockAt}
-use Rattle.machine.specs.State.{State}
-use Rattle.machine.specs.Setters.{setMoving}
-use Rattle.machine.specs.Moves.{qlOf, welOf, losesTo, wake, wakeWsl}
-use Rattle.machine.specs.Execute.{effect}
-use Rattle.machine.specs.Turn.{taking, waitsOn, turn}
-use Rattle.machine.specs.Claims.{Each}
+use Rattle.machine.specs.All.{ℕ, suc, _+_, _-_, _≤_, _≡_, refl, sym, ap, _∙_, subst, Bool, true, false, not, Option, none, some, arith, Transaction, precedes, Event, those, serverAt, Code, facts, BlockModel, blockAt, State, setMoving, qlOf, welOf, losesTo, wake, wakeWsl, effect, taking, waitsOn, turn, Each}
 use Rattle.machine.proofs.runs.RunLaws.{each-map, each-pair}
 use Rattle.machine.proofs.lists.Sorted.{sorted-those}
-use Rattle.joined.specs.Join.{Part}
-use Rattle.joined.specs.Parts.{inPart}
+use Rattle.joined.specs.{Part, inPart}
 use Rattle.joined.proofs.Lists.{those-those, those-none, those-all}
 use Rattle.joined.proofs.Naming.{Naming, mine, Known}
-use Rattle.joined.proofs.Seen.{size, aloneAs, Alike, Shown, Seen}
+use Rattle.joined.proofs.Seen.{size, aloneAs, Seen}
 use Rattle.joined.proofs.Inside.{Inside, block-seen, waitsOn-seen}
 use Rattle.joined.proofs.OwnMoves.{standing, Together}
 use Rattle.joined.proofs.OwnSteps.{shown-wake, wakeWsl-own}
@@ -48,22 +32,22 @@ module _ (p : Part) (m M : BlockModel) (I : Inside p m M) where
         still = (refl, refl);
       } in
       let k = wakeWsl-own p m (I .tables) N _ _ still-there (λ t. not (waitsOn M (x .view) t)) (λ t. not (waitsOn m (x′ .view) t))
-      (each-map (λ (t : Transaction) q. ap not (waitsOn-seen p m M I N _ _ _ _ (h .fixtures) t q)) (those (mine p n) (x .wsl)) (h .listed .wsl .part .known)) in
+      (each-map (λ t q. cc (waitsOn-seen p m M I N _ _ _ _ (h .fixtures) t q)) (those (mine p n) (x .wsl)) (h .listed .wsl .part .known)) in
       record { counted = k .seen .counted; fixtures = k .seen .fixtures; lined = k .seen .lined; listed = k .seen .listed; told = k .seen .told }
 
   -- nobody of the part is woken
   settled-other : (N : Naming) (x b : State) → Seen p m N x b → Each (λ u. waitsOn m (b .view) u ≡ true) (b .wsl) → Seen p m N (settled M x) b
   unfolding wakeWsl wake
   settled-other N x b h w =
-      let ours : List Transaction = those (mine p n) (x .wsl) in
+      let ours = those (mine p n) (x .wsl) in
       let q : Transaction → Bool = λ t. not (waitsOn M (x .view) t) in
       let l = h .listed .wsl in
-      let waits : Each (λ (t : Transaction). q t ≡ false) ours =
-      each-map (λ (t : Transaction) d. ap not (sym (waitsOn-seen p m M I N _ _ _ _ (h .fixtures) t (d .0)) ∙ d .1)) ours
-      (each-pair (Known p n N) (λ (t : Transaction). waitsOn m (b .view) (aloneAs p m N t) ≡ true) ours (l .part .known)
-      (each-unmap (aloneAs p m N) (λ (u : Transaction). waitsOn m (b .view) u ≡ true) ours (subst (Each (λ (u : Transaction). waitsOn m (b .view) u ≡ true)) (l .part .same) w))) in
-      let go : those (mine p n) (those q (x .wsl)) ≡ [] = those-those (mine p n) q (x .wsl) ∙ those-none q ours waits in
-      let stay : those (mine p n) (others q (x .wsl)) ≡ ours = those-those (mine p n) (λ t. not (q t)) (x .wsl) ∙ those-all (λ t. not (q t)) ours (each-map (λ (t : Transaction) d. ap not d) ours waits) in
+      let waits =
+      each-map (λ t d. ap not (sym (waitsOn-seen p m M I N _ _ _ _ (h .fixtures) t (d .0)) ∙ d .1)) ours
+      (each-pair (Known p n N) (λ t. waitsOn m (b .view) (aloneAs p m N t) ≡ true) ours (l .part .known)
+      (each-unmap (aloneAs p m N) (λ u. waitsOn m (b .view) u ≡ true) ours (rw (l .part .same) at w))) in
+      let go = those-those (mine p n) q (x .wsl) ∙ those-none q ours waits in
+      let stay = those-those (mine p n) (λ t. not (q t)) (x .wsl) ∙ those-all (λ t. not (q t)) ours (each-map (λ t d. cc d) ours waits) in
       record {
         counted = h .counted;
         fixtures = h .fixtures;
@@ -72,12 +56,11 @@ module _ (p : Part) (m M : BlockModel) (I : Inside p m M) where
             record {
               wsl =
                   record {
-                    part = subst (λ (r : List Transaction). Alike p m N (aloneAs p m N) (λ t. t) r (b .wsl)) (sym stay) (l .part);
+                    part = rw stay (l .part);
                     sorted = sorted-those precedes (λ t. not (q t)) (x .wsl) (l .sorted);
                   };
               rel =
-                  subst (λ (r : List Transaction). Shown p m N (aloneAs p m N) (λ t. t) precedes (wake (those q (x .wsl)) (x .rel)) (wake (map (aloneAs p m N) r) (b .rel))) go
-                  (shown-wake p m (I .tables) N (h .listed .rel) (those q (x .wsl)) (subst (Each (Known p n N)) (sym go) tt));
+                  rw go at (shown-wake p m (I .tables) N (h .listed .rel) (those q (x .wsl)) (subst (Each (Known p n N)) (sym go) tt));
               fel = h .listed .fel;
               interrupted = h .listed .interrupted;
               facilities = h .listed .facilities;
@@ -88,7 +71,7 @@ module _ (p : Part) (m M : BlockModel) (I : Inside p m M) where
   -- ---- The part's own turn
 
   next-in : (b : ℕ) → suc b ≤ size p m → inPart p n (suc (b + p .toBlock)) ≡ true
-  next-in b h = subst (λ (i : ℕ). inPart p n i ≡ true) one-on (in-part p m (suc b) (omega arith, h))
+  next-in b h = rw one-on at (in-part p m (suc b) (omega arith, h))
     where
       one-on : suc b + p .toBlock ≡ suc (b + p .toBlock)
       one-on = omega arith
@@ -119,17 +102,16 @@ module _ (p : Part) (m M : BlockModel) (I : Inside p m M) where
       → Others p m (I .tables) N (handed M s .fel) → Paced p m N (turn M s) (turn m a)
   own-turn N t s a k e z z′ o =
       let at = standing p m (t .next) (k .known .own) in
-      let b : Block = blockAt m (t .next - p .toBlock) in
+      let b = blockAt m (t .next - p .toBlock) in
       let on : facts b .leaves ≡ false → inPart p n (suc (t .next)) ≡ true =
-      λ d. subst (λ (i : ℕ). inPart p n (suc i) ≡ true) (at .there) (next-in (t .next - p .toBlock) (I .goes-on (t .next - p .toBlock) (at .names) d)) in
-      let x : State = effect M (blockOf M t) t (handed M s) in
-      let x′ : State = effect m b (aloneAs p m N t) (handed m a) in
+      λ d. rw (at .there) at (next-in (t .next - p .toBlock) (I .goes-on (t .next - p .toBlock) (at .names) d)) in
+      let x = effect M (blockOf M t) t (handed M s) in
+      let x′ = effect m b (aloneAs p m N t) (handed m a) in
       let done : Done p m N x x′ =
-      subst (λ (c : Block). Done p m N (effect M c t (handed M s)) x′) (sym (block-seen p m M I N t (k .known)))
-      (effect-own p m M I N (handed M s) (handed m a) (k .together) t (k .known) b (I .proper _ (at .names)) (I .plain _ (at .names)) on (I .goes-back _ (at .names)) o) in
-      let there : turn M s ≡ settled M x = turned M s t e z .1 in
-      let here : turn m a ≡ settled m x′ = turned m a (aloneAs p m N t) (k .takes) z′ .1 in
-      subst (Paced p m N (turn M s)) (sym here) (subst (λ (y : State). Paced p m N y (settled m x′)) (sym there) (done-paced N x x′ done))
+      rw (block-seen p m M I N t (k .known)) (effect-own p m M I N (handed M s) (handed m a) (k .together) t (k .known) b (I .proper _ (at .names)) (I .plain _ (at .names)) on (I .goes-back _ (at .names)) o) in
+      let there = turned M s t e z .1 in
+      let here = turned m a (aloneAs p m N t) (k .takes) z′ .1 in
+      subst (Paced p m N (turn M s)) (sym here) (rw there (done-paced N x x′ done))
 
   -- ---- A turn of the other part
 
@@ -152,7 +134,7 @@ module _ (p : Part) (m M : BlockModel) (I : Inside p m M) where
         seen-as = b;
         stands = stands;
         seen = settled-other N x b (l .seen) w;
-        moving = subst (λ (y : Option Transaction). Moving p m N (x .moving) y) (sym o) (away (l .moving));
+        moving = rw o (away (l .moving));
         clocked = clocks (settled M x) (l .time);
         holding = w;
       }
@@ -161,12 +143,12 @@ module _ (p : Part) (m M : BlockModel) (I : Inside p m M) where
   pub other-turn : (N : Naming) (t : Transaction) (s a b : State) → Seen p m N (handed M s) b → Stands p m a b → b .moving ≡ none → Each (λ u. waitsOn m (b .view) u ≡ true) (b .wsl)
       → Clocked p m (handed M s) b → taking (s .moving) s .moving ≡ some t → turn M s .end ≡ 0 → Strange N t (handed M s) → Pace p m N (turn M s) a
   other-turn N t s a b h stands o w clocked e z k =
-      let c : ℕ = handed M s .view .clock in
+      let c = handed M s .view .clock in
       let beside : Beside p m N c (handed M s) b = record { seen = h; time = refl; still = refl; gates = k .gates } in
-      let left : Left p m N c (effect M (blockOf M t) t (handed M s)) b =
+      let left =
       effect-other p m (I .tables) N c b (I .facility) M t (k .not-mine) (k .row) (handed M s) beside (k .queues) (k .losers) (blockOf M t) (k .outside) (k .on) (k .back) in
-      subst (λ (y : State). Pace p m N y a) (sym (turned M s t e z .1)) (left-pace N c _ a b left stands o w (clocks clocked))
+      rw (turned M s t e z .1) (left-pace N c _ a b left stands o w (clocks clocked))
     where
       clocks : Clocked p m (handed M s) b → (y : State) → y .view .clock ≡ handed M s .view .clock → Clocked p m y b
-      clocks (level d) y q = level (d ∙ sym q)
+      clocks (level d) y q = level (cc (d, q))
       clocks (resting d r) y q = resting d r

@@ -1,24 +1,12 @@
 -- The claim of ../specs/Parts.antt, for any rules of at most two editions, and so for those in force.
-use Prim.Native.Nat.{ℕ, suc, _≤_, _<_}
-use mathlib.Core.Path.{_≡_, refl, sym, ap, _∙_}
-use mathlib.Core.List.{List, [], _∷_}
-use native.Mathlib.Omega.{arith}
-use Rattle.machine.specs.Rules.{Rules, inForce}
-use Rattle.machine.specs.Lists.{anyOf}
-use Rattle.machine.specs.Block.{Block, aboveOne, BlockModel}
-use Rattle.machine.specs.Trace.{Record}
-use Rattle.machine.specs.State.{State}
-use Rattle.machine.specs.Moves.{toFel, arrival}
-use Rattle.machine.specs.Run.{startAt, idle, start, run, steps}
+use Rattle.machine.specs.All.{ℕ, suc, _≤_, _≡_, refl, List, [], _∷_, arith, Rules, inForce, anyOf, Block, aboveOne, BlockModel, Record, State, toFel, arrival, startAt, idle, start, run, steps}
 use Rattle.machine.proofs.decoding.Proper.{Proper}
 use Rattle.machine.proofs.lists.Cases.{startOf-cases}
 use Rattle.machine.proofs.runs.Shape.{shape-start}
 use Rattle.machine.proofs.nobody_able.WaitsKept.{waits-start}
 use Rattle.machine.proofs.runs.Placed.{placed-start}
 use Rattle.machine.proofs.decoding.ProperFrom.{proper-from, rules-from}
-use Rattle.joined.specs.Join.{first, second, joinModels, joinTapes}
-use Rattle.joined.specs.Parts.{partOf, Dry, Apart, TwoPlants}
-use Rattle.joined.proofs.Lists.{strictly}
+use Rattle.joined.specs.{first, second, joinModels, joinTapes, Dry, Apart, TwoPlants}
 use Rattle.joined.proofs.Inside.{Inside}
 use Rattle.joined.proofs.Simulation.{Sane}
 use Rattle.joined.proofs.JointRun.{run-both}
@@ -39,7 +27,7 @@ arrival-end (x ∷ l) list r n s e = e
 startAt-end : (n : ℕ) (l : List Block) (s : State) → s .end ≡ 0 → startAt n l s .end ≡ 0
 unfolding startAt
 startAt-end n [] s e = e
-startAt-end n (b ∷ l) s e = startAt-end (suc n) l _ (startOf-cases (λ (s : State). s .end ≡ 0) b n s (λ q. e) (λ q. arrival-end _ _ _ n s e))
+startAt-end n (b ∷ l) s e = startAt-end (suc n) l _ (startOf-cases (λ s. s .end ≡ 0) b n s (λ q. e) (λ q. arrival-end _ _ _ n s e))
 
 start-end : (m : BlockModel) (tape : List (List ℕ)) → start m tape .end ≡ 0
 unfolding start idle
@@ -75,36 +63,25 @@ module _ (m₁ m₂ : BlockModel) (t₁ t₂ : List (List ℕ)) (proper₁ : Pro
       (start-end (joinModels m₁ m₂) (joinTapes t₁ t₂)) (start-end m₁ t₁) (start-end m₂ t₂) steps steps (d .ends) (d₁ .ends) (d₂ .ends) in
       record {
         of-first =
-            ap (partOf (first m₁ m₂) m₁) (d .those-of)
-            ∙ part-records (first m₁ m₂) m₁ (both .first .naming) (run (joinModels m₁ m₂) (joinTapes t₁ t₂) (d .budget) (d .room)) (run m₁ t₁ (d₁ .budget) (d₁ .room)) (both .first .seen) (both .first .nobody)
-            (everybody-recorded proper₁ (d₁ .budget) (d₁ .room) (start-end m₁ t₁) (d₁ .ends))
-            ∙ sym (d₁ .those-of);
+            cc (d .those-of, part-records (first m₁ m₂) m₁ (both .first .naming) (run (joinModels m₁ m₂) (joinTapes t₁ t₂) (d .budget) (d .room)) (run m₁ t₁ (d₁ .budget) (d₁ .room)) (both .first .seen) (both .first .nobody) (everybody-recorded proper₁ (d₁ .budget) (d₁ .room) (start-end m₁ t₁) (d₁ .ends)), d₁ .those-of);
         of-second =
-            ap (partOf (second m₁ m₂) m₂) (d .those-of)
-            ∙ part-records (second m₁ m₂) m₂ (both .second .naming) (run (joinModels m₁ m₂) (joinTapes t₁ t₂) (d .budget) (d .room)) (run m₂ t₂ (d₂ .budget) (d₂ .room)) (both .second .seen) (both .second .nobody)
-            (everybody-recorded proper₂ (d₂ .budget) (d₂ .room) (start-end m₂ t₂) (d₂ .ends))
-            ∙ sym (d₂ .those-of);
+            cc (d .those-of, part-records (second m₁ m₂) m₂ (both .second .naming) (run (joinModels m₁ m₂) (joinTapes t₁ t₂) (d .budget) (d .room)) (run m₂ t₂ (d₂ .budget) (d₂ .room)) (both .second .seen) (both .second .nobody) (everybody-recorded proper₂ (d₂ .budget) (d₂ .room) (start-end m₂ t₂) (d₂ .ends)), d₂ .those-of);
       }
 
 -- ---- From bytes
 
 pub two-plants : (rules : Rules) → rules .editions ≤ 2 → TwoPlants rules
 two-plants rules most model₁ tape₁ model₂ tape₂ work report m₁ m₂ t₁ t₂ a₁ a₂ joins clock₁ clock₂ units joint alone₁ alone₂ d d₁ d₂ =
-    apart m₁ m₂ t₁ t₂ proper₁ proper₂ (fits m₁ m₂ joins) (rules-from rules model₂ tape₂ work report a₂ ∙ sym (rules-from rules model₁ tape₁ work report a₁))
+    apart m₁ m₂ t₁ t₂ proper₁ proper₂ (fits m₁ m₂ joins) (cc (rules-from rules model₂ tape₂ work report a₂, rules-from rules model₁ tape₁ work report a₁))
     (plain-from rules model₁ tape₁ work report a₁ (first m₁ m₂) (proper₁ .formed) clock₁) (plain-from rules model₂ tape₂ work report a₂ (second m₁ m₂) (proper₂ .formed) clock₂)
-    (λ n. units (second-edition n)) joint alone₁ alone₂ d d₁ d₂
+    (λ n. units (let range = edition-from rules model₁ tape₁ work report a₁ in
+    omega arith)) joint alone₁ alone₂ d d₁ d₂
   where
     proper₁ : Proper m₁ t₁
     proper₁ = proper-from rules model₁ tape₁ work report a₁
 
     proper₂ : Proper m₂ t₂
     proper₂ = proper-from rules model₂ tape₂ work report a₂
-
-    second-edition : (m₁ .edition ≡ 1 → ⊥) → m₁ .edition ≡ 2
-    second-edition n =
-        let range = edition-from rules model₁ tape₁ work report a₁ in
-        let above : 1 < m₁ .edition = strictly 1 (m₁ .edition) (range .0) (λ e. n (sym e)) in
-        omega (arith, range .1)
 
 pub in-force : TwoPlants inForce
 in-force = two-plants inForce (omega arith)

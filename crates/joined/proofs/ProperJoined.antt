@@ -1,16 +1,8 @@
 -- The joined model and tape are proper where those of the parts are and no limit is passed.
-use Prim.Native.Nat.{ℕ, zero, suc, _+_, _-_, _≤_, _<_}
-use mathlib.Core.Path.{_≡_, refl, sym, ap, ap₂, _∙_, subst}
-use mathlib.Core.Bool.{Bool, true, false, _&&_, true≢false}
-use mathlib.Core.List.{List, [], _∷_, _++_}
-use native.Mathlib.Omega.{arith}
-use lib.Dec.{leb}
-use lib.ListN.{length, getD, length-append, List·getD-append}
-use borrow.Author.Tests.{leb-true, leb-false, eqb-true}
+use Rattle.machine.specs.All.{cases, ℕ, zero, suc, _+_, _-_, _≤_, _<_, _≡_, refl, sym, subst, Bool, true, false, _&&_, true≢false, List, [], _∷_, _++_, arith, leb, length, getD, length-append, List·getD-append, leb-true, leb-false, eqb-true, Code, U, NU, E, NE, F, NF, facility, storage, Block, generate, advance, terminate, takes, frees, waitServer, waitTerms, moves, assign, priority, split, counts, assemble, preempt, giveBack, BlockModel, blockAt}
 use Rattle.machine.specs.Limits as Limits
-use Rattle.machine.specs.Block.{Code, U, NU, E, NE, F, NF, facility, storage, Block, generate, advance, terminate, takes, frees, waitServer, waitTerms, moves, assign, priority, split, counts, assemble, preempt, giveBack, BlockModel, blockAt}
 use Rattle.machine.proofs.decoding.Proper.{Names, Storage, CodeServer, Units, ProperBlock, Proper}
-use Rattle.joined.specs.Join.{Part, first, second, serverIn, shareIn, blockIn, joinModels, joinTapes, joinable}
+use Rattle.joined.specs.{Part, first, second, serverIn, shareIn, blockIn, joinModels, joinTapes, joinable}
 use Rattle.joined.proofs.Terms.{getD-behind}
 use Rattle.joined.proofs.Numbering.{in-facility, in-storage}
 use Rattle.joined.proofs.Instance.{blocks-long, block-first, block-second}
@@ -110,54 +102,50 @@ module _ (m₁ m₂ : BlockModel) where
   unfolding joinModels
   ranges₁ =
       record {
-        facility-in = λ v h. (omega (arith, in-facility p₁ v (h .1), h .0), omega (arith, in-facility p₁ v (h .1), h .1));
-        storage-in = λ v h. (omega (arith, in-storage p₁ v (h .0), h .0), omega (arith, in-storage p₁ v (h .0), h .1, length-append (m₁ .capacities) (m₂ .capacities)));
+        facility-in = λ v h. (omega (arith, in-facility p₁ v (h .1)), omega (arith, in-facility p₁ v (h .1)));
+        storage-in = λ v h. (omega (arith, in-storage p₁ v (h .0)), omega (arith, in-storage p₁ v (h .0), length-append (m₁ .capacities) (m₂ .capacities)));
         units-in = λ v b h u. (
           u .0,
           λ k e.
               let at : v ≡ m₁ .facilities + k = omega (arith, in-storage p₁ v (h .0)) in
-              subst (λ (x : ℕ). b ≤ x) (sym (List·getD-append (m₁ .capacities) (m₂ .capacities) 0 (k - 1) (omega (arith, h .0, h .1)))) (u .1 k at),
+              rw (List·getD-append (m₁ .capacities) (m₂ .capacities) 0 (k - 1) (omega (arith, h .0, h .1))) (u .1 k at),
         );
-        list-in = λ l h. (omega (arith, h .0), omega (arith, h .1));
-        queue-in = λ q h. (omega (arith, h .0), omega (arith, h .1));
-        target-in = λ b h. (omega (arith, h .0), omega (arith, h .1, blocks-long m₁ m₂));
+        list-in = λ l h. (omega arith, omega arith);
+        queue-in = λ q h. (omega arith, omega arith);
+        target-in = λ b h. (omega arith, omega (arith, blocks-long m₁ m₂));
       }
 
   ranges₂ : Ranges (second m₁ m₂) m₂ (joinModels m₁ m₂)
   unfolding joinModels
   ranges₂ =
       record {
-        facility-in = λ v h. (omega (arith, in-facility p₂ v (h .1), h .0), omega (arith, in-facility p₂ v (h .1), h .1));
-        storage-in = λ v h. (omega (arith, in-storage p₂ v (h .0), h .0), omega (arith, in-storage p₂ v (h .0), h .1, length-append (m₁ .capacities) (m₂ .capacities)));
+        facility-in = λ v h. (omega (arith, in-facility p₂ v (h .1)), omega (arith, in-facility p₂ v (h .1)));
+        storage-in = λ v h. (omega (arith, in-storage p₂ v (h .0)), omega (arith, in-storage p₂ v (h .0), length-append (m₁ .capacities) (m₂ .capacities)));
         units-in = λ v b h u. (
           u .0,
           λ k e.
-              let at : v ≡ m₂ .facilities + (k - length (m₁ .capacities)) = omega (arith, in-storage p₂ v (h .0), h .0) in
-              let index : k - length (m₁ .capacities) - 1 + length (m₁ .capacities) ≡ k - 1 = omega (arith, in-storage p₂ v (h .0), h .0) in
-              subst (λ (x : ℕ). b ≤ x)
-              (sym (ap (λ (i : ℕ). getD (m₁ .capacities ++ m₂ .capacities) i 0) (sym index) ∙ getD-behind (m₁ .capacities) (m₂ .capacities) (k - length (m₁ .capacities) - 1) 0))
+              let at : v ≡ m₂ .facilities + (k - length (m₁ .capacities)) = omega (arith, in-storage p₂ v (h .0)) in
+              let index : k - length (m₁ .capacities) - 1 + length (m₁ .capacities) ≡ k - 1 = omega arith in
+              subst (λ x. b ≤ x)
+              (cc (index, getD-behind (m₁ .capacities) (m₂ .capacities) (k - length (m₁ .capacities) - 1) 0))
               (u .1 (k - length (m₁ .capacities)) at),
         );
-        list-in = λ l h. (omega (arith, h .0), omega (arith, h .1));
-        queue-in = λ q h. (omega (arith, h .0), omega (arith, h .1));
-        target-in = λ b h. (omega (arith, h .0), omega (arith, h .1, blocks-long m₁ m₂));
+        list-in = λ l h. (omega arith, omega arith);
+        queue-in = λ q h. (omega arith, omega arith);
+        target-in = λ b h. (omega arith, omega (arith, blocks-long m₁ m₂));
       }
 
   -- ---- All of it
 
   module _ {t₁ t₂ : List (List ℕ)} (proper₁ : Proper m₁ t₁) (proper₂ : Proper m₂ t₂) (limits : Fits m₁ m₂) (rules : m₂ .rules ≡ m₁ .rules) where
     block-proper : (n : ℕ) → 1 ≤ n → ProperBlock (joinModels m₁ m₂) (blockAt (joinModels m₁ m₂) n)
-    block-proper n one = go (leb n (length (m₁ .blocks))) refl
-      where
-        go : (b : Bool) → leb n (length (m₁ .blocks)) ≡ b → ProperBlock (joinModels m₁ m₂) (blockAt (joinModels m₁ m₂) n)
-        go true e =
-            subst (ProperBlock (joinModels m₁ m₂)) (sym (block-first m₁ m₂ n (leb-true _ _ e) one)) (proper-in p₁ m₁ (joinModels m₁ m₂) ranges₁ (blockAt m₁ n) (proper₁ .block n))
-        go false e =
-            let far : length (m₁ .blocks) < n = leb-false _ _ e in
-            let same : n - length (m₁ .blocks) + length (m₁ .blocks) ≡ n = omega arith in
-            subst (λ (i : ℕ). ProperBlock (joinModels m₁ m₂) (blockAt (joinModels m₁ m₂) i)) same
-            (subst (ProperBlock (joinModels m₁ m₂)) (sym (block-second m₁ m₂ (n - length (m₁ .blocks)) (omega arith)))
-            (proper-in p₂ m₂ (joinModels m₁ m₂) ranges₂ (blockAt m₂ (n - length (m₁ .blocks))) (proper₂ .block (n - length (m₁ .blocks)))))
+    block-proper n one =
+        cases (leb n (length (m₁ .blocks)))
+        (λ e. rw (block-first m₁ m₂ n (leb-true _ _ e) one) (proper-in p₁ m₁ (joinModels m₁ m₂) ranges₁ (blockAt m₁ n) (proper₁ .block n)))
+        (λ e. let far : length (m₁ .blocks) < n = leb-false _ _ e in
+        let same : n - length (m₁ .blocks) + length (m₁ .blocks) ≡ n = omega arith in
+        subst (λ i. ProperBlock (joinModels m₁ m₂) (blockAt (joinModels m₁ m₂) i)) same
+        (rw (block-second m₁ m₂ (n - length (m₁ .blocks)) (omega arith)) (proper-in p₂ m₂ (joinModels m₁ m₂) ranges₂ (blockAt m₂ (n - length (m₁ .blocks))) (proper₂ .block (n - length (m₁ .blocks))))))
 
     -- of a list of either
     either : {A : Type 0} (P : A → Type 0) (a b : List A) (d : A) → ((k : ℕ) → k < length a → P (getD a k d)) → ((k : ℕ) → k < length b → P (getD b k d)) → P d → (k : ℕ) → P (getD (a ++ b) k d)
@@ -176,20 +164,20 @@ module _ (m₁ m₂ : BlockModel) where
     unfolding joinModels
     proper-joined =
         record {
-          block = λ n. subst (λ (i : ℕ). ProperBlock (joinModels m₁ m₂) (getD (joinModels m₁ m₂ .blocks) i (terminate 0))) (less n) (block-proper (suc (n - 1)) (omega arith));
-          blocks = (omega (arith, blocks-long m₁ m₂, proper₁ .blocks .0), omega (arith, blocks-long m₁ m₂, limits .blocks));
+          block = λ n. rw (less n) at (block-proper (suc (n - 1)) (omega arith));
+          blocks = (omega (arith, blocks-long m₁ m₂), omega (arith, blocks-long m₁ m₂));
           facilities = limits .facilities;
-          storages = omega (arith, length-append (m₁ .capacities) (m₂ .capacities), limits .storages);
+          storages = omega (arith, length-append (m₁ .capacities) (m₂ .capacities));
           capacity = within (Names Limits.maxCapacity) (m₁ .capacities) (m₂ .capacities) 0 (proper₁ .capacity) (proper₂ .capacity);
           queues = limits .queues;
           lists = limits .lists;
-          counter = (omega (arith, proper₁ .counter .0), limits .counter);
+          counter = (omega arith, limits .counter);
           formed = formed m₁ m₂ proper₁ proper₂;
-          tapes = length-append t₁ t₂ ∙ ap₂ (λ (a b : ℕ). a + b) (proper₁ .tapes) (proper₂ .tapes);
-          samples = either (λ (l : List ℕ). length l ≤ Limits.maxSamples) t₁ t₂ [] (λ k lt. proper₁ .samples k) (λ k lt. proper₂ .samples k) (omega arith);
+          tapes = cc (length-append t₁ t₂, proper₁ .tapes, proper₂ .tapes);
+          samples = either (λ l. length l ≤ Limits.maxSamples) t₁ t₂ [] (λ k lt. proper₁ .samples k) (λ k lt. proper₂ .samples k) (omega arith);
           times =
-              either (λ (l : List ℕ). (i : ℕ) → getD l i 0 ≤ m₁ .rules .maxTime) t₁ t₂ [] (λ k lt. proper₁ .times k)
-              (λ k lt i. subst (λ r. getD (getD t₂ k []) i 0 ≤ r .maxTime) rules (proper₂ .times k i)) (λ i. omega arith);
+              either (λ l. (i : ℕ) → getD l i 0 ≤ m₁ .rules .maxTime) t₁ t₂ [] (λ k lt. proper₁ .times k)
+              (λ k lt i. rw rules at (proper₂ .times k i)) (λ i. omega arith);
         }
       where
         less : (n : ℕ) → suc (n - 1) - 1 ≡ n - 1

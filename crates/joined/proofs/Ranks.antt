@@ -1,11 +1,5 @@
 -- Numbers by rank among those on a roll: the order and equality of such numbers, and one more on the roll.
-use Prim.Native.Nat.{ℕ, zero, suc, _+_, _≤_, _<_}
-use mathlib.Core.Path.{_≡_, refl, sym, ap, _∙_}
-use mathlib.Core.Bool.{Bool, true, false, cond, true≢false}
-use native.Mathlib.Omega.{arith}
-use lib.Dec.{ltb, eqb}
-use borrow.Author.Tests.{ltb-true, ltb-false, lt-ltb, le-ltb, eqb-true, eqb-false, eq-eqb, ne-eqb}
-use Rattle.machine.specs.Lists.{bit, upTo}
+use Rattle.machine.specs.All.{cases, ℕ, zero, suc, _+_, _≤_, _<_, _≡_, refl, sym, ap, _∙_, Bool, true, false, cond, true≢false, arith, ltb, eqb, ltb-true, ltb-false, lt-ltb, le-ltb, eqb-true, eqb-false, eq-eqb, ne-eqb, bit, upTo}
 use Rattle.machine.proofs.lists.Sums.{upTo-cong}
 use Rattle.joined.proofs.Lists.{strictly}
 
@@ -35,13 +29,11 @@ module _ (r : Roll) where
     where
       zero-of : (x : ℕ) → x ≤ 0 → x ≡ 0
       zero-of x h = omega arith
-  rank-mono x (suc y) h = go (eqb x (suc y)) refl (rank-mono x y)
-    where
-      go : (b : Bool) → eqb x (suc y) ≡ b → (x ≤ y → rankIn r x ≤ rankIn r y) → rankIn r x ≤ rankIn r (suc y)
-      go true e k = omega (arith, ap (rankIn r) (eqb-true x (suc y) e))
-      go false e k =
-          let less : x < suc y = strictly x (suc y) h (eqb-false _ _ e) in
-          omega (arith, rank-step y, k (omega arith))
+  rank-mono x (suc y) h =
+      cases (eqb x (suc y))
+      (λ e. omega (arith, ap (rankIn r) (eqb-true x (suc y) e)))
+      (λ e. let less = strictly x (suc y) h (eqb-false _ _ e) in
+      omega (arith, rank-step y, (rank-mono x y) (omega arith)))
 
   pub rank-less : (x y : ℕ) → r y ≡ true → x < y → rankIn r x < rankIn r y
   rank-less x zero e h = absurd (omega arith)
@@ -57,7 +49,7 @@ module _ (r : Roll) where
           other : (c : Bool) → eqb y x ≡ c → rankIn r y ≤ rankIn r x
           other true d = omega (arith, ap (rankIn r) (eqb-true y x d))
           other false d =
-              let less : y < x = strictly y x (ltb-false x y e) (eqb-false y x d) in
+              let less = strictly y x (ltb-false x y e) (eqb-false y x d) in
               omega (arith, rank-less y x a less)
 
   -- on the roll, or none
@@ -93,28 +85,21 @@ Upto r n = (k : ℕ) → n < k → r k ≡ false
 
 module _ (r : Roll) (n : ℕ) (own : Bool) where
   pub noted : noting r (suc n) own (suc n) ≡ own
-  noted = rw (eq-eqb (suc n) (suc n) refl)
+  noted = rw eq-eqb
 
   pub noting-below : (k : ℕ) → k ≤ n → noting r (suc n) own k ≡ r k
   noting-below k h = rw (ne-eqb k (suc n) (λ e. omega arith))
 
   pub rank-noting : (k : ℕ) → k ≤ n → rankIn (noting r (suc n) own) k ≡ rankIn r k
   unfolding rankIn
-  rank-noting k h = upTo-cong (λ i. bit (noting r (suc n) own i)) (λ i. bit (r i)) k (λ i a b. ap bit (noting-below i (omega arith)))
+  rank-noting k h = upTo-cong (λ i. bit (noting r (suc n) own i)) (λ i. bit (r i)) k (λ i a b. cc (noting-below i (omega arith)))
 
   pub rank-noted : rankIn (noting r (suc n) own) (suc n) ≡ rankIn r n + bit own
-  rank-noted = rank-step (noting r (suc n) own) n ∙ both
-    where
-      both : rankIn (noting r (suc n) own) n + bit (noting r (suc n) own (suc n)) ≡ rankIn r n + bit own
-      both = rw (rank-noting n (omega arith), noted) refl
+  rank-noted = rank-step (noting r (suc n) own) n ∙ (rw (rank-noting n (omega arith), noted) refl)
 
   pub noting-upto : Upto r n → Upto (noting r (suc n) own) (suc n)
   noting-upto h k lt = rw (ne-eqb k (suc n) (λ e. omega arith)) (h k (omega arith))
 
 -- who is on a roll is no further than the roll goes
 pub listed-within : (r : Roll) (n x : ℕ) → Upto r n → r x ≡ true → x ≤ n
-listed-within r n x h e = go (ltb n x) refl
-  where
-    go : (b : Bool) → ltb n x ≡ b → x ≤ n
-    go true d = absurd (true≢false (sym e ∙ h x (ltb-true _ _ d)))
-    go false d = ltb-false _ _ d
+listed-within r n x h e = cases (ltb n x) (λ d. absurd (true≢false (cc (e, h x (ltb-true _ _ d))))) (λ d. ltb-false _ _ d)

@@ -1,25 +1,5 @@
 -- Whoever waits, gathers, holds a facility or was interrupted has a record; so in a run that ends dry everybody made has one.
-use Prim.Native.Nat.{ℕ, zero, suc, _-_, _*_, _≤_}
-use mathlib.Core.Path.{_≡_, refl, sym, ap, _∙_, subst}
-use mathlib.Core.Bool.{Bool, true, false, cond, not, _&&_, _||_, true≢false}
-use mathlib.Core.List.{List, [], _∷_, _++_, map}
-use mathlib.Core.Option.{Option, none, some}
-use native.Mathlib.Omega.{arith}
-use lib.Dec.{leb, eqb}
-use lib.ListN.{length, take, replicate}
-use borrow.Author.Tests.{eqb-true, eqb-false, eq-eqb, le-leb}
-use Rattle.machine.specs.Transaction.{Transaction, precedes, Event, Gatherer, Interrupted}
-use Rattle.machine.specs.Lists.{those, anyOf, flat, bit}
-use Rattle.machine.specs.Term.{Server, idleServer, serverAt, free}
-use Rattle.machine.specs.Block.{Code, Share, facility, storage, shareServer, shareUnits, shareHolder, Block, generate, advance, terminate, takes, frees, waitServer, waitTerms, moves, assign, priority, split, counts, assemble, preempt, giveBack, BlockModel, welIndex}
-use Rattle.machine.specs.State.{State, Logged}
-use Rattle.machine.specs.Setters.{withReturning, withSerial, setMoving, setEnd, setEnded, setTurns}
-use Rattle.machine.specs.Moves.{recordOf, log, enters, moveTo, fresh, toRel, toFel, toQl, toWel, toWsl, qlOf, welOf, beginWait, mustWait, wake, Parted, wakeQl, wakeFirstWel, wakeWsl, setUse, setContent, arrival, copyOf, copies, gatherersAt, inFamily, waitsFor, toGatherers, comes, released, ofFacility, interruptedAt, losersTo, interrupt, resume, setWaitsFor}
-use Rattle.machine.specs.Execute.{checkWels, partFor, wakeFor, freeUnits, endsOne, delay, takeUnits, effect}
-use Rattle.machine.specs.Turn.{sampleServers, sample, arriveAll, moveClock, nextEvents, takeFirst, takeReady, taking, answer, execute, turn}
-use Rattle.machine.specs.Run.{startAt, idle, start, states, run, runFrom, steps, nobodyLeft}
-use Rattle.machine.specs.Report.{movingOne}
-use Rattle.machine.specs.Claims.{Each, count, everyone, standing, isLiving, madeBy, terminates, Keeps}
+use Rattle.machine.specs.All.{ℕ, zero, suc, _-_, _*_, _≤_, _≡_, refl, sym, ap, _∙_, subst, Bool, true, false, cond, not, _&&_, _||_, true≢false, List, [], _∷_, _++_, map, Option, none, some, arith, leb, eqb, length, take, replicate, eqb-true, eqb-false, eq-eqb, le-leb, Transaction, precedes, Event, Gatherer, Interrupted, those, anyOf, flat, Server, idleServer, serverAt, free, Code, Share, facility, storage, shareServer, shareUnits, shareHolder, Block, generate, advance, terminate, takes, frees, waitServer, waitTerms, moves, assign, priority, split, counts, assemble, preempt, giveBack, BlockModel, welIndex, State, Logged, withReturning, withSerial, setMoving, setEnded, setTurns, recordOf, log, enters, moveTo, fresh, toRel, toFel, toQl, toWel, toWsl, qlOf, welOf, beginWait, mustWait, wake, Parted, wakeQl, wakeFirstWel, wakeWsl, setUse, setContent, arrival, copyOf, copies, gatherersAt, inFamily, waitsFor, toGatherers, comes, released, ofFacility, losersTo, interrupt, resume, setWaitsFor, checkWels, partFor, wakeFor, freeUnits, endsOne, delay, takeUnits, effect, sampleServers, sample, arriveAll, moveClock, nextEvents, takeFirst, takeReady, taking, answer, execute, turn, startAt, idle, start, run, runFrom, steps, nobodyLeft, movingOne, Each, count, everyone, standing, isLiving, madeBy, terminates, Keeps}
 use Rattle.machine.proofs.decoding.Proper.{Proper, servers}
 use Rattle.machine.proofs.runs.RunLaws.{cond-cases, each-map, each-state, each-last, last}
 use Rattle.machine.proofs.Demand3.{keeps-all}
@@ -73,7 +53,7 @@ module _ (R : ℕ → Type 0) where
 
   server-of : (s : State) → Knows s → (v : ℕ) → Holder (serverAt (s .view) v .holder)
   unfolding serverAt idleServer
-  server-of s h v = each-getD (λ (x : Server). Holder (x .holder)) (s .view .servers) (v - 1) (idleServer 0) (h .holders) (nobody refl)
+  server-of s h v = each-getD (λ x. Holder (x .holder)) (s .view .servers) (v - 1) (idleServer 0) (h .holders) (nobody refl)
 
   -- ---- Steps
 
@@ -95,10 +75,10 @@ module _ (R : ℕ → Type 0) where
 
   gathers-knows : (t : Transaction) (s : State) → Has t → Knows s → Knows (toGatherers t s)
   unfolding toGatherers
-  gathers-knows t s q h = record { ql = h .ql; wel = h .wel; wsl = h .wsl; rel = h .rel; gatherers = each-set (Each (λ g. Has (g .who))) (s .gatherers) (t .next - 1) _ (h .gatherers) (each-insert (λ (g : Gatherer). Has (g .who)) (λ a b. precedes (a .who) (b .who)) _ (gatherersAt s (t .next)) q (at-row (λ g. Has (g .who)) (s .gatherers) (t .next - 1) (h .gatherers))); interrupted = h .interrupted; holders = h .holders; moving = h .moving; kept = h .kept }
+  gathers-knows t s q h = record { ql = h .ql; wel = h .wel; wsl = h .wsl; rel = h .rel; gatherers = each-set (Each (λ g. Has (g .who))) (s .gatherers) (t .next - 1) _ (h .gatherers) (each-insert (λ g. Has (g .who)) (λ a b. precedes (a .who) (b .who)) _ (gatherersAt s (t .next)) q (at-row (λ g. Has (g .who)) (s .gatherers) (t .next - 1) (h .gatherers))); interrupted = h .interrupted; holders = h .holders; moving = h .moving; kept = h .kept }
 
   replaced : (few : List Gatherer) (t : Transaction) (s : State) → Each (λ g. Has (g .who)) few → Knows s → Knows (setWaitsFor t few s)
-  replaced few t s q h = record { ql = h .ql; wel = h .wel; wsl = h .wsl; rel = h .rel; gatherers = each-set (Each (λ g. Has (g .who))) (s .gatherers) (t .next - 1) _ (h .gatherers) (each-replace (λ (g : Gatherer). Has (g .who)) (inFamily t) few (gatherersAt s (t .next)) q (at-row (λ g. Has (g .who)) (s .gatherers) (t .next - 1) (h .gatherers))); interrupted = h .interrupted; holders = h .holders; moving = h .moving; kept = h .kept }
+  replaced few t s q h = record { ql = h .ql; wel = h .wel; wsl = h .wsl; rel = h .rel; gatherers = each-set (Each (λ g. Has (g .who))) (s .gatherers) (t .next - 1) _ (h .gatherers) (each-replace (λ g. Has (g .who)) (inFamily t) few (gatherersAt s (t .next)) q (at-row (λ g. Has (g .who)) (s .gatherers) (t .next - 1) (h .gatherers))); interrupted = h .interrupted; holders = h .holders; moving = h .moving; kept = h .kept }
 
   wakeQl-knows : (part : List Transaction → Parted) (v : ℕ) (s : State) → Each Has (part (qlOf s v) .go) → Each Has (part (qlOf s v) .stay) → Knows s → Knows (wakeQl part v s)
   unfolding wakeQl
@@ -107,7 +87,7 @@ module _ (R : ℕ → Type 0) where
   wakeWel-knows : (v : ℕ) (code : Code) (s : State) → Knows s → Knows (wakeFirstWel v code s)
   unfolding wakeFirstWel
   wakeWel-knows v code s h =
-      let row : Each Has (welOf s v code) = at-row Has (s .wel) (welIndex v code) (h .wel) in
+      let row = at-row Has (s .wel) (welIndex v code) (h .wel) in
       record { ql = h .ql; wel = each-set (Each Has) (s .wel) (welIndex v code) _ (h .wel) (each-drop Has (welOf s v code) row); wsl = h .wsl; rel = wakes (take 1 (welOf s v code)) (s .rel) (first (welOf s v code) row) (h .rel); gatherers = h .gatherers; interrupted = h .interrupted; holders = h .holders; moving = h .moving; kept = h .kept }
     where
       first : (l : List Transaction) → Each Has l → Each Has (take 1 l)
@@ -120,7 +100,7 @@ module _ (R : ℕ → Type 0) where
 
   use-knows : (v units holder : ℕ) (preempted : Bool) (s : State) → Holder holder → Knows s → Knows (setUse v units holder preempted s)
   unfolding setUse
-  use-knows v units holder preempted s q h = record { ql = h .ql; wel = h .wel; wsl = h .wsl; rel = h .rel; gatherers = h .gatherers; interrupted = h .interrupted; holders = each-set (λ (x : Server). Holder (x .holder)) (s .view .servers) (v - 1) _ (h .holders) q; moving = h .moving; kept = h .kept }
+  use-knows v units holder preempted s q h = record { ql = h .ql; wel = h .wel; wsl = h .wsl; rel = h .rel; gatherers = h .gatherers; interrupted = h .interrupted; holders = each-set (λ x. Holder (x .holder)) (s .view .servers) (v - 1) _ (h .holders) q; moving = h .moving; kept = h .kept }
 
   check-knows : (v : ℕ) (s : State) → Knows s → Knows (checkWels v s)
   check-knows v s h = checkWels-kept Knows v (λ code s h. wakeWel-knows v code s h) s h
@@ -151,11 +131,11 @@ module _ (R : ℕ → Type 0) where
 
   interrupt-knows : (e : Event) (t : Transaction) (f : ℕ) (s : State) → Has (e .who) → Knows s → Knows (interrupt e t f s)
   unfolding interrupt
-  interrupt-knows e t f s q h = record { ql = h .ql; wel = h .wel; wsl = h .wsl; rel = h .rel; gatherers = h .gatherers; interrupted = each-insert (λ (i : Interrupted). Has (i .who)) (λ a b. precedes (a .who) (b .who)) _ (s .interrupted) q (h .interrupted); holders = h .holders; moving = h .moving; kept = h .kept }
+  interrupt-knows e t f s q h = record { ql = h .ql; wel = h .wel; wsl = h .wsl; rel = h .rel; gatherers = h .gatherers; interrupted = each-insert (λ i. Has (i .who)) (λ a b. precedes (a .who) (b .who)) _ (s .interrupted) q (h .interrupted); holders = h .holders; moving = h .moving; kept = h .kept }
 
   resume-knows : (i : Interrupted) (f : ℕ) (s : State) → Knows s → Knows (resume i f s)
   unfolding resume toFel
-  resume-knows i f s h = record { ql = h .ql; wel = h .wel; wsl = h .wsl; rel = h .rel; gatherers = h .gatherers; interrupted = each-replace (λ (x : Interrupted). Has (x .who)) (ofFacility f) [] (s .interrupted) tt (h .interrupted); holders = h .holders; moving = h .moving; kept = h .kept }
+  resume-knows i f s h = record { ql = h .ql; wel = h .wel; wsl = h .wsl; rel = h .rel; gatherers = h .gatherers; interrupted = each-replace (λ x. Has (x .who)) (ofFacility f) [] (s .interrupted) tt (h .interrupted); holders = h .holders; moving = h .moving; kept = h .kept }
 
   ended-knows : (n : ℕ) (s : State) → Knows s → Knows (setEnded n s)
   ended-knows n s h = record { ql = h .ql; wel = h .wel; wsl = h .wsl; rel = h .rel; gatherers = h .gatherers; interrupted = h .interrupted; holders = h .holders; moving = h .moving; kept = h .kept }
@@ -169,14 +149,14 @@ grows : (R R′ : ℕ → Type 0) (s s′ : State) → ((n : ℕ) → R n → R�
     → s′ .gatherers ≡ s .gatherers → s′ .interrupted ≡ s .interrupted → s′ .view .servers ≡ s .view .servers → s′ .moving ≡ s .moving → Knows R s → Knows R′ s′
 grows R R′ s s′ f kept a b c d e g i j h =
     record {
-      ql = subst (Each (Each (Has R′))) (sym a) (each-map (λ l k. each-map (λ t q. f _ q) l k) (s .ql) (h .ql));
-      wel = subst (Each (Each (Has R′))) (sym b) (each-map (λ l k. each-map (λ t q. f _ q) l k) (s .wel) (h .wel));
-      wsl = subst (Each (Has R′)) (sym c) (each-map (λ t q. f _ q) (s .wsl) (h .wsl));
-      rel = subst (Each (Mark R′)) (sym d) (each-map {P = Mark R} {Q = Mark R′} (λ t q r. f _ (q r)) (s .rel) (h .rel));
-      gatherers = subst (Each (Each (λ x. Has R′ (x .who)))) (sym e) (each-map (λ l k. each-map (λ x q. f _ q) l k) (s .gatherers) (h .gatherers));
-      interrupted = subst (Each (λ x. Has R′ (x .who))) (sym g) (each-map (λ x q. f _ q) (s .interrupted) (h .interrupted));
-      holders = subst (Each (λ x. Holder R′ (x .holder))) (sym i) (each-map (λ x q. holder q) (s .view .servers) (h .holders));
-      moving = subst (Maybe (Mark R′)) (sym j) (mover (s .moving) (h .moving));
+      ql = rw a (each-map (λ l k. each-map (λ t q. f _ q) l k) (s .ql) (h .ql));
+      wel = rw b (each-map (λ l k. each-map (λ t q. f _ q) l k) (s .wel) (h .wel));
+      wsl = rw c (each-map (λ t q. f _ q) (s .wsl) (h .wsl));
+      rel = rw d (each-map {P = Mark R} {Q = Mark R′} (λ t q r. f _ (q r)) (s .rel) (h .rel));
+      gatherers = rw e (each-map (λ l k. each-map (λ x q. f _ q) l k) (s .gatherers) (h .gatherers));
+      interrupted = rw g (each-map (λ x q. f _ q) (s .interrupted) (h .interrupted));
+      holders = rw i (each-map (λ x q. holder q) (s .view .servers) (h .holders));
+      moving = rw j (mover (s .moving) (h .moving));
       kept = kept;
     }
   where
@@ -197,10 +177,6 @@ Good s = Knows (HasRecord (s .records)) s
 close : (R : ℕ → Type 0) (s : State) → Knows R s → Good s
 close R s h = grows R (HasRecord (s .records)) s s (h .kept) (λ n k. k) refl refl refl refl refl refl refl refl h
 
-has-first : (r : Logged) (l : List Logged) → HasRecord (r ∷ l) (r .entry .transaction)
-unfolding anyOf
-has-first r l one = rw (eq-eqb (r .entry .transaction) (r .entry .transaction) refl) refl
-
 has-more : (r : Logged) (l : List Logged) (n : ℕ) → HasRecord l n → HasRecord (r ∷ l) n
 unfolding anyOf
 has-more r l n h one = or-true (eqb (r .entry .transaction) n) _ (h one)
@@ -215,12 +191,7 @@ log-knows outcome t s h = grows (HasRecord (s .records)) _ s (log outcome t s) (
 
 log-has : (outcome : ℕ) (t : Transaction) (s : State) → HasRecord (log outcome t s .records) (t .number)
 unfolding log recordOf
-log-has outcome t s = has-first _ (s .records)
-
-enters-knows : (t : Transaction) (s : State) → Good s → Knows (HasRecord (enters t s .records)) (enters t s)
-unfolding enters
-enters-knows t s h =
-    log-knows 0 t _ (record { ql = h .ql; wel = h .wel; wsl = h .wsl; rel = h .rel; gatherers = h .gatherers; interrupted = h .interrupted; holders = h .holders; moving = h .moving; kept = h .kept })
+log-has outcome t s = λ one. unfold anyOf in rw eq-eqb refl
 
 enters-has : (t : Transaction) (s : State) → HasRecord (enters t s .records) (t .number)
 unfolding enters
@@ -249,7 +220,7 @@ module _ (m : BlockModel) (t : Transaction) (s : State) (h : Good s) (mark : Mar
   R = HasRecord (enters t s .records)
 
   h₁ : Knows (HasRecord (enters t s .records)) (enters t s)
-  h₁ = enters-knows t s h
+  h₁ = unfold enters in log-knows 0 t _ (record { ql = h .ql; wel = h .wel; wsl = h .wsl; rel = h .rel; gatherers = h .gatherers; interrupted = h .interrupted; holders = h .holders; moving = h .moving; kept = h .kept })
 
   on : (b : ℕ) (u : Transaction) (x : State) → Knows R x → Good (moveTo b u x)
   on b u x k = close R _ (moves-knows R b u x k)
@@ -276,7 +247,7 @@ module _ (m : BlockModel) (t : Transaction) (s : State) (h : Good s) (mark : Mar
 
   -- a loser held the facility
   loser-has : (f : ℕ) (e : Event) (l : List Event) → losersTo t f s ≡ e ∷ l → R (e .who .number)
-  loser-has f e l k = subst R (sym (loser-loses t f s e l k .number)) (holder (server-of (HasRecord (s .records)) s h f))
+  loser-has f e l k = rw (loser-loses t f s e l k .number) (holder (server-of (HasRecord (s .records)) s h f))
     where
       holder : {n : ℕ} → Holder (HasRecord (s .records)) n → R n
       holder {n} (nobody z) = λ one. absurd (omega arith)
@@ -285,21 +256,7 @@ module _ (m : BlockModel) (t : Transaction) (s : State) (h : Good s) (mark : Mar
   -- who gathers or was interrupted
   waiter-has : (g : Gatherer) (l : List Gatherer) → waitsFor t s ≡ g ∷ l → R (g .who .number)
   waiter-has g l k =
-      enters-more t s _ (subst (Each (λ (x : Gatherer). HasRecord (s .records) (x .who .number))) k
-      (each-those (λ (x : Gatherer). HasRecord (s .records) (x .who .number)) (inFamily t) (gatherersAt s (t .next)) (at-row (HasRecord (s .records)) (λ (x : Gatherer). HasRecord (s .records) (x .who .number)) (s .gatherers) (t .next - 1) (h .gatherers))) .0)
-
-  stopped-has : (f : ℕ) (i : Interrupted) (l : List Interrupted) → interruptedAt s f ≡ i ∷ l → R (i .who .number)
-  stopped-has f i l k =
-      enters-more t s _ (subst (Each (λ (x : Interrupted). HasRecord (s .records) (x .who .number))) k
-      (each-those (λ (x : Interrupted). HasRecord (s .records) (x .who .number)) (ofFacility f) (s .interrupted) (h .interrupted)) .0)
-
-  released-knows : (g : Gatherer) → Knows R (released g t (setEnded (suc (enters t s .ended)) (enters t s)))
-  unfolding released
-  released-knows g = rel-knows R _ _ (λ q. absurd (true≢false (sym q))) (replaced R [] t _ tt (ended-knows R _ _ h₁))
-
-  comes-knows : (g : Gatherer) → R (g .who .number) → Knows R (comes g t (setEnded (suc (enters t s .ended)) (enters t s)))
-  unfolding comes
-  comes-knows g q = replaced R (record { who = g .who; come = suc (g .come) } ∷ []) t _ (q, tt) (ended-knows R _ _ h₁)
+      enters-more t s _ (rw k at (each-those (λ (x : Gatherer). HasRecord (s .records) (x .who .number)) (inFamily t) (gatherersAt s (t .next)) (at-row (HasRecord (s .records)) (λ (x : Gatherer). HasRecord (s .records) (x .who .number)) (s .gatherers) (t .next - 1) (h .gatherers))) .0)
 
   effect-knows : (b : Block) → Good (effect m b t s)
   unfolding effect takeUnits shareServer shareUnits
@@ -319,14 +276,14 @@ module _ (m : BlockModel) (t : Transaction) (s : State) (h : Good s) (mark : Mar
   effect-knows (counts c q) = on _ t _ (content-knows R q _ _ h₁)
   effect-knows (assemble n) =
       assemble-cases Good m n t s (λ e. begins-knows toGatherers (λ R t s q h. gathers-knows R t s q h) t s h)
-      (λ g l e z. close R _ (released-knows g))
-      (λ g l e z. close R _ (comes-knows g (waiter-has g l e)))
+      (λ g l e z. close R _ (unfold released in rel-knows R _ _ (λ q. absurd (true≢false (sym q))) (replaced R [] t _ tt (ended-knows R _ _ h₁))))
+      (λ g l e z. close R _ (unfold comes in replaced R (record { who = g .who; come = suc (g .come) } ∷ []) t _ ((waiter-has g l e), tt) (ended-knows R _ _ h₁)))
   effect-knows (preempt f) =
       preempt-cases Good m f t s (λ e. units-knows (facility f) true)
       (λ x l e. on _ t _ (check-knows R f _ (use-knows R f _ (t .number) true _ (known (enters-has t s)) (interrupt-knows R x t f _ (loser-has f x l e) h₁))))
   effect-knows (giveBack f) =
       giveBack-cases Good m f t s (λ e. on _ t _ (check-knows R f _ (frees-knows (facility f) _ h₁)))
-      (λ i l e. on _ t _ (check-knows R f _ (resume-knows R i f _ (use-knows R f _ (i .who .number) false _ (known (stopped-has f i l e)) h₁))))
+      (λ i l e. on _ t _ (check-knows R f _ (resume-knows R i f _ (use-knows R f _ (i .who .number) false _ (known (enters-more t s _ (rw e at (each-those (λ (x : Interrupted). HasRecord (s .records) (x .who .number)) (ofFacility f) (s .interrupted) (h .interrupted)) .0))) h₁))))
 
 -- ---- Turns
 
@@ -342,14 +299,10 @@ module _ (R : ℕ → Type 0) where
   arrives-knows [] s h = h
   arrives-knows (e ∷ l) s h = arrives-knows l _ (rel-knows R (withReturning false (e .who)) s (λ q. absurd (true≢false (sym q))) h)
 
-  clock-knows : (time : ℕ) (s : State) → Knows R s → Knows R (moveClock time s)
-  unfolding moveClock sample
-  clock-knows time s h = arrives-knows _ _ (record { ql = h .ql; wel = h .wel; wsl = h .wsl; rel = h .rel; gatherers = h .gatherers; interrupted = h .interrupted; holders = sampled _ (s .view .servers) (s .ql) (h .holders); moving = h .moving; kept = h .kept })
-
   events-knows : (l : List Event) (s : State) → Knows R s → Knows R (nextEvents l s)
   unfolding nextEvents
   events-knows [] s h = h
-  events-knows (e ∷ l) s h = clock-knows (e .time) s h
+  events-knows (e ∷ l) s h = unfold moveClock sample in arrives-knows _ _ (record { ql = h .ql; wel = h .wel; wsl = h .wsl; rel = h .rel; gatherers = h .gatherers; interrupted = h .interrupted; holders = sampled _ (s .view .servers) (s .ql) (h .holders); moving = h .moving; kept = h .kept })
 
   first-knows : (l : List Transaction) (s : State) → Each (Mark R) l → Knows R s → Knows R (takeFirst l s)
   unfolding takeFirst
@@ -416,30 +369,18 @@ unfolding startAt
 startAt-knows n [] s h = h
 startAt-knows n (b ∷ l) s h = startAt-knows (suc n) l _ (startOf-cases Good b n s (λ e. h) (λ e. close _ _ (arrival-knows _ _ _ _ n s h)))
 
-start-knows : (m : BlockModel) (tape : List (List ℕ)) → Good (start m tape)
-unfolding start
-start-knows m tape = startAt-knows 1 (m .blocks) _ (idle-knows m tape)
-
-all-know : (m : BlockModel) (tape : List (List ℕ)) (budget room : ℕ) → Each Good (states m tape budget room)
-all-know m tape budget room =
-    each-state m budget room Good (λ s t h. turn-knows m s h) (λ s e c h. record { ql = h .ql; wel = h .wel; wsl = h .wsl; rel = h .rel; gatherers = h .gatherers; interrupted = h .interrupted; holders = h .holders; moving = h .moving; kept = h .kept }) tape (start-knows m tape)
-
 -- ---- A run that ends dry
-
-end-same : (s : State) → nobodyLeft s ≡ true → nobodyLeft (setEnd 1 s) ≡ true
-unfolding nobodyLeft
-end-same s h = h
 
 module _ (m : BlockModel) (budget room : ℕ) where
   nobody-last : (k : ℕ) (s : State) → s .end ≡ 0 → runFrom k m budget room s .end ≡ 1 → nobodyLeft (runFrom k m budget room s) ≡ true
   unfolding runFrom
-  nobody-last zero s z e = absurd (omega arith)
+  nobody-last zero s z e = cc
   nobody-last (suc k) s z e = go (dries m budget room (suc k) s z e) e (nobody-last k)
     where
       go : Dries m budget room s (suc k) → runFrom (suc k) m budget room s .end ≡ 1
           → ((s : State) → s .end ≡ 0 → runFrom k m budget room s .end ≡ 1 → nobodyLeft (runFrom k m budget room s) ≡ true) → nobodyLeft (runFrom (suc k) m budget room s) ≡ true
-      go (dry left q) e rest = subst (λ (x : State). nobodyLeft x ≡ true) (sym q) (end-same s left)
-      go (turns left zt q) e rest = subst (λ (x : State). nobodyLeft x ≡ true) (sym q) (rest (turn m s) zt (ap (λ (x : State). x .end) (sym q) ∙ e))
+      go (dry left q) e rest = rw q (unfold nobodyLeft in left)
+      go (turns left zt q) e rest = rw q (rest (turn m s) zt (ap (λ (x : State). x .end) (sym q) ∙ e))
 
 each-join : {A : Type 0} (P : A → Type 0) (a b : List A) → Each P a → Each P b → Each P (a ++ b)
 each-join P [] b h k = k
@@ -456,20 +397,20 @@ unfolding everyone movingOne
 everyone-has s h left =
     let e = empty-of s left in
     let P : Transaction → Type 0 = λ t. HasRecord (s .records) (t .number) in
-    let l₁ : List Transaction = flat (s .ql) ++ flat (s .wel) in
-    let e₁ : Each P l₁ = each-join P (flat (s .ql)) (flat (s .wel)) (each-flat P (s .ql) (h .ql)) (each-flat P (s .wel) (h .wel)) in
-    let e₂ : Each P (l₁ ++ s .wsl) = each-join P l₁ (s .wsl) e₁ (h .wsl) in
-    let e₃ : Each P (l₁ ++ s .wsl ++ s .rel) = each-join P (l₁ ++ s .wsl) (s .rel) e₂ (subst (Each P) (sym (e .rel)) tt) in
-    let f : List Transaction = map (λ x. x .who) (s .fel) in
-    let e₄ : Each P (l₁ ++ s .wsl ++ s .rel ++ f) = each-join P (l₁ ++ s .wsl ++ s .rel) f e₃ (subst (λ (f : List Event). Each P (map (λ x. x .who) f)) (sym (e .fel)) tt) in
-    let e₅ : Each P (l₁ ++ s .wsl ++ s .rel ++ f ++ movingOne (s .moving)) =
-    each-join P (l₁ ++ s .wsl ++ s .rel ++ f) (movingOne (s .moving)) e₄ (subst (λ (o : Option Transaction). Each P (movingOne o)) (sym (e .moving)) tt) in
-    let g : List Transaction = map (λ x. x .who) (flat (s .gatherers)) in
-    let e₆ : Each P (l₁ ++ s .wsl ++ s .rel ++ f ++ movingOne (s .moving) ++ g) =
+    let l₁ = flat (s .ql) ++ flat (s .wel) in
+    let e₁ = each-join P (flat (s .ql)) (flat (s .wel)) (each-flat P (s .ql) (h .ql)) (each-flat P (s .wel) (h .wel)) in
+    let e₂ = each-join P l₁ (s .wsl) e₁ (h .wsl) in
+    let e₃ = each-join P (l₁ ++ s .wsl) (s .rel) e₂ (rw (e .rel) tt) in
+    let f = map (λ x. x .who) (s .fel) in
+    let e₄ = each-join P (l₁ ++ s .wsl ++ s .rel) f e₃ (rw (e .fel) tt) in
+    let e₅ =
+    each-join P (l₁ ++ s .wsl ++ s .rel ++ f) (movingOne (s .moving)) e₄ (rw (e .moving) tt) in
+    let g = map (λ x. x .who) (flat (s .gatherers)) in
+    let e₆ =
     each-join P (l₁ ++ s .wsl ++ s .rel ++ f ++ movingOne (s .moving)) g e₅
-    (each-mapped (λ (x : Gatherer). x .who) P (flat (s .gatherers)) (each-flat (λ (x : Gatherer). P (x .who)) (s .gatherers) (h .gatherers))) in
+    (each-mapped (λ x. x .who) P (flat (s .gatherers)) (each-flat (λ x. P (x .who)) (s .gatherers) (h .gatherers))) in
     each-join P (l₁ ++ s .wsl ++ s .rel ++ f ++ movingOne (s .moving) ++ g) (map (λ i. i .who) (s .interrupted)) e₆
-    (each-mapped (λ (i : Interrupted). i .who) P (s .interrupted) (h .interrupted))
+    (each-mapped (λ i. i .who) P (s .interrupted) (h .interrupted))
 
 -- a count that is not 0 finds one
 counted : {A : Type 0} (p : A → Bool) (l : List A) (C : Type 0) → (count p l ≡ 0 → ⊥) → (P : A → Type 0) → Each P l → ((x : A) → P x → p x ≡ true → C) → C
@@ -492,7 +433,7 @@ found p n (r ∷ l) f h = go (p r) refl h (λ k. found p n l f k)
 
     go : (b : Bool) → p r ≡ b → (length (cond b (r ∷ those p l) (those p l)) ≡ 0 → ⊥) → ((length (those p l) ≡ 0 → ⊥) → anyOf (λ r. eqb (r .entry .transaction) n) l ≡ true)
         → (eqb (r .entry .transaction) n || anyOf (λ r. eqb (r .entry .transaction) n) l) ≡ true
-    go true e h rest = rw (f r e) refl
+    go true e h rest = rw f refl
     go false e h rest = or-true (eqb (r .entry .transaction) n) _ (rest h)
 
 pub everybody-recorded : {m : BlockModel} {tape : List (List ℕ)} → Proper m tape → (budget room : ℕ) → start m tape .end ≡ 0 → run m tape budget room .end ≡ 1
@@ -501,34 +442,31 @@ unfolding run standing isLiving
 everybody-recorded {m} {tape} proper budget room z e n low high = go (isLiving m tape (run m tape budget room .records) n) refl
   where
     knows : Good (run m tape budget room)
-    knows = each-last Good (last m budget room tape) (all-know m tape budget room)
+    knows = each-last Good (last m budget room tape) (each-state m budget room Good (λ s t h. turn-knows m s h) (λ s e c h. record { ql = h .ql; wel = h .wel; wsl = h .wsl; rel = h .rel; gatherers = h .gatherers; interrupted = h .interrupted; holders = h .holders; moving = h .moving; kept = h .kept }) tape (unfold start in startAt-knows 1 (m .blocks) _ (idle-knows m tape)))
 
     keeps : Keeps m tape (run m tape budget room)
     keeps = each-last (Keeps m tape) (last m budget room tape) (keeps-all proper budget room)
 
-    left : nobodyLeft (run m tape budget room) ≡ true
-    left = nobody-last m budget room steps (start m tape) z e
-
     and-true : (a b c : Bool) → a ≡ true → b ≡ true → (a && b && c) ≡ false → c ≡ false
     and-true true true c x y d = d
-    and-true true false c x y d = absurd (true≢false (sym y))
-    and-true false b c x y d = absurd (true≢false (sym x))
+    and-true true false c x y d = cc
+    and-true false b c x y d = cc
 
     ours : (r : Logged) → (terminates m tape r && eqb (r .entry .transaction) n) ≡ true → eqb (r .entry .transaction) n ≡ true
     ours r d = second (terminates m tape r) _ d
       where
         second : (a b : Bool) → (a && b) ≡ true → b ≡ true
         second true b d = d
-        second false b d = absurd (true≢false (sym d))
+        second false b d = cc
 
     go : (b : Bool) → isLiving m tape (run m tape budget room .records) n ≡ b → anyOf (λ r. eqb (r .entry .transaction) n) (run m tape budget room .records) ≡ true
     go true d =
-        counted (λ (t : Transaction). eqb (t .number) n) (everyone (run m tape budget room)) _ (λ c. one c (keeps .one-place n ∙ ap bit d))
-        (λ t. HasRecord (run m tape budget room .records) (t .number)) (everyone-has (run m tape budget room) knows left)
+        counted (λ t. eqb (t .number) n) (everyone (run m tape budget room)) _ (λ c. one c (cc (keeps .one-place n, d)))
+        (λ t. HasRecord (run m tape budget room .records) (t .number)) (everyone-has (run m tape budget room) knows (nobody-last m budget room steps (start m tape) z e))
         (λ t h q. subst (HasRecord (run m tape budget room .records)) (eqb-true (t .number) n q) h low)
       where
         one : {k : ℕ} → k ≡ 0 → k ≡ 1 → ⊥
         one q c = omega arith
     go false d =
         found (λ r. terminates m tape r && eqb (r .entry .transaction) n) n (run m tape budget room .records) ours
-        (eqb-false _ _ (and-true (leb 1 n) (leb n (madeBy m tape (run m tape budget room .records))) _ (le-leb 1 n low) (le-leb n _ (subst (λ (k : ℕ). n ≤ k) (keeps .made) high)) d))
+        (eqb-false _ _ (and-true (leb 1 n) (leb n (madeBy m tape (run m tape budget room .records))) _ (le-leb 1 n low) (le-leb n _ (rw (keeps .made) at high)) d))

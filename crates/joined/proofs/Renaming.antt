@@ -1,20 +1,7 @@
 -- One more serial or number of the part: what was named before keeps its name.
-use Prim.Native.Nat.{ℕ, suc, _+_, _-_, _≤_}
-use mathlib.Core.Path.{_≡_, refl, sym, ap, _∙_}
-use mathlib.Core.Bool.{Bool, true}
-use mathlib.Core.List.{List, map}
-use native.Mathlib.Omega.{arith}
-use Rattle.machine.specs.Transaction.{Transaction, Event, Gatherer, Interrupted}
-use Rattle.machine.specs.Lists.{those}
-use Rattle.machine.specs.Term.{Server, View}
-use Rattle.machine.specs.Block.{BlockModel}
-use Rattle.machine.specs.Trace.{Record}
-use Rattle.machine.specs.State.{State, Logged}
-use Rattle.machine.specs.Setters.{withSerial, setSerial, setMade}
-use Rattle.machine.specs.Moves.{fresh}
+use Rattle.machine.specs.All.{ℕ, suc, _+_, _-_, _≤_, _≡_, refl, sym, _∙_, Bool, true, List, map, arith, Transaction, Event, Gatherer, Interrupted, those, Server, View, BlockModel, Record, State, Logged, withSerial, setSerial, setMade, fresh}
 use Rattle.machine.proofs.runs.RunLaws.{each-map}
-use Rattle.joined.specs.Join.{Part}
-use Rattle.joined.specs.Parts.{inPart}
+use Rattle.joined.specs.{Part, inPart}
 use Rattle.joined.proofs.Lists.{map-same}
 use Rattle.joined.proofs.Rows.{rows-map}
 use Rattle.joined.proofs.Ranks.{rankIn, rank-zero, rank-skip, Named, listed, nobody, noting, Upto, noted, noting-below, rank-noting, rank-noted, noting-upto, listed-within}
@@ -64,10 +51,7 @@ module _ (p : Part) (m : BlockModel) (N N′ : Naming) (last born : ℕ) (E : Ex
 
   pub alone-same : (t : Transaction) → K t → aloneAs p m N t ≡ aloneAs p m N′ t
   alone-same t h =
-      ap (λ (k : ℕ). named-as t k (rankIn (N .serials) (t .serial)) (rankIn (N .numbers) (t .family))) (number-same (t .number) (h .number))
-      ∙ ap (λ (k : ℕ). named-as t (rankIn (N′ .numbers) (t .number)) k (rankIn (N .numbers) (t .family)))
-      (sym (E .serial-rank (t .serial) (listed-within (N .serials) last (t .serial) us (h .serial))))
-      ∙ ap (λ (k : ℕ). named-as t (rankIn (N′ .numbers) (t .number)) (rankIn (N′ .serials) (t .serial)) k) (number-same (t .family) (h .family))
+      cc (number-same (t .number) (h .number), E .serial-rank (t .serial) (listed-within (N .serials) last (t .serial) us (h .serial)), number-same (t .family) (h .family))
 
   -- ---- Lists
 
@@ -83,14 +67,11 @@ module _ (p : Part) (m : BlockModel) (N N′ : Naming) (last born : ℕ) (E : Ex
     shown-more before l l′ h = record { part = alike-more _ l′ (h .part); sorted = h .sorted }
 
   event-same : (e : Event) → K (e .who) → eventAs p (size p m) N e ≡ eventAs p (size p m) N′ e
-  event-same e h = ap {B = Event} (λ (t : Transaction). record { time = e .time; who = t }) (alone-same (e .who) h)
-
-  gatherer-same : (g : Gatherer) → K (g .who) → gathererAs p (size p m) N g ≡ gathererAs p (size p m) N′ g
-  gatherer-same g h = ap {B = Gatherer} (λ (t : Transaction). record { who = t; come = g .come }) (alone-same (g .who) h)
+  event-same e h = cc (alone-same (e .who) h)
 
   interrupted-same : (i : Interrupted) → K (i .who) → interruptedAs p m N i ≡ interruptedAs p m N′ i
   interrupted-same i h =
-      ap {B = Interrupted} (λ (t : Transaction). record { who = t; facility = i .facility - p .toFacility; remaining = i .remaining }) (alone-same (i .who) h)
+      cc (alone-same (i .who) h)
 
   server-more : (v v′ : Server) → SameServer p m N v v′ → SameServer p m N′ v v′
   server-more v v′ h =
@@ -98,7 +79,7 @@ module _ (p : Part) (m : BlockModel) (N N′ : Naming) (last born : ℕ) (E : Ex
     where
       holder : {k : ℕ} → Named (N .numbers) k → rankIn (N .numbers) k ≡ rankIn (N′ .numbers) k
       holder {k} (listed e) = number-same k e
-      holder {k} (nobody e) = ap (rankIn (N .numbers)) e ∙ rank-zero (N .numbers) ∙ sym (rank-zero (N′ .numbers)) ∙ ap (rankIn (N′ .numbers)) (sym e)
+      holder {k} (nobody e) = cc (e, rank-zero (N .numbers), rank-zero (N′ .numbers))
 
       named : {k : ℕ} → Named (N .numbers) k → Named (N′ .numbers) k
       named {k} (listed e) = listed (number-more k e)
@@ -115,7 +96,7 @@ module _ (p : Part) (m : BlockModel) (N N′ : Naming) (last born : ℕ) (E : Ex
       record {
         ql = rows-map _ _ _ _ _ _ _ _ _ (alike-more (aloneAs p m N) (aloneAs p m N′) (λ t. t) alone-same) (h .ql);
         wel = rows-map _ _ _ _ _ _ _ _ _ (alike-more (aloneAs p m N) (aloneAs p m N′) (λ t. t) alone-same) (h .wel);
-        gatherers = rows-map _ _ _ _ _ _ _ _ _ (alike-more (gathererAs p (size p m) N) (gathererAs p (size p m) N′) (λ x. x .who) gatherer-same) (h .gatherers);
+        gatherers = rows-map _ _ _ _ _ _ _ _ _ (alike-more (gathererAs p (size p m) N) (gathererAs p (size p m) N′) (λ x. x .who) (λ g h. cc (alone-same (g .who) h))) (h .gatherers);
       }
 
   pub listed-more : (w r w′ r′ : List Transaction) (f f′ : List Event) (l l′ : List Interrupted) → Listed p m N w r w′ r′ f f′ l l′ → Listed p m N′ w r w′ r′ f f′ l l′
@@ -132,7 +113,7 @@ module _ (p : Part) (m : BlockModel) (N N′ : Naming) (last born : ℕ) (E : Ex
   told-more l l′ h =
       record {
         same = h .same ∙ map-same (recordAs p m N) (recordAs p m N′) ours (each-map same ours (h .known));
-        known = each-map (λ (r : Record) k. number-more (r .transaction) k) ours (h .known);
+        known = each-map (λ r k. number-more (r .transaction) k) ours (h .known);
       }
     where
       ours : List Record
@@ -140,7 +121,7 @@ module _ (p : Part) (m : BlockModel) (N N′ : Naming) (last born : ℕ) (E : Ex
 
       same : (r : Record) → N .numbers (r .transaction) ≡ true → recordAs p m N r ≡ recordAs p m N′ r
       same r k =
-          ap {B = Record} (λ (n : ℕ). record { clock = r .clock; transaction = n; block = r .block - p .toBlock; outcome = r .outcome }) (number-same (r .transaction) k)
+          cc (number-same (r .transaction) k)
 
 -- ---- A fresh serial, a new number
 
@@ -193,7 +174,7 @@ module _ (p : Part) (m : BlockModel) (N : Naming) (s s′ : State) (h : Seen p m
       record {
         counted =
             record {
-              serial = ap suc (h .counted .serial) ∙ one-more ∙ sym (rank-noted (N .serials) last true);
+              serial = cc (h .counted .serial, one-more, rank-noted (N .serials) last true);
               made = h .counted .made;
               serials-upto = noting-upto (N .serials) last true us;
               numbers-upto = un;
@@ -215,10 +196,10 @@ module _ (p : Part) (m : BlockModel) (N : Naming) (s s′ : State) (h : Seen p m
         counted =
             record {
               serial = h .counted .serial;
-              made = ap suc (h .counted .made) ∙ one-more ∙ sym (rank-noted (N .numbers) born true);
+              made = cc (h .counted .made, one-more, rank-noted (N .numbers) born true);
               serials-upto = us;
               numbers-upto = noting-upto (N .numbers) born true un;
-              since = omega (arith, h .counted .since);
+              since = omega arith;
             };
         fixtures = fixtures-more p m N (withNumberOf N born) last born more-numbers us un _ _ _ _ (h .fixtures);
         lined = lined-more p m N (withNumberOf N born) last born more-numbers us un _ _ _ _ _ _ (h .lined);
@@ -245,7 +226,7 @@ module _ (p : Part) (m : BlockModel) (N : Naming) (s s′ : State) (h : Seen p m
         known = known-more p m N (withNumberOf N born) last born more-numbers us un;
         same = alone-same p m N (withNumberOf N born) last born more-numbers us un;
         since = refl;
-        numbers = λ k a. noting-below (N .numbers) born true k (omega (arith, h .counted .since));
+        numbers = λ k a. noting-below (N .numbers) born true k (omega arith);
       }
 
   -- the one that takes the serial
@@ -255,7 +236,7 @@ module _ (p : Part) (m : BlockModel) (N : Naming) (s s′ : State) (h : Seen p m
 
   pub alone-fresh : (t : Transaction) → aloneAs p m (withSerialOf N last) (withSerial (fresh s) t) ≡ withSerial (fresh s′) (aloneAs p m N t)
   alone-fresh t =
-      ap (λ (k : ℕ). withSerial k (aloneAs p m N t)) (rank-noted (N .serials) last true ∙ one-more ∙ ap suc (sym (h .counted .serial)))
+      cc (rank-noted (N .serials) last true, one-more, h .counted .serial)
     where
       one-more : rankIn (N .serials) last + 1 ≡ suc (rankIn (N .serials) last)
       one-more = omega arith
@@ -266,7 +247,7 @@ module _ (p : Part) (m : BlockModel) (N : Naming) (s s′ : State) (h : Seen p m
       record {
         counted =
             record {
-              serial = h .counted .serial ∙ sym (rank-skip (N .serials) last (us (suc last) (omega arith)));
+              serial = cc (h .counted .serial, rank-skip (N .serials) last (us (suc last) (omega arith)));
               made = h .counted .made;
               serials-upto = λ k a. us k (omega arith);
               numbers-upto = un;
@@ -284,10 +265,10 @@ module _ (p : Part) (m : BlockModel) (N : Naming) (s s′ : State) (h : Seen p m
         counted =
             record {
               serial = h .counted .serial;
-              made = h .counted .made ∙ sym (rank-skip (N .numbers) born (un (suc born) (omega arith)));
+              made = cc (h .counted .made, rank-skip (N .numbers) born (un (suc born) (omega arith)));
               serials-upto = us;
               numbers-upto = λ k a. un k (omega arith);
-              since = omega (arith, h .counted .since);
+              since = omega arith;
             };
         fixtures = h .fixtures;
         lined = h .lined;

@@ -2,22 +2,10 @@
 --
 -- It says nothing of the clock, of who moves, of statistics and of ends. Each part of it speaks of a few fields, so that a change of others leaves
 -- it as it is.
-use Prim.Native.Nat.{ℕ, _+_, _-_, _≤_}
-use mathlib.Core.Path.{_≡_}
-use mathlib.Core.Bool.{Bool, true, false}
-use mathlib.Core.List.{List, [], map}
-use lib.ListN.{length}
-use Rattle.machine.specs.Transaction.{Transaction, precedes, Event, earlier, Gatherer, Interrupted}
-use Rattle.machine.specs.Lists.{those}
-use Rattle.machine.specs.Term.{Server, idleServer, Queue, emptyQueue, View}
-use Rattle.machine.specs.Block.{Code, BlockModel, welIndex}
-use Rattle.machine.specs.Trace.{Record}
-use Rattle.machine.specs.State.{State, Logged}
-use Rattle.machine.specs.Claims.{Each}
+use Rattle.machine.specs.All.{ℕ, _+_, _-_, _≤_, _≡_, Bool, true, false, List, [], map, length, Transaction, precedes, Event, earlier, Gatherer, Interrupted, those, Server, idleServer, Queue, emptyQueue, View, Code, BlockModel, welIndex, Record, State, Logged, Each}
 use Rattle.machine.proofs.decoding.Proper.{Names, servers}
 use Rattle.machine.proofs.lists.Sorted.{Sorted}
-use Rattle.joined.specs.Join.{Part, serverIn}
-use Rattle.joined.specs.Parts.{inPart}
+use Rattle.joined.specs.{Part, serverIn, inPart}
 use Rattle.joined.proofs.Rows.{Rows, Matched}
 use Rattle.joined.proofs.Ranks.{Named, rankIn, Upto}
 use Rattle.joined.proofs.Naming.{Naming, mine, seenAs, Known, eventAs, gathererAs}

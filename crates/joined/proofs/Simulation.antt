@@ -1,26 +1,14 @@
 -- Two parts and their joined run, turn by turn: each turn of the joined run is a turn of one part alone, and the other part stands still.
-use Prim.Native.Nat.{ℕ, _≤_}
-use mathlib.Core.Path.{_≡_, refl, sym, _∙_, subst}
-use mathlib.Core.Bool.{true, false, true≢false}
-use mathlib.Core.List.{List, [], _∷_}
-use mathlib.Core.Option.{Option, none, some}
-use native.Mathlib.Omega.{arith}
-use lib.ListN.{length}
-use Rattle.machine.specs.Transaction.{Transaction, Event}
-use Rattle.machine.specs.Block.{BlockModel}
-use Rattle.machine.specs.State.{State}
-use Rattle.machine.specs.Turn.{nextEvents, takeFirst, takeReady, taking, turn, waitsOn}
-use Rattle.machine.specs.Run.{nobodyLeft}
-use Rattle.machine.specs.Claims.{Each}
-use Rattle.machine.proofs.decoding.Proper.{Names, Proper}
+use Rattle.machine.specs.All.{ℕ, _≤_, _≡_, refl, sym, _∙_, true, false, true≢false, List, [], _∷_, Option, none, some, arith, Transaction, Event, BlockModel, State, nextEvents, takeFirst, takeReady, taking, turn, waitsOn, nobodyLeft, Each}
+use Rattle.machine.proofs.decoding.Proper.{Proper}
 use Rattle.machine.proofs.runs.RunLaws.{each-map}
 use Rattle.machine.proofs.runs.Kept.{taking-kept}
 use Rattle.machine.proofs.runs.Shape.{Shape, shape-closed, shape-turn, server-length}
 use Rattle.machine.proofs.nobody_able.Waiting.{Waits}
 use Rattle.machine.proofs.nobody_able.WaitsKept.{waits-kept, waits-taken}
-use Rattle.machine.proofs.runs.Everybody.{Everybody, Unmoved, taking-everybody, Maybe}
+use Rattle.machine.proofs.runs.Everybody.{Everybody, taking-everybody}
 use Rattle.machine.proofs.runs.Placed.{Placed, placed-turn}
-use Rattle.joined.specs.Join.{Part}
+use Rattle.joined.specs.{Part}
 use Rattle.joined.proofs.Ranks.{listed-within}
 use Rattle.joined.proofs.Naming.{Naming}
 use Rattle.joined.proofs.Seen.{Seen}
@@ -28,7 +16,7 @@ use Rattle.joined.proofs.Inside.{Inside}
 use Rattle.joined.proofs.ClockMove.{moveClock-unmoved}
 use Rattle.joined.proofs.Turned.{handed}
 use Rattle.joined.proofs.Paces.{Stands, Clocked, Pace, SameNumbers, Takes, rebased, rebase-pace}
-use Rattle.joined.proofs.PartTurns.{Strange, own-turn, other-turn}
+use Rattle.joined.proofs.PartTurns.{own-turn, other-turn}
 use Rattle.joined.proofs.Strangers.{Facing, Rolls, others-there, strange}
 use Rattle.joined.proofs.Caught.{Takings, moves, first, takings, Caught, ours, theirs, Catch, catch-moves, catch-ready, taken-moves, taken-first}
 
@@ -44,11 +32,8 @@ module _ {M : BlockModel} {tape : List (List ℕ)} (proper : Proper M tape) wher
   sane-turn s e h =
       record { shape = shape-turn M s (h .shape); waits = waits-kept proper s e (h .shape) (h .waits) .0; placed = placed-turn M tape proper s (h .placed) }
 
-  placed-unmoved : Unmoved (Placed M)
-  placed-unmoved = record { mark = λ b t h. h; serial = λ n t h. h }
-
   pub placed-taken : (s : State) → Sane M s → Everybody (Placed M) (taking (s .moving) s)
-  placed-taken s h = taking-everybody (Placed M) placed-unmoved (s .moving) s (h .placed)
+  placed-taken s h = taking-everybody (Placed M) (omega arith) (s .moving) s (h .placed)
 
 -- the taking makes nobody
 first-made : (l : List Transaction) (s : State) → takeFirst l s .made ≡ s .made
@@ -89,7 +74,7 @@ module _ {M : BlockModel} {tape : List (List ℕ)} (proper : Proper M tape) (p :
   rolls-then N N′ n n′ born R e e′ h h′ upto =
       record {
         disjoint = λ k a b.
-            R .disjoint k (sym (h k (omega (arith, upto k b))) ∙ a) (sym (h′ k (omega (arith, upto k b))) ∙ b);
+            R .disjoint k (sym (h k (omega (arith, upto))) ∙ a) (sym (h′ k (omega (arith, upto))) ∙ b);
         nobody = h 0 (omega arith) ∙ R .nobody;
         nobody′ = h′ 0 (omega arith) ∙ R .nobody′;
       }
@@ -102,15 +87,15 @@ module _ {M : BlockModel} {tape : List (List ℕ)} (proper : Proper M tape) (p :
         → turn M s .end ≡ 0 → turn m a .end ≡ 0 → Joint p m p′ m′ (turn M s) (turn m a) b
     own-step n n′ h since h′ k c seen stands o w clocked zt za =
         let upto : (i : ℕ) → n′ .numbers i ≡ true → i ≤ s .made =
-        λ i d. subst (λ (x : ℕ). i ≤ x) (taking-made (s .moving) s) (listed-within (n′ .numbers) _ i (seen .counted .numbers-upto) d) in
-        let rolls : Rolls n n′ = rolls-then N N′ n n′ (s .made) R e e′ h h′ upto in
+        λ i d. rw (taking-made (s .moving) s) at (listed-within (n′ .numbers) _ i (seen .counted .numbers-upto) d) in
+        let rolls = rolls-then N N′ n n′ (s .made) R e e′ h h′ upto in
         let turned-rolls : Rolls n′ n = record { disjoint = λ i x y. rolls .disjoint i y x; nobody = rolls .nobody′; nobody′ = rolls .nobody } in
         let others = others-there p m p′ m′ M F I I′ n n′ rolls (handed M s) (handed m a) c (k .together .seen) seen
-        (each-map (λ (x : Event) y. y .0) (taking (s .moving) s .fel) (placed-taken proper s sane .fel)) in
+        (each-map (λ x y. y .0) (taking (s .moving) s .fel) (placed-taken proper s sane .fel)) in
         let mine-turn = own-turn p m M I n t s a k taken zt za others in
-        let shape : Shape M (taking (s .moving) s) = taking-kept (Shape M) (shape-closed M) (s .moving) s (sane .shape) in
-        let waits : Waits M (taking (s .moving) s) = waits-taken M s z (sane .waits) in
-        let odd : Strange p′ m′ M I′ n′ t (handed M s) =
+        let shape = taking-kept (Shape M) (shape-closed M) (s .moving) s (sane .shape) in
+        let waits = waits-taken M s z (sane .waits) in
+        let odd =
         strange p′ m′ p m M F′ I′ I n′ n turned-rolls (handed M s) c (handed m a) seen (k .together .seen) t (k .known) (server-length shape) (waits .queued .ql-stands) (waits .gated .wel-stands) in
         record {
           naming = mine-turn .naming;
@@ -118,7 +103,7 @@ module _ {M : BlockModel} {tape : List (List ℕ)} (proper : Proper M tape) (p :
           pace = mine-turn .pace;
           pace′ = other-turn p′ m′ M I′ n′ t s b c seen stands o w clocked taken zt odd;
           rolls =
-              rolls-then N N′ (mine-turn .naming) n′ (s .made) R e e′ (λ i x. mine-turn .numbers i (omega (arith, since)) ∙ h i x) h′ upto;
+              rolls-then N N′ (mine-turn .naming) n′ (s .made) R e e′ (λ i x. mine-turn .numbers i (omega arith) ∙ h i x) h′ upto;
         }
 
 turned-round : {p : Part} {m : BlockModel} {p′ : Part} {m′ : BlockModel} {s a b : State} → Joint p m p′ m′ s a b → Joint p′ m′ p m s b a
@@ -141,15 +126,9 @@ module _ {M : BlockModel} {tape : List (List ℕ)} (proper : Proper M tape) (p :
     two : (t : Transaction) → taking (b .moving) b .moving ≡ some t → (turn m′ b .end ≡ 0 → Joint p m p′ m′ (turn M s) a (turn m′ b)) → Turns s a b
 
   module _ (N N′ : Naming) (R : Rolls N N′) (s a b : State) (z : s .end ≡ 0) (sane : Sane M s) (e : N .since ≡ s .made) (e′ : N′ .since ≡ s .made) (zt : turn M s .end ≡ 0) where
-    R′ : Rolls N′ N
-    R′ = record { disjoint = λ i x y. R .disjoint i y x; nobody = R .nobody′; nobody′ = R .nobody }
-
     caught : (t : Transaction) → taking (s .moving) s .moving ≡ some t → (c : Catch p m M I N t s a) (c′ : Catch p′ m′ M I′ N′ t s b) → Turns s a b
     caught t taken c c′ = go (c .caught) (c′ .caught)
       where
-        block : Names (length (M .blocks)) (t .next)
-        block = subst (Maybe (Placed M)) taken (placed-taken proper s sane .moving) .0
-
         go : Caught p m M I (c .naming) t (handed M s) a → Caught p′ m′ M I′ (c′ .naming) t (handed M s) b → Turns s a b
         go (ours d k) (theirs d′ x seen stands o w clocked) =
             one _ (k .takes)
@@ -158,9 +137,9 @@ module _ {M : BlockModel} {tape : List (List ℕ)} (proper : Proper M tape) (p :
             two _ (k .takes)
             (λ zb.
             turned-round
-            (own-step proper p′ m′ p m I′ I F′ F N′ N R′ s b a z sane t taken e′ e (c′ .naming) (c .naming) (c′ .numbers) (c′ .since) (c .numbers) k x seen stands o w clocked zt zb))
-        go (ours d k) (ours d′ k′) = absurd (true≢false (sym d ∙ F .blocks (t .next) d′))
-        go (theirs d x seen stands o w clocked) (theirs d′ x′ seen′ stands′ o′ w′ clocked′) = absurd (true≢false (sym (F .covers (t .next) block d) ∙ d′))
+            (own-step proper p′ m′ p m I′ I F′ F N′ N (record { disjoint = λ i x y. R .disjoint i y x; nobody = R .nobody′; nobody′ = R .nobody }) s b a z sane t taken e′ e (c′ .naming) (c .naming) (c′ .numbers) (c′ .since) (c .numbers) k x seen stands o w clocked zt zb))
+        go (ours d k) (ours d′ k′) = absurd (true≢false (cc (d, F .blocks (t .next) d′)))
+        go (theirs d x seen stands o w clocked) (theirs d′ x′ seen′ stands′ o′ w′ clocked′) = absurd (true≢false (cc (F .covers (t .next) (rw taken at (placed-taken proper s sane .moving) .0) d, d′)))
 
   pub whose : (s a b : State) → Joint p m p′ m′ s a b → s .end ≡ 0 → Sane M s → nobodyLeft s ≡ false → turn M s .end ≡ 0 → Turns s a b
   whose s a b j z sane left zt = go (takings s left)

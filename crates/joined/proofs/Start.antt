@@ -1,20 +1,8 @@
 -- The start: GENERATEs of the part make what they make in the part alone, those of the other are not seen.
-use Prim.Native.Nat.{ℕ, suc, _+_, _-_, _≤_, _<_}
-use mathlib.Core.Path.{_≡_, refl, sym, ap, _∙_, subst}
-use mathlib.Core.Bool.{false}
-use mathlib.Core.List.{List, [], _∷_, _++_, map}
-use native.Mathlib.Omega.{arith}
-use lib.ListN.{length, getD}
-use borrow.Author.Tests.{ne-eqb}
-use Rattle.machine.specs.Block.{Block, generate, advance, terminate, takes, frees, waitServer, waitTerms, moves, assign, priority, split, counts, assemble, preempt, giveBack, facts, BlockModel, welIndex}
-use Rattle.machine.specs.State.{State}
-use Rattle.machine.specs.Moves.{toFel, timesLeft, arrival}
-use Rattle.machine.specs.Run.{startOf, startAt}
-use Rattle.machine.specs.Claims.{Each}
+use Rattle.machine.specs.All.{ℕ, suc, _+_, _-_, _≤_, _<_, _≡_, refl, subst, false, List, [], _∷_, _++_, map, arith, length, getD, ne-eqb, Block, generate, advance, terminate, takes, frees, waitServer, waitTerms, moves, assign, priority, split, counts, assemble, preempt, giveBack, facts, BlockModel, welIndex, State, toFel, timesLeft, arrival, startOf, startAt}
 use Rattle.machine.proofs.decoding.Proper.{Names, ProperBlock, Role, role, generating, taking, preempting, neither}
 use Rattle.machine.proofs.lists.Cases.{startOf-cases}
-use Rattle.joined.specs.Join.{Part, blockIn}
-use Rattle.joined.specs.Parts.{inPart}
+use Rattle.joined.specs.{Part, blockIn, inPart}
 use Rattle.joined.proofs.Naming.{Naming}
 use Rattle.joined.proofs.Seen.{size, Tables}
 use Rattle.joined.proofs.OwnMoves.{Together}
@@ -41,11 +29,11 @@ startAt-gates n (b ∷ l) s h = startAt-gates (suc n) l _ (startOf-cases NoGates
 
 pub startAt-append : (n : ℕ) (k l : List Block) (s : State) → startAt n (k ++ l) s ≡ startAt (n + length k) l (startAt n k s)
 unfolding startAt
-startAt-append n [] l s = ap (λ (i : ℕ). startAt i l s) (plus-zero n)
+startAt-append n [] l s = cc (plus-zero n)
   where
     plus-zero : (n : ℕ) → n ≡ n + 0
     plus-zero n = omega arith
-startAt-append n (b ∷ k) l s = startAt-append (suc n) k l (startOf b n s) ∙ ap (λ (i : ℕ). startAt i l (startAt (suc n) k (startOf b n s))) (step n (length k))
+startAt-append n (b ∷ k) l s = cc (startAt-append (suc n) k l (startOf b n s), step n (length k))
   where
     step : (n k : ℕ) → suc n + k ≡ n + suc k
     step n k = omega arith
@@ -69,13 +57,13 @@ module _ (p : Part) (m : BlockModel) (T : Tables p m) where
 
   starting-other : (N : Naming) (b : Block) (n : ℕ) → Outside p m b → inPart p (size p m) n ≡ false → (s s′ : State) → Starting N s s′ → Starting N (startOf b n s) s′
   starting-other N b n o e s s′ h =
-      startOf-cases (λ (r : State). Starting N r s′) b n s (λ q. h)
+      startOf-cases (λ r. Starting N r s′) b n s (λ q. h)
       (λ q.
       let beside : Beside p m N (s .view .clock) s s′ =
-      record { seen = h .together .seen; time = refl; still = h .together .still .0; gates = λ v code o. subst (Each _) (sym (h .gates (welIndex v code))) tt } in
+      record { seen = h .together .seen; time = refl; still = h .together .still .0; gates = λ v code o. rw (h .gates (welIndex v code)) tt } in
       let after = arrival-other p m T N (s .view .clock) s′ (timesLeft s (facts b .generates)) (facts b .generates) (facts b .rank) n (generates-outside b o q) e s beside in
       record {
-        together = record { seen = after .seen; clock = h .together .clock ∙ sym (after .time); still = (after .still, h .together .still .1) };
+        together = record { seen = after .seen; clock = cc (h .together .clock, after .time); still = (after .still, h .together .still .1) };
         gates = arrival-gates _ _ _ n s (h .gates);
       })
 
@@ -84,8 +72,8 @@ module _ (p : Part) (m : BlockModel) (T : Tables p m) where
   unfolding startAt
   others-start N s′ [] n s o h = h
   others-start N s′ (b ∷ l) n s o h =
-      others-start N s′ l (suc n) (startOf b n s) (λ i lt. (o (suc i) (omega arith) .0, subst (λ (k : ℕ). inPart p (size p m) k ≡ false) (step n i) (o (suc i) (omega arith) .1)))
-      (starting-other N b n (o 0 (omega arith) .0) (subst (λ (k : ℕ). inPart p (size p m) k ≡ false) (plus-zero n) (o 0 (omega arith) .1)) s s′ h)
+      others-start N s′ l (suc n) (startOf b n s) (λ i lt. (o (suc i) (omega arith) .0, rw (step n i) at (o (suc i) (omega arith) .1)))
+      (starting-other N b n (o 0 (omega arith) .0) (rw (plus-zero n) at (o 0 (omega arith) .1)) s s′ h)
     where
       step : (n i : ℕ) → n + suc i ≡ suc n + i
       step n i = omega arith
@@ -98,9 +86,8 @@ module _ (p : Part) (m : BlockModel) (T : Tables p m) where
   starting-own : (N : Naming) (b : Block) (k : ℕ) → ProperBlock m b → Names (size p m) k → (s s′ : State) → Together p m N s s′ → After p m N (startOf (blockIn p b) (k + p .toBlock) s) (startOf b k s′)
   unfolding startOf facts blockIn
   starting-own N (generate list r) k ok i s s′ h =
-      rw (ne-eqb (list + p .toList) 0 (λ e. omega (arith, ok .0 .0)), ne-eqb list 0 (λ e. omega (arith, ok .0 .0)), times-seen p m T N s s′ h list (ok .0))
-      (subst (λ (n : ℕ). After p m N (arrival (timesLeft s (list + p .toList)) (list + p .toList) r (k + p .toBlock) s) (arrival (timesLeft s (list + p .toList)) list r n s′)) back
-      (arrival-own p m T (timesLeft s (list + p .toList)) list r (k + p .toBlock) (ok .0) (in-part p m k i) N s s′ h))
+      rw (ne-eqb (list + p .toList) 0 (λ e. omega arith), ne-eqb list 0 (λ e. omega arith), times-seen p m T N s s′ h list (ok .0))
+      (rw back at (arrival-own p m T (timesLeft s (list + p .toList)) list r (k + p .toBlock) (ok .0) (in-part p m k i) N s s′ h))
     where
       back : k + p .toBlock - p .toBlock ≡ k
       back = omega arith
@@ -125,8 +112,5 @@ module _ (p : Part) (m : BlockModel) (T : Tables p m) where
   own-start [] k N s s′ one le ok h = after-here p m h
   own-start (b ∷ l) k N s s′ one le ok h =
       let a = starting-own N b k (ok 0 (omega arith)) (one, omega arith) s s′ h in
-      after-then p m a (subst (λ (n : ℕ). After p m (a .naming) (startAt n (map (blockIn p) l) (startOf (blockIn p b) (k + p .toBlock) s)) (startAt (suc k) l (startOf b k s′))) step
+      after-then p m a (subst (λ (n : ℕ). After p m (a .naming) (startAt n (map (blockIn p) l) (startOf (blockIn p b) (k + p .toBlock) s)) (startAt (suc k) l (startOf b k s′))) (omega arith)
       (own-start l (suc k) (a .naming) _ _ (omega arith) (omega arith) (λ i lt. ok (suc i) (omega arith)) (a .together)))
-    where
-      step : suc k + p .toBlock ≡ suc (k + p .toBlock)
-      step = omega arith

@@ -1,23 +1,8 @@
 -- Two parts of one joined model: what is of the one is not of the other.
-use Prim.Native.Nat.{ℕ, suc, _+_, _-_, _≤_, _<_}
-use mathlib.Core.Path.{_≡_, refl, sym, ap, _∙_, subst}
-use mathlib.Core.Bool.{Bool, true, false, cond, not, _&&_, true≢false}
-use mathlib.Core.List.{List, [], _∷_}
-use native.Mathlib.Omega.{arith}
-use lib.Dec.{ltb, eqb}
-use lib.ListN.{length, getD, List·getD-eq-default}
-use borrow.Author.Tests.{eqb-true, ltb-true, ltb-false}
-use Rattle.machine.specs.Transaction.{Transaction, Event}
-use Rattle.machine.specs.Lists.{those, nth}
-use Rattle.machine.specs.Term.{Server, View, idleServer, serverAt, Condition, always, whenTrue}
-use Rattle.machine.specs.Block.{Code, facility, storage, shareServer, Block, generate, advance, terminate, takes, frees, waitServer, waitTerms, moves, assign, priority, split, counts, assemble, preempt, giveBack, facts, BlockModel, blockAt, welIndex, unconditional}
-use Rattle.machine.specs.State.{State}
-use Rattle.machine.specs.Moves.{qlOf, welOf, losesTo}
-use Rattle.machine.specs.Claims.{Each}
+use Rattle.machine.specs.All.{cases, ℕ, suc, _+_, _-_, _≤_, _≡_, refl, sym, ap, _∙_, Bool, true, false, cond, not, _&&_, true≢false, List, [], _∷_, arith, ltb, eqb, length, getD, List·getD-eq-default, eqb-true, ltb-true, ltb-false, Transaction, Event, those, nth, Server, View, idleServer, serverAt, Condition, always, whenTrue, Code, facility, storage, shareServer, Block, generate, advance, terminate, takes, frees, waitServer, waitTerms, moves, assign, priority, split, counts, assemble, preempt, giveBack, facts, BlockModel, blockAt, welIndex, unconditional, State, qlOf, welOf, losesTo, Each}
 use Rattle.machine.proofs.decoding.Proper.{Names, servers, ProperBlock, code-server, share-server}
 use Rattle.machine.proofs.runs.RunLaws.{each-map, each-pair}
-use Rattle.joined.specs.Join.{Part, serverIn, shareIn, conditionIn, blockIn}
-use Rattle.joined.specs.Parts.{inPart}
+use Rattle.joined.specs.{Part, serverIn, shareIn, conditionIn, blockIn, inPart}
 use Rattle.joined.proofs.Lists.{no-true}
 use Rattle.joined.proofs.Ranks.{Named, listed, nobody}
 use Rattle.joined.proofs.Naming.{Naming, mine, Known}
@@ -93,7 +78,7 @@ module _ (p : Part) where
     at-server (generate list k) ok v one e f = omega arith
     at-server (advance list) ok v one e f = omega arith
     at-server (terminate a) ok v one e f = omega arith
-    at-server (takes x) ok v one e f = f (shareServer x) (share-server m x ok) (sym (share-image p x) ∙ e)
+    at-server (takes x) ok v one e f = f (shareServer x) (share-server m x ok) (cc (share-image p x, e))
     at-server (frees x) ok v one e f = omega arith
     at-server (waitServer code u c) ok v one e f = omega arith
     at-server (waitTerms a r b) ok v one e f = omega arith
@@ -103,7 +88,7 @@ module _ (p : Part) where
     at-server (split n target) ok v one e f = omega arith
     at-server (counts c q) ok v one e f = omega arith
     at-server (assemble n) ok v one e f = omega arith
-    at-server (preempt u) ok v one e f = f u (ok .0, omega (arith, ok .1)) e
+    at-server (preempt u) ok v one e f = f u (ok .0, omega arith) e
     at-server (giveBack u) ok v one e f = omega arith
 
     at-gate : (b : Block) → ProperBlock m b → (i : ℕ) → facts (blockIn p b) .wel ≡ suc i → ((u : ℕ) (code : Code) → Names (servers m) u → welIndex (serverIn p u) code ≡ i → ⊥) → ⊥
@@ -113,10 +98,7 @@ module _ (p : Part) where
     at-gate (terminate a) ok i e f = omega arith
     at-gate (takes x) ok i e f = omega arith
     at-gate (frees x) ok i e f = omega arith
-    at-gate (waitServer code u c) ok i e f = f u code (code-server m code u (ok .0)) (less e)
-      where
-        less : {a b : ℕ} → suc a ≡ suc b → a ≡ b
-        less q = omega arith
+    at-gate (waitServer code u c) ok i e f = f u code (code-server m code u (ok .0)) (omega arith)
     at-gate (waitTerms a r b) ok i e f = omega arith
     at-gate (moves c target) ok i e f = omega arith
     at-gate (assign k a) ok i e f = omega arith
@@ -141,10 +123,10 @@ module _ (p : Part) (m : BlockModel) (p′ : Part) (m′ M : BlockModel) (F : Fa
   outside-in (generate list k) ok = λ u i e. F .lists-apart u list i (ok .0) e
   outside-in (advance list) ok = λ u i e. F .lists-apart u list i ok e
   outside-in (terminate a) ok = tt
-  outside-in (takes (facility v)) ok = other-server v (ok .0, omega (arith, ok .1))
-  outside-in (takes (storage v b)) ok = other-server v (omega (arith, ok .0 .0), ok .0 .1)
-  outside-in (frees (facility v)) ok = other-server v (ok .0, omega (arith, ok .1))
-  outside-in (frees (storage v b)) ok = other-server v (omega (arith, ok .0 .0), ok .0 .1)
+  outside-in (takes (facility v)) ok = other-server v (ok .0, omega arith)
+  outside-in (takes (storage v b)) ok = other-server v (omega arith, ok .0 .1)
+  outside-in (frees (facility v)) ok = other-server v (ok .0, omega arith)
+  outside-in (frees (storage v b)) ok = other-server v (omega arith, ok .0 .1)
   outside-in (waitServer code v c) ok = other-server v (code-server m′ code v (ok .0))
   outside-in (waitTerms a r b) ok = tt
   outside-in (moves c target) ok = other-target target ok
@@ -153,14 +135,14 @@ module _ (p : Part) (m : BlockModel) (p′ : Part) (m′ M : BlockModel) (F : Fa
   outside-in (split n target) ok = other-target target (ok .1)
   outside-in (counts c q) ok = λ u i e. F .queues-apart u q i ok e
   outside-in (assemble n) ok = tt
-  outside-in (preempt f) ok = other-server f (ok .0, omega (arith, ok .1))
-  outside-in (giveBack f) ok = other-server f (ok .0, omega (arith, ok .1))
+  outside-in (preempt f) ok = other-server f (ok .0, omega arith)
+  outside-in (giveBack f) ok = other-server f (ok .0, omega arith)
 
 -- a block that is not of the part has no row of it
 pub other-row : (p : Part) (m : BlockModel) (b : ℕ) → 1 ≤ b → inPart p (size p m) b ≡ false → OtherRow p m b
 other-row p m b one e u i q =
-    let same : u + p .toBlock ≡ b = omega (arith, i .0) in
-    true≢false (sym (in-part p m u i) ∙ ap (inPart p (size p m)) same ∙ e)
+    let same : u + p .toBlock ≡ b = omega arith in
+    true≢false (cc (in-part p m u i, same, e))
 
 -- what each of those that pass a test is, each is that passes it
 pub each-passing : {A : Type 0} (P : A → Type 0) (q : A → Bool) (l : List A) → Each P (those q l) → Each (λ x. q x ≡ true → P x) l
@@ -170,7 +152,7 @@ each-passing {A} P q (x ∷ l) h = go (q x) refl h (each-passing P q l)
   where
     go : (b : Bool) → q x ≡ b → Each P (cond b (x ∷ those q l) (those q l)) → (Each P (those q l) → Each (λ x. q x ≡ true → P x) l) → (q x ≡ true → P x) × Each (λ x. q x ≡ true → P x) l
     go true e h more = ((λ d. h .0), more (h .1))
-    go false e h more = ((λ d. absurd (true≢false (sym d ∙ e))), more h)
+    go false e h more = ((λ d. absurd (true≢false (cc (d, e)))), more h)
 
 -- ---- Who loses a facility
 
@@ -209,20 +191,16 @@ module _ (p : Part) (m : BlockModel) (p′ : Part) (m′ M : BlockModel) (F : Fa
   block-there : (b : ℕ) → inPart p (size p m) b ≡ true → blockAt M b ≡ blockIn p (blockAt m (b - p .toBlock))
   block-there b e =
       let at = standing p m b e in
-      subst (λ (i : ℕ). blockAt M i ≡ blockIn p (blockAt m (b - p .toBlock))) (at .there) (I .block (b - p .toBlock) (at .names))
+      rw (at .there) at (I .block (b - p .toBlock) (at .names))
 
   proper-there : (b : ℕ) → inPart p (size p m) b ≡ true → ProperBlock m (blockAt m (b - p .toBlock))
   proper-there b e = I .proper _ (standing p m b e .names)
 
   one-at-least : (k : ℕ) → N′ .numbers k ≡ true → 1 ≤ k
-  one-at-least k e = go (ltb 0 k) refl
+  one-at-least k e = cases (ltb 0 k) (λ d. ltb-true 0 k d) (λ d. absurd (true≢false (cc (e, zero-of d, R .nobody′))))
     where
       zero-of : ltb 0 k ≡ false → k ≡ 0
-      zero-of d = omega (arith, ltb-false 0 k d)
-
-      go : (b : Bool) → ltb 0 k ≡ b → 1 ≤ k
-      go true d = ltb-true 0 k d
-      go false d = absurd (true≢false (sym e ∙ ap (N′ .numbers) (zero-of d) ∙ R .nobody′))
+      zero-of d = omega (arith, ltb-false)
 
   not-ours : (t : Transaction) → Known p′ (size p′ m′) N′ t → NotOurs N t
   not-ours t k =
@@ -232,30 +210,30 @@ module _ (p : Part) (m : BlockModel) (p′ : Part) (m′ M : BlockModel) (F : Fa
     -- every event of the other part
     pub others-there : Each (λ (e : Event). Names (length (M .blocks)) (e .who .next)) (q .fel) → Others p m (I .tables) N (q .fel)
     others-there placed =
-        each-map {Q = λ (e : Event). mine p (size p m) (e .who) ≡ false → NotOurs N (e .who)} (λ (e : Event) k d. not-ours (e .who) (k .1 (F .covers (e .who .next) (k .0) d))) (q .fel)
-        (each-pair (λ (e : Event). Names (length (M .blocks)) (e .who .next)) (λ (e : Event). mine p′ (size p′ m′) (e .who) ≡ true → Known p′ (size p′ m′) N′ (e .who)) (q .fel) placed
-        (each-passing (λ (e : Event). Known p′ (size p′ m′) N′ (e .who)) (λ (e : Event). mine p′ (size p′ m′) (e .who)) (q .fel) (h′ .listed .fel .part .known)))
+        each-map {Q = λ e. mine p (size p m) (e .who) ≡ false → NotOurs N (e .who)} (λ e k d. not-ours (e .who) (k .1 (F .covers (e .who .next) (k .0) d))) (q .fel)
+        (each-pair (λ e. Names (length (M .blocks)) (e .who .next)) (λ e. mine p′ (size p′ m′) (e .who) ≡ true → Known p′ (size p′ m′) N′ (e .who)) (q .fel) placed
+        (each-passing (λ e. Known p′ (size p′ m′) N′ (e .who)) (λ e. mine p′ (size p′ m′) (e .who)) (q .fel) (h′ .listed .fel .part .known)))
 
     -- nobody of the part loses a facility of the other
     losers-there : length (q .view .servers) ≡ servers M → (t : Transaction) (f : ℕ) → OtherServer p m f
         → Each (λ (y : Event). losesTo t (serverAt (q .view) f) y ≡ true → mine? (y .who) ≡ false) (q .fel)
     losers-there long t f o =
-        each-map {Q = λ (y : Event). losesTo t (serverAt (q .view) f) y ≡ true → mine? (y .who) ≡ false} (λ (y : Event) k l. no-true (mine? (y .who)) (λ d. never y (k d .number) l)) (q .fel)
-        (each-passing (λ (y : Event). Known p (size p m) N (y .who)) (λ (y : Event). mine? (y .who)) (q .fel) (h .listed .fel .part .known))
+        each-map {Q = λ y. losesTo t (serverAt (q .view) f) y ≡ true → mine? (y .who) ≡ false} (λ y k l. no-true (mine? (y .who)) (λ d. never y (k d .number) l)) (q .fel)
+        (each-passing (λ y. Known p (size p m) N (y .who)) (λ y. mine? (y .who)) (q .fel) (h .listed .fel .part .known))
       where
         stranger : (y : Event) → N .numbers (y .who .number) ≡ true → {x : ℕ} → Named (N′ .numbers) x → y .who .number ≡ x → ⊥
-        stranger y e {x} (listed a) s = R .disjoint (y .who .number) e (ap (N′ .numbers) s ∙ a)
-        stranger y e (nobody a) s = true≢false (sym e ∙ ap (N .numbers) (s ∙ a) ∙ R .nobody)
+        stranger y e {x} (listed a) s = R .disjoint (y .who .number) e (cc (s, a))
+        stranger y e (nobody a) s = true≢false (cc (e, s, a, R .nobody))
 
         never : (y : Event) → N .numbers (y .who .number) ≡ true → losesTo t (serverAt (q .view) f) y ≡ true → ⊥
         never y e l =
-            let past : servers M ≤ f - 1 =
+            let past =
             F .servers-cover (f - 1) o
-            (λ u i d. stranger y e (subst (λ (j : ℕ). Named (N′ .numbers) (getD (q .view .servers) j (idleServer 0) .holder)) d (h′ .fixtures .servers .alike u i .holder-named)) (loses-holder t (serverAt (q .view) f) y l .0 ∙ ap (λ (x : Server). x .holder) (server-at (q .view) f))) in
-            true≢false (sym (loses-holder t (serverAt (q .view) f) y l .1) ∙ ap (λ (x : Server). ltb 0 (x .inUse)) (server-at (q .view) f ∙ default-at past) ∙ idle-free)
+            (λ u i d. stranger y e (rw d at (h′ .fixtures .servers .alike u i .holder-named)) (cc (loses-holder t (serverAt (q .view) f) y l .0, server-at (q .view) f))) in
+            true≢false (cc (loses-holder t (serverAt (q .view) f) y l .1, server-at (q .view) f, default-at past, idle-free))
           where
             default-at : servers M ≤ f - 1 → getD (q .view .servers) (f - 1) (idleServer 0) ≡ idleServer 0
-            default-at past = List·getD-eq-default (q .view .servers) (idleServer 0) (omega (arith, long))
+            default-at past = List·getD-eq-default (q .view .servers) (idleServer 0) (omega arith)
 
     pub strange : (t : Transaction) → Known p′ (size p′ m′) N′ t → length (q .view .servers) ≡ servers M
         → ((v : ℕ) → 1 ≤ v → Each (λ u. facts (blockAt M (u .next)) .server ≡ v) (nth (q .ql) v []))
@@ -263,15 +241,17 @@ module _ (p : Part) (m : BlockModel) (p′ : Part) (m′ M : BlockModel) (F : Fa
     strange t k long ql-stands wel-stands =
         record {
           not-mine = F .blocks (t .next) (k .own);
-          row = other-row p m (t .next) (omega (arith, at .there, at .names .0)) (F .blocks (t .next) (k .own));
-          outside = subst (Outside p m) (sym block) (outside-in p m p′ m′ M F (blockAt m′ (t .next - p′ .toBlock)) (I′ .proper _ (at .names)));
-          on = λ d. F .blocks (suc (t .next)) (next-in (sym (leaves-in p′ _) ∙ ap (λ (c : Block). facts c .leaves) (sym block) ∙ d));
+          row = other-row p m (t .next) (omega (arith, at .names .0)) (F .blocks (t .next) (k .own));
+          outside = rw block (outside-in p m p′ m′ M F (blockAt m′ (t .next - p′ .toBlock)) (I′ .proper _ (at .names)));
+          on = λ d. F .blocks (suc (t .next)) (let on = I′ .goes-on (t .next - p′ .toBlock) (at .names) (cc (leaves-in p′ _, block, d)) in
+              let e : suc (t .next - p′ .toBlock) + p′ .toBlock ≡ suc (t .next) = omega (arith, at .there) in
+              rw e at (in-part p′ m′ (suc (t .next - p′ .toBlock)) (omega arith, on)));
           back = F .blocks (t .next - facts (blockOf M t) .back) back-in-part;
           queues = λ v o. queued v o;
           gates = λ v code o.
               each-map
-              (λ (u : Transaction) e. no-true (mine? u) (λ d.
-              at-gate p m (blockAt m (u .next - p .toBlock)) (proper-there (u .next) d) (welIndex v code) (ap (λ (c : Block). facts c .wel) (sym (block-there (u .next) d)) ∙ e)
+              (λ u e. no-true (mine? u) (λ d.
+              at-gate p m (blockAt m (u .next - p .toBlock)) (proper-there (u .next) d) (welIndex v code) (cc (block-there (u .next) d, e))
               (λ x c i s. other-gate p m v code o (record { server = x; code = c }) i s)))
               (welOf q v code) (wel-stands (welIndex v code));
           losers = λ f o. losers-there long t f o;
@@ -283,25 +263,19 @@ module _ (p : Part) (m : BlockModel) (p′ : Part) (m′ M : BlockModel) (F : Fa
         block : blockAt M (t .next) ≡ blockIn p′ (blockAt m′ (t .next - p′ .toBlock))
         block = block-seen p′ m′ M I′ N′ t k
 
-        next-in : facts (blockAt m′ (t .next - p′ .toBlock)) .leaves ≡ false → inPart p′ (size p′ m′) (suc (t .next)) ≡ true
-        next-in d =
-            let on = I′ .goes-on (t .next - p′ .toBlock) (at .names) d in
-            let e : suc (t .next - p′ .toBlock) + p′ .toBlock ≡ suc (t .next) = omega (arith, at .there) in
-            subst (λ (i : ℕ). inPart p′ (size p′ m′) i ≡ true) e (in-part p′ m′ (suc (t .next - p′ .toBlock)) (omega arith, on))
-
         back-in-part : inPart p′ (size p′ m′) (t .next - facts (blockOf M t) .back) ≡ true
         back-in-part =
-            let c : ℕ = facts (blockAt m′ (t .next - p′ .toBlock)) .back in
-            let same : facts (blockOf M t) .back ≡ c = ap (λ (x : Block). facts x .back) block ∙ back-in p′ (blockAt m′ (t .next - p′ .toBlock)) in
-            let lt : c < t .next - p′ .toBlock = I′ .goes-back _ (at .names) in
-            let e : t .next - p′ .toBlock - c + p′ .toBlock ≡ t .next - facts (blockOf M t) .back = omega (arith, at .there, same) in
-            subst (λ (i : ℕ). inPart p′ (size p′ m′) i ≡ true) e (in-part p′ m′ (t .next - p′ .toBlock - c) (omega arith, omega (arith, at .names .1)))
+            let c = facts (blockAt m′ (t .next - p′ .toBlock)) .back in
+            let same = ap (λ (x : Block). facts x .back) block ∙ back-in p′ (blockAt m′ (t .next - p′ .toBlock)) in
+            let lt = I′ .goes-back _ (at .names) in
+            let e : t .next - p′ .toBlock - c + p′ .toBlock ≡ t .next - facts (blockOf M t) .back = omega arith in
+            rw e at (in-part p′ m′ (t .next - p′ .toBlock - c) (omega arith, omega (arith, at .names .1)))
 
         queued : (v : ℕ) → OtherServer p m v → Each (λ u. mine? u ≡ false) (qlOf q v)
         queued v o =
             let e : suc (v - 1) - 1 ≡ v - 1 = omega arith in
-            each-map {P = λ (u : Transaction). facts (blockAt M (u .next)) .server ≡ suc (v - 1)} {Q = λ (u : Transaction). mine? u ≡ false}
-            (λ (u : Transaction) a. no-true (mine? u) (λ d.
-            at-server p m (blockAt m (u .next - p .toBlock)) (proper-there (u .next) d) (suc (v - 1)) (omega arith) (ap (λ (c : Block). facts c .server) (sym (block-there (u .next) d)) ∙ a)
-            (λ x i s. o x i (ap (λ (n : ℕ). n - 1) s ∙ e))))
-            (qlOf q v) (subst (λ (j : ℕ). Each (λ (u : Transaction). facts (blockAt M (u .next)) .server ≡ suc (v - 1)) (getD (q .ql) j [])) e (ql-stands (suc (v - 1)) (omega arith)))
+            each-map {P = λ u. facts (blockAt M (u .next)) .server ≡ suc (v - 1)} {Q = λ u. mine? u ≡ false}
+            (λ u a. no-true (mine? u) (λ d.
+            at-server p m (blockAt m (u .next - p .toBlock)) (proper-there (u .next) d) (suc (v - 1)) (omega arith) (cc (block-there (u .next) d, a))
+            (λ x i s. o x i (cc (s, e)))))
+            (qlOf q v) (rw e at (ql-stands (suc (v - 1)) (omega arith)))

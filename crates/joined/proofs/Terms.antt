@@ -1,17 +1,8 @@
 -- A term of the part is worth in the joined model what it is worth in the part alone, where it names only what the part has and no clock.
-use Prim.Native.Nat.{ℕ, suc, _+_, _-_, _≤_, _<_}
-use mathlib.Core.Path.{_≡_, refl, sym, ap, ap₂, _∙_}
-use mathlib.Core.List.{List, [], _∷_, _++_, map, append-assoc, append-nil}
-use native.Mathlib.Omega.{arith}
-use lib.Dec.{ltb}
+use Rattle.machine.specs.All.{ℕ, suc, _+_, _-_, _≤_, _<_, _≡_, refl, sym, ap, ap₂, _∙_, List, [], _∷_, _++_, map, append-assoc, append-nil, arith, ltb, length, getD, length-append, List·getD-append, nth, View, Term, constant, minusConstant, parameter, clockTerm, entriesOf, contentOf, unitsInUse, unitsFree, facilityInUse, value, comparison, bracket, Sum, nothing, plus, minus, term, sum, worths, evaluate, compare, truth, Condition, always, whenTrue, related, wrap, oneIf, serverAt, queueAt, BlockModel, Each}
 use lib.IntN.{ℤ, pos, _+ℤ_, _-ℤ_}
-use lib.ListN.{length, getD, length-append, List·getD-append}
-use Rattle.machine.specs.Lists.{nth}
-use Rattle.machine.specs.Term.{View, Term, constant, minusConstant, parameter, clockTerm, entriesOf, contentOf, unitsInUse, unitsFree, facilityInUse, value, comparison, bracket, Sum, nothing, plus, minus, term, sum, worths, evaluate, compare, truth, Condition, always, whenTrue, related, wrap, oneIf, serverAt, queueAt}
-use Rattle.machine.specs.Block.{BlockModel}
-use Rattle.machine.specs.Claims.{Each}
 use Rattle.machine.proofs.decoding.Proper.{Names, servers}
-use Rattle.joined.specs.Join.{Part, termIn, sumIn, conditionIn}
+use Rattle.joined.specs.{Part, termIn, sumIn, conditionIn}
 use Rattle.joined.proofs.Naming.{Naming}
 use Rattle.joined.proofs.Seen.{size, Fixtures}
 
@@ -68,11 +59,11 @@ module _ (p : Part) (m : BlockModel) where
         -- ---- The worths of values
 
 pub getD-behind : {A : Type 0} (a b : List A) (i : ℕ) (d : A) → getD (a ++ b) (i + length a) d ≡ getD b i d
-getD-behind [] b i d = ap (λ (k : ℕ). getD b k d) (plus-zero i)
+getD-behind [] b i d = cc (plus-zero i)
   where
     plus-zero : (i : ℕ) → i + 0 ≡ i
     plus-zero i = omega arith
-getD-behind (x ∷ a) b i d = ap (λ (k : ℕ). getD (x ∷ (a ++ b)) k d) (step i (length a)) ∙ getD-behind a b i d
+getD-behind (x ∷ a) b i d = cc (step i (length a), getD-behind a b i d)
   where
     step : (i k : ℕ) → i + suc k ≡ suc (i + k)
     step i k = omega arith
@@ -113,34 +104,24 @@ module _ (p : Part) (m M : BlockModel) (vals : Values p m M) (N : Naming) (w w�
   unfolding worths
   worths-part [] k front low e = refl
   worths-part (v ∷ vs) k front low e =
-      ap (worths w q (map (sumIn p) vs))
-      (append-assoc front low (sum w q (front ++ low) (sumIn p v) (pos 0) ∷ [])
-      ∙ ap (λ (x : ℤ). front ++ (low ++ (x ∷ []))) (sym (sum-same p m N w w′ samples samples′ h q (front ++ low) low behind v (k .0) (pos 0))))
-      ∙ worths-part vs (k .1) front (low ++ (sum w′ q low v (pos 0) ∷ [])) e
+      cc (append-assoc front low (sum w q (front ++ low) (sumIn p v) (pos 0) ∷ []), sum-same p m N w w′ samples samples′ h q (front ++ low) low behind v (k .0) (pos 0), worths-part vs (k .1) front (low ++ (sum w′ q low v (pos 0) ∷ [])) e)
     where
       behind : (i : ℕ) → Names (length (m .values)) i → nth low i (pos 0) ≡ nth (front ++ low) (i + p .toValue) (pos 0)
-      behind i n = sym (ap (λ (j : ℕ). getD (front ++ low) j (pos 0)) (index (n .0)) ∙ getD-behind front low (i - 1) (pos 0))
+      behind i n = cc (index (n .0), getD-behind front low (i - 1) (pos 0))
         where
           index : 1 ≤ i → i + p .toValue - 1 ≡ i - 1 + length front
-          index a = omega (arith, e)
+          index a = omega arith
 
   -- all of them
   pub values-same : (k : ℕ) → Names (length (m .values)) k → nth (worths w′ q (m .values) []) k (pos 0) ≡ nth (worths w q (M .values) []) (k + p .toValue) (pos 0)
   values-same k n =
       let front : List ℤ = worths w q (vals .lower) [] in
-      let long : length front ≡ p .toValue = worths-length w q (vals .lower) [] ∙ ap (λ (i : ℕ). 0 + i) (vals .before) ∙ zero-plus in
+      let long : length front ≡ p .toValue = worths-length w q (vals .lower) [] ∙ ap (λ (i : ℕ). 0 + i) (vals .before) ∙ (omega arith) in
       let whole : worths w q (M .values) [] ≡ worths w q (vals .higher) (front ++ worths w′ q (m .values) []) =
       ap (λ (l : List Sum). worths w q l []) (vals .all) ∙ worths-append w q (vals .lower ++ map (sumIn p) (m .values)) (vals .higher) []
       ∙ ap (worths w q (vals .higher)) (worths-append w q (vals .lower) (map (sumIn p) (m .values)) [] ∙ ap (worths w q (map (sumIn p) (m .values))) (sym (append-nil front)) ∙ worths-part (m .values) (vals .plain) front [] long) in
-      sym
-      (ap (λ (l : List ℤ). nth l (k + p .toValue) (pos 0)) whole
-      ∙ worths-stay w q (vals .higher) (front ++ worths w′ q (m .values) []) (k + p .toValue - 1)
-      (omega (arith, length-append front (worths w′ q (m .values) []), long, worths-length w′ q (m .values) []))
-      ∙ ap (λ (j : ℕ). getD (front ++ worths w′ q (m .values) []) j (pos 0)) (index long) ∙ getD-behind front (worths w′ q (m .values) []) (k - 1) (pos 0))
+      cc (whole, worths-stay w q (vals .higher) (front ++ worths w′ q (m .values) []) (k + p .toValue - 1) (omega (arith, length-append front (worths w′ q (m .values) []), long, worths-length w′ q (m .values) [])), index long, getD-behind front (worths w′ q (m .values) []) (k - 1) (pos 0))
     where
-      zero-plus : 0 + p .toValue ≡ p .toValue
-      zero-plus = omega arith
-
       index : {i : ℕ} → i ≡ p .toValue → k + p .toValue - 1 ≡ k - 1 + i
       index e = omega (arith, n .0)
 
@@ -151,4 +132,4 @@ module _ (p : Part) (m M : BlockModel) (vals : Values p m M) (N : Naming) (w w�
   pub truth-same : (c : Condition) → PlainCondition p m c → truth (m .values) w′ q c ≡ truth (M .values) w q (conditionIn p c)
   unfolding truth compare conditionIn
   truth-same always k = refl
-  truth-same (whenTrue a r b) k = ap₂ (related r) (evaluate-same a (k .0)) (evaluate-same b (k .1))
+  truth-same (whenTrue a r b) k = cc (evaluate-same a (k .0), evaluate-same b (k .1))

@@ -1,21 +1,5 @@
 -- A turn that ends nothing: who is taken, one block, the WS scheme; of any model.
-use Prim.Native.Nat.{ℕ, zero, suc}
-use mathlib.Core.Path.{_≡_, refl, sym, ap, _∙_, subst}
-use mathlib.Core.Bool.{true, not}
-use mathlib.Core.List.{List, [], _∷_}
-use mathlib.Core.Option.{Option, none, some}
-use native.Mathlib.Omega.{arith}
-use lib.Dec.{eqb}
-use borrow.Author.Tests.{eq-eqb, not-true, not-false}
-use Rattle.machine.specs.Transaction.{Transaction}
-use Rattle.machine.specs.Lists.{others}
-use Rattle.machine.specs.Block.{Block, BlockModel, blockAt}
-use Rattle.machine.specs.State.{State}
-use Rattle.machine.specs.Setters.{setMoving, setRel, setTurns, setEnd}
-use Rattle.machine.specs.Moves.{wakeWsl}
-use Rattle.machine.specs.Execute.{effect}
-use Rattle.machine.specs.Turn.{nextEvents, takeFirst, takeReady, taking, answer, execute, waitsOn, wsScheme, turn}
-use Rattle.machine.specs.Claims.{Each}
+use Rattle.machine.specs.All.{ℕ, zero, suc, _≡_, refl, subst, true, not, List, [], _∷_, Option, none, some, arith, eqb, not-true, not-false, Transaction, others, Block, BlockModel, blockAt, State, setMoving, setRel, setTurns, setEnd, wakeWsl, effect, nextEvents, takeFirst, takeReady, taking, answer, execute, waitsOn, wsScheme, turn, Each}
 use Rattle.machine.proofs.runs.RunLaws.{cond-cases, each-map}
 use Rattle.machine.proofs.lists.Sorted.{each-passes}
 
@@ -30,7 +14,7 @@ module _ (m : BlockModel) where
 
   scheme-on : (s : State) → s .end ≡ 0 → wsScheme m s ≡ settled s
   unfolding wsScheme
-  scheme-on s e = rw (eq-eqb (s .end) 0 e) refl
+  scheme-on s e = cc
 
   -- ---- After the taking, with t in hand
 
@@ -48,8 +32,8 @@ module _ (m : BlockModel) where
   answered : (n : ℕ) (t : Transaction) (r : State) → wsScheme m (answer n m (blockOf t) t r) .end ≡ 0
       → Executed (answer n m (blockOf t) t r) r (effect m (blockOf t) t (setMoving none r))
   unfolding answer
-  answered zero t r z = (sym (scheme-end _) ∙ z, scheme-on _ (sym (scheme-end _) ∙ z))
-  answered (suc n) t r z = absurd (nonzero (sym (scheme-end (setEnd (suc n) r)) ∙ z))
+  answered zero t r z = (cc (scheme-end _, z), scheme-on _ (cc (scheme-end _, z)))
+  answered (suc n) t r z = absurd (nonzero (cc (scheme-end (setEnd (suc n) r), z)))
     where
       nonzero : suc n ≡ 0 → ⊥
       nonzero e = omega arith
@@ -58,8 +42,7 @@ module _ (m : BlockModel) where
       → Executed (execute o m r) r (effect m (blockOf t) t (setMoving none r))
   unfolding execute
   executed o t r e z =
-      subst (λ (o : Option Transaction). Executed (execute o m r) r (effect m (blockOf t) t (setMoving none r))) (sym e)
-      (answered _ t r (subst (λ (o : Option Transaction). wsScheme m (execute o m r) .end ≡ 0) e z))
+      rw e (answered _ t r (subst (λ (o : Option Transaction). wsScheme m (execute o m r) .end ≡ 0) e z))
 
   pub turned : (s : State) (t : Transaction) → taking (s .moving) s .moving ≡ some t → turn m s .end ≡ 0
       → (effect m (blockOf t) t (handed s) .end ≡ 0) × (turn m s ≡ settled (effect m (blockOf t) t (handed s)))
@@ -89,9 +72,9 @@ unfolding taking takeReady
 readied s = go (s .rel) refl
   where
     go : (l : List Transaction) → s .rel ≡ l → Readied s
-    go [] e = record { from = nextEvents (s .fel) s; ready = clockMoved e; taken = ap (λ (l : List Transaction). takeReady l s) e }
+    go [] e = record { from = nextEvents (s .fel) s; ready = clockMoved e; taken = cc e }
     go (t ∷ l) e =
-        record { from = s; ready = asIs t l e; taken = ap (λ (l : List Transaction). takeReady l s) e ∙ ap (λ (l : List Transaction). takeFirst l s) (sym e) }
+        record { from = s; ready = asIs t l e; taken = cc e }
 
 -- with the first of REL in hand
 abbrev pub hand : ℕ → Transaction → List Transaction → State → State
@@ -99,4 +82,4 @@ hand n t l r = setMoving none (setTurns n (setMoving (some t) (setRel l r)))
 
 pub first-taken : (t : Transaction) (l : List Transaction) (r : State) → r .rel ≡ t ∷ l → takeFirst (r .rel) r ≡ setMoving (some t) (setRel l r)
 unfolding takeFirst
-first-taken t l r e = ap (λ (k : List Transaction). takeFirst k r) e
+first-taken t l r e = cc

@@ -1,20 +1,6 @@
 -- Item 13 by computing: two plants in which each kind of list has its waiters, run together and alone, under both editions; and a clock term, with
 -- which the claim does not hold.
-use Prim.Native.Nat.{ℕ}
-use mathlib.Core.Path.{_≡_, refl}
-use mathlib.Core.Bool.{Bool, true, false, _&&_}
-use mathlib.Core.List.{List, [], _∷_, map}
-use lib.Dec.{eqb}
-use lib.ListN.{length}
-use Rattle.machine.specs.Lists.{bit, anyOf}
-use Rattle.machine.specs.Rules.{inForce}
-use Rattle.machine.specs.Term.{Term, constant, entriesOf, contentOf, clockTerm, value, comparison, bracket, nothing, plus, minus, less, equal}
-use Rattle.machine.specs.Block.{generate, advance, terminate, seize, release, enter, leave, waitServer, waitTerms, split, arrive, depart, assemble, preempt, giveBack, U, NE, BlockModel}
-use Rattle.machine.specs.Trace.{Record}
-use Rattle.machine.specs.State.{State}
-use Rattle.machine.specs.Run.{run}
-use Rattle.machine.specs.Outcome.{recordsOf}
-use Rattle.machine.specs.Bundle.{everything}
+use Rattle.machine.specs.All.{ℕ, _≡_, refl, Bool, true, false, _&&_, List, [], _∷_, map, eqb, length, bit, anyOf, inForce, Term, constant, entriesOf, contentOf, clockTerm, value, comparison, bracket, nothing, plus, minus, less, equal, generate, advance, terminate, seize, release, enter, leave, waitServer, waitTerms, split, arrive, depart, assemble, preempt, giveBack, U, NE, BlockModel, Record, State, run, recordsOf, everything}
 use Rattle.joined.specs.Join.{first, second, joinModels, joinTapes, serverIn, termIn, sumIn, shareIn, conditionIn, blockIn}
 use Rattle.joined.specs.Parts.{recordsIn, rank, byRank, partOf}
 

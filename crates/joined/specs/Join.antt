@@ -1,13 +1,7 @@
 -- Document 02, item 13: "Join two accepted models of one edition: the second's servers, queues, values, lists and blocks are numbered on after
 -- the first's, counters are added, tapes are laid end to end."
-use Prim.Native.Nat.{ℕ, _+_}
-use mathlib.Core.Bool.{Bool, cond, _&&_}
-use mathlib.Core.List.{List, _++_, map}
-use lib.Dec.{leb, eqb}
-use lib.ListN.{length}
+use Rattle.machine.specs.All.{ℕ, _+_, Bool, cond, _&&_, List, _++_, map, leb, eqb, length, Term, constant, minusConstant, parameter, clockTerm, entriesOf, contentOf, unitsInUse, unitsFree, facilityInUse, value, comparison, bracket, Sum, nothing, plus, minus, Condition, always, whenTrue, Share, facility, storage, Block, generate, advance, terminate, takes, frees, waitServer, waitTerms, moves, assign, priority, split, counts, assemble, preempt, giveBack, BlockModel}
 use Rattle.machine.specs.Limits as Limits
-use Rattle.machine.specs.Term.{Term, constant, minusConstant, parameter, clockTerm, entriesOf, contentOf, unitsInUse, unitsFree, facilityInUse, value, comparison, bracket, Sum, nothing, plus, minus, Condition, always, whenTrue}
-use Rattle.machine.specs.Block.{Share, facility, storage, Block, generate, advance, terminate, takes, frees, waitServer, waitTerms, moves, assign, priority, split, counts, assemble, preempt, giveBack, BlockModel}
 
 -- ---- "numbered on"
 

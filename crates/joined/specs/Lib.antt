@@ -1,3 +1,5 @@
 pub mod Join
 pub mod Parts
 pub mod Examples
+unfoldable pub use Join.*
+unfoldable pub use Parts.*

@@ -1,20 +1,7 @@
 -- Document 02, item 13: "If neither model uses the clock term, under edition 2 both or neither have an ENTER or LEAVE of more than 1 unit, and the
 -- joined run and each run alone end dry, then the records of either part, with blocks numbered as before and transactions by rank within the
 -- part, are those of that part alone." Proved in ../proofs/Parts.antt.
-use Prim.Native.Nat.{ℕ, _+_, _-_}
-use mathlib.Core.Path.{_≡_}
-use mathlib.Core.Bool.{Bool, true, false, _&&_, _||_}
-use mathlib.Core.List.{List, map}
-use lib.Dec.{leb, ltb, eqb}
-use lib.ListN.{length}
-use Rattle.machine.specs.Lists.{those, anyOf, bit, upTo}
-use Rattle.machine.specs.Rules.{Rules}
-use Rattle.machine.specs.Term.{Term, constant, minusConstant, parameter, clockTerm, entriesOf, contentOf, unitsInUse, unitsFree, facilityInUse, value, comparison, bracket, Sum, nothing, plus, minus}
-use Rattle.machine.specs.Block.{facts, aboveOne, BlockModel}
-use Rattle.machine.specs.Trace.{Record}
-use Rattle.machine.specs.Run.{run}
-use Rattle.machine.specs.Validate.{accept, validate}
-use Rattle.machine.specs.Outcome.{recordsOf}
+use Rattle.machine.specs.All.{ℕ, _+_, _-_, _≡_, Bool, true, false, _&&_, _||_, List, map, leb, ltb, eqb, length, those, anyOf, bit, upTo, Rules, Term, constant, minusConstant, parameter, clockTerm, entriesOf, contentOf, unitsInUse, unitsFree, facilityInUse, value, comparison, bracket, Sum, nothing, plus, minus, facts, aboveOne, BlockModel, Record, run, accept, validate, recordsOf}
 use Rattle.joined.specs.Join.{Part, first, second, joinModels, joinTapes, joinable}
 
 -- ---- "uses the clock term"

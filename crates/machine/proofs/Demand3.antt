@@ -3,16 +3,7 @@
 -- to move or the run ended dry and equal waits end in the order in which they began, each facility in use has a holder, whoever enters a
 -- kind 17 block entered its whole group at that clock, and at an ASSEMBLE one of a family waits while not all have come. The states are those
 -- of the run that gives the outcome, and the run keeps to its bounds.
-use Prim.Native.Nat.{ℕ}
-use mathlib.Core.Path.{_≡_}
-use mathlib.Core.List.{List, reverse}
-use Rattle.machine.specs.Term.{serverAt}
-use Rattle.machine.specs.Block.{BlockModel}
-use Rattle.machine.specs.State.{State}
-use Rattle.machine.specs.Rules.{Rules}
-use Rattle.machine.specs.Validate.{accept, validate}
-use Rattle.machine.specs.Run.{states}
-use Rattle.machine.specs.Claims.{InOrder, Keeps, Demand3, Proved}
+use Rattle.machine.specs.All.{ℕ, _≡_, List, reverse, serverAt, BlockModel, State, Rules, accept, validate, states, InOrder, Keeps, Demand3, Proved}
 use Rattle.machine.proofs.decoding.Proper.{Proper}
 use Rattle.machine.proofs.decoding.ProperFrom.{proper-from}
 use Rattle.machine.proofs.runs.RunLaws.{each-map, each-pair, each-under, last}
@@ -59,11 +50,11 @@ module _ {m : BlockModel} {tape : List (List ℕ)} (proper : Proper m tape) (bud
   pub keeps-all : Demand3 m tape budget room
   keeps-all =
       each-map (keeps m tape) all
-      (each-pair (λ s. Conserved m tape s × Waited m s) (λ s. Ordered m tape s × (Holding m tape s × (Gathered m tape s × Assembled m tape s))) all
-      (each-pair (Conserved m tape) (Waited m) all (conserved m tape budget room proper) (waited proper budget room))
-      (each-pair (Ordered m tape) (λ s. Holding m tape s × (Gathered m tape s × Assembled m tape s)) all (each-under (λ s. InOrder m tape (reverse (s .records))) all (λ first. in-order proper first budget room))
-      (each-pair (Holding m tape) (λ s. Gathered m tape s × Assembled m tape s) all (holding m tape budget room proper)
-      (each-pair (Gathered m tape) (Assembled m tape) all (joined-waits proper budget room) (assembled proper budget room)))))
+      (each-pair (λ s. Conserved m tape s × Waited m s) (λ s. Ordered m tape s × _) all
+      (each-pair _ _ all (conserved m tape budget room proper) (waited proper budget room))
+      (each-pair _ (λ s. Holding m tape s × _) all (each-under (λ s. InOrder m tape (reverse (s .records))) all (λ first. in-order proper first budget room))
+      (each-pair _ (λ s. Gathered m tape s × Assembled m tape s) all (holding m tape budget room proper)
+      (each-pair _ _ all (joined-waits proper budget room) (assembled proper budget room)))))
 
 -- From bytes; the only hypothesis is that validation accepts.
 pub demand3 : (rules : Rules) (model tapeBytes : List ℕ) (work report budget room : ℕ) {m : BlockModel} {tape : List (List ℕ)}

@@ -1,10 +1,6 @@
 -- Blocks, "Kind and operands as stored", and the model that holds them. Server operands are server numbers: a facility's own
 -- number, and for a storage its number after all facilities (Term.antt, `Server`).
-use Prim.Native.Nat.{ℕ, suc, _+_, _*_, _-_}
-use mathlib.Core.Bool.{Bool, true, false, not}
-use mathlib.Core.List.{List, [], _∷_}
-use mathlib.Core.Option.{some}
-use lib.Dec.{ltb, leb, eqb}
+use Rattle.machine.specs.Basics.{ℕ, suc, _+_, _*_, _-_, Bool, true, false, not, List, [], _∷_, some, ltb, leb, eqb}
 use Rattle.machine.specs.Lists.{nth, bit, upTo}
 use Rattle.machine.specs.Limits.{maxBack}
 use Rattle.machine.specs.Rules.{Rules}

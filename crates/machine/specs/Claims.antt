@@ -1,11 +1,5 @@
 -- "What demand 3 speaks of", word by word, as one claim about the states of a whole run. Proved in ../proofs/Demand3.antt.
-use Prim.Native.Nat.{ℕ, suc, _+_, _*_, _-_, _%_, _≤_, _<_}
-use mathlib.Core.Path.{_≡_}
-use mathlib.Core.Bool.{Bool, true, false, cond, not, _&&_, _||_}
-use mathlib.Core.List.{List, [], _∷_, _++_, map, reverse}
-use mathlib.Core.Option.{Option, none, some}
-use lib.Dec.{ltb, leb, eqb, T}
-use lib.ListN.{length, getD, drop}
+use Rattle.machine.specs.Basics.{ℕ, suc, _+_, _*_, _-_, _%_, _≤_, _<_, _≡_, Bool, true, false, cond, not, _&&_, _||_, List, [], _∷_, _++_, map, reverse, Option, none, some, ltb, leb, eqb, T, length, getD, drop}
 use Rattle.machine.specs.Limits.{maxTurns}
 use Rattle.machine.specs.Transaction.{Transaction, Interrupted}
 use Rattle.machine.specs.Lists.{those, anyOf, flat, nth}

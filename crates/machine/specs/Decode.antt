@@ -1,9 +1,5 @@
 -- Questions 3 to 10, number by number, and the model and tape that are read on the way.
-use Prim.Native.Nat.{ℕ, zero, suc, _+_}
-use mathlib.Core.Bool.{cond}
-use mathlib.Core.List.{List, [], _∷_}
-use lib.Dec.{ltb, leb, eqb}
-use lib.ListN.{length}
+use Rattle.machine.specs.Basics.{ℕ, zero, suc, _+_, cond, List, [], _∷_, ltb, leb, eqb, length}
 use Rattle.machine.specs.Limits as Limits
 use Rattle.machine.specs.Rules.{Rules}
 use Rattle.machine.specs.Lists.{nth}

@@ -1,10 +1,6 @@
 -- Document 02, item 12, by computing: how one comes onto a line under edition 2, whom its LEAVE wakes, and why zero waiters and the order
 -- among equals are claimed for edition 1 alone.
-use Prim.Native.Nat.{ℕ}
-use mathlib.Core.Path.{_≡_, refl}
-use mathlib.Core.Bool.{true}
-use mathlib.Core.List.{List, [], _∷_, map, reverse}
-use lib.ListN.{length, getD}
+use Rattle.machine.specs.Basics.{ℕ, _≡_, refl, true, List, [], _∷_, map, reverse, length, getD}
 use Rattle.machine.specs.Rules.{Rules, item7, document02}
 use Rattle.machine.specs.Transaction.{Transaction, newborn}
 use Rattle.machine.specs.Block.{Block, generate, advance, terminate, enter, leave, BlockModel}

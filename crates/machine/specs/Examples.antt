@@ -1,12 +1,7 @@
 -- The examples of document 01, "Examples", and some of our own, each shown by computing the machine.
 -- `printed` gives what `runmodel` prints, line by line, without the letters.
-use Prim.Native.Nat.{ℕ, suc, _+_}
-use mathlib.Core.Path.{_≡_, refl}
-use mathlib.Core.Bool.{false, true}
-use mathlib.Core.List.{List, [], _∷_, _++_, map}
-use mathlib.Core.Option.{none, some}
+use Rattle.machine.specs.Basics.{ℕ, suc, _≡_, refl, false, true, List, [], _∷_, _++_, map, none, some, length}
 use lib.IntN.{ℤ, pos, negsuc}
-use lib.ListN.{length}
 use Rattle.machine.specs.Rules.{document01}
 use Rattle.machine.specs.Transaction.{Transaction, newborn}
 use Rattle.machine.specs.Lists.{nth}

@@ -1,8 +1,5 @@
 -- Blocks: the questions inside a turn, and what each kind does once they are answered.
-use Prim.Native.Nat.{ℕ, suc, _+_, _-_}
-use mathlib.Core.Bool.{Bool, true, false, cond, not, _&&_, _||_}
-use mathlib.Core.List.{List, [], _∷_}
-use lib.Dec.{ltb, leb, eqb}
+use Rattle.machine.specs.Basics.{ℕ, suc, _+_, _-_, Bool, true, false, cond, not, _&&_, _||_, List, [], _∷_, ltb, leb, eqb}
 use Rattle.machine.specs.Limits.{maxLiving}
 use Rattle.machine.specs.Transaction.{Transaction, Event, Gatherer, Interrupted}
 use Rattle.machine.specs.Lists.{setNth, bit, upTo, anyOf}

@@ -1,9 +1,5 @@
 -- What counts, statistics, questions and lists ask of a block, whatever else it does: 0, false and none where there is none.
-use Prim.Native.Nat.{ℕ}
-use mathlib.Core.Bool.{Bool, false, not}
-use mathlib.Core.List.{List, []}
-use mathlib.Core.Option.{Option, none}
-use lib.Dec.{eqb}
+use Rattle.machine.specs.Basics.{ℕ, Bool, false, not, List, [], Option, none, eqb}
 use Rattle.machine.specs.Term.{Term, Condition}
 
 pub record Facts : Type 0 where

@@ -1,8 +1,5 @@
 -- Document 02, item 8, by computing: families that gather, and what validation refuses.
-use Prim.Native.Nat.{ℕ, _+_}
-use mathlib.Core.Path.{_≡_, refl}
-use mathlib.Core.List.{List, [], _∷_, _++_, map, reverse}
-use lib.ListN.{length}
+use Rattle.machine.specs.Basics.{ℕ, _+_, _≡_, refl, List, [], _∷_, _++_, map, reverse, length}
 use Rattle.machine.specs.Lists.{flat}
 use Rattle.machine.specs.Rules.{Rules, item7, document02}
 use Rattle.machine.specs.Block.{Block, generate, advance, terminate, seize, split, assemble, BlockModel}

@@ -1,8 +1,5 @@
 -- Document 02, item 6, by computing: ends 27 and 28, what is asked before them, and the runs without the two questions.
-use Prim.Native.Nat.{ℕ}
-use mathlib.Core.Path.{_≡_, refl}
-use mathlib.Core.Bool.{Bool}
-use mathlib.Core.List.{List, [], _∷_, _++_, map, reverse}
+use Rattle.machine.specs.Basics.{ℕ, _≡_, refl, Bool, List, [], _∷_, _++_, map, reverse}
 use Rattle.machine.specs.Lists.{bit}
 use Rattle.machine.specs.Rules.{Rules, document01, document02}
 use Rattle.machine.specs.Term.{serverAt}

@@ -1,9 +1,5 @@
 -- Document 02, item 7, by computing: ships that leave only when storm and tug allow it at the same clock, and what validation refuses.
-use Prim.Native.Nat.{ℕ, _+_}
-use mathlib.Core.Path.{_≡_, refl}
-use mathlib.Core.List.{List, [], _∷_, _++_, map, reverse}
-use lib.Dec.{leb}
-use lib.ListN.{length}
+use Rattle.machine.specs.Basics.{ℕ, _+_, _≡_, refl, List, [], _∷_, _++_, map, reverse, leb, length}
 use Rattle.machine.specs.Lists.{those, flat}
 use Rattle.machine.specs.Rules.{Rules, item6, document02}
 use Rattle.machine.specs.Block.{U, F, Block, generate, advance, terminate, seize, release, enter, leave, waitServer, BlockModel}

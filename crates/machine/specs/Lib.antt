@@ -1,3 +1,4 @@
+pub mod Basics
 pub mod Limits
 pub mod Rules
 pub mod Number
@@ -32,3 +33,4 @@ pub mod JoinedExamples
 pub mod GatherExamples
 pub mod EditionExamples
 pub mod PreemptExamples
+pub mod All

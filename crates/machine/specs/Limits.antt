@@ -1,7 +1,7 @@
 -- The limits of document 01, each by a name; where document 02, item 1, raises one, the raised one stands here and document 01's in
 -- Rules. "These limits are named constants of the model": `Model` of src/ has those of the model as associated constants, and a
 -- contract equates each with the one here.
-use Prim.Native.Nat.{ℕ}
+use Rattle.machine.specs.Basics.{ℕ}
 
 -- ---- Bytes, "Model: edition (1); facilities 0..32; .." and "Tape: for each list a count .."
 

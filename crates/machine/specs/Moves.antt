@@ -1,10 +1,5 @@
 -- Lists: how transactions get a serial, come onto a list and leave it, and what a record notes.
-use Prim.Native.Nat.{ℕ, zero, suc, _+_, _-_}
-use mathlib.Core.Bool.{Bool, true, false, cond, not, _&&_}
-use mathlib.Core.List.{List, [], _∷_, reverse}
-use mathlib.Core.Option.{some}
-use lib.Dec.{ltb, leb, eqb}
-use lib.ListN.{length, getD, set, take, drop}
+use Rattle.machine.specs.Basics.{ℕ, zero, suc, _+_, _-_, Bool, true, false, cond, not, _&&_, List, [], _∷_, reverse, some, ltb, leb, eqb, length, getD, set, take, drop}
 use Rattle.machine.specs.Transaction.{Transaction, Event, Gatherer, Interrupted, precedes, earlier, newborn}
 use Rattle.machine.specs.Lists.{insert, those, others, replaceFirst, nth, setNth}
 use Rattle.machine.specs.Term.{Server, serverAt, queueAt}

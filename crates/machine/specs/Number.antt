@@ -1,10 +1,6 @@
 -- Bytes, "A number is groups of seven bits, highest first, top bit set on all bytes but the last, shortest form, at most
 -- 5 bytes and 4,294,967,295 (report: 9 bytes)."
-use Prim.Native.Nat.{ℕ, zero, suc, _+_, _*_, _-_, _/_, _%_}
-use mathlib.Core.Bool.{Bool, false, cond}
-use mathlib.Core.List.{List, [], _∷_, _++_}
-use mathlib.Core.Option.{Option, none, some}
-use lib.Dec.{ltb, leb, eqb}
+use Rattle.machine.specs.Basics.{ℕ, zero, suc, _+_, _*_, _-_, _/_, _%_, Bool, false, cond, List, [], _∷_, _++_, Option, none, some, ltb, leb, eqb}
 
 -- ---- Written
 

@@ -1,8 +1,6 @@
 -- Document 02, items 7, 8 and 11, add kinds of blocks and item 12 an edition: every run of a model that is accepted without them stays as it was.
 -- Proved in ../proofs/OlderModels.antt, for any setting of the other rules.
-use Prim.Native.Nat.{ℕ, _≤_}
-use mathlib.Core.Path.{_≡_}
-use mathlib.Core.List.{List}
+use Rattle.machine.specs.Basics.{ℕ, _≤_, _≡_, List}
 use Rattle.machine.specs.Rules.{Rules}
 use Rattle.machine.specs.Outcome.{outcome}
 

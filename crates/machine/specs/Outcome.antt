@@ -1,6 +1,5 @@
 -- Questions, "A run returns refusal (0 for none), end, clock, turns, made, ended, bytes of trace and of report."
-use Prim.Native.Nat.{ℕ}
-use mathlib.Core.List.{List, [], map, reverse}
+use Rattle.machine.specs.Basics.{ℕ, List, [], map, reverse}
 use Rattle.machine.specs.Rules.{Rules}
 use Rattle.machine.specs.Block.{BlockModel}
 use Rattle.machine.specs.Trace.{Record, traceBytes}

@@ -1,11 +1,6 @@
 -- Reading number by number: "whole, shortest, in size?", then "within its field's range?", each asked before the next
 -- number is read. The byte list is fixed and a cursor is passed along, so the order of refusals is the order of the text.
-use Prim.Native.Nat.{ℕ, zero, suc, _+_}
-use mathlib.Core.Bool.{Bool, true, false, cond, _&&_}
-use mathlib.Core.List.{List, [], _∷_}
-use mathlib.Core.Option.{Option, none, some}
-use lib.Dec.{leb}
-use lib.ListN.{drop}
+use Rattle.machine.specs.Basics.{ℕ, zero, suc, _+_, Bool, true, false, cond, _&&_, List, [], _∷_, Option, none, some, leb, drop}
 use Rattle.machine.specs.Limits as Limits
 use Rattle.machine.specs.Number.{Number, readNumber}
 

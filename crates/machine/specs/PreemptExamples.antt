@@ -1,10 +1,6 @@
 -- Document 02, item 11, by computing: a crane that is taken over and given back, who waits, what is asked, and why the order among equals
 -- speaks only of facilities that no PREEMPT names.
-use Prim.Native.Nat.{ℕ}
-use mathlib.Core.Path.{_≡_, refl}
-use mathlib.Core.Bool.{Bool, true, false}
-use mathlib.Core.List.{List, [], _∷_, _++_, map, reverse}
-use lib.ListN.{getD, take}
+use Rattle.machine.specs.Basics.{ℕ, _≡_, refl, true, false, List, [], _∷_, _++_, map, reverse, getD, take}
 use Rattle.machine.specs.Lists.{bit}
 use Rattle.machine.specs.Rules.{Rules, item8, item11, document02}
 use Rattle.machine.specs.Term.{constant, entriesOf, less}

@@ -1,11 +1,6 @@
 -- Bytes, "Report: clock, made, ended; per facility and storage: ..; per queue: ..; the living count and, per living one,
 -- number and place". Document 02, item 2: "List the living by rising transaction number."
-use Prim.Native.Nat.{ℕ, suc, _+_}
-use mathlib.Core.Bool.{Bool, _&&_}
-use mathlib.Core.List.{List, [], _∷_, _++_, map}
-use mathlib.Core.Option.{Option, none, some}
-use lib.Dec.{ltb, eqb}
-use lib.ListN.{length}
+use Rattle.machine.specs.Basics.{ℕ, suc, Bool, _&&_, List, [], _∷_, _++_, map, Option, none, some, ltb, eqb, length}
 use Rattle.machine.specs.Transaction.{Transaction}
 use Rattle.machine.specs.Lists.{insert, those, flat}
 use Rattle.machine.specs.Term.{Server, Queue}

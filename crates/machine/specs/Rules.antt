@@ -1,7 +1,6 @@
 -- What later papers change of document 01's rules: one record, handed through validation, questions, run and claims. What is
 -- shown of runs is shown for any rules.
-use Prim.Native.Nat.{ℕ}
-use mathlib.Core.Bool.{Bool, true, false}
+use Rattle.machine.specs.Basics.{ℕ, Bool, true, false}
 use Rattle.machine.specs.Limits as Limits
 
 pub record Rules : Type 0 where

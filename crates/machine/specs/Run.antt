@@ -1,10 +1,5 @@
 -- A turn: the ends before a turn, the start, and the run, "Each turn gets what the turn before it left".
-use Prim.Native.Nat.{ℕ, zero, suc, _+_, _*_}
-use mathlib.Core.Bool.{Bool, true, false, cond, not, _&&_, _||_}
-use mathlib.Core.List.{List, [], _∷_, map, _++_}
-use mathlib.Core.Option.{Option, none, some}
-use lib.Dec.{ltb, leb, eqb}
-use lib.ListN.{length, replicate}
+use Rattle.machine.specs.Basics.{ℕ, zero, suc, _+_, _*_, Bool, true, false, cond, not, _&&_, _||_, List, [], _∷_, map, _++_, Option, none, some, ltb, leb, eqb, length, replicate}
 use Rattle.machine.specs.Limits.{maxSerial, maxTurns, recordRoom}
 use Rattle.machine.specs.Term.{idleServer, emptyQueue}
 use Rattle.machine.specs.Facts.{Facts, isGenerate}

@@ -1,8 +1,5 @@
 -- One setter for each field that changes; there is no update syntax for records. Nothing here needs reading.
-use Prim.Native.Nat.{ℕ}
-use mathlib.Core.Bool.{Bool}
-use mathlib.Core.List.{List}
-use mathlib.Core.Option.{Option}
+use Rattle.machine.specs.Basics.{ℕ, Bool, List, Option}
 use lib.IntN.{ℤ}
 use Rattle.machine.specs.Transaction.{Transaction, Event, Gatherer, Interrupted}
 use Rattle.machine.specs.Term.{Server, Queue, View}

@@ -1,7 +1,5 @@
 -- The machine's state: what a turn gets from the turn before it.
-use Prim.Native.Nat.{ℕ}
-use mathlib.Core.List.{List}
-use mathlib.Core.Option.{Option}
+use Rattle.machine.specs.Basics.{ℕ, List, Option}
 use Rattle.machine.specs.Transaction.{Transaction, Event, Gatherer, Interrupted}
 use Rattle.machine.specs.Term.{View}
 use Rattle.machine.specs.Trace.{Record}

@@ -1,8 +1,5 @@
 -- Blocks, "Terms are a tag and a number: .." and "A value is a sum: ..", with their evaluation.
-use Prim.Native.Nat.{ℕ, _+_, _-_, _%_}
-use mathlib.Core.Bool.{Bool, true, false, cond, not}
-use mathlib.Core.List.{List, [], _∷_, _++_}
-use lib.Dec.{ltb, eqb}
+use Rattle.machine.specs.Basics.{ℕ, _-_, _%_, Bool, true, false, cond, not, List, [], _∷_, _++_, ltb, eqb}
 use lib.IntN.{ℤ, pos, negsuc, negℤ, _+ℤ_, _-ℤ_}
 use lib.Signed.{ltZ, leZ}
 use Rattle.machine.specs.Lists.{nth}

@@ -1,9 +1,5 @@
 -- Bytes, "Trace record: clock, transaction, block, outcome (0 entered, 1 began to wait)", the trace reader and the record writer.
-use Prim.Native.Nat.{ℕ, _+_}
-use mathlib.Core.Bool.{Bool, cond, _&&_}
-use mathlib.Core.List.{List, [], _∷_, _++_}
-use lib.Dec.{ltb, leb}
-use lib.ListN.{length}
+use Rattle.machine.specs.Basics.{ℕ, Bool, cond, _&&_, List, [], _∷_, _++_, ltb, leb, length}
 use Rattle.machine.specs.Limits.{maxTransaction, maxBlocks}
 use Rattle.machine.specs.Rules.{Rules}
 use Rattle.machine.specs.Number.{numberBytes}

@@ -1,11 +1,7 @@
 -- Lists, "A transaction has a number (from 1, in order of making), a priority 0..127, four signed 32-bit parameters (0 at
 -- first), a next block, a serial and a returning mark." The machine's lists hold transactions; none carries its place.
-use Prim.Native.Nat.{ℕ}
-use mathlib.Core.Bool.{Bool, false, _&&_, _||_}
-use mathlib.Core.List.{List}
-use lib.Dec.{ltb, eqb}
+use Rattle.machine.specs.Basics.{ℕ, Bool, false, _&&_, _||_, List, ltb, eqb, replicate}
 use lib.IntN.{ℤ, pos}
-use lib.ListN.{replicate}
 use Rattle.machine.specs.Limits.{parameterCount}
 
 pub record Transaction : Type 0 where

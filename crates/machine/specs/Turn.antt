@@ -1,11 +1,6 @@
 -- A turn: the taking, with the statistics before a clock move, one block, the WS scheme.
-use Prim.Native.Nat.{ℕ, zero, suc, _+_, _*_, _-_, max}
-use mathlib.Core.Bool.{Bool, false, cond, not}
-use mathlib.Core.List.{List, [], _∷_, map}
-use mathlib.Core.Option.{Option, none, some}
-use lib.Dec.{eqb}
+use Rattle.machine.specs.Basics.{ℕ, zero, suc, _+_, _*_, _-_, max, Bool, false, cond, not, List, [], _∷_, map, Option, none, some, eqb, length}
 use lib.IntN.{ℤ}
-use lib.ListN.{length}
 use Rattle.machine.specs.Transaction.{Transaction, Event}
 use Rattle.machine.specs.Lists.{those, others}
 use Rattle.machine.specs.Term.{Server, Queue, View, Sum, Condition, truth}

@@ -1,9 +1,5 @@
 -- "Questions at the door" in their order, from bytes.
-use Prim.Native.Nat.{ℕ, suc}
-use mathlib.Core.Bool.{Bool, true, cond, not, _&&_, _||_}
-use mathlib.Core.List.{List, [], _∷_}
-use lib.Dec.{leb, eqb}
-use lib.ListN.{length}
+use Rattle.machine.specs.Basics.{ℕ, suc, Bool, true, cond, not, _&&_, _||_, List, [], _∷_, leb, eqb, length}
 use Rattle.machine.specs.Limits.{workNumbers, reportRoom}
 use Rattle.machine.specs.Rules.{Rules}
 use Rattle.machine.specs.Parser.{Cursor, Parser, Parsed, parsed, refused, _>>=_, _>>_, give, ask, times}

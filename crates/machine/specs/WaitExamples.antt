@@ -1,8 +1,5 @@
 -- Demand 3 speaks of something: in accepted examples waits of each kind begin and end, and two equal waits end in their order.
-use Prim.Native.Nat.{ℕ}
-use mathlib.Core.Path.{_≡_, refl}
-use mathlib.Core.List.{List, [], _∷_, reverse}
-use lib.ListN.{length, getD}
+use Rattle.machine.specs.Basics.{ℕ, _≡_, refl, List, [], _∷_, reverse, length, getD}
 use Rattle.machine.specs.Block.{BlockModel}
 use Rattle.machine.specs.State.{Logged}
 use Rattle.machine.specs.Run.{run}

@@ -1,10 +1,7 @@
 -- What comparisons read and what blocks change of it: the things that the WAITIFs of a model name, through values. The rules ask every waiter
 -- after every turn; these definitions serve the law by which an engine need not.
-use Prim.Native.Nat.{ℕ, _-_, _<_}
-use mathlib.Core.List.{List}
-use mathlib.Core.Option.{Option, none, some}
-use lib.ListN.{length, getD}
-use Rattle.machine.specs.Term.{Relation, Term, constant, minusConstant, parameter, clockTerm, entriesOf, contentOf, unitsInUse, unitsFree, facilityInUse, value, comparison, bracket, Sum, nothing, plus, minus, Condition, always, whenTrue}
+use Rattle.machine.specs.Basics.{ℕ, _-_, _<_, List, Option, none, some, length, getD}
+use Rattle.machine.specs.Term.{Term, constant, minusConstant, parameter, clockTerm, entriesOf, contentOf, unitsInUse, unitsFree, facilityInUse, value, comparison, bracket, Sum, nothing, plus, minus, Condition, always, whenTrue}
 use Rattle.machine.specs.Block.{shareServer, Block, generate, advance, terminate, takes, frees, waitServer, waitTerms, moves, assign, priority, split, counts, assemble, preempt, giveBack, facts, BlockModel, blockAt}
 
 -- The parameters, the clock, and by their number from 0 on: entries of a block, a queue, a server, a value.

@@ -1,8 +1,5 @@
 -- Document 02, item 1, by computing: clocks, clock terms and numbers at their limits, under the rules of both papers.
-use Prim.Native.Nat.{ℕ}
-use mathlib.Core.Path.{_≡_, refl}
-use mathlib.Core.List.{List, [], _∷_}
-use mathlib.Core.Option.{some}
+use Rattle.machine.specs.Basics.{ℕ, _≡_, refl, List, [], _∷_, some}
 use lib.IntN.{ℤ, pos, negsuc}
 use Rattle.machine.specs.Rules.{Rules, document01, document02}
 use Rattle.machine.specs.Transaction.{newborn}

@@ -1,27 +1,14 @@
 -- What holds before any block: where the transaction stands, the numbers of its block, and a question that stops the turn.
-use Prim.Native.Nat.{ℕ, zero, suc, _+_, _-_, _≤_, _<_}
-use mathlib.Core.Path.{_≡_, refl, sym, subst}
-use mathlib.Core.Bool.{cond}
-use mathlib.Core.List.{List}
-use mathlib.Core.Option.{Option, none}
-use native.Mathlib.Omega.{arith}
-use borrow.Author.Tests.{ne-eqb}
-use lib.Dec.{eqb}
-use lib.ListN.{length, getD}
-use Rattle.machine.specs.Transaction.{Transaction}
-use Rattle.machine.specs.Block.{Block, BlockModel}
-use Rattle.machine.specs.State.{State}
-use Rattle.machine.specs.Setters.{setMoving, setEnd}
+use Rattle.machine.specs.All.{ℕ, zero, suc, _+_, _-_, _≤_, _<_, _≡_, refl, sym, subst, cond, List, Option, none, arith, ne-eqb, eqb, length, getD, Transaction, Block, BlockModel, State, setMoving, setEnd}
 use Rattle.machine.proofs.decoding.Proper.{Names, ProperBlock}
 use Rattle.machine.proofs.runs.Placed.{Placed}
 use Rattle.machine.proofs.runs.Everybody.{Maybe}
-use Rattle.tables.specs.Numbers.{blockNumbers}
+use Rattle.tables.specs.All.{blockNumbers}
 use Rattle.tables.proofs.Operands as Operands
 use Rattle.state.specs.declared.scalars.Scalars.{Scalars}
-use Rattle.state.specs.Bare.{bare, bareAnswer}
-use Rattle.state.specs.Stands.{Rows, rowsOf, Stands, noteOf, Done}
-use Rattle.moves.specs.Before.{placeOf, Before}
-use Rattle.moves.specs.Motion.{Moved, moved, withTally, stopped}
+use Rattle.state.specs.All.{bare, bareAnswer, Rows, rowsOf, Stands, noteOf, Done}
+use Rattle.moves.specs.{placeOf, Moved, moved, withTally, stopped}
+use Rattle.moves.specs.Before.{Before}
 
 module _ {m : BlockModel} {tape : List (List ℕ)} {tapeBytes tables lists w tally : List ℕ} {x : Scalars} {t : Transaction} {s : State} {b : Block}
     (h : Before m tape tapeBytes tables lists w tally x t s b) where

@@ -1,35 +1,17 @@
 -- The moving transaction goes on, or comes to wait, as the machine's does.
-use Prim.Native.Nat.{ℕ, suc, _+_, _*_, _/_, _%_, _-_, _<_}
-use mathlib.Core.Path.{_≡_, refl, sym, ap, _∙_, subst}
-use mathlib.Core.Bool.{Bool, true, false, cond}
-use mathlib.Core.List.{List, []}
-use mathlib.Core.Option.{Option, none, some}
-use native.Mathlib.Omega.{arith}
-use lib.Dec.{eqb}
-use lib.ListN.{length, getD}
-use Rattle.machine.specs.Transaction.{Transaction, Event, precedes}
-use Rattle.machine.specs.Lists.{insert}
-use Rattle.machine.specs.Block.{Code, welIndex}
-use Rattle.machine.specs.State.{State}
-use Rattle.machine.specs.Setters.{withNext, withSerial, withReturning, setSerial, setQl, setWel, setWsl}
+use Rattle.machine.specs.All.{ℕ, suc, _+_, _*_, _/_, _%_, _-_, _<_, _≡_, refl, sym, ap, _∙_, subst, Bool, true, false, cond, List, [], Option, none, some, arith, eqb, length, getD, Transaction, Event, precedes, insert, Code, welIndex, State, withNext, withSerial, withReturning, setSerial, setQl, setWel, setWsl}
 use Rattle.machine.specs.Moves as Moves
 use Rattle.machine.proofs.lists.Sorted as Machine
-use Rattle.rows_laws.specs.Layout.{wsl}
-use Rattle.rows_laws.specs.Cells.{read, write}
-use Rattle.rows_laws.specs.Lines.{lineUp}
-use Rattle.rows_laws.specs.Ordered.{Sorted}
-use Rattle.rows_laws.specs.Shows.{orderOf}
-use Rattle.rows_laws.specs.Holds.{transactionAt, update}
+use Rattle.rows_laws.specs.All.{wsl, read, write, lineUp, Sorted, orderOf, transactionAt, update}
 use Rattle.rows_laws.proofs.Insertion.{insert-sorted}
 use Rattle.rows_laws.proofs.Orders.{precedes-order}
 use Rattle.rows_laws.proofs.Ordering.{sorted-of, sorted-line}
 use Rattle.rows_laws.proofs.Fields.{write-next, write-serial, set-returning}
 use Rattle.state.specs.declared.scalars.Scalars.{Scalars}
-use Rattle.state.specs.Stands.{rowsOf, listsIn, listsOf, Listed, Listing, Tallying, Counting, Stands, noteOf, Done}
-use Rattle.state.specs.Bare.{waitsNote, noNote, entering, goingBack, waiting}
+use Rattle.state.specs.All.{rowsOf, listsIn, listsOf, Listed, Listing, Tallying, Counting, Stands, noteOf, Done, waitsNote, noNote, entering, goingBack, waiting}
 use Rattle.state.proofs.ListsOf.{lists-ql, lists-wel, lists-set-ql, lists-set-wel, lists-set-wsl}
 use Rattle.state.proofs.StandsLaws.{listing-write, listing-line, renumber, stands-of}
-use Rattle.moves.specs.Motion.{Moved, moved, withTally, next32, goTo, goOn, goBack, putBack, beginWait, waitOn}
+use Rattle.moves.specs.{Moved, moved, withTally, next32, goTo, goOn, goBack, putBack, beginWait, waitOn}
 
 pub next32-suc : (n : ℕ) → n < 4294967295 → next32 n ≡ suc n
 next32-suc n h = omega arith

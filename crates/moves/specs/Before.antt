@@ -1,21 +1,11 @@
 -- What holds before a block. The law of every kind takes this one argument, and says that its row definition leaves what the machine's block
 -- does (`KIND-done`, `kindRows`).
-use Prim.Native.Nat.{ℕ, _*_, _-_}
-use mathlib.Core.Path.{_≡_}
-use mathlib.Core.List.{List}
-use mathlib.Core.Option.{some}
-use Rattle.machine.specs.Transaction.{Transaction}
-use Rattle.machine.specs.Block.{Block, BlockModel, blockAt}
-use Rattle.machine.specs.State.{State}
-use Rattle.machine.specs.Execute.{question}
+use Rattle.machine.specs.All.{ℕ, _*_, _-_, _≡_, List, some, Transaction, Block, BlockModel, blockAt, State, question}
 use Rattle.machine.proofs.decoding.Proper.{Proper}
-use Rattle.tables.specs.Layout.{blockWidth}
-use Rattle.tables.specs.Represents.{Represents}
+use Rattle.tables.specs.All.{blockWidth, Represents}
 use Rattle.terms.specs.Nested.{Nested}
 use Rattle.state.specs.declared.scalars.Scalars.{Scalars}
-use Rattle.state.specs.Bare.{Bare, bareAnswer}
-use Rattle.state.specs.Sane.{Sane}
-use Rattle.state.specs.Stands.{Listing, Tallying, Counting}
+use Rattle.state.specs.All.{Bare, bareAnswer, Sane, Listing, Tallying, Counting}
 
 -- where the block of t stands in the tables
 abbrev pub placeOf : Transaction → ℕ

@@ -1,15 +1,9 @@
 -- The row machine: how the moving transaction goes on or comes to wait.
-use Prim.Native.Nat.{ℕ, _+_, _-_, _%_, min}
-use mathlib.Core.Bool.{cond}
-use mathlib.Core.List.{List}
-use lib.Dec.{eqb}
-use Rattle.tables.specs.Layout.{most32}
-use Rattle.rows_laws.specs.Layout.{standingField, nextField, serialField, rowCount}
-use Rattle.rows_laws.specs.Cells.{read, write, setReturning}
-use Rattle.rows_laws.specs.Lines.{lineUp}
+use Rattle.machine.specs.All.{ℕ, _+_, _-_, _%_, min, cond, List, eqb}
+use Rattle.tables.specs.All.{most32}
+use Rattle.rows_laws.specs.All.{standingField, nextField, serialField, rowCount, read, write, setReturning, lineUp}
 use Rattle.state.specs.declared.scalars.Scalars.{Scalars}
-use Rattle.state.specs.ScalarSetters.{putMoving, putSerial, putEnd, putNote}
-use Rattle.state.specs.Stands.{Rows, rowsOf}
+use Rattle.state.specs.All.{putMoving, putSerial, putEnd, putNote, Rows, rowsOf}
 
 -- the scalars and the work buffer
 pub record Moved : Type 0 where

@@ -16,9 +16,8 @@ use state::WAITS;
 use state::by_fields;
 use state::less32;
 use state::plus32;
-ghost use mathlib.Core.Path.{_≡_};
-ghost use Prim.Native.Nat.{_<_, _≤_};
-ghost use Rattle.rows_laws.specs.Layout.{Room, listCount, rowCount};
+ghost use Rattle.machine.specs.All.{_≡_, _<_, _≤_};
+ghost use Rattle.rows_laws.specs.All.{Room, listCount, rowCount};
 ghost use Rattle.moves.specs.Motion.{moved, withOutcome, goTo, goOn, goBack, beginWait, waitOn, stopped};
 
 // The WSL and the lists of gatherers are in the order of edition 1 under either edition.

@@ -30,12 +30,11 @@ use state::Scalars;
 use state::less64;
 use state::plus64;
 use tables::FIRST;
-ghost use mathlib.Core.Path.{_≡_};
-ghost use Prim.Native.Nat.{_<_};
-ghost use Rattle.tables.specs.Layout.{programSize, serverCount};
-ghost use Rattle.rows_laws.specs.Layout.{Room, rowCount};
+ghost use Rattle.machine.specs.All.{_≡_, _<_};
+ghost use Rattle.tables.specs.All.{programSize, serverCount};
+ghost use Rattle.rows_laws.specs.All.{Room, rowCount};
 ghost use Rattle.moves.specs.Motion.{moved};
-ghost use Rattle.state.specs.Stands.{rowsOf};
+ghost use Rattle.state.specs.All.{rowsOf};
 ghost use Rattle.preempt_laws.specs.Preempting.{seized, interruptOn, takeOver, preemptSeized, preemptRows, askResume, askGiveBack, resumeOn, resumeRows, giveBackNow, giveBackRows};
 
 // In use, and not by PREEMPT.

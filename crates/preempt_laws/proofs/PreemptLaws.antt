@@ -1,36 +1,13 @@
 -- 19 PREEMPT and 20 RETURN do to the rows what the machine does to its state (document 02, item 11).
-use Prim.Native.Nat.{ℕ, suc, _+_, _-_, _≤_, _<_, min}
-use mathlib.Core.Path.{_≡_, refl, sym, ap, _∙_, subst}
-use mathlib.Core.Logic.{_≢_}
-use mathlib.Core.Bool.{Bool, true, false, cond, not, _&&_}
-use mathlib.Core.List.{List, [], _∷_, _++_, map, map-append}
-use mathlib.Core.Option.{none}
-use native.Mathlib.Omega.{arith}
-use borrow.Author.Tests.{lt-ltb, le-ltb, leb-true, leb-false, eq-eqb, ne-eqb, eqb-true}
-use lib.Dec.{ltb, leb, eqb}
-use lib.ListN.{length, getD, drop}
-use Rattle.machine.specs.Transaction.{Transaction, Event, Interrupted, precedes, earlier}
-use Rattle.machine.specs.Lists.{insert, those, replaceFirst, bit}
-use Rattle.machine.specs.Term.{Server}
+use Rattle.machine.specs.All.{ℕ, suc, _+_, _-_, _≤_, _<_, min, _≡_, refl, sym, ap, _∙_, subst, _≢_, Bool, true, false, cond, not, _&&_, List, [], _∷_, _++_, map, map-append, none, arith, lt-ltb, le-ltb, leb-true, leb-false, eq-eqb, ne-eqb, eqb-true, ltb, leb, eqb, length, getD, drop, Transaction, Event, Interrupted, precedes, earlier, insert, those, replaceFirst, bit, Server, Block, facility, shareServer, shareUnits, shareHolder, preempt, giveBack, BlockModel, State, withSerial, withStamp, setMoving, toFel, ofFacility, interruptedAt, losesTo, losersTo, interrupt, resume, setHolder, unless, question, askGivesBack, preempting, givesBack, wakeFor, partFor, Each}
 use Rattle.machine.specs.Term
-use Rattle.machine.specs.Block.{Block, facility, shareServer, shareUnits, shareHolder, preempt, giveBack, BlockModel}
-use Rattle.machine.specs.State.{State}
-use Rattle.machine.specs.Setters.{withSerial, withStamp, setMoving}
-use Rattle.machine.specs.Moves.{toFel, ofFacility, interruptedAt, losesTo, losersTo, interrupt, resume, setHolder}
 use Rattle.machine.specs.Moves as Moves
-use Rattle.machine.specs.Execute.{unless, question, askGivesBack, preempting, givesBack, wakeFor, partFor}
 use Rattle.machine.specs.Execute as Execute
-use Rattle.machine.specs.Claims.{Each}
 use Rattle.machine.proofs.decoding.Proper.{Names, servers}
 use Rattle.machine.proofs.lists.Sorted.{each-those}
 use Rattle.machine.proofs.lists.Chosen.{those-insert, those-one, those-else, those-replaced}
-use Rattle.tables.specs.Forms.{blockForms}
-use Rattle.rows_laws.specs.Layout.{fel, holderCell}
-use Rattle.rows_laws.specs.Cells.{load, read, write, priorityOf, timeOf, setTime}
-use Rattle.rows_laws.specs.Lists.{put, first, takeFirst}
-use Rattle.rows_laws.specs.Future.{schedule, cancel, loses, findLoser}
-use Rattle.rows_laws.specs.Holds.{transactionAt, eventAt, update}
-use Rattle.rows_laws.specs.Ordered.{All, Sorted}
+use Rattle.tables.specs.All.{blockForms}
+use Rattle.rows_laws.specs.All.{fel, holderCell, load, read, write, priorityOf, timeOf, setTime, put, first, takeFirst, schedule, cancel, loses, findLoser, transactionAt, eventAt, update, All, Sorted}
 use Rattle.rows_laws.proofs.Data.{transaction-kept}
 use Rattle.rows_laws.proofs.Fields.{write-serial, write-stamp, write-time}
 use Rattle.rows_laws.proofs.Making.{Written, written, written-trans, time-written}
@@ -41,10 +18,7 @@ use Rattle.rows_laws.proofs.Later.{rows-strict}
 use Rattle.rows_laws.proofs.Interrupting.{Loser, nobody, somebody, find-of, loses-is, taken-later, interrupt-shows, resume-shows}
 use Rattle.rows_laws.proofs.Laws.{Wakes, Takes, fresh-given, head-shows, take-shows}
 use Rattle.state.specs.declared.scalars.Scalars.{Scalars}
-use Rattle.state.specs.ScalarSetters.{putSerial}
-use Rattle.state.specs.Statistics.{updateServer}
-use Rattle.state.specs.Stands.{interruptedRow, listsIn, listsOf, Done}
-use Rattle.state.specs.Bare.{Bare, entering, goingBack, beginning, waiting, bare, bareAnswer}
+use Rattle.state.specs.All.{putSerial, updateServer, interruptedRow, listsIn, listsOf, Done, Bare, entering, goingBack, beginning, waiting, bare, bareAnswer}
 use Rattle.state.proofs.Alone.{alone}
 use Rattle.state.proofs.ListsOf.{lists-interrupted, lists-set-interrupted}
 use Rattle.state.proofs.StandsLaws.{listing-steady, renumber}
@@ -59,7 +33,7 @@ use Rattle.flow_laws.proofs.Kin.{those-none, those-first, replaced}
 use Rattle.servers_laws.specs.Units.{inUse, setUse}
 use Rattle.servers_laws.specs.Taking.{holdUnits, takeUnits}
 use Rattle.servers_laws.specs.Freeing.{freeOne}
-use Rattle.preempt_laws.specs.Preempting.{seized, interruptOn, takeOver, preemptSeized, preemptRows, askResume, askGiveBack, resumeOn, resumeRows, giveBackNow, giveBackRows}
+use Rattle.preempt_laws.specs.{seized, interruptOn, takeOver, preemptSeized, preemptRows, askResume, askGiveBack, resumeOn, resumeRows, giveBackNow, giveBackRows}
 use Rattle.servers_laws.proofs.Named.{named}
 use Rattle.servers_laws.proofs.Ready.{Ready, as-ready, update-ready, update-current, set-ready, keep-ready, ready-done}
 use Rattle.servers_laws.proofs.Standing.{high, units-are, holder-is, preempted-is, capacity-is, ready}

@@ -1,1 +1,2 @@
 pub mod Preempting
+unfoldable pub use Preempting.*

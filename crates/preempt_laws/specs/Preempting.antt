@@ -1,15 +1,9 @@
 -- The row machine: 19 PREEMPT and 20 RETURN (document 02, item 11). The one from whom a facility was taken stands on the facility's list of
 -- interrupted ones, with its remaining ticks in the place of its move time.
-use Prim.Native.Nat.{ℕ, _+_, _-_}
-use mathlib.Core.Bool.{Bool, false, cond}
-use mathlib.Core.List.{List}
-use lib.Dec.{ltb, eqb}
-use Rattle.rows_laws.specs.Layout.{numberField, interrupted, rowCount}
-use Rattle.rows_laws.specs.Cells.{read, priorityOf, timeOf, setTime}
-use Rattle.rows_laws.specs.Lists.{put, first, takeFirst}
-use Rattle.rows_laws.specs.Future.{cancel, findLoser}
+use Rattle.machine.specs.All.{ℕ, _+_, _-_, Bool, false, cond, List, ltb, eqb}
+use Rattle.rows_laws.specs.All.{numberField, interrupted, rowCount, read, priorityOf, timeOf, setTime, put, first, takeFirst, cancel, findLoser}
 use Rattle.state.specs.declared.scalars.Scalars.{Scalars}
-use Rattle.state.specs.Stands.{Rows, rowsOf}
+use Rattle.state.specs.All.{Rows, rowsOf}
 use Rattle.moves.specs.Motion.{Moved, stopped}
 use Rattle.flow_laws.specs.Sending.{plus64, toFuture}
 use Rattle.flow_laws.specs.Questions.{askTime}

@@ -1,20 +1,9 @@
 -- Each kind of block, with operands in their ranges, is formed (specs/Formed).
-use Prim.Native.Nat.{ℕ, zero, suc, _+_, _-_, _≤_, _<_}
-use native.Mathlib.Omega.{arith}
-use mathlib.Core.Path.{_≡_, refl, ap}
-use mathlib.Core.Bool.{Bool, true, false, _&&_, _||_, true≢false}
-use mathlib.Core.List.{List, [], _∷_, _++_}
-use lib.Dec.{T, eqb}
-use lib.ListN.{length, getD, length-append}
-use borrow.Author.Tests.{ne-eqb, lt-ltb}
-use Rattle.machine.specs.Term.{Term, Relation}
-use Rattle.machine.specs.Facts.{Facts}
-use Rattle.machine.specs.Block.{Block, Code, codeIndex, welIndex, generate, terminate, waitServer, waitTerms, branch, goto, assign, split, facts}
-use Rattle.tables.specs.Forms.{blockForms}
-use Rattle.tables.specs.Numbers.{blockNumbers, termNumbers, relationNumber}
-use Rattle.tables.specs.Represents.{smallBlock, smallTerm}
+use Rattle.machine.specs.All.{ℕ, zero, suc, _-_, _≤_, _<_, arith, _≡_, refl, ap, Bool, true, false, _&&_, _||_, true≢false, List, [], _∷_, _++_, T, eqb, length, getD, length-append, ne-eqb, lt-ltb, Term, Relation, Facts, Block, Code, codeIndex, welIndex, generate, terminate, waitServer, waitTerms, branch, goto, assign, split, facts}
+use Rattle.tables.specs.All.{blockForms, blockNumbers, termNumbers, relationNumber, smallBlock, smallTerm}
 use Rattle.values.proofs.Steps.{both}
-use Rattle.program.specs.Formed.{Formed, targetFrom, backFrom, targetInside}
+use Rattle.program.specs.{targetFrom, backFrom, targetInside}
+use Rattle.program.specs.Formed.{Formed}
 
 -- two numbers
 two : (xs : List ℕ) → length xs ≡ 2 → xs ≡ getD xs 0 0 ∷ getD xs 1 0 ∷ []

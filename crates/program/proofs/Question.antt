@@ -1,20 +1,10 @@
 -- Question 7, pure: over rows one by one, and what the rows say is what the machine asks.
-use Prim.Native.Nat.{ℕ, zero, suc, _+_, _*_, _-_, _≤_, _<_}
-use native.Mathlib.Omega.{arith}
-use mathlib.Core.Path.{_≡_, refl, sym, ap, ap₂, _∙_}
-use mathlib.Core.Bool.{Bool, true, false, cond, not, _&&_, _||_}
-use mathlib.Core.List.{List, [], _∷_}
-use lib.Dec.{eqb, ltb, leb, T, ltb→lt}
-use lib.ListN.{length, getD}
-use borrow.Author.Tests.{eqb-true, eqb-false, le-leb, lt-leb, ltb-true, ltb-false, lt-ltb}
-use Rattle.machine.specs.Lists.{bit, upTo}
-use Rattle.machine.specs.Block.{Block, facts, terminate, BlockModel, blockAt, backAt, insideGroup}
-use Rattle.machine.specs.Facts.{isGenerate}
-use Rattle.machine.specs.Validate.{wellPlaced, allOf, joined}
-use Rattle.tables.specs.Numbers.{blockNumbers}
+use Rattle.machine.specs.All.{cases, ℕ, zero, suc, _+_, _*_, _-_, _≤_, _<_, arith, _≡_, refl, sym, ap, ap₂, _∙_, Bool, true, false, cond, not, _&&_, _||_, List, [], _∷_, eqb, ltb, leb, T, ltb→lt, length, getD, eqb-true, eqb-false, le-leb, lt-leb, ltb-true, ltb-false, lt-ltb, bit, upTo, Block, facts, terminate, BlockModel, blockAt, backAt, insideGroup, isGenerate, wellPlaced, allOf, joined}
+use Rattle.tables.specs.All.{blockNumbers}
 use Rattle.values.specs.Rows.{Each}
 use Rattle.values.proofs.Rows.{each-at}
-use Rattle.program.specs.Formed.{Formed, leavesKind, targetFrom, backFrom, targetInside, namesGenerate, reachesFrom, insideFrom, namesInside, misnames, placedFrom, targetsFrom, waitsAfter, joinedFrom}
+use Rattle.program.specs.{leavesKind, targetFrom, backFrom, targetInside, namesGenerate, reachesFrom, insideFrom, namesInside, misnames, placedFrom, targetsFrom, waitsAfter, joinedFrom}
+use Rattle.program.specs.Formed.{Formed}
 
 -- ---- Row by row, where b of `blocks` rows are behind
 
@@ -151,7 +141,10 @@ row-target l row at inside st =
 row-back : (l row : List ℕ) (at : ℕ) → T (targetInside row) → ((i : ℕ) → i < length row → getD l (at + i) 0 ≡ getD row i 0) →
     backFrom l at ≡ backFrom row 0
 unfolding backFrom
-row-back l row at inside st = go (eqb (getD row 0 0) 17) refl
+row-back l row at inside st =
+    cases (eqb (getD row 0 0) 17)
+    (λ e. rw (kind, e) (st 3 (far (getD row 0 0) (eqb-true _ 17 e) (row-reaches row inside))))
+    (λ e. rw (kind, e))
   where
     kind : getD l at 0 ≡ getD row 0 0
     kind = let e : at ≡ at + 0 = omega arith in ap (λ (i : ℕ). getD l i 0) e ∙ st 0 (row-some row inside)
@@ -160,10 +153,6 @@ row-back l row at inside st = go (eqb (getD row 0 0) 17) refl
         T (cond (eqb k 10) (ltb 6 (length row)) (cond (eqb k 11) (ltb 1 (length row)) (cond (eqb k 14) (ltb 2 (length row)) (cond (eqb k 17) (ltb 3 (length row)) true)))) →
         3 < length row
     far k e r = ltb→lt 3 (length row) (rw e at r)
-
-    go : (x : Bool) → eqb (getD row 0 0) 17 ≡ x → backFrom l at ≡ backFrom row 0
-    go true e = rw (kind, e) (st 3 (far (getD row 0 0) (eqb-true _ 17 e) (row-reaches row inside)))
-    go false e = rw (kind, e)
 
 not-and : (x left : Bool) → not (x && not left) ≡ (not x || left)
 not-and true true = refl
@@ -231,20 +220,18 @@ module _ (l : List ℕ) (m : BlockModel) (all : Each (Formed (length (m .blocks)
   -- a place of a group
   reaches-is : (t c : ℕ) → 1 ≤ t → 1 ≤ c → reachesFrom l (length bs) t c ≡ leb c (backAt m (t + c - 1))
   unfolding reachesFrom
-  reaches-is t c low some = go (ltb (t + c - 2) (length bs)) refl
+  reaches-is t c low some =
+      cases (ltb (t + c - 2) (length bs))
+      (λ e. let h : t + c - 2 < length bs = ltb-true _ _ e in
+      let f = formed-at (t + c - 2) h in
+      rw (e, back-is) (ap (leb c) (row-back l (blockNumbers (getD bs (t + c - 2) (terminate 0))) (8 * (t + c - 2)) (f .inside) (row-at (t + c - 2) h) ∙ sym (f .back))))
+      (λ e. rw (e, back-is, back-past bs (t + c - 2) (ltb-false _ _ e), lt-leb c 0 some))
     where
       same : t + c - 2 ≡ t + c - 1 - 1
       same = omega arith
 
       back-is : backAt m (t + c - 1) ≡ facts (getD bs (t + c - 2) (terminate 0)) .back
       back-is = ap (λ (i : ℕ). facts (getD bs i (terminate 0)) .back) (sym same)
-
-      go : (x : Bool) → ltb (t + c - 2) (length bs) ≡ x → (ltb (t + c - 2) (length bs) && leb c (backFrom l (8 * (t + c - 2)))) ≡ leb c (backAt m (t + c - 1))
-      go true e =
-          let h : t + c - 2 < length bs = ltb-true _ _ e in
-          let f = formed-at (t + c - 2) h in
-          rw (e, back-is) (ap (leb c) (row-back l (blockNumbers (getD bs (t + c - 2) (terminate 0))) (8 * (t + c - 2)) (f .inside) (row-at (t + c - 2) h) ∙ sym (f .back)))
-      go false e = rw (e, back-is, back-past bs (t + c - 2) (ltb-false _ _ e), lt-leb c 0 some)
 
   bit-some : (x : Bool) (n : ℕ) → ltb 0 (n + bit x) ≡ (x || ltb 0 n)
   bit-some true n = lt-ltb 0 (n + 1) (omega arith)
@@ -260,16 +247,14 @@ module _ (l : List ℕ) (m : BlockModel) (all : Each (Formed (length (m .blocks)
   one-moves : (b : Block) (at : ℕ) → Formed (length bs) b → ((i : ℕ) → i < length (blockNumbers b) → getD l (at + i) 0 ≡ getD (blockNumbers b) i 0) →
       not (misnames l (length bs) at) ≡ moves b
   unfolding misnames namesGenerate namesInside insideGroup
-  one-moves b at f st = go (eqb (facts b .target) 0) refl
+  one-moves b at f st =
+      cases (eqb (facts b .target) 0)
+      (λ e. rw (target, e))
+      (λ e. let some = eqb-false (facts b .target) 0 e in
+      rw (target, or-not (eqb (facts b .target) 0) (eqb (getD l (8 * (facts b .target - 1)) 0) 1) (insideFrom l (length bs) (facts b .target) 7), named-kind (facts b .target) some (f .names), inside-is (facts b .target) 7 (omega arith)))
     where
       target : targetFrom l at ≡ facts b .target
       target = row-target l (blockNumbers b) at (f .inside) st ∙ sym (f .target)
-
-      go : (x : Bool) → eqb (facts b .target) 0 ≡ x → not (misnames l (length bs) at) ≡ moves b
-      go true e = rw (target, e)
-      go false e =
-          let some = eqb-false (facts b .target) 0 e in
-          rw (target, or-not (eqb (facts b .target) 0) (eqb (getD l (8 * (facts b .target - 1)) 0) 1) (insideFrom l (length bs) (facts b .target) 7), named-kind (facts b .target) some (f .names), inside-is (facts b .target) 7 (omega arith))
 
   targets-rest : (cs : List Block) (at : ℕ) → Each (Formed (length bs)) cs → Standing l at cs → targetsFrom l (length bs) (length cs) at ≡ allOf moves cs
   unfolding targetsFrom allOf

@@ -1,20 +1,7 @@
 -- What each function over operands keeps, pure: from what its calls kept, by the machine's `operands` at each kind.
-use Prim.Native.Nat.{ℕ, suc, _+_, _*_, _-_, _≤_, _<_}
-use native.Mathlib.Nat.{le-antisymm}
-use native.Mathlib.Omega.{arith}
-use mathlib.Core.Path.{_≡_, refl, sym, ap, _∙_}
-use mathlib.Core.List.{List, [], _∷_, _++_, append-assoc}
-use lib.ListN.{length, getD, take, drop, length-append, length-drop}
-use lib.Seq.{sets, length-sets, getD-set-other, getD-take, getD-drop, ext-getD}
-use borrow.Author.Tests.{le-leb, lt-leb}
-use Rattle.machine.specs.Lists.{nth}
-use Rattle.machine.specs.Parser.{Cursor, Parsed, parsed, refused, Parser, continue, field}
-use Rattle.machine.specs.Term.{Term}
-use Rattle.machine.specs.Block.{codeIndex, Block, generate, advance, terminate, seize, release, enter, leave, waitServer, waitTerms, branch, goto, assign, priority, split, arrive, depart, assemble, preempt, giveBack}
-use Rattle.machine.specs.Decode.{Counts, blockTerm, relationOf, codeOf, codeServer, storageUnits, operands, blockField}
+use Rattle.machine.specs.All.{ℕ, suc, _+_, _*_, _-_, _≤_, _<_, le-antisymm, arith, _≡_, refl, sym, ap, _∙_, List, [], _∷_, _++_, append-assoc, length, getD, take, drop, length-append, length-drop, sets, length-sets, getD-set-other, getD-take, getD-drop, ext-getD, le-leb, lt-leb, nth, Cursor, Parsed, parsed, refused, Parser, continue, field, Term, codeIndex, Block, generate, advance, terminate, seize, release, enter, leave, waitServer, waitTerms, branch, goto, assign, priority, split, arrive, depart, assemble, preempt, giveBack, Counts, blockTerm, relationOf, codeOf, codeServer, storageUnits, operands, blockField}
 use Rattle.constants.specs.declared.model.Model.{Model}
-use Rattle.tables.specs.Forms.{blockForms}
-use Rattle.tables.specs.Numbers.{termNumbers, blockNumbers}
+use Rattle.tables.specs.All.{blockForms, termNumbers, blockNumbers}
 use Rattle.values.specs.declared.Place.{Place}
 use Rattle.values.specs.declared.Range.{Range}
 use Rattle.values.specs.declared.Taken.{Taken}
@@ -28,7 +15,7 @@ use Rattle.values.proofs.Steps.{sets-then}
 use Rattle.values.proofs.Cells.{sets-above}
 use Rattle.values.proofs.Tags.{by-tag, relation-number}
 use Rattle.program.specs.Formed.{Formed}
-use Rattle.program.specs.Shapes.{pairField, pairShape, Pair, unitsField, unitsShape, watchedField, watchedShape, comparedField, comparedShape, operandsShape, blockShape, capacitiesOf}
+use Rattle.program.specs.{pairField, pairShape, Pair, unitsField, unitsShape, watchedField, watchedShape, comparedField, comparedShape, operandsShape, blockShape, capacitiesOf}
 use Rattle.program.proofs.Formed.{formed-plain, formed-generate, formed-terminate, formed-wait-server, joined-row, formed-wait-terms, formed-branch, formed-goto, formed-assign, formed-split}
 
 -- ---- One number, and two

@@ -1,15 +1,6 @@
 -- Question 7 over rows of numbers, and what is known of a block that was read.
-use Prim.Native.Nat.{ℕ, zero, suc, _+_, _*_, _-_, _≤_}
-use mathlib.Core.Path.{_≡_}
-use mathlib.Core.Bool.{Bool, true, false, cond, not, _&&_, _||_}
-use mathlib.Core.List.{List}
-use lib.Dec.{eqb, ltb, leb, T}
-use lib.ListN.{length, getD}
-use Rattle.machine.specs.Limits.{maxBack}
-use Rattle.machine.specs.Block.{Block, facts}
-use Rattle.machine.specs.Facts.{isGenerate}
-use Rattle.tables.specs.Numbers.{blockNumbers}
-use Rattle.tables.specs.Represents.{smallBlock}
+use Rattle.machine.specs.All.{ℕ, zero, suc, _+_, _*_, _-_, _≤_, _≡_, Bool, true, false, cond, not, _&&_, _||_, List, eqb, ltb, leb, T, length, getD, maxBack, Block, facts, isGenerate}
+use Rattle.tables.specs.All.{blockNumbers, smallBlock}
 
 -- ---- By the numbers of a row
 

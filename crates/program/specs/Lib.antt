@@ -1,2 +1,4 @@
 pub mod Formed
 pub mod Shapes
+unfoldable pub use Formed.*
+unfoldable pub use Shapes.*

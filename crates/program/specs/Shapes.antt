@@ -1,18 +1,8 @@
 -- How operands and blocks are kept in the tables.
-use Prim.Native.Nat.{ℕ, _+_, _-_, _≤_}
-use mathlib.Core.Path.{_≡_}
-use mathlib.Core.List.{List, [], _∷_, _++_}
-use lib.Dec.{T}
-use lib.ListN.{length, take, drop}
-use Rattle.machine.specs.Lists.{nth}
-use Rattle.machine.specs.Parser.{Parser, parsed, continue, field}
-use Rattle.machine.specs.Term.{Term}
-use Rattle.machine.specs.Block.{codeIndex, Block}
-use Rattle.machine.specs.Decode.{Counts, blockTerm, codeOf, codeServer}
+use Rattle.machine.specs.All.{ℕ, _+_, _-_, _≤_, _≡_, List, [], _∷_, _++_, T, length, take, drop, nth, Parser, parsed, continue, field, Term, codeIndex, Block, Counts, blockTerm, codeOf, codeServer}
 use Rattle.constants.specs.declared.model.Model.{Model}
 use Rattle.tables.specs.Layout as Layout
-use Rattle.tables.specs.Numbers.{termNumbers, blockNumbers}
-use Rattle.tables.specs.Represents.{smallTerm}
+use Rattle.tables.specs.All.{termNumbers, blockNumbers, smallTerm}
 use Rattle.values.specs.declared.Range.{Range}
 use Rattle.values.specs.Keeps.{Shape}
 use Rattle.program.specs.Formed.{Formed}

@@ -1,17 +1,9 @@
 -- Calls of `next`, one after the other.
-use Prim.Native.Nat.{ℕ, zero, suc, _+_}
-use mathlib.Core.List.{List, [], _∷_, _++_, map}
-use mathlib.Core.Option.{Option, none, some}
-use mathlib.Core.Path.{_≡_, refl, ap, _∙_, subst}
-use native.Mathlib.Omega.{arith}
-use lib.ListN.{length, replicate}
+use Rattle.machine.specs.All.{ℕ, zero, suc, _+_, List, [], _∷_, map, Option, none, some, _≡_, refl, ap, _∙_, subst, arith, length, replicate, inForce, Record, Reading, taken, refusal, noMore, readRecord}
 use denote.Ref.{RefT, now}
-use Rattle.machine.specs.Rules.{inForce}
-use Rattle.machine.specs.Trace.{Record, Reading, taken, refusal, noMore, readRecord}
-use Rattle.trace.specs.Whole.{Reads, ends, takes}
+use Rattle.trace.specs.Whole.{ends, takes}
 use Rattle.reader.specs.declared.Reader.{Reader}
-use Rattle.reader.specs.Position.{positionBehind, positionAfter, moved}
-use Rattle.reader.specs.Claims.{answer, answers, recordIn, ReadsAlong, Stays}
+use Rattle.reader.specs.{positionBehind, positionAfter, moved, answer, answers, recordIn, ReadsAlong, Stays}
 
 module _ (bytes : RefT (List ℕ)) where
   abbrev reader : ℕ → Reader

@@ -1,12 +1,6 @@
 -- What calls of `next` answer, one after the other, and what they leave.
-use Prim.Native.Nat.{ℕ, zero, suc, _+_}
-use mathlib.Core.List.{List, [], _∷_, _++_, map}
-use mathlib.Core.Option.{Option, none, some}
-use mathlib.Core.Path.{_≡_}
-use lib.ListN.{length, replicate}
+use Rattle.machine.specs.All.{ℕ, zero, suc, _+_, List, [], _∷_, _++_, map, Option, none, some, _≡_, length, replicate, inForce, Record, Reading, taken, refusal, noMore, readRecord}
 use denote.Ref.{now}
-use Rattle.machine.specs.Rules.{inForce}
-use Rattle.machine.specs.Trace.{Record, Reading, taken, refusal, noMore, readRecord}
 use Rattle.trace.specs.Whole.{Reads}
 use Rattle.reader.specs.declared.Reader.{Reader}
 use Rattle.reader.specs.Position.{moved}

@@ -1,2 +1,4 @@
 pub mod Claims
 pub mod Position
+unfoldable pub use Claims.*
+unfoldable pub use Position.*

@@ -1,8 +1,5 @@
 -- Where a trace reader stands after a call.
-use Prim.Native.Nat.{ℕ}
-use mathlib.Core.List.{List}
-use Rattle.machine.specs.Rules.{inForce}
-use Rattle.machine.specs.Trace.{Reading, taken, refusal, noMore, readRecord}
+use Rattle.machine.specs.All.{ℕ, List, inForce, Reading, taken, refusal, noMore, readRecord}
 use denote.Ref.{now}
 use Rattle.reader.specs.declared.Reader.{Reader}
 

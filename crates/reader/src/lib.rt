@@ -3,10 +3,7 @@
 use trace::Reading;
 use trace::count_low;
 use trace::read_record;
-ghost use mathlib.Core.Path.{_≡_};
-ghost use Rattle.machine.specs.Rules.{inForce};
-ghost use Rattle.machine.specs.Number.{countLow};
-ghost use Rattle.machine.specs.Trace.{readRecord};
+ghost use Rattle.machine.specs.All.{_≡_, inForce, countLow, readRecord};
 ghost use Rattle.trace.specs.Answers.{readingOf};
 ghost use Rattle.reader.specs.Position.{positionBehind, moved};
 

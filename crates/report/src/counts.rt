@@ -22,12 +22,10 @@ use tables::WAIT_TICKS;
 use tables::WAITS;
 use tables::count;
 use tables::number;
-ghost use mathlib.Core.Path.{_≡_};
-ghost use Prim.Native.Nat.{_+_, _≤_, _<_};
-ghost use Rattle.machine.specs.Limits.{maxBlocks, maxQueues};
+ghost use Rattle.machine.specs.All.{_≡_, _+_, _≤_, _<_, maxBlocks, maxQueues};
 ghost use Rattle.tables.specs.Layout as Layout;
-ghost use Rattle.tables.specs.Layout.{serverCount};
-ghost use Rattle.state.specs.Statistics.{sumNow, longestNow};
+ghost use Rattle.tables.specs.All.{serverCount};
+ghost use Rattle.state.specs.All.{sumNow, longestNow};
 ghost use Rattle.report_laws.specs.Counts.{names, share, total, serverRow, queueRow, rowsTo};
 ghost use Rattle.report_laws.specs.Writing.{written, putAll};
 

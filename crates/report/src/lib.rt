@@ -9,10 +9,8 @@ use counts::put_queues;
 use counts::put_servers;
 use living::put_living;
 use state::Scalars;
-ghost use mathlib.Core.Path.{_≡_};
-ghost use mathlib.Core.List.{[], _∷_};
-ghost use Prim.Native.Nat.{min};
-ghost use Rattle.rows_laws.specs.Layout.{Room};
+ghost use Rattle.machine.specs.All.{_≡_, [], _∷_, min};
+ghost use Rattle.rows_laws.specs.All.{Room};
 ghost use Rattle.report_laws.specs.Numbers.{rowNumbers};
 ghost use Rattle.report_laws.specs.Writing.{written, putAll};
 

@@ -1,20 +1,8 @@
 -- The blocks of the tables that take a server or fill a queue are those that the machine's facts name.
-use Prim.Native.Nat.{ℕ, suc, _+_, _*_, _-_, _≤_, _<_}
-use native.Mathlib.Nat.{add-zero}
-use native.Mathlib.Omega.{arith}
-use mathlib.Core.Path.{_≡_, refl, sym, ap, _∙_, subst}
-use mathlib.Core.Bool.{Bool, true, false, cond}
-use mathlib.Core.List.{List, _∷_}
-use borrow.Author.Tests.{eq-eqb, ne-eqb, eqb-true, eqb-false}
-use lib.Dec.{eqb}
-use lib.ListN.{length, getD, drop}
-use lib.Seq.{getD-take, getD-drop}
-use Rattle.machine.specs.Block.{Block, terminate, facility, storage, facts, BlockModel, blockAt}
+use Rattle.machine.specs.All.{cases, ℕ, suc, _+_, _*_, _-_, _≤_, _<_, add-zero, arith, _≡_, refl, sym, ap, _∙_, subst, Bool, true, false, cond, List, _∷_, eq-eqb, ne-eqb, eqb-true, eqb-false, eqb, length, getD, drop, getD-take, getD-drop, Block, terminate, facility, storage, facts, BlockModel, blockAt}
 use Rattle.machine.proofs.decoding.Proper.{Proper, ProperBlock}
-use Rattle.tables.specs.Forms.{blockForms}
-use Rattle.tables.specs.Numbers.{blockNumbers}
-use Rattle.tables.specs.Represents.{At, Represents}
-use Rattle.report_laws.specs.Counts.{names}
+use Rattle.tables.specs.All.{blockForms, blockNumbers, At, Represents}
+use Rattle.report_laws.specs.{names}
 use Rattle.tables.proofs.BlockKinds.{Kinds, generating, taking, waiting, arriving, preempting, other, kinds, unasked}
 
 -- ---- Numbers of the tables
@@ -30,11 +18,10 @@ abbrev test : (operand kind first second third index : ℕ) → Bool
 test operand kind first second third index = cond (eqb operand index) (cond (eqb kind first) true (cond (eqb kind second) true (eqb kind third))) false
 
 less-one : (a i : ℕ) → 1 ≤ a → eqb (a - 1) i ≡ eqb a (suc i)
-less-one a i h = go (eqb (a - 1) i) refl
-  where
-    go : (t : Bool) → eqb (a - 1) i ≡ t → t ≡ eqb a (suc i)
-    go true e = sym (eq-eqb a (suc i) (omega (arith, eqb-true (a - 1) i e)))
-    go false e = sym (ne-eqb a (suc i) (λ q. eqb-false (a - 1) i e (omega arith)))
+less-one a i h =
+    cases (eqb (a - 1) i)
+    (λ e. rw e (sym (eq-eqb a (suc i) (omega (arith, eqb-true (a - 1) i e)))))
+    (λ e. rw e (sym (ne-eqb a (suc i) (λ q. eqb-false (a - 1) i e (omega arith)))))
 
 module _ (tables : List ℕ) (at first second third index : ℕ) where
   abbrev here : Bool
@@ -45,20 +32,12 @@ module _ (tables : List ℕ) (at first second third index : ℕ) where
 
   -- of another kind
   another : (k : ℕ) (l : List ℕ) → At tables at (k ∷ l) → eqb k first ≡ false → eqb k second ≡ false → eqb k third ≡ false → here ≡ eqb 0 (suc index)
-  another k l h a b c = rw (kind k l h, a, b, c) (go (eqb (getD tables (at + 1) 0) index) ∙ sym (ne-eqb 0 (suc index) (λ e. omega arith)))
-    where
-      go : (t : Bool) → cond t false false ≡ false
-      go true = refl
-      go false = refl
+  another k l h a b c = rw (kind k l h, a, b, c) (cases (eqb (getD tables (at + 1) 0) index) (λ e. rw e) (λ e. rw e) ∙ sym (ne-eqb 0 (suc index) (λ e. omega arith)))
 
   -- of one of the three kinds
   named : (k x : ℕ) (l : List ℕ) → At tables at (k ∷ (x - 1) ∷ l) → cond (eqb k first) true (cond (eqb k second) true (eqb k third)) ≡ true → 1 ≤ x → here ≡ eqb x (suc index)
   named k x l h a p =
-      rw (kind k ((x - 1) ∷ l) h, at-number tables at 1 (k ∷ (x - 1) ∷ l) h (omega arith), a) (go (eqb (x - 1) index) ∙ less-one x index p)
-    where
-      go : (t : Bool) → cond t true false ≡ t
-      go true = refl
-      go false = refl
+      rw (kind k ((x - 1) ∷ l) h, at-number tables at 1 (k ∷ (x - 1) ∷ l) h (omega arith), a) (cases (eqb (x - 1) index) (λ e. rw e) (λ e. rw e) ∙ less-one x index p)
 
 module _ (m : BlockModel) (tables : List ℕ) (at index : ℕ) where
   module _ (b : Block) (q : ProperBlock m b) (h : At tables at (blockNumbers b)) where

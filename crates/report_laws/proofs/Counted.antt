@@ -1,19 +1,8 @@
 -- The sums over the tally's counts of records are the numbers of records that the report counts.
-use Prim.Native.Nat.{ℕ, zero, suc, _+_, _≤_, _<_}
-use native.Mathlib.Omega.{arith}
-use mathlib.Core.Path.{_≡_, refl, sym, ap₂, _∙_}
-use mathlib.Core.Bool.{Bool, true, false, cond}
-use mathlib.Core.List.{List, [], _∷_}
-use lib.ListN.{length, getD}
-use Rattle.machine.specs.Lists.{those}
-use Rattle.machine.specs.Facts.{Facts}
-use Rattle.machine.specs.Block.{facts, BlockModel, blockAt}
-use Rattle.machine.specs.State.{Logged}
-use Rattle.machine.specs.Report.{recordsAt}
-use Rattle.machine.specs.Claims.{Each, upTo, InModel}
-use Rattle.state.specs.Stands.{atBlock}
+use Rattle.machine.specs.All.{ℕ, zero, suc, _+_, _≤_, _<_, arith, _≡_, refl, sym, ap₂, _∙_, Bool, true, false, cond, List, [], _∷_, length, getD, those, Facts, facts, BlockModel, blockAt, Logged, recordsAt, Each, upTo, InModel}
+use Rattle.state.specs.All.{atBlock}
 use Rattle.state.proofs.Tallied as Tallied
-use Rattle.report_laws.specs.Counts.{names, share, total}
+use Rattle.report_laws.specs.{names, share, total}
 
 -- ---- How many at most
 
@@ -42,11 +31,8 @@ module _ (m : BlockModel) (outcome : ℕ) (p : Facts → Bool) (records : List L
   unfolding total upTo
   total-shares zero h most = refl
   total-shares (suc n) h most =
-      let one : share tables tally first second third index base n ≡ shares (suc n) = step in
+      let one : share tables tally first second third index base n ≡ shares (suc n) = (unfold share in (ap₂ (λ (t : Bool) (x : ℕ). cond t x 0) (named n h) (counted n h))) in
       omega (arith, total-shares n (omega arith) (omega arith))
-    where
-      step : share tables tally first second third index base n ≡ shares (suc n)
-      step = unfold share in (ap₂ (λ (t : Bool) (x : ℕ). cond t x 0) (named n h) (counted n h))
 
   pub total-records : Each (λ (r : Logged). InModel m (r .entry)) records → length records ≤ 100000001 →
       total tables tally first second third index base (length (m .blocks)) ≡ recordsAt m outcome p records

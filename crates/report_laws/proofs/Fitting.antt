@@ -1,24 +1,5 @@
 -- Every report fits its buffer of 10,240 bytes, and each of its numbers nine groups of seven bits.
-use Prim.Native.Nat.{ℕ, suc, _+_, _*_, _^_, _≤_, _<_}
-use native.Mathlib.Nat.{mul-le-mul-left}
-use native.Mathlib.Omega.{arith}
-use mathlib.Core.Path.{_≡_, refl, sym, ap, _∙_}
-use mathlib.Core.Bool.{Bool}
-use mathlib.Core.List.{List, [], _∷_, _++_, map}
-use mathlib.Core.Option.{Option, none, some}
-use lib.Dec.{eqb}
-use lib.ListN.{length, drop, length-append, length-map, length-replicate}
-use lib.Seq.{sets, length-sets, sets-eq}
-use Rattle.machine.specs.Limits.{maxReportNumber, maxClock}
-use Rattle.machine.specs.Transaction.{Transaction, Event, Gatherer, Interrupted}
-use Rattle.machine.specs.Lists.{flat}
-use Rattle.machine.specs.Term.{Server, Queue}
-use Rattle.machine.specs.Facts.{Facts}
-use Rattle.machine.specs.Block.{BlockModel}
-use Rattle.machine.specs.State.{State, Logged}
-use Rattle.machine.specs.Number.{numberBytes}
-use Rattle.machine.specs.Report.{recordsAt, serverNumbers, queueNumbers, Place, placed, movingOne, places, byNumber, placeNumbers, reportNumbers, reportBytes}
-use Rattle.machine.specs.Claims.{Each}
+use Rattle.machine.specs.All.{ℕ, suc, _+_, _*_, _^_, _≤_, _<_, mul-le-mul-left, arith, _≡_, refl, sym, ap, _∙_, Bool, List, [], _∷_, _++_, map, Option, none, some, eqb, length, drop, length-append, length-map, length-replicate, sets, length-sets, sets-eq, maxReportNumber, maxClock, Transaction, Event, Gatherer, Interrupted, flat, Server, Queue, Facts, BlockModel, State, Logged, numberBytes, recordsAt, serverNumbers, queueNumbers, Place, placed, movingOne, places, byNumber, placeNumbers, reportNumbers, reportBytes, Each}
 use Rattle.machine.proofs.decoding.Proper.{Proper, servers}
 use Rattle.machine.proofs.lists.Sorted.{each-insert}
 use Rattle.machine.proofs.lists.Sums.{sum-length}
@@ -26,10 +7,10 @@ use Rattle.machine.proofs.runs.Everybody.{Maybe, Everybody}
 use Rattle.machine.proofs.conservation.Conservation.{Sound, Conserved, sound-conserved}
 use Rattle.codec.proofs.Numbers.{numberBytes-length, numberBytes-longest}
 use Rattle.codec.proofs.Stores.{sets-append}
-use Rattle.state.specs.Sane.{Sane}
+use Rattle.state.specs.All.{Sane}
 use Rattle.state.proofs.Gains.{map-each}
 use Rattle.state.proofs.Numbered.{Numbered, numbered}
-use Rattle.report_laws.specs.Writing.{written, putAll}
+use Rattle.report_laws.specs.{written, putAll}
 use Rattle.codec.proofs.Writing.{put-room}
 use Rattle.report_laws.proofs.Writes.{putAll-cons}
 use Rattle.machine.proofs.lists.Sorting.{sum-sorted}
@@ -154,12 +135,9 @@ module _ (m : BlockModel) (tape : List (List ℕ)) (s : State) (proper : Proper 
   everybody : Everybody (Numbered (s .made)) s
   everybody = numbered m tape s sound
 
-  few : (t : Transaction) → Numbered (s .made) t → t .number ≤ 100000000
-  few t n = omega (arith, n .1, sane .made, sane .serials)
-
   each-few : (l : List Transaction) → Each (Numbered (s .made)) l → Each (λ t. t .number ≤ 100000000) l
   each-few [] h = tt
-  each-few (t ∷ l) h = (few t (h .0), each-few l (h .1))
+  each-few (t ∷ l) h = ((omega (arith, (h .0) .1, sane .made, sane .serials)), each-few l (h .1))
 
   each-mover : (o : Option Transaction) → Maybe (Numbered (s .made)) o → Each (Numbered (s .made)) (movingOne o)
   unfolding movingOne
@@ -213,9 +191,6 @@ module _ (m : BlockModel) (tape : List (List ℕ)) (s : State) (proper : Proper 
       (map-each (λ (g : Gatherer). g .who) (Numbered (s .made)) (flat (s .gatherers)) (each-flat (λ (g : Gatherer). Numbered (s .made) (g .who)) (s .gatherers) (everybody .gatherers)))))
       (short 8 (omega arith) (map (λ i. i .who) (s .interrupted)) (map-each (λ (i : Interrupted). i .who) (Numbered (s .made)) (s .interrupted) (everybody .interrupted)))
 
-  sorted-length : length (byNumber (places s)) ≡ length (places s)
-  sorted-length = sym (sum-length (byNumber (places s))) ∙ sum-sorted (λ p. 1) (places s) ∙ sum-length (places s)
-
   pub report-fits : length (reportBytes m s) ≤ 10240
   unfolding reportBytes reportNumbers
   report-fits =
@@ -241,7 +216,7 @@ module _ (m : BlockModel) (tape : List (List ℕ)) (s : State) (proper : Proper 
         size-cons (length (places s)) (placeNumbers (byNumber (places s))),
         numberBytes-longest (length (places s)),
         places-size (byNumber (places s)) (each-sorted (places s) short-places),
-        sorted-length,
+        (sym (sum-length (byNumber (places s))) ∙ sum-sorted (λ p. 1) (places s) ∙ sum-length (places s)),
         living-few,
       )
     where

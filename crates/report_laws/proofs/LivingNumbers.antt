@@ -1,24 +1,11 @@
 -- The numbers of the living: their count, and number and place of each by rising number, are the machine's.
-use Prim.Native.Nat.{ℕ, _+_, _≤_, _<_}
-use native.Mathlib.Decide.{ℕ-discrete}
-use native.Mathlib.Omega.{arith}
-use mathlib.Core.Path.{_≡_, refl, sym, ap, ap₂, _∙_}
-use mathlib.Core.Bool.{Bool, true, false, cond}
-use mathlib.Core.List.{List, _∷_, _++_}
-use borrow.Author.Tests.{eq-eqb}
-use lib.Dec.{eqb}
-use lib.ListN.{length, replicate, length-replicate}
-use Rattle.machine.specs.State.{State}
-use Rattle.machine.specs.Report.{Place, places, byNumber, placeNumbers}
-use Rattle.machine.specs.Claims.{bit, Each, standing}
+use Rattle.machine.specs.All.{decided, ℕ, _≤_, _<_, ℕ-discrete, arith, _≡_, refl, sym, ap, ap₂, _∙_, false, List, _∷_, eq-eqb, eqb, length, replicate, length-replicate, State, Place, places, byNumber, placeNumbers, bit, Each, standing}
 use Rattle.machine.proofs.decoding.Proper.{Names}
 use Rattle.machine.proofs.lists.Sums.{sumOn, sum-length}
-use Rattle.rows_laws.specs.Layout.{numberField}
-use Rattle.rows_laws.specs.Cells.{read}
+use Rattle.rows_laws.specs.All.{numberField, read}
 use Rattle.rows_laws.proofs.Sums.{sum-ext}
-use Rattle.state.specs.Stands.{Listing}
-use Rattle.report_laws.specs.Living.{placeOf, placeAt, lives, livingCount, placeRow}
-use Rattle.report_laws.specs.Numbers.{livingNumbers}
+use Rattle.state.specs.All.{Listing}
+use Rattle.report_laws.specs.{placeOf, placeAt, lives, livingCount, placeRow, livingNumbers}
 use Rattle.machine.proofs.conservation.Standing.{times-standing}
 use Rattle.machine.proofs.lists.Sorting.{sorted-is}
 use Rattle.report_laws.proofs.Ranking.{weight, all, listTo, list-numbers, ranking, ranking-sum, ranking-rises}
@@ -45,27 +32,25 @@ module _ (w : List ℕ) (moving : ℕ) (s : State) (h : Listing w moving (s .mov
 
   -- two living rows have two numbers
   apart : (j k : ℕ) → j < 1024 → k < 1024 → eqb (placeOf w moving j) 0 ≡ false → eqb (placeOf w moving k) 0 ≡ false → read w numberField j ≡ read w numberField k → j ≡ k
-  apart j k a b cj ck e = go (ℕ-discrete j k)
+  apart j k a b cj ck e =
+      decided (ℕ-discrete j k)
+      (λ q. q)
+      (λ d. absurd
+      (omega (
+        arith,
+        sum-two 1024 (weight w moving is) j k a b d,
+        one j cj refl,
+        one k ck (sym e),
+        same-sum is,
+        times-standing s (read w numberField j),
+        once (read w numberField j),
+      )))
     where
       is : Place → ℕ
       is p = bit (eqb (p .number) (read w numberField j))
 
       one : (i : ℕ) → eqb (placeOf w moving i) 0 ≡ false → read w numberField i ≡ read w numberField j → weight w moving is i ≡ 1
       one i c q = unfold placeAt in (rw (c, eq-eqb (read w numberField i) (read w numberField j) q))
-
-      go : Dec (j ≡ k) → j ≡ k
-      go (yes q) = q
-      go (no d) =
-          absurd
-          (omega (
-            arith,
-            sum-two 1024 (weight w moving is) j k a b d,
-            one j cj refl,
-            one k ck (sym e),
-            same-sum is,
-            times-standing s (read w numberField j),
-            once (read w numberField j),
-          ))
 
   abbrev zeros : List ℕ
   zeros = replicate 1024 0

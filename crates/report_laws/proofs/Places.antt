@@ -1,30 +1,13 @@
 -- The living rows are the places of the machine's report: every weight of places sums to the same over both.
-use Prim.Native.Nat.{ℕ, suc, _+_, _-_, _≤_, _<_}
-use native.Mathlib.Omega.{arith}
-use mathlib.Core.Path.{_≡_, refl, sym, ap, _∙_}
-use mathlib.Core.Bool.{Bool, true, false, cond}
-use mathlib.Core.List.{List, [], _∷_, _++_, map}
-use mathlib.Core.Option.{Option, none, some}
-use borrow.Author.Tests.{lt-ltb, le-ltb, eq-eqb, ne-eqb, ltb-true, ltb-false, eqb-true, eqb-false}
-use lib.Dec.{ltb, eqb}
-use lib.ListN.{length, getD}
-use Rattle.machine.specs.Transaction.{Transaction, Event, Gatherer, Interrupted}
-use Rattle.machine.specs.Lists.{flat, those}
-use Rattle.machine.specs.State.{State}
-use Rattle.machine.specs.Moves.{ofFacility, interruptedAt}
-use Rattle.machine.specs.Claims.{Each}
+use Rattle.machine.specs.All.{ℕ, suc, _+_, _-_, _≤_, _<_, arith, _≡_, refl, sym, ap, _∙_, Bool, true, false, cond, List, [], _∷_, map, Option, none, some, lt-ltb, le-ltb, eq-eqb, ne-eqb, ltb-true, ltb-false, eqb-true, eqb-false, ltb, eqb, length, getD, Transaction, Event, Gatherer, Interrupted, flat, those, State, ofFacility, interruptedAt, Each, Place, movingOne, places}
 use Rattle.machine.proofs.decoding.Proper.{Names}
-use Rattle.machine.specs.Report.{Place, movingOne, places}
 use Rattle.machine.proofs.conservation.Standing.{sum-places}
 use Rattle.machine.proofs.lists.Sums.{sumOn, sum-map}
-use Rattle.rows_laws.specs.Layout.{place, fel, nowhere, numberField}
-use Rattle.rows_laws.specs.Cells.{load, read}
-use Rattle.rows_laws.specs.Holds.{transactionAt, eventAt}
-use Rattle.rows_laws.specs.Living.{sumTo}
+use Rattle.rows_laws.specs.All.{place, fel, nowhere, numberField, load, read, transactionAt, eventAt, sumTo}
 use Rattle.rows_laws.proofs.Sums.{sum-suc, sum-ext, sum-add, sum-zero}
-use Rattle.state.specs.Stands.{gathererRow, interruptedRow, listsIn, listsOf, Moving, Listing}
+use Rattle.state.specs.All.{gathererRow, interruptedRow, listsIn, listsOf, Moving, Listing}
 use Rattle.state.proofs.ListsOf.{lists-gatherers, lists-interrupted}
-use Rattle.report_laws.specs.Living.{listPlace, placeOf, placeAt}
+use Rattle.report_laws.specs.{listPlace, placeOf, placeAt}
 use Rattle.report_laws.proofs.Ranking.{all, weight}
 use Rattle.report_laws.proofs.Rows.{sum-split, sum-only, sum-flat, sum-lists}
 
@@ -51,24 +34,6 @@ place-free : (p : ℕ) → 771 ≤ p → listPlace p ≡ 0
 unfolding listPlace
 place-free p h =
     rw (le-ltb p 64 (omega arith), le-ltb p 448 (omega arith), ne-eqb p 448 (λ e. omega arith), ne-eqb p 770 (λ e. omega arith), ne-eqb p 449 (λ e. omega arith), le-ltb p 706 (omega arith), le-ltb p 770 (omega arith))
-
-place-ql : (p : ℕ) → p < 64 → listPlace p ≡ 1
-unfolding listPlace
-place-ql p h = rw (lt-ltb p 64 h)
-
-place-wel : (i : ℕ) → i < 384 → listPlace (64 + i) ≡ 2
-unfolding listPlace
-place-wel i h = rw (le-ltb (64 + i) 64 (omega arith), lt-ltb (64 + i) 448 (omega arith))
-
-place-gatherers : (i : ℕ) → i < 256 → listPlace (450 + i) ≡ 7
-unfolding listPlace
-place-gatherers i h =
-    rw (le-ltb (450 + i) 64 (omega arith), le-ltb (450 + i) 448 (omega arith), ne-eqb (450 + i) 448 (λ e. omega arith), ne-eqb (450 + i) 770 (λ e. omega arith), ne-eqb (450 + i) 449 (λ e. omega arith), lt-ltb (450 + i) 706 (omega arith))
-
-place-interrupted : (i : ℕ) → i < 64 → listPlace (706 + i) ≡ 8
-unfolding listPlace
-place-interrupted i h =
-    rw (le-ltb (706 + i) 64 (omega arith), le-ltb (706 + i) 448 (omega arith), ne-eqb (706 + i) 448 (λ e. omega arith), ne-eqb (706 + i) 770 (λ e. omega arith), ne-eqb (706 + i) 449 (λ e. omega arith), le-ltb (706 + i) 706 (omega arith), lt-ltb (706 + i) 770 (omega arith))
 
 lists-ql : (s : State) (p : ℕ) → p < 64 → listsOf s p ≡ getD (s .ql) p []
 unfolding listsIn
@@ -165,7 +130,7 @@ module _ (f : Place → ℕ) where
 
     block-weight : (i : ℕ) → i < 256 → one (450 + i) ≡ sumOn gatherer (getD (s .gatherers) i [])
     block-weight i l =
-        one-is (450 + i) 7 (omega arith) (place-gatherers i l) (map gathererRow (getD (s .gatherers) i [])) (lists-gatherers s i l)
+        one-is (450 + i) 7 (omega arith) (unfold listPlace in rw (le-ltb (450 + i) 64 (omega arith), le-ltb (450 + i) 448 (omega arith), ne-eqb (450 + i) 448 (λ e. omega arith), ne-eqb (450 + i) 770 (λ e. omega arith), ne-eqb (450 + i) 449 (λ e. omega arith), lt-ltb (450 + i) 706 (omega arith))) (map gathererRow (getD (s .gatherers) i [])) (lists-gatherers s i l)
         ∙ sum-map (at 7) gathererRow (getD (s .gatherers) i [])
 
     abbrev stopped : Interrupted → ℕ
@@ -173,7 +138,7 @@ module _ (f : Place → ℕ) where
 
     facility-weight : (i : ℕ) → i < 64 → one (706 + i) ≡ sumOn stopped (interruptedAt s (suc i))
     facility-weight i l =
-        one-is (706 + i) 8 (omega arith) (place-interrupted i l) (map interruptedRow (interruptedAt s (suc i))) (lists-interrupted s i l)
+        one-is (706 + i) 8 (omega arith) (unfold listPlace in rw (le-ltb (706 + i) 64 (omega arith), le-ltb (706 + i) 448 (omega arith), ne-eqb (706 + i) 448 (λ e. omega arith), ne-eqb (706 + i) 770 (λ e. omega arith), ne-eqb (706 + i) 449 (λ e. omega arith), le-ltb (706 + i) 706 (omega arith), lt-ltb (706 + i) 770 (omega arith))) (map interruptedRow (interruptedAt s (suc i))) (lists-interrupted s i l)
         ∙ sum-map (at 8) interruptedRow (interruptedAt s (suc i))
 
     lists-weight : sumTo 771 one
@@ -192,9 +157,9 @@ module _ (f : Place → ℕ) where
           sum-suc 449 one,
           sum-suc 448 one,
           sum-split 64 384 one,
-          sum-ext 64 one (λ i. sumOn (at 1) (getD (s .ql) i [])) (λ k l. one-is k 1 (omega arith) (place-ql k l) _ (lists-ql s k l)),
+          sum-ext 64 one (λ i. sumOn (at 1) (getD (s .ql) i [])) (λ k l. one-is k 1 (omega arith) (unfold listPlace in rw (lt-ltb k 64 l)) _ (lists-ql s k l)),
           sum-flat (at 1) (s .ql) 64 qls,
-          sum-ext 384 (λ i. one (64 + i)) (λ i. sumOn (at 2) (getD (s .wel) i [])) (λ k l. one-is (64 + k) 2 (omega arith) (place-wel k l) _ (lists-wel s k l)),
+          sum-ext 384 (λ i. one (64 + i)) (λ i. sumOn (at 2) (getD (s .wel) i [])) (λ k l. one-is (64 + k) 2 (omega arith) (unfold listPlace in rw (le-ltb (64 + k) 64 (omega arith), lt-ltb (64 + k) 448 (omega arith))) _ (lists-wel s k l)),
           sum-flat (at 2) (s .wel) 384 wels,
           one-is 448 3 (omega arith) place-wsl _ (lists-wsl s),
           one-is 449 5 (omega arith) place-rel _ (lists-rel s),
@@ -208,10 +173,7 @@ module _ (f : Place → ℕ) where
     unfolding movingOne
     moving-weight none e =
         sum-zero 1024 (λ k. cond (eqb k moving) (row 6 k) 0) (λ k l. ap (λ t. cond t (row 6 k) 0) (ne-eqb k moving (λ q. omega arith)))
-    moving-weight (some t) e = sum-only 1024 moving (row 6) (e .0 .row) ∙ same (ap (λ (u : Transaction). u .number) (e .1))
-      where
-        same : transactionAt w moving .number ≡ t .number → row 6 moving ≡ at 6 t + 0
-        same q = unfold transactionAt in (ap (λ n. f (record { number = n; place = 6 })) q ∙ omega arith)
+    moving-weight (some t) e = sum-only 1024 moving (row 6) (e .0 .row) ∙ (unfold transactionAt in (ap (λ n. f (record { number = n; place = 6 })) (ap (λ (u : Transaction). u .number) (e .1)) ∙ omega arith))
 
     off-lists : (o : Option Transaction) → Moving w moving o → moving < 1024 → load w (place moving) ≡ nowhere
     off-lists none e l = absurd (omega arith)

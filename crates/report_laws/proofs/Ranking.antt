@@ -1,25 +1,10 @@
 -- The living rows by rising number: keys that come into their place one after another rise, and weigh as the living rows do.
-use Prim.Native.Nat.{ℕ, zero, suc, _+_, _*_, _%_, _≤_, _<_}
-use native.Mathlib.Decide.{ℕ-discrete}
-use native.Mathlib.Omega.{arith}
-use mathlib.Core.Path.{_≡_, refl, sym, ap, ap₂, _∙_, subst}
-use mathlib.Core.Logic.{_≢_}
-use mathlib.Core.Bool.{Bool, true, false, cond}
-use mathlib.Core.List.{List, [], _∷_, _++_}
-use borrow.Author.Tests.{leb-true, leb-false}
-use lib.Dec.{leb, eqb}
-use lib.ListN.{length, getD, set, length-set}
-use lib.Seq.{getD-set-same, getD-set-other}
-use Rattle.machine.specs.Report.{Place, placeNumbers}
-use Rattle.machine.specs.Claims.{Each}
+use Rattle.machine.specs.All.{cases, ℕ, zero, suc, _+_, _*_, _%_, _≤_, _<_, ℕ-discrete, arith, _≡_, refl, sym, ap, ap₂, _∙_, subst, _≢_, Bool, true, false, cond, List, [], _∷_, _++_, leb-true, leb-false, leb, eqb, length, getD, set, length-set, getD-set-same, getD-set-other, Place, placeNumbers, Each}
 use Rattle.machine.proofs.lists.Sums.{sumOn, sum-append}
 use Rattle.machine.proofs.lists.Sorting.{Rising}
-use Rattle.rows_laws.specs.Layout.{numberField}
-use Rattle.rows_laws.specs.Cells.{read}
-use Rattle.rows_laws.specs.Living.{sumTo}
+use Rattle.rows_laws.specs.All.{numberField, read, sumTo}
 use Rattle.rows_laws.proofs.Sums.{sum-suc, sum-ext, sum-zero}
-use Rattle.report_laws.specs.Counts.{rowsTo}
-use Rattle.report_laws.specs.Living.{placeOf, placeAt, lives, keyOf, sift, rankOne, rankTo, placeRow}
+use Rattle.report_laws.specs.{rowsTo, placeOf, placeAt, lives, keyOf, sift, rankOne, rankTo}
 
 -- ---- One key more
 
@@ -229,11 +214,10 @@ module _ (w : List ℕ) (moving : ℕ) where
       ranked : dead n ≡ false → living (suc n) ≡ suc (living n) → keys (suc n) ≡ sift (living n) (keyOf w n) (keys n) → Step n
 
     step : (n : ℕ) → Step n
-    step n = go (dead n) refl
-      where
-        go : (t : Bool) → dead n ≡ t → Step n
-        go true e = passed e (omega (arith, sum-suc n (lives w moving), lives-dead n e)) (unfold rankTo rankOne in (rw (lives-dead n e)))
-        go false e = ranked e (omega (arith, sum-suc n (lives w moving), lives-one n e)) (unfold rankTo rankOne in (rw (lives-one n e)))
+    step n =
+        cases (dead n)
+        (λ e. passed e (omega (arith, sum-suc n (lives w moving), lives-dead n e)) (unfold rankTo rankOne in (rw (lives-dead n e))))
+        (λ e. ranked e (omega (arith, sum-suc n (lives w moving), lives-one n e)) (unfold rankTo rankOne in (rw (lives-one n e))))
 
     few : (n : ℕ) → living n ≤ n
     few zero = omega (arith, sum-zero 0 (lives w moving) (λ k b. absurd (omega arith)))

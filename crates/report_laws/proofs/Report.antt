@@ -1,28 +1,14 @@
 -- The report that is written is the machine's: from what stands for a state, the numbers are those of `reportNumbers`, and the
 -- buffer begins with `reportBytes`.
-use Prim.Native.Nat.{ℕ, zero, suc, _+_, _≤_, _<_, min}
-use native.Mathlib.Nat.{add-zero}
-use native.Mathlib.Omega.{arith}
-use mathlib.Core.Path.{_≡_, refl, sym, ap, ap₂, _∙_}
-use mathlib.Core.List.{List, [], _∷_, _++_, append-assoc}
-use mathlib.Core.Option.{none}
-use lib.Dec.{eqb}
-use lib.ListN.{length, getD, drop}
-use Rattle.machine.specs.Term.{Server, Queue, idleServer, emptyQueue}
-use Rattle.machine.specs.Block.{BlockModel}
-use Rattle.machine.specs.State.{State, Logged}
-use Rattle.machine.specs.Report.{recordsAt, serverNumbers, queueNumbers, places, byNumber, placeNumbers, reportNumbers, reportBytes}
+use Rattle.machine.specs.All.{ℕ, zero, suc, _+_, _≤_, _<_, min, add-zero, arith, _≡_, refl, sym, ap, ap₂, _∙_, List, [], _∷_, _++_, append-assoc, eqb, length, getD, drop, Server, Queue, idleServer, emptyQueue, BlockModel, State, Logged, recordsAt, serverNumbers, queueNumbers, places, byNumber, placeNumbers, reportNumbers, reportBytes}
 use Rattle.machine.proofs.decoding.Proper.{Proper, Names, servers}
 use Rattle.machine.proofs.runs.RunLaws.{each-map}
 use Rattle.machine.proofs.conservation.Conservation.{Sound, stands-at-most-once}
 use Rattle.tables.specs.Layout as Layout
-use Rattle.tables.specs.Represents.{headerOf, Represents}
-use Rattle.state.specs.Sane.{Sane}
-use Rattle.state.specs.Stands.{atBlock, Rows, Stands}
+use Rattle.tables.specs.All.{headerOf, Represents}
+use Rattle.state.specs.All.{Sane, atBlock, Rows, Stands}
 use Rattle.state.proofs.Written.{Traced}
-use Rattle.report_laws.specs.Writing.{Written, written, putAll}
-use Rattle.report_laws.specs.Counts.{serverRow, queueRow, rowsTo}
-use Rattle.report_laws.specs.Numbers.{livingNumbers, rowNumbers}
+use Rattle.report_laws.specs.{Written, written, putAll, serverRow, queueRow, rowsTo, livingNumbers, rowNumbers}
 use Rattle.report_laws.proofs.Blocks.{takes-server, fills-queue}
 use Rattle.report_laws.proofs.Counted.{total-records}
 use Rattle.report_laws.proofs.LivingNumbers.{living-numbers}
@@ -44,10 +30,7 @@ rows-same (suc n) f g h = ap₂ _++_ (rows-same n f g (λ i l. h i (omega arith)
 module _ {A : Type 0} (one : ℕ → A → List ℕ) (each : ℕ → List A → List ℕ) (d : A) (end : (v : ℕ) → each v [] ≡ [])
     (more : (v : ℕ) (x : A) (l : List A) → each v (x ∷ l) ≡ one v x ++ each (suc v) l) where
   rows-list : (l : List A) (v : ℕ) → each v l ≡ rowsTo (length l) (λ i. one (v + i) (getD l i d))
-  rows-list [] v = end v ∙ none (λ i. one (v + i) d)
-    where
-      none : (f : ℕ → List ℕ) → [] ≡ rowsTo 0 f
-      none f = unfold rowsTo in refl
+  rows-list [] v = end v ∙ (unfold rowsTo in refl)
   rows-list (x ∷ l) v =
       more v x l
       ∙ ap₂ _++_ (ap (λ n. one n x) (sym (add-zero v)))

@@ -1,21 +1,7 @@
 -- Sums over rows: the rows of a list weigh as all rows weigh that have the list for their place.
-use Prim.Native.Nat.{ℕ, zero, suc, _+_, _*_, _≤_, _<_}
-use native.Mathlib.Nat.{add-zero, add-suc}
-use native.Mathlib.Decide.{ℕ-discrete}
-use native.Mathlib.Omega.{arith}
-use mathlib.Core.Path.{_≡_, refl, sym, ap, _∙_}
-use mathlib.Core.Logic.{_≢_}
-use mathlib.Core.Bool.{Bool, true, false, cond}
-use mathlib.Core.List.{List, [], _∷_}
-use borrow.Author.Tests.{le-ltb, eq-eqb, ne-eqb, ltb-true, ltb-false, eqb-true, eqb-false}
-use lib.Dec.{ltb, eqb}
-use lib.ListN.{length, getD}
-use Rattle.machine.specs.Lists.{flat}
+use Rattle.machine.specs.All.{decided, ℕ, zero, suc, _+_, _*_, _≤_, _<_, add-zero, add-suc, ℕ-discrete, arith, _≡_, refl, sym, ap, _∙_, _≢_, Bool, true, false, cond, List, [], _∷_, le-ltb, eq-eqb, ne-eqb, ltb-true, ltb-false, eqb-true, eqb-false, ltb, eqb, length, getD, flat}
 use Rattle.machine.proofs.lists.Sums.{sumOn, sum-append}
-use Rattle.rows_laws.specs.Layout.{place, listCount}
-use Rattle.rows_laws.specs.Cells.{load}
-use Rattle.rows_laws.specs.Holds.{same, occurs, Holds}
-use Rattle.rows_laws.specs.Living.{sumTo}
+use Rattle.rows_laws.specs.All.{place, listCount, load, same, occurs, Holds, sumTo}
 use Rattle.rows_laws.proofs.Occurs.{same-refl}
 use Rattle.rows_laws.proofs.Sums.{sum-suc, sum-ext, sum-add, sum-zero, sum-at}
 
@@ -53,11 +39,10 @@ sum-flat g (l ∷ ls) (suc n) h =
 
 pub sum-one : (n : ℕ) (g : ℕ → ℕ) (k : ℕ) → k < n → g k ≤ sumTo n g
 sum-one zero g k h = absurd (omega arith)
-sum-one (suc n) g k h = go (ℕ-discrete k n) (sum-one n g k)
-  where
-    go : Dec (k ≡ n) → (k < n → g k ≤ sumTo n g) → g k ≤ sumTo (suc n) g
-    go (yes e) rest = omega (arith, sum-suc n g, ap g e)
-    go (no d) rest = omega (arith, sum-suc n g, rest (omega arith))
+sum-one (suc n) g k h =
+    decided (ℕ-discrete k n)
+    (λ e. omega (arith, sum-suc n g, ap g e))
+    (λ d. omega (arith, sum-suc n g, (sum-one n g k) (omega arith)))
 
 pub sum-two : (n : ℕ) (g : ℕ → ℕ) (j k : ℕ) → j < n → k < n → j ≢ k → g j + g k ≤ sumTo n g
 sum-two zero g j k hj hk d = absurd (omega arith)
@@ -106,10 +91,7 @@ module _ (w : List ℕ) (L : ℕ → List ℕ) (holds : Holds w L) where
   sum-lists zero g h =
       sum-zero 1024 (λ k. cond (ltb (placeField k) 0) (g (placeField k) k) 0)
       (λ k l. ap (λ t. cond t (g (placeField k) k) 0) (le-ltb (placeField k) 0 (omega arith)))
-      ∙ sym (none (λ p. sumOn (g p) (L p)))
-    where
-      none : (f : ℕ → ℕ) → sumTo 0 f ≡ 0
-      none f = sum-zero 0 f (λ k l. absurd (omega arith))
+      ∙ sym (sum-zero 0 (λ p. sumOn (g p) (L p)) (λ k l. absurd (omega arith)))
   sum-lists (suc n) g h =
       omega (
         arith,

@@ -1,17 +1,7 @@
 -- Numbers written one after another, and one more turn of each loop, as the functions' proofs need them.
-use Prim.Native.Nat.{ℕ, suc, _+_, _-_, min, _≤_, _<_}
-use mathlib.Core.Path.{_≡_, refl, sym, ap, _∙_}
-use mathlib.Core.Bool.{Bool, true, false, cond}
-use lib.Dec.{eqb}
-use mathlib.Core.List.{List, [], _∷_, _++_}
-use native.Mathlib.Numerals.{add-one}
-use native.Mathlib.Omega.{arith}
-use borrow.Author.Tests.{le-leb, lt-leb}
-use lib.ListN.{getD, set}
-use Rattle.rows_laws.specs.Living.{sumTo}
-use Rattle.report_laws.specs.Writing.{Written, put, putAll}
-use Rattle.report_laws.specs.Counts.{share, total, rowsTo}
-use Rattle.report_laws.specs.Living.{placeOf, lives, sift, rankOne, rankTo}
+use Rattle.machine.specs.All.{cases, ℕ, suc, _+_, _-_, min, _≤_, _<_, _≡_, refl, sym, ap, _∙_, eqb, List, [], _∷_, _++_, add-one, arith, le-leb, lt-leb, getD, set}
+use Rattle.rows_laws.specs.All.{sumTo}
+use Rattle.report_laws.specs.{Written, put, putAll, share, total, rowsTo, placeOf, lives, sift, rankOne, rankTo}
 
 -- ---- Lists of numbers
 
@@ -63,11 +53,7 @@ rows-next n f w = rw add-one (putAll-append (rowsTo n f) (f n) w)
 module _ (w : List ℕ) (moving : ℕ) where
   pub lives-most : (k : ℕ) → lives w moving k ≤ 1
   unfolding lives
-  lives-most k = go (eqb (placeOf w moving k) 0)
-    where
-      go : (t : Bool) → cond t 0 1 ≤ 1
-      go true = omega arith
-      go false = omega arith
+  lives-most k = cases (eqb (placeOf w moving k) 0) (λ e. rw e (omega arith)) (λ e. rw e (omega arith))
 
   pub rank-none : (l : List ℕ) → l ≡ rankTo w moving 0 l
   unfolding rankTo

@@ -1,11 +1,7 @@
 -- The numbers of one server and of one queue, from tables and tally. Servers, queues and blocks are indices from 0.
-use Prim.Native.Nat.{ℕ, zero, suc, _+_, _*_, min}
-use mathlib.Core.Bool.{Bool, false, true, cond}
-use mathlib.Core.List.{List, [], _∷_, _++_}
-use lib.Dec.{eqb}
-use lib.ListN.{getD}
+use Rattle.machine.specs.All.{ℕ, zero, suc, _+_, _*_, min, Bool, false, true, cond, List, [], _∷_, _++_, eqb, getD}
 use Rattle.tables.specs.Layout as Layout
-use Rattle.state.specs.Statistics.{sumNow, longestNow}
+use Rattle.state.specs.All.{sumNow, longestNow}
 
 -- ---- Records at the blocks that name something
 

@@ -1,9 +1,6 @@
 -- The numbers of the report, from what a run leaves: header, tables, tally, work buffer and scalars.
-use Prim.Native.Nat.{ℕ, _+_, min}
-use mathlib.Core.List.{List, [], _∷_, _++_}
-use Rattle.machine.specs.Limits.{maxFacilities, maxStorages, maxBlocks, maxQueues}
-use lib.ListN.{replicate}
-use Rattle.rows_laws.specs.Layout.{rowCount}
+use Rattle.machine.specs.All.{ℕ, _+_, min, List, [], _∷_, _++_, replicate, maxFacilities, maxStorages, maxBlocks, maxQueues}
+use Rattle.rows_laws.specs.All.{rowCount}
 use Rattle.constants.specs.declared.model.Model.{Model}
 use Rattle.state.specs.declared.scalars.Scalars.{Scalars}
 use Rattle.report_laws.specs.Counts.{serverRow, queueRow, rowsTo}

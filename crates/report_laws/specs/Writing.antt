@@ -1,6 +1,5 @@
 -- Numbers written one after another into the report buffer, each where there is room for it (`put` of crate codec).
-use Prim.Native.Nat.{ℕ}
-use mathlib.Core.List.{List, [], _∷_}
+use Rattle.machine.specs.All.{ℕ, List, [], _∷_}
 pub use Rattle.codec.specs.Writing.{Written}
 unfoldable pub use Rattle.codec.specs.Writing.{written, put}
 

@@ -6,11 +6,8 @@ use crate::TIME;
 use crate::TIME_HIGH;
 use crate::WORD_END;
 use crate::WORK_NUMBERS;
-ghost use mathlib.Core.Path.{_≡_};
-ghost use Prim.Native.Nat.{_+_, _*_, _<_, _≤_};
-ghost use Rattle.machine.specs.Limits.{workNumbers};
-ghost use Rattle.rows_laws.specs.Layout.{rowCount, fieldCount, Room};
-ghost use Rattle.rows_laws.specs.Cells.{load, store, read, write, priorityOf, setReturning, timeOf, setTime};
+ghost use Rattle.machine.specs.All.{_≡_, _+_, _*_, _<_, _≤_, workNumbers};
+ghost use Rattle.rows_laws.specs.All.{rowCount, fieldCount, Room, load, store, read, write, priorityOf, setReturning, timeOf, setTime};
 
 pub fn load(w: &[u32], i: u32) -> u32
     ensures { λ r. ⌜ r ≡ load (now (w .entry)) i ⌝ }

@@ -10,10 +10,8 @@ use crate::cells::time;
 use crate::cells::write;
 use crate::future::cancel;
 use crate::lists::put;
-ghost use mathlib.Core.Path.{_≡_};
-ghost use Prim.Native.Nat.{_+_, _<_, _≤_};
-ghost use Rattle.rows_laws.specs.Layout.{rowCount, serialEnd, Room};
-ghost use Rattle.rows_laws.specs.Clock.{isDue, arriveRow, arriveFirst, arrived, arrive};
+ghost use Rattle.machine.specs.All.{_≡_, _+_, _<_, _≤_};
+ghost use Rattle.rows_laws.specs.All.{rowCount, serialEnd, Room, isDue, arriveRow, arriveFirst, arrived, arrive};
 
 // The first of the FEL has this time.
 pub fn is_due(w: &[u32], due: u64) -> bool

@@ -12,10 +12,8 @@ use crate::cells::priority;
 use crate::cells::read;
 use crate::lists::insert_at;
 use crate::lists::put;
-ghost use mathlib.Core.Path.{_≡_};
-ghost use Prim.Native.Nat.{_<_, _≤_};
-ghost use Rattle.rows_laws.specs.Layout.{rowCount, listCount, Room};
-ghost use Rattle.rows_laws.specs.Lines.{atLeast, foundAt, lastCell, lastMeets, backBefore, backSpot, secondSpot, lineUp};
+ghost use Rattle.machine.specs.All.{_≡_, _<_, _≤_};
+ghost use Rattle.rows_laws.specs.All.{rowCount, listCount, Room, atLeast, foundAt, lastCell, lastMeets, backBefore, backSpot, secondSpot, lineUp};
 
 // Has row j at least the priority of row k?
 fn at_least(w: &[u32], k: u32, j: u32) -> bool

@@ -24,11 +24,8 @@ use crate::cells::set_time;
 use crate::cells::write;
 use crate::lists::insert_at;
 use crate::lists::take_first;
-ghost use mathlib.Core.Path.{_≡_};
-ghost use Prim.Native.Nat.{_<_, _≤_};
-ghost use Rattle.rows_laws.specs.Layout.{rowCount, listCount, priorityEnd, Room, free};
-ghost use Rattle.rows_laws.specs.Lists.{first, takeFirst};
-ghost use Rattle.rows_laws.specs.Make.{clearParameters, copyParameters, describe, newbornAt, copyAt, freeRow, emptyList, emptyLists, looseRows, freeRows, initial};
+ghost use Rattle.machine.specs.All.{_≡_, _<_, _≤_};
+ghost use Rattle.rows_laws.specs.All.{rowCount, listCount, priorityEnd, Room, free, first, takeFirst, clearParameters, copyParameters, describe, newbornAt, copyAt, freeRow, emptyList, emptyLists, looseRows, freeRows, initial};
 
 // A free row, which is then on no list; 1024 or more if all live.
 pub fn make_row(w: &mut [u32]) -> u32

@@ -4,10 +4,8 @@ use crate::SERIAL;
 use crate::cells::priority;
 use crate::cells::read;
 use crate::cells::time;
-ghost use mathlib.Core.Path.{_≡_};
-ghost use Prim.Native.Nat.{_<_};
-ghost use Rattle.rows_laws.specs.Layout.{rowCount, Room};
-ghost use Rattle.rows_laws.specs.Order.{outranks, soonerAt};
+ghost use Rattle.machine.specs.All.{_≡_, _<_};
+ghost use Rattle.rows_laws.specs.All.{rowCount, Room, outranks, soonerAt};
 
 // By priority, high first, then serial, low first.
 pub fn outranks(w: &[u32], x: u32, y: u32) -> bool

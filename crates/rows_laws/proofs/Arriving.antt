@@ -1,25 +1,6 @@
 -- A clock move: `arrive` takes those of the first time from the FEL to REL, as the machine's `arriveAll` does.
-use Prim.Native.Nat.{ℕ, zero, suc, _+_, _*_, _/_, _≤_, _<_}
-use mathlib.Core.Path.{_≡_, refl, sym, ap, _∙_, subst}
-use mathlib.Core.Bool.{Bool, true, false, cond, not}
-use mathlib.Core.List.{List, [], _∷_, map}
-use native.Mathlib.Omega.{arith}
-use borrow.Author.Tests.{lt-ltb, le-ltb, eqb-true}
-use lib.Dec.{eqb}
-use lib.ListN.{length, getD, drop}
-use Rattle.machine.specs.Transaction.{Transaction, Event, precedes, earlier}
-use Rattle.machine.specs.Setters.{withSerial, withReturning}
-use Rattle.machine.specs.Lists.{insert, those, others}
-use Rattle.machine.specs.Turn.{due}
-use Rattle.rows_laws.specs.Layout.{place, rel, fel, listCount}
-use Rattle.rows_laws.specs.Cells.{load, read, write, setReturning}
-use Rattle.rows_laws.specs.Order.{outranks}
-use Rattle.rows_laws.specs.Lists.{put, first}
-use Rattle.rows_laws.specs.Future.{cancel}
-use Rattle.rows_laws.specs.Clock.{isDue, arriveRow, arriveFirst, Arrived, arrived, arrive, arrivals}
-use Rattle.rows_laws.specs.Holds.{transactionAt, eventAt, update}
-use Rattle.rows_laws.specs.Ordered.{Sorted, Strict}
-use Rattle.rows_laws.specs.Shows.{Shown, Held, Loose}
+use Rattle.machine.specs.All.{ℕ, zero, suc, _+_, _*_, _/_, _≤_, _<_, _≡_, refl, sym, ap, _∙_, subst, Bool, true, false, cond, not, List, [], _∷_, map, arith, lt-ltb, le-ltb, eqb-true, eqb, length, getD, drop, Transaction, Event, precedes, earlier, withSerial, withReturning, insert, those, others, due}
+use Rattle.rows_laws.specs.All.{place, rel, fel, listCount, load, read, write, setReturning, outranks, put, first, cancel, isDue, arriveRow, arriveFirst, Arrived, arrived, arrive, arrivals, transactionAt, eventAt, update, Sorted, Strict, Shown, Held, Loose}
 use Rattle.rows_laws.proofs.Insertion.{insert-sorted, strict-sorted, sorted-drop}
 use Rattle.rows_laws.proofs.Orders.{precedes-order, earlier-order}
 use Rattle.rows_laws.proofs.Occurs.{same-refl, occurs-cons}
@@ -58,8 +39,7 @@ module _ (w : List ℕ) (L : ℕ → List ℕ) (T : ℕ → List Transaction) (E
 
   s₁ : Shown w₁ L₁ T (drop 1 E)
   s₁ =
-      subst (λ (l : List Event). Shown w₁ L₁ T l) (ap (λ (l : List ℕ). drop 1 (map (eventAt w) l)) (sym was) ∙ ap (drop 1) (s .future))
-      (cancel-shown w L T E s k hk [] m was)
+      rw (← s .future, was) (cancel-shown w L T E s k hk [] m was)
 
   loose₁ : Loose w₁ k
   loose₁ = record { row = hk; off = cancel-placed w L (s .holds) k hk [] m was }
@@ -68,16 +48,16 @@ module _ (w : List ℕ) (L : ℕ → List ℕ) (T : ℕ → List Transaction) (E
   w₂ = setReturning w₁ k 0
 
   s₂ : Shown w₂ L₁ T (drop 1 E)
-  s₂ = write-shown w₁ 1 k (read w₁ 1 k / 2 * 2 + 0) (omega arith) loose₁ L₁ T (drop 1 E) s₁
+  s₂ = write-shown w₁ 1 k _ (omega arith) loose₁ L₁ T _ s₁
 
   loose₂ : Loose w₂ k
-  loose₂ = write-loose w₁ 1 k (read w₁ 1 k / 2 * 2 + 0) (omega arith) k hk loose₁
+  loose₂ = write-loose w₁ 1 k _ (omega arith) k hk loose₁
 
   abbrev w₃ : List ℕ
   w₃ = write w₂ 7 k serial
 
   s₃ : Shown w₃ L₁ T (drop 1 E)
-  s₃ = write-shown w₂ 7 k serial (omega arith) loose₂ L₁ T (drop 1 E) s₂
+  s₃ = write-shown w₂ 7 k serial (omega arith) loose₂ L₁ T _ s₂
 
   loose₃ : Loose w₃ k
   loose₃ = write-loose w₂ 7 k serial (omega arith) k hk loose₂
@@ -97,22 +77,22 @@ module _ (w : List ℕ) (L : ℕ → List ℕ) (T : ℕ → List Transaction) (E
   pub arrive-shown : Sorted precedes (T rel) → Shown (arriveFirst w serial) arrived-rows (update rel (insert precedes (withSerial serial (withReturning false (transactionAt w k))) (T rel)) T) (drop 1 E)
   unfolding arriveFirst arriveRow
   arrive-shown ready =
-      rw (lt-ltb (first w fel) 1024 hk)
-      (subst (λ (t : Transaction). Shown (put w₃ rel k) arrived-rows (update rel (insert precedes t (T rel)) T) (drop 1 E)) fresh (put-shown w₃ L₁ T (drop 1 E) s₃ k loose₃ rel (omega arith) ready))
+      rw lt-ltb
+      (rw fresh at (put-shown w₃ L₁ T (drop 1 E) s₃ k loose₃ rel (omega arith) ready))
 
   placed : load w (place k) ≡ fel
   placed =
-      row-of w fel [] (k ∷ m) (rw was at (s .holds .listed fel hl)) k (omega (arith, occurs-cons k k m, same-refl k k refl)) .1
+      row-of w fel [] _ (rw was at (s .holds .listed fel hl)) k (omega (arith, occurs-cons k k m, same-refl k k refl)) .1
 
   pub arrive-steady : Steady w (arriveFirst w serial)
   unfolding arriveFirst arriveRow
   arrive-steady =
-      rw (lt-ltb (first w fel) 1024 hk)
-      (around-steady w (put w₃ rel k) k hk (omega (arith, placed)) (omega (arith, put-placed w₃ L₁ (s₃ .holds) rel k (omega arith) (λ e. omega arith) loose₃))
-      (around-trans w w₁ (put w₃ rel k) k (kept-around w w₁ k kept₁)
-      (around-trans w₁ w₂ (put w₃ rel k) k (write-around w₁ 1 k (read w₁ 1 k / 2 * 2 + 0) (omega arith) hk)
-      (around-trans w₂ w₃ (put w₃ rel k) k (write-around w₂ 7 k serial (omega arith) hk)
-      (kept-around w₃ (put w₃ rel k) k (put-keeps w₃ L₁ (s₃ .holds) rel k (omega arith) (λ e. omega arith) loose₃))))))
+      rw lt-ltb
+      (around-steady w _ k hk (omega (arith, placed)) (omega (arith, put-placed w₃ L₁ (s₃ .holds) rel k (omega arith) (λ e. omega arith) loose₃))
+      (around-trans w w₁ _ k (kept-around w w₁ k kept₁)
+      (around-trans w₁ w₂ _ k (write-around w₁ 1 k _ (omega arith) hk)
+      (around-trans w₂ w₃ _ k (write-around w₂ 7 k serial (omega arith) hk)
+      (kept-around w₃ _ k (put-keeps w₃ L₁ (s₃ .holds) rel k (omega arith) (λ e. omega arith) loose₃))))))
 
 -- ---- The first, or none
 
@@ -134,7 +114,7 @@ pub record Came (w : List ℕ) (r : Arrived) (T : ℕ → List Transaction) (E :
 
 -- REL replaced by itself, and twice
 rel-same : (T : ℕ → List Transaction) (q : ℕ) → T q ≡ update rel (T rel) T q
-rel-same T q = go (eqb q rel) refl
+rel-same T q = go _ refl
   where
     go : (t : Bool) → eqb q rel ≡ t → T q ≡ cond t (T rel) (T q)
     go true e = ap T (eqb-true q rel e)
@@ -156,20 +136,20 @@ module _ (time : ℕ) where
   stops : (w : List ℕ) (L : ℕ → List ℕ) (T : ℕ → List Transaction) (E : List Event) → Shown w L T E → (n s : ℕ) → isDue w time ≡ false → run time E ≡ [] → left time E ≡ E → Result n w T E s
   unfolding arrived arrivals
   stops w L T E sh n s e f g =
-      rw (arrive-stop time w s n e, f, g)
+      rw (arrive-stop, f, g)
       (record {
-        held = record { rows = L; shown = shown-ext w L T (update rel (T rel) T) E (λ q hq. rel-same T q) sh };
+        held = record { rows = L; shown = shown-ext w L T _ E (λ q hq. rel-same T q) sh };
         last = omega arith;
         steady = steady-refl w;
       })
 
   due-some : (w : List ℕ) → first w fel < 1024 → isDue w time ≡ due time (eventAt w (first w fel))
   unfolding isDue due eventAt
-  due-some w h = rw (lt-ltb (first w fel) 1024 h)
+  due-some w h = rw lt-ltb
 
   due-none : (w : List ℕ) → 1024 ≤ first w fel → isDue w time ≡ false
   unfolding isDue
-  due-none w h = rw (le-ltb (first w fel) 1024 h)
+  due-none w h = rw le-ltb
 
   arrive-suc : (n : ℕ) (w : List ℕ) (s : ℕ) → isDue w time ≡ true → arrive (suc n) time w s ≡ arrive n time (arriveFirst w (suc s)) (suc s)
   unfolding arrive
@@ -188,18 +168,18 @@ module _ (time : ℕ) where
     comes st q rest =
         rw (arrive-suc n w s (due-some w hk ∙ q), q)
         (record {
-          held = record { rows = rest .held .rows; shown = shown-ext (arrive n time (arriveFirst w (suc s)) (suc s) .rows) (rest .held .rows) (update rel (arrivals (run time E₁) (suc s) R₁) (update rel R₁ T)) (update rel (arrivals (run time E₁) (suc s) R₁) T) (left time E₁) (λ p hp. rel-twice (arrivals (run time E₁) (suc s) R₁) R₁ T p) (rest .held .shown) };
+          held = record { rows = rest .held .rows; shown = shown-ext _ _ _ _ _ (λ p hp. rel-twice _ R₁ T p) (rest .held .shown) };
           last = rest .last ∙ omega arith;
-          steady = steady-trans w (arriveFirst w (suc s)) (arrive n time (arriveFirst w (suc s)) (suc s) .rows) st (rest .steady);
+          steady = steady-trans w _ _ st (rest .steady);
         })
 
     -- it is not
     waits : Shown w L T (e₀ ∷ E₁) → due time e₀ ≡ false → Result (suc n) w T (e₀ ∷ E₁) s
     unfolding run left
-    waits sh q = stops w L T (e₀ ∷ E₁) sh (suc n) s (due-some w hk ∙ q) (rw q) (rw q)
+    waits sh q = stops w L T _ sh _ s (due-some w hk ∙ q) (rw q) (rw q)
 
     split : Shown w L T (e₀ ∷ E₁) → Steady w (arriveFirst w (suc s)) → Result n (arriveFirst w (suc s)) (update rel R₁ T) E₁ (suc s) → Result (suc n) w T (e₀ ∷ E₁) s
-    split sh st rest = go (due time e₀) refl
+    split sh st rest = go _ refl
       where
         go : (t : Bool) → due time e₀ ≡ t → Result (suc n) w T (e₀ ∷ E₁) s
         go true q = comes st q rest
@@ -220,7 +200,7 @@ module _ (time : ℕ) where
       subst (λ (x : List Event). Result (suc n) w T x s) (sym e)
       (split n w L T (map (eventAt w) l) s hk sh′
       (arrive-steady w L T (eventAt w (first w fel) ∷ map (eventAt w) l) sh′ l was′ hk (suc s))
-      (arrive-run n l (arriveFirst w (suc s)) (arrived-rows w L T (eventAt w (first w fel) ∷ map (eventAt w) l) sh′ l was′ hk (suc s)) (update rel (R₁ n w L T (map (eventAt w) l) s hk) T) (map (eventAt w) l) (arrive-shown w L T (eventAt w (first w fel) ∷ map (eventAt w) l) sh′ l was′ hk (suc s) ready) (insert-sorted precedes precedes-order (withSerial (suc s) (withReturning false (transactionAt w (first w fel)))) (T rel) ready) (sorted-drop (λ y x. not (earlier x y)) _ (subst (Strict earlier) e strict)) (arrived-fel w L T (eventAt w (first w fel) ∷ map (eventAt w) l) sh′ l was′ hk (suc s)) (omega arith) (suc s)))
+      (arrive-run n l (arriveFirst w (suc s)) _ (update rel (R₁ n w L T (map (eventAt w) l) s hk) T) (map (eventAt w) l) (arrive-shown w L T (eventAt w (first w fel) ∷ map (eventAt w) l) sh′ l was′ hk (suc s) ready) (insert-sorted precedes precedes-order (withSerial (suc s) (withReturning false (transactionAt w (first w fel)))) (T rel) ready) (sorted-drop (λ y x. not (earlier x y)) _ (subst (Strict earlier) e strict)) (arrived-fel w L T (eventAt w (first w fel) ∷ map (eventAt w) l) sh′ l was′ hk (suc s)) (omega arith) (suc s)))
 
 -- ---- A clock move
 

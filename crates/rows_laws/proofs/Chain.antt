@@ -1,12 +1,6 @@
 -- Chains of cells: what a chain needs of the buffer, and where it ends.
-use Prim.Native.Nat.{ℕ, _+_, _≤_}
-use mathlib.Core.Path.{_≡_, refl, _∙_}
-use mathlib.Core.Logic.{_≢_}
-use mathlib.Core.List.{List, [], _∷_, _++_}
-use native.Mathlib.Omega.{arith}
-use Rattle.rows_laws.specs.Layout.{link}
-use Rattle.rows_laws.specs.Cells.{load}
-use Rattle.rows_laws.specs.Holds.{occurs, Chain, ending}
+use Rattle.machine.specs.All.{ℕ, _≤_, _≡_, refl, _∙_, _≢_, List, [], _∷_, _++_, arith}
+use Rattle.rows_laws.specs.All.{link, load, occurs, Chain, ending}
 use Rattle.rows_laws.proofs.Occurs.{same-refl}
 
 -- the rows of l, read from cell c′ of another buffer, where the links of l are the same
@@ -14,14 +8,14 @@ pub chain-moved : (w w′ : List ℕ) (c c′ : ℕ) (l : List ℕ) → load w�
 unfolding Chain occurs
 chain-moved w w′ c c′ [] e kept h = rw e h
 chain-moved w w′ c c′ (k ∷ l) e kept h =
-    (e ∙ h .0, h .1, chain-moved w w′ (link k) (link k) l (kept k (omega (arith, same-refl k k refl))) (λ j m. kept j (omega arith)) (h .2))
+    (e ∙ h .0, h .1, chain-moved w w′ _ _ l (kept k (omega (arith, same-refl k k refl))) (λ j m. kept j (omega arith)) (h .2))
 
 -- ---- Where it ends
 
 pub ending-append : (c : ℕ) (a b : List ℕ) → ending c (a ++ b) ≡ ending (ending c a) b
 unfolding ending
 ending-append c [] b = refl
-ending-append c (k ∷ a) b = ending-append (link k) a b
+ending-append c (k ∷ a) b = ending-append _ a b
 
 -- at its first cell, or at the link of one of its rows
 pub data EndsAt (c : ℕ) (a : List ℕ) : Type 0 where
@@ -31,7 +25,7 @@ pub data EndsAt (c : ℕ) (a : List ℕ) : Type 0 where
 pub ends : (c : ℕ) (a : List ℕ) → EndsAt c a
 unfolding ending occurs
 ends c [] = start refl
-ends c (k ∷ a) = go (ends (link k) a)
+ends c (k ∷ a) = go (ends _ a)
   where
     go : EndsAt (link k) a → EndsAt c (k ∷ a)
     go (start e) = behind k (omega (arith, same-refl k k refl)) e
@@ -41,7 +35,7 @@ ends c (k ∷ a) = go (ends (link k) a)
 pub chain-after : (w : List ℕ) (c : ℕ) (a b : List ℕ) → Chain w c (a ++ b) → Chain w (ending c a) b
 unfolding Chain ending
 chain-after w c [] b h = h
-chain-after w c (k ∷ a) b h = chain-after w (link k) a b (h .2)
+chain-after w c (k ∷ a) b h = chain-after w _ a b (h .2)
 
 -- a chain whose first part stays but for the cell behind it, which now leads to b′
 pub chain-joined : (w w′ : List ℕ) (c : ℕ) (a b b′ : List ℕ) → ((j : ℕ) → 1 ≤ occurs j a → c ≢ link j) → ((j : ℕ) → occurs j a ≤ 1) → (c ≢ ending c a → load w′ c ≡ load w c) → ((j : ℕ) → 1 ≤ occurs j a → link j ≢ ending c a → load w′ (link j) ≡ load w (link j)) → Chain w c (a ++ b) → Chain w′ (ending c a) b′ → Chain w′ c (a ++ b′)

@@ -1,11 +1,6 @@
 -- The data of rows: what keeps it keeps every row's transaction and event, and the order of the lists.
-use Prim.Native.Nat.{ℕ, _+_, _*_, _≤_, _<_}
-use mathlib.Core.Path.{_≡_, refl}
-use mathlib.Core.List.{List, [], _∷_, map}
-use native.Mathlib.Omega.{arith}
-use Rattle.rows_laws.specs.Layout.{dataFields, slots, fieldAt}
-use Rattle.rows_laws.specs.Cells.{load, read, timeOf}
-use Rattle.rows_laws.specs.Holds.{transactionAt, eventAt, occurs}
+use Rattle.machine.specs.All.{ℕ, _≤_, _<_, _≡_, refl, List, [], _∷_, map, arith}
+use Rattle.rows_laws.specs.All.{dataFields, slots, fieldAt, load, read, timeOf, transactionAt, eventAt, occurs}
 use Rattle.rows_laws.proofs.Occurs.{same-refl}
 
 -- the data of all rows is the same

@@ -1,17 +1,8 @@
 -- What a write to a field of a row makes of its transaction: the machine's setters.
-use Prim.Native.Nat.{ℕ, zero, suc, _+_, _*_, _/_, _%_, _≤_, _<_}
-use mathlib.Core.Path.{_≡_, _∙_}
-use mathlib.Core.List.{List}
-use native.Mathlib.Omega.{arith}
-use lib.Dec.{eqb}
-use lib.ListN.{length, set}
+use Rattle.machine.specs.All.{ℕ, zero, suc, _+_, _*_, _/_, _%_, _≤_, _<_, _≡_, _∙_, List, arith, eqb, length, set, Transaction, withPriority, withParameters, withNext, withSerial, withReturning, withStamp}
 use mir.Syntax.{w32}
 use mir.Val.{toZ}
-use Rattle.machine.specs.Transaction.{Transaction}
-use Rattle.machine.specs.Setters.{withPriority, withParameters, withNext, withSerial, withReturning, withStamp}
-use Rattle.rows_laws.specs.Layout.{dataFields, fieldAt}
-use Rattle.rows_laws.specs.Cells.{read, write, setReturning, timeOf, setTime}
-use Rattle.rows_laws.specs.Holds.{transactionAt, eventAt}
+use Rattle.rows_laws.specs.All.{dataFields, fieldAt, read, write, setReturning, timeOf, setTime, transactionAt, eventAt}
 use Rattle.rows_laws.proofs.Store.{length-store, load-same, load-other}
 
 abbrev pub withNumber : ℕ → Transaction → Transaction
@@ -25,13 +16,13 @@ withFamily x t =
 module _ (w : List ℕ) (k : ℕ) (room : 16384 ≤ length w) (hk : k < 1024) where
   -- another field
   apart : (f x g : ℕ) → f < g → read (write w f k x) g k ≡ read w g k
-  apart f x g h = load-other w (fieldAt f k) x (fieldAt g k) (λ e. omega arith)
+  apart f x g h = load-other w _ x _ (λ e. omega arith)
 
   apart′ : (f x g : ℕ) → g < f → read (write w f k x) g k ≡ read w g k
-  apart′ f x g h = load-other w (fieldAt f k) x (fieldAt g k) (λ e. omega arith)
+  apart′ f x g h = load-other w _ x _ (λ e. omega arith)
 
   own : (f x : ℕ) → f < dataFields → read (write w f k x) f k ≡ x
-  own f x h = load-same w (fieldAt f k) x room (omega arith)
+  own f x h = load-same w _ x room (omega arith)
 
   -- and the time
   beside : (f x : ℕ) → f < 8 → timeOf (write w f k x) k ≡ timeOf w k
@@ -62,14 +53,14 @@ module _ (w : List ℕ) (k : ℕ) (room : 16384 ≤ length w) (hk : k < 1024) wh
   pub write-standing : (p m : ℕ) → m < 2 → transactionAt (write w 1 k (p * 2 + m)) k ≡ withReturning (eqb m 1) (withPriority p (transactionAt w k))
   unfolding transactionAt
   write-standing p m h =
-      let x : ℕ = p * 2 + m in
+      let x = p * 2 + m in
       let half : (p * 2 + m) / 2 ≡ p = omega arith in
       let rest : (p * 2 + m) % 2 ≡ m = omega arith in
       rw (apart′ 1 x 0 (omega arith), own 1 x (omega arith), apart 1 x 2 (omega arith), apart 1 x 3 (omega arith), apart 1 x 4 (omega arith), apart 1 x 5 (omega arith), apart 1 x 6 (omega arith), apart 1 x 7 (omega arith), beside 1 x (omega arith), apart 1 x 10 (omega arith), half, rest)
 
   pub set-returning : (m : ℕ) → m < 2 → transactionAt (setReturning w k m) k ≡ withReturning (eqb m 1) (transactionAt w k)
   unfolding transactionAt
-  set-returning m h = write-standing (read w 1 k / 2) m h
+  set-returning m h = write-standing _ m h
 
   -- parameter i + 1, from its bits
   pub write-parameter : (i x : ℕ) → i < 4 → transactionAt (write w (2 + i) k x) k ≡ withParameters (set (transactionAt w k .parameters) i (toZ w32 x)) (transactionAt w k)
@@ -79,7 +70,7 @@ module _ (w : List ℕ) (k : ℕ) (room : 16384 ≤ length w) (hk : k < 1024) wh
   write-parameter (suc zero) x h =
       rw (apart′ 3 x 0 (omega arith), apart′ 3 x 1 (omega arith), apart′ 3 x 2 (omega arith), own 3 x (omega arith), apart 3 x 4 (omega arith), apart 3 x 5 (omega arith), apart 3 x 6 (omega arith), apart 3 x 7 (omega arith), beside 3 x (omega arith), apart 3 x 10 (omega arith))
   write-parameter (suc (suc zero)) x h =
-      rw (apart′ 4 x 0 (omega arith), apart′ 4 x 1 (omega arith), apart′ 4 x 2 (omega arith), apart′ 4 x 3 (omega arith), own 4 x (omega arith), apart 4 x 5 (omega arith), apart 4 x 6 (omega arith), apart 4 x 7 (omega arith), beside 4 x (omega arith), apart 4 x 10 (omega arith))
+      rw (apart′ 4 x 0 (omega arith), apart′ 4 x 1 (omega arith), apart′, apart′ 4 x 3 (omega arith), own 4 x (omega arith), apart 4 x 5 (omega arith), apart 4 x 6 (omega arith), apart 4 x 7 (omega arith), beside 4 x (omega arith), apart 4 x 10 (omega arith))
   write-parameter (suc (suc (suc zero))) x h =
       rw (apart′ 5 x 0 (omega arith), apart′ 5 x 1 (omega arith), apart′ 5 x 2 (omega arith), apart′ 5 x 3 (omega arith), apart′ 5 x 4 (omega arith), own 5 x (omega arith), apart 5 x 6 (omega arith), apart 5 x 7 (omega arith), beside 5 x (omega arith), apart 5 x 10 (omega arith))
   write-parameter (suc (suc (suc (suc i)))) x h = absurd (omega arith)
@@ -95,17 +86,17 @@ module _ (w : List ℕ) (k : ℕ) (room : 16384 ≤ length w) (hk : k < 1024) (t
   pub time-set : timeOf (setTime w k time) k ≡ time
   unfolding timeOf setTime
   time-set =
-      rw (load-same low (fieldAt 9 k) (time / 4294967296) low-room (omega arith), load-other low (fieldAt 9 k) (time / 4294967296) (fieldAt 8 k) (λ e. omega arith), load-same w (fieldAt 8 k) (time % 4294967296) room (omega arith))
+      rw (load-same low (fieldAt 9 k) _ low-room (omega arith), load-other low (fieldAt 9 k) _ (fieldAt 8 k) (λ e. omega arith), load-same w (fieldAt 8 k) _ room (omega arith))
       (omega arith)
 
   -- a field of the time leaves the others
   others : (g : ℕ) → g < 8 → read (setTime w k time) g k ≡ read w g k
   unfolding setTime
-  others g h = apart′ low k low-room hk 9 (time / 4294967296) g (omega arith) ∙ apart′ w k room hk 8 (time % 4294967296) g h
+  others g h = apart′ low k low-room hk 9 _ g (omega arith) ∙ apart′ w k room hk 8 _ g h
 
   family-kept : read (setTime w k time) 10 k ≡ read w 10 k
   unfolding setTime
-  family-kept = apart low k low-room hk 9 (time / 4294967296) 10 (omega arith) ∙ apart w k room hk 8 (time % 4294967296) 10 (omega arith)
+  family-kept = apart low k low-room hk 9 _ 10 (omega arith) ∙ apart w k room hk 8 _ 10 (omega arith)
 
   -- the time of a row is the stamp of its transaction
   pub write-stamp : transactionAt (setTime w k time) k ≡ withStamp time (transactionAt w k)

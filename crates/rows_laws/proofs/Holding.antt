@@ -1,15 +1,7 @@
 -- Insertion behind any part of a list and removal from it, as laws of `Holds`: one list changes, every other stays, and so does
 -- the data of all rows. No order is asked for.
-use Prim.Native.Nat.{ℕ, _+_, _<_}
-use mathlib.Core.Path.{_≡_}
-use mathlib.Core.Logic.{_≢_}
-use mathlib.Core.List.{List, _∷_, _++_}
-use native.Mathlib.Omega.{arith}
-use borrow.Author.Tests.{lt-ltb}
-use Rattle.rows_laws.specs.Layout.{place, head, fel, nowhere, listCount, tails}
-use Rattle.rows_laws.specs.Cells.{load}
-use Rattle.rows_laws.specs.Lists.{insertAt, removeRow, removeAt}
-use Rattle.rows_laws.specs.Holds.{ending, Listed, Holds, update}
+use Rattle.machine.specs.All.{ℕ, _<_, _≡_, _≢_, List, _∷_, _++_, arith, lt-ltb}
+use Rattle.rows_laws.specs.All.{place, head, fel, nowhere, listCount, tails, load, insertAt, removeRow, removeAt, ending, Listed, Holds, update}
 use Rattle.rows_laws.proofs.Structure.{Changed, end-low, end-high}
 use Rattle.rows_laws.proofs.AtCell.{insert-room, insert-place, remove-room, remove-place}
 use Rattle.rows_laws.proofs.Changes.{insert-changed, insert-listed, remove-changed, remove-listed, removed-row, apart}
@@ -24,7 +16,7 @@ changed-kept : (w w′ : List ℕ) (p k : ℕ) (a b b′ : List ℕ) → p < lis
 changed-kept w w′ p k a b b′ hp one ch =
     record {
       rows = λ i h. ch .kept i (λ e. omega (arith, end-low w p a b one)) (λ e. omega arith) (λ e. omega arith) (λ e. omega arith);
-      places = λ j h d. ch .kept (place j) (λ e. omega (arith, end-low w p a b one)) (λ e. omega arith) (λ e. d (omega arith)) (λ e. omega arith);
+      places = λ j h d. ch .kept _ (λ e. omega (arith, end-low w p a b one)) (λ e. omega arith) (λ e. d (omega arith)) (λ e. omega arith);
     }
 
 module _ (w : List ℕ) (L : ℕ → List ℕ) (h : Holds w L) (p k : ℕ) (a b : List ℕ) (hp : p < listCount) (chained : p ≢ fel) (hk : k < 1024) where
@@ -41,18 +33,18 @@ module _ (w : List ℕ) (L : ℕ → List ℕ) (h : Holds w L) (p k : ℕ) (a b 
 
     pub insert-keeps : Kept w after-insert k
     insert-keeps =
-        changed-kept w after-insert p k a b (k ∷ b) hp one (insert-changed w p k a b (h .room) hp chained hk one off)
+        changed-kept w after-insert p k a b _ hp one (insert-changed w p k a b (h .room) hp chained hk one off)
 
     pub insert-holds : Holds after-insert (update p (a ++ k ∷ b) L)
     insert-holds =
         record {
-          room = insert-room w p (ending (head p) a) k (h .room) hp hk (end-low w p a b one) high (apart w p k a b (h .room) hp chained hk one off);
+          room = insert-room w p _ k (h .room) hp hk (end-low w p a b one) high (apart w p k a b (h .room) hp chained hk one off);
           listed = insert-listed w p k a b (h .room) hp chained hk one off L (h .listed);
         }
 
     pub insert-placed : load after-insert (place k) ≡ p
     insert-placed =
-        insert-place w p (ending (head p) a) k (h .room) hp hk (end-low w p a b one) high (apart w p k a b (h .room) hp chained hk one off)
+        insert-place w p _ k (h .room) hp hk (end-low w p a b one) high (apart w p k a b (h .room) hp chained hk one off)
 
   -- row k, behind a, leaves
   module _ (was : L p ≡ a ++ k ∷ b) where
@@ -63,7 +55,7 @@ module _ (w : List ℕ) (L : ℕ → List ℕ) (h : Holds w L) (p k : ℕ) (a b 
     r-one = rw was at (h .listed p hp)
 
     r-high : ending (head p) a < tails
-    r-high = omega (arith, end-high w p a (k ∷ b) r-one)
+    r-high = omega (arith, end-high w p a _ r-one)
 
     -- the cell holds the row
     pub remove-first : load w (ending (head p) a) ≡ k
@@ -71,20 +63,20 @@ module _ (w : List ℕ) (L : ℕ → List ℕ) (h : Holds w L) (p k : ℕ) (a b 
 
     removes : after-remove ≡ removeRow w p (ending (head p) a) k
     unfolding removeAt
-    removes = rw (remove-first, lt-ltb k 1024 hk)
+    removes = rw (remove-first, lt-ltb)
 
     pub remove-keeps : Kept w after-remove k
     remove-keeps =
         rw removes
-        (changed-kept w (removeRow w p (ending (head p) a) k) p k a (k ∷ b) b hp r-one (remove-changed w p k a b (h .room) hp chained hk r-one))
+        (changed-kept w _ p k a _ b hp r-one (remove-changed w p k a b (h .room) hp chained hk r-one))
 
     pub remove-holds : Holds after-remove (update p (a ++ b) L)
     remove-holds =
         record {
-          room = rw removes (remove-room w p (ending (head p) a) k (h .room) hp hk (end-low w p a (k ∷ b) r-one) r-high);
+          room = rw removes (remove-room w p _ k (h .room) hp hk (end-low w p a _ r-one) r-high);
           listed = rw removes (remove-listed w p k a b (h .room) hp chained hk r-one L (h .listed));
         }
 
     pub remove-placed : load after-remove (place k) ≡ nowhere
     remove-placed =
-        rw removes (remove-place w p (ending (head p) a) k (h .room) hp hk (end-low w p a (k ∷ b) r-one) r-high)
+        rw removes (remove-place w p _ k (h .room) hp hk (end-low w p a _ r-one) r-high)

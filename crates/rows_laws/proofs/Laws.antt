@@ -1,33 +1,9 @@
 -- The laws that the crates above cite: what each function of this crate does to the machine's lists. `Shows w T E` says that
 -- the buffer w has the lists T and the FEL E; `Loose w k` that row k is on no list, as the moving one.
-use Prim.Native.Nat.{ℕ, suc, _+_, _≤_, _<_}
-use mathlib.Core.Path.{_≡_, refl, sym, ap, _∙_, subst}
-use mathlib.Core.Logic.{_≢_}
-use mathlib.Core.Bool.{Bool, false, true, not}
-use mathlib.Core.List.{List, [], _∷_, _++_, map, map-append}
-use native.Mathlib.Omega.{arith}
-use lib.Dec.{eqb}
-use lib.ListN.{length, take, drop}
-use Rattle.machine.specs.Transaction.{Transaction, Event, precedes, earlier}
-use Rattle.machine.specs.Lists.{insert, those, others}
-use Rattle.machine.specs.Moves.{wake}
+use Rattle.machine.specs.All.{ℕ, suc, _+_, _≤_, _<_, _≡_, refl, sym, ap, _∙_, subst, _≢_, Bool, false, true, not, List, [], _∷_, _++_, map, map-append, arith, eqb, length, take, drop, Transaction, Event, precedes, earlier, insert, those, others, wake, due, Each}
 use Rattle.machine.specs.Moves as Moves
 use Rattle.machine.proofs.nobody_able.QueueRemove.{walk}
-use Rattle.machine.specs.Turn.{due}
-use Rattle.machine.specs.Claims.{Each}
-use Rattle.rows_laws.specs.Layout.{listCount, place, head, wsl, rel, fel, free, nowhere}
-use Rattle.rows_laws.specs.Cells.{load}
-use Rattle.rows_laws.specs.Order.{outranks, sooner}
-use Rattle.rows_laws.specs.Lists.{removeAt, put, first, takeFirst, remove}
-use Rattle.rows_laws.specs.Future.{schedule, cancel}
-use Rattle.rows_laws.specs.Lines.{lineUp}
-use Rattle.rows_laws.specs.Wake.{wakeFirst, wakeWalk, wakeAll}
-use Rattle.rows_laws.specs.Clock.{Arrived, arrive, arrivals}
-use Rattle.rows_laws.specs.Make.{freeRow}
-use Rattle.rows_laws.specs.Living.{loose, onLists}
-use Rattle.rows_laws.specs.Holds.{transactionAt, eventAt, ending, Holds, update}
-use Rattle.rows_laws.specs.Ordered.{All, Sorted, Strict, Ordered}
-use Rattle.rows_laws.specs.Shows.{orderOf, Shows, Loose, moved}
+use Rattle.rows_laws.specs.All.{listCount, place, head, wsl, rel, fel, free, nowhere, load, outranks, sooner, removeAt, put, first, takeFirst, remove, schedule, cancel, lineUp, wakeFirst, wakeWalk, wakeAll, Arrived, arrive, arrivals, freeRow, loose, onLists, transactionAt, eventAt, ending, Holds, update, All, Sorted, Strict, Ordered, orderOf, Shows, Loose, moved}
 use Rattle.rows_laws.proofs.Occurs.{same-refl, occurs-append, occurs-cons}
 use Rattle.rows_laws.proofs.Insertion.{all-map, front, insert-sorted, insert-strict, sorted-without, sorted-drop, sorted-those}
 use Rattle.rows_laws.proofs.Orders.{precedes-order, earlier-order, earlier-total}
@@ -63,7 +39,7 @@ fresh-given t n (x ∷ E) e h = (omega (arith, h .0), fresh-given t n E e (h .1)
 -- so it stands before or behind each
 pub fresh-apart : (w : List ℕ) (k : ℕ) (E : List Event) → Fresh (transactionAt w k) E → All (λ e. earlier (eventAt w k) e ≡ false → earlier e (eventAt w k) ≡ true) E
 unfolding eventAt
-fresh-apart w k E fresh = all-map _ _ E (λ e lt. earlier-total (eventAt w k) e lt) fresh
+fresh-apart w k E fresh = all-map _ _ E (λ e lt. earlier-total _ e lt) fresh
 
 -- what putting row k leaves: the other rows, and one fewer on no list
 pub record Puts (w w′ : List ℕ) (k : ℕ) (T : ℕ → List Transaction) (E : List Event) : Type 0 where
@@ -150,7 +126,7 @@ module _ (w : List ℕ) (T : ℕ → List Transaction) (E : List Event) (s : Sho
     pub line-shows : (edition p : ℕ) → p < 770 → (edition ≡ 1 → Sorted precedes (T p)) → Sorted (orderOf p) (Moves.lineUp edition (transactionAt w k) (T p))
         → Puts w (lineUp edition w p k) k (update p (Moves.lineUp edition (transactionAt w k) (T p)) T) E
     line-shows edition p hp sorted stays =
-        puts (lineUp edition w p k) p (update p (Moves.lineUp edition (transactionAt w k) (T p)) T) E (omega arith) (line-keeps w L T E (s .shown) k off edition p hp sorted) (line-placed w L T E (s .shown) k off edition p hp sorted) (shows-line edition p hp sorted stays)
+        puts _ p _ E (omega arith) (line-keeps w L T E (s .shown) k off edition p hp sorted) (line-placed w L T E (s .shown) k off edition p hp sorted) (shows-line edition p hp sorted stays)
 
     -- onto the FEL, with a serial above all there
     abbrev pub shows-schedule : Fresh (transactionAt w k) E → Shows (schedule w k) T (insert earlier (eventAt w k) E)
@@ -163,16 +139,16 @@ module _ (w : List ℕ) (T : ℕ → List Transaction) (E : List Event) (s : Sho
 
     pub put-shows : (p : ℕ) → p < 770 → Sorted precedes (T p) → Puts w (put w p k) k (update p (insert precedes (transactionAt w k) (T p)) T) E
     put-shows p hp sorted =
-        puts (put w p k) p (update p (insert precedes (transactionAt w k) (T p)) T) E (omega arith) (put-keeps w L h p k (omega arith) (λ e. omega arith) off) (put-placed w L h p k (omega arith) (λ e. omega arith) off) (shows-put p hp sorted)
+        puts _ p _ E (omega arith) (put-keeps w L h p k (omega arith) (λ e. omega arith) off) (put-placed w L h p k (omega arith) (λ e. omega arith) off) (shows-put p hp sorted)
 
     pub schedule-shows : Fresh (transactionAt w k) E → Puts w (schedule w k) k T (insert earlier (eventAt w k) E)
     schedule-shows fresh =
-        puts (schedule w k) fel T (insert earlier (eventAt w k) E) (omega arith) (schedule-keeps w L h k off) (schedule-placed w L h k off) (shows-schedule fresh)
+        puts _ fel T _ (omega arith) (schedule-keeps w L h k off) (schedule-placed w L h k off) (shows-schedule fresh)
 
     -- the row of one that ended
     pub free-shows : Puts w (freeRow w k) k T E
     free-shows =
-        puts (freeRow w k) free T E (omega arith) (free-keeps w L T E (s .shown) k off) (free-placed w L T E (s .shown) k off)
+        puts _ free T E (omega arith) (free-keeps w L T E (s .shown) k off) (free-placed w L T E (s .shown) k off)
         (record { rows = _; shown = free-shown w L T E (s .shown) k off; ordered = o })
 
   -- ---- Taking
@@ -187,8 +163,8 @@ module _ (w : List ℕ) (T : ℕ → List Transaction) (E : List Event) (s : Sho
 
     pub takes : (U : ℕ → List Transaction) (F : List Event) → Shows without U F → Takes w without k U F
     takes U F shows =
-        let off : load without (place k) ≡ nowhere = remove-placed w L h p k a b hp chained hk was in
-        let at : load w (place k) ≡ p = row-of w p a (k ∷ b) (rw was at (h .listed p hp)) k (omega (arith, occurs-append k a (k ∷ b), occurs-cons k k b, same-refl k k refl)) .1 in
+        let off = remove-placed w L h p k a b hp chained hk was in
+        let at = row-of w p a _ (rw was at (h .listed p hp)) k (omega (arith, occurs-append k a (k ∷ b), occurs-cons k k b, same-refl k k refl)) .1 in
         record {
           shows = shows;
           around = kept-around w without k kept;
@@ -203,12 +179,12 @@ module _ (w : List ℕ) (T : ℕ → List Transaction) (E : List Event) (s : Sho
   take-shows p hp n =
       let hl : p < listCount = omega arith in
       let d : p ≢ fel = λ e. omega arith in
-      let r : (m : List ℕ) × (L p ≡ first w p ∷ m) = rows-first w L T E (s .shown) p hl d n in
-      takes p (first w p) [] (r .0) hl d n (r .1) (update p (drop 1 (T p)) T) E
+      let r = rows-first w L T E (s .shown) p hl d n in
+      takes p _ [] _ hl d n (r .1) _ E
       (record {
         rows = _;
-        shown = take-shown w L T E (s .shown) p hl d (r .0) (r .1) n hp;
-        ordered = ordered-list orderOf T E p (drop 1 (T p)) (sorted-drop (orderOf p) (T p) (o .lists p hp)) o;
+        shown = take-shown w L T E (s .shown) p hl d _ (r .1) n hp;
+        ordered = ordered-list orderOf T E p _ (sorted-drop _ _ (o .lists p hp)) o;
       })
 
   -- a row of the FEL
@@ -221,18 +197,18 @@ module _ (w : List ℕ) (T : ℕ → List Transaction) (E : List Event) (s : Sho
         record {
           shows =
               record {
-                rows = update fel (a ++ b) L;
+                rows = update fel _ L;
                 shown = cancel-shown w L T E (s .shown) k hk a b was;
                 ordered =
                     ordered-fel orderOf T E _
-                    (rw (map-append (eventAt w) a b)
-                    (sorted-without (λ y x. not (earlier x y)) (map (eventAt w) a) (eventAt w k) (map (eventAt w) b) (subst (Strict earlier) later (o .future))))
+                    (rw map-append
+                    (sorted-without (λ y x. not (earlier x y)) (map _ a) _ _ (rw later at (o .future))))
                     o;
               };
-          around = kept-around w (cancel w k) k (cancel-keeps w L h k hk a b was);
+          around = kept-around w _ k (cancel-keeps w L h k hk a b was);
           same = same-row w (cancel w k) k hk (cancel-keeps w L h k hk a b was .rows);
           off = record { row = hk; off = cancel-placed w L h k hk a b was };
-          count = loose-more w (cancel w k) k hk (cancel-keeps w L h k hk a b was .places) (omega (arith, cancel-was w L h k hk a b was)) (cancel-placed w L h k hk a b was);
+          count = loose-more w _ k hk (cancel-keeps w L h k hk a b was .places) (omega (arith, cancel-was w L h k hk a b was)) (cancel-placed w L h k hk a b was);
         }
 
   -- a row for one that is made
@@ -241,9 +217,9 @@ module _ (w : List ℕ) (T : ℕ → List Transaction) (E : List Event) (s : Sho
   make-shows n =
       let hl : free < listCount = omega arith in
       let d : free ≢ fel = λ e. omega arith in
-      let r : (m : List ℕ) × (L free ≡ first w free ∷ m) = rows-first w L T E (s .shown) free hl d n in
-      takes free (first w free) [] (r .0) hl d n (r .1) T E
-      (record { rows = _; shown = take-free-shown w L T E (s .shown) free hl d (r .0) (r .1) n refl; ordered = o })
+      let r = rows-first w L T E (s .shown) free hl d n in
+      takes free _ [] _ hl d n (r .1) T E
+      (record { rows = _; shown = take-free-shown w L T E (s .shown) free hl d _ (r .1) n refl; ordered = o })
 
   -- a row by its number, wherever it stands
   module _ (k : ℕ) (hk : k < 1024) where
@@ -251,34 +227,34 @@ module _ (w : List ℕ) (T : ℕ → List Transaction) (E : List Event) (s : Sho
     remove-shows p hp at =
         let hl : p < listCount = omega arith in
         let d : p ≢ fel = λ e. omega arith in
-        let r : (b : List ℕ) × (L p ≡ front eqb k (L p) ++ k ∷ b) = rest-of w L h p k hl hk at in
-        let was : T p ≡ map (transactionAt w) (front eqb k (L p)) ++ transactionAt w k ∷ map (transactionAt w) (r .0) = sym (s .shown .lists p hp) ∙ ap (map (transactionAt w)) (r .1) ∙ map-append (transactionAt w) (front eqb k (L p)) (k ∷ r .0) in
+        let r = rest-of w L h p k hl hk at in
+        let was = sym (s .shown .lists p hp) ∙ ap (map (transactionAt w)) (r .1) ∙ map-append (transactionAt w) (front eqb k (L p)) (k ∷ r .0) in
         record {
-          ahead = map (transactionAt w) (front eqb k (L p));
-          behind = map (transactionAt w) (r .0);
+          ahead = map _ (front eqb k _);
+          behind = map _ (r .0);
           parts = was;
           left =
-              rw (remove-is w L h p k hl hk at d, ← map-append (transactionAt w) (front eqb k (L p)) (r .0))
-              (takes p k (front eqb k (L p)) (r .0) hl d hk (r .1) (update p (map (transactionAt w) (front eqb k (L p) ++ r .0)) T) E
+              rw (remove-is w L h p k hl hk at d, ← map-append)
+              (takes p k _ _ hl d hk (r .1) _ E
               (record {
                 rows = _;
-                shown = shown-list w _ L T E (s .shown) p (front eqb k (L p) ++ r .0) (remove-holds w L h p k (front eqb k (L p)) (r .0) hl d hk (r .1)) (kept p k (front eqb k (L p)) (r .0) hl d hk (r .1) .rows) hp;
+                shown = shown-list w _ L T E (s .shown) p _ (remove-holds w L h p k _ _ hl d hk (r .1)) (kept p k _ _ hl d hk (r .1) .rows) hp;
                 ordered =
                     ordered-list orderOf T E p _
-                    (rw (map-append (transactionAt w) (front eqb k (L p)) (r .0))
-                    (sorted-without (orderOf p) (map (transactionAt w) (front eqb k (L p))) (transactionAt w k) (map (transactionAt w) (r .0)) (rw was at (o .lists p hp))))
+                    (rw map-append
+                    (sorted-without _ (map _ (front eqb k _)) _ _ (rw was at (o .lists p hp))))
                     o;
               }));
         }
 
     pub cancel-shows : load w (place k) ≡ fel → Without (eventAt w k) E (λ l. Takes w (cancel w k) k T l)
     cancel-shows at =
-        let r : (b : List ℕ) × (L fel ≡ front eqb k (L fel) ++ k ∷ b) = rest-of w L h fel k (omega arith) hk at in
+        let r = rest-of w L h fel k (omega arith) hk at in
         record {
-          ahead = map (eventAt w) (front eqb k (L fel));
-          behind = map (eventAt w) (r .0);
-          parts = later k (front eqb k (L fel)) (r .0) hk (r .1);
-          left = rw (← map-append (eventAt w) (front eqb k (L fel)) (r .0)) (cancels k (front eqb k (L fel)) (r .0) hk (r .1));
+          ahead = map _ (front eqb k _);
+          behind = map _ (r .0);
+          parts = later k (front eqb k _) _ hk (r .1);
+          left = rw (← map-append) (cancels k (front eqb k _) _ hk (r .1));
         }
 
   -- there is one exactly if fewer than 1,024 live
@@ -300,22 +276,20 @@ module _ (w : List ℕ) (T : ℕ → List Transaction) (E : List Event) (s : Sho
             record {
               rows = woken .held .rows;
               shown = woken .held .shown;
-              ordered = ordered-moved orderOf T E p l (wake m (T rel)) sorted (wake-sorted m (T rel) ready) o;
+              ordered = ordered-moved orderOf T E p l _ sorted (wake-sorted m _ ready) o;
             };
         steady = woken .steady;
       }
 
   pub wake-first-shows : (p : ℕ) → p < 449 → Wakes w (wakeFirst w p) (moved p (drop 1 (T p)) (wake (take 1 (T p)) (T rel)) T) E
   wake-first-shows p hp =
-      wakes p hp (drop 1 (T p)) (take 1 (T p)) (wakeFirst w p) (sorted-drop (orderOf p) (T p) (o .lists p (omega arith)))
+      wakes p hp _ _ _ (sorted-drop _ _ (o .lists p (omega arith)))
       (WakingAll.wake-first-held w L T E (s .shown) ready p hp)
 
   pub wake-all-shows : (test : List ℕ → ℕ → Bool) (P : Transaction → Bool) → ((v : List ℕ) (k : ℕ) → test v k ≡ P (transactionAt v k)) → (p : ℕ) → p < 449 → Wakes w (wakeAll test 1024 w p (head p)) (moved p (others P (T p)) (wake (those P (T p)) (T rel)) T) E
   wake-all-shows test P agree p hp =
-      wakes p hp (others P (T p)) (those P (T p)) (wakeAll test 1024 w p (head p)) (sorted-those (orderOf p) (λ t. not (P t)) (T p) (o .lists p (omega arith)))
-      (subst (λ (l : List Transaction). WakingAll.Woken w (wakeAll test 1024 w p (head p)) (moved p (others P l) (wake (those P l) (T rel)) T) E)
-      (s .shown .lists p (omega arith))
-      (WakingAll.wakeAll-held test P agree E p hp 1024 w L T (s .shown) ready (short w p (L p) (h .listed p (omega arith)))))
+      wakes p hp _ _ _ (sorted-those _ (λ t. not (P t)) _ (o .lists p (omega arith)))
+      (rw (s .shown .lists p (omega arith)) at (WakingAll.wakeAll-held test P agree E p hp 1024 w L T (s .shown) ready (short w p (L p) (h .listed p (omega arith)))))
 
   -- from a line of waiters, with a number
   pub wake-walk-shows : (test : ℕ → List ℕ → ℕ → Bool) (next : ℕ → List ℕ → ℕ → ℕ) (P : ℕ → Transaction → Bool) (N : ℕ → Transaction → ℕ)
@@ -323,10 +297,8 @@ module _ (w : List ℕ) (T : ℕ → List Transaction) (E : List Event) (s : Sho
       → Wakes w (wakeWalk test next 1024 left w p (head p)) (moved p (walk P N left (T p) .stay) (wake (walk P N left (T p) .go) (T rel)) T) E
   unfolding ending
   wake-walk-shows test next P N agree follow left p hp =
-      wakes p (omega arith) (walk P N left (T p) .stay) (walk P N left (T p) .go) (wakeWalk test next 1024 left w p (head p)) (sorted-line p hp _)
-      (subst (λ (l : List Transaction). WakingAll.Woken w (wakeWalk test next 1024 left w p (head p)) (moved p (walk P N left l .stay) (wake (walk P N left l .go) (T rel)) T) E)
-      (s .shown .lists p (omega arith))
-      (WakingAll.wakeWalk-held test next P N agree follow E p (omega arith) 1024 (L p) left w L T (s .shown) ready [] refl (short w p (L p) (h .listed p (omega arith)))))
+      wakes p (omega arith) _ _ _ (sorted-line p hp _)
+      (rw (s .shown .lists p (omega arith)) at (WakingAll.wakeWalk-held test next P N agree follow E p (omega arith) 1024 (L p) left w L T (s .shown) ready [] refl (short w p (L p) (h .listed p (omega arith)))))
 
   -- ---- A clock move
 
@@ -345,8 +317,8 @@ module _ (w : List ℕ) (T : ℕ → List Transaction) (E : List Event) (s : Sho
                   rows = r .held .rows;
                   shown = r .held .shown;
                   ordered =
-                      ordered-fel orderOf (update rel (arrivals (those (due (e .time)) E) serial (T rel)) T) E later (sorted-those (λ y x. not (earlier x y)) (λ t. not (due (e .time) t)) E (o .future))
-                      (ordered-list orderOf T E rel _ (arrivals-sorted (those (due (e .time)) E) serial (T rel) ready) o);
+                      ordered-fel orderOf _ E later (sorted-those (λ y x. not (earlier x y)) (λ t. not (due _ t)) E (o .future))
+                      (ordered-list orderOf T E rel _ (arrivals-sorted _ serial _ ready) o);
                 };
             last = r .last;
             steady = r .steady;

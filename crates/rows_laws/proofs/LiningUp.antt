@@ -1,24 +1,7 @@
 -- A row comes onto a line of waiters where the machine's `lineUp` puts its transaction, by either edition.
-use Prim.Native.Nat.{ℕ, zero, suc, _-_, _%_, _≤_, _<_}
-use mathlib.Core.Path.{_≡_, refl, sym, ap, _∙_, subst}
-use mathlib.Core.Logic.{_≢_}
-use mathlib.Core.Bool.{Bool, true, false, cond}
-use mathlib.Core.List.{List, [], _∷_, _++_, map, reverse, reverse-cons, reverse-append, append-nil, append-assoc, map-append}
-use native.Mathlib.Omega.{arith}
-use borrow.Author.Tests.{lt-ltb, le-ltb, eqb-true}
-use lib.Dec.{eqb, leb}
-use lib.ListN.{length}
-use Rattle.machine.specs.Transaction.{Transaction, Event, precedes}
-use Rattle.machine.specs.Lists.{insert}
+use Rattle.machine.specs.All.{ℕ, zero, suc, _-_, _%_, _≤_, _<_, _≡_, refl, sym, ap, _∙_, subst, _≢_, Bool, true, false, cond, List, [], _∷_, _++_, map, reverse, reverse-cons, reverse-append, append-nil, append-assoc, map-append, arith, lt-ltb, le-ltb, eqb-true, eqb, leb, length, Transaction, Event, precedes, insert}
 use Rattle.machine.specs.Moves as Moves
-use Rattle.rows_laws.specs.Layout.{fel, place, link, links, head, heads, tail}
-use Rattle.rows_laws.specs.Cells.{load, read}
-use Rattle.rows_laws.specs.Order.{outranks}
-use Rattle.rows_laws.specs.Lists.{insertAt, put}
-use Rattle.rows_laws.specs.Lines.{atLeast, foundAt, lastCell, lastMeets, backBefore, backSpot, secondSpot, lineUp}
-use Rattle.rows_laws.specs.Holds.{transactionAt, Chain, ending, Listed, Holds, update}
-use Rattle.rows_laws.specs.Ordered.{All, Sorted}
-use Rattle.rows_laws.specs.Shows.{Shown, Loose}
+use Rattle.rows_laws.specs.All.{fel, place, link, links, head, heads, tail, load, read, outranks, insertAt, put, atLeast, foundAt, lastCell, lastMeets, backBefore, backSpot, secondSpot, lineUp, transactionAt, Chain, ending, Listed, Holds, update, All, Sorted, Shown, Loose}
 use Rattle.rows_laws.proofs.Insertion.{map-insert, append-all, lastOf}
 use Rattle.rows_laws.proofs.Orders.{outranks-is}
 use Rattle.rows_laws.proofs.Walk.{lastCell-stop, lastCell-next}
@@ -52,7 +35,7 @@ module _ {A : Type 0} (meets : A → A → Bool) (x : A) where
   all-reverse : (m : List A) → All (λ y. meets x y ≡ false) m → All (λ y. meets x y ≡ false) (reverse m)
   unfolding All
   all-reverse [] h = tt
-  all-reverse (y ∷ m) h = rw (reverse-cons y m) (append-all (λ y. meets x y ≡ false) (reverse m) (y ∷ []) (all-reverse m (h .1)) (h .0, tt))
+  all-reverse (y ∷ m) h = rw reverse-cons (append-all (λ y. meets x y ≡ false) (reverse m) _ (all-reverse m (h .1)) (h .0, tt))
 
   twice : (l : List A) → reverse (reverse l) ≡ l
   twice [] = refl
@@ -96,11 +79,11 @@ module _ (w : List ℕ) (p k : ℕ) where
 
   stops-snoc : (a : List ℕ) (j : ℕ) → meets k j ≡ true → Stops meets k (reverse (a ++ j ∷ []))
   unfolding Stops
-  stops-snoc a j h = rw (reverse-append a (j ∷ [])) h
+  stops-snoc a j h = rw reverse-append h
 
   end-snoc : (a : List ℕ) (j : ℕ) → link j ≡ ending (head p) (a ++ j ∷ [])
   unfolding ending
-  end-snoc a j = sym (ending-append (head p) a (j ∷ []))
+  end-snoc a j = sym (ending-append _ a _)
 
   module _ (rows : List ℕ) where
     -- no row of m passes
@@ -141,14 +124,14 @@ module _ (w : List ℕ) (p k : ℕ) where
             at = end-snoc (a ++ m) j ∙ ap (ending (head p)) (append-assoc a m (j ∷ []));
             found = h .found;
             chain = h .chain .2;
-            low = append-all (λ j. meets k j ≡ false) m (j ∷ []) (h .low) (off, tt);
+            low = append-all (λ j. meets k j ≡ false) m _ (h .low) (off, tt);
             stops = h .stops;
           }
 
       row-found : (n : ℕ) → (Reached (link j) (link j) ((a ++ m) ++ j ∷ []) [] l → Found (lastCell n w k (link j) (link j)))
           → (Reached (link j) f a (m ++ j ∷ []) l → Found (lastCell n w k (link j) f)) → Found (lastCell (suc n) w k c f)
       unfolding Chain foundAt
-      row-found n met off = rw (lastCell-next w k (suc n) n c f j refl (h .chain .0) (h .chain .1)) (go (meets k j) refl)
+      row-found n met off = rw (lastCell-next w k _ n c f j refl (h .chain .0) (h .chain .1)) (go _ refl)
         where
           go : (t : Bool) → meets k j ≡ t → Found (lastCell n w k (link j) (cond t (link j) f))
           go true e = met (row-passes e)
@@ -156,29 +139,29 @@ module _ (w : List ℕ) (p k : ℕ) where
 
     nobody-left : (n c f : ℕ) (a m : List ℕ) → Reached c f a m [] → Found (lastCell n w k c f)
     unfolding Chain
-    nobody-left n c f a m h = rw (lastCell-stop w k n c f (h .chain), h .found) (none-left a m (h .whole ∙ append-nil (a ++ m)) (h .low) (h .stops))
+    nobody-left n c f a m h = rw (lastCell-stop w k n c f (h .chain), h .found) (none-left a m (h .whole ∙ append-nil _) (h .low) (h .stops))
 
     last-spotted : (l : List ℕ) (n c f : ℕ) (a m : List ℕ) → length l ≤ n → Reached c f a m l → Found (lastCell n w k c f)
     last-spotted [] n c f a m len h = nobody-left n c f a m h
     last-spotted (j ∷ l) zero c f a m len h = absurd (omega arith)
     last-spotted (j ∷ l) (suc n) c f a m len h =
-        row-found c f a m j l h n (last-spotted l n (link j) (link j) ((a ++ m) ++ j ∷ []) [] (omega arith)) (last-spotted l n (link j) f a (m ++ j ∷ []) (omega arith))
+        row-found c f a m j l h n (last-spotted l n _ _ _ [] (omega arith)) (last-spotted l n _ f a _ (omega arith))
 
     from-head : p ≢ fel → Listed w p rows → Spotted p k (lastCell 1024 w k (head p) (head p)) rows (backed meets k rows)
     unfolding ending All Stops
-    from-head chained one = last-spotted rows 1024 (head p) (head p) [] [] (short w p rows one) (record { whole = refl; at = refl; found = refl; chain = one .chain chained; low = tt; stops = tt })
+    from-head chained one = last-spotted rows 1024 _ _ [] [] (short w p rows one) (record { whole = refl; at = refl; found = refl; chain = one .chain chained; low = tt; stops = tt })
 
   -- the last row passes
   last-first : (y : ℕ) (l : List ℕ) → meets k (lastOf y l) ≡ true → (r : List ℕ) × (reverse (y ∷ l) ≡ lastOf y l ∷ r)
   unfolding lastOf
   last-first y [] h = ([], refl)
-  last-first y (z ∷ l) h = let (r, e) = last-first z l h in (r ++ y ∷ [], reverse-cons y (z ∷ l) ∙ ap (λ (x : List ℕ). x ++ y ∷ []) e)
+  last-first y (z ∷ l) h = let (r, e) = last-first z l h in (r ++ y ∷ [], cc (reverse-cons y (z ∷ l), e))
 
   at-end : (y : ℕ) (l : List ℕ) → meets k (lastOf y l) ≡ true → Spotted p k (ending (head p) (y ∷ l)) (y ∷ l) (backed meets k (y ∷ l))
   unfolding All Stops
   at-end y l h =
       let (r, e) = last-first y l h in
-      none-left (y ∷ l) (y ∷ l) [] (sym (append-nil (y ∷ l))) tt (rw e h)
+      none-left _ _ [] (sym (append-nil _)) tt (rw e h)
 
   -- a cell of the heads is no row's link
   no-row : (t : ℕ) → heads ≤ t → lastMeets w k t ≡ false
@@ -189,19 +172,19 @@ module _ (w : List ℕ) (p k : ℕ) where
   unfolding lastMeets
   a-row j h =
       let f : link j - links ≡ j = omega arith in
-      rw (le-ltb (link j) links (omega arith), f, lt-ltb j 1024 h)
+      rw (le-ltb (link j) links (omega arith), f, lt-ltb)
 
   back-spotted : p ≢ fel → (rows : List ℕ) → Listed w p rows → Spotted p k (backSpot w p k) rows (backed meets k rows)
   unfolding backSpot backBefore ending
   back-spotted chained [] one =
-      let t : load w (tail p) ≡ head p = one .last chained in
+      let t = one .last chained in
       rw (t, no-row (head p) (omega arith)) (from-head [] chained one)
   back-spotted chained (y ∷ l) one =
-      let j : ℕ = lastOf y l in
-      let t : load w (tail p) ≡ link j = one .last chained ∙ ending-last meets w p k (head p) y l in
-      let row : j < 1024 = one .row j (occurs-last meets w p k y l) in
-      rw (t, a-row j row)
-      (go (meets k j) refl (rw (ending-last meets w p k (head p) y l) at (at-end y l)) (from-head (y ∷ l) chained one))
+      let j = lastOf y l in
+      let t = one .last chained ∙ ending-last meets w p k (head p) y l in
+      let row = one .row j (occurs-last meets w p k y l) in
+      rw (t, a-row)
+      (go _ refl (rw (ending-last meets w p k _ y l) at (at-end y l)) (from-head _ chained one))
     where
       go : (b : Bool) → meets k (lastOf y l) ≡ b → (meets k (lastOf y l) ≡ true → Spotted p k (link (lastOf y l)) (y ∷ l) (backed meets k (y ∷ l)))
           → Spotted p k (lastCell 1024 w k (head p) (head p)) (y ∷ l) (backed meets k (y ∷ l))
@@ -227,7 +210,7 @@ module _ (w : List ℕ) (L : ℕ → List ℕ) (T : ℕ → List Transaction) (E
     where
       go : (mark : Bool) → Spotted p k (cond mark (head p) (backSpot w p k)) (L p) (cond mark (k ∷ L p) (backed (atLeast w) k (L p)))
       go true = record { before = []; behind = L p; parts = refl; cell = refl; is = refl }
-      go false = back-spotted w p k (λ e. omega arith) (L p) one
+      go false = back-spotted w p k (λ e. omega arith) _ one
 
   -- they are the transactions of the machine's line
   lined-is : map (transactionAt w) (lined edition w p k (L p)) ≡ Moves.lineUp edition (transactionAt w k) (T p)
@@ -255,7 +238,7 @@ module _ (w : List ℕ) (L : ℕ → List ℕ) (T : ℕ → List Transaction) (E
     where
       go : (b : Bool) → Kept w (cond b (put w p k) (insertAt w p (secondSpot w p k) k)) k
       go true = put-keeps w L (s .holds) p k (omega arith) chained off
-      go false = rw (spotted .cell) (insert-keeps w L (s .holds) p k (spotted .before) (spotted .behind) (omega arith) chained (off .row) (spotted .parts) (off .off))
+      go false = rw (spotted .cell) (insert-keeps w L (s .holds) p k _ _ (omega arith) chained (off .row) (spotted .parts) (off .off))
 
   pub line-placed : load (lineUp edition w p k) (place k) ≡ p
   unfolding lineUp
@@ -263,20 +246,19 @@ module _ (w : List ℕ) (L : ℕ → List ℕ) (T : ℕ → List Transaction) (E
     where
       go : (b : Bool) → load (cond b (put w p k) (insertAt w p (secondSpot w p k) k)) (place k) ≡ p
       go true = put-placed w L (s .holds) p k (omega arith) chained off
-      go false = rw (spotted .cell) (insert-placed w L (s .holds) p k (spotted .before) (spotted .behind) (omega arith) chained (off .row) (spotted .parts) (off .off))
+      go false = rw (spotted .cell) (insert-placed w L (s .holds) p k _ _ (omega arith) chained (off .row) (spotted .parts) (off .off))
 
   line-holds : Holds (lineUp edition w p k) (update p (lined edition w p k (L p)) L)
   unfolding lineUp lined
-  line-holds = go (eqb edition 1) refl
+  line-holds = go _ refl
     where
       go : (b : Bool) → eqb edition 1 ≡ b
           → Holds (cond b (put w p k) (insertAt w p (secondSpot w p k) k)) (update p (cond b (insert (outranks w) k (L p)) (cond (eqb (read w 1 k % 2) 1) (k ∷ L p) (backed (atLeast w) k (L p)))) L)
       go true e = put-shown w L T E s k off p hp (sorted (eqb-true edition 1 e)) .holds
       go false e =
           rw (spotted .cell, spotted .is)
-          (insert-holds w L (s .holds) p k (spotted .before) (spotted .behind) (omega arith) chained (off .row) (spotted .parts) (off .off))
+          (insert-holds w L (s .holds) p k _ _ (omega arith) chained (off .row) (spotted .parts) (off .off))
 
   pub line-shown : Shown (lineUp edition w p k) (update p (lined edition w p k (L p)) L) (update p (Moves.lineUp edition (transactionAt w k) (T p)) T) E
   line-shown =
-      subst (λ (l : List Transaction). Shown (lineUp edition w p k) (update p (lined edition w p k (L p)) L) (update p l T) E) lined-is
-      (shown-list w (lineUp edition w p k) L T E s p (lined edition w p k (L p)) line-holds (line-keeps .rows) hp)
+      rw lined-is at (shown-list w (lineUp edition w p k) L T E s p (lined edition w p k (L p)) line-holds (line-keeps .rows) hp)

@@ -1,15 +1,6 @@
 -- How many rows are on no list.
-use Prim.Native.Nat.{ℕ, suc, _+_, _≤_, _<_}
-use mathlib.Core.Path.{_≡_, ap}
-use mathlib.Core.Logic.{_≢_}
-use mathlib.Core.Bool.{cond}
-use mathlib.Core.List.{List}
-use native.Mathlib.Omega.{arith}
-use borrow.Author.Tests.{lt-ltb, le-ltb}
-use lib.Dec.{ltb}
-use Rattle.rows_laws.specs.Layout.{place, nowhere, listCount}
-use Rattle.rows_laws.specs.Cells.{load}
-use Rattle.rows_laws.specs.Living.{loose}
+use Rattle.machine.specs.All.{ℕ, suc, _+_, _≤_, _<_, _≡_, ap, _≢_, cond, List, arith, lt-ltb, le-ltb, ltb}
+use Rattle.rows_laws.specs.All.{place, nowhere, listCount, load, loose}
 use Rattle.rows_laws.proofs.Sums.{sum-at, sum-ext}
 
 -- 1 for a row on no list
@@ -17,16 +8,16 @@ abbrev pub off : List ℕ → ℕ → ℕ
 off w k = cond (ltb (load w (place k)) listCount) 0 1
 
 pub off-placed : (w : List ℕ) (k : ℕ) → load w (place k) < listCount → off w k ≡ 0
-off-placed w k h = rw (lt-ltb (load w (place k)) listCount h)
+off-placed w k h = rw lt-ltb
 
 pub off-loose : (w : List ℕ) (k : ℕ) → listCount ≤ load w (place k) → off w k ≡ 1
-off-loose w k h = rw (le-ltb (load w (place k)) listCount h)
+off-loose w k h = rw le-ltb
 
 module _ (w w′ : List ℕ) (k : ℕ) (hk : k < 1024) (places : (j : ℕ) → j < 1024 → j ≢ k → load w′ (place j) ≡ load w (place j)) where
   changed : loose w′ + off w k ≡ loose w + off w′ k
   unfolding loose
   changed =
-      sum-at 1024 k (off w′) (off w) hk (λ j hj d. ap (λ (x : ℕ). cond (ltb x listCount) 0 1) (places j hj d))
+      sum-at 1024 k _ _ hk (λ j hj d. ap (λ (x : ℕ). cond (ltb x listCount) 0 1) (places j hj d))
 
   pub loose-same : load w (place k) < listCount → load w′ (place k) < listCount → loose w′ ≡ loose w
   loose-same a b = omega (arith, changed, off-placed w k a, off-placed w′ k b)
@@ -40,4 +31,4 @@ module _ (w w′ : List ℕ) (k : ℕ) (hk : k < 1024) (places : (j : ℕ) → j
 pub loose-kept : (w w′ : List ℕ) → ((j : ℕ) → j < 1024 → load w′ (place j) ≡ load w (place j)) → loose w′ ≡ loose w
 unfolding loose
 loose-kept w w′ places =
-    sum-ext 1024 (off w′) (off w) (λ j hj. ap (λ (x : ℕ). cond (ltb x listCount) 0 1) (places j hj))
+    sum-ext 1024 _ _ (λ j hj. ap (λ (x : ℕ). cond (ltb x listCount) 0 1) (places j hj))

@@ -1,18 +1,12 @@
 -- How often a row occurs in a list. A list of rows, each at most once, is no longer than the rows are many.
-use Prim.Native.Nat.{ℕ, _+_, _≤_}
-use mathlib.Core.Path.{_≡_, refl}
-use mathlib.Core.Logic.{_≢_}
-use mathlib.Core.List.{List, [], _∷_, _++_}
-use native.Mathlib.Omega.{arith}
-use native.Mathlib.Decide.{ℕ-discrete}
-use borrow.Author.Tests.{eq-eqb, ne-eqb}
-use Rattle.rows_laws.specs.Holds.{same, occurs}
+use Rattle.machine.specs.All.{ℕ, _+_, _≤_, _≡_, refl, _≢_, List, [], _∷_, _++_, arith, ℕ-discrete, eq-eqb, ne-eqb}
+use Rattle.rows_laws.specs.All.{same, occurs}
 
 pub same-refl : (a b : ℕ) → a ≡ b → same a b ≡ 1
-same-refl a b e = rw (eq-eqb a b e)
+same-refl a b e = rw eq-eqb
 
 pub same-other : (a b : ℕ) → a ≢ b → same a b ≡ 0
-same-other a b d = rw (ne-eqb a b d)
+same-other a b d = rw ne-eqb
 
 pub same-le : (a b : ℕ) → same a b ≤ 1
 same-le a b = go (ℕ-discrete a b)

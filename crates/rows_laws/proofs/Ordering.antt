@@ -1,20 +1,8 @@
 -- What keeps the machine's lists in order, whatever the order of each.
-use Prim.Native.Nat.{ℕ, _≤_, _<_}
-use mathlib.Core.Path.{_≡_, refl, sym, subst}
-use mathlib.Core.Bool.{Bool, true, false, cond, not}
-use mathlib.Core.List.{List, [], _∷_}
-use borrow.Author.Tests.{eqb-true, lt-ltb, le-ltb, ltb-true}
-use lib.Dec.{ltb, eqb}
-use Rattle.machine.specs.Transaction.{Transaction, Event, precedes, earlier}
-use Rattle.machine.specs.Moves.{wake}
-use Rattle.machine.specs.Claims.{Each}
+use Rattle.machine.specs.All.{ℕ, _≤_, _<_, _≡_, refl, sym, subst, Bool, true, false, cond, not, List, [], _∷_, eqb-true, lt-ltb, le-ltb, ltb-true, ltb, eqb, Transaction, Event, precedes, earlier, wake, Each}
 use Rattle.machine.proofs.lists.Sorted as Machine
 use Rattle.machine.proofs.order.Serials.{Single, strictly}
-use Rattle.rows_laws.specs.Layout.{wsl, rel, fel}
-use Rattle.rows_laws.specs.Clock.{arrivals}
-use Rattle.rows_laws.specs.Holds.{update}
-use Rattle.rows_laws.specs.Ordered.{All, Sorted, Strict, Ordered}
-use Rattle.rows_laws.specs.Shows.{orderOf, Shows, moved}
+use Rattle.rows_laws.specs.All.{wsl, rel, fel, arrivals, update, All, Sorted, Strict, Ordered, orderOf, Shows, moved}
 use Rattle.rows_laws.proofs.Insertion.{insert-sorted}
 use Rattle.rows_laws.proofs.Orders.{precedes-order}
 use Rattle.rows_laws.proofs.Showing.{shown-ext}
@@ -42,7 +30,7 @@ strict-of l one h = sorted-of (λ y x. not (precedes x y)) l (strictly l one h)
 all-none : (p : ℕ) → p < wsl → (t : Transaction) (l : List Transaction) → All (λ u. orderOf p u t ≡ false) l
 unfolding All
 all-none p h t [] = tt
-all-none p h t (u ∷ l) = (rw (lt-ltb p wsl h), all-none p h t l)
+all-none p h t (u ∷ l) = (rw lt-ltb, all-none p h t l)
 
 pub sorted-line : (p : ℕ) → p < wsl → (l : List Transaction) → Sorted (orderOf p) l
 unfolding Sorted
@@ -50,7 +38,7 @@ sorted-line p h [] = tt
 sorted-line p h (t ∷ l) = (all-none p h t l, sorted-line p h l)
 
 pub sorted-weaker : (p : ℕ) (l : List Transaction) → Sorted precedes l → Sorted (orderOf p) l
-sorted-weaker p l h = go (ltb p wsl) refl
+sorted-weaker p l h = go _ refl
   where
     go : (b : Bool) → ltb p wsl ≡ b → Sorted (orderOf p) l
     go true e = sorted-line p (ltb-true p wsl e) l
@@ -64,13 +52,13 @@ module _ (order : ℕ → Transaction → Transaction → Bool) where
   pub ordered-ext : (T U : ℕ → List Transaction) (E F : List Event) → ((q : ℕ) → q < fel → T q ≡ U q) → E ≡ F → Ordered order T E → Ordered order U F
   ordered-ext T U E F lists future h =
       record {
-        lists = λ q hq. subst (Sorted (order q)) (lists q hq) (h .lists q hq);
-        future = subst (Strict earlier) future (h .future);
+        lists = λ q hq. rw (lists q hq) at (h .lists q hq);
+        future = rw future at (h .future);
       }
 
   -- one list changes
   pub ordered-list : (T : ℕ → List Transaction) (E : List Event) (p : ℕ) (l : List Transaction) → Sorted (order p) l → Ordered order T E → Ordered order (update p l T) E
-  ordered-list T E p l sorted h = record { lists = λ q hq. go q (eqb q p) refl (h .lists q hq); future = h .future }
+  ordered-list T E p l sorted h = record { lists = λ q hq. go q _ refl (h .lists q hq); future = h .future }
     where
       go : (q : ℕ) (t : Bool) → eqb q p ≡ t → Sorted (order q) (T q) → Sorted (order q) (cond t l (T q))
       go q true e was = rw (eqb-true q p e) sorted
@@ -82,7 +70,7 @@ module _ (order : ℕ → Transaction → Transaction → Bool) where
   -- list p and REL change
   pub ordered-moved : (T : ℕ → List Transaction) (E : List Event) (p : ℕ) (l r : List Transaction) → Sorted (order p) l → Sorted (order rel) r → Ordered order T E → Ordered order (moved p l r T) E
   ordered-moved T E p l r sorted ready h =
-      ordered-list (update p l T) E rel r ready (ordered-list T E p l sorted h)
+      ordered-list _ E rel r ready (ordered-list T E p l sorted h)
 
 -- ---- REL
 

@@ -1,18 +1,6 @@
 -- No operation touches a number past the 16,384th, whatever the buffer holds.
-use Prim.Native.Nat.{ℕ, zero, suc, _+_, _*_, _-_, _/_, _%_}
-use mathlib.Core.Path.{_≡_, refl, _∙_}
-use mathlib.Core.Bool.{Bool, true, false, cond}
-use mathlib.Core.List.{List}
-use lib.Dec.{ltb, eqb}
-use lib.ListN.{drop}
-use Rattle.rows_laws.specs.Layout.{slot, place, link, head, tail, hint, rel, fel, free, nowhere, fieldAt, listCount, wordEnd}
-use Rattle.rows_laws.specs.Cells.{load, store, read, write, priorityOf, setReturning, timeOf, setTime}
-use Rattle.rows_laws.specs.Order.{outranks}
-use Rattle.rows_laws.specs.Lists.{endAt, insertAt, removeRow, removeAt, spot, note, put, first, takeFirst, cellOf, remove}
-use Rattle.rows_laws.specs.Future.{size, settle, pull, above, rise, below, sink, top, keep, scheduleLast, schedule, fillBy, fill, cancelOf, cancel}
-use Rattle.rows_laws.specs.Wake.{wakeRow, wakeAt, passRows, passCell, wakeAll}
-use Rattle.rows_laws.specs.Clock.{isDue, arriveRow, arriveFirst, arrived, arrive}
-use Rattle.rows_laws.specs.Make.{clearParameters, copyParameters, describe, newbornAt, copyAt, freeRow, emptyList, emptyLists, emptyFel, looseRows, freeRows, initial}
+use Rattle.machine.specs.All.{ℕ, zero, suc, _+_, _*_, _-_, _/_, _%_, _≡_, refl, _∙_, Bool, true, false, cond, List, ltb, eqb, drop}
+use Rattle.rows_laws.specs.All.{slot, place, link, head, tail, hint, rel, fel, free, nowhere, fieldAt, listCount, wordEnd, load, store, read, write, priorityOf, setReturning, timeOf, setTime, outranks, endAt, insertAt, removeRow, removeAt, spot, note, put, first, takeFirst, cellOf, remove, size, settle, pull, above, rise, below, sink, top, keep, scheduleLast, schedule, fillBy, fill, cancelOf, cancel, wakeRow, wakeAt, passRows, passCell, wakeAll, isDue, arriveRow, arriveFirst, arrived, arrive, clearParameters, copyParameters, describe, newbornAt, copyAt, freeRow, emptyList, emptyLists, emptyFel, looseRows, freeRows, initial}
 use Rattle.rows_laws.proofs.Store.{past-store}
 
 abbrev pub past : List ℕ → List ℕ

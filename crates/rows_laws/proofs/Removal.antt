@@ -1,14 +1,6 @@
 -- Removal of a row from a list, wherever it stands: the walk that looks for it stops at its cell.
-use Prim.Native.Nat.{ℕ, _<_}
-use mathlib.Core.Path.{_≡_, ap}
-use mathlib.Core.Logic.{_≢_}
-use mathlib.Core.List.{List, _∷_, _++_}
-use native.Mathlib.Omega.{arith}
-use lib.Dec.{eqb}
-use Rattle.rows_laws.specs.Layout.{listCount, place, head, fel}
-use Rattle.rows_laws.specs.Cells.{load}
-use Rattle.rows_laws.specs.Lists.{removeAt, cellOf, remove}
-use Rattle.rows_laws.specs.Holds.{ending, Holds}
+use Rattle.machine.specs.All.{ℕ, _<_, _≡_, ap, _≢_, List, _∷_, _++_, arith, eqb}
+use Rattle.rows_laws.specs.All.{listCount, place, head, fel, load, removeAt, cellOf, remove, ending, Holds}
 use Rattle.rows_laws.proofs.Occurs.{same-refl}
 use Rattle.rows_laws.proofs.Insertion.{front}
 use Rattle.rows_laws.proofs.Spot.{short, walk-front, front-self}
@@ -16,7 +8,7 @@ use Rattle.rows_laws.proofs.Spot.{short, walk-front, front-self}
 module _ (w : List ℕ) (L : ℕ → List ℕ) (h : Holds w L) (p k : ℕ) (hp : p < listCount) (hk : k < 1024) (at : load w (place k) ≡ p) where
   -- what stands behind it
   pub rest-of : (b : List ℕ) × (L p ≡ front eqb k (L p) ++ k ∷ b)
-  rest-of = front-self k (L p) (omega (arith, h .listed p hp .once k hk, same-refl (load w (place k)) p at))
+  rest-of = front-self k _ (omega (arith, h .listed p hp .once k hk, same-refl _ p at))
 
   pub remove-is : p ≢ fel → remove w p k ≡ removeAt w p (ending (head p) (front eqb k (L p)))
   unfolding remove cellOf

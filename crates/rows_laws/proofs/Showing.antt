@@ -1,26 +1,16 @@
 -- From the rows of one list to the machine's lists: what is shown after a change of the rows of list p.
-use Prim.Native.Nat.{ℕ, _<_}
-use mathlib.Core.Path.{_≡_, refl, sym, ap, _∙_}
-use mathlib.Core.Logic.{_≢_}
-use mathlib.Core.Bool.{Bool, true, false, cond}
-use mathlib.Core.List.{List, map}
-use native.Mathlib.Omega.{arith}
-use borrow.Author.Tests.{eq-eqb, ne-eqb, eqb-true, eqb-false}
-use lib.Dec.{eqb}
-use Rattle.machine.specs.Transaction.{Transaction, Event}
-use Rattle.rows_laws.specs.Layout.{fel, free}
-use Rattle.rows_laws.specs.Holds.{transactionAt, eventAt, Listed, Holds, update}
-use Rattle.rows_laws.specs.Shows.{Shown}
+use Rattle.machine.specs.All.{ℕ, _<_, _≡_, refl, sym, ap, _∙_, _≢_, Bool, true, false, cond, List, map, arith, eq-eqb, ne-eqb, eqb-true, eqb-false, eqb, Transaction, Event}
+use Rattle.rows_laws.specs.All.{fel, free, transactionAt, eventAt, Listed, Holds, update, Shown}
 use Rattle.rows_laws.proofs.Data.{SameData, same-row, transaction-kept, event-kept, map-kept}
 
 -- ---- Replaced lists
 
 module _ {A : Type 0} (p : ℕ) (l : A) (L : ℕ → A) where
   pub update-same : (q : ℕ) → q ≡ p → update p l L q ≡ l
-  update-same q e = rw (eq-eqb q p e)
+  update-same q e = rw eq-eqb
 
   pub update-other : (q : ℕ) → q ≢ p → update p l L q ≡ L q
-  update-other q d = rw (ne-eqb q p d)
+  update-other q d = rw ne-eqb
 
 -- ---- The machine's lists
 
@@ -31,11 +21,11 @@ shown-ext w L T U E e s =
 -- the data of the rows of a list is the same
 pub transactions-kept : (w w′ : List ℕ) (q : ℕ) (l : List ℕ) → SameData w w′ → Listed w′ q l → map (transactionAt w′) l ≡ map (transactionAt w) l
 transactions-kept w w′ q l rows one =
-    map-kept (transactionAt w′) (transactionAt w) l (λ j m. transaction-kept w w′ j (same-row w w′ j (one .row j m) rows))
+    map-kept _ _ l (λ j m. transaction-kept w w′ j (same-row w w′ j (one .row j m) rows))
 
 pub events-kept : (w w′ : List ℕ) (q : ℕ) (l : List ℕ) → SameData w w′ → Listed w′ q l → map (eventAt w′) l ≡ map (eventAt w) l
 events-kept w w′ q l rows one =
-    map-kept (eventAt w′) (eventAt w) l (λ j m. event-kept w w′ j (same-row w w′ j (one .row j m) rows))
+    map-kept _ _ l (λ j m. event-kept w w′ j (same-row w w′ j (one .row j m) rows))
 
 module _ (w w′ : List ℕ) (L : ℕ → List ℕ) (T : ℕ → List Transaction) (E : List Event) (s : Shown w L T E) (p : ℕ) (l : List ℕ) (h : Holds w′ (update p l L)) (rows : SameData w w′) where
   list-kept : (q : ℕ) → q < 770 → q ≢ p → map (transactionAt w′) (update p l L q) ≡ T q
@@ -54,7 +44,7 @@ module _ (w w′ : List ℕ) (L : ℕ → List ℕ) (T : ℕ → List Transactio
   shown-list hp =
       record {
         holds = h;
-        lists = λ q hq. go q hq (eqb q p) refl;
+        lists = λ q hq. go q hq _ refl;
         future = future-kept (λ e. omega arith);
       }
     where

@@ -1,17 +1,7 @@
 -- Operations on lists leave the rows that are on none as they are: the moving transaction among them.
-use Prim.Native.Nat.{ℕ, _<_}
-use mathlib.Core.Path.{_≡_, refl, sym, ap, _∙_, subst}
-use mathlib.Core.Logic.{_≢_}
-use mathlib.Core.List.{List}
-use native.Mathlib.Omega.{arith}
-use native.Mathlib.Decide.{ℕ-discrete}
-use borrow.Author.Tests.{ne-eqb}
-use lib.Dec.{eqb}
-use Rattle.rows_laws.specs.Layout.{dataFields, place, free, nowhere, fieldAt}
-use Rattle.rows_laws.specs.Cells.{load, write}
-use Rattle.rows_laws.specs.Holds.{transactionAt}
+use Rattle.machine.specs.All.{ℕ, _<_, _≡_, refl, sym, ap, _∙_, subst, _≢_, List, arith, ℕ-discrete, ne-eqb, eqb}
+use Rattle.rows_laws.specs.All.{dataFields, place, free, nowhere, fieldAt, load, write, transactionAt, Loose}
 use Rattle.rows_laws.specs.Living
-use Rattle.rows_laws.specs.Shows.{Loose}
 use Rattle.rows_laws.proofs.Store.{load-other}
 use Rattle.rows_laws.proofs.Data.{SameRow, same-row, transaction-kept}
 use Rattle.rows_laws.proofs.Write.{row-other}
@@ -61,7 +51,7 @@ kept-around w w′ k kept = record { places = kept .places; same = λ m h d. sam
 pub write-around : (w : List ℕ) (f k x : ℕ) → f < dataFields → k < 1024 → Around w (write w f k x) k
 write-around w f k x hf hk =
     record {
-      places = λ m h d. load-other w (fieldAt f k) x (place m) (λ e. omega arith);
+      places = λ m h d. load-other w _ x _ (λ e. omega arith);
       same = λ m h d. row-other w f k x m hk h d;
     }
 
@@ -77,10 +67,10 @@ around-steady w w′ k hk was is a =
   where
     other : (m : ℕ) → Loose w m → m ≢ k
     other m l e =
-        let f : load w (place k) ≡ nowhere = subst (λ (x : ℕ). load w (place x) ≡ nowhere) e (l .off) in
+        let f = rw e at (l .off) in
         omega arith
 
     spare : (m : ℕ) → m < 1024 → Dec (m ≡ k) → eqb (load w′ (place m)) free ≡ eqb (load w (place m)) free
     spare m h (yes e) =
-        rw e (ne-eqb (load w′ (place k)) free (λ f. omega arith) ∙ sym (ne-eqb (load w (place k)) free (λ f. omega arith)))
+        rw e (ne-eqb (load w′ _) free (λ f. omega arith) ∙ sym (ne-eqb (load w _) free (λ f. omega arith)))
     spare m h (no d) = ap (λ (x : ℕ). eqb x free) (a .places m h d)

@@ -1,16 +1,6 @@
 -- What a store leaves of the buffer: length, other numbers, and everything past the 16,384th.
-use Prim.Native.Nat.{ℕ, _%_, _≤_, _<_}
-use mathlib.Core.Path.{_≡_, refl, ap, _∙_}
-use mathlib.Core.Logic.{_≢_}
-use mathlib.Core.Bool.{Bool, true, false, cond}
-use mathlib.Core.List.{List}
-use native.Mathlib.Omega.{arith}
-use borrow.Author.Tests.{lt-ltb, ltb-true}
-use lib.Dec.{ltb}
-use lib.ListN.{length, set, drop, length-set}
-use lib.Seq.{getD-set-same, getD-set-other, set-getD, drop-set-lt}
-use Rattle.rows_laws.specs.Layout.{standingField, fieldAt}
-use Rattle.rows_laws.specs.Cells.{load, store, read, setReturning}
+use Rattle.machine.specs.All.{ℕ, _%_, _≤_, _<_, _≡_, refl, ap, _∙_, _≢_, Bool, true, false, cond, List, arith, lt-ltb, ltb-true, ltb, length, set, drop, length-set, getD-set-same, getD-set-other, set-getD, drop-set-lt}
+use Rattle.rows_laws.specs.All.{standingField, fieldAt, load, store, read, setReturning}
 
 pub length-store : (w : List ℕ) (i x : ℕ) → length (store w i x) ≡ length w
 unfolding store
@@ -22,7 +12,7 @@ length-store w i x = go (ltb i 16384)
 
 pub load-same : (w : List ℕ) (i x : ℕ) → 16384 ≤ length w → i < 16384 → load (store w i x) i ≡ x
 unfolding store
-load-same w i x room h = rw (lt-ltb i 16384 h) (getD-set-same w i x 0 (omega arith))
+load-same w i x room h = rw lt-ltb (getD-set-same w i x 0 (omega arith))
 
 pub load-other : (w : List ℕ) (i x j : ℕ) → j ≢ i → load (store w i x) j ≡ load w j
 unfolding store
@@ -47,7 +37,7 @@ returning-kept w k mark e = ap (store w (fieldAt standingField k)) (omega (arith
 
 pub past-store : (w : List ℕ) (i x : ℕ) → drop 16384 (store w i x) ≡ drop 16384 w
 unfolding store
-past-store w i x = go (ltb i 16384) refl
+past-store w i x = go _ refl
   where
     go : (b : Bool) → ltb i 16384 ≡ b → drop 16384 (cond b (set w i x) w) ≡ drop 16384 w
     go true e = drop-set-lt 16384 w i x (ltb-true i 16384 e)

@@ -1,11 +1,6 @@
 -- Sums over the numbers below n.
-use Prim.Native.Nat.{ℕ, zero, suc, _+_, _≤_, _<_}
-use mathlib.Core.Path.{_≡_, refl, ap}
-use mathlib.Core.Logic.{_≢_}
-use native.Mathlib.Omega.{arith}
-use native.Mathlib.Decide.{ℕ-discrete}
-use Rattle.rows_laws.specs.Holds.{same}
-use Rattle.rows_laws.specs.Living.{sumTo}
+use Rattle.machine.specs.All.{ℕ, zero, suc, _+_, _≤_, _<_, _≡_, refl, ap, _≢_, arith, ℕ-discrete}
+use Rattle.rows_laws.specs.All.{same, sumTo}
 use Rattle.rows_laws.proofs.Occurs.{same-refl, same-other}
 
 pub sum-suc : (n : ℕ) (f : ℕ → ℕ) → sumTo (suc n) f ≡ sumTo n f + f n

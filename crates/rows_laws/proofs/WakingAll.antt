@@ -1,24 +1,8 @@
 -- Waking the first of a list, and all of a list that pass a test, with a number or without: the machine's `wake` of `take 1`, of who goes
 -- on a `walk`, and of `those`. REL is in order; the list may be in any.
-use Prim.Native.Nat.{ℕ, zero, suc, _+_, _≤_, _<_}
-use mathlib.Core.Path.{_≡_, refl, sym, ap, _∙_, subst}
-use mathlib.Core.Bool.{Bool, true, false, cond}
-use mathlib.Core.List.{List, [], _∷_, _++_, map, map-append, append-assoc}
-use native.Mathlib.Omega.{arith}
-use borrow.Author.Tests.{lt-ltb, le-ltb, eqb-true}
-use lib.Dec.{eqb}
-use lib.ListN.{length, take, drop}
-use Rattle.machine.specs.Transaction.{Transaction, Event, precedes}
-use Rattle.machine.specs.Setters.{withReturning}
-use Rattle.machine.specs.Lists.{insert, those, others}
-use Rattle.machine.specs.Moves.{wake, Parted, goes, stays}
+use Rattle.machine.specs.All.{ℕ, zero, suc, _≤_, _<_, _≡_, refl, sym, ap, _∙_, subst, Bool, true, false, cond, List, [], _∷_, _++_, map, map-append, append-assoc, arith, lt-ltb, le-ltb, eqb-true, eqb, length, take, drop, Transaction, Event, precedes, withReturning, insert, those, others, wake, Parted, goes, stays}
 use Rattle.machine.proofs.nobody_able.QueueRemove.{walk, walk-fixed}
-use Rattle.rows_laws.specs.Layout.{link, head, rel}
-use Rattle.rows_laws.specs.Lists.{first}
-use Rattle.rows_laws.specs.Wake.{wakeAt, wakeFirst, after, passRows, passCell, wakeWalk, wakeAll}
-use Rattle.rows_laws.specs.Holds.{transactionAt, Chain, ending, Listed}
-use Rattle.rows_laws.specs.Ordered.{Sorted}
-use Rattle.rows_laws.specs.Shows.{Shown, Held, moved}
+use Rattle.rows_laws.specs.All.{link, head, rel, first, wakeAt, wakeFirst, after, passRows, passCell, wakeWalk, wakeAll, transactionAt, Chain, ending, Listed, Sorted, Shown, Held, moved}
 use Rattle.rows_laws.proofs.Occurs.{occurs-append}
 use Rattle.rows_laws.proofs.Chain.{chain-after, ending-append}
 use Rattle.rows_laws.proofs.Steps.{wakeWalk-stop, wakeWalk-next, wakeAll-walk}
@@ -32,7 +16,7 @@ use Rattle.rows_laws.proofs.Waking.{woken, wake-rows, wake-shown, wake-
 module _ (p : ℕ) (T : ℕ → List Transaction) where
   -- replaced by themselves
   pub moved-none : (l r : List Transaction) → l ≡ T p → r ≡ T rel → (q : ℕ) → T q ≡ moved p l r T q
-  moved-none l r e f q = go (eqb q rel) refl (eqb q p) refl
+  moved-none l r e f q = go _ refl _ refl
     where
       go : (t : Bool) → eqb q rel ≡ t → (u : Bool) → eqb q p ≡ u → T q ≡ cond t r (cond u l (T q))
       go true g u h = ap T (eqb-true q rel g) ∙ sym f
@@ -49,7 +33,7 @@ module _ (p : ℕ) (T : ℕ → List Transaction) where
 
 held-ext : (w : List ℕ) (T U : ℕ → List Transaction) (E : List Event) → ((q : ℕ) → T q ≡ U q) → Held w T E → Held w U E
 held-ext w T U E e s =
-    record { rows = s .rows; shown = shown-ext w (s .rows) T U E (λ q h. e q) (s .shown) }
+    record { rows = s .rows; shown = shown-ext w _ T U E (λ q h. e q) (s .shown) }
 
 -- what waking leaves, where REL is in order
 pub record Woken (w w′ : List ℕ) (T : ℕ → List Transaction) (E : List Event) : Type 0 where
@@ -61,7 +45,7 @@ pub record Woken (w w′ : List ℕ) (T : ℕ → List Transaction) (E : List Ev
 module _ (w : List ℕ) (L : ℕ → List ℕ) (T : ℕ → List Transaction) (E : List Event) (s : Shown w L T E) (ready : Sorted precedes (T rel)) (p : ℕ) (hp : p < 449) where
   no-first : 1024 ≤ first w p → wakeFirst w p ≡ w
   unfolding wakeAt
-  no-first h = rw (le-ltb (first w p) 1024 h)
+  no-first h = rw le-ltb
 
   pub wake-first-held : Woken w (wakeFirst w p) (moved p (drop 1 (T p)) (wake (take 1 (T p)) (T rel)) T) E
   unfolding ending wake
@@ -85,7 +69,7 @@ module _ (w : List ℕ) (L : ℕ → List ℕ) (T : ℕ → List Transaction) (E
                 record {
                   rows = woken w L T E s p hp (first w p) [] m e;
                   shown =
-                      subst (λ (l : List Transaction). Shown (wakeFirst w p) (woken w L T E s p hp (first w p) [] m e) (moved p (drop 1 l) (wake (take 1 l) (T rel)) T) E) t (wake-shown w L T E s p hp (first w p) [] m e ready);
+                      rw (← t) (wake-shown w L T E s p hp (first w p) [] m e ready);
                 };
             steady = wake-steady w L T E s p hp (first w p) [] m e;
           }
@@ -103,11 +87,11 @@ module _ (test : ℕ → List ℕ → ℕ → Bool) (next : ℕ → List ℕ →
   all-done : (n left : ℕ) (w : List ℕ) (L : ℕ → List ℕ) (T : ℕ → List Transaction) (s : Shown w L T E) (a : List ℕ) → L p ≡ a ++ [] → Result left w (wakeWalk test next n left w p (ending (head p) a)) a [] T
   unfolding Chain wake walk
   all-done n left w L T s a was =
-      let one : Listed w p (a ++ []) = rw was at (s .holds .listed p (omega arith)) in
+      let one = rw was at (s .holds .listed p (omega arith)) in
       let same : map (transactionAt w) a ++ [] ≡ T p = sym (map-append (transactionAt w) a []) ∙ ap (map (transactionAt w)) (sym was) ∙ s .lists p (omega arith) in
-      rw (wakeWalk-stop test next left w p (ending (head p) a) n (chain-after w (head p) a [] (one .chain (λ e. omega arith))))
+      rw (wakeWalk-stop test next left w p _ n (chain-after w _ a [] (one .chain (λ e. omega arith))))
       (record {
-        held = record { rows = L; shown = shown-ext w L T (moved p (map (transactionAt w) a ++ []) (T rel) T) E (λ q hq. moved-none p T (map (transactionAt w) a ++ []) (T rel) same refl q) s };
+        held = record { rows = L; shown = shown-ext w L T _ E (λ q hq. moved-none p T _ _ same refl q) s };
         steady = steady-refl w;
       })
 
@@ -139,29 +123,29 @@ module _ (test : ℕ → List ℕ → ℕ → Bool) (next : ℕ → List ℕ →
     row-goes woken =
         record {
           held =
-              held-ext (wakeWalk test next n left₁ (wakeAt w p cell) p cell)
-              (moved p (tx a ++ rest .stay) (wake (rest .go) (T₁ rel)) T₁)
-              (moved p (tx a ++ rest .stay) (wake (rest .go) (T₁ rel)) T)
+              held-ext _
+              _
+              _
               E
-              (moved-twice p T (tx (a ++ b)) (insert precedes (withReturning true (transactionAt w k)) (T rel)) (tx a ++ rest .stay) (wake (rest .go) (T₁ rel)))
+              (moved-twice p T _ _ _ _)
               (rw (wake-same w L T E s p hp k a b was a (λ j m. omega (arith, occurs-append j a b)), wake-same w L T E s p hp k a b was b (λ j m. omega (arith, occurs-append j a b))) at (woken .held));
-          steady = steady-trans w (wakeAt w p cell) (wakeWalk test next n left₁ (wakeAt w p cell) p cell) (wake-steady w L T E s p hp k a b was) (woken .steady);
+          steady = steady-trans w _ _ (wake-steady w L T E s p hp k a b was) (woken .steady);
         }
 
     -- the row stays
     row-stays : Result left₁ w (wakeWalk test next n left₁ w p (link k)) (a ++ k ∷ []) b T → Goal false
     row-stays woken =
         record {
-          held = rw (map-append (transactionAt w) a (k ∷ []), append-assoc (tx a) (transactionAt w k ∷ []) (rest .stay)) at (woken .held);
+          held = rw (map-append, append-assoc) at (woken .held);
           steady = woken .steady;
         }
 
     one-more : Result left₁ (wakeAt w p cell) (wakeWalk test next n left₁ (wakeAt w p cell) p cell) a b T₁ → Result left₁ w (wakeWalk test next n left₁ w p (link k)) (a ++ k ∷ []) b T → Result left w (wakeWalk test next (suc n) left w p cell) a (k ∷ b) T
     unfolding Chain walk passRows passCell after
     one-more yes-rest no-rest =
-        let one : Listed w p (a ++ k ∷ b) = rw was at (s .holds .listed p (omega arith)) in
-        let c : Chain w cell (k ∷ b) = chain-after w (head p) a (k ∷ b) (one .chain (λ e. omega arith)) in
-        rw (wakeWalk-next test next left w p cell (suc n) n refl (omega (arith, c .0, c .1)), c .0, agree left w k, follow left w k, lt-ltb k 1024 (c .1)) (go (P left (transactionAt w k)))
+        let one = rw was at (s .holds .listed p (omega arith)) in
+        let c = chain-after w _ a _ (one .chain (λ e. omega arith)) in
+        rw (wakeWalk-next test next left w p cell _ n refl (omega (arith, c .0, c .1)), c .0, agree, follow, lt-ltb k 1024 (c .1)) (go (P left _))
       where
         go : (t : Bool) → Goal t
         go true = row-goes yes-rest
@@ -173,8 +157,8 @@ module _ (test : ℕ → List ℕ → ℕ → Bool) (next : ℕ → List ℕ →
   wakeWalk-held zero (k ∷ b) left w L T s ready a was len = absurd (omega arith)
   wakeWalk-held (suc n) (k ∷ b) left w L T s ready a was len =
       one-more n left w L T s a k b was
-      (wakeWalk-held n b (left₁ n left w L T s a k b was) (wakeAt w p (ending (head p) a)) (woken w L T E s p hp k a b was) (T₁ n left w L T s a k b was) (wake-shown w L T E s p hp k a b was ready) (wake-ready w L T E s p hp k a b was ready) a (wake-rows w L T E s p hp k a b was) (omega arith))
-      (rw (ending-append (head p) a (k ∷ [])) at (wakeWalk-held n b (left₁ n left w L T s a k b was) w L T s ready (a ++ k ∷ []) (was ∙ sym (append-assoc a (k ∷ []) b)) (omega arith)))
+      (wakeWalk-held n b _ _ _ _ (wake-shown w L T E s p hp k a b was ready) (wake-ready w L T E s p hp k a b was ready) a (wake-rows w L T E s p hp k a b was) (omega arith))
+      (rw ending-append at (wakeWalk-held n b (left₁ n left w L T s a k b was) w L T s ready (a ++ k ∷ []) (was ∙ sym (append-assoc a _ b)) (omega arith)))
 
 -- with no number
 pub wakeAll-held : (test : List ℕ → ℕ → Bool) (P : Transaction → Bool) → ((w : List ℕ) (k : ℕ) → test w k ≡ P (transactionAt w k)) → (E : List Event) (p : ℕ) → p < 449
@@ -182,5 +166,5 @@ pub wakeAll-held : (test : List ℕ → ℕ → Bool) (P : Transaction → Bool)
     → Woken w (wakeAll test n w p (head p)) (moved p (others P (map (transactionAt w) (L p))) (wake (those P (map (transactionAt w) (L p))) (T rel)) T) E
 unfolding ending
 wakeAll-held test P agree E p hp n w L T s ready len =
-    rw (wakeAll-walk test n w p (head p), ← ap (λ (x : Parted). x .stay) (walk-fixed (λ n. P) 0 (map (transactionAt w) (L p))), ← ap (λ (x : Parted). x .go) (walk-fixed (λ n. P) 0 (map (transactionAt w) (L p))))
-    (wakeWalk-held (λ n. test) (λ n v k. n) (λ n. P) (λ n t. n) (λ n. agree) (λ n v k. refl) E p hp n (L p) 0 w L T s ready [] refl len)
+    rw (wakeAll-walk, ← ap (λ (x : Parted). x .stay) (walk-fixed (λ n. P) 0 (map (transactionAt w) (L p))), ← ap (λ (x : Parted). x .go) (walk-fixed (λ n. P) 0 (map (transactionAt w) (L p))))
+    (wakeWalk-held (λ n. test) (λ n v k. n) (λ n. P) (λ n t. n) (λ n. agree) (λ n v k. refl) E p hp n _ 0 w L T s ready [] refl len)

@@ -1,10 +1,5 @@
 -- Single numbers of the buffer.
-use Prim.Native.Nat.{ℕ, _+_, _*_, _/_, _%_}
-use mathlib.Core.Bool.{cond}
-use mathlib.Core.List.{List}
-use lib.Dec.{ltb}
-use lib.ListN.{getD, set}
-use Rattle.machine.specs.Limits.{workNumbers}
+use Rattle.machine.specs.All.{ℕ, _+_, _*_, _/_, _%_, cond, List, ltb, getD, set, workNumbers}
 use Rattle.rows_laws.specs.Layout.{fieldAt, standingField, timeField, timeHighField, wordEnd}
 
 abbrev pub load : List ℕ → ℕ → ℕ

@@ -1,11 +1,5 @@
 -- A clock move: the row machine takes all of one time from the FEL to REL; and the REL that the machine then has.
-use Prim.Native.Nat.{ℕ, zero, suc}
-use mathlib.Core.Bool.{Bool, false, cond, _&&_}
-use mathlib.Core.List.{List, [], _∷_}
-use lib.Dec.{ltb, eqb}
-use Rattle.machine.specs.Transaction.{Transaction, Event, precedes}
-use Rattle.machine.specs.Setters.{withSerial, withReturning}
-use Rattle.machine.specs.Lists.{insert}
+use Rattle.machine.specs.All.{ℕ, zero, suc, Bool, false, cond, _&&_, List, [], _∷_, ltb, eqb, Transaction, Event, precedes, withSerial, withReturning, insert}
 use Rattle.rows_laws.specs.Layout.{serialField, rel, fel, rowCount}
 use Rattle.rows_laws.specs.Cells.{write, setReturning, timeOf}
 use Rattle.rows_laws.specs.Lists.{put, first}

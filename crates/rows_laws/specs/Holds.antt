@@ -1,15 +1,8 @@
 -- What the buffer represents: the rows of each list, and each row as a transaction. Owned by this file; the laws over it are in
 -- proofs/.
-use Prim.Native.Nat.{ℕ, _+_, _%_, _≤_, _<_}
-use mathlib.Core.Path.{_≡_}
-use mathlib.Core.Logic.{_≢_}
-use mathlib.Core.Bool.{false, cond}
-use mathlib.Core.List.{List, [], _∷_}
-use lib.Dec.{eqb}
-use lib.ListN.{length}
+use Rattle.machine.specs.All.{ℕ, _+_, _%_, _≤_, _<_, _≡_, _≢_, false, cond, List, [], _∷_, eqb, length, Transaction, Event}
 use mir.Syntax.{w32}
 use mir.Val.{toZ}
-use Rattle.machine.specs.Transaction.{Transaction, Event}
 use Rattle.rows_laws.specs.Layout.{rowCount, listCount, Room, slot, place, link, head, tail, fel, numberField, standingField, parameterField, nextField, serialField, familyField}
 use Rattle.rows_laws.specs.Cells.{load, read, priorityOf, timeOf}
 use Rattle.rows_laws.specs.Order.{sooner}

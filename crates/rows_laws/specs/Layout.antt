@@ -28,11 +28,7 @@
 -- | FEL         | 770                                         |
 -- | free        | 771: the rows that are not living           |
 -- | others      | there are none: behind the heads stand 252 hints (Lists), behind the tails 64 rows of holders (Future) |
-use Prim.Native.Nat.{ℕ, _+_, _*_, _-_, _%_, _≤_}
-use mathlib.Core.List.{List}
-use lib.ListN.{length}
-use Rattle.machine.specs.Limits.{workNumbers}
-use Rattle.machine.specs.Block.{Code, welIndex}
+use Rattle.machine.specs.All.{ℕ, _+_, _*_, _-_, _%_, _≤_, List, length, workNumbers, Code, welIndex}
 
 -- ---- Sizes
 

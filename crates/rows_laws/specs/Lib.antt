@@ -12,3 +12,4 @@ pub mod Ordered
 pub mod Living
 pub mod Shows
 pub mod First
+pub mod All

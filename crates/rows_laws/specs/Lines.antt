@@ -1,8 +1,5 @@
 -- The row machine: how a waiter comes onto a QL or WEL, by the model's edition (document 02, item 12). The cursor is a cell.
-use Prim.Native.Nat.{ℕ, zero, suc, _-_, _%_}
-use mathlib.Core.Bool.{Bool, false, cond}
-use mathlib.Core.List.{List}
-use lib.Dec.{ltb, leb, eqb}
+use Rattle.machine.specs.All.{ℕ, zero, suc, _-_, _%_, Bool, false, cond, List, ltb, leb, eqb}
 use Rattle.rows_laws.specs.Layout.{link, head, tail, links, rowCount, standingField}
 use Rattle.rows_laws.specs.Cells.{load, read, priorityOf}
 use Rattle.rows_laws.specs.Lists.{insertAt, put}

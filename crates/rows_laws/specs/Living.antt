@@ -1,10 +1,5 @@
 -- How many rows stand where.
-use Prim.Native.Nat.{ℕ, zero, suc, _+_}
-use mathlib.Core.Bool.{cond}
-use mathlib.Core.List.{List}
-use lib.Dec.{ltb}
-use lib.ListN.{length}
-use Rattle.machine.specs.Transaction.{Transaction, Event}
+use Rattle.machine.specs.All.{ℕ, zero, suc, _+_, cond, List, ltb, length, Transaction, Event}
 use Rattle.rows_laws.specs.Layout.{place, listCount, fel, rowCount}
 use Rattle.rows_laws.specs.Cells.{load}
 

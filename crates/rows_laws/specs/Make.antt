@@ -1,6 +1,5 @@
 -- The row machine: rows that come to life and end, and the buffer at the start of a run.
-use Prim.Native.Nat.{ℕ, zero, suc, _+_, _*_, _/_}
-use mathlib.Core.List.{List}
+use Rattle.machine.specs.All.{ℕ, zero, suc, _+_, _*_, _/_, List}
 use Rattle.rows_laws.specs.Layout.{place, head, tail, fel, free, nowhere, numberField, standingField, nextField, serialField, familyField, listCount, rowCount, parameterField}
 use Rattle.rows_laws.specs.Cells.{store, read, write, setTime}
 use Rattle.rows_laws.specs.Lists.{insertAt}

@@ -1,10 +1,5 @@
 -- What the buffer shows of the machine's lists.
-use Prim.Native.Nat.{ℕ, _<_}
-use mathlib.Core.Path.{_≡_}
-use mathlib.Core.Bool.{Bool, false, cond}
-use mathlib.Core.List.{List, map}
-use lib.Dec.{ltb}
-use Rattle.machine.specs.Transaction.{Transaction, Event, precedes}
+use Rattle.machine.specs.All.{ℕ, _<_, _≡_, Bool, false, cond, List, map, ltb, Transaction, Event, precedes}
 use Rattle.rows_laws.specs.Layout.{place, wsl, rel, fel, nowhere, rowCount}
 use Rattle.rows_laws.specs.Cells.{load}
 use Rattle.rows_laws.specs.Ordered.{Ordered}

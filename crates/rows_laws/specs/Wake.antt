@@ -1,8 +1,5 @@
 -- The row machine: moves to REL from the lists on which one waits.
-use Prim.Native.Nat.{ℕ, zero, suc}
-use mathlib.Core.Bool.{Bool, cond}
-use mathlib.Core.List.{List}
-use lib.Dec.{ltb}
+use Rattle.machine.specs.All.{ℕ, zero, suc, Bool, cond, List, ltb}
 use Rattle.rows_laws.specs.Layout.{link, head, rel, rowCount}
 use Rattle.rows_laws.specs.Cells.{load, setReturning}
 use Rattle.rows_laws.specs.Lists.{removeAt, put}

@@ -1,15 +1,6 @@
 -- The numbers of a report, one after the other.
-use Prim.Native.Nat.{ℕ, zero, suc, _+_, _-_, _≤_, _<_}
-use native.Mathlib.Omega.{arith}
-use mathlib.Core.List.{List, [], _∷_}
-use mathlib.Core.Path.{_≡_, refl, sym, ap, _∙_}
-use lib.ListN.{length, set, drop}
-use lib.Seq.{sets}
-use Rattle.machine.specs.Limits.{maxReportNumberBytes, maxReportNumber}
-use Rattle.machine.specs.Number.{readNumber}
-use Rattle.machine.specs.Validate.{Validation, accept, reject}
+use Rattle.machine.specs.All.{ℕ, suc, _+_, _-_, _≤_, _<_, arith, List, _∷_, _≡_, refl, sym, ap, _∙_, set, drop, sets, maxReportNumberBytes, maxReportNumber, readNumber, Validation, accept, reject}
 use Rattle.constants.specs.declared.model.Model.{Model}
-use Rattle.tables.specs.Represents.{headerOf}
 use Rattle.codec.specs.declared.Read.{Read}
 use Rattle.codec.specs.declared.Read.the-variants.{Number as Whole, Refused as Unread}
 use Rattle.codec.specs.Answers.{numberOf}
@@ -17,7 +8,7 @@ use Rattle.decode.specs.declared.Decoded.{Decoded}
 use Rattle.decode.specs.declared.Decoded.the-variants.{Model as Accepted, Refused}
 use Rattle.decode.specs.Decodes.{Decodes}
 use Rattle.runmodel.specs.declared.printing.Field.{Field}
-use Rattle.runmodel.specs.Fields.{fieldOf, fieldAt, numbersAt, behindNumbers, behindThings, headerFor}
+use Rattle.runmodel.specs.{fieldOf, fieldAt, numbersAt, behindNumbers, behindThings, headerFor}
 
 -- ---- One number
 

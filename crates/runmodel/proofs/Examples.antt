@@ -1,12 +1,6 @@
 -- The first example of document 01, and one that is refused: the text that runmodel prints, by computing.
-use mathlib.Core.List.{List, [], _∷_}
-use mathlib.Core.Path.{_≡_, refl}
-use Prim.Native.Nat.{ℕ}
-use Rattle.machine.specs.Bundle.{everything}
-use Rattle.machine.specs.Lists.{flat}
-use Rattle.machine.specs.Examples.{firstModel, firstTape}
-use Rattle.runmodel.specs.Line.{numeral, behind, numerals, line}
-use Rattle.runmodel.specs.Printed.{recordLine, endLine, serverLines, queueLines, runText, textOf, printed}
+use Rattle.machine.specs.All.{List, [], _∷_, _≡_, refl, ℕ, everything, flat, firstModel, firstTape}
+use Rattle.runmodel.specs.{numeral, behind, numerals, line, recordLine, endLine, serverLines, queueLines, runText, textOf, printed}
 
 abbrev firstText : List (List ℕ)
 firstText =

@@ -1,10 +1,5 @@
 -- The parts of the buffers that a run has written lie within them.
-use Prim.Native.Nat.{ℕ, _≤_}
-use native.Mathlib.Omega.{arith}
-use mathlib.Core.List.{List}
-use mathlib.Core.Path.{_≡_, sym}
-use lib.ListN.{length, drop, length-append}
-use lib.Seq.{length-take-le}
+use Rattle.machine.specs.All.{ℕ, _≤_, arith, List, _≡_, sym, length, drop, length-append, length-take-le}
 use Rattle.io.specs.Counts.{Counts}
 use Rattle.engine_laws.specs.declared.outcome.Outcome.{Outcome}
 use Rattle.engine_laws.specs.Contract.{Begins, wanted, Contract}

@@ -1,7 +1,5 @@
 -- What a caller learns of a file that was read.
-use Prim.Native.Nat.{ℕ}
-use mathlib.Core.Path.{_≡_, subst}
-use native.Mathlib.Omega.{arith}
+use Rattle.machine.specs.All.{ℕ, _≡_, subst, arith}
 use Rattle.runmodel.specs.declared.files.File.the-variants.{Read, Failed}
 
 pub failed : (P : ℕ → Type 0) (n : ℕ) → Failed ≡ Read n → P n

@@ -1,15 +1,7 @@
 -- Lines, pure: digits, letters and numbers stored one after the other are the line stored at once.
-use Prim.Native.Nat.{ℕ, zero, suc, _+_, _*_, _-_, _/_, _%_, _≤_, _<_}
-use native.Mathlib.Omega.{arith}
-use mathlib.Core.Bool.{Bool, true, false}
-use mathlib.Core.List.{List, [], _∷_, _++_}
-use mathlib.Core.Path.{_≡_, refl, sym, ap, _∙_}
-use lib.Dec.{ltb}
-use lib.ListN.{length, getD, set, take, drop, replicate, length-append, drop-of-length-le}
-use lib.Seq.{sets, length-sets, length-take-le, drop-cons}
-use borrow.Author.Tests.{lt-ltb, le-ltb}
+use Rattle.machine.specs.All.{ℕ, zero, suc, _+_, _*_, _-_, _/_, _%_, _≤_, _<_, arith, Bool, true, false, List, [], _∷_, _++_, _≡_, refl, sym, ap, _∙_, ltb, length, getD, set, take, drop, replicate, length-append, drop-of-length-le, sets, length-sets, length-take-le, drop-cons, lt-ltb, le-ltb}
 use Rattle.codec.proofs.Stores.{sets-append}
-use Rattle.runmodel.specs.Line.{numeral, behind, numerals, line}
+use Rattle.runmodel.specs.{numeral, behind, numerals, line}
 
 -- ---- Digits
 

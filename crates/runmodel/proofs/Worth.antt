@@ -1,13 +1,7 @@
 -- The definition of a line says what it should: a numeral's digits are worth its number, and the lines of document 01's first
 -- example come out.
-use Prim.Native.Nat.{ℕ, zero, suc, _+_, _*_, _-_, _/_, _%_, _^_, _<_}
-use native.Mathlib.Nat.{pow-suc}
-use native.Mathlib.Omega.{arith}
-use mathlib.Core.Bool.{Bool, true, false}
-use mathlib.Core.List.{List, [], _∷_, _++_}
-use mathlib.Core.Path.{_≡_, refl, _∙_}
-use lib.Dec.{ltb}
-use Rattle.runmodel.specs.Line.{numeral, behind, numerals, line}
+use Rattle.machine.specs.All.{ℕ, zero, suc, _+_, _*_, _-_, _/_, _%_, _^_, _<_, pow-suc, arith, Bool, true, false, List, [], _∷_, _++_, _≡_, refl, _∙_, ltb}
+use Rattle.runmodel.specs.{numeral, behind, numerals, line}
 
 -- what decimal digits in ASCII are worth, behind digits worth v
 abbrev worth : ℕ → List ℕ → ℕ

@@ -1,13 +1,7 @@
 -- The numbers of a report as runmodel reads them, from bytes and a position; and the header of an accepted model.
-use Prim.Native.Nat.{ℕ, zero, suc, _+_}
-use mathlib.Core.List.{List, [], _∷_}
-use mathlib.Core.Option.{Option, none, some}
-use lib.ListN.{drop}
-use Rattle.machine.specs.Limits.{maxReportNumberBytes, maxReportNumber}
-use Rattle.machine.specs.Number.{Number, readNumber}
-use Rattle.machine.specs.Validate.{Validation, accept, reject}
+use Rattle.machine.specs.All.{ℕ, zero, suc, _+_, List, [], _∷_, Option, none, some, drop, maxReportNumberBytes, maxReportNumber, Number, readNumber, Validation, accept, reject}
 use Rattle.constants.specs.declared.model.Model.{Model}
-use Rattle.tables.specs.Represents.{headerOf}
+use Rattle.tables.specs.All.{headerOf}
 use Rattle.runmodel.specs.declared.printing.Field.{Field}
 
 -- a number and the position behind it; where none stands, 0 and the same position

@@ -1,8 +1,5 @@
 -- A line that runmodel prints: letters, then numbers in decimal with one space between, then a line feed.
-use Prim.Native.Nat.{ℕ, zero, suc, _+_, _/_, _%_}
-use mathlib.Core.Bool.{cond}
-use mathlib.Core.List.{List, [], _∷_, _++_}
-use lib.Dec.{ltb}
+use Rattle.machine.specs.All.{ℕ, zero, suc, _+_, _/_, _%_, cond, List, [], _∷_, _++_, ltb}
 
 -- a number of 64 bits has at most 20 digits, and one byte stands behind it; a line is eight letters and six numbers
 abbrev pub digits : ℕ

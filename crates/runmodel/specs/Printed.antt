@@ -1,20 +1,7 @@
 -- The whole text that runmodel prints (document 01, the first example): "prints records, then `end` with end, clock, made, ended,
 -- living, then per facility `f`, per storage `s`, per queue `q`, each with its number and its report fields, one space between; a
 -- refused pair prints only `refused` and the number". Each line is `line` of its letters and numbers.
-use Prim.Native.Nat.{ℕ, suc}
-use mathlib.Core.List.{List, [], _∷_, _++_, map}
-use lib.ListN.{length, take, drop}
-use Rattle.machine.specs.Rules.{inForce}
-use Rattle.machine.specs.Limits.{workNumbers, reportRoom}
-use Rattle.machine.specs.Lists.{flat}
-use Rattle.machine.specs.Term.{Server, Queue}
-use Rattle.machine.specs.Block.{BlockModel}
-use Rattle.machine.specs.Trace.{Record}
-use Rattle.machine.specs.State.{State}
-use Rattle.machine.specs.Run.{run}
-use Rattle.machine.specs.Report.{serverNumbers, queueNumbers, places}
-use Rattle.machine.specs.Validate.{Validation, accept, reject, validate}
-use Rattle.machine.specs.Outcome.{recordsOf}
+use Rattle.machine.specs.All.{ℕ, suc, List, [], _∷_, _++_, map, length, take, drop, inForce, workNumbers, reportRoom, flat, Server, Queue, BlockModel, Record, State, run, serverNumbers, queueNumbers, places, Validation, accept, reject, validate, recordsOf}
 use Rattle.runmodel.specs.Line.{line}
 
 -- "budget 1,000,000; trace buffer 65,536 bytes; of each file the first 65,536"

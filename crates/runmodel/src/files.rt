@@ -1,7 +1,5 @@
 // The first bytes of a file.
-ghost use mathlib.Core.Path.{_≡_};
-ghost use Prim.Native.Nat.{ℕ, _≤_};
-ghost use lib.ListN.{length};
+ghost use Rattle.machine.specs.All.{_≡_, ℕ, _≤_, length};
 ghost use Rattle.io.specs.Counts.{Counts};
 
 // How many bytes were read; or the file could not be read, which standard error says.

@@ -1,8 +1,5 @@
 // Lines of text: letters, then numbers with one space between, then a line feed.
-ghost use mathlib.Core.Path.{_≡_};
-ghost use Prim.Native.Nat.{_+_, _*_, _≤_, _<_};
-ghost use lib.ListN.{length, drop};
-ghost use lib.Seq.{sets};
+ghost use Rattle.machine.specs.All.{_≡_, _+_, _*_, _≤_, _<_, length, drop, sets};
 ghost use Rattle.runmodel.specs.Line.{numberRoom, lineRoom, numeral as Line·numeral, behind as Line·behind, numerals as Line·numerals, line as Line·line};
 
 // Room for eight letters and six numbers of at most twenty digits, each with the byte behind it.

@@ -9,13 +9,7 @@ use libc::STDOUT_FILENO;
 use tables::LIST_CELLS;
 use tables::TABLES;
 use trace::Reading;
-ghost use mathlib.Core.Path.{_≡_};
-ghost use Prim.Native.Nat.{_+_, _*_, _≤_};
-ghost use lib.ListN.{length};
-ghost use lib.Seq.{sets};
-ghost use Rattle.machine.specs.Rules.{inForce};
-ghost use Rattle.machine.specs.Limits.{workNumbers, reportRoom};
-ghost use Rattle.machine.specs.Validate.{validate};
+ghost use Rattle.machine.specs.All.{_≡_, _+_, _*_, _≤_, length, sets, inForce, workNumbers, reportRoom, validate};
 ghost use Rattle.runmodel.specs.Fields.{fieldAt, numbersAt, behindNumbers, behindThings, headerFor};
 ghost use Rattle.runmodel.specs.Line.{letterRoom, numberRoom, lineRoom};
 

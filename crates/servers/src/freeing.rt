@@ -25,12 +25,11 @@ use tables::QL_LENGTH;
 use tables::SECOND;
 use tables::number;
 use tables::set_count;
-ghost use mathlib.Core.Path.{_≡_};
-ghost use Prim.Native.Nat.{_+_, _<_, _≤_};
-ghost use Rattle.tables.specs.Layout.{programSize, serverCount};
-ghost use Rattle.rows_laws.specs.Layout.{Room, rowCount};
+ghost use Rattle.machine.specs.All.{_≡_, _+_, _<_, _≤_};
+ghost use Rattle.tables.specs.All.{programSize, serverCount};
+ghost use Rattle.rows_laws.specs.All.{Room, rowCount};
 ghost use Rattle.moves.specs.Motion.{moved, withOutcome};
-ghost use Rattle.state.specs.Stands.{rowsOf};
+ghost use Rattle.state.specs.All.{rowsOf};
 ghost use Rattle.servers_laws.specs.Freeing.{enterFreed, freeOne, freeSome, askRelease, releaseRows, leaveRows};
 
 // Row k enters, and so many units are in use.

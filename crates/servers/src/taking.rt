@@ -22,11 +22,10 @@ use tables::SECOND;
 use tables::count;
 use tables::number;
 use tables::set_count;
-ghost use mathlib.Core.Path.{_≡_};
-ghost use Prim.Native.Nat.{_+_, _<_, _≤_};
-ghost use Rattle.tables.specs.Layout.{programSize, serverCount};
-ghost use Rattle.rows_laws.specs.Layout.{Room, rowCount};
-ghost use Rattle.state.specs.Stands.{rowsOf};
+ghost use Rattle.machine.specs.All.{_≡_, _+_, _<_, _≤_};
+ghost use Rattle.tables.specs.All.{programSize, serverCount};
+ghost use Rattle.rows_laws.specs.All.{Room, rowCount};
+ghost use Rattle.state.specs.All.{rowsOf};
 ghost use Rattle.moves.specs.Motion.{withOutcome};
 ghost use Rattle.servers_laws.specs.Taking.{holdUnits, queueUp, takeUnits, seizeRows, enterRows};
 

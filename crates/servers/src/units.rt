@@ -10,10 +10,8 @@ use tables::PREEMPTED;
 use tables::TALLY;
 use tables::count;
 use tables::number;
-ghost use mathlib.Core.Path.{_≡_};
-ghost use Prim.Native.Nat.{_+_, _<_, _≤_};
-ghost use lib.ListN.{length};
-ghost use Rattle.tables.specs.Layout.{serverCount, wordEnd, tallySize};
+ghost use Rattle.machine.specs.All.{_≡_, _+_, _<_, _≤_, length};
+ghost use Rattle.tables.specs.All.{serverCount, wordEnd, tallySize};
 ghost use Rattle.servers_laws.specs.Units.{serverAt, inUse, holder, preempted, residueCell, heldLess, heldMore, storeUse, setUse, changeUse, capacity, statusOf};
 
 const SERVERS: u32 = tables::SERVERS as u32;

@@ -21,12 +21,9 @@ use tables::FIRST;
 use tables::SECOND;
 use tables::THIRD;
 use tables::number;
-ghost use mathlib.Core.Path.{_≡_};
-ghost use mathlib.Core.Bool.{_&&_};
-ghost use Prim.Native.Nat.{_+_, _*_, _-_, _<_, _≤_};
-ghost use Rattle.machine.specs.Limits.{maxBack};
-ghost use Rattle.tables.specs.Layout.{blockWidth, programSize};
-ghost use Rattle.rows_laws.specs.Layout.{Room, listCount, rowCount};
+ghost use Rattle.machine.specs.All.{_≡_, _&&_, _+_, _*_, _-_, _<_, _≤_, maxBack};
+ghost use Rattle.tables.specs.All.{blockWidth, programSize};
+ghost use Rattle.rows_laws.specs.All.{Room, listCount, rowCount};
 ghost use Rattle.moves.specs.Motion.{moved};
 ghost use Rattle.servers_laws.specs.WaitServer.{backOf, beginsFrom, isLate, backFrom, stampOn, passOn, passOrBack, waitWhile, waitServerRows};
 

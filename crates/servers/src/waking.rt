@@ -21,11 +21,9 @@ use tables::SECOND;
 use tables::count;
 use tables::number;
 use tables::set_count;
-ghost use mathlib.Core.Path.{_≡_};
-ghost use Prim.Native.Nat.{_+_, _<_, _≤_};
-ghost use Rattle.tables.specs.Layout.{codeCount, programSize, serverCount};
-ghost use Rattle.rows_laws.specs.Layout.{head, Room, rowCount};
-ghost use Rattle.rows_laws.specs.Wake.{wakeWalk, wakeFirst};
+ghost use Rattle.machine.specs.All.{_≡_, _+_, _<_, _≤_};
+ghost use Rattle.tables.specs.All.{codeCount, programSize, serverCount};
+ghost use Rattle.rows_laws.specs.All.{head, Room, rowCount, wakeWalk, wakeFirst};
 ghost use Rattle.servers_laws.specs.Waking.{checkWel, checkFirst, checkLast, checkWels, shorter, unitsAt, memberUnits, memberFits, leaveWith, takenOff, leftBehind, memberLeft, steps, oneUnless, wakeStays};
 
 const BLOCKS: u32 = Model::MAX_BLOCKS as u32;

@@ -1,9 +1,7 @@
 -- A tally brought up to date at the clock of some scalars.
-use Prim.Native.Nat.{ℕ}
-use mathlib.Core.Path.{_≡_, sym, ap, _∙_}
-use mathlib.Core.List.{List}
-use Rattle.state.specs.Statistics.{updateServer}
-use Rattle.servers_laws.specs.Units.{changeUse}
+use Rattle.machine.specs.All.{ℕ, _≡_, sym, ap, _∙_, List}
+use Rattle.state.specs.All.{updateServer}
+use Rattle.servers_laws.specs.{changeUse}
 
 pub updated-at : (tally after : List ℕ) (v clock now : ℕ) → after ≡ updateServer tally v clock → now ≡ clock → after ≡ updateServer tally v now
 updated-at tally after v clock now e n = e ∙ ap (updateServer tally v) (sym n)

@@ -1,24 +1,13 @@
 -- Looking ahead in the tables tells whether a group begins with a block, as the machine does.
-use Prim.Native.Nat.{ℕ, zero, suc, _+_, _*_, _-_, _≤_, _<_}
-use mathlib.Core.Path.{_≡_, refl, sym, ap, _∙_, subst}
-use mathlib.Core.Bool.{Bool, true, false, cond}
-use mathlib.Core.List.{List, _∷_}
-use native.Mathlib.Omega.{arith}
-use borrow.Author.Tests.{eqb-true, eqb-false, ne-eqb, le-ltb, lt-ltb, ltb-true, ltb-false}
-use lib.Dec.{eqb, ltb}
-use lib.ListN.{length, getD}
-use Rattle.machine.specs.Lists.{bit, upTo}
-use Rattle.machine.specs.Block.{Block, facts, BlockModel, blockAt, backAt, beginsGroup}
+use Rattle.machine.specs.All.{ℕ, zero, suc, _+_, _*_, _-_, _≤_, _<_, _≡_, refl, sym, ap, _∙_, subst, Bool, true, false, cond, List, _∷_, arith, eqb-true, eqb-false, ne-eqb, le-ltb, lt-ltb, ltb-true, ltb-false, eqb, ltb, length, getD, bit, upTo, Block, facts, BlockModel, blockAt, backAt, beginsGroup}
 use Rattle.machine.proofs.lists.Sums.{upTo-zero}
 use Rattle.machine.proofs.decoding.Proper.{Proper}
 use Rattle.machine.proofs.runs.Placed.{goes-on}
 use Rattle.machine.proofs.decoding.Groups.{begins, blocks-placed, group-waits}
-use Rattle.tables.specs.Forms.{blockForms}
-use Rattle.tables.specs.Numbers.{blockNumbers}
-use Rattle.tables.specs.Represents.{Represents}
+use Rattle.tables.specs.All.{blockForms, blockNumbers, Represents}
 use Rattle.tables.proofs.Operands.{operand}
 use Rattle.tables.proofs.BlockKinds.{Waits, closing, plain, elsewhere, waits}
-use Rattle.servers_laws.specs.WaitServer.{beginsFrom}
+use Rattle.servers_laws.specs.{beginsFrom}
 
 -- ---- One block behind the other, c blocks behind the first
 

@@ -1,28 +1,15 @@
 -- The check of a server's WELs after its units changed: the rows follow the machine's, and nothing but WELs and REL changes.
-use Prim.Native.Nat.{ℕ, _+_, _*_, _-_, _<_}
-use mathlib.Core.Path.{_≡_, refl, ap, _∙_, subst}
-use mathlib.Core.Bool.{Bool, true, false, cond}
-use mathlib.Core.List.{List, []}
-use mathlib.Core.Option.{Option, some}
-use native.Mathlib.Omega.{arith}
-use lib.ListN.{length, drop, length-set}
-use Rattle.machine.specs.Transaction.{Transaction}
+use Rattle.machine.specs.All.{ℕ, _+_, _*_, _-_, _<_, _≡_, refl, ap, _∙_, subst, Bool, true, false, cond, List, [], Option, some, arith, length, drop, length-set, Transaction, Code, U, NU, E, NE, F, NF, status, codeIndex, welIndex, State, setWel, setRel, welOf, wakeFirstWel}
 use Rattle.machine.specs.Term
-use Rattle.machine.specs.Block.{Code, U, NU, E, NE, F, NF, status, codeIndex, welIndex}
-use Rattle.machine.specs.State.{State}
-use Rattle.machine.specs.Setters.{setWel, setRel}
-use Rattle.machine.specs.Moves.{welOf, wakeFirstWel}
 use Rattle.machine.specs.Moves as Moves
 use Rattle.machine.specs.Execute as Execute
-use Rattle.rows_laws.specs.Wake.{wakeFirst}
+use Rattle.rows_laws.specs.All.{wakeFirst}
 use Rattle.state.specs.declared.scalars.Scalars.{Scalars}
-use Rattle.state.specs.Stands.{Listing, Tallying, Counting, Done}
-use Rattle.state.specs.Bare.{entering}
+use Rattle.state.specs.All.{Listing, Tallying, Counting, Done, entering}
 use Rattle.state.proofs.WakingLaws.{wake-first-wel-listing}
 use Rattle.moves.specs.Motion.{withTally, goOn}
 use Rattle.moves.proofs.MotionLaws.{go-on-done}
-use Rattle.servers_laws.specs.Units.{statusOf}
-use Rattle.servers_laws.specs.Waking.{checkWel, checkFirst, checkLast, checkWels}
+use Rattle.servers_laws.specs.{statusOf, checkWel, checkFirst, checkLast, checkWels}
 use Rattle.servers_laws.proofs.Named.{status-is}
 
 -- a state apart from its WELs and REL

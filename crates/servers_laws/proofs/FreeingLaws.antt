@@ -1,44 +1,22 @@
 -- 5 RELEASE and 7 LEAVE do to the rows what the machine does to its state, the question asked first.
-use Prim.Native.Nat.{ℕ, _+_, _*_, _-_, _%_, _≤_}
-use mathlib.Core.Path.{_≡_, refl, sym, ap, _∙_}
-use mathlib.Core.Bool.{Bool, true, false, cond, not, _||_}
-use mathlib.Core.List.{List, [], _∷_}
-use mathlib.Core.Option.{none}
-use native.Mathlib.Omega.{arith}
-use borrow.Author.Tests.{lt-ltb, le-ltb, leb-true, leb-false}
-use lib.Dec.{ltb, leb, eqb}
-use Rattle.machine.specs.Rules.{Rules}
-use Rattle.machine.specs.Transaction.{Transaction}
-use Rattle.machine.specs.Lists.{bit}
-use Rattle.machine.specs.Term.{Server, free}
+use Rattle.machine.specs.All.{ℕ, _+_, _*_, _-_, _%_, _≤_, _≡_, refl, sym, ap, _∙_, Bool, true, false, cond, not, _||_, List, [], _∷_, none, arith, lt-ltb, le-ltb, leb-true, leb-false, ltb, leb, eqb, Rules, Transaction, bit, Server, free, storage, shareServer, shareUnits, Block, release, leave, BlockModel, blockAt, State, setMoving, qlOf, Parted, firstOf, wakeQl, unitsOf, unless, askHolder, question, partFor, wakeFor, Each}
 use Rattle.machine.specs.Term
-use Rattle.machine.specs.Block.{storage, shareServer, shareUnits, Block, release, leave, BlockModel, blockAt}
-use Rattle.machine.specs.State.{State}
-use Rattle.machine.specs.Setters.{setMoving}
-use Rattle.machine.specs.Moves.{qlOf, Parted, firstOf, wakeQl}
 use Rattle.machine.specs.Moves as Moves
-use Rattle.machine.specs.Execute.{unitsOf, unless, askHolder, question, partFor, wakeFor}
 use Rattle.machine.specs.Execute as Execute
-use Rattle.machine.specs.Claims.{Each}
 use Rattle.machine.proofs.decoding.Proper.{Proper, Names, Storage, servers}
 use Rattle.machine.proofs.runs.Placed.{Placed}
 use Rattle.machine.proofs.nobody_able.Waiting.{AtServer}
 use Rattle.machine.proofs.nobody_able.QueueRemove.{walk, walk-same, within, leftAfter, leave-walks, some-units}
 use Rattle.machine.proofs.runs.Shape.{each-getD}
-use Rattle.tables.specs.Forms.{blockForms}
-use Rattle.tables.specs.Represents.{Represents}
-use Rattle.rows_laws.specs.Holds.{transactionAt}
+use Rattle.tables.specs.All.{blockForms, Represents}
+use Rattle.rows_laws.specs.All.{transactionAt}
 use Rattle.state.specs.declared.scalars.Scalars.{Scalars}
-use Rattle.state.specs.Statistics.{behind, updateServer}
-use Rattle.state.specs.Stands.{rowsOf, Done}
-use Rattle.state.specs.Bare.{entering, bare, bareAnswer}
+use Rattle.state.specs.All.{behind, updateServer, rowsOf, Done, entering, bare, bareAnswer}
 use Rattle.moves.specs.Before.{placeOf, bareBlock, Before}
 use Rattle.moves.specs.Motion.{stopped}
 use Rattle.moves.proofs.BeforeLaws.{next-low, proper-block, operand, stop-done, asked}
 use Rattle.moves.proofs.MotionLaws.{number-read}
-use Rattle.servers_laws.specs.Units.{setUse}
-use Rattle.servers_laws.specs.Waking.{unitsAt, memberUnits, memberFits, leaveWith, takenOff, leftBehind, memberLeft}
-use Rattle.servers_laws.specs.Freeing.{enterFreed, freeOne, freeSome, askRelease, releaseRows, leaveRows}
+use Rattle.servers_laws.specs.{setUse, unitsAt, memberUnits, memberFits, leaveWith, takenOff, leftBehind, memberLeft, enterFreed, freeOne, freeSome, askRelease, releaseRows, leaveRows}
 use Rattle.servers_laws.proofs.Named.{units-of, named}
 use Rattle.servers_laws.proofs.Ready.{Ready, wakeQl-same, update-ready, update-current, set-ready, set-current, first-ready, passed-ready, ready-done}
 use Rattle.servers_laws.proofs.Standing.{high, units-are, holder-is, preempted-is, capacity-is, ready}

@@ -1,22 +1,11 @@
 -- What a block on a server names, and what the tables and the tally hold of that server.
-use Prim.Native.Nat.{ℕ, _+_, _*_, _-_, _%_, _≤_}
-use mathlib.Core.Path.{_≡_, refl, sym, ap, _∙_, subst}
-use mathlib.Core.Bool.{false}
-use mathlib.Core.List.{List, [], _∷_}
-use native.Mathlib.Omega.{arith}
-use lib.Dec.{eqb}
-use lib.ListN.{length, getD}
-use Rattle.machine.specs.Term.{Server}
+use Rattle.machine.specs.All.{ℕ, _+_, _*_, _-_, _%_, _≤_, _≡_, refl, sym, ap, _∙_, subst, false, List, [], _∷_, arith, eqb, length, getD, Server, Code, U, NU, E, NE, F, NF, status, codeIndex, Block, facility, storage, facts, BlockModel, blockAt}
 use Rattle.machine.specs.Term
-use Rattle.machine.specs.Block.{Code, U, NU, E, NE, F, NF, status, codeIndex, Block, facility, storage, facts, BlockModel, blockAt}
 use Rattle.machine.proofs.decoding.Proper.{Proper, Names}
-use Rattle.tables.specs.Forms.{blockForms}
-use Rattle.tables.specs.Numbers.{blockNumbers}
-use Rattle.tables.specs.Represents.{At, Represents}
+use Rattle.tables.specs.All.{blockForms, blockNumbers, At, Represents}
 use Rattle.tables.proofs.BlockKinds.{Kinds, generating, taking, waiting, arriving, preempting, other, kinds, unasked}
 use Rattle.tables.proofs.Operands.{at-number}
-use Rattle.servers_laws.specs.Units.{serverAt, inUse, capacity, statusOf}
-use Rattle.servers_laws.specs.Waking.{unitsAt}
+use Rattle.servers_laws.specs.{serverAt, inUse, capacity, statusOf, unitsAt}
 
 -- ---- Units that a block takes
 

@@ -1,42 +1,22 @@
 -- The rows stand for a state in which a server's units are known: what setting them, waking from the QL and the check of the
 -- WELs make of it.
-use Prim.Native.Nat.{ℕ, _+_, _-_, _≤_, _<_}
-use mathlib.Core.Path.{_≡_, refl, sym, ap, _∙_, subst}
-use mathlib.Core.Bool.{Bool, false}
-use mathlib.Core.List.{List}
-use mathlib.Core.Option.{some}
-use native.Mathlib.Omega.{arith}
-use lib.ListN.{length, getD, set, drop, length-set}
-use lib.Seq.{getD-set-same}
-use Rattle.machine.specs.Transaction.{Transaction}
-use Rattle.machine.specs.Lists.{setNth, bit}
-use Rattle.machine.specs.Term.{Server, idleServer}
+use Rattle.machine.specs.All.{ℕ, _+_, _-_, _≤_, _<_, _≡_, refl, sym, ap, _∙_, subst, Bool, false, List, some, arith, length, getD, set, drop, length-set, getD-set-same, Transaction, setNth, bit, Server, idleServer, Code, welIndex, State, withUse, setQl, setRel, wake, qlOf, Parted, firstOf, wakeQl}
 use Rattle.machine.specs.Term
-use Rattle.machine.specs.Block.{Code, welIndex}
-use Rattle.machine.specs.State.{State}
-use Rattle.machine.specs.Setters.{withUse, setQl, setRel}
-use Rattle.machine.specs.Moves.{wake, qlOf, Parted, firstOf, wakeQl}
 use Rattle.machine.proofs.nobody_able.QueueRemove.{walk}
 use Rattle.machine.specs.Moves as Moves
 use Rattle.machine.specs.Execute as Execute
 use Rattle.machine.proofs.runs.Shape.{wel-below}
-use Rattle.rows_laws.specs.Layout.{head}
-use Rattle.rows_laws.specs.Future.{keepHolder}
-use Rattle.rows_laws.specs.Wake.{wakeFirst, wakeWalk}
-use Rattle.rows_laws.specs.Holds.{transactionAt}
+use Rattle.rows_laws.specs.All.{head, keepHolder, wakeFirst, wakeWalk, transactionAt}
 use Rattle.rows_laws.proofs.Interrupting.{keep-holder-wakes}
 use Rattle.rows_laws.proofs.Laws.{Wakes}
 use Rattle.state.specs.declared.scalars.Scalars.{Scalars}
-use Rattle.state.specs.Statistics.{behind, updateServer}
-use Rattle.state.specs.Stands.{listsOf, Listing, Tallying, Counting, Done}
-use Rattle.state.specs.Bare.{entering}
+use Rattle.state.specs.All.{behind, updateServer, listsOf, Listing, Tallying, Counting, Done, entering}
 use Rattle.state.proofs.ListsOf.{lists-ql}
 use Rattle.state.proofs.StandsLaws.{listing-steady}
 use Rattle.state.proofs.StatisticsLaws.{server-tallying, server-current}
 use Rattle.state.proofs.WakingLaws.{wake-first-ql-listing, wake-ql-listing}
 use Rattle.moves.specs.Motion.{withTally, goOn}
-use Rattle.servers_laws.specs.Units.{setUse}
-use Rattle.servers_laws.specs.Waking.{checkWels, shorter, wakeStays}
+use Rattle.servers_laws.specs.{setUse, checkWels, shorter, wakeStays}
 use Rattle.servers_laws.proofs.Staying.{stays-shows}
 use Rattle.servers_laws.proofs.Tallies.{units-tallying, units-current, length-tallying, first-tallying}
 use Rattle.servers_laws.proofs.Checking.{unchecked, all-checked, checked-done}

@@ -1,24 +1,12 @@
 -- Before a block on a server: what the tables and the tally hold of it.
-use Prim.Native.Nat.{ℕ, _-_, _≤_}
-use mathlib.Core.Path.{_≡_, refl, sym, ap, _∙_}
-use mathlib.Core.List.{List, []}
-use native.Mathlib.Omega.{arith}
-use lib.ListN.{length, getD, List·getD-map}
-use Rattle.machine.specs.Transaction.{Transaction}
-use Rattle.machine.specs.Lists.{bit}
-use Rattle.machine.specs.Term.{idleServer}
+use Rattle.machine.specs.All.{ℕ, _-_, _≤_, _≡_, refl, sym, ap, _∙_, List, [], arith, length, getD, List·getD-map, Transaction, bit, idleServer, Block, BlockModel, State, setMoving, qlOf, none}
 use Rattle.machine.specs.Term
-use Rattle.machine.specs.Block.{Block, BlockModel}
-use Rattle.machine.specs.State.{State}
-use Rattle.machine.specs.Setters.{setMoving}
-use Rattle.machine.specs.Moves.{qlOf}
 use Rattle.machine.proofs.decoding.Proper.{servers}
 use Rattle.machine.proofs.runs.Shape.{capacityOf, each-getD, server-length, ql-at, wel-at}
-use mathlib.Core.Option.{none}
 use Rattle.state.specs.declared.scalars.Scalars.{Scalars}
 use Rattle.moves.specs.Before.{Before}
 use Rattle.moves.proofs.BeforeLaws.{few-lists}
-use Rattle.servers_laws.specs.Units.{inUse, holder, preempted, capacity}
+use Rattle.servers_laws.specs.{inUse, holder, preempted, capacity}
 use Rattle.servers_laws.proofs.Ready.{Ready}
 
 module _ {m : BlockModel} {tape : List (List ℕ)} {tapeBytes tables lists w tally : List ℕ} {x : Scalars} {t : Transaction} {s : State} {b : Block}

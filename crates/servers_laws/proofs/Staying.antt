@@ -1,26 +1,13 @@
 -- Who stays on a list where those that a walk takes are woken: the steps of the count, and that it is how many stay.
-use Prim.Native.Nat.{ℕ, zero, suc, _+_, _≤_, _<_}
-use mathlib.Core.Path.{_≡_, refl, sym, ap, _∙_}
-use mathlib.Core.Bool.{Bool, true, false, cond}
-use mathlib.Core.List.{List, [], _∷_, _++_, map, append-assoc}
-use native.Mathlib.Omega.{arith}
-use borrow.Author.Tests.{lt-ltb, le-ltb}
-use lib.ListN.{length}
-use Rattle.machine.specs.Transaction.{Transaction, Event, precedes}
-use Rattle.machine.specs.Moves.{Parted, goes, stays}
+use Rattle.machine.specs.All.{ℕ, zero, suc, _+_, _≤_, _<_, _≡_, refl, sym, ap, _∙_, Bool, true, false, cond, List, [], _∷_, _++_, map, append-assoc, arith, lt-ltb, le-ltb, length, Transaction, Event, precedes, Parted, goes, stays}
 use Rattle.machine.proofs.nobody_able.QueueRemove.{walk}
-use Rattle.rows_laws.specs.Layout.{link, head, rel}
-use Rattle.rows_laws.specs.Cells.{load}
-use Rattle.rows_laws.specs.Wake.{wakeAt, after, passRows, passCell, wakeWalk}
-use Rattle.rows_laws.specs.Holds.{transactionAt, Chain, ending, Listed}
-use Rattle.rows_laws.specs.Ordered.{Sorted}
-use Rattle.rows_laws.specs.Shows.{Shown, Shows}
+use Rattle.rows_laws.specs.All.{link, head, rel, load, wakeAt, after, passRows, passCell, wakeWalk, transactionAt, Chain, ending, Listed, Sorted, Shown, Shows}
 use Rattle.rows_laws.proofs.Occurs.{occurs-append}
 use Rattle.rows_laws.proofs.Chain.{chain-after, ending-append}
 use Rattle.rows_laws.proofs.Spot.{short}
 use Rattle.rows_laws.proofs.Steps.{wakeWalk-end, wakeWalk-stop, wakeWalk-next}
 use Rattle.rows_laws.proofs.Waking.{woken, wake-rows, wake-shown, wake-ready, wake-same}
-use Rattle.servers_laws.specs.Waking.{oneUnless, wakeStays}
+use Rattle.servers_laws.specs.{oneUnless, wakeStays}
 
 -- ---- Steps
 

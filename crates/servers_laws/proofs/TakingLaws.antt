@@ -1,31 +1,16 @@
 -- 4 SEIZE and 6 ENTER do to the rows what the machine does to its state.
-use Prim.Native.Nat.{ℕ, suc, _+_, _-_, _≤_}
-use mathlib.Core.Path.{_≡_, refl}
-use mathlib.Core.Bool.{Bool, true, false, cond}
-use mathlib.Core.List.{List}
-use mathlib.Core.Option.{none}
-use native.Mathlib.Omega.{arith}
-use lib.Dec.{leb}
-use Rattle.machine.specs.Transaction.{Transaction}
-use Rattle.machine.specs.Lists.{bit}
-use Rattle.machine.specs.Term.{Server, free}
+use Rattle.machine.specs.All.{ℕ, suc, _+_, _-_, _≤_, _≡_, refl, Bool, true, false, cond, List, none, arith, leb, Transaction, bit, Server, free, Block, shareServer, shareUnits, shareHolder, seize, enter, BlockModel, State, withSerial, setMoving, setSerial, question}
 use Rattle.machine.specs.Term
-use Rattle.machine.specs.Block.{Block, shareServer, shareUnits, shareHolder, seize, enter, BlockModel}
-use Rattle.machine.specs.State.{State}
-use Rattle.machine.specs.Setters.{withSerial, setMoving, setSerial}
 use Rattle.machine.specs.Moves as Moves
-use Rattle.machine.specs.Execute.{question}
 use Rattle.machine.specs.Execute as Execute
 use Rattle.machine.proofs.decoding.Proper.{Names, Storage, servers}
-use Rattle.tables.specs.Forms.{blockForms}
+use Rattle.tables.specs.All.{blockForms}
 use Rattle.state.specs.declared.scalars.Scalars.{Scalars}
-use Rattle.state.specs.Statistics.{behind, updateServer}
-use Rattle.state.specs.Stands.{Tallying, Done}
-use Rattle.state.specs.Bare.{entering, waiting, bare, bareAnswer}
+use Rattle.state.specs.All.{behind, updateServer, Tallying, Done, entering, waiting, bare, bareAnswer}
 use Rattle.moves.specs.Before.{placeOf, bareBlock, Before}
 use Rattle.moves.proofs.BeforeLaws.{next-low, serial-low, few-lists, proper-block, operand}
 use Rattle.moves.proofs.MotionLaws.{number-read, Puts, puts-ql, wait-on-done}
-use Rattle.servers_laws.specs.Taking.{holdUnits, longer, queueUp, takeUnits, seizeRows, enterRows}
+use Rattle.servers_laws.specs.{holdUnits, longer, queueUp, takeUnits, seizeRows, enterRows}
 use Rattle.servers_laws.proofs.Named.{named}
 use Rattle.servers_laws.proofs.Tallies.{queued-tallying}
 use Rattle.servers_laws.proofs.Ready.{Ready, update-ready, update-current, set-ready, keep-ready, ready-done}

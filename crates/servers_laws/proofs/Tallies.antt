@@ -1,34 +1,16 @@
 -- The tally follows a server's units, its holder, whether by PREEMPT, and the length of its QL, where its statistics are up to date.
-use Prim.Native.Nat.{ℕ, zero, suc, _+_, _-_, _%_, _≤_, _<_, min}
-use mathlib.Core.Path.{_≡_, refl, sym, ap, subst, _∙_}
-use mathlib.Core.Logic.{_≢_}
-use mathlib.Core.Bool.{Bool, true, false, cond}
-use mathlib.Core.List.{List, [], _∷_}
-use native.Mathlib.Omega.{arith}
-use native.Mathlib.Decide.{ℕ-discrete}
-use borrow.Author.Tests.{le-ltb, eq-eqb, ne-eqb}
-use lib.Dec.{eqb}
-use lib.ListN.{length, getD, set, drop, length-set, length-drop}
-use lib.Seq.{getD-set-same, getD-set-other}
-use Rattle.machine.specs.Transaction.{Transaction}
-use Rattle.machine.specs.Lists.{bit}
-use Rattle.machine.specs.Term.{Server, idleServer}
+use Rattle.machine.specs.All.{ℕ, zero, suc, _+_, _-_, _%_, _≤_, _<_, min, _≡_, refl, sym, ap, subst, _∙_, _≢_, Bool, true, false, cond, List, [], _∷_, arith, ℕ-discrete, le-ltb, eq-eqb, ne-eqb, eqb, length, getD, set, drop, length-set, length-drop, getD-set-same, getD-set-other, Transaction, bit, Server, idleServer, State, withUse, setQl}
 use Rattle.machine.specs.Term
-use Rattle.machine.specs.State.{State}
-use Rattle.machine.specs.Setters.{withUse, setQl}
 use Rattle.machine.specs.Moves as Moves
 use Rattle.machine.proofs.lists.Sums.{sum-length}
 use Rattle.machine.proofs.lists.Lines.{sum-lineUp}
 use Rattle.tables.specs.Layout as Layout
-use Rattle.tables.specs.Layout.{most64}
-use Rattle.state.specs.Statistics.{behind, sumNow, longestNow}
-use Rattle.state.specs.Stands.{ofResidue, heldIn, Tallying}
+use Rattle.tables.specs.All.{most64}
+use Rattle.state.specs.All.{behind, sumNow, longestNow, ofResidue, heldIn, Tallying}
 use Rattle.state.proofs.StandsLaws.{entries-set, waits-set, pair-set, seen-same, seen-set, queueing-same, queueing-set, sampling-same, sampling-set}
 use Rattle.state.proofs.Held.{held-most, held-at, held-set}
 use Rattle.state.proofs.StatisticsLaws.{SamePair, behind-same, sum-same, longest-same, sum-moved, longest-moved}
-use Rattle.servers_laws.specs.Units.{holder, residueCell, setHeld, heldLess, heldMore, setUse}
-use Rattle.servers_laws.specs.Waking.{shorter}
-use Rattle.servers_laws.specs.Taking.{longer}
+use Rattle.servers_laws.specs.{holder, residueCell, setHeld, heldLess, heldMore, setUse, shorter, longer}
 
 -- ---- Lists
 

@@ -1,36 +1,19 @@
 -- 8 WAITIF code, server and 17 code, server, back count do to the rows what the machine does to its state.
-use Prim.Native.Nat.{ℕ, zero, suc, _+_, _-_, _%_, _≤_, _<_}
-use mathlib.Core.Path.{_≡_, refl, ap, _∙_, subst}
-use mathlib.Core.Bool.{Bool, true, false, cond, _&&_}
-use mathlib.Core.List.{List}
-use mathlib.Core.Option.{none, some}
-use native.Mathlib.Omega.{arith}
-use lib.Dec.{ltb}
-use lib.ListN.{getD}
-use Rattle.machine.specs.Transaction.{Transaction}
-use Rattle.machine.specs.Term.{Server}
+use Rattle.machine.specs.All.{ℕ, zero, suc, _+_, _-_, _%_, _≤_, _<_, _≡_, refl, ap, _∙_, subst, Bool, true, false, cond, _&&_, List, none, some, arith, ltb, getD, Transaction, Server, Code, U, NU, E, NE, F, NF, codeIndex, status, Block, waitServer, facts, BlockModel, beginsGroup, welIndex, State, withStamp, setMoving, setSerial, wakeFirstWel, question, stamped}
 use Rattle.machine.specs.Term
-use Rattle.machine.specs.Block.{Code, U, NU, E, NE, F, NF, codeIndex, status, Block, waitServer, facts, BlockModel, beginsGroup, welIndex}
-use Rattle.machine.specs.State.{State}
-use Rattle.machine.specs.Setters.{withStamp, setMoving, setSerial}
-use Rattle.machine.specs.Moves.{wakeFirstWel}
 use Rattle.machine.specs.Moves as Moves
-use Rattle.machine.specs.Execute.{question, stamped}
 use Rattle.machine.proofs.decoding.Proper.{CodeServer, servers}
 use Rattle.machine.proofs.runs.Shape.{wel-below}
-use Rattle.tables.specs.Forms.{blockForms}
-use Rattle.rows_laws.specs.Cells.{timeOf, setTime}
-use Rattle.rows_laws.specs.Holds.{transactionAt}
-use Rattle.rows_laws.specs.Wake.{wakeFirst}
+use Rattle.tables.specs.All.{blockForms}
+use Rattle.rows_laws.specs.All.{timeOf, setTime, transactionAt, wakeFirst}
 use Rattle.state.specs.declared.scalars.Scalars.{Scalars}
-use Rattle.state.specs.Stands.{Listing, Done}
-use Rattle.state.specs.Bare.{entering, goingBack, waiting, bare, bareAnswer}
+use Rattle.state.specs.All.{Listing, Done, entering, goingBack, waiting, bare, bareAnswer}
 use Rattle.moves.specs.Before.{placeOf, bareBlock, Before}
 use Rattle.moves.specs.Motion.{withTally, waitOn}
 use Rattle.moves.proofs.BeforeLaws.{placed, next-low, serial-low, proper-block, operand}
 use Rattle.moves.proofs.MotionLaws.{Puts, puts-wel, wait-on-done, go-on-done, go-back-done}
 use Rattle.state.proofs.StandsLaws.{listing-time}
-use Rattle.servers_laws.specs.WaitServer.{backOf, beginsFrom, isLate, backFrom, stampOn, passOn, passOrBack, waitWhile, waitServerRows}
+use Rattle.servers_laws.specs.{backOf, beginsFrom, isLate, backFrom, stampOn, passOn, passOrBack, waitWhile, waitServerRows}
 use Rattle.servers_laws.proofs.Named.{named, status-is}
 use Rattle.servers_laws.proofs.Ready.{Ready}
 use Rattle.servers_laws.proofs.Begins.{begins-is}

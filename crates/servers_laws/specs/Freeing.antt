@@ -1,15 +1,9 @@
 -- The row machine: 5 RELEASE and 7 LEAVE.
-use Prim.Native.Nat.{ℕ, _+_, _-_}
-use mathlib.Core.Bool.{cond}
-use mathlib.Core.List.{List}
-use lib.Dec.{ltb, eqb}
-use lib.ListN.{getD, set}
+use Rattle.machine.specs.All.{ℕ, _+_, _-_, cond, List, ltb, eqb, getD, set}
 use Rattle.tables.specs.Layout as Layout
-use Rattle.rows_laws.specs.Layout.{head, numberField}
-use Rattle.rows_laws.specs.Cells.{read}
-use Rattle.rows_laws.specs.Wake.{wakeFirst, wakeWalk}
+use Rattle.rows_laws.specs.All.{head, numberField, read, wakeFirst, wakeWalk}
 use Rattle.state.specs.declared.scalars.Scalars.{Scalars}
-use Rattle.state.specs.Stands.{Rows, rowsOf}
+use Rattle.state.specs.All.{Rows, rowsOf}
 use Rattle.moves.specs.Motion.{Moved, withTally, goOn, stopped}
 use Rattle.servers_laws.specs.Units.{serverAt, inUse, holder, preempted, changeUse, capacity}
 use Rattle.servers_laws.specs.Waking.{checkWels, shorter, memberFits, leaveWith, memberLeft, steps, wakeStays}

@@ -1,16 +1,9 @@
 -- The row machine: 4 SEIZE and 6 ENTER.
-use Prim.Native.Nat.{ℕ, _+_, _-_, min}
-use mathlib.Core.Bool.{cond}
-use mathlib.Core.List.{List}
-use lib.Dec.{leb}
-use lib.ListN.{getD, set}
+use Rattle.machine.specs.All.{ℕ, _+_, _-_, min, cond, List, leb, getD, set}
 use Rattle.tables.specs.Layout as Layout
-use Rattle.rows_laws.specs.Layout.{numberField}
-use Rattle.rows_laws.specs.Cells.{read}
-use Rattle.rows_laws.specs.Future.{keepHolder}
+use Rattle.rows_laws.specs.All.{numberField, read, keepHolder}
 use Rattle.state.specs.declared.scalars.Scalars.{Scalars}
-use Rattle.state.specs.Statistics.{updateServer}
-use Rattle.state.specs.Stands.{Rows}
+use Rattle.state.specs.All.{updateServer, Rows}
 use Rattle.moves.specs.Motion.{withTally, goOn, waitOn}
 use Rattle.servers_laws.specs.Units.{serverAt, inUse, changeUse, capacity}
 use Rattle.servers_laws.specs.Waking.{checkWels}

@@ -1,11 +1,7 @@
 -- The row machine: units, holders, capacities and status codes of servers, which count from 0 here.
-use Prim.Native.Nat.{ℕ, _+_, _-_, _%_, min}
-use mathlib.Core.Bool.{Bool, cond, not}
-use mathlib.Core.List.{List}
-use lib.Dec.{ltb, eqb}
-use lib.ListN.{length, getD, set}
+use Rattle.machine.specs.All.{ℕ, _+_, _-_, _%_, min, Bool, cond, not, List, ltb, eqb, length, getD, set}
 use Rattle.tables.specs.Layout as Layout
-use Rattle.state.specs.Statistics.{updateServer}
+use Rattle.state.specs.All.{updateServer}
 
 -- the server that a block names at an index of the tables
 unfoldable pub serverAt : List ℕ → ℕ → ℕ

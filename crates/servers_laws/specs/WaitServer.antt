@@ -1,14 +1,7 @@
 -- The row machine: 8 WAITIF code, server, and 17 code, server, back count.
-use Prim.Native.Nat.{ℕ, zero, suc, _+_, _*_, _%_}
-use mathlib.Core.Bool.{Bool, false, cond, _&&_}
-use mathlib.Core.List.{List}
-use lib.Dec.{ltb, eqb}
-use lib.ListN.{getD}
-use Rattle.machine.specs.Limits.{maxBack}
-use Rattle.tables.specs.Layout.{codeCount, edition}
-use Rattle.rows_laws.specs.Layout.{wels}
-use Rattle.rows_laws.specs.Cells.{timeOf, setTime}
-use Rattle.rows_laws.specs.Wake.{wakeFirst}
+use Rattle.machine.specs.All.{ℕ, zero, suc, _+_, _*_, _%_, Bool, false, cond, _&&_, List, ltb, eqb, getD, maxBack}
+use Rattle.tables.specs.All.{codeCount, edition}
+use Rattle.rows_laws.specs.All.{wels, timeOf, setTime, wakeFirst}
 use Rattle.state.specs.declared.scalars.Scalars.{Scalars}
 use Rattle.moves.specs.Motion.{Moved, goOn, goBack, waitOn}
 use Rattle.servers_laws.specs.Units.{serverAt, inUse, capacity, statusOf}

@@ -1,14 +1,7 @@
 -- The row machine: whom a change of a server's units wakes.
-use Prim.Native.Nat.{ℕ, zero, suc, _+_, _*_, _-_, _%_}
-use mathlib.Core.Bool.{Bool, cond}
-use mathlib.Core.List.{List}
-use lib.Dec.{ltb, leb, eqb}
-use lib.ListN.{getD, set}
-use Rattle.machine.specs.Limits.{maxBlocks}
+use Rattle.machine.specs.All.{ℕ, zero, suc, _+_, _*_, _-_, _%_, Bool, cond, List, ltb, leb, eqb, getD, set, maxBlocks}
 use Rattle.tables.specs.Layout as Layout
-use Rattle.rows_laws.specs.Layout.{nextField, wels, rowCount}
-use Rattle.rows_laws.specs.Cells.{load, read}
-use Rattle.rows_laws.specs.Wake.{wakeFirst, passRows, passCell}
+use Rattle.rows_laws.specs.All.{nextField, wels, rowCount, load, read, wakeFirst, passRows, passCell}
 use Rattle.servers_laws.specs.Units.{statusOf}
 
 -- ---- WELs

@@ -1,17 +1,5 @@
 -- A clock move keeps the line: REL is empty, so nobody stands before a block, and an idle facility has nobody waiting.
-use Prim.Native.Nat.{ℕ, _+_, _-_, _≤_}
-use mathlib.Core.Path.{_≡_, refl, sym, ap, subst, _∙_}
-use mathlib.Core.List.{List, [], _∷_}
-use mathlib.Core.Option.{Option}
-use native.Mathlib.Omega.{arith}
-use lib.ListN.{getD}
-use Rattle.machine.specs.Transaction.{Transaction, Event}
-use Rattle.machine.specs.Lists.{those, others}
-use Rattle.machine.specs.Term.{Server, idleServer}
-use Rattle.machine.specs.Block.{BlockModel}
-use Rattle.machine.specs.State.{State}
-use Rattle.machine.specs.Setters.{setClock, setView, setFel, setRel, setSerial}
-use Rattle.machine.specs.Turn.{sampleServers, sample, due, moveClock, nextEvents}
+use Rattle.machine.specs.All.{ℕ, _+_, _-_, _≤_, _≡_, refl, sym, ap, subst, _∙_, List, [], _∷_, Option, arith, getD, Transaction, Event, those, others, Server, idleServer, BlockModel, State, setClock, setView, setFel, setRel, setSerial, sampleServers, sample, due, moveClock, nextEvents}
 use Rattle.machine.proofs.lists.Sums.{sumOn}
 use Rattle.slowjob.proofs.Events.{at, Pending, Step, absent, stays, falls-due, Moved, moved, Arrival, arrive}
 use Rattle.slowjob.proofs.Line.{Coming, nobody, later, here-now, Serving, idle, seized, busy, done, Line}

@@ -1,20 +1,6 @@
 -- The FEL of the program: at most the one who comes next, before GENERATE, and the one who is served, before RELEASE; and what a clock
 -- move takes from it.
-use Prim.Native.Nat.{ℕ, _+_, _*_, _≤_}
-use mathlib.Core.Path.{_≡_, refl, sym, ap, subst}
-use mathlib.Core.Bool.{Bool, true, false, cond, not}
-use mathlib.Core.List.{List, [], _∷_}
-use mathlib.Core.Option.{Option, none, some}
-use native.Mathlib.Omega.{arith}
-use borrow.Author.Tests.{eqb-true, eq-eqb}
-use lib.Dec.{eqb}
-use Rattle.machine.specs.Transaction.{Transaction, Event, precedes, earlier}
-use Rattle.machine.specs.Lists.{insert, those, others, bit}
-use Rattle.machine.specs.State.{State}
-use Rattle.machine.specs.Setters.{withReturning, withSerial, setRel, setSerial}
-use Rattle.machine.specs.Moves.{fresh, toRel}
-use Rattle.machine.specs.Turn.{arriveAll, due}
-use Rattle.machine.specs.Claims.{Each}
+use Rattle.machine.specs.All.{cases, ℕ, _+_, _*_, _≤_, _≡_, refl, sym, ap, subst, false, List, [], _∷_, Option, none, some, arith, eqb-true, eq-eqb, eqb, Transaction, Event, precedes, earlier, insert, those, others, bit, State, withReturning, withSerial, setRel, setSerial, fresh, toRel, arriveAll, due, Each}
 use Rattle.machine.proofs.runs.RunLaws.{cond-cases}
 use Rattle.machine.proofs.lists.Sorted.{each-insert, earlier-time, later-time}
 use Rattle.machine.proofs.lists.Sums.{sumOn, sum-insert}
@@ -115,66 +101,52 @@ moved (served e n le) =
       counts = λ j. omega (arith, ap (λ i. bit (eqb i j)) n);
       ready = (subst Ready (sym n) releases, tt);
     })
-moved {low} (coming-first e f n k le ef) = rw (eq-eqb (e .time) (e .time) refl) (go (eqb (f .time) (e .time)) refl)
-  where
-    go : (b : Bool) → eqb (f .time) (e .time) ≡ b
-        → Moved low (e .time) (e ∷ cond b (f ∷ []) []) (cond (not b) (f ∷ []) []) (some (e .time)) (some (f .time))
-    go true b =
-        record {
-          ahead = le;
-          o′ = none;
-          p′ = none;
-          one = 1;
-          four = 1;
-          coming = falls-due (e .time) refl;
-          serving = falls-due (f .time) (eqb-true _ _ b);
-          rest = neither;
-          counts = λ j. omega (arith, ap (λ i. bit (eqb i j)) n, ap (λ i. bit (eqb i j)) k);
-          ready = (subst Ready (sym n) generates, (subst Ready (sym k) releases, tt));
-        }
-    go false b =
-        record {
-          ahead = le;
-          o′ = none;
-          p′ = some (f .time);
-          one = 1;
-          four = 0;
-          coming = falls-due (e .time) refl;
-          serving = stays (f .time);
-          rest = served f k ef;
-          counts = λ j. omega (arith, ap (λ i. bit (eqb i j)) n);
-          ready = (subst Ready (sym n) generates, tt);
-        }
-moved {low} (served-first e f n k le ef) = rw (eq-eqb (e .time) (e .time) refl) (go (eqb (f .time) (e .time)) refl)
-  where
-    go : (b : Bool) → eqb (f .time) (e .time) ≡ b
-        → Moved low (e .time) (e ∷ cond b (f ∷ []) []) (cond (not b) (f ∷ []) []) (some (f .time)) (some (e .time))
-    go true b =
-        record {
-          ahead = le;
-          o′ = none;
-          p′ = none;
-          one = 1;
-          four = 1;
-          coming = falls-due (f .time) (eqb-true _ _ b);
-          serving = falls-due (e .time) refl;
-          rest = neither;
-          counts = λ j. omega (arith, ap (λ i. bit (eqb i j)) n, ap (λ i. bit (eqb i j)) k);
-          ready = (subst Ready (sym n) releases, (subst Ready (sym k) generates, tt));
-        }
-    go false b =
-        record {
-          ahead = le;
-          o′ = some (f .time);
-          p′ = none;
-          one = 0;
-          four = 1;
-          coming = stays (f .time);
-          serving = falls-due (e .time) refl;
-          rest = coming f k ef;
-          counts = λ j. omega (arith, ap (λ i. bit (eqb i j)) n);
-          ready = (subst Ready (sym n) releases, tt);
-        }
+moved {low} (coming-first e f n k le ef) = rw (eq-eqb (e .time) (e .time) refl) (cases (eqb (f .time) (e .time)) (λ b. rw b (record {
+  ahead = le;
+  o′ = none;
+  p′ = none;
+  one = 1;
+  four = 1;
+  coming = falls-due (e .time) refl;
+  serving = falls-due (f .time) (eqb-true _ _ b);
+  rest = neither;
+  counts = λ j. omega (arith, ap (λ i. bit (eqb i j)) n, ap (λ i. bit (eqb i j)) k);
+  ready = (subst Ready (sym n) generates, (subst Ready (sym k) releases, tt));
+})) (λ b. rw b (record {
+  ahead = le;
+  o′ = none;
+  p′ = some (f .time);
+  one = 1;
+  four = 0;
+  coming = falls-due (e .time) refl;
+  serving = stays (f .time);
+  rest = served f k ef;
+  counts = λ j. omega (arith, ap (λ i. bit (eqb i j)) n);
+  ready = (subst Ready (sym n) generates, tt);
+})))
+moved {low} (served-first e f n k le ef) = rw (eq-eqb (e .time) (e .time) refl) (cases (eqb (f .time) (e .time)) (λ b. rw b (record {
+  ahead = le;
+  o′ = none;
+  p′ = none;
+  one = 1;
+  four = 1;
+  coming = falls-due (f .time) (eqb-true _ _ b);
+  serving = falls-due (e .time) refl;
+  rest = neither;
+  counts = λ j. omega (arith, ap (λ i. bit (eqb i j)) n, ap (λ i. bit (eqb i j)) k);
+  ready = (subst Ready (sym n) releases, (subst Ready (sym k) generates, tt));
+})) (λ b. rw b (record {
+  ahead = le;
+  o′ = some (f .time);
+  p′ = none;
+  one = 0;
+  four = 1;
+  coming = stays (f .time);
+  serving = falls-due (e .time) refl;
+  rest = coming f k ef;
+  counts = λ j. omega (arith, ap (λ i. bit (eqb i j)) n);
+  ready = (subst Ready (sym n) releases, tt);
+})))
 
 -- ---- Onto REL
 

@@ -1,26 +1,10 @@
 -- The line of jobs: what holds in every state of a run of the program. It speaks of how many stand before each block, and never of who they
 -- are or of their order; so a tie may be broken either way.
-use Prim.Native.Nat.{ℕ, zero, suc, _+_, _≤_, _<_, max}
-use mathlib.Core.Path.{_≡_, refl, sym, ap, subst, subst₂, _∙_}
-use mathlib.Core.Bool.{Bool}
-use mathlib.Core.List.{List, [], _∷_, _++_, map, reverse}
-use mathlib.Core.Option.{Option, none, some}
-use native.Mathlib.Omega.{arith}
-use lib.Dec.{eqb}
-use lib.ListN.{length, getD, set, take, drop}
-use Rattle.machine.specs.Transaction.{Transaction, Event}
-use Rattle.machine.specs.Lists.{bit, those, others}
-use Rattle.machine.specs.Term.{idleServer}
-use Rattle.machine.specs.Block.{Code, welIndex, BlockModel}
-use Rattle.machine.specs.State.{State, Logged}
-use Rattle.machine.specs.Setters.{setRel, setWel, setWsl}
-use Rattle.machine.specs.Moves.{qlOf, welOf, timesLeft, wake, wakeFirstWel, wakeWsl}
-use Rattle.machine.specs.Execute.{checkWels}
-use Rattle.machine.specs.Claims.{Each}
+use Rattle.machine.specs.All.{ℕ, zero, suc, _+_, _≤_, _<_, max, _≡_, refl, sym, ap, subst, subst₂, _∙_, Bool, List, [], _∷_, _++_, map, reverse, Option, none, some, arith, eqb, length, getD, set, take, drop, Transaction, Event, bit, those, others, idleServer, Code, welIndex, BlockModel, State, Logged, setRel, setWel, setWsl, qlOf, welOf, timesLeft, wake, wakeFirstWel, wakeWsl, checkWels, Each}
 use Rattle.machine.proofs.lists.Cases.{checkWels-kept}
 use Rattle.machine.proofs.runs.Shape.{each-set, each-getD}
 use Rattle.machine.proofs.lists.Sums.{sumOn}
-use Rattle.slowjob.specs.SlowJob.{ends, comes, leaves}
+use Rattle.slowjob.specs.{ends, comes, leaves}
 use Rattle.slowjob.proofs.Events.{at, AllReady, Pending}
 
 -- ---- Numbers and lists that are read of a state

@@ -1,13 +1,6 @@
 -- One service time raised by d: of the recurrence, each end is no earlier and at most d later, and how that fades.
-use Prim.Native.Nat.{ℕ, zero, suc, _+_, _≤_}
-use mathlib.Core.Path.{_≡_, refl, ap}
-use mathlib.Core.Bool.{Bool, true, false}
-use mathlib.Core.List.{List, [], _∷_}
-use native.Mathlib.Omega.{arith}
-use borrow.Author.Tests.{eqb-true, eqb-false}
-use lib.Dec.{eqb}
-use lib.ListN.{getD}
-use Rattle.slowjob.specs.SlowJob.{raised, leaves, Fades}
+use Rattle.machine.specs.All.{cases, ℕ, zero, suc, _+_, _≤_, _≡_, refl, ap, List, [], _∷_, arith, eqb-true, eqb-false, eqb, getD}
+use Rattle.slowjob.specs.{raised, leaves, Fades}
 
 abbrev Within : (d before after : ℕ) → Type 0
 Within d before after = (before ≤ after) × (after ≤ before + d)
@@ -38,18 +31,14 @@ module _ (arrivals services : List ℕ) (i d : ℕ) where
   reach : (k : ℕ) → (k ≤ i → after k ≡ before k) × Within d (before k) (after k)
   unfolding leaves
   reach zero = (λ le. refl, (omega arith, omega arith))
-  reach (suc k) = go (eqb k i) refl (reach k)
-    where
-      go : (b : Bool) → eqb k i ≡ b → ((k ≤ i → after k ≡ before k) × Within d (before k) (after k))
-          → (suc k ≤ i → after (suc k) ≡ before (suc k)) × Within d (before (suc k)) (after (suc k))
-      go true e h =
-          let at : k ≡ i = eqb-true _ _ e in
-          let same : after k ≡ before k = h .0 (omega arith) in
-          let time : Within d (getD services k 0) (getD (raised i d services) k 0) = rw at (raised-most services i d) in
-          (λ le. absurd (omega arith), (omega (arith, time), omega (arith, time)))
-      go false e h =
-          let same : getD (raised i d services) k 0 ≡ getD services k 0 = raised-other services i d k (eqb-false _ _ e) in
-          (λ le. let equal : after k ≡ before k = h .0 (omega arith) in omega arith, (omega (arith, h .1), omega (arith, h .1)))
+  reach (suc k) =
+      cases (eqb k i)
+      (λ e. let at : k ≡ i = eqb-true _ _ e in
+      let same : after k ≡ before k = (reach k) .0 (omega arith) in
+      let time : Within d (getD services k 0) (getD (raised i d services) k 0) = rw at (raised-most services i d) in
+      (λ le. absurd (omega arith), (omega (arith, time), omega (arith, time))))
+      (λ e. let same : getD (raised i d services) k 0 ≡ getD services k 0 = raised-other services i d k (eqb-false _ _ e) in
+      (λ le. let equal : after k ≡ before k = (reach k) .0 (omega arith) in omega arith, (omega (arith, (reach k) .1), omega (arith, (reach k) .1))))
 
   pub leaves-late : (k : ℕ) → Within d (before k) (after k)
   leaves-late k = reach k .1

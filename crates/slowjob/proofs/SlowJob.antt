@@ -1,26 +1,12 @@
 -- Document 02, item 14: the k-th end of every run is that of the recurrence, so that one slow job delays no end by more than its own delay.
-use Prim.Native.Nat.{ℕ, zero, suc, _<_}
-use mathlib.Core.Path.{_≡_, refl, ap, subst, subst₂, _∙_}
-use mathlib.Core.Bool.{Bool, true, false}
-use mathlib.Core.List.{List, [], _∷_}
-use native.Mathlib.Omega.{arith}
-use borrow.Author.Tests.{ltb-true, ltb-false}
-use lib.Dec.{ltb}
-use lib.ListN.{length, getD, length-append, List·getD-append}
-use lib.Seq.{getD-append-seam}
-use Rattle.machine.specs.Block.{terminate, BlockModel}
-use Rattle.machine.specs.Lists.{nth}
-use Rattle.machine.specs.Rules.{Rules, inForce}
-use Rattle.machine.specs.Trace.{Record}
-use Rattle.machine.specs.Run.{run}
-use Rattle.machine.specs.Validate.{accept, validate}
-use Rattle.machine.specs.Outcome.{recordsOf, acceptedRun, outcomeOf, outcome}
+use Rattle.machine.specs.All.{cases, ℕ, zero, suc, _<_, _≡_, refl, ap, subst, subst₂, _∙_, List, [], _∷_, arith, ltb-true, ltb-false, ltb, length, getD, length-append, List·getD-append, getD-append-seam, terminate, BlockModel, nth, Rules, inForce, Record, run, accept, validate, recordsOf, acceptedRun, outcomeOf, outcome}
 use Rattle.machine.proofs.decoding.Proper.{Proper, ProperBlock}
 use Rattle.machine.proofs.decoding.ProperFrom.{proper-from, rules-from}
 use Rattle.trace.specs.Whole.{Reads}
 use Rattle.trace.proofs.RoundTrip.{reads-once}
 use Rattle.columns_laws.proofs.Runs.{run-taken}
-use Rattle.slowjob.specs.SlowJob.{jobs, JobLine, raised, ends, endsOf, Delayed, SlowJob, SlowJobBytes, SlowJobRead, leaves, EachEnd}
+use Rattle.slowjob.specs.{jobs, JobLine, raised, ends, endsOf, Delayed, SlowJobBytes, SlowJobRead, leaves, EachEnd}
+use Rattle.slowjob.specs.SlowJob.{SlowJob}
 use Rattle.slowjob.proofs.Recurrence.{leaves-late}
 use Rattle.slowjob.proofs.Line.{firsts}
 use Rattle.slowjob.proofs.Turns.{run-sound}
@@ -34,17 +20,13 @@ module _ (arrivals services : List ℕ) where
 
   firsts-at : (n k : ℕ) → k < n → getD (firsts arrivals services n) k 0 ≡ leaves arrivals services (suc k)
   firsts-at zero k lt = absurd (omega arith)
-  firsts-at (suc n) k lt = go (ltb k n) refl (firsts-at n k)
-    where
-      go : (b : Bool) → ltb k n ≡ b → (k < n → getD (firsts arrivals services n) k 0 ≡ leaves arrivals services (suc k))
-          → getD (firsts arrivals services (suc n)) k 0 ≡ leaves arrivals services (suc k)
-      go true e h =
-          List·getD-append (firsts arrivals services n) (leaves arrivals services (suc n) ∷ []) 0 k (omega (arith, firsts-length n, ltb-true k n e)) ∙ h (ltb-true k n e)
-      go false e h =
-          let last : k ≡ length (firsts arrivals services n) = omega (arith, firsts-length n, ltb-false k n e) in
-          let same : n ≡ k = omega (arith, firsts-length n) in
-          ap (λ i. getD (firsts arrivals services (suc n)) i 0) last ∙ getD-append-seam (firsts arrivals services n) (leaves arrivals services (suc n)) [] 0
-          ∙ ap (λ i. leaves arrivals services (suc i)) same
+  firsts-at (suc n) k lt =
+      cases (ltb k n)
+      (λ e. List·getD-append (firsts arrivals services n) (leaves arrivals services (suc n) ∷ []) 0 k (omega (arith, firsts-length n, ltb-true k n e)) ∙ (firsts-at n k) (ltb-true k n e))
+      (λ e. let last : k ≡ length (firsts arrivals services n) = omega (arith, firsts-length n, ltb-false k n e) in
+      let same : n ≡ k = omega (arith, firsts-length n) in
+      ap (λ i. getD (firsts arrivals services (suc n)) i 0) last ∙ getD-append-seam (firsts arrivals services n) (leaves arrivals services (suc n)) [] 0
+      ∙ ap (λ i. leaves arrivals services (suc i)) same)
 
 -- ---- Each end
 

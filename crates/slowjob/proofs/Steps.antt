@@ -1,25 +1,9 @@
 -- What each block of the program does to the line.
-use Prim.Native.Nat.{ℕ, zero, suc, _+_, _≤_, _<_, max}
-use mathlib.Core.Path.{_≡_, refl, sym, ap, subst, _∙_}
-use mathlib.Core.Bool.{Bool, true, false, cond}
-use mathlib.Core.List.{List, [], _∷_, _++_, map, reverse, reverse-cons, append-nil}
-use mathlib.Core.Option.{Option, none, some}
-use native.Mathlib.Omega.{arith}
-use borrow.Author.Tests.{ltb-true, ltb-false}
-use lib.Dec.{eqb, ltb}
-use lib.ListN.{length, getD, take, drop}
-use Rattle.machine.specs.Transaction.{Transaction, Event, precedes, earlier}
-use Rattle.machine.specs.Lists.{insert, those, bit}
-use Rattle.machine.specs.Setters.{withReturning}
-use Rattle.machine.specs.Block.{facts, BlockModel, blockAt}
-use Rattle.machine.specs.Trace.{Record}
-use Rattle.machine.specs.State.{Logged}
-use Rattle.machine.specs.Moves.{lineUp, wake}
-use Rattle.machine.specs.Claims.{Each}
+use Rattle.machine.specs.All.{cases, ℕ, zero, suc, _+_, _≤_, _<_, max, _≡_, refl, sym, ap, subst, _∙_, Bool, true, cond, List, [], _∷_, _++_, map, reverse, reverse-cons, append-nil, Option, none, some, arith, ltb-true, ltb-false, eqb, ltb, length, getD, take, drop, Transaction, Event, precedes, earlier, insert, those, bit, withReturning, facts, BlockModel, blockAt, Record, Logged, lineUp, wake, Each}
 use Rattle.machine.proofs.lists.Sorted.{each-insert}
 use Rattle.machine.proofs.lists.Lines.{sum-lineUp, each-lineUp}
 use Rattle.machine.proofs.lists.Sums.{sumOn, sum-insert, sum-length}
-use Rattle.slowjob.specs.SlowJob.{ends, comes, leaves}
+use Rattle.slowjob.specs.{ends, comes, leaves}
 use Rattle.slowjob.proofs.Events.{at, Ready, seizes, Pending, insert-coming, insert-served}
 use Rattle.slowjob.proofs.Line.{Seeking, firsts, Coming, nobody, later, here-now, Serving, idle, seized, busy, done, before, Gone, Lined}
 
@@ -40,12 +24,7 @@ module _ (m : BlockModel) where
   those-end : (l : List Record) (r : Record) → those terminating (l ++ (r ∷ [])) ≡ those terminating l ++ cond (terminating r) (r ∷ []) []
   unfolding those
   those-end [] r = refl
-  those-end (x ∷ l) r = go (terminating x) (those-end l r)
-    where
-      go : (b : Bool) → those terminating (l ++ (r ∷ [])) ≡ those terminating l ++ cond (terminating r) (r ∷ []) []
-          → cond b (x ∷ those terminating (l ++ (r ∷ []))) (those terminating (l ++ (r ∷ []))) ≡ cond b (x ∷ those terminating l) (those terminating l) ++ cond (terminating r) (r ∷ []) []
-      go true e = ap (λ k. x ∷ k) e
-      go false e = e
+  those-end (x ∷ l) r = cases (terminating x) (λ z. rw z (ap (λ k. x ∷ k) (those-end l r))) (λ z. rw z (those-end l r))
 
   map-end : {A B : Type 0} (f : A → B) (k l : List A) → map f (k ++ l) ≡ map f k ++ map f l
   map-end f [] l = refl
@@ -74,11 +53,10 @@ comes-mono : (arrivals : List ℕ) (j k : ℕ) → j ≤ k → comes arrivals j 
 unfolding comes
 comes-mono arrivals zero zero le = omega arith
 comes-mono arrivals (suc j) zero le = absurd (omega arith)
-comes-mono arrivals j (suc k) le = go (ltb k j) refl (comes-mono arrivals j k)
-  where
-    go : (b : Bool) → ltb k j ≡ b → (j ≤ k → comes arrivals j ≤ comes arrivals k) → comes arrivals j ≤ comes arrivals (suc k)
-    go true e h = let same : j ≡ suc k = omega (arith, ltb-true k j e) in omega (arith, ap (comes arrivals) same)
-    go false e h = omega (arith, h (ltb-false k j e))
+comes-mono arrivals j (suc k) le =
+    cases (ltb k j)
+    (λ e. let same : j ≡ suc k = omega (arith, ltb-true k j e) in omega (arith, ap (comes arrivals) same))
+    (λ e. omega (arith, (comes-mono arrivals j k) (ltb-false k j e)))
 
 -- ---- Arrivals and services
 
@@ -131,13 +109,8 @@ module _ (arrivals services : List ℕ) where
         → Serving arrivals services clock arrived begun over two three four queued inUse times o
         → Serving arrivals services clock (suc arrived) begun over two′ three four queued inUse times o
     serving-come some-two now between (idle u e3 e4 all l since next woken) =
-        idle u e3 e4 all l since (λ lt. go (ltb begun arrived) refl lt) (λ p. some-two)
-      where
-        go : (b : Bool) → ltb begun arrived ≡ b → begun < suc arrived → clock ≡ max (comes arrivals (suc begun)) (leaves arrivals services begun)
-        go true e lt = next (ltb-true _ _ e)
-        go false e lt =
-            let same : begun ≡ arrived = omega (arith, ltb-false begun arrived e) in
-            omega (arith, ap (λ n. comes arrivals (suc n)) same)
+        idle u e3 e4 all l since (λ lt. cases (ltb begun arrived) (λ e. next (ltb-true _ _ e)) (λ e. let same : begun ≡ arrived = omega (arith, ltb-false begun arrived e) in
+        omega (arith, ap (λ n. comes arrivals (suc n)) same))) (λ p. some-two)
     serving-come some-two now between (seized u e3 e4 one l then) = seized u e3 e4 one l then
     serving-come some-two now between (busy t u e3 e4 one l is) = busy t u e3 e4 one l is
     serving-come some-two now between (done u e3 e4 one l then) = done u e3 e4 one l then

@@ -1,30 +1,10 @@
 -- Every turn keeps the line, and so it holds in the last state of every run of the program.
-use Prim.Native.Nat.{ℕ, zero, suc, _+_, _*_, _≤_, _<_}
-use mathlib.Core.Path.{_≡_, refl, sym, ap, subst, subst₂, _∙_}
-use mathlib.Core.Bool.{Bool, not}
-use mathlib.Core.List.{List, [], _∷_, _++_, map}
-use mathlib.Core.Option.{Option, none, some}
-use native.Mathlib.Omega.{arith}
-use borrow.Author.Tests.{leb-true, leb-false}
-use lib.Dec.{leb}
-use lib.ListN.{length, getD, drop, replicate}
-use lib.Seq.{getD-set-same, getD-set-other}
-use Rattle.machine.specs.Transaction.{Transaction, Event, precedes, newborn}
-use Rattle.machine.specs.Lists.{insert, those, nth}
-use Rattle.machine.specs.Term.{Server, idleServer, serverAt, free}
-use Rattle.machine.specs.Block.{Block, generate, seize, advance, release, terminate, facility, facts, shareServer, shareUnits, shareHolder, BlockModel, blockAt}
-use Rattle.machine.specs.State.{State, Logged}
-use Rattle.machine.specs.Setters.{withSerial, setMoving, setRel, setSerial, setTurns}
-use Rattle.machine.specs.Moves.{recordOf, log, enters, moveTo, fresh, toFel, qlOf, lineUp, toQl, mustWait, firstOf, wakeQl, wakeWsl, setUse, timesLeft, arrival}
-use Rattle.machine.specs.Execute.{askAdvance, question, partFor, wakeFor, endsOne, delay, effect}
-use Rattle.machine.specs.Turn.{nextEvents, takeFirst, takeReady, taking, answer, execute, waitsOn, wsScheme, turn}
-use Rattle.machine.specs.Run.{startOf, startAt, idle, start, run}
-use Rattle.machine.specs.Claims.{Each}
+use Rattle.machine.specs.All.{ℕ, zero, suc, _+_, _*_, _≤_, _<_, _≡_, refl, sym, ap, subst, subst₂, _∙_, Bool, not, List, [], _∷_, _++_, map, Option, none, some, arith, leb-true, leb-false, leb, length, getD, drop, replicate, getD-set-same, getD-set-other, Transaction, Event, newborn, insert, those, nth, Server, idleServer, serverAt, free, Block, generate, seize, advance, release, terminate, facility, facts, shareServer, shareUnits, shareHolder, BlockModel, blockAt, State, Logged, withSerial, setMoving, setRel, setSerial, setTurns, recordOf, log, enters, moveTo, fresh, toFel, qlOf, lineUp, toQl, mustWait, firstOf, wakeQl, wakeWsl, setUse, timesLeft, arrival, askAdvance, question, partFor, wakeFor, endsOne, delay, effect, nextEvents, takeFirst, takeReady, taking, answer, execute, waitsOn, wsScheme, turn, startOf, startAt, idle, start, run, Each}
 use Rattle.machine.proofs.runs.RunLaws.{cond-cases, last-state}
 use Rattle.machine.proofs.lists.Cases.{wsScheme-cases}
 use Rattle.machine.proofs.runs.Kept.{taking-kept}
 use Rattle.machine.proofs.runs.Shape.{Shape, shape-closed, shape-turn, shape-start, ql-at, samples-at, server-length, server-within, facility-capacity}
-use Rattle.slowjob.specs.SlowJob.{jobs, JobLine, ends, comes, leaves}
+use Rattle.slowjob.specs.{jobs, JobLine, ends, comes, leaves}
 use Rattle.slowjob.proofs.Events.{Ready, generates, seizes, releases, AllReady, neither, coming}
 use Rattle.slowjob.proofs.Line.{used, Nobody, Lists, Serving, Gone, Lined, Line, line-wels, line-wsl, line-taken}
 use Rattle.slowjob.proofs.Line as Line
@@ -120,12 +100,6 @@ module _ (m : BlockModel) (arrivals services : List ℕ) where
   line-queue t s e f taken h =
       with-server refl (getD-set-same (s .ql) 0 (lineUp (m .edition) t (qlOf s 1)) [] (f .ql)) (lined-queued m arrivals services (m .edition) t e taken h)
 
-  line-release : (units holder : ℕ) (preempted : Bool) (s : State) → Fixtures s → units ≡ 0 → Line m arrivals services 4 s → Line m arrivals services 5 (wakeQl firstOf 1 (setUse 1 units holder preempted s))
-  unfolding wakeQl setUse
-  line-release units holder preempted s f z h =
-      with-server (ap (λ v. v .inUse) (getD-set-same (s .view .servers) 0 _ (idleServer 0) (f .server)) ∙ z)
-      (getD-set-same (s .ql) 0 (drop 1 (qlOf s 1)) [] (f .ql)) (lined-released m arrivals services h)
-
   -- ---- Blocks
 
   module _ (program : m .blocks ≡ jobs) where
@@ -136,15 +110,6 @@ module _ (m : BlockModel) (arrivals services : List ℕ) where
     module _ (t : Transaction) (s : State) (f : Fixtures s) where
       abbrev before : State
       before = setMoving none s
-
-      sound-generate : t .next ≡ 1 → Line m arrivals services 1 s → Sound (effect m (generate 1 0) t before)
-      unfolding effect moveTo enters log facts
-      sound-generate e h =
-          record {
-            block = 2;
-            hand = (before-seize, ap suc e);
-            line = line-arrival (t .next) e (enters t before) f (line-enters 1 t before (ap (λ b. facts b .terminates) (block-at t e)) h) _ refl;
-          }
 
       sound-seize : t .next ≡ 2 → Line m arrivals services 2 s → Sound (effect m (seize 1) t before)
       unfolding effect moveTo enters log toQl mustWait facts shareServer shareUnits shareHolder serverAt
@@ -187,13 +152,9 @@ module _ (m : BlockModel) (arrivals services : List ℕ) where
             block = 5;
             hand = (before-terminate, ap suc e);
             line = line-wels m arrivals services 5 1 _
-                (line-release _ 0 _ (enters t before) f (omega (arith, f .within)) (line-enters 4 t before (ap (λ b. facts b .terminates) (block-at t e)) h));
+                (unfold wakeQl setUse in with-server (ap (λ v. v .inUse) (getD-set-same ((enters t before) .view .servers) 0 _ (idleServer 0) (f .server)) ∙ (omega (arith, f .within)))
+                (getD-set-same ((enters t before) .ql) 0 (drop 1 (qlOf (enters t before) 1)) [] (f .ql)) (lined-released m arrivals services (line-enters 4 t before (ap (λ b. facts b .terminates) (block-at t e)) h)));
           }
-
-      sound-terminate : t .next ≡ 5 → Line m arrivals services 5 s → Sound (effect m (terminate 1) t before)
-      unfolding effect endsOne enters log recordOf facts
-      sound-terminate e h =
-          record { block = 0; hand = refl; line = lined-ended m arrivals services _ (ap (λ b. facts b .terminates) (block-at t e)) refl h }
 
       -- a question stops the turn, or the block is executed
       module _ (moving : s .moving ≡ some t) where
@@ -209,11 +170,15 @@ module _ (m : BlockModel) (arrivals services : List ℕ) where
         sound-at st e h block is f = subst (λ x. Sound (answer (question m x t s) m x t s)) (sym is) (sound-answer st e h block f _ refl)
 
         sound-stage : {b : ℕ} → Stage b → t .next ≡ b → Line m arrivals services b s → Sound (execute (some t) m s)
-        sound-stage before-generate e h = sound-at before-generate e h _ (block-at t e) (λ q. sound-generate e h)
+        sound-stage before-generate e h = sound-at before-generate e h _ (block-at t e) (λ q. (unfold effect moveTo enters log facts in record {
+          block = 2;
+          hand = (before-seize, ap suc e);
+          line = line-arrival (t .next) e (enters t before) f (line-enters 1 t before (ap (λ b. facts b .terminates) (block-at t e)) h) _ refl;
+        }))
         sound-stage before-seize e h = sound-at before-seize e h _ (block-at t e) (λ q. sound-seize e h)
         sound-stage before-advance e h = sound-at before-advance e h _ (block-at t e) (λ q. sound-advance e q h)
         sound-stage before-release e h = sound-at before-release e h _ (block-at t e) (λ q. sound-release e h)
-        sound-stage before-terminate e h = sound-at before-terminate e h _ (block-at t e) (λ q. sound-terminate e h)
+        sound-stage before-terminate e h = sound-at before-terminate e h _ (block-at t e) (λ q. (unfold effect endsOne enters log recordOf facts in record { block = 0; hand = refl; line = lined-ended m arrivals services _ (ap (λ b. facts b .terminates) (block-at t e)) refl h }))
 
     sound-execute : (o : Option Transaction) (s : State) → s .moving ≡ o → Fixtures s → Sound s → Sound (execute o m s)
     unfolding execute

@@ -1,15 +1,6 @@
 -- Item 14 by computing: delays of d, of 0 and between; the paper's first example from its bytes; and another program, of which the claim
 -- does not hold. Each example gives the ends before, and those after one time was raised.
-use Prim.Native.Nat.{ℕ}
-use native.Mathlib.Omega.{arith}
-use mathlib.Core.Path.{_≡_, refl, ap, subst₂}
-use mathlib.Core.List.{List, [], _∷_}
-use lib.ListN.{getD}
-use Rattle.machine.specs.Rules.{inForce}
-use Rattle.machine.specs.Term.{facilityInUse, constant, equal}
-use Rattle.machine.specs.Block.{Block, generate, advance, terminate, seize, release, branch, BlockModel}
-use Rattle.machine.specs.Validate.{Validation, accept, reject, validate}
-use Rattle.machine.specs.Bundle.{everything}
+use Rattle.machine.specs.All.{ℕ, arith, _≡_, refl, ap, subst₂, List, [], _∷_, getD, inForce, facilityInUse, constant, equal, Block, generate, advance, terminate, seize, release, branch, BlockModel, Validation, accept, reject, validate, everything}
 use Rattle.slowjob.specs.SlowJob.{jobs, raised, ends, endsOf, Delayed}
 
 -- one facility for each that the blocks name, a counter out of reach

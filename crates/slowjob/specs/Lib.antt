@@ -1,2 +1,3 @@
 pub mod SlowJob
 pub mod Examples
+unfoldable pub use SlowJob.*

@@ -2,18 +2,7 @@
 --
 -- Jobs come one after the other, wait for one facility, are served and leave. One service time is raised by d ticks, and nothing else.
 -- Then the k-th end, of each k that both runs come to, is no earlier than before and at most d ticks later.
-use Prim.Native.Nat.{ℕ, zero, suc, _+_, _-_, _≤_, _<_, max}
-use mathlib.Core.Path.{_≡_}
-use mathlib.Core.List.{List, [], _∷_, map}
-use lib.Dec.{eqb}
-use lib.ListN.{length, getD, set}
-use Rattle.machine.specs.Rules.{Rules, inForce}
-use Rattle.machine.specs.Lists.{those}
-use Rattle.machine.specs.Block.{Block, generate, seize, advance, release, terminate, facts, BlockModel, blockAt}
-use Rattle.machine.specs.Trace.{Record, traceBytes}
-use Rattle.machine.specs.Run.{run}
-use Rattle.machine.specs.Validate.{accept, validate}
-use Rattle.machine.specs.Outcome.{recordsOf, outcome}
+use Rattle.machine.specs.All.{ℕ, zero, suc, _+_, _-_, _≤_, _<_, max, _≡_, List, [], _∷_, map, eqb, length, getD, set, Rules, inForce, those, Block, generate, seize, advance, release, terminate, facts, BlockModel, blockAt, Record, traceBytes, run, accept, validate, recordsOf, outcome}
 use Rattle.trace.specs.Whole.{Reads}
 
 -- ---- "the block program of 01's first example"

@@ -1,12 +1,6 @@
 -- At the start nobody moves.
-use Prim.Native.Nat.{ℕ, suc}
-use mathlib.Core.Path.{_≡_, refl, _∙_}
-use mathlib.Core.List.{List, [], _∷_}
-use mathlib.Core.Option.{none}
-use Rattle.machine.specs.Block.{Block, BlockModel}
-use Rattle.machine.specs.State.{State}
+use Rattle.machine.specs.All.{ℕ, suc, _≡_, refl, _∙_, List, [], _∷_, none, Block, BlockModel, State, startOf, startAt, idle, start}
 use Rattle.machine.specs.Moves as Moves
-use Rattle.machine.specs.Run.{startOf, startAt, idle, start}
 use Rattle.machine.proofs.lists.Cases.{startOf-cases}
 
 arrival-moving : (l : List ℕ) (list p n : ℕ) (s : State) → Moves.arrival l list p n s .moving ≡ s .moving

@@ -1,11 +1,7 @@
 -- The blocks of the start, one after the other.
-use Prim.Native.Nat.{ℕ, suc, _+_, _-_, _<_}
-use mathlib.Core.Path.{_≡_, sym, ap, _∙_}
-use mathlib.Core.List.{List}
-use native.Mathlib.Omega.{arith}
-use native.Mathlib.Numerals.{add-one}
-use Rattle.state.specs.Stands.{Rows}
-use Rattle.start.specs.Start.{beginBlock, beginBlocks}
+use Rattle.machine.specs.All.{ℕ, suc, _+_, _-_, _<_, _≡_, sym, ap, _∙_, List, arith, add-one}
+use Rattle.state.specs.All.{Rows}
+use Rattle.start.specs.{beginBlock, beginBlocks}
 
 module _ (tables tape : List ℕ) (r : Rows) where
   pub begin-first : (n : ℕ) → beginBlocks (n - 0) tables tape r 0 ≡ beginBlocks n tables tape r 0

@@ -1,37 +1,19 @@
 -- The start of a run: scalars, work buffer and tally stand for the machine's start, whatever the work buffer held.
-use Prim.Native.Nat.{ℕ, suc, _+_, _-_, _*_, _≤_, _<_}
-use mathlib.Core.Path.{_≡_, refl, sym, ap, _∙_, subst}
-use mathlib.Core.Bool.{Bool, true, false, cond}
-use mathlib.Core.List.{List, [], _∷_, map}
-use mathlib.Core.Option.{none}
-use native.Mathlib.Omega.{arith}
-use borrow.Author.Tests.{ne-eqb}
-use lib.Dec.{eqb, ltb}
-use lib.ListN.{length, getD, replicate, length-set}
-use Rattle.machine.specs.Transaction.{Transaction}
-use Rattle.machine.specs.Lists.{those}
-use Rattle.machine.specs.Block.{Block, generate, facility, storage, facts, BlockModel, blockAt, terminate}
-use Rattle.machine.specs.State.{State}
+use Rattle.machine.specs.All.{ℕ, suc, _+_, _-_, _*_, _≤_, _<_, _≡_, refl, sym, ap, _∙_, subst, Bool, true, false, cond, List, [], _∷_, map, none, arith, ne-eqb, eqb, ltb, length, getD, replicate, length-set, Transaction, those, Block, generate, facility, storage, facts, BlockModel, blockAt, terminate, State, startOf, startAt, idle, start}
 use Rattle.machine.specs.Moves as Moves
-use Rattle.machine.specs.Run.{startOf, startAt, idle, start}
 use Rattle.machine.proofs.runs.Clocks.{Given, with-fresh}
 use Rattle.machine.proofs.decoding.Proper.{Names, ProperBlock, Proper}
-use Rattle.tables.specs.Layout.{tallySize}
-use Rattle.tables.specs.Forms.{blockForms}
-use Rattle.tables.specs.Numbers.{blockNumbers}
-use Rattle.tables.specs.Represents.{headerOf, Represents}
-use Rattle.rows_laws.specs.Make.{initial}
-use Rattle.rows_laws.specs.Living.{onLists}
-use Rattle.rows_laws.specs.Shows.{Shows}
+use Rattle.tables.specs.All.{tallySize, blockForms, blockNumbers, headerOf, Represents}
+use Rattle.rows_laws.specs.All.{initial, onLists, Shows}
 use Rattle.rows_laws.proofs.Sums.{sum-zero}
 use Rattle.rows_laws.proofs.Ordering.{shows-ext}
 use Rattle.rows_laws.proofs.Starting.{initial-shows, initial-loose}
 use Rattle.rows_laws.proofs.Population.{population}
-use Rattle.state.specs.Stands.{Rows, rowsOf, gathererRow, listsIn, listsOf, Listing, Counting, Stands}
+use Rattle.state.specs.All.{Rows, rowsOf, gathererRow, listsIn, listsOf, Listing, Counting, Stands}
 use Rattle.state.proofs.StandsLaws.{stands-of}
 use Rattle.flow_laws.specs.Samples.{nextSample}
 use Rattle.flow_laws.specs.Sending.{arrives}
-use Rattle.start.specs.Start.{listsSet, startScalars, beginList, beginBlock, beginBlocks, startRows}
+use Rattle.start.specs.{listsSet, startScalars, beginList, beginBlock, beginBlocks, startRows}
 use Rattle.tables.proofs.Operands.{operand}
 use Rattle.flow_laws.proofs.Drawing.{drawn-most}
 use Rattle.flow_laws.proofs.Arrival.{arrives-stands}

@@ -1,25 +1,12 @@
 -- The tally of the start: all 0, as it was, but where each list begins and how many times it has.
-use Prim.Native.Nat.{ℕ, zero, suc, _+_, _≤_, _<_}
-use mathlib.Core.Path.{_≡_, refl, sym, ap, _∙_}
-use mathlib.Core.Bool.{false}
-use mathlib.Core.List.{List, [], _∷_, _++_, map}
-use native.Mathlib.Omega.{arith}
-use native.Mathlib.Decide.{ℕ-discrete}
-use lib.ListN.{length, getD, set, replicate, length-set}
-use lib.Seq.{getD-set-same, getD-set-other}
-use Rattle.machine.specs.Lists.{bit, those}
-use Rattle.machine.specs.Claims.{count}
-use Rattle.machine.specs.Term.{Server, idleServer, Queue, emptyQueue}
-use Rattle.machine.specs.Block.{BlockModel}
-use Rattle.machine.specs.Run.{idle}
+use Rattle.machine.specs.All.{ℕ, zero, suc, _+_, _≤_, _<_, _≡_, refl, sym, ap, _∙_, false, List, [], _∷_, _++_, map, arith, ℕ-discrete, length, getD, set, replicate, length-set, getD-set-same, getD-set-other, bit, those, count, Server, idleServer, Queue, emptyQueue, BlockModel, idle}
 use Rattle.machine.proofs.decoding.Proper.{Proper}
 use Rattle.tables.specs.Layout as Layout
-use Rattle.tables.specs.Represents.{Represents}
-use Rattle.state.specs.Statistics.{sumNow, longestNow}
-use Rattle.state.specs.Stands.{Seen, Serving, Queueing, Sampling, atBlock, Tallying}
+use Rattle.tables.specs.All.{Represents}
+use Rattle.state.specs.All.{sumNow, longestNow, Seen, Serving, Queueing, Sampling, atBlock, Tallying}
 use Rattle.state.proofs.Held.{held-none}
 use Rattle.state.proofs.StatisticsLaws.{sum-current, longest-current, seen-now}
-use Rattle.start.specs.Start.{listSet, listsSet}
+use Rattle.start.specs.{listSet, listsSet}
 
 -- ---- Its numbers
 

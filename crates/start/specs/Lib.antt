@@ -1,1 +1,2 @@
 pub mod Start
+unfoldable pub use Start.*

@@ -1,16 +1,10 @@
 -- The row machine: the start of a run, in scalars, work buffer and tally.
-use Prim.Native.Nat.{ℕ, zero, suc, _+_, _*_, min}
-use mathlib.Core.Bool.{cond}
-use mathlib.Core.List.{List}
-use lib.Dec.{eqb}
-use lib.ListN.{getD, set}
-use Rattle.machine.specs.Limits.{maxBlocks, maxLists}
-use Rattle.rows_laws.specs.Layout.{rowCount}
+use Rattle.machine.specs.All.{ℕ, zero, suc, _+_, _*_, min, cond, List, eqb, getD, set, maxBlocks, maxLists}
+use Rattle.rows_laws.specs.All.{rowCount, initial}
 use Rattle.constants.specs.declared.model.Model.{Model}
-use Rattle.tables.specs.Layout.{listAt, listLeft, listCounts, most32, blockWidth}
-use Rattle.rows_laws.specs.Make.{initial}
+use Rattle.tables.specs.All.{listAt, listLeft, listCounts, most32, blockWidth}
 use Rattle.state.specs.declared.scalars.Scalars.{Scalars}
-use Rattle.state.specs.Stands.{Rows, rowsOf}
+use Rattle.state.specs.All.{Rows, rowsOf}
 use Rattle.flow_laws.specs.Samples.{nextSample}
 use Rattle.flow_laws.specs.Sending.{arrives}
 

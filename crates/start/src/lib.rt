@@ -19,12 +19,10 @@ use tables::SECOND;
 use tables::count;
 use tables::number;
 use tables::set_count;
-ghost use mathlib.Core.Path.{_≡_};
-ghost use Prim.Native.Nat.{_<_, _≤_, min};
-ghost use Rattle.machine.specs.Limits.{maxBlocks, maxLists};
-ghost use Rattle.tables.specs.Layout.{most32};
-ghost use Rattle.rows_laws.specs.Layout.{Room};
-ghost use Rattle.state.specs.Stands.{rowsOf};
+ghost use Rattle.machine.specs.All.{_≡_, _<_, _≤_, min, maxBlocks, maxLists};
+ghost use Rattle.tables.specs.All.{most32};
+ghost use Rattle.rows_laws.specs.All.{Room};
+ghost use Rattle.state.specs.All.{rowsOf};
 ghost use Rattle.start.specs.Start.{listSet, listsSet, startScalars, beginList, beginBlock, beginBlocks, startRows};
 
 // Where list l begins and how many times it has.

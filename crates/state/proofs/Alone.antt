@@ -1,31 +1,12 @@
 -- No two rows that live have one number: each is the row of somebody on the machine's lists or of who moves, and there no number stands twice.
-use Prim.Native.Nat.{ℕ, zero, suc, _+_, _-_, _≤_, _<_}
-use mathlib.Core.Path.{_≡_, refl, sym, ap, _∙_}
-use mathlib.Core.Logic.{_≢_}
-use mathlib.Core.Bool.{Bool, true, false, cond}
-use mathlib.Core.List.{List, [], _∷_, map}
-use mathlib.Core.Option.{some}
-use native.Mathlib.Omega.{arith}
-use native.Mathlib.Decide.{ℕ-discrete}
-use borrow.Author.Tests.{ltb-true, ltb-false, eq-eqb, eqb-true}
-use lib.Dec.{ltb, eqb}
-use lib.ListN.{getD}
-use Rattle.machine.specs.Transaction.{Transaction, Event, Gatherer, Interrupted}
-use Rattle.machine.specs.Lists.{flat}
-use Rattle.machine.specs.Block.{BlockModel}
-use Rattle.machine.specs.State.{State}
-use Rattle.machine.specs.Moves.{ofFacility, interruptedAt}
-use Rattle.machine.specs.Claims.{bit, everyone, standing}
+use Rattle.machine.specs.All.{ℕ, zero, suc, _+_, _-_, _≤_, _<_, _≡_, refl, sym, ap, _∙_, _≢_, Bool, true, false, cond, List, [], _∷_, map, some, arith, ℕ-discrete, ltb-true, ltb-false, eq-eqb, eqb-true, ltb, eqb, getD, Transaction, Event, Gatherer, Interrupted, flat, BlockModel, State, ofFacility, interruptedAt, bit, everyone, standing}
 use Rattle.machine.proofs.lists.Sums.{sumOn, sum-append, sum-those, sum-map, sum-count}
 use Rattle.machine.proofs.conservation.Balance.{listed, held}
 use Rattle.machine.proofs.conservation.Conservation.{sum-everyone}
-use Rattle.rows_laws.specs.Layout.{place, fel, free}
-use Rattle.rows_laws.specs.Cells.{load, read}
-use Rattle.rows_laws.specs.Future.{lives}
-use Rattle.rows_laws.specs.Holds.{transactionAt, eventAt, occurs}
+use Rattle.rows_laws.specs.All.{place, fel, free, load, read, lives, transactionAt, eventAt, occurs}
 use Rattle.rows_laws.proofs.Occurs.{same-refl, same-other}
 use Rattle.rows_laws.proofs.Steps.{Holder}
-use Rattle.state.specs.Stands.{gathererRow, interruptedRow, listsOf, Listing}
+use Rattle.state.specs.All.{gathererRow, interruptedRow, listsOf, Listing}
 use Rattle.state.proofs.ListsOf.{lists-ql, lists-wel, lists-wsl, lists-rel, lists-gatherers, lists-interrupted}
 
 -- ---- Sums over parts of lists
@@ -54,7 +35,7 @@ module _ (f : ℕ → ℕ) where
   sum-rows j k (x ∷ l) d a b = go (ℕ-discrete j x) (ℕ-discrete k x) (sum-rows j k l d)
     where
       go : Dec (j ≡ x) → Dec (k ≡ x) → (1 ≤ occurs j l → 1 ≤ occurs k l → f j + f k ≤ sumOn f l) → f j + f k ≤ f x + sumOn f l
-      go (yes e) (yes g) rest = absurd (d (e ∙ sym g))
+      go (yes e) (yes g) rest = absurd (d (cc (e, g)))
       go (yes e) (no g) rest = omega (arith, ap f e, sum-row k l (omega (arith, same-other k x g)))
       go (no e) (yes g) rest = omega (arith, ap f g, sum-row j l (omega (arith, same-other j x e)))
       go (no e) (no g) rest = omega (arith, rest (omega (arith, same-other j x e)) (omega (arith, same-other k x g)))
@@ -71,14 +52,14 @@ module _ (m : BlockModel) (w : List ℕ) (moving : ℕ) (t : Transaction) (s : S
   rowBy k = weight (read w 0 k)
 
   own-weight : (k : ℕ) → k ≡ n → weight k ≡ 1
-  own-weight k e = ap bit (eq-eqb k n e)
+  own-weight k e = cc (eq-eqb k n e)
 
   abbrev later : ℕ
   later = sumOn (λ (e : Event). by (e .who)) (s .fel)
 
   all : by t + listed m [] weight s ≤ 1
   unfolding standing
-  all = omega (arith, once, sum-count (λ (u : Transaction). eqb (u .number) n) (everyone s), sum-everyone m [] weight s, ap (held m [] weight) is)
+  all = omega (arith, sum-count (λ (u : Transaction). eqb (u .number) n) (everyone s), sum-everyone m [] weight s, ap (held m [] weight) is)
 
   -- ---- On the machine's lists
 
@@ -89,7 +70,7 @@ module _ (m : BlockModel) (w : List ℕ) (moving : ℕ) (t : Transaction) (s : S
   by-interrupted l = sum-map by interruptedRow l
 
   listed-by : (p : ℕ) → p < 770 → sumOn by (listsOf s p) + later ≤ listed m [] weight s
-  listed-by p hp = go (ltb p 64) refl (ltb p 448) refl (ltb p 450) refl (ltb p 706) refl
+  listed-by p hp = go _ refl _ refl _ refl _ refl
     where
       ql : p < 64 → sumOn by (listsOf s p) + later ≤ listed m [] weight s
       ql q = omega (arith, ap (sumOn by) (lists-ql s p q), sum-getD by (s .ql) p)
@@ -111,10 +92,10 @@ module _ (m : BlockModel) (w : List ℕ) (moving : ℕ) (t : Transaction) (s : S
 
       go : (a : Bool) → ltb p 64 ≡ a → (b : Bool) → ltb p 448 ≡ b → (c : Bool) → ltb p 450 ≡ c → (d : Bool) → ltb p 706 ≡ d → sumOn by (listsOf s p) + later ≤ listed m [] weight s
       go true ea b eb c ec d ed = ql (ltb-true p 64 ea)
-      go false ea true eb c ec d ed = wel (p - 64) (omega (arith, ltb-true p 448 eb, ltb-false p 64 ea)) (omega (arith, ltb-false p 64 ea))
+      go false ea true eb c ec d ed = wel (p - 64) (omega (arith, ltb-true p 448 eb)) (omega (arith, ltb-false p 64 ea))
       go false ea false eb true ec d ed = lone (ℕ-discrete p 448) (ltb-true p 450 ec) (ltb-false p 448 eb)
-      go false ea false eb false ec true ed = gathered (p - 450) (omega (arith, ltb-true p 706 ed, ltb-false p 450 ec)) (omega (arith, ltb-false p 450 ec))
-      go false ea false eb false ec false ed = stopped (p - 706) (omega (arith, ltb-false p 706 ed)) (omega (arith, ltb-false p 706 ed))
+      go false ea false eb false ec true ed = gathered (p - 450) (omega (arith, ltb-true p 706 ed)) (omega (arith, ltb-false p 450 ec))
+      go false ea false eb false ec false ed = stopped (p - 706) (omega arith) (omega (arith, ltb-false p 706 ed))
 
   -- ---- On the lists of rows
 
@@ -122,19 +103,19 @@ module _ (m : BlockModel) (w : List ℕ) (moving : ℕ) (t : Transaction) (s : S
   L = h .shows .rows
 
   occurs-at : (k p : ℕ) → k < 1024 → load w (place k) ≡ p → p < 772 → 1 ≤ occurs k (L p)
-  occurs-at k p row at hp = omega (arith, h .shows .shown .holds .listed p hp .once k row, same-refl (load w (place k)) p at)
+  occurs-at k p row at hp = omega (arith, h .shows .shown .holds .listed p hp .once k row, same-refl _ p at)
 
   rows-by : (p : ℕ) → p < 770 → sumOn rowBy (L p) ≡ sumOn by (listsOf s p)
   unfolding transactionAt
-  rows-by p hp = sym (sum-map by (transactionAt w) (L p)) ∙ ap (sumOn by) (h .shows .shown .lists p hp)
+  rows-by p hp = cc (sum-map by (transactionAt w) (L p), h .shows .shown .lists p hp)
 
   later-by : sumOn rowBy (L fel) ≡ later
   unfolding eventAt transactionAt
-  later-by = sym (sum-map (λ (e : Event). by (e .who)) (eventAt w) (L fel)) ∙ ap (sumOn (λ (e : Event). by (e .who))) (h .shows .shown .future)
+  later-by = cc (sum-map (λ (e : Event). by (e .who)) (eventAt w) (L fel), h .shows .shown .future)
 
   mover-by : (c : ℕ) → c ≡ moving → rowBy c ≡ by t
   unfolding transactionAt
-  mover-by c e = ap rowBy e ∙ ap by (h .mover .1)
+  mover-by c e = cc (e, h .mover .1)
 
   pub alone : (c : ℕ) → Holder w n moving c → (k : ℕ) → k < 1024 → load w (place k) ≡ fel → read w 0 k ≡ n → k ≡ c
   unfolding lives
@@ -145,20 +126,20 @@ module _ (m : BlockModel) (w : List ℕ) (moving : ℕ) (t : Transaction) (s : S
 
       listed-too : (p : ℕ) → load w (place c) ≡ p → p < 770 → ⊥
       listed-too p e hp =
-          omega (arith, all, listed-by p hp, rows-by p hp, later-by, sum-row rowBy k (L fel) here, sum-row rowBy c (L p) (occurs-at c p (holder .row) e (omega arith)), own-weight _ own, own-weight _ (holder .own))
+          omega (arith, all, listed-by p hp, rows-by p hp, later-by, sum-row rowBy k _ here, sum-row rowBy c _ (occurs-at c p (holder .row) e (omega arith)), own-weight _ own, own-weight _ (holder .own))
 
       both : k ≢ c → load w (place c) ≡ fel → ⊥
       both d e =
-          omega (arith, all, later-by, sum-rows rowBy k c (L fel) d here (occurs-at c fel (holder .row) e (omega arith)), own-weight _ own, own-weight _ (holder .own))
+          omega (arith, all, later-by, sum-rows rowBy k c _ d here (occurs-at c fel (holder .row) e (omega arith)), own-weight _ own, own-weight _ (holder .own))
 
       moves : c ≡ moving → ⊥
-      moves e = omega (arith, all, later-by, sum-row rowBy k (L fel) here, own-weight _ own, own-weight _ (holder .own), mover-by c e)
+      moves e = omega (arith, all, later-by, sum-row rowBy k _ here, own-weight _ own, own-weight _ (holder .own), mover-by c e)
 
       apart : k ≢ c → (b : Bool) → eqb c moving ≡ b → cond b true (ltb (load w (place c)) free) ≡ true → Dec (load w (place c) ≡ fel) → ⊥
       apart d true e f q = moves (eqb-true c moving e)
       apart d false e f (yes q) = both d q
-      apart d false e f (no q) = let low : load w (place c) < free = ltb-true _ _ f in listed-too (load w (place c)) refl (omega arith)
+      apart d false e f (no q) = let low : load w _ < free = ltb-true _ _ f in listed-too _ refl (omega arith)
 
       go : Dec (k ≡ c) → k ≡ c
       go (yes e) = e
-      go (no d) = absurd (apart d (eqb c moving) refl (holder .living) (ℕ-discrete (load w (place c)) fel))
+      go (no d) = absurd (apart d _ refl (holder .living) (ℕ-discrete _ fel))

@@ -1,25 +1,5 @@
 -- What each block gains: at most 255 serials, no more transactions than there is room for, at most one place of a queue.
-use Prim.Native.Nat.{ℕ, zero, suc, _+_, _-_, _≤_}
-use mathlib.Core.Path.{_≡_, refl, sym, ap, subst}
-use mathlib.Core.Bool.{Bool, true, false, _&&_}
-use mathlib.Core.List.{List, [], _∷_, map}
-use mathlib.Core.Option.{Option}
-use native.Mathlib.Omega.{arith}
-use borrow.Author.Tests.{leb-true}
-use lib.Dec.{leb, ltb, eqb}
-use lib.ListN.{getD, set, drop}
-use lib.Seq.{map-set-same, getD-drop}
-use Rattle.machine.specs.Rules.{inForce}
-use Rattle.machine.specs.Limits.{maxLiving, maxTime}
-use Rattle.machine.specs.Transaction.{Transaction, Event, Gatherer, Interrupted, earlier}
-use Rattle.machine.specs.Lists.{insert, nth}
-use Rattle.machine.specs.Term.{Queue, emptyQueue, serverAt, queueAt, idleServer, free, compare}
-use Rattle.machine.specs.Block.{Code, Share, facility, shareServer, shareUnits, shareHolder, Block, generate, advance, terminate, takes, frees, waitServer, waitTerms, moves, assign, priority, split, counts, assemble, preempt, giveBack, BlockModel, status}
-use Rattle.machine.specs.State.{State}
-use Rattle.machine.specs.Setters.{withSerial, setSerial, setMoving, setEnded, setGatherers}
-use Rattle.machine.specs.Moves.{moveTo, fresh, toRel, toFel, toQl, toWel, toWsl, wakeQl, wakeFirstWel, wakeWsl, setUse, setContent, timesLeft, arrival, copies, waitsFor, toGatherers, comes, released, interruptedAt, losersTo, interrupt, resume}
-use Rattle.machine.specs.Execute.{unless, living, askGenerate, question, checkWels, endsOne, delay, wakeFor, changed, gathers, gathering, takingUnits, preempting, givesBack}
-use Rattle.machine.specs.Turn.{wsScheme}
+use Rattle.machine.specs.All.{ℕ, zero, suc, _+_, _-_, _≤_, _≡_, refl, sym, ap, subst, Bool, true, false, _&&_, List, [], _∷_, map, Option, arith, leb-true, leb, ltb, eqb, getD, set, drop, map-set-same, getD-drop, inForce, maxLiving, maxTime, Transaction, Event, Gatherer, Interrupted, earlier, insert, nth, Queue, emptyQueue, serverAt, queueAt, idleServer, free, compare, Code, Share, facility, shareServer, shareUnits, shareHolder, Block, generate, advance, terminate, takes, frees, waitServer, waitTerms, moves, assign, priority, split, counts, assemble, preempt, giveBack, BlockModel, status, State, withSerial, setSerial, setMoving, setEnded, setGatherers, moveTo, fresh, toRel, toFel, toQl, toWel, toWsl, wakeQl, wakeFirstWel, wakeWsl, setUse, setContent, timesLeft, arrival, copies, waitsFor, toGatherers, comes, released, interruptedAt, losersTo, interrupt, resume, unless, living, askGenerate, question, checkWels, endsOne, delay, wakeFor, changed, gathers, gathering, takingUnits, preempting, givesBack, wsScheme}
 use Rattle.machine.proofs.runs.Ahead.{Ahead, rising-insert, rising-without}
 use Rattle.machine.proofs.runs.Kept.{changed-most}
 use Rattle.machine.proofs.decoding.Proper.{ProperBlock}
@@ -28,7 +8,7 @@ use Rattle.machine.proofs.runs.Shape.{each-getD}
 use Rattle.machine.proofs.lists.Sorted.{each-insert, each-replace, at-set}
 use Rattle.machine.proofs.runs.Clocks.{Samples}
 use Rattle.machine.proofs.lists.Cases.{checkWels-kept, wsScheme-cases}
-use Rattle.state.specs.Bare.{Bare, entering, goingBack, beginning, waiting, bare}
+use Rattle.state.specs.All.{Bare, entering, goingBack, beginning, waiting, bare}
 use Rattle.state.proofs.Gains.{each-set, serverSums, queueSums, more, Gains, gains-trans, gains-most}
 
 -- ---- Moves that leave servers, queues and times
@@ -39,9 +19,9 @@ same-counts : (j k : ℕ) (s s′ : State) → s′ .view ≡ s .view → s′ .
     → s′ .serial ≤ s .serial + k → Gains j k 0 s s′
 same-counts j k s s′ view samples fel turns records written counter made ended pace serials =
     record {
-      clock = ap (λ w. w .clock) view;
+      clock = cc view;
       turns = turns;
-      entries = ap (λ w. w .entries) view;
+      entries = cc view;
       records = records;
       written = written;
       counter = counter;
@@ -49,10 +29,10 @@ same-counts j k s s′ view samples fel turns records written counter made ended
       ended = ended;
       pace = pace;
       serials = serials;
-      samples = λ h list i. subst (λ (l : List (List ℕ)). getD (nth l list []) i 0 ≤ inForce .maxTime) (sym samples) (h list i);
+      samples = λ h list i. rw samples (h list i);
       ahead = λ h. record { later = rw (fel, view) (h .later); rising = rw fel (h .rising) };
-      servers = ap (λ w. map serverSums (w .servers)) view;
-      queues = ap (λ w. map queueSums (w .queues)) view;
+      servers = cc view;
+      queues = cc view;
       contents = λ n h. rw view (more n 0 (s .view .queues) h);
     }
 
@@ -102,7 +82,7 @@ gains-use v n holder preempted s =
       serials = omega arith;
       samples = λ h. h;
       ahead = λ h. record { later = h .later; rising = h .rising };
-      servers = map-set-same serverSums (s .view .servers) (v - 1) _ (idleServer 0) refl;
+      servers = map-set-same serverSums (s .view .servers) _ _ _ refl;
       queues = refl;
       contents = λ n h. more n 0 (s .view .queues) h;
     }
@@ -124,10 +104,10 @@ gains-content q c f le s =
       samples = λ h. h;
       ahead = λ h. record { later = h .later; rising = h .rising };
       servers = refl;
-      queues = map-set-same queueSums (s .view .queues) (q - 1) _ emptyQueue refl;
+      queues = map-set-same queueSums (s .view .queues) _ _ emptyQueue refl;
       contents = λ n h.
-          let old : nth (s .view .queues) q emptyQueue .content ≤ n = each-getD (λ (x : Queue). x .content ≤ n) (s .view .queues) (q - 1) emptyQueue h (omega arith) in
-          each-set (λ (x : Queue). x .content ≤ n + c) (s .view .queues) (q - 1) _ (more n c (s .view .queues) h)
+          let old = each-getD (λ (x : Queue). x .content ≤ n) (s .view .queues) (q - 1) emptyQueue h (omega arith) in
+          each-set (λ (x : Queue). x .content ≤ n + c) (s .view .queues) _ _ (more n c (s .view .queues) h)
           (omega (arith, le (nth (s .view .queues) q emptyQueue .content)));
     }
 
@@ -145,8 +125,8 @@ gains-toRel t s =
 
 used-samples : (list : ℕ) (s : State) → Samples (inForce .maxTime) s → (k i : ℕ) → getD (nth (set (s .samples) (list - 1) (drop 1 (timesLeft s list))) k []) i 0 ≤ inForce .maxTime
 used-samples list s h k i =
-    at-set (λ (q : List ℕ). getD q i 0 ≤ inForce .maxTime) (s .samples) (list - 1) (k - 1) _ []
-    (λ e. subst (λ (x : ℕ). x ≤ inForce .maxTime) (sym (getD-drop 1 (timesLeft s list) i 0)) (h list (1 + i))) (h k i)
+    at-set (λ (q : List ℕ). getD q i 0 ≤ inForce .maxTime) (s .samples) _ _ _ []
+    (λ e. rw (getD-drop 1 (timesLeft s list) i 0) (h list (1 + i))) (h k i)
 
 -- an event comes onto the FEL at or past the clock, with the time of a list used
 timed : (j list : ℕ) (x : Event) (s s′ : State) → s′ .view ≡ s .view → s′ .samples ≡ set (s .samples) (list - 1) (drop 1 (timesLeft s list))
@@ -154,9 +134,9 @@ timed : (j list : ℕ) (x : Event) (s s′ : State) → s′ .view ≡ s .view �
     → s′ .counter ≡ s .counter → s′ .ended ≡ s .ended → s′ .made ≡ s .made + j → s′ .serial ≡ s .serial + 1 → j ≤ 1 → Gains j 1 0 s s′
 timed j list x s s′ view samples fel late turns records written counter ended made serial few =
     record {
-      clock = ap (λ w. w .clock) view;
+      clock = cc view;
       turns = turns;
-      entries = ap (λ w. w .entries) view;
+      entries = cc view;
       records = records;
       written = written;
       counter = omega arith;
@@ -164,14 +144,14 @@ timed j list x s s′ view samples fel late turns records written counter ended 
       ended = omega arith;
       pace = omega arith;
       serials = omega arith;
-      samples = λ h k i. subst (λ (l : List (List ℕ)). getD (nth l k []) i 0 ≤ inForce .maxTime) (sym samples) (used-samples list s h k i);
+      samples = λ h k i. rw samples (used-samples list s h k i);
       ahead = λ h.
           record {
-            later = rw (fel, view) (each-insert (λ (e : Event). s .view .clock ≤ e .time) earlier x (s .fel) late (h .later));
-            rising = rw fel (rising-insert x (s .fel) (h .rising));
+            later = rw (fel, view) (each-insert (λ (e : Event). s .view .clock ≤ e .time) earlier x _ late (h .later));
+            rising = rw fel (rising-insert x _ (h .rising));
           };
-      servers = ap (λ w. map serverSums (w .servers)) view;
-      queues = ap (λ w. map queueSums (w .queues)) view;
+      servers = cc view;
+      queues = cc view;
       contents = λ n h. rw view (more n 0 (s .view .queues) h);
     }
 
@@ -191,7 +171,7 @@ gains-copies : (n target : ℕ) (t : Transaction) (s : State) → Gains n n 0 s 
 unfolding copies toRel
 gains-copies zero target t s = gains-none s
 gains-copies (suc n) target t s =
-    gains-most (suc n) (suc n) 0 (omega arith) (omega arith) (omega arith)
+    gains-most _ _ 0 (omega arith) (omega arith) (omega arith)
     (gains-trans (same-counts 1 1 s _ refl refl refl refl refl refl (omega arith) (omega arith) (omega arith) (omega arith) (omega arith))
     (gains-copies n target t _))
 
@@ -206,15 +186,15 @@ gains-waiting : (put : Transaction → State → State) → ((t : Transaction) (
 unfolding waiting
 gains-waiting put puts t s =
     cond-cases (λ (b : Bare). Gains 0 1 0 s (b .state)) (t .returning) _ _
-    (λ e. gains-most 0 1 0 (omega arith) (omega arith) (omega arith) (puts t s)) (λ e. gains-trans (gains-fresh s) (puts (withSerial (fresh s) t) _))
+    (λ e. gains-most 0 1 0 (omega arith) (omega arith) (omega arith) (puts t s)) (λ e. gains-trans (gains-fresh s) (puts _ _))
 
 gains-waitQl : (edition v : ℕ) (t : Transaction) (s : State) → Gains 0 1 0 s (waiting (toQl edition v) t s .state)
 unfolding toQl
-gains-waitQl edition v = gains-waiting (toQl edition v) (λ t s. still s _ refl refl refl refl refl refl refl refl refl refl)
+gains-waitQl edition v = gains-waiting _ (λ t s. still s _ refl refl refl refl refl refl refl refl refl refl)
 
 gains-waitWel : (edition v : ℕ) (code : Code) (t : Transaction) (s : State) → Gains 0 1 0 s (waiting (toWel edition v code) t s .state)
 unfolding toWel
-gains-waitWel edition v code = gains-waiting (toWel edition v code) (λ t s. still s _ refl refl refl refl refl refl refl refl refl refl)
+gains-waitWel edition v code = gains-waiting _ (λ t s. still s _ refl refl refl refl refl refl refl refl refl refl)
 
 gains-waitWsl : (t : Transaction) (s : State) → Gains 0 1 0 s (waiting toWsl t s .state)
 unfolding toWsl
@@ -227,7 +207,7 @@ gains-gatherers l s = still s _ refl refl refl refl refl refl refl refl refl ref
 
 gains-gather : (t : Transaction) (s : State) → Gains 0 1 0 s (beginning toGatherers t s .state)
 unfolding toGatherers
-gains-gather t s = gains-trans (gains-fresh s) (gains-gatherers _ (setSerial (fresh s) s))
+gains-gather t s = gains-trans (gains-fresh s) (gains-gatherers _ _)
 
 gains-ended : (s : State) → Gains 0 0 0 s (setEnded (suc (s .ended)) s)
 gains-ended s =
@@ -236,9 +216,9 @@ gains-ended s =
 gains-gathers : (n : ℕ) (g : Gatherer) (t : Transaction) (s : State) → Gains 0 1 0 s (gathers n g t s)
 unfolding gathers released comes
 gains-gathers n g t s =
-    cond-cases (Gains 0 1 0 s) (eqb (suc (g .come)) n) _ _
-    (λ e. gains-trans (gains-ended s) (gains-trans (gains-gatherers _ (setEnded (suc (s .ended)) s)) (gains-toRel _ _)))
-    (λ e. gains-most 0 1 0 (omega arith) (omega arith) (omega arith) (gains-trans (gains-ended s) (gains-gatherers _ (setEnded (suc (s .ended)) s))))
+    cond-cases (Gains 0 1 0 s) (eqb _ n) _ _
+    (λ e. gains-trans (gains-ended s) (gains-trans (gains-gatherers _ _) (gains-toRel _ _)))
+    (λ e. gains-most 0 1 0 (omega arith) (omega arith) (omega arith) (gains-trans (gains-ended s) (gains-gatherers _ _)))
 
 -- ---- Interrupting
 
@@ -247,9 +227,9 @@ gains-fel : (k : ℕ) (s s′ : State) → s′ .view ≡ s .view → s′ .samp
     → s′ .counter ≡ s .counter → s′ .made ≡ s .made → s′ .ended ≡ s .ended → s′ .serial ≡ s .serial + k → (Ahead s → Ahead s′) → Gains 0 k 0 s s′
 gains-fel k s s′ view samples turns records written counter made ended serial ahead =
     record {
-      clock = ap (λ w. w .clock) view;
+      clock = cc view;
       turns = turns;
-      entries = ap (λ w. w .entries) view;
+      entries = cc view;
       records = records;
       written = written;
       counter = omega arith;
@@ -257,10 +237,10 @@ gains-fel k s s′ view samples turns records written counter made ended serial 
       ended = omega arith;
       pace = omega arith;
       serials = omega arith;
-      samples = λ h list i. subst (λ (l : List (List ℕ)). getD (nth l list []) i 0 ≤ inForce .maxTime) (sym samples) (h list i);
+      samples = λ h list i. rw samples (h list i);
       ahead = ahead;
-      servers = ap (λ w. map serverSums (w .servers)) view;
-      queues = ap (λ w. map queueSums (w .queues)) view;
+      servers = cc view;
+      queues = cc view;
       contents = λ n h. rw view (more n 0 (s .view .queues) h);
     }
 
@@ -270,8 +250,8 @@ gains-interrupt e t f s =
     gains-fel 0 s _ refl refl refl refl refl refl refl refl (omega arith)
     (λ h.
     record {
-      later = each-replace (λ (x : Event). s .view .clock ≤ x .time) _ [] (s .fel) tt (h .later);
-      rising = rising-without _ (s .fel) (h .rising);
+      later = each-replace (λ (x : Event). s .view .clock ≤ x .time) _ [] _ tt (h .later);
+      rising = rising-without _ _ (h .rising);
     })
 
 gains-resume : (i : Interrupted) (f : ℕ) (s : State) → Gains 0 1 0 s (resume i f s)
@@ -280,16 +260,16 @@ gains-resume i f s =
     gains-fel 1 s _ refl refl refl refl refl refl refl refl (omega arith)
     (λ h.
     record {
-      later = each-insert (λ (x : Event). s .view .clock ≤ x .time) earlier _ (s .fel) (omega arith) (h .later);
-      rising = rising-insert _ (s .fel) (h .rising);
+      later = each-insert (λ (x : Event). s .view .clock ≤ x .time) earlier _ _ (omega arith) (h .later);
+      rising = rising-insert _ _ (h .rising);
     })
 
 gains-givesBack : (m : BlockModel) (l : List Interrupted) (f : ℕ) (s : State) → Gains 0 1 0 s (givesBack m l f s)
 unfolding givesBack
 gains-givesBack m [] f s =
     gains-most 0 1 0 (omega arith) (omega arith) (omega arith)
-    (gains-trans (gains-use f (serverAt (s .view) f .inUse - 1) 0 false s) (gains-wakeFor m (facility f) _))
-gains-givesBack m (i ∷ l) f s = gains-trans (gains-use f (serverAt (s .view) f .inUse) (i .who .number) false s) (gains-resume i f _)
+    (gains-trans (gains-use f _ 0 false s) (gains-wakeFor m _ _))
+gains-givesBack m (i ∷ l) f s = gains-trans (gains-use f _ _ false s) (gains-resume i f _)
 
 -- ---- Each kind
 
@@ -316,18 +296,18 @@ generates m [] list p n k t s o asked = moderate (omega arith) (omega arith) (ga
 generates m (time ∷ l) list p n k t s o asked =
     record {
       new = 1;
-      room = λ h. leb-true (living s + 1) maxLiving (unless-yes (leb (living s + 1) maxLiving) 21 _ asked (λ e. omega arith));
+      room = λ h. leb-true _ maxLiving (unless-yes _ 21 _ asked (λ e. omega arith));
       gains = gains-most 1 255 1 (omega arith) (omega arith) (omega arith) (on k t (gains-arrival (time ∷ l) list p n s));
     }
 
 takes-moderate : (m : BlockModel) (x : Share) (preempts : Bool) (t : Transaction) (s : State)
     → Moderate s (takingUnits (λ f. entering (f s)) (λ put. waiting put t s) (λ f. goingBack (f s)) (λ put. beginning put t s) m x preempts t s .state)
 takes-moderate m x preempts t s =
-    let v : ℕ = shareServer x in
-    cond-cases (λ (r : Bare). Moderate s (r .state)) (leb (shareUnits x) (free (serverAt (s .view) v))) _ _
+    let v = shareServer x in
+    cond-cases (λ (r : Bare). Moderate s (r .state)) (leb (shareUnits x) _) _ _
     (λ e. moderate (omega arith) (omega arith)
-    (on _ t (gains-trans (gains-use v (serverAt (s .view) v .inUse + shareUnits x) (shareHolder x (t .number)) preempts s) (gains-checkWels v _))))
-    (λ e. moderate (omega arith) (omega arith) (gains-waitQl (m .edition) v t s))
+    (on _ t (gains-trans (gains-use v _ _ preempts s) (gains-checkWels v _))))
+    (λ e. moderate (omega arith) (omega arith) (gains-waitQl _ v t s))
 
 -- no question asks who moves in the state
 pub bare-gains : (m : BlockModel) (b : Block) (t : Transaction) (s : State) (o : Option Transaction) → ProperBlock m b → question m b t (setMoving o s) ≡ 0
@@ -340,17 +320,17 @@ bare-gains m (takes x) t s o ok asked = takes-moderate m x false t s
 bare-gains m (frees x) t s o ok asked =
     moderate (omega arith) (omega arith)
     (on _ t
-    (gains-trans (gains-use (shareServer x) (serverAt (s .view) (shareServer x) .inUse - shareUnits x) 0 false s)
-    (gains-trans (gains-wakeFor m x _) (gains-checkWels (shareServer x) _))))
+    (gains-trans (gains-use _ _ 0 false s)
+    (gains-trans (gains-wakeFor m x _) (gains-checkWels _ _))))
 bare-gains m (waitServer code v c) t s o ok asked =
-    cond-cases (λ (r : Bare). Moderate s (r .state)) (status code (serverAt (s .view) v)) _ _
-    (λ e. moderate (omega arith) (omega arith) (gains-waitWel (m .edition) v code t s))
+    cond-cases (λ (r : Bare). Moderate s (r .state)) (status code _) _ _
+    (λ e. moderate (omega arith) (omega arith) (gains-waitWel _ v code t s))
     (λ e.
-    cond-cases (λ (r : Bare). Moderate s (r .state)) (ltb 0 c && ltb (t .stamp) (s .view .clock)) _ _
+    cond-cases (λ (r : Bare). Moderate s (r .state)) (ltb 0 c && ltb _ (s .view .clock)) _ _
     (λ b. moderate (omega arith) (omega arith) (on _ t (gains-wakeFirstWel v code s)))
     (λ b. moderate (omega arith) (omega arith) (on _ _ (gains-wakeFirstWel v code s))))
 bare-gains m (waitTerms a r b) t s o ok asked =
-    cond-cases (λ (r : Bare). Moderate s (r .state)) (compare (m .values) (s .view) (t .parameters) a r b) _ _
+    cond-cases (λ (r : Bare). Moderate s (r .state)) (compare _ _ _ a r b) _ _
     (λ e. moderate (omega arith) (omega arith) (gains-waitWsl t s)) (λ e. moderate (omega arith) (omega arith) (gains-moveTo _ t s))
 bare-gains m (moves c target) t s o ok asked = moderate (omega arith) (omega arith) (gains-moveTo _ t s)
 bare-gains m (assign k a) t s o ok asked = moderate (omega arith) (omega arith) (gains-moveTo _ _ s)
@@ -358,11 +338,11 @@ bare-gains m (priority p) t s o ok asked = moderate (omega arith) (omega arith) 
 bare-gains m (split n target) t s o ok asked =
     record {
       new = n;
-      room = λ h. leb-true (living s + n) maxLiving (unless-yes (leb (living s + n) maxLiving) 21 0 asked (λ e. omega arith));
+      room = λ h. leb-true _ maxLiving (unless-yes _ 21 0 asked (λ e. omega arith));
       gains = gains-most n 255 1 (omega arith) (omega arith) (omega arith) (on _ t (gains-copies n target t s));
     }
 bare-gains m (counts c q) t s o ok asked =
-    moderate (omega arith) (omega arith) (on _ t (gains-content q 1 (changed c) (changed-most c) s))
+    moderate (omega arith) (omega arith) (on _ t (gains-content q 1 _ (changed-most c) s))
 bare-gains m (assemble n) t s o ok asked = gathers-moderate (waitsFor t s)
   where
     gathers-moderate : (l : List Gatherer)
@@ -373,9 +353,9 @@ bare-gains m (preempt f) t s o ok asked = preempts-moderate (losersTo t f s)
   where
     preempts-moderate : (l : List Event)
         → Moderate s (preempting (λ f. entering (f s)) (λ put. waiting put t s) (λ f. goingBack (f s)) (λ put. beginning put t s) l m f t s .state)
-    preempts-moderate [] = takes-moderate m (facility f) true t s
+    preempts-moderate [] = takes-moderate m _ true t s
     preempts-moderate (e ∷ l) =
         moderate (omega arith) (omega arith)
-        (on _ t (gains-trans (gains-interrupt e t f s) (gains-trans (gains-use f _ (t .number) true _) (gains-checkWels f _))))
+        (on _ t (gains-trans (gains-interrupt e t f s) (gains-trans (gains-use f _ _ true _) (gains-checkWels f _))))
 bare-gains m (giveBack f) t s o ok asked =
-    moderate (omega arith) (omega arith) (on _ t (gains-trans (gains-givesBack m (interruptedAt s f) f s) (gains-checkWels f _)))
+    moderate (omega arith) (omega arith) (on _ t (gains-trans (gains-givesBack m _ f s) (gains-checkWels f _)))

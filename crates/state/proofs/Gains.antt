@@ -1,14 +1,6 @@
 -- How far one block moves the counts: at most so many transactions made, serials given and queue places filled; clock, entries,
 -- records and the sums of the statistics stay, and every move time is at or past the clock.
-use Prim.Native.Nat.{ℕ, zero, suc, _+_, _≤_}
-use mathlib.Core.Path.{_≡_, sym, _∙_, subst}
-use mathlib.Core.List.{List, [], _∷_, map}
-use native.Mathlib.Omega.{arith}
-use lib.ListN.{set}
-use Rattle.machine.specs.Rules.{inForce}
-use Rattle.machine.specs.Term.{Server, Queue}
-use Rattle.machine.specs.State.{State}
-use Rattle.machine.specs.Claims.{Each}
+use Rattle.machine.specs.All.{ℕ, zero, suc, _+_, _≤_, _≡_, sym, _∙_, subst, List, [], _∷_, map, arith, set, inForce, Server, Queue, State, Each}
 use Rattle.machine.proofs.runs.Ahead.{Ahead}
 use Rattle.machine.proofs.runs.RunLaws.{each-map}
 use Rattle.machine.proofs.runs.Clocks.{Samples}
@@ -30,7 +22,7 @@ each-mapped f P (x ∷ l) h = (h .0, each-mapped f P l (h .1))
 
 -- what is read of each member is the same in both lists
 pub each-alike : {A B : Type 0} (f : A → B) (P : B → Type 0) (l l′ : List A) → map f l′ ≡ map f l → Each (λ a. P (f a)) l → Each (λ a. P (f a)) l′
-each-alike f P l l′ e h = each-mapped f P l′ (subst (Each P) (sym e) (map-each f P l h))
+each-alike f P l l′ e h = each-mapped f P l′ (rw e (map-each f P l h))
 
 -- ---- Definition
 
@@ -87,7 +79,7 @@ gains-trans {c = c} {c′ = c′} {d = d} g h =
       ahead = λ x. h .ahead (g .ahead x);
       servers = h .servers ∙ g .servers;
       queues = h .queues ∙ g .queues;
-      contents = λ n x. each-map (λ q (le : q .content ≤ n + c + c′). omega arith) (d .view .queues) (h .contents (n + c) (g .contents n x));
+      contents = λ n x. each-map (λ q (le : q .content ≤ n + c + c′). omega arith) (d .view .queues) (h .contents _ (g .contents n x));
     }
 
 pub gains-most : {j k c : ℕ} (j′ k′ c′ : ℕ) {a b : State} → j ≤ j′ → k ≤ k′ → c ≤ c′ → Gains j k c a b → Gains j′ k′ c′ a b

@@ -1,18 +1,7 @@
 -- How many servers are held by the numbers of a residue: it follows the holders, one by one.
-use Prim.Native.Nat.{ℕ, zero, suc, _+_, _-_, _%_, _≤_, _<_}
-use mathlib.Core.Path.{_≡_, refl, sym, ap}
-use mathlib.Core.Logic.{_≢_}
-use mathlib.Core.Bool.{Bool, true, false, cond}
-use mathlib.Core.List.{List}
-use native.Mathlib.Omega.{arith}
-use native.Mathlib.Decide.{ℕ-discrete}
-use lib.Dec.{eqb}
-use lib.ListN.{length, getD, set}
-use lib.Seq.{getD-set-same, getD-set-other}
-use Rattle.machine.specs.Lists.{bit, upTo}
-use Rattle.machine.specs.Term.{Server, idleServer}
+use Rattle.machine.specs.All.{ℕ, zero, suc, _+_, _-_, _%_, _≤_, _<_, _≡_, refl, sym, ap, _≢_, Bool, true, false, cond, List, arith, ℕ-discrete, eqb, length, getD, set, getD-set-same, getD-set-other, bit, upTo, Server, idleServer}
 use Rattle.machine.proofs.lists.Sums.{upTo-cong, upTo-zero}
-use Rattle.state.specs.Stands.{ofResidue, heldIn}
+use Rattle.state.specs.All.{ofResidue, heldIn}
 
 -- ---- Sums
 

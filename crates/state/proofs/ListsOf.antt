@@ -1,23 +1,7 @@
 -- The numbered lists of a state: what stands under a number, and what a change of the state's lists does to them.
-use Prim.Native.Nat.{ℕ, suc, _+_, _-_, _≤_, _<_}
-use mathlib.Core.Path.{_≡_, refl, sym, ap, _∙_}
-use mathlib.Core.Logic.{_≢_}
-use mathlib.Core.Bool.{Bool, true, false, cond}
-use mathlib.Core.List.{List, [], map}
-use native.Mathlib.Omega.{arith}
-use borrow.Author.Tests.{lt-ltb, le-ltb, ltb-true, ltb-false, eqb-true, eqb-false, ne-eqb}
-use lib.Dec.{ltb, eqb}
-use lib.ListN.{length, getD, set}
-use lib.Seq.{getD-set-same, getD-set-other}
-use Rattle.machine.specs.Transaction.{Transaction, Gatherer, Interrupted}
-use Rattle.machine.specs.Lists.{those}
-use Rattle.machine.specs.State.{State}
-use Rattle.machine.specs.Setters.{setQl, setWel, setWsl, setRel, setGatherers, setInterrupted}
-use Rattle.machine.specs.Moves.{ofFacility, interruptedAt}
-use Rattle.rows_laws.specs.Layout.{wsl, rel}
-use Rattle.rows_laws.specs.Holds.{update}
-use Rattle.rows_laws.specs.Shows.{moved}
-use Rattle.state.specs.Stands.{gathererRow, interruptedRow, listsIn, listsOf}
+use Rattle.machine.specs.All.{ℕ, suc, _+_, _-_, _≤_, _<_, _≡_, refl, sym, ap, _∙_, _≢_, Bool, true, false, cond, List, [], map, arith, lt-ltb, le-ltb, ltb-true, ltb-false, eqb-true, eqb-false, ne-eqb, ltb, eqb, length, getD, set, getD-set-same, getD-set-other, Transaction, Gatherer, Interrupted, those, State, setQl, setWel, setWsl, setRel, setGatherers, setInterrupted, ofFacility, interruptedAt}
+use Rattle.rows_laws.specs.All.{wsl, rel, update, moved}
+use Rattle.state.specs.All.{gathererRow, interruptedRow, listsIn, listsOf}
 
 -- REL, the gatherers and the interrupted ones
 abbrev beyond : State → ℕ → List Transaction
@@ -181,4 +165,4 @@ lists-set-interrupted s i l here h is others q = go (eqb q (706 + i)) refl (ltb 
 
 pub lists-moved : (s s′ : State) (p : ℕ) (l r : List Transaction) → ((q : ℕ) → q < 770 → update p l (listsOf s) q ≡ listsOf s′ q) → (q : ℕ) → q < 770 → moved p l r (listsOf s) q ≡ listsOf (setRel r s′) q
 lists-moved s s′ p l r e q hq =
-    ap (λ (x : List Transaction). cond (eqb q rel) r x) (e q hq) ∙ lists-set-rel s′ r q hq
+    cc (e q hq, lists-set-rel s′ r q hq)

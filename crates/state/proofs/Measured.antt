@@ -1,28 +1,11 @@
 -- Counts and sums stay within bounds: a sum of ticks is at most so much for each tick that passed, since the clock never falls.
-use Prim.Native.Nat.{ℕ, zero, suc, _+_, _*_, _-_, _≤_, _<_}
-use mathlib.Core.Path.{_≡_, refl, sym, ap, subst}
-use mathlib.Core.Bool.{Bool}
-use mathlib.Core.List.{List, [], _∷_, map, _++_}
-use mathlib.Core.Option.{Option, none, some}
-use native.Mathlib.Nat.{mul-add, mul-le-mul-right}
-use native.Mathlib.Omega.{arith}
-use lib.ListN.{length, getD, replicate}
-use Rattle.machine.specs.Rules.{inForce}
-use Rattle.machine.specs.Limits.{maxCapacity, maxCounter, maxTime}
-use Rattle.machine.specs.Transaction.{Transaction, Event}
-use Rattle.machine.specs.Lists.{those, others, nth}
-use Rattle.machine.specs.Term.{Server, Queue}
-use Rattle.machine.specs.Block.{BlockModel}
-use Rattle.machine.specs.State.{State}
-use Rattle.machine.specs.Setters.{setClock, setView, setFel, setRel, setSerial}
-use Rattle.machine.specs.Turn.{sampleServers, sampleQueue, sample, due, moveClock, nextEvents, takeFirst, takeReady, taking}
-use Rattle.machine.specs.Claims.{Each}
+use Rattle.machine.specs.All.{ℕ, zero, suc, _+_, _*_, _-_, _≤_, _<_, _≡_, refl, sym, ap, subst, Bool, List, [], _∷_, map, _++_, Option, none, some, mul-add, mul-le-mul-right, arith, length, getD, replicate, inForce, maxCapacity, maxCounter, maxTime, Transaction, Event, those, others, nth, Server, Queue, BlockModel, State, setClock, setView, setFel, setRel, setSerial, sampleServers, sampleQueue, sample, due, moveClock, nextEvents, takeFirst, takeReady, taking, Each}
 use Rattle.machine.proofs.decoding.Proper.{Proper}
 use Rattle.machine.proofs.runs.RunLaws.{cond-cases, each-map, each-pair}
 use Rattle.machine.proofs.lists.Sorted.{each-those}
 use Rattle.machine.proofs.runs.Shape.{Shape, Within, capacityOf, allCapacities}
 use Rattle.machine.proofs.runs.Clocks.{Samples}
-use Rattle.rows_laws.specs.Clock.{arrivals}
+use Rattle.rows_laws.specs.All.{arrivals}
 use Rattle.rows_laws.proofs.Arrivals.{arriveAll-is}
 use Rattle.machine.proofs.runs.Ahead.{Rising, rising-those, Ahead}
 use Rattle.state.proofs.Gains.{each-alike, each-mapped, Sums, serverSums, queueSums, Gains}
@@ -55,20 +38,18 @@ measured-gains {n = n} {s = s} {s′ = s′} g h =
       ahead = g .ahead (h .ahead);
       contents = g .contents n (h .contents);
       servers =
-          subst (λ (c : ℕ). Each (λ (v : Server). ServerBound c (serverSums v)) (s′ .view .servers)) (sym (g .clock))
-          (each-alike serverSums (ServerBound (s .view .clock)) (s .view .servers) (s′ .view .servers) (g .servers) (h .servers));
+          rw (g .clock) (each-alike serverSums (ServerBound (s .view .clock)) (s .view .servers) (s′ .view .servers) (g .servers) (h .servers));
       queues =
-          subst (λ (c : ℕ). Each (λ (q : Queue). QueueBound c (queueSums q)) (s′ .view .queues)) (sym (g .clock))
-          (each-alike queueSums (QueueBound (s .view .clock)) (s .view .queues) (s′ .view .queues) (g .queues) (h .queues));
+          rw (g .clock) (each-alike queueSums (QueueBound (s .view .clock)) (s .view .queues) (s′ .view .queues) (g .queues) (h .queues));
     }
 
 pub measured-like : {n : ℕ} (s s′ : State) → s′ .samples ≡ s .samples → s′ .made ≡ s .made → s .serial ≤ s′ .serial → s′ .counter ≡ s .counter
     → s′ .view .clock ≡ s .view .clock → s′ .view .queues ≡ s .view .queues → s′ .view .servers ≡ s .view .servers → s′ .fel ≡ s .fel → Measured n s → Measured n s′
 measured-like s s′ samples made serial counter clock queues servers fel h =
     record {
-      samples = subst (λ (l : List (List ℕ)). (list i : ℕ) → getD (nth l list []) i 0 ≤ inForce .maxTime) (sym samples) (h .samples);
-      made = omega (arith, h .made);
-      counter = omega (arith, h .counter);
+      samples = rw samples (h .samples);
+      made = omega arith;
+      counter = omega arith;
       ahead = record { later = rw (fel, clock) (h .ahead .later); rising = rw fel (h .ahead .rising) };
       contents = rw queues (h .contents);
       servers = rw (clock, servers) (h .servers);
@@ -81,14 +62,14 @@ measured-like s s′ samples made serial counter clock queues servers fel h =
 tick-sum : (most sum n clock time : ℕ) → sum ≤ most * clock → n ≤ most → clock ≤ time → sum + n * (time - clock) ≤ most * time
 tick-sum most sum n clock time h le ahead =
     let split : clock + (time - clock) ≡ time = omega arith in
-    omega (arith, mul-le-mul-right (time - clock) le, mul-add most clock (time - clock), ap (λ (x : ℕ). most * x) split)
+    omega (arith, mul-le-mul-right (time - clock) le, ap (λ (x : ℕ). most * x) split)
 
 sampled-servers : (clock time : ℕ) (l : List Server) (ql : List (List Transaction)) → clock ≤ time
     → Each (λ (v : Server). v .inUse ≤ 65535) l → Each (λ (q : List Transaction). length q ≤ 1024) ql
     → Each (λ (v : Server). ServerBound clock (serverSums v)) l → Each (λ (v : Server). ServerBound time (serverSums v)) (sampleServers (time - clock) l ql)
 unfolding sampleServers
 sampled-servers clock time [] ql le u w h = tt
-sampled-servers clock time (v ∷ l) [] le u w h = each-map (λ x (k : ServerBound clock (serverSums x)). (omega arith, omega arith, k .2)) (v ∷ l) h
+sampled-servers clock time (v ∷ l) [] le u w h = each-map (λ x (k : ServerBound clock _). (omega arith, omega arith, k .2)) (v ∷ l) h
 sampled-servers clock time (v ∷ l) (q ∷ ql) le u w h = (
   (
     tick-sum 65535 (v .unitTicks) (v .inUse) clock time (h .0 .0) (u .0) le,
@@ -114,7 +95,7 @@ sampled-contents n ticks (q ∷ l) h = (h .0, sampled-contents n ticks l (h .1))
 
 -- units in use are at most the capacity
 pub capacities-small : {m : BlockModel} {tape : List (List ℕ)} → Proper m tape → Each (λ (c : ℕ). c ≤ 65535) (allCapacities m)
-capacities-small {m} proper = facilities (m .facilities) (m .capacities) (storages (m .capacities) (λ k lt. proper .capacity k lt .1))
+capacities-small {m} proper = facilities (m .facilities) _ (storages (m .capacities) (λ k lt. proper .capacity k lt .1))
   where
     storages : (l : List ℕ) → ((k : ℕ) → k < length l → getD l k 0 ≤ maxCapacity) → Each (λ (c : ℕ). c ≤ 65535) l
     storages [] h = tt
@@ -126,9 +107,9 @@ capacities-small {m} proper = facilities (m .facilities) (m .capacities) (storag
 
 pub units-small : {m : BlockModel} {tape : List (List ℕ)} → Proper m tape → (s : State) → Shape m s → Each (λ (v : Server). v .inUse ≤ 65535) (s .view .servers)
 units-small {m} proper s h =
-    each-map (λ v (k : Within v × (v .capacity ≤ 65535)). omega arith) (s .view .servers)
+    each-map (λ v (k : Within v × _). omega arith) (s .view .servers)
     (each-pair Within (λ v. v .capacity ≤ 65535) (s .view .servers) (h .within)
-    (each-mapped capacityOf (λ (c : ℕ). c ≤ 65535) (s .view .servers) (subst (Each (λ (c : ℕ). c ≤ 65535)) (sym (h .capacities)) (capacities-small proper))))
+    (each-mapped capacityOf (λ (c : ℕ). c ≤ 65535) (s .view .servers) (rw (h .capacities) (capacities-small proper))))
 
 -- those that are not due stay ahead of the clock
 others-ahead : (time : ℕ) (l : List Event) → Each (λ (e : Event). time ≤ e .time) l → Each (λ (e : Event). time ≤ e .time) (others (due time) l)
@@ -141,12 +122,12 @@ clocked time s = setFel (others (due time) (s .fel)) (setView (setClock time (sa
 module _ (n : ℕ) (s : State) (e : Event) (l : List Event) (fel : s .fel ≡ e ∷ l) (small : n ≤ 100000001) (h : Measured n s)
     (units : Each (λ (v : Server). v .inUse ≤ 65535) (s .view .servers)) (waiters : Each (λ (q : List Transaction). length q ≤ 1024) (s .ql)) where
   clock-ahead : s .view .clock ≤ e .time
-  clock-ahead = subst (Each (λ (x : Event). s .view .clock ≤ x .time)) fel (h .ahead .later) .0
+  clock-ahead = rw fel at (h .ahead .later) .0
 
   all-later : Each (λ (x : Event). e .time ≤ x .time) (s .fel)
   all-later =
-      let rise : Rising (e ∷ l) = subst Rising fel (h .ahead .rising) in
-      subst (Each (λ (x : Event). e .time ≤ x .time)) (sym fel) (omega arith, rise .0)
+      let rise = rw fel at (h .ahead .rising) in
+      rw fel (omega arith, rise .0)
 
   measured-clocked : Measured n (clocked (e .time) s)
   unfolding clocked sample
@@ -155,10 +136,10 @@ module _ (n : ℕ) (s : State) (e : Event) (l : List Event) (fel : s .fel ≡ e 
         samples = h .samples;
         made = h .made;
         counter = h .counter;
-        ahead = record { later = others-ahead (e .time) (s .fel) all-later; rising = rising-those _ (s .fel) (h .ahead .rising) };
+        ahead = record { later = others-ahead _ _ all-later; rising = rising-those _ _ (h .ahead .rising) };
         contents = sampled-contents n _ (s .view .queues) (h .contents);
-        servers = sampled-servers (s .view .clock) (e .time) (s .view .servers) (s .ql) clock-ahead units waiters (h .servers);
-        queues = sampled-queues n (s .view .clock) (e .time) (s .view .queues) clock-ahead small (h .contents) (h .queues);
+        servers = sampled-servers _ _ _ _ clock-ahead units waiters (h .servers);
+        queues = sampled-queues n _ _ (s .view .queues) clock-ahead small (h .contents) (h .queues);
       }
 
 -- ---- The taking
@@ -217,7 +198,7 @@ those-fewer p (x ∷ l) = cond-cases (λ (k : List Event). length k ≤ suc (len
 pub moved-clock : (time : ℕ) (s : State)
     → moveClock time s ≡ setRel (arrivals (those (due time) (s .fel)) (s .serial) (s .rel)) (setSerial (s .serial + length (those (due time) (s .fel))) (clocked time s))
 unfolding moveClock clocked
-moved-clock time s = arriveAll-is (those (due time) (s .fel)) _
+moved-clock time s = arriveAll-is _ _
 
 module _ (n : ℕ) (s : State) (small : n ≤ 100000001) (h : Measured n s) (units : Each (λ (v : Server). v .inUse ≤ 65535) (s .view .servers))
     (waiters : Each (λ (q : List Transaction). length q ≤ 1024) (s .ql)) where
@@ -225,10 +206,10 @@ module _ (n : ℕ) (s : State) (small : n ≤ 100000001) (h : Measured n s) (uni
   unfolding nextEvents clocked sample
   took-events [] e = took-none n s h
   took-events (x ∷ l) e =
-      let k : Measured n (clocked (x .time) s) = measured-clocked n s x l e small h units waiters in
-      subst (Took n s) (sym (moved-clock (x .time) s))
+      let k = measured-clocked n s x l e small h units waiters in
+      subst (Took n s) (sym (moved-clock _ s))
       (record {
-        measured = measured-like (clocked (x .time) s) _ refl refl (omega arith) refl refl refl refl refl k;
+        measured = measured-like _ _ refl refl (omega arith) refl refl refl refl refl k;
         made = refl;
         ended = refl;
         turns = refl;
@@ -242,10 +223,10 @@ module _ (n : ℕ) (s : State) (small : n ≤ 100000001) (h : Measured n s) (uni
 
   took-ready : (l : List Transaction) → Took n s (takeReady l s)
   unfolding takeReady
-  took-ready [] = took-first n _ s _ (took-events (s .fel) refl)
-  took-ready (t ∷ l) = took-first n (t ∷ l) s s (took-none n s h)
+  took-ready [] = took-first n _ s _ (took-events _ refl)
+  took-ready (t ∷ l) = took-first n _ s s (took-none n s h)
 
   pub took : (o : Option Transaction) → Took n s (taking o s)
   unfolding taking
-  took none = took-ready (s .rel)
+  took none = took-ready _
   took (some t) = took-none n s h

@@ -1,25 +1,5 @@
 -- Every state of a run, before a turn and after the taking, is sane.
-use Prim.Native.Nat.{ℕ, zero, suc, _+_, _*_, _-_, _≤_, _<_}
-use mathlib.Core.Path.{_≡_, refl, sym, ap, _∙_, subst}
-use mathlib.Core.Bool.{Bool, true, false, true≢false}
-use mathlib.Core.List.{List, [], _∷_, map, _++_}
-use native.Mathlib.Omega.{arith}
-use borrow.Author.Tests.{eqb-true, eqb-false}
-use lib.Dec.{eqb}
-use lib.ListN.{length, replicate, length-append, length-map, getD}
-use Rattle.machine.specs.Rules.{Rules, inForce}
-use Rattle.machine.specs.Limits.{maxSerial, maxTurns}
-use Rattle.machine.specs.Transaction.{Transaction, Gatherer, Interrupted}
-use Rattle.machine.specs.Lists.{flat, nth}
-use Rattle.machine.specs.Term.{Server, Queue, idleServer, emptyQueue, serverAt}
-use Rattle.machine.specs.Block.{Block, BlockModel, facts, blockAt}
-use Rattle.machine.specs.State.{State}
-use Rattle.machine.specs.Setters.{setTurns, setEnd}
-use Rattle.machine.specs.Moves.{interruptedAt}
-use Rattle.machine.specs.Turn.{taking, turn}
-use Rattle.machine.specs.Run.{idle, startAt, start}
-use Rattle.machine.specs.Report.{placed, places}
-use Rattle.machine.specs.Claims.{Each, everyone, standing, loserBy}
+use Rattle.machine.specs.All.{ℕ, zero, suc, _+_, _*_, _-_, _≤_, _<_, _≡_, refl, sym, ap, _∙_, subst, Bool, true, false, true≢false, List, [], _∷_, map, _++_, arith, eqb-true, eqb-false, eqb, length, replicate, length-append, length-map, getD, Rules, inForce, maxSerial, maxTurns, Transaction, Gatherer, Interrupted, flat, nth, Server, Queue, idleServer, emptyQueue, serverAt, Block, BlockModel, facts, blockAt, State, setTurns, setEnd, interruptedAt, taking, turn, idle, startAt, start, placed, places, Each, everyone, standing, loserBy}
 use Rattle.machine.proofs.decoding.Proper.{Proper, Names}
 use Rattle.machine.proofs.lists.Chosen.{upto, none-numbered}
 use Rattle.machine.proofs.later.Holders.{Holding, holding-taking, holding-turn, holding-start}
@@ -34,8 +14,7 @@ use Rattle.machine.proofs.nobody_able.WaitsKept.{waits-taken, waits-kept, waits
 use Rattle.machine.proofs.nobody_able.StillWaiting.{AllHold, settled-turn, settled-start}
 use Rattle.machine.proofs.runs.Clocks.{Timely, taking-timely, timely-turn, timely-start}
 use Rattle.machine.proofs.conservation.Conservation.{Sound, Conserved, sound-conserved, stands-at-most-once, sound-start, sound-taking, sound-turn}
-use Rattle.state.specs.Bare.{Note, enteredNote, waitsNote, noNote, logged, countEntry, noteAs}
-use Rattle.state.specs.Sane.{Sane}
+use Rattle.state.specs.All.{Note, enteredNote, waitsNote, noNote, logged, countEntry, noteAs, Sane}
 use Rattle.machine.proofs.runs.Ahead.{Ahead}
 use Rattle.state.proofs.Gains.{each-set, serverSums, queueSums, Gains, gains-trans, gains-most}
 use Rattle.state.proofs.BlockGains.{gains-none, gains-arrival}
@@ -58,8 +37,8 @@ each-flat (l ∷ ls) n h = (omega (arith, length-append l (flat ls)), each-flat 
 module _ (m : BlockModel) (tape : List (List ℕ)) (s : State) (sound : Sound m tape s) where
   stand : length (places s) + s .ended ≡ s .made
   stand =
-      let c : Conserved m tape s = sound-conserved m tape s sound in
-      omega (arith, c .made, c .ended, c .balance, c .living)
+      let c = sound-conserved m tape s sound in
+      omega arith
 
   parts : length (flat (s .ql)) + length (s .fel) ≤ length (places s)
   unfolding places placed
@@ -76,7 +55,7 @@ measured-of {s = s} h ahead =
       ahead = ahead;
       contents = h .contents;
       servers =
-          each-map (λ v (b : U v × (W v × L v)). (b .0, b .1 .0, b .1 .1)) (s .view .servers)
+          each-map (λ v (b : U v × _). (b .0, b .1 .0, b .1 .1)) (s .view .servers)
           (each-pair U (λ v. W v × L v) (s .view .servers) (h .unit-ticks) (each-pair W L (s .view .servers) (h .wait-ticks) (h .longest)));
       queues =
           each-pair (λ (q : Queue). q .contentTicks ≤ 100000001 * s .view .clock) (λ (q : Queue). q .longest ≤ 100000001) (s .view .queues)
@@ -108,11 +87,11 @@ Stopped m s =
 
 stopped-of : (m : BlockModel) (tape : List (List ℕ)) (s : State) → Holding m tape s → Stopped m s
 unfolding serverAt
-stopped-of m tape s h = (h .known, λ f at seized. none-numbered (interruptedAt s f) (h .each f at .loser ∙ ap upto (nobody f at seized (eqb (loserBy m tape (s .records) f) 0) refl)))
+stopped-of m tape s h = (h .known, λ f at seized. none-numbered _ (h .each f at .loser ∙ ap upto (nobody f at seized _ refl)))
   where
     nobody : (f : ℕ) → (at : Names (m .facilities) f) → getD (s .view .servers) (f - 1) (idleServer 0) .preempted ≡ false → (b : Bool) → eqb (loserBy m tape (s .records) f) 0 ≡ b → loserBy m tape (s .records) f ≡ 0
     nobody f at seized true e = eqb-true _ 0 e
-    nobody f at seized false e = absurd (true≢false (sym (h .each f at .taken (positive (eqb-false _ 0 e)) .0) ∙ seized))
+    nobody f at seized false e = absurd (true≢false (cc (h .each f at .taken (positive (eqb-false _ 0 e)) .0, seized)))
       where
         positive : (loserBy m tape (s .records) f ≡ 0 → ⊥) → 0 < loserBy m tape (s .records) f
         positive n = omega arith
@@ -175,8 +154,8 @@ fewer n l h = each-map (λ e (le : e ≤ n). omega arith) l h
 note-entries : (k : ℕ) (n : Note) (t : Transaction) (s x : State) → Few k (x .view .entries) → Few (suc k) (noteAs n t s x .view .entries)
 unfolding noteAs logged countEntry
 note-entries k enteredNote t s x h =
-    let old : nth (x .view .entries) (t .next) 0 ≤ k = each-getD (λ (e : ℕ). e ≤ k) (x .view .entries) (t .next - 1) 0 h (omega arith) in
-    each-set (λ (e : ℕ). e ≤ suc k) (x .view .entries) (t .next - 1) _ (fewer k (x .view .entries) h) (omega arith)
+    let old = each-getD (λ (e : ℕ). e ≤ k) (x .view .entries) (t .next - 1) 0 h (omega arith) in
+    each-set (λ (e : ℕ). e ≤ suc k) (x .view .entries) _ _ (fewer k (x .view .entries) h) (omega arith)
 note-entries k waitsNote t s x h = fewer k (x .view .entries) h
 note-entries k noNote t s x h = fewer k (x .view .entries) h
 
@@ -192,9 +171,9 @@ record After (n : ℕ) (s s′ : State) : Type 0 where
 after : {n : ℕ} {s s′ : State} → Turned s s′ → Measured n s → s .made - s .ended ≤ 1024 → Few n (s .view .entries) → After n s s′
 after {n} {s} {s′} (unnoted g) h living entries =
     record {
-      measured = subst (λ (i : ℕ). Measured i s′) add-one-is (measured-gains (gains-most 0 0 1 (omega arith) (omega arith) (omega arith) g) h);
+      measured = rw add-one-is at (measured-gains (gains-most 0 0 1 (omega arith) (omega arith) (omega arith) g) h);
       living = omega arith;
-      entries = subst (Few (suc n)) (sym (g .entries)) (fewer n (s .view .entries) entries);
+      entries = rw (g .entries) (fewer n (s .view .entries) entries);
       serials = omega arith;
       turns = g .turns;
     }
@@ -203,15 +182,15 @@ after {n} {s} {s′} (unnoted g) h living entries =
     add-one-is = omega arith
 after {n} {s} {s′} (noted t e x later w g) h living entries =
     let c = note-counts x t s later in
-    let b : Gains (w .new) 255 1 s later = w .gains in
-    let k : Measured (n + 1) later = measured-gains b h in
-    let r : s .made - s .ended + w .new ≤ 1024 = w .room living in
+    let b = w .gains in
+    let k = measured-gains b h in
+    let r = w .room living in
     record {
-      measured = subst (λ (i : ℕ). Measured i s′) i (measured-gains g (note-measured x t s later k));
+      measured = rw i at (measured-gains g (note-measured x t s later k));
       living = omega arith;
-      entries = subst (Few (suc n)) (sym (g .entries)) (note-entries n x t s later (subst (Few n) (sym (b .entries)) entries));
+      entries = rw (g .entries) (note-entries n x t s later (subst (Few n) (sym (b .entries)) entries));
       serials = omega arith;
-      turns = g .turns ∙ c .3 ∙ b .turns;
+      turns = cc (g .turns, c .3, b .turns);
     }
   where
     i : n + 1 + 0 ≡ suc n
@@ -234,45 +213,45 @@ module _ {m : BlockModel} {tape : List (List ℕ)} (proper : Proper m tape) (s :
   hs = h .sane
 
   pub taken-took : Took (s .turns) s (taking (s .moving) s)
-  taken-took = took (s .turns) s (omega arith) (measured-of hs (h .ahead)) (units-small proper s (hs .shape)) (hs .waiting) (s .moving)
+  taken-took = took _ s (omega arith) (measured-of hs (h .ahead)) (units-small proper s (hs .shape)) (hs .waiting) _
 
   -- the FEL has at most 1,024 members
   fel-few : length (s .fel) ≤ 1024
-  fel-few = omega (arith, stand m tape s (h .sound), parts m tape s (h .sound), hs .living)
+  fel-few = omega (arith, stand m tape s (h .sound), parts m tape s (h .sound))
 
   taken-measured : Measured (s .turns) (takenOf s)
-  taken-measured = measured-like (taking (s .moving) s) (takenOf s) refl refl (omega arith) refl refl refl refl refl (taken-took .measured)
+  taken-measured = measured-like _ _ refl refl (omega arith) refl refl refl refl refl (taken-took .measured)
 
   taken-shape : Shape m (takenOf s)
-  taken-shape = taking-kept (Shape m) (shape-closed m) (s .moving) s (hs .shape)
+  taken-shape = taking-kept _ (shape-closed m) _ s (hs .shape)
 
   taken-placed : Everybody (Placed m) (takenOf s)
   taken-placed =
-      let U : Unmoved (Placed m) = record { mark = λ b t p. p; serial = λ n t p. p } in
-      let k : Everybody (Placed m) (taking (s .moving) s) = taking-everybody (Placed m) U (s .moving) s (hs .placed) in
+      let U : Unmoved _ = record { mark = λ b t p. p; serial = λ n t p. p } in
+      let k = taking-everybody _ U _ s (hs .placed) in
       record { ql = k .ql; wel = k .wel; wsl = k .wsl; rel = k .rel; fel = k .fel; gatherers = k .gatherers; interrupted = k .interrupted; moving = k .moving }
 
   taken-timely : Timely (inForce .maxClock) (takenOf s)
   taken-timely =
-      let k : Timely (inForce .maxClock) (taking (s .moving) s) = taking-timely (s .moving) s (hs .timely) in
+      let k = taking-timely _ s (hs .timely) in
       record { clock = k .clock; times = k .times; remaining = k .remaining; serials = k .serials }
 
   taken-entries : Few (s .turns) (takenOf s .view .entries)
-  taken-entries = subst (Few (s .turns)) (sym (taken-took .entries)) (hs .entries)
+  taken-entries = rw (taken-took .entries) (hs .entries)
 
   taken-living : takenOf s .made - takenOf s .ended ≤ 1024
-  taken-living = omega (arith, taken-took .made, taken-took .ended, hs .living)
+  taken-living = omega (arith, taken-took .made, taken-took .ended)
 
   taken-serials : takenOf s .serial ≤ maxSerial + 1024
   taken-serials = omega (arith, taken-took .serials, fel-few)
 
   -- the taking gathers nobody
   taken-come : Come m (takenOf s)
-  taken-come = subst (ComeIn m) (sym (taking-gatherers (s .moving) s)) (hs .come)
+  taken-come = rw (taking-gatherers (s .moving) s) (hs .come)
 
   taken-alone : (n : ℕ) → standing (takenOf s) n ≤ 1
   unfolding standing everyone
-  taken-alone = stands-at-most-once m tape (taking (s .moving) s) (sound-taking m tape s (h .sound))
+  taken-alone = stands-at-most-once m tape _ (sound-taking m tape s (h .sound))
 
   taken-mover : Maybe (Numbered (takenOf s .made)) (takenOf s .moving)
   taken-mover = numbered m tape (taking (s .moving) s) (sound-taking m tape s (h .sound)) .moving
@@ -286,7 +265,7 @@ module _ {m : BlockModel} {tape : List (List ℕ)} (proper : Proper m tape) (s :
 
   turn-after : After (s .turns) (takenOf s) (turn m s)
   unfolding turn
-  turn-after = after (turned proper (takenOf s)) taken-measured taken-living taken-entries
+  turn-after = after (turned proper _) taken-measured taken-living taken-entries
 
   -- of the state that the turn leaves
   pub sure-turn : Sure m tape (turn m s)
@@ -318,11 +297,11 @@ start-gains : (n : ℕ) (l : List Block) (s : State) → Gains (length l) (lengt
 unfolding startAt
 start-gains n [] s = gains-none s
 start-gains n (b ∷ l) s =
-    gains-most (suc (length l)) (suc (length l)) 0 (omega arith) (omega arith) (omega arith)
+    gains-most _ _ 0 (omega arith) (omega arith) (omega arith)
     (gains-trans
     (startOf-cases (Gains 1 1 0 s) b n s (λ e. gains-most 1 1 0 (omega arith) (omega arith) (omega arith) (gains-none s))
     (λ e. gains-arrival _ _ _ n s))
-    (start-gains (suc n) l _))
+    (start-gains _ l _))
 
 each-replicate : {A : Type 0} (P : A → Type 0) (n : ℕ) (a : A) → P a → Each P (replicate n a)
 each-replicate P zero a p = tt
@@ -339,7 +318,7 @@ module _ {m : BlockModel} {tape : List (List ℕ)} (proper : Proper m tape) (rul
   unfolding idle emptyQueue
   idle-measured =
       record {
-        samples = λ list i. subst (λ (q : Rules). getD (nth tape list []) i 0 ≤ q .maxTime) rules (proper .times (list - 1) i);
+        samples = λ list i. rw rules at (proper .times (list - 1) i);
         made = omega arith;
         counter = proper .counter .1;
         ahead = record { later = tt; rising = tt };
@@ -350,7 +329,7 @@ module _ {m : BlockModel} {tape : List (List ℕ)} (proper : Proper m tape) (rul
 
   pub start-is : Gains (length (m .blocks)) (length (m .blocks)) 0 (idle m tape) (start m tape)
   unfolding start
-  start-is = start-gains 1 (m .blocks) (idle m tape)
+  start-is = start-gains 1 _ _
 
   idle-zero : (idle m tape .made ≡ 0) × (idle m tape .serial ≡ 0) × (idle m tape .turns ≡ 0) × Few 0 (idle m tape .view .entries)
   unfolding idle
@@ -418,12 +397,12 @@ sane-turns n e s more few k =
 pub sure-end : (m : BlockModel) (tape : List (List ℕ)) (s : State) (e : ℕ) → (e ≡ 0 → ⊥) → Sure m tape s → Sure m tape (setEnd e s)
 sure-end m tape s e ends h =
     record {
-      sane = sane-turns (s .turns) e s (omega arith) (h .sane .turns) (h .sane);
+      sane = sane-turns _ e s (omega arith) (h .sane .turns) (h .sane);
       ahead = record { later = h .ahead .later; rising = h .ahead .rising };
       sound = record { shape = h .sound .shape; balanced = h .sound .balanced; books = h .sound .books };
       gathering =
           record {
-            kindred = like _ (record { mark = λ b t p. p; serial = λ n t p. p }) s (setEnd e s) refl refl refl refl refl refl refl refl (h .gathering .kindred);
+            kindred = like _ (record { mark = λ b t p. p; serial = λ n t p. p }) s _ refl refl refl refl refl refl refl refl (h .gathering .kindred);
             gathers = h .gathering .gathers;
           };
       holding = h .holding;

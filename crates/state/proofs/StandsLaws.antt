@@ -1,30 +1,10 @@
 -- What the relation reads of a state, and single changes that it follows. Lists, tally and scalars each have their own laws, so
 -- that a block's law puts them together as its effect needs.
-use Prim.Native.Nat.{ℕ, suc, _+_, _%_, _≤_, _<_}
-use mathlib.Core.Path.{_≡_, refl, sym, ap, _∙_}
-use mathlib.Core.Logic.{_≢_}
-use mathlib.Core.List.{List}
-use mathlib.Core.Option.{Option, none, some}
-use native.Mathlib.Omega.{arith}
-use lib.ListN.{length, getD, set}
-use lib.Seq.{getD-set-other}
-use Rattle.machine.specs.Transaction.{Transaction, Event, precedes, earlier}
-use Rattle.machine.specs.Lists.{insert}
-use Rattle.machine.specs.Moves.{lineUp}
-use Rattle.machine.specs.Term.{Server, Queue}
-use Rattle.machine.specs.State.{State, Logged}
-use Rattle.machine.specs.Setters.{withStamp, setMoving}
+use Rattle.machine.specs.All.{ℕ, suc, _+_, _%_, _≤_, _<_, _≡_, refl, sym, ap, _∙_, _≢_, List, Option, none, some, arith, length, getD, set, getD-set-other, Transaction, Event, precedes, earlier, insert, lineUp, Server, Queue, State, Logged, withStamp, setMoving}
 use Rattle.tables.specs.Layout as Layout
-use Rattle.rows_laws.specs.Layout.{wsl, free}
+use Rattle.rows_laws.specs.All.{wsl, free, write, setTime, outranks, sooner, put, schedule, transactionAt, eventAt, update, Sorted, orderOf, Shows}
 use Rattle.rows_laws.specs.Layout as Layout′
-use Rattle.rows_laws.specs.Cells.{write, setTime}
-use Rattle.rows_laws.specs.Order.{outranks, sooner}
-use Rattle.rows_laws.specs.Lists.{put}
-use Rattle.rows_laws.specs.Future.{schedule}
 use Rattle.rows_laws.specs.Lines as Lines
-use Rattle.rows_laws.specs.Holds.{transactionAt, eventAt, update}
-use Rattle.rows_laws.specs.Ordered.{Sorted}
-use Rattle.rows_laws.specs.Shows.{orderOf, Shows}
 use Rattle.rows_laws.proofs.Showing.{update-other}
 use Rattle.rows_laws.proofs.Ordering.{line-sorted, shows-ext}
 use Rattle.rows_laws.proofs.Write.{write-shown, write-loose}
@@ -35,7 +15,7 @@ use Rattle.rows_laws.proofs.Steady.{Steady, steady-transaction}
 use Rattle.rows_laws.proofs.Population.{free-kept}
 use Rattle.state.specs.declared.scalars.Scalars.{Scalars}
 use Rattle.state.proofs.StatisticsLaws.{SamePair, behind-same, sum-same, longest-same}
-use Rattle.state.specs.Stands.{Rows, rowsOf, Moving, Listed, Listing, Seen, Serving, Queueing, Sampling, atBlock, Tallying, Numbers, Counted, Counting, Stands}
+use Rattle.state.specs.All.{Rows, rowsOf, Moving, Listed, Listing, Seen, Serving, Queueing, Sampling, atBlock, Tallying, Numbers, Counted, Counting, Stands}
 
 -- ---- Lists
 
@@ -153,7 +133,7 @@ module _ (tally : List ℕ) (i x : ℕ) where
   other j d = getD-set-other tally i j x 0 d
 
   pub entries-set : (l : List ℕ) → 256 ≤ i → ((b : ℕ) → b < 256 → getD tally (Layout.entries + b) 0 ≡ getD l b 0) → (b : ℕ) → b < 256 → getD (set tally i x) (Layout.entries + b) 0 ≡ getD l b 0
-  entries-set l h e b hb = other (Layout.entries + b) (λ z. omega arith) ∙ e b hb
+  entries-set l h e b hb = other _ (λ z. omega arith) ∙ e b hb
 
   pub waits-set : (l : List Logged) → 512 ≤ i → ((b : ℕ) → b < 256 → getD tally (Layout.waits + b) 0 ≡ atBlock 1 (suc b) l) → (b : ℕ) → b < 256 → getD (set tally i x) (Layout.waits + b) 0 ≡ atBlock 1 (suc b) l
   waits-set l h e b hb = other (Layout.waits + b) (λ z. omega arith) ∙ e b hb

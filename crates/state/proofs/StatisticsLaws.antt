@@ -1,24 +1,9 @@
 -- Sums and longest lengths of the tally, brought up to date: what they read, that a number which is up to date may change, what a
 -- clock move adds, and that to bring a server or a queue up to date changes none of them.
-use Prim.Native.Nat.{ℕ, _+_, _*_, _-_, _≤_, _<_, min, max}
-use mathlib.Core.Path.{_≡_, refl, sym, ap, _∙_}
-use mathlib.Core.Logic.{_≢_}
-use mathlib.Core.Bool.{Bool, true, false, cond, not, true≢false}
-use mathlib.Core.List.{List}
-use native.Mathlib.Nat.{mul-add}
-use native.Mathlib.Omega.{arith}
-use native.Mathlib.Decide.{ℕ-discrete}
-use borrow.Author.Tests.{eq-eqb, ne-eqb, eqb-true}
-use lib.Dec.{ltb, eqb}
-use lib.ListN.{length, getD, set, length-set}
-use lib.Seq.{getD-set-same, getD-set-other}
-use Rattle.machine.specs.Limits.{maxClock}
-use Rattle.machine.specs.State.{State}
+use Rattle.machine.specs.All.{ℕ, _+_, _*_, _-_, _≤_, _<_, min, max, _≡_, refl, sym, ap, _∙_, _≢_, Bool, true, false, cond, not, true≢false, List, mul-add, arith, ℕ-discrete, eq-eqb, ne-eqb, eqb-true, ltb, eqb, length, getD, set, length-set, getD-set-same, getD-set-other, maxClock, State}
 use Rattle.tables.specs.Layout as Layout
-use Rattle.state.specs.Ticks.{countEnd, product}
-use Rattle.state.specs.Statistics.{ticksSince, behind, sumNow, longestNow, see, storeServer, updateServer, storeQueue, updateQueue}
+use Rattle.state.specs.All.{countEnd, product, ticksSince, behind, sumNow, longestNow, see, storeServer, updateServer, storeQueue, updateQueue, Seen, Serving, Queueing, Tallying}
 use Rattle.state.proofs.Products.{product-is}
-use Rattle.state.specs.Stands.{Seen, Serving, Queueing, Tallying}
 
 -- ---- What they read
 
@@ -39,7 +24,7 @@ module _ (t t′ : List ℕ) (i : ℕ) (h : SamePair t t′ i) where
 
   pub sum-same : (at from clock : ℕ) → getD t′ at 0 ≡ getD t at 0 → getD t′ from 0 ≡ getD t from 0 → sumNow t′ at from i clock ≡ sumNow t at from i clock
   unfolding sumNow
-  sum-same at from clock a f = rw (ticks-same clock, a, f)
+  sum-same at from clock a f = rw (ticks-same, a, f)
 
   pub longest-same : (at from : ℕ) → getD t′ at 0 ≡ getD t at 0 → getD t′ from 0 ≡ getD t from 0 → longestNow t′ at from i ≡ longestNow t at from i
   unfolding longestNow
@@ -79,7 +64,7 @@ module _ (t t′ : List ℕ) (i : ℕ) (h : SamePair t t′ i) (at from : ℕ) (
       sum-current t′ at from i clock (h .clock ∙ e) ∙ ap (λ (n : ℕ). min n Layout.most64) same ∙ sym (sum-current t at from i clock e)
 
   pub longest-moved : behind t i ≡ false → longestNow t′ at from i ≡ longestNow t at from i
-  longest-moved e = longest-current t′ at from i (behind-same t t′ i h ∙ e) ∙ same ∙ sym (longest-current t at from i e)
+  longest-moved e = cc (longest-current t′ at from i (behind-same t t′ i h ∙ e), same, longest-current t at from i e)
 
 -- ---- A clock move, be it by 0 ticks
 
@@ -87,9 +72,9 @@ module _ (t t′ : List ℕ) (i : ℕ) (h : SamePair t t′ i) (at from : ℕ) (
 sum-grows : (sum n ticks more : ℕ) → n ≤ 100000001 → min (sum + product n ticks) Layout.most64 + n * more < Layout.most64
     → min (sum + product n (ticks + more)) Layout.most64 ≡ min (sum + product n ticks) Layout.most64 + n * more
 sum-grows sum n ticks more small fits =
-    let was : product n ticks ≡ n * ticks = product-is n ticks (omega arith) in
-    let is : product n (ticks + more) ≡ n * ticks + n * more = product-is n (ticks + more) (omega arith) ∙ mul-add n ticks more in
-    omega (arith, was, is, fits)
+    let was = product-is n ticks (omega arith) in
+    let is = product-is n _ (omega arith) ∙ mul-add n ticks more in
+    omega arith
 
 -- the move is counted, and no other cell of the tally changes
 module _ (t t′ : List ℕ) (clock time turns : ℕ) (h : Seen t clock turns) (on : clock ≤ time) (most : time ≤ maxClock)
@@ -119,17 +104,17 @@ module _ (t t′ : List ℕ) (clock time turns : ℕ) (h : Seen t clock turns) (
     unfolding sumNow
     sum-later sum n e g small fits =
         let was : min (getD t at 0 + product n (ticksSince t i clock)) Layout.most64 ≡ sum =
-        ap (λ (z : ℕ). min (getD t at 0 + product z (ticksSince t i clock)) Layout.most64) (sym g) ∙ e in
-        rw (ticks-later i hi, same at a, same from f, g)
-        (sum-grows (getD t at 0) n (ticksSince t i clock) (time - clock) small (omega (arith, was, fits)) ∙ ap (λ (z : ℕ). z + n * (time - clock)) was)
+        cc (g, e) in
+        rw (ticks-later, same at a, same, g)
+        (cc (sum-grows (getD t at 0) n (ticksSince t i clock) (time - clock) small (omega (arith, was, fits)), was))
 
     pub longest-later : (longest n : ℕ) → longestNow t at from i ≡ longest → getD t from 0 ≡ n → longestNow t′ at from i ≡ max longest n
     unfolding longestNow
-    longest-later longest n e g = rw (behind-all i hi, same at a, same from f, ← e) (go (behind t i))
+    longest-later longest n e g = rw (behind-all, same at a, same, ← e) (go (behind t i))
       where
         go : (b : Bool) → max (getD t at 0) (getD t from 0) ≡ max (cond b (max (getD t at 0) (getD t from 0)) (getD t at 0)) n
-        go true = omega (arith, g)
-        go false = omega (arith, g)
+        go true = omega arith
+        go false = omega arith
 
 -- ---- One is brought up to date
 
@@ -155,7 +140,7 @@ pub record Updated (t t′ : List ℕ) (i time : ℕ) : Type 0 where
 
 module _ (t t′ : List ℕ) (i clock : ℕ) (u : Updated t t′ i clock) where
   pub updated-current : behind t′ i ≡ false
-  updated-current = seen-now t′ i (u .moves ∙ sym (u .all))
+  updated-current = seen-now t′ i (cc (u .moves, u .all))
 
   seen-updated : (turns : ℕ) → Seen t clock turns → Seen t′ clock turns
   seen-updated turns h =
@@ -261,7 +246,7 @@ module _ (t : List ℕ) (v clock : ℕ) where
   t₄ = see t₃ v clock
 
   other₃ : (j : ℕ) → j ≢ 576 + v → j ≢ 640 + v → j ≢ 704 + v → getD t₃ j 0 ≡ getD t j 0
-  other₃ j a b c = getD-set-other t₂ (704 + v) j l₀ 0 c ∙ getD-set-other t₁ (640 + v) j w₀ 0 b ∙ getD-set-other t (576 + v) j u₀ 0 a
+  other₃ j a b c = getD-set-other t₂ _ j l₀ 0 c ∙ getD-set-other t₁ _ j w₀ 0 b ∙ getD-set-other t _ j u₀ 0 a
 
   -- below the pairs
   below : (j : ℕ) → j < 1344 → getD t₄ j 0 ≡ getD t₃ j 0
@@ -279,7 +264,7 @@ module _ (t : List ℕ) (v clock : ℕ) where
 
     paired : Updated t t₄ v clock
     paired =
-        after-updated t t₃ t₄ v clock (size₃ ∙ sym size) (λ j h. other₃ j (λ e. omega arith) (λ e. omega arith) (λ e. omega arith))
+        after-updated t t₃ t₄ v clock (cc (size₃, size)) (λ j h. other₃ j (λ e. omega arith) (λ e. omega arith) (λ e. omega arith))
         (see-updated t₃ v clock size₃ (omega arith))
 
     stored : ServerUpdated t (storeServer t v clock) v clock
@@ -289,14 +274,13 @@ module _ (t : List ℕ) (v clock : ℕ) where
           pairs = paired;
           other = λ j h a b c. below j h ∙ other₃ j a b c;
           units =
-              sum-current t₄ (576 + v) (512 + v) v clock (paired .clock)
+              sum-current t₄ _ _ v clock (paired .clock)
               ∙ omega (arith, below (576 + v) (omega arith), getD-set-other t₂ (704 + v) (576 + v) l₀ 0 (λ e. omega arith), getD-set-other t₁ (640 + v) (576 + v) w₀ 0 (λ e. omega arith), getD-set-same t (576 + v) u₀ 0 (omega arith), sum-most t (576 + v) (512 + v) v clock);
           waits =
-              sum-current t₄ (640 + v) (768 + v) v clock (paired .clock)
+              sum-current t₄ _ _ v clock (paired .clock)
               ∙ omega (arith, below (640 + v) (omega arith), getD-set-other t₂ (704 + v) (640 + v) l₀ 0 (λ e. omega arith), getD-set-same t₁ (640 + v) w₀ 0 (omega (arith, size₁)), sum-most t (640 + v) (768 + v) v clock);
           longest =
-              longest-current t₄ (704 + v) (768 + v) v (updated-current t t₄ v clock paired)
-              ∙ below (704 + v) (omega arith) ∙ getD-set-same t₂ (704 + v) l₀ 0 (omega (arith, size₂));
+              cc (longest-current t₄ (704 + v) (768 + v) v (updated-current t t₄ v clock paired), below (704 + v) (omega arith), getD-set-same t₂ (704 + v) l₀ 0 (omega (arith, size₂)));
         }
 
     kept : behind t v ≡ false → getD t (1344 + v) 0 ≡ clock → ServerUpdated t t v clock
@@ -311,7 +295,7 @@ module _ (t : List ℕ) (v clock : ℕ) where
 
     pub server-updated : (turns : ℕ) → Seen t clock turns → ServerUpdated t (updateServer t v clock) v clock
     unfolding updateServer
-    server-updated turns h = go (behind t v) refl
+    server-updated turns h = go _ refl
       where
         go : (b : Bool) → behind t v ≡ b → ServerUpdated t (cond b (storeServer t v clock) t) v clock
         go true e = stored
@@ -342,7 +326,7 @@ module _ (t : List ℕ) (q clock : ℕ) where
   q₃ = see q₂ (64 + q) clock
 
   qother : (j : ℕ) → j ≢ 864 + q → j ≢ 896 + q → getD q₂ j 0 ≡ getD t j 0
-  qother j a b = getD-set-other q₁ (896 + q) j m₀ 0 b ∙ getD-set-other t (864 + q) j c₀ 0 a
+  qother j a b = getD-set-other q₁ _ j m₀ 0 b ∙ getD-set-other t _ j c₀ 0 a
 
   qbelow : (j : ℕ) → j < 1344 → getD q₃ j 0 ≡ getD q₂ j 0
   qbelow j h = see-other q₂ (64 + q) clock j (λ e. omega arith) (λ e. omega arith)
@@ -356,8 +340,8 @@ module _ (t : List ℕ) (q clock : ℕ) where
 
     qpaired : Updated t q₃ (64 + q) clock
     qpaired =
-        after-updated t q₂ q₃ (64 + q) clock (qsize₂ ∙ sym size) (λ j h. qother j (λ e. omega arith) (λ e. omega arith))
-        (see-updated q₂ (64 + q) clock qsize₂ (omega arith))
+        after-updated t q₂ q₃ _ clock (cc (qsize₂, size)) (λ j h. qother j (λ e. omega arith) (λ e. omega arith))
+        (see-updated q₂ _ clock qsize₂ (omega arith))
 
     qstored : QueueUpdated t (storeQueue t q clock) q clock
     unfolding storeQueue
@@ -366,11 +350,10 @@ module _ (t : List ℕ) (q clock : ℕ) where
           pairs = qpaired;
           other = λ j h a b. qbelow j h ∙ qother j a b;
           contents =
-              sum-current q₃ (864 + q) (832 + q) (64 + q) clock (qpaired .clock)
+              sum-current q₃ _ _ _ clock (qpaired .clock)
               ∙ omega (arith, qbelow (864 + q) (omega arith), getD-set-other q₁ (896 + q) (864 + q) m₀ 0 (λ e. omega arith), getD-set-same t (864 + q) c₀ 0 (omega arith), sum-most t (864 + q) (832 + q) (64 + q) clock);
           longest =
-              longest-current q₃ (896 + q) (832 + q) (64 + q) (updated-current t q₃ (64 + q) clock qpaired)
-              ∙ qbelow (896 + q) (omega arith) ∙ getD-set-same q₁ (896 + q) m₀ 0 (omega (arith, qsize₁));
+              cc (longest-current q₃ (896 + q) (832 + q) (64 + q) (updated-current t q₃ (64 + q) clock qpaired), qbelow (896 + q) (omega arith), getD-set-same q₁ (896 + q) m₀ 0 (omega (arith, qsize₁)));
         }
 
     qkept : behind t (64 + q) ≡ false → getD t (1344 + (64 + q)) 0 ≡ clock → QueueUpdated t t q clock
@@ -378,11 +361,11 @@ module _ (t : List ℕ) (q clock : ℕ) where
 
     pub queue-updated : (turns : ℕ) → Seen t clock turns → QueueUpdated t (updateQueue t q clock) q clock
     unfolding updateQueue
-    queue-updated turns h = go (behind t (64 + q)) refl
+    queue-updated turns h = go _ refl
       where
         go : (b : Bool) → behind t (64 + q) ≡ b → QueueUpdated t (cond b (storeQueue t q clock) t) q clock
         go true e = qstored
-        go false e = qkept e (h .current (64 + q) (omega arith) e)
+        go false e = qkept e (h .current _ (omega arith) e)
 
 -- ---- The tally stands for the same state
 
@@ -395,7 +378,7 @@ module _ (tapeBytes t : List ℕ) (s : State) (h : Tallying tapeBytes t s) (few 
     t′ = updateServer t v (s .view .clock)
 
     u : ServerUpdated t t′ v clock
-    u = server-updated t v clock (h .size) hv (s .turns) (h .seen)
+    u = server-updated t v clock (h .size) hv _ (h .seen)
 
     low : (j : ℕ) → j < 576 → getD t′ j 0 ≡ getD t j 0
     low j a = u .other j (omega arith) (λ e. omega arith) (λ e. omega arith) (λ e. omega arith)
@@ -440,17 +423,15 @@ module _ (tapeBytes t : List ℕ) (s : State) (h : Tallying tapeBytes t s) (few 
     queue-sums : Queueing t′ clock (s .view .queues)
     queue-sums =
         record {
-          contents = λ q hq. high (832 + q) (omega arith) (omega arith) ∙ h .queues .contents q hq;
+          contents = λ q hq. high _ (omega arith) (omega arith) ∙ h .queues .contents q hq;
           content-ticks = λ q hq.
-              sum-same t t′ (64 + q) (pair q hq) (864 + q) (832 + q) clock (high (864 + q) (omega arith) (omega arith)) (high (832 + q) (omega arith) (omega arith))
-              ∙ h .queues .content-ticks q hq;
+              cc (sum-same t t′ (64 + q) (pair q hq) (864 + q) (832 + q) clock (high (864 + q) (omega arith) (omega arith)) (high (832 + q) (omega arith) (omega arith)), h .queues .content-ticks q hq);
           longest = λ q hq.
-              longest-same t t′ (64 + q) (pair q hq) (896 + q) (832 + q) (high (896 + q) (omega arith) (omega arith)) (high (832 + q) (omega arith) (omega arith))
-              ∙ h .queues .longest q hq;
+              cc (longest-same t t′ (64 + q) (pair q hq) (896 + q) (832 + q) (high (896 + q) (omega arith) (omega arith)) (high (832 + q) (omega arith) (omega arith)), h .queues .longest q hq);
         }
       where
         pair : (q : ℕ) → q < 32 → SamePair t t′ (64 + q)
-        pair q hq = u .pairs .others (64 + q) (omega arith) (λ e. omega arith)
+        pair q hq = u .pairs .others _ (omega arith) (λ e. omega arith)
 
     pub server-tallying : Tallying tapeBytes (updateServer t v (s .view .clock)) s
     server-tallying =
@@ -476,7 +457,7 @@ module _ (tapeBytes t : List ℕ) (s : State) (h : Tallying tapeBytes t s) (few 
     q′ = updateQueue t q (s .view .clock)
 
     w : QueueUpdated t q′ q clock
-    w = queue-updated t q clock (h .size) hq (s .turns) (h .seen)
+    w = queue-updated t q clock (h .size) hq _ (h .seen)
 
     below′ : (j : ℕ) → j < 864 → getD q′ j 0 ≡ getD t j 0
     below′ j a = w .other j (omega arith) (λ e. omega arith) (λ e. omega arith)
@@ -503,25 +484,25 @@ module _ (tapeBytes t : List ℕ) (s : State) (h : Tallying tapeBytes t s) (few 
     queues-kept : Queueing q′ clock (s .view .queues)
     queues-kept =
         record {
-          contents = λ i hi. below′ (832 + i) (omega arith) ∙ h .queues .contents i hi;
+          contents = λ i hi. below′ _ (omega arith) ∙ h .queues .contents i hi;
           content-ticks = λ i hi. sums i hi (ℕ-discrete i q) ∙ h .queues .content-ticks i hi;
           longest = λ i hi. longest i hi (ℕ-discrete i q) ∙ h .queues .longest i hi;
         }
       where
         pair : (i : ℕ) → i < 32 → i ≢ q → SamePair t q′ (64 + i)
-        pair i hi d = w .pairs .others (64 + i) (omega arith) (λ e. d (omega arith))
+        pair i hi d = w .pairs .others _ (omega arith) (λ e. d (omega arith))
 
         sums : (i : ℕ) → i < 32 → Dec (i ≡ q) → sumNow q′ (864 + i) (832 + i) (64 + i) clock ≡ sumNow t (864 + i) (832 + i) (64 + i) clock
         sums i hi (yes e) = rw e (w .contents)
         sums i hi (no d) =
-            sum-same t q′ (64 + i) (pair i hi d) (864 + i) (832 + i) clock (w .other (864 + i) (omega arith) (λ e. d (omega arith)) (λ e. omega arith))
-            (below′ (832 + i) (omega arith))
+            sum-same t q′ _ (pair i hi d) _ _ clock (w .other _ (omega arith) (λ e. d (omega arith)) (λ e. omega arith))
+            (below′ _ (omega arith))
 
         longest : (i : ℕ) → i < 32 → Dec (i ≡ q) → longestNow q′ (896 + i) (832 + i) (64 + i) ≡ longestNow t (896 + i) (832 + i) (64 + i)
         longest i hi (yes e) = rw e (w .longest)
         longest i hi (no d) =
-            longest-same t q′ (64 + i) (pair i hi d) (896 + i) (832 + i) (w .other (896 + i) (omega arith) (λ e. omega arith) (λ e. d (omega arith)))
-            (below′ (832 + i) (omega arith))
+            longest-same t q′ _ (pair i hi d) _ _ (w .other _ (omega arith) (λ e. omega arith) (λ e. d (omega arith)))
+            (below′ _ (omega arith))
 
     pub queue-tallying : Tallying tapeBytes (updateQueue t q (s .view .clock)) s
     queue-tallying =
@@ -540,4 +521,4 @@ module _ (tapeBytes t : List ℕ) (s : State) (h : Tallying tapeBytes t s) (few 
         }
 
     pub queue-current : behind (updateQueue t q (s .view .clock)) (64 + q) ≡ false
-    queue-current = updated-current t q′ (64 + q) clock (w .pairs)
+    queue-current = updated-current t q′ _ clock (w .pairs)

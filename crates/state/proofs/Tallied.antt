@@ -1,26 +1,10 @@
 -- What a report counts from the records: of an outcome at blocks that pass a test, the sum over the blocks of what is counted
 -- block by block.
-use Prim.Native.Nat.{ℕ, zero, suc, _+_}
-use mathlib.Core.Path.{_≡_, refl, sym, ap, _∙_, subst}
-use mathlib.Core.Bool.{Bool, true, false, cond, _&&_}
-use mathlib.Core.List.{List, [], _∷_, _++_}
-use native.Mathlib.Omega.{arith}
-use borrow.Author.Tests.{eqb-true, eqb-false, eq-eqb, ne-eqb}
-use lib.Dec.{eqb}
-use lib.ListN.{length}
-use Rattle.machine.specs.Rules.{Rules, inForce}
-use Rattle.machine.specs.Lists.{those}
-use Rattle.machine.specs.Trace.{Record, inRanges}
-use Rattle.machine.specs.Facts.{Facts}
-use Rattle.machine.specs.Block.{facts, BlockModel, blockAt}
-use Rattle.machine.specs.State.{State, Logged}
-use Rattle.machine.specs.Report.{recordsAt}
-use Rattle.machine.specs.Outcome.{recordsOf}
-use Rattle.machine.specs.Claims.{Each, count, bit, upTo, InModel}
+use Rattle.machine.specs.All.{ℕ, zero, suc, _+_, _≡_, refl, sym, ap, _∙_, subst, Bool, true, false, cond, _&&_, List, [], _∷_, _++_, arith, eqb-true, eqb-false, eq-eqb, ne-eqb, eqb, length, Rules, inForce, those, Record, inRanges, Facts, facts, BlockModel, blockAt, State, Logged, recordsAt, recordsOf, Each, count, bit, upTo, InModel}
 use Rattle.machine.proofs.decoding.Proper.{Names}
 use Rattle.machine.proofs.lists.Sums.{count-cons, upTo-cong, upTo-zero, upTo-one}
 use Rattle.trace.specs.Whole.{AllInRanges}
-use Rattle.state.specs.Stands.{atBlock}
+use Rattle.state.specs.All.{atBlock}
 use Rattle.state.proofs.Written.{at-block-cons, Traced, inOrder, in-order-cons}
 
 -- ---- Sums over the numbers from 1 on
@@ -41,7 +25,7 @@ module _ (m : BlockModel) (outcome : ℕ) (p : Facts → Bool) where
   -- one record more adds to its own block only
   share-cons : (r : Logged) (l : List Logged) (b : ℕ)
       → share (r ∷ l) b ≡ cond (eqb (r .entry .outcome) outcome && passes (r .entry .block)) (bit (eqb b (r .entry .block))) 0 + share l b
-  share-cons r l b = go (eqb b (r .entry .block)) refl
+  share-cons r l b = go _ refl
     where
       o : Bool
       o = eqb (r .entry .outcome) outcome
@@ -62,18 +46,18 @@ module _ (m : BlockModel) (outcome : ℕ) (p : Facts → Bool) where
 
       go : (c : Bool) → eqb b (r .entry .block) ≡ c → share (r ∷ l) b ≡ cond (o && passes (r .entry .block)) (bit c) 0 + share l b
       go true e =
-          let is : b ≡ r .entry .block = eqb-true _ _ e in
+          let is = eqb-true _ _ e in
           subst (λ (i : ℕ). share (r ∷ l) b ≡ cond (o && passes i) 1 0 + share l b) is
-          (one o (passes b) _ _
-          (at-block-cons outcome b r l ∙ ap (λ (x : Bool). bit (o && x) + atBlock outcome b l) (eq-eqb (r .entry .block) b (sym is))))
+          (one o _ _ _
+          (cc (at-block-cons outcome b r l, eq-eqb (r .entry .block) b (sym is))))
       go false e =
-          none o (passes (r .entry .block)) (passes b) _ _
-          (at-block-cons outcome b r l ∙ ap (λ (x : Bool). bit (o && x) + atBlock outcome b l) (ne-eqb (r .entry .block) b (λ q. eqb-false _ _ e (sym q))))
+          none o _ (passes b) _ _
+          (cc (at-block-cons outcome b r l, ne-eqb (r .entry .block) b (λ q. eqb-false _ _ e (sym q))))
 
   records-cons : (r : Logged) (l : List Logged)
       → recordsAt m outcome p (r ∷ l) ≡ bit (eqb (r .entry .outcome) outcome && passes (r .entry .block)) + recordsAt m outcome p l
   unfolding recordsAt
-  records-cons r l = counted ∙ refl
+  records-cons r l = cc counted
     where
       test : Logged → Bool
       test r = eqb (r .entry .outcome) outcome && p (facts (blockAt m (r .entry .block)))
@@ -82,7 +66,7 @@ module _ (m : BlockModel) (outcome : ℕ) (p : Facts → Bool) where
       counted = unfold count in count-cons test r l
 
   pub records-tallied : (l : List Logged) → Each (λ (r : Logged). InModel m (r .entry)) l → recordsAt m outcome p l ≡ upTo (length (m .blocks)) (share l)
-  records-tallied [] h = empty ∙ sym (upTo-zero (length (m .blocks)) (share []) (λ k low high. nothing k))
+  records-tallied [] h = empty ∙ sym (upTo-zero _ _ (λ k low high. nothing k))
     where
       empty : recordsAt m outcome p [] ≡ 0
       empty = unfold recordsAt those in refl
@@ -98,14 +82,14 @@ module _ (m : BlockModel) (outcome : ℕ) (p : Facts → Bool) where
         arith,
         records-cons r l,
         records-tallied l (h .1),
-        upTo-cong (share (r ∷ l)) (λ b. cond (eqb (r .entry .outcome) outcome && passes (r .entry .block)) (bit (eqb b (r .entry .block))) 0 + share l b) (length (m .blocks)) (λ b low high. share-cons r l b),
+        upTo-cong _ (λ b. cond (eqb _ outcome && passes _) _ 0 + share l b) (length (m .blocks)) (λ b low high. share-cons r l b),
         upTo-add (λ b. cond (eqb (r .entry .outcome) outcome && passes (r .entry .block)) (bit (eqb b (r .entry .block))) 0) (share l) (length (m .blocks)),
-        own (eqb (r .entry .outcome) outcome && passes (r .entry .block)) (r .entry .block) (h .0 .block),
+        own (eqb (r .entry .outcome) outcome && passes (r .entry .block)) _ (h .0 .block),
       )
     where
       own : (c : Bool) (i : ℕ) → Names (length (m .blocks)) i → upTo (length (m .blocks)) (λ b. cond c (bit (eqb b i)) 0) ≡ bit c
-      own true i names = upTo-one (length (m .blocks)) i (names .0) (names .1)
-      own false i names = upTo-zero (length (m .blocks)) (λ b. 0) (λ k low high. refl)
+      own true i names = upTo-one _ i (names .0) (names .1)
+      own false i names = upTo-zero _ (λ b. 0) (λ k low high. refl)
 
 -- ---- In the order of writing
 
@@ -117,7 +101,7 @@ all-in-ranges : (m : BlockModel) → m .rules ≡ inForce → (l : List Logged) 
 all-in-ranges m rules [] h = tt
 all-in-ranges m rules (r ∷ l) h =
     subst AllInRanges (sym (in-order-cons r l))
-    (ranges-end (inOrder l) (r .entry) (all-in-ranges m rules l (h .1)) (subst (λ (q : Rules). inRanges q (r .entry) ≡ true) rules (h .0 .ranges), tt))
+    (ranges-end (inOrder l) _ (all-in-ranges m rules l (h .1)) (rw rules at (h .0 .ranges), tt))
 
 pub traced-ranges : {m : BlockModel} {room : ℕ} (s : State) → Traced m room s → AllInRanges (recordsOf s)
 unfolding recordsOf

@@ -1,17 +1,7 @@
 -- A turn after the taking: nothing is noted, or the moving one's block gains what a block may gain and its record is noted.
-use Prim.Native.Nat.{ℕ, zero, suc}
-use mathlib.Core.Path.{_≡_, refl, sym, subst}
-use mathlib.Core.List.{List}
-use mathlib.Core.Option.{Option, none, some}
-use native.Mathlib.Omega.{arith}
-use Rattle.machine.specs.Transaction.{Transaction}
-use Rattle.machine.specs.Block.{BlockModel, blockAt}
-use Rattle.machine.specs.State.{State}
-use Rattle.machine.specs.Setters.{setMoving}
-use Rattle.machine.specs.Execute.{question}
-use Rattle.machine.specs.Turn.{answer, execute, wsScheme}
+use Rattle.machine.specs.All.{ℕ, zero, suc, _≡_, refl, sym, subst, List, Option, none, some, arith, Transaction, BlockModel, blockAt, State, setMoving, question, answer, execute, wsScheme}
 use Rattle.machine.proofs.decoding.Proper.{Proper}
-use Rattle.state.specs.Bare.{Note, noteAs, bare, bareAnswer}
+use Rattle.state.specs.All.{Note, noteAs, bare, bareAnswer}
 use Rattle.state.proofs.Noted.{noted-answer}
 use Rattle.state.proofs.Gains.{Gains, gains-trans, gains-most}
 use Rattle.state.proofs.BlockGains.{still, gains-wsScheme, Moderate, bare-gains}
@@ -28,7 +18,7 @@ moderate-hand s s′ h =
       room = h .room;
       gains =
           gains-most _ _ _ (omega arith) (omega arith) (omega arith)
-          (gains-trans (still s (setMoving none s) refl refl refl refl refl refl refl refl refl refl) (h .gains));
+          (gains-trans (still s _ refl refl refl refl refl refl refl refl refl refl) (h .gains));
     }
 
 module _ {m : BlockModel} {tape : List (List ℕ)} (proper : Proper m tape) where
@@ -40,8 +30,7 @@ module _ {m : BlockModel} {tape : List (List ℕ)} (proper : Proper m tape) wher
       let g : Moderate (setMoving none s) (r .state) =
       bare-gains m (blockAt m (t .next)) t (setMoving none s) (s .moving) (proper .block (t .next)) q in
       noted t e (r .note) (r .state) (moderate-hand s (r .state) g)
-      (subst (λ (x : State). Gains 0 0 0 x (wsScheme m (answer zero m (blockAt m (t .next)) t s))) (sym (noted-answer zero m (blockAt m (t .next)) t s))
-      (gains-wsScheme m _))
+      (rw (noted-answer zero m (blockAt m (t .next)) t s) (gains-wsScheme m _))
   answered (suc n) t s e q = unnoted (gains-trans (stopped n t s) (gains-wsScheme m _))
     where
       stopped : (n : ℕ) (t : Transaction) (s : State) → Gains 0 0 0 s (answer (suc n) m (blockAt m (t .next)) t s)
@@ -53,4 +42,4 @@ module _ {m : BlockModel} {tape : List (List ℕ)} (proper : Proper m tape) wher
   executed (some t) s e = answered _ t s e refl
 
   pub turned : (s : State) → Turned s (wsScheme m (execute (s .moving) m s))
-  turned s = executed (s .moving) s refl
+  turned s = executed _ s refl

@@ -1,25 +1,10 @@
 -- Waking as the relation of lists follows it: the first of a QL or a WEL, those of a QL that a walk takes, and all of the WSL that pass a test.
-use Prim.Native.Nat.{ℕ, _+_, _-_, _<_}
-use mathlib.Core.Path.{_≡_, refl}
-use mathlib.Core.Bool.{Bool}
-use mathlib.Core.List.{List}
-use mathlib.Core.Option.{Option}
-use native.Mathlib.Omega.{arith}
-use lib.ListN.{length, set, take, drop}
-use Rattle.machine.specs.Transaction.{Transaction}
-use Rattle.machine.specs.Lists.{those, others}
-use Rattle.machine.specs.Block.{Code, welIndex}
-use Rattle.machine.specs.State.{State}
-use Rattle.machine.specs.Setters.{setQl, setWel, setWsl, setRel}
-use Rattle.machine.specs.Moves.{wake, qlOf, welOf, firstOf, wakeQl, wakeFirstWel, wakeWsl}
+use Rattle.machine.specs.All.{ℕ, _+_, _-_, _<_, _≡_, refl, Bool, List, Option, arith, length, set, take, drop, Transaction, those, others, Code, welIndex, State, setQl, setWel, setWsl, setRel, wake, qlOf, welOf, firstOf, wakeQl, wakeFirstWel, wakeWsl}
 use Rattle.machine.proofs.nobody_able.QueueRemove.{walk}
-use Rattle.rows_laws.specs.Layout.{head, wsl, rel}
-use Rattle.rows_laws.specs.Wake.{wakeFirst, wakeWalk, wakeAll}
-use Rattle.rows_laws.specs.Holds.{transactionAt}
-use Rattle.rows_laws.specs.Shows.{moved}
+use Rattle.rows_laws.specs.All.{head, wsl, rel, wakeFirst, wakeWalk, wakeAll, transactionAt, moved}
 use Rattle.rows_laws.proofs.Ordering.{shows-ext}
 use Rattle.rows_laws.proofs.Laws.{Wakes, wake-first-shows, wake-walk-shows, wake-all-shows}
-use Rattle.state.specs.Stands.{listsOf, Listing}
+use Rattle.state.specs.All.{listsOf, Listing}
 use Rattle.state.proofs.ListsOf.{lists-ql, lists-wel, lists-wsl, lists-rel, lists-set-ql, lists-set-wel, lists-set-wsl, lists-moved}
 use Rattle.state.proofs.StandsLaws.{listing-steady}
 

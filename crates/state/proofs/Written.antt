@@ -1,37 +1,13 @@
 -- The trace of every state of a run: each record lies in the reader's ranges and takes at most 12 bytes, the bytes written are
 -- those of the records and fit the room, and the entries of a block are its records of outcome 0.
-use Prim.Native.Nat.{ℕ, suc, _+_, _-_, _≤_, _<_}
-use mathlib.Core.Path.{_≡_, refl, sym, ap, _∙_, subst}
-use mathlib.Core.Bool.{Bool, true, false, _&&_}
-use mathlib.Core.List.{List, [], _∷_, map, _++_, reverse, reverse-cons, append-assoc}
-use mathlib.Core.Option.{some}
-use native.Mathlib.Omega.{arith}
-use borrow.Author.Tests.{eqb-true, eqb-false}
-use lib.Dec.{eqb}
-use lib.ListN.{length, set, length-append, getD-replicate}
-use lib.Seq.{getD-set-same, getD-set-other}
-use Rattle.machine.specs.Rules.{Rules, inForce}
-use Rattle.machine.specs.Limits.{maxSerial, maxTurns, recordRoom}
-use Rattle.machine.specs.Transaction.{Transaction}
-use Rattle.machine.specs.Lists.{nth, those}
-use Rattle.machine.specs.Trace.{Record, recordBytes, traceBytes, inRanges}
-use Rattle.machine.specs.Block.{BlockModel}
-use Rattle.machine.specs.State.{State, Logged}
-use Rattle.machine.specs.Setters.{setEnd}
-use Rattle.machine.specs.Moves.{recordOf}
-use Rattle.machine.specs.Turn.{turn}
-use Rattle.machine.specs.Run.{idle, start}
-use Rattle.machine.specs.Outcome.{recordsOf}
-use Rattle.machine.specs.Claims.{Each, count, bit, InModel}
+use Rattle.machine.specs.All.{ℕ, suc, _+_, _-_, _≤_, _<_, _≡_, refl, sym, ap, _∙_, subst, Bool, true, false, _&&_, List, [], _∷_, map, _++_, reverse, reverse-cons, append-assoc, some, arith, eqb-true, eqb-false, eqb, length, set, length-append, getD-replicate, getD-set-same, getD-set-other, Rules, inForce, maxSerial, maxTurns, recordRoom, Transaction, nth, those, Record, recordBytes, traceBytes, inRanges, BlockModel, State, Logged, setEnd, recordOf, turn, idle, start, recordsOf, Each, count, bit, InModel}
 use Rattle.machine.proofs.decoding.Proper.{Proper, Names}
 use Rattle.machine.proofs.runs.RunLaws.{Taken}
 use Rattle.machine.proofs.runs.Everybody.{Maybe}
 use Rattle.machine.proofs.runs.Placed.{Placed}
 use Rattle.machine.proofs.lists.Sums.{count-cons}
 use Rattle.trace.proofs.Writer.{Ranges, in-ranges, record-room}
-use Rattle.state.specs.Bare.{Note, enteredNote, waitsNote, noNote, logged, countEntry, noteAs}
-use Rattle.state.specs.Sane.{Sane}
-use Rattle.state.specs.Stands.{atBlock}
+use Rattle.state.specs.All.{Note, enteredNote, waitsNote, noNote, logged, countEntry, noteAs, Sane, atBlock}
 use Rattle.state.proofs.Gains.{Gains}
 use Rattle.state.proofs.TurnGains.{Turned, unnoted, noted, turned}
 use Rattle.state.proofs.Measured.{Took}
@@ -54,24 +30,24 @@ pub record Traced (m : BlockModel) (room : ℕ) (s : State) : Type 0 where
 traceBytes-append : (k l : List Record) → traceBytes (k ++ l) ≡ traceBytes k ++ traceBytes l
 unfolding traceBytes
 traceBytes-append [] l = refl
-traceBytes-append (r ∷ k) l = ap (λ (x : List ℕ). recordBytes r ++ x) (traceBytes-append k l) ∙ sym (append-assoc (recordBytes r) (traceBytes k) (traceBytes l))
+traceBytes-append (r ∷ k) l = cc (traceBytes-append k l, append-assoc (recordBytes r) (traceBytes k) (traceBytes l))
 
 map-append : {A B : Type 0} (f : A → B) (k l : List A) → map f (k ++ l) ≡ map f k ++ map f l
 map-append f [] l = refl
-map-append f (x ∷ k) l = ap (λ r. f x ∷ r) (map-append f k l)
+map-append f (x ∷ k) l = cc (map-append f k l)
 
 -- of records, newest first
 abbrev pub inOrder : List Logged → List Record
 inOrder l = map (λ r. r .entry) (reverse l)
 
 pub in-order-cons : (r : Logged) (l : List Logged) → inOrder (r ∷ l) ≡ inOrder l ++ (r .entry ∷ [])
-in-order-cons r l = ap (map (λ r. r .entry)) (reverse-cons r l) ∙ map-append (λ r. r .entry) (reverse l) (r ∷ [])
+in-order-cons r l = cc (reverse-cons r l, map-append (λ r. r .entry) (reverse l) (r ∷ []))
 
 pub bytes-cons : (r : Logged) (l : List Logged) → traceBytes (inOrder (r ∷ l)) ≡ traceBytes (inOrder l) ++ recordBytes (r .entry)
-bytes-cons r l = ap traceBytes (in-order-cons r l) ∙ traceBytes-append (inOrder l) (r .entry ∷ []) ∙ ap (λ (x : List ℕ). traceBytes (inOrder l) ++ x) (one (r .entry))
+bytes-cons r l = cc (in-order-cons r l, traceBytes-append (inOrder l) (r .entry ∷ []), one (r .entry))
   where
     one : (r : Record) → traceBytes (r ∷ []) ≡ recordBytes r
-    one r = unfold traceBytes in mathlib.Core.List.append-nil (recordBytes r)
+    one r = unfold traceBytes in mathlib.Core.List.append-nil _
 
 -- ---- One record more
 
@@ -81,18 +57,18 @@ unfolding recordsOf
 traced-like {m} s s′ r w e turns h =
     record {
       rules = h .rules;
-      records = subst (Each (λ (x : Logged). InModel m (x .entry))) (sym r) (h .records);
-      written = w ∙ h .written ∙ ap (λ (l : List Logged). length (traceBytes (inOrder l))) (sym r);
+      records = rw r (h .records);
+      written = cc (w, h .written, r);
       fits = omega arith;
-      entries = λ b names. ap (λ (l : List ℕ). nth l b 0) e ∙ h .entries b names ∙ ap (atBlock 0 b) (sym r);
-      number = omega (arith, ap length r, h .number);
+      entries = λ b names. cc (e, h .entries b names, r);
+      number = omega (arith, ap length r);
     }
 
 -- the count of a record at its own block and elsewhere
 pub at-block-cons : (outcome block : ℕ) (r : Logged) (l : List Logged)
     → atBlock outcome block (r ∷ l) ≡ bit (eqb (r .entry .outcome) outcome && eqb (r .entry .block) block) + atBlock outcome block l
 unfolding atBlock
-at-block-cons outcome block r l = count-cons (λ r. eqb (r .entry .outcome) outcome && eqb (r .entry .block) block) r l
+at-block-cons outcome block r l = count-cons (λ r. eqb _ outcome && eqb _ block) r l
 
 module _ {m : BlockModel} {room : ℕ} (t : Transaction) (s x : State) (ok : (o : ℕ) → o ≤ 1 → InModel m (recordOf o t s))
     (h : Traced m room x) (left : x .written + recordRoom ≤ room) (few : length (x .records) < x .turns) (len : length (x .view .entries) ≡ length (m .blocks)) where
@@ -100,24 +76,24 @@ module _ {m : BlockModel} {room : ℕ} (t : Transaction) (s x : State) (ok : (o 
   unfolding recordsOf
   longer o le =
       let r : Logged = record { entry = recordOf o t s; priority = t .priority } in
-      omega (arith, h .written, ap length (bytes-cons r (x .records)), length-append (traceBytes (inOrder (x .records))) (recordBytes (recordOf o t s)))
+      omega (arith, ap length (bytes-cons r (x .records)), length-append (traceBytes (inOrder (x .records))) (recordBytes (recordOf o t s)))
 
   short : (o : ℕ) → o ≤ 1 → x .written + length (recordBytes (recordOf o t s)) ≤ room
   short o le =
-      let kept : inRanges inForce (recordOf o t s) ≡ true = subst (λ (q : Rules). inRanges q (recordOf o t s) ≡ true) (h .rules) (ok o le .ranges) in
-      omega (arith, record-room (recordOf o t s) kept)
+      let kept = rw (h .rules) at (ok o le .ranges) in
+      omega (arith, record-room _ kept)
 
   counted : (b : ℕ) → Names (length (m .blocks)) b
       → nth (set (x .view .entries) (t .next - 1) (suc (nth (x .view .entries) (t .next) 0))) b 0
       ≡ atBlock 0 b (record { entry = recordOf 0 t s; priority = t .priority } ∷ x .records)
   unfolding recordOf
-  counted b names = go (eqb (t .next) b) refl
+  counted b names = go _ refl
     where
       here : Names (length (m .blocks)) (t .next)
       here = ok 0 (omega arith) .block
 
       more : atBlock 0 b (record { entry = recordOf 0 t s; priority = t .priority } ∷ x .records) ≡ bit (eqb (t .next) b) + atBlock 0 b (x .records)
-      more = at-block-cons 0 b (record { entry = recordOf 0 t s; priority = t .priority }) (x .records)
+      more = at-block-cons 0 b (record { entry = recordOf 0 t s; priority = t .priority }) _
 
       go : (c : Bool) → eqb (t .next) b ≡ c
           → nth (set (x .view .entries) (t .next - 1) (suc (nth (x .view .entries) (t .next) 0))) b 0
@@ -129,7 +105,7 @@ module _ {m : BlockModel} {room : ℕ} (t : Transaction) (s x : State) (ok : (o 
             more,
             ap bit e,
             ap (λ (i : ℕ). nth (set (x .view .entries) (t .next - 1) (suc (nth (x .view .entries) (t .next) 0))) i 0) is,
-            getD-set-same (x .view .entries) (t .next - 1) (suc (nth (x .view .entries) (t .next) 0)) 0 (omega (arith, here .0, here .1)),
+            getD-set-same (x .view .entries) (t .next - 1) (suc (nth (x .view .entries) (t .next) 0)) 0 (omega arith),
             ap (λ (i : ℕ). nth (x .view .entries) i 0) is,
             h .entries b names,
           )
@@ -138,12 +114,12 @@ module _ {m : BlockModel} {room : ℕ} (t : Transaction) (s x : State) (ok : (o 
             arith,
             more,
             ap bit e,
-            getD-set-other (x .view .entries) (t .next - 1) (b - 1) (suc (nth (x .view .entries) (t .next) 0)) 0 (apart (eqb-false _ _ e)),
+            getD-set-other (x .view .entries) _ _ (suc (nth (x .view .entries) (t .next) 0)) 0 (apart (eqb-false _ _ e)),
             h .entries b names,
           )
         where
           apart : (t .next ≡ b → ⊥) → b - 1 ≡ t .next - 1 → ⊥
-          apart ne q = ne (omega (arith, here .0, names .0))
+          apart ne q = ne (omega (arith, here .0))
 
   waited : (b : ℕ) → atBlock 0 b (record { entry = recordOf 1 t s; priority = t .priority } ∷ x .records) ≡ atBlock 0 b (x .records)
   unfolding recordOf
@@ -166,7 +142,7 @@ module _ {m : BlockModel} {room : ℕ} (t : Transaction) (s x : State) (ok : (o 
         records = (ok 1 (omega arith), h .records);
         written = longer 1 (omega arith);
         fits = short 1 (omega arith);
-        entries = λ b names. h .entries b names ∙ sym (waited b);
+        entries = λ b names. cc (h .entries b names, waited b);
         number = omega arith;
       }
   traced-note noNote = h
@@ -188,29 +164,28 @@ module _ {m : BlockModel} {tape : List (List ℕ)} (proper : Proper m tape) {roo
   in-model : (t : Transaction) → x .moving ≡ some t → (o : ℕ) → o ≤ 1 → InModel m (recordOf o t x)
   unfolding recordOf
   in-model t e o le =
-      let number : Names (s .made) (t .number) = numbered-taken m tape s (sure .sound) t e in
-      let place : Placed m t = subst (Maybe (Placed m)) e (sane .placed .moving) in
-      let few : s .made ≤ 100000000 = omega (arith, sure .sane .made, sure .sane .serials) in
-      let r : Ranges (recordOf o t x) =
+      let number = numbered-taken m tape s (sure .sound) t e in
+      let place = rw e at (sane .placed .moving) in
+      let r : Ranges _ =
       record {
         clock = sane .timely .clock;
         first = number .0;
-        transaction = omega (arith, number .1);
+        transaction = omega arith;
         one = place .0 .0;
-        block = omega (arith, place .0 .1, proper .blocks .1);
+        block = omega arith;
         outcome = le;
       } in
-      record { ranges = subst (λ (q : Rules). inRanges q (recordOf o t x) ≡ true) (sym (sane .rules)) (in-ranges (recordOf o t x) r); block = place .0 }
+      record { ranges = rw (sane .rules) (in-ranges (recordOf o t x) r); block = place .0 }
 
   after : {s′ : State} → Turned x s′ → Traced m room s → Traced m room s′
   after {s′} (unnoted g) h =
-      traced-like s s′ (g .records ∙ k .records) (g .written ∙ k .written) (g .entries ∙ k .entries) (omega (arith, g .turns)) h
+      traced-like s s′ (g .records ∙ k .records) (g .written ∙ k .written) (g .entries ∙ k .entries) (omega arith) h
   after {s′} (noted t e n later w g) h =
-      let b : Gains (w .new) 255 1 x later = w .gains in
-      let h′ : Traced m room later = traced-like s later (b .records ∙ k .records) (b .written ∙ k .written) (b .entries ∙ k .entries) (omega (arith, b .turns)) h in
-      traced-like (noteAs n t x later) s′ (g .records) (g .written) (g .entries) (omega (arith, g .turns))
-      (traced-note t x later (in-model t e) h′ (omega (arith, b .written, k .written))
-      (omega (arith, ap length (b .records), ap length (k .records), h .number, b .turns)) (ap length (b .entries) ∙ sane .shape .entry-length) n)
+      let b = w .gains in
+      let h′ = traced-like s later (b .records ∙ k .records) (b .written ∙ k .written) (b .entries ∙ k .entries) (omega arith) h in
+      traced-like _ s′ (g .records) (g .written) (g .entries) (omega arith)
+      (traced-note t x later (in-model t e) h′ (omega (arith, k .written))
+      (omega (arith, ap length (b .records), ap length (k .records), b .turns)) (cc (b .entries, sane .shape .entry-length)) n)
 
   pub traced-turn : Traced m room s → Traced m room (turn m s)
   unfolding turn
@@ -232,7 +207,7 @@ module _ {m : BlockModel} {tape : List (List ℕ)} (proper : Proper m tape) (rul
         records = tt;
         written = refl;
         fits = omega arith;
-        entries = λ b names. getD-replicate (length (m .blocks)) (b - 1) 0 0 (omega arith);
+        entries = λ b names. getD-replicate (length (m .blocks)) _ 0 0 (omega arith);
         number = omega arith;
       }
 
@@ -241,7 +216,7 @@ module _ {m : BlockModel} {tape : List (List ℕ)} (proper : Proper m tape) (rul
       let g = start-is proper rules in
       record {
         sure = sure-start proper rules;
-        traced = traced-like (idle m tape) (start m tape) (g .records) (g .written) (g .entries) (omega (arith, g .turns)) traced-idle;
+        traced = traced-like _ _ (g .records) (g .written) (g .entries) (omega arith) traced-idle;
       }
 
   module _ (budget : ℕ) where
@@ -254,4 +229,4 @@ module _ {m : BlockModel} {tape : List (List ℕ)} (proper : Proper m tape) (rul
 
     pub kept-end : (s : State) (e : ℕ) → (e ≡ 0 → ⊥) → Kept m tape room s → Kept m tape room (setEnd e s)
     kept-end s e ends h =
-        record { sure = sure-end m tape s e ends (h .sure); traced = traced-like s (setEnd e s) refl refl refl (omega arith) (h .traced) }
+        record { sure = sure-end m tape s e ends (h .sure); traced = traced-like s _ refl refl refl (omega arith) (h .traced) }

@@ -1,19 +1,7 @@
 -- What a block does apart from its record: the machine's `answer` split into the effect on lists, servers, queues and counts,
 -- and the note of the record, which the engine makes in one place. The law that the two together are `answer` is
 -- proofs/Noted.antt.
-use Prim.Native.Nat.{ℕ, zero, suc, _+_}
-use mathlib.Core.Bool.{cond}
-use mathlib.Core.List.{_∷_}
-use mathlib.Core.Option.{none}
-use lib.ListN.{length}
-use Rattle.machine.specs.Transaction.{Transaction}
-use Rattle.machine.specs.Lists.{nth, setNth}
-use Rattle.machine.specs.Trace.{recordBytes}
-use Rattle.machine.specs.Block.{Block, BlockModel}
-use Rattle.machine.specs.State.{State}
-use Rattle.machine.specs.Setters.{withSerial, setEntries, setView, setSerial, setMoving, setEnd, setRecords, setWritten}
-use Rattle.machine.specs.Moves.{recordOf, fresh}
-use Rattle.machine.specs.Execute.{doing}
+use Rattle.machine.specs.All.{ℕ, zero, suc, _+_, cond, _∷_, none, length, Transaction, nth, setNth, recordBytes, Block, BlockModel, State, withSerial, setEntries, setView, setSerial, setMoving, setEnd, setRecords, setWritten, recordOf, fresh, doing}
 
 -- Which record a block writes: outcome 0, outcome 1, or none, for a returner that is put back, for one that goes back and for a turn that
 -- a question stops.

@@ -4,3 +4,4 @@ pub mod Bare
 pub mod ScalarSetters
 pub mod Stands
 pub mod Sane
+pub mod All

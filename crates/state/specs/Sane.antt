@@ -1,18 +1,6 @@
 -- What holds of the machine's states within a turn and lets 32-bit rows and 64-bit sums hold their numbers. These facts are
 -- the machine's own (proofs/ of crate machine and proofs/Sanity.antt); no buffer is spoken of.
-use Prim.Native.Nat.{ℕ, _+_, _*_, _-_, _≤_, _<_}
-use mathlib.Core.Path.{_≡_}
-use mathlib.Core.Bool.{false}
-use mathlib.Core.List.{[]}
-use lib.ListN.{length}
-use Rattle.machine.specs.Rules.{inForce}
-use Rattle.machine.specs.Limits.{maxTurns, maxCounter, maxLiving, maxCapacity}
-use Rattle.machine.specs.Transaction.{Event}
-use Rattle.machine.specs.Term.{Server, Queue, serverAt}
-use Rattle.machine.specs.Block.{facts, BlockModel, blockAt}
-use Rattle.machine.specs.State.{State}
-use Rattle.machine.specs.Moves.{gatherersAt, interruptedAt}
-use Rattle.machine.specs.Claims.{Each, standing}
+use Rattle.machine.specs.All.{ℕ, _+_, _*_, _-_, _≤_, _<_, _≡_, false, [], length, inForce, maxTurns, maxCounter, maxLiving, maxCapacity, Event, Server, Queue, serverAt, facts, BlockModel, blockAt, State, gatherersAt, interruptedAt, Each, standing}
 use Rattle.machine.proofs.decoding.Proper.{Names}
 use Rattle.machine.proofs.runs.Shape.{Shape}
 use Rattle.machine.proofs.runs.Placed.{Placed}

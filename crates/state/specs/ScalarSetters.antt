@@ -1,5 +1,5 @@
 -- One setter for each field of the scalars; there is no update syntax for records. Nothing here needs reading.
-use Prim.Native.Nat.{ℕ}
+use Rattle.machine.specs.All.{ℕ}
 use Rattle.state.specs.declared.scalars.Scalars.{Scalars}
 
 abbrev pub putClock : ℕ → Scalars → Scalars

@@ -1,26 +1,10 @@
 -- When scalars, work buffer and tally stand for a state of the machine. Every block kind's law is stated over this relation.
 -- Each part is said of those parts of the state that it reads, so that it is the same for states that differ elsewhere. The trace stands
 -- apart (crate turn, specs/Writes).
-use Prim.Native.Nat.{ℕ, suc, _+_, _-_, _%_, _<_, _≤_}
-use mathlib.Core.Path.{_≡_}
-use mathlib.Core.Bool.{false, cond, _&&_}
-use mathlib.Core.List.{List, [], map}
-use mathlib.Core.Option.{Option, none, some}
-use lib.Dec.{ltb, eqb}
-use lib.ListN.{length, getD}
-use Rattle.machine.specs.Limits.{maxQueues, maxLists, maxBlocks}
-use Rattle.machine.specs.Transaction.{Transaction, Event, Gatherer, Interrupted}
-use Rattle.machine.specs.Lists.{bit, nth, those, upTo}
-use Rattle.machine.specs.Setters.{withNext, withStamp}
-use Rattle.machine.specs.Term.{Server, Queue, View, idleServer, emptyQueue}
-use Rattle.machine.specs.State.{State, Logged}
-use Rattle.machine.specs.Moves.{ofFacility}
-use Rattle.machine.specs.Claims.{count}
+use Rattle.machine.specs.All.{ℕ, suc, _+_, _-_, _%_, _<_, _≤_, _≡_, false, cond, _&&_, List, [], map, Option, none, some, ltb, eqb, length, getD, maxQueues, maxLists, maxBlocks, Transaction, Event, Gatherer, Interrupted, bit, nth, those, upTo, withNext, withStamp, Server, Queue, View, idleServer, emptyQueue, State, Logged, ofFacility, count}
 use Rattle.tables.specs.Layout as Layout
-use Rattle.tables.specs.Represents.{TimesAt}
-use Rattle.rows_laws.specs.Holds.{transactionAt}
-use Rattle.rows_laws.specs.Shows.{Shows, Loose}
-use Rattle.rows_laws.specs.Layout.{free, rowCount, wels, wsl, rel, gatherers, interrupted}
+use Rattle.tables.specs.All.{TimesAt}
+use Rattle.rows_laws.specs.All.{transactionAt, Shows, Loose, free, rowCount, wels, wsl, rel, gatherers, interrupted}
 use Rattle.state.specs.declared.scalars.Scalars.{Scalars}
 use Rattle.state.specs.Statistics.{behind, sumNow, longestNow}
 use Rattle.state.specs.Bare.{Note, enteredNote, waitsNote, noNote, Bare}

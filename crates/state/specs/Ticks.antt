@@ -1,7 +1,5 @@
 -- A count of units, waiters or contents over some ticks, as a product of 64 bits.
-use Prim.Native.Nat.{ℕ, _*_}
-use mathlib.Core.Bool.{cond}
-use lib.Dec.{ltb}
+use Rattle.machine.specs.All.{ℕ, _*_, cond, ltb}
 
 -- no run counts so many: 2 to the 28
 abbrev pub countEnd : ℕ

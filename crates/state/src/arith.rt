@@ -1,7 +1,6 @@
 // Sums and differences that never trap: a sum stops at the largest number, a difference at 0.
-ghost use mathlib.Core.Path.{_≡_};
-ghost use Prim.Native.Nat.{_+_, _-_, _≤_, min};
-ghost use Rattle.tables.specs.Layout.{most32, most64};
+ghost use Rattle.machine.specs.All.{_≡_, _+_, _-_, _≤_, min};
+ghost use Rattle.tables.specs.All.{most32, most64};
 ghost use Rattle.state.specs.Ticks as Ticks;
 
 pub fn plus32(a: u32, b: u32) -> u32

@@ -1,5 +1,5 @@
 use rows::ROWS;
-ghost use mathlib.Core.Path.{_≡_};
+ghost use Rattle.machine.specs.All.{_≡_};
 
 pub const NOBODY: u32 = ROWS;
 

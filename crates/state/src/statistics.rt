@@ -18,10 +18,8 @@ use tables::UNIT_TICKS;
 use tables::WAIT_TICKS;
 use tables::count;
 use tables::set_count;
-ghost use mathlib.Core.Path.{_≡_};
-ghost use Prim.Native.Nat.{_+_, _<_, _≤_, max};
-ghost use Rattle.machine.specs.Limits.{maxQueues};
-ghost use Rattle.tables.specs.Layout.{serverCount, measuredCount};
+ghost use Rattle.machine.specs.All.{_≡_, _+_, _<_, _≤_, max, maxQueues};
+ghost use Rattle.tables.specs.All.{serverCount, measuredCount};
 ghost use Rattle.state.specs.Ticks.{mostTicks};
 ghost use Rattle.state.specs.Statistics.{ticksSince, behind, sumNow, longestNow, see, storeServer, updateServer, storeQueue, updateQueue};
 

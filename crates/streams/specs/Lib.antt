@@ -1,1 +1,2 @@
 pub mod Stream
+unfoldable pub use Stream.*

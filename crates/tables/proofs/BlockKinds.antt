@@ -1,16 +1,7 @@
 -- One walk through all kinds: a block is one that counts, statistics, the start or the WS scheme ask for by its number, or it is
 -- none of these, and then neither its number nor its facts say anything to them.
-use Prim.Native.Nat.{ℕ, zero, suc}
-use mathlib.Core.Path.{_≡_, refl, _∙_}
-use mathlib.Core.Bool.{Bool, true, false, _||_, true≢false}
-use mathlib.Core.List.{List, _∷_}
-use mathlib.Core.Option.{Option, none}
-use lib.Dec.{eqb}
-use Rattle.machine.specs.Term.{Term, Relation, Condition, always, whenTrue}
-use Rattle.machine.specs.Facts.{Facts}
-use Rattle.machine.specs.Block.{Code, Share, facility, storage, up, down, Block, generate, advance, terminate, takes, frees, waitServer, waitTerms, moves, assign, priority, split, counts, assemble, preempt, giveBack, facts}
-use Rattle.tables.specs.Numbers.{blockNumbers}
-use Rattle.tables.specs.Forms.{blockForms}
+use Rattle.machine.specs.All.{ℕ, zero, suc, _≡_, refl, Bool, true, false, _||_, true≢false, List, _∷_, Option, none, eqb, Term, Relation, Condition, always, whenTrue, Facts, Code, Share, facility, storage, up, down, Block, generate, advance, terminate, takes, frees, waitServer, waitTerms, moves, assign, priority, split, counts, assemble, preempt, giveBack, facts}
+use Rattle.tables.specs.All.{blockNumbers, blockForms}
 
 -- ---- Definition
 

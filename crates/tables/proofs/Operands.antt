@@ -1,14 +1,7 @@
 -- The numbers of a block in the tables.
-use Prim.Native.Nat.{ℕ, _+_, _-_, _*_, _<_}
-use mathlib.Core.Path.{_≡_, sym, ap, _∙_, subst}
-use mathlib.Core.List.{List}
-use native.Mathlib.Omega.{arith}
-use lib.ListN.{length, getD, drop}
-use lib.Seq.{getD-take, getD-drop}
-use Rattle.machine.specs.Block.{Block, BlockModel, blockAt}
+use Rattle.machine.specs.All.{ℕ, _+_, _-_, _*_, _<_, _≡_, sym, ap, _∙_, subst, List, arith, length, getD, drop, getD-take, getD-drop, Block, BlockModel, blockAt}
 use Rattle.machine.proofs.decoding.Proper.{Names}
-use Rattle.tables.specs.Numbers.{blockNumbers}
-use Rattle.tables.specs.Represents.{At, Represents}
+use Rattle.tables.specs.All.{blockNumbers, At, Represents}
 
 pub at-number : (l : List ℕ) (at : ℕ) (numbers : List ℕ) (i : ℕ) → i < length numbers → At l at numbers → getD l (at + i) 0 ≡ getD numbers i 0
 at-number l at numbers i h found =

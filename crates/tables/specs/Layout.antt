@@ -1,8 +1,6 @@
 -- Where things stand in the two arrays of a run, by index. `tables`, filled once by decoding: the program, the values, the
 -- capacities and the edition. `tally`, the 64-bit numbers that change: entries, units, contents, sums, and where each sample list goes on.
-use Prim.Native.Nat.{ℕ, _+_, _≤_}
-use mathlib.Core.List.{List}
-use lib.ListN.{length}
+use Rattle.machine.specs.All.{ℕ, _≤_, List, length}
 
 -- ---- sizes
 

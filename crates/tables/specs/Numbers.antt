@@ -1,9 +1,6 @@
 -- The numbers that stand for a term, a sum or a block in the tables. Whatever is used as an index (a parameter, a block whose
 -- entries are asked for, a queue, a server, a value, a list) is stored from 0; targets are block numbers, from 1.
-use Prim.Native.Nat.{ℕ, zero, suc, _+_, _-_}
-use mathlib.Core.List.{List, [], _∷_, _++_}
-use Rattle.machine.specs.Term.{Relation, equal, unequal, less, atMost, greater, atLeast, Term, constant, minusConstant, parameter, clockTerm, entriesOf, contentOf, unitsInUse, unitsFree, facilityInUse, value, comparison, bracket, Condition, always, whenTrue, Sum, nothing, plus, minus}
-use Rattle.machine.specs.Block.{Code, codeIndex, Share, facility, storage, Change, up, down, Block, generate, advance, terminate, takes, frees, waitServer, waitTerms, moves, assign, priority, split, counts, assemble, preempt, giveBack}
+use Rattle.machine.specs.All.{ℕ, zero, suc, _-_, List, [], _∷_, _++_, Relation, equal, unequal, less, atMost, greater, atLeast, Term, constant, minusConstant, parameter, clockTerm, entriesOf, contentOf, unitsInUse, unitsFree, facilityInUse, value, comparison, bracket, Condition, always, whenTrue, Sum, nothing, plus, minus, Code, codeIndex, Share, facility, storage, Change, up, down, Block, generate, advance, terminate, takes, frees, waitServer, waitTerms, moves, assign, priority, split, counts, assemble, preempt, giveBack}
 
 unfoldable pub relationNumber : Relation → ℕ
 relationNumber equal = 1

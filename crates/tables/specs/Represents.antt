@@ -1,19 +1,7 @@
 -- When header, tables and list cells stand for a model and a tape of the machine.
-use Prim.Native.Nat.{ℕ, suc, _+_, _*_, _-_, _<_}
-use mathlib.Core.Path.{_≡_}
-use mathlib.Core.Bool.{Bool, true, false, _&&_}
-use mathlib.Core.List.{List, [], _++_}
-use lib.Dec.{leb, T}
-use lib.ListN.{length, getD, take, drop, replicate}
+use Rattle.machine.specs.All.{ℕ, suc, _+_, _*_, _<_, _≡_, Bool, true, false, _&&_, List, [], _++_, leb, T, length, getD, take, drop, replicate, inForce, maxConstant, maxLists, Cursor, parsed, times, fieldUpTo, View, evaluate, Term, constant, minusConstant, parameter, clockTerm, entriesOf, contentOf, unitsInUse, unitsFree, facilityInUse, value, comparison, bracket, Sum, nothing, plus, minus, Block, terminate, facts, BlockModel, allOf, Thing, theClock, entry, Watches, Spares}
 use lib.IntN.{ℤ}
-use Rattle.machine.specs.Rules.{inForce}
-use Rattle.machine.specs.Limits.{maxConstant, maxLists}
-use Rattle.machine.specs.Parser.{Cursor, parsed, times, fieldUpTo}
-use Rattle.machine.specs.Term.{View, evaluate, Term, constant, minusConstant, parameter, clockTerm, entriesOf, contentOf, unitsInUse, unitsFree, facilityInUse, value, comparison, bracket, Sum, nothing, plus, minus}
-use Rattle.machine.specs.Block.{Block, terminate, facts, BlockModel}
-use Rattle.machine.specs.Validate.{allOf}
 use Rattle.constants.specs.declared.model.Model.{Model}
-use Rattle.machine.specs.Watched.{Thing, theClock, entry, Watches, Spares}
 use Rattle.tables.specs.Layout as Layout
 use Rattle.tables.specs.Numbers.{sumNumbers, blockNumbers}
 

@@ -1,8 +1,7 @@
 // The layout of a run's two arrays, as constants (specs/Layout). `TABLES` numbers of 32 bits are filled once by decoding;
 // `TALLY` numbers of 64 bits change with the run.
 use constants::Model;
-ghost use mathlib.Core.Path.{_≡_};
-ghost use lib.ListN.{getD, set};
+ghost use Rattle.machine.specs.All.{_≡_, getD, set};
 
 // The facilities, then the storages.
 pub const SERVERS: usize = Model::MAX_FACILITIES + Model::MAX_STORAGES;

@@ -1,9 +1,7 @@
 // One time from a distribution.
 use floats::Segment;
 use tapes_laws::Distribution;
-ghost use mathlib.Core.Path.{_≡_};
-ghost use mathlib.Core.List.{List};
-ghost use Prim.Native.Nat.{ℕ, _+_, _≤_, _<_};
+ghost use Rattle.machine.specs.All.{_≡_, List, ℕ, _+_, _≤_, _<_};
 ghost use Rattle.floats.specs.Limits.{drawParts, maxTime};
 ghost use Rattle.floats.specs.Value.{Is};
 ghost use Rattle.streams.specs.Stream.{Inside};

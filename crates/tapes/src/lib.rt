@@ -9,7 +9,7 @@ use streams::Started;
 use tapes_laws::Made;
 use write::measure;
 use write::write;
-ghost use lib.ListN.{length};
+ghost use Rattle.machine.specs.All.{length};
 ghost use Rattle.streams.specs.Stream.{Inside};
 ghost use Rattle.tapes_laws.specs.Given.{listsOf};
 ghost use Rattle.tapes_laws.specs.Held.{Maker};

@@ -1,27 +1,14 @@
 -- A curve's points, pure: read one after the other, and what they stand for when all were taken.
-use Prim.Native.Nat.{ℕ, zero, suc, _+_, _*_, _-_, _≤_, _<_}
-use native.Mathlib.Omega.{arith}
-use mathlib.Core.Bool.{Bool, true, false, cond, _&&_}
-use mathlib.Core.List.{List, [], _∷_}
-use mathlib.Core.Option.{Option, none, some}
-use mathlib.Core.Path.{_≡_, refl, sym, ap, _∙_, subst}
-use lib.Dec.{leb, ltb, eqb}
-use lib.Ieee.{Float, nan}
-use lib.ListN.{length, getD}
-use borrow.Author.Tests.{le-leb, lt-leb, lt-ltb, le-ltb, ltb-true, leb-true, eq-eqb, ne-eqb, eqb-true}
+use Rattle.machine.specs.All.{cases, ℕ, zero, suc, _+_, _-_, _≤_, _<_, arith, Bool, true, false, List, [], _∷_, Option, none, some, _≡_, refl, ap, _∙_, eqb, length, le-leb, lt-leb, lt-ltb, le-ltb, ltb-true, leb-true, eq-eqb, ne-eqb, eqb-true}
+use lib.Ieee.{Float}
 use Rattle.floats.specs.Limits.{drawParts}
 use Rattle.codec.proofs.Fields.{both-true}
 use Rattle.tapes_laws.specs.declared.Point.{Point as Corner}
 use Rattle.tapes_laws.specs.declared.Point.the-variants.{At, Refused as Unread}
 use Rattle.tapes_laws.specs.declared.Distribution.the-variants.{Curve}
 use Rattle.tapes_laws.specs.declared.Choice.the-variants.{Taken, Refused}
-use Rattle.tapes_laws.specs.Limits.{fewestPoints, mostPoints}
-use Rattle.tapes_laws.specs.Options.{continue, ask}
-use Rattle.tapes_laws.specs.Source.{Point, Source, curve}
-use Rattle.tapes_laws.specs.Given.{timeAt, uAt, pointAt, follows, pointsBehind, curveAt}
-use Rattle.tapes_laws.specs.Held.{PointIs, Points, Chosen}
-use Rattle.tapes_laws.specs.Answers.{corner, pointOf, stepOf, isGiven}
-use Rattle.tapes_laws.proofs.Reading.{none-some, time-inside, time-is, u-inside, u-is}
+use Rattle.tapes_laws.specs.{fewestPoints, mostPoints, continue, ask, Point, curve, timeAt, uAt, pointAt, follows, pointsBehind, curveAt, PointIs, Points, Chosen, corner, pointOf, stepOf, isGiven}
+use Rattle.tapes_laws.proofs.Reading.{none-some, time-inside, time-is, u-is}
 
 -- ---- One point
 
@@ -42,7 +29,7 @@ module _ (numbers : List Float) (at : ℕ) where
   -- what a point that was taken stands for
   pub point-is : (p : Point) → pointAt numbers at ≡ some p → PointIs numbers at p
   unfolding pointAt continue
-  point-is p e = go (uAt numbers at) refl e
+  point-is p e = go _ refl e
     where
       timed : (u : ℕ) → uAt numbers at ≡ some u → (o : Option ℕ) → timeAt numbers (at + 1) ≡ o →
           continue o (λ time. some (corner u time)) ≡ some p → PointIs numbers at p
@@ -50,10 +37,9 @@ module _ (numbers : List Float) (at : ℕ) where
       timed u f (some time) g h =
           let same : corner u time ≡ p = cc in
           let is-u = u-is numbers at f in
-          let is-time = time-is numbers (at + 1) g in
-          subst (λ (q : Point). PointIs numbers at q) same
-          (record {
-            inside = time-inside numbers (at + 1) g;
+          let is-time = time-is numbers _ g in
+          rw (← same) (record {
+            inside = time-inside numbers _ g;
             u-is = is-u .0;
             time-is = is-time .0;
             u-most = is-u .1;
@@ -63,16 +49,16 @@ module _ (numbers : List Float) (at : ℕ) where
       go : (o : Option ℕ) → uAt numbers at ≡ o →
           continue o (λ u. continue (timeAt numbers (at + 1)) (λ time. some (corner u time))) ≡ some p → PointIs numbers at p
       go none f h = none-some h
-      go (some u) f h = timed u f (timeAt numbers (at + 1)) refl h
+      go (some u) f h = timed u f _ refl h
 
 -- what an answer says
 pub pointed : {r : Corner} {o : Option Point} {u time : ℕ} → pointOf r ≡ o → r ≡ At u time → o ≡ some (corner u time)
 unfolding pointOf
-pointed e h = sym e ∙ ap pointOf h
+pointed e h = cc
 
 pub unpointed : {r : Corner} {o : Option Point} → pointOf r ≡ o → r ≡ Unread → o ≡ none
 unfolding pointOf
-unpointed e h = sym e ∙ ap pointOf h
+unpointed e h = cc
 
 pub no-point : {A : Type 0} {u time : ℕ} → Unread ≡ At u time → A
 no-point e = let z : _≡_ {A = ℕ} 0 1 = cc in absurd (omega arith)
@@ -82,10 +68,6 @@ point-inside numbers at p e = omega (arith, point-is numbers at p e .inside)
 
 -- ---- One point behind another
 
-step-facts : (p q : Point) → follows p q ≡ true → (p .u < q .u) × (p .time ≤ q .time)
-unfolding follows
-step-facts p q e = let t = both-true _ _ e in (ltb-true _ _ (t .0), leb-true _ _ (t .1))
-
 module _ (numbers : List Float) (at : ℕ) (p : Point) where
   pub step-none : pointAt numbers at ≡ none → none ≡ stepOf numbers at p
   unfolding stepOf continue
@@ -94,15 +76,15 @@ module _ (numbers : List Float) (at : ℕ) (p : Point) where
   module _ {q : Point} (e : pointAt numbers at ≡ some q) where
     pub step-back : q .u ≤ p .u → none ≡ stepOf numbers at p
     unfolding stepOf continue follows ask
-    step-back h = rw (e, le-ltb (p .u) (q .u) h)
+    step-back h = rw (e, le-ltb)
 
     pub step-falls : p .u < q .u → q .time < p .time → none ≡ stepOf numbers at p
     unfolding stepOf continue follows ask
-    step-falls h k = rw (e, lt-ltb (p .u) (q .u) h, lt-leb (p .time) (q .time) k)
+    step-falls h k = rw (e, lt-ltb, lt-leb)
 
     pub step-taken : p .u < q .u → p .time ≤ q .time → some q ≡ stepOf numbers at p
     unfolding stepOf continue follows ask
-    step-taken h k = rw (e, lt-ltb (p .u) (q .u) h, le-leb (p .time) (q .time) k)
+    step-taken h k = rw (e, lt-ltb, le-leb)
 
   -- with a step the points behind go on
   behind : (left : ℕ) → pointsBehind numbers (suc left) at p ≡ continue (stepOf numbers at p) (λ q. continue (pointsBehind numbers left (at + 2) q) (λ l. some (q ∷ l)))
@@ -119,12 +101,12 @@ module _ (numbers : List Float) (at : ℕ) (p : Point) where
           continue o (λ q. continue (ask (follows p q)) (λ a. continue (pointsBehind numbers left (at + 2) q) (λ l. some (q ∷ l))))
           ≡ continue (continue o (λ q. continue (ask (follows p q)) (λ a. some q))) (λ q. continue (pointsBehind numbers left (at + 2) q) (λ l. some (q ∷ l)))
       go none = refl
-      go (some q) = asked q (ask (follows p q))
+      go (some q) = asked q (ask _)
 
   pub behind-stops : (left : ℕ) → stepOf numbers at p ≡ none → 0 < left → false ≡ isGiven (pointsBehind numbers left at p)
   unfolding continue isGiven
   behind-stops zero e h = absurd (omega arith)
-  behind-stops (suc left) e h = rw (behind left, e)
+  behind-stops (suc left) e h = rw (behind, e)
 
   pub behind-goes : (left : ℕ) (q : Point) → stepOf numbers at p ≡ some q → 0 < left →
       isGiven (pointsBehind numbers (left - 1) (at + 2) q) ≡ isGiven (pointsBehind numbers left at p)
@@ -132,8 +114,8 @@ module _ (numbers : List Float) (at : ℕ) (p : Point) where
   behind-goes zero q e h = absurd (omega arith)
   behind-goes (suc left) q e h =
       let one : suc left - 1 ≡ left = omega arith in
-      ap (λ (n : ℕ). isGiven (pointsBehind numbers n (at + 2) q)) one
-      ∙ rw (behind left, e) (same (pointsBehind numbers left (at + 2) q))
+      ap (λ n. isGiven (pointsBehind numbers n (at + 2) q)) one
+      ∙ rw (behind, e) (same (pointsBehind numbers left _ q))
     where
       same : (o : Option (List Point)) → isGiven o ≡ isGiven (continue o (λ l. some (q ∷ l)))
       same none = refl
@@ -141,7 +123,7 @@ module _ (numbers : List Float) (at : ℕ) (p : Point) where
 
 pub behind-ends : (numbers : List Float) (left at : ℕ) (p : Point) → left ≤ 0 → eqb (p .u) drawParts ≡ isGiven (pointsBehind numbers left at p)
 unfolding pointsBehind continue ask isGiven
-behind-ends numbers zero at p h = go (eqb (p .u) drawParts)
+behind-ends numbers zero at p h = go _
   where
     go : (t : Bool) → t ≡ isGiven {A = List Point} (continue (ask t) (λ a. some []))
     go true = refl
@@ -156,73 +138,70 @@ Rest numbers left at = (q : Point) (m : List Point) → PointIs numbers (at + 2)
 pub behind-points : (numbers : List Float) (left at : ℕ) (p : Point) (l : List Point) → PointIs numbers at p →
     pointsBehind numbers left (at + 2) p ≡ some l → Points numbers at p l
 unfolding pointsBehind continue ask
-behind-points numbers zero at p l is e = go (eqb (p .u) drawParts) refl e
-  where
-    go : (t : Bool) → eqb (p .u) drawParts ≡ t → continue (ask t) (λ a. some []) ≡ some l → Points numbers at p l
-    go false f h = none-some h
-    go true f h =
-        let same : [] ≡ l = cc in
-        subst (λ (m : List Point). Points numbers at p m) same (is, eqb-true _ _ f)
-behind-points numbers (suc left) at p l is e = found (λ q m. behind-points numbers left (at + 2) q m) (pointAt numbers (at + 2)) refl e
+behind-points numbers zero at p l is e =
+    cases (eqb (p .u) drawParts)
+    (λ f. let same : [] ≡ l = cc in
+    rw (← same) (is, eqb-true _ _ f))
+    (λ f. none-some (rw f at e))
+behind-points numbers (suc left) at p l is e = found (λ q m. behind-points numbers left _ q m) _ refl e
   where
     behind-it : Rest numbers left at → (q : Point) → pointAt numbers (at + 2) ≡ some q → (p .u < q .u) × (p .time ≤ q .time) → (o : Option (List Point)) →
         pointsBehind numbers left (at + 2 + 2) q ≡ o → continue o (λ m. some (q ∷ m)) ≡ some l → Points numbers at p l
     behind-it rest q f steps none g h = none-some h
     behind-it rest q f steps (some m) g h =
         let same : q ∷ m ≡ l = cc in
-        subst (λ (k : List Point). Points numbers at p k) same
-        (is, steps, rest q m (point-is numbers (at + 2) q f) g)
+        rw (← same) (is, steps, rest q m (point-is numbers _ q f) g)
 
     asked : Rest numbers left at → (q : Point) → pointAt numbers (at + 2) ≡ some q → (t : Bool) → follows p q ≡ t →
         continue (ask t) (λ a. continue (pointsBehind numbers left (at + 2 + 2) q) (λ m. some (q ∷ m))) ≡ some l → Points numbers at p l
     asked rest q f false g h = none-some h
-    asked rest q f true g h = behind-it rest q f (step-facts p q g) (pointsBehind numbers left (at + 2 + 2) q) refl h
+    asked rest q f true g h = behind-it rest q f (unfold follows in let t = both-true _ _ g in (ltb-true _ _ (t .0), leb-true _ _ (t .1))) _ refl h
 
     found : Rest numbers left at → (o : Option Point) → pointAt numbers (at + 2) ≡ o →
         continue o (λ q. continue (ask (follows p q)) (λ a. continue (pointsBehind numbers left (at + 2 + 2) q) (λ m. some (q ∷ m)))) ≡ some l → Points numbers at p l
     found rest none f h = none-some h
-    found rest (some q) f h = asked rest q f (follows p q) refl h
+    found rest (some q) f h = asked rest q f _ refl h
 
 -- ---- The curve
 
 module _ (numbers : List Float) (first points : ℕ) where
   pub curve-few : points < fewestPoints → Chosen numbers Refused (curveAt numbers first points)
   unfolding curveAt continue ask
-  curve-few h = rw (lt-leb fewestPoints points h) tt
+  curve-few h = rw lt-leb tt
 
   module _ (some-points : fewestPoints ≤ points) where
     pub curve-many : mostPoints < points → Chosen numbers Refused (curveAt numbers first points)
     unfolding curveAt continue ask
-    curve-many h = rw (le-leb fewestPoints points some-points, lt-leb points mostPoints h) tt
+    curve-many h = rw (le-leb, lt-leb) tt
 
     module _ (few : points ≤ mostPoints) where
       pub curve-no-point : pointAt numbers first ≡ none → Chosen numbers Refused (curveAt numbers first points)
       unfolding curveAt continue ask
-      curve-no-point e = rw (le-leb fewestPoints points some-points, le-leb points mostPoints few, e) tt
+      curve-no-point e = rw (le-leb, le-leb, e) tt
 
       module _ {p : Point} (e : pointAt numbers first ≡ some p) where
         pub curve-late : (p .u ≡ 0 → ⊥) → Chosen numbers Refused (curveAt numbers first points)
         unfolding curveAt continue ask
-        curve-late h = rw (le-leb fewestPoints points some-points, le-leb points mostPoints few, e, ne-eqb (p .u) 0 h) tt
+        curve-late h = rw (le-leb, le-leb, e, ne-eqb) tt
 
         module _ (start : p .u ≡ 0) where
           rest : curveAt numbers first points ≡ continue (pointsBehind numbers (points - 1) (first + 2) p) (λ l. some (curve p l))
           unfolding curveAt continue ask
-          rest = rw (le-leb fewestPoints points some-points, le-leb points mostPoints few, e, eq-eqb (p .u) 0 start)
+          rest = rw (le-leb, le-leb, e, eq-eqb)
 
           pub curve-broken : false ≡ isGiven (pointsBehind numbers (points - 1) (first + 2) p) → Chosen numbers Refused (curveAt numbers first points)
           unfolding continue isGiven
-          curve-broken h = rw rest (go (pointsBehind numbers (points - 1) (first + 2) p) h)
+          curve-broken h = rw rest (go (pointsBehind numbers _ _ p) h)
             where
               go : (o : Option (List Point)) → false ≡ isGiven o → Chosen numbers Refused (continue o (λ l. some (curve p l)))
               go none h = tt
-              go (some l) h = let z : _≡_ {A = ℕ} 0 1 = ap (λ (b : Bool). cond b 1 0) h in absurd (omega arith)
+              go (some l) h = let z : _≡_ {A = ℕ} 0 1 = cc h in absurd (omega arith)
 
           pub curve-taken : true ≡ isGiven (pointsBehind numbers (points - 1) (first + 2) p) → Chosen numbers (Taken (Curve first)) (curveAt numbers first points)
           unfolding continue isGiven
-          curve-taken h = rw rest (go (pointsBehind numbers (points - 1) (first + 2) p) refl h)
+          curve-taken h = rw rest (go _ refl h)
             where
               go : (o : Option (List Point)) → pointsBehind numbers (points - 1) (first + 2) p ≡ o → true ≡ isGiven o →
                   Chosen numbers (Taken (Curve first)) (continue o (λ l. some (curve p l)))
-              go none f h = let z : _≡_ {A = ℕ} 0 1 = ap (λ (b : Bool). cond b 1 0) (sym h) in absurd (omega arith)
-              go (some l) f h = (start, behind-points numbers (points - 1) first p l (point-is numbers first p e) f)
+              go none f h = let z : _≡_ {A = ℕ} 0 1 = cc h in absurd (omega arith)
+              go (some l) f h = (start, behind-points numbers _ first p l (point-is numbers first p e) f)

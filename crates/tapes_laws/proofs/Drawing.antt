@@ -1,25 +1,17 @@
 -- A draw, pure: the walk to the segment around u, and the time that each kind of distribution gives.
-use Prim.Native.Nat.{ℕ, zero, suc, _+_, _-_, _/_, _≤_, _<_}
-use native.Mathlib.Omega.{arith}
-use mathlib.Core.Bool.{Bool, true, false, cond}
-use mathlib.Core.List.{List, [], _∷_}
-use mathlib.Core.Path.{_≡_, refl, sym, ap, _∙_, subst}
-use lib.Dec.{ltb}
+use Rattle.machine.specs.All.{ℕ, _+_, _≤_, _<_, arith, true, false, List, [], _∷_, _≡_, refl, _∙_, subst, ltb, length, getD, lt-ltb, le-ltb, ltb-true, ltb-false}
 use lib.Ieee.{Float, nan, lt}
-use lib.ListN.{length, getD}
 use lib.Pow.{pow-pos}
-use borrow.Author.Tests.{lt-ltb, le-ltb, ltb-true, ltb-false}
 use Rattle.floats.specs.declared.Segment.{Segment}
-use Rattle.floats.specs.Limits.{timeParts, maxTimeParts, drawParts}
+use Rattle.floats.specs.Limits.{timeParts, drawParts}
 use Rattle.floats.specs.Value.{Is, wholePart}
 use Rattle.floats.specs.Line.{Ends, OnLine, Exactly, lineOver, lineUnder, spreadOver, spreadUnder, Width}
 use Rattle.floats.proofs.Whole.{whole-is, order-is}
 use Rattle.streams.specs.Stream.{Inside, next}
 use Rattle.tapes_laws.specs.declared.Distribution.{Distribution}
 use Rattle.tapes_laws.specs.declared.Distribution.the-variants.{Fixed, Spread, Curve}
-use Rattle.tapes_laws.specs.Limits.{statesPerPart}
-use Rattle.tapes_laws.specs.Source.{Point, Source, fixed, spread, curve, drawOf, Between, around, lineTime, after, timeOf}
-use Rattle.tapes_laws.specs.Held.{PointIs, Points, Meant, Surrounds}
+use Rattle.tapes_laws.specs.{Point, fixed, spread, curve, drawOf, around, lineTime, after, timeOf, PointIs, Points, Meant, Surrounds}
+use Rattle.tapes_laws.specs.Source.{Source}
 
 -- ---- The walk
 
@@ -62,10 +54,10 @@ module _ (numbers : List Float) (at : ℕ) (p : Point) (l : List Point) (v : ℕ
     pub same : around p l v ≡ around start (end ∷ rest) v
 
   next-point : Here numbers at p l v → Next
-  next-point h = go (h .first) (h .others) (h .points) (h .from) (h .same)
+  next-point h = go _ _ (h .points) (h .from) (h .same)
     where
       go : (q : Point) (m : List Point) → Points numbers at q m → q .u ≤ v → around p l v ≡ around q m v → Next
-      go q [] points from same = absurd (omega (arith, points .1))
+      go q [] points from same = absurd (omega arith)
       go q (r ∷ m) points from same =
           record {
             start = q;
@@ -73,24 +65,23 @@ module _ (numbers : List Float) (at : ℕ) (p : Point) (l : List Point) (v : ℕ
             rest = m;
             start-is = points .0;
             steps = points .1;
-            end-is = head-point numbers (at + 2) r m (points .2);
+            end-is = head-point numbers _ r m (points .2);
             points = points .2;
             from = from;
             same = same;
           }
 
   compared : (n : Next) → lt u (getD numbers (at + 2) nan) ≡ ltb v (n .end .u)
-  compared n = order-is u (getD numbers (at + 2) nan) v (n .end .u) drawParts (pow-pos 16) is (n .end-is .u-is)
+  compared n = order-is u _ v _ drawParts (pow-pos 16) is (n .end-is .u-is)
 
   pub here-stops : Here numbers at p l v → lt u (getD numbers (at + 2) nan) ≡ true → Surrounds (segmentAt numbers at) (around p l v) v
   unfolding around
   here-stops h t =
       let n = next-point h in
-      let past : v < n .end .u = ltb-true v (n .end .u) (sym (compared n) ∙ t) in
-      let b : around p l v ≡ record { from = n .start; to = n .end } = n .same ∙ rw (lt-ltb v (n .end .u) past) in
+      let past = ltb-true v (n .end .u) (cc (compared n, t)) in
+      let b : around p l v ≡ record { from = n .start; to = n .end } = n .same ∙ rw lt-ltb in
       let third : at + 2 + 1 ≡ at + 3 = omega arith in
-      subst (λ (x : Between). Surrounds (segmentAt numbers at) x v) (sym b)
-      (record {
+      rw b (record {
         ends =
             record {
               from-u = n .start-is .u-is;
@@ -110,13 +101,13 @@ module _ (numbers : List Float) (at : ℕ) (p : Point) (l : List Point) (v : ℕ
   unfolding around
   here-goes h t =
       let n = next-point h in
-      let past : n .end .u ≤ v = ltb-false v (n .end .u) (sym (compared n) ∙ t) in
+      let past = ltb-false v (n .end .u) (cc (compared n, t)) in
       record {
         first = n .end;
         others = n .rest;
         points = n .points;
         from = past;
-        same = n .same ∙ rw (le-ltb v (n .end .u) past);
+        same = n .same ∙ rw le-ltb;
       }
 
   pub here-inside : Here numbers at p l v → at + 3 < length numbers
@@ -125,17 +116,17 @@ module _ (numbers : List Float) (at : ℕ) (p : Point) (l : List Point) (v : ℕ
 -- ---- The draw
 
 -- a state's u is below 1
-pub draw-inside : (r : ℕ) → Inside r → drawOf r < drawParts
+pub draw-inside : {r : ℕ} → Inside r → drawOf r < drawParts
 unfolding drawOf
-draw-inside r h = omega (arith, h .low, h .high)
+draw-inside h = omega arith
 
 module _ (numbers : List Float) (d : Distribution) (s : Source) (state : ℕ) (meant : Meant numbers d s) where
   pub fixed-drawn : (x : Float) → d ≡ Fixed x → (wholePart x ≡ timeOf s state) × (state ≡ after s state)
   unfolding timeOf after
-  fixed-drawn x e = go s (subst (λ (y : Distribution). Meant numbers y s) e meant)
+  fixed-drawn x e = go s (rw e at meant)
     where
       go : (s : Source) → Meant numbers (Fixed x) s → (wholePart x ≡ timeOf s state) × (state ≡ after s state)
-      go (fixed t) h = (whole-is t timeParts (pow-pos 6) (omega (arith, h .1)) x (h .0), refl)
+      go (fixed t) h = (whole-is t timeParts (pow-pos 6) (omega arith) x (h .0), refl)
       go (spread mean half) h = absurd h
       go (curve p l) h = absurd h
 
@@ -144,14 +135,13 @@ module _ (numbers : List Float) (d : Distribution) (s : Source) (state : ℕ) (m
         ((m h v : ℕ) → Width x y m h → Is u v drawParts → v ≤ drawParts → Exactly z (spreadOver m h v) spreadUnder) →
         (wholePart z ≡ timeOf s state) × (r ≡ after s state)
     unfolding timeOf after
-    spread-drawn x y z e exact = go s (subst (λ (w : Distribution). Meant numbers w s) e meant)
+    spread-drawn x y z e exact = go s (rw e at meant)
       where
         go : (s : Source) → Meant numbers (Spread x y) s → (wholePart z ≡ timeOf s state) × (r ≡ after s state)
         go (fixed t) h = absurd h
         go (spread mean half) h =
-            let below : drawOf r < drawParts = draw-inside r inside in (
-              exact mean half (drawOf r) h is (omega arith) .whole
-                  ∙ ap (λ (n : ℕ). spreadOver mean half (drawOf n) / spreadUnder) next-is,
+            let below = draw-inside inside in (
+              cc (exact mean half _ h is (omega arith) .whole, next-is),
               next-is,
             )
         go (curve p l) h = absurd h
@@ -162,7 +152,7 @@ module _ (numbers : List Float) (d : Distribution) (s : Source) (state : ℕ) (m
         OnLine z (lineOver v0 t0 v1 t1 v) (lineUnder v0 v1)) →
         (wholePart z ≡ timeOf s state) × (r ≡ after s state)
     unfolding timeOf after lineTime
-    curve-drawn first seg z e surrounds near = go s (subst (λ (w : Distribution). Meant numbers w s) e meant)
+    curve-drawn first seg z e surrounds near = go s (rw e at meant)
       where
         go : (s : Source) → Meant numbers (Curve first) s → (wholePart z ≡ timeOf s state) × (r ≡ after s state)
         go (fixed t) h = absurd h
@@ -170,8 +160,7 @@ module _ (numbers : List Float) (d : Distribution) (s : Source) (state : ℕ) (m
         go (curve p l) h =
             let v = drawOf r in
             let b = around p l v in
-            let g = surrounds p l v (h .1) (omega (arith, h .0)) (draw-inside r inside) is in (
-              near (b .from .u) (b .from .time) (b .to .u) (b .to .time) v (g .ends) is (g .from-most) (g .to-least) .whole
-                  ∙ ap (λ (n : ℕ). lineTime (around p l (drawOf n)) (drawOf n)) next-is,
+            let g = surrounds p l v (h .1) (omega arith) (draw-inside inside) is in (
+              cc (near _ _ _ _ v (g .ends) is (g .from-most) (g .to-least) .whole, next-is),
               next-is,
             )

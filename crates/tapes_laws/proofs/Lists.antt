@@ -1,26 +1,13 @@
 -- Lists, pure: one after the other, and what they stand for when all were taken.
-use Prim.Native.Nat.{ℕ, zero, suc, _+_, _*_, _-_, _≤_, _<_}
-use native.Mathlib.Omega.{arith}
-use mathlib.Core.Bool.{Bool, true, false, cond}
-use mathlib.Core.List.{List, [], _∷_}
-use mathlib.Core.Option.{Option, none, some}
-use mathlib.Core.Path.{_≡_, refl, sym, ap, _∙_, subst}
-use lib.Dec.{leb}
+use Rattle.machine.specs.All.{ℕ, zero, suc, _+_, _*_, _-_, _≤_, _<_, arith, true, false, List, _∷_, Option, none, some, _≡_, refl, ap, _∙_, getD, le-leb, lt-leb}
 use lib.Ieee.{Float}
-use lib.ListN.{getD}
-use borrow.Author.Tests.{le-leb, lt-leb}
 use Rattle.tapes_laws.specs.declared.Distribution.{Distribution}
 use Rattle.tapes_laws.specs.declared.Choice.{Choice}
 use Rattle.tapes_laws.specs.declared.Choice.the-variants.{Taken, Refused}
 use Rattle.tapes_laws.specs.declared.Row.{Row}
 use Rattle.tapes_laws.specs.declared.Row.the-variants.{Given, Barred}
-use Rattle.tapes_laws.specs.Limits.{mostTimes}
-use Rattle.tapes_laws.specs.Options.{continue, ask}
+use Rattle.tapes_laws.specs.{mostTimes, continue, ask, Listed, sourceAt, listAt, listsFrom, Meant, Chosen, Listing, isGiven}
 use Rattle.tapes_laws.specs.Source.{Source}
-use Rattle.tapes_laws.specs.Given.{Listed, sourceAt, listAt, listsFrom}
-use Rattle.tapes_laws.specs.Held.{Meant, Chosen, Listing}
-use Rattle.tapes_laws.specs.Answers.{isGiven}
-use Rattle.tapes_laws.proofs.Reading.{none-some}
 
 -- ---- One list
 
@@ -33,14 +20,14 @@ module _ (lists : List ℕ) (numbers : List Float) (k : ℕ) where
 
   pub row-many : mostTimes < count → Listing numbers Barred (listAt lists numbers k)
   unfolding listAt continue ask
-  row-many h = rw (lt-leb count mostTimes h) tt
+  row-many h = rw lt-leb tt
 
   module _ (h : count ≤ mostTimes) (r : Choice) where
     pub row-refused : Chosen numbers r source → r ≡ Refused → Listing numbers Barred (listAt lists numbers k)
     unfolding listAt continue ask
     row-refused chosen e =
-        rw (le-leb count mostTimes h)
-        (go source (subst (λ (x : Choice). Chosen numbers x source) e chosen))
+        rw le-leb
+        (go source (rw e at chosen))
       where
         go : (o : Option Source) → Chosen numbers Refused o →
             Listing numbers Barred (continue o (λ s. some (record { source = s; count = count })))
@@ -50,8 +37,8 @@ module _ (lists : List ℕ) (numbers : List Float) (k : ℕ) where
     pub row-taken : Chosen numbers r source → (d : Distribution) → r ≡ Taken d → Listing numbers (Given d count) (listAt lists numbers k)
     unfolding listAt continue ask
     row-taken chosen d e =
-        rw (le-leb count mostTimes h)
-        (go source (subst (λ (x : Choice). Chosen numbers x source) e chosen))
+        rw le-leb
+        (go source (rw e at chosen))
       where
         go : (o : Option Source) → Chosen numbers (Taken d) o →
             Listing numbers (Given d count) (continue o (λ s. some (record { source = s; count = count })))
@@ -60,7 +47,7 @@ module _ (lists : List ℕ) (numbers : List Float) (k : ℕ) where
 
 -- what an answer says
 pub row-none : (numbers : List Float) (r : Row) (o : Option Listed) → Listing numbers r o → r ≡ Barred → o ≡ none
-row-none numbers r o listing e = go o (subst (λ (x : Row). Listing numbers x o) e listing)
+row-none numbers r o listing e = go o (rw e at listing)
   where
     go : (o : Option Listed) → Listing numbers Barred o → o ≡ none
     go none t = refl
@@ -80,7 +67,7 @@ pub record Stands (numbers : List Float) (d : Distribution) (n : ℕ) (o : Optio
 
 pub row-some : (numbers : List Float) (r : Row) (o : Option Listed) (d : Distribution) (n : ℕ) → Listing numbers r o → r ≡ Given d n →
     Stands numbers d n o
-row-some numbers r o d n listing e = go o (subst (λ (x : Row). Listing numbers x o) e listing)
+row-some numbers r o d n listing e = go o (rw e at listing)
   where
     go : (o : Option Listed) → Listing numbers (Given d n) o → Stands numbers d n o
     go none t = absurd t
@@ -105,7 +92,7 @@ module _ (lists : List ℕ) (numbers : List Float) where
   lists-some zero k x h e = absurd (omega arith)
   lists-some (suc left) k x h e =
       let one : suc left - 1 ≡ left = omega arith in
-      ap (λ (n : ℕ). isGiven (listsFrom lists numbers n (k + 1))) one ∙ rw (lists-next left k x e) (same (listsFrom lists numbers left (k + 1)))
+      ap (λ n. isGiven (listsFrom lists numbers n (k + 1))) one ∙ rw (lists-next left k x e) (same (listsFrom lists numbers left _))
     where
       same : (o : Option (List Listed)) → isGiven o ≡ isGiven (continue o (λ l. some (x ∷ l)))
       same none = refl
@@ -121,19 +108,17 @@ module _ (lists : List ℕ) (numbers : List Float) where
   AsAll count k = isGiven (listsFrom lists numbers (count - k) k) ≡ isGiven (listsFrom lists numbers count 0)
 
   pub all-start : (count : ℕ) → AsAll count 0
-  all-start count = let e : count - 0 ≡ count = omega arith in ap (λ (n : ℕ). isGiven (listsFrom lists numbers n 0)) e
+  all-start count = let e : count - 0 ≡ count = omega arith in cc e
 
   module _ (count k : ℕ) (alike : AsAll count k) where
     pub all-stops : (r : Row) → k < count → Listing numbers r (listAt lists numbers k) → r ≡ Barred → false ≡ isGiven (listsFrom lists numbers count 0)
-    all-stops r h listing e = lists-none (count - k) k (omega arith) (row-none numbers r _ listing e) ∙ alike
+    all-stops r h listing e = lists-none _ k (omega arith) (row-none numbers r _ listing e) ∙ alike
 
     pub all-goes : (r : Row) (d : Distribution) (n : ℕ) → k < count → Listing numbers r (listAt lists numbers k) → r ≡ Given d n → AsAll count (k + 1)
     all-goes r d n h listing e =
         let stands = row-some numbers r _ d n listing e in
         let less : count - (k + 1) ≡ count - k - 1 = omega arith in
-        ap (λ (m : ℕ). isGiven (listsFrom lists numbers m (k + 1))) less
-        ∙ lists-some (count - k) k (stands .listed) (omega arith) (stands .is)
-        ∙ alike
+        cc (less, lists-some (count - k) k _ (omega arith) (stands .is), alike)
 
     pub all-done : count ≤ k → true ≡ isGiven (listsFrom lists numbers count 0)
-    all-done h = lists-end (count - k) k (omega arith) ∙ alike
+    all-done h = lists-end _ k (omega arith) ∙ alike

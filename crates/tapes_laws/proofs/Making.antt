@@ -1,23 +1,8 @@
 -- The answers of the tape maker, pure, in their order.
-use Prim.Native.Nat.{ℕ, _/_, _%_, _≤_, _<_}
-use native.Mathlib.Nat.{zero-add}
-use native.Mathlib.Omega.{arith}
-use mathlib.Core.Bool.{Bool, true, false, cond, _&&_}
-use mathlib.Core.List.{List, _++_}
-use mathlib.Core.Option.{Option, none, some}
-use mathlib.Core.Path.{_≡_, refl, sym, ap, _∙_}
+use Rattle.machine.specs.All.{ℕ, _/_, _%_, _≤_, _<_, zero-add, arith, true, false, List, Option, none, some, _≡_, refl, sym, _∙_, length, sets, sets-eq, le-leb, lt-leb, eq-eqb, ne-eqb}
 use lib.Ieee.{Float}
-use lib.ListN.{length, drop}
-use lib.Seq.{sets, sets-eq}
-use borrow.Author.Tests.{le-leb, lt-leb, eq-eqb, ne-eqb}
-use Rattle.tapes_laws.specs.declared.Made.{Made}
 use Rattle.tapes_laws.specs.declared.Made.the-variants.{Bytes, Refused}
-use Rattle.tapes_laws.specs.Limits.{mostLists, numbersPerList}
-use Rattle.tapes_laws.specs.Options.{continue, ask}
-use Rattle.tapes_laws.specs.Given.{Listed, listsFrom, listsOf}
-use Rattle.tapes_laws.specs.Tape.{Making, made, refusal, fitted, fromLists, leaves, tapeBytes}
-use Rattle.tapes_laws.specs.Answers.{answer, isGiven}
-use Rattle.tapes_laws.specs.Held.{Maker}
+use Rattle.tapes_laws.specs.{mostLists, numbersPerList, continue, ask, Listed, listsFrom, listsOf, made, refusal, fitted, fromLists, leaves, tapeBytes, answer, isGiven, Maker}
 
 -- ---- The lists
 
@@ -27,25 +12,25 @@ module _ (lists : List ℕ) (numbers : List Float) where
 
   pub uneven : (length lists % numbersPerList ≡ 0 → ⊥) → listsOf lists numbers ≡ none
   unfolding listsOf continue ask
-  uneven h = rw (ne-eqb _ 0 h)
+  uneven h = rw ne-eqb
 
   module _ (even : length lists % numbersPerList ≡ 0) where
     pub seventeenth : mostLists < count → listsOf lists numbers ≡ none
     unfolding listsOf continue ask
-    seventeenth h = rw (eq-eqb _ 0 even, lt-leb count mostLists h)
+    seventeenth h = rw (eq-eqb, lt-leb)
 
     module _ (few : count ≤ mostLists) where
       pub all-lists : listsOf lists numbers ≡ listsFrom lists numbers count 0
       unfolding listsOf continue ask
-      all-lists = rw (eq-eqb _ 0 even, le-leb count mostLists few)
+      all-lists = rw (eq-eqb, le-leb)
 
       pub some-refused : false ≡ isGiven (listsFrom lists numbers count 0) → listsOf lists numbers ≡ none
       unfolding isGiven
-      some-refused h = all-lists ∙ go (listsFrom lists numbers count 0) h
+      some-refused h = all-lists ∙ go _ h
         where
           go : (o : Option (List Listed)) → false ≡ isGiven o → o ≡ none
           go none e = refl
-          go (some l) e = let z : _≡_ {A = ℕ} 0 1 = ap (λ (b : Bool). cond b 1 0) e in absurd (omega arith)
+          go (some l) e = cc
 
 -- all lists are there
 pub record Found (o : Option (List Listed)) : Type 0 where
@@ -54,7 +39,7 @@ pub record Found (o : Option (List Listed)) : Type 0 where
 
 pub found : (o : Option (List Listed)) → true ≡ isGiven o → Found o
 unfolding isGiven
-found none e = let z : _≡_ {A = ℕ} 0 1 = ap (λ (b : Bool). cond b 0 1) e in absurd (omega arith)
+found none e = let z : _≡_ {A = ℕ} 0 1 = cc e in absurd (omega arith)
 found (some l) e = record { ls = l; is = refl }
 
 -- ---- The answer and the bytes
@@ -69,7 +54,7 @@ module _ (o : Option (List Listed)) (state : ℕ) (before : List ℕ) where
     unfolding fromLists fitted answer leaves
     answer-43 h =
         let it : fromLists o state (length before) ≡ refusal 43 = rw (e, lt-leb (length (tapeBytes ls state)) (length before) (omega arith)) in
-        record { answered = sym (ap answer it); bytes = sym (ap (λ (m : Making). leaves m before) it) }
+        record { answered = sym (cc it); bytes = sym (cc it) }
 
     pub answer-made : n ≤ length before → (behind : List ℕ) → behind ≡ sets before 0 (tapeBytes ls state) → Maker o state before (Bytes n) behind
     unfolding fromLists fitted answer leaves
@@ -77,8 +62,7 @@ module _ (o : Option (List Listed)) (state : ℕ) (before : List ℕ) where
         let b = tapeBytes ls state in
         let it : fromLists o state (length before) ≡ made b = rw (e, le-leb (length b) (length before) (omega arith)) in
         record {
-          answered = ap Bytes en ∙ sym (ap answer it);
+          answered = cc (en, it);
           bytes =
-              eb ∙ sets-eq b before 0 (omega arith) ∙ ap (λ (i : ℕ). b ++ drop i before) (zero-add (length b))
-              ∙ sym (ap (λ (m : Making). leaves m before) it);
+              cc (eb, sets-eq b before 0 (omega arith), zero-add _, it);
         }

@@ -1,28 +1,16 @@
 -- What a call gives, pure: what is read from the doubles, case by case.
-use Prim.Native.Nat.{ℕ, zero, suc, _+_, _*_, _-_, _≤_, _<_}
-use native.Mathlib.Omega.{arith}
-use mathlib.Core.Bool.{Bool, true, false, cond, _&&_}
-use mathlib.Core.List.{List, [], _∷_}
-use mathlib.Core.Option.{Option, none, some}
-use mathlib.Core.Path.{_≡_, refl, sym, ap, _∙_, subst}
-use lib.Dec.{leb, ltb, eqb}
+use Rattle.machine.specs.All.{cases, ℕ, _+_, _≤_, _<_, arith, List, Option, none, some, _≡_, _∙_, ltb, length, getD, List·getD-eq-default, le-leb, lt-leb, ltb-true}
 use lib.Ieee.{Float, nan}
-use lib.ListN.{length, getD, List·getD-eq-default}
 use lib.Pow.{pow-pos}
-use borrow.Author.Tests.{le-leb, lt-leb, lt-ltb, le-ltb, ltb-true, leb-true, leb-false, eq-eqb, ne-eqb, eqb-true}
 use Rattle.floats.specs.Answers.{countOf}
 use Rattle.floats.specs.declared.Parts.{Parts}
 use Rattle.floats.specs.declared.Parts.the-variants.{Count, Refused as Unread}
 use Rattle.floats.specs.Limits.{timeParts, maxTimeParts, maxMeanParts, drawParts}
 use Rattle.floats.specs.Value.{Is, partsOf}
 use Rattle.floats.proofs.Checked.{parts-is}
-use Rattle.tapes_laws.specs.declared.Distribution.the-variants.{Fixed, Spread, Curve}
-use Rattle.tapes_laws.specs.declared.Choice.{Choice}
+use Rattle.tapes_laws.specs.declared.Distribution.the-variants.{Fixed, Spread}
 use Rattle.tapes_laws.specs.declared.Choice.the-variants.{Taken, Refused}
-use Rattle.tapes_laws.specs.Options.{continue, ask}
-use Rattle.tapes_laws.specs.Source.{Point, Source, fixed, spread, curve}
-use Rattle.tapes_laws.specs.Given.{timeAt, uAt, fixedAt, spreadAt, pointAt, follows, pointsBehind, curveAt, sourceAt}
-use Rattle.tapes_laws.specs.Held.{PointIs, Points, Chosen}
+use Rattle.tapes_laws.specs.{continue, ask, timeAt, uAt, fixedAt, spreadAt, Chosen}
 
 pub none-some : {A B : Type 0} {a : A} → _≡_ {A = Option A} none (some a) → B
 none-some e = let z : _≡_ {A = ℕ} 0 1 = cc in absurd (omega arith)
@@ -32,41 +20,40 @@ none-some e = let z : _≡_ {A = ℕ} 0 1 = cc in absurd (omega arith)
 module _ (numbers : List Float) (at : ℕ) where
   pub time-past : length numbers ≤ at → none ≡ timeAt numbers at
   unfolding timeAt partsOf
-  time-past h = rw (List·getD-eq-default numbers nan h)
+  time-past h = rw List·getD-eq-default
 
   pub u-past : length numbers ≤ at → none ≡ uAt numbers at
   unfolding uAt partsOf
-  u-past h = rw (List·getD-eq-default numbers nan h)
+  u-past h = rw List·getD-eq-default
 
-  inside-of : {n : ℕ} (o : Option ℕ) → (length numbers ≤ at → none ≡ o) → o ≡ some n → at < length numbers
-  inside-of o past e = go (ltb at (length numbers)) refl
-    where
-      go : (t : Bool) → ltb at (length numbers) ≡ t → at < length numbers
-      go true f = ltb-true at (length numbers) f
-      go false f = none-some (past (omega (arith, borrow.Author.Tests.ltb-false at (length numbers) f)) ∙ e)
+  inside-of : {n : ℕ} {o : Option ℕ} → (length numbers ≤ at → none ≡ o) → o ≡ some n → at < length numbers
+  inside-of past e =
+      cases (ltb at (length numbers))
+      (λ f. ltb-true at (length numbers) f)
+      (λ f. none-some (past (omega (arith, borrow.Author.Tests.ltb-false at (length numbers) f)) ∙ e))
 
   pub time-inside : {n : ℕ} → timeAt numbers at ≡ some n → at < length numbers
-  time-inside e = inside-of (timeAt numbers at) time-past e
+  time-inside e = inside-of time-past e
 
   pub u-inside : {n : ℕ} → uAt numbers at ≡ some n → at < length numbers
-  u-inside e = inside-of (uAt numbers at) u-past e
+  u-inside e = inside-of u-past e
 
   pub time-is : {n : ℕ} → timeAt numbers at ≡ some n → Is (getD numbers at nan) n timeParts × (n ≤ maxTimeParts)
   unfolding timeAt
-  time-is {n} e = parts-is timeParts maxTimeParts (pow-pos 6) (getD numbers at nan) n e
+  time-is {n} e = parts-is timeParts maxTimeParts (pow-pos 6) _ n e
 
   pub u-is : {n : ℕ} → uAt numbers at ≡ some n → Is (getD numbers at nan) n drawParts × (n ≤ drawParts)
   unfolding uAt
-  u-is {n} e = parts-is drawParts drawParts (pow-pos 16) (getD numbers at nan) n e
+  u-is {n} e = parts-is drawParts drawParts (pow-pos 16) _ n e
 
 -- what an answer says
 pub counted : {r : Parts} {o : Option ℕ} {n : ℕ} → countOf r ≡ o → r ≡ Count n → o ≡ some n
 unfolding countOf
-counted e h = sym e ∙ ap countOf h
+counted e h = cc
 
 pub uncounted : {r : Parts} {o : Option ℕ} → countOf r ≡ o → r ≡ Unread → o ≡ none
 unfolding countOf
-uncounted e h = sym e ∙ ap countOf h
+uncounted e h = cc
 
 -- ---- Fixed time and spread
 
@@ -91,20 +78,20 @@ module _ (numbers : List Float) (first : ℕ) where
     module _ {half : ℕ} (f : timeAt numbers (first + 1) ≡ some half) where
       pub spread-wide : mean < half → Chosen numbers Refused (spreadAt numbers first)
       unfolding spreadAt continue ask
-      spread-wide h = rw (e, f, lt-leb half mean h) tt
+      spread-wide h = rw (e, f, lt-leb) tt
 
       pub spread-late : half ≤ mean → maxMeanParts < mean → Chosen numbers Refused (spreadAt numbers first)
       unfolding spreadAt continue ask
-      spread-late h k = rw (e, f, le-leb half mean h, lt-leb mean maxMeanParts k) tt
+      spread-late h k = rw (e, f, le-leb, lt-leb) tt
 
       pub spread-taken : half ≤ mean → mean ≤ maxMeanParts →
           Chosen numbers (Taken (Spread (getD numbers first nan) (getD numbers (first + 1) nan))) (spreadAt numbers first)
       unfolding spreadAt continue ask
       spread-taken h k =
-          rw (e, f, le-leb half mean h, le-leb mean maxMeanParts k)
+          rw (e, f, le-leb, le-leb)
           (record {
             mean-is = time-is numbers first e .0;
-            half-is = time-is numbers (first + 1) f .0;
+            half-is = time-is numbers _ f .0;
             half-most = h;
             mean-most = k;
           })

@@ -1,25 +1,13 @@
 -- Sources within the rules, pure: every time that they give is at most 1,000,000.
-use Prim.Native.Nat.{ℕ, zero, suc, _+_, _*_, _-_, _/_, _≤_, _<_}
-use native.Mathlib.Nat.{add-mul, mul-le-mul, mul-le-mul-left, mul-le-mul-right, le-trans, div-le-of-le-mul}
-use native.Mathlib.Omega.{arith}
-use mathlib.Core.Bool.{Bool, true, false, cond, _&&_}
-use mathlib.Core.List.{List, [], _∷_}
-use mathlib.Core.Option.{Option, none, some}
-use mathlib.Core.Path.{_≡_, refl, sym, ap, _∙_, subst}
-use lib.Dec.{leb, ltb, eqb}
+use Rattle.machine.specs.All.{ℕ, zero, suc, _+_, _*_, _-_, _/_, _≤_, _<_, add-mul, mul-le-mul-left, mul-le-mul-right, div-le-of-le-mul, arith, Bool, true, false, cond, _&&_, List, [], _∷_, Option, none, some, _≡_, refl, sym, ap, _∙_, subst, leb, ltb, eqb, getD, ltb-true, ltb-false, leb-true, eqb-true}
 use lib.Ieee.{Float}
-use lib.ListN.{getD}
-use borrow.Author.Tests.{ltb-true, ltb-false, leb-true, eqb-true}
 use Rattle.codec.proofs.Fields.{both-true}
-use Rattle.floats.specs.Limits.{timeParts, maxTime, maxTimeParts, maxMeanParts, drawParts}
+use Rattle.floats.specs.Limits.{maxTime, maxTimeParts, maxMeanParts, drawParts}
 use Rattle.floats.specs.Line.{lineOver, lineUnder, spreadOver, spreadUnder}
-use Rattle.streams.specs.Stream.{Inside, next}
+use Rattle.streams.specs.Stream.{Inside}
 use Rattle.streams.proofs.Generator.{next-inside}
-use Rattle.tapes_laws.specs.Limits.{mostTimes}
-use Rattle.tapes_laws.specs.Options.{continue, ask}
-use Rattle.tapes_laws.specs.Source.{Point, Source, fixed, spread, curve, drawOf, Between, around, lineTime, after, timeOf, stateAfter}
-use Rattle.tapes_laws.specs.Given.{timeAt, fixedAt, spreadAt, pointAt, pointsBehind, curveAt, sourceAt, Listed, listAt, listsFrom}
-use Rattle.tapes_laws.specs.Held.{PointIs, Points}
+use Rattle.tapes_laws.specs.{mostTimes, continue, ask, Point, fixed, spread, curve, around, lineTime, after, timeOf, stateAfter, timeAt, fixedAt, spreadAt, pointAt, pointsBehind, curveAt, sourceAt, Listed, listAt, listsFrom, Points}
+use Rattle.tapes_laws.specs.Source.{Source}
 use Rattle.tapes_laws.proofs.Reading.{none-some, time-is}
 use Rattle.tapes_laws.proofs.Curves.{point-is, behind-points}
 use Rattle.tapes_laws.proofs.Drawing.{draw-inside, head-point}
@@ -37,7 +25,7 @@ Sound (curve p l) = (p .u ≡ 0) × Rising p l
 
 rises : (numbers : List Float) (at : ℕ) (p : Point) (l : List Point) → Points numbers at p l → Rising p l
 rises numbers at p [] h = h .1
-rises numbers at p (q ∷ l) h = ((h .1 .0, h .1 .1, head-point numbers (at + 2) q l (h .2) .time-most), rises numbers (at + 2) q l (h .2))
+rises numbers at p (q ∷ l) h = ((h .1 .0, h .1 .1, head-point numbers _ q l (h .2) .time-most), rises numbers _ q l (h .2))
 
 -- ---- What was taken keeps them
 
@@ -45,7 +33,7 @@ module _ (numbers : List Float) (s : Source) where
   fixed-sound : (o : Option ℕ) → ((n : ℕ) → o ≡ some n → n ≤ maxTimeParts) → continue o (λ t. some (fixed t)) ≡ some s → Sound s
   unfolding continue
   fixed-sound none k e = none-some e
-  fixed-sound (some t) k e = let same : fixed t ≡ s = cc in subst (λ (x : Source). Sound x) same (k t refl)
+  fixed-sound (some t) k e = let same : fixed t ≡ s = cc in rw (← same) (k t refl)
 
   asked-sound : (m h : ℕ) (t : Bool) → leb h m && leb m maxMeanParts ≡ t → continue (ask t) (λ a. some (spread m h)) ≡ some s → Sound s
   unfolding continue ask
@@ -53,7 +41,7 @@ module _ (numbers : List Float) (s : Source) where
   asked-sound m h true e f =
       let same : spread m h ≡ s = cc in
       let g = both-true _ _ e in
-      subst (λ (x : Source). Sound x) same (leb-true _ _ (g .0), leb-true _ _ (g .1))
+      rw (← same) (leb-true _ _ (g .0), leb-true _ _ (g .1))
 
   half-sound : (m : ℕ) (o : Option ℕ) → continue o (λ h. continue (ask (leb h m && leb m maxMeanParts)) (λ a. some (spread m h))) ≡ some s → Sound s
   unfolding continue
@@ -67,7 +55,7 @@ module _ (numbers : List Float) (s : Source) where
       go : (o : Option ℕ) →
           continue o (λ m. continue (timeAt numbers (first + 1)) (λ h. continue (ask (leb h m && leb m maxMeanParts)) (λ a. some (spread m h)))) ≡ some s → Sound s
       go none f = none-some f
-      go (some m) f = half-sound m (timeAt numbers (first + 1)) f
+      go (some m) f = half-sound m (timeAt numbers _) f
 
   points-sound : (first points : ℕ) (p : Point) → pointAt numbers first ≡ some p → p .u ≡ 0 → (o : Option (List Point)) →
       pointsBehind numbers points (first + 2) p ≡ o → continue o (λ l. some (curve p l)) ≡ some s → Sound s
@@ -75,13 +63,13 @@ module _ (numbers : List Float) (s : Source) where
   points-sound first points p e z none f g = none-some g
   points-sound first points p e z (some l) f g =
       let same : curve p l ≡ s = cc in
-      subst (λ (x : Source). Sound x) same (z, rises numbers first p l (behind-points numbers points first p l (point-is numbers first p e) f))
+      rw (← same) (z, rises numbers first p l (behind-points numbers points first p l (point-is numbers first p e) f))
 
   start-sound : (first points : ℕ) (p : Point) → pointAt numbers first ≡ some p → (t : Bool) → eqb (p .u) 0 ≡ t →
       continue (ask t) (λ a. continue (pointsBehind numbers points (first + 2) p) (λ l. some (curve p l))) ≡ some s → Sound s
   unfolding continue ask
   start-sound first points p e false f g = none-some g
-  start-sound first points p e true f g = points-sound first points p e (eqb-true _ _ f) (pointsBehind numbers points (first + 2) p) refl g
+  start-sound first points p e true f g = points-sound first points p e (eqb-true _ _ f) _ refl g
 
   first-sound : (first points : ℕ) (o : Option Point) → pointAt numbers first ≡ o →
       continue o (λ p. continue (ask (eqb (p .u) 0)) (λ a. continue (pointsBehind numbers points (first + 2) p) (λ l. some (curve p l)))) ≡ some s → Sound s
@@ -97,7 +85,7 @@ module _ (numbers : List Float) (s : Source) where
           continue o (λ a. continue (pointAt numbers first) (λ p. continue (ask (eqb (p .u) 0)) (λ b. continue (pointsBehind numbers (points - 1) (first + 2) p) (λ l. some (curve p l))))) ≡ some s
           → Sound s
       go none f = none-some f
-      go (some a) f = first-sound first (points - 1) (pointAt numbers first) refl f
+      go (some a) f = first-sound first _ _ refl f
 
   pub source-sound : (kind first points : ℕ) → sourceAt numbers kind first points ≡ some s → Sound s
   unfolding sourceAt fixedAt
@@ -107,55 +95,55 @@ module _ (numbers : List Float) (s : Source) where
           cond a (curveAt numbers first points) (cond b (cond c (fixedAt numbers first) (cond d (spreadAt numbers first) none)) none) ≡ some s → Sound s
       go true b c d f = curve-sound first points f
       go false false c d f = none-some f
-      go false true true d f = fixed-sound (timeAt numbers first) (λ n g. time-is numbers first g .1) f
+      go false true true d f = fixed-sound _ (λ n g. time-is numbers first g .1) f
       go false true false true f = spread-sound first f
       go false true false false f = none-some f
 
 -- ---- Times
 
-line-most : (v0 t0 v1 t1 v : ℕ) → v0 ≤ v → v ≤ v1 → v0 < v1 → t0 ≤ t1 → t1 ≤ maxTimeParts → lineOver v0 t0 v1 t1 v / lineUnder v0 v1 ≤ maxTime
-line-most v0 t0 v1 t1 v from to rising not-falling most =
+line-most : {v0 t0 v1 t1 v : ℕ} → v0 ≤ v → v ≤ v1 → v0 < v1 → t0 ≤ t1 → t1 ≤ maxTimeParts → lineOver v0 t0 v1 t1 v / lineUnder v0 v1 ≤ maxTime
+line-most {v0} {t0} {v1} {t1} {v} from to rising not-falling most =
     let w = v1 - v0 in
     let p : (t1 - t0) * (v - v0) ≤ (t1 - t0) * w = mul-le-mul-left (t1 - t0) (omega arith) in
-    let join : t0 * w + (t1 - t0) * w ≡ t1 * w = sym (add-mul t0 (t1 - t0) w) ∙ ap (λ (z : ℕ). z * w) (omega arith) in
-    let top : t1 * w ≤ maxTimeParts * w = mul-le-mul-right w most in
-    div-le-of-le-mul (timeParts * w) (omega arith)
+    let join : t0 * w + (t1 - t0) * w ≡ t1 * w = sym (add-mul t0 (t1 - t0) w) ∙ ap (λ z. z * w) (omega arith) in
+    let top = mul-le-mul-right w most in
+    div-le-of-le-mul _ (omega arith)
 
 around-most : (p : Point) (l : List Point) (v : ℕ) → p .u ≤ v → v < drawParts → Rising p l → lineTime (around p l v) v ≤ maxTime
 unfolding around lineTime
 around-most p [] v from inside h = absurd (omega arith)
-around-most p (q ∷ l) v from inside h = go (ltb v (q .u)) refl (λ past. around-most q l v past inside (h .1))
+around-most p (q ∷ l) v from inside h = go _ refl (λ past. around-most q l v past inside (h .1))
   where
     go : (t : Bool) → ltb v (q .u) ≡ t → (q .u ≤ v → lineTime (around q l v) v ≤ maxTime) →
         lineTime (cond t (record { from = p; to = q }) (around q l v)) v ≤ maxTime
     go true e rest =
-        let past = ltb-true v (q .u) e in
-        line-most (p .u) (p .time) (q .u) (q .time) v from (omega arith) (h .0 .0) (h .0 .1) (h .0 .2)
-    go false e rest = rest (ltb-false v (q .u) e)
+        let past = ltb-true v _ e in
+        line-most from (omega arith) (h .0 .0) (h .0 .1) (h .0 .2)
+    go false e rest = rest (ltb-false v _ e)
 
-spread-most : (m h v : ℕ) → h ≤ m → m ≤ maxMeanParts → v < drawParts → spreadOver m h v / spreadUnder ≤ maxTime
-spread-most m h v half mean inside =
-    let p : 2 * h * v ≤ 2 * h * drawParts = mul-le-mul-left (2 * h) (omega arith) in
+spread-most : {m h v : ℕ} → h ≤ m → m ≤ maxMeanParts → v < drawParts → spreadOver m h v / spreadUnder ≤ maxTime
+spread-most {h} {v} half mean inside =
+    let p : 2 * h * v ≤ 2 * h * drawParts = mul-le-mul-left _ (omega arith) in
     div-le-of-le-mul spreadUnder (omega arith)
 
 pub time-most : (s : Source) (state : ℕ) → Sound s → Inside state → timeOf s state ≤ maxTime
 unfolding timeOf
 time-most (fixed t) state sound inside = omega arith
 time-most (spread mean half) state sound inside =
-    spread-most mean half (drawOf (next state)) (sound .0) (sound .1) (draw-inside (next state) (next-inside inside))
+    spread-most (sound .0) (sound .1) (draw-inside (next-inside inside))
 time-most (curve p l) state sound inside =
-    around-most p l (drawOf (next state)) (omega (arith, sound .0)) (draw-inside (next state) (next-inside inside)) (sound .1)
+    around-most p l _ (omega arith) (draw-inside (next-inside inside)) (sound .1)
 
-pub after-inside : (s : Source) (state : ℕ) → Inside state → Inside (after s state)
+pub after-inside : (s : Source) {state : ℕ} → Inside state → Inside (after s state)
 unfolding after
-after-inside (fixed t) state inside = inside
-after-inside (spread mean half) state inside = next-inside inside
-after-inside (curve p l) state inside = next-inside inside
+after-inside (fixed t) inside = inside
+after-inside (spread mean half) inside = next-inside inside
+after-inside (curve p l) inside = next-inside inside
 
-pub behind-inside : (s : Source) (n state : ℕ) → Inside state → Inside (stateAfter s n state)
+pub behind-inside : (s : Source) (n : ℕ) {state : ℕ} → Inside state → Inside (stateAfter s n state)
 unfolding stateAfter
-behind-inside s zero state inside = inside
-behind-inside s (suc n) state inside = behind-inside s n (after s state) (after-inside s state inside)
+behind-inside s zero inside = inside
+behind-inside s (suc n) {state} inside = behind-inside s n (after-inside s inside)
 
 -- ---- Lists
 
@@ -188,17 +176,17 @@ module _ (lists : List ℕ) (numbers : List Float) where
 
   pub lists-sound : (left k : ℕ) (ls : List Listed) → listsFrom lists numbers left k ≡ some ls → SoundLists ls
   unfolding listsFrom continue
-  lists-sound zero k ls e = let same : [] ≡ ls = cc in subst (λ (l : List Listed). SoundLists l) same tt
-  lists-sound (suc left) k ls e = go (λ l. lists-sound left (k + 1) l) (listAt lists numbers k) refl e
+  lists-sound zero k ls e = let same : [] ≡ ls = cc in rw (← same) tt
+  lists-sound (suc left) k ls e = go (λ l. lists-sound left _ l) _ refl e
     where
       rest : ((l : List Listed) → listsFrom lists numbers left (k + 1) ≡ some l → SoundLists l) → (x : Listed) → listAt lists numbers k ≡ some x →
           (o : Option (List Listed)) → listsFrom lists numbers left (k + 1) ≡ o → continue o (λ l. some (x ∷ l)) ≡ some ls → SoundLists ls
       rest more x f none g h = none-some h
       rest more x f (some l) g h =
           let same : x ∷ l ≡ ls = cc in
-          subst (λ (m : List Listed). SoundLists m) same (list-sound k x f, more l g)
+          rw (← same) (list-sound k x f, more l g)
 
       go : ((l : List Listed) → listsFrom lists numbers left (k + 1) ≡ some l → SoundLists l) → (o : Option Listed) → listAt lists numbers k ≡ o →
           continue o (λ x. continue (listsFrom lists numbers left (k + 1)) (λ l. some (x ∷ l))) ≡ some ls → SoundLists ls
       go more none f h = none-some h
-      go more (some x) f h = rest more x f (listsFrom lists numbers left (k + 1)) refl h
+      go more (some x) f h = rest more x f _ refl h

@@ -1,10 +1,6 @@
 -- What the answers of this crate say in the paper's terms.
-use Prim.Native.Nat.{ℕ}
-use mathlib.Core.Bool.{Bool, true, false}
-use mathlib.Core.List.{List}
-use mathlib.Core.Option.{Option, none, some}
+use Rattle.machine.specs.All.{ℕ, Bool, true, false, List, Option, none, some, length}
 use lib.Ieee.{Float}
-use lib.ListN.{length}
 use Rattle.tapes_laws.specs.declared.Made.{Made}
 use Rattle.tapes_laws.specs.declared.Made.the-variants.{Bytes, Refused}
 use Rattle.tapes_laws.specs.declared.Point.{Point as Corner}

@@ -1,13 +1,6 @@
 -- What a call of the tape maker promises, for every stream, all lists, doubles and lengths.
-use Prim.Native.Nat.{ℕ, _/_}
-use mathlib.Core.List.{List}
-use mathlib.Core.Option.{some}
-use mathlib.Core.Path.{_≡_}
+use Rattle.machine.specs.All.{ℕ, _/_, List, some, _≡_, length, inForce, Cursor, parsed, tapeOf, beginning}
 use lib.Ieee.{Float}
-use lib.ListN.{length}
-use Rattle.machine.specs.Rules.{inForce}
-use Rattle.machine.specs.Parser.{Cursor, parsed}
-use Rattle.machine.specs.Validate.{tapeOf, beginning}
 use Rattle.streams.specs.Stream.{beginning as startState}
 use Rattle.tapes_laws.specs.declared.Made.{Made}
 use Rattle.tapes_laws.specs.Limits.{numbersPerList}

@@ -1,17 +1,12 @@
 -- Tapes checked by hand. Stream 0 begins at 1; its states are 16807, 282475249, 1622650073, 984943658, 1144108930, .., so v is
 -- 0, 8620, 49519, 30058, 34915, 14349, ..
-use Prim.Native.Nat.{ℕ}
-use mathlib.Core.List.{List, [], _∷_}
-use mathlib.Core.Bool.{true, false}
-use mathlib.Core.Path.{_≡_, refl}
+use Rattle.machine.specs.All.{ℕ, List, [], _∷_, true, false, _≡_, refl, flat, upper, numberBytes}
 use lib.IntN.{pos, negsuc}
 use lib.Ieee.{Float, nan, inf, fin}
-use Rattle.machine.specs.Lists.{flat}
-use Rattle.machine.specs.Number.{upper, numberBytes}
 use Rattle.floats.specs.Value.{partsOf}
 use Rattle.streams.specs.Stream.{next, beginning, startOf}
 use Rattle.tapes_laws.specs.Options.{continue, ask}
-use Rattle.tapes_laws.specs.Source.{Source, fixed, spread, curve, drawOf, around, lineTime, after, timeOf, timesOf, stateAfter}
+use Rattle.tapes_laws.specs.Source.{drawOf, around, lineTime, after, timeOf, timesOf, stateAfter}
 use Rattle.tapes_laws.specs.Given.{timeAt, uAt, fixedAt, spreadAt, pointAt, follows, pointsBehind, curveAt, sourceAt, listAt, listsFrom, listsOf}
 use Rattle.tapes_laws.specs.Tape.{bytesOf, listNumbers, tapeNumbers, Making, made, refusal, fitted, fromLists, fromStart, makeTape}
 

@@ -1,13 +1,8 @@
 -- What a call gives: for each list four numbers, and doubles. Kind 0 is a fixed time, 1 a spread, 2 a curve; then the count of
 -- times, the index of the first double, and the number of points, which is 0 but for a curve. A fixed time has one double, a
 -- spread mean and half, a curve u and time of each point. A double past the end counts as no number.
-use Prim.Native.Nat.{ℕ, zero, suc, _+_, _*_, _-_, _/_, _%_}
-use mathlib.Core.Bool.{Bool, cond, _&&_}
-use mathlib.Core.List.{List, [], _∷_}
-use mathlib.Core.Option.{Option, none, some}
-use lib.Dec.{ltb, leb, eqb}
+use Rattle.machine.specs.All.{ℕ, zero, suc, _+_, _*_, _-_, _/_, _%_, Bool, cond, _&&_, List, [], _∷_, Option, none, some, ltb, leb, eqb, length, getD}
 use lib.Ieee.{Float, nan}
-use lib.ListN.{length, getD}
 use Rattle.floats.specs.Limits.{timeParts, maxTimeParts, maxMeanParts, drawParts}
 use Rattle.floats.specs.Value.{partsOf}
 use Rattle.tapes_laws.specs.Limits.{mostLists, mostTimes, fewestPoints, mostPoints, numbersPerList}

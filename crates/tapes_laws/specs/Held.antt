@@ -1,11 +1,6 @@
 -- Which doubles stand for which source, for contracts between functions of this crate.
-use Prim.Native.Nat.{ℕ, _+_, _≤_, _<_}
-use mathlib.Core.List.{List, [], _∷_}
-use mathlib.Core.Option.{Option, none, some}
-use mathlib.Core.Path.{_≡_}
+use Rattle.machine.specs.All.{ℕ, _+_, _≤_, _<_, List, [], _∷_, Option, none, some, _≡_, length, getD, sets}
 use lib.Ieee.{Float, nan}
-use lib.ListN.{length, getD}
-use lib.Seq.{sets}
 use Rattle.floats.specs.Limits.{timeParts, maxTimeParts, drawParts}
 use Rattle.floats.specs.Value.{Is}
 use Rattle.floats.specs.Line.{Width, Ends}

@@ -1,5 +1,5 @@
 -- The limits of document 02, item 4, on what a tape is made of; those on doubles stand with the doubles (`floats`).
-use Prim.Native.Nat.{ℕ}
+use Rattle.machine.specs.All.{ℕ}
 
 -- "up to 16 of these, one per list"
 abbrev pub mostLists : ℕ

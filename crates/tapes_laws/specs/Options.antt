@@ -1,6 +1,5 @@
 -- One question after the other, where "no" ends them all.
-use mathlib.Core.Bool.{Bool, true, false}
-use mathlib.Core.Option.{Option, none, some}
+use Rattle.machine.specs.All.{Bool, true, false, Option, none, some}
 
 unfoldable pub continue : {A B : Type 0} → Option A → (A → Option B) → Option B
 continue none f = none

@@ -1,9 +1,6 @@
 -- Document 02, item 4: where the times of a list come from, and what they are, in whole numbers. A time is counted in 64ths,
 -- u in 65,536ths.
-use Prim.Native.Nat.{ℕ, zero, suc, _-_, _/_}
-use mathlib.Core.Bool.{cond}
-use mathlib.Core.List.{List, [], _∷_}
-use lib.Dec.{ltb}
+use Rattle.machine.specs.All.{ℕ, zero, suc, _-_, _/_, cond, List, [], _∷_, ltb}
 use Rattle.floats.specs.Limits.{timeParts}
 use Rattle.floats.specs.Line.{lineOver, lineUnder, spreadOver, spreadUnder}
 use Rattle.streams.specs.Stream.{next}

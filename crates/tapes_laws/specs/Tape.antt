@@ -1,13 +1,6 @@
 -- Document 02, item 4: the whole tape from a stream and the lists in order, and the answers of the tape maker.
-use Prim.Native.Nat.{ℕ}
-use mathlib.Core.Bool.{cond}
-use mathlib.Core.List.{List, [], _∷_, _++_, map}
-use mathlib.Core.Option.{Option, none, some}
-use lib.Dec.{leb}
+use Rattle.machine.specs.All.{ℕ, cond, List, [], _∷_, _++_, map, Option, none, some, leb, length, drop, flat, numberBytes}
 use lib.Ieee.{Float}
-use lib.ListN.{length, drop}
-use Rattle.machine.specs.Lists.{flat}
-use Rattle.machine.specs.Number.{numberBytes}
 use Rattle.streams.specs.declared.Started.{Started}
 use Rattle.streams.specs.declared.Started.the-variants.{State, Refused}
 use Rattle.streams.specs.Stream.{startOf}

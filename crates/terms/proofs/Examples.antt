@@ -1,8 +1,6 @@
 -- Document 01, Examples, "2,147,483,647 + 1 is -2,147,483,648", by computation.
-use mathlib.Core.List.{[], _∷_}
-use mathlib.Core.Path.{_≡_, refl}
+use Rattle.machine.specs.All.{[], _∷_, _≡_, refl, signed, low32, wrap, View, constant, value, nothing, plus, term, worths, evaluate}
 use lib.IntN.{pos, negsuc, _+ℤ_, _-ℤ_}
-use Rattle.machine.specs.Term.{signed, low32, wrap, View, constant, value, nothing, plus, term, worths, evaluate}
 
 pub wraps-up : wrap (pos 2147483647 +ℤ pos 1) ≡ negsuc 2147483647
 unfolding wrap signed low32

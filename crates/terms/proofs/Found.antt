@@ -1,16 +1,6 @@
 -- Numbers that stand in a list from a position on (`At`): the first of them, the rest, and one run behind another.
-use Prim.Native.Nat.{ℕ, suc, _+_, _<_}
-use native.Mathlib.Nat.{add-zero}
-use native.Mathlib.Numerals.{add-one}
-use native.Mathlib.Omega.{arith}
-use mathlib.Core.Bool.{Bool, true, false}
-use mathlib.Core.List.{List, [], _∷_, _++_}
-use mathlib.Core.Path.{_≡_, refl, sym, ap, _∙_, subst}
-use lib.Dec.{ltb}
-use lib.ListN.{length, getD, take, drop, drop-of-length-le}
-use lib.Seq.{drop-cons}
-use borrow.Author.Tests.{ltb-true, ltb-false}
-use Rattle.tables.specs.Represents.{At}
+use Rattle.machine.specs.All.{cases, ℕ, suc, _+_, _<_, add-zero, add-one, arith, List, [], _∷_, _++_, _≡_, refl, sym, ap, _∙_, subst, ltb, length, getD, take, drop, drop-of-length-le, drop-cons, ltb-true, ltb-false}
+use Rattle.tables.specs.All.{At}
 
 -- the first, and the rest behind it
 pub record First (l : List ℕ) (at x : ℕ) (rest : List ℕ) : Type 0 where
@@ -20,22 +10,19 @@ pub record First (l : List ℕ) (at x : ℕ) (rest : List ℕ) : Type 0 where
 
 module _ (l : List ℕ) (at : ℕ) where
   pub at-first : (x : ℕ) (rest : List ℕ) → At l at (x ∷ rest) → First l at x rest
-  at-first x rest h = go (ltb at (length l)) refl
-    where
-      go : (t : Bool) → ltb at (length l) ≡ t → First l at x rest
-      go true e =
-          let inl : at < length l = ltb-true at (length l) e in
-          let split : getD l at 0 ∷ take (length rest) (drop (suc at) l) ≡ x ∷ rest =
-          sym (ap (take (suc (length rest))) (drop-cons l at 0 inl)) ∙ h in
-          record {
-            inside = inl;
-            found = cc;
-            after = let tail : take (length rest) (drop (suc at) l) ≡ rest = cc in rw (add-one at) tail;
-          }
-      go false e =
-          let none : drop at l ≡ [] = drop-of-length-le l (ltb-false at (length l) e) in
-          let bad : [] ≡ x ∷ rest = sym (ap (take (suc (length rest))) none) ∙ h in
-          let z : _≡_ {A = ℕ} 0 1 = cc in absurd (omega arith)
+  at-first x rest h =
+      cases (ltb at (length l))
+      (λ e. let inl : at < length l = ltb-true at (length l) e in
+      let split : getD l at 0 ∷ take (length rest) (drop (suc at) l) ≡ x ∷ rest =
+      sym (ap (take (suc (length rest))) (drop-cons l at 0 inl)) ∙ h in
+      record {
+        inside = inl;
+        found = cc;
+        after = let tail : take (length rest) (drop (suc at) l) ≡ rest = cc in rw (add-one at) tail;
+      })
+      (λ e. let none : drop at l ≡ [] = drop-of-length-le l (ltb-false at (length l) e) in
+      let bad : [] ≡ x ∷ rest = sym (ap (take (suc (length rest))) none) ∙ h in
+      let z : _≡_ {A = ℕ} 0 1 = cc in absurd (omega arith))
 
   pub at-cons : (x : ℕ) (rest : List ℕ) → First l at x rest → At l at (x ∷ rest)
   at-cons x rest f =

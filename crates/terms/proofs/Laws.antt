@@ -1,20 +1,10 @@
 -- What the entry points give is what the machine says of the blocks that have terms: LET, WAITIF and IF. For callers.
-use Prim.Native.Nat.{ℕ, _+_, _-_, _*_, _<_}
-use native.Mathlib.Omega.{arith}
-use mathlib.Core.Bool.{true, _&&_}
-use mathlib.Core.List.{List, [], _∷_, _++_, append-nil}
-use mathlib.Core.Path.{_≡_, refl, ap, subst}
-use lib.Dec.{T}
-use lib.ListN.{length, getD}
-use Rattle.machine.specs.Term.{View, Relation, Term, constant, minusConstant, parameter, clockTerm, entriesOf, contentOf, unitsInUse, unitsFree, facilityInUse, value, comparison, bracket, worths, evaluate, compare}
-use Rattle.machine.specs.Block.{Block, waitTerms, branch, assign, terminate, BlockModel}
-use Rattle.tables.specs.Forms.{blockForms}
+use Rattle.machine.specs.All.{ℕ, _+_, _-_, _*_, _<_, arith, true, _&&_, List, [], _∷_, _++_, append-nil, _≡_, refl, ap, subst, T, length, getD, View, Relation, Term, constant, minusConstant, parameter, clockTerm, entriesOf, contentOf, unitsInUse, unitsFree, facilityInUse, value, comparison, bracket, worths, evaluate, compare, Block, waitTerms, branch, assign, terminate, BlockModel}
+use Rattle.tables.specs.All.{blockForms, relationNumber, termNumbers, blockNumbers, At, smallTerm, smallBlock, Represents}
 use Rattle.tables.specs.Layout as Layout
-use Rattle.tables.specs.Numbers.{relationNumber, termNumbers, blockNumbers}
-use Rattle.tables.specs.Represents.{At, smallTerm, smallBlock, Represents}
-use Rattle.terms.specs.Evaluation.{Worth, termAt, compareAt}
-use Rattle.terms.specs.Nested.{nestedTerm, nestedBlock, Nested}
-use Rattle.terms.specs.Sees.{parametersOf, Sees}
+use Rattle.terms.specs.{Worth, termAt, compareAt, nestedTerm, nestedBlock, parametersOf}
+use Rattle.terms.specs.Nested.{Nested}
+use Rattle.terms.specs.Sees.{Sees}
 use Rattle.terms.proofs.Found.{at-first, at-front, at-back}
 use Rattle.terms.proofs.Terms.{and-left, and-right, related-by, term-found}
 use Rattle.terms.proofs.Values.{Values, all-found}

@@ -1,25 +1,11 @@
 -- Validation from bytes: in what it accepts, at most four brackets open in a value and none in a term of a block.
-use Prim.Native.Nat.{ℕ, zero, suc, _-_}
-use mathlib.Core.Path.{_≡_, sym, subst}
-use mathlib.Core.Bool.{Bool, true, false, cond, _&&_}
-use mathlib.Core.List.{List, _∷_, []}
-use native.Mathlib.Omega.{arith}
-use borrow.Author.Tests.{lt-ltb}
-use lib.Dec.{T, leb, ltb, eqb}
-use lib.ListN.{length}
-use Rattle.machine.specs.Rules.{inForce}
+use Rattle.machine.specs.All.{ℕ, zero, suc, _-_, _≡_, sym, subst, Bool, true, false, cond, _&&_, List, _∷_, [], arith, lt-ltb, T, leb, ltb, eqb, length, inForce, Term, Sum, nothing, plus, minus, Block, terminate, BlockModel, facts, Parsed, parsed, refused, Parser, Counts, simpleTerm, number, blockTerm, counted, mentioned, valueNumber, sumTerms, sumField, bracketField, comparisonField, mentionField, taggedTerm, valueTerm, valueField, inValue, valueFields, blockField, modelFields, atEnd, wellFormed, beginning, modelOf, tapeOf, Validation, accept, reject, withTape, withModel, validate, allOf, Each}
 use Rattle.machine.specs.Limits as Limits
-use Rattle.machine.specs.Lists.{nth}
-use Rattle.machine.specs.Term.{Relation, Term, comparison, bracket, Sum, nothing, plus, minus}
-use Rattle.machine.specs.Block.{Block, terminate, enter, leave, BlockModel, facts, compared}
-use Rattle.machine.specs.Parser.{Parsed, parsed, refused, Parser}
-use Rattle.machine.specs.Decode.{Counts, relationOf, simpleTerm, number, blockTerm, counted, mentioned, valueNumber, sumTerms, sumField, bracketField, comparisonField, mentionField, taggedTerm, valueTerm, valueField, inValue, valueFields, codeServer, storageUnits, operands, blockField, modelFields, atEnd}
-use Rattle.machine.specs.Validate.{wellFormed, beginning, modelOf, tapeOf, Validation, accept, reject, withTape, withModel, validate, allOf}
-use Rattle.machine.specs.Claims.{Each}
 use Rattle.machine.proofs.runs.RunLaws.{cond-cases}
 use Rattle.machine.proofs.decoding.ParserLaws.{Refusal, Gives, Ensures, Any, then, gives, refuses, choice, weaken, repeated, asked, in-range}
 use Rattle.machine.proofs.runs.Shape.{each-getD}
-use Rattle.terms.specs.Nested.{nestedTerm, nestedSum, nestedBlock, Nested}
+use Rattle.terms.specs.{nestedTerm, nestedSum, nestedBlock}
+use Rattle.terms.specs.Nested.{Nested}
 use Rattle.machine.proofs.decoding.ProperFrom.{block-parsed}
 
 -- ---- Depth
@@ -34,16 +20,6 @@ opens d = subst T (sym (lt-ltb 0 (suc d) (omega arith))) tt
 
 inner : (d : ℕ) → d ≡ suc d - 1
 inner d = omega arith
-
-nested-comparison : (d : ℕ) (r : Relation) (a b : Term) → T (nestedTerm d a) → T (nestedTerm d b) → T (nestedTerm (suc d) (comparison r a b))
-unfolding nestedTerm
-nested-comparison d r a b h k =
-    all (ltb 0 (suc d)) _ (opens d)
-    (all (nestedTerm (suc d - 1) a) (nestedTerm (suc d - 1) b) (subst (λ (n : ℕ). T (nestedTerm n a)) (inner d) h) (subst (λ (n : ℕ). T (nestedTerm n b)) (inner d) k))
-
-nested-bracket : (d : ℕ) (e : Sum) → T (nestedSum d e) → T (nestedTerm (suc d) (bracket e))
-unfolding nestedTerm
-nested-bracket d e h = all (ltb 0 (suc d)) (nestedSum (suc d - 1) e) (opens d) (subst (λ (n : ℕ). T (nestedSum n e)) (inner d) h)
 
 nested-signed : (d : ℕ) (b : Bool) (t : Term) (e : Sum) → T (nestedTerm d t) → T (nestedSum d e) → T (nestedSum d (cond b (plus t e) (minus t e)))
 unfolding nestedTerm
@@ -75,11 +51,6 @@ module _ (d : ℕ) where
 module _ (s : List ℕ) where
   any-number : (lo hi : ℕ) → Ensures Any (number s lo hi)
   any-number lo hi = weaken (λ a h. tt) (in-range Limits.maxNumber s 3 lo hi (omega arith) (omega arith))
-
-  block-term : (n : Counts) → Ensures (Low 0) (blockTerm s n)
-  unfolding blockTerm nestedTerm
-  block-term n =
-      then (any-number 0 9) (λ tag h. both (eqb tag 9) (then (any-number 1 (n .values)) (λ k h. gives tt)) (simple-low 0 (number s) any-number n tag))
 
   counted-any : (n : ℕ) → Ensures Any (counted s n)
   unfolding counted
@@ -113,21 +84,18 @@ module _ (s : List ℕ) where
 
     bracket-field : (p : Parser Term) → Ensures (Low d) p → Ensures (Low (suc d)) (bracketField s p)
     unfolding bracketField
-    bracket-field p e = then (sum-field p e) (λ x h. gives (nested-bracket d x h))
+    bracket-field p e = then (sum-field p e) (λ x h. gives (unfold nestedTerm in all (ltb 0 (suc d)) (nestedSum (suc d - 1) x) (opens d) (subst (λ (n : ℕ). T (nestedSum n x)) (inner d) h)))
 
     comparison-field : (p : Parser Term) → Ensures (Low d) p → Ensures (Low (suc d)) (comparisonField s p)
     unfolding comparisonField
-    comparison-field p e = then (value-number 1 6) (λ r h. then e (λ a ha. then e (λ b hb. gives (nested-comparison d (relationOf r) a b ha hb))))
-
-    mention-field : (n : Counts) → Ensures (Low d) (mentionField s n)
-    unfolding mentionField nestedTerm
-    mention-field n = then (value-number 1 (n .values)) (λ k h. then (mentioned-any k) (λ m h. gives tt))
+    comparison-field p e = then (value-number 1 6) (λ r h. then e (λ a ha. then e (λ b hb. gives (unfold nestedTerm in all (ltb 0 (suc d)) _ (opens d)
+        (all (nestedTerm (suc d - 1) a) (nestedTerm (suc d - 1) b) (subst (λ (n : ℕ). T (nestedTerm n a)) (inner d) ha) (subst (λ (n : ℕ). T (nestedTerm n b)) (inner d) hb))))))
 
     tagged-term : (n : Counts) (p q : Parser Term) → Ensures (Low d) p → Ensures (Low d) q → Ensures (Low d) (taggedTerm s n p q)
     unfolding taggedTerm
     tagged-term n p q h k =
         then (value-number 0 11)
-        (λ tag g. both (eqb tag 9) (mention-field n) (both (eqb tag 10) h (both (eqb tag 11) k (simple-low d (valueNumber s) value-number n tag))))
+        (λ tag g. both (eqb tag 9) (unfold mentionField nestedTerm in then (value-number 1 (n .values)) (λ k h. then (mentioned-any k) (λ m h. gives tt))) (both (eqb tag 10) h (both (eqb tag 11) k (simple-low d (valueNumber s) value-number n tag))))
 
   value-term : (n : Counts) (d : ℕ) → Ensures (Low d) (valueTerm s n d)
   unfolding valueTerm
@@ -140,10 +108,7 @@ module _ (s : List ℕ) where
   value-fields : (n : Counts) (left lower : ℕ) → Ensures (Each Shallow) (valueFields s n left lower)
   unfolding valueFields valueField
   value-fields n zero lower = gives tt
-  value-fields n (suc left) lower = then one (λ e h. then (value-fields n left (suc lower)) (λ l hl. gives (h, hl)))
-    where
-      one : Ensures Shallow (valueField s (inValue s n lower))
-      one = record { from = λ c. sum-field Limits.maxBrackets _ (value-term (inValue s n lower) Limits.maxBrackets) .from (record { position = c .position; numbers = 0; mentions = 0 }) }
+  value-fields n (suc left) lower = then (record { from = λ c. sum-field Limits.maxBrackets _ (value-term (inValue s n lower) Limits.maxBrackets) .from (record { position = c .position; numbers = 0; mentions = 0 }) }) (λ e h. then (value-fields n left (suc lower)) (λ l hl. gives (h, hl)))
 
   -- ---- Blocks
 
@@ -157,7 +122,7 @@ module _ (s : List ℕ) where
 
   block-flat : (n : Counts) (capacities : List ℕ) → Ensures Flat (blockField s (inForce .kinds) n capacities)
   unfolding nestedBlock
-  block-flat n capacities = weaken (λ b h. all-flat (facts b .terms) (h .1)) (block-parsed s n capacities (Low 0) (block-term n) (inForce .kinds))
+  block-flat n capacities = weaken (λ b h. all-flat (facts b .terms) (h .1)) (block-parsed s n capacities (Low 0) (unfold blockTerm nestedTerm in then (any-number 0 9) (λ tag h. both (eqb tag 9) (then (any-number 1 (n .values)) (λ k h. gives tt)) (simple-low 0 (number s) any-number n tag))) (inForce .kinds))
 
   -- ---- The model
 

@@ -1,18 +1,9 @@
 -- What a term reads of the tables and the tally is what the machine's view holds.
-use Prim.Native.Nat.{ℕ, zero, suc, _+_, _-_, _≤_, _<_}
-use native.Mathlib.Omega.{arith}
-use mathlib.Core.Bool.{Bool, true, false, cond}
-use mathlib.Core.List.{List, [], _∷_}
-use mathlib.Core.Path.{_≡_, refl, sym, ap, _∙_}
-use lib.Dec.{ltb}
-use lib.ListN.{length, getD, List·getD-eq-default}
+use Rattle.machine.specs.All.{cases, ℕ, zero, suc, _-_, _≤_, _<_, arith, Bool, cond, List, [], _∷_, _≡_, refl, sym, ap, ltb, length, getD, List·getD-eq-default, lt-ltb, ltb-true, ltb-false, maxBlocks, maxQueues, Server, idleServer, Queue, emptyQueue, View, signed, wrap, oneIf}
 use lib.IntN.{pos}
-use borrow.Author.Tests.{lt-ltb, ne-eqb, ltb-true, ltb-false}
-use Rattle.machine.specs.Limits.{maxBlocks, maxQueues}
-use Rattle.machine.specs.Term.{Server, idleServer, Queue, emptyQueue, View, signed, wrap, oneIf}
 use Rattle.tables.specs.Layout as Layout
-use Rattle.terms.specs.Evaluation.{small, within, servers, freeUnits}
-use Rattle.terms.specs.Sees.{parametersOf, Shows, Sees}
+use Rattle.terms.specs.{small, within, servers, freeUnits, parametersOf, Shows}
+use Rattle.terms.specs.Sees.{Sees}
 
 pub small-is : (n : ℕ) → n < 2147483648 → small n ≡ pos n
 unfolding small
@@ -22,18 +13,16 @@ small-is n h = ap (λ (t : Bool). cond t (pos n) (pos 0)) (lt-ltb n 2147483648 h
 module _ (f : ℕ → ℕ) (l : List ℕ) (begin size : ℕ) (s : Shows f l begin size) (past : (i : ℕ) → size ≤ i → f i ≡ 0) (i : ℕ) where
   pub within-is : within l begin size i ≡ f i
   unfolding within
-  within-is = go (ltb i size) refl
-    where
-      go : (t : Bool) → ltb i size ≡ t → cond t (getD l (begin + i) 0) 0 ≡ f i
-      go true e = sym (s .shown i (ltb-true i size e))
-      go false e = sym (past i (ltb-false i size e))
+  within-is =
+      cases (ltb i size)
+      (λ e. rw e (sym (s .shown i (ltb-true i size e))))
+      (λ e. rw e (sym (past i (ltb-false i size e))))
 
   pub shown-small : f i < 2147483648
-  shown-small = go (ltb i size) refl
-    where
-      go : (t : Bool) → ltb i size ≡ t → f i < 2147483648
-      go true e = s .small i (ltb-true i size e)
-      go false e = let z = past i (ltb-false i size e) in omega arith
+  shown-small =
+      cases (ltb i size)
+      (λ e. s .small i (ltb-true i size e))
+      (λ e. let z = past i (ltb-false i size e) in omega arith)
 
   pub small-within : small (within l begin size i) ≡ pos (f i)
   small-within = rw within-is (small-is (f i) shown-small)
@@ -41,10 +30,6 @@ module _ (f : ℕ → ℕ) (l : List ℕ) (begin size : ℕ) (s : Shows f l begi
 -- past its end each list gives what is empty
 entries-past : (l : List ℕ) (size : ℕ) → length l ≤ size → (i : ℕ) → size ≤ i → getD l i 0 ≡ 0
 entries-past l size h i g = List·getD-eq-default l 0 (omega arith)
-
-content-past : (l : List Queue) (size : ℕ) → length l ≤ size → (i : ℕ) → size ≤ i → getD l i emptyQueue .content ≡ 0
-unfolding emptyQueue
-content-past l size h i g = ap (λ (q : Queue). q .content) (List·getD-eq-default l emptyQueue (omega arith))
 
 in-use-past : (l : List Server) (size : ℕ) → length l ≤ size → (i : ℕ) → size ≤ i → getD l i (idleServer 0) .inUse ≡ 0
 unfolding idleServer
@@ -65,7 +50,7 @@ module _ {w : View} {tables tally : List ℕ} {clock : ℕ} (s : Sees w tables t
 
     pub sees-content : small (within tally Layout.content maxQueues i) ≡ pos (getD (w .queues) i emptyQueue .content)
     sees-content =
-        small-within _ tally Layout.content maxQueues (s .contents) (content-past (w .queues) maxQueues (s .queues-size)) i
+        small-within _ tally Layout.content maxQueues (s .contents) (λ i g. unfold emptyQueue in ap (λ (q : Queue). q .content) (List·getD-eq-default (w .queues) emptyQueue (omega arith))) i
 
     in-use-is : within tally Layout.inUse servers i ≡ getD (w .servers) i (idleServer 0) .inUse
     in-use-is = within-is _ tally Layout.inUse servers (s .in-use) (in-use-past (w .servers) servers (s .servers-size)) i

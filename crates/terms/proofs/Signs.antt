@@ -1,17 +1,11 @@
 -- Signed 32-bit numbers and their bits: reading and writing, sums and differences modulo 2 to the 32, equality.
-use Prim.Native.Nat.{ℕ, zero, suc, _+_, _-_, _*_, _/_, _%_, _≤_, _<_}
-use native.Mathlib.Omega.{arith}
-use mathlib.Core.Bool.{Bool, true, false, cond}
-use mathlib.Core.Path.{_≡_, refl, sym, ap, _∙_, subst}
-use lib.Dec.{T, ltb, eqb, lit<}
+use Rattle.machine.specs.All.{cases, ℕ, zero, suc, _+_, _-_, _*_, _/_, _%_, _≤_, _<_, arith, true, false, _≡_, refl, sym, ap, _∙_, subst, T, ltb, eqb, lit<, lt-ltb, le-ltb, eq-eqb, ne-eqb, leb-false, ltb-true, ltb-false, eqb-true, eqb-false, signed, low32, wrap, eqZ}
 use lib.IntN.{ℤ, pos, negsuc, negℤ, natAbs, subℕ, _+ℤ_, _-ℤ_, -ℤ-+ℤ-cancel, +ℤ-idl}
 use lib.Signed.{mag, leZ, nonNeg}
 use mir.Syntax.{w32}
 use mir.Val.{Fits, SFits, toZ, ofZ}
 use mir.Facts.{toZ-ofZ, toZ-pos, fits-natAbs}
-use borrow.Author.Tests.{lt-ltb, le-ltb, eq-eqb, ne-eqb, leb-false, ltb-true, ltb-false, eqb-true, eqb-false}
-use Rattle.machine.specs.Term.{signed, low32, wrap, eqZ}
-use Rattle.terms.specs.Evaluation.{small, worthAt, unpacked}
+use Rattle.terms.specs.{small, worthAt, unpacked}
 
 -- ---- From bits to number
 
@@ -93,12 +87,10 @@ module _ (z : ℤ) (h : leZ (pos 0) z ≡ false) (f : SFits w32 z) where
 
 low-sub : (a b : ℕ) → low32 (subℕ a (suc b)) ≡ (a % 4294967296 + (4294967295 - b % 4294967296)) % 4294967296
 unfolding low32
-low-sub a b = go (ltb a (suc b)) refl
-  where
-    go : (t : Bool) → ltb a (suc b) ≡ t →
-        low32 (cond t (negsuc (suc b - suc a)) (pos (a - suc b))) ≡ (a % 4294967296 + (4294967295 - b % 4294967296)) % 4294967296
-    go true e = omega (arith, ltb-true a (suc b) e)
-    go false e = omega (arith, ltb-false a (suc b) e)
+low-sub a b =
+    cases (ltb a (suc b))
+    (λ e. rw e (omega (arith, ltb-true a (suc b) e)))
+    (λ e. rw e (omega (arith, ltb-false a (suc b) e)))
 
 pub low-add : (a b : ℤ) → low32 (a +ℤ b) ≡ (low32 a + low32 b) % 4294967296
 unfolding low32
@@ -145,28 +137,22 @@ bits-equal (pos a) (negsuc b) f g =
 bits-equal (negsuc a) (pos b) f g =
     let l : a < 2147483648 = f .sfits in
     let k : b < 2147483648 = g .sfits in ne-eqb (4294967296 - suc a) b (λ e. omega arith)
-bits-equal (negsuc a) (negsuc b) f g = go (eqb a b) refl
-  where
-    go : (t : Bool) → eqb a b ≡ t → eqb (4294967296 - suc a) (4294967296 - suc b) ≡ t
-    go true e = eq-eqb (4294967296 - suc a) (4294967296 - suc b) (ap (λ (n : ℕ). 4294967296 - suc n) (eqb-true a b e))
-    go false e =
-        let l : a < 2147483648 = f .sfits in
-        let k : b < 2147483648 = g .sfits in
-        ne-eqb (4294967296 - suc a) (4294967296 - suc b) (λ h. eqb-false a b e (omega arith))
+bits-equal (negsuc a) (negsuc b) f g =
+    cases (eqb a b)
+    (λ e. rw e (eq-eqb (4294967296 - suc a) (4294967296 - suc b) (ap (λ (n : ℕ). 4294967296 - suc n) (eqb-true a b e))))
+    (λ e. rw e (let l : a < 2147483648 = f .sfits in
+    let k : b < 2147483648 = g .sfits in
+    ne-eqb (4294967296 - suc a) (4294967296 - suc b) (λ h. eqb-false a b e (omega arith))))
 
 -- ---- Small numbers and their negatives
 
 small-lt : (n : ℕ) → mag (negℤ (small n)) < 2147483648
 unfolding small
-small-lt n = go (ltb n 2147483648) refl
+small-lt n = cases (ltb n 2147483648) (λ e. rw e (neg-lt n (ltb-true n 2147483648 e))) (λ e. rw e (neg-lt 0 (lit< tt)))
   where
     neg-lt : (k : ℕ) → k < 2147483648 → mag (negℤ (pos k)) < 2147483648
     neg-lt zero h = h
     neg-lt (suc k) h = omega arith
-
-    go : (t : Bool) → ltb n 2147483648 ≡ t → mag (negℤ (cond t (pos n) (pos 0))) < 2147483648
-    go true e = neg-lt n (ltb-true n 2147483648 e)
-    go false e = neg-lt 0 (lit< tt)
 
 module _ (z : ℤ) (n : ℕ) (e : z ≡ small n) where
   minus-is : pos 0 -ℤ z ≡ negℤ (small n)

@@ -1,16 +1,8 @@
 -- One step of the evaluation over the tables, pure: what each way through `term`, `sum` and `value` gives.
-use Prim.Native.Nat.{ℕ, zero, suc, _+_, _-_, _*_, _≤_, _<_}
-use native.Mathlib.Omega.{arith}
-use mathlib.Core.Bool.{Bool, true, false, cond}
-use mathlib.Core.List.{List}
-use mathlib.Core.Path.{_≡_, refl, sym, ap, _∙_}
-use lib.Dec.{eqb}
-use lib.ListN.{length, getD}
+use Rattle.machine.specs.All.{cases, ℕ, zero, suc, _+_, _-_, _*_, _≤_, _<_, arith, List, _≡_, refl, sym, ap, _∙_, eqb, length, getD, lt-ltb, le-ltb, ne-eqb, eqb-true, eqb-false, maxBrackets}
 use lib.IntN.{ℤ, pos}
-use borrow.Author.Tests.{lt-ltb, le-ltb, ne-eqb, eqb-true, eqb-false}
-use Rattle.machine.specs.Limits.{maxBrackets}
 use Rattle.tables.specs.Layout as Layout
-use Rattle.terms.specs.Evaluation.{Worth, worthAt, joined, judged, sumFrom, comparisonFrom, bracketFrom, pairFrom, nothingAt, taggedTerm, termFrom, valueBy, valueBelow}
+use Rattle.terms.specs.{Worth, worthAt, joined, judged, sumFrom, comparisonFrom, bracketFrom, pairFrom, nothingAt, taggedTerm, termFrom, valueBy, valueBelow}
 
 -- ---- A term by its tag
 
@@ -56,11 +48,10 @@ module _ (tables : List ℕ) (simple : ℕ → ℕ → ℤ) (mention : ℕ → �
     -- too deep
     pub term-deep : (depth : ℕ) → depth ≡ 0 → 9 ≤ tag → (tag ≡ 9 → ⊥) → termFrom tables simple mention depth at ≡ worthAt (pos 0) (at + 1)
     unfolding termFrom nothingAt
-    term-deep zero z h h9 = go (eqb tag 10) refl
-      where
-        go : (t : Bool) → eqb tag 10 ≡ t → taggedTerm tables simple mention (nothingAt tables) (nothingAt tables) at ≡ worthAt (pos 0) (at + 1)
-        go true e = tagged-comparison _ _ inl tag n et en (eqb-true tag 10 e)
-        go false e = tagged-bracket _ _ inl tag n et en h h9 (eqb-false tag 10 e)
+    term-deep zero z h h9 =
+        cases (eqb tag 10)
+        (λ e. tagged-comparison _ _ inl tag n et en (eqb-true tag 10 e))
+        (λ e. tagged-bracket _ _ inl tag n et en h h9 (eqb-false tag 10 e))
     term-deep (suc d) z h h9 = absurd (omega arith)
 
     pub term-comparison : (depth : ℕ) → (depth ≡ 0 → ⊥) → tag ≡ 10 →
@@ -116,13 +107,10 @@ module _ (tables : List ℕ) (simple : ℕ → ℕ → ℤ) (k : ℕ) where
   pub value-some : (lower : ℕ) → k < lower → valueBelow tables simple lower k ≡ valueBy tables simple (valueBelow tables simple k) k
   unfolding valueBelow
   value-some zero h = absurd (omega arith)
-  value-some (suc l) h = go (eqb k l) refl (value-some l)
-    where
-      go : (t : Bool) → eqb k l ≡ t → (k < l → valueBelow tables simple l k ≡ valueBy tables simple (valueBelow tables simple k) k) →
-          cond t (valueBy tables simple (valueBelow tables simple l)) (valueBelow tables simple l) k
-          ≡ valueBy tables simple (valueBelow tables simple k) k
-      go true e ih = rw (← eqb-true k l e)
-      go false e ih = let ne = eqb-false k l e in ih (omega arith)
+  value-some (suc l) h =
+      cases (eqb k l)
+      (λ e. rw e (rw (← eqb-true k l e)))
+      (λ e. rw e (let ne = eqb-false k l e in (value-some l) (omega arith)))
 
 -- ---- The same of what calls return
 

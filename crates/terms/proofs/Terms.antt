@@ -1,20 +1,10 @@
 -- Terms and sums over the tables are the machine's. By one induction over both: where the numbers of a term stand at a
 -- position, `termFrom` gives what the term is worth and the position behind them.
-use Prim.Native.Nat.{ℕ, suc, _+_, _-_, _≤_, _<_}
-use native.Mathlib.Omega.{arith}
-use mathlib.Core.Bool.{Bool, true, false, _&&_}
-use mathlib.Core.List.{List, [], _∷_, _++_}
-use mathlib.Core.Path.{_≡_, refl, sym, ap, _∙_}
-use lib.Dec.{T, ltb, leb→le, ltb→lt, lit<, lit≤}
-use lib.ListN.{length, getD, length-append}
+use Rattle.machine.specs.All.{ℕ, suc, _+_, _-_, _≤_, _<_, arith, Bool, true, false, _&&_, List, [], _∷_, _++_, _≡_, refl, sym, ap, _∙_, T, ltb, leb→le, ltb→lt, lit<, lit≤, length, getD, length-append, maxConstant, Relation, equal, unequal, less, atMost, greater, atLeast, related, View, queueAt, serverAt, wrap, oneIf, Term, constant, minusConstant, parameter, clockTerm, entriesOf, contentOf, unitsInUse, unitsFree, facilityInUse, value, comparison, bracket, Sum, nothing, plus, minus, term, sum}
 use lib.IntN.{ℤ, pos, negℤ, _+ℤ_, _-ℤ_}
-use Rattle.machine.specs.Limits.{maxConstant}
-use Rattle.machine.specs.Term.{Relation, equal, unequal, less, atMost, greater, atLeast, related, View, queueAt, serverAt, wrap, oneIf, Term, constant, minusConstant, parameter, clockTerm, entriesOf, contentOf, unitsInUse, unitsFree, facilityInUse, value, comparison, bracket, Sum, nothing, plus, minus, term, sum}
-use Rattle.tables.specs.Numbers.{relationNumber, terms, termNumbers, signedTerms}
-use Rattle.tables.specs.Represents.{At, smallTerm, smallSum}
-use Rattle.terms.specs.Evaluation.{Worth, relatedBy, simpleTerm, worthAt, joined, judged, sumFrom, comparisonFrom, termFrom}
-use Rattle.terms.specs.Nested.{nestedTerm, nestedSum}
-use Rattle.terms.specs.Sees.{parametersOf, Sees}
+use Rattle.tables.specs.All.{relationNumber, terms, termNumbers, signedTerms, At, smallTerm, smallSum}
+use Rattle.terms.specs.{Worth, relatedBy, simpleTerm, worthAt, joined, judged, sumFrom, comparisonFrom, termFrom, nestedTerm, nestedSum, parametersOf}
+use Rattle.terms.specs.Sees.{Sees}
 use Rattle.terms.proofs.Found.{at-first, at-front, at-back}
 use Rattle.terms.proofs.Seen.{small-is, sees-clock, sees-entries, sees-content, sees-in-use, sees-facility, sees-free, sees-parameter}
 use Rattle.terms.proofs.Steps.{term-simple, term-mention, term-comparison, term-bracket, comparison-step, sum-none, sum-step}

@@ -1,22 +1,10 @@
 -- A value evaluated on demand is the one that the machine's fold puts at its place, by induction over the values.
-use Prim.Native.Nat.{ℕ, zero, suc, _+_, _*_, _≤_, _<_}
-use native.Mathlib.Omega.{arith}
-use mathlib.Core.Bool.{Bool, true, false, cond}
-use mathlib.Core.List.{List, [], _∷_, _++_}
-use mathlib.Core.Path.{_≡_, refl, sym, ap, _∙_}
-use lib.Dec.{T, ltb, eqb}
-use lib.ListN.{length, getD, take, length-append, List·getD-append, List·getD-eq-default}
-use lib.Seq.{take-suc, take-length, length-take-le, getD-at}
+use Rattle.machine.specs.All.{cases, ℕ, zero, suc, _+_, _*_, _≤_, _<_, arith, Bool, true, false, cond, List, [], _∷_, _++_, _≡_, refl, sym, ap, _∙_, T, ltb, eqb, length, getD, take, length-append, List·getD-append, List·getD-eq-default, take-suc, take-length, length-take-le, getD-at, eqb-true, eqb-false, ltb-true, ltb-false, maxBrackets, View, Sum, nothing, sum, worths}
 use lib.IntN.{ℤ, pos}
-use borrow.Author.Tests.{eqb-true, eqb-false, ltb-true, ltb-false}
-use Rattle.machine.specs.Limits.{maxBrackets}
-use Rattle.machine.specs.Term.{View, Sum, nothing, sum, worths}
 use Rattle.tables.specs.Layout as Layout
-use Rattle.tables.specs.Numbers.{terms, signedTerms, sumNumbers}
-use Rattle.tables.specs.Represents.{At, smallSum}
-use Rattle.terms.specs.Evaluation.{Worth, simpleTerm, sumFrom, bracketFrom, termFrom, valueBy, valueBelow}
-use Rattle.terms.specs.Nested.{nestedSum}
-use Rattle.terms.specs.Sees.{parametersOf, Sees}
+use Rattle.tables.specs.All.{terms, signedTerms, sumNumbers, At, smallSum}
+use Rattle.terms.specs.{Worth, simpleTerm, sumFrom, bracketFrom, termFrom, valueBy, valueBelow, nestedSum, parametersOf}
+use Rattle.terms.specs.Sees.{Sees}
 use Rattle.terms.proofs.Found.{at-first}
 use Rattle.terms.proofs.Terms.{sum-found}
 
@@ -89,13 +77,10 @@ module _ {w : View} {tables tally : List ℕ} {clock : ℕ} (s : Sees w tables t
 
     values-more : (k : ℕ) → valueBelow tables (simpleTerm tables tally clock p) (suc l) k ≡ cond (eqb k l) next (getD lower k (pos 0))
     unfolding valueBelow
-    values-more k = go (eqb k l) refl
-      where
-        go : (t : Bool) → eqb k l ≡ t →
-            cond t (valueBy tables (simpleTerm tables tally clock p) (valueBelow tables (simpleTerm tables tally clock p) l))
-            (valueBelow tables (simpleTerm tables tally clock p) l) k ≡ cond t next (getD lower k (pos 0))
-        go true e = rw (eqb-true k l e) (value-found l h (valueBelow tables (simpleTerm tables tally clock p) l) lower agrees)
-        go false e = agrees k
+    values-more k =
+        cases (eqb k l)
+        (λ e. rw e (rw (eqb-true k l e) (value-found l h (valueBelow tables (simpleTerm tables tally clock p) l) lower agrees)))
+        (λ e. rw e (agrees k))
 
   pub values-found : (l : ℕ) → l ≤ length values → (k : ℕ) →
       valueBelow tables (simpleTerm tables tally clock p) l k ≡ getD (worths w (parametersOf p) (take l values) []) k (pos 0)

@@ -1,14 +1,8 @@
 -- Evaluation over the numbers of the tables and the tally, as the code does it. It asks nothing of them: an index past an end
 -- reads 0, a mention of a value that is not lower is worth 0, and so is a bracket deeper than the limit.
-use Prim.Native.Nat.{ℕ, zero, suc, _+_, _-_, _*_, _/_}
-use mathlib.Core.Bool.{Bool, cond, not}
-use mathlib.Core.List.{List}
-use lib.Dec.{ltb, eqb}
-use lib.ListN.{length, getD}
+use Rattle.machine.specs.All.{ℕ, zero, suc, _+_, _-_, _*_, _/_, Bool, cond, not, List, ltb, eqb, length, getD, maxBlocks, maxFacilities, maxStorages, maxQueues, maxBrackets, signed, wrap, eqZ, oneIf}
 use lib.IntN.{ℤ, pos, negℤ, _+ℤ_, _-ℤ_}
 use lib.Signed.{ltZ, leZ}
-use Rattle.machine.specs.Limits.{maxBlocks, maxFacilities, maxStorages, maxQueues, maxBrackets}
-use Rattle.machine.specs.Term.{signed, wrap, eqZ, oneIf}
 use Rattle.tables.specs.Layout as Layout
 
 -- ---- Relations by their number

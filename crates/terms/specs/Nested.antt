@@ -1,12 +1,5 @@
 -- How deep brackets open: "four open brackets (each tag 10 or 11 opens one)" in a value, none in a term of a block.
-use Prim.Native.Nat.{ℕ, _-_}
-use mathlib.Core.Bool.{Bool, true, _&&_}
-use lib.Dec.{T, ltb}
-use lib.ListN.{getD}
-use Rattle.machine.specs.Limits.{maxBrackets}
-use Rattle.machine.specs.Term.{Term, constant, minusConstant, parameter, clockTerm, entriesOf, contentOf, unitsInUse, unitsFree, facilityInUse, value, comparison, bracket, Sum, nothing, plus, minus}
-use Rattle.machine.specs.Block.{Block, terminate, facts, BlockModel}
-use Rattle.machine.specs.Validate.{allOf}
+use Rattle.machine.specs.All.{ℕ, _-_, Bool, true, _&&_, T, ltb, getD, maxBrackets, Term, constant, minusConstant, parameter, clockTerm, entriesOf, contentOf, unitsInUse, unitsFree, facilityInUse, value, comparison, bracket, Sum, nothing, plus, minus, Block, terminate, facts, BlockModel, allOf}
 
 -- at most d brackets open, one in the other
 unfoldable mutual

@@ -1,12 +1,7 @@
 -- When tables and tally show what a view of the machine holds. All of it but the clock is below 2 to the 31, so that it is a signed
 -- number.
-use Prim.Native.Nat.{ℕ, _+_, _≤_, _<_}
-use mathlib.Core.List.{List, [], _∷_}
-use mathlib.Core.Path.{_≡_}
-use lib.ListN.{length, getD}
+use Rattle.machine.specs.All.{ℕ, _+_, _≤_, _<_, List, [], _∷_, _≡_, length, getD, maxBlocks, maxQueues, idleServer, emptyQueue, View, signed}
 use lib.IntN.{ℤ}
-use Rattle.machine.specs.Limits.{maxBlocks, maxQueues}
-use Rattle.machine.specs.Term.{idleServer, emptyQueue, View, signed}
 use Rattle.tables.specs.Layout as Layout
 use Rattle.terms.specs.Evaluation.{servers}
 

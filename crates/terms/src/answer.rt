@@ -2,7 +2,7 @@
 // with a sign; above, the position.
 use crate::wrapping::bits;
 use crate::wrapping::low_signed;
-ghost use mathlib.Core.Path.{_≡_};
+ghost use Rattle.machine.specs.All.{_≡_};
 ghost use Rattle.terms.specs.Evaluation.{worthAt, unpacked};
 
 // 2 to the 32

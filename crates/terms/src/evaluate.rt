@@ -14,11 +14,8 @@ use tables::TALLY;
 use tables::VALUE_WIDTH;
 use tables::VALUES;
 use tables::number;
-ghost use mathlib.Core.Path.{_≡_};
-ghost use Prim.Native.Nat.{_≤_};
-ghost use lib.ListN.{length, getD};
-ghost use Rattle.machine.specs.Term.{oneIf};
-ghost use Rattle.tables.specs.Layout.{tablesSize, most32};
+ghost use Rattle.machine.specs.All.{_≡_, _≤_, length, getD, oneIf};
+ghost use Rattle.tables.specs.All.{tablesSize, most32};
 ghost use Rattle.terms.specs.Evaluation.{unpacked, joined, judged, simpleTerm, sumFrom, comparisonFrom, valueBelow, termOf, termAt, compareAt};
 
 const POSITIONS: u32 = TABLES as u32;

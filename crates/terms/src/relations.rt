@@ -1,5 +1,5 @@
 // Document 01, "Relations: 1 =, 2 ≠, 3 <, 4 ≤, 5 >, 6 ≥, signed."
-ghost use mathlib.Core.Path.{_≡_};
+ghost use Rattle.machine.specs.All.{_≡_};
 ghost use Rattle.terms.specs.Evaluation.{relatedBy};
 
 // Is a in this relation to b? Any other number counts as 6.

@@ -1,5 +1,5 @@
 // Document 01, "sums and differences wrap in signed 32 bits".
-ghost use mathlib.Core.Path.{_≡_};
+ghost use Rattle.machine.specs.All.{_≡_};
 ghost use lib.IntN.{pos, _+ℤ_, _-ℤ_};
 ghost use Rattle.machine.specs.Term as Term;
 

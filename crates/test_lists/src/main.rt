@@ -8,8 +8,8 @@ use rows::REL;
 use rows::ROWS;
 use rows::SERIAL;
 use rows::TIME;
-ghost use Prim.Native.Nat.{_<_};
-ghost use Rattle.rows_laws.specs.Layout.{listCount, priorityEnd, Room};
+ghost use Rattle.machine.specs.All.{_<_};
+ghost use Rattle.rows_laws.specs.All.{listCount, priorityEnd, Room};
 
 // More than the layout needs.
 const LENT: usize = 16_400;

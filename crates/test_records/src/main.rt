@@ -5,7 +5,7 @@ use libc::STDOUT_FILENO;
 use trace::Reading;
 use trace::Record;
 use trace::Written;
-ghost use Prim.Native.Nat.{_<_};
+ghost use Rattle.machine.specs.All.{_<_};
 
 const RECORDS: u64 = 1000;
 

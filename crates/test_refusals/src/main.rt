@@ -4,7 +4,7 @@
 // A case is a line: its name, a colon, the bytes of the model in hexadecimal, a slash, those of the tape.
 use libc::STDIN_FILENO;
 use libc::STDOUT_FILENO;
-ghost use Prim.Native.Nat.{_<_, _≤_};
+ghost use Rattle.machine.specs.All.{_<_, _≤_};
 
 const CASES_BYTES: usize = 16_384;
 

@@ -8,7 +8,7 @@ use codec::Read;
 use constants::Model;
 use libc::STDIN_FILENO;
 use libc::STDOUT_FILENO;
-ghost use Prim.Native.Nat.{_<_};
+ghost use Rattle.machine.specs.All.{_<_};
 
 const CASES_BYTES: usize = 262_144;
 

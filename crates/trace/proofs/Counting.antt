@@ -1,15 +1,6 @@
 -- Counts of parts: one byte, two lists together, and the step of a loop that counts part after part.
-use Prim.Native.Nat.{ℕ, suc, _+_, _≤_, _<_}
-use native.Mathlib.Omega.{arith}
-use mathlib.Core.Bool.{Bool, true, false, cond}
-use mathlib.Core.List.{List, [], _∷_, _++_}
-use mathlib.Core.Path.{_≡_, ap, sym, _∙_}
-use lib.Dec.{ltb}
-use lib.ListN.{length, take, drop, getD, take-append-drop, drop-of-length-le}
-use lib.Seq.{drop-cons, drop-drop}
-use borrow.Author.Tests.{lt-ltb, le-ltb}
-use Rattle.machine.specs.Number.{countLow}
-use Rattle.trace.specs.Words.{part}
+use Rattle.machine.specs.All.{ℕ, suc, _+_, _≤_, _<_, arith, Bool, true, false, cond, List, [], _∷_, _++_, _≡_, ap, sym, _∙_, ltb, length, take, drop, getD, take-append-drop, drop-of-length-le, drop-cons, drop-drop, lt-ltb, le-ltb, countLow}
+use Rattle.trace.specs.{part}
 
 pub countLow-append : (l k : List ℕ) → countLow (l ++ k) ≡ countLow l + countLow k
 unfolding countLow

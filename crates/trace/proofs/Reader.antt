@@ -1,15 +1,7 @@
 -- The reader, pure: `readRecord` at a position before the end, by the answers of its fields in their order.
-use Prim.Native.Nat.{ℕ, _≤_, _<_}
-use mathlib.Core.List.{List}
-use mathlib.Core.Path.{_≡_}
-use lib.ListN.{length}
-use borrow.Author.Tests.{lt-ltb, le-ltb}
-use Rattle.machine.specs.Rules.{inForce}
-use Rattle.machine.specs.Limits.{maxClock, maxTransaction, maxBlocks}
-use Rattle.machine.specs.Parser.{parsed, refused, continue}
-use Rattle.machine.specs.Trace.{taken, refusal, noMore, readRecord, traceField, recordFields, reading}
+use Rattle.machine.specs.All.{ℕ, _≤_, _<_, List, _≡_, length, lt-ltb, le-ltb, inForce, maxClock, maxTransaction, maxBlocks, parsed, refused, continue, taken, refusal, noMore, readRecord, traceField, recordFields, reading}
 use Rattle.codec.specs.Answers.{cursorAt}
-use Rattle.trace.specs.Answers.{entry}
+use Rattle.trace.specs.{entry}
 
 module _ (s : List ℕ) (at : ℕ) where
   pub past-end : length s ≤ at → noMore ≡ readRecord inForce s at

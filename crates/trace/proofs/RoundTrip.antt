@@ -1,24 +1,10 @@
 -- Whole traces, there and back: records within the ranges, written one after another, read back to exactly these records and
 -- then "no more"; bytes that the reader takes whole are, written again record by record, the same bytes.
-use Prim.Native.Nat.{ℕ, _+_, _≤_, zero-le, _<_}
-use native.Mathlib.Omega.{arith}
-use mathlib.Core.Bool.{Bool, true, false, cond}
-use mathlib.Core.List.{List, [], _∷_, _++_, append-assoc}
-use mathlib.Core.Path.{_≡_, refl, sym, ap, subst, subst₂, _∙_}
-use lib.Dec.{ltb, lit≤}
-use lib.ListN.{length, drop, drop-of-length-le, length-append, length-drop}
-use lib.Seq.{drop-append-seam}
-use borrow.Author.Tests.{ltb-true, ltb-false}
-use Rattle.machine.specs.Rules.{inForce}
-use Rattle.machine.specs.Limits.{maxClock, maxTransaction, maxBlocks, fiveGroups}
-use Rattle.machine.specs.Number.{numberBytes}
-use Rattle.machine.specs.Parser.{Cursor, Parsed, Parser, parsed, refused, continue}
-use Rattle.machine.specs.Trace.{Record, recordBytes, traceBytes, taken, noMore, readRecord, traceField, recordFields, reading, inRanges}
+use Rattle.machine.specs.All.{ℕ, _+_, _≤_, zero-le, _<_, arith, Bool, true, false, cond, List, [], _∷_, _++_, append-assoc, _≡_, refl, sym, ap, subst, subst₂, _∙_, ltb, lit≤, length, drop, drop-of-length-le, length-append, length-drop, drop-append-seam, ltb-true, ltb-false, inForce, maxClock, maxTransaction, maxBlocks, fiveGroups, numberBytes, Cursor, Parsed, Parser, parsed, refused, continue, Record, recordBytes, traceBytes, taken, noMore, readRecord, traceField, recordFields, reading, inRanges}
 use Rattle.codec.specs.Answers.{cursorAt}
 use Rattle.codec.proofs.Fields.{drop-past, field-reads, field-taken}
 use Rattle.codec.proofs.Groups.{Bytes}
-use Rattle.trace.specs.Answers.{entry}
-use Rattle.trace.specs.Whole.{Reads, ends, takes, AllInRanges}
+use Rattle.trace.specs.{entry, Reads, ends, takes, AllInRanges}
 use Rattle.trace.proofs.Reader.{past-end, record-taken}
 use Rattle.trace.proofs.Writer.{recordBytes-length, record-positive, Ranges, ranges, in-ranges}
 

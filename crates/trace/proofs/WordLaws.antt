@@ -1,20 +1,10 @@
 -- Laws of words: what a word holds, its marks for every word, and marks of neighbouring parts added.
-use Prim.Native.Nat.{ℕ, zero, suc, _+_, _*_, _/_, _%_, _^_, _<_}
-use native.Mathlib.Nat.{add-comm, zero-add, suc-add, mul-comm, mul-assoc, pow-suc, mod-eq-of-lt, add-mod, mul-add-mod-self-left, add-mul-mod-self-right, add-mul-div-right}
-use native.Mathlib.Omega.{arith}
-use mathlib.Core.Bool.{Bool, true, false, cond}
-use mathlib.Core.List.{List, _∷_, _++_}
-use mathlib.Core.Path.{_≡_, refl, sym, ap, _∙_, subst}
+use Rattle.machine.specs.All.{ℕ, zero, suc, _+_, _*_, _/_, _%_, _^_, _<_, add-comm, zero-add, suc-add, mul-comm, mul-assoc, pow-suc, mod-eq-of-lt, add-mod, mul-add-mod-self-left, add-mul-mod-self-right, add-mul-div-right, arith, Bool, true, false, cond, List, _∷_, _++_, _≡_, refl, sym, ap, _∙_, subst, ltb, length, take, drop, getD, take-add, drop-drop, drop-cons, ltb-true, ltb-false, countLow}
 use lib.Arith.{digits-lt}
 use lib.Bits.{bitAnd, and-block, and-mask, and-le-r, and-zero-r}
-use lib.Dec.{ltb}
-use lib.ListN.{length, take, drop, getD}
 use lib.Pow.{pow-add}
-use lib.Seq.{take-add, drop-drop, drop-cons}
-use borrow.Author.Tests.{ltb-true, ltb-false}
-use Rattle.machine.specs.Number.{countLow}
 use Rattle.trace.proofs.Counting.{countLow-append}
-use Rattle.trace.specs.Words.{part, bytesOf, Holds, ones, Marks}
+use Rattle.trace.specs.{part, bytesOf, Holds, ones, Marks}
 
 -- ---- Parts of a list
 

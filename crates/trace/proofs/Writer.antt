@@ -1,25 +1,12 @@
 -- The writer, pure: the length of a record, the ranges as facts, its four numbers stored one after the other, and the rest
 -- that `writeRecord` leaves.
-use Prim.Native.Nat.{ℕ, _+_, _≤_, _<_}
-use native.Mathlib.Nat.{zero-add}
-use native.Mathlib.Omega.{arith}
-use mathlib.Core.Bool.{true, false, _&&_}
-use mathlib.Core.List.{List, [], _∷_, _++_, append-assoc}
-use mathlib.Core.Path.{_≡_, refl, sym, ap, ap₂, _∙_}
-use lib.Dec.{leb, lit≤}
-use lib.ListN.{length, take, drop, length-append}
-use lib.Seq.{sets, sets-eq, take-append-seam}
-use borrow.Author.Tests.{le-leb, lt-leb, leb-true}
-use Rattle.machine.specs.Rules.{inForce}
-use Rattle.machine.specs.Limits.{fiveGroups, maxClock, maxTransaction, maxBlocks, recordRoom}
-use Rattle.machine.specs.Number.{numberBytes}
-use Rattle.machine.specs.Trace.{Record, recordBytes, traceBytes, inRanges, written, rejected, writeRecord}
+use Rattle.machine.specs.All.{ℕ, _+_, _≤_, _<_, zero-add, arith, true, false, _&&_, List, [], _∷_, _++_, append-assoc, _≡_, refl, sym, ap, ap₂, _∙_, leb, lit≤, length, take, drop, length-append, sets, sets-eq, take-append-seam, le-leb, lt-leb, leb-true, inForce, fiveGroups, maxClock, maxTransaction, maxBlocks, recordRoom, numberBytes, Record, recordBytes, traceBytes, inRanges, written, rejected, writeRecord}
 use Rattle.machine.proofs.runs.RecordRoom.{record-room as room}
 use Rattle.codec.proofs.Fields.{both-true, between}
 use Rattle.codec.proofs.Numbers.{numberBytes-positive}
 use Rattle.codec.proofs.Stores.{sets-append}
 use Rattle.trace.specs.declared.Written.the-variants.{Bytes, Refused}
-use Rattle.trace.specs.Answers.{entry, after}
+use Rattle.trace.specs.{after}
 
 -- ---- Length
 

@@ -1,7 +1,5 @@
 -- What the answers of this crate say in the paper's terms. The contracts use these.
-use Prim.Native.Nat.{ℕ}
-use mathlib.Core.List.{List, _++_}
-use lib.ListN.{length, take, drop}
+use Rattle.machine.specs.All.{ℕ, List, _++_, length, take, drop}
 use Rattle.machine.specs.Trace as machine
 use Rattle.trace.specs.declared.Record.{Record}
 use Rattle.trace.specs.declared.Reading.{Reading}

@@ -1,3 +1,6 @@
 pub mod Answers
 pub mod Whole
 pub mod Words
+unfoldable pub use Answers.*
+pub use Whole.*
+unfoldable pub use Words.*

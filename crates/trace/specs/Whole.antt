@@ -1,10 +1,5 @@
 -- A whole trace, record by record.
-use Prim.Native.Nat.{ℕ}
-use mathlib.Core.Bool.{true}
-use mathlib.Core.List.{List, [], _∷_}
-use mathlib.Core.Path.{_≡_}
-use Rattle.machine.specs.Rules.{inForce}
-use Rattle.machine.specs.Trace.{Record, taken, noMore, readRecord, inRanges}
+use Rattle.machine.specs.All.{ℕ, true, List, [], _∷_, _≡_, inForce, Record, taken, noMore, readRecord, inRanges}
 
 -- From this position on the reader takes exactly these records, each at the position that the one before it gave, and then
 -- answers "no more".

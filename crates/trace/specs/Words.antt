@@ -1,9 +1,5 @@
 -- Counting by words: bytes of a slice, the bytes of a word, and marks, from which a count is read.
-use Prim.Native.Nat.{ℕ, zero, suc, _+_, _*_, _/_, _%_, _^_, _≤_, _<_}
-use mathlib.Core.List.{List, [], _∷_}
-use mathlib.Core.Path.{_≡_}
-use lib.ListN.{take, drop}
-use Rattle.machine.specs.Number.{countLow}
+use Rattle.machine.specs.All.{ℕ, zero, suc, _+_, _*_, _/_, _%_, _^_, _≤_, _<_, List, [], _∷_, _≡_, take, drop, countLow}
 
 -- the n bytes from a position on
 unfoldable pub part : List ℕ → ℕ → ℕ → List ℕ

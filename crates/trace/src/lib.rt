@@ -14,15 +14,7 @@ use words::count_1;
 use words::count_8;
 use words::count_32;
 use words::count_128;
-ghost use mathlib.Core.Path.{_≡_};
-ghost use mathlib.Core.Bool.{true};
-ghost use Prim.Native.Nat.{ℕ, _+_, _≤_, _<_};
-ghost use lib.Dec.{leb};
-ghost use lib.ListN.{length};
-ghost use lib.Seq.{sets};
-ghost use Rattle.machine.specs.Rules.{inForce};
-ghost use Rattle.machine.specs.Number.{countLow};
-ghost use Rattle.machine.specs.Trace.{recordBytes, traceField, readRecord, inRanges, writeRecord};
+ghost use Rattle.machine.specs.All.{_≡_, true, ℕ, _+_, _≤_, _<_, leb, length, sets, inForce, countLow, recordBytes, traceField, readRecord, inRanges, writeRecord};
 ghost use Rattle.codec.specs.Answers.{cursorAt, parsedOf};
 ghost use Rattle.trace.specs.Answers.{entry, readingOf, writingOf, after};
 

@@ -1,9 +1,6 @@
 // Counting eight bytes in a word at a time. A word's marks have a 1 for each byte that is not low, in that byte's place. Since
 // 256 leaves 1 modulo 255, the marks of up to 254 bytes, added, leave how many bytes are not low.
-ghost use mathlib.Core.Path.{_≡_};
-ghost use Prim.Native.Nat.{_+_, _≤_, _<_};
-ghost use lib.ListN.{length};
-ghost use Rattle.machine.specs.Number.{countLow};
+ghost use Rattle.machine.specs.All.{_≡_, _+_, _≤_, _<_, length, countLow};
 ghost use Rattle.trace.specs.Words.{part, bytesOf, Holds, Marks};
 
 // Low is what is below 80 hexadecimal.

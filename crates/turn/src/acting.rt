@@ -17,13 +17,9 @@ use tables::BLOCK_WIDTH;
 use tables::CLOCK_ASKED;
 use tables::TABLES;
 use tables::TALLY;
-ghost use mathlib.Core.Path.{_≡_};
-ghost use Prim.Native.Nat.{ℕ, _+_, _<_, _≤_};
-ghost use mathlib.Core.List.{List};
-ghost use Rattle.machine.specs.Limits.{maxBlocks, maxFacilities};
-ghost use Rattle.rows_laws.specs.Layout.{Room, rowCount, nextField};
-ghost use Rattle.rows_laws.specs.Cells.{read};
-ghost use Rattle.state.specs.Stands.{rowsOf};
+ghost use Rattle.machine.specs.All.{_≡_, ℕ, _+_, _<_, _≤_, List, maxBlocks, maxFacilities};
+ghost use Rattle.rows_laws.specs.All.{Room, rowCount, nextField, read};
+ghost use Rattle.state.specs.All.{rowsOf};
 ghost use Rattle.turn_laws.specs.Turn.{traced, act, actMoving, clockAsks, asks, schemeIf, afterTaking, turn};
 
 // The moving transaction, with this number and next block, executes that block, and its record is noted.

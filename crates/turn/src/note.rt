@@ -8,7 +8,7 @@ use tables::count;
 use tables::set_count;
 use trace::Written;
 use trace::write_record;
-ghost use mathlib.Core.Path.{_≡_};
+ghost use Rattle.machine.specs.All.{_≡_};
 ghost use Rattle.turn_laws.specs.Note.{Bytes, bytes, appendRecord, cellOf, countRecord, noted, noteRecord};
 
 // Writes a record into the unused rest of the trace buffer; answers how many bytes are used then.

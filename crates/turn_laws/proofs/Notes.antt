@@ -1,20 +1,10 @@
 -- What the trace buffer holds after the writer had its rest from `used` on, and the note as a whole.
-use Prim.Native.Nat.{ℕ, _+_, _-_, _≤_, _<_}
-use mathlib.Core.Path.{_≡_, sym, ap, _∙_, subst}
-use mathlib.Core.Bool.{Bool, true, false, cond}
-use mathlib.Core.List.{List, _++_, append-nil}
-use native.Mathlib.Omega.{arith}
-use borrow.Author.Tests.{le-leb, lt-ltb}
+use Rattle.machine.specs.All.{ℕ, _+_, _-_, _≤_, _<_, _≡_, sym, ap, _∙_, subst, Bool, true, false, cond, List, _++_, append-nil, arith, le-leb, lt-ltb, leb, length, take, drop, length-drop, drop-of-length-le, take-append-drop, take-all, inForce, Record, recordBytes, inRanges, Writing, written, rejected, writeRecord}
 use borrow.Rule.Slice.PartMut.{putMid, midOf}
-use lib.Dec.{leb}
-use lib.ListN.{length, take, drop, length-drop, drop-of-length-le, take-append-drop}
-use lib.Seq.{take-all}
-use Rattle.machine.specs.Rules.{inForce}
-use Rattle.machine.specs.Trace.{Record, recordBytes, inRanges, Writing, written, rejected, writeRecord}
 use Rattle.trace.specs.Answers.{entry, after}
 use Rattle.state.specs.declared.scalars.Scalars.{Scalars}
-use Rattle.state.specs.ScalarSetters.{putUsed}
-use Rattle.turn_laws.specs.Note.{Bytes, bytes, appended, appendRecord, countRecord, noted, noteRecord}
+use Rattle.state.specs.All.{putUsed}
+use Rattle.turn_laws.specs.{Bytes, bytes, appended, appendRecord, countRecord, noted, noteRecord}
 
 -- the whole rest is lent
 pub rest-is : (trace : List ℕ) (used : ℕ) → midOf used (length trace - used) trace ≡ drop used trace

@@ -1,20 +1,15 @@
 -- The parts of a turn, each given by an equation, make the turn.
-use Prim.Native.Nat.{ℕ, _+_, _≤_}
-use mathlib.Core.Bool.{Bool, true, false, cond}
-use mathlib.Core.Path.{_≡_, refl, sym, ap, subst, _∙_}
-use mathlib.Core.List.{List}
-use lib.Dec.{eqb}
+use Rattle.machine.specs.All.{ℕ, _+_, _≤_, Bool, true, false, cond, _≡_, refl, sym, ap, subst, _∙_, List, eqb}
 use Rattle.constants.specs.declared.model.Model.{Model}
 use Rattle.rows_laws.specs.Layout.{head, wsl}
 use Rattle.rows_laws.specs.Lists.{first}
 use Rattle.rows_laws.specs.Wake.{wakeAll}
 use Rattle.rows_laws.proofs.Steps.{wakeAll-stop}
 use Rattle.state.specs.declared.scalars.Scalars.{Scalars}
-use Rattle.state.specs.Stands.{Rows, rowsOf}
+use Rattle.state.specs.All.{Rows, rowsOf}
 use Rattle.clock.specs.Taking.{take}
 use Rattle.decisions_laws.specs.Scheme.{leaves, wsScheme}
-use Rattle.turn_laws.specs.Note.{Noted, noted, noteRecord}
-use Rattle.turn_laws.specs.Turn.{Traced, traced, withNote, actMoving, asks, schemeIf, withScheme, afterTaking, turn}
+use Rattle.turn_laws.specs.{Noted, noted, noteRecord, Traced, traced, withNote, actMoving, asks, schemeIf, withScheme, afterTaking, turn}
 
 pub note-joined : (y : Scalars) (w tally : List ℕ) (r : Rows) (z : Scalars) (tally′ trace trace′ : List ℕ) (number block : ℕ)
     → rowsOf y w tally ≡ r → noted z tally′ trace′ ≡ noteRecord tally trace y number block → traced (rowsOf z w tally′) trace′ ≡ withNote r trace number block

@@ -1,35 +1,17 @@
 -- A turn over scalars, buffers and trace is the machine's turn.
-use Prim.Native.Nat.{ℕ, _+_, _-_, _*_, _≤_, _<_}
-use mathlib.Core.Path.{_≡_, refl, sym, ap, _∙_, subst}
-use mathlib.Core.Bool.{Bool, true, false, cond, not, true≢false}
-use mathlib.Core.List.{List, _++_}
-use mathlib.Core.Option.{Option, none, some}
-use native.Mathlib.Omega.{arith}
-use borrow.Author.Tests.{lt-ltb, le-ltb, eqb-true, not-false}
-use lib.Dec.{ltb, eqb}
-use lib.ListN.{length, getD, drop}
-use Rattle.machine.specs.Transaction.{Transaction}
-use Rattle.machine.specs.Trace.{Record, traceBytes}
-use Rattle.machine.specs.Block.{Block, BlockModel, blockAt}
-use Rattle.machine.specs.State.{State, Logged}
-use Rattle.machine.specs.Outcome.{recordsOf}
-use Rattle.machine.specs.Moves.{wakeWsl}
-use Rattle.machine.specs.Execute.{question}
+use Rattle.machine.specs.All.{ℕ, _+_, _-_, _*_, _≤_, _<_, _≡_, refl, sym, ap, _∙_, subst, Bool, true, false, cond, not, true≢false, List, _++_, Option, none, some, arith, lt-ltb, le-ltb, eqb-true, not-false, ltb, eqb, length, getD, drop, Transaction, Record, traceBytes, Block, BlockModel, blockAt, State, Logged, recordsOf, wakeWsl, question, Thing, theClock, entry}
 use Rattle.machine.specs.Turn as Machine
 use Rattle.machine.proofs.decoding.Proper.{Proper}
 use Rattle.machine.proofs.runs.Placed.{Placed}
 use Rattle.machine.proofs.runs.Everybody.{Maybe}
 use Rattle.machine.proofs.runs.RunLaws.{Taken}
-use Rattle.machine.specs.Watched.{Thing, theClock, entry}
 use Rattle.machine.proofs.nobody_able.StillWaiting.{MoverSpares, scheme-unread}
 use Rattle.tables.specs.Layout as Layout
-use Rattle.tables.specs.Represents.{Represents, headerOf}
-use Rattle.rows_laws.specs.Cells.{read}
+use Rattle.tables.specs.All.{Represents, headerOf}
+use Rattle.rows_laws.specs.All.{read}
 use Rattle.terms.specs.Nested.{Nested}
 use Rattle.state.specs.declared.scalars.Scalars.{Scalars}
-use Rattle.state.specs.Sane.{Sane}
-use Rattle.state.specs.Stands.{Rows, rowsOf, Stands, Done}
-use Rattle.state.specs.Bare.{Bare, noteAs}
+use Rattle.state.specs.All.{Sane, Rows, rowsOf, Stands, Done, Bare, noteAs}
 use Rattle.state.proofs.Noted.{noted-answer}
 use Rattle.state.proofs.Gains.{Gains}
 use Rattle.state.proofs.BlockGains.{gains-wsScheme}
@@ -44,9 +26,8 @@ use Rattle.clock.proofs.TakingLaws.{take-stands}
 use Rattle.decisions_laws.proofs.SchemeLaws.{scheme-stands, scheme-low}
 use Rattle.blocks.specs.Execute.{execute}
 use Rattle.blocks.proofs.ExecuteLaws.{execute-done}
-use Rattle.turn_laws.specs.Note.{noteRecord}
+use Rattle.turn_laws.specs.{noteRecord, Traced, traced, withNote, act, actMoving, clockAsks, asks, schemeIf, withScheme, afterTaking, turn}
 use Rattle.turn_laws.specs.Writes.{Writes}
-use Rattle.turn_laws.specs.Turn.{Traced, traced, withNote, act, actMoving, clockAsks, asks, schemeIf, withScheme, afterTaking, turn}
 use Rattle.turn_laws.specs.Runs.{Runs}
 use Rattle.turn_laws.proofs.NoteLaws.{Follows, note-follows}
 use Rattle.turn_laws.proofs.Unwritten.{Unwritten, unwritten}

@@ -1,14 +1,7 @@
 -- A block's effect apart from its record leaves the records, the clock and the entries as they are.
-use Prim.Native.Nat.{ℕ, zero, suc}
-use mathlib.Core.Path.{_≡_, refl}
-use mathlib.Core.Option.{none}
-use Rattle.machine.specs.Transaction.{Transaction}
-use Rattle.machine.specs.Block.{Block, BlockModel}
-use Rattle.machine.specs.State.{State}
-use Rattle.machine.specs.Setters.{setMoving}
-use Rattle.machine.specs.Execute.{question}
+use Rattle.machine.specs.All.{ℕ, zero, suc, _≡_, refl, none, Transaction, Block, BlockModel, State, setMoving, question}
 use Rattle.machine.proofs.decoding.Proper.{ProperBlock}
-use Rattle.state.specs.Bare.{bareAnswer}
+use Rattle.state.specs.All.{bareAnswer}
 use Rattle.state.proofs.BlockGains.{bare-gains}
 
 pub record Unwritten (s x : State) : Type 0 where

@@ -2,3 +2,5 @@ pub mod Note
 pub mod Runs
 pub mod Turn
 pub mod Writes
+unfoldable pub use Note.*
+unfoldable pub use Turn.*

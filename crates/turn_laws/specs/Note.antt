@@ -1,15 +1,9 @@
 -- The row machine: the record of a block in the trace buffer, and the count of its entries or waits.
-use Prim.Native.Nat.{ℕ, _+_, _-_, min}
-use mathlib.Core.Bool.{cond}
-use mathlib.Core.List.{List, _++_}
-use lib.Dec.{ltb, leb, eqb}
-use lib.ListN.{length, getD, set, take, drop}
-use Rattle.tables.specs.Layout.{waits, most64}
-use Rattle.machine.specs.Rules.{inForce}
-use Rattle.machine.specs.Trace.{Writing, written, rejected, writeRecord}
+use Rattle.machine.specs.All.{ℕ, _+_, _-_, min, cond, List, _++_, ltb, leb, eqb, length, getD, set, take, drop, inForce, Writing, written, rejected, writeRecord}
+use Rattle.tables.specs.All.{waits, most64}
 use Rattle.trace.specs.Answers.{entry}
 use Rattle.state.specs.declared.scalars.Scalars.{Scalars}
-use Rattle.state.specs.ScalarSetters.{putUsed}
+use Rattle.state.specs.All.{putUsed}
 
 -- how many bytes of the trace buffer are used, and the buffer
 pub record Bytes : Type 0 where

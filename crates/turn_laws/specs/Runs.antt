@@ -1,8 +1,6 @@
 -- When rows and trace buffer stand for a state of the machine and its records.
-use Prim.Native.Nat.{ℕ}
-use mathlib.Core.List.{List}
-use Rattle.machine.specs.State.{State}
-use Rattle.state.specs.Stands.{Stands}
+use Rattle.machine.specs.All.{ℕ, List, State}
+use Rattle.state.specs.All.{Stands}
 use Rattle.turn_laws.specs.Turn.{Traced}
 use Rattle.turn_laws.specs.Writes.{Writes}
 

@@ -1,16 +1,10 @@
 -- The row machine: a whole turn over scalars, work buffer, tally and trace buffer.
-use Prim.Native.Nat.{ℕ, _+_, _*_, _-_}
-use mathlib.Core.Bool.{Bool, true, false, cond, not}
-use mathlib.Core.List.{List}
-use lib.Dec.{ltb, eqb}
-use lib.ListN.{getD}
-use Rattle.machine.specs.Limits.{maxBlocks}
+use Rattle.machine.specs.All.{ℕ, _+_, _*_, _-_, Bool, true, false, cond, not, List, ltb, eqb, getD, maxBlocks}
 use Rattle.constants.specs.declared.model.Model.{Model}
 use Rattle.tables.specs.Layout as Layout
-use Rattle.rows_laws.specs.Layout.{numberField, nextField, rowCount}
-use Rattle.rows_laws.specs.Cells.{read}
+use Rattle.rows_laws.specs.All.{numberField, nextField, rowCount, read}
 use Rattle.state.specs.declared.scalars.Scalars.{Scalars}
-use Rattle.state.specs.Stands.{Rows, rowsOf}
+use Rattle.state.specs.All.{Rows, rowsOf}
 use Rattle.clock.specs.Taking.{take}
 use Rattle.decisions_laws.specs.Scheme.{wsScheme}
 use Rattle.blocks.specs.Execute.{execute}

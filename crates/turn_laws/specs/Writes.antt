@@ -1,11 +1,5 @@
 -- When the trace buffer stands for the records of a state of the machine.
-use Prim.Native.Nat.{ℕ}
-use mathlib.Core.Path.{_≡_}
-use mathlib.Core.List.{List, _++_}
-use lib.ListN.{length, drop}
-use Rattle.machine.specs.Trace.{traceBytes}
-use Rattle.machine.specs.State.{State}
-use Rattle.machine.specs.Outcome.{recordsOf}
+use Rattle.machine.specs.All.{ℕ, _≡_, List, _++_, length, drop, traceBytes, State, recordsOf}
 
 -- `before` is what stood in the trace buffer at the start
 pub record Writes (before trace : List ℕ) (s : State) : Type 0 where

@@ -1,16 +1,11 @@
 -- One step after the other, pure: from what a call kept (specs/Keeps) to what its caller keeps of a parser that goes on.
-use Prim.Native.Nat.{ℕ, _-_}
-use native.Mathlib.Omega.{arith}
-use mathlib.Core.Path.{_≡_, refl, sym, ap, _∙_}
-use mathlib.Core.List.{List}
-use lib.Seq.{sets}
-use Rattle.machine.specs.Parser.{Cursor, Parsed, parsed, refused, Parser, continue}
+use Rattle.machine.specs.All.{ℕ, arith, _≡_, refl, sym, ap, _∙_, List, sets, Cursor, Parsed, parsed, refused, Parser, continue}
 use Rattle.values.specs.declared.Place.{Place}
 use Rattle.values.specs.declared.Taken.{Taken}
 use Rattle.values.specs.declared.Taken.the-variants.{Number, Refused as NotTaken}
 use Rattle.values.specs.declared.Stored.{Stored}
 use Rattle.values.specs.declared.Stored.the-variants.{Done, Refused}
-use Rattle.values.specs.Keeps.{cursorOf, placeOf, Shape, Takes, Stores}
+use Rattle.values.specs.{cursorOf, placeOf, Shape, Takes, Stores}
 
 -- ---- A number that was refused, or read
 

@@ -1,13 +1,7 @@
 -- What stands in the cells after stores, pure: inside and outside of a run of stores (`sets`), and of rows (`storedRows`).
-use Prim.Native.Nat.{ℕ, zero, suc, _+_, _*_, _-_, _≤_, _<_}
-use native.Mathlib.Nat.{mul-suc, mul-zero}
-use native.Mathlib.Omega.{arith}
-use mathlib.Core.Path.{_≡_, refl, _∙_}
-use mathlib.Core.List.{List, [], _∷_}
-use lib.ListN.{length, getD, take, drop, set, length-set, length-take, length-drop}
-use lib.Seq.{sets, length-sets, getD-set-other, getD-set-same, ext-getD, getD-take, getD-drop}
-use Rattle.tables.specs.Represents.{At}
-use Rattle.values.specs.Rows.{storedRows, Each}
+use Rattle.machine.specs.All.{ℕ, zero, suc, _+_, _*_, _≤_, _<_, mul-suc, mul-zero, arith, _≡_, refl, _∙_, List, [], _∷_, length, getD, take, drop, set, length-set, length-take, length-drop, sets, length-sets, getD-set-other, getD-set-same, ext-getD, getD-take, getD-drop}
+use Rattle.tables.specs.All.{At}
+use Rattle.values.specs.{storedRows, Each}
 
 -- ---- A run of stores
 

@@ -1,15 +1,6 @@
 -- "does each block named in a value exist?" is one test of the largest number named.
-use Prim.Native.Nat.{ℕ, max}
-use native.Mathlib.Omega.{arith}
-use mathlib.Core.Path.{_≡_, refl, ap, _∙_}
-use mathlib.Core.Bool.{Bool, true, false, _&&_}
-use mathlib.Core.List.{List, [], _∷_}
-use lib.Dec.{leb}
-use borrow.Author.Tests.{leb-true, leb-false, le-leb, lt-leb}
-use Rattle.machine.specs.Term.{Term, constant, minusConstant, parameter, clockTerm, entriesOf, contentOf, unitsInUse, unitsFree, facilityInUse, value, comparison, bracket, Sum, nothing, plus, minus}
-use Rattle.machine.specs.Validate.{termNames, sumNames, allOf}
-use Rattle.values.specs.Shapes.{termNamed, sumNamed}
-use Rattle.values.specs.Rows.{allNamed}
+use Rattle.machine.specs.All.{ℕ, max, arith, _≡_, refl, ap, _∙_, Bool, true, false, _&&_, List, [], _∷_, leb, leb-true, leb-false, le-leb, lt-leb, Term, constant, minusConstant, parameter, clockTerm, entriesOf, contentOf, unitsInUse, unitsFree, facilityInUse, value, comparison, bracket, Sum, nothing, plus, minus, termNames, sumNames, allOf}
+use Rattle.values.specs.{termNamed, sumNamed, allNamed}
 
 and-true : (b : Bool) → b ≡ (b && true)
 and-true true = refl

@@ -1,20 +1,10 @@
 -- Rows, pure: one more row in front of those to come, and what stands where after all of them were stored.
-use Prim.Native.Nat.{ℕ, zero, suc, _+_, _*_, _-_, _≤_, _<_}
-use native.Mathlib.Nat.{mul-suc, mul-zero}
-use native.Mathlib.Numerals.{add-one}
-use native.Mathlib.Omega.{arith}
-use mathlib.Core.Path.{_≡_, refl, sym, ap, _∙_, fun-ext}
-use mathlib.Core.List.{List, [], _∷_}
-use lib.ListN.{length, getD}
-use lib.Seq.{sets}
-use Rattle.machine.specs.Parser.{Cursor, Parsed, parsed, refused, Parser, continue, times}
-use Rattle.machine.specs.Term.{Sum}
-use Rattle.machine.specs.Decode.{Counts, valueField, valueFields, inValue}
+use Rattle.machine.specs.All.{ℕ, zero, suc, _+_, _*_, _-_, _≤_, _<_, mul-suc, mul-zero, add-one, arith, _≡_, refl, sym, ap, _∙_, fun-ext, List, [], _∷_, length, getD, sets, Cursor, Parsed, parsed, refused, Parser, continue, times, Sum, Counts, valueField, valueFields, inValue}
 use Rattle.values.specs.declared.Place.{Place}
 use Rattle.values.specs.declared.Stored.{Stored}
 use Rattle.values.specs.declared.Stored.the-variants.{Done, Refused}
-use Rattle.values.specs.Keeps.{cursorOf, placeOf, Shape, Stores}
-use Rattle.values.specs.Rows.{rowsField, allNamed, storedRows, Each, Rows}
+use Rattle.values.specs.{cursorOf, placeOf, Shape, Stores, rowsField, allNamed, storedRows, Each}
+use Rattle.values.specs.Rows.{Rows}
 use Rattle.values.proofs.Binds.{stores-stop, stores-bind}
 
 -- ---- The machine's counted parsers are rows

@@ -1,28 +1,15 @@
 -- What each function of the crate keeps, pure: from what its calls kept, by the definitions of the machine's parsers.
-use Prim.Native.Nat.{ℕ, zero, suc, _+_, _-_, _≤_, _<_, max}
-use native.Mathlib.Omega.{arith}
-use mathlib.Core.Path.{_≡_, refl, sym, ap, _∙_}
-use mathlib.Core.Bool.{Bool, true, false, cond, _&&_}
-use mathlib.Core.List.{List, [], _∷_, _++_}
-use lib.Dec.{eqb, T}
-use lib.ListN.{length, drop, set, length-append}
-use lib.Seq.{sets}
-use borrow.Author.Tests.{lt-ltb, le-ltb, eq-eqb, ne-eqb, eqb-true, eqb-false}
+use Rattle.machine.specs.All.{cases, ℕ, zero, suc, _+_, _-_, _≤_, _<_, max, arith, _≡_, refl, sym, ap, _∙_, Bool, true, false, cond, _&&_, List, [], _∷_, _++_, eqb, T, length, drop, set, length-append, sets, lt-ltb, le-ltb, eq-eqb, ne-eqb, eqb-true, eqb-false, Cursor, Parsed, parsed, refused, Parser, continue, field, Term, value, comparison, bracket, Sum, plus, minus, Counts, valueNumber, counted, mentioned, comparisonField, bracketField, sumField, sumTerms, taggedTerm, valueTerm, valueField, blockTerm, relationOf}
 use Rattle.codec.specs.declared.Field.{Field}
 use Rattle.codec.specs.declared.Field.the-variants.{Value, Refused as NoField}
 use Rattle.codec.specs.Answers.{parsedOf}
-use Rattle.machine.specs.Parser.{Cursor, Parsed, parsed, refused, Parser, continue, field}
-use Rattle.machine.specs.Term.{Term, value, comparison, bracket, Sum, plus, minus}
-use Rattle.machine.specs.Decode.{Counts, valueNumber, counted, mentioned, comparisonField, bracketField, sumField, sumTerms, taggedTerm, valueTerm, valueField, blockTerm, relationOf, simpleTerm}
-use Rattle.tables.specs.Numbers.{termNumbers, signedTerms, sumNumbers, terms, relationNumber}
-use Rattle.tables.specs.Represents.{smallTerm, smallSum}
+use Rattle.tables.specs.All.{termNumbers, signedTerms, sumNumbers, terms, relationNumber, smallTerm, smallSum}
 use Rattle.values.specs.declared.Place.{Place}
 use Rattle.values.specs.declared.Taken.{Taken}
 use Rattle.values.specs.declared.Taken.the-variants.{Number, Refused as NotTaken}
 use Rattle.values.specs.declared.Stored.{Stored}
 use Rattle.values.specs.declared.Stored.the-variants.{Done, Refused}
-use Rattle.values.specs.Keeps.{cursorOf, placeOf, Shape, Takes, Stores, plainShape, numberShape, countedShape}
-use Rattle.values.specs.Shapes.{rangeOf, termOf, operandField, termNamed, sumNamed, termShape, operandShape, sumShape, termsShape, valueShape, blockTermShape}
+use Rattle.values.specs.{cursorOf, placeOf, Shape, Takes, Stores, plainShape, numberShape, countedShape, rangeOf, termOf, operandField, termNamed, sumNamed, termShape, operandShape, sumShape, termsShape, valueShape, blockTermShape}
 use Rattle.values.proofs.Binds.{takes-refused, takes-known, takes-stop, takes-bind, stores-stop, stores-bind, stores-last, stores-as}
 use Rattle.values.proofs.Tags.{block-operand, value-operand, operand-numbers, operand-named, operand-small, relation-number}
 
@@ -396,13 +383,7 @@ module _ (s : List ℕ) (n : Counts) where
       term-fifth after h e =
           rw (term-tagged depth (cursorOf p), e)
           (takes-bind (Stores _ _ _ _ _ _) _ _ k₁ told
-          (λ named cells fact. rw (ne-eqb tag 9 (omega arith)) (go (eqb tag 10) refl (fact .1))))
-        where
-          go : (b : Bool) → eqb tag 10 ≡ b → tag ≤ 11 →
-              Stores termShape p (base + p .numbers) l₀ after (Refused 5)
-              (cond b (λ (c : Cursor). refused 5) (cond (eqb tag 11) (λ (c : Cursor). refused 5) (simpleTerm (valueNumber s) n tag)) (cursorOf q))
-          go true f g = record { held = refl }
-          go false f g = rw (eq-eqb tag 11 (omega (arith, eqb-false tag 10 f))) (record { held = refl })
+          (λ named cells fact. rw (ne-eqb tag 9 (omega arith)) (cases (eqb tag 10) (λ f. rw f (record { held = refl })) (λ f. rw f (rw (eq-eqb tag 11 (omega (arith, eqb-false tag 10 f))) (record { held = refl }))))))
 
       pub term-comparison : {l₂ : List ℕ} {r₂ : Stored} → (depth ≡ 0 → ⊥) → tag ≡ 10 →
           Stores (operandShape 10) q (base + q .numbers) l₁ l₂ r₂ (comparisonField s (valueTerm s n (depth - 1)) (cursorOf q)) →

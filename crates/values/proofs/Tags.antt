@@ -1,18 +1,7 @@
 -- The number after a tag from 0 to 9, pure: its range, the term that it makes and how that term is kept.
-use Prim.Native.Nat.{ℕ, zero, suc, _+_, _-_, _≤_, max}
-use native.Mathlib.Omega.{arith}
-use mathlib.Core.Path.{_≡_, refl, ap}
-use mathlib.Core.Bool.{cond}
-use mathlib.Core.List.{List, [], _∷_}
-use lib.Dec.{eqb, T}
-use borrow.Author.Tests.{le-leb}
-use Rattle.machine.specs.Parser.{Cursor, parsed, Parser, continue, field}
-use Rattle.machine.specs.Term.{Term, value}
-use Rattle.machine.specs.Decode.{Counts, simpleTerm, valueNumber, mentionField, mentioned}
-use Rattle.tables.specs.Numbers.{termNumbers, relationNumber}
-use Rattle.tables.specs.Represents.{smallTerm}
-use Rattle.machine.specs.Decode.{relationOf}
-use Rattle.values.specs.Shapes.{rangeOf, termOf, operandField, termNamed}
+use Rattle.machine.specs.All.{ℕ, zero, suc, _+_, _-_, _≤_, max, arith, _≡_, refl, ap, cond, List, [], _∷_, eqb, T, le-leb, Cursor, parsed, Parser, continue, field, Term, value, Counts, simpleTerm, valueNumber, mentionField, mentioned, relationOf}
+use Rattle.tables.specs.All.{termNumbers, relationNumber, smallTerm}
+use Rattle.values.specs.{rangeOf, termOf, operandField, termNamed}
 
 -- a law of every tag is a law of each
 pub by-tag : (P : ℕ → Type 0) → P 0 → P 1 → P 2 → P 3 → P 4 → P 5 → P 6 → P 7 → P 8 → P 9 → (tag : ℕ) → tag ≤ 9 → P tag

@@ -1,12 +1,7 @@
 -- What reading and storing gives: by cases on what a parser of the machine gives, the answer, the cells of the tables and
 -- what else is known of the thing that was read.
-use Prim.Native.Nat.{ℕ, suc, _+_, _-_, _≤_, _<_}
-use mathlib.Core.Path.{_≡_}
-use mathlib.Core.List.{List, [], _∷_}
-use lib.Seq.{sets}
-use Rattle.machine.specs.Limits.{maxValueNumbers}
-use Rattle.machine.specs.Parser.{Cursor, Parsed, parsed, refused}
-use Rattle.tables.specs.Layout.{wordEnd}
+use Rattle.machine.specs.All.{ℕ, suc, _+_, _-_, _≤_, _<_, _≡_, List, [], _∷_, sets, maxValueNumbers, Cursor, Parsed, parsed, refused}
+use Rattle.tables.specs.All.{wordEnd}
 use Rattle.values.specs.declared.Place.{Place}
 use Rattle.values.specs.declared.Taken.{Taken}
 use Rattle.values.specs.declared.Taken.the-variants.{Number, Refused as NotTaken}

@@ -1,9 +1,5 @@
 -- Several things, read one after the other and stored in rows of one width.
-use Prim.Native.Nat.{ℕ, zero, suc, _+_}
-use mathlib.Core.Path.{_≡_}
-use mathlib.Core.List.{List, [], _∷_}
-use lib.Seq.{sets}
-use Rattle.machine.specs.Parser.{Parsed, parsed, refused, Parser, continue}
+use Rattle.machine.specs.All.{ℕ, zero, suc, _+_, _≡_, List, [], _∷_, sets, Parsed, parsed, refused, Parser, continue}
 use Rattle.values.specs.declared.Place.{Place}
 use Rattle.values.specs.declared.Stored.{Stored}
 use Rattle.values.specs.declared.Stored.the-variants.{Done, Refused}

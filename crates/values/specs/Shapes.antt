@@ -1,17 +1,7 @@
 -- How numbers, terms, sums and values are kept (Keeps.antt), and the largest block number that they name.
-use Prim.Native.Nat.{ℕ, _+_, _≤_, max}
-use mathlib.Core.Path.{_≡_}
-use mathlib.Core.Bool.{cond}
-use mathlib.Core.List.{List, _∷_}
-use lib.Dec.{eqb, T}
-use lib.ListN.{length, drop}
-use Rattle.machine.specs.Limits.{maxFacilities, maxStorages, maxQueues, maxValues, maxLists, maxBlocks, maxConstant, parameterCount, maxValueNumbers}
-use Rattle.machine.specs.Parser.{Cursor, Parser}
-use Rattle.machine.specs.Decode.{Counts, simpleTerm, valueNumber, mentionField}
-use Rattle.machine.specs.Term.{Term, constant, minusConstant, parameter, clockTerm, entriesOf, contentOf, unitsInUse, unitsFree, facilityInUse, value, comparison, bracket, Sum, nothing, plus, minus}
+use Rattle.machine.specs.All.{ℕ, _+_, _≤_, max, _≡_, cond, List, _∷_, eqb, T, length, drop, maxFacilities, maxStorages, maxQueues, maxValues, maxLists, maxBlocks, maxConstant, parameterCount, maxValueNumbers, Cursor, Parser, Counts, simpleTerm, valueNumber, mentionField, Term, constant, minusConstant, parameter, clockTerm, entriesOf, contentOf, unitsInUse, unitsFree, facilityInUse, value, comparison, bracket, Sum, nothing, plus, minus}
 use Rattle.constants.specs.declared.model.Model.{Model}
-use Rattle.tables.specs.Numbers.{termNumbers, signedTerms, sumNumbers, terms}
-use Rattle.tables.specs.Represents.{smallTerm, smallSum}
+use Rattle.tables.specs.All.{termNumbers, signedTerms, sumNumbers, terms, smallTerm, smallSum}
 use Rattle.values.specs.declared.Place.{Place}
 use Rattle.values.specs.declared.Range.{Range}
 use Rattle.values.specs.Keeps.{Shape}

@@ -1,12 +1,7 @@
 -- The loops of the crate, pure: one step more, and all of them.
-use Prim.Native.Nat.{ℕ, zero, suc, _+_, _-_, _≤_, _<_}
-use native.Mathlib.Omega.{arith}
-use mathlib.Core.List.{List}
-use mathlib.Core.Path.{_≡_, refl, sym, ap, _∙_}
-use lib.ListN.{getD, set, replicate}
+use Rattle.machine.specs.All.{ℕ, zero, suc, _+_, _-_, _≤_, _<_, arith, List, _≡_, refl, sym, ap, _∙_, getD, set, replicate}
 use Rattle.tables.specs.Layout as Layout
-use Rattle.watch.specs.Walk.{clockMark, marksSize}
-use Rattle.watch.specs.Watch.{reachValue, reach, waitMarks, waitsMarks, marksOf, ownOf, askedOf, ownStored, askedStored, withMarks, watched}
+use Rattle.watch.specs.{clockMark, marksSize, reachValue, reach, waitMarks, waitsMarks, marksOf, ownOf, askedOf, ownStored, askedStored, withMarks, watched}
 
 -- ---- Through the values, downward: the rest from here is the whole
 

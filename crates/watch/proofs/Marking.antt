@@ -1,17 +1,6 @@
 -- Marks as a set of things: what a term or a sum names is in it once its cells are marked.
-use Prim.Native.Nat.{ℕ, zero, suc, _+_, _-_, _%_, _≤_, _<_}
-use native.Mathlib.Omega.{arith}
-use mathlib.Core.Bool.{Bool, true, false, cond}
-use mathlib.Core.List.{List, [], _∷_, _++_}
-use mathlib.Core.Path.{_≡_, refl, sym, ap, _∙_, subst}
-use borrow.Author.Tests.{lt-ltb, ltb-true, eq-eqb}
-use lib.Dec.{ltb, eqb}
-use lib.ListN.{length, getD, set, length-set}
-use lib.Seq.{getD-set-same, getD-set-other}
-use Rattle.machine.specs.Term.{Term, constant, minusConstant, parameter, clockTerm, entriesOf, contentOf, unitsInUse, unitsFree, facilityInUse, value, comparison, bracket, Sum, nothing, plus, minus}
-use Rattle.machine.specs.Claims.{Each}
-use Rattle.machine.specs.Watched.{Thing, own, theClock, entry, queue, server, worth, Within, SumWithin}
-use Rattle.watch.specs.Walk.{queueMarks, serverMarks, valueMarks, clockMark, ownMark, noMark, marksSize}
+use Rattle.machine.specs.All.{cases, ℕ, zero, suc, _+_, _-_, _%_, _≤_, _<_, arith, Bool, true, cond, List, [], _∷_, _++_, _≡_, refl, sym, _∙_, subst, lt-ltb, ltb-true, eq-eqb, ltb, eqb, length, getD, set, length-set, getD-set-same, getD-set-other, Term, constant, minusConstant, parameter, clockTerm, entriesOf, contentOf, unitsInUse, unitsFree, facilityInUse, value, comparison, bracket, Sum, nothing, plus, minus, Each, Thing, own, theClock, entry, queue, server, worth, Within, SumWithin}
+use Rattle.watch.specs.{queueMarks, serverMarks, valueMarks, clockMark, ownMark, noMark, marksSize}
 use Rattle.watch.proofs.Walking.{markAll, valueCell, termCells, sumCells}
 
 -- ---- The cells of a term
@@ -41,11 +30,7 @@ record Cells (P : ℕ → Type 0) (lower : ℕ) : Type 0 where
 module _ (P : ℕ → Type 0) (lower : ℕ) (c : Cells P lower) where
   value-each : (k : ℕ) → P (valueCell lower k)
   unfolding valueCell
-  value-each k = go (ltb k lower) refl
-    where
-      go : (b : Bool) → ltb k lower ≡ b → P (cond b (valueMarks + k % 8) noMark)
-      go true e = c .values k (ltb-true k lower e)
-      go false e = c .nothing-named
+  value-each k = cases (ltb k lower) (λ e. rw e (c .values k (ltb-true k lower e))) (λ e. rw e (c .nothing-named))
 
   mutual
     unfolding termCells

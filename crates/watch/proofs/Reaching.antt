@@ -1,25 +1,10 @@
 -- What is marked: all that the WAITIFs read, through values; of a value alone, all that it reads.
-use Prim.Native.Nat.{ℕ, zero, suc, _+_, _-_, _*_, _%_, _≤_, _<_}
-use native.Mathlib.Omega.{arith}
-use mathlib.Core.Bool.{Bool, true, false, cond}
-use mathlib.Core.List.{List, [], _∷_, _++_}
-use mathlib.Core.Option.{Option, none, some}
-use mathlib.Core.Path.{_≡_, refl, sym, ap, _∙_, subst}
-use borrow.Author.Tests.{eqb-true, eqb-false, ltb-true, ltb-false, eq-eqb, ne-eqb}
-use lib.Dec.{ltb, eqb}
-use lib.ListN.{length, getD, set, replicate, length-append, List·getD-eq-default}
-use Rattle.machine.specs.Term.{Term, Relation, Sum, nothing, Condition, always, whenTrue}
-use Rattle.machine.specs.Block.{facility, storage, Block, terminate, waitTerms, facts, BlockModel, blockAt}
-use Rattle.machine.specs.Claims.{Each}
-use Rattle.machine.specs.Watched.{Thing, worth, Within, SumWithin, WaitWithin, Through, Watches}
-use Rattle.tables.specs.Forms.{blockForms}
+use Rattle.machine.specs.All.{cases, ℕ, zero, suc, _+_, _-_, _*_, _%_, _≤_, _<_, arith, false, List, [], _∷_, _++_, Option, none, some, _≡_, refl, sym, ap, _∙_, subst, eqb-true, eqb-false, ltb-true, ltb-false, eq-eqb, ne-eqb, ltb, eqb, length, getD, length-append, List·getD-eq-default, Term, Relation, Sum, nothing, Condition, always, whenTrue, facility, storage, Block, terminate, waitTerms, facts, BlockModel, blockAt, Each, WaitWithin, Through}
+use Rattle.tables.specs.All.{blockForms, relationNumber, terms, termNumbers, signedTerms, sumNumbers, blockNumbers, At}
 use Rattle.tables.specs.Layout as Layout
-use Rattle.tables.specs.Numbers.{relationNumber, terms, termNumbers, signedTerms, sumNumbers, blockNumbers}
-use Rattle.tables.specs.Represents.{At}
 use Rattle.tables.proofs.BlockKinds.{Kinds, generating, taking, waiting, arriving, preempting, other, kinds, unasked}
 use Rattle.terms.proofs.Found.{at-first}
-use Rattle.watch.specs.Walk.{valueMarks, marksSize, walked, Walked}
-use Rattle.watch.specs.Watch.{reachValue, reach, waitMarks, waitsMarks}
+use Rattle.watch.specs.{valueMarks, marksSize, walked, Walked, reachValue, reach, waitMarks, waitsMarks}
 use Rattle.watch.proofs.Walking.{markAll, termCells, sumCells, sum-walked, wait-walked}
 use Rattle.watch.proofs.Marking.{all-keeps, all-length, both-marked, sum-marked, sum-others, Marked, term-within, sum-within, each-front, each-back}
 
@@ -52,11 +37,10 @@ module _ {m : BlockModel} {tables : List ℕ} (stored : Stored m tables) where
   -- what holds of both
   value-cases : (P : List ℕ → Type 0) (k : ℕ) → k < length (m .values) → (marks : List ℕ) → (getD marks (valueMarks + k) 0 ≡ 0 → P marks)
       → P (markAll (sumCells k (sumOf k)) marks) → P (reachValue tables k marks)
-  value-cases P k lt marks without with = go (eqb (getD marks (valueMarks + k) 0) 0) refl
-    where
-      go : (b : Bool) → eqb (getD marks (valueMarks + k) 0) 0 ≡ b → P (reachValue tables k marks)
-      go true e = let z = eqb-true _ 0 e in subst P (sym (unmarked k marks z)) (without z)
-      go false e = subst P (sym (value-marks k lt marks (eqb-false _ 0 e))) with
+  value-cases P k lt marks without with =
+      cases (eqb (getD marks (valueMarks + k) 0) 0)
+      (λ e. let z = eqb-true _ 0 e in subst P (sym (unmarked k marks z)) (without z))
+      (λ e. subst P (sym (value-marks k lt marks (eqb-false _ 0 e))) with)
 
   pub reach-keeps : (n : ℕ) → n ≤ length (m .values) → (marks : List ℕ) (i : ℕ) → getD marks i 0 ≡ 1 → getD (reach tables n marks) i 0 ≡ 1
   unfolding reach
@@ -85,7 +69,12 @@ module _ {m : BlockModel} {tables : List ℕ} (stored : Stored m tables) where
       → getD (reach tables n marks) (valueMarks + k) 0 ≡ 1 → Each (λ c. getD (reach tables n marks) c 0 ≡ 1) (sumCells k (sumOf k))
   unfolding reach
   reach-closed zero h marks size k lt e = absurd (omega arith)
-  reach-closed (suc n) h marks size k lt e = go (eqb k n) refl (reach-closed n (omega arith) (reachValue tables n marks) sized k)
+  reach-closed (suc n) h marks size k lt e =
+      cases (eqb k n)
+      (λ q. let same : k ≡ n = eqb-true k n q in
+      subst (λ (i : ℕ). Each (λ c. getD (reach tables n (reachValue tables n marks)) c 0 ≡ 1) (sumCells i (sumOf i))) (sym same)
+      (here (subst (λ (i : ℕ). getD (reach tables n (reachValue tables n marks)) (valueMarks + i) 0 ≡ 1) same e)))
+      (λ q. let apart = eqb-false k n q in (reach-closed n (omega arith) (reachValue tables n marks) sized k) (omega arith) e)
     where
       sized : length (reachValue tables n marks) ≡ marksSize
       sized = value-cases (λ l. length l ≡ length marks) n (omega arith) marks (λ z. refl) (all-length (sumCells n (sumOf n)) marks) ∙ size
@@ -93,7 +82,6 @@ module _ {m : BlockModel} {tables : List ℕ} (stored : Stored m tables) where
       few : length (m .values) ≤ 8
       few = stored .few
 
-      -- the value itself
       here : getD (reach tables n (reachValue tables n marks)) (valueMarks + n) 0 ≡ 1 → Each (λ c. getD (reach tables n (reachValue tables n marks)) c 0 ≡ 1) (sumCells n (sumOf n))
       here one =
           kept (sumCells n (sumOf n))
@@ -104,15 +92,6 @@ module _ {m : BlockModel} {tables : List ℕ} (stored : Stored m tables) where
           kept : (l : List ℕ) → Each (λ c. getD (reachValue tables n marks) c 0 ≡ 1) l → Each (λ c. getD (reach tables n (reachValue tables n marks)) c 0 ≡ 1) l
           kept [] q = tt
           kept (c ∷ l) q = (reach-keeps n (omega arith) (reachValue tables n marks) c (q .0), kept l (q .1))
-
-      go : (b : Bool) → eqb k n ≡ b
-          → (k < n → getD (reach tables n (reachValue tables n marks)) (valueMarks + k) 0 ≡ 1 → Each (λ c. getD (reach tables n (reachValue tables n marks)) c 0 ≡ 1) (sumCells k (sumOf k)))
-          → Each (λ c. getD (reach tables n (reachValue tables n marks)) c 0 ≡ 1) (sumCells k (sumOf k))
-      go true q lower =
-          let same : k ≡ n = eqb-true k n q in
-          subst (λ (i : ℕ). Each (λ c. getD (reach tables n (reachValue tables n marks)) c 0 ≡ 1) (sumCells i (sumOf i))) (sym same)
-          (here (subst (λ (i : ℕ). getD (reach tables n (reachValue tables n marks)) (valueMarks + i) 0 ≡ 1) same e))
-      go false q lower = let apart = eqb-false k n q in lower (omega arith) e
 
   pub reach-through : (marks : List ℕ) → length marks ≡ marksSize → Through (Marked (reach tables (length (m .values)) marks)) (m .values)
   reach-through marks size k lt named =
@@ -187,7 +166,10 @@ module _ {m : BlockModel} {tables : List ℕ} (stored : Stored m tables) where
         → WaitMarked values (waitsMarks tables values n marks) (facts (getD (m .blocks) b (terminate 0)) .waitsWhile)
     unfolding waitsMarks
     waits-marked zero h marks size b lt = absurd (omega arith)
-    waits-marked (suc n) h marks size b lt = go (eqb b n) refl (waits-marked n (omega arith) marks size b)
+    waits-marked (suc n) h marks size b lt =
+        cases (eqb b n)
+        (λ q. subst (λ (i : ℕ). WaitMarked values (waitMarks tables values n before) (facts (getD (m .blocks) i (terminate 0)) .waitsWhile)) (sym (eqb-true b n q)) here)
+        (λ q. let apart = eqb-false b n q in more (facts (getD (m .blocks) b (terminate 0)) .waitsWhile) ((waits-marked n (omega arith) marks size b) (omega arith)))
       where
         before : List ℕ
         before = waitsMarks tables values n marks
@@ -213,16 +195,15 @@ module _ {m : BlockModel} {tables : List ℕ} (stored : Stored m tables) where
             waits-for : (a : Term) (r : Relation) (c : Term) → getD (m .blocks) n (terminate 0) ≡ waitTerms a r c → facts (getD (m .blocks) n (terminate 0)) .waitsWhile ≡ some (whenTrue a r c)
             waits-for a r c e = ap (λ (x : Block). facts x .waitsWhile) e ∙ unfold facts in refl
 
-        go : (x : Bool) → eqb b n ≡ x → (b < n → WaitMarked values before (facts (getD (m .blocks) b (terminate 0)) .waitsWhile))
-            → WaitMarked values (waitMarks tables values n before) (facts (getD (m .blocks) b (terminate 0)) .waitsWhile)
-        go true q lower = subst (λ (i : ℕ). WaitMarked values (waitMarks tables values n before) (facts (getD (m .blocks) i (terminate 0)) .waitsWhile)) (sym (eqb-true b n q)) here
-        go false q lower = let apart = eqb-false b n q in more (facts (getD (m .blocks) b (terminate 0)) .waitsWhile) (lower (omega arith))
-
     -- what every block waits for is in the set, in any marks that keep these
     pub waits-within : (marks after : List ℕ) → length marks ≡ marksSize
         → ((i : ℕ) → getD (waitsMarks tables values (length (m .blocks)) marks) i 0 ≡ 1 → getD after i 0 ≡ 1)
         → (n : ℕ) → WaitWithin (Marked after) values (facts (blockAt m n) .waitsWhile)
-    waits-within marks after size keeps n = go (ltb (n - 1) (length (m .blocks))) refl
+    waits-within marks after size keeps n =
+        cases (ltb (n - 1) (length (m .blocks)))
+        (λ e. within (facts (blockAt m n) .waitsWhile) (waits-marked (length (m .blocks)) (omega arith) marks size (n - 1) (ltb-true (n - 1) (length (m .blocks)) e)))
+        (λ e. subst (λ (b : Block). WaitWithin (Marked after) values (facts b .waitsWhile)) (sym (List·getD-eq-default (m .blocks) (terminate 0) (ltb-false (n - 1) (length (m .blocks)) e)))
+        (unfold facts in tt))
       where
         all : (l : List ℕ) → Each (λ c. getD (waitsMarks tables values (length (m .blocks)) marks) c 0 ≡ 1) l → Each (λ c. getD after c 0 ≡ 1) l
         all [] q = tt
@@ -236,9 +217,3 @@ module _ {m : BlockModel} {tables : List ℕ} (stored : Stored m tables) where
               term-within after values a (each-front (λ i. getD after i 0 ≡ 1) (termCells values a) (termCells values c) both),
               term-within after values c (each-back (λ i. getD after i 0 ≡ 1) (termCells values a) (termCells values c) both),
             )
-
-        go : (x : Bool) → ltb (n - 1) (length (m .blocks)) ≡ x → WaitWithin (Marked after) values (facts (blockAt m n) .waitsWhile)
-        go true e = within (facts (blockAt m n) .waitsWhile) (waits-marked (length (m .blocks)) (omega arith) marks size (n - 1) (ltb-true (n - 1) (length (m .blocks)) e))
-        go false e =
-            subst (λ (b : Block). WaitWithin (Marked after) values (facts b .waitsWhile)) (sym (List·getD-eq-default (m .blocks) (terminate 0) (ltb-false (n - 1) (length (m .blocks)) e)))
-            (unfold facts in tt)

@@ -1,13 +1,6 @@
 -- One step of the walk over terms, pure: what each way through `term` and `terms` gives.
-use Prim.Native.Nat.{ℕ, zero, suc, _+_, _-_, _≤_, _<_}
-use native.Mathlib.Omega.{arith}
-use mathlib.Core.Bool.{Bool, true, false, cond}
-use mathlib.Core.List.{List}
-use mathlib.Core.Path.{_≡_, refl, sym, ap, _∙_}
-use lib.Dec.{eqb}
-use lib.ListN.{length, getD, set}
-use borrow.Author.Tests.{lt-ltb, le-ltb, ne-eqb, eq-eqb}
-use Rattle.watch.specs.Walk.{cellOf, Walked, walked, termsFrom, taggedTerm, termFrom}
+use Rattle.machine.specs.All.{cases, ℕ, zero, suc, _+_, _-_, _≤_, _<_, arith, List, _≡_, refl, ap, eqb, length, getD, set, lt-ltb, le-ltb, ne-eqb}
+use Rattle.watch.specs.{cellOf, Walked, walked, termsFrom, taggedTerm, termFrom}
 
 module _ (tables : List ℕ) (lower at : ℕ) (marks : List ℕ) where
   pub term-past : (depth : ℕ) → length tables ≤ at → termFrom tables lower depth at marks ≡ walked at marks
@@ -24,11 +17,7 @@ module _ (tables : List ℕ) (lower at : ℕ) (marks : List ℕ) where
     -- too deep
     pub term-deep : (depth : ℕ) → depth ≡ 0 → 10 ≤ tag → termFrom tables lower depth at marks ≡ walked (at + 2) marks
     unfolding termFrom taggedTerm
-    term-deep zero z h = rw (lt-ltb at (length tables) inl, ← et, le-ltb tag 10 h) (cond-same (eqb tag 10))
-      where
-        cond-same : (b : Bool) → cond {A = List ℕ → Walked} b (λ m. walked (at + 2) m) (λ m. walked (at + 2) m) marks ≡ walked (at + 2) marks
-        cond-same true = refl
-        cond-same false = refl
+    term-deep zero z h = rw (lt-ltb at (length tables) inl, ← et, le-ltb tag 10 h) (cases (eqb tag 10) (λ e. rw e) (λ e. rw e))
     term-deep (suc d) z h = absurd (omega arith)
 
     pub term-comparison : (depth : ℕ) → (depth ≡ 0 → ⊥) → tag ≡ 10

@@ -1,16 +1,8 @@
 -- The walk marks the cells of what a term or a sum names, where its numbers stand in the tables.
-use Prim.Native.Nat.{ℕ, suc, _+_, _-_, _%_, _≤_, _<_}
-use native.Mathlib.Omega.{arith}
-use mathlib.Core.Bool.{cond}
-use mathlib.Core.List.{List, [], _∷_, _++_}
-use mathlib.Core.Path.{_≡_, refl, sym, ap, ap₂, _∙_, subst}
-use lib.Dec.{ltb, lit<, lit≤}
-use lib.ListN.{length, set, length-append}
-use Rattle.machine.specs.Term.{Term, constant, minusConstant, parameter, clockTerm, entriesOf, contentOf, unitsInUse, unitsFree, facilityInUse, value, comparison, bracket, Sum, nothing, plus, minus}
-use Rattle.tables.specs.Numbers.{relationNumber, terms, termNumbers, signedTerms}
-use Rattle.tables.specs.Represents.{At}
+use Rattle.machine.specs.All.{ℕ, suc, _+_, _-_, _%_, _≤_, _<_, arith, cond, List, [], _∷_, _++_, _≡_, refl, sym, ap, ap₂, _∙_, subst, ltb, lit<, lit≤, length, set, length-append, Term, constant, minusConstant, parameter, clockTerm, entriesOf, contentOf, unitsInUse, unitsFree, facilityInUse, value, comparison, bracket, Sum, nothing, plus, minus}
+use Rattle.tables.specs.All.{relationNumber, terms, termNumbers, signedTerms, At}
 use Rattle.terms.proofs.Found.{at-first, at-front, at-back}
-use Rattle.watch.specs.Walk.{queueMarks, serverMarks, valueMarks, clockMark, ownMark, noMark, cellOf, Walked, walked, termsFrom, termFrom}
+use Rattle.watch.specs.{queueMarks, serverMarks, valueMarks, clockMark, ownMark, noMark, cellOf, Walked, walked, termsFrom, termFrom}
 use Rattle.watch.proofs.Steps.{term-simple, term-comparison, term-bracket, terms-none, terms-more}
 
 -- ---- Cells

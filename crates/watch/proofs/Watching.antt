@@ -1,27 +1,13 @@
 -- The last cells of the tables say what the WAITIFs read and which values name a parameter; the others stay.
-use Prim.Native.Nat.{ℕ, zero, suc, _+_, _-_, _*_, _%_, _≤_, _<_}
-use native.Mathlib.Omega.{arith}
-use mathlib.Core.Bool.{Bool, true, false, cond, true≢false}
-use mathlib.Core.List.{List, [], _∷_}
-use mathlib.Core.Path.{_≡_, refl, sym, ap, _∙_, subst}
-use borrow.Author.Tests.{eqb-true, eqb-false, eq-eqb, ne-eqb}
-use lib.Dec.{eqb}
+use Rattle.machine.specs.All.{cases, ℕ, zero, suc, _+_, _-_, _*_, _%_, _≤_, _<_, arith, Bool, true, false, cond, true≢false, List, [], _∷_, _≡_, refl, sym, ap, _∙_, subst, eqb-true, eqb-false, eq-eqb, ne-eqb, eqb, length, getD, set, replicate, length-set, length-replicate, getD-set-same, getD-set-other, View, evaluate, value, facility, storage, up, down, Block, generate, advance, terminate, takes, frees, waitServer, waitTerms, moves, assign, priority, split, counts, assemble, preempt, giveBack, BlockModel, Watches, Spares}
 use lib.IntN.{ℤ}
-use lib.ListN.{length, getD, set, replicate, length-set, length-replicate}
-use lib.Seq.{getD-set-same, getD-set-other}
-use Rattle.machine.specs.Term.{View, evaluate, value, nothing}
-use Rattle.machine.specs.Block.{Share, facility, storage, shareServer, Change, up, down, Block, generate, advance, terminate, takes, frees, waitServer, waitTerms, moves, assign, priority, split, counts, assemble, preempt, giveBack, BlockModel}
-use Rattle.machine.specs.Watched.{Thing, theClock, entry, queue, server, Watches, Spares}
 use Rattle.machine.proofs.nobody_able.Named.{agrees-same, evaluate-same}
-use Rattle.tables.specs.Forms.{blockForms}
+use Rattle.tables.specs.All.{blockForms, blockNumbers, At, Watching, Sharing}
 use Rattle.tables.specs.Layout as Layout
-use Rattle.tables.specs.Numbers.{blockNumbers, sumNumbers}
-use Rattle.tables.specs.Represents.{At, Watching, Sharing}
 use Rattle.terms.proofs.Found.{at-first, at-cons}
-use Rattle.watch.specs.Walk.{queueMarks, serverMarks, valueMarks, clockMark, ownMark, marksSize}
-use Rattle.watch.specs.Watch.{reach, waitsMarks, marksOf, ownOf, changedCell, askedOf, ownStored, askedStored, withMarks, watched}
+use Rattle.watch.specs.{queueMarks, serverMarks, valueMarks, clockMark, ownMark, marksSize, reach, waitsMarks, marksOf, ownOf, changedCell, askedOf, ownStored, askedStored, withMarks, watched}
 use Rattle.watch.proofs.Marking.{inMarks, Marked}
-use Rattle.watch.proofs.Reaching.{Stored, reach-keeps, reach-length, reach-through, waits-length, waits-within}
+use Rattle.watch.proofs.Reaching.{Stored, reach-keeps, reach-through, waits-length, waits-within}
 
 -- ---- What stays
 
@@ -85,31 +71,23 @@ own-cell : (values n : ℕ) (tables : List ℕ) → Layout.tablesSize ≤ length
     → getD (ownStored values n tables) (Layout.namesOwn + k) 0 ≡ ownOf (ownStored values k tables) values k
 unfolding ownStored
 own-cell values zero tables size few k lt = absurd (omega arith)
-own-cell values (suc n) tables size few k lt = go (eqb k n) refl (own-cell values n tables size (omega arith) k)
-  where
-    go : (x : Bool) → eqb k n ≡ x → (k < n → getD (ownStored values n tables) (Layout.namesOwn + k) 0 ≡ ownOf (ownStored values k tables) values k)
-        → getD (set (ownStored values n tables) (Layout.namesOwn + n) (ownOf (ownStored values n tables) values n)) (Layout.namesOwn + k) 0 ≡ ownOf (ownStored values k tables) values k
-    go true e lower =
-        let same : k ≡ n = eqb-true k n e in
-        rw same (getD-set-same (ownStored values n tables) (Layout.namesOwn + n) _ 0 (omega (arith, own-length values n tables)))
-    go false e lower =
-        let apart = eqb-false k n e in
-        getD-set-other (ownStored values n tables) (Layout.namesOwn + n) (Layout.namesOwn + k) _ 0 (λ z. omega arith) ∙ lower (omega arith)
+own-cell values (suc n) tables size few k lt =
+    cases (eqb k n)
+    (λ e. let same : k ≡ n = eqb-true k n e in
+    rw same (getD-set-same (ownStored values n tables) (Layout.namesOwn + n) _ 0 (omega (arith, own-length values n tables))))
+    (λ e. let apart = eqb-false k n e in
+    getD-set-other (ownStored values n tables) (Layout.namesOwn + n) (Layout.namesOwn + k) _ 0 (λ z. omega arith) ∙ (own-cell values n tables size (omega arith) k) (omega arith))
 
 asked-cell : (marks : List ℕ) (n : ℕ) (tables : List ℕ) → Layout.tablesSize ≤ length tables → n ≤ 256 → (b : ℕ) → b < n
     → getD (askedStored marks n tables) (Layout.asked + b) 0 ≡ askedOf (askedStored marks b tables) marks b
 unfolding askedStored
 asked-cell marks zero tables size few b lt = absurd (omega arith)
-asked-cell marks (suc n) tables size few b lt = go (eqb b n) refl (asked-cell marks n tables size (omega arith) b)
-  where
-    go : (x : Bool) → eqb b n ≡ x → (b < n → getD (askedStored marks n tables) (Layout.asked + b) 0 ≡ askedOf (askedStored marks b tables) marks b)
-        → getD (set (askedStored marks n tables) (Layout.asked + n) (askedOf (askedStored marks n tables) marks n)) (Layout.asked + b) 0 ≡ askedOf (askedStored marks b tables) marks b
-    go true e lower =
-        let same : b ≡ n = eqb-true b n e in
-        rw same (getD-set-same (askedStored marks n tables) (Layout.asked + n) _ 0 (omega (arith, asked-length marks n tables)))
-    go false e lower =
-        let apart = eqb-false b n e in
-        getD-set-other (askedStored marks n tables) (Layout.asked + n) (Layout.asked + b) _ 0 (λ z. omega arith) ∙ lower (omega arith)
+asked-cell marks (suc n) tables size few b lt =
+    cases (eqb b n)
+    (λ e. let same : b ≡ n = eqb-true b n e in
+    rw same (getD-set-same (askedStored marks n tables) (Layout.asked + n) _ 0 (omega (arith, asked-length marks n tables))))
+    (λ e. let apart = eqb-false b n e in
+    getD-set-other (askedStored marks n tables) (Layout.asked + n) (Layout.asked + b) _ 0 (λ z. omega arith) ∙ (asked-cell marks n tables size (omega arith) b) (omega arith))
 
 -- ---- What they say
 

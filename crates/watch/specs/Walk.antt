@@ -1,9 +1,5 @@
 -- The things that terms name, marked one by one in a list that has a cell for each: of the tables' numbers, as the code does it.
-use Prim.Native.Nat.{ℕ, zero, suc, _+_, _%_}
-use mathlib.Core.Bool.{cond}
-use mathlib.Core.List.{List}
-use lib.Dec.{ltb, eqb}
-use lib.ListN.{length, getD, set}
+use Rattle.machine.specs.All.{ℕ, zero, suc, _+_, _%_, cond, List, ltb, eqb, length, getD, set}
 
 -- ---- Cells
 

@@ -1,9 +1,5 @@
 -- What the WAITIFs on comparisons read, and which values name a parameter, stored behind the other numbers of the tables.
-use Prim.Native.Nat.{ℕ, zero, suc, _+_, _*_, _%_}
-use mathlib.Core.Bool.{cond}
-use mathlib.Core.List.{List}
-use lib.Dec.{eqb}
-use lib.ListN.{getD, set, replicate}
+use Rattle.machine.specs.All.{ℕ, zero, suc, _+_, _*_, _%_, cond, List, eqb, getD, set, replicate}
 use Rattle.tables.specs.Layout as Layout
 use Rattle.watch.specs.Walk.{queueMarks, serverMarks, valueMarks, clockMark, ownMark, marksSize, termsFrom, termFrom}
 

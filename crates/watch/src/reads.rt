@@ -14,9 +14,7 @@ use tables::CLOCK_ASKED;
 use tables::NAMES_OWN;
 use tables::VALUE_WIDTH;
 use tables::number;
-ghost use mathlib.Core.Path.{_≡_};
-ghost use Prim.Native.Nat.{_<_, _≤_};
-ghost use Rattle.machine.specs.Limits.{maxBlocks, maxValues};
+ghost use Rattle.machine.specs.All.{_≡_, _<_, _≤_, maxBlocks, maxValues};
 ghost use Rattle.watch.specs.Watch.{reachValue, reach, waitMarks, waitsMarks, ownOf, changedCell, askedOf, ownStored, askedStored, watched};
 
 // The terms of value k, if it is marked. No more brackets open than it has numbers.

@@ -1,9 +1,7 @@
 // The things that terms name, marked one by one. Sums and terms call each other: bracket depth and remaining terms fall.
 use tables::TERM_WIDTH;
 use tables::number;
-ghost use mathlib.Core.Path.{_≡_};
-ghost use Prim.Native.Nat.{_≤_};
-ghost use lib.ListN.{set};
+ghost use Rattle.machine.specs.All.{_≡_, _≤_, set};
 ghost use Rattle.watch.specs.Walk.{cellOf, walked, termsFrom, termFrom};
 
 // Entries of block b (from 0) at b; then queues, servers and values.

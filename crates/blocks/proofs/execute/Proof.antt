@@ -1,15 +1,10 @@
 -- `execute` meets its contract: each kind by its function, anything else by nothing.
-use Prim.Native.Nat.{ℕ}
-use mathlib.Core.List.{List}
-use mathlib.Core.Path.{_≡_, sym, _∙_, refl}
-use borrow.Author.Tests.{ne-eqb}
+use Rattle.machine.specs.All.{ℕ, List, _≡_, sym, _∙_, refl, ne-eqb, needs}
 use Rattle.state.specs.declared.scalars.Scalars.{Scalars}
-use Rattle.state.specs.Stands.{rowsOf}
+use Rattle.state.specs.All.{rowsOf}
 use Rattle.moves.proofs.MotionLaws.{tallied}
-use Rattle.blocks.specs.Execute.{later, byKind, execute}
-use borrow.Author.Needs.{needs}
-use Rattle.blocks.proofs.execute.Statement.{statement}
-use Rattle.blocks.proofs.execute.Tie as tie
+use Rattle.blocks.specs.{later, byKind, execute}
+use Rattle.blocks.proofs.execute as f
 
 -- a number that is no kind
 module _ (tables : List ℕ) (values facilities : ℕ) (tape w tally : List ℕ) (x : Scalars) (at kind : ℕ) where
@@ -24,87 +19,127 @@ module _ (tables : List ℕ) (values facilities : ℕ) (tape w tally : List ℕ)
   unfolding byKind
   none-first h1 h2 h3 h4 h5 h6 h7 h8 = rw (ne-eqb kind 1 h1, ne-eqb kind 2 h2, ne-eqb kind 3 h3, ne-eqb kind 4 h4, ne-eqb kind 5 h5, ne-eqb kind 6 h6, ne-eqb kind 7 h7, ne-eqb kind 8 h8)
 
-returns : tie.Need-returns
+returns : f.Tie.Need-returns
 unfolding execute byKind
-returns c = rw (c .by-fields2 .ensures, ← c .before .before .before .before .before .before .before .before .before .number .ensures, c .before .before .before .before .before .before .before .before .match .keys1, ← c .before .before .before .before .by-fields .ensures) (c .before .before .before .generate .ensures)
+returns c =
+    let b = c .before .before .before in
+    rw (c .by-fields2 .ensures, ← b .before .before .before .before .before .before .number .ensures, b .before .before .before .before .before .match .keys1, ← b .before .by-fields .ensures) (b .generate .ensures)
 
-returns-2 : tie.Need-returns-2
+returns-2 : f.Tie.Need-returns-2
 unfolding execute byKind
-returns-2 c = rw (c .by-fields4 .ensures, ← c .before .before .before .before .before .before .before .before .before .number .ensures, c .before .before .before .before .before .before .before .before .match .keys2, ← c .before .before .before .before .by-fields3 .ensures) (c .before .before .before .advance .ensures)
+returns-2 c =
+    let b = c .before .before .before in
+    rw (c .by-fields4 .ensures, ← b .before .before .before .before .before .before .number .ensures, b .before .before .before .before .before .match .keys2, ← b .before .by-fields3 .ensures) (b .advance .ensures)
 
-returns-3 : tie.Need-returns-3
+returns-3 : f.Tie.Need-returns-3
 unfolding execute byKind
-returns-3 c = rw (c .by-fields6 .ensures, ← c .before .before .before .before .before .before .before .before .before .before .number .ensures, c .before .before .before .before .before .before .before .before .before .match .keys3, ← c .before .before .before .before .by-fields5 .ensures) (tallied _ _ _ _ _ (c .before .before .before .terminate .ensures) refl)
+returns-3 c =
+    let b = c .before .before .before in
+    rw (c .by-fields6 .ensures, ← b .before .before .before .before .before .before .before .number .ensures, b .before .before .before .before .before .before .match .keys3, ← b .before .by-fields5 .ensures) (tallied _ _ _ _ _ (b .terminate .ensures) refl)
 
-returns-4 : tie.Need-returns-4
+returns-4 : f.Tie.Need-returns-4
 unfolding execute byKind
-returns-4 c = rw (c .by-fields8 .ensures, ← c .before .before .before .before .before .before .before .before .before .number .ensures, c .before .before .before .before .before .before .before .before .match .keys4, ← c .before .before .before .before .by-fields7 .ensures) (c .before .before .before .seize .ensures)
+returns-4 c =
+    let b = c .before .before .before in
+    rw (c .by-fields8 .ensures, ← b .before .before .before .before .before .before .number .ensures, b .before .before .before .before .before .match .keys4, ← b .before .by-fields7 .ensures) (b .seize .ensures)
 
-returns-5 : tie.Need-returns-5
+returns-5 : f.Tie.Need-returns-5
 unfolding execute byKind
-returns-5 c = rw (c .by-fields10 .ensures, ← c .before .before .before .before .before .before .before .before .before .number .ensures, c .before .before .before .before .before .before .before .before .match .keys5, ← c .before .before .before .before .by-fields9 .ensures) (c .before .before .before .release .ensures)
+returns-5 c =
+    let b = c .before .before .before in
+    rw (c .by-fields10 .ensures, ← b .before .before .before .before .before .before .number .ensures, b .before .before .before .before .before .match .keys5, ← b .before .by-fields9 .ensures) (b .release .ensures)
 
-returns-6 : tie.Need-returns-6
+returns-6 : f.Tie.Need-returns-6
 unfolding execute byKind
-returns-6 c = rw (c .by-fields12 .ensures, ← c .before .before .before .before .before .before .before .before .before .number .ensures, c .before .before .before .before .before .before .before .before .match .keys6, ← c .before .before .before .before .by-fields11 .ensures) (c .before .before .before .enter .ensures)
+returns-6 c =
+    let b = c .before .before .before in
+    rw (c .by-fields12 .ensures, ← b .before .before .before .before .before .before .number .ensures, b .before .before .before .before .before .match .keys6, ← b .before .by-fields11 .ensures) (b .enter .ensures)
 
-returns-7 : tie.Need-returns-7
+returns-7 : f.Tie.Need-returns-7
 unfolding execute byKind
-returns-7 c = rw (c .by-fields14 .ensures, ← c .before .before .before .before .before .before .before .before .before .number .ensures, c .before .before .before .before .before .before .before .before .match .keys7, ← c .before .before .before .before .by-fields13 .ensures) (c .before .before .before .leave .ensures)
+returns-7 c =
+    let b = c .before .before .before in
+    rw (c .by-fields14 .ensures, ← b .before .before .before .before .before .before .number .ensures, b .before .before .before .before .before .match .keys7, ← b .before .by-fields13 .ensures) (b .leave .ensures)
 
-returns-8 : tie.Need-returns-8
+returns-8 : f.Tie.Need-returns-8
 unfolding execute byKind
-returns-8 c = rw (c .by-fields16 .ensures, ← c .before .before .before .before .before .before .before .before .before .before .number .ensures, c .before .before .before .before .before .before .before .before .before .match .keys8, ← c .before .before .before .before .by-fields15 .ensures) (tallied _ _ _ _ _ (c .before .before .before .wait-server .ensures) refl)
+returns-8 c =
+    let b = c .before .before .before in
+    rw (c .by-fields16 .ensures, ← b .before .before .before .before .before .before .before .number .ensures, b .before .before .before .before .before .before .match .keys8, ← b .before .by-fields15 .ensures) (tallied _ _ _ _ _ (b .wait-server .ensures) refl)
 
-returns-9 : tie.Need-returns-9
+returns-9 : f.Tie.Need-returns-9
 unfolding execute byKind later
-returns-9 c = rw (c .by-fields18 .ensures, ← c .before .before .before .before .before .before .before .before .number .ensures, c .before .before .before .before .before .before .before .match .keys9, ← c .before .before .before .before .by-fields17 .ensures) (tallied _ _ _ _ _ (c .before .before .before .wait-terms .ensures) refl)
+returns-9 c =
+    let b = c .before .before .before in
+    rw (c .by-fields18 .ensures, ← b .before .before .before .before .before .number .ensures, b .before .before .before .before .match .keys9, ← b .before .by-fields17 .ensures) (tallied _ _ _ _ _ (b .wait-terms .ensures) refl)
 
-returns-10 : tie.Need-returns-10
+returns-10 : f.Tie.Need-returns-10
 unfolding execute byKind later
-returns-10 c = rw (c .by-fields20 .ensures, ← c .before .before .before .before .before .before .before .before .number .ensures, c .before .before .before .before .before .before .before .match .keys10, ← c .before .before .before .before .by-fields19 .ensures) (tallied _ _ _ _ _ (c .before .before .before .branch .ensures) refl)
+returns-10 c =
+    let b = c .before .before .before in
+    rw (c .by-fields20 .ensures, ← b .before .before .before .before .before .number .ensures, b .before .before .before .before .match .keys10, ← b .before .by-fields19 .ensures) (tallied _ _ _ _ _ (b .branch .ensures) refl)
 
-returns-11 : tie.Need-returns-11
+returns-11 : f.Tie.Need-returns-11
 unfolding execute byKind later
-returns-11 c = rw (c .by-fields22 .ensures, ← c .before .before .before .before .before .before .before .before .number .ensures, c .before .before .before .before .before .before .before .match .keys11, ← c .before .before .before .before .by-fields21 .ensures) (tallied _ _ _ _ _ (c .before .before .before .goto .ensures) refl)
+returns-11 c =
+    let b = c .before .before .before in
+    rw (c .by-fields22 .ensures, ← b .before .before .before .before .before .number .ensures, b .before .before .before .before .match .keys11, ← b .before .by-fields21 .ensures) (tallied _ _ _ _ _ (b .goto .ensures) refl)
 
-returns-12 : tie.Need-returns-12
+returns-12 : f.Tie.Need-returns-12
 unfolding execute byKind later
-returns-12 c = rw (c .by-fields24 .ensures, ← c .before .before .before .before .before .before .before .before .number .ensures, c .before .before .before .before .before .before .before .match .keys12, ← c .before .before .before .before .by-fields23 .ensures) (tallied _ _ _ _ _ (c .before .before .before .assign .ensures) refl)
+returns-12 c =
+    let b = c .before .before .before in
+    rw (c .by-fields24 .ensures, ← b .before .before .before .before .before .number .ensures, b .before .before .before .before .match .keys12, ← b .before .by-fields23 .ensures) (tallied _ _ _ _ _ (b .assign .ensures) refl)
 
-returns-13 : tie.Need-returns-13
+returns-13 : f.Tie.Need-returns-13
 unfolding execute byKind later
-returns-13 c = rw (c .by-fields26 .ensures, ← c .before .before .before .before .before .before .before .before .number .ensures, c .before .before .before .before .before .before .before .match .keys13, ← c .before .before .before .before .by-fields25 .ensures) (tallied _ _ _ _ _ (c .before .before .before .priority .ensures) refl)
+returns-13 c =
+    let b = c .before .before .before in
+    rw (c .by-fields26 .ensures, ← b .before .before .before .before .before .number .ensures, b .before .before .before .before .match .keys13, ← b .before .by-fields25 .ensures) (tallied _ _ _ _ _ (b .priority .ensures) refl)
 
-returns-14 : tie.Need-returns-14
+returns-14 : f.Tie.Need-returns-14
 unfolding execute byKind later
-returns-14 c = rw (c .by-fields28 .ensures, ← c .before .before .before .before .before .before .before .before .number .ensures, c .before .before .before .before .before .before .before .match .keys14, ← c .before .before .before .before .by-fields27 .ensures) (tallied _ _ _ _ _ (c .before .before .before .split .ensures) refl)
+returns-14 c =
+    let b = c .before .before .before in
+    rw (c .by-fields28 .ensures, ← b .before .before .before .before .before .number .ensures, b .before .before .before .before .match .keys14, ← b .before .by-fields27 .ensures) (tallied _ _ _ _ _ (b .split .ensures) refl)
 
-returns-15 : tie.Need-returns-15
+returns-15 : f.Tie.Need-returns-15
 unfolding execute byKind later
-returns-15 c = rw (c .by-fields30 .ensures, ← c .before .before .before .before .before .before .before .before .before .number .ensures, c .before .before .before .before .before .before .before .before .match .keys15, ← c .before .before .before .before .by-fields29 .ensures) (c .before .before .before .arrive .ensures)
+returns-15 c =
+    let b = c .before .before .before in
+    rw (c .by-fields30 .ensures, ← b .before .before .before .before .before .before .number .ensures, b .before .before .before .before .before .match .keys15, ← b .before .by-fields29 .ensures) (b .arrive .ensures)
 
-returns-16 : tie.Need-returns-16
+returns-16 : f.Tie.Need-returns-16
 unfolding execute byKind later
-returns-16 c = rw (c .by-fields32 .ensures, ← c .before .before .before .before .before .before .before .before .before .number .ensures, c .before .before .before .before .before .before .before .before .match .keys16, ← c .before .before .before .before .by-fields31 .ensures) (c .before .before .before .depart .ensures)
+returns-16 c =
+    let b = c .before .before .before in
+    rw (c .by-fields32 .ensures, ← b .before .before .before .before .before .before .number .ensures, b .before .before .before .before .before .match .keys16, ← b .before .by-fields31 .ensures) (b .depart .ensures)
 
-returns-17 : tie.Need-returns-17
+returns-17 : f.Tie.Need-returns-17
 unfolding execute byKind later
-returns-17 c = rw (c .by-fields34 .ensures, ← c .before .before .before .before .before .before .before .before .before .before .number .ensures, c .before .before .before .before .before .before .before .before .before .match .keys17, ← c .before .before .before .before .by-fields33 .ensures) (tallied _ _ _ _ _ (c .before .before .before .wait-server2 .ensures) refl)
+returns-17 c =
+    let b = c .before .before .before in
+    rw (c .by-fields34 .ensures, ← b .before .before .before .before .before .before .before .number .ensures, b .before .before .before .before .before .before .match .keys17, ← b .before .by-fields33 .ensures) (tallied _ _ _ _ _ (b .wait-server2 .ensures) refl)
 
-returns-18 : tie.Need-returns-18
+returns-18 : f.Tie.Need-returns-18
 unfolding execute byKind later
-returns-18 c = rw (c .by-fields36 .ensures, ← c .before .before .before .before .before .before .before .before .before .before .number .ensures, c .before .before .before .before .before .before .before .before .before .match .keys18, ← c .before .before .before .before .by-fields35 .ensures) (tallied _ _ _ _ _ (c .before .before .before .assemble .ensures) refl)
+returns-18 c =
+    let b = c .before .before .before in
+    rw (c .by-fields36 .ensures, ← b .before .before .before .before .before .before .before .number .ensures, b .before .before .before .before .before .before .match .keys18, ← b .before .by-fields35 .ensures) (tallied _ _ _ _ _ (b .assemble .ensures) refl)
 
-returns-19 : tie.Need-returns-19
+returns-19 : f.Tie.Need-returns-19
 unfolding execute byKind later
-returns-19 c = rw (c .by-fields38 .ensures, ← c .before .before .before .before .before .before .before .before .before .number .ensures, c .before .before .before .before .before .before .before .before .match .keys19, ← c .before .before .before .before .by-fields37 .ensures) (c .before .before .before .preempt .ensures)
+returns-19 c =
+    let b = c .before .before .before in
+    rw (c .by-fields38 .ensures, ← b .before .before .before .before .before .before .number .ensures, b .before .before .before .before .before .match .keys19, ← b .before .by-fields37 .ensures) (b .preempt .ensures)
 
-returns-20 : tie.Need-returns-20
+returns-20 : f.Tie.Need-returns-20
 unfolding execute byKind later
-returns-20 c = rw (c .by-fields40 .ensures, ← c .before .before .before .before .before .before .before .before .before .number .ensures, c .before .before .before .before .before .before .before .before .match .keys20, ← c .before .before .before .before .by-fields39 .ensures) (c .before .before .before .give-back .ensures)
+returns-20 c =
+    let b = c .before .before .before in
+    rw (c .by-fields40 .ensures, ← b .before .before .before .before .before .before .number .ensures, b .before .before .before .before .before .match .keys20, ← b .before .by-fields39 .ensures) (b .give-back .ensures)
 
-returns-21 : tie.Need-returns-21
+returns-21 : f.Tie.Need-returns-21
 unfolding execute
 returns-21 c =
     let other = c .match .rest in
@@ -112,10 +147,10 @@ returns-21 c =
     (sym (none-first _ _ _ _ _ _ _ _ _ (other .0 .0 .0 .0 .0 .0 .0 .0 .0 .0 .0 .0 .0 .0 .0 .0 .0 .0 .0 .1) (other .0 .0 .0 .0 .0 .0 .0 .0 .0 .0 .0 .0 .0 .0 .0 .0 .0 .0 .1) (other .0 .0 .0 .0 .0 .0 .0 .0 .0 .0 .0 .0 .0 .0 .0 .0 .0 .1) (other .0 .0 .0 .0 .0 .0 .0 .0 .0 .0 .0 .0 .0 .0 .0 .0 .1) (other .0 .0 .0 .0 .0 .0 .0 .0 .0 .0 .0 .0 .0 .0 .0 .1) (other .0 .0 .0 .0 .0 .0 .0 .0 .0 .0 .0 .0 .0 .0 .1) (other .0 .0 .0 .0 .0 .0 .0 .0 .0 .0 .0 .0 .0 .1) (other .0 .0 .0 .0 .0 .0 .0 .0 .0 .0 .0 .0 .1)
     ∙ none-later _ _ _ _ _ _ _ _ _ (other .0 .0 .0 .0 .0 .0 .0 .0 .0 .0 .0 .1) (other .0 .0 .0 .0 .0 .0 .0 .0 .0 .0 .1) (other .0 .0 .0 .0 .0 .0 .0 .0 .0 .1) (other .0 .0 .0 .0 .0 .0 .0 .0 .1) (other .0 .0 .0 .0 .0 .0 .0 .1) (other .0 .0 .0 .0 .0 .0 .1) (other .0 .0 .0 .0 .0 .1) (other .0 .0 .0 .0 .1) (other .0 .0 .0 .1) (other .0 .0 .1) (other .0 .1) (other .1)))
 
-pub execute-spec : {M : Type 1} → statement M
+pub execute-spec : {M : Type 1} → f.Statement.statement M
 execute-spec =
-    tie.close
-    (tie.spec
+    f.Tie.close
+    (f.Tie.spec
     (search needs)
     (search needs)
     (λ c κs. rw (c .by-fields .ensures) (search needs))

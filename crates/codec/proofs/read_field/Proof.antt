@@ -1,24 +1,20 @@
 -- `codec::read_field` meets its contract: the answer of `read_number`, then the two tests of the range.
-use mathlib.Core.Path.{ap, _∙_}
-use native.Mathlib.Numerals.{add-one}
-use Rattle.machine.specs.Parser.{refused}
-use Rattle.codec.specs.Answers.{parsedOf}
+use Rattle.machine.specs.All.{ap, _∙_, add-one, needs, refused}
+use Rattle.codec.specs.{parsedOf}
 use Rattle.codec.proofs.Answers.{field-unread, field-low, field-high, field-within, refused-value, value-inside}
-use borrow.Author.Needs.{needs}
-use Rattle.codec.proofs.read_field.Statement.{statement}
-use Rattle.codec.proofs.read_field.Tie as tie
+use Rattle.codec.proofs.read_field as f
 
-enum-told : tie.Need-enum-told
+enum-told : f.Tie.Need-enum-told
 enum-told c = search needs
 
-returns : tie.Need-returns
+returns : f.Tie.Need-returns
 unfolding parsedOf
 returns c = (
   λ numbers mentions. field-unread _ _ _ _ _ _ numbers mentions _ (c .before .before .read-number .ensures .0) (c .enum-told .given .1),
   λ v next e. absurd (refused-value e),
 )
 
-returns-2 : tie.Need-returns-2
+returns-2 : f.Tie.Need-returns-2
 unfolding parsedOf
 returns-2 c = let w = c .before .before in (
   λ numbers mentions.
@@ -27,7 +23,7 @@ returns-2 c = let w = c .before .before in (
   λ v next e. absurd (refused-value e),
 )
 
-returns-3 : tie.Need-returns-3
+returns-3 : f.Tie.Need-returns-3
 unfolding parsedOf
 returns-3 c = let w = c .before .before .before in (
   λ numbers mentions.
@@ -37,7 +33,7 @@ returns-3 c = let w = c .before .before .before in (
   λ v next e. absurd (refused-value e),
 )
 
-returns-4 : tie.Need-returns-4
+returns-4 : f.Tie.Need-returns-4
 unfolding parsedOf
 returns-4 c = let w = c .before .before .before in
     let number = w .before .before .read-number .ensures in
@@ -47,10 +43,10 @@ returns-4 c = let w = c .before .before .before in
       value-inside _ _ _ _ (c .before .if1 .left) (c .if2 .left) (inside .1) (inside .2),
     )
 
-pub read-field-spec : {M : Type 1} → statement M
+pub read-field-spec : {M : Type 1} → f.Statement.statement M
 read-field-spec =
-    tie.close
-    (tie.spec
+    f.Tie.close
+    (f.Tie.spec
     (search needs)
     (search needs)
     (search needs)

@@ -1,34 +1,21 @@
 -- `codec::read_groups` meets its contract. The loop's invariant: the answer is that of the groups still to come at `next`
 -- behind `value`, and `value` leaves room for `left` groups more. The measure is `left`.
-use Prim.Native.Nat.{_+_, _*_, _^_, _≤_}
-use mathlib.Core.Path.{_≡_, refl, sym, _∙_}
-use native.Mathlib.Omega.{arith}
-use borrow.Author.Needs.{needs}
+use Rattle.machine.specs.All.{_+_, _*_, _^_, _≤_, _≡_, refl, sym, _∙_, arith, needs}
 use Rattle.codec.proofs.Steps.{at-groups, read-end, read-limit, read-last, read-more, room-start, room-step, room-fits}
-use Rattle.codec.proofs.read_groups.Statement.{statement}
-use Rattle.codec.proofs.read_groups.Tie as tie
+use Rattle.codec.proofs.read_groups as f
 
-abbrev Inv-loop : tie.InvT-loop
+abbrev Inv-loop : f.Tie.InvT-loop
 Inv-loop s at limit most left₀ value₀ next₀ left value next =
     (left ≤ 9) × ((value + 1) * 128 ^ left ≤ 128 ^ 9) × (at-groups s most left value next ≡ at-groups s most limit 0 at)
 
-abbrev μ-loop : tie.MeasureT-loop
+abbrev μ-loop : f.Tie.MeasureT-loop
 μ-loop s at limit most left₀ value₀ next₀ left value next = left
 
-loop-holds : tie.Need-loop-holds Inv-loop μ-loop
-loop-holds c = (c .before .pre, room-start _ (c .before .pre), refl)
-
-returns : tie.Need-returns Inv-loop μ-loop
-returns c = sym (read-end _ _ _ _ _ (c .if1 .taken)) ∙ c .before .before .loop .inv .2
-
-cast-b : tie.Need-cast-b Inv-loop μ-loop
-cast-b c = omega (arith, c .shared-slice-known2 .given (c .before .before .before .loop .next))
-
-mul-in-size : tie.Need-mul-in-size Inv-loop μ-loop
+mul-in-size : f.Tie.Need-mul-in-size Inv-loop μ-loop
 mul-in-size c = let w = c .before .before .before .before in
     omega (arith, room-fits (w .loop .value) (w .loop .left) (c .before .before .before .loop-test .taken) (w .loop .inv .1))
 
-add-in-size : tie.Need-add-in-size Inv-loop μ-loop
+add-in-size : f.Tie.Need-add-in-size Inv-loop μ-loop
 add-in-size c = let w = c .before .before .before .before in
     omega (
       arith,
@@ -36,17 +23,19 @@ add-in-size c = let w = c .before .before .before .before in
       c .before .shared-slice-known2 .given (w .loop .next),
     )
 
-returns-2 : tie.Need-returns-2 Inv-loop μ-loop
-returns-2 c = let w = c .before .before .before .before .before in
+returns-2 : f.Tie.Need-returns-2 Inv-loop μ-loop
+returns-2 c =
+    let b = c .before .before .before .before in
+    let w = b .before in
     c .in-size .ensures
-    ∙ sym (read-last _ _ _ _ _ (c .before .before .before .before .loop-test .taken) (omega arith) (c .before .if2 .taken))
+    ∙ sym (read-last _ _ _ _ _ (b .loop-test .taken) (omega arith) (c .before .if2 .taken))
     ∙ w .loop .inv .2
 
-mul-value : tie.Need-mul-value Inv-loop μ-loop
+mul-value : f.Tie.Need-mul-value Inv-loop μ-loop
 mul-value c = let w = c .before .before .before .before in
     omega (arith, room-fits (w .loop .value) (w .loop .left) (c .before .before .before .loop-test .taken) (w .loop .inv .1))
 
-add-value : tie.Need-add-value Inv-loop μ-loop
+add-value : f.Tie.Need-add-value Inv-loop μ-loop
 add-value c = let w = c .before .before .before .before in
     omega (
       arith,
@@ -54,27 +43,26 @@ add-value c = let w = c .before .before .before .before in
       c .before .shared-slice-known2 .given (w .loop .next),
     )
 
-loop-again : tie.Need-loop-again Inv-loop μ-loop
-loop-again c = let w = c .before .before .before .before in
+loop-again : f.Tie.Need-loop-again Inv-loop μ-loop
+loop-again c =
+    let d = c .before .before .before in
+    let w = d .before in
     let b = c .before .shared-slice-known2 .given (w .loop .next) in (
       omega arith,
-      room-step _ _ _ (c .before .before .before .loop-test .taken) (omega (arith, b)) (w .loop .inv .1),
-      sym (read-more _ _ _ _ _ (c .before .before .before .loop-test .taken) (omega arith) (c .if2 .left)) ∙ w .loop .inv .2,
+      room-step _ _ _ (d .loop-test .taken) (omega (arith, b)) (w .loop .inv .1),
+      sym (read-more _ _ _ _ _ (d .loop-test .taken) (omega arith) (c .if2 .left)) ∙ w .loop .inv .2,
     )
 
-returns-3 : tie.Need-returns-3 Inv-loop μ-loop
-returns-3 c = sym (read-limit _ _ _ _ _ (c .loop-test .left)) ∙ c .before .loop .inv .2
-
-pub read-groups-spec : {M : Type 1} → statement M
+pub read-groups-spec : {M : Type 1} → f.Statement.statement M
 read-groups-spec =
-    tie.close
-    (tie.spec
+    f.Tie.close
+    (f.Tie.spec
     Inv-loop
     μ-loop
-    loop-holds
-    returns
+    (λ c. (c .before .pre, room-start _ (c .before .pre), refl))
+    (λ c. sym (read-end _ _ _ _ _ (c .if1 .taken)) ∙ c .before .before .loop .inv .2)
     (omega arith)
-    cast-b
+    (λ c. omega (arith, c .shared-slice-known2 .given (c .before .before .before .loop .next)))
     (omega arith)
     mul-in-size
     add-in-size
@@ -85,4 +73,4 @@ read-groups-spec =
     (omega arith)
     (omega arith)
     loop-again
-    returns-3)
+    (λ c. sym (read-limit _ _ _ _ _ (c .loop-test .left)) ∙ c .before .loop .inv .2))

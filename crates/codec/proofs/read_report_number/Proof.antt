@@ -1,15 +1,7 @@
 -- `codec::read_report_number` meets its contract: that of `read_shortest`, in the paper's terms.
-use Rattle.machine.specs.Limits.{maxReportNumberBytes, maxReportNumber}
+use Rattle.machine.specs.All.{maxReportNumberBytes, maxReportNumber, needs}
 use Rattle.codec.proofs.Answers.{number-answer, number-inside}
-use borrow.Author.Needs.{needs}
-use Rattle.codec.proofs.read_report_number.Statement.{statement}
-use Rattle.codec.proofs.read_report_number.Tie as tie
+use Rattle.codec.proofs.read_report_number as f
 
-read-shortest-requires : tie.Need-read-shortest-requires
-read-shortest-requires c κs = search needs
-
-returns : tie.Need-returns
-returns c = (number-answer _ maxReportNumberBytes maxReportNumber _ _ (c .read-shortest .ensures), number-inside _ maxReportNumberBytes maxReportNumber _ _ (c .read-shortest .ensures))
-
-pub read-report-number-spec : {M : Type 1} → statement M
-read-report-number-spec = tie.close (tie.spec read-shortest-requires returns)
+pub read-report-number-spec : {M : Type 1} → f.Statement.statement M
+read-report-number-spec = f.Tie.close (f.Tie.spec (search needs) (λ c. (number-answer _ maxReportNumberBytes maxReportNumber _ _ (c .read-shortest .ensures), number-inside _ maxReportNumberBytes maxReportNumber _ _ (c .read-shortest .ensures))))

@@ -1,21 +1,20 @@
 -- `covrith_make_tape` meets its contract: the answer of `make`, case by case.
 use Rattle.covrith.proofs.Tapes.{made-bytes, made-nothing}
-use borrow.Author.Needs.{needs}
-use Rattle.covrith.proofs.covrith_make_tape.Statement.{statement}
-use Rattle.covrith.proofs.covrith_make_tape.Tie as tie
+use Rattle.machine.specs.All.{needs}
+use Rattle.covrith.proofs.covrith_make_tape as f
 
-returns : tie.Need-returns
+returns : f.Tie.Need-returns
 returns c =
     let call = c .before .before .before .before .before .make .ensures in
     let answer = made-bytes _ _ (call .answered) _ (c .before .n .given .1) in
     (answer .0, (answer .1, (call .bytes, call .accepted)))
 
-returns-2 : tie.Need-returns-2
+returns-2 : f.Tie.Need-returns-2
 returns-2 c =
     let call = c .before .before .before .before .before .make .ensures in
     let answer = made-nothing _ _ (call .answered) _ (c .before .n2 .given .1) in
     (answer .0, (answer .1, (call .bytes, call .accepted)))
 
-pub covrith-make-tape-spec : {M : Type 1} → statement M
+pub covrith-make-tape-spec : {M : Type 1} → f.Statement.statement M
 covrith-make-tape-spec =
-    tie.close (tie.spec (search needs) (search needs) (search needs) (search needs) returns (search needs) returns-2)
+    f.Tie.close (f.Tie.spec (search needs) (search needs) (search needs) (search needs) returns (search needs) returns-2)

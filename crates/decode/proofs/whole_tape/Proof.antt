@@ -1,26 +1,16 @@
 -- `decode::whole_tape` meets its contract: the lists, from empty cells, and then nothing.
 use Rattle.decode.proofs.Lists.{tape-stop, tape-long, tape-kept}
-use borrow.Author.Needs.{needs}
-use Rattle.decode.proofs.whole_tape.Statement.{statement}
-use Rattle.decode.proofs.whole_tape.Tie as tie
+use Rattle.machine.specs.All.{needs}
+use Rattle.decode.proofs.whole_tape as f
 
-returns : tie.Need-returns
-returns c = tape-long _ _ (rw (c .before .before .before .before .before .before .clear-lists .ensures) at (c .before .before .before .before .sample-lists .ensures)) (c .before .before .end .given .1) (c .if1 .taken)
-
-returns-2 : tie.Need-returns-2
-returns-2 c = tape-stop _ _ (rw (c .before .before .before .before .before .clear-lists .ensures) at (c .before .before .before .sample-lists .ensures)) (c .before .n .given .1)
-
-returns-3 : tie.Need-returns-3
-returns-3 c = tape-kept _ _ (rw (c .before .before .before .before .before .before .clear-lists .ensures) at (c .before .before .before .before .sample-lists .ensures)) (c .before .before .end .given .1) (c .if1 .left)
-
-pub whole-tape-spec : {M : Type 1} → statement M
+pub whole-tape-spec : {M : Type 1} → f.Statement.statement M
 whole-tape-spec =
-    tie.close
-    (tie.spec
+    f.Tie.close
+    (f.Tie.spec
     (search needs)
     (search needs)
     (search needs)
     (search needs)
-    returns
-    returns-2
-    returns-3)
+    (λ c. let b = c .before .before in tape-long _ _ (rw (b .before .before .before .before .clear-lists .ensures) at (b .before .before .sample-lists .ensures)) (b .end .given .1) (c .if1 .taken))
+    (λ c. tape-stop _ _ (rw (c .before .before .before .before .before .clear-lists .ensures) at (c .before .before .before .sample-lists .ensures)) (c .before .n .given .1))
+    (λ c. let b = c .before .before in tape-kept _ _ (rw (b .before .before .before .before .clear-lists .ensures) at (b .before .before .sample-lists .ensures)) (b .end .given .1) (c .if1 .left)))

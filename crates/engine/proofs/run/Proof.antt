@@ -1,6 +1,6 @@
 -- `run` meets its contract: a refused run touches nothing; an accepted one is the machine's. Assumes nothing.
 use Rattle.engine_laws.proofs.Running.{run-refused, fits, run-finished}
-use borrow.Author.Needs.{needs}
+use Rattle.machine.specs.All.{needs}
 use Rattle.engine.proofs.run.Statement.{statement}
 use Rattle.engine.proofs.run.Tie as tie
 

@@ -3,15 +3,7 @@ use mathlib.Core.Path.{refl}
 use lib.Dec.{lit≤}
 use lib.Ieee.{ofBits}
 use borrow.Author.Needs.{needs}
-use Rattle.floats.proofs.draw_parts.Statement.{statement}
-use Rattle.floats.proofs.draw_parts.Tie as tie
+use Rattle.floats.proofs.draw_parts as f
 
-count-parts-requires : tie.Need-count-parts-requires
-count-parts-requires c κs = search needs
-
-returns : tie.Need-returns
-unfolding ofBits
-returns c = c .count-parts .ensures 16 (lit≤ tt) refl
-
-pub draw-parts-spec : {M : Type 1} → statement M
-draw-parts-spec = tie.close (tie.spec count-parts-requires returns)
+pub draw-parts-spec : {M : Type 1} → f.Statement.statement M
+draw-parts-spec = f.Tie.close (f.Tie.spec (search needs) (λ c. unfold ofBits in c .count-parts .ensures 16 (lit≤ tt) refl))

@@ -5,15 +5,7 @@ use lib.Dec.{lit≤}
 use lib.Ieee.{ofBits}
 use Rattle.floats.proofs.Checked.{part}
 use borrow.Author.Needs.{needs}
-use Rattle.floats.proofs.fraction.Statement.{statement}
-use Rattle.floats.proofs.fraction.Tie as tie
+use Rattle.floats.proofs.fraction as f
 
-int-to-float-result : tie.Need-int-to-float-result
-int-to-float-result c = search needs
-
-returns : tie.Need-returns
-unfolding ofBits
-returns c = part _ 16 _ (omega (arith, c .row-known .given)) (lit≤ tt) refl
-
-pub fraction-spec : {M : Type 1} → statement M
-fraction-spec = tie.close (tie.spec int-to-float-result returns)
+pub fraction-spec : {M : Type 1} → f.Statement.statement M
+fraction-spec = f.Tie.close (f.Tie.spec (search needs) (λ c. unfold ofBits in part _ 16 _ (omega (arith, c .row-known .given)) (lit≤ tt) refl))

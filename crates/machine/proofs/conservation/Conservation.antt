@@ -1,22 +1,6 @@
 -- Claims 1 and 2 of demand 3, of every state of a run: each living number stands exactly once and no other stands anywhere; made
 -- equals ended plus living, and the machine's counts are these.
-use Prim.Native.Nat.{ℕ, _+_, _≤_, _<_}
-use mathlib.Core.Path.{_≡_, refl, sym, ap, _∙_}
-use mathlib.Core.Bool.{Bool, true, false, cond, _&&_}
-use mathlib.Core.List.{List, _++_, map}
-use mathlib.Core.Option.{Option, none, some}
-use native.Mathlib.Omega.{arith}
-use borrow.Author.Tests.{leb-true, leb-false, eqb-true, eqb-false, eq-eqb, ne-eqb}
-use lib.Dec.{eqb, leb}
-use lib.ListN.{length, length-append, length-map}
-use Rattle.machine.specs.Transaction.{Transaction, Interrupted}
-use Rattle.machine.specs.Lists.{those, flat}
-use Rattle.machine.specs.Block.{BlockModel}
-use Rattle.machine.specs.State.{State}
-use Rattle.machine.specs.Turn.{taking, turn}
-use Rattle.machine.specs.Run.{start, states}
-use Rattle.machine.specs.Report.{placed, movingOne, places}
-use Rattle.machine.specs.Claims.{Each, count, bit, upTo, everyone, standing, terminates, madeBy, endedBy, isLiving, livingCount}
+use Rattle.machine.specs.All.{cases, ℕ, _+_, _≤_, _<_, _≡_, refl, ap, _∙_, Bool, true, false, cond, _&&_, List, _++_, map, Option, none, some, arith, leb-true, leb-false, eqb-true, eqb-false, eq-eqb, ne-eqb, eqb, leb, length, length-append, length-map, Transaction, Interrupted, those, flat, BlockModel, State, taking, turn, start, states, placed, movingOne, places, Each, count, bit, upTo, everyone, standing, terminates, madeBy, endedBy, isLiving, livingCount}
 use Rattle.machine.proofs.decoding.Proper.{Proper}
 use Rattle.machine.proofs.runs.RunLaws.{each-state, each-map}
 use Rattle.machine.proofs.runs.Kept.{taking-kept}
@@ -74,7 +58,7 @@ module _ (m : BlockModel) (tape : List (List ℕ)) (s : State) (balanced : (f : 
 
   gone-endings : (n : ℕ) → gone m tape (λ k. bit (eqb k n)) (s .records) ≡ endings n
   gone-endings n =
-      sum-cong _ _ (λ r. both (terminates m tape r) (eqb (r .entry .transaction) n)) (s .records) ∙ sum-count _ (s .records)
+      sum-cong _ _ (λ r. both (terminates m tape r) _) (s .records) ∙ sum-count _ _
     where
       both : (a b : Bool) → cond a (bit b) 0 ≡ bit (a && b)
       both true b = refl
@@ -82,14 +66,17 @@ module _ (m : BlockModel) (tape : List (List ℕ)) (s : State) (balanced : (f : 
 
   standing-sum : (n : ℕ) → sumOn (λ t. bit (eqb (t .number) n)) (everyone s) ≡ standing s n
   unfolding standing
-  standing-sum n = sum-count _ (everyone s)
+  standing-sum n = sum-count _ _
 
   pub once : (n : ℕ) → standing s n + endings n ≡ upTo (s .made) (λ k. bit (eqb k n))
   once n = omega (arith, whole (λ k. bit (eqb k n)), gone-endings n, standing-sum n)
 
   pub stands-once : (n : ℕ) → standing s n ≡ bit (isLiving m tape (s .records) n)
   unfolding isLiving
-  stands-once n = low (leb 1 n) refl
+  stands-once n =
+      cases (leb 1 n)
+      (λ e. rw e (high _ refl (leb-true _ _ e)))
+      (λ e. rw e (omega (arith, once n, upTo-none (s .made) n (λ k a b c. omega (arith, leb-false 1 n e)))))
     where
       clear : (b : Bool) → eqb (endings n) 0 ≡ b → standing s n + endings n ≡ 1 → standing s n ≡ bit b
       clear true e w = omega (arith, eqb-true (endings n) 0 e)
@@ -99,12 +86,8 @@ module _ (m : BlockModel) (tape : List (List ℕ)) (s : State) (balanced : (f : 
           some-ended h = omega arith
 
       high : (b : Bool) → leb n (madeBy m tape (s .records)) ≡ b → 1 ≤ n → standing s n ≡ bit (b && eqb (endings n) 0)
-      high true e l = clear (eqb (endings n) 0) refl (omega (arith, once n, upTo-one (s .made) n l (omega (arith, leb-true n (madeBy m tape (s .records)) e, books .makes))))
-      high false e l = omega (arith, once n, upTo-none (s .made) n (λ k a b c. omega (arith, leb-false n (madeBy m tape (s .records)) e, books .makes)))
-
-      low : (b : Bool) → leb 1 n ≡ b → standing s n ≡ bit (b && leb n (madeBy m tape (s .records)) && eqb (endings n) 0)
-      low true e = high (leb n (madeBy m tape (s .records))) refl (leb-true _ _ e)
-      low false e = omega (arith, once n, upTo-none (s .made) n (λ k a b c. omega (arith, leb-false 1 n e)))
+      high true e l = clear _ refl (omega (arith, once n, upTo-one (s .made) n l (omega (arith, leb-true n _ e, books .makes))))
+      high false e l = omega (arith, once n, upTo-none (s .made) n (λ k a b c. omega (arith, leb-false n _ e, books .makes)))
 
   -- ---- Counts
 
@@ -114,8 +97,8 @@ module _ (m : BlockModel) (tape : List (List ℕ)) (s : State) (balanced : (f : 
   -- everybody who stands there lives
   all-live : sumOn (λ t. lives (t .number)) (everyone s) ≡ length (everyone s)
   all-live =
-      sum-cong-keys (λ t. lives (t .number)) (λ t. 1) (λ t. t .number) (everyone s)
-      (λ t p. alive (isLiving m tape (s .records) (t .number)) (omega (arith, stands-once (t .number), standing-sum (t .number))))
+      sum-cong-keys (λ t. lives _) (λ t. 1) (λ t. t .number) (everyone s)
+      (λ t p. alive (isLiving m tape _ _) (omega (arith, stands-once (t .number), standing-sum (t .number))))
       ∙ sum-length (everyone s)
     where
       alive : (b : Bool) → 0 < bit b → bit b ≡ 1
@@ -125,10 +108,7 @@ module _ (m : BlockModel) (tape : List (List ℕ)) (s : State) (balanced : (f : 
   -- nobody who ended lives
   none-lives : gone m tape lives (s .records) ≡ 0
   none-lives =
-      sym (sum-test (λ r. lives (r .entry .transaction)) (terminates m tape) (s .records))
-      ∙ sum-cong-keys (λ r. lives (r .entry .transaction)) (λ r. 0) (λ r. r .entry .transaction) (those (terminates m tape) (s .records))
-      (λ r p. ended-not (r .entry .transaction) (omega (arith, sum-test (λ y. bit (eqb (y .entry .transaction) (r .entry .transaction))) (terminates m tape) (s .records), gone-endings (r .entry .transaction))))
-      ∙ sum-zero (λ r. 0) (λ r. refl) (those (terminates m tape) (s .records))
+      cc (sum-test (λ r. lives (r .entry .transaction)) (terminates m tape) (s .records), sum-cong-keys (λ r. lives (r .entry .transaction)) (λ r. 0) (λ r. r .entry .transaction) (those (terminates m tape) (s .records)) (λ r p. ended-not (r .entry .transaction) (omega (arith, sum-test (λ y. bit (eqb (y .entry .transaction) (r .entry .transaction))) (terminates m tape) (s .records), gone-endings (r .entry .transaction)))), sum-zero (λ r. 0) (λ r. refl) (those (terminates m tape) (s .records)))
     where
       no-third : (a b : Bool) → bit (a && b && false) ≡ 0
       no-third true true = refl
@@ -137,8 +117,7 @@ module _ (m : BlockModel) (tape : List (List ℕ)) (s : State) (balanced : (f : 
 
       ended-not : (n : ℕ) → 0 < endings n → lives n ≡ 0
       ended-not n p = unfold isLiving in
-          (ap (λ c. bit (leb 1 n && leb n (madeBy m tape (s .records)) && c)) (ne-eqb (endings n) 0 (λ z. omega arith))
-          ∙ no-third (leb 1 n) (leb n (madeBy m tape (s .records))))
+          (cc (ne-eqb (endings n) 0 (λ z. omega arith), no-third (leb 1 n) (leb n (madeBy m tape (s .records)))))
 
   everyone-lives : length (everyone s) ≡ livingCount m tape (s .records)
   unfolding livingCount
@@ -147,11 +126,7 @@ module _ (m : BlockModel) (tape : List (List ℕ)) (s : State) (balanced : (f : 
 
   gone-ended : gone m tape (λ k. 1) (s .records) ≡ endedBy m tape (s .records)
   unfolding endedBy
-  gone-ended = sum-cong _ _ (λ r. one (terminates m tape r)) (s .records) ∙ sum-count (terminates m tape) (s .records)
-    where
-      one : (b : Bool) → cond b 1 0 ≡ bit b
-      one true = refl
-      one false = refl
+  gone-ended = sum-cong _ _ (λ r. cases (terminates m tape r) (λ e. rw e) (λ e. rw e)) (s .records) ∙ sum-count _ _
 
   everyone-made : length (everyone s) + endedBy m tape (s .records) ≡ s .made
   everyone-made = omega (arith, whole (λ k. 1), sum-length (everyone s), gone-ended, upTo-ones (s .made))
@@ -179,28 +154,28 @@ module _ (m : BlockModel) (tape : List (List ℕ)) where
         made = h .books .makes;
         ended = h .books .ends;
         balance =
-            omega (arith, everyone-made m tape s (h .balanced) (h .books), everyone-lives m tape s (h .balanced) (h .books), h .books .makes);
+            omega (arith, everyone-made m tape s (h .balanced) (h .books), everyone-lives m tape s (h .balanced) (h .books));
         living = length-places s ∙ everyone-lives m tape s (h .balanced) (h .books);
       }
 
   -- no number stands twice, and none beyond those made
   pub stands-at-most-once : (s : State) → Sound m tape s → (n : ℕ) → standing s n ≤ 1
-  stands-at-most-once s h n = at-most (isLiving m tape (s .records) n) (stands-once m tape s (h .balanced) (h .books) n)
+  stands-at-most-once s h n = at-most (isLiving m tape _ n) (stands-once m tape s (h .balanced) (h .books) n)
     where
       at-most : (b : Bool) → standing s n ≡ bit b → standing s n ≤ 1
       at-most true e = omega arith
       at-most false e = omega arith
 
   pub stands-made : (s : State) → Sound m tape s → (n : ℕ) → 0 < standing s n → (1 ≤ n) × (n ≤ s .made)
-  stands-made s h n p = go (leb 1 n) (leb n (s .made)) refl refl
+  stands-made s h n p = go _ _ refl refl
     where
       all : standing s n ≤ upTo (s .made) (λ k. bit (eqb k n))
       all = omega (arith, once m tape s (h .balanced) (h .books) n)
 
       go : (a b : Bool) → leb 1 n ≡ a → leb n (s .made) ≡ b → (1 ≤ n) × (n ≤ s .made)
-      go true true e q = (leb-true 1 n e, leb-true n (s .made) q)
+      go true true e q = (leb-true 1 n e, leb-true n _ q)
       go true false e q =
-          absurd (omega (arith, all, upTo-none (s .made) n (λ k a b c. omega (arith, leb-false n (s .made) q))))
+          absurd (omega (arith, all, upTo-none (s .made) n (λ k a b c. omega (arith, leb-false n _ q))))
       go false b e q = absurd (omega (arith, all, upTo-none (s .made) n (λ k a b c. omega (arith, leb-false 1 n e))))
 
   alive : (b : Bool) → 0 < bit b → b ≡ true
@@ -210,14 +185,14 @@ module _ (m : BlockModel) (tape : List (List ℕ)) where
   -- who moves is living
   pub mover-lives : (s : State) → Sound m tape s → (t : Transaction) → s .moving ≡ some t → isLiving m tape (s .records) (t .number) ≡ true
   mover-lives s h t e =
-      alive (isLiving m tape (s .records) (t .number))
+      alive _
       (omega (
         arith,
         stands-once m tape s (h .balanced) (h .books) (t .number),
         standing-sum m tape s (h .balanced) (h .books) (t .number),
         sum-everyone m tape (λ k. bit (eqb k (t .number))) s,
         ap (held m tape (λ k. bit (eqb k (t .number)))) e,
-        ap bit (eq-eqb (t .number) (t .number) refl),
+        ap bit (eq-eqb (t .number) _ refl),
       ))
 
   -- and so are the interrupted ones
@@ -225,7 +200,7 @@ module _ (m : BlockModel) (tape : List (List ℕ)) where
   interrupted-live s h =
       each-member (λ (i : Interrupted). i .who .number) _ (s .interrupted)
       (λ i p.
-      alive (isLiving m tape (s .records) (i .who .number))
+      alive _
       (omega (
         arith,
         stands-once m tape s (h .balanced) (h .books) (i .who .number),
@@ -240,9 +215,9 @@ module _ (m : BlockModel) (tape : List (List ℕ)) where
   pub sound-taking : (s : State) → Sound m tape s → Sound m tape (taking (s .moving) s)
   sound-taking s h =
       record {
-        shape = taking-kept (Shape m) (shape-closed m) (s .moving) s (h .shape);
-        balanced = λ f. balanced-taking m tape f (s .moving) s refl (h .balanced f);
-        books = booked-taking m tape (s .moving) s (h .books);
+        shape = taking-kept _ (shape-closed m) _ s (h .shape);
+        balanced = λ f. balanced-taking m tape f _ s refl (h .balanced f);
+        books = booked-taking m tape _ s (h .books);
       }
 
   pub sound-turn : Proper m tape → (s : State) → Sound m tape s → Sound m tape (turn m s)
@@ -255,7 +230,7 @@ module _ (m : BlockModel) (tape : List (List ℕ)) where
 
   pub sound : (budget room : ℕ) → Proper m tape → Each (Sound m tape) (states m tape budget room)
   sound budget room proper =
-      each-state m budget room (Sound m tape) (λ s t h. sound-turn proper s h)
+      each-state m budget room _ (λ s t h. sound-turn proper s h)
       (λ s e c h. record { shape = h .shape; balanced = h .balanced; books = h .books }) tape (sound-start proper)
 
   pub conserved : (budget room : ℕ) → Proper m tape → Each (Conserved m tape) (states m tape budget room)

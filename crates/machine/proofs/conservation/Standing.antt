@@ -1,14 +1,5 @@
 -- Weights over the places of a state: those of everybody on its lists.
-use Prim.Native.Nat.{ℕ, _+_}
-use mathlib.Core.Path.{_≡_}
-use mathlib.Core.List.{List, _++_, map}
-use native.Mathlib.Omega.{arith}
-use lib.Dec.{eqb}
-use Rattle.machine.specs.Transaction.{Transaction, Event, Gatherer, Interrupted}
-use Rattle.machine.specs.Lists.{flat}
-use Rattle.machine.specs.State.{State}
-use Rattle.machine.specs.Report.{Place, placed, movingOne, places}
-use Rattle.machine.specs.Claims.{bit, everyone, standing}
+use Rattle.machine.specs.All.{ℕ, _+_, _≡_, List, _++_, map, arith, eqb, Transaction, Event, Gatherer, Interrupted, flat, State, Place, placed, movingOne, places, bit, everyone, standing}
 use Rattle.machine.proofs.lists.Sums.{sumOn, sum-append, sum-map, sum-count}
 use Rattle.machine.proofs.lists.Sorting.{times}
 

@@ -1,14 +1,5 @@
 -- What validation gives of a model and its tape: each operand lies in its field's range.
-use Prim.Native.Nat.{ℕ, _+_, _≤_, _<_}
-use mathlib.Core.Path.{_≡_, refl}
-use mathlib.Core.List.{List, []}
-use native.Mathlib.Omega.{arith}
-use lib.Dec.{T}
-use lib.ListN.{length, getD}
-use Rattle.machine.specs.Limits.{maxBlocks, maxCapacity, maxFacilities, maxStorages, maxQueues, maxLists, maxPriority, maxSamples, maxSplit, maxBack, maxAssemble, maxCounter, parameterCount}
-use Rattle.machine.specs.Lists.{nth}
-use Rattle.machine.specs.Block.{Code, U, NU, E, NE, F, NF, Share, facility, storage, shareServer, Block, generate, advance, terminate, takes, frees, waitServer, waitTerms, moves, assign, priority, split, counts, assemble, preempt, giveBack, facts, BlockModel, blockAt}
-use Rattle.machine.specs.Validate.{wellFormed}
+use Rattle.machine.specs.All.{ℕ, _+_, _≤_, _<_, _≡_, refl, List, [], arith, T, length, getD, maxBlocks, maxCapacity, maxFacilities, maxStorages, maxQueues, maxLists, maxPriority, maxSamples, maxSplit, maxBack, maxAssemble, maxCounter, parameterCount, nth, Code, U, NU, E, NE, F, NF, Share, facility, storage, shareServer, Block, generate, advance, terminate, takes, frees, waitServer, waitTerms, moves, assign, priority, split, counts, assemble, preempt, giveBack, facts, BlockModel, blockAt, wellFormed}
 
 -- from 1 to n
 abbrev pub Names : ℕ → ℕ → Type 0

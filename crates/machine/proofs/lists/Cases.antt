@@ -1,21 +1,6 @@
 -- What holds of both arms of a choice holds of the choice: the check of a WEL, SEIZE and ENTER, WAITIF, ASSEMBLE, PREEMPT, RETURN, the WS scheme, the start. The
 -- other choices of a block, by `cond-cases`, stand in the proof of each claim.
-use Prim.Native.Nat.{ℕ, suc, _+_, _-_}
-use mathlib.Core.Path.{_≡_, refl, sym}
-use mathlib.Core.Bool.{Bool, true, false, not, _&&_}
-use mathlib.Core.List.{List, [], _∷_}
-use borrow.Author.Tests.{eqb-true, eqb-false}
-use lib.Dec.{ltb, eqb, leb}
-use Rattle.machine.specs.Transaction.{Transaction, Event, Gatherer, Interrupted}
-use Rattle.machine.specs.Term.{Term, Relation, free, serverAt, compare}
-use Rattle.machine.specs.Facts.{isGenerate}
-use Rattle.machine.specs.Block.{Code, U, NU, E, NE, F, NF, status, Share, shareServer, shareUnits, shareHolder, facility, Block, waitServer, waitTerms, assemble, preempt, giveBack, facts, BlockModel}
-use Rattle.machine.specs.State.{State}
-use Rattle.machine.specs.Moves.{enters, moveTo, goOn, toQl, toWel, toWsl, beginWait, mustWait, wakeFirstWel, wakeWsl, timesLeft, arrival, waitsFor, toGatherers, comes, released, interruptedAt, losersTo, interrupt, resume, setUse, setHolder}
-use Rattle.machine.specs.Setters.{setEnded}
-use Rattle.machine.specs.Execute.{checkWel, checkWels, stamped, wakeFor, freeUnits, gathers, givesBack, effect, takeUnits, gathering}
-use Rattle.machine.specs.Turn.{waitsOn, wsScheme}
-use Rattle.machine.specs.Run.{startOf}
+use Rattle.machine.specs.All.{ℕ, suc, _+_, _-_, _≡_, refl, sym, Bool, true, false, not, _&&_, List, [], _∷_, eqb-true, eqb-false, ltb, eqb, leb, Transaction, Event, Gatherer, Interrupted, Term, Relation, free, serverAt, compare, Code, U, NU, E, NE, F, NF, status, Share, shareServer, shareUnits, shareHolder, facility, Block, waitServer, waitTerms, assemble, preempt, giveBack, facts, BlockModel, State, enters, moveTo, goOn, toQl, toWel, toWsl, beginWait, mustWait, wakeFirstWel, wakeWsl, timesLeft, arrival, waitsFor, toGatherers, comes, released, interruptedAt, losersTo, interrupt, resume, setUse, setHolder, setEnded, checkWel, checkWels, stamped, wakeFor, freeUnits, gathers, givesBack, effect, takeUnits, gathering, waitsOn, wsScheme, startOf}
 use Rattle.machine.proofs.runs.RunLaws.{cond-cases}
 
 not-true : (b : Bool) → not b ≡ true → b ≡ false
@@ -83,7 +68,7 @@ module _ (Q : State → Type 0) where
       → ((e : Event) (l : List Event) → losersTo t f s ≡ e ∷ l → Q (goOn t (checkWels f (setHolder f (t .number) true (interrupt e t f (enters t s))))))
       → Q (effect m (preempt f) t s)
   unfolding effect takeUnits
-  preempt-cases m f t s nobody loses = go (losersTo t f s) refl
+  preempt-cases m f t s nobody loses = go _ refl
     where
       go : (l : List Event) → losersTo t f s ≡ l
           → Q (Rattle.machine.specs.Execute.preempting (λ f. f (enters t s)) (λ put. mustWait put t s) (λ f. f s) (λ put. beginWait put t s) l m f t s)
@@ -96,7 +81,7 @@ module _ (Q : State → Type 0) where
       → ((i : Interrupted) (l : List Interrupted) → interruptedAt s f ≡ i ∷ l → Q (goOn t (checkWels f (resume i f (setHolder f (i .who .number) false (enters t s))))))
       → Q (effect m (giveBack f) t s)
   unfolding effect takeUnits givesBack
-  giveBack-cases m f t s nobody back = go (interruptedAt s f) refl
+  giveBack-cases m f t s nobody back = go _ refl
     where
       go : (l : List Interrupted) → interruptedAt s f ≡ l → Q (goOn t (checkWels f (givesBack m l f (enters t s))))
       go [] e = nobody e
@@ -112,4 +97,4 @@ module _ (Q : State → Type 0) where
       → ((facts b .generates ≡ 0 → ⊥) → Q (arrival (timesLeft s (facts b .generates)) (facts b .generates) (facts b .rank) n s)) → Q (startOf b n s)
   unfolding startOf
   startOf-cases b n s f g =
-      cond-cases Q (isGenerate (facts b)) _ _ (λ e. g (eqb-false _ _ (not-true _ e))) (λ e. f (eqb-true _ _ (not-false _ e)))
+      cond-cases Q _ _ _ (λ e. g (eqb-false _ _ (not-true _ e))) (λ e. f (eqb-true _ _ (not-false _ e)))

@@ -1,19 +1,6 @@
 -- Coming onto a QL or WEL and parting a QL, under either edition: the members and their sums are those of the list, with the new one;
 -- only where it stands depends on the edition. Under edition 1 a line stays in order.
-use Prim.Native.Nat.{ℕ, _+_, _-_}
-use mathlib.Core.Path.{_≡_, refl}
-use mathlib.Core.Bool.{Bool}
-use mathlib.Core.List.{List, [], _∷_, _++_, reverse, reverse-cons}
-use native.Mathlib.Omega.{arith}
-use borrow.Author.Tests.{eq-eqb}
-use lib.Dec.{eqb, ltb, leb}
-use Rattle.machine.specs.Transaction.{Transaction, precedes}
-use Rattle.machine.specs.Lists.{insert, anyOf}
-use Rattle.machine.specs.Term.{View}
-use Rattle.machine.specs.Block.{Share, facility, storage, aboveOne, BlockModel}
-use Rattle.machine.specs.Moves.{fromBack, lineUp, Parted, firstOf}
-use Rattle.machine.specs.Execute.{unitsOf, firstOfOne, fromFront, queueRemove, partFor}
-use Rattle.machine.specs.Claims.{Each}
+use Rattle.machine.specs.All.{ℕ, _+_, _-_, _≡_, refl, Bool, List, [], _∷_, _++_, reverse, reverse-cons, arith, eq-eqb, eqb, ltb, leb, Transaction, precedes, insert, anyOf, View, Share, facility, storage, aboveOne, BlockModel, fromBack, lineUp, Parted, firstOf, unitsOf, firstOfOne, fromFront, queueRemove, partFor, Each}
 use Rattle.machine.proofs.runs.RunLaws.{cond-cases}
 use Rattle.machine.proofs.lists.Sums.{sumOn, sum-append, sum-insert, sum-those, sum-first}
 use Rattle.machine.proofs.lists.Sorted.{Sorted, each-insert, each-those, sorted-in}
@@ -27,11 +14,11 @@ module _ {A : Type 0} where
 
   each-reverse : (P : A → Type 0) (l : List A) → Each P l → Each P (reverse l)
   each-reverse P [] h = tt
-  each-reverse P (x ∷ l) h = rw (reverse-cons x l) (each-append P (reverse l) (x ∷ []) (each-reverse P l (h .1)) (h .0, tt))
+  each-reverse P (x ∷ l) h = rw reverse-cons (each-append P (reverse l) _ (each-reverse P l (h .1)) (h .0, tt))
 
   sum-reverse : (f : A → ℕ) (l : List A) → sumOn f (reverse l) ≡ sumOn f l
   sum-reverse f [] = refl
-  sum-reverse f (x ∷ l) = rw (reverse-cons x l) (omega (arith, sum-append f (reverse l) (x ∷ []), sum-reverse f l))
+  sum-reverse f (x ∷ l) = rw reverse-cons (omega (arith, sum-append f (reverse l) (x ∷ []), sum-reverse f l))
 
 -- ---- Coming onto a line
 
@@ -52,15 +39,15 @@ unfolding lineUp fromBack
 each-lineUp P edition t l p h =
     cond-cases (Each P) (eqb edition 1) _ _ (λ e. each-insert P precedes t l p h)
     (λ e. cond-cases (Each P) (t .returning) _ _ (λ r. (p, h))
-    (λ r. each-reverse P (insert meets t (reverse l)) (each-insert P meets t (reverse l) p (each-reverse P l h))))
+    (λ r. each-reverse P (insert meets t _) (each-insert P meets t _ p (each-reverse P l h))))
 
 -- edition 1
 pub lineUp-one : (edition : ℕ) (t : Transaction) (l : List Transaction) → edition ≡ 1 → lineUp edition t l ≡ insert precedes t l
 unfolding lineUp
-lineUp-one edition t l e = rw (eq-eqb edition 1 e)
+lineUp-one edition t l e = rw eq-eqb
 
 pub sorted-lineUp : (edition : ℕ) (t : Transaction) (l : List Transaction) → edition ≡ 1 → Sorted precedes l → Sorted precedes (lineUp edition t l)
-sorted-lineUp edition t l e h = rw (lineUp-one edition t l e) (sorted-in t l h)
+sorted-lineUp edition t l e h = rw lineUp-one (sorted-in t l h)
 
 -- ---- Parting a line
 
@@ -91,8 +78,8 @@ module _ (f : Transaction → ℕ) (m : BlockModel) where
       let stays = sum-fromFront b l in
       let goes = sum-fromFront (b - unitsOf m t) l in
       let same : Parted → Type 0 = λ p. sumOn f (p .go) + sumOn f (p .stay) ≡ f t + sumOn f l in
-      cond-cases same (eqb b (unitsOf m t)) _ _ (λ e. omega arith)
-      (λ e. cond-cases same (ltb b (unitsOf m t)) _ _ (λ d. omega arith) (λ d. omega arith))
+      cond-cases same (eqb b _) _ _ (λ e. omega arith)
+      (λ e. cond-cases same (ltb b _) _ _ (λ d. omega arith) (λ d. omega arith))
 
   pub sum-partFor : (x : Share) (w : View) (l : List Transaction) → Whole f (partFor m x w) l
   unfolding partFor queueRemove
@@ -116,9 +103,9 @@ module _ (P : Transaction → Type 0) (m : BlockModel) where
   both-fromFront b [] h = (tt, tt)
   both-fromFront b (t ∷ l) h =
       let stays = both-fromFront b l (h .1) in
-      let goes = both-fromFront (b - unitsOf m t) l (h .1) in
-      cond-cases (Both P) (eqb b (unitsOf m t)) _ _ (λ e. ((h .0, tt), h .1))
-      (λ e. cond-cases (Both P) (ltb b (unitsOf m t)) _ _ (λ d. (stays .0, (h .0, stays .1))) (λ d. ((h .0, goes .0), goes .1)))
+      let goes = both-fromFront _ l (h .1) in
+      cond-cases (Both P) (eqb b _) _ _ (λ e. ((h .0, tt), h .1))
+      (λ e. cond-cases (Both P) (ltb b _) _ _ (λ d. (stays .0, (h .0, stays .1))) (λ d. ((h .0, goes .0), goes .1)))
 
   pub both-partFor : (x : Share) (w : View) (l : List Transaction) → Each P l → Both P (partFor m x w l)
   unfolding partFor queueRemove

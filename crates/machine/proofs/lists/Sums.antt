@@ -1,18 +1,6 @@
 -- Sums over lists: what a list's operations do to the sum of any weight of its members. Two lists hold the same members where
 -- all weights have equal sums.
-use Prim.Native.Nat.{ℕ, zero, suc, _+_, _≤_, _<_}
-use mathlib.Core.Path.{_≡_, refl, sym, ap, ap₂, _∙_}
-use mathlib.Core.Bool.{Bool, true, false, cond, not}
-use mathlib.Core.List.{List, [], _∷_, _++_, map}
-use native.Mathlib.Omega.{arith}
-use borrow.Author.Tests.{eqb-true, eqb-false, eq-eqb, ne-eqb}
-use lib.Dec.{eqb}
-use lib.ListN.{length, getD, set, take, drop, replicate}
-use Rattle.machine.specs.Transaction.{Transaction, precedes}
-use Rattle.machine.specs.Setters.{withReturning}
-use Rattle.machine.specs.Lists.{insert, those, others, replaceFirst, flat}
-use Rattle.machine.specs.Moves.{wake}
-use Rattle.machine.specs.Claims.{count, bit, upTo, Each}
+use Rattle.machine.specs.All.{ℕ, zero, suc, _+_, _≤_, _<_, _≡_, refl, ap, Bool, true, false, cond, not, List, [], _∷_, _++_, map, arith, eqb-true, eqb-false, eq-eqb, ne-eqb, eqb, length, getD, set, take, drop, replicate, Transaction, precedes, withReturning, insert, those, others, replaceFirst, flat, wake, count, bit, upTo, Each}
 
 -- ---- Definition
 
@@ -93,12 +81,12 @@ module _ {A : Type 0} (f : A → ℕ) where
 module _ {A B : Type 0} (f : B → ℕ) (g : A → B) where
   pub sum-map : (l : List A) → sumOn f (map g l) ≡ sumOn (λ x. f (g x)) l
   sum-map [] = refl
-  sum-map (x ∷ l) = ap (λ n. f (g x) + n) (sum-map l)
+  sum-map (x ∷ l) = cc (sum-map l)
 
 module _ {A : Type 0} (f g : A → ℕ) where
   pub sum-cong : ((x : A) → f x ≡ g x) → (l : List A) → sumOn f l ≡ sumOn g l
   sum-cong h [] = refl
-  sum-cong h (x ∷ l) = ap₂ _+_ (h x) (sum-cong h l)
+  sum-cong h (x ∷ l) = cc (h x, sum-cong h l)
 
   pub sum-le : ((x : A) → f x ≤ g x) → (l : List A) → sumOn f l ≤ sumOn g l
   sum-le h [] = omega arith
@@ -108,12 +96,12 @@ module _ {A : Type 0} (f g : A → ℕ) where
   pub sum-cong-keys : (key : A → ℕ) (l : List A) → ((x : A) → 0 < sumOn (λ y. bit (eqb (key y) (key x))) l → f x ≡ g x) → sumOn f l ≡ sumOn g l
   sum-cong-keys key [] h = refl
   sum-cong-keys key (x ∷ l) h =
-      ap₂ _+_ (h x (omega (arith, ap bit (eq-eqb (key x) (key x) refl)))) (sum-cong-keys key l (λ y p. h y (omega arith)))
+      cc (h x (omega (arith, ap bit (eq-eqb (key x) (key x) refl))), sum-cong-keys key l (λ y p. h y (omega arith)))
 
 -- each member of a list passes what follows from its key standing there
 pub each-member : {A : Type 0} (key : A → ℕ) (P : A → Type 0) (l : List A) → ((x : A) → 0 < sumOn (λ y. bit (eqb (key y) (key x))) l → P x) → Each P l
 each-member key P [] h = tt
-each-member key P (x ∷ l) h = (h x (omega (arith, ap bit (eq-eqb (key x) (key x) refl))), each-member key P l (λ y p. h y (omega arith)))
+each-member key P (x ∷ l) h = (h x (omega (arith, ap bit (eq-eqb (key x) _ refl))), each-member key P l (λ y p. h y (omega arith)))
 
 -- ---- Counting
 
@@ -132,7 +120,7 @@ module _ {A : Type 0} where
       go false e = omega arith
 
   pub count-cons : (p : A → Bool) (x : A) (l : List A) → count p (x ∷ l) ≡ bit (p x) + count p l
-  count-cons p x l = sym (sum-count p (x ∷ l)) ∙ ap (λ n. bit (p x) + n) (sum-count p l)
+  count-cons p x l = cc (sum-count p (x ∷ l), sum-count p l)
 
 -- ---- Waking
 
@@ -150,7 +138,7 @@ module _ (f g : ℕ → ℕ) where
   pub upTo-cong : (n : ℕ) → ((k : ℕ) → 1 ≤ k → k ≤ n → f k ≡ g k) → upTo n f ≡ upTo n g
   unfolding upTo
   upTo-cong zero h = refl
-  upTo-cong (suc n) h = ap₂ _+_ (upTo-cong n (λ k low high. h k low (omega arith))) (h (suc n) (omega arith) (omega arith))
+  upTo-cong (suc n) h = cc (upTo-cong n (λ k low high. h k low (omega arith)), h (suc n) (omega arith) (omega arith))
 
 pub upTo-ones : (n : ℕ) → upTo n (λ k. 1) ≡ n
 unfolding upTo
@@ -164,12 +152,12 @@ upTo-zero (suc n) f h = omega (arith, upTo-zero n f (λ k low high. h k low (ome
 
 -- one number, not among those up to n, and among them
 pub upTo-none : (n i : ℕ) → ((k : ℕ) → 1 ≤ k → k ≤ n → k ≡ i → ⊥) → upTo n (λ k. bit (eqb k i)) ≡ 0
-upTo-none n i h = upTo-zero n (λ k. bit (eqb k i)) (λ k low high. ap bit (ne-eqb k i (h k low high)))
+upTo-none n i h = upTo-zero n (λ k. bit (eqb k i)) (λ k low high. cc (ne-eqb k i (h k low high)))
 
 pub upTo-one : (n i : ℕ) → 1 ≤ i → i ≤ n → upTo n (λ k. bit (eqb k i)) ≡ 1
 unfolding upTo
 upTo-one zero i low high = absurd (omega arith)
-upTo-one (suc n) i low high = go (eqb (suc n) i) refl (upTo-one n i low)
+upTo-one (suc n) i low high = go _ refl (upTo-one n i low)
   where
     go : (b : Bool) → eqb (suc n) i ≡ b → (i ≤ n → upTo n (λ k. bit (eqb k i)) ≡ 1) → upTo n (λ k. bit (eqb k i)) + bit (eqb (suc n) i) ≡ 1
     go true e h =

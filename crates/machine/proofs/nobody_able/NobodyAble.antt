@@ -1,21 +1,6 @@
 -- Claim 3, "nobody able to go waits", of edition 1: where nobody moves, REL is empty and the run has no end or ended dry, the count of
 -- waiters able to go is zero.
-use Prim.Native.Nat.{ℕ, _≤_}
-use mathlib.Core.Path.{_≡_, refl, sym, ap, ap₂, _∙_, subst}
-use mathlib.Core.Bool.{Bool, false, not, true≢false}
-use mathlib.Core.List.{List, [], _∷_}
-use mathlib.Core.Option.{none}
-use native.Mathlib.Omega.{arith}
-use lib.ListN.{length}
-use Rattle.machine.specs.Lists.{those}
-use Rattle.machine.specs.Term.{serverAt}
-use Rattle.machine.specs.Block.{Code, U, NU, E, NE, F, NF, status, BlockModel, welIndex}
-use Rattle.machine.specs.State.{State}
-use Rattle.machine.specs.Moves.{qlOf, welOf}
-use Rattle.machine.specs.Execute.{fits}
-use Rattle.machine.specs.Turn.{waitsOn}
-use Rattle.machine.specs.Run.{states}
-use Rattle.machine.specs.Claims.{count, upTo, Each, ableOnQl, ableOnWel, ableOnWels, ableToGo}
+use Rattle.machine.specs.All.{ℕ, _≤_, _≡_, refl, ap, ap₂, subst, Bool, false, not, true≢false, List, [], _∷_, none, arith, length, those, serverAt, Code, U, NU, E, NE, F, NF, status, BlockModel, welIndex, State, qlOf, welOf, fits, waitsOn, states, count, Each, ableOnQl, ableOnWel, ableOnWels, ableToGo}
 use Rattle.machine.proofs.decoding.Proper.{Proper, servers}
 use Rattle.machine.proofs.runs.RunLaws.{cond-cases, each-map, each-state}
 use Rattle.machine.proofs.lists.Sums.{upTo-zero}
@@ -45,7 +30,7 @@ module _ (m : BlockModel) (tape : List (List ℕ)) (s : State) where
 
   able-ql : m .edition ≡ 1 → Unready → (v : ℕ) → 1 ≤ v → v ≤ servers m → ableOnQl m tape s v ≡ 0
   unfolding ableOnQl fits serverAt
-  able-ql first w v a b = none-pass (fits m (s .view) v) (qlOf s v) (none-fit (w .queued .ql-waits first v a b))
+  able-ql first w v a b = none-pass _ _ (none-fit (w .queued .ql-waits first v a b))
     where
       none-fit : QlWaits m [] (serverIn (s .view .servers) v) v (qlOf s v) → Each (λ t. fits m (s .view) v t ≡ false) (qlOf s v)
       none-fit (nobodyFits h) = h
@@ -54,12 +39,12 @@ module _ (m : BlockModel) (tape : List (List ℕ)) (s : State) where
   able-wel : Unready → (code : Code) (v : ℕ) → 1 ≤ v → v ≤ servers m → ableOnWel m tape s code v ≡ 0
   unfolding ableOnWel serverAt
   able-wel w code v a b =
-      cond-cases (λ n. n ≡ 0) (status code (serverAt (s .view) v)) _ _ (λ e. refl) (λ e. nobody e (w .gated .wel-waits v code a b))
+      cond-cases (λ n. n ≡ 0) _ _ _ (λ e. refl) (λ e. nobody e (w .gated .wel-waits v code a b))
     where
       nobody : status code (serverAt (s .view) v) ≡ false
           → WelWaits m [] (serverIn (s .view .servers) v) code (welIndex v code) (welOf s v code) → length (welOf s v code) ≡ 0
-      nobody e (codeTrue h) = absurd (true≢false (sym h ∙ e))
-      nobody e (nobodyWaits h) = ap length h
+      nobody e (codeTrue h) = absurd (true≢false (cc (h, e)))
+      nobody e (nobodyWaits h) = cc h
       nobody e (oneReady h) = absurd h
 
   pub able-none : Waited m s → m .edition ≡ 1 → s .end ≤ 1 → s .moving ≡ none → s .rel ≡ [] → ableToGo m tape s ≡ 0
@@ -70,7 +55,6 @@ module _ (m : BlockModel) (tape : List (List ℕ)) (s : State) where
       let size = server-length (k .shape) in
       omega (
         arith,
-        wsl,
         upTo-zero (length (s .view .servers)) (ableOnQl m tape s) (λ v a b. able-ql first w v a (omega arith)),
         upTo-zero (length (s .view .servers)) (ableOnWels m tape s)
             (λ v a b.
@@ -83,12 +67,12 @@ module _ (m : BlockModel) (tape : List (List ℕ)) (s : State) where
 module _ {m : BlockModel} {tape : List (List ℕ)} (proper : Proper m tape) where
   pub waited : (budget room : ℕ) → Each (Waited m) (states m tape budget room)
   waited budget room =
-      each-state m budget room (Waited m)
+      each-state m budget room _
       (λ s t k.
       let w = waits-kept proper s (t .no-end) (k .shape) (k .waits) in
       record { shape = shape-turn m s (k .shape); waits = w .0; settled = w .1 })
       (λ s e c k.
-      record { shape = k .shape; waits = k .waits; settled = λ o h. k .settled o (omega (arith, c .no-end)) })
+      record { shape = k .shape; waits = k .waits; settled = λ o h. k .settled o (omega arith) })
       tape (record { shape = shape-start m tape (proper .tapes); waits = waits-start m tape .0; settled = waits-start m tape .1 })
 
   pub nobody-able : (budget room : ℕ)

@@ -1,17 +1,8 @@
 -- Who is ready stays ready: REL loses nobody within a turn, after the taking, and stays sorted; and the one that has moved is
 -- no longer needed where it stood.
-use Prim.Native.Nat.{ℕ}
-use mathlib.Core.Bool.{true}
-use mathlib.Core.Logic.{inl, inr}
-use mathlib.Core.List.{List, [], _∷_}
-use Rattle.machine.specs.Transaction.{Transaction, precedes}
-use Rattle.machine.specs.Lists.{insert}
-use Rattle.machine.specs.Term.{Server}
-use Rattle.machine.specs.Block.{Code, BlockModel}
-use Rattle.machine.specs.Setters.{withReturning}
-use Rattle.machine.specs.Moves.{wake}
+use Rattle.machine.specs.All.{ℕ, inl, inr, List, [], _∷_, Transaction, precedes, insert, Server, Code, BlockModel, wake}
 use Rattle.machine.proofs.lists.Sorted.{Some, Sorted, some-insert, sorted-in}
-use Rattle.machine.proofs.nobody_able.Waiting.{AtServer, AtWel, QlWaits, nobodyFits, nextReady, WelWaits, codeTrue, nobodyWaits, oneReady, Queued, Gated, WaitsOver}
+use Rattle.machine.proofs.nobody_able.Waiting.{AtServer, AtWel, QlWaits, nobodyFits, nextReady, WelWaits, codeTrue, nobodyWaits, oneReady, Queued, WaitsOver}
 
 -- ---- REL grows
 
@@ -29,8 +20,8 @@ pub grows-wake : (l rel : List Transaction) → Grows rel (wake l rel)
 unfolding wake
 grows-wake [] rel = grows-not rel
 grows-wake (t ∷ l) rel =
-    let first = grows-insert (withReturning true t) rel in
-    let later = grows-wake l (insert precedes (withReturning true t) rel) in
+    let first = grows-insert _ rel in
+    let later = grows-wake l _ in
     record { sorted = λ h. later .sorted (first .sorted h); keeps = λ P h. later .keeps P (first .keeps P h) }
 
 -- ---- More are ready
@@ -55,12 +46,9 @@ module _ {m : BlockModel} {ready ready′ : List Transaction} (keeps : (P : Tran
         ql-waits = λ e v a b. ql-more (w .ql-waits e v a b);
       }
 
-  gated-more : {l : List Server} {wel : List (List Transaction)} → Gated m ready l wel → Gated m ready′ l wel
-  gated-more w = record { wel-sorted = w .wel-sorted; wel-stands = w .wel-stands; wel-waits = λ v code a b. wel-more (w .wel-waits v code a b) }
-
   pub waits-more : {rel rel′ : List Transaction} {l : List Server} {ql wel : List (List Transaction)} → (Sorted precedes rel → Sorted precedes rel′)
       → WaitsOver m ready rel l ql wel → WaitsOver m ready′ rel′ l ql wel
-  waits-more sorted w = record { queued = queued-more sorted (w .queued); gated = gated-more (w .gated) }
+  waits-more sorted w = record { queued = queued-more sorted (w .queued); gated = record { wel-sorted = (w .gated) .wel-sorted; wel-stands = (w .gated) .wel-stands; wel-waits = λ v code a b. wel-more ((w .gated) .wel-waits v code a b) } }
 
 -- ---- The one that moves
 

@@ -1,20 +1,6 @@
 -- What is known of those who wait, in each state before a turn and within one, after the taking: the statement. In both,
 -- "ready" are REL and the moving one, so that the taking changes nothing.
-use Prim.Native.Nat.{ℕ, suc, _≤_}
-use mathlib.Core.Path.{_≡_}
-use mathlib.Core.Bool.{true, false}
-use mathlib.Core.List.{List, [], _∷_}
-use mathlib.Core.Option.{Option, none, some}
-use lib.Dec.{leb}
-use lib.ListN.{getD}
-use Rattle.machine.specs.Transaction.{Transaction, precedes}
-use Rattle.machine.specs.Lists.{nth}
-use Rattle.machine.specs.Term.{Server, idleServer, free}
-use Rattle.machine.specs.Block.{Code, status, facts, BlockModel, blockAt, welIndex}
-use Rattle.machine.specs.State.{State}
-use Rattle.machine.specs.Execute.{unitsOf}
-use Rattle.machine.specs.Turn.{waitsOn}
-use Rattle.machine.specs.Claims.{Each}
+use Rattle.machine.specs.All.{ℕ, suc, _≤_, _≡_, true, false, List, [], _∷_, Option, none, some, leb, getD, Transaction, precedes, nth, Server, idleServer, free, Code, status, facts, BlockModel, blockAt, welIndex, State, unitsOf, waitsOn, Each}
 use Rattle.machine.proofs.decoding.Proper.{servers}
 use Rattle.machine.proofs.lists.Sorted.{Some, Sorted}
 

@@ -1,14 +1,5 @@
 -- Claim 4 of demand 3, of every state of a run under edition 1: of two equal waits the one that began later ended only after the other.
-use Prim.Native.Nat.{ℕ}
-use mathlib.Core.Path.{_≡_}
-use mathlib.Core.List.{List, reverse}
-use native.Mathlib.Omega.{arith}
-use Rattle.machine.specs.Block.{BlockModel}
-use Rattle.machine.specs.State.{State}
-use Rattle.machine.specs.Turn.{turn}
-use Rattle.machine.specs.Run.{states}
-use Rattle.machine.specs.Setters.{setEnd}
-use Rattle.machine.specs.Claims.{Each, InOrder}
+use Rattle.machine.specs.All.{ℕ, _≡_, List, reverse, arith, BlockModel, State, turn, states, setEnd, Each, InOrder}
 use Rattle.machine.proofs.decoding.Proper.{Proper}
 use Rattle.machine.proofs.runs.RunLaws.{each-state, each-map}
 use Rattle.machine.proofs.nobody_able.Waiting.{Waits, Settled}
@@ -47,7 +38,7 @@ module _ {m : BlockModel} {tape : List (List ℕ)} (proper : Proper m tape) (fir
   pub in-order : (budget room : ℕ) → Each (λ s. InOrder m tape (reverse (s .records))) (states m tape budget room)
   in-order budget room =
       each-map (λ s k. k .ordered .in-order) (states m tape budget room)
-      (each-state m budget room (Held m tape) (λ s t k. held-turn s (t .no-end) k) (λ s e c k. held-end s e (c .no-end) k) tape
+      (each-state m budget room _ (λ s t k. held-turn s (t .no-end) k) (λ s e c k. held-end s e (c .no-end) k) tape
       (record {
         sound = sound-start m tape proper;
         waits = waits-start m tape .0;

@@ -1,19 +1,5 @@
 -- The open waits of the records are the waits of those who wait, and serials rise with the beginning of waits.
-use Prim.Native.Nat.{ℕ, suc, _+_, _≤_, _<_}
-use mathlib.Core.Path.{_≡_, refl, sym, ap, subst, _∙_}
-use mathlib.Core.Bool.{Bool, true, false, cond, not}
-use mathlib.Core.List.{List, [], _∷_, map}
-use native.Mathlib.Omega.{arith}
-use lib.Dec.{eqb}
-use borrow.Author.Tests.{eq-eqb}
-use Rattle.machine.specs.Transaction.{Transaction}
-use Rattle.machine.specs.Lists.{those, others, flat}
-use Rattle.machine.specs.Block.{facts, BlockModel, blockAt}
-use Rattle.machine.specs.State.{State, Logged}
-use Rattle.machine.specs.Report.{movingOne}
-use Rattle.machine.specs.Setters.{withSerial}
-use Rattle.machine.specs.Moves.{recordOf, log, enters, fresh}
-use Rattle.machine.specs.Claims.{bit}
+use Rattle.machine.specs.All.{ℕ, suc, _+_, _≤_, _<_, _≡_, refl, sym, ap, subst, _∙_, Bool, true, false, cond, not, List, [], _∷_, map, arith, eqb, eq-eqb, Transaction, those, others, flat, facts, BlockModel, blockAt, State, Logged, movingOne, withSerial, recordOf, log, enters, fresh, bit}
 use Rattle.machine.proofs.runs.RunLaws.{cond-cases}
 use Rattle.machine.proofs.order.Records.{opens, without}
 use Rattle.machine.proofs.lists.Sums.{sumOn, sum-test}
@@ -53,7 +39,7 @@ falling-those : (p : Wait → Bool) (n : ℕ) (l : List Wait) → Falling n l �
 unfolding those
 falling-those p n [] h = tt
 falling-those p n (w ∷ l) h =
-    cond-cases (Falling n) (p w) _ _ (λ e. (h .0, falling-those p (w .serial) l (h .1)))
+    cond-cases (Falling n) (p w) _ _ (λ e. (h .0, falling-those p _ l (h .1)))
     (λ e. falling-those p n l (falling-up l (omega arith) (h .1)))
 
 -- the waits of other numbers
@@ -63,13 +49,13 @@ others-than n l = others (λ w. eqb n (w .key .number)) l
 others-keys : (n : ℕ) (l : List Wait) → map (λ w. w .key) (others-than n l) ≡ without n (map (λ w. w .key) l)
 unfolding those
 others-keys n [] = refl
-others-keys n (w ∷ l) = go (eqb n (w .key .number)) (others-keys n l)
+others-keys n (w ∷ l) = go (eqb n _) (others-keys n l)
   where
     go : (b : Bool) → map (λ w. w .key) (others-than n l) ≡ without n (map (λ w. w .key) l)
         → map (λ w. w .key) (cond (not b) (w ∷ others-than n l) (others-than n l))
         ≡ cond (not b) (w .key ∷ without n (map (λ w. w .key) l)) (without n (map (λ w. w .key) l))
     go true h = h
-    go false h = ap (λ r. w .key ∷ r) h
+    go false h = cc h
 
 -- a weight that counts no wait of a number
 abbrev except : ℕ → (Wait → ℕ) → Wait → ℕ
@@ -90,7 +76,7 @@ unfolding waiting
 waiting-agree n s h f g agree =
     omega (
       arith,
-      sum-agree (weight (numbered n)) (weight f) (weight g) (λ t. agree (waitOf t)) (flat (s .ql)) (omega arith),
+      sum-agree _ (weight f) (weight g) (λ t. agree (waitOf t)) (flat (s .ql)) (omega arith),
       sum-agree (weight (numbered n)) (weight f) (weight g) (λ t. agree (waitOf t)) (flat (s .wel)) (omega arith),
       sum-agree (weight (numbered n)) (weight f) (weight g) (λ t. agree (waitOf t)) (s .wsl) (omega arith),
       sum-agree (marked (numbered n)) (marked f) (marked g) (λ t. on-rel t (t .returning)) (s .rel) (omega arith),
@@ -106,7 +92,7 @@ waiting-agree n s h f g agree =
 pub linked-as : {m : BlockModel} {rs : List Logged} {n n′ : ℕ} {total total′ : (Wait → ℕ) → ℕ} → n ≤ n′ → ((f : Wait → ℕ) → ForUnits m f → total′ f ≡ total f)
     → Linked m rs n total → Linked m rs n′ total′
 linked-as le same h =
-    record { waits = h .waits; keys = h .keys; falling = falling-up (h .waits) (omega arith) (h .falling); same = λ f k. h .same f k ∙ sym (same f k) }
+    record { waits = h .waits; keys = h .keys; falling = falling-up (h .waits) (omega arith) (h .falling); same = λ f k. cc (h .same f k, same f k) }
 
 pub linked-quiet : {m : BlockModel} {s s′ : State} → Quiet s s′ → s′ .moving ≡ s .moving → LinkedIn m s → LinkedIn m s′
 linked-quiet {m} {s} {s′} q e h =
@@ -126,16 +112,16 @@ module _ {m : BlockModel} (t : Transaction) (s : State) (alone : Alone (t .numbe
       left-out false n e = refl
 
       own : marked (except (t .number) f) t ≡ 0
-      own = rw (eq-eqb (t .number) (t .number) refl) (cond-cases (λ n. n ≡ 0) (t .returning) 0 0 (λ e. refl) (λ e. refl))
+      own = rw eq-eqb (cond-cases (λ n. n ≡ 0) (t .returning) 0 0 (λ e. refl) (λ e. refl))
 
   -- a record of outcome 0
   pub linked-passes : Linked m (enters t s .records) (s .serial) (λ f. waiting f s)
   unfolding enters log recordOf opens
   linked-passes =
       record {
-        waits = others-than (t .number) (h .waits);
+        waits = others-than _ _;
         keys = others-keys (t .number) (h .waits) ∙ ap (without (t .number)) (h .keys);
-        falling = falling-those _ _ (h .waits) (h .falling);
+        falling = falling-those _ _ _ (h .falling);
         same = same-others;
       }
 
@@ -144,8 +130,8 @@ module _ {m : BlockModel} (t : Transaction) (s : State) (alone : Alone (t .numbe
   unfolding log recordOf opens
   linked-begins =
       record {
-        waits = waitOf (withSerial (fresh s) t) ∷ others-than (t .number) (h .waits);
+        waits = waitOf (withSerial (fresh s) t) ∷ others-than _ _;
         keys = ap (λ l. waitOf t .key ∷ l) (others-keys (t .number) (h .waits) ∙ ap (without (t .number)) (h .keys));
-        falling = (omega arith, falling-those _ _ (h .waits) (h .falling));
-        same = λ f k. ap (λ n. weight f (withSerial (fresh s) t) + n) (same-others f k);
+        falling = (omega arith, falling-those _ _ _ (h .falling));
+        same = λ f k. cc (same-others f k);
       }

@@ -1,21 +1,5 @@
 -- Edition 1: the order of waits is kept by every turn.
-use Prim.Native.Nat.{ℕ, zero, suc, _+_, _*_, _≤_}
-use mathlib.Core.Path.{_≡_, refl, sym, ap, subst, _∙_}
-use mathlib.Core.Bool.{Bool, true, cond, true≢false}
-use mathlib.Core.List.{List, [], _∷_, reverse}
-use mathlib.Core.Option.{Option, none, some}
-use native.Mathlib.Omega.{arith}
-use lib.ListN.{length}
-use Rattle.machine.specs.Transaction.{Transaction}
-use Rattle.machine.specs.Block.{Block, BlockModel, blockAt}
-use Rattle.machine.specs.State.{State, Logged}
-use Rattle.machine.specs.Setters.{setMoving, setTurns, setEnd, withSerial}
-use Rattle.machine.specs.Moves.{recordOf, log, enters, toFel, wakeWsl, arrival, fresh}
-use Rattle.machine.specs.Execute.{question}
-use Rattle.machine.specs.Turn.{taking, answer, execute, turn}
-use Rattle.machine.specs.Run.{startAt, idle, start}
-use Rattle.machine.specs.Report.{movingOne}
-use Rattle.machine.specs.Claims.{InOrder}
+use Rattle.machine.specs.All.{ℕ, zero, suc, _+_, _*_, _≤_, _≡_, refl, sym, ap, subst, Bool, true, cond, true≢false, List, [], _∷_, reverse, Option, none, some, arith, length, Transaction, Block, BlockModel, blockAt, State, Logged, setMoving, setTurns, setEnd, withSerial, recordOf, log, enters, toFel, wakeWsl, arrival, fresh, taking, answer, execute, turn, startAt, idle, start, movingOne, InOrder}
 use Rattle.machine.proofs.decoding.Proper.{Proper}
 use Rattle.machine.proofs.runs.RunLaws.{cond-cases}
 use Rattle.machine.proofs.lists.Cases.{wsScheme-cases, startOf-cases}
@@ -53,7 +37,7 @@ module _ (m : BlockModel) (tape : List (List ℕ)) where
         linked =
             subst (λ rs. Linked m rs (s .serial) (λ f. waiting f s + sumOn (marked f) (movingOne (s .moving)))) (sym records)
             (linked-as serials (λ f k. omega (arith, weights f k, unmarked-weighs f (s .moving) free)) h);
-        in-order = subst (λ rs. InOrder m tape (reverse rs)) (sym records) in-order;
+        in-order = rw records in-order;
         unmarked = λ e. free;
       }
 
@@ -71,21 +55,21 @@ module _ (m : BlockModel) (tape : List (List ℕ)) where
     unfolding enters log recordOf waiting
     ordered-step s′ (passes g q) =
         ordered-as s′ (q .records) (q .serials) (λ f k. q .weights f) (q .moving tt) (linked-passes t idle-hand (h .alone) (h .linked))
-        (order-more m tape _ (s .records) (ends-in-order m tape t idle-hand (h .alone) (h .linked) first (λ e. (h .in-place e, g))) in-order)
+        (order-more m tape _ _ (ends-in-order m tape t idle-hand (h .alone) (h .linked) first (λ e. (h .in-place e, g))) in-order)
     ordered-step s′ (begins e p) =
         ordered-as s′ (p .records) (omega arith) (λ f k. p .weights f) (rw (p .moving) tt) (linked-begins t idle-hand (h .alone) (h .linked))
-        (order-more m tape _ (s .records)
-        (ends-in-order m tape t idle-hand (h .alone) (h .linked) first (λ r. absurd (true≢false (sym r ∙ e)))) in-order)
+        (order-more m tape _ _
+        (ends-in-order m tape t idle-hand (h .alone) (h .linked) first (λ r. absurd (true≢false (cc (r, e))))) in-order)
     ordered-step s′ (back e p) =
-        ordered-as s′ (p .records) (omega arith) (λ f k. omega (arith, p .weights f, weight-back (t .returning) (weight f t) e))
+        ordered-as s′ (p .records) (omega arith) (λ f k. omega (arith, p .weights f, weight-back _ (weight f t) e))
         (rw (p .moving) tt) (h .linked) in-order
     ordered-step s′ (returns z q) =
         ordered-as s′ (q .records) (q .serials)
-        (λ f k. omega (arith, q .weights f, cond-cases (λ n. n ≡ 0) (t .returning) (weight f t) 0 (λ e. k (waitOf t) z) (λ e. refl))) (q .moving tt) (h .linked) in-order
+        (λ f k. omega (arith, q .weights f, cond-cases (λ n. n ≡ 0) (t .returning) _ 0 (λ e. k (waitOf t) z) (λ e. refl))) (q .moving tt) (h .linked) in-order
     ordered-step s′ (assembles z q) =
         ordered-as s′ (q .records) (q .serials) (λ f k. omega (arith, q .weights f, k (waitOf (withSerial (fresh idle-hand) t)) z)) (q .moving tt)
         (linked-begins t idle-hand (h .alone) (h .linked))
-        (order-more m tape _ (s .records)
+        (order-more m tape _ _
         (ends-in-order m tape t idle-hand (h .alone) (h .linked) first (λ r. (h .in-place r, λ n. absurd (n z)))) in-order)
 
     -- a question stops the run
@@ -100,7 +84,7 @@ module _ (m : BlockModel) (tape : List (List ℕ)) where
 
     ordered-answer : Proper m tape → Shape m s → (n : ℕ) → Ordered (answer n m (blockAt m (t .next)) t s)
     unfolding answer
-    ordered-answer proper shape zero = ordered-step _ (step-effect m (blockAt m (t .next)) t idle-hand (proper .block (t .next)) shape)
+    ordered-answer proper shape zero = ordered-step _ (step-effect m _ t idle-hand (proper .block _) shape)
     ordered-answer proper shape (suc n) = ordered-stop n
 
   -- ---- A turn
@@ -110,9 +94,9 @@ module _ (m : BlockModel) (tape : List (List ℕ)) where
     unfolding execute
     ordered-execute s (nobody e l) in-order shape =
         subst (λ o. Ordered (execute o m s)) (sym e)
-        (record { linked = l; in-order = in-order; unmarked = λ z. subst Unmarked (sym e) tt })
+        (record { linked = l; in-order = in-order; unmarked = λ z. rw e tt })
     ordered-execute s (hand t h) in-order shape =
-        subst (λ o. Ordered (execute o m s)) (sym (h .moves)) (ordered-answer first t s h in-order proper shape (question m (blockAt m (t .next)) t s))
+        subst (λ o. Ordered (execute o m s)) (sym (h .moves)) (ordered-answer first t s h in-order proper shape _)
 
     ordered-wakeWsl : (p : Transaction → Bool) (s : State) → Ordered s → Ordered (wakeWsl p s)
     unfolding wakeWsl
@@ -136,8 +120,8 @@ module _ (m : BlockModel) (tape : List (List ℕ)) where
         done : Ordered (execute (taken .moving) m taken)
         done =
             ordered-execute taken (handed-turns _ _ (handed m s once (h .linked) shape w z settled (h .unmarked z)))
-            (subst (λ rs. InOrder m tape (reverse rs)) (sym (taking-records (s .moving) s)) (h .in-order))
-            (taking-kept (Shape m) (shape-closed m) (s .moving) s shape)
+            (rw (taking-records (s .moving) s) (h .in-order))
+            (taking-kept _ (shape-closed m) _ s shape)
 
   -- ---- The start and the end before a turn
 
@@ -166,11 +150,11 @@ module _ (m : BlockModel) (tape : List (List ℕ)) where
   unfolding startAt
   ordered-startAt n [] s h = h
   ordered-startAt n (b ∷ l) s h =
-      ordered-startAt (suc n) l _ (startOf-cases Ordered b n s (λ e. h) (λ e. ordered-arrival _ _ _ n s h))
+      ordered-startAt _ l _ (startOf-cases Ordered b n s (λ e. h) (λ e. ordered-arrival _ _ _ n s h))
 
   pub ordered-start : Ordered (start m tape)
   unfolding start
-  ordered-start = ordered-startAt 1 (m .blocks) _ ordered-idle
+  ordered-start = ordered-startAt 1 _ _ ordered-idle
 
   pub ordered-end : (s : State) (e : ℕ) → s .end ≡ 0 → Ordered s → Ordered (setEnd e s)
   unfolding waiting

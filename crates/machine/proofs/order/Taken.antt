@@ -1,29 +1,13 @@
 -- What the taking hands to a block: the transaction taken, whose number no waiter has, and the waits linked to the records.
 -- One with the returning mark is the first of REL.
-use Prim.Native.Nat.{ℕ, _+_, _≤_}
-use mathlib.Core.Path.{_≡_, refl, sym, ap, subst, _∙_}
-use mathlib.Core.Bool.{Bool, true, false, cond, true≢false}
-use mathlib.Core.List.{List, [], _∷_, map}
-use mathlib.Core.Option.{Option, none, some}
-use native.Mathlib.Omega.{arith}
-use lib.Dec.{eqb}
-use borrow.Author.Tests.{eqb-true, eq-eqb}
-use Rattle.machine.specs.Transaction.{Transaction, Event, precedes}
-use Rattle.machine.specs.Lists.{flat, those}
-use Rattle.machine.specs.Block.{BlockModel}
-use Rattle.machine.specs.State.{State}
-use Rattle.machine.specs.Setters.{withReturning, withSerial, setMoving, setRel}
-use Rattle.machine.specs.Moves.{fresh, toRel}
-use Rattle.machine.specs.Turn.{arriveAll, due, moveClock, nextEvents, takeFirst, takeReady, taking}
-use Rattle.machine.specs.Report.{movingOne}
-use Rattle.machine.specs.Claims.{Each, bit, everyone, standing}
+use Rattle.machine.specs.All.{cases, ℕ, _+_, _≤_, _≡_, refl, sym, ap, subst, _∙_, true, false, true≢false, List, [], _∷_, map, Option, none, some, arith, eqb, eqb-true, eq-eqb, Transaction, Event, precedes, flat, those, BlockModel, State, withReturning, withSerial, setMoving, setRel, fresh, toRel, arriveAll, due, moveClock, nextEvents, takeFirst, takeReady, taking, movingOne, Each, bit, everyone, standing}
 use Rattle.machine.proofs.lists.Sorted.{each-insert}
 use Rattle.machine.proofs.lists.Sums.{sumOn, sum-append, sum-insert, sum-those, sum-map, sum-count, sum-le}
 use Rattle.machine.proofs.order.Weights.{weight, marked, waiting, Unmarked, Quiet, quiet-nextEvents}
 use Rattle.machine.proofs.order.OpenWaits.{Linked, LinkedIn, numbered, Alone, linked-as, linked-quiet}
 use Rattle.machine.proofs.order.Rivals.{Standing}
 use Rattle.machine.proofs.runs.Shape.{Shape}
-use Rattle.machine.proofs.nobody_able.Waiting.{Waits, WaitsOver, Settled, readyOf}
+use Rattle.machine.proofs.nobody_able.Waiting.{Waits, WaitsOver, Settled}
 
 -- ---- Numbers on the lists
 
@@ -36,28 +20,23 @@ module _ (n : ℕ) where
   has t = bit (eqb (t .number) n)
 
   pub has-own : (t : Transaction) → t .number ≡ n → has t ≡ 1
-  has-own t e = ap bit (eq-eqb (t .number) n e)
+  has-own t e = ap bit (eq-eqb _ n e)
 
   pub standing-sum : (s : State) → standing s n
       ≡ sumOn has (flat (s .ql)) + sumOn has (flat (s .wel)) + sumOn has (s .wsl) + sumOn has (s .rel)
       + sumOn has (map (λ e. e .who) (s .fel)) + sumOn has (movingOne (s .moving)) + sumOn has (map (λ g. g .who) (flat (s .gatherers)))
       + sumOn has (map (λ i. i .who) (s .interrupted))
   unfolding standing everyone
-  standing-sum s = sym (sum-count (λ t. eqb (t .number) n) (everyone s)) ∙ simp sum-append
+  standing-sum s = sym (sum-count (λ t. eqb _ n) _) ∙ simp sum-append
 
   weight-has : (t : Transaction) → weight (numbered n) t ≤ has t
-  weight-has t = go (eqb n (t .number)) refl
-    where
-      go : (b : Bool) → eqb n (t .number) ≡ b → bit b ≤ has t
-      go true e = omega (arith, has-own t (sym (eqb-true _ _ e)))
-      go false e = omega arith
+  weight-has t =
+      cases (eqb n (t .number))
+      (λ e. rw e (omega (arith, has-own t (sym (eqb-true _ _ e)))))
+      (λ e. rw e (omega arith))
 
   marked-has : (t : Transaction) → marked (numbered n) t ≤ has t
-  marked-has t = go (t .returning)
-    where
-      go : (b : Bool) → cond b (weight (numbered n) t) 0 ≤ has t
-      go true = weight-has t
-      go false = omega arith
+  marked-has t = cases (t .returning) (λ e. rw e (weight-has t)) (λ e. rw e (omega arith))
 
   waiting-has : (s : State) → waiting (numbered n) s
       ≤ sumOn has (flat (s .ql)) + sumOn has (flat (s .wel)) + sumOn has (s .wsl) + sumOn has (s .rel)
@@ -65,10 +44,10 @@ module _ (n : ℕ) where
   waiting-has s =
       omega (
         arith,
-        sum-le (weight (numbered n)) has weight-has (flat (s .ql)),
-        sum-le (weight (numbered n)) has weight-has (flat (s .wel)),
-        sum-le (weight (numbered n)) has weight-has (s .wsl),
-        sum-le (marked (numbered n)) has marked-has (s .rel),
+        sum-le _ has weight-has (flat (s .ql)),
+        sum-le _ has weight-has (flat (s .wel)),
+        sum-le _ has weight-has (s .wsl),
+        sum-le _ has marked-has (s .rel),
       )
 
   rel-arriveAll : (l : List Event) (s : State) → sumOn has (arriveAll l s .rel) ≡ sumOn has (s .rel) + sumOn has (map (λ e. e .who) l)
@@ -98,7 +77,7 @@ module _ (n : ℕ) where
 fresh-arriveAll : (l : List Event) (s : State) → Each (λ t. t .returning ≡ false) (s .rel) → Each (λ t. t .returning ≡ false) (arriveAll l s .rel)
 unfolding arriveAll toRel
 fresh-arriveAll [] s h = h
-fresh-arriveAll (e ∷ l) s h = fresh-arriveAll l _ (each-insert (λ t. t .returning ≡ false) precedes _ (s .rel) refl h)
+fresh-arriveAll (e ∷ l) s h = fresh-arriveAll l _ (each-insert (λ t. t .returning ≡ false) precedes _ _ refl h)
 
 fresh-nextEvents : (l : List Event) (s : State) → Each (λ t. t .returning ≡ false) (s .rel) → Each (λ t. t .returning ≡ false) (nextEvents l s .rel)
 unfolding nextEvents moveClock
@@ -113,7 +92,7 @@ moving-arriveAll (e ∷ l) s = moving-arriveAll l _
 moving-nextEvents : (l : List Event) (s : State) → nextEvents l s .moving ≡ s .moving
 unfolding nextEvents moveClock
 moving-nextEvents [] s = refl
-moving-nextEvents (e ∷ l) s = moving-arriveAll (those (due (e .time)) (s .fel)) _
+moving-nextEvents (e ∷ l) s = moving-arriveAll _ _
 
 -- ---- The taking
 
@@ -143,10 +122,10 @@ module _ (m : BlockModel) where
                 standing-sum (t .number) s,
                 waiting-has (t .number) s,
                 ap (λ o. sumOn (has (t .number)) (movingOne o)) e,
-                has-own (t .number) t refl,
+                has-own _ t refl,
               );
           linked = linked-as (omega arith) (λ f k. omega (arith, ap (λ o. sumOn (marked f) (movingOne o)) e)) h;
-          in-place = λ r. absurd (true≢false (sym r ∙ u));
+          in-place = λ r. absurd (true≢false (cc (r, u)));
         }
 
     from-rel : (t : Transaction) (l : List Transaction) → s .moving ≡ none → s .rel ≡ t ∷ l → Shape m s → Waits m s → s .end ≡ 0 → Settled m s
@@ -162,7 +141,7 @@ module _ (m : BlockModel) where
                 standing-sum (t .number) s,
                 waiting-has (t .number) (setMoving (some t) (setRel l s)),
                 ap (sumOn (has (t .number))) r,
-                has-own (t .number) t refl,
+                has-own _ t refl,
               );
           linked = linked-as (omega arith) (λ f k. omega (arith, ap (sumOn (marked f)) r)) (linked-none e);
           in-place = λ b.
@@ -172,7 +151,7 @@ module _ (m : BlockModel) where
         ready : WaitsOver m (t ∷ l) (t ∷ l) (s .view .servers) (s .ql) (s .wel)
         ready =
             subst (λ k. WaitsOver m k k (s .view .servers) (s .ql) (s .wel)) r
-            (subst (λ o. WaitsOver m (readyOf o (s .rel)) (s .rel) (s .view .servers) (s .ql) (s .wel)) e w)
+            (rw e at w)
 
     from-fel : (t : Transaction) (l : List Transaction) → s .moving ≡ none → s .rel ≡ [] → nextEvents (s .fel) s .rel ≡ t ∷ l
         → InHand t (setMoving (some t) (setRel l (nextEvents (s .fel) s)))
@@ -191,21 +170,15 @@ module _ (m : BlockModel) where
                 ap (sumOn (marked (numbered (t .number)))) r,
                 ap (sumOn (has (t .number))) r,
                 ap (sumOn (has (t .number))) z,
-                has-own (t .number) t refl,
+                has-own _ t refl,
               );
           linked =
-              subst
-              (λ rs. Linked m rs (nextEvents (s .fel) s .serial) (λ f. waiting f (setMoving (some t) (setRel l (nextEvents (s .fel) s))) + marked f t))
-              (sym (quiet .records))
-              (linked-as (quiet .serials) (λ f k. omega (arith, quiet .weights f, ap (sumOn (marked f)) r)) (linked-none e));
-          in-place = λ b. absurd (true≢false (sym b ∙ first .0));
+              rw (quiet .records) (linked-as (quiet .serials) (λ f k. omega (arith, quiet .weights f, ap (sumOn (marked f)) r)) (linked-none e));
+          in-place = λ b. absurd (true≢false (cc (b, (rw r at (fresh-nextEvents (s .fel) s (rw z tt))) .0)));
         }
       where
         quiet : Quiet s (nextEvents (s .fel) s)
-        quiet = quiet-nextEvents (s .fel) s
-
-        first : Each (λ u. u .returning ≡ false) (t ∷ l)
-        first = subst (Each (λ u. u .returning ≡ false)) r (fresh-nextEvents (s .fel) s (rw z tt))
+        quiet = quiet-nextEvents _ s
 
   -- what the taking leaves
   pub data Handed (s : State) : Type 0 where
@@ -216,20 +189,20 @@ module _ (m : BlockModel) where
       (unmarked : Unmarked (s .moving)) where
     handed-rel : (l : List Transaction) → s .rel ≡ l → s .moving ≡ none → Handed (takeReady l s)
     unfolding takeReady takeFirst
-    handed-rel [] r e = go (nextEvents (s .fel) s .rel) refl
+    handed-rel [] r e = go _ refl
       where
         go : (l : List Transaction) → nextEvents (s .fel) s .rel ≡ l → Handed (takeFirst l (nextEvents (s .fel) s))
-        go [] q = nobody (moving-nextEvents (s .fel) s ∙ e) (linked-quiet (quiet-nextEvents (s .fel) s) (moving-nextEvents (s .fel) s) h)
+        go [] q = nobody (moving-nextEvents _ s ∙ e) (linked-quiet (quiet-nextEvents _ s) (moving-nextEvents _ s) h)
         go (t ∷ l) q = hand t (from-fel s once h t l e r q)
     handed-rel (t ∷ l) r e = hand t (from-rel s once h t l e r shape w z settled)
 
     pub handed : Handed (taking (s .moving) s)
     unfolding taking
-    handed = go (s .moving) refl
+    handed = go _ refl
       where
         go : (o : Option Transaction) → s .moving ≡ o → Handed (taking o s)
-        go none e = handed-rel (s .rel) refl e
-        go (some t) e = hand t (from-moving s once h t e (subst Unmarked e unmarked))
+        go none e = handed-rel _ refl e
+        go (some t) e = hand t (from-moving s once h t e (rw e at unmarked))
 
 -- ---- The taking writes nothing
 
@@ -240,10 +213,10 @@ takeFirst-records (t ∷ l) s = refl
 
 takeReady-records : (l : List Transaction) (s : State) → takeReady l s .records ≡ s .records
 unfolding takeReady
-takeReady-records [] s = takeFirst-records _ _ ∙ quiet-nextEvents (s .fel) s .records
-takeReady-records (t ∷ l) s = takeFirst-records (t ∷ l) s
+takeReady-records [] s = takeFirst-records _ _ ∙ quiet-nextEvents _ s .records
+takeReady-records (t ∷ l) s = takeFirst-records _ s
 
 pub taking-records : (o : Option Transaction) (s : State) → taking o s .records ≡ s .records
 unfolding taking
-taking-records none s = takeReady-records (s .rel) s
+taking-records none s = takeReady-records _ s
 taking-records (some t) s = refl

@@ -1,12 +1,5 @@
 -- The FEL lies ahead: no move time is behind the clock, and times never fall along the FEL. So the clock never falls.
-use Prim.Native.Nat.{_≤_}
-use mathlib.Core.Bool.{Bool}
-use mathlib.Core.List.{List, [], _∷_}
-use native.Mathlib.Omega.{arith}
-use Rattle.machine.specs.Transaction.{Event, earlier}
-use Rattle.machine.specs.Lists.{insert, those, replaceFirst}
-use Rattle.machine.specs.State.{State}
-use Rattle.machine.specs.Claims.{Each}
+use Rattle.machine.specs.All.{_≤_, Bool, List, [], _∷_, arith, Event, earlier, insert, those, replaceFirst, State, Each}
 use Rattle.machine.proofs.runs.RunLaws.{cond-cases, each-map}
 use Rattle.machine.proofs.lists.Sorted.{each-insert, each-those, each-replace, earlier-time, later-time}
 
@@ -22,8 +15,8 @@ pub rising-insert : (x : Event) (l : List Event) → Rising l → Rising (insert
 unfolding insert
 rising-insert x [] h = (tt, tt)
 rising-insert x (y ∷ l) h =
-    cond-cases Rising (earlier x y) _ _
-    (λ e. let le : x .time ≤ y .time = earlier-time x y e in ((le, each-map (λ z (n : y .time ≤ z .time). omega arith) l (h .0)), h))
+    cond-cases Rising _ _ _
+    (λ e. let le = earlier-time x y e in ((le, each-map (λ z (n : y .time ≤ z .time). omega arith) l (h .0)), h))
     (λ e. (each-insert (λ (z : Event). y .time ≤ z .time) earlier x l (later-time x y e) (h .0), rising-insert x l (h .1)))
 
 pub rising-those : (p : Event → Bool) (l : List Event) → Rising l → Rising (those p l)

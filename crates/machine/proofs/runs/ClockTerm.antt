@@ -1,18 +1,6 @@
 -- Below 2 to the 31 the clock term is the clock; so it is in every state of a run whose clock limit is below it, as document 01's.
-use Prim.Native.Nat.{ℕ, _≤_, _<_, _%_}
-use mathlib.Core.Path.{_≡_, sym, ap, subst, _∙_}
-use mathlib.Core.List.{List}
-use native.Mathlib.Omega.{arith}
-use borrow.Author.Tests.{lt-ltb}
+use Rattle.machine.specs.All.{ℕ, _≤_, _<_, _%_, _≡_, ap, _∙_, List, arith, lt-ltb, Rules, document01, View, signed, low32, wrap, clockTerm, term, BlockModel, State, states, Each, ReadsClock, KeepsClockTerm}
 use lib.IntN.{ℤ, pos}
-use Rattle.machine.specs.Rules.{Rules, document01}
-use Rattle.machine.specs.Term.{View, signed, low32, wrap, clockTerm, term}
-use Rattle.machine.specs.Block.{BlockModel}
-use Rattle.machine.specs.State.{State}
-use Rattle.machine.specs.Turn.{taking}
-use Rattle.machine.specs.Run.{states}
-use Rattle.machine.specs.Claims.{Each}
-use Rattle.machine.specs.OlderTapes.{ReadsClock, KeepsClockTerm}
 use Rattle.machine.proofs.decoding.Proper.{Proper}
 use Rattle.machine.proofs.decoding.ProperFrom.{proper-from, rules-from}
 use Rattle.machine.proofs.runs.RunLaws.{each-map}
@@ -22,20 +10,20 @@ pub wrap-pos : (n : ℕ) → n < 2147483648 → wrap (pos n) ≡ pos n
 unfolding wrap low32 signed
 wrap-pos n h =
     let low : n % 4294967296 ≡ n = omega arith in
-    ap signed low ∙ rw (lt-ltb n 2147483648 h)
+    ap signed low ∙ rw lt-ltb
 
 pub clock-term : (w : View) (parameters lower : List ℤ) → w .clock < 2147483648 → term w parameters lower clockTerm ≡ pos (w .clock)
 unfolding term
-clock-term w parameters lower h = wrap-pos (w .clock) h
+clock-term w parameters lower h = wrap-pos _ h
 
 module _ {m : BlockModel} {tape : List (List ℕ)} (proper : Proper m tape) (below : m .rules .maxTime ≤ m .rules .maxClock)
     (small : m .rules .maxClock < 2147483648) where
   reads-clock : (s : State) → Timely (m .rules .maxClock) s → ReadsClock s
   reads-clock s h =
       record {
-        now = λ parameters lower. clock-term (s .view) parameters lower (omega (arith, h .clock));
+        now = λ parameters lower. clock-term _ parameters lower (omega arith);
         next = λ parameters lower.
-            clock-term (taking (s .moving) s .view) parameters lower (omega (arith, taking-timely (s .moving) s h .clock));
+            clock-term _ parameters lower (omega (arith, taking-timely (s .moving) s h .clock));
       }
 
   clock-terms : (budget room : ℕ) → Each ReadsClock (states m tape budget room)
@@ -43,9 +31,9 @@ module _ {m : BlockModel} {tape : List (List ℕ)} (proper : Proper m tape) (bel
 
 pub keeps-clock-term : (rules : Rules) → rules .maxTime ≤ rules .maxClock → rules .maxClock < 2147483648 → KeepsClockTerm rules
 keeps-clock-term rules below small model tape work report budget room m times e =
-    let own : m .rules ≡ rules = rules-from rules model tape work report e in
-    clock-terms (proper-from rules model tape work report e) (subst (λ r. r .maxTime ≤ r .maxClock) (sym own) below)
-    (subst (λ r. r .maxClock < 2147483648) (sym own) small) budget room
+    let own = rules-from rules model tape work report e in
+    clock-terms (proper-from rules model tape work report e) (rw own below)
+    (rw own small) budget room
 
 pub older-clock-term : KeepsClockTerm document01
 older-clock-term = keeps-clock-term document01 (omega arith) (omega arith)

@@ -1,19 +1,12 @@
 -- What every outcome keeps to, for any bytes: the refusal is a number from 0 to 10, the end is a stated one exactly where there is
 -- no refusal, and the turns stay within the budget and the machine's own limit.
-use Prim.Native.Nat.{ℕ}
-use mathlib.Core.Path.{_≡_, refl}
-use mathlib.Core.List.{List}
-use native.Mathlib.Omega.{arith}
-use Rattle.machine.specs.Rules.{Rules}
-use Rattle.machine.specs.Validate.{Validation, accept, reject, validate}
-use Rattle.machine.specs.Outcome.{acceptedRun, refusedRun, outcomeOf, outcome}
-use Rattle.machine.specs.Claims.{Keeping}
+use Rattle.machine.specs.All.{ℕ, _≡_, refl, List, arith, Rules, Validation, accept, reject, validate, acceptedRun, refusedRun, outcomeOf, outcome, Keeping}
 use Rattle.machine.proofs.runs.Bounds.{bounded}
 use Rattle.machine.proofs.decoding.ProperFrom.{refusal-from}
 
 pub outcome-keeps : (rules : Rules) (model tape : List ℕ) (budget work room report : ℕ) → Keeping budget (outcome rules model tape budget work room report)
 unfolding outcome outcomeOf acceptedRun refusedRun
-outcome-keeps rules model tape budget work room report = go (validate rules model tape work report) refl
+outcome-keeps rules model tape budget work room report = go _ refl
   where
     go : (v : Validation) → validate rules model tape work report ≡ v → Keeping budget (outcomeOf budget room v)
     go (accept m t) e =
@@ -29,7 +22,7 @@ outcome-keeps rules model tape budget work room report = go (validate rules mode
         let r = refusal-from rules model tape work report e in
         record {
           refusals = r .1;
-          stated = λ z. absurd (omega (arith, r .0));
+          stated = λ z. absurd (omega arith);
           only-then = λ h. absurd h;
           within-budget = omega arith;
           within-limit = omega arith;

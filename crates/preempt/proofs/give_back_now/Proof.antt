@@ -1,29 +1,24 @@
 -- `give_back_now` meets its contract, by cases on the first of the facility's list.
-use mathlib.Core.Path.{refl}
-use borrow.Author.Tests.{lt-ltb, le-ltb}
+use Rattle.machine.specs.All.{refl, lt-ltb, le-ltb, needs}
 use Rattle.preempt_laws.specs.Preempting.{giveBackNow}
-use borrow.Author.Needs.{needs}
-use Rattle.preempt.proofs.give_back_now.Statement.{statement}
-use Rattle.preempt.proofs.give_back_now.Tie as tie
+use Rattle.preempt.proofs.give_back_now as f
 
-returns : tie.Need-returns
+returns-2 : f.Tie.Need-returns-2
 unfolding giveBackNow
-returns c = rw (← c .before .before .before .before .before .before .before .before .first .ensures, lt-ltb _ 1024 (c .before .before .before .before .before .before .before .if1 .taken)) (c .before .before .before .before .resume .ensures)
+returns-2 c =
+    let b = c .before .before .before .before .before .before .before .before in
+    rw (c .with-outcome .ensures, ← b .before .before .before .before .first .ensures, le-ltb _ 1024 (b .before .before .before .if1 .left), ← b .before .in-use .ensures, ← b .less64 .ensures) (c .before .before .before .before .before .free-one .ensures _ refl refl)
 
-returns-2 : tie.Need-returns-2
-unfolding giveBackNow
-returns-2 c = rw (c .with-outcome .ensures, ← c .before .before .before .before .before .before .before .before .before .before .before .before .first .ensures, le-ltb _ 1024 (c .before .before .before .before .before .before .before .before .before .before .before .if1 .left), ← c .before .before .before .before .before .before .before .before .before .in-use .ensures, ← c .before .before .before .before .before .before .before .before .less64 .ensures) (c .before .before .before .before .before .free-one .ensures _ refl refl)
-
-pub give-back-now-spec : {M : Type 1} → statement M
+pub give-back-now-spec : {M : Type 1} → f.Statement.statement M
 give-back-now-spec =
-    tie.close
-    (tie.spec
+    f.Tie.close
+    (f.Tie.spec
     (search needs)
     (search needs)
     (search needs)
     (search needs)
     (search needs)
-    returns
+    (λ c. let b = c .before .before .before .before in unfold giveBackNow in rw (← b .before .before .before .before .first .ensures, lt-ltb _ 1024 (b .before .before .before .if1 .taken)) (b .resume .ensures))
     (search needs)
     (search needs)
     (search needs)

@@ -1,22 +1,24 @@
 -- `preempt` meets its contract, by cases on whether the facility is seized.
-use mathlib.Core.Path.{refl}
+use Rattle.machine.specs.All.{refl, needs}
 use Rattle.preempt_laws.specs.Preempting.{preemptRows}
-use borrow.Author.Needs.{needs}
-use Rattle.preempt.proofs.preempt.Statement.{statement}
-use Rattle.preempt.proofs.preempt.Tie as tie
+use Rattle.preempt.proofs.preempt as f
 
-returns : tie.Need-returns
+returns : f.Tie.Need-returns
 unfolding preemptRows
-returns c = rw (← c .before .before .before .before .before .before .before .before .before .before .before .before .server-at .ensures .0, ← c .before .before .before .before .before .before .before .before .before .before .read .ensures, ← c .before .before .before .before .before .before .before .before .seized .ensures, c .before .before .before .before .before .before .before .if1 .taken) (c .before .before .before .before .preempt-seized .ensures)
+returns c =
+    let b = c .before .before .before .before .before .before .before in
+    rw (← b .before .before .before .before .before .server-at .ensures .0, ← b .before .before .before .read .ensures, ← b .before .seized .ensures, b .if1 .taken) (c .before .before .before .before .preempt-seized .ensures)
 
-returns-2 : tie.Need-returns-2
+returns-2 : f.Tie.Need-returns-2
 unfolding preemptRows
-returns-2 c = rw (c .with-outcome .ensures, ← c .before .before .before .before .before .before .before .before .before .before .before .before .before .server-at .ensures .0, ← c .before .before .before .before .before .before .before .before .before .before .before .read .ensures, ← c .before .before .before .before .before .before .before .before .before .seized .ensures, c .before .before .before .before .before .before .before .before .if1 .left) (c .before .before .before .before .before .take-units .ensures _ refl refl refl)
+returns-2 c =
+    let b = c .before .before .before .before .before .before .before .before in
+    rw (c .with-outcome .ensures, ← b .before .before .before .before .before .server-at .ensures .0, ← b .before .before .before .read .ensures, ← b .before .seized .ensures, b .if1 .left) (c .before .before .before .before .before .take-units .ensures _ refl refl refl)
 
-pub preempt-spec : {M : Type 1} → statement M
+pub preempt-spec : {M : Type 1} → f.Statement.statement M
 preempt-spec =
-    tie.close
-    (tie.spec
+    f.Tie.close
+    (f.Tie.spec
     (search needs)
     (search needs)
     (search needs)

@@ -1,18 +1,18 @@
 -- `take_over` meets its contract: the steps in order.
-use mathlib.Core.Path.{refl}
+use Rattle.machine.specs.All.{refl, needs}
 use Rattle.preempt_laws.specs.Preempting.{takeOver}
-use borrow.Author.Needs.{needs}
-use Rattle.preempt.proofs.take_over.Statement.{statement}
-use Rattle.preempt.proofs.take_over.Tie as tie
+use Rattle.preempt.proofs.take_over as f
 
-returns : tie.Need-returns
+returns : f.Tie.Need-returns
 unfolding takeOver
-returns c = rw (c .with-outcome .ensures, ← c .before .before .before .before .before .before .before .before .before .before .before .before .before .in-use .ensures, ← c .before .before .before .before .before .before .before .before .before .before .before .before .capacity .ensures .0, ← c .before .before .before .before .before .before .before .before .before .before .interrupt-on .ensures) (c .before .before .before .before .before .hold-units .ensures _ refl refl)
+returns c =
+    let b = c .before .before .before .before .before .before .before .before .before .before in
+    rw (c .with-outcome .ensures, ← b .before .before .before .in-use .ensures, ← b .before .before .capacity .ensures .0, ← b .interrupt-on .ensures) (c .before .before .before .before .before .hold-units .ensures _ refl refl)
 
-pub take-over-spec : {M : Type 1} → statement M
+pub take-over-spec : {M : Type 1} → f.Statement.statement M
 take-over-spec =
-    tie.close
-    (tie.spec
+    f.Tie.close
+    (f.Tie.spec
     (search needs)
     (search needs)
     (search needs)

@@ -1,31 +1,32 @@
 -- `program::block` meets its contract: a kind and its operands.
-use mathlib.Core.List.{[], _∷_}
-use Prim.Native.Nat.{_+_, _*_}
-use mathlib.Core.Path.{_≡_, ap, _∙_}
-use Rattle.program.specs.Shapes.{capacitiesOf}
-use native.Mathlib.Omega.{arith}
-use mathlib.Core.Path.{_≡_, ap, _∙_}
+use Rattle.machine.specs.All.{[], _∷_, _+_, _*_, _≡_, ap, _∙_, arith, needs}
+use Rattle.program.specs.{capacitiesOf}
 use Rattle.program.proofs.Steps.{block-stop, block-kept, capacities-kept}
-use borrow.Author.Needs.{needs}
-use Rattle.program.proofs.block.Statement.{statement}
-use Rattle.program.proofs.block.Tie as tie
+use Rattle.program.proofs.block as f
 
-operands-requires : tie.Need-operands-requires
-operands-requires c κs = let h = c .before .before .before .before .keep .ensures .1 _ _ (c .before .before .kind .given .1) in (omega (arith, c .before .before .before .before .before .before .before .pre .0), c .before .before .before .before .before .before .before .pre .1, h .1, h .0)
+operands-requires : f.Tie.Need-operands-requires
+operands-requires c κs =
+    let b = c .before .before .before .before in
+    let h = b .keep .ensures .1 _ _ (c .before .before .kind .given .1) in (omega (arith, b .before .before .before .pre .0), b .before .before .before .pre .1, h .1, h .0)
 
-returns : tie.Need-returns
-returns c = let z : 0 + 8 * c .before .before .before .before .before .before .args .b ≡ 8 * c .before .before .before .before .before .before .args .b = omega arith in rw z (block-stop _ _ _ (c .before .before .before .keep .ensures .0) _ (c .before .n .given .1))
+returns : f.Tie.Need-returns
+returns c =
+    let d = c .before .before .before in
+    let z : 0 + 8 * d .before .before .before .args .b ≡ 8 * d .before .before .before .args .b = omega arith in rw z (block-stop _ _ _ (d .keep .ensures .0) _ (c .before .n .given .1))
 
-returns-2 : tie.Need-returns-2
-returns-2 c = let z : 0 + 8 * c .before .before .before .before .before .before .before .before .args .b ≡ 8 * c .before .before .before .before .before .before .before .before .args .b = omega arith in
+returns-2 : f.Tie.Need-returns-2
+returns-2 c =
+    let b₁ = c .before .before .before in
+    let d = b₁ .before .before .before .before .before in
+    let z : 0 + 8 * d .args .b ≡ 8 * d .args .b = omega arith in
     rw z
-    (block-kept _ _ _ (c .before .before .before .before .before .keep .ensures .0) (c .before .before .before .kind .given .1)
-    (λ cells. rw (ap (capacitiesOf (c .before .before .before .before .before .before .before .before .args .m)) cells ∙ capacities-kept (c .before .before .before .before .before .before .before .before .args .m) (c .before .before .before .kind .given .0 .0 ∷ []) (c .before .before .before .before .before .before .before .before .args .tables .now) (8 * c .before .before .before .before .before .before .before .before .args .b) (omega (arith, c .before .before .before .before .before .before .before .before .pre .0))) at (c .operands .ensures)))
+    (block-kept _ _ _ (b₁ .before .before .keep .ensures .0) (b₁ .kind .given .1)
+    (λ cells. rw (ap (capacitiesOf (d .args .m)) cells ∙ capacities-kept (d .args .m) (b₁ .kind .given .0 .0 ∷ []) (d .args .tables .now) (8 * d .args .b) (omega (arith, d .pre .0))) at (c .operands .ensures)))
 
-pub block-spec : {M : Type 1} → statement M
+pub block-spec : {M : Type 1} → f.Statement.statement M
 block-spec =
-    tie.close
-    (tie.spec
+    f.Tie.close
+    (f.Tie.spec
     (search needs)
     (search needs)
     (search needs)

@@ -1,23 +1,16 @@
 -- `program::branch` meets its contract: a comparison and a target.
 use Rattle.program.proofs.Steps.{branch-stop, branch-kept}
-use borrow.Author.Needs.{needs}
-use Rattle.program.proofs.branch.Statement.{statement}
-use Rattle.program.proofs.branch.Tie as tie
+use Rattle.machine.specs.All.{needs}
+use Rattle.program.proofs.branch as f
 
-returns : tie.Need-returns
-returns c = branch-stop _ _ _ (c .before .before .before .compared .ensures) _ (c .before .n .given .1)
-
-returns-2 : tie.Need-returns-2
-returns-2 c = branch-kept _ _ _ (c .before .before .before .before .before .compared .ensures) (c .before .before .before .q .given .1) (c .single .ensures)
-
-pub branch-spec : {M : Type 1} → statement M
+pub branch-spec : {M : Type 1} → f.Statement.statement M
 branch-spec =
-    tie.close
-    (tie.spec
+    f.Tie.close
+    (f.Tie.spec
     (search needs)
     (search needs)
     (search needs)
     (search needs)
     (search needs)
-    returns
-    returns-2)
+    (λ c. branch-stop _ _ _ (c .before .before .before .compared .ensures) _ (c .before .n .given .1))
+    (λ c. branch-kept _ _ _ (c .before .before .before .before .before .compared .ensures) (c .before .before .before .q .given .1) (c .single .ensures)))

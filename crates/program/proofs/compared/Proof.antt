@@ -1,22 +1,22 @@
 -- `program::compared` meets its contract: a term, a relation and a term.
 use Rattle.program.proofs.Steps.{compared-stop, compared-stop-2, compared-kept}
-use borrow.Author.Needs.{needs}
-use Rattle.program.proofs.compared.Statement.{statement}
-use Rattle.program.proofs.compared.Tie as tie
+use Rattle.machine.specs.All.{needs}
+use Rattle.program.proofs.compared as f
 
-returns : tie.Need-returns
-returns c = compared-stop _ _ (c .before .before .before .block-term .ensures) _ (c .before .n .given .1)
+returns-2 : f.Tie.Need-returns-2
+returns-2 c =
+    let b = c .before .before .before in
+    compared-stop-2 _ _ (b .before .before .before .before .before .block-term .ensures) (b .before .before .before .left .given .1) (b .single .ensures) _ (c .before .n2 .given .1)
 
-returns-2 : tie.Need-returns-2
-returns-2 c = compared-stop-2 _ _ (c .before .before .before .before .before .before .before .before .block-term .ensures) (c .before .before .before .before .before .before .left .given .1) (c .before .before .before .single .ensures) _ (c .before .n2 .given .1)
+returns-3 : f.Tie.Need-returns-3
+returns-3 c =
+    let b = c .before .before .before .before .before in
+    compared-kept _ _ (b .before .before .before .before .before .block-term .ensures) (b .before .before .before .left .given .1) (b .single .ensures) (c .before .before .before .q .given .1) (c .block-term2 .ensures)
 
-returns-3 : tie.Need-returns-3
-returns-3 c = compared-kept _ _ (c .before .before .before .before .before .before .before .before .before .before .block-term .ensures) (c .before .before .before .before .before .before .before .before .left .given .1) (c .before .before .before .before .before .single .ensures) (c .before .before .before .q .given .1) (c .block-term2 .ensures)
-
-pub compared-spec : {M : Type 1} → statement M
+pub compared-spec : {M : Type 1} → f.Statement.statement M
 compared-spec =
-    tie.close
-    (tie.spec
+    f.Tie.close
+    (f.Tie.spec
     (search needs)
     (search needs)
     (search needs)
@@ -26,6 +26,6 @@ compared-spec =
     (search needs)
     (search needs)
     (search needs)
-    returns
+    (λ c. compared-stop _ _ (c .before .before .before .block-term .ensures) _ (c .before .n .given .1))
     returns-2
     returns-3)

@@ -1,13 +1,6 @@
 -- `program::leaves` meets its contract: the two kinds.
-use borrow.Author.Tests.{eq-eqb, ne-eqb}
-use Rattle.program.proofs.leaves.Statement.{statement}
-use Rattle.program.proofs.leaves.Tie as tie
+use Rattle.machine.specs.All.{eq-eqb, ne-eqb}
+use Rattle.program.proofs.leaves as f
 
-returns : tie.Need-returns
-returns c = rw (eq-eqb _ 3 (c .if1 .taken))
-
-returns-2 : tie.Need-returns-2
-returns-2 c = rw (ne-eqb _ 3 (c .if1 .left))
-
-pub leaves-spec : {M : Type 1} → statement M
-leaves-spec = tie.close (tie.spec returns returns-2)
+pub leaves-spec : {M : Type 1} → f.Statement.statement M
+leaves-spec = f.Tie.close (f.Tie.spec (λ c. rw (eq-eqb _ 3 (c .if1 .taken))) (λ c. rw (ne-eqb _ 3 (c .if1 .left))))

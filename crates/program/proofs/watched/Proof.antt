@@ -1,29 +1,19 @@
 -- `program::watched` meets its contract: a code, and a facility or a storage by it.
 use Rattle.program.proofs.Steps.{watched-stop, watched-facility, watched-storage}
-use borrow.Author.Needs.{needs}
-use Rattle.program.proofs.watched.Statement.{statement}
-use Rattle.program.proofs.watched.Tie as tie
+use Rattle.machine.specs.All.{needs}
+use Rattle.program.proofs.watched as f
 
-returns : tie.Need-returns
-returns c = watched-facility _ _ (c .before .before .before .before .before .before .keep .ensures .0) (c .before .before .before .before .code .given .1) (c .before .before .if1 .taken) (c .single .ensures)
-
-returns-2 : tie.Need-returns-2
-returns-2 c = watched-stop _ _ (c .before .before .before .keep .ensures .0) _ (c .before .n .given .1)
-
-returns-3 : tie.Need-returns-3
-returns-3 c = watched-storage _ _ (c .before .before .before .before .before .before .keep .ensures .0) (c .before .before .before .before .code .given .1) (c .before .before .if1 .left) (c .single2 .ensures)
-
-pub watched-spec : {M : Type 1} → statement M
+pub watched-spec : {M : Type 1} → f.Statement.statement M
 watched-spec =
-    tie.close
-    (tie.spec
+    f.Tie.close
+    (f.Tie.spec
     (search needs)
     (search needs)
     (search needs)
     (search needs)
     (search needs)
-    returns
+    (λ c. let b = c .before .before in watched-facility _ _ (b .before .before .before .before .keep .ensures .0) (b .before .before .code .given .1) (b .if1 .taken) (c .single .ensures))
     (search needs)
     (search needs)
-    returns-2
-    returns-3)
+    (λ c. watched-stop _ _ (c .before .before .before .keep .ensures .0) _ (c .before .n .given .1))
+    (λ c. let b = c .before .before in watched-storage _ _ (b .before .before .before .before .keep .ensures .0) (b .before .before .code .given .1) (b .if1 .left) (c .single2 .ensures)))

@@ -1,18 +1,18 @@
 -- `put_scalars` meets its contract: three numbers in order.
-use mathlib.Core.Path.{ap, _∙_}
-use borrow.Author.Needs.{needs}
+use Rattle.machine.specs.All.{ap, _∙_, needs}
 use Rattle.report_laws.specs.Writing.{put, putAll}
-use Rattle.report.proofs.put_scalars.Statement.{statement}
-use Rattle.report.proofs.put_scalars.Tie as tie
+use Rattle.report.proofs.put_scalars as f
 
-returns : tie.Need-returns
+returns : f.Tie.Need-returns
 unfolding putAll
-returns c = c .before .before .write-number3 .ensures ∙ ap (put _) (c .before .before .before .before .before .before .before .write-number2 .ensures ∙ ap (put _) (c .before .before .before .before .before .before .before .before .before .before .before .before .write-number .ensures))
+returns c =
+    let b = c .before .before .before .before .before .before .before in
+    c .before .before .write-number3 .ensures ∙ ap (put _) (b .write-number2 .ensures ∙ ap (put _) (b .before .before .before .before .before .write-number .ensures))
 
-pub put-scalars-spec : {M : Type 1} → statement M
+pub put-scalars-spec : {M : Type 1} → f.Statement.statement M
 put-scalars-spec =
-    tie.close
-    (tie.spec
+    f.Tie.close
+    (f.Tie.spec
     (search needs)
     (search needs)
     (search needs)

@@ -1,25 +1,12 @@
 -- `run` is safe: what was written of trace and report is within their buffers.
-use borrow.Author.Needs.{needs}
+use Rattle.machine.specs.All.{needs}
 use Rattle.runmodel.proofs.Parts.{trace-part, report-part}
-use Rattle.runmodel.proofs.run.Statement.{statement}
-use Rattle.runmodel.proofs.run.Tie as tie
+use Rattle.runmodel.proofs.run as f
 
-array-share-prefix-trace : tie.Need-array-share-prefix-trace
-array-share-prefix-trace c = trace-part (c .before .before .before .before .before .run .ensures) .0
-
-slice-aggregate-print-accepted : tie.Need-slice-aggregate-print-accepted
-slice-aggregate-print-accepted c = trace-part (c .before .before .before .before .before .before .run .ensures) .1
-
-array-share-prefix-report : tie.Need-array-share-prefix-report
-array-share-prefix-report c = report-part (c .before .before .before .before .before .before .run .ensures) .0
-
-slice-aggregate-print-accepted-2 : tie.Need-slice-aggregate-print-accepted-2
-slice-aggregate-print-accepted-2 c = report-part (c .before .before .before .before .before .before .before .run .ensures) .1
-
-pub run-spec : {M : Type 1} → statement M
+pub run-spec : {M : Type 1} → f.Statement.statement M
 run-spec =
-    tie.close
-    (tie.spec
+    f.Tie.close
+    (f.Tie.spec
     (search needs)
     (search needs)
     (search needs)
@@ -27,9 +14,9 @@ run-spec =
     (search needs)
     (search needs)
     (search needs)
-    array-share-prefix-trace
-    slice-aggregate-print-accepted
-    array-share-prefix-report
-    slice-aggregate-print-accepted-2
+    (λ c. trace-part (c .before .before .before .before .before .run .ensures) .0)
+    (λ c. trace-part (c .before .before .before .before .before .before .run .ensures) .1)
+    (λ c. report-part (c .before .before .before .before .before .before .run .ensures) .0)
+    (λ c. report-part (c .before .before .before .before .before .before .before .run .ensures) .1)
     (search needs)
     (search needs))

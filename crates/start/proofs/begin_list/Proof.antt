@@ -1,9 +1,7 @@
 -- `begin_list` meets its contract: by cases on the times left.
-use mathlib.Core.Path.{refl}
-use borrow.Author.Tests.{eq-eqb, ne-eqb}
-use Rattle.state.specs.Stands.{rowsOf}
-use Rattle.start.specs.Start.{beginList}
-use borrow.Author.Needs.{needs}
+use Rattle.machine.specs.All.{refl, eq-eqb, ne-eqb, needs}
+use Rattle.state.specs.All.{rowsOf}
+use Rattle.start.specs.{beginList}
 use Rattle.start.proofs.begin_list.Statement.{statement}
 use Rattle.start.proofs.begin_list.Tie as tie
 

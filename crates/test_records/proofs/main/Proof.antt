@@ -1,18 +1,11 @@
 -- `records::main` is safe: the part that is read is within the buffer.
-use native.Mathlib.Omega.{arith}
-use mathlib.Core.Path.{sym}
-use lib.Seq.{length-take-le}
-use borrow.Author.Needs.{needs}
-use Rattle.test_records.proofs.main.Statement.{statement}
-use Rattle.test_records.proofs.main.Tie as tie
+use Rattle.machine.specs.All.{arith, sym, length-take-le, needs}
+use Rattle.test_records.proofs.main as f
 
-slice-aggregate-print-trace : tie.Need-slice-aggregate-print-trace
-slice-aggregate-print-trace c = sym (length-take-le _ _ (omega arith))
-
-pub main-spec : {M : Type 1} → statement M
+pub main-spec : {M : Type 1} → f.Statement.statement M
 main-spec =
-    tie.close
-    (tie.spec
+    f.Tie.close
+    (f.Tie.spec
     (search needs)
     (search needs)
     (search needs)
@@ -23,7 +16,7 @@ main-spec =
     (search needs)
     (search needs)
     (search needs)
-    slice-aggregate-print-trace
+    (λ c. sym (length-take-le _ _ (omega arith)))
     (search needs)
     (search needs)
     (search needs))

@@ -1,27 +1,17 @@
 -- `records::print_written` is safe: the position after the number lies within the nine bytes.
-use native.Mathlib.Omega.{arith}
-use mathlib.Core.Path.{sym}
-use lib.Seq.{length-take-le}
+use Rattle.machine.specs.All.{arith, sym, length-take-le, needs}
 use Rattle.codec.proofs.Writing.{put-inside}
-use borrow.Author.Needs.{needs}
-use Rattle.test_records.proofs.print_written.Statement.{statement}
-use Rattle.test_records.proofs.print_written.Tie as tie
+use Rattle.test_records.proofs.print_written as f
 
-array-share-prefix-bytes : tie.Need-array-share-prefix-bytes
-array-share-prefix-bytes c = put-inside _ _ _ _ _ (omega arith) (c .before .write-number .ensures)
-
-slice-aggregate-print-bytes : tie.Need-slice-aggregate-print-bytes
-slice-aggregate-print-bytes c = sym (length-take-le _ _ (put-inside _ _ _ _ _ (omega arith) (c .before .before .write-number .ensures)))
-
-pub print-written-spec : {M : Type 1} → statement M
+pub print-written-spec : {M : Type 1} → f.Statement.statement M
 print-written-spec =
-    tie.close
-    (tie.spec
+    f.Tie.close
+    (f.Tie.spec
     (search needs)
     (search needs)
     (search needs)
-    array-share-prefix-bytes
-    slice-aggregate-print-bytes
+    (λ c. put-inside _ _ _ _ _ (omega arith) (c .before .write-number .ensures))
+    (λ c. sym (length-take-le _ _ (put-inside _ _ _ _ _ (omega arith) (c .before .before .write-number .ensures))))
     (search needs)
     (search needs)
     (search needs)

@@ -1,28 +1,21 @@
 -- `refusals::cut_models` ends. The loop's invariant: n is at most the model's length. The measure is what is left of it.
-use lib.ListN.{length, length-take}
-use borrow.Author.Needs.{needs}
-use Prim.Native.Nat.{_≤_, _-_}
-use native.Mathlib.Omega.{arith}
-use Rattle.test_refusals.proofs.cut_models.Statement.{statement}
-use Rattle.test_refusals.proofs.cut_models.Tie as tie
+use Rattle.machine.specs.All.{length, length-take, needs, _≤_, _-_, arith}
+use Rattle.test_refusals.proofs.cut_models as f
 
-abbrev Inv-loop : tie.InvT-loop
+abbrev Inv-loop : f.Tie.InvT-loop
 Inv-loop model tape n₀ n = n ≤ length model
 
-abbrev μ-loop : tie.MeasureT-loop
+abbrev μ-loop : f.Tie.MeasureT-loop
 μ-loop model tape n₀ n = length model - n
 
-slice-aggregate-answer : tie.Need-slice-aggregate-answer Inv-loop μ-loop
-slice-aggregate-answer c = simp length-take (omega arith)
-
-pub cut-models-spec : {M : Type 1} → statement M
+pub cut-models-spec : {M : Type 1} → f.Statement.statement M
 cut-models-spec =
-    tie.close
-    (tie.spec
+    f.Tie.close
+    (f.Tie.spec
     Inv-loop
     μ-loop
     (search needs)
-    slice-aggregate-answer
+    (λ c. simp length-take (omega arith))
     (search needs)
     (omega arith)
     (omega arith)

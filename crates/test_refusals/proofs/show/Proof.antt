@@ -1,28 +1,19 @@
 -- `show` is safe: what begins a buffer has as many bytes as were written to it.
-use native.Mathlib.Omega.{arith}
-use lib.ListN.{length-take}
-use borrow.Author.Needs.{needs}
-use Rattle.test_refusals.proofs.show.Statement.{statement}
-use Rattle.test_refusals.proofs.show.Tie as tie
+use Rattle.machine.specs.All.{arith, length-take, needs}
+use Rattle.test_refusals.proofs.show as f
 
-slice-aggregate-answer : tie.Need-slice-aggregate-answer
-slice-aggregate-answer c = simp length-take (omega arith)
-
-slice-aggregate-answer-2 : tie.Need-slice-aggregate-answer-2
-slice-aggregate-answer-2 c = simp length-take (omega arith)
-
-pub show-spec : {M : Type 1} → statement M
+pub show-spec : {M : Type 1} → f.Statement.statement M
 show-spec =
-    tie.close
-    (tie.spec
+    f.Tie.close
+    (f.Tie.spec
     (search needs)
     (search needs)
     (search needs)
     (search needs)
     (search needs)
-    slice-aggregate-answer
+    (λ c. simp length-take (omega arith))
     (search needs)
-    slice-aggregate-answer-2
+    (λ c. simp length-take (omega arith))
     (search needs)
     (search needs)
     (search needs)

@@ -1,23 +1,17 @@
 -- `show_line` is safe: its three parts lie within the line.
-use native.Mathlib.Omega.{arith}
-use lib.ListN.{length-take}
-use borrow.Author.Needs.{needs}
-use Rattle.test_refusals.proofs.show_line.Statement.{statement}
-use Rattle.test_refusals.proofs.show_line.Tie as tie
+use Rattle.machine.specs.All.{arith, length-take, needs}
+use Rattle.test_refusals.proofs.show_line as f
 
-slice-aggregate-show : tie.Need-slice-aggregate-show
-slice-aggregate-show c = simp length-take (omega arith)
-
-pub show-line-spec : {M : Type 1} → statement M
+pub show-line-spec : {M : Type 1} → f.Statement.statement M
 show-line-spec =
-    tie.close
-    (tie.spec
+    f.Tie.close
+    (f.Tie.spec
     (search needs)
     (search needs)
     (search needs)
     (search needs)
     (search needs)
-    slice-aggregate-show
+    (λ c. simp length-take (omega arith))
     (search needs)
     (search needs)
     (search needs)

@@ -1,25 +1,18 @@
 -- `sums::put` meets its contract: each index is in range. The loop's invariant: the tables keep their length, and `i` is at most
 -- the count of the numbers. The measure is what is left of them.
-use Prim.Native.Nat.{_-_, _≤_, _<_}
-use mathlib.Core.Path.{_≡_}
-use lib.ListN.{length}
-use borrow.Author.Needs.{needs}
-use Rattle.test_sums.proofs.put.Statement.{statement}
-use Rattle.test_sums.proofs.put.Tie as tie
+use Rattle.machine.specs.All.{_-_, _≤_, _<_, _≡_, length, needs}
+use Rattle.test_sums.proofs.put as f
 
-abbrev Inv-loop : tie.InvT-loop
+abbrev Inv-loop : f.Tie.InvT-loop
 Inv-loop tables₀ at numbers i₀ tables i = (length tables ≡ length tables₀) × (i ≤ length numbers) × (at < length tables₀)
 
-abbrev μ-loop : tie.MeasureT-loop
+abbrev μ-loop : f.Tie.MeasureT-loop
 μ-loop tables₀ at numbers i₀ tables i = length numbers - i
 
-loop-again : tie.Need-loop-again Inv-loop μ-loop
-loop-again c = search needs
-
-pub put-spec : {M : Type 1} → statement M
+pub put-spec : {M : Type 1} → f.Statement.statement M
 put-spec =
-    tie.close
-    (tie.spec
+    f.Tie.close
+    (f.Tie.spec
     Inv-loop
     μ-loop
     (search needs)
@@ -33,6 +26,6 @@ put-spec =
     (search needs)
     (search needs)
     (search needs)
-    loop-again
+    (λ c. search needs)
     (search needs)
     (search needs))

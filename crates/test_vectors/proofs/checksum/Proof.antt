@@ -1,20 +1,17 @@
 -- `vectors::checksum` is safe and ends. The invariant: the sum stays below the prime. The measure is what is left of the bytes.
-use Prim.Native.Nat.{_≤_, _<_, _-_}
-use lib.ListN.{length}
-use borrow.Author.Needs.{needs}
-use Rattle.test_vectors.proofs.checksum.Statement.{statement}
-use Rattle.test_vectors.proofs.checksum.Tie as tie
+use Rattle.machine.specs.All.{_≤_, _<_, _-_, length, needs}
+use Rattle.test_vectors.proofs.checksum as f
 
-abbrev Inv-loop : tie.InvT-loop
+abbrev Inv-loop : f.Tie.InvT-loop
 Inv-loop bytes sum₀ i₀ sum i = (i ≤ length bytes) × (sum < 4294967291)
 
-abbrev μ-loop : tie.MeasureT-loop
+abbrev μ-loop : f.Tie.MeasureT-loop
 μ-loop bytes sum₀ i₀ sum i = length bytes - i
 
-pub checksum-spec : {M : Type 1} → statement M
+pub checksum-spec : {M : Type 1} → f.Statement.statement M
 checksum-spec =
-    tie.close
-    (tie.spec
+    f.Tie.close
+    (f.Tie.spec
     Inv-loop
     μ-loop
     (search needs)

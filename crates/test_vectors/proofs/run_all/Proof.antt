@@ -1,21 +1,17 @@
 -- `vectors::run_all` is safe and ends. The measure is what is left of the cases.
-use Prim.Native.Nat.{_-_}
-use mathlib.Core.Path.{_≡_}
-use lib.ListN.{length}
-use borrow.Author.Needs.{needs}
-use Rattle.test_vectors.proofs.run_all.Statement.{statement}
-use Rattle.test_vectors.proofs.run_all.Tie as tie
+use Rattle.machine.specs.All.{_-_, _≡_, length, needs}
+use Rattle.test_vectors.proofs.run_all as f
 
-abbrev Inv-loop : tie.InvT-loop
+abbrev Inv-loop : f.Tie.InvT-loop
 Inv-loop cases work₀ trace₀ report₀ at₀ t7 work trace report at = (length work ≡ length work₀) × (length trace ≡ length trace₀) × (length report ≡ length report₀)
 
-abbrev μ-loop : tie.MeasureT-loop
+abbrev μ-loop : f.Tie.MeasureT-loop
 μ-loop cases work₀ trace₀ report₀ at₀ t7 work trace report at = length cases - at
 
-pub run-all-spec : {M : Type 1} → statement M
+pub run-all-spec : {M : Type 1} → f.Statement.statement M
 run-all-spec =
-    tie.close
-    (tie.spec
+    f.Tie.close
+    (f.Tie.spec
     Inv-loop
     μ-loop
     (search needs)

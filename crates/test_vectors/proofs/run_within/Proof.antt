@@ -1,33 +1,20 @@
 -- `vectors::run_within` is safe: a part that begins a buffer has the length that was asked of it.
-use native.Mathlib.Omega.{arith}
-use mathlib.Core.Path.{sym}
-use lib.Seq.{length-take-le}
-use borrow.Author.Needs.{needs}
-use Rattle.test_vectors.proofs.run_within.Statement.{statement}
-use Rattle.test_vectors.proofs.run_within.Tie as tie
+use Rattle.machine.specs.All.{arith, sym, length-take-le, needs}
+use Rattle.test_vectors.proofs.run_within as f
 
-slice-aggregate-run-case : tie.Need-slice-aggregate-run-case
-slice-aggregate-run-case c = sym (length-take-le _ _ (omega arith))
-
-slice-aggregate-run-case-2 : tie.Need-slice-aggregate-run-case-2
-slice-aggregate-run-case-2 c = sym (length-take-le _ _ (omega arith))
-
-slice-aggregate-run-case-3 : tie.Need-slice-aggregate-run-case-3
-slice-aggregate-run-case-3 c = sym (length-take-le _ _ (omega arith))
-
-pub run-within-spec : {M : Type 1} → statement M
+pub run-within-spec : {M : Type 1} → f.Statement.statement M
 run-within-spec =
-    tie.close
-    (tie.spec
+    f.Tie.close
+    (f.Tie.spec
     (search needs)
     (search needs)
     (search needs)
     (search needs)
-    slice-aggregate-run-case
+    (λ c. sym (length-take-le _ _ (omega arith)))
     (search needs)
-    slice-aggregate-run-case-2
+    (λ c. sym (length-take-le _ _ (omega arith)))
     (search needs)
-    slice-aggregate-run-case-3
+    (λ c. sym (length-take-le _ _ (omega arith)))
     (search needs)
     (search needs)
     (search needs)

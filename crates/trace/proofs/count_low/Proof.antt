@@ -1,74 +1,60 @@
 -- `trace::count_low` meets its contract. The invariant of each of its loops: what was counted and what the bytes from `i` on give are
 -- together the count of all. The measure is what is left of the length.
-use Prim.Native.Nat.{ℕ, _+_, _-_, _≤_}
-use native.Mathlib.Nat.{zero-add}
-use native.Mathlib.Omega.{arith}
-use mathlib.Core.List.{List}
-use mathlib.Core.Path.{_≡_}
-use lib.ListN.{length, drop}
-use borrow.Author.Needs.{needs}
-use Rattle.machine.specs.Number.{countLow}
+use Rattle.machine.specs.All.{ℕ, _+_, _-_, _≤_, zero-add, arith, List, _≡_, length, drop, needs, countLow}
 use Rattle.trace.proofs.Counting.{counted, counted-all}
-use Rattle.trace.proofs.count_low.Statement.{statement}
-use Rattle.trace.proofs.count_low.Tie as tie
+use Rattle.trace.proofs.count_low as f
 
 abbrev Counted : List ℕ → ℕ → ℕ → Type 0
 Counted s count i = (i ≤ length s) × (count ≤ i) × (count + countLow (drop i s) ≡ countLow s)
 
-abbrev Inv-loop : tie.InvT-loop
+abbrev Inv-loop : f.Tie.InvT-loop
 Inv-loop s count₀ i₀ count i = Counted s count i
 
-abbrev μ-loop : tie.MeasureT-loop
+abbrev μ-loop : f.Tie.MeasureT-loop
 μ-loop s count₀ i₀ count i = length s - i
 
-abbrev Inv-loop2 : tie.InvT-loop2
+abbrev Inv-loop2 : f.Tie.InvT-loop2
 Inv-loop2 s count₀ i₀ count i = Counted s count i
 
-abbrev μ-loop2 : tie.MeasureT-loop2
+abbrev μ-loop2 : f.Tie.MeasureT-loop2
 μ-loop2 s count₀ i₀ count i = length s - i
 
-abbrev Inv-loop3 : tie.InvT-loop3
+abbrev Inv-loop3 : f.Tie.InvT-loop3
 Inv-loop3 s count₀ i₀ count i = Counted s count i
 
-abbrev μ-loop3 : tie.MeasureT-loop3
+abbrev μ-loop3 : f.Tie.MeasureT-loop3
 μ-loop3 s count₀ i₀ count i = length s - i
 
-abbrev Inv-loop4 : tie.InvT-loop4
+abbrev Inv-loop4 : f.Tie.InvT-loop4
 Inv-loop4 s count₀ i₀ count i = Counted s count i
 
-abbrev μ-loop4 : tie.MeasureT-loop4
+abbrev μ-loop4 : f.Tie.MeasureT-loop4
 μ-loop4 s count₀ i₀ count i = length s - i
 
-loop-holds : tie.Need-loop-holds Inv-loop μ-loop Inv-loop2 μ-loop2 Inv-loop3 μ-loop3 Inv-loop4 μ-loop4
-loop-holds c = (omega arith, omega arith, zero-add _)
-
-loop-again : tie.Need-loop-again Inv-loop μ-loop Inv-loop2 μ-loop2 Inv-loop3 μ-loop3 Inv-loop4 μ-loop4
+loop-again : f.Tie.Need-loop-again Inv-loop μ-loop Inv-loop2 μ-loop2 Inv-loop3 μ-loop3 Inv-loop4 μ-loop4
 loop-again c =
     let call = c .count-128 .ensures in
     (omega arith, omega (arith, call .1), counted _ _ 128 _ (call .0) (c .before .before .loop .inv .2))
 
-loop2-again : tie.Need-loop2-again Inv-loop μ-loop Inv-loop2 μ-loop2 Inv-loop3 μ-loop3 Inv-loop4 μ-loop4
+loop2-again : f.Tie.Need-loop2-again Inv-loop μ-loop Inv-loop2 μ-loop2 Inv-loop3 μ-loop3 Inv-loop4 μ-loop4
 loop2-again c =
     let call = c .count-32 .ensures in
     (omega arith, omega (arith, call .1), counted _ _ 32 _ (call .0) (c .before .before .loop2 .inv .2))
 
-loop3-again : tie.Need-loop3-again Inv-loop μ-loop Inv-loop2 μ-loop2 Inv-loop3 μ-loop3 Inv-loop4 μ-loop4
+loop3-again : f.Tie.Need-loop3-again Inv-loop μ-loop Inv-loop2 μ-loop2 Inv-loop3 μ-loop3 Inv-loop4 μ-loop4
 loop3-again c =
     let call = c .count-8 .ensures in
     (omega arith, omega (arith, call .1), counted _ _ 8 _ (call .0) (c .before .before .loop3 .inv .2))
 
-loop4-again : tie.Need-loop4-again Inv-loop μ-loop Inv-loop2 μ-loop2 Inv-loop3 μ-loop3 Inv-loop4 μ-loop4
+loop4-again : f.Tie.Need-loop4-again Inv-loop μ-loop Inv-loop2 μ-loop2 Inv-loop3 μ-loop3 Inv-loop4 μ-loop4
 loop4-again c =
     let call = c .count-1 .ensures in
     (omega arith, omega (arith, call .1), counted _ _ 1 _ (call .0) (c .before .before .loop4 .inv .2))
 
-returns : tie.Need-returns Inv-loop μ-loop Inv-loop2 μ-loop2 Inv-loop3 μ-loop3 Inv-loop4 μ-loop4
-returns c = counted-all _ _ (c .loop4-test .left) (c .before .loop4 .inv .2)
-
-pub count-low-spec : {M : Type 1} → statement M
+pub count-low-spec : {M : Type 1} → f.Statement.statement M
 count-low-spec =
-    tie.close
-    (tie.spec
+    f.Tie.close
+    (f.Tie.spec
     Inv-loop
     μ-loop
     Inv-loop2
@@ -77,7 +63,7 @@ count-low-spec =
     μ-loop3
     Inv-loop4
     μ-loop4
-    loop-holds
+    (λ c. (omega arith, omega arith, zero-add _))
     (search needs)
     (search needs)
     (search needs)
@@ -104,4 +90,4 @@ count-low-spec =
     (search needs)
     (search needs)
     loop4-again
-    returns)
+    (λ c. counted-all _ _ (c .loop4-test .left) (c .before .loop4 .inv .2)))

@@ -1,11 +1,8 @@
 -- The proof of the cycle of calls: a term, a comparison, a sum and its terms, each by its law of Steps.
 -- The measure is 32 for each bracket that may open, and less than 32 for where reading stands between two brackets: after a
 -- count of at most 8, a sum has its terms left, and a comparison its two.
-use borrow.Author.Needs.{needs}
-use Prim.Native.Nat.{_+_, _*_}
-use native.Mathlib.Omega.{arith}
+use Rattle.machine.specs.All.{needs, _+_, _*_, arith, ℕ, _<_}
 use Rattle.values.proofs.Steps.{comparison-stop, comparison-stop-2, comparison-kept, sum-stop, sum-kept, terms-none, terms-stop, terms-stop-2, terms-kept, term-stop, term-operand, term-fifth, term-comparison, term-bracket}
-use Prim.Native.Nat.{ℕ, _<_}
 use borrow.Fn.Kinds.{In}
 use borrow.Fn.PlainCycle.{Measures, is, falls, and}
 use Rattle.values.proofs.comparison.Reads as comparison

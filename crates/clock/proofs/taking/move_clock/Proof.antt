@@ -1,6 +1,6 @@
 -- `move_clock` meets its contract.
 use Rattle.clock.proofs.Steps.{clock-moved}
-use borrow.Author.Needs.{needs}
+use Rattle.machine.specs.All.{needs}
 use Rattle.clock.proofs.taking.move_clock.Statement.{statement}
 use Rattle.clock.proofs.taking.move_clock.Tie as tie
 

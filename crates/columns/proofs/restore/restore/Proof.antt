@@ -1,20 +1,21 @@
 -- `columns::restore::restore` meets its contract: four numbers read, four written one after the other.
 use Rattle.columns_laws.proofs.Restoring.{restored}
-use borrow.Author.Needs.{needs}
-use Rattle.columns.proofs.restore.restore.Statement.{statement}
-use Rattle.columns.proofs.restore.restore.Tie as tie
+use Rattle.machine.specs.All.{needs}
+use Rattle.columns.proofs.restore.restore as f
 
-returns : tie.Need-returns
-returns c = (
-  restored _ (c .before .before .before .before .before .before .before .before .before .before .before .before .before .before .before .before .before .before .before .before .before .before .before .args .t) _ _ _ _ _ _ _ _ _ _ _ _ _ _ (c .before .before .before .before .before .before .before .before .before .before .before .before .before .before .before .before .before .before .before .before .number-at .ensures) (c .before .before .before .before .before .before .before .before .before .before .before .before .before .before .before .before .before .before .before .number-at2 .ensures) (c .before .before .before .before .before .before .before .before .before .before .before .before .before .before .before .before .before .before .number-at3 .ensures) (c .before .before .before .before .before .before .before .before .before .before .before .before .before .before .before .before .before .number-at4 .ensures)
-      (c .before .before .before .before .before .before .before .before .before .before .before .before .before .before .before .before .later .ensures .0) (c .before .before .before .before .before .before .before .before .before .before .before .before .before .before .write-number .ensures) (c .before .before .before .before .before .before .before .before .before .before .write-number2 .ensures) (c .before .before .before .before .before .before .write-number3 .ensures) (c .before .before .write-number4 .ensures),
-  c .before .before .before .before .before .before .before .before .before .before .before .before .before .before .before .before .later .ensures .1,
-)
+returns : f.Tie.Need-returns
+returns c =
+    let d = c .before .before .before .before .before .before in
+    let b = d .before .before .before .before .before .before .before .before in (
+      restored _ (b .before .before .before .before .before .before .before .before .before .args .t) _ _ _ _ _ _ _ _ _ _ _ _ _ _ (b .before .before .before .before .before .before .number-at .ensures) (b .before .before .before .before .before .number-at2 .ensures) (b .before .before .before .before .number-at3 .ensures) (b .before .before .before .number-at4 .ensures)
+          (b .before .before .later .ensures .0) (b .write-number .ensures) (d .before .before .before .before .write-number2 .ensures) (d .write-number3 .ensures) (c .before .before .write-number4 .ensures),
+      b .before .before .later .ensures .1,
+    )
 
-pub restore-spec : {M : Type 1} → statement M
+pub restore-spec : {M : Type 1} → f.Statement.statement M
 restore-spec =
-    tie.close
-    (tie.spec
+    f.Tie.close
+    (f.Tie.spec
     (search needs)
     (search needs)
     (search needs)

@@ -1,50 +1,32 @@
 -- `columns::survey::scan_column` meets its contract. The loop's invariant: where the numbers that are left end is where all end. The measure is
 -- `left`.
-use mathlib.Core.Path.{_≡_, refl, _∙_}
-use native.Mathlib.Omega.{arith}
-use borrow.Author.Needs.{needs}
-use Rattle.machine.specs.Rules.{inForce}
-use Rattle.machine.specs.Parser.{times}
-use Rattle.machine.specs.Trace.{traceField}
+use Rattle.machine.specs.All.{_≡_, refl, _∙_, arith, needs, inForce, times, traceField}
 use Rattle.codec.specs.Answers.{cursorAt}
 use Rattle.columns_laws.specs.Walks.{ends}
 use Rattle.columns_laws.proofs.Surveying.{column-none, column-stop, column-step}
-use Rattle.columns.proofs.survey.scan_column.Statement.{statement}
-use Rattle.columns.proofs.survey.scan_column.Tie as tie
+use Rattle.columns.proofs.survey.scan_column as f
 
-abbrev Inv-loop : tie.InvT-loop
+abbrev Inv-loop : f.Tie.InvT-loop
 Inv-loop s at count lo hi left₀ next₀ left next = ends (times left (traceField inForce s lo hi) (cursorAt next 0 0)) ≡ ends (times count (traceField inForce s lo hi) (cursorAt at 0 0))
 
-abbrev μ-loop : tie.MeasureT-loop
+abbrev μ-loop : f.Tie.MeasureT-loop
 μ-loop s at count lo hi left₀ next₀ left next = left
 
-loop-holds : tie.Need-loop-holds Inv-loop μ-loop
-loop-holds c = refl
-
-enum-told : tie.Need-enum-told Inv-loop μ-loop
+enum-told : f.Tie.Need-enum-told Inv-loop μ-loop
 enum-told c = search needs
 
-returns : tie.Need-returns Inv-loop μ-loop
-returns c = column-stop _ _ _ _ _ _ (c .before .before .before .loop-test .taken) (c .before .before .trace-field .ensures .0) (c .enum-told .given .1) ∙ c .before .before .before .before .loop .inv
-
-loop-again : tie.Need-loop-again Inv-loop μ-loop
-loop-again c = column-step _ _ _ _ _ _ (c .before .before .before .before .loop-test .taken) (c .before .before .before .trace-field .ensures .0) (c .before .after .given .1) ∙ c .before .before .before .before .before .loop .inv
-
-returns-2 : tie.Need-returns-2 Inv-loop μ-loop
-returns-2 c = column-none _ _ _ _ _ (c .loop-test .left) ∙ c .before .loop .inv
-
-pub scan-column-spec : {M : Type 1} → statement M
+pub scan-column-spec : {M : Type 1} → f.Statement.statement M
 scan-column-spec =
-    tie.close
-    (tie.spec
+    f.Tie.close
+    (f.Tie.spec
     Inv-loop
     μ-loop
-    loop-holds
+    (λ c. refl)
     (search needs)
     enum-told
-    returns
+    (λ c. let b = c .before .before in column-stop _ _ _ _ _ _ (b .before .loop-test .taken) (b .trace-field .ensures .0) (c .enum-told .given .1) ∙ b .before .before .loop .inv)
     (search needs)
     (omega arith)
     (omega arith)
-    loop-again
-    returns-2)
+    (λ c. let b = c .before .before .before in column-step _ _ _ _ _ _ (b .before .loop-test .taken) (b .trace-field .ensures .0) (c .before .after .given .1) ∙ b .before .before .loop .inv)
+    (λ c. column-none _ _ _ _ _ (c .loop-test .left) ∙ c .before .loop .inv))

@@ -1,18 +1,18 @@
 -- `assign` meets its contract: the parameter is written, then the transaction goes on.
-use mathlib.Core.Path.{_∙_}
+use Rattle.machine.specs.All.{_∙_, needs}
 use Rattle.decisions_laws.specs.Comparison.{assignRows}
-use borrow.Author.Needs.{needs}
-use Rattle.decisions.proofs.comparison.assign.Statement.{statement}
-use Rattle.decisions.proofs.comparison.assign.Tie as tie
+use Rattle.decisions.proofs.comparison.assign as f
 
-returns : tie.Need-returns
+returns : f.Tie.Need-returns
 unfolding assignRows
-returns c = c .before .before .go-on .ensures ∙ rw (c .before .before .before .before .before .before .set-parameter .ensures, c .before .before .before .before .before .before .before .number .ensures, c .before .before .before .before .before .before .before .before .before .before .worth .ensures)
+returns c =
+    let b = c .before .before .before .before .before .before in
+    c .before .before .go-on .ensures ∙ rw (b .set-parameter .ensures, b .before .number .ensures, b .before .before .before .before .worth .ensures)
 
-pub assign-spec : {M : Type 1} → statement M
+pub assign-spec : {M : Type 1} → f.Statement.statement M
 assign-spec =
-    tie.close
-    (tie.spec
+    f.Tie.close
+    (f.Tie.spec
     (search needs)
     (search needs)
     (search needs)

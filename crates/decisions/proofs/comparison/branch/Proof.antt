@@ -1,28 +1,18 @@
 -- `branch` meets its contract, by cases on the comparison.
-use mathlib.Core.Path.{_∙_}
+use Rattle.machine.specs.All.{_∙_, needs}
 use Rattle.decisions_laws.specs.Comparison.{branchRows}
-use borrow.Author.Needs.{needs}
-use Rattle.decisions.proofs.comparison.branch.Statement.{statement}
-use Rattle.decisions.proofs.comparison.branch.Tie as tie
+use Rattle.decisions.proofs.comparison.branch as f
 
-returns : tie.Need-returns
-unfolding branchRows
-returns c = rw (← c .before .before .before .before .before .before .before .holds .ensures, c .before .before .before .before .before .before .if1 .taken) (c .before .before .go-to .ensures ∙ rw (c .before .before .before .number .ensures))
-
-returns-2 : tie.Need-returns-2
-unfolding branchRows
-returns-2 c = rw (← c .before .before .before .before .before .holds .ensures, c .before .before .before .before .if1 .left) (c .before .before .go-on .ensures)
-
-pub branch-spec : {M : Type 1} → statement M
+pub branch-spec : {M : Type 1} → f.Statement.statement M
 branch-spec =
-    tie.close
-    (tie.spec
+    f.Tie.close
+    (f.Tie.spec
     (search needs)
     (search needs)
     (search needs)
     (search needs)
     (search needs)
-    returns
+    (λ c. let b = c .before .before in unfold branchRows in rw (← b .before .before .before .before .before .holds .ensures, b .before .before .before .before .if1 .taken) (b .go-to .ensures ∙ rw (b .before .number .ensures)))
     (search needs)
     (search needs)
-    returns-2)
+    (λ c. let b = c .before .before in unfold branchRows in rw (← b .before .before .before .holds .ensures, b .before .before .if1 .left) (b .go-on .ensures)))

@@ -1,25 +1,16 @@
 -- `wait_terms` meets its contract, by cases on the comparison.
 use Rattle.decisions_laws.specs.Comparison.{waitTermsRows}
-use borrow.Author.Needs.{needs}
-use Rattle.decisions.proofs.comparison.wait_terms.Statement.{statement}
-use Rattle.decisions.proofs.comparison.wait_terms.Tie as tie
+use Rattle.machine.specs.All.{needs}
+use Rattle.decisions.proofs.comparison.wait_terms as f
 
-returns : tie.Need-returns
-unfolding waitTermsRows
-returns c = rw (← c .before .before .before .before .before .holds .ensures, c .before .before .before .before .if1 .taken) (c .before .before .wait-on .ensures)
-
-returns-2 : tie.Need-returns-2
-unfolding waitTermsRows
-returns-2 c = rw (← c .before .before .before .before .before .holds .ensures, c .before .before .before .before .if1 .left) (c .before .before .go-on .ensures)
-
-pub wait-terms-spec : {M : Type 1} → statement M
+pub wait-terms-spec : {M : Type 1} → f.Statement.statement M
 wait-terms-spec =
-    tie.close
-    (tie.spec
+    f.Tie.close
+    (f.Tie.spec
     (search needs)
     (search needs)
     (search needs)
-    returns
+    (λ c. let b = c .before .before in unfold waitTermsRows in rw (← b .before .before .before .holds .ensures, b .before .before .if1 .taken) (b .wait-on .ensures))
     (search needs)
     (search needs)
-    returns-2)
+    (λ c. let b = c .before .before in unfold waitTermsRows in rw (← b .before .before .before .holds .ensures, b .before .before .if1 .left) (b .go-on .ensures)))

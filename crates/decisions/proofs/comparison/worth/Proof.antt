@@ -1,21 +1,15 @@
 -- `worth` meets its contract: the bits of what the term is worth.
-use mathlib.Core.Path.{_∙_}
+use Rattle.machine.specs.All.{_∙_, needs}
 use Rattle.decisions_laws.specs.Comparison.{worthAt}
 use Rattle.terms.proofs.Signs.{back}
-use borrow.Author.Needs.{needs}
-use Rattle.decisions.proofs.comparison.worth.Statement.{statement}
-use Rattle.decisions.proofs.comparison.worth.Tie as tie
+use Rattle.decisions.proofs.comparison.worth as f
 
-returns : tie.Need-returns
-unfolding worthAt
-returns c = let worth = back _ (c .before .term-at .ok) ∙ c .before .term-at .ensures in c .bits .ensures ∙ rw (worth, c .before .before .before .parameters-of .ensures)
-
-pub worth-spec : {M : Type 1} → statement M
+pub worth-spec : {M : Type 1} → f.Statement.statement M
 worth-spec =
-    tie.close
-    (tie.spec
+    f.Tie.close
+    (f.Tie.spec
     (search needs)
     (search needs)
     (search needs)
     (search needs)
-    returns)
+    (λ c. unfold worthAt in let worth = back _ (c .before .term-at .ok) ∙ c .before .term-at .ensures in c .bits .ensures ∙ rw (worth, c .before .before .before .parameters-of .ensures)))

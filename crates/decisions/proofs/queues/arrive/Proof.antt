@@ -1,12 +1,13 @@
 -- `arrive` meets its contract: one content more.
 use Rattle.decisions_laws.specs.Queues.{arriveRows}
-use borrow.Author.Needs.{needs}
-use Rattle.decisions.proofs.queues.arrive.Statement.{statement}
-use Rattle.decisions.proofs.queues.arrive.Tie as tie
+use Rattle.machine.specs.All.{needs}
+use Rattle.decisions.proofs.queues.arrive as f
 
-returns : tie.Need-returns
+returns : f.Tie.Need-returns
 unfolding arriveRows
-returns c = rw (← c .before .before .before .before .before .before .before .before .before .before .queue-at .ensures .0, ← c .before .before .before .before .before .before .count .ensures, ← c .before .before .before .before .before .plus64 .ensures) (c .before .before .before .before .change .ensures)
+returns c =
+    let b = c .before .before .before .before in
+    rw (← b .before .before .before .before .before .before .queue-at .ensures .0, ← b .before .before .count .ensures, ← b .before .plus64 .ensures) (b .change .ensures)
 
-pub arrive-spec : {M : Type 1} → statement M
-arrive-spec = tie.close (tie.spec (search needs) (search needs) (search needs) (search needs) (search needs) (search needs) (search needs) returns)
+pub arrive-spec : {M : Type 1} → f.Statement.statement M
+arrive-spec = f.Tie.close (f.Tie.spec (search needs) (search needs) (search needs) (search needs) (search needs) (search needs) (search needs) returns)

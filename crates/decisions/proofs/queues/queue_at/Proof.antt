@@ -1,15 +1,7 @@
 -- `queue_at` meets its contract: a number below 32 of what the tables hold.
-use Prim.Native.Nat.{ℕ, _%_}
-use mathlib.Core.Path.{ap}
-use native.Mathlib.Omega.{arith}
+use Rattle.machine.specs.All.{ℕ, _%_, ap, arith, needs}
 use Rattle.decisions_laws.specs.Queues.{queueOf}
-use borrow.Author.Needs.{needs}
-use Rattle.decisions.proofs.queues.queue_at.Statement.{statement}
-use Rattle.decisions.proofs.queues.queue_at.Tie as tie
+use Rattle.decisions.proofs.queues.queue_at as f
 
-returns : tie.Need-returns
-unfolding queueOf
-returns c = (ap (λ (n : ℕ). n % 32) (c .number .ensures), omega arith)
-
-pub queue-at-spec : {M : Type 1} → statement M
-queue-at-spec = tie.close (tie.spec (search needs) (search needs) (search needs) returns)
+pub queue-at-spec : {M : Type 1} → f.Statement.statement M
+queue-at-spec = f.Tie.close (f.Tie.spec (search needs) (search needs) (search needs) (λ c. unfold queueOf in (ap (λ (n : ℕ). n % 32) (c .number .ensures), omega arith)))

@@ -1,31 +1,23 @@
 -- `leaves` meets its contract, by cases on the block at which the row stands.
-use borrow.Author.Tests.{lt-ltb, le-ltb, eq-eqb, ne-eqb}
+use Rattle.machine.specs.All.{lt-ltb, le-ltb, eq-eqb, ne-eqb, needs}
 use Rattle.decisions_laws.specs.Scheme.{leavesFrom, leavesBy}
 use Rattle.decisions_laws.proofs.Sharing.{not-related}
-use borrow.Author.Needs.{needs}
-use Rattle.decisions.proofs.scheme.leaves.Statement.{statement}
-use Rattle.decisions.proofs.scheme.leaves.Tie as tie
+use Rattle.decisions.proofs.scheme.leaves as f
 
-returns : tie.Need-returns
+returns-3 : f.Tie.Need-returns-3
 unfolding leavesBy leavesFrom
-returns c = rw (le-ltb _ _ (c .if1 .taken))
+returns-3 c =
+    let b = c .before .before .before in
+    rw (lt-ltb _ _ (b .before .before .before .before .before .if1 .left), ← b .before .before .before .number .ensures, eq-eqb _ 9 (b .before .before .if2 .left)) (not-related (c .related .ensures) (c .before .number2 .ensures) (b .before .side .ok) (b .before .side .ensures) (b .side2 .ok) (b .side2 .ensures))
 
-returns-2 : tie.Need-returns-2
-unfolding leavesBy leavesFrom
-returns-2 c = rw (lt-ltb _ _ (c .before .before .before .if1 .left), ← c .before .number .ensures, ne-eqb _ 9 (c .if2 .taken))
-
-returns-3 : tie.Need-returns-3
-unfolding leavesBy leavesFrom
-returns-3 c = rw (lt-ltb _ _ (c .before .before .before .before .before .before .before .before .if1 .left), ← c .before .before .before .before .before .before .number .ensures, eq-eqb _ 9 (c .before .before .before .before .before .if2 .left)) (not-related (c .related .ensures) (c .before .number2 .ensures) (c .before .before .before .before .side .ok) (c .before .before .before .before .side .ensures) (c .before .before .before .side2 .ok) (c .before .before .before .side2 .ensures))
-
-pub leaves-spec : {M : Type 1} → statement M
+pub leaves-spec : {M : Type 1} → f.Statement.statement M
 leaves-spec =
-    tie.close
-    (tie.spec
+    f.Tie.close
+    (f.Tie.spec
     (search needs)
-    returns
+    (λ c. unfold leavesBy leavesFrom in rw (le-ltb _ _ (c .if1 .taken)))
     (search needs)
-    returns-2
+    (λ c. unfold leavesBy leavesFrom in rw (lt-ltb _ _ (c .before .before .before .if1 .left), ← c .before .number .ensures, ne-eqb _ 9 (c .if2 .taken)))
     (search needs)
     (search needs)
     (search needs)

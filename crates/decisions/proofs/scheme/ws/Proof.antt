@@ -1,63 +1,42 @@
 -- `ws` meets its contract. The invariant: the rest of the walk from here is the whole walk, and the answers for all are those of the
 -- block that was seen last. The measure: the steps left.
-use Prim.Native.Nat.{_+_, _-_, _≤_}
-use mathlib.Core.Path.{_≡_, refl, sym, _∙_}
-use native.Mathlib.Omega.{arith}
-use borrow.Author.Needs.{needs}
-use borrow.Author.Tests.{eq-eqb, ne-eqb}
-use lib.ListN.{length}
-use Rattle.rows_laws.specs.Layout.{head, wsl}
-use Rattle.rows_laws.specs.Wake.{wakeAll}
+use Rattle.machine.specs.All.{_+_, _-_, _≤_, _≡_, refl, sym, _∙_, arith, needs, eq-eqb, ne-eqb, length}
+use Rattle.rows_laws.specs.All.{head, wsl, wakeAll}
 use Rattle.rows_laws.proofs.Steps.{wakeAll-end, wakeAll-stop, wakeAll-next}
 use Rattle.decisions_laws.specs.Scheme.{leaves, wsScheme}
 use Rattle.decisions_laws.specs.Sides.{ForAll}
 use Rattle.decisions_laws.proofs.Sharing.{leaves-by, for-all-past}
-use Rattle.decisions.proofs.scheme.ws.Statement.{statement}
-use Rattle.decisions.proofs.scheme.ws.Tie as tie
+use Rattle.decisions.proofs.scheme.ws as f
 
-abbrev Inv-loop : tie.InvT-loop
+abbrev Inv-loop : f.Tie.InvT-loop
 Inv-loop tables blocks values work₀ tally clock cell₀ seen₀ left₀ right₀ i₀ work cell seen left right i =
     (wakeAll (leaves tables blocks values tally clock) (1024 - i) work 448 cell ≡ wakeAll (leaves tables blocks values tally clock) 1024 work₀ 448 (head wsl))
     × ((i ≤ 1024) × ((length work ≡ length work₀) × ((seen ≤ 34359738360) × (ForAll tables values tally clock (seen + 1) left × ForAll tables values tally clock (seen + 4) right))))
 
-abbrev μ-loop : tie.MeasureT-loop
+abbrev μ-loop : f.Tie.MeasureT-loop
 μ-loop tables blocks values work₀ tally clock cell₀ seen₀ left₀ right₀ i₀ work cell seen left right i = 1024 - i
 
-returns : tie.Need-returns Inv-loop μ-loop
-unfolding wsScheme
-returns c = rw (ne-eqb _ 0 (c .if1 .taken))
-
-loop-holds : tie.Need-loop-holds Inv-loop μ-loop
-loop-holds c = (refl, (omega arith, (refl, (omega arith, (for-all-past (omega arith), for-all-past (omega arith))))))
-
-returns-2 : tie.Need-returns-2 Inv-loop μ-loop
-unfolding wsScheme
-returns-2 c = rw (eq-eqb _ 0 (c .before .before .before .before .before .if1 .left)) (sym (wakeAll-stop _ _ _ _ _ (omega arith)) ∙ c .before .before .before .before .loop .inv .0)
-
-loop-again : tie.Need-loop-again Inv-loop μ-loop
+loop-again : f.Tie.Need-loop-again Inv-loop μ-loop
 loop-again c =
-    let left = c .before .before .before .before .before .shared .ensures (c .before .before .before .before .before .before .before .before .before .before .before .before .loop .inv .1 .1 .1 .1 .0) in
-    let right = c .before .before .before .before .shared2 .ensures (c .before .before .before .before .before .before .before .before .before .before .before .before .loop .inv .1 .1 .1 .1 .1) in (
-      rw (c .before .before .step .ensures .1, c .before .before .step .ensures .0, leaves-by _ _ _ _ _ _ (c .before .before .before .before .before .before .block-of .ensures .0) left right, c .before .before .before .before .before .before .before .before .before .load .ensures)
-          (sym (wakeAll-next _ _ _ _ _ _ (omega arith) (omega arith)) ∙ c .before .before .before .before .before .before .before .before .before .before .before .before .loop .inv .0),
-      (omega arith, (omega (arith, c .before .before .step .kept), (c .before .before .before .before .before .before .block-of .ensures .1, (left, right)))),
+    let b = c .before .before .before .before .before in
+    let left = b .shared .ensures (b .before .before .before .before .before .before .before .loop .inv .1 .1 .1 .1 .0) in
+    let right = c .before .before .before .before .shared2 .ensures (b .before .before .before .before .before .before .before .loop .inv .1 .1 .1 .1 .1) in (
+      rw (c .before .before .step .ensures .1, c .before .before .step .ensures .0, leaves-by _ _ _ _ _ _ (b .before .block-of .ensures .0) left right, b .before .before .before .before .load .ensures)
+          (sym (wakeAll-next _ _ _ _ _ _ (omega arith) (omega arith)) ∙ b .before .before .before .before .before .before .before .loop .inv .0),
+      (omega arith, (omega (arith, c .before .before .step .kept), (b .before .block-of .ensures .1, (left, right)))),
     )
 
-returns-3 : tie.Need-returns-3 Inv-loop μ-loop
-unfolding wsScheme
-returns-3 c = rw (eq-eqb _ 0 (c .before .before .if1 .left)) (sym (wakeAll-end _ _ _ _ _ (omega arith)) ∙ c .before .loop .inv .0)
-
-pub ws-spec : {M : Type 1} → statement M
+pub ws-spec : {M : Type 1} → f.Statement.statement M
 ws-spec =
-    tie.close
-    (tie.spec
+    f.Tie.close
+    (f.Tie.spec
     Inv-loop
     μ-loop
-    returns
-    loop-holds
+    (λ c. unfold wsScheme in rw (ne-eqb _ 0 (c .if1 .taken)))
+    (λ c. (refl, (omega arith, (refl, (omega arith, (for-all-past (omega arith), for-all-past (omega arith)))))))
     (search needs)
     (omega arith)
-    returns-2
+    (λ c. let b = c .before .before .before .before in unfold wsScheme in rw (eq-eqb _ 0 (b .before .if1 .left)) (sym (wakeAll-stop _ _ _ _ _ (omega arith)) ∙ b .loop .inv .0))
     (search needs)
     (omega arith)
     (omega arith)
@@ -70,4 +49,4 @@ ws-spec =
     (omega arith)
     loop-again
     (omega arith)
-    returns-3)
+    (λ c. unfold wsScheme in rw (eq-eqb _ 0 (c .before .before .if1 .left)) (sym (wakeAll-end _ _ _ _ _ (omega arith)) ∙ c .before .loop .inv .0)))

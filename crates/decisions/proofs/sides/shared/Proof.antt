@@ -1,17 +1,7 @@
 -- `shared` meets its contract: what is known stays, or is found anew.
 use Rattle.decisions_laws.proofs.Sharing.{for-all-same}
-use borrow.Author.Needs.{needs}
-use Rattle.decisions.proofs.sides.shared.Statement.{statement}
-use Rattle.decisions.proofs.sides.shared.Tie as tie
+use Rattle.machine.specs.All.{needs}
+use Rattle.decisions.proofs.sides.shared as f
 
-returns : tie.Need-returns
-returns c = for-all-same (c .if1 .taken)
-
-for-all-requires : tie.Need-for-all-requires
-for-all-requires c κs = search needs
-
-returns-2 : tie.Need-returns-2
-returns-2 c = search needs
-
-pub shared-spec : {M : Type 1} → statement M
-shared-spec = tie.close (tie.spec returns for-all-requires returns-2)
+pub shared-spec : {M : Type 1} → f.Statement.statement M
+shared-spec = f.Tie.close (f.Tie.spec (λ c. for-all-same (c .if1 .taken)) (search needs) (λ c. search needs))

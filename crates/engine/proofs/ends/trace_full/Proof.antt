@@ -1,14 +1,7 @@
 -- `trace_full` meets its contract, without a sum that may not fit. Assumes nothing.
-use Prim.Native.Nat.{ℕ, _-_, _+_, _≤_, _<_}
-use mathlib.Core.Path.{_≡_, refl, sym, _∙_}
-use mathlib.Core.Bool.{Bool, true, false}
-use native.Mathlib.Omega.{arith}
-use lib.Dec.{ltb}
-use borrow.Author.Tests.{lt-ltb, le-ltb, ltb-true, ltb-false}
-use Rattle.machine.specs.Limits.{recordRoom}
+use Rattle.machine.specs.All.{ℕ, _-_, _+_, _≤_, _<_, _≡_, refl, sym, _∙_, Bool, true, false, arith, ltb, lt-ltb, le-ltb, ltb-true, ltb-false, recordRoom}
 use Rattle.engine_laws.specs.Ends.{fullRows}
-use Rattle.engine.proofs.ends.trace_full.Statement.{statement}
-use Rattle.engine.proofs.ends.trace_full.Tie as tie
+use Rattle.engine.proofs.ends.trace_full as f
 
 short : (used room : ℕ) → room < recordRoom → true ≡ fullRows used room
 unfolding fullRows
@@ -23,11 +16,5 @@ aside used room h = go (ltb (room - recordRoom) used) refl
     go true e = e ∙ sym (lt-ltb room (used + recordRoom) (omega (arith, ltb-true (room - recordRoom) used e)))
     go false e = e ∙ sym (le-ltb room (used + recordRoom) (omega (arith, ltb-false (room - recordRoom) used e)))
 
-returns : tie.Need-returns
-returns c = short _ _ (c .if1 .taken)
-
-returns-2 : tie.Need-returns-2
-returns-2 c = aside _ _ (c .if1 .left)
-
-pub trace-full-spec : {M : Type 1} → statement M
-trace-full-spec = tie.close (tie.spec returns returns-2)
+pub trace-full-spec : {M : Type 1} → f.Statement.statement M
+trace-full-spec = f.Tie.close (f.Tie.spec (λ c. short _ _ (c .if1 .taken)) (λ c. aside _ _ (c .if1 .left)))

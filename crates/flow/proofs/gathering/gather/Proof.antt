@@ -1,26 +1,16 @@
 -- `gather` meets its contract, by cases on the row of the cell.
-use borrow.Author.Tests.{lt-ltb, le-ltb}
+use Rattle.machine.specs.All.{lt-ltb, le-ltb, needs}
 use Rattle.flow_laws.specs.Gathering.{gatherRows}
-use borrow.Author.Needs.{needs}
-use Rattle.flow.proofs.gathering.gather.Statement.{statement}
-use Rattle.flow.proofs.gathering.gather.Tie as tie
+use Rattle.flow.proofs.gathering.gather as f
 
-returns : tie.Need-returns
-unfolding gatherRows
-returns c = rw (← c .before .before .before .before .before .load .ensures, lt-ltb _ 1024 (c .before .before .before .before .if1 .taken)) (c .before .before .later .ensures)
-
-returns-2 : tie.Need-returns-2
-unfolding gatherRows
-returns-2 c = rw (← c .before .before .before .before .before .load .ensures, le-ltb _ 1024 (c .before .before .before .before .if1 .left)) (c .before .before .gather-on .ensures)
-
-pub gather-spec : {M : Type 1} → statement M
+pub gather-spec : {M : Type 1} → f.Statement.statement M
 gather-spec =
-    tie.close
-    (tie.spec
+    f.Tie.close
+    (f.Tie.spec
     (search needs)
     (search needs)
     (search needs)
-    returns
+    (λ c. let b = c .before .before in unfold gatherRows in rw (← b .before .before .before .load .ensures, lt-ltb _ 1024 (b .before .before .if1 .taken)) (b .later .ensures))
     (search needs)
     (search needs)
-    returns-2)
+    (λ c. let b = c .before .before in unfold gatherRows in rw (← b .before .before .before .load .ensures, le-ltb _ 1024 (b .before .before .if1 .left)) (b .gather-on .ensures)))

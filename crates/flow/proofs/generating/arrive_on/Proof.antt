@@ -1,19 +1,19 @@
 -- `arrive_on` meets its contract: on, then the new one.
-use mathlib.Core.Path.{refl}
+use Rattle.machine.specs.All.{refl, needs}
 use Rattle.moves.specs.Motion.{moved}
 use Rattle.flow_laws.specs.Kinds.{arriveOn}
-use borrow.Author.Needs.{needs}
-use Rattle.flow.proofs.generating.arrive_on.Statement.{statement}
-use Rattle.flow.proofs.generating.arrive_on.Tie as tie
+use Rattle.flow.proofs.generating.arrive_on as f
 
-returns : tie.Need-returns
+returns : f.Tie.Need-returns
 unfolding arriveOn moved
-returns c = rw (c .one-made .ensures, ← c .before .before .before .before .before .before .before .before .before .before .before .before .read .ensures, ← c .before .before .before .before .before .before .before .before .before .before .go-on .ensures) (c .before .before .before .before .before .arrives .ensures _ refl refl refl)
+returns c =
+    let b = c .before .before .before .before .before in
+    rw (c .one-made .ensures, ← b .before .before .before .before .before .before .before .read .ensures, ← b .before .before .before .before .before .go-on .ensures) (b .arrives .ensures _ refl refl refl)
 
-pub arrive-on-spec : {M : Type 1} → statement M
+pub arrive-on-spec : {M : Type 1} → f.Statement.statement M
 arrive-on-spec =
-    tie.close
-    (tie.spec
+    f.Tie.close
+    (f.Tie.spec
     (search needs)
     (search needs)
     (search needs)

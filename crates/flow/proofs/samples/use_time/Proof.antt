@@ -1,17 +1,18 @@
 -- `use_time` meets its contract: the two numbers of the list.
 use Rattle.flow_laws.specs.Samples.{useTime}
-use borrow.Author.Needs.{needs}
-use Rattle.flow.proofs.samples.use_time.Statement.{statement}
-use Rattle.flow.proofs.samples.use_time.Tie as tie
+use Rattle.machine.specs.All.{needs}
+use Rattle.flow.proofs.samples.use_time as f
 
-returns : tie.Need-returns
+returns : f.Tie.Need-returns
 unfolding useTime
-returns c = rw (c .before .before .set-count2 .ensures, c .before .before .before .before .before .before .before .set-count .ensures, c .before .before .before .less64 .ensures, c .before .before .before .before .before .before .before .before .before .count .ensures)
+returns c =
+    let b = c .before .before .before .before .before .before .before in
+    rw (c .before .before .set-count2 .ensures, b .set-count .ensures, c .before .before .before .less64 .ensures, b .before .before .count .ensures)
 
-pub use-time-spec : {M : Type 1} → statement M
+pub use-time-spec : {M : Type 1} → f.Statement.statement M
 use-time-spec =
-    tie.close
-    (tie.spec
+    f.Tie.close
+    (f.Tie.spec
     (search needs)
     (search needs)
     (search needs)

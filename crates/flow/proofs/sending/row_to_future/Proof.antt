@@ -1,17 +1,18 @@
 -- `row_to_future` meets its contract: serial and time are written, then the row comes onto the FEL.
 use Rattle.flow_laws.specs.Sending.{toFuture}
-use borrow.Author.Needs.{needs}
-use Rattle.flow.proofs.sending.row_to_future.Statement.{statement}
-use Rattle.flow.proofs.sending.row_to_future.Tie as tie
+use Rattle.machine.specs.All.{needs}
+use Rattle.flow.proofs.sending.row_to_future as own
 
-returns : tie.Need-returns
+returns : own.Tie.Need-returns
 unfolding toFuture
-returns c = λ x f. rw (f, c .before .before .schedule .ensures, c .before .before .before .before .before .before .set-time .ensures, c .before .before .before .before .before .before .before .before .before .before .write .ensures, c .before .before .before .before .before .before .before .before .before .before .before .plus32 .ensures)
+returns c =
+    let b = c .before .before .before .before .before .before in
+    λ x f. rw (f, c .before .before .schedule .ensures, b .set-time .ensures, b .before .before .before .before .write .ensures, b .before .before .before .before .before .plus32 .ensures)
 
-pub row-to-future-spec : {M : Type 1} → statement M
+pub row-to-future-spec : {M : Type 1} → own.Statement.statement M
 row-to-future-spec =
-    tie.close
-    (tie.spec
+    own.Tie.close
+    (own.Tie.spec
     (search needs)
     (search needs)
     (search needs)

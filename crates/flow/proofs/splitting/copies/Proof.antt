@@ -1,39 +1,31 @@
 -- `copies` meets its contract. The invariant: the copies left from here are all of them, and the same transaction moves. The measure:
 -- those left.
-use Prim.Native.Nat.{_-_, _≤_}
-use mathlib.Core.Path.{_≡_, refl, sym, _∙_}
-use native.Mathlib.Omega.{arith}
-use lib.ListN.{length}
+use Rattle.machine.specs.All.{_-_, _≤_, _≡_, refl, sym, _∙_, arith, length}
 use Rattle.flow_laws.specs.Kinds.{copiesOf}
 use Rattle.flow_laws.proofs.Copies.{copies-begin, copies-end, copies-again, copy-moved}
-use Rattle.flow.proofs.splitting.copies.Statement.{statement}
-use Rattle.flow.proofs.splitting.copies.Tie as tie
+use Rattle.flow.proofs.splitting.copies as f
 
-abbrev Inv-loop : tie.InvT-loop
+abbrev Inv-loop : f.Tie.InvT-loop
 Inv-loop work₀ n target y₀ i₀ work y i = (copiesOf (n - i) work y target ≡ copiesOf n work₀ y₀ target) × ((i ≤ n) × ((length work ≡ length work₀) × (y .moving ≡ y₀ .moving)))
 
-abbrev μ-loop : tie.MeasureT-loop
+abbrev μ-loop : f.Tie.MeasureT-loop
 μ-loop work₀ n target y₀ i₀ work y i = n - i
 
-loop-holds : tie.Need-loop-holds Inv-loop μ-loop
-loop-holds c = (copies-begin _ _ _ _, (omega arith, (refl, refl)))
+loop-again : f.Tie.Need-loop-again Inv-loop μ-loop
+loop-again c =
+    let b = c .before .before in
+    (copies-again _ _ _ _ _ (b .copy-one .ensures) _ _ (b .before .before .loop-test .taken) ∙ b .before .before .before .loop .inv .0, (omega arith, (omega (arith, b .copy-one .kept), copy-moved _ _ _ _ _ (b .copy-one .ensures) ∙ b .before .before .before .loop .inv .1 .1 .1)))
 
-loop-again : tie.Need-loop-again Inv-loop μ-loop
-loop-again c = (copies-again _ _ _ _ _ (c .before .before .copy-one .ensures) _ _ (c .before .before .before .before .loop-test .taken) ∙ c .before .before .before .before .before .loop .inv .0, (omega arith, (omega (arith, c .before .before .copy-one .kept), copy-moved _ _ _ _ _ (c .before .before .copy-one .ensures) ∙ c .before .before .before .before .before .loop .inv .1 .1 .1)))
-
-returns : tie.Need-returns Inv-loop μ-loop
-returns c = sym (copies-end _ _ _ _ (omega arith)) ∙ c .before .loop .inv .0
-
-pub copies-spec : {M : Type 1} → statement M
+pub copies-spec : {M : Type 1} → f.Statement.statement M
 copies-spec =
-    tie.close
-    (tie.spec
+    f.Tie.close
+    (f.Tie.spec
     Inv-loop
     μ-loop
-    loop-holds
+    (λ c. (copies-begin _ _ _ _, (omega arith, (refl, refl))))
     (omega arith)
     (omega arith)
     (omega arith)
     loop-again
     (omega arith)
-    returns)
+    (λ c. sym (copies-end _ _ _ _ (omega arith)) ∙ c .before .loop .inv .0))

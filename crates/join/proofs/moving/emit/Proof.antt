@@ -1,10 +1,6 @@
 -- `join::moving::emit` meets its contract.
-use borrow.Author.Needs.{needs}
-use Rattle.join.proofs.moving.emit.Statement.{statement}
-use Rattle.join.proofs.moving.emit.Tie as tie
+use Rattle.machine.specs.All.{needs}
+use Rattle.join.proofs.moving.emit as f
 
-returns : tie.Need-returns
-returns c = cc
-
-pub emit-spec : {M : Type 1} → statement M
-emit-spec = tie.close (tie.spec (search needs) (search needs) (search needs) returns)
+pub emit-spec : {M : Type 1} → f.Statement.statement M
+emit-spec = f.Tie.close (f.Tie.spec (search needs) (search needs) (search needs) (λ c. cc))

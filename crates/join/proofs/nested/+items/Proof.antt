@@ -1,8 +1,6 @@
 -- The proof of `join::nested::items`, which calls itself: how many brackets may open falls, or how many terms are left.
-use native.Mathlib.Omega.{arith}
-use borrow.Author.Needs.{needs}
+use Rattle.machine.specs.All.{arith, needs, ℕ, _+_, _*_, _<_}
 use Rattle.join_laws.proofs.RowSteps.{items-none, items-past, items-plain, items-flat, items-deep}
-use Prim.Native.Nat.{ℕ, _+_, _*_, _<_}
 use borrow.Fn.Kinds.{In}
 use borrow.Fn.PlainCycle.{Measures, is, falls, and}
 use Rattle.join.proofs.nested.items.Reads as items

@@ -1,14 +1,15 @@
 -- `join::nested::item` meets its contract.
-use borrow.Author.Needs.{needs}
+use Rattle.machine.specs.All.{needs}
 use Rattle.join_laws.proofs.RowSteps.{item-whole}
-use Rattle.join.proofs.nested.item.Statement.{statement}
-use Rattle.join.proofs.nested.item.Tie as tie
+use Rattle.join.proofs.nested.item as f
 
-returns : tie.Need-returns
+returns : f.Tie.Need-returns
 returns c =
-    item-whole _ _ _ _ _ _ _ _ _ _ (c .before .before .before .before .before .before .before .before .before .before .before .before .sign .ensures) (c .before .before .before .before .before .before .before .before .before .number .ensures) (c .before .before .before .before .before .before .before .emit .ensures) (c .before .before .before .number2 .ensures) (c .before .before .emit2 .ensures)
+    let d = c .before .before in
+    let b = d .before .before .before .before .before in
+    item-whole _ _ _ _ _ _ _ _ _ _ (b .before .before .before .before .before .sign .ensures) (b .before .before .number .ensures) (b .emit .ensures) (d .before .number2 .ensures) (d .emit2 .ensures)
 
-pub item-spec : {M : Type 1} → statement M
+pub item-spec : {M : Type 1} → f.Statement.statement M
 item-spec =
-    tie.close
-    (tie.spec (search needs) (search needs) (search needs) (search needs) (search needs) (search needs) (search needs) (search needs) (search needs) returns)
+    f.Tie.close
+    (f.Tie.spec (search needs) (search needs) (search needs) (search needs) (search needs) (search needs) (search needs) (search needs) (search needs) returns)

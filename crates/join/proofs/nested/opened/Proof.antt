@@ -1,16 +1,7 @@
 -- `join::nested::opened` meets its contract.
-use borrow.Author.Tests.{eq-eqb, ne-eqb}
+use Rattle.machine.specs.All.{eq-eqb, ne-eqb}
 use Rattle.join_laws.specs.Rows.{opened}
-use Rattle.join.proofs.nested.opened.Statement.{statement}
-use Rattle.join.proofs.nested.opened.Tie as tie
+use Rattle.join.proofs.nested.opened as f
 
-returns : tie.Need-returns
-unfolding opened
-returns c = rw (eq-eqb _ 10 (c .if1 .taken))
-
-returns-2 : tie.Need-returns-2
-unfolding opened
-returns-2 c = rw (ne-eqb _ 10 (c .if1 .left))
-
-pub opened-spec : {M : Type 1} → statement M
-opened-spec = tie.close (tie.spec returns returns-2)
+pub opened-spec : {M : Type 1} → f.Statement.statement M
+opened-spec = f.Tie.close (f.Tie.spec (λ c. unfold opened in rw (eq-eqb _ 10 (c .if1 .taken))) (λ c. unfold opened in rw (ne-eqb _ 10 (c .if1 .left))))

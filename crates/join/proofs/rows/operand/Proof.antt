@@ -1,21 +1,15 @@
 -- `join::rows::operand` meets its contract.
-use native.Mathlib.Omega.{arith}
-use borrow.Author.Needs.{needs}
+use Rattle.machine.specs.All.{arith, needs}
 use Rattle.join_laws.proofs.RowSteps.{operand-none, operand-one}
-use Rattle.join.proofs.rows.operand.Statement.{statement}
-use Rattle.join.proofs.rows.operand.Tie as tie
+use Rattle.join.proofs.rows.operand as f
 
-returns : tie.Need-returns
-returns c = operand-none _ _ _ _ _ (c .if1 .taken)
-
-role-requires : tie.Need-role-requires
-role-requires c κs = omega (arith, c .before .if1 .left)
-
-returns-2 : tie.Need-returns-2
+returns-2 : f.Tie.Need-returns-2
 returns-2 c =
-    operand-one _ _ _ _ _ _ _ _ _ (c .before .before .before .before .before .before .before .if1 .left) (c .before .before .before .before .before .before .number .ensures)
-    (c .before .before .before .before .before .role .ensures) (c .before .before .before .number2 .ensures) (c .before .before .emit .ensures)
+    let d = c .before .before in
+    let b = d .before .before .before in
+    operand-one _ _ _ _ _ _ _ _ _ (b .before .before .if1 .left) (b .before .number .ensures)
+    (b .role .ensures) (d .before .number2 .ensures) (d .emit .ensures)
 
-pub operand-spec : {M : Type 1} → statement M
+pub operand-spec : {M : Type 1} → f.Statement.statement M
 operand-spec =
-    tie.close (tie.spec returns (search needs) (search needs) role-requires (search needs) (search needs) (search needs) returns-2)
+    f.Tie.close (f.Tie.spec (λ c. operand-none _ _ _ _ _ (c .if1 .taken)) (search needs) (search needs) (λ c κs. omega (arith, c .before .if1 .left)) (search needs) (search needs) (search needs) returns-2)

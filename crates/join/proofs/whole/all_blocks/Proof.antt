@@ -1,12 +1,12 @@
 -- `join::whole::all_blocks` meets its contract.
-use native.Mathlib.Omega.{arith}
-use borrow.Author.Needs.{needs}
+use Rattle.machine.specs.All.{needs}
 use Rattle.join_laws.proofs.RowSteps.{all-blocks}
-use Rattle.join.proofs.whole.all_blocks.Statement.{statement}
-use Rattle.join.proofs.whole.all_blocks.Tie as tie
+use Rattle.join.proofs.whole.all_blocks as f
 
-returns : tie.Need-returns
-returns c = all-blocks _ _ _ _ _ _ _ _ _ (c .before .before .before .before .before .before .before .before .before .first .ensures) (c .before .before .before .before .before .before .before .blocks2 .ensures) (c .before .before .before .before .second .ensures) (c .before .before .blocks3 .ensures)
+returns : f.Tie.Need-returns
+returns c =
+    let b = c .before .before .before .before in
+    all-blocks _ _ _ _ _ _ _ _ _ (b .before .before .before .before .before .first .ensures) (b .before .before .before .blocks2 .ensures) (b .second .ensures) (c .before .before .blocks3 .ensures)
 
-pub all-blocks-spec : {M : Type 1} → statement M
-all-blocks-spec = tie.close (tie.spec (search needs) (search needs) (search needs) (search needs) (search needs) returns)
+pub all-blocks-spec : {M : Type 1} → f.Statement.statement M
+all-blocks-spec = f.Tie.close (f.Tie.spec (search needs) (search needs) (search needs) (search needs) (search needs) returns)

@@ -1,40 +1,27 @@
 -- `join::whole::capacities` meets its contract. The invariant: the capacities that are left, written behind what stands, give the whole.
-use Prim.Native.Nat.{_+_, _-_, _≤_}
-use native.Mathlib.Omega.{arith}
-use mathlib.Core.Path.{_≡_, refl}
-use lib.ListN.{length}
+use Rattle.machine.specs.All.{_+_, _-_, _≤_, arith, _≡_, refl, length, needs}
 use Rattle.codec.specs.Writing.{written}
 use Rattle.join_laws.specs.Rows.{puts}
 use Rattle.join_laws.specs.Whole.{cellRow}
 use Rattle.join_laws.proofs.RowSteps.{cells-start, cells-step, cells-done}
-use borrow.Author.Needs.{needs}
-use Rattle.join.proofs.whole.capacities.Statement.{statement}
-use Rattle.join.proofs.whole.capacities.Tie as tie
+use Rattle.join.proofs.whole.capacities as f
 
-abbrev Inv-loop : tie.InvT-loop
+abbrev Inv-loop : f.Tie.InvT-loop
 Inv-loop tables from count out₀ to k₀ next₀ out k next =
     (length out ≡ length out₀) × (k ≤ count) × (puts (cellRow tables (count - k) (from + k)) (written next out) ≡ puts (cellRow tables count from) (written to out₀))
 
-abbrev μ-loop : tie.MeasureT-loop
+abbrev μ-loop : f.Tie.MeasureT-loop
 μ-loop tables from count out₀ to k₀ next₀ out k next = count - k
 
-loop-holds : tie.Need-loop-holds Inv-loop μ-loop
-loop-holds c = (refl, omega arith, cells-start _ _ _ _)
+loop-again : f.Tie.Need-loop-again Inv-loop μ-loop
+loop-again c =
+    let b = c .before .before in (
+      (search needs),
+      omega arith,
+      cells-step _ _ _ _ _ _ _ _ (b .before .before .before .loop-test .taken) (b .before .before .before .before .loop .inv .2) (b .before .number .ensures) (b .write-number .ensures),
+    )
 
-loop-again : tie.Need-loop-again Inv-loop μ-loop
-loop-again c = (
-  (search needs),
-  omega arith,
-  cells-step _ _ _ _ _ _ _ _ (c .before .before .before .before .before .loop-test .taken) (c .before .before .before .before .before .before .loop .inv .2) (c .before .before .before .number .ensures) (c .before .before .write-number .ensures),
-)
-
-same-length : tie.Need-same-length Inv-loop μ-loop
-same-length c = c .before .loop .inv .0
-
-returns : tie.Need-returns Inv-loop μ-loop
-returns c = cells-done _ _ _ _ _ _ (c .loop-test .left) (c .before .loop .inv .2)
-
-pub capacities-spec : {M : Type 1} → statement M
+pub capacities-spec : {M : Type 1} → f.Statement.statement M
 capacities-spec =
-    tie.close
-    (tie.spec Inv-loop μ-loop loop-holds (search needs) (search needs) (search needs) (search needs) (search needs) (search needs) loop-again same-length returns)
+    f.Tie.close
+    (f.Tie.spec Inv-loop μ-loop (λ c. (refl, omega arith, cells-start _ _ _ _)) (search needs) (search needs) (search needs) (search needs) (search needs) (search needs) loop-again (λ c. c .before .loop .inv .0) (λ c. cells-done _ _ _ _ _ _ (c .loop-test .left) (c .before .loop .inv .2)))

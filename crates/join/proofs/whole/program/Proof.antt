@@ -1,13 +1,12 @@
 -- `join::whole::program` meets its contract.
-use native.Mathlib.Omega.{arith}
-use borrow.Author.Needs.{needs}
+use Rattle.machine.specs.All.{needs}
 use Rattle.join_laws.proofs.RowSteps.{program-whole}
-use Rattle.join.proofs.whole.program.Statement.{statement}
-use Rattle.join.proofs.whole.program.Tie as tie
+use Rattle.join.proofs.whole.program as f
 
-returns : tie.Need-returns
+returns : f.Tie.Need-returns
 returns c =
-    program-whole _ _ _ _ _ _ _ _ _ (c .before .before .before .before .before .before .before .before .before .before .before .before .before .before .both .ensures) (c .before .before .before .before .before .before .before .before .before .before .both2 .ensures) (c .before .before .before .before .before .before .both3 .ensures) (c .before .before .all-blocks .ensures)
+    let b = c .before .before .before .before .before .before in
+    program-whole _ _ _ _ _ _ _ _ _ (b .before .before .before .before .before .before .before .before .both .ensures) (b .before .before .before .before .both2 .ensures) (b .both3 .ensures) (c .before .before .all-blocks .ensures)
 
-pub program-spec : {M : Type 1} → statement M
-program-spec = tie.close (tie.spec (search needs) (search needs) (search needs) (search needs) (search needs) returns)
+pub program-spec : {M : Type 1} → f.Statement.statement M
+program-spec = f.Tie.close (f.Tie.spec (search needs) (search needs) (search needs) (search needs) (search needs) returns)

@@ -1,17 +1,16 @@
 -- `put_queue` meets its contract: three numbers in order.
-use mathlib.Core.Path.{refl, ap₂, _∙_}
-use borrow.Author.Needs.{needs}
+use Rattle.machine.specs.All.{refl, ap₂, _∙_, needs}
 use Rattle.report_laws.specs.Writing.{put, putAll}
 use Rattle.report_laws.specs.Counts.{queueRow}
-use Rattle.report.proofs.counts.put_queue.Statement.{statement}
-use Rattle.report.proofs.counts.put_queue.Tie as tie
+use Rattle.report.proofs.counts.put_queue as f
 
-returns : tie.Need-returns
+returns : f.Tie.Need-returns
 unfolding queueRow putAll
 returns c =
+    let b = c .before .before .before .before .before .before .before in
     c .before .before .write-number3 .ensures
     ∙ ap₂ put (c .before .before .before .longest-content .ensures)
-    (c .before .before .before .before .before .before .before .write-number2 .ensures ∙ ap₂ put (c .before .before .before .before .before .before .before .before .content-ticks .ensures) (c .before .before .before .before .before .before .before .before .before .before .before .before .write-number .ensures ∙ ap₂ put (c .before .before .before .before .before .before .before .before .before .before .before .before .before .total .ensures) refl))
+    (b .write-number2 .ensures ∙ ap₂ put (b .before .content-ticks .ensures) (b .before .before .before .before .before .write-number .ensures ∙ ap₂ put (b .before .before .before .before .before .before .total .ensures) refl))
 
-pub put-queue-spec : {M : Type 1} → statement M
-put-queue-spec = tie.close (tie.spec (search needs) (search needs) (search needs) (search needs) (search needs) (search needs) (search needs) returns)
+pub put-queue-spec : {M : Type 1} → f.Statement.statement M
+put-queue-spec = f.Tie.close (f.Tie.spec (search needs) (search needs) (search needs) (search needs) (search needs) (search needs) (search needs) returns)

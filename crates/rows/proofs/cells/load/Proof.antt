@@ -1,21 +1,6 @@
 -- `load` meets its contract: past the end both are 0.
-use mathlib.Core.Path.{sym}
-use lib.ListN.{List·getD-eq-default}
-use borrow.Author.Needs.{needs}
-use Rattle.rows.proofs.cells.load.Statement.{statement}
-use Rattle.rows.proofs.cells.load.Tie as tie
+use Rattle.machine.specs.All.{sym, List·getD-eq-default, needs}
+use Rattle.rows.proofs.cells.load as f
 
-mul-result : tie.Need-mul-result
-mul-result c = search needs
-
-shared-slice-read-result : tie.Need-shared-slice-read-result
-shared-slice-read-result c = search needs
-
-returns : tie.Need-returns
-returns c = search needs
-
-returns-2 : tie.Need-returns-2
-returns-2 c = sym (List·getD-eq-default (c .before .args .w .now) _ (c .if1 .left))
-
-pub load-spec : {M : Type 1} → statement M
-load-spec = tie.close (tie.spec mul-result shared-slice-read-result returns returns-2)
+pub load-spec : {M : Type 1} → f.Statement.statement M
+load-spec = f.Tie.close (f.Tie.spec (search needs) (search needs) (λ c. search needs) (λ c. sym (List·getD-eq-default (c .before .args .w .now) _ (c .if1 .left))))

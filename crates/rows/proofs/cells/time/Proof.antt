@@ -1,15 +1,9 @@
 -- `time` meets its contract: the two fields that were read.
-use mathlib.Core.Path.{sym}
-use borrow.Author.Needs.{needs}
-use Rattle.rows_laws.specs.Cells.{timeOf}
-use Rattle.rows.proofs.cells.time.Statement.{statement}
-use Rattle.rows.proofs.cells.time.Tie as tie
+use Rattle.machine.specs.All.{needs}
+use Rattle.rows_laws.specs.All.{timeOf}
+use Rattle.rows.proofs.cells.time as f
 
-returns : tie.Need-returns
-unfolding timeOf
-returns c = cc
-
-pub time-spec : {M : Type 1} → statement M
+pub time-spec : {M : Type 1} → f.Statement.statement M
 time-spec =
-    tie.close
-    (tie.spec (search needs) (search needs) (search needs) (search needs) (search needs) (search needs) returns)
+    f.Tie.close
+    (f.Tie.spec (search needs) (search needs) (search needs) (search needs) (search needs) (search needs) (λ c. unfold timeOf in cc))

@@ -1,17 +1,18 @@
 -- `arrive_row` meets its contract: the steps in order.
-use Rattle.rows_laws.specs.Clock.{arriveRow}
-use borrow.Author.Needs.{needs}
-use Rattle.rows.proofs.clock.arrive_row.Statement.{statement}
-use Rattle.rows.proofs.clock.arrive_row.Tie as tie
+use Rattle.rows_laws.specs.All.{arriveRow}
+use Rattle.machine.specs.All.{needs}
+use Rattle.rows.proofs.clock.arrive_row as f
 
-returns : tie.Need-returns
+returns : f.Tie.Need-returns
 unfolding arriveRow
-returns c = rw (c .before .before .put .ensures, c .before .before .before .before .before .before .write .ensures, c .before .before .before .before .before .before .before .before .before .before .set-returning .ensures, c .before .before .before .before .before .before .before .before .before .before .before .before .before .before .cancel .ensures)
+returns c =
+    let b = c .before .before .before .before .before .before in
+    rw (c .before .before .put .ensures, b .write .ensures, b .before .before .before .before .set-returning .ensures, b .before .before .before .before .before .before .before .before .cancel .ensures)
 
-pub arrive-row-spec : {M : Type 1} → statement M
+pub arrive-row-spec : {M : Type 1} → f.Statement.statement M
 arrive-row-spec =
-    tie.close
-    (tie.spec
+    f.Tie.close
+    (f.Tie.spec
     (search needs)
     (search needs)
     (search needs)

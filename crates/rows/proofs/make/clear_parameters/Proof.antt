@@ -1,17 +1,18 @@
 -- `clear_parameters` meets its contract: the writes in order.
-use Rattle.rows_laws.specs.Make.{clearParameters}
-use borrow.Author.Needs.{needs}
-use Rattle.rows.proofs.make.clear_parameters.Statement.{statement}
-use Rattle.rows.proofs.make.clear_parameters.Tie as tie
+use Rattle.rows_laws.specs.All.{clearParameters}
+use Rattle.machine.specs.All.{needs}
+use Rattle.rows.proofs.make.clear_parameters as f
 
-returns : tie.Need-returns
+returns : f.Tie.Need-returns
 unfolding clearParameters
-returns c = rw (c .before .before .write4 .ensures, c .before .before .before .before .before .before .write3 .ensures, c .before .before .before .before .before .before .before .before .before .before .write2 .ensures, c .before .before .before .before .before .before .before .before .before .before .before .before .before .before .write .ensures)
+returns c =
+    let b = c .before .before .before .before .before .before in
+    rw (c .before .before .write4 .ensures, b .write3 .ensures, b .before .before .before .before .write2 .ensures, b .before .before .before .before .before .before .before .before .write .ensures)
 
-pub clear-parameters-spec : {M : Type 1} → statement M
+pub clear-parameters-spec : {M : Type 1} → f.Statement.statement M
 clear-parameters-spec =
-    tie.close
-    (tie.spec
+    f.Tie.close
+    (f.Tie.spec
     (search needs)
     (search needs)
     (search needs)

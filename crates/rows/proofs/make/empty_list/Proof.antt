@@ -1,21 +1,16 @@
 -- `empty_list` meets its contract: the stores in order.
-use Rattle.rows_laws.specs.Make.{emptyList}
-use borrow.Author.Needs.{needs}
-use Rattle.rows.proofs.make.empty_list.Statement.{statement}
-use Rattle.rows.proofs.make.empty_list.Tie as tie
+use Rattle.rows_laws.specs.All.{emptyList}
+use Rattle.machine.specs.All.{needs}
+use Rattle.rows.proofs.make.empty_list as f
 
-returns : tie.Need-returns
-unfolding emptyList
-returns c = rw (c .before .before .set2 .ensures, c .before .before .before .before .before .before .set .ensures)
-
-pub empty-list-spec : {M : Type 1} → statement M
+pub empty-list-spec : {M : Type 1} → f.Statement.statement M
 empty-list-spec =
-    tie.close
-    (tie.spec
+    f.Tie.close
+    (f.Tie.spec
     (search needs)
     (search needs)
     (search needs)
     (search needs)
     (search needs)
     (search needs)
-    returns)
+    (λ c. unfold emptyList in rw (c .before .before .set2 .ensures, c .before .before .before .before .before .before .set .ensures)))

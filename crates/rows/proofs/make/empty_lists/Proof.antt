@@ -1,42 +1,30 @@
 -- `empty_lists` meets its contract. The invariant: the first lists are done. The measure: those left.
-use Prim.Native.Nat.{ℕ, _-_, _≤_}
-use mathlib.Core.Path.{_≡_, refl, ap, _∙_}
-use mathlib.Core.List.{List}
-use native.Mathlib.Omega.{arith}
-use native.Mathlib.Numerals.{add-one}
-use lib.ListN.{length}
-use Rattle.rows_laws.specs.Layout.{listCount}
-use Rattle.rows_laws.specs.Make.{emptyLists, emptyList}
-use Rattle.rows.proofs.make.empty_lists.Statement.{statement}
-use Rattle.rows.proofs.make.empty_lists.Tie as tie
+use Rattle.machine.specs.All.{ℕ, _-_, _≤_, _≡_, refl, ap, _∙_, List, arith, add-one, length}
+use Rattle.rows_laws.specs.All.{listCount, emptyLists, emptyList}
+use Rattle.rows.proofs.make.empty_lists as f
 
-abbrev Inv-loop : tie.InvT-loop
+abbrev Inv-loop : f.Tie.InvT-loop
 Inv-loop w₀ p₀ w p = (w ≡ emptyLists p w₀) × ((p ≤ listCount) × (length w ≡ length w₀))
 
-abbrev μ-loop : tie.MeasureT-loop
+abbrev μ-loop : f.Tie.MeasureT-loop
 μ-loop w₀ p₀ w p = listCount - p
 
-loop-holds : tie.Need-loop-holds Inv-loop μ-loop
+loop-again : f.Tie.Need-loop-again Inv-loop μ-loop
 unfolding emptyLists
-loop-holds c = (refl, (omega arith, refl))
+loop-again c =
+    let b = c .before .before .before .before .before in
+    (rw (add-one (b .loop .p)) (c .before .before .empty-list .ensures ∙ ap (λ (v : List ℕ). emptyList v (b .loop .p)) (b .loop .inv .0)), (omega arith, omega (arith, c .before .before .empty-list .kept)))
 
-loop-again : tie.Need-loop-again Inv-loop μ-loop
-unfolding emptyLists
-loop-again c = (rw (add-one (c .before .before .before .before .before .loop .p)) (c .before .before .empty-list .ensures ∙ ap (λ (v : List ℕ). emptyList v (c .before .before .before .before .before .loop .p)) (c .before .before .before .before .before .loop .inv .0)), (omega arith, omega (arith, c .before .before .empty-list .kept)))
-
-returns : tie.Need-returns Inv-loop μ-loop
-returns c = c .before .loop .inv .0 ∙ ap (λ (n : ℕ). emptyLists n (c .before .before .before .args .w .now)) (omega arith)
-
-pub empty-lists-spec : {M : Type 1} → statement M
+pub empty-lists-spec : {M : Type 1} → f.Statement.statement M
 empty-lists-spec =
-    tie.close
-    (tie.spec
+    f.Tie.close
+    (f.Tie.spec
     Inv-loop
     μ-loop
-    loop-holds
+    (λ c. unfold emptyLists in (refl, (omega arith, refl)))
     (omega arith)
     (omega arith)
     (omega arith)
     loop-again
     (omega arith)
-    returns)
+    (λ c. c .before .loop .inv .0 ∙ ap (λ (n : ℕ). emptyLists n (c .before .before .before .args .w .now)) (omega arith)))

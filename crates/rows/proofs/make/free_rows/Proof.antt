@@ -1,40 +1,24 @@
 -- `free_rows` meets its contract. The invariant: the first rows are done. The measure: those left.
-use Prim.Native.Nat.{ℕ, _-_, _≤_}
-use mathlib.Core.Path.{_≡_, refl, ap, _∙_}
-use native.Mathlib.Omega.{arith}
-use native.Mathlib.Numerals.{add-one}
-use lib.ListN.{length}
-use Rattle.rows_laws.specs.Make.{freeRows}
-use Rattle.rows.proofs.make.free_rows.Statement.{statement}
-use Rattle.rows.proofs.make.free_rows.Tie as tie
+use Rattle.machine.specs.All.{ℕ, _-_, _≤_, _≡_, refl, ap, _∙_, arith, add-one, length}
+use Rattle.rows_laws.specs.All.{freeRows}
+use Rattle.rows.proofs.make.free_rows as f
 
-abbrev Inv-loop : tie.InvT-loop
+abbrev Inv-loop : f.Tie.InvT-loop
 Inv-loop w₀ k₀ w k = (w ≡ freeRows k w₀) × ((k ≤ 1024) × (length w ≡ length w₀))
 
-abbrev μ-loop : tie.MeasureT-loop
+abbrev μ-loop : f.Tie.MeasureT-loop
 μ-loop w₀ k₀ w k = 1024 - k
 
-loop-holds : tie.Need-loop-holds Inv-loop μ-loop
-unfolding freeRows
-loop-holds c = (refl, (omega arith, refl))
-
-loop-again : tie.Need-loop-again Inv-loop μ-loop
-unfolding freeRows
-loop-again c = (rw (add-one (c .before .before .before .before .before .loop .k), ← c .before .before .before .before .before .loop .inv .0) (c .before .before .free-row .ensures), (omega arith, omega (arith, c .before .before .free-row .kept)))
-
-returns : tie.Need-returns Inv-loop μ-loop
-returns c = c .before .loop .inv .0 ∙ ap (λ (n : ℕ). freeRows n (c .before .before .before .args .w .now)) (omega arith)
-
-pub free-rows-spec : {M : Type 1} → statement M
+pub free-rows-spec : {M : Type 1} → f.Statement.statement M
 free-rows-spec =
-    tie.close
-    (tie.spec
+    f.Tie.close
+    (f.Tie.spec
     Inv-loop
     μ-loop
-    loop-holds
+    (λ c. unfold freeRows in (refl, (omega arith, refl)))
     (omega arith)
     (omega arith)
     (omega arith)
-    loop-again
+    (λ c. let b = c .before .before in unfold freeRows in (rw (add-one (b .before .before .before .loop .k), ← b .before .before .before .loop .inv .0) (b .free-row .ensures), (omega arith, omega (arith, b .free-row .kept))))
     (omega arith)
-    returns)
+    (λ c. c .before .loop .inv .0 ∙ ap (λ (n : ℕ). freeRows n (c .before .before .before .args .w .now)) (omega arith)))

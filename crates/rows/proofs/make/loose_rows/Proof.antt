@@ -1,44 +1,31 @@
 -- `loose_rows` meets its contract. The invariant: the first rows are done. The measure: those left.
-use Prim.Native.Nat.{ℕ, _-_, _≤_}
-use mathlib.Core.Path.{_≡_, refl, ap, _∙_}
-use mathlib.Core.List.{List}
-use native.Mathlib.Omega.{arith}
-use native.Mathlib.Numerals.{add-one}
-use lib.ListN.{length}
-use Rattle.rows_laws.specs.Make.{looseRows}
-use Rattle.rows_laws.specs.Layout.{place, nowhere}
-use Rattle.rows_laws.specs.Cells.{store}
-use Rattle.rows.proofs.make.loose_rows.Statement.{statement}
-use Rattle.rows.proofs.make.loose_rows.Tie as tie
+use Rattle.machine.specs.All.{ℕ, _-_, _≤_, _≡_, refl, ap, _∙_, List, arith, add-one, length}
+use Rattle.rows_laws.specs.All.{looseRows, place, nowhere, store}
+use Rattle.rows.proofs.make.loose_rows as f
 
-abbrev Inv-loop : tie.InvT-loop
+abbrev Inv-loop : f.Tie.InvT-loop
 Inv-loop w₀ k₀ w k = (w ≡ looseRows k w₀) × ((k ≤ 1024) × (length w ≡ length w₀))
 
-abbrev μ-loop : tie.MeasureT-loop
+abbrev μ-loop : f.Tie.MeasureT-loop
 μ-loop w₀ k₀ w k = 1024 - k
 
-loop-holds : tie.Need-loop-holds Inv-loop μ-loop
+loop-again : f.Tie.Need-loop-again Inv-loop μ-loop
 unfolding looseRows
-loop-holds c = (refl, (omega arith, refl))
+loop-again c =
+    let b = c .before .before .before .before .before in
+    (rw (add-one (b .loop .k)) (c .before .before .set .ensures ∙ ap (λ (v : List ℕ). store v (place (b .loop .k)) nowhere) (b .loop .inv .0)), (omega arith, omega (arith, c .before .before .set .kept)))
 
-loop-again : tie.Need-loop-again Inv-loop μ-loop
-unfolding looseRows
-loop-again c = (rw (add-one (c .before .before .before .before .before .loop .k)) (c .before .before .set .ensures ∙ ap (λ (v : List ℕ). store v (place (c .before .before .before .before .before .loop .k)) nowhere) (c .before .before .before .before .before .loop .inv .0)), (omega arith, omega (arith, c .before .before .set .kept)))
-
-returns : tie.Need-returns Inv-loop μ-loop
-returns c = c .before .loop .inv .0 ∙ ap (λ (n : ℕ). looseRows n (c .before .before .before .args .w .now)) (omega arith)
-
-pub loose-rows-spec : {M : Type 1} → statement M
+pub loose-rows-spec : {M : Type 1} → f.Statement.statement M
 loose-rows-spec =
-    tie.close
-    (tie.spec
+    f.Tie.close
+    (f.Tie.spec
     Inv-loop
     μ-loop
-    loop-holds
+    (λ c. unfold looseRows in (refl, (omega arith, refl)))
     (omega arith)
     (omega arith)
     (omega arith)
     (omega arith)
     loop-again
     (omega arith)
-    returns)
+    (λ c. c .before .loop .inv .0 ∙ ap (λ (n : ℕ). looseRows n (c .before .before .before .args .w .now)) (omega arith)))

@@ -1,26 +1,16 @@
 -- `files::read_some` meets its contract.
-use Prim.Native.Nat.{_≤_}
-use native.Mathlib.Omega.{arith}
-use lib.ListN.{length}
-use borrow.Author.Needs.{needs}
+use Rattle.machine.specs.All.{_≤_, arith, length, needs}
 use Rattle.runmodel.proofs.Reading.{failed, counted}
-use Rattle.runmodel.proofs.files.read_some.Statement.{statement}
-use Rattle.runmodel.proofs.files.read_some.Tie as tie
+use Rattle.runmodel.proofs.files.read_some as f
 
-returns : tie.Need-returns
-returns c = failed (λ k. k ≤ length (c .before .before .before .before .before .before .before .before .args .rest .now))
-
-returns-2 : tie.Need-returns-2
-returns-2 c = λ n. counted (λ k. k ≤ length (c .before .before .before .before .before .before .before .before .before .args .rest .now)) _ n (omega (arith, c .count .ensures .0 .0, c .before .before .before .before .before .read .kept .1 .0))
-
-pub read-some-spec : {M : Type 1} → statement M
+pub read-some-spec : {M : Type 1} → f.Statement.statement M
 read-some-spec =
-    tie.close
-    (tie.spec
+    f.Tie.close
+    (f.Tie.spec
     (search needs)
     (search needs)
     (search needs)
-    returns
+    (λ c. failed (λ k. k ≤ length (c .before .before .before .before .before .before .before .before .args .rest .now)))
     (search needs)
     (search needs)
-    returns-2)
+    (λ c. let b = c .before .before .before .before .before in λ n. counted (λ k. k ≤ length (b .before .before .before .before .args .rest .now)) _ n (omega (arith, c .count .ensures .0 .0, b .read .kept .1 .0))))

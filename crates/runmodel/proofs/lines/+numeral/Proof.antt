@@ -1,7 +1,5 @@
 -- `lines::numeral` meets its contract: the digits above the last, then the last. The measure is `most`.
-use Prim.Native.Nat.{ℕ, _<_}
-use native.Mathlib.Nat.{pos-of-ne-zero}
-use native.Mathlib.Omega.{arith}
+use Rattle.machine.specs.All.{ℕ, _<_, pos-of-ne-zero, arith}
 use borrow.Fn.Kinds.{In}
 use borrow.Fn.PlainCycle.{Measures, is, falls, and}
 use Rattle.runmodel.proofs.Stored.{numeral-within, numeral-nothing, numeral-one, numeral-more}

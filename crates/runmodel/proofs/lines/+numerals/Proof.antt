@@ -1,7 +1,5 @@
 -- `lines::numerals` meets its contract: a number and the byte behind it, then the others. The measure is what is left of the numbers.
-use Prim.Native.Nat.{ℕ, _-_, _<_}
-use native.Mathlib.Omega.{arith}
-use lib.ListN.{length, length-drop}
+use Rattle.machine.specs.All.{ℕ, _-_, _<_, arith, length, length-drop}
 use borrow.Fn.Kinds.{In}
 use borrow.Fn.PlainCycle.{Measures, is, falls, and}
 use Rattle.runmodel.proofs.Stored.{numerals-nothing, numerals-more}

@@ -1,7 +1,5 @@
 -- `lines::spell` meets its contract: a letter, then the others. The measure is what is left of the letters.
-use Prim.Native.Nat.{ℕ, _-_, _<_}
-use native.Mathlib.Omega.{arith}
-use lib.ListN.{length}
+use Rattle.machine.specs.All.{ℕ, _-_, _<_, arith, length}
 use borrow.Fn.Kinds.{In}
 use borrow.Fn.PlainCycle.{Measures, is, falls, and}
 use Rattle.runmodel.proofs.Stored.{spell-nothing, spell-more}

@@ -1,17 +1,13 @@
 -- `printing::number_at` meets its contract, by cases on the number read.
 use Rattle.runmodel.proofs.Counting.{field-none, field-read}
-use borrow.Author.Needs.{needs}
-use Rattle.runmodel.proofs.printing.number_at.Statement.{statement}
-use Rattle.runmodel.proofs.printing.number_at.Tie as tie
+use Rattle.machine.specs.All.{needs}
+use Rattle.runmodel.proofs.printing.number_at as f
 
-returns : tie.Need-returns
+returns : f.Tie.Need-returns
 returns c =
     let read = c .before .before .before .read-report-number in
     field-read _ _ _ (read .ensures .0) _ _ (c .before .value .given .1) (read .ensures .1 _ _ (c .before .value .given .1) .1)
 
-returns-2 : tie.Need-returns-2
-returns-2 c = field-none _ _ _ (c .before .before .read-report-number .ensures .0) (c .enum-told .given .1)
-
-pub number-at-spec : {M : Type 1} → statement M
+pub number-at-spec : {M : Type 1} → f.Statement.statement M
 number-at-spec =
-    tie.close (tie.spec (λ c κs. search needs) (search needs) (search needs) returns returns-2)
+    f.Tie.close (f.Tie.spec (λ c κs. search needs) (search needs) (search needs) returns (λ c. field-none _ _ _ (c .before .before .read-report-number .ensures .0) (c .enum-told .given .1)))

@@ -1,18 +1,18 @@
 -- `enter` meets its contract: the units and the server that the block names.
-use mathlib.Core.Path.{refl}
+use Rattle.machine.specs.All.{refl, needs}
 use Rattle.servers_laws.specs.Taking.{enterRows}
-use borrow.Author.Needs.{needs}
-use Rattle.servers.proofs.taking.enter.Statement.{statement}
-use Rattle.servers.proofs.taking.enter.Tie as tie
+use Rattle.servers.proofs.taking.enter as f
 
-returns : tie.Need-returns
+returns : f.Tie.Need-returns
 unfolding enterRows
-returns c = rw (c .with-outcome .ensures, ← c .before .before .before .before .before .before .before .before .before .server-at .ensures .0, ← c .before .before .before .before .before .before .before .before .number .ensures) (c .before .before .before .before .before .take-units .ensures _ refl refl refl)
+returns c =
+    let b = c .before .before .before .before .before in
+    rw (c .with-outcome .ensures, ← b .before .before .before .before .server-at .ensures .0, ← b .before .before .before .number .ensures) (b .take-units .ensures _ refl refl refl)
 
-pub enter-spec : {M : Type 1} → statement M
+pub enter-spec : {M : Type 1} → f.Statement.statement M
 enter-spec =
-    tie.close
-    (tie.spec
+    f.Tie.close
+    (f.Tie.spec
     (search needs)
     (search needs)
     (search needs)

@@ -1,23 +1,24 @@
 -- `take_units` meets its contract, by cases on the free units.
-use mathlib.Core.Path.{refl}
-use borrow.Author.Tests.{le-leb, lt-leb}
+use Rattle.machine.specs.All.{refl, le-leb, lt-leb, needs}
 use Rattle.servers_laws.specs.Taking.{takeUnits}
-use borrow.Author.Needs.{needs}
-use Rattle.servers.proofs.taking.take_units.Statement.{statement}
-use Rattle.servers.proofs.taking.take_units.Tie as tie
+use Rattle.servers.proofs.taking.take_units as own
 
-returns : tie.Need-returns
+returns : own.Tie.Need-returns
 unfolding takeUnits
-returns c = λ x e f g. rw (e, ← c .before .before .before .before .before .before .before .before .before .capacity .ensures .0, ← c .before .before .before .before .before .before .before .before .before .before .in-use .ensures, ← c .before .before .before .before .before .before .before .before .less64 .ensures, le-leb _ _ (c .before .before .before .before .before .before .before .if1 .taken)) (c .before .before .before .before .hold-units .ensures _ refl g)
+returns c =
+    let b = c .before .before .before .before .before .before .before in
+    λ x e f g. rw (e, ← b .before .before .capacity .ensures .0, ← b .before .before .before .in-use .ensures, ← b .before .less64 .ensures, le-leb _ _ (b .if1 .taken)) (c .before .before .before .before .hold-units .ensures _ refl g)
 
-returns-2 : tie.Need-returns-2
+returns-2 : own.Tie.Need-returns-2
 unfolding takeUnits
-returns-2 c = λ x e f g. rw (← c .before .before .before .before .before .before .before .before .before .before .capacity .ensures .0, ← c .before .before .before .before .before .before .before .before .before .before .before .in-use .ensures, ← c .before .before .before .before .before .before .before .before .before .less64 .ensures, lt-leb _ _ (c .before .before .before .before .before .before .before .before .if1 .left), ← c .before .before .before .before .before .number .ensures) (c .before .before .before .before .queue-up .ensures x e f g)
+returns-2 c =
+    let b = c .before .before .before .before .before .before .before .before in
+    λ x e f g. rw (← b .before .before .capacity .ensures .0, ← b .before .before .before .in-use .ensures, ← b .before .less64 .ensures, lt-leb _ _ (b .if1 .left), ← c .before .before .before .before .before .number .ensures) (c .before .before .before .before .queue-up .ensures x e f g)
 
-pub take-units-spec : {M : Type 1} → statement M
+pub take-units-spec : {M : Type 1} → own.Statement.statement M
 take-units-spec =
-    tie.close
-    (tie.spec
+    own.Tie.close
+    (own.Tie.spec
     (search needs)
     (search needs)
     (search needs)

@@ -1,18 +1,7 @@
 -- `server_at` meets its contract: a number below 64 of what the tables hold.
-use Prim.Native.Nat.{ℕ, _%_}
-use mathlib.Core.Path.{ap}
-use native.Mathlib.Omega.{arith}
+use Rattle.machine.specs.All.{ℕ, _%_, ap, arith, needs}
 use Rattle.servers_laws.specs.Units.{serverAt}
-use borrow.Author.Needs.{needs}
-use Rattle.servers.proofs.units.server_at.Statement.{statement}
-use Rattle.servers.proofs.units.server_at.Tie as tie
+use Rattle.servers.proofs.units.server_at as f
 
-number-requires : tie.Need-number-requires
-number-requires c κs = search needs
-
-returns : tie.Need-returns
-unfolding serverAt
-returns c = (ap (λ (n : ℕ). n % 64) (c .number .ensures), omega arith)
-
-pub server-at-spec : {M : Type 1} → statement M
-server-at-spec = tie.close (tie.spec number-requires returns)
+pub server-at-spec : {M : Type 1} → f.Statement.statement M
+server-at-spec = f.Tie.close (f.Tie.spec (search needs) (λ c. unfold serverAt in (ap (λ (n : ℕ). n % 64) (c .number .ensures), omega arith)))

@@ -1,32 +1,7 @@
 -- `status` meets its contract, code by code.
-use borrow.Author.Tests.{eq-eqb, ne-eqb}
+use Rattle.machine.specs.All.{eq-eqb, ne-eqb}
 use Rattle.servers_laws.specs.Units.{statusOf}
-use Rattle.servers.proofs.units.status.Statement.{statement}
-use Rattle.servers.proofs.units.status.Tie as tie
+use Rattle.servers.proofs.units.status as f
 
-returns : tie.Need-returns
-unfolding statusOf
-returns c = rw (eq-eqb _ 0 (c .if1 .taken))
-
-returns-2 : tie.Need-returns-2
-unfolding statusOf
-returns-2 c = rw (ne-eqb _ 0 (c .before .if1 .left), eq-eqb _ 1 (c .if2 .taken))
-
-returns-3 : tie.Need-returns-3
-unfolding statusOf
-returns-3 c = rw (ne-eqb _ 0 (c .before .before .if1 .left), ne-eqb _ 1 (c .before .if2 .left), eq-eqb _ 2 (c .if3 .taken))
-
-returns-4 : tie.Need-returns-4
-unfolding statusOf
-returns-4 c = rw (ne-eqb _ 0 (c .before .before .before .if1 .left), ne-eqb _ 1 (c .before .before .if2 .left), ne-eqb _ 2 (c .before .if3 .left), eq-eqb _ 3 (c .if4 .taken))
-
-returns-5 : tie.Need-returns-5
-unfolding statusOf
-returns-5 c = rw (ne-eqb _ 0 (c .before .before .before .before .if1 .left), ne-eqb _ 1 (c .before .before .before .if2 .left), ne-eqb _ 2 (c .before .before .if3 .left), ne-eqb _ 3 (c .before .if4 .left), eq-eqb _ 4 (c .if5 .taken))
-
-returns-6 : tie.Need-returns-6
-unfolding statusOf
-returns-6 c = rw (ne-eqb _ 0 (c .before .before .before .before .if1 .left), ne-eqb _ 1 (c .before .before .before .if2 .left), ne-eqb _ 2 (c .before .before .if3 .left), ne-eqb _ 3 (c .before .if4 .left), ne-eqb _ 4 (c .if5 .left))
-
-pub status-spec : {M : Type 1} → statement M
-status-spec = tie.close (tie.spec returns returns-2 returns-3 returns-4 returns-5 returns-6)
+pub status-spec : {M : Type 1} → f.Statement.statement M
+status-spec = f.Tie.close (f.Tie.spec (λ c. unfold statusOf in rw (eq-eqb _ 0 (c .if1 .taken))) (λ c. unfold statusOf in rw (ne-eqb _ 0 (c .before .if1 .left), eq-eqb _ 1 (c .if2 .taken))) (λ c. unfold statusOf in rw (ne-eqb _ 0 (c .before .before .if1 .left), ne-eqb _ 1 (c .before .if2 .left), eq-eqb _ 2 (c .if3 .taken))) (λ c. unfold statusOf in rw (ne-eqb _ 0 (c .before .before .before .if1 .left), ne-eqb _ 1 (c .before .before .if2 .left), ne-eqb _ 2 (c .before .if3 .left), eq-eqb _ 3 (c .if4 .taken))) (λ c. unfold statusOf in rw (ne-eqb _ 0 (c .before .before .before .before .if1 .left), ne-eqb _ 1 (c .before .before .before .if2 .left), ne-eqb _ 2 (c .before .before .if3 .left), ne-eqb _ 3 (c .before .if4 .left), eq-eqb _ 4 (c .if5 .taken))) (λ c. unfold statusOf in rw (ne-eqb _ 0 (c .before .before .before .before .if1 .left), ne-eqb _ 1 (c .before .before .before .if2 .left), ne-eqb _ 2 (c .before .before .if3 .left), ne-eqb _ 3 (c .before .if4 .left), ne-eqb _ 4 (c .if5 .left))))

@@ -1,12 +1,13 @@
 -- `store_queue` meets its contract: the numbers are read, then stored.
-use Rattle.state.specs.Statistics.{storeQueue}
-use borrow.Author.Needs.{needs}
-use Rattle.state.proofs.statistics.store_queue.Statement.{statement}
-use Rattle.state.proofs.statistics.store_queue.Tie as tie
+use Rattle.state.specs.All.{storeQueue}
+use Rattle.machine.specs.All.{needs}
+use Rattle.state.proofs.statistics.store_queue as f
 
-returns : tie.Need-returns
+returns : f.Tie.Need-returns
 unfolding storeQueue
-returns c = rw (c .before .before .see .ensures, c .before .before .before .before .before .before .set-count2 .ensures, c .before .before .before .before .before .before .before .before .before .before .set-count .ensures, c .before .before .before .before .before .before .before .before .before .before .before .before .longest-now .ensures, c .before .before .before .before .before .before .before .before .before .before .before .before .before .before .sum-now .ensures)
+returns c =
+    let b = c .before .before .before .before .before .before .before .before .before .before in
+    rw (c .before .before .see .ensures, c .before .before .before .before .before .before .set-count2 .ensures, b .set-count .ensures, b .before .before .longest-now .ensures, b .before .before .before .before .sum-now .ensures)
 
-pub store-queue-spec : {M : Type 1} → statement M
-store-queue-spec = tie.close (tie.spec (search needs) (search needs) (search needs) (search needs) (search needs) (search needs) (search needs) (search needs) (search needs) (search needs) (search needs) (search needs) (search needs) (search needs) (search needs) returns)
+pub store-queue-spec : {M : Type 1} → f.Statement.statement M
+store-queue-spec = f.Tie.close (f.Tie.spec (search needs) (search needs) (search needs) (search needs) (search needs) (search needs) (search needs) (search needs) (search needs) (search needs) (search needs) (search needs) (search needs) (search needs) (search needs) returns)

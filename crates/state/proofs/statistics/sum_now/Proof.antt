@@ -1,12 +1,7 @@
 -- `sum_now` meets its contract.
-use Rattle.state.specs.Statistics.{sumNow}
-use borrow.Author.Needs.{needs}
-use Rattle.state.proofs.statistics.sum_now.Statement.{statement}
-use Rattle.state.proofs.statistics.sum_now.Tie as tie
+use Rattle.state.specs.All.{sumNow}
+use Rattle.machine.specs.All.{needs}
+use Rattle.state.proofs.statistics.sum_now as f
 
-returns : tie.Need-returns
-unfolding sumNow
-returns c = rw (← c .before .before .before .count .ensures, ← c .before .before .count2 .ensures, ← c .before .before .before .before .ticks-since .ensures .0, ← c .before .product .ensures) (c .plus64 .ensures)
-
-pub sum-now-spec : {M : Type 1} → statement M
-sum-now-spec = tie.close (tie.spec (search needs) (search needs) (search needs) (search needs) (search needs) returns)
+pub sum-now-spec : {M : Type 1} → f.Statement.statement M
+sum-now-spec = f.Tie.close (f.Tie.spec (search needs) (search needs) (search needs) (search needs) (search needs) (λ c. unfold sumNow in rw (← c .before .before .before .count .ensures, ← c .before .before .count2 .ensures, ← c .before .before .before .before .ticks-since .ensures .0, ← c .before .product .ensures) (c .plus64 .ensures)))

@@ -1,12 +1,7 @@
 -- `tapes::uniform` meets its contract.
 use Rattle.tapes_laws.specs.Source.{drawOf}
-use borrow.Author.Needs.{needs}
-use Rattle.tapes.proofs.draw.uniform.Statement.{statement}
-use Rattle.tapes.proofs.draw.uniform.Tie as tie
+use Rattle.machine.specs.All.{needs}
+use Rattle.tapes.proofs.draw.uniform as f
 
-returns : tie.Need-returns
-unfolding drawOf
-returns c = c .fraction .ensures
-
-pub uniform-spec : {M : Type 1} → statement M
-uniform-spec = tie.close (tie.spec (search needs) (search needs) returns)
+pub uniform-spec : {M : Type 1} → f.Statement.statement M
+uniform-spec = f.Tie.close (f.Tie.spec (search needs) (search needs) (λ c. unfold drawOf in c .fraction .ensures))

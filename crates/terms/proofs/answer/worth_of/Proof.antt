@@ -1,17 +1,8 @@
 -- `terms::answer::worth_of` meets its contract.
-use mathlib.Core.Path.{_∙_}
-use borrow.Author.Needs.{needs}
-use Rattle.terms.specs.Evaluation.{unpacked}
+use Rattle.machine.specs.All.{_∙_, needs}
+use Rattle.terms.specs.{unpacked}
 use Rattle.terms.proofs.Signs.{back}
-use Rattle.terms.proofs.answer.worth_of.Statement.{statement}
-use Rattle.terms.proofs.answer.worth_of.Tie as tie
+use Rattle.terms.proofs.answer.worth_of as f
 
-low-signed-requires : tie.Need-low-signed-requires
-low-signed-requires c κs = search needs
-
-returns : tie.Need-returns
-unfolding unpacked
-returns c = back _ (c .low-signed .ok) ∙ c .low-signed .ensures
-
-pub worth-of-spec : {M : Type 1} → statement M
-worth-of-spec = tie.close (tie.spec low-signed-requires returns)
+pub worth-of-spec : {M : Type 1} → f.Statement.statement M
+worth-of-spec = f.Tie.close (f.Tie.spec (search needs) (λ c. unfold unpacked in back _ (c .low-signed .ok) ∙ c .low-signed .ensures))

@@ -1,12 +1,7 @@
 -- The proof of the cycle of calls: sums and terms call each other. The measure is one number for value number, bracket depth and
 -- remaining terms: a mention goes to a lower value, a comparison or a bracket one level deeper, a sum to its next term.
-use Prim.Native.Nat.{ℕ, _+_, _*_, _<_}
-use native.Mathlib.Omega.{arith}
-use mathlib.Core.Path.{sym, _∙_}
-use lib.ListN.{length}
-use denote.Ref.{now}
+use Rattle.machine.specs.All.{ℕ, _+_, _*_, _<_, arith, sym, _∙_, needs}
 use mir.Facts.{toZ-ofZ}
-use borrow.Author.Needs.{needs}
 use borrow.Fn.Kinds.{In}
 use borrow.Fn.PlainCycle.{Measures, is, falls, and}
 use Rattle.terms.proofs.Signs.{back}

@@ -1,12 +1,5 @@
 -- `terms::evaluate::one_if` meets its contract.
-use Rattle.terms.proofs.evaluate.one_if.Statement.{statement}
-use Rattle.terms.proofs.evaluate.one_if.Tie as tie
+use Rattle.terms.proofs.evaluate.one_if as f
 
-returns : tie.Need-returns
-returns c = rw (c .if1 .taken)
-
-returns-2 : tie.Need-returns-2
-returns-2 c = rw (c .if1 .left)
-
-pub one-if-spec : {M : Type 1} → statement M
-one-if-spec = tie.close (tie.spec returns returns-2)
+pub one-if-spec : {M : Type 1} → f.Statement.statement M
+one-if-spec = f.Tie.close (f.Tie.spec (λ c. rw (c .if1 .taken)) (λ c. rw (c .if1 .left)))

@@ -1,18 +1,7 @@
 -- `terms::simple::minus` meets its contract: a small number has its negative among the signed 32-bit numbers.
-use mathlib.Core.Path.{_∙_}
-use borrow.Author.Needs.{needs}
+use Rattle.machine.specs.All.{_∙_, needs}
 use Rattle.terms.proofs.Signs.{back, minus-fits, minus-back}
-use Rattle.terms.proofs.simple.minus.Statement.{statement}
-use Rattle.terms.proofs.simple.minus.Tie as tie
+use Rattle.terms.proofs.simple.minus as f
 
-small-requires : tie.Need-small-requires
-small-requires c κs = search needs
-
-sub-result : tie.Need-sub-result
-sub-result c = minus-fits _ _ (back _ (c .small .ok) ∙ c .small .ensures)
-
-returns : tie.Need-returns
-returns c = minus-back _ _ (back _ (c .small .ok) ∙ c .small .ensures)
-
-pub minus-spec : {M : Type 1} → statement M
-minus-spec = tie.close (tie.spec small-requires sub-result returns)
+pub minus-spec : {M : Type 1} → f.Statement.statement M
+minus-spec = f.Tie.close (f.Tie.spec (search needs) (λ c. minus-fits _ _ (back _ (c .small .ok) ∙ c .small .ensures)) (λ c. minus-back _ _ (back _ (c .small .ok) ∙ c .small .ensures)))

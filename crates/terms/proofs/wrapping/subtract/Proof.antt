@@ -1,35 +1,22 @@
 -- `terms::wrapping::subtract` meets its contract: the difference of the bits modulo 2 to the 32, read as signed.
-use mathlib.Core.Path.{ap, _∙_}
+use Rattle.machine.specs.All.{ap, _∙_, needs, low32}
 use mir.Facts.{toZ-ofZ}
-use borrow.Author.Needs.{needs}
-use Rattle.machine.specs.Term.{low32}
 use Rattle.terms.proofs.Signs.{back, wrap-subtract}
-use Rattle.terms.proofs.wrapping.subtract.Statement.{statement}
-use Rattle.terms.proofs.wrapping.subtract.Tie as tie
+use Rattle.terms.proofs.wrapping.subtract as f
 
-bits-requires : tie.Need-bits-requires
-bits-requires c κs = search needs
-
-bits-requires-2 : tie.Need-bits-requires-2
-bits-requires-2 c κs = search needs
-
-wrapping-sub-u32-requires : tie.Need-wrapping-sub-u32-requires
-wrapping-sub-u32-requires c κs = search needs
-
-signed-requires : tie.Need-signed-requires
-signed-requires c κs = search needs
-
-returns : tie.Need-returns
-returns c = let entry = c .before .before .before .before in
+returns : f.Tie.Need-returns
+returns c =
+    let d = c .before in
+    let entry = d .before .before .before in
     back _ (c .signed .ok)
     ∙ c .signed .ensures
-    ∙ wrap-subtract _ _ _ _ (c .before .before .before .bits .ensures ∙ ap low32 (toZ-ofZ (entry .fits .a)))
-    (c .before .before .bits2 .ensures ∙ ap low32 (toZ-ofZ (entry .fits .b)))
+    ∙ wrap-subtract _ _ _ _ (d .before .before .bits .ensures ∙ ap low32 (toZ-ofZ (entry .fits .a)))
+    (d .before .bits2 .ensures ∙ ap low32 (toZ-ofZ (entry .fits .b)))
     _
-    (c .before .wrapping-sub-u32 .ok)
-    (c .before .wrapping-sub-u32 .ensures)
+    (d .wrapping-sub-u32 .ok)
+    (d .wrapping-sub-u32 .ensures)
 
-pub subtract-spec : {M : Type 1} → statement M
+pub subtract-spec : {M : Type 1} → f.Statement.statement M
 subtract-spec =
-    tie.close
-    (tie.spec bits-requires bits-requires-2 wrapping-sub-u32-requires signed-requires returns)
+    f.Tie.close
+    (f.Tie.spec (search needs) (search needs) (search needs) (search needs) returns)

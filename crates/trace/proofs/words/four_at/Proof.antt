@@ -1,11 +1,7 @@
 -- `words::four_at` meets its contract: the lower half holds the first 2 bytes, the upper half the others.
-use borrow.Author.Needs.{needs}
+use Rattle.machine.specs.All.{needs}
 use Rattle.trace.proofs.WordLaws.{holds-beside}
-use Rattle.trace.proofs.words.four_at.Statement.{statement}
-use Rattle.trace.proofs.words.four_at.Tie as tie
+use Rattle.trace.proofs.words.four_at as f
 
-returns : tie.Need-returns
-returns c = holds-beside _ _ 2 2 (c .before .two-at .ensures) (c .two-at2 .ensures)
-
-pub four-at-spec : {M : Type 1} → statement M
-four-at-spec = tie.close (tie.spec (search needs) (search needs) (search needs) (search needs) (search needs) returns)
+pub four-at-spec : {M : Type 1} → f.Statement.statement M
+four-at-spec = f.Tie.close (f.Tie.spec (search needs) (search needs) (search needs) (search needs) (search needs) (λ c. holds-beside _ _ 2 2 (c .before .two-at .ensures) (c .two-at2 .ensures)))

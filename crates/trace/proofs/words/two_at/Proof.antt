@@ -1,16 +1,15 @@
 -- `words::two_at` meets its contract: a byte, and the next above it.
-use borrow.Author.Needs.{needs}
+use Rattle.machine.specs.All.{needs}
 use Rattle.trace.proofs.WordLaws.{holds-beside, holds-byte}
-use Rattle.trace.proofs.words.two_at.Statement.{statement}
-use Rattle.trace.proofs.words.two_at.Tie as tie
+use Rattle.trace.proofs.words.two_at as f
 
-returns : tie.Need-returns
+returns : f.Tie.Need-returns
 returns c =
     let low = c .before .before .wide .ensures in
     let high = c .wide2 .ensures in
     holds-beside _ _ 1 1 (holds-byte _ _ (search needs) (low .0) (low .1)) (holds-byte _ _ (search needs) (high .0) (high .1))
 
-pub two-at-spec : {M : Type 1} → statement M
+pub two-at-spec : {M : Type 1} → f.Statement.statement M
 two-at-spec =
-    tie.close
-    (tie.spec (search needs) (search needs) (search needs) (search needs) (search needs) (search needs) (search needs) returns)
+    f.Tie.close
+    (f.Tie.spec (search needs) (search needs) (search needs) (search needs) (search needs) (search needs) (search needs) returns)

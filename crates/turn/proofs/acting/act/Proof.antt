@@ -1,8 +1,7 @@
 -- `act` meets its contract: the block, then its record.
-use borrow.Author.Tests.{lt-ltb, le-ltb}
+use Rattle.machine.specs.All.{lt-ltb, le-ltb, needs}
 use Rattle.turn_laws.specs.Turn.{act}
 use Rattle.turn_laws.proofs.Parts.{note-joined}
-use borrow.Author.Needs.{needs}
 use Rattle.turn.proofs.acting.act.Statement.{statement}
 use Rattle.turn.proofs.acting.act.Tie as tie
 

@@ -1,22 +1,12 @@
 -- `clock_asked` meets its contract, by cases on whether the clock moved.
-use borrow.Author.Tests.{eq-eqb, ne-eqb}
+use Rattle.machine.specs.All.{eq-eqb, ne-eqb, needs}
 use Rattle.turn_laws.specs.Turn.{clockAsks}
-use borrow.Author.Needs.{needs}
-use Rattle.turn.proofs.acting.clock_asked.Statement.{statement}
-use Rattle.turn.proofs.acting.clock_asked.Tie as tie
+use Rattle.turn.proofs.acting.clock_asked as f
 
-returns : tie.Need-returns
-unfolding clockAsks
-returns c = rw (eq-eqb _ _ (c .if1 .taken))
-
-returns-2 : tie.Need-returns-2
-unfolding clockAsks
-returns-2 c = rw (ne-eqb _ _ (c .before .before .if1 .left), ← c .number .ensures)
-
-pub clock-asked-spec : {M : Type 1} → statement M
+pub clock-asked-spec : {M : Type 1} → f.Statement.statement M
 clock-asked-spec =
-    tie.close
-    (tie.spec
-    returns
+    f.Tie.close
+    (f.Tie.spec
+    (λ c. unfold clockAsks in rw (eq-eqb _ _ (c .if1 .taken)))
     (search needs)
-    returns-2)
+    (λ c. unfold clockAsks in rw (ne-eqb _ _ (c .before .before .if1 .left), ← c .number .ensures)))

@@ -1,16 +1,18 @@
 -- `watch` meets its contract: the values, the marks, the blocks and the clock.
 use Rattle.watch.proofs.Loops.{watched-by}
-use borrow.Author.Needs.{needs}
-use Rattle.watch.proofs.reads.watch.Statement.{statement}
-use Rattle.watch.proofs.reads.watch.Tie as tie
+use Rattle.machine.specs.All.{needs}
+use Rattle.watch.proofs.reads.watch as f
 
-returns : tie.Need-returns
-returns c = watched-by _ _ _ _ _ _ _ _ (c .before .before .before .before .before .before .before .before .before .before .before .before .before .before .before .before .before .store-own .ensures) (c .before .before .before .before .before .before .before .before .before .before .before .before .marks-of .ensures) (c .before .before .before .before .before .before .before .before .store-asked .ensures) (c .before .before .before .number .ensures) (c .before .before .store .ensures)
+returns : f.Tie.Need-returns
+returns c =
+    let d = c .before .before in
+    let b = d .before .before .before .before .before .before in
+    watched-by _ _ _ _ _ _ _ _ (b .before .before .before .before .before .before .before .before .before .store-own .ensures) (b .before .before .before .before .marks-of .ensures) (b .store-asked .ensures) (d .before .number .ensures) (d .store .ensures)
 
-pub watch-spec : {M : Type 1} → statement M
+pub watch-spec : {M : Type 1} → f.Statement.statement M
 watch-spec =
-    tie.close
-    (tie.spec
+    f.Tie.close
+    (f.Tie.spec
     (search needs)
     (search needs)
     (search needs)

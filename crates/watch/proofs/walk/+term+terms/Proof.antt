@@ -1,9 +1,6 @@
 -- The proof of the cycle of calls: a term and the terms of a bracket call each other. The measure: brackets that may open, then terms left.
-use Prim.Native.Nat.{_+_, _*_}
-use mathlib.Core.Path.{sym, _∙_}
-use borrow.Author.Needs.{needs}
+use Rattle.machine.specs.All.{_+_, _*_, sym, _∙_, needs, ℕ, _<_}
 use Rattle.watch.proofs.Steps.{term-past, term-simple, term-deep, term-comparison, term-bracket, terms-none, terms-past, terms-more}
-use Prim.Native.Nat.{ℕ, _<_}
 use borrow.Fn.Kinds.{In}
 use borrow.Fn.PlainCycle.{Measures, is, falls, and}
 use Rattle.watch.proofs.walk.term.Reads as term

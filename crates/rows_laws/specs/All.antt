@@ -1,0 +1,25 @@
+-- The names of these definitions that other crates use, passed on so that a file there has one line for them.
+pub use Rattle.rows_laws.specs.Layout.{rel, fel, rowCount, serialEnd, head, wsl, parameterField, nextField, free, place, numberField, familyField, gatherers, standingField, serialField, holderCell, interrupted, nowhere, listCount, wels, links, link, tail, tails, dataFields, slots, fieldAt, slot, heads, hint, hints, wordEnd, Room, fieldCount, priorityEnd}
+pub use Rattle.rows_laws.specs.Cells.{write, read, load, setReturning, priorityOf}
+unfoldable pub use Rattle.rows_laws.specs.Cells.{timeOf, setTime, store}
+unfoldable pub use Rattle.rows_laws.specs.Order.{outranks, sooner, soonerAt}
+pub use Rattle.rows_laws.specs.Lists.{first, takeFirst, putBy, hinted}
+unfoldable pub use Rattle.rows_laws.specs.Lists.{removeAt, put, familyCell, begin, walk, cellOf, endAt, inFamily, insertAt, note, spot, remove, removeRow, step, spotBefore}
+pub use Rattle.rows_laws.specs.Lines.{atLeast}
+unfoldable pub use Rattle.rows_laws.specs.Lines.{lineUp, backBefore, backSpot, foundAt, lastCell, lastMeets, secondSpot}
+pub use Rattle.rows_laws.specs.Future.{up, size}
+unfoldable pub use Rattle.rows_laws.specs.Future.{schedule, cancel, loses, findLoser, above, below, cancelOf, fill, fillBy, isHolder, keep, keepHolder, lives, loserFrom, loser, loserAt, loserOf, pull, rise, scheduleLast, settle, sink, soonerOf, soonerRow, top}
+pub use Rattle.rows_laws.specs.Wake.{wakeFirst}
+unfoldable pub use Rattle.rows_laws.specs.Wake.{wakeAll, wakeRow, wakeAt, after, passRows, passCell, wakeWalk}
+pub use Rattle.rows_laws.specs.Clock.{Arrived}
+unfoldable pub use Rattle.rows_laws.specs.Clock.{arrive, arrivals, arrived, arriveFirst, arriveRow, isDue}
+pub use Rattle.rows_laws.specs.Make.{emptyFel}
+unfoldable pub use Rattle.rows_laws.specs.Make.{freeRow, newbornAt, copyAt, clearParameters, copyParameters, describe, emptyList, emptyLists, freeRows, initial, looseRows}
+pub use Rattle.rows_laws.specs.Holds.{update, same, Holds, Listed, Heaped, parameterAt}
+unfoldable pub use Rattle.rows_laws.specs.Holds.{eventAt, transactionAt, ending, occurs, Chain}
+pub use Rattle.rows_laws.specs.Ordered.{Strict, Ordered}
+unfoldable pub use Rattle.rows_laws.specs.Ordered.{Sorted, All}
+unfoldable pub use Rattle.rows_laws.specs.Living.{sumTo, loose, onLists}
+pub use Rattle.rows_laws.specs.Shows.{Shows, moved, Loose, Shown, orderOf, Held}
+pub use Rattle.rows_laws.specs.First.{KeptFirst, KeptHead, NoneWhenEmpty}
+unfoldable pub use Rattle.rows_laws.specs.First.{earlierOf, walkTo, fullWalk, orNone, kept}
