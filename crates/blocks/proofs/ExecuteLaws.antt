@@ -1,10 +1,10 @@
 -- One block over the rows leaves what the machine's block does, apart from its record.
 use Rattle.machine.specs.All.{ℕ, zero, suc, _-_, _≡_, refl, subst, List, _∷_, length, Transaction, always, whenTrue, Block, generate, advance, terminate, waitServer, waitTerms, assign, priority, split, BlockModel, facility, storage, up, down, takes, frees, moves, counts, assemble, preempt, giveBack, State}
-use Rattle.tables.specs.All.{blockForms, blockNumbers, At}
-use Rattle.terms.proofs.Found.{at-first}
+use Rattle.layout.specs.All.{blockForms, blockNumbers, At}
+use Rattle.evaluation.proofs.Found.{at-first}
 use Rattle.state.specs.declared.scalars.Scalars.{Scalars}
 use Rattle.state.specs.All.{Done}
-use Rattle.moves.specs.Before.{placeOf, bareBlock, Before}
+use Rattle.moves.proofs.Before.{placeOf, bareBlock, Before}
 use Rattle.moves.proofs.BeforeLaws.{inside}
 use Rattle.flow_laws.proofs.GenerateLaw.{generate-done}
 use Rattle.flow_laws.proofs.AdvanceLaw.{advance-done}
@@ -16,9 +16,9 @@ use Rattle.servers_laws.proofs.TakingLaws.{seize-done, enter-done}
 use Rattle.servers_laws.proofs.FreeingLaws.{release-done, leave-done}
 use Rattle.servers_laws.proofs.WaitingLaws.{wait-server-done}
 use Rattle.preempt_laws.proofs.PreemptLaws.{preempt-done, give-back-done}
-use Rattle.decisions_laws.proofs.Operands.{numbers}
-use Rattle.decisions_laws.proofs.ComparisonLaws.{wait-terms-done, branch-done, goto-done, assign-done}
-use Rattle.decisions_laws.proofs.QueueLaws.{arrive-done, depart-done}
+use Rattle.values_queues_laws.proofs.Operands.{numbers}
+use Rattle.values_queues_laws.proofs.ComparisonLaws.{wait-terms-done, branch-done, goto-done, assign-done}
+use Rattle.values_queues_laws.proofs.QueueLaws.{arrive-done, depart-done}
 use Rattle.blocks.specs.Execute as Rows
 
 module _ {m : BlockModel} {tape : List (List ℕ)} {tapeBytes tables lists w tally : List ℕ} {x : Scalars} {t : Transaction} {s : State} where

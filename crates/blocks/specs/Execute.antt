@@ -9,9 +9,9 @@ use Rattle.servers_laws.specs.Taking.{seizeRows, enterRows}
 use Rattle.servers_laws.specs.Freeing.{releaseRows, leaveRows}
 use Rattle.preempt_laws.specs.Preempting.{preemptRows, giveBackRows}
 use Rattle.servers_laws.specs.WaitServer.{waitServerRows}
-use Rattle.decisions_laws.specs.Comparison.{waitTermsRows, branchRows, assignRows}
-use Rattle.decisions_laws.specs.Jumps.{gotoRows}
-use Rattle.decisions_laws.specs.Queues.{arriveRows, departRows}
+use Rattle.values_queues_laws.specs.Comparison.{waitTermsRows, branchRows, assignRows}
+use Rattle.values_queues_laws.specs.Jumps.{gotoRows}
+use Rattle.values_queues_laws.specs.Queues.{arriveRows, departRows}
 
 module _ (tables : List ℕ) (values facilities : ℕ) (tape w tally : List ℕ) (x : Scalars) (at : ℕ) where
   -- kinds 9 to 20

@@ -3,12 +3,13 @@ use Rattle.machine.specs.All.{ℕ, suc, _+_, _≤_, _<_, _≡_, refl, sym, ap, 
 use Rattle.machine.specs.Turn as Machine
 use Rattle.machine.proofs.decoding.Proper.{Proper}
 use Rattle.machine.proofs.lists.Sums.{sum-length, sum-insert, sum-those}
-use Rattle.tables.specs.All.{clockMoves}
+use Rattle.layout.specs.All.{clockMoves}
 use Rattle.rows_laws.specs.All.{rel, fel, first, Arrived, arrive, arrivals, eventAt, update}
 use Rattle.rows_laws.proofs.Take.{Head, nobody, somebody}
 use Rattle.rows_laws.proofs.Laws.{Arrives, head-fel-shows, arrive-shows}
 use Rattle.state.specs.declared.scalars.Scalars.{Scalars}
-use Rattle.state.specs.All.{putClock, putSerial, Sane, Rows, rowsOf, listsIn, listsOf, Listing, Tallying, Counting, Stands}
+use Rattle.state.specs.All.{putClock, putSerial, Rows, rowsOf, listsIn, listsOf, Listing, Tallying, Counting, Stands}
+use Rattle.state.proofs.Sane.{Sane}
 use Rattle.state.proofs.Measured.{clocked, moved-clock}
 use Rattle.state.proofs.ListsOf.{lists-set-rel}
 use Rattle.clock.specs.{countMove, moveClock, nextEvents}

@@ -4,8 +4,9 @@ use Rattle.machine.specs.All.{ℕ, zero, suc, _+_, _*_, _-_, max, _≤_, _<_, _
 use Rattle.machine.specs.Turn as Machine
 use Rattle.machine.proofs.decoding.Proper.{Proper, servers}
 use Rattle.machine.proofs.runs.Shape.{each-getD, server-length}
-use Rattle.tables.specs.All.{most64}
-use Rattle.state.specs.All.{Sane, sumNow, longestNow, Seen, Serving, Queueing, Sampling, Tallied, Tallying}
+use Rattle.layout.specs.All.{most64}
+use Rattle.state.specs.All.{sumNow, longestNow, Seen, Serving, Queueing, Sampling, Tallied, Tallying}
+use Rattle.state.proofs.Sane.{Sane}
 use Rattle.state.proofs.Held.{held-same}
 use Rattle.state.proofs.Measured.{units-small}
 use Rattle.state.proofs.StatisticsLaws.{seen-later, sum-later, longest-later}

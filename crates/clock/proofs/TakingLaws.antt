@@ -6,7 +6,8 @@ use Rattle.machine.proofs.decoding.Proper.{Proper}
 use Rattle.rows_laws.specs.All.{rel, first, transactionAt}
 use Rattle.rows_laws.proofs.Take.{Head, nobody, somebody}
 use Rattle.rows_laws.proofs.Laws.{head-shows}
-use Rattle.state.specs.All.{Sane, Rows, rowsOf, listsIn, listsOf, Stands}
+use Rattle.state.specs.All.{Rows, rowsOf, listsIn, listsOf, Stands}
+use Rattle.state.proofs.Sane.{Sane}
 use Rattle.state.proofs.Sanity.{takenOf, sane-turns}
 use Rattle.clock.specs.{nextEvents, takeReady, counted, take}
 use Rattle.clock.proofs.ReadyLaws.{ready-stands}

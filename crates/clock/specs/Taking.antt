@@ -1,6 +1,6 @@
 -- The row machine: the taking of a turn.
 use Rattle.machine.specs.All.{ℕ, _+_, min, cond, List, ltb, getD, set}
-use Rattle.tables.specs.All.{most32, most64, clockMoves}
+use Rattle.layout.specs.All.{most32, most64, clockMoves}
 use Rattle.rows_laws.specs.All.{rel, fel, rowCount, serialEnd, timeOf, first, takeFirst, Arrived, arrive}
 use Rattle.state.specs.declared.scalars.Scalars.{Scalars}
 use Rattle.state.specs.All.{putClock, putMoving, putSerial, putTurns, Rows, rowsOf}

@@ -1,4 +1,7 @@
 // Who moves in a turn.
+use layout::CLOCK_MOVES;
+use layout::count;
+use layout::set_count;
 use rows::FEL;
 use rows::REL;
 use rows::ROWS;
@@ -7,13 +10,10 @@ use rows::cells::time;
 use rows::clock::arrive;
 use rows::lists::first;
 use rows::lists::take_first;
+use saturating::plus32;
+use saturating::plus64;
 use state::Scalars;
 use state::by_fields;
-use state::plus32;
-use state::plus64;
-use tables::CLOCK_MOVES;
-use tables::count;
-use tables::set_count;
 ghost use Rattle.machine.specs.All.{_≡_, _<_};
 ghost use Rattle.rows_laws.specs.All.{Room, serialEnd};
 ghost use Rattle.state.specs.All.{rowsOf};

@@ -1,7 +1,7 @@
 -- All questions, pure: from the answers for the model and for the tape to the machine's `validate`.
 use Rattle.machine.specs.All.{ℕ, _≤_, _<_, arith, _≡_, refl, sym, ap, _∙_, subst, List, length, le-leb, lt-leb, Rules, inForce, Parsed, parsed, refused, BlockModel, modelOf, tapeOf, beginning, Validation, accept, reject, withTape, withModel, validate}
 use Rattle.constants.specs.declared.model.Model.{Model}
-use Rattle.tables.specs.All.{headerOf, Represents}
+use Rattle.layout.specs.All.{headerOf, Represents}
 use Rattle.watch.specs.Watch.{watched}
 use Rattle.decode.specs.declared.Decoded.{Decoded}
 use Rattle.decode.specs.declared.Decoded.the-variants.{Model as Accepted, Refused}

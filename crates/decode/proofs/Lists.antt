@@ -3,10 +3,10 @@ use Rattle.machine.specs.All.{ℕ, zero, suc, _+_, _-_, _≤_, _<_, add-one, ar
 use Rattle.codec.specs.declared.Field.{Field}
 use Rattle.codec.specs.declared.Field.the-variants.{Value, Refused as NoField}
 use Rattle.codec.specs.Answers.{parsedOf}
-use Rattle.tables.specs.All.{TimesAt}
+use Rattle.layout.specs.All.{TimesAt}
 use Rattle.decode.specs.declared.Tape.{Tape}
 use Rattle.decode.specs.declared.Tape.the-variants.{At, Refused}
-use Rattle.values.proofs.Rows.{rows-length, times-rows}
+use Rattle.parse_values.proofs.Filled.{rows-length, times-rows}
 use Rattle.decode.proofs.Represented.{zeros}
 use Rattle.decode.specs.{cursorAt, tapeField, emptyLists, Skips, OneList, Listed, Filled}
 use Rattle.decode.specs.Lists.{Lists}

@@ -1,12 +1,12 @@
 -- The whole model, pure: its three parts make it, and questions 6 and 7 are those of the machine.
 use Rattle.machine.specs.All.{ℕ, _≤_, _<_, arith, _≡_, refl, ap, _∙_, true, false, _&&_, List, leb, leb·zero, length, eq-eqb, ne-eqb, le-leb, lt-leb, inForce, Cursor, Parsed, parsed, refused, continue, ask, BlockModel, modelFields, atEnd, targetsMove, wellFormed, modelOf, beginning}
 use Rattle.constants.specs.declared.model.Model.{Model}
-use Rattle.tables.specs.All.{sumNumbers, blockNumbers, headerOf}
-use Rattle.values.specs.declared.Place.{Place}
-use Rattle.values.specs.Keeps.{cursorOf}
-use Rattle.values.specs.Rows.{storedRows, allNamed}
-use Rattle.values.specs.Shapes.{sumNamed}
-use Rattle.values.proofs.Named.{values-name}
+use Rattle.layout.specs.All.{sumNumbers, blockNumbers, headerOf}
+use Rattle.parse_values.specs.declared.Place.{Place}
+use Rattle.parse_values.specs.Keeps.{cursorOf}
+use Rattle.parse_values.specs.Filled.{storedRows, allNamed}
+use Rattle.parse_values.specs.Shapes.{sumNamed}
+use Rattle.parse_values.proofs.Named.{values-name}
 use Rattle.program.specs.Formed.{placedFrom, targetsFrom, joinedFrom}
 use Rattle.program.specs.Shapes.{capacitiesOf}
 use Rattle.program.proofs.Steps.{continue-assoc}

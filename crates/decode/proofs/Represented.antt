@@ -1,12 +1,12 @@
 -- The cells of a whole model (specs/Models) represent it, pure.
 use Rattle.machine.specs.All.{ℕ, zero, suc, _+_, _*_, _-_, _≤_, _<_, arith, _≡_, refl, sym, ap, _∙_, Bool, true, false, List, [], _∷_, _++_, ltb, T, length, getD, drop, replicate, length-set, length-replicate, getD-replicate, length-take, length-drop, List·getD-append, List·getD-eq-default, sets, getD-set-same, getD-set-other, length-sets, ext-getD, getD-take, getD-drop, getD-append-add, ltb-true, ltb-false, Sum, nothing, terminate, BlockModel}
 use Rattle.constants.specs.declared.model.Model.{Model}
-use Rattle.tables.specs.All.{blockForms, sumNumbers, blockNumbers, At, smallBlock, smallSum, Watching, Sharing}
-use Rattle.values.specs.Keeps.{numberShape}
-use Rattle.values.specs.Rows.{storedRows, Each}
-use Rattle.values.specs.Shapes.{ProperValue}
-use Rattle.values.proofs.Cells.{sets-above, sets-inside, at-each, length-rows, rows-below, rows-above, rows-inside}
-use Rattle.values.proofs.Rows.{each-at, each-map}
+use Rattle.layout.specs.All.{blockForms, sumNumbers, blockNumbers, At, smallBlock, smallSum, Watching, Sharing}
+use Rattle.parse_values.specs.Keeps.{numberShape}
+use Rattle.parse_values.specs.Filled.{storedRows, Each}
+use Rattle.parse_values.specs.Shapes.{ProperValue}
+use Rattle.parse_values.proofs.Cells.{sets-above, sets-inside, at-each, length-rows, rows-below, rows-above, rows-inside}
+use Rattle.parse_values.proofs.Filled.{each-at, each-map}
 use Rattle.program.specs.Formed.{Formed}
 use Rattle.program.specs.Shapes.{capacitiesOf}
 use Rattle.program.proofs.Question.{Standing}

@@ -1,16 +1,16 @@
 -- The parts of a model, pure: from what each call kept to what the part keeps.
 use Rattle.machine.specs.All.{ℕ, suc, _+_, _-_, _≤_, _<_, arith, _≡_, refl, sym, ap, _∙_, List, [], replicate, set, sets, Parsed, parsed, refused, Parser, continue, field, times, inForce, valueFields, blockField, valueField, inValue}
 use Rattle.constants.specs.declared.model.Model.{Model}
-use Rattle.values.specs.declared.Place.{Place}
-use Rattle.values.specs.declared.Taken.{Taken}
-use Rattle.values.specs.declared.Taken.the-variants.{Number}
-use Rattle.values.specs.declared.Stored.{Stored}
-use Rattle.values.specs.declared.Stored.the-variants.{Done, Refused as NotStored}
-use Rattle.values.specs.Keeps.{cursorOf, placeOf, Takes, plainShape, numberShape}
-use Rattle.values.specs.Rows.{Rows, allNamed, storedRows}
-use Rattle.values.specs.Shapes.{sumNamed, valueShape, ProperValue}
-use Rattle.values.proofs.Binds.{takes-bind}
-use Rattle.values.proofs.Rows.{times-rows, values-rows, rows-end, rows-bind, rows-length, unnamed}
+use Rattle.parse_values.specs.declared.Place.{Place}
+use Rattle.parse_values.specs.declared.Taken.{Taken}
+use Rattle.parse_values.specs.declared.Taken.the-variants.{Number}
+use Rattle.parse_values.specs.declared.Stored.{Stored}
+use Rattle.parse_values.specs.declared.Stored.the-variants.{Done, Refused as NotStored}
+use Rattle.parse_values.specs.Keeps.{cursorOf, placeOf, Takes, plainShape, numberShape}
+use Rattle.parse_values.specs.Filled.{Filled, allNamed, storedRows}
+use Rattle.parse_values.specs.Shapes.{sumNamed, valueShape, ProperValue}
+use Rattle.parse_values.proofs.Binds.{takes-bind}
+use Rattle.parse_values.proofs.Filled.{times-rows, values-rows, rows-end, rows-bind, rows-length, unnamed}
 use Rattle.program.specs.Formed.{Formed}
 use Rattle.program.specs.Shapes.{blockShape, capacitiesOf}
 use Rattle.decode.specs.declared.Header.{Header}
@@ -74,7 +74,7 @@ module _ (s : List ℕ) {p a b d : Place} {v f n : ℕ} {r₁ r₂ r₃ : Taken}
     (k₂ : Takes (plainShape 0 32) a 0 [] [] r₂ (field s 3 0 32 (cursorOf a))) (t₂ : r₂ ≡ Number f b)
     (k₃ : Takes (plainShape 0 32) b 0 [] [] r₃ (field s 3 0 32 (cursorOf b))) (t₃ : r₃ ≡ Number n d)
     (cleared : l₁ ≡ emptyTables v) (ones : l₂ ≡ sets l₁ 2560 (replicate f 1))
-    (k₄ : Rows (numberShape 1 65535 1) Capacity 1 (2560 + f) d l₂ l₃ r₄ (times n (field s 3 1 65535) (cursorOf d))) where
+    (k₄ : Filled (numberShape 1 65535 1) Capacity 1 (2560 + f) d l₂ l₃ r₄ (times n (field s 3 1 65535) (cursorOf d))) where
   pub servers-stop : {m : ℕ} → r₄ ≡ NotStored m → Stage serversShape noModel p l l₃ (Refused m) (serversField s (cursorOf p))
   unfolding serversField
   servers-stop told =
@@ -120,7 +120,7 @@ module _ (s : List ℕ) {p a b d : Place} {v f n : ℕ} {r₁ r₂ r₃ : Taken}
 module _ (s : List ℕ) (m : Model) {p a b : Place} {queues n : ℕ} {r₁ r₂ : Taken} {r₃ : Stored} {l l₁ : List ℕ}
     (k₁ : Takes (plainShape 0 32) p 0 [] [] r₁ (field s 3 0 32 (cursorOf p))) (t₁ : r₁ ≡ Number queues a)
     (k₂ : Takes (plainShape 0 8) a 0 [] [] r₂ (field s 3 0 8 (cursorOf a))) (t₂ : r₂ ≡ Number n b)
-    (k₃ : Rows valueShape ProperValue 64 2048 b l l₁ r₃ (valueFields s (seenByValues m queues) n 0 (cursorOf b))) where
+    (k₃ : Filled valueShape ProperValue 64 2048 b l l₁ r₃ (valueFields s (seenByValues m queues) n 0 (cursorOf b))) where
   pub things-stop : {i : ℕ} → r₃ ≡ NotStored i → Stage thingsShape m p l l₁ (Refused i) (thingsField s m (cursorOf p))
   unfolding thingsField
   things-stop told =
@@ -164,7 +164,7 @@ module _ (s : List ℕ) (m : Model) {p a b d : Place} {lists counter n : ℕ} {r
     (k₁ : Takes (plainShape 0 16) p 0 [] [] r₁ (field s 3 0 16 (cursorOf p))) (t₁ : r₁ ≡ Number lists a)
     (k₂ : Takes (plainShape 1 65535) a 0 [] [] r₂ (field s 3 1 65535 (cursorOf a))) (t₂ : r₂ ≡ Number counter b)
     (k₃ : Takes (plainShape 1 256) b 0 [] [] r₃ (field s 3 1 256 (cursorOf b))) (t₃ : r₃ ≡ Number n d)
-    (k₄ : Rows (blockShape n) (Formed n) 8 0 d l l₁ r₄ (times n (blockField s (inForce .kinds) (seenByBlocks m lists n) (capacitiesOf m l)) (cursorOf d))) where
+    (k₄ : Filled (blockShape n) (Formed n) 8 0 d l l₁ r₄ (times n (blockField s (inForce .kinds) (seenByBlocks m lists n) (capacitiesOf m l)) (cursorOf d))) where
   pub program-stop : {i : ℕ} → r₄ ≡ NotStored i → Stage programShape m p l l₁ (Refused i) (programField s m (capacitiesOf m l) (cursorOf p))
   unfolding programField
   program-stop told =

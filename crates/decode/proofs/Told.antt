@@ -1,7 +1,7 @@
 -- What an answer of `decode` tells of the machine's answer to the questions.
 use Rattle.machine.specs.All.{ℕ, _≡_, refl, ap, List, arith, BlockModel, Validation, accept, reject}
 use Rattle.constants.specs.declared.model.Model.{Model}
-use Rattle.tables.specs.All.{headerOf, Represents}
+use Rattle.layout.specs.All.{headerOf, Represents}
 use Rattle.decode.specs.declared.Decoded.{Decoded}
 use Rattle.decode.specs.declared.Decoded.the-variants.{Model as Accepted, Refused}
 use Rattle.decode.specs.Decodes.{Decodes}

@@ -1,7 +1,7 @@
 -- What decoding gives, by cases on the machine's answer to the questions: the number of the first "no"; or the header of the
 -- model, with tables and list cells that represent model and tape.
 use Rattle.machine.specs.All.{ℕ, _≡_, List, Validation, accept, reject}
-use Rattle.tables.specs.All.{headerOf, Represents}
+use Rattle.layout.specs.All.{headerOf, Represents}
 use Rattle.decode.specs.declared.Decoded.{Decoded}
 use Rattle.decode.specs.declared.Decoded.the-variants.{Model as Accepted, Refused}
 

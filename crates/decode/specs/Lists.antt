@@ -1,7 +1,7 @@
 -- The sample lists of a tape: for list k (from 0) cell k is the byte where its times begin, and cell 16 + k their count.
 use Rattle.machine.specs.All.{ℕ, suc, _+_, _≡_, List, [], _∷_, length, set, replicate, inForce, Cursor, Parsed, parsed, refused, Parser, fieldUpTo}
-use Rattle.tables.specs.Layout as Layout
-use Rattle.tables.specs.All.{TimesAt}
+use Rattle.layout.specs.Layout as Layout
+use Rattle.layout.specs.All.{TimesAt}
 use Rattle.decode.specs.declared.Tape.{Tape}
 use Rattle.decode.specs.declared.Tape.the-variants.{At, Refused}
 

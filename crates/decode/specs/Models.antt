@@ -1,10 +1,10 @@
 -- The whole model: its cells of the tables, and the answer to questions 3 to 7.
 use Rattle.machine.specs.All.{ℕ, _≤_, _≡_, List, length, inForce, Parsed, parsed, refused, BlockModel}
 use Rattle.machine.specs.Limits as Limits
-use Rattle.tables.specs.Layout as Layout
-use Rattle.tables.specs.All.{sumNumbers, blockNumbers, headerOf}
-use Rattle.values.specs.Rows.{storedRows, allNamed, Each}
-use Rattle.values.specs.Shapes.{sumNamed, ProperValue}
+use Rattle.layout.specs.Layout as Layout
+use Rattle.layout.specs.All.{sumNumbers, blockNumbers, headerOf}
+use Rattle.parse_values.specs.Filled.{storedRows, allNamed, Each}
+use Rattle.parse_values.specs.Shapes.{sumNamed, ProperValue}
 use Rattle.program.specs.Formed.{Formed}
 use Rattle.decode.specs.declared.Decoded.{Decoded}
 use Rattle.decode.specs.declared.Decoded.the-variants.{Model as Accepted, Refused}

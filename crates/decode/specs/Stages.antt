@@ -2,12 +2,12 @@
 use Rattle.machine.specs.All.{ℕ, _+_, _≤_, _≡_, List, length, set, replicate, sets, Parsed, parsed, refused, Parser, continue, field, times, Sum, Block, inForce, Counts, valueFields, blockField}
 use Rattle.machine.specs.Limits as Limits
 use Rattle.constants.specs.declared.model.Model.{Model}
-use Rattle.tables.specs.Layout as Layout
-use Rattle.tables.specs.All.{sumNumbers, blockNumbers}
-use Rattle.values.specs.declared.Place.{Place}
-use Rattle.values.specs.Keeps.{placeOf, numberShape}
-use Rattle.values.specs.Rows.{storedRows, allNamed, Each}
-use Rattle.values.specs.Shapes.{sumNamed, ProperValue}
+use Rattle.layout.specs.Layout as Layout
+use Rattle.layout.specs.All.{sumNumbers, blockNumbers}
+use Rattle.parse_values.specs.declared.Place.{Place}
+use Rattle.parse_values.specs.Keeps.{placeOf, numberShape}
+use Rattle.parse_values.specs.Filled.{storedRows, allNamed, Each}
+use Rattle.parse_values.specs.Shapes.{sumNamed, ProperValue}
 use Rattle.program.specs.Formed.{Formed}
 use Rattle.decode.specs.declared.Header.{Header}
 use Rattle.decode.specs.declared.Header.the-variants.{Read, Refused}

@@ -9,28 +9,28 @@ use constants::refusals::SHORT_REPORT;
 use constants::refusals::SHORT_WORK;
 use constants::refusals::TAPE_GOES_ON;
 use constants::refusals::TAPE_NUMBER;
+use layout::CAPACITIES;
+use layout::EDITION;
+use layout::LIST_CELLS;
+use layout::LIST_COUNTS;
+use layout::TABLES;
+use parse_values::Place;
+use parse_values::Stored;
+use parse_values::Taken;
+use parse_values::number;
+use parse_values::values;
 use program::blocks;
 use program::groups_whole;
 use program::single;
 use program::targets_move;
 use program::well_placed;
-use tables::CAPACITIES;
-use tables::EDITION;
-use tables::LIST_CELLS;
-use tables::LIST_COUNTS;
-use tables::TABLES;
-use values::Place;
-use values::Stored;
-use values::Taken;
-use values::number;
-use values::values;
 use watch::watch;
 ghost use Rattle.machine.specs.All.{_≡_, ℕ, _+_, _*_, _≤_, _<_, replicate, sets, inForce, field, times, maxFacilities, maxCapacity, maxLists, maxTime, listField, modelFields, modelOf, tapeOf, beginning, validate as answer};
 ghost use Rattle.codec.specs.Answers.{parsedOf};
-ghost use Rattle.values.specs.Keeps.{cursorOf, numberShape};
-ghost use Rattle.values.specs.Rows.{Rows};
-ghost use Rattle.values.specs.Shapes.{Within};
-ghost use Rattle.tables.specs.Layout as Layout;
+ghost use Rattle.parse_values.specs.Keeps.{cursorOf, numberShape};
+ghost use Rattle.parse_values.specs.Filled.{Filled};
+ghost use Rattle.parse_values.specs.Shapes.{Within};
+ghost use Rattle.layout.specs.Layout as Layout;
 ghost use Rattle.decode.specs.Stages.{emptyTables, Capacity, Stage, serversShape, serversField, thingsShape, thingsField, programShape, programField, noModel, noPlace};
 ghost use Rattle.program.specs.Shapes.{capacitiesOf};
 ghost use Rattle.decode.specs.Models.{modelShape, Models};
@@ -74,7 +74,7 @@ fn facilities(tables: &mut [u32; TABLES], count: usize)
 // The capacities of the storages, behind those of the facilities.
 fn capacities(s: &[u8], tables: &mut [u32; TABLES], m: Model, p: Place) -> Stored
     requires { ⌜ Within m ⌝ }
-    ensures { λ r. ⌜ Rows (numberShape 1 maxCapacity 1) Capacity 1 (Layout.capacities + m .facilities) p (now (tables .entry)) (now (tables .exit)) r (times (m .storages) (field (now (s .entry)) 3 1 maxCapacity) (cursorOf p)) ⌝ }
+    ensures { λ r. ⌜ Filled (numberShape 1 maxCapacity 1) Capacity 1 (Layout.capacities + m .facilities) p (now (tables .entry)) (now (tables .exit)) r (times (m .storages) (field (now (s .entry)) 3 1 maxCapacity) (cursorOf p)) ⌝ }
 {
     let mut k = 0;
     let mut q = p;

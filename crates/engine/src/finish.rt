@@ -2,12 +2,12 @@
 use crate::steps::turns;
 use constants::Model;
 use engine_laws::Outcome;
+use layout::LIST_CELLS;
+use layout::TABLES;
+use layout::TALLY;
 use report::write_report;
 use start::begin;
 use state::Scalars;
-use tables::LIST_CELLS;
-use tables::TABLES;
-use tables::TALLY;
 ghost use Rattle.machine.specs.All.{_≡_, _≤_, length, maxBlocks, maxFacilities};
 ghost use Rattle.rows_laws.specs.All.{Room};
 ghost use Rattle.state.specs.All.{rowsOf};

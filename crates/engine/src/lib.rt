@@ -9,8 +9,8 @@ use decode::decode;
 pub use engine_laws::Outcome;
 use finish::accepted;
 use finish::refused;
-use tables::LIST_CELLS;
-use tables::TABLES;
+use layout::LIST_CELLS;
+use layout::TABLES;
 ghost use Rattle.engine_laws.specs.Contract.{Contract};
 
 // Validates model and tape, runs, and writes trace and report.

@@ -1,9 +1,9 @@
 // The turns of a run, until an end.
 use crate::ends::end_before;
 use constants::Model;
+use layout::TABLES;
+use layout::TALLY;
 use state::Scalars;
-use tables::TABLES;
-use tables::TALLY;
 use turn::turn;
 ghost use Rattle.machine.specs.All.{_≡_, _≤_, length, maxBlocks, maxFacilities};
 ghost use Rattle.rows_laws.specs.All.{Room};

@@ -4,16 +4,16 @@ use Rattle.machine.proofs.decoding.Proper.{Proper}
 use Rattle.machine.proofs.decoding.ProperFrom.{proper-from}
 use Rattle.machine.proofs.nobody_able.Waiting.{Waits}
 use Rattle.machine.proofs.order.Serials.{Apart, apart-turn, apart-start, single-rel, single-ql, single-wel}
-use Rattle.tables.specs.All.{tallySize, headerOf, Represents}
+use Rattle.layout.specs.All.{tallySize, headerOf, Represents}
 use Rattle.rows_laws.specs.All.{wsl, rel, Strict}
 use Rattle.rows_laws.proofs.Ordering.{strict-of}
 use Rattle.rows_laws.proofs.KeptFirst.{fel-first, list-first, list-head}
-use Rattle.terms.proofs.NestedFrom.{nested-from}
+use Rattle.evaluation.proofs.NestedFrom.{nested-from}
 use Rattle.state.specs.All.{listsOf}
 use Rattle.state.proofs.ListsOf.{lists-ql, lists-wel, lists-rel}
 use Rattle.state.proofs.Written.{Kept, kept-start}
 use Rattle.turn_laws.specs.Turn.{Traced, traced}
-use Rattle.turn_laws.specs.Runs.{Runs}
+use Rattle.turn_laws.proofs.Runs.{Runs}
 use Rattle.start.specs.Start.{startRows}
 use Rattle.engine_laws.specs.{endOf, closeRows, turnRows, lastRows, Along, statesRows, KeepsFirsts}
 use Rattle.engine_laws.specs.Firsts.{Firsts}

@@ -3,12 +3,12 @@ use Rattle.machine.specs.All.{ℕ, _≡_, refl, sym, subst, List, length, repli
 use Rattle.machine.proofs.decoding.Proper.{Proper}
 use Rattle.machine.proofs.decoding.ProperFrom.{proper-from}
 use Rattle.machine.proofs.runs.RunLaws.{Taken}
-use Rattle.tables.specs.All.{tallySize, headerOf, Represents}
+use Rattle.layout.specs.All.{tallySize, headerOf, Represents}
 use Rattle.state.specs.All.{rowsOf, Stands}
 use Rattle.state.proofs.Written.{Kept, kept-start, kept-turn, kept-end}
 use Rattle.turn_laws.specs.Turn.{Traced, traced}
 use Rattle.turn_laws.specs.Writes.{Writes}
-use Rattle.turn_laws.specs.Runs.{Runs}
+use Rattle.turn_laws.proofs.Runs.{Runs}
 use Rattle.start.specs.Start.{startRows}
 use Rattle.engine_laws.specs.declared.outcome.Outcome.{Outcome as Results}
 use Rattle.engine_laws.specs.{endOf, closeRows, turnRows, lastRows, Finishes}

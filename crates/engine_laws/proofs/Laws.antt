@@ -2,9 +2,9 @@
 use Rattle.machine.specs.All.{ℕ, _≤_, _≡_, refl, sym, ap, _∙_, subst, List, [], Option, length, replicate, length-replicate, Transaction, traceBytes, BlockModel, State, Logged, turn, idle, start, recordsOf}
 use Rattle.machine.proofs.decoding.Proper.{Proper}
 use Rattle.machine.proofs.runs.RunLaws.{Taken}
-use Rattle.tables.specs.Layout as Layout
-use Rattle.tables.specs.All.{headerOf, Represents}
-use Rattle.terms.specs.Nested.{Nested}
+use Rattle.layout.specs.Layout as Layout
+use Rattle.layout.specs.All.{headerOf, Represents}
+use Rattle.evaluation.specs.Nested.{Nested}
 use Rattle.state.specs.All.{Rows, Stands}
 use Rattle.state.proofs.Sanity.{start-is}
 use Rattle.state.proofs.Written.{inOrder, Kept}
@@ -12,7 +12,7 @@ use Rattle.start.specs.Start.{startRows}
 use Rattle.start.proofs.Laws.{start-stands}
 use Rattle.start.proofs.Tally.{same-at}
 use Rattle.turn_laws.specs.Turn.{Traced, traced}
-use Rattle.turn_laws.specs.Runs.{Runs}
+use Rattle.turn_laws.proofs.Runs.{Runs}
 use Rattle.turn_laws.proofs.TurnLaws.{turn-runs}
 use Rattle.engine_laws.specs.{turnRows}
 use Rattle.start.proofs.AtStart.{start-moving}

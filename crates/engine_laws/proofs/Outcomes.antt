@@ -6,7 +6,7 @@ use Rattle.machine.proofs.decoding.ProperFrom.{proper-from}
 use Rattle.machine.proofs.conservation.LivingListed.{living-listed}
 use Rattle.machine.proofs.Demand3.{demand3}
 use Rattle.machine.proofs.runs.OutcomeLaws.{outcome-keeps}
-use Rattle.tables.specs.All.{headerOf, Represents}
+use Rattle.layout.specs.All.{headerOf, Represents}
 use Rattle.state.specs.All.{Rows, Stands}
 use Rattle.state.proofs.Written.{Kept}
 use Rattle.turn_laws.specs.Writes.{Writes}

@@ -3,7 +3,7 @@ use Rattle.machine.specs.All.{ℕ, _≤_, _≡_, sym, subst, List, length, inFo
 use Rattle.constants.specs.declared.model.Model.{Model}
 use Rattle.machine.proofs.decoding.Proper.{Proper}
 use Rattle.machine.proofs.decoding.ProperFrom.{proper-from}
-use Rattle.tables.specs.All.{headerOf}
+use Rattle.layout.specs.All.{headerOf}
 use Rattle.decode.specs.declared.Decoded.{Decoded}
 use Rattle.decode.specs.declared.Decoded.the-variants.{Model as Accepted, Refused}
 use Rattle.decode.specs.Decodes.{Decodes}
@@ -13,7 +13,7 @@ use Rattle.engine_laws.specs.Contract.{Contract}
 use Rattle.decode.proofs.Told.{Told, decoded-refused, decoded-model}
 use Rattle.engine_laws.proofs.Outcomes.{rooms, refused-runs}
 use Rattle.engine_laws.proofs.Following.{run-accepted}
-use Rattle.terms.proofs.NestedFrom.{nested-from}
+use Rattle.evaluation.proofs.NestedFrom.{nested-from}
 use Rattle.engine_laws.proofs.Laws.{started, turned}
 
 module _ (model tape : List ℕ) (budget : ℕ) (work trace report tables lists : List ℕ) (r : Decoded)

@@ -3,7 +3,7 @@
 -- state the code leaves: of every state before a turn and after it. `KeepsFirsts` is the claim; proved in proofs/FirstsKept.
 use Rattle.machine.specs.All.{ℕ, _<_, _≡_, List, [], _∷_, length, replicate, inForce, BlockModel, State, states, steps, accept, validate}
 use Rattle.constants.specs.declared.model.Model.{Model}
-use Rattle.tables.specs.All.{tallySize, headerOf, Represents}
+use Rattle.layout.specs.All.{tallySize, headerOf, Represents}
 use Rattle.rows_laws.specs.All.{wsl, rel, fel, outranks, sooner, KeptFirst, KeptHead}
 use Rattle.state.specs.All.{listsOf}
 use Rattle.turn_laws.specs.Turn.{Traced, traced}

@@ -1,7 +1,7 @@
 -- The row machine: a whole run of a decoded model, from the start to the results.
 use Rattle.machine.specs.All.{ℕ, _≡_, List, length, replicate}
 use Rattle.constants.specs.declared.model.Model.{Model}
-use Rattle.tables.specs.All.{tallySize}
+use Rattle.layout.specs.All.{tallySize}
 use Rattle.state.specs.declared.scalars.Scalars.{Scalars}
 use Rattle.turn_laws.specs.Turn.{Traced, traced}
 use Rattle.start.specs.Start.{startRows}

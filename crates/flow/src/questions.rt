@@ -3,20 +3,20 @@ use constants::Model;
 use constants::ends::HOLDING;
 use constants::ends::NO_PLACE;
 use constants::ends::TOO_LATE;
+use layout::HELD;
+use layout::HOLDER;
+use layout::TALLY;
+use saturating::less32;
+use saturating::plus32;
+use saturating::plus64;
 use state::Scalars;
-use state::less32;
-use state::plus32;
-use state::plus64;
-use tables::HELD;
-use tables::HOLDER;
-use tables::TALLY;
 ghost use Rattle.machine.specs.All.{_≡_, _≤_, length, maxFacilities, bit};
-ghost use Rattle.tables.specs.All.{tallySize};
+ghost use Rattle.layout.specs.All.{tallySize};
 ghost use Rattle.flow_laws.specs.Questions.{askRoom, askTime, firstNo, askArrival, heldBy, askHolding};
 
 const MAX_LIVING: u32 = Model::MAX_LIVING as u32;
 
-const RESIDUES: u64 = tables::RESIDUES as u64;
+const RESIDUES: u64 = layout::RESIDUES as u64;
 
 // "Is a living place free for each new one?"
 pub fn ask_room(x: Scalars, n: u32) -> u32

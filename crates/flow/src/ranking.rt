@@ -1,15 +1,15 @@
 // 13 PRIORITY p.
 use crate::sending::PRIORITIES;
 use crate::sending::to_ready;
+use layout::FIRST;
+use layout::number;
 use moves::go_on;
 use rows::STANDING;
 use rows::cells::write;
 use state::NOBODY;
 use state::Scalars;
-use tables::FIRST;
-use tables::number;
 ghost use Rattle.machine.specs.All.{_≡_, _+_, _<_, _≤_};
-ghost use Rattle.tables.specs.All.{programSize};
+ghost use Rattle.layout.specs.All.{programSize};
 ghost use Rattle.rows_laws.specs.All.{Room, rowCount};
 ghost use Rattle.moves.specs.Motion.{moved};
 ghost use Rattle.flow_laws.specs.Kinds.{rankOn, priorityRows};

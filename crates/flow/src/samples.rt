@@ -3,13 +3,13 @@ use codec::Read;
 use codec::read_number;
 use constants::Model;
 use flow_laws::Sample;
-use state::less64;
-use tables::LIST_AT;
-use tables::LIST_LEFT;
-use tables::count;
-use tables::set_count;
+use layout::LIST_AT;
+use layout::LIST_LEFT;
+use layout::count;
+use layout::set_count;
+use saturating::less64;
 ghost use Rattle.machine.specs.All.{_≡_, _+_, getD};
-ghost use Rattle.tables.specs.Layout as Layout;
+ghost use Rattle.layout.specs.Layout as Layout;
 ghost use Rattle.flow_laws.specs.Samples.{sampleAt, nextSample, useTime};
 
 fn sample_at(tape: &[u8], at: usize) -> Sample

@@ -1,14 +1,14 @@
 // 14 SPLIT n, target.
 use crate::questions::ask_room;
 use crate::sending::copy_one;
+use layout::FIRST;
+use layout::SECOND;
+use layout::number;
 use moves::go_on;
 use moves::stop;
 use state::Scalars;
-use tables::FIRST;
-use tables::SECOND;
-use tables::number;
 ghost use Rattle.machine.specs.All.{_≡_, _+_, _<_, _≤_};
-ghost use Rattle.tables.specs.All.{programSize};
+ghost use Rattle.layout.specs.All.{programSize};
 ghost use Rattle.rows_laws.specs.All.{Room, rowCount};
 ghost use Rattle.moves.specs.Motion.{moved};
 ghost use Rattle.flow_laws.specs.Kinds.{copiesOf, splitOn, splitRows};

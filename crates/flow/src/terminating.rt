@@ -1,20 +1,20 @@
 // 3 TERMINATE a.
 use crate::questions::ask_holding;
 use constants::ends::COUNTED;
+use layout::FIRST;
+use layout::number;
 use moves::stop;
 use rows::NUMBER;
 use rows::cells::read;
 use rows::make::free_row;
+use saturating::less32;
+use saturating::plus32;
 use state::ENTERED;
 use state::NOBODY;
 use state::Scalars;
 use state::by_fields;
-use state::less32;
-use state::plus32;
-use tables::FIRST;
-use tables::number;
 ghost use Rattle.machine.specs.All.{_≡_, cond, _+_, _<_, _≤_, leb, maxFacilities};
-ghost use Rattle.tables.specs.All.{programSize};
+ghost use Rattle.layout.specs.All.{programSize};
 ghost use Rattle.rows_laws.specs.All.{Room, rowCount};
 ghost use Rattle.moves.specs.Motion.{moved};
 ghost use Rattle.flow_laws.specs.Kinds.{endOne, terminateRows};

@@ -2,10 +2,10 @@
 use Rattle.machine.specs.All.{ℕ, suc, _+_, _-_, _≤_, _≡_, refl, ap, _∙_, false, cond, List, [], _∷_, none, arith, ne-eqb, eqb, leb, length, getD, maxClock, Transaction, advance, BlockModel, State, withNext, withReturning, setMoving, unless, askAdvance, question, delay}
 use Rattle.machine.specs.Moves as Moves
 use Rattle.machine.proofs.decoding.Proper.{Names}
-use Rattle.tables.specs.All.{blockForms}
+use Rattle.layout.specs.All.{blockForms}
 use Rattle.state.specs.declared.scalars.Scalars.{Scalars}
 use Rattle.state.specs.All.{bare, bareAnswer, rowsOf, Done}
-use Rattle.moves.specs.Before.{placeOf, bareBlock, Before}
+use Rattle.moves.proofs.Before.{placeOf, bareBlock, Before}
 use Rattle.moves.specs.Motion.{withTally, stopped}
 use Rattle.moves.proofs.BeforeLaws.{next-low, serial-low, few-lists, proper-block, operand, stop-done, asked}
 use Rattle.flow_laws.specs.declared.samples.Sample.{Sample}

@@ -3,7 +3,7 @@
 use Rattle.machine.specs.All.{ℕ, suc, _+_, _-_, _≤_, _<_, _≡_, sym, ap, _∙_, subst, List, _∷_, Option, arith, length, getD, set, drop, Transaction, newborn, State, setMade, maxClock}
 use Rattle.machine.specs.Moves as Moves
 use Rattle.machine.proofs.runs.Clocks.{Given}
-use Rattle.tables.specs.Layout as Layout
+use Rattle.layout.specs.Layout as Layout
 use Rattle.state.specs.declared.scalars.Scalars.{Scalars}
 use Rattle.state.specs.All.{Rows, rowsOf, atBlock, Listing, Seen, Serving, Queueing, Sampling, Tallying, Counting, Stands}
 use Rattle.state.proofs.StandsLaws.{entries-set, waits-set, seen-set, serving-set, queueing-set, stands-of}

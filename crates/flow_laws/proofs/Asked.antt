@@ -1,11 +1,11 @@
 -- The questions, asked of the scalars, are the machine's.
 use Rattle.machine.specs.All.{ℕ, zero, suc, _+_, _-_, _%_, _≤_, min, _≡_, refl, subst, _∙_, ap, sym, Bool, true, false, cond, not, _||_, List, _∷_, arith, le-ltb, leb-true, eqb-true, eq-eqb, ne-eqb, eqb, leb, length, getD, Rules, inForce, maxLiving, Transaction, bit, upTo, idleServer, serverAt, Block, terminate, BlockModel, State, timesLeft, unless, living, askGenerate, held, question}
-use Rattle.tables.specs.All.{most64, holder, tallySize}
+use Rattle.layout.specs.All.{most64, holder, tallySize}
 use Rattle.machine.proofs.lists.Sums.{upTo-zero}
 use Rattle.state.specs.declared.scalars.Scalars.{Scalars}
 use Rattle.state.specs.All.{ofResidue}
 use Rattle.state.proofs.Held.{held-at}
-use Rattle.moves.specs.Before.{Before}
+use Rattle.moves.proofs.Before.{Before}
 use Rattle.moves.proofs.BeforeLaws.{numbered}
 use Rattle.flow_laws.specs.{askRoom, askTime, firstNo, askArrival, heldBy, askHolding}
 

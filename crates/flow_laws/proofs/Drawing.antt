@@ -1,7 +1,7 @@
 -- The next time of a sample list: the number read is the head of the list, and after it is used the tally stands for the rest.
 use Rattle.machine.specs.All.{ℕ, _+_, _-_, _≤_, _<_, _≡_, refl, ap, _∙_, subst, _≢_, Bool, true, false, cond, _&&_, List, [], _∷_, Option, none, some, arith, ℕ-discrete, leb-true, leb, length, getD, set, drop, length-set, getD-set-same, getD-set-other, maxNumberBytes, fiveGroups, maxTime, Number, readNumber, Cursor, Parsed, parsed, refused, Parser, continue, give, times, forward, fieldOf, fieldUpTo}
-use Rattle.tables.specs.Layout as Layout
-use Rattle.tables.specs.All.{TimesAt}
+use Rattle.layout.specs.Layout as Layout
+use Rattle.layout.specs.All.{TimesAt}
 use Rattle.state.specs.All.{Sampling}
 use Rattle.flow_laws.specs.{sampleOf, sampleAt, nextSample, useTime}
 

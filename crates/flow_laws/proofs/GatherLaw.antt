@@ -1,7 +1,7 @@
 -- 18 ASSEMBLE: the row machine does what the machine does.
 use Rattle.machine.specs.All.{ℕ, suc, _+_, _-_, _%_, _≤_, _<_, _≡_, refl, sym, ap, _∙_, subst, Bool, true, false, cond, List, [], _∷_, _++_, map, map-append, none, some, arith, lt-ltb, le-ltb, eqb, length, getD, Transaction, Gatherer, precedes, insert, those, replaceFirst, setNth, Block, terminate, assemble, facts, BlockModel, blockAt, State, withNext, withSerial, withReturning, setMoving, setSerial, setEnded, setGatherers, toRel, inFamily, waitsFor, toGatherers, comes, released, question, askGathers, gathers, gathering, Each}
 use Rattle.machine.proofs.runs.Shape.{gatherers-at}
-use Rattle.tables.specs.All.{blockForms}
+use Rattle.layout.specs.All.{blockForms}
 use Rattle.rows_laws.specs.All.{head, rel, load, read, write, setReturning, removeAt, put, familyCell, lineUp, freeRow, transactionAt, ending, update, All, moved as movedLists}
 use Rattle.rows_laws.proofs.Data.{same-row, transaction-kept}
 use Rattle.rows_laws.proofs.Fields.{write-next, write-serial, set-returning}
@@ -16,7 +16,7 @@ use Rattle.state.specs.declared.scalars.Scalars.{Scalars}
 use Rattle.state.specs.All.{putMoving, putSerial, putNote, entering, goingBack, beginning, waiting, bare, bareAnswer, rowsOf, gathererRow, listsIn, listsOf, Listed, Listing, noteOf, Done}
 use Rattle.state.proofs.ListsOf.{lists-gatherers, lists-set-gatherers, lists-moved}
 use Rattle.state.proofs.StandsLaws.{listing-write, listing-put, listing-steady, renumber}
-use Rattle.moves.specs.Before.{placeOf, bareBlock, Before}
+use Rattle.moves.proofs.Before.{placeOf, bareBlock, Before}
 use Rattle.moves.specs.Motion.{moved, withTally, next32, beginWait}
 use Rattle.moves.proofs.BeforeLaws.{placed, next-low, serial-low, proper-block, operand, asked-moved}
 use Rattle.moves.proofs.MotionLaws.{next32-suc, next-read, number-read}

@@ -2,11 +2,11 @@
 use Rattle.machine.specs.All.{ℕ, suc, _+_, _-_, _≤_, _≡_, refl, ap, _∙_, false, cond, List, [], _∷_, none, some, arith, ne-eqb, eqb, length, getD, Transaction, generate, BlockModel, State, withNext, withReturning, setMoving, askGenerate, question, maxClock}
 use Rattle.machine.specs.Moves as Moves
 use Rattle.machine.proofs.decoding.Proper.{Names}
-use Rattle.tables.specs.All.{blockForms}
+use Rattle.layout.specs.All.{blockForms}
 use Rattle.state.specs.declared.scalars.Scalars.{Scalars}
 use Rattle.state.specs.All.{bare, bareAnswer, rowsOf, Stands, noteOf, Done}
 use Rattle.state.proofs.StandsLaws.{stands-moving}
-use Rattle.moves.specs.Before.{placeOf, bareBlock, Before}
+use Rattle.moves.proofs.Before.{placeOf, bareBlock, Before}
 use Rattle.moves.specs.Motion.{moved, goTo, stopped}
 use Rattle.moves.proofs.BeforeLaws.{next-low, serial-low, few-lists, proper-block, operand, asked}
 use Rattle.moves.proofs.MotionLaws.{go-to-listing, go-to-counting, next-read, go-on-is, go-on-done}

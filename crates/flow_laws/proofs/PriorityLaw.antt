@@ -1,9 +1,9 @@
 -- 13 PRIORITY: the row machine does what the machine does.
 use Rattle.machine.specs.All.{ℕ, suc, _+_, _≡_, refl, false, List, none, arith, getD, Transaction, priority, BlockModel, State, withNext, withPriority, withReturning, setMoving, toRel, question}
-use Rattle.tables.specs.All.{blockForms}
+use Rattle.layout.specs.All.{blockForms}
 use Rattle.state.specs.declared.scalars.Scalars.{Scalars}
 use Rattle.state.specs.All.{bare, bareAnswer, Done}
-use Rattle.moves.specs.Before.{placeOf, bareBlock, Before}
+use Rattle.moves.proofs.Before.{placeOf, bareBlock, Before}
 use Rattle.moves.specs.Motion.{withTally}
 use Rattle.moves.proofs.BeforeLaws.{next-low, serial-low, proper-block, operand}
 use Rattle.flow_laws.specs.{rankOn, priorityRows}

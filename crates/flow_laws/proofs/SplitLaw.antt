@@ -2,10 +2,10 @@
 use Rattle.machine.specs.All.{ℕ, zero, suc, _+_, _-_, _≤_, _≡_, refl, _∙_, subst, false, List, none, some, arith, leb, length, getD, maxLiving, Transaction, split, BlockModel, State, withNext, withReturning, setMade, setMoving, unless, question}
 use Rattle.machine.specs.Moves as Moves
 use Rattle.machine.proofs.decoding.Proper.{Names}
-use Rattle.tables.specs.All.{blockForms}
+use Rattle.layout.specs.All.{blockForms}
 use Rattle.state.specs.declared.scalars.Scalars.{Scalars}
 use Rattle.state.specs.All.{bare, Listing, Tallying, Counting, Done}
-use Rattle.moves.specs.Before.{placeOf, bareBlock, Before}
+use Rattle.moves.proofs.Before.{placeOf, bareBlock, Before}
 use Rattle.moves.specs.Motion.{moved, withTally, goTo}
 use Rattle.moves.proofs.BeforeLaws.{next-low, proper-block, operand, asked-moved}
 use Rattle.moves.proofs.MotionLaws.{go-to-listing, go-to-counting, go-on-is}

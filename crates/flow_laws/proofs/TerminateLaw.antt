@@ -1,13 +1,13 @@
 -- 3 TERMINATE: the row machine does what the machine does.
 use Rattle.machine.specs.All.{ℕ, suc, _+_, _-_, _≡_, refl, ap, _∙_, subst, cond, List, _∷_, none, some, arith, leb, getD, Transaction, Event, terminate, BlockModel, State, setMoving, question, endsOne}
-use Rattle.tables.specs.All.{blockForms}
+use Rattle.layout.specs.All.{blockForms}
 use Rattle.rows_laws.specs.All.{free, freeRow, update, Shown}
 use Rattle.rows_laws.proofs.Showing.{update-same}
 use Rattle.rows_laws.proofs.Spot.{short}
 use Rattle.rows_laws.proofs.Making.{free-shown}
 use Rattle.state.specs.declared.scalars.Scalars.{Scalars}
 use Rattle.state.specs.All.{entering, bare, rowsOf, listsOf, Listed, Listing, Counting, noteOf, Done}
-use Rattle.moves.specs.Before.{placeOf, bareBlock, Before}
+use Rattle.moves.proofs.Before.{placeOf, bareBlock, Before}
 use Rattle.moves.specs.Motion.{moved, withTally, next32}
 use Rattle.moves.proofs.BeforeLaws.{operand, asked-moved}
 use Rattle.moves.proofs.MotionLaws.{next32-suc, number-read}

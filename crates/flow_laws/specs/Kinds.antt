@@ -1,6 +1,6 @@
 -- The row machine: the five kinds. `at` is where the block stands in the tables; its operands follow its kind.
 use Rattle.machine.specs.All.{ℕ, zero, suc, _+_, _*_, _-_, _%_, cond, List, eqb, leb, getD}
-use Rattle.tables.specs.All.{listLeft}
+use Rattle.layout.specs.All.{listLeft}
 use Rattle.rows_laws.specs.All.{numberField, standingField, nextField, rowCount, read, write, freeRow}
 use Rattle.state.specs.declared.scalars.Scalars.{Scalars}
 use Rattle.state.specs.All.{putCounter, putMoving, putEnded, putEnd, putNote, Rows, rowsOf}

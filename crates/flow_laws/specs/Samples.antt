@@ -1,6 +1,6 @@
 -- The next time of a sample list: the number that stands in the tape where the tally says, read and then used.
 use Rattle.machine.specs.All.{ℕ, _+_, _-_, List, Option, none, some, getD, set, drop, maxNumberBytes, fiveGroups, Number, readNumber}
-use Rattle.tables.specs.All.{listAt, listLeft}
+use Rattle.layout.specs.All.{listAt, listLeft}
 use Rattle.flow_laws.specs.declared.samples.Sample.{Sample}
 
 unfoldable pub sampleOf : ℕ → Option Number → Sample

@@ -1,6 +1,6 @@
 -- The row machine: rows on no list go to the FEL or to REL with a fresh serial, and new rows are made for both.
 use Rattle.machine.specs.All.{ℕ, _+_, _%_, min, Bool, cond, List, ltb}
-use Rattle.tables.specs.All.{most32, most64}
+use Rattle.layout.specs.All.{most32, most64}
 use Rattle.rows_laws.specs.All.{serialField, rel, free, rowCount, write, setTime, put, first, takeFirst, schedule, newbornAt, copyAt}
 use Rattle.state.specs.declared.scalars.Scalars.{Scalars}
 use Rattle.state.specs.All.{putSerial, putMade, Rows}

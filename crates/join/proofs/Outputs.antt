@@ -1,7 +1,7 @@
 -- The two outputs of the call, pure: bytes copied to the front, two tapes end to end, and what is left where there is no room.
 use Rattle.machine.specs.All.{ℕ, _+_, _-_, _≤_, _<_, zero-add, arith, _≡_, refl, sym, ap, ap₂, _∙_, Bool, true, false, cond, _&&_, List, _++_, le-leb, lt-leb, leb-true, leb-false, leb, length, getD, take, drop, length-append, sets, length-sets, take-length}
 use Rattle.constants.specs.declared.model.Model.{Model}
-use Rattle.tables.specs.Layout as Layout
+use Rattle.layout.specs.Layout as Layout
 use Rattle.codec.specs.Writing.{written}
 use Rattle.codec.proofs.Stores.{sets-append}
 use Rattle.join.specs.declared.Joined.{Joined}

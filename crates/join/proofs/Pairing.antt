@@ -3,9 +3,9 @@ use Rattle.machine.specs.All.{ℕ, _≡_, refl, sym, ap₂, subst, _∙_, cond,
 use Rattle.machine.specs.Limits as Limits
 use Rattle.constants.specs.declared.model.Model.{Model}
 use Rattle.machine.proofs.decoding.ProperFrom.{proper-from}
-use Rattle.tables.specs.Layout as Layout
-use Rattle.tables.specs.All.{headerOf, Represents}
-use Rattle.terms.proofs.NestedFrom.{nested-from}
+use Rattle.layout.specs.Layout as Layout
+use Rattle.layout.specs.All.{headerOf, Represents}
+use Rattle.evaluation.proofs.NestedFrom.{nested-from}
 use Rattle.decode.specs.declared.Decoded.{Decoded as Answer}
 use Rattle.decode.specs.declared.Decoded.the-variants as Decode
 use Rattle.decode.specs.Decodes.{Decodes}

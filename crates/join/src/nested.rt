@@ -2,17 +2,17 @@
 use super::moving::emit;
 use constants::Model;
 use join_laws::Shift;
-use tables::VALUE_WIDTH;
-use tables::VALUES;
-use tables::number;
+use layout::VALUE_WIDTH;
+use layout::VALUES;
+use layout::number;
 ghost use Rattle.machine.specs.All.{_≡_, _+_, _≤_, _<_, length, maxValues};
-ghost use Rattle.tables.specs.All.{tablesSize};
+ghost use Rattle.layout.specs.All.{tablesSize};
 ghost use Rattle.codec.specs.Writing.{written};
 ghost use Rattle.join_laws.specs.Rows.{opened as openedTerms, signsIn, signAt, itemAt, itemsFrom, valueRow, valueRows, Wrote, puts};
 
-const VALUE_TAG: u32 = tables::VALUE_TAG as u32;
+const VALUE_TAG: u32 = layout::VALUE_TAG as u32;
 
-const COMPARISON_TAG: u32 = tables::COMPARISON_TAG as u32;
+const COMPARISON_TAG: u32 = layout::COMPARISON_TAG as u32;
 
 // Where reading and writing stand.
 struct Went {

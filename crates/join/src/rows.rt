@@ -1,10 +1,10 @@
 // Blocks and values of a part, from the tables, written as the joined model numbers them.
 use super::moving::emit;
 use join_laws::Shift;
-use tables::BLOCK_WIDTH;
-use tables::number;
+use layout::BLOCK_WIDTH;
+use layout::number;
 ghost use Rattle.machine.specs.All.{_≡_, _+_, _*_, _≤_, _<_, maxBlocks};
-ghost use Rattle.tables.specs.All.{tablesSize};
+ghost use Rattle.layout.specs.All.{tablesSize};
 ghost use Rattle.codec.specs.Writing.{written};
 ghost use Rattle.join_laws.specs.Rows.{shapeOf, roleOf, operandAt, operandsFrom, blockRow, blockRows, puts};
 

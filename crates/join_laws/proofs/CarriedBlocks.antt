@@ -1,7 +1,7 @@
 -- Blocks, carried from a part's bytes to the joined model's.
 use Rattle.machine.specs.All.{ℕ, zero, suc, _+_, _≤_, arith, _≡_, refl, sym, ap, ap₂, _∙_, Bool, true, false, List, [], _∷_, append-nil, eqb-true, leb, eqb, nth, Each, Code, codeIndex, Block, generate, advance, enter, leave, seize, release, waitServer, waitTerms, goto, assign, split, arrive, depart, preempt, giveBack, facts, compared, Counts, relationOf, codeOf, number, codeServer, storageUnits, operands, blockField}
 use Rattle.machine.specs.Limits as Limits
-use Rattle.values.proofs.Tags.{relation-number}
+use Rattle.parse_values.proofs.Tags.{relation-number}
 use Rattle.joined.specs.Join.{Part, serverIn, termIn, shareIn, conditionIn, blockIn}
 use Rattle.join_laws.specs.{ownNumber, storedTerm, storedTake, storedFree, storedWait, storedMove, storedCount, storedBlock}
 use Rattle.join_laws.proofs.Carrying.{Maps, Carries, Becomes, then, and, gives, choice, maps, walked}

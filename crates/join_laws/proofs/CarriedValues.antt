@@ -2,8 +2,8 @@
 -- what is carried is what names no block past the part's last.
 use Rattle.machine.specs.All.{ℕ, zero, suc, _+_, _≤_, arith, _≡_, refl, ap, Bool, true, false, cond, _&&_, List, [], _∷_, _++_, map, append-nil, eqb-true, eqb-false, leb-true, T, leb, eqb, length, flat, Cursor, parsed, refused, Parsed, Parser, refuse, Term, entriesOf, Sum, nothing, plus, minus, Counts, sumTerms, sumField, bracketField, comparisonField, mentionField, taggedTerm, valueTerm, valueField, inValue, valueFields, Each, allOf, termNames, sumNames}
 use Rattle.machine.specs.Limits as Limits
-use Rattle.tables.specs.All.{terms}
-use Rattle.values.proofs.Tags.{relation-number}
+use Rattle.layout.specs.All.{terms}
+use Rattle.parse_values.proofs.Tags.{relation-number}
 use Rattle.joined.specs.Join.{Part, termIn, sumIn}
 use Rattle.join_laws.specs.{storedTerm, storedTerms, storedSum}
 use Rattle.join_laws.proofs.Carrying.{Reads, Mapped, Maps, Carries, Becomes, then, and, gives, choice, maps, walked, and-both}

@@ -1,8 +1,8 @@
 -- A joined model is at most 8,632 numbers, so it fits the room that is kept for it; and there its bytes stand at the front.
 use Rattle.machine.specs.All.{ℕ, zero, suc, _+_, _*_, _-_, _≤_, _<_, zero-add, arith, _≡_, refl, sym, ap, ap₂, _∙_, List, [], _∷_, _++_, map, append-assoc, append-nil, length, getD, take, drop, length-append, length-drop, take-append-drop, sets, length-sets, sets-eq, take-append-seam, flat, numberBytes, Term, constant, minusConstant, parameter, clockTerm, entriesOf, contentOf, unitsInUse, unitsFree, facilityInUse, value, comparison, bracket, Sum, nothing, plus, minus, BlockModel}
 use Rattle.machine.specs.Limits as Limits
-use Rattle.tables.specs.Layout as Layout
-use Rattle.tables.specs.All.{termNumbers, signedTerms, sumNumbers, At, headerOf}
+use Rattle.layout.specs.Layout as Layout
+use Rattle.layout.specs.All.{termNumbers, signedTerms, sumNumbers, At, headerOf}
 use Rattle.codec.specs.Writing.{Written, written, put}
 use Rattle.codec.proofs.Stores.{sets-append}
 use Rattle.codec.proofs.Writing.{put-room}

@@ -2,10 +2,10 @@
 use Rattle.machine.specs.All.{ℕ, suc, _+_, _*_, _-_, _<_, add-zero, arith, _≡_, refl, sym, ap, ap₂, subst, _∙_, List, [], _∷_, _++_, map, append-nil, T, length, getD, replicate, length-append, length-replicate, getD-append-add, flat, Each, Sum, nothing, Block, terminate, BlockModel, blockAt}
 use Rattle.machine.specs.Limits as Limits
 use Rattle.machine.proofs.decoding.Proper.{ProperBlock, Proper}
-use Rattle.tables.specs.Layout as Layout
-use Rattle.tables.specs.All.{terms, sumNumbers, signedTerms, blockNumbers, At, headerOf, Represents}
-use Rattle.terms.specs.Nested.{nestedSum, nestedBlock, Nested}
-use Rattle.terms.proofs.Found.{at-first}
+use Rattle.layout.specs.Layout as Layout
+use Rattle.layout.specs.All.{terms, sumNumbers, signedTerms, blockNumbers, At, headerOf, Represents}
+use Rattle.evaluation.specs.Nested.{nestedSum, nestedBlock, Nested}
+use Rattle.evaluation.proofs.Found.{at-first}
 use Rattle.joined.specs.Join.{Part, first, second, sumIn, blockIn, joinModels}
 use Rattle.join_laws.specs.declared.shift.Shift.{Shift}
 use Rattle.join_laws.specs.{storedSum, storedBlock, storedModel, movedBy, valueRow, valueRows, blockRows, firstShift, secondShift, cellRow, serverRows, thingRows, allBlocks, programRows, joinedRows}

@@ -1,6 +1,6 @@
 -- How many bytes a joined model takes at most.
 use Rattle.machine.specs.All.{ℕ, zero, suc, _*_, _/_, _%_, _≤_, arith, Bool, true, false, cond, List, [], _∷_, map, eqb, length, getD, length-append, flat, numberBytes}
-use Rattle.tables.specs.Layout as Layout
+use Rattle.layout.specs.Layout as Layout
 use Rattle.codec.proofs.Numbers.{numberBytes-longest}
 use Rattle.join_laws.specs.{numbersBytes, shapeOf, operandAt, operandsFrom, blockRow, blockRows}
 use Rattle.join_laws.specs.declared.shift.Shift.{Shift}

@@ -1,6 +1,6 @@
 -- Numbers written one after the other, pure: what the functions over the tables write.
 use Rattle.machine.specs.All.{ℕ, zero, suc, _+_, _*_, _-_, _/_, _%_, _≤_, _<_, add-zero, arith, _≡_, refl, sym, ap, ap₂, subst, _∙_, Bool, true, false, cond, _&&_, List, [], _∷_, _++_, eq-eqb, ne-eqb, le-leb, lt-leb, leb, length, getD}
-use Rattle.tables.specs.Layout as Layout
+use Rattle.layout.specs.Layout as Layout
 use Rattle.codec.specs.Writing.{Written, put}
 use Rattle.join_laws.specs.declared.shift.Shift.{Shift}
 use Rattle.constants.specs.declared.model.Model.{Model}

@@ -1,8 +1,8 @@
 -- Reading one thing after the other where both stand, and the joined model's bytes.
 use Rattle.machine.specs.All.{ℕ, zero, suc, _+_, _≤_, zero-add, add-zero, suc-add, arith, _≡_, refl, sym, _∙_, fun-ext, false, List, [], _∷_, _++_, append-nil, length, Cursor, Parsed, parsed, refused, Parser, continue, _>>=_, give, times, Sum, Counts, number, valueField, valueFields, Each}
 use Rattle.machine.specs.Limits as Limits
-use Rattle.values.specs.Rows.{rowsField}
-use Rattle.values.proofs.Rows.{times-rows, values-rows}
+use Rattle.parse_values.specs.Filled.{rowsField}
+use Rattle.parse_values.proofs.Filled.{times-rows, values-rows}
 use Rattle.join_laws.proofs.Carrying.{reads-then, reads-give, reads-number, Anywhere, anywhere}
 use Rattle.join_laws.proofs.Decoded.{Between}
 

@@ -1,9 +1,9 @@
 -- The numbers that are written for a value are those that the joined model stores for it.
 use Rattle.machine.specs.All.{ℕ, suc, _+_, _-_, _≤_, _<_, add-zero, arith, _≡_, refl, sym, ap, subst, _∙_, Bool, true, false, _&&_, List, [], _∷_, _++_, append-assoc, append-nil, le-leb, lt-leb, ltb-true, T, ltb, length, getD, length-append, Term, constant, minusConstant, parameter, clockTerm, entriesOf, contentOf, unitsInUse, unitsFree, facilityInUse, value, comparison, bracket, Sum, nothing, plus, minus}
 use Rattle.machine.proofs.decoding.Groups.{and-left, and-right}
-use Rattle.tables.specs.All.{relationNumber, termNumbers, signedTerms, terms, At}
-use Rattle.terms.specs.Nested.{nestedTerm, nestedSum}
-use Rattle.terms.proofs.Found.{at-first, at-back}
+use Rattle.layout.specs.All.{relationNumber, termNumbers, signedTerms, terms, At}
+use Rattle.evaluation.specs.Nested.{nestedTerm, nestedSum}
+use Rattle.evaluation.proofs.Found.{at-first, at-back}
 use Rattle.codec.specs.Writing.{written}
 use Rattle.joined.specs.Join.{Part, termIn, sumIn}
 use Rattle.join_laws.specs.declared.shift.Shift.{Shift}

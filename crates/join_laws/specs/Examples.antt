@@ -1,6 +1,6 @@
 -- Item 13 over bytes, by computing.
 use Rattle.machine.specs.All.{ℕ, _≡_, refl, List, [], _∷_, _++_, everything}
-use Rattle.tables.specs.All.{relationNumber, terms}
+use Rattle.layout.specs.All.{relationNumber, terms}
 use Rattle.joined.specs.Join.{joinModels, joinable, serverIn, termIn, sumIn, shareIn, conditionIn, blockIn}
 use Rattle.join_laws.specs.Written.{ownNumber, storedTerm, storedTerms, storedSum, storedTake, storedFree, storedWait, storedMove, storedCount, storedBlock, storedModel, numbersBytes}
 use Rattle.join_laws.specs.Joining.{Joining, joined, refused, fitted, joinedPair, join}

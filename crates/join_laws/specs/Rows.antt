@@ -1,6 +1,6 @@
 -- The join as the code does it: the numbers of blocks and values in the tables, moved on by what they name, and written one after the other.
 use Rattle.machine.specs.All.{ℕ, zero, suc, _+_, _*_, _-_, _/_, _%_, _≡_, cond, List, [], _∷_, _++_, ltb, leb, eqb, length, getD}
-use Rattle.tables.specs.Layout as Layout
+use Rattle.layout.specs.Layout as Layout
 use Rattle.codec.specs.Writing.{Written, put}
 use Rattle.join_laws.specs.declared.shift.Shift.{Shift}
 

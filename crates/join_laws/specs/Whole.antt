@@ -2,8 +2,8 @@
 use Rattle.machine.specs.All.{ℕ, zero, suc, _+_, _≤_, _≡_, Bool, true, cond, _&&_, List, [], _∷_, _++_, leb, eqb, length, getD, drop}
 use Rattle.machine.specs.Limits as Limits
 use Rattle.constants.specs.declared.model.Model.{Model}
-use Rattle.tables.specs.Layout as Layout
-use Rattle.values.specs.Shapes.{Within}
+use Rattle.layout.specs.Layout as Layout
+use Rattle.parse_values.specs.Shapes.{Within}
 use Rattle.join_laws.specs.declared.shift.Shift.{Shift}
 use Rattle.join_laws.specs.Written.{numbersBytes}
 use Rattle.join_laws.specs.Joining.{Joining, refused, fitted}

@@ -1,7 +1,7 @@
 -- A model as document 01 stores it: Bytes, "Model: edition (1); facilities 0..32; .." and Blocks, "Kind and operands as stored".
 -- The bytes of a joined model are read as that model again (../proofs/Accepted.antt).
 use Rattle.machine.specs.All.{ℕ, zero, suc, _-_, cond, List, [], _∷_, _++_, map, leb, length, flat, numberBytes, Term, constant, minusConstant, parameter, clockTerm, entriesOf, contentOf, unitsInUse, unitsFree, facilityInUse, value, comparison, bracket, Sum, nothing, plus, minus, Condition, always, whenTrue, Code, codeIndex, Share, facility, storage, Change, up, down, Block, generate, advance, terminate, takes, frees, waitServer, waitTerms, moves, assign, priority, split, counts, assemble, preempt, giveBack, BlockModel}
-use Rattle.tables.specs.All.{relationNumber, terms}
+use Rattle.layout.specs.All.{relationNumber, terms}
 
 module _ (facilities : ℕ) where
   -- "numbered from 1": a server by its number among the facilities, or among the storages

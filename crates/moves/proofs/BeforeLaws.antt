@@ -3,12 +3,13 @@ use Rattle.machine.specs.All.{ℕ, zero, suc, _+_, _-_, _≤_, _<_, _≡_, refl
 use Rattle.machine.proofs.decoding.Proper.{Names, ProperBlock}
 use Rattle.machine.proofs.runs.Placed.{Placed}
 use Rattle.machine.proofs.runs.Everybody.{Maybe}
-use Rattle.tables.specs.All.{blockNumbers}
-use Rattle.tables.proofs.Operands as Operands
+use Rattle.layout.specs.All.{blockNumbers}
+use Rattle.layout.proofs.Operands as Operands
 use Rattle.state.specs.declared.scalars.Scalars.{Scalars}
 use Rattle.state.specs.All.{bare, bareAnswer, Rows, rowsOf, Stands, noteOf, Done}
-use Rattle.moves.specs.{placeOf, Moved, moved, withTally, stopped}
-use Rattle.moves.specs.Before.{Before}
+use Rattle.moves.specs.{Moved, moved, withTally, stopped}
+use Rattle.moves.proofs.Before.{placeOf}
+use Rattle.moves.proofs.Before.{Before}
 
 module _ {m : BlockModel} {tape : List (List ℕ)} {tapeBytes tables lists w tally : List ℕ} {x : Scalars} {t : Transaction} {s : State} {b : Block}
     (h : Before m tape tapeBytes tables lists w tally x t s b) where

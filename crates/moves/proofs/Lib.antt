@@ -1,2 +1,3 @@
 pub mod BeforeLaws
 pub mod MotionLaws
+pub mod Before

@@ -1,4 +1,2 @@
-pub mod Before
 pub mod Motion
-pub use Before.*
 unfoldable pub use Motion.*

@@ -1,6 +1,6 @@
 -- The row machine: how the moving transaction goes on or comes to wait.
 use Rattle.machine.specs.All.{ℕ, _+_, _-_, _%_, min, cond, List, eqb}
-use Rattle.tables.specs.All.{most32}
+use Rattle.layout.specs.All.{most32}
 use Rattle.rows_laws.specs.All.{standingField, nextField, serialField, rowCount, read, write, setReturning, lineUp}
 use Rattle.state.specs.declared.scalars.Scalars.{Scalars}
 use Rattle.state.specs.All.{putMoving, putSerial, putEnd, putNote, Rows, rowsOf}

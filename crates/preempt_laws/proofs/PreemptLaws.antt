@@ -6,7 +6,7 @@ use Rattle.machine.specs.Execute as Execute
 use Rattle.machine.proofs.decoding.Proper.{Names, servers}
 use Rattle.machine.proofs.lists.Sorted.{each-those}
 use Rattle.machine.proofs.lists.Chosen.{those-insert, those-one, those-else, those-replaced}
-use Rattle.tables.specs.All.{blockForms}
+use Rattle.layout.specs.All.{blockForms}
 use Rattle.rows_laws.specs.All.{fel, holderCell, load, read, write, priorityOf, timeOf, setTime, put, first, takeFirst, schedule, cancel, loses, findLoser, transactionAt, eventAt, update, All, Sorted}
 use Rattle.rows_laws.proofs.Data.{transaction-kept}
 use Rattle.rows_laws.proofs.Fields.{write-serial, write-stamp, write-time}
@@ -22,7 +22,7 @@ use Rattle.state.specs.All.{putSerial, updateServer, interruptedRow, listsIn, l
 use Rattle.state.proofs.Alone.{alone}
 use Rattle.state.proofs.ListsOf.{lists-interrupted, lists-set-interrupted}
 use Rattle.state.proofs.StandsLaws.{listing-steady, renumber}
-use Rattle.moves.specs.Before.{placeOf, bareBlock, Before}
+use Rattle.moves.proofs.Before.{placeOf, bareBlock, Before}
 use Rattle.moves.specs.Motion.{moved, next32}
 use Rattle.moves.proofs.BeforeLaws.{next-low, serial-low, proper-block, operand, asked}
 use Rattle.moves.proofs.MotionLaws.{next32-suc, number-read}

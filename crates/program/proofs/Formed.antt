@@ -1,7 +1,7 @@
 -- Each kind of block, with operands in their ranges, is formed (specs/Formed).
 use Rattle.machine.specs.All.{ℕ, zero, suc, _-_, _≤_, _<_, arith, _≡_, refl, ap, Bool, true, false, _&&_, _||_, true≢false, List, [], _∷_, _++_, T, eqb, length, getD, length-append, ne-eqb, lt-ltb, Term, Relation, Facts, Block, Code, codeIndex, welIndex, generate, terminate, waitServer, waitTerms, branch, goto, assign, split, facts}
-use Rattle.tables.specs.All.{blockForms, blockNumbers, termNumbers, relationNumber, smallBlock, smallTerm}
-use Rattle.values.proofs.Steps.{both}
+use Rattle.layout.specs.All.{blockForms, blockNumbers, termNumbers, relationNumber, smallBlock, smallTerm}
+use Rattle.parse_values.proofs.Steps.{both}
 use Rattle.program.specs.{targetFrom, backFrom, targetInside}
 use Rattle.program.specs.Formed.{Formed}
 

@@ -1,8 +1,8 @@
 -- Question 7, pure: over rows one by one, and what the rows say is what the machine asks.
 use Rattle.machine.specs.All.{cases, ℕ, zero, suc, _+_, _*_, _-_, _≤_, _<_, arith, _≡_, refl, sym, ap, ap₂, _∙_, Bool, true, false, cond, not, _&&_, _||_, List, [], _∷_, eqb, ltb, leb, T, ltb→lt, length, getD, eqb-true, eqb-false, le-leb, lt-leb, ltb-true, ltb-false, lt-ltb, bit, upTo, Block, facts, terminate, BlockModel, blockAt, backAt, insideGroup, isGenerate, wellPlaced, allOf, joined}
-use Rattle.tables.specs.All.{blockNumbers}
-use Rattle.values.specs.Rows.{Each}
-use Rattle.values.proofs.Rows.{each-at}
+use Rattle.layout.specs.All.{blockNumbers}
+use Rattle.parse_values.specs.Filled.{Each}
+use Rattle.parse_values.proofs.Filled.{each-at}
 use Rattle.program.specs.{leavesKind, targetFrom, backFrom, targetInside, namesGenerate, reachesFrom, insideFrom, namesInside, misnames, placedFrom, targetsFrom, waitsAfter, joinedFrom}
 use Rattle.program.specs.Formed.{Formed}
 

@@ -1,19 +1,19 @@
 -- What each function over operands keeps, pure: from what its calls kept, by the machine's `operands` at each kind.
 use Rattle.machine.specs.All.{ℕ, suc, _+_, _*_, _-_, _≤_, _<_, le-antisymm, arith, _≡_, refl, sym, ap, _∙_, List, [], _∷_, _++_, append-assoc, length, getD, take, drop, length-append, length-drop, sets, length-sets, getD-set-other, getD-take, getD-drop, ext-getD, le-leb, lt-leb, nth, Cursor, Parsed, parsed, refused, Parser, continue, field, Term, codeIndex, Block, generate, advance, terminate, seize, release, enter, leave, waitServer, waitTerms, branch, goto, assign, priority, split, arrive, depart, assemble, preempt, giveBack, Counts, blockTerm, relationOf, codeOf, codeServer, storageUnits, operands, blockField}
 use Rattle.constants.specs.declared.model.Model.{Model}
-use Rattle.tables.specs.All.{blockForms, termNumbers, blockNumbers}
-use Rattle.values.specs.declared.Place.{Place}
-use Rattle.values.specs.declared.Range.{Range}
-use Rattle.values.specs.declared.Taken.{Taken}
-use Rattle.values.specs.declared.Taken.the-variants.{Number, Refused as NotTaken}
-use Rattle.values.specs.declared.Stored.{Stored}
-use Rattle.values.specs.declared.Stored.the-variants.{Done, Refused}
-use Rattle.values.specs.Keeps.{cursorOf, placeOf, Shape, Takes, Stores, numberShape}
-use Rattle.values.specs.Shapes.{countsOf, range, blockTermShape}
-use Rattle.values.proofs.Binds.{takes-refused, takes-known, takes-stop, takes-bind, stores-stop, stores-bind, stores-last, stores-as}
-use Rattle.values.proofs.Steps.{sets-then}
-use Rattle.values.proofs.Cells.{sets-above}
-use Rattle.values.proofs.Tags.{by-tag, relation-number}
+use Rattle.layout.specs.All.{blockForms, termNumbers, blockNumbers}
+use Rattle.parse_values.specs.declared.Place.{Place}
+use Rattle.parse_values.specs.declared.Range.{Range}
+use Rattle.parse_values.specs.declared.Taken.{Taken}
+use Rattle.parse_values.specs.declared.Taken.the-variants.{Number, Refused as NotTaken}
+use Rattle.parse_values.specs.declared.Stored.{Stored}
+use Rattle.parse_values.specs.declared.Stored.the-variants.{Done, Refused}
+use Rattle.parse_values.specs.Keeps.{cursorOf, placeOf, Shape, Takes, Stores, numberShape}
+use Rattle.parse_values.specs.Shapes.{countsOf, range, blockTermShape}
+use Rattle.parse_values.proofs.Binds.{takes-refused, takes-known, takes-stop, takes-bind, stores-stop, stores-bind, stores-last, stores-as}
+use Rattle.parse_values.proofs.Steps.{sets-then}
+use Rattle.parse_values.proofs.Cells.{sets-above}
+use Rattle.parse_values.proofs.Tags.{by-tag, relation-number}
 use Rattle.program.specs.Formed.{Formed}
 use Rattle.program.specs.{pairField, pairShape, Pair, unitsField, unitsShape, watchedField, watchedShape, comparedField, comparedShape, operandsShape, blockShape, capacitiesOf}
 use Rattle.program.proofs.Formed.{formed-plain, formed-generate, formed-terminate, formed-wait-server, joined-row, formed-wait-terms, formed-branch, formed-goto, formed-assign, formed-split}

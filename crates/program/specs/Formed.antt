@@ -1,6 +1,6 @@
 -- Question 7 over rows of numbers, and what is known of a block that was read.
 use Rattle.machine.specs.All.{ℕ, zero, suc, _+_, _*_, _-_, _≤_, _≡_, Bool, true, false, cond, not, _&&_, _||_, List, eqb, ltb, leb, T, length, getD, maxBack, Block, facts, isGenerate}
-use Rattle.tables.specs.All.{blockNumbers, smallBlock}
+use Rattle.layout.specs.All.{blockNumbers, smallBlock}
 
 -- ---- By the numbers of a row
 

@@ -1,10 +1,10 @@
 -- How operands and blocks are kept in the tables.
 use Rattle.machine.specs.All.{ℕ, _+_, _-_, _≤_, _≡_, List, [], _∷_, _++_, T, length, take, drop, nth, Parser, parsed, continue, field, Term, codeIndex, Block, Counts, blockTerm, codeOf, codeServer}
 use Rattle.constants.specs.declared.model.Model.{Model}
-use Rattle.tables.specs.Layout as Layout
-use Rattle.tables.specs.All.{termNumbers, blockNumbers, smallTerm}
-use Rattle.values.specs.declared.Range.{Range}
-use Rattle.values.specs.Keeps.{Shape}
+use Rattle.layout.specs.Layout as Layout
+use Rattle.layout.specs.All.{termNumbers, blockNumbers, smallTerm}
+use Rattle.parse_values.specs.declared.Range.{Range}
+use Rattle.parse_values.specs.Keeps.{Shape}
 use Rattle.program.specs.Formed.{Formed}
 
 -- the kinds with operands of a shape of their own

@@ -9,29 +9,29 @@ use constants::kinds::KINDS;
 use constants::kinds::SPLIT;
 use constants::kinds::TERMINATE;
 use constants::kinds::WAIT_SERVER;
-use tables::BLOCK_WIDTH;
-use tables::BRANCH_TARGET;
-use tables::CAPACITIES;
-use tables::CODES;
-use tables::FIRST;
-use tables::RELATION;
-use tables::RELATIONS;
-use tables::RIGHT;
-use tables::SECOND;
-use tables::TABLES;
-use tables::THIRD;
-use tables::number;
-use values::Place;
-use values::Range;
-use values::Stored;
-use values::Taken;
-use values::block_term;
-use values::keep;
+use layout::BLOCK_WIDTH;
+use layout::BRANCH_TARGET;
+use layout::CAPACITIES;
+use layout::CODES;
+use layout::FIRST;
+use layout::RELATION;
+use layout::RELATIONS;
+use layout::RIGHT;
+use layout::SECOND;
+use layout::TABLES;
+use layout::THIRD;
+use layout::number;
+use parse_values::Place;
+use parse_values::Range;
+use parse_values::Stored;
+use parse_values::Taken;
+use parse_values::block_term;
+use parse_values::keep;
 ghost use Rattle.machine.specs.All.{_≡_, true, _&&_, not, _+_, _*_, _≤_, _<_, eqb, maxBack, maxBlocks, inForce, field, times, operands as operandsField, blockField};
-ghost use Rattle.tables.specs.All.{blockWidth, programSize, tablesSize, wordEnd};
-ghost use Rattle.values.specs.Keeps.{Fits, Stores, cursorOf, numberShape};
-ghost use Rattle.values.specs.Rows.{Rows};
-ghost use Rattle.values.specs.Shapes.{Within, countsOf};
+ghost use Rattle.layout.specs.All.{blockWidth, programSize, tablesSize, wordEnd};
+ghost use Rattle.parse_values.specs.Keeps.{Fits, Stores, cursorOf, numberShape};
+ghost use Rattle.parse_values.specs.Filled.{Filled};
+ghost use Rattle.parse_values.specs.Shapes.{Within, countsOf};
 ghost use Rattle.program.specs.Shapes.{joinedKind, branchKind, assignKind, pairField, pairShape, unitsField, unitsShape, watchedField, watchedShape, comparedField, comparedShape, operandsShape, blockShape, capacitiesOf};
 ghost use Rattle.program.specs.Formed.{Formed, leavesKind, targetFrom, namesGenerate, backFrom, reachesFrom, insideFrom, namesInside, misnames, waitsAfter, placedFrom, targetsFrom, joinedFrom};
 
@@ -224,7 +224,7 @@ fn block(s: &[u8], tables: &mut [u32; TABLES], b: usize, m: Model, p: Place) -> 
 // All blocks.
 pub fn blocks(s: &[u8], tables: &mut [u32; TABLES], m: Model, p: Place) -> Stored
     requires { ⌜ Within m ⌝ }
-    ensures { λ r. ⌜ Rows (blockShape (m .blocks)) (Formed (m .blocks)) blockWidth 0 p (now (tables .entry)) (now (tables .exit)) r (times (m .blocks) (blockField (now (s .entry)) (inForce .kinds) (countsOf m) (capacitiesOf m (now (tables .entry)))) (cursorOf p)) ⌝ }
+    ensures { λ r. ⌜ Filled (blockShape (m .blocks)) (Formed (m .blocks)) blockWidth 0 p (now (tables .entry)) (now (tables .exit)) r (times (m .blocks) (blockField (now (s .entry)) (inForce .kinds) (countsOf m) (capacitiesOf m (now (tables .entry)))) (cursorOf p)) ⌝ }
 {
     let mut b = 0;
     let mut q = p;

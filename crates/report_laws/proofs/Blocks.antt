@@ -1,9 +1,9 @@
 -- The blocks of the tables that take a server or fill a queue are those that the machine's facts name.
 use Rattle.machine.specs.All.{cases, ℕ, suc, _+_, _*_, _-_, _≤_, _<_, add-zero, arith, _≡_, refl, sym, ap, _∙_, subst, Bool, true, false, cond, List, _∷_, eq-eqb, ne-eqb, eqb-true, eqb-false, eqb, length, getD, drop, getD-take, getD-drop, Block, terminate, facility, storage, facts, BlockModel, blockAt}
 use Rattle.machine.proofs.decoding.Proper.{Proper, ProperBlock}
-use Rattle.tables.specs.All.{blockForms, blockNumbers, At, Represents}
+use Rattle.layout.specs.All.{blockForms, blockNumbers, At, Represents}
 use Rattle.report_laws.specs.{names}
-use Rattle.tables.proofs.BlockKinds.{Kinds, generating, taking, waiting, arriving, preempting, other, kinds, unasked}
+use Rattle.layout.proofs.BlockKinds.{Kinds, generating, taking, waiting, arriving, preempting, other, kinds, unasked}
 
 -- ---- Numbers of the tables
 

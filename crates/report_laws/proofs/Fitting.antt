@@ -7,7 +7,7 @@ use Rattle.machine.proofs.runs.Everybody.{Maybe, Everybody}
 use Rattle.machine.proofs.conservation.Conservation.{Sound, Conserved, sound-conserved}
 use Rattle.codec.proofs.Numbers.{numberBytes-length, numberBytes-longest}
 use Rattle.codec.proofs.Stores.{sets-append}
-use Rattle.state.specs.All.{Sane}
+use Rattle.state.proofs.Sane.{Sane}
 use Rattle.state.proofs.Gains.{map-each}
 use Rattle.state.proofs.Numbered.{Numbered, numbered}
 use Rattle.report_laws.specs.{written, putAll}

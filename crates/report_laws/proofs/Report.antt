@@ -4,9 +4,10 @@ use Rattle.machine.specs.All.{ℕ, zero, suc, _+_, _≤_, _<_, min, add-zero, a
 use Rattle.machine.proofs.decoding.Proper.{Proper, Names, servers}
 use Rattle.machine.proofs.runs.RunLaws.{each-map}
 use Rattle.machine.proofs.conservation.Conservation.{Sound, stands-at-most-once}
-use Rattle.tables.specs.Layout as Layout
-use Rattle.tables.specs.All.{headerOf, Represents}
-use Rattle.state.specs.All.{Sane, atBlock, Rows, Stands}
+use Rattle.layout.specs.Layout as Layout
+use Rattle.layout.specs.All.{headerOf, Represents}
+use Rattle.state.specs.All.{atBlock, Rows, Stands}
+use Rattle.state.proofs.Sane.{Sane}
 use Rattle.state.proofs.Written.{Traced}
 use Rattle.report_laws.specs.{Written, written, putAll, serverRow, queueRow, rowsTo, livingNumbers, rowNumbers}
 use Rattle.report_laws.proofs.Blocks.{takes-server, fills-queue}

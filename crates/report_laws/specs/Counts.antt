@@ -1,6 +1,6 @@
 -- The numbers of one server and of one queue, from tables and tally. Servers, queues and blocks are indices from 0.
 use Rattle.machine.specs.All.{ℕ, zero, suc, _+_, _*_, min, Bool, false, true, cond, List, [], _∷_, _++_, eqb, getD}
-use Rattle.tables.specs.Layout as Layout
+use Rattle.layout.specs.Layout as Layout
 use Rattle.state.specs.All.{sumNow, longestNow}
 
 -- ---- Records at the blocks that name something

@@ -1,24 +1,24 @@
 // Units, holders, capacities and status codes of servers.
-use state::less64;
-use state::plus64;
+use layout::CAPACITIES;
+use layout::HELD;
+use layout::HOLDER;
+use layout::IN_USE;
+use layout::PREEMPTED;
+use layout::TALLY;
+use layout::count;
+use layout::number;
+use saturating::less64;
+use saturating::plus64;
 use state::update_server;
-use tables::CAPACITIES;
-use tables::HELD;
-use tables::HOLDER;
-use tables::IN_USE;
-use tables::PREEMPTED;
-use tables::TALLY;
-use tables::count;
-use tables::number;
 ghost use Rattle.machine.specs.All.{_≡_, _+_, _<_, _≤_, length};
-ghost use Rattle.tables.specs.All.{serverCount, wordEnd, tallySize};
+ghost use Rattle.layout.specs.All.{serverCount, wordEnd, tallySize};
 ghost use Rattle.servers_laws.specs.Units.{serverAt, inUse, holder, preempted, residueCell, heldLess, heldMore, storeUse, setUse, changeUse, capacity, statusOf};
 
-const SERVERS: u32 = tables::SERVERS as u32;
+const SERVERS: u32 = layout::SERVERS as u32;
 
-const RESIDUES: u64 = tables::RESIDUES as u64;
+const RESIDUES: u64 = layout::RESIDUES as u64;
 
-pub const CODES: u32 = tables::CODES as u32;
+pub const CODES: u32 = layout::CODES as u32;
 
 // The server that a block names at an index of the tables.
 pub fn server_at(tables: &[u32], at: usize) -> u32

@@ -4,9 +4,9 @@ use Rattle.machine.proofs.lists.Sums.{upTo-zero}
 use Rattle.machine.proofs.decoding.Proper.{Proper}
 use Rattle.machine.proofs.runs.Placed.{goes-on}
 use Rattle.machine.proofs.decoding.Groups.{begins, blocks-placed, group-waits}
-use Rattle.tables.specs.All.{blockForms, blockNumbers, Represents}
-use Rattle.tables.proofs.Operands.{operand}
-use Rattle.tables.proofs.BlockKinds.{Waits, closing, plain, elsewhere, waits}
+use Rattle.layout.specs.All.{blockForms, blockNumbers, Represents}
+use Rattle.layout.proofs.Operands.{operand}
+use Rattle.layout.proofs.BlockKinds.{Waits, closing, plain, elsewhere, waits}
 use Rattle.servers_laws.specs.{beginsFrom}
 
 -- ---- One block behind the other, c blocks behind the first

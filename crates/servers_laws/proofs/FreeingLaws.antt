@@ -8,11 +8,11 @@ use Rattle.machine.proofs.runs.Placed.{Placed}
 use Rattle.machine.proofs.nobody_able.Waiting.{AtServer}
 use Rattle.machine.proofs.nobody_able.QueueRemove.{walk, walk-same, within, leftAfter, leave-walks, some-units}
 use Rattle.machine.proofs.runs.Shape.{each-getD}
-use Rattle.tables.specs.All.{blockForms, Represents}
+use Rattle.layout.specs.All.{blockForms, Represents}
 use Rattle.rows_laws.specs.All.{transactionAt}
 use Rattle.state.specs.declared.scalars.Scalars.{Scalars}
 use Rattle.state.specs.All.{behind, updateServer, rowsOf, Done, entering, bare, bareAnswer}
-use Rattle.moves.specs.Before.{placeOf, bareBlock, Before}
+use Rattle.moves.proofs.Before.{placeOf, bareBlock, Before}
 use Rattle.moves.specs.Motion.{stopped}
 use Rattle.moves.proofs.BeforeLaws.{next-low, proper-block, operand, stop-done, asked}
 use Rattle.moves.proofs.MotionLaws.{number-read}

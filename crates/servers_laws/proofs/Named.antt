@@ -2,9 +2,9 @@
 use Rattle.machine.specs.All.{ℕ, _+_, _*_, _-_, _%_, _≤_, _≡_, refl, sym, ap, _∙_, subst, false, List, [], _∷_, arith, eqb, length, getD, Server, Code, U, NU, E, NE, F, NF, status, codeIndex, Block, facility, storage, facts, BlockModel, blockAt}
 use Rattle.machine.specs.Term
 use Rattle.machine.proofs.decoding.Proper.{Proper, Names}
-use Rattle.tables.specs.All.{blockForms, blockNumbers, At, Represents}
-use Rattle.tables.proofs.BlockKinds.{Kinds, generating, taking, waiting, arriving, preempting, other, kinds, unasked}
-use Rattle.tables.proofs.Operands.{at-number}
+use Rattle.layout.specs.All.{blockForms, blockNumbers, At, Represents}
+use Rattle.layout.proofs.BlockKinds.{Kinds, generating, taking, waiting, arriving, preempting, other, kinds, unasked}
+use Rattle.layout.proofs.Operands.{at-number}
 use Rattle.servers_laws.specs.{serverAt, inUse, capacity, statusOf, unitsAt}
 
 -- ---- Units that a block takes

@@ -4,7 +4,7 @@ use Rattle.machine.specs.Term
 use Rattle.machine.proofs.decoding.Proper.{servers}
 use Rattle.machine.proofs.runs.Shape.{capacityOf, each-getD, server-length, ql-at, wel-at}
 use Rattle.state.specs.declared.scalars.Scalars.{Scalars}
-use Rattle.moves.specs.Before.{Before}
+use Rattle.moves.proofs.Before.{Before}
 use Rattle.moves.proofs.BeforeLaws.{few-lists}
 use Rattle.servers_laws.specs.{inUse, holder, preempted, capacity}
 use Rattle.servers_laws.proofs.Ready.{Ready}

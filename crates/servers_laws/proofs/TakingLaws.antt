@@ -4,10 +4,10 @@ use Rattle.machine.specs.Term
 use Rattle.machine.specs.Moves as Moves
 use Rattle.machine.specs.Execute as Execute
 use Rattle.machine.proofs.decoding.Proper.{Names, Storage, servers}
-use Rattle.tables.specs.All.{blockForms}
+use Rattle.layout.specs.All.{blockForms}
 use Rattle.state.specs.declared.scalars.Scalars.{Scalars}
 use Rattle.state.specs.All.{behind, updateServer, Tallying, Done, entering, waiting, bare, bareAnswer}
-use Rattle.moves.specs.Before.{placeOf, bareBlock, Before}
+use Rattle.moves.proofs.Before.{placeOf, bareBlock, Before}
 use Rattle.moves.proofs.BeforeLaws.{next-low, serial-low, few-lists, proper-block, operand}
 use Rattle.moves.proofs.MotionLaws.{number-read, Puts, puts-ql, wait-on-done}
 use Rattle.servers_laws.specs.{holdUnits, longer, queueUp, takeUnits, seizeRows, enterRows}

@@ -4,8 +4,8 @@ use Rattle.machine.specs.Term
 use Rattle.machine.specs.Moves as Moves
 use Rattle.machine.proofs.lists.Sums.{sum-length}
 use Rattle.machine.proofs.lists.Lines.{sum-lineUp}
-use Rattle.tables.specs.Layout as Layout
-use Rattle.tables.specs.All.{most64}
+use Rattle.layout.specs.Layout as Layout
+use Rattle.layout.specs.All.{most64}
 use Rattle.state.specs.All.{behind, sumNow, longestNow, ofResidue, heldIn, Tallying}
 use Rattle.state.proofs.StandsLaws.{entries-set, waits-set, pair-set, seen-same, seen-set, queueing-same, queueing-set, sampling-same, sampling-set}
 use Rattle.state.proofs.Held.{held-most, held-at, held-set}

@@ -4,11 +4,11 @@ use Rattle.machine.specs.Term
 use Rattle.machine.specs.Moves as Moves
 use Rattle.machine.proofs.decoding.Proper.{CodeServer, servers}
 use Rattle.machine.proofs.runs.Shape.{wel-below}
-use Rattle.tables.specs.All.{blockForms}
+use Rattle.layout.specs.All.{blockForms}
 use Rattle.rows_laws.specs.All.{timeOf, setTime, transactionAt, wakeFirst}
 use Rattle.state.specs.declared.scalars.Scalars.{Scalars}
 use Rattle.state.specs.All.{Listing, Done, entering, goingBack, waiting, bare, bareAnswer}
-use Rattle.moves.specs.Before.{placeOf, bareBlock, Before}
+use Rattle.moves.proofs.Before.{placeOf, bareBlock, Before}
 use Rattle.moves.specs.Motion.{withTally, waitOn}
 use Rattle.moves.proofs.BeforeLaws.{placed, next-low, serial-low, proper-block, operand}
 use Rattle.moves.proofs.MotionLaws.{Puts, puts-wel, wait-on-done, go-on-done, go-back-done}

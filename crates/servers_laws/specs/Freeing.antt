@@ -1,6 +1,6 @@
 -- The row machine: 5 RELEASE and 7 LEAVE.
 use Rattle.machine.specs.All.{ℕ, _+_, _-_, cond, List, ltb, eqb, getD, set}
-use Rattle.tables.specs.Layout as Layout
+use Rattle.layout.specs.Layout as Layout
 use Rattle.rows_laws.specs.All.{head, numberField, read, wakeFirst, wakeWalk}
 use Rattle.state.specs.declared.scalars.Scalars.{Scalars}
 use Rattle.state.specs.All.{Rows, rowsOf}

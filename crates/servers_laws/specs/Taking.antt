@@ -1,6 +1,6 @@
 -- The row machine: 4 SEIZE and 6 ENTER.
 use Rattle.machine.specs.All.{ℕ, _+_, _-_, min, cond, List, leb, getD, set}
-use Rattle.tables.specs.Layout as Layout
+use Rattle.layout.specs.Layout as Layout
 use Rattle.rows_laws.specs.All.{numberField, read, keepHolder}
 use Rattle.state.specs.declared.scalars.Scalars.{Scalars}
 use Rattle.state.specs.All.{updateServer, Rows}

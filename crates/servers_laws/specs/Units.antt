@@ -1,6 +1,6 @@
 -- The row machine: units, holders, capacities and status codes of servers, which count from 0 here.
 use Rattle.machine.specs.All.{ℕ, _+_, _-_, _%_, min, Bool, cond, not, List, ltb, eqb, length, getD, set}
-use Rattle.tables.specs.Layout as Layout
+use Rattle.layout.specs.Layout as Layout
 use Rattle.state.specs.All.{updateServer}
 
 -- the server that a block names at an index of the tables

@@ -1,6 +1,6 @@
 -- The row machine: 8 WAITIF code, server, and 17 code, server, back count.
 use Rattle.machine.specs.All.{ℕ, zero, suc, _+_, _*_, _%_, Bool, false, cond, _&&_, List, ltb, eqb, getD, maxBack}
-use Rattle.tables.specs.All.{codeCount, edition}
+use Rattle.layout.specs.All.{codeCount, edition}
 use Rattle.rows_laws.specs.All.{wels, timeOf, setTime, wakeFirst}
 use Rattle.state.specs.declared.scalars.Scalars.{Scalars}
 use Rattle.moves.specs.Motion.{Moved, goOn, goBack, waitOn}

@@ -1,6 +1,6 @@
 -- The row machine: whom a change of a server's units wakes.
 use Rattle.machine.specs.All.{ℕ, zero, suc, _+_, _*_, _-_, _%_, Bool, cond, List, ltb, leb, eqb, getD, set, maxBlocks}
-use Rattle.tables.specs.Layout as Layout
+use Rattle.layout.specs.Layout as Layout
 use Rattle.rows_laws.specs.All.{nextField, wels, rowCount, load, read, wakeFirst, passRows, passCell}
 use Rattle.servers_laws.specs.Units.{statusOf}
 

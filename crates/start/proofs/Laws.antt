@@ -3,7 +3,7 @@ use Rattle.machine.specs.All.{ℕ, suc, _+_, _-_, _*_, _≤_, _<_, _≡_, refl,
 use Rattle.machine.specs.Moves as Moves
 use Rattle.machine.proofs.runs.Clocks.{Given, with-fresh}
 use Rattle.machine.proofs.decoding.Proper.{Names, ProperBlock, Proper}
-use Rattle.tables.specs.All.{tallySize, blockForms, blockNumbers, headerOf, Represents}
+use Rattle.layout.specs.All.{tallySize, blockForms, blockNumbers, headerOf, Represents}
 use Rattle.rows_laws.specs.All.{initial, onLists, Shows}
 use Rattle.rows_laws.proofs.Sums.{sum-zero}
 use Rattle.rows_laws.proofs.Ordering.{shows-ext}
@@ -14,11 +14,11 @@ use Rattle.state.proofs.StandsLaws.{stands-of}
 use Rattle.flow_laws.specs.Samples.{nextSample}
 use Rattle.flow_laws.specs.Sending.{arrives}
 use Rattle.start.specs.{listsSet, startScalars, beginList, beginBlock, beginBlocks, startRows}
-use Rattle.tables.proofs.Operands.{operand}
+use Rattle.layout.proofs.Operands.{operand}
 use Rattle.flow_laws.proofs.Drawing.{drawn-most}
 use Rattle.flow_laws.proofs.Arrival.{arrives-stands}
 use Rattle.start.proofs.Tally.{same-at, idle-tallying}
-use Rattle.tables.proofs.BlockKinds.{Kinds, generating, taking, waiting, arriving, preempting, other, kinds, unasked}
+use Rattle.layout.proofs.BlockKinds.{Kinds, generating, taking, waiting, arriving, preempting, other, kinds, unasked}
 
 -- ---- Before the first block: nobody lives
 

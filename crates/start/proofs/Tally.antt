@@ -1,8 +1,8 @@
 -- The tally of the start: all 0, as it was, but where each list begins and how many times it has.
 use Rattle.machine.specs.All.{ℕ, zero, suc, _+_, _≤_, _<_, _≡_, refl, sym, ap, _∙_, false, List, [], _∷_, _++_, map, arith, ℕ-discrete, length, getD, set, replicate, length-set, getD-set-same, getD-set-other, bit, those, count, Server, idleServer, Queue, emptyQueue, BlockModel, idle}
 use Rattle.machine.proofs.decoding.Proper.{Proper}
-use Rattle.tables.specs.Layout as Layout
-use Rattle.tables.specs.All.{Represents}
+use Rattle.layout.specs.Layout as Layout
+use Rattle.layout.specs.All.{Represents}
 use Rattle.state.specs.All.{sumNow, longestNow, Seen, Serving, Queueing, Sampling, atBlock, Tallying}
 use Rattle.state.proofs.Held.{held-none}
 use Rattle.state.proofs.StatisticsLaws.{sum-current, longest-current, seen-now}

@@ -2,7 +2,7 @@
 use Rattle.machine.specs.All.{ℕ, zero, suc, _+_, _*_, min, cond, List, eqb, getD, set, maxBlocks, maxLists}
 use Rattle.rows_laws.specs.All.{rowCount, initial}
 use Rattle.constants.specs.declared.model.Model.{Model}
-use Rattle.tables.specs.All.{listAt, listLeft, listCounts, most32, blockWidth}
+use Rattle.layout.specs.All.{listAt, listLeft, listCounts, most32, blockWidth}
 use Rattle.state.specs.declared.scalars.Scalars.{Scalars}
 use Rattle.state.specs.All.{Rows, rowsOf}
 use Rattle.flow_laws.specs.Samples.{nextSample}

@@ -14,7 +14,8 @@ use Rattle.machine.proofs.nobody_able.WaitsKept.{waits-taken, waits-kept, waits
 use Rattle.machine.proofs.nobody_able.StillWaiting.{AllHold, settled-turn, settled-start}
 use Rattle.machine.proofs.runs.Clocks.{Timely, taking-timely, timely-turn, timely-start}
 use Rattle.machine.proofs.conservation.Conservation.{Sound, Conserved, sound-conserved, stands-at-most-once, sound-start, sound-taking, sound-turn}
-use Rattle.state.specs.All.{Note, enteredNote, waitsNote, noNote, logged, countEntry, noteAs, Sane}
+use Rattle.state.specs.All.{Note, enteredNote, waitsNote, noNote, logged, countEntry, noteAs}
+use Rattle.state.proofs.Sane.{Sane}
 use Rattle.machine.proofs.runs.Ahead.{Ahead}
 use Rattle.state.proofs.Gains.{each-set, serverSums, queueSums, Gains, gains-trans, gains-most}
 use Rattle.state.proofs.BlockGains.{gains-none, gains-arrival}

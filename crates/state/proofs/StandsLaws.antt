@@ -1,7 +1,7 @@
 -- What the relation reads of a state, and single changes that it follows. Lists, tally and scalars each have their own laws, so
 -- that a block's law puts them together as its effect needs.
 use Rattle.machine.specs.All.{ℕ, suc, _+_, _%_, _≤_, _<_, _≡_, refl, sym, ap, _∙_, _≢_, List, Option, none, some, arith, length, getD, set, getD-set-other, Transaction, Event, precedes, earlier, insert, lineUp, Server, Queue, State, Logged, withStamp, setMoving}
-use Rattle.tables.specs.Layout as Layout
+use Rattle.layout.specs.Layout as Layout
 use Rattle.rows_laws.specs.All.{wsl, free, write, setTime, outranks, sooner, put, schedule, transactionAt, eventAt, update, Sorted, orderOf, Shows}
 use Rattle.rows_laws.specs.Layout as Layout′
 use Rattle.rows_laws.specs.Lines as Lines

@@ -1,7 +1,7 @@
 -- Sums and longest lengths of the tally, brought up to date: what they read, that a number which is up to date may change, what a
 -- clock move adds, and that to bring a server or a queue up to date changes none of them.
 use Rattle.machine.specs.All.{ℕ, _+_, _*_, _-_, _≤_, _<_, min, max, _≡_, refl, sym, ap, _∙_, _≢_, Bool, true, false, cond, not, true≢false, List, mul-add, arith, ℕ-discrete, eq-eqb, ne-eqb, eqb-true, ltb, eqb, length, getD, set, length-set, getD-set-same, getD-set-other, maxClock, State}
-use Rattle.tables.specs.Layout as Layout
+use Rattle.layout.specs.Layout as Layout
 use Rattle.state.specs.All.{countEnd, product, ticksSince, behind, sumNow, longestNow, see, storeServer, updateServer, storeQueue, updateQueue, Seen, Serving, Queueing, Tallying}
 use Rattle.state.proofs.Products.{product-is}
 

@@ -7,7 +7,8 @@ use Rattle.machine.proofs.runs.Everybody.{Maybe}
 use Rattle.machine.proofs.runs.Placed.{Placed}
 use Rattle.machine.proofs.lists.Sums.{count-cons}
 use Rattle.trace.proofs.Writer.{Ranges, in-ranges, record-room}
-use Rattle.state.specs.All.{Note, enteredNote, waitsNote, noNote, logged, countEntry, noteAs, Sane, atBlock}
+use Rattle.state.specs.All.{Note, enteredNote, waitsNote, noNote, logged, countEntry, noteAs, atBlock}
+use Rattle.state.proofs.Sane.{Sane}
 use Rattle.state.proofs.Gains.{Gains}
 use Rattle.state.proofs.TurnGains.{Turned, unnoted, noted, turned}
 use Rattle.state.proofs.Measured.{Took}

@@ -7,4 +7,3 @@ unfoldable pub use Rattle.state.specs.Bare.{logged, countEntry, noteAs, 
 pub use Rattle.state.specs.ScalarSetters.{putClock, putSerial, putMoving, putTurns, putEnd, putNote, putMade, putEnded, putCounter, putUsed}
 pub use Rattle.state.specs.Stands.{Done, Rows, listsOf, Listing, Tallying, Counting, Stands, Moving, Seen, Serving, Queueing, Sampling, Tallied, gathererRow, Listed, interruptedRow, Numbers, Counted}
 unfoldable pub use Rattle.state.specs.Stands.{rowsOf, listsIn, atBlock, ofResidue, noteOf, heldIn}
-pub use Rattle.state.specs.Sane.{Sane}

@@ -3,5 +3,4 @@ pub mod Statistics
 pub mod Bare
 pub mod ScalarSetters
 pub mod Stands
-pub mod Sane
 pub mod All

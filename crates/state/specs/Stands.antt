@@ -2,8 +2,8 @@
 -- Each part is said of those parts of the state that it reads, so that it is the same for states that differ elsewhere. The trace stands
 -- apart (crate turn, specs/Writes).
 use Rattle.machine.specs.All.{ℕ, suc, _+_, _-_, _%_, _<_, _≤_, _≡_, false, cond, _&&_, List, [], map, Option, none, some, ltb, eqb, length, getD, maxQueues, maxLists, maxBlocks, Transaction, Event, Gatherer, Interrupted, bit, nth, those, upTo, withNext, withStamp, Server, Queue, View, idleServer, emptyQueue, State, Logged, ofFacility, count}
-use Rattle.tables.specs.Layout as Layout
-use Rattle.tables.specs.All.{TimesAt}
+use Rattle.layout.specs.Layout as Layout
+use Rattle.layout.specs.All.{TimesAt}
 use Rattle.rows_laws.specs.All.{transactionAt, Shows, Loose, free, rowCount, wels, wsl, rel, gatherers, interrupted}
 use Rattle.state.specs.declared.scalars.Scalars.{Scalars}
 use Rattle.state.specs.Statistics.{behind, sumNow, longestNow}

@@ -1,7 +1,7 @@
 -- The row machine: sums over ticks and longest lengths, brought up to date before a number changes. Until then the number has been
 -- what it is since the last time. Server v, from 0, is counted as v and queue q as 64 + q.
 use Rattle.machine.specs.All.{ℕ, _+_, _-_, min, max, Bool, cond, not, List, eqb, getD, set}
-use Rattle.tables.specs.Layout as Layout
+use Rattle.layout.specs.Layout as Layout
 use Rattle.state.specs.Ticks.{mostTicks, product}
 
 -- the ticks since i was brought up to date, no more than a clock has

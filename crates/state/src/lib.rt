@@ -5,10 +5,6 @@ mod scalars;
 mod statistics;
 
 pub use arith::MOST_TICKS;
-pub use arith::less32;
-pub use arith::less64;
-pub use arith::plus32;
-pub use arith::plus64;
 pub use arith::product;
 pub use scalars::ENTERED;
 pub use scalars::NO_RECORD;

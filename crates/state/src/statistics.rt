@@ -1,25 +1,25 @@
 // Sums over ticks and longest lengths. They are brought up to date before a number changes: since then it has been what it is.
 // Server v is counted as v, queue q as `SERVERS` + q.
 use crate::arith::MOST_TICKS;
-use crate::arith::less64;
-use crate::arith::plus64;
 use crate::arith::product;
-use tables::CLOCK_MOVES;
-use tables::CONTENT;
-use tables::CONTENT_TICKS;
-use tables::IN_USE;
-use tables::LONGEST_CONTENT;
-use tables::LONGEST_QL;
-use tables::QL_LENGTH;
-use tables::SEEN_CLOCK;
-use tables::SEEN_MOVES;
-use tables::SERVERS;
-use tables::UNIT_TICKS;
-use tables::WAIT_TICKS;
-use tables::count;
-use tables::set_count;
+use layout::CLOCK_MOVES;
+use layout::CONTENT;
+use layout::CONTENT_TICKS;
+use layout::IN_USE;
+use layout::LONGEST_CONTENT;
+use layout::LONGEST_QL;
+use layout::QL_LENGTH;
+use layout::SEEN_CLOCK;
+use layout::SEEN_MOVES;
+use layout::SERVERS;
+use layout::UNIT_TICKS;
+use layout::WAIT_TICKS;
+use layout::count;
+use layout::set_count;
+use saturating::less64;
+use saturating::plus64;
 ghost use Rattle.machine.specs.All.{_≡_, _+_, _<_, _≤_, max, maxQueues};
-ghost use Rattle.tables.specs.All.{serverCount, measuredCount};
+ghost use Rattle.layout.specs.All.{serverCount, measuredCount};
 ghost use Rattle.state.specs.Ticks.{mostTicks};
 ghost use Rattle.state.specs.Statistics.{ticksSince, behind, sumNow, longestNow, see, storeServer, updateServer, storeQueue, updateQueue};
 

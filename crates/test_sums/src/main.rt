@@ -1,13 +1,13 @@
 // Evaluates values that a model could hold, and writes what each is worth: wrapping, brackets, comparisons, mentions.
+use layout::CAPACITIES;
+use layout::CONTENT;
+use layout::ENTRIES;
+use layout::IN_USE;
+use layout::TABLES;
+use layout::TALLY;
+use layout::VALUE_WIDTH;
+use layout::VALUES;
 use libc::STDOUT_FILENO;
-use tables::CAPACITIES;
-use tables::CONTENT;
-use tables::ENTRIES;
-use tables::IN_USE;
-use tables::TABLES;
-use tables::TALLY;
-use tables::VALUE_WIDTH;
-use tables::VALUES;
 
 // The largest number with a sign, and the bits of -9.
 const MOST: u32 = 2_147_483_647;
@@ -72,7 +72,7 @@ fn put_others(tables: &mut [u32]) {
 
 // A number and a line end.
 fn show(z: i32) {
-    let n = terms::bits(z) as u64;
+    let n = evaluation::bits(z) as u64;
     if n < SIGN {
         io::print_decimal(STDOUT_FILENO, n);
     } else {
@@ -87,7 +87,7 @@ fn show_value(tables: &mut [u32; TABLES], tally: &[u64; TALLY], k: u32) {
     let p = [5, 0, 0, MINUS_NINE];
     let named = [9, k];
     put(tables, 0, &named);
-    show(terms::term_at(tables, tally, 8, 7, &p, 0));
+    show(evaluation::term_at(tables, tally, 8, 7, &p, 0));
 }
 
 // Value 1 < 0, as a WAITIF has it: at position 0.
@@ -95,7 +95,7 @@ fn show_comparison(tables: &mut [u32; TABLES], tally: &[u64; TALLY]) {
     let p = [5, 0, 0, 0];
     let named = [9, 0, 3, 0, 0];
     put(tables, 0, &named);
-    if terms::compare_at(tables, tally, 8, 7, &p, 0) {
+    if evaluation::compare_at(tables, tally, 8, 7, &p, 0) {
         show(1);
     } else {
         show(0);

@@ -3,20 +3,20 @@ use crate::note::note_record;
 use blocks::execute;
 use clock::take;
 use constants::Model;
-use decisions::ws;
+use layout::ASKED;
+use layout::BLOCK_WIDTH;
+use layout::CLOCK_ASKED;
+use layout::TABLES;
+use layout::TALLY;
 use rows::NEXT;
 use rows::NUMBER;
 use rows::ROWS;
 use rows::WSL;
 use rows::cells::read;
 use rows::lists::first;
+use saturating::less32;
 use state::Scalars;
-use state::less32;
-use tables::ASKED;
-use tables::BLOCK_WIDTH;
-use tables::CLOCK_ASKED;
-use tables::TABLES;
-use tables::TALLY;
+use values_queues::ws;
 ghost use Rattle.machine.specs.All.{_≡_, ℕ, _+_, _<_, _≤_, List, maxBlocks, maxFacilities};
 ghost use Rattle.rows_laws.specs.All.{Room, rowCount, nextField, read};
 ghost use Rattle.state.specs.All.{rowsOf};
@@ -99,7 +99,7 @@ fn clock_asked(tables: &[u32; TABLES], before: u64, after: u64) -> bool
     if before == after {
         return false;
     }
-    tables::number(tables, CLOCK_ASKED) != 0
+    layout::number(tables, CLOCK_ASKED) != 0
 }
 
 // The block that row k stands before, if it is one.
@@ -128,7 +128,7 @@ fn asked(tables: &[u32; TABLES], before: u64, clock: u64, k: u32, block: u32) ->
     if b >= Model::MAX_BLOCKS {
         return true;
     }
-    tables::number(tables, ASKED + b) != 0
+    layout::number(tables, ASKED + b) != 0
 }
 
 // The WS scheme, where they are asked.

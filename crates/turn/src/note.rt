@@ -1,11 +1,11 @@
 // The record of a block, written behind the others, and the count of its entries or waits.
+use layout::WAITS;
+use layout::count;
+use layout::set_count;
+use saturating::plus64;
 use state::ENTERED;
 use state::NO_RECORD;
 use state::Scalars;
-use state::plus64;
-use tables::WAITS;
-use tables::count;
-use tables::set_count;
 use trace::Written;
 use trace::write_record;
 ghost use Rattle.machine.specs.All.{_≡_};
@@ -41,7 +41,7 @@ pub fn append_record(
 fn cell(block: u32, outcome: u32) -> usize
     ensures { λ r. ⌜ r ≡ cellOf block outcome ⌝ }
 {
-    let b = state::less32(block, 1) as usize;
+    let b = saturating::less32(block, 1) as usize;
     if outcome == ENTERED {
         return b;
     }

@@ -3,3 +3,4 @@ pub mod Notes
 pub mod NoteLaws
 pub mod TurnLaws
 pub mod Unwritten
+pub mod Runs

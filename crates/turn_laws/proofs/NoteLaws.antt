@@ -1,14 +1,14 @@
 -- The record of a block, noted in the tally and the trace buffer, is the machine's.
 use Rattle.machine.specs.All.{ℕ, zero, suc, _+_, _-_, _≤_, _<_, min, _≡_, refl, sym, ap, _∙_, subst, _≢_, Bool, true, false, cond, _&&_, List, [], _∷_, _++_, append-assoc, arith, ℕ-discrete, le-leb, le-ltb, eq-eqb, ne-eqb, ltb, eqb, length, getD, set, take, drop, length-set, length-append, length-drop, take-at, drop-at, drop-drop, getD-set-same, getD-set-other, inForce, Transaction, recordBytes, traceBytes, inRanges, written, writeRecord, Block, BlockModel, State, Logged, recordOf, recordsOf, those, count, bit, setEntries, setWritten}
 use Rattle.machine.proofs.runs.Shape.{each-getD}
-use Rattle.tables.specs.Layout as Layout
+use Rattle.layout.specs.Layout as Layout
 use Rattle.trace.specs.Answers.{entry}
 use Rattle.trace.proofs.Writer.{in-ranges, record-room, written-record}
 use Rattle.state.specs.declared.scalars.Scalars.{Scalars}
 use Rattle.state.specs.All.{putUsed, Rows, rowsOf, atBlock, Tallied, Tallying, Counting, Stands, noteOf, Note, logged, countEntry, noteAs}
 use Rattle.state.proofs.StandsLaws.{entries-set, seen-set, serving-set, queueing-set}
 use Rattle.state.proofs.Written.{inOrder, bytes-cons, at-block-cons}
-use Rattle.moves.specs.Before.{Before}
+use Rattle.moves.proofs.Before.{Before}
 use Rattle.moves.proofs.BeforeLaws.{placed, numbered}
 use Rattle.turn_laws.specs.{Bytes, bytes, appended, appendRecord, cellOf, countRecord, Noted, noted, noteRecord}
 use Rattle.turn_laws.specs.Writes.{Writes}

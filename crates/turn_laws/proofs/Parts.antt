@@ -8,7 +8,7 @@ use Rattle.rows_laws.proofs.Steps.{wakeAll-stop}
 use Rattle.state.specs.declared.scalars.Scalars.{Scalars}
 use Rattle.state.specs.All.{Rows, rowsOf}
 use Rattle.clock.specs.Taking.{take}
-use Rattle.decisions_laws.specs.Scheme.{leaves, wsScheme}
+use Rattle.values_queues_laws.specs.Scheme.{leaves, wsScheme}
 use Rattle.turn_laws.specs.{Noted, noted, noteRecord, Traced, traced, withNote, actMoving, asks, schemeIf, withScheme, afterTaking, turn}
 
 pub note-joined : (y : Scalars) (w tally : List ℕ) (r : Rows) (z : Scalars) (tally′ trace trace′ : List ℕ) (number block : ℕ)

@@ -6,29 +6,30 @@ use Rattle.machine.proofs.runs.Placed.{Placed}
 use Rattle.machine.proofs.runs.Everybody.{Maybe}
 use Rattle.machine.proofs.runs.RunLaws.{Taken}
 use Rattle.machine.proofs.nobody_able.StillWaiting.{MoverSpares, scheme-unread}
-use Rattle.tables.specs.Layout as Layout
-use Rattle.tables.specs.All.{Represents, headerOf}
+use Rattle.layout.specs.Layout as Layout
+use Rattle.layout.specs.All.{Represents, headerOf}
 use Rattle.rows_laws.specs.All.{read}
-use Rattle.terms.specs.Nested.{Nested}
+use Rattle.evaluation.specs.Nested.{Nested}
 use Rattle.state.specs.declared.scalars.Scalars.{Scalars}
-use Rattle.state.specs.All.{Sane, Rows, rowsOf, Stands, Done, Bare, noteAs}
+use Rattle.state.specs.All.{Rows, rowsOf, Stands, Done, Bare, noteAs}
+use Rattle.state.proofs.Sane.{Sane}
 use Rattle.state.proofs.Noted.{noted-answer}
 use Rattle.state.proofs.Gains.{Gains}
 use Rattle.state.proofs.BlockGains.{gains-wsScheme}
 use Rattle.state.proofs.Measured.{Took}
 use Rattle.state.proofs.Sanity.{takenOf, Sure, taken-took, sane-taken, sure-turn}
 use Rattle.state.proofs.Written.{inOrder}
-use Rattle.moves.specs.Before.{bareBlock, Before}
+use Rattle.moves.proofs.Before.{bareBlock, Before}
 use Rattle.moves.proofs.BeforeLaws.{inside}
 use Rattle.moves.proofs.MotionLaws.{next-read, number-read}
 use Rattle.clock.specs.Taking.{take}
 use Rattle.clock.proofs.TakingLaws.{take-stands}
-use Rattle.decisions_laws.proofs.SchemeLaws.{scheme-stands, scheme-low}
+use Rattle.values_queues_laws.proofs.SchemeLaws.{scheme-stands, scheme-low}
 use Rattle.blocks.specs.Execute.{execute}
 use Rattle.blocks.proofs.ExecuteLaws.{execute-done}
 use Rattle.turn_laws.specs.{noteRecord, Traced, traced, withNote, act, actMoving, clockAsks, asks, schemeIf, withScheme, afterTaking, turn}
 use Rattle.turn_laws.specs.Writes.{Writes}
-use Rattle.turn_laws.specs.Runs.{Runs}
+use Rattle.turn_laws.proofs.Runs.{Runs}
 use Rattle.turn_laws.proofs.NoteLaws.{Follows, note-follows}
 use Rattle.turn_laws.proofs.Unwritten.{Unwritten, unwritten}
 

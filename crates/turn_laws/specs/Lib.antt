@@ -1,5 +1,4 @@
 pub mod Note
-pub mod Runs
 pub mod Turn
 pub mod Writes
 unfoldable pub use Note.*

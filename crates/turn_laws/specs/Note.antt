@@ -1,6 +1,6 @@
 -- The row machine: the record of a block in the trace buffer, and the count of its entries or waits.
 use Rattle.machine.specs.All.{ℕ, _+_, _-_, min, cond, List, _++_, ltb, leb, eqb, length, getD, set, take, drop, inForce, Writing, written, rejected, writeRecord}
-use Rattle.tables.specs.All.{waits, most64}
+use Rattle.layout.specs.All.{waits, most64}
 use Rattle.trace.specs.Answers.{entry}
 use Rattle.state.specs.declared.scalars.Scalars.{Scalars}
 use Rattle.state.specs.All.{putUsed}

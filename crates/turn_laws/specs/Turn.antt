@@ -1,12 +1,12 @@
 -- The row machine: a whole turn over scalars, work buffer, tally and trace buffer.
 use Rattle.machine.specs.All.{ℕ, _+_, _*_, _-_, Bool, true, false, cond, not, List, ltb, eqb, getD, maxBlocks}
 use Rattle.constants.specs.declared.model.Model.{Model}
-use Rattle.tables.specs.Layout as Layout
+use Rattle.layout.specs.Layout as Layout
 use Rattle.rows_laws.specs.All.{numberField, nextField, rowCount, read}
 use Rattle.state.specs.declared.scalars.Scalars.{Scalars}
 use Rattle.state.specs.All.{Rows, rowsOf}
 use Rattle.clock.specs.Taking.{take}
-use Rattle.decisions_laws.specs.Scheme.{wsScheme}
+use Rattle.values_queues_laws.specs.Scheme.{wsScheme}
 use Rattle.blocks.specs.Execute.{execute}
 use Rattle.turn_laws.specs.Note.{Noted, noteRecord}
 

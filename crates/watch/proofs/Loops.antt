@@ -1,6 +1,6 @@
 -- The loops of the crate, pure: one step more, and all of them.
 use Rattle.machine.specs.All.{ℕ, zero, suc, _+_, _-_, _≤_, _<_, arith, List, _≡_, refl, sym, ap, _∙_, getD, set, replicate}
-use Rattle.tables.specs.Layout as Layout
+use Rattle.layout.specs.Layout as Layout
 use Rattle.watch.specs.{clockMark, marksSize, reachValue, reach, waitMarks, waitsMarks, marksOf, ownOf, askedOf, ownStored, askedStored, withMarks, watched}
 
 -- ---- Through the values, downward: the rest from here is the whole

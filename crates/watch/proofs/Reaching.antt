@@ -1,9 +1,9 @@
 -- What is marked: all that the WAITIFs read, through values; of a value alone, all that it reads.
 use Rattle.machine.specs.All.{cases, ℕ, zero, suc, _+_, _-_, _*_, _%_, _≤_, _<_, arith, false, List, [], _∷_, _++_, Option, none, some, _≡_, refl, sym, ap, _∙_, subst, eqb-true, eqb-false, ltb-true, ltb-false, eq-eqb, ne-eqb, ltb, eqb, length, getD, length-append, List·getD-eq-default, Term, Relation, Sum, nothing, Condition, always, whenTrue, facility, storage, Block, terminate, waitTerms, facts, BlockModel, blockAt, Each, WaitWithin, Through}
-use Rattle.tables.specs.All.{blockForms, relationNumber, terms, termNumbers, signedTerms, sumNumbers, blockNumbers, At}
-use Rattle.tables.specs.Layout as Layout
-use Rattle.tables.proofs.BlockKinds.{Kinds, generating, taking, waiting, arriving, preempting, other, kinds, unasked}
-use Rattle.terms.proofs.Found.{at-first}
+use Rattle.layout.specs.All.{blockForms, relationNumber, terms, termNumbers, signedTerms, sumNumbers, blockNumbers, At}
+use Rattle.layout.specs.Layout as Layout
+use Rattle.layout.proofs.BlockKinds.{Kinds, generating, taking, waiting, arriving, preempting, other, kinds, unasked}
+use Rattle.evaluation.proofs.Found.{at-first}
 use Rattle.watch.specs.{valueMarks, marksSize, walked, Walked, reachValue, reach, waitMarks, waitsMarks}
 use Rattle.watch.proofs.Walking.{markAll, termCells, sumCells, sum-walked, wait-walked}
 use Rattle.watch.proofs.Marking.{all-keeps, all-length, both-marked, sum-marked, sum-others, Marked, term-within, sum-within, each-front, each-back}

@@ -1,7 +1,7 @@
 -- The walk marks the cells of what a term or a sum names, where its numbers stand in the tables.
 use Rattle.machine.specs.All.{ℕ, suc, _+_, _-_, _%_, _≤_, _<_, arith, cond, List, [], _∷_, _++_, _≡_, refl, sym, ap, ap₂, _∙_, subst, ltb, lit<, lit≤, length, set, length-append, Term, constant, minusConstant, parameter, clockTerm, entriesOf, contentOf, unitsInUse, unitsFree, facilityInUse, value, comparison, bracket, Sum, nothing, plus, minus}
-use Rattle.tables.specs.All.{relationNumber, terms, termNumbers, signedTerms, At}
-use Rattle.terms.proofs.Found.{at-first, at-front, at-back}
+use Rattle.layout.specs.All.{relationNumber, terms, termNumbers, signedTerms, At}
+use Rattle.evaluation.proofs.Found.{at-first, at-front, at-back}
 use Rattle.watch.specs.{queueMarks, serverMarks, valueMarks, clockMark, ownMark, noMark, cellOf, Walked, walked, termsFrom, termFrom}
 use Rattle.watch.proofs.Steps.{term-simple, term-comparison, term-bracket, terms-none, terms-more}
 

@@ -2,9 +2,9 @@
 use Rattle.machine.specs.All.{cases, ℕ, zero, suc, _+_, _-_, _*_, _%_, _≤_, _<_, arith, Bool, true, false, cond, true≢false, List, [], _∷_, _≡_, refl, sym, ap, _∙_, subst, eqb-true, eqb-false, eq-eqb, ne-eqb, eqb, length, getD, set, replicate, length-set, length-replicate, getD-set-same, getD-set-other, View, evaluate, value, facility, storage, up, down, Block, generate, advance, terminate, takes, frees, waitServer, waitTerms, moves, assign, priority, split, counts, assemble, preempt, giveBack, BlockModel, Watches, Spares}
 use lib.IntN.{ℤ}
 use Rattle.machine.proofs.nobody_able.Named.{agrees-same, evaluate-same}
-use Rattle.tables.specs.All.{blockForms, blockNumbers, At, Watching, Sharing}
-use Rattle.tables.specs.Layout as Layout
-use Rattle.terms.proofs.Found.{at-first, at-cons}
+use Rattle.layout.specs.All.{blockForms, blockNumbers, At, Watching, Sharing}
+use Rattle.layout.specs.Layout as Layout
+use Rattle.evaluation.proofs.Found.{at-first, at-cons}
 use Rattle.watch.specs.{queueMarks, serverMarks, valueMarks, clockMark, ownMark, marksSize, reach, waitsMarks, marksOf, ownOf, changedCell, askedOf, ownStored, askedStored, withMarks, watched}
 use Rattle.watch.proofs.Marking.{inMarks, Marked}
 use Rattle.watch.proofs.Reaching.{Stored, reach-keeps, reach-through, waits-length, waits-within}

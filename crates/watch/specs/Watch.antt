@@ -1,6 +1,6 @@
 -- What the WAITIFs on comparisons read, and which values name a parameter, stored behind the other numbers of the tables.
 use Rattle.machine.specs.All.{ℕ, zero, suc, _+_, _*_, _%_, cond, List, eqb, getD, set, replicate}
-use Rattle.tables.specs.Layout as Layout
+use Rattle.layout.specs.Layout as Layout
 use Rattle.watch.specs.Walk.{queueMarks, serverMarks, valueMarks, clockMark, ownMark, marksSize, termsFrom, termFrom}
 
 module _ (tables : List ℕ) where

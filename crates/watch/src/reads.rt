@@ -8,12 +8,12 @@ use crate::walk::VALUES;
 use crate::walk::store;
 use crate::walk::terms;
 use constants::kinds::WAIT_TERMS;
-use tables::ASKED;
-use tables::BLOCK_WIDTH;
-use tables::CLOCK_ASKED;
-use tables::NAMES_OWN;
-use tables::VALUE_WIDTH;
-use tables::number;
+use layout::ASKED;
+use layout::BLOCK_WIDTH;
+use layout::CLOCK_ASKED;
+use layout::NAMES_OWN;
+use layout::VALUE_WIDTH;
+use layout::number;
 ghost use Rattle.machine.specs.All.{_≡_, _<_, _≤_, maxBlocks, maxValues};
 ghost use Rattle.watch.specs.Watch.{reachValue, reach, waitMarks, waitsMarks, ownOf, changedCell, askedOf, ownStored, askedStored, watched};
 
@@ -25,7 +25,7 @@ fn reach_value(tables: &[u32], marks: &mut [u32], k: usize)
     if number(marks, VALUES + k) == 0 {
         return;
     }
-    let at = tables::VALUES + VALUE_WIDTH * k;
+    let at = layout::VALUES + VALUE_WIDTH * k;
     let count = number(tables, at);
     terms(tables, marks, k, VALUE_WIDTH, 1, count, at + 1);
 }

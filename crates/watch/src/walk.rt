@@ -1,6 +1,6 @@
 // The things that terms name, marked one by one. Sums and terms call each other: bracket depth and remaining terms fall.
-use tables::TERM_WIDTH;
-use tables::number;
+use layout::TERM_WIDTH;
+use layout::number;
 ghost use Rattle.machine.specs.All.{_≡_, _≤_, set};
 ghost use Rattle.watch.specs.Walk.{cellOf, walked, termsFrom, termFrom};
 
@@ -21,9 +21,9 @@ const NOTHING: usize = 362;
 
 pub const MARKS: usize = 363;
 
-const COMPARISON_TAG: u32 = tables::COMPARISON_TAG as u32;
+const COMPARISON_TAG: u32 = layout::COMPARISON_TAG as u32;
 
-const VALUE_TAG: u32 = tables::VALUE_TAG as u32;
+const VALUE_TAG: u32 = layout::VALUE_TAG as u32;
 
 // Stores a number at an index; nothing past the end.
 pub fn store(l: &mut [u32], at: usize, x: u32)

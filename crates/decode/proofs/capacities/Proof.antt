@@ -1,9 +1,9 @@
 -- `decode::capacities` meets its contract. The loop's invariant: the capacities from k on give what all capacities give. The
 -- measure is what is left of them.
 use Rattle.machine.specs.All.{needs, _+_, _*_, _≤_, _-_, arith, _≡_, field}
-use Rattle.values.specs.Keeps.{numberShape}
+use Rattle.parse_values.specs.Keeps.{numberShape}
 use Rattle.decode.specs.{Capacity}
-use Rattle.values.proofs.Rows.{Leads, from-none, from-stop, from-step, from-all, times-rows}
+use Rattle.parse_values.proofs.Filled.{Leads, from-none, from-stop, from-step, from-all, times-rows}
 use Rattle.decode.proofs.capacities as own
 
 abbrev Inv-loop : own.Tie.InvT-loop

@@ -1,6 +1,6 @@
 -- `decode::program` meets its contract: four parts, one after the other.
 use Rattle.machine.specs.All.{refl, needs}
-use Rattle.values.proofs.Binds.{takes-stop, takes-bind}
+use Rattle.parse_values.proofs.Binds.{takes-stop, takes-bind}
 use Rattle.decode.specs.{Stage, programField}
 use Rattle.decode.proofs.Stages.{program-stop, program-kept}
 use Rattle.decode.proofs.program as f

@@ -1,7 +1,7 @@
 -- `decode::servers` meets its contract: four parts, one after the other.
 use Rattle.machine.specs.All.{refl, arith, needs}
-use Rattle.values.proofs.Binds.{takes-stop, takes-bind}
-use Rattle.values.specs.Shapes.{Within}
+use Rattle.parse_values.proofs.Binds.{takes-stop, takes-bind}
+use Rattle.parse_values.specs.Shapes.{Within}
 use Rattle.decode.specs.{Stage, serversField}
 use Rattle.decode.proofs.Stages.{servers-stop, servers-kept, no-header, same-header}
 use Rattle.decode.proofs.servers as own

@@ -1,7 +1,7 @@
 -- `decode::things` meets its contract: three parts, one after the other.
 use Rattle.machine.specs.All.{refl, needs}
-use Rattle.values.proofs.Binds.{takes-stop, takes-bind}
-use Rattle.values.specs.Shapes.{Within}
+use Rattle.parse_values.proofs.Binds.{takes-stop, takes-bind}
+use Rattle.parse_values.specs.Shapes.{Within}
 use Rattle.decode.specs.{Stage, thingsField}
 use Rattle.decode.proofs.Stages.{things-stop, things-kept, no-header, same-header}
 use Rattle.decode.proofs.things as own

@@ -1,10 +1,10 @@
 -- `program::blocks` meets its contract. The loop's invariant: the blocks from b on give what all blocks give, and the capacities stand
 -- as they did. The measure is what is left of the blocks.
 use Rattle.machine.specs.All.{needs, _≤_, _-_, arith, _≡_, refl, _∙_, inForce, blockField}
-use Rattle.values.specs.Shapes.{countsOf}
+use Rattle.parse_values.specs.Shapes.{countsOf}
 use Rattle.program.specs.Formed.{Formed}
 use Rattle.program.specs.{blockShape, capacitiesOf}
-use Rattle.values.proofs.Rows.{Leads, from-none, from-stop, from-step, from-all, times-rows}
+use Rattle.parse_values.proofs.Filled.{Leads, from-none, from-stop, from-step, from-all, times-rows}
 use Rattle.program.proofs.Steps.{block-capacities}
 use Rattle.program.proofs.blocks as own
 

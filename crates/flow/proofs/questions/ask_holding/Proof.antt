@@ -1,6 +1,6 @@
 -- `ask_holding` meets its contract: by cases on the residue's count, then on the number's.
 use Rattle.machine.specs.All.{lt-ltb, le-ltb, eq-eqb, ne-eqb, needs}
-use Rattle.tables.specs.All.{tallySize}
+use Rattle.layout.specs.All.{tallySize}
 use Rattle.flow_laws.specs.Questions.{askHolding}
 use Rattle.flow.proofs.questions.ask_holding as f
 

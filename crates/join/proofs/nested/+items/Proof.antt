@@ -9,7 +9,7 @@ use Rattle.join.proofs.nested.+items.Lts-items as items-lts
 use Rattle.join.proofs.nested.item.Reads as item-reads
 use Rattle.join.proofs.nested.opened.Reads as opened-reads
 use Rattle.join.proofs.nested.signs_in.Reads as signs-in-reads
-use Rattle.tables.proofs.number.Reads as number-reads
+use Rattle.layout.proofs.number.Reads as number-reads
 use Rattle.join.proofs.nested.+items.{statement}
 use Rattle.join.proofs.nested.+items.Tie.{close}
 

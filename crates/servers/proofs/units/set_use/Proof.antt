@@ -1,6 +1,6 @@
 -- `set_use` meets its contract: nothing where the tally is too short, else the counts and the three cells.
 use Rattle.machine.specs.All.{needs, lt-ltb, le-ltb}
-use Rattle.tables.specs.All.{tallySize}
+use Rattle.layout.specs.All.{tallySize}
 use Rattle.servers_laws.specs.Units.{setUse}
 use Rattle.servers.proofs.units.set_use as f
 

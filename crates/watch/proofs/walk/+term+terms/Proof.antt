@@ -9,7 +9,7 @@ use Rattle.watch.proofs.walk.+term+terms.Lts-term as term-lts
 use Rattle.watch.proofs.walk.terms.Reads as terms
 use Rattle.watch.proofs.walk.terms.Kinds as terms-kinds
 use Rattle.watch.proofs.walk.+term+terms.Lts-terms as terms-lts
-use Rattle.tables.proofs.number.Reads as number-reads
+use Rattle.layout.proofs.number.Reads as number-reads
 use Rattle.watch.proofs.walk.mark.Reads as mark-reads
 use Rattle.watch.proofs.walk.+term+terms.{statement}
 use Rattle.watch.proofs.walk.+term+terms.Tie.{close}

@@ -1,7 +1,0 @@
--- `block_of` meets its contract.
-use Rattle.machine.specs.All.{arith, needs}
-use Rattle.decisions_laws.specs.Scheme.{blockOf}
-use Rattle.decisions.proofs.scheme.block_of as f
-
-pub block-of-spec : {M : Type 1} → f.Statement.statement M
-block-of-spec = f.Tie.close (f.Tie.spec (search needs) (search needs) (search needs) (search needs) (λ c. unfold blockOf in (rw (c .less32 .ensures, c .before .read .ensures), omega arith)))

@@ -1,0 +1,21 @@
+-- `terms::evaluate::join` meets its contract.
+use Rattle.machine.specs.All.{_∙_, needs, ne-eqb}
+use mir.Facts.{toZ-ofZ}
+use Rattle.evaluation.specs.{joined}
+use Rattle.evaluation.proofs.Signs.{back}
+use Rattle.evaluation.proofs.evaluate.join as f
+
+returns : f.Tie.Need-returns
+unfolding joined
+returns c = let entry = c .before .before in
+    rw (c .before .if1 .taken)
+    (back _ (c .add .ok) ∙ c .add .ensures ∙ rw (toZ-ofZ (entry .fits .a), toZ-ofZ (entry .fits .b)))
+
+returns-2 : f.Tie.Need-returns-2
+unfolding joined
+returns-2 c = let entry = c .before .before in
+    rw (ne-eqb _ _ (c .before .if1 .left))
+    (back _ (c .subtract .ok) ∙ c .subtract .ensures ∙ rw (toZ-ofZ (entry .fits .a), toZ-ofZ (entry .fits .b)))
+
+pub join-spec : {M : Type 1} → f.Statement.statement M
+join-spec = f.Tie.close (f.Tie.spec (search needs) (search needs) returns returns-2)
