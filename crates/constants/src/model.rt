@@ -14,7 +14,7 @@ pub struct Model {
 
 impl Model {
     // Document 01, "These limits are named constants of the model, beside 1,024 living transactions." Checks and contracts name
-    // them: a contract by the name of specs/Limits.
+    // them: a contract by the name of machine's specs/Limits.
     pub const MAX_FACILITIES: usize = 32;
 
     pub const MAX_STORAGES: usize = 32;

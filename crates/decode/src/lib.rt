@@ -1,5 +1,5 @@
 // Validation and decoding of a model and its tape (document 01, questions 1 to 10 in their order).
-// What a run needs of them is left in two arrays that the caller lends (crate `tables`).
+// What a run needs of them is left in two arrays that the caller lends (crate `layout`).
 use codec::Field;
 use codec::read_field;
 use constants::Model;

@@ -1,4 +1,4 @@
-// The engine: one run of a model on a tape (document 01), from bytes to trace, report and eight numbers. specs/Contract has what
+// The engine: one run of a model on a tape (document 01), from bytes to trace, report and eight numbers. specs/Contract of engine_laws has what
 // `run` promises for all inputs and buffer lengths.
 mod ends;
 mod finish;

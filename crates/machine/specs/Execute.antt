@@ -197,7 +197,7 @@ module _ {A : Type 0} (enter : (State → State) → A) (wait : (Transaction →
   doing m (advance list) t s = enter (λ e. delay (timesLeft s list) list t e)
   doing m (terminate a) t s = enter (λ e. endsOne a e)
   doing m (takes x) t s = takingUnits m x false t s
-  -- "f idle; ..", "frees b; .."
+  -- 5 RELEASE, "f idle; ..", and 7 LEAVE, "frees b; .."
   doing m (frees x) t s =
       enter (λ e. goOn t (checkWels (shareServer x) (wakeFor m x (freeUnits (shareServer x) (shareUnits x) e))))
   -- "waits on the WEL while the code is true; else the first of that WEL goes to REL, go on"

@@ -1,5 +1,5 @@
 -- The limits of document 01, each by a name; where document 02, item 1, raises one, the raised one stands here and document 01's in
--- Rules. "These limits are named constants of the model": `Model` of src/ has those of the model as associated constants, and a
+-- Rules. "These limits are named constants of the model": `Model` of crate constants has those of the model as associated constants, and a
 -- contract equates each with the one here.
 use Rattle.machine.specs.Basics.{ℕ}
 

@@ -1,5 +1,5 @@
 -- Document 02, items 7, 8 and 11, add kinds of blocks and item 12 an edition: every run of a model that is accepted without them stays as it was.
--- Proved in ../proofs/OlderModels.antt, for any setting of the other rules.
+-- Proved in ../proofs/later/OlderModels.antt, for any setting of the other rules.
 use Rattle.machine.specs.Basics.{ℕ, _≤_, _≡_, List}
 use Rattle.machine.specs.Rules.{Rules}
 use Rattle.machine.specs.Outcome.{outcome}

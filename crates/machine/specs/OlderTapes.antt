@@ -1,5 +1,5 @@
--- Document 02, item 1: "Runs of older tapes that did not end 22 keep their bytes." Proved in ../proofs/OlderTapes.antt, for any two
--- rules of which the one allows no less, and so from document 01 to document 02; the clock term in ../proofs/ClockTerm.antt.
+-- Document 02, item 1: "Runs of older tapes that did not end 22 keep their bytes." Proved in ../proofs/later/OlderTapes.antt, for any two
+-- rules of which the one allows no less, and so from document 01 to document 02; the clock term in ../proofs/runs/ClockTerm.antt.
 use Rattle.machine.specs.Basics.{ℕ, _≤_, _≡_, List}
 use lib.IntN.{ℤ, pos}
 use Rattle.machine.specs.Rules.{Rules}

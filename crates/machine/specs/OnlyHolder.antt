@@ -1,5 +1,5 @@
 -- Document 02, item 6: "A model whose transactions release only their own facilities, and hold none when ending, gives the trace it
--- gave." Proved in ../proofs/OnlyHolder.antt, for any setting of the other rules.
+-- gave." Proved in ../proofs/later/OnlyHolder.antt, for any setting of the other rules.
 use Rattle.machine.specs.Basics.{ℕ, _≡_, Bool, true, false, not, _&&_, _||_, List, [], _∷_, eqb, T}
 use Rattle.machine.specs.Rules.{Rules}
 use Rattle.machine.specs.Lists.{bit, upTo}

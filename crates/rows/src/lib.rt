@@ -1,4 +1,4 @@
-// Transactions and the seven kinds of lists in the lent work buffer. specs/Layout.antt has the layout, and the definitions
+// Transactions and the seven kinds of lists in the lent work buffer. specs/Layout.antt of rows_laws has the layout, and the definitions
 // beside it say what each function does to the numbers of the buffer. Functions of several numbers take the buffer first, then
 // the list, then the cell or the row.
 
@@ -11,7 +11,7 @@ pub mod make;
 pub mod order;
 pub mod wake;
 
-// The layout of the work buffer (specs/Layout): FIELDS of ROWS numbers each, FIELD_WIDTH apart. A number that is not below ROWS is no row.
+// The layout of the work buffer (specs/Layout of rows_laws): FIELDS of ROWS numbers each, FIELD_WIDTH apart. A number that is not below ROWS is no row.
 pub const ROWS: u32 = 1_024;
 
 pub const FIELDS: u32 = 14;

@@ -1,6 +1,6 @@
 -- When scalars, work buffer and tally stand for a state of the machine. Every block kind's law is stated over this relation.
 -- Each part is said of those parts of the state that it reads, so that it is the same for states that differ elsewhere. The trace stands
--- apart (crate turn, specs/Writes).
+-- apart (crate turn_laws, specs/Writes).
 use Rattle.machine.specs.All.{ℕ, suc, _+_, _-_, _%_, _<_, _≤_, _≡_, false, cond, _&&_, List, [], map, Option, none, some, ltb, eqb, length, getD, maxQueues, maxLists, maxBlocks, Transaction, Event, Gatherer, Interrupted, bit, nth, those, upTo, withNext, withStamp, Server, Queue, View, idleServer, emptyQueue, State, Logged, ofFacility, count}
 use Rattle.layout.specs.Layout as Layout
 use Rattle.layout.specs.All.{TimesAt}
