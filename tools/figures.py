@@ -67,10 +67,11 @@ def check_limits_told(values, ends, refusals):
     says(
         docs / "ARCHITECTURE.md",
         f"(none of {fields} is spare)",
-        f"its {servers} cells in `tables`",
+        f"its {servers} cells in `layout`",
         f"the starts of {stream + 1} streams",
     )
-    listed = re.search(r"\bwaiting; kinds ([\d, toand;]+?) and the WS scheme", (docs / "ARCHITECTURE.md").read_text())[1]
+    row = re.search(r"\bwaiting; (.*?) and the WS scheme", (docs / "ARCHITECTURE.md").read_text())[1]
+    listed = "; ".join(re.findall(r"\(([\d, to]+)\)", row))
     covered = [n for low, high in re.findall(r"(\d+)(?: to (\d+))?", listed) for n in range(int(low), int(high or low) + 1)]
     kinds = [int(row[0]) for row in table(MANUAL.read_text(), "Kind", "Example")]
     check(sorted(covered) == kinds, f"docs/ARCHITECTURE.md: the crates of blocks have the kinds {listed}")
