@@ -86,7 +86,7 @@ pub extern "C" fn covrith_write_record(
     ensures { λ _. ⌜ now (count .exit) ≡ writeCount (writeRecord inForce (length (now (rest .entry))) (entry clock transaction block outcome)) ⌝ }
     ensures { λ _. ⌜ now (rest .exit) ≡ after (writeRecord inForce (length (now (rest .entry))) (entry clock transaction block outcome)) (now (rest .entry)) ⌝ }
 {
-    match trace::write_record(rest, clock, transaction, block, outcome) {
+    match trace::write_one(rest, clock, transaction, block, outcome) {
         Written::Bytes(n) => {
             *count = n as u64;
             0

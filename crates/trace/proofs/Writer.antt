@@ -1,10 +1,12 @@
 -- The writer, pure: the length of a record, the ranges as facts, its four numbers stored one after the other, and the rest
 -- that `writeRecord` leaves.
-use Rattle.machine.specs.All.{ℕ, _+_, _≤_, _<_, zero-add, arith, true, false, _&&_, List, [], _∷_, _++_, append-assoc, _≡_, refl, sym, ap, ap₂, _∙_, leb, lit≤, length, take, drop, length-append, sets, sets-eq, take-append-seam, le-leb, lt-leb, leb-true, inForce, fiveGroups, maxClock, maxTransaction, maxBlocks, recordRoom, numberBytes, Record, recordBytes, traceBytes, inRanges, written, rejected, writeRecord}
+use Rattle.machine.specs.All.{ℕ, _+_, _≤_, _<_, zero-add, arith, true, false, _&&_, List, [], _∷_, _++_, append-assoc, _≡_, refl, sym, ap, ap₂, _∙_, leb, lit≤, length, take, drop, length-append, sets, length-sets, sets-eq, take-append-seam, le-leb, lt-leb, leb-true, inForce, fiveGroups, maxClock, maxTransaction, maxBlocks, recordRoom, numberBytes, Record, recordBytes, traceBytes, inRanges, written, rejected, writeRecord}
 use Rattle.machine.proofs.runs.RecordRoom.{record-room as room}
 use Rattle.codec.proofs.Fields.{both-true, between}
 use Rattle.codec.proofs.Numbers.{numberBytes-positive}
+use Rattle.codec.specs.Writing.{Written as Placed, written as written-to, put}
 use Rattle.codec.proofs.Stores.{sets-append}
+use Rattle.codec.proofs.Writing.{put-room}
 use Rattle.trace.specs.declared.Written.the-variants.{Bytes, Refused}
 use Rattle.trace.specs.{after}
 
@@ -101,6 +103,34 @@ small r e =
 pub stored-behind : (u w l m n : List ℕ) (p : ℕ) → p ≡ length u → m ≡ sets l 0 u → n ≡ sets m p w → n ≡ sets l 0 (u ++ w)
 stored-behind u w l m n p at first then =
     then ∙ ap₂ (λ (k : List ℕ) (i : ℕ). sets k i w) first (at ∙ sym (zero-add (length u))) ∙ sets-append u w l 0
+
+-- a number written where there is room
+put-there : (at v r : ℕ) (l m : List ℕ) → at + length (numberBytes v) ≤ length l → written-to r m ≡ put v (written-to at l)
+    → (r ≡ at + length (numberBytes v)) × (m ≡ sets l at (numberBytes v))
+unfolding written-to
+put-there at v r l m h e =
+    let q = e ∙ put-room at v l h in (ap (λ (w : Placed). w .at) q, ap (λ (w : Placed). w .bytes) q)
+
+-- four numbers written one after the other are the record stored at once
+pub written-behind : (r : Record) (l m₁ m₂ m₃ m₄ : List ℕ) (p₁ p₂ p₃ p₄ : ℕ) → length (recordBytes r) ≤ length l
+    → written-to p₁ m₁ ≡ put (r .clock) (written-to 0 l) → written-to p₂ m₂ ≡ put (r .transaction) (written-to p₁ m₁)
+    → written-to p₃ m₃ ≡ put (r .block) (written-to p₂ m₂) → written-to p₄ m₄ ≡ put (r .outcome) (written-to p₃ m₃) → m₄ ≡ sets l 0 (recordBytes r)
+unfolding recordBytes
+written-behind r l m₁ m₂ m₃ m₄ p₁ p₂ p₃ p₄ room e₁ e₂ e₃ e₄ =
+    let a = numberBytes (r .clock) in
+    let b = numberBytes (r .transaction) in
+    let d = numberBytes (r .block) in
+    let all = recordBytes-length r in
+    let (at₁, one) = put-there 0 (r .clock) p₁ l m₁ (omega (arith, room)) e₁ in
+    let long₁ = ap length one ∙ length-sets l 0 a in
+    let (at₂, two) = put-there p₁ (r .transaction) p₂ m₁ m₂ (omega (arith, room, long₁)) e₂ in
+    let long₂ = ap length two ∙ length-sets m₁ p₁ b in
+    let (at₃, three) = put-there p₂ (r .block) p₃ m₂ m₃ (omega (arith, room, long₁, long₂)) e₃ in
+    let long₃ = ap length three ∙ length-sets m₂ p₂ d in
+    let (at₄, four) = put-there p₃ (r .outcome) p₄ m₃ m₄ (omega (arith, room, long₁, long₂, long₃)) e₄ in
+    let ab = length-append a b in
+    let abd = length-append (a ++ b) d in
+    stored-behind (a ++ b ++ d) _ l m₃ m₄ p₃ (omega (arith, ab, abd)) (stored-behind (a ++ b) d l m₂ m₃ p₂ (omega (arith, ab)) (stored-behind a b l m₁ m₂ p₁ (omega arith) one two) three) four
 
 -- ---- The answer and the rest afterwards
 

@@ -6,6 +6,7 @@ use codec::Field;
 use codec::number_len;
 use codec::put_number;
 use codec::read_field;
+use codec::write_number;
 use constants::Model;
 use constants::refusals::NO_ROOM;
 use constants::refusals::TRACE_NUMBER;
@@ -151,6 +152,34 @@ pub fn write_record(
         return Written::Refused(NO_ROOM);
     }
     Written::Bytes(put_record(rest, clock, transaction, block, outcome))
+}
+
+// The four numbers of a record, each as the report's are written.
+fn place_record(rest: &mut [u8], clock: u64, transaction: u64, block: u64, outcome: u64)
+    requires { ⌜ length (recordBytes (entry clock transaction block outcome)) ≤ length (now rest) ⌝ }
+    ensures { λ _. ⌜ now (rest .exit) ≡ sets (now (rest .entry)) 0 (recordBytes (entry clock transaction block outcome)) ⌝ }
+{
+    let p1 = write_number(rest, 0, clock);
+    let p2 = write_number(rest, p1, transaction);
+    let p3 = write_number(rest, p2, block);
+    write_number(rest, p3, outcome);
+}
+
+// Writes one record alone. The turns have `write_record` for themselves, so that the compiler sets it into their loop.
+pub fn write_one(rest: &mut [u8], clock: u64, transaction: u64, block: u64, outcome: u64) -> Written
+    ensures { λ r. ⌜ writingOf (now (rest .exit)) r ≡ writeRecord inForce (length (now (rest .entry))) (entry clock transaction block outcome) ⌝ }
+    ensures bytes { λ _. ⌜ now (rest .exit) ≡ after (writeRecord inForce (length (now (rest .entry))) (entry clock transaction block outcome)) (now (rest .entry)) ⌝ }
+    ensures count { λ r. ⌜ ((n : ℕ) → r ≡ Written.Bytes n → n ≤ length (now (rest .entry))) ⌝ }
+{
+    if !in_ranges(clock, transaction, block, outcome) {
+        return Written::Refused(TRACE_RANGE);
+    }
+    let len = record_len(clock, transaction, block, outcome);
+    if rest.len() < len {
+        return Written::Refused(NO_ROOM);
+    }
+    place_record(rest, clock, transaction, block, outcome);
+    Written::Bytes(len)
 }
 
 // How many bytes are below 80 hexadecimal: by sixteen words, four words and single words, and the bytes that are left singly.

@@ -20,7 +20,7 @@ use values_queues::ws;
 ghost use Rattle.machine.specs.All.{_≡_, ℕ, _+_, _<_, _≤_, List, maxBlocks, maxFacilities};
 ghost use Rattle.rows_laws.specs.All.{Room, rowCount, nextField, read};
 ghost use Rattle.state.specs.All.{rowsOf};
-ghost use Rattle.turn_laws.specs.Turn.{traced, act, actMoving, clockAsks, asks, schemeIf, afterTaking, turn};
+ghost use Rattle.turn_laws.specs.Turn.{traced, act, actMoving, clockAsks, nextOf, asks, schemeIf, afterTaking, turn};
 
 // The moving transaction, with this number and next block, executes that block, and its record is noted.
 fn act(
@@ -102,10 +102,10 @@ fn clock_asked(tables: &[u32; TABLES], before: u64, after: u64) -> bool
     layout::number(tables, CLOCK_ASKED) != 0
 }
 
-// The block that row k stands before, if it is one.
+// The block that row k stands before, 0 where k is no row.
 fn next_of(work: &[u32], k: u32) -> u32
     requires { ⌜ Room (now work) ⌝ }
-    ensures { λ r. ⌜ (k < rowCount → r ≡ read (now (work .entry)) nextField k) ⌝ }
+    ensures { λ r. ⌜ r ≡ nextOf (now (work .entry)) k ⌝ }
 {
     if k >= ROWS {
         return 0;
@@ -113,15 +113,12 @@ fn next_of(work: &[u32], k: u32) -> u32
     read(work, NEXT, k)
 }
 
-// Are those that wait on comparisons asked again after a turn, of a clock before it, the clock after the taking, the row that moves and
-// the block that it stood before? Not if none of them reads what the block of whoever moves changes.
-fn asked(tables: &[u32; TABLES], before: u64, clock: u64, k: u32, block: u32) -> bool
-    ensures { λ r. ⌜ ((w : List ℕ) (x : Scalars) → x .clock ≡ clock → x .moving ≡ k → (k < rowCount → block ≡ read w nextField k) → r ≡ asks (now (tables .entry)) w before x) ⌝ }
+// Are those that wait on comparisons asked again after a turn, of the clock before and after it and the block of whoever moved? Not if
+// none of them reads what that block changes.
+fn asked(tables: &[u32; TABLES], before: u64, after: u64, block: u32) -> bool
+    ensures { λ r. ⌜ r ≡ asks (now (tables .entry)) before «after» block ⌝ }
 {
-    if clock_asked(tables, before, clock) {
-        return true;
-    }
-    if k >= ROWS {
+    if clock_asked(tables, before, after) {
         return true;
     }
     let b = less32(block, 1) as usize;
@@ -160,18 +157,16 @@ fn scheme_after(
     tally: &[u64; TALLY],
     x: Scalars,
     before: u64,
-    clock: u64,
-    k: u32,
     block: u32,
 )
     requires { ⌜ blocks ≤ maxBlocks ⌝ }
     requires { ⌜ Room (now work) ⌝ }
-    ensures { λ _. ⌜ ((w : List ℕ) (y : Scalars) → y .clock ≡ clock → y .moving ≡ k → (k < rowCount → block ≡ read w nextField k) → now (work .exit) ≡ schemeIf (asks (now (tables .entry)) w before y) (now (tables .entry)) blocks values (now (tally .entry)) x (now (work .entry))) ⌝ }
+    ensures { λ _. ⌜ now (work .exit) ≡ schemeIf (asks (now (tables .entry)) before (x .clock) block) (now (tables .entry)) blocks values (now (tally .entry)) x (now (work .entry)) ⌝ }
 {
     if first(work, WSL) >= ROWS {
         return;
     }
-    let asks = asked(tables, before, clock, k, block);
+    let asks = asked(tables, before, x.clock, block);
     scheme(tables, blocks, values, work, tally, x, asks);
 }
 
@@ -191,9 +186,7 @@ fn after_taking(
     requires { ⌜ Room (now work) ⌝ }
     ensures { λ r. ⌜ traced (rowsOf r (now (work .exit)) (now (tally .exit))) (now (trace .exit)) ≡ afterTaking (now (tables .entry)) (model .blocks) (model .values) (model .facilities) (now (tape .entry)) (now (trace .entry)) before (rowsOf x (now (work .entry)) (now (tally .entry))) ⌝ }
 {
-    let clock = x.clock;
-    let k = x.moving;
-    let block = next_of(work, k);
+    let block = next_of(work, x.moving);
     let y = act_moving(
         tables,
         model.values,
@@ -212,8 +205,6 @@ fn after_taking(
         tally,
         y,
         before,
-        clock,
-        k,
         block,
     );
     y

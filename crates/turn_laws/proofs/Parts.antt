@@ -9,7 +9,7 @@ use Rattle.state.specs.declared.scalars.Scalars.{Scalars}
 use Rattle.state.specs.All.{Rows, rowsOf}
 use Rattle.clock.specs.Taking.{take}
 use Rattle.values_queues_laws.specs.Scheme.{leaves, wsScheme}
-use Rattle.turn_laws.specs.{Noted, noted, noteRecord, Traced, traced, withNote, actMoving, asks, schemeIf, withScheme, afterTaking, turn}
+use Rattle.turn_laws.specs.{Noted, noted, noteRecord, Traced, traced, withNote, actMoving, nextOf, asks, schemeIf, withScheme, afterTaking, turn}
 
 pub note-joined : (y : Scalars) (w tally : List ℕ) (r : Rows) (z : Scalars) (tally′ trace trace′ : List ℕ) (number block : ℕ)
     → rowsOf y w tally ≡ r → noted z tally′ trace′ ≡ noteRecord tally trace y number block → traced (rowsOf z w tally′) trace′ ≡ withNote r trace number block
@@ -38,14 +38,14 @@ scheme-none b tables blocks values tally x w h = go b (eqb (x .end) 0)
     go true false = refl
     go false e = refl
 
-pub after-turned : (tables : List ℕ) (blocks values facilities : ℕ) (tape trace : List ℕ) (before : ℕ) (y : Scalars) (w₁ tally₁ : List ℕ) (b : Bool) (z : Scalars) (w₂ tally₂ trace₂ w₃ : List ℕ)
-    → b ≡ asks tables w₁ before y → traced (rowsOf z w₂ tally₂) trace₂ ≡ actMoving tables values facilities tape w₁ tally₁ trace y
-    → w₃ ≡ schemeIf b tables blocks values tally₂ z w₂
+pub after-turned : (tables : List ℕ) (blocks values facilities : ℕ) (tape trace : List ℕ) (before block : ℕ) (y : Scalars) (w₁ tally₁ : List ℕ) (z : Scalars) (w₂ tally₂ trace₂ w₃ : List ℕ)
+    → block ≡ nextOf w₁ (y .moving) → traced (rowsOf z w₂ tally₂) trace₂ ≡ actMoving tables values facilities tape w₁ tally₁ trace y
+    → w₃ ≡ schemeIf (asks tables before (z .clock) block) tables blocks values tally₂ z w₂
     → traced (rowsOf z w₃ tally₂) trace₂ ≡ afterTaking tables blocks values facilities tape trace before (rowsOf y w₁ tally₁)
 unfolding afterTaking withScheme rowsOf traced
-after-turned tables blocks values facilities tape trace before y w₁ tally₁ b z w₂ tally₂ trace₂ w₃ asked acted schemed =
-    subst (λ (c : Bool). traced (rowsOf z w₃ tally₂) trace₂ ≡ withScheme c tables blocks values (actMoving tables values facilities tape w₁ tally₁ trace y)) asked
-    (subst (λ (a : Traced). traced (rowsOf z w₃ tally₂) trace₂ ≡ withScheme b tables blocks values a) acted
+after-turned tables blocks values facilities tape trace before block y w₁ tally₁ z w₂ tally₂ trace₂ w₃ next acted schemed =
+    subst (λ (a : Traced). traced (rowsOf z w₃ tally₂) trace₂ ≡ withScheme (asks tables before (a .rows .scalars .clock) (nextOf w₁ (y .moving))) tables blocks values a) acted
+    (subst (λ (n : ℕ). traced (rowsOf z w₃ tally₂) trace₂ ≡ withScheme (asks tables before (z .clock) n) tables blocks values (traced (rowsOf z w₂ tally₂) trace₂)) next
     (ap (λ (v : List ℕ). traced (rowsOf z v tally₂) trace₂) schemed))
 
 pub turned : (model : Model) (tables tape w tally trace : List ℕ) (x y : Scalars) (w₁ tally₁ : List ℕ) (a : Traced)

@@ -11,11 +11,12 @@ use Rattle.layout.specs.All.{Represents, headerOf}
 use Rattle.rows_laws.specs.All.{read}
 use Rattle.evaluation.specs.Nested.{Nested}
 use Rattle.state.specs.declared.scalars.Scalars.{Scalars}
-use Rattle.state.specs.All.{Rows, rowsOf, Stands, Done, Bare, noteAs}
+use Rattle.state.specs.All.{Rows, rowsOf, Stands, Done, Bare, Note, enteredNote, waitsNote, noNote, noteAs, logged, countEntry}
 use Rattle.state.proofs.Sane.{Sane}
 use Rattle.state.proofs.Noted.{noted-answer}
 use Rattle.state.proofs.Gains.{Gains}
 use Rattle.state.proofs.BlockGains.{gains-wsScheme}
+use Rattle.state.proofs.TurnGains.{Turned, unnoted, noted, turned}
 use Rattle.state.proofs.Measured.{Took}
 use Rattle.state.proofs.Sanity.{takenOf, Sure, taken-took, sane-taken, sure-turn}
 use Rattle.state.proofs.Written.{inOrder}
@@ -27,7 +28,7 @@ use Rattle.clock.proofs.TakingLaws.{take-stands}
 use Rattle.values_queues_laws.proofs.SchemeLaws.{scheme-stands, scheme-low}
 use Rattle.blocks.specs.Execute.{execute}
 use Rattle.blocks.proofs.ExecuteLaws.{execute-done}
-use Rattle.turn_laws.specs.{noteRecord, Traced, traced, withNote, act, actMoving, clockAsks, asks, schemeIf, withScheme, afterTaking, turn}
+use Rattle.turn_laws.specs.{noteRecord, Traced, traced, withNote, act, actMoving, clockAsks, nextOf, asks, schemeIf, withScheme, afterTaking, turn}
 use Rattle.turn_laws.specs.Writes.{Writes}
 use Rattle.turn_laws.proofs.Runs.{Runs}
 use Rattle.turn_laws.proofs.NoteLaws.{Follows, note-follows}
@@ -128,6 +129,17 @@ module _ {m : BlockModel} {tape : List (List ℕ)} {tapeBytes tables lists befor
 
 -- ---- The turn
 
+-- a block leaves the clock
+clock-left : {s s′ : State} → Turned s s′ → s′ .view .clock ≡ s .view .clock
+unfolding noteAs logged countEntry
+clock-left (unnoted g) = g .clock
+clock-left {s} (noted t e n later h g) = g .clock ∙ by-note n ∙ h .gains .clock
+  where
+    by-note : (n : Note) → noteAs n t s later .view .clock ≡ later .view .clock
+    by-note enteredNote = refl
+    by-note waitsNote = refl
+    by-note noNote = refl
+
 module _ {m : BlockModel} {tape : List (List ℕ)} {tapeBytes tables lists before : List ℕ} (proper : Proper m tape) (rep : Represents m tape tapeBytes tables lists) (nested : Nested m)
     (budget : ℕ) (s : State) (sure : Sure m tape s) (taken : Taken budget (length before) s) (few : length (s .records) ≤ s .turns)
     (a : Traced) (runs : Runs tapeBytes before a s) where
@@ -175,7 +187,7 @@ module _ {m : BlockModel} {tape : List (List ℕ)} {tapeBytes tables lists befor
   ended = sure-turn proper s sure (taken .no-end) (taken .serials) (taken .turns-left)
 
   abbrev asking : Bool
-  asking = asks tables (r₁ .work) (r .scalars .clock) (r₁ .scalars)
+  asking = asks tables (r .scalars .clock) (acted .rows .scalars .clock) (nextOf (r₁ .work) (r₁ .scalars .moving))
 
   -- they are asked
   schemed : Runs tapeBytes before (withScheme true tables (length (m .blocks)) (length (m .values)) acted) (Machine.wsScheme m z)
@@ -200,17 +212,22 @@ module _ {m : BlockModel} {tape : List (List ℕ)} {tapeBytes tables lists befor
   stands₁ : Stands tapeBytes r₁ (y .moving) y
   stands₁ = take-stands proper tapeBytes r s (sure .sane) (taken .turns-left) (runs .stands)
 
-  clock-kept : clockAsks tables (r .scalars .clock) (r₁ .scalars .clock) ≡ false → S theClock → s .view .clock ≡ y .view .clock
+  acted-clock : acted .rows .scalars .clock ≡ y .view .clock
+  acted-clock = acts .stands .counting .clock ∙ sym (scheme-gains .clock) ∙ clock-left (turned proper y)
+
+  clock-kept : clockAsks tables (r .scalars .clock) (acted .rows .scalars .clock) ≡ false → S theClock → s .view .clock ≡ y .view .clock
   unfolding clockAsks
-  clock-kept q h = go (eqb (r .scalars .clock) (r₁ .scalars .clock)) refl q
+  clock-kept q h = go (eqb (r .scalars .clock) (acted .rows .scalars .clock)) refl q
     where
-      go : (c : Bool) → eqb (r .scalars .clock) (r₁ .scalars .clock) ≡ c → cond c false (not (eqb (getD tables Layout.clockAsked 0) 0)) ≡ false → s .view .clock ≡ y .view .clock
-      go true e q = sym (runs .stands .counting .clock) ∙ eqb-true _ _ e ∙ stands₁ .counting .clock
+      go : (c : Bool) → eqb (r .scalars .clock) (acted .rows .scalars .clock) ≡ c → cond c false (not (eqb (getD tables Layout.clockAsked 0) 0)) ≡ false → s .view .clock ≡ y .view .clock
+      go true e q = sym (runs .stands .counting .clock) ∙ eqb-true _ _ e ∙ acted-clock
       go false e q = absurd (not-in theClock (rep .watching .clock (eqb-true _ 0 (not-false _ q))) h)
 
-  mover-spares : (o : Option Transaction) → y .moving ≡ o → Stands tapeBytes r₁ o y
-      → cond (ltb (r₁ .scalars .moving) 1024) (cond (ltb (read (r₁ .work) 6 (r₁ .scalars .moving) - 1) 256) (not (eqb (getD tables (Layout.asked + (read (r₁ .work) 6 (r₁ .scalars .moving) - 1)) 0) 0)) true) true ≡ false
-      → MoverSpares S m o
+  abbrev blockAsks : ℕ → Bool
+  blockAsks n = cond (ltb (n - 1) 256) (not (eqb (getD tables (Layout.asked + (n - 1)) 0) 0)) true
+
+  mover-spares : (o : Option Transaction) → y .moving ≡ o → Stands tapeBytes r₁ o y → blockAsks (nextOf (r₁ .work) (r₁ .scalars .moving)) ≡ false → MoverSpares S m o
+  unfolding nextOf
   mover-spares none e h q = tt
   mover-spares (some t) e h q =
       let next = next-read (h .listing) in
@@ -222,12 +239,9 @@ module _ {m : BlockModel} {tape : List (List ℕ)} {tapeBytes tables lists befor
 
   still : asking ≡ false → Machine.wsScheme m z ≡ z
   unfolding asks
-  still f = go (clockAsks tables (r .scalars .clock) (r₁ .scalars .clock)) refl f
+  still f = go (clockAsks tables (r .scalars .clock) (acted .rows .scalars .clock)) refl f
     where
-      rest : Bool
-      rest = cond (ltb (r₁ .scalars .moving) 1024) (cond (ltb (read (r₁ .work) 6 (r₁ .scalars .moving) - 1) 256) (not (eqb (getD tables (Layout.asked + (read (r₁ .work) 6 (r₁ .scalars .moving) - 1)) 0) 0)) true) true
-
-      go : (c : Bool) → clockAsks tables (r .scalars .clock) (r₁ .scalars .clock) ≡ c → cond c true rest ≡ false → Machine.wsScheme m z ≡ z
+      go : (c : Bool) → clockAsks tables (r .scalars .clock) (acted .rows .scalars .clock) ≡ c → cond c true (blockAsks (nextOf (r₁ .work) (r₁ .scalars .moving))) ≡ false → Machine.wsScheme m z ≡ z
       go true e q = absurd (true≢false q)
       go false e q = scheme-unread S m (rep .watching .watches) s (sure .settled (taken .no-end)) (clock-kept e) (mover-spares (y .moving) refl stands₁ q)
 

@@ -36,13 +36,16 @@ module _ (tables : List ℕ) (values facilities : ℕ) (tape w tally trace : Lis
 unfoldable pub clockAsks : List ℕ → (before after : ℕ) → Bool
 clockAsks tables before after = cond (eqb before after) false (not (eqb (getD tables Layout.clockAsked 0) 0))
 
--- are those on the WSL asked again after the turn? Not if none of them reads what the block of whoever moves changes.
-unfoldable pub asks : (tables w : List ℕ) (before : ℕ) → Scalars → Bool
-asks tables w before x =
-    cond (clockAsks tables before (x .clock)) true
-    (cond (ltb (x .moving) rowCount)
-    (cond (ltb (read w nextField (x .moving) - 1) maxBlocks) (not (eqb (getD tables (Layout.asked + (read w nextField (x .moving) - 1)) 0) 0)) true)
-    true)
+-- the block that row k stands before, 0 where k is no row
+unfoldable pub nextOf : List ℕ → ℕ → ℕ
+nextOf w k = cond (ltb k rowCount) (read w nextField k) 0
+
+-- are those on the WSL asked again after the turn, of the clock before and after it and the block of whoever moved? Not if none of them reads
+-- what that block changes.
+unfoldable pub asks : (tables : List ℕ) (before after block : ℕ) → Bool
+asks tables before after block =
+    cond (clockAsks tables before after) true
+    (cond (ltb (block - 1) maxBlocks) (not (eqb (getD tables (Layout.asked + (block - 1)) 0) 0)) true)
 
 unfoldable pub schemeIf : Bool → (tables : List ℕ) (blocks values : ℕ) (tally : List ℕ) → Scalars → List ℕ → List ℕ
 schemeIf b tables blocks values tally x w = cond b (wsScheme tables blocks values tally x w) w
@@ -55,7 +58,8 @@ withScheme b tables blocks values a =
 -- the block of whoever moves, and the WS scheme; of the clock before the taking
 unfoldable pub afterTaking : (tables : List ℕ) (blocks values facilities : ℕ) (tape trace : List ℕ) (before : ℕ) → Rows → Traced
 afterTaking tables blocks values facilities tape trace before r =
-    withScheme (asks tables (r .work) before (r .scalars)) tables blocks values (actMoving tables values facilities tape (r .work) (r .tally) trace (r .scalars))
+    let a : Traced = actMoving tables values facilities tape (r .work) (r .tally) trace (r .scalars) in
+    withScheme (asks tables before (a .rows .scalars .clock) (nextOf (r .work) (r .scalars .moving))) tables blocks values a
 
 unfoldable pub turn : Model → (tables tape w tally trace : List ℕ) → Scalars → Traced
 turn model tables tape w tally trace x =

@@ -1,18 +1,18 @@
--- `covrith_write_record` meets its contract: the answer of `write_record`, case by case.
+-- `covrith_write_record` meets its contract: the answer of `write_one`, case by case.
 use Rattle.machine.specs.All.{arith, needs}
 use Rattle.covrith.proofs.Records.{wrote-bytes, wrote-nothing}
 use Rattle.covrith.proofs.covrith_write_record as f
 
 returns : f.Tie.Need-returns
 returns c =
-    let call = c .before .before .before .before .before .write-record in
+    let call = c .before .before .before .before .before .write-one in
     let case = c .before .n .given .1 in
-    let answer = wrote-bytes (call .last .0) (call .ensures .0) _ case (omega (arith, (call .ensures .1 .1 _ case) .1)) in
+    let answer = wrote-bytes (call .last .0) (call .ensures .0) _ case (omega (arith, call .ensures .1 .1 _ case)) in
     (answer .0, (answer .1, call .ensures .1 .0))
 
 returns-2 : f.Tie.Need-returns-2
 returns-2 c =
-    let call = c .before .before .before .before .before .write-record in
+    let call = c .before .before .before .before .before .write-one in
     let answer = wrote-nothing (call .last .0) (call .ensures .0) _ (c .before .n2 .given .1) in
     (answer .0, (answer .1, call .ensures .1 .0))
 

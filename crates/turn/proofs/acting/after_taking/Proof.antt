@@ -1,13 +1,7 @@
--- `after_taking` meets its contract: are they asked, the block with its record, the WS scheme.
-use mathlib.Core.Path.{refl}
-use native.Mathlib.Omega.{arith}
+-- `after_taking` meets its contract: the block with its record, are they asked, the WS scheme.
+use Rattle.machine.specs.All.{needs}
 use Rattle.turn_laws.proofs.Parts.{after-turned}
-use borrow.Author.Needs.{needs}
-use Rattle.turn.proofs.acting.after_taking.Statement.{statement}
-use Rattle.turn.proofs.acting.after_taking.Tie as tie
+use Rattle.turn.proofs.acting.after_taking as f
 
-returns : tie.Need-returns
-returns c = after-turned _ _ _ _ _ _ _ _ _ _ _ _ _ _ _ _ refl (c .before .before .before .before .before .before .before .before .before .act-moving .ensures) (c .before .before .scheme-after .ensures _ _ refl refl (c .before .before .before .before .before .before .before .before .before .before .before .before .before .next-of .ensures))
-
-pub after-taking-spec : {M : Type 1} → statement M
-after-taking-spec = tie.close (tie.spec (search needs) (search needs) (search needs) (search needs) (search needs) returns)
+pub after-taking-spec : {M : Type 1} → f.Statement.statement M
+after-taking-spec = f.Tie.close (f.Tie.spec (search needs) (search needs) (search needs) (search needs) (search needs) (λ c. let b = c .before .before .before .before .before .before .before .before .before in after-turned _ _ _ _ _ _ _ _ _ _ _ _ _ _ _ _ (b .before .before .before .before .next-of .ensures) (b .act-moving .ensures) (c .before .before .scheme-after .ensures)))

@@ -1,14 +1,7 @@
 -- `next_of` meets its contract, by cases on the row.
-use native.Mathlib.Omega.{arith}
-use borrow.Author.Needs.{needs}
-use Rattle.turn.proofs.acting.next_of.Statement.{statement}
-use Rattle.turn.proofs.acting.next_of.Tie as tie
+use Rattle.machine.specs.All.{lt-ltb, le-ltb, needs}
+use Rattle.turn_laws.specs.Turn.{nextOf}
+use Rattle.turn.proofs.acting.next_of as f
 
-returns : tie.Need-returns
-returns c = λ h. omega (arith, h, c .if1 .taken)
-
-returns-2 : tie.Need-returns-2
-returns-2 c = λ h. c .read .ensures
-
-pub next-of-spec : {M : Type 1} → statement M
-next-of-spec = tie.close (tie.spec returns (search needs) returns-2)
+pub next-of-spec : {M : Type 1} → f.Statement.statement M
+next-of-spec = f.Tie.close (f.Tie.spec (λ c. unfold nextOf in rw (le-ltb _ 1024 (c .if1 .taken))) (search needs) (λ c. unfold nextOf in rw (lt-ltb _ 1024 (c .before .if1 .left)) (c .read .ensures)))
