@@ -1,24 +1,14 @@
 -- One block over the rows leaves what the machine's block does, apart from its record.
 use Rattle.machine.specs.All.{ℕ, zero, suc, _-_, _≡_, refl, subst, List, _∷_, length, Transaction, always, whenTrue, Block, generate, advance, terminate, waitServer, waitTerms, assign, priority, split, BlockModel, facility, storage, up, down, takes, frees, moves, counts, assemble, preempt, giveBack, State}
-use Rattle.layout.specs.All.{blockForms, blockNumbers, At}
+use Rattle.layout.specs.All.{blockForms, blockNumbers}
 use Rattle.evaluation.proofs.Found.{at-first}
-use Rattle.state.specs.declared.scalars.Scalars.{Scalars}
-use Rattle.state.specs.All.{Done}
-use Rattle.moves.proofs.Before.{placeOf, bareBlock, Before}
-use Rattle.moves.proofs.BeforeLaws.{inside}
-use Rattle.flow_laws.proofs.GenerateLaw.{generate-done}
-use Rattle.flow_laws.proofs.AdvanceLaw.{advance-done}
-use Rattle.flow_laws.proofs.TerminateLaw.{terminate-done}
-use Rattle.flow_laws.proofs.PriorityLaw.{priority-done}
-use Rattle.flow_laws.proofs.SplitLaw.{split-done}
-use Rattle.flow_laws.proofs.GatherLaw.{assemble-done}
-use Rattle.servers_laws.proofs.TakingLaws.{seize-done, enter-done}
-use Rattle.servers_laws.proofs.FreeingLaws.{release-done, leave-done}
-use Rattle.servers_laws.proofs.WaitingLaws.{wait-server-done}
+use Rattle.state.specs.{declared.scalars.Scalars.Scalars, All.Done}
+use Rattle.moves.proofs.{Before.placeOf, Before.bareBlock, Before.Before, BeforeLaws.inside}
+use Rattle.flow_laws.proofs.{GenerateLaw.generate-done, AdvanceLaw.advance-done, TerminateLaw.terminate-done, PriorityLaw.priority-done, SplitLaw.split-done, GatherLaw.assemble-done}
+use Rattle.servers_laws.proofs.{TakingLaws.seize-done, TakingLaws.enter-done, FreeingLaws.release-done, FreeingLaws.leave-done, WaitingLaws.wait-server-done}
 use Rattle.preempt_laws.proofs.PreemptLaws.{preempt-done, give-back-done}
-use Rattle.values_queues_laws.proofs.Operands.{numbers}
+use Rattle.values_queues_laws.proofs.{Operands.numbers, QueueLaws.arrive-done, QueueLaws.depart-done}
 use Rattle.values_queues_laws.proofs.ComparisonLaws.{wait-terms-done, branch-done, goto-done, assign-done}
-use Rattle.values_queues_laws.proofs.QueueLaws.{arrive-done, depart-done}
 use Rattle.blocks.specs.Execute as Rows
 
 module _ {m : BlockModel} {tape : List (List ℕ)} {tapeBytes tables lists w tally : List ℕ} {x : Scalars} {t : Transaction} {s : State} where
@@ -29,7 +19,7 @@ module _ {m : BlockModel} {tape : List (List ℕ)} {tapeBytes tables lists w tal
   unfolding Rows.execute
   by {b} n rest h e =
       subst (λ (k : ℕ). Done tapeBytes (Rows.byKind tables (length (m .values)) (m .facilities) tapeBytes w tally x (placeOf t) k) (bareBlock m b t s))
-      (at-first tables (placeOf t) n rest (subst (At tables (placeOf t)) e (numbers (h .rep) (t .next - 1) (inside h) b (h .is))) .found)
+      (at-first tables _ n rest (rw e at (numbers (h .rep) (t .next - 1) (inside h) b (h .is))) .found)
 
   pub execute-done : (b : Block) → Before m tape tapeBytes tables lists w tally x t s b → Done tapeBytes (Rows.execute tables (length (m .values)) (m .facilities) tapeBytes w tally x (placeOf t)) (bareBlock m b t s)
   unfolding Rows.byKind Rows.later blockForms

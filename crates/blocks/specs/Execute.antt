@@ -1,17 +1,12 @@
 -- The row machine: one block, by its kind.
 use Rattle.machine.specs.All.{ℕ, cond, List, eqb, getD}
-use Rattle.state.specs.declared.scalars.Scalars.{Scalars}
-use Rattle.state.specs.All.{Rows, rowsOf}
+use Rattle.state.specs.{declared.scalars.Scalars.Scalars, All.Rows, All.rowsOf}
 use Rattle.moves.specs.Motion.{withTally}
 use Rattle.flow_laws.specs.Kinds.{generateRows, advanceRows, terminateRows, priorityRows, splitRows}
 use Rattle.flow_laws.specs.Gathering.{assembleRows}
-use Rattle.servers_laws.specs.Taking.{seizeRows, enterRows}
-use Rattle.servers_laws.specs.Freeing.{releaseRows, leaveRows}
+use Rattle.servers_laws.specs.{Taking.seizeRows, Taking.enterRows, Freeing.releaseRows, Freeing.leaveRows, WaitServer.waitServerRows}
 use Rattle.preempt_laws.specs.Preempting.{preemptRows, giveBackRows}
-use Rattle.servers_laws.specs.WaitServer.{waitServerRows}
-use Rattle.values_queues_laws.specs.Comparison.{waitTermsRows, branchRows, assignRows}
-use Rattle.values_queues_laws.specs.Jumps.{gotoRows}
-use Rattle.values_queues_laws.specs.Queues.{arriveRows, departRows}
+use Rattle.values_queues_laws.specs.{Comparison.waitTermsRows, Comparison.branchRows, Comparison.assignRows, Jumps.gotoRows, Queues.arriveRows, Queues.departRows}
 
 module _ (tables : List ℕ) (values facilities : ℕ) (tape w tally : List ℕ) (x : Scalars) (at : ℕ) where
   -- kinds 9 to 20

@@ -1,20 +1,15 @@
 -- A clock move follows the machine: it is counted, and all of the first time come from the FEL to REL.
-use Rattle.machine.specs.All.{ℕ, suc, _+_, _≤_, _<_, _≡_, refl, sym, ap, _∙_, subst, Bool, false, List, [], _∷_, none, arith, lt-ltb, le-ltb, length, getD, maxClock, Transaction, Event, precedes, insert, those, others, BlockModel, State, setRel, setSerial, withSerial, withReturning, Each}
+use Rattle.machine.specs.All.{ℕ, suc, _+_, _≤_, _<_, _≡_, refl, sym, _∙_, subst, Bool, false, List, [], _∷_, none, arith, lt-ltb, le-ltb, length, getD, maxClock, Transaction, Event, precedes, insert, those, others, BlockModel, State, setRel, setSerial, withSerial, withReturning}
 use Rattle.machine.specs.Turn as Machine
-use Rattle.machine.proofs.decoding.Proper.{Proper}
-use Rattle.machine.proofs.lists.Sums.{sum-length, sum-insert, sum-those}
+use Rattle.machine.proofs.{decoding.Proper.Proper, lists.Sums.sum-length, lists.Sums.sum-insert, lists.Sums.sum-those}
 use Rattle.layout.specs.All.{clockMoves}
 use Rattle.rows_laws.specs.All.{rel, fel, first, Arrived, arrive, arrivals, eventAt, update}
-use Rattle.rows_laws.proofs.Take.{Head, nobody, somebody}
-use Rattle.rows_laws.proofs.Laws.{Arrives, head-fel-shows, arrive-shows}
+use Rattle.rows_laws.proofs.{Take.Head, Take.nobody, Take.somebody, Laws.Arrives, Laws.head-fel-shows, Laws.arrive-shows}
 use Rattle.state.specs.declared.scalars.Scalars.{Scalars}
 use Rattle.state.specs.All.{putClock, putSerial, Rows, rowsOf, listsIn, listsOf, Listing, Tallying, Counting, Stands}
-use Rattle.state.proofs.Sane.{Sane}
-use Rattle.state.proofs.Measured.{clocked, moved-clock}
-use Rattle.state.proofs.ListsOf.{lists-set-rel}
+use Rattle.state.proofs.{Sane.Sane, Measured.clocked, Measured.moved-clock, ListsOf.lists-set-rel}
 use Rattle.clock.specs.{countMove, moveClock, nextEvents}
-use Rattle.clock.proofs.Population.{listing-ready}
-use Rattle.clock.proofs.SampleLaws.{tally-moved}
+use Rattle.clock.proofs.{Population.listing-ready, SampleLaws.tally-moved}
 
 -- ---- How many arrive
 
@@ -22,7 +17,6 @@ arrivals-length : (l : List Event) (n : ℕ) (r : List Transaction) → length (
 unfolding arrivals
 arrivals-length [] n r = omega arith
 arrivals-length (e ∷ l) n r =
-    let t : Transaction = withSerial (suc n) (withReturning false (e .who)) in
     omega (
       arith,
       arrivals-length l (suc n) (insert precedes (withSerial (suc n) (withReturning false (e .who))) r),
@@ -66,18 +60,18 @@ module _ {m : BlockModel} {tape : List (List ℕ)} (proper : Proper m tape) (tap
 
     arrives : Arrives w a (update rel ready (listsOf s)) later (s .serial + length due)
     unfolding listsIn
-    arrives = arrive-shows w (listsOf s) (s .fel) (h .listing .shows) e l future (s .serial)
+    arrives = arrive-shows w _ _ (h .listing .shows) e l future _
 
     in-time : e .time ≤ maxClock
-    in-time = subst (Each (λ (y : Event). y .time ≤ maxClock)) future (sane .timely .times) .0
+    in-time = rw future at (sane .timely .times) .0
 
     ahead : s .view .clock ≤ e .time
-    ahead = subst (Each (λ (y : Event). s .view .clock ≤ y .time)) future (sane .ahead) .0
+    ahead = rw future at (sane .ahead) .0
 
     listed : Listing (a .rows) (x .moving) none s′
     unfolding clocked listsIn
     listed =
-        listing-ready w (a .rows) (x .moving) (x .moving) none none s s′ (h .listing) ready later (arrives .shows)
+        listing-ready w _ _ _ none none s s′ (h .listing) ready later (arrives .shows)
         (omega (arith, arrives .steady .count, arrivals-length due (s .serial) (s .rel), split-length (Machine.due (e .time)) (s .fel)))
         (λ q hq. lists-set-rel s ready q hq) refl refl (h .listing .mover)
 
@@ -107,38 +101,36 @@ module _ {m : BlockModel} {tape : List (List ℕ)} (proper : Proper m tape) (tap
 
     pub clock-stands : Stands tapeBytes (moveClock w (r .tally) x (e .time)) none (Machine.moveClock (e .time) s)
     clock-stands =
-        subst (Stands tapeBytes (moveClock w (r .tally) x (e .time)) none) (sym (moved-clock (e .time) s)) moved
+        rw (moved-clock (e .time) s) moved
 
     pub clock-moving : Machine.moveClock (e .time) s .moving ≡ s .moving
     unfolding clocked
-    clock-moving = ap (λ z. z .moving) (moved-clock (e .time) s)
+    clock-moving = cc (moved-clock (e .time) s)
 
   -- ---- Where there is one
 
   events-none : 1024 ≤ first w fel → nextEvents w (r .tally) x ≡ r
   unfolding nextEvents rowsOf
-  events-none n = rw (le-ltb (first w fel) 1024 n)
+  events-none n = rw le-ltb
 
   events-some : first w fel < 1024
       → nextEvents w (r .tally) x ≡ moveClock w (r .tally) x (eventAt w (first w fel) .time)
   unfolding nextEvents eventAt
   events-some n =
-      let small : x .serial < 4000000000 = omega (arith, h .counting .serial, sane .serials) in
-      rw (lt-ltb (first w fel) 1024 n, lt-ltb (x .serial) 4000000000 small)
+      rw (lt-ltb (first w fel) 1024 n, lt-ltb (x .serial) 4000000000 (omega (arith, h .counting .serial, sane .serials)))
 
   pub events-stands : s .moving ≡ none
       → Stands tapeBytes (nextEvents w (r .tally) x) none (Machine.nextEvents (s .fel) s) × (Machine.nextEvents (s .fel) s .moving ≡ none)
   unfolding Machine.nextEvents
-  events-stands idle = go (head-fel-shows w (listsOf s) (s .fel) (h .listing .shows))
+  events-stands idle = go (head-fel-shows w _ _ (h .listing .shows))
     where
       Goal : List Event → Type 0
       Goal l = Stands tapeBytes (nextEvents w (r .tally) x) none (Machine.nextEvents l s) × (Machine.nextEvents l s .moving ≡ none)
 
       go : Head w fel (eventAt w) (s .fel) → Goal (s .fel)
-      go (nobody e n) = subst Goal (sym e) (subst (λ (y : Rows). Stands tapeBytes y none s) (sym (events-none n)) h, idle)
+      go (nobody e n) = subst Goal (sym e) (rw (events-none n) h, idle)
       go (somebody l e n) =
           subst Goal (sym e) (
-            subst (λ (y : Rows). Stands tapeBytes y none (Machine.moveClock (eventAt w (first w fel) .time) s)) (sym (events-some n))
-                (clock-stands (eventAt w (first w fel)) l e),
-            clock-moving (eventAt w (first w fel)) l e ∙ idle,
+            rw (events-some n) (clock-stands (eventAt w (first w fel)) l e),
+            clock-moving _ l e ∙ idle,
           )

@@ -2,9 +2,7 @@
 use Rattle.machine.specs.All.{ℕ, suc, _≤_, _<_, _≡_, refl, sym, ap, subst, List, _∷_, Option, none, some, arith, lt-ltb, le-ltb, length, drop, Transaction, State, setRel, setMoving}
 use Rattle.machine.specs.Turn as Machine
 use Rattle.rows_laws.specs.All.{rel, removeAt, first, takeFirst, transactionAt, update, Shows}
-use Rattle.rows_laws.proofs.Data.{transaction-kept}
-use Rattle.rows_laws.proofs.Take.{Head, nobody, somebody}
-use Rattle.rows_laws.proofs.Laws.{Takes, head-shows, take-shows}
+use Rattle.rows_laws.proofs.{Data.transaction-kept, Take.Head, Take.nobody, Take.somebody, Laws.head-shows, Laws.take-shows}
 use Rattle.state.specs.All.{putMoving, Rows, rowsOf, listsIn, listsOf, Stands}
 use Rattle.state.proofs.ListsOf.{lists-set-rel}
 use Rattle.clock.specs.{readyScalars, takeReady}
@@ -13,11 +11,11 @@ use Rattle.clock.proofs.Population.{listing-ready}
 -- nobody is on REL: nothing changes
 ready-none : (r : Rows) → 1024 ≤ first (r .work) rel → takeReady r ≡ r
 unfolding takeReady readyScalars rowsOf removeAt
-ready-none r h = rw (le-ltb (first (r .work) rel) 1024 h)
+ready-none r h = rw le-ltb
 
 ready-some : (r : Rows) → first (r .work) rel < 1024 → takeReady r ≡ rowsOf (putMoving (first (r .work) rel) (r .scalars)) (takeFirst (r .work) rel) (r .tally)
 unfolding takeReady readyScalars
-ready-some r h = rw (lt-ltb (first (r .work) rel) 1024 h)
+ready-some r h = rw lt-ltb
 
 module _ (tapeBytes : List ℕ) (r : Rows) (s : State) (h : Stands tapeBytes r none s) where
   abbrev w : List ℕ
@@ -32,7 +30,7 @@ module _ (tapeBytes : List ℕ) (r : Rows) (s : State) (h : Stands tapeBytes r n
   unfolding listsIn rowsOf
   taken m e n =
       let t : Transaction = transactionAt w k in
-      let c : Takes w (takeFirst w rel) k (update rel (drop 1 (listsOf s rel)) (listsOf s)) (s .fel) = take-shows w (listsOf s) (s .fel) (h .listing .shows) rel (omega arith) n in
+      let c = take-shows w (listsOf s) (s .fel) (h .listing .shows) rel (omega arith) n in
       let tail : drop 1 (s .rel) ≡ m = ap (drop 1) e in
       let len : length (s .rel) ≡ suc (length m) = ap length e in
       subst (λ (x : Rows). Stands tapeBytes x (some (transactionAt w k)) (setMoving (some (transactionAt w k)) (setRel m s))) (sym (ready-some r n))
@@ -47,7 +45,7 @@ module _ (tapeBytes : List ℕ) (r : Rows) (s : State) (h : Stands tapeBytes r n
 
   pub ready-stands : s .moving ≡ none → Stands tapeBytes (takeReady r) (Machine.takeFirst (s .rel) s .moving) (Machine.takeFirst (s .rel) s)
   unfolding Machine.takeFirst listsIn
-  ready-stands none-moves = go (head-shows w (listsOf s) (s .fel) (h .listing .shows) rel (omega arith))
+  ready-stands none-moves = go (head-shows w _ _ (h .listing .shows) rel (omega arith))
     where
       Goal : List Transaction → Type 0
       Goal l = Stands tapeBytes (takeReady r) (Machine.takeFirst l s .moving) (Machine.takeFirst l s)
@@ -55,5 +53,5 @@ module _ (tapeBytes : List ℕ) (r : Rows) (s : State) (h : Stands tapeBytes r n
       go : Head w rel (transactionAt w) (s .rel) → Goal (s .rel)
       go (nobody e n) =
           subst Goal (sym e)
-          (subst (λ (x : Rows). Stands tapeBytes x (s .moving) s) (sym (ready-none r n)) (subst (λ (o : Option Transaction). Stands tapeBytes r o s) (sym none-moves) h))
-      go (somebody m e n) = subst Goal (sym e) (taken m e n)
+          (rw (ready-none r n) (subst (λ (o : Option Transaction). Stands tapeBytes r o s) (sym none-moves) h))
+      go (somebody m e n) = rw e (taken m e n)

@@ -7,7 +7,7 @@ use Rattle.clock.specs.{countMove, movedTo, moveClock, firstTime, nextEv
 
 pub ready-taken : (w : List ℕ) (x y : Scalars) (k : ℕ) → y ≡ x → k ≡ first w rel → k < 1024 → putMoving k y ≡ readyScalars w x
 unfolding readyScalars
-ready-taken w x y k same e h = rw (same, ← e, lt-ltb k 1024 h)
+ready-taken w x y k same e h = rw (same, ← e, lt-ltb)
 
 module _ (w t : List ℕ) (x : Scalars) where
   pub clock-moved : (y : Scalars) (time : ℕ) (w′ t′ : List ℕ) (serial : ℕ) → y ≡ x → t′ ≡ countMove t → arrived w′ serial ≡ arrive 1024 time w (x .serial)
@@ -20,38 +20,37 @@ module _ (w t : List ℕ) (x : Scalars) where
 
   pub events-none : 1024 ≤ first w fel → rowsOf x w t ≡ nextEvents w t x
   unfolding nextEvents
-  events-none h = rw (le-ltb (first w fel) 1024 h)
+  events-none h = rw le-ltb
 
   pub events-spent : first w fel < 1024 → 4000000000 ≤ x .serial → rowsOf x w t ≡ nextEvents w t x
   unfolding nextEvents
-  events-spent h s = rw (lt-ltb (first w fel) 1024 h, le-ltb (x .serial) 4000000000 s)
+  events-spent h s = rw (lt-ltb, le-ltb)
 
   pub events-come : (time : ℕ) (r : Rows) → first w fel < 1024 → x .serial < 4000000000 → time ≡ firstTime w
       → r ≡ moveClock w t x time → r ≡ nextEvents w t x
   unfolding nextEvents
   events-come time r h s e moves =
-      rw (lt-ltb (first w fel) 1024 h, lt-ltb (x .serial) 4000000000 s) (moves ∙ ap (moveClock w t x) e)
+      rw (lt-ltb, lt-ltb) (cc (moves, e))
 
   module _ (n : ℕ) (turns : n ≡ min (x .turns + 1) 4294967295) where
     counts : putTurns n x ≡ counted x
     unfolding counted
-    counts = ap (λ (k : ℕ). putTurns k x) turns
+    counts = cc turns
 
     pub take-moving : x .moving < 1024 → rowsOf (putTurns n x) w t ≡ take w t x
     unfolding take
-    take-moving h = rw (lt-ltb (x .moving) 1024 h) (ap (λ (y : Scalars). rowsOf y w t) counts)
+    take-moving h = rw lt-ltb (cc counts)
 
     pub take-first : (y : Scalars) (w′ : List ℕ) → 1024 ≤ x .moving → first w rel < 1024 → y ≡ readyScalars w (putTurns n x) → w′ ≡ readyWork w
         → rowsOf y w′ t ≡ take w t x
     unfolding take takeReady rowsOf
     take-first y w′ h f ready taken =
-        rw (le-ltb (x .moving) 1024 h, lt-ltb (first w rel) 1024 f)
-        (ap (λ (z : Scalars). rowsOf z w′ t) (ready ∙ ap (readyScalars w) counts) ∙ ap (λ (l : List ℕ). rowsOf (readyScalars w (counted x)) l t) taken)
+        rw (le-ltb, lt-ltb)
+        (cc (ready, counts, taken))
 
     pub take-later : (z y : Scalars) (w₁ t₁ w′ : List ℕ) → 1024 ≤ x .moving → 1024 ≤ first w rel → rowsOf z w₁ t₁ ≡ nextEvents w t (putTurns n x)
         → y ≡ readyScalars w₁ z → w′ ≡ readyWork w₁ → rowsOf y w′ t₁ ≡ take w t x
     unfolding take takeReady rowsOf
     take-later z y w₁ t₁ w′ h f events ready taken =
-        rw (le-ltb (x .moving) 1024 h, le-ltb (first w rel) 1024 f)
-        (ap (λ (z : Scalars). rowsOf z w′ t₁) ready ∙ ap (λ (l : List ℕ). rowsOf (readyScalars w₁ z) l t₁) taken
-        ∙ ap takeReady (events ∙ ap (nextEvents w t) counts))
+        rw (le-ltb, le-ltb)
+        (cc (ready, taken, events, counts))

@@ -1,17 +1,14 @@
 -- The taking follows the machine: where the rows stand for a state before a turn, what `take` leaves stands for the state in which
 -- the turn's block finds the machine.
-use Rattle.machine.specs.All.{ℕ, suc, _≤_, _<_, _≡_, refl, sym, ap, _∙_, subst, false, List, [], _∷_, Option, none, some, arith, lt-ltb, le-ltb, maxTurns, Transaction, Event, BlockModel, State, setTurns, withReturning, toRel}
+use Rattle.machine.specs.All.{ℕ, suc, _≤_, _<_, _≡_, refl, sym, subst, List, [], _∷_, Option, none, some, arith, lt-ltb, le-ltb, maxTurns, Transaction, Event, BlockModel, State, setTurns, toRel}
 use Rattle.machine.specs.Turn as Machine
 use Rattle.machine.proofs.decoding.Proper.{Proper}
-use Rattle.rows_laws.specs.All.{rel, first, transactionAt}
-use Rattle.rows_laws.proofs.Take.{Head, nobody, somebody}
-use Rattle.rows_laws.proofs.Laws.{head-shows}
-use Rattle.state.specs.All.{Rows, rowsOf, listsIn, listsOf, Stands}
-use Rattle.state.proofs.Sane.{Sane}
-use Rattle.state.proofs.Sanity.{takenOf, sane-turns}
+use Rattle.rows_laws.specs.All.{rel, transactionAt}
+use Rattle.rows_laws.proofs.{Take.Head, Take.nobody, Take.somebody, Laws.head-shows}
+use Rattle.state.specs.All.{Rows, rowsOf, listsIn, Stands}
+use Rattle.state.proofs.{Sane.Sane, Sanity.takenOf, Sanity.sane-turns}
 use Rattle.clock.specs.{nextEvents, takeReady, counted, take}
-use Rattle.clock.proofs.ReadyLaws.{ready-stands}
-use Rattle.clock.proofs.ClockLaws.{events-stands}
+use Rattle.clock.proofs.{ReadyLaws.ready-stands, ClockLaws.events-stands}
 
 -- ---- The count of turns does not matter to the taking
 
@@ -19,7 +16,7 @@ module _ (n : ℕ) where
   arriveAll-turns : (l : List Event) (s : State) → Machine.arriveAll l (setTurns n s) ≡ setTurns n (Machine.arriveAll l s)
   unfolding Machine.arriveAll toRel
   arriveAll-turns [] s = refl
-  arriveAll-turns (e ∷ l) s = arriveAll-turns l (toRel (withReturning false (e .who)) s)
+  arriveAll-turns (e ∷ l) s = arriveAll-turns l _
 
   nextEvents-turns : (l : List Event) (s : State) → Machine.nextEvents l (setTurns n s) ≡ setTurns n (Machine.nextEvents l s)
   unfolding Machine.nextEvents Machine.moveClock Machine.sample
@@ -34,13 +31,13 @@ module _ (n : ℕ) where
   takeReady-turns : (l : List Transaction) (s : State) → Machine.takeReady l (setTurns n s) ≡ setTurns n (Machine.takeReady l s)
   unfolding Machine.takeReady
   takeReady-turns [] s =
-      ap (λ (x : State). Machine.takeFirst (x .rel) x) (nextEvents-turns (s .fel) s) ∙ takeFirst-turns (Machine.nextEvents (s .fel) s .rel) (Machine.nextEvents (s .fel) s)
-  takeReady-turns (t ∷ l) s = takeFirst-turns (t ∷ l) s
+      rw (nextEvents-turns (s .fel) s, takeFirst-turns (Machine.nextEvents (s .fel) s .rel) (Machine.nextEvents (s .fel) s))
+  takeReady-turns (t ∷ l) s = takeFirst-turns _ s
 
 -- ---- A turn is counted
 
 sane-counted : {m : BlockModel} (s : State) → s .turns < maxTurns → Sane m s → Sane m (setTurns (suc (s .turns)) s)
-sane-counted s few k = sane-turns (suc (s .turns)) (s .end) s (omega arith) (omega arith) k
+sane-counted s few k = sane-turns _ _ s (omega arith) (omega arith) k
 
 stands-counted : (tapeBytes : List ℕ) (r : Rows) (o : Option Transaction) (s : State) → s .turns < maxTurns → Stands tapeBytes r o s
     → Stands tapeBytes (rowsOf (counted (r .scalars)) (r .work) (r .tally)) o (setTurns (suc (s .turns)) s)
@@ -55,7 +52,7 @@ stands-counted tapeBytes r o s few h =
             waits = h .tallying .waits;
             seen =
                 record {
-                  moves = omega (arith, h .tallying .seen .moves);
+                  moves = omega arith;
                   before = h .tallying .seen .before;
                   clocks = h .tallying .seen .clocks;
                   current = h .tallying .seen .current;
@@ -71,7 +68,7 @@ stands-counted tapeBytes r o s few h =
             serial = h .counting .serial;
             made = h .counting .made;
             ended = h .counting .ended;
-            turns = omega (arith, h .counting .turns);
+            turns = omega arith;
             used = h .counting .used;
             end = h .counting .end;
           };
@@ -94,18 +91,18 @@ module _ {m : BlockModel} {tape : List (List ℕ)} (proper : Proper m tape) (tap
   take-moving : (t : Transaction) → Stands tapeBytes r (some t) s → Stands tapeBytes taken (some t) s⁺
   unfolding take
   take-moving t h =
-      rw (lt-ltb (r .scalars .moving) 1024 (h .listing .mover .0 .row)) (stands-counted tapeBytes r (some t) s few h)
+      rw (lt-ltb _ 1024 (h .listing .mover .0 .row)) (stands-counted tapeBytes r _ s few h)
 
   -- else somebody is on REL, or the clock moves
   take-next : Stands tapeBytes r none s → s .moving ≡ none → Stands tapeBytes taken (Machine.takeReady (s .rel) s⁺ .moving) (Machine.takeReady (s .rel) s⁺)
   unfolding take Machine.takeReady rowsOf counted listsIn
-  take-next h idle = go (head-shows (r .work) (listsOf s) (s .fel) (h .listing .shows) rel (omega arith))
+  take-next h idle = go (head-shows _ _ _ (h .listing .shows) rel (omega arith))
     where
       h⁺ : Stands tapeBytes r⁺ none s⁺
       h⁺ = stands-counted tapeBytes r none s few h
 
       nobody-moves : 1024 ≤ r .scalars .moving
-      nobody-moves = omega (arith, h .listing .mover)
+      nobody-moves = omega arith
 
       Goal : List Transaction → Type 0
       Goal l = Stands tapeBytes taken (Machine.takeReady l s⁺ .moving) (Machine.takeReady l s⁺)
@@ -113,20 +110,20 @@ module _ {m : BlockModel} {tape : List (List ℕ)} (proper : Proper m tape) (tap
       go : Head (r .work) rel (transactionAt (r .work)) (s .rel) → Goal (s .rel)
       go (somebody l e n) =
           subst Goal (sym e)
-          (rw (le-ltb (r .scalars .moving) 1024 nobody-moves, lt-ltb (first (r .work) rel) 1024 n)
-          (subst (λ (x : List Transaction). Stands tapeBytes (takeReady r⁺) (Machine.takeFirst x s⁺ .moving) (Machine.takeFirst x s⁺)) e (ready-stands tapeBytes r⁺ s⁺ h⁺ idle)))
+          (rw (le-ltb _ 1024 nobody-moves, lt-ltb)
+          (rw (← e) (ready-stands tapeBytes r⁺ s⁺ h⁺ idle)))
       go (nobody e n) =
-          let later = events-stands proper tapeBytes r⁺ s⁺ (sane-counted s few sane) h⁺ (omega (arith, h .tallying .seen .moves)) idle in
+          let later = events-stands proper tapeBytes r⁺ s⁺ (sane-counted s few sane) h⁺ (omega arith) idle in
           subst Goal (sym e)
-          (rw (le-ltb (r .scalars .moving) 1024 nobody-moves, le-ltb (first (r .work) rel) 1024 n)
-          (ready-stands tapeBytes (nextEvents (r .work) (r .tally) (counted (r .scalars))) (Machine.nextEvents (s .fel) s⁺) (later .0) (later .1)))
+          (rw (le-ltb _ 1024 nobody-moves, le-ltb)
+          (ready-stands tapeBytes _ _ (later .0) (later .1)))
 
   take-by : (o : Option Transaction) → s .moving ≡ o → Stands tapeBytes r o s
       → Stands tapeBytes taken (Machine.taking o s .moving) (setTurns (suc (s .turns)) (Machine.taking o s))
   unfolding Machine.taking
-  take-by (some t) e h = subst (λ (o : Option Transaction). Stands tapeBytes taken o s⁺) (sym e) (take-moving t h)
+  take-by (some t) e h = rw (← e) at (take-moving t h)
   take-by none e h =
-      subst (λ (x : State). Stands tapeBytes taken (x .moving) x) (takeReady-turns (suc (s .turns)) (s .rel) s) (take-next h e)
+      rw (takeReady-turns (suc (s .turns)) (s .rel) s) at (take-next h e)
 
   pub take-stands : Stands tapeBytes r (s .moving) s → Stands tapeBytes taken (takenOf s .moving) (takenOf s)
-  take-stands h = take-by (s .moving) refl h
+  take-stands h = take-by _ refl h

@@ -1,47 +1,46 @@
 -- A field, pure: the answer of `read_field` in the paper's terms; a number within the range reads back; what a field takes
 -- is, written again, the same bytes.
-use Rattle.machine.specs.All.{ℕ, suc, _+_, _≤_, arith, Bool, true, false, cond, _&&_, List, _++_, Option, none, some, _≡_, refl, sym, ap, _∙_, leb, length, drop, take, take-append-drop, drop-append-seam, drop-drop, length-take-le, le-leb, leb-true, maxNumberBytes, fiveGroups, Number, numberBytes, readNumber, Cursor, Parsed, parsed, refused, fieldOf, fieldUpTo}
-use Rattle.codec.specs.declared.Field.{Field}
-use Rattle.codec.specs.declared.Field.the-variants.{Value, Refused}
+use Rattle.machine.specs.All.{clash, ℕ, suc, _+_, _≤_, arith, Bool, true, false, cond, _&&_, List, _++_, Option, none, some, _≡_, refl, sym, ap, _∙_, leb, length, drop, take-append-drop, drop-append-seam, drop-drop, length-take-le, le-leb, leb-true, maxNumberBytes, fiveGroups, Number, numberBytes, readNumber, Cursor, Parsed, parsed, refused, fieldOf, fieldUpTo}
+use Rattle.codec.specs.{declared.Field.Field, declared.Field.the-variants.Value, declared.Field.the-variants.Refused}
 use Rattle.codec.specs.{cursorAt, parsedOf}
-use Rattle.codec.proofs.Groups.{Bytes, bytes-drop}
-use Rattle.codec.proofs.Numbers.{numberBytes-length, numberBytes-reads, numberBytes-read, accepted}
+use Rattle.codec.proofs as our
+use our.Groups.{Bytes, bytes-drop}
+use our.Numbers.{numberBytes-length, numberBytes-reads, numberBytes-read, accepted}
 
 -- ---- The answer
 
 module _ (numbers mentions : ℕ) (r : Field) {p : Parsed ℕ} (e : parsedOf numbers mentions r ≡ p) where
   pub value-parsed : {v next : ℕ} → r ≡ Value v next → p ≡ parsed v (cursorAt next numbers mentions)
   unfolding parsedOf
-  value-parsed h = sym e ∙ ap (parsedOf numbers mentions) h
+  value-parsed h = cc (e, h)
 
   pub refusal-parsed : {n : ℕ} → r ≡ Refused n → p ≡ refused n
   unfolding parsedOf
-  refusal-parsed h = sym e ∙ ap (parsedOf numbers mentions) h
+  refusal-parsed h = cc (e, h)
 
 -- ---- Two tests in one
 
 pub both-true : (a b : Bool) → a && b ≡ true → (a ≡ true) × (b ≡ true)
 both-true true b e = (refl, e)
-both-true false b e = let z : _≡_ {A = ℕ} 0 1 = cc in absurd (omega arith)
+both-true false b e = clash (cc)
 
 pub between : (lo v hi : ℕ) → leb lo v && leb v hi ≡ true → (lo ≤ v) × (v ≤ hi)
 between lo v hi e =
-    let t = both-true (leb lo v) (leb v hi) e in
+    let t = both-true _ _ e in
     (leb-true lo v (t .0), leb-true v hi (t .1))
 
 -- ---- Written, then read
 
 -- what follows a number that stands at a position
 pub drop-past : (s u rest : List ℕ) (at : ℕ) → drop at s ≡ u ++ rest → drop (at + length u) s ≡ rest
-drop-past s u rest at e = sym (drop-drop (length u) at s) ∙ ap (drop (length u)) e ∙ drop-append-seam u rest
+drop-past s u rest at e = cc (drop-drop (length u) at s, e, drop-append-seam u rest)
 
 pub field-reads : (s rest : List ℕ) (most at v code lo hi numbers mentions : ℕ) →
     drop at s ≡ numberBytes v ++ rest → lo ≤ v → v ≤ hi → hi ≤ most → most ≤ fiveGroups →
     fieldUpTo most s code lo hi (cursorAt at numbers mentions) ≡ parsed v (cursorAt (at + length (numberBytes v)) numbers mentions)
 unfolding fieldUpTo fieldOf
 field-reads s rest most at v code lo hi numbers mentions e low high size groups =
-    let fits = numberBytes-length 4 v (omega arith) in
-    rw (e, numberBytes-reads maxNumberBytes most v rest (omega arith) (omega arith) fits, le-leb lo v low, le-leb v hi high)
+    rw (e, numberBytes-reads maxNumberBytes most v rest (omega arith) (omega arith) (numberBytes-length 4 v (omega arith)), le-leb, le-leb)
 
 -- ---- Read, then written
 
@@ -56,7 +55,7 @@ pub field-taken : (s : List ℕ) (most at v code lo hi numbers mentions : ℕ) (
     fieldUpTo most s code lo hi (cursorAt at numbers mentions) ≡ parsed v after → FieldTaken s at lo hi v after numbers mentions
 unfolding fieldUpTo fieldOf
 field-taken s most at v code lo hi numbers mentions after bytes e =
-    go (readNumber maxNumberBytes most (drop at s)) refl e
+    go _ refl e
   where
     found : (n : Number) → readNumber maxNumberBytes most (drop at s) ≡ some n → (t : Bool) →
         leb lo (n .value) && leb (n .value) hi ≡ t →
@@ -65,24 +64,21 @@ field-taken s most at v code lo hi numbers mentions after bytes e =
     found n f true t g =
         let ev : n .value ≡ v = cc in
         let ec : cursorAt (at + n .size) numbers mentions ≡ after = cc in
-        let inside = accepted maxNumberBytes most (drop at s) n f .inside in
-        let nb : numberBytes v ≡ take (n .size) (drop at s) =
+        let inside = accepted maxNumberBytes most _ n f .inside in
+        let nb =
         ap numberBytes (sym ev) ∙ numberBytes-read maxNumberBytes most (drop at s) n (omega arith) (bytes-drop at s bytes) f in
-        let len : length (numberBytes v) ≡ n .size = ap length nb ∙ length-take-le (n .size) (drop at s) inside in
-        let range = between lo (n .value) hi t in
+        let len = ap length nb ∙ length-take-le _ _ inside in
+        let range = between lo _ hi t in
         record {
           low = rw ev at (range .0);
           high = rw ev at (range .1);
           bytes =
-              sym (take-append-drop (n .size) (drop at s))
-              ∙ ap (λ (u : List ℕ). u ++ drop (n .size) (drop at s)) (sym nb)
-              ∙ ap (λ (u : List ℕ). numberBytes v ++ u)
-              (drop-drop (n .size) at s ∙ ap (λ (m : ℕ). drop (at + m) s) (sym len));
-          cursor = sym ec ∙ ap (λ (m : ℕ). cursorAt (at + m) numbers mentions) (sym len);
+              cc (take-append-drop (n .size) (drop at s), nb, drop-drop (n .size) at s, len);
+          cursor = cc (ec, len);
         }
-    found n f false t g = let z : _≡_ {A = ℕ} 0 1 = cc in absurd (omega arith)
+    found n f false t g = clash (cc)
 
     go : (o : Option Number) → readNumber maxNumberBytes most (drop at s) ≡ o →
         fieldOf code lo hi o (cursorAt at numbers mentions) ≡ parsed v after → FieldTaken s at lo hi v after numbers mentions
-    go none f g = let z : _≡_ {A = ℕ} 0 1 = cc in absurd (omega arith)
-    go (some n) f g = found n f (leb lo (n .value) && leb (n .value) hi) refl g
+    go none f g = clash (cc)
+    go (some n) f g = found n f _ refl g

@@ -1,9 +1,6 @@
 -- What the answers of this crate say in the paper's terms. The contracts use these.
 use Rattle.machine.specs.All.{ℕ, _+_, _-_, Option, none, some, Number, Cursor, Parsed, parsed, refused}
-use Rattle.codec.specs.declared.Read.{Read}
-use Rattle.codec.specs.declared.Read.the-variants.{Number as Whole, Refused as Unread}
-use Rattle.codec.specs.declared.Field.{Field}
-use Rattle.codec.specs.declared.Field.the-variants.{Value, Refused}
+use Rattle.codec.specs.{declared.Read.Read, declared.Read.the-variants.Number as Whole, declared.Read.the-variants.Refused as Unread, declared.Field.Field, declared.Field.the-variants.Value, declared.Field.the-variants.Refused}
 
 -- a number read at a position: its value and how many bytes it takes
 unfoldable pub numberOf : ℕ → Read → Option Number

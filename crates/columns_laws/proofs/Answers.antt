@@ -1,18 +1,12 @@
 -- The answers of both directions, pure: what the walks found decides the answer and what the buffer then holds.
-use Rattle.machine.specs.All.{ℕ, _+_, _*_, _≤_, _<_, zero-add, arith, Bool, true, false, cond, List, [], _∷_, _++_, Option, none, some, _≡_, refl, ap, _∙_, length, take, drop, length-map, sets, sets-eq, take-append-seam, le-leb, lt-leb, inForce, numberBytes, Record, traceBytes, Writing, written, rejected, readRecord}
+use Rattle.machine.specs.All.{clash, ℕ, _+_, _*_, _≤_, _<_, zero-add, arith, Bool, true, false, cond, List, [], _∷_, _++_, Option, none, some, _≡_, refl, ap, _∙_, length, take, drop, length-map, sets, sets-eq, take-append-seam, le-leb, lt-leb, inForce, numberBytes, Record, traceBytes, Writing, written, rejected, readRecord}
 use Rattle.codec.specs.Writing as buffer
 use Rattle.codec.specs.Writing.{put}
 use Rattle.codec.proofs.Writing.{put-room, written-bytes}
 use Rattle.trace.specs.Answers.{after}
-use Rattle.columns_laws.specs.declared.walk.Walk.{Walk}
-use Rattle.columns_laws.specs.declared.measure.Measured.the-variants.{Taken, Refused}
-use Rattle.columns_laws.specs.declared.survey.Survey.{Survey}
-use Rattle.columns_laws.specs.declared.survey.Survey.the-variants.{Taken as Surveys, Refused as NoColumns}
+use Rattle.columns_laws.specs.{declared.walk.Walk.Walk, declared.measure.Measured.the-variants.Taken, declared.measure.Measured.the-variants.Refused, declared.survey.Survey.Survey, declared.survey.Survey.the-variants.Taken as Surveys, declared.survey.Survey.the-variants.Refused as NoColumns}
 use Rattle.columns_laws.specs.{maxRecords, clocks, transactions, blocks, outcomes, differences, column, columnBytes, neverFall, wholeFrom, rising, takenTrace, takenColumns, answer, toColumns, fromColumns, atStart, totalsOf, Totals, totalled, totals, placeAll, restoreAll, foundAll, Holds, Surveyed}
-use Rattle.columns_laws.proofs.Claims.{taken-such}
-use Rattle.columns_laws.proofs.Placing.{columns-length, columns-placed}
-use Rattle.columns_laws.proofs.Surveying.{column-longest}
-use Rattle.columns_laws.proofs.Restoring.{restored-all}
+use Rattle.columns_laws.proofs.{Claims.taken-such, Placing.columns-length, Placing.columns-placed, Surveying.column-longest, Restoring.restored-all}
 
 -- ---- One answer
 
@@ -57,7 +51,7 @@ module _ (s : List ℕ) where
   measured-none e = go _ e
     where
       choose : (l : List Record) (b : Bool) → none ≡ cond b (some (totalled 0 atStart l)) none → cond b (some l) none ≡ none
-      choose l true f = let z : _≡_ {A = ℕ} 0 1 = cc in absurd (omega arith)
+      choose l true f = clash (cc)
       choose l false f = refl
 
       go : (o : Option (List Record)) → none ≡ totals 0 atStart o → rising o ≡ none
@@ -87,10 +81,10 @@ module _ (s : List ℕ) where
             blocks-is = ap (λ (y : Totals). y .blocks) x ∙ zero-add _;
             outcomes-is = ap (λ (y : Totals). y .outcomes) x ∙ zero-add _;
           }
-      choose l false o rise f = let z : _≡_ {A = ℕ} 0 1 = cc in absurd (omega arith)
+      choose l false o rise f = clash (cc)
 
       go : (o : Option (List Record)) → wholeFrom maxRecords s (readRecord inForce s 0) ≡ o → some here ≡ totals 0 atStart o → Sized s count t
-      go none o f = unfold totals in (let z : _≡_ {A = ℕ} 0 1 = cc in absurd (omega arith))
+      go none o f = unfold totals in (clash (cc))
       go (some l) o f = choose l _ o refl (unfold totals in f)
 
 module _ (s : List ℕ) (count : ℕ) (t : Walk) (h : Sized s count t) where

@@ -1,15 +1,14 @@
 -- What item 10 asks for, of the definitions: which traces are taken; columns are taken exactly if some such trace produces them; the
 -- inverse gives back the trace; and which answer comes when.
-use Rattle.machine.specs.All.{ℕ, _+_, _≤_, _<_, zero-le, arith, Bool, true, false, cond, List, [], _∷_, _++_, append-assoc, append-nil, Option, none, some, _≡_, refl, sym, ap, subst, _∙_, leb, length, drop, length-append, length-map, le-leb, lt-leb, inForce, maxTransaction, maxBlocks, fiveGroups, numberBytes, Record, traceBytes, written, rejected, readRecord}
+use Rattle.machine.specs.All.{clash, ℕ, _+_, _≤_, _<_, zero-le, arith, Bool, true, false, cond, List, [], _∷_, _++_, append-assoc, append-nil, Option, none, some, _≡_, refl, sym, ap, subst, _∙_, leb, length, drop, length-append, length-map, le-leb, lt-leb, inForce, maxTransaction, maxBlocks, fiveGroups, numberBytes, Record, traceBytes, written, rejected, readRecord}
 use Rattle.codec.proofs.Fields.{drop-past, field-reads}
 use Rattle.trace.specs.Whole.{AllInRanges}
-use Rattle.trace.proofs.RoundTrip.{trace-reads-whole, trace-written-again, trace-in-ranges}
-use Rattle.trace.proofs.Writer.{ranges}
+use Rattle.trace.proofs.{RoundTrip.trace-reads-whole, RoundTrip.trace-written-again, RoundTrip.trace-in-ranges, Writer.ranges}
 use Rattle.columns_laws.specs.{maxRecords, clocks, transactions, blocks, outcomes, differences, column, columnBytes, neverFall, wholeFrom, rising, takenTrace, columnFields, takenColumns, answer, toColumns, fromColumns, Bytes, Such, Produces}
-use Rattle.columns_laws.proofs.ByteLists.{bytes-trace}
-use Rattle.columns_laws.proofs.Whole.{whole-reads, reads-whole}
-use Rattle.columns_laws.proofs.Parsing.{Stands, Between, column-reads, Below, clocks-read}
-use Rattle.columns_laws.proofs.Pieces.{rows-of, pieces-count, pieces-ranges, pieces-rise, pieces-bytes, columns-parsed, columns-parse}
+use Rattle.columns_laws.proofs as our
+use our.{ByteLists.bytes-trace, Whole.whole-reads, Whole.reads-whole}
+use our.Parsing.{Stands, Between, column-reads, Below, clocks-read}
+use our.Pieces.{rows-of, pieces-count, pieces-ranges, pieces-rise, pieces-bytes, columns-parsed, columns-parse}
 
 -- ---- "A trace is taken if the reader takes it whole up to 100,000,000 records and its clocks never fall."
 
@@ -17,7 +16,7 @@ some-list : {l m : List Record} → some l ≡ some m → l ≡ m
 some-list {l} {m} e = cc
 
 none-some : {l : List Record} → none ≡ some l → ⊥
-none-some {l} e = let z : _≡_ {A = ℕ} 0 1 = cc in omega arith
+none-some {l} e = clash (cc)
 
 module _ (s : List ℕ) (l : List Record) where
   pub taken-such : takenTrace s ≡ some l → Such s l
@@ -126,12 +125,12 @@ module _ (columns : List ℕ) (l : List Record) where
 module _ (bytes : List Record → List ℕ) (room : ℕ) where
   answer-some : (o : Option (List Record)) (b : List ℕ) → answer bytes room o ≡ written b → (l : List Record) × (o ≡ some l) × (bytes l ≡ b)
   unfolding answer
-  answer-some none b e = let z : _≡_ {A = ℕ} 0 1 = cc in absurd (omega arith)
+  answer-some none b e = clash (cc)
   answer-some (some l) b e = go (leb _ room) e
     where
       go : (t : Bool) → cond t (written (bytes l)) (rejected 52) ≡ written b → (m : List Record) × (some l ≡ some m) × (bytes m ≡ b)
       go true f = (l, refl, (cc))
-      go false f = let z : _≡_ {A = ℕ} 0 1 = cc in absurd (omega arith)
+      go false f = clash (cc)
 
   pub answer-refused : (o : Option (List Record)) → o ≡ none → answer bytes room o ≡ rejected 51
   unfolding answer

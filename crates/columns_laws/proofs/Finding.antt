@@ -1,7 +1,6 @@
 -- The records that a walk over columns finds, pure: where the four columns stand, they are the rows.
 use Rattle.machine.specs.All.{ℕ, zero, suc, _+_, _-_, _≤_, arith, true, List, [], _∷_, _≡_, refl, _∙_, leb, length, le-ltb, leb-true, maxClock, maxTransaction, maxBlocks, maxNumberBytes, fiveGroups, numberBytes}
-use Rattle.codec.proofs.Fields.{both-true}
-use Rattle.codec.proofs.Numbers.{numberBytes-length, numberBytes-reads}
+use Rattle.codec.proofs.{Fields.both-true, Numbers.numberBytes-length, Numbers.numberBytes-reads}
 use Rattle.columns_laws.specs.declared.walk.Walk.{Walk}
 use Rattle.columns_laws.specs.{differences, neverFall, rows, numberOr, numberAt, later, found, passed, foundAll}
 use Rattle.columns_laws.proofs.Parsing.{Stands, stands-first, stands-rest, Between, Below}

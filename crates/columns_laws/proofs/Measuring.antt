@@ -1,13 +1,10 @@
 -- The first walk over a trace, pure: one record by the reader's answer, and the totals of a walk that has the rest of the trace to come.
-use Rattle.machine.specs.All.{cases, ℕ, zero, suc, _+_, _-_, _≤_, _<_, add-zero, arith, Bool, true, false, cond, List, [], _∷_, _++_, Option, none, some, _≡_, refl, sym, ap, ltb, eqb, length, length-append, lt-ltb, le-ltb, eq-eqb, ne-eqb, le-leb, lt-leb, ltb-true, ltb-false, eqb-true, eqb-false, inForce, taken, refusal, noMore, readRecord}
+use Rattle.machine.specs.All.{clash, cases, ℕ, zero, suc, _+_, _-_, _≤_, _<_, add-zero, arith, Bool, true, false, cond, List, [], _∷_, _++_, Option, none, some, _≡_, refl, sym, ap, ltb, eqb, length, length-append, lt-ltb, le-ltb, eq-eqb, ne-eqb, le-leb, lt-leb, ltb-true, ltb-false, eqb-true, eqb-false, inForce, taken, refusal, noMore, readRecord}
 use Rattle.machine.specs.Trace as machine
 use Rattle.codec.proofs.Numbers.{numberBytes-longest}
-use Rattle.trace.specs.declared.Record.{Record}
-use Rattle.trace.specs.declared.Reading.{Reading}
+use Rattle.trace.specs.{declared.Record.Record, declared.Reading.Reading, Answers.entry, Answers.readingOf}
 use Rattle.trace.specs.declared.Reading.the-variants.{Taken as Read, Refused as Unread, NoMore}
-use Rattle.trace.specs.Answers.{entry, readingOf}
-use Rattle.trace.proofs.Reader.{past-end}
-use Rattle.trace.proofs.RoundTrip.{no-more-end}
+use Rattle.trace.proofs.{Reader.past-end, RoundTrip.no-more-end}
 use Rattle.columns_laws.specs.declared.walk.Walk.{Walk}
 use Rattle.columns_laws.specs.declared.measure.Measured.the-variants.{Taken, Refused}
 use Rattle.columns_laws.specs.{maxRecords, clocks, transactions, blocks, outcomes, differences, column, neverFall, behind, wholeFrom, Short, longer, measuring, Totals, totalled, totals, totalsOf}
@@ -88,7 +85,7 @@ module _ (s : List ℕ) (count : ℕ) (t : Walk) (short : Short count t) where
       choose r next false true f g h =
           let full : count ≡ maxRecords = eqb-true _ _ g in
           rw (whole-none s r next (maxRecords - count) (omega arith)) (unfold totals in refl)
-      choose r next false false f g h = let z : _≡_ {A = ℕ} 0 1 = cc in absurd (omega arith)
+      choose r next false false f g h = clash (cc)
 
       go : (y : machine.Reading) → readRecord inForce s (t .at) ≡ y → Refused ≡ measuring count t y →
           none ≡ totals count t (wholeFrom (maxRecords - count) s y)
@@ -111,8 +108,8 @@ module _ (s : List ℕ) (count : ℕ) (t : Walk) (short : Short count t) where
 
       choose : (r : machine.Record) (next : ℕ) → readRecord inForce s (t .at) ≡ taken r next → (a b : Bool) → ltb (r .clock) (t .clock) ≡ a → eqb count maxRecords ≡ b →
           Taken n t′ ≡ cond a Refused (cond b Refused (Taken (count + 1) (longer t r next))) → Stepped s count t n t′
-      choose r next y true b f g h = let z : _≡_ {A = ℕ} 0 1 = cc in absurd (omega arith)
-      choose r next y false true f g h = let z : _≡_ {A = ℕ} 0 1 = cc in absurd (omega arith)
+      choose r next y true b f g h = clash (cc)
+      choose r next y false true f g h = clash (cc)
       choose r next y false false f g h =
           let en : n ≡ count + 1 = cc in
           let et : t′ ≡ longer t r next = cc in
@@ -137,8 +134,8 @@ module _ (s : List ℕ) (count : ℕ) (t : Walk) (short : Short count t) where
 
       go : (y : machine.Reading) → readRecord inForce s (t .at) ≡ y → Taken n t′ ≡ measuring count t y → Stepped s count t n t′
       go (taken r next) f h = choose r next f _ _ refl refl h
-      go (refusal k) f h = let z : _≡_ {A = ℕ} 0 1 = cc in absurd (omega arith)
-      go noMore f h = let z : _≡_ {A = ℕ} 0 1 = cc in absurd (omega arith)
+      go (refusal k) f h = clash (cc)
+      go noMore f h = clash (cc)
 
   -- past the end nothing is to come
   pub step-end : length s ≤ t .at → totalsOf (Taken count t) ≡ Rest s count t

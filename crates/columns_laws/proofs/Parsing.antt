@@ -1,5 +1,5 @@
 -- Columns, pure: numbers that stand one after the other are read, and what is read stands there.
-use Rattle.machine.specs.All.{ℕ, zero, suc, _+_, _-_, _≤_, zero-le, add-zero, arith, true, List, [], _∷_, _++_, append-assoc, _≡_, refl, sym, ap, subst₂, _∙_, length, drop, length-append, le-leb, leb-true, inForce, maxClock, fiveGroups, numberBytes, Cursor, Parsed, parsed, refused, Parser, continue, times, traceField, Each}
+use Rattle.machine.specs.All.{clash, ℕ, zero, suc, _+_, _-_, _≤_, zero-le, add-zero, arith, true, List, [], _∷_, _++_, append-assoc, _≡_, refl, sym, ap, subst₂, _∙_, length, drop, length-append, le-leb, leb-true, inForce, maxClock, fiveGroups, numberBytes, Cursor, Parsed, parsed, refused, Parser, continue, times, traceField, Each}
 use Rattle.codec.specs.Answers.{cursorAt}
 use Rattle.codec.proofs.Fields.{both-true, drop-past, field-reads, field-taken}
 use Rattle.codec.proofs.Groups.{Bytes}
@@ -42,7 +42,7 @@ pub continued : {A B : Type 0} (p : Parsed A) (f : A → Parser B) (b : B) (c : 
     (a : A) × (d : Cursor) × (p ≡ parsed a d) × (f a d ≡ parsed b c)
 unfolding continue
 continued (parsed a d) f b c e = (a, d, refl, e)
-continued (refused n) f b c e = let z : _≡_ {A = ℕ} 0 1 = cc in absurd (omega arith)
+continued (refused n) f b c e = clash (cc)
 
 parsed-list : {l m : List ℕ} {c d : Cursor} → parsed l c ≡ parsed m d → l ≡ m
 parsed-list {l} {m} {c} {d} e = cc

@@ -1,8 +1,7 @@
 -- The pieces of columns, pure: where the count and each column stand, the records that they give, and their bytes.
-use Rattle.machine.specs.All.{cases, ℕ, zero, suc, _+_, _≤_, zero-le, arith, true, List, [], _∷_, _++_, append-assoc, append-nil, some, _≡_, refl, sym, ap, subst, _∙_, eqb, length, drop, length-append, length-map, drop-length, eq-eqb, eqb-true, inForce, maxTransaction, maxBlocks, fiveGroups, numberBytes, Cursor, Parsed, parsed, refused, continue, ask, times, atEnd, beginning, Record, recordBytes, traceBytes, traceField}
+use Rattle.machine.specs.All.{clash, cases, ℕ, zero, suc, _+_, _≤_, zero-le, arith, true, List, [], _∷_, _++_, append-assoc, append-nil, some, _≡_, refl, sym, ap, subst, _∙_, eqb, length, drop, length-append, length-map, drop-length, eq-eqb, eqb-true, inForce, maxTransaction, maxBlocks, fiveGroups, numberBytes, Cursor, Parsed, parsed, refused, continue, ask, times, atEnd, beginning, Record, recordBytes, traceBytes, traceField}
 use Rattle.codec.specs.Answers.{cursorAt}
-use Rattle.codec.proofs.Fields.{field-taken}
-use Rattle.codec.proofs.Groups.{Bytes}
+use Rattle.codec.proofs.{Fields.field-taken, Groups.Bytes}
 use Rattle.trace.specs.Whole.{AllInRanges}
 use Rattle.trace.proofs.Writer.{recordBytes-length, in-ranges}
 use Rattle.columns_laws.specs.{maxRecords, clocks, transactions, blocks, outcomes, differences, column, columnBytes, neverFall, rows, clocksFrom, columnFields, recordsOf, takenColumns}
@@ -131,14 +130,14 @@ pub record Parses (s : List ℕ) (l : List Record) : Type 0 where
 records-some : (p : Parsed (List Record)) (l : List Record) → recordsOf p ≡ some l → (c : Cursor) × (p ≡ parsed l c)
 unfolding recordsOf
 records-some (parsed m c) l e = let f : m ≡ l = cc in (c, cc f)
-records-some (refused n) l e = let z : _≡_ {A = ℕ} 0 1 = cc in absurd (omega arith)
+records-some (refused n) l e = clash (cc)
 
 at-end : (s : List ℕ) (l m : List Record) (c d : Cursor) → continue (atEnd s 31 c) (λ u x. parsed m x) ≡ parsed l d → (c .position ≡ length s) × (m ≡ l)
 unfolding atEnd
 at-end s l m c d e =
     cases (eqb (c .position) (length s))
     (λ f. unfold continue ask in (eqb-true _ _ f, (cc)))
-    (λ f. unfold continue ask in (let z : _≡_ {A = ℕ} 0 1 = cc in absurd (omega arith)))
+    (λ f. unfold continue ask in (clash (cc)))
 
 pub columns-parse : (s : List ℕ) → Bytes s → (l : List Record) → takenColumns s ≡ some l → Parses s l
 unfolding takenColumns columnFields

@@ -2,15 +2,11 @@
 use Rattle.machine.specs.All.{ℕ, suc, _+_, _-_, _≤_, _<_, zero-add, arith, List, [], _∷_, _++_, _≡_, refl, sym, ap, _∙_, length, set, length-append, sets, set-comm, length-sets, numberBytes, Record}
 use Rattle.machine.specs.Trace as machine
 use Rattle.codec.specs.Writing.{put, written}
-use Rattle.codec.proofs.Stores.{sets-append}
-use Rattle.codec.proofs.Writing.{put-room}
-use Rattle.trace.specs.declared.Reading.{Reading}
+use Rattle.codec.proofs.{Stores.sets-append, Writing.put-room}
+use Rattle.trace.specs.{declared.Reading.Reading, declared.Record.Record as Numbers, Answers.readingOf}
 use Rattle.trace.specs.declared.Reading.the-variants.{Taken as Read, Refused as Unread, NoMore}
-use Rattle.trace.specs.declared.Record.{Record as Numbers}
-use Rattle.trace.specs.Answers.{readingOf}
 use Rattle.trace.specs.Whole.{Reads, ends, takes}
-use Rattle.columns_laws.specs.declared.walk.Walk.{Walk}
-use Rattle.columns_laws.specs.declared.place.Entry.{Entry}
+use Rattle.columns_laws.specs.{declared.walk.Walk.Walk, declared.place.Entry.Entry}
 use Rattle.columns_laws.specs.{clocks, transactions, blocks, outcomes, differences, column, columnBytes, Moved, moved, entryOf, recordAt, place, placeAll}
 
 -- ---- The record at a position, by the reader's answer

@@ -1,15 +1,10 @@
 -- The second walk over columns, pure: the records found, written one after the other, are the trace.
 use Rattle.machine.specs.All.{ℕ, zero, suc, _+_, _-_, _≤_, _<_, arith, List, _++_, Option, _≡_, refl, ap, ap₂, _∙_, length, length-append, sets, length-sets, numberBytes, Record, recordBytes, traceBytes}
 use Rattle.machine.specs.Number as bytes
-use Rattle.codec.specs.Writing.{put, written}
-use Rattle.codec.specs.declared.Read.{Read}
-use Rattle.codec.specs.declared.Read.the-variants.{Number as Whole, Refused as Unread}
-use Rattle.codec.specs.Answers.{numberOf}
-use Rattle.codec.proofs.Stores.{sets-append}
-use Rattle.codec.proofs.Writing.{put-room}
+use Rattle.codec.specs.{Writing.put, Writing.written, declared.Read.Read, declared.Read.the-variants.Number as Whole, declared.Read.the-variants.Refused as Unread, Answers.numberOf}
+use Rattle.codec.proofs.{Stores.sets-append, Writing.put-room}
 use Rattle.trace.proofs.Writer.{recordBytes-length}
-use Rattle.columns_laws.specs.declared.walk.Walk.{Walk}
-use Rattle.columns_laws.specs.declared.restore.Number.{Number}
+use Rattle.columns_laws.specs.{declared.walk.Walk.Walk, declared.restore.Number.Number}
 use Rattle.columns_laws.specs.{numberOr, numberAt, later, moved, found, passed, restore, restoreAll, foundAll}
 
 -- ---- The number at a position, by the codec's answer

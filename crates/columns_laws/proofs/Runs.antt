@@ -2,13 +2,9 @@
 -- fall, since the FEL lies ahead of the clock.
 use Rattle.machine.specs.All.{ℕ, _≤_, _<_, zero-le, arith, true, List, [], _∷_, _++_, reverse, Option, none, some, _≡_, refl, sym, subst, _∙_, length, length-map, length-reverse, leb, le-leb, inForce, maxSerial, maxTurns, Transaction, Event, Record, traceBytes, BlockModel, State, Logged, toRel, recordOf, arriveAll, moveClock, nextEvents, takeFirst, takeReady, taking, turn, idle, start, run, Validation, accept, reject, validate, recordsOf, acceptedRun, refusedRun, outcomeOf, outcome, Each}
 use Rattle.codec.proofs.Fields.{both-true}
-use Rattle.machine.proofs.decoding.Proper.{Proper}
-use Rattle.machine.proofs.decoding.ProperFrom.{proper-from, rules-from}
-use Rattle.machine.proofs.runs.RunLaws.{Taken, each-map, last-state}
-use Rattle.machine.proofs.runs.Bounds.{bounded}
+use Rattle.machine.proofs.{decoding.Proper.Proper, decoding.ProperFrom.proper-from, decoding.ProperFrom.rules-from, runs.RunLaws.Taken, runs.RunLaws.each-map, runs.RunLaws.last-state, runs.Bounds.bounded, runs.Ahead.Ahead}
 use Rattle.trace.proofs.RoundTrip.{trace-reads-whole}
 use Rattle.state.specs.All.{Note, enteredNote, waitsNote, noNote, logged, countEntry, noteAs}
-use Rattle.machine.proofs.runs.Ahead.{Ahead}
 use Rattle.state.proofs.TurnGains.{Turned, unnoted, noted, turned}
 use Rattle.state.proofs.Sanity.{takenOf, Sure, taken-took, start-is}
 use Rattle.state.proofs.Written.{inOrder, in-order-cons, Kept, kept-start, kept-turn, kept-end}

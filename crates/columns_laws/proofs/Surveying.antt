@@ -1,17 +1,12 @@
 -- The first walk over columns, pure: number by number, column by column, and what the walk that then begins will find.
-use Rattle.machine.specs.All.{ℕ, suc, _+_, _*_, _-_, _≤_, _<_, zero-le, add-zero, arith, List, [], _∷_, none, some, _≡_, refl, ap, length, length-append, ne-eqb, inForce, maxClock, maxTransaction, maxBlocks, numberBytes, Cursor, Parsed, parsed, refused, continue, ask, times, atEnd, Record, traceBytes, traceField}
-use Rattle.codec.specs.declared.Field.{Field}
-use Rattle.codec.specs.declared.Field.the-variants.{Value, Refused as NoField}
-use Rattle.codec.specs.Answers.{cursorAt, parsedOf}
-use Rattle.codec.proofs.Groups.{Bytes}
-use Rattle.codec.proofs.Numbers.{numberBytes-longest}
-use Rattle.columns_laws.specs.declared.walk.Walk.{Walk}
-use Rattle.columns_laws.specs.declared.survey.Clocks.the-variants.{End as ClocksEnd, Refused as NoClocks}
-use Rattle.columns_laws.specs.declared.survey.Column.the-variants.{End as ColumnEnd, Refused as NoColumn}
+use Rattle.machine.specs.All.{clash, ℕ, suc, _+_, _*_, _-_, _≤_, _<_, zero-le, add-zero, arith, List, [], _∷_, none, some, _≡_, refl, ap, length, length-append, ne-eqb, inForce, maxClock, maxTransaction, maxBlocks, numberBytes, Cursor, Parsed, parsed, refused, continue, ask, times, atEnd, Record, traceBytes, traceField}
+use Rattle.codec.specs.{declared.Field.Field, declared.Field.the-variants.Value, declared.Field.the-variants.Refused as NoField, Answers.cursorAt, Answers.parsedOf}
+use Rattle.codec.proofs.{Groups.Bytes, Numbers.numberBytes-longest}
+use Rattle.columns_laws.specs.{declared.walk.Walk.Walk, declared.survey.Clocks.the-variants.End as ClocksEnd, declared.survey.Clocks.the-variants.Refused as NoClocks, declared.survey.Column.the-variants.End as ColumnEnd, declared.survey.Column.the-variants.Refused as NoColumn}
 use Rattle.columns_laws.specs.{maxRecords, differences, column, rows, clocksFrom, columnFields, recordsOf, takenColumns, sized, ends, foundAll, Holds}
-use Rattle.columns_laws.proofs.Parsing.{ColumnTaken, column-taken, ClocksTaken, clocks-taken}
-use Rattle.columns_laws.proofs.Finding.{found-rows}
-use Rattle.columns_laws.proofs.Pieces.{split, columns-parsed}
+use Rattle.columns_laws.proofs as our
+use our.Parsing.{ColumnTaken, column-taken, ClocksTaken, clocks-taken}
+use our.{Finding.found-rows, Pieces.split, Pieces.columns-parsed}
 
 pub nine : (r v : ℕ) → r ≡ length (numberBytes v) → r ≤ 9
 nine r v e = omega (arith, numberBytes-longest v)
@@ -76,24 +71,24 @@ module _ (s : List ℕ) where
 
 ends-none : (P : Parsed (List ℕ)) → NoColumn ≡ ends P → (n : ℕ) × (P ≡ refused n)
 unfolding ends
-ends-none (parsed l c) e = let z : _≡_ {A = ℕ} 0 1 = cc in absurd (omega arith)
+ends-none (parsed l c) e = clash (cc)
 ends-none (refused n) e = (n, refl)
 
 ends-some : (P : Parsed (List ℕ)) (p : ℕ) → ColumnEnd p ≡ ends P → (l : List ℕ) × (c : Cursor) × (P ≡ parsed l c) × (c .position ≡ p)
 unfolding ends
 ends-some (parsed l c) p e = (l, c, refl, (cc))
-ends-some (refused n) p e = let z : _≡_ {A = ℕ} 0 1 = cc in absurd (omega arith)
+ends-some (refused n) p e = clash (cc)
 
 sized-none : (P : Parsed (List ℕ)) → NoClocks ≡ sized 0 P → (n : ℕ) × (P ≡ refused n)
 unfolding sized
-sized-none (parsed l c) e = let z : _≡_ {A = ℕ} 0 1 = cc in absurd (omega arith)
+sized-none (parsed l c) e = clash (cc)
 sized-none (refused n) e = (n, refl)
 
 sized-some : (P : Parsed (List ℕ)) (p size : ℕ) → ClocksEnd p size ≡ sized 0 P →
     (l : List ℕ) × (c : Cursor) × (P ≡ parsed l c) × (c .position ≡ p) × (size ≡ 0 + length (column l))
 unfolding sized
 sized-some (parsed l c) p size e = (l, c, refl, (cc), (cc))
-sized-some (refused n) p size e = let z : _≡_ {A = ℕ} 0 1 = cc in absurd (omega arith)
+sized-some (refused n) p size e = clash (cc)
 
 -- a column that ends at a position
 pub record Known (s : List ℕ) (lo hi n at p : ℕ) : Type 0 where

@@ -1,5 +1,5 @@
 -- The records of a whole trace, pure: `wholeFrom` by what the reader answers, and what it says of the bytes.
-use Rattle.machine.specs.All.{ℕ, zero, suc, _-_, _≤_, arith, List, [], _∷_, Option, none, some, _≡_, refl, sym, ap, _∙_, length, inForce, Record, Reading, taken, refusal, noMore, readRecord}
+use Rattle.machine.specs.All.{clash, ℕ, zero, suc, _-_, _≤_, arith, List, [], _∷_, Option, none, some, _≡_, refl, sym, ap, _∙_, length, inForce, Record, Reading, taken, refusal, noMore, readRecord}
 use Rattle.trace.specs.Whole.{Reads, ends, takes}
 use Rattle.columns_laws.specs.{behind, wholeFrom}
 
@@ -37,7 +37,7 @@ record First (r : Record) (o : Option (List Record)) (l : List Record) : Type 0 
 
 first : (r : Record) (o : Option (List Record)) (l : List Record) → behind r o ≡ some l → First r o l
 unfolding behind
-first r none l e = let z : _≡_ {A = ℕ} 0 1 = cc in absurd (omega arith)
+first r none l e = clash (cc)
 first r (some m) l e = record { tail = m; found = refl; all = sym (some-list e) }
 
 module _ (s : List ℕ) where
@@ -45,8 +45,8 @@ module _ (s : List ℕ) where
   whole-reads zero at l e = go (readRecord inForce s at) refl e
     where
       go : (y : Reading) → readRecord inForce s at ≡ y → wholeFrom zero s y ≡ some l → Reads s at l × (length l ≤ zero)
-      go (taken r next) h f = let z : _≡_ {A = ℕ} 0 1 = cc (whole-none s r next zero refl) in absurd (omega arith)
-      go (refusal n) h f = let z : _≡_ {A = ℕ} 0 1 = cc (whole-refusal s zero n) in absurd (omega arith)
+      go (taken r next) h f = clash (cc (whole-none s r next zero refl))
+      go (refusal n) h f = clash (cc (whole-refusal s zero n))
       go noMore h f = let e : l ≡ [] = sym (some-list (sym (whole-more s zero) ∙ f)) in rw e (ends h, omega arith)
   whole-reads (suc k) at l e = go (readRecord inForce s at) refl (λ next m. whole-reads k next m) e
     where

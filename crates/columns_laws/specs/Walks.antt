@@ -4,17 +4,7 @@ use Rattle.machine.specs.Number as bytes
 use Rattle.codec.specs.Writing as at
 use Rattle.codec.specs.Writing.{put}
 use Rattle.columns_laws.specs.Columns.{maxRecords, clocks, transactions, blocks, outcomes, differences, column, neverFall, takenColumns}
-use Rattle.columns_laws.specs.declared.walk.Walk.{Walk}
-use Rattle.columns_laws.specs.declared.measure.Measured.{Measured}
-use Rattle.columns_laws.specs.declared.measure.Measured.the-variants.{Taken, Refused}
-use Rattle.columns_laws.specs.declared.place.Entry.{Entry}
-use Rattle.columns_laws.specs.declared.restore.Number.{Number}
-use Rattle.columns_laws.specs.declared.survey.Clocks.{Clocks}
-use Rattle.columns_laws.specs.declared.survey.Clocks.the-variants.{End as ClocksEnd, Refused as NoClocks}
-use Rattle.columns_laws.specs.declared.survey.Column.{Column}
-use Rattle.columns_laws.specs.declared.survey.Column.the-variants.{End as ColumnEnd, Refused as NoColumn}
-use Rattle.columns_laws.specs.declared.survey.Survey.{Survey}
-use Rattle.columns_laws.specs.declared.survey.Survey.the-variants.{Taken as Surveys, Refused as NoColumns}
+use Rattle.columns_laws.specs.{declared.walk.Walk.Walk, declared.measure.Measured.Measured, declared.measure.Measured.the-variants.Taken, declared.measure.Measured.the-variants.Refused, declared.place.Entry.Entry, declared.restore.Number.Number, declared.survey.Clocks.Clocks, declared.survey.Clocks.the-variants.End as ClocksEnd, declared.survey.Clocks.the-variants.Refused as NoClocks, declared.survey.Column.Column, declared.survey.Column.the-variants.End as ColumnEnd, declared.survey.Column.the-variants.Refused as NoColumn, declared.survey.Survey.Survey, declared.survey.Survey.the-variants.Taken as Surveys, declared.survey.Survey.the-variants.Refused as NoColumns}
 
 -- ---- A trace, measured: the columns of a walk count bytes
 

@@ -1,12 +1,8 @@
 -- The answers of reader and writer as numbers, for each case of the covered functions' answers.
 use Rattle.machine.specs.All.{ℕ, _≤_, List, [], _∷_, _≡_, refl, sym, length, length-take-le}
 use Rattle.machine.specs.Trace as machine
-use Rattle.trace.specs.Answers.{readingOf, writingOf}
-use Rattle.trace.specs.declared.Record.{Record}
-use Rattle.trace.specs.declared.Reading.{Reading}
+use Rattle.trace.specs.{Answers.readingOf, Answers.writingOf, declared.Record.Record, declared.Reading.Reading, declared.Written.Written, declared.Written.the-variants.Bytes, declared.Written.the-variants.Refused as Rejected}
 use Rattle.trace.specs.declared.Reading.the-variants.{Taken, Refused, NoMore}
-use Rattle.trace.specs.declared.Written.{Written}
-use Rattle.trace.specs.declared.Written.the-variants.{Bytes, Refused as Rejected}
 use Rattle.covrith.specs.{readAnswer, readNumbers, writeAnswer, writeCount}
 
 -- ---- Reader

@@ -1,23 +1,16 @@
 -- The whole model, pure: its three parts make it, and questions 6 and 7 are those of the machine.
 use Rattle.machine.specs.All.{ℕ, _≤_, _<_, arith, _≡_, refl, ap, _∙_, true, false, _&&_, List, leb, leb·zero, length, eq-eqb, ne-eqb, le-leb, lt-leb, inForce, Cursor, Parsed, parsed, refused, continue, ask, BlockModel, modelFields, atEnd, targetsMove, wellFormed, modelOf, beginning}
 use Rattle.constants.specs.declared.model.Model.{Model}
-use Rattle.layout.specs.All.{sumNumbers, blockNumbers, headerOf}
-use Rattle.parse_values.specs.declared.Place.{Place}
-use Rattle.parse_values.specs.Keeps.{cursorOf}
-use Rattle.parse_values.specs.Filled.{storedRows, allNamed}
-use Rattle.parse_values.specs.Shapes.{sumNamed}
+use Rattle.layout.specs.All.{sumNumbers, headerOf}
+use Rattle.parse_values.specs.{declared.Place.Place, Keeps.cursorOf, Filled.storedRows, Filled.allNamed, Shapes.sumNamed}
 use Rattle.parse_values.proofs.Named.{values-name}
-use Rattle.program.specs.Formed.{placedFrom, targetsFrom, joinedFrom}
-use Rattle.program.specs.Shapes.{capacitiesOf}
-use Rattle.program.proofs.Steps.{continue-assoc}
-use Rattle.program.proofs.Question.{placed-machine, targets-machine, joined-machine}
-use Rattle.decode.specs.declared.Header.{Header}
-use Rattle.decode.specs.declared.Header.the-variants.{Read, Refused as NoHeader}
-use Rattle.decode.specs.declared.Decoded.the-variants.{Model as Accepted, Refused}
+use Rattle.program.specs.{Formed.placedFrom, Formed.targetsFrom, Formed.joinedFrom, Shapes.capacitiesOf}
+use Rattle.program.proofs.{Steps.continue-assoc, Question.placed-machine, Question.targets-machine, Question.joined-machine}
+use Rattle.decode.specs.{declared.Header.Header, declared.Header.the-variants.Read, declared.Header.the-variants.Refused as NoHeader, declared.Decoded.the-variants.Model as Accepted, declared.Decoded.the-variants.Refused, Models.Models}
 use Rattle.decode.specs.{noModel, noPlace, Stage, Servers, serversField, withServers, serversShape, Things, thingsField, withThings, thingsShape, Program, programField, programShape, tablesOf, ProperModel, modelShape}
-use Rattle.decode.specs.Models.{Models}
-use Rattle.decode.proofs.Stages.{stage-known, stage-stop, stage-bind}
-use Rattle.decode.proofs.Represented.{capacities-stand, blocks-stand}
+use Rattle.decode.proofs as our
+use our.Stages.{stage-known, stage-stop, stage-bind}
+use our.Represented.{capacities-stand, blocks-stand}
 
 -- ---- Three parts
 
@@ -46,13 +39,13 @@ in-parts s c = simp continue-assoc
 
 module _ (s : List ℕ) {l l₁ : List ℕ} {r₁ : Header} (k₁ : Stage serversShape noModel noPlace l l₁ r₁ (serversField s beginning)) where
   pub model-stop : {n : ℕ} (after : List ℕ) → r₁ ≡ NoHeader n → Stage modelShape noModel noPlace l after (NoHeader n) (modelFields s inForce beginning)
-  model-stop after told = rw (← in-parts s beginning) (stage-stop (Stage _ _ _ _ _ _) _ _ k₁ told (record { held = refl }))
+  model-stop after told = rw (← in-parts) (stage-stop (Stage _ _ _ _ _ _) _ _ k₁ told (record { held = refl }))
 
   module _ {h₁ : Model} {p : Place} {l₂ : List ℕ} {r₂ : Header} (t₁ : r₁ ≡ Read h₁ p)
       (k₂ : Stage thingsShape h₁ p l₁ l₂ r₂ (thingsField s h₁ (cursorOf p))) where
     pub model-stop-2 : {n : ℕ} (after : List ℕ) → r₂ ≡ NoHeader n → Stage modelShape noModel noPlace l after (NoHeader n) (modelFields s inForce beginning)
     model-stop-2 after told =
-        rw (← in-parts s beginning)
+        rw (← in-parts)
         (stage-bind (Stage _ _ _ _ _ _) _ _ k₁ t₁
         (λ a e₁ n₁ c₁ f₁. stage-stop (Stage _ _ _ _ _ _) _ _ (rw e₁ at k₂) told (record { held = refl })))
 
@@ -66,9 +59,7 @@ module _ (s : List ℕ) {l l₁ : List ℕ} {r₁ : Header} (k₁ : Stage server
           held = (
             k .held .0
                 ∙ rw (e, named, ← f₁ .count, ← f₂ .count, ← k .held .2 .count) refl,
-            k .held .1
-                ∙ ap (λ (t : List ℕ). storedRows blockNumbers 8 0 (x .blocks) t)
-                (c₂ ∙ ap (λ (t : List ℕ). storedRows sumNumbers 64 2048 (b .sums) t) c₁),
+            cc (k .held .1, c₂, c₁),
             record {
               rules = refl;
               facilities = f₁ .facilities;
@@ -88,18 +79,17 @@ module _ (s : List ℕ) {l l₁ : List ℕ} {r₁ : Header} (k₁ : Stage server
         Stage programShape h₂ q l₂ l₃ r₃ (programField s h₂ (capacitiesOf h₂ l₂) (cursorOf q)) →
         Stage modelShape noModel noPlace l l₃ r₃ (modelFields s inForce beginning)
     model-kept {h₂} {q} {l₃} {r₃} t₂ k₃ =
-        rw (← in-parts s beginning)
+        rw (← in-parts)
         (stage-bind (Stage _ _ _ _ _ _) _ _ k₁ t₁
         (λ a e₁ n₁ c₁ f₁.
         stage-bind (Stage _ _ _ _ _ _) _ _ (rw e₁ at k₂) t₂
         (λ b e₂ n₂ c₂ f₂.
-        let cells : l₂ ≡ storedRows sumNumbers 64 2048 (b .sums) (serversShape .cells noModel a l) = c₂ ∙ ap (λ (t : List ℕ). storedRows sumNumbers 64 2048 (b .sums) t) c₁ in
         let few : length (b .sums) ≤ 8 = rw (f₂ .count) (f₂ .values) in
         let caps : capacitiesOf h₂ l₂ ≡ a .capacities
-        = ap (λ (t : List ℕ). capacitiesOf h₂ t) cells
-        ∙ capacities-stand a f₁ (b .sums) few (f₂ .each) h₂ (ap (λ (h : Model). h .facilities) e₂) (ap (λ (h : Model). h .storages) e₂) in
-        let n : q .named ≡ allNamed sumNamed 0 (b .sums) = n₂ ∙ ap (λ (i : ℕ). allNamed sumNamed i (b .sums)) n₁ in
-        last a b (withThings (withServers noModel a) b) q l₃ r₃ (programField s (withThings (withServers noModel a) b) (a .capacities) (cursorOf q)) refl n c₁ f₁ c₂ f₂ (rw (caps, e₂) at k₃))))
+        = ap (λ (t : List ℕ). capacitiesOf h₂ t) (c₂ ∙ ap (λ (t : List ℕ). storedRows sumNumbers 64 2048 (b .sums) t) c₁)
+        ∙ capacities-stand a f₁ (b .sums) few (f₂ .each) h₂ (rw e₂) (rw e₂) in
+        let n : q .named ≡ allNamed sumNamed 0 (b .sums) = cc (n₂, n₁) in
+        last a b _ q l₃ r₃ _ refl n c₁ f₁ c₂ f₂ (rw (caps, e₂) at k₃))))
 
 -- ---- Questions 6 and 7
 
@@ -111,11 +101,11 @@ module _ (s : List ℕ) {l after : List ℕ} {r : Header} (k : Stage modelShape 
   module _ {h : Model} {p : Place} (told : r ≡ Read h p) where
     pub few-blocks : h .blocks ≤ 256
     unfolding headerOf
-    few-blocks = stage-known (λ x. h .blocks ≤ 256) _ k told (λ m e n c f. let g = ap (λ (x : Model). x .blocks) e in omega (arith, f .blocks))
+    few-blocks = stage-known (λ x. h .blocks ≤ 256) _ k told (λ m e n c f. let g = ap (λ (x : Model). x .blocks) e in omega arith)
 
     pub formed-long : (p .position ≡ length s → ⊥) → Models after (Refused 6) (modelOf inForce s beginning)
     unfolding modelOf atEnd ask continue
-    formed-long long = stage-bind (Models after _) _ _ k told (λ m e n c f. rw (ne-eqb _ _ long) (record { held = refl }))
+    formed-long long = stage-bind (Models after _) _ _ k told (λ m e n c f. rw ne-eqb (record { held = refl }))
 
     module _ (whole : p .position ≡ length s) where
       -- question 7 by the tables
@@ -127,11 +117,11 @@ module _ (s : List ℕ) {l after : List ℕ} {r : Header} (k : Stage modelShape 
             e,
             n,
             c,
-            placed-machine (length (m .blocks)) (tablesOf m) (m .blocks) 0 true (f .block) (blocks-stand m f),
-            targets-machine (tablesOf m) m (f .block) (blocks-stand m f),
-            joined-machine (length (m .blocks)) (tablesOf m) (m .blocks) 0 0 (f .block) (blocks-stand m f),
-            values-name (m .values) 0 (length (m .blocks)),
-            leb·zero (length (m .blocks)),
+            placed-machine _ _ _ 0 true (f .block) (blocks-stand m f),
+            targets-machine _ m (f .block) (blocks-stand m f),
+            joined-machine _ _ _ 0 0 (f .block) (blocks-stand m f),
+            values-name,
+            leb·zero,
           )
 
       bad : (placedFrom after (h .blocks) 0 true && targetsFrom after (h .blocks) (h .blocks) 0 && leb (p .named) (h .blocks) && joinedFrom after (h .blocks) 0 0) ≡ false →
@@ -139,7 +129,7 @@ module _ (s : List ℕ) {l after : List ℕ} {r : Header} (k : Stage modelShape 
       unfolding modelOf atEnd ask continue
       bad b =
           stage-bind (Models after _) _ _ k told
-          (λ m e n c f. rw (eq-eqb _ _ whole, asked m e n c f, b) (record { held = refl }))
+          (λ m e n c f. rw (eq-eqb, asked, b) (record { held = refl }))
 
       pub formed-misplaced : placedFrom after (h .blocks) 0 true ≡ false → Models after (Refused 7) (modelOf inForce s beginning)
       formed-misplaced a = bad (rw a)
@@ -150,14 +140,14 @@ module _ (s : List ℕ) {l after : List ℕ} {r : Header} (k : Stage modelShape 
 
         module _ (b : targetsFrom after (h .blocks) (h .blocks) 0 ≡ true) where
           pub formed-name : h .blocks < p .named → Models after (Refused 7) (modelOf inForce s beginning)
-          formed-name d = bad (rw (a, b, lt-leb _ _ d))
+          formed-name d = bad (rw (a, b, lt-leb))
 
           module _ (d : p .named ≤ h .blocks) where
             pub formed-broken : joinedFrom after (h .blocks) 0 0 ≡ false → Models after (Refused 7) (modelOf inForce s beginning)
-            formed-broken g = bad (rw (a, b, le-leb _ _ d, g))
+            formed-broken g = bad (rw (a, b, le-leb, g))
 
             pub formed-model : joinedFrom after (h .blocks) 0 0 ≡ true → Models after (Accepted h) (modelOf inForce s beginning)
             unfolding modelOf atEnd ask continue
             formed-model g =
                 stage-bind (Models after _) _ _ k told
-                (λ m e n c f. rw (eq-eqb _ _ whole, asked m e n c f, a, b, le-leb _ _ d, g) (record { held = (ap Accepted e, c, f) }))
+                (λ m e n c f. rw (eq-eqb, asked, a, b, le-leb, g) (record { held = (cc e, c, f) }))

@@ -1,20 +1,12 @@
 -- The parts of a model, pure: from what each call kept to what the part keeps.
-use Rattle.machine.specs.All.{ℕ, suc, _+_, _-_, _≤_, _<_, arith, _≡_, refl, sym, ap, _∙_, List, [], replicate, set, sets, Parsed, parsed, refused, Parser, continue, field, times, inForce, valueFields, blockField, valueField, inValue}
+use Rattle.machine.specs.All.{clash, ℕ, suc, _+_, _-_, _≤_, _<_, arith, _≡_, refl, sym, ap, _∙_, List, [], replicate, set, sets, Parsed, parsed, refused, Parser, continue, field, times, inForce, valueFields, blockField, valueField}
 use Rattle.constants.specs.declared.model.Model.{Model}
-use Rattle.parse_values.specs.declared.Place.{Place}
-use Rattle.parse_values.specs.declared.Taken.{Taken}
-use Rattle.parse_values.specs.declared.Taken.the-variants.{Number}
-use Rattle.parse_values.specs.declared.Stored.{Stored}
-use Rattle.parse_values.specs.declared.Stored.the-variants.{Done, Refused as NotStored}
+use Rattle.parse_values.specs.{declared.Place.Place, declared.Taken.Taken, declared.Taken.the-variants.Number, declared.Stored.Stored, declared.Stored.the-variants.Done, declared.Stored.the-variants.Refused as NotStored, Filled.Filled, Shapes.valueShape, Shapes.ProperValue}
 use Rattle.parse_values.specs.Keeps.{cursorOf, placeOf, Takes, plainShape, numberShape}
-use Rattle.parse_values.specs.Filled.{Filled, allNamed, storedRows}
-use Rattle.parse_values.specs.Shapes.{sumNamed, valueShape, ProperValue}
 use Rattle.parse_values.proofs.Binds.{takes-bind}
 use Rattle.parse_values.proofs.Filled.{times-rows, values-rows, rows-end, rows-bind, rows-length, unnamed}
-use Rattle.program.specs.Formed.{Formed}
-use Rattle.program.specs.Shapes.{blockShape, capacitiesOf}
-use Rattle.decode.specs.declared.Header.{Header}
-use Rattle.decode.specs.declared.Header.the-variants.{Read, Refused}
+use Rattle.program.specs.{Formed.Formed, Shapes.blockShape, Shapes.capacitiesOf}
+use Rattle.decode.specs.{declared.Header.Header, declared.Header.the-variants.Read, declared.Header.the-variants.Refused}
 use Rattle.decode.specs.{emptyTables, Capacity, noModel, StageShape, Stage, serversField, serversShape, seenByValues, thingsField, thingsShape, seenByBlocks, programField, programShape}
 
 -- ---- Facilities
@@ -37,18 +29,16 @@ module _ (count v : ℕ) (l l₀ : List ℕ) where
 
 module _ {A : Type 0} {sh : StageShape A} {m : Model} {p : Place} {cells after : List ℕ} {r : Header} where
   pub stage-refused : (P : Parsed A) {n : ℕ} → Stage sh m p cells after r P → r ≡ Refused n → P ≡ refused n
-  stage-refused (parsed a c) k told = let e = sym told ∙ k .held .0 in let z : _≡_ {A = ℕ} 0 1 = cc in absurd (omega arith)
-  stage-refused (refused i) {n} k told = let e = sym told ∙ k .held in let f : i ≡ n = cc in ap refused f
+  stage-refused (parsed a c) k told = clash (cc)
+  stage-refused (refused i) {n} k told = ap refused cc
 
   -- what was read
   pub stage-known : (G : Parsed A → Type 0) (P : Parsed A) {h : Model} {q : Place} → Stage sh m p cells after r P → r ≡ Read h q →
       ((a : A) → h ≡ sh .header m a → q .named ≡ sh .named (p .named) a → after ≡ sh .cells m a cells → sh .fact m a → G (parsed a (cursorOf q))) → G P
   stage-known G (parsed a c) {h} {q} k told g =
-      let e = sym told ∙ k .held .0 in
-      let eh : h ≡ sh .header m a = cc in
       let eq : q ≡ placeOf c (sh .named (p .named) a) = cc in
-      (rw eq at (g a eh)) refl (k .held .1) (k .held .2)
-  stage-known G (refused i) {h} {q} k told g = let e = sym told ∙ k .held in let z : _≡_ {A = ℕ} 0 1 = cc in absurd (omega arith)
+      (rw eq at (g a cc)) refl (k .held .1) (k .held .2)
+  stage-known G (refused i) {h} {q} k told g = clash (cc)
 
   module _ {B : Type 0} (G : Parsed B → Type 0) where
     pub stage-stop : (P : Parsed A) (f : A → Parser B) {n : ℕ} → Stage sh m p cells after r P → r ≡ Refused n → G (refused n) → G (continue P f)
@@ -62,7 +52,7 @@ module _ {A : Type 0} {sh : StageShape A} {m : Model} {p : Place} {cells after :
     stage-bind P f k told g = stage-known (λ x. G (continue x f)) P k told g
 
 pub no-header : {n : ℕ} {h : Model} {q : Place} → Refused n ≡ Read h q → ⊥
-no-header {n} {h} {q} e = let z : _≡_ {A = ℕ} 0 1 = cc in omega arith
+no-header {n} {h} {q} e = clash (cc)
 
 pub same-header : {h k : Model} {p q : Place} (G : Model → Type 0) → G h → Read h p ≡ Read k q → G k
 same-header {h} {k} {p} {q} G g e = let f : h ≡ k = cc in rw (← f) g
@@ -98,18 +88,17 @@ module _ (s : List ℕ) {p a b d : Place} {v f n : ℕ} {r₁ r₂ r₃ : Taken}
       (λ n₃ c₃ f₃.
       rows-bind (Stage _ _ _ _ _ _) _ _ k₄ told
       (λ caps parse n₄ c₄ f₄.
-      let named : q .named ≡ p .named = n₄ ∙ unnamed (d .named) caps ∙ n₃ ∙ n₂ ∙ n₁ in
       record {
         held = (
           (λ i.
               Read
               (record { facilities = f; storages = n; queues = z .0 i; values = z .1 i; lists = z .2 i; counter = z .3 i; blocks = z .4 i })
-              (placeOf (cursorOf q) (named i))),
-          c₄ ∙ ap (λ (t : List ℕ). storedRows (numberShape 1 65535 1 .numbers) 1 (2560 + f) caps t) (ones ∙ ap (λ (t : List ℕ). sets t 2560 (replicate f 1)) cleared),
+              (placeOf (cursorOf q) ((n₄ ∙ unnamed (d .named) caps ∙ n₃ ∙ n₂ ∙ n₁) i))),
+          cc (c₄, ones, cleared),
           record {
             facilities = f₂ .1;
             storages = f₃ .1;
-            count = rows-length (λ i. field s 3 1 65535) n 0 (cursorOf d) caps (cursorOf q) (sym (times-rows (field s 3 1 65535) n 0 (cursorOf d)) ∙ parse);
+            count = rows-length (λ i. field s 3 1 65535) n 0 _ caps _ (sym (times-rows _ n 0 _) ∙ parse);
             each = f₄;
           },
         );
@@ -141,18 +130,14 @@ module _ (s : List ℕ) (m : Model) {p a b : Place} {queues n : ℕ} {r₁ r₂ 
       (λ sums parse n₃ c₃ f₃.
       record {
         held = (
-          ap
-              (λ (i : ℕ).
-              Read (record { facilities = m .facilities; storages = m .storages; queues = queues; values = n; lists = m .lists; counter = m .counter; blocks = m .blocks })
-              (placeOf (cursorOf q) i))
-              (n₃ ∙ ap (λ (i : ℕ). allNamed sumNamed i sums) (n₂ ∙ n₁)),
+          rw (n₃, n₂, n₁),
           c₃,
           record {
             queues = f₁ .1;
             values = f₂ .1;
             count =
-                rows-length (λ i. valueField s (inValue s (seenByValues m queues) i)) n 0 (cursorOf b) sums (cursorOf q)
-                (sym (values-rows s (seenByValues m queues) n 0 (cursorOf b)) ∙ parse);
+                rows-length (λ i. valueField s _) n 0 _ sums _
+                (sym (values-rows s _ n 0 _) ∙ parse);
             each = f₃;
           },
         );
@@ -190,18 +175,14 @@ module _ (s : List ℕ) (m : Model) {p a b d : Place} {lists counter n : ℕ} {r
       (λ bs parse n₄ c₄ f₄.
       record {
         held = (
-          ap
-              (λ (i : ℕ).
-              Read (record { facilities = m .facilities; storages = m .storages; queues = m .queues; values = m .values; lists = lists; counter = counter; blocks = n })
-              (placeOf (cursorOf q) i))
-              (n₄ ∙ unnamed (d .named) bs ∙ n₃ ∙ n₂ ∙ n₁),
+          rw (n₄, unnamed (d .named) bs, n₃, n₂, n₁),
           c₄,
           record {
             lists = f₁ .1;
             most = f₃ .1;
             count =
-                rows-length (λ i. blockField s (inForce .kinds) (seenByBlocks m lists n) (capacitiesOf m l)) n 0 (cursorOf d) bs (cursorOf q)
-                (sym (times-rows (blockField s (inForce .kinds) (seenByBlocks m lists n) (capacitiesOf m l)) n 0 (cursorOf d)) ∙ parse);
+                rows-length (λ i. blockField s _ _ _) n 0 _ bs _
+                (sym (times-rows _ n 0 _) ∙ parse);
             each = f₄;
           },
         );

@@ -1,10 +1,8 @@
 -- What an answer of `decode` tells of the machine's answer to the questions.
-use Rattle.machine.specs.All.{ℕ, _≡_, refl, ap, List, arith, BlockModel, Validation, accept, reject}
+use Rattle.machine.specs.All.{clash, ℕ, _≡_, refl, ap, List, BlockModel, Validation, accept, reject}
 use Rattle.constants.specs.declared.model.Model.{Model}
 use Rattle.layout.specs.All.{headerOf, Represents}
-use Rattle.decode.specs.declared.Decoded.{Decoded}
-use Rattle.decode.specs.declared.Decoded.the-variants.{Model as Accepted, Refused}
-use Rattle.decode.specs.Decodes.{Decodes}
+use Rattle.decode.specs.{declared.Decoded.Decoded, declared.Decoded.the-variants.Model as Accepted, declared.Decoded.the-variants.Refused, Decodes.Decodes}
 
 -- an accepted model and tape, and what stands for them
 pub record Told (tape : List ℕ) (h : Model) (tables lists : List ℕ) (v : Validation) : Type 0 where
@@ -16,14 +14,14 @@ pub record Told (tape : List ℕ) (h : Model) (tables lists : List ℕ) (v : Val
 
 module _ (tape tables lists : List ℕ) (r : Decoded) where
   pub decoded-refused : (v : Validation) (n : ℕ) → Decodes tape r tables lists v → r ≡ Refused n → v ≡ reject n
-  decoded-refused (accept m times) n h e = absurd (never (headerOf m) (h .0))
+  decoded-refused (accept m times) n h e = absurd (never _ (h .0))
     where
       never : (x : Model) → r ≡ Accepted x → ⊥
-      never x g = let z : _≡_ {A = ℕ} 0 1 = cc in omega arith
+      never x g = clash (cc)
   decoded-refused (reject k) n h e = same h
     where
       same : r ≡ Refused k → reject k ≡ reject n
-      same g = let k-is : k ≡ n = cc in ap reject k-is
+      same g = ap reject cc
 
   pub decoded-model : (v : Validation) (x : Model) → Decodes tape r tables lists v → r ≡ Accepted x → Told tape x tables lists v
   decoded-model (accept m times) x h e = record { model = m; times = times; accepted = refl; header = same (h .0); represents = h .1 }
@@ -33,4 +31,4 @@ module _ (tape tables lists : List ℕ) (r : Decoded) where
   decoded-model (reject k) x h e = absurd (never h)
     where
       never : r ≡ Refused k → ⊥
-      never g = let z : _≡_ {A = ℕ} 0 1 = cc in omega arith
+      never g = clash (cc)

@@ -2,8 +2,7 @@
 -- model, with tables and list cells that represent model and tape.
 use Rattle.machine.specs.All.{ℕ, _≡_, List, Validation, accept, reject}
 use Rattle.layout.specs.All.{headerOf, Represents}
-use Rattle.decode.specs.declared.Decoded.{Decoded}
-use Rattle.decode.specs.declared.Decoded.the-variants.{Model as Accepted, Refused}
+use Rattle.decode.specs.{declared.Decoded.Decoded, declared.Decoded.the-variants.Model as Accepted, declared.Decoded.the-variants.Refused}
 
 abbrev pub Decodes : (tapeBytes : List ℕ) → Decoded → (tables lists : List ℕ) → Validation → Type 0
 Decodes tapeBytes r tables lists (accept m tape) = (r ≡ Accepted (headerOf m)) × Represents m tape tapeBytes tables lists

@@ -2,8 +2,7 @@
 use Rattle.machine.specs.All.{ℕ, suc, _+_, _≡_, List, [], _∷_, length, set, replicate, inForce, Cursor, Parsed, parsed, refused, Parser, fieldUpTo}
 use Rattle.layout.specs.Layout as Layout
 use Rattle.layout.specs.All.{TimesAt}
-use Rattle.decode.specs.declared.Tape.{Tape}
-use Rattle.decode.specs.declared.Tape.the-variants.{At, Refused}
+use Rattle.decode.specs.{declared.Tape.Tape, declared.Tape.the-variants.At, declared.Tape.the-variants.Refused}
 
 abbrev pub cursorAt : ℕ → ℕ → ℕ → Cursor
 cursorAt at i j = record { position = at; numbers = i; mentions = j }

@@ -3,12 +3,9 @@ use Rattle.machine.specs.All.{ℕ, _≤_, _≡_, List, length, inForce, Parsed,
 use Rattle.machine.specs.Limits as Limits
 use Rattle.layout.specs.Layout as Layout
 use Rattle.layout.specs.All.{sumNumbers, blockNumbers, headerOf}
-use Rattle.parse_values.specs.Filled.{storedRows, allNamed, Each}
-use Rattle.parse_values.specs.Shapes.{sumNamed, ProperValue}
+use Rattle.parse_values.specs.{Filled.storedRows, Filled.allNamed, Filled.Each, Shapes.sumNamed, Shapes.ProperValue}
 use Rattle.program.specs.Formed.{Formed}
-use Rattle.decode.specs.declared.Decoded.{Decoded}
-use Rattle.decode.specs.declared.Decoded.the-variants.{Model as Accepted, Refused}
-use Rattle.decode.specs.Stages.{Capacity, StageShape, serversCells}
+use Rattle.decode.specs.{declared.Decoded.Decoded, declared.Decoded.the-variants.Model as Accepted, declared.Decoded.the-variants.Refused, Stages.Capacity, Stages.StageShape, Stages.serversCells}
 
 -- all cells of the tables
 unfoldable pub tablesOf : BlockModel → List ℕ

@@ -4,13 +4,9 @@ use Rattle.machine.specs.Limits as Limits
 use Rattle.constants.specs.declared.model.Model.{Model}
 use Rattle.layout.specs.Layout as Layout
 use Rattle.layout.specs.All.{sumNumbers, blockNumbers}
-use Rattle.parse_values.specs.declared.Place.{Place}
-use Rattle.parse_values.specs.Keeps.{placeOf, numberShape}
-use Rattle.parse_values.specs.Filled.{storedRows, allNamed, Each}
-use Rattle.parse_values.specs.Shapes.{sumNamed, ProperValue}
+use Rattle.parse_values.specs.{declared.Place.Place, Keeps.placeOf, Keeps.numberShape, Filled.storedRows, Filled.allNamed, Filled.Each, Shapes.sumNamed, Shapes.ProperValue}
 use Rattle.program.specs.Formed.{Formed}
-use Rattle.decode.specs.declared.Header.{Header}
-use Rattle.decode.specs.declared.Header.the-variants.{Read, Refused}
+use Rattle.decode.specs.{declared.Header.Header, declared.Header.the-variants.Read, declared.Header.the-variants.Refused}
 
 -- the tables of a model of which its edition is known
 unfoldable pub emptyTables : (edition : ℕ) → List ℕ

@@ -1,21 +1,15 @@
 -- A whole run over rows follows the machine's: from the laws of the start and of one turn to what `run` promises.
-use Rattle.machine.specs.All.{ℕ, _≡_, refl, sym, subst, List, length, replicate, inForce, BlockModel, State, setEnd, turn, endBefore, start, run, steps, accept, validate, recordsOf}
-use Rattle.machine.proofs.decoding.Proper.{Proper}
-use Rattle.machine.proofs.decoding.ProperFrom.{proper-from}
-use Rattle.machine.proofs.runs.RunLaws.{Taken}
+use Rattle.machine.specs.All.{ℕ, _≡_, refl, List, length, replicate, inForce, BlockModel, State, setEnd, turn, start, run, steps, accept, validate, recordsOf}
+use Rattle.machine.proofs.{decoding.Proper.Proper, decoding.ProperFrom.proper-from, runs.RunLaws.Taken}
 use Rattle.layout.specs.All.{tallySize, headerOf, Represents}
 use Rattle.state.specs.All.{rowsOf, Stands}
 use Rattle.state.proofs.Written.{Kept, kept-start, kept-turn, kept-end}
 use Rattle.turn_laws.specs.Turn.{Traced, traced}
-use Rattle.turn_laws.specs.Writes.{Writes}
 use Rattle.turn_laws.proofs.Runs.{Runs}
 use Rattle.start.specs.Start.{startRows}
-use Rattle.engine_laws.specs.declared.outcome.Outcome.{Outcome as Results}
+use Rattle.engine_laws.specs.{declared.outcome.Outcome.Outcome as Results, Contract.Contract}
 use Rattle.engine_laws.specs.{endOf, closeRows, turnRows, lastRows, Finishes}
-use Rattle.engine_laws.specs.Contract.{Contract}
-use Rattle.engine_laws.proofs.EndLaws.{end-before}
-use Rattle.engine_laws.proofs.StepLaws.{Follows, run-follows}
-use Rattle.engine_laws.proofs.Outcomes.{accepted-runs}
+use Rattle.engine_laws.proofs.{EndLaws.end-before, StepLaws.Follows, StepLaws.run-follows, Outcomes.accepted-runs}
 
 -- ---- The end before a turn, kept
 
@@ -38,15 +32,6 @@ closed-stands tape a s e h =
           };
     }
 
-pub closed : (tape before : List ℕ) (a : Traced) (s : State) (e : ℕ) → Runs tape before a s
-    → Runs tape before (closeRows e a) (setEnd e s)
-unfolding closeRows traced rowsOf recordsOf
-closed tape before a s e h =
-    record {
-      stands = closed-stands tape a s e (h .stands);
-      writes = record { bytes = h .writes .bytes; written = h .writes .written };
-    }
-
 -- ---- All turns
 
 module _ (model tape : List ℕ) (budget : ℕ) (work trace report : List ℕ) (m : BlockModel) (times : List (List ℕ))
@@ -55,7 +40,7 @@ module _ (model tape : List ℕ) (budget : ℕ) (work trace report : List ℕ) (
     (turned : (a : Traced) (s : State) → Taken budget (length trace) s → Kept m times (length trace) s → Runs tape trace a s
     → Runs tape trace (turnRows (headerOf m) tables tape a) (turn m s)) where
   proper : Proper m times
-  proper = proper-from inForce model tape (length work) (length report) accepted
+  proper = proper-from inForce model tape _ _ accepted
 
   abbrev R : Traced → State → Type 0
   R = Runs tape trace
@@ -66,15 +51,15 @@ module _ (model tape : List ℕ) (budget : ℕ) (work trace report : List ℕ) (
   pub follows : Follows m budget (length trace) (endOf budget (length trace)) (turnRows (headerOf m) tables tape) closeRows R Good
   follows =
       record {
-        end = λ a s g h. ends a s h;
+        end = λ a s g h. (unfold endOf in end-before tape _ s (h .stands) budget _);
         turns = turned;
-        closes = λ a s e h. closed tape trace a s e h;
-        good-turn = kept-turn proper (represents .rules) (length trace) budget;
-        good-end = kept-end proper (represents .rules) (length trace) budget;
+        closes = λ a s e h. (unfold closeRows traced rowsOf recordsOf in record {
+          stands = closed-stands tape a s e (h .stands);
+          writes = record { bytes = h .writes .bytes; written = h .writes .written };
+        });
+        good-turn = kept-turn proper (represents .rules) _ budget;
+        good-end = kept-end proper (represents .rules) _ budget;
       }
-    where
-      ends : (a : Traced) (s : State) → R a s → endOf budget (length trace) a ≡ endBefore budget (length trace) s
-      ends a s h = unfold endOf in end-before tape (a .rows) s (h .stands) budget (length trace)
 
   abbrev last : Traced
   last = lastRows (headerOf m) tables lists tape budget work trace
@@ -82,16 +67,11 @@ module _ (model tape : List ℕ) (budget : ℕ) (work trace report : List ℕ) (
   last-follows : R last (run m times budget (length trace)) × Good (run m times budget (length trace))
   unfolding run lastRows
   last-follows =
-      run-follows m budget (length trace) (endOf budget (length trace)) (turnRows (headerOf m) tables tape) closeRows R Good follows steps
-      (traced (startRows (headerOf m) tables tape lists work (replicate tallySize 0)) trace) (start m times) started (kept-start proper (represents .rules) (length trace))
+      run-follows m budget _ _ _ closeRows R Good follows steps
+      _ _ started (kept-start proper (represents .rules) _)
 
   pub run-accepted : (r : Results) (work′ trace′ report′ : List ℕ) → Finishes (headerOf m) tables last report r trace′ report′
       → Contract model tape budget work trace report r work′ trace′ report′
   run-accepted r work′ trace′ report′ f =
-      subst (λ (x : Results). Contract model tape budget work trace report x work′ trace′ report′) (sym (f .results))
-      (accepted-runs model tape budget work trace report m times accepted (last .rows) work′ trace′ report′ (r .«report_bytes») tables lists represents
-      (last-follows .0 .stands) writes (last-follows .1) (f .reported))
-    where
-      writes : Writes trace trace′ (run m times budget (length trace))
-      writes =
-          subst (λ (l : List ℕ). Writes trace l (run m times budget (length trace))) (sym (f .trace-is)) (last-follows .0 .writes)
+      rw (f .results) (accepted-runs model tape budget work trace report m times accepted (last .rows) work′ trace′ report′ (r .«report_bytes») tables lists represents
+      (last-follows .0 .stands) (rw (f .trace-is) (last-follows .0 .writes)) (last-follows .1) (f .reported))

@@ -1,19 +1,13 @@
 -- The outcome: what `run` promises of a refused run that touches nothing, and of an accepted one from what stands for the last
 -- state of the machine's run.
-use Rattle.machine.specs.All.{ℕ, _≤_, _≡_, refl, sym, ap, _∙_, subst, Bool, true, false, cond, List, _++_, arith, leb-true, leb, length, take, drop, take-at, inForce, workNumbers, reportRoom, maxReportNumber, traceBytes, BlockModel, State, Validation, accept, reject, validate, run, reportNumbers, reportBytes, Each, LivingListed, Outcome, recordsOf, acceptedRun, refusedRun, outcomeOf, outcome}
-use Rattle.machine.proofs.decoding.Proper.{Proper}
-use Rattle.machine.proofs.decoding.ProperFrom.{proper-from}
-use Rattle.machine.proofs.conservation.LivingListed.{living-listed}
-use Rattle.machine.proofs.Demand3.{demand3}
-use Rattle.machine.proofs.runs.OutcomeLaws.{outcome-keeps}
+use Rattle.machine.specs.All.{clash, ℕ, _≤_, _≡_, refl, sym, ap, _∙_, subst, Bool, true, false, cond, List, leb-true, leb, length, take, take-at, inForce, workNumbers, reportRoom, maxReportNumber, traceBytes, BlockModel, State, Validation, accept, reject, validate, run, reportNumbers, reportBytes, Each, LivingListed, Outcome, recordsOf, acceptedRun, refusedRun, outcomeOf, outcome}
+use Rattle.machine.proofs.{decoding.Proper.Proper, decoding.ProperFrom.proper-from, conservation.LivingListed.living-listed, Demand3.demand3, runs.OutcomeLaws.outcome-keeps}
 use Rattle.layout.specs.All.{headerOf, Represents}
 use Rattle.state.specs.All.{Rows, Stands}
 use Rattle.state.proofs.Written.{Kept}
 use Rattle.turn_laws.specs.Writes.{Writes}
-use Rattle.report_laws.specs.Writing.{written, putAll}
-use Rattle.report_laws.specs.Numbers.{rowNumbers}
-use Rattle.report_laws.proofs.Fitting.{report-small}
-use Rattle.report_laws.proofs.Report.{report-written}
+use Rattle.report_laws.specs.{Writing.written, Writing.putAll, Numbers.rowNumbers}
+use Rattle.report_laws.proofs.{Fitting.report-small, Report.report-written}
 use Rattle.engine_laws.specs.{refusedWith, endedWith, Gives, Begins, ReadsBack, Accepted, wanted}
 use Rattle.engine_laws.specs.Contract.{Contract}
 use Rattle.engine_laws.proofs.Reading.{reads-back}
@@ -24,13 +18,13 @@ use Rattle.engine_laws.proofs.Reading.{reads-back}
 pub rooms : (model tape : List ℕ) (work report : ℕ) (m : BlockModel) (times : List (List ℕ)) → validate inForce model tape work report ≡ accept m times
     → (workNumbers ≤ work) × (reportRoom ≤ report)
 unfolding validate
-rooms model tape work report m times e = go (leb workNumbers work) (leb reportRoom report) refl refl _ e
+rooms model tape work report m times e = go _ _ refl refl _ e
   where
     go : (a b : Bool) → leb workNumbers work ≡ a → leb reportRoom report ≡ b → (v : Validation) → cond a (cond b v (reject 2)) (reject 1) ≡ accept m times
         → (workNumbers ≤ work) × (reportRoom ≤ report)
     go true true p q v e = (leb-true _ _ p, leb-true _ _ q)
-    go true false p q v e = let z : _≡_ {A = ℕ} 0 1 = cc in absurd (omega arith)
-    go false b p q v e = let z : _≡_ {A = ℕ} 0 1 = cc in absurd (omega arith)
+    go true false p q v e = clash (cc)
+    go false b p q v e = clash (cc)
 
 module _ (model tape : List ℕ) (budget : ℕ) (work trace report : List ℕ) where
   abbrev answer : Validation
@@ -44,7 +38,7 @@ module _ (model tape : List ℕ) (budget : ℕ) (work trace report : List ℕ) w
   pub refused-runs : (n : ℕ) → answer ≡ reject n → Contract model tape budget work trace report (refusedWith n) work trace report
   unfolding outcome outcomeOf refusedRun
   refused-runs n e =
-      let is : o ≡ refusedRun n = ap (outcomeOf budget (length trace)) e in
+      let is : o ≡ refusedRun n = cc e in
       record {
         results =
             subst (λ (x : Outcome). Gives x (refusedWith n)) (sym is)
@@ -58,15 +52,15 @@ module _ (model tape : List ℕ) (budget : ℕ) (work trace report : List ℕ) w
               trace-bytes = refl;
               report-bytes = refl;
             });
-        keeps = outcome-keeps inForce model tape budget (length work) (length trace) (length report);
-        trace-holds = subst (λ (x : Outcome). Begins (x .trace) trace trace) (sym is) refl;
-        report-holds = subst (λ (x : Outcome). Begins (x .report) report report) (sym is) refl;
+        keeps = outcome-keeps inForce model tape budget _ _ _;
+        trace-holds = rw is refl;
+        report-holds = rw is refl;
         refused = λ z. (refl, refl, refl);
         accepted = λ m times h. absurd (never m times h);
       }
     where
       never : (m : BlockModel) (times : List (List ℕ)) → answer ≡ accept m times → ⊥
-      never m times h = let z : _≡_ {A = ℕ} 0 1 = cc in omega arith
+      never m times h = clash (cc)
 
   -- ---- Accepted
 
@@ -76,7 +70,7 @@ module _ (model tape : List ℕ) (budget : ℕ) (work trace report : List ℕ) w
 
     accepted-is : o ≡ acceptedRun m s
     unfolding outcome outcomeOf
-    accepted-is = ap (outcomeOf budget (length trace)) accepted
+    accepted-is = cc accepted
 
     same-model : (m′ : BlockModel) (times′ : List (List ℕ)) → answer ≡ accept m′ times′ → m ≡ m′
     same-model m′ times′ h′ = cc
@@ -88,23 +82,23 @@ module _ (model tape : List ℕ) (budget : ℕ) (work trace report : List ℕ) w
         (stands : Stands tape r (s .moving) s) (writes : Writes trace trace′ s) (kept : Kept m times (length trace) s)
         (reported : written n report′ ≡ putAll (rowNumbers (headerOf m) tables (r .tally) (r .work) (r .scalars)) (written 0 report)) where
       proper : Proper m times
-      proper = proper-from inForce model tape (length work) (length report) accepted
+      proper = proper-from inForce model tape _ _ accepted
 
       bytes : r .scalars .used ≡ length (traceBytes (recordsOf s))
       bytes = stands .counting .used ∙ kept .traced .written
 
       trace-begins : Begins (traceBytes (recordsOf s)) trace trace′
-      trace-begins = writes .bytes ∙ ap (λ (k : ℕ). traceBytes (recordsOf s) ++ drop k trace) (kept .traced .written)
+      trace-begins = cc (writes .bytes, kept .traced .written)
 
       front : take (r .scalars .used) trace′ ≡ traceBytes (recordsOf s)
       front =
           ap (take (r .scalars .used)) trace-begins
-          ∙ take-at (traceBytes (recordsOf s)) (drop (length (traceBytes (recordsOf s))) trace) (r .scalars .used) (sym bytes)
+          ∙ take-at _ _ _ (sym bytes)
 
       report-begins : (n ≡ length (reportBytes m s)) × Begins (reportBytes m s) report report′
       report-begins =
-          report-written m times tape tables lists (length trace) r s proper represents (kept .sure .sane) (kept .sure .sound) (kept .traced) stands
-          n report report′ (rooms model tape (length work) (length report) m times accepted .1) reported
+          report-written m times tape tables lists _ r s proper represents (kept .sure .sane) (kept .sure .sound) (kept .traced) stands
+          n report report′ (rooms model tape _ _ m times accepted .1) reported
 
       gives : Gives (acceptedRun m s) (endedWith (r .scalars) n)
       unfolding acceptedRun
@@ -124,28 +118,25 @@ module _ (model tape : List ℕ) (budget : ℕ) (work trace report : List ℕ) w
           → Accepted m′ times′ budget (length trace) (take (r .scalars .used) trace′)
       all m′ times′ h′ e f =
           record {
-            demand3 = demand3 inForce model tape (length work) (length report) budget (length trace) h′;
+            demand3 = demand3 inForce model tape _ _ budget _ h′;
             report-small =
                 subst (λ (x : BlockModel). Each (λ (k : ℕ). k ≤ maxReportNumber) (reportNumbers x (run x times′ budget (length trace)))) e
-                (subst (λ (x : List (List ℕ)). Each (λ (k : ℕ). k ≤ maxReportNumber) (reportNumbers m (run m x budget (length trace)))) f
-                (report-small m times s proper (kept .sure .sane) (kept .sure .sound) (kept .traced .number)));
+                (rw f at (report-small m times s proper (kept .sure .sane) (kept .sure .sound) (kept .traced .number)));
             read-back =
                 subst (λ (x : BlockModel). ReadsBack x (take (r .scalars .used) trace′) (recordsOf (run x times′ budget (length trace)))) e
-                (subst (λ (x : List (List ℕ)). ReadsBack m (take (r .scalars .used) trace′) (recordsOf (run m x budget (length trace)))) f
-                (subst (λ (l : List ℕ). ReadsBack m l (recordsOf s)) (sym front) (reads-back s (kept .traced))));
+                (rw f at (subst (λ (l : List ℕ). ReadsBack m l (recordsOf s)) (sym front) (reads-back s (kept .traced))));
             living =
-                subst (λ (x : BlockModel). LivingListed x times′ (run x times′ budget (length trace))) e
-                (subst (λ (x : List (List ℕ)). LivingListed m x (run m x budget (length trace))) f (living-listed s (kept .sure .sound)));
+                rw e at (subst (λ (x : List (List ℕ)). LivingListed m x (run m x budget (length trace))) f (living-listed s (kept .sure .sound)));
           }
 
       pub accepted-runs : Contract model tape budget work trace report (endedWith (r .scalars) n) work′ trace′ report′
       unfolding acceptedRun
       accepted-runs =
           record {
-            results = subst (λ (x : Outcome). Gives x (endedWith (r .scalars) n)) (sym accepted-is) gives;
-            keeps = outcome-keeps inForce model tape budget (length work) (length trace) (length report);
-            trace-holds = subst (λ (x : Outcome). Begins (x .trace) trace trace′) (sym accepted-is) trace-begins;
-            report-holds = subst (λ (x : Outcome). Begins (x .report) report report′) (sym accepted-is) (report-begins .1);
+            results = rw accepted-is gives;
+            keeps = outcome-keeps inForce model tape budget _ _ _;
+            trace-holds = rw accepted-is trace-begins;
+            report-holds = rw accepted-is (report-begins .1);
             refused = λ z. absurd (z refl);
             accepted = λ m′ times′ h′. all m′ times′ h′ (same-model m′ times′ h′) (same-times m′ times′ h′);
           }

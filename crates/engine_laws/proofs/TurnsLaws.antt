@@ -1,11 +1,9 @@
 -- The turns of a run over rows, one by one, and what is left after the report.
-use Rattle.machine.specs.All.{ℕ, suc, _-_, _≤_, _<_, _≡_, refl, sym, ap, _∙_, subst, List, arith}
+use Rattle.machine.specs.All.{ℕ, suc, _-_, _≤_, _<_, _≡_, refl, sym, _∙_, subst, List, arith}
 use Rattle.constants.specs.declared.model.Model.{Model}
-use Rattle.state.specs.declared.scalars.Scalars.{Scalars}
-use Rattle.state.specs.All.{putEnd, Rows, rowsOf}
+use Rattle.state.specs.{declared.scalars.Scalars.Scalars, All.putEnd, All.Rows, All.rowsOf}
 use Rattle.turn_laws.specs.Turn.{Traced, traced, turn}
-use Rattle.report_laws.specs.Writing.{written, putAll}
-use Rattle.report_laws.specs.Numbers.{rowNumbers}
+use Rattle.report_laws.specs.{Writing.written, Writing.putAll, Numbers.rowNumbers}
 use Rattle.engine_laws.specs.declared.outcome.Outcome.{Outcome as Results}
 use Rattle.engine_laws.specs.{endRows, endOf, closeRows, turnRows, turnsFrom, turnsRows, endedWith, Finishes}
 use Rattle.engine_laws.proofs.StepLaws.{steps-on, steps-off, steps-none}
@@ -30,8 +28,7 @@ module _ (model : Model) (tables tape : List ℕ) (budget room : ℕ) (x : Scala
 
   pub turns-none : (n : ℕ) → n ≤ 0 → turnsFrom model tables tape budget room n here ≡ here
   turns-none n h =
-      ap (λ (k : ℕ). turnsFrom model tables tape budget room k here) (zero-is n h)
-      ∙ steps-none (endOf budget room) (turnRows model tables tape) closeRows here
+      cc (zero-is n h, steps-none (endOf budget room) (turnRows model tables tape) closeRows here)
     where
       zero-is : (n : ℕ) → n ≤ 0 → n ≡ 0
       zero-is n h = omega arith
@@ -43,20 +40,13 @@ module _ (model : Model) (tables tape : List ℕ) (budget room : ℕ) (x : Scala
     -- an end: the run stops with it
     pub turns-off : (e ≡ 0 → ⊥) → turnsFrom model tables tape budget room n here ≡ traced (rowsOf (putEnd e x) work tally) trace
     turns-off z =
-        ap (λ (k : ℕ). turnsFrom model tables tape budget room k here) next
-        ∙ steps-off (endOf budget room) (turnRows model tables tape) closeRows (n - 1) here (λ q. z (told ∙ sym end-of ∙ q))
-        ∙ ap (λ (k : ℕ). closeRows k here) (end-of ∙ sym told)
-        ∙ close-of e
+        cc (next, steps-off (endOf budget room) (turnRows model tables tape) closeRows (n - 1) here (λ q. z (told ∙ sym end-of ∙ q)), end-of, told, close-of e)
 
     -- no end: what is left of the run after a turn is what was
     pub turns-on : e ≡ 0 → (there whole : Traced) → there ≡ turn model tables tape work tally trace x → turnsFrom model tables tape budget room n here ≡ whole
         → turnsFrom model tables tape budget room (n - 1) there ≡ whole
     turns-on z there whole step rest =
-        ap (turnsFrom model tables tape budget room (n - 1)) (step ∙ sym turn-of)
-        ∙ sym
-        (ap (λ (k : ℕ). turnsFrom model tables tape budget room k here) next
-        ∙ steps-on (endOf budget room) (turnRows model tables tape) closeRows (n - 1) here (end-of ∙ sym told ∙ z))
-        ∙ rest
+        cc (step, turn-of, next, steps-on (endOf budget room) (turnRows model tables tape) closeRows (n - 1) here (end-of ∙ sym told ∙ z), rest)
 
 -- ---- From the start on
 
@@ -64,7 +54,7 @@ pub turns-begun : (model : Model) (tables tape : List ℕ) (budget room : ℕ) (
     → there ≡ turnsRows model tables tape budget room (traced (rowsOf x work tally) trace) → rowsOf x work tally ≡ r
     → there ≡ turnsRows model tables tape budget room (traced r trace)
 turns-begun model tables tape budget room x work tally trace r there e f =
-    e ∙ ap (λ (q : Rows). turnsRows model tables tape budget room (traced q trace)) f
+    cc (e, f)
 
 -- ---- After the report
 
@@ -75,10 +65,10 @@ unfolding traced rowsOf
 finishes model tables x work tally trace last n r report report′ e f g =
     subst (λ (q : Traced). Finishes model tables q report r trace report′) e
     (record {
-      results = f ∙ ap (endedWith x) (sym bytes);
+      results = cc (f, bytes);
       trace-is = refl;
-      reported = ap (λ (k : ℕ). written k report′) bytes ∙ g;
+      reported = cc (bytes, g);
     })
   where
     bytes : r .«report_bytes» ≡ n
-    bytes = ap (λ (q : Results). q .«report_bytes») f
+    bytes = cc f

@@ -8,8 +8,7 @@ use Rattle.rows_laws.specs.All.{wsl, rel, fel, outranks, sooner, KeptFirst, Kep
 use Rattle.state.specs.All.{listsOf}
 use Rattle.turn_laws.specs.Turn.{Traced, traced}
 use Rattle.start.specs.Start.{startRows}
-use Rattle.engine_laws.specs.Steps.{passed}
-use Rattle.engine_laws.specs.Turns.{endOf, closeRows, turnRows}
+use Rattle.engine_laws.specs.{Steps.passed, Turns.endOf, Turns.closeRows, Turns.turnRows}
 
 -- in one state over rows, beside the machine's
 pub record Firsts (m : BlockModel) (a : Traced) (s : State) : Type 0 where

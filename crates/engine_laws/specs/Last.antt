@@ -5,10 +5,8 @@ use Rattle.layout.specs.All.{tallySize}
 use Rattle.state.specs.declared.scalars.Scalars.{Scalars}
 use Rattle.turn_laws.specs.Turn.{Traced, traced}
 use Rattle.start.specs.Start.{startRows}
-use Rattle.report_laws.specs.Writing.{written, putAll}
-use Rattle.report_laws.specs.Numbers.{rowNumbers}
-use Rattle.engine_laws.specs.declared.outcome.Outcome.{Outcome as Results}
-use Rattle.engine_laws.specs.Turns.{turnsRows}
+use Rattle.report_laws.specs.{Writing.written, Writing.putAll, Numbers.rowNumbers}
+use Rattle.engine_laws.specs.{declared.outcome.Outcome.Outcome as Results, Turns.turnsRows}
 
 -- ---- Results
 

@@ -3,8 +3,7 @@ use Rattle.machine.specs.All.{ℕ, List, steps}
 use Rattle.constants.specs.declared.model.Model.{Model}
 use Rattle.state.specs.All.{putEnd, rowsOf}
 use Rattle.turn_laws.specs.Turn.{Traced, traced, turn}
-use Rattle.engine_laws.specs.Ends.{endRows}
-use Rattle.engine_laws.specs.Steps.{runSteps}
+use Rattle.engine_laws.specs.{Ends.endRows, Steps.runSteps}
 
 unfoldable pub endOf : (budget room : ℕ) → Traced → ℕ
 endOf budget room a = endRows (a .rows .work) (a .rows .scalars) budget room

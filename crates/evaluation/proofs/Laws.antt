@@ -1,13 +1,13 @@
 -- What the entry points give is what the machine says of the blocks that have terms: LET, WAITIF and IF. For callers.
-use Rattle.machine.specs.All.{ℕ, _+_, _-_, _*_, _<_, arith, true, _&&_, List, [], _∷_, _++_, append-nil, _≡_, refl, ap, subst, T, length, getD, View, Relation, Term, constant, minusConstant, parameter, clockTerm, entriesOf, contentOf, unitsInUse, unitsFree, facilityInUse, value, comparison, bracket, worths, evaluate, compare, Block, waitTerms, branch, assign, terminate, BlockModel}
+use Rattle.machine.specs.All.{ℕ, _+_, _*_, _<_, arith, true, List, [], _∷_, _++_, append-nil, _≡_, refl, ap, subst, T, length, getD, View, Relation, Term, constant, minusConstant, parameter, clockTerm, entriesOf, contentOf, unitsInUse, unitsFree, facilityInUse, value, comparison, bracket, evaluate, compare, Block, waitTerms, branch, assign, terminate, BlockModel}
 use Rattle.layout.specs.All.{blockForms, relationNumber, termNumbers, blockNumbers, At, smallTerm, smallBlock, Represents}
 use Rattle.layout.specs.Layout as Layout
 use Rattle.evaluation.specs.{Worth, termAt, compareAt, nestedTerm, nestedBlock, parametersOf}
-use Rattle.evaluation.specs.Nested.{Nested}
-use Rattle.evaluation.specs.Sees.{Sees}
-use Rattle.evaluation.proofs.Found.{at-first, at-front, at-back}
-use Rattle.evaluation.proofs.Terms.{and-left, and-right, related-by, term-found}
-use Rattle.evaluation.proofs.Values.{Values, all-found}
+use Rattle.evaluation.specs.{Nested.Nested, Sees.Sees}
+use Rattle.evaluation.proofs as our
+use our.Found.{at-first, at-front, at-back}
+use our.Terms.{and-left, and-right, related-by, term-found}
+use our.Values.{Values, all-found}
 
 -- a term with no bracket is two numbers
 pub two-numbers : (t : Term) → T (nestedTerm 0 t) → length (termNumbers t) ≡ 2
@@ -35,7 +35,7 @@ module _ {m : BlockModel} {tape : List (List ℕ)} {tapeBytes tables lists : Lis
       termAt tables tally (length (m .values)) clock p at ≡ evaluate (m .values) w (parametersOf p) t
   unfolding termAt evaluate
   term-law t at h small nested =
-      ap (λ (x : Worth). x .worth) (term-found s p (worths w (parametersOf p) (m .values) []) _ (all-found s p values) t 0 at h small nested)
+      ap (λ (x : Worth). x .worth) (term-found s p _ _ (all-found s p values) t 0 at h small nested)
 
   -- left, relation and right from a position on
   pub compare-law : (a : Term) (o : Relation) (b : Term) (rest : List ℕ) (at : ℕ) → At tables at (termNumbers a ++ (relationNumber o ∷ (termNumbers b ++ rest))) →
@@ -43,27 +43,23 @@ module _ {m : BlockModel} {tape : List (List ℕ)} {tapeBytes tables lists : Lis
       compareAt tables tally (length (m .values)) clock p at ≡ compare (m .values) w (parametersOf p) a o b
   unfolding compareAt compare
   compare-law a o b rest at h sa sb na nb =
-      let back : At tables (at + 2) (relationNumber o ∷ (termNumbers b ++ rest)) =
-      subst (λ (k : ℕ). At tables (at + k) (relationNumber o ∷ (termNumbers b ++ rest))) (two-numbers a na)
-      (at-back tables at (termNumbers a) (relationNumber o ∷ (termNumbers b ++ rest)) h) in
-      let f = at-first tables (at + 2) (relationNumber o) (termNumbers b ++ rest) back in
+      let f = at-first tables (at + 2) (relationNumber o) (termNumbers b ++ rest) (subst (λ (k : ℕ). At tables (at + k) (relationNumber o ∷ (termNumbers b ++ rest))) (two-numbers a na)
+      (at-back tables at (termNumbers a) (relationNumber o ∷ (termNumbers b ++ rest)) h)) in
       let next : at + 2 + 1 ≡ at + 3 = omega arith in
-      let right : At tables (at + 3) (termNumbers b) =
-      subst (λ (k : ℕ). At tables k (termNumbers b)) next (at-front tables (at + 2 + 1) (termNumbers b) rest (f .after)) in
-      rw (← f .found, term-law a at (at-front tables at (termNumbers a) (relationNumber o ∷ (termNumbers b ++ rest)) h) sa na, term-law b (at + 3) right sb nb)
+      rw (← f .found, term-law a at (at-front tables at (termNumbers a) (relationNumber o ∷ (termNumbers b ++ rest)) h) sa na, term-law b (at + 3) (subst (λ (k : ℕ). At tables k (termNumbers b)) next (at-front tables (at + 2 + 1) (termNumbers b) rest (f .after))) sb nb)
       (related-by o _ _)
 
   -- ---- Block i (from 0), by its kind
 
   module _ (i : ℕ) (inside : i < length (m .blocks)) where
     numbers : (b : Block) → getD (m .blocks) i (terminate 0) ≡ b → At tables (Layout.blockWidth * i) (blockNumbers b)
-    numbers b e = subst (λ (x : Block). At tables (Layout.blockWidth * i) (blockNumbers x)) e (r .blocks i inside)
+    numbers b e = rw e at (r .blocks i inside)
 
     small : (b : Block) → getD (m .blocks) i (terminate 0) ≡ b → T (smallBlock b)
-    small b e = subst (λ (x : Block). T (smallBlock x)) e (r .small-blocks i)
+    small b e = rw e at (r .small-blocks i)
 
     nested : (b : Block) → getD (m .blocks) i (terminate 0) ≡ b → T (nestedBlock b)
-    nested b e = subst (λ (x : Block). T (nestedBlock x)) e (n .blocks i)
+    nested b e = rw e at (n .blocks i)
 
     -- 12 LET k, a
     pub let-law : (k : ℕ) (a : Term) → getD (m .blocks) i (terminate 0) ≡ assign k a →
@@ -71,11 +67,11 @@ module _ {m : BlockModel} {tape : List (List ℕ)} {tapeBytes tables lists : Lis
     unfolding nestedBlock blockForms
     let-law k a e =
         let base = Layout.blockWidth * i in
-        let f = at-first tables base 12 ((k - 1) ∷ termNumbers a) (numbers (assign k a) e) in
-        let g = at-first tables (base + 1) (k - 1) (termNumbers a) (f .after) in
+        let f = at-first tables base 12 _ (numbers _ e) in
+        let g = at-first tables (base + 1) _ _ (f .after) in
         let next : base + 1 + 1 ≡ base + 2 = omega arith in
-        term-law a (base + 2) (subst (λ (q : ℕ). At tables q (termNumbers a)) next (g .after))
-        (and-left (smallTerm a) true (small (assign k a) e)) (and-left (nestedTerm 0 a) true (nested (assign k a) e))
+        term-law a _ (rw next at (g .after))
+        (and-left (smallTerm a) true (small _ e)) (and-left (nestedTerm 0 a) true (nested _ e))
 
     -- 9 WAITIF a, o, b
     pub wait-law : (a : Term) (o : Relation) (b : Term) → getD (m .blocks) i (terminate 0) ≡ waitTerms a o b →
@@ -83,13 +79,12 @@ module _ {m : BlockModel} {tape : List (List ℕ)} {tapeBytes tables lists : Lis
     unfolding nestedBlock blockForms
     wait-law a o b e =
         let block = waitTerms a o b in
-        let f = at-first tables (Layout.blockWidth * i) 9 (termNumbers a ++ (relationNumber o ∷ termNumbers b)) (numbers block e) in
-        let h : At tables (Layout.blockWidth * i + 1) (termNumbers a ++ (relationNumber o ∷ (termNumbers b ++ []))) = rw (append-nil (termNumbers b)) (f .after) in
-        compare-law a o b [] (Layout.blockWidth * i + 1) h
-        (and-left (smallTerm a) (smallTerm b && true) (small block e))
-        (and-left (smallTerm b) true (and-right (smallTerm a) (smallTerm b && true) (small block e)))
-        (and-left (nestedTerm 0 a) (nestedTerm 0 b && true) (nested block e))
-        (and-left (nestedTerm 0 b) true (and-right (nestedTerm 0 a) (nestedTerm 0 b && true) (nested block e)))
+        let f = at-first tables (Layout.blockWidth * i) 9 _ (numbers block e) in
+        compare-law a o b [] (Layout.blockWidth * i + 1) (rw (append-nil (termNumbers b)) (f .after))
+        (and-left (smallTerm a) _ (small block e))
+        (and-left (smallTerm b) true (and-right (smallTerm a) _ (small block e)))
+        (and-left (nestedTerm 0 a) _ (nested block e))
+        (and-left (nestedTerm 0 b) true (and-right (nestedTerm 0 a) _ (nested block e)))
 
     -- 10 IF a, o, b, target
     pub if-law : (a : Term) (o : Relation) (b : Term) (target : ℕ) → getD (m .blocks) i (terminate 0) ≡ branch a o b target →
@@ -97,9 +92,9 @@ module _ {m : BlockModel} {tape : List (List ℕ)} {tapeBytes tables lists : Lis
     unfolding nestedBlock blockForms
     if-law a o b target e =
         let block = branch a o b target in
-        let f = at-first tables (Layout.blockWidth * i) 10 (termNumbers a ++ (relationNumber o ∷ (termNumbers b ++ (target ∷ [])))) (numbers block e) in
-        compare-law a o b (target ∷ []) (Layout.blockWidth * i + 1) (f .after)
-        (and-left (smallTerm a) (smallTerm b && true) (small block e))
-        (and-left (smallTerm b) true (and-right (smallTerm a) (smallTerm b && true) (small block e)))
-        (and-left (nestedTerm 0 a) (nestedTerm 0 b && true) (nested block e))
-        (and-left (nestedTerm 0 b) true (and-right (nestedTerm 0 a) (nestedTerm 0 b && true) (nested block e)))
+        let f = at-first tables (Layout.blockWidth * i) 10 _ (numbers block e) in
+        compare-law a o b _ _ (f .after)
+        (and-left (smallTerm a) _ (small block e))
+        (and-left (smallTerm b) true (and-right (smallTerm a) _ (small block e)))
+        (and-left (nestedTerm 0 a) _ (nested block e))
+        (and-left (nestedTerm 0 b) true (and-right (nestedTerm 0 a) _ (nested block e)))

@@ -1,5 +1,5 @@
 -- What a term reads of the tables and the tally is what the machine's view holds.
-use Rattle.machine.specs.All.{cases, ℕ, zero, suc, _-_, _≤_, _<_, arith, Bool, cond, List, [], _∷_, _≡_, refl, sym, ap, ltb, length, getD, List·getD-eq-default, lt-ltb, ltb-true, ltb-false, maxBlocks, maxQueues, Server, idleServer, Queue, emptyQueue, View, signed, wrap, oneIf}
+use Rattle.machine.specs.All.{cases, ℕ, zero, suc, _-_, _≤_, _<_, arith, List, [], _∷_, _≡_, refl, sym, ap, ltb, length, getD, List·getD-eq-default, lt-ltb, ltb-true, ltb-false, maxBlocks, maxQueues, Server, idleServer, Queue, emptyQueue, View, signed, wrap, oneIf}
 use lib.IntN.{pos}
 use Rattle.layout.specs.Layout as Layout
 use Rattle.evaluation.specs.{small, within, servers, freeUnits, parametersOf, Shows}
@@ -7,7 +7,7 @@ use Rattle.evaluation.specs.Sees.{Sees}
 
 pub small-is : (n : ℕ) → n < 2147483648 → small n ≡ pos n
 unfolding small
-small-is n h = ap (λ (t : Bool). cond t (pos n) (pos 0)) (lt-ltb n 2147483648 h)
+small-is n h = cc (lt-ltb n 2147483648 h)
 
 -- at any index, if the function gives 0 from `size` on
 module _ (f : ℕ → ℕ) (l : List ℕ) (begin size : ℕ) (s : Shows f l begin size) (past : (i : ℕ) → size ≤ i → f i ≡ 0) (i : ℕ) where
@@ -20,12 +20,12 @@ module _ (f : ℕ → ℕ) (l : List ℕ) (begin size : ℕ) (s : Shows f l begi
 
   pub shown-small : f i < 2147483648
   shown-small =
-      cases (ltb i size)
+      cases _
       (λ e. s .small i (ltb-true i size e))
       (λ e. let z = past i (ltb-false i size e) in omega arith)
 
   pub small-within : small (within l begin size i) ≡ pos (f i)
-  small-within = rw within-is (small-is (f i) shown-small)
+  small-within = rw within-is (small-is _ shown-small)
 
 -- past its end each list gives what is empty
 entries-past : (l : List ℕ) (size : ℕ) → length l ≤ size → (i : ℕ) → size ≤ i → getD l i 0 ≡ 0
@@ -33,15 +33,15 @@ entries-past l size h i g = List·getD-eq-default l 0 (omega arith)
 
 in-use-past : (l : List Server) (size : ℕ) → length l ≤ size → (i : ℕ) → size ≤ i → getD l i (idleServer 0) .inUse ≡ 0
 unfolding idleServer
-in-use-past l size h i g = ap (λ (v : Server). v .inUse) (List·getD-eq-default l (idleServer 0) (omega arith))
+in-use-past l size h i g = ap (λ (v : Server). v .inUse) (List·getD-eq-default l _ (omega arith))
 
 capacity-past : (l : List Server) (size : ℕ) → length l ≤ size → (i : ℕ) → size ≤ i → getD l i (idleServer 0) .capacity ≡ 0
 unfolding idleServer
-capacity-past l size h i g = ap (λ (v : Server). v .capacity) (List·getD-eq-default l (idleServer 0) (omega arith))
+capacity-past l size h i g = ap (λ (v : Server). v .capacity) (List·getD-eq-default l _ (omega arith))
 
 module _ {w : View} {tables tally : List ℕ} {clock : ℕ} (s : Sees w tables tally clock) where
   pub sees-clock : wrap (pos clock) ≡ wrap (pos (w .clock))
-  sees-clock = ap (λ (n : ℕ). wrap (pos n)) (sym (s .time))
+  sees-clock = cc (s .time)
 
   module _ (i : ℕ) where
     pub sees-entries : small (within tally Layout.entries maxBlocks i) ≡ pos (getD (w .entries) i 0)

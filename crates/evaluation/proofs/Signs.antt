@@ -1,5 +1,5 @@
 -- Signed 32-bit numbers and their bits: reading and writing, sums and differences modulo 2 to the 32, equality.
-use Rattle.machine.specs.All.{cases, ℕ, zero, suc, _+_, _-_, _*_, _/_, _%_, _≤_, _<_, arith, true, false, _≡_, refl, sym, ap, _∙_, subst, T, ltb, eqb, lit<, lt-ltb, le-ltb, eq-eqb, ne-eqb, leb-false, ltb-true, ltb-false, eqb-true, eqb-false, signed, low32, wrap, eqZ}
+use Rattle.machine.specs.All.{clash, cases, ℕ, zero, suc, _+_, _-_, _*_, _/_, _%_, _≤_, _<_, arith, true, false, _≡_, refl, sym, ap, _∙_, T, ltb, eqb, lit<, lt-ltb, le-ltb, eq-eqb, ne-eqb, leb-false, ltb-true, ltb-false, eqb-true, eqb-false, signed, low32, wrap, eqZ}
 use lib.IntN.{ℤ, pos, negsuc, negℤ, natAbs, subℕ, _+ℤ_, _-ℤ_, -ℤ-+ℤ-cancel, +ℤ-idl}
 use lib.Signed.{mag, leZ, nonNeg}
 use mir.Syntax.{w32}
@@ -11,11 +11,11 @@ use Rattle.evaluation.specs.{small, worthAt, unpacked}
 
 pub low-signed : (n : ℕ) → n < 2147483648 → signed n ≡ pos n
 unfolding signed
-low-signed n h = rw (lt-ltb n 2147483648 h)
+low-signed n h = rw lt-ltb
 
 pub high-signed : (n : ℕ) → 2147483648 ≤ n → signed n ≡ negsuc (4294967295 - n)
 unfolding signed
-high-signed n h = rw (le-ltb n 2147483648 h)
+high-signed n h = rw le-ltb
 
 -- -1 less k
 pub less-one : (k : ℕ) → negsuc 0 -ℤ pos k ≡ negsuc k
@@ -26,13 +26,13 @@ module _ (n : ℕ) (h : 2147483648 ≤ n) (f : n < 4294967296) where
   complement : negsuc 0 -ℤ toZ w32 (4294967295 - n) ≡ negsuc (4294967295 - n)
   complement =
       let low : 4294967295 - n < 2147483648 = omega arith in
-      ap (λ (z : ℤ). negsuc 0 -ℤ z) (toZ-pos w32 low) ∙ less-one (4294967295 - n)
+      cc (toZ-pos w32 low, less-one (4294967295 - n))
 
   pub complement-fits : SFits w32 (negsuc 0 -ℤ toZ w32 (4294967295 - n))
-  complement-fits = subst (SFits w32) (sym complement) (record { sfits = omega arith })
+  complement-fits = rw complement (record { sfits = omega arith })
 
   pub complement-signed : toZ w32 (ofZ w32 (negsuc 0 -ℤ toZ w32 (4294967295 - n))) ≡ signed n
-  complement-signed = toZ-ofZ complement-fits ∙ complement ∙ sym (high-signed n h)
+  complement-signed = cc (toZ-ofZ complement-fits, complement, high-signed n h)
 
 -- ---- From number to bits
 
@@ -48,12 +48,12 @@ back z h = toZ-ofZ (record { sfits = h })
 -- 0 ≤ z: its bits are its size
 pub abs-cast : (z : ℤ) → leZ (pos 0) z ≡ true → SFits w32 z → T (nonNeg z) × Fits w32 (natAbs z)
 abs-cast (pos n) h f = (tt, fits-natAbs tt f)
-abs-cast (negsuc n) h f = let z : _≡_ {A = ℕ} 0 1 = cc in absurd (omega arith)
+abs-cast (negsuc n) h f = clash (cc)
 
 pub low-abs : (z : ℤ) → leZ (pos 0) z ≡ true → SFits w32 z → natAbs z ≡ low32 z
 unfolding low32
-low-abs (pos n) h f = omega (arith, f .sfits)
-low-abs (negsuc n) h f = let z : _≡_ {A = ℕ} 0 1 = cc in absurd (omega arith)
+low-abs (pos n) h f = omega arith
+low-abs (negsuc n) h f = clash (cc)
 
 -- z < 0: -1 less z is its size less one
 pub flipped : (z : ℤ) → leZ (pos 0) z ≡ false → negsuc 0 -ℤ z ≡ pos (mag z)
@@ -62,18 +62,17 @@ flipped (negsuc m) h = rw (le-ltb (suc m) 1 (omega arith)) (ap pos (omega arith)
 
 module _ (z : ℤ) (h : leZ (pos 0) z ≡ false) (f : SFits w32 z) where
   pub flipped-fits : SFits w32 (negsuc 0 -ℤ z)
-  flipped-fits = subst (SFits w32) (sym (flipped z h)) (record { sfits = f .sfits })
+  flipped-fits = rw (flipped z h) (record { sfits = f .sfits })
 
   pub flipped-back : toZ w32 (ofZ w32 (negsuc 0 -ℤ z)) ≡ pos (mag z)
   flipped-back = toZ-ofZ flipped-fits ∙ flipped z h
 
   pub flipped-cast : T (nonNeg (toZ w32 (ofZ w32 (negsuc 0 -ℤ z)))) × Fits w32 (natAbs (toZ w32 (ofZ w32 (negsuc 0 -ℤ z))))
   flipped-cast =
-      let l : mag z < 2147483648 = f .sfits in
-      subst (λ (y : ℤ). T (nonNeg y) × Fits w32 (natAbs y)) (sym flipped-back) (tt, record { fits = omega arith })
+      rw flipped-back (tt, record { fits = omega arith })
 
   pub flipped-le : natAbs (toZ w32 (ofZ w32 (negsuc 0 -ℤ z))) ≤ 4294967295
-  flipped-le = let l : mag z < 2147483648 = f .sfits in omega (arith, ap natAbs flipped-back)
+  flipped-le = omega (arith, ap natAbs flipped-back)
 
   low-mag : (y : ℤ) → leZ (pos 0) y ≡ false → mag y < 2147483648 → 4294967295 - mag y ≡ low32 y
   unfolding low32
@@ -81,7 +80,7 @@ module _ (z : ℤ) (h : leZ (pos 0) z ≡ false) (f : SFits w32 z) where
   low-mag (negsuc n) g l = omega arith
 
   pub flipped-low : 4294967295 - natAbs (toZ w32 (ofZ w32 (negsuc 0 -ℤ z))) ≡ low32 z
-  flipped-low = ap (λ (y : ℤ). 4294967295 - natAbs y) flipped-back ∙ low-mag z h (f .sfits)
+  flipped-low = cc (flipped-back, low-mag z h (f .sfits))
 
 -- ---- Sums and differences modulo 2 to the 32
 
@@ -89,8 +88,8 @@ low-sub : (a b : ℕ) → low32 (subℕ a (suc b)) ≡ (a % 4294967296 + (429496
 unfolding low32
 low-sub a b =
     cases (ltb a (suc b))
-    (λ e. rw e (omega (arith, ltb-true a (suc b) e)))
-    (λ e. rw e (omega (arith, ltb-false a (suc b) e)))
+    (λ e. rw e (omega (arith, ltb-true a _ e)))
+    (λ e. rw e (omega (arith, ltb-false a _ e)))
 
 pub low-add : (a b : ℤ) → low32 (a +ℤ b) ≡ (low32 a + low32 b) % 4294967296
 unfolding low32
@@ -108,13 +107,13 @@ module _ (a b : ℤ) (x y : ℕ) (ea : x ≡ low32 a) (eb : y ≡ low32 b) (n : 
   unfolding wrap
   wrap-subtract l e =
       ap signed
-      (omega (arith, low32-lt (a -ℤ b), low32-lt b, low32-lt a, sym (low-add (a -ℤ b) b) ∙ ap low32 (-ℤ-+ℤ-cancel a b)))
+      (omega (arith, low32-lt (a -ℤ b), low32-lt a, sym (low-add (a -ℤ b) b) ∙ ap low32 (-ℤ-+ℤ-cancel a b)))
 
 -- a number in range is that of its low bits: what LET stores is read back
 pub signed-low : (z : ℤ) → mag z < 2147483648 → signed (low32 z) ≡ z
 unfolding low32
-signed-low (pos n) h = low-signed (n % 4294967296) (omega arith) ∙ ap pos (omega arith)
-signed-low (negsuc n) h = high-signed (4294967295 - n % 4294967296) (omega arith) ∙ ap negsuc (omega arith)
+signed-low (pos n) h = low-signed _ (omega arith) ∙ ap pos (omega arith)
+signed-low (negsuc n) h = high-signed _ (omega arith) ∙ ap negsuc (omega arith)
 
 -- ---- An answer: a number in range and a position
 
@@ -124,7 +123,7 @@ unpacked-is z b next n h eb en =
     let l = low32-lt z in
     let below : n % 4294967296 ≡ low32 z = omega arith in
     let above : n / 4294967296 ≡ next = omega arith in
-    rw (below, above) (ap (λ (y : ℤ). worthAt y next) (signed-low z h))
+    rw (below, above) (cc (signed-low z h))
 
 -- ---- Equality by the bits
 
@@ -132,7 +131,6 @@ pub bits-equal : (a b : ℤ) → SFits w32 a → SFits w32 b → eqb (ofZ w32 a)
 unfolding eqZ
 bits-equal (pos a) (pos b) f g = refl
 bits-equal (pos a) (negsuc b) f g =
-    let l : a < 2147483648 = f .sfits in
     let k : b < 2147483648 = g .sfits in ne-eqb a (4294967296 - suc b) (λ e. omega arith)
 bits-equal (negsuc a) (pos b) f g =
     let l : a < 2147483648 = f .sfits in
@@ -156,10 +154,10 @@ small-lt n = cases (ltb n 2147483648) (λ e. rw e (neg-lt n (ltb-true n 21474836
 
 module _ (z : ℤ) (n : ℕ) (e : z ≡ small n) where
   minus-is : pos 0 -ℤ z ≡ negℤ (small n)
-  minus-is = +ℤ-idl (negℤ z) ∙ ap negℤ e
+  minus-is = +ℤ-idl _ ∙ ap negℤ e
 
   pub minus-fits : SFits w32 (pos 0 -ℤ z)
-  minus-fits = record { sfits = subst (λ (y : ℤ). mag y < 2147483648) (sym minus-is) (small-lt n) }
+  minus-fits = record { sfits = rw minus-is (small-lt n) }
 
   pub minus-back : toZ w32 (ofZ w32 (pos 0 -ℤ z)) ≡ negℤ (small n)
   minus-back = toZ-ofZ minus-fits ∙ minus-is

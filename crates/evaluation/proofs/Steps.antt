@@ -15,7 +15,7 @@ module _ (tables : List ℕ) (simple : ℕ → ℕ → ℤ) (mention : ℕ → �
     module _ (inl : at < length tables) (tag n : ℕ) (et : tag ≡ getD tables at 0) (en : n ≡ getD tables (at + 1) 0) where
       pub tagged-simple : tag < 9 → taggedTerm tables simple mention compared bracketed at ≡ worthAt (simple tag n) (at + 2)
       unfolding taggedTerm pairFrom
-      tagged-simple h = rw (lt-ltb at (length tables) inl, ← et, lt-ltb tag 9 h, en)
+      tagged-simple h = rw (lt-ltb at (length tables) inl, ← et, lt-ltb, en)
 
       pub tagged-mention : tag ≡ 9 → taggedTerm tables simple mention compared bracketed at ≡ worthAt (mention n) (at + 2)
       unfolding taggedTerm pairFrom
@@ -27,7 +27,7 @@ module _ (tables : List ℕ) (simple : ℕ → ℕ → ℤ) (mention : ℕ → �
 
       pub tagged-bracket : 9 ≤ tag → (tag ≡ 9 → ⊥) → (tag ≡ 10 → ⊥) → taggedTerm tables simple mention compared bracketed at ≡ bracketed (at + 1)
       unfolding taggedTerm
-      tagged-bracket h h9 h10 = rw (lt-ltb at (length tables) inl, ← et, le-ltb tag 9 h, ne-eqb tag 9 h9, ne-eqb tag 10 h10)
+      tagged-bracket h h9 h10 = rw (lt-ltb at (length tables) inl, ← et, le-ltb, ne-eqb, ne-eqb)
 
   pub term-past : (depth : ℕ) → length tables ≤ at → termFrom tables simple mention depth at ≡ worthAt (pos 0) at
   unfolding termFrom
@@ -49,7 +49,7 @@ module _ (tables : List ℕ) (simple : ℕ → ℕ → ℤ) (mention : ℕ → �
     pub term-deep : (depth : ℕ) → depth ≡ 0 → 9 ≤ tag → (tag ≡ 9 → ⊥) → termFrom tables simple mention depth at ≡ worthAt (pos 0) (at + 1)
     unfolding termFrom nothingAt
     term-deep zero z h h9 =
-        cases (eqb tag 10)
+        cases _
         (λ e. tagged-comparison _ _ inl tag n et en (eqb-true tag 10 e))
         (λ e. tagged-bracket _ _ inl tag n et en h h9 (eqb-false tag 10 e))
     term-deep (suc d) z h h9 = absurd (omega arith)
@@ -60,8 +60,7 @@ module _ (tables : List ℕ) (simple : ℕ → ℕ → ℤ) (mention : ℕ → �
     term-comparison zero z h = absurd (z refl)
     term-comparison (suc d) z h =
         let below : d ≡ suc d - 1 = omega arith in
-        tagged-comparison _ _ inl tag n et en h
-        ∙ ap (λ (k : ℕ). comparisonFrom tables (termFrom tables simple mention k) (at + 1)) below
+        cc (tagged-comparison _ _ inl tag n et en h, below)
 
     pub term-bracket : (depth : ℕ) → (depth ≡ 0 → ⊥) → 9 ≤ tag → (tag ≡ 9 → ⊥) → (tag ≡ 10 → ⊥) →
         termFrom tables simple mention depth at ≡ sumFrom tables (termFrom tables simple mention (depth - 1)) n (pos 0) (at + 2)
@@ -71,7 +70,7 @@ module _ (tables : List ℕ) (simple : ℕ → ℕ → ℤ) (mention : ℕ → �
         let next : at + 1 + 1 ≡ at + 2 = omega arith in
         let below : d ≡ suc d - 1 = omega arith in
         tagged-bracket _ _ inl tag n et en h h9 h10
-        ∙ rw (← en, next) (ap (λ (k : ℕ). sumFrom tables (termFrom tables simple mention k) n (pos 0) (at + 2)) below)
+        ∙ rw (← en, next) (cc below)
 
 -- ---- Sums
 
@@ -94,7 +93,7 @@ module _ (tables : List ℕ) (term : ℕ → Worth) (so-far : ℤ) (at : ℕ) wh
   sum-more (suc left) z h =
       let fewer : left ≡ suc left - 1 = omega arith in
       rw (lt-ltb at (length tables) h)
-      (ap (λ (k : ℕ). sumFrom tables term k (joined (getD tables at 0) so-far (term (at + 1) .worth)) (term (at + 1) .next)) fewer)
+      (cc fewer)
 
 -- ---- Values
 
@@ -131,7 +130,7 @@ pub value-past : (tables : List ℕ) (simple : ℕ → ℕ → ℤ) (k lower : �
     pos 0 ≡ valueBelow tables simple lower k
 unfolding valueBy bracketFrom
 value-past tables simple k lower h past =
-    sym (value-some tables simple k lower h ∙ ap (λ (w : Worth). w .worth) (sum-past tables _ (pos 0) _ _ past))
+    cc (value-some tables simple k lower h, sum-past tables _ (pos 0) _ _ past)
 
 pub value-step : (tables : List ℕ) (simple : ℕ → ℕ → ℤ) (k lower : ℕ) → k < lower → (count : ℕ) →
     count ≡ getD tables (Layout.values + Layout.valueWidth * k) 0 → (r : Worth) →

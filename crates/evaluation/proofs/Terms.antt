@@ -5,9 +5,10 @@ use lib.IntN.{ℤ, pos, negℤ, _+ℤ_, _-ℤ_}
 use Rattle.layout.specs.All.{relationNumber, terms, termNumbers, signedTerms, At, smallTerm, smallSum}
 use Rattle.evaluation.specs.{Worth, relatedBy, simpleTerm, worthAt, joined, judged, sumFrom, comparisonFrom, termFrom, nestedTerm, nestedSum, parametersOf}
 use Rattle.evaluation.specs.Sees.{Sees}
-use Rattle.evaluation.proofs.Found.{at-first, at-front, at-back}
-use Rattle.evaluation.proofs.Seen.{small-is, sees-clock, sees-entries, sees-content, sees-in-use, sees-facility, sees-free, sees-parameter}
-use Rattle.evaluation.proofs.Steps.{term-simple, term-mention, term-comparison, term-bracket, comparison-step, sum-none, sum-step}
+use Rattle.evaluation.proofs as our
+use our.Found.{at-first, at-front, at-back}
+use our.Seen.{small-is, sees-clock, sees-entries, sees-content, sees-in-use, sees-facility, sees-free, sees-parameter}
+use our.Steps.{term-simple, term-mention, term-comparison, term-bracket, comparison-step, sum-none, sum-step}
 
 -- ---- Both of two tests
 
@@ -39,7 +40,7 @@ module _ {w : View} {tables tally : List ℕ} {clock : ℕ} (s : Sees w tables t
 
   minus-worth : (n : ℕ) → n ≤ maxConstant → simpleTerm tables tally clock p 1 n ≡ negℤ (pos n)
   unfolding simpleTerm
-  minus-worth n h = ap negℤ (small-is n (omega arith))
+  minus-worth n h = cc (small-is n (omega arith))
 
   parameter-worth : (k : ℕ) → simpleTerm tables tally clock p 2 k ≡ getD (parametersOf p) k (pos 0)
   unfolding simpleTerm
@@ -55,19 +56,19 @@ module _ {w : View} {tables tally : List ℕ} {clock : ℕ} (s : Sees w tables t
 
   content-worth : (q : ℕ) → simpleTerm tables tally clock p 5 (q - 1) ≡ pos (queueAt w q .content)
   unfolding simpleTerm queueAt
-  content-worth q = sees-content s (q - 1)
+  content-worth q = sees-content s _
 
   in-use-worth : (v : ℕ) → simpleTerm tables tally clock p 6 (v - 1) ≡ pos (serverAt w v .inUse)
   unfolding simpleTerm serverAt
-  in-use-worth v = sees-in-use s (v - 1)
+  in-use-worth v = sees-in-use s _
 
   free-worth : (v : ℕ) → simpleTerm tables tally clock p 7 (v - 1) ≡ pos (serverAt w v .capacity - serverAt w v .inUse)
   unfolding simpleTerm serverAt
-  free-worth v = sees-free s (v - 1)
+  free-worth v = sees-free s _
 
   facility-worth : (v : ℕ) → simpleTerm tables tally clock p 8 (v - 1) ≡ oneIf (ltb 0 (serverAt w v .inUse))
   unfolding simpleTerm serverAt
-  facility-worth v = sees-facility s (v - 1)
+  facility-worth v = sees-facility s _
 
 -- ---- Terms and sums: where their numbers stand, they are worth what the machine says
 
@@ -88,22 +89,21 @@ module _ (tables : List ℕ) (read : ℕ → Worth) (at : ℕ) where
   unfolding judged
   comparison-found r a b h x y ea eb =
       let end = at + 1 + length a + length b in
-      sym (comparison-step tables read at (relationNumber r) (at-first tables at (relationNumber r) (a ++ b) h .found)
-      (worthAt x (at + 1 + length a)) (sym ea) (at + 1 + length a) refl (worthAt y end) (sym eb)
-      (worthAt (oneIf (related r x y)) end) (ap (λ (c : Bool). worthAt (oneIf c) end) (sym (related-by r x y))))
+      sym (comparison-step tables read at (relationNumber r) (at-first tables at (relationNumber r) _ h .found)
+      _ (sym ea) _ refl _ (sym eb)
+      _ (cc (related-by r x y)))
 
   -- a sum, from its first term and the rest
   terms-found : (sign count : ℕ) (a b : List ℕ) → At tables at (sign ∷ (a ++ b)) → (so-far x z : ℤ) → z ≡ joined sign so-far x → (all : ℤ) →
       read (at + 1) ≡ worthAt x (at + 1 + length a) → sumFrom tables read count z (at + 1 + length a) ≡ worthAt all (at + 1 + length a + length b) →
       sumFrom tables read (suc count) so-far at ≡ worthAt all (at + suc (length (a ++ b)))
   terms-found sign count a b h so-far x z ez all ea eb =
-      let f = at-first tables at sign (a ++ b) h in
+      let f = at-first tables at sign _ h in
       let one : suc count - 1 ≡ count = omega arith in
-      let end : at + 1 + length a + length b ≡ at + suc (length (a ++ b)) = simp length-append (omega arith) in
       sym (sum-step tables read at sign (f .found) (suc count) (λ e. omega arith) (f .inside) so-far
       (worthAt x (at + 1 + length a)) (sym ea) so-far x z refl refl ez (at + 1 + length a) refl (worthAt all (at + 1 + length a + length b))
       (sym eb ∙ ap (λ (n : ℕ). sumFrom tables read n z (at + 1 + length a)) (sym one)))
-      ∙ ap (worthAt all) end
+      ∙ ap (worthAt all) (simp length-append (omega arith))
 
 module _ {w : View} {tables tally : List ℕ} {clock : ℕ} (s : Sees w tables tally clock) (p : List ℕ) (lower : List ℤ) (mention : ℕ → ℤ)
     (agrees : (k : ℕ) → mention k ≡ getD lower k (pos 0)) where
@@ -111,44 +111,40 @@ module _ {w : View} {tables tally : List ℕ} {clock : ℕ} (s : Sees w tables t
   simple : (depth at : ℕ) (tag n : ℕ) (z : ℤ) → At tables at (tag ∷ n ∷ []) → tag < 9 → simpleTerm tables tally clock p tag n ≡ z →
       termFrom tables (simpleTerm tables tally clock p) mention depth at ≡ worthAt z (at + 2)
   simple depth at tag n z h l e =
-      let f = at-first tables at tag (n ∷ []) h in
-      let g = at-first tables (at + 1) n [] (f .after) in
-      term-simple tables (simpleTerm tables tally clock p) mention at (f .inside) tag n (f .found) (g .found) depth l
-      ∙ ap (λ (y : ℤ). worthAt y (at + 2)) e
+      let f = at-first tables at tag _ h in
+      let g = at-first tables _ n [] (f .after) in
+      cc (term-simple tables (simpleTerm tables tally clock p) mention at (f .inside) tag n (f .found) (g .found) depth l, e)
 
   mentioned : (depth at k : ℕ) → At tables at (9 ∷ k ∷ []) →
       termFrom tables (simpleTerm tables tally clock p) mention depth at ≡ worthAt (getD lower k (pos 0)) (at + 2)
   mentioned depth at k h =
-      let f = at-first tables at 9 (k ∷ []) h in
-      let g = at-first tables (at + 1) k [] (f .after) in
-      term-mention tables (simpleTerm tables tally clock p) mention at (f .inside) 9 k (f .found) (g .found) depth refl
-      ∙ ap (λ (y : ℤ). worthAt y (at + 2)) (agrees k)
+      let f = at-first tables at 9 _ h in
+      let g = at-first tables _ k [] (f .after) in
+      cc (term-mention tables (simpleTerm tables tally clock p) mention at (f .inside) 9 k (f .found) (g .found) depth refl, agrees k)
 
   compared : (depth at : ℕ) (r : Relation) (a b : List ℕ) → At tables at (10 ∷ relationNumber r ∷ (a ++ b)) → T (ltb 0 depth) → (x y : ℤ) →
       termFrom tables (simpleTerm tables tally clock p) mention (depth - 1) (at + 1 + 1) ≡ worthAt x (at + 1 + 1 + length a) →
       termFrom tables (simpleTerm tables tally clock p) mention (depth - 1) (at + 1 + 1 + length a) ≡ worthAt y (at + 1 + 1 + length a + length b) →
       termFrom tables (simpleTerm tables tally clock p) mention depth at ≡ worthAt (oneIf (related r x y)) (at + suc (suc (length (a ++ b))))
   compared depth at r a b h deep x y ea eb =
-      let f = at-first tables at 10 (relationNumber r ∷ (a ++ b)) h in
-      let g = at-first tables (at + 1) (relationNumber r) (a ++ b) (f .after) in
-      let l : 0 < depth = ltb→lt 0 depth deep in
-      let end : at + 1 + 1 + length a + length b ≡ at + suc (suc (length (a ++ b))) = simp length-append (omega arith) in
+      let f = at-first tables at 10 _ h in
+      let g = at-first tables _ _ _ (f .after) in
+      let l = ltb→lt 0 depth deep in
       term-comparison tables (simpleTerm tables tally clock p) mention at (f .inside) 10 (relationNumber r) (f .found) (g .found) depth (λ e. omega arith) refl
       ∙ comparison-found tables (termFrom tables (simpleTerm tables tally clock p) mention (depth - 1)) (at + 1) r a b (f .after) x y ea eb
-      ∙ ap (worthAt (oneIf (related r x y))) end
+      ∙ ap (worthAt (oneIf (related r x y))) (simp length-append (omega arith))
 
   bracketed : (depth at n : ℕ) (a : List ℕ) → At tables at (11 ∷ n ∷ a) → T (ltb 0 depth) → (x : ℤ) →
       sumFrom tables (termFrom tables (simpleTerm tables tally clock p) mention (depth - 1)) n (pos 0) (at + 1 + 1) ≡ worthAt x (at + 1 + 1 + length a) →
       termFrom tables (simpleTerm tables tally clock p) mention depth at ≡ worthAt x (at + suc (suc (length a)))
   bracketed depth at n a h deep x ea =
-      let f = at-first tables at 11 (n ∷ a) h in
-      let g = at-first tables (at + 1) n a (f .after) in
-      let l : 0 < depth = ltb→lt 0 depth deep in
+      let f = at-first tables at 11 _ h in
+      let g = at-first tables _ n a (f .after) in
+      let l = ltb→lt 0 depth deep in
       let next : at + 2 ≡ at + 1 + 1 = omega arith in
-      let end : at + 1 + 1 + length a ≡ at + suc (suc (length a)) = omega arith in
       term-bracket tables (simpleTerm tables tally clock p) mention at (f .inside) 11 n (f .found) (g .found) depth
       (λ e. omega arith) (lit≤ tt) (λ e. omega arith) (λ e. omega arith)
-      ∙ rw next (ea ∙ ap (worthAt x) end)
+      ∙ rw next (ea ∙ ap (worthAt x) (omega arith))
 
   mutual
     unfolding term terms termNumbers smallTerm nestedTerm

@@ -1,8 +1,7 @@
 -- A sample from the answer of `read_number`.
 use Rattle.machine.specs.All.{ℕ, _<_, _≡_, ap, List, arith, drop, maxNumberBytes, fiveGroups, readNumber}
-use Rattle.codec.specs.declared.Read.{Read}
+use Rattle.codec.specs.{declared.Read.Read, Answers.numberOf}
 use Rattle.codec.specs.declared.Read.the-variants.{Number as Whole, Refused as Unread}
-use Rattle.codec.specs.Answers.{numberOf}
 use Rattle.flow_laws.specs.declared.samples.Sample.{Sample}
 use Rattle.flow_laws.specs.{sampleOf, sampleAt}
 

@@ -1,19 +1,12 @@
 -- 18 ASSEMBLE: the row machine does what the machine does.
-use Rattle.machine.specs.All.{ℕ, suc, _+_, _-_, _%_, _≤_, _<_, _≡_, refl, sym, ap, _∙_, subst, Bool, true, false, cond, List, [], _∷_, _++_, map, map-append, none, some, arith, lt-ltb, le-ltb, eqb, length, getD, Transaction, Gatherer, precedes, insert, those, replaceFirst, setNth, Block, terminate, assemble, facts, BlockModel, blockAt, State, withNext, withSerial, withReturning, setMoving, setSerial, setEnded, setGatherers, toRel, inFamily, waitsFor, toGatherers, comes, released, question, askGathers, gathers, gathering, Each}
+use Rattle.machine.specs.All.{ℕ, suc, _+_, _-_, _%_, _≤_, _<_, _≡_, refl, sym, ap, _∙_, Bool, true, false, cond, List, [], _∷_, _++_, map, map-append, none, some, arith, lt-ltb, le-ltb, eqb, length, getD, Transaction, Gatherer, precedes, insert, those, replaceFirst, setNth, terminate, assemble, facts, BlockModel, blockAt, State, withNext, withSerial, withReturning, setMoving, setSerial, setEnded, setGatherers, toRel, inFamily, waitsFor, toGatherers, comes, released, question, askGathers, gathers, Each}
 use Rattle.machine.proofs.runs.Shape.{gatherers-at}
 use Rattle.layout.specs.All.{blockForms}
-use Rattle.rows_laws.specs.All.{head, rel, load, read, write, setReturning, removeAt, put, familyCell, lineUp, freeRow, transactionAt, ending, update, All, moved as movedLists}
-use Rattle.rows_laws.proofs.Data.{same-row, transaction-kept}
-use Rattle.rows_laws.proofs.Fields.{write-next, write-serial, set-returning}
-use Rattle.rows_laws.proofs.Holding.{remove-holds, remove-keeps}
-use Rattle.rows_laws.proofs.Insertion.{map-insert}
-use Rattle.rows_laws.proofs.Making.{Written, written, written-trans}
-use Rattle.rows_laws.proofs.Ordering.{shows-ext}
-use Rattle.rows_laws.proofs.Laws.{Wakes}
-use Rattle.rows_laws.proofs.Found.{nobody, somebody}
+use Rattle.rows_laws.specs.All.{head, rel, read, write, setReturning, removeAt, put, familyCell, lineUp, transactionAt, ending, update, All, moved as movedLists}
+use Rattle.rows_laws.proofs.{Data.same-row, Data.transaction-kept, Fields.write-next, Fields.write-serial, Fields.set-returning, Holding.remove-holds, Holding.remove-keeps, Insertion.map-insert, Making.written, Making.written-trans, Ordering.shows-ext, Laws.Wakes, Found.nobody, Found.somebody}
 use Rattle.rows_laws.proofs.Kin.{Other, Kin, kin-of, counts-shows, release-shows}
 use Rattle.state.specs.declared.scalars.Scalars.{Scalars}
-use Rattle.state.specs.All.{putMoving, putSerial, putNote, entering, goingBack, beginning, waiting, bare, bareAnswer, rowsOf, gathererRow, listsIn, listsOf, Listed, Listing, noteOf, Done}
+use Rattle.state.specs.All.{putMoving, putSerial, putNote, entering, beginning, bare, bareAnswer, rowsOf, gathererRow, listsIn, listsOf, Listing, noteOf, Done}
 use Rattle.state.proofs.ListsOf.{lists-gatherers, lists-set-gatherers, lists-moved}
 use Rattle.state.proofs.StandsLaws.{listing-write, listing-put, listing-steady, renumber}
 use Rattle.moves.proofs.Before.{placeOf, bareBlock, Before}
@@ -21,9 +14,9 @@ use Rattle.moves.specs.Motion.{moved, withTally, next32, beginWait}
 use Rattle.moves.proofs.BeforeLaws.{placed, next-low, serial-low, proper-block, operand, asked-moved}
 use Rattle.moves.proofs.MotionLaws.{next32-suc, next-read, number-read}
 use Rattle.flow_laws.specs.{toReady, listAt, gatherOn, releaseOn, endOn, countOn, laterRows, gatherRows, assembleRows}
-use Rattle.flow_laws.proofs.Asked.{holding-asked}
-use Rattle.flow_laws.proofs.TerminateLaw.{free-listing}
-use Rattle.flow_laws.proofs.Kin.{Match, Split, split, none-of, one-of, those-none, those-first, replaced, each-at}
+use Rattle.flow_laws.proofs as our
+use our.{Asked.holding-asked, TerminateLaw.free-listing}
+use our.Kin.{Match, Split, split, none-of, one-of, those-none, those-first, replaced, each-at}
 
 module _ {m : BlockModel} {tape : List (List ℕ)} {tapeBytes tables lists w tally : List ℕ} {x : Scalars} {t : Transaction} {s : State}
     {n : ℕ} (h : Before m tape tapeBytes tables lists w tally x t s (assemble n)) where
@@ -49,10 +42,10 @@ module _ {m : BlockModel} {tape : List (List ℕ)} {tapeBytes tables lists w tal
   i = t .next - 1
 
   few : i < 256
-  few = omega (arith, placed h .0, h .proper .blocks)
+  few = omega (arith, placed h .0)
 
   there : i < length (s .gatherers)
-  there = gatherers-at (h .sane .shape) (t .next) n (h .is)
+  there = gatherers-at (h .sane .shape) _ n (h .is)
 
   abbrev p : ℕ
   p = 450 + i
@@ -70,11 +63,11 @@ module _ {m : BlockModel} {tape : List (List ℕ)} {tapeBytes tables lists w tal
   unfolding listAt
   list-is =
       let e : i % 256 ≡ i = omega (arith, few) in
-      ap (λ (k : ℕ). 450 + (k - 1) % 256) (next-read (h .listing)) ∙ ap (λ (k : ℕ). 450 + k) e
+      cc (next-read (h .listing), e)
 
   family-is : read w 10 (x .moving) ≡ t .family
   unfolding transactionAt
-  family-is = ap (λ (u : Transaction). u .family) (h .listing .mover .1)
+  family-is = cc (h .listing .mover .1)
 
   abbrev c : ℕ
   c = familyCell w p (t .family)
@@ -84,7 +77,7 @@ module _ {m : BlockModel} {tape : List (List ℕ)} {tapeBytes tables lists w tal
   rows-are = rw (operand-is, list-is, family-is)
 
   serial-is : next32 (x .serial) ≡ suc (s .serial)
-  serial-is = ap next32 (h .counting .serial) ∙ next32-suc (s .serial) (serial-low h)
+  serial-is = ap next32 (h .counting .serial) ∙ next32-suc _ (serial-low h)
 
   -- ---- The first of its family
 
@@ -106,20 +99,12 @@ module _ {m : BlockModel} {tape : List (List ℕ)} {tapeBytes tables lists w tal
     gather-is = rw serial-is
 
     g₁ : Listing w₁ (x .moving) (some (withNext 1 t)) s₀
-    g₁ = listing-write (h .listing) 6 1 (omega arith) (write-next w (x .moving) room hk 1 ∙ ap (withNext 1) (h .listing .mover .1))
+    g₁ = listing-write (h .listing) 6 1 (omega arith) (cc (write-next w (x .moving) room hk 1, h .listing .mover .1))
 
     g₂ : Listing w₂ (x .moving) (some (withNext 1 t′)) later
     g₂ =
-        listing-write g₁ 7 (suc (s .serial)) (omega arith)
-        (write-serial w₁ (x .moving) (g₁ .shows .shown .holds .room) hk (suc (s .serial)) ∙ ap (withSerial (suc (s .serial))) (g₁ .mover .1))
-
-    on-list : (q : ℕ) → q < 770 → update p (insert precedes (withNext 1 t′) (listsOf later p)) (listsOf later) q ≡ listsOf (toGatherers t′ later) q
-    unfolding toGatherers
-    on-list q hq =
-        ap (λ (l : List Transaction). update p (insert precedes (withNext 1 t′) l) (listsOf later) q) (lists-gatherers later i few)
-        ∙ ap (λ (l : List Transaction). update p l (listsOf later) q)
-        (sym (map-insert gathererRow (λ a b. precedes (a .who) (b .who)) precedes (λ a b. unfold precedes in refl) (record { who = t′; come = 1 }) here))
-        ∙ lists-set-gatherers later i (insert (λ a b. precedes (a .who) (b .who)) (record { who = t′; come = 1 }) here) few there q
+        listing-write g₁ 7 _ (omega arith)
+        (cc (write-serial w₁ (x .moving) (g₁ .shows .shown .holds .room) hk (suc (s .serial)), g₁ .mover .1))
 
     first-done : Done tapeBytes (withTally (gatherOn w x p) tally) (beginning toGatherers t s₀)
     unfolding moved rowsOf noteOf toGatherers
@@ -128,7 +113,7 @@ module _ {m : BlockModel} {tape : List (List ℕ)} {tapeBytes tables lists w tal
         (record {
           stands =
               record {
-                listing = listing-put g₂ p (omega arith) (omega (arith, few)) on-list;
+                listing = listing-put g₂ p (omega arith) (omega (arith, few)) (λ q hq. cc (lists-gatherers later i few, map-insert gathererRow (λ a b. precedes (a .who) (b .who)) precedes (λ a b. unfold precedes in refl) (record { who = t′; come = 1 }) here, lists-set-gatherers later i (insert (λ a b. precedes (a .who) (b .who)) (record { who = t′; come = 1 }) here) few there q));
                 tallying = h .tallying;
                 counting = renumber (h .counting) refl (h .counting .made) (h .counting .ended);
               };
@@ -139,14 +124,14 @@ module _ {m : BlockModel} {tape : List (List ℕ)} {tapeBytes tables lists w tal
     unfolding question askGathers
     first-is =
         ap (λ (l : List Gatherer). bareAnswer (askGathers m l t s) m (assemble n) t s) alone
-        ∙ unfold bareAnswer bare in (ap (λ (l : List Gatherer). gathering (λ f. entering (f s₀)) (λ put. waiting put t s₀) (λ f. goingBack (f s₀)) (λ put. beginning put t s₀) l n t) alone)
+        ∙ unfold bareAnswer bare in (cc alone)
 
   -- ---- A later one
 
   module _ (a e : List ℕ) (k : ℕ) (was : L p ≡ a ++ k ∷ e) (cell : c ≡ ending (head p) a) (row : k < 1024)
       (others : All (Other w (t .family)) a) (own : eqb (read w 10 k) (t .family) ≡ true) where
     part : Split w here a e k
-    part = split w a e k here (ap (map (transactionAt w)) (sym was) ∙ matches)
+    part = split w a e k here (cc (was, matches))
 
     abbrev g : Gatherer
     g = part .one
@@ -158,11 +143,11 @@ module _ {m : BlockModel} {tape : List (List ℕ)} {tapeBytes tables lists w tal
     own-one = one-of w t k g (part .here) own
 
     waits : waitsFor t s ≡ g ∷ those (inFamily t) (part .behind)
-    waits = ap (those (inFamily t)) (part .parts) ∙ those-first (inFamily t) (part .ahead) g (part .behind) ahead-none own-one
+    waits = cc (part .parts, those-first (inFamily t) (part .ahead) g (part .behind) ahead-none own-one)
 
     -- the list with a few in its place
     replaced-is : (l : List Gatherer) → replaceFirst (inFamily t) l here ≡ part .ahead ++ (l ++ part .behind)
-    replaced-is l = ap (replaceFirst (inFamily t) l) (part .parts) ∙ replaced (inFamily t) l (part .ahead) g (part .behind) ahead-none own-one
+    replaced-is l = cc (part .parts, replaced (inFamily t) l (part .ahead) g (part .behind) ahead-none own-one)
 
     come-read : read w 6 k ≡ g .come
     unfolding transactionAt
@@ -170,18 +155,15 @@ module _ {m : BlockModel} {tape : List (List ℕ)} {tapeBytes tables lists w tal
 
     gathers-at : facts (blockAt m (t .next)) .gathers ≡ n
     unfolding facts
-    gathers-at = ap (λ (b : Block). facts b .gathers) (h .is)
+    gathers-at = cc (h .is)
 
     below : g .come < n
     below =
-        let all = h .sane .come (t .next) (placed h .0 .0) (omega (arith, gathers-at, range)) in
-        omega (arith, gathers-at, each-at (λ g. g .come < facts (blockAt m (t .next)) .gathers) (part .ahead) g (part .behind) (subst (Each (λ g. g .come < facts (blockAt m (t .next)) .gathers)) (part .parts) all))
-
-    count-is : next32 (read w 6 k) ≡ suc (g .come)
-    count-is = ap next32 come-read ∙ next32-suc (g .come) (omega (arith, below, range))
+        let all = h .sane .come _ (placed h .0 .0) (omega (arith, gathers-at, range)) in
+        omega (arith, gathers-at, each-at (λ g. g .come < facts _ .gathers) (part .ahead) g _ (rw (part .parts) at all))
 
     ended-is : next32 (x .ended) ≡ suc (s .ended)
-    ended-is = ap next32 (h .counting .ended) ∙ next32-suc (s .ended) (omega (arith, h .sane .ended, h .sane .made, h .sane .serials))
+    ended-is = ap next32 (h .counting .ended) ∙ next32-suc _ (omega arith)
 
     abbrev ended : State
     ended = setEnded (suc (s .ended)) s₀
@@ -195,19 +177,19 @@ module _ {m : BlockModel} {tape : List (List ℕ)} {tapeBytes tables lists w tal
     v = write w 6 k (suc (g .come))
 
     counted : Wakes w v (update p (map (transactionAt w) a ++ withNext (suc (g .come)) (transactionAt w k) ∷ map (transactionAt w) e) (listsOf s₀)) (s .fel)
-    counted = counts-shows w (listsOf s₀) (s .fel) (h .listing .shows) p k a e (omega (arith, few)) row was (suc (g .come))
+    counted = counts-shows w _ _ (h .listing .shows) p k a e (omega (arith, few)) row was _
 
     counted-list : map (transactionAt w) a ++ withNext (suc (g .come)) (transactionAt w k) ∷ map (transactionAt w) e ≡ map gathererRow (replaceFirst (inFamily t) (g′ ∷ []) here)
     counted-list =
         rw (part .before, part .here, part .after)
-        (sym (ap (map gathererRow) (replaced-is (g′ ∷ [])) ∙ map-append gathererRow (part .ahead) (g′ ∷ part .behind)))
+        (cc (replaced-is (g′ ∷ []), map-append gathererRow (part .ahead) (g′ ∷ part .behind)))
 
     more-listing : Listing v (x .moving) (some t) (comes g t s₀)
     unfolding comes
     more-listing =
         listing-steady
-        (shows-ext v _ (listsOf (comes g t s₀)) (s .fel) (s .fel)
-        (λ q hq. ap (λ (l : List Transaction). update p l (listsOf s₀) q) counted-list ∙ lists-set-gatherers s₀ i (replaceFirst (inFamily t) (g′ ∷ []) here) few there q)
+        (shows-ext v _ _ _ _
+        (λ q hq. cc (counted-list, lists-set-gatherers s₀ i (replaceFirst (inFamily t) (g′ ∷ []) here) few there q))
         refl (counted .shows))
         (counted .steady) (h .listing)
 
@@ -228,33 +210,18 @@ module _ {m : BlockModel} {tape : List (List ℕ)} {tapeBytes tables lists w tal
     abbrev v₄ : List ℕ
     v₄ = write v₃ 7 k (suc (s .serial))
 
-    removed-row : transactionAt v₁ k ≡ transactionAt w k
-    removed-row = transaction-kept w v₁ k (same-row w v₁ k row (remove-keeps w L (h .listing .shows .shown .holds) p k a e (omega (arith, few)) (λ z. omega (arith, few)) row was .rows))
-
     room₁ : 16384 ≤ length v₁
     room₁ = remove-holds w L (h .listing .shows .shown .holds) p k a e (omega (arith, few)) (λ z. omega (arith, few)) row was .room
 
-    written₄ : Written v₁ v₄ k
-    written₄ =
-        written-trans v₁ v₂ v₄ k (written v₁ 6 k (suc (t .next)) (omega arith) row)
-        (written-trans v₂ v₃ v₄ k (written v₂ 1 k _ (omega arith) row) (written v₃ 7 k (suc (s .serial)) (omega arith) row))
-
     row-is : transactionAt v₄ k ≡ withSerial (suc (s .serial)) u
     row-is =
-        let r₂ : 16384 ≤ length v₂ = written v₁ 6 k (suc (t .next)) (omega arith) row .room room₁ in
-        let r₃ : 16384 ≤ length v₃ = written v₂ 1 k _ (omega arith) row .room r₂ in
-        write-serial v₃ k r₃ row (suc (s .serial))
-        ∙ ap (withSerial (suc (s .serial))) (set-returning v₂ k r₂ row 0 (omega arith))
-        ∙ ap (λ (y : Transaction). withSerial (suc (s .serial)) (withReturning false y)) (write-next v₁ k room₁ row (suc (t .next)))
-        ∙ ap (λ (y : Transaction). withSerial (suc (s .serial)) (withReturning false (withNext (suc (t .next)) y))) (removed-row ∙ part .here)
+        let r₂ = written v₁ 6 k _ (omega arith) row .room room₁ in
+        let r₃ = written v₂ 1 k _ (omega arith) row .room r₂ in
+        cc (write-serial v₃ k r₃ row (suc (s .serial)), set-returning v₂ k r₂ row 0 (omega arith), write-next v₁ k room₁ row (suc (t .next)), (transaction-kept w v₁ k (same-row w v₁ k row (remove-keeps w L (h .listing .shows .shown .holds) p k a e (omega (arith, few)) (λ z. omega (arith, few)) row was .rows))), part .here)
 
     gone : Wakes w (put v₄ rel k) (movedLists p (map (transactionAt w) (a ++ e)) (insert precedes (transactionAt v₄ k) (listsOf s₀ rel)) (listsOf s₀)) (s .fel)
-    gone = release-shows w (listsOf s₀) (s .fel) (h .listing .shows) p k a e (omega (arith, few)) row was v₄ written₄ (λ z. omega arith)
-
-    left-list : map (transactionAt w) (a ++ e) ≡ map gathererRow (replaceFirst (inFamily t) [] here)
-    left-list =
-        map-append (transactionAt w) a e ∙ rw (part .before, part .after)
-        (sym (ap (map gathererRow) (replaced-is []) ∙ map-append gathererRow (part .ahead) (part .behind)))
+    gone = release-shows w _ _ (h .listing .shows) p k a e (omega (arith, few)) row was v₄ (written-trans v₁ v₂ v₄ k (written v₁ 6 k _ (omega arith) row)
+        (written-trans v₂ v₃ v₄ k (written v₂ 1 k _ (omega arith) row) (written v₃ 7 k _ (omega arith) row))) (λ z. omega arith)
 
     abbrev without : State
     without = setGatherers (setNth (s .gatherers) (t .next) (replaceFirst (inFamily t) [] here)) s₀
@@ -263,21 +230,17 @@ module _ {m : BlockModel} {tape : List (List ℕ)} {tapeBytes tables lists w tal
         → movedLists p (map (transactionAt w) (a ++ e)) (insert precedes (transactionAt v₄ k) (listsOf s₀ rel)) (listsOf s₀) q ≡ listsOf (released g t s₀) q
     unfolding released toRel
     last-lists q hq =
-        ap (λ (l : List Transaction). movedLists p l (insert precedes (transactionAt v₄ k) (listsOf s₀ rel)) (listsOf s₀) q) left-list
+        ap (λ (l : List Transaction). movedLists p l (insert precedes (transactionAt v₄ k) (listsOf s₀ rel)) (listsOf s₀) q) (map-append _ a e ∙ rw (part .before, part .after)
+        (cc (replaced-is [], map-append gathererRow (part .ahead) (part .behind))))
         ∙ ap (λ (y : Transaction). movedLists p (map gathererRow (replaceFirst (inFamily t) [] here)) (insert precedes y (listsOf s₀ rel)) (listsOf s₀) q) row-is
-        ∙ lists-moved s₀ without p (map gathererRow (replaceFirst (inFamily t) [] here)) (insert precedes (withSerial (suc (s .serial)) u) (listsOf s₀ rel))
-        (λ j hj. lists-set-gatherers s₀ i (replaceFirst (inFamily t) [] here) few there j) q hq
+        ∙ lists-moved s₀ without p _ _
+        (λ j hj. lists-set-gatherers s₀ i _ few there j) q hq
         ∙ unfold listsIn in refl
-
-    last-listing : Listing (put v₄ rel k) (x .moving) (some t) (released g t s₀)
-    unfolding released toRel
-    last-listing =
-        listing-steady (shows-ext (put v₄ rel k) _ (listsOf (released g t s₀)) (s .fel) (s .fel) last-lists refl (gone .shows)) (gone .steady) (h .listing)
 
     release-is : releaseOn w x p c k ≡ moved (putSerial (suc (s .serial)) x) (put v₄ rel k)
     unfolding releaseOn toReady
     release-is =
-        rw (cell, serial-is, next-read (h .listing), next32-suc (t .next) (next-low h))
+        rw (cell, serial-is, next-read (h .listing), next32-suc _ (next-low h))
 
     -- ---- It ends
 
@@ -291,7 +254,7 @@ module _ {m : BlockModel} {tape : List (List ℕ)} {tapeBytes tables lists w tal
         (record {
           stands =
               record {
-                listing = subst (Listed (freeRow (put v₄ rel k) (x .moving)) 1024 none (listsOf (released g t ended)) (s .fel)) one-less (free-listing last-listing);
+                listing = rw one-less at (free-listing (listing-steady (shows-ext _ _ _ _ _ last-lists refl (gone .shows)) (gone .steady) (h .listing)));
                 tallying = h .tallying;
                 counting = renumber (h .counting) refl (h .counting .made) ended-is;
               };
@@ -304,7 +267,7 @@ module _ {m : BlockModel} {tape : List (List ℕ)} {tapeBytes tables lists w tal
         record {
           stands =
               record {
-                listing = subst (Listed (freeRow v (x .moving)) 1024 none (listsOf (comes g t ended)) (s .fel)) one-less (free-listing more-listing);
+                listing = rw one-less at (free-listing more-listing);
                 tallying = h .tallying;
                 counting = renumber (h .counting) (h .counting .serial) (h .counting .made) ended-is;
               };
@@ -313,7 +276,7 @@ module _ {m : BlockModel} {tape : List (List ℕ)} {tapeBytes tables lists w tal
 
     counts-done : Done tapeBytes (withTally (countOn w x n p c k (next32 (read w 6 k))) tally) (entering (gathers n g t s₀))
     unfolding countOn gathers
-    counts-done = rw count-is (go (eqb (suc (g .come)) n))
+    counts-done = rw (ap next32 come-read ∙ next32-suc _ (omega (arith, below, range))) (go (eqb _ n))
       where
         go : (last : Bool)
             → Done tapeBytes (withTally (cond last (endOn (releaseOn w x p c k .work) (releaseOn w x p c k .scalars) (x .moving)) (endOn v x (x .moving))) tally)
@@ -324,29 +287,29 @@ module _ {m : BlockModel} {tape : List (List ℕ)} {tapeBytes tables lists w tal
     bare-is : bare m (assemble n) t s₀ ≡ entering (gathers n g t s₀)
     unfolding bare
     bare-is =
-        ap (λ (l : List Gatherer). gathering (λ f. entering (f s₀)) (λ put. waiting put t s₀) (λ f. goingBack (f s₀)) (λ put. beginning put t s₀) l n t) waits
+        cc waits
 
     -- the question of a TERMINATE
     asked-is : question m (terminate 0) t s ≡ question m (assemble n) t s
     unfolding question askGathers
-    asked-is = sym (ap (λ (l : List Gatherer). askGathers m l t s) waits)
+    asked-is = sym (cc waits)
 
     later-done : Done tapeBytes (withTally (laterRows (m .facilities) w tally x n p c k) tally) (bareBlock m (assemble n) t s)
     unfolding laterRows
     later-done =
         rw (number-read (h .listing), holding-asked h 0, asked-is)
-        (asked-moved h (question m (assemble n) t s) (countOn w x n p c k (next32 (read w 6 k)))
-        (λ z. subst (Done tapeBytes (withTally (countOn w x n p c k (next32 (read w 6 k))) tally)) (sym bare-is) counts-done))
+        (asked-moved h _ _
+        (λ z. rw bare-is counts-done))
 
   pub assemble-done : Done tapeBytes (withTally (assembleRows tables (m .facilities) w tally x (placeOf t)) tally) (bareBlock m (assemble n) t s)
   assemble-done =
       rw rows-are
-      (go (kin-of w p (t .family) (λ z. omega (arith, few)) (L p) (h .listing .shows .shown .holds .listed p (omega (arith, few)))))
+      (go (kin-of w p _ (λ z. omega (arith, few)) _ (h .listing .shows .shown .holds .listed p (omega (arith, few)))))
     where
       go : Kin w p (t .family) (L p) → Done tapeBytes (withTally (gatherRows (m .facilities) w tally x n p c) tally) (bareBlock m (assemble n) t s)
       go (nobody apart far) = unfold gatherRows in
-          (rw (le-ltb (load w c) 1024 far)
-          (let alone : waitsFor t s ≡ [] = those-none (inFamily t) here (none-of w t (L p) here matches apart) in
-          subst (Done tapeBytes (withTally (gatherOn w x p) tally)) (sym (first-is alone)) (first-done alone)))
+          (rw le-ltb
+          (let alone = those-none _ here (none-of w t _ here matches apart) in
+          rw (first-is alone) (first-done alone)))
       go (somebody a e k was cell found row others own) = unfold gatherRows in
-          (rw (found, lt-ltb k 1024 row) (later-done a e k was cell row others own))
+          (rw (found, lt-ltb) (later-done a e k was cell row others own))

@@ -1,10 +1,10 @@
 -- 1 GENERATE: the row machine does what the machine does.
-use Rattle.machine.specs.All.{ℕ, suc, _+_, _-_, _≤_, _≡_, refl, ap, _∙_, false, cond, List, [], _∷_, none, some, arith, ne-eqb, eqb, length, getD, Transaction, generate, BlockModel, State, withNext, withReturning, setMoving, askGenerate, question, maxClock}
+use Rattle.machine.specs.All.{ℕ, suc, _+_, _-_, _≤_, _≡_, refl, ap, _∙_, false, cond, List, [], _∷_, none, arith, ne-eqb, eqb, length, getD, Transaction, generate, BlockModel, State, withNext, withReturning, setMoving, askGenerate, question, maxClock}
 use Rattle.machine.specs.Moves as Moves
 use Rattle.machine.proofs.decoding.Proper.{Names}
 use Rattle.layout.specs.All.{blockForms}
 use Rattle.state.specs.declared.scalars.Scalars.{Scalars}
-use Rattle.state.specs.All.{bare, bareAnswer, rowsOf, Stands, noteOf, Done}
+use Rattle.state.specs.All.{bare, bareAnswer, rowsOf, noteOf, Done}
 use Rattle.state.proofs.StandsLaws.{stands-moving}
 use Rattle.moves.proofs.Before.{placeOf, bareBlock, Before}
 use Rattle.moves.specs.Motion.{moved, goTo, stopped}
@@ -12,9 +12,7 @@ use Rattle.moves.proofs.BeforeLaws.{next-low, serial-low, few-lists, proper-blo
 use Rattle.moves.proofs.MotionLaws.{go-to-listing, go-to-counting, next-read, go-on-is, go-on-done}
 use Rattle.flow_laws.specs.declared.samples.Sample.{Sample}
 use Rattle.flow_laws.specs.{nextSample, askArrival, arrives, arriveOn, generateWith, generateNext, generateRows}
-use Rattle.flow_laws.proofs.New.{Roomy}
-use Rattle.flow_laws.proofs.Arrival.{sampled, arrives-stands, arrives-note}
-use Rattle.flow_laws.proofs.Asked.{time-most, arrival-asked, arrival-yes}
+use Rattle.flow_laws.proofs.{New.Roomy, Arrival.sampled, Arrival.arrives-stands, Arrival.arrives-note, Asked.time-most, Asked.arrival-asked, Asked.arrival-yes}
 
 module _ {m : BlockModel} {tape : List (List ℕ)} {tapeBytes tables lists w tally : List ℕ} {x : Scalars} {t : Transaction} {s : State}
     {list p : ℕ} (h : Before m tape tapeBytes tables lists w tally x t s (generate list p)) where
@@ -30,19 +28,15 @@ module _ {m : BlockModel} {tape : List (List ℕ)} {tapeBytes tables lists w tal
   named = proper-block h
 
   there : list ≤ length (s .samples)
-  there = omega (arith, named .0 .1, h .sane .shape .sample-lists)
+  there = omega (arith, named .0 .1)
 
   left-cell : getD tally (944 + (list - 1)) 0 ≡ length (Moves.timesLeft s list)
-  left-cell = h .tallying .samples .left (list - 1) (omega (arith, named .0 .0, there, few-lists h))
+  left-cell = h .tallying .samples .left _ (omega (arith, there, few-lists h))
 
   abbrev s₀ : State
   s₀ = setMoving none s
 
   -- ---- A spent list
-
-  spent-done : Moves.timesLeft s list ≡ [] → Done tapeBytes (generateRows tables tapeBytes w tally x (placeOf t)) (bare m (generate list p) t s₀)
-  unfolding generateRows bare Moves.arrival
-  spent-done e = rw (list-is, left-cell, e) (go-on-done x s₀ (h .listing) (h .tallying) (h .counting) (next-low h))
 
   -- ---- A list with a time
 
@@ -54,13 +48,12 @@ module _ {m : BlockModel} {tape : List (List ℕ)} {tapeBytes tables lists w tal
     q = askGenerate m (time ∷ left) s
 
     ask-is : askArrival x (sample .time) ≡ q
-    ask-is = ap (askArrival x) (sampled s (h .tallying) list (named .0 .0) there (few-lists h) e) ∙ arrival-asked h time left (omega (arith, time-most h list e))
+    ask-is = cc (sampled s (h .tallying) list (named .0 .0) there (few-lists h) e, arrival-asked h time left (omega (arith, time-most h list e)))
 
     unspent : generateRows tables tapeBytes w tally x (placeOf t) ≡ cond (eqb q 0) (arriveOn w tally x sample (list - 1) p) (rowsOf (stopped x q) w tally)
     unfolding generateRows generateNext generateWith
     unspent =
-        let n : eqb (getD tally (944 + (list - 1)) 0) 0 ≡ false = ne-eqb (getD tally (944 + (list - 1)) 0) 0 (λ z. omega (arith, left-cell, ap length e)) in
-        rw (list-is, priority-is, n, ask-is)
+        rw (list-is, priority-is, (ne-eqb (getD tally (944 + (list - 1)) 0) 0 (λ z. omega (arith, left-cell, ap length e))), ask-is)
 
     abbrev t′ : Transaction
     t′ = withReturning false (withNext (suc (t .next)) t)
@@ -75,10 +68,6 @@ module _ {m : BlockModel} {tape : List (List ℕ)} {tapeBytes tables lists w tal
     unfolding arriveOn
     on-is = rw (next-read (h .listing), go-on-is x (h .listing) (next-low h))
 
-    note-is : x′ .note ≡ 0
-    unfolding goTo moved
-    note-is = refl
-
     module _ (yes : q ≡ 0) where
       says : (s .made - s .ended + 1 ≤ 1024) × (s .view .clock + time ≤ maxClock)
       says = arrival-yes h time left yes
@@ -89,29 +78,25 @@ module _ {m : BlockModel} {tape : List (List ℕ)} {tapeBytes tables lists w tal
             room = omega (arith, says .0);
             order = h .sane .ended;
             serials = serial-low h;
-            numbers = omega (arith, h .sane .serials, h .sane .made);
+            numbers = omega arith;
           }
-
-      new-stands : Stands tapeBytes (arrives w′ tally x′ sample (list - 1) p (t .next)) (some t′) (Moves.arrival (time ∷ left) list p (t .next) s₀)
-      new-stands =
-          arrives-stands s₀ (h .tallying) list (named .0 .0) there (few-lists h) e x′ (go-to-listing x (h .listing) (suc (t .next))) (go-to-counting w x (suc (t .next)) s₀ (h .counting)) roomy (h .sane .timely .serials) p (t .next) (named .1) (says .1)
 
       new-note : arrives w′ tally x′ sample (list - 1) p (t .next) .scalars .note ≡ 0
       new-note =
-          arrives-note s₀ (h .tallying) list (named .0 .0) there (few-lists h) e x′ (go-to-listing x (h .listing) (suc (t .next))) (go-to-counting w x (suc (t .next)) s₀ (h .counting)) roomy (h .sane .timely .serials) p (t .next) (named .1) (says .1)
-          ∙ note-is
+          arrives-note s₀ (h .tallying) list (named .0 .0) there (few-lists h) e x′ (go-to-listing x (h .listing) _) (go-to-counting w x _ s₀ (h .counting)) roomy (h .sane .timely .serials) p _ (named .1) (says .1)
+          ∙ (unfold goTo moved in refl)
 
       new-done : Done tapeBytes (arriveOn w tally x sample (list - 1) p) (bare m (generate list p) t s₀)
       unfolding bare Moves.moveTo noteOf
-      new-done = rw (on-is, e) (record { stands = stands-moving tapeBytes _ (some t′) (some t′) _ new-stands; note = ap noteOf new-note })
+      new-done = rw (on-is, e) (record { stands = stands-moving tapeBytes _ _ _ _ (arrives-stands s₀ (h .tallying) list (named .0 .0) there (few-lists h) e x′ (go-to-listing x (h .listing) _) (go-to-counting w x _ s₀ (h .counting)) roomy (h .sane .timely .serials) p _ (named .1) (says .1)); note = cc new-note })
 
     unspent-done : Done tapeBytes (generateRows tables tapeBytes w tally x (placeOf t)) (bareAnswer q m (generate list p) t s)
-    unspent-done = rw unspent (asked h q (arriveOn w tally x sample (list - 1) p) new-done)
+    unspent-done = rw unspent (asked h q _ new-done)
 
   pub generate-done : Done tapeBytes (generateRows tables tapeBytes w tally x (placeOf t)) (bareBlock m (generate list p) t s)
   unfolding question askGenerate bareAnswer
-  generate-done = go (Moves.timesLeft s list) refl
+  generate-done = go _ refl
     where
       go : (l : List ℕ) → Moves.timesLeft s list ≡ l → Done tapeBytes (generateRows tables tapeBytes w tally x (placeOf t)) (bareAnswer (askGenerate m l s) m (generate list p) t s)
-      go [] e = spent-done e
+      go [] e = (unfold generateRows bare Moves.arrival in rw (list-is, left-cell, e) (go-on-done x s₀ (h .listing) (h .tallying) (h .counting) (next-low h)))
       go (time ∷ left) e = unspent-done time left e

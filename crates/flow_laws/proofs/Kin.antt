@@ -1,6 +1,6 @@
 -- The rows of a block's list are its gatherers; what is asked of the rows of one family, and what one of them changes, is what the machine
 -- asks and changes.
-use Rattle.machine.specs.All.{ℕ, _≡_, refl, sym, ap, _∙_, Bool, true, false, List, [], _∷_, _++_, map, arith, eqb, length, getD, drop, Transaction, Gatherer, those, replaceFirst, inFamily, Each}
+use Rattle.machine.specs.All.{ℕ, _≡_, refl, ap, Bool, true, false, List, [], _∷_, _++_, map, arith, eqb, length, Transaction, Gatherer, those, replaceFirst, inFamily, Each}
 use Rattle.rows_laws.specs.All.{read, transactionAt, All}
 use Rattle.rows_laws.proofs.Kin.{Other}
 use Rattle.state.specs.All.{gathererRow}
@@ -10,7 +10,7 @@ module _ (w : List ℕ) where
   Match l gatherers = map (transactionAt w) l ≡ map gathererRow gatherers
 
   match-one : (k : ℕ) (l : List ℕ) (g : Gatherer) (gs : List Gatherer) → Match (k ∷ l) (g ∷ gs) → (transactionAt w k ≡ gathererRow g) × Match l gs
-  match-one k l g gs e = (ap (λ (m : List Transaction). getD m 0 (transactionAt w k)) e, ap (λ (m : List Transaction). drop 1 m) e)
+  match-one k l g gs e = (cc e, cc e)
 
   family-read : (k : ℕ) (g : Gatherer) → transactionAt w k ≡ gathererRow g → read w 10 k ≡ g .who .family
   unfolding transactionAt
@@ -40,14 +40,14 @@ module _ (w : List ℕ) where
         ahead = g ∷ r .ahead;
         one = r .one;
         behind = r .behind;
-        parts = ap (λ (m : List Gatherer). g ∷ m) (r .parts);
+        parts = cc (r .parts);
         before = both (x .0) (r .before);
         here = r .here;
         after = r .after;
       }
     where
       both : {t t′ : Transaction} {l l′ : List Transaction} → t ≡ t′ → l ≡ l′ → t ∷ l ≡ t′ ∷ l′
-      both {t} {t′} {l} {l′} e f = ap (λ (u : Transaction). u ∷ l) e ∙ ap (λ (m : List Transaction). t′ ∷ m) f
+      both {t} {t′} {l} {l′} e f = cc (e, f)
 
   module _ (t : Transaction) where
     -- ---- None of the family
@@ -59,11 +59,11 @@ module _ (w : List ℕ) where
     none-of (k ∷ l) [] e h = absurd (omega (arith, ap (λ (m : List Transaction). length m) e))
     none-of (k ∷ l) (g ∷ gs) e h =
         let x = match-one k l g gs e in
-        (ap (λ (f : ℕ). eqb f (t .family)) (sym (family-read k g (x .0))) ∙ h .0, none-of l gs (x .1) (h .1))
+        (cc (family-read k g (x .0), h .0), none-of l gs (x .1) (h .1))
 
     pub one-of : (k : ℕ) (g : Gatherer) → transactionAt w k ≡ gathererRow g → eqb (read w 10 k) (t .family) ≡ true → inFamily t g ≡ true
     unfolding inFamily
-    one-of k g e h = ap (λ (f : ℕ). eqb f (t .family)) (sym (family-read k g e)) ∙ h
+    one-of k g e h = cc (family-read k g e, h)
 
 module _ {A : Type 0} (p : A → Bool) where
   pub those-none : (gs : List A) → Each (λ g. p g ≡ false) gs → those p gs ≡ []
@@ -81,7 +81,7 @@ module _ {A : Type 0} (p : A → Bool) where
       → replaceFirst p few (ahead ++ g ∷ behind) ≡ ahead ++ (few ++ behind)
   unfolding replaceFirst
   replaced few [] g behind h e = rw e
-  replaced few (x ∷ ahead) g behind h e = rw (h .0) (ap (λ (m : List A). x ∷ m) (replaced few ahead g behind (h .1) e))
+  replaced few (x ∷ ahead) g behind h e = rw (h .0) (cc (replaced few ahead g behind (h .1) e))
 
 pub each-at : (P : Gatherer → Type 0) (ahead : List Gatherer) (g : Gatherer) (behind : List Gatherer) → Each P (ahead ++ g ∷ behind) → P g
 each-at P [] g behind h = h .0

@@ -2,11 +2,9 @@
 -- family have come in the place of its next block.
 use Rattle.machine.specs.All.{ℕ, _+_, _-_, _%_, cond, List, eqb, ltb, getD, maxBlocks}
 use Rattle.rows_laws.specs.All.{numberField, nextField, familyField, gatherers, rowCount, load, read, write, setReturning, removeAt, familyCell, freeRow}
-use Rattle.state.specs.declared.scalars.Scalars.{Scalars}
-use Rattle.state.specs.All.{putMoving, putEnded, putNote}
+use Rattle.state.specs.{declared.scalars.Scalars.Scalars, All.putMoving, All.putEnded, All.putNote}
 use Rattle.moves.specs.Motion.{Moved, moved, inOrder, next32, beginWait, stopped}
-use Rattle.flow_laws.specs.Sending.{toReady}
-use Rattle.flow_laws.specs.Questions.{askHolding}
+use Rattle.flow_laws.specs.{Sending.toReady, Questions.askHolding}
 
 -- the list of gatherers of the block at which row k stands
 unfoldable pub listAt : List ℕ → (k : ℕ) → ℕ

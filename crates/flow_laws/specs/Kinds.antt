@@ -5,8 +5,7 @@ use Rattle.rows_laws.specs.All.{numberField, standingField, nextField, rowCount
 use Rattle.state.specs.declared.scalars.Scalars.{Scalars}
 use Rattle.state.specs.All.{putCounter, putMoving, putEnded, putEnd, putNote, Rows, rowsOf}
 use Rattle.moves.specs.Motion.{Moved, moved, withTally, next32, goOn, stopped}
-use Rattle.flow_laws.specs.declared.samples.Sample.{Sample}
-use Rattle.flow_laws.specs.Samples.{nextSample, useTime}
+use Rattle.flow_laws.specs.{declared.samples.Sample.Sample, Samples.nextSample, Samples.useTime}
 use Rattle.flow_laws.specs.Sending.{priorities, plus64, toFuture, toReady, arrives, copyOne}
 use Rattle.flow_laws.specs.Questions.{askRoom, askTime, askArrival, askHolding}
 

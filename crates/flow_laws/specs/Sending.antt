@@ -2,11 +2,9 @@
 use Rattle.machine.specs.All.{ℕ, _+_, _%_, min, Bool, cond, List, ltb}
 use Rattle.layout.specs.All.{most32, most64}
 use Rattle.rows_laws.specs.All.{serialField, rel, free, rowCount, write, setTime, put, first, takeFirst, schedule, newbornAt, copyAt}
-use Rattle.state.specs.declared.scalars.Scalars.{Scalars}
-use Rattle.state.specs.All.{putSerial, putMade, Rows}
+use Rattle.state.specs.{declared.scalars.Scalars.Scalars, All.putSerial, All.putMade, All.Rows}
 use Rattle.moves.specs.Motion.{Moved, moved, withTally, next32}
-use Rattle.flow_laws.specs.declared.samples.Sample.{Sample}
-use Rattle.flow_laws.specs.Samples.{useTime}
+use Rattle.flow_laws.specs.{declared.samples.Sample.Sample, Samples.useTime}
 
 -- a priority is below this number
 abbrev pub priorities : ℕ

@@ -4,14 +4,10 @@ use Rattle.constants.specs.declared.model.Model.{Model}
 use Rattle.layout.specs.Layout as Layout
 use Rattle.codec.specs.Writing.{written}
 use Rattle.codec.proofs.Stores.{sets-append}
-use Rattle.join.specs.declared.Joined.{Joined}
-use Rattle.join.specs.declared.Joined.the-variants.{Bytes, Refused}
-use Rattle.join_laws.specs.Rows.{puts}
-use Rattle.join_laws.specs.Written.{numbersBytes}
-use Rattle.join_laws.specs.Joining.{joined, refused, fitted}
-use Rattle.join.specs.{answer, modelLeft, tapeLeft}
-use Rattle.join.specs.Contract.{Contract}
+use Rattle.join.specs.{declared.Joined.Joined, declared.Joined.the-variants.Bytes, declared.Joined.the-variants.Refused, Contract.Contract}
+use Rattle.join_laws.specs.{Rows.puts, Written.numbersBytes, Joining.joined, Joining.refused, Joining.fitted}
 use Rattle.join_laws.specs.Whole.{keptRoom, atFront, mayJoin, mayJoinTables, joinedTables, joinedBytes}
+use Rattle.join.specs.{answer, modelLeft, tapeLeft}
 use Rattle.join_laws.proofs.Fitting.{puts-front, front-sets}
 
 -- ---- Two tapes

@@ -6,22 +6,16 @@ use Rattle.machine.proofs.decoding.ProperFrom.{proper-from}
 use Rattle.layout.specs.Layout as Layout
 use Rattle.layout.specs.All.{headerOf, Represents}
 use Rattle.evaluation.proofs.NestedFrom.{nested-from}
-use Rattle.decode.specs.declared.Decoded.{Decoded as Answer}
+use Rattle.decode.specs.{declared.Decoded.Decoded as Answer, Decodes.Decodes}
 use Rattle.decode.specs.declared.Decoded.the-variants as Decode
-use Rattle.decode.specs.Decodes.{Decodes}
 use Rattle.decode.proofs.Told.{Told, decoded-refused, decoded-model}
 use Rattle.joined.specs.Join.{joinable}
 use Rattle.join_laws.specs.Written.{numbersBytes}
-use Rattle.join.specs.declared.Joined.{Joined}
-use Rattle.join.specs.declared.Joined.the-variants.{Refused}
-use Rattle.join.specs.Contract.{Contract}
+use Rattle.join.specs.{declared.Joined.Joined, declared.Joined.the-variants.Refused, Contract.Contract}
 use Rattle.join_laws.specs.Joining.{refused, judged, fitted, joinedPair, join}
 use Rattle.join_laws.specs.Whole.{Fits, mayJoin, mayJoinTables, joinedTables, Ready}
-use Rattle.join_laws.proofs.Decoded.{Decoded}
+use Rattle.join_laws.proofs.{Decoded.Decoded, Accepted.judged-decoded, JoinedRows.Table, JoinedRows.table, JoinedRows.rows-are, Fitting.joined-most}
 use Rattle.joined.proofs.ProperJoined.{fits}
-use Rattle.join_laws.proofs.Accepted.{judged-decoded}
-use Rattle.join_laws.proofs.JoinedRows.{Table, table, rows-are}
-use Rattle.join_laws.proofs.Fitting.{joined-most}
 use Rattle.join.proofs.Outputs.{left}
 
 -- questions 1 and 2 are answered "yes"

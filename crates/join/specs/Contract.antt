@@ -1,7 +1,6 @@
 -- What a call of the join promises, for all bytes and lengths.
 use Rattle.machine.specs.All.{ℕ, List, _++_, _≡_, length, drop}
-use Rattle.join.specs.declared.Joined.{Joined}
-use Rattle.join.specs.declared.Joined.the-variants.{Bytes, Refused}
+use Rattle.join.specs.{declared.Joined.Joined, declared.Joined.the-variants.Bytes, declared.Joined.the-variants.Refused}
 use Rattle.join_laws.specs.Joining.{Joining, joined, refused}
 
 -- how many bytes the joined model and tape have, or the number of the refusal

@@ -1,16 +1,12 @@
 -- The joined pair is accepted, as the joined model and tape.
-use Rattle.machine.specs.All.{ℕ, _+_, zero-add, arith, _≡_, refl, sym, ap, subst, _∙_, Bool, true, false, cond, _&&_, List, [], _++_, append-nil, eq-eqb, T, leb, workNumbers, reportRoom, inForce, Cursor, Parsed, parsed, refused, continue, ask, BlockModel, modelFields, atEnd, beginning, wellFormed, modelOf, tapeOf, accept, reject, withTape, withModel, validate}
+use Rattle.machine.specs.All.{clash, ℕ, _+_, zero-add, _≡_, refl, sym, ap, subst, _∙_, Bool, true, false, cond, _&&_, List, [], _++_, append-nil, eq-eqb, T, leb, workNumbers, reportRoom, inForce, Cursor, Parsed, parsed, refused, continue, ask, BlockModel, modelFields, atEnd, beginning, wellFormed, modelOf, tapeOf, accept, reject, withTape, withModel, validate}
 use Rattle.machine.proofs.decoding.ProperFrom.{proper-from}
 use Rattle.joined.specs.Join.{joinModels, joinTapes, joinable}
 use Rattle.join_laws.specs.{storedModel, modelBytes, joined, judged, fitted, joinedPair, join, JoinAccepted}
 use Rattle.join_laws.specs.Joining.{Joining}
 use Rattle.join_laws.specs.Joining as Joining
-use Rattle.join_laws.proofs.Carrying.{Passed}
-use Rattle.join_laws.proofs.Decoded.{Decoded, decoded}
+use Rattle.join_laws.proofs.{Carrying.Passed, Decoded.Decoded, Decoded.decoded, Joint.model-read, Formed.well-formed, Formed.joined-formed, EndToEnd.tapes-read}
 use Rattle.joined.proofs.ProperJoined.{fits}
-use Rattle.join_laws.proofs.Joint.{model-read}
-use Rattle.join_laws.proofs.Formed.{well-formed, joined-formed}
-use Rattle.join_laws.proofs.EndToEnd.{tapes-read}
 
 -- ---- What was asked of a pair
 
@@ -35,11 +31,11 @@ pair model tape {m} {times} e = go _ refl e
           model-is = cc (f, same);
           tape-is = rw same at (g ∙ ap (λ x. parsed x d) same-tape);
         }
-    taped k c f (refused n) g h = let z : _≡_ {A = ℕ} 0 1 = cc in absurd (omega arith)
+    taped k c f (refused n) g h = clash (cc)
 
     go : (r : Parsed BlockModel) → modelOf inForce model beginning ≡ r → withModel tape r ≡ accept m times → Pair model tape m times
     go (parsed k c) f h = taped k c f _ refl h
-    go (refused n) f h = let z : _≡_ {A = ℕ} 0 1 = cc in absurd (omega arith)
+    go (refused n) f h = clash (cc)
 
 -- what was read of an accepted model
 pub judged-decoded : (model tape : List ℕ) {m : BlockModel} {times : List (List ℕ)} → judged model tape ≡ accept m times → Decoded m
@@ -53,8 +49,8 @@ asked model tape work report {m} {times} e = go _ _ e
   where
     go : (a b : Bool) → cond a (cond b (judged model tape) (reject 2)) (reject 1) ≡ accept m times → (a ≡ true) × (b ≡ true) × (judged model tape ≡ accept m times)
     go true true h = (refl, refl, h)
-    go true false h = let z : _≡_ {A = ℕ} 0 1 = cc in absurd (omega arith)
-    go false b h = let z : _≡_ {A = ℕ} 0 1 = cc in absurd (omega arith)
+    go true false h = clash (cc)
+    go false b h = clash (cc)
 
 -- ---- What was joined
 
@@ -72,8 +68,8 @@ made modelRoom tapeRoom m₁ m₂ times₁ times₂ tape₁ tape₂ model tape e
     go : (a b : Bool) → joinable m₁ m₂ ≡ a → cond a (cond b (joined (modelBytes (joinModels m₁ m₂)) (tape₁ ++ tape₂)) (Joining.refused 62)) (Joining.refused 61) ≡ joined model tape
         → Made m₁ m₂ tape₁ tape₂ model tape
     go true true f h = record { within = f; model-is = cc; tape-is = cc }
-    go true false f h = let z : _≡_ {A = ℕ} 0 1 = cc in absurd (omega arith)
-    go false b f h = let z : _≡_ {A = ℕ} 0 1 = cc in absurd (omega arith)
+    go true false f h = clash (cc)
+    go false b f h = clash (cc)
 
 -- ---- The joined model and tape
 

@@ -1,7 +1,6 @@
 -- The records of either part are its own: from the law of what was joined and the theorem over decoded models.
 use Rattle.machine.specs.All.{ℕ, _≡_, sym, ap, subst, _∙_, List, [], BlockModel, Validation, accept, reject}
-use Rattle.joined.specs.Join.{joinModels, joinTapes}
-use Rattle.joined.specs.Parts.{Dry}
+use Rattle.joined.specs.{Join.joinModels, Join.joinTapes, Parts.Dry}
 use Rattle.joined.proofs.Parts.{in-force}
 use Rattle.join_laws.specs.AsAlone.{AsAlone}
 use Rattle.join_laws.proofs.Accepted.{join-accepted, join-within}

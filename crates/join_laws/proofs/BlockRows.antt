@@ -1,15 +1,13 @@
 -- The numbers that are written for a block are those that the joined model stores for it.
 use Rattle.machine.specs.All.{ℕ, zero, suc, _+_, _-_, _/_, _%_, _≤_, _<_, arith, _≡_, refl, sym, ap, ap₂, subst, _∙_, true, cond, List, [], _∷_, _++_, le-leb, lt-leb, T, eqb, getD, allOf, Term, constant, minusConstant, parameter, clockTerm, entriesOf, contentOf, unitsInUse, unitsFree, facilityInUse, value, comparison, bracket, always, whenTrue, Code, U, NU, E, NE, F, NF, codeIndex, facility, storage, up, down, Block, generate, advance, terminate, takes, frees, waitServer, waitTerms, moves, assign, priority, split, counts, assemble, preempt, giveBack, facts, compared, BlockModel}
-use Rattle.machine.proofs.decoding.Groups.{and-left, and-right}
-use Rattle.machine.proofs.decoding.Proper.{ProperBlock}
+use Rattle.machine.proofs.{decoding.Groups.and-left, decoding.Groups.and-right, decoding.Proper.ProperBlock}
 use Rattle.layout.specs.All.{relationNumber, termNumbers, takeNumbers, freeNumbers, moveNumbers, waitNumbers, countKind, blockNumbers, At}
 use Rattle.evaluation.specs.Nested.{nestedTerm, nestedBlock}
 use Rattle.evaluation.proofs.Found.{at-first}
 use Rattle.joined.specs.Join.{Part, serverIn, termIn, shareIn, conditionIn, blockIn}
 use Rattle.join_laws.specs.declared.shift.Shift.{Shift}
 use Rattle.join_laws.specs.{ownNumber, storedTerm, storedTake, storedFree, storedWait, storedMove, storedCount, storedBlock, movedBy, shapeOf, roleOf, operandAt, operandsFrom, blockRow}
-use Rattle.join_laws.proofs.Numbered.{Numbered}
-use Rattle.join_laws.proofs.CarriedBlocks.{NumberedBlock}
+use Rattle.join_laws.proofs.{Numbered.Numbered, CarriedBlocks.NumberedBlock}
 
 -- ---- A shift and the part that it moves on
 

@@ -4,10 +4,11 @@ use Rattle.machine.specs.Limits as Limits
 use Rattle.parse_values.proofs.Tags.{relation-number}
 use Rattle.joined.specs.Join.{Part, serverIn, termIn, shareIn, conditionIn, blockIn}
 use Rattle.join_laws.specs.{ownNumber, storedTerm, storedTake, storedFree, storedWait, storedMove, storedCount, storedBlock}
-use Rattle.join_laws.proofs.Carrying.{Maps, Carries, Becomes, then, and, gives, choice, maps, walked}
-use Rattle.join_laws.proofs.Placing.{Placing, facility-in, storage-in, own-facility, own-storage}
-use Rattle.join_laws.proofs.Numbered.{Numbered}
-use Rattle.join_laws.proofs.CarriedTerms.{next, stays, goes, moving-number, block-term}
+use Rattle.join_laws.proofs as our
+use our.Carrying.{Maps, Carries, Becomes, then, and, gives, choice, maps, walked}
+use our.Placing.{Placing, facility-in, storage-in, own-facility, own-storage}
+use our.Numbered.{Numbered}
+use our.CarriedTerms.{next, stays, goes, moving-number, block-term}
 
 -- ---- Codes
 

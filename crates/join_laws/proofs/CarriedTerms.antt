@@ -3,9 +3,10 @@ use Rattle.machine.specs.All.{ℕ, suc, _+_, _≤_, add-zero, arith, _≡_, ref
 use Rattle.machine.specs.Limits as Limits
 use Rattle.joined.specs.Join.{Part, serverIn, termIn}
 use Rattle.join_laws.specs.{ownNumber, storedTerm, numbersBytes}
-use Rattle.join_laws.proofs.Carrying.{Maps, Carried, Carries, Becomes, then, and, gives, choice, maps, field-maps}
-use Rattle.join_laws.proofs.Numbered.{Numbered}
-use Rattle.join_laws.proofs.Placing.{Placing, facility-in, storage-in, own-storage}
+use Rattle.join_laws.proofs as our
+use our.Carrying.{Maps, Carried, Carries, Becomes, then, and, gives, choice, maps, field-maps}
+use our.Numbered.{Numbered}
+use our.Placing.{Placing, facility-in, storage-in, own-storage}
 
 -- ---- A number, by the parser that reads it
 

@@ -6,10 +6,11 @@ use Rattle.layout.specs.All.{terms}
 use Rattle.parse_values.proofs.Tags.{relation-number}
 use Rattle.joined.specs.Join.{Part, termIn, sumIn}
 use Rattle.join_laws.specs.{storedTerm, storedTerms, storedSum}
-use Rattle.join_laws.proofs.Carrying.{Reads, Mapped, Maps, Carries, Becomes, then, and, gives, choice, maps, walked, and-both}
-use Rattle.join_laws.proofs.Placing.{Placing}
-use Rattle.join_laws.proofs.Numbered.{Numbered, NumberedSum}
-use Rattle.join_laws.proofs.CarriedTerms.{stays, goes, simple-term, mentioned-carries, moving-value}
+use Rattle.join_laws.proofs as our
+use our.Carrying.{Reads, Mapped, Maps, Carries, Becomes, then, and, gives, choice, maps, walked, and-both}
+use our.Placing.{Placing}
+use our.Numbered.{Numbered, NumberedSum}
+use our.CarriedTerms.{stays, goes, simple-term, mentioned-carries, moving-value}
 
 -- ---- Counts of terms
 

@@ -2,8 +2,7 @@
 -- moved numbers stand. One law for each way to build a parser.
 use Rattle.machine.specs.All.{ℕ, zero, suc, _+_, _≤_, add-assoc, add-zero, _≡_, refl, sym, ap, subst, _∙_, Bool, true, false, cond, _&&_, List, [], _∷_, _++_, map, append-assoc, append-nil, Option, none, some, T, length, drop, length-append, flat, Number, numberBytes, readNumber, Cursor, Parsed, parsed, refused, Parser, continue, _>>=_, give, refuse, times, forward, fieldOf, fieldUpTo, Each, allOf}
 use Rattle.machine.specs.Limits as Limits
-use Rattle.machine.proofs.runs.RunLaws.{cond-cases}
-use Rattle.machine.proofs.decoding.Groups.{and-left, and-right}
+use Rattle.machine.proofs.{runs.RunLaws.cond-cases, decoding.Groups.and-left, decoding.Groups.and-right}
 use Rattle.codec.proofs.Fields.{between, field-reads, drop-past}
 use Rattle.join_laws.specs.{numbersBytes}
 

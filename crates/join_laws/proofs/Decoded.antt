@@ -1,16 +1,14 @@
 -- What is known of a model that was read: its counts are in range, and its values and blocks, moved on to wherever there is room for them, are read again.
 use Rattle.machine.specs.All.{ℕ, _+_, _≤_, zero-add, add-zero, arith, _≡_, refl, sym, ap, subst, Bool, true, false, List, [], _∷_, map, T, length, inForce, flat, nth, Cursor, Parsed, parsed, refused, Parser, ask, times, Sum, Block, BlockModel, Counts, number, inValue, valueFields, blockField, modelFields, allOf, sumNames, wellFormed, modelOf, Each}
 use Rattle.machine.specs.Limits as Limits
-use Rattle.machine.proofs.runs.RunLaws.{each-map}
-use Rattle.machine.proofs.runs.Shape.{each-getD}
+use Rattle.machine.proofs.{runs.RunLaws.each-map, runs.Shape.each-getD}
 use Rattle.machine.proofs.decoding.ParserLaws as Parsers
 use Rattle.joined.specs.Join.{Part, sumIn, blockIn}
 use Rattle.join_laws.specs.{storedSum, storedBlock}
-use Rattle.join_laws.proofs.Carrying.{Maps, Anywhere, Given, Gives, follows, given, images, repeated}
-use Rattle.join_laws.proofs.Placing.{Placing}
-use Rattle.join_laws.proofs.Numbered.{NumberedSum}
-use Rattle.join_laws.proofs.CarriedValues.{value-fields}
-use Rattle.join_laws.proofs.CarriedBlocks.{Program, NumberedBlock, block-field}
+use Rattle.join_laws.proofs as our
+use our.Carrying.{Maps, Anywhere, Given, Gives, follows, given, images, repeated}
+use our.{Placing.Placing, Numbered.NumberedSum, CarriedValues.value-fields}
+use our.CarriedBlocks.{Program, NumberedBlock, block-field}
 
 -- ---- Definition
 

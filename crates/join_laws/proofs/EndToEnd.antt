@@ -1,8 +1,7 @@
 -- "tapes are laid end to end": what is read of a tape is read of it behind and before other bytes.
-use Rattle.machine.specs.All.{cases, ℕ, zero, suc, _+_, _≤_, add-assoc, arith, _≡_, refl, ap, subst, _∙_, Bool, true, false, cond, _&&_, List, [], _∷_, _++_, append-nil, Option, none, some, eqb-true, eq-eqb, leb, ltb, eqb, length, drop, length-append, length-drop, drop-append-le, drop-append-add, Rules, Number, longer, groups, padded, within, readNumber, Cursor, Parsed, parsed, refused, Parser, continue, _>>=_, give, ask, times, forward, fieldOf, fieldUpTo, listField, atEnd, beginning, tapeOf}
+use Rattle.machine.specs.All.{clash, cases, ℕ, zero, suc, _+_, _≤_, add-assoc, arith, _≡_, refl, ap, subst, _∙_, Bool, true, false, cond, _&&_, List, [], _∷_, _++_, append-nil, Option, none, some, eqb-true, eq-eqb, leb, ltb, eqb, length, drop, length-append, length-drop, drop-append-le, drop-append-add, Rules, Number, longer, groups, padded, within, readNumber, Cursor, Parsed, parsed, refused, Parser, continue, _>>=_, give, ask, times, forward, fieldOf, fieldUpTo, listField, atEnd, beginning, tapeOf}
 use Rattle.machine.specs.Limits as Limits
-use Rattle.codec.proofs.Steps.{groups-empty}
-use Rattle.codec.proofs.Numbers.{accepted}
+use Rattle.codec.proofs.{Steps.groups-empty, Numbers.accepted}
 use Rattle.join_laws.proofs.Together.{times-apart}
 
 -- ---- Numbers before other bytes
@@ -116,11 +115,11 @@ whole rules s lists {tape} {c} e = go _ refl e
     ended : (a : List (List ℕ)) (d : Cursor) → times lists (listField s rules) beginning ≡ parsed a d → (b : Bool) → eqb (d .position) (length s) ≡ b
         → continue (ask b 10 d) (λ u. give a) ≡ parsed tape c → Whole rules s lists tape
     ended a d f true g h = let same : a ≡ tape = cc in record { after = d; reads = cc (f, same); end = eqb-true _ _ g }
-    ended a d f false g h = let z : _≡_ {A = ℕ} 0 1 = cc in absurd (omega arith)
+    ended a d f false g h = clash (cc)
 
     go : (r : Parsed (List (List ℕ))) → times lists (listField s rules) beginning ≡ r → continue r (λ a. atEnd s 10 >>= λ u. give a) ≡ parsed tape c → Whole rules s lists tape
     go (parsed a d) f h = ended a d f _ refl h
-    go (refused n) f h = let z : _≡_ {A = ℕ} 0 1 = cc in absurd (omega arith)
+    go (refused n) f h = clash (cc)
 
 module _ (rules : Rules) (s₁ s₂ : List ℕ) (lists₁ lists₂ : ℕ) {tape₁ tape₂ : List (List ℕ)} where
   one-then-other : (d e : Cursor) → times lists₁ (listField (s₁ ++ s₂) rules) beginning ≡ parsed tape₁ d → times lists₂ (listField (s₁ ++ s₂) rules) d ≡ parsed tape₂ e

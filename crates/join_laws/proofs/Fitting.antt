@@ -4,15 +4,14 @@ use Rattle.machine.specs.Limits as Limits
 use Rattle.layout.specs.Layout as Layout
 use Rattle.layout.specs.All.{termNumbers, signedTerms, sumNumbers, At, headerOf}
 use Rattle.codec.specs.Writing.{Written, written, put}
-use Rattle.codec.proofs.Stores.{sets-append}
-use Rattle.codec.proofs.Writing.{put-room}
+use Rattle.codec.proofs.{Stores.sets-append, Writing.put-room}
 use Rattle.joined.specs.Join.{Part, termIn, sumIn}
 use Rattle.join_laws.specs.declared.shift.Shift.{Shift}
 use Rattle.join_laws.specs.{storedTerm, storedTerms, storedSum, numbersBytes, puts, valueRows, blockRows, keptRoom, firstShift, secondShift, cellRow, serverRows, thingRows, allBlocks, programRows, joinedRows, joinedBytes}
 use Rattle.joined.proofs.ProperJoined.{Fits}
-use Rattle.join_laws.proofs.BlockRows.{Moves}
-use Rattle.join_laws.proofs.JoinedRows.{from-zero, value-rows, Table, moves₁, moves₂}
-use Rattle.join_laws.proofs.Room.{bytes-most, blocks-most}
+use Rattle.join_laws.proofs as our
+use our.{BlockRows.Moves, Room.bytes-most, Room.blocks-most}
+use our.JoinedRows.{from-zero, value-rows, Table, moves₁, moves₂}
 
 -- ---- A value has as many numbers as its cells
 

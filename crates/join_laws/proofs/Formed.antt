@@ -1,8 +1,6 @@
 -- Question 7 of the joined model: both parts are well formed, and nothing leads from one into the other.
-use Rattle.machine.specs.All.{ℕ, suc, _+_, _-_, _≤_, _<_, arith, _≡_, refl, sym, ap, ap₂, subst, _∙_, Bool, true, false, cond, not, _&&_, _||_, List, [], _∷_, _++_, map, eqb-false, ne-eqb, leb-true, leb-false, le-leb, lt-leb, T, leb, ltb, eqb, length, getD, length-append, length-map, List·getD-append, List·getD-map, List·getD-eq-default, getD-append-add, maxBack, bit, isGenerate, Term, constant, minusConstant, parameter, clockTerm, entriesOf, contentOf, unitsInUse, unitsFree, facilityInUse, value, comparison, bracket, Sum, nothing, plus, minus, always, whenTrue, welIndex, unconditional, Block, generate, advance, terminate, takes, frees, waitServer, waitTerms, moves, assign, priority, split, counts, assemble, preempt, giveBack, facts, BlockModel, blockAt, backAt, insideGroup, wellPlaced, allOf, joined, targetsMove, termNames, sumNames, wellFormed, Each}
-use Rattle.machine.proofs.decoding.Proper.{ProperBlock, Proper}
-use Rattle.machine.proofs.lists.Sums.{upTo-cong}
-use Rattle.machine.proofs.conservation.StartLedger.{each-of}
+use Rattle.machine.specs.All.{clash, ℕ, suc, _+_, _-_, _≤_, _<_, arith, _≡_, refl, sym, ap, ap₂, subst, _∙_, Bool, true, false, cond, not, _&&_, _||_, List, [], _∷_, _++_, map, eqb-false, ne-eqb, leb-true, leb-false, le-leb, lt-leb, T, leb, ltb, eqb, length, getD, length-append, length-map, List·getD-append, List·getD-map, List·getD-eq-default, getD-append-add, maxBack, bit, isGenerate, Term, constant, minusConstant, parameter, clockTerm, entriesOf, contentOf, unitsInUse, unitsFree, facilityInUse, value, comparison, bracket, Sum, nothing, plus, minus, always, whenTrue, welIndex, unconditional, Block, generate, advance, terminate, takes, frees, waitServer, waitTerms, moves, assign, priority, split, counts, assemble, preempt, giveBack, facts, BlockModel, blockAt, backAt, insideGroup, wellPlaced, allOf, joined, targetsMove, termNames, sumNames, wellFormed, Each}
+use Rattle.machine.proofs.{decoding.Proper.ProperBlock, decoding.Proper.Proper, lists.Sums.upTo-cong, conservation.StartLedger.each-of}
 use Rattle.machine.proofs.decoding.Groups.{and-left, and-right, back-within}
 use Rattle.joined.specs.Join.{Part, first, second, termIn, sumIn, shareIn, conditionIn, blockIn, joinModels}
 
@@ -18,7 +16,7 @@ is-true false h = absurd h
 
 from-true : (b : Bool) → b ≡ true → T b
 from-true true e = tt
-from-true false e = let z : _≡_ {A = ℕ} 0 1 = cc in absurd (omega arith)
+from-true false e = clash (cc)
 
 -- ---- A block and its image
 

@@ -9,13 +9,7 @@ use Rattle.evaluation.proofs.Found.{at-first}
 use Rattle.joined.specs.Join.{Part, first, second, sumIn, blockIn, joinModels}
 use Rattle.join_laws.specs.declared.shift.Shift.{Shift}
 use Rattle.join_laws.specs.{storedSum, storedBlock, storedModel, movedBy, valueRow, valueRows, blockRows, firstShift, secondShift, cellRow, serverRows, thingRows, allBlocks, programRows, joinedRows}
-use Rattle.join_laws.proofs.Numbered.{NumberedSum}
-use Rattle.join_laws.proofs.CarriedBlocks.{NumberedBlock}
-use Rattle.join_laws.proofs.CarriedValues.{terms-in}
-use Rattle.join_laws.proofs.Decoded.{Decoded}
-use Rattle.join_laws.proofs.Joint.{stored-both, length-both}
-use Rattle.join_laws.proofs.BlockRows.{Moves, block-row}
-use Rattle.join_laws.proofs.ValueRows.{sum-writes}
+use Rattle.join_laws.proofs.{Numbered.NumberedSum, CarriedBlocks.NumberedBlock, CarriedValues.terms-in, Decoded.Decoded, Joint.stored-both, Joint.length-both, BlockRows.Moves, BlockRows.block-row, ValueRows.sum-writes}
 
 -- ---- Rows
 

@@ -1,15 +1,14 @@
 -- The joined model's bytes are read as the joined model.
 use Rattle.machine.specs.All.{ℕ, suc, _+_, _-_, _≤_, zero-add, add-zero, arith, _≡_, refl, ap, subst, _∙_, List, [], _∷_, _++_, map, append-nil, append-assoc, map-append, map-map, T, length, getD, length-append, length-map, List·getD-append, Rules, inForce, flat, nth, Sum, Block, BlockModel, Counts, number, valueFields, blockField, modelFields, allOf, sumNames, Each, times}
 use Rattle.machine.specs.Limits as Limits
-use Rattle.machine.proofs.runs.RunLaws.{each-map}
-use Rattle.machine.proofs.runs.Shape.{each-getD}
+use Rattle.machine.proofs.{runs.RunLaws.each-map, runs.Shape.each-getD}
 use Rattle.joined.specs.Join.{first, second, sumIn, blockIn, joinModels}
 use Rattle.joined.proofs.ProperJoined.{Fits}
 use Rattle.join_laws.specs.{storedSum, storedBlock, storedModel}
-use Rattle.join_laws.proofs.Carrying.{Anywhere}
-use Rattle.join_laws.proofs.Placing.{Placing}
-use Rattle.join_laws.proofs.Decoded.{counts, early, ValueSpot, BlockSpot, Between, Decoded}
-use Rattle.join_laws.proofs.Together.{any-then, any-give, any-number, any-numbers, any-each, any-times, any-values}
+use Rattle.join_laws.proofs as our
+use our.{Carrying.Anywhere, Placing.Placing}
+use our.Decoded.{counts, early, ValueSpot, BlockSpot, Between, Decoded}
+use our.Together.{any-then, any-give, any-number, any-numbers, any-each, any-times, any-values}
 
 -- ---- Lists
 

@@ -3,8 +3,9 @@ use Rattle.machine.specs.All.{ℕ, zero, suc, _+_, _≤_, zero-add, add-zero, s
 use Rattle.machine.specs.Limits as Limits
 use Rattle.parse_values.specs.Filled.{rowsField}
 use Rattle.parse_values.proofs.Filled.{times-rows, values-rows}
-use Rattle.join_laws.proofs.Carrying.{reads-then, reads-give, reads-number, Anywhere, anywhere}
-use Rattle.join_laws.proofs.Decoded.{Between}
+use Rattle.join_laws.proofs as our
+use our.Carrying.{reads-then, reads-give, reads-number, Anywhere, anywhere}
+use our.Decoded.{Between}
 
 -- ---- One after the other
 

@@ -8,10 +8,11 @@ use Rattle.codec.specs.Writing.{written}
 use Rattle.joined.specs.Join.{Part, termIn, sumIn}
 use Rattle.join_laws.specs.declared.shift.Shift.{Shift}
 use Rattle.join_laws.specs.{storedTerm, storedTerms, movedBy, items, behind, opened, signsIn, signAt, itemAt, itemsFrom}
-use Rattle.join_laws.proofs.Numbered.{Numbered, NumberedSum}
-use Rattle.join_laws.proofs.RowSteps.{inner, inner-more, one-more, items-end}
-use Rattle.join_laws.proofs.CarriedValues.{terms-in}
-use Rattle.join_laws.proofs.BlockRows.{Moves, pair}
+use Rattle.join_laws.proofs as our
+use our.Numbered.{Numbered, NumberedSum}
+use our.RowSteps.{inner, inner-more, one-more, items-end}
+use our.CarriedValues.{terms-in}
+use our.BlockRows.{Moves, pair}
 
 module _ (tables : List ℕ) (by : Shift) where
   -- ---- One term, by its tag

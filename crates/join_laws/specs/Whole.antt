@@ -4,10 +4,7 @@ use Rattle.machine.specs.Limits as Limits
 use Rattle.constants.specs.declared.model.Model.{Model}
 use Rattle.layout.specs.Layout as Layout
 use Rattle.parse_values.specs.Shapes.{Within}
-use Rattle.join_laws.specs.declared.shift.Shift.{Shift}
-use Rattle.join_laws.specs.Written.{numbersBytes}
-use Rattle.join_laws.specs.Joining.{Joining, refused, fitted}
-use Rattle.join_laws.specs.Rows.{blockRows, valueRows}
+use Rattle.join_laws.specs.{declared.shift.Shift.Shift, Written.numbersBytes, Joining.Joining, Joining.refused, Joining.fitted, Rows.blockRows, Rows.valueRows}
 
 -- the counts of a header and its counter are within their limits
 pub record Fits (m : Model) : Type 0 where

@@ -1,13 +1,13 @@
 -- The taking of a turn of the joined run, as a part sees it: one of its own is in hand, or one of the other part.
-use Rattle.machine.specs.All.{cases, ℕ, suc, _≡_, refl, sym, ap, _∙_, Bool, true, false, true≢false, _&&_, List, [], _∷_, Option, none, some, Transaction, Event, BlockModel, State, setMoving, setTurns, nextEvents, takeFirst, taking, waitsOn, isNone, isEmpty, nobodyLeft, Each}
+use Rattle.machine.specs.All.{cases, ℕ, _≡_, refl, sym, ap, _∙_, Bool, true, false, true≢false, _&&_, List, [], _∷_, Option, none, some, Transaction, Event, BlockModel, State, setMoving, setTurns, nextEvents, takeFirst, taking, waitsOn, isNone, isEmpty, nobodyLeft, Each}
 use Rattle.joined.specs.{Part}
-use Rattle.joined.proofs.Naming.{Naming, mine, Known}
-use Rattle.joined.proofs.Seen.{size, aloneAs, Seen}
-use Rattle.joined.proofs.Inside.{Inside}
-use Rattle.joined.proofs.OtherEffect.{other}
-use Rattle.joined.proofs.ClockMove.{moveClock-filled, moveClock-unmoved}
-use Rattle.joined.proofs.Turned.{Ready, asIs, clockMoved, readied, handed, hand, first-taken}
-use Rattle.joined.proofs.Paces.{Moving, own, away, Clocked, level, resting, Stands, same, behind, Pace, SameNumbers, Takes, ready-pace, own-hand, other-hand, moving-none}
+use Rattle.joined.proofs as our
+use our.Naming.{Naming, mine, Known}
+use our.Seen.{size, aloneAs, Seen}
+use our.{Inside.Inside, OtherEffect.other}
+use our.ClockMove.{moveClock-filled, moveClock-unmoved}
+use our.Turned.{Ready, asIs, clockMoved, readied, handed, hand, first-taken}
+use our.Paces.{Moving, own, away, Clocked, level, resting, Stands, same, behind, Pace, SameNumbers, Takes, ready-pace, own-hand, other-hand, moving-none}
 
 -- ---- Whom a turn takes
 
@@ -24,7 +24,7 @@ pub data Takings (s : State) : Type 0 where
 
 pub takings : (s : State) → nobodyLeft s ≡ false → Takings s
 unfolding nobodyLeft isNone isEmpty nextEvents
-takings s e = go (s .moving) refl
+takings s e = go _ refl
   where
     filled : (o : Option Transaction) (l : List Transaction) (f : List Event) → (isNone o && isEmpty l && isEmpty f) ≡ false → o ≡ none → l ≡ [] → f ≡ [] → ⊥
     filled none [] [] e a b c = true≢false e
@@ -46,19 +46,19 @@ takings s e = go (s .moving) refl
         has : List Transaction → Bool
         has [] = false
         has (x ∷ l) = true
-    empty-rel o r (clockMoved a) z = none-due (s .fel) refl z
+    empty-rel o r (clockMoved a) z = none-due _ refl z
       where
         none-due : (f : List Event) → s .fel ≡ f → nextEvents f s .rel ≡ [] → ⊥
-        none-due [] c z = filled (s .moving) (s .rel) (s .fel) e o a c
-        none-due (x ∷ f) c z = moveClock-filled (x .time) s x f c refl z
+        none-due [] c z = filled _ _ _ e o a c
+        none-due (x ∷ f) c z = moveClock-filled _ s x f c refl z
 
     go : (o : Option Transaction) → s .moving ≡ o → Takings s
     go (some t) o = moves t o
-    go none o = found (readied s .from .rel) refl
+    go none o = found _ refl
       where
         found : (l : List Transaction) → readied s .from .rel ≡ l → Takings s
-        found [] z = absurd (empty-rel o (readied s .from) (readied s .ready) z)
-        found (t ∷ l) z = first (readied s .from) (readied s .ready) (readied s .taken) o t l z
+        found [] z = absurd (empty-rel o _ (readied s .ready) z)
+        found (t ∷ l) z = first _ (readied s .ready) (readied s .taken) o t l z
 
 -- ---- As a part sees it
 
@@ -75,9 +75,9 @@ module _ (p : Part) (m M : BlockModel) (I : Inside p m M) where
 
   catch-first : (N : Naming) (r a : State) → Pace p m N r a → r .moving ≡ none → (t : Transaction) (l : List Transaction) → r .rel ≡ t ∷ l → (k : ℕ) → Caught N t (hand k t l r) a
   catch-first N r a h o t l e k =
-      cases (mine p (size p m) t)
-      (λ d. ours d (own-hand p m M I N r (h .seen-as) (h .seen) t l e k d a (h .stands) still (h .clocked)))
-      (λ d. theirs d (h .seen-as) (other-hand p m M I N r (h .seen-as) (h .seen) t l e k d) (h .stands) still (h .holding) (clocks-hand r (h .seen-as) (hand k t l r) refl (h .clocked)))
+      cases _
+      (λ d. ours d (own-hand p m M I N r _ (h .seen) t l e k d a (h .stands) still (h .clocked)))
+      (λ d. theirs d _ (other-hand p m M I N r _ (h .seen) t l e k d) (h .stands) still (h .holding) (clocks-hand r _ _ refl (h .clocked)))
     where
       still : h .seen-as .moving ≡ none
       still = moving-none p m M I (h .moving) o
@@ -86,7 +86,7 @@ module _ (p : Part) (m M : BlockModel) (I : Inside p m M) where
   events-still : (l : List Event) (a : State) → nextEvents l a .moving ≡ a .moving
   unfolding nextEvents
   events-still [] a = refl
-  events-still (x ∷ l) a = moveClock-unmoved (x .time) a .moving
+  events-still (x ∷ l) a = moveClock-unmoved _ a .moving
 
   takes-moving : (N : Naming) (s a b : State) → Stands p m a b → Seen p m N s b → (t : Transaction) → Known p (size p m) N t → b .moving ≡ some (aloneAs p m N t) → Clocked p m s b → (k : ℕ)
       → Takes p m M I N t (setMoving none (setTurns k s)) a
@@ -107,17 +107,17 @@ module _ (p : Part) (m M : BlockModel) (I : Inside p m M) where
       clocks : Clocked p m s a → a .view .clock ≡ s .view .clock
       clocks (level c) = c
       clocks (resting o z) = cc
-  takes-moving N s a b (behind o z n) h t q e clocked k = not-some (aloneAs p m N t) (cc (o, events-still (a .fel) a, e))
+  takes-moving N s a b (behind o z n) h t q e clocked k = not-some (aloneAs p m N t) (cc (o, events-still _ a, e))
 
   catch-moving : (N : Naming) (s a : State) → Pace p m N s a → (t : Transaction) → s .moving ≡ some t → (k : ℕ) → Caught N t (setMoving none (setTurns k s)) a
   catch-moving N s a h t e k = go (rw e at (h .moving)) refl
     where
       go : {o′ : Option Transaction} → Moving p m N (some t) o′ → h .seen-as .moving ≡ o′ → Caught N t (setMoving none (setTurns k s)) a
-      go (own u q) d = ours (q .own) (takes-moving N s a (h .seen-as) (h .stands) (h .seen) t q d (h .clocked) k)
+      go (own u q) d = ours (q .own) (takes-moving N s a _ (h .stands) (h .seen) t q d (h .clocked) k)
       go (away (other u x)) d =
-          theirs x (h .seen-as)
+          theirs x _
           (record { counted = h .seen .counted; fixtures = h .seen .fixtures; lined = h .seen .lined; listed = h .seen .listed; told = h .seen .told })
-          (h .stands) d (h .holding) (clocks-hand s (h .seen-as) (setMoving none (setTurns k s)) refl (h .clocked))
+          (h .stands) d (h .holding) (clocks-hand s _ _ refl (h .clocked))
 
   -- ---- The taking
 
@@ -133,7 +133,7 @@ module _ (p : Part) (m M : BlockModel) (I : Inside p m M) where
       record {
         naming = N;
         caught =
-            rw e (catch-moving N s a h t e (suc (s .turns)));
+            rw e (catch-moving N s a h t e _);
         numbers = λ k a. refl;
         since = refl;
       }
@@ -142,11 +142,10 @@ module _ (p : Part) (m M : BlockModel) (I : Inside p m M) where
       → (t : Transaction) (l : List Transaction) → r .rel ≡ t ∷ l → Catch N t s a
   catch-ready N s a h r ready taken o t l e =
       let ahead = ready-pace p m M I N s a r h o ready in
-      let all = ap (λ (x : Option Transaction). taking x s) o ∙ taken ∙ first-taken t l r e in
       record {
         naming = ahead .0 .naming;
         caught =
-            rw all (catch-first (ahead .0 .naming) r a (ahead .0 .pace) (ahead .1) t l e (suc (s .turns)));
+            rw (ap (λ (x : Option Transaction). taking x s) o ∙ taken ∙ first-taken t l r e) (catch-first _ r a (ahead .0 .pace) (ahead .1) t l e _);
         numbers = ahead .0 .numbers;
         since = ahead .0 .since;
       }

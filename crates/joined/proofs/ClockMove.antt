@@ -1,15 +1,14 @@
 -- A clock move of the joined run: of a part that has events due it is that part's clock move, and others see nothing of it.
-use Rattle.machine.specs.All.{cases, ℕ, zero, suc, _-_, _≤_, _<_, _≡_, refl, sym, ap, _∙_, Bool, true, false, cond, not, true≢false, List, [], _∷_, map, none, arith, eqb, length, getD, length-map, eqb-true, eqb-false, eq-eqb, ne-eqb, Transaction, precedes, Event, earlier, insert, those, others, Server, Queue, idleServer, emptyQueue, View, BlockModel, State, withReturning, withSerial, setClock, setView, setFel, fresh, toRel, sampleServers, sampleQueue, sample, arriveAll, due, moveClock, nextEvents, Each}
-use Rattle.machine.proofs.decoding.Proper.{servers}
-use Rattle.machine.proofs.runs.RunLaws.{each-map}
+use Rattle.machine.specs.All.{cases, ℕ, zero, suc, _-_, _≤_, _<_, _≡_, refl, sym, ap, _∙_, Bool, true, false, cond, not, true≢false, List, [], _∷_, map, none, arith, eqb, length, getD, length-map, eqb-true, eqb-false, eq-eqb, ne-eqb, Transaction, precedes, Event, earlier, insert, those, others, Server, Queue, emptyQueue, View, BlockModel, State, withReturning, toRel, sampleServers, sampleQueue, sample, arriveAll, due, moveClock, nextEvents, Each}
+use Rattle.machine.proofs.{decoding.Proper.servers, runs.RunLaws.each-map}
 use Rattle.machine.proofs.lists.Sorted.{Sorted, each-those, sorted-those, later-time}
 use Rattle.joined.specs.{Part}
-use Rattle.joined.proofs.Lists.{strictly, all-same, those-map, those-those, those-none, those-all, those-insert-other, sorted-insert, by-precedence, map-same}
-use Rattle.joined.proofs.Naming.{Naming, mine, Known, eventAs}
-use Rattle.joined.proofs.Seen.{size, Tables, serverThere, queueThere, here, SameServer, Fixtures, Seen}
-use Rattle.joined.proofs.Renaming.{serial-other}
-use Rattle.joined.proofs.OwnMoves.{Together}
-use Rattle.joined.proofs.OwnMakes.{After, after-here, after-then, toRel-after}
+use Rattle.joined.proofs as our
+use our.Lists.{strictly, all-same, those-map, those-those, those-none, those-all, those-insert-other, sorted-insert, by-precedence, map-same}
+use our.Naming.{Naming, mine, Known, eventAs}
+use our.Seen.{size, Tables, SameServer, Fixtures, Seen}
+use our.{Renaming.serial-other, OwnMoves.Together}
+use our.OwnMakes.{After, after-here, after-then, toRel-after}
 
 -- ---- Statistics are not seen
 
@@ -59,15 +58,15 @@ insert-filled {A} before x (y ∷ l) e = cases (before x y) (λ z. true≢false 
 arriveAll-filled : (l : List Event) (s : State) → (s .rel ≡ [] → ⊥) → arriveAll l s .rel ≡ [] → ⊥
 unfolding arriveAll toRel
 arriveAll-filled [] s h e = h e
-arriveAll-filled (x ∷ l) s h e = arriveAll-filled l (toRel (withReturning false (x .who)) s) (insert-filled precedes _ (s .rel)) e
+arriveAll-filled (x ∷ l) s h e = arriveAll-filled l _ (insert-filled precedes _ _) e
 
 pub moveClock-filled : (time : ℕ) (s : State) (x : Event) (l : List Event) → s .fel ≡ x ∷ l → x .time ≡ time → moveClock time s .rel ≡ [] → ⊥
 unfolding moveClock arriveAll those due toRel
 moveClock-filled time s x l f t e =
-    arriveAll-filled (those (due time) l) (toRel (withReturning false (x .who)) (setFel (others (due time) (s .fel)) (setView (setClock time (sample (time - s .view .clock) s .view)) s))) (insert-filled precedes _ _) (rw first at e)
+    arriveAll-filled (those _ l) _ (insert-filled precedes _ _) (rw first at e)
   where
     first : those (due time) (s .fel) ≡ x ∷ those (due time) l
-    first = cc (f, eq-eqb (x .time) time t)
+    first = cc (f, eq-eqb _ time t)
 
 -- a view with its clock moved
 abbrev pub moved : ℕ → List (List Transaction) → View → View
@@ -88,13 +87,13 @@ module _ (p : Part) (m : BlockModel) (N : Naming) where
         entries = h .entries;
         queues =
             record {
-              exists = λ i k. (rw (length-map (w .queues) (sampleQueue _)) (h .queues .exists i k .0), h .queues .exists i k .1);
-              alike = λ i k. cc (h .queues .alike i k, sampled-content _ (w .queues) (queueThere p m i));
+              exists = λ i k. (rw length-map (h .queues .exists i k .0), h .queues .exists i k .1);
+              alike = λ i k. cc (h .queues .alike i k, sampled-content _ _ _);
             };
         servers =
             record {
-              exists = λ i k. (rw (sampled-length _ (w .servers) ql) (h .servers .exists i k .0), h .servers .exists i k .1);
-              alike = λ i k. there (sampled _ (w .servers) ql (serverThere p m i) (idleServer 0)) (h .servers .alike i k);
+              exists = λ i k. (rw sampled-length (h .servers .exists i k .0), h .servers .exists i k .1);
+              alike = λ i k. there (sampled _ _ ql _ _) (h .servers .alike i k);
             };
         lists = h .lists;
       }
@@ -117,13 +116,13 @@ module _ (p : Part) (m : BlockModel) (N : Naming) where
         entries = h .entries;
         queues =
             record {
-              exists = λ i k. (h .queues .exists i k .0, rw (length-map (w′ .queues) (sampleQueue _)) (h .queues .exists i k .1));
-              alike = λ i k. sampled-content _ (w′ .queues) (here p m i) ∙ h .queues .alike i k;
+              exists = λ i k. (h .queues .exists i k .0, rw length-map (h .queues .exists i k .1));
+              alike = λ i k. sampled-content _ (w′ .queues) _ ∙ h .queues .alike i k;
             };
         servers =
             record {
-              exists = λ i k. (h .servers .exists i k .0, rw (sampled-length _ (w′ .servers) ql) (h .servers .exists i k .1));
-              alike = λ i k. own (sampled _ (w′ .servers) ql (here p m i) (idleServer 0)) (h .servers .alike i k);
+              exists = λ i k. (h .servers .exists i k .0, rw sampled-length (h .servers .exists i k .1));
+              alike = λ i k. own (sampled _ _ ql _ _) (h .servers .alike i k);
             };
         lists = h .lists;
       }
@@ -160,8 +159,8 @@ module _ (p : Part) (m : BlockModel) (T : Tables p m) where
               rel =
                   record {
                     part =
-                        rw (those-insert-other (mine p (size p m)) precedes (withSerial (fresh s) t) (s .rel) e) (l .rel .part);
-                    sorted = sorted-insert precedes by-precedence (withSerial (fresh s) t) (s .rel) (l .rel .sorted);
+                        rw those-insert-other (l .rel .part);
+                    sorted = sorted-insert precedes by-precedence _ _ (l .rel .sorted);
                   };
               fel = l .fel;
               interrupted = l .interrupted;
@@ -173,13 +172,13 @@ module _ (p : Part) (m : BlockModel) (T : Tables p m) where
   arriveAll-seen : (l : List Event) (N : Naming) (s s′ : State) → Each (λ e. ours? e ≡ false) l → Seen p m N s s′ → Seen p m N (arriveAll l s) s′
   unfolding arriveAll
   arriveAll-seen [] N s s′ k h = h
-  arriveAll-seen (e ∷ l) N s s′ k h = arriveAll-seen l N _ s′ (k .1) (arrives-seen N s s′ h (withReturning false (e .who)) (k .0))
+  arriveAll-seen (e ∷ l) N s s′ k h = arriveAll-seen l N _ s′ (k .1) (arrives-seen N s s′ h _ (k .0))
 
   pub arriveAll-own : (l : List Event) (N : Naming) (s s′ : State) → Together p m N s s′ → Each (λ e. Known p (size p m) N (e .who)) (those ours? l)
       → After p m N (arriveAll l s) (arriveAll (map (eventAs p (size p m) N) (those ours? l)) s′)
   unfolding arriveAll those
   arriveAll-own [] N s s′ h k = after-here p m h
-  arriveAll-own (e ∷ l) N s s′ h k = go (ours? e) refl k (arriveAll-own l)
+  arriveAll-own (e ∷ l) N s s′ h k = go _ refl k (arriveAll-own l)
     where
       t : Transaction
       t = withReturning false (e .who)
@@ -193,13 +192,13 @@ module _ (p : Part) (m : BlockModel) (T : Tables p m) where
       go true d k more =
           let a = toRel-after p m T N s s′ h (withReturning false (e .who)) (record { own = k .0 .own; number = k .0 .number; family = k .0 .family }) in
           after-then p m a
-          (rw (same a (k .1)) at (more (a .naming) _ _ (a .together) (each-map (λ (x : Event) q. a .keeps .known (x .who) q) (those ours? l) (k .1))))
+          (rw (same a (k .1)) at (more _ _ _ (a .together) (each-map (λ (x : Event) q. a .keeps .known _ q) (those ours? l) (k .1))))
         where
           same : {r r′ : State} (a : After p m N r r′) → Each (λ e. Known p (size p m) N (e .who)) (those ours? l)
               → map (eventAs p (size p m) (a .naming)) (those ours? l) ≡ map (eventAs p (size p m) N) (those ours? l)
           same a q =
-              map-same (eventAs p (size p m) (a .naming)) (eventAs p (size p m) N) (those ours? l)
-              (each-map (λ x c. cc (a .keeps .same (x .who) c)) (those ours? l) q)
+              map-same _ _ (those ours? l)
+              (each-map (λ x c. cc (a .keeps .same _ c)) (those ours? l) q)
       go false d k more = more N _ _ (unfold toRel in record { seen = arrives-seen N s s′ (h .seen) (withReturning false (e .who)) d; clock = h .clock; still = h .still }) k
 
   -- ---- The clock moves
@@ -207,7 +206,7 @@ module _ (p : Part) (m : BlockModel) (T : Tables p m) where
   none-of : (q : Event → Bool) (l : List Event) → those q l ≡ [] → Each (λ e. q e ≡ false) l
   unfolding those
   none-of q [] h = tt
-  none-of q (e ∷ l) h = go (q e) refl h (none-of q l)
+  none-of q (e ∷ l) h = go _ refl h (none-of q l)
     where
       go : (b : Bool) → q e ≡ b → cond b (e ∷ those q l) (those q l) ≡ [] → (those q l ≡ [] → Each (λ e. q e ≡ false) l) → (q e ≡ false) × Each (λ e. q e ≡ false) l
       go true d k more = absurd (true≢false (cc k))
@@ -231,32 +230,32 @@ module _ (p : Part) (m : BlockModel) (T : Tables p m) where
     -- those due, and the FEL without them
     pub due-now : those (due time) (s′ .fel) ≡ map asEvent (those ours? (those (due time) (s .fel)))
     due-now =
-        cc (h .listed .fel .part .same, those-map asEvent (due time) (due time) (those ours? (s .fel)) (all-same (λ (e : Event). due time (asEvent e) ≡ due time e) (due-seen N time) (those ours? (s .fel))), those-those ours? (due time) (s .fel))
+        cc (h .listed .fel .part .same, those-map asEvent (due time) _ (those ours? (s .fel)) (all-same (λ (e : Event). due time _ ≡ due time e) (due-seen N time) (those ours? _)), those-those ours? _ _)
 
     later-known : Each (λ e. Known p (size p m) N (e .who)) (those ours? (others (due time) (s .fel)))
     later-known =
-        rw (those-those ours? later (s .fel)) (each-those (λ (e : Event). Known p (size p m) N (e .who)) later (those ours? (s .fel)) (h .listed .fel .part .known))
+        rw those-those (each-those (λ (e : Event). Known p _ N _) later _ (h .listed .fel .part .known))
 
     later-seen : others (due time) (s′ .fel) ≡ map asEvent (those ours? (others (due time) (s .fel)))
     later-seen =
-        cc (h .listed .fel .part .same, those-map asEvent later later (those ours? (s .fel)) (all-same (λ (e : Event). later (asEvent e) ≡ later e) (λ e. ap not (due-seen N time e)) (those ours? (s .fel))), those-those ours? later (s .fel))
+        cc (h .listed .fel .part .same, those-map asEvent later later (those ours? (s .fel)) (all-same (λ (e : Event). later _ ≡ later e) (λ e. ap not (due-seen N time e)) (those ours? _)), those-those ours? later _)
 
     -- on both sides
     pub moveClock-own : s .moving ≡ none → s′ .moving ≡ none → After p m N (moveClock time s) (moveClock time s′)
     unfolding moveClock sample
     moveClock-own o o′ =
-        rw due-now (arriveAll-own (those (due time) (s .fel)) N _ _
+        rw due-now (arriveAll-own _ N _ _
         (record {
           seen =
               record {
                 counted = h .counted;
-                fixtures = moved-here p m N time (s′ .ql) _ _ _ _ (moved-there p m N time (s .ql) _ _ _ _ (h .fixtures));
+                fixtures = moved-here p m N time _ _ _ _ _ (moved-there p m N time _ _ _ _ _ (h .fixtures));
                 lined = h .lined;
                 listed =
                     record {
                       wsl = h .listed .wsl;
                       rel = h .listed .rel;
-                      fel = record { part = record { same = later-seen; known = later-known }; sorted = sorted-those earlier later (s .fel) (h .listed .fel .sorted) };
+                      fel = record { part = record { same = later-seen; known = later-known }; sorted = sorted-those earlier later _ (h .listed .fel .sorted) };
                       interrupted = h .listed .interrupted;
                       facilities = h .listed .facilities;
                     };
@@ -264,22 +263,22 @@ module _ (p : Part) (m : BlockModel) (T : Tables p m) where
               };
           clock = refl;
           still = (o, o′);
-        }) (rw (those-those ours? (due time) (s .fel)) (each-those (λ (e : Event). Known p (size p m) N (e .who)) (due time) (those ours? (s .fel)) (h .listed .fel .part .known))))
+        }) (rw those-those (each-those (λ (e : Event). Known p _ N _) _ _ (h .listed .fel .part .known))))
 
     -- nothing of the part is due
     pub moveClock-other : those ours? (those (due time) (s .fel)) ≡ [] → Seen p m N (moveClock time s) s′
     unfolding moveClock sample
     moveClock-other e =
-        arriveAll-seen (those (due time) (s .fel)) N _ s′ (none-of ours? (those (due time) (s .fel)) e)
+        arriveAll-seen _ N _ s′ (none-of ours? _ e)
         (record {
           counted = h .counted;
-          fixtures = moved-there p m N time (s .ql) _ _ _ _ (h .fixtures);
+          fixtures = moved-there p m N time _ _ _ _ _ (h .fixtures);
           lined = h .lined;
           listed =
               record {
                 wsl = h .listed .wsl;
                 rel = h .listed .rel;
-                fel = record { part = record { same = sym (those-all later (s′ .fel) (each-map (λ x q. cc q) (s′ .fel) (none-of (due time) (s′ .fel) (cc (due-now, e))))) ∙ later-seen; known = later-known }; sorted = sorted-those earlier later (s .fel) (h .listed .fel .sorted) };
+                fel = record { part = record { same = sym (those-all later _ (each-map (λ x q. cc q) (s′ .fel) (none-of (due time) (s′ .fel) (cc (due-now, e))))) ∙ later-seen; known = later-known }; sorted = sorted-those earlier later _ (h .listed .fel .sorted) };
                 interrupted = h .listed .interrupted;
                 facilities = h .listed .facilities;
               };
@@ -290,7 +289,7 @@ module _ (p : Part) (m : BlockModel) (T : Tables p m) where
 
   not-due : (time : ℕ) (e : Event) → time < e .time → due time e ≡ false
   unfolding due
-  not-due time e lt = ne-eqb (e .time) time (λ q. omega arith)
+  not-due time e lt = ne-eqb _ time (λ q. omega arith)
 
   pub data Due (s s′ : State) (time : ℕ) : Type 0 where
     notYet : those ours? (those (due time) (s .fel)) ≡ [] → Due s s′ time
@@ -317,8 +316,7 @@ module _ (p : Part) (m : BlockModel) (T : Tables p m) where
           ours-sorted = rw d at (sorted-those earlier ours? (s .fel) (h .listed .fel .sorted))
 
           ours-later : Each (λ y. e .time ≤ y .time) (x ∷ r)
-          ours-later = rw d at (each-those (λ (y : Event). e .time ≤ y .time) ours? (s .fel) (let sorted = rw k at (h .listed .fel .sorted) in
-              rw k (omega arith, each-map first l (sorted .0))))
+          ours-later = rw d at (each-those (λ (y : Event). e .time ≤ y .time) ours? (s .fel) (rw k (omega arith, each-map first l ((rw k at (h .listed .fel .sorted)) .0))))
 
           never : (x .time ≡ e .time → ⊥) → Each (λ y. due (e .time) y ≡ false) (x ∷ r)
           never n =
@@ -352,14 +350,14 @@ arriveAll-unmoved time (e ∷ l) s r h =
 pub moveClock-unmoved : (time : ℕ) (s : State) → Unmoved time s (moveClock time s)
 unfolding moveClock
 moveClock-unmoved time s =
-    arriveAll-unmoved time (those (due time) (s .fel)) s _ (record { clock = refl; moving = refl; wsl = refl; ql = refl; wel = refl; end = refl; made = refl })
+    arriveAll-unmoved time _ s _ (record { clock = refl; moving = refl; wsl = refl; ql = refl; wel = refl; end = refl; made = refl })
 
 -- and the view but for its clock and statistics
 arriveAll-view : (l : List Event) (s : State) → arriveAll l s .view ≡ s .view
 unfolding arriveAll toRel
 arriveAll-view [] s = refl
-arriveAll-view (e ∷ l) s = arriveAll-view l (toRel (withReturning false (e .who)) s)
+arriveAll-view (e ∷ l) s = arriveAll-view l _
 
 pub moveClock-view : (time : ℕ) (s : State) → moveClock time s .view ≡ moved time (s .ql) (s .view)
 unfolding moveClock sample
-moveClock-view time s = arriveAll-view (those (due time) (s .fel)) _
+moveClock-view time s = arriveAll-view _ _

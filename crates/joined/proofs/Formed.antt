@@ -1,11 +1,11 @@
 -- The joined model passes question 7 where its parts do.
 use Rattle.machine.specs.All.{ℕ, suc, _+_, _-_, _≤_, _<_, _≡_, refl, sym, ap, subst, Bool, true, false, cond, not, _&&_, _||_, List, [], _∷_, _++_, map, arith, T, ltb, leb, eqb, length, getD, leb-true, leb-false, le-leb, lt-leb, ne-eqb, maxBack, bit, Term, constant, minusConstant, parameter, clockTerm, entriesOf, contentOf, unitsInUse, unitsFree, facilityInUse, value, comparison, bracket, Sum, nothing, plus, minus, isGenerate, Block, generate, advance, terminate, takes, frees, waitServer, waitTerms, moves, assign, priority, split, counts, assemble, preempt, giveBack, facts, BlockModel, blockAt, backAt, welIndex, insideGroup, wellPlaced, allOf, joined, targetsMove, termNames, sumNames, wellFormed, Each}
 use Rattle.machine.proofs.decoding.Proper.{Names, ProperBlock, Proper}
-use Rattle.machine.proofs.lists.Sums.{upTo-cong}
-use Rattle.machine.proofs.decoding.Groups.{and-left, and-right}
-use Rattle.joined.specs.{Part, first, second, serverIn, termIn, sumIn, blockIn, joinModels}
-use Rattle.joined.proofs.Strangers.{leaves-in, back-in}
-use Rattle.joined.proofs.Instance.{blocks-long, block-first, block-second, back-first, back-second, back-past, group-first}
+use Rattle.machine.proofs.{lists.Sums.upTo-cong, decoding.Groups.and-left, decoding.Groups.and-right}
+use Rattle.joined.specs.{Part, first, second, termIn, sumIn, blockIn, joinModels}
+use Rattle.joined.proofs as our
+use our.Strangers.{leaves-in, back-in}
+use our.Instance.{blocks-long, block-first, block-second, back-first, back-second, back-past, group-first}
 
 both-of : (a b : Bool) → T a → T b → T (a && b)
 both-of true b h k = k
@@ -23,7 +23,7 @@ some-wel k = ne-eqb (suc k) 0 (λ e. omega arith)
 module _ (p : Part) (m : BlockModel) where
   pub generates-in : (b : Block) → ProperBlock m b → isGenerate (facts (blockIn p b)) ≡ isGenerate (facts b)
   unfolding facts blockIn
-  generates-in (generate list k) ok = cc (ne-eqb (list + p .toList) 0 (λ e. omega (arith, ok .0 .0)), ne-eqb list 0 (λ e. omega (arith, ok .0 .0)))
+  generates-in (generate list k) ok = cc (ne-eqb (list + p .toList) 0 (λ e. omega arith), ne-eqb list 0 (λ e. omega arith))
   generates-in (advance list) ok = refl
   generates-in (terminate a) ok = refl
   generates-in (takes x) ok = refl
@@ -46,7 +46,7 @@ module _ (p : Part) (m : BlockModel) where
   wel-in (terminate a) = refl
   wel-in (takes x) = refl
   wel-in (frees x) = refl
-  wel-in (waitServer code v c) = cc (some-wel (welIndex (serverIn p v) code), some-wel (welIndex v code))
+  wel-in (waitServer code v c) = cc (some-wel _, some-wel (welIndex v code))
   wel-in (waitTerms a r b) = refl
   wel-in (moves c target) = refl
   wel-in (assign k a) = refl
@@ -86,7 +86,7 @@ module _ (p : Part) (m : BlockModel) where
   unfolding wellPlaced
   placed-map left [] h = refl
   placed-map left (b ∷ l) h =
-      cc (generates-in b (h .0), leaves-in p b, placed-map (facts b .leaves) l (h .1))
+      cc (generates-in b (h .0), leaves-in p b, placed-map _ l (h .1))
 
   -- ---- Groups
 
@@ -94,30 +94,30 @@ module _ (p : Part) (m : BlockModel) where
   unfolding joined
   joined-map w [] = refl
   joined-map w (b ∷ l) =
-      cc (back-in p b, wel-in b, joined-map (cond (not (eqb (facts b .wel) 0) && eqb (facts b .back) 0) (suc w) 0) l)
+      cc (back-in p b, wel-in b, joined-map _ l)
 
 placed-append : (left : Bool) (k l : List Block) → T (wellPlaced left k) → T (wellPlaced true l) → T (wellPlaced left (k ++ l))
 unfolding wellPlaced
 placed-append left [] l h g = rw (is-true left h) g
 placed-append left (b ∷ k) l h g =
-    both-of (not (isGenerate (facts b)) || left) _ (and-left (not (isGenerate (facts b)) || left) _ h) (placed-append (facts b .leaves) k l (and-right (not (isGenerate (facts b)) || left) _ h) g)
+    both-of (not (isGenerate (facts b)) || left) _ (and-left (not (isGenerate (facts b)) || left) _ h) (placed-append _ k l (and-right (not (isGenerate (facts b)) || left) _ h) g)
 
 joined-more : (w w′ : ℕ) (l : List Block) → w ≤ w′ → T (joined w l) → T (joined w′ l)
 unfolding joined
 joined-more w w′ [] le h = tt
 joined-more w w′ (b ∷ l) le h =
-    both-of (leb (facts b .back) w′) _ (rw (le-leb (facts b .back) w′ (omega (arith, leb-true (facts b .back) w (is-true _ (and-left (leb (facts b .back) w) _ h))))) tt)
-    (go (not (eqb (facts b .wel) 0) && eqb (facts b .back) 0) (and-right (leb (facts b .back) w) _ h) (λ x y z. joined-more x y l z))
+    both-of (leb _ w′) _ (rw (le-leb (facts b .back) w′ (omega (arith, leb-true _ w (is-true _ (and-left (leb _ w) _ h))))) tt)
+    (go (not (eqb (facts b .wel) 0) && eqb (facts b .back) 0) (and-right (leb _ w) _ h) (λ x y z. joined-more x y l z))
   where
     go : (c : Bool) → T (joined (cond c (suc w) 0) l) → ((x y : ℕ) → x ≤ y → T (joined x l) → T (joined y l)) → T (joined (cond c (suc w′) 0) l)
-    go true h more = more (suc w) (suc w′) (omega arith) h
+    go true h more = more _ _ (omega arith) h
     go false h more = h
 
 joined-append : (w : ℕ) (k l : List Block) → T (joined w k) → T (joined 0 l) → T (joined w (k ++ l))
 unfolding joined
 joined-append w [] l h g = joined-more 0 w l (omega arith) g
 joined-append w (b ∷ k) l h g =
-    both-of (leb (facts b .back) w) _ (and-left (leb (facts b .back) w) _ h) (joined-append _ k l (and-right (leb (facts b .back) w) _ h) g)
+    both-of (leb _ w) _ (and-left (leb _ w) _ h) (joined-append _ k l (and-right (leb _ w) _ h) g)
 
 -- ---- Blocks that values name
 
@@ -147,7 +147,7 @@ module _ (p : Part) (n total : ℕ) (fits : n + p .toBlock ≤ total) where
   values-named : (l : List Sum) → T (allOf (sumNames n) l) → T (allOf (sumNames total) (map (sumIn p) l))
   unfolding allOf
   values-named [] h = tt
-  values-named (e ∷ l) h = both-of (sumNames total (sumIn p e)) _ (sum-names e (and-left (sumNames n e) _ h)) (values-named l (and-right (sumNames n e) _ h))
+  values-named (e ∷ l) h = both-of (sumNames total _) _ (sum-names e (and-left (sumNames n e) _ h)) (values-named l (and-right (sumNames n e) _ h))
 
 all-append : {A : Type 0} (q : A → Bool) (k l : List A) → T (allOf q k) → T (allOf q l) → T (allOf q (k ++ l))
 unfolding allOf
@@ -157,7 +157,7 @@ all-append q (x ∷ k) l h g = both-of (q x) _ (and-left (q x) _ h) (all-append 
 all-map : {A B : Type 0} (P : A → Type 0) (q : A → Bool) (r : B → Bool) (f : A → B) → ((x : A) → P x → T (q x) → T (r (f x))) → (l : List A) → Each P l → T (allOf q l) → T (allOf r (map f l))
 unfolding allOf
 all-map P q r f k [] g h = tt
-all-map P q r f k (x ∷ l) g h = both-of (r (f x)) _ (k x (g .0) (and-left (q x) _ h)) (all-map P q r f k l (g .1) (and-right (q x) _ h))
+all-map P q r f k (x ∷ l) g h = both-of (r _) _ (k x (g .0) (and-left (q x) _ h)) (all-map P q r f k l (g .1) (and-right (q x) _ h))
 
 -- ---- Targets
 
@@ -174,31 +174,31 @@ aims-in p m M same b ok h = go (target-in p m b ok)
     go (none e d) = rw d tt
     go (some n d) =
         subst (λ k. T (eqb k 0 || Good M k)) (sym d)
-        (rw (ne-eqb (facts b .target + p .toBlock) 0 (λ e. omega (arith, n .0))) (subst T (sym (same (facts b .target) n)) (subst (λ (x : Bool). T (x || Good m (facts b .target))) (ne-eqb (facts b .target) 0 (λ e. omega (arith, n .0))) h)))
+        (rw (ne-eqb (facts b .target + p .toBlock) 0 (λ e. omega arith)) (subst T (sym (same _ n)) (rw (ne-eqb (facts b .target) 0 (λ e. omega (arith, n .0))) at h)))
 
 module _ (m₁ m₂ : BlockModel) {t₁ t₂ : List (List ℕ)} (proper₁ : Proper m₁ t₁) (proper₂ : Proper m₂ t₂) where
   inside-first : (b : ℕ) → Names (length (m₁ .blocks)) b → insideGroup (joinModels m₁ m₂) b ≡ insideGroup m₁ b
   unfolding insideGroup
   inside-first b n =
-      cc (upTo-cong (λ c. bit (leb c (backAt (joinModels m₁ m₂) (b + c - 1)))) (λ c. bit (leb c (backAt m₁ (b + c - 1)))) maxBack (λ c low high. ap bit (same c low)))
+      cc (upTo-cong (λ c. bit (leb c _)) (λ c. bit (leb c _)) maxBack (λ c low high. ap bit (same c low)))
     where
       same : (c : ℕ) → 1 ≤ c → leb c (backAt (joinModels m₁ m₂) (b + c - 1)) ≡ leb c (backAt m₁ (b + c - 1))
-      same c low = go (leb (b + c - 1) (length (m₁ .blocks))) refl
+      same c low = go _ refl
         where
           go : (x : Bool) → leb (b + c - 1) (length (m₁ .blocks)) ≡ x → leb c (backAt (joinModels m₁ m₂) (b + c - 1)) ≡ leb c (backAt m₁ (b + c - 1))
-          go true e = ap (leb c) (back-first m₁ m₂ (b + c - 1) (omega arith) (leb-true _ _ e))
+          go true e = ap (leb c) (back-first m₁ m₂ _ (omega arith) (leb-true _ _ e))
           go false e =
               let far : length (m₁ .blocks) < b + c - 1 = leb-false _ _ e in
               let index : b + (c - 1) ≡ b + c - 1 = omega arith in
-              let lt = rw index at (group-first m₁ m₂ proper₁ proper₂ b (c - 1) (n .0) (n .1) (omega (arith, n .1)) (omega arith)) in
-              let z = back-past m₁ m₂ m₁ (b + c - 1) far in
+              let lt = rw index at (group-first m₁ m₂ proper₁ proper₂ b (c - 1) (n .0) (n .1) (omega arith) (omega arith)) in
+              let z = back-past m₁ m₂ m₁ _ far in
               cc (lt-leb c (backAt (joinModels m₁ m₂) (b + c - 1)) (omega arith), lt-leb c (backAt m₁ (b + c - 1)) (omega arith))
 
   inside-second : (b : ℕ) → 1 ≤ b → insideGroup (joinModels m₁ m₂) (b + length (m₁ .blocks)) ≡ insideGroup m₂ b
   unfolding insideGroup
   inside-second b one =
       ap (ltb 0)
-      (upTo-cong (λ c. bit (leb c (backAt (joinModels m₁ m₂) (b + length (m₁ .blocks) + c - 1)))) (λ c. bit (leb c (backAt m₂ (b + c - 1)))) maxBack
+      (upTo-cong (λ c. bit (leb c _)) (λ c. bit (leb c _)) maxBack
       (λ c low high. cc (turn c low, back-second m₁ m₂ (b + c - 1) (omega arith))))
     where
       turn : (c : ℕ) → 1 ≤ c → b + length (m₁ .blocks) + c - 1 ≡ b + c - 1 + length (m₁ .blocks)
@@ -206,7 +206,7 @@ module _ (m₁ m₂ : BlockModel) {t₁ t₂ : List (List ℕ)} (proper₁ : Pro
 
   good-first : (n : ℕ) → Names (length (m₁ .blocks)) n → Good (joinModels m₁ m₂) (n + 0) ≡ Good m₁ n
   good-first n i =
-      cc (plus-zero, block-first m₁ m₂ n (i .1) (i .0), generates-in (first m₁ m₂) m₁ (blockAt m₁ n) (proper₁ .block n), inside-first n i)
+      cc (plus-zero, block-first m₁ m₂ n (i .1) (i .0), generates-in (first m₁ m₂) m₁ _ (proper₁ .block n), inside-first n i)
     where
       plus-zero : n + 0 ≡ n
       plus-zero = omega arith
@@ -246,7 +246,7 @@ module _ (m₁ m₂ : BlockModel) {t₁ t₂ : List (List ℕ)} (proper₁ : Pro
       (rw (joined-map (second m₁ m₂) m₂ 0 (m₂ .blocks)) (f₂ .3)) in
       let blocks = map (blockIn (first m₁ m₂)) (m₁ .blocks) ++ map (blockIn (second m₁ m₂)) (m₂ .blocks) in
       all-of (wellPlaced true blocks) (allOf (Aims (joinModels m₁ m₂)) blocks)
-      (allOf (sumNames total) (map (sumIn (first m₁ m₂)) (m₁ .values) ++ map (sumIn (second m₁ m₂)) (m₂ .values))) (joined 0 blocks) placed aimed named grouped
+      _ (joined 0 blocks) placed aimed named grouped
     where
       four : (a b c d : Bool) → T (a && b && c && d) → T a × T b × T c × T d
       four true true true true h = (tt, tt, tt, tt)

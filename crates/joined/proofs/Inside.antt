@@ -1,12 +1,12 @@
 -- A part inside the joined model: what its own turns ask of the two models, and what blocks have in common with their images.
-use Rattle.machine.specs.All.{ℕ, suc, _+_, _-_, _≤_, _<_, _≡_, refl, false, List, Transaction, anyOf, View, whenTrue, Share, facility, storage, shareServer, shareUnits, Block, generate, advance, terminate, takes, frees, waitServer, waitTerms, moves, assign, priority, split, counts, assemble, preempt, giveBack, facts, aboveOne, BlockModel, blockAt, beginsGroup, unitsOf, holds, waitsOn}
+use Rattle.machine.specs.All.{ℕ, suc, _+_, _-_, _≤_, _<_, _≡_, refl, false, List, Transaction, anyOf, View, Share, facility, storage, shareServer, shareUnits, Block, generate, advance, terminate, takes, frees, waitServer, waitTerms, moves, assign, priority, split, counts, assemble, preempt, giveBack, facts, aboveOne, BlockModel, blockAt, beginsGroup, unitsOf, holds, waitsOn}
 use lib.IntN.{ℤ}
 use Rattle.machine.proofs.decoding.Proper.{Names, ProperBlock}
 use Rattle.joined.specs.{Part, serverIn, shareIn, conditionIn, blockIn}
-use Rattle.joined.proofs.Naming.{Naming, Known}
-use Rattle.joined.proofs.Seen.{size, Tables, aloneAs, Fixtures}
-use Rattle.joined.proofs.Terms.{Plain, PlainCondition, Values, truth-same}
-use Rattle.joined.proofs.OwnMoves.{standing}
+use Rattle.joined.proofs as our
+use our.{Naming.Naming, Naming.Known, OwnMoves.standing}
+use our.Seen.{size, Tables, aloneAs, Fixtures}
+use our.Terms.{Plain, PlainCondition, Values, truth-same}
 
 -- ---- Definition
 
@@ -76,11 +76,11 @@ module _ (p : Part) (m M : BlockModel) (I : Inside p m M) where
   -- the block at which one of the part stands
   pub block-seen : (N : Naming) (t : Transaction) → Known p (size p m) N t → blockAt M (t .next) ≡ blockIn p (blockAt m (t .next - p .toBlock))
   block-seen N t k =
-      let at = standing p m (t .next) (k .own) in
-      rw (at .there) at (I .block (t .next - p .toBlock) (at .names))
+      let at = standing p m _ (k .own) in
+      rw (at .there) at (I .block _ (at .names))
 
   pub units-seen : (N : Naming) (t : Transaction) → Known p (size p m) N t → unitsOf m (aloneAs p m N t) ≡ unitsOf M t
-  units-seen N t k = cc (block-seen N t k, units-in p (blockAt m (t .next - p .toBlock)))
+  units-seen N t k = cc (block-seen N t k, units-in p _)
 
   -- ---- What a member of the WSL waits for
 
@@ -93,7 +93,7 @@ module _ (p : Part) (m M : BlockModel) (I : Inside p m M) where
     holds-in q (takes x) k = refl
     holds-in q (frees x) k = refl
     holds-in q (waitServer code v c) k = refl
-    holds-in q (waitTerms a r b) k = unfold conditionIn in truth-same p m M (I .values) N w w′ samples samples′ h q (whenTrue a r b) k
+    holds-in q (waitTerms a r b) k = unfold conditionIn in truth-same p m M (I .values) N w w′ samples samples′ h q _ k
     holds-in q (moves c target) k = refl
     holds-in q (assign i a) k = refl
     holds-in q (priority i) k = refl
@@ -106,5 +106,5 @@ module _ (p : Part) (m M : BlockModel) (I : Inside p m M) where
     pub waitsOn-seen : (t : Transaction) → Known p (size p m) N t → waitsOn m w′ (aloneAs p m N t) ≡ waitsOn M w t
     unfolding waitsOn
     waitsOn-seen t k =
-        let at = standing p m (t .next) (k .own) in
-        cc (holds-in (t .parameters) (blockAt m (t .next - p .toBlock)) (I .plain _ (at .names)), block-seen N t k)
+        let at = standing p m _ (k .own) in
+        cc (holds-in _ _ (I .plain _ (at .names)), block-seen N t k)

@@ -1,15 +1,14 @@
 -- The two parts of `joinModels`: each stands inside the joined model, and they face each other.
 use Rattle.machine.specs.All.{ℕ, suc, _+_, _-_, _≤_, _<_, _≡_, refl, sym, ap, _∙_, Bool, true, false, _||_, true≢false, List, [], _∷_, _++_, map, append-nil, arith, ltb, leb, eqb, length, length-append, length-map, List·getD-map, List·getD-append, List·getD-eq-default, ltb-true, ltb-false, leb-true, leb-false, ne-eqb, maxBack, anyOf, bit, Block, generate, advance, terminate, takes, frees, waitServer, waitTerms, moves, assign, priority, split, counts, assemble, preempt, giveBack, facts, aboveOne, BlockModel, blockAt, backAt, beginsGroup, compared, always, whenTrue, Each}
 use Rattle.machine.proofs.decoding.Proper.{Names, servers, Proper}
-use Rattle.machine.proofs.lists.Sums.{upTo-cong}
-use Rattle.machine.proofs.decoding.Groups.{blocks-placed, back-within}
-use Rattle.machine.proofs.runs.Placed.{goes-on}
-use Rattle.joined.specs.{Part, first, second, sumIn, blockIn, joinModels, inPart}
-use Rattle.joined.proofs.Seen.{size, serverThere}
-use Rattle.joined.proofs.Terms.{Plain, PlainSum, getD-behind}
-use Rattle.joined.proofs.Inside.{PlainBlock, Inside, share-units}
-use Rattle.joined.proofs.Strangers.{Facing, back-in}
-use Rattle.joined.proofs.Numbering.{in-facility, Place, facility, storage, place, tables, not-in, is-in, in-bounds, in-storage}
+use Rattle.machine.proofs.{lists.Sums.upTo-cong, decoding.Groups.blocks-placed, decoding.Groups.back-within, runs.Placed.goes-on}
+use Rattle.joined.specs.{Part, first, second, blockIn, joinModels, inPart}
+use Rattle.joined.proofs as our
+use our.Seen.{size, serverThere}
+use our.Terms.{Plain, PlainSum, getD-behind}
+use our.Inside.{PlainBlock, Inside, share-units}
+use our.Strangers.{Facing, back-in}
+use our.Numbering.{in-facility, Place, facility, storage, place, tables, not-in, is-in, in-bounds, in-storage}
 
 -- ---- They face each other
 
@@ -23,7 +22,7 @@ module _ (m₁ m₂ : BlockModel) where
   pub blocks-long : length (joinModels m₁ m₂ .blocks) ≡ length (m₁ .blocks) + length (m₂ .blocks)
   unfolding joinModels
   blocks-long =
-      cc (length-append (map (blockIn p₁) (m₁ .blocks)) (map (blockIn p₂) (m₂ .blocks)), length-map (m₁ .blocks) (blockIn p₁), length-map (m₂ .blocks) (blockIn p₂))
+      cc (length-append _ _, length-map _ _, length-map _ _)
 
   pub servers-long : servers (joinModels m₁ m₂) ≡ servers m₁ + servers m₂
   unfolding joinModels
@@ -39,20 +38,19 @@ module _ (m₁ m₂ : BlockModel) where
       go (storage h d) (storage k c) = omega arith
 
   servers-cover : (i : ℕ) → ((u : ℕ) → Names (servers m₁) u → serverThere p₁ m₁ u ≡ i → ⊥) → ((v : ℕ) → Names (servers m₂) v → serverThere p₂ m₂ v ≡ i → ⊥) → servers (joinModels m₁ m₂) ≤ i
-  servers-cover i f g = go (ltb i (m₁ .facilities)) refl (ltb i (m₁ .facilities + m₂ .facilities)) refl (ltb i (m₁ .facilities + m₂ .facilities + length (m₁ .capacities))) refl (ltb i (servers m₁ + servers m₂)) refl
+  servers-cover i f g = go _ refl _ refl _ refl _ refl
     where
       go : (a : Bool) → ltb i (m₁ .facilities) ≡ a → (b : Bool) → ltb i (m₁ .facilities + m₂ .facilities) ≡ b → (c : Bool) → ltb i (m₁ .facilities + m₂ .facilities + length (m₁ .capacities)) ≡ c
           → (d : Bool) → ltb i (servers m₁ + servers m₂) ≡ d → servers (joinModels m₁ m₂) ≤ i
-      go true e b e′ c e″ d e‴ = absurd (f (suc i) (omega arith, omega (arith, ltb-true)) (cc (in-facility p₁ (suc i) (ltb-true _ _ e), less)))
+      go true e b e′ c e″ d e‴ = absurd (f (suc i) (omega arith, omega (arith, ltb-true)) (cc (in-facility p₁ _ (ltb-true _ _ e), less)))
         where
           less : suc i + 0 - 1 ≡ i
           less = omega arith
       go false e true e′ c e″ d e‴ =
           let low : m₁ .facilities ≤ i = ltb-false _ _ e in
           let high : i < m₁ .facilities + m₂ .facilities = ltb-true _ _ e′ in
-          let h : suc i - m₁ .facilities ≤ m₂ .facilities = omega arith in
           let s : suc i - m₁ .facilities + m₁ .facilities - 1 ≡ i = omega arith in
-          absurd (g (suc i - m₁ .facilities) (omega arith, omega arith) (cc (in-facility p₂ (suc i - m₁ .facilities) h, s)))
+          absurd (g (suc i - m₁ .facilities) (omega arith, omega arith) (cc (in-facility p₂ (suc i - m₁ .facilities) (omega arith), s)))
       go false e false e′ true e″ d e‴ =
           let low : m₁ .facilities + m₂ .facilities ≤ i = ltb-false _ _ e′ in
           let high : i < m₁ .facilities + m₂ .facilities + length (m₁ .capacities) = ltb-true _ _ e″ in
@@ -68,8 +66,8 @@ module _ (m₁ m₂ : BlockModel) where
   pub facing₁ : Facing p₁ m₁ p₂ m₂ (joinModels m₁ m₂)
   facing₁ =
       record {
-        covers = λ b n e. is-in p₂ (size p₂ m₂) b (later b n e) (omega (arith, blocks-long));
-        blocks = λ b e. not-in p₁ (size p₁ m₁) b (λ h. omega (arith, in-bounds p₂ (size p₂ m₂) b e .0));
+        covers = λ b n e. is-in p₂ _ b (later b n e) (omega (arith, blocks-long));
+        blocks = λ b e. not-in p₁ _ b (λ h. omega (arith, in-bounds p₂ _ b e .0));
         servers-apart = servers-apart;
         queues-apart = λ u v a b e. omega arith;
         lists-apart = λ u v a b e. omega arith;
@@ -77,17 +75,17 @@ module _ (m₁ m₂ : BlockModel) where
       }
     where
       later : (b : ℕ) → Names (length (joinModels m₁ m₂ .blocks)) b → inPart p₁ (size p₁ m₁) b ≡ false → length (m₁ .blocks) < b
-      later b n e = go (leb b (length (m₁ .blocks))) refl
+      later b n e = go _ refl
         where
           go : (c : Bool) → leb b (length (m₁ .blocks)) ≡ c → length (m₁ .blocks) < b
-          go true d = absurd (true≢false (sym (is-in p₁ (size p₁ m₁) b (omega arith) (omega (arith, leb-true))) ∙ e))
+          go true d = absurd (true≢false (sym (is-in p₁ _ b (omega arith) (omega (arith, leb-true))) ∙ e))
           go false d = leb-false _ _ d
 
   pub facing₂ : Facing p₂ m₂ p₁ m₁ (joinModels m₁ m₂)
   facing₂ =
       record {
-        covers = λ b n e. is-in p₁ (size p₁ m₁) b (omega arith) (earlier b n e);
-        blocks = λ b e. not-in p₂ (size p₂ m₂) b (λ h. omega (arith, in-bounds p₁ (size p₁ m₁) b e .1));
+        covers = λ b n e. is-in p₁ _ b (omega arith) (earlier b n e);
+        blocks = λ b e. not-in p₂ _ b (λ h. omega (arith, in-bounds p₁ _ b e .1));
         servers-apart = λ u v a b e. servers-apart v u b a (sym e);
         queues-apart = λ u v a b e. omega arith;
         lists-apart = λ u v a b e. omega arith;
@@ -95,12 +93,12 @@ module _ (m₁ m₂ : BlockModel) where
       }
     where
       earlier : (b : ℕ) → Names (length (joinModels m₁ m₂ .blocks)) b → inPart p₂ (size p₂ m₂) b ≡ false → b ≤ 0 + length (m₁ .blocks)
-      earlier b n e = go (leb b (0 + length (m₁ .blocks))) refl
+      earlier b n e = go _ refl
         where
           go : (c : Bool) → leb b (0 + length (m₁ .blocks)) ≡ c → b ≤ 0 + length (m₁ .blocks)
           go true d = leb-true _ _ d
           go false d =
-              absurd (true≢false (sym (is-in p₂ (size p₂ m₂) b (omega (arith, leb-false)) (omega (arith, blocks-long))) ∙ e))
+              absurd (true≢false (sym (is-in p₂ _ b (omega (arith, leb-false)) (omega (arith, blocks-long))) ∙ e))
 
 -- ---- Blocks of the joined model
 
@@ -135,7 +133,7 @@ any-map p (b ∷ l) = cc (above-in p b, any-map p l)
 any-append : (k l : List Block) → anyOf aboveOne (k ++ l) ≡ (anyOf aboveOne k || anyOf aboveOne l)
 unfolding anyOf
 any-append [] l = refl
-any-append (b ∷ k) l = cc (any-append k l, assoc (aboveOne b) (anyOf aboveOne k) (anyOf aboveOne l))
+any-append (b ∷ k) l = cc (any-append k l, assoc _ _ _)
   where
     assoc : (a b c : Bool) → (a || (b || c)) ≡ ((a || b) || c)
     assoc true b c = refl
@@ -155,13 +153,13 @@ module _ (m₁ m₂ : BlockModel) where
   pub block-first : (b : ℕ) → b ≤ length (m₁ .blocks) → 1 ≤ b → blockAt (joinModels m₁ m₂) b ≡ blockIn q₁ (blockAt m₁ b)
   unfolding joinModels
   block-first b h one =
-      cc (List·getD-append (map (blockIn q₁) (m₁ .blocks)) (map (blockIn q₂) (m₂ .blocks)) (terminate 0) (b - 1) (omega (arith, length-map (m₁ .blocks) (blockIn q₁))), nothing-in q₁, List·getD-map (blockIn q₁) (m₁ .blocks) (b - 1) (terminate 0))
+      cc (List·getD-append (map (blockIn q₁) (m₁ .blocks)) _ _ (b - 1) (omega (arith, length-map (m₁ .blocks) (blockIn q₁))), nothing-in q₁, List·getD-map (blockIn q₁) _ _ _)
 
   -- also behind the last
   pub block-second : (b : ℕ) → 1 ≤ b → blockAt (joinModels m₁ m₂) (b + length (m₁ .blocks)) ≡ blockIn q₂ (blockAt m₂ b)
   unfolding joinModels
   block-second b one =
-      cc (index, getD-behind (map (blockIn q₁) (m₁ .blocks)) (map (blockIn q₂) (m₂ .blocks)) (b - 1) (terminate 0), nothing-in q₂, List·getD-map (blockIn q₂) (m₂ .blocks) (b - 1) (terminate 0))
+      cc (index, getD-behind (map (blockIn q₁) (m₁ .blocks)) _ _ _, nothing-in q₂, List·getD-map (blockIn q₂) _ _ _)
     where
       index : b + length (m₁ .blocks) - 1 ≡ b - 1 + length (map (blockIn q₁) (m₁ .blocks))
       index = omega (arith, length-map (m₁ .blocks) (blockIn q₁))
@@ -169,19 +167,19 @@ module _ (m₁ m₂ : BlockModel) where
   units-both : anyOf aboveOne (m₁ .blocks) ≡ anyOf aboveOne (m₂ .blocks) → anyOf aboveOne (joinModels m₁ m₂ .blocks) ≡ anyOf aboveOne (m₁ .blocks)
   unfolding joinModels
   units-both e =
-      cc (any-append (map (blockIn q₁) (m₁ .blocks)) (map (blockIn q₂) (m₂ .blocks)), any-map q₁ (m₁ .blocks), any-map q₂ (m₂ .blocks), same-or (anyOf aboveOne (m₁ .blocks)) (anyOf aboveOne (m₂ .blocks)) e)
+      cc (any-append _ _, any-map q₁ _, any-map q₂ _, same-or _ _ e)
 
   -- ---- Back counts
 
   pub back-first : (b : ℕ) → 1 ≤ b → b ≤ length (m₁ .blocks) → backAt (joinModels m₁ m₂) b ≡ backAt m₁ b
-  back-first b one h = cc (block-first b h one, back-in q₁ (blockAt m₁ b))
+  back-first b one h = cc (block-first b h one, back-in q₁ _)
 
   pub back-second : (b : ℕ) → 1 ≤ b → backAt (joinModels m₁ m₂) (b + length (m₁ .blocks)) ≡ backAt m₂ b
-  back-second b one = cc (block-second b one, back-in q₂ (blockAt m₂ b))
+  back-second b one = cc (block-second b one, back-in q₂ _)
 
   pub back-past : (m : BlockModel) (b : ℕ) → length (m .blocks) < b → backAt m b ≡ 0
   unfolding facts
-  back-past m b h = ap (λ x. facts x .back) (List·getD-eq-default (m .blocks) (terminate 0) (omega arith))
+  back-past m b h = ap (λ x. facts x .back) (List·getD-eq-default (m .blocks) _ (omega arith))
 
   module _ {t₁ t₂ : List (List ℕ)} (proper₁ : Proper m₁ t₁) (proper₂ : Proper m₂ t₂) where
     -- a block that is so far behind b cannot be closed by a group that begins at or before b
@@ -194,24 +192,24 @@ module _ (m₁ m₂ : BlockModel) where
     begins-first : (b : ℕ) → Names (length (m₁ .blocks)) b → beginsGroup (joinModels m₁ m₂) b ≡ beginsGroup m₁ b
     unfolding beginsGroup
     begins-first b n =
-        cc (upTo-cong (λ c. bit (eqb (backAt (joinModels m₁ m₂) (b + c)) c)) (λ c. bit (eqb (backAt m₁ (b + c)) c)) maxBack (λ c low high. ap bit (same c low)))
+        cc (upTo-cong (λ c. bit (eqb _ c)) (λ c. bit (eqb _ c)) maxBack (λ c low high. ap bit (same c low)))
       where
         same : (c : ℕ) → 1 ≤ c → eqb (backAt (joinModels m₁ m₂) (b + c)) c ≡ eqb (backAt m₁ (b + c)) c
-        same c low = go (leb (b + c) (length (m₁ .blocks))) refl
+        same c low = go _ refl
           where
             go : (x : Bool) → leb (b + c) (length (m₁ .blocks)) ≡ x → eqb (backAt (joinModels m₁ m₂) (b + c)) c ≡ eqb (backAt m₁ (b + c)) c
             go true e = cc (back-first (b + c) (omega arith) (leb-true _ _ e))
             go false e =
                 let far = leb-false _ _ e in
                 let lt = group-first b c (n .0) (n .1) low far in
-                let z = back-past m₁ (b + c) far in
+                let z = back-past m₁ _ far in
                 cc (ne-eqb (backAt (joinModels m₁ m₂) (b + c)) c (λ d. omega arith), ne-eqb (backAt m₁ (b + c)) c (λ d. omega arith))
 
     begins-second : (b : ℕ) → 1 ≤ b → beginsGroup (joinModels m₁ m₂) (b + length (m₁ .blocks)) ≡ beginsGroup m₂ b
     unfolding beginsGroup
     begins-second b one =
         ap (ltb 0)
-        (upTo-cong (λ c. bit (eqb (backAt (joinModels m₁ m₂) (b + length (m₁ .blocks) + c)) c)) (λ c. bit (eqb (backAt m₂ (b + c)) c)) maxBack
+        (upTo-cong (λ c. bit (eqb _ c)) (λ c. bit (eqb _ c)) maxBack
         (λ c low high. cc (turn b c, back-second (b + c) (omega arith))))
       where
         turn : (b c : ℕ) → b + length (m₁ .blocks) + c ≡ b + c + length (m₁ .blocks)
@@ -249,25 +247,25 @@ module _ (m₁ m₂ : BlockModel) {t₁ t₂ : List (List ℕ)} (proper₁ : Pro
     (units : (m₁ .edition ≡ 1 → ⊥) → anyOf aboveOne (m₁ .blocks) ≡ anyOf aboveOne (m₂ .blocks)) where
   next-block : {m : BlockModel} {t : List (List ℕ)} → Proper m t → (b : ℕ) → Names (length (m .blocks)) b → facts (blockAt m b) .leaves ≡ false → suc b ≤ length (m .blocks)
   next-block {m} proper b n e =
-      let lt = goes-on true (m .blocks) (b - 1) (blocks-placed proper) (omega arith) e in
+      let lt = goes-on true _ _ (blocks-placed proper) (omega arith) e in
       omega arith
 
   pub inside₁ : PlainModel (first m₁ m₂) m₁ → Inside (first m₁ m₂) m₁ (joinModels m₁ m₂)
   unfolding joinModels
   inside₁ plain =
       record {
-        tables = tables (first m₁ m₂) (omega arith) m₁;
-        values = record { lower = []; higher = map (sumIn (second m₁ m₂)) (m₂ .values); all = refl; before = refl; plain = plain .values };
+        tables = tables _ (omega arith) m₁;
+        values = record { lower = []; higher = map _ (m₂ .values); all = refl; before = refl; plain = plain .values };
         edition = refl;
         units = λ n. units-both m₁ m₂ (units n);
         block = λ b n.
-            rw (plus-zero b) (block-first m₁ m₂ b (n .1) (n .0));
+            rw plus-zero (block-first m₁ m₂ b (n .1) (n .0));
         proper = λ b n. proper₁ .block b;
-        plain = λ b n. plain-block (first m₁ m₂) m₁ (blockAt m₁ b) (plain .blocks b);
+        plain = λ b n. plain-block _ m₁ _ (plain .blocks b);
         goes-on = λ b n e. next-block proper₁ b n e;
         goes-back = λ b n. omega (arith, back-within proper₁ b);
-        groups = λ b n. rw (plus-zero b) (begins-first m₁ m₂ proper₁ proper₂ b n);
-        facility = λ f n. in-facility (first m₁ m₂) f (n .1);
+        groups = λ b n. rw plus-zero (begins-first m₁ m₂ proper₁ proper₂ b n);
+        facility = λ f n. in-facility _ f (n .1);
       }
     where
       plus-zero : (b : ℕ) → b + 0 ≡ b
@@ -277,22 +275,22 @@ module _ (m₁ m₂ : BlockModel) {t₁ t₂ : List (List ℕ)} (proper₁ : Pro
   unfolding joinModels
   inside₂ plain =
       record {
-        tables = tables (second m₁ m₂) (omega arith) m₂;
+        tables = tables _ (omega arith) m₂;
         values =
             record {
-              lower = map (sumIn (first m₁ m₂)) (m₁ .values);
+              lower = map _ (m₁ .values);
               higher = [];
-              all = sym (append-nil (map (sumIn (first m₁ m₂)) (m₁ .values) ++ map (sumIn (second m₁ m₂)) (m₂ .values)));
-              before = length-map (m₁ .values) (sumIn (first m₁ m₂));
+              all = sym (append-nil _);
+              before = length-map (m₁ .values) _;
               plain = plain .values;
             };
         edition = editions;
         units = λ n. units-both m₁ m₂ (units (λ e. n (cc (editions, e)))) ∙ units (λ e. n (cc (editions, e)));
         block = λ b n. block-second m₁ m₂ b (n .0);
         proper = λ b n. proper₂ .block b;
-        plain = λ b n. plain-block (second m₁ m₂) m₂ (blockAt m₂ b) (plain .blocks b);
+        plain = λ b n. plain-block _ m₂ _ (plain .blocks b);
         goes-on = λ b n e. next-block proper₂ b n e;
         goes-back = λ b n. omega (arith, back-within proper₂ b);
         groups = λ b n. begins-second m₁ m₂ proper₁ proper₂ b (n .0);
-        facility = λ f n. in-facility (second m₁ m₂) f (n .1);
+        facility = λ f n. in-facility _ f (n .1);
       }

@@ -2,13 +2,13 @@
 use Rattle.machine.specs.All.{ℕ, zero, suc, _≡_, refl, sym, ap, _∙_, Bool, true, false, _&&_, true≢false, List, [], _∷_, map, Option, none, some, arith, Transaction, Event, those, BlockModel, State, setEnd, nextEvents, takeFirst, takeReady, taking, turn, isNone, isEmpty, nobodyLeft, runFrom}
 use Rattle.machine.proofs.decoding.Proper.{Proper}
 use Rattle.joined.specs.{Part}
-use Rattle.joined.proofs.Naming.{Naming, mine, eventAs}
-use Rattle.joined.proofs.Seen.{size, aloneAs, Seen}
-use Rattle.joined.proofs.Inside.{Inside}
-use Rattle.joined.proofs.Ends.{Dries, dry, turns, dries}
-use Rattle.joined.proofs.Paces.{Stands, same, behind, Pace, moving-none}
-use Rattle.joined.proofs.Strangers.{Facing}
-use Rattle.joined.proofs.Simulation.{Sane, sane-turn, Joint, Turns, one, two, whose}
+use Rattle.joined.proofs as our
+use our.Naming.{Naming, mine, eventAs}
+use our.Seen.{size, aloneAs, Seen}
+use our.{Inside.Inside, Strangers.Facing}
+use our.Ends.{Dries, dry, turns, dries}
+use our.Paces.{Stands, same, behind, Pace, moving-none}
+use our.Simulation.{Sane, sane-turn, Joint, Turns, one, two, whose}
 
 -- ---- Nobody is left
 
@@ -20,8 +20,8 @@ pub record Empty (s : State) : Type 0 where
 pub empty-of : (s : State) → nobodyLeft s ≡ true → Empty s
 unfolding nobodyLeft isNone isEmpty
 empty-of s e =
-    let h = three (isNone (s .moving)) (isEmpty (s .rel)) (isEmpty (s .fel)) e in
-    record { moving = none-of (s .moving) (h .0); rel = empty-rel (s .rel) (h .1); fel = empty-fel (s .fel) (h .2) }
+    let h = three _ _ _ e in
+    record { moving = none-of _ (h .0); rel = empty-rel _ (h .1); fel = empty-fel _ (h .2) }
   where
     three : (a b c : Bool) → (a && b && c) ≡ true → (a ≡ true) × (b ≡ true) × (c ≡ true)
     three true true true e = (refl, refl, refl)
@@ -57,7 +57,7 @@ module _ (p : Part) (m M : BlockModel) (I : Inside p m M) where
   -- neither in the part
   empty-there : (N : Naming) (s a : State) → Pace p m N s a → Empty s → Empty a × Seen p m N s a
   unfolding those
-  empty-there N s a h e = go (h .seen-as) (h .stands) (h .seen) (moving-none p m M I (h .moving) (e .moving))
+  empty-there N s a h e = go _ (h .stands) (h .seen) (moving-none p m M I (h .moving) (e .moving))
     where
       go : (b : State) → Stands p m a b → Seen p m N s b → b .moving ≡ none → Empty a × Seen p m N s a
       go b same k o = (
@@ -95,7 +95,7 @@ module _ {M : BlockModel} {tape : List (List ℕ)} (proper : Proper M tape) (p :
       → Both (runFrom n M budget room s) (runFrom k m budget₁ room₁ a) (runFrom k′ m′ budget₂ room₂ b)
   unfolding runFrom
   run-both zero s a b j sane zs za zb k k′ e e₁ e₂ = absurd (omega arith)
-  run-both (suc n) s a b j sane zs za zb k k′ e e₁ e₂ = go (dries M budget room (suc n) s zs e) (dries m budget₁ room₁ k a za e₁) (dries m′ budget₂ room₂ k′ b zb e₂) e e₁ e₂ (run-both n)
+  run-both (suc n) s a b j sane zs za zb k k′ e e₁ e₂ = go (dries M budget room _ s zs e) (dries m budget₁ room₁ k a za e₁) (dries m′ budget₂ room₂ k′ b zb e₂) e e₁ e₂ (run-both n)
     where
       Rest : Type 0
       Rest =
@@ -115,24 +115,23 @@ module _ {M : BlockModel} {tape : List (List ℕ)} (proper : Proper M tape) (p :
           → Both (runFrom n M budget room (turn M s)) (runFrom k m budget₁ room₁ a) (runFrom k′ m′ budget₂ room₂ b)
       first-on zt t taken next (dry left q) f f₁ f₂ rest = absurd (somebody a t taken left)
       first-on zt t taken next (turns {k = i} left z q) f f₁ f₂ rest =
-          rw q (rest (turn M s) (turn m a) b (next z) (sane-turn proper s zs sane) zt z zb i k′ f (ap (λ (x : State). x .end) (sym q) ∙ f₁) f₂)
+          rw q (rest _ _ b (next z) (sane-turn proper s zs sane) zt z zb i k′ f (ap (λ (x : State). x .end) (sym q) ∙ f₁) f₂)
 
       second-on : turn M s .end ≡ 0 → (t : Transaction) → taking (b .moving) b .moving ≡ some t → (turn m′ b .end ≡ 0 → Joint p m p′ m′ (turn M s) a (turn m′ b)) → {k′ : ℕ} → Dries m′ budget₂ room₂ b k′
           → runFrom n M budget room (turn M s) .end ≡ 1 → runFrom k m budget₁ room₁ a .end ≡ 1 → runFrom k′ m′ budget₂ room₂ b .end ≡ 1 → Rest
           → Both (runFrom n M budget room (turn M s)) (runFrom k m budget₁ room₁ a) (runFrom k′ m′ budget₂ room₂ b)
       second-on zt t taken next (dry left q) f f₁ f₂ rest = absurd (somebody b t taken left)
       second-on zt t taken next (turns {k = i} left z q) f f₁ f₂ rest =
-          rw q (rest (turn M s) a (turn m′ b) (next z) (sane-turn proper s zs sane) zt za z k i f f₁ (ap (λ (x : State). x .end) (sym q) ∙ f₂))
+          rw q (rest _ a _ (next z) (sane-turn proper s zs sane) zt za z k i f f₁ (ap (λ (x : State). x .end) (sym q) ∙ f₂))
 
       go : Dries M budget room s (suc n) → Dries m budget₁ room₁ a k → Dries m′ budget₂ room₂ b k′
           → runFrom (suc n) M budget room s .end ≡ 1 → runFrom k m budget₁ room₁ a .end ≡ 1 → runFrom k′ m′ budget₂ room₂ b .end ≡ 1 → Rest
           → Both (runFrom (suc n) M budget room s) (runFrom k m budget₁ room₁ a) (runFrom k′ m′ budget₂ room₂ b)
       go (dry left q) d₁ d₂ f f₁ f₂ rest =
           let empty = empty-of s left in
-          rw q (record { first = last-of p m M I budget₁ room₁ (j .naming) s a (j .rolls .nobody) (j .pace) empty d₁; second = last-of p′ m′ M I′ budget₂ room₂ (j .naming′) s b (j .rolls .nobody′) (j .pace′) empty d₂ })
+          rw q (record { first = last-of p m M I budget₁ room₁ _ s a (j .rolls .nobody) (j .pace) empty d₁; second = last-of p′ m′ M I′ budget₂ room₂ _ s b (j .rolls .nobody′) (j .pace′) empty d₂ })
       go (turns left zt q) d₁ d₂ f f₁ f₂ rest =
-          let f′ = ap (λ (x : State). x .end) (sym q) ∙ f in
-          rw q (next (whose proper p m p′ m′ I I′ F F′ s a b j zs sane left zt) f′)
+          rw q (next (whose proper p m p′ m′ I I′ F F′ s a b j zs sane left zt) (ap (λ (x : State). x .end) (sym q) ∙ f))
         where
           next : Turns proper p m p′ m′ I I′ F F′ s a b → runFrom n M budget room (turn M s) .end ≡ 1
               → Both (runFrom n M budget room (turn M s)) (runFrom k m budget₁ room₁ a) (runFrom k′ m′ budget₂ room₂ b)

@@ -1,24 +1,14 @@
 -- The starts of the joined run and of its parts are related.
 use Rattle.machine.specs.All.{ℕ, zero, suc, _+_, _-_, _*_, _≤_, _<_, _≡_, refl, sym, _∙_, subst, true, false, true≢false, List, [], _++_, map, none, arith, length, getD, replicate, length-replicate, length-append, length-map, getD-replicate, List·getD-append, List·getD-map, Transaction, Gatherer, those, idleServer, emptyQueue, Block, terminate, BlockModel, State, startAt, idle, start, waitsOn, Each}
 use Rattle.machine.proofs.decoding.Proper.{Names, servers, ProperBlock, Proper}
-use Rattle.machine.proofs.runs.Shape.{wel-below}
-use Rattle.machine.proofs.nobody_able.WaitsKept.{waits-start}
+use Rattle.machine.proofs.{runs.Shape.wel-below, nobody_able.WaitsKept.waits-start}
 use Rattle.joined.specs.{Part, first, second, serverIn, blockIn, joinModels, joinTapes}
-use Rattle.joined.proofs.Terms.{getD-behind}
-use Rattle.joined.proofs.Ranks.{rank-zero, nobody, listed-within}
-use Rattle.joined.proofs.Naming.{Naming}
-use Rattle.joined.proofs.Seen.{Alike, SameServer}
-use Rattle.joined.proofs.Inside.{Inside}
-use Rattle.joined.proofs.OwnMoves.{Together}
-use Rattle.joined.proofs.OwnMakes.{After}
-use Rattle.joined.proofs.OwnEffect.{in-part}
-use Rattle.joined.proofs.OtherEffect.{nobody as nobodyMoves}
-use Rattle.joined.proofs.Paces.{Moving, away, level, same, Pace, rebased, rebase}
-use Rattle.joined.proofs.Strangers.{Facing, outside-in}
-use Rattle.joined.proofs.Simulation.{Joint}
-use Rattle.joined.proofs.Start.{Starting, startAt-gates, startAt-append, others-start, own-start}
-use Rattle.joined.proofs.Numbering.{Place, facility, storage, place}
-use Rattle.joined.proofs.Instance.{blocks-long, servers-long}
+use Rattle.joined.proofs as our
+use our.{Terms.getD-behind, Naming.Naming, Seen.Alike, Seen.SameServer, Inside.Inside, OwnMoves.Together, OwnMakes.After, OwnEffect.in-part, OtherEffect.nobody as nobodyMoves, Strangers.Facing, Strangers.outside-in, Simulation.Joint, Instance.blocks-long, Instance.servers-long}
+use our.Ranks.{rank-zero, nobody, listed-within}
+use our.Paces.{away, level, same, Pace, rebased, rebase}
+use our.Start.{Starting, startAt-gates, startAt-append, others-start, own-start}
+use our.Numbering.{Place, facility, storage, place}
 
 -- ---- The empty machine
 
@@ -52,14 +42,14 @@ module _ (p : Part) (m M : BlockModel) (tape tape′ : List (List ℕ)) (R : Roo
       → SameServer p m nobodyYet (getD (replicate (M .facilities) (idleServer 1) ++ map idleServer (M .capacities)) (serverIn p u - 1) (idleServer 0))
       (getD (replicate (m .facilities) (idleServer 1) ++ map idleServer (m .capacities)) (u - 1) (idleServer 0))
   servers-same u i =
-      rw (row M (serverIn p u - 1)) (subst (SameServer p m nobodyYet (idleServer (getD (capacities M) (serverIn p u - 1) 0))) (sym (row m (u - 1))) (unfold idleServer in record { capacity = (R .capacity u i); inUse = refl; holder = sym (rank-zero (λ k. false)); preempted = refl; holder-named = nobody refl }))
+      rw row (rw (row m (u - 1)) (unfold idleServer in record { capacity = (R .capacity u i); inUse = refl; holder = sym (rank-zero (λ k. false)); preempted = refl; holder-named = nobody refl }))
     where
       row : (m : BlockModel) (i : ℕ) → getD (replicate (m .facilities) (idleServer 1) ++ map idleServer (m .capacities)) i (idleServer 0) ≡ idleServer (getD (capacities m) i 0)
-      row m i = cc (idle-servers (m .facilities) (m .capacities), List·getD-map idleServer (capacities m) i 0)
+      row m i = cc (idle-servers _ _, List·getD-map idleServer _ i 0)
 
   servers-number : (m : BlockModel) → length (replicate (m .facilities) (idleServer 1) ++ map idleServer (m .capacities)) ≡ servers m
   servers-number m =
-      cc (length-append (replicate (m .facilities) (idleServer 1)) (map idleServer (m .capacities)), length-replicate (m .facilities) (idleServer 1), length-map (m .capacities) idleServer)
+      cc (length-append _ _, length-replicate _ _, length-map _ idleServer)
 
   -- empty lists
   none-here : {A : Type 0} (f : A → A) (who : A → Transaction) (n k i j : ℕ) → Alike p m nobodyYet f who (getD (replicate n []) i []) (getD (replicate k []) j [])
@@ -68,7 +58,7 @@ module _ (p : Part) (m M : BlockModel) (tape tape′ : List (List ℕ)) (R : Roo
       (subst (Alike p m nobodyYet f who []) (sym (empty-row k j [])) (record { same = refl; known = tt }))
 
   long : {A : Type 0} (n i : ℕ) (a : A) → i < n → i < length (replicate n a)
-  long n i a h = rw (length-replicate n a) h
+  long n i a h = rw length-replicate h
 
   pub idle-together : Together p m nobodyYet (idle M tape) (idle m tape′)
   unfolding idle those
@@ -81,17 +71,17 @@ module _ (p : Part) (m M : BlockModel) (tape tape′ : List (List ℕ)) (R : Roo
                   record {
                     entries =
                         record {
-                          exists = λ b i. (long {A = ℕ} _ _ 0 (R .blocks b i), long {A = ℕ} (length (m .blocks)) (b - 1) 0 (omega arith));
-                          alike = λ b i. empty-row (length (m .blocks)) (b - 1) 0 ∙ sym (empty-row (length (M .blocks)) (b + p .toBlock - 1) 0);
+                          exists = λ b i. (long {A = ℕ} _ _ 0 (R .blocks b i), long {A = ℕ} (length (m .blocks)) _ 0 (omega arith));
+                          alike = λ b i. empty-row (length (m .blocks)) _ 0 ∙ sym (empty-row (length (M .blocks)) _ 0);
                         };
                     queues =
                         record {
-                          exists = λ q i. (long _ _ emptyQueue (R .queues q i), long (m .queues) (q - 1) emptyQueue (omega arith));
-                          alike = λ q i. cc (empty-row (m .queues) (q - 1) emptyQueue, empty-row (M .queues) (q + p .toQueue - 1) emptyQueue);
+                          exists = λ q i. (long _ _ emptyQueue (R .queues q i), long (m .queues) _ emptyQueue (omega arith));
+                          alike = λ q i. cc (empty-row _ _ emptyQueue, empty-row _ _ emptyQueue);
                         };
                     servers =
                         record {
-                          exists = λ u i. (omega (arith, servers-number M, R .servers-in u i .0, R .servers-in u i .1), omega (arith, servers-number m, i .1));
+                          exists = λ u i. (omega (arith, servers-number M, R .servers-in u i .0, R .servers-in u i .1), omega (arith, servers-number m));
                           alike = servers-same;
                         };
                     lists = record { exists = R .lists; alike = R .times };
@@ -100,18 +90,18 @@ module _ (p : Part) (m M : BlockModel) (tape tape′ : List (List ℕ)) (R : Roo
                   record {
                     ql =
                         record {
-                          exists = λ u i. (long {A = List Transaction} (servers M) (serverIn p u - 1) [] (omega (arith, R .servers-in u i .0, R .servers-in u i .1)), long {A = List Transaction} (servers m) (u - 1) [] (omega arith));
+                          exists = λ u i. (long {A = List Transaction} (servers M) _ [] (omega (arith, R .servers-in u i .0, R .servers-in u i .1)), long {A = List Transaction} (servers m) _ [] (omega arith));
                           alike = λ u i. none-here _ _ (servers M) (servers m) _ _;
                         };
                     wel =
                         record {
                           exists = λ g i.
-                              (long {A = List Transaction} _ _ [] (wel-below (serverIn p (g .server)) (g .code) (servers M) (R .servers-in (g .server) i .0) (R .servers-in (g .server) i .1)), long {A = List Transaction} _ _ [] (wel-below (g .server) (g .code) (servers m) (i .0) (i .1)));
+                              (long {A = List Transaction} _ _ [] (wel-below _ _ _ (R .servers-in _ i .0) (R .servers-in _ i .1)), long {A = List Transaction} _ _ [] (wel-below _ _ _ (i .0) (i .1)));
                           alike = λ g i. none-here _ _ (servers M * 6) (servers m * 6) _ _;
                         };
                     gatherers =
                         record {
-                          exists = λ b i. (long {A = List Gatherer} _ _ [] (R .blocks b i), long {A = List Gatherer} (length (m .blocks)) (b - 1) [] (omega arith));
+                          exists = λ b i. (long {A = List Gatherer} _ _ [] (R .blocks b i), long {A = List Gatherer} (length (m .blocks)) _ [] (omega arith));
                           alike = λ b i. none-here _ _ (length (M .blocks)) (length (m .blocks)) _ _;
                         };
                   };
@@ -151,11 +141,11 @@ module _ (m₁ m₂ : BlockModel) {t₁ t₂ : List (List ℕ)} (proper₁ : Pro
     where
       go : Place p₁ u → getD (capacities m₁) (u - 1) 0 ≡ getD (replicate (m₁ .facilities + m₂ .facilities) 1 ++ (m₁ .capacities ++ m₂ .capacities)) (serverIn p₁ u - 1) 0
       go (facility h e) =
-          cc (facility-row (m₁ .facilities) (u - 1) (m₁ .capacities) (omega (arith, i .0)), facility-row (m₁ .facilities + m₂ .facilities) (serverIn p₁ u - 1) (m₁ .capacities ++ m₂ .capacities) (omega (arith, i .0)))
+          cc (facility-row (m₁ .facilities) (u - 1) _ (omega arith), facility-row (m₁ .facilities + m₂ .facilities) (serverIn p₁ u - 1) _ (omega arith))
       go (storage h e) =
           let a : u - m₁ .facilities - 1 + m₁ .facilities ≡ u - 1 = omega arith in
           let b : u - m₁ .facilities - 1 + (m₁ .facilities + m₂ .facilities) ≡ serverIn p₁ u - 1 = omega arith in
-          cc (a, storage-row (m₁ .facilities) (u - m₁ .facilities - 1) (m₁ .capacities), List·getD-append (m₁ .capacities) (m₂ .capacities) 0 (u - m₁ .facilities - 1) (omega (arith, i .1)), storage-row (m₁ .facilities + m₂ .facilities) (u - m₁ .facilities - 1) (m₁ .capacities ++ m₂ .capacities), b)
+          cc (a, storage-row (m₁ .facilities) _ _, List·getD-append (m₁ .capacities) (m₂ .capacities) 0 (u - m₁ .facilities - 1) (omega arith), storage-row (m₁ .facilities + m₂ .facilities) _ _, b)
 
   capacity₂ : (u : ℕ) → Names (servers m₂) u → getD (capacities m₂) (u - 1) 0 ≡ getD (capacities (joinModels m₁ m₂)) (serverIn p₂ u - 1) 0
   unfolding joinModels
@@ -167,7 +157,7 @@ module _ (m₁ m₂ : BlockModel) {t₁ t₂ : List (List ℕ)} (proper₁ : Pro
       go (storage h e) =
           let a : u - m₂ .facilities - 1 + m₂ .facilities ≡ u - 1 = omega arith in
           let b : u - m₂ .facilities - 1 + length (m₁ .capacities) + (m₁ .facilities + m₂ .facilities) ≡ serverIn p₂ u - 1 = omega arith in
-          cc (a, storage-row (m₂ .facilities) (u - m₂ .facilities - 1) (m₂ .capacities), getD-behind (m₁ .capacities) (m₂ .capacities) (u - m₂ .facilities - 1) 0, storage-row (m₁ .facilities + m₂ .facilities) (u - m₂ .facilities - 1 + length (m₁ .capacities)) (m₁ .capacities ++ m₂ .capacities), b)
+          cc (a, storage-row (m₂ .facilities) (u - m₂ .facilities - 1) (m₂ .capacities), getD-behind (m₁ .capacities) (m₂ .capacities) (u - m₂ .facilities - 1) 0, storage-row (m₁ .facilities + m₂ .facilities) _ (m₁ .capacities ++ m₂ .capacities), b)
 
   -- a server of a part is one of the joined model
   servers₁ : (u : ℕ) → Names (servers m₁) u → Names (servers (joinModels m₁ m₂)) (serverIn p₁ u)
@@ -188,12 +178,12 @@ module _ (m₁ m₂ : BlockModel) {t₁ t₂ : List (List ℕ)} (proper₁ : Pro
   unfolding joinModels
   rooms₁ =
       record {
-        blocks = λ b i. omega (arith, i .1, blocks-long m₁ m₂);
+        blocks = λ b i. omega (arith, blocks-long m₁ m₂);
         queues = λ q i. omega arith;
         servers-in = servers₁;
-        lists = λ l i. (omega (arith, i .0, i .1, length-append t₁ t₂), omega arith);
+        lists = λ l i. (omega (arith, i .1, length-append t₁ t₂), omega arith);
         capacity = capacity₁;
-        times = λ l i. cc (less l, List·getD-append t₁ t₂ [] (l - 1) (omega (arith, i .0, i .1, proper₁ .tapes)));
+        times = λ l i. cc (less l, List·getD-append t₁ t₂ [] (l - 1) (omega arith));
       }
     where
       less : (l : ℕ) → l + 0 - 1 ≡ l - 1
@@ -203,12 +193,12 @@ module _ (m₁ m₂ : BlockModel) {t₁ t₂ : List (List ℕ)} (proper₁ : Pro
   unfolding joinModels
   rooms₂ =
       record {
-        blocks = λ b i. omega (arith, i .1, blocks-long m₁ m₂);
+        blocks = λ b i. omega (arith, blocks-long m₁ m₂);
         queues = λ q i. omega arith;
         servers-in = servers₂;
-        lists = λ l i. (omega (arith, i .0, i .1, length-append t₁ t₂, proper₂ .tapes), omega arith);
+        lists = λ l i. (omega (arith, i .0, i .1, length-append t₁ t₂), omega arith);
         capacity = capacity₂;
-        times = λ l i. cc (index l (i .0), getD-behind t₁ t₂ (l - 1) []);
+        times = λ l i. cc (index l (i .0), getD-behind t₁ t₂ _ []);
       }
     where
       index : (l : ℕ) → 1 ≤ l → l + m₁ .lists - 1 ≡ l - 1 + length t₁
@@ -225,7 +215,7 @@ module _ (m₁ m₂ : BlockModel) {t₁ t₂ : List (List ℕ)} (proper₁ : Pro
   start-is : start (joinModels m₁ m₂) (joinTapes t₁ t₂) ≡ startAt (1 + length (m₁ .blocks)) (map (blockIn p₂) (m₂ .blocks)) s₁
   unfolding start joinModels
   start-is =
-      cc (startAt-append 1 (map (blockIn p₁) (m₁ .blocks)) (map (blockIn p₂) (m₂ .blocks)) s₀, length-map (m₁ .blocks) (blockIn p₁))
+      cc (startAt-append 1 _ _ s₀, length-map _ _)
 
   no-gates : (i : ℕ) → getD (s₀ .wel) i [] ≡ []
   unfolding idle
@@ -239,32 +229,32 @@ module _ (m₁ m₂ : BlockModel) {t₁ t₂ : List (List ℕ)} (proper₁ : Pro
 
   image-at : (p : Part) (l : List Block) (i : ℕ) → getD (map (blockIn p) l) i (terminate 0) ≡ blockIn p (getD l i (terminate 0))
   unfolding blockIn
-  image-at p l i = List·getD-map (blockIn p) l i (terminate 0)
+  image-at p l i = List·getD-map _ l i _
 
   module _ (I₁ : Inside p₁ m₁ (joinModels m₁ m₂)) (I₂ : Inside p₂ m₂ (joinModels m₁ m₂)) (F₁ : Facing p₁ m₁ p₂ m₂ (joinModels m₁ m₂)) (F₂ : Facing p₂ m₂ p₁ m₁ (joinModels m₁ m₂)) where
     own₁ : After p₁ m₁ nobodyYet s₁ (start m₁ t₁)
     unfolding start
-    own₁ = own-start p₁ m₁ (I₁ .tables) (m₁ .blocks) 1 nobodyYet s₀ (idle m₁ t₁) (omega arith) (omega arith) (λ i lt. at-index proper₁ i) (idle-together p₁ m₁ (joinModels m₁ m₂) (joinTapes t₁ t₂) t₁ rooms₁)
+    own₁ = own-start p₁ m₁ (I₁ .tables) _ 1 nobodyYet s₀ _ (omega arith) (omega arith) (λ i lt. at-index proper₁ i) (idle-together p₁ m₁ _ _ t₁ rooms₁)
 
     first-start : Starting p₁ m₁ (I₁ .tables) (own₁ .naming) (startAt (1 + length (m₁ .blocks)) (map (blockIn p₂) (m₂ .blocks)) s₁) (start m₁ t₁)
     first-start =
-        others-start p₁ m₁ (I₁ .tables) (own₁ .naming) (start m₁ t₁) (map (blockIn p₂) (m₂ .blocks)) (1 + length (m₁ .blocks)) s₁
+        others-start p₁ m₁ _ _ _ _ _ s₁
         (λ i lt. (
-          rw (image-at p₂ (m₂ .blocks) i) (outside-in p₁ m₁ p₂ m₂ (joinModels m₁ m₂) F₁ (getD (m₂ .blocks) i (terminate 0)) (at-index proper₂ i)),
-          F₁ .blocks (1 + length (m₁ .blocks) + i)
-              (rw (number i) at (in-part p₂ m₂ (suc i) (omega arith, omega (arith, length-map (m₂ .blocks) (blockIn p₂))))),
-        )) (record { together = own₁ .together; gates = startAt-gates 1 (map (blockIn p₁) (m₁ .blocks)) s₀ no-gates })
+          rw image-at (outside-in p₁ m₁ p₂ m₂ _ F₁ _ (at-index proper₂ i)),
+          F₁ .blocks _
+              (rw number at (in-part p₂ m₂ (suc i) (omega arith, omega (arith, length-map (m₂ .blocks) (blockIn p₂))))),
+        )) (record { together = own₁ .together; gates = startAt-gates 1 _ s₀ no-gates })
       where
         number : (i : ℕ) → suc i + length (m₁ .blocks) ≡ 1 + length (m₁ .blocks) + i
         number i = omega arith
 
     before₂ : Starting p₂ m₂ (I₂ .tables) nobodyYet s₁ (idle m₂ t₂)
     before₂ =
-        others-start p₂ m₂ (I₂ .tables) nobodyYet (idle m₂ t₂) (map (blockIn p₁) (m₁ .blocks)) 1 s₀
+        others-start p₂ m₂ _ nobodyYet _ _ 1 s₀
         (λ i lt. (
-          rw (image-at p₁ (m₁ .blocks) i) (outside-in p₂ m₂ p₁ m₁ (joinModels m₁ m₂) F₂ (getD (m₁ .blocks) i (terminate 0)) (at-index proper₁ i)),
-          F₂ .blocks (1 + i) (rw (number i) at (in-part p₁ m₁ (suc i) (omega arith, omega (arith, length-map (m₁ .blocks) (blockIn p₁))))),
-        )) (record { together = idle-together p₂ m₂ (joinModels m₁ m₂) (joinTapes t₁ t₂) t₂ rooms₂; gates = no-gates })
+          rw image-at (outside-in p₂ m₂ p₁ m₁ _ F₂ _ (at-index proper₁ i)),
+          F₂ .blocks _ (rw number at (in-part p₁ m₁ (suc i) (omega arith, omega (arith, length-map (m₁ .blocks) (blockIn p₁))))),
+        )) (record { together = idle-together p₂ m₂ _ _ t₂ rooms₂; gates = no-gates })
       where
         number : (i : ℕ) → suc i + 0 ≡ 1 + i
         number i = omega arith
@@ -272,8 +262,8 @@ module _ (m₁ m₂ : BlockModel) {t₁ t₂ : List (List ℕ)} (proper₁ : Pro
     own₂ : After p₂ m₂ (rebased p₂ m₂ nobodyYet (s₁ .made)) (startAt (1 + length (m₁ .blocks)) (map (blockIn p₂) (m₂ .blocks)) s₁) (start m₂ t₂)
     unfolding start
     own₂ =
-        own-start p₂ m₂ (I₂ .tables) (m₂ .blocks) 1 (rebased p₂ m₂ nobodyYet (s₁ .made)) s₁ (idle m₂ t₂) (omega arith) (omega arith) (λ i lt. at-index proper₂ i)
-        (record { seen = rebase p₂ m₂ nobodyYet s₁ (idle m₂ t₂) (before₂ .together .seen); clock = before₂ .together .clock; still = before₂ .together .still })
+        own-start p₂ m₂ (I₂ .tables) _ 1 _ s₁ _ (omega arith) (omega arith) (λ i lt. at-index proper₂ i)
+        (record { seen = rebase p₂ m₂ nobodyYet s₁ _ (before₂ .together .seen); clock = before₂ .together .clock; still = before₂ .together .still })
 
     -- everybody on the WSL of a start waits on: nobody is there
     holding : (m : BlockModel) (t : List (List ℕ)) → start m t .moving ≡ none → start m t .end ≡ 0 → Each (λ u. waitsOn m (start m t .view) u ≡ true) (start m t .wsl)
@@ -286,7 +276,7 @@ module _ (m₁ m₂ : BlockModel) {t₁ t₂ : List (List ℕ)} (proper₁ : Pro
           stands = same;
           seen = h .seen;
           moving =
-              rw (h .still .0) (subst (Moving p m N none) (sym (h .still .1)) (away nobodyMoves));
+              rw (h .still .0) (rw (h .still .1) (away nobodyMoves));
           clocked = level (h .clock);
           holding = holding m t (h .still .1) z;
         }
@@ -296,13 +286,12 @@ module _ (m₁ m₂ : BlockModel) {t₁ t₂ : List (List ℕ)} (proper₁ : Pro
         rw start-is (record {
           naming = own₁ .naming;
           naming′ = own₂ .naming;
-          pace = pace-of p₁ m₁ (own₁ .naming) _ t₁ (first-start .together) z₁;
-          pace′ = pace-of p₂ m₂ (own₂ .naming) _ t₂ (own₂ .together) z₂;
+          pace = pace-of p₁ m₁ _ _ t₁ (first-start .together) z₁;
+          pace′ = pace-of p₂ m₂ _ _ t₂ (own₂ .together) z₂;
           rolls =
               record {
                 disjoint = λ k a b.
-                    let early = listed-within (own₁ .naming .numbers) (s₁ .made) k (own₁ .together .seen .counted .numbers-upto) a in
-                    true≢false (sym b ∙ own₂ .keeps .numbers k early);
+                    true≢false (sym b ∙ own₂ .keeps .numbers k (listed-within (own₁ .naming .numbers) (s₁ .made) k (own₁ .together .seen .counted .numbers-upto) a));
                 nobody = own₁ .keeps .numbers 0 (omega arith);
                 nobody′ = own₂ .keeps .numbers 0 (omega arith);
               };

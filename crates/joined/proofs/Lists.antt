@@ -1,5 +1,5 @@
 -- Part of a sorted list, and a list whose members are renamed: insertion, selection and replacement go through both.
-use Rattle.machine.specs.All.{cases, ℕ, _<_, _≤_, _≡_, refl, sym, subst, Bool, true, false, cond, _&&_, _||_, true≢false, _⊎_, inl, inr, List, [], _∷_, _++_, map, reverse, reverseAux, arith, ltb, eqb, take, drop, ltb-true, ltb-false, lt-ltb, eqb-true, eqb-false, eq-eqb, Transaction, precedes, Event, earlier, insert, those, replaceFirst, Each}
+use Rattle.machine.specs.All.{cases, ℕ, _<_, _≤_, _≡_, refl, sym, Bool, true, false, cond, _&&_, _||_, true≢false, _⊎_, inl, inr, List, [], _∷_, _++_, map, reverse, reverseAux, arith, ltb, eqb, take, drop, ltb-true, ltb-false, lt-ltb, eqb-true, eqb-false, eq-eqb, Transaction, precedes, Event, earlier, insert, those, replaceFirst, Each}
 use Rattle.machine.proofs.runs.RunLaws.{cond-cases, each-map}
 use Rattle.machine.proofs.lists.Sorted.{Sorted, each-those, each-insert, each-replace, Before, precedes-before, before-precedes}
 
@@ -8,7 +8,7 @@ no-true true h = absurd (h refl)
 no-true false h = refl
 
 pub strictly : (a b : ℕ) → a ≤ b → (a ≡ b → ⊥) → a < b
-strictly a b h n = cases (ltb a b) (λ e. ltb-true a b e) (λ e. omega arith)
+strictly a b h n = cases _ (λ e. ltb-true a b e) (λ e. omega arith)
 
 -- ---- Renamed
 
@@ -17,7 +17,7 @@ module _ {A B : Type 0} (f : A → B) where
       → insert before (f x) (map f l) ≡ map f (insert before′ x l)
   unfolding insert
   insert-map before before′ x [] h = refl
-  insert-map before before′ x (y ∷ l) h = go (before′ x y) (h .0) (insert-map before before′ x l (h .1))
+  insert-map before before′ x (y ∷ l) h = go _ (h .0) (insert-map before before′ x l (h .1))
     where
       go : (b : Bool) → before (f x) (f y) ≡ b → insert before (f x) (map f l) ≡ map f (insert before′ x l)
           → cond (before (f x) (f y)) (f x ∷ f y ∷ map f l) (f y ∷ insert before (f x) (map f l)) ≡ map f (cond b (x ∷ y ∷ l) (y ∷ insert before′ x l))
@@ -27,7 +27,7 @@ module _ {A B : Type 0} (f : A → B) where
   pub those-map : (p : B → Bool) (q : A → Bool) (l : List A) → Each (λ x. p (f x) ≡ q x) l → those p (map f l) ≡ map f (those q l)
   unfolding those
   those-map p q [] h = refl
-  those-map p q (x ∷ l) h = go (q x) (h .0) (those-map p q l (h .1))
+  those-map p q (x ∷ l) h = go _ (h .0) (those-map p q l (h .1))
     where
       go : (b : Bool) → p (f x) ≡ b → those p (map f l) ≡ map f (those q l) → cond (p (f x)) (f x ∷ those p (map f l)) (those p (map f l)) ≡ map f (cond b (x ∷ those q l) (those q l))
       go true e k = cc
@@ -37,7 +37,7 @@ module _ {A B : Type 0} (f : A → B) where
       → replaceFirst p (map f few) (map f l) ≡ map f (replaceFirst q few l)
   unfolding replaceFirst
   replace-map p q few [] h = refl
-  replace-map p q few (x ∷ l) h = go (q x) (h .0) (replace-map p q few l (h .1))
+  replace-map p q few (x ∷ l) h = go _ (h .0) (replace-map p q few l (h .1))
     where
       join : (k : List A) → map f k ++ map f l ≡ map f (k ++ l)
       join [] = refl
@@ -58,7 +58,7 @@ module _ {A B : Type 0} (f : A → B) where
 
   reverse-aux-map : (l r : List A) → reverseAux (map f l) (map f r) ≡ map f (reverseAux l r)
   reverse-aux-map [] r = refl
-  reverse-aux-map (x ∷ l) r = reverse-aux-map l (x ∷ r)
+  reverse-aux-map (x ∷ l) r = reverse-aux-map l _
 
   pub reverse-map : (l : List A) → reverse (map f l) ≡ map f (reverse l)
   reverse-map l = reverse-aux-map l []
@@ -81,21 +81,19 @@ module _ {A : Type 0} (p : A → Bool) where
   unfolding insert those
   those-insert-other before x [] e = rw e
   those-insert-other before x (y ∷ l) e =
-      let rest = those-insert-other before x l e in
-      cond-cases (λ k. those p k ≡ cond (p y) (y ∷ those p l) (those p l)) (before x y) _ _ (λ d. rw e) (λ d. rw rest)
+      cond-cases (λ k. those p k ≡ cond (p y) (y ∷ those p l) (those p l)) (before x y) _ _ (λ d. rw e) (λ d. rw (those-insert-other before x l e))
 
   pub those-replace-other : (q : A → Bool) (l : List A) → Each (λ x. q x ≡ true → p x ≡ false) l → those p (replaceFirst q [] l) ≡ those p l
   unfolding replaceFirst those
   those-replace-other q [] h = refl
   those-replace-other q (x ∷ l) h =
-      let rest = those-replace-other q l (h .1) in
-      cond-cases (λ k. those p k ≡ cond (p x) (x ∷ those p l) (those p l)) (q x) _ _ (λ e. rw (h .0 e)) (λ e. rw rest)
+      cond-cases (λ k. those p k ≡ cond (p x) (x ∷ those p l) (those p l)) (q x) _ _ (λ e. rw (h .0 e)) (λ e. rw (those-replace-other q l (h .1)))
 
   -- only such members are replaced
   pub those-replace : (q : A → Bool) (l : List A) → Each (λ x. q x ≡ true → p x ≡ true) l → those p (replaceFirst q [] l) ≡ replaceFirst q [] (those p l)
   unfolding replaceFirst those
   those-replace q [] h = refl
-  those-replace q (x ∷ l) h = go (q x) refl (p x) refl (those-replace q l (h .1))
+  those-replace q (x ∷ l) h = go _ refl _ refl (those-replace q l (h .1))
     where
       go : (b : Bool) → q x ≡ b → (c : Bool) → p x ≡ c → those p (replaceFirst q [] l) ≡ replaceFirst q [] (those p l)
           → those p (cond b l (x ∷ replaceFirst q [] l)) ≡ replaceFirst q [] (cond c (x ∷ those p l) (those p l))
@@ -108,7 +106,7 @@ module _ {A : Type 0} (p : A → Bool) where
   pub those-those : (q : A → Bool) (l : List A) → those p (those q l) ≡ those q (those p l)
   unfolding those
   those-those q [] = refl
-  those-those q (x ∷ l) = go (q x) refl (p x) refl (those-those q l)
+  those-those q (x ∷ l) = go _ refl _ refl (those-those q l)
     where
       go : (b : Bool) → q x ≡ b → (c : Bool) → p x ≡ c → those p (those q l) ≡ those q (those p l)
           → those p (cond b (x ∷ those q l) (those q l)) ≡ those q (cond c (x ∷ those p l) (those p l))
@@ -143,11 +141,11 @@ module _ {A : Type 0} (before : A → A → Bool) (O : Order before) where
   pub those-insert : (p : A → Bool) (x : A) (l : List A) → Sorted before l → p x ≡ true → those p (insert before x l) ≡ insert before x (those p l)
   unfolding insert those
   those-insert p x [] h d = cc
-  those-insert p x (y ∷ l) h d = go (before x y) refl (p y) refl (those-insert p x l (h .1) d)
+  those-insert p x (y ∷ l) h d = go _ refl _ refl (those-insert p x l (h .1) d)
     where
       go : (b : Bool) → before x y ≡ b → (c : Bool) → p y ≡ c → those p (insert before x l) ≡ insert before x (those p l)
           → those p (cond b (x ∷ y ∷ l) (y ∷ insert before x l)) ≡ insert before x (cond c (y ∷ those p l) (those p l))
-      go true e c q k = rw d (rw (q, ← insert-front x _ (subst (λ (b : Bool). Each (λ z. before x z ≡ true) (cond b (y ∷ those p l) (those p l))) q (each-those (λ z. before x z ≡ true) p (y ∷ l) (e, each-map (λ z n. O .after x y z e n) l (h .0))))))
+      go true e c q k = rw d (rw (q, ← insert-front x _ (rw q at (each-those (λ z. before x z ≡ true) p (y ∷ l) (e, each-map (λ z n. O .after x y z e n) l (h .0))))))
       go false e true q k = rw (q, e, k)
       go false e false q k = rw (q, k)
 
@@ -169,13 +167,13 @@ sorted-replace before q (x ∷ l) h =
 
 not-before : (a b : Transaction) → precedes a b ≡ false → (a .priority < b .priority) ⊎ ((a .priority ≡ b .priority) × (b .serial ≤ a .serial))
 unfolding precedes
-not-before a b = go (ltb (b .priority) (a .priority)) refl (eqb (a .priority) (b .priority)) refl
+not-before a b = go _ refl _ refl
   where
     go : (h : Bool) → ltb (b .priority) (a .priority) ≡ h → (q : Bool) → eqb (a .priority) (b .priority) ≡ q
         → (h || (q && ltb (a .serial) (b .serial))) ≡ false → (a .priority < b .priority) ⊎ ((a .priority ≡ b .priority) × (b .serial ≤ a .serial))
     go true eh q eq e = absurd (true≢false e)
     go false eh true eq e = inr (eqb-true _ _ eq, ltb-false _ _ e)
-    go false eh false eq e = inl (strictly (a .priority) (b .priority) (ltb-false _ _ eh) (eqb-false _ _ eq))
+    go false eh false eq e = inl (strictly _ _ (ltb-false _ _ eh) (eqb-false _ _ eq))
 
 before-after : (x y z : Transaction) → Before x y → (z .priority < y .priority) ⊎ ((z .priority ≡ y .priority) × (y .serial ≤ z .serial)) → Before x z
 before-after x y z (inl h) (inl k) = inl (omega arith)
@@ -192,12 +190,12 @@ before-asym a b (inr h) (inr k) = omega arith
 pub by-precedence : Order precedes
 by-precedence =
     record {
-      asym = λ x y e. no-true (precedes y x) (λ d. before-asym x y (precedes-before x y e) (precedes-before y x d));
+      asym = λ x y e. no-true _ (λ d. before-asym x y (precedes-before x y e) (precedes-before y x d));
       after = λ x y z e d. before-precedes x z (before-after x y z (precedes-before x y e) (not-before z y d));
     }
 
 pub by-holder : {A : Type 0} (who : A → Transaction) → Order (λ a b. precedes (who a) (who b))
-by-holder who = record { asym = λ x y. by-precedence .asym (who x) (who y); after = λ x y z. by-precedence .after (who x) (who y) (who z) }
+by-holder who = record { asym = λ x y. by-precedence .asym _ _; after = λ x y z. by-precedence .after _ _ _ }
 
 -- the FEL's order, as a statement
 data Sooner (a b : Event) : Type 0 where
@@ -206,7 +204,7 @@ data Sooner (a b : Event) : Type 0 where
 
 earlier-sooner : (a b : Event) → earlier a b ≡ true → Sooner a b
 unfolding earlier
-earlier-sooner a b = go (ltb (a .time) (b .time)) refl (eqb (a .time) (b .time)) refl
+earlier-sooner a b = go _ refl _ refl
   where
     go : (x : Bool) → ltb (a .time) (b .time) ≡ x → (y : Bool) → eqb (a .time) (b .time) ≡ y → (x || (y && precedes (a .who) (b .who))) ≡ true → Sooner a b
     go true e y d h = sooner (ltb-true _ _ e)
@@ -216,7 +214,7 @@ earlier-sooner a b = go (ltb (a .time) (b .time)) refl (eqb (a .time) (b .time))
 sooner-earlier : (a b : Event) → Sooner a b → earlier a b ≡ true
 unfolding earlier
 sooner-earlier a b (sooner h) = rw lt-ltb
-sooner-earlier a b (tied e h) = go (ltb (a .time) (b .time))
+sooner-earlier a b (tied e h) = go (ltb (a .time) _)
   where
     go : (x : Bool) → (x || (eqb (a .time) (b .time) && precedes (a .who) (b .who))) ≡ true
     go true = refl
@@ -224,29 +222,29 @@ sooner-earlier a b (tied e h) = go (ltb (a .time) (b .time))
 
 not-sooner : (a b : Event) → earlier a b ≡ false → (b .time < a .time) ⊎ ((a .time ≡ b .time) × (precedes (a .who) (b .who) ≡ false))
 unfolding earlier
-not-sooner a b = go (ltb (a .time) (b .time)) refl (eqb (a .time) (b .time)) refl
+not-sooner a b = go _ refl _ refl
   where
     go : (x : Bool) → ltb (a .time) (b .time) ≡ x → (y : Bool) → eqb (a .time) (b .time) ≡ y → (x || (y && precedes (a .who) (b .who))) ≡ false
         → (b .time < a .time) ⊎ ((a .time ≡ b .time) × (precedes (a .who) (b .who) ≡ false))
     go true e y d h = absurd (true≢false h)
     go false e true d h = inr (eqb-true _ _ d, h)
-    go false e false d h = inl (strictly (b .time) (a .time) (ltb-false _ _ e) (λ q. eqb-false _ _ d (sym q)))
+    go false e false d h = inl (strictly _ _ (ltb-false _ _ e) (λ q. eqb-false _ _ d (sym q)))
 
 sooner-after : (x y z : Event) → Sooner x y → (y .time < z .time) ⊎ ((z .time ≡ y .time) × (precedes (z .who) (y .who) ≡ false)) → Sooner x z
 sooner-after x y z (sooner h) (inl k) = sooner (omega arith)
 sooner-after x y z (sooner h) (inr k) = sooner (omega arith)
 sooner-after x y z (tied e h) (inl k) = sooner (omega arith)
-sooner-after x y z (tied e h) (inr k) = tied (cc (e, k .0)) (by-precedence .after (x .who) (y .who) (z .who) h (k .1))
+sooner-after x y z (tied e h) (inr k) = tied (cc (e, k .0)) (by-precedence .after _ _ _ h (k .1))
 
 sooner-asym : (x y : Event) → Sooner x y → Sooner y x → ⊥
 sooner-asym x y (sooner h) (sooner k) = omega arith
 sooner-asym x y (sooner h) (tied e k) = omega arith
 sooner-asym x y (tied e h) (sooner k) = omega arith
-sooner-asym x y (tied e h) (tied d k) = true≢false (cc (k, by-precedence .asym (x .who) (y .who) h))
+sooner-asym x y (tied e h) (tied d k) = true≢false (cc (k, by-precedence .asym _ _ h))
 
 pub by-time : Order earlier
 by-time =
     record {
-      asym = λ x y e. no-true (earlier y x) (λ d. sooner-asym x y (earlier-sooner x y e) (earlier-sooner y x d));
+      asym = λ x y e. no-true _ (λ d. sooner-asym x y (earlier-sooner x y e) (earlier-sooner y x d));
       after = λ x y z e d. sooner-earlier x z (sooner-after x y z (earlier-sooner x y e) (not-sooner z y d));
     }

@@ -1,15 +1,10 @@
 -- What an accepted model's terms name exists: blocks, queues, servers and values are in their ranges. Without the clock term they are plain.
-use Rattle.machine.specs.All.{ℕ, zero, suc, _+_, _-_, _≤_, _≡_, refl, Bool, true, false, cond, _&&_, true≢false, List, [], _∷_, arith, leb-true, T, leb, ltb, eqb, length, Rules, anyOf, Term, constant, minusConstant, parameter, clockTerm, entriesOf, contentOf, unitsInUse, unitsFree, facilityInUse, value, comparison, bracket, Sum, nothing, plus, minus, Block, terminate, facts, BlockModel, Parsed, parsed, refused, Parser, Counts, simpleTerm, number, blockTerm, counted, mentioned, valueNumber, sumTerms, sumField, bracketField, comparisonField, mentionField, taggedTerm, valueTerm, valueField, inValue, valueFields, modelFields, atEnd, wellPlaced, targetsMove, joined, termNames, sumNames, allOf, wellFormed, beginning, modelOf, tapeOf, Validation, accept, reject, withTape, withModel, validate, Each}
+use Rattle.machine.specs.All.{ℕ, zero, suc, _+_, _≤_, _≡_, refl, Bool, true, false, cond, _&&_, true≢false, List, [], _∷_, arith, leb-true, T, leb, ltb, eqb, length, Rules, anyOf, Term, constant, minusConstant, parameter, clockTerm, entriesOf, contentOf, unitsInUse, unitsFree, facilityInUse, value, comparison, bracket, Sum, nothing, plus, minus, Block, facts, BlockModel, Parsed, parsed, refused, Parser, Counts, simpleTerm, number, blockTerm, counted, mentioned, valueNumber, sumTerms, sumField, bracketField, comparisonField, mentionField, taggedTerm, valueTerm, valueField, inValue, valueFields, modelFields, atEnd, wellPlaced, termNames, sumNames, allOf, wellFormed, beginning, modelOf, Validation, accept, reject, withTape, withModel, validate, Each}
 use Rattle.machine.specs.Limits as Limits
-use Rattle.machine.proofs.decoding.Proper.{Names, servers}
-use Rattle.machine.proofs.runs.RunLaws.{cond-cases, each-map, or-false}
+use Rattle.machine.proofs.{decoding.Proper.Names, decoding.Proper.servers, runs.RunLaws.cond-cases, runs.RunLaws.each-map, runs.RunLaws.or-false, decoding.ProperFrom.block-parsed, decoding.Groups.and-left, decoding.Groups.and-right, runs.Shape.each-getD}
 use Rattle.machine.proofs.decoding.ParserLaws.{Refusal, Gives, Ensures, Any, then, gives, refuses, choice, weaken, repeated, asked, in-range}
-use Rattle.machine.proofs.decoding.ProperFrom.{block-parsed}
-use Rattle.machine.proofs.decoding.Groups.{and-left, and-right}
-use Rattle.machine.proofs.runs.Shape.{each-getD}
 use Rattle.joined.specs.{Part, clockIn, clockInSum, usesClock}
-use Rattle.joined.proofs.Terms.{Plain, PlainSum}
-use Rattle.joined.proofs.Instance.{PlainModel}
+use Rattle.joined.proofs.{Terms.Plain, Terms.PlainSum, Instance.PlainModel}
 
 -- ---- Definition
 
@@ -59,11 +54,11 @@ module _ (read : ℕ → ℕ → Parser ℕ) (reads : (lo hi : ℕ) → Ensures 
       (both (eqb tag 1) (then (reads 0 Limits.maxConstant) (λ k h. gives tt))
       (both (eqb tag 2) (then (reads 1 Limits.parameterCount) (λ k h. gives tt))
       (both (eqb tag 3) (then (reads 0 0) (λ k h. gives tt))
-      (both (eqb tag 4) (then (reads 1 (n .blocks)) (λ k h. gives h))
-      (both (eqb tag 5) (then (reads 1 (n .queues)) (λ k h. gives h))
-      (both (eqb tag 6) (then (reads 1 (n .storages)) (λ k h. gives (omega arith, omega arith)))
-      (both (eqb tag 7) (then (reads 1 (n .storages)) (λ k h. gives (omega arith, omega arith)))
-      (then (reads 1 (n .facilities)) (λ k h. gives (h .0, omega arith))))))))))
+      (both (eqb tag 4) (then (reads 1 _) (λ k h. gives h))
+      (both (eqb tag 5) (then (reads 1 _) (λ k h. gives h))
+      (both (eqb tag 6) (then (reads 1 _) (λ k h. gives (omega arith, omega arith)))
+      (both (eqb tag 7) (then (reads 1 _) (λ k h. gives (omega arith, omega arith)))
+      (then (reads 1 _) (λ k h. gives (h .0, omega arith))))))))))
 
 module _ (s : List ℕ) where
   ranged : (lo hi : ℕ) → Ensures (InRange lo hi) (number s lo hi)
@@ -71,7 +66,7 @@ module _ (s : List ℕ) where
 
   block-term : (n : Counts) → Ensures (Ranged (within n)) (blockTerm s n)
   unfolding blockTerm
-  block-term n = then (ranged 0 9) (λ tag h. both (eqb tag 9) (then (ranged 1 (n .values)) (λ k h. gives h)) (simple-ranged (number s) ranged n tag))
+  block-term n = then (ranged 0 9) (λ tag h. both (eqb tag 9) (then (ranged 1 _) (λ k h. gives h)) (simple-ranged _ ranged n tag))
 
   mentioned-same : (P : ℕ → Type 0) (n : ℕ) → P n → Ensures P (mentioned s n)
   unfolding mentioned
@@ -79,14 +74,14 @@ module _ (s : List ℕ) where
 
   value-number : (lo hi : ℕ) → Ensures (InRange lo hi) (valueNumber s lo hi)
   unfolding valueNumber
-  value-number lo hi = then (ranged lo hi) (λ n h. (unfold counted in record { from = λ c. cond-cases (Gives (InRange lo hi)) (ltb (c .numbers) Limits.maxValueNumbers) _ _ (λ e. h) (λ e. (omega arith, omega arith)) }))
+  value-number lo hi = then (ranged lo hi) (λ n h. (unfold counted in record { from = λ c. cond-cases (Gives _) (ltb (c .numbers) Limits.maxValueNumbers) _ _ (λ e. h) (λ e. (omega arith, omega arith)) }))
 
   module _ (b : Bounds) where
     sum-terms : (n : ℕ) (inner : Parser Term) → Ensures (Ranged b) inner → Ensures (RangedSum b) (sumTerms s n inner)
     unfolding sumTerms
     sum-terms zero inner e = gives tt
     sum-terms (suc n) inner e =
-        then (value-number 0 1) (λ sign h. then e (λ t k. then (sum-terms n inner e) (λ l g. gives (cond-cases (RangedSum b) (eqb sign 0) (plus t l) (minus t l) (λ x. (k, g)) (λ x. (k, g))))))
+        then (value-number 0 1) (λ sign h. then e (λ t k. then (sum-terms n inner e) (λ l g. gives (cond-cases (RangedSum b) (eqb sign 0) _ _ (λ x. (k, g)) (λ x. (k, g))))))
 
     sum-field : (inner : Parser Term) → Ensures (Ranged b) inner → Ensures (RangedSum b) (sumField s inner)
     unfolding sumField
@@ -104,12 +99,12 @@ module _ (s : List ℕ) where
   unfolding taggedTerm
   tagged-term n p q h k =
       then (value-number 0 11)
-      (λ tag g. both (eqb tag 9) (unfold mentionField in then (value-number 1 (n .values)) (λ k h. then (mentioned-same (InRange 1 (n .values)) k h) (λ m g. gives g))) (both (eqb tag 10) h (both (eqb tag 11) k (simple-ranged (valueNumber s) value-number n tag))))
+      (λ tag g. both (eqb tag 9) (unfold mentionField in then (value-number 1 _) (λ k h. then (mentioned-same _ k h) (λ m g. gives g))) (both (eqb tag 10) h (both (eqb tag 11) k (simple-ranged _ value-number n tag))))
 
   value-term : (n : Counts) (d : ℕ) → Ensures (Ranged (within n)) (valueTerm s n d)
   unfolding valueTerm
   value-term n zero = tagged-term n _ _ (refuses 5 (omega arith, omega arith)) (refuses 5 (omega arith, omega arith))
-  value-term n (suc d) = tagged-term n _ _ (comparison-field (within n) _ (value-term n d)) (bracket-field (within n) _ (value-term n d))
+  value-term n (suc d) = tagged-term n _ _ (comparison-field _ _ (value-term n d)) (bracket-field _ _ (value-term n d))
 
 -- ---- Wider bounds
 
@@ -143,14 +138,14 @@ value-fields : (s : List ℕ) (n : Counts) (total left lower : ℕ) → lower + 
 unfolding valueFields valueField
 value-fields s n total zero lower le = gives (refl, tt)
 value-fields s n total (suc left) lower le =
-    then one (λ e h. then (value-fields s n total left (suc lower) (omega arith)) (λ l k. gives (cc (k .0), (h, k .1))))
+    then one (λ e h. then (value-fields s n total left _ (omega arith)) (λ l k. gives (cc (k .0), (h, k .1))))
   where
     one : Ensures (RangedSum (behind n total)) (valueField s (inValue s n lower))
     one =
         record {
           from = λ c.
-              weaken (sum-wider (within (inValue s n lower)) (behind n total) (omega arith) (omega arith) (omega arith) (omega arith))
-              (sum-field s (within (inValue s n lower)) _ (value-term s (inValue s n lower) Limits.maxBrackets)) .from (record { position = c .position; numbers = 0; mentions = 0 });
+              weaken (sum-wider _ (behind n total) (omega arith) (omega arith) (omega arith) (omega arith))
+              (sum-field s _ _ (value-term s (inValue s n lower) Limits.maxBrackets)) .from (record { position = c .position; numbers = 0; mentions = 0 });
         }
 
 abbrev boundsOf : BlockModel → Bounds
@@ -167,12 +162,12 @@ record NamedModel (rules : Rules) (m : BlockModel) : Type 0 where
 model-named : (rules : Rules) (s : List ℕ) → Ensures (NamedModel rules) (modelFields s rules)
 unfolding modelFields
 model-named rules s =
-    then (ranged s 1 (rules .editions)) (λ edition he. then (ranged s 0 Limits.maxFacilities) (λ facilities hf. then (ranged s 0 Limits.maxStorages) (λ storages hs.
+    then (ranged s 1 _) (λ edition he. then (ranged s 0 Limits.maxFacilities) (λ facilities hf. then (ranged s 0 Limits.maxStorages) (λ storages hs.
     then (repeated storages (ranged s 1 Limits.maxCapacity)) (λ capacities hc. then (ranged s 0 Limits.maxQueues) (λ queues hq.
     then (ranged s 0 Limits.maxValues) (λ values hv. then (value-fields s _ values values 0 (omega arith)) (λ sums hm. then (ranged s 0 Limits.maxLists) (λ lists hl.
     then (ranged s 1 Limits.maxCounter) (λ counter hn. then (ranged s 1 Limits.maxBlocks) (λ blocks hb.
     let n : Counts = record { facilities = facilities; storages = storages; queues = queues; values = values; lists = lists; blocks = blocks } in
-    then (repeated blocks (block-parsed s n capacities (Ranged (within n)) (block-term s n) (rules .kinds))) (λ program hp.
+    then (repeated blocks (block-parsed s n capacities _ (block-term s n) _)) (λ program hp.
     let m : BlockModel =
     record { rules = rules; edition = edition; facilities = facilities; capacities = capacities; queues = queues; values = sums; lists = lists; counter = counter; blocks = program } in
     gives
@@ -181,12 +176,12 @@ model-named rules s =
       values =
           each-map
           (λ e g.
-          sum-wider (behind (record { facilities = facilities; storages = storages; queues = queues; values = 0; lists = 0; blocks = 0 }) values) (valueBounds m) (omega arith) (omega arith) (omega arith) (omega arith) e g)
+          sum-wider (behind (record { facilities = facilities; storages = storages; queues = queues; values = 0; lists = 0; blocks = 0 }) values) _ (omega arith) (omega arith) (omega arith) (omega arith) e g)
           sums (hm .1);
       blocks =
           each-map
           (λ b g.
-          each-map (λ t k. term-wider (within n) (boundsOf m) (omega arith) (omega arith) (omega arith) (omega arith) t k) (facts b .terms) (g .1))
+          each-map (λ t k. term-wider _ _ (omega arith) (omega arith) (omega arith) (omega arith) t k) (facts b .terms) (g .1))
           program (hp .1);
     }))))))))))))
 
@@ -203,25 +198,25 @@ with-tape rules m h (refused n) = tt
 
 with-model : (rules : Rules) (tape : List ℕ) (r : Parsed BlockModel) → Gives (NamedModel rules) r → Names-of rules (withModel tape r)
 unfolding withModel
-with-model rules tape (parsed m c) h = with-tape rules m h (tapeOf (m .rules) tape (m .lists) beginning)
+with-model rules tape (parsed m c) h = with-tape rules m h _
 with-model rules tape (refused n) h = tt
 
 at-end : (s : List ℕ) (code : ℕ) → Refusal code → Ensures Any (atEnd s code)
 unfolding atEnd
-at-end s code h = record { from = λ c. weaken (λ u g. tt) (asked (eqb (c .position) (length s)) code h) .from c }
+at-end s code h = record { from = λ c. weaken (λ u g. tt) (asked _ code h) .from c }
 
 model-of : (rules : Rules) (s : List ℕ) → Ensures (NamedModel rules) (modelOf rules s)
 unfolding modelOf
 model-of rules s =
-    then (model-named rules s) (λ m h. then (at-end s 6 (omega arith, omega arith)) (λ u g. then (asked (wellFormed m) 7 (omega arith, omega arith)) (λ u f. gives h)))
+    then (model-named rules s) (λ m h. then (at-end s 6 (omega arith, omega arith)) (λ u g. then (asked _ 7 (omega arith, omega arith)) (λ u f. gives h)))
 
 names-of : (rules : Rules) (model tape : List ℕ) (work report : ℕ) → Names-of rules (validate rules model tape work report)
 unfolding validate
 names-of rules model tape work report =
-    cond-cases (Names-of rules) (leb Limits.workNumbers work) (cond (leb Limits.reportRoom report) (withModel tape (modelOf rules model beginning)) (reject 2)) (reject 1)
+    cond-cases (Names-of rules) (leb Limits.workNumbers work) _ _
     (λ e.
-    cond-cases (Names-of rules) (leb Limits.reportRoom report) (withModel tape (modelOf rules model beginning)) (reject 2)
-    (λ e. with-model rules tape (modelOf rules model beginning) (model-of rules model .from beginning)) (λ e. tt))
+    cond-cases (Names-of rules) (leb Limits.reportRoom report) _ _
+    (λ e. with-model rules tape _ (model-of rules model .from beginning)) (λ e. tt))
     (λ e. tt)
 
 -- ---- Without the clock term
@@ -281,32 +276,32 @@ module _ (p : Part) (m : BlockModel) where
   unfolding allOf anyOf
   plain-values [] h t e = tt
   plain-values (x ∷ l) h t e =
-      let d = or-false (clockInSum x) (anyOf clockInSum l) e in
-      (plain-sum x (sum-exists x (h .0) (and-left (sumNames (length (m .blocks)) x) _ t)) (d .0), plain-values l (h .1) (and-right (sumNames (length (m .blocks)) x) _ t) (d .1))
+      let d = or-false _ _ e in
+      (plain-sum x (sum-exists x (h .0) (and-left (sumNames _ x) _ t)) (d .0), plain-values l (h .1) (and-right (sumNames _ x) _ t) (d .1))
 
   plain-terms : (l : List Term) → Each (Ranged (boundsOf m)) l → anyOf clockIn l ≡ false → Each (Plain p m) l
   unfolding anyOf
   plain-terms [] h e = tt
-  plain-terms (t ∷ l) h e = let d = or-false (clockIn t) (anyOf clockIn l) e in (plain-term t (h .0) (d .0), plain-terms l (h .1) (d .1))
+  plain-terms (t ∷ l) h e = let d = or-false _ _ e in (plain-term t (h .0) (d .0), plain-terms l (h .1) (d .1))
 
   plain-blocks : (l : List Block) → Each (λ b. Each (Ranged (boundsOf m)) (facts b .terms)) l → anyOf (λ b. anyOf clockIn (facts b .terms)) l ≡ false → Each (λ b. Each (Plain p m) (facts b .terms)) l
   unfolding anyOf
   plain-blocks [] h e = tt
   plain-blocks (b ∷ l) h e =
-      let d = or-false (anyOf clockIn (facts b .terms)) (anyOf (λ b. anyOf clockIn (facts b .terms)) l) e in
+      let d = or-false _ (anyOf (λ b. anyOf clockIn (facts b .terms)) l) e in
       (plain-terms (facts b .terms) (h .0) (d .0), plain-blocks l (h .1) (d .1))
 
   plain-model : (rules : Rules) → NamedModel rules m → T (wellFormed m) → usesClock m ≡ false → PlainModel p m
   unfolding usesClock wellFormed facts
   plain-model rules h f e =
-      let d = or-false (anyOf clockInSum (m .values)) (anyOf (λ b. anyOf clockIn (facts b .terms)) (m .blocks)) e in
+      let d = or-false _ (anyOf (λ b. anyOf clockIn _) _) e in
       record {
-        values = plain-values (m .values) (h .values) (third f) (d .0);
-        blocks = λ b. each-getD (λ x. Each (Plain p m) (facts x .terms)) (m .blocks) (b - 1) (terminate 0) (plain-blocks (m .blocks) (h .blocks) (d .1)) tt;
+        values = plain-values _ (h .values) (third f) (d .0);
+        blocks = λ b. each-getD (λ x. Each _ (facts x .terms)) (m .blocks) _ _ (plain-blocks _ (h .blocks) (d .1)) tt;
       }
     where
       third : T (wellFormed m) → T (allOf (sumNames (length (m .blocks))) (m .values))
-      third f = three (wellPlaced true (m .blocks)) (targetsMove m) (allOf (sumNames (length (m .blocks))) (m .values)) (joined 0 (m .blocks)) f
+      third f = three (wellPlaced true _) _ _ _ f
         where
           three : (a b c d : Bool) → T (a && b && c && d) → T c
           three true true true d h = tt

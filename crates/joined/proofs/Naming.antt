@@ -1,11 +1,10 @@
 -- A transaction of the joined run as its part alone has it: block numbered back, number and serial by rank. Orders, lines and waking go through.
 use Rattle.machine.specs.All.{ℕ, _-_, _≡_, refl, Bool, true, false, cond, List, [], _∷_, map, reverse, eqb, Transaction, precedes, Event, earlier, Gatherer, insert, those, withReturning, lineUp, fromBack, wake, inFamily, Each}
-use Rattle.machine.proofs.runs.RunLaws.{each-map}
-use Rattle.machine.proofs.lists.Sorted.{Sorted, sorted-in, each-insert}
-use Rattle.machine.proofs.lists.Lines.{meets}
+use Rattle.machine.proofs.{runs.RunLaws.each-map, lists.Sorted.Sorted, lists.Sorted.sorted-in, lists.Sorted.each-insert, lists.Lines.meets}
 use Rattle.joined.specs.{Part, inPart}
-use Rattle.joined.proofs.Lists.{insert-map, reverse-map, all-same, those-insert, those-insert-other, by-precedence}
-use Rattle.joined.proofs.Ranks.{Roll, rankIn, rank-ltb, rank-eqb, listed}
+use Rattle.joined.proofs as our
+use our.Lists.{insert-map, reverse-map, all-same, those-insert, those-insert-other, by-precedence}
+use our.Ranks.{Roll, rankIn, rank-ltb, rank-eqb, listed}
 
 -- ---- Definition
 
@@ -62,21 +61,21 @@ module _ (p : Part) (n : ℕ) where
     pub precedes-seen : (a b : Transaction) → Known N a → Known N b → precedes (seenAs N a) (seenAs N b) ≡ precedes a b
     unfolding precedes
     precedes-seen a b h k =
-        cc (rank-ltb (N .serials) (a .serial) (b .serial) (h .serial) (k .serial))
+        cc (rank-ltb _ _ _ (h .serial) (k .serial))
 
     pub earlier-seen : (a b : Event) → Known N (a .who) → Known N (b .who) → earlier (eventAs a) (eventAs b) ≡ earlier a b
     unfolding earlier
     earlier-seen a b h k =
-        cc (precedes-seen (a .who) (b .who) h k)
+        cc (precedes-seen _ _ h k)
 
     pub family-seen : (t : Transaction) (g : Gatherer) → Known N t → Known N (g .who) → inFamily (seenAs N t) (gathererAs g) ≡ inFamily t g
     unfolding inFamily
-    family-seen t g h k = rank-eqb (N .numbers) (g .who .family) (t .family) (listed (k .family)) (listed (h .family))
+    family-seen t g h k = rank-eqb _ _ _ (listed (k .family)) (listed (h .family))
 
     -- ---- Onto a line
 
     pub insert-seen : (t : Transaction) (l : List Transaction) → Known N t → Each (Known N) l → insert precedes (seenAs N t) (map (seenAs N) l) ≡ map (seenAs N) (insert precedes t l)
-    insert-seen t l h k = insert-map (seenAs N) precedes precedes t l (each-map (λ u q. precedes-seen t u h q) l k)
+    insert-seen t l h k = insert-map _ precedes precedes t l (each-map (λ u q. precedes-seen t u h q) l k)
 
     pub lineUp-seen : (edition : ℕ) (t : Transaction) (l : List Transaction) → Known N t → Each (Known N) l → lineUp edition (seenAs N t) (map (seenAs N) l) ≡ map (seenAs N) (lineUp edition t l)
     unfolding lineUp fromBack
@@ -86,16 +85,16 @@ module _ (p : Part) (n : ℕ) where
             ≡ map (seenAs N) (cond a (insert precedes t l) (cond b (t ∷ l) (reverse (insert meets t (reverse l)))))
         go true b = insert-seen t l h k
         go false true = refl
-        go false false = cc (reverse-map (seenAs N) l, insert-map (seenAs N) meets meets t (reverse l) (all-same (λ (u : Transaction). meets (seenAs N t) (seenAs N u) ≡ meets t u) (λ u. refl) (reverse l)), reverse-map (seenAs N) (insert meets t (reverse l)))
+        go false false = cc (reverse-map _ l, insert-map _ meets meets t _ (all-same (λ (u : Transaction). meets (seenAs N t) (seenAs N u) ≡ meets t u) (λ u. refl) (reverse l)), reverse-map _ _)
 
     -- ---- The part of a sorted list
 
     pub part-insert : (t : Transaction) (l : List Transaction) → Sorted precedes l → Known N t → Each (Known N) (those mine l)
         → insert precedes (seenAs N t) (map (seenAs N) (those mine l)) ≡ map (seenAs N) (those mine (insert precedes t l))
-    part-insert t l s h k = cc (insert-seen t (those mine l) h k, those-insert precedes by-precedence mine t l s (h .own))
+    part-insert t l s h k = cc (insert-seen t _ h k, those-insert precedes by-precedence mine t l s (h .own))
 
     pub known-insert : (t : Transaction) (l : List Transaction) → Sorted precedes l → Known N t → Each (Known N) (those mine l) → Each (Known N) (those mine (insert precedes t l))
-    known-insert t l s h k = rw (those-insert precedes by-precedence mine t l s (h .own)) (each-insert (Known N) precedes t (those mine l) h k)
+    known-insert t l s h k = rw (those-insert precedes by-precedence mine t l s (h .own)) (each-insert _ precedes t _ h k)
 
     -- a returning mark is no name
     pub known-returning : (b : Bool) (t : Transaction) → Known N t → Known N (withReturning b t)
@@ -110,7 +109,7 @@ module _ (p : Part) (n : ℕ) where
     pub wake-seen : (l rel : List Transaction) → Sorted precedes rel → Each (Known N) (those mine l) → Each (Known N) (those mine rel) → Woken l rel
     unfolding wake those
     wake-seen [] rel s h k = record { same = refl; known = k; sorted = s }
-    wake-seen (t ∷ l) rel s h k = go (mine t) refl h (wake-seen l)
+    wake-seen (t ∷ l) rel s h k = go _ refl h (wake-seen l)
       where
         t′ : Transaction
         t′ = withReturning true t

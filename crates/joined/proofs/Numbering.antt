@@ -1,5 +1,5 @@
 -- How the rows of two parts lie in those of the joined model: the numbers of a part rise with its own, and no number is of both.
-use Rattle.machine.specs.All.{cases, ℕ, _+_, _-_, _≤_, _<_, _≡_, refl, sym, ap, Bool, true, false, _&&_, true≢false, arith, ltb, leb, ltb-true, leb-true, leb-false, lt-ltb, le-leb, lt-leb, Code, U, NU, E, NE, F, NF, codeIndex, BlockModel, welIndex}
+use Rattle.machine.specs.All.{cases, ℕ, _+_, _-_, _≤_, _<_, _≡_, refl, sym, ap, Bool, true, false, _&&_, true≢false, arith, ltb, ltb-true, leb-true, leb-false, lt-ltb, le-leb, lt-leb, Code, U, NU, E, NE, F, NF, codeIndex, BlockModel, welIndex}
 use Rattle.machine.proofs.decoding.Proper.{servers}
 use Rattle.joined.specs.{Part, serverIn, inPart}
 use Rattle.joined.proofs.Seen.{Tables}
@@ -22,7 +22,7 @@ module _ (p : Part) where
 
   pub place : (v : ℕ) → Place v
   place v =
-      cases (leb v (p .facilities))
+      cases _
       (λ e. facility (leb-true _ _ e) (in-facility v (leb-true _ _ e)))
       (λ e. storage (leb-false _ _ e) (in-storage v (leb-false _ _ e)))
 
@@ -61,7 +61,7 @@ module _ (p : Part) where
             gates = record {
               forth = λ g k a b e. (unfold welIndex in let x = code-below (g .code) in
                   let y = code-below (k .code) in
-                  let same = server-once (g .server) (k .server) (a .0) (b .0) (omega arith) in
+                  let same = server-once _ _ (a .0) (b .0) (omega arith) in
                   omega arith);
               back = λ g k a b e. (unfold welIndex in let x = code-below (g .code) in
                   let y = code-below (k .code) in
@@ -76,7 +76,7 @@ module _ (p : Part) where
 -- ---- Blocks
 
 pub not-in : (p : Part) (n b : ℕ) → (p .toBlock < b → p .toBlock + n < b) → inPart p n b ≡ false
-not-in p n b h = cases (ltb (p .toBlock) b) (λ e. rw e (lt-leb b (p .toBlock + n) (h (ltb-true _ _ e)))) (λ e. rw e)
+not-in p n b h = cases (ltb (p .toBlock) b) (λ e. rw e (lt-leb b _ (h (ltb-true _ _ e)))) (λ e. rw e)
 
 pub is-in : (p : Part) (n b : ℕ) → p .toBlock < b → b ≤ p .toBlock + n → inPart p n b ≡ true
 is-in p n b h k = rw (lt-ltb, le-leb) refl
@@ -88,5 +88,5 @@ both-true false b e = absurd (true≢false (sym e))
 
 pub in-bounds : (p : Part) (n b : ℕ) → inPart p n b ≡ true → (p .toBlock < b) × (b ≤ p .toBlock + n)
 in-bounds p n b e =
-    let h = both-true (ltb (p .toBlock) b) (leb b (p .toBlock + n)) e in
+    let h = both-true _ _ e in
     (ltb-true _ _ (h .0), leb-true _ _ (h .1))

@@ -1,15 +1,14 @@
 -- One block of the other part: what the part sees stays as it is.
-use Rattle.machine.specs.All.{cases, ℕ, zero, suc, _+_, _-_, _≤_, _≡_, refl, Bool, true, false, cond, true≢false, List, [], _∷_, Option, none, some, arith, leb, eqb-true, Transaction, precedes, Event, Interrupted, newborn, replaceFirst, Condition, always, whenTrue, serverAt, free, truth, compare, Share, facility, shareServer, shareUnits, Block, generate, advance, terminate, takes, frees, waitServer, waitTerms, moves, assign, priority, split, counts, assemble, preempt, giveBack, facts, BlockModel, unconditional, State, withNext, withSerial, withReturning, setEnded, setFel, log, enters, moveTo, fresh, toQl, toWel, toWsl, beginWait, mustWait, setUse, arrival, copies, toGatherers, comes, released, ofFacility, interruptedAt, losesTo, losersTo, interrupt, resume, qlOf, checkWels, wakeFor, freeUnits, endsOne, delay, takeUnits, effect, Each}
-use Rattle.machine.proofs.decoding.Proper.{Names}
-use Rattle.machine.proofs.runs.RunLaws.{each-map, each-pair, cond-cases}
+use Rattle.machine.specs.All.{cases, ℕ, zero, suc, _+_, _-_, _≤_, _≡_, refl, Bool, true, false, cond, true≢false, List, [], _∷_, Option, none, some, arith, leb, eqb-true, Transaction, precedes, Event, Interrupted, newborn, replaceFirst, Condition, always, whenTrue, serverAt, truth, compare, Share, facility, shareServer, shareUnits, Block, generate, advance, terminate, takes, frees, waitServer, waitTerms, moves, assign, priority, split, counts, assemble, preempt, giveBack, facts, BlockModel, unconditional, State, setEnded, setFel, log, enters, moveTo, toWsl, beginWait, mustWait, setUse, arrival, copies, toGatherers, comes, released, ofFacility, interruptedAt, losesTo, losersTo, interrupt, resume, qlOf, checkWels, wakeFor, freeUnits, endsOne, delay, takeUnits, effect, Each}
+use Rattle.machine.proofs.{decoding.Proper.Names, runs.RunLaws.each-map, runs.RunLaws.each-pair, runs.RunLaws.cond-cases, lists.Lines.both-partFor}
 use Rattle.machine.proofs.lists.Sorted.{each-insert, each-those, each-replace, each-passes}
-use Rattle.machine.proofs.lists.Lines.{both-partFor}
 use Rattle.machine.proofs.lists.Cases.{checkWels-kept, waitServer-cases, waitTerms-cases, assemble-cases, preempt-cases, giveBack-cases}
 use Rattle.joined.specs.{Part, serverIn, inPart}
-use Rattle.joined.proofs.Lists.{those-insert-other, those-replace-other, sorted-insert, sorted-replace, by-holder}
-use Rattle.joined.proofs.Naming.{Naming, mine}
-use Rattle.joined.proofs.Seen.{size, Tables, OfPart, Seen}
-use Rattle.joined.proofs.OtherSteps.{OtherServer, OtherQueue, OtherList, OtherRow, Beside, put-fel, put-interrupted, log-other, enters-other, toRel-other, toFel-other, wsl-other, ql-other, wel-other, wakeQl-other, wakeFirstWel-other, setUse-other, setContent-other, useTime-other, gatherers-other, fresh-other, made-other}
+use Rattle.joined.proofs as our
+use our.Lists.{those-insert-other, those-replace-other, sorted-insert, sorted-replace, by-holder}
+use our.Naming.{Naming, mine}
+use our.Seen.{size, Tables, OfPart, Seen}
+use our.OtherSteps.{OtherServer, OtherQueue, OtherList, OtherRow, Beside, put-fel, put-interrupted, log-other, enters-other, toRel-other, toFel-other, wsl-other, ql-other, wel-other, wakeQl-other, wakeFirstWel-other, setUse-other, setContent-other, useTime-other, gatherers-other, fresh-other, made-other}
 
 -- ---- What a block of the other part names
 
@@ -60,7 +59,7 @@ module _ (p : Part) (m : BlockModel) where
         record {
           seen = record { counted = h .seen .counted; fixtures = h .seen .fixtures; lined = h .seen .lined; listed = h .seen .listed; told = h .seen .told };
           time = h .time;
-          moving = other (withReturning false (withNext b t)) e;
+          moving = other _ e;
         }
 
     -- ---- More steps
@@ -86,7 +85,7 @@ module _ (p : Part) (m : BlockModel) where
 
     begins-other : (put : Transaction → State → State) (t : Transaction) → mine? t ≡ false → ((u : Transaction) → mine? u ≡ false → u .next ≡ t .next → (s : State) → B s → B (put u s)) → (s : State) → B s → B (beginWait put t s)
     unfolding log
-    begins-other put t e P s h = P (withSerial (fresh s) t) e refl _ (fresh-other p m T N c s′ _ (log-other p m T N c s′ s h 1 t e))
+    begins-other put t e P s h = P _ e refl _ (fresh-other p m T N c s′ _ (log-other p m T N c s′ s h 1 t e))
 
     waits-other : (put : Transaction → State → State) (t : Transaction) → mine? t ≡ false → ((u : Transaction) → mine? u ≡ false → u .next ≡ t .next → (s : State) → B s → B (put u s)) → (s : State) → B s → B (mustWait put t s)
     unfolding mustWait
@@ -101,10 +100,10 @@ module _ (p : Part) (m : BlockModel) where
         put-interrupted p m T N c s′ _ gone _
         (record {
           part =
-              rw (← those-insert-other (λ (i : Interrupted). mine? (i .who)) (λ a b. precedes (a .who) (b .who)) _ (s .interrupted) d) at (h .seen .listed .interrupted .part);
-          sorted = sorted-insert (λ a b. precedes (a .who) (b .who)) (by-holder (λ i. i .who)) _ (s .interrupted) (h .seen .listed .interrupted .sorted);
+              rw (← those-insert-other (λ (i : Interrupted). mine? (i .who)) (λ a b. precedes _ _) _ _ d) at (h .seen .listed .interrupted .part);
+          sorted = sorted-insert (λ a b. precedes _ _) (by-holder (λ i. i .who)) _ _ (h .seen .listed .interrupted .sorted);
         })
-        (each-insert (OfPart p m N) (λ a b. precedes (a .who) (b .who)) _ (s .interrupted)
+        (each-insert _ (λ a b. precedes _ _) _ _
         (record { own = λ x. absurd (true≢false (cc (x, d))); other = λ x u i same. o u i (cc same) }) (h .seen .listed .facilities))
       where
         gone : B (setFel (replaceFirst (losesTo t (serverAt (s .view) f)) [] (s .fel)) s)
@@ -112,23 +111,23 @@ module _ (p : Part) (m : BlockModel) where
             put-fel p m T N c s′ s h _
             (record {
               part =
-                  rw (those-replace-other (λ (y : Event). mine? (y .who)) (losesTo t (serverAt (s .view) f)) (s .fel) q) (h .seen .listed .fel .part);
-              sorted = sorted-replace _ _ (s .fel) (h .seen .listed .fel .sorted);
+                  rw those-replace-other (h .seen .listed .fel .part);
+              sorted = sorted-replace _ _ _ (h .seen .listed .fel .sorted);
             })
 
     -- who was taken from a facility of the other part is of the other part
     module _ (facilities : (u : ℕ) → Names (m .facilities) u → serverIn p u ≡ u + p .toFacility) where
       taken-other : (f : ℕ) → OtherServer p m f → (i : Interrupted) → OfPart p m N i → ofFacility f i ≡ true → mine? (i .who) ≡ false
       unfolding ofFacility
-      taken-other f o i k e = cases (mine? (i .who)) (λ d. absurd (never (k .own d) (eqb-true _ _ e))) (λ d. d)
+      taken-other f o i k e = cases _ (λ d. absurd (never (k .own d) (eqb-true _ _ e))) (λ d. d)
         where
           back : 1 ≤ i .facility - p .toFacility → i .facility - p .toFacility + p .toFacility ≡ i .facility
           back h = omega arith
 
           never : Names (m .facilities) (i .facility - p .toFacility) → i .facility ≡ f → ⊥
           never u same =
-              o (i .facility - p .toFacility) (u .0, omega arith)
-              (cc (facilities (i .facility - p .toFacility) u, back (u .0), same))
+              o _ (u .0, omega arith)
+              (cc (facilities _ u, back (u .0), same))
 
       resume-other : (i : Interrupted) (f : ℕ) → OtherServer p m f → mine? (i .who) ≡ false → (s : State) → B s → B (resume i f s)
       unfolding resume
@@ -137,10 +136,10 @@ module _ (p : Part) (m : BlockModel) where
           (put-interrupted p m T N c s′ s h _
           (record {
             part =
-                rw (those-replace-other (λ (y : Interrupted). mine? (y .who)) (ofFacility f) (s .interrupted) (each-map (λ (y : Interrupted) k. taken-other f o y k) (s .interrupted) (h .seen .listed .facilities))) (h .seen .listed .interrupted .part);
-            sorted = sorted-replace _ _ (s .interrupted) (h .seen .listed .interrupted .sorted);
+                rw (those-replace-other (λ (y : Interrupted). mine? (y .who)) _ (s .interrupted) (each-map (λ (y : Interrupted) k. taken-other f o y k) (s .interrupted) (h .seen .listed .facilities))) (h .seen .listed .interrupted .part);
+            sorted = sorted-replace _ _ _ (h .seen .listed .interrupted .sorted);
           })
-          (each-replace (OfPart p m N) (ofFacility f) [] (s .interrupted) tt (h .seen .listed .facilities))) _ _ d
+          (each-replace _ _ [] _ tt (h .seen .listed .facilities))) _ _ d
 
       -- ---- A block
 
@@ -157,21 +156,21 @@ module _ (p : Part) (m : BlockModel) where
         unfolding takeUnits
         units-other x preempts o on =
             let v = shareServer x in
-            cond-cases L (leb (shareUnits x) (free (serverAt (s .view) v))) _ _
+            cond-cases L (leb (shareUnits x) _) _ _
             (λ d. left-goes _ (checkWels-other v o _ (setUse-other p m T N c s′ _ h₁ v _ _ _ o)) _ t on)
-            (λ d. left-still _ (waits-other (toQl (M .edition) v) t e (λ u k n s h. ql-other p m T N c s′ s h (M .edition) v u o) s h))
+            (λ d. left-still _ (waits-other _ t e (λ u k n s h. ql-other p m T N c s′ s h _ v u o) s h))
 
         frees-other : (x : Share) → OtherServer p m (shareServer x) → B (wakeFor M x (freeUnits (shareServer x) (shareUnits x) (enters t s)))
         unfolding wakeFor enters log setUse
         frees-other x o =
-            wakeQl-other p m T N c s′ _ (setUse-other p m T N c s′ _ h₁ (shareServer x) _ _ _ o) _ (shareServer x) o
-            (both-partFor (λ u. mine? u ≡ false) M x _ _ (ql (shareServer x) o) .0)
+            wakeQl-other p m T N c s′ _ (setUse-other p m T N c s′ _ h₁ _ _ _ _ o) _ _ o
+            (both-partFor (λ u. mine? u ≡ false) M x _ _ (ql _ o) .0)
 
         loser : (f : ℕ) → OtherServer p m f → (y : Event) (l : List Event) → losersTo t f s ≡ y ∷ l → mine? (y .who) ≡ false
         loser f o y l k =
-            let v = serverAt (s .view) f in
+            let v = serverAt _ f in
             let both = each-pair (λ z. losesTo t v z ≡ true → mine? (z .who) ≡ false) (λ z. losesTo t v z ≡ true) (losersTo t f s)
-            (each-those (λ z. losesTo t v z ≡ true → mine? (z .who) ≡ false) (losesTo t v) (s .fel) (losers f o)) (each-passes (losesTo t v) (s .fel)) in
+            (each-those (λ z. losesTo t v z ≡ true → mine? (z .who) ≡ false) _ _ (losers f o)) (each-passes _ _) in
             (rw k at both .0) .0 ((rw k at both .0) .1)
 
         -- the other part's counter, ends, gatherers and interrupted ones
@@ -196,12 +195,11 @@ module _ (p : Part) (m : BlockModel) where
 
         gathers-other : (u : Transaction) → mine? u ≡ false → u .next ≡ t .next → (s : State) → B s → B (toGatherers u s)
         unfolding toGatherers
-        gathers-other u d n s h = gatherers-other p m T N c s′ s h (u .next) _ (rw n row)
+        gathers-other u d n s h = gatherers-other p m T N c s′ s h _ _ (rw n row)
 
         stopped : (f : ℕ) → OtherServer p m f → (i : Interrupted) (l : List Interrupted) → interruptedAt s f ≡ i ∷ l → mine? (i .who) ≡ false
         stopped f o i l k =
-            let both = each-pair (OfPart p m N) (λ x. ofFacility f x ≡ true) (interruptedAt s f) (each-those (OfPart p m N) (ofFacility f) (s .interrupted) (h .seen .listed .facilities)) (each-passes (ofFacility f) (s .interrupted)) in
-            let first = rw k at both .0 in
+            let first = rw k at (each-pair (OfPart p m N) (λ x. ofFacility f x ≡ true) (interruptedAt s f) (each-those (OfPart p m N) (ofFacility f) (s .interrupted) (h .seen .listed .facilities)) (each-passes (ofFacility f) (s .interrupted))) .0 in
             taken-other f o i (first .0) (first .1)
 
         goes-out : (k : Condition) (target : ℕ) → inPart p (size p m) target ≡ false → (unconditional k ≡ false → On)
@@ -209,17 +207,17 @@ module _ (p : Part) (m : BlockModel) where
         unfolding truth unconditional
         goes-out always target o on = o
         goes-out (whenTrue a r b) target o on =
-            cond-cases (λ n. inPart p (size p m) n ≡ false) (compare (M .values) (s .view) (t .parameters) a r b) _ _ (λ d. o) (λ d. on refl)
+            cond-cases (λ n. inPart p (size p m) n ≡ false) (compare _ _ _ a r b) _ _ (λ d. o) (λ d. on refl)
 
         pub effect-other : (b : Block) → Outside b → (facts b .leaves ≡ false → On) → inPart p (size p m) (t .next - facts b .back) ≡ false → L (effect M b t s)
         unfolding effect facts takeUnits shareServer shareUnits
-        effect-other (generate list r) o on back = left-goes _ (arrival-other _ list r (t .next) o e _ h₁) _ t (on refl)
+        effect-other (generate list r) o on back = left-goes _ (arrival-other _ list r _ o e _ h₁) _ t (on refl)
         effect-other (advance list) o on back = left-still _ (delay-other _ list t o (on refl) _ h₁)
         effect-other (terminate a) o on back = left-still _ (ends-other a)
         effect-other (takes x) o on back = units-other x false o (on refl)
-        effect-other (frees x) o on back = left-goes _ (checkWels-other (shareServer x) o _ (frees-other x o)) _ t (on refl)
+        effect-other (frees x) o on back = left-goes _ (checkWels-other _ o _ (frees-other x o)) _ t (on refl)
         effect-other (waitServer code v k) o on back =
-            waitServer-cases L M code v k t s (λ d. left-still _ (waits-other (toWel (M .edition) v code) t e (λ u q n s h. wel-other p m T N c s′ s h (M .edition) v code u o q) s h))
+            waitServer-cases L M code v k t s (λ d. left-still _ (waits-other _ t e (λ u q n s h. wel-other p m T N c s′ s h _ v code u o q) s h))
             (λ d. left-goes _ (wakeFirstWel-other p m T N c s′ s h v code o) _ t back)
             (λ d. left-goes _ (wakeFirstWel-other p m T N c s′ _ h₁ v code o) _ _ (on refl))
         effect-other (waitTerms a r b) o on back =
@@ -231,12 +229,12 @@ module _ (p : Part) (m : BlockModel) where
         effect-other (counts k q) o on back = left-goes _ (setContent-other p m T N c s′ _ h₁ q _ o) _ t (on refl)
         effect-other (assemble n) o on back =
             assemble-cases L M n t s (λ d. left-still _ (begins-other toGatherers t e gathers-other s h))
-            (λ g l d q. left-still _ (unfold released in toRel-other p m T N c s′ _ (gatherers-other p m T N c s′ _ ended-other (t .next) _ row) _ (on refl))) (λ g l d q. left-still _ (unfold comes in gatherers-other p m T N c s′ _ ended-other (t .next) _ row))
+            (λ g l d q. left-still _ (unfold released in toRel-other p m T N c s′ _ (gatherers-other p m T N c s′ _ ended-other _ _ row) _ (on refl))) (λ g l d q. left-still _ (unfold comes in gatherers-other p m T N c s′ _ ended-other _ _ row))
         effect-other (preempt f) o on back =
             preempt-cases L M f t s (λ d. units-other (facility f) true o (on refl))
             (λ x l d.
             left-goes _ (checkWels-other f o _ (setUse-other p m T N c s′ _ (interrupt-other x t f o (loser f o x l d) _ h₁ (unfold enters log serverAt in losers f o)) f _ _ _ o)) _ t (on refl))
         effect-other (giveBack f) o on back =
-            giveBack-cases L M f t s (λ d. left-goes _ (checkWels-other f o _ (frees-other (facility f) o)) _ t (on refl))
+            giveBack-cases L M f t s (λ d. left-goes _ (checkWels-other f o _ (frees-other _ o)) _ t (on refl))
             (λ i l d.
             left-goes _ (checkWels-other f o _ (resume-other i f o (stopped f o i l d) _ (setUse-other p m T N c s′ _ h₁ f _ _ _ o))) _ t (on refl))

@@ -1,15 +1,12 @@
 -- The steps of a transaction of the other part: the part sees nothing of them.
-use Rattle.machine.specs.All.{ℕ, suc, _-_, _<_, _≡_, sym, subst, Bool, false, List, [], _∷_, none, arith, getD, take, Transaction, precedes, Event, earlier, Gatherer, Interrupted, insert, those, Server, Queue, idleServer, emptyQueue, Code, U, NU, E, NE, F, NF, codeIndex, BlockModel, welIndex, State, withSerial, setEntries, setQueues, setServers, setView, setSamples, setQl, setWel, setWsl, setRel, setFel, setInterrupted, setSerial, setMade, recordOf, log, enters, fresh, toRel, toFel, toQl, toWel, toWsl, qlOf, welOf, wake, wakeQl, wakeFirstWel, Parted, setUse, setContent, useTime, setGatherersAt, Each}
-use Rattle.machine.proofs.decoding.Proper.{Names, servers}
-use Rattle.machine.proofs.lists.Sorted.{each-drop, at-set}
-use Rattle.machine.proofs.lists.Lines.{each-lineUp}
+use Rattle.machine.specs.All.{ℕ, suc, _-_, _<_, _≡_, Bool, false, List, [], _∷_, none, arith, getD, take, Transaction, precedes, Event, earlier, Gatherer, Interrupted, insert, those, Server, Queue, idleServer, emptyQueue, Code, U, NU, E, NE, F, NF, codeIndex, BlockModel, welIndex, State, setEntries, setQueues, setServers, setView, setSamples, setQl, setWel, setWsl, setRel, setFel, setInterrupted, setSerial, setMade, recordOf, log, enters, fresh, toRel, toFel, toQl, toWel, toWsl, qlOf, welOf, wake, wakeQl, wakeFirstWel, Parted, setUse, setContent, useTime, setGatherersAt, Each}
+use Rattle.machine.proofs.{decoding.Proper.Names, decoding.Proper.servers, lists.Sorted.each-drop, lists.Sorted.at-set, lists.Lines.each-lineUp}
 use Rattle.joined.specs.{Part}
-use Rattle.joined.proofs.Lists.{those-insert-other, those-none, sorted-insert, by-precedence, by-time}
-use Rattle.joined.proofs.Rows.{Rows, rows-other}
-use Rattle.joined.proofs.Naming.{Naming, mine, Known, eventAs}
-use Rattle.joined.proofs.Seen.{size, blockThere, queueThere, listThere, serverThere, here, Gate, AtServer, gateThere, gateHere, aloneAs, interruptedAs, Alike, Shown, SameServer, OfPart, Seen, Tables}
-use Rattle.joined.proofs.Renaming.{serial-other, number-other}
-use Rattle.joined.proofs.OwnSteps.{shown-wake}
+use Rattle.joined.proofs as our
+use our.Lists.{those-insert-other, those-none, sorted-insert, by-precedence, by-time}
+use our.{Rows.Rows, Rows.rows-other, Renaming.serial-other, Renaming.number-other, OwnSteps.shown-wake}
+use our.Naming.{Naming, mine, eventAs}
+use our.Seen.{size, blockThere, queueThere, listThere, serverThere, here, Gate, AtServer, gateThere, gateHere, aloneAs, interruptedAs, Alike, Shown, SameServer, OfPart, Seen, Tables}
 
 -- ---- What the part does not have
 
@@ -38,7 +35,7 @@ module _ (p : Part) (m : BlockModel) where
   -- nor its WELs
   pub other-gate : (v : ℕ) (code : Code) → OtherServer v → (g : Gate p m) → AtServer p m g → gateThere p m g ≡ welIndex v code → ⊥
   unfolding welIndex
-  other-gate v code o g i e = o (g .server) i (omega (arith, code-below code, code-below (g .code)))
+  other-gate v code o g i e = o _ i (omega (arith, code-below code, code-below (g .code)))
 
   -- the state beside which the part stands still
   pub record Beside (N : Naming) (c : ℕ) (s s′ : State) : Type 0 where
@@ -105,7 +102,7 @@ module _ (p : Part) (m : BlockModel) where
       shown-other : {l l′ : List Transaction} → Shown p m N alone (λ t. t) precedes l l′ → (t : Transaction) → mine? t ≡ false → Shown p m N alone (λ t. t) precedes (insert precedes t l) l′
       shown-other {l} {l′} k t e =
           record {
-            part = rw (those-insert-other mine? precedes t l e) (k .part);
+            part = rw those-insert-other (k .part);
             sorted = sorted-insert precedes by-precedence t l (k .sorted);
           }
 
@@ -121,20 +118,20 @@ module _ (p : Part) (m : BlockModel) where
           put-fel _
           (record {
             part =
-                rw (those-insert-other (λ (y : Event). mine? (y .who)) earlier x (s .fel) e) (h .seen .listed .fel .part);
-            sorted = sorted-insert earlier by-time x (s .fel) (h .seen .listed .fel .sorted);
+                rw those-insert-other (h .seen .listed .fel .part);
+            sorted = sorted-insert earlier by-time x _ (h .seen .listed .fel .sorted);
           })
 
       pub ql-other : (edition v : ℕ) (t : Transaction) → OtherServer v → B (toQl edition v t s)
       unfolding toQl
-      ql-other edition v t o = put-ql _ (rows-other _ _ _ _ _ _ _ _ (h .seen .lined .ql) (v - 1) o _)
+      ql-other edition v t o = put-ql _ (rows-other _ _ _ _ _ _ _ _ (h .seen .lined .ql) _ o _)
 
       pub wel-other : (edition v : ℕ) (code : Code) (t : Transaction) → OtherServer v → mine? t ≡ false → B (toWel edition v code t s)
       unfolding toWel
       wel-other edition v code t o e =
-          put-wel _ (rows-other _ _ _ _ _ _ _ _ (h .seen .lined .wel) (welIndex v code) (other-gate v code o) _)
+          put-wel _ (rows-other _ _ _ _ _ _ _ _ (h .seen .lined .wel) _ (other-gate v code o) _)
           (λ u d q.
-          at-set (Each (λ t. mine? t ≡ false)) (s .wel) (welIndex v code) (welIndex u d) _ [] (λ same. each-lineUp (λ t. mine? t ≡ false) edition t (welOf s v code) e (h .gates v code o)) (h .gates u d q))
+          at-set (Each (λ t. mine? t ≡ false)) (s .wel) _ _ _ [] (λ same. each-lineUp (λ t. mine? t ≡ false) edition t _ e (h .gates v code o)) (h .gates u d q))
 
       -- ---- Waking
 
@@ -143,21 +140,21 @@ module _ (p : Part) (m : BlockModel) where
       rel-woken l e =
           let nobody = those-none mine? l e in
           put-rel _
-          (rw nobody at (shown-wake p m T N (h .seen .listed .rel) l (subst (Each (Known p (size p m) N)) (sym nobody) tt)))
+          (rw nobody at (shown-wake p m T N (h .seen .listed .rel) l (rw nobody tt)))
 
       pub setUse-other : (v units holder : ℕ) (preempted : Bool) → OtherServer v → B (setUse v units holder preempted s)
       unfolding setUse
-      setUse-other v units holder preempted o = put-servers _ (rows-other _ _ _ _ _ _ _ _ (h .seen .fixtures .servers) (v - 1) o _)
+      setUse-other v units holder preempted o = put-servers _ (rows-other _ _ _ _ _ _ _ _ (h .seen .fixtures .servers) _ o _)
 
       pub setContent-other : (q n : ℕ) → OtherQueue q → B (setContent q n s)
       unfolding setContent
-      setContent-other q n o = put-queues _ (rows-other _ _ _ _ _ _ _ _ (h .seen .fixtures .queues) (q - 1) o _)
+      setContent-other q n o = put-queues _ (rows-other _ _ _ _ _ _ _ _ (h .seen .fixtures .queues) _ o _)
 
       pub useTime-other : (l : ℕ) → OtherList l → B (useTime l s)
-      useTime-other l o = put-samples _ (rows-other _ _ _ _ _ _ _ _ (h .seen .fixtures .lists) (l - 1) o _)
+      useTime-other l o = put-samples _ (rows-other _ _ _ _ _ _ _ _ (h .seen .fixtures .lists) _ o _)
 
       pub gatherers-other : (b : ℕ) (l : List Gatherer) → OtherRow b → B (setGatherersAt b l s)
-      gatherers-other b l o = record { seen = record { counted = h .seen .counted; fixtures = h .seen .fixtures; lined = record { ql = h .seen .lined .ql; wel = h .seen .lined .wel; gatherers = (rows-other _ _ _ _ _ _ _ _ (h .seen .lined .gatherers) (b - 1) o _) }; listed = h .seen .listed; told = h .seen .told }; time = h .time; still = h .still; gates = h .gates }
+      gatherers-other b l o = record { seen = record { counted = h .seen .counted; fixtures = h .seen .fixtures; lined = record { ql = h .seen .lined .ql; wel = h .seen .lined .wel; gatherers = (rows-other _ _ _ _ _ _ _ _ (h .seen .lined .gatherers) _ o _) }; listed = h .seen .listed; told = h .seen .told }; time = h .time; still = h .still; gates = h .gates }
 
       pub fresh-other : B (setSerial (fresh s) s)
       fresh-other = record { seen = serial-other p m N s s′ (h .seen); time = h .time; still = h .still; gates = h .gates }
@@ -170,11 +167,11 @@ module _ (p : Part) (m : BlockModel) where
     module _ (s : State) (h : B s) where
       pub enters-other : (t : Transaction) → mine? t ≡ false → OtherRow (t .next) → B (enters t s)
       unfolding enters
-      enters-other t e o = log-other _ (entered s h _ (rows-other _ _ _ _ _ _ _ _ (h .seen .fixtures .entries) (t .next - 1) o _)) 0 t e
+      enters-other t e o = log-other _ (entered s h _ (rows-other _ _ _ _ _ _ _ _ (h .seen .fixtures .entries) _ o _)) 0 t e
 
       pub toRel-other : (t : Transaction) → mine? t ≡ false → B (toRel t s)
       unfolding toRel
-      toRel-other t e = rel-other _ (fresh-other s h) (withSerial (fresh s) t) e
+      toRel-other t e = rel-other _ (fresh-other s h) _ e
 
       pub toFel-other : (time : ℕ) (t : Transaction) → mine? t ≡ false → B (toFel time t s)
       unfolding toFel
@@ -183,15 +180,15 @@ module _ (p : Part) (m : BlockModel) where
       pub wakeQl-other : (part : List Transaction → Parted) (v : ℕ) → OtherServer v → Each (λ t. mine? t ≡ false) (part (qlOf s v) .go) → B (wakeQl part v s)
       unfolding wakeQl
       wakeQl-other part v o e =
-          put-ql _ (rel-woken s h (part (qlOf s v) .go) e) _ (rows-other _ _ _ _ _ _ _ _ (h .seen .lined .ql) (v - 1) o _)
+          put-ql _ (rel-woken s h _ e) _ (rows-other _ _ _ _ _ _ _ _ (h .seen .lined .ql) _ o _)
 
       pub wakeFirstWel-other : (v : ℕ) (code : Code) → OtherServer v → B (wakeFirstWel v code s)
       unfolding wakeFirstWel
       wakeFirstWel-other v code o =
-          put-wel _ (rel-woken s h (take 1 (welOf s v code)) (first (welOf s v code) (h .gates v code o))) _
-          (rows-other _ _ _ _ _ _ _ _ (h .seen .lined .wel) (welIndex v code) (other-gate v code o) _)
+          put-wel _ (rel-woken s h _ (first (welOf s v code) (h .gates v code o))) _
+          (rows-other _ _ _ _ _ _ _ _ (h .seen .lined .wel) _ (other-gate v code o) _)
           (λ u d q.
-          at-set (Each (λ t. mine? t ≡ false)) (s .wel) (welIndex v code) (welIndex u d) _ [] (λ same. each-drop (λ t. mine? t ≡ false) (welOf s v code) (h .gates v code o)) (h .gates u d q))
+          at-set (Each (λ t. mine? t ≡ false)) (s .wel) _ _ _ [] (λ same. each-drop (λ t. mine? t ≡ false) (welOf s v code) (h .gates v code o)) (h .gates u d q))
         where
           first : (l : List Transaction) → Each (λ t. mine? t ≡ false) l → Each (λ t. mine? t ≡ false) (take 1 l)
           first [] k = tt

@@ -1,14 +1,14 @@
 -- Steps of the part at an ASSEMBLE (document 02, item 8).
 use Rattle.machine.specs.All.{ℕ, suc, _-_, _≡_, refl, Bool, true, false, List, [], _∷_, map, Transaction, precedes, Gatherer, BlockModel, State, withNext, withReturning, gatherersAt, setGatherersAt, inFamily, waitsFor, setWaitsFor, toGatherers, comes, released, Each}
-use Rattle.machine.proofs.runs.RunLaws.{each-map}
-use Rattle.machine.proofs.lists.Sorted.{each-insert, each-those, each-replace}
+use Rattle.machine.proofs.{runs.RunLaws.each-map, lists.Sorted.each-insert, lists.Sorted.each-those, lists.Sorted.each-replace}
 use Rattle.joined.specs.{Part, inPart}
-use Rattle.joined.proofs.Lists.{insert-map, those-map, replace-map}
-use Rattle.joined.proofs.Rows.{rows-put, rows-at}
-use Rattle.joined.proofs.Naming.{Naming, Known, gathererAs, precedes-seen, family-seen}
-use Rattle.joined.proofs.Seen.{size, blockThere, Tables, aloneAs, Alike}
-use Rattle.joined.proofs.OwnMoves.{Standing, standing, Together, put-gatherers}
-use Rattle.joined.proofs.OwnMakes.{After, toRel-after, next-back, Puts}
+use Rattle.joined.proofs as our
+use our.Lists.{insert-map, those-map, replace-map}
+use our.Rows.{rows-put, rows-at}
+use our.Naming.{Naming, Known, gathererAs, precedes-seen, family-seen}
+use our.Seen.{size, blockThere, Tables, aloneAs, Alike}
+use our.OwnMoves.{Standing, standing, Together, put-gatherers}
+use our.OwnMakes.{After, toRel-after, next-back, Puts}
 
 module _ (p : Part) (m : BlockModel) (T : Tables p m) where
   abbrev n : ℕ
@@ -19,27 +19,27 @@ module _ (p : Part) (m : BlockModel) (T : Tables p m) where
 
   module _ (N : Naming) (s s′ : State) (h : Together p m N s s′) (t : Transaction) (k : Known p n N t) where
     at : Standing p m (t .next)
-    at = standing p m (t .next) (k .own)
+    at = standing p m _ (k .own)
 
     index : blockThere p m (t .next - p .toBlock) ≡ t .next - 1
     index = cc (at .there)
 
     -- who waits at its block
     pub gatherers-seen : GathersAs N (gatherersAt s (t .next)) (gatherersAt s′ (t .next - p .toBlock))
-    gatherers-seen = rows-at _ _ _ _ _ _ _ _ (h .seen .lined .gatherers) (t .next - p .toBlock) (at .names) _ _ index refl
+    gatherers-seen = rows-at _ _ _ _ _ _ _ _ (h .seen .lined .gatherers) _ (at .names) _ _ index refl
 
     -- others wait there
     gathers-put : (l l′ : List Gatherer) → GathersAs N l l′ → Together p m N (setGatherersAt (t .next) l s) (setGatherersAt (t .next - p .toBlock) l′ s′)
-    gathers-put l l′ q = put-gatherers p m T N s s′ h _ _ (rows-put _ _ _ _ _ _ _ _ (h .seen .lined .gatherers) (T .blocks) (t .next - p .toBlock) (at .names) _ _ index refl _ _ q)
+    gathers-put l l′ q = put-gatherers p m T N s s′ h _ _ (rows-put _ _ _ _ _ _ _ _ (h .seen .lined .gatherers) (T .blocks) _ (at .names) _ _ index refl _ _ q)
 
     same-family : Each (λ g. inFamily (aloneAs p m N t) (gathererAs p n N g) ≡ inFamily t g) (gatherersAt s (t .next))
-    same-family = each-map (λ g q. family-seen p n N t g k q) (gatherersAt s (t .next)) (gatherers-seen .known)
+    same-family = each-map (λ g q. family-seen p n N t g k q) (gatherersAt s _) (gatherers-seen .known)
 
     pub waitsFor-seen : GathersAs N (waitsFor t s) (waitsFor (aloneAs p m N t) s′)
     waitsFor-seen =
         record {
-          same = rw (gatherers-seen .same, those-map (gathererAs p n N) _ (inFamily t) (gatherersAt s (t .next)) same-family);
-          known = each-those (λ g. Known p n N (g .who)) (inFamily t) (gatherersAt s (t .next)) (gatherers-seen .known);
+          same = rw (gatherers-seen .same, those-map (gathererAs p n N) _ _ _ same-family);
+          known = each-those (λ g. Known p n N _) _ _ (gatherers-seen .known);
         }
 
     gathers-replace : (few : List Gatherer) → Each (λ g. Known p n N (g .who)) few
@@ -48,28 +48,28 @@ module _ (p : Part) (m : BlockModel) (T : Tables p m) where
         gathers-put _ _
         (record {
           same =
-              cc (gatherers-seen .same, replace-map (gathererAs p n N) (inFamily (aloneAs p m N t)) (inFamily t) few (gatherersAt s (t .next)) same-family);
-          known = each-replace (λ g. Known p n N (g .who)) (inFamily t) few (gatherersAt s (t .next)) f (gatherers-seen .known);
+              cc (gatherers-seen .same, replace-map _ (inFamily (aloneAs p m N t)) _ few _ same-family);
+          known = each-replace (λ g. Known p n N _) _ few _ f (gatherers-seen .known);
         })
 
     pub comes-own : (g : Gatherer) → Known p n N (g .who) → Together p m N (comes g t s) (comes (gathererAs p n N g) (aloneAs p m N t) s′)
     unfolding comes
-    comes-own g q = gathers-replace (record { who = g .who; come = suc (g .come) } ∷ []) (q, tt)
+    comes-own g q = gathers-replace (record { who = g .who; come = suc _ } ∷ []) (q, tt)
 
     pub released-own : (g : Gatherer) → Known p n N (g .who) → inPart p n (suc (t .next)) ≡ true → After p m N (released g t s) (released (gathererAs p n N g) (aloneAs p m N t) s′)
     unfolding released
     released-own g q on =
-        rw (next-back p m T t (k .own)) at (toRel-after p m T N _ _ (gathers-replace [] tt) (withReturning false (withNext (suc (t .next)) (g .who))) (record { own = on; number = q .number; family = q .family }))
+        rw (next-back p m T t (k .own)) at (toRel-after p m T N _ _ (gathers-replace [] tt) (withReturning false (withNext _ (g .who))) (record { own = on; number = q .number; family = q .family }))
 
   pub gatherers-put : Puts p m T toGatherers toGatherers
   unfolding toGatherers
   gatherers-put N s s′ h t k =
       let one : Gatherer = record { who = t; come = 1 } in
       let now = gatherers-seen N s s′ h t k in
-      let ahead : Gatherer → Gatherer → Bool = λ a b. precedes (a .who) (b .who) in
+      let ahead : Gatherer → Gatherer → Bool = λ a b. precedes _ _ in
       gathers-put N s s′ h t k _ _
       (record {
         same =
-            cc (now .same, insert-map (gathererAs p n N) ahead ahead one (gatherersAt s (t .next)) (each-map (λ (g : Gatherer) q. precedes-seen p n N t (g .who) k q) (gatherersAt s (t .next)) (now .known)));
-        known = each-insert (λ g. Known p n N (g .who)) ahead one (gatherersAt s (t .next)) k (now .known);
+            cc (now .same, insert-map (gathererAs p n N) ahead ahead one _ (each-map (λ (g : Gatherer) q. precedes-seen p n N t _ k q) (gatherersAt s _) (now .known)));
+        known = each-insert (λ g. Known p n N _) ahead one _ k (now .known);
       })

@@ -1,13 +1,14 @@
 -- Steps of the part that give names: arrivals, copies, delays, waits that begin.
-use Rattle.machine.specs.All.{ℕ, zero, suc, _+_, _-_, _≡_, refl, sym, ap, _∙_, subst, Bool, true, false, cond, List, [], _∷_, arith, Transaction, newborn, BlockModel, State, withNext, withSerial, withReturning, setMade, log, fresh, toRel, toFel, beginWait, mustWait, useTime, arrival, copyOf, copies, delay}
+use Rattle.machine.specs.All.{ℕ, zero, suc, _+_, _-_, _≡_, refl, sym, ap, _∙_, subst, Bool, true, false, cond, List, [], _∷_, arith, Transaction, newborn, BlockModel, State, withNext, withReturning, setMade, log, toRel, toFel, beginWait, mustWait, useTime, arrival, copyOf, copies, delay}
 use Rattle.machine.proofs.decoding.Proper.{Names}
 use Rattle.joined.specs.{Part, inPart}
-use Rattle.joined.proofs.Ranks.{rankIn, rank-zero, rank-noted, noted}
-use Rattle.joined.proofs.Naming.{Naming, mine, Known, Ours, ours}
-use Rattle.joined.proofs.Seen.{size, Tables, aloneAs}
-use Rattle.joined.proofs.Renaming.{withSerialOf, withNumberOf, Keeps, serial-seen, number-seen, keeps-serial, keeps-number, known-fresh, alone-fresh}
-use Rattle.joined.proofs.OwnMoves.{standing, Together, log-own}
-use Rattle.joined.proofs.OwnSteps.{toRel-own, toFel-own, useTime-own}
+use Rattle.joined.proofs as our
+use our.Ranks.{rankIn, rank-zero, rank-noted, noted}
+use our.Naming.{Naming, mine, Known, Ours, ours}
+use our.Seen.{size, Tables, aloneAs}
+use our.Renaming.{withSerialOf, withNumberOf, Keeps, serial-seen, number-seen, keeps-serial, keeps-number, known-fresh, alone-fresh}
+use our.OwnMoves.{standing, Together, log-own}
+use our.OwnSteps.{toRel-own, toFel-own, useTime-own}
 
 module _ (p : Part) (m : BlockModel) where
   -- ---- Some names were given
@@ -40,18 +41,18 @@ module _ (p : Part) (m : BlockModel) where
 
     module _ (N : Naming) (s s′ : State) (h : Together p m N s s′) where
       pub toRel-after : (t : Transaction) → Ours p (size p m) N t → After N (toRel t s) (toRel (aloneAs p m N t) s′)
-      toRel-after t k = record { naming = withSerialOf N (s .serial); together = toRel-own p m T N s s′ h t k; keeps = keeps-serial p m N s s′ (h .seen) }
+      toRel-after t k = record { naming = withSerialOf N _; together = toRel-own p m T N s s′ h t k; keeps = keeps-serial p m N s s′ (h .seen) }
 
       pub toFel-after : (time : ℕ) (t : Transaction) → Ours p (size p m) N t → After N (toFel time t s) (toFel time (aloneAs p m N t) s′)
       toFel-after time t k =
-          record { naming = withSerialOf N (s .serial); together = toFel-own p m T N s s′ h time t k; keeps = keeps-serial p m N s s′ (h .seen) }
+          record { naming = withSerialOf N _; together = toFel-own p m T N s s′ h time t k; keeps = keeps-serial p m N s s′ (h .seen) }
 
       -- one more of the part
       made-own : Together p m (withNumberOf N (s .made)) (setMade (suc (s .made)) s) (setMade (suc (s′ .made)) s′)
       made-own = record { seen = number-seen p m N s s′ (h .seen); clock = h .clock; still = h .still }
 
       number-new : rankIn (withNumberOf N (s .made) .numbers) (suc (s .made)) ≡ suc (s′ .made)
-      number-new = cc (rank-noted (N .numbers) (s .made) true, one-more, h .seen .counted .made)
+      number-new = cc (rank-noted _ _ true, one-more, h .seen .counted .made)
         where
           one-more : rankIn (N .numbers) (s .made) + 1 ≡ suc (rankIn (N .numbers) (s .made))
           one-more = omega arith
@@ -72,14 +73,13 @@ module _ (p : Part) (m : BlockModel) where
     arrival-own [] list priority block i own N s s′ h = after-here h
     arrival-own (time ∷ left) list priority block i own N s s′ h =
         let used = useTime-own p m T N s s′ h list i in
-        let born = made-own N (useTime (list + p .toList) s) (useTime list s′) used in
-        let N′ = withNumberOf N (s .made) in
-        let t = newborn (suc (s .made)) priority block in
-        let new = noted (N .numbers) (s .made) true in
-        let k = ours-newborn N′ (suc (s .made)) priority block own new in
-        let done = toFel-after N′ _ _ born (s .view .clock + time) t k in
-        after-then (record { naming = N′; together = born; keeps = keeps-number p m N (useTime (list + p .toList) s) (useTime list s′) (used .seen) })
-        (rw (alone-newborn N′ (suc (s .made)) (suc (s′ .made)) priority block (number-new N (useTime (list + p .toList) s) (useTime list s′) used)) at (subst
+        let born = made-own N _ _ used in
+        let N′ = withNumberOf N _ in
+        let t = newborn _ priority block in
+        let k = ours-newborn N′ (suc (s .made)) priority block own (noted (N .numbers) (s .made) true) in
+        let done = toFel-after N′ _ _ born _ t k in
+        after-then (record { naming = N′; together = born; keeps = keeps-number p m N _ _ (used .seen) })
+        (rw (alone-newborn N′ _ _ priority block (number-new N _ _ used)) at (subst
         (λ (c : ℕ). After N′ (toFel (s .view .clock + time) t (setMade (suc (s .made)) (useTime (list + p .toList) s))) (toFel (c + time) (aloneAs p m N′ t) (setMade (suc (s′ .made)) (useTime list s′))))
         (sym (h .clock)) done))
 
@@ -114,7 +114,7 @@ module _ (p : Part) (m : BlockModel) where
     -- one block on
     pub next-back : (t : Transaction) → mine p (size p m) t ≡ true → suc (t .next) - p .toBlock ≡ suc (t .next - p .toBlock)
     next-back t own =
-        let at = standing p m (t .next) own in
+        let at = standing p m _ own in
         omega arith
 
     pub delay-own : (times : List ℕ) (list : ℕ) → Names (m .lists) list → (t : Transaction) (N : Naming) (s s′ : State) → Together p m N s s′ → Known p (size p m) N t
@@ -125,7 +125,7 @@ module _ (p : Part) (m : BlockModel) where
         rw (next-back t (k .own)) at (subst
         (λ (c : ℕ). After N (toFel (s .view .clock + time) (withReturning false (withNext (suc (t .next)) t)) (useTime (list + p .toList) s)) (toFel (c + time) (withReturning false (withNext (suc (t .next) - p .toBlock) (aloneAs p m N t))) (useTime list s′)))
         (sym (h .clock))
-        (toFel-after N _ _ (useTime-own p m T N s s′ h list i) (s .view .clock + time) (withReturning false (withNext (suc (t .next)) t)) (record { own = on; number = k .number; family = k .family })))
+        (toFel-after N _ _ (useTime-own p m T N s s′ h list i) _ _ (record { own = on; number = k .number; family = k .family })))
 
     -- ---- Waits
 
@@ -139,12 +139,12 @@ module _ (p : Part) (m : BlockModel) where
     unfolding log
     beginWait-own put put′ P t N s s′ h k =
         let logged = log-own p m T N s s′ h 1 t k in
-        let N′ = withSerialOf N (s .serial) in
+        let N′ = withSerialOf N _ in
         record {
           naming = N′;
           together =
-              rw (alone-fresh p m N (log 1 t s) (log 1 (aloneAs p m N t) s′) (logged .seen) t) at (P N′ _ _ (record { seen = serial-seen p m N _ _ (logged .seen); clock = logged .clock; still = logged .still }) (withSerial (fresh s) t) (known-fresh p m N (log 1 t s) (log 1 (aloneAs p m N t) s′) (logged .seen) t (ours p (size p m) k)));
-          keeps = keeps-serial p m N (log 1 t s) (log 1 (aloneAs p m N t) s′) (logged .seen);
+              rw (alone-fresh p m N _ _ (logged .seen) t) at (P N′ _ _ (record { seen = serial-seen p m N _ _ (logged .seen); clock = logged .clock; still = logged .still }) _ (known-fresh p m N _ _ (logged .seen) t (ours p _ k)));
+          keeps = keeps-serial p m N _ _ (logged .seen);
         }
 
     pub mustWait-own : (put put′ : Transaction → State → State) → Puts put put′ → (t : Transaction) (N : Naming) (s s′ : State) → Together p m N s s′ → Known p (size p m) N t

@@ -1,14 +1,12 @@
 -- The single moves of a transaction of the part, made in the joined state and in the part's own: they keep the relation.
-use Rattle.machine.specs.All.{ℕ, suc, _+_, _-_, _≤_, _<_, _≡_, refl, sym, Bool, true, false, _&&_, true≢false, List, [], none, arith, ltb, leb, ltb-true, leb-true, Transaction, precedes, Event, earlier, Gatherer, Interrupted, insert, those, nth, setNth, Server, Queue, idleServer, emptyQueue, Code, BlockModel, State, setEntries, setQueues, setServers, setView, setSamples, setQl, setWel, setWsl, setRel, setFel, setGatherers, setInterrupted, recordOf, log, enters, toQl, toWel, toWsl, lineUp, Each}
-use Rattle.machine.proofs.decoding.Proper.{Names, servers}
-use Rattle.machine.proofs.runs.RunLaws.{each-map}
-use Rattle.machine.proofs.lists.Sorted.{each-insert}
-use Rattle.machine.proofs.lists.Lines.{each-lineUp}
+use Rattle.machine.specs.All.{ℕ, suc, _+_, _-_, _≤_, _<_, _≡_, refl, sym, Bool, true, false, _&&_, true≢false, List, [], none, arith, ltb-true, leb-true, Transaction, precedes, Event, earlier, Gatherer, Interrupted, insert, those, nth, setNth, Server, Queue, idleServer, emptyQueue, Code, BlockModel, State, setEntries, setQueues, setServers, setView, setSamples, setQl, setWel, setWsl, setRel, setFel, setGatherers, setInterrupted, recordOf, log, enters, toQl, toWel, toWsl, lineUp, Each}
+use Rattle.machine.proofs.{decoding.Proper.Names, decoding.Proper.servers, runs.RunLaws.each-map, lists.Sorted.each-insert, lists.Lines.each-lineUp}
 use Rattle.joined.specs.{Part, serverIn, inPart}
-use Rattle.joined.proofs.Lists.{insert-map, those-insert, sorted-insert, by-time, by-precedence}
-use Rattle.joined.proofs.Rows.{Rows, rows-set, rows-put, rows-at}
-use Rattle.joined.proofs.Naming.{Naming, mine, Known, eventAs, gathererAs, earlier-seen, part-insert, known-insert, lineUp-seen}
-use Rattle.joined.proofs.Seen.{size, blockThere, queueThere, listThere, serverThere, here, Gate, AtServer, gateThere, gateHere, Tables, aloneAs, interruptedAs, Alike, Shown, SameServer, OfPart, Seen}
+use Rattle.joined.proofs as our
+use our.Lists.{insert-map, those-insert, sorted-insert, by-time, by-precedence}
+use our.Rows.{Rows, rows-set, rows-put, rows-at}
+use our.Naming.{Naming, mine, Known, eventAs, gathererAs, earlier-seen, part-insert, known-insert, lineUp-seen}
+use our.Seen.{size, blockThere, queueThere, listThere, serverThere, here, Gate, AtServer, gateThere, gateHere, Tables, aloneAs, interruptedAs, Alike, Shown, SameServer, OfPart, Seen}
 
 both-true : (a b : Bool) → (a && b) ≡ true → (a ≡ true) × (b ≡ true)
 both-true true true e = (refl, refl)
@@ -22,7 +20,7 @@ pub record Standing (p : Part) (m : BlockModel) (block : ℕ) : Type 0 where
 
 pub standing : (p : Part) (m : BlockModel) (block : ℕ) → inPart p (size p m) block ≡ true → Standing p m block
 standing p m block e =
-    let h = both-true (ltb (p .toBlock) block) (leb block (p .toBlock + size p m)) e in
+    let h = both-true _ _ e in
     let a : p .toBlock < block = ltb-true _ _ (h .0) in
     let b : block ≤ p .toBlock + size p m = leb-true _ _ (h .1) in
     record { names = (omega arith, omega arith); there = omega arith }
@@ -69,7 +67,7 @@ module _ (p : Part) (m : BlockModel) where
     enters-own s s′ h t k = log-own _ _ counted 0 t k
       where
         at : Standing p m (t .next)
-        at = standing p m (t .next) (k .own)
+        at = standing p m _ (k .own)
 
         index : blockThere p m (t .next - p .toBlock) ≡ t .next - 1
         index = cc (at .there)
@@ -85,7 +83,7 @@ module _ (p : Part) (m : BlockModel) where
                     fixtures =
                         record {
                           entries =
-                              rows-put _ _ _ _ _ _ _ _ (h .seen .fixtures .entries) (T .blocks) (t .next - p .toBlock) (at .names) _ _ index refl _ _ (cc (rows-at _ _ _ _ _ _ _ _ (h .seen .fixtures .entries) (t .next - p .toBlock) (at .names) _ _ index refl));
+                              rows-put _ _ _ _ _ _ _ _ (h .seen .fixtures .entries) (T .blocks) _ (at .names) _ _ index refl _ _ (cc (rows-at _ _ _ _ _ _ _ _ (h .seen .fixtures .entries) _ (at .names) _ _ index refl));
                           queues = h .seen .fixtures .queues;
                           servers = h .seen .fixtures .servers;
                           lists = h .seen .fixtures .lists;
@@ -106,8 +104,8 @@ module _ (p : Part) (m : BlockModel) where
         record {
           part =
               record {
-                same = cc (h .part .same, part-insert p (size p m) N t l (h .sorted) k (h .part .known));
-                known = known-insert p (size p m) N t l (h .sorted) k (h .part .known);
+                same = cc (h .part .same, part-insert p _ N t l (h .sorted) k (h .part .known));
+                known = known-insert p _ N t l (h .sorted) k (h .part .known);
               };
           sorted = sorted-insert precedes by-precedence t l (h .sorted);
         }
@@ -119,8 +117,8 @@ module _ (p : Part) (m : BlockModel) where
           part =
               record {
                 same =
-                    cc (h .part .same, insert-map (eventAs p (size p m) N) earlier earlier e ours (each-map (λ (y : Event) q. earlier-seen p (size p m) N e y k q) ours (h .part .known)), split);
-                known = rw split (each-insert (λ (y : Event). K (y .who)) earlier e ours k (h .part .known));
+                    cc (h .part .same, insert-map (eventAs p (size p m) N) earlier earlier e ours (each-map (λ (y : Event) q. earlier-seen p _ N e y k q) ours (h .part .known)), split);
+                known = rw split (each-insert (λ (y : Event). K _) earlier e ours k (h .part .known));
               };
           sorted = sorted-insert earlier by-time e l (h .sorted);
         }
@@ -129,13 +127,13 @@ module _ (p : Part) (m : BlockModel) where
         ours = those (λ y. mine p (size p m) (y .who)) l
 
         split : those (λ y. mine p (size p m) (y .who)) (insert earlier e l) ≡ insert earlier e ours
-        split = those-insert earlier by-time (λ y. mine p (size p m) (y .who)) e l (h .sorted) (k .own)
+        split = those-insert earlier by-time (λ y. mine p _ (y .who)) e l (h .sorted) (k .own)
 
     alike-lineUp : (edition : ℕ) {l l′ : List Transaction} (t : Transaction) → K t → Alike p m N alone (λ t. t) l l′
         → Alike p m N alone (λ t. t) (lineUp edition t l) (lineUp edition (alone t) l′)
     alike-lineUp edition {l} {l′} t k h =
         record {
-          same = cc (h .same, lineUp-seen p (size p m) N edition t l k (h .known));
+          same = cc (h .same, lineUp-seen p _ N edition t l k (h .known));
           known = each-lineUp K edition t l k (h .known);
         }
 

@@ -1,13 +1,11 @@
 -- A QL of the part is parted as it is in the part alone.
 use Rattle.machine.specs.All.{ℕ, _-_, _≡_, refl, ap, _∙_, Bool, true, false, cond, not, List, [], _∷_, map, ltb, eqb, eqb-false, Transaction, anyOf, View, serverAt, Share, facility, storage, shareServer, aboveOne, BlockModel, Parted, firstOf, partBy, goes, stays, unitsOf, fits, firstOfOne, fromFront, queueRemove, partFor, Each}
-use Rattle.machine.proofs.runs.RunLaws.{each-map}
-use Rattle.machine.proofs.lists.Lines.{both-partFor}
+use Rattle.machine.proofs.{runs.RunLaws.each-map, lists.Lines.both-partFor}
 use Rattle.joined.specs.{Part, serverIn, shareIn}
-use Rattle.joined.proofs.Lists.{those-map, take-map, drop-map}
-use Rattle.joined.proofs.Naming.{Naming, Known}
-use Rattle.joined.proofs.Seen.{size, aloneAs, Alike, SameServer}
-use Rattle.joined.proofs.Inside.{Inside, units-seen}
-use Rattle.joined.proofs.OwnSteps.{Parting}
+use Rattle.joined.proofs as our
+use our.Lists.{those-map, take-map, drop-map}
+use our.{Naming.Naming, Naming.Known, Inside.Inside, Inside.units-seen, OwnSteps.Parting}
+use our.Seen.{size, aloneAs, Alike, SameServer}
 
 module _ (p : Part) (m M : BlockModel) (I : Inside p m M) (N : Naming) where
   abbrev K : Transaction → Type 0
@@ -36,7 +34,7 @@ module _ (p : Part) (m M : BlockModel) (I : Inside p m M) (N : Naming) where
   unfolding fromFront
   from-front-same b [] h = refl
   from-front-same b (t ∷ l) h =
-      rw (units-seen p m M I N t (h .0)) (go (eqb b (unitsOf M t)) (ltb b (unitsOf M t)) (from-front-same b l (h .1)) (from-front-same (b - unitsOf M t) l (h .1)))
+      rw (units-seen p m M I N t (h .0)) (go (eqb b _) (ltb b _) (from-front-same b l (h .1)) (from-front-same _ l (h .1)))
     where
       go : (x y : Bool) → fromFront m b (map alone l) ≡ parted (fromFront M b l) → fromFront m (b - unitsOf M t) (map alone l) ≡ parted (fromFront M (b - unitsOf M t) l)
           → cond x (firstOf (alone t ∷ map alone l)) (cond y (stays (alone t) (fromFront m b (map alone l))) (goes (alone t) (fromFront m (b - unitsOf M t) (map alone l))))
@@ -54,11 +52,11 @@ module _ (p : Part) (m M : BlockModel) (I : Inside p m M) (N : Naming) where
   unfolding partFor queueRemove shareIn shareServer fits
   part-same (facility v) w w′ e l h = first-same l
   part-same (storage v b) w w′ e l h =
-      cc (go (eqb (m .edition) 1) refl, I .edition)
+      cc (go _ refl, I .edition)
     where
       go : (c : Bool) → eqb (m .edition) 1 ≡ c → cond c (partBy (fits m w′ v) (map alone l)) (queueRemove m b (map alone l)) ≡ parted (cond c (partBy (fits M w (serverIn p v)) l) (queueRemove M b l))
-      go true d = by-same (fits M w (serverIn p v)) (fits m w′ v) l (each-map (λ t k. cc (units-seen p m M I N t k, e .capacity, e .inUse)) l h)
-      go false d = rw (I .units (eqb-false _ _ d)) (other (anyOf aboveOne (m .blocks)) (eqb b 1))
+      go true d = by-same _ _ l (each-map (λ t k. cc (units-seen p m M I N t k, e .capacity, e .inUse)) l h)
+      go false d = rw (I .units (eqb-false _ _ d)) (other (anyOf aboveOne _) (eqb b 1))
         where
           other : (c d : Bool) → cond c (cond d (firstOfOne m (map alone l)) (fromFront m b (map alone l))) (firstOf (map alone l)) ≡ parted (cond c (cond d (firstOfOne M l) (fromFront M b l)) (firstOf l))
           other true true = of-one-same l h
@@ -69,7 +67,7 @@ module _ (p : Part) (m M : BlockModel) (I : Inside p m M) (N : Naming) where
       → Parting p m (I .tables) N (partFor M (shareIn p x) w l) (partFor m x w′ l′)
   parts-own x w w′ e l l′ h =
       let same = ap (partFor m x w′) (h .same) ∙ part-same x w w′ e l (h .known) in
-      let known = both-partFor K M (shareIn p x) w l (h .known) in
+      let known = both-partFor K M _ w l (h .known) in
       record {
         go = record { same = cc same; known = known .0 };
         stay = record { same = cc same; known = known .1 };

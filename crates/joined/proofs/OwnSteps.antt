@@ -1,16 +1,14 @@
 -- The steps that blocks are made of, for a transaction of the part: serials, waking, servers, queues, times.
 use Rattle.machine.specs.All.{cases, ℕ, _+_, _≡_, refl, sym, ap, _∙_, subst, Bool, not, List, [], _∷_, map, take, Transaction, precedes, earlier, insert, those, others, Server, serverAt, queueAt, Code, U, NU, E, NE, F, NF, status, BlockModel, State, withSerial, withStamp, setFel, setSerial, fresh, toRel, toFel, qlOf, welOf, wake, Parted, wakeQl, wakeFirstWel, wakeWsl, setUse, setContent, timesLeft, useTime, checkWel, checkWels, Each}
-use Rattle.machine.proofs.decoding.Proper.{Names, servers}
-use Rattle.machine.proofs.runs.RunLaws.{each-map}
-use Rattle.machine.proofs.lists.Sorted.{each-those, each-drop, sorted-those}
+use Rattle.machine.proofs.{decoding.Proper.Names, decoding.Proper.servers, runs.RunLaws.each-map, lists.Sorted.each-those, lists.Sorted.each-drop, lists.Sorted.sorted-those}
 use Rattle.joined.specs.{Part, serverIn}
-use Rattle.joined.proofs.Lists.{those-map, take-map, drop-map, those-those, those-all}
-use Rattle.joined.proofs.Rows.{rows-set}
-use Rattle.joined.proofs.Ranks.{Named, rankIn}
-use Rattle.joined.proofs.Naming.{Naming, mine, Known, Ours, wake-seen}
-use Rattle.joined.proofs.Seen.{size, Gate, Tables, aloneAs, Alike, Shown, SameServer}
-use Rattle.joined.proofs.Renaming.{withSerialOf, serial-seen, known-fresh, alone-fresh}
-use Rattle.joined.proofs.OwnMoves.{Together, rel-own, fel-own, put-rel, put-wsl, put-ql, put-wel, put-samples, put-servers, put-queues}
+use Rattle.joined.proofs as our
+use our.Lists.{those-map, take-map, drop-map, those-those, those-all}
+use our.{Rows.rows-set, Ranks.Named, Ranks.rankIn}
+use our.Naming.{Naming, mine, Known, Ours, wake-seen}
+use our.Seen.{size, Gate, Tables, aloneAs, Alike, Shown, SameServer}
+use our.Renaming.{withSerialOf, serial-seen, known-fresh, alone-fresh}
+use our.OwnMoves.{Together, rel-own, fel-own, put-rel, put-wsl, put-ql, put-wel, put-samples, put-servers, put-queues}
 
 module _ (p : Part) (m : BlockModel) (T : Tables p m) where
   -- ---- With a fresh serial
@@ -22,7 +20,7 @@ module _ (p : Part) (m : BlockModel) (T : Tables p m) where
     pub toRel-own : (t : Transaction) → Ours p (size p m) N t → Together p m (withSerialOf N (s .serial)) (toRel t s) (toRel (aloneAs p m N t) s′)
     unfolding toRel
     toRel-own t k =
-        rw (alone-fresh p m N s s′ (h .seen) t) at (rel-own p m T (withSerialOf N (s .serial)) _ _ begun (withSerial (fresh s) t) (known-fresh p m N s s′ (h .seen) t k))
+        rw (alone-fresh p m N s s′ (h .seen) t) at (rel-own p m T _ _ _ begun _ (known-fresh p m N s s′ (h .seen) t k))
 
     pub toFel-own : (time : ℕ) (t : Transaction) → Ours p (size p m) N t → Together p m (withSerialOf N (s .serial)) (toFel time t s) (toFel time (aloneAs p m N t) s′)
     unfolding toFel
@@ -33,7 +31,7 @@ module _ (p : Part) (m : BlockModel) (T : Tables p m) where
         Together p m (withSerialOf N (s .serial)) (setFel (insert earlier (record { time = time; who = withStamp time (withSerial (fresh s) t) }) (s .fel)) (setSerial (fresh s) s))
         (setFel (insert earlier (record { time = time; who = withStamp time u }) (s′ .fel)) (setSerial (fresh s′) s′)))
         (alone-fresh p m N s s′ (h .seen) t)
-        (fel-own p m T (withSerialOf N (s .serial)) _ _ begun (record { time = time; who = withStamp time (withSerial (fresh s) t) })
+        (fel-own p m T _ _ _ begun (record { time = time; who = withStamp time (withSerial _ t) })
         (record { own = k′ .own; serial = k′ .serial; number = k′ .number; family = k′ .family }))
 
   module _ (N : Naming) where
@@ -48,7 +46,7 @@ module _ (p : Part) (m : BlockModel) (T : Tables p m) where
     pub shown-wake : {rel rel′ : List Transaction} → Shown p m N alone (λ t. t) precedes rel rel′ → (l : List Transaction) → Each K (those (mine p (size p m)) l)
         → Shown p m N alone (λ t. t) precedes (wake l rel) (wake (map alone (those (mine p (size p m)) l)) rel′)
     shown-wake {rel} {rel′} h l k =
-        let w = wake-seen p (size p m) N l rel (h .sorted) k (h .part .known) in
+        let w = wake-seen p _ N l rel (h .sorted) k (h .part .known) in
         record {
           part = record { same = cc (h .part .same, w .same); known = w .known };
           sorted = w .sorted;
@@ -58,8 +56,8 @@ module _ (p : Part) (m : BlockModel) (T : Tables p m) where
     shown-wake-own : {rel rel′ : List Transaction} → Shown p m N alone (λ t. t) precedes rel rel′ → (l : List Transaction) → Each K l
         → Shown p m N alone (λ t. t) precedes (wake l rel) (wake (map alone l) rel′)
     shown-wake-own {rel} {rel′} h l k =
-        let all = those-all (mine p (size p m)) l (each-map (λ t q. q .own) l k) in
-        rw all at (shown-wake h l (subst (Each K) (sym all) k))
+        let all = those-all _ l (each-map (λ t q. q .own) l k) in
+        rw all at (shown-wake h l (rw all k))
 
     -- a list parted on both sides alike
     pub record Parting (x x′ : Parted) : Type 0 where
@@ -78,22 +76,21 @@ module _ (p : Part) (m : BlockModel) (T : Tables p m) where
           → Together p m N (wakeQl part (serverIn p v) s) (wakeQl part′ v s′)
       unfolding wakeQl
       wakeQl-own part part′ v i k =
-          let woken = put-rel p m T N s s′ h (wake (part (qlOf s (serverIn p v)) .go) (s .rel)) (wake (part′ (qlOf s′ v) .go) (s′ .rel))
-          (rw (k .go .same) (shown-wake-own (h .seen .listed .rel) _ (k .go .known))) in
-          put-ql p m T N _ _ woken _ _ (rows-set _ _ _ _ _ _ _ _ (h .seen .lined .ql) (T .servers) v i _ _ (k .stay))
+          put-ql p m T N _ _ (put-rel p m T N s s′ h (wake (part (qlOf s (serverIn p v)) .go) (s .rel)) (wake (part′ (qlOf s′ v) .go) (s′ .rel))
+          (rw (k .go .same) (shown-wake-own (h .seen .listed .rel) _ (k .go .known)))) _ _ (rows-set _ _ _ _ _ _ _ _ (h .seen .lined .ql) (T .servers) v i _ _ (k .stay))
 
       pub wakeFirstWel-own : (v : ℕ) (code : Code) → Names (servers m) v → Together p m N (wakeFirstWel (serverIn p v) code s) (wakeFirstWel v code s′)
       unfolding wakeFirstWel
       wakeFirstWel-own v code i =
           let g : Gate p m = record { server = v; code = code } in
           let l = h .seen .lined .wel .alike g i in
-          let woken = put-rel p m T N s s′ h (wake (take 1 (welOf s (serverIn p v) code)) (s .rel)) (wake (take 1 (welOf s′ v code)) (s′ .rel))
+          let woken = put-rel p m T N s s′ h _ (wake (take 1 (welOf s′ v code)) _)
           (subst (λ r. Shown p m N alone (λ t. t) precedes (wake (take 1 (welOf s (serverIn p v) code)) (s .rel)) (wake r (s′ .rel)))
-          (cc (l .same, take-map alone (welOf s (serverIn p v) code)))
-          (shown-wake-own (h .seen .listed .rel) _ (first (welOf s (serverIn p v) code) (l .known)))) in
+          (cc (l .same, take-map alone _))
+          (shown-wake-own (h .seen .listed .rel) _ (first (welOf s _ code) (l .known)))) in
           put-wel p m T N _ _ woken _ _
           (rows-set _ _ _ _ _ _ _ _ (h .seen .lined .wel) (T .gates) g i _ _
-          (record { same = cc (l .same, drop-map alone (welOf s (serverIn p v) code)); known = each-drop K (welOf s (serverIn p v) code) (l .known) }))
+          (record { same = cc (l .same, drop-map alone _); known = each-drop K (welOf s _ code) (l .known) }))
         where
           first : (l : List Transaction) → Each K l → Each K (take 1 l)
           first [] k = tt
@@ -104,19 +101,23 @@ module _ (p : Part) (m : BlockModel) (T : Tables p m) where
           → Together p m N (wakeWsl q s) (wakeWsl q′ s′)
       unfolding wakeWsl
       wakeWsl-own q q′ e =
-          let ours : List Transaction = those (mine p (size p m)) (s .wsl) in
+          let ours = those _ _ in
           let l = h .seen .listed .wsl in
-          let go : those q′ (s′ .wsl) ≡ map alone (those (mine p (size p m)) (those q (s .wsl))) =
-          ap (those q′) (l .part .same) ∙ those-map alone q′ q ours e ∙ ap (map alone) (sym (those-those (mine p (size p m)) q (s .wsl))) in
-          let stay : others q′ (s′ .wsl) ≡ map alone (those (mine p (size p m)) (others q (s .wsl))) =
-          ap (others q′) (l .part .same) ∙ those-map alone (λ t. not (q′ t)) (λ t. not (q t)) ours (each-map (λ t d. ap not d) ours e)
-          ∙ ap (map alone) (sym (those-those (mine p (size p m)) (λ t. not (q t)) (s .wsl))) in
+          let go =
+          ap (those q′) (l .part .same) ∙ those-map alone q′ q ours e ∙ ap (map alone) (sym (those-those _ q _)) in
           let known : (r : Transaction → Bool) → Each K (those (mine p (size p m)) (those r (s .wsl))) =
           λ r. subst (Each K) (sym (those-those (mine p (size p m)) r (s .wsl))) (each-those K r ours (l .part .known)) in
           let woken = put-rel p m T N s s′ h (wake (those q (s .wsl)) (s .rel)) (wake (those q′ (s′ .wsl)) (s′ .rel))
           (rw go (shown-wake (h .seen .listed .rel) (those q (s .wsl)) (known q))) in
           put-wsl p m T N _ _ woken _ _
-          (record { part = record { same = stay; known = known (λ t. not (q t)) }; sorted = sorted-those precedes (λ t. not (q t)) (s .wsl) (l .sorted) })
+          (record {
+            part = record {
+              same = (ap (others q′) (l .part .same) ∙ those-map alone (λ t. not (q′ t)) (λ t. not (q t)) ours (each-map (λ t d. ap not d) ours e)
+                  ∙ ap (map alone) (sym (those-those (mine p (size p m)) (λ t. not (q t)) (s .wsl))));
+              known = known (λ t. not (q t));
+            };
+            sorted = sorted-those precedes (λ t. not (q t)) _ (l .sorted);
+          })
 
       -- ---- Servers, queues, times
 
@@ -124,10 +125,9 @@ module _ (p : Part) (m : BlockModel) (T : Tables p m) where
           → Together p m N (setUse (serverIn p v) units holder preempted s) (setUse v units (rankIn (N .numbers) holder) preempted s′)
       unfolding setUse serverAt
       setUse-own v units holder preempted i k =
-          let x = h .seen .fixtures .servers .alike v i in
           put-servers p m T N s s′ h _ _
           (rows-set _ _ _ _ _ _ _ _ (h .seen .fixtures .servers) (T .servers) v i _ _
-          (record { capacity = x .capacity; inUse = refl; holder = refl; preempted = refl; holder-named = k }))
+          (record { capacity = (h .seen .fixtures .servers .alike v i) .capacity; inUse = refl; holder = refl; preempted = refl; holder-named = k }))
 
       pub setContent-own : (q n : ℕ) → Names (m .queues) q → Together p m N (setContent (q + p .toQueue) n s) (setContent q n s′)
       unfolding setContent queueAt

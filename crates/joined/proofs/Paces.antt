@@ -1,19 +1,17 @@
 -- How far a part alone is, beside the joined run: level with it, at rest at an older clock, or behind by one clock move, which the joined run made
 -- before that part had its turn.
-use Rattle.machine.specs.All.{ℕ, suc, _≤_, _≡_, refl, sym, _∙_, subst, Bool, true, false, true≢false, List, [], _∷_, map, Option, none, some, arith, Transaction, precedes, Event, those, BlockModel, State, setMoving, setRel, nextEvents, moveClock, takeReady, taking, waitsOn, Each}
-use Rattle.machine.proofs.runs.RunLaws.{each-map, each-pair}
-use Rattle.machine.proofs.lists.Sorted.{Sorted}
+use Rattle.machine.specs.All.{ℕ, _≤_, _≡_, refl, sym, _∙_, subst, Bool, true, false, true≢false, List, [], _∷_, map, Option, none, some, arith, Transaction, precedes, Event, those, BlockModel, State, setMoving, setRel, nextEvents, moveClock, takeReady, taking, waitsOn, Each}
+use Rattle.machine.proofs.{runs.RunLaws.each-map, runs.RunLaws.each-pair, lists.Sorted.Sorted}
 use Rattle.joined.specs.{Part}
-use Rattle.joined.proofs.Naming.{Naming, mine, Known}
-use Rattle.joined.proofs.Seen.{size, Tables, aloneAs, Seen}
-use Rattle.joined.proofs.Renaming.{Extends, fixtures-more, lined-more, listed-more, told-more}
-use Rattle.joined.proofs.Inside.{Inside, waitsOn-seen}
-use Rattle.joined.proofs.OwnMoves.{Together}
-use Rattle.joined.proofs.OwnMakes.{After}
-use Rattle.joined.proofs.OwnEffect.{still}
-use Rattle.joined.proofs.OtherEffect.{Away, nobody}
-use Rattle.joined.proofs.ClockMove.{Due, notYet, now, due?, moved, moved-there, moved-here, moveClock-own, moveClock-other, moveClock-unmoved, moveClock-view}
-use Rattle.joined.proofs.Turned.{Ready, asIs, clockMoved, handed, hand, first-taken}
+use Rattle.joined.proofs as our
+use our.Naming.{Naming, mine, Known}
+use our.Seen.{size, Tables, aloneAs, Seen}
+use our.Renaming.{Extends, fixtures-more, lined-more, listed-more, told-more}
+use our.Inside.{Inside, waitsOn-seen}
+use our.{OwnMoves.Together, OwnMakes.After, OwnEffect.still}
+use our.OtherEffect.{Away, nobody}
+use our.ClockMove.{Due, notYet, now, due?, moved, moved-there, moved-here, moveClock-own, moveClock-other, moveClock-unmoved, moveClock-view}
+use our.Turned.{Ready, asIs, clockMoved, handed, hand, first-taken}
 
 -- ---- What each member of a renamed list is
 
@@ -58,7 +56,7 @@ module _ (p : Part) (m : BlockModel) where
 
   pub rebase : (N : Naming) (s a : State) → Seen p m N s a → Seen p m (rebased N (s .made)) s a
   rebase N s a h =
-      let x : Extends N (rebased N (s .made)) (s .serial) (s .made) =
+      let x : Extends N _ _ _ =
       record { serial-rank = λ k a. refl; number-rank = λ k a. refl; serial-on = λ k a. refl; number-on = λ k a. refl } in
       let us = h .counted .serials-upto in
       let un = h .counted .numbers-upto in
@@ -138,18 +136,16 @@ module _ (p : Part) (m : BlockModel) where
       -- nobody of the WSL is woken by a clock move
       waits-later : (time : ℕ) → Each (λ u. waitsOn m (moveClock time a .view) u ≡ true) (moveClock time a .wsl)
       waits-later time =
-          let ours = those (mine p (size p m)) (s .wsl) in
+          let ours = those _ _ in
           let l = k .listed .wsl .part in
           let there = moved-there p m N time (s .ql) _ _ _ _ (k .fixtures) in
-          let before = each-unmap (aloneAs p m N) (λ u. waitsOn m (a .view) u ≡ true) ours (rw (l .same) at w) in
-          let both = each-pair (Known p (size p m) N) (λ t. waitsOn m (a .view) (aloneAs p m N t) ≡ true) ours (l .known) before in
+          let both = each-pair (Known p (size p m) N) (λ t. waitsOn m (a .view) (aloneAs p m N t) ≡ true) ours (l .known) (each-unmap (aloneAs p m N) (λ u. waitsOn m (a .view) u ≡ true) ours (rw (l .same) at w)) in
           let after =
           each-map
           (λ t h.
-          waitsOn-seen p m M I N _ _ _ _ (moved-here p m N time (a .ql) _ _ _ _ there) t (h .0)
+          waitsOn-seen p m M I N _ _ _ _ (moved-here p m N time _ _ _ _ _ there) t (h .0)
           ∙ sym (waitsOn-seen p m M I N _ _ _ _ there t (h .0)) ∙ h .1) ours both in
-          subst (λ v. Each (λ u. waitsOn m v u ≡ true) (moveClock time a .wsl)) (sym (moveClock-view time a))
-          (rw (moveClock-unmoved time a .wsl, l .same) (each-mapped (aloneAs p m N) (λ (u : Transaction). waitsOn m (moved time (a .ql) (a .view)) u ≡ true) ours after))
+          rw (moveClock-view time a) (rw (moveClock-unmoved time a .wsl, l .same) (each-mapped (aloneAs p m N) (λ (u : Transaction). waitsOn m (moved time (a .ql) (a .view)) u ≡ true) ours after))
 
       by-events : (l : List Event) → s .fel ≡ l → Arrived N s a (nextEvents l s)
       unfolding nextEvents
@@ -160,7 +156,7 @@ module _ (p : Part) (m : BlockModel) where
           r = moveClock (x .time) s
 
           e : moveClock (x .time) s .moving ≡ none
-          e = moveClock-unmoved (x .time) s .moving ∙ o
+          e = moveClock-unmoved _ s .moving ∙ o
 
           seen-moved : nextEvents (a .fel) a ≡ moveClock (x .time) a → (moveClock (x .time) a .rel ≡ [] → ⊥) → After p m N (moveClock (x .time) s) (moveClock (x .time) a)
               → Arrived N s a (moveClock (x .time) s)
@@ -185,17 +181,17 @@ module _ (p : Part) (m : BlockModel) where
           )
 
           go : Due p m T s a (x .time) → Arrived N s a (moveClock (x .time) s)
-          go (notYet none-due) = unseen (moveClock (x .time) s) (moveClock-other p m T N s a k (x .time) none-due) e
-          go (now same-state filled) = seen-moved same-state filled (moveClock-own p m T N s a k (x .time) o q)
+          go (notYet none-due) = unseen _ (moveClock-other p m T N s a k _ none-due) e
+          go (now same-state filled) = seen-moved same-state filled (moveClock-own p m T N s a k _ o q)
 
     at-rest : (N : Naming) (s a b : State) → s .moving ≡ none → Stands a b → Seen p m N s b → b .moving ≡ none → b .rel ≡ [] → Each (λ u. waitsOn m (b .view) u ≡ true) (b .wsl) → Arrived N s a (nextEvents (s .fel) s)
-    at-rest N s a b o same k q z w = by-events N s a k o q z w (s .fel) refl
+    at-rest N s a b o same k q z w = by-events N s a k o q z w _ refl
     at-rest N s a b o (behind o′ z′ n) k q z w = absurd (n z)
 
     pub ready-pace : (N : Naming) (s a r : State) → Pace N s a → s .moving ≡ none → Ready s r → Arrived N s a r
     ready-pace N s a r h o (asIs t l e) = (record { naming = N; pace = h; numbers = λ k a. refl; since = refl }, o)
     ready-pace N s a r h o (clockMoved e) =
-        at-rest N s a (h .seen-as) o (h .stands) (h .seen) (moving-none (h .moving) o) (nothing-seen N s (h .seen-as) (h .seen) e) (h .holding)
+        at-rest N s a _ o (h .stands) (h .seen) (moving-none (h .moving) o) (nothing-seen N s _ (h .seen) e) (h .holding)
 
     -- ---- In hand
 
@@ -255,12 +251,12 @@ module _ (p : Part) (m : BlockModel) where
         pub own-hand : (a : State) → Stands a b → b .moving ≡ none → Clocked r b → Takes N t (hand n t l r) a
         own-hand a stands o clocked =
             let taken =
-            takes-first a b stands o (aloneAs p m N t) (map (aloneAs p m N) (those (mine p (size p m)) l)) first-seen in
+            takes-first a b stands o _ _ first-seen in
             record {
               known = all-known .0;
               takes = cc taken;
               together =
-                  rw taken (in-hand (suc (a .turns)) (clocks clocked));
+                  rw taken (in-hand _ (clocks clocked));
             }
           where
             clocks : Clocked r b → b .view .clock ≡ r .view .clock

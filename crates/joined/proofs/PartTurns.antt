@@ -1,20 +1,20 @@
 -- A turn of the joined run, for one part: its own turn, or nothing.
-use Rattle.machine.specs.All.{ℕ, suc, _+_, _-_, _≤_, _≡_, refl, sym, ap, _∙_, subst, Bool, true, false, not, Option, none, some, arith, Transaction, precedes, Event, those, serverAt, Code, facts, BlockModel, blockAt, State, setMoving, qlOf, welOf, losesTo, wake, wakeWsl, effect, taking, waitsOn, turn, Each}
-use Rattle.machine.proofs.runs.RunLaws.{each-map, each-pair}
-use Rattle.machine.proofs.lists.Sorted.{sorted-those}
+use Rattle.machine.specs.All.{ℕ, suc, _+_, _-_, _≤_, _≡_, refl, sym, ap, _∙_, Bool, true, false, not, Option, none, some, arith, Transaction, precedes, Event, those, serverAt, Code, facts, BlockModel, blockAt, State, setMoving, qlOf, welOf, losesTo, wake, wakeWsl, effect, taking, waitsOn, turn, Each}
+use Rattle.machine.proofs.{runs.RunLaws.each-map, runs.RunLaws.each-pair, lists.Sorted.sorted-those}
 use Rattle.joined.specs.{Part, inPart}
-use Rattle.joined.proofs.Lists.{those-those, those-none, those-all}
-use Rattle.joined.proofs.Naming.{Naming, mine, Known}
-use Rattle.joined.proofs.Seen.{size, aloneAs, Seen}
-use Rattle.joined.proofs.Inside.{Inside, block-seen, waitsOn-seen}
-use Rattle.joined.proofs.OwnMoves.{standing, Together}
-use Rattle.joined.proofs.OwnSteps.{shown-wake, wakeWsl-own}
-use Rattle.joined.proofs.OwnEffect.{Moved, still, goes, Done, in-part, effect-own}
-use Rattle.joined.proofs.OwnFacilities.{Others}
-use Rattle.joined.proofs.OtherSteps.{OtherServer, OtherRow, Beside}
-use Rattle.joined.proofs.OtherEffect.{Outside, nobody, Left, effect-other}
-use Rattle.joined.proofs.Turned.{settled, handed, blockOf, turned, waits-on}
-use Rattle.joined.proofs.Paces.{each-unmap, Moving, own, away, Clocked, level, resting, Stands, same, Pace, Paced, Takes}
+use Rattle.joined.proofs as our
+use our.Lists.{those-those, those-none, those-all}
+use our.Naming.{Naming, mine}
+use our.Seen.{size, aloneAs, Seen}
+use our.Inside.{Inside, block-seen, waitsOn-seen}
+use our.OwnMoves.{standing, Together}
+use our.OwnSteps.{shown-wake, wakeWsl-own}
+use our.OwnEffect.{Moved, still, goes, Done, in-part, effect-own}
+use our.OwnFacilities.{Others}
+use our.OtherSteps.{OtherServer, OtherRow}
+use our.OtherEffect.{Outside, nobody, Left, effect-other}
+use our.Turned.{settled, handed, blockOf, turned, waits-on}
+use our.Paces.{each-unmap, Moving, own, away, Clocked, level, resting, Stands, same, Pace, Paced, Takes}
 
 module _ (p : Part) (m M : BlockModel) (I : Inside p m M) where
   abbrev n : ℕ
@@ -32,22 +32,21 @@ module _ (p : Part) (m M : BlockModel) (I : Inside p m M) where
         still = (refl, refl);
       } in
       let k = wakeWsl-own p m (I .tables) N _ _ still-there (λ t. not (waitsOn M (x .view) t)) (λ t. not (waitsOn m (x′ .view) t))
-      (each-map (λ t q. cc (waitsOn-seen p m M I N _ _ _ _ (h .fixtures) t q)) (those (mine p n) (x .wsl)) (h .listed .wsl .part .known)) in
+      (each-map (λ t q. cc (waitsOn-seen p m M I N _ _ _ _ (h .fixtures) t q)) (those _ _) (h .listed .wsl .part .known)) in
       record { counted = k .seen .counted; fixtures = k .seen .fixtures; lined = k .seen .lined; listed = k .seen .listed; told = k .seen .told }
 
   -- nobody of the part is woken
   settled-other : (N : Naming) (x b : State) → Seen p m N x b → Each (λ u. waitsOn m (b .view) u ≡ true) (b .wsl) → Seen p m N (settled M x) b
   unfolding wakeWsl wake
   settled-other N x b h w =
-      let ours = those (mine p n) (x .wsl) in
-      let q : Transaction → Bool = λ t. not (waitsOn M (x .view) t) in
+      let ours = those _ _ in
+      let q : Transaction → Bool = λ t. not (waitsOn M _ t) in
       let l = h .listed .wsl in
       let waits =
       each-map (λ t d. ap not (sym (waitsOn-seen p m M I N _ _ _ _ (h .fixtures) t (d .0)) ∙ d .1)) ours
-      (each-pair (Known p n N) (λ t. waitsOn m (b .view) (aloneAs p m N t) ≡ true) ours (l .part .known)
-      (each-unmap (aloneAs p m N) (λ u. waitsOn m (b .view) u ≡ true) ours (rw (l .part .same) at w))) in
-      let go = those-those (mine p n) q (x .wsl) ∙ those-none q ours waits in
-      let stay = those-those (mine p n) (λ t. not (q t)) (x .wsl) ∙ those-all (λ t. not (q t)) ours (each-map (λ t d. cc d) ours waits) in
+      (each-pair _ (λ t. waitsOn m _ _ ≡ true) ours (l .part .known)
+      (each-unmap _ (λ u. waitsOn m _ u ≡ true) ours (rw (l .part .same) at w))) in
+      let go = those-those _ q _ ∙ those-none q ours waits in
       record {
         counted = h .counted;
         fixtures = h .fixtures;
@@ -56,11 +55,11 @@ module _ (p : Part) (m M : BlockModel) (I : Inside p m M) where
             record {
               wsl =
                   record {
-                    part = rw stay (l .part);
-                    sorted = sorted-those precedes (λ t. not (q t)) (x .wsl) (l .sorted);
+                    part = rw (those-those (mine p n) (λ t. not (q t)) (x .wsl) ∙ those-all (λ t. not (q t)) ours (each-map (λ t d. cc d) ours waits)) (l .part);
+                    sorted = sorted-those precedes (λ t. not (q t)) _ (l .sorted);
                   };
               rel =
-                  rw go at (shown-wake p m (I .tables) N (h .listed .rel) (those q (x .wsl)) (subst (Each (Known p n N)) (sym go) tt));
+                  rw go at (shown-wake p m (I .tables) N (h .listed .rel) (those q (x .wsl)) (rw go tt));
               fel = h .listed .fel;
               interrupted = h .listed .interrupted;
               facilities = h .listed .facilities;
@@ -71,7 +70,7 @@ module _ (p : Part) (m M : BlockModel) (I : Inside p m M) where
   -- ---- The part's own turn
 
   next-in : (b : ℕ) → suc b ≤ size p m → inPart p n (suc (b + p .toBlock)) ≡ true
-  next-in b h = rw one-on at (in-part p m (suc b) (omega arith, h))
+  next-in b h = rw one-on at (in-part p m _ (omega arith, h))
     where
       one-on : suc b + p .toBlock ≡ suc (b + p .toBlock)
       one-on = omega arith
@@ -89,8 +88,8 @@ module _ (p : Part) (m M : BlockModel) (I : Inside p m M) where
             record {
               seen-as = settled m x′;
               stands = same;
-              seen = settled-own (d .naming) x x′ (d .seen) (d .clock);
-              moving = moves-on (d .naming) (d .moving);
+              seen = settled-own _ x x′ (d .seen) (d .clock);
+              moving = moves-on _ (d .moving);
               clocked = level (d .clock);
               holding = waits-on m x′;
             };
@@ -101,17 +100,15 @@ module _ (p : Part) (m M : BlockModel) (I : Inside p m M) where
   pub own-turn : (N : Naming) (t : Transaction) (s a : State) → Takes p m M I N t (handed M s) a → taking (s .moving) s .moving ≡ some t → turn M s .end ≡ 0 → turn m a .end ≡ 0
       → Others p m (I .tables) N (handed M s .fel) → Paced p m N (turn M s) (turn m a)
   own-turn N t s a k e z z′ o =
-      let at = standing p m (t .next) (k .known .own) in
+      let at = standing p m _ (k .known .own) in
       let b = blockAt m (t .next - p .toBlock) in
-      let on : facts b .leaves ≡ false → inPart p n (suc (t .next)) ≡ true =
-      λ d. rw (at .there) at (next-in (t .next - p .toBlock) (I .goes-on (t .next - p .toBlock) (at .names) d)) in
       let x = effect M (blockOf M t) t (handed M s) in
       let x′ = effect m b (aloneAs p m N t) (handed m a) in
       let done : Done p m N x x′ =
-      rw (block-seen p m M I N t (k .known)) (effect-own p m M I N (handed M s) (handed m a) (k .together) t (k .known) b (I .proper _ (at .names)) (I .plain _ (at .names)) on (I .goes-back _ (at .names)) o) in
+      rw (block-seen p m M I N t (k .known)) (effect-own p m M I N (handed M s) (handed m a) (k .together) t (k .known) b (I .proper _ (at .names)) (I .plain _ (at .names)) (λ d. rw (at .there) at (next-in (t .next - p .toBlock) (I .goes-on (t .next - p .toBlock) (at .names) d))) (I .goes-back _ (at .names)) o) in
       let there = turned M s t e z .1 in
-      let here = turned m a (aloneAs p m N t) (k .takes) z′ .1 in
-      subst (Paced p m N (turn M s)) (sym here) (rw there (done-paced N x x′ done))
+      let here = turned m a _ (k .takes) z′ .1 in
+      rw here (rw there (done-paced N x x′ done))
 
   -- ---- A turn of the other part
 
@@ -135,7 +132,7 @@ module _ (p : Part) (m M : BlockModel) (I : Inside p m M) where
         stands = stands;
         seen = settled-other N x b (l .seen) w;
         moving = rw o (away (l .moving));
-        clocked = clocks (settled M x) (l .time);
+        clocked = clocks _ (l .time);
         holding = w;
       }
 
@@ -144,9 +141,8 @@ module _ (p : Part) (m M : BlockModel) (I : Inside p m M) where
       → Clocked p m (handed M s) b → taking (s .moving) s .moving ≡ some t → turn M s .end ≡ 0 → Strange N t (handed M s) → Pace p m N (turn M s) a
   other-turn N t s a b h stands o w clocked e z k =
       let c = handed M s .view .clock in
-      let beside : Beside p m N c (handed M s) b = record { seen = h; time = refl; still = refl; gates = k .gates } in
       let left =
-      effect-other p m (I .tables) N c b (I .facility) M t (k .not-mine) (k .row) (handed M s) beside (k .queues) (k .losers) (blockOf M t) (k .outside) (k .on) (k .back) in
+      effect-other p m (I .tables) N c b (I .facility) M t (k .not-mine) (k .row) (handed M s) (record { seen = h; time = refl; still = refl; gates = k .gates }) (k .queues) (k .losers) _ (k .outside) (k .on) (k .back) in
       rw (turned M s t e z .1) (left-pace N c _ a b left stands o w (clocks clocked))
     where
       clocks : Clocked p m (handed M s) b → (y : State) → y .view .clock ≡ handed M s .view .clock → Clocked p m y b

@@ -1,12 +1,9 @@
 -- The joined model and tape are proper where those of the parts are and no limit is passed.
-use Rattle.machine.specs.All.{cases, ℕ, zero, suc, _+_, _-_, _≤_, _<_, _≡_, refl, sym, subst, Bool, true, false, _&&_, true≢false, List, [], _∷_, _++_, arith, leb, length, getD, length-append, List·getD-append, leb-true, leb-false, eqb-true, Code, U, NU, E, NE, F, NF, facility, storage, Block, generate, advance, terminate, takes, frees, waitServer, waitTerms, moves, assign, priority, split, counts, assemble, preempt, giveBack, BlockModel, blockAt}
+use Rattle.machine.specs.All.{cases, ℕ, zero, suc, _+_, _-_, _≤_, _<_, _≡_, refl, sym, subst, Bool, true, false, _&&_, true≢false, List, [], _∷_, _++_, arith, length, getD, length-append, List·getD-append, leb-true, leb-false, eqb-true, Code, U, NU, E, NE, F, NF, facility, storage, Block, generate, advance, terminate, takes, frees, waitServer, waitTerms, moves, assign, priority, split, counts, assemble, preempt, giveBack, BlockModel, blockAt}
 use Rattle.machine.specs.Limits as Limits
 use Rattle.machine.proofs.decoding.Proper.{Names, Storage, CodeServer, Units, ProperBlock, Proper}
 use Rattle.joined.specs.{Part, first, second, serverIn, shareIn, blockIn, joinModels, joinTapes, joinable}
-use Rattle.joined.proofs.Terms.{getD-behind}
-use Rattle.joined.proofs.Numbering.{in-facility, in-storage}
-use Rattle.joined.proofs.Instance.{blocks-long, block-first, block-second}
-use Rattle.joined.proofs.Formed.{formed}
+use Rattle.joined.proofs.{Terms.getD-behind, Numbering.in-facility, Numbering.in-storage, Instance.blocks-long, Instance.block-first, Instance.block-second, Formed.formed}
 
 -- ---- Where no limit is passed
 
@@ -42,12 +39,12 @@ fits m₁ m₂ e =
     all : (a b c d f g h i : Bool) → (a && b && c && d && f && g && h && i) ≡ true
         → (a ≡ true) × (b ≡ true) × (c ≡ true) × (d ≡ true) × (f ≡ true) × (g ≡ true) × (h ≡ true) × (i ≡ true)
     all a b c d f g h i e =
-        let x₇ = last (a && b && c && d && f && g && h) i e in
-        let x₆ = last (a && b && c && d && f && g) h (x₇ .0) in
-        let x₅ = last (a && b && c && d && f) g (x₆ .0) in
-        let x₄ = last (a && b && c && d) f (x₅ .0) in
-        let x₃ = last (a && b && c) d (x₄ .0) in
-        let x₂ = last (a && b) c (x₃ .0) in
+        let x₇ = last _ i e in
+        let x₆ = last _ h (x₇ .0) in
+        let x₅ = last _ g (x₆ .0) in
+        let x₄ = last _ f (x₅ .0) in
+        let x₃ = last _ d (x₄ .0) in
+        let x₂ = last _ c (x₃ .0) in
         let x₁ = last a b (x₂ .0) in
         (x₁ .0, x₁ .1, x₂ .1, x₃ .1, x₄ .1, x₅ .1, x₆ .1, x₇ .1)
 
@@ -108,7 +105,7 @@ module _ (m₁ m₂ : BlockModel) where
           u .0,
           λ k e.
               let at : v ≡ m₁ .facilities + k = omega (arith, in-storage p₁ v (h .0)) in
-              rw (List·getD-append (m₁ .capacities) (m₂ .capacities) 0 (k - 1) (omega (arith, h .0, h .1))) (u .1 k at),
+              rw (List·getD-append (m₁ .capacities) _ 0 (k - 1) (omega arith)) (u .1 k at),
         );
         list-in = λ l h. (omega arith, omega arith);
         queue-in = λ q h. (omega arith, omega arith);
@@ -127,8 +124,8 @@ module _ (m₁ m₂ : BlockModel) where
               let at : v ≡ m₂ .facilities + (k - length (m₁ .capacities)) = omega (arith, in-storage p₂ v (h .0)) in
               let index : k - length (m₁ .capacities) - 1 + length (m₁ .capacities) ≡ k - 1 = omega arith in
               subst (λ x. b ≤ x)
-              (cc (index, getD-behind (m₁ .capacities) (m₂ .capacities) (k - length (m₁ .capacities) - 1) 0))
-              (u .1 (k - length (m₁ .capacities)) at),
+              (cc (index, getD-behind (m₁ .capacities) _ _ 0))
+              (u .1 _ at),
         );
         list-in = λ l h. (omega arith, omega arith);
         queue-in = λ q h. (omega arith, omega arith);
@@ -140,12 +137,11 @@ module _ (m₁ m₂ : BlockModel) where
   module _ {t₁ t₂ : List (List ℕ)} (proper₁ : Proper m₁ t₁) (proper₂ : Proper m₂ t₂) (limits : Fits m₁ m₂) (rules : m₂ .rules ≡ m₁ .rules) where
     block-proper : (n : ℕ) → 1 ≤ n → ProperBlock (joinModels m₁ m₂) (blockAt (joinModels m₁ m₂) n)
     block-proper n one =
-        cases (leb n (length (m₁ .blocks)))
-        (λ e. rw (block-first m₁ m₂ n (leb-true _ _ e) one) (proper-in p₁ m₁ (joinModels m₁ m₂) ranges₁ (blockAt m₁ n) (proper₁ .block n)))
+        cases _
+        (λ e. rw (block-first m₁ m₂ n (leb-true _ _ e) one) (proper-in p₁ m₁ _ ranges₁ _ (proper₁ .block n)))
         (λ e. let far : length (m₁ .blocks) < n = leb-false _ _ e in
         let same : n - length (m₁ .blocks) + length (m₁ .blocks) ≡ n = omega arith in
-        subst (λ i. ProperBlock (joinModels m₁ m₂) (blockAt (joinModels m₁ m₂) i)) same
-        (rw (block-second m₁ m₂ (n - length (m₁ .blocks)) (omega arith)) (proper-in p₂ m₂ (joinModels m₁ m₂) ranges₂ (blockAt m₂ (n - length (m₁ .blocks))) (proper₂ .block (n - length (m₁ .blocks))))))
+        rw (← same) (rw (block-second m₁ m₂ (n - length (m₁ .blocks)) (omega arith)) (proper-in p₂ m₂ (joinModels m₁ m₂) ranges₂ (blockAt m₂ (n - length (m₁ .blocks))) (proper₂ .block (n - length (m₁ .blocks))))))
 
     -- of a list of either
     either : {A : Type 0} (P : A → Type 0) (a b : List A) (d : A) → ((k : ℕ) → k < length a → P (getD a k d)) → ((k : ℕ) → k < length b → P (getD b k d)) → P d → (k : ℕ) → P (getD (a ++ b) k d)
@@ -164,11 +160,11 @@ module _ (m₁ m₂ : BlockModel) where
     unfolding joinModels
     proper-joined =
         record {
-          block = λ n. rw (less n) at (block-proper (suc (n - 1)) (omega arith));
+          block = λ n. rw less at (block-proper (suc (n - 1)) (omega arith));
           blocks = (omega (arith, blocks-long m₁ m₂), omega (arith, blocks-long m₁ m₂));
           facilities = limits .facilities;
           storages = omega (arith, length-append (m₁ .capacities) (m₂ .capacities));
-          capacity = within (Names Limits.maxCapacity) (m₁ .capacities) (m₂ .capacities) 0 (proper₁ .capacity) (proper₂ .capacity);
+          capacity = within (Names Limits.maxCapacity) (m₁ .capacities) _ 0 (proper₁ .capacity) (proper₂ .capacity);
           queues = limits .queues;
           lists = limits .lists;
           counter = (omega arith, limits .counter);

@@ -1,12 +1,12 @@
 -- The part's records of the joined run, by rank, are its own: the numbers with a record are those on the part's roll.
 use Rattle.machine.specs.All.{cases, ℕ, _-_, _≤_, _≡_, refl, sym, ap, _∙_, Bool, true, false, cond, _||_, true≢false, List, [], _∷_, _++_, map, reverse, reverse-cons, arith, ltb, eqb, eqb-true, ltb-true, ltb-false, those, anyOf, bit, BlockModel, Record, State, Logged, recordsOf, Each}
-use Rattle.machine.proofs.runs.RunLaws.{each-map}
-use Rattle.machine.proofs.lists.Sums.{upTo-cong}
+use Rattle.machine.proofs.{runs.RunLaws.each-map, lists.Sums.upTo-cong}
 use Rattle.joined.specs.{Part, inPart, recordsIn, rank, byRank, partOf}
-use Rattle.joined.proofs.Lists.{reverse-map, map-same, no-true, all-same}
-use Rattle.joined.proofs.Ranks.{rankIn, rank-less, rank-mono, rank-eqb, listed, listed-within}
-use Rattle.joined.proofs.Naming.{Naming}
-use Rattle.joined.proofs.Seen.{size, recordAs, Seen}
+use Rattle.joined.proofs as our
+use our.Lists.{reverse-map, map-same, no-true, all-same}
+use our.Ranks.{rankIn, rank-less, rank-mono, rank-eqb, listed, listed-within}
+use our.Naming.{Naming}
+use our.Seen.{size, recordAs, Seen}
 
 -- ---- Selection and reversal
 
@@ -23,7 +23,7 @@ module _ {A : Type 0} where
   those-reverse : (q : A → Bool) (l : List A) → those q (reverse l) ≡ reverse (those q l)
   unfolding those
   those-reverse q [] = refl
-  those-reverse q (x ∷ l) = cc (reverse-cons x l, those-append q (reverse l) (x ∷ []), those-reverse q l, go (q x))
+  those-reverse q (x ∷ l) = cc (reverse-cons x l, those-append q (reverse l) (x ∷ []), those-reverse q l, go _)
     where
       nil : (r : List A) → r ++ [] ≡ r
       nil [] = refl
@@ -31,12 +31,12 @@ module _ {A : Type 0} where
 
       go : (c : Bool) → reverse (those q l) ++ cond c (x ∷ []) [] ≡ reverse (cond c (x ∷ those q l) (those q l))
       go true = sym (reverse-cons x (those q l))
-      go false = nil (reverse (those q l))
+      go false = nil _
 
   any-append : (q : A → Bool) (a b : List A) → anyOf q (a ++ b) ≡ (anyOf q a || anyOf q b)
   unfolding anyOf
   any-append q [] b = refl
-  any-append q (x ∷ a) b = cc (any-append q a b, assoc (q x) (anyOf q a) (anyOf q b))
+  any-append q (x ∷ a) b = cc (any-append q a b, assoc _ _ _)
     where
       assoc : (a b c : Bool) → (a || (b || c)) ≡ ((a || b) || c)
       assoc true b c = refl
@@ -45,7 +45,7 @@ module _ {A : Type 0} where
   any-reverse : (q : A → Bool) (l : List A) → anyOf q (reverse l) ≡ anyOf q l
   unfolding anyOf
   any-reverse q [] = refl
-  any-reverse q (x ∷ l) = cc (reverse-cons x l, any-append q (reverse l) (x ∷ []), any-reverse q l, swap (anyOf q l) (q x))
+  any-reverse q (x ∷ l) = cc (reverse-cons x l, any-append q (reverse l) (x ∷ []), any-reverse q l, swap _ _)
     where
       swap : (a b : Bool) → (a || (b || false)) ≡ (b || a)
       swap true true = refl
@@ -88,28 +88,28 @@ module _ (p : Part) (m : BlockModel) (N : Naming) (s a : State) (h : Seen p m N 
   -- a number on the roll has a record
   listed-has : (k : ℕ) → N .numbers k ≡ true → anyOf (λ r. eqb (r .transaction) k) ours ≡ true
   listed-has k e =
-      let one = cases (ltb 0 k) (λ d. ltb-true 0 k d) (λ d. absurd (true≢false (cc (e, zero-of d, nobody)))) in
+      let one = cases _ (λ d. ltb-true 0 k d) (λ d. absurd (true≢false (cc (e, zero-of d, nobody)))) in
       let low = rank-less (N .numbers) 0 k e (omega arith) in
-      let high = rank-mono (N .numbers) k (s .made) (listed-within (N .numbers) (s .made) k (h .counted .numbers-upto) e) in
-      cc (any-same (λ r. eqb (rankIn (N .numbers) (r .transaction)) (rankIn (N .numbers) k)) (λ r. eqb (r .transaction) k) ours (each-map (λ (r : Record) q. rank-eqb (N .numbers) (r .transaction) k (listed q) (listed e)) ours known), any-map (recordAs p m N) (λ (r : Record). eqb (r .transaction) (rankIn (N .numbers) k)) ours, h .told .same, any-map (λ (r : Logged). r .entry) (λ (r : Record). eqb (r .transaction) (rankIn (N .numbers) k)) (a .records), all (rankIn (N .numbers) k) (omega arith) (omega (arith, h .counted .made)))
+      let high = rank-mono (N .numbers) k _ (listed-within _ _ k (h .counted .numbers-upto) e) in
+      cc (any-same (λ r. eqb (rankIn (N .numbers) (r .transaction)) _) (λ r. eqb _ k) ours (each-map (λ (r : Record) q. rank-eqb _ _ k (listed q) (listed e)) ours known), any-map (recordAs p m N) (λ (r : Record). eqb (r .transaction) (rankIn (N .numbers) k)) ours, h .told .same, any-map (λ (r : Logged). r .entry) (λ (r : Record). eqb (r .transaction) (rankIn (N .numbers) k)) _, all (rankIn (N .numbers) k) (omega arith) (omega arith))
     where
       zero-of : ltb 0 k ≡ false → k ≡ 0
       zero-of d = omega (arith, ltb-false)
 
   on-roll : (k : ℕ) → anyOf (λ r. eqb (r .transaction) k) ours ≡ N .numbers k
-  on-roll k = cases (N .numbers k) (λ e. rw e (listed-has k e)) (λ e. rw e (any-none (λ r. eqb (r .transaction) k) ours
-      (each-map (λ r q. no-true (eqb (r .transaction) k) (λ d. true≢false (cc (q, eqb-true (r .transaction) k d, e)))) ours known)))
+  on-roll k = cases (N .numbers k) (λ e. rw e (listed-has k e)) (λ e. rw e (any-none (λ r. eqb _ k) ours
+      (each-map (λ r q. no-true _ (λ d. true≢false (cc (q, eqb-true _ k d, e)))) ours known)))
 
   -- in the order of writing, as the part numbers its blocks
   listing : recordsIn p (size p m) (recordsOf s) ≡ reverse (map back ours)
   unfolding recordsIn recordsOf
   listing =
-      cc (reverse-map (λ (r : Logged). r .entry) (s .records), those-reverse (λ (r : Record). inPart p (size p m) (r .block)) (map (λ r. r .entry) (s .records)), reverse-map back ours)
+      cc (reverse-map (λ (r : Logged). r .entry) _, those-reverse (λ (r : Record). inPart p (size p m) (r .block)) (map (λ r. r .entry) (s .records)), reverse-map back ours)
 
   alone-records : recordsOf a ≡ map (λ r. numbered (rankIn (N .numbers) (r .transaction)) r) (reverse (map back ours))
   unfolding recordsOf
   alone-records =
-      cc (reverse-map (λ (r : Logged). r .entry) (a .records), h .told .same, twice ours, reverse-map (λ (r : Record). numbered (rankIn (N .numbers) (r .transaction)) r) (map back ours))
+      cc (reverse-map (λ (r : Logged). r .entry) _, h .told .same, twice ours, reverse-map (λ (r : Record). numbered (rankIn (N .numbers) (r .transaction)) r) _)
     where
       twice : (l : List Record) → map (recordAs p m N) l ≡ map (λ r. numbered (rankIn (N .numbers) (r .transaction)) r) (map back l)
       twice [] = refl
@@ -120,7 +120,7 @@ module _ (p : Part) (m : BlockModel) (N : Naming) (s a : State) (h : Seen p m N 
   part-records =
       rw (
         listing,
-        map-same (λ (r : Record). numbered (rank (reverse (map back ours)) (r .transaction)) r) (λ (r : Record). numbered (rankIn (N .numbers) (r .transaction)) r) (reverse (map back ours)) (all-same (λ (r : Record). numbered (rank (reverse (map back ours)) (r .transaction)) r ≡ numbered (rankIn (N .numbers) (r .transaction)) r) (λ r. ap (λ (k : ℕ). numbered k r) (unfold rank rankIn in upTo-cong (λ k. bit (anyOf (λ r. eqb (r .transaction) k) (reverse (map back ours)))) (λ k. bit (N .numbers k)) (r .transaction)
-            (λ k low high. ap bit (any-reverse (λ r. eqb (r .transaction) k) (map back ours) ∙ any-map back (λ r. eqb (r .transaction) k) ours ∙ on-roll k)))) (reverse (map back ours))),
+        map-same (λ (r : Record). numbered _ r) (λ (r : Record). numbered _ r) _ (all-same (λ (r : Record). numbered (rank (reverse (map back ours)) (r .transaction)) r ≡ numbered (rankIn (N .numbers) (r .transaction)) r) (λ r. ap (λ (k : ℕ). numbered k r) (unfold rank rankIn in upTo-cong (λ k. bit (anyOf (λ r. eqb _ k) _)) (λ k. bit (N .numbers k)) _
+            (λ k low high. ap bit (any-reverse (λ r. eqb _ k) _ ∙ any-map back (λ r. eqb _ k) ours ∙ on-roll k)))) (reverse (map back ours))),
         ← alone-records,
       )

@@ -30,9 +30,9 @@ module _ (r : Roll) where
       zero-of : (x : ℕ) → x ≤ 0 → x ≡ 0
       zero-of x h = omega arith
   rank-mono x (suc y) h =
-      cases (eqb x (suc y))
-      (λ e. omega (arith, ap (rankIn r) (eqb-true x (suc y) e)))
-      (λ e. let less = strictly x (suc y) h (eqb-false _ _ e) in
+      cases _
+      (λ e. omega (arith, ap (rankIn r) (eqb-true x _ e)))
+      (λ e. let less = strictly x _ h (eqb-false _ _ e) in
       omega (arith, rank-step y, (rank-mono x y) (omega arith)))
 
   pub rank-less : (x y : ℕ) → r y ≡ true → x < y → rankIn r x < rankIn r y
@@ -40,17 +40,16 @@ module _ (r : Roll) where
   rank-less x (suc y) e h = omega (arith, rank-step y, ap bit e, rank-mono x y (omega arith))
 
   pub rank-ltb : (x y : ℕ) → r x ≡ true → r y ≡ true → ltb (rankIn r x) (rankIn r y) ≡ ltb x y
-  rank-ltb x y a b = go (ltb x y) refl
+  rank-ltb x y a b = go _ refl
     where
       go : (c : Bool) → ltb x y ≡ c → ltb (rankIn r x) (rankIn r y) ≡ c
       go true e = lt-ltb _ _ (rank-less x y b (ltb-true _ _ e))
-      go false e = le-ltb _ _ (other (eqb y x) refl)
+      go false e = le-ltb _ _ (other _ refl)
         where
           other : (c : Bool) → eqb y x ≡ c → rankIn r y ≤ rankIn r x
           other true d = omega (arith, ap (rankIn r) (eqb-true y x d))
           other false d =
-              let less = strictly y x (ltb-false x y e) (eqb-false y x d) in
-              omega (arith, rank-less y x a less)
+              omega (arith, rank-less y x a (strictly y x (ltb-false x y e) (eqb-false y x d)))
 
   -- on the roll, or none
   pub data Named (x : ℕ) : Type 0 where
@@ -62,11 +61,11 @@ module _ (r : Roll) where
   rank-apart x y (nobody e) h q = omega arith
 
   pub rank-eqb : (x y : ℕ) → Named x → Named y → eqb (rankIn r x) (rankIn r y) ≡ eqb x y
-  rank-eqb x y a b = go (eqb x y) refl
+  rank-eqb x y a b = go _ refl
     where
       go : (c : Bool) → eqb x y ≡ c → eqb (rankIn r x) (rankIn r y) ≡ c
       go true e = eq-eqb _ _ (ap (rankIn r) (eqb-true _ _ e))
-      go false e = ne-eqb _ _ (λ q. other (ltb x y) refl q)
+      go false e = ne-eqb _ _ (λ q. other _ refl q)
         where
           other : (c : Bool) → ltb x y ≡ c → rankIn r x ≡ rankIn r y → ⊥
           other true d q = rank-apart x y b (ltb-true _ _ d) q
@@ -92,14 +91,14 @@ module _ (r : Roll) (n : ℕ) (own : Bool) where
 
   pub rank-noting : (k : ℕ) → k ≤ n → rankIn (noting r (suc n) own) k ≡ rankIn r k
   unfolding rankIn
-  rank-noting k h = upTo-cong (λ i. bit (noting r (suc n) own i)) (λ i. bit (r i)) k (λ i a b. cc (noting-below i (omega arith)))
+  rank-noting k h = upTo-cong (λ i. bit (noting r _ own i)) (λ i. bit (r i)) k (λ i a b. cc (noting-below i (omega arith)))
 
   pub rank-noted : rankIn (noting r (suc n) own) (suc n) ≡ rankIn r n + bit own
-  rank-noted = rank-step (noting r (suc n) own) n ∙ (rw (rank-noting n (omega arith), noted) refl)
+  rank-noted = rank-step _ n ∙ (rw (rank-noting n (omega arith), noted) refl)
 
   pub noting-upto : Upto r n → Upto (noting r (suc n) own) (suc n)
   noting-upto h k lt = rw (ne-eqb k (suc n) (λ e. omega arith)) (h k (omega arith))
 
 -- who is on a roll is no further than the roll goes
 pub listed-within : (r : Roll) (n x : ℕ) → Upto r n → r x ≡ true → x ≤ n
-listed-within r n x h e = cases (ltb n x) (λ d. absurd (true≢false (cc (e, h x (ltb-true _ _ d))))) (λ d. ltb-false _ _ d)
+listed-within r n x h e = cases _ (λ d. absurd (true≢false (cc (e, h x (ltb-true _ _ d))))) (λ d. ltb-false _ _ d)

@@ -1,17 +1,12 @@
 -- Whoever waits, gathers, holds a facility or was interrupted has a record; so in a run that ends dry everybody made has one.
-use Rattle.machine.specs.All.{ℕ, zero, suc, _-_, _*_, _≤_, _≡_, refl, sym, ap, _∙_, subst, Bool, true, false, cond, not, _&&_, _||_, true≢false, List, [], _∷_, _++_, map, Option, none, some, arith, leb, eqb, length, take, replicate, eqb-true, eqb-false, eq-eqb, le-leb, Transaction, precedes, Event, Gatherer, Interrupted, those, anyOf, flat, Server, idleServer, serverAt, free, Code, Share, facility, storage, shareServer, shareUnits, shareHolder, Block, generate, advance, terminate, takes, frees, waitServer, waitTerms, moves, assign, priority, split, counts, assemble, preempt, giveBack, BlockModel, welIndex, State, Logged, withReturning, withSerial, setMoving, setEnded, setTurns, recordOf, log, enters, moveTo, fresh, toRel, toFel, toQl, toWel, toWsl, qlOf, welOf, beginWait, mustWait, wake, Parted, wakeQl, wakeFirstWel, wakeWsl, setUse, setContent, arrival, copyOf, copies, gatherersAt, inFamily, waitsFor, toGatherers, comes, released, ofFacility, losersTo, interrupt, resume, setWaitsFor, checkWels, partFor, wakeFor, freeUnits, endsOne, delay, takeUnits, effect, sampleServers, sample, arriveAll, moveClock, nextEvents, takeFirst, takeReady, taking, answer, execute, turn, startAt, idle, start, run, runFrom, steps, nobodyLeft, movingOne, Each, count, everyone, standing, isLiving, madeBy, terminates, Keeps}
-use Rattle.machine.proofs.decoding.Proper.{Proper, servers}
+use Rattle.machine.specs.All.{ℕ, zero, suc, _*_, _≤_, _≡_, refl, sym, ap, _∙_, subst, Bool, true, false, cond, not, _&&_, _||_, true≢false, List, [], _∷_, _++_, map, Option, none, some, arith, leb, eqb, length, take, replicate, eqb-true, eqb-false, eq-eqb, le-leb, Transaction, precedes, Event, Gatherer, Interrupted, those, anyOf, flat, Server, idleServer, serverAt, Code, Share, facility, storage, shareServer, shareUnits, shareHolder, Block, generate, advance, terminate, takes, frees, waitServer, waitTerms, moves, assign, priority, split, counts, assemble, preempt, giveBack, BlockModel, State, Logged, setEnded, recordOf, log, enters, moveTo, toRel, toFel, toQl, toWel, toWsl, qlOf, welOf, beginWait, mustWait, wake, Parted, wakeQl, wakeFirstWel, wakeWsl, setUse, setContent, arrival, copies, gatherersAt, inFamily, waitsFor, toGatherers, comes, released, ofFacility, losersTo, interrupt, resume, setWaitsFor, checkWels, wakeFor, freeUnits, endsOne, delay, takeUnits, effect, sampleServers, sample, arriveAll, moveClock, nextEvents, takeFirst, takeReady, taking, answer, execute, turn, startAt, idle, start, run, runFrom, steps, nobodyLeft, movingOne, Each, count, everyone, standing, isLiving, terminates, Keeps}
+use Rattle.machine.proofs.{decoding.Proper.Proper, decoding.Proper.servers, Demand3.keeps-all, runs.Shape.each-set, runs.Shape.each-getD, lists.Lines.each-lineUp, lists.Lines.both-partFor, runs.Everybody.Maybe, order.Losers.loser-loses}
 use Rattle.machine.proofs.runs.RunLaws.{cond-cases, each-map, each-state, each-last, last}
-use Rattle.machine.proofs.Demand3.{keeps-all}
-use Rattle.joined.proofs.Ends.{Dries, dry, turns, dries}
-use Rattle.joined.proofs.Paces.{each-mapped}
-use Rattle.joined.proofs.JointRun.{empty-of}
 use Rattle.machine.proofs.lists.Sorted.{each-insert, each-those, each-drop, each-replace}
-use Rattle.machine.proofs.runs.Shape.{each-set, each-getD}
-use Rattle.machine.proofs.lists.Lines.{each-lineUp, both-partFor}
-use Rattle.machine.proofs.runs.Everybody.{Maybe}
-use Rattle.machine.proofs.order.Losers.{loser-loses}
 use Rattle.machine.proofs.lists.Cases.{checkWels-kept, waitServer-cases, waitTerms-cases, assemble-cases, preempt-cases, giveBack-cases, wsScheme-cases, startOf-cases}
+use Rattle.joined.proofs as our
+use our.Ends.{Dries, dry, turns, dries}
+use our.{Paces.each-mapped, JointRun.empty-of}
 
 -- ---- Definition
 
@@ -49,46 +44,46 @@ module _ (R : ℕ → Type 0) where
   wakes (t ∷ l) rel h k = wakes l _ (h .1) (each-insert Mark precedes _ rel (λ q. h .0) k)
 
   at-row : {A : Type 0} (P : A → Type 0) (l : List (List A)) (i : ℕ) → Each (Each P) l → Each P (lib.ListN.getD l i [])
-  at-row P l i h = each-getD (Each P) l i [] h tt
+  at-row P l i h = each-getD _ l i [] h tt
 
   server-of : (s : State) → Knows s → (v : ℕ) → Holder (serverAt (s .view) v .holder)
   unfolding serverAt idleServer
-  server-of s h v = each-getD (λ x. Holder (x .holder)) (s .view .servers) (v - 1) (idleServer 0) (h .holders) (nobody refl)
+  server-of s h v = each-getD (λ x. Holder _) (s .view .servers) _ _ (h .holders) (nobody refl)
 
   -- ---- Steps
 
   rel-knows : (t : Transaction) (s : State) → Mark t → Knows s → Knows (toRel t s)
   unfolding toRel
-  rel-knows t s q h = record { ql = h .ql; wel = h .wel; wsl = h .wsl; rel = each-insert Mark precedes _ (s .rel) q (h .rel); gatherers = h .gatherers; interrupted = h .interrupted; holders = h .holders; moving = h .moving; kept = h .kept }
+  rel-knows t s q h = record { ql = h .ql; wel = h .wel; wsl = h .wsl; rel = each-insert Mark precedes _ _ q (h .rel); gatherers = h .gatherers; interrupted = h .interrupted; holders = h .holders; moving = h .moving; kept = h .kept }
 
   ql-knows : (edition v : ℕ) (t : Transaction) (s : State) → Has t → Knows s → Knows (toQl edition v t s)
   unfolding toQl
-  ql-knows edition v t s q h = record { ql = each-set (Each Has) (s .ql) (v - 1) _ (h .ql) (each-lineUp Has edition t (qlOf s v) q (at-row Has (s .ql) (v - 1) (h .ql))); wel = h .wel; wsl = h .wsl; rel = h .rel; gatherers = h .gatherers; interrupted = h .interrupted; holders = h .holders; moving = h .moving; kept = h .kept }
+  ql-knows edition v t s q h = record { ql = each-set _ (s .ql) _ _ (h .ql) (each-lineUp Has edition t _ q (at-row Has (s .ql) _ (h .ql))); wel = h .wel; wsl = h .wsl; rel = h .rel; gatherers = h .gatherers; interrupted = h .interrupted; holders = h .holders; moving = h .moving; kept = h .kept }
 
   wel-knows : (edition v : ℕ) (code : Code) (t : Transaction) (s : State) → Has t → Knows s → Knows (toWel edition v code t s)
   unfolding toWel
-  wel-knows edition v code t s q h = record { ql = h .ql; wel = each-set (Each Has) (s .wel) (welIndex v code) _ (h .wel) (each-lineUp Has edition t (welOf s v code) q (at-row Has (s .wel) (welIndex v code) (h .wel))); wsl = h .wsl; rel = h .rel; gatherers = h .gatherers; interrupted = h .interrupted; holders = h .holders; moving = h .moving; kept = h .kept }
+  wel-knows edition v code t s q h = record { ql = h .ql; wel = each-set _ (s .wel) _ _ (h .wel) (each-lineUp Has edition t _ q (at-row Has (s .wel) _ (h .wel))); wsl = h .wsl; rel = h .rel; gatherers = h .gatherers; interrupted = h .interrupted; holders = h .holders; moving = h .moving; kept = h .kept }
 
   wsl-knows : (t : Transaction) (s : State) → Has t → Knows s → Knows (toWsl t s)
   unfolding toWsl
-  wsl-knows t s q h = record { ql = h .ql; wel = h .wel; wsl = each-insert Has precedes t (s .wsl) q (h .wsl); rel = h .rel; gatherers = h .gatherers; interrupted = h .interrupted; holders = h .holders; moving = h .moving; kept = h .kept }
+  wsl-knows t s q h = record { ql = h .ql; wel = h .wel; wsl = each-insert Has precedes t _ q (h .wsl); rel = h .rel; gatherers = h .gatherers; interrupted = h .interrupted; holders = h .holders; moving = h .moving; kept = h .kept }
 
   gathers-knows : (t : Transaction) (s : State) → Has t → Knows s → Knows (toGatherers t s)
   unfolding toGatherers
-  gathers-knows t s q h = record { ql = h .ql; wel = h .wel; wsl = h .wsl; rel = h .rel; gatherers = each-set (Each (λ g. Has (g .who))) (s .gatherers) (t .next - 1) _ (h .gatherers) (each-insert (λ g. Has (g .who)) (λ a b. precedes (a .who) (b .who)) _ (gatherersAt s (t .next)) q (at-row (λ g. Has (g .who)) (s .gatherers) (t .next - 1) (h .gatherers))); interrupted = h .interrupted; holders = h .holders; moving = h .moving; kept = h .kept }
+  gathers-knows t s q h = record { ql = h .ql; wel = h .wel; wsl = h .wsl; rel = h .rel; gatherers = each-set (Each (λ g. Has (g .who))) (s .gatherers) _ _ (h .gatherers) (each-insert (λ g. Has (g .who)) (λ a b. precedes _ _) _ _ q (at-row (λ g. Has (g .who)) (s .gatherers) _ (h .gatherers))); interrupted = h .interrupted; holders = h .holders; moving = h .moving; kept = h .kept }
 
   replaced : (few : List Gatherer) (t : Transaction) (s : State) → Each (λ g. Has (g .who)) few → Knows s → Knows (setWaitsFor t few s)
-  replaced few t s q h = record { ql = h .ql; wel = h .wel; wsl = h .wsl; rel = h .rel; gatherers = each-set (Each (λ g. Has (g .who))) (s .gatherers) (t .next - 1) _ (h .gatherers) (each-replace (λ g. Has (g .who)) (inFamily t) few (gatherersAt s (t .next)) q (at-row (λ g. Has (g .who)) (s .gatherers) (t .next - 1) (h .gatherers))); interrupted = h .interrupted; holders = h .holders; moving = h .moving; kept = h .kept }
+  replaced few t s q h = record { ql = h .ql; wel = h .wel; wsl = h .wsl; rel = h .rel; gatherers = each-set (Each (λ g. Has (g .who))) (s .gatherers) _ _ (h .gatherers) (each-replace (λ g. Has (g .who)) _ few _ q (at-row (λ g. Has (g .who)) (s .gatherers) _ (h .gatherers))); interrupted = h .interrupted; holders = h .holders; moving = h .moving; kept = h .kept }
 
   wakeQl-knows : (part : List Transaction → Parted) (v : ℕ) (s : State) → Each Has (part (qlOf s v) .go) → Each Has (part (qlOf s v) .stay) → Knows s → Knows (wakeQl part v s)
   unfolding wakeQl
-  wakeQl-knows part v s a b h = record { ql = each-set (Each Has) (s .ql) (v - 1) _ (h .ql) b; wel = h .wel; wsl = h .wsl; rel = wakes (part (qlOf s v) .go) (s .rel) a (h .rel); gatherers = h .gatherers; interrupted = h .interrupted; holders = h .holders; moving = h .moving; kept = h .kept }
+  wakeQl-knows part v s a b h = record { ql = each-set _ (s .ql) _ _ (h .ql) b; wel = h .wel; wsl = h .wsl; rel = wakes _ _ a (h .rel); gatherers = h .gatherers; interrupted = h .interrupted; holders = h .holders; moving = h .moving; kept = h .kept }
 
   wakeWel-knows : (v : ℕ) (code : Code) (s : State) → Knows s → Knows (wakeFirstWel v code s)
   unfolding wakeFirstWel
   wakeWel-knows v code s h =
-      let row = at-row Has (s .wel) (welIndex v code) (h .wel) in
-      record { ql = h .ql; wel = each-set (Each Has) (s .wel) (welIndex v code) _ (h .wel) (each-drop Has (welOf s v code) row); wsl = h .wsl; rel = wakes (take 1 (welOf s v code)) (s .rel) (first (welOf s v code) row) (h .rel); gatherers = h .gatherers; interrupted = h .interrupted; holders = h .holders; moving = h .moving; kept = h .kept }
+      let row = at-row Has (s .wel) _ (h .wel) in
+      record { ql = h .ql; wel = each-set _ (s .wel) _ _ (h .wel) (each-drop Has (welOf s v code) row); wsl = h .wsl; rel = wakes _ _ (first (welOf s v code) row) (h .rel); gatherers = h .gatherers; interrupted = h .interrupted; holders = h .holders; moving = h .moving; kept = h .kept }
     where
       first : (l : List Transaction) → Each Has l → Each Has (take 1 l)
       first [] k = tt
@@ -96,11 +91,11 @@ module _ (R : ℕ → Type 0) where
 
   wakeWsl-knows : (p : Transaction → Bool) (s : State) → Knows s → Knows (wakeWsl p s)
   unfolding wakeWsl
-  wakeWsl-knows p s h = record { ql = h .ql; wel = h .wel; wsl = each-those Has (λ t. not (p t)) (s .wsl) (h .wsl); rel = wakes (those p (s .wsl)) (s .rel) (each-those Has p (s .wsl) (h .wsl)) (h .rel); gatherers = h .gatherers; interrupted = h .interrupted; holders = h .holders; moving = h .moving; kept = h .kept }
+  wakeWsl-knows p s h = record { ql = h .ql; wel = h .wel; wsl = each-those Has (λ t. not (p t)) _ (h .wsl); rel = wakes _ _ (each-those Has p _ (h .wsl)) (h .rel); gatherers = h .gatherers; interrupted = h .interrupted; holders = h .holders; moving = h .moving; kept = h .kept }
 
   use-knows : (v units holder : ℕ) (preempted : Bool) (s : State) → Holder holder → Knows s → Knows (setUse v units holder preempted s)
   unfolding setUse
-  use-knows v units holder preempted s q h = record { ql = h .ql; wel = h .wel; wsl = h .wsl; rel = h .rel; gatherers = h .gatherers; interrupted = h .interrupted; holders = each-set (λ x. Holder (x .holder)) (s .view .servers) (v - 1) _ (h .holders) q; moving = h .moving; kept = h .kept }
+  use-knows v units holder preempted s q h = record { ql = h .ql; wel = h .wel; wsl = h .wsl; rel = h .rel; gatherers = h .gatherers; interrupted = h .interrupted; holders = each-set (λ x. Holder _) (s .view .servers) _ _ (h .holders) q; moving = h .moving; kept = h .kept }
 
   check-knows : (v : ℕ) (s : State) → Knows s → Knows (checkWels v s)
   check-knows v s h = checkWels-kept Knows v (λ code s h. wakeWel-knows v code s h) s h
@@ -123,7 +118,7 @@ module _ (R : ℕ → Type 0) where
   unfolding copies
   copies-knows zero target t s h = h
   copies-knows (suc n) target t s h =
-      copies-knows n target t _ (rel-knows (copyOf t (suc (s .made)) target) _ (λ q. absurd (true≢false (sym q))) (record { ql = h .ql; wel = h .wel; wsl = h .wsl; rel = h .rel; gatherers = h .gatherers; interrupted = h .interrupted; holders = h .holders; moving = h .moving; kept = h .kept }))
+      copies-knows n target t _ (rel-knows _ _ (λ q. absurd (true≢false (sym q))) (record { ql = h .ql; wel = h .wel; wsl = h .wsl; rel = h .rel; gatherers = h .gatherers; interrupted = h .interrupted; holders = h .holders; moving = h .moving; kept = h .kept }))
 
   content-knows : (q n : ℕ) (s : State) → Knows s → Knows (setContent q n s)
   unfolding setContent
@@ -131,11 +126,11 @@ module _ (R : ℕ → Type 0) where
 
   interrupt-knows : (e : Event) (t : Transaction) (f : ℕ) (s : State) → Has (e .who) → Knows s → Knows (interrupt e t f s)
   unfolding interrupt
-  interrupt-knows e t f s q h = record { ql = h .ql; wel = h .wel; wsl = h .wsl; rel = h .rel; gatherers = h .gatherers; interrupted = each-insert (λ i. Has (i .who)) (λ a b. precedes (a .who) (b .who)) _ (s .interrupted) q (h .interrupted); holders = h .holders; moving = h .moving; kept = h .kept }
+  interrupt-knows e t f s q h = record { ql = h .ql; wel = h .wel; wsl = h .wsl; rel = h .rel; gatherers = h .gatherers; interrupted = each-insert (λ i. Has (i .who)) (λ a b. precedes _ _) _ _ q (h .interrupted); holders = h .holders; moving = h .moving; kept = h .kept }
 
   resume-knows : (i : Interrupted) (f : ℕ) (s : State) → Knows s → Knows (resume i f s)
   unfolding resume toFel
-  resume-knows i f s h = record { ql = h .ql; wel = h .wel; wsl = h .wsl; rel = h .rel; gatherers = h .gatherers; interrupted = each-replace (λ x. Has (x .who)) (ofFacility f) [] (s .interrupted) tt (h .interrupted); holders = h .holders; moving = h .moving; kept = h .kept }
+  resume-knows i f s h = record { ql = h .ql; wel = h .wel; wsl = h .wsl; rel = h .rel; gatherers = h .gatherers; interrupted = each-replace (λ x. Has (x .who)) _ [] _ tt (h .interrupted); holders = h .holders; moving = h .moving; kept = h .kept }
 
   ended-knows : (n : ℕ) (s : State) → Knows s → Knows (setEnded n s)
   ended-knows n s h = record { ql = h .ql; wel = h .wel; wsl = h .wsl; rel = h .rel; gatherers = h .gatherers; interrupted = h .interrupted; holders = h .holders; moving = h .moving; kept = h .kept }
@@ -175,11 +170,11 @@ Good s = Knows (HasRecord (s .records)) s
 
 -- whatever the test was
 close : (R : ℕ → Type 0) (s : State) → Knows R s → Good s
-close R s h = grows R (HasRecord (s .records)) s s (h .kept) (λ n k. k) refl refl refl refl refl refl refl refl h
+close R s h = grows R _ s s (h .kept) (λ n k. k) refl refl refl refl refl refl refl refl h
 
 has-more : (r : Logged) (l : List Logged) (n : ℕ) → HasRecord l n → HasRecord (r ∷ l) n
 unfolding anyOf
-has-more r l n h one = or-true (eqb (r .entry .transaction) n) _ (h one)
+has-more r l n h one = or-true (eqb _ n) _ (h one)
   where
     or-true : (a b : Bool) → b ≡ true → (a || b) ≡ true
     or-true true b e = refl
@@ -187,7 +182,7 @@ has-more r l n h one = or-true (eqb (r .entry .transaction) n) _ (h one)
 
 log-knows : (outcome : ℕ) (t : Transaction) (s : State) → Good s → Knows (HasRecord (log outcome t s .records)) (log outcome t s)
 unfolding log
-log-knows outcome t s h = grows (HasRecord (s .records)) _ s (log outcome t s) (λ n k. has-more _ (s .records) n k) (λ n k. k) refl refl refl refl refl refl refl refl h
+log-knows outcome t s h = grows _ _ s _ (λ n k. has-more _ _ n k) (λ n k. k) refl refl refl refl refl refl refl refl h
 
 log-has : (outcome : ℕ) (t : Transaction) (s : State) → HasRecord (log outcome t s .records) (t .number)
 unfolding log recordOf
@@ -199,7 +194,7 @@ enters-has t s = log-has 0 t _
 
 enters-more : (t : Transaction) (s : State) (n : ℕ) → HasRecord (s .records) n → HasRecord (enters t s .records) n
 unfolding enters log
-enters-more t s n h = has-more _ (s .records) n h
+enters-more t s n h = has-more _ _ n h
 
 -- onto a list
 abbrev Puts : (Transaction → State → State) → Type 1
@@ -208,12 +203,12 @@ Puts put = (R : ℕ → Type 0) (t : Transaction) (s : State) → R (t .number) 
 begins-knows : (put : Transaction → State → State) → Puts put → (t : Transaction) (s : State) → Good s → Good (beginWait put t s)
 begins-knows put P t s h =
     let k = log-knows 1 t s h in
-    close _ _ (P (HasRecord (log 1 t s .records)) (withSerial (fresh s) t) _ (log-has 1 t s)
+    close _ _ (P _ _ _ (log-has 1 t s)
     (record { ql = k .ql; wel = k .wel; wsl = k .wsl; rel = k .rel; gatherers = k .gatherers; interrupted = k .interrupted; holders = k .holders; moving = k .moving; kept = k .kept }))
 
 waits-knows : (put : Transaction → State → State) → Puts put → (t : Transaction) (s : State) → Mark (HasRecord (s .records)) t → Good s → Good (mustWait put t s)
 unfolding mustWait
-waits-knows put P t s q h = cond-cases Good (t .returning) _ _ (λ e. close _ _ (P _ t s (q e) h)) (λ e. begins-knows put P t s h)
+waits-knows put P t s q h = cond-cases Good _ _ _ (λ e. close _ _ (P _ t s (q e) h)) (λ e. begins-knows put P t s h)
 
 module _ (m : BlockModel) (t : Transaction) (s : State) (h : Good s) (mark : Mark (HasRecord (s .records)) t) where
   abbrev R : ℕ → Type 0
@@ -233,21 +228,21 @@ module _ (m : BlockModel) (t : Transaction) (s : State) (h : Good s) (mark : Mar
   units-knows : (x : Share) (preempts : Bool) → Good (takeUnits m x preempts t s)
   unfolding takeUnits
   units-knows x preempts =
-      cond-cases Good (leb (shareUnits x) (free (serverAt (s .view) (shareServer x)))) _ _
-      (λ e. on _ t _ (check-knows R (shareServer x) _ (use-knows R (shareServer x) _ _ preempts _ (holder-of x) h₁)))
-      (λ e. waits-knows (toQl (m .edition) (shareServer x)) (λ R t s q h. ql-knows R (m .edition) (shareServer x) t s q h) t s mark h)
+      cond-cases Good (leb (shareUnits x) _) _ _
+      (λ e. on _ t _ (check-knows R _ _ (use-knows R _ _ _ preempts _ (holder-of x) h₁)))
+      (λ e. waits-knows _ (λ R t s q h. ql-knows R _ _ t s q h) t s mark h)
 
   frees-knows : (x : Share) (y : State) → Knows R y → Knows R (wakeFor m x (freeUnits (shareServer x) (shareUnits x) y))
   unfolding wakeFor
   frees-knows x y k =
-      let f = use-knows R (shareServer x) (serverAt (y .view) (shareServer x) .inUse - shareUnits x) 0 false y (nobody refl) k in
-      let parts = both-partFor (Has R) m x (freeUnits (shareServer x) (shareUnits x) y .view) (qlOf (freeUnits (shareServer x) (shareUnits x) y) (shareServer x))
-      (at-row R (Has R) (freeUnits (shareServer x) (shareUnits x) y .ql) (shareServer x - 1) (f .ql)) in
-      wakeQl-knows R (partFor m x (freeUnits (shareServer x) (shareUnits x) y .view)) (shareServer x) _ (parts .0) (parts .1) f
+      let f = use-knows R _ _ 0 false y (nobody refl) k in
+      let parts = both-partFor _ m x _ _
+      (at-row R _ (freeUnits _ _ y .ql) _ (f .ql)) in
+      wakeQl-knows R _ _ _ (parts .0) (parts .1) f
 
   -- a loser held the facility
   loser-has : (f : ℕ) (e : Event) (l : List Event) → losersTo t f s ≡ e ∷ l → R (e .who .number)
-  loser-has f e l k = rw (loser-loses t f s e l k .number) (holder (server-of (HasRecord (s .records)) s h f))
+  loser-has f e l k = rw (loser-loses t f s e l k .number) (holder (server-of _ s h f))
     where
       holder : {n : ℕ} → Holder (HasRecord (s .records)) n → R n
       holder {n} (nobody z) = λ one. absurd (omega arith)
@@ -256,7 +251,7 @@ module _ (m : BlockModel) (t : Transaction) (s : State) (h : Good s) (mark : Mar
   -- who gathers or was interrupted
   waiter-has : (g : Gatherer) (l : List Gatherer) → waitsFor t s ≡ g ∷ l → R (g .who .number)
   waiter-has g l k =
-      enters-more t s _ (rw k at (each-those (λ (x : Gatherer). HasRecord (s .records) (x .who .number)) (inFamily t) (gatherersAt s (t .next)) (at-row (HasRecord (s .records)) (λ (x : Gatherer). HasRecord (s .records) (x .who .number)) (s .gatherers) (t .next - 1) (h .gatherers))) .0)
+      enters-more t s _ (rw k at (each-those (λ (x : Gatherer). HasRecord _ _) (inFamily t) (gatherersAt s (t .next)) (at-row (HasRecord (s .records)) (λ (x : Gatherer). HasRecord _ _) (s .gatherers) _ (h .gatherers))) .0)
 
   effect-knows : (b : Block) → Good (effect m b t s)
   unfolding effect takeUnits shareServer shareUnits
@@ -264,10 +259,10 @@ module _ (m : BlockModel) (t : Transaction) (s : State) (h : Good s) (mark : Mar
   effect-knows (advance list) = close R _ (delay-knows R _ list t _ h₁)
   effect-knows (terminate a) = close R _ (ends-knows R a _ h₁)
   effect-knows (takes x) = units-knows x false
-  effect-knows (frees x) = on _ t _ (check-knows R (shareServer x) _ (frees-knows x _ h₁))
+  effect-knows (frees x) = on _ t _ (check-knows R _ _ (frees-knows x _ h₁))
   effect-knows (waitServer code v c) =
-      waitServer-cases Good m code v c t s (λ e. waits-knows (toWel (m .edition) v code) (λ R t s q h. wel-knows R (m .edition) v code t s q h) t s mark h)
-      (λ e. close (HasRecord (s .records)) _ (moves-knows (HasRecord (s .records)) _ t _ (wakeWel-knows (HasRecord (s .records)) v code s h))) (λ e. on _ _ _ (wakeWel-knows R v code _ h₁))
+      waitServer-cases Good m code v c t s (λ e. waits-knows _ (λ R t s q h. wel-knows R _ v code t s q h) t s mark h)
+      (λ e. close _ _ (moves-knows _ _ t _ (wakeWel-knows _ v code s h))) (λ e. on _ _ _ (wakeWel-knows R v code _ h₁))
   effect-knows (waitTerms a r b) = waitTerms-cases Good m a r b t s (λ e. waits-knows toWsl (λ R t s q h. wsl-knows R t s q h) t s mark h) (λ e. on _ t _ h₁)
   effect-knows (moves c target) = on _ t _ h₁
   effect-knows (assign k a) = on _ _ _ h₁
@@ -277,13 +272,13 @@ module _ (m : BlockModel) (t : Transaction) (s : State) (h : Good s) (mark : Mar
   effect-knows (assemble n) =
       assemble-cases Good m n t s (λ e. begins-knows toGatherers (λ R t s q h. gathers-knows R t s q h) t s h)
       (λ g l e z. close R _ (unfold released in rel-knows R _ _ (λ q. absurd (true≢false (sym q))) (replaced R [] t _ tt (ended-knows R _ _ h₁))))
-      (λ g l e z. close R _ (unfold comes in replaced R (record { who = g .who; come = suc (g .come) } ∷ []) t _ ((waiter-has g l e), tt) (ended-knows R _ _ h₁)))
+      (λ g l e z. close R _ (unfold comes in replaced R (record { who = g .who; come = suc _ } ∷ []) t _ ((waiter-has g l e), tt) (ended-knows R _ _ h₁)))
   effect-knows (preempt f) =
       preempt-cases Good m f t s (λ e. units-knows (facility f) true)
-      (λ x l e. on _ t _ (check-knows R f _ (use-knows R f _ (t .number) true _ (known (enters-has t s)) (interrupt-knows R x t f _ (loser-has f x l e) h₁))))
+      (λ x l e. on _ t _ (check-knows R f _ (use-knows R f _ _ true _ (known (enters-has t s)) (interrupt-knows R x t f _ (loser-has f x l e) h₁))))
   effect-knows (giveBack f) =
-      giveBack-cases Good m f t s (λ e. on _ t _ (check-knows R f _ (frees-knows (facility f) _ h₁)))
-      (λ i l e. on _ t _ (check-knows R f _ (resume-knows R i f _ (use-knows R f _ (i .who .number) false _ (known (enters-more t s _ (rw e at (each-those (λ (x : Interrupted). HasRecord (s .records) (x .who .number)) (ofFacility f) (s .interrupted) (h .interrupted)) .0))) h₁))))
+      giveBack-cases Good m f t s (λ e. on _ t _ (check-knows R f _ (frees-knows _ _ h₁)))
+      (λ i l e. on _ t _ (check-knows R f _ (resume-knows R i f _ (use-knows R f _ _ false _ (known (enters-more t s _ (rw e at (each-those (λ (x : Interrupted). HasRecord _ _) (ofFacility f) (s .interrupted) (h .interrupted)) .0))) h₁))))
 
 -- ---- Turns
 
@@ -297,12 +292,12 @@ module _ (R : ℕ → Type 0) where
   arrives-knows : (l : List Event) (s : State) → Knows R s → Knows R (arriveAll l s)
   unfolding arriveAll
   arrives-knows [] s h = h
-  arrives-knows (e ∷ l) s h = arrives-knows l _ (rel-knows R (withReturning false (e .who)) s (λ q. absurd (true≢false (sym q))) h)
+  arrives-knows (e ∷ l) s h = arrives-knows l _ (rel-knows R _ s (λ q. absurd (true≢false (sym q))) h)
 
   events-knows : (l : List Event) (s : State) → Knows R s → Knows R (nextEvents l s)
   unfolding nextEvents
   events-knows [] s h = h
-  events-knows (e ∷ l) s h = unfold moveClock sample in arrives-knows _ _ (record { ql = h .ql; wel = h .wel; wsl = h .wsl; rel = h .rel; gatherers = h .gatherers; interrupted = h .interrupted; holders = sampled _ (s .view .servers) (s .ql) (h .holders); moving = h .moving; kept = h .kept })
+  events-knows (e ∷ l) s h = unfold moveClock sample in arrives-knows _ _ (record { ql = h .ql; wel = h .wel; wsl = h .wsl; rel = h .rel; gatherers = h .gatherers; interrupted = h .interrupted; holders = sampled _ _ _ (h .holders); moving = h .moving; kept = h .kept })
 
   first-knows : (l : List Transaction) (s : State) → Each (Mark R) l → Knows R s → Knows R (takeFirst l s)
   unfolding takeFirst
@@ -311,17 +306,17 @@ module _ (R : ℕ → Type 0) where
 
   ready-knows : (l : List Transaction) (s : State) → Each (Mark R) l → Knows R s → Knows R (takeReady l s)
   unfolding takeReady
-  ready-knows [] s k h = let x = events-knows (s .fel) s h in first-knows _ _ (x .rel) x
-  ready-knows (t ∷ l) s k h = first-knows (t ∷ l) s k h
+  ready-knows [] s k h = let x = events-knows _ s h in first-knows _ _ (x .rel) x
+  ready-knows (t ∷ l) s k h = first-knows _ s k h
 
   taking-knows : (o : Option Transaction) (s : State) → Knows R s → Knows R (taking o s)
   unfolding taking
-  taking-knows none s h = ready-knows (s .rel) s (h .rel) h
+  taking-knows none s h = ready-knows _ s (h .rel) h
   taking-knows (some t) s h = h
 
 answer-knows : (n : ℕ) (m : BlockModel) (b : Block) (t : Transaction) (s : State) → Mark (HasRecord (s .records)) t → Good s → Good (answer n m b t s)
 unfolding answer
-answer-knows zero m b t s q h = effect-knows m t (setMoving none s) (record { ql = h .ql; wel = h .wel; wsl = h .wsl; rel = h .rel; gatherers = h .gatherers; interrupted = h .interrupted; holders = h .holders; moving = tt; kept = h .kept }) q b
+answer-knows zero m b t s q h = effect-knows m t _ (record { ql = h .ql; wel = h .wel; wsl = h .wsl; rel = h .rel; gatherers = h .gatherers; interrupted = h .interrupted; holders = h .holders; moving = tt; kept = h .kept }) q b
 answer-knows (suc n) m b t s q h = record { ql = h .ql; wel = h .wel; wsl = h .wsl; rel = h .rel; gatherers = h .gatherers; interrupted = h .interrupted; holders = h .holders; moving = h .moving; kept = h .kept }
 
 execute-knows : (o : Option Transaction) (m : BlockModel) (s : State) → Maybe (Mark (HasRecord (s .records))) o → Good s → Good (execute o m s)
@@ -332,9 +327,9 @@ execute-knows (some t) m s q h = answer-knows _ m _ t s q h
 turn-knows : (m : BlockModel) (s : State) → Good s → Good (turn m s)
 unfolding turn
 turn-knows m s g =
-    let k = close _ _ (taking-knows (HasRecord (s .records)) (s .moving) s g) in
-    let h : Good (setTurns (suc (s .turns)) (taking (s .moving) s)) = record { ql = k .ql; wel = k .wel; wsl = k .wsl; rel = k .rel; gatherers = k .gatherers; interrupted = k .interrupted; holders = k .holders; moving = k .moving; kept = k .kept } in
-    let x = execute-knows (taking (s .moving) s .moving) m (setTurns (suc (s .turns)) (taking (s .moving) s)) (h .moving) h in
+    let k = close _ _ (taking-knows _ _ s g) in
+    let h : Good _ = record { ql = k .ql; wel = k .wel; wsl = k .wsl; rel = k .rel; gatherers = k .gatherers; interrupted = k .interrupted; holders = k .holders; moving = k .moving; kept = k .kept } in
+    let x = execute-knows _ m _ (h .moving) h in
     wsScheme-cases Good m _ (λ e. close _ _ (wakeWsl-knows _ _ _ x)) (λ e. x)
 
 -- ---- The start
@@ -353,8 +348,8 @@ idle-knows : (m : BlockModel) (tape : List (List ℕ)) → Good (idle m tape)
 unfolding idle
 idle-knows m tape =
     record {
-      ql = rows-empty (Has (HasRecord [])) (servers m);
-      wel = rows-empty (Has (HasRecord [])) (servers m * 6);
+      ql = rows-empty _ (servers m);
+      wel = rows-empty _ (servers m * 6);
       wsl = tt;
       rel = tt;
       gatherers = rows-empty (λ g. Has (HasRecord []) (g .who)) (length (m .blocks));
@@ -367,7 +362,7 @@ idle-knows m tape =
 startAt-knows : (n : ℕ) (l : List Block) (s : State) → Good s → Good (startAt n l s)
 unfolding startAt
 startAt-knows n [] s h = h
-startAt-knows n (b ∷ l) s h = startAt-knows (suc n) l _ (startOf-cases Good b n s (λ e. h) (λ e. close _ _ (arrival-knows _ _ _ _ n s h)))
+startAt-knows n (b ∷ l) s h = startAt-knows _ l _ (startOf-cases Good b n s (λ e. h) (λ e. close _ _ (arrival-knows _ _ _ _ n s h)))
 
 -- ---- A run that ends dry
 
@@ -375,12 +370,12 @@ module _ (m : BlockModel) (budget room : ℕ) where
   nobody-last : (k : ℕ) (s : State) → s .end ≡ 0 → runFrom k m budget room s .end ≡ 1 → nobodyLeft (runFrom k m budget room s) ≡ true
   unfolding runFrom
   nobody-last zero s z e = cc
-  nobody-last (suc k) s z e = go (dries m budget room (suc k) s z e) e (nobody-last k)
+  nobody-last (suc k) s z e = go (dries m budget room _ s z e) e (nobody-last k)
     where
       go : Dries m budget room s (suc k) → runFrom (suc k) m budget room s .end ≡ 1
           → ((s : State) → s .end ≡ 0 → runFrom k m budget room s .end ≡ 1 → nobodyLeft (runFrom k m budget room s) ≡ true) → nobodyLeft (runFrom (suc k) m budget room s) ≡ true
       go (dry left q) e rest = rw q (unfold nobodyLeft in left)
-      go (turns left zt q) e rest = rw q (rest (turn m s) zt (ap (λ (x : State). x .end) (sym q) ∙ e))
+      go (turns left zt q) e rest = rw q (rest _ zt (ap (λ (x : State). x .end) (sym q) ∙ e))
 
 each-join : {A : Type 0} (P : A → Type 0) (a b : List A) → Each P a → Each P b → Each P (a ++ b)
 each-join P [] b h k = k
@@ -389,26 +384,22 @@ each-join P (x ∷ a) b h k = (h .0, each-join P a b (h .1) k)
 each-flat : {A : Type 0} (P : A → Type 0) (l : List (List A)) → Each (Each P) l → Each P (flat l)
 unfolding flat
 each-flat P [] h = tt
-each-flat P (x ∷ l) h = each-join P x (flat l) (h .0) (each-flat P l (h .1))
+each-flat P (x ∷ l) h = each-join P x _ (h .0) (each-flat P l (h .1))
 
 -- everybody who is left then
 everyone-has : (s : State) → Good s → nobodyLeft s ≡ true → Each (λ t. HasRecord (s .records) (t .number)) (everyone s)
 unfolding everyone movingOne
 everyone-has s h left =
     let e = empty-of s left in
-    let P : Transaction → Type 0 = λ t. HasRecord (s .records) (t .number) in
-    let l₁ = flat (s .ql) ++ flat (s .wel) in
-    let e₁ = each-join P (flat (s .ql)) (flat (s .wel)) (each-flat P (s .ql) (h .ql)) (each-flat P (s .wel) (h .wel)) in
-    let e₂ = each-join P l₁ (s .wsl) e₁ (h .wsl) in
-    let e₃ = each-join P (l₁ ++ s .wsl) (s .rel) e₂ (rw (e .rel) tt) in
+    let P : Transaction → Type 0 = λ t. HasRecord _ _ in
+    let l₁ = flat _ ++ flat _ in
+    let e₂ = each-join P l₁ (s .wsl) (each-join P (flat (s .ql)) (flat (s .wel)) (each-flat P (s .ql) (h .ql)) (each-flat P (s .wel) (h .wel))) (h .wsl) in
     let f = map (λ x. x .who) (s .fel) in
-    let e₄ = each-join P (l₁ ++ s .wsl ++ s .rel) f e₃ (rw (e .fel) tt) in
-    let e₅ =
-    each-join P (l₁ ++ s .wsl ++ s .rel ++ f) (movingOne (s .moving)) e₄ (rw (e .moving) tt) in
+    let e₄ = each-join P (l₁ ++ s .wsl ++ s .rel) f (each-join P (l₁ ++ s .wsl) (s .rel) e₂ (rw (e .rel) tt)) (rw (e .fel) tt) in
     let g = map (λ x. x .who) (flat (s .gatherers)) in
     let e₆ =
-    each-join P (l₁ ++ s .wsl ++ s .rel ++ f ++ movingOne (s .moving)) g e₅
-    (each-mapped (λ x. x .who) P (flat (s .gatherers)) (each-flat (λ x. P (x .who)) (s .gatherers) (h .gatherers))) in
+    each-join P (l₁ ++ s .wsl ++ s .rel ++ f ++ movingOne (s .moving)) g (each-join P (l₁ ++ s .wsl ++ s .rel ++ f) (movingOne (s .moving)) e₄ (rw (e .moving) tt))
+    (each-mapped (λ x. x .who) P (flat _) (each-flat (λ x. P (x .who)) _ (h .gatherers))) in
     each-join P (l₁ ++ s .wsl ++ s .rel ++ f ++ movingOne (s .moving) ++ g) (map (λ i. i .who) (s .interrupted)) e₆
     (each-mapped (λ i. i .who) P (s .interrupted) (h .interrupted))
 
@@ -416,7 +407,7 @@ everyone-has s h left =
 counted : {A : Type 0} (p : A → Bool) (l : List A) (C : Type 0) → (count p l ≡ 0 → ⊥) → (P : A → Type 0) → Each P l → ((x : A) → P x → p x ≡ true → C) → C
 unfolding count those
 counted p [] C n P h f = absurd (n refl)
-counted {A} p (x ∷ l) C n P h f = go (p x) refl n (λ k. counted p l C k P (h .1) f)
+counted {A} p (x ∷ l) C n P h f = go _ refl n (λ k. counted p l C k P (h .1) f)
   where
     go : (b : Bool) → p x ≡ b → (length (cond b (x ∷ those p l) (those p l)) ≡ 0 → ⊥) → ((length (those p l) ≡ 0 → ⊥) → C) → C
     go true e n rest = f x (h .0) e
@@ -425,7 +416,7 @@ counted {A} p (x ∷ l) C n P h f = go (p x) refl n (λ k. counted p l C k P (h 
 found : (p : Logged → Bool) (n : ℕ) (l : List Logged) → ((r : Logged) → p r ≡ true → eqb (r .entry .transaction) n ≡ true) → (count p l ≡ 0 → ⊥) → anyOf (λ r. eqb (r .entry .transaction) n) l ≡ true
 unfolding count those anyOf
 found p n [] f h = absurd (h refl)
-found p n (r ∷ l) f h = go (p r) refl h (λ k. found p n l f k)
+found p n (r ∷ l) f h = go _ refl h (λ k. found p n l f k)
   where
     or-true : (a b : Bool) → b ≡ true → (a || b) ≡ true
     or-true true b e = refl
@@ -434,18 +425,18 @@ found p n (r ∷ l) f h = go (p r) refl h (λ k. found p n l f k)
     go : (b : Bool) → p r ≡ b → (length (cond b (r ∷ those p l) (those p l)) ≡ 0 → ⊥) → ((length (those p l) ≡ 0 → ⊥) → anyOf (λ r. eqb (r .entry .transaction) n) l ≡ true)
         → (eqb (r .entry .transaction) n || anyOf (λ r. eqb (r .entry .transaction) n) l) ≡ true
     go true e h rest = rw f refl
-    go false e h rest = or-true (eqb (r .entry .transaction) n) _ (rest h)
+    go false e h rest = or-true (eqb _ n) _ (rest h)
 
 pub everybody-recorded : {m : BlockModel} {tape : List (List ℕ)} → Proper m tape → (budget room : ℕ) → start m tape .end ≡ 0 → run m tape budget room .end ≡ 1
     → (n : ℕ) → 1 ≤ n → n ≤ run m tape budget room .made → anyOf (λ r. eqb (r .entry .transaction) n) (run m tape budget room .records) ≡ true
 unfolding run standing isLiving
-everybody-recorded {m} {tape} proper budget room z e n low high = go (isLiving m tape (run m tape budget room .records) n) refl
+everybody-recorded {m} {tape} proper budget room z e n low high = go _ refl
   where
     knows : Good (run m tape budget room)
-    knows = each-last Good (last m budget room tape) (each-state m budget room Good (λ s t h. turn-knows m s h) (λ s e c h. record { ql = h .ql; wel = h .wel; wsl = h .wsl; rel = h .rel; gatherers = h .gatherers; interrupted = h .interrupted; holders = h .holders; moving = h .moving; kept = h .kept }) tape (unfold start in startAt-knows 1 (m .blocks) _ (idle-knows m tape)))
+    knows = each-last Good (last m budget room tape) (each-state m budget room Good (λ s t h. turn-knows m s h) (λ s e c h. record { ql = h .ql; wel = h .wel; wsl = h .wsl; rel = h .rel; gatherers = h .gatherers; interrupted = h .interrupted; holders = h .holders; moving = h .moving; kept = h .kept }) tape (unfold start in startAt-knows 1 _ _ (idle-knows m tape)))
 
     keeps : Keeps m tape (run m tape budget room)
-    keeps = each-last (Keeps m tape) (last m budget room tape) (keeps-all proper budget room)
+    keeps = each-last _ (last m budget room tape) (keeps-all proper budget room)
 
     and-true : (a b c : Bool) → a ≡ true → b ≡ true → (a && b && c) ≡ false → c ≡ false
     and-true true true c x y d = d
@@ -461,12 +452,12 @@ everybody-recorded {m} {tape} proper budget room z e n low high = go (isLiving m
 
     go : (b : Bool) → isLiving m tape (run m tape budget room .records) n ≡ b → anyOf (λ r. eqb (r .entry .transaction) n) (run m tape budget room .records) ≡ true
     go true d =
-        counted (λ t. eqb (t .number) n) (everyone (run m tape budget room)) _ (λ c. one c (cc (keeps .one-place n, d)))
-        (λ t. HasRecord (run m tape budget room .records) (t .number)) (everyone-has (run m tape budget room) knows (nobody-last m budget room steps (start m tape) z e))
-        (λ t h q. subst (HasRecord (run m tape budget room .records)) (eqb-true (t .number) n q) h low)
+        counted (λ t. eqb _ n) (everyone _) _ (λ c. one c (cc (keeps .one-place n, d)))
+        (λ t. HasRecord _ _) (everyone-has _ knows (nobody-last m budget room steps _ z e))
+        (λ t h q. subst (HasRecord _) (eqb-true _ n q) h low)
       where
         one : {k : ℕ} → k ≡ 0 → k ≡ 1 → ⊥
         one q c = omega arith
     go false d =
-        found (λ r. terminates m tape r && eqb (r .entry .transaction) n) n (run m tape budget room .records) ours
-        (eqb-false _ _ (and-true (leb 1 n) (leb n (madeBy m tape (run m tape budget room .records))) _ (le-leb 1 n low) (le-leb n _ (rw (keeps .made) at high)) d))
+        found (λ r. terminates m tape r && eqb _ n) n _ ours
+        (eqb-false _ _ (and-true _ _ _ (le-leb 1 n low) (le-leb n _ (rw (keeps .made) at high)) d))

@@ -2,11 +2,11 @@
 use Rattle.machine.specs.All.{ℕ, suc, _+_, _-_, _≤_, _≡_, refl, sym, _∙_, Bool, true, List, map, arith, Transaction, Event, Gatherer, Interrupted, those, Server, View, BlockModel, Record, State, Logged, withSerial, setSerial, setMade, fresh}
 use Rattle.machine.proofs.runs.RunLaws.{each-map}
 use Rattle.joined.specs.{Part, inPart}
-use Rattle.joined.proofs.Lists.{map-same}
-use Rattle.joined.proofs.Rows.{rows-map}
-use Rattle.joined.proofs.Ranks.{rankIn, rank-zero, rank-skip, Named, listed, nobody, noting, Upto, noted, noting-below, rank-noting, rank-noted, noting-upto, listed-within}
-use Rattle.joined.proofs.Naming.{Naming, Known, Ours, eventAs, gathererAs}
-use Rattle.joined.proofs.Seen.{size, aloneAs, recordAs, interruptedAs, Alike, Shown, SameServer, Fixtures, Lined, Listed, Told, Seen}
+use Rattle.joined.proofs as our
+use our.{Lists.map-same, Rows.rows-map}
+use our.Ranks.{rankIn, rank-zero, rank-skip, Named, listed, nobody, noting, Upto, noted, noting-below, rank-noting, rank-noted, noting-upto, listed-within}
+use our.Naming.{Naming, Known, Ours, eventAs}
+use our.Seen.{size, aloneAs, recordAs, interruptedAs, Alike, Shown, SameServer, Fixtures, Lined, Listed, Told, Seen}
 
 -- ---- What was given stays
 
@@ -22,18 +22,18 @@ module _ (p : Part) (m : BlockModel) (N N′ : Naming) (last born : ℕ) (E : Ex
   K = Known p (size p m) N
 
   number-same : (k : ℕ) → N .numbers k ≡ true → rankIn (N .numbers) k ≡ rankIn (N′ .numbers) k
-  number-same k e = sym (E .number-rank k (listed-within (N .numbers) born k un e))
+  number-same k e = sym (E .number-rank k (listed-within _ born k un e))
 
   number-more : (k : ℕ) → N .numbers k ≡ true → N′ .numbers k ≡ true
-  number-more k e = E .number-on k (listed-within (N .numbers) born k un e) ∙ e
+  number-more k e = E .number-on k (listed-within _ born k un e) ∙ e
 
   pub known-more : (t : Transaction) → K t → Known p (size p m) N′ t
   known-more t h =
       record {
         own = h .own;
-        serial = E .serial-on (t .serial) (listed-within (N .serials) last (t .serial) us (h .serial)) ∙ h .serial;
-        number = number-more (t .number) (h .number);
-        family = number-more (t .family) (h .family);
+        serial = E .serial-on _ (listed-within _ last _ us (h .serial)) ∙ h .serial;
+        number = number-more _ (h .number);
+        family = number-more _ (h .family);
       }
 
   abbrev named-as : Transaction → (number serial family : ℕ) → Transaction
@@ -51,7 +51,7 @@ module _ (p : Part) (m : BlockModel) (N N′ : Naming) (last born : ℕ) (E : Ex
 
   pub alone-same : (t : Transaction) → K t → aloneAs p m N t ≡ aloneAs p m N′ t
   alone-same t h =
-      cc (number-same (t .number) (h .number), E .serial-rank (t .serial) (listed-within (N .serials) last (t .serial) us (h .serial)), number-same (t .family) (h .family))
+      cc (number-same _ (h .number), E .serial-rank _ (listed-within _ last _ us (h .serial)), number-same _ (h .family))
 
   -- ---- Lists
 
@@ -60,18 +60,18 @@ module _ (p : Part) (m : BlockModel) (N N′ : Naming) (last born : ℕ) (E : Ex
     alike-more l l′ h =
         record {
           same = h .same ∙ map-same f f′ l (each-map (λ x k. same x k) l (h .known));
-          known = each-map (λ x k. known-more (who x) k) l (h .known);
+          known = each-map (λ x k. known-more _ k) l (h .known);
         }
 
     shown-more : (before : A → A → Bool) (l l′ : List A) → Shown p m N f who before l l′ → Shown p m N′ f′ who before l l′
     shown-more before l l′ h = record { part = alike-more _ l′ (h .part); sorted = h .sorted }
 
   event-same : (e : Event) → K (e .who) → eventAs p (size p m) N e ≡ eventAs p (size p m) N′ e
-  event-same e h = cc (alone-same (e .who) h)
+  event-same e h = cc (alone-same _ h)
 
   interrupted-same : (i : Interrupted) → K (i .who) → interruptedAs p m N i ≡ interruptedAs p m N′ i
   interrupted-same i h =
-      cc (alone-same (i .who) h)
+      cc (alone-same _ h)
 
   server-more : (v v′ : Server) → SameServer p m N v v′ → SameServer p m N′ v v′
   server-more v v′ h =
@@ -79,7 +79,7 @@ module _ (p : Part) (m : BlockModel) (N N′ : Naming) (last born : ℕ) (E : Ex
     where
       holder : {k : ℕ} → Named (N .numbers) k → rankIn (N .numbers) k ≡ rankIn (N′ .numbers) k
       holder {k} (listed e) = number-same k e
-      holder {k} (nobody e) = cc (e, rank-zero (N .numbers), rank-zero (N′ .numbers))
+      holder {k} (nobody e) = cc (e, rank-zero (N .numbers), rank-zero _)
 
       named : {k : ℕ} → Named (N .numbers) k → Named (N′ .numbers) k
       named {k} (listed e) = listed (number-more k e)
@@ -94,26 +94,26 @@ module _ (p : Part) (m : BlockModel) (N N′ : Naming) (last born : ℕ) (E : Ex
   pub lined-more : (q w q′ w′ : List (List Transaction)) (g g′ : List (List Gatherer)) → Lined p m N q w q′ w′ g g′ → Lined p m N′ q w q′ w′ g g′
   lined-more q w q′ w′ g g′ h =
       record {
-        ql = rows-map _ _ _ _ _ _ _ _ _ (alike-more (aloneAs p m N) (aloneAs p m N′) (λ t. t) alone-same) (h .ql);
-        wel = rows-map _ _ _ _ _ _ _ _ _ (alike-more (aloneAs p m N) (aloneAs p m N′) (λ t. t) alone-same) (h .wel);
-        gatherers = rows-map _ _ _ _ _ _ _ _ _ (alike-more (gathererAs p (size p m) N) (gathererAs p (size p m) N′) (λ x. x .who) (λ g h. cc (alone-same (g .who) h))) (h .gatherers);
+        ql = rows-map _ _ _ _ _ _ _ _ _ (alike-more _ _ (λ t. t) alone-same) (h .ql);
+        wel = rows-map _ _ _ _ _ _ _ _ _ (alike-more _ _ (λ t. t) alone-same) (h .wel);
+        gatherers = rows-map _ _ _ _ _ _ _ _ _ (alike-more _ _ (λ x. x .who) (λ g h. cc (alone-same _ h))) (h .gatherers);
       }
 
   pub listed-more : (w r w′ r′ : List Transaction) (f f′ : List Event) (l l′ : List Interrupted) → Listed p m N w r w′ r′ f f′ l l′ → Listed p m N′ w r w′ r′ f f′ l l′
   listed-more w r w′ r′ f f′ l l′ h =
       record {
-        wsl = shown-more (aloneAs p m N) (aloneAs p m N′) (λ t. t) alone-same _ w w′ (h .wsl);
-        rel = shown-more (aloneAs p m N) (aloneAs p m N′) (λ t. t) alone-same _ r r′ (h .rel);
-        fel = shown-more (eventAs p (size p m) N) (eventAs p (size p m) N′) (λ e. e .who) event-same _ f f′ (h .fel);
-        interrupted = shown-more (interruptedAs p m N) (interruptedAs p m N′) (λ i. i .who) interrupted-same _ l l′ (h .interrupted);
+        wsl = shown-more _ _ (λ t. t) alone-same _ w w′ (h .wsl);
+        rel = shown-more _ _ (λ t. t) alone-same _ r r′ (h .rel);
+        fel = shown-more _ _ (λ e. e .who) event-same _ f f′ (h .fel);
+        interrupted = shown-more _ _ (λ i. i .who) interrupted-same _ l l′ (h .interrupted);
         facilities = each-map (λ i k. record { own = k .own; other = k .other }) l (h .facilities);
       }
 
   pub told-more : (l l′ : List Logged) → Told p m N l l′ → Told p m N′ l l′
   told-more l l′ h =
       record {
-        same = h .same ∙ map-same (recordAs p m N) (recordAs p m N′) ours (each-map same ours (h .known));
-        known = each-map (λ r k. number-more (r .transaction) k) ours (h .known);
+        same = h .same ∙ map-same _ _ ours (each-map same ours (h .known));
+        known = each-map (λ r k. number-more _ k) ours (h .known);
       }
     where
       ours : List Record
@@ -121,7 +121,7 @@ module _ (p : Part) (m : BlockModel) (N N′ : Naming) (last born : ℕ) (E : Ex
 
       same : (r : Record) → N .numbers (r .transaction) ≡ true → recordAs p m N r ≡ recordAs p m N′ r
       same r k =
-          cc (number-same (r .transaction) k)
+          cc (number-same _ k)
 
 -- ---- A fresh serial, a new number
 
@@ -147,9 +147,9 @@ module _ (p : Part) (m : BlockModel) (N : Naming) (s s′ : State) (h : Seen p m
   more-serials : Extends N (withSerialOf N last) last born
   more-serials =
       record {
-        serial-rank = rank-noting (N .serials) last true;
+        serial-rank = rank-noting _ last true;
         number-rank = λ k a. refl;
-        serial-on = noting-below (N .serials) last true;
+        serial-on = noting-below _ last true;
         number-on = λ k a. refl;
       }
 
@@ -157,9 +157,9 @@ module _ (p : Part) (m : BlockModel) (N : Naming) (s s′ : State) (h : Seen p m
   more-numbers =
       record {
         serial-rank = λ k a. refl;
-        number-rank = rank-noting (N .numbers) born true;
+        number-rank = rank-noting _ born true;
         serial-on = λ k a. refl;
-        number-on = noting-below (N .numbers) born true;
+        number-on = noting-below _ born true;
       }
 
   abbrev us : Upto (N .serials) last
@@ -174,16 +174,16 @@ module _ (p : Part) (m : BlockModel) (N : Naming) (s s′ : State) (h : Seen p m
       record {
         counted =
             record {
-              serial = cc (h .counted .serial, one-more, rank-noted (N .serials) last true);
+              serial = cc (h .counted .serial, one-more, rank-noted _ last true);
               made = h .counted .made;
-              serials-upto = noting-upto (N .serials) last true us;
+              serials-upto = noting-upto _ last true us;
               numbers-upto = un;
               since = h .counted .since;
             };
-        fixtures = fixtures-more p m N (withSerialOf N last) last born more-serials us un _ _ _ _ (h .fixtures);
-        lined = lined-more p m N (withSerialOf N last) last born more-serials us un _ _ _ _ _ _ (h .lined);
-        listed = listed-more p m N (withSerialOf N last) last born more-serials us un _ _ _ _ _ _ _ _ (h .listed);
-        told = told-more p m N (withSerialOf N last) last born more-serials us un _ _ (h .told);
+        fixtures = fixtures-more p m N _ last born more-serials us un _ _ _ _ (h .fixtures);
+        lined = lined-more p m N _ last born more-serials us un _ _ _ _ _ _ (h .lined);
+        listed = listed-more p m N _ last born more-serials us un _ _ _ _ _ _ _ _ (h .listed);
+        told = told-more p m N _ last born more-serials us un _ _ (h .told);
       }
     where
       one-more : suc (rankIn (N .serials) last) ≡ rankIn (N .serials) last + 1
@@ -196,15 +196,15 @@ module _ (p : Part) (m : BlockModel) (N : Naming) (s s′ : State) (h : Seen p m
         counted =
             record {
               serial = h .counted .serial;
-              made = cc (h .counted .made, one-more, rank-noted (N .numbers) born true);
+              made = cc (h .counted .made, one-more, rank-noted _ born true);
               serials-upto = us;
-              numbers-upto = noting-upto (N .numbers) born true un;
+              numbers-upto = noting-upto _ born true un;
               since = omega arith;
             };
-        fixtures = fixtures-more p m N (withNumberOf N born) last born more-numbers us un _ _ _ _ (h .fixtures);
-        lined = lined-more p m N (withNumberOf N born) last born more-numbers us un _ _ _ _ _ _ (h .lined);
-        listed = listed-more p m N (withNumberOf N born) last born more-numbers us un _ _ _ _ _ _ _ _ (h .listed);
-        told = told-more p m N (withNumberOf N born) last born more-numbers us un _ _ (h .told);
+        fixtures = fixtures-more p m N _ last born more-numbers us un _ _ _ _ (h .fixtures);
+        lined = lined-more p m N _ last born more-numbers us un _ _ _ _ _ _ (h .lined);
+        listed = listed-more p m N _ last born more-numbers us un _ _ _ _ _ _ _ _ (h .listed);
+        told = told-more p m N _ last born more-numbers us un _ _ (h .told);
       }
     where
       one-more : suc (rankIn (N .numbers) born) ≡ rankIn (N .numbers) born + 1
@@ -214,8 +214,8 @@ module _ (p : Part) (m : BlockModel) (N : Naming) (s s′ : State) (h : Seen p m
   pub keeps-serial : Keeps p m N (withSerialOf N last)
   keeps-serial =
       record {
-        known = known-more p m N (withSerialOf N last) last born more-serials us un;
-        same = alone-same p m N (withSerialOf N last) last born more-serials us un;
+        known = known-more p m N _ last born more-serials us un;
+        same = alone-same p m N _ last born more-serials us un;
         since = refl;
         numbers = λ k a. refl;
       }
@@ -223,8 +223,8 @@ module _ (p : Part) (m : BlockModel) (N : Naming) (s s′ : State) (h : Seen p m
   pub keeps-number : Keeps p m N (withNumberOf N born)
   keeps-number =
       record {
-        known = known-more p m N (withNumberOf N born) last born more-numbers us un;
-        same = alone-same p m N (withNumberOf N born) last born more-numbers us un;
+        known = known-more p m N _ last born more-numbers us un;
+        same = alone-same p m N _ last born more-numbers us un;
         since = refl;
         numbers = λ k a. noting-below (N .numbers) born true k (omega arith);
       }
@@ -236,7 +236,7 @@ module _ (p : Part) (m : BlockModel) (N : Naming) (s s′ : State) (h : Seen p m
 
   pub alone-fresh : (t : Transaction) → aloneAs p m (withSerialOf N last) (withSerial (fresh s) t) ≡ withSerial (fresh s′) (aloneAs p m N t)
   alone-fresh t =
-      cc (rank-noted (N .serials) last true, one-more, h .counted .serial)
+      cc (rank-noted _ last true, one-more, h .counted .serial)
     where
       one-more : rankIn (N .serials) last + 1 ≡ suc (rankIn (N .serials) last)
       one-more = omega arith
@@ -247,7 +247,7 @@ module _ (p : Part) (m : BlockModel) (N : Naming) (s s′ : State) (h : Seen p m
       record {
         counted =
             record {
-              serial = cc (h .counted .serial, rank-skip (N .serials) last (us (suc last) (omega arith)));
+              serial = cc (h .counted .serial, rank-skip _ last (us (suc last) (omega arith)));
               made = h .counted .made;
               serials-upto = λ k a. us k (omega arith);
               numbers-upto = un;
@@ -265,7 +265,7 @@ module _ (p : Part) (m : BlockModel) (N : Naming) (s s′ : State) (h : Seen p m
         counted =
             record {
               serial = h .counted .serial;
-              made = cc (h .counted .made, rank-skip (N .numbers) born (un (suc born) (omega arith)));
+              made = cc (h .counted .made, rank-skip _ born (un (suc born) (omega arith)));
               serials-upto = us;
               numbers-upto = λ k a. un k (omega arith);
               since = omega arith;

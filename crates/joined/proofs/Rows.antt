@@ -1,6 +1,6 @@
 -- Two tables of which the rows that some indices name are related: what a change of one row on both sides keeps, and what a change of a row
 -- that no index names keeps.
-use Rattle.machine.specs.All.{ℕ, zero, suc, _<_, _≡_, refl, subst, Bool, true, false, List, [], _∷_, arith, eqb, length, getD, set, length-set, eqb-true, eqb-false}
+use Rattle.machine.specs.All.{ℕ, zero, suc, _<_, _≡_, refl, Bool, true, false, List, [], _∷_, arith, eqb, length, getD, set, length-set, eqb-true, eqb-false}
 
 pub set-here : {A : Type 0} (l : List A) (i : ℕ) (a d : A) → i < length l → getD (set l i a) i d ≡ a
 set-here [] i a d h = absurd (omega arith)
@@ -31,35 +31,34 @@ module _ {I : Type 0} (In : I → Type 0) (there here : I → ℕ) where
       rows-set M i p x y r =
           record {
             exists = λ k q. (
-              rw (length-set l (there i) x) (h .exists k q .0),
-              rw (length-set l′ (here i) y) (h .exists k q .1),
+              rw length-set (h .exists k q .0),
+              rw length-set (h .exists k q .1),
             );
-            alike = λ k q. go k q (eqb (there k) (there i)) refl;
+            alike = λ k q. go k q _ refl;
           }
         where
           go : (k : I) → In k → (b : Bool) → eqb (there k) (there i) ≡ b → R (getD (set l (there i) x) (there k) d) (getD (set l′ (here i) y) (here k) d′)
           go k q true e =
               let t = eqb-true _ _ e in
-              let u = M .forth k i q p t in
-              rw (t, u, set-here l (there i) x d (h .exists i p .0), set-here l′ (here i) y d′ (h .exists i p .1)) r
+              rw (t, (M .forth k i q p t), set-here l _ x d (h .exists i p .0), set-here l′ _ y d′ (h .exists i p .1)) r
           go k q false e =
               let n = eqb-false _ _ e in
-              rw (set-there, set-there l′ (here i) (here k) y d′ (λ u. n (M .back k i q p u))) (h .alike k q)
+              rw (set-there, set-there l′ _ _ y d′ (λ u. n (M .back k i q p u))) (h .alike k q)
 
       -- by an index that is known otherwise
       pub rows-put : Matched → (i : I) → In i → (j j′ : ℕ) → there i ≡ j → here i ≡ j′ → (x : A) (y : B) → R x y → Rows R d d′ (set l j x) (set l′ j′ y)
       rows-put M i p j j′ e e′ x y r =
-          subst (λ k. Rows R d d′ (set l j x) (set l′ k y)) e′ (rw e at (rows-set M i p x y r))
+          rw e′ at (rw e at (rows-set M i p x y r))
 
       pub rows-at : (i : I) → In i → (j j′ : ℕ) → there i ≡ j → here i ≡ j′ → R (getD l j d) (getD l′ j′ d′)
-      rows-at i p j j′ e e′ = subst (λ k. R (getD l j d) (getD l′ k d′)) e′ (rw e at (h .alike i p))
+      rows-at i p j j′ e e′ = rw e′ at (rw e at (h .alike i p))
 
       -- a row that nobody names
       pub rows-other : (j : ℕ) → ((i : I) → In i → there i ≡ j → ⊥) → (x : A) → Rows R d d′ (set l j x) l′
       rows-other j n x =
           record {
-            exists = λ k q. (rw (length-set l j x) (h .exists k q .0), h .exists k q .1);
-            alike = λ k q. rw (set-there l j (there k) x d (n k q)) (h .alike k q);
+            exists = λ k q. (rw length-set (h .exists k q .0), h .exists k q .1);
+            alike = λ k q. rw (set-there l j _ x d (n k q)) (h .alike k q);
           }
 
     -- related in another way too

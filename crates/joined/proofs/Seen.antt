@@ -3,12 +3,12 @@
 -- It says nothing of the clock, of who moves, of statistics and of ends. Each part of it speaks of a few fields, so that a change of others leaves
 -- it as it is.
 use Rattle.machine.specs.All.{ℕ, _+_, _-_, _≤_, _≡_, Bool, true, false, List, [], map, length, Transaction, precedes, Event, earlier, Gatherer, Interrupted, those, Server, idleServer, Queue, emptyQueue, View, Code, BlockModel, welIndex, Record, State, Logged, Each}
-use Rattle.machine.proofs.decoding.Proper.{Names, servers}
-use Rattle.machine.proofs.lists.Sorted.{Sorted}
+use Rattle.machine.proofs.{decoding.Proper.Names, decoding.Proper.servers, lists.Sorted.Sorted}
 use Rattle.joined.specs.{Part, serverIn, inPart}
-use Rattle.joined.proofs.Rows.{Rows, Matched}
-use Rattle.joined.proofs.Ranks.{Named, rankIn, Upto}
-use Rattle.joined.proofs.Naming.{Naming, mine, seenAs, Known, eventAs, gathererAs}
+use Rattle.joined.proofs as our
+use our.Rows.{Rows, Matched}
+use our.Ranks.{Named, rankIn, Upto}
+use our.Naming.{Naming, mine, seenAs, Known, eventAs, gathererAs}
 
 module _ (p : Part) (m : BlockModel) where
   abbrev pub size : ℕ

@@ -1,24 +1,14 @@
 -- Two parts and their joined run, turn by turn: each turn of the joined run is a turn of one part alone, and the other part stands still.
 use Rattle.machine.specs.All.{ℕ, _≤_, _≡_, refl, sym, _∙_, true, false, true≢false, List, [], _∷_, Option, none, some, arith, Transaction, Event, BlockModel, State, nextEvents, takeFirst, takeReady, taking, turn, waitsOn, nobodyLeft, Each}
-use Rattle.machine.proofs.decoding.Proper.{Proper}
-use Rattle.machine.proofs.runs.RunLaws.{each-map}
-use Rattle.machine.proofs.runs.Kept.{taking-kept}
+use Rattle.machine.proofs.{decoding.Proper.Proper, runs.RunLaws.each-map, runs.Kept.taking-kept, nobody_able.Waiting.Waits, nobody_able.WaitsKept.waits-kept, nobody_able.WaitsKept.waits-taken, runs.Everybody.Everybody, runs.Everybody.taking-everybody, runs.Placed.Placed, runs.Placed.placed-turn}
 use Rattle.machine.proofs.runs.Shape.{Shape, shape-closed, shape-turn, server-length}
-use Rattle.machine.proofs.nobody_able.Waiting.{Waits}
-use Rattle.machine.proofs.nobody_able.WaitsKept.{waits-kept, waits-taken}
-use Rattle.machine.proofs.runs.Everybody.{Everybody, taking-everybody}
-use Rattle.machine.proofs.runs.Placed.{Placed, placed-turn}
 use Rattle.joined.specs.{Part}
-use Rattle.joined.proofs.Ranks.{listed-within}
-use Rattle.joined.proofs.Naming.{Naming}
-use Rattle.joined.proofs.Seen.{Seen}
-use Rattle.joined.proofs.Inside.{Inside}
-use Rattle.joined.proofs.ClockMove.{moveClock-unmoved}
-use Rattle.joined.proofs.Turned.{handed}
-use Rattle.joined.proofs.Paces.{Stands, Clocked, Pace, SameNumbers, Takes, rebased, rebase-pace}
-use Rattle.joined.proofs.PartTurns.{own-turn, other-turn}
-use Rattle.joined.proofs.Strangers.{Facing, Rolls, others-there, strange}
-use Rattle.joined.proofs.Caught.{Takings, moves, first, takings, Caught, ours, theirs, Catch, catch-moves, catch-ready, taken-moves, taken-first}
+use Rattle.joined.proofs as our
+use our.{Ranks.listed-within, Naming.Naming, Seen.Seen, Inside.Inside, ClockMove.moveClock-unmoved, Turned.handed}
+use our.Paces.{Stands, Clocked, Pace, SameNumbers, Takes, rebased, rebase-pace}
+use our.PartTurns.{own-turn, other-turn}
+use our.Strangers.{Facing, Rolls, others-there, strange}
+use our.Caught.{Takings, moves, first, takings, Caught, ours, theirs, Catch, catch-moves, catch-ready, taken-moves, taken-first}
 
 -- ---- What is known of the joined state
 
@@ -33,7 +23,7 @@ module _ {M : BlockModel} {tape : List (List ℕ)} (proper : Proper M tape) wher
       record { shape = shape-turn M s (h .shape); waits = waits-kept proper s e (h .shape) (h .waits) .0; placed = placed-turn M tape proper s (h .placed) }
 
   pub placed-taken : (s : State) → Sane M s → Everybody (Placed M) (taking (s .moving) s)
-  placed-taken s h = taking-everybody (Placed M) (omega arith) (s .moving) s (h .placed)
+  placed-taken s h = taking-everybody _ (omega arith) _ s (h .placed)
 
 -- the taking makes nobody
 first-made : (l : List Transaction) (s : State) → takeFirst l s .made ≡ s .made
@@ -44,16 +34,16 @@ first-made (t ∷ l) s = refl
 events-made : (l : List Event) (s : State) → nextEvents l s .made ≡ s .made
 unfolding nextEvents
 events-made [] s = refl
-events-made (e ∷ l) s = moveClock-unmoved (e .time) s .made
+events-made (e ∷ l) s = moveClock-unmoved _ s .made
 
 ready-made : (l : List Transaction) (s : State) → takeReady l s .made ≡ s .made
 unfolding takeReady
-ready-made [] s = first-made _ _ ∙ events-made (s .fel) s
-ready-made (t ∷ l) s = first-made (t ∷ l) s
+ready-made [] s = first-made _ _ ∙ events-made _ s
+ready-made (t ∷ l) s = first-made _ s
 
 taking-made : (o : Option Transaction) (s : State) → taking o s .made ≡ s .made
 unfolding taking
-taking-made none s = ready-made (s .rel) s
+taking-made none s = ready-made _ s
 taking-made (some t) s = refl
 
 -- ---- The joined state beside two states of the parts
@@ -87,23 +77,22 @@ module _ {M : BlockModel} {tape : List (List ℕ)} (proper : Proper M tape) (p :
         → turn M s .end ≡ 0 → turn m a .end ≡ 0 → Joint p m p′ m′ (turn M s) (turn m a) b
     own-step n n′ h since h′ k c seen stands o w clocked zt za =
         let upto : (i : ℕ) → n′ .numbers i ≡ true → i ≤ s .made =
-        λ i d. rw (taking-made (s .moving) s) at (listed-within (n′ .numbers) _ i (seen .counted .numbers-upto) d) in
-        let rolls = rolls-then N N′ n n′ (s .made) R e e′ h h′ upto in
-        let turned-rolls : Rolls n′ n = record { disjoint = λ i x y. rolls .disjoint i y x; nobody = rolls .nobody′; nobody′ = rolls .nobody } in
+        λ i d. rw taking-made at (listed-within _ _ i (seen .counted .numbers-upto) d) in
+        let rolls = rolls-then N N′ n n′ _ R e e′ h h′ upto in
         let others = others-there p m p′ m′ M F I I′ n n′ rolls (handed M s) (handed m a) c (k .together .seen) seen
         (each-map (λ x y. y .0) (taking (s .moving) s .fel) (placed-taken proper s sane .fel)) in
         let mine-turn = own-turn p m M I n t s a k taken zt za others in
         let shape = taking-kept (Shape M) (shape-closed M) (s .moving) s (sane .shape) in
         let waits = waits-taken M s z (sane .waits) in
         let odd =
-        strange p′ m′ p m M F′ I′ I n′ n turned-rolls (handed M s) c (handed m a) seen (k .together .seen) t (k .known) (server-length shape) (waits .queued .ql-stands) (waits .gated .wel-stands) in
+        strange p′ m′ p m M F′ I′ I n′ n (record { disjoint = λ i x y. rolls .disjoint i y x; nobody = rolls .nobody′; nobody′ = rolls .nobody }) _ c _ seen (k .together .seen) t (k .known) (server-length shape) (waits .queued .ql-stands) (waits .gated .wel-stands) in
         record {
           naming = mine-turn .naming;
           naming′ = n′;
           pace = mine-turn .pace;
           pace′ = other-turn p′ m′ M I′ n′ t s b c seen stands o w clocked taken zt odd;
           rolls =
-              rolls-then N N′ (mine-turn .naming) n′ (s .made) R e e′ (λ i x. mine-turn .numbers i (omega arith) ∙ h i x) h′ upto;
+              rolls-then N N′ _ n′ _ R e e′ (λ i x. mine-turn .numbers i (omega arith) ∙ h i x) h′ upto;
         }
 
 turned-round : {p : Part} {m : BlockModel} {p′ : Part} {m′ : BlockModel} {s a b : State} → Joint p m p′ m′ s a b → Joint p′ m′ p m s b a
@@ -132,14 +121,14 @@ module _ {M : BlockModel} {tape : List (List ℕ)} (proper : Proper M tape) (p :
         go : Caught p m M I (c .naming) t (handed M s) a → Caught p′ m′ M I′ (c′ .naming) t (handed M s) b → Turns s a b
         go (ours d k) (theirs d′ x seen stands o w clocked) =
             one _ (k .takes)
-            (λ za. own-step proper p m p′ m′ I I′ F F′ N N′ R s a b z sane t taken e e′ (c .naming) (c′ .naming) (c .numbers) (c .since) (c′ .numbers) k x seen stands o w clocked zt za)
+            (λ za. own-step proper p m p′ m′ I I′ F F′ N N′ R s a b z sane t taken e e′ _ _ (c .numbers) (c .since) (c′ .numbers) k x seen stands o w clocked zt za)
         go (theirs d x seen stands o w clocked) (ours d′ k) =
             two _ (k .takes)
             (λ zb.
             turned-round
-            (own-step proper p′ m′ p m I′ I F′ F N′ N (record { disjoint = λ i x y. R .disjoint i y x; nobody = R .nobody′; nobody′ = R .nobody }) s b a z sane t taken e′ e (c′ .naming) (c .naming) (c′ .numbers) (c′ .since) (c .numbers) k x seen stands o w clocked zt zb))
-        go (ours d k) (ours d′ k′) = absurd (true≢false (cc (d, F .blocks (t .next) d′)))
-        go (theirs d x seen stands o w clocked) (theirs d′ x′ seen′ stands′ o′ w′ clocked′) = absurd (true≢false (cc (F .covers (t .next) (rw taken at (placed-taken proper s sane .moving) .0) d, d′)))
+            (own-step proper p′ m′ p m I′ I F′ F N′ N (record { disjoint = λ i x y. R .disjoint i y x; nobody = R .nobody′; nobody′ = R .nobody }) s b a z sane t taken e′ e _ _ (c′ .numbers) (c′ .since) (c .numbers) k x seen stands o w clocked zt zb))
+        go (ours d k) (ours d′ k′) = absurd (true≢false (cc (d, F .blocks _ d′)))
+        go (theirs d x seen stands o w clocked) (theirs d′ x′ seen′ stands′ o′ w′ clocked′) = absurd (true≢false (cc (F .covers _ (rw taken at (placed-taken proper s sane .moving) .0) d, d′)))
 
   pub whose : (s a b : State) → Joint p m p′ m′ s a b → s .end ≡ 0 → Sane M s → nobodyLeft s ≡ false → turn M s .end ≡ 0 → Turns s a b
   whose s a b j z sane left zt = go (takings s left)
@@ -148,10 +137,10 @@ module _ {M : BlockModel} {tape : List (List ℕ)} (proper : Proper M tape) (p :
       rolls = record { disjoint = j .rolls .disjoint; nobody = j .rolls .nobody; nobody′ = j .rolls .nobody′ }
 
       h : Pace p m (rebased p m (j .naming) (s .made)) s a
-      h = rebase-pace p m (j .naming) s a (j .pace)
+      h = rebase-pace p m _ s a (j .pace)
 
       h′ : Pace p′ m′ (rebased p′ m′ (j .naming′) (s .made)) s b
-      h′ = rebase-pace p′ m′ (j .naming′) s b (j .pace′)
+      h′ = rebase-pace p′ m′ _ s b (j .pace′)
 
       go : Takings s → Turns s a b
       go (moves t e) =

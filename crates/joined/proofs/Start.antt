@@ -3,14 +3,9 @@ use Rattle.machine.specs.All.{ℕ, suc, _+_, _-_, _≤_, _<_, _≡_, refl, subs
 use Rattle.machine.proofs.decoding.Proper.{Names, ProperBlock, Role, role, generating, taking, preempting, neither}
 use Rattle.machine.proofs.lists.Cases.{startOf-cases}
 use Rattle.joined.specs.{Part, blockIn, inPart}
-use Rattle.joined.proofs.Naming.{Naming}
-use Rattle.joined.proofs.Seen.{size, Tables}
-use Rattle.joined.proofs.OwnMoves.{Together}
-use Rattle.joined.proofs.OwnSteps.{times-seen}
-use Rattle.joined.proofs.OwnMakes.{After, after-here, after-then, arrival-own}
-use Rattle.joined.proofs.OwnEffect.{in-part}
-use Rattle.joined.proofs.OtherSteps.{OtherList, Beside}
-use Rattle.joined.proofs.OtherEffect.{Outside, arrival-other}
+use Rattle.joined.proofs as our
+use our.{Naming.Naming, OwnMoves.Together, OwnSteps.times-seen, OwnEffect.in-part, Seen.size, Seen.Tables, OtherSteps.OtherList, OtherEffect.Outside, OtherEffect.arrival-other}
+use our.OwnMakes.{After, after-here, after-then, arrival-own}
 
 -- ---- Nobody waits on a WEL
 
@@ -25,7 +20,7 @@ arrival-gates (x ∷ l) list r n s h = h
 pub startAt-gates : (n : ℕ) (l : List Block) (s : State) → NoGates s → NoGates (startAt n l s)
 unfolding startAt
 startAt-gates n [] s h = h
-startAt-gates n (b ∷ l) s h = startAt-gates (suc n) l _ (startOf-cases NoGates b n s (λ e. h) (λ e. arrival-gates _ _ _ n s h))
+startAt-gates n (b ∷ l) s h = startAt-gates _ l _ (startOf-cases NoGates b n s (λ e. h) (λ e. arrival-gates _ _ _ n s h))
 
 pub startAt-append : (n : ℕ) (k l : List Block) (s : State) → startAt n (k ++ l) s ≡ startAt (n + length k) l (startAt n k s)
 unfolding startAt
@@ -33,7 +28,7 @@ startAt-append n [] l s = cc (plus-zero n)
   where
     plus-zero : (n : ℕ) → n ≡ n + 0
     plus-zero n = omega arith
-startAt-append n (b ∷ k) l s = cc (startAt-append (suc n) k l (startOf b n s), step n (length k))
+startAt-append n (b ∷ k) l s = cc (startAt-append _ k l _, step n _)
   where
     step : (n k : ℕ) → suc n + k ≡ n + suc k
     step n k = omega arith
@@ -59,9 +54,7 @@ module _ (p : Part) (m : BlockModel) (T : Tables p m) where
   starting-other N b n o e s s′ h =
       startOf-cases (λ r. Starting N r s′) b n s (λ q. h)
       (λ q.
-      let beside : Beside p m N (s .view .clock) s s′ =
-      record { seen = h .together .seen; time = refl; still = h .together .still .0; gates = λ v code o. rw (h .gates (welIndex v code)) tt } in
-      let after = arrival-other p m T N (s .view .clock) s′ (timesLeft s (facts b .generates)) (facts b .generates) (facts b .rank) n (generates-outside b o q) e s beside in
+      let after = arrival-other p m T N (s .view .clock) s′ (timesLeft s (facts b .generates)) (facts b .generates) (facts b .rank) n (generates-outside b o q) e s (record { seen = h .together .seen; time = refl; still = h .together .still .0; gates = λ v code o. rw (h .gates (welIndex v code)) tt }) in
       record {
         together = record { seen = after .seen; clock = cc (h .together .clock, after .time); still = (after .still, h .together .still .1) };
         gates = arrival-gates _ _ _ n s (h .gates);
@@ -72,8 +65,8 @@ module _ (p : Part) (m : BlockModel) (T : Tables p m) where
   unfolding startAt
   others-start N s′ [] n s o h = h
   others-start N s′ (b ∷ l) n s o h =
-      others-start N s′ l (suc n) (startOf b n s) (λ i lt. (o (suc i) (omega arith) .0, rw (step n i) at (o (suc i) (omega arith) .1)))
-      (starting-other N b n (o 0 (omega arith) .0) (rw (plus-zero n) at (o 0 (omega arith) .1)) s s′ h)
+      others-start N s′ l _ _ (λ i lt. (o (suc i) (omega arith) .0, rw step at (o (suc i) (omega arith) .1)))
+      (starting-other N b n (o 0 (omega arith) .0) (rw plus-zero at (o 0 (omega arith) .1)) s s′ h)
     where
       step : (n i : ℕ) → n + suc i ≡ suc n + i
       step n i = omega arith
@@ -87,7 +80,7 @@ module _ (p : Part) (m : BlockModel) (T : Tables p m) where
   unfolding startOf facts blockIn
   starting-own N (generate list r) k ok i s s′ h =
       rw (ne-eqb (list + p .toList) 0 (λ e. omega arith), ne-eqb list 0 (λ e. omega arith), times-seen p m T N s s′ h list (ok .0))
-      (rw back at (arrival-own p m T (timesLeft s (list + p .toList)) list r (k + p .toBlock) (ok .0) (in-part p m k i) N s s′ h))
+      (rw back at (arrival-own p m T (timesLeft s (list + p .toList)) list r _ (ok .0) (in-part p m k i) N s s′ h))
     where
       back : k + p .toBlock - p .toBlock ≡ k
       back = omega arith
@@ -113,4 +106,4 @@ module _ (p : Part) (m : BlockModel) (T : Tables p m) where
   own-start (b ∷ l) k N s s′ one le ok h =
       let a = starting-own N b k (ok 0 (omega arith)) (one, omega arith) s s′ h in
       after-then p m a (subst (λ (n : ℕ). After p m (a .naming) (startAt n (map (blockIn p) l) (startOf (blockIn p b) (k + p .toBlock) s)) (startAt (suc k) l (startOf b k s′))) (omega arith)
-      (own-start l (suc k) (a .naming) _ _ (omega arith) (omega arith) (λ i lt. ok (suc i) (omega arith)) (a .together)))
+      (own-start l _ _ _ _ (omega arith) (omega arith) (λ i lt. ok (suc i) (omega arith)) (a .together)))

@@ -1,20 +1,17 @@
 -- Two parts of one joined model: what is of the one is not of the other.
-use Rattle.machine.specs.All.{cases, ℕ, suc, _+_, _-_, _≤_, _≡_, refl, sym, ap, _∙_, Bool, true, false, cond, not, _&&_, true≢false, List, [], _∷_, arith, ltb, eqb, length, getD, List·getD-eq-default, eqb-true, ltb-true, ltb-false, Transaction, Event, those, nth, Server, View, idleServer, serverAt, Condition, always, whenTrue, Code, facility, storage, shareServer, Block, generate, advance, terminate, takes, frees, waitServer, waitTerms, moves, assign, priority, split, counts, assemble, preempt, giveBack, facts, BlockModel, blockAt, welIndex, unconditional, State, qlOf, welOf, losesTo, Each}
+use Rattle.machine.specs.All.{cases, ℕ, suc, _+_, _-_, _≤_, _≡_, refl, sym, ap, _∙_, Bool, true, false, cond, _&&_, true≢false, List, [], _∷_, arith, ltb, length, getD, List·getD-eq-default, eqb-true, ltb-true, ltb-false, Transaction, Event, those, nth, Server, View, idleServer, serverAt, Condition, always, whenTrue, Code, facility, storage, shareServer, Block, generate, advance, terminate, takes, frees, waitServer, waitTerms, moves, assign, priority, split, counts, assemble, preempt, giveBack, facts, BlockModel, blockAt, welIndex, unconditional, State, qlOf, welOf, losesTo, Each}
 use Rattle.machine.proofs.decoding.Proper.{Names, servers, ProperBlock, code-server, share-server}
 use Rattle.machine.proofs.runs.RunLaws.{each-map, each-pair}
 use Rattle.joined.specs.{Part, serverIn, shareIn, conditionIn, blockIn, inPart}
-use Rattle.joined.proofs.Lists.{no-true}
-use Rattle.joined.proofs.Ranks.{Named, listed, nobody}
-use Rattle.joined.proofs.Naming.{Naming, mine, Known}
-use Rattle.joined.proofs.Seen.{size, serverThere, queueThere, listThere, Seen}
-use Rattle.joined.proofs.Inside.{Inside, block-seen, share-server as share-image}
-use Rattle.joined.proofs.OwnMoves.{Standing, standing}
-use Rattle.joined.proofs.OwnEffect.{in-part}
-use Rattle.joined.proofs.OwnFacilities.{NotOurs, Others}
-use Rattle.joined.proofs.OtherSteps.{OtherServer, OtherRow, other-gate}
-use Rattle.joined.proofs.OtherEffect.{Outside}
-use Rattle.joined.proofs.Turned.{blockOf}
-use Rattle.joined.proofs.PartTurns.{Strange}
+use Rattle.joined.proofs as our
+use our.{Lists.no-true, OwnEffect.in-part, OtherEffect.Outside, Turned.blockOf, PartTurns.Strange}
+use our.Ranks.{Named, listed, nobody}
+use our.Naming.{Naming, mine, Known}
+use our.Seen.{size, serverThere, queueThere, listThere, Seen}
+use our.Inside.{Inside, block-seen, share-server as share-image}
+use our.OwnMoves.{Standing, standing}
+use our.OwnFacilities.{NotOurs, Others}
+use our.OtherSteps.{OtherServer, OtherRow, other-gate}
 
 -- ---- Definition
 
@@ -78,7 +75,7 @@ module _ (p : Part) where
     at-server (generate list k) ok v one e f = omega arith
     at-server (advance list) ok v one e f = omega arith
     at-server (terminate a) ok v one e f = omega arith
-    at-server (takes x) ok v one e f = f (shareServer x) (share-server m x ok) (cc (share-image p x, e))
+    at-server (takes x) ok v one e f = f _ (share-server m x ok) (cc (share-image p x, e))
     at-server (frees x) ok v one e f = omega arith
     at-server (waitServer code u c) ok v one e f = omega arith
     at-server (waitTerms a r b) ok v one e f = omega arith
@@ -116,7 +113,7 @@ module _ (p : Part) (m : BlockModel) (p′ : Part) (m′ M : BlockModel) (F : Fa
   other-server v i u k e = F .servers-apart u v k i e
 
   other-target : (target : ℕ) → Names (size p′ m′) target → inPart p (size p m) (target + p′ .toBlock) ≡ false
-  other-target target i = F .blocks (target + p′ .toBlock) (in-part p′ m′ target i)
+  other-target target i = F .blocks _ (in-part p′ m′ target i)
 
   pub outside-in : (b : Block) → ProperBlock m′ b → Outside p m (blockIn p′ b)
   unfolding blockIn shareServer shareIn
@@ -148,7 +145,7 @@ other-row p m b one e u i q =
 pub each-passing : {A : Type 0} (P : A → Type 0) (q : A → Bool) (l : List A) → Each P (those q l) → Each (λ x. q x ≡ true → P x) l
 unfolding those
 each-passing P q [] h = tt
-each-passing {A} P q (x ∷ l) h = go (q x) refl h (each-passing P q l)
+each-passing {A} P q (x ∷ l) h = go _ refl h (each-passing P q l)
   where
     go : (b : Bool) → q x ≡ b → Each P (cond b (x ∷ those q l) (those q l)) → (Each P (those q l) → Each (λ x. q x ≡ true → P x) l) → (q x ≡ true → P x) × Each (λ x. q x ≡ true → P x) l
     go true e h more = ((λ d. h .0), more (h .1))
@@ -165,7 +162,7 @@ all-four false b c d e = absurd (true≢false (sym e))
 loses-holder : (t : Transaction) (v : Server) (y : Event) → losesTo t v y ≡ true → (y .who .number ≡ v .holder) × (ltb 0 (v .inUse) ≡ true)
 unfolding losesTo
 loses-holder t v y e =
-    let h = all-four (ltb 0 (v .inUse)) (not (v .preempted)) (eqb (y .who .number) (v .holder)) (ltb (y .who .priority) (t .priority)) e in
+    let h = all-four _ _ _ _ e in
     (eqb-true _ _ (h .1), h .0)
 
 server-at : (w : View) (f : ℕ) → serverAt w f ≡ getD (w .servers) (f - 1) (idleServer 0)
@@ -191,74 +188,77 @@ module _ (p : Part) (m : BlockModel) (p′ : Part) (m′ M : BlockModel) (F : Fa
   block-there : (b : ℕ) → inPart p (size p m) b ≡ true → blockAt M b ≡ blockIn p (blockAt m (b - p .toBlock))
   block-there b e =
       let at = standing p m b e in
-      rw (at .there) at (I .block (b - p .toBlock) (at .names))
+      rw (at .there) at (I .block _ (at .names))
 
   proper-there : (b : ℕ) → inPart p (size p m) b ≡ true → ProperBlock m (blockAt m (b - p .toBlock))
   proper-there b e = I .proper _ (standing p m b e .names)
 
   one-at-least : (k : ℕ) → N′ .numbers k ≡ true → 1 ≤ k
-  one-at-least k e = cases (ltb 0 k) (λ d. ltb-true 0 k d) (λ d. absurd (true≢false (cc (e, zero-of d, R .nobody′))))
+  one-at-least k e = cases _ (λ d. ltb-true 0 k d) (λ d. absurd (true≢false (cc (e, zero-of d, R .nobody′))))
     where
       zero-of : ltb 0 k ≡ false → k ≡ 0
       zero-of d = omega (arith, ltb-false)
 
   not-ours : (t : Transaction) → Known p′ (size p′ m′) N′ t → NotOurs N t
   not-ours t k =
-      record { number = no-true (N .numbers (t .number)) (λ e. R .disjoint (t .number) e (k .number)); born = one-at-least (t .number) (k .number) }
+      record { number = no-true _ (λ e. R .disjoint _ e (k .number)); born = one-at-least _ (k .number) }
 
   module _ (q b b′ : State) (h : Seen p m N q b) (h′ : Seen p′ m′ N′ q b′) where
     -- every event of the other part
     pub others-there : Each (λ (e : Event). Names (length (M .blocks)) (e .who .next)) (q .fel) → Others p m (I .tables) N (q .fel)
     others-there placed =
-        each-map {Q = λ e. mine p (size p m) (e .who) ≡ false → NotOurs N (e .who)} (λ e k d. not-ours (e .who) (k .1 (F .covers (e .who .next) (k .0) d))) (q .fel)
-        (each-pair (λ e. Names (length (M .blocks)) (e .who .next)) (λ e. mine p′ (size p′ m′) (e .who) ≡ true → Known p′ (size p′ m′) N′ (e .who)) (q .fel) placed
-        (each-passing (λ e. Known p′ (size p′ m′) N′ (e .who)) (λ e. mine p′ (size p′ m′) (e .who)) (q .fel) (h′ .listed .fel .part .known)))
+        each-map {Q = λ e. mine p _ (e .who) ≡ false → NotOurs N _} (λ e k d. not-ours _ (k .1 (F .covers _ (k .0) d))) (q .fel)
+        (each-pair (λ e. Names _ _) (λ e. mine p′ _ (e .who) ≡ true → Known p′ _ N′ _) (q .fel) placed
+        (each-passing (λ e. Known p′ _ N′ _) (λ e. mine p′ _ (e .who)) _ (h′ .listed .fel .part .known)))
 
     -- nobody of the part loses a facility of the other
     losers-there : length (q .view .servers) ≡ servers M → (t : Transaction) (f : ℕ) → OtherServer p m f
         → Each (λ (y : Event). losesTo t (serverAt (q .view) f) y ≡ true → mine? (y .who) ≡ false) (q .fel)
     losers-there long t f o =
-        each-map {Q = λ y. losesTo t (serverAt (q .view) f) y ≡ true → mine? (y .who) ≡ false} (λ y k l. no-true (mine? (y .who)) (λ d. never y (k d .number) l)) (q .fel)
-        (each-passing (λ y. Known p (size p m) N (y .who)) (λ y. mine? (y .who)) (q .fel) (h .listed .fel .part .known))
+        each-map {Q = λ y. losesTo t _ y ≡ true → mine? (y .who) ≡ false} (λ y k l. no-true _ (λ d. never y (k d .number) l)) (q .fel)
+        (each-passing (λ y. Known p _ N _) (λ y. mine? (y .who)) _ (h .listed .fel .part .known))
       where
         stranger : (y : Event) → N .numbers (y .who .number) ≡ true → {x : ℕ} → Named (N′ .numbers) x → y .who .number ≡ x → ⊥
-        stranger y e {x} (listed a) s = R .disjoint (y .who .number) e (cc (s, a))
+        stranger y e {x} (listed a) s = R .disjoint _ e (cc (s, a))
         stranger y e (nobody a) s = true≢false (cc (e, s, a, R .nobody))
 
         never : (y : Event) → N .numbers (y .who .number) ≡ true → losesTo t (serverAt (q .view) f) y ≡ true → ⊥
         never y e l =
-            let past =
-            F .servers-cover (f - 1) o
-            (λ u i d. stranger y e (rw d at (h′ .fixtures .servers .alike u i .holder-named)) (cc (loses-holder t (serverAt (q .view) f) y l .0, server-at (q .view) f))) in
-            true≢false (cc (loses-holder t (serverAt (q .view) f) y l .1, server-at (q .view) f, default-at past, idle-free))
+            true≢false (cc (
+              loses-holder t (serverAt (q .view) f) y l .1,
+              server-at (q .view) f,
+              default-at (F .servers-cover (f - 1) o
+                  (λ u i d. stranger y e (rw d at (h′ .fixtures .servers .alike u i .holder-named)) (cc (loses-holder t (serverAt (q .view) f) y l .0, server-at (q .view) f)))),
+              idle-free,
+            ))
           where
             default-at : servers M ≤ f - 1 → getD (q .view .servers) (f - 1) (idleServer 0) ≡ idleServer 0
-            default-at past = List·getD-eq-default (q .view .servers) (idleServer 0) (omega arith)
+            default-at past = List·getD-eq-default (q .view .servers) _ (omega arith)
 
     pub strange : (t : Transaction) → Known p′ (size p′ m′) N′ t → length (q .view .servers) ≡ servers M
         → ((v : ℕ) → 1 ≤ v → Each (λ u. facts (blockAt M (u .next)) .server ≡ v) (nth (q .ql) v []))
         → ((i : ℕ) → Each (λ u. facts (blockAt M (u .next)) .wel ≡ suc i) (getD (q .wel) i [])) → Strange p m M I N t q
     strange t k long ql-stands wel-stands =
         record {
-          not-mine = F .blocks (t .next) (k .own);
-          row = other-row p m (t .next) (omega (arith, at .names .0)) (F .blocks (t .next) (k .own));
-          outside = rw block (outside-in p m p′ m′ M F (blockAt m′ (t .next - p′ .toBlock)) (I′ .proper _ (at .names)));
-          on = λ d. F .blocks (suc (t .next)) (let on = I′ .goes-on (t .next - p′ .toBlock) (at .names) (cc (leaves-in p′ _, block, d)) in
-              let e : suc (t .next - p′ .toBlock) + p′ .toBlock ≡ suc (t .next) = omega (arith, at .there) in
-              rw e at (in-part p′ m′ (suc (t .next - p′ .toBlock)) (omega arith, on)));
-          back = F .blocks (t .next - facts (blockOf M t) .back) back-in-part;
+          not-mine = F .blocks _ (k .own);
+          row = other-row p m _ (omega (arith, at .names .0)) (F .blocks _ (k .own));
+          outside = rw block (outside-in p m p′ m′ M F _ (I′ .proper _ (at .names)));
+          on = λ d. F .blocks _ (let on = I′ .goes-on _ (at .names) (cc (leaves-in p′ _, block, d)) in
+              let e : suc (t .next - p′ .toBlock) + p′ .toBlock ≡ suc _ = omega (arith, at .there) in
+              rw e at (in-part p′ m′ _ (omega arith, on)));
+          back = F .blocks _ back-in-part;
           queues = λ v o. queued v o;
           gates = λ v code o.
               each-map
-              (λ u e. no-true (mine? u) (λ d.
-              at-gate p m (blockAt m (u .next - p .toBlock)) (proper-there (u .next) d) (welIndex v code) (cc (block-there (u .next) d, e))
+              (λ u e. no-true _ (λ d.
+              at-gate p m (blockAt m _) (proper-there _ d) _ (cc (block-there _ d, e))
               (λ x c i s. other-gate p m v code o (record { server = x; code = c }) i s)))
-              (welOf q v code) (wel-stands (welIndex v code));
+              (welOf q v code) (wel-stands _);
           losers = λ f o. losers-there long t f o;
         }
       where
         at : Standing p′ m′ (t .next)
-        at = standing p′ m′ (t .next) (k .own)
+        at = standing p′ m′ _ (k .own)
 
         block : blockAt M (t .next) ≡ blockIn p′ (blockAt m′ (t .next - p′ .toBlock))
         block = block-seen p′ m′ M I′ N′ t k
@@ -266,7 +266,7 @@ module _ (p : Part) (m : BlockModel) (p′ : Part) (m′ M : BlockModel) (F : Fa
         back-in-part : inPart p′ (size p′ m′) (t .next - facts (blockOf M t) .back) ≡ true
         back-in-part =
             let c = facts (blockAt m′ (t .next - p′ .toBlock)) .back in
-            let same = ap (λ (x : Block). facts x .back) block ∙ back-in p′ (blockAt m′ (t .next - p′ .toBlock)) in
+            let same = ap (λ (x : Block). facts x .back) block ∙ back-in p′ _ in
             let lt = I′ .goes-back _ (at .names) in
             let e : t .next - p′ .toBlock - c + p′ .toBlock ≡ t .next - facts (blockOf M t) .back = omega arith in
             rw e at (in-part p′ m′ (t .next - p′ .toBlock - c) (omega arith, omega (arith, at .names .1)))
@@ -274,8 +274,8 @@ module _ (p : Part) (m : BlockModel) (p′ : Part) (m′ M : BlockModel) (F : Fa
         queued : (v : ℕ) → OtherServer p m v → Each (λ u. mine? u ≡ false) (qlOf q v)
         queued v o =
             let e : suc (v - 1) - 1 ≡ v - 1 = omega arith in
-            each-map {P = λ u. facts (blockAt M (u .next)) .server ≡ suc (v - 1)} {Q = λ u. mine? u ≡ false}
-            (λ u a. no-true (mine? u) (λ d.
-            at-server p m (blockAt m (u .next - p .toBlock)) (proper-there (u .next) d) (suc (v - 1)) (omega arith) (cc (block-there (u .next) d, a))
+            each-map {P = λ u. facts _ .server ≡ suc _} {Q = λ u. mine? u ≡ false}
+            (λ u a. no-true _ (λ d.
+            at-server p m (blockAt m _) (proper-there _ d) (suc (v - 1)) (omega arith) (cc (block-there _ d, a))
             (λ x i s. o x i (cc (s, e)))))
             (qlOf q v) (rw e at (ql-stands (suc (v - 1)) (omega arith)))

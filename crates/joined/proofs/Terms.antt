@@ -3,8 +3,7 @@ use Rattle.machine.specs.All.{ℕ, suc, _+_, _-_, _≤_, _<_, _≡_, refl, sym,
 use lib.IntN.{ℤ, pos, _+ℤ_, _-ℤ_}
 use Rattle.machine.proofs.decoding.Proper.{Names, servers}
 use Rattle.joined.specs.{Part, termIn, sumIn, conditionIn}
-use Rattle.joined.proofs.Naming.{Naming}
-use Rattle.joined.proofs.Seen.{size, Fixtures}
+use Rattle.joined.proofs.{Naming.Naming, Seen.size, Seen.Fixtures}
 
 module _ (p : Part) (m : BlockModel) where
   -- ---- What a term names
@@ -63,7 +62,7 @@ getD-behind [] b i d = cc (plus-zero i)
   where
     plus-zero : (i : ℕ) → i + 0 ≡ i
     plus-zero i = omega arith
-getD-behind (x ∷ a) b i d = cc (step i (length a), getD-behind a b i d)
+getD-behind (x ∷ a) b i d = cc (step i _, getD-behind a b i d)
   where
     step : (i k : ℕ) → i + suc k ≡ suc (i + k)
     step i k = omega arith
@@ -77,7 +76,7 @@ module _ (w : View) (q : List ℤ) where
   worths-length : (a : List Sum) (low : List ℤ) → length (worths w q a low) ≡ length low + length a
   unfolding worths
   worths-length [] low = omega arith
-  worths-length (e ∷ a) low = worths-length a _ ∙ step (length-append low (sum w q low e (pos 0) ∷ []))
+  worths-length (e ∷ a) low = worths-length a _ ∙ step (length-append low _)
     where
       step : {k : ℕ} → k ≡ length low + 1 → k + length a ≡ length low + suc (length a)
       step e = omega arith
@@ -87,7 +86,7 @@ module _ (w : View) (q : List ℤ) where
   unfolding worths
   worths-stay [] low i lt = refl
   worths-stay (e ∷ a) low i lt =
-      worths-stay a _ i (omega (arith, length-append low (sum w q low e (pos 0) ∷ []))) ∙ List·getD-append low (sum w q low e (pos 0) ∷ []) (pos 0) i lt
+      worths-stay a _ i (omega (arith, length-append low (sum w q low e (pos 0) ∷ []))) ∙ List·getD-append low _ _ i lt
 
 -- the values of the part among those of the joined model
 pub record Values (p : Part) (m M : BlockModel) : Type 0 where
@@ -104,10 +103,10 @@ module _ (p : Part) (m M : BlockModel) (vals : Values p m M) (N : Naming) (w w�
   unfolding worths
   worths-part [] k front low e = refl
   worths-part (v ∷ vs) k front low e =
-      cc (append-assoc front low (sum w q (front ++ low) (sumIn p v) (pos 0) ∷ []), sum-same p m N w w′ samples samples′ h q (front ++ low) low behind v (k .0) (pos 0), worths-part vs (k .1) front (low ++ (sum w′ q low v (pos 0) ∷ [])) e)
+      cc (append-assoc front low _, sum-same p m N w w′ samples samples′ h q _ low behind v (k .0) _, worths-part vs (k .1) front _ e)
     where
       behind : (i : ℕ) → Names (length (m .values)) i → nth low i (pos 0) ≡ nth (front ++ low) (i + p .toValue) (pos 0)
-      behind i n = cc (index (n .0), getD-behind front low (i - 1) (pos 0))
+      behind i n = cc (index (n .0), getD-behind front low _ _)
         where
           index : 1 ≤ i → i + p .toValue - 1 ≡ i - 1 + length front
           index a = omega arith
@@ -115,19 +114,22 @@ module _ (p : Part) (m M : BlockModel) (vals : Values p m M) (N : Naming) (w w�
   -- all of them
   pub values-same : (k : ℕ) → Names (length (m .values)) k → nth (worths w′ q (m .values) []) k (pos 0) ≡ nth (worths w q (M .values) []) (k + p .toValue) (pos 0)
   values-same k n =
-      let front : List ℤ = worths w q (vals .lower) [] in
-      let long : length front ≡ p .toValue = worths-length w q (vals .lower) [] ∙ ap (λ (i : ℕ). 0 + i) (vals .before) ∙ (omega arith) in
-      let whole : worths w q (M .values) [] ≡ worths w q (vals .higher) (front ++ worths w′ q (m .values) []) =
-      ap (λ (l : List Sum). worths w q l []) (vals .all) ∙ worths-append w q (vals .lower ++ map (sumIn p) (m .values)) (vals .higher) []
-      ∙ ap (worths w q (vals .higher)) (worths-append w q (vals .lower) (map (sumIn p) (m .values)) [] ∙ ap (worths w q (map (sumIn p) (m .values))) (sym (append-nil front)) ∙ worths-part (m .values) (vals .plain) front [] long) in
-      cc (whole, worths-stay w q (vals .higher) (front ++ worths w′ q (m .values) []) (k + p .toValue - 1) (omega (arith, length-append front (worths w′ q (m .values) []), long, worths-length w′ q (m .values) [])), index long, getD-behind front (worths w′ q (m .values) []) (k - 1) (pos 0))
+      let front = worths w q _ [] in
+      let long : length front ≡ p .toValue = worths-length w q _ [] ∙ ap (λ (i : ℕ). 0 + i) (vals .before) ∙ (omega arith) in
+      cc (
+        (ap (λ (l : List Sum). worths w q l []) (vals .all) ∙ worths-append w q (vals .lower ++ map (sumIn p) (m .values)) (vals .higher) []
+            ∙ ap (worths w q (vals .higher)) (worths-append w q (vals .lower) (map (sumIn p) (m .values)) [] ∙ ap (worths w q (map (sumIn p) (m .values))) (sym (append-nil front)) ∙ worths-part (m .values) (vals .plain) front [] long)),
+        worths-stay w q (vals .higher) (front ++ worths w′ q (m .values) []) (k + p .toValue - 1) (omega (arith, length-append front (worths w′ q (m .values) []), worths-length w′ q (m .values) [])),
+        index long,
+        getD-behind front _ _ _,
+      )
     where
       index : {i : ℕ} → i ≡ p .toValue → k + p .toValue - 1 ≡ k - 1 + i
-      index e = omega (arith, n .0)
+      index e = omega arith
 
   pub evaluate-same : (t : Term) → Plain p m t → evaluate (m .values) w′ q t ≡ evaluate (M .values) w q (termIn p t)
   unfolding evaluate
-  evaluate-same t k = term-same p m N w w′ samples samples′ h q (worths w q (M .values) []) (worths w′ q (m .values) []) values-same t k
+  evaluate-same t k = term-same p m N w w′ samples samples′ h q _ _ values-same t k
 
   pub truth-same : (c : Condition) → PlainCondition p m c → truth (m .values) w′ q c ≡ truth (M .values) w q (conditionIn p c)
   unfolding truth compare conditionIn

@@ -1,7 +1,6 @@
 -- A turn that ends nothing: who is taken, one block, the WS scheme; of any model.
-use Rattle.machine.specs.All.{ℕ, zero, suc, _≡_, refl, subst, true, not, List, [], _∷_, Option, none, some, arith, eqb, not-true, not-false, Transaction, others, Block, BlockModel, blockAt, State, setMoving, setRel, setTurns, setEnd, wakeWsl, effect, nextEvents, takeFirst, takeReady, taking, answer, execute, waitsOn, wsScheme, turn, Each}
-use Rattle.machine.proofs.runs.RunLaws.{cond-cases, each-map}
-use Rattle.machine.proofs.lists.Sorted.{each-passes}
+use Rattle.machine.specs.All.{ℕ, zero, suc, _≡_, refl, true, not, List, [], _∷_, Option, none, some, arith, eqb, not-true, not-false, Transaction, others, Block, BlockModel, blockAt, State, setMoving, setRel, setTurns, wakeWsl, effect, nextEvents, takeFirst, takeReady, taking, answer, execute, waitsOn, wsScheme, turn, Each}
+use Rattle.machine.proofs.{runs.RunLaws.cond-cases, runs.RunLaws.each-map, lists.Sorted.each-passes}
 
 module _ (m : BlockModel) where
   -- the WS scheme, where no end was set
@@ -33,7 +32,7 @@ module _ (m : BlockModel) where
       → Executed (answer n m (blockOf t) t r) r (effect m (blockOf t) t (setMoving none r))
   unfolding answer
   answered zero t r z = (cc (scheme-end _, z), scheme-on _ (cc (scheme-end _, z)))
-  answered (suc n) t r z = absurd (nonzero (cc (scheme-end (setEnd (suc n) r), z)))
+  answered (suc n) t r z = absurd (nonzero (cc (scheme-end _, z)))
     where
       nonzero : suc n ≡ 0 → ⊥
       nonzero e = omega arith
@@ -42,18 +41,18 @@ module _ (m : BlockModel) where
       → Executed (execute o m r) r (effect m (blockOf t) t (setMoving none r))
   unfolding execute
   executed o t r e z =
-      rw e (answered _ t r (subst (λ (o : Option Transaction). wsScheme m (execute o m r) .end ≡ 0) e z))
+      rw e (answered _ t r (rw e at z))
 
   pub turned : (s : State) (t : Transaction) → taking (s .moving) s .moving ≡ some t → turn m s .end ≡ 0
       → (effect m (blockOf t) t (handed s) .end ≡ 0) × (turn m s ≡ settled (effect m (blockOf t) t (handed s)))
   unfolding turn
-  turned s t e z = executed (taking (s .moving) s .moving) t (setTurns (suc (s .turns)) (taking (s .moving) s)) e z
+  turned s t e z = executed _ t _ e z
 
   -- everybody on the WSL waits on
   pub waits-on : (s : State) → Each (λ t. waitsOn m (settled s .view) t ≡ true) (settled s .wsl)
   unfolding wakeWsl
   waits-on s =
-      each-map (λ t h. not-false _ (not-true _ h)) (others (λ t. not (waitsOn m (s .view) t)) (s .wsl)) (each-passes (λ t. not (not (waitsOn m (s .view) t))) (s .wsl))
+      each-map (λ t h. not-false _ (not-true _ h)) (others (λ t. not (waitsOn m _ t)) _) (each-passes (λ t. not (not (waitsOn m _ t))) _)
 
 -- ---- The taking
 
@@ -69,10 +68,10 @@ pub record Readied (s : State) : Type 0 where
 
 pub readied : (s : State) → Readied s
 unfolding taking takeReady
-readied s = go (s .rel) refl
+readied s = go _ refl
   where
     go : (l : List Transaction) → s .rel ≡ l → Readied s
-    go [] e = record { from = nextEvents (s .fel) s; ready = clockMoved e; taken = cc e }
+    go [] e = record { from = nextEvents _ s; ready = clockMoved e; taken = cc e }
     go (t ∷ l) e =
         record { from = s; ready = asIs t l e; taken = cc e }
 

@@ -4,16 +4,14 @@
 -- kind 17 block entered its whole group at that clock, and at an ASSEMBLE one of a family waits while not all have come. The states are those
 -- of the run that gives the outcome, and the run keeps to its bounds.
 use Rattle.machine.specs.All.{ℕ, _≡_, List, reverse, serverAt, BlockModel, State, Rules, accept, validate, states, InOrder, Keeps, Demand3, Proved}
-use Rattle.machine.proofs.decoding.Proper.{Proper}
-use Rattle.machine.proofs.decoding.ProperFrom.{proper-from}
-use Rattle.machine.proofs.runs.RunLaws.{each-map, each-pair, each-under, last}
-use Rattle.machine.proofs.runs.Bounds.{bounded}
-use Rattle.machine.proofs.conservation.Conservation.{Conserved, conserved}
-use Rattle.machine.proofs.nobody_able.NobodyAble.{Waited, waited, able-none}
-use Rattle.machine.proofs.order.InOrder.{in-order}
-use Rattle.machine.proofs.later.Holders.{Holding, holding, taken-from}
-use Rattle.machine.proofs.later.JoinedWaits.{Gathered, joined-waits}
-use Rattle.machine.proofs.later.Gathering.{Assembled, assembled}
+use Rattle.machine.proofs as our
+use our.{decoding.Proper.Proper, decoding.ProperFrom.proper-from, runs.Bounds.bounded, order.InOrder.in-order}
+use our.runs.RunLaws.{each-map, each-pair, each-under, last}
+use our.conservation.Conservation.{Conserved, conserved}
+use our.nobody_able.NobodyAble.{Waited, waited, able-none}
+use our.later.Holders.{Holding, holding, taken-from}
+use our.later.JoinedWaits.{Gathered, joined-waits}
+use our.later.Gathering.{Assembled, assembled}
 
 -- by edition 1 alone
 abbrev Ordered : BlockModel → List (List ℕ) → State → Type 0

@@ -1,9 +1,7 @@
 -- Blocks, "Kind and operands as stored", and the model that holds them. Server operands are server numbers: a facility's own
 -- number, and for a storage its number after all facilities (Term.antt, `Server`).
 use Rattle.machine.specs.Basics.{ℕ, suc, _+_, _*_, _-_, Bool, true, false, not, List, [], _∷_, some, ltb, leb, eqb}
-use Rattle.machine.specs.Lists.{nth, bit, upTo}
-use Rattle.machine.specs.Limits.{maxBack}
-use Rattle.machine.specs.Rules.{Rules}
+use Rattle.machine.specs.{Lists.nth, Lists.bit, Lists.upTo, Limits.maxBack, Rules.Rules}
 use Rattle.machine.specs.Term.{Server, Term, Relation, Condition, always, whenTrue, Sum}
 use Rattle.machine.specs.Facts.{Facts, noFacts, setGenerates, setRank, setUses, setTerminates, setCopies, setGathers, setServer, setUnits, setQueue, setReleases, setPreempts, setTarget, setLeaves, setWel, setBack, setWaitsWhile, setTerms}
 

@@ -1,20 +1,10 @@
 -- "What demand 3 speaks of", word by word, as one claim about the states of a whole run. Proved in ../proofs/Demand3.antt.
 use Rattle.machine.specs.Basics.{ℕ, suc, _+_, _*_, _-_, _%_, _≤_, _<_, _≡_, Bool, true, false, cond, not, _&&_, _||_, List, [], _∷_, _++_, map, reverse, Option, none, some, ltb, leb, eqb, T, length, getD, drop}
-use Rattle.machine.specs.Limits.{maxTurns}
-use Rattle.machine.specs.Transaction.{Transaction, Interrupted}
+use Rattle.machine.specs.{Limits.maxTurns, Transaction.Transaction, Transaction.Interrupted, Term.Server, Term.serverAt, Facts.Facts, Facts.isGenerate, State.State, State.Logged, Execute.fits, Turn.waitsOn, Trace.Record, Trace.inRanges, Run.run, Run.states, Report.places, Report.movingOne, Report.reportNumbers, Outcome.Outcome}
 use Rattle.machine.specs.Lists.{those, anyOf, flat, nth}
-unfoldable pub use Rattle.machine.specs.Lists.{bit, upTo}
-use Rattle.machine.specs.Term.{Server, serverAt}
-use Rattle.machine.specs.Facts.{Facts, isGenerate}
 use Rattle.machine.specs.Block.{Code, U, NU, E, NE, F, NF, status, Block, facts, BlockModel, blockAt, backAt}
-use Rattle.machine.specs.State.{State, Logged}
 use Rattle.machine.specs.Moves.{qlOf, welOf, gatherersAt, interruptedAt}
-use Rattle.machine.specs.Execute.{fits}
-use Rattle.machine.specs.Turn.{waitsOn}
-use Rattle.machine.specs.Trace.{Record, inRanges}
-use Rattle.machine.specs.Run.{run, states}
-use Rattle.machine.specs.Report.{places, movingOne, reportNumbers}
-use Rattle.machine.specs.Outcome.{Outcome}
+unfoldable pub use Rattle.machine.specs.Lists.{bit, upTo}
 
 abbrev pub Each : {A : Type 0} → (A → Type 0) → List A → Type 0
 Each P [] = Unit {0}

@@ -1,8 +1,7 @@
 -- Questions 3 to 10, number by number, and the model and tape that are read on the way.
 use Rattle.machine.specs.Basics.{ℕ, zero, suc, _+_, cond, List, [], _∷_, ltb, leb, eqb, length}
 use Rattle.machine.specs.Limits as Limits
-use Rattle.machine.specs.Rules.{Rules}
-use Rattle.machine.specs.Lists.{nth}
+use Rattle.machine.specs.{Rules.Rules, Lists.nth}
 use Rattle.machine.specs.Parser.{Parser, parsed, refused, _>>=_, _>>_, give, refuse, ask, times, field, fieldUpTo}
 use Rattle.machine.specs.Term.{Relation, equal, unequal, less, atMost, greater, atLeast, Term, constant, minusConstant, parameter, clockTerm, entriesOf, contentOf, unitsInUse, unitsFree, facilityInUse, value, comparison, bracket, Sum, nothing, plus, minus}
 use Rattle.machine.specs.Block.{Code, U, NU, E, NE, F, NF, Block, generate, advance, terminate, seize, release, enter, leave, waitServer, waitTerms, branch, goto, assign, priority, split, arrive, depart, assemble, preempt, giveBack, BlockModel}

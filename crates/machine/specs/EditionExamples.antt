@@ -1,17 +1,9 @@
 -- Document 02, item 12, by computing: how one comes onto a line under edition 2, whom its LEAVE wakes, and why zero waiters and the order
 -- among equals are claimed for edition 1 alone.
 use Rattle.machine.specs.Basics.{ℕ, _≡_, refl, true, List, [], _∷_, map, reverse, length, getD}
-use Rattle.machine.specs.Rules.{Rules, item7, document02}
-use Rattle.machine.specs.Transaction.{Transaction, newborn}
+use Rattle.machine.specs.{Rules.Rules, Rules.item7, Rules.document02, Transaction.Transaction, Transaction.newborn, State.State, State.Logged, Setters.withReturning, Moves.lineUp, Execute.queueRemove, Run.run, Outcome.outcome, Bundle.everything}
 use Rattle.machine.specs.Block.{Block, generate, advance, terminate, enter, leave, BlockModel}
-use Rattle.machine.specs.State.{State, Logged}
-use Rattle.machine.specs.Setters.{withReturning}
-use Rattle.machine.specs.Moves.{lineUp}
-use Rattle.machine.specs.Execute.{queueRemove}
-use Rattle.machine.specs.Run.{run}
-use Rattle.machine.specs.Outcome.{outcome}
 use Rattle.machine.specs.Claims.{bit, noRecord, waitEnd, equalWaits, ableToGo}
-use Rattle.machine.specs.Bundle.{everything}
 
 -- ---- Coming onto a line
 

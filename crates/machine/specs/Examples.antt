@@ -1,22 +1,10 @@
 -- The examples of document 01, "Examples", and some of our own, each shown by computing the machine.
 -- `printed` gives what `runmodel` prints, line by line, without the letters.
 use Rattle.machine.specs.Basics.{ℕ, suc, _≡_, refl, false, true, List, [], _∷_, _++_, map, none, some, length}
-use lib.IntN.{ℤ, pos, negsuc}
-use Rattle.machine.specs.Rules.{document01}
-use Rattle.machine.specs.Transaction.{Transaction, newborn}
-use Rattle.machine.specs.Lists.{nth}
-use Rattle.machine.specs.Term.{Server, Queue}
+use Rattle.machine.specs.{Rules.document01, Transaction.Transaction, Transaction.newborn, Lists.nth, Term.Server, Term.Queue, Trace.Record, State.State, Moves.qlOf, Moves.setUse, Turn.turn, Run.idle, Run.run, Run.states, Report.serverNumbers, Report.queueNumbers, Report.places, Validate.accept, Validate.reject, Validate.validate, Outcome.recordsOf, Bundle.everything}
 use Rattle.machine.specs.Block.{advance, terminate, seize, split, BlockModel}
-use Rattle.machine.specs.Trace.{Record}
-use Rattle.machine.specs.State.{State}
 use Rattle.machine.specs.Setters.{withSerial, withReturning, setRel, setMade, setMoving, setClock, setView}
-use Rattle.machine.specs.Moves.{qlOf, setUse}
-use Rattle.machine.specs.Turn.{turn}
-use Rattle.machine.specs.Run.{idle, run, states}
-use Rattle.machine.specs.Report.{serverNumbers, queueNumbers, places}
-use Rattle.machine.specs.Validate.{accept, reject, validate}
-use Rattle.machine.specs.Outcome.{recordsOf}
-use Rattle.machine.specs.Bundle.{everything}
+use lib.IntN.{ℤ, pos, negsuc}
 
 -- ---- How an example is shown
 

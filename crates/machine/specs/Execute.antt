@@ -1,11 +1,10 @@
 -- Blocks: the questions inside a turn, and what each kind does once they are answered.
 use Rattle.machine.specs.Basics.{ℕ, suc, _+_, _-_, Bool, true, false, cond, not, _&&_, _||_, List, [], _∷_, ltb, leb, eqb}
-use Rattle.machine.specs.Limits.{maxLiving}
+use Rattle.machine.specs.{Limits.maxLiving, State.State}
 use Rattle.machine.specs.Transaction.{Transaction, Event, Gatherer, Interrupted}
 use Rattle.machine.specs.Lists.{setNth, bit, upTo, anyOf}
 use Rattle.machine.specs.Term.{Server, View, serverAt, queueAt, free, evaluate, compare, truth}
 use Rattle.machine.specs.Block.{Code, U, NU, E, NE, F, NF, status, Share, facility, storage, shareServer, shareUnits, shareHolder, Change, up, down, Block, generate, advance, terminate, takes, frees, waitServer, waitTerms, moves, assign, priority, split, counts, assemble, preempt, giveBack, facts, aboveOne, BlockModel, blockAt, beginsGroup}
-use Rattle.machine.specs.State.{State}
 use Rattle.machine.specs.Setters.{withPriority, withParameters, withNext, withReturning, withStamp, setCounter, setEnded, setEnd}
 use Rattle.machine.specs.Moves.{enters, moveTo, goOn, toRel, toFel, toQl, toWel, toWsl, beginWait, mustWait, Parted, nobody, goes, stays, firstOf, partBy, wakeQl, wakeFirstWel, setUse, setHolder, setContent, timesLeft, useTime, arrival, copies, waitsFor, toGatherers, comes, released, interruptedAt, losersTo, interrupt, resume}
 

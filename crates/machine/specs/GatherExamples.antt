@@ -1,14 +1,7 @@
 -- Document 02, item 8, by computing: families that gather, and what validation refuses.
 use Rattle.machine.specs.Basics.{ℕ, _+_, _≡_, refl, List, [], _∷_, _++_, map, reverse, length}
-use Rattle.machine.specs.Lists.{flat}
-use Rattle.machine.specs.Rules.{Rules, item7, document02}
+use Rattle.machine.specs.{Lists.flat, Rules.Rules, Rules.item7, Rules.document02, State.State, Run.run, Report.places, Claims.familyBy, Claims.comeBy, Validate.accept, Validate.reject, Validate.validate, Bundle.everything}
 use Rattle.machine.specs.Block.{Block, generate, advance, terminate, seize, split, assemble, BlockModel}
-use Rattle.machine.specs.State.{State}
-use Rattle.machine.specs.Run.{run}
-use Rattle.machine.specs.Report.{places}
-use Rattle.machine.specs.Claims.{familyBy, comeBy}
-use Rattle.machine.specs.Validate.{accept, reject, validate}
-use Rattle.machine.specs.Bundle.{everything}
 
 -- one facility, two lists, a counter of 9
 abbrev packing : List Block → BlockModel

@@ -1,14 +1,7 @@
 -- Document 02, item 6, by computing: ends 27 and 28, what is asked before them, and the runs without the two questions.
 use Rattle.machine.specs.Basics.{ℕ, _≡_, refl, Bool, List, [], _∷_, _++_, map, reverse}
-use Rattle.machine.specs.Lists.{bit}
-use Rattle.machine.specs.Rules.{Rules, document01, document02}
-use Rattle.machine.specs.Term.{serverAt}
+use Rattle.machine.specs.{Lists.bit, Rules.Rules, Rules.document01, Rules.document02, Term.serverAt, State.State, Run.run, Report.places, OnlyHolder.ownOnly, Bundle.everything}
 use Rattle.machine.specs.Block.{Block, generate, advance, terminate, seize, release, enter, goto, split, BlockModel}
-use Rattle.machine.specs.State.{State}
-use Rattle.machine.specs.Run.{run}
-use Rattle.machine.specs.Report.{places}
-use Rattle.machine.specs.OnlyHolder.{ownOnly}
-use Rattle.machine.specs.Bundle.{everything}
 
 -- one facility, one storage of 1 unit, a counter of 1
 abbrev yard : Rules → List Block → BlockModel

@@ -1,12 +1,7 @@
 -- Document 02, item 7, by computing: ships that leave only when storm and tug allow it at the same clock, and what validation refuses.
 use Rattle.machine.specs.Basics.{ℕ, _+_, _≡_, refl, List, [], _∷_, _++_, map, reverse, leb, length}
-use Rattle.machine.specs.Lists.{those, flat}
-use Rattle.machine.specs.Rules.{Rules, item6, document02}
+use Rattle.machine.specs.{Lists.those, Lists.flat, Rules.Rules, Rules.item6, Rules.document02, State.State, Run.run, Validate.accept, Validate.reject, Validate.validate, Bundle.everything}
 use Rattle.machine.specs.Block.{U, F, Block, generate, advance, terminate, seize, release, enter, leave, waitServer, BlockModel}
-use Rattle.machine.specs.State.{State}
-use Rattle.machine.specs.Run.{run}
-use Rattle.machine.specs.Validate.{accept, reject, validate}
-use Rattle.machine.specs.Bundle.{everything}
 
 -- two facilities, 1 the storm and 2 the tug, and a storage of 1 berth
 abbrev port : List Block → BlockModel

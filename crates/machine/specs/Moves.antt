@@ -2,10 +2,7 @@
 use Rattle.machine.specs.Basics.{ℕ, zero, suc, _+_, _-_, Bool, true, false, cond, not, _&&_, List, [], _∷_, reverse, some, ltb, leb, eqb, length, getD, set, take, drop}
 use Rattle.machine.specs.Transaction.{Transaction, Event, Gatherer, Interrupted, precedes, earlier, newborn}
 use Rattle.machine.specs.Lists.{insert, those, others, replaceFirst, nth, setNth}
-use Rattle.machine.specs.Term.{Server, serverAt, queueAt}
-use Rattle.machine.specs.Block.{Code, welIndex}
-use Rattle.machine.specs.Trace.{Record, recordBytes}
-use Rattle.machine.specs.State.{State}
+use Rattle.machine.specs.{Term.Server, Term.serverAt, Term.queueAt, Block.Code, Block.welIndex, Trace.Record, Trace.recordBytes, State.State}
 use Rattle.machine.specs.Setters.{withNext, withSerial, withReturning, withStamp, withUse, withContent, setEntries, setQueues, setServers, setView, setSamples, setQl, setWel, setWsl, setRel, setFel, setGatherers, setInterrupted, setMoving, setSerial, setMade, setRecords, setWritten}
 
 -- ---- The trace

@@ -1,8 +1,7 @@
 -- Document 02, items 7, 8 and 11, add kinds of blocks and item 12 an edition: every run of a model that is accepted without them stays as it was.
 -- Proved in ../proofs/later/OlderModels.antt, for any setting of the other rules.
 use Rattle.machine.specs.Basics.{ℕ, _≤_, _≡_, List}
-use Rattle.machine.specs.Rules.{Rules}
-use Rattle.machine.specs.Outcome.{outcome}
+use Rattle.machine.specs.{Rules.Rules, Outcome.outcome}
 
 -- the rules with so many kinds and editions
 abbrev pub counting : (kinds editions : ℕ) → Rules → Rules

@@ -1,17 +1,9 @@
 -- Document 02, item 1: "Runs of older tapes that did not end 22 keep their bytes." Proved in ../proofs/later/OlderTapes.antt, for any two
 -- rules of which the one allows no less, and so from document 01 to document 02; the clock term in ../proofs/runs/ClockTerm.antt.
 use Rattle.machine.specs.Basics.{ℕ, _≤_, _≡_, List}
-use lib.IntN.{ℤ, pos}
-use Rattle.machine.specs.Rules.{Rules}
-use Rattle.machine.specs.Term.{clockTerm, term}
-use Rattle.machine.specs.Block.{BlockModel}
+use Rattle.machine.specs.{Rules.Rules, Term.clockTerm, Term.term, Block.BlockModel, State.State, Turn.taking, Run.states, Validate.accept, Validate.validate, Outcome.Outcome, Outcome.outcome, Claims.Each}
 use Rattle.machine.specs.Trace.{Record, taken, noMore, readRecord}
-use Rattle.machine.specs.State.{State}
-use Rattle.machine.specs.Turn.{taking}
-use Rattle.machine.specs.Run.{states}
-use Rattle.machine.specs.Validate.{accept, validate}
-use Rattle.machine.specs.Outcome.{Outcome, outcome}
-use Rattle.machine.specs.Claims.{Each}
+use lib.IntN.{ℤ, pos}
 
 -- clock limit, time limit, largest number and numbers of kinds and editions are no lower
 pub record Wider (old new : Rules) : Type 0 where

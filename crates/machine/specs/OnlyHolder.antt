@@ -1,14 +1,8 @@
 -- Document 02, item 6: "A model whose transactions release only their own facilities, and hold none when ending, gives the trace it
 -- gave." Proved in ../proofs/later/OnlyHolder.antt, for any setting of the other rules.
 use Rattle.machine.specs.Basics.{ℕ, _≡_, Bool, true, false, not, _&&_, _||_, List, [], _∷_, eqb, T}
-use Rattle.machine.specs.Rules.{Rules}
-use Rattle.machine.specs.Lists.{bit, upTo}
-use Rattle.machine.specs.Block.{BlockModel}
-use Rattle.machine.specs.State.{Logged}
-use Rattle.machine.specs.Run.{run}
+use Rattle.machine.specs.{Rules.Rules, Lists.bit, Lists.upTo, Block.BlockModel, State.Logged, Run.run, Outcome.outcome, Claims.factsAt, Claims.terminates, Claims.holderBy}
 use Rattle.machine.specs.Validate.{Validation, accept, reject, validate}
-use Rattle.machine.specs.Outcome.{outcome}
-use Rattle.machine.specs.Claims.{factsAt, terminates, holderBy}
 
 -- the rules with the questions 27, of a seized facility, and 28, or without them
 abbrev pub asking : Bool → Rules → Rules

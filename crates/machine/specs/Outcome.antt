@@ -1,11 +1,6 @@
 -- Questions, "A run returns refusal (0 for none), end, clock, turns, made, ended, bytes of trace and of report."
 use Rattle.machine.specs.Basics.{ℕ, List, [], map, reverse}
-use Rattle.machine.specs.Rules.{Rules}
-use Rattle.machine.specs.Block.{BlockModel}
-use Rattle.machine.specs.Trace.{Record, traceBytes}
-use Rattle.machine.specs.State.{State}
-use Rattle.machine.specs.Report.{reportBytes}
-use Rattle.machine.specs.Run.{run}
+use Rattle.machine.specs.{Rules.Rules, Block.BlockModel, Trace.Record, Trace.traceBytes, State.State, Report.reportBytes, Run.run}
 use Rattle.machine.specs.Validate.{Validation, accept, reject, validate}
 
 pub record Outcome : Type 0 where

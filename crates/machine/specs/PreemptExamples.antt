@@ -1,17 +1,10 @@
 -- Document 02, item 11, by computing: a crane that is taken over and given back, who waits, what is asked, and why the order among equals
 -- speaks only of facilities that no PREEMPT names.
 use Rattle.machine.specs.Basics.{ℕ, _≡_, refl, true, false, List, [], _∷_, _++_, map, reverse, getD, take}
-use Rattle.machine.specs.Lists.{bit}
+use Rattle.machine.specs.{Lists.bit, Term.constant, Term.entriesOf, Term.less, State.State, State.Logged, Run.run, Report.places, Report.reportNumbers, Outcome.outcome, OnlyHolder.asking, Bundle.everything}
 use Rattle.machine.specs.Rules.{Rules, item8, item11, document02}
-use Rattle.machine.specs.Term.{constant, entriesOf, less}
 use Rattle.machine.specs.Block.{Block, generate, advance, terminate, seize, release, waitTerms, split, preempt, giveBack, BlockModel}
-use Rattle.machine.specs.State.{State, Logged}
-use Rattle.machine.specs.Run.{run}
-use Rattle.machine.specs.Report.{places, reportNumbers}
-use Rattle.machine.specs.Outcome.{outcome}
-use Rattle.machine.specs.OnlyHolder.{asking}
 use Rattle.machine.specs.Claims.{noRecord, waitEnd, equalWaits, preemptNames}
-use Rattle.machine.specs.Bundle.{everything}
 
 -- one facility
 abbrev yard : Rules → List Block → BlockModel

@@ -1,13 +1,7 @@
 -- Bytes, "Report: clock, made, ended; per facility and storage: ..; per queue: ..; the living count and, per living one,
 -- number and place". Document 02, item 2: "List the living by rising transaction number."
 use Rattle.machine.specs.Basics.{ℕ, suc, Bool, _&&_, List, [], _∷_, _++_, map, Option, none, some, ltb, eqb, length}
-use Rattle.machine.specs.Transaction.{Transaction}
-use Rattle.machine.specs.Lists.{insert, those, flat}
-use Rattle.machine.specs.Term.{Server, Queue}
-use Rattle.machine.specs.Facts.{Facts}
-use Rattle.machine.specs.Block.{facts, BlockModel, blockAt}
-use Rattle.machine.specs.Number.{numberBytes}
-use Rattle.machine.specs.State.{State, Logged}
+use Rattle.machine.specs.{Transaction.Transaction, Lists.insert, Lists.those, Lists.flat, Term.Server, Term.Queue, Facts.Facts, Block.facts, Block.BlockModel, Block.blockAt, Number.numberBytes, State.State, State.Logged}
 
 -- how many records of an outcome stand at blocks that pass a test
 unfoldable pub recordsAt : BlockModel → ℕ → (Facts → Bool) → List Logged → ℕ

@@ -1,13 +1,6 @@
 -- A turn: the ends before a turn, the start, and the run, "Each turn gets what the turn before it left".
 use Rattle.machine.specs.Basics.{ℕ, zero, suc, _+_, _*_, Bool, true, false, cond, not, _&&_, _||_, List, [], _∷_, map, _++_, Option, none, some, ltb, leb, eqb, length, replicate}
-use Rattle.machine.specs.Limits.{maxSerial, maxTurns, recordRoom}
-use Rattle.machine.specs.Term.{idleServer, emptyQueue}
-use Rattle.machine.specs.Facts.{Facts, isGenerate}
-use Rattle.machine.specs.Block.{Block, facts, BlockModel}
-use Rattle.machine.specs.State.{State}
-use Rattle.machine.specs.Setters.{setEnd}
-use Rattle.machine.specs.Moves.{timesLeft, arrival}
-use Rattle.machine.specs.Turn.{turn}
+use Rattle.machine.specs.{Limits.maxSerial, Limits.maxTurns, Limits.recordRoom, Term.idleServer, Term.emptyQueue, Facts.Facts, Facts.isGenerate, Block.Block, Block.facts, Block.BlockModel, State.State, Setters.setEnd, Moves.timesLeft, Moves.arrival, Turn.turn}
 
 -- ---- "Before each turn, in this order: .." end 1 (dry), end 26, end 3, end 4
 

@@ -1,9 +1,8 @@
 -- One setter for each field that changes; there is no update syntax for records. Nothing here needs reading.
 use Rattle.machine.specs.Basics.{ℕ, Bool, List, Option}
-use lib.IntN.{ℤ}
 use Rattle.machine.specs.Transaction.{Transaction, Event, Gatherer, Interrupted}
-use Rattle.machine.specs.Term.{Server, Queue, View}
-use Rattle.machine.specs.State.{State, Logged}
+use Rattle.machine.specs.{Term.Server, Term.Queue, Term.View, State.State, State.Logged}
+use lib.IntN.{ℤ}
 
 -- ---- Transaction
 

@@ -1,8 +1,6 @@
 -- Bytes, "Trace record: clock, transaction, block, outcome (0 entered, 1 began to wait)", the trace reader and the record writer.
 use Rattle.machine.specs.Basics.{ℕ, Bool, cond, _&&_, List, [], _∷_, _++_, ltb, leb, length}
-use Rattle.machine.specs.Limits.{maxTransaction, maxBlocks}
-use Rattle.machine.specs.Rules.{Rules}
-use Rattle.machine.specs.Number.{numberBytes}
+use Rattle.machine.specs.{Limits.maxTransaction, Limits.maxBlocks, Rules.Rules, Number.numberBytes}
 use Rattle.machine.specs.Parser.{Parser, Parsed, parsed, refused, _>>=_, give, fieldUpTo}
 
 pub record Record : Type 0 where

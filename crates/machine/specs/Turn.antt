@@ -1,14 +1,10 @@
 -- A turn: the taking, with the statistics before a clock move, one block, the WS scheme.
 use Rattle.machine.specs.Basics.{ℕ, zero, suc, _+_, _*_, _-_, max, Bool, false, cond, not, List, [], _∷_, map, Option, none, some, eqb, length}
-use lib.IntN.{ℤ}
-use Rattle.machine.specs.Transaction.{Transaction, Event}
-use Rattle.machine.specs.Lists.{those, others}
+use Rattle.machine.specs.{Transaction.Transaction, Transaction.Event, Lists.those, Lists.others, State.State, Moves.toRel, Moves.wakeWsl, Execute.question, Execute.effect}
 use Rattle.machine.specs.Term.{Server, Queue, View, Sum, Condition, truth}
 use Rattle.machine.specs.Block.{Block, facts, BlockModel, blockAt}
-use Rattle.machine.specs.State.{State}
 use Rattle.machine.specs.Setters.{withReturning, setClock, setServers, setQueues, setView, setRel, setFel, setMoving, setTurns, setEnd}
-use Rattle.machine.specs.Moves.{toRel, wakeWsl}
-use Rattle.machine.specs.Execute.{question, effect}
+use lib.IntN.{ℤ}
 
 -- ---- Statistics, summed before each clock move (Bytes, "Report: ..")
 

@@ -1,12 +1,9 @@
 -- "Questions at the door" in their order, from bytes.
 use Rattle.machine.specs.Basics.{ℕ, suc, Bool, true, cond, not, _&&_, _||_, List, [], _∷_, leb, eqb, length}
-use Rattle.machine.specs.Limits.{workNumbers, reportRoom}
-use Rattle.machine.specs.Rules.{Rules}
+use Rattle.machine.specs.{Limits.workNumbers, Limits.reportRoom, Rules.Rules, Facts.isGenerate, Decode.modelFields, Decode.atEnd, Decode.listField}
 use Rattle.machine.specs.Parser.{Cursor, Parser, Parsed, parsed, refused, _>>=_, _>>_, give, ask, times}
 use Rattle.machine.specs.Term.{Term, constant, minusConstant, parameter, clockTerm, entriesOf, contentOf, unitsInUse, unitsFree, facilityInUse, value, comparison, bracket, Sum, nothing, plus, minus}
-use Rattle.machine.specs.Facts.{isGenerate}
 use Rattle.machine.specs.Block.{Block, facts, BlockModel, blockAt, insideGroup}
-use Rattle.machine.specs.Decode.{modelFields, atEnd, listField}
 
 -- ---- "Is each GENERATE first or after TERMINATE or GOTO, named by no target, the last block TERMINATE or GOTO, and does
 -- each block named in a value exist? 7."

@@ -1,12 +1,7 @@
 -- Demand 3 speaks of something: in accepted examples waits of each kind begin and end, and two equal waits end in their order.
 use Rattle.machine.specs.Basics.{ℕ, _≡_, refl, List, [], _∷_, reverse, length, getD}
-use Rattle.machine.specs.Block.{BlockModel}
-use Rattle.machine.specs.State.{Logged}
-use Rattle.machine.specs.Run.{run}
-use Rattle.machine.specs.Rules.{document01}
-use Rattle.machine.specs.Validate.{accept, reject, validate}
+use Rattle.machine.specs.{Block.BlockModel, State.Logged, Run.run, Rules.document01, Validate.accept, Validate.reject, Validate.validate, Bundle.everything}
 use Rattle.machine.specs.Claims.{noRecord, waitEnd, equalWaits, bit}
-use Rattle.machine.specs.Bundle.{everything}
 use Rattle.machine.specs.Examples.{firstModel, firstTape, storageModel, storageTape, chainModel, chainTape, freedByOtherModel, freedByOtherTape, returnersModel, returnersTape}
 
 -- of the record at a position: its outcome, the position of the record that ends its wait, how many records there are

@@ -1,18 +1,8 @@
 -- Document 02, item 1, by computing: clocks, clock terms and numbers at their limits, under the rules of both papers.
 use Rattle.machine.specs.Basics.{ℕ, _≡_, refl, List, [], _∷_, some}
-use lib.IntN.{ℤ, pos, negsuc}
-use Rattle.machine.specs.Rules.{Rules, document01, document02}
-use Rattle.machine.specs.Transaction.{newborn}
-use Rattle.machine.specs.Term.{clockTerm, evaluate}
-use Rattle.machine.specs.Block.{advance, terminate, BlockModel}
+use Rattle.machine.specs.{Rules.Rules, Rules.document01, Rules.document02, Transaction.newborn, Term.clockTerm, Term.evaluate, Block.advance, Block.terminate, Block.BlockModel, State.State, Setters.setMoving, Setters.setClock, Setters.setView, Turn.turn, Run.idle, Validate.accept, Validate.reject, Validate.validate, Bundle.everything, Examples.firstModel}
 use Rattle.machine.specs.Trace.{taken, refusal, noMore, readRecord}
-use Rattle.machine.specs.State.{State}
-use Rattle.machine.specs.Setters.{setMoving, setClock, setView}
-use Rattle.machine.specs.Turn.{turn}
-use Rattle.machine.specs.Run.{idle}
-use Rattle.machine.specs.Validate.{accept, reject, validate}
-use Rattle.machine.specs.Bundle.{everything}
-use Rattle.machine.specs.Examples.{firstModel}
+use lib.IntN.{ℤ, pos, negsuc}
 
 -- ---- End 22
 

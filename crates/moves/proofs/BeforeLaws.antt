@@ -1,43 +1,40 @@
 -- What holds before any block: where the transaction stands, the numbers of its block, and a question that stops the turn.
 use Rattle.machine.specs.All.{ℕ, zero, suc, _+_, _-_, _≤_, _<_, _≡_, refl, sym, subst, cond, List, Option, none, arith, ne-eqb, eqb, length, getD, Transaction, Block, BlockModel, State, setMoving, setEnd}
-use Rattle.machine.proofs.decoding.Proper.{Names, ProperBlock}
-use Rattle.machine.proofs.runs.Placed.{Placed}
-use Rattle.machine.proofs.runs.Everybody.{Maybe}
+use Rattle.machine.proofs.{decoding.Proper.Names, decoding.Proper.ProperBlock, runs.Placed.Placed}
 use Rattle.layout.specs.All.{blockNumbers}
 use Rattle.layout.proofs.Operands as Operands
 use Rattle.state.specs.declared.scalars.Scalars.{Scalars}
 use Rattle.state.specs.All.{bare, bareAnswer, Rows, rowsOf, Stands, noteOf, Done}
 use Rattle.moves.specs.{Moved, moved, withTally, stopped}
-use Rattle.moves.proofs.Before.{placeOf}
-use Rattle.moves.proofs.Before.{Before}
+use Rattle.moves.proofs.Before.{placeOf, Before}
 
 module _ {m : BlockModel} {tape : List (List ℕ)} {tapeBytes tables lists w tally : List ℕ} {x : Scalars} {t : Transaction} {s : State} {b : Block}
     (h : Before m tape tapeBytes tables lists w tally x t s b) where
   pub placed : Placed m t
-  placed = subst (Maybe (Placed m)) (h .moving) (h .sane .placed .moving)
+  placed = rw (h .moving) at (h .sane .placed .moving)
 
   pub numbered : Names (s .made) (t .number)
-  numbered = subst (Maybe (λ u. Names (s .made) (u .number))) (h .moving) (h .sane .mover)
+  numbered = rw (h .moving) at (h .sane .mover)
 
   pub inside : t .next - 1 < length (m .blocks)
   inside = omega (arith, placed .0)
 
   pub next-low : t .next < 4294967295
-  next-low = omega (arith, placed .0, h .proper .blocks)
+  next-low = omega (arith, placed .0)
 
   pub serial-low : s .serial < 4294967295
-  serial-low = omega (arith, h .sane .serials)
+  serial-low = omega arith
 
   pub few-lists : length (s .samples) ≤ 16
-  few-lists = omega (arith, h .sane .shape .sample-lists, h .proper .lists)
+  few-lists = omega arith
 
   -- its block is one of a proper model
   pub proper-block : ProperBlock m b
-  proper-block = subst (ProperBlock m) (h .is) (h .proper .block (t .next))
+  proper-block = rw (h .is) at (h .proper .block (t .next))
 
   -- number i of its block, the kind being number 0
   pub operand : (i : ℕ) → i < length (blockNumbers b) → getD tables (placeOf t + i) 0 ≡ getD (blockNumbers b) i 0
-  operand = Operands.operand m tape tapeBytes tables lists (h .rep) (t .next) (placed .0) b (h .is)
+  operand = Operands.operand m tape tapeBytes tables lists (h .rep) _ (placed .0) b (h .is)
 
   -- ---- A question stops the turn
 

@@ -1,12 +1,9 @@
 -- The moving transaction goes on, or comes to wait, as the machine's does.
-use Rattle.machine.specs.All.{ℕ, suc, _+_, _*_, _/_, _%_, _-_, _<_, _≡_, refl, sym, ap, _∙_, subst, Bool, true, false, cond, List, [], Option, none, some, arith, eqb, length, getD, Transaction, Event, precedes, insert, Code, welIndex, State, withNext, withSerial, withReturning, setSerial, setQl, setWel, setWsl}
+use Rattle.machine.specs.All.{ℕ, suc, _+_, _%_, _-_, _<_, _≡_, refl, sym, ap, _∙_, subst, Bool, true, false, cond, List, [], Option, none, some, arith, eqb, length, getD, Transaction, Event, precedes, Code, welIndex, State, withNext, withSerial, withReturning, setSerial, setQl, setWel, setWsl}
 use Rattle.machine.specs.Moves as Moves
 use Rattle.machine.proofs.lists.Sorted as Machine
 use Rattle.rows_laws.specs.All.{wsl, read, write, lineUp, Sorted, orderOf, transactionAt, update}
-use Rattle.rows_laws.proofs.Insertion.{insert-sorted}
-use Rattle.rows_laws.proofs.Orders.{precedes-order}
-use Rattle.rows_laws.proofs.Ordering.{sorted-of, sorted-line}
-use Rattle.rows_laws.proofs.Fields.{write-next, write-serial, set-returning}
+use Rattle.rows_laws.proofs.{Insertion.insert-sorted, Orders.precedes-order, Ordering.sorted-of, Ordering.sorted-line, Fields.write-next, Fields.write-serial, Fields.set-returning}
 use Rattle.state.specs.declared.scalars.Scalars.{Scalars}
 use Rattle.state.specs.All.{rowsOf, listsIn, listsOf, Listed, Listing, Tallying, Counting, Stands, noteOf, Done, waitsNote, noNote, entering, goingBack, waiting}
 use Rattle.state.proofs.ListsOf.{lists-ql, lists-wel, lists-set-ql, lists-set-wel, lists-set-wsl}
@@ -27,16 +24,16 @@ module _ {w : List ℕ} {k : ℕ} {t : Transaction} {lists : ℕ → List Transa
   -- the row's next block is the transaction's
   pub next-read : read w 6 k ≡ t .next
   unfolding transactionAt
-  next-read = ap (λ (u : Transaction). u .next) (h .mover .1)
+  next-read = cc (h .mover .1)
 
   -- and so is its number
   pub number-read : read w 0 k ≡ t .number
   unfolding transactionAt
-  number-read = ap (λ (u : Transaction). u .number) (h .mover .1)
+  number-read = cc (h .mover .1)
 
   next-written : (block : ℕ) → Listed (write w 6 k block) k (some (withNext block t)) lists fel living
   next-written block =
-      listing-write h 6 block (omega arith) (write-next w k (h .shows .shown .holds .room) (h .mover .0 .row) block ∙ ap (withNext block) (h .mover .1))
+      listing-write h 6 block (omega arith) (cc (write-next w k (h .shows .shown .holds .room) (h .mover .0 .row) block, h .mover .1))
 
 module _ (x : Scalars) {w : List ℕ} {t : Transaction} {lists : ℕ → List Transaction} {fel : List Event} {living : ℕ} (h : Listed w (x .moving) (some t) lists fel living) where
   abbrev k : ℕ
@@ -45,13 +42,13 @@ module _ (x : Scalars) {w : List ℕ} {t : Transaction} {lists : ℕ → List Tr
   pub go-to-listing : (block : ℕ) → Listed (goTo w x block .work) (goTo w x block .scalars .moving) (some (withReturning false (withNext block t))) lists fel living
   unfolding goTo moved
   go-to-listing block =
-      let g : Listed (write w 6 k block) k (some (withNext block t)) lists fel living = next-written h block in
-      listing-write g 1 (read (write w 6 k block) 1 k / 2 * 2 + 0) (omega arith)
-      (set-returning (write w 6 k block) k (g .shows .shown .holds .room) (h .mover .0 .row) 0 (omega arith) ∙ ap (withReturning false) (g .mover .1))
+      let g = next-written h block in
+      listing-write g 1 _ (omega arith)
+      (cc (set-returning (write w 6 k block) k (g .shows .shown .holds .room) (h .mover .0 .row) 0 (omega arith), g .mover .1))
 
   pub go-on-is : t .next < 4294967295 → goOn w x ≡ goTo w x (suc (t .next))
   unfolding goOn
-  go-on-is lt = ap (goTo w x) (ap next32 (next-read h) ∙ next32-suc (t .next) lt)
+  go-on-is lt = cc (next-read h, next32-suc (t .next) lt)
 
 pub go-to-counting : (w : List ℕ) (x : Scalars) (block : ℕ) (s : State) → Counting x s → Counting (goTo w x block .scalars) s
 unfolding goTo moved
@@ -63,13 +60,13 @@ module _ {tapeBytes w tally : List ℕ} (x : Scalars) {t : Transaction} (s : Sta
   go-to-done block = record { stands = record { listing = go-to-listing x listing block; tallying = tallying; counting = counting }; note = refl }
 
   pub go-on-done : t .next < 4294967295 → Done tapeBytes (withTally (goOn w x) tally) (entering (Moves.goOn t s))
-  go-on-done lt = subst (λ (m : Moved). Done tapeBytes (withTally m tally) (entering (Moves.goOn t s))) (sym (go-on-is x listing lt)) (go-to-done (suc (t .next)))
+  go-on-done lt = rw (go-on-is x listing lt) (go-to-done (suc (t .next)))
 
   -- ---- Going back
 
   back-listing : (blocks : ℕ) → Listing (goBack w x blocks .work) (x .moving) (some (withReturning false (withNext (t .next - blocks) t))) s
   unfolding goBack goTo moved
-  back-listing blocks = rw (next-read listing) (go-to-listing x listing (t .next - blocks))
+  back-listing blocks = rw (next-read listing) (go-to-listing x listing _)
 
   pub go-back-done : (blocks : ℕ) → Done tapeBytes (withTally (goBack w x blocks) tally) (goingBack (Moves.moveTo (t .next - blocks) t s))
   unfolding Moves.moveTo goBack moved rowsOf noteOf
@@ -89,8 +86,8 @@ pub puts-ql : (edition v : ℕ) (s : State) → v - 1 < 64 → v - 1 < length (s
 unfolding Moves.toQl
 puts-ql edition v s h len sorted =
     record {
-      lists = λ t q hq. rw (lists-ql s (v - 1) h) (lists-set-ql s (v - 1) (Moves.lineUp edition t (getD (s .ql) (v - 1) [])) h len q);
-      sorted = λ first. rw (lists-ql s (v - 1) h) (sorted-of precedes (getD (s .ql) (v - 1) []) (sorted first));
+      lists = λ t q hq. rw lists-ql (lists-set-ql s _ _ h len q);
+      sorted = λ first. rw lists-ql (sorted-of precedes _ (sorted first));
       stays = λ t. sorted-line (v - 1) (omega arith) _;
       rest = λ t. refl;
     }
@@ -100,8 +97,8 @@ pub puts-wel : (edition v : ℕ) (code : Code) (s : State) → welIndex v code <
 unfolding Moves.toWel
 puts-wel edition v code s h len sorted =
     record {
-      lists = λ t q hq. rw (lists-wel s (welIndex v code) h) (lists-set-wel s (welIndex v code) (Moves.lineUp edition t (getD (s .wel) (welIndex v code) [])) h len q);
-      sorted = λ first. rw (lists-wel s (welIndex v code) h) (sorted-of precedes (getD (s .wel) (welIndex v code) []) (sorted first));
+      lists = λ t q hq. rw lists-wel (lists-set-wel s _ _ h len q);
+      sorted = λ first. rw lists-wel (sorted-of precedes _ (sorted first));
       stays = λ t. sorted-line (64 + welIndex v code) (omega arith) _;
       rest = λ t. refl;
     }
@@ -111,9 +108,9 @@ pub puts-wsl : (s : State) → Sorted precedes (s .wsl) → Puts 1 wsl Moves.toW
 unfolding Moves.toWsl Moves.lineUp listsIn
 puts-wsl s sorted =
     record {
-      lists = λ t q hq. lists-set-wsl s (insert precedes t (s .wsl)) q;
+      lists = λ t q hq. lists-set-wsl s _ q;
       sorted = λ first. sorted;
-      stays = λ t. insert-sorted precedes precedes-order t (s .wsl) sorted;
+      stays = λ t. insert-sorted precedes precedes-order t _ sorted;
       rest = λ t. refl;
     }
 
@@ -145,16 +142,17 @@ module _ {w : List ℕ} (x : Scalars) {t : Transaction} (s : State) (listing : L
       → Done tapeBytes (withTally (beginWait w x p edition) tally) (record { note = waitsNote; state = into t′ later })
   unfolding beginWait moved noteOf rowsOf
   begin-wait-done lt puts tallying =
-      let n : next32 (x .serial) ≡ suc (s .serial) = ap next32 (counting .serial) ∙ next32-suc (s .serial) lt in
-      let g : Listing (write w 7 (x .moving) (next32 (x .serial))) (x .moving) (some t′) later =
-      listing-write listing 7 (next32 (x .serial)) (omega arith)
-      (write-serial w (x .moving) (listing .shows .shown .holds .room) (listing .mover .0 .row) (next32 (x .serial)) ∙ ap (withSerial (next32 (x .serial))) (listing .mover .1) ∙ ap (λ (y : ℕ). withSerial y t) n) in
-      record { stands = put-stands _ later g (renumber counting n (counting .made) (counting .ended)) refl alone puts tallying; note = refl }
+      let n = ap next32 (counting .serial) ∙ next32-suc _ lt in
+      record {
+        stands = put-stands _ later (listing-write listing 7 (next32 (x .serial)) (omega arith)
+            (write-serial w (x .moving) (listing .shows .shown .holds .room) (listing .mover .0 .row) (next32 (x .serial)) ∙ ap (withSerial (next32 (x .serial))) (listing .mover .1) ∙ ap (λ (y : ℕ). withSerial y t) n)) (renumber counting n (counting .made) (counting .ended)) refl alone puts tallying;
+        note = refl;
+      }
 
   -- the row's mark is the transaction's
   mark-read : eqb (read w 1 (x .moving) % 2) 1 ≡ t .returning
   unfolding transactionAt
-  mark-read = ap (λ (u : Transaction). u .returning) (listing .mover .1)
+  mark-read = cc (listing .mover .1)
 
   pub wait-on-done : {tapeBytes tally : List ℕ} → s .serial < 4294967295 → Puts edition p into s → Puts edition p into later → Tallying tapeBytes tally (into t s) → Tallying tapeBytes tally (into t′ later)
       → Done tapeBytes (withTally (waitOn w x p edition) tally) (waiting into t s)

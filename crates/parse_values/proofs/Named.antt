@@ -11,12 +11,12 @@ and-assoc true b c = refl
 and-assoc false b c = refl
 
 leb-max : (n b k : ℕ) → leb (max n b) k ≡ (leb n k && leb b k)
-leb-max n b k = go (leb n k) (leb b k) refl refl
+leb-max n b k = go _ _ refl refl
   where
     go : (x y : Bool) → leb n k ≡ x → leb b k ≡ y → leb (max n b) k ≡ (x && y)
-    go true true e f = le-leb (max n b) k (omega (arith, leb-true n k e, leb-true b k f))
-    go true false e f = lt-leb (max n b) k (omega (arith, leb-false b k f))
-    go false y e f = lt-leb (max n b) k (omega (arith, leb-false n k e))
+    go true true e f = le-leb _ k (omega (arith, leb-true n k e, leb-true b k f))
+    go true false e f = lt-leb _ k (omega (arith, leb-false b k f))
+    go false y e f = lt-leb _ k (omega (arith, leb-false n k e))
 
 mutual
   unfolding termNamed termNames sumNamed sumNames
@@ -45,6 +45,6 @@ mutual
 
 pub values-name : (l : List Sum) (n k : ℕ) → leb (allNamed sumNamed n l) k ≡ (leb n k && allOf (sumNames k) l)
 unfolding allOf
-values-name [] n k = and-true (leb n k)
+values-name [] n k = and-true _
 values-name (e ∷ l) n k =
-    values-name l (sumNamed n e) k ∙ ap (λ (x : Bool). x && allOf (sumNames k) l) (sum-names e n k) ∙ and-assoc (leb n k) (sumNames k e) (allOf (sumNames k) l)
+    cc (values-name l (sumNamed n e) k, sum-names e n k, and-assoc (leb n k) (sumNames k e) (allOf (sumNames k) l))

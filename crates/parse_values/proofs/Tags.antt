@@ -25,8 +25,8 @@ module _ (n : Counts) where
   unfolding simpleTerm rangeOf termOf
   block-operand s c =
       by-tag
-      (λ tag. cond (eqb tag 9) (λ (d : Cursor). continue (field s 3 1 (n .values) d) (λ k e. parsed (value k) e)) (simpleTerm (field s 3) n tag) c
-      ≡ continue (field s 3 (rangeOf n tag .lo) (rangeOf n tag .hi) c) (λ k d. parsed (termOf n tag k) d))
+      (λ tag. cond (eqb tag 9) (λ (d : Cursor). continue _ (λ k e. parsed _ e)) (simpleTerm (field s 3) n tag) c
+      ≡ continue _ (λ k d. parsed _ d))
       refl refl refl refl refl refl refl refl refl refl
 
   -- the same inside a value
@@ -38,7 +38,7 @@ module _ (n : Counts) where
   unfolding simpleTerm mentionField rangeOf termOf
   value-operand s c =
       by-tag
-      (λ tag. operandField s n tag c ≡ continue (valueNumber s (rangeOf n tag .lo) (rangeOf n tag .hi) c) (λ k d. operandRest s tag k d))
+      (λ tag. operandField s n tag c ≡ continue _ (λ k d. operandRest s tag k d))
       refl refl refl refl refl refl refl refl refl refl
 
   module _ (k : ℕ) where
@@ -66,7 +66,7 @@ module _ (n : Counts) where
     pub operand-named : (before : ℕ) (tag : ℕ) → tag ≤ 9 → termNamed before (termOf n tag k) ≡ cond (eqb tag 4) (max before k) before
     unfolding termOf termNamed
     operand-named before =
-        by-tag (λ tag. termNamed before (termOf n tag k) ≡ cond (eqb tag 4) (max before k) before)
+        by-tag (λ tag. termNamed before (termOf n tag k) ≡ cond (eqb tag 4) _ before)
         refl refl refl refl refl refl refl refl refl refl
 
     pub operand-small : (tag : ℕ) → tag ≤ 9 → In tag → T (smallTerm (termOf n tag k))

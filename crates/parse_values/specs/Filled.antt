@@ -1,9 +1,6 @@
 -- Several things, read one after the other and stored in rows of one width.
 use Rattle.machine.specs.All.{ℕ, zero, suc, _+_, _≡_, List, [], _∷_, sets, Parsed, parsed, refused, Parser, continue}
-use Rattle.parse_values.specs.declared.Place.{Place}
-use Rattle.parse_values.specs.declared.Stored.{Stored}
-use Rattle.parse_values.specs.declared.Stored.the-variants.{Done, Refused}
-use Rattle.parse_values.specs.Keeps.{placeOf, Shape}
+use Rattle.parse_values.specs.{declared.Place.Place, declared.Stored.Stored, declared.Stored.the-variants.Done, declared.Stored.the-variants.Refused, Keeps.placeOf, Keeps.Shape}
 
 module _ {A : Type 0} where
   -- `left` things, the first of them thing k

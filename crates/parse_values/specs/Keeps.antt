@@ -2,11 +2,7 @@
 -- what else is known of the thing that was read.
 use Rattle.machine.specs.All.{ℕ, suc, _+_, _-_, _≤_, _<_, _≡_, List, [], _∷_, sets, maxValueNumbers, Cursor, Parsed, parsed, refused}
 use Rattle.layout.specs.All.{wordEnd}
-use Rattle.parse_values.specs.declared.Place.{Place}
-use Rattle.parse_values.specs.declared.Taken.{Taken}
-use Rattle.parse_values.specs.declared.Taken.the-variants.{Number, Refused as NotTaken}
-use Rattle.parse_values.specs.declared.Stored.{Stored}
-use Rattle.parse_values.specs.declared.Stored.the-variants.{Done, Refused}
+use Rattle.parse_values.specs.{declared.Place.Place, declared.Taken.Taken, declared.Taken.the-variants.Number, declared.Taken.the-variants.Refused as NotTaken, declared.Stored.Stored, declared.Stored.the-variants.Done, declared.Stored.the-variants.Refused}
 
 abbrev pub cursorOf : Place → Cursor
 cursorOf p = record { position = p .position; numbers = p .numbers; mentions = p .mentions }

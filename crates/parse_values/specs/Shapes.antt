@@ -2,9 +2,7 @@
 use Rattle.machine.specs.All.{ℕ, _+_, _≤_, max, _≡_, cond, List, _∷_, eqb, T, length, drop, maxFacilities, maxStorages, maxQueues, maxValues, maxLists, maxBlocks, maxConstant, parameterCount, maxValueNumbers, Cursor, Parser, Counts, simpleTerm, valueNumber, mentionField, Term, constant, minusConstant, parameter, clockTerm, entriesOf, contentOf, unitsInUse, unitsFree, facilityInUse, value, comparison, bracket, Sum, nothing, plus, minus}
 use Rattle.constants.specs.declared.model.Model.{Model}
 use Rattle.layout.specs.All.{termNumbers, signedTerms, sumNumbers, terms, smallTerm, smallSum}
-use Rattle.parse_values.specs.declared.Place.{Place}
-use Rattle.parse_values.specs.declared.Range.{Range}
-use Rattle.parse_values.specs.Keeps.{Shape}
+use Rattle.parse_values.specs.{declared.Place.Place, declared.Range.Range, Keeps.Shape}
 
 -- the counts of a header are within the model's limits
 pub record Within (m : Model) : Type 0 where

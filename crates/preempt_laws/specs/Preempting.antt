@@ -2,14 +2,11 @@
 -- interrupted ones, with its remaining ticks in the place of its move time.
 use Rattle.machine.specs.All.{ℕ, _+_, _-_, Bool, false, cond, List, ltb, eqb}
 use Rattle.rows_laws.specs.All.{numberField, interrupted, rowCount, read, priorityOf, timeOf, setTime, put, first, takeFirst, cancel, findLoser}
-use Rattle.state.specs.declared.scalars.Scalars.{Scalars}
-use Rattle.state.specs.All.{Rows, rowsOf}
+use Rattle.state.specs.{declared.scalars.Scalars.Scalars, All.Rows, All.rowsOf}
 use Rattle.moves.specs.Motion.{Moved, stopped}
-use Rattle.flow_laws.specs.Sending.{plus64, toFuture}
-use Rattle.flow_laws.specs.Questions.{askTime}
+use Rattle.flow_laws.specs.{Sending.plus64, Sending.toFuture, Questions.askTime}
 use Rattle.servers_laws.specs.Units.{serverAt, inUse, holder, preempted, capacity}
-use Rattle.servers_laws.specs.Taking.{holdUnits, takeUnits}
-use Rattle.servers_laws.specs.Freeing.{freeOne}
+use Rattle.servers_laws.specs.{Taking.holdUnits, Taking.takeUnits, Freeing.freeOne}
 
 -- ---- PREEMPT
 

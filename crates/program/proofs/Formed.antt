@@ -1,5 +1,5 @@
 -- Each kind of block, with operands in their ranges, is formed (specs/Formed).
-use Rattle.machine.specs.All.{ℕ, zero, suc, _-_, _≤_, _<_, arith, _≡_, refl, ap, Bool, true, false, _&&_, _||_, true≢false, List, [], _∷_, _++_, T, eqb, length, getD, length-append, ne-eqb, lt-ltb, Term, Relation, Facts, Block, Code, codeIndex, welIndex, generate, terminate, waitServer, waitTerms, branch, goto, assign, split, facts}
+use Rattle.machine.specs.All.{ℕ, zero, suc, _-_, _≤_, _<_, arith, _≡_, refl, ap, Bool, true, false, _||_, true≢false, List, [], _∷_, _++_, T, eqb, length, getD, length-append, ne-eqb, lt-ltb, Term, Relation, Facts, Block, Code, codeIndex, welIndex, generate, terminate, waitServer, waitTerms, branch, goto, assign, split, facts}
 use Rattle.layout.specs.All.{blockForms, blockNumbers, termNumbers, relationNumber, smallBlock, smallTerm}
 use Rattle.parse_values.proofs.Steps.{both}
 use Rattle.program.specs.{targetFrom, backFrom, targetInside}
@@ -37,8 +37,8 @@ formed-plain most b kind rest row short small unasked told =
     let e = either (eqb kind 10) _ (d .1) in
     let f = either (eqb kind 11) _ (e .1) in
     let g = either (eqb kind 14) _ (f .1) in
-    let target : facts b .target ≡ 0 = ap (λ x. x .2) told in
-    let back : facts b .back ≡ 0 = ap (λ x. x .3) told in
+    let target = ap (λ x. x .2) told in
+    let back = ap (λ x. x .3) told in
     record {
       width = rw row (omega arith);
       small = small;
@@ -48,7 +48,7 @@ formed-plain most b kind rest row short small unasked told =
       back = rw (row, g .1, back);
       waits = rw (row, d .0, ap (λ x. x .4) told);
       inside = rw (row, lt-ltb 0 (suc (length rest)) (omega arith), e .0, f .0, g .0, g .1) tt;
-      names = omega (arith, target);
+      names = omega arith;
     }
 
 pub formed-generate : (most : ℕ) (list p : ℕ) → 1 ≤ list → Formed most (generate list p)
@@ -81,13 +81,13 @@ module _ (most : ℕ) (a : Term) (r : Relation) (b : Term) (two-a : length (term
       let n : 0 < length (blockNumbers (waitTerms a r b)) = omega arith in
       record {
         width = simp length-append (omega arith);
-        small = both (smallTerm a) (smallTerm b && true) small-a (both (smallTerm b) true small-b tt);
+        small = both (smallTerm a) _ small-a (both (smallTerm b) true small-b tt);
         generates = refl;
         leaves = refl;
         target = refl;
         back = refl;
         waits = refl;
-        inside = rw (lt-ltb 0 _ n) tt;
+        inside = rw lt-ltb tt;
         names = omega arith;
       }
 
@@ -102,13 +102,13 @@ module _ (most : ℕ) (a : Term) (r : Relation) (b : Term) (two-a : length (term
       let n : 6 < length (10 ∷ (termNumbers a ++ (relationNumber r ∷ (termNumbers b ++ (t ∷ []))))) = simp length-append (omega arith) in
       record {
         width = simp length-append (omega arith);
-        small = both (smallTerm a) (smallTerm b && true) small-a (both (smallTerm b) true small-b tt);
+        small = both (smallTerm a) _ small-a (both (smallTerm b) true small-b tt);
         generates = refl;
         leaves = refl;
-        target = sixth (termNumbers a) (termNumbers b) (relationNumber r) t two-a two-b;
+        target = sixth (termNumbers a) (termNumbers b) _ t two-a two-b;
         back = refl;
         waits = refl;
-        inside = rw (lt-ltb 0 _ some, lt-ltb 6 _ n) tt;
+        inside = rw (lt-ltb, lt-ltb) tt;
         names = h;
       }
 
@@ -121,7 +121,7 @@ pub formed-assign : (most : ℕ) (k : ℕ) (a : Term) → length (termNumbers a)
 unfolding targetFrom backFrom targetInside blockForms
 formed-assign most k a h g =
     let n : 0 < length (blockNumbers (assign k a)) = omega arith in
-    record { width = omega arith; small = both (smallTerm a) true g tt; generates = refl; leaves = refl; target = refl; back = refl; waits = refl; inside = rw (lt-ltb 0 _ n) tt; names = omega arith }
+    record { width = omega arith; small = both (smallTerm a) true g tt; generates = refl; leaves = refl; target = refl; back = refl; waits = refl; inside = rw lt-ltb tt; names = omega arith }
 
 pub formed-split : (most : ℕ) (n t : ℕ) → t ≤ most → Formed most (split n t)
 unfolding targetFrom backFrom targetInside blockForms

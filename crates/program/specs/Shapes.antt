@@ -3,8 +3,7 @@ use Rattle.machine.specs.All.{ℕ, _+_, _-_, _≤_, _≡_, List, [], _∷_, _++
 use Rattle.constants.specs.declared.model.Model.{Model}
 use Rattle.layout.specs.Layout as Layout
 use Rattle.layout.specs.All.{termNumbers, blockNumbers, smallTerm}
-use Rattle.parse_values.specs.declared.Range.{Range}
-use Rattle.parse_values.specs.Keeps.{Shape}
+use Rattle.parse_values.specs.{declared.Range.Range, Keeps.Shape}
 use Rattle.program.specs.Formed.{Formed}
 
 -- the kinds with operands of a shape of their own

@@ -24,8 +24,9 @@ use denote.Struct.Laws as LL
 use denote.Struct.Rest.{all-own, ownAt, rest, own-open, own-out}
 use denote.Struct.Values.{Values}
 use Rattle.reader.specs.declared.Reader.{Reader}
-use Rattle.reader.proofs.Reader as T
-use Rattle.reader.proofs.Reader.Laws as T′
+use Rattle.reader.proofs as our
+use our.Reader as T
+use our.Reader.Laws as T′
 
 -- the type of a reader, its description and its laws, over the one lifetime of a signature
 abbrev pub ReaderAt : Lfts 1 → RattleType

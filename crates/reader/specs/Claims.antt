@@ -2,8 +2,7 @@
 use Rattle.machine.specs.All.{ℕ, zero, suc, _+_, List, [], _∷_, _++_, map, Option, none, some, _≡_, length, replicate, inForce, Record, Reading, taken, refusal, noMore, readRecord}
 use denote.Ref.{now}
 use Rattle.trace.specs.Whole.{Reads}
-use Rattle.reader.specs.declared.Reader.{Reader}
-use Rattle.reader.specs.Position.{moved}
+use Rattle.reader.specs.{declared.Reader.Reader, Position.moved}
 
 unfoldable pub answer : Reader → Reading
 answer r = readRecord inForce (now (r .bytes)) (r .at)

@@ -1,16 +1,13 @@
 -- The numbers of the living: their count, and number and place of each by rising number, are the machine's.
 use Rattle.machine.specs.All.{decided, ℕ, _≤_, _<_, ℕ-discrete, arith, _≡_, refl, sym, ap, ap₂, _∙_, false, List, _∷_, eq-eqb, eqb, length, replicate, length-replicate, State, Place, places, byNumber, placeNumbers, bit, Each, standing}
-use Rattle.machine.proofs.decoding.Proper.{Names}
-use Rattle.machine.proofs.lists.Sums.{sumOn, sum-length}
+use Rattle.machine.proofs.{decoding.Proper.Names, lists.Sums.sumOn, lists.Sums.sum-length, conservation.Standing.times-standing, lists.Sorting.sorted-is}
 use Rattle.rows_laws.specs.All.{numberField, read}
 use Rattle.rows_laws.proofs.Sums.{sum-ext}
 use Rattle.state.specs.All.{Listing}
 use Rattle.report_laws.specs.{placeOf, placeAt, lives, livingCount, placeRow, livingNumbers}
-use Rattle.machine.proofs.conservation.Standing.{times-standing}
-use Rattle.machine.proofs.lists.Sorting.{sorted-is}
-use Rattle.report_laws.proofs.Ranking.{weight, all, listTo, list-numbers, ranking, ranking-sum, ranking-rises}
-use Rattle.report_laws.proofs.Rows.{sum-two}
-use Rattle.report_laws.proofs.Places.{all-places}
+use Rattle.report_laws.proofs as our
+use our.Ranking.{weight, all, list-numbers, ranking-sum, ranking-rises}
+use our.{Rows.sum-two, Places.all-places}
 
 -- ---- Count and order
 
@@ -25,10 +22,7 @@ module _ (w : List ℕ) (moving : ℕ) (s : State) (h : Listing w moving (s .mov
 
   count-all : livingCount w moving ≡ total (λ p. 1)
   unfolding livingCount
-  count-all = sum-ext 1024 (lives w moving) (weight w moving (λ p. 1)) (λ k l. unfold lives in refl)
-
-  pub count-places : livingCount w moving ≡ length (places s)
-  count-places = count-all ∙ same-sum (λ p. 1) ∙ sum-length (places s)
+  count-all = sum-ext 1024 _ (weight w moving (λ p. 1)) (λ k l. unfold lives in refl)
 
   -- two living rows have two numbers
   apart : (j k : ℕ) → j < 1024 → k < 1024 → eqb (placeOf w moving j) 0 ≡ false → eqb (placeOf w moving k) 0 ≡ false → read w numberField j ≡ read w numberField k → j ≡ k
@@ -50,18 +44,13 @@ module _ (w : List ℕ) (moving : ℕ) (s : State) (h : Listing w moving (s .mov
       is p = bit (eqb (p .number) (read w numberField j))
 
       one : (i : ℕ) → eqb (placeOf w moving i) 0 ≡ false → read w numberField i ≡ read w numberField j → weight w moving is i ≡ 1
-      one i c q = unfold placeAt in (rw (c, eq-eqb (read w numberField i) (read w numberField j) q))
+      one i c q = unfold placeAt in (rw (c, eq-eqb))
 
   abbrev zeros : List ℕ
   zeros = replicate 1024 0
 
-  pub ranked-places : listTo (livingCount w moving) (ranking w moving zeros (length-replicate {A = ℕ} 1024 0)) ≡ byNumber (places s)
-  unfolding livingCount
-  ranked-places =
-      sorted-is (places s) _ (λ n. omega (arith, times-standing s n, once n))
-      (ranking-rises w moving zeros (length-replicate {A = ℕ} 1024 0) apart)
-      (λ f. ranking-sum w moving zeros (length-replicate {A = ℕ} 1024 0) f ∙ same-sum f)
-
   pub living-numbers : livingNumbers w moving ≡ length (places s) ∷ placeNumbers (byNumber (places s))
   unfolding livingNumbers placeRow
-  living-numbers = ap₂ _∷_ count-places (list-numbers _ _ ∙ ap placeNumbers ranked-places)
+  living-numbers = ap₂ _∷_ (cc (count-all, same-sum (λ p. 1), sum-length (places s))) (list-numbers _ _ ∙ ap placeNumbers (unfold livingCount in sorted-is _ _ (λ n. omega (arith, times-standing s n, once n))
+      (ranking-rises w moving zeros (length-replicate {A = ℕ} 1024 0) apart)
+      (λ f. ranking-sum w moving zeros (length-replicate {A = ℕ} 1024 0) f ∙ same-sum f)))

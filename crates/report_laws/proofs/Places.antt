@@ -1,15 +1,14 @@
 -- The living rows are the places of the machine's report: every weight of places sums to the same over both.
 use Rattle.machine.specs.All.{ℕ, suc, _+_, _-_, _≤_, _<_, arith, _≡_, refl, sym, ap, _∙_, Bool, true, false, cond, List, [], _∷_, map, Option, none, some, lt-ltb, le-ltb, eq-eqb, ne-eqb, ltb-true, ltb-false, eqb-true, eqb-false, ltb, eqb, length, getD, Transaction, Event, Gatherer, Interrupted, flat, those, State, ofFacility, interruptedAt, Each, Place, movingOne, places}
-use Rattle.machine.proofs.decoding.Proper.{Names}
-use Rattle.machine.proofs.conservation.Standing.{sum-places}
-use Rattle.machine.proofs.lists.Sums.{sumOn, sum-map}
+use Rattle.machine.proofs.{decoding.Proper.Names, conservation.Standing.sum-places, lists.Sums.sumOn, lists.Sums.sum-map}
 use Rattle.rows_laws.specs.All.{place, fel, nowhere, numberField, load, read, transactionAt, eventAt, sumTo}
 use Rattle.rows_laws.proofs.Sums.{sum-suc, sum-ext, sum-add, sum-zero}
 use Rattle.state.specs.All.{gathererRow, interruptedRow, listsIn, listsOf, Moving, Listing}
 use Rattle.state.proofs.ListsOf.{lists-gatherers, lists-interrupted}
 use Rattle.report_laws.specs.{listPlace, placeOf, placeAt}
-use Rattle.report_laws.proofs.Ranking.{all, weight}
-use Rattle.report_laws.proofs.Rows.{sum-split, sum-only, sum-flat, sum-lists}
+use Rattle.report_laws.proofs as our
+use our.Ranking.{all, weight}
+use our.Rows.{sum-split, sum-only, sum-flat, sum-lists}
 
 -- ---- Places of lists
 
@@ -37,7 +36,7 @@ place-free p h =
 
 lists-ql : (s : State) (p : ℕ) → p < 64 → listsOf s p ≡ getD (s .ql) p []
 unfolding listsIn
-lists-ql s p h = rw (lt-ltb p 64 h)
+lists-ql s p h = rw lt-ltb
 
 lists-wel : (s : State) (i : ℕ) → i < 384 → listsOf s (64 + i) ≡ getD (s .wel) i []
 unfolding listsIn
@@ -51,10 +50,6 @@ lists-wsl s = refl
 lists-rel : (s : State) → listsOf s 449 ≡ s .rel
 unfolding listsIn
 lists-rel s = refl
-
-place-wsl : listPlace 448 ≡ 3
-unfolding listPlace
-place-wsl = refl
 
 place-rel : listPlace 449 ≡ 5
 unfolding listPlace
@@ -72,21 +67,21 @@ sum-facilities g [] h = sum-zero 64 (λ i. 0) (λ k b. refl)
 sum-facilities g (x ∷ l) h =
     omega (
       arith,
-      sum-ext 64 (λ i. sumOn g (cond (eqb (x .facility) (suc i)) (x ∷ those (ofFacility (suc i)) l) (those (ofFacility (suc i)) l))) (λ i. cond (eqb i (x .facility - 1)) (g x) 0 + sumOn g (those (ofFacility (suc i)) l)) (λ i b. each i),
+      sum-ext 64 (λ i. sumOn g (cond (eqb _ (suc i)) _ _)) (λ i. cond (eqb i _) _ 0 + sumOn g (those _ l)) (λ i b. each i),
       sum-add 64 (λ i. cond (eqb i (x .facility - 1)) (g x) 0) (λ i. sumOn g (those (ofFacility (suc i)) l)),
-      sum-only 64 (x .facility - 1) (λ i. g x) (omega (arith, h .0)),
+      sum-only 64 (x .facility - 1) (λ i. g x) (omega arith),
       sum-facilities g l (h .1),
     )
   where
     each : (i : ℕ)
         → sumOn g (cond (eqb (x .facility) (suc i)) (x ∷ those (ofFacility (suc i)) l) (those (ofFacility (suc i)) l))
         ≡ cond (eqb i (x .facility - 1)) (g x) 0 + sumOn g (those (ofFacility (suc i)) l)
-    each i = go (eqb i (x .facility - 1)) refl
+    each i = go _ refl
       where
         go : (b : Bool) → eqb i (x .facility - 1) ≡ b
             → sumOn g (cond (eqb (x .facility) (suc i)) (x ∷ those (ofFacility (suc i)) l) (those (ofFacility (suc i)) l)) ≡ cond b (g x) 0 + sumOn g (those (ofFacility (suc i)) l)
-        go true e = rw (eq-eqb (x .facility) (suc i) (omega (arith, h .0, eqb-true i (x .facility - 1) e)))
-        go false e = rw (ne-eqb (x .facility) (suc i) (λ z. eqb-false i (x .facility - 1) e (omega arith))) (omega arith)
+        go true e = rw (eq-eqb (x .facility) (suc i) (omega (arith, h .0, eqb-true i _ e)))
+        go false e = rw (ne-eqb (x .facility) (suc i) (λ z. eqb-false i _ e (omega arith))) (omega arith)
 
 -- ---- The machine's places, weighed
 
@@ -108,38 +103,28 @@ module _ (f : Place → ℕ) where
 
     -- the rows of a list are its transactions
     list-weight : (p : ℕ) → p < 770 → (n : ℕ) → sumOn (row n) (L p) ≡ sumOn (at n) (listsOf s p)
-    list-weight p l n = rows (L p) ∙ ap (sumOn (at n)) (h .shows .shown .lists p l)
+    list-weight p l n = cc (rows (L p), h .shows .shown .lists p l)
       where
         rows : (l : List ℕ) → sumOn (row n) l ≡ sumOn (at n) (map (transactionAt w) l)
-        rows l = unfold transactionAt in sym (sum-map (at n) (transactionAt w) l)
+        rows l = unfold transactionAt in sym (sum-map _ _ l)
 
     fel-weight : sumOn (row 4) (L fel) ≡ sumOn (λ (e : Event). at 4 (e .who)) (s .fel)
-    fel-weight = rows (L fel) ∙ ap (sumOn (λ (e : Event). at 4 (e .who))) (h .shows .shown .future)
+    fel-weight = cc (rows (L fel), h .shows .shown .future)
       where
         rows : (l : List ℕ) → sumOn (row 4) l ≡ sumOn (λ (e : Event). at 4 (e .who)) (map (eventAt w) l)
-        rows l = unfold eventAt transactionAt in sym (sum-map (λ (e : Event). at 4 (e .who)) (eventAt w) l)
+        rows l = unfold eventAt transactionAt in sym (sum-map (λ (e : Event). at 4 (e .who)) _ l)
 
     abbrev one : ℕ → ℕ
     one p = sumOn (row (listPlace p)) (L p)
 
     one-is : (p n : ℕ) → p < 770 → listPlace p ≡ n → (l : List Transaction) → listsOf s p ≡ l → one p ≡ sumOn (at n) l
-    one-is p n b e l q = ap (λ m. sumOn (row m) (L p)) e ∙ list-weight p b n ∙ ap (sumOn (at n)) q
+    one-is p n b e l q = cc (e, list-weight p b n, q)
 
     abbrev gatherer : Gatherer → ℕ
     gatherer g = at 7 (g .who)
 
-    block-weight : (i : ℕ) → i < 256 → one (450 + i) ≡ sumOn gatherer (getD (s .gatherers) i [])
-    block-weight i l =
-        one-is (450 + i) 7 (omega arith) (unfold listPlace in rw (le-ltb (450 + i) 64 (omega arith), le-ltb (450 + i) 448 (omega arith), ne-eqb (450 + i) 448 (λ e. omega arith), ne-eqb (450 + i) 770 (λ e. omega arith), ne-eqb (450 + i) 449 (λ e. omega arith), lt-ltb (450 + i) 706 (omega arith))) (map gathererRow (getD (s .gatherers) i [])) (lists-gatherers s i l)
-        ∙ sum-map (at 7) gathererRow (getD (s .gatherers) i [])
-
     abbrev stopped : Interrupted → ℕ
     stopped i = at 8 (i .who)
-
-    facility-weight : (i : ℕ) → i < 64 → one (706 + i) ≡ sumOn stopped (interruptedAt s (suc i))
-    facility-weight i l =
-        one-is (706 + i) 8 (omega arith) (unfold listPlace in rw (le-ltb (706 + i) 64 (omega arith), le-ltb (706 + i) 448 (omega arith), ne-eqb (706 + i) 448 (λ e. omega arith), ne-eqb (706 + i) 770 (λ e. omega arith), ne-eqb (706 + i) 449 (λ e. omega arith), le-ltb (706 + i) 706 (omega arith), lt-ltb (706 + i) 770 (omega arith))) (map interruptedRow (interruptedAt s (suc i))) (lists-interrupted s i l)
-        ∙ sum-map (at 8) interruptedRow (interruptedAt s (suc i))
 
     lists-weight : sumTo 771 one
         ≡ sumOn (at 1) (flat (s .ql)) + sumOn (at 2) (flat (s .wel)) + sumOn (at 3) (s .wsl) + sumOn (λ (e : Event). at 4 (e .who)) (s .fel) + sumOn (at 5) (s .rel)
@@ -149,19 +134,21 @@ module _ (f : Place → ℕ) where
           arith,
           sum-suc 770 one,
           sum-split 706 64 one,
-          sum-ext 64 (λ i. one (706 + i)) (λ i. sumOn stopped (interruptedAt s (suc i))) facility-weight,
+          sum-ext 64 (λ i. one _) (λ i. sumOn stopped (interruptedAt s _)) (λ i l. one-is (706 + i) 8 (omega arith) (unfold listPlace in rw (le-ltb (706 + i) 64 (omega arith), le-ltb (706 + i) 448 (omega arith), ne-eqb (706 + i) 448 (λ e. omega arith), ne-eqb (706 + i) 770 (λ e. omega arith), ne-eqb (706 + i) 449 (λ e. omega arith), le-ltb (706 + i) 706 (omega arith), lt-ltb (706 + i) 770 (omega arith))) _ (lists-interrupted s i l)
+              ∙ sum-map _ interruptedRow (interruptedAt s _)),
           sum-facilities stopped (s .interrupted) known,
           sum-split 450 256 one,
-          sum-ext 256 (λ i. one (450 + i)) (λ i. sumOn gatherer (getD (s .gatherers) i [])) block-weight,
+          sum-ext 256 (λ i. one _) (λ i. sumOn gatherer (getD (s .gatherers) i [])) (λ i l. one-is (450 + i) 7 (omega arith) (unfold listPlace in rw (le-ltb (450 + i) 64 (omega arith), le-ltb (450 + i) 448 (omega arith), ne-eqb (450 + i) 448 (λ e. omega arith), ne-eqb (450 + i) 770 (λ e. omega arith), ne-eqb (450 + i) 449 (λ e. omega arith), lt-ltb (450 + i) 706 (omega arith))) _ (lists-gatherers s i l)
+              ∙ sum-map _ gathererRow (getD (s .gatherers) i [])),
           sum-flat gatherer (s .gatherers) 256 blocks,
           sum-suc 449 one,
           sum-suc 448 one,
           sum-split 64 384 one,
-          sum-ext 64 one (λ i. sumOn (at 1) (getD (s .ql) i [])) (λ k l. one-is k 1 (omega arith) (unfold listPlace in rw (lt-ltb k 64 l)) _ (lists-ql s k l)),
+          sum-ext 64 one (λ i. sumOn _ (getD (s .ql) i [])) (λ k l. one-is k 1 (omega arith) (unfold listPlace in rw lt-ltb) _ (lists-ql s k l)),
           sum-flat (at 1) (s .ql) 64 qls,
-          sum-ext 384 (λ i. one (64 + i)) (λ i. sumOn (at 2) (getD (s .wel) i [])) (λ k l. one-is (64 + k) 2 (omega arith) (unfold listPlace in rw (le-ltb (64 + k) 64 (omega arith), lt-ltb (64 + k) 448 (omega arith))) _ (lists-wel s k l)),
+          sum-ext 384 (λ i. one _) (λ i. sumOn _ (getD (s .wel) i [])) (λ k l. one-is (64 + k) 2 (omega arith) (unfold listPlace in rw (le-ltb (64 + k) 64 (omega arith), lt-ltb (64 + k) 448 (omega arith))) _ (lists-wel s k l)),
           sum-flat (at 2) (s .wel) 384 wels,
-          one-is 448 3 (omega arith) place-wsl _ (lists-wsl s),
+          one-is 448 3 (omega arith) (unfold listPlace in refl) _ (lists-wsl s),
           one-is 449 5 (omega arith) place-rel _ (lists-rel s),
           ap (λ m. sumOn (row m) (L 770)) place-fel,
           fel-weight,
@@ -172,8 +159,8 @@ module _ (f : Place → ℕ) where
     moving-weight : (o : Option Transaction) → Moving w moving o → sumTo 1024 (λ k. cond (eqb k moving) (row 6 k) 0) ≡ sumOn (at 6) (movingOne o)
     unfolding movingOne
     moving-weight none e =
-        sum-zero 1024 (λ k. cond (eqb k moving) (row 6 k) 0) (λ k l. ap (λ t. cond t (row 6 k) 0) (ne-eqb k moving (λ q. omega arith)))
-    moving-weight (some t) e = sum-only 1024 moving (row 6) (e .0 .row) ∙ (unfold transactionAt in (ap (λ n. f (record { number = n; place = 6 })) (ap (λ (u : Transaction). u .number) (e .1)) ∙ omega arith))
+        sum-zero 1024 (λ k. cond (eqb k moving) _ 0) (λ k l. cc (ne-eqb k moving (λ q. omega arith)))
+    moving-weight (some t) e = sum-only 1024 moving _ (e .0 .row) ∙ (unfold transactionAt in (ap (λ n. f (record { number = n; place = 6 })) (ap (λ (u : Transaction). u .number) (e .1)) ∙ omega arith))
 
     off-lists : (o : Option Transaction) → Moving w moving o → moving < 1024 → load w (place moving) ≡ nowhere
     off-lists none e l = absurd (omega arith)
@@ -184,7 +171,7 @@ module _ (f : Place → ℕ) where
     row-weight : (k : ℕ) → k < 1024 →
         weight w moving f k ≡ cond (ltb (load w (place k)) 771) (row (listPlace (load w (place k))) k) 0 + cond (eqb k moving) (row 6 k) 0
     unfolding placeAt placeOf
-    row-weight k l = go (eqb k moving) refl (ltb (load w (place k)) 771) refl
+    row-weight k l = go _ refl _ refl
       where
         p : ℕ
         p = load w (place k)
@@ -201,7 +188,7 @@ module _ (f : Place → ℕ) where
     all-places =
         omega (
           arith,
-          sum-ext 1024 (weight w moving f) (λ k. cond (ltb (load w (place k)) 771) (row (listPlace (load w (place k))) k) 0 + cond (eqb k moving) (row 6 k) 0) row-weight,
+          sum-ext 1024 _ (λ k. cond (ltb (load w _) 771) _ 0 + cond (eqb k moving) _ 0) row-weight,
           sum-add 1024 (λ k. cond (ltb (load w (place k)) 771) (row (listPlace (load w (place k))) k) 0) (λ k. cond (eqb k moving) (row 6 k) 0),
           sum-lists w L (h .shows .shown .holds) 771 (λ p k. row (listPlace p) k) (omega arith),
           lists-weight,

@@ -1,7 +1,6 @@
 -- The living rows by rising number: keys that come into their place one after another rise, and weigh as the living rows do.
 use Rattle.machine.specs.All.{cases, ℕ, zero, suc, _+_, _*_, _%_, _≤_, _<_, ℕ-discrete, arith, _≡_, refl, sym, ap, ap₂, _∙_, subst, _≢_, Bool, true, false, cond, List, [], _∷_, _++_, leb-true, leb-false, leb, eqb, length, getD, set, length-set, getD-set-same, getD-set-other, Place, placeNumbers, Each}
-use Rattle.machine.proofs.lists.Sums.{sumOn, sum-append}
-use Rattle.machine.proofs.lists.Sorting.{Rising}
+use Rattle.machine.proofs.{lists.Sums.sumOn, lists.Sums.sum-append, lists.Sorting.Rising}
 use Rattle.rows_laws.specs.All.{numberField, read, sumTo}
 use Rattle.rows_laws.proofs.Sums.{sum-suc, sum-ext, sum-zero}
 use Rattle.report_laws.specs.{rowsTo, placeOf, placeAt, lives, keyOf, sift, rankOne, rankTo}
@@ -143,13 +142,13 @@ listTo (suc n) g = listTo n g ++ (g n ∷ [])
 
 pub list-sum : (f : Place → ℕ) (n : ℕ) (g : ℕ → Place) → sumOn f (listTo n g) ≡ sumTo n (λ i. f (g i))
 unfolding listTo
-list-sum f zero g = sym (sum-zero 0 (λ i. f (g i)) (λ k b. absurd (omega arith)))
+list-sum f zero g = sym (sum-zero 0 (λ i. f _) (λ k b. absurd (omega arith)))
 list-sum f (suc n) g = omega (arith, sum-append f (listTo n g) (g n ∷ []), list-sum f n g, sum-suc n (λ i. f (g i)))
 
 numbers-append : (a b : List Place) → placeNumbers (a ++ b) ≡ placeNumbers a ++ placeNumbers b
 unfolding placeNumbers
 numbers-append [] b = refl
-numbers-append (p ∷ a) b = ap (λ (l : List ℕ). p .number ∷ p .place ∷ l) (numbers-append a b)
+numbers-append (p ∷ a) b = cc (numbers-append a b)
 
 pub list-numbers : (n : ℕ) (g : ℕ → Place) → rowsTo n (λ i. placeNumbers (g i ∷ [])) ≡ placeNumbers (listTo n g)
 unfolding listTo
@@ -157,7 +156,7 @@ list-numbers zero g = unfold rowsTo placeNumbers in refl
 list-numbers (suc n) g = go (list-numbers n g)
   where
     go : rowsTo n (λ i. placeNumbers (g i ∷ [])) ≡ placeNumbers (listTo n g) → rowsTo (suc n) (λ i. placeNumbers (g i ∷ [])) ≡ placeNumbers (listTo n g ++ (g n ∷ []))
-    go ih = unfold rowsTo in (ap (λ (l : List ℕ). l ++ placeNumbers (g n ∷ [])) ih ∙ sym (numbers-append (listTo n g) (g n ∷ [])))
+    go ih = unfold rowsTo in (cc (ih, numbers-append (listTo n g) (g n ∷ [])))
 
 each-snoc : (P : Place → Type 0) (l : List Place) (p : Place) → Each P l → P p → Each P (l ++ (p ∷ []))
 each-snoc P [] p h own = (own, tt)
@@ -166,18 +165,18 @@ each-snoc P (q ∷ l) p h own = (h .0, each-snoc P l p (h .1) own)
 each-list : (P : Place → Type 0) (n : ℕ) (g : ℕ → Place) → ((i : ℕ) → i < n → P (g i)) → Each P (listTo n g)
 unfolding listTo
 each-list P zero g h = tt
-each-list P (suc n) g h = each-snoc P (listTo n g) (g n) (each-list P n g (λ i b. h i (omega arith))) (h n (omega arith))
+each-list P (suc n) g h = each-snoc P (listTo n g) _ (each-list P n g (λ i b. h i (omega arith))) (h n (omega arith))
 
 rising-snoc : (low : ℕ) (l : List Place) (p : Place) → Rising low l → low ≤ p .number → Each (λ q. q .number < p .number) l → Rising low (l ++ (p ∷ []))
 unfolding Rising
 rising-snoc low [] p r h e = (h, tt)
-rising-snoc low (q ∷ l) p r h e = (r .0, rising-snoc (suc (q .number)) l p (r .1) (omega (arith, e .0)) (e .1))
+rising-snoc low (q ∷ l) p r h e = (r .0, rising-snoc _ l p (r .1) (omega arith) (e .1))
 
 pub list-rising : (n : ℕ) (g : ℕ → Place) → ((i j : ℕ) → i < j → j < n → g i .number < g j .number) → Rising 0 (listTo n g)
 unfolding listTo
 list-rising zero g h = unfold Rising in tt
 list-rising (suc n) g h =
-    rising-snoc 0 (listTo n g) (g n) (list-rising n g (λ i j a b. h i j a (omega arith))) (omega arith)
+    rising-snoc 0 _ _ (list-rising n g (λ i j a b. h i j a (omega arith))) (omega arith)
     (each-list (λ q. q .number < g n .number) n g (λ i b. h i n b (omega arith)))
 
 -- ---- All rows
@@ -215,9 +214,9 @@ module _ (w : List ℕ) (moving : ℕ) where
 
     step : (n : ℕ) → Step n
     step n =
-        cases (dead n)
-        (λ e. passed e (omega (arith, sum-suc n (lives w moving), lives-dead n e)) (unfold rankTo rankOne in (rw (lives-dead n e))))
-        (λ e. ranked e (omega (arith, sum-suc n (lives w moving), lives-one n e)) (unfold rankTo rankOne in (rw (lives-one n e))))
+        cases _
+        (λ e. passed e (omega (arith, sum-suc n (lives w moving), lives-dead n e)) (unfold rankTo rankOne in (rw lives-dead)))
+        (λ e. ranked e (omega (arith, sum-suc n (lives w moving), lives-one n e)) (unfold rankTo rankOne in (rw lives-one)))
 
     few : (n : ℕ) → living n ≤ n
     few zero = omega (arith, sum-zero 0 (lives w moving) (λ k b. absurd (omega arith)))
@@ -232,8 +231,8 @@ module _ (w : List ℕ) (moving : ℕ) where
     rank-length (suc n) = go (step n) (rank-length n)
       where
         go : Step n → length (keys n) ≡ 1024 → length (keys (suc n)) ≡ 1024
-        go (passed e c k) h = ap length k ∙ h
-        go (ranked e c k) h = ap length k ∙ sift-length (keyOf w n) (living n) (keys n) ∙ h
+        go (passed e c k) h = cc (k, h)
+        go (ranked e c k) h = cc (k, sift-length (keyOf w n) (living n) (keys n), h)
 
     -- the row of key i, as a place
     abbrev placed : ℕ → ℕ → Place
@@ -241,26 +240,16 @@ module _ (w : List ℕ) (moving : ℕ) where
 
     rank-sum : (f : Place → ℕ) (n : ℕ) → n ≤ 1024 → sumTo (living n) (λ i. f (placed n i)) ≡ sumTo n (weight f)
     rank-sum f zero h =
-        ap (λ c. sumTo c (λ i. f (placed 0 i))) (sum-zero 0 (lives w moving) (λ k b. absurd (omega arith)))
-        ∙ sum-zero 0 (λ i. f (placed 0 i)) (λ k b. absurd (omega arith))
-        ∙ sym (sum-zero 0 (weight f) (λ k b. absurd (omega arith)))
+        cc (sum-zero 0 (lives w moving) (λ k b. absurd (omega arith)), sum-zero 0 (λ i. f (placed 0 i)) (λ k b. absurd (omega arith)), sum-zero 0 (weight f) (λ k b. absurd (omega arith)))
     rank-sum f (suc n) h = go (step n) (rank-sum f n (omega arith))
       where
         over : ℕ → List ℕ → ℕ
         over c m = sumTo c (λ i. f (placeAt w moving (getD m i 0 % 1024)))
 
         go : Step n → over (living n) (keys n) ≡ sumTo n (weight f) → over (living (suc n)) (keys (suc n)) ≡ sumTo (suc n) (weight f)
-        go (passed e c k) ih = omega (arith, ap₂ over c k, ih, sum-suc n (weight f), ap (λ t. cond t 0 (f (placeAt w moving n))) e)
+        go (passed e c k) ih = omega (arith, ap₂ over c k, sum-suc n (weight f), ap (λ t. cond t 0 (f (placeAt w moving n))) e)
         go (ranked e c k) ih =
-            omega (
-              arith,
-              ap₂ over c k,
-              ih,
-              sift-sum (λ y. f (placeAt w moving (y % 1024))) (keyOf w n) (living n) (keys n) (omega (arith, few n, rank-length n)),
-              ap (λ r. f (placeAt w moving r)) (key-row n h),
-              sum-suc n (weight f),
-              ap (λ t. cond t 0 (f (placeAt w moving n))) e,
-            )
+            omega (arith, ap₂ over c k, sift-sum (λ y. f (placeAt w moving (y % 1024))) (keyOf w n) (living n) (keys n) (omega (arith, few n, rank-length n)), ap (λ r. f (placeAt w moving r)) (key-row n h), sum-suc n (weight f), ap (λ t. cond t 0 (f (placeAt w moving n))) e)
 
     -- a key of one of the first n rows, which lives
     record Key (n y : ℕ) : Type 0 where
@@ -274,13 +263,12 @@ module _ (w : List ℕ) (moving : ℕ) where
     ranks (suc n) h i b = go (step n) (ranks n (omega arith))
       where
         wider : (y : ℕ) → Key n y → Key (suc n) y
-        wider y k = record { row = k .row; below = omega (arith, k .below); lives = k .lives; is = k .is }
+        wider y k = record { row = k .row; below = omega arith; lives = k .lives; is = k .is }
 
         go : Step n → ((j : ℕ) → j < living n → Key n (getD (keys n) j 0)) → Key (suc n) (getD (keys (suc n)) i 0)
-        go (passed e c k) ih = subst (λ (m : List ℕ). Key (suc n) (getD m i 0)) (sym k) (wider _ (ih i (omega arith)))
+        go (passed e c k) ih = rw k (wider _ (ih i (omega arith)))
         go (ranked e c k) ih =
-            subst (λ (m : List ℕ). Key (suc n) (getD m i 0)) (sym k)
-            (sift-each (Key (suc n)) (keyOf w n) (living n) (keys n) (omega (arith, few n, rank-length n))
+            rw k (sift-each (Key (suc n)) (keyOf w n) (living n) (keys n) (omega (arith, few n, rank-length n))
             (record { row = n; below = omega arith; lives = e; is = refl }) (λ j d. wider _ (ih j d)) i (omega arith))
 
     sorted : (n : ℕ) → n ≤ 1024 → Sorted (living n) (keys n)
@@ -290,13 +278,12 @@ module _ (w : List ℕ) (moving : ℕ) where
         new : (o : ℕ) → o < living n → getD (keys n) o 0 ≢ keyOf w n
         new o c e =
             let k = ranks n (omega arith) o c in
-            absurd (omega (arith, ap (λ y. y % 1024) (sym (k .is) ∙ e), key-row (k .row) (omega (arith, k .below)), key-row n h, k .below))
+            absurd (omega (arith, key-row (k .row) (omega (arith, k .below)), key-row n h, k .below))
 
         go : Step n → Sorted (living n) (keys n) → getD (keys (suc n)) i 0 < getD (keys (suc n)) j 0
-        go (passed e c k) ih = subst (λ (m : List ℕ). getD m i 0 < getD m j 0) (sym k) (ih i j a (omega arith))
+        go (passed e c k) ih = rw k (ih i j a (omega arith))
         go (ranked e c k) ih =
-            subst (λ (m : List ℕ). getD m i 0 < getD m j 0) (sym k)
-            (sift-sorted (keyOf w n) (living n) (keys n) (omega (arith, few n, rank-length n)) new ih i j a (omega arith))
+            rw k (sift-sorted (keyOf w n) (living n) (keys n) (omega (arith, few n, rank-length n)) new ih i j a (omega arith))
 
     -- ---- The places of all
 
@@ -304,27 +291,27 @@ module _ (w : List ℕ) (moving : ℕ) where
     ranking i = placed 1024 i
 
     pub ranking-sum : (f : Place → ℕ) → sumOn f (listTo (living 1024) ranking) ≡ all f
-    ranking-sum f = list-sum f (living 1024) ranking ∙ rank-sum f 1024 (omega arith)
+    ranking-sum f = list-sum f _ ranking ∙ rank-sum f 1024 (omega arith)
 
     module _ (apart : (j k : ℕ) → j < 1024 → k < 1024 → dead j ≡ false → dead k ≡ false → read w numberField j ≡ read w numberField k → j ≡ k) where
       rises : (i j : ℕ) → i < j → j < living 1024 → ranking i .number < ranking j .number
       rises i j a b = go (ranks 1024 (omega arith) i (omega arith)) (ranks 1024 (omega arith) j b)
         where
           number : (o : ℕ) → (k : Key 1024 (getD (keys 1024) o 0)) → ranking o .number ≡ read w numberField (k .row)
-          number o k = unfold placeAt in (ap (λ r. read w numberField r) (ap (λ y. y % 1024) (k .is) ∙ key-row (k .row) (k .below)))
+          number o k = unfold placeAt in (cc (k .is, key-row (k .row) (k .below)))
 
           value : (r : ℕ) → keyOf w r ≡ read w numberField r * 1024 + r
           value r = unfold keyOf in refl
 
           go : Key 1024 (getD (keys 1024) i 0) → Key 1024 (getD (keys 1024) j 0) → ranking i .number < ranking j .number
-          go p q = other (ℕ-discrete (read w numberField (p .row)) (read w numberField (q .row)))
+          go p q = other (ℕ-discrete _ _)
             where
               lt : keyOf w (p .row) < keyOf w (q .row)
-              lt = omega (arith, sorted 1024 (omega arith) i j a b, p .is, q .is)
+              lt = omega (arith, sorted 1024 (omega arith) i j a b, q .is)
 
               other : Dec (read w numberField (p .row) ≡ read w numberField (q .row)) → ranking i .number < ranking j .number
-              other (yes e) = absurd (omega (arith, lt, ap (keyOf w) (apart (p .row) (q .row) (p .below) (q .below) (p .lives) (q .lives) e)))
-              other (no d) = omega (arith, number i p, number j q, lt, value (p .row), value (q .row), p .below, q .below)
+              other (yes e) = absurd (omega (arith, lt, ap (keyOf w) (apart _ _ (p .below) (q .below) (p .lives) (q .lives) e)))
+              other (no d) = omega (arith, number i p, number j q, lt, value (p .row), value (q .row), q .below)
 
       pub ranking-rises : Rising 0 (listTo (living 1024) ranking)
-      ranking-rises = list-rising (living 1024) ranking rises
+      ranking-rises = list-rising _ ranking rises

@@ -14,15 +14,15 @@ sum-front (suc n) f = omega (arith, sum-front n f)
 
 pub sum-split : (a b : ℕ) (f : ℕ → ℕ) → sumTo (a + b) f ≡ sumTo a f + sumTo b (λ i. f (a + i))
 unfolding sumTo
-sum-split a zero f = rw (add-zero a) (omega arith)
-sum-split a (suc b) f = rw (add-suc a b) (omega (arith, sum-split a b f))
+sum-split a zero f = rw add-zero (omega arith)
+sum-split a (suc b) f = rw add-suc (omega (arith, sum-split a b f))
 
 -- one number only
 pub sum-only : (n x : ℕ) (g : ℕ → ℕ) → x < n → sumTo n (λ k. cond (eqb k x) (g k) 0) ≡ g x
 sum-only n x g h =
     omega (
       arith,
-      sum-at n x (λ k. cond (eqb k x) (g k) 0) (λ k. 0) h (λ k l d. ap (λ t. cond t (g k) 0) (ne-eqb k x d)),
+      sum-at n x (λ k. cond (eqb k x) (g k) 0) (λ k. 0) h (λ k l d. cc (ne-eqb k x d)),
       ap (λ t. cond t (g x) 0) (eq-eqb x x refl),
       sum-zero n (λ k. 0) (λ k l. refl),
     )
@@ -61,7 +61,7 @@ sum-rows g [] h = sym (sum-zero 1024 (λ k. 0 * g k) (λ k l. omega arith))
 sum-rows g (x ∷ l) h =
     omega (
       arith,
-      sum-ext 1024 (λ k. (same k x + occurs k l) * g k) (λ k. cond (eqb k x) (g k) 0 + occurs k l * g k) (λ k m. each k (eqb k x)),
+      sum-ext 1024 (λ k. (same k x + occurs k l) * g k) (λ k. cond (eqb k x) _ 0 + occurs k l * g k) (λ k m. each k (eqb k x)),
       sum-add 1024 (λ k. cond (eqb k x) (g k) 0) (λ k. occurs k l * g k),
       sum-only 1024 x g (h x (omega (arith, same-refl x x refl))),
       sum-rows g l (λ j m. h j (omega arith)),
@@ -77,9 +77,9 @@ module _ (w : List ℕ) (L : ℕ → List ℕ) (holds : Holds w L) where
 
   sum-list : (p : ℕ) (g : ℕ → ℕ) → p < listCount → sumOn g (L p) ≡ sumTo 1024 (λ k. cond (eqb (placeField k) p) (g k) 0)
   sum-list p g h =
-      sum-rows g (L p) (holds .listed p h .row)
-      ∙ sum-ext 1024 (λ k. occurs k (L p) * g k) (λ k. cond (eqb (placeField k) p) (g k) 0)
-      (λ k l. ap (λ n. n * g k) (holds .listed p h .once k l) ∙ one (eqb (placeField k) p) (g k))
+      sum-rows g _ (holds .listed p h .row)
+      ∙ sum-ext 1024 (λ k. occurs k _ * g k) (λ k. cond (eqb _ p) _ 0)
+      (λ k l. cc (holds .listed p h .once k l, one (eqb (placeField k) p) (g k)))
     where
       one : (t : Bool) (x : ℕ) → cond t 1 0 * x ≡ cond t x 0
       one true x = omega arith
@@ -89,15 +89,15 @@ module _ (w : List ℕ) (L : ℕ → List ℕ) (holds : Holds w L) where
   pub sum-lists : (n : ℕ) (g : ℕ → ℕ → ℕ) → n ≤ listCount →
       sumTo 1024 (λ k. cond (ltb (placeField k) n) (g (placeField k) k) 0) ≡ sumTo n (λ p. sumOn (g p) (L p))
   sum-lists zero g h =
-      sum-zero 1024 (λ k. cond (ltb (placeField k) 0) (g (placeField k) k) 0)
-      (λ k l. ap (λ t. cond t (g (placeField k) k) 0) (le-ltb (placeField k) 0 (omega arith)))
-      ∙ sym (sum-zero 0 (λ p. sumOn (g p) (L p)) (λ k l. absurd (omega arith)))
+      sum-zero 1024 (λ k. cond (ltb (placeField k) 0) _ 0)
+      (λ k l. cc (le-ltb (placeField k) 0 (omega arith)))
+      ∙ sym (sum-zero 0 (λ p. sumOn _ (L p)) (λ k l. absurd (omega arith)))
   sum-lists (suc n) g h =
       omega (
         arith,
-        sum-ext 1024 (λ k. cond (ltb (placeField k) (suc n)) (g (placeField k) k) 0)
-            (λ k. cond (ltb (placeField k) n) (g (placeField k) k) 0 + cond (eqb (placeField k) n) (g n k) 0)
-            (λ k l. each k (placeField k) (ltb (placeField k) (suc n)) (ltb (placeField k) n) (eqb (placeField k) n) refl refl refl),
+        sum-ext 1024 (λ k. cond (ltb (placeField k) _) _ 0)
+            (λ k. cond (ltb _ n) _ 0 + cond (eqb _ n) _ 0)
+            (λ k l. each k _ _ _ _ refl refl refl),
         sum-add 1024 (λ k. cond (ltb (placeField k) n) (g (placeField k) k) 0) (λ k. cond (eqb (placeField k) n) (g n k) 0),
         sum-lists n g (omega arith),
         sum-list n (g n) (omega arith),
@@ -108,7 +108,7 @@ module _ (w : List ℕ) (L : ℕ → List ℕ) (holds : Holds w L) where
       each k p true true true x y z = absurd (omega (arith, ltb-true p n y, eqb-true p n z))
       each k p true true false x y z = omega arith
       each k p true false true x y z = omega (arith, ap (λ q. g q k) (eqb-true p n z))
-      each k p true false false x y z = absurd (eqb-false p n z (omega (arith, ltb-true p (suc n) x, ltb-false p n y)))
-      each k p false true c x y z = absurd (omega (arith, ltb-false p (suc n) x, ltb-true p n y))
-      each k p false false true x y z = absurd (omega (arith, ltb-false p (suc n) x, eqb-true p n z))
+      each k p true false false x y z = absurd (eqb-false p n z (omega (arith, ltb-true p _ x, ltb-false p n y)))
+      each k p false true c x y z = absurd (omega (arith, ltb-false p _ x, ltb-true p n y))
+      each k p false false true x y z = absurd (omega (arith, ltb-false p _ x, eqb-true p n z))
       each k p false false false x y z = refl

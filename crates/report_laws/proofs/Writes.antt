@@ -12,13 +12,13 @@ putAll-cons v l w = refl
 pub putAll-append : (a b : List ℕ) (w : Written) → putAll (a ++ b) w ≡ putAll b (putAll a w)
 unfolding putAll
 putAll-append [] b w = refl
-putAll-append (v ∷ a) b w = putAll-append a b (put v w)
+putAll-append (v ∷ a) b w = putAll-append a b _
 
 pub putAll-parts : (a b c d : List ℕ) (w : Written) → putAll (a ++ (b ++ (c ++ d))) w ≡ putAll d (putAll c (putAll b (putAll a w)))
 putAll-parts a b c d w =
-    putAll-append a (b ++ (c ++ d)) w
-    ∙ putAll-append b (c ++ d) (putAll a w)
-    ∙ putAll-append c d (putAll b (putAll a w))
+    putAll-append a _ w
+    ∙ putAll-append b _ _
+    ∙ putAll-append c d _
 
 -- ---- Counts
 
@@ -46,7 +46,7 @@ rows-none f w = refl
 
 pub rows-next : (n : ℕ) (f : ℕ → List ℕ) (w : Written) → putAll (rowsTo (n + 1) f) w ≡ putAll (f n) (putAll (rowsTo n f) w)
 unfolding rowsTo
-rows-next n f w = rw add-one (putAll-append (rowsTo n f) (f n) w)
+rows-next n f w = rw add-one (putAll-append _ _ w)
 
 -- ---- The living
 

@@ -3,8 +3,7 @@ use Rattle.machine.specs.All.{ℕ, _+_, min, List, [], _∷_, _++_, replicate, 
 use Rattle.rows_laws.specs.All.{rowCount}
 use Rattle.constants.specs.declared.model.Model.{Model}
 use Rattle.state.specs.declared.scalars.Scalars.{Scalars}
-use Rattle.report_laws.specs.Counts.{serverRow, queueRow, rowsTo}
-use Rattle.report_laws.specs.Living.{livingCount, rankTo, placeRow}
+use Rattle.report_laws.specs.{Counts.serverRow, Counts.queueRow, Counts.rowsTo, Living.livingCount, Living.rankTo, Living.placeRow}
 
 unfoldable pub livingNumbers : List ℕ → ℕ → List ℕ
 livingNumbers w moving =

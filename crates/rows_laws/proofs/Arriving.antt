@@ -1,23 +1,13 @@
 -- A clock move: `arrive` takes those of the first time from the FEL to REL, as the machine's `arriveAll` does.
-use Rattle.machine.specs.All.{ℕ, zero, suc, _+_, _*_, _/_, _≤_, _<_, _≡_, refl, sym, ap, _∙_, subst, Bool, true, false, cond, not, List, [], _∷_, map, arith, lt-ltb, le-ltb, eqb-true, eqb, length, getD, drop, Transaction, Event, precedes, earlier, withSerial, withReturning, insert, those, others, due}
-use Rattle.rows_laws.specs.All.{place, rel, fel, listCount, load, read, write, setReturning, outranks, put, first, cancel, isDue, arriveRow, arriveFirst, Arrived, arrived, arrive, arrivals, transactionAt, eventAt, update, Sorted, Strict, Shown, Held, Loose}
-use Rattle.rows_laws.proofs.Insertion.{insert-sorted, strict-sorted, sorted-drop}
-use Rattle.rows_laws.proofs.Orders.{precedes-order, earlier-order}
-use Rattle.rows_laws.proofs.Occurs.{same-refl, occurs-cons}
-use Rattle.rows_laws.proofs.Structure.{row-of}
-use Rattle.rows_laws.proofs.Spot.{short}
-use Rattle.rows_laws.proofs.Data.{same-row, transaction-kept}
-use Rattle.rows_laws.proofs.Holding.{Kept}
-use Rattle.rows_laws.proofs.Showing.{shown-ext}
-use Rattle.rows_laws.proofs.Put.{put-shown, put-keeps, put-placed}
-use Rattle.rows_laws.proofs.Scheduling.{cancel-keeps, cancel-placed}
-use Rattle.rows_laws.proofs.Take.{First, none, some}
-use Rattle.rows_laws.proofs.Later.{first-fel, cancel-shown}
-use Rattle.rows_laws.proofs.Write.{write-shown, write-loose}
-use Rattle.rows_laws.proofs.Fields.{set-returning, write-serial}
-use Rattle.rows_laws.proofs.Steady.{Steady, steady-refl, steady-trans, around-trans, kept-around, write-around, around-steady}
-use Rattle.rows_laws.proofs.Steps.{arrive-stop}
-use Rattle.rows_laws.proofs.Arrivals.{run, left, run-is, left-is}
+use Rattle.machine.specs.All.{ℕ, zero, suc, _+_, _≤_, _<_, _≡_, refl, sym, ap, _∙_, subst, Bool, true, false, cond, not, List, [], _∷_, map, arith, lt-ltb, le-ltb, eqb-true, eqb, length, getD, drop, Transaction, Event, precedes, earlier, withSerial, withReturning, insert, those, others, due}
+use Rattle.rows_laws.specs.All.{place, rel, fel, listCount, load, write, setReturning, outranks, first, cancel, isDue, arriveRow, arriveFirst, Arrived, arrived, arrive, arrivals, transactionAt, eventAt, update, Sorted, Strict, Shown, Held, Loose}
+use Rattle.rows_laws.proofs as our
+use our.Insertion.{insert-sorted, strict-sorted, sorted-drop}
+use our.{Orders.precedes-order, Orders.earlier-order, Occurs.same-refl, Occurs.occurs-cons, Structure.row-of, Spot.short, Data.same-row, Data.transaction-kept, Holding.Kept, Showing.shown-ext, Scheduling.cancel-keeps, Scheduling.cancel-placed, Later.first-fel, Later.cancel-shown, Write.write-shown, Write.write-loose, Fields.set-returning, Fields.write-serial, Steps.arrive-stop}
+use our.Put.{put-shown, put-keeps, put-placed}
+use our.Take.{First, none, some}
+use our.Steady.{Steady, steady-refl, steady-trans, around-trans, kept-around, write-around, around-steady}
+use our.Arrivals.{run, left, run-is, left-is}
 
 -- ---- One row
 

@@ -1,10 +1,11 @@
 -- Insertion and removal at a cell change one list, by the structural law.
-use Rattle.machine.specs.All.{ℕ, _+_, _≤_, _<_, _≡_, refl, sym, ap, _∙_, subst, _≢_, List, [], _∷_, _++_, arith, ℕ-discrete, length}
+use Rattle.machine.specs.All.{ℕ, _+_, _≤_, _<_, _≡_, refl, sym, ap, _∙_, _≢_, List, [], _∷_, _++_, arith, ℕ-discrete, length}
 use Rattle.rows_laws.specs.All.{place, link, head, tail, fel, nowhere, links, listCount, tails, load, insertAt, removeRow, same, occurs, Chain, ending, Listed, update}
-use Rattle.rows_laws.proofs.Occurs.{same-refl, same-other, occurs-append, occurs-cons}
-use Rattle.rows_laws.proofs.Chain.{chain-moved, chain-after, ending-append}
-use Rattle.rows_laws.proofs.Structure.{Changed, structure, row-of, at-most-once, end-low, end-high, end-not-link}
-use Rattle.rows_laws.proofs.AtCell
+use Rattle.rows_laws.proofs as our
+use our.Occurs.{same-refl, same-other, occurs-append, occurs-cons}
+use our.Chain.{chain-moved, chain-after, ending-append}
+use our.Structure.{Changed, structure, row-of, at-most-once, end-low, end-high, end-not-link}
+use our.AtCell
 
 module _ (w : List ℕ) (p k : ℕ) (a b : List ℕ) (room : 16384 ≤ length w) (hp : p < listCount) (chained : p ≢ fel) (hk : k < 1024) where
   -- row k, on no list, comes behind a

@@ -1,9 +1,7 @@
 -- A walk along a list finds the first row that passes a test, if there is one.
 use Rattle.machine.specs.All.{ℕ, _≤_, _<_, _≡_, refl, sym, ap, _∙_, subst, _≢_, Bool, true, false, cond, List, [], _∷_, _++_, arith, length}
 use Rattle.rows_laws.specs.All.{head, fel, load, walk, Chain, ending, Listed, All}
-use Rattle.rows_laws.proofs.Chain.{chain-after}
-use Rattle.rows_laws.proofs.Insertion.{front, back, front-back}
-use Rattle.rows_laws.proofs.Spot.{short, walk-front}
+use Rattle.rows_laws.proofs.{Chain.chain-after, Insertion.front, Insertion.back, Insertion.front-back, Spot.short, Spot.walk-front}
 
 module _ {A : Type 0} (r : A → A → Bool) (x : A) where
   front-none : (l : List A) → All (λ y. r x y ≡ false) (front r x l)

@@ -1,8 +1,9 @@
 -- The FEL's heap with one slot that is to be filled: what a row that comes to it from above or below leaves.
-use Rattle.machine.specs.All.{ℕ, _≤_, _<_, _≡_, refl, sym, ap, _∙_, subst, _≢_, Bool, true, false, List, arith, ℕ-discrete, length}
+use Rattle.machine.specs.All.{ℕ, _≤_, _<_, _≡_, refl, sym, ap, _∙_, _≢_, Bool, true, false, List, arith, ℕ-discrete, length}
 use Rattle.rows_laws.specs.All.{slot, place, link, fel, load, up, settle}
-use Rattle.rows_laws.proofs.Insertion.{Order, before-none, not-before}
-use Rattle.rows_laws.proofs.Slots.{up-less, settle-length, settle-other, settle-slot, settle-link}
+use Rattle.rows_laws.proofs as our
+use our.Insertion.{Order, before-none, not-before}
+use our.Slots.{up-less, settle-length, settle-other, settle-slot, settle-link}
 
 -- ---- Definition
 

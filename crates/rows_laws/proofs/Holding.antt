@@ -2,10 +2,11 @@
 -- the data of all rows. No order is asked for.
 use Rattle.machine.specs.All.{ℕ, _<_, _≡_, _≢_, List, _∷_, _++_, arith, lt-ltb}
 use Rattle.rows_laws.specs.All.{place, head, fel, nowhere, listCount, tails, load, insertAt, removeRow, removeAt, ending, Listed, Holds, update}
-use Rattle.rows_laws.proofs.Structure.{Changed, end-low, end-high}
-use Rattle.rows_laws.proofs.AtCell.{insert-room, insert-place, remove-room, remove-place}
-use Rattle.rows_laws.proofs.Changes.{insert-changed, insert-listed, remove-changed, remove-listed, removed-row, apart}
-use Rattle.rows_laws.proofs.Data.{SameData}
+use Rattle.rows_laws.proofs as our
+use our.Structure.{Changed, end-low, end-high}
+use our.AtCell.{insert-room, insert-place, remove-room, remove-place}
+use our.Changes.{insert-changed, insert-listed, remove-changed, remove-listed, removed-row, apart}
+use our.Data.{SameData}
 
 -- what an operation that moves row k leaves: the data of all rows, and the places of the others
 pub record Kept (w w′ : List ℕ) (k : ℕ) : Type 0 where

@@ -1,21 +1,13 @@
 -- Document 02, item 11: a row goes from the FEL to a list, and from the head of a list to the FEL.
 use Rattle.machine.specs.All.{ℕ, zero, suc, _+_, _≤_, _<_, _≡_, refl, sym, ap, _∙_, subst, Bool, true, false, cond, not, true≢false, List, [], _∷_, _++_, map, arith, ℕ-discrete, lt-ltb, ltb-true, ltb-false, eq-eqb, eqb-true, eqb-false, not-false, ltb, eqb, length, drop, Transaction, Event, precedes, earlier, insert}
-use Rattle.rows_laws.specs.All.{listCount, numberField, slot, place, link, holderCell, fel, free, load, store, read, priorityOf, sooner, put, first, takeFirst, schedule, cancel, loses, soonerRow, loserOf, loserFrom, loser, keepHolder, isHolder, loserAt, findLoser, transactionAt, eventAt, occurs, Heaped, Listed, Holds, update, All, Sorted, Strict, loose, Shows, Loose}
-use Rattle.rows_laws.proofs.Occurs.{same-refl, same-pos, occurs-append, occurs-cons}
-use Rattle.rows_laws.proofs.Insertion.{not-both, before-none, all-append, front}
-use Rattle.rows_laws.proofs.Steps.{loser-end, loser-stop, loser-next, Holder, holder-of}
-use Rattle.rows_laws.proofs.Structure.{row-of}
-use Rattle.rows_laws.proofs.Spot.{short, front-self}
-use Rattle.rows_laws.proofs.Sums.{sum-ext}
-use Rattle.rows_laws.proofs.Data.{same-row}
-use Rattle.rows_laws.proofs.Noting.{aside-below, aside-shown, holder-aside}
-use Rattle.rows_laws.proofs.Steady.{around-trans, around-steady}
-use Rattle.rows_laws.proofs.Put.{put-placed}
-use Rattle.rows_laws.proofs.Take.{rows-first}
-use Rattle.rows_laws.proofs.Making.{Written}
-use Rattle.rows_laws.proofs.Scheduling.{sooner-order, schedule-placed}
-use Rattle.rows_laws.proofs.Later.{all-at, irreflexive}
-use Rattle.rows_laws.proofs.Laws.{Fresh, Wakes, Takes, Puts, cancels, take-shows, put-shows, schedule-shows}
+use Rattle.rows_laws.specs.All.{listCount, numberField, slot, place, holderCell, fel, free, load, store, read, priorityOf, sooner, put, first, takeFirst, schedule, cancel, loses, soonerRow, loserOf, loserFrom, loser, keepHolder, isHolder, loserAt, findLoser, transactionAt, eventAt, occurs, Heaped, Listed, Holds, update, All, Sorted, Strict, loose, Shows}
+use Rattle.rows_laws.proofs as our
+use our.Occurs.{same-refl, same-pos, occurs-append, occurs-cons}
+use our.Insertion.{not-both, before-none, all-append, front}
+use our.Steps.{loser-end, loser-stop, loser-next, Holder, holder-of}
+use our.{Structure.row-of, Spot.short, Spot.front-self, Sums.sum-ext, Data.same-row, Steady.around-trans, Steady.around-steady, Put.put-placed, Take.rows-first, Making.Written, Scheduling.sooner-order, Scheduling.schedule-placed, Later.all-at, Later.irreflexive}
+use our.Noting.{aside-below, aside-shown, holder-aside}
+use our.Laws.{Fresh, Wakes, Takes, Puts, cancels, take-shows, put-shows, schedule-shows}
 
 -- ---- The holder among later events
 

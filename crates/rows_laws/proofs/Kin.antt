@@ -1,21 +1,12 @@
 -- The gatherers' lists (document 02, item 8): the first of a family, its count, and the one that goes on to REL.
-use Rattle.machine.specs.All.{ℕ, _+_, _≤_, _<_, _≡_, refl, sym, ap, _∙_, subst, _≢_, Bool, true, false, cond, List, [], _∷_, _++_, map, map-append, arith, eqb-true, eqb-false, eqb, Transaction, Event, precedes, withNext, insert}
+use Rattle.machine.specs.All.{ℕ, _+_, _≤_, _<_, _≡_, refl, ap, _∙_, _≢_, Bool, true, false, cond, List, [], _∷_, _++_, map, map-append, arith, eqb-true, eqb-false, eqb, Transaction, Event, precedes, withNext, insert}
 use Rattle.rows_laws.specs.All.{listCount, place, head, rel, fel, fieldAt, load, read, write, removeAt, put, inFamily, familyCell, transactionAt, eventAt, occurs, ending, Listed, Holds, update, All, Sorted, orderOf, Shows, moved}
-use Rattle.rows_laws.proofs.Store.{load-other}
-use Rattle.rows_laws.proofs.Occurs.{same-refl, same-other, same-le, occurs-append, occurs-cons}
-use Rattle.rows_laws.proofs.Insertion.{sorted-without}
-use Rattle.rows_laws.proofs.Found.{Found, found}
-use Rattle.rows_laws.proofs.Ordering.{ordered-list}
-use Rattle.rows_laws.proofs.Structure.{row-of}
-use Rattle.rows_laws.proofs.Data.{transaction-kept, event-kept, map-kept}
-use Rattle.rows_laws.proofs.Fields.{write-next}
-use Rattle.rows_laws.proofs.Holding.{remove-holds, remove-keeps}
-use Rattle.rows_laws.proofs.Showing.{shown-list, update-other}
-use Rattle.rows_laws.proofs.Write.{row-other, write-holds}
-use Rattle.rows_laws.proofs.Steady.{around-trans, write-around, around-steady}
-use Rattle.rows_laws.proofs.Put.{put-placed}
-use Rattle.rows_laws.proofs.Making.{Written}
-use Rattle.rows_laws.proofs.Laws.{Wakes, Takes, Puts, takes, put-shows}
+use Rattle.rows_laws.proofs as our
+use our.{Store.load-other, Insertion.sorted-without, Found.Found, Found.found, Ordering.ordered-list, Structure.row-of, Fields.write-next, Holding.remove-holds, Holding.remove-keeps, Showing.shown-list, Showing.update-other, Write.row-other, Write.write-holds, Put.put-placed, Making.Written}
+use our.Occurs.{same-refl, same-other, same-le, occurs-append, occurs-cons}
+use our.Data.{transaction-kept, event-kept, map-kept}
+use our.Steady.{around-trans, write-around, around-steady}
+use our.Laws.{Wakes, Takes, Puts, takes, put-shows}
 
 -- ---- The first of a family
 

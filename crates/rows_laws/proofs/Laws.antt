@@ -1,30 +1,26 @@
 -- The laws that the crates above cite: what each function of this crate does to the machine's lists. `Shows w T E` says that
 -- the buffer w has the lists T and the FEL E; `Loose w k` that row k is on no list, as the moving one.
-use Rattle.machine.specs.All.{ℕ, suc, _+_, _≤_, _<_, _≡_, refl, sym, ap, _∙_, subst, _≢_, Bool, false, true, not, List, [], _∷_, _++_, map, map-append, arith, eqb, length, take, drop, Transaction, Event, precedes, earlier, insert, those, others, wake, due, Each}
+use Rattle.machine.specs.All.{ℕ, suc, _+_, _≤_, _<_, _≡_, refl, sym, ap, _∙_, _≢_, Bool, false, true, not, List, [], _∷_, _++_, map, map-append, arith, eqb, length, take, drop, Transaction, Event, precedes, earlier, insert, those, others, wake, due, Each}
 use Rattle.machine.specs.Moves as Moves
 use Rattle.machine.proofs.nobody_able.QueueRemove.{walk}
-use Rattle.rows_laws.specs.All.{listCount, place, head, wsl, rel, fel, free, nowhere, load, outranks, sooner, removeAt, put, first, takeFirst, remove, schedule, cancel, lineUp, wakeFirst, wakeWalk, wakeAll, Arrived, arrive, arrivals, freeRow, loose, onLists, transactionAt, eventAt, ending, Holds, update, All, Sorted, Strict, Ordered, orderOf, Shows, Loose, moved}
-use Rattle.rows_laws.proofs.Occurs.{same-refl, occurs-append, occurs-cons}
-use Rattle.rows_laws.proofs.Insertion.{all-map, front, insert-sorted, insert-strict, sorted-without, sorted-drop, sorted-those}
-use Rattle.rows_laws.proofs.Orders.{precedes-order, earlier-order, earlier-total}
-use Rattle.rows_laws.proofs.Ordering.{sorted-weaker, sorted-line, ordered-list, ordered-fel, ordered-moved, wake-sorted, arrivals-sorted}
-use Rattle.rows_laws.proofs.Structure.{row-of}
-use Rattle.rows_laws.proofs.Spot.{short}
-use Rattle.rows_laws.proofs.Data.{SameRow, same-row}
-use Rattle.rows_laws.proofs.Holding.{Kept, remove-holds, remove-keeps, remove-placed}
-use Rattle.rows_laws.proofs.Showing.{shown-list}
-use Rattle.rows_laws.proofs.Loose.{loose-more, loose-less}
-use Rattle.rows_laws.proofs.Steady.{Steady, Around, kept-around}
-use Rattle.rows_laws.proofs.Put.{put-keeps, put-placed, put-shown}
-use Rattle.rows_laws.proofs.LiningUp.{lined, line-shown, line-keeps, line-placed}
-use Rattle.rows_laws.proofs.Take.{Head, head-shown, rows-first, take-shown, take-free-shown}
-use Rattle.rows_laws.proofs.Later.{head-fel-shown, schedule-shown, cancel-shown}
-use Rattle.rows_laws.proofs.Scheduling.{schedule-keeps, schedule-placed, cancel-was, cancel-keeps, cancel-placed}
-use Rattle.rows_laws.proofs.Removal.{rest-of, remove-is}
-use Rattle.rows_laws.proofs.Making.{free-keeps, free-placed, free-shown}
-use Rattle.rows_laws.proofs.WakingAll
-use Rattle.rows_laws.proofs.Arriving
-use Rattle.rows_laws.proofs.Population
+use Rattle.rows_laws.specs.All.{listCount, place, head, wsl, rel, fel, free, load, outranks, sooner, removeAt, put, first, takeFirst, remove, schedule, cancel, lineUp, wakeFirst, wakeWalk, wakeAll, Arrived, arrive, arrivals, freeRow, loose, onLists, transactionAt, eventAt, ending, Holds, update, All, Sorted, Ordered, orderOf, Shows, Loose, moved}
+use Rattle.rows_laws.proofs as our
+use our.Occurs.{same-refl, occurs-append, occurs-cons}
+use our.Insertion.{all-map, front, insert-sorted, insert-strict, sorted-without, sorted-drop, sorted-those}
+use our.Orders.{precedes-order, earlier-order, earlier-total}
+use our.Ordering.{sorted-weaker, sorted-line, ordered-list, ordered-fel, ordered-moved, wake-sorted, arrivals-sorted}
+use our.{Structure.row-of, Spot.short, Data.SameRow, Data.same-row, Showing.shown-list, Loose.loose-more, Loose.loose-less, Removal.rest-of, Removal.remove-is}
+use our.Holding.{Kept, remove-holds, remove-keeps, remove-placed}
+use our.Steady.{Steady, Around, kept-around}
+use our.Put.{put-keeps, put-placed, put-shown}
+use our.LiningUp.{lined, line-shown, line-keeps, line-placed}
+use our.Take.{Head, head-shown, rows-first, take-shown, take-free-shown}
+use our.Later.{head-fel-shown, schedule-shown, cancel-shown}
+use our.Scheduling.{schedule-keeps, schedule-placed, cancel-was, cancel-keeps, cancel-placed}
+use our.Making.{free-keeps, free-placed, free-shown}
+use our.WakingAll
+use our.Arriving
+use our.Population
 
 -- a serial above all on the FEL, as every one that comes onto it gets
 abbrev pub Fresh : Transaction → List Event → Type 0

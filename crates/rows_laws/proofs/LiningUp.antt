@@ -1,15 +1,13 @@
 -- A row comes onto a line of waiters where the machine's `lineUp` puts its transaction, by either edition.
-use Rattle.machine.specs.All.{ℕ, zero, suc, _-_, _%_, _≤_, _<_, _≡_, refl, sym, ap, _∙_, subst, _≢_, Bool, true, false, cond, List, [], _∷_, _++_, map, reverse, reverse-cons, reverse-append, append-nil, append-assoc, map-append, arith, lt-ltb, le-ltb, eqb-true, eqb, leb, length, Transaction, Event, precedes, insert}
+use Rattle.machine.specs.All.{ℕ, zero, suc, _-_, _%_, _≤_, _<_, _≡_, refl, sym, ap, _∙_, _≢_, Bool, true, false, cond, List, [], _∷_, _++_, map, reverse, reverse-cons, reverse-append, append-nil, append-assoc, map-append, arith, lt-ltb, le-ltb, eqb-true, eqb, leb, length, Transaction, Event, precedes, insert}
 use Rattle.machine.specs.Moves as Moves
-use Rattle.rows_laws.specs.All.{fel, place, link, links, head, heads, tail, load, read, outranks, insertAt, put, atLeast, foundAt, lastCell, lastMeets, backBefore, backSpot, secondSpot, lineUp, transactionAt, Chain, ending, Listed, Holds, update, All, Sorted, Shown, Loose}
-use Rattle.rows_laws.proofs.Insertion.{map-insert, append-all, lastOf}
-use Rattle.rows_laws.proofs.Orders.{outranks-is}
-use Rattle.rows_laws.proofs.Walk.{lastCell-stop, lastCell-next}
-use Rattle.rows_laws.proofs.Chain.{ending-append}
-use Rattle.rows_laws.proofs.Spot.{short, ending-last, occurs-last}
-use Rattle.rows_laws.proofs.Put.{put-keeps, put-placed, put-shown}
-use Rattle.rows_laws.proofs.Holding.{Kept, insert-holds, insert-keeps, insert-placed}
-use Rattle.rows_laws.proofs.Showing.{shown-list}
+use Rattle.rows_laws.specs.All.{fel, place, link, links, head, heads, load, read, outranks, insertAt, put, atLeast, foundAt, lastCell, lastMeets, backBefore, backSpot, secondSpot, lineUp, transactionAt, Chain, ending, Listed, Holds, update, All, Sorted, Shown, Loose}
+use Rattle.rows_laws.proofs as our
+use our.Insertion.{map-insert, append-all, lastOf}
+use our.{Orders.outranks-is, Walk.lastCell-stop, Walk.lastCell-next, Chain.ending-append, Showing.shown-list}
+use our.Spot.{short, ending-last, occurs-last}
+use our.Put.{put-keeps, put-placed, put-shown}
+use our.Holding.{Kept, insert-holds, insert-keeps, insert-placed}
 
 -- ---- From the back, over any test
 

@@ -1,12 +1,10 @@
 -- Rows that come to life and end: a new row as the machine's `newborn`, a copy, and a row that is free again.
-use Rattle.machine.specs.All.{ℕ, _*_, _/_, _%_, _≤_, _<_, _≡_, refl, _∙_, List, [], _∷_, arith, length, Transaction, Event}
-use Rattle.rows_laws.specs.All.{dataFields, place, free, fieldAt, load, read, write, setTime, clearParameters, copyParameters, describe, newbornAt, copyAt, freeRow, loose, ending, update, Shown, Loose}
-use Rattle.rows_laws.proofs.Store.{length-store, load-other}
-use Rattle.rows_laws.proofs.Holding.{Kept, insert-holds, insert-keeps, insert-placed}
-use Rattle.rows_laws.proofs.Showing.{shown-free}
-use Rattle.rows_laws.proofs.Write.{write-shown, write-loose}
-use Rattle.rows_laws.proofs.Loose.{loose-kept}
-use Rattle.rows_laws.proofs.Steady.{Around, around-trans, write-around}
+use Rattle.machine.specs.All.{ℕ, _≤_, _<_, _≡_, refl, _∙_, List, [], _∷_, arith, length, Transaction, Event}
+use Rattle.rows_laws.specs.All.{dataFields, place, free, load, write, setTime, clearParameters, copyParameters, describe, newbornAt, copyAt, freeRow, loose, ending, update, Shown, Loose}
+use Rattle.rows_laws.proofs as our
+use our.{Store.length-store, Store.load-other, Showing.shown-free, Write.write-shown, Write.write-loose, Loose.loose-kept}
+use our.Holding.{Kept, insert-holds, insert-keeps, insert-placed}
+use our.Steady.{Around, around-trans, write-around}
 
 -- ---- Data of one row written, any number of times
 

@@ -3,10 +3,10 @@ use Rattle.machine.specs.All.{ℕ, _+_, _*_, _/_, _≤_, _<_, _≡_, refl, ap, 
 use lib.IntN.{pos}
 use mir.Syntax.{w32}
 use mir.Val.{toZ}
-use Rattle.rows_laws.specs.All.{fieldAt, read, write, setTime, clearParameters, copyParameters, describe, newbornAt, copyAt, transactionAt, parameterAt}
-use Rattle.rows_laws.proofs.Store.{length-store}
-use Rattle.rows_laws.proofs.Fields.{write-number, write-standing, write-parameter, write-next, write-serial, write-family, write-stamp, withFamily}
-use Rattle.rows_laws.proofs.Making.{Written, time-written, describe-written}
+use Rattle.rows_laws.specs.All.{read, write, setTime, clearParameters, copyParameters, describe, newbornAt, copyAt, transactionAt, parameterAt}
+use Rattle.rows_laws.proofs as our
+use our.{Store.length-store, Making.time-written, Making.describe-written}
+use our.Fields.{write-number, write-standing, write-parameter, write-next, write-serial, write-family, write-stamp, withFamily}
 
 room-write : (w : List ℕ) (f k x : ℕ) → 16384 ≤ length w → 16384 ≤ length (write w f k x)
 room-write w f k x room = rw length-store room

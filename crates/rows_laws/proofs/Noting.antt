@@ -1,13 +1,7 @@
 -- Behind the heads and the tails stand numbers that no list reads, hints and rows of holders: storing one leaves every list.
-use Rattle.machine.specs.All.{ℕ, _≤_, _<_, _≡_, refl, sym, ap, _∙_, _≢_, Bool, true, false, cond, List, arith, eqb, length, Transaction, Event}
-use Rattle.rows_laws.specs.All.{slot, place, link, head, tail, hint, holderCell, fel, hints, listCount, load, store, priorityOf, note, same, Listed, Holds, Shown}
-use Rattle.rows_laws.proofs.Store.{length-store, load-other}
-use Rattle.rows_laws.proofs.Chain.{chain-moved}
-use Rattle.rows_laws.proofs.Slots.{sooner-kept}
-use Rattle.rows_laws.proofs.Heaped.{Unread, heaped-kept}
-use Rattle.rows_laws.proofs.Spot.{short}
-use Rattle.rows_laws.proofs.Holding.{Kept}
-use Rattle.rows_laws.proofs.Showing.{transactions-kept, events-kept}
+use Rattle.machine.specs.All.{ℕ, _≤_, _<_, _≡_, refl, sym, ap, _∙_, _≢_, Bool, true, false, cond, List, arith, eqb, Transaction, Event}
+use Rattle.rows_laws.specs.All.{place, tail, hint, holderCell, fel, hints, listCount, load, store, priorityOf, note, same, Listed, Holds, Shown}
+use Rattle.rows_laws.proofs.{Store.length-store, Store.load-other, Chain.chain-moved, Slots.sooner-kept, Heaped.Unread, Heaped.heaped-kept, Spot.short, Holding.Kept, Showing.transactions-kept, Showing.events-kept}
 
 -- ---- Any of them
 

@@ -3,9 +3,7 @@ use Rattle.machine.specs.All.{ℕ, _≤_, _<_, _≡_, refl, sym, subst, Bool, t
 use Rattle.machine.proofs.lists.Sorted as Machine
 use Rattle.machine.proofs.order.Serials.{Single, strictly}
 use Rattle.rows_laws.specs.All.{wsl, rel, fel, arrivals, update, All, Sorted, Strict, Ordered, orderOf, Shows, moved}
-use Rattle.rows_laws.proofs.Insertion.{insert-sorted}
-use Rattle.rows_laws.proofs.Orders.{precedes-order}
-use Rattle.rows_laws.proofs.Showing.{shown-ext}
+use Rattle.rows_laws.proofs.{Insertion.insert-sorted, Orders.precedes-order, Showing.shown-ext}
 
 -- ---- The machine's sorted lists are the rows'
 

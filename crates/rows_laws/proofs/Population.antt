@@ -1,11 +1,10 @@
 -- Every row is on one list or on none: a row is free exactly if fewer than 1,024 transactions live.
 use Rattle.machine.specs.All.{ℕ, zero, suc, _+_, _≤_, _<_, _≡_, refl, sym, ap, _∙_, Bool, true, false, cond, List, arith, ℕ-discrete, lt-ltb, le-ltb, ltb-true, ltb-false, ltb, length, length-map, Transaction, Event}
-use Rattle.rows_laws.specs.All.{place, fel, free, listCount, load, first, sumTo, loose, onLists, transactionAt, eventAt, same, occurs, Holds, Shown}
-use Rattle.rows_laws.proofs.Occurs.{same-refl, same-other}
-use Rattle.rows_laws.proofs.Sums.{sum-suc, sum-ext, sum-add, sum-zero, sum-ones}
-use Rattle.rows_laws.proofs.Spot.{listed-length}
-use Rattle.rows_laws.proofs.Take.{First, none, some, first-of}
-use Rattle.rows_laws.proofs.Steady.{Steady}
+use Rattle.rows_laws.specs.All.{place, fel, free, listCount, load, first, sumTo, loose, onLists, same, occurs, Holds, Shown}
+use Rattle.rows_laws.proofs as our
+use our.{Occurs.same-refl, Occurs.same-other, Spot.listed-length, Steady.Steady}
+use our.Sums.{sum-suc, sum-ext, sum-add, sum-zero, sum-ones}
+use our.Take.{First, none, some, first-of}
 
 -- 1 for a place among the first m lists
 abbrev below : ℕ → ℕ → ℕ

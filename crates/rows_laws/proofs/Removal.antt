@@ -1,9 +1,7 @@
 -- Removal of a row from a list, wherever it stands: the walk that looks for it stops at its cell.
 use Rattle.machine.specs.All.{ℕ, _<_, _≡_, ap, _≢_, List, _∷_, _++_, arith, eqb}
 use Rattle.rows_laws.specs.All.{listCount, place, head, fel, load, removeAt, cellOf, remove, ending, Holds}
-use Rattle.rows_laws.proofs.Occurs.{same-refl}
-use Rattle.rows_laws.proofs.Insertion.{front}
-use Rattle.rows_laws.proofs.Spot.{short, walk-front, front-self}
+use Rattle.rows_laws.proofs.{Occurs.same-refl, Insertion.front, Spot.short, Spot.walk-front, Spot.front-self}
 
 module _ (w : List ℕ) (L : ℕ → List ℕ) (h : Holds w L) (p k : ℕ) (hp : p < listCount) (hk : k < 1024) (at : load w (place k) ≡ p) where
   -- what stands behind it

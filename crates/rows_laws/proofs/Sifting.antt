@@ -1,11 +1,11 @@
 -- A row finds its slot: from a heap with one slot to be filled, `rise` and `sink` leave a full one.
 use Rattle.machine.specs.All.{ℕ, zero, suc, _+_, _*_, _≤_, _<_, _≡_, refl, sym, ap, _∙_, _≢_, Bool, true, false, cond, List, arith, ℕ-discrete, lt-ltb, le-ltb, eq-eqb, ne-eqb, ltb-true, ltb-false, ltb}
 use Rattle.rows_laws.specs.All.{slot, load, timeOf, soonerAt, sooner, up, settle, above, rise, soonerOf, below, sink}
-use Rattle.rows_laws.proofs.Insertion.{Order}
-use Rattle.rows_laws.proofs.Data.{SameData}
-use Rattle.rows_laws.proofs.Slots.{up-less, up-left, up-right, Below, left, right, below-of, pull-row, Sifted, sifted-data, sifted-trans, settle-sifted, sooner-kept, time-kept}
-use Rattle.rows_laws.proofs.Steps.{rise-end, rise-stop, rise-next, sink-stop, sink-next}
-use Rattle.rows_laws.proofs.Heap.{Seat, Open, Under, Full, risen, risen-under, sunk, filled}
+use Rattle.rows_laws.proofs as our
+use our.{Insertion.Order, Data.SameData}
+use our.Slots.{up-less, up-left, up-right, Below, left, right, below-of, pull-row, Sifted, sifted-data, sifted-trans, settle-sifted, sooner-kept, time-kept}
+use our.Steps.{rise-end, rise-stop, rise-next, sink-stop, sink-next}
+use our.Heap.{Open, Under, Full, risen, risen-under, sunk, filled}
 
 -- ---- One step
 

@@ -2,11 +2,12 @@
 -- the list is sorted, the cell behind those that the row does not stand before.
 use Rattle.machine.specs.All.{ℕ, zero, suc, _-_, _≤_, _<_, _≡_, refl, sym, ap, _∙_, subst, _≢_, Bool, true, false, cond, List, [], _∷_, _++_, append-nil, append-assoc, arith, lt-ltb, le-ltb, ltb-true, eqb-true, eqb-false, ltb, eqb, length, length-append}
 use Rattle.rows_laws.specs.All.{place, link, head, fel, heads, links, load, step, walk, begin, hinted, spotBefore, spot, same, occurs, Chain, ending, Listed, All, Sorted, sumTo}
-use Rattle.rows_laws.proofs.Occurs.{same-refl, same-other, same-le}
-use Rattle.rows_laws.proofs.Sums.{sum-add, sum-same, sum-le, sum-zero}
-use Rattle.rows_laws.proofs.Chain.{chain-after, ending-append}
-use Rattle.rows_laws.proofs.Walk.{walk-next, walk-stay}
-use Rattle.rows_laws.proofs.Insertion.{Order, all-append, front, back, front-back, front-all, lastOf, not-before}
+use Rattle.rows_laws.proofs as our
+use our.Occurs.{same-refl, same-other, same-le}
+use our.Sums.{sum-add, sum-same, sum-le, sum-zero}
+use our.Chain.{chain-after, ending-append}
+use our.Walk.{walk-next, walk-stay}
+use our.Insertion.{Order, all-append, front, back, front-back, front-all, lastOf, not-before}
 
 -- ---- No list is longer than 1,024
 

@@ -1,12 +1,7 @@
 -- The start of a run: whatever the buffer held, every list is empty and every row is free.
-use Rattle.machine.specs.All.{ℕ, zero, suc, _≤_, _<_, _≡_, refl, sym, _∙_, _≢_, List, [], _∷_, arith, ℕ-discrete, length, Transaction, Event}
+use Rattle.machine.specs.All.{ℕ, zero, suc, _≤_, _<_, _≡_, refl, sym, _∙_, _≢_, List, [], arith, ℕ-discrete, length, Transaction, Event}
 use Rattle.rows_laws.specs.All.{place, head, tail, fel, free, nowhere, links, listCount, load, store, emptyList, emptyLists, emptyFel, looseRows, freeRow, freeRows, initial, loose, occurs, Chain, ending, Heaped, Listed, update, top, Sorted, Shown, Held, Shows, Loose}
-use Rattle.rows_laws.proofs.Store.{length-store, load-same, load-other}
-use Rattle.rows_laws.proofs.Occurs.{same-other}
-use Rattle.rows_laws.proofs.Sums.{sum-zero}
-use Rattle.rows_laws.proofs.Holding.{Kept}
-use Rattle.rows_laws.proofs.Loose.{off, off-placed}
-use Rattle.rows_laws.proofs.Making.{free-keeps, free-placed, free-shown}
+use Rattle.rows_laws.proofs.{Store.length-store, Store.load-same, Store.load-other, Occurs.same-other, Sums.sum-zero, Holding.Kept, Loose.off, Loose.off-placed, Making.free-keeps, Making.free-placed, Making.free-shown}
 
 -- ---- Empty lists
 

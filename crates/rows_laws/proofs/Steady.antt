@@ -1,12 +1,8 @@
 -- Operations on lists leave the rows that are on none as they are: the moving transaction among them.
-use Rattle.machine.specs.All.{ℕ, _<_, _≡_, refl, sym, ap, _∙_, subst, _≢_, List, arith, ℕ-discrete, ne-eqb, eqb}
-use Rattle.rows_laws.specs.All.{dataFields, place, free, nowhere, fieldAt, load, write, transactionAt, Loose}
+use Rattle.machine.specs.All.{ℕ, _<_, _≡_, refl, sym, ap, _∙_, _≢_, List, arith, ℕ-discrete, ne-eqb, eqb}
+use Rattle.rows_laws.specs.All.{dataFields, place, free, load, write, transactionAt, Loose}
 use Rattle.rows_laws.specs.Living
-use Rattle.rows_laws.proofs.Store.{load-other}
-use Rattle.rows_laws.proofs.Data.{SameRow, same-row, transaction-kept}
-use Rattle.rows_laws.proofs.Write.{row-other}
-use Rattle.rows_laws.proofs.Holding.{Kept}
-use Rattle.rows_laws.proofs.Loose.{loose-same}
+use Rattle.rows_laws.proofs.{Store.load-other, Data.SameRow, Data.same-row, Data.transaction-kept, Write.row-other, Holding.Kept, Loose.loose-same}
 
 -- the rows on no list and how many they are, and which rows are free
 pub record Steady (w w′ : List ℕ) : Type 0 where

@@ -1,13 +1,11 @@
 -- The structural law of lists: if of the buffer only the cell behind `a`, place and link of row k, and the tail of list p change,
 -- then list p goes from `a ++ b` to `a ++ b′`, and every other list stays.
 use Rattle.machine.specs.All.{ℕ, zero, suc, _≤_, _<_, _≡_, refl, sym, ap, _∙_, subst, _≢_, Bool, true, false, cond, List, _++_, arith, ℕ-discrete, eqb-true, eqb-false, eqb, length}
-use Rattle.rows_laws.specs.All.{slot, place, link, head, tail, fel, links, listCount, load, same, occurs, Chain, ending, Listed, update}
-use Rattle.rows_laws.proofs.Occurs.{same-other, same-pos, same-le, occurs-append}
-use Rattle.rows_laws.proofs.Data.{SameData}
-use Rattle.rows_laws.proofs.Slots.{sooner-kept}
-use Rattle.rows_laws.proofs.Spot.{short}
-use Rattle.rows_laws.proofs.Heaped.{Unread, heaped-kept}
-use Rattle.rows_laws.proofs.Chain.{chain-moved, chain-joined, ending-append, EndsAt, start, behind, ends}
+use Rattle.rows_laws.specs.All.{place, link, head, tail, fel, links, listCount, load, same, occurs, Chain, ending, Listed, update}
+use Rattle.rows_laws.proofs as our
+use our.Occurs.{same-other, same-pos, same-le, occurs-append}
+use our.{Data.SameData, Slots.sooner-kept, Spot.short, Heaped.Unread, Heaped.heaped-kept}
+use our.Chain.{chain-moved, chain-joined, ending-append, EndsAt, start, behind, ends}
 
 -- what changed: list p from a ++ b to a ++ b′, with row k going from place o to place o′
 pub record Changed (w w′ : List ℕ) (p k : ℕ) (a b b′ : List ℕ) : Type 0 where

@@ -1,8 +1,9 @@
 -- The first of a list, and taking it: the machine's head and tail.
-use Rattle.machine.specs.All.{ℕ, _≤_, _<_, _≡_, refl, sym, ap, _∙_, subst, _≢_, List, [], _∷_, map, arith, drop, Transaction, Event}
+use Rattle.machine.specs.All.{ℕ, _≤_, _<_, _≡_, refl, sym, ap, _∙_, _≢_, List, [], _∷_, map, arith, drop, Transaction, Event}
 use Rattle.rows_laws.specs.All.{head, fel, free, listCount, first, takeFirst, transactionAt, Chain, ending, Listed, Holds, update, Shown, Loose}
-use Rattle.rows_laws.proofs.Holding.{Kept, remove-holds, remove-keeps, remove-placed}
-use Rattle.rows_laws.proofs.Showing.{shown-list, shown-free}
+use Rattle.rows_laws.proofs as our
+use our.Holding.{Kept, remove-holds, remove-keeps, remove-placed}
+use our.Showing.{shown-list, shown-free}
 
 -- ---- Rows
 

@@ -1,18 +1,15 @@
 -- Waking is the machine's `wake`: the row of a cell goes to REL with its serial and the returning mark. The list that it leaves
 -- may be in any order.
-use Rattle.machine.specs.All.{ℕ, _+_, _*_, _/_, _≤_, _<_, _≡_, refl, ap, _∙_, subst, _≢_, true, List, _∷_, _++_, map, arith, lt-ltb, Transaction, Event, precedes, withReturning, insert}
-use Rattle.rows_laws.specs.All.{place, head, rel, fel, listCount, load, read, setReturning, outranks, removeAt, put, wakeRow, wakeAt, transactionAt, same, occurs, ending, Listed, update, Sorted, Shown, Loose, moved}
-use Rattle.rows_laws.proofs.Insertion.{insert-sorted}
-use Rattle.rows_laws.proofs.Orders.{precedes-order}
-use Rattle.rows_laws.proofs.Occurs.{same-refl, occurs-append, occurs-cons}
-use Rattle.rows_laws.proofs.Structure.{row-of, at-most-once}
-use Rattle.rows_laws.proofs.Data.{same-row, transaction-kept, map-kept}
-use Rattle.rows_laws.proofs.Holding.{Kept, remove-first, remove-holds, remove-keeps, remove-placed}
-use Rattle.rows_laws.proofs.Showing.{shown-list, shown-ext, update-same, update-other}
-use Rattle.rows_laws.proofs.Put.{put-shown, put-keeps, put-placed}
-use Rattle.rows_laws.proofs.Write.{write-shown, write-loose}
-use Rattle.rows_laws.proofs.Fields.{set-returning}
-use Rattle.rows_laws.proofs.Steady.{Steady, Around, around-trans, kept-around, write-around, around-steady}
+use Rattle.machine.specs.All.{ℕ, _≤_, _<_, _≡_, refl, ap, _∙_, subst, _≢_, true, List, _∷_, _++_, map, arith, lt-ltb, Transaction, Event, precedes, withReturning, insert}
+use Rattle.rows_laws.specs.All.{place, head, rel, fel, listCount, load, setReturning, outranks, removeAt, wakeRow, wakeAt, transactionAt, same, occurs, ending, Listed, update, Sorted, Shown, Loose, moved}
+use Rattle.rows_laws.proofs as our
+use our.{Insertion.insert-sorted, Orders.precedes-order, Structure.row-of, Structure.at-most-once, Write.write-shown, Write.write-loose, Fields.set-returning}
+use our.Occurs.{same-refl, occurs-append, occurs-cons}
+use our.Data.{same-row, transaction-kept, map-kept}
+use our.Holding.{Kept, remove-first, remove-holds, remove-keeps, remove-placed}
+use our.Showing.{shown-list, shown-ext, update-same, update-other}
+use our.Put.{put-shown, put-keeps, put-placed}
+use our.Steady.{Steady, Around, around-trans, kept-around, write-around, around-steady}
 
 module _ (w : List ℕ) (L : ℕ → List ℕ) (T : ℕ → List Transaction) (E : List Event) (s : Shown w L T E) (p : ℕ) (hp : p < 449) (k : ℕ) (a b : List ℕ) (was : L p ≡ a ++ k ∷ b) where
   abbrev cell : ℕ

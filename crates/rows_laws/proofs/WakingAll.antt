@@ -1,15 +1,14 @@
 -- Waking the first of a list, and all of a list that pass a test, with a number or without: the machine's `wake` of `take 1`, of who goes
 -- on a `walk`, and of `those`. REL is in order; the list may be in any.
-use Rattle.machine.specs.All.{ℕ, zero, suc, _≤_, _<_, _≡_, refl, sym, ap, _∙_, subst, Bool, true, false, cond, List, [], _∷_, _++_, map, map-append, append-assoc, arith, lt-ltb, le-ltb, eqb-true, eqb, length, take, drop, Transaction, Event, precedes, withReturning, insert, those, others, wake, Parted, goes, stays}
+use Rattle.machine.specs.All.{ℕ, zero, suc, _≤_, _<_, _≡_, refl, sym, ap, _∙_, Bool, true, false, cond, List, [], _∷_, _++_, map, map-append, append-assoc, arith, lt-ltb, le-ltb, eqb-true, eqb, length, take, drop, Transaction, Event, precedes, withReturning, insert, those, others, wake, Parted, goes, stays}
 use Rattle.machine.proofs.nobody_able.QueueRemove.{walk, walk-fixed}
-use Rattle.rows_laws.specs.All.{link, head, rel, first, wakeAt, wakeFirst, after, passRows, passCell, wakeWalk, wakeAll, transactionAt, Chain, ending, Listed, Sorted, Shown, Held, moved}
-use Rattle.rows_laws.proofs.Occurs.{occurs-append}
-use Rattle.rows_laws.proofs.Chain.{chain-after, ending-append}
-use Rattle.rows_laws.proofs.Steps.{wakeWalk-stop, wakeWalk-next, wakeAll-walk}
-use Rattle.rows_laws.proofs.Showing.{shown-ext}
-use Rattle.rows_laws.proofs.Take.{First, none, some, first-of}
-use Rattle.rows_laws.proofs.Steady.{Steady, steady-refl, steady-trans}
-use Rattle.rows_laws.proofs.Waking.{woken, wake-rows, wake-shown, wake-ready, wake-steady, wake-same}
+use Rattle.rows_laws.specs.All.{link, head, rel, first, wakeAt, wakeFirst, after, passRows, passCell, wakeWalk, wakeAll, transactionAt, Chain, ending, Sorted, Shown, Held, moved}
+use Rattle.rows_laws.proofs as our
+use our.{Occurs.occurs-append, Chain.chain-after, Chain.ending-append, Showing.shown-ext}
+use our.Steps.{wakeWalk-stop, wakeWalk-next, wakeAll-walk}
+use our.Take.{First, none, some, first-of}
+use our.Steady.{Steady, steady-refl, steady-trans}
+use our.Waking.{woken, wake-rows, wake-shown, wake-ready, wake-steady, wake-same}
 
 -- ---- Lists with two replaced
 

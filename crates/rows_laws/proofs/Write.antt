@@ -1,12 +1,9 @@
 -- Writing the data of a row: the rows of every list stay; and where the row is on none, every list.
-use Rattle.machine.specs.All.{ℕ, _≤_, _<_, _≡_, sym, ap, _∙_, _≢_, List, map, arith, length, Transaction, Event}
-use Rattle.rows_laws.specs.All.{dataFields, slot, place, link, head, tail, fel, fieldAt, listCount, slots, load, write, transactionAt, eventAt, same, occurs, Listed, Holds, Shown, Loose}
-use Rattle.rows_laws.proofs.Store.{length-store, load-other}
-use Rattle.rows_laws.proofs.Occurs.{same-other}
-use Rattle.rows_laws.proofs.Chain.{chain-moved}
-use Rattle.rows_laws.proofs.Data.{SameRow, transaction-kept, event-kept, map-kept}
-use Rattle.rows_laws.proofs.Slots.{sooner-rows}
-use Rattle.rows_laws.proofs.Heaped.{Unread, heaped-kept}
+use Rattle.machine.specs.All.{ℕ, _≤_, _<_, _≡_, sym, ap, _∙_, _≢_, List, map, arith, Transaction, Event}
+use Rattle.rows_laws.specs.All.{dataFields, place, fel, listCount, slots, load, write, transactionAt, eventAt, same, occurs, Listed, Holds, Shown, Loose}
+use Rattle.rows_laws.proofs as our
+use our.{Store.length-store, Store.load-other, Occurs.same-other, Chain.chain-moved, Slots.sooner-rows, Heaped.Unread, Heaped.heaped-kept}
+use our.Data.{SameRow, transaction-kept, event-kept, map-kept}
 
 -- another row's fields
 pub row-other : (w : List ℕ) (f k x j : ℕ) → k < 1024 → j < 1024 → j ≢ k → SameRow w (write w f k x) j

@@ -1,9 +1,7 @@
 -- A clock move: the row machine takes all of one time from the FEL to REL; and the REL that the machine then has.
 use Rattle.machine.specs.All.{ℕ, zero, suc, Bool, false, cond, _&&_, List, [], _∷_, ltb, eqb, Transaction, Event, precedes, withSerial, withReturning, insert}
 use Rattle.rows_laws.specs.Layout.{serialField, rel, fel, rowCount}
-use Rattle.rows_laws.specs.Cells.{write, setReturning, timeOf}
-use Rattle.rows_laws.specs.Lists.{put, first}
-use Rattle.rows_laws.specs.Future.{cancel}
+use Rattle.rows_laws.specs.{Cells.write, Cells.setReturning, Cells.timeOf, Lists.put, Lists.first, Future.cancel}
 
 -- the first of the FEL has this time
 unfoldable pub isDue : List ℕ → ℕ → Bool

@@ -5,8 +5,7 @@ use mir.Syntax.{w32}
 use mir.Val.{toZ}
 use Rattle.rows_laws.specs.Layout.{rowCount, listCount, Room, slot, place, link, head, tail, fel, numberField, standingField, parameterField, nextField, serialField, familyField}
 use Rattle.rows_laws.specs.Cells.{load, read, priorityOf, timeOf}
-use Rattle.rows_laws.specs.Order.{sooner}
-use Rattle.rows_laws.specs.Future.{up, size, top}
+use Rattle.rows_laws.specs.{Order.sooner, Future.up, Future.size, Future.top}
 
 -- ---- Rows as transactions
 

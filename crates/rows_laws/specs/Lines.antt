@@ -1,8 +1,7 @@
 -- The row machine: how a waiter comes onto a QL or WEL, by the model's edition (document 02, item 12). The cursor is a cell.
 use Rattle.machine.specs.All.{ℕ, zero, suc, _-_, _%_, Bool, false, cond, List, ltb, leb, eqb}
 use Rattle.rows_laws.specs.Layout.{link, head, tail, links, rowCount, standingField}
-use Rattle.rows_laws.specs.Cells.{load, read, priorityOf}
-use Rattle.rows_laws.specs.Lists.{insertAt, put}
+use Rattle.rows_laws.specs.{Cells.load, Cells.read, Cells.priorityOf, Lists.insertAt, Lists.put}
 
 -- has row j at least the priority of row k?
 abbrev pub atLeast : List ℕ → (k j : ℕ) → Bool

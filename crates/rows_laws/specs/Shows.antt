@@ -1,8 +1,7 @@
 -- What the buffer shows of the machine's lists.
 use Rattle.machine.specs.All.{ℕ, _<_, _≡_, Bool, false, cond, List, map, ltb, Transaction, Event, precedes}
 use Rattle.rows_laws.specs.Layout.{place, wsl, rel, fel, nowhere, rowCount}
-use Rattle.rows_laws.specs.Cells.{load}
-use Rattle.rows_laws.specs.Ordered.{Ordered}
+use Rattle.rows_laws.specs.{Cells.load, Ordered.Ordered}
 use Rattle.rows_laws.specs.Holds.{transactionAt, eventAt, Holds, update}
 
 -- with L p the rows of list p: T p is list p as transactions, for every QL and WEL, the WSL and REL; E is the FEL

@@ -1,8 +1,7 @@
 -- The row machine: moves to REL from the lists on which one waits.
 use Rattle.machine.specs.All.{ℕ, zero, suc, Bool, cond, List, ltb}
 use Rattle.rows_laws.specs.Layout.{link, head, rel, rowCount}
-use Rattle.rows_laws.specs.Cells.{load, setReturning}
-use Rattle.rows_laws.specs.Lists.{removeAt, put}
+use Rattle.rows_laws.specs.{Cells.load, Cells.setReturning, Lists.removeAt, Lists.put}
 
 -- the row of cell c goes from list p to REL: it keeps its serial and is returning
 unfoldable pub wakeRow : List ℕ → ℕ → ℕ → ℕ → List ℕ

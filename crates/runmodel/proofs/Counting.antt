@@ -1,12 +1,10 @@
 -- The numbers of a report, one after the other.
-use Rattle.machine.specs.All.{ℕ, suc, _+_, _-_, _≤_, _<_, arith, List, _∷_, _≡_, refl, sym, ap, _∙_, set, drop, sets, maxReportNumberBytes, maxReportNumber, readNumber, Validation, accept, reject}
+use Rattle.machine.specs.All.{clash, ℕ, suc, _+_, _-_, _≤_, _<_, arith, List, _∷_, _≡_, refl, sym, ap, _∙_, set, drop, sets, maxReportNumberBytes, maxReportNumber, readNumber, Validation, accept, reject}
 use Rattle.constants.specs.declared.model.Model.{Model}
-use Rattle.codec.specs.declared.Read.{Read}
+use Rattle.codec.specs.{declared.Read.Read, Answers.numberOf}
 use Rattle.codec.specs.declared.Read.the-variants.{Number as Whole, Refused as Unread}
-use Rattle.codec.specs.Answers.{numberOf}
-use Rattle.decode.specs.declared.Decoded.{Decoded}
+use Rattle.decode.specs.{declared.Decoded.Decoded, Decodes.Decodes}
 use Rattle.decode.specs.declared.Decoded.the-variants.{Model as Accepted, Refused}
-use Rattle.decode.specs.Decodes.{Decodes}
 use Rattle.runmodel.specs.declared.printing.Field.{Field}
 use Rattle.runmodel.specs.{fieldOf, fieldAt, numbersAt, behindNumbers, behindThings, headerFor}
 
@@ -90,11 +88,11 @@ module _ (tape tables lists : List ℕ) (r : Decoded) where
   pub header-model : (a : Validation) → Decodes tape r tables lists a → (h : Model) → r ≡ Accepted h → h ≡ headerFor a
   unfolding headerFor
   header-model (accept m times) (is, _) h e = cc
-  header-model (reject n) is h e = let z : _≡_ {A = ℕ} 0 1 = cc in absurd (omega arith)
+  header-model (reject n) is h e = clash (cc)
 
   pub header-none : (a : Validation) → Decodes tape r tables lists a → (n : ℕ) → r ≡ Refused n → (h : Model)
       → (h .facilities ≡ 0) × (h .storages ≡ 0) × (h .queues ≡ 0) × (h .values ≡ 0) × (h .lists ≡ 0) × (h .counter ≡ 0) × (h .blocks ≡ 0) → h ≡ headerFor a
   unfolding headerFor
-  header-none (accept m times) (is, _) n e h z = let q : _≡_ {A = ℕ} 0 1 = cc in absurd (omega arith)
+  header-none (accept m times) (is, _) n e h z = clash (cc)
   header-none (reject k) is n e h z =
       λ i. record { facilities = z .0 i; storages = z .1 i; queues = z .2 i; values = z .3 i; lists = z .4 i; counter = z .5 i; blocks = z .6 i }

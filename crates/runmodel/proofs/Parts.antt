@@ -1,8 +1,7 @@
 -- The parts of the buffers that a run has written lie within them.
 use Rattle.machine.specs.All.{ℕ, _≤_, arith, List, _≡_, sym, length, drop, length-append, length-take-le}
 use Rattle.io.specs.Counts.{Counts}
-use Rattle.engine_laws.specs.declared.outcome.Outcome.{Outcome}
-use Rattle.engine_laws.specs.Contract.{Begins, wanted, Contract}
+use Rattle.engine_laws.specs.{declared.outcome.Outcome.Outcome, Contract.Begins, Contract.wanted, Contract.Contract}
 
 begun : (bytes before after : List ℕ) (n : ℕ) → n ≡ length bytes → Begins bytes before after → Counts n after
 begun bytes before after n e s =

@@ -1,7 +1,7 @@
 // Sums and differences that never trap: a sum stops at the largest number, a difference at 0.
 ghost use mathlib.Core.Path.{_≡_};
 ghost use Prim.Native.Nat.{_+_, _-_, min};
-ghost use Rattle.layout.specs.Layout.{most32, most64};
+ghost use Rattle.layout.specs.All.{most32, most64};
 
 pub fn plus32(a: u32, b: u32) -> u32
     ensures { λ r. ⌜ r ≡ min (a + b) most32 ⌝ }

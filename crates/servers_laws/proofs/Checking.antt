@@ -1,5 +1,5 @@
 -- The check of a server's WELs after its units changed: the rows follow the machine's, and nothing but WELs and REL changes.
-use Rattle.machine.specs.All.{ℕ, _+_, _*_, _-_, _<_, _≡_, refl, ap, _∙_, subst, Bool, true, false, cond, List, [], Option, some, arith, length, drop, length-set, Transaction, Code, U, NU, E, NE, F, NF, status, codeIndex, welIndex, State, setWel, setRel, welOf, wakeFirstWel}
+use Rattle.machine.specs.All.{ℕ, _+_, _*_, _-_, _<_, _≡_, refl, ap, _∙_, subst, Bool, true, false, cond, List, [], Option, some, arith, length, length-set, Transaction, Code, U, NU, E, NE, F, NF, status, codeIndex, welIndex, State, setWel, setRel, wakeFirstWel}
 use Rattle.machine.specs.Term
 use Rattle.machine.specs.Moves as Moves
 use Rattle.machine.specs.Execute as Execute
@@ -30,13 +30,13 @@ pub woken-checked : {k : ℕ} {o : Option Transaction} {s₀ : State} {w : List 
     → Checked k o s₀ w s → Checked k o s₀ (wakeFirst w (64 + welIndex v code)) (wakeFirstWel v code s)
 woken-checked {k} {o} {s₀} {w} {s} v code low there h =
     record {
-      listing = wake-first-wel-listing w k o s (h .listing) v code low (omega (arith, h .room));
+      listing = wake-first-wel-listing w k o s (h .listing) v code low (omega arith);
       room = room;
       same = same;
     }
   where
     room : length (wakeFirstWel v code s .wel) ≡ length (s₀ .wel)
-    room = unfold wakeFirstWel in (length-set (s .wel) (welIndex v code) (drop 1 (welOf s v code)) ∙ h .room)
+    room = unfold wakeFirstWel in (length-set (s .wel) _ _ ∙ h .room)
 
     same : rest s₀ ≡ rest (wakeFirstWel v code s)
     same = unfold wakeFirstWel in (h .same)
@@ -45,15 +45,11 @@ module _ (k : ℕ) (o : Option Transaction) (s₀ : State) (v units all : ℕ) (
     (low : (code : Code) → welIndex v code < 384) (there : (code : Code) → welIndex v code < length (s₀ .wel)) where
   one : (w : List ℕ) (s : State) (code : Code) → Checked k o s₀ w s → Checked k o s₀ (checkWel w (v - 1) (codeIndex code) units all) (Execute.checkWel v code s)
   unfolding checkWel Execute.checkWel welIndex
-  one w s code h = rw judged (go (status code (Term.serverAt (s .view) v)))
+  one w s code h = rw (ap (λ (n : ℕ). statusOf (codeIndex code) n all) held
+      ∙ ap (λ (n : ℕ). statusOf (codeIndex code) (Term.serverAt (s₀ .view) v .inUse) n) holds
+      ∙ status-is code _
+      ∙ ap (λ (x : State). status code (Term.serverAt (x .view) v)) (h .same)) (go (status code _))
     where
-      judged : statusOf (codeIndex code) units all ≡ status code (Term.serverAt (s .view) v)
-      judged =
-          ap (λ (n : ℕ). statusOf (codeIndex code) n all) held
-          ∙ ap (λ (n : ℕ). statusOf (codeIndex code) (Term.serverAt (s₀ .view) v .inUse) n) holds
-          ∙ status-is code (Term.serverAt (s₀ .view) v)
-          ∙ ap (λ (x : State). status code (Term.serverAt (x .view) v)) (h .same)
-
       go : (b : Bool) → Checked k o s₀ (cond b w (wakeFirst w (64 + ((v - 1) * 6 + codeIndex code)))) (cond b s (wakeFirstWel v code s))
       go true = h
       go false = woken-checked v code (low code) (there code) h

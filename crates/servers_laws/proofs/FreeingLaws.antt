@@ -1,25 +1,22 @@
 -- 5 RELEASE and 7 LEAVE do to the rows what the machine does to its state, the question asked first.
-use Rattle.machine.specs.All.{ℕ, _+_, _*_, _-_, _%_, _≤_, _≡_, refl, sym, ap, _∙_, Bool, true, false, cond, not, _||_, List, [], _∷_, none, arith, lt-ltb, le-ltb, leb-true, leb-false, ltb, leb, eqb, Rules, Transaction, bit, Server, free, storage, shareServer, shareUnits, Block, release, leave, BlockModel, blockAt, State, setMoving, qlOf, Parted, firstOf, wakeQl, unitsOf, unless, askHolder, question, partFor, wakeFor, Each}
+use Rattle.machine.specs.All.{ℕ, _*_, _-_, _%_, _≤_, _≡_, refl, ap, _∙_, Bool, true, false, cond, not, List, [], _∷_, none, arith, lt-ltb, le-ltb, leb-true, leb-false, ltb, leb, eqb, Transaction, bit, Server, free, storage, shareServer, shareUnits, Block, release, leave, BlockModel, blockAt, State, setMoving, qlOf, Parted, firstOf, wakeQl, unitsOf, unless, askHolder, question, partFor, wakeFor, Each}
 use Rattle.machine.specs.Term
 use Rattle.machine.specs.Moves as Moves
 use Rattle.machine.specs.Execute as Execute
-use Rattle.machine.proofs.decoding.Proper.{Proper, Names, Storage, servers}
-use Rattle.machine.proofs.runs.Placed.{Placed}
-use Rattle.machine.proofs.nobody_able.Waiting.{AtServer}
+use Rattle.machine.proofs.{decoding.Proper.Proper, decoding.Proper.servers, runs.Placed.Placed, runs.Shape.each-getD}
 use Rattle.machine.proofs.nobody_able.QueueRemove.{walk, walk-same, within, leftAfter, leave-walks, some-units}
-use Rattle.machine.proofs.runs.Shape.{each-getD}
 use Rattle.layout.specs.All.{blockForms, Represents}
 use Rattle.rows_laws.specs.All.{transactionAt}
 use Rattle.state.specs.declared.scalars.Scalars.{Scalars}
 use Rattle.state.specs.All.{behind, updateServer, rowsOf, Done, entering, bare, bareAnswer}
-use Rattle.moves.proofs.Before.{placeOf, bareBlock, Before}
-use Rattle.moves.specs.Motion.{stopped}
+use Rattle.moves.proofs.{Before.placeOf, Before.bareBlock, Before.Before, MotionLaws.number-read}
 use Rattle.moves.proofs.BeforeLaws.{next-low, proper-block, operand, stop-done, asked}
-use Rattle.moves.proofs.MotionLaws.{number-read}
-use Rattle.servers_laws.specs.{setUse, unitsAt, memberUnits, memberFits, leaveWith, takenOff, leftBehind, memberLeft, enterFreed, freeOne, freeSome, askRelease, releaseRows, leaveRows}
-use Rattle.servers_laws.proofs.Named.{units-of, named}
-use Rattle.servers_laws.proofs.Ready.{Ready, wakeQl-same, update-ready, update-current, set-ready, set-current, first-ready, passed-ready, ready-done}
-use Rattle.servers_laws.proofs.Standing.{high, units-are, holder-is, preempted-is, capacity-is, ready}
+use Rattle.moves.specs.Motion.{stopped}
+use Rattle.servers_laws.specs.{setUse, unitsAt, memberUnits, leaveWith, takenOff, leftBehind, enterFreed, freeOne, freeSome, askRelease, releaseRows, leaveRows}
+use Rattle.servers_laws.proofs as our
+use our.Named.{units-of, named}
+use our.Ready.{Ready, wakeQl-same, update-ready, update-current, set-ready, set-current, first-ready, passed-ready, ready-done}
+use our.Standing.{high, units-are, holder-is, preempted-is, capacity-is, ready}
 
 -- ---- The units of the block before which a transaction stands, as the tables have them
 
@@ -36,12 +33,12 @@ less edition units n t = leftBehind edition n (units t)
 
 less-is : (edition : ℕ) (units : Transaction → ℕ) (n : ℕ) (t : Transaction) → less edition units n t ≡ leftAfter (not (eqb edition 1)) units n t
 unfolding leftBehind takenOff
-less-is edition units n t = go (eqb edition 1) (leb (units t) n) refl
+less-is edition units n t = go (eqb edition 1) _ refl
   where
     go : (b fits : Bool) → leb (units t) n ≡ fits → cond b n (cond (ltb n (units t)) n (n - units t)) ≡ cond (not b) (cond fits (n - units t) n) n
     go true fits e = refl
-    go false true e = rw (le-ltb n (units t) (leb-true (units t) n e))
-    go false false e = rw (lt-ltb n (units t) (leb-false (units t) n e))
+    go false true e = rw (le-ltb n _ (leb-true _ n e))
+    go false false e = rw (lt-ltb n _ (leb-false _ n e))
 
 -- the walk by the tables is that by the model
 same-steps : {m : BlockModel} {tape : List (List ℕ)} {tapeBytes tables lists : List ℕ} → Proper m tape → Represents m tape tapeBytes tables lists → (l : List Transaction) → Each (Placed m) l
@@ -94,26 +91,18 @@ module _ {m : BlockModel} {tape : List (List ℕ)} {tapeBytes tables lists w tal
       same-part : part (qlOf s₁ v) ≡ partFor m (storage v n) (s₁ .view) (qlOf s₁ v)
       unfolding leaveWith part
       same-part =
-          walk-same _ _ _ _ left (qlOf s₁ v) (same-steps (h .proper) (h .rep) (qlOf s₁ v) members)
-          ∙ ap (λ (k : ℕ). walk (within (unitsOf m)) (leftAfter (not (eqb (m .edition) 1)) (unitsOf m)) (cond (eqb (m .edition) 1) k n) (qlOf s₁ v)) free-units
-          ∙ sym (leave-walks m (t .next) v n is one (s₁ .view) (qlOf s₁ v) (some-units (h .proper) v low (qlOf s₁ v) waiters))
+          cc (walk-same _ _ _ _ left (qlOf s₁ v) (same-steps (h .proper) (h .rep) (qlOf s₁ v) (unfold Moves.setUse in (each-getD _ (s .ql) _ [] (h .sane .placed .ql) tt))), free-units, leave-walks m (t .next) v n is one (s₁ .view) (qlOf s₁ v) (some-units (h .proper) v low (qlOf s₁ v) (unfold Moves.setUse in (h .sane .waits .queued .ql-stands v low))))
         where
           free-units : server .capacity - units ≡ free (Term.serverAt (s₁ .view) v)
           free-units = omega (arith, freed .held, freed .holds)
 
-          members : Each (Placed m) (qlOf s₁ v)
-          members = unfold Moves.setUse in (each-getD (Each (Placed m)) (s .ql) (v - 1) [] (h .sane .placed .ql) tt)
-
-          waiters : Each (AtServer m v) (qlOf s₁ v)
-          waiters = unfold Moves.setUse in (h .sane .waits .queued .ql-stands v low)
-
       some-done : Done tapeBytes (freeSome tables w tally x (v - 1) units n) (entering (Moves.goOn t (Execute.checkWels v (wakeFor m (storage v n) s₁))))
       unfolding freeSome enterFreed wakeFor shareServer part
       some-done =
-          rw (capacity-is h v low there, h .rep .edition, ← wakeQl-same part (partFor m (storage v n) (s₁ .view)) v s₁ same-part)
+          rw (capacity-is h v low there, h .rep .edition, ← wakeQl-same part _ v s₁ same-part)
           (ready-done
-          (passed-ready freed freed-now (memberFits tables) (memberLeft tables (m .edition)) (within (needs tables)) (less (m .edition) (needs tables))
-          (λ k u j. ap (λ (i : ℕ). leb i k) (units-row tables u j)) (λ k u j. ap (leftBehind (m .edition) k) (units-row tables u j)) left)
+          (passed-ready freed freed-now _ _ (within (needs tables)) (less _ (needs tables))
+          (λ k u j. cc (units-row tables u j)) (λ k u j. cc (units-row tables u j)) left)
           (next-low h))
 
 module _ {m : BlockModel} {tape : List (List ℕ)} {tapeBytes tables lists w tally : List ℕ} {x : Scalars} {t : Transaction} {s : State} {v : ℕ} where
@@ -122,38 +111,37 @@ module _ {m : BlockModel} {tape : List (List ℕ)} {tapeBytes tables lists w tal
       → askRelease (Term.serverAt (s .view) v .inUse) (bit (Term.serverAt (s .view) v .preempted)) (Term.serverAt (s .view) v .holder) (t .number) ≡ question m (release v) t s
   unfolding askRelease question askHolder shareServer shareUnits
   release-asked h =
-      go (leb 1 (server .inUse)) refl (server .preempted) (eqb (server .holder) (t .number))
-      ∙ ap (λ (q : Rules). unless (leb 1 (server .inUse)) 24 (unless (not (server .preempted)) 27 (unless (not (q .holders) || eqb (server .holder) (t .number)) 27 0))) (sym (h .sane .rules))
+      cc (go (leb 1 (server .inUse)) refl (server .preempted) (eqb (server .holder) (t .number)), h .sane .rules)
     where
       server : Server
       server = Term.serverAt (s .view) v
 
       go : (held : Bool) → leb 1 (server .inUse) ≡ held → (taken own : Bool) → cond (ltb (server .inUse) 1) 24 (cond (eqb (bit taken) 0) (cond own 0 27) 27) ≡ unless held 24 (unless (not taken) 27 (unless own 27 0))
-      go true e true own = rw (le-ltb (server .inUse) 1 (leb-true 1 (server .inUse) e))
-      go true e false true = rw (le-ltb (server .inUse) 1 (leb-true 1 (server .inUse) e))
-      go true e false false = rw (le-ltb (server .inUse) 1 (leb-true 1 (server .inUse) e))
-      go false e taken own = rw (lt-ltb (server .inUse) 1 (leb-false 1 (server .inUse) e))
+      go true e true own = rw (le-ltb _ 1 (leb-true 1 _ e))
+      go true e false true = rw (le-ltb _ 1 (leb-true 1 _ e))
+      go true e false false = rw (le-ltb _ 1 (leb-true 1 _ e))
+      go false e taken own = rw (lt-ltb _ 1 (leb-false 1 _ e))
 
   pub release-done : Before m tape tapeBytes tables lists w tally x t s (release v) → Done tapeBytes (releaseRows tables w tally x (placeOf t)) (bareBlock m (release v) t s)
   unfolding releaseRows bare wakeFor partFor blockForms shareServer shareUnits
   release-done h =
-      let proper : Names (m .facilities) v = proper-block h in
-      let there : v ≤ servers m = omega (arith, proper .1) in
-      rw (named tables (placeOf t + 1) v (high h v (proper .0) there) (proper .0) (operand h 1 (omega arith)), units-are h v (proper .0) there, preempted-is h v (proper .0) there, holder-is h v (proper .0) there, number-read (h .listing), release-asked h)
-      (asked h (question m (release v) t s) (freeOne tables w tally x (v - 1) (Term.serverAt (s .view) v .inUse - 1)) (λ e. one-done h v (proper .0) there (Term.serverAt (s .view) v .inUse - 1)))
+      let proper = proper-block h in
+      let there : v ≤ servers m = omega arith in
+      rw (named tables _ v (high h v (proper .0) there) (proper .0) (operand h 1 (omega arith)), units-are h v (proper .0) there, preempted-is h v (proper .0) there, holder-is h v (proper .0) there, number-read (h .listing), release-asked)
+      (asked h _ _ (λ e. one-done h v (proper .0) there _))
 
   pub leave-done : {n : ℕ} → Before m tape tapeBytes tables lists w tally x t s (leave v n) → Done tapeBytes (leaveRows tables w tally x (placeOf t)) (bareBlock m (leave v n) t s)
   unfolding leaveRows question askHolder bareAnswer bare blockForms shareServer shareUnits
   leave-done {n} h =
-      let proper : Storage m v = proper-block h .0 in
-      let low : 1 ≤ v = omega (arith, proper .0) in
-      rw (named tables (placeOf t + 1) v (high h v low (proper .1)) low (operand h 1 (omega arith)), operand h 2 (omega arith), units-are h v low (proper .1))
-      (go low (proper .1) (leb n (Term.serverAt (s .view) v .inUse)) refl)
+      let proper = proper-block h .0 in
+      let low : 1 ≤ v = omega arith in
+      rw (named tables _ v (high h v low (proper .1)) low (operand h 1 (omega arith)), operand h 2 (omega arith), units-are h v low (proper .1))
+      (go low (proper .1) _ refl)
     where
       -- "no" is end 24
       go : (low : 1 ≤ v) (there : v ≤ servers m) (held : Bool) → leb n (Term.serverAt (s .view) v .inUse) ≡ held
           → Done tapeBytes (cond (ltb (Term.serverAt (s .view) v .inUse) n) (rowsOf (stopped x 24) w tally) (freeSome tables w tally x (v - 1) (Term.serverAt (s .view) v .inUse - n) n)) (bareAnswer (unless held 24 0) m (leave v n) t s)
       go low there true e =
-          rw (le-ltb (Term.serverAt (s .view) v .inUse) n (leb-true n (Term.serverAt (s .view) v .inUse) e))
-          (some-done h v low there (Term.serverAt (s .view) v .inUse - n) n (h .is) (proper-block h .1 .0))
-      go low there false e = rw (lt-ltb (Term.serverAt (s .view) v .inUse) n (leb-false n (Term.serverAt (s .view) v .inUse) e)) (stop-done h 23)
+          rw (le-ltb _ n (leb-true n _ e))
+          (some-done h v low there _ n (h .is) (proper-block h .1 .0))
+      go low there false e = rw (lt-ltb _ n (leb-false n _ e)) (stop-done h 23)

@@ -2,8 +2,7 @@
 use Rattle.machine.specs.All.{ℕ, _+_, _-_, cond, List, ltb, eqb, getD, set}
 use Rattle.layout.specs.Layout as Layout
 use Rattle.rows_laws.specs.All.{head, numberField, read, wakeFirst, wakeWalk}
-use Rattle.state.specs.declared.scalars.Scalars.{Scalars}
-use Rattle.state.specs.All.{Rows, rowsOf}
+use Rattle.state.specs.{declared.scalars.Scalars.Scalars, All.Rows, All.rowsOf}
 use Rattle.moves.specs.Motion.{Moved, withTally, goOn, stopped}
 use Rattle.servers_laws.specs.Units.{serverAt, inUse, holder, preempted, changeUse, capacity}
 use Rattle.servers_laws.specs.Waking.{checkWels, shorter, memberFits, leaveWith, memberLeft, steps, wakeStays}

@@ -2,8 +2,7 @@
 use Rattle.machine.specs.All.{ℕ, _+_, _-_, min, cond, List, leb, getD, set}
 use Rattle.layout.specs.Layout as Layout
 use Rattle.rows_laws.specs.All.{numberField, read, keepHolder}
-use Rattle.state.specs.declared.scalars.Scalars.{Scalars}
-use Rattle.state.specs.All.{updateServer, Rows}
+use Rattle.state.specs.{declared.scalars.Scalars.Scalars, All.updateServer, All.Rows}
 use Rattle.moves.specs.Motion.{withTally, goOn, waitOn}
 use Rattle.servers_laws.specs.Units.{serverAt, inUse, changeUse, capacity}
 use Rattle.servers_laws.specs.Waking.{checkWels}

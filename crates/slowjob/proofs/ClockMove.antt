@@ -1,8 +1,9 @@
 -- A clock move keeps the line: REL is empty, so nobody stands before a block, and an idle facility has nobody waiting.
 use Rattle.machine.specs.All.{ℕ, _+_, _-_, _≤_, _≡_, refl, sym, ap, subst, _∙_, List, [], _∷_, Option, arith, getD, Transaction, Event, those, others, Server, idleServer, BlockModel, State, setClock, setView, setFel, setRel, setSerial, sampleServers, sample, due, moveClock, nextEvents}
 use Rattle.machine.proofs.lists.Sums.{sumOn}
-use Rattle.slowjob.proofs.Events.{at, Pending, Step, absent, stays, falls-due, Moved, moved, Arrival, arrive}
-use Rattle.slowjob.proofs.Line.{Coming, nobody, later, here-now, Serving, idle, seized, busy, done, Line}
+use Rattle.slowjob.proofs as our
+use our.Events.{at, Pending, Step, absent, stays, falls-due, Moved, moved, Arrival, arrive}
+use our.Line.{Coming, nobody, later, here-now, Serving, idle, seized, busy, done, Line}
 
 -- statistics leave the units in use
 sampled-use : (ticks : ℕ) (l : List Server) (ql : List (List Transaction)) → getD (sampleServers ticks l ql) 0 (idleServer 0) .inUse ≡ getD l 0 (idleServer 0) .inUse
@@ -39,8 +40,7 @@ module _ (m : BlockModel) (arrivals services : List ℕ) where
       let time : ℕ = e .time in
       let base : State = setFel (others (due time) (s .fel)) (setView (setClock time (sample (time - s .view .clock) s .view)) s) in
       let x : Moved (s .view .clock) time (those (due time) (s .fel)) (others (due time) (s .fel)) (h .next-arrival) (h .next-service) =
-      subst (λ f. Moved (s .view .clock) time (those (due time) f) (others (due time) f) (h .next-arrival) (h .next-service)) (sym is)
-      (moved (subst (λ f. Pending (s .view .clock) f (h .next-arrival) (h .next-service)) is (h .pending))) in
+      rw is (moved (subst (λ f. Pending (s .view .clock) f (h .next-arrival) (h .next-service)) is (h .pending))) in
       let y : Arrival (those (due time) (s .fel)) base = arrive (those (due time) (s .fel)) base in
       let none-at : (n : ℕ) → sumOn (at n) (s .rel) ≡ 0 = λ n. ap (sumOn (at n)) empty in
       let now : Line m arrivals services 0 (setRel (y .rel) (setSerial (y .serial) base)) =
@@ -71,4 +71,4 @@ module _ (m : BlockModel) (arrivals services : List ℕ) where
 pub moving-next : (l : List Event) (s : State) → nextEvents l s .moving ≡ s .moving
 unfolding nextEvents moveClock
 moving-next [] s = refl
-moving-next (e ∷ l) s = ap (λ x. x .moving) (arrive (those (due (e .time)) (s .fel)) _ .is)
+moving-next (e ∷ l) s = ap (λ x. x .moving) (arrive _ _ .is)

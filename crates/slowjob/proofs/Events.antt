@@ -1,9 +1,7 @@
 -- The FEL of the program: at most the one who comes next, before GENERATE, and the one who is served, before RELEASE; and what a clock
 -- move takes from it.
 use Rattle.machine.specs.All.{cases, ℕ, _+_, _*_, _≤_, _≡_, refl, sym, ap, subst, false, List, [], _∷_, Option, none, some, arith, eqb-true, eq-eqb, eqb, Transaction, Event, precedes, earlier, insert, those, others, bit, State, withReturning, withSerial, setRel, setSerial, fresh, toRel, arriveAll, due, Each}
-use Rattle.machine.proofs.runs.RunLaws.{cond-cases}
-use Rattle.machine.proofs.lists.Sorted.{each-insert, earlier-time, later-time}
-use Rattle.machine.proofs.lists.Sums.{sumOn, sum-insert}
+use Rattle.machine.proofs.{runs.RunLaws.cond-cases, lists.Sorted.each-insert, lists.Sorted.earlier-time, lists.Sorted.later-time, lists.Sums.sumOn, lists.Sums.sum-insert}
 
 -- ---- Where somebody stands
 
@@ -38,7 +36,7 @@ module _ {low : ℕ} where
   unfolding insert
   insert-coming neither e n le = coming e n le
   insert-coming (served f k lf) e n le =
-      cond-cases (λ l. Pending low l (some (e .time)) (some (f .time))) (earlier e f) _ _
+      cond-cases (λ l. Pending low l (some (e .time)) (some (f .time))) _ _ _
       (λ b. coming-first e f n k le (earlier-time e f b)) (λ b. served-first f e k n lf (later-time e f b))
 
   pub insert-served : {l : List Event} {o : Option ℕ} → Pending low l o none → (e : Event) → e .who .next ≡ 4 → low ≤ e .time
@@ -46,7 +44,7 @@ module _ {low : ℕ} where
   unfolding insert
   insert-served neither e n le = served e n le
   insert-served (coming f k lf) e n le =
-      cond-cases (λ l. Pending low l (some (f .time)) (some (e .time))) (earlier e f) _ _
+      cond-cases (λ l. Pending low l (some (f .time)) (some (e .time))) _ _ _
       (λ b. served-first e f n k le (earlier-time e f b)) (λ b. coming-first f e k n lf (later-time e f b))
 
 -- ---- A clock move to the first time
@@ -74,21 +72,21 @@ pub moved : {low : ℕ} {e : Event} {l : List Event} {o p : Option ℕ} → Pend
     → Moved low (e .time) (those (due (e .time)) (e ∷ l)) (others (due (e .time)) (e ∷ l)) o p
 unfolding those due
 moved (coming e n le) =
-    rw (eq-eqb (e .time) (e .time) refl)
+    rw eq-eqb
     (record {
       ahead = le;
       o′ = none;
       p′ = none;
       one = 1;
       four = 0;
-      coming = falls-due (e .time) refl;
+      coming = falls-due _ refl;
       serving = absent;
       rest = neither;
       counts = λ j. omega (arith, ap (λ i. bit (eqb i j)) n);
-      ready = (subst Ready (sym n) generates, tt);
+      ready = (rw n generates, tt);
     })
 moved (served e n le) =
-    rw (eq-eqb (e .time) (e .time) refl)
+    rw eq-eqb
     (record {
       ahead = le;
       o′ = none;
@@ -96,10 +94,10 @@ moved (served e n le) =
       one = 0;
       four = 1;
       coming = absent;
-      serving = falls-due (e .time) refl;
+      serving = falls-due _ refl;
       rest = neither;
       counts = λ j. omega (arith, ap (λ i. bit (eqb i j)) n);
-      ready = (subst Ready (sym n) releases, tt);
+      ready = (rw n releases, tt);
     })
 moved {low} (coming-first e f n k le ef) = rw (eq-eqb (e .time) (e .time) refl) (cases (eqb (f .time) (e .time)) (λ b. rw b (record {
   ahead = le;
@@ -115,14 +113,14 @@ moved {low} (coming-first e f n k le ef) = rw (eq-eqb (e .time) (e .time) refl) 
 })) (λ b. rw b (record {
   ahead = le;
   o′ = none;
-  p′ = some (f .time);
+  p′ = some _;
   one = 1;
   four = 0;
-  coming = falls-due (e .time) refl;
-  serving = stays (f .time);
+  coming = falls-due _ refl;
+  serving = stays _;
   rest = served f k ef;
   counts = λ j. omega (arith, ap (λ i. bit (eqb i j)) n);
-  ready = (subst Ready (sym n) generates, tt);
+  ready = (rw n generates, tt);
 })))
 moved {low} (served-first e f n k le ef) = rw (eq-eqb (e .time) (e .time) refl) (cases (eqb (f .time) (e .time)) (λ b. rw b (record {
   ahead = le;
@@ -137,15 +135,15 @@ moved {low} (served-first e f n k le ef) = rw (eq-eqb (e .time) (e .time) refl) 
   ready = (subst Ready (sym n) releases, (subst Ready (sym k) generates, tt));
 })) (λ b. rw b (record {
   ahead = le;
-  o′ = some (f .time);
+  o′ = some _;
   p′ = none;
   one = 0;
   four = 1;
-  coming = stays (f .time);
-  serving = falls-due (e .time) refl;
+  coming = stays _;
+  serving = falls-due _ refl;
   rest = coming f k ef;
   counts = λ j. omega (arith, ap (λ i. bit (eqb i j)) n);
-  ready = (subst Ready (sym n) releases, tt);
+  ready = (rw n releases, tt);
 })))
 
 -- ---- Onto REL
@@ -162,12 +160,12 @@ pub arrive : (l : List Event) (s : State) → Arrival l s
 unfolding arriveAll toRel
 arrive [] s = record { rel = s .rel; serial = s .serial; is = refl; sums = λ n. omega arith; ready = λ h k. k }
 arrive (e ∷ l) s =
-    let who : Transaction = withSerial (fresh s) (withReturning false (e .who)) in
-    let h = arrive l (toRel (withReturning false (e .who)) s) in
+    let who = withSerial (fresh s) (withReturning false (e .who)) in
+    let h = arrive l _ in
     record {
       rel = h .rel;
       serial = h .serial;
       is = h .is;
       sums = λ n. omega (arith, h .sums n, sum-insert (at n) precedes who (s .rel));
-      ready = λ a b. h .ready (a .1) (each-insert (λ (t : Transaction). Ready (t .next)) precedes who (s .rel) (a .0) b);
+      ready = λ a b. h .ready (a .1) (each-insert (λ (t : Transaction). Ready _) precedes who _ (a .0) b);
     }

@@ -1,9 +1,7 @@
 -- The line of jobs: what holds in every state of a run of the program. It speaks of how many stand before each block, and never of who they
 -- are or of their order; so a tie may be broken either way.
-use Rattle.machine.specs.All.{ℕ, zero, suc, _+_, _≤_, _<_, max, _≡_, refl, sym, ap, subst, subst₂, _∙_, Bool, List, [], _∷_, _++_, map, reverse, Option, none, some, arith, eqb, length, getD, set, take, drop, Transaction, Event, bit, those, others, idleServer, Code, welIndex, BlockModel, State, Logged, setRel, setWel, setWsl, qlOf, welOf, timesLeft, wake, wakeFirstWel, wakeWsl, checkWels, Each}
-use Rattle.machine.proofs.lists.Cases.{checkWels-kept}
-use Rattle.machine.proofs.runs.Shape.{each-set, each-getD}
-use Rattle.machine.proofs.lists.Sums.{sumOn}
+use Rattle.machine.specs.All.{ℕ, zero, suc, _+_, _≤_, _<_, max, _≡_, refl, ap, subst, subst₂, Bool, List, [], _∷_, _++_, map, reverse, Option, none, some, arith, eqb, length, getD, set, drop, Transaction, Event, bit, those, idleServer, Code, welIndex, BlockModel, State, Logged, setRel, setWel, setWsl, qlOf, timesLeft, wake, wakeFirstWel, wakeWsl, checkWels, Each}
+use Rattle.machine.proofs.{lists.Cases.checkWels-kept, runs.Shape.each-set, runs.Shape.each-getD, lists.Sums.sumOn}
 use Rattle.slowjob.specs.{ends, comes, leaves}
 use Rattle.slowjob.proofs.Events.{at, AllReady, Pending}
 
@@ -108,18 +106,16 @@ module _ (m : BlockModel) (arrivals services : List ℕ) where
   line-wel : (b v : ℕ) (code : Code) (s : State) → Line b s → Line b (wakeFirstWel v code s)
   unfolding wakeFirstWel wake
   line-wel b v code s h =
-      let empty : welOf s v code ≡ [] = each-getD Nobody (s .wel) (welIndex v code) [] (h .lists .no-wel) refl in
-      subst (λ l. Line b (setWel (set (s .wel) (welIndex v code) (drop 1 l)) (setRel (wake (take 1 l) (s .rel)) s))) (sym empty)
-      (with-wel s (set (s .wel) (welIndex v code) []) (each-set Nobody (s .wel) (welIndex v code) [] (h .lists .no-wel) refl) h)
+      let empty = each-getD Nobody (s .wel) (welIndex v code) [] (h .lists .no-wel) refl in
+      rw empty (with-wel s (set (s .wel) (welIndex v code) []) (each-set Nobody (s .wel) (welIndex v code) [] (h .lists .no-wel) refl) h)
 
   pub line-wels : (b v : ℕ) (s : State) → Line b s → Line b (checkWels v s)
-  line-wels b v s h = checkWels-kept (Line b) v (λ code s k. line-wel b v code s k) s h
+  line-wels b v s h = checkWels-kept _ v (λ code s k. line-wel b v code s k) s h
 
   pub line-wsl : (b : ℕ) (p : Transaction → Bool) (s : State) → Line b s → Line b (wakeWsl p s)
   unfolding wakeWsl wake those
   line-wsl b p s h =
-      subst (λ l. Line b (setWsl (others p l) (setRel (wake (those p l) (s .rel)) s))) (sym (h .lists .no-wsl))
-      (subst (λ l. Line b (setWsl l s)) (h .lists .no-wsl) h)
+      rw (h .lists .no-wsl) (subst (λ l. Line b (setWsl l s)) (h .lists .no-wsl) h)
 
   -- ---- Taking
 
@@ -133,16 +129,16 @@ module _ (m : BlockModel) (arrivals services : List ℕ) where
         over = h .over;
         next-arrival = h .next-arrival;
         next-service = h .next-service;
-        lists = record { ready = subst AllReady e (h .lists .ready) .1; queued = h .lists .queued; no-wel = h .lists .no-wel; no-wsl = h .lists .no-wsl };
+        lists = record { ready = rw e at (h .lists .ready) .1; queued = h .lists .queued; no-wel = h .lists .no-wel; no-wsl = h .lists .no-wsl };
         pending = h .pending;
-        coming = subst (λ x. Coming arrivals services (s .view .clock) (h .arrived) x (timesLeft s 1) (h .next-arrival)) (same 1) (h .coming);
+        coming = rw (same 1) at (h .coming);
         serving =
             subst₂ (λ x y. Serving arrivals services (s .view .clock) (h .arrived) (h .begun) (h .over) x (bit (eqb n 3)) y (length (qlOf s 1)) (used s) (timesLeft s 2) (h .next-service))
             (same 2) (same 4)
-            (subst (λ x. Serving arrivals services (s .view .clock) (h .arrived) (h .begun) (h .over) (before 2 0 (s .rel)) x (before 4 0 (s .rel)) (length (qlOf s 1)) (used s) (timesLeft s 2) (h .next-service)) three (h .serving));
-        between = h .between ∙ ap (λ x. h .begun + length (qlOf s 1) + x) (same 2);
+            (rw (← three) (h .serving));
+        between = cc (h .between, same 2);
         past = h .past;
-        gone = subst (λ x. Gone x (s .view .clock) (h .over) (s .records)) five (h .gone);
+        gone = rw five at (h .gone);
       }
     where
       same : (j : ℕ) → sumOn (at j) (s .rel) + 0 ≡ before j n l

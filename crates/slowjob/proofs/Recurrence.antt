@@ -1,5 +1,5 @@
 -- One service time raised by d: of the recurrence, each end is no earlier and at most d later, and how that fades.
-use Rattle.machine.specs.All.{cases, ℕ, zero, suc, _+_, _≤_, _≡_, refl, ap, List, [], _∷_, arith, eqb-true, eqb-false, eqb, getD}
+use Rattle.machine.specs.All.{cases, ℕ, zero, suc, _+_, _≤_, _≡_, refl, List, [], _∷_, arith, eqb-true, eqb-false, getD}
 use Rattle.slowjob.specs.{raised, leaves, Fades}
 
 abbrev Within : (d before after : ℕ) → Type 0
@@ -12,7 +12,7 @@ raised-other [] i d k ne = refl
 raised-other (x ∷ l) zero d zero ne = absurd (ne refl)
 raised-other (x ∷ l) zero d (suc k) ne = refl
 raised-other (x ∷ l) (suc i) d zero ne = refl
-raised-other (x ∷ l) (suc i) d (suc k) ne = raised-other l i d k (λ e. ne (ap suc e))
+raised-other (x ∷ l) (suc i) d (suc k) ne = raised-other l i d k (λ e. ne (cc e))
 
 raised-most : (l : List ℕ) (i d : ℕ) → Within d (getD l i 0) (getD (raised i d l) i 0)
 unfolding raised
@@ -32,13 +32,13 @@ module _ (arrivals services : List ℕ) (i d : ℕ) where
   unfolding leaves
   reach zero = (λ le. refl, (omega arith, omega arith))
   reach (suc k) =
-      cases (eqb k i)
+      cases _
       (λ e. let at : k ≡ i = eqb-true _ _ e in
-      let same : after k ≡ before k = (reach k) .0 (omega arith) in
+      let same = (reach k) .0 (omega arith) in
       let time : Within d (getD services k 0) (getD (raised i d services) k 0) = rw at (raised-most services i d) in
-      (λ le. absurd (omega arith), (omega (arith, time), omega (arith, time))))
-      (λ e. let same : getD (raised i d services) k 0 ≡ getD services k 0 = raised-other services i d k (eqb-false _ _ e) in
-      (λ le. let equal : after k ≡ before k = (reach k) .0 (omega arith) in omega arith, (omega (arith, (reach k) .1), omega (arith, (reach k) .1))))
+      (λ le. absurd (omega arith), (omega arith, omega arith)))
+      (λ e. let same = raised-other services i d k (eqb-false _ _ e) in
+      (λ le. let equal = (reach k) .0 (omega arith) in omega arith, (omega (arith, (reach k) .1), omega (arith, (reach k) .1))))
 
   pub leaves-late : (k : ℕ) → Within d (before k) (after k)
   leaves-late k = reach k .1

@@ -1,15 +1,12 @@
 -- Document 02, item 14: the k-th end of every run is that of the recurrence, so that one slow job delays no end by more than its own delay.
-use Rattle.machine.specs.All.{cases, ℕ, zero, suc, _<_, _≡_, refl, ap, subst, subst₂, _∙_, List, [], _∷_, arith, ltb-true, ltb-false, ltb, length, getD, length-append, List·getD-append, getD-append-seam, terminate, BlockModel, nth, Rules, inForce, Record, run, accept, validate, recordsOf, acceptedRun, outcomeOf, outcome}
-use Rattle.machine.proofs.decoding.Proper.{Proper, ProperBlock}
+use Rattle.machine.specs.All.{cases, ℕ, zero, suc, _<_, _≡_, refl, ap, subst₂, _∙_, List, [], _∷_, arith, ltb-true, ltb-false, length, getD, length-append, List·getD-append, getD-append-seam, BlockModel, Rules, inForce, Record, run, accept, validate, recordsOf, acceptedRun, outcomeOf, outcome}
 use Rattle.machine.proofs.decoding.ProperFrom.{proper-from, rules-from}
 use Rattle.trace.specs.Whole.{Reads}
 use Rattle.trace.proofs.RoundTrip.{reads-once}
 use Rattle.columns_laws.proofs.Runs.{run-taken}
-use Rattle.slowjob.specs.{jobs, JobLine, raised, ends, endsOf, Delayed, SlowJobBytes, SlowJobRead, leaves, EachEnd}
+use Rattle.slowjob.specs.{jobs, JobLine, ends, endsOf, Delayed, SlowJobBytes, SlowJobRead, leaves, EachEnd}
 use Rattle.slowjob.specs.SlowJob.{SlowJob}
-use Rattle.slowjob.proofs.Recurrence.{leaves-late}
-use Rattle.slowjob.proofs.Line.{firsts}
-use Rattle.slowjob.proofs.Turns.{run-sound}
+use Rattle.slowjob.proofs.{Recurrence.leaves-late, Line.firsts, Turns.run-sound}
 
 -- ---- The first ends
 
@@ -21,12 +18,11 @@ module _ (arrivals services : List ℕ) where
   firsts-at : (n k : ℕ) → k < n → getD (firsts arrivals services n) k 0 ≡ leaves arrivals services (suc k)
   firsts-at zero k lt = absurd (omega arith)
   firsts-at (suc n) k lt =
-      cases (ltb k n)
-      (λ e. List·getD-append (firsts arrivals services n) (leaves arrivals services (suc n) ∷ []) 0 k (omega (arith, firsts-length n, ltb-true k n e)) ∙ (firsts-at n k) (ltb-true k n e))
+      cases _
+      (λ e. List·getD-append (firsts arrivals services n) _ 0 k (omega (arith, firsts-length n, ltb-true k n e)) ∙ (firsts-at n k) (ltb-true k n e))
       (λ e. let last : k ≡ length (firsts arrivals services n) = omega (arith, firsts-length n, ltb-false k n e) in
       let same : n ≡ k = omega (arith, firsts-length n) in
-      ap (λ i. getD (firsts arrivals services (suc n)) i 0) last ∙ getD-append-seam (firsts arrivals services n) (leaves arrivals services (suc n)) [] 0
-      ∙ ap (λ i. leaves arrivals services (suc i)) same)
+      cc (last, getD-append-seam (firsts arrivals services n) (leaves arrivals services (suc n)) [] 0, same))
 
 -- ---- Each end
 
@@ -41,7 +37,7 @@ run-ends m others line arrivals services budget room =
 pub each-end : EachEnd
 each-end m others line arrivals services budget room k lt =
     let x = run-ends m others line arrivals services budget room in
-    ap (λ l. getD l k 0) (x .1) ∙ firsts-at arrivals services (x .0) k (omega (arith, ap length (x .1), firsts-length arrivals services (x .0)))
+    cc (x .1, firsts-at arrivals services (x .0) k (omega (arith, ap length (x .1), firsts-length arrivals services (x .0))))
 
 -- ---- One slow job
 
@@ -49,8 +45,8 @@ pub slow-job : SlowJob
 slow-job m others line arrivals services i d budget room budget′ room′ k lt lt′ =
     let late = leaves-late arrivals services i d (suc k) in
     let before = each-end m others line arrivals services budget room k lt in
-    let after = each-end m others line arrivals (raised i d services) budget′ room′ k lt′ in
-    record { no-earlier = omega (arith, before, after, late); at-most = omega (arith, before, after, late) }
+    let after = each-end m others line arrivals _ budget′ room′ k lt′ in
+    record { no-earlier = omega arith; at-most = omega arith }
 
 -- ---- From bytes
 
@@ -58,11 +54,11 @@ slow-job m others line arrivals services i d budget room budget′ room′ k lt 
 accepted-line : (rules : Rules) (model tape : List ℕ) (work report : ℕ) (m : BlockModel) (arrivals services : List ℕ) (others : List (List ℕ))
     → validate rules model tape work report ≡ accept m (arrivals ∷ services ∷ others) → m .blocks ≡ jobs → JobLine m others
 accepted-line rules model tape work report m arrivals services others ok program =
-    let proper : Proper m (arrivals ∷ services ∷ others) = proper-from rules model tape work report ok in
+    let proper = proper-from rules model tape work report ok in
     record {
       program = program;
-      facility = subst (λ l. ProperBlock m (nth l 2 (terminate 0))) program (proper .block 2) .1;
-      lists = omega (arith, proper .tapes);
+      facility = rw program at (proper .block 2) .1;
+      lists = omega arith;
     }
 
 pub slow-job-bytes : SlowJobBytes
@@ -71,7 +67,7 @@ slow-job-bytes rules model tape tape′ work report work′ report′ m arrivals
     record {
       records = recordsOf (run m (arrivals ∷ services ∷ others) budget room);
       bytes = ap (λ v. outcomeOf budget room v .trace) ok;
-      records′ = recordsOf (run m (arrivals ∷ raised i d services ∷ others) budget′ room′);
+      records′ = recordsOf _;
       bytes′ = ap (λ v. outcomeOf budget′ room′ v .trace) ok′;
       delayed =
           slow-job m others (accepted-line rules model tape work report m arrivals services others ok program) arrivals services i d budget room budget′ room′;
@@ -85,7 +81,7 @@ read-records : (model tape : List ℕ) (work report : ℕ) (m : BlockModel) (tim
 unfolding outcome outcomeOf acceptedRun
 read-records model tape work report m times ok budget room l reads =
     reads-once (run-taken (proper-from inForce model tape work report ok) (rules-from inForce model tape work report ok) budget room .whole)
-    (subst (λ v. Reads (outcomeOf budget room v .trace) 0 l) ok reads)
+    (rw ok at reads)
 
 pub slow-job-read : SlowJobRead
 slow-job-read model tape tape′ work report work′ report′ m arrivals services others i d ok ok′ program budget room budget′ room′ l l′ reads reads′ =

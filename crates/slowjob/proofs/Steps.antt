@@ -1,18 +1,17 @@
 -- What each block of the program does to the line.
-use Rattle.machine.specs.All.{cases, ℕ, zero, suc, _+_, _≤_, _<_, max, _≡_, refl, sym, ap, subst, _∙_, Bool, true, cond, List, [], _∷_, _++_, map, reverse, reverse-cons, append-nil, Option, none, some, arith, ltb-true, ltb-false, eqb, ltb, length, getD, take, drop, Transaction, Event, precedes, earlier, insert, those, bit, withReturning, facts, BlockModel, blockAt, Record, Logged, lineUp, wake, Each}
-use Rattle.machine.proofs.lists.Sorted.{each-insert}
-use Rattle.machine.proofs.lists.Lines.{sum-lineUp, each-lineUp}
-use Rattle.machine.proofs.lists.Sums.{sumOn, sum-insert, sum-length}
+use Rattle.machine.specs.All.{cases, ℕ, zero, suc, _+_, _≤_, _<_, max, _≡_, refl, ap, subst, _∙_, Bool, true, cond, List, [], _∷_, _++_, map, reverse, reverse-cons, append-nil, Option, none, some, arith, ltb-true, ltb-false, eqb, length, getD, take, drop, Transaction, Event, precedes, earlier, insert, those, bit, withReturning, facts, BlockModel, blockAt, Record, Logged, lineUp, wake, Each}
+use Rattle.machine.proofs.{lists.Sorted.each-insert, lists.Lines.sum-lineUp, lists.Lines.each-lineUp, lists.Sums.sumOn, lists.Sums.sum-insert, lists.Sums.sum-length}
 use Rattle.slowjob.specs.{ends, comes, leaves}
-use Rattle.slowjob.proofs.Events.{at, Ready, seizes, Pending, insert-coming, insert-served}
-use Rattle.slowjob.proofs.Line.{Seeking, firsts, Coming, nobody, later, here-now, Serving, idle, seized, busy, done, before, Gone, Lined}
+use Rattle.slowjob.proofs as our
+use our.Events.{at, Ready, seizes, Pending, insert-coming, insert-served}
+use our.Line.{Seeking, Coming, nobody, later, here-now, Serving, idle, seized, busy, done, before, Gone, Lined}
 
 -- ---- Times used up in order
 
 pub drop-step : (l : List ℕ) (k x : ℕ) (rest : List ℕ) → x ∷ rest ≡ drop k l → (x ≡ getD l k 0) × (rest ≡ drop (suc k) l)
 drop-step [] zero x rest e = absurd (omega (arith, ap length e))
 drop-step [] (suc k) x rest e = absurd (omega (arith, ap length e))
-drop-step (y ∷ l) zero x rest e = (ap (λ l. getD l 0 0) e, ap (drop 1) e)
+drop-step (y ∷ l) zero x rest e = (cc e, cc e)
 drop-step (y ∷ l) (suc k) x rest e = drop-step l k x rest e
 
 module _ (m : BlockModel) where
@@ -24,28 +23,27 @@ module _ (m : BlockModel) where
   those-end : (l : List Record) (r : Record) → those terminating (l ++ (r ∷ [])) ≡ those terminating l ++ cond (terminating r) (r ∷ []) []
   unfolding those
   those-end [] r = refl
-  those-end (x ∷ l) r = cases (terminating x) (λ z. rw z (ap (λ k. x ∷ k) (those-end l r))) (λ z. rw z (those-end l r))
+  those-end (x ∷ l) r = cases (terminating x) (λ z. rw z (cc (those-end l r))) (λ z. rw z (those-end l r))
 
   map-end : {A B : Type 0} (f : A → B) (k l : List A) → map f (k ++ l) ≡ map f k ++ map f l
   map-end f [] l = refl
-  map-end f (x ∷ k) l = ap (λ r. f x ∷ r) (map-end f k l)
+  map-end f (x ∷ k) l = cc (map-end f k l)
 
   ends-more : (r : Logged) (l : List Logged) → ends m (map (λ r. r .entry) (reverse (r ∷ l)))
       ≡ ends m (map (λ r. r .entry) (reverse l)) ++ map (λ r. r .clock) (cond (terminating (r .entry)) (r .entry ∷ []) [])
   unfolding ends
   ends-more r l =
-      ap (λ k. map (λ r. r .clock) (those terminating k)) (ap (map (λ r. r .entry)) (reverse-cons r l) ∙ map-end (λ r. r .entry) (reverse l) (r ∷ []))
-      ∙ ap (map (λ r. r .clock)) (those-end (map (λ r. r .entry) (reverse l)) (r .entry)) ∙ map-end (λ (r : Record). r .clock) (those terminating (map (λ r. r .entry) (reverse l))) (cond (terminating (r .entry)) (r .entry ∷ []) [])
+      cc (reverse-cons r l, map-end (λ r. r .entry) (reverse l) (r ∷ []), those-end (map (λ r. r .entry) (reverse l)) (r .entry), map-end (λ (r : Record). r .clock) (those terminating (map (λ r. r .entry) (reverse l))) (cond (terminating (r .entry)) (r .entry ∷ []) []))
 
   ends-same : (r : Logged) (l : List Logged) → facts (blockAt m (r .entry .block)) .terminates ≡ 0
       → ends m (map (λ r. r .entry) (reverse (r ∷ l))) ≡ ends m (map (λ r. r .entry) (reverse l))
   ends-same r l e =
-      ends-more r l ∙ ap (λ n. ends m (map (λ r. r .entry) (reverse l)) ++ map (λ r. r .clock) (cond (eqb n 1) (r .entry ∷ []) [])) e ∙ append-nil _
+      cc (ends-more r l, e, append-nil _)
 
   ends-one : (r : Logged) (l : List Logged) → facts (blockAt m (r .entry .block)) .terminates ≡ 1
       → ends m (map (λ r. r .entry) (reverse (r ∷ l))) ≡ ends m (map (λ r. r .entry) (reverse l)) ++ (r .entry .clock ∷ [])
   ends-one r l e =
-      ends-more r l ∙ ap (λ n. ends m (map (λ r. r .entry) (reverse l)) ++ map (λ r. r .clock) (cond (eqb n 1) (r .entry ∷ []) [])) e
+      cc (ends-more r l, e)
 
 -- ---- Clocks of the recurrence
 
@@ -54,7 +52,7 @@ unfolding comes
 comes-mono arrivals zero zero le = omega arith
 comes-mono arrivals (suc j) zero le = absurd (omega arith)
 comes-mono arrivals j (suc k) le =
-    cases (ltb k j)
+    cases _
     (λ e. let same : j ≡ suc k = omega (arith, ltb-true k j e) in omega (arith, ap (comes arrivals) same))
     (λ e. omega (arith, (comes-mono arrivals j k) (ltb-false k j e)))
 
@@ -109,7 +107,7 @@ module _ (arrivals services : List ℕ) where
         → Serving arrivals services clock arrived begun over two three four queued inUse times o
         → Serving arrivals services clock (suc arrived) begun over two′ three four queued inUse times o
     serving-come some-two now between (idle u e3 e4 all l since next woken) =
-        idle u e3 e4 all l since (λ lt. cases (ltb begun arrived) (λ e. next (ltb-true _ _ e)) (λ e. let same : begun ≡ arrived = omega (arith, ltb-false begun arrived e) in
+        idle u e3 e4 all l since (λ lt. cases _ (λ e. next (ltb-true _ _ e)) (λ e. let same : begun ≡ arrived = omega (arith, ltb-false begun arrived e) in
         omega (arith, ap (λ n. comes arrivals (suc n)) same))) (λ p. some-two)
     serving-come some-two now between (seized u e3 e4 one l then) = seized u e3 e4 one l then
     serving-come some-two now between (busy t u e3 e4 one l is) = busy t u e3 e4 one l is
@@ -119,8 +117,8 @@ module _ (arrivals services : List ℕ) where
     serving-seized : {two′ : ℕ} {o : Option ℕ} → inUse ≡ 0 → begun < arrived → Serving arrivals services clock arrived begun over two three four queued inUse times o
         → Serving arrivals services clock arrived (suc begun) over two′ 1 four queued 1 times o
     serving-seized free some-came (idle u e3 e4 all l since next woken) =
-        seized refl refl e4 (ap suc all) (l ∙ ap (λ k. drop k services) all)
-        (next some-came ∙ ap (λ k. max (comes arrivals (suc begun)) (leaves arrivals services k)) all)
+        seized refl refl e4 (cc all) (cc (l, all))
+        (cc (next some-came, all))
     serving-seized free some-came (seized u e3 e4 one l now) = absurd (omega arith)
     serving-seized free some-came (busy t u e3 e4 one l is) = absurd (omega arith)
     serving-seized free some-came (done u e3 e4 one l now) = absurd (omega arith)
@@ -142,17 +140,17 @@ module _ (m : BlockModel) (arrivals services : List ℕ) {clock inUse : ℕ} {re
   lined-spent h =
       let x = is-here arrivals services (omega arith) (h .coming) in
       record {
-        arrived = suc (h .arrived);
+        arrived = suc _;
         begun = h .begun;
         over = h .over;
         next-arrival = none;
         next-service = h .next-service;
         lists = h .lists;
-        pending = subst (λ o. Pending clock fel o (h .next-service)) (x .absent) (h .pending);
-        coming = nobody (omega (arith, x .single));
+        pending = rw (x .absent) at (h .pending);
+        coming = nobody (omega arith);
         serving = serving-come arrivals services (omega arith) (x .now) (h .between) (h .serving);
-        between = omega (arith, h .between);
-        past = omega (arith, x .now);
+        between = omega arith;
+        past = omega arith;
         gone = h .gone;
       }
 
@@ -168,15 +166,15 @@ module _ (m : BlockModel) (arrivals services : List ℕ) {clock inUse : ℕ} {re
         arrived = suc (h .arrived);
         begun = h .begun;
         over = h .over;
-        next-arrival = some (clock + time);
+        next-arrival = some _;
         next-service = h .next-service;
         lists = h .lists;
         pending =
-            insert-coming (subst (λ o. Pending clock fel o (h .next-service)) (x .absent) (h .pending)) (record { time = clock + time; who = who }) n (omega arith);
-        coming = later (clock + time) (omega (arith, x .single)) (omega (arith, x .now, d .0)) (d .1);
+            insert-coming (rw (x .absent) at (h .pending)) (record { time = clock + time; who = who }) n (omega arith);
+        coming = later (clock + time) (omega arith) (omega arith) (d .1);
         serving = serving-come arrivals services (omega arith) (x .now) (h .between) (h .serving);
-        between = omega (arith, h .between);
-        past = omega (arith, x .now);
+        between = omega arith;
+        past = omega arith;
         gone = h .gone;
       }
 
@@ -193,14 +191,14 @@ module _ (m : BlockModel) (arrivals services : List ℕ) {clock inUse : ℕ} {re
         begun = h .begun;
         over = h .over;
         next-arrival = h .next-arrival;
-        next-service = some (clock + time);
+        next-service = some _;
         lists = h .lists;
         pending =
-            insert-served (subst (λ o. Pending clock fel (h .next-arrival) o) (x .absent) (h .pending)) (record { time = clock + time; who = who }) n (omega arith);
+            insert-served (rw (x .absent) at (h .pending)) (record { time = clock + time; who = who }) n (omega arith);
         coming = h .coming;
         serving =
-            busy (clock + time) (x .taken) refl (x .nobody-out) (x .begins) (d .1 ∙ ap (λ k. drop k services) (sym (x .begins)))
-            (omega (arith, x .now, d .0, ap (leaves arrivals services) (x .begins), ap (comes arrivals) (x .begins)));
+            busy (clock + time) (x .taken) refl (x .nobody-out) (x .begins) (cc (d .1, x .begins))
+            (omega (arith, d .0, ap (leaves arrivals services) (x .begins), ap (comes arrivals) (x .begins)));
         between = h .between;
         past = h .past;
         gone = h .gone;
@@ -213,15 +211,15 @@ module _ (m : BlockModel) (arrivals services : List ℕ) {clock inUse : ℕ} {re
     lined-seized free h =
         record {
           arrived = h .arrived;
-          begun = suc (h .begun);
+          begun = suc _;
           over = h .over;
           next-arrival = h .next-arrival;
           next-service = h .next-service;
           lists = h .lists;
           pending = h .pending;
           coming = h .coming;
-          serving = serving-seized arrivals services free (omega (arith, h .between)) (h .serving);
-          between = omega (arith, h .between);
+          serving = serving-seized arrivals services free (omega arith) (h .serving);
+          between = omega arith;
           past = h .past;
           gone = h .gone;
         }
@@ -243,7 +241,7 @@ module _ (m : BlockModel) (arrivals services : List ℕ) {clock inUse : ℕ} {re
           pending = h .pending;
           coming = h .coming;
           serving = serving-queued arrivals services taken (h .serving);
-          between = omega (arith, h .between);
+          between = omega arith;
           past = h .past;
           gone = h .gone;
         }
@@ -274,7 +272,7 @@ module _ (m : BlockModel) (arrivals services : List ℕ) {clock inUse : ℕ} {re
         → Lined m arrivals services 0 clock inUse rel fel ql wel wsl times times′ (r ∷ records)
     lined-ended r e now h =
         let last : r .entry .clock ≡ leaves arrivals services (suc (h .gone .ended)) =
-        now ∙ h .gone .now (omega arith) ∙ ap (leaves arrivals services) (omega (arith, h .gone .count)) in
+        now ∙ h .gone .now (omega arith) ∙ ap (leaves arrivals services) (omega arith) in
         record {
           arrived = h .arrived;
           begun = h .begun;
@@ -290,11 +288,10 @@ module _ (m : BlockModel) (arrivals services : List ℕ) {clock inUse : ℕ} {re
           gone =
               record {
                 ended = suc (h .gone .ended);
-                count = omega (arith, h .gone .count);
+                count = omega arith;
                 now = λ p. absurd (omega arith);
                 finished =
-                    ends-one m r records e ∙ ap (λ l. l ++ (r .entry .clock ∷ [])) (h .gone .finished)
-                    ∙ ap (λ n. firsts arrivals services (h .gone .ended) ++ (n ∷ [])) last;
+                    cc (ends-one m r records e, h .gone .finished, last);
               };
         }
 
@@ -308,17 +305,17 @@ module _ (m : BlockModel) (arrivals services : List ℕ) {clock inUse : ℕ} {re
         x = is-served arrivals services (omega arith) (h .serving)
 
         begins : h .begun < h .arrived → clock ≡ max (comes arrivals (suc (h .begun))) (leaves arrivals services (h .begun))
-        begins lt = omega (arith, x .now, h .past, comes-mono arrivals (suc (h .begun)) (h .arrived) lt)
+        begins lt = omega (arith, x .now, h .past, comes-mono arrivals _ _ lt)
 
         pending-then : Pending clock fel (h .next-arrival) none
-        pending-then = subst (λ o. Pending clock fel (h .next-arrival) o) (x .absent) (h .pending)
+        pending-then = rw (x .absent) at (h .pending)
 
         gone-then : Gone m arrivals services 1 clock (suc (h .over)) records
         gone-then =
             record {
               ended = h .gone .ended;
-              count = omega (arith, h .gone .count);
-              now = λ p. x .now ∙ ap (leaves arrivals services) (x .ends);
+              count = omega arith;
+              now = λ p. cc (x .now, x .ends);
               finished = h .gone .finished;
             }
 
@@ -328,7 +325,7 @@ module _ (m : BlockModel) (arrivals services : List ℕ) {clock inUse : ℕ} {re
             record {
               arrived = h .arrived;
               begun = h .begun;
-              over = suc (h .over);
+              over = suc _;
               next-arrival = h .next-arrival;
               next-service = none;
               lists = record { ready = h .lists .ready; queued = tt; no-wel = h .lists .no-wel; no-wsl = h .lists .no-wsl };
@@ -340,18 +337,18 @@ module _ (m : BlockModel) (arrivals services : List ℕ) {clock inUse : ℕ} {re
               gone = gone-then;
             }
         go (t ∷ q) each between =
-            let woken : Transaction = withReturning true t in
+            let woken = withReturning true t in
             let more : (n : ℕ) → sumOn (at n) (insert precedes woken rel) ≡ bit (eqb 2 n) + sumOn (at n) rel =
             λ n. omega (arith, sum-insert (at n) precedes woken rel, ap (λ k. bit (eqb k n)) (each .0)) in
             record {
               arrived = h .arrived;
               begun = h .begun;
-              over = suc (h .over);
+              over = suc _;
               next-arrival = h .next-arrival;
               next-service = none;
               lists =
                   record {
-                    ready = each-insert (λ (t : Transaction). Ready (t .next)) precedes woken rel (subst Ready (sym (each .0)) seizes) (h .lists .ready);
+                    ready = each-insert (λ (t : Transaction). Ready _) precedes woken rel (rw (each .0) seizes) (h .lists .ready);
                     queued = each .1;
                     no-wel = h .lists .no-wel;
                     no-wsl = h .lists .no-wsl;

@@ -1,5 +1,5 @@
 -- The blocks of the start, one after the other.
-use Rattle.machine.specs.All.{ℕ, suc, _+_, _-_, _<_, _≡_, sym, ap, _∙_, List, arith, add-one}
+use Rattle.machine.specs.All.{ℕ, suc, _+_, _-_, _<_, _≡_, ap, List, arith, add-one}
 use Rattle.state.specs.All.{Rows}
 use Rattle.start.specs.{beginBlock, beginBlocks}
 
@@ -17,6 +17,4 @@ module _ (tables tape : List ℕ) (r : Rows) where
 
   pub begin-again : (r′ : Rows) (n b : ℕ) → r′ ≡ beginBlock tables tape r b → b < n → beginBlocks (n - (b + 1)) tables tape r′ (b + 1) ≡ beginBlocks (n - b) tables tape r b
   begin-again r′ n b e h =
-      ap (λ (k : ℕ). beginBlocks (n - (b + 1)) tables tape r′ k) (add-one b)
-      ∙ ap (λ (x : Rows). beginBlocks (n - (b + 1)) tables tape x (suc b)) e
-      ∙ sym (step (n - b) (n - (b + 1)) b (omega arith))
+      cc (add-one b, e, step (n - b) (n - (b + 1)) b (omega arith))

@@ -3,10 +3,8 @@ use Rattle.machine.specs.All.{ℕ, zero, suc, _+_, _*_, min, cond, List, eqb, g
 use Rattle.rows_laws.specs.All.{rowCount, initial}
 use Rattle.constants.specs.declared.model.Model.{Model}
 use Rattle.layout.specs.All.{listAt, listLeft, listCounts, most32, blockWidth}
-use Rattle.state.specs.declared.scalars.Scalars.{Scalars}
-use Rattle.state.specs.All.{Rows, rowsOf}
-use Rattle.flow_laws.specs.Samples.{nextSample}
-use Rattle.flow_laws.specs.Sending.{arrives}
+use Rattle.state.specs.{declared.scalars.Scalars.Scalars, All.Rows, All.rowsOf}
+use Rattle.flow_laws.specs.{Samples.nextSample, Sending.arrives}
 
 -- ---- Tally: where each list begins and how many times it has
 

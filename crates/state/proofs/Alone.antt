@@ -1,11 +1,9 @@
 -- No two rows that live have one number: each is the row of somebody on the machine's lists or of who moves, and there no number stands twice.
-use Rattle.machine.specs.All.{ℕ, zero, suc, _+_, _-_, _≤_, _<_, _≡_, refl, sym, ap, _∙_, _≢_, Bool, true, false, cond, List, [], _∷_, map, some, arith, ℕ-discrete, ltb-true, ltb-false, eq-eqb, eqb-true, ltb, eqb, getD, Transaction, Event, Gatherer, Interrupted, flat, BlockModel, State, ofFacility, interruptedAt, bit, everyone, standing}
+use Rattle.machine.specs.All.{decided, ℕ, zero, suc, _+_, _-_, _≤_, _<_, _≡_, refl, ap, _≢_, Bool, true, false, cond, List, [], _∷_, map, some, arith, ℕ-discrete, ltb-true, ltb-false, eq-eqb, eqb-true, ltb, eqb, getD, Transaction, Event, Gatherer, Interrupted, flat, BlockModel, State, ofFacility, interruptedAt, bit, everyone, standing}
 use Rattle.machine.proofs.lists.Sums.{sumOn, sum-append, sum-those, sum-map, sum-count}
-use Rattle.machine.proofs.conservation.Balance.{listed, held}
-use Rattle.machine.proofs.conservation.Conservation.{sum-everyone}
+use Rattle.machine.proofs.{conservation.Balance.listed, conservation.Balance.held, conservation.Conservation.sum-everyone}
 use Rattle.rows_laws.specs.All.{place, fel, free, load, read, lives, transactionAt, eventAt, occurs}
-use Rattle.rows_laws.proofs.Occurs.{same-refl, same-other}
-use Rattle.rows_laws.proofs.Steps.{Holder}
+use Rattle.rows_laws.proofs.{Occurs.same-refl, Occurs.same-other, Steps.Holder}
 use Rattle.state.specs.All.{gathererRow, interruptedRow, listsOf, Listing}
 use Rattle.state.proofs.ListsOf.{lists-ql, lists-wel, lists-wsl, lists-rel, lists-gatherers, lists-interrupted}
 
@@ -23,11 +21,10 @@ module _ (f : ℕ → ℕ) where
   sum-row : (k : ℕ) (l : List ℕ) → 1 ≤ occurs k l → f k ≤ sumOn f l
   unfolding occurs
   sum-row k [] m = absurd (omega arith)
-  sum-row k (x ∷ l) m = go (ℕ-discrete k x) (sum-row k l)
-    where
-      go : Dec (k ≡ x) → (1 ≤ occurs k l → f k ≤ sumOn f l) → f k ≤ f x + sumOn f l
-      go (yes e) rest = omega (arith, ap f e)
-      go (no d) rest = omega (arith, rest (omega (arith, same-other k x d)))
+  sum-row k (x ∷ l) m =
+      decided (ℕ-discrete k x)
+      (λ e. omega (arith, ap f e))
+      (λ d. omega (arith, (sum-row k l) (omega (arith, same-other k x d))))
 
   sum-rows : (j k : ℕ) (l : List ℕ) → j ≢ k → 1 ≤ occurs j l → 1 ≤ occurs k l → f j + f k ≤ sumOn f l
   unfolding occurs
@@ -107,11 +104,11 @@ module _ (m : BlockModel) (w : List ℕ) (moving : ℕ) (t : Transaction) (s : S
 
   rows-by : (p : ℕ) → p < 770 → sumOn rowBy (L p) ≡ sumOn by (listsOf s p)
   unfolding transactionAt
-  rows-by p hp = cc (sum-map by (transactionAt w) (L p), h .shows .shown .lists p hp)
+  rows-by p hp = cc (sum-map by (transactionAt w) _, h .shows .shown .lists p hp)
 
   later-by : sumOn rowBy (L fel) ≡ later
   unfolding eventAt transactionAt
-  later-by = cc (sum-map (λ (e : Event). by (e .who)) (eventAt w) (L fel), h .shows .shown .future)
+  later-by = cc (sum-map (λ (e : Event). by (e .who)) (eventAt w) _, h .shows .shown .future)
 
   mover-by : (c : ℕ) → c ≡ moving → rowBy c ≡ by t
   unfolding transactionAt
@@ -119,7 +116,7 @@ module _ (m : BlockModel) (w : List ℕ) (moving : ℕ) (t : Transaction) (s : S
 
   pub alone : (c : ℕ) → Holder w n moving c → (k : ℕ) → k < 1024 → load w (place k) ≡ fel → read w 0 k ≡ n → k ≡ c
   unfolding lives
-  alone c holder k row at own = go (ℕ-discrete k c)
+  alone c holder k row at own = decided (ℕ-discrete k c) (λ e. e) (λ d. absurd (apart d _ refl (holder .living) (ℕ-discrete _ fel)))
     where
       here : 1 ≤ occurs k (L fel)
       here = occurs-at k fel row at (omega arith)
@@ -139,7 +136,3 @@ module _ (m : BlockModel) (w : List ℕ) (moving : ℕ) (t : Transaction) (s : S
       apart d true e f q = moves (eqb-true c moving e)
       apart d false e f (yes q) = both d q
       apart d false e f (no q) = let low : load w _ < free = ltb-true _ _ f in listed-too _ refl (omega arith)
-
-      go : Dec (k ≡ c) → k ≡ c
-      go (yes e) = e
-      go (no d) = absurd (apart d _ refl (holder .living) (ℕ-discrete _ fel))

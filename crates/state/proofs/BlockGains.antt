@@ -1,13 +1,6 @@
 -- What each block gains: at most 255 serials, no more transactions than there is room for, at most one place of a queue.
-use Rattle.machine.specs.All.{ℕ, zero, suc, _+_, _-_, _≤_, _≡_, refl, sym, ap, subst, Bool, true, false, _&&_, List, [], _∷_, map, Option, arith, leb-true, leb, ltb, eqb, getD, set, drop, map-set-same, getD-drop, inForce, maxLiving, maxTime, Transaction, Event, Gatherer, Interrupted, earlier, insert, nth, Queue, emptyQueue, serverAt, queueAt, idleServer, free, compare, Code, Share, facility, shareServer, shareUnits, shareHolder, Block, generate, advance, terminate, takes, frees, waitServer, waitTerms, moves, assign, priority, split, counts, assemble, preempt, giveBack, BlockModel, status, State, withSerial, setSerial, setMoving, setEnded, setGatherers, moveTo, fresh, toRel, toFel, toQl, toWel, toWsl, wakeQl, wakeFirstWel, wakeWsl, setUse, setContent, timesLeft, arrival, copies, waitsFor, toGatherers, comes, released, interruptedAt, losersTo, interrupt, resume, unless, living, askGenerate, question, checkWels, endsOne, delay, wakeFor, changed, gathers, gathering, takingUnits, preempting, givesBack, wsScheme}
-use Rattle.machine.proofs.runs.Ahead.{Ahead, rising-insert, rising-without}
-use Rattle.machine.proofs.runs.Kept.{changed-most}
-use Rattle.machine.proofs.decoding.Proper.{ProperBlock}
-use Rattle.machine.proofs.runs.RunLaws.{cond-cases}
-use Rattle.machine.proofs.runs.Shape.{each-getD}
-use Rattle.machine.proofs.lists.Sorted.{each-insert, each-replace, at-set}
-use Rattle.machine.proofs.runs.Clocks.{Samples}
-use Rattle.machine.proofs.lists.Cases.{checkWels-kept, wsScheme-cases}
+use Rattle.machine.specs.All.{ℕ, zero, suc, _+_, _-_, _≤_, _≡_, refl, Bool, true, false, _&&_, List, [], _∷_, Option, arith, leb-true, leb, ltb, eqb, getD, set, drop, map-set-same, getD-drop, inForce, maxLiving, maxTime, Transaction, Event, Gatherer, Interrupted, earlier, insert, nth, Queue, emptyQueue, serverAt, queueAt, compare, Code, Share, shareServer, shareUnits, Block, generate, advance, terminate, takes, frees, waitServer, waitTerms, moves, assign, priority, split, counts, assemble, preempt, giveBack, BlockModel, status, State, setSerial, setMoving, setEnded, setGatherers, moveTo, fresh, toRel, toFel, toQl, toWel, toWsl, wakeQl, wakeFirstWel, wakeWsl, setUse, setContent, timesLeft, arrival, copies, waitsFor, toGatherers, comes, released, losersTo, interrupt, resume, unless, askGenerate, question, checkWels, endsOne, delay, wakeFor, gathers, gathering, takingUnits, preempting, givesBack, wsScheme}
+use Rattle.machine.proofs.{runs.Ahead.Ahead, runs.Ahead.rising-insert, runs.Ahead.rising-without, runs.Kept.changed-most, decoding.Proper.ProperBlock, runs.RunLaws.cond-cases, runs.Shape.each-getD, lists.Sorted.each-insert, lists.Sorted.each-replace, lists.Sorted.at-set, runs.Clocks.Samples, lists.Cases.checkWels-kept, lists.Cases.wsScheme-cases}
 use Rattle.state.specs.All.{Bare, entering, goingBack, beginning, waiting, bare}
 use Rattle.state.proofs.Gains.{each-set, serverSums, queueSums, more, Gains, gains-trans, gains-most}
 
@@ -126,7 +119,7 @@ gains-toRel t s =
 used-samples : (list : ℕ) (s : State) → Samples (inForce .maxTime) s → (k i : ℕ) → getD (nth (set (s .samples) (list - 1) (drop 1 (timesLeft s list))) k []) i 0 ≤ inForce .maxTime
 used-samples list s h k i =
     at-set (λ (q : List ℕ). getD q i 0 ≤ inForce .maxTime) (s .samples) _ _ _ []
-    (λ e. rw (getD-drop 1 (timesLeft s list) i 0) (h list (1 + i))) (h k i)
+    (λ e. rw getD-drop (h list _)) (h k i)
 
 -- an event comes onto the FEL at or past the clock, with the time of a list used
 timed : (j list : ℕ) (x : Event) (s s′ : State) → s′ .view ≡ s .view → s′ .samples ≡ set (s .samples) (list - 1) (drop 1 (timesLeft s list))

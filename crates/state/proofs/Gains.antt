@@ -1,9 +1,7 @@
 -- How far one block moves the counts: at most so many transactions made, serials given and queue places filled; clock, entries,
 -- records and the sums of the statistics stay, and every move time is at or past the clock.
-use Rattle.machine.specs.All.{ℕ, zero, suc, _+_, _≤_, _≡_, sym, _∙_, subst, List, [], _∷_, map, arith, set, inForce, Server, Queue, State, Each}
-use Rattle.machine.proofs.runs.Ahead.{Ahead}
-use Rattle.machine.proofs.runs.RunLaws.{each-map}
-use Rattle.machine.proofs.runs.Clocks.{Samples}
+use Rattle.machine.specs.All.{ℕ, zero, suc, _+_, _≤_, _≡_, _∙_, List, [], _∷_, map, arith, set, inForce, Server, Queue, State, Each}
+use Rattle.machine.proofs.{runs.Ahead.Ahead, runs.RunLaws.each-map, runs.Clocks.Samples}
 
 -- ---- Lists of which each passes
 

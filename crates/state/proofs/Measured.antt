@@ -1,13 +1,9 @@
 -- Counts and sums stay within bounds: a sum of ticks is at most so much for each tick that passed, since the clock never falls.
-use Rattle.machine.specs.All.{ℕ, zero, suc, _+_, _*_, _-_, _≤_, _<_, _≡_, refl, sym, ap, subst, Bool, List, [], _∷_, map, _++_, Option, none, some, mul-add, mul-le-mul-right, arith, length, getD, replicate, inForce, maxCapacity, maxCounter, maxTime, Transaction, Event, those, others, nth, Server, Queue, BlockModel, State, setClock, setView, setFel, setRel, setSerial, sampleServers, sampleQueue, sample, due, moveClock, nextEvents, takeFirst, takeReady, taking, Each}
-use Rattle.machine.proofs.decoding.Proper.{Proper}
-use Rattle.machine.proofs.runs.RunLaws.{cond-cases, each-map, each-pair}
-use Rattle.machine.proofs.lists.Sorted.{each-those}
+use Rattle.machine.specs.All.{ℕ, zero, suc, _+_, _*_, _-_, _≤_, _<_, _≡_, refl, sym, ap, subst, Bool, List, [], _∷_, map, _++_, Option, none, some, mul-le-mul-right, arith, length, getD, replicate, inForce, maxCapacity, maxCounter, maxTime, Transaction, Event, those, others, Server, Queue, BlockModel, State, setClock, setView, setFel, setRel, setSerial, sampleServers, sampleQueue, sample, due, moveClock, nextEvents, takeFirst, takeReady, taking, Each}
+use Rattle.machine.proofs.{decoding.Proper.Proper, runs.RunLaws.cond-cases, runs.RunLaws.each-map, runs.RunLaws.each-pair, lists.Sorted.each-those, runs.Clocks.Samples, runs.Ahead.rising-those, runs.Ahead.Ahead}
 use Rattle.machine.proofs.runs.Shape.{Shape, Within, capacityOf, allCapacities}
-use Rattle.machine.proofs.runs.Clocks.{Samples}
 use Rattle.rows_laws.specs.All.{arrivals}
 use Rattle.rows_laws.proofs.Arrivals.{arriveAll-is}
-use Rattle.machine.proofs.runs.Ahead.{Rising, rising-those, Ahead}
 use Rattle.state.proofs.Gains.{each-alike, each-mapped, Sums, serverSums, queueSums, Gains}
 
 -- ---- Definition
@@ -38,9 +34,9 @@ measured-gains {n = n} {s = s} {s′ = s′} g h =
       ahead = g .ahead (h .ahead);
       contents = g .contents n (h .contents);
       servers =
-          rw (g .clock) (each-alike serverSums (ServerBound (s .view .clock)) (s .view .servers) (s′ .view .servers) (g .servers) (h .servers));
+          rw (g .clock) (each-alike serverSums (ServerBound _) (s .view .servers) (s′ .view .servers) (g .servers) (h .servers));
       queues =
-          rw (g .clock) (each-alike queueSums (QueueBound (s .view .clock)) (s .view .queues) (s′ .view .queues) (g .queues) (h .queues));
+          rw (g .clock) (each-alike queueSums (QueueBound _) (s .view .queues) (s′ .view .queues) (g .queues) (h .queues));
     }
 
 pub measured-like : {n : ℕ} (s s′ : State) → s′ .samples ≡ s .samples → s′ .made ≡ s .made → s .serial ≤ s′ .serial → s′ .counter ≡ s .counter
@@ -126,8 +122,7 @@ module _ (n : ℕ) (s : State) (e : Event) (l : List Event) (fel : s .fel ≡ e 
 
   all-later : Each (λ (x : Event). e .time ≤ x .time) (s .fel)
   all-later =
-      let rise = rw fel at (h .ahead .rising) in
-      rw fel (omega arith, rise .0)
+      rw fel (omega arith, (rw fel at (h .ahead .rising)) .0)
 
   measured-clocked : Measured n (clocked (e .time) s)
   unfolding clocked sample
@@ -206,10 +201,9 @@ module _ (n : ℕ) (s : State) (small : n ≤ 100000001) (h : Measured n s) (uni
   unfolding nextEvents clocked sample
   took-events [] e = took-none n s h
   took-events (x ∷ l) e =
-      let k = measured-clocked n s x l e small h units waiters in
       subst (Took n s) (sym (moved-clock _ s))
       (record {
-        measured = measured-like _ _ refl refl (omega arith) refl refl refl refl refl k;
+        measured = measured-like _ _ refl refl (omega arith) refl refl refl refl refl (measured-clocked n s x l e small h units waiters);
         made = refl;
         ended = refl;
         turns = refl;

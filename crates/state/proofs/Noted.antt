@@ -1,6 +1,6 @@
 -- `answer` of the machine is the bare effect with its record noted after it: noting commutes with what blocks do to lists,
 -- servers and counts.
-use Rattle.machine.specs.All.{ℕ, zero, suc, _+_, _≡_, refl, sym, ap, _∙_, Bool, true, false, cond, _&&_, List, [], _∷_, none, leb, ltb, eqb, Transaction, Event, Gatherer, Interrupted, serverAt, free, compare, Code, U, NU, E, NE, F, NF, status, Share, facility, storage, shareServer, shareUnits, shareHolder, Block, generate, advance, terminate, takes, frees, waitServer, waitTerms, moves, assign, priority, split, counts, assemble, preempt, giveBack, BlockModel, State, withSerial, setSerial, setMoving, setMade, setEnded, everything, recordOf, log, enters, fresh, moveTo, goOn, mustWait, toRel, toQl, toWel, toWsl, firstOf, wakeQl, wakeFirstWel, setUse, timesLeft, arrival, copyOf, copies, beginWait, waitsFor, toGatherers, comes, released, interruptedAt, losersTo, interrupt, setHolder, effect, checkWel, checkWels, freeUnits, wakeFor, delay, gathers, gathering, takingUnits, preempting, givesBack, answer}
+use Rattle.machine.specs.All.{ℕ, zero, suc, _+_, _≡_, refl, sym, _∙_, Bool, true, false, cond, _&&_, List, [], _∷_, none, leb, ltb, eqb, Transaction, Event, Gatherer, Interrupted, serverAt, compare, Code, U, NU, E, NE, F, NF, status, Share, facility, storage, shareServer, shareUnits, shareHolder, Block, generate, advance, terminate, takes, frees, waitServer, waitTerms, moves, assign, priority, split, counts, assemble, preempt, giveBack, BlockModel, State, setSerial, setMoving, setEnded, everything, recordOf, log, enters, fresh, moveTo, goOn, mustWait, toWsl, firstOf, wakeQl, wakeFirstWel, setUse, timesLeft, arrival, copies, beginWait, waitsFor, toGatherers, comes, released, interruptedAt, losersTo, interrupt, setHolder, effect, checkWel, checkWels, freeUnits, wakeFor, delay, gathers, gathering, takingUnits, preempting, givesBack, answer}
 use Rattle.state.specs.All.{Bare, Note, enteredNote, waitsNote, noNote, entering, goingBack, beginning, waiting, bare, bareAnswer, logged, countEntry, noteAs, noted}
 
 module _ (t : Transaction) (s : State) where
@@ -19,7 +19,7 @@ module _ (t : Transaction) (s : State) where
   checkWels-N : (v : ℕ) (x : State) → checkWels v (N x) ≡ N (checkWels v x)
   unfolding checkWels
   checkWels-N v x =
-      cc (checkWel-N v U x, checkWel-N v NU (checkWel v U x), checkWel-N v E (checkWel v NU (checkWel v U x)), checkWel-N v NE (checkWel v E (checkWel v NU (checkWel v U x))), checkWel-N v F (checkWel v NE (checkWel v E (checkWel v NU (checkWel v U x)))), checkWel-N v NF (checkWel v F (checkWel v NE (checkWel v E (checkWel v NU (checkWel v U x))))))
+      cc (checkWel-N v U x, checkWel-N v NU _, checkWel-N v E _, checkWel-N v NE _, checkWel-N v F _, checkWel-N v NF _)
 
   arrival-N : (l : List ℕ) (list p block : ℕ) (x : State) → arrival l list p block (N x) ≡ N (arrival l list p block x)
   unfolding everything logged countEntry
@@ -40,7 +40,7 @@ module _ (t : Transaction) (s : State) where
   beginning-noted : (put : Transaction → State → State)
       → ((u : Transaction) (x : State) → put u (logged 1 t s x) ≡ logged 1 t s (put u x)) → noted t s (beginning put t s) ≡ beginWait put t s
   unfolding noteAs
-  beginning-noted put commutes = cc (commutes (withSerial (fresh s) t) (setSerial (fresh s) s), log-logged)
+  beginning-noted put commutes = cc (commutes _ _, log-logged)
     where
       log-logged : logged 1 t s (setSerial (fresh s) s) ≡ setSerial (fresh s) (log 1 t s)
       log-logged = unfold logged log in refl
@@ -88,7 +88,7 @@ module _ (m : BlockModel) (t : Transaction) (s : State) where
   checked : (v : ℕ) (f : State → State) → f (N t s s) ≡ N t s (f s) → noted t s (entering (checking v f s)) ≡ checking v f (enters t s)
   unfolding moveTo logged countEntry
   checked v f commutes =
-      entered-noted t s (checking v f) (cc (commutes, checkWels-N t s v (f s)))
+      entered-noted t s (checking v f) (cc (commutes, checkWels-N t s v _))
 
   abbrev units-taken : Share → Bool → State → State
   units-taken x preempts = setUse (shareServer x) (serverAt (s .view) (shareServer x) .inUse + shareUnits x) (shareHolder x (t .number)) preempts
@@ -98,8 +98,7 @@ module _ (m : BlockModel) (t : Transaction) (s : State) where
       ≡ takingUnits (λ f. f (enters t s)) (λ put. mustWait put t s) (λ f. f s) (λ put. beginWait put t s) m x preempts t s
   unfolding everything logged countEntry
   taking-noted x preempts =
-      let v = shareServer x in
-      noted-cond t s (leb (shareUnits x) _) _ _ _ _ (checked v (units-taken x preempts) refl)
+      noted-cond t s (leb (shareUnits x) _) _ _ _ _ (checked (shareServer x) (units-taken x preempts) refl)
       (waiting-noted t s _ (λ u x. refl))
 
   preempting-noted : (f : ℕ) (l : List Event)
@@ -116,7 +115,7 @@ module _ (m : BlockModel) (t : Transaction) (s : State) where
 
   pub noted-effect : (b : Block) → noted t s (bare m b t s) ≡ effect m b t s
   unfolding everything bare noteAs logged countEntry
-  noted-effect (generate list p) = sym (rw (arrival-N t s (timesLeft s list) list p (t .next) s))
+  noted-effect (generate list p) = sym (rw arrival-N)
   noted-effect (advance list) = sym (delay-N t s (timesLeft s list) list s)
   noted-effect (terminate a) = refl
   noted-effect (takes x) = taking-noted x false
@@ -130,7 +129,7 @@ module _ (m : BlockModel) (t : Transaction) (s : State) where
   noted-effect (moves c target) = refl
   noted-effect (assign k a) = refl
   noted-effect (priority p) = refl
-  noted-effect (split n target) = sym (rw (copies-N t s n target s))
+  noted-effect (split n target) = sym (rw copies-N)
   noted-effect (counts c q) = refl
   noted-effect (assemble n) = gathering-noted t s n (waitsFor t s)
   noted-effect (preempt f) = preempting-noted f (losersTo t f s)
@@ -146,6 +145,5 @@ note-moving noNote t s x = refl
 pub noted-answer : (n : ℕ) (m : BlockModel) (b : Block) (t : Transaction) (s : State) → noted t s (bareAnswer n m b t s) ≡ answer n m b t s
 unfolding answer bareAnswer noteAs
 noted-answer zero m b t s =
-    let r = bare m b t _ in
-    note-moving (r .note) t s _ ∙ noted-effect m t _ b
+    note-moving ((bare m b t _) .note) t s _ ∙ noted-effect m t _ b
 noted-answer (suc n) m b t s = refl

@@ -1,9 +1,7 @@
 -- Every transaction of a sound state has one of the numbers 1..made, and so has the one that a turn takes.
-use Rattle.machine.specs.All.{ℕ, _<_, _≡_, refl, ap, subst, List, [], _∷_, map, _++_, Option, none, some, arith, eq-eqb, eqb, Transaction, Event, Gatherer, Interrupted, flat, BlockModel, State, taking, movingOne, Each, count, bit, everyone, standing}
-use Rattle.machine.proofs.decoding.Proper.{Names}
-use Rattle.machine.proofs.lists.Sums.{count-cons}
-use Rattle.machine.proofs.runs.Everybody.{Maybe, Everybody, Unmoved, taking-everybody}
-use Rattle.machine.proofs.conservation.Conservation.{Sound, stands-made}
+use Rattle.machine.specs.All.{ℕ, _<_, _≡_, refl, ap, List, [], _∷_, map, _++_, Option, none, some, arith, eq-eqb, eqb, Transaction, Event, Gatherer, Interrupted, flat, BlockModel, State, taking, movingOne, Each, count, bit, everyone, standing}
+use Rattle.machine.proofs.{decoding.Proper.Names, lists.Sums.count-cons, conservation.Conservation.Sound, conservation.Conservation.stands-made}
+use Rattle.machine.proofs.runs.Everybody.{Maybe, Everybody, taking-everybody}
 use Rattle.state.proofs.Gains.{each-mapped}
 
 -- what holds of each number that occurs holds of each transaction
@@ -70,5 +68,4 @@ module _ (m : BlockModel) (tape : List (List ℕ)) (s : State) (sound : Sound m 
 
   pub numbered-taken : (t : Transaction) → taking (s .moving) s .moving ≡ some t → Names (s .made) (t .number)
   numbered-taken t e =
-      let U : Unmoved _ = record { mark = λ b t p. p; serial = λ n t p. p } in
-      rw e at (taking-everybody (Numbered (s .made)) U (s .moving) s numbered .moving)
+      rw e at (taking-everybody (Numbered (s .made)) (record { mark = λ b t p. p; serial = λ n t p. p }) (s .moving) s numbered .moving)

@@ -1,12 +1,7 @@
 -- What holds of the machine's states within a turn and lets 32-bit rows and 64-bit sums hold their numbers. These facts are
 -- the machine's own (proofs/ of crate machine and proofs/Sanity.antt); no buffer is spoken of.
 use Rattle.machine.specs.All.{ℕ, _+_, _*_, _-_, _≤_, _<_, _≡_, false, [], length, inForce, maxTurns, maxCounter, maxLiving, maxCapacity, Event, Server, Queue, serverAt, facts, BlockModel, blockAt, State, gatherersAt, interruptedAt, Each, standing}
-use Rattle.machine.proofs.decoding.Proper.{Names}
-use Rattle.machine.proofs.runs.Shape.{Shape}
-use Rattle.machine.proofs.runs.Placed.{Placed}
-use Rattle.machine.proofs.nobody_able.Waiting.{Waits}
-use Rattle.machine.proofs.runs.Everybody.{Maybe, Everybody}
-use Rattle.machine.proofs.runs.Clocks.{Timely, Samples}
+use Rattle.machine.proofs.{decoding.Proper.Names, runs.Shape.Shape, runs.Placed.Placed, nobody_able.Waiting.Waits, runs.Everybody.Maybe, runs.Everybody.Everybody, runs.Clocks.Timely, runs.Clocks.Samples}
 
 pub record Sane (m : BlockModel) (s : State) : Type 0 where
   pub rules : m .rules ≡ inForce

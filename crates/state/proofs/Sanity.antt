@@ -1,28 +1,23 @@
 -- Every state of a run, before a turn and after the taking, is sane.
-use Rattle.machine.specs.All.{ℕ, zero, suc, _+_, _*_, _-_, _≤_, _<_, _≡_, refl, sym, ap, _∙_, subst, Bool, true, false, true≢false, List, [], _∷_, map, _++_, arith, eqb-true, eqb-false, eqb, length, replicate, length-append, length-map, getD, Rules, inForce, maxSerial, maxTurns, Transaction, Gatherer, Interrupted, flat, nth, Server, Queue, idleServer, emptyQueue, serverAt, Block, BlockModel, facts, blockAt, State, setTurns, setEnd, interruptedAt, taking, turn, idle, startAt, start, placed, places, Each, everyone, standing, loserBy}
-use Rattle.machine.proofs.decoding.Proper.{Proper, Names}
-use Rattle.machine.proofs.lists.Chosen.{upto, none-numbered}
+use Rattle.machine.specs.All.{ℕ, zero, suc, _+_, _*_, _-_, _≤_, _<_, _≡_, refl, sym, subst, Bool, true, false, true≢false, List, [], _∷_, map, _++_, arith, eqb-true, eqb-false, eqb, length, replicate, length-append, length-map, getD, Rules, inForce, maxSerial, maxTurns, Transaction, Gatherer, Interrupted, flat, nth, Server, Queue, idleServer, emptyQueue, serverAt, Block, BlockModel, facts, blockAt, State, setTurns, setEnd, interruptedAt, taking, turn, idle, startAt, start, placed, places, Each, everyone, standing, loserBy}
+use Rattle.machine.proofs.{decoding.Proper.Proper, decoding.Proper.Names, lists.Chosen.none-numbered, runs.RunLaws.each-map, runs.RunLaws.each-pair, lists.Cases.startOf-cases, runs.Kept.taking-kept, nobody_able.Waiting.Waits, runs.Ahead.Ahead}
 use Rattle.machine.proofs.later.Holders.{Holding, holding-taking, holding-turn, holding-start}
-use Rattle.machine.proofs.runs.RunLaws.{each-map, each-pair}
-use Rattle.machine.proofs.lists.Cases.{startOf-cases}
-use Rattle.machine.proofs.runs.Kept.{taking-kept}
 use Rattle.machine.proofs.runs.Shape.{Shape, shape-closed, shape-turn, shape-start, each-getD}
-use Rattle.machine.proofs.runs.Everybody.{Maybe, Everybody, Unmoved, taking-everybody, like}
+use Rattle.machine.proofs.runs.Everybody.{Maybe, Everybody, taking-everybody, like}
 use Rattle.machine.proofs.runs.Placed.{Placed, placed-turn, placed-start}
-use Rattle.machine.proofs.nobody_able.Waiting.{Waits}
 use Rattle.machine.proofs.nobody_able.WaitsKept.{waits-taken, waits-kept, waits-start}
 use Rattle.machine.proofs.nobody_able.StillWaiting.{AllHold, settled-turn, settled-start}
 use Rattle.machine.proofs.runs.Clocks.{Timely, taking-timely, timely-turn, timely-start}
-use Rattle.machine.proofs.conservation.Conservation.{Sound, Conserved, sound-conserved, stands-at-most-once, sound-start, sound-taking, sound-turn}
-use Rattle.state.specs.All.{Note, enteredNote, waitsNote, noNote, logged, countEntry, noteAs}
-use Rattle.state.proofs.Sane.{Sane}
-use Rattle.machine.proofs.runs.Ahead.{Ahead}
-use Rattle.state.proofs.Gains.{each-set, serverSums, queueSums, Gains, gains-trans, gains-most}
-use Rattle.state.proofs.BlockGains.{gains-none, gains-arrival}
-use Rattle.state.proofs.TurnGains.{Turned, unnoted, noted, turned}
-use Rattle.state.proofs.Numbered.{Numbered, numbered}
-use Rattle.state.proofs.Measured.{ServerBound, QueueBound, Measured, measured-gains, measured-like, units-small, Took, took}
+use Rattle.machine.proofs.conservation.Conservation.{Sound, sound-conserved, stands-at-most-once, sound-start, sound-taking, sound-turn}
 use Rattle.machine.proofs.later.Gathering.{Gathering, gathering-turn, gathering-start, come-below, taking-gatherers}
+use Rattle.state.specs.All.{Note, enteredNote, waitsNote, noNote, logged, countEntry, noteAs}
+use Rattle.state.proofs as our
+use our.Sane.{Sane}
+use our.Gains.{each-set, serverSums, queueSums, Gains, gains-trans, gains-most}
+use our.BlockGains.{gains-none, gains-arrival}
+use our.TurnGains.{Turned, unnoted, noted, turned}
+use our.Numbered.{Numbered, numbered}
+use our.Measured.{ServerBound, QueueBound, Measured, measured-gains, measured-like, units-small, Took, took}
 
 -- the state in which the block of a turn finds the machine
 abbrev pub takenOf : State → State
@@ -88,7 +83,7 @@ Stopped m s =
 
 stopped-of : (m : BlockModel) (tape : List (List ℕ)) (s : State) → Holding m tape s → Stopped m s
 unfolding serverAt
-stopped-of m tape s h = (h .known, λ f at seized. none-numbered _ (h .each f at .loser ∙ ap upto (nobody f at seized _ refl)))
+stopped-of m tape s h = (h .known, λ f at seized. none-numbered _ (cc (h .each f at .loser, nobody f at seized _ refl)))
   where
     nobody : (f : ℕ) → (at : Names (m .facilities) f) → getD (s .view .servers) (f - 1) (idleServer 0) .preempted ≡ false → (b : Bool) → eqb (loserBy m tape (s .records) f) 0 ≡ b → loserBy m tape (s .records) f ≡ 0
     nobody f at seized true e = eqb-true _ 0 e
@@ -123,11 +118,11 @@ module _ {m : BlockModel} {n : ℕ} (s : State) (shape : Shape m s) (placed : Ev
         mover = mover;
         alone = alone;
         waiting = waiting;
-        unit-ticks = each-map (λ v (b : ServerBound (s .view .clock) (serverSums v)). b .0) (s .view .servers) (h .servers);
-        wait-ticks = each-map (λ v (b : ServerBound (s .view .clock) (serverSums v)). b .1) (s .view .servers) (h .servers);
-        longest = each-map (λ v (b : ServerBound (s .view .clock) (serverSums v)). b .2) (s .view .servers) (h .servers);
-        content-ticks = each-map (λ q (b : QueueBound (s .view .clock) (queueSums q)). b .0) (s .view .queues) (h .queues);
-        longest-content = each-map (λ q (b : QueueBound (s .view .clock) (queueSums q)). b .1) (s .view .queues) (h .queues);
+        unit-ticks = each-map (λ v (b : ServerBound _ _). b .0) (s .view .servers) (h .servers);
+        wait-ticks = each-map (λ v (b : ServerBound _ _). b .1) (s .view .servers) (h .servers);
+        longest = each-map (λ v (b : ServerBound _ _). b .2) (s .view .servers) (h .servers);
+        content-ticks = each-map (λ q (b : QueueBound _ (queueSums q)). b .0) (s .view .queues) (h .queues);
+        longest-content = each-map (λ q (b : QueueBound _ (queueSums q)). b .1) (s .view .queues) (h .queues);
       }
 
 -- ---- The note of a record
@@ -184,12 +179,11 @@ after {n} {s} {s′} (unnoted g) h living entries =
 after {n} {s} {s′} (noted t e x later w g) h living entries =
     let c = note-counts x t s later in
     let b = w .gains in
-    let k = measured-gains b h in
     let r = w .room living in
     record {
-      measured = rw i at (measured-gains g (note-measured x t s later k));
+      measured = rw i at (measured-gains g (note-measured x t s later (measured-gains b h)));
       living = omega arith;
-      entries = rw (g .entries) (note-entries n x t s later (subst (Few n) (sym (b .entries)) entries));
+      entries = rw (g .entries) (note-entries n x t s later (rw (b .entries) entries));
       serials = omega arith;
       turns = cc (g .turns, c .3, b .turns);
     }
@@ -228,8 +222,7 @@ module _ {m : BlockModel} {tape : List (List ℕ)} (proper : Proper m tape) (s :
 
   taken-placed : Everybody (Placed m) (takenOf s)
   taken-placed =
-      let U : Unmoved _ = record { mark = λ b t p. p; serial = λ n t p. p } in
-      let k = taking-everybody _ U _ s (hs .placed) in
+      let k = taking-everybody _ (record { mark = λ b t p. p; serial = λ n t p. p }) _ s (hs .placed) in
       record { ql = k .ql; wel = k .wel; wsl = k .wsl; rel = k .rel; fel = k .fel; gatherers = k .gatherers; interrupted = k .interrupted; moving = k .moving }
 
   taken-timely : Timely (inForce .maxClock) (takenOf s)
@@ -248,21 +241,21 @@ module _ {m : BlockModel} {tape : List (List ℕ)} (proper : Proper m tape) (s :
 
   -- the taking gathers nobody
   taken-come : Come m (takenOf s)
-  taken-come = rw (taking-gatherers (s .moving) s) (hs .come)
+  taken-come = rw taking-gatherers (hs .come)
 
   taken-alone : (n : ℕ) → standing (takenOf s) n ≤ 1
   unfolding standing everyone
   taken-alone = stands-at-most-once m tape _ (sound-taking m tape s (h .sound))
 
   taken-mover : Maybe (Numbered (takenOf s .made)) (takenOf s .moving)
-  taken-mover = numbered m tape (taking (s .moving) s) (sound-taking m tape s (h .sound)) .moving
+  taken-mover = numbered m tape _ (sound-taking m tape s (h .sound)) .moving
 
   -- of the state in which the block of a taken turn finds the machine
   pub sane-taken : Sane m (takenOf s)
   sane-taken =
-      sane-of (takenOf s) taken-shape taken-placed (waits-taken m s going (hs .waits)) taken-timely taken-measured (hs .rules) taken-come (stopped-of m tape (takenOf s) (holding-taking m tape (s .moving) s (h .holding))) taken-mover taken-alone (omega arith) (omega (arith, taken-serials))
-      (omega (arith, taken-took .made, taken-took .ended, hs .ended)) taken-living (omega arith) (fewer (s .turns) (takenOf s .view .entries) taken-entries)
-      (subst (Each (λ (l : List Transaction). length l ≤ 1024)) (sym (taken-took .ql)) (hs .waiting))
+      sane-of _ taken-shape taken-placed (waits-taken m s going (hs .waits)) taken-timely taken-measured (hs .rules) taken-come (stopped-of m tape (takenOf s) (holding-taking m tape _ s (h .holding))) taken-mover taken-alone (omega arith) (omega (arith, taken-serials))
+      (omega (arith, taken-took .made, taken-took .ended)) taken-living (omega arith) (fewer _ (takenOf s .view .entries) taken-entries)
+      (rw (taken-took .ql) (hs .waiting))
 
   turn-after : After (s .turns) (takenOf s) (turn m s)
   unfolding turn
@@ -271,20 +264,18 @@ module _ {m : BlockModel} {tape : List (List ℕ)} (proper : Proper m tape) (s :
   -- of the state that the turn leaves
   pub sure-turn : Sure m tape (turn m s)
   sure-turn =
-      let a : After (s .turns) (takenOf s) (turn m s) = turn-after in
-      let sound : Sound m tape (turn m s) = sound-turn m tape proper s (h .sound) in
-      let gathering : Gathering m tape (turn m s) = gathering-turn proper s (h .sound) (hs .placed) (h .gathering) in
-      let holding : Holding m tape (turn m s) = holding-turn m tape proper s (h .sound) (h .holding) in
-      let all : length (places (turn m s)) + turn m s .ended ≡ turn m s .made = stand m tape (turn m s) sound in
-      let turned-timely : Timely (inForce .maxClock) (turn m s) =
-      subst (λ (q : Rules). Timely (q .maxClock) (turn m s)) (hs .rules)
-      (timely-turn m s (subst (λ (q : Rules). Timely (q .maxClock) s) (sym (hs .rules)) (hs .timely))) in
+      let a = turn-after in
+      let sound = sound-turn m tape proper s (h .sound) in
+      let gathering = gathering-turn proper s (h .sound) (hs .placed) (h .gathering) in
+      let holding = holding-turn m tape proper s (h .sound) (h .holding) in
+      let all = stand m tape _ sound in
       let few : length (flat (turn m s .ql)) ≤ 1024 = omega (arith, all, parts m tape (turn m s) sound, a .living) in
       record {
         sane =
-            sane-of (turn m s) (shape-turn m s (hs .shape)) (placed-turn m tape proper s (hs .placed)) (waits-kept proper s going (hs .shape) (hs .waits) .0) turned-timely (a .measured) (hs .rules) (come-below proper (turn m s) gathering)
-            (stopped-of m tape (turn m s) holding) (numbered m tape (turn m s) sound .moving) (stands-at-most-once m tape (turn m s) sound) (omega (arith, a .turns)) (omega (arith, a .serials, taken-serials)) (omega (arith, all)) (a .living) (omega (arith, a .turns))
-            (subst (λ (n : ℕ). Few n (turn m s .view .entries)) (sym (a .turns)) (a .entries)) (each-flat (turn m s .ql) 1024 few);
+            sane-of (turn m s) (shape-turn m s (hs .shape)) (placed-turn m tape proper s (hs .placed)) (waits-kept proper s going (hs .shape) (hs .waits) .0) (subst (λ (q : Rules). Timely (q .maxClock) (turn m s)) (hs .rules)
+            (timely-turn m s (subst (λ (q : Rules). Timely (q .maxClock) s) (sym (hs .rules)) (hs .timely)))) (a .measured) (hs .rules) (come-below proper _ gathering)
+            (stopped-of m tape (turn m s) holding) (numbered m tape _ sound .moving) (stands-at-most-once m tape _ sound) (omega arith) (omega (arith, taken-serials)) (omega arith) (a .living) (omega arith)
+            (rw (a .turns) (a .entries)) (each-flat _ 1024 few);
         ahead = a .measured .ahead;
         sound = sound;
         gathering = gathering;
@@ -338,22 +329,18 @@ module _ {m : BlockModel} {tape : List (List ℕ)} (proper : Proper m tape) (rul
 
   pub sure-start : Sure m tape (start m tape)
   sure-start =
-      let g : Gains (length (m .blocks)) (length (m .blocks)) 0 (idle m tape) (start m tape) = start-is in
+      let g = start-is in
       let z = idle-zero in
-      let few : length (m .blocks) ≤ 256 = proper .blocks .1 in
-      let k : Measured 0 (start m tape) = measured-gains g idle-measured in
-      let sound : Sound m tape (start m tape) = sound-start m tape proper in
-      let all : length (places (start m tape)) + start m tape .ended ≡ start m tape .made = stand m tape (start m tape) sound in
-      let made : start m tape .made ≤ 256 = omega arith in
-      let below : m .rules .maxTime ≤ m .rules .maxClock = subst (λ (q : Rules). q .maxTime ≤ q .maxClock) (sym rules) (omega arith) in
-      let started : Timely (inForce .maxClock) (start m tape) =
-      subst (λ (q : Rules). Timely (q .maxClock) (start m tape)) rules (timely-start m tape proper below) in
+      let k = measured-gains g idle-measured in
+      let sound = sound-start m tape proper in
+      let all = stand m tape _ sound in
+      let below : m .rules .maxTime ≤ m .rules .maxClock = rw rules (omega arith) in
       record {
         sane =
-            sane-of (start m tape) (shape-start m tape (proper .tapes)) (placed-start m tape proper) (waits-start m tape .0) started k rules (come-below proper (start m tape) (gathering-start proper))
-            (stopped-of m tape (start m tape) (holding-start m tape)) (numbered m tape (start m tape) sound .moving) (stands-at-most-once m tape (start m tape) sound) (omega arith) (omega arith) (omega arith) (omega arith) (omega arith)
-            (each-map (λ e (le : e ≤ 0). omega arith) (start m tape .view .entries) (subst (Few 0) (sym (g .entries)) (z .3)))
-            (each-flat (start m tape .ql) 1024 (omega (arith, parts m tape (start m tape) sound)));
+            sane-of (start m tape) (shape-start m tape (proper .tapes)) (placed-start m tape proper) (waits-start m tape .0) (subst (λ (q : Rules). Timely (q .maxClock) (start m tape)) rules (timely-start m tape proper below)) k rules (come-below proper _ (gathering-start proper))
+            (stopped-of m tape (start m tape) (holding-start m tape)) (numbered m tape _ sound .moving) (stands-at-most-once m tape _ sound) (omega arith) (omega arith) (omega arith) (omega arith) (omega arith)
+            (each-map (λ e (le : e ≤ 0). omega arith) (start m tape .view .entries) (rw (g .entries) (z .3)))
+            (each-flat (start m tape .ql) 1024 (omega (arith, parts m tape _ sound)));
         ahead = k .ahead;
         sound = sound;
         gathering = gathering-start proper;

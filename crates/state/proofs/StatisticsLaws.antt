@@ -1,6 +1,6 @@
 -- Sums and longest lengths of the tally, brought up to date: what they read, that a number which is up to date may change, what a
 -- clock move adds, and that to bring a server or a queue up to date changes none of them.
-use Rattle.machine.specs.All.{ℕ, _+_, _*_, _-_, _≤_, _<_, min, max, _≡_, refl, sym, ap, _∙_, _≢_, Bool, true, false, cond, not, true≢false, List, mul-add, arith, ℕ-discrete, eq-eqb, ne-eqb, eqb-true, ltb, eqb, length, getD, set, length-set, getD-set-same, getD-set-other, maxClock, State}
+use Rattle.machine.specs.All.{cases, ℕ, _+_, _*_, _-_, _≤_, _<_, min, max, _≡_, refl, sym, _∙_, _≢_, Bool, true, false, not, true≢false, List, mul-add, arith, ℕ-discrete, eq-eqb, ne-eqb, eqb-true, ltb, length, getD, set, length-set, getD-set-same, getD-set-other, maxClock, State}
 use Rattle.layout.specs.Layout as Layout
 use Rattle.state.specs.All.{countEnd, product, ticksSince, behind, sumNow, longestNow, see, storeServer, updateServer, storeQueue, updateQueue, Seen, Serving, Queueing, Tallying}
 use Rattle.state.proofs.Products.{product-is}
@@ -34,11 +34,7 @@ module _ (t t′ : List ℕ) (i : ℕ) (h : SamePair t t′ i) where
 
 product-none : (n : ℕ) → product n 0 ≡ 0
 unfolding product
-product-none n = go (ltb n countEnd)
-  where
-    go : (b : Bool) → cond b (n * 0) 0 ≡ 0
-    go true = omega arith
-    go false = refl
+product-none n = cases (ltb n countEnd) (λ e. rw e (omega arith)) (λ e. rw e)
 
 module _ (t : List ℕ) (at from i : ℕ) where
   no-ticks : (clock : ℕ) → getD t (1344 + i) 0 ≡ clock → ticksSince t i clock ≡ 0
@@ -47,7 +43,7 @@ module _ (t : List ℕ) (at from i : ℕ) where
 
   pub sum-current : (clock : ℕ) → getD t (1344 + i) 0 ≡ clock → sumNow t at from i clock ≡ min (getD t at 0) Layout.most64
   unfolding sumNow
-  sum-current clock e = rw (no-ticks clock e, product-none (getD t from 0)) (omega arith)
+  sum-current clock e = rw (no-ticks, product-none) (omega arith)
 
   pub longest-current : behind t i ≡ false → longestNow t at from i ≡ getD t at 0
   unfolding longestNow
@@ -61,7 +57,7 @@ module _ (t : List ℕ) (at from i : ℕ) where
 module _ (t t′ : List ℕ) (i : ℕ) (h : SamePair t t′ i) (at from : ℕ) (same : getD t′ at 0 ≡ getD t at 0) where
   pub sum-moved : (clock : ℕ) → getD t (1344 + i) 0 ≡ clock → sumNow t′ at from i clock ≡ sumNow t at from i clock
   sum-moved clock e =
-      sum-current t′ at from i clock (h .clock ∙ e) ∙ ap (λ (n : ℕ). min n Layout.most64) same ∙ sym (sum-current t at from i clock e)
+      cc (sum-current t′ at from i clock (h .clock ∙ e), same, sum-current t at from i clock e)
 
   pub longest-moved : behind t i ≡ false → longestNow t′ at from i ≡ longestNow t at from i
   longest-moved e = cc (longest-current t′ at from i (behind-same t t′ i h ∙ e), same, longest-current t at from i e)
@@ -82,15 +78,15 @@ module _ (t t′ : List ℕ) (clock time turns : ℕ) (h : Seen t clock turns) (
   -- nothing is up to date then
   behind-all : (i : ℕ) → i < 96 → behind t′ i ≡ true
   unfolding behind
-  behind-all i hi = rw (ne-eqb (getD t′ (1440 + i) 0) (getD t′ 1536 0) (λ e. omega (arith, e, more, same (1440 + i) (omega arith), h .before i hi)))
+  behind-all i hi = rw (ne-eqb (getD t′ (1440 + i) 0) (getD t′ 1536 0) (λ e. omega (arith, e, same (1440 + i) (omega arith), h .before i hi)))
 
   pub seen-later : getD t 1536 0 < turns → Seen t′ time turns
   seen-later fewer =
       record {
-        moves = omega (arith, more);
-        before = λ i hi. omega (arith, more, same (1440 + i) (omega arith), h .before i hi);
+        moves = omega arith;
+        before = λ i hi. omega (arith, same (1440 + i) (omega arith), h .before i hi);
         clocks = λ i hi. omega (arith, same (1344 + i) (omega arith), h .clocks i hi);
-        current = λ i hi e. absurd (true≢false (sym (behind-all i hi) ∙ e));
+        current = λ i hi e. absurd (true≢false (cc (behind-all i hi, e)));
       }
 
   -- the ticks of the move more
@@ -106,25 +102,21 @@ module _ (t t′ : List ℕ) (clock time turns : ℕ) (h : Seen t clock turns) (
         let was : min (getD t at 0 + product n (ticksSince t i clock)) Layout.most64 ≡ sum =
         cc (g, e) in
         rw (ticks-later, same at a, same, g)
-        (cc (sum-grows (getD t at 0) n (ticksSince t i clock) (time - clock) small (omega (arith, was, fits)), was))
+        (cc (sum-grows (getD t at 0) n (ticksSince t i clock) (time - clock) small (omega arith), was))
 
     pub longest-later : (longest n : ℕ) → longestNow t at from i ≡ longest → getD t from 0 ≡ n → longestNow t′ at from i ≡ max longest n
     unfolding longestNow
-    longest-later longest n e g = rw (behind-all, same at a, same, ← e) (go (behind t i))
-      where
-        go : (b : Bool) → max (getD t at 0) (getD t from 0) ≡ max (cond b (max (getD t at 0) (getD t from 0)) (getD t at 0)) n
-        go true = omega arith
-        go false = omega arith
+    longest-later longest n e g = rw (behind-all, same at a, same, ← e) (cases (behind t i) (λ e. rw e (omega arith)) (λ e. rw e (omega arith)))
 
 -- ---- One is brought up to date
 
 pub seen-now : (t : List ℕ) (i : ℕ) → getD t (1440 + i) 0 ≡ getD t 1536 0 → behind t i ≡ false
 unfolding behind
-seen-now t i e = rw (eq-eqb _ _ e)
+seen-now t i e = rw eq-eqb
 
 now-seen : (t : List ℕ) (i : ℕ) → behind t i ≡ false → getD t (1440 + i) 0 ≡ getD t 1536 0
 unfolding behind
-now-seen t i e = eqb-true _ _ (go (eqb (getD t (1440 + i) 0) (getD t 1536 0)) e)
+now-seen t i e = eqb-true _ _ (go _ e)
   where
     go : (b : Bool) → not b ≡ false → b ≡ true
     go true f = refl
@@ -145,23 +137,23 @@ module _ (t t′ : List ℕ) (i clock : ℕ) (u : Updated t t′ i clock) where
   seen-updated : (turns : ℕ) → Seen t clock turns → Seen t′ clock turns
   seen-updated turns h =
       record {
-        moves = omega (arith, u .all, h .moves);
+        moves = omega arith;
         before = λ j hj. before j hj (ℕ-discrete j i);
         clocks = λ j hj. clocks j hj (ℕ-discrete j i);
         current = λ j hj. current j hj (ℕ-discrete j i);
       }
     where
       before : (j : ℕ) → j < 96 → Dec (j ≡ i) → getD t′ (1440 + j) 0 ≤ getD t′ 1536 0
-      before j hj (yes e) = rw e (omega (arith, u .moves, u .all))
-      before j hj (no d) = omega (arith, u .others j hj d .moves, u .all, h .before j hj)
+      before j hj (yes e) = rw e (omega arith)
+      before j hj (no d) = omega (arith, u .others j hj d .moves, h .before j hj)
 
       clocks : (j : ℕ) → j < 96 → Dec (j ≡ i) → getD t′ (1344 + j) 0 ≤ clock
-      clocks j hj (yes e) = rw e (omega (arith, u .clock))
+      clocks j hj (yes e) = rw e (omega arith)
       clocks j hj (no d) = omega (arith, u .others j hj d .clock, h .clocks j hj)
 
       current : (j : ℕ) → j < 96 → Dec (j ≡ i) → behind t′ j ≡ false → getD t′ (1344 + j) 0 ≡ clock
       current j hj (yes e) n = rw e (u .clock)
-      current j hj (no d) n = u .others j hj d .clock ∙ h .current j hj (sym (behind-same t t′ j (u .others j hj d)) ∙ n)
+      current j hj (no d) n = u .others j hj d .clock ∙ h .current j hj (cc (behind-same t t′ j (u .others j hj d), n))
 
 -- it was before
 same-updated : (t : List ℕ) (i clock : ℕ) → behind t i ≡ false → getD t (1344 + i) 0 ≡ clock → Updated t t i clock
@@ -206,10 +198,10 @@ after-updated t t₁ t′ i clock len same u =
       moves = u .moves ∙ same 1536 (omega arith);
       all = u .all ∙ same 1536 (omega arith);
       others = λ j hj d.
-          let p : SamePair t₁ t′ j = u .others j hj d in
+          let p = u .others j hj d in
           record {
-            clock = p .clock ∙ same (1344 + j) (omega arith);
-            moves = p .moves ∙ same (1440 + j) (omega arith);
+            clock = p .clock ∙ same _ (omega arith);
+            moves = p .moves ∙ same _ (omega arith);
             all = p .all ∙ same 1536 (omega arith);
           };
     }
@@ -246,7 +238,7 @@ module _ (t : List ℕ) (v clock : ℕ) where
   t₄ = see t₃ v clock
 
   other₃ : (j : ℕ) → j ≢ 576 + v → j ≢ 640 + v → j ≢ 704 + v → getD t₃ j 0 ≡ getD t j 0
-  other₃ j a b c = getD-set-other t₂ _ j l₀ 0 c ∙ getD-set-other t₁ _ j w₀ 0 b ∙ getD-set-other t _ j u₀ 0 a
+  other₃ j a b c = cc (getD-set-other t₂ _ j l₀ 0 c, getD-set-other t₁ _ j w₀ 0 b, getD-set-other t _ j u₀ 0 a)
 
   -- below the pairs
   below : (j : ℕ) → j < 1344 → getD t₄ j 0 ≡ getD t₃ j 0
@@ -254,13 +246,13 @@ module _ (t : List ℕ) (v clock : ℕ) where
 
   module _ (size : length t ≡ 1537) (hv : v < 64) where
     size₁ : length t₁ ≡ 1537
-    size₁ = length-set t (576 + v) u₀ ∙ size
+    size₁ = length-set t _ u₀ ∙ size
 
     size₂ : length t₂ ≡ 1537
-    size₂ = length-set t₁ (640 + v) w₀ ∙ size₁
+    size₂ = length-set t₁ _ w₀ ∙ size₁
 
     size₃ : length t₃ ≡ 1537
-    size₃ = length-set t₂ (704 + v) l₀ ∙ size₂
+    size₃ = length-set t₂ _ l₀ ∙ size₂
 
     paired : Updated t t₄ v clock
     paired =
@@ -280,7 +272,7 @@ module _ (t : List ℕ) (v clock : ℕ) where
               sum-current t₄ _ _ v clock (paired .clock)
               ∙ omega (arith, below (640 + v) (omega arith), getD-set-other t₂ (704 + v) (640 + v) l₀ 0 (λ e. omega arith), getD-set-same t₁ (640 + v) w₀ 0 (omega (arith, size₁)), sum-most t (640 + v) (768 + v) v clock);
           longest =
-              cc (longest-current t₄ (704 + v) (768 + v) v (updated-current t t₄ v clock paired), below (704 + v) (omega arith), getD-set-same t₂ (704 + v) l₀ 0 (omega (arith, size₂)));
+              cc (longest-current t₄ _ _ v (updated-current t t₄ v clock paired), below (704 + v) (omega arith), getD-set-same t₂ (704 + v) l₀ 0 (omega (arith, size₂)));
         }
 
     kept : behind t v ≡ false → getD t (1344 + v) 0 ≡ clock → ServerUpdated t t v clock
@@ -295,11 +287,7 @@ module _ (t : List ℕ) (v clock : ℕ) where
 
     pub server-updated : (turns : ℕ) → Seen t clock turns → ServerUpdated t (updateServer t v clock) v clock
     unfolding updateServer
-    server-updated turns h = go _ refl
-      where
-        go : (b : Bool) → behind t v ≡ b → ServerUpdated t (cond b (storeServer t v clock) t) v clock
-        go true e = stored
-        go false e = kept e (h .current v (omega arith) e)
+    server-updated turns h = cases (behind t v) (λ e. rw e stored) (λ e. rw e (kept e (h .current v (omega arith) e)))
 
 -- ---- A queue, counted behind the servers
 
@@ -329,14 +317,14 @@ module _ (t : List ℕ) (q clock : ℕ) where
   qother j a b = getD-set-other q₁ _ j m₀ 0 b ∙ getD-set-other t _ j c₀ 0 a
 
   qbelow : (j : ℕ) → j < 1344 → getD q₃ j 0 ≡ getD q₂ j 0
-  qbelow j h = see-other q₂ (64 + q) clock j (λ e. omega arith) (λ e. omega arith)
+  qbelow j h = see-other q₂ _ clock j (λ e. omega arith) (λ e. omega arith)
 
   module _ (size : length t ≡ 1537) (hq : q < 32) where
     qsize₁ : length q₁ ≡ 1537
-    qsize₁ = length-set t (864 + q) c₀ ∙ size
+    qsize₁ = length-set t _ c₀ ∙ size
 
     qsize₂ : length q₂ ≡ 1537
-    qsize₂ = length-set q₁ (896 + q) m₀ ∙ qsize₁
+    qsize₂ = length-set q₁ _ m₀ ∙ qsize₁
 
     qpaired : Updated t q₃ (64 + q) clock
     qpaired =
@@ -353,19 +341,15 @@ module _ (t : List ℕ) (q clock : ℕ) where
               sum-current q₃ _ _ _ clock (qpaired .clock)
               ∙ omega (arith, qbelow (864 + q) (omega arith), getD-set-other q₁ (896 + q) (864 + q) m₀ 0 (λ e. omega arith), getD-set-same t (864 + q) c₀ 0 (omega arith), sum-most t (864 + q) (832 + q) (64 + q) clock);
           longest =
-              cc (longest-current q₃ (896 + q) (832 + q) (64 + q) (updated-current t q₃ (64 + q) clock qpaired), qbelow (896 + q) (omega arith), getD-set-same q₁ (896 + q) m₀ 0 (omega (arith, qsize₁)));
+              cc (longest-current q₃ _ _ _ (updated-current t q₃ _ clock qpaired), qbelow (896 + q) (omega arith), getD-set-same q₁ (896 + q) m₀ 0 (omega (arith, qsize₁)));
         }
 
     qkept : behind t (64 + q) ≡ false → getD t (1344 + (64 + q)) 0 ≡ clock → QueueUpdated t t q clock
-    qkept n e = record { pairs = same-updated t (64 + q) clock n e; other = λ j h a b. refl; contents = refl; longest = refl }
+    qkept n e = record { pairs = same-updated t _ clock n e; other = λ j h a b. refl; contents = refl; longest = refl }
 
     pub queue-updated : (turns : ℕ) → Seen t clock turns → QueueUpdated t (updateQueue t q clock) q clock
     unfolding updateQueue
-    queue-updated turns h = go _ refl
-      where
-        go : (b : Bool) → behind t (64 + q) ≡ b → QueueUpdated t (cond b (storeQueue t q clock) t) q clock
-        go true e = qstored
-        go false e = qkept e (h .current _ (omega arith) e)
+    queue-updated turns h = cases (behind t (64 + q)) (λ e. rw e qstored) (λ e. rw e (qkept e (h .current _ (omega arith) e)))
 
 -- ---- The tally stands for the same state
 
@@ -389,14 +373,14 @@ module _ (tapeBytes t : List ℕ) (s : State) (h : Tallying tapeBytes t s) (few 
     server-sums : Serving t′ clock (s .view .servers) (s .ql)
     server-sums =
         record {
-          in-use = λ i hi. low (512 + i) (omega arith) ∙ h .servers .in-use i hi;
-          holders = λ i hi. high (960 + i) (omega arith) (omega arith) ∙ h .servers .holders i hi;
-          preempts = λ i hi. high (1024 + i) (omega arith) (omega arith) ∙ h .servers .preempts i hi;
-          held = λ r hr. high (1088 + r) (omega arith) (omega arith) ∙ h .servers .held r hr;
+          in-use = λ i hi. low _ (omega arith) ∙ h .servers .in-use i hi;
+          holders = λ i hi. high _ (omega arith) (omega arith) ∙ h .servers .holders i hi;
+          preempts = λ i hi. high _ (omega arith) (omega arith) ∙ h .servers .preempts i hi;
+          held = λ r hr. high _ (omega arith) (omega arith) ∙ h .servers .held r hr;
           unit-ticks = λ i hi. units i hi (ℕ-discrete i v) ∙ h .servers .unit-ticks i hi;
           wait-ticks = λ i hi. waits i hi (ℕ-discrete i v) ∙ h .servers .wait-ticks i hi;
           longest = λ i hi. longest i hi (ℕ-discrete i v) ∙ h .servers .longest i hi;
-          waiting = λ i hi. high (768 + i) (omega arith) (omega arith) ∙ h .servers .waiting i hi;
+          waiting = λ i hi. high _ (omega arith) (omega arith) ∙ h .servers .waiting i hi;
         }
       where
         pair : (i : ℕ) → i < 64 → i ≢ v → SamePair t t′ i
@@ -405,27 +389,27 @@ module _ (tapeBytes t : List ℕ) (s : State) (h : Tallying tapeBytes t s) (few 
         units : (i : ℕ) → i < 64 → Dec (i ≡ v) → sumNow t′ (576 + i) (512 + i) i clock ≡ sumNow t (576 + i) (512 + i) i clock
         units i hi (yes e) = rw e (u .units)
         units i hi (no d) =
-            sum-same t t′ i (pair i hi d) (576 + i) (512 + i) clock (u .other (576 + i) (omega arith) (λ e. d (omega arith)) (λ e. omega arith) (λ e. omega arith))
-            (low (512 + i) (omega arith))
+            sum-same t t′ i (pair i hi d) _ _ clock (u .other _ (omega arith) (λ e. d (omega arith)) (λ e. omega arith) (λ e. omega arith))
+            (low _ (omega arith))
 
         waits : (i : ℕ) → i < 64 → Dec (i ≡ v) → sumNow t′ (640 + i) (768 + i) i clock ≡ sumNow t (640 + i) (768 + i) i clock
         waits i hi (yes e) = rw e (u .waits)
         waits i hi (no d) =
-            sum-same t t′ i (pair i hi d) (640 + i) (768 + i) clock (u .other (640 + i) (omega arith) (λ e. omega arith) (λ e. d (omega arith)) (λ e. omega arith))
-            (high (768 + i) (omega arith) (omega arith))
+            sum-same t t′ i (pair i hi d) _ _ clock (u .other _ (omega arith) (λ e. omega arith) (λ e. d (omega arith)) (λ e. omega arith))
+            (high _ (omega arith) (omega arith))
 
         longest : (i : ℕ) → i < 64 → Dec (i ≡ v) → longestNow t′ (704 + i) (768 + i) i ≡ longestNow t (704 + i) (768 + i) i
         longest i hi (yes e) = rw e (u .longest)
         longest i hi (no d) =
-            longest-same t t′ i (pair i hi d) (704 + i) (768 + i) (u .other (704 + i) (omega arith) (λ e. omega arith) (λ e. omega arith) (λ e. d (omega arith)))
-            (high (768 + i) (omega arith) (omega arith))
+            longest-same t t′ i (pair i hi d) _ _ (u .other _ (omega arith) (λ e. omega arith) (λ e. omega arith) (λ e. d (omega arith)))
+            (high _ (omega arith) (omega arith))
 
     queue-sums : Queueing t′ clock (s .view .queues)
     queue-sums =
         record {
           contents = λ q hq. high _ (omega arith) (omega arith) ∙ h .queues .contents q hq;
           content-ticks = λ q hq.
-              cc (sum-same t t′ (64 + q) (pair q hq) (864 + q) (832 + q) clock (high (864 + q) (omega arith) (omega arith)) (high (832 + q) (omega arith) (omega arith)), h .queues .content-ticks q hq);
+              cc (sum-same t t′ (64 + q) (pair q hq) _ (832 + q) clock (high (864 + q) (omega arith) (omega arith)) (high (832 + q) (omega arith) (omega arith)), h .queues .content-ticks q hq);
           longest = λ q hq.
               cc (longest-same t t′ (64 + q) (pair q hq) (896 + q) (832 + q) (high (896 + q) (omega arith) (omega arith)) (high (832 + q) (omega arith) (omega arith)), h .queues .longest q hq);
         }
@@ -437,15 +421,15 @@ module _ (tapeBytes t : List ℕ) (s : State) (h : Tallying tapeBytes t s) (few 
     server-tallying =
         record {
           size = u .pairs .size ∙ h .size;
-          entries = λ b hb. low (0 + b) (omega arith) ∙ h .entries b hb;
-          waits = λ b hb. low (256 + b) (omega arith) ∙ h .waits b hb;
-          seen = seen-updated t t′ v clock (u .pairs) (s .turns) (h .seen);
+          entries = λ b hb. low _ (omega arith) ∙ h .entries b hb;
+          waits = λ b hb. low _ (omega arith) ∙ h .waits b hb;
+          seen = seen-updated t t′ v clock (u .pairs) _ (h .seen);
           servers = server-sums;
           queues = queue-sums;
           samples =
               record {
                 begins = λ l hl. rw (high (928 + l) (omega arith) (omega arith)) (h .samples .begins l hl);
-                left = λ l hl. high (944 + l) (omega arith) (omega arith) ∙ h .samples .left l hl;
+                left = λ l hl. high _ (omega arith) (omega arith) ∙ h .samples .left l hl;
               };
         }
 
@@ -468,14 +452,14 @@ module _ (tapeBytes t : List ℕ) (s : State) (h : Tallying tapeBytes t s) (few 
     servers-kept : Serving q′ clock (s .view .servers) (s .ql)
     servers-kept =
         record {
-          in-use = λ i hi. below′ (512 + i) (omega arith) ∙ h .servers .in-use i hi;
-          holders = λ i hi. above′ (960 + i) (omega arith) (omega arith) ∙ h .servers .holders i hi;
-          preempts = λ i hi. above′ (1024 + i) (omega arith) (omega arith) ∙ h .servers .preempts i hi;
-          held = λ r hr. above′ (1088 + r) (omega arith) (omega arith) ∙ h .servers .held r hr;
-          unit-ticks = λ i hi. sum-same t q′ i (pair i hi) (576 + i) (512 + i) clock (below′ (576 + i) (omega arith)) (below′ (512 + i) (omega arith)) ∙ h .servers .unit-ticks i hi;
-          wait-ticks = λ i hi. sum-same t q′ i (pair i hi) (640 + i) (768 + i) clock (below′ (640 + i) (omega arith)) (below′ (768 + i) (omega arith)) ∙ h .servers .wait-ticks i hi;
-          longest = λ i hi. longest-same t q′ i (pair i hi) (704 + i) (768 + i) (below′ (704 + i) (omega arith)) (below′ (768 + i) (omega arith)) ∙ h .servers .longest i hi;
-          waiting = λ i hi. below′ (768 + i) (omega arith) ∙ h .servers .waiting i hi;
+          in-use = λ i hi. below′ _ (omega arith) ∙ h .servers .in-use i hi;
+          holders = λ i hi. above′ _ (omega arith) (omega arith) ∙ h .servers .holders i hi;
+          preempts = λ i hi. above′ _ (omega arith) (omega arith) ∙ h .servers .preempts i hi;
+          held = λ r hr. above′ _ (omega arith) (omega arith) ∙ h .servers .held r hr;
+          unit-ticks = λ i hi. sum-same t q′ i (pair i hi) _ _ clock (below′ _ (omega arith)) (below′ _ (omega arith)) ∙ h .servers .unit-ticks i hi;
+          wait-ticks = λ i hi. sum-same t q′ i (pair i hi) _ _ clock (below′ _ (omega arith)) (below′ _ (omega arith)) ∙ h .servers .wait-ticks i hi;
+          longest = λ i hi. longest-same t q′ i (pair i hi) _ _ (below′ _ (omega arith)) (below′ _ (omega arith)) ∙ h .servers .longest i hi;
+          waiting = λ i hi. below′ _ (omega arith) ∙ h .servers .waiting i hi;
         }
       where
         pair : (i : ℕ) → i < 64 → SamePair t q′ i
@@ -508,15 +492,15 @@ module _ (tapeBytes t : List ℕ) (s : State) (h : Tallying tapeBytes t s) (few 
     queue-tallying =
         record {
           size = w .pairs .size ∙ h .size;
-          entries = λ b hb. below′ (0 + b) (omega arith) ∙ h .entries b hb;
-          waits = λ b hb. below′ (256 + b) (omega arith) ∙ h .waits b hb;
-          seen = seen-updated t q′ (64 + q) clock (w .pairs) (s .turns) (h .seen);
+          entries = λ b hb. below′ _ (omega arith) ∙ h .entries b hb;
+          waits = λ b hb. below′ _ (omega arith) ∙ h .waits b hb;
+          seen = seen-updated t q′ _ clock (w .pairs) _ (h .seen);
           servers = servers-kept;
           queues = queues-kept;
           samples =
               record {
                 begins = λ l hl. rw (above′ (928 + l) (omega arith) (omega arith)) (h .samples .begins l hl);
-                left = λ l hl. above′ (944 + l) (omega arith) (omega arith) ∙ h .samples .left l hl;
+                left = λ l hl. above′ _ (omega arith) (omega arith) ∙ h .samples .left l hl;
               };
         }
 

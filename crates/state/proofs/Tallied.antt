@@ -1,6 +1,6 @@
 -- What a report counts from the records: of an outcome at blocks that pass a test, the sum over the blocks of what is counted
 -- block by block.
-use Rattle.machine.specs.All.{ℕ, zero, suc, _+_, _≡_, refl, sym, ap, _∙_, subst, Bool, true, false, cond, _&&_, List, [], _∷_, _++_, arith, eqb-true, eqb-false, eq-eqb, ne-eqb, eqb, length, Rules, inForce, those, Record, inRanges, Facts, facts, BlockModel, blockAt, State, Logged, recordsAt, recordsOf, Each, count, bit, upTo, InModel}
+use Rattle.machine.specs.All.{cases, ℕ, zero, suc, _+_, _≡_, refl, sym, subst, Bool, true, false, cond, _&&_, List, [], _∷_, _++_, arith, eqb-true, eqb-false, eq-eqb, ne-eqb, eqb, length, inForce, those, Record, Facts, facts, BlockModel, blockAt, State, Logged, recordsAt, recordsOf, Each, count, bit, upTo, InModel}
 use Rattle.machine.proofs.decoding.Proper.{Names}
 use Rattle.machine.proofs.lists.Sums.{count-cons, upTo-cong, upTo-zero, upTo-one}
 use Rattle.trace.specs.Whole.{AllInRanges}
@@ -25,7 +25,14 @@ module _ (m : BlockModel) (outcome : ℕ) (p : Facts → Bool) where
   -- one record more adds to its own block only
   share-cons : (r : Logged) (l : List Logged) (b : ℕ)
       → share (r ∷ l) b ≡ cond (eqb (r .entry .outcome) outcome && passes (r .entry .block)) (bit (eqb b (r .entry .block))) 0 + share l b
-  share-cons r l b = go _ refl
+  share-cons r l b =
+      cases (eqb b (r .entry .block))
+      (λ e. rw e (let is = eqb-true _ _ e in
+      subst (λ (i : ℕ). share (r ∷ l) b ≡ cond (o && passes i) 1 0 + share l b) is
+      (one o _ _ _
+      (cc (at-block-cons outcome b r l, eq-eqb _ b (sym is))))))
+      (λ e. rw e (none o _ (passes b) _ _
+      (cc (at-block-cons outcome b r l, ne-eqb _ b (λ q. eqb-false _ _ e (sym q))))))
     where
       o : Bool
       o = eqb (r .entry .outcome) outcome
@@ -44,16 +51,6 @@ module _ (m : BlockModel) (outcome : ℕ) (p : Facts → Bool) where
       one false true n k e = e
       one false false n k e = refl
 
-      go : (c : Bool) → eqb b (r .entry .block) ≡ c → share (r ∷ l) b ≡ cond (o && passes (r .entry .block)) (bit c) 0 + share l b
-      go true e =
-          let is = eqb-true _ _ e in
-          subst (λ (i : ℕ). share (r ∷ l) b ≡ cond (o && passes i) 1 0 + share l b) is
-          (one o _ _ _
-          (cc (at-block-cons outcome b r l, eq-eqb (r .entry .block) b (sym is))))
-      go false e =
-          none o _ (passes b) _ _
-          (cc (at-block-cons outcome b r l, ne-eqb (r .entry .block) b (λ q. eqb-false _ _ e (sym q))))
-
   records-cons : (r : Logged) (l : List Logged)
       → recordsAt m outcome p (r ∷ l) ≡ bit (eqb (r .entry .outcome) outcome && passes (r .entry .block)) + recordsAt m outcome p l
   unfolding recordsAt
@@ -66,7 +63,7 @@ module _ (m : BlockModel) (outcome : ℕ) (p : Facts → Bool) where
       counted = unfold count in count-cons test r l
 
   pub records-tallied : (l : List Logged) → Each (λ (r : Logged). InModel m (r .entry)) l → recordsAt m outcome p l ≡ upTo (length (m .blocks)) (share l)
-  records-tallied [] h = empty ∙ sym (upTo-zero _ _ (λ k low high. nothing k))
+  records-tallied [] h = cc (empty, upTo-zero _ _ (λ k low high. nothing k))
     where
       empty : recordsAt m outcome p [] ≡ 0
       empty = unfold recordsAt those in refl
@@ -100,8 +97,7 @@ ranges-end (x ∷ k) r h e = (h .0, ranges-end k r (h .1) e)
 all-in-ranges : (m : BlockModel) → m .rules ≡ inForce → (l : List Logged) → Each (λ (r : Logged). InModel m (r .entry)) l → AllInRanges (inOrder l)
 all-in-ranges m rules [] h = tt
 all-in-ranges m rules (r ∷ l) h =
-    subst AllInRanges (sym (in-order-cons r l))
-    (ranges-end (inOrder l) _ (all-in-ranges m rules l (h .1)) (rw rules at (h .0 .ranges), tt))
+    rw (in-order-cons r l) (ranges-end (inOrder l) _ (all-in-ranges m rules l (h .1)) (rw rules at (h .0 .ranges), tt))
 
 pub traced-ranges : {m : BlockModel} {room : ℕ} (s : State) → Traced m room s → AllInRanges (recordsOf s)
 unfolding recordsOf

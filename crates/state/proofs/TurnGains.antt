@@ -1,10 +1,11 @@
 -- A turn after the taking: nothing is noted, or the moving one's block gains what a block may gain and its record is noted.
-use Rattle.machine.specs.All.{ℕ, zero, suc, _≡_, refl, sym, subst, List, Option, none, some, arith, Transaction, BlockModel, blockAt, State, setMoving, question, answer, execute, wsScheme}
+use Rattle.machine.specs.All.{ℕ, zero, suc, _≡_, refl, List, Option, none, some, arith, Transaction, BlockModel, blockAt, State, setMoving, question, answer, execute, wsScheme}
 use Rattle.machine.proofs.decoding.Proper.{Proper}
 use Rattle.state.specs.All.{Note, noteAs, bare, bareAnswer}
-use Rattle.state.proofs.Noted.{noted-answer}
-use Rattle.state.proofs.Gains.{Gains, gains-trans, gains-most}
-use Rattle.state.proofs.BlockGains.{still, gains-wsScheme, Moderate, bare-gains}
+use Rattle.state.proofs as our
+use our.Noted.{noted-answer}
+use our.Gains.{Gains, gains-trans, gains-most}
+use our.BlockGains.{still, gains-wsScheme, Moderate, bare-gains}
 
 pub data Turned (s s′ : State) : Type 0 where
   -- nobody was there to move, or a question stopped the turn
@@ -26,11 +27,9 @@ module _ {m : BlockModel} {tape : List (List ℕ)} (proper : Proper m tape) wher
       → Turned s (wsScheme m (answer n m (blockAt m (t .next)) t s))
   unfolding bareAnswer
   answered zero t s e q =
-      let r = bare m (blockAt m (t .next)) t (setMoving none s) in
-      let g : Moderate (setMoving none s) (r .state) =
-      bare-gains m (blockAt m (t .next)) t (setMoving none s) (s .moving) (proper .block (t .next)) q in
-      noted t e (r .note) (r .state) (moderate-hand s (r .state) g)
-      (rw (noted-answer zero m (blockAt m (t .next)) t s) (gains-wsScheme m _))
+      let r = bare m _ t _ in
+      noted t e (r .note) (r .state) (moderate-hand s (r .state) (bare-gains m (blockAt m (t .next)) t (setMoving none s) (s .moving) (proper .block (t .next)) q))
+      (rw (noted-answer zero m _ t s) (gains-wsScheme m _))
   answered (suc n) t s e q = unnoted (gains-trans (stopped n t s) (gains-wsScheme m _))
     where
       stopped : (n : ℕ) (t : Transaction) (s : State) → Gains 0 0 0 s (answer (suc n) m (blockAt m (t .next)) t s)

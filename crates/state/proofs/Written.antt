@@ -1,19 +1,13 @@
 -- The trace of every state of a run: each record lies in the reader's ranges and takes at most 12 bytes, the bytes written are
 -- those of the records and fit the room, and the entries of a block are its records of outcome 0.
-use Rattle.machine.specs.All.{ℕ, suc, _+_, _-_, _≤_, _<_, _≡_, refl, sym, ap, _∙_, subst, Bool, true, false, _&&_, List, [], _∷_, map, _++_, reverse, reverse-cons, append-assoc, some, arith, eqb-true, eqb-false, eqb, length, set, length-append, getD-replicate, getD-set-same, getD-set-other, Rules, inForce, maxSerial, maxTurns, recordRoom, Transaction, nth, those, Record, recordBytes, traceBytes, inRanges, BlockModel, State, Logged, setEnd, recordOf, turn, idle, start, recordsOf, Each, count, bit, InModel}
-use Rattle.machine.proofs.decoding.Proper.{Proper, Names}
-use Rattle.machine.proofs.runs.RunLaws.{Taken}
-use Rattle.machine.proofs.runs.Everybody.{Maybe}
-use Rattle.machine.proofs.runs.Placed.{Placed}
-use Rattle.machine.proofs.lists.Sums.{count-cons}
-use Rattle.trace.proofs.Writer.{Ranges, in-ranges, record-room}
+use Rattle.machine.specs.All.{ℕ, suc, _+_, _-_, _≤_, _<_, _≡_, refl, ap, _∙_, Bool, true, false, _&&_, List, [], _∷_, map, _++_, reverse, reverse-cons, append-assoc, some, arith, eqb-true, eqb-false, eqb, length, set, length-append, getD-replicate, getD-set-same, getD-set-other, inForce, maxSerial, maxTurns, recordRoom, Transaction, nth, those, Record, recordBytes, traceBytes, BlockModel, State, Logged, setEnd, recordOf, turn, idle, start, recordsOf, Each, count, bit, InModel}
+use Rattle.machine.proofs.{decoding.Proper.Proper, decoding.Proper.Names, runs.RunLaws.Taken, lists.Sums.count-cons}
+use Rattle.trace.proofs.Writer.{in-ranges, record-room}
 use Rattle.state.specs.All.{Note, enteredNote, waitsNote, noNote, logged, countEntry, noteAs, atBlock}
-use Rattle.state.proofs.Sane.{Sane}
-use Rattle.state.proofs.Gains.{Gains}
-use Rattle.state.proofs.TurnGains.{Turned, unnoted, noted, turned}
-use Rattle.state.proofs.Measured.{Took}
-use Rattle.state.proofs.Sanity.{takenOf, Sure, sure-turn, sure-start, sure-end, sane-taken, taken-took, start-is}
-use Rattle.state.proofs.Numbered.{numbered-taken}
+use Rattle.state.proofs as our
+use our.{Sane.Sane, Measured.Took, Numbered.numbered-taken}
+use our.TurnGains.{Turned, unnoted, noted, turned}
+use our.Sanity.{takenOf, Sure, sure-turn, sure-start, sure-end, sane-taken, taken-took, start-is}
 
 -- ---- Definition
 
@@ -31,7 +25,7 @@ pub record Traced (m : BlockModel) (room : ℕ) (s : State) : Type 0 where
 traceBytes-append : (k l : List Record) → traceBytes (k ++ l) ≡ traceBytes k ++ traceBytes l
 unfolding traceBytes
 traceBytes-append [] l = refl
-traceBytes-append (r ∷ k) l = cc (traceBytes-append k l, append-assoc (recordBytes r) (traceBytes k) (traceBytes l))
+traceBytes-append (r ∷ k) l = cc (traceBytes-append k l, append-assoc _ _ _)
 
 map-append : {A B : Type 0} (f : A → B) (k l : List A) → map f (k ++ l) ≡ map f k ++ map f l
 map-append f [] l = refl
@@ -42,10 +36,10 @@ abbrev pub inOrder : List Logged → List Record
 inOrder l = map (λ r. r .entry) (reverse l)
 
 pub in-order-cons : (r : Logged) (l : List Logged) → inOrder (r ∷ l) ≡ inOrder l ++ (r .entry ∷ [])
-in-order-cons r l = cc (reverse-cons r l, map-append (λ r. r .entry) (reverse l) (r ∷ []))
+in-order-cons r l = cc (reverse-cons r l, map-append (λ r. r .entry) _ (r ∷ []))
 
 pub bytes-cons : (r : Logged) (l : List Logged) → traceBytes (inOrder (r ∷ l)) ≡ traceBytes (inOrder l) ++ recordBytes (r .entry)
-bytes-cons r l = cc (in-order-cons r l, traceBytes-append (inOrder l) (r .entry ∷ []), one (r .entry))
+bytes-cons r l = cc (in-order-cons r l, traceBytes-append (inOrder l) (r .entry ∷ []), one _)
   where
     one : (r : Record) → traceBytes (r ∷ []) ≡ recordBytes r
     one r = unfold traceBytes in mathlib.Core.List.append-nil _
@@ -76,13 +70,11 @@ module _ {m : BlockModel} {room : ℕ} (t : Transaction) (s x : State) (ok : (o 
   longer : (o : ℕ) → o ≤ 1 → x .written + length (recordBytes (recordOf o t s)) ≡ length (traceBytes (inOrder (record { entry = recordOf o t s; priority = t .priority } ∷ x .records)))
   unfolding recordsOf
   longer o le =
-      let r : Logged = record { entry = recordOf o t s; priority = t .priority } in
-      omega (arith, ap length (bytes-cons r (x .records)), length-append (traceBytes (inOrder (x .records))) (recordBytes (recordOf o t s)))
+      omega (arith, ap length (bytes-cons (record { entry = recordOf o t s; priority = t .priority }) (x .records)), length-append (traceBytes (inOrder (x .records))) (recordBytes (recordOf o t s)))
 
   short : (o : ℕ) → o ≤ 1 → x .written + length (recordBytes (recordOf o t s)) ≤ room
   short o le =
-      let kept = rw (h .rules) at (ok o le .ranges) in
-      omega (arith, record-room _ kept)
+      omega (arith, record-room _ (rw (h .rules) at (ok o le .ranges)))
 
   counted : (b : ℕ) → Names (length (m .blocks)) b
       → nth (set (x .view .entries) (t .next - 1) (suc (nth (x .view .entries) (t .next) 0))) b 0
@@ -167,26 +159,26 @@ module _ {m : BlockModel} {tape : List (List ℕ)} (proper : Proper m tape) {roo
   in-model t e o le =
       let number = numbered-taken m tape s (sure .sound) t e in
       let place = rw e at (sane .placed .moving) in
-      let r : Ranges _ =
       record {
-        clock = sane .timely .clock;
-        first = number .0;
-        transaction = omega arith;
-        one = place .0 .0;
-        block = omega arith;
-        outcome = le;
-      } in
-      record { ranges = rw (sane .rules) (in-ranges (recordOf o t x) r); block = place .0 }
+        ranges = rw (sane .rules) (in-ranges (recordOf o t x) (record {
+          clock = sane .timely .clock;
+          first = number .0;
+          transaction = omega arith;
+          one = place .0 .0;
+          block = omega arith;
+          outcome = le;
+        }));
+        block = place .0;
+      }
 
   after : {s′ : State} → Turned x s′ → Traced m room s → Traced m room s′
   after {s′} (unnoted g) h =
       traced-like s s′ (g .records ∙ k .records) (g .written ∙ k .written) (g .entries ∙ k .entries) (omega arith) h
   after {s′} (noted t e n later w g) h =
       let b = w .gains in
-      let h′ = traced-like s later (b .records ∙ k .records) (b .written ∙ k .written) (b .entries ∙ k .entries) (omega arith) h in
       traced-like _ s′ (g .records) (g .written) (g .entries) (omega arith)
-      (traced-note t x later (in-model t e) h′ (omega (arith, k .written))
-      (omega (arith, ap length (b .records), ap length (k .records), b .turns)) (cc (b .entries, sane .shape .entry-length)) n)
+      (traced-note t x later (in-model t e) (traced-like s later (b .records ∙ k .records) (b .written ∙ k .written) (b .entries ∙ k .entries) (omega arith) h) (omega (arith, k .written))
+      (omega (arith, ap length (b .records), ap length (k .records))) (cc (b .entries, sane .shape .entry-length)) n)
 
   pub traced-turn : Traced m room s → Traced m room (turn m s)
   unfolding turn

@@ -5,8 +5,7 @@ use Rattle.machine.specs.All.{ℕ, suc, _+_, _-_, _%_, _<_, _≤_, _≡_, false
 use Rattle.layout.specs.Layout as Layout
 use Rattle.layout.specs.All.{TimesAt}
 use Rattle.rows_laws.specs.All.{transactionAt, Shows, Loose, free, rowCount, wels, wsl, rel, gatherers, interrupted}
-use Rattle.state.specs.declared.scalars.Scalars.{Scalars}
-use Rattle.state.specs.Statistics.{behind, sumNow, longestNow}
+use Rattle.state.specs.{declared.scalars.Scalars.Scalars, Statistics.behind, Statistics.sumNow, Statistics.longestNow}
 use Rattle.state.specs.Bare.{Note, enteredNote, waitsNote, noNote, Bare}
 
 -- What a step of the engine leaves: its scalars and the numbers of the two buffers.

@@ -1,6 +1,5 @@
 // Ticks times what is counted.
-ghost use mathlib.Core.Path.{_≡_};
-ghost use Prim.Native.Nat.{_≤_};
+ghost use Rattle.machine.specs.All.{_≡_, _≤_};
 ghost use Rattle.state.specs.Ticks as Ticks;
 
 // No run counts so many units, waiters or contents: 2 to the 28.

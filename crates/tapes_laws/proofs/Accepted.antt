@@ -9,14 +9,11 @@ use Rattle.streams.specs.declared.Started.{Started}
 use Rattle.streams.specs.declared.Started.the-variants.{State, Refused}
 use Rattle.streams.specs.Stream.{Inside, lastStream, startOf, beginning as startState}
 use Rattle.tapes_laws.specs.{mostTimes, numbersPerList, continue as next, ask as asked, timeOf, timesOf, Listed, listAt, listsFrom, listsOf, timesBytes, tapeBytes, tapeTimes, leaves, made, refusal, fitted, fromLists, fromStart, makeTape, answer, Maker, Taken}
-use Rattle.tapes_laws.specs.Source.{Source}
-use Rattle.tapes_laws.specs.declared.Made.{Made}
-use Rattle.tapes_laws.specs.declared.Made.the-variants.{Refused as Unmade}
-use Rattle.tapes_laws.specs.Contract.{Contract}
-use Rattle.tapes_laws.proofs.Reading.{none-some}
-use Rattle.tapes_laws.proofs.Times.{bytes-none, bytes-cons}
-use Rattle.tapes_laws.proofs.Tapes.{behind, tape-none, tape-step}
-use Rattle.tapes_laws.proofs.Sound.{Sound, SoundLists, lists-sound, time-most, after-inside, behind-inside}
+use Rattle.tapes_laws.specs.{Source.Source, declared.Made.Made, declared.Made.the-variants.Refused as Unmade, Contract.Contract}
+use Rattle.tapes_laws.proofs as our
+use our.{Reading.none-some, Times.bytes-none, Times.bytes-cons}
+use our.Tapes.{behind, tape-none, tape-step}
+use our.Sound.{Sound, SoundLists, lists-sound, time-most, after-inside, behind-inside}
 
 module _ (s : List ℕ) (i j : ℕ) where
   -- the times of a source
@@ -28,15 +25,13 @@ module _ (s : List ℕ) (i j : ℕ) where
   times-read x (suc n) r at rest sound inside e =
       let t = timeOf x r in
       let more = timesBytes x n _ in
-      let bytes : timesBytes x (suc n) r ≡ numberBytes t ++ more = bytes-cons t _ in
-      let here : drop at s ≡ numberBytes t ++ _ = e ∙ ap (λ (l : List ℕ). l ++ rest) bytes ∙ append-assoc (numberBytes t) more rest in
+      let bytes = bytes-cons t _ in
+      let here = e ∙ ap (λ (l : List ℕ). l ++ rest) bytes ∙ append-assoc (numberBytes t) more rest in
       let most = time-most x r sound inside in
-      let size : at + length (numberBytes t) + length more ≡ at + length (timesBytes x (suc n) r) =
-      add-assoc at (length (numberBytes t)) _ ∙ ap (λ (m : ℕ). at + m) (sym (ap length bytes ∙ length-append (numberBytes t) more)) in
       rw (
         field-reads s _ Machine.fiveGroups at t 8 0 Machine.maxTime i j here (omega arith) (omega arith) (omega arith) (omega arith),
         times-read x n _ _ rest sound (after-inside x inside) (drop-past s (numberBytes t) _ at here),
-        size,
+        (add-assoc at (length (numberBytes t)) _ ∙ ap (λ (m : ℕ). at + m) (sym (ap length bytes ∙ length-append (numberBytes t) more))),
       )
 
   list-read : (x : Listed) (r at : ℕ) (rest : List ℕ) → Sound (x .source) × (x .count ≤ mostTimes) → Inside r →
@@ -61,12 +56,11 @@ module _ (s : List ℕ) (i j : ℕ) where
       let bytes = tape-step x ls r in
       let here : drop at s ≡ b ++ (m ++ (z ++ rest)) =
       cc (e, bytes, append-assoc b (m ++ z) rest, append-assoc m z rest) in
-      let past = drop-past s m _ _ (drop-past s b _ at here) in
       let size : at + length b + length m + length z ≡ at + length (tapeBytes (x ∷ ls) r) =
       omega (arith, ap length bytes, length-append b (m ++ z), length-append m z) in
       rw (
         list-read x r at (z ++ rest) (sound .0) inside here,
-        lists-read ls _ _ rest (sound .1) (behind-inside _ _ inside) past,
+        lists-read ls _ _ rest (sound .1) (behind-inside _ _ inside) (drop-past s m _ _ (drop-past s b _ at here)),
         size,
       )
 
@@ -74,8 +68,7 @@ pub tape-taken : (ls : List Listed) (r : ℕ) → SoundLists ls → Inside r →
 unfolding tapeOf atEnd ask continue
 tape-taken ls r sound inside =
     let s = tapeBytes ls r in
-    let whole = sym (append-nil s) in
-    let read = lists-read s 0 0 ls r 0 [] sound inside whole in
+    let read = lists-read s 0 0 ls r 0 [] sound inside (sym (append-nil s)) in
     record {
       behind = cursorAt (0 + length s) 0 0;
       takes = rw (read, eq-eqb _ _ (zero-add _));
@@ -128,8 +121,7 @@ pub made-taken : (stream state : ℕ) (lists : List ℕ) (numbers : List Float) 
 unfolding makeTape fromStart fromLists fitted
 made-taken stream state lists numbers room start inside b e ls f =
     let from = lists-from lists numbers ls f in
-    let tape = fit (leb (length (tapeBytes ls state)) room) (cc (start, f, e)) in
-    rw (tape, start-state stream state start, ← lists-length lists numbers _ 0 ls from)
+    rw ((fit (leb (length (tapeBytes ls state)) room) (cc (start, f, e))), start-state stream state start, ← lists-length lists numbers _ 0 ls from)
     (tape-taken ls state (lists-sound lists numbers _ 0 ls from) inside)
   where
     fit : (t : Bool) → cond t (made (tapeBytes ls state)) (refusal 43) ≡ made b → b ≡ tapeBytes ls state

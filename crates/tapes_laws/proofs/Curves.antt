@@ -3,10 +3,7 @@ use Rattle.machine.specs.All.{cases, ℕ, zero, suc, _+_, _-_, _≤_, _<_, arit
 use lib.Ieee.{Float}
 use Rattle.floats.specs.Limits.{drawParts}
 use Rattle.codec.proofs.Fields.{both-true}
-use Rattle.tapes_laws.specs.declared.Point.{Point as Corner}
-use Rattle.tapes_laws.specs.declared.Point.the-variants.{At, Refused as Unread}
-use Rattle.tapes_laws.specs.declared.Distribution.the-variants.{Curve}
-use Rattle.tapes_laws.specs.declared.Choice.the-variants.{Taken, Refused}
+use Rattle.tapes_laws.specs.{declared.Point.Point as Corner, declared.Point.the-variants.At, declared.Point.the-variants.Refused as Unread, declared.Distribution.the-variants.Curve, declared.Choice.the-variants.Taken, declared.Choice.the-variants.Refused}
 use Rattle.tapes_laws.specs.{fewestPoints, mostPoints, continue, ask, Point, curve, timeAt, uAt, pointAt, follows, pointsBehind, curveAt, PointIs, Points, Chosen, corner, pointOf, stepOf, isGiven}
 use Rattle.tapes_laws.proofs.Reading.{none-some, time-inside, time-is, u-is}
 
@@ -139,7 +136,7 @@ pub behind-points : (numbers : List Float) (left at : ℕ) (p : Point) (l : List
     pointsBehind numbers left (at + 2) p ≡ some l → Points numbers at p l
 unfolding pointsBehind continue ask
 behind-points numbers zero at p l is e =
-    cases (eqb (p .u) drawParts)
+    cases _
     (λ f. let same : [] ≡ l = cc in
     rw (← same) (is, eqb-true _ _ f))
     (λ f. none-some (rw f at e))

@@ -1,17 +1,14 @@
 -- A draw, pure: the walk to the segment around u, and the time that each kind of distribution gives.
-use Rattle.machine.specs.All.{ℕ, _+_, _≤_, _<_, arith, true, false, List, [], _∷_, _≡_, refl, _∙_, subst, ltb, length, getD, lt-ltb, le-ltb, ltb-true, ltb-false}
+use Rattle.machine.specs.All.{ℕ, _+_, _≤_, _<_, arith, true, false, List, [], _∷_, _≡_, refl, _∙_, ltb, length, getD, lt-ltb, le-ltb, ltb-true, ltb-false}
 use lib.Ieee.{Float, nan, lt}
 use lib.Pow.{pow-pos}
-use Rattle.floats.specs.declared.Segment.{Segment}
-use Rattle.floats.specs.Limits.{timeParts, drawParts}
-use Rattle.floats.specs.Value.{Is, wholePart}
+use Rattle.floats.specs.{declared.Segment.Segment, Limits.timeParts, Limits.drawParts, Value.Is, Value.wholePart}
 use Rattle.floats.specs.Line.{Ends, OnLine, Exactly, lineOver, lineUnder, spreadOver, spreadUnder, Width}
 use Rattle.floats.proofs.Whole.{whole-is, order-is}
 use Rattle.streams.specs.Stream.{Inside, next}
-use Rattle.tapes_laws.specs.declared.Distribution.{Distribution}
+use Rattle.tapes_laws.specs.{declared.Distribution.Distribution, Source.Source}
 use Rattle.tapes_laws.specs.declared.Distribution.the-variants.{Fixed, Spread, Curve}
 use Rattle.tapes_laws.specs.{Point, fixed, spread, curve, drawOf, around, lineTime, after, timeOf, PointIs, Points, Meant, Surrounds}
-use Rattle.tapes_laws.specs.Source.{Source}
 
 -- ---- The walk
 
@@ -87,14 +84,14 @@ module _ (numbers : List Float) (at : ℕ) (p : Point) (l : List Point) (v : ℕ
               from-u = n .start-is .u-is;
               from-time = n .start-is .time-is;
               to-u = n .end-is .u-is;
-              to-time = subst (λ (i : ℕ). Is (getD numbers i nan) (n .end .time) timeParts) third (n .end-is .time-is);
+              to-time = rw third at (n .end-is .time-is);
               rising = n .steps .0;
               last = n .end-is .u-most;
               not-falling = n .steps .1;
               most = n .end-is .time-most;
             };
         from-most = n .from;
-        to-least = omega (arith, past);
+        to-least = omega arith;
       })
 
   pub here-goes : Here numbers at p l v → lt u (getD numbers (at + 2) nan) ≡ false → Here numbers (at + 2) p l v
@@ -159,7 +156,6 @@ module _ (numbers : List Float) (d : Distribution) (s : Source) (state : ℕ) (m
         go (spread mean half) h = absurd h
         go (curve p l) h =
             let v = drawOf r in
-            let b = around p l v in
             let g = surrounds p l v (h .1) (omega arith) (draw-inside inside) is in (
               cc (near _ _ _ _ v (g .ends) is (g .from-most) (g .to-least) .whole, next-is),
               next-is,

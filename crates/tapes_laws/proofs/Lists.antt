@@ -1,13 +1,8 @@
 -- Lists, pure: one after the other, and what they stand for when all were taken.
 use Rattle.machine.specs.All.{ℕ, zero, suc, _+_, _*_, _-_, _≤_, _<_, arith, true, false, List, _∷_, Option, none, some, _≡_, refl, ap, _∙_, getD, le-leb, lt-leb}
 use lib.Ieee.{Float}
-use Rattle.tapes_laws.specs.declared.Distribution.{Distribution}
-use Rattle.tapes_laws.specs.declared.Choice.{Choice}
-use Rattle.tapes_laws.specs.declared.Choice.the-variants.{Taken, Refused}
-use Rattle.tapes_laws.specs.declared.Row.{Row}
-use Rattle.tapes_laws.specs.declared.Row.the-variants.{Given, Barred}
+use Rattle.tapes_laws.specs.{declared.Distribution.Distribution, declared.Choice.Choice, declared.Choice.the-variants.Taken, declared.Choice.the-variants.Refused, declared.Row.Row, declared.Row.the-variants.Given, declared.Row.the-variants.Barred, Source.Source}
 use Rattle.tapes_laws.specs.{mostTimes, continue, ask, Listed, sourceAt, listAt, listsFrom, Meant, Chosen, Listing, isGiven}
-use Rattle.tapes_laws.specs.Source.{Source}
 
 -- ---- One list
 
@@ -116,9 +111,8 @@ module _ (lists : List ℕ) (numbers : List Float) where
 
     pub all-goes : (r : Row) (d : Distribution) (n : ℕ) → k < count → Listing numbers r (listAt lists numbers k) → r ≡ Given d n → AsAll count (k + 1)
     all-goes r d n h listing e =
-        let stands = row-some numbers r _ d n listing e in
         let less : count - (k + 1) ≡ count - k - 1 = omega arith in
-        cc (less, lists-some (count - k) k _ (omega arith) (stands .is), alike)
+        cc (less, lists-some (count - k) k _ (omega arith) ((row-some numbers r _ d n listing e) .is), alike)
 
     pub all-done : count ≤ k → true ≡ isGiven (listsFrom lists numbers count 0)
     all-done h = lists-end _ k (omega arith) ∙ alike

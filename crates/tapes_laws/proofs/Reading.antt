@@ -1,12 +1,9 @@
 -- What a call gives, pure: what is read from the doubles, case by case.
-use Rattle.machine.specs.All.{cases, ℕ, _+_, _≤_, _<_, arith, List, Option, none, some, _≡_, _∙_, ltb, length, getD, List·getD-eq-default, le-leb, lt-leb, ltb-true}
+use Rattle.machine.specs.All.{cases, ℕ, _+_, _≤_, _<_, arith, List, Option, none, some, _≡_, _∙_, length, getD, List·getD-eq-default, le-leb, lt-leb, ltb-true}
 use lib.Ieee.{Float, nan}
 use lib.Pow.{pow-pos}
-use Rattle.floats.specs.Answers.{countOf}
-use Rattle.floats.specs.declared.Parts.{Parts}
-use Rattle.floats.specs.declared.Parts.the-variants.{Count, Refused as Unread}
+use Rattle.floats.specs.{Answers.countOf, declared.Parts.Parts, declared.Parts.the-variants.Count, declared.Parts.the-variants.Refused as Unread, Value.Is, Value.partsOf}
 use Rattle.floats.specs.Limits.{timeParts, maxTimeParts, maxMeanParts, drawParts}
-use Rattle.floats.specs.Value.{Is, partsOf}
 use Rattle.floats.proofs.Checked.{parts-is}
 use Rattle.tapes_laws.specs.declared.Distribution.the-variants.{Fixed, Spread}
 use Rattle.tapes_laws.specs.declared.Choice.the-variants.{Taken, Refused}
@@ -28,7 +25,7 @@ module _ (numbers : List Float) (at : ℕ) where
 
   inside-of : {n : ℕ} {o : Option ℕ} → (length numbers ≤ at → none ≡ o) → o ≡ some n → at < length numbers
   inside-of past e =
-      cases (ltb at (length numbers))
+      cases _
       (λ f. ltb-true at (length numbers) f)
       (λ f. none-some (past (omega (arith, borrow.Author.Tests.ltb-false at (length numbers) f)) ∙ e))
 

@@ -8,9 +8,7 @@ use Rattle.streams.specs.Stream.{Inside}
 use Rattle.streams.proofs.Generator.{next-inside}
 use Rattle.tapes_laws.specs.{mostTimes, continue, ask, Point, fixed, spread, curve, around, lineTime, after, timeOf, stateAfter, timeAt, fixedAt, spreadAt, pointAt, pointsBehind, curveAt, sourceAt, Listed, listAt, listsFrom, Points}
 use Rattle.tapes_laws.specs.Source.{Source}
-use Rattle.tapes_laws.proofs.Reading.{none-some, time-is}
-use Rattle.tapes_laws.proofs.Curves.{point-is, behind-points}
-use Rattle.tapes_laws.proofs.Drawing.{draw-inside, head-point}
+use Rattle.tapes_laws.proofs.{Reading.none-some, Reading.time-is, Curves.point-is, Curves.behind-points, Drawing.draw-inside, Drawing.head-point}
 
 -- ---- The rules
 
@@ -104,7 +102,7 @@ module _ (numbers : List Float) (s : Source) where
 line-most : {v0 t0 v1 t1 v : ℕ} → v0 ≤ v → v ≤ v1 → v0 < v1 → t0 ≤ t1 → t1 ≤ maxTimeParts → lineOver v0 t0 v1 t1 v / lineUnder v0 v1 ≤ maxTime
 line-most {v0} {t0} {v1} {t1} {v} from to rising not-falling most =
     let w = v1 - v0 in
-    let p : (t1 - t0) * (v - v0) ≤ (t1 - t0) * w = mul-le-mul-left (t1 - t0) (omega arith) in
+    let p : _ * (v - v0) ≤ (t1 - t0) * w = mul-le-mul-left (t1 - t0) (omega arith) in
     let join : t0 * w + (t1 - t0) * w ≡ t1 * w = sym (add-mul t0 (t1 - t0) w) ∙ ap (λ z. z * w) (omega arith) in
     let top = mul-le-mul-right w most in
     div-le-of-le-mul _ (omega arith)

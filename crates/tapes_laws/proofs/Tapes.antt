@@ -2,16 +2,13 @@
 use Rattle.machine.specs.All.{ℕ, zero, suc, _+_, _-_, _≤_, _<_, arith, List, [], _∷_, _++_, Option, none, some, _≡_, refl, sym, ap, _∙_, length, length-append, sets, length-sets, numberBytes}
 use lib.Ieee.{Float}
 use Rattle.codec.specs.Writing.{put, written}
-use Rattle.codec.proofs.Stores.{sets-append}
-use Rattle.codec.proofs.Writing.{put-room, written-bytes}
-use Rattle.tapes_laws.specs.declared.Distribution.{Distribution}
-use Rattle.tapes_laws.specs.declared.Row.{Row}
-use Rattle.tapes_laws.specs.declared.Row.the-variants.{Given, Barred}
+use Rattle.codec.proofs.{Stores.sets-append, Writing.put-room, Writing.written-bytes}
+use Rattle.tapes_laws.specs.{declared.Distribution.Distribution, declared.Row.Row, declared.Row.the-variants.Given, declared.Row.the-variants.Barred, Source.Source}
 use Rattle.tapes_laws.specs.{continue, stateAfter, Listed, listAt, listsFrom, listNumbers, tapeNumbers, tapeBytes, timesBytes, Meant, Listing, TimesMeasured, TimesWritten}
-use Rattle.tapes_laws.specs.Source.{Source}
-use Rattle.tapes_laws.proofs.Reading.{none-some}
-use Rattle.tapes_laws.proofs.Lists.{row-none, row-some, lists-next}
-use Rattle.tapes_laws.proofs.Times.{bytes-none, bytes-cons, bytes-append, written-at}
+use Rattle.tapes_laws.proofs as our
+use our.Reading.{none-some}
+use our.Lists.{row-none, row-some, lists-next}
+use our.Times.{bytes-none, bytes-cons, bytes-append, written-at}
 
 -- ---- One list, and the rest
 
@@ -32,7 +29,7 @@ pub tape-length : (x : Listed) (ls : List Listed) (r : ℕ) →
     length (tapeBytes (x ∷ ls) r)
     ≡ length (numberBytes (x .count)) + (length (timesBytes (x .source) (x .count) r) + length (tapeBytes ls (behind x r)))
 tape-length x ls r =
-    rw (tape-step x ls r, length-append _ _, length-append _ _)
+    rw (tape-step, length-append, length-append)
 
 -- ---- The lists that are left
 
@@ -91,7 +88,6 @@ module _ (lists : List ℕ) (numbers : List Float) where
         let y = stands .listed in
         let t = tail _ k y _ (omega arith) (stands .is) (left .is) in
         let done = times _ (stands .meant) in
-        let less : count - (k + 1) ≡ count - k - 1 = omega arith in
         let a : len ≡ length (numberBytes _) = el ∙ ap (λ (m : ℕ). length (numberBytes m)) (stands .count-is) in
         let b = done .length-is ∙ ap (λ (m : ℕ). length (timesBytes (y .source) m r)) (stands .count-is) in
         let s : after ≡ behind y r = done .state-is ∙ ap (λ (m : ℕ). stateAfter (y .source) m r) (stands .count-is) in
@@ -99,8 +95,8 @@ module _ (lists : List ℕ) (numbers : List Float) where
         ap (λ (l : List Listed). length (tapeBytes l r)) (t .same) ∙ tape-length y _ r ∙ rw (← a, ← b, ← s) in
         record {
           ls = t .rest;
-          is = ap (λ (m : ℕ). listsFrom lists numbers m (k + 1)) less ∙ t .is;
-          total = omega (arith, left .total);
+          is = ap (λ (m : ℕ). listsFrom lists numbers m (k + 1)) (omega arith) ∙ t .is;
+          total = omega arith;
         }
 
     pub measured : count ≤ k → bytes ≡ length (tapeBytes all state)
@@ -135,7 +131,6 @@ module _ (lists : List ℕ) (numbers : List Float) where
         let stands = row-some numbers x _ d n listing e in
         let y = stands .listed in
         let t = tail _ k y _ (omega arith) (stands .is) (left .is) in
-        let less : count - (k + 1) ≡ count - k - 1 = omega arith in
         let en : y .count ≡ n = sym (stands .count-is) in
         let b = numberBytes n in
         let m = timesBytes (y .source) n r in
@@ -153,13 +148,13 @@ module _ (lists : List ℕ) (numbers : List Float) where
         let ez : tapeBytes _ after ≡ z = ap (tapeBytes _) es in
         record {
           ls = t .rest;
-          is = ap (λ (i : ℕ). listsFrom lists numbers i (k + 1)) less ∙ t .is;
+          is = ap (λ (i : ℕ). listsFrom lists numbers i (k + 1)) (omega arith) ∙ t .is;
           bytes-are =
               rw (ez, done .bytes-are, done .position-is)
               (sets-append m z between middle ∙ rw (stored, position)
-              (sets-append b _ here at ∙ ap (sets here at) (sym split) ∙ left .bytes-are));
-          position-is = omega (arith, left .position-is, done .position-is, ap length ez);
-          same-room = ap length (done .bytes-are) ∙ length-sets between middle m ∙ long ∙ left .same-room;
+              (cc (sets-append b _ here at, split, left .bytes-are)));
+          position-is = omega (arith, done .position-is, ap length ez);
+          same-room = cc (done .bytes-are, length-sets between middle m, long, left .same-room);
         }
 
     pub all-written : count ≤ k → here ≡ sets before 0 (tapeBytes all state)

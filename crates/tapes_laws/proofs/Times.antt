@@ -1,9 +1,7 @@
 -- A list's times, pure: measured and written one after the other.
 use Rattle.machine.specs.All.{ℕ, zero, suc, _+_, _-_, _≤_, _<_, arith, List, [], _∷_, _++_, append-assoc, _≡_, refl, ap, _∙_, length, length-append, sets, length-sets, flat, numberBytes}
 use Rattle.codec.specs.Writing.{put, written}
-use Rattle.codec.proofs.Numbers.{numberBytes-longest}
-use Rattle.codec.proofs.Stores.{sets-append}
-use Rattle.codec.proofs.Writing.{put-room, written-bytes}
+use Rattle.codec.proofs.{Numbers.numberBytes-longest, Stores.sets-append, Writing.put-room, Writing.written-bytes}
 use Rattle.tapes_laws.specs.{after, timeOf, timesOf, stateAfter, bytesOf, timesBytes, TimesMeasured, TimesWritten}
 use Rattle.tapes_laws.specs.Source.{Source}
 
@@ -102,8 +100,7 @@ module _ (s : Source) (count state start left at r : ℕ) (before here : List �
       let m = timesBytes s (left - 1) behind in
       let step : timesBytes s left r ≡ b ++ m = times-step s left r h ∙ rw (← et, ← es) in
       let more = ap length step ∙ length-append b m in
-      let fits : at + length b ≤ length here = omega arith in
-      let same = ep ∙ put-room at time here fits in
+      let same = ep ∙ put-room at time here (omega arith) in
       let position = written-at _ _ _ _ same in
       let stored = written-bytes _ _ _ _ same in
       record {

@@ -1,14 +1,7 @@
 -- What the answers of this crate say in the paper's terms.
 use Rattle.machine.specs.All.{ℕ, Bool, true, false, List, Option, none, some, length}
 use lib.Ieee.{Float}
-use Rattle.tapes_laws.specs.declared.Made.{Made}
-use Rattle.tapes_laws.specs.declared.Made.the-variants.{Bytes, Refused}
-use Rattle.tapes_laws.specs.declared.Point.{Point as Corner}
-use Rattle.tapes_laws.specs.declared.Point.the-variants.{At, Refused as Unread}
-use Rattle.tapes_laws.specs.Options.{_>>=_, _>>_, ask}
-use Rattle.tapes_laws.specs.Source.{Point}
-use Rattle.tapes_laws.specs.Given.{pointAt, follows}
-use Rattle.tapes_laws.specs.Tape.{Making, made, refusal}
+use Rattle.tapes_laws.specs.{declared.Made.Made, declared.Made.the-variants.Bytes, declared.Made.the-variants.Refused, declared.Point.Point as Corner, declared.Point.the-variants.At, declared.Point.the-variants.Refused as Unread, Options._>>=_, Options._>>_, Options.ask, Source.Point, Given.pointAt, Given.follows, Tape.Making, Tape.made, Tape.refusal}
 
 -- how many bytes the tape has, or the number of the refusal
 unfoldable pub answer : Making → Made

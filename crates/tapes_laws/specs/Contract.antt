@@ -2,11 +2,8 @@
 use Rattle.machine.specs.All.{ℕ, _/_, List, some, _≡_, length, inForce, Cursor, parsed, tapeOf, beginning}
 use lib.Ieee.{Float}
 use Rattle.streams.specs.Stream.{beginning as startState}
-use Rattle.tapes_laws.specs.declared.Made.{Made}
-use Rattle.tapes_laws.specs.Limits.{numbersPerList}
-use Rattle.tapes_laws.specs.Given.{Listed, listsOf}
+use Rattle.tapes_laws.specs.{declared.Made.Made, Limits.numbersPerList, Given.Listed, Given.listsOf, Answers.answer}
 use Rattle.tapes_laws.specs.Tape.{made, makeTape, leaves, tapeTimes}
-use Rattle.tapes_laws.specs.Answers.{answer}
 
 -- validation takes these bytes as the tape of a model with that many lists, and reads these times
 pub record Taken (bytes : List ℕ) (lists : ℕ) (times : List (List ℕ)) : Type 0 where

@@ -1,21 +1,11 @@
 -- Which doubles stand for which source, for contracts between functions of this crate.
 use Rattle.machine.specs.All.{ℕ, _+_, _≤_, _<_, List, [], _∷_, Option, none, some, _≡_, length, getD, sets}
 use lib.Ieee.{Float, nan}
-use Rattle.floats.specs.Limits.{timeParts, maxTimeParts, drawParts}
-use Rattle.floats.specs.Value.{Is}
-use Rattle.floats.specs.Line.{Width, Ends}
-use Rattle.floats.specs.declared.Segment.{Segment}
-use Rattle.tapes_laws.specs.declared.Distribution.{Distribution}
+use Rattle.floats.specs.{Limits.timeParts, Limits.maxTimeParts, Limits.drawParts, Value.Is, Line.Width, Line.Ends, declared.Segment.Segment}
+use Rattle.tapes_laws.specs.{declared.Distribution.Distribution, declared.Choice.Choice, declared.Choice.the-variants.Taken, declared.Choice.the-variants.Refused, declared.Row.Row, declared.Row.the-variants.Given, declared.Row.the-variants.Barred, Given.Listed, declared.Made.Made, Answers.answer}
 use Rattle.tapes_laws.specs.declared.Distribution.the-variants.{Fixed, Spread, Curve}
-use Rattle.tapes_laws.specs.declared.Choice.{Choice}
-use Rattle.tapes_laws.specs.declared.Choice.the-variants.{Taken, Refused}
-use Rattle.tapes_laws.specs.declared.Row.{Row}
-use Rattle.tapes_laws.specs.declared.Row.the-variants.{Given, Barred}
 use Rattle.tapes_laws.specs.Source.{Point, Source, fixed, spread, curve, Between, stateAfter}
-use Rattle.tapes_laws.specs.Given.{Listed}
-use Rattle.tapes_laws.specs.declared.Made.{Made}
 use Rattle.tapes_laws.specs.Tape.{timesBytes, fromLists, leaves}
-use Rattle.tapes_laws.specs.Answers.{answer}
 
 -- the two doubles of a point
 pub record PointIs (numbers : List Float) (at : ℕ) (p : Point) : Type 0 where

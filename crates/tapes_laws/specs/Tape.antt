@@ -1,11 +1,9 @@
 -- Document 02, item 4: the whole tape from a stream and the lists in order, and the answers of the tape maker.
 use Rattle.machine.specs.All.{ℕ, cond, List, [], _∷_, _++_, map, Option, none, some, leb, length, drop, flat, numberBytes}
 use lib.Ieee.{Float}
-use Rattle.streams.specs.declared.Started.{Started}
+use Rattle.streams.specs.{declared.Started.Started, Stream.startOf}
 use Rattle.streams.specs.declared.Started.the-variants.{State, Refused}
-use Rattle.streams.specs.Stream.{startOf}
-use Rattle.tapes_laws.specs.Source.{Source, timesOf, stateAfter}
-use Rattle.tapes_laws.specs.Given.{Listed, listsOf}
+use Rattle.tapes_laws.specs.{Source.Source, Source.timesOf, Source.stateAfter, Given.Listed, Given.listsOf}
 
 -- ---- Bytes
 

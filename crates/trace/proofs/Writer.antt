@@ -1,12 +1,9 @@
 -- The writer, pure: the length of a record, the ranges as facts, its four numbers stored one after the other, and the rest
 -- that `writeRecord` leaves.
-use Rattle.machine.specs.All.{ℕ, _+_, _≤_, _<_, zero-add, arith, true, false, _&&_, List, [], _∷_, _++_, append-assoc, _≡_, refl, sym, ap, ap₂, _∙_, leb, lit≤, length, take, drop, length-append, sets, length-sets, sets-eq, take-append-seam, le-leb, lt-leb, leb-true, inForce, fiveGroups, maxClock, maxTransaction, maxBlocks, recordRoom, numberBytes, Record, recordBytes, traceBytes, inRanges, written, rejected, writeRecord}
+use Rattle.machine.specs.All.{clash, ℕ, _+_, _≤_, _<_, zero-add, arith, true, false, List, [], _∷_, _++_, append-assoc, _≡_, refl, ap, _∙_, lit≤, length, take, length-append, sets, length-sets, sets-eq, take-append-seam, le-leb, lt-leb, leb-true, inForce, fiveGroups, maxClock, maxTransaction, maxBlocks, recordRoom, numberBytes, Record, recordBytes, traceBytes, inRanges, written, rejected, writeRecord}
 use Rattle.machine.proofs.runs.RecordRoom.{record-room as room}
-use Rattle.codec.proofs.Fields.{both-true, between}
-use Rattle.codec.proofs.Numbers.{numberBytes-positive}
+use Rattle.codec.proofs.{Fields.both-true, Fields.between, Numbers.numberBytes-positive, Stores.sets-append, Writing.put-room}
 use Rattle.codec.specs.Writing.{Written as Placed, written as written-to, put}
-use Rattle.codec.proofs.Stores.{sets-append}
-use Rattle.codec.proofs.Writing.{put-room}
 use Rattle.trace.specs.declared.Written.the-variants.{Bytes, Refused}
 use Rattle.trace.specs.{after}
 
@@ -24,7 +21,7 @@ pub traceBytes-append : (l m : List Record) → traceBytes (l ++ m) ≡ traceByt
 unfolding traceBytes
 traceBytes-append [] m = refl
 traceBytes-append (r ∷ l) m =
-    ap (λ (u : List ℕ). recordBytes r ++ u) (traceBytes-append l m) ∙ sym (append-assoc (recordBytes r) (traceBytes l) (traceBytes m))
+    cc (traceBytes-append l m, append-assoc (recordBytes r) (traceBytes l) (traceBytes m))
 
 -- ---- Ranges
 
@@ -39,11 +36,11 @@ pub record Ranges (r : Record) : Type 0 where
 pub ranges : (r : Record) → inRanges inForce r ≡ true → Ranges r
 unfolding inRanges
 ranges r e =
-    let x = both-true _ (leb (r .outcome) 1) e in
-    let y = both-true _ (leb 1 (r .block) && leb (r .block) maxBlocks) (x .0) in
-    let z = both-true (leb (r .clock) maxClock) _ (y .0) in
-    let transaction = between 1 (r .transaction) maxTransaction (z .1) in
-    let block = between 1 (r .block) maxBlocks (y .1) in
+    let x = both-true _ _ e in
+    let y = both-true _ _ (x .0) in
+    let z = both-true _ _ (y .0) in
+    let transaction = between 1 _ maxTransaction (z .1) in
+    let block = between 1 _ maxBlocks (y .1) in
     record {
       clock = leb-true _ _ (z .0);
       first = transaction .0;
@@ -71,7 +68,7 @@ record-room r e = room inForce (lit≤ tt) r e
 
 pub record-positive : (r : Record) → 4 ≤ length (recordBytes r)
 record-positive r =
-    rw (recordBytes-length r)
+    rw recordBytes-length
     (omega (
       arith,
       numberBytes-positive (r .clock),
@@ -91,10 +88,10 @@ pub small : (r : Record) → inRanges inForce r ≡ true → Small r
 small r e =
     let h = ranges r e in
     record {
-      clock = omega (arith, h .clock);
-      transaction = omega (arith, h .transaction);
-      block = omega (arith, h .block);
-      outcome = omega (arith, h .outcome);
+      clock = omega arith;
+      transaction = omega arith;
+      block = omega arith;
+      outcome = omega arith;
     }
 
 -- ---- Stored
@@ -102,7 +99,7 @@ small r e =
 -- bytes stored behind those at the front
 pub stored-behind : (u w l m n : List ℕ) (p : ℕ) → p ≡ length u → m ≡ sets l 0 u → n ≡ sets m p w → n ≡ sets l 0 (u ++ w)
 stored-behind u w l m n p at first then =
-    then ∙ ap₂ (λ (k : List ℕ) (i : ℕ). sets k i w) first (at ∙ sym (zero-add (length u))) ∙ sets-append u w l 0
+    cc (then, first, at, zero-add (length u), sets-append u w l 0)
 
 -- a number written where there is room
 put-there : (at v r : ℕ) (l m : List ℕ) → at + length (numberBytes v) ≤ length l → written-to r m ≡ put v (written-to at l)
@@ -117,20 +114,19 @@ pub written-behind : (r : Record) (l m₁ m₂ m₃ m₄ : List ℕ) (p₁ p₂ 
     → written-to p₃ m₃ ≡ put (r .block) (written-to p₂ m₂) → written-to p₄ m₄ ≡ put (r .outcome) (written-to p₃ m₃) → m₄ ≡ sets l 0 (recordBytes r)
 unfolding recordBytes
 written-behind r l m₁ m₂ m₃ m₄ p₁ p₂ p₃ p₄ room e₁ e₂ e₃ e₄ =
-    let a = numberBytes (r .clock) in
-    let b = numberBytes (r .transaction) in
-    let d = numberBytes (r .block) in
+    let a = numberBytes _ in
+    let b = numberBytes _ in
+    let d = numberBytes _ in
     let all = recordBytes-length r in
-    let (at₁, one) = put-there 0 (r .clock) p₁ l m₁ (omega (arith, room)) e₁ in
+    let (at₁, one) = put-there 0 _ p₁ l m₁ (omega arith) e₁ in
     let long₁ = ap length one ∙ length-sets l 0 a in
-    let (at₂, two) = put-there p₁ (r .transaction) p₂ m₁ m₂ (omega (arith, room, long₁)) e₂ in
+    let (at₂, two) = put-there p₁ _ p₂ m₁ m₂ (omega arith) e₂ in
     let long₂ = ap length two ∙ length-sets m₁ p₁ b in
-    let (at₃, three) = put-there p₂ (r .block) p₃ m₂ m₃ (omega (arith, room, long₁, long₂)) e₃ in
+    let (at₃, three) = put-there p₂ _ p₃ m₂ m₃ (omega arith) e₃ in
     let long₃ = ap length three ∙ length-sets m₂ p₂ d in
-    let (at₄, four) = put-there p₃ (r .outcome) p₄ m₃ m₄ (omega (arith, room, long₁, long₂, long₃)) e₄ in
+    let (at₄, four) = put-there p₃ _ p₄ m₃ m₄ (omega arith) e₄ in
     let ab = length-append a b in
-    let abd = length-append (a ++ b) d in
-    stored-behind (a ++ b ++ d) _ l m₃ m₄ p₃ (omega (arith, ab, abd)) (stored-behind (a ++ b) d l m₂ m₃ p₂ (omega (arith, ab)) (stored-behind a b l m₁ m₂ p₁ (omega arith) one two) three) four
+    stored-behind (a ++ b ++ d) _ l m₃ m₄ p₃ (omega (arith, ab, (length-append (a ++ b) d))) (stored-behind (a ++ b) d l m₂ m₃ p₂ (omega arith) (stored-behind a b l m₁ m₂ p₁ (omega arith) one two) three) four
 
 -- ---- The answer and the rest afterwards
 
@@ -141,11 +137,11 @@ module _ (r : Record) (l : List ℕ) where
 
   pub refused-room : inRanges inForce r ≡ true → length l < length (recordBytes r) → rejected 33 ≡ writeRecord inForce (length l) r
   unfolding writeRecord
-  refused-room e h = rw (e, lt-leb (length (recordBytes r)) (length l) h)
+  refused-room e h = rw (e, lt-leb)
 
   pub written-record : inRanges inForce r ≡ true → length (recordBytes r) ≤ length l → written (recordBytes r) ≡ writeRecord inForce (length l) r
   unfolding writeRecord
-  written-record e h = rw (e, le-leb (length (recordBytes r)) (length l) h)
+  written-record e h = rw (e, le-leb)
 
   pub after-refused : (n : ℕ) → rejected n ≡ writeRecord inForce (length l) r → l ≡ after (writeRecord inForce (length l) r) l
   unfolding after
@@ -155,14 +151,14 @@ module _ (r : Record) (l : List ℕ) where
       sets l 0 (recordBytes r) ≡ after (writeRecord inForce (length l) r) l
   unfolding after
   after-written e h =
-      rw (← e) (sets-eq (recordBytes r) l 0 (omega arith) ∙ ap (λ (n : ℕ). recordBytes r ++ drop n l) (zero-add (length (recordBytes r))))
+      rw (← e) (cc (sets-eq (recordBytes r) l 0 (omega arith), zero-add (length (recordBytes r))))
 
   pub front-written : length (recordBytes r) ≤ length l → take (length (recordBytes r)) (sets l 0 (recordBytes r)) ≡ recordBytes r
-  front-written h = rw (sets-eq (recordBytes r) l 0 (omega arith)) (take-append-seam (recordBytes r) _)
+  front-written h = rw (sets-eq (recordBytes r) l 0 (omega arith)) (take-append-seam _ _)
 
 -- what a caller learns of the count
 pub refused-bytes : {k n : ℕ} → Refused k ≡ Bytes n → ⊥
-refused-bytes {k} {n} e = let z : _≡_ {A = ℕ} 0 1 = cc in omega arith
+refused-bytes {k} {n} e = clash (cc)
 
 pub bytes-count : {k n m most : ℕ} → Bytes k ≡ Bytes n → k ≡ m → m ≤ most → (n ≡ m) × (n ≤ most)
 bytes-count {k} {n} {m} {most} e len room =

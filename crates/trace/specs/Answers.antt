@@ -1,11 +1,8 @@
 -- What the answers of this crate say in the paper's terms. The contracts use these.
 use Rattle.machine.specs.All.{ℕ, List, _++_, length, take, drop}
 use Rattle.machine.specs.Trace as machine
-use Rattle.trace.specs.declared.Record.{Record}
-use Rattle.trace.specs.declared.Reading.{Reading}
+use Rattle.trace.specs.{declared.Record.Record, declared.Reading.Reading, declared.Written.Written, declared.Written.the-variants.Bytes, declared.Written.the-variants.Refused as Rejected}
 use Rattle.trace.specs.declared.Reading.the-variants.{Taken, Refused, NoMore}
-use Rattle.trace.specs.declared.Written.{Written}
-use Rattle.trace.specs.declared.Written.the-variants.{Bytes, Refused as Rejected}
 
 -- the four numbers of a record
 abbrev pub entry : ℕ → ℕ → ℕ → ℕ → machine.Record

@@ -8,8 +8,7 @@ use Rattle.state.specs.declared.scalars.Scalars.{Scalars}
 use Rattle.state.specs.All.{putUsed, Rows, rowsOf, atBlock, Tallied, Tallying, Counting, Stands, noteOf, Note, logged, countEntry, noteAs}
 use Rattle.state.proofs.StandsLaws.{entries-set, seen-set, serving-set, queueing-set}
 use Rattle.state.proofs.Written.{inOrder, bytes-cons, at-block-cons}
-use Rattle.moves.proofs.Before.{Before}
-use Rattle.moves.proofs.BeforeLaws.{placed, numbered}
+use Rattle.moves.proofs.{Before.Before, BeforeLaws.placed, BeforeLaws.numbered}
 use Rattle.turn_laws.specs.{Bytes, bytes, appended, appendRecord, cellOf, countRecord, Noted, noted, noteRecord}
 use Rattle.turn_laws.specs.Writes.{Writes}
 use Rattle.turn_laws.proofs.Unwritten.{Unwritten}
@@ -20,14 +19,14 @@ append-is : (trace : List ℕ) (used clock number block outcome : ℕ) (b : List
     → writeRecord inForce (length (drop used trace)) (entry clock number block outcome) ≡ written b
     → appendRecord trace used clock number block outcome ≡ bytes (used + length b) (take used trace ++ (b ++ drop (length b) (drop used trace)))
 unfolding appendRecord appended
-append-is trace used clock number block outcome b le e = rw (le-leb used (length trace) le, e)
+append-is trace used clock number block outcome b le e = rw (le-leb, e)
 
 -- behind the bytes so far stand the new ones, and then what stood there
 behind : (t b before : List ℕ) (used w : ℕ) → length t ≡ w → used ≡ w
     → take used (t ++ drop w before) ++ (b ++ drop (length b) (drop used (t ++ drop w before))) ≡ (t ++ b) ++ drop (w + length b) before
 behind t b before used w len e =
-    rw (e, take-at t (drop w before) w len, drop-at t (drop w before) w len, drop-drop (length b) w before)
-    (sym (append-assoc t b (drop (w + length b) before)))
+    rw (e, take-at, drop-at, drop-drop)
+    (sym (append-assoc t b _))
 
 -- ---- Counts
 
@@ -44,13 +43,13 @@ module _ (tapeBytes tally : List ℕ) (i n : ℕ) (low : i < 512) where
         size = length-set tally i n ∙ h .size;
         entries = entered;
         waits = waiting;
-        seen = seen-set tally i n (s .view .clock) (s .turns) (omega arith) (h .seen);
-        servers = serving-set tally i n (s .view .clock) (s .view .servers) (s .ql) (omega arith) (λ j a b. above j (omega arith)) (h .servers);
-        queues = queueing-set tally i n (s .view .clock) (s .view .queues) (omega arith) (λ j a b. above j (omega arith)) (h .queues);
+        seen = seen-set tally i n _ _ (omega arith) (h .seen);
+        servers = serving-set tally i n _ _ _ (omega arith) (λ j a b. above j (omega arith)) (h .servers);
+        queues = queueing-set tally i n _ _ (omega arith) (λ j a b. above j (omega arith)) (h .queues);
         samples =
             record {
-              begins = λ k hk. rw (getD-set-other tally i (928 + k) n 0 (above (928 + k) (omega arith))) (h .samples .begins k hk);
-              left = λ k hk. getD-set-other tally i (944 + k) n 0 (above (944 + k) (omega arith)) ∙ h .samples .left k hk;
+              begins = λ k hk. rw (getD-set-other tally i (928 + k) n 0 (above _ (omega arith))) (h .samples .begins k hk);
+              left = λ k hk. getD-set-other tally i _ n 0 (above _ (omega arith)) ∙ h .samples .left k hk;
             };
       }
 

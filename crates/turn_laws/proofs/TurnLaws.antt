@@ -1,28 +1,16 @@
 -- A turn over scalars, buffers and trace is the machine's turn.
-use Rattle.machine.specs.All.{ℕ, _+_, _-_, _*_, _≤_, _<_, _≡_, refl, sym, ap, _∙_, subst, Bool, true, false, cond, not, true≢false, List, _++_, Option, none, some, arith, lt-ltb, le-ltb, eqb-true, not-false, ltb, eqb, length, getD, drop, Transaction, Record, traceBytes, Block, BlockModel, blockAt, State, Logged, recordsOf, wakeWsl, question, Thing, theClock, entry}
+use Rattle.machine.specs.All.{cases, ℕ, _+_, _-_, _*_, _≤_, _<_, _≡_, refl, sym, ap, _∙_, subst, Bool, true, false, cond, not, true≢false, List, Option, none, some, arith, lt-ltb, le-ltb, eqb-true, not-false, ltb, eqb, length, getD, Transaction, Block, BlockModel, blockAt, State, recordsOf, wakeWsl, question, Thing, theClock}
 use Rattle.machine.specs.Turn as Machine
-use Rattle.machine.proofs.decoding.Proper.{Proper}
-use Rattle.machine.proofs.runs.Placed.{Placed}
-use Rattle.machine.proofs.runs.Everybody.{Maybe}
-use Rattle.machine.proofs.runs.RunLaws.{Taken}
-use Rattle.machine.proofs.nobody_able.StillWaiting.{MoverSpares, scheme-unread}
+use Rattle.machine.proofs.{decoding.Proper.Proper, runs.RunLaws.Taken, nobody_able.StillWaiting.MoverSpares, nobody_able.StillWaiting.scheme-unread}
 use Rattle.layout.specs.Layout as Layout
 use Rattle.layout.specs.All.{Represents, headerOf}
-use Rattle.rows_laws.specs.All.{read}
 use Rattle.evaluation.specs.Nested.{Nested}
 use Rattle.state.specs.declared.scalars.Scalars.{Scalars}
 use Rattle.state.specs.All.{Rows, rowsOf, Stands, Done, Bare, Note, enteredNote, waitsNote, noNote, noteAs, logged, countEntry}
-use Rattle.state.proofs.Sane.{Sane}
-use Rattle.state.proofs.Noted.{noted-answer}
-use Rattle.state.proofs.Gains.{Gains}
-use Rattle.state.proofs.BlockGains.{gains-wsScheme}
+use Rattle.state.proofs.{Sane.Sane, Noted.noted-answer, Gains.Gains, BlockGains.gains-wsScheme, Measured.Took}
 use Rattle.state.proofs.TurnGains.{Turned, unnoted, noted, turned}
-use Rattle.state.proofs.Measured.{Took}
 use Rattle.state.proofs.Sanity.{takenOf, Sure, taken-took, sane-taken, sure-turn}
-use Rattle.state.proofs.Written.{inOrder}
-use Rattle.moves.proofs.Before.{bareBlock, Before}
-use Rattle.moves.proofs.BeforeLaws.{inside}
-use Rattle.moves.proofs.MotionLaws.{next-read, number-read}
+use Rattle.moves.proofs.{Before.bareBlock, Before.Before, BeforeLaws.inside, MotionLaws.next-read, MotionLaws.number-read}
 use Rattle.clock.specs.Taking.{take}
 use Rattle.clock.proofs.TakingLaws.{take-stands}
 use Rattle.values_queues_laws.proofs.SchemeLaws.{scheme-stands, scheme-low}
@@ -30,19 +18,17 @@ use Rattle.blocks.specs.Execute.{execute}
 use Rattle.blocks.proofs.ExecuteLaws.{execute-done}
 use Rattle.turn_laws.specs.{noteRecord, Traced, traced, withNote, act, actMoving, clockAsks, nextOf, asks, schemeIf, withScheme, afterTaking, turn}
 use Rattle.turn_laws.specs.Writes.{Writes}
-use Rattle.turn_laws.proofs.Runs.{Runs}
-use Rattle.turn_laws.proofs.NoteLaws.{Follows, note-follows}
-use Rattle.turn_laws.proofs.Unwritten.{Unwritten, unwritten}
+use Rattle.turn_laws.proofs.{Runs.Runs, NoteLaws.Follows, NoteLaws.note-follows, Unwritten.Unwritten, Unwritten.unwritten}
 
 -- ---- Where no record is written
 
 writes-like : {before trace : List ℕ} {s s′ : State} → s′ .records ≡ s .records → s′ .written ≡ s .written → Writes before trace s → Writes before trace s′
 unfolding recordsOf
 writes-like {before} {s = s} {s′ = s′} records written h =
-    let same : recordsOf s ≡ recordsOf s′ = ap (λ (l : List Logged). inOrder l) (sym records) in
+    let same : recordsOf s ≡ recordsOf s′ = cc records in
     record {
-      bytes = h .bytes ∙ ap (λ (l : List Record). traceBytes l ++ drop (s .written) before) same ∙ ap (λ (n : ℕ). traceBytes (recordsOf s′) ++ drop n before) (sym written);
-      written = written ∙ h .written ∙ ap (λ (l : List Record). length (traceBytes l)) same;
+      bytes = cc (h .bytes, same, written);
+      written = cc (written, h .written, same);
     }
 
 -- ---- The block and its record
@@ -90,36 +76,35 @@ module _ {m : BlockModel} {tape : List (List ℕ)} {tapeBytes tables lists befor
     done = execute-done b stood
 
     untouched : Unwritten s (left .state)
-    untouched = unwritten m b t s (proper .block (t .next))
+    untouched = unwritten m b t s (proper .block _)
 
     note : Follows tapeBytes before (after .work) (noteRecord (after .tally) trace (after .scalars) (t .number) (t .next)) (noteAs (left .note) t s (left .state))
     note =
-        note-follows stood room few (left .state) untouched after (done .stands) (writes-like (untouched .records) (untouched .written) writes)
-        (left .note) (done .note)
+        note-follows stood room few _ untouched after (done .stands) (writes-like (untouched .records) (untouched .written) writes)
+        _ (done .note)
 
     noted-runs : Runs tapeBytes before (withNote after trace (t .number) (t .next)) (Machine.execute (some t) m s)
     unfolding withNote traced Machine.execute rowsOf noteRecord
     noted-runs =
-        subst (λ (y : State). Runs tapeBytes before (withNote after trace (t .number) (t .next)) y) (noted-answer (question m b t s) m b t s)
-        (record { stands = note .stands; writes = note .writes })
+        rw (← noted-answer (question m b t s) m b t s) (record { stands = note .stands; writes = note .writes })
 
     below : t .next - 1 < 256
-    below = omega (arith, inside stood, proper .blocks .1)
+    below = omega (arith, inside stood)
 
     acting : Runs tapeBytes before (actMoving tables values (m .facilities) tapeBytes w tally trace x) (Machine.execute (some t) m s)
     unfolding actMoving act
-    acting = rw (lt-ltb (x .moving) 1024 (stands .listing .mover .0 .row), number-read (stands .listing), next-read (stands .listing), lt-ltb (t .next - 1) 256 below) noted-runs
+    acting = rw (lt-ltb _ 1024 (stands .listing .mover .0 .row), number-read (stands .listing), next-read (stands .listing), lt-ltb _ 256 below) noted-runs
 
   nobody : s .moving ≡ none → Stands tapeBytes r none s → Runs tapeBytes before (actMoving tables values (m .facilities) tapeBytes w tally trace x) s
   unfolding actMoving
   nobody e stands =
-      rw (le-ltb (x .moving) 1024 (omega (arith, stands .listing .mover))) idle
+      rw (le-ltb (x .moving) 1024 (omega arith)) idle
     where
       idle : Runs tapeBytes before (traced (rowsOf x w tally) trace) s
       idle =
           unfold traced rowsOf in
           record {
-            stands = subst (λ (o : Option Transaction). Stands tapeBytes (rowsOf x w tally) o s) (sym e) (record { listing = stands .listing; tallying = stands .tallying; counting = stands .counting });
+            stands = rw e (record { listing = stands .listing; tallying = stands .tallying; counting = stands .counting });
             writes = writes;
           }
 
@@ -133,7 +118,7 @@ module _ {m : BlockModel} {tape : List (List ℕ)} {tapeBytes tables lists befor
 clock-left : {s s′ : State} → Turned s s′ → s′ .view .clock ≡ s .view .clock
 unfolding noteAs logged countEntry
 clock-left (unnoted g) = g .clock
-clock-left {s} (noted t e n later h g) = g .clock ∙ by-note n ∙ h .gains .clock
+clock-left {s} (noted t e n later h g) = cc (g .clock, by-note n, h .gains .clock)
   where
     by-note : (n : Note) → noteAs n t s later .view .clock ≡ later .view .clock
     by-note enteredNote = refl
@@ -167,17 +152,13 @@ module _ {m : BlockModel} {tape : List (List ℕ)} {tapeBytes tables lists befor
 
   acts : Runs tapeBytes before acted z
   acts =
-      act-runs proper rep nested y sane₁ (omega (arith, took .written, taken .room-left)) (omega (arith, ap length (took .records), few)) r₁ (a .trace) (writes-like (took .records) (took .written) (runs .writes)) (y .moving) refl
+      act-runs proper rep nested y sane₁ (omega (arith, took .written)) (omega (arith, ap length (took .records))) r₁ _ (writes-like (took .records) (took .written) (runs .writes)) _ refl
       (take-stands proper tapeBytes r s (sure .sane) (taken .turns-left) (runs .stands))
 
   -- the scheme leaves who moves and the records
   scheme-moving : (u : State) → Machine.wsScheme m u .moving ≡ u .moving
   unfolding Machine.wsScheme
-  scheme-moving u = go (eqb (u .end) 0)
-    where
-      go : (c : Bool) → cond {A = State} c (wakeWsl (λ t. not (Machine.waitsOn m (u .view) t)) u) u .moving ≡ u .moving
-      go true = unfold wakeWsl in refl
-      go false = refl
+  scheme-moving u = cases (eqb (u .end) 0) (λ e. rw e (unfold wakeWsl in refl)) (λ e. rw e)
 
   scheme-gains : Gains 0 0 0 z (Machine.wsScheme m z)
   scheme-gains = gains-wsScheme m z
@@ -196,7 +177,7 @@ module _ {m : BlockModel} {tape : List (List ℕ)} {tapeBytes tables lists befor
       record {
         stands =
             subst (λ (o : Option Transaction). Stands tapeBytes (withScheme true tables (length (m .blocks)) (length (m .values)) acted .rows) o (Machine.wsScheme m z)) (sym (scheme-moving z))
-            (scheme-stands proper rep nested (acted .rows) (z .moving) z (scheme-low z (ended .sane)) (acts .stands));
+            (scheme-stands proper rep nested _ _ z (scheme-low z (ended .sane)) (acts .stands));
         writes =
             writes-like (scheme-gains .records) (scheme-gains .written) (acts .writes);
       }
@@ -207,13 +188,13 @@ module _ {m : BlockModel} {tape : List (List ℕ)} {tapeBytes tables lists befor
   S x = rep .watching .watched x ≡ true
 
   not-in : (x : Thing) → rep .watching .watched x ≡ false → S x → ⊥
-  not-in x e h = true≢false (sym h ∙ e)
+  not-in x e h = true≢false (cc (h, e))
 
   stands₁ : Stands tapeBytes r₁ (y .moving) y
   stands₁ = take-stands proper tapeBytes r s (sure .sane) (taken .turns-left) (runs .stands)
 
   acted-clock : acted .rows .scalars .clock ≡ y .view .clock
-  acted-clock = acts .stands .counting .clock ∙ sym (scheme-gains .clock) ∙ clock-left (turned proper y)
+  acted-clock = cc (acts .stands .counting .clock, scheme-gains .clock, clock-left (turned proper y))
 
   clock-kept : clockAsks tables (r .scalars .clock) (acted .rows .scalars .clock) ≡ false → S theClock → s .view .clock ≡ y .view .clock
   unfolding clockAsks
@@ -231,23 +212,22 @@ module _ {m : BlockModel} {tape : List (List ℕ)} {tapeBytes tables lists befor
   mover-spares none e h q = tt
   mover-spares (some t) e h q =
       let next = next-read (h .listing) in
-      let placed : Placed m t = subst (Maybe (Placed m)) e (sane₁ .placed .moving) in
-      let inside : t .next - 1 < length (m .blocks) = omega (arith, placed .0 .1, proper .blocks .0, placed .0 .0) in
-      let low : t .next - 1 < 256 = omega (arith, inside, proper .blocks .1) in
-      let cell : getD tables (Layout.asked + (t .next - 1)) 0 ≡ 0 = eqb-true _ 0 (not-false _ (rw (lt-ltb (r₁ .scalars .moving) 1024 (h .listing .mover .0 .row), next, lt-ltb (t .next - 1) 256 low) at q)) in
-      (not-in (entry (t .next - 1)) (rep .watching .entries (t .next - 1) inside cell), rep .watching .changes (t .next - 1) inside cell)
+      let placed = rw e at (sane₁ .placed .moving) in
+      let inside : t .next - 1 < length (m .blocks) = omega arith in
+      let low : t .next - 1 < 256 = omega arith in
+      let cell = eqb-true _ 0 (not-false _ (rw (lt-ltb _ 1024 (h .listing .mover .0 .row), next, lt-ltb) at q)) in
+      (not-in _ (rep .watching .entries _ inside cell), rep .watching .changes _ inside cell)
 
   still : asking ≡ false → Machine.wsScheme m z ≡ z
   unfolding asks
-  still f = go (clockAsks tables (r .scalars .clock) (acted .rows .scalars .clock)) refl f
-    where
-      go : (c : Bool) → clockAsks tables (r .scalars .clock) (acted .rows .scalars .clock) ≡ c → cond c true (blockAsks (nextOf (r₁ .work) (r₁ .scalars .moving))) ≡ false → Machine.wsScheme m z ≡ z
-      go true e q = absurd (true≢false q)
-      go false e q = scheme-unread S m (rep .watching .watches) s (sure .settled (taken .no-end)) (clock-kept e) (mover-spares (y .moving) refl stands₁ q)
+  still f =
+      cases (clockAsks tables (r .scalars .clock) (acted .rows .scalars .clock))
+      (λ e. absurd (true≢false (rw e at f)))
+      (λ e. scheme-unread S m (rep .watching .watches) s (sure .settled (taken .no-end)) (clock-kept e) (mover-spares _ refl stands₁ (rw e at f)))
 
   unasked : asking ≡ false → Runs tapeBytes before (withScheme false tables (length (m .blocks)) (length (m .values)) acted) (Machine.wsScheme m z)
   unasked f =
-      subst (λ (u : State). Runs tapeBytes before (withScheme false tables (length (m .blocks)) (length (m .values)) acted) u) (sym (still f)) left-alone
+      rw (still f) left-alone
     where
       left-alone : Runs tapeBytes before (withScheme false tables (length (m .blocks)) (length (m .values)) acted) z
       left-alone =

@@ -2,8 +2,7 @@
 use Rattle.machine.specs.All.{ℕ, _+_, _-_, min, cond, List, _++_, ltb, leb, eqb, length, getD, set, take, drop, inForce, Writing, written, rejected, writeRecord}
 use Rattle.layout.specs.All.{waits, most64}
 use Rattle.trace.specs.Answers.{entry}
-use Rattle.state.specs.declared.scalars.Scalars.{Scalars}
-use Rattle.state.specs.All.{putUsed}
+use Rattle.state.specs.{declared.scalars.Scalars.Scalars, All.putUsed}
 
 -- how many bytes of the trace buffer are used, and the buffer
 pub record Bytes : Type 0 where

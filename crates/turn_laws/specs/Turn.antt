@@ -3,8 +3,7 @@ use Rattle.machine.specs.All.{ℕ, _+_, _*_, _-_, Bool, true, false, cond, not,
 use Rattle.constants.specs.declared.model.Model.{Model}
 use Rattle.layout.specs.Layout as Layout
 use Rattle.rows_laws.specs.All.{numberField, nextField, rowCount, read}
-use Rattle.state.specs.declared.scalars.Scalars.{Scalars}
-use Rattle.state.specs.All.{Rows, rowsOf}
+use Rattle.state.specs.{declared.scalars.Scalars.Scalars, All.Rows, All.rowsOf}
 use Rattle.clock.specs.Taking.{take}
 use Rattle.values_queues_laws.specs.Scheme.{wsScheme}
 use Rattle.blocks.specs.Execute.{execute}

@@ -1,5 +1,5 @@
 -- WAITIF and IF on a comparison, GOTO and LET leave what the machine's do.
-use Rattle.machine.specs.All.{ℕ, suc, _+_, _-_, _≤_, _≡_, refl, sym, ap, _∙_, Bool, true, false, cond, List, none, some, arith, lt-ltb, length, getD, set, Transaction, precedes, Term, Relation, signed, low32, evaluate, compare, truth, Block, waitTerms, branch, goto, assign, BlockModel, State, withParameters, setMoving, question}
+use Rattle.machine.specs.All.{ℕ, suc, _+_, _-_, _≤_, _≡_, refl, _∙_, Bool, true, false, cond, List, none, some, arith, lt-ltb, length, getD, set, Transaction, precedes, Term, Relation, evaluate, compare, truth, Block, waitTerms, branch, goto, assign, BlockModel, State, withParameters, setMoving, question}
 use lib.IntN.{ℤ}
 use mir.Syntax.{w32}
 use mir.Val.{toZ}
@@ -7,10 +7,8 @@ use Rattle.machine.specs.Moves as Moves
 use Rattle.layout.specs.All.{blockForms}
 use Rattle.rows_laws.specs.All.{wsl, parameterField, write, Sorted}
 use Rattle.rows_laws.proofs.Fields.{write-parameter}
-use Rattle.evaluation.specs.Evaluation.{compareAt}
-use Rattle.evaluation.specs.Sees.{parametersOf, Sees}
-use Rattle.evaluation.proofs.Signs.{signed-low}
-use Rattle.evaluation.proofs.Laws.{let-law, wait-law, if-law}
+use Rattle.evaluation.specs.{Evaluation.compareAt, Sees.parametersOf, Sees.Sees}
+use Rattle.evaluation.proofs.{Signs.signed-low, Laws.let-law, Laws.wait-law, Laws.if-law}
 use Rattle.state.specs.declared.scalars.Scalars.{Scalars}
 use Rattle.state.specs.All.{listsIn, Listing, Done, entering, waiting, bare, bareAnswer}
 use Rattle.state.proofs.StandsLaws.{listing-write}
@@ -19,9 +17,10 @@ use Rattle.moves.specs.Motion.{withTally, goTo, goOn, waitOn}
 use Rattle.moves.proofs.BeforeLaws.{inside, next-low, serial-low, proper-block, operand}
 use Rattle.moves.proofs.MotionLaws.{go-to-done, go-on-done, puts-wsl, wait-on-done}
 use Rattle.values_queues_laws.specs.{parametersAt, holdsAt, worthAt, setParameter, waitTermsRows, branchRows, assignRows, gotoRows}
-use Rattle.values_queues_laws.proofs.Sees.{sane-low, sees}
-use Rattle.values_queues_laws.proofs.Parameters.{signed-toZ, parameters-are, evaluate-small}
-use Rattle.values_queues_laws.proofs.Operands.{assign-term, branch-target}
+use Rattle.values_queues_laws.proofs as our
+use our.Sees.{sane-low, sees}
+use our.Parameters.{signed-toZ, parameters-are, evaluate-small}
+use our.Operands.{assign-term, branch-target}
 
 module _ {m : BlockModel} {tape : List (List ℕ)} {tapeBytes tables lists w tally : List ℕ} {x : Scalars} {t : Transaction} {s : State} {block : Block}
     (h : Before m tape tapeBytes tables lists w tally x t s block) where
@@ -32,13 +31,13 @@ module _ {m : BlockModel} {tape : List (List ℕ)} {tapeBytes tables lists w tal
   seen = sees (sane-low (h .sane)) x (h .proper) (h .rep) (h .tallying) (h .counting)
 
   own : parametersOf (parametersAt w (x .moving)) ≡ t .parameters
-  own = parameters-are w (x .moving) ∙ ap (λ (u : Transaction). u .parameters) (h .listing .mover .1)
+  own = cc (parameters-are w (x .moving), h .listing .mover .1)
 
   holds-is : (a : Term) (o : Relation) (b : Term)
       → compareAt tables tally (length (m .values)) (x .clock) (parametersAt w (x .moving)) (placeOf t + 1) ≡ compare (m .values) (s .view) (parametersOf (parametersAt w (x .moving))) a o b
       → holdsAt tables (length (m .values)) w tally (x .clock) (x .moving) (placeOf t) ≡ compare (m .values) (s .view) (t .parameters) a o b
   unfolding holdsAt
-  holds-is a o b e = e ∙ ap (λ (l : List ℤ). compare (m .values) (s .view) l a o b) own
+  holds-is a o b e = cc (e, own)
 
   go-on : Done tapeBytes (withTally (goOn w x) tally) (entering (Moves.goOn t s₀))
   go-on = go-on-done x s₀ (h .listing) (h .tallying) (h .counting) (next-low h)
@@ -61,7 +60,7 @@ module _ {m : BlockModel} {tape : List (List ℕ)} {tapeBytes tables lists w tal
       → Done tapeBytes (withTally (waitTermsRows tables (length (m .values)) w tally x (placeOf t)) tally) (bareBlock m (waitTerms a o b) t s)
   unfolding waitTermsRows question bareAnswer bare
   wait-terms-done {a} {o} {b} h =
-      rw (holds-is h a o b (wait-law (h .rep) (h .nested) (seen h) (parametersAt w (x .moving)) (t .next - 1) (inside h) a o b (h .is))) (go (compare (m .values) (s .view) (t .parameters) a o b))
+      rw (holds-is h a o b (wait-law (h .rep) (h .nested) (seen h) _ _ (inside h) a o b (h .is))) (go (compare _ _ _ a o b))
     where
       go : (c : Bool) → Done tapeBytes (withTally (cond c (waitOn w x wsl 1) (goOn w x)) tally) (cond c (waiting Moves.toWsl t (setMoving none s)) (entering (Moves.goOn t (setMoving none s))))
       go true = wait-on h
@@ -73,8 +72,8 @@ module _ {m : BlockModel} {tape : List (List ℕ)} {tapeBytes tables lists w tal
       → Done tapeBytes (withTally (branchRows tables (length (m .values)) w tally x (placeOf t)) tally) (bareBlock m (branch a o b target) t s)
   unfolding branchRows question bareAnswer bare truth
   branch-done {a} {o} {b} {target} h =
-      rw (holds-is h a o b (if-law (h .rep) (h .nested) (seen h) (parametersAt w (x .moving)) (t .next - 1) (inside h) a o b target (h .is)), branch-target (h .rep) (t .next - 1) (inside h) (h .nested) a o b target (h .is))
-      (go (compare (m .values) (s .view) (t .parameters) a o b))
+      rw (holds-is h a o b (if-law (h .rep) (h .nested) (seen h) _ _ (inside h) a o b target (h .is)), branch-target (h .rep) _ (inside h) (h .nested) a o b target (h .is))
+      (go (compare _ _ _ a o b))
     where
       go : (c : Bool) → Done tapeBytes (withTally (cond c (goTo w x target) (goOn w x)) tally) (entering (Moves.moveTo (cond c target (suc (t .next))) t (setMoving none s)))
       go true = go-to h target
@@ -104,25 +103,22 @@ module _ {m : BlockModel} {tape : List (List ℕ)} {tapeBytes tables lists w tal
   unfolding worthAt
   stored =
       let p = parametersAt w (x .moving) in
-      let ok = assign-term (h .rep) (t .next - 1) (inside h) (h .nested) k a (h .is) in
-      sym (signed-toZ _)
-      ∙ ap (λ (y : ℤ). signed (low32 y)) (let-law (h .rep) (h .nested) (seen h) p (t .next - 1) (inside h) k a (h .is))
-      ∙ signed-low _ (evaluate-small (seen h) p (m .values) a (ok .0) (ok .1))
-      ∙ ap (λ (l : List ℤ). evaluate (m .values) (s .view) l a) (own h)
+      let ok = assign-term (h .rep) _ (inside h) (h .nested) k a (h .is) in
+      rw (← signed-toZ _, let-law (h .rep) (h .nested) (seen h) p (t .next - 1) (inside h) k a (h .is), signed-low _ (evaluate-small (seen h) p (m .values) a (ok .0) (ok .1)), own h)
 
   named : (1 ≤ k) × (k ≤ 4)
   named = proper-block h
 
   written : setParameter w (x .moving) (getD tables (placeOf t + 1) 0) worth ≡ write w (parameterField + (k - 1)) (x .moving) worth
   unfolding setParameter blockForms
-  written = rw (operand h 1 (omega arith), lt-ltb (k - 1) 4 (omega (arith, named .0, named .1)))
+  written = rw (operand h 1 (omega arith), lt-ltb (k - 1) 4 (omega (arith, named .1)))
 
   listing : Listing (write w (parameterField + (k - 1)) (x .moving) worth) (x .moving) (some t′) s
   listing =
-      listing-write (h .listing) (parameterField + (k - 1)) worth (omega (arith, named .1))
-      (write-parameter w (x .moving) (h .listing .shows .shown .holds .room) (h .listing .mover .0 .row) (k - 1) worth (omega (arith, named .0, named .1))
+      listing-write (h .listing) _ worth (omega (arith, named .1))
+      (write-parameter w _ (h .listing .shows .shown .holds .room) (h .listing .mover .0 .row) _ worth (omega (arith, named .1))
       ∙ rw (stored, h .listing .mover .1))
 
   pub assign-done : Done tapeBytes (withTally (assignRows tables (length (m .values)) w tally x (placeOf t)) tally) (bareBlock m (assign k a) t s)
   unfolding assignRows question bareAnswer bare
-  assign-done = rw written (go-on-done x (setMoving none s) listing (h .tallying) (h .counting) (next-low h))
+  assign-done = rw written (go-on-done x _ listing (h .tallying) (h .counting) (next-low h))

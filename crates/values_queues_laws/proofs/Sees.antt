@@ -1,12 +1,11 @@
 -- What terms see of tables, tally and clock is what the machine's view holds.
-use Rattle.machine.specs.All.{ℕ, zero, suc, _+_, _≤_, _<_, _≡_, sym, ap, _∙_, List, [], _∷_, _++_, arith, length, getD, replicate, List·getD-map, maxCapacity, maxTurns, Queue, idleServer, emptyQueue, BlockModel, State, Each}
+use Rattle.machine.specs.All.{ℕ, zero, suc, _+_, _≤_, _<_, _≡_, sym, List, [], _∷_, _++_, arith, length, getD, replicate, List·getD-map, maxCapacity, maxTurns, Queue, idleServer, emptyQueue, BlockModel, State, Each}
 use Rattle.machine.proofs.decoding.Proper.{Proper}
 use Rattle.machine.proofs.runs.Shape.{Shape, Within, capacityOf, allCapacities, each-getD, server-length}
 use Rattle.layout.specs.All.{Represents}
 use Rattle.evaluation.specs.Sees.{Sees}
-use Rattle.state.specs.All.{Tallying, Counting}
+use Rattle.state.specs.{All.Tallying, All.Counting, declared.scalars.Scalars.Scalars}
 use Rattle.state.proofs.Sane.{Sane}
-use Rattle.state.specs.declared.scalars.Scalars.{Scalars}
 
 -- ---- Capacities
 
@@ -36,7 +35,7 @@ module _ {m : BlockModel} {s : State} (lows : Low m s) where
   capacity-is : (v : ℕ) → getD (s .view .servers) v (idleServer 0) .capacity ≡ getD (allCapacities m) v 0
   unfolding idleServer
   capacity-is v =
-      sym (List·getD-map capacityOf (s .view .servers) v (idleServer 0)) ∙ ap (λ (l : List ℕ). getD l v 0) (lows .shape .capacities)
+      cc (List·getD-map capacityOf (s .view .servers) v (idleServer 0), lows .shape .capacities)
 
   capacity-low : {tape : List (List ℕ)} → Proper m tape → (v : ℕ) → getD (s .view .servers) v (idleServer 0) .capacity ≤ maxCapacity
   capacity-low proper v =
@@ -44,7 +43,7 @@ module _ {m : BlockModel} {s : State} (lows : Low m s) where
 
   in-use-low : (v : ℕ) → getD (s .view .servers) v (idleServer 0) .inUse ≤ getD (s .view .servers) v (idleServer 0) .capacity
   unfolding idleServer
-  in-use-low v = each-getD Within (s .view .servers) v (idleServer 0) (lows .shape .within) (omega arith)
+  in-use-low v = each-getD Within (s .view .servers) v _ (lows .shape .within) (omega arith)
 
   entries-low : (b : ℕ) → getD (s .view .entries) b 0 ≤ s .turns
   entries-low b = each-getD (λ (n : ℕ). n ≤ s .turns) (s .view .entries) b 0 (lows .entries) (omega arith)
@@ -62,15 +61,15 @@ module _ {m : BlockModel} {s : State} (lows : Low m s) where
         entries =
             record {
               shown = λ b hb. sym (tallying .entries b hb);
-              small = λ b hb. omega (arith, entries-low b, lows .turns);
+              small = λ b hb. omega (arith, entries-low b);
             };
-        entries-size = omega (arith, lows .shape .entry-length, proper .blocks .1);
+        entries-size = omega arith;
         contents =
             record {
               shown = λ q hq. sym (tallying .queues .contents q hq);
-              small = λ q hq. omega (arith, content-low q, lows .turns);
+              small = λ q hq. omega (arith, content-low q);
             };
-        queues-size = omega (arith, lows .shape .queue-length, proper .queues);
+        queues-size = omega arith;
         in-use =
             record {
               shown = λ v hv. sym (tallying .servers .in-use v hv);
@@ -78,8 +77,8 @@ module _ {m : BlockModel} {s : State} (lows : Low m s) where
             };
         capacities =
             record {
-              shown = λ v hv. capacity-is v ∙ sym (rep .capacities v hv);
+              shown = λ v hv. cc (capacity-is v, rep .capacities v hv);
               small = λ v hv. omega (arith, capacity-low proper v);
             };
-        servers-size = omega (arith, server-length (lows .shape), proper .facilities, proper .storages);
+        servers-size = omega (arith, server-length (lows .shape), proper .storages);
       }

@@ -1,8 +1,7 @@
 -- The row machine: ARRIVE and DEPART.
 use Rattle.machine.specs.All.{ℕ, _+_, _-_, _%_, min, cond, List, eqb, getD, set, maxQueues}
 use Rattle.layout.specs.Layout as Layout
-use Rattle.state.specs.declared.scalars.Scalars.{Scalars}
-use Rattle.state.specs.All.{updateQueue, Rows, rowsOf}
+use Rattle.state.specs.{declared.scalars.Scalars.Scalars, All.updateQueue, All.Rows, All.rowsOf}
 use Rattle.moves.specs.Motion.{goOn, withTally, stopped}
 
 -- the queue, from 0, that the block at `at` names

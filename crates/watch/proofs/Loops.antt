@@ -1,5 +1,5 @@
 -- The loops of the crate, pure: one step more, and all of them.
-use Rattle.machine.specs.All.{ℕ, zero, suc, _+_, _-_, _≤_, _<_, arith, List, _≡_, refl, sym, ap, _∙_, getD, set, replicate}
+use Rattle.machine.specs.All.{ℕ, zero, suc, _+_, _-_, _≤_, _<_, arith, List, _≡_, refl, ap, getD, set, replicate}
 use Rattle.layout.specs.Layout as Layout
 use Rattle.watch.specs.{clockMark, marksSize, reachValue, reach, waitMarks, waitsMarks, marksOf, ownOf, askedOf, ownStored, askedStored, withMarks, watched}
 
@@ -9,7 +9,7 @@ pub reach-next : (tables : List ℕ) (k j : ℕ) (marks after : List ℕ) → 0 
 unfolding reach
 reach-next tables zero j marks after h e f = absurd (omega arith)
 reach-next tables (suc k) j marks after h e f =
-    let same : k ≡ j = omega arith in ap (λ (i : ℕ). reach tables i (reachValue tables i marks)) same ∙ ap (reach tables j) (sym f)
+    let same : k ≡ j = omega arith in cc (same, f)
 
 pub reach-end : (tables : List ℕ) (k : ℕ) (marks : List ℕ) → k ≤ 0 → reach tables k marks ≡ marks
 unfolding reach
@@ -31,7 +31,7 @@ pub waits-next : (tables : List ℕ) (values b : ℕ) (marks₀ marks after : Li
     → after ≡ waitMarks tables values b marks → after ≡ waitsMarks tables values (b + 1) marks₀
 waits-next tables values b marks₀ marks after e f =
     let one : b + 1 ≡ suc b = omega arith in
-    f ∙ ap (waitMarks tables values b) e ∙ step ∙ ap (λ (i : ℕ). waitsMarks tables values i marks₀) (sym one)
+    cc (f, e, step, one)
   where
     step : waitMarks tables values b (waitsMarks tables values b marks₀) ≡ waitsMarks tables values (suc b) marks₀
     step = unfold waitsMarks in refl
@@ -40,8 +40,7 @@ pub own-next : (values k : ℕ) (tables₀ tables after : List ℕ) (x : ℕ) �
     → after ≡ set tables (Layout.namesOwn + k) x → after ≡ ownStored values (k + 1) tables₀
 own-next values k tables₀ tables after x e f g =
     let one : k + 1 ≡ suc k = omega arith in
-    g ∙ ap (set tables (Layout.namesOwn + k)) f ∙ ap (λ (t : List ℕ). set t (Layout.namesOwn + k) (ownOf t values k)) e ∙ step
-    ∙ ap (λ (i : ℕ). ownStored values i tables₀) (sym one)
+    cc (g, f, e, step, one)
   where
     step : set (ownStored values k tables₀) (Layout.namesOwn + k) (ownOf (ownStored values k tables₀) values k) ≡ ownStored values (suc k) tables₀
     step = unfold ownStored in refl
@@ -50,8 +49,7 @@ pub asked-next : (marks : List ℕ) (b : ℕ) (tables₀ tables after : List ℕ
     → after ≡ set tables (Layout.asked + b) x → after ≡ askedStored marks (b + 1) tables₀
 asked-next marks b tables₀ tables after x e f g =
     let one : b + 1 ≡ suc b = omega arith in
-    g ∙ ap (set tables (Layout.asked + b)) f ∙ ap (λ (t : List ℕ). set t (Layout.asked + b) (askedOf t marks b)) e ∙ step
-    ∙ ap (λ (i : ℕ). askedStored marks i tables₀) (sym one)
+    cc (g, f, e, step, one)
   where
     step : set (askedStored marks b tables₀) (Layout.asked + b) (askedOf (askedStored marks b tables₀) marks b) ≡ askedStored marks (suc b) tables₀
     step = unfold askedStored in refl

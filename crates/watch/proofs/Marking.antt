@@ -93,46 +93,45 @@ set-keeps (x ∷ marks) (suc c) (suc i) h = set-keeps marks c i h
 pub all-keeps : (l marks : List ℕ) (i : ℕ) → getD marks i 0 ≡ 1 → getD (markAll l marks) i 0 ≡ 1
 unfolding markAll
 all-keeps [] marks i h = h
-all-keeps (c ∷ l) marks i h = all-keeps l (set marks c 1) i (set-keeps marks c i h)
+all-keeps (c ∷ l) marks i h = all-keeps l _ i (set-keeps marks c i h)
 
 pub all-length : (l marks : List ℕ) → length (markAll l marks) ≡ length marks
 unfolding markAll
 all-length [] marks = refl
-all-length (c ∷ l) marks = all-length l (set marks c 1) ∙ length-set marks c 1
+all-length (c ∷ l) marks = all-length l _ ∙ length-set marks c 1
 
 all-marked : (l marks : List ℕ) → Each (λ c. c < length marks) l → Each (λ c. getD (markAll l marks) c 0 ≡ 1) l
 unfolding markAll
 all-marked [] marks h = tt
 all-marked (c ∷ l) marks h =
-    (all-keeps l (set marks c 1) c (getD-set-same marks c 1 0 (h .0)), all-marked l (set marks c 1) (subst (λ (n : ℕ). Each (λ i. i < n) l) (sym (length-set marks c 1)) (h .1)))
+    (all-keeps l _ c (getD-set-same marks c 1 0 (h .0)), all-marked l _ (rw (length-set marks c 1) (h .1)))
 
 all-others : (l marks : List ℕ) (i : ℕ) → Each (λ c. c ≡ i → ⊥) l → getD (markAll l marks) i 0 ≡ getD marks i 0
 unfolding markAll
 all-others [] marks i h = refl
-all-others (c ∷ l) marks i h = all-others l (set marks c 1) i (h .1) ∙ getD-set-other marks c i 1 0 (λ e. h .0 (sym e))
+all-others (c ∷ l) marks i h = all-others l _ i (h .1) ∙ getD-set-other marks c i 1 0 (λ e. h .0 (sym e))
 
 module _ (lower : ℕ) (few : lower ≤ 8) (marks : List ℕ) (size : length marks ≡ marksSize) where
   pub term-marked : (t : Term) → Each (λ c. getD (markAll (termCells lower t) marks) c 0 ≡ 1) (termCells lower t)
   term-marked t =
       all-marked (termCells lower t) marks
-      (subst (λ (n : ℕ). Each (λ c. c < n) (termCells lower t)) (sym size) (term-each (λ i. i < marksSize) lower (inside-cells lower few) t))
+      (rw size (term-each (λ i. i < marksSize) lower (inside-cells lower few) t))
 
   pub both-marked : (a b : Term) → Each (λ c. getD (markAll (termCells lower a ++ termCells lower b) marks) c 0 ≡ 1) (termCells lower a ++ termCells lower b)
   both-marked a b =
       all-marked (termCells lower a ++ termCells lower b) marks
-      (subst (λ (n : ℕ). Each (λ c. c < n) (termCells lower a ++ termCells lower b)) (sym size)
-      (each-both (λ i. i < marksSize) (termCells lower a) (termCells lower b) (term-each (λ i. i < marksSize) lower (inside-cells lower few) a)
+      (rw size (each-both (λ i. i < marksSize) (termCells lower a) (termCells lower b) (term-each (λ i. i < marksSize) lower (inside-cells lower few) a)
       (term-each (λ i. i < marksSize) lower (inside-cells lower few) b)))
 
   pub sum-marked : (e : Sum) → Each (λ c. getD (markAll (sumCells lower e) marks) c 0 ≡ 1) (sumCells lower e)
   sum-marked e =
       all-marked (sumCells lower e) marks
-      (subst (λ (n : ℕ). Each (λ c. c < n) (sumCells lower e)) (sym size) (sum-each (λ i. i < marksSize) lower (inside-cells lower few) e))
+      (rw size (sum-each (λ i. i < marksSize) lower (inside-cells lower few) e))
 
 pub sum-others : (lower k : ℕ) → lower ≤ k → k < 8 → (e : Sum) (marks : List ℕ)
     → getD (markAll (sumCells lower e) marks) (valueMarks + k) 0 ≡ getD marks (valueMarks + k) 0
 sum-others lower k above few e marks =
-    all-others (sumCells lower e) marks (valueMarks + k) (sum-each (λ i. i ≡ valueMarks + k → ⊥) lower (other-cells lower k above few) e)
+    all-others _ marks _ (sum-each (λ i. i ≡ valueMarks + k → ⊥) lower (other-cells lower k above few) e)
 
 -- ---- Marks as a set of things
 

@@ -15,7 +15,7 @@ markAll (c ∷ l) marks = markAll l (set marks c 1)
 pub markAll-append : (a b marks : List ℕ) → markAll (a ++ b) marks ≡ markAll b (markAll a marks)
 unfolding markAll
 markAll-append [] b marks = refl
-markAll-append (c ∷ a) b marks = markAll-append a b (set marks c 1)
+markAll-append (c ∷ a) b marks = markAll-append a b _
 
 unfoldable pub valueCell : (lower k : ℕ) → ℕ
 valueCell lower k = cond (ltb k lower) (valueMarks + k % 8) noMark
@@ -50,18 +50,17 @@ module _ (tables : List ℕ) (lower : ℕ) where
       → termFrom tables lower depth at marks ≡ walked (at + 2) (markAll (c ∷ []) marks)
   unfolding markAll
   simple depth at tag n c marks h l e =
-      let f = at-first tables at tag (n ∷ []) h in
-      let g = at-first tables (at + 1) n [] (f .after) in
-      term-simple tables lower at marks (f .inside) tag n (f .found) (g .found) depth l
-      ∙ ap (λ (i : ℕ). walked (at + 2) (set marks i 1)) e
+      let f = at-first tables at tag _ h in
+      let g = at-first tables _ n [] (f .after) in
+      cc (term-simple tables lower at marks (f .inside) tag n (f .found) (g .found) depth l, e)
 
   -- two terms of a comparison
   both : (term : ℕ → List ℕ → Walked) (at next after : ℕ) (marks marks₁ marks₂ : List ℕ) → at < length tables → next < length tables
       → term at marks ≡ walked next marks₁ → term next marks₁ ≡ walked after marks₂ → termsFrom tables term 0 2 at marks ≡ walked after marks₂
   both term at next after marks marks₁ marks₂ h k e f =
       let none : (n : ℕ) → n + 0 ≡ n = λ n. omega arith in
-      terms-more tables term 0 at marks 2 (λ z. omega arith) h next marks₁ (sym (ap (λ (i : ℕ). term i marks) (none at) ∙ e))
-      ∙ terms-more tables term 0 next marks₁ 1 (λ z. omega arith) k after marks₂ (sym (ap (λ (i : ℕ). term i marks₁) (none next) ∙ f))
+      terms-more tables term 0 at marks 2 (λ z. omega arith) h next marks₁ (cc (none at, e))
+      ∙ terms-more tables term 0 next marks₁ 1 (λ z. omega arith) k after marks₂ (cc (none next, f))
       ∙ terms-none tables term 0 after marks₂ 0 refl
 
   -- a term stands where it begins
@@ -88,18 +87,16 @@ module _ (tables : List ℕ) (lower : ℕ) where
       → termsFrom tables (termFrom tables lower depth) 1 (suc (terms e)) at marks
       ≡ walked (at + suc (length (termNumbers t ++ signedTerms e))) (markAll (termCells lower t ++ sumCells lower e) marks)
   next-term sign t e depth at marks h first rest =
-      let f = at-first tables at sign (termNumbers t ++ signedTerms e) h in
+      let f = at-first tables at sign _ h in
       let one : suc (terms e) - 1 ≡ terms e = omega arith in
       let end : at + 1 + length (termNumbers t) + length (signedTerms e) ≡ at + suc (length (termNumbers t ++ signedTerms e))
       = omega (arith, length-append (termNumbers t) (signedTerms e)) in
-      terms-more tables (termFrom tables lower depth) 1 at marks (suc (terms e)) (λ z. omega arith) (f .inside) _ _ (sym first)
-      ∙ ap (λ (n : ℕ). termsFrom tables (termFrom tables lower depth) 1 n (at + 1 + length (termNumbers t)) (markAll (termCells lower t) marks)) one
-      ∙ rest ∙ ap₂ walked end (sym (markAll-append (termCells lower t) (sumCells lower e) marks))
+      cc (terms-more tables (termFrom tables lower depth) 1 at marks (suc (terms e)) (λ z. omega arith) (f .inside) _ _ (sym first), one, rest, end, markAll-append (termCells lower t) (sumCells lower e) marks)
 
   none-walked : (depth at : ℕ) (marks : List ℕ) → termsFrom tables (termFrom tables lower depth) 1 0 at marks ≡ walked (at + 0) (markAll [] marks)
   unfolding markAll
   none-walked depth at marks =
-      let end : at ≡ at + 0 = omega arith in terms-none tables (termFrom tables lower depth) 1 at marks 0 refl ∙ ap (λ (n : ℕ). walked n marks) end
+      let end : at ≡ at + 0 = omega arith in cc (terms-none tables (termFrom tables lower depth) 1 at marks 0 refl, end)
 
   mutual
     unfolding terms termNumbers termCells cellOf valueCell
@@ -164,11 +161,11 @@ module _ (tables : List ℕ) (lower : ℕ) where
       → termsFrom tables (termFrom tables lower depth) 1 2 at marks .marks ≡ markAll (termCells lower a ++ termCells lower b) marks
   unfolding walked
   wait-walked kind relation a b depth at marks h roomA roomB =
-      let f = at-first tables at kind (termNumbers a ++ (relation ∷ termNumbers b)) h in
-      let atA = at-front tables (at + 1) (termNumbers a) (relation ∷ termNumbers b) (f .after) in
-      let g = at-first tables (at + 1 + length (termNumbers a)) relation (termNumbers b) (at-back tables (at + 1) (termNumbers a) (relation ∷ termNumbers b) (f .after)) in
-      let first = term-walked a depth (at + 1) marks atA roomA in
-      let second = term-walked b depth (at + 1 + length (termNumbers a) + 1) (markAll (termCells lower a) marks) (g .after) roomB in
+      let f = at-first tables at kind _ h in
+      let atA = at-front tables (at + 1) _ _ (f .after) in
+      let g = at-first tables _ relation _ (at-back tables _ (termNumbers a) _ (f .after)) in
+      let first = term-walked a depth _ marks atA roomA in
+      let second = term-walked b depth _ _ (g .after) roomB in
       ap (λ (w : Walked). w .marks)
       (terms-more tables (termFrom tables lower depth) 1 at marks 2 (λ z. omega arith) (f .inside) _ _ (sym first)
       ∙ terms-more tables (termFrom tables lower depth) 1 (at + 1 + length (termNumbers a)) (markAll (termCells lower a) marks) 1 (λ z. omega arith) (g .inside) _ _ (sym second)

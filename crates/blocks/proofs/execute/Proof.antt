@@ -1,7 +1,6 @@
 -- `execute` meets its contract: each kind by its function, anything else by nothing.
-use Rattle.machine.specs.All.{ℕ, List, _≡_, sym, _∙_, refl, ne-eqb, needs}
-use Rattle.state.specs.declared.scalars.Scalars.{Scalars}
-use Rattle.state.specs.All.{rowsOf}
+use Rattle.machine.specs.All.{ℕ, List, _≡_, refl, ne-eqb, needs}
+use Rattle.state.specs.{declared.scalars.Scalars.Scalars, All.rowsOf}
 use Rattle.moves.proofs.MotionLaws.{tallied}
 use Rattle.blocks.specs.{later, byKind, execute}
 use Rattle.blocks.proofs.execute as f
@@ -12,12 +11,12 @@ module _ (tables : List ℕ) (values facilities : ℕ) (tape w tally : List ℕ)
       → (kind ≡ 17 → ⊥) → (kind ≡ 18 → ⊥) → (kind ≡ 19 → ⊥) → (kind ≡ 20 → ⊥) → later tables values facilities tape w tally x at kind ≡ rowsOf x w tally
   unfolding later
   none-later h9 h10 h11 h12 h13 h14 h15 h16 h17 h18 h19 h20 =
-      rw (ne-eqb kind 9 h9, ne-eqb kind 10 h10, ne-eqb kind 11 h11, ne-eqb kind 12 h12, ne-eqb kind 13 h13, ne-eqb kind 14 h14, ne-eqb kind 15 h15, ne-eqb kind 16 h16, ne-eqb kind 17 h17, ne-eqb kind 18 h18, ne-eqb kind 19 h19, ne-eqb kind 20 h20)
+      rw (ne-eqb, ne-eqb, ne-eqb, ne-eqb, ne-eqb, ne-eqb, ne-eqb, ne-eqb, ne-eqb, ne-eqb, ne-eqb, ne-eqb)
 
   none-first : (kind ≡ 1 → ⊥) → (kind ≡ 2 → ⊥) → (kind ≡ 3 → ⊥) → (kind ≡ 4 → ⊥) → (kind ≡ 5 → ⊥) → (kind ≡ 6 → ⊥) → (kind ≡ 7 → ⊥) → (kind ≡ 8 → ⊥)
       → byKind tables values facilities tape w tally x at kind ≡ later tables values facilities tape w tally x at kind
   unfolding byKind
-  none-first h1 h2 h3 h4 h5 h6 h7 h8 = rw (ne-eqb kind 1 h1, ne-eqb kind 2 h2, ne-eqb kind 3 h3, ne-eqb kind 4 h4, ne-eqb kind 5 h5, ne-eqb kind 6 h6, ne-eqb kind 7 h7, ne-eqb kind 8 h8)
+  none-first h1 h2 h3 h4 h5 h6 h7 h8 = rw (ne-eqb, ne-eqb, ne-eqb, ne-eqb, ne-eqb, ne-eqb, ne-eqb, ne-eqb)
 
 returns : f.Tie.Need-returns
 unfolding execute byKind
@@ -144,8 +143,7 @@ unfolding execute
 returns-21 c =
     let other = c .match .rest in
     rw (← c .before .number .ensures)
-    (sym (none-first _ _ _ _ _ _ _ _ _ (other .0 .0 .0 .0 .0 .0 .0 .0 .0 .0 .0 .0 .0 .0 .0 .0 .0 .0 .0 .1) (other .0 .0 .0 .0 .0 .0 .0 .0 .0 .0 .0 .0 .0 .0 .0 .0 .0 .0 .1) (other .0 .0 .0 .0 .0 .0 .0 .0 .0 .0 .0 .0 .0 .0 .0 .0 .0 .1) (other .0 .0 .0 .0 .0 .0 .0 .0 .0 .0 .0 .0 .0 .0 .0 .0 .1) (other .0 .0 .0 .0 .0 .0 .0 .0 .0 .0 .0 .0 .0 .0 .0 .1) (other .0 .0 .0 .0 .0 .0 .0 .0 .0 .0 .0 .0 .0 .0 .1) (other .0 .0 .0 .0 .0 .0 .0 .0 .0 .0 .0 .0 .0 .1) (other .0 .0 .0 .0 .0 .0 .0 .0 .0 .0 .0 .0 .1)
-    ∙ none-later _ _ _ _ _ _ _ _ _ (other .0 .0 .0 .0 .0 .0 .0 .0 .0 .0 .0 .1) (other .0 .0 .0 .0 .0 .0 .0 .0 .0 .0 .1) (other .0 .0 .0 .0 .0 .0 .0 .0 .0 .1) (other .0 .0 .0 .0 .0 .0 .0 .0 .1) (other .0 .0 .0 .0 .0 .0 .0 .1) (other .0 .0 .0 .0 .0 .0 .1) (other .0 .0 .0 .0 .0 .1) (other .0 .0 .0 .0 .1) (other .0 .0 .0 .1) (other .0 .0 .1) (other .0 .1) (other .1)))
+    (cc (none-first _ _ _ _ _ _ _ _ _ (other .0 .0 .0 .0 .0 .0 .0 .0 .0 .0 .0 .0 .0 .0 .0 .0 .0 .0 .0 .1) (other .0 .0 .0 .0 .0 .0 .0 .0 .0 .0 .0 .0 .0 .0 .0 .0 .0 .0 .1) (other .0 .0 .0 .0 .0 .0 .0 .0 .0 .0 .0 .0 .0 .0 .0 .0 .0 .1) (other .0 .0 .0 .0 .0 .0 .0 .0 .0 .0 .0 .0 .0 .0 .0 .0 .1) (other .0 .0 .0 .0 .0 .0 .0 .0 .0 .0 .0 .0 .0 .0 .0 .1) (other .0 .0 .0 .0 .0 .0 .0 .0 .0 .0 .0 .0 .0 .0 .1) (other .0 .0 .0 .0 .0 .0 .0 .0 .0 .0 .0 .0 .0 .1) (other .0 .0 .0 .0 .0 .0 .0 .0 .0 .0 .0 .0 .1), none-later _ _ _ _ _ _ _ _ _ (other .0 .0 .0 .0 .0 .0 .0 .0 .0 .0 .0 .1) (other .0 .0 .0 .0 .0 .0 .0 .0 .0 .0 .1) (other .0 .0 .0 .0 .0 .0 .0 .0 .0 .1) (other .0 .0 .0 .0 .0 .0 .0 .0 .1) (other .0 .0 .0 .0 .0 .0 .0 .1) (other .0 .0 .0 .0 .0 .0 .1) (other .0 .0 .0 .0 .0 .1) (other .0 .0 .0 .0 .1) (other .0 .0 .0 .1) (other .0 .0 .1) (other .0 .1) (other .1)))
 
 pub execute-spec : {M : Type 1} → f.Statement.statement M
 execute-spec =

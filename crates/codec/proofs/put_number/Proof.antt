@@ -1,53 +1,54 @@
 -- `codec::put_number` meets its contract: each length has its own stores.
 use Rattle.machine.specs.All.{sym, arith, needs}
-use Rattle.codec.proofs.Numbers.{numberBytes-one, numberBytes-exact}
-use Rattle.codec.proofs.put_number as f
+use Rattle.codec.proofs as our
+use our.Numbers.{numberBytes-one, numberBytes-exact}
+use our.put_number as f
 
 returns-2 : f.Tie.Need-returns-2
 returns-2 c =
     let b = c .before .before .before .before in
-    let e = numberBytes-exact 1 (b .before .before .before .args .v) (omega (arith, b .before .if1 .left)) (b .if2 .taken) (omega arith) in (omega (arith, e), c .before .before .store-number2 .ensures)
+    let e = numberBytes-exact 1 _ (omega arith) (b .if2 .taken) (omega arith) in (omega arith, c .before .before .store-number2 .ensures)
 
 store-number-requires-3 : f.Tie.Need-store-number-requires-3
 store-number-requires-3 c κs =
     let b = c .before .before .before .before .before in
-    let e = numberBytes-exact 2 (b .args .v) (omega (arith, c .before .before .if2 .left)) (c .before .if3 .taken) (omega arith) in (sym e, omega (arith, e, b .pre .1))
+    let e = numberBytes-exact 2 _ (omega arith) (c .before .if3 .taken) (omega arith) in (sym e, omega arith)
 
 returns-3 : f.Tie.Need-returns-3
 returns-3 c =
     let b = c .before .before .before .before in
-    let e = numberBytes-exact 2 (b .before .before .before .before .args .v) (omega (arith, b .before .if2 .left)) (b .if3 .taken) (omega arith) in (omega (arith, e), c .before .before .store-number3 .ensures)
+    let e = numberBytes-exact 2 _ (omega arith) (b .if3 .taken) (omega arith) in (omega arith, c .before .before .store-number3 .ensures)
 
 store-number-requires-4 : f.Tie.Need-store-number-requires-4
 store-number-requires-4 c κs =
     let b = c .before .before .before .before .before .before in
-    let e = numberBytes-exact 3 (b .args .v) (omega (arith, c .before .before .if3 .left)) (c .before .if4 .taken) (omega arith) in (sym e, omega (arith, e, b .pre .1))
+    let e = numberBytes-exact 3 _ (omega arith) (c .before .if4 .taken) (omega arith) in (sym e, omega arith)
 
 returns-4 : f.Tie.Need-returns-4
 returns-4 c =
     let b = c .before .before .before .before in
-    let e = numberBytes-exact 3 (b .before .before .before .before .before .args .v) (omega (arith, b .before .if3 .left)) (b .if4 .taken) (omega arith) in (omega (arith, e), c .before .before .store-number4 .ensures)
+    let e = numberBytes-exact 3 _ (omega arith) (b .if4 .taken) (omega arith) in (omega arith, c .before .before .store-number4 .ensures)
 
 store-number-requires-5 : f.Tie.Need-store-number-requires-5
 store-number-requires-5 c κs =
     let b = c .before .before .before .before .before .before in
-    let e = numberBytes-exact 4 (b .args .v) (omega (arith, c .before .if4 .left)) (omega (arith, b .pre .0)) (omega arith) in (sym e, omega (arith, e, b .pre .1))
+    let e = numberBytes-exact 4 (b .args .v) (omega arith) (omega arith) (omega arith) in (sym e, omega arith)
 
 returns-5 : f.Tie.Need-returns-5
 returns-5 c =
     let d = c .before .before in
     let b = d .before .before .before .before .before .before .before in
-    let e = numberBytes-exact 4 (b .args .v) (omega (arith, d .before .before .if4 .left)) (omega (arith, b .pre .0)) (omega arith) in (omega (arith, e), d .store-number5 .ensures)
+    let e = numberBytes-exact 4 (b .args .v) (omega arith) (omega arith) (omega arith) in (omega arith, d .store-number5 .ensures)
 
 pub put-number-spec : {M : Type 1} → f.Statement.statement M
 put-number-spec =
     f.Tie.close
     (f.Tie.spec
-    (λ c κs. let e = numberBytes-one (c .before .before .before .args .v) (c .before .if1 .taken) in (sym e, omega (arith, e, c .before .before .before .pre .1)))
+    (λ c κs. let e = numberBytes-one _ (c .before .if1 .taken) in (sym e, omega arith))
     (search needs)
     (search needs)
-    (λ c. let b = c .before .before in let e = numberBytes-one (b .before .before .before .before .args .v) (b .before .before .if1 .taken) in (omega (arith, e), b .store-number .ensures))
-    (λ c κs. let b = c .before .before in let e = numberBytes-exact 1 (b .before .before .args .v) (omega (arith, b .if1 .left)) (c .before .if2 .taken) (omega arith) in (sym e, omega (arith, e, b .before .before .pre .1)))
+    (λ c. let b = c .before .before in let e = numberBytes-one _ (b .before .before .if1 .taken) in (omega arith, b .store-number .ensures))
+    (λ c κs. let b = c .before .before in let e = numberBytes-exact 1 _ (omega arith) (c .before .if2 .taken) (omega arith) in (sym e, omega arith))
     (search needs)
     (search needs)
     returns-2

@@ -1,8 +1,9 @@
 -- `codec::read_field` meets its contract: the answer of `read_number`, then the two tests of the range.
 use Rattle.machine.specs.All.{ap, _∙_, add-one, needs, refused}
 use Rattle.codec.specs.{parsedOf}
-use Rattle.codec.proofs.Answers.{field-unread, field-low, field-high, field-within, refused-value, value-inside}
-use Rattle.codec.proofs.read_field as f
+use Rattle.codec.proofs as our
+use our.Answers.{field-unread, field-low, field-high, field-within, refused-value, value-inside}
+use our.read_field as f
 
 enum-told : f.Tie.Need-enum-told
 enum-told c = search needs

@@ -1,7 +1,8 @@
 -- `codec::read_shortest` meets its contract: no byte there, an empty first group, or what the groups give.
 use Rattle.machine.specs.All.{_∙_, arith, needs}
-use Rattle.codec.proofs.Answers.{read-past, read-padded, read-unpadded}
-use Rattle.codec.proofs.read_shortest as f
+use Rattle.codec.proofs as our
+use our.Answers.{read-past, read-padded, read-unpadded}
+use our.read_shortest as f
 
 pub read-shortest-spec : {M : Type 1} → f.Statement.statement M
 read-shortest-spec =

@@ -1,9 +1,10 @@
 -- `codec::store_number` meets its contract. The loop's invariant: with the groups that are left to store, the bytes are
 -- those of the whole number; there are as many groups as `left`. The measure is `left`.
 use Rattle.machine.specs.All.{_≤_, _≡_, refl, _∙_, arith, length, length-set, sets, upper}
-use Rattle.codec.proofs.Numbers.{numberBytes-positive}
-use Rattle.codec.proofs.Stores.{store-start, store-whole, store-fewer, store-step, store-done}
-use Rattle.codec.proofs.store_number as f
+use Rattle.codec.proofs as our
+use our.Numbers.{numberBytes-positive}
+use our.Stores.{store-start, store-whole, store-fewer, store-step, store-done}
+use our.store_number as f
 
 abbrev Inv-loop : f.Tie.InvT-loop
 Inv-loop out₀ at v len left₀ above₀ out left above = (length out ≡ length out₀) × (left ≤ left₀) × (length (upper left above) ≡ left)
@@ -44,10 +45,10 @@ store-number-spec =
     (f.Tie.spec
     Inv-loop
     μ-loop
-    (λ c. omega (arith, numberBytes-positive (c .args .v), c .pre))
+    (λ c. omega (arith, numberBytes-positive (c .args .v)))
     (omega arith)
-    (λ c. omega (arith, c .pre))
-    (λ c. omega (arith, numberBytes-positive (c .args .v), c .pre))
+    (λ c. omega arith)
+    (λ c. omega (arith, numberBytes-positive (c .args .v)))
     (λ c. (refl, omega arith, rw (c .pre .0) (store-start _), refl))
     (omega arith)
     (omega arith)

@@ -1,7 +1,8 @@
 -- `covrith_columns` meets its contract: the answer of `to_columns`, case by case.
 use Rattle.machine.specs.All.{arith, needs}
-use Rattle.covrith.proofs.Records.{wrote-bytes, wrote-nothing}
-use Rattle.covrith.proofs.covrith_columns as f
+use Rattle.covrith.proofs as our
+use our.Records.{wrote-bytes, wrote-nothing}
+use our.covrith_columns as f
 
 returns : f.Tie.Need-returns
 returns c =

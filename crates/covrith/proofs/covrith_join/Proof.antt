@@ -1,7 +1,8 @@
 -- `covrith_join` meets its contract: the answer of `join`, case by case.
-use Rattle.covrith.proofs.Joins.{joined-bytes, joined-nothing}
+use Rattle.covrith.proofs as our
+use our.Joins.{joined-bytes, joined-nothing}
+use our.covrith_join as f
 use Rattle.machine.specs.All.{needs}
-use Rattle.covrith.proofs.covrith_join as f
 
 returns : f.Tie.Need-returns
 returns c =

@@ -1,7 +1,8 @@
 -- `covrith_make_tape` meets its contract: the answer of `make`, case by case.
-use Rattle.covrith.proofs.Tapes.{made-bytes, made-nothing}
+use Rattle.covrith.proofs as our
+use our.Tapes.{made-bytes, made-nothing}
+use our.covrith_make_tape as f
 use Rattle.machine.specs.All.{needs}
-use Rattle.covrith.proofs.covrith_make_tape as f
 
 returns : f.Tie.Need-returns
 returns c =

@@ -1,7 +1,8 @@
 -- `covrith_read_record` meets its contract: the answer of `read_record`, case by case.
-use Rattle.covrith.proofs.Records.{read-taken, read-refused, read-no-more}
+use Rattle.covrith.proofs as our
+use our.Records.{read-taken, read-refused, read-no-more}
+use our.covrith_read_record as f
 use Rattle.machine.specs.All.{needs}
-use Rattle.covrith.proofs.covrith_read_record as f
 
 enum-told : f.Tie.Need-enum-told
 enum-told c = search needs

@@ -1,7 +1,8 @@
 -- `covrith_uncolumns` meets its contract: the answer of `from_columns`, case by case.
 use Rattle.machine.specs.All.{arith, needs}
-use Rattle.covrith.proofs.Records.{wrote-bytes, wrote-nothing}
-use Rattle.covrith.proofs.covrith_uncolumns as f
+use Rattle.covrith.proofs as our
+use our.Records.{wrote-bytes, wrote-nothing}
+use our.covrith_uncolumns as f
 
 returns : f.Tie.Need-returns
 returns c =

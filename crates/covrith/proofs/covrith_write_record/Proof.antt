@@ -1,7 +1,8 @@
 -- `covrith_write_record` meets its contract: the answer of `write_one`, case by case.
 use Rattle.machine.specs.All.{arith, needs}
-use Rattle.covrith.proofs.Records.{wrote-bytes, wrote-nothing}
-use Rattle.covrith.proofs.covrith_write_record as f
+use Rattle.covrith.proofs as our
+use our.Records.{wrote-bytes, wrote-nothing}
+use our.covrith_write_record as f
 
 returns : f.Tie.Need-returns
 returns c =

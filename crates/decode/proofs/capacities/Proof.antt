@@ -38,9 +38,9 @@ capacities-spec =
     Inv-loop
     μ-loop
     (λ c. (omega arith, λ after r h. h))
-    (λ c. let b = c .before .before .before .before .before .before in omega (arith, b .pre .facilities, b .pre .storages))
-    (λ c. let b = c .before .before .before .before .before .before in omega (arith, b .pre .facilities, b .pre .storages))
-    (λ c κs. let b = c .before .before .before .before .before .before in (omega (arith, b .pre .facilities, b .pre .storages), omega arith))
+    (λ c. let b = c .before .before .before .before .before .before in omega arith)
+    (λ c. let b = c .before .before .before .before .before .before in omega arith)
+    (λ c κs. let b = c .before .before .before .before .before .before in (omega arith, omega arith))
     (search needs)
     returns
     (search needs)

@@ -1,7 +1,8 @@
 -- `decode::decode` meets its contract: the two lengths, the model and the tape, in the order of the questions.
-use Rattle.decode.proofs.Answers.{few-lists, few-rows, small-work, small-report, no-model, no-tape, all-answered}
+use Rattle.decode.proofs as our
+use our.Answers.{few-lists, few-rows, small-work, small-report, no-model, no-tape, all-answered}
+use our.decode as f
 use Rattle.machine.specs.All.{needs}
-use Rattle.decode.proofs.decode as f
 
 returns : f.Tie.Need-returns
 returns c = small-work _ _ _ _ _ _ (c .if1 .taken)

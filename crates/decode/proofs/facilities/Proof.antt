@@ -1,8 +1,9 @@
 -- `decode::facilities` meets its contract. The loop's invariant: with those that are left to store, the cells are those of all
 -- facilities. The measure is what is left of them.
 use Rattle.machine.specs.All.{_+_, _-_, _≤_, arith, _≡_, replicate, sets}
-use Rattle.decode.proofs.Stages.{ones-begin, ones-step, ones-end}
-use Rattle.decode.proofs.facilities as f
+use Rattle.decode.proofs as our
+use our.Stages.{ones-begin, ones-step, ones-end}
+use our.facilities as f
 
 abbrev Inv-loop : f.Tie.InvT-loop
 Inv-loop tables₀ count v₀ tables v = (v ≤ count) × (sets tables (2560 + v) (replicate (count - v) 1) ≡ sets tables₀ 2560 (replicate count 1))
@@ -16,7 +17,7 @@ facilities-spec =
     (f.Tie.spec
     Inv-loop
     μ-loop
-    (λ c. (omega arith, ones-begin (c .args .count) 0 (c .args .tables .now) (c .args .tables .now)))
+    (λ c. (omega arith, ones-begin (c .args .count) 0 (c .args .tables .now) _))
     (omega arith)
     (omega arith)
     (omega arith)

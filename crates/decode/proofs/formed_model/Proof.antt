@@ -1,7 +1,8 @@
 -- `decode::formed_model` meets its contract: the model, and then the two questions asked of the whole.
 use Rattle.machine.specs.All.{sym, _∙_, not-true, not-false, needs}
-use Rattle.decode.proofs.Models.{formed-stop, few-blocks, formed-long, formed-misplaced, formed-target, formed-name, formed-broken, formed-model}
-use Rattle.decode.proofs.formed_model as f
+use Rattle.decode.proofs as our
+use our.Models.{formed-stop, few-blocks, formed-long, formed-misplaced, formed-target, formed-name, formed-broken, formed-model}
+use our.formed_model as f
 
 returns-2 : f.Tie.Need-returns-2
 returns-2 c =

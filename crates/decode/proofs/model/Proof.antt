@@ -1,7 +1,8 @@
 -- `decode::model` meets its contract: the three parts of the model.
-use Rattle.decode.proofs.Models.{model-stop, model-stop-2, model-kept}
+use Rattle.decode.proofs as our
+use our.Models.{model-stop, model-stop-2, model-kept}
+use our.model as f
 use Rattle.machine.specs.All.{needs}
-use Rattle.decode.proofs.model as f
 
 returns-2 : f.Tie.Need-returns-2
 returns-2 c =

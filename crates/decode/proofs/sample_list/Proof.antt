@@ -1,7 +1,8 @@
 -- `decode::sample_list` meets its contract: a count, its two cells and its times.
-use Rattle.decode.proofs.Lists.{list-stop, list-kept}
+use Rattle.decode.proofs as our
+use our.Lists.{list-stop, list-kept}
+use our.sample_list as f
 use Rattle.machine.specs.All.{needs}
-use Rattle.decode.proofs.sample_list as f
 
 pub sample-list-spec : {M : Type 1} → f.Statement.statement M
 sample-list-spec =

@@ -1,8 +1,9 @@
 -- `decode::sample_lists` meets its contract. The loop's invariant: what the lists from k on give is what all lists give. The measure
 -- is what is left of them.
 use Rattle.machine.specs.All.{needs, _≤_, _-_, arith}
-use Rattle.decode.proofs.Lists.{Leading, lists-begin, lists-none, lists-stop, lists-step}
-use Rattle.decode.proofs.sample_lists as f
+use Rattle.decode.proofs as our
+use our.Lists.{Leading, lists-begin, lists-none, lists-stop, lists-step}
+use our.sample_lists as f
 
 abbrev Inv-loop : f.Tie.InvT-loop
 Inv-loop s lists₀ count k₀ next₀ lists k next = (k ≤ count) × Leading s count lists₀ k next lists
@@ -24,7 +25,7 @@ sample-lists-spec =
     Inv-loop
     μ-loop
     (λ c. (omega arith, lists-begin _ _ _))
-    (λ c κs. omega (arith, c .before .before .before .before .pre))
+    (λ c κs. omega arith)
     (search needs)
     (λ c. let b = c .before .before .before in b .before .before .before .loop .inv .1 _ _ (lists-stop _ _ _ _ _ _ _ (b .before .before .loop-test .taken) (b .sample-list .ensures) _ (c .before .n .given .1)))
     (search needs)

@@ -1,8 +1,9 @@
 -- `decode::sample_times` meets its contract. The loop's invariant: what the times that are left give is what all times give. The
 -- measure is `left`.
 use Rattle.machine.specs.All.{needs, arith}
-use Rattle.decode.proofs.Lists.{Skipping, times-none, times-stop, times-step}
-use Rattle.decode.proofs.sample_times as f
+use Rattle.decode.proofs as our
+use our.Lists.{Skipping, times-none, times-stop, times-step}
+use our.sample_times as f
 
 abbrev Inv-loop : f.Tie.InvT-loop
 Inv-loop s at count left₀ next₀ left next = Skipping s count at left next

@@ -3,16 +3,16 @@ use Rattle.machine.specs.All.{refl, needs}
 use Rattle.parse_values.proofs.Binds.{takes-stop, takes-bind}
 use Rattle.parse_values.specs.Shapes.{Within}
 use Rattle.decode.specs.{Stage, thingsField}
-use Rattle.decode.proofs.Stages.{things-stop, things-kept, no-header, same-header}
-use Rattle.decode.proofs.things as own
+use Rattle.decode.proofs as our
+use our.Stages.{things-stop, things-kept, no-header, same-header}
+use our.things as own
 
 values-requires : own.Tie.Need-values-requires
 values-requires c κs =
     let b = c .before .before .before .before in
     let w = b .before .before .before .before .before .before .pre in
-    let f = b .before .before .before .before .number .ensures .1 _ _ (b .before .before .queues .given .1) in
     let n = b .number2 .ensures .1 _ _ (c .before .before .value-count .given .1) in
-    record { facilities = w .facilities; storages = w .storages; queues = f .1; values = n .1; lists = w .lists; blocks = w .blocks }
+    record { facilities = w .facilities; storages = w .storages; queues = (b .before .before .before .before .number .ensures .1 _ _ (b .before .before .queues .given .1)) .1; values = n .1; lists = w .lists; blocks = w .blocks }
 
 returns-2 : own.Tie.Need-returns-2
 unfolding thingsField
@@ -26,7 +26,7 @@ returns-2 c =
 returns-3 : own.Tie.Need-returns-3
 returns-3 c =
     let b = c .before .before .before .before .before .before in (
-      things-stop _ (b .before .before .before .before .before .before .before .before .args .m) (b .before .before .before .before .before .before .number .ensures .0) (b .before .before .before .before .queues .given .1) (b .before .before .number2 .ensures .0) (b .value-count .given .1)
+      things-stop _ _ (b .before .before .before .before .before .before .number .ensures .0) (b .before .before .before .before .queues .given .1) (b .before .before .number2 .ensures .0) (b .value-count .given .1)
           (c .before .before .before .values .ensures) (c .before .n3 .given .1),
       λ h q e. absurd (no-header e),
     )
@@ -38,7 +38,7 @@ returns-4 c =
     let w = b .before .before .before .before .before .before .pre in
     let f = b .before .before .before .before .number .ensures .1 _ _ (b .before .before .queues .given .1) in
     let n = b .number2 .ensures .1 _ _ (d .value-count .given .1) in (
-      things-kept _ (b .before .before .before .before .before .before .args .m) (b .before .before .before .before .number .ensures .0) (b .before .before .queues .given .1) (b .number2 .ensures .0) (d .value-count .given .1)
+      things-kept _ _ (b .before .before .before .before .number .ensures .0) (b .before .before .queues .given .1) (b .number2 .ensures .0) (d .value-count .given .1)
           (c .before .before .before .values .ensures) (c .before .q .given .1),
       λ h q e. same-header Within
           (record { facilities = w .facilities; storages = w .storages; queues = f .1; values = n .1; lists = w .lists; blocks = w .blocks }) e,

@@ -1,7 +1,8 @@
 -- `decode::validate` meets its contract: the number of what `decode` answers.
-use Rattle.decode.proofs.Answers.{refusal-of}
+use Rattle.decode.proofs as our
+use our.Answers.{refusal-of}
+use our.validate as f
 use Rattle.machine.specs.All.{needs}
-use Rattle.decode.proofs.validate as f
 
 enum-told : f.Tie.Need-enum-told
 enum-told c = search needs

@@ -1,7 +1,8 @@
 -- `decode::whole_tape` meets its contract: the lists, from empty cells, and then nothing.
-use Rattle.decode.proofs.Lists.{tape-stop, tape-long, tape-kept}
+use Rattle.decode.proofs as our
+use our.Lists.{tape-stop, tape-long, tape-kept}
+use our.whole_tape as f
 use Rattle.machine.specs.All.{needs}
-use Rattle.decode.proofs.whole_tape as f
 
 pub whole-tape-spec : {M : Type 1} → f.Statement.statement M
 whole-tape-spec =

@@ -1,8 +1,9 @@
 -- `run` meets its contract: a refused run touches nothing; an accepted one is the machine's. Assumes nothing.
 use Rattle.engine_laws.proofs.Running.{run-refused, fits, run-finished}
 use Rattle.machine.specs.All.{needs}
-use Rattle.engine.proofs.run.Statement.{statement}
-use Rattle.engine.proofs.run.Tie as tie
+use Rattle.engine.proofs as our
+use our.run.Statement.{statement}
+use our.run.Tie as tie
 
 refused-requires : tie.Need-refused-requires
 refused-requires c κs = search needs

@@ -1,9 +1,10 @@
 -- `floats::count_parts` meets its contract: too many parts, the double made of them again, or another one.
 use native.Mathlib.Omega.{arith}
 use Rattle.floats.specs.{countOf}
-use Rattle.floats.proofs.Checked.{too-many, taken, not-these, in-float}
+use Rattle.floats.proofs as our
+use our.Checked.{too-many, taken, not-these, in-float}
+use our.count_parts as f
 use borrow.Author.Needs.{needs}
-use Rattle.floats.proofs.count_parts as f
 
 pub count-parts-spec : {M : Type 1} → f.Statement.statement M
 count-parts-spec =

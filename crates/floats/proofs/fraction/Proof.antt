@@ -3,9 +3,10 @@ use native.Mathlib.Omega.{arith}
 use mathlib.Core.Path.{refl}
 use lib.Dec.{lit≤}
 use lib.Ieee.{ofBits}
-use Rattle.floats.proofs.Checked.{part}
+use Rattle.floats.proofs as our
+use our.Checked.{part}
+use our.fraction as f
 use borrow.Author.Needs.{needs}
-use Rattle.floats.proofs.fraction as f
 
 pub fraction-spec : {M : Type 1} → f.Statement.statement M
-fraction-spec = f.Tie.close (f.Tie.spec (search needs) (λ c. unfold ofBits in part _ 16 _ (omega (arith, c .row-known .given)) (lit≤ tt) refl))
+fraction-spec = f.Tie.close (f.Tie.spec (search needs) (λ c. unfold ofBits in part _ 16 _ (omega arith) (lit≤ tt) refl))

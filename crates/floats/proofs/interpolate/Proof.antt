@@ -1,8 +1,9 @@
 -- `floats::interpolate` meets its contract: the operations are those of the definition, and `Lines` bounds their error.
 use mathlib.Core.Path.{refl}
 use Rattle.floats.specs.{lineDouble}
-use Rattle.floats.proofs.Lines.{line-on}
-use Rattle.floats.proofs.interpolate as f
+use Rattle.floats.proofs as our
+use our.Lines.{line-on}
+use our.interpolate as f
 
 pub interpolate-spec : {M : Type 1} → f.Statement.statement M
 interpolate-spec = f.Tie.close (f.Tie.spec (λ c. unfold lineDouble in (refl, λ v0 t0 v1 t1 v ends u from to. line-on _ _ _ _ _ v0 t0 v1 t1 v ends u from to)))

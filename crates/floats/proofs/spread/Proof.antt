@@ -1,8 +1,9 @@
 -- `floats::spread` meets its contract: every operation is exact.
 use mathlib.Core.Path.{refl}
 use Rattle.floats.specs.{spreadDouble}
-use Rattle.floats.proofs.Lines.{spread-exactly}
-use Rattle.floats.proofs.spread as f
+use Rattle.floats.proofs as our
+use our.Lines.{spread-exactly}
+use our.spread as f
 
 pub spread-spec : {M : Type 1} → f.Statement.statement M
 spread-spec = f.Tie.close (f.Tie.spec (λ c. unfold spreadDouble in (refl, λ m h v width u inside. spread-exactly _ _ _ m h v width u inside)))

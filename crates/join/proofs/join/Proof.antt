@@ -1,7 +1,8 @@
 -- `join::join` meets its contract: each pair as it is judged, then both. Assumes nothing.
-use Rattle.join.proofs.Pairing.{first-refused, second-refused, pair-ready, pair-done}
+use Rattle.join.proofs as our
+use our.Pairing.{first-refused, second-refused, pair-ready, pair-done}
+use our.join as f
 use Rattle.machine.specs.All.{needs}
-use Rattle.join.proofs.join as f
 
 pair-requires : f.Tie.Need-pair-requires
 pair-requires c κs =

@@ -1,8 +1,9 @@
 -- `join::joined_model` meets its contract: the room it keeps suffices.
 use Rattle.machine.specs.All.{ℕ, length-replicate, needs}
-use Rattle.join.proofs.Outputs.{model-left, model-copied, copy-room}
+use Rattle.join.proofs as our
+use our.Outputs.{model-left, model-copied, copy-room}
+use our.joined_model as f
 use Rattle.join_laws.specs.Whole.{keptRoom}
-use Rattle.join.proofs.joined_model as f
 
 returns : f.Tie.Need-returns
 returns c =

@@ -1,7 +1,8 @@
 -- `join::pair` meets its contract: 61, 62, or both outputs.
 use Rattle.machine.specs.All.{length, refl, sym, _∙_, not-true, not-false, leb-true, needs}
-use Rattle.join.proofs.Outputs.{sum-fits, may-join-asked, not-joinable, no-tape-room, no-model-room, both-written}
-use Rattle.join.proofs.pair as f
+use Rattle.join.proofs as our
+use our.Outputs.{sum-fits, may-join-asked, not-joinable, no-tape-room, no-model-room, both-written}
+use our.pair as f
 
 returns : f.Tie.Need-returns
 returns c =

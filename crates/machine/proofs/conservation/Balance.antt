@@ -1,13 +1,13 @@
 -- Conservation: of every weight f of transaction numbers, what stands on the machine's lists, what is moving and what has ended
 -- weigh together as much as the numbers 1..made. Every turn keeps it.
 use Rattle.machine.specs.All.{ℕ, zero, suc, _+_, _*_, _-_, _≤_, _<_, _≡_, refl, ap, _∙_, true, Bool, false, cond, not, _&&_, List, [], _∷_, Option, none, some, arith, eqb, leb, length, take, drop, length-set, Transaction, Event, Gatherer, precedes, earlier, newborn, Interrupted, insert, those, replaceFirst, flat, serverAt, Code, Share, facility, shareServer, shareUnits, Block, generate, advance, terminate, takes, frees, waitServer, waitTerms, moves, assign, priority, split, counts, assemble, preempt, giveBack, facts, BlockModel, blockAt, welIndex, State, Logged, withSerial, withPriority, withReturning, withStamp, withNext, setSerial, setMoving, setEnded, recordOf, log, enters, moveTo, fresh, toRel, toFel, qlOf, welOf, lineUp, toQl, toWel, toWsl, mustWait, Parted, wakeQl, wakeFirstWel, wakeWsl, setUse, setContent, useTime, arrival, copies, gatherersAt, inFamily, waitsFor, toGatherers, comes, released, losersTo, interruptedAt, interrupt, resume, setHolder, askAdvance, question, takeUnits, partFor, wakeFor, checkWels, endsOne, delay, effect, freeUnits, arriveAll, due, moveClock, nextEvents, takeFirst, takeReady, taking, answer, execute, waitsOn, wsScheme, turn, startAt, idle, start, upTo, terminates}
-use Rattle.machine.proofs.decoding.Proper.{Proper, ProperBlock, Names, servers, code-server, share-server}
-use Rattle.machine.proofs.runs.RunLaws.{cond-cases}
-use Rattle.machine.proofs.lists.Cases.{checkWels-kept, waitServer-cases, waitTerms-cases, assemble-cases, wsScheme-cases, startOf-cases, preempt-cases, giveBack-cases}
-use Rattle.machine.proofs.runs.Kept.{taking-kept}
-use Rattle.machine.proofs.runs.Shape.{Shape, shape-closed, ql-at, wel-at, wel-below, gatherers-at}
-use Rattle.machine.proofs.lists.Sums.{sumOn, sum-insert, sum-those, sum-replace, sum-first, sum-flat-set, sum-flat-none, sum-wake}
-use Rattle.machine.proofs.lists.Lines.{Whole, sum-lineUp, sum-partFor}
+use Rattle.machine.proofs as our
+use our.decoding.Proper.{Proper, ProperBlock, Names, servers, code-server, share-server}
+use our.{runs.RunLaws.cond-cases, runs.Kept.taking-kept}
+use our.lists.Cases.{checkWels-kept, waitServer-cases, waitTerms-cases, assemble-cases, wsScheme-cases, startOf-cases, preempt-cases, giveBack-cases}
+use our.runs.Shape.{Shape, shape-closed, ql-at, wel-at, wel-below, gatherers-at}
+use our.lists.Sums.{sumOn, sum-insert, sum-those, sum-replace, sum-first, sum-flat-set, sum-flat-none, sum-wake}
+use our.lists.Lines.{Whole, sum-lineUp, sum-partFor}
 
 module _ (m : BlockModel) (tape : List (List ℕ)) (f : ℕ → ℕ) where
   -- ---- Definition

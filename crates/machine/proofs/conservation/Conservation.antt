@@ -1,14 +1,13 @@
 -- Claims 1 and 2 of demand 3, of every state of a run: each living number stands exactly once and no other stands anywhere; made
 -- equals ended plus living, and the machine's counts are these.
 use Rattle.machine.specs.All.{cases, ℕ, _+_, _≤_, _<_, _≡_, refl, ap, _∙_, Bool, true, false, cond, _&&_, List, _++_, map, Option, none, some, arith, leb-true, leb-false, eqb-true, eqb-false, eq-eqb, ne-eqb, eqb, leb, length, length-append, length-map, Transaction, Interrupted, those, flat, BlockModel, State, taking, turn, start, states, placed, movingOne, places, Each, count, bit, upTo, everyone, standing, terminates, madeBy, endedBy, isLiving, livingCount}
-use Rattle.machine.proofs.decoding.Proper.{Proper}
-use Rattle.machine.proofs.runs.RunLaws.{each-state, each-map}
-use Rattle.machine.proofs.runs.Kept.{taking-kept}
-use Rattle.machine.proofs.runs.Shape.{Shape, shape-closed, shape-turn, shape-start}
-use Rattle.machine.proofs.lists.Sums.{sumOn, sum-append, sum-map, sum-test, sum-cong, sum-cong-keys, sum-length, sum-count, sum-zero, upTo-ones, upTo-none, upTo-one, each-member}
-use Rattle.machine.proofs.conservation.Balance.{listed, held, gone, Balanced, balanced-taking, balanced-turn, balanced-start}
-use Rattle.machine.proofs.conservation.Ledger.{Books, booked-taking, booked-turn}
-use Rattle.machine.proofs.conservation.StartLedger.{booked-start}
+use Rattle.machine.proofs as our
+use our.{decoding.Proper.Proper, runs.Kept.taking-kept, conservation.StartLedger.booked-start}
+use our.runs.RunLaws.{each-state, each-map}
+use our.runs.Shape.{Shape, shape-closed, shape-turn, shape-start}
+use our.lists.Sums.{sumOn, sum-append, sum-map, sum-test, sum-cong, sum-cong-keys, sum-length, sum-count, sum-zero, upTo-ones, upTo-none, upTo-one, each-member}
+use our.conservation.Balance.{listed, held, gone, Balanced, balanced-taking, balanced-turn, balanced-start}
+use our.conservation.Ledger.{Books, booked-taking, booked-turn}
 
 -- ---- Everyone
 

@@ -1,11 +1,10 @@
 -- The living part of the report: by rising number, each a living one, each with its place.
 use Rattle.machine.specs.All.{ℕ, zero, suc, _+_, _*_, _≤_, _<_, _≡_, refl, sym, ap, _∙_, Bool, true, false, _&&_, List, [], _∷_, _++_, arith, eq-eqb, eqb, length, getD, length-append, getD-append-add, Server, Queue, BlockModel, State, Logged, serverNumbers, queueNumbers, Place, places, byNumber, placeNumbers, reportNumbers, bit, standing, isLiving, livingCount, livingAt, standingAt, listedNumber, listedPlace, LivingListed}
-use Rattle.machine.proofs.decoding.Proper.{servers}
-use Rattle.machine.proofs.runs.Shape.{server-length}
-use Rattle.machine.proofs.lists.Sums.{sumOn, sum-count, sum-length}
-use Rattle.machine.proofs.conservation.Conservation.{Sound, Conserved, sound-conserved, stands-at-most-once}
-use Rattle.machine.proofs.lists.Sorting.{Rising, times, sum-sorted, sorted-rising}
-use Rattle.machine.proofs.conservation.Standing.{times-standing}
+use Rattle.machine.proofs as our
+use our.{decoding.Proper.servers, runs.Shape.server-length, conservation.Standing.times-standing}
+use our.lists.Sums.{sumOn, sum-count, sum-length}
+use our.conservation.Conservation.{Sound, Conserved, sound-conserved, stands-at-most-once}
+use our.lists.Sorting.{Rising, times, sum-sorted, sorted-rising}
 
 -- ---- Lengths
 

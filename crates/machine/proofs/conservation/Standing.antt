@@ -1,7 +1,8 @@
 -- Weights over the places of a state: those of everybody on its lists.
 use Rattle.machine.specs.All.{ℕ, _+_, _≡_, List, _++_, map, arith, eqb, Transaction, Event, Gatherer, Interrupted, flat, State, Place, placed, movingOne, places, bit, everyone, standing}
-use Rattle.machine.proofs.lists.Sums.{sumOn, sum-append, sum-map, sum-count}
-use Rattle.machine.proofs.lists.Sorting.{times}
+use Rattle.machine.proofs as our
+use our.lists.Sums.{sumOn, sum-append, sum-map, sum-count}
+use our.lists.Sorting.{times}
 
 module _ (f : Place → ℕ) where
   abbrev at : ℕ → Transaction → ℕ

@@ -1,9 +1,9 @@
 -- The books at the start: each GENERATE, in block order, gets the next time of its list where one is left.
 use Rattle.machine.specs.All.{ℕ, suc, _+_, _-_, _≤_, _<_, _≡_, refl, sym, ap, _∙_, subst, Bool, true, false, not, _&&_, List, [], _∷_, arith, ne-eqb, eqb-true, lt-ltb, le-ltb, eqb, ltb, length, getD, length-set, those, Block, facts, BlockModel, State, toFel, timesLeft, arrival, startOf, startAt, idle, start, Each, bit, count, timesOf, generatesOf, getsTime, madeAtStart, usedBy, madeBy, endedBy}
-use Rattle.machine.proofs.decoding.Proper.{Proper, ProperBlock, Names, generates-list}
-use Rattle.machine.proofs.lists.Cases.{startOf-cases}
-use Rattle.machine.proofs.lists.Sums.{count-cons}
-use Rattle.machine.proofs.conservation.Ledger.{Booked, Books, used-length}
+use Rattle.machine.proofs as our
+use our.decoding.Proper.{Proper, ProperBlock, Names, generates-list}
+use our.{lists.Cases.startOf-cases, lists.Sums.count-cons}
+use our.conservation.Ledger.{Booked, Books, used-length}
 
 -- what holds at every index of a list holds of each member
 pub each-of : {A : Type 0} (P : A → Type 0) (d : A) (l : List A) → ((i : ℕ) → P (getD l i d)) → Each P l

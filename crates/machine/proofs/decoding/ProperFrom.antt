@@ -1,10 +1,11 @@
 -- Validation from bytes: what it accepts is proper, and what it refuses with is one of its ten numbers.
 use Rattle.machine.specs.All.{ℕ, zero, suc, _+_, _≤_, _<_, _≡_, refl, sym, ap, subst, Bool, cond, List, [], _∷_, arith, leb-true, leb-false, T, leb, ltb, eqb, length, getD, Rules, nth, Term, Block, enter, leave, BlockModel, facts, compared, Parsed, parsed, refused, Parser, times, Counts, codeOf, simpleTerm, number, blockTerm, counted, mentioned, valueNumber, sumTerms, sumField, bracketField, comparisonField, mentionField, taggedTerm, valueTerm, valueField, valueFields, codeServer, storageUnits, operands, blockField, modelFields, atEnd, listField, wellFormed, beginning, modelOf, tapeOf, Validation, accept, reject, withTape, withModel, validate, Each}
 use Rattle.machine.specs.Limits as Limits
-use Rattle.machine.proofs.decoding.Proper.{Names, Storage, CodeServer, Units, ProperBlock, Proper}
-use Rattle.machine.proofs.runs.RunLaws.{cond-cases, each-map}
-use Rattle.machine.proofs.decoding.ParserLaws.{Refusal, Gives, Ensures, Any, then, gives, refuses, choice, weaken, repeated, asked, in-range}
-use Rattle.machine.proofs.runs.Shape.{each-getD}
+use Rattle.machine.proofs as our
+use our.decoding.Proper.{Names, Storage, CodeServer, Units, ProperBlock, Proper}
+use our.runs.RunLaws.{cond-cases, each-map}
+use our.decoding.ParserLaws.{Refusal, Gives, Ensures, Any, then, gives, refuses, choice, weaken, repeated, asked, in-range}
+use our.runs.Shape.{each-getD}
 
 -- ---- Terms and values: only their refusals matter
 

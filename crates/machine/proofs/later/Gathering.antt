@@ -2,18 +2,18 @@
 -- those since the last n-th have come; one of the family waits with that count, and nobody where it is 0.
 use Rattle.machine.specs.All.{ℕ, zero, suc, _+_, _*_, _-_, _/_, _%_, _≤_, _<_, _≡_, refl, sym, ap, subst, _∙_, Bool, true, false, cond, _&&_, true≢false, List, [], _∷_, _++_, map, Option, none, some, arith, mod-lt, mod-eq-of-lt, div-add-mod', ℕ-discrete, eqb-true, eqb-false, eq-eqb, ne-eqb, eqb, leb, length, getD, replicate, getD-set-same, getD-set-other, Transaction, Event, Gatherer, those, replaceFirst, nth, setNth, Share, shareServer, shareUnits, Block, generate, advance, terminate, takes, frees, waitServer, waitTerms, moves, assign, priority, split, counts, assemble, preempt, giveBack, facts, BlockModel, blockAt, State, Logged, withSerial, setTurns, setEnd, gatherersAt, inFamily, waitsFor, recordOf, log, enters, moveTo, toRel, toFel, toQl, toWel, toWsl, mustWait, wakeQl, wakeFirstWel, wakeWsl, setUse, setContent, arrival, copies, toGatherers, comes, released, interrupt, resume, takeUnits, wakeFor, checkWels, endsOne, delay, effect, arriveAll, moveClock, nextEvents, takeFirst, takeReady, taking, answer, execute, wsScheme, turn, idle, startAt, start, states, Each, bit, everyone, familyBy, comeBy, OneGathers}
 use lib.Arith.{digits-mod}
-use Rattle.machine.proofs.lists.Chosen.{those-insert, those-one, those-else, those-replaced, upto, upto-none, upto-some}
-use Rattle.machine.proofs.decoding.Proper.{ProperBlock, Proper}
-use Rattle.machine.proofs.runs.RunLaws.{cond-cases, each-map, each-state}
-use Rattle.machine.proofs.lists.Cases.{checkWels-kept, waitServer-cases, waitTerms-cases, assemble-cases, wsScheme-cases, startOf-cases, preempt-cases, giveBack-cases}
-use Rattle.machine.proofs.lists.Sorted.{each-passes}
-use Rattle.machine.proofs.runs.Shape.{Shape, gatherers-at}
-use Rattle.machine.proofs.order.Steps.{Step, passes, begins, back, returns, assembles, step-effect}
-use Rattle.machine.proofs.runs.Everybody.{Maybe, Everybody, like, taking-everybody}
-use Rattle.machine.proofs.runs.Placed.{Placed, placed-turn, placed-start}
-use Rattle.machine.proofs.conservation.Conservation.{Sound, sound-start, sound-taking, sound-turn}
-use Rattle.machine.proofs.order.Taken.{taking-records}
-use Rattle.machine.proofs.later.Families.{Kindred, kindred-taking, kindred-turn, kindred-start, kindred-families}
+use Rattle.machine.proofs as our
+use our.lists.Chosen.{those-insert, those-one, those-else, those-replaced, upto, upto-none, upto-some}
+use our.decoding.Proper.{ProperBlock, Proper}
+use our.runs.RunLaws.{cond-cases, each-map, each-state}
+use our.lists.Cases.{checkWels-kept, waitServer-cases, waitTerms-cases, assemble-cases, wsScheme-cases, startOf-cases, preempt-cases, giveBack-cases}
+use our.{lists.Sorted.each-passes, order.Taken.taking-records}
+use our.runs.Shape.{Shape, gatherers-at}
+use our.order.Steps.{Step, passes, begins, back, returns, assembles, step-effect}
+use our.runs.Everybody.{Maybe, Everybody, like, taking-everybody}
+use our.runs.Placed.{Placed, placed-turn, placed-start}
+use our.conservation.Conservation.{Sound, sound-start, sound-taking, sound-turn}
+use our.later.Families.{Kindred, kindred-taking, kindred-turn, kindred-start, kindred-families}
 
 -- ---- Counting up to n
 

@@ -2,19 +2,17 @@
 -- where the rules ask 27 and 28, the holder is living. Item 11: so is the one from whom it was taken, and nobody else is interrupted. Every
 -- turn keeps it.
 use Rattle.machine.specs.All.{cases, ℕ, zero, suc, _+_, _-_, _≤_, _<_, _≡_, refl, sym, ap, subst, _∙_, Bool, true, false, cond, not, _&&_, _||_, List, [], _∷_, _++_, map, Option, none, some, arith, ℕ-discrete, leb-true, le-leb, eqb-true, eqb-false, eq-eqb, ne-eqb, lt-ltb, ltb-true, ltb-false, ltb, leb, eqb, length, getD, replicate, length-map, getD-set-same, getD-set-other, Transaction, Event, Gatherer, Interrupted, precedes, setNth, those, Server, idleServer, serverAt, free, Facts, Share, facility, storage, shareServer, shareUnits, shareFacility, shareHolder, Block, generate, advance, terminate, takes, frees, waitServer, waitTerms, moves, assign, priority, split, counts, assemble, preempt, giveBack, facts, BlockModel, blockAt, State, Logged, withUse, setMoving, withStamp, recordOf, log, enters, moveTo, toRel, toFel, toQl, toWel, toWsl, mustWait, wakeQl, wakeFirstWel, wakeWsl, setUse, setContent, arrival, copies, waitsFor, toGatherers, comes, released, ofFacility, losersTo, interruptedAt, interrupt, resume, setHolder, unless, held, question, takeUnits, wakeFor, checkWels, endsOne, delay, effect, freeUnits, askGathers, askHolder, askGivesBack, sampleServers, sample, arriveAll, moveClock, nextEvents, takeFirst, takeReady, taking, answer, execute, wsScheme, turn, startAt, idle, start, states, Each, bit, upTo, count, factsAt, entered, terminates, madeBy, isLiving, holderBy, Held, takesIt, loserBy, preemptedBy, TakenFrom}
-use Rattle.machine.proofs.decoding.Proper.{Proper, ProperShare, ProperBlock, Names, Storage, servers, share-server}
-use Rattle.machine.proofs.runs.RunLaws.{cond-cases, each-state, each-map, each-pair}
-use Rattle.machine.proofs.lists.Cases.{waitServer-cases, checkWels-kept, waitTerms-cases, wsScheme-cases, startOf-cases, assemble-cases, preempt-cases, giveBack-cases}
-use Rattle.machine.proofs.runs.Shape.{Shape, server-length, server-within, facility-capacity}
-use Rattle.machine.proofs.lists.Sums.{count-cons, sumOn, sum-count, each-member}
-use Rattle.machine.proofs.lists.Chosen.{those-insert, those-one, those-else, those-replaced, upto, upto-none, upto-some, none-numbered}
-use Rattle.machine.proofs.order.Losers.{Loses, loser-loses}
-use Rattle.machine.proofs.lists.Sorted.{each-insert, each-those, each-replace}
-use Rattle.machine.proofs.runs.Clocks.{unless-yes}
-use Rattle.machine.proofs.nobody_able.Waiting.{serverIn}
-use Rattle.machine.proofs.nobody_able.WaitsKept.{sampled-alike}
-use Rattle.machine.proofs.conservation.Conservation.{Sound, sound-taking, sound-turn, sound-start, mover-lives, interrupted-live}
-use Rattle.machine.proofs.conservation.Ledger.{ends-nobody}
+use Rattle.machine.proofs as our
+use our.decoding.Proper.{Proper, ProperShare, ProperBlock, Names, Storage, servers, share-server}
+use our.runs.RunLaws.{cond-cases, each-state, each-map, each-pair}
+use our.lists.Cases.{waitServer-cases, checkWels-kept, waitTerms-cases, wsScheme-cases, startOf-cases, assemble-cases, preempt-cases, giveBack-cases}
+use our.runs.Shape.{Shape, server-length, server-within, facility-capacity}
+use our.lists.Sums.{count-cons, sumOn, sum-count, each-member}
+use our.lists.Chosen.{those-insert, those-one, those-else, those-replaced, upto, upto-none, upto-some, none-numbered}
+use our.order.Losers.{Loses, loser-loses}
+use our.lists.Sorted.{each-insert, each-those, each-replace}
+use our.{runs.Clocks.unless-yes, nobody_able.Waiting.serverIn, nobody_able.WaitsKept.sampled-alike, conservation.Ledger.ends-nobody}
+use our.conservation.Conservation.{Sound, sound-taking, sound-turn, sound-start, mover-lives, interrupted-live}
 
 -- ---- Counts and tests
 

@@ -1,17 +1,18 @@
 -- "Whoever enters a kind 17 block entered its whole group at that clock" (document 02, item 7). Whoever stands inside a group came through
 -- its first block, at its stamp, and through every block since: their last entries lie between the stamp and the clock. It enters the
 -- kind 17 block only where the two are one.
-use Rattle.machine.specs.All.{cases, ℕ, zero, suc, _+_, _-_, _≤_, _<_, _≡_, refl, sym, ap, subst, _∙_, Bool, true, false, cond, _&&_, true≢false, List, [], _∷_, map, Option, none, some, arith, eq-eqb, ne-eqb, ltb-true, ltb-false, lt-ltb, eqb, ltb, leb, getD, Transaction, Event, newborn, earlier, Gatherer, Interrupted, others, flat, truth, Code, Share, shareServer, shareUnits, Block, generate, advance, terminate, takes, frees, waitServer, waitTerms, moves, assign, priority, split, counts, assemble, preempt, giveBack, facts, BlockModel, blockAt, backAt, beginsGroup, State, Logged, withNext, withSerial, withReturning, setMoving, setTurns, setSerial, setEnded, recordOf, log, enters, moveTo, fresh, toRel, toFel, toQl, toWel, toWsl, mustWait, wakeQl, wakeFirstWel, wakeWsl, setUse, setContent, arrival, copies, beginWait, toGatherers, comes, released, interrupt, resume, stamped, takeUnits, wakeFor, checkWels, endsOne, delay, effect, sample, arriveAll, moveClock, nextEvents, takeFirst, takeReady, taking, answer, execute, wsScheme, turn, idle, startAt, start, states, movingOne, Each, standing, everyone, lastEntry, WholeGroup, Joined, Stamped}
-use Rattle.machine.proofs.decoding.Proper.{ProperBlock, Proper, Role, generating, taking as taking-role, neither, role, preempting}
-use Rattle.machine.proofs.runs.RunLaws.{cond-cases, each-map, each-state}
-use Rattle.machine.proofs.lists.Cases.{checkWels-kept, waitServer-cases, waitTerms-cases, wsScheme-cases, startOf-cases, assemble-cases, preempt-cases, giveBack-cases}
-use Rattle.machine.proofs.lists.Sums.{sumOn, sum-append, sum-map}
-use Rattle.machine.proofs.lists.Sorted.{each-insert, each-those, each-replace}
-use Rattle.machine.proofs.conservation.Conservation.{Sound, sound-start, sound-taking, sound-turn, stands-at-most-once}
-use Rattle.machine.proofs.order.Taken.{has, has-own, standing-sum}
-use Rattle.machine.proofs.decoding.Groups.{Wait8, firstOf, back-within, group-waits, apart, begins, begins-none, target-outside}
-use Rattle.machine.proofs.runs.Ahead.{Ahead, rising-insert, rising-those, rising-without}
-use Rattle.machine.proofs.runs.Everybody.{Maybe, Everybody, Unmoved, like as everybody-like, everybody-map, everybody-each, toRel-everybody, toFel-everybody, toQl-everybody, toWel-everybody, toWsl-everybody, moveTo-everybody, wakeFor-everybody, wakeFirstWel-everybody, wakeWsl-everybody, idle-everybody, toGatherers-everybody, comes-everybody, released-everybody, waiter-everybody, interrupt-everybody}
+use Rattle.machine.specs.All.{clash, cases, ℕ, zero, suc, _+_, _-_, _≤_, _<_, _≡_, refl, sym, ap, subst, _∙_, Bool, true, false, cond, _&&_, true≢false, List, [], _∷_, map, Option, none, some, arith, eq-eqb, ne-eqb, ltb-true, ltb-false, lt-ltb, eqb, ltb, leb, getD, Transaction, Event, newborn, earlier, Gatherer, Interrupted, others, flat, truth, Code, Share, shareServer, shareUnits, Block, generate, advance, terminate, takes, frees, waitServer, waitTerms, moves, assign, priority, split, counts, assemble, preempt, giveBack, facts, BlockModel, blockAt, backAt, beginsGroup, State, Logged, withNext, withSerial, withReturning, setMoving, setTurns, setSerial, setEnded, recordOf, log, enters, moveTo, fresh, toRel, toFel, toQl, toWel, toWsl, mustWait, wakeQl, wakeFirstWel, wakeWsl, setUse, setContent, arrival, copies, beginWait, toGatherers, comes, released, interrupt, resume, stamped, takeUnits, wakeFor, checkWels, endsOne, delay, effect, sample, arriveAll, moveClock, nextEvents, takeFirst, takeReady, taking, answer, execute, wsScheme, turn, idle, startAt, start, states, movingOne, Each, standing, everyone, lastEntry, WholeGroup, Joined, Stamped}
+use Rattle.machine.proofs as our
+use our.decoding.Proper.{ProperBlock, Proper, Role, generating, taking as taking-role, neither, role, preempting}
+use our.runs.RunLaws.{cond-cases, each-map, each-state}
+use our.lists.Cases.{checkWels-kept, waitServer-cases, waitTerms-cases, wsScheme-cases, startOf-cases, assemble-cases, preempt-cases, giveBack-cases}
+use our.lists.Sums.{sumOn, sum-append, sum-map}
+use our.lists.Sorted.{each-insert, each-those, each-replace}
+use our.conservation.Conservation.{Sound, sound-start, sound-taking, sound-turn, stands-at-most-once}
+use our.order.Taken.{has, has-own, standing-sum}
+use our.decoding.Groups.{Wait8, firstOf, back-within, group-waits, apart, begins, begins-none, target-outside}
+use our.runs.Ahead.{Ahead, rising-insert, rising-those, rising-without}
+use our.runs.Everybody.{Maybe, Everybody, Unmoved, like as everybody-like, everybody-map, everybody-each, toRel-everybody, toFel-everybody, toQl-everybody, toWel-everybody, toWsl-everybody, moveTo-everybody, wakeFor-everybody, wakeFirstWel-everybody, wakeWsl-everybody, idle-everybody, toGatherers-everybody, comes-everybody, released-everybody, waiter-everybody, interrupt-everybody}
 
 -- ---- Last entries
 
@@ -32,7 +33,7 @@ entry-block n b r l d = go (eqb (r .entry .outcome) 0 && eqb _ n)
 -- and none is after the clock
 entry-bound : (clock n b x : ℕ) (l : List Logged) → Each (λ (r : Logged). r .entry .clock ≤ clock) l → lastEntry n b l ≡ some x → x ≤ clock
 unfolding lastEntry
-entry-bound clock n b x [] h e = absurd (let q : _≡_ {A = ℕ} 0 1 = cc in omega arith)
+entry-bound clock n b x [] h e = clash (cc)
 entry-bound clock n b x (r ∷ l) h e = go (eqb (r .entry .outcome) 0 && eqb _ n && eqb _ b) e (entry-bound clock n b x l (h .1))
   where
     go : (y : Bool) → cond y (some (r .entry .clock)) (lastEntry n b l) ≡ some x → (lastEntry n b l ≡ some x → x ≤ clock) → x ≤ clock

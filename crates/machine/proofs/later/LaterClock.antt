@@ -1,10 +1,10 @@
 -- Where the second clock limit is no lower and all else that a run reads is the same, a run that does not end 22 is the same: of the
 -- questions only 22 reads the clock limit.
 use Rattle.machine.specs.All.{cases, ℕ, zero, suc, _+_, _≤_, _≡_, refl, _∙_, Bool, true, false, _&&_, List, [], _∷_, Option, none, some, arith, leb-true, le-leb, leb, eqb, maxLiving, Rules, Transaction, Gatherer, Interrupted, serverAt, Share, facility, storage, Block, generate, advance, terminate, takes, frees, waitServer, waitTerms, moves, assign, priority, split, counts, assemble, preempt, giveBack, BlockModel, State, setEnd, wakeWsl, unless, living, askTime, askGenerate, askAdvance, askHolder, held, question, askGathers, askResume, askGivesBack, answer, execute, wsScheme, turn, run}
-use Rattle.machine.proofs.runs.RunLaws.{Before, taken, own, closing}
-use Rattle.machine.proofs.lists.Cases.{wsScheme-cases}
-use Rattle.machine.proofs.decoding.WiderParsing.{withRules}
-use Rattle.machine.proofs.later.SameTurns.{AnsweredAlike, turn-same, run-same}
+use Rattle.machine.proofs as our
+use our.runs.RunLaws.{Before, taken, own, closing}
+use our.{lists.Cases.wsScheme-cases, decoding.WiderParsing.withRules}
+use our.later.SameTurns.{AnsweredAlike, turn-same, run-same}
 
 module _ (new : Rules) (m : BlockModel) (higher : m .rules .maxClock ≤ new .maxClock) (holders : m .rules .holders ≡ new .holders) where
   abbrev m′ : BlockModel

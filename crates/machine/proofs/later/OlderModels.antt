@@ -1,9 +1,10 @@
 -- More kinds and editions leave the run of every model that was accepted: no question and no effect reads how many there are.
 use Rattle.machine.specs.All.{ℕ, _≡_, refl, ap, subst, _∙_, List, [], _∷_, Option, none, some, arith, Rules, item6, item11, document02, Transaction, Gatherer, Interrupted, facility, storage, Block, generate, advance, terminate, takes, frees, waitServer, waitTerms, moves, assign, priority, split, counts, assemble, preempt, giveBack, BlockModel, State, askGenerate, askAdvance, askHolder, held, question, askGathers, askResume, askGivesBack, run, Validation, accept, reject, validate, acceptedRun, refusedRun, outcomeOf, outcome, counting, KeepsModels}
-use Rattle.machine.proofs.decoding.ProperFrom.{rules-from, refusal-from}
-use Rattle.machine.proofs.decoding.WiderParsing.{withRules}
-use Rattle.machine.proofs.later.SameTurns.{AnsweredAlike, takenFrom, turn-same, accepted-same, run-same}
-use Rattle.machine.proofs.later.OlderTapes.{Accepted, validated}
+use Rattle.machine.proofs as our
+use our.decoding.ProperFrom.{rules-from, refusal-from}
+use our.decoding.WiderParsing.{withRules}
+use our.later.SameTurns.{AnsweredAlike, takenFrom, turn-same, accepted-same, run-same}
+use our.later.OlderTapes.{Accepted, validated}
 
 module _ (kinds editions : ℕ) (m : BlockModel) where
   abbrev new : Rules

@@ -1,9 +1,9 @@
 -- "Runs of older tapes that did not end 22 keep their bytes", from bytes, and every trace that was taken is taken alike.
 use Rattle.machine.specs.All.{cases, ℕ, _≡_, refl, sym, ap, subst, _∙_, Bool, true, false, cond, List, arith, leb, ltb, length, workNumbers, reportRoom, Rules, document01, item1, document02, Cursor, Parsed, parsed, refused, BlockModel, Record, Reading, taken, refusal, noMore, recordFields, reading, readRecord, run, beginning, modelOf, Validation, accept, reject, withTape, withModel, validate, acceptedRun, refusedRun, outcomeOf, outcome, Wider, AllowsNoLess, SameBytes, KeepsRuns, KeepsTraces}
-use Rattle.machine.proofs.decoding.ProperFrom.{rules-from, refusal-from}
-use Rattle.machine.proofs.decoding.WiderParsing.{Kept, withRules, Follows, tape-widens, record-widens, model-follows, own-rules}
-use Rattle.machine.proofs.later.SameTurns.{accepted-same}
-use Rattle.machine.proofs.later.LaterClock.{later-same}
+use Rattle.machine.proofs as our
+use our.decoding.ProperFrom.{rules-from, refusal-from}
+use our.decoding.WiderParsing.{Kept, withRules, Follows, tape-widens, record-widens, model-follows, own-rules}
+use our.{later.SameTurns.accepted-same, later.LaterClock.later-same}
 
 -- ---- Validation
 

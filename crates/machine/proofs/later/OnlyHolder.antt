@@ -1,20 +1,16 @@
 -- "A model whose transactions release only their own facilities, and hold none when ending, gives the trace it gave": where the records
 -- tell so, 27 and 28 are never answered, and so the run with them is the run without them.
 use Rattle.machine.specs.All.{ℕ, zero, suc, _≡_, refl, sym, ap, subst, _∙_, Bool, true, false, cond, not, _&&_, _||_, List, [], _∷_, Option, none, some, arith, eq-eqb, ne-eqb, leb, eqb, T, workNumbers, reportRoom, Rules, document01, item1, item6, inForce, Parsed, parsed, refused, Transaction, Gatherer, Interrupted, serverAt, facility, storage, shareServer, shareUnits, shareFacility, Block, generate, advance, terminate, takes, frees, waitServer, waitTerms, moves, assign, priority, split, counts, assemble, preempt, giveBack, facts, BlockModel, blockAt, State, Logged, setMoving, recordOf, log, enters, moveTo, wakeQl, wakeFirstWel, wakeWsl, setUse, waitsFor, comes, released, toRel, unless, askGenerate, askAdvance, askHolder, held, question, wakeFor, endsOne, effect, takeUnits, askGathers, gathers, askResume, askGivesBack, answer, execute, wsScheme, turn, run, listField, beginning, modelOf, tapeOf, Validation, accept, reject, withTape, withModel, validate, acceptedRun, outcomeOf, outcome, bit, terminates, SameBytes, asking, heldBy, byHolder, freeHanded, ownOnly, OwnOnly, KeepsOwnRuns}
-use Rattle.machine.proofs.decoding.Proper.{Proper, ProperBlock, Names}
-use Rattle.machine.proofs.decoding.ProperFrom.{proper-from, rules-from}
-use Rattle.machine.proofs.lists.Cases.{checkWels-kept, wsScheme-cases}
-use Rattle.machine.proofs.runs.Kept.{taking-kept}
-use Rattle.machine.proofs.runs.Shape.{Shape, shape-closed}
-use Rattle.machine.proofs.lists.Sums.{upTo-cong}
-use Rattle.machine.proofs.order.Steps.{Step, passes, begins, back, returns, assembles, step-effect}
-use Rattle.machine.proofs.order.Taken.{taking-records}
-use Rattle.machine.proofs.decoding.WiderParsing.{withRules, underRules, model-read, own-rules}
-use Rattle.machine.proofs.later.SameTurns.{AnsweredAlike, takenFrom, turn-same, accepted-same, run-same}
-use Rattle.machine.proofs.later.OlderTapes.{older-runs}
-use Rattle.machine.proofs.later.OlderModels.{older-models}
-use Rattle.machine.proofs.later.Holders.{Holding, holding-taking, accounts-start, accounts-turn}
-use Rattle.machine.proofs.runs.RunLaws.{cond-cases}
+use Rattle.machine.proofs as our
+use our.decoding.Proper.{Proper, ProperBlock, Names}
+use our.decoding.ProperFrom.{proper-from, rules-from}
+use our.lists.Cases.{checkWels-kept, wsScheme-cases}
+use our.{runs.Kept.taking-kept, lists.Sums.upTo-cong, order.Taken.taking-records, later.OlderTapes.older-runs, later.OlderModels.older-models, runs.RunLaws.cond-cases}
+use our.runs.Shape.{Shape, shape-closed}
+use our.order.Steps.{Step, passes, begins, back, returns, assembles, step-effect}
+use our.decoding.WiderParsing.{withRules, underRules, model-read, own-rules}
+use our.later.SameTurns.{AnsweredAlike, takenFrom, turn-same, accepted-same, run-same}
+use our.later.Holders.{Holding, holding-taking, accounts-start, accounts-turn}
 
 -- ---- Tests
 

@@ -1,8 +1,9 @@
 -- Two models that differ in their rules alone. Effects read no rules, so a turn is the same under both where its question is answered
 -- alike; a run whose turns are the same goes through the same states, and its report is the same.
 use Rattle.machine.specs.All.{cases, ℕ, zero, suc, _≡_, refl, ap, List, [], _∷_, Option, none, some, eqb-true, eqb-false, eqb, Rules, Transaction, Event, Interrupted, Server, Queue, View, Share, facility, storage, shareServer, Block, generate, advance, terminate, takes, frees, waitServer, waitTerms, moves, assign, priority, split, counts, assemble, preempt, giveBack, BlockModel, blockAt, beginsGroup, State, Logged, setTurns, setEnd, enters, goOn, wakeQl, losersTo, interruptedAt, mustWait, beginWait, question, fits, firstOfOne, fromFront, queueRemove, partFor, wakeFor, checkWels, effect, takeUnits, preempting, givesBack, taking, answer, execute, waitsOn, wsScheme, turn, endBefore, idle, start, runFrom, run, steps, recordsAt, serverNumbers, queueNumbers, reportNumbers, reportBytes, acceptedRun}
-use Rattle.machine.proofs.runs.RunLaws.{run-on, run-off, Taken, Before, before, taken-of}
-use Rattle.machine.proofs.decoding.WiderParsing.{withRules}
+use Rattle.machine.proofs as our
+use our.runs.RunLaws.{run-on, run-off, Taken, Before, before, taken-of}
+use our.decoding.WiderParsing.{withRules}
 
 -- the state in which the block of a turn is executed
 abbrev pub takenFrom : State → State

@@ -1,7 +1,6 @@
 -- More of sums over lists: a part of one list of several taken out, and what a sum above 0 tells.
 use Rattle.machine.specs.All.{cases, ℕ, zero, suc, _+_, _≤_, _<_, _≡_, refl, inl, inr, List, [], _∷_, arith, ltb, length, getD, set, ltb-true, ltb-false, flat}
-use Rattle.machine.proofs.lists.Sorted.{Some}
-use Rattle.machine.proofs.lists.Sums.{sumOn, sum-append}
+use Rattle.machine.proofs.{lists.Sorted.Some, lists.Sums.sumOn, lists.Sums.sum-append}
 
 module _ {A : Type 0} (f : A → ℕ) where
   -- a place that is not there holds nothing

@@ -1,12 +1,13 @@
 -- Claim 3, "nobody able to go waits", of edition 1: where nobody moves, REL is empty and the run has no end or ended dry, the count of
 -- waiters able to go is zero.
 use Rattle.machine.specs.All.{ℕ, _≤_, _≡_, refl, ap, ap₂, subst, Bool, false, not, true≢false, List, [], _∷_, none, arith, length, those, serverAt, Code, U, NU, E, NE, F, NF, status, BlockModel, welIndex, State, qlOf, welOf, fits, waitsOn, states, count, Each, ableOnQl, ableOnWel, ableOnWels, ableToGo}
-use Rattle.machine.proofs.decoding.Proper.{Proper, servers}
-use Rattle.machine.proofs.runs.RunLaws.{cond-cases, each-map, each-state}
-use Rattle.machine.proofs.lists.Sums.{upTo-zero}
-use Rattle.machine.proofs.runs.Shape.{Shape, server-length, shape-turn, shape-start}
-use Rattle.machine.proofs.nobody_able.Waiting.{serverIn, QlWaits, nobodyFits, nextReady, WelWaits, codeTrue, nobodyWaits, oneReady, WaitsOver, Waits, readyOf, Settled}
-use Rattle.machine.proofs.nobody_able.WaitsKept.{waits-kept, waits-start}
+use Rattle.machine.proofs as our
+use our.decoding.Proper.{Proper, servers}
+use our.runs.RunLaws.{cond-cases, each-map, each-state}
+use our.lists.Sums.{upTo-zero}
+use our.runs.Shape.{Shape, server-length, shape-turn, shape-start}
+use our.nobody_able.Waiting.{serverIn, QlWaits, nobodyFits, nextReady, WelWaits, codeTrue, nobodyWaits, oneReady, WaitsOver, Waits, readyOf, Settled}
+use our.nobody_able.WaitsKept.{waits-kept, waits-start}
 
 -- ---- Counts that are zero
 

@@ -1,9 +1,10 @@
 -- LEAVE as one walk from the front of the QL, under either edition: who takes no more than a number goes. Under edition 1 the number is
 -- the free units and stays; under edition 2 it is B, and who goes takes its units off it. So case a of document 000, section 6, is case b (i).
 use Rattle.machine.specs.All.{cases, ℕ, suc, _-_, _≤_, _≡_, refl, sym, ap, _∙_, Bool, true, false, cond, not, List, [], _∷_, arith, eq-eqb, eqb-true, eqb-false, ltb-true, ltb-false, le-leb, lt-leb, eqb, ltb, leb, getD, Transaction, those, anyOf, View, serverAt, free, facility, storage, shareServer, shareUnits, Block, generate, advance, terminate, takes, frees, waitServer, waitTerms, moves, assign, priority, split, counts, assemble, preempt, giveBack, facts, aboveOne, BlockModel, blockAt, Parted, nobody, goes, stays, firstOf, partBy, unitsOf, fits, firstOfOne, fromFront, queueRemove, partFor, Each}
-use Rattle.machine.proofs.decoding.Proper.{Proper, ProperBlock, Role, generating, taking, preempting, neither, role}
-use Rattle.machine.proofs.runs.RunLaws.{each-map, none-at}
-use Rattle.machine.proofs.nobody_able.Waiting.{AtServer}
+use Rattle.machine.proofs as our
+use our.decoding.Proper.{Proper, ProperBlock, Role, generating, taking, preempting, neither, role}
+use our.runs.RunLaws.{each-map, none-at}
+use our.nobody_able.Waiting.{AtServer}
 
 -- ---- Definition
 

@@ -1,11 +1,12 @@
 -- REL and the QLs, block by block: how SEIZE, RELEASE, ENTER and LEAVE keep `Queued`, for the one that moves, t, in front of REL.
 use Rattle.machine.specs.All.{ℕ, _+_, _-_, _≤_, _≡_, refl, sym, _∙_, subst, Bool, false, not, List, [], _∷_, arith, ℕ-discrete, leb, length, take, drop, getD-set-same, getD-set-other, set-getD, leb-false, lt-leb, not-true, Transaction, precedes, others, nth, setNth, Server, free, facility, storage, shareServer, shareUnits, Block, facts, BlockModel, withUse, lineUp, wake, Parted, firstOf, partBy, unitsOf, Each}
-use Rattle.machine.proofs.decoding.Proper.{Proper, ProperBlock, servers, Role, generating, taking, preempting, neither, role}
-use Rattle.machine.proofs.runs.RunLaws.{each-map}
-use Rattle.machine.proofs.lists.Sorted.{Sorted, each-passes, some-inserted, at-set, sorted-drop, sorted-those}
-use Rattle.machine.proofs.lists.Lines.{each-lineUp, sorted-lineUp, Both}
-use Rattle.machine.proofs.nobody_able.Waiting.{serverOf, AtServer, serverIn, QlWaits, nobodyFits, nextReady, Queued}
-use Rattle.machine.proofs.nobody_able.Ready.{Grows, grows-not, grows-wake, ql-more, ql-else}
+use Rattle.machine.proofs as our
+use our.decoding.Proper.{Proper, ProperBlock, servers, Role, generating, taking, preempting, neither, role}
+use our.runs.RunLaws.{each-map}
+use our.lists.Sorted.{Sorted, each-passes, some-inserted, at-set, sorted-drop, sorted-those}
+use our.lists.Lines.{each-lineUp, sorted-lineUp, Both}
+use our.nobody_able.Waiting.{serverOf, AtServer, serverIn, QlWaits, nobodyFits, nextReady, Queued}
+use our.nobody_able.Ready.{Grows, grows-not, grows-wake, ql-more, ql-else}
 
 -- ---- The units of a SEIZE or PREEMPT
 

@@ -1,8 +1,9 @@
 -- Who is ready stays ready: REL loses nobody within a turn, after the taking, and stays sorted; and the one that has moved is
 -- no longer needed where it stood.
 use Rattle.machine.specs.All.{ℕ, inl, inr, List, [], _∷_, Transaction, precedes, insert, Server, Code, BlockModel, wake}
-use Rattle.machine.proofs.lists.Sorted.{Some, Sorted, some-insert, sorted-in}
-use Rattle.machine.proofs.nobody_able.Waiting.{AtServer, AtWel, QlWaits, nobodyFits, nextReady, WelWaits, codeTrue, nobodyWaits, oneReady, Queued, WaitsOver}
+use Rattle.machine.proofs as our
+use our.lists.Sorted.{Some, Sorted, some-insert, sorted-in}
+use our.nobody_able.Waiting.{AtServer, AtWel, QlWaits, nobodyFits, nextReady, WelWaits, codeTrue, nobodyWaits, oneReady, Queued, WaitsOver}
 
 -- ---- REL grows
 

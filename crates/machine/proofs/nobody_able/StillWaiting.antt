@@ -1,11 +1,12 @@
 -- The WS scheme moves nobody where what a turn changed is read by no WAITIF: every comparison of the WSL held before the turn, and who begins
 -- to wait in it was judged by the same view.
 use Rattle.machine.specs.All.{ℕ, zero, suc, _-_, _≡_, refl, sym, ap, _∙_, subst, Bool, true, false, not, List, [], _∷_, map, Option, none, some, not-true, not-false, leb, getD, set, getD-set-other, Transaction, Event, those, others, Server, Queue, idleServer, emptyQueue, Term, Relation, compare, truth, Share, facility, shareServer, shareUnits, Block, generate, advance, terminate, takes, frees, waitServer, waitTerms, moves, assign, priority, split, counts, assemble, preempt, giveBack, facts, BlockModel, blockAt, State, setClock, setView, setTurns, log, enters, moveTo, toRel, toFel, toQl, toWel, toWsl, mustWait, wake, wakeQl, wakeFirstWel, wakeWsl, setUse, setContent, arrival, copies, toGatherers, comes, released, interrupt, resume, takeUnits, wakeFor, checkWels, endsOne, delay, effect, freeUnits, sampleQueue, sample, arriveAll, moveClock, nextEvents, takeFirst, takeReady, taking, answer, execute, holds, waitsOn, wsScheme, turn, start, Each, Thing, theClock, entry, queue, server, Watches, Spares}
-use Rattle.machine.proofs.runs.RunLaws.{cond-cases, each-map}
-use Rattle.machine.proofs.lists.Cases.{checkWels-kept, waitServer-cases, waitTerms-cases, assemble-cases, preempt-cases, giveBack-cases, wsScheme-cases}
-use Rattle.machine.proofs.lists.Sorted.{each-insert, each-passes}
-use Rattle.machine.proofs.nobody_able.WaitsKept.{sampled-alike, wsl-start}
-use Rattle.machine.proofs.nobody_able.Named.{Agrees, agrees-same, waits-same}
+use Rattle.machine.proofs as our
+use our.runs.RunLaws.{cond-cases, each-map}
+use our.lists.Cases.{checkWels-kept, waitServer-cases, waitTerms-cases, assemble-cases, preempt-cases, giveBack-cases, wsScheme-cases}
+use our.lists.Sorted.{each-insert, each-passes}
+use our.nobody_able.WaitsKept.{sampled-alike, wsl-start}
+use our.nobody_able.Named.{Agrees, agrees-same, waits-same}
 
 -- ---- After a turn all that wait on a comparison wait on one that holds
 

@@ -1,8 +1,7 @@
 -- What is known of those who wait, in each state before a turn and within one, after the taking: the statement. In both,
 -- "ready" are REL and the moving one, so that the taking changes nothing.
 use Rattle.machine.specs.All.{ℕ, suc, _≤_, _≡_, true, false, List, [], _∷_, Option, none, some, leb, getD, Transaction, precedes, nth, Server, idleServer, free, Code, status, facts, BlockModel, blockAt, welIndex, State, unitsOf, waitsOn, Each}
-use Rattle.machine.proofs.decoding.Proper.{servers}
-use Rattle.machine.proofs.lists.Sorted.{Some, Sorted}
+use Rattle.machine.proofs.{decoding.Proper.servers, lists.Sorted.Some, lists.Sorted.Sorted}
 
 -- ---- Where a transaction stands
 

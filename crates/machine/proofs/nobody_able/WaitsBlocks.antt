@@ -1,15 +1,14 @@
 -- What is known of those who wait is kept by every block: one lemma for each kind, for the one that moves in front of REL.
 use Rattle.machine.specs.All.{ℕ, zero, suc, _-_, _≤_, _≡_, refl, ap, _∙_, Bool, true, false, List, [], _∷_, arith, leb, length, getD-set-same, eq-eqb, Transaction, serverAt, free, Code, status, Share, facility, storage, shareServer, shareUnits, Block, generate, advance, terminate, takes, frees, waitServer, waitTerms, moves, assign, priority, split, counts, assemble, preempt, giveBack, facts, BlockModel, blockAt, welIndex, State, withUse, qlOf, log, enters, moveTo, toRel, toFel, toQl, toWel, toWsl, mustWait, wakeQl, wakeFirstWel, setUse, setContent, arrival, copies, toGatherers, comes, released, interrupt, resume, unitsOf, fits, partFor, takeUnits, checkWels, endsOne, delay, effect, freeUnits, wakeFor}
-use Rattle.machine.proofs.decoding.Proper.{Proper, ProperBlock, servers, code-server, share-server, ProperShare, Names}
-use Rattle.machine.proofs.runs.RunLaws.{cond-cases}
-use Rattle.machine.proofs.lists.Cases.{checkWels-kept, waitServer-cases, waitTerms-cases, assemble-cases, preempt-cases, giveBack-cases}
-use Rattle.machine.proofs.runs.Shape.{Shape, server-length, facility-capacity}
-use Rattle.machine.proofs.order.Losers.{loser-loses}
-use Rattle.machine.proofs.nobody_able.Waiting.{serverOf, AtServer, AtWel, serverIn, Queued, Gated, WaitsOver}
-use Rattle.machine.proofs.nobody_able.Ready.{grows-not, grows-insert, grows-wake, queued-more, waits-more, ql-else, wel-else}
-use Rattle.machine.proofs.nobody_able.Queued.{taken-queued, waits-queued, Kept, parted-queued, first-kept, fitting-kept, handed-queued, in-use-waits}
-use Rattle.machine.proofs.lists.Lines.{both-partFor}
-use Rattle.machine.proofs.nobody_able.Gated.{Open, WelAt, checks-gated, others-wait, waits-gated, passes-gated}
+use Rattle.machine.proofs as our
+use our.decoding.Proper.{Proper, ProperBlock, servers, code-server, share-server, ProperShare, Names}
+use our.{runs.RunLaws.cond-cases, order.Losers.loser-loses, lists.Lines.both-partFor}
+use our.lists.Cases.{checkWels-kept, waitServer-cases, waitTerms-cases, assemble-cases, preempt-cases, giveBack-cases}
+use our.runs.Shape.{Shape, server-length, facility-capacity}
+use our.nobody_able.Waiting.{serverOf, AtServer, AtWel, serverIn, Queued, Gated, WaitsOver}
+use our.nobody_able.Ready.{grows-not, grows-insert, grows-wake, queued-more, waits-more, ql-else, wel-else}
+use our.nobody_able.Queued.{taken-queued, waits-queued, Kept, parted-queued, first-kept, fitting-kept, handed-queued, in-use-waits}
+use our.nobody_able.Gated.{Open, WelAt, checks-gated, others-wait, waits-gated, passes-gated}
 
 -- ---- After a block
 

@@ -1,14 +1,14 @@
 -- What is known of those who wait is kept by every turn, and holds at the start.
-use Rattle.machine.specs.All.{ℕ, zero, suc, _*_, _-_, _≡_, refl, _∙_, Bool, not, inl, inr, List, [], _∷_, Option, none, some, arith, getD, replicate, not-true, not-false, Transaction, Event, precedes, those, others, Server, Code, U, NU, E, NE, F, NF, status, Block, BlockModel, blockAt, welIndex, State, wake, toRel, toFel, arrival, wakeWsl, effect, sampleServers, sample, arriveAll, moveClock, nextEvents, takeFirst, takeReady, taking, answer, execute, waitsOn, wsScheme, turn, startAt, idle, start, Each}
-use Rattle.machine.proofs.decoding.Proper.{Proper, servers}
-use Rattle.machine.proofs.runs.RunLaws.{each-map}
-use Rattle.machine.proofs.lists.Cases.{wsScheme-cases, startOf-cases}
-use Rattle.machine.proofs.runs.Kept.{taking-kept}
-use Rattle.machine.proofs.runs.Shape.{Shape, shape-closed}
-use Rattle.machine.proofs.lists.Sorted.{Some, Sorted, each-passes}
-use Rattle.machine.proofs.nobody_able.Waiting.{serverIn, AtServer, AtWel, QlWaits, nobodyFits, nextReady, WelWaits, codeTrue, nobodyWaits, oneReady, Waits, readyOf, Settled}
-use Rattle.machine.proofs.nobody_able.Ready.{Grows, grows-wake, waits-more}
-use Rattle.machine.proofs.nobody_able.WaitsBlocks.{Walked, toRel-walked, effect-walked}
+use Rattle.machine.specs.All.{clash, ℕ, zero, suc, _*_, _-_, _≡_, refl, _∙_, Bool, not, inl, inr, List, [], _∷_, Option, none, some, arith, getD, replicate, not-true, not-false, Transaction, Event, precedes, those, others, Server, Code, U, NU, E, NE, F, NF, status, Block, BlockModel, blockAt, welIndex, State, wake, toRel, toFel, arrival, wakeWsl, effect, sampleServers, sample, arriveAll, moveClock, nextEvents, takeFirst, takeReady, taking, answer, execute, waitsOn, wsScheme, turn, startAt, idle, start, Each}
+use Rattle.machine.proofs as our
+use our.decoding.Proper.{Proper, servers}
+use our.{runs.RunLaws.each-map, runs.Kept.taking-kept}
+use our.lists.Cases.{wsScheme-cases, startOf-cases}
+use our.runs.Shape.{Shape, shape-closed}
+use our.lists.Sorted.{Some, Sorted, each-passes}
+use our.nobody_able.Waiting.{serverIn, AtServer, AtWel, QlWaits, nobodyFits, nextReady, WelWaits, codeTrue, nobodyWaits, oneReady, Waits, readyOf, Settled}
+use our.nobody_able.Ready.{Grows, grows-wake, waits-more}
+use our.nobody_able.WaitsBlocks.{Walked, toRel-walked, effect-walked}
 
 -- ---- Statistics change nobody's wait
 
@@ -145,7 +145,7 @@ module _ (m : BlockModel) where
     answer-waits zero t s e shape (w, going) =
         let x = effect-walked proper t _ shape (rw e at w) going _ refl (proper .block _) in
         (walked-waits (effect m _ t _) x, λ o. x .1)
-    answer-waits (suc n) t s e shape (w, going) = (w, λ o. absurd (let q : _≡_ {A = ℕ} 0 1 = cc in omega arith))
+    answer-waits (suc n) t s e shape (w, going) = (w, λ o. clash (cc))
 
     execute-waits : (o : Option Transaction) (s : State) → s .moving ≡ o → Shape m s → Taken m s → Executed m (execute o m s)
     unfolding execute

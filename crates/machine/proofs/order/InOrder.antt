@@ -1,11 +1,12 @@
 -- Claim 4 of demand 3, of every state of a run under edition 1: of two equal waits the one that began later ended only after the other.
 use Rattle.machine.specs.All.{ℕ, _≡_, List, reverse, arith, BlockModel, State, turn, states, setEnd, Each, InOrder}
-use Rattle.machine.proofs.decoding.Proper.{Proper}
-use Rattle.machine.proofs.runs.RunLaws.{each-state, each-map}
-use Rattle.machine.proofs.nobody_able.Waiting.{Waits, Settled}
-use Rattle.machine.proofs.nobody_able.WaitsKept.{waits-kept, waits-start}
-use Rattle.machine.proofs.conservation.Conservation.{Sound, sound-start, sound-turn, stands-at-most-once}
-use Rattle.machine.proofs.order.OrderKept.{Ordered, ordered-turn, ordered-start, ordered-end}
+use Rattle.machine.proofs as our
+use our.decoding.Proper.{Proper}
+use our.runs.RunLaws.{each-state, each-map}
+use our.nobody_able.Waiting.{Waits, Settled}
+use our.nobody_able.WaitsKept.{waits-kept, waits-start}
+use our.conservation.Conservation.{Sound, sound-start, sound-turn, stands-at-most-once}
+use our.order.OrderKept.{Ordered, ordered-turn, ordered-start, ordered-end}
 
 -- all that the order of waits rests on
 record Held (m : BlockModel) (tape : List (List ℕ)) (s : State) : Type 0 where

@@ -1,9 +1,8 @@
 -- Pairs of open waits, the later one first, and one wait weighed alone.
 use Rattle.machine.specs.All.{ℕ, _≤_, _<_, _≡_, refl, sym, ap, inl, inr, Bool, true, false, _&&_, List, [], _∷_, map, arith, eqb, eqb-true, eq-eqb, bit}
-use Rattle.machine.proofs.order.Records.{Key, Member, Behind}
-use Rattle.machine.proofs.lists.Sums.{sumOn}
-use Rattle.machine.proofs.order.Weights.{Wait}
-use Rattle.machine.proofs.order.OpenWaits.{Falling}
+use Rattle.machine.proofs as our
+use our.order.Records.{Key, Member, Behind}
+use our.{lists.Sums.sumOn, order.Weights.Wait, order.OpenWaits.Falling}
 
 -- ---- Two open waits, the later one first
 

@@ -1,18 +1,16 @@
 -- Edition 1: the order of waits is kept by every turn.
 use Rattle.machine.specs.All.{ℕ, zero, suc, _+_, _*_, _≤_, _≡_, refl, sym, ap, subst, Bool, true, cond, true≢false, List, [], _∷_, reverse, Option, none, some, arith, length, Transaction, Block, BlockModel, blockAt, State, Logged, setMoving, setTurns, setEnd, withSerial, recordOf, log, enters, toFel, wakeWsl, arrival, fresh, taking, answer, execute, turn, startAt, idle, start, movingOne, InOrder}
-use Rattle.machine.proofs.decoding.Proper.{Proper}
-use Rattle.machine.proofs.runs.RunLaws.{cond-cases}
-use Rattle.machine.proofs.lists.Cases.{wsScheme-cases, startOf-cases}
-use Rattle.machine.proofs.runs.Kept.{taking-kept}
-use Rattle.machine.proofs.runs.Shape.{Shape, shape-closed}
-use Rattle.machine.proofs.nobody_able.Waiting.{Waits, Settled}
-use Rattle.machine.proofs.order.Records.{opens, order-more}
-use Rattle.machine.proofs.lists.Sums.{sumOn, sum-flat-none}
-use Rattle.machine.proofs.order.Weights.{Wait, waitOf, weight, marked, waiting, Unmarked, quiet-wakeWsl}
-use Rattle.machine.proofs.order.Steps.{Step, passes, begins, back, returns, assembles, step-effect}
-use Rattle.machine.proofs.order.OpenWaits.{ForUnits, Linked, LinkedIn, linked-as, linked-quiet, linked-passes, linked-begins}
-use Rattle.machine.proofs.order.Rivals.{ends-in-order}
-use Rattle.machine.proofs.order.Taken.{Once, InHand, Handed, nobody, hand, handed, taking-records}
+use Rattle.machine.proofs as our
+use our.{decoding.Proper.Proper, runs.RunLaws.cond-cases, runs.Kept.taking-kept, order.Rivals.ends-in-order}
+use our.lists.Cases.{wsScheme-cases, startOf-cases}
+use our.runs.Shape.{Shape, shape-closed}
+use our.nobody_able.Waiting.{Waits, Settled}
+use our.order.Records.{opens, order-more}
+use our.lists.Sums.{sumOn, sum-flat-none}
+use our.order.Weights.{Wait, waitOf, weight, marked, waiting, Unmarked, quiet-wakeWsl}
+use our.order.Steps.{Step, passes, begins, back, returns, assembles, step-effect}
+use our.order.OpenWaits.{ForUnits, Linked, LinkedIn, linked-as, linked-quiet, linked-passes, linked-begins}
+use our.order.Taken.{Once, InHand, Handed, nobody, hand, handed, taking-records}
 
 -- ---- Definition
 

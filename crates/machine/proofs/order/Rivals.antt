@@ -1,17 +1,18 @@
 -- Edition 1: who gets in leaves no open rival behind that began to wait before it: such a one would stand on REL before the first, or on
 -- the QL of a server that it fits, with nobody ready whom it does not precede.
 use Rattle.machine.specs.All.{cases, ℕ, zero, suc, _+_, _-_, _≤_, _<_, _≡_, refl, sym, ap, subst, _∙_, _⊎_, inl, inr, Bool, true, false, cond, true≢false, List, [], _∷_, none, arith, eqb, ltb, length, getD, ltb-true, ltb-false, eq-eqb, ne-eqb, Transaction, precedes, flat, View, Block, facts, BlockModel, blockAt, State, unitsOf, holds, waitsOn, Each, bit, preemptNames}
-use Rattle.machine.proofs.decoding.Proper.{servers, Role, generating, taking, preempting, neither, role}
-use Rattle.machine.proofs.runs.RunLaws.{cond-cases, none-at}
-use Rattle.machine.proofs.lists.Sorted.{Some, Before, before-precedes}
-use Rattle.machine.proofs.nobody_able.Waiting.{serverOf, serverIn, QlWaits, nobodyFits, nextReady, Queued, Gated}
-use Rattle.machine.proofs.order.Records.{Member, opens, Rivals, EndsInOrder}
-use Rattle.machine.proofs.lists.Sums.{sumOn, sum-zero}
-use Rattle.machine.proofs.lists.SumFacts.{sum-some, sum-which}
-use Rattle.machine.proofs.order.Weights.{Wait, waitOf, weight, marked, waiting}
-use Rattle.machine.proofs.order.Steps.{GetsIn}
-use Rattle.machine.proofs.order.OpenWaits.{ForUnits, Linked, numbered, Alone, waiting-agree}
-use Rattle.machine.proofs.order.OpenPairs.{key, Pair, pair, is, only, only-self, only-equal, member-sum}
+use Rattle.machine.proofs as our
+use our.decoding.Proper.{servers, Role, generating, taking, preempting, neither, role}
+use our.runs.RunLaws.{cond-cases, none-at}
+use our.lists.Sorted.{Some, Before, before-precedes}
+use our.nobody_able.Waiting.{serverOf, serverIn, QlWaits, nobodyFits, nextReady, Queued, Gated}
+use our.order.Records.{Member, opens, Rivals, EndsInOrder}
+use our.lists.Sums.{sumOn, sum-zero}
+use our.lists.SumFacts.{sum-some, sum-which}
+use our.order.Weights.{Wait, waitOf, weight, marked, waiting}
+use our.order.Steps.{GetsIn}
+use our.order.OpenWaits.{ForUnits, Linked, numbered, Alone, waiting-agree}
+use our.order.OpenPairs.{key, Pair, pair, is, only, only-self, only-equal, member-sum}
 
 -- ---- A block that takes a server lets wait on no WEL and not on the WSL
 

@@ -1,12 +1,12 @@
 -- Serials tell apart who waits, is ready or moves: of every weight f of serials, what stands on the QLs, the WELs, the WSL and REL and what is moving
 -- weigh together at most as much as the serials given. Every turn keeps it: who comes there has the next serial, or came from there.
 use Rattle.machine.specs.All.{ℕ, zero, suc, _+_, _*_, _-_, _≤_, _<_, _≡_, refl, sym, ap, _∙_, subst, Bool, true, false, not, true≢false, inl, inr, List, [], _∷_, Option, none, some, arith, eqb, leb, ltb, getD, set, take, drop, eq-eqb, leb-true, leb-false, ltb-true, ltb-false, Transaction, Event, Gatherer, precedes, those, flat, Code, Share, shareServer, shareUnits, Block, generate, advance, terminate, takes, frees, waitServer, waitTerms, moves, assign, priority, split, counts, assemble, preempt, giveBack, BlockModel, blockAt, welIndex, State, withPriority, withReturning, withNext, withSerial, setMoving, log, enters, moveTo, fresh, toRel, toFel, qlOf, welOf, lineUp, toQl, toWel, toWsl, mustWait, wakeQl, wakeFirstWel, wakeWsl, setUse, setContent, arrival, copies, toGatherers, comes, released, interrupt, resume, takeUnits, partFor, wakeFor, checkWels, endsOne, delay, effect, arriveAll, moveClock, nextEvents, takeFirst, takeReady, taking, answer, execute, waitsOn, wsScheme, turn, startAt, idle, start, Each, bit, upTo}
-use Rattle.machine.proofs.decoding.Proper.{servers}
-use Rattle.machine.proofs.runs.RunLaws.{cond-cases}
-use Rattle.machine.proofs.lists.Cases.{checkWels-kept, waitServer-cases, waitTerms-cases, assemble-cases, preempt-cases, giveBack-cases, wsScheme-cases, startOf-cases}
-use Rattle.machine.proofs.lists.Sorted.{Sorted, Before, before-precedes}
-use Rattle.machine.proofs.lists.Sums.{sumOn, sum-append, sum-insert, sum-those, sum-first, sum-flat-none, sum-wake, upTo-none, upTo-one}
-use Rattle.machine.proofs.lists.Lines.{sum-lineUp, sum-partFor}
+use Rattle.machine.proofs as our
+use our.{decoding.Proper.servers, runs.RunLaws.cond-cases}
+use our.lists.Cases.{checkWels-kept, waitServer-cases, waitTerms-cases, assemble-cases, preempt-cases, giveBack-cases, wsScheme-cases, startOf-cases}
+use our.lists.Sorted.{Sorted, Before, before-precedes}
+use our.lists.Sums.{sumOn, sum-append, sum-insert, sum-those, sum-first, sum-flat-none, sum-wake, upTo-none, upTo-one}
+use our.lists.Lines.{sum-lineUp, sum-partFor}
 
 -- a list set in a place that is not there is lost
 sum-set : {A : Type 0} (f : A → ℕ) (ls : List (List A)) (i : ℕ) (l : List A)

@@ -1,15 +1,14 @@
 -- What one block does to the waits: the transaction passes, and no other wait begins or ends; or its wait begins, for units or for its
 -- family; or it is put back, or goes back to the first block of its group, and nothing is written.
 use Rattle.machine.specs.All.{ℕ, _+_, _-_, _<_, _≡_, refl, Bool, true, false, List, arith, leb, length, Transaction, precedes, Gatherer, Event, Interrupted, serverAt, free, Code, Share, shareServer, shareUnits, Block, generate, advance, terminate, takes, frees, waitServer, waitTerms, moves, assign, priority, split, counts, assemble, preempt, giveBack, facts, BlockModel, welIndex, State, withSerial, setSerial, setGatherers, setEnded, log, enters, moveTo, fresh, qlOf, welOf, lineUp, toQl, toWel, toWsl, mustWait, setUse, setContent, toGatherers, comes, released, toFel, interrupt, resume, takeUnits, endsOne, effect}
-use Rattle.machine.proofs.decoding.Proper.{ProperBlock, servers}
-use Rattle.machine.proofs.runs.RunLaws.{cond-cases}
-use Rattle.machine.proofs.lists.Cases.{waitServer-cases, waitTerms-cases, assemble-cases, preempt-cases, giveBack-cases}
-use Rattle.machine.proofs.runs.Shape.{Shape, ql-at, wel-at}
-use Rattle.machine.proofs.decoding.Proper.{code-server, share-server}
-use Rattle.machine.proofs.nobody_able.Waiting.{serverIn}
-use Rattle.machine.proofs.lists.Sums.{sum-insert, sum-flat-set}
-use Rattle.machine.proofs.lists.Lines.{sum-lineUp}
-use Rattle.machine.proofs.order.Weights.{Wait, weight, waiting, Quiet, quiet-refl, quiet-trans, quiet-wakeFor, quiet-wakeFirstWel, quiet-checkWels, quiet-toRel, quiet-arrival, quiet-delay, quiet-copies}
+use Rattle.machine.proofs as our
+use our.decoding.Proper.{ProperBlock, servers}
+use our.{runs.RunLaws.cond-cases, nobody_able.Waiting.serverIn, lists.Lines.sum-lineUp}
+use our.lists.Cases.{waitServer-cases, waitTerms-cases, assemble-cases, preempt-cases, giveBack-cases}
+use our.runs.Shape.{Shape, ql-at, wel-at}
+use our.decoding.Proper.{code-server, share-server}
+use our.lists.Sums.{sum-insert, sum-flat-set}
+use our.order.Weights.{Wait, weight, waiting, Quiet, quiet-refl, quiet-trans, quiet-wakeFor, quiet-wakeFirstWel, quiet-checkWels, quiet-toRel, quiet-arrival, quiet-delay, quiet-copies}
 
 -- ---- Definition
 

@@ -1,13 +1,12 @@
 -- What the taking hands to a block: the transaction taken, whose number no waiter has, and the waits linked to the records.
 -- One with the returning mark is the first of REL.
 use Rattle.machine.specs.All.{cases, ℕ, _+_, _≤_, _≡_, refl, sym, ap, subst, _∙_, true, false, true≢false, List, [], _∷_, map, Option, none, some, arith, eqb, eqb-true, eq-eqb, Transaction, Event, precedes, flat, those, BlockModel, State, withReturning, withSerial, setMoving, setRel, fresh, toRel, arriveAll, due, moveClock, nextEvents, takeFirst, takeReady, taking, movingOne, Each, bit, everyone, standing}
-use Rattle.machine.proofs.lists.Sorted.{each-insert}
-use Rattle.machine.proofs.lists.Sums.{sumOn, sum-append, sum-insert, sum-those, sum-map, sum-count, sum-le}
-use Rattle.machine.proofs.order.Weights.{weight, marked, waiting, Unmarked, Quiet, quiet-nextEvents}
-use Rattle.machine.proofs.order.OpenWaits.{Linked, LinkedIn, numbered, Alone, linked-as, linked-quiet}
-use Rattle.machine.proofs.order.Rivals.{Standing}
-use Rattle.machine.proofs.runs.Shape.{Shape}
-use Rattle.machine.proofs.nobody_able.Waiting.{Waits, WaitsOver, Settled}
+use Rattle.machine.proofs as our
+use our.{lists.Sorted.each-insert, order.Rivals.Standing, runs.Shape.Shape}
+use our.lists.Sums.{sumOn, sum-append, sum-insert, sum-those, sum-map, sum-count, sum-le}
+use our.order.Weights.{weight, marked, waiting, Unmarked, Quiet, quiet-nextEvents}
+use our.order.OpenWaits.{Linked, LinkedIn, numbered, Alone, linked-as, linked-quiet}
+use our.nobody_able.Waiting.{Waits, WaitsOver, Settled}
 
 -- ---- Numbers on the lists
 

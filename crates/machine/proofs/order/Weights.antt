@@ -1,11 +1,9 @@
 -- Everybody who waits, weighed: on a QL, a WEL or the WSL, and on REL with the returning mark. A turn changes the sum only by
 -- the transaction that it takes: waking moves a wait to REL, and who is put there else has no mark.
 use Rattle.machine.specs.All.{ℕ, zero, suc, _+_, _-_, _≤_, _≡_, refl, _∙_, Bool, true, false, cond, List, [], _∷_, Option, none, some, arith, take, drop, Transaction, Event, precedes, insert, those, flat, Code, Share, shareServer, BlockModel, welIndex, State, withReturning, withSerial, setMade, qlOf, welOf, toRel, toFel, wake, Parted, wakeQl, wakeFirstWel, wakeWsl, arrival, copies, partFor, wakeFor, checkWels, delay, arriveAll, nextEvents, moveClock}
-use Rattle.machine.proofs.lists.Cases.{checkWels-kept}
-use Rattle.machine.proofs.order.Records.{Key}
-use Rattle.machine.proofs.lists.Sums.{sumOn, sum-insert, sum-those, sum-first}
-use Rattle.machine.proofs.lists.SumFacts.{sum-part}
-use Rattle.machine.proofs.lists.Lines.{sum-partFor}
+use Rattle.machine.proofs as our
+use our.{lists.Cases.checkWels-kept, order.Records.Key, lists.SumFacts.sum-part, lists.Lines.sum-partFor}
+use our.lists.Sums.{sumOn, sum-insert, sum-those, sum-first}
 
 -- ---- Definition
 

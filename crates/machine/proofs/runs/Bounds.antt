@@ -1,8 +1,9 @@
 -- "run for at most the stated number of turns, always to a stated end": every run stays within its budget and the machine's own
 -- limit, never uses up its steps, and ends with one of the stated ends.
 use Rattle.machine.specs.All.{cases, ℕ, zero, suc, _+_, _≤_, _<_, _≡_, refl, Bool, true, false, _||_, List, arith, eqb-true, eqb-false, ne-eqb, T, eqb, maxTurns, BlockModel, State, setUse, turn, endBefore, idle, start, runFrom, run, steps, statedEnd, Bounded}
-use Rattle.machine.proofs.runs.RunLaws.{Taken, Before, taken, own, closing, before, taken-of, run-on, run-off, last-state}
-use Rattle.machine.proofs.runs.Kept.{Stop, Closed, turn-kept, start-kept}
+use Rattle.machine.proofs as our
+use our.runs.RunLaws.{Taken, Before, taken, own, closing, before, taken-of, run-on, run-off, last-state}
+use our.runs.Kept.{Stop, Closed, turn-kept, start-kept}
 
 -- ---- Every turn counts one, and ends with no end or a stated one
 

@@ -1,10 +1,10 @@
 -- Below 2 to the 31 the clock term is the clock; so it is in every state of a run whose clock limit is below it, as document 01's.
 use Rattle.machine.specs.All.{ℕ, _≤_, _<_, _%_, _≡_, ap, _∙_, List, arith, lt-ltb, Rules, document01, View, signed, low32, wrap, clockTerm, term, BlockModel, State, states, Each, ReadsClock, KeepsClockTerm}
 use lib.IntN.{ℤ, pos}
-use Rattle.machine.proofs.decoding.Proper.{Proper}
-use Rattle.machine.proofs.decoding.ProperFrom.{proper-from, rules-from}
-use Rattle.machine.proofs.runs.RunLaws.{each-map}
-use Rattle.machine.proofs.runs.Clocks.{Timely, taking-timely, timely}
+use Rattle.machine.proofs as our
+use our.{decoding.Proper.Proper, runs.RunLaws.each-map}
+use our.decoding.ProperFrom.{proper-from, rules-from}
+use our.runs.Clocks.{Timely, taking-timely, timely}
 
 pub wrap-pos : (n : ℕ) → n < 2147483648 → wrap (pos n) ≡ pos n
 unfolding wrap low32 signed

@@ -1,10 +1,11 @@
 -- A claim about every transaction of a state: what the single moves of transactions keep, a turn and the start keep.
 use Rattle.machine.specs.All.{ℕ, zero, suc, _+_, _*_, _-_, _≡_, refl, subst, Bool, true, false, List, [], _∷_, _++_, map, Option, none, some, length, set, take, replicate, Transaction, Event, Gatherer, Interrupted, precedes, earlier, newborn, flat, Code, Share, BlockModel, State, withNext, withSerial, withReturning, withStamp, setEnded, setGatherers, gatherersAt, waitsFor, toGatherers, comes, released, interruptedAt, losersTo, interrupt, ofFacility, resume, beginWait, log, enters, moveTo, toRel, toFel, toQl, toWel, toWsl, mustWait, wake, wakeQl, wakeFirstWel, wakeWsl, setUse, setContent, arrival, copyOf, copies, qlOf, welOf, wakeFor, checkWels, endsOne, delay, arriveAll, moveClock, nextEvents, takeFirst, takeReady, taking, wsScheme, idle, movingOne, Each, everyone}
-use Rattle.machine.proofs.runs.RunLaws.{cond-cases}
-use Rattle.machine.proofs.lists.Cases.{checkWels-kept, wsScheme-cases}
-use Rattle.machine.proofs.runs.Shape.{each-set, each-getD}
-use Rattle.machine.proofs.lists.Sorted.{each-insert, each-those, each-drop, each-replace}
-use Rattle.machine.proofs.lists.Lines.{each-lineUp, both-partFor}
+use Rattle.machine.proofs as our
+use our.runs.RunLaws.{cond-cases}
+use our.lists.Cases.{checkWels-kept, wsScheme-cases}
+use our.runs.Shape.{each-set, each-getD}
+use our.lists.Sorted.{each-insert, each-those, each-drop, each-replace}
+use our.lists.Lines.{each-lineUp, both-partFor}
 
 -- ---- Definition
 

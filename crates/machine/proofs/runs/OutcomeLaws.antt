@@ -1,8 +1,7 @@
 -- What every outcome keeps to, for any bytes: the refusal is a number from 0 to 10, the end is a stated one exactly where there is
 -- no refusal, and the turns stay within the budget and the machine's own limit.
 use Rattle.machine.specs.All.{ℕ, _≡_, refl, List, arith, Rules, Validation, accept, reject, validate, acceptedRun, refusedRun, outcomeOf, outcome, Keeping}
-use Rattle.machine.proofs.runs.Bounds.{bounded}
-use Rattle.machine.proofs.decoding.ProperFrom.{refusal-from}
+use Rattle.machine.proofs.{runs.Bounds.bounded, decoding.ProperFrom.refusal-from}
 
 pub outcome-keeps : (rules : Rules) (model tape : List ℕ) (budget work room report : ℕ) → Keeping budget (outcome rules model tape budget work room report)
 unfolding outcome outcomeOf acceptedRun refusedRun

@@ -1,10 +1,11 @@
 -- Every transaction of a run stands before a block of the model, with a priority in its range.
 use Rattle.machine.specs.All.{ℕ, zero, suc, _+_, _-_, _≤_, _<_, _≡_, refl, subst, Bool, true, false, not, _||_, cond, List, [], _∷_, Option, none, some, arith, T, leb, length, getD, maxPriority, Transaction, newborn, compare, truth, Condition, always, whenTrue, Share, shareServer, shareUnits, Block, generate, advance, terminate, takes, frees, waitServer, waitTerms, moves, assign, priority, split, counts, assemble, preempt, giveBack, facts, BlockModel, blockAt, unconditional, State, withNext, effect, takeUnits, answer, execute, turn, startAt, start, states, Each, isGenerate, wellPlaced}
-use Rattle.machine.proofs.decoding.Proper.{Names, ProperBlock, Proper, generates-list}
-use Rattle.machine.proofs.decoding.Groups.{and-right, blocks-placed, back-within}
-use Rattle.machine.proofs.runs.RunLaws.{cond-cases, each-state}
-use Rattle.machine.proofs.lists.Cases.{waitServer-cases, waitTerms-cases, assemble-cases, startOf-cases, preempt-cases, giveBack-cases}
-use Rattle.machine.proofs.runs.Everybody.{Maybe, Everybody, Unmoved, toRel-everybody, waitQl-everybody, waitWel-everybody, waitWsl-everybody, moveTo-everybody, wakeFor-everybody, wakeFirstWel-everybody, checkWels-everybody, wsScheme-everybody, arrival-everybody, copies-everybody, delay-everybody, enters-everybody, inUse-everybody, content-everybody, endsOne-everybody, ended-everybody, begins-everybody, waiter-everybody, comes-everybody, released-everybody, taking-everybody, idle-everybody, loser-everybody, interrupted-everybody, interrupt-everybody, resume-everybody}
+use Rattle.machine.proofs as our
+use our.decoding.Proper.{Names, ProperBlock, Proper, generates-list}
+use our.decoding.Groups.{and-right, blocks-placed, back-within}
+use our.runs.RunLaws.{cond-cases, each-state}
+use our.lists.Cases.{waitServer-cases, waitTerms-cases, assemble-cases, startOf-cases, preempt-cases, giveBack-cases}
+use our.runs.Everybody.{Maybe, Everybody, Unmoved, toRel-everybody, waitQl-everybody, waitWel-everybody, waitWsl-everybody, moveTo-everybody, wakeFor-everybody, wakeFirstWel-everybody, checkWels-everybody, wsScheme-everybody, arrival-everybody, copies-everybody, delay-everybody, enters-everybody, inUse-everybody, content-everybody, endsOne-everybody, ended-everybody, begins-everybody, waiter-everybody, comes-everybody, released-everybody, taking-everybody, idle-everybody, loser-everybody, interrupted-everybody, interrupt-everybody, resume-everybody}
 
 -- ---- Question 7: behind a block that lets its transaction go on stands another
 

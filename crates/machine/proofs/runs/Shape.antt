@@ -1,8 +1,7 @@
 -- The fixtures of the machine keep their shape in every state of a run: as many queue lists, waiting lists, servers, queues,
 -- entries and sample lists as the model says, each server of its capacity and never in use beyond it.
 use Rattle.machine.specs.All.{cases, ℕ, zero, suc, _+_, _*_, _-_, _≤_, _<_, _≡_, refl, sym, ap, _∙_, Bool, true≢false, List, [], _∷_, _++_, map, arith, ltb-true, ltb-false, ltb, length, getD, set, replicate, length-set, length-map, length-append, length-replicate, getD-replicate, List·getD-map, List·getD-append, map-set-same, Transaction, Gatherer, nth, setNth, Server, View, Queue, idleServer, serverAt, Code, U, NU, E, NE, F, NF, codeIndex, assemble, facts, BlockModel, blockAt, welIndex, State, withUse, setClock, setEntries, setQueues, setServers, setUse, sampleServers, sampleQueue, sample, turn, idle, start, Each}
-use Rattle.machine.proofs.decoding.Proper.{servers}
-use Rattle.machine.proofs.runs.Kept.{Closed, turn-kept, start-kept}
+use Rattle.machine.proofs.{decoding.Proper.servers, runs.Kept.Closed, runs.Kept.turn-kept, runs.Kept.start-kept}
 
 -- ---- Definition
 

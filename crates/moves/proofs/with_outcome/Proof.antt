@@ -1,27 +1,23 @@
 -- `with_outcome` meets its contract, by cases on the outcome.
-use Prim.Native.Nat.{ℕ}
-use mathlib.Core.Path.{_≡_}
-use mathlib.Core.Logic.{_≢_}
-use borrow.Author.Tests.{eq-eqb, ne-eqb}
-use Rattle.state.specs.declared.scalars.Scalars.{Scalars}
-use Rattle.state.specs.ScalarSetters.{putNote, putMoving, putSerial}
-use Rattle.moves.specs.Motion.{next32, withOutcome}
-use borrow.Author.Needs.{needs}
-use Rattle.moves.proofs.with_outcome.Statement.{statement}
-use Rattle.moves.proofs.with_outcome.Tie as tie
+use Rattle.machine.specs.All.{ℕ, _≡_, _≢_, eq-eqb, ne-eqb, needs}
+use Rattle.state.specs.{declared.scalars.Scalars.Scalars, All.putNote, All.putMoving, All.putSerial}
+use Rattle.moves.specs.{next32, withOutcome}
+use Rattle.moves.proofs as our
+use our.with_outcome.Statement.{statement}
+use our.with_outcome.Tie as tie
 
 module _ (y x : Scalars) (o : ℕ) (same : y ≡ x) where
   entered : o ≡ 0 → putNote o y ≡ withOutcome x o
   unfolding withOutcome
-  entered h = rw (same, eq-eqb o 0 h)
+  entered h = rw (same, eq-eqb)
 
   begins : (n : ℕ) → o ≢ 0 → o ≡ 1 → n ≡ next32 (x .serial) → putSerial n (putMoving 1024 (putNote o y)) ≡ withOutcome x o
   unfolding withOutcome
-  begins n d h e = rw (same, ne-eqb o 0 d, eq-eqb o 1 h, e)
+  begins n d h e = rw (same, ne-eqb, eq-eqb, e)
 
   returned : o ≢ 0 → o ≢ 1 → putMoving 1024 (putNote o y) ≡ withOutcome x o
   unfolding withOutcome
-  returned d h = rw (same, ne-eqb o 0 d, ne-eqb o 1 h)
+  returned d h = rw (same, ne-eqb, ne-eqb)
 
 returns : tie.Need-returns
 returns c = entered _ _ _ (c .before .by-fields .ensures) (c .if1 .taken)

@@ -2,25 +2,25 @@
 -- The measure is 32 for each bracket that may open, and less than 32 for where reading stands between two brackets: after a
 -- count of at most 8, a sum has its terms left, and a comparison its two.
 use Rattle.machine.specs.All.{needs, _+_, _*_, arith, ℕ, _<_}
-use Rattle.parse_values.proofs.Steps.{comparison-stop, comparison-stop-2, comparison-kept, sum-stop, sum-kept, terms-none, terms-stop, terms-stop-2, terms-kept, term-stop, term-operand, term-fifth, term-comparison, term-bracket}
+use Rattle.parse_values.proofs as our
+use our.Steps.{comparison-stop, comparison-stop-2, comparison-kept, sum-stop, sum-kept, terms-none, terms-stop, terms-stop-2, terms-kept, term-stop, term-operand, term-fifth, term-comparison, term-bracket}
+use our.comparison.Reads as comparison
+use our.comparison.Kinds as comparison-kinds
+use our.+comparison+sum+sum_terms+value_term.Lts-comparison as comparison-lts
+use our.sum.Reads as sum
+use our.sum.Kinds as sum-kinds
+use our.+comparison+sum+sum_terms+value_term.Lts-sum as sum-lts
+use our.sum_terms.Reads as sum-terms
+use our.sum_terms.Kinds as sum-terms-kinds
+use our.+comparison+sum+sum_terms+value_term.Lts-sum_terms as sum-terms-lts
+use our.value_term.Reads as value-term
+use our.value_term.Kinds as value-term-kinds
+use our.+comparison+sum+sum_terms+value_term.Lts-value_term as value-term-lts
+use our.keep_counted.Reads as keep-counted-reads
+use our.operand.Reads as operand-reads
+use our.{+comparison+sum+sum_terms+value_term.statement, +comparison+sum+sum_terms+value_term.Tie.close}
 use borrow.Fn.Kinds.{In}
 use borrow.Fn.PlainCycle.{Measures, is, falls, and}
-use Rattle.parse_values.proofs.comparison.Reads as comparison
-use Rattle.parse_values.proofs.comparison.Kinds as comparison-kinds
-use Rattle.parse_values.proofs.+comparison+sum+sum_terms+value_term.Lts-comparison as comparison-lts
-use Rattle.parse_values.proofs.sum.Reads as sum
-use Rattle.parse_values.proofs.sum.Kinds as sum-kinds
-use Rattle.parse_values.proofs.+comparison+sum+sum_terms+value_term.Lts-sum as sum-lts
-use Rattle.parse_values.proofs.sum_terms.Reads as sum-terms
-use Rattle.parse_values.proofs.sum_terms.Kinds as sum-terms-kinds
-use Rattle.parse_values.proofs.+comparison+sum+sum_terms+value_term.Lts-sum_terms as sum-terms-lts
-use Rattle.parse_values.proofs.value_term.Reads as value-term
-use Rattle.parse_values.proofs.value_term.Kinds as value-term-kinds
-use Rattle.parse_values.proofs.+comparison+sum+sum_terms+value_term.Lts-value_term as value-term-lts
-use Rattle.parse_values.proofs.keep_counted.Reads as keep-counted-reads
-use Rattle.parse_values.proofs.operand.Reads as operand-reads
-use Rattle.parse_values.proofs.+comparison+sum+sum_terms+value_term.{statement}
-use Rattle.parse_values.proofs.+comparison+sum+sum_terms+value_term.Tie.{close}
 
 abbrev μ-comparison : Measures 2 comparison-kinds.ps ℕ
 μ-comparison κs a = a .1 .1 .1 .1 .0 * 32 + 1
@@ -93,7 +93,7 @@ comparison-value-term-requires : (t : ℕ) → comparison-lts.Need-value-term-re
   value-term-below t,
   value-term.Post,
 ) (comparison-at t) comparison.Post
-comparison-value-term-requires t c κs = (omega (arith, c .before .before .before .before .before .before .before .pre .0), c .before .before .before .before .before .before .before .pre .1)
+comparison-value-term-requires t c κs = (omega arith, c .before .before .before .before .before .before .before .pre .1)
 
 comparison-enum-known-n-2 : (t : ℕ) → comparison-lts.Need-enum-known-n-2 (
   keep-counted-reads.Asked,
@@ -117,7 +117,7 @@ comparison-value-term-requires-2 : (t : ℕ) → comparison-lts.Need-value-term-
   value-term-below t,
   value-term.Post,
 ) (comparison-at t) comparison.Post
-comparison-value-term-requires-2 t c κs = (omega (arith, c .before .before .before .before .before .before .before .before .before .before .before .before .pre .0), c .before .before .before .before .before .before .before .before .before .before .before .before .pre .1)
+comparison-value-term-requires-2 t c κs = (omega arith, c .before .before .before .before .before .before .before .before .before .before .before .before .pre .1)
 
 comparison-returns : (t : ℕ) → comparison-lts.Need-returns (
   keep-counted-reads.Asked,
@@ -173,7 +173,7 @@ sum-sum-terms-requires : (t : ℕ) → sum-lts.Need-sum-terms-requires (
   sum-terms-below t,
   sum-terms.Post,
 ) (sum-at t) sum.Post
-sum-sum-terms-requires t c κs = (omega (arith, c .before .before .before .before .before .before .before .pre .0, c .before .before .before .before .keep-counted .ensures .1 _ _ (c .before .before .count .given .1)), c .before .before .before .before .before .before .before .pre .1)
+sum-sum-terms-requires t c κs = (omega (arith, c .before .before .before .before .keep-counted .ensures .1 _ _ (c .before .before .count .given .1)), c .before .before .before .before .before .before .before .pre .1)
 
 sum-returns : (t : ℕ) → sum-lts.Need-returns (
   keep-counted-reads.Asked,
@@ -239,7 +239,7 @@ sum-terms-value-term-requires : (t : ℕ) → sum-terms-lts.Need-value-term-requ
   sum-terms-below t,
   sum-terms.Post,
 ) (sum-terms-at t) sum-terms.Post
-sum-terms-value-term-requires t c κs = (omega (arith, c .before .before .before .before .before .before .before .before .pre .0), c .before .before .before .before .before .before .before .before .pre .1)
+sum-terms-value-term-requires t c κs = (omega arith, c .before .before .before .before .before .before .before .before .pre .1)
 
 sum-terms-enum-known-n-2 : (t : ℕ) → sum-terms-lts.Need-enum-known-n-2 (
   keep-counted-reads.Asked,
@@ -269,7 +269,7 @@ sum-terms-sub-sum-terms : (t : ℕ) → sum-terms-lts.Need-sub-sum-terms (
   sum-terms-below t,
   sum-terms.Post,
 ) (sum-terms-at t) sum-terms.Post
-sum-terms-sub-sum-terms t c = omega (arith, c .before .before .before .before .before .before .before .before .before .before .before .if1 .left)
+sum-terms-sub-sum-terms t c = omega arith
 
 sum-terms-sum-terms-requires : (t : ℕ) → sum-terms-lts.Need-sum-terms-requires (
   keep-counted-reads.Asked,
@@ -279,7 +279,7 @@ sum-terms-sum-terms-requires : (t : ℕ) → sum-terms-lts.Need-sum-terms-requir
   sum-terms-below t,
   sum-terms.Post,
 ) (sum-terms-at t) sum-terms.Post
-sum-terms-sum-terms-requires t c κs = (omega (arith, c .before .before .before .before .before .before .before .before .before .before .before .before .before .pre .0, c .before .before .before .before .before .before .before .before .before .before .before .if1 .left), c .before .before .before .before .before .before .before .before .before .before .before .before .before .pre .1)
+sum-terms-sum-terms-requires t c κs = (omega arith, c .before .before .before .before .before .before .before .before .before .before .before .before .before .pre .1)
 
 sum-terms-returns-2 : (t : ℕ) → sum-terms-lts.Need-returns-2 (
   keep-counted-reads.Asked,
@@ -393,7 +393,7 @@ value-term-sub-comparison : (t : ℕ) → value-term-lts.Need-sub-comparison (
   sum-below t,
   sum.Post,
 ) (value-term-at t) value-term.Post
-value-term-sub-comparison t c = omega (arith, c .before .before .if2 .left)
+value-term-sub-comparison t c = omega arith
 
 value-term-comparison-requires : (t : ℕ) → value-term-lts.Need-comparison-requires (
   keep-counted-reads.Asked,
@@ -405,7 +405,7 @@ value-term-comparison-requires : (t : ℕ) → value-term-lts.Need-comparison-re
   sum-below t,
   sum.Post,
 ) (value-term-at t) value-term.Post
-value-term-comparison-requires t c κs = (omega (arith, c .before .before .before .before .before .before .before .before .before .before .pre .0, c .before .before .if2 .left), c .before .before .before .before .before .before .before .before .before .before .pre .1)
+value-term-comparison-requires t c κs = (omega arith, c .before .before .before .before .before .before .before .before .before .before .pre .1)
 
 value-term-returns-3 : (t : ℕ) → value-term-lts.Need-returns-3 (
   keep-counted-reads.Asked,
@@ -429,7 +429,7 @@ value-term-sub-sum : (t : ℕ) → value-term-lts.Need-sub-sum (
   sum-below t,
   sum.Post,
 ) (value-term-at t) value-term.Post
-value-term-sub-sum t c = omega (arith, c .before .before .if2 .left)
+value-term-sub-sum t c = omega arith
 
 value-term-sum-requires : (t : ℕ) → value-term-lts.Need-sum-requires (
   keep-counted-reads.Asked,
@@ -441,7 +441,7 @@ value-term-sum-requires : (t : ℕ) → value-term-lts.Need-sum-requires (
   sum-below t,
   sum.Post,
 ) (value-term-at t) value-term.Post
-value-term-sum-requires t c κs = (omega (arith, c .before .before .before .before .before .before .before .before .before .before .pre .0, c .before .before .if2 .left), c .before .before .before .before .before .before .before .before .before .before .pre .1)
+value-term-sum-requires t c κs = (omega arith, c .before .before .before .before .before .before .before .before .before .before .pre .1)
 
 value-term-returns-4 : (t : ℕ) → value-term-lts.Need-returns-4 (
   keep-counted-reads.Asked,
@@ -475,7 +475,7 @@ pub +comparison+sum+sum-terms+value-term-spec : {M : Type 1} → statement M
       value-term-below t,
       value-term.Post,
     )
-    (comparison-at t)
+    _
     comparison.Post
     (comparison-keep-counted-requires t)
     (comparison-enum-known-n t)
@@ -493,7 +493,7 @@ pub +comparison+sum+sum-terms+value-term-spec : {M : Type 1} → statement M
       sum-terms-below t,
       sum-terms.Post,
     )
-    (sum-at t)
+    _
     sum.Post
     (sum-keep-counted-requires t)
     (sum-enum-known-n t)
@@ -509,7 +509,7 @@ pub +comparison+sum+sum-terms+value-term-spec : {M : Type 1} → statement M
       sum-terms-below t,
       sum-terms.Post,
     )
-    (sum-terms-at t)
+    _
     sum-terms.Post
     (sum-terms-returns t)
     (sum-terms-keep-counted-requires t)
@@ -533,7 +533,7 @@ pub +comparison+sum+sum-terms+value-term-spec : {M : Type 1} → statement M
       sum-below t,
       sum.Post,
     )
-    (value-term-at t)
+    _
     value-term.Post
     (value-term-keep-counted-requires t)
     (value-term-enum-known-n t)

@@ -1,7 +1,8 @@
 -- `values::block_term` meets its contract: a tag, its range, and the number after it.
-use Rattle.parse_values.proofs.Steps.{block-stop, block-stop-2, block-read}
+use Rattle.parse_values.proofs as our
+use our.Steps.{block-stop, block-stop-2, block-read}
+use our.block_term as f
 use Rattle.machine.specs.All.{needs}
-use Rattle.parse_values.proofs.block_term as f
 
 returns-2 : f.Tie.Need-returns-2
 returns-2 c =

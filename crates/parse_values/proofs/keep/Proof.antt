@@ -1,7 +1,8 @@
 -- `values::keep` meets its contract: that of `number`, and one store.
 use Rattle.machine.specs.All.{arith, needs}
-use Rattle.parse_values.proofs.Steps.{keep-refused, keep-read, taken-number, taken-range}
-use Rattle.parse_values.proofs.keep as f
+use Rattle.parse_values.proofs as our
+use our.Steps.{keep-refused, keep-read, taken-number, taken-range}
+use our.keep as f
 
 returns-2 : f.Tie.Need-returns-2
 returns-2 c = let inside = c .before .before .before .number .ensures .1 _ _ (c .before .v .given .1) in (

@@ -1,7 +1,8 @@
 -- `values::keep_counted` meets its contract: that of `number`, the question of 64 numbers, and one store.
 use Rattle.machine.specs.All.{arith, needs}
-use Rattle.parse_values.proofs.Steps.{counted-refused, counted-past, counted-read, taken-number, taken-range}
-use Rattle.parse_values.proofs.keep_counted as f
+use Rattle.parse_values.proofs as our
+use our.Steps.{counted-refused, counted-past, counted-read, taken-number, taken-range}
+use our.keep_counted as f
 
 returns-3 : f.Tie.Need-returns-3
 returns-3 c =

@@ -1,7 +1,8 @@
 -- `values::number` meets its contract: that of `codec::read_field`, with the place beside it.
 use Rattle.machine.specs.All.{refl, needs}
-use Rattle.parse_values.proofs.Steps.{number-refused, number-read, number-range, taken-number}
-use Rattle.parse_values.proofs.number as f
+use Rattle.parse_values.proofs as our
+use our.Steps.{number-refused, number-read, number-range, taken-number}
+use our.number as f
 
 returns-2 : f.Tie.Need-returns-2
 returns-2 c = let inside = c .before .before .before .read-field .ensures .1 _ _ (c .before .v .given .1) in (

@@ -1,7 +1,8 @@
 -- `values::operand` meets its contract: the range of the tag, the number, and for tags 9 and 4 what it counts as.
-use Rattle.parse_values.proofs.Steps.{operand-stop, operand-third, operand-mention, operand-larger, operand-lower, operand-other}
+use Rattle.parse_values.proofs as our
+use our.Steps.{operand-stop, operand-third, operand-mention, operand-larger, operand-lower, operand-other}
+use our.operand as f
 use Rattle.machine.specs.All.{needs}
-use Rattle.parse_values.proofs.operand as f
 
 returns : f.Tie.Need-returns
 returns c =

@@ -2,8 +2,9 @@
 -- left of them.
 use Rattle.machine.specs.All.{needs, _≤_, _-_, arith, valueField, inValue}
 use Rattle.parse_values.specs.{valueShape, ProperValue, beforeValues}
-use Rattle.parse_values.proofs.Filled.{Leads, from-none, from-stop, from-step, from-all, values-rows}
-use Rattle.parse_values.proofs.values as own
+use Rattle.parse_values.proofs as our
+use our.Filled.{Leads, from-none, from-stop, from-step, from-all, values-rows}
+use our.values as own
 
 abbrev Inv-loop : own.Tie.InvT-loop
 Inv-loop s tables₀ m k₀ q₀ tables k q = (k ≤ m .values) × Leads valueShape ProperValue (λ i. valueField s (inValue s (beforeValues m) i)) 64 2048 (m .values) q₀ tables₀ k q tables
@@ -13,12 +14,12 @@ abbrev μ-loop : own.Tie.MeasureT-loop
 
 value-requires : own.Tie.Need-value-requires Inv-loop μ-loop
 value-requires c κs = let w = c .before .before .before .before .before .pre in
-    (omega (arith, w .values), record { facilities = w .facilities; storages = w .storages; queues = w .queues; values = omega (arith, w .values); lists = omega arith; blocks = omega arith })
+    (omega arith, record { facilities = w .facilities; storages = w .storages; queues = w .queues; values = omega arith; lists = omega arith; blocks = omega arith })
 
 returns : own.Tie.Need-returns Inv-loop μ-loop
 returns c =
     let b = c .before .before .before in
-    rw (values-rows _ _ _ 0)
+    rw values-rows
     (from-all _ _ _ _ _ _ (b .before .before .before .before .loop .inv .1 _ _ (from-stop _ _ _ _ _ _ (b .before .before .if1 .taken) (b .value .ensures) _ (c .before .n .given .1))))
 
 loop-again : own.Tie.Need-loop-again Inv-loop μ-loop
@@ -42,4 +43,4 @@ values-spec =
     (omega arith)
     (omega arith)
     loop-again
-    (λ c. rw (values-rows _ _ _ 0) (from-all _ _ _ _ _ _ (c .before .before .loop .inv .1 _ _ (from-none _ _ _ _ _ _ _ _ _ (c .if1 .left))))))
+    (λ c. rw values-rows (from-all _ _ _ _ _ _ (c .before .before .loop .inv .1 _ _ (from-none _ _ _ _ _ _ _ _ _ (c .if1 .left))))))

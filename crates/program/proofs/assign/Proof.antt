@@ -1,7 +1,8 @@
 -- `program::assign` meets its contract: a parameter and a term.
-use Rattle.program.proofs.Steps.{assign-stop, assign-kept}
+use Rattle.program.proofs as our
+use our.Steps.{assign-stop, assign-kept}
+use our.assign as f
 use Rattle.machine.specs.All.{needs}
-use Rattle.program.proofs.assign as f
 
 pub assign-spec : {M : Type 1} → f.Statement.statement M
 assign-spec =

@@ -1,13 +1,14 @@
 -- `program::block` meets its contract: a kind and its operands.
 use Rattle.machine.specs.All.{[], _∷_, _+_, _*_, _≡_, ap, _∙_, arith, needs}
 use Rattle.program.specs.{capacitiesOf}
-use Rattle.program.proofs.Steps.{block-stop, block-kept, capacities-kept}
-use Rattle.program.proofs.block as f
+use Rattle.program.proofs as our
+use our.Steps.{block-stop, block-kept, capacities-kept}
+use our.block as f
 
 operands-requires : f.Tie.Need-operands-requires
 operands-requires c κs =
     let b = c .before .before .before .before in
-    let h = b .keep .ensures .1 _ _ (c .before .before .kind .given .1) in (omega (arith, b .before .before .before .pre .0), b .before .before .before .pre .1, h .1, h .0)
+    let h = b .keep .ensures .1 _ _ (c .before .before .kind .given .1) in (omega arith, b .before .before .before .pre .1, h .1, h .0)
 
 returns : f.Tie.Need-returns
 returns c =
@@ -21,7 +22,7 @@ returns-2 c =
     let z : 0 + 8 * d .args .b ≡ 8 * d .args .b = omega arith in
     rw z
     (block-kept _ _ _ (b₁ .before .before .keep .ensures .0) (b₁ .kind .given .1)
-    (λ cells. rw (ap (capacitiesOf (d .args .m)) cells ∙ capacities-kept (d .args .m) (b₁ .kind .given .0 .0 ∷ []) (d .args .tables .now) (8 * d .args .b) (omega (arith, d .pre .0))) at (c .operands .ensures)))
+    (λ cells. rw (ap (capacitiesOf (d .args .m)) cells ∙ capacities-kept (d .args .m) (b₁ .kind .given .0 .0 ∷ []) (d .args .tables .now) _ (omega arith)) at (c .operands .ensures)))
 
 pub block-spec : {M : Type 1} → f.Statement.statement M
 block-spec =

@@ -5,8 +5,9 @@ use Rattle.parse_values.specs.Shapes.{countsOf}
 use Rattle.program.specs.Formed.{Formed}
 use Rattle.program.specs.{blockShape, capacitiesOf}
 use Rattle.parse_values.proofs.Filled.{Leads, from-none, from-stop, from-step, from-all, times-rows}
-use Rattle.program.proofs.Steps.{block-capacities}
-use Rattle.program.proofs.blocks as own
+use Rattle.program.proofs as our
+use our.Steps.{block-capacities}
+use our.blocks as own
 
 abbrev Inv-loop : own.Tie.InvT-loop
 Inv-loop s tables₀ m b₀ q₀ tables b q = (b ≤ m .blocks) × (capacitiesOf m tables ≡ capacitiesOf m tables₀) × Leads (blockShape (m .blocks)) (Formed (m .blocks)) (λ i. blockField s (inForce .kinds) (countsOf m) (capacitiesOf m tables₀)) 8 0 (m .blocks) q₀ tables₀ b q tables
@@ -26,7 +27,7 @@ loop-again c =
     let b = c .before .before .before in
     let w = b .before .before .before .before .loop .inv in (
       omega arith,
-      block-capacities (b .before .before .before .before .before .before .args .m) _ (omega (arith, b .before .before .before .before .before .before .pre .blocks)) (b .block .ensures) (c .before .next .given .1) ∙ w .1,
+      block-capacities (b .before .before .before .before .before .before .args .m) _ (omega arith) (b .block .ensures) (c .before .next .given .1) ∙ w .1,
       λ after r h.
           w .2 after r
           (from-step _ _ _ _ _ _ (b .before .before .if1 .taken) (rw (w .1) at (b .block .ensures)) (c .before .next .given .1) (λ a f. f) after r h),
@@ -39,7 +40,7 @@ blocks-spec =
     Inv-loop
     μ-loop
     (λ c. (omega arith, refl, λ after r h. h))
-    (λ c κs. let b = c .before .before .before .before .before in (omega (arith, b .pre .blocks), b .pre))
+    (λ c κs. let b = c .before .before .before .before .before in (omega arith, b .pre))
     (search needs)
     returns
     (search needs)

@@ -1,7 +1,8 @@
 -- `program::branch` meets its contract: a comparison and a target.
-use Rattle.program.proofs.Steps.{branch-stop, branch-kept}
+use Rattle.program.proofs as our
+use our.Steps.{branch-stop, branch-kept}
+use our.branch as f
 use Rattle.machine.specs.All.{needs}
-use Rattle.program.proofs.branch as f
 
 pub branch-spec : {M : Type 1} → f.Statement.statement M
 branch-spec =

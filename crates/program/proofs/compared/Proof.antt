@@ -1,7 +1,8 @@
 -- `program::compared` meets its contract: a term, a relation and a term.
-use Rattle.program.proofs.Steps.{compared-stop, compared-stop-2, compared-kept}
+use Rattle.program.proofs as our
+use our.Steps.{compared-stop, compared-stop-2, compared-kept}
+use our.compared as f
 use Rattle.machine.specs.All.{needs}
-use Rattle.program.proofs.compared as f
 
 returns-2 : f.Tie.Need-returns-2
 returns-2 c =

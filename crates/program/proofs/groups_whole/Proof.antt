@@ -1,9 +1,10 @@
 -- `program::groups_whole` meets its contract. The loop's invariant: the answer is that of the rows from b on, behind so many waits. The measure
 -- is what is left of the rows.
-use Rattle.program.proofs.Question.{joined-all, joined-end, joined-bad, joined-next}
+use Rattle.program.proofs as our
+use our.Question.{joined-all, joined-end, joined-bad, joined-next}
+use our.groups_whole as f
 use Rattle.machine.specs.All.{_*_, _-_, _≤_, arith, _≡_, _∙_}
 use Rattle.program.specs.{joinedFrom}
-use Rattle.program.proofs.groups_whole as f
 
 abbrev Inv-loop : f.Tie.InvT-loop
 Inv-loop tables blocks waits₀ b₀ waits b = (b ≤ blocks) × (waits ≤ b) × (joinedFrom tables (blocks - b) (8 * b) waits ≡ joinedFrom tables blocks 0 0)
@@ -15,9 +16,9 @@ loop-again : f.Tie.Need-loop-again Inv-loop μ-loop
 loop-again c =
     let b = c .before .before in (
       omega arith,
-      omega (arith, c .waits-after .ensures .1),
+      omega arith,
       rw (c .waits-after .ensures .0)
-          (joined-next _ _ _ _ (b .before .before .loop-test .taken) (omega (arith, b .if1 .left, b .before .back .ensures))
+          (joined-next _ _ _ _ (b .before .before .loop-test .taken) (omega arith)
           ∙ b .before .before .before .loop .inv .2),
     )
 
@@ -28,9 +29,9 @@ groups-whole-spec =
     Inv-loop
     μ-loop
     (λ c. (omega arith, omega arith, joined-all _ _ 0))
-    (λ c κs. omega (arith, c .before .before .pre))
+    (λ c κs. omega arith)
     (omega arith)
-    (λ c. joined-bad _ _ _ _ (c .before .before .loop-test .taken) (omega (arith, c .if1 .taken, c .before .back .ensures)) ∙ c .before .before .before .loop .inv .2)
+    (λ c. joined-bad _ _ _ _ (c .before .before .loop-test .taken) (omega arith) ∙ c .before .before .before .loop .inv .2)
     (omega arith)
     (omega arith)
     (omega arith)

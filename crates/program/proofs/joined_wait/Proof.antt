@@ -1,7 +1,8 @@
 -- `program::joined_wait` meets its contract: code, server and back count.
-use Rattle.program.proofs.Steps.{joined-stop, joined-kept}
+use Rattle.program.proofs as our
+use our.Steps.{joined-stop, joined-kept}
+use our.joined_wait as f
 use Rattle.machine.specs.All.{needs}
-use Rattle.program.proofs.joined_wait as f
 
 pub joined-wait-spec : {M : Type 1} → f.Statement.statement M
 joined-wait-spec =

@@ -1,7 +1,8 @@
 -- `program::operands` meets its contract: each arm is its kind's line of the machine's `operands`.
-use Rattle.program.proofs.Steps.{kind-1, kind-2, kind-3, kind-4, kind-5, kind-6, kind-7, kind-8, kind-9, kind-11, kind-13, kind-14, kind-15, kind-16, kind-18, kind-19, kind-20, the-last}
+use Rattle.program.proofs as our
+use our.Steps.{kind-1, kind-2, kind-3, kind-4, kind-5, kind-6, kind-7, kind-8, kind-9, kind-11, kind-13, kind-14, kind-15, kind-16, kind-18, kind-19, kind-20, the-last}
+use our.operands as f
 use Rattle.machine.specs.All.{needs}
-use Rattle.program.proofs.operands as f
 
 pub operands-spec : {M : Type 1} → f.Statement.statement M
 operands-spec =

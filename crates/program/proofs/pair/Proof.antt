@@ -1,7 +1,8 @@
 -- `program::pair` meets its contract: a number and a number.
-use Rattle.program.proofs.Steps.{pair-stop, pair-kept}
+use Rattle.program.proofs as our
+use our.Steps.{pair-stop, pair-kept}
+use our.pair as f
 use Rattle.machine.specs.All.{needs}
-use Rattle.program.proofs.pair as f
 
 pub pair-spec : {M : Type 1} → f.Statement.statement M
 pair-spec =

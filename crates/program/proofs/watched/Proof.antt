@@ -1,7 +1,8 @@
 -- `program::watched` meets its contract: a code, and a facility or a storage by it.
-use Rattle.program.proofs.Steps.{watched-stop, watched-facility, watched-storage}
+use Rattle.program.proofs as our
+use our.Steps.{watched-stop, watched-facility, watched-storage}
+use our.watched as f
 use Rattle.machine.specs.All.{needs}
-use Rattle.program.proofs.watched as f
 
 pub watched-spec : {M : Type 1} → f.Statement.statement M
 watched-spec =

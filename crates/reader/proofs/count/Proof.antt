@@ -37,12 +37,13 @@ use Rattle.trace.proofs.count_low.Symbol as count-low-def
 use Rattle.trace.proofs.count_low.Symbol.{name as #trace·count-low}
 use Rattle.trace.proofs.count_low.Met as count-low-thm
 use Rattle.reader.specs.declared.Reader.{Reader}
-use Rattle.reader.proofs.Reader.Laws as T′
-use Rattle.reader.proofs.Held.{ReaderAt, Described, Lawful, slice, Own, passes-slice}
-use Rattle.reader.proofs.count.Key.{name as #reader·count}
-use Rattle.reader.proofs.count as count
-use Rattle.reader.proofs.count.Statement as stated
-use Rattle.reader.proofs.count.Code as code
+use Rattle.reader.proofs as our
+use our.Reader.Laws as T′
+use our.Held.{ReaderAt, Described, Lawful, slice, Own, passes-slice}
+use our.count.Key.{name as #reader·count}
+use our.count as count
+use our.count.Statement as stated
+use our.count.Code as code
 
 abbrev stayed : Stays (count.ended .signature .params) (count.ended .kept)
 stayed = (stay-none ReaderAt yes, tt)

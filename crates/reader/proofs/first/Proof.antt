@@ -33,26 +33,23 @@ use denote.Triple.Table.{entered, cited}
 use denote.Triple.Walked.{says, Stays, stay-none-slice, walkOf, goes-none-slice, Walks, ends-at, walked, walk-meets}
 use denote.Exit.{yes}
 use denote.Triple.Clauses.{ensured, lasts}
-use Rattle.trace.specs.declared.Reading.{Reading}
-use Rattle.trace.specs.Answers.{readingOf}
+use Rattle.trace.specs.{declared.Reading.Reading, Answers.readingOf}
 use Rattle.trace.proofs.Reading as R
 use Rattle.trace.proofs.Reading.Laws as R′
 use Rattle.reader.specs.declared.Reader.{Reader}
-use Rattle.reader.proofs.Reader as T
-use Rattle.reader.proofs.Reader.Laws as T′
-use Rattle.reader.proofs.Held.{ReaderAt}
-use Rattle.reader.proofs.new as new
-use Rattle.reader.proofs.new.Symbol as new-def
-use Rattle.reader.proofs.new.Symbol.{name as #reader·new}
-use Rattle.reader.proofs.new.Met as new-thm
-use Rattle.reader.proofs.peek as peek
-use Rattle.reader.proofs.peek.Symbol as peek-def
-use Rattle.reader.proofs.peek.Symbol.{name as #reader·peek}
-use Rattle.reader.proofs.peek.Met as peek-thm
-use Rattle.reader.proofs.first.Key.{name as #reader·first}
-use Rattle.reader.proofs.first as first
-use Rattle.reader.proofs.first.Statement as stated
-use Rattle.reader.proofs.first.Code as code
+use Rattle.reader.proofs as our
+use our.Reader as T
+use our.Reader.Laws as T′
+use our.{Held.ReaderAt, new.Symbol.name as #reader·new, peek.Symbol.name as #reader·peek, first.Key.name as #reader·first}
+use our.new as new
+use our.new.Symbol as new-def
+use our.new.Met as new-thm
+use our.peek as peek
+use our.peek.Symbol as peek-def
+use our.peek.Met as peek-thm
+use our.first as first
+use our.first.Statement as stated
+use our.first.Code as code
 
 abbrev stayed : Stays (first.ended .signature .params) (first.ended .kept)
 stayed = (stay-none-slice (0 ∷ []) tt (plain (λ _. u8)) yes, tt)

@@ -31,12 +31,13 @@ use denote.Triple.Table.{entered}
 use denote.Triple.Walked.{says, Stays, stay-none-slice, walkOf, goes-none-slice, Walks, ends-at, walked, walk-meets}
 use denote.Exit.{yes}
 use Rattle.reader.specs.declared.Reader.{Reader}
-use Rattle.reader.proofs.Reader as T
-use Rattle.reader.proofs.Reader.Laws as T′
-use Rattle.reader.proofs.new.Key.{name as #reader·new}
-use Rattle.reader.proofs.new as new
-use Rattle.reader.proofs.new.Statement as stated
-use Rattle.reader.proofs.new.Code as code
+use Rattle.reader.proofs as our
+use our.Reader as T
+use our.Reader.Laws as T′
+use our.new.Key.{name as #reader·new}
+use our.new as new
+use our.new.Statement as stated
+use our.new.Code as code
 
 abbrev stayed : Stays (new.ended .signature .params) (new.ended .kept)
 stayed = (stay-none-slice (0 ∷ []) tt (plain (λ _. u8)) yes, tt)

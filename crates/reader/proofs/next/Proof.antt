@@ -40,8 +40,7 @@ use denote.Triple.Spec.{Meets, tripleOf}
 use denote.Triple.Table.{entered, cited}
 use denote.Triple.Clauses.{ensured, lasts}
 use denote.Triple.Walked.{says, Stays, stay-ref, walkOf, goes-ref, Walks, ends-at, walked, walk-meets}
-use Rattle.trace.specs.declared.Reading.{Reading}
-use Rattle.trace.specs.Answers.{readingOf}
+use Rattle.trace.specs.{declared.Reading.Reading, Answers.readingOf}
 use Rattle.trace.proofs.Reading as R
 use Rattle.trace.proofs.Reading.Laws as R′
 use Rattle.trace.proofs.read_record as read-record
@@ -50,17 +49,17 @@ use Rattle.trace.proofs.read_record.Symbol.{name as #trace·read-record}
 use Rattle.trace.proofs.read_record.Met as read-record-thm
 use Rattle.reader.specs.declared.Reader.{Reader}
 use Rattle.reader.specs.{positionBehind, positionAfter, moved}
-use Rattle.reader.proofs.Reader as T
-use Rattle.reader.proofs.Reader.Laws as T′
-use Rattle.reader.proofs.Held.{slice, place, OwnIn, lends-both}
-use Rattle.reader.proofs.behind as behind
-use Rattle.reader.proofs.behind.Symbol as behind-def
-use Rattle.reader.proofs.behind.Symbol.{name as #reader·behind}
-use Rattle.reader.proofs.behind.Met as behind-thm
-use Rattle.reader.proofs.next.Key.{name as #reader·next}
-use Rattle.reader.proofs.next as next
-use Rattle.reader.proofs.next.Statement as stated
-use Rattle.reader.proofs.next.Code as code
+use Rattle.reader.proofs as our
+use our.Reader as T
+use our.Reader.Laws as T′
+use our.Held.{slice, place, OwnIn, lends-both}
+use our.behind as behind
+use our.behind.Symbol as behind-def
+use our.{behind.Symbol.name as #reader·behind, next.Key.name as #reader·next}
+use our.behind.Met as behind-thm
+use our.next as next
+use our.next.Statement as stated
+use our.next.Code as code
 
 -- 'a, and the type of a reader at it
 abbrev α : Lft → NamedLft

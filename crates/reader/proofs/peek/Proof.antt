@@ -32,8 +32,7 @@ use denote.Triple.Table.{entered, cited}
 use denote.Triple.Walked.{says, Stays, stay-none, walkOf, goes-none, Walks, ends-at, walked, walk-meets}
 use denote.Triple.Clauses.{ensured, lasts}
 use denote.Exit.{yes}
-use Rattle.trace.specs.declared.Reading.{Reading}
-use Rattle.trace.specs.Answers.{readingOf}
+use Rattle.trace.specs.{declared.Reading.Reading, Answers.readingOf}
 use Rattle.trace.proofs.Reading as R
 use Rattle.trace.proofs.Reading.Laws as R′
 use Rattle.trace.proofs.read_record as read-record
@@ -41,12 +40,13 @@ use Rattle.trace.proofs.read_record.Symbol as read-record-def
 use Rattle.trace.proofs.read_record.Symbol.{name as #trace·read-record}
 use Rattle.trace.proofs.read_record.Met as read-record-thm
 use Rattle.reader.specs.declared.Reader.{Reader}
-use Rattle.reader.proofs.Reader.Laws as T′
-use Rattle.reader.proofs.Held.{ReaderAt, Described, Lawful, slice, place, Own, passes-both}
-use Rattle.reader.proofs.peek.Key.{name as #reader·peek}
-use Rattle.reader.proofs.peek as peek
-use Rattle.reader.proofs.peek.Statement as stated
-use Rattle.reader.proofs.peek.Code as code
+use Rattle.reader.proofs as our
+use our.Reader.Laws as T′
+use our.Held.{ReaderAt, Described, Lawful, slice, place, Own, passes-both}
+use our.peek.Key.{name as #reader·peek}
+use our.peek as peek
+use our.peek.Statement as stated
+use our.peek.Code as code
 
 abbrev stayed : Stays (peek.ended .signature .params) (peek.ended .kept)
 stayed = (stay-none ReaderAt yes, tt)

@@ -1,7 +1,6 @@
 -- `write_report` meets its contract: the parts of the report in order.
 use Rattle.machine.specs.All.{sym, ap, _∙_, needs, arith}
-use Rattle.report_laws.specs.Writing.{putAll}
-use Rattle.report_laws.specs.Numbers.{rowNumbers}
+use Rattle.report_laws.specs.{Writing.putAll, Numbers.rowNumbers}
 use Rattle.report_laws.proofs.Writes.{putAll-parts}
 use Rattle.report.proofs.write_report as f
 

@@ -1,7 +1,8 @@
 -- `run` is safe: what was written of trace and report is within their buffers.
 use Rattle.machine.specs.All.{needs}
-use Rattle.runmodel.proofs.Parts.{trace-part, report-part}
-use Rattle.runmodel.proofs.run as f
+use Rattle.runmodel.proofs as our
+use our.Parts.{trace-part, report-part}
+use our.run as f
 
 pub run-spec : {M : Type 1} → f.Statement.statement M
 run-spec =

@@ -2,8 +2,9 @@
 use Rattle.machine.specs.All.{_-_, _≤_, _≡_, refl, sym, _∙_, arith, length}
 use Rattle.state.specs.All.{rowsOf}
 use Rattle.start.specs.{beginBlocks}
-use Rattle.start.proofs.BlockSteps.{begin-first, begin-end, begin-again}
-use Rattle.start.proofs.begin_blocks as f
+use Rattle.start.proofs as our
+use our.BlockSteps.{begin-first, begin-end, begin-again}
+use our.begin_blocks as f
 
 abbrev Inv-loop : f.Tie.InvT-loop
 Inv-loop tables tape work₀ tally₀ blocks y₀ b₀ work tally y b = (beginBlocks (blocks - b) tables tape (rowsOf y work tally) b ≡ beginBlocks blocks tables tape (rowsOf y₀ work₀ tally₀) 0) × ((b ≤ blocks) × ((length work ≡ length work₀) × (length tally ≡ length tally₀)))
@@ -14,7 +15,7 @@ abbrev μ-loop : f.Tie.MeasureT-loop
 loop-again : f.Tie.Need-loop-again Inv-loop μ-loop
 loop-again c =
     let b = c .before .before .before .before in
-    (begin-again _ _ _ _ _ _ (b .begin-block .ensures) (b .before .before .before .loop-test .taken) ∙ b .before .before .before .before .loop .inv .0, (omega arith, (omega (arith, b .begin-block .kept), omega (arith, b .begin-block .kept))))
+    (begin-again _ _ _ _ _ _ (b .begin-block .ensures) (b .before .before .before .loop-test .taken) ∙ b .before .before .before .before .loop .inv .0, (omega arith, (omega arith, omega arith)))
 
 pub begin-blocks-spec : {M : Type 1} → f.Statement.statement M
 begin-blocks-spec =

@@ -2,8 +2,9 @@
 use Rattle.machine.specs.All.{refl, eq-eqb, ne-eqb, needs}
 use Rattle.state.specs.All.{rowsOf}
 use Rattle.start.specs.{beginList}
-use Rattle.start.proofs.begin_list.Statement.{statement}
-use Rattle.start.proofs.begin_list.Tie as tie
+use Rattle.start.proofs as our
+use our.begin_list.Statement.{statement}
+use our.begin_list.Tie as tie
 
 returns : tie.Need-returns
 unfolding beginList rowsOf

@@ -1,6 +1,6 @@
 -- `set_lists` meets its contract. The invariant: the first lists are set. The measure: those left.
-use Rattle.machine.specs.All.{ℕ, _-_, _≤_, _≡_, refl, ap, _∙_, List, arith, add-one, length}
-use Rattle.start.specs.{listSet, listsSet}
+use Rattle.machine.specs.All.{ℕ, _-_, _≤_, _≡_, refl, ap, _∙_, arith, add-one, length}
+use Rattle.start.specs.{listsSet}
 use Rattle.start.proofs.set_lists as f
 
 abbrev Inv-loop : f.Tie.InvT-loop
@@ -13,7 +13,7 @@ loop-again : f.Tie.Need-loop-again Inv-loop μ-loop
 unfolding listsSet
 loop-again c =
     let b = c .before .before .before .before .before in
-    (rw (add-one (b .loop .l)) (c .before .before .set-list .ensures ∙ ap (λ (v : List ℕ). listSet (b .before .before .before .args .lists .now) v (b .loop .l)) (b .loop .inv .0)), (omega arith, omega (arith, c .before .before .set-list .kept)))
+    (rw add-one (cc (c .before .before .set-list .ensures, b .loop .inv .0)), (omega arith, omega arith))
 
 pub set-lists-spec : {M : Type 1} → f.Statement.statement M
 set-lists-spec =

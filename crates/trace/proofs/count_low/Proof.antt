@@ -1,8 +1,9 @@
 -- `trace::count_low` meets its contract. The invariant of each of its loops: what was counted and what the bytes from `i` on give are
 -- together the count of all. The measure is what is left of the length.
 use Rattle.machine.specs.All.{ℕ, _+_, _-_, _≤_, zero-add, arith, List, _≡_, length, drop, needs, countLow}
-use Rattle.trace.proofs.Counting.{counted, counted-all}
-use Rattle.trace.proofs.count_low as f
+use Rattle.trace.proofs as our
+use our.Counting.{counted, counted-all}
+use our.count_low as f
 
 abbrev Counted : List ℕ → ℕ → ℕ → Type 0
 Counted s count i = (i ≤ length s) × (count ≤ i) × (count + countLow (drop i s) ≡ countLow s)
@@ -34,22 +35,22 @@ abbrev μ-loop4 : f.Tie.MeasureT-loop4
 loop-again : f.Tie.Need-loop-again Inv-loop μ-loop Inv-loop2 μ-loop2 Inv-loop3 μ-loop3 Inv-loop4 μ-loop4
 loop-again c =
     let call = c .count-128 .ensures in
-    (omega arith, omega (arith, call .1), counted _ _ 128 _ (call .0) (c .before .before .loop .inv .2))
+    (omega arith, omega arith, counted _ _ 128 _ (call .0) (c .before .before .loop .inv .2))
 
 loop2-again : f.Tie.Need-loop2-again Inv-loop μ-loop Inv-loop2 μ-loop2 Inv-loop3 μ-loop3 Inv-loop4 μ-loop4
 loop2-again c =
     let call = c .count-32 .ensures in
-    (omega arith, omega (arith, call .1), counted _ _ 32 _ (call .0) (c .before .before .loop2 .inv .2))
+    (omega arith, omega arith, counted _ _ 32 _ (call .0) (c .before .before .loop2 .inv .2))
 
 loop3-again : f.Tie.Need-loop3-again Inv-loop μ-loop Inv-loop2 μ-loop2 Inv-loop3 μ-loop3 Inv-loop4 μ-loop4
 loop3-again c =
     let call = c .count-8 .ensures in
-    (omega arith, omega (arith, call .1), counted _ _ 8 _ (call .0) (c .before .before .loop3 .inv .2))
+    (omega arith, omega arith, counted _ _ 8 _ (call .0) (c .before .before .loop3 .inv .2))
 
 loop4-again : f.Tie.Need-loop4-again Inv-loop μ-loop Inv-loop2 μ-loop2 Inv-loop3 μ-loop3 Inv-loop4 μ-loop4
 loop4-again c =
     let call = c .count-1 .ensures in
-    (omega arith, omega (arith, call .1), counted _ _ 1 _ (call .0) (c .before .before .loop4 .inv .2))
+    (omega arith, omega arith, counted _ _ 1 _ (call .0) (c .before .before .loop4 .inv .2))
 
 pub count-low-spec : {M : Type 1} → f.Statement.statement M
 count-low-spec =

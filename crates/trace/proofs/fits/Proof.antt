@@ -1,14 +1,15 @@
 -- `trace::fits` meets its contract: where there is room for any record, there is for this one.
-use Rattle.machine.specs.All.{arith, sym, ap, leb, length, needs, le-leb, recordBytes}
+use Rattle.machine.specs.All.{arith, sym, needs, le-leb}
 use Rattle.trace.specs.{entry}
-use Rattle.trace.proofs.Writer.{record-room}
-use Rattle.trace.proofs.fits as f
+use Rattle.trace.proofs as our
+use our.Writer.{record-room}
+use our.fits as f
 
 returns : f.Tie.Need-returns
 returns c =
     let w = c .before in
-    let r = entry (w .args .clock) (w .args .transaction) (w .args .block) (w .args .outcome) in
-    sym (le-leb (length (recordBytes r)) (w .args .room) (omega (arith, record-room r (w .pre))))
+    let r = entry _ _ _ _ in
+    sym (le-leb _ (w .args .room) (omega (arith, record-room r (w .pre))))
 
 pub fits-spec : {M : Type 1} → f.Statement.statement M
-fits-spec = f.Tie.close (f.Tie.spec returns (search needs) (λ c. ap (λ n. leb n (c .before .before .args .room)) (c .record-len .ensures)))
+fits-spec = f.Tie.close (f.Tie.spec returns (search needs) (λ c. cc (c .record-len .ensures)))

@@ -1,7 +1,8 @@
 -- `trace::place_record` meets its contract: four numbers written one after the other are the record stored at once.
 use Rattle.machine.specs.All.{needs}
-use Rattle.trace.proofs.Writer.{written-behind}
-use Rattle.trace.proofs.place_record as f
+use Rattle.trace.proofs as our
+use our.Writer.{written-behind}
+use our.place_record as f
 
 returns : f.Tie.Need-returns
 returns c =

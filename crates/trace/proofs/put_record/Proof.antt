@@ -1,30 +1,31 @@
 -- `trace::put_record` meets its contract: four numbers put one after the other are the record stored at once.
 use Rattle.machine.specs.All.{arith, _++_, length-append, needs, numberBytes, recordBytes}
 use Rattle.trace.specs.{entry}
-use Rattle.trace.proofs.Writer.{recordBytes-length, small, stored-behind}
-use Rattle.trace.proofs.put_record as f
+use Rattle.trace.proofs as our
+use our.Writer.{recordBytes-length, small, stored-behind}
+use our.put_record as f
 
 put-number-requires : f.Tie.Need-put-number-requires
 put-number-requires c κs =
-    let w = c .before .before in let r = entry (w .args .clock) (w .args .transaction) (w .args .block) (w .args .outcome) in
-    (small r (w .pre .0) .clock, omega (arith, w .pre .1, recordBytes-length r))
+    let w = c .before .before in let r = entry _ _ _ _ in
+    (small r (w .pre .0) .clock, omega (arith, recordBytes-length r))
 
 put-number-requires-2 : f.Tie.Need-put-number-requires-2
 put-number-requires-2 c κs =
-    let w = c .before .before .before .before .before .before in let r = entry (w .args .clock) (w .args .transaction) (w .args .block) (w .args .outcome) in
-    (small r (w .pre .0) .transaction, omega (arith, w .pre .1, recordBytes-length r, c .before .before .before .put-number .ensures .0))
+    let w = c .before .before .before .before .before .before in let r = entry _ _ _ _ in
+    (small r (w .pre .0) .transaction, omega (arith, w .pre .1, recordBytes-length r))
 
 put-number-requires-3 : f.Tie.Need-put-number-requires-3
 put-number-requires-3 c κs =
     let b = c .before .before .before .before .before .before .before in
-    let w = b .before .before .before in let r = entry (w .args .clock) (w .args .transaction) (w .args .block) (w .args .outcome) in
-    (small r (w .pre .0) .block, omega (arith, w .pre .1, recordBytes-length r, b .put-number .ensures .0, c .before .before .before .put-number2 .ensures .0))
+    let w = b .before .before .before in let r = entry _ _ _ _ in
+    (small r (w .pre .0) .block, omega (arith, w .pre .1, recordBytes-length r, b .put-number .ensures .0))
 
 put-number-requires-4 : f.Tie.Need-put-number-requires-4
 put-number-requires-4 c κs =
     let b = c .before .before .before .before .before .before .before in
-    let w = b .before .before .before .before .before .before .before in let r = entry (w .args .clock) (w .args .transaction) (w .args .block) (w .args .outcome) in
-    (small r (w .pre .0) .outcome, omega (arith, w .pre .1, recordBytes-length r, b .before .before .before .before .put-number .ensures .0, b .put-number2 .ensures .0, c .before .before .before .put-number3 .ensures .0))
+    let w = b .before .before .before .before .before .before .before in let r = entry _ _ _ _ in
+    (small r (w .pre .0) .outcome, omega (arith, w .pre .1, recordBytes-length r, b .put-number2 .ensures .0, c .before .before .before .put-number3 .ensures .0))
 
 returns : f.Tie.Need-returns
 unfolding recordBytes
@@ -40,7 +41,7 @@ returns c =
     let two = stored-behind a b _ _ _ _ (omega (arith, at .before .before .before .before .put-number .ensures .0)) (at .before .before .before .before .put-number .ensures .1) (at .put-number2 .ensures .1) in
     let three = stored-behind (a ++ b) d _ _ _ _ (omega (arith, ab, at .before .before .before .before .put-number .ensures .0, at .put-number2 .ensures .0)) two (b₁ .put-number3 .ensures .1) in (
       omega (arith, recordBytes-length r, at .before .before .before .before .put-number .ensures .0, at .put-number2 .ensures .0, b₁ .put-number3 .ensures .0, c .before .before .put-number4 .ensures .0),
-      stored-behind (a ++ b ++ d) _ _ _ _ _ (omega (arith, ab, abd, at .before .before .before .before .put-number .ensures .0, at .put-number2 .ensures .0, b₁ .put-number3 .ensures .0)) three (c .before .before .put-number4 .ensures .1),
+      stored-behind (a ++ b ++ d) _ _ _ _ _ (omega arith) three (c .before .before .put-number4 .ensures .1),
     )
 
 pub put-record-spec : {M : Type 1} → f.Statement.statement M

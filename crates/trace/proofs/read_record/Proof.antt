@@ -1,15 +1,9 @@
 -- `trace::read_record` meets its contract: past the end, or the answers of the four fields in their order.
 use Rattle.codec.proofs.Fields.{value-parsed, refusal-parsed}
-use Rattle.trace.proofs.Reader.{
-  past-end,
-  clock-refused,
-  transaction-refused,
-  block-refused,
-  outcome-refused,
-  record-taken,
-}
+use Rattle.trace.proofs as our
+use our.Reader.{past-end, clock-refused, transaction-refused, block-refused, outcome-refused, record-taken}
+use our.read_record as f
 use Rattle.machine.specs.All.{needs}
-use Rattle.trace.proofs.read_record as f
 
 returns-3 : f.Tie.Need-returns-3
 returns-3 c =

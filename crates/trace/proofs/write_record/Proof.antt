@@ -1,16 +1,8 @@
 -- `trace::write_record` meets its contract: out of range, no room, or the record stored at the front of the rest.
-use Rattle.machine.specs.All.{sym, ap, _∙_, not-true, not-false, leb-true, leb-false, needs, written}
-use Rattle.trace.proofs.Writer.{
-  refused-range,
-  refused-room,
-  written-record,
-  after-refused,
-  after-written,
-  front-written,
-  refused-bytes,
-  bytes-count,
-}
-use Rattle.trace.proofs.write_record as f
+use Rattle.machine.specs.All.{sym, _∙_, not-true, not-false, leb-true, leb-false, needs}
+use Rattle.trace.proofs as our
+use our.Writer.{refused-range, refused-room, written-record, after-refused, after-written, front-written, refused-bytes, bytes-count}
+use our.write_record as f
 
 returns : f.Tie.Need-returns
 returns c = let e = refused-range _ (c .before .before .before .args .rest .now) (sym (c .before .in-ranges .ensures) ∙ not-true _ (c .if1 .taken)) in
@@ -19,9 +11,8 @@ returns c = let e = refused-range _ (c .before .before .before .args .rest .now)
 returns-2 : f.Tie.Need-returns-2
 returns-2 c =
     let b = c .before .before in
-    let ranges = sym (b .before .in-ranges .ensures) ∙ not-false _ (b .if1 .left) in
     let full = leb-false _ _ (sym (c .before .fits2 .ensures) ∙ not-true _ (c .if2 .taken)) in
-    let e = refused-room _ (b .before .before .before .args .rest .now) ranges full in
+    let e = refused-room _ (b .before .before .before .args .rest .now) (sym (b .before .in-ranges .ensures) ∙ not-false _ (b .if1 .left)) full in
     (e, (after-refused _ _ 33 e, λ n h. absurd (refused-bytes h)))
 
 put-record-requires : f.Tie.Need-put-record-requires
@@ -36,12 +27,11 @@ returns-3 c =
     let d = c .before .before in
     let b = d .before .before in
     let l = b .before .before .before .before .before .args .rest .now in
-    let ranges = sym (b .before .before .before .in-ranges .ensures) ∙ not-false _ (b .before .before .if1 .left) in
     let room = leb-true _ _ (sym (b .before .fits2 .ensures) ∙ not-false _ (b .if2 .left)) in
     let len = d .put-record .ensures .0 in
     let stored = d .put-record .ensures .1 in
-    let e = written-record _ l ranges room in (
-      rw (len, stored) (ap written (front-written _ l room) ∙ e),
+    let e = written-record _ l (sym (b .before .before .before .in-ranges .ensures) ∙ not-false _ (b .before .before .if1 .left)) room in (
+      rw (len, stored) (cc (front-written _ l room, e)),
       (stored ∙ after-written _ l e room, λ n h. bytes-count h len room),
     )
 

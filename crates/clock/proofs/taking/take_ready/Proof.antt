@@ -1,10 +1,9 @@
 -- `take_ready` meets its contract, by cases on the first of REL.
-use borrow.Author.Tests.{le-ltb}
-use Rattle.clock.specs.Taking.{readyScalars}
-use Rattle.clock.proofs.Steps.{ready-taken}
-use borrow.Author.Needs.{needs}
-use Rattle.clock.proofs.taking.take_ready.Statement.{statement}
-use Rattle.clock.proofs.taking.take_ready.Tie as tie
+use Rattle.machine.specs.All.{le-ltb, needs}
+use Rattle.clock.specs.{readyScalars}
+use Rattle.clock.proofs as our
+use our.{Steps.ready-taken, taking.take_ready.Statement.statement}
+use our.taking.take_ready.Tie as tie
 
 returns : tie.Need-returns
 unfolding readyScalars

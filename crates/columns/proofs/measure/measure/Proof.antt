@@ -1,8 +1,7 @@
 -- `columns::measure::measure` meets its contract. The loop's invariant: with what is still to come, the totals are those of the whole trace. The
 -- measure is how many records more there may be.
 use Rattle.machine.specs.All.{_-_, _≡_, refl, sym, _∙_, arith, needs}
-use Rattle.columns_laws.specs.Columns.{maxRecords}
-use Rattle.columns_laws.specs.Walks.{Short, atStart}
+use Rattle.columns_laws.specs.{Columns.maxRecords, Walks.Short, Walks.atStart}
 use Rattle.columns_laws.proofs.Measuring.{Rest, step-refused, step-taken, step-end}
 use Rattle.columns.proofs.measure.measure as f
 

@@ -2,8 +2,7 @@
 -- are within their limits. The measure is `left`.
 use Rattle.machine.specs.All.{_*_, _-_, _≤_, _≡_, refl, _∙_, arith, needs, maxClock}
 use Rattle.codec.specs.Answers.{cursorAt}
-use Rattle.columns_laws.specs.Columns.{clocksFrom}
-use Rattle.columns_laws.specs.Walks.{sized}
+use Rattle.columns_laws.specs.{Columns.clocksFrom, Walks.sized}
 use Rattle.columns_laws.proofs.Surveying.{nine, clocks-none, clocks-stop, clocks-step}
 use Rattle.columns.proofs.survey.scan_clocks as f
 

@@ -3,8 +3,7 @@
 use Rattle.machine.specs.All.{_≡_, refl, sym, ap, _∙_, arith, length, needs}
 use Rattle.state.specs.All.{rowsOf}
 use Rattle.turn_laws.specs.Turn.{traced}
-use Rattle.engine_laws.specs.Ends.{endRows}
-use Rattle.engine_laws.specs.Turns.{turnsFrom}
+use Rattle.engine_laws.specs.{Ends.endRows, Turns.turnsFrom}
 use Rattle.engine_laws.proofs.TurnsLaws.{turns-none, turns-on, turns-off}
 use Rattle.engine.proofs.steps.turns as f
 

@@ -1,8 +1,9 @@
 -- `terms::answer::worth_of` meets its contract.
 use Rattle.machine.specs.All.{_∙_, needs}
 use Rattle.evaluation.specs.{unpacked}
-use Rattle.evaluation.proofs.Signs.{back}
-use Rattle.evaluation.proofs.answer.worth_of as f
+use Rattle.evaluation.proofs as our
+use our.Signs.{back}
+use our.answer.worth_of as f
 
 pub worth-of-spec : {M : Type 1} → f.Statement.statement M
 worth-of-spec = f.Tie.close (f.Tie.spec (search needs) (λ c. unfold unpacked in back _ (c .low-signed .ok) ∙ c .low-signed .ensures))

@@ -4,30 +4,29 @@ use Rattle.machine.specs.All.{ℕ, _+_, _*_, _<_, arith, sym, _∙_, needs}
 use mir.Facts.{toZ-ofZ}
 use borrow.Fn.Kinds.{In}
 use borrow.Fn.PlainCycle.{Measures, is, falls, and}
-use Rattle.evaluation.proofs.Signs.{back}
-use Rattle.evaluation.proofs.Steps.{term-past, term-simple, term-mention, term-deep, term-comparison, term-bracket, sum-none, sum-past, comparison-step, sum-step, value-none, value-past, value-step}
-use Rattle.evaluation.proofs.evaluate.comparison.Reads as comparison
-use Rattle.evaluation.proofs.evaluate.comparison.Kinds as comparison-kinds
-use Rattle.evaluation.proofs.evaluate.+comparison+sum+term+value.Lts-comparison as comparison-lts
-use Rattle.evaluation.proofs.evaluate.sum.Reads as sum
-use Rattle.evaluation.proofs.evaluate.sum.Kinds as sum-kinds
-use Rattle.evaluation.proofs.evaluate.+comparison+sum+term+value.Lts-sum as sum-lts
-use Rattle.evaluation.proofs.evaluate.term.Reads as term
-use Rattle.evaluation.proofs.evaluate.term.Kinds as term-kinds
-use Rattle.evaluation.proofs.evaluate.+comparison+sum+term+value.Lts-term as term-lts
-use Rattle.evaluation.proofs.evaluate.value.Reads as value
-use Rattle.evaluation.proofs.evaluate.value.Kinds as value-kinds
-use Rattle.evaluation.proofs.evaluate.+comparison+sum+term+value.Lts-value as value-lts
+use Rattle.evaluation.proofs as our
+use our.{Signs.back, evaluate.+comparison+sum+term+value.statement, evaluate.+comparison+sum+term+value.Tie.close}
+use our.Steps.{term-past, term-simple, term-mention, term-deep, term-comparison, term-bracket, sum-none, sum-past, comparison-step, sum-step, value-none, value-past, value-step}
+use our.evaluate.comparison.Reads as comparison
+use our.evaluate.comparison.Kinds as comparison-kinds
+use our.evaluate.+comparison+sum+term+value.Lts-comparison as comparison-lts
+use our.evaluate.sum.Reads as sum
+use our.evaluate.sum.Kinds as sum-kinds
+use our.evaluate.+comparison+sum+term+value.Lts-sum as sum-lts
+use our.evaluate.term.Reads as term
+use our.evaluate.term.Kinds as term-kinds
+use our.evaluate.+comparison+sum+term+value.Lts-term as term-lts
+use our.evaluate.value.Reads as value
+use our.evaluate.value.Kinds as value-kinds
+use our.evaluate.+comparison+sum+term+value.Lts-value as value-lts
+use our.answer.next_of.Reads as next-of-reads
+use our.answer.packed.Reads as packed-reads
+use our.answer.worth_of.Reads as worth-of-reads
+use our.evaluate.join.Reads as join-reads
+use our.evaluate.judge.Reads as judge-reads
+use our.evaluate.number_at.Reads as number-at-reads
+use our.simple.simple_term.Reads as simple-term-reads
 use Rattle.layout.proofs.number.Reads as number-reads
-use Rattle.evaluation.proofs.answer.next_of.Reads as next-of-reads
-use Rattle.evaluation.proofs.answer.packed.Reads as packed-reads
-use Rattle.evaluation.proofs.answer.worth_of.Reads as worth-of-reads
-use Rattle.evaluation.proofs.evaluate.join.Reads as join-reads
-use Rattle.evaluation.proofs.evaluate.judge.Reads as judge-reads
-use Rattle.evaluation.proofs.evaluate.number_at.Reads as number-at-reads
-use Rattle.evaluation.proofs.simple.simple_term.Reads as simple-term-reads
-use Rattle.evaluation.proofs.evaluate.+comparison+sum+term+value.{statement}
-use Rattle.evaluation.proofs.evaluate.+comparison+sum+term+value.Tie.{close}
 
 -- a value number is worth five levels, more than the brackets; a level more than the terms of a sum, below 2 to the 32
 abbrev level : ℕ → ℕ → ℕ
@@ -126,7 +125,7 @@ sum-packed-requires-2 t c κs = search needs
 sum-returns-2 : (t : ℕ) → sum-lts.Need-returns-2 (sum-claims t) (sum-at t) sum.Post
 sum-returns-2 t c =
     c .packed2 .ensures
-    ∙ rw (toZ-ofZ (c .before .before .before .before .fits .so-far)) (sym (sum-past _ _ _ _ _ (omega (arith, c .before .if2 .taken, c .before .before .number-at .ensures .1))))
+    ∙ rw (toZ-ofZ (c .before .before .before .before .fits .so-far)) (sym (sum-past _ _ _ _ _ (omega arith)))
 
 sum-add-term : (t : ℕ) → sum-lts.Need-add-term (sum-claims t) (sum-at t) sum.Post
 sum-add-term t c = search needs
@@ -151,7 +150,7 @@ sum-sum-requires t c κs = search needs
 
 sum-returns-3 : (t : ℕ) → sum-lts.Need-returns-3 (sum-claims t) (sum-at t) sum.Post
 sum-returns-3 t c =
-    sum-step _ _ _ _ (c .before .before .before .before .before .before .number-at .ensures .0) _ (c .before .before .before .before .before .before .before .if1 .left) (omega (arith, c .before .before .before .before .before .if2 .left, c .before .before .before .before .before .before .number-at .ensures .1)) _ _ (c .before .before .before .before .term .ensures) _ _ _
+    sum-step _ _ _ _ (c .before .before .before .before .before .before .number-at .ensures .0) _ (c .before .before .before .before .before .before .before .if1 .left) (omega arith) _ _ (c .before .before .before .before .term .ensures) _ _ _
     (toZ-ofZ (c .before .before .before .before .before .before .before .before .fits .so-far)) (back _ (c .before .before .before .worth-of .ok) ∙ c .before .before .before .worth-of .ensures) (back _ (c .before .before .join .ok) ∙ c .before .before .join .ensures) _
     (c .before .next-of .ensures) _ (c .sum .ensures)
 
@@ -165,7 +164,7 @@ term-packed-requires t c κs = search needs
 
 term-returns : (t : ℕ) → term-lts.Need-returns (term-claims t) (term-at t) term.Post
 term-returns t c =
-    c .packed .ensures ∙ sym (term-past _ _ _ _ _ (omega (arith, c .before .if1 .taken, c .before .before .number-at .ensures .1)))
+    c .packed .ensures ∙ sym (term-past _ _ _ _ _ (omega arith))
 
 term-add-number-at : (t : ℕ) → term-lts.Need-add-number-at (term-claims t) (term-at t) term.Post
 term-add-number-at t c = search needs
@@ -186,7 +185,7 @@ term-returns-2 : (t : ℕ) → term-lts.Need-returns-2 (term-claims t) (term-at 
 term-returns-2 t c =
     c .packed2 .ensures
     ∙ rw (back _ (c .before .simple-term .ok) ∙ c .before .simple-term .ensures)
-    (sym (term-simple _ _ _ _ (omega (arith, c .before .before .before .before .if1 .left, c .before .before .before .before .before .number-at .ensures .1)) _ _ (c .before .before .before .before .before .number-at .ensures .0) (c .before .before .before .number-at2 .ensures .0) _ (c .before .before .if2 .taken)))
+    (sym (term-simple _ _ _ _ (omega arith) _ _ (c .before .before .before .before .before .number-at .ensures .0) (c .before .before .before .number-at2 .ensures .0) _ (c .before .before .if2 .taken)))
 
 term-value-requires : (t : ℕ) → term-lts.Need-value-requires (term-claims t) (term-at t) term.Post
 term-value-requires t c κs = search needs
@@ -201,7 +200,7 @@ term-returns-3 : (t : ℕ) → term-lts.Need-returns-3 (term-claims t) (term-at 
 term-returns-3 t c =
     c .packed3 .ensures
     ∙ rw (back _ (c .before .value .ok) ∙ c .before .value .ensures)
-    (sym (term-mention _ _ _ _ (omega (arith, c .before .before .before .before .before .if1 .left, c .before .before .before .before .before .before .number-at .ensures .1)) _ _ (c .before .before .before .before .before .before .number-at .ensures .0) (c .before .before .before .before .number-at2 .ensures .0) _ (c .before .before .if3 .taken)))
+    (sym (term-mention _ _ _ _ (omega arith) _ _ (c .before .before .before .before .before .before .number-at .ensures .0) (c .before .before .before .before .number-at2 .ensures .0) _ (c .before .before .if3 .taken)))
 
 term-add-packed-3 : (t : ℕ) → term-lts.Need-add-packed-3 (term-claims t) (term-at t) term.Post
 term-add-packed-3 t c = search needs
@@ -212,7 +211,7 @@ term-packed-requires-4 t c κs = search needs
 term-returns-4 : (t : ℕ) → term-lts.Need-returns-4 (term-claims t) (term-at t) term.Post
 term-returns-4 t c =
     c .packed4 .ensures
-    ∙ sym (term-deep _ _ _ _ (omega (arith, c .before .before .before .before .before .if1 .left, c .before .before .before .before .before .before .number-at .ensures .1)) _ _ (c .before .before .before .before .before .before .number-at .ensures .0) (c .before .before .before .before .number-at2 .ensures .0) _ (c .before .if4 .taken) (c .before .before .before .if2 .left) (c .before .before .if3 .left))
+    ∙ sym (term-deep _ _ _ _ (omega arith) _ _ (c .before .before .before .before .before .before .number-at .ensures .0) (c .before .before .before .before .number-at2 .ensures .0) _ (c .before .if4 .taken) (c .before .before .before .if2 .left) (c .before .before .if3 .left))
 
 term-sub-comparison : (t : ℕ) → term-lts.Need-sub-comparison (term-claims t) (term-at t) term.Post
 term-sub-comparison t c = search needs
@@ -226,7 +225,7 @@ term-comparison-requires t c κs = search needs
 term-returns-5 : (t : ℕ) → term-lts.Need-returns-5 (term-claims t) (term-at t) term.Post
 term-returns-5 t c =
     c .comparison .ensures
-    ∙ sym (term-comparison _ _ _ _ (omega (arith, c .before .before .before .before .before .before .if1 .left, c .before .before .before .before .before .before .before .number-at .ensures .1)) _ _ (c .before .before .before .before .before .before .before .number-at .ensures .0) (c .before .before .before .before .before .number-at2 .ensures .0) _ (c .before .before .if4 .left) (c .before .if5 .taken))
+    ∙ sym (term-comparison _ _ _ _ (omega arith) _ _ (c .before .before .before .before .before .before .before .number-at .ensures .0) (c .before .before .before .before .before .number-at2 .ensures .0) _ (c .before .before .if4 .left) (c .before .if5 .taken))
 
 term-sub-sum : (t : ℕ) → term-lts.Need-sub-sum (term-claims t) (term-at t) term.Post
 term-sub-sum t c = search needs
@@ -240,7 +239,7 @@ term-sum-requires t c κs = search needs
 term-returns-6 : (t : ℕ) → term-lts.Need-returns-6 (term-claims t) (term-at t) term.Post
 term-returns-6 t c =
     c .sum .ensures
-    ∙ sym (term-bracket _ _ _ _ (omega (arith, c .before .before .before .before .before .before .if1 .left, c .before .before .before .before .before .before .before .number-at .ensures .1)) _ _ (c .before .before .before .before .before .before .before .number-at .ensures .0) (c .before .before .before .before .before .number-at2 .ensures .0) _ (c .before .before .if4 .left) (c .before .before .before .before .if2 .left) (c .before .before .before .if3 .left) (c .before .if5 .left))
+    ∙ sym (term-bracket _ _ _ _ (omega arith) _ _ (c .before .before .before .before .before .before .before .number-at .ensures .0) (c .before .before .before .before .before .number-at2 .ensures .0) _ (c .before .before .if4 .left) (c .before .before .before .before .if2 .left) (c .before .before .before .if3 .left) (c .before .if5 .left))
 
 -- ---- value
 
@@ -261,7 +260,7 @@ value-add-if2 t c = search needs
 
 value-returns-2 : (t : ℕ) → value-lts.Need-returns-2 (value-claims t) (value-at t) value.Post
 value-returns-2 t c =
-    value-past _ _ _ _ (c .before .before .before .if1 .left) (omega (arith, c .if2 .taken, c .before .before .number-arg .given))
+    value-past _ _ _ _ (c .before .before .before .if1 .left) (omega arith)
 
 value-add-sum : (t : ℕ) → value-lts.Need-add-sum (value-claims t) (value-at t) value.Post
 value-add-sum t c = search needs
@@ -277,9 +276,7 @@ value-worth-of-requires t c κs = search needs
 
 value-returns-3 : (t : ℕ) → value-lts.Need-returns-3 (value-claims t) (value-at t) value.Post
 value-returns-3 t c =
-    back _ (c .worth-of .ok)
-    ∙ c .worth-of .ensures
-    ∙ value-step _ _ _ _ (c .before .before .before .before .before .if1 .left) _ (c .before .before .before .number .ensures) _ (c .before .sum .ensures)
+    rw (back _ (c .worth-of .ok), c .worth-of .ensures, value-step _ _ _ _ (c .before .before .before .before .before .if1 .left) _ (c .before .before .before .number .ensures) _ (c .before .sum .ensures))
 
 pub +comparison+sum+term+value-spec : {M : Type 1} → statement M
 +comparison+sum+term+value-spec =
@@ -288,7 +285,7 @@ pub +comparison+sum+term+value-spec : {M : Type 1} → statement M
     μ-sum
     μ-term
     μ-value
-    (λ t. comparison-lts.spec (comparison-claims t) (comparison-at t) comparison.Post (comparison-add-term t) (comparison-term-requires t) (comparison-next-of-requires t) (comparison-term-requires-2 t) (comparison-number-at-requires t) (comparison-judge-requires t) (comparison-returns t))
-    (λ t. sum-lts.spec (sum-claims t) (sum-at t) sum.Post (sum-packed-requires t) (sum-returns t) (sum-number-at-requires t) (sum-packed-requires-2 t) (sum-returns-2 t) (sum-add-term t) (sum-term-requires t) (sum-worth-of-requires t) (sum-join-requires t) (sum-sub-sum t) (sum-next-of-requires t) (sum-sum-requires t) (sum-returns-3 t))
-    (λ t. term-lts.spec (term-claims t) (term-at t) term.Post (term-number-at-requires t) (term-packed-requires t) (term-returns t) (term-add-number-at t) (term-number-at-requires-2 t) (term-simple-term-requires t) (term-add-packed t) (term-packed-requires-2 t) (term-returns-2 t) (term-value-requires t) (term-add-packed-2 t) (term-packed-requires-3 t) (term-returns-3 t) (term-add-packed-3 t) (term-packed-requires-4 t) (term-returns-4 t) (term-sub-comparison t) (term-add-comparison t) (term-comparison-requires t) (term-returns-5 t) (term-sub-sum t) (term-add-sum t) (term-sum-requires t) (term-returns-6 t))
-    (λ t. value-lts.spec (value-claims t) (value-at t) value.Post (value-returns t) (value-mul-at t) (value-add-at t) (value-number-requires t) (value-add-if2 t) (value-returns-2 t) (value-add-sum t) (value-cast-sum t) (value-sum-requires t) (value-worth-of-requires t) (value-returns-3 t))
+    (λ t. comparison-lts.spec _ _ comparison.Post (comparison-add-term t) (comparison-term-requires t) _ (comparison-term-requires-2 t) _ _ (comparison-returns t))
+    (λ t. sum-lts.spec _ _ sum.Post _ (sum-returns t) _ _ (sum-returns-2 t) (sum-add-term t) (sum-term-requires t) _ _ (sum-sub-sum t) _ (sum-sum-requires t) (sum-returns-3 t))
+    (λ t. term-lts.spec _ _ term.Post _ _ (term-returns t) (term-add-number-at t) _ _ (term-add-packed t) _ (term-returns-2 t) (term-value-requires t) (term-add-packed-2 t) _ (term-returns-3 t) (term-add-packed-3 t) _ (term-returns-4 t) (term-sub-comparison t) (term-add-comparison t) (term-comparison-requires t) (term-returns-5 t) (term-sub-sum t) (term-add-sum t) (term-sum-requires t) (term-returns-6 t))
+    (λ t. value-lts.spec _ _ value.Post (value-returns t) (value-mul-at t) (value-add-at t) _ (value-add-if2 t) (value-returns-2 t) (value-add-sum t) (value-cast-sum t) (value-sum-requires t) _ (value-returns-3 t))

@@ -1,16 +1,16 @@
 -- `terms::evaluate::compare_at` meets its contract: a term of a block takes two numbers.
 use Rattle.machine.specs.All.{_∙_, needs}
 use Rattle.evaluation.specs.{compareAt}
-use Rattle.evaluation.proofs.Signs.{back}
-use Rattle.evaluation.proofs.evaluate.compare_at as f
+use Rattle.evaluation.proofs as our
+use our.Signs.{back}
+use our.evaluate.compare_at as f
 
 returns : f.Tie.Need-returns
 unfolding compareAt
 returns c =
     let b = c .before .before .before in
     let left = back _ (b .before .term-at .ok) ∙ b .before .term-at .ensures in
-    let right = back _ (b .term-at2 .ok) ∙ b .term-at2 .ensures in
-    c .related .ensures ∙ rw (left, right, c .before .number .ensures)
+    c .related .ensures ∙ rw (left, (back _ (b .term-at2 .ok) ∙ b .term-at2 .ensures), c .before .number .ensures)
 
 pub compare-at-spec : {M : Type 1} → f.Statement.statement M
 compare-at-spec =

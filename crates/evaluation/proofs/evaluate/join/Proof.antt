@@ -2,8 +2,9 @@
 use Rattle.machine.specs.All.{_∙_, needs, ne-eqb}
 use mir.Facts.{toZ-ofZ}
 use Rattle.evaluation.specs.{joined}
-use Rattle.evaluation.proofs.Signs.{back}
-use Rattle.evaluation.proofs.evaluate.join as f
+use Rattle.evaluation.proofs as our
+use our.Signs.{back}
+use our.evaluate.join as f
 
 returns : f.Tie.Need-returns
 unfolding joined

@@ -1,9 +1,10 @@
 -- `terms::relations::related` meets its contract: each arm is its line of the definition; equality goes by the bits.
-use Rattle.machine.specs.All.{not, ap, ne-eqb}
+use Rattle.machine.specs.All.{ne-eqb}
 use mir.Facts.{toZ-ofZ}
 use Rattle.evaluation.specs.{relatedBy}
-use Rattle.evaluation.proofs.Signs.{bits-equal}
-use Rattle.evaluation.proofs.relations.related as f
+use Rattle.evaluation.proofs as our
+use our.Signs.{bits-equal}
+use our.relations.related as f
 
 returns-6 : f.Tie.Need-returns-6
 unfolding relatedBy
@@ -20,4 +21,4 @@ returns-6 c =
     )
 
 pub related-spec : {M : Type 1} → f.Statement.statement M
-related-spec = f.Tie.close (f.Tie.spec (λ c. unfold relatedBy in rw (c .match .keys1) (bits-equal _ _ (c .before .fits .a) (c .before .fits .b))) (λ c. unfold relatedBy in rw (c .match .keys2) (ap not (bits-equal _ _ (c .before .fits .a) (c .before .fits .b)))) (λ c. unfold relatedBy in rw (c .match .keys3, toZ-ofZ (c .before .fits .a), toZ-ofZ (c .before .fits .b))) (λ c. unfold relatedBy in rw (c .match .keys4, toZ-ofZ (c .before .fits .a), toZ-ofZ (c .before .fits .b))) (λ c. unfold relatedBy in rw (c .match .keys5, toZ-ofZ (c .before .fits .a), toZ-ofZ (c .before .fits .b))) returns-6)
+related-spec = f.Tie.close (f.Tie.spec (λ c. unfold relatedBy in rw (c .match .keys1) (bits-equal _ _ (c .before .fits .a) (c .before .fits .b))) (λ c. unfold relatedBy in rw (c .match .keys2) (cc (bits-equal _ _ (c .before .fits .a) (c .before .fits .b)))) (λ c. unfold relatedBy in rw (c .match .keys3, toZ-ofZ (c .before .fits .a), toZ-ofZ (c .before .fits .b))) (λ c. unfold relatedBy in rw (c .match .keys4, toZ-ofZ (c .before .fits .a), toZ-ofZ (c .before .fits .b))) (λ c. unfold relatedBy in rw (c .match .keys5, toZ-ofZ (c .before .fits .a), toZ-ofZ (c .before .fits .b))) returns-6)

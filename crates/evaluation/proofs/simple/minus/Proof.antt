@@ -1,7 +1,8 @@
 -- `terms::simple::minus` meets its contract: a small number has its negative among the signed 32-bit numbers.
 use Rattle.machine.specs.All.{_∙_, needs}
-use Rattle.evaluation.proofs.Signs.{back, minus-fits, minus-back}
-use Rattle.evaluation.proofs.simple.minus as f
+use Rattle.evaluation.proofs as our
+use our.Signs.{back, minus-fits, minus-back}
+use our.simple.minus as f
 
 pub minus-spec : {M : Type 1} → f.Statement.statement M
 minus-spec = f.Tie.close (f.Tie.spec (search needs) (λ c. minus-fits _ _ (back _ (c .small .ok) ∙ c .small .ensures)) (λ c. minus-back _ _ (back _ (c .small .ok) ∙ c .small .ensures)))

@@ -1,19 +1,15 @@
 -- `terms::wrapping::add` meets its contract: the sum of the bits modulo 2 to the 32, read as signed.
 use Rattle.machine.specs.All.{ap, _∙_, needs, low32}
 use mir.Facts.{toZ-ofZ}
-use Rattle.evaluation.proofs.Signs.{back, wrap-add}
-use Rattle.evaluation.proofs.wrapping.add as f
+use Rattle.evaluation.proofs as our
+use our.Signs.{back, wrap-add}
+use our.wrapping.add as f
 
 returns : f.Tie.Need-returns
 returns c =
     let d = c .before .before in
     let entry = d .before .before in
-    back _ (c .signed .ok)
-    ∙ c .signed .ensures
-    ∙ wrap-add _ _ _ _ (d .before .bits .ensures ∙ ap low32 (toZ-ofZ (entry .fits .a)))
-    (d .bits2 .ensures ∙ ap low32 (toZ-ofZ (entry .fits .b)))
-    _
-    (c .before .wrapping-add-u32 .ensures)
+    cc (back _ (c .signed .ok), c .signed .ensures, wrap-add _ _ _ _ (d .before .bits .ensures ∙ ap low32 (toZ-ofZ (entry .fits .a))) (d .bits2 .ensures ∙ ap low32 (toZ-ofZ (entry .fits .b))) _ (c .before .wrapping-add-u32 .ensures))
 
 pub add-spec : {M : Type 1} → f.Statement.statement M
 add-spec =

@@ -1,20 +1,15 @@
 -- `terms::wrapping::subtract` meets its contract: the difference of the bits modulo 2 to the 32, read as signed.
 use Rattle.machine.specs.All.{ap, _∙_, needs, low32}
 use mir.Facts.{toZ-ofZ}
-use Rattle.evaluation.proofs.Signs.{back, wrap-subtract}
-use Rattle.evaluation.proofs.wrapping.subtract as f
+use Rattle.evaluation.proofs as our
+use our.Signs.{back, wrap-subtract}
+use our.wrapping.subtract as f
 
 returns : f.Tie.Need-returns
 returns c =
     let d = c .before in
     let entry = d .before .before .before in
-    back _ (c .signed .ok)
-    ∙ c .signed .ensures
-    ∙ wrap-subtract _ _ _ _ (d .before .before .bits .ensures ∙ ap low32 (toZ-ofZ (entry .fits .a)))
-    (d .before .bits2 .ensures ∙ ap low32 (toZ-ofZ (entry .fits .b)))
-    _
-    (d .wrapping-sub-u32 .ok)
-    (d .wrapping-sub-u32 .ensures)
+    cc (back _ (c .signed .ok), c .signed .ensures, wrap-subtract _ _ _ _ (d .before .before .bits .ensures ∙ ap low32 (toZ-ofZ (entry .fits .a))) (d .before .bits2 .ensures ∙ ap low32 (toZ-ofZ (entry .fits .b))) _ (d .wrapping-sub-u32 .ok) (d .wrapping-sub-u32 .ensures))
 
 pub subtract-spec : {M : Type 1} → f.Statement.statement M
 subtract-spec =

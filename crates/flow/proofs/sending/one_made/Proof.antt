@@ -1,14 +1,11 @@
 -- `one_made` meets its contract, by cases on whether one was made.
-use Prim.Native.Nat.{ℕ}
-use mathlib.Core.Path.{_≡_}
-use mathlib.Core.Bool.{Bool, true}
-use Rattle.state.specs.declared.scalars.Scalars.{Scalars}
-use Rattle.state.specs.ScalarSetters.{putSerial, putMade}
+use Rattle.machine.specs.All.{ℕ, _≡_, Bool, true, needs}
+use Rattle.state.specs.{declared.scalars.Scalars.Scalars, All.putSerial, All.putMade}
 use Rattle.moves.specs.Motion.{next32}
 use Rattle.flow_laws.specs.Sending.{oneMade}
-use borrow.Author.Needs.{needs}
-use Rattle.flow.proofs.sending.one_made.Statement.{statement}
-use Rattle.flow.proofs.sending.one_made.Tie as tie
+use Rattle.flow.proofs as our
+use our.sending.one_made.Statement.{statement}
+use our.sending.one_made.Tie as tie
 
 made : (y x : Scalars) (a b : ℕ) (m : Bool) → y ≡ x → a ≡ next32 (x .made) → b ≡ next32 (x .serial) → m ≡ true → putSerial b (putMade a y) ≡ oneMade x m
 unfolding oneMade

@@ -1,15 +1,12 @@
 -- `end_one` meets its contract: each scalar.
-use Prim.Native.Nat.{ℕ, _-_}
-use mathlib.Core.Path.{_≡_}
-use mathlib.Core.Bool.{cond}
-use lib.Dec.{leb}
+use Rattle.machine.specs.All.{ℕ, _-_, _≡_, cond, leb, needs}
 use Rattle.state.specs.declared.scalars.Scalars.{Scalars}
-use Rattle.state.specs.ScalarSetters.{putNote, putEnd, putCounter, putEnded, putMoving}
+use Rattle.state.specs.All.{putNote, putEnd, putCounter, putEnded, putMoving}
 use Rattle.moves.specs.Motion.{next32}
 use Rattle.flow_laws.specs.Kinds.{endOne}
-use borrow.Author.Needs.{needs}
-use Rattle.flow.proofs.terminating.end_one.Statement.{statement}
-use Rattle.flow.proofs.terminating.end_one.Tie as tie
+use Rattle.flow.proofs as our
+use our.terminating.end_one.Statement.{statement}
+use our.terminating.end_one.Tie as tie
 
 ended : (y x : Scalars) (a n counter end : ℕ) → y ≡ x → n ≡ next32 (x .ended) → counter ≡ x .counter - a → end ≡ cond (leb (x .counter) a) 2 0
     → putNote 0 (putEnd end (putCounter counter (putEnded n (putMoving 1024 y)))) ≡ endOne x a

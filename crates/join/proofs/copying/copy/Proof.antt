@@ -1,7 +1,8 @@
 -- `join::copying::copy` meets its contract. The invariant: the bytes so far stand there.
 use Rattle.machine.specs.All.{_-_, _≤_, arith, _≡_, refl, length, take, sets, needs}
-use Rattle.join.proofs.Copies.{copy-step, copy-done}
-use Rattle.join.proofs.copying.copy as f
+use Rattle.join.proofs as our
+use our.Copies.{copy-step, copy-done}
+use our.copying.copy as f
 
 abbrev Inv-loop : f.Tie.InvT-loop
 Inv-loop from count out₀ at i₀ out i = (length out ≡ length out₀) × (i ≤ count) × (out ≡ sets out₀ at (take i from))

@@ -1,7 +1,8 @@
 -- `join::copying::end_to_end` meets its contract.
 use Rattle.machine.specs.All.{length, take, needs}
-use Rattle.join.proofs.Outputs.{first-room, second-room, laid}
-use Rattle.join.proofs.copying.end_to_end as f
+use Rattle.join.proofs as our
+use our.Outputs.{first-room, second-room, laid}
+use our.copying.end_to_end as f
 
 copy-requires-2 : f.Tie.Need-copy-requires-2
 copy-requires-2 c κs =

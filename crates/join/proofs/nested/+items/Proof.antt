@@ -3,15 +3,15 @@ use Rattle.machine.specs.All.{arith, needs, ℕ, _+_, _*_, _<_}
 use Rattle.join_laws.proofs.RowSteps.{items-none, items-past, items-plain, items-flat, items-deep}
 use borrow.Fn.Kinds.{In}
 use borrow.Fn.PlainCycle.{Measures, is, falls, and}
-use Rattle.join.proofs.nested.items.Reads as items
-use Rattle.join.proofs.nested.items.Kinds as items-kinds
-use Rattle.join.proofs.nested.+items.Lts-items as items-lts
-use Rattle.join.proofs.nested.item.Reads as item-reads
-use Rattle.join.proofs.nested.opened.Reads as opened-reads
-use Rattle.join.proofs.nested.signs_in.Reads as signs-in-reads
+use Rattle.join.proofs as our
+use our.nested.items.Reads as items
+use our.nested.items.Kinds as items-kinds
+use our.nested.+items.Lts-items as items-lts
+use our.nested.item.Reads as item-reads
+use our.nested.opened.Reads as opened-reads
+use our.nested.signs_in.Reads as signs-in-reads
+use our.{nested.+items.statement, nested.+items.Tie.close}
 use Rattle.layout.proofs.number.Reads as number-reads
-use Rattle.join.proofs.nested.+items.{statement}
-use Rattle.join.proofs.nested.+items.Tie.{close}
 
 abbrev μ-items : Measures 2 items-kinds.ps ℕ
 μ-items κs a = a .1 .1 .1 .1 .0 * 4294967296 + a .1 .1 .0

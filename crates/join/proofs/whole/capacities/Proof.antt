@@ -1,8 +1,7 @@
 -- `join::whole::capacities` meets its contract. The invariant: the capacities that are left, written behind what stands, give the whole.
 use Rattle.machine.specs.All.{_+_, _-_, _≤_, arith, _≡_, refl, length, needs}
 use Rattle.codec.specs.Writing.{written}
-use Rattle.join_laws.specs.Rows.{puts}
-use Rattle.join_laws.specs.Whole.{cellRow}
+use Rattle.join_laws.specs.{Rows.puts, Whole.cellRow}
 use Rattle.join_laws.proofs.RowSteps.{cells-start, cells-step, cells-done}
 use Rattle.join.proofs.whole.capacities as f
 

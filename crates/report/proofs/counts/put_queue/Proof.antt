@@ -1,7 +1,6 @@
 -- `put_queue` meets its contract: three numbers in order.
 use Rattle.machine.specs.All.{refl, ap₂, _∙_, needs}
-use Rattle.report_laws.specs.Writing.{put, putAll}
-use Rattle.report_laws.specs.Counts.{queueRow}
+use Rattle.report_laws.specs.{Writing.put, Writing.putAll, Counts.queueRow}
 use Rattle.report.proofs.counts.put_queue as f
 
 returns : f.Tie.Need-returns

@@ -1,7 +1,6 @@
 -- `put_queues` meets its contract. The invariant: the queues passed are written. The measure: the queues left.
 use Rattle.machine.specs.All.{_-_, _≤_, _≡_, refl, sym, ap, _∙_, arith, needs, length}
-use Rattle.report_laws.specs.Writing.{written, putAll}
-use Rattle.report_laws.specs.Counts.{queueRow, rowsTo}
+use Rattle.report_laws.specs.{Writing.written, Writing.putAll, Counts.queueRow, Counts.rowsTo}
 use Rattle.report_laws.proofs.Writes.{rows-none, rows-next}
 use Rattle.report.proofs.counts.put_queues as f
 

@@ -1,7 +1,6 @@
 -- `put_server` meets its contract: five numbers in order.
 use Rattle.machine.specs.All.{refl, ap₂, _∙_, needs}
-use Rattle.report_laws.specs.Writing.{put, putAll}
-use Rattle.report_laws.specs.Counts.{serverRow}
+use Rattle.report_laws.specs.{Writing.put, Writing.putAll, Counts.serverRow}
 use Rattle.report.proofs.counts.put_server as f
 
 returns : f.Tie.Need-returns

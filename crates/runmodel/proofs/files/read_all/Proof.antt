@@ -2,8 +2,9 @@
 -- buffer, whose length stays.
 use Rattle.machine.specs.All.{_≤_, _-_, pos-of-ne-zero, arith, _≡_, sym, length-take-le, length, length-take, length-drop, needs}
 use Rattle.io.specs.Counts.{Counts}
-use Rattle.runmodel.proofs.Reading.{failed, counted}
-use Rattle.runmodel.proofs.files.read_all as f
+use Rattle.runmodel.proofs as our
+use our.Reading.{failed, counted}
+use our.files.read_all as f
 
 abbrev Inv-loop : f.Tie.InvT-loop
 Inv-loop fd name buffer₀ done₀ buffer done = (done ≤ length buffer) × (length buffer ≡ length buffer₀)

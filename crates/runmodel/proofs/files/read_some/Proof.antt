@@ -1,7 +1,8 @@
 -- `files::read_some` meets its contract.
 use Rattle.machine.specs.All.{_≤_, arith, length, needs}
-use Rattle.runmodel.proofs.Reading.{failed, counted}
-use Rattle.runmodel.proofs.files.read_some as f
+use Rattle.runmodel.proofs as our
+use our.Reading.{failed, counted}
+use our.files.read_some as f
 
 pub read-some-spec : {M : Type 1} → f.Statement.statement M
 read-some-spec =

@@ -2,12 +2,12 @@
 use Rattle.machine.specs.All.{ℕ, _<_, pos-of-ne-zero, arith}
 use borrow.Fn.Kinds.{In}
 use borrow.Fn.PlainCycle.{Measures, is, falls, and}
-use Rattle.runmodel.proofs.Stored.{numeral-within, numeral-nothing, numeral-one, numeral-more}
-use Rattle.runmodel.proofs.lines.numeral.Reads as numeral
-use Rattle.runmodel.proofs.lines.numeral.Kinds as numeral-kinds
-use Rattle.runmodel.proofs.lines.+numeral.Lts-numeral as numeral-lts
-use Rattle.runmodel.proofs.lines.+numeral.{statement}
-use Rattle.runmodel.proofs.lines.+numeral.Tie.{close}
+use Rattle.runmodel.proofs as our
+use our.Stored.{numeral-within, numeral-nothing, numeral-one, numeral-more}
+use our.lines.numeral.Reads as numeral
+use our.lines.numeral.Kinds as numeral-kinds
+use our.lines.+numeral.Lts-numeral as numeral-lts
+use our.{lines.+numeral.statement, lines.+numeral.Tie.close}
 
 abbrev μ-numeral : Measures 1 numeral-kinds.ps ℕ
 μ-numeral κs a = a .1 .1 .1 .0

@@ -2,14 +2,13 @@
 use Rattle.machine.specs.All.{ℕ, _-_, _<_, arith, length, length-drop}
 use borrow.Fn.Kinds.{In}
 use borrow.Fn.PlainCycle.{Measures, is, falls, and}
-use Rattle.runmodel.proofs.Stored.{numerals-nothing, numerals-more}
-use Rattle.runmodel.proofs.lines.numerals.Reads as numerals
-use Rattle.runmodel.proofs.lines.numerals.Kinds as numerals-kinds
-use Rattle.runmodel.proofs.lines.+numerals.Lts-numerals as numerals-lts
-use Rattle.runmodel.proofs.lines.behind.Reads as behind-reads
-use Rattle.runmodel.proofs.lines.numeral.Reads as numeral-reads
-use Rattle.runmodel.proofs.lines.+numerals.{statement}
-use Rattle.runmodel.proofs.lines.+numerals.Tie.{close}
+use Rattle.runmodel.proofs as our
+use our.{Stored.numerals-nothing, Stored.numerals-more, lines.+numerals.statement, lines.+numerals.Tie.close}
+use our.lines.numerals.Reads as numerals
+use our.lines.numerals.Kinds as numerals-kinds
+use our.lines.+numerals.Lts-numerals as numerals-lts
+use our.lines.behind.Reads as behind-reads
+use our.lines.numeral.Reads as numeral-reads
 
 abbrev μ-numerals : Measures 2 numerals-kinds.ps ℕ
 μ-numerals κs a = length (a .1 .1 .0 .now) - a .1 .1 .1 .0

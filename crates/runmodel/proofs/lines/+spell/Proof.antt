@@ -2,12 +2,11 @@
 use Rattle.machine.specs.All.{ℕ, _-_, _<_, arith, length}
 use borrow.Fn.Kinds.{In}
 use borrow.Fn.PlainCycle.{Measures, is, falls, and}
-use Rattle.runmodel.proofs.Stored.{spell-nothing, spell-more}
-use Rattle.runmodel.proofs.lines.spell.Reads as spell
-use Rattle.runmodel.proofs.lines.spell.Kinds as spell-kinds
-use Rattle.runmodel.proofs.lines.+spell.Lts-spell as spell-lts
-use Rattle.runmodel.proofs.lines.+spell.{statement}
-use Rattle.runmodel.proofs.lines.+spell.Tie.{close}
+use Rattle.runmodel.proofs as our
+use our.{Stored.spell-nothing, Stored.spell-more, lines.+spell.statement, lines.+spell.Tie.close}
+use our.lines.spell.Reads as spell
+use our.lines.spell.Kinds as spell-kinds
+use our.lines.+spell.Lts-spell as spell-lts
 
 abbrev μ-spell : Measures 2 spell-kinds.ps ℕ
 μ-spell κs a = length (a .1 .0 .now) - a .1 .1 .0

@@ -1,7 +1,8 @@
 -- `printing::header` meets its contract, by cases on what decoding tells.
-use Rattle.runmodel.proofs.Counting.{header-model, header-none}
+use Rattle.runmodel.proofs as our
+use our.Counting.{header-model, header-none}
+use our.printing.header as f
 use Rattle.machine.specs.All.{needs}
-use Rattle.runmodel.proofs.printing.header as f
 
 pub header-spec : {M : Type 1} → f.Statement.statement M
 header-spec =

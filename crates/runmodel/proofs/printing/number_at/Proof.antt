@@ -1,7 +1,8 @@
 -- `printing::number_at` meets its contract, by cases on the number read.
-use Rattle.runmodel.proofs.Counting.{field-none, field-read}
+use Rattle.runmodel.proofs as our
+use our.Counting.{field-none, field-read}
+use our.printing.number_at as f
 use Rattle.machine.specs.All.{needs}
-use Rattle.runmodel.proofs.printing.number_at as f
 
 returns : f.Tie.Need-returns
 returns c =

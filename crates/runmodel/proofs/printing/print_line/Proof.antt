@@ -1,7 +1,8 @@
 -- `printing::print_line` is safe: the line is within its buffer.
 use Rattle.machine.specs.All.{needs}
-use Rattle.runmodel.proofs.Stored.{line-part}
-use Rattle.runmodel.proofs.printing.print_line as f
+use Rattle.runmodel.proofs as our
+use our.Stored.{line-part}
+use our.printing.print_line as f
 
 array-share-prefix-out : f.Tie.Need-array-share-prefix-out
 array-share-prefix-out c = let a = c .before .before .before .before .args in

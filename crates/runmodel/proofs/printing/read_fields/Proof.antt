@@ -3,8 +3,9 @@
 use Rattle.machine.specs.All.{_+_, _≤_, _-_, arith, _≡_, refl, ap, length, sets, needs}
 use Rattle.runmodel.specs.declared.printing.Field.{Field}
 use Rattle.runmodel.specs.{numbersAt, behindNumbers}
-use Rattle.runmodel.proofs.Counting.{behind-start, stored-start, behind-on, behind-done, stored-on, stored-done}
-use Rattle.runmodel.proofs.printing.read_fields as own
+use Rattle.runmodel.proofs as our
+use our.Counting.{behind-start, stored-start, behind-on, behind-done, stored-on, stored-done}
+use our.printing.read_fields as own
 
 abbrev Inv-loop : own.Tie.InvT-loop
 Inv-loop report at count numbers₀ next₀ i₀ numbers next i =

@@ -3,8 +3,9 @@
 use Rattle.machine.specs.All.{_≤_, _-_, arith, _≡_, ap, needs}
 use Rattle.runmodel.specs.declared.printing.Field.{Field}
 use Rattle.runmodel.specs.{behindNumbers}
-use Rattle.runmodel.proofs.Counting.{behind-start, behind-on, behind-done}
-use Rattle.runmodel.proofs.printing.skip as own
+use Rattle.runmodel.proofs as our
+use our.Counting.{behind-start, behind-on, behind-done}
+use our.printing.skip as own
 
 abbrev Inv-loop : own.Tie.InvT-loop
 Inv-loop report at count next₀ counter₀ next counter = (counter ≤ count) × (behindNumbers report (count - counter) next ≡ behindNumbers report count next₀)

@@ -2,8 +2,9 @@
 -- behind all of them. The measure is how many are left.
 use Rattle.machine.specs.All.{_≤_, _-_, arith, _≡_, needs}
 use Rattle.runmodel.specs.{behindThings}
-use Rattle.runmodel.proofs.Counting.{things-start, things-on, things-done}
-use Rattle.runmodel.proofs.printing.skip_all as f
+use Rattle.runmodel.proofs as our
+use our.Counting.{things-start, things-on, things-done}
+use our.printing.skip_all as f
 
 abbrev Inv-loop : f.Tie.InvT-loop
 Inv-loop report at things count next₀ counter₀ next counter = (counter ≤ things) × (behindThings report count (things - counter) next ≡ behindThings report count things next₀)

@@ -1,10 +1,9 @@
 -- `release` meets its contract, by cases on the question.
-use mathlib.Core.Path.{refl}
-use borrow.Author.Tests.{eq-eqb, ne-eqb}
+use Rattle.machine.specs.All.{refl, eq-eqb, ne-eqb, needs}
 use Rattle.servers_laws.specs.Freeing.{releaseRows}
-use borrow.Author.Needs.{needs}
-use Rattle.servers.proofs.freeing.release.Statement.{statement}
-use Rattle.servers.proofs.freeing.release.Tie as tie
+use Rattle.servers.proofs as our
+use our.freeing.release.Statement.{statement}
+use our.freeing.release.Tie as tie
 
 returns : tie.Need-returns
 unfolding releaseRows

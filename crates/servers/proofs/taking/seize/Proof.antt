@@ -1,9 +1,9 @@
 -- `seize` meets its contract: one unit of the server that the block names, held by the moving one.
-use mathlib.Core.Path.{refl}
+use Rattle.machine.specs.All.{refl, needs}
 use Rattle.servers_laws.specs.Taking.{seizeRows}
-use borrow.Author.Needs.{needs}
-use Rattle.servers.proofs.taking.seize.Statement.{statement}
-use Rattle.servers.proofs.taking.seize.Tie as tie
+use Rattle.servers.proofs as our
+use our.taking.seize.Statement.{statement}
+use our.taking.seize.Tie as tie
 
 returns : tie.Need-returns
 unfolding seizeRows

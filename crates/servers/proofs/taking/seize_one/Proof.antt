@@ -1,10 +1,9 @@
 -- `seize_one` meets its contract, by cases on the free units.
-use mathlib.Core.Path.{refl}
-use borrow.Author.Tests.{le-leb, lt-leb}
+use Rattle.machine.specs.All.{refl, le-leb, lt-leb, needs}
 use Rattle.servers_laws.specs.Taking.{takeUnits}
-use borrow.Author.Needs.{needs}
-use Rattle.servers.proofs.taking.seize_one.Statement.{statement}
-use Rattle.servers.proofs.taking.seize_one.Tie as tie
+use Rattle.servers.proofs as our
+use our.taking.seize_one.Statement.{statement}
+use our.taking.seize_one.Tie as tie
 
 returns : tie.Need-returns
 unfolding takeUnits

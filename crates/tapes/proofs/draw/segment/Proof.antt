@@ -1,9 +1,7 @@
 -- `tapes::segment` meets its contract. The invariant: the points from here on are around the same two; the measure is what is left of the doubles.
 use Rattle.machine.specs.All.{ℕ, _+_, _-_, _≤_, _<_, arith, List, length, needs}
-use Rattle.floats.specs.Limits.{drawParts}
-use Rattle.floats.specs.Value.{Is}
-use Rattle.tapes_laws.specs.Source.{Point}
-use Rattle.tapes_laws.specs.Held.{Points}
+use Rattle.floats.specs.{Limits.drawParts, Value.Is}
+use Rattle.tapes_laws.specs.{Source.Point, Held.Points}
 use Rattle.tapes_laws.proofs.Drawing.{Here, here-start, here-stops, here-goes, here-inside}
 use Rattle.tapes.proofs.draw.segment as f
 

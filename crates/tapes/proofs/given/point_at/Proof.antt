@@ -1,8 +1,7 @@
 -- `tapes::point_at` meets its contract.
 use Rattle.machine.specs.All.{arith, needs}
 use Rattle.tapes_laws.specs.Answers.{pointOf}
-use Rattle.tapes_laws.proofs.Reading.{counted, uncounted, u-inside}
-use Rattle.tapes_laws.proofs.Curves.{point-no-u, point-no-time, point-taken}
+use Rattle.tapes_laws.proofs.{Reading.counted, Reading.uncounted, Reading.u-inside, Curves.point-no-u, Curves.point-no-time, Curves.point-taken}
 use Rattle.tapes.proofs.given.point_at as f
 
 returns-3 : f.Tie.Need-returns-3

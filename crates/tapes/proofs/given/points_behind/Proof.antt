@@ -1,7 +1,6 @@
 -- `tapes::points_behind` meets its contract. The invariant: the points that are left answer as all of them; the measure is their number.
 use Rattle.machine.specs.All.{arith, _≡_, refl, _∙_, needs}
-use Rattle.tapes_laws.specs.Given.{pointsBehind}
-use Rattle.tapes_laws.specs.Answers.{corner, isGiven}
+use Rattle.tapes_laws.specs.{Given.pointsBehind, Answers.corner, Answers.isGiven}
 use Rattle.tapes_laws.proofs.Curves.{pointed, unpointed, behind-stops, behind-goes, behind-ends}
 use Rattle.tapes.proofs.given.points_behind as f
 

@@ -1,8 +1,7 @@
 -- `tapes::measure_times` meets its contract. The invariant: what is left and what was measured are the whole; the measure is how many times are left.
 use Rattle.machine.specs.All.{_+_, _*_, _≤_, arith, needs}
 use Rattle.streams.specs.Stream.{Inside}
-use Rattle.tapes_laws.specs.Source.{Source}
-use Rattle.tapes_laws.specs.Held.{Meant}
+use Rattle.tapes_laws.specs.{Source.Source, Held.Meant}
 use Rattle.tapes_laws.proofs.Times.{MeasureRest, measure-start, measure-goes, measure-done, len-most}
 use Rattle.tapes.proofs.write.measure_times as f
 

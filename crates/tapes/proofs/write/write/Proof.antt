@@ -1,8 +1,7 @@
 -- `tapes::write` meets its contract. The invariant: the lists that are left, written behind what stands, give the whole; the measure is how many lists are left.
 use Rattle.machine.specs.All.{_-_, _≤_, arith, _≡_, refl, length, List, some, needs}
 use Rattle.streams.specs.Stream.{Inside}
-use Rattle.tapes_laws.specs.Given.{Listed, listsFrom}
-use Rattle.tapes_laws.specs.Tape.{tapeBytes}
+use Rattle.tapes_laws.specs.{Given.Listed, Given.listsFrom, Tape.tapeBytes}
 use Rattle.tapes_laws.proofs.Tapes.{WriteLeft, write-lists, write-barred, write-next, all-written}
 use Rattle.tapes.proofs.write.write as f
 

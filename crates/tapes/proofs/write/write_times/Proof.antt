@@ -1,9 +1,7 @@
 -- `tapes::write_times` meets its contract. The invariant: what is left, written behind what stands, gives the whole; the measure is how many times are left.
 use Rattle.machine.specs.All.{_+_, _≤_, _≡_, refl, length, needs}
 use Rattle.streams.specs.Stream.{Inside}
-use Rattle.tapes_laws.specs.Source.{Source}
-use Rattle.tapes_laws.specs.Tape.{timesBytes}
-use Rattle.tapes_laws.specs.Held.{Meant}
+use Rattle.tapes_laws.specs.{Source.Source, Tape.timesBytes, Held.Meant}
 use Rattle.tapes_laws.proofs.Times.{WriteRest, write-start, write-goes, write-done}
 use Rattle.tapes.proofs.write.write_times as f
 

@@ -1,7 +1,8 @@
 -- `words::two_at` meets its contract: a byte, and the next above it.
 use Rattle.machine.specs.All.{needs}
-use Rattle.trace.proofs.WordLaws.{holds-beside, holds-byte}
-use Rattle.trace.proofs.words.two_at as f
+use Rattle.trace.proofs as our
+use our.WordLaws.{holds-beside, holds-byte}
+use our.words.two_at as f
 
 returns : f.Tie.Need-returns
 returns c =

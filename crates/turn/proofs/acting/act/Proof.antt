@@ -2,8 +2,9 @@
 use Rattle.machine.specs.All.{lt-ltb, le-ltb, needs}
 use Rattle.turn_laws.specs.Turn.{act}
 use Rattle.turn_laws.proofs.Parts.{note-joined}
-use Rattle.turn.proofs.acting.act.Statement.{statement}
-use Rattle.turn.proofs.acting.act.Tie as tie
+use Rattle.turn.proofs as our
+use our.acting.act.Statement.{statement}
+use our.acting.act.Tie as tie
 
 less32-requires : tie.Need-less32-requires
 less32-requires c κs = search needs

@@ -3,8 +3,7 @@
 use Rattle.machine.specs.All.{_+_, _-_, _≤_, _≡_, refl, sym, _∙_, arith, needs, eq-eqb, ne-eqb, length}
 use Rattle.rows_laws.specs.All.{head, wsl, wakeAll}
 use Rattle.rows_laws.proofs.Steps.{wakeAll-end, wakeAll-stop, wakeAll-next}
-use Rattle.values_queues_laws.specs.Scheme.{leaves, wsScheme}
-use Rattle.values_queues_laws.specs.Sides.{ForAll}
+use Rattle.values_queues_laws.specs.{Scheme.leaves, Scheme.wsScheme, Sides.ForAll}
 use Rattle.values_queues_laws.proofs.Sharing.{leaves-by, for-all-past}
 use Rattle.values_queues.proofs.scheme.ws as f
 

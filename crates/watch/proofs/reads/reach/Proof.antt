@@ -1,8 +1,9 @@
 -- `reach` meets its contract. The invariant: the rest from here is the whole. The measure: the values left.
 use Rattle.machine.specs.All.{_≤_, arith, _≡_, refl, sym, _∙_, length}
 use Rattle.watch.specs.{reach}
-use Rattle.watch.proofs.Loops.{reach-next, reach-end}
-use Rattle.watch.proofs.reads.reach as f
+use Rattle.watch.proofs as our
+use our.Loops.{reach-next, reach-end}
+use our.reads.reach as f
 
 abbrev Inv-loop : f.Tie.InvT-loop
 Inv-loop tables marks₀ values k₀ marks k = (reach tables k marks ≡ reach tables values marks₀) × ((k ≤ values) × (length marks ≡ length marks₀))
@@ -20,6 +21,6 @@ reach-spec =
     (omega arith)
     (omega arith)
     (omega arith)
-    (λ c. let b = c .before .before in (sym (reach-next _ _ _ _ _ (omega arith) (omega arith) (b .reach-value .ensures)) ∙ b .before .before .before .loop .inv .0, (omega arith, omega (arith, b .reach-value .kept))))
+    (λ c. let b = c .before .before in (sym (reach-next _ _ _ _ _ (omega arith) (omega arith) (b .reach-value .ensures)) ∙ b .before .before .before .loop .inv .0, (omega arith, omega arith)))
     (omega arith)
     (λ c. sym (reach-end _ _ _ (omega arith)) ∙ c .before .loop .inv .0))

@@ -1,8 +1,9 @@
 -- `store_asked` meets its contract. The invariant: the first b blocks are done. The measure: the blocks left.
 use Rattle.machine.specs.All.{_-_, _≤_, arith, _≡_, refl, _∙_, needs, length}
 use Rattle.watch.specs.{askedStored}
-use Rattle.watch.proofs.Loops.{asked-none, asked-next, asked-all}
-use Rattle.watch.proofs.reads.store_asked as f
+use Rattle.watch.proofs as our
+use our.Loops.{asked-none, asked-next, asked-all}
+use our.reads.store_asked as f
 
 abbrev Inv-loop : f.Tie.InvT-loop
 Inv-loop tables₀ marks blocks b₀ tables b = (tables ≡ askedStored marks b tables₀) × ((b ≤ blocks) × (length tables ≡ length tables₀))
@@ -13,7 +14,7 @@ abbrev μ-loop : f.Tie.MeasureT-loop
 loop-again : f.Tie.Need-loop-again Inv-loop μ-loop
 loop-again c =
     let b = c .before .before in
-    (asked-next _ _ _ _ _ _ (b .before .before .before .before .before .loop .inv .0) (b .before .before .asked .ensures) (b .store .ensures), (omega arith, omega (arith, b .store .kept)))
+    (asked-next _ _ _ _ _ _ (b .before .before .before .before .before .loop .inv .0) (b .before .before .asked .ensures) (b .store .ensures), (omega arith, omega arith))
 
 pub store-asked-spec : {M : Type 1} → f.Statement.statement M
 store-asked-spec =

@@ -1,8 +1,9 @@
 -- `store_own` meets its contract. The invariant: the first k values are done. The measure: the values left.
 use Rattle.machine.specs.All.{_-_, _≤_, arith, _≡_, refl, _∙_, needs, length}
 use Rattle.watch.specs.{ownStored}
-use Rattle.watch.proofs.Loops.{own-none, own-next, own-all}
-use Rattle.watch.proofs.reads.store_own as f
+use Rattle.watch.proofs as our
+use our.Loops.{own-none, own-next, own-all}
+use our.reads.store_own as f
 
 abbrev Inv-loop : f.Tie.InvT-loop
 Inv-loop tables₀ values k₀ tables k = (tables ≡ ownStored values k tables₀) × ((k ≤ values) × (length tables ≡ length tables₀))
@@ -13,7 +14,7 @@ abbrev μ-loop : f.Tie.MeasureT-loop
 loop-again : f.Tie.Need-loop-again Inv-loop μ-loop
 loop-again c =
     let b = c .before .before in
-    (own-next _ _ _ _ _ _ (b .before .before .before .before .before .loop .inv .0) (b .before .before .names-own .ensures) (b .store .ensures), (omega arith, omega (arith, b .store .kept)))
+    (own-next _ _ _ _ _ _ (b .before .before .before .before .before .loop .inv .0) (b .before .before .names-own .ensures) (b .store .ensures), (omega arith, omega arith))
 
 pub store-own-spec : {M : Type 1} → f.Statement.statement M
 store-own-spec =

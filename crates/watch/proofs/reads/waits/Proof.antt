@@ -1,8 +1,9 @@
 -- `waits` meets its contract. The invariant: the first b blocks are done. The measure: the blocks left.
 use Rattle.machine.specs.All.{_-_, _≤_, arith, _≡_, refl, _∙_, length}
 use Rattle.watch.specs.{waitsMarks}
-use Rattle.watch.proofs.Loops.{waits-none, waits-next, waits-all}
-use Rattle.watch.proofs.reads.waits as f
+use Rattle.watch.proofs as our
+use our.Loops.{waits-none, waits-next, waits-all}
+use our.reads.waits as f
 
 abbrev Inv-loop : f.Tie.InvT-loop
 Inv-loop tables marks₀ values blocks b₀ marks b = (marks ≡ waitsMarks tables values b marks₀) × ((b ≤ blocks) × (length marks ≡ length marks₀))
@@ -20,6 +21,6 @@ waits-spec =
     (omega arith)
     (omega arith)
     (omega arith)
-    (λ c. let b = c .before .before in (waits-next _ _ _ _ _ _ (b .before .before .before .loop .inv .0) (b .wait .ensures), (omega arith, omega (arith, b .wait .kept))))
+    (λ c. let b = c .before .before in (waits-next _ _ _ _ _ _ (b .before .before .before .loop .inv .0) (b .wait .ensures), (omega arith, omega arith)))
     (omega arith)
     (λ c. c .before .loop .inv .0 ∙ waits-all _ _ _ _ _ (omega arith) (omega arith)))

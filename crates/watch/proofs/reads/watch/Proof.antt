@@ -1,7 +1,8 @@
 -- `watch` meets its contract: the values, the marks, the blocks and the clock.
-use Rattle.watch.proofs.Loops.{watched-by}
+use Rattle.watch.proofs as our
+use our.Loops.{watched-by}
+use our.reads.watch as f
 use Rattle.machine.specs.All.{needs}
-use Rattle.watch.proofs.reads.watch as f
 
 returns : f.Tie.Need-returns
 returns c =

@@ -1,18 +1,18 @@
 -- The proof of the cycle of calls: a term and the terms of a bracket call each other. The measure: brackets that may open, then terms left.
-use Rattle.machine.specs.All.{_+_, _*_, sym, _∙_, needs, ℕ, _<_}
-use Rattle.watch.proofs.Steps.{term-past, term-simple, term-deep, term-comparison, term-bracket, terms-none, terms-past, terms-more}
+use Rattle.machine.specs.All.{_+_, _*_, sym, needs, ℕ, _<_}
+use Rattle.watch.proofs as our
+use our.Steps.{term-past, term-simple, term-deep, term-comparison, term-bracket, terms-none, terms-past, terms-more}
+use our.walk.term.Reads as term
+use our.walk.term.Kinds as term-kinds
+use our.walk.+term+terms.Lts-term as term-lts
+use our.walk.terms.Reads as terms
+use our.walk.terms.Kinds as terms-kinds
+use our.walk.+term+terms.Lts-terms as terms-lts
+use our.walk.mark.Reads as mark-reads
+use our.{walk.+term+terms.statement, walk.+term+terms.Tie.close}
 use borrow.Fn.Kinds.{In}
 use borrow.Fn.PlainCycle.{Measures, is, falls, and}
-use Rattle.watch.proofs.walk.term.Reads as term
-use Rattle.watch.proofs.walk.term.Kinds as term-kinds
-use Rattle.watch.proofs.walk.+term+terms.Lts-term as term-lts
-use Rattle.watch.proofs.walk.terms.Reads as terms
-use Rattle.watch.proofs.walk.terms.Kinds as terms-kinds
-use Rattle.watch.proofs.walk.+term+terms.Lts-terms as terms-lts
 use Rattle.layout.proofs.number.Reads as number-reads
-use Rattle.watch.proofs.walk.mark.Reads as mark-reads
-use Rattle.watch.proofs.walk.+term+terms.{statement}
-use Rattle.watch.proofs.walk.+term+terms.Tie.{close}
 
 -- a level is more than the terms of a sum, below 2 to the 32
 abbrev level : ℕ → ℕ
@@ -85,7 +85,7 @@ term-same-length-2 : (t : ℕ) → term-lts.Need-same-length-2 (term-claims t) (
 term-same-length-2 t c = search needs
 
 term-returns-4 : (t : ℕ) → term-lts.Need-returns-4 (term-claims t) (term-at t) term.Post
-term-returns-4 t c = c .before .before .terms .ensures ∙ sym (term-comparison _ _ _ _ (c .before .before .before .before .before .before .before .before .before .if1 .left) _ _ (c .before .before .before .before .before .before .before .before .number .ensures) (c .before .before .before .before .before .before .before .number2 .ensures) _ (c .before .before .before .before .before .if3 .left) (c .before .before .before .before .if4 .taken))
+term-returns-4 t c = cc (c .before .before .terms .ensures, term-comparison _ _ _ _ (c .before .before .before .before .before .before .before .before .before .if1 .left) _ _ (c .before .before .before .before .before .before .before .before .number .ensures) (c .before .before .before .before .before .before .before .number2 .ensures) _ (c .before .before .before .before .before .if3 .left) (c .before .before .before .before .if4 .taken))
 
 term-sub-terms-2 : (t : ℕ) → term-lts.Need-sub-terms-2 (term-claims t) (term-at t) term.Post
 term-sub-terms-2 t c = search needs
@@ -100,7 +100,7 @@ term-same-length-3 : (t : ℕ) → term-lts.Need-same-length-3 (term-claims t) (
 term-same-length-3 t c = search needs
 
 term-returns-5 : (t : ℕ) → term-lts.Need-returns-5 (term-claims t) (term-at t) term.Post
-term-returns-5 t c = c .before .before .terms2 .ensures ∙ sym (term-bracket _ _ _ _ (c .before .before .before .before .before .before .before .before .before .if1 .left) _ _ (c .before .before .before .before .before .before .before .before .number .ensures) (c .before .before .before .before .before .before .before .number2 .ensures) _ (c .before .before .before .before .before .if3 .left) (c .before .before .before .before .before .before .if2 .left) (c .before .before .before .before .if4 .left))
+term-returns-5 t c = cc (c .before .before .terms2 .ensures, term-bracket _ _ _ _ (c .before .before .before .before .before .before .before .before .before .if1 .left) _ _ (c .before .before .before .before .before .before .before .before .number .ensures) (c .before .before .before .before .before .before .before .number2 .ensures) _ (c .before .before .before .before .before .if3 .left) (c .before .before .before .before .before .before .if2 .left) (c .before .before .before .before .if4 .left))
 
 terms-returns : (t : ℕ) → terms-lts.Need-returns (terms-claims t) (terms-at t) terms.Post
 terms-returns t c = sym (terms-none _ _ _ _ _ _ (c .if1 .taken))
@@ -124,17 +124,17 @@ terms-same-length : (t : ℕ) → terms-lts.Need-same-length (terms-claims t) (t
 terms-same-length t c = search needs
 
 terms-returns-3 : (t : ℕ) → terms-lts.Need-returns-3 (terms-claims t) (terms-at t) terms.Post
-terms-returns-3 t c = c .before .before .terms .ensures ∙ sym (terms-more _ _ _ _ _ _ (c .before .before .before .before .before .before .before .before .before .if1 .left) (c .before .before .before .before .before .before .before .before .if2 .left) _ _ (c .before .before .before .before .before .before .term .ensures))
+terms-returns-3 t c = cc (c .before .before .terms .ensures, terms-more _ _ _ _ _ _ (c .before .before .before .before .before .before .before .before .before .if1 .left) (c .before .before .before .before .before .before .before .before .if2 .left) _ _ (c .before .before .before .before .before .before .term .ensures))
 
 pub +term+terms-spec : {M : Type 1} → statement M
-+term+terms-spec = close μ-term μ-terms (λ t. term-lts.spec (term-claims t)
-    (term-at t)
++term+terms-spec = close μ-term μ-terms (λ t. term-lts.spec _
+    _
     term.Post
     (term-returns t)
-    (term-number-requires t)
+    _
     (term-add-number t)
-    (term-number-requires-2 t)
-    (term-mark-requires t)
+    _
+    _
     (term-add-result t)
     (term-same-length t)
     (term-returns-2 t)
@@ -151,8 +151,8 @@ pub +term+terms-spec : {M : Type 1} → statement M
     (term-same-length-3 t)
     (term-returns-5 t))
     λ t. terms-lts.spec
-    (terms-claims t)
-    (terms-at t)
+    _
+    _
     terms.Post
     (terms-returns t)
     (terms-returns-2 t)
