@@ -3,6 +3,14 @@ use Rattle.machine.specs.All.{needs, ne-eqb}
 use Rattle.join_laws.specs.Rows.{movedBy}
 use Rattle.join.proofs.moving.moved as f
 
+returns-2 : f.Tie.Need-returns-2
+unfolding movedBy
+returns-2 c = rw (c .before .match .keys2)
+
+returns-8 : f.Tie.Need-returns-8
+unfolding movedBy
+returns-8 c = rw (c .before .match .keys8)
+
 returns-10 : f.Tie.Need-returns-10
 unfolding movedBy
 returns-10 c = rw (ne-eqb _ 2 (c .match .rest .0 .0 .0 .0 .0 .0 .0 .0 .1), ne-eqb _ 4 (c .match .rest .0 .0 .0 .0 .0 .0 .0 .1), ne-eqb _ 5 (c .match .rest .0 .0 .0 .0 .0 .0 .1), ne-eqb _ 6 (c .match .rest .0 .0 .0 .0 .0 .1), ne-eqb _ 7 (c .match .rest .0 .0 .0 .0 .1), ne-eqb _ 8 (c .match .rest .0 .0 .0 .1), ne-eqb _ 9 (c .match .rest .0 .0 .1), ne-eqb _ 12 (c .match .rest .0 .1), ne-eqb _ 13 (c .match .rest .1))
@@ -11,4 +19,4 @@ pub moved-spec : {M : Type 1} → f.Statement.statement M
 moved-spec =
     f.Tie.close
     (f.Tie.spec (search needs) (search needs) (search needs) (search needs) (search needs) (search needs) (search needs) (search needs) (search needs) (search needs) (search needs) (search needs) (search needs) (search needs) (search needs) (search needs) (search needs) (search needs) (search needs) (search needs) (search needs) (search needs) (search needs) (search needs) (search needs) (search needs)
-    (λ c. unfold movedBy in rw (c .match .keys1)) (λ c. unfold movedBy in rw (c .before .match .keys2)) (λ c. unfold movedBy in rw (c .before .match .keys3)) (λ c. unfold movedBy in rw (c .before .before .match .keys4, ← c .before .less .ensures)) (λ c. unfold movedBy in rw (c .before .before .match .keys5, ← c .before .less2 .ensures)) (λ c. unfold movedBy in rw (c .before .match .keys6)) (λ c. unfold movedBy in rw (c .before .match .keys7)) (λ c. unfold movedBy in rw (c .before .match .keys8)) (λ c. unfold movedBy in rw (c .before .match .keys9)) returns-10)
+    (λ c. unfold movedBy in rw (c .match .keys1)) returns-2 (λ c. unfold movedBy in rw (c .before .match .keys3)) (λ c. unfold movedBy in rw (c .before .before .match .keys4, ← c .before .less .ensures)) (λ c. unfold movedBy in rw (c .before .before .match .keys5, ← c .before .less2 .ensures)) (λ c. unfold movedBy in rw (c .before .match .keys6)) (λ c. unfold movedBy in rw (c .before .match .keys7)) returns-8 (λ c. unfold movedBy in rw (c .before .match .keys9)) returns-10)
