@@ -1,5 +1,5 @@
 -- One block over the rows leaves what the machine's block does, apart from its record.
-use Rattle.machine.specs.All.{ℕ, zero, suc, _-_, _≡_, refl, subst, List, _∷_, length, Transaction, always, whenTrue, Block, generate, advance, terminate, waitServer, waitTerms, assign, priority, split, BlockModel, facility, storage, up, down, takes, frees, moves, counts, assemble, preempt, giveBack, State}
+use Rattle.machine.specs.All.{ℕ, zero, suc, _-_, _≡_, refl, subst, List, _∷_, length, Transaction, always, whenTrue, Block, generate, advance, terminate, waitServer, waitTerms, assign, priority, split, BlockModel, facility, storage, up, down, takes, frees, moves, counts, assemble, preempt, giveBack, State, Change}
 use Rattle.layout.specs.All.{blockForms, blockNumbers}
 use Rattle.evaluation.proofs.Found.{at-first}
 use Rattle.state.specs.{declared.scalars.Scalars.Scalars, All.Done}
@@ -21,6 +21,11 @@ module _ {m : BlockModel} {tape : List (List ℕ)} {tapeBytes tables lists w tal
       subst (λ (k : ℕ). Done tapeBytes (Rows.byKind tables (length (m .values)) (m .facilities) tapeBytes w tally x (placeOf t) k) (bareBlock m b t s))
       (at-first tables _ n rest (rw e at (numbers (h .rep) (t .next - 1) (inside h) b (h .is))) .found)
 
+  queued : {q : ℕ} (d : Change) → Before m tape tapeBytes tables lists w tally x t s (counts d q) → Done tapeBytes (Rows.execute tables (length (m .values)) (m .facilities) tapeBytes w tally x (placeOf t)) (bareBlock m (counts d q) t s)
+  unfolding Rows.byKind Rows.later blockForms
+  queued up h = by 15 _ h refl (arrive-done h)
+  queued down h = by 16 _ h refl (depart-done h)
+
   pub execute-done : (b : Block) → Before m tape tapeBytes tables lists w tally x t s b → Done tapeBytes (Rows.execute tables (length (m .values)) (m .facilities) tapeBytes w tally x (placeOf t)) (bareBlock m b t s)
   unfolding Rows.byKind Rows.later blockForms
   execute-done (generate list p) h = by 1 _ h refl (generate-done h)
@@ -37,8 +42,7 @@ module _ {m : BlockModel} {tape : List (List ℕ)} {tapeBytes tables lists w tal
   execute-done (assign k a) h = by 12 _ h refl (assign-done h)
   execute-done (priority p) h = by 13 _ h refl (priority-done h)
   execute-done (split n target) h = by 14 _ h refl (split-done h)
-  execute-done (counts up q) h = by 15 _ h refl (arrive-done h)
-  execute-done (counts down q) h = by 16 _ h refl (depart-done h)
+  execute-done (counts d q) h = queued d h
   execute-done (waitServer code v (suc c)) h = by 17 _ h refl (wait-server-done h)
   execute-done (assemble n) h = by 18 _ h refl (assemble-done h)
   execute-done (preempt v) h = by 19 _ h refl (preempt-done h)
