@@ -9,7 +9,7 @@ use Rattle.rows_laws.proofs.{Sums.sum-zero, Ordering.shows-ext, Starting.initia
 use Rattle.state.specs.All.{Rows, rowsOf, gathererRow, listsIn, listsOf, Listing, Counting, Stands}
 use Rattle.state.proofs.StandsLaws.{stands-of}
 use Rattle.flow_laws.specs.{Samples.nextSample, Sending.arrives}
-use Rattle.start.specs.{listsSet, startScalars, beginList, beginBlock, beginBlocks, startRows}
+use Rattle.start.specs.{listsSet, startScalars, spentAt, priorityAt, beginList, beginBlock, beginBlocks, startRows}
 use Rattle.layout.proofs.Operands.{operand}
 use Rattle.flow_laws.proofs.{Drawing.drawn-most, Arrival.arrives-stands}
 use Rattle.start.proofs.Tally.{same-at, idle-tallying}
@@ -151,22 +151,24 @@ module _ (m : BlockModel) (tape : List (List ℕ)) (tapeBytes tables lists : Lis
       unfolding blockForms
       list-is = number _ is 1 (omega arith)
 
-      priority-is : getD tables (8 * b + 2) 0 ≡ p
-      unfolding blockForms
+      priority-is : priorityAt tables b ≡ p
+      unfolding blockForms priorityAt
       priority-is = number _ is 2 (omega arith)
 
       left-cell : getD (r .tally) (944 + (list - 1)) 0 ≡ length (Moves.timesLeft s list)
       left-cell = h .stands .tallying .samples .left _ (omega (arith, there, few))
 
       spent : Moves.timesLeft s list ≡ [] → beginBlock tables tapeBytes r b ≡ r
-      unfolding beginBlock beginList
+      unfolding beginBlock beginList spentAt
       spent e = rw (kind-is, list-is, left-cell ∙ ap length e)
 
-      unspent : (time : ℕ) (left : List ℕ) → Moves.timesLeft s list ≡ time ∷ left → beginBlock tables tapeBytes r b ≡ arrives (r .work) (r .tally) (r .scalars) (nextSample tapeBytes (r .tally) (list - 1)) (list - 1) p (suc b)
+      unlike : (time : ℕ) (left : List ℕ) → Moves.timesLeft s list ≡ time ∷ left → spentAt tables (r .tally) b ≡ false
+      unfolding spentAt
+      unlike time left e = rw list-is (ne-eqb (getD (r .tally) (944 + (list - 1)) 0) 0 (λ q. omega (arith, left-cell, ap length e)))
+
+      unspent : spentAt tables (r .tally) b ≡ false → priorityAt tables b ≡ p → beginBlock tables tapeBytes r b ≡ arrives (r .work) (r .tally) (r .scalars) (nextSample tapeBytes (r .tally) (list - 1)) (list - 1) p (suc b)
       unfolding beginBlock beginList
-      unspent time left e =
-          let f : b + 1 ≡ suc b = omega arith in
-          rw (kind-is, list-is, (ne-eqb (getD (r .tally) (944 + (list - 1)) 0) 0 (λ q. omega (arith, left-cell, ap length e))), priority-is, f)
+      unspent e q = let f : b + 1 ≡ suc b = omega arith in rw (kind-is, e, list-is, q, f)
 
       made : Stands tapeBytes (beginBlock tables tapeBytes r b) none (Moves.arrival (Moves.timesLeft s list) list p (suc b) s)
       unfolding Moves.arrival
@@ -175,7 +177,7 @@ module _ (m : BlockModel) (tape : List (List ℕ)) (tapeBytes tables lists : Lis
           go : (l : List ℕ) → Moves.timesLeft s list ≡ l → Stands tapeBytes (beginBlock tables tapeBytes r b) none (Moves.arrival l list p (suc b) s)
           go [] e = rw spent (h .stands)
           go (time ∷ left) e =
-              rw (unspent time left e) (arrives-stands s (h .stands .tallying) list (named .0 .0) there few e (r .scalars) (h .stands .listing) (h .stands .counting)
+              rw (unspent (unlike time left e) priority-is) (arrives-stands s (h .stands .tallying) list (named .0 .0) there few e (r .scalars) (h .stands .listing) (h .stands .counting)
               (record { room = omega (arith, h .beginning .made, low); order = omega (arith, h .beginning .ended); serials = omega (arith, h .beginning .serials, low); numbers = omega (arith, h .beginning .made, low) })
               (h .beginning .given) p (suc b) (named .1)
               (omega (arith, h .beginning .clock, drawn-most tapeBytes (r .tally) (s .samples) (list - 1) (h .stands .tallying .samples) (h .stands .tallying .size) (omega (arith, named .0 .0, there)) few time left e)))

@@ -1,5 +1,5 @@
 -- The row machine: the start of a run, in scalars, work buffer and tally.
-use Rattle.machine.specs.All.{ℕ, zero, suc, _+_, _*_, min, cond, List, eqb, getD, set, maxBlocks, maxLists}
+use Rattle.machine.specs.All.{ℕ, zero, suc, _+_, _*_, min, Bool, cond, List, eqb, getD, set, maxBlocks, maxLists}
 use Rattle.rows_laws.specs.All.{rowCount, initial}
 use Rattle.constants.specs.declared.model.Model.{Model}
 use Rattle.layout.specs.All.{listAt, listLeft, listCounts, most32, blockWidth}
@@ -34,10 +34,16 @@ startScalars counter =
 
 -- ---- A transaction for each GENERATE whose list has a time
 
+unfoldable pub spentAt : (tables tally : List ℕ) → ℕ → Bool
+spentAt tables tally b = eqb (getD tally (listLeft + getD tables (blockWidth * b + 1) 0) 0) 0
+
+unfoldable pub priorityAt : List ℕ → ℕ → ℕ
+priorityAt tables b = getD tables (blockWidth * b + 2) 0
+
 unfoldable pub beginList : (tables tape : List ℕ) → Rows → ℕ → Rows
 beginList tables tape r b =
-    cond (eqb (getD (r .tally) (listLeft + getD tables (blockWidth * b + 1) 0) 0) 0) r
-    (arrives (r .work) (r .tally) (r .scalars) (nextSample tape (r .tally) (getD tables (blockWidth * b + 1) 0)) (getD tables (blockWidth * b + 1) 0) (getD tables (blockWidth * b + 2) 0) (b + 1))
+    cond (spentAt tables (r .tally) b) r
+    (arrives (r .work) (r .tally) (r .scalars) (nextSample tape (r .tally) (getD tables (blockWidth * b + 1) 0)) (getD tables (blockWidth * b + 1) 0) (priorityAt tables b) (b + 1))
 
 unfoldable pub beginBlock : (tables tape : List ℕ) → Rows → ℕ → Rows
 beginBlock tables tape r b = cond (eqb (getD tables (blockWidth * b) 0) 1) (beginList tables tape r b) r
