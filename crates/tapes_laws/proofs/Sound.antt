@@ -3,7 +3,7 @@ use Rattle.machine.specs.All.{ℕ, zero, suc, _+_, _*_, _-_, _/_, _≤_, _<_, a
 use lib.Ieee.{Float}
 use Rattle.codec.proofs.Fields.{both-true}
 use Rattle.floats.specs.Limits.{maxTime, maxTimeParts, maxMeanParts, drawParts}
-use Rattle.floats.specs.Line.{lineOver, lineUnder, spreadOver, spreadUnder}
+use Rattle.floats.specs.Line.{spreadOver, spreadUnder}
 use Rattle.streams.specs.Stream.{Inside}
 use Rattle.streams.proofs.Generator.{next-inside}
 use Rattle.tapes_laws.specs.{mostTimes, continue, ask, Point, fixed, spread, curve, around, lineTime, after, timeOf, stateAfter, timeAt, fixedAt, spreadAt, pointAt, pointsBehind, curveAt, sourceAt, Listed, listAt, listsFrom, Points}
@@ -99,16 +99,18 @@ module _ (numbers : List Float) (s : Source) where
 
 -- ---- Times
 
-line-most : {v0 t0 v1 t1 v : ℕ} → v0 ≤ v → v ≤ v1 → v0 < v1 → t0 ≤ t1 → t1 ≤ maxTimeParts → lineOver v0 t0 v1 t1 v / lineUnder v0 v1 ≤ maxTime
-line-most {v0} {t0} {v1} {t1} {v} from to rising not-falling most =
-    let w = v1 - v0 in
-    let p : _ * (v - v0) ≤ (t1 - t0) * w = mul-le-mul-left (t1 - t0) (omega arith) in
-    let join : t0 * w + (t1 - t0) * w ≡ t1 * w = sym (add-mul t0 (t1 - t0) w) ∙ ap (λ z. z * w) (omega arith) in
+line-most : (p q : Point) (v : ℕ) → p .u ≤ v → v ≤ q .u → p .u < q .u → p .time ≤ q .time → q .time ≤ maxTimeParts → lineTime (record { from = p; to = q }) v ≤ maxTime
+unfolding lineTime
+line-most p q v from to rising not-falling most =
+    let w = q .u - p .u in
+    let d = q .time - p .time in
+    let x : _ * (v - p .u) ≤ d * w = mul-le-mul-left d (omega arith) in
+    let join : p .time * w + d * w ≡ q .time * w = sym (add-mul (p .time) d w) ∙ ap (λ z. z * w) (omega arith) in
     let top = mul-le-mul-right w most in
     div-le-of-le-mul _ (omega arith)
 
 around-most : (p : Point) (l : List Point) (v : ℕ) → p .u ≤ v → v < drawParts → Rising p l → lineTime (around p l v) v ≤ maxTime
-unfolding around lineTime
+unfolding around
 around-most p [] v from inside h = absurd (omega arith)
 around-most p (q ∷ l) v from inside h = go _ refl (λ past. around-most q l v past inside (h .1))
   where
@@ -116,7 +118,7 @@ around-most p (q ∷ l) v from inside h = go _ refl (λ past. around-most q l v 
         lineTime (cond t (record { from = p; to = q }) (around q l v)) v ≤ maxTime
     go true e rest =
         let past = ltb-true v _ e in
-        line-most from (omega arith) (h .0 .0) (h .0 .1) (h .0 .2)
+        line-most p q v from (omega arith) (h .0 .0) (h .0 .1) (h .0 .2)
     go false e rest = rest (ltb-false v _ e)
 
 spread-most : {m h v : ℕ} → h ≤ m → m ≤ maxMeanParts → v < drawParts → spreadOver m h v / spreadUnder ≤ maxTime

@@ -1,12 +1,12 @@
 -- Tapes checked by hand. Stream 0 begins at 1; its states are 16807, 282475249, 1622650073, 984943658, 1144108930, .., so v is
 -- 0, 8620, 49519, 30058, 34915, 14349, ..
-use Rattle.machine.specs.All.{ℕ, List, [], _∷_, true, false, _≡_, refl, flat, upper, numberBytes}
+use Rattle.machine.specs.All.{ℕ, List, [], _∷_, true, false, some, _≡_, refl, flat, upper, numberBytes}
 use lib.IntN.{pos, negsuc}
 use lib.Ieee.{Float, nan, inf, fin}
 use Rattle.floats.specs.Value.{partsOf}
 use Rattle.streams.specs.Stream.{next, beginning, startOf}
 use Rattle.tapes_laws.specs.Options.{continue, ask}
-use Rattle.tapes_laws.specs.Source.{drawOf, around, lineTime, after, timeOf, timesOf, stateAfter}
+use Rattle.tapes_laws.specs.Source.{spread, drawOf, around, lineTime, after, timeOf, timesOf, stateAfter}
 use Rattle.tapes_laws.specs.Given.{timeAt, uAt, fixedAt, spreadAt, pointAt, follows, pointsBehind, curveAt, sourceAt, listAt, listsFrom, listsOf}
 use Rattle.tapes_laws.specs.Tape.{bytesOf, listNumbers, tapeNumbers, Making, made, refusal, fitted, fromLists, fromStart, makeTape}
 
@@ -75,3 +75,8 @@ wanted =
 pub examples : found ≡ wanted
 unfolding found doubles three upper numberBytes flat partsOf next beginning startOf continue ask drawOf around lineTime after timeOf timesOf stateAfter timeAt uAt fixedAt spreadAt pointAt follows pointsBehind curveAt sourceAt listAt listsFrom listsOf bytesOf listNumbers tapeNumbers fitted fromLists fromStart makeTape
 examples = refl
+
+-- list 0 is the first
+pub in-order : listAt three doubles 0 ≡ some (record { source = spread 800 256; count = 3 })
+unfolding doubles three partsOf continue ask timeAt spreadAt sourceAt listAt
+in-order = refl
