@@ -2,7 +2,6 @@
 -- is left of them.
 use Rattle.program.proofs as our
 use our.Question.{placed-all, placed-end, placed-bad, placed-next}
-use our.Question.{placed-end, placed-bad, placed-next}
 use our.well_placed as f
 use Rattle.machine.specs.All.{needs, _*_, _-_, _≤_, arith, true, _≡_, _∙_}
 use Rattle.program.specs.{placedFrom}
@@ -17,6 +16,9 @@ loop-again : f.Tie.Need-loop-again Inv-loop μ-loop
 loop-again c =
     let b = c .before .before in
     (omega arith, rw (c .leaves .ensures) (placed-next _ _ _ _ (b .before .before .loop-test .taken) (cc (b .misplaced .ensures, c .before .if1 .left)) ∙ b .before .before .before .loop .inv .1))
+
+returns-2 : f.Tie.Need-returns-2 Inv-loop μ-loop
+returns-2 c = placed-end _ _ _ _ (c .loop-test .left) ∙ c .before .loop .inv .1
 
 pub well-placed-spec : {M : Type 1} → f.Statement.statement M
 well-placed-spec =
@@ -34,4 +36,4 @@ well-placed-spec =
     (omega arith)
     (omega arith)
     loop-again
-    (λ c. placed-end _ _ _ _ (c .loop-test .left) ∙ c .before .loop .inv .1))
+    returns-2)
