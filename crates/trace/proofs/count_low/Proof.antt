@@ -5,52 +5,37 @@ use Rattle.trace.proofs as our
 use our.Counting.{counted, counted-all}
 use our.count_low as f
 
-abbrev Counted : List ℕ → ℕ → ℕ → Type 0
-Counted s count i = (i ≤ length s) × (count ≤ i) × (count + countLow (drop i s) ≡ countLow s)
-
 abbrev Inv-loop : f.Tie.InvT-loop
-Inv-loop s count₀ i₀ count i = Counted s count i
+Inv-loop s count₀ i₀ count i = (i ≤ length s) × (count ≤ i) × (count + countLow (drop i s) ≡ countLow s)
 
 abbrev μ-loop : f.Tie.MeasureT-loop
 μ-loop s count₀ i₀ count i = length s - i
 
-abbrev Inv-loop2 : f.Tie.InvT-loop2
-Inv-loop2 s count₀ i₀ count i = Counted s count i
+loop-holds : f.Tie.Need-loop-holds Inv-loop μ-loop Inv-loop μ-loop Inv-loop μ-loop Inv-loop μ-loop
+loop-holds c = (omega arith, omega arith, zero-add _)
 
-abbrev μ-loop2 : f.Tie.MeasureT-loop2
-μ-loop2 s count₀ i₀ count i = length s - i
-
-abbrev Inv-loop3 : f.Tie.InvT-loop3
-Inv-loop3 s count₀ i₀ count i = Counted s count i
-
-abbrev μ-loop3 : f.Tie.MeasureT-loop3
-μ-loop3 s count₀ i₀ count i = length s - i
-
-abbrev Inv-loop4 : f.Tie.InvT-loop4
-Inv-loop4 s count₀ i₀ count i = Counted s count i
-
-abbrev μ-loop4 : f.Tie.MeasureT-loop4
-μ-loop4 s count₀ i₀ count i = length s - i
-
-loop-again : f.Tie.Need-loop-again Inv-loop μ-loop Inv-loop2 μ-loop2 Inv-loop3 μ-loop3 Inv-loop4 μ-loop4
+loop-again : f.Tie.Need-loop-again Inv-loop μ-loop Inv-loop μ-loop Inv-loop μ-loop Inv-loop μ-loop
 loop-again c =
     let call = c .count-128 .ensures in
     (omega arith, omega arith, counted _ _ 128 _ (call .0) (c .before .before .loop .inv .2))
 
-loop2-again : f.Tie.Need-loop2-again Inv-loop μ-loop Inv-loop2 μ-loop2 Inv-loop3 μ-loop3 Inv-loop4 μ-loop4
+loop2-again : f.Tie.Need-loop2-again Inv-loop μ-loop Inv-loop μ-loop Inv-loop μ-loop Inv-loop μ-loop
 loop2-again c =
     let call = c .count-32 .ensures in
     (omega arith, omega arith, counted _ _ 32 _ (call .0) (c .before .before .loop2 .inv .2))
 
-loop3-again : f.Tie.Need-loop3-again Inv-loop μ-loop Inv-loop2 μ-loop2 Inv-loop3 μ-loop3 Inv-loop4 μ-loop4
+loop3-again : f.Tie.Need-loop3-again Inv-loop μ-loop Inv-loop μ-loop Inv-loop μ-loop Inv-loop μ-loop
 loop3-again c =
     let call = c .count-8 .ensures in
     (omega arith, omega arith, counted _ _ 8 _ (call .0) (c .before .before .loop3 .inv .2))
 
-loop4-again : f.Tie.Need-loop4-again Inv-loop μ-loop Inv-loop2 μ-loop2 Inv-loop3 μ-loop3 Inv-loop4 μ-loop4
+loop4-again : f.Tie.Need-loop4-again Inv-loop μ-loop Inv-loop μ-loop Inv-loop μ-loop Inv-loop μ-loop
 loop4-again c =
     let call = c .count-1 .ensures in
     (omega arith, omega arith, counted _ _ 1 _ (call .0) (c .before .before .loop4 .inv .2))
+
+returns : f.Tie.Need-returns Inv-loop μ-loop Inv-loop μ-loop Inv-loop μ-loop Inv-loop μ-loop
+returns c = counted-all _ _ (c .loop4-test .left) (c .before .loop4 .inv .2)
 
 pub count-low-spec : {M : Type 1} → f.Statement.statement M
 count-low-spec =
@@ -58,13 +43,13 @@ count-low-spec =
     (f.Tie.spec
     Inv-loop
     μ-loop
-    Inv-loop2
-    μ-loop2
-    Inv-loop3
-    μ-loop3
-    Inv-loop4
-    μ-loop4
-    (λ c. (omega arith, omega arith, zero-add _))
+    Inv-loop
+    μ-loop
+    Inv-loop
+    μ-loop
+    Inv-loop
+    μ-loop
+    loop-holds
     (search needs)
     (search needs)
     (search needs)
@@ -91,4 +76,4 @@ count-low-spec =
     (search needs)
     (search needs)
     loop4-again
-    (λ c. counted-all _ _ (c .loop4-test .left) (c .before .loop4 .inv .2)))
+    returns)

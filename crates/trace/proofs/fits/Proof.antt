@@ -11,5 +11,8 @@ returns c =
     let r = entry _ _ _ _ in
     sym (le-leb _ (w .args .room) (omega (arith, record-room r (w .pre))))
 
+returns-2 : f.Tie.Need-returns-2
+returns-2 c = cc (c .record-len .ensures)
+
 pub fits-spec : {M : Type 1} → f.Statement.statement M
-fits-spec = f.Tie.close (f.Tie.spec returns (search needs) (λ c. cc (c .record-len .ensures)))
+fits-spec = f.Tie.close (f.Tie.spec returns (search needs) returns-2)
