@@ -3,7 +3,7 @@
 use Rattle.machine.specs.All.{ℕ, suc, _+_, _-_, _≤_, _<_, arith, Bool, true, false, _&&_, List, [], _∷_, _++_, _≡_, refl, sym, ap, _∙_, T, ltb, leb→le, ltb→lt, lit<, lit≤, length, getD, length-append, maxConstant, Relation, equal, unequal, less, atMost, greater, atLeast, related, View, queueAt, serverAt, wrap, oneIf, Term, constant, minusConstant, parameter, clockTerm, entriesOf, contentOf, unitsInUse, unitsFree, facilityInUse, value, comparison, bracket, Sum, nothing, plus, minus, term, sum}
 use lib.IntN.{ℤ, pos, negℤ, _+ℤ_, _-ℤ_}
 use Rattle.layout.specs.All.{relationNumber, terms, termNumbers, signedTerms, At, smallTerm, smallSum}
-use Rattle.evaluation.specs.{Worth, relatedBy, simpleTerm, worthAt, joined, judged, sumFrom, comparisonFrom, termFrom, nestedTerm, nestedSum, parametersOf}
+use Rattle.evaluation.specs.{Worth, relatedBy, simpleTerm, worthAt, added, joined, judged, sumFrom, comparisonFrom, termFrom, nestedTerm, nestedSum, parametersOf}
 use Rattle.evaluation.specs.Sees.{Sees}
 use Rattle.evaluation.proofs as our
 use our.Found.{at-first, at-front, at-back}
@@ -73,9 +73,12 @@ module _ {w : View} {tables tally : List ℕ} {clock : ℕ} (s : Sees w tables t
 -- ---- Terms and sums: where their numbers stand, they are worth what the machine says
 
 -- each sign by its number
+added-is : (a b : ℤ) → wrap (a +ℤ b) ≡ added a b
+added-is a b = refl
+
 joined-plus : (a b : ℤ) → wrap (a +ℤ b) ≡ joined 0 a b
 unfolding joined
-joined-plus a b = refl
+joined-plus a b = added-is a b
 
 joined-minus : (a b : ℤ) → wrap (a -ℤ b) ≡ joined 1 a b
 unfolding joined

@@ -61,9 +61,12 @@ unpacked n = worthAt (wrap (pos n)) (n / Layout.wordEnd)
 abbrev pub andThen : Worth → (ℤ → ℕ → Worth) → Worth
 andThen t f = f (t .worth) (t .next)
 
+abbrev pub added : ℤ → ℤ → ℤ
+added a b = wrap (a +ℤ b)
+
 -- a sign, "0 plus, 1 minus"
 unfoldable pub joined : ℕ → ℤ → ℤ → ℤ
-joined sign a b = cond (eqb sign 0) (wrap (a +ℤ b)) (wrap (a -ℤ b))
+joined sign a b = cond (eqb sign 0) (added a b) (wrap (a -ℤ b))
 
 -- a relation between two terms, the second behind the first
 unfoldable pub judged : ℕ → Worth → Worth → Worth
