@@ -2,7 +2,7 @@
 use Rattle.machine.specs.All.{ℕ, suc, _+_, _%_, _-_, _<_, _≡_, refl, sym, ap, _∙_, subst, Bool, true, false, cond, List, [], Option, none, some, arith, eqb, length, getD, Transaction, Event, precedes, Code, welIndex, State, withNext, withSerial, withReturning, setSerial, setQl, setWel, setWsl}
 use Rattle.machine.specs.Moves as Moves
 use Rattle.machine.proofs.lists.Sorted as Machine
-use Rattle.rows_laws.specs.All.{wsl, read, write, lineUp, Sorted, orderOf, transactionAt, update}
+use Rattle.rows_laws.specs.All.{wsl, read, write, setReturning, lineUp, Sorted, orderOf, transactionAt, update}
 use Rattle.rows_laws.proofs.{Insertion.insert-sorted, Orders.precedes-order, Ordering.sorted-of, Ordering.sorted-line, Fields.write-next, Fields.write-serial, Fields.set-returning}
 use Rattle.state.specs.declared.scalars.Scalars.{Scalars}
 use Rattle.state.specs.All.{rowsOf, listsIn, listsOf, Listed, Listing, Tallying, Counting, Stands, noteOf, Done, waitsNote, noNote, entering, goingBack, waiting}
@@ -35,16 +35,17 @@ module _ {w : List ℕ} {k : ℕ} {t : Transaction} {lists : ℕ → List Transa
   next-written block =
       listing-write h 6 block (omega arith) (cc (write-next w k (h .shows .shown .holds .room) (h .mover .0 .row) block, h .mover .1))
 
-module _ (x : Scalars) {w : List ℕ} {t : Transaction} {lists : ℕ → List Transaction} {fel : List Event} {living : ℕ} (h : Listed w (x .moving) (some t) lists fel living) where
-  abbrev k : ℕ
-  k = x .moving
-
-  pub go-to-listing : (block : ℕ) → Listed (goTo w x block .work) (goTo w x block .scalars .moving) (some (withReturning false (withNext block t))) lists fel living
-  unfolding goTo moved
-  go-to-listing block =
-      let g = next-written h block in
+  -- at another block, without its mark
+  sent : (block : ℕ) → Listed (setReturning (write w 6 k block) k 0) k (some (withReturning false (withNext block t))) lists fel living
+  sent block =
+      let g = next-written block in
       listing-write g 1 _ (omega arith)
       (cc (set-returning (write w 6 k block) k (g .shows .shown .holds .room) (h .mover .0 .row) 0 (omega arith), g .mover .1))
+
+module _ (x : Scalars) {w : List ℕ} {t : Transaction} {lists : ℕ → List Transaction} {fel : List Event} {living : ℕ} (h : Listed w (x .moving) (some t) lists fel living) where
+  pub go-to-listing : (block : ℕ) → Listed (goTo w x block .work) (goTo w x block .scalars .moving) (some (withReturning false (withNext block t))) lists fel living
+  unfolding goTo moved
+  go-to-listing block = sent h block
 
   pub go-on-is : t .next < 4294967295 → goOn w x ≡ goTo w x (suc (t .next))
   unfolding goOn
@@ -65,8 +66,8 @@ module _ {tapeBytes w tally : List ℕ} (x : Scalars) {t : Transaction} (s : Sta
   -- ---- Going back
 
   back-listing : (blocks : ℕ) → Listing (goBack w x blocks .work) (x .moving) (some (withReturning false (withNext (t .next - blocks) t))) s
-  unfolding goBack goTo moved
-  back-listing blocks = rw (next-read listing) (go-to-listing x listing _)
+  unfolding goBack moved
+  back-listing blocks = rw (next-read listing) (sent listing _)
 
   pub go-back-done : (blocks : ℕ) → Done tapeBytes (withTally (goBack w x blocks) tally) (goingBack (Moves.moveTo (t .next - blocks) t s))
   unfolding Moves.moveTo goBack moved rowsOf noteOf
