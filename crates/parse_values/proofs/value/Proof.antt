@@ -4,5 +4,8 @@ use our.Steps.{value-kept}
 use our.value as f
 use Rattle.machine.specs.All.{needs}
 
+returns : f.Tie.Need-returns
+returns c = value-kept _ _ _ (c .sum .ensures)
+
 pub value-spec : {M : Type 1} → f.Statement.statement M
-value-spec = f.Tie.close (f.Tie.spec (search needs) (search needs) (search needs) (λ c. value-kept _ _ _ (c .sum .ensures)))
+value-spec = f.Tie.close (f.Tie.spec (search needs) (search needs) (search needs) returns)
