@@ -123,6 +123,10 @@ module _ (p : Part) (by : Shift) (joint : ℕ) (same : Moves p by joint) where
       watched NF v zero k h = cc (row-is at 8 (5 ∷ (v - 1) ∷ []) h refl, storage-own v (omega (arith, own, k .0 .0)))
       watched NF v (suc c) k h = cc (row-is at 17 (5 ∷ (v - 1) ∷ suc c ∷ []) h refl, storage-own v (omega (arith, own, k .0 .0)))
 
+      going : (target : ℕ) → At tables at (11 ∷ target ∷ []) → blockRow tables by at ≡ 11 ∷ (target + p .toBlock) ∷ []
+      unfolding operandsOf movedBy shapeOf roleOf
+      going target h = row-is at 11 _ h refl ∙ ap (λ i. 11 ∷ i ∷ []) (omega arith)
+
       pub block-row : (b : Block) → ProperBlock m b → NumberedBlock (p .facilities) b → T (nestedBlock b) → At tables at (blockNumbers b)
           → blockRow tables by at ≡ storedBlock joint (blockIn p b)
       unfolding blockNumbers takeNumbers freeNumbers moveNumbers countKind operandsOf movedBy shapeOf roleOf facts compared allOf nestedBlock blockIn shareIn conditionIn storedBlock storedTake storedFree storedMove storedCount
@@ -139,7 +143,7 @@ module _ (p : Part) (by : Shift) (joint : ℕ) (same : Moves p by joint) where
           let y = pair b (and-left (nestedTerm 0 b) true (and-right (nestedTerm 0 a) _ d)) (n .1 .0) in
           row-is at 9 _ (rw (x .numbers, y .numbers) at h) refl
           ∙ sym (cc (x .stored, y .stored))
-      block-row (moves always target) k n d h = row-is at 11 _ h refl ∙ ap (λ i. 11 ∷ i ∷ []) (omega arith)
+      block-row (moves always target) k n d h = going target h
       block-row (moves (whenTrue a r b) target) k n d h =
           let x = pair a (and-left (nestedTerm 0 a) _ d) (n .0) in
           let y = pair b (and-left (nestedTerm 0 b) true (and-right (nestedTerm 0 a) _ d)) (n .1 .0) in

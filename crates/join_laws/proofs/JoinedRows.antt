@@ -8,7 +8,7 @@ use Rattle.evaluation.specs.Nested.{nestedSum, nestedBlock, Nested}
 use Rattle.evaluation.proofs.Found.{at-first}
 use Rattle.joined.specs.Join.{Part, first, second, sumIn, blockIn, joinModels}
 use Rattle.join_laws.specs.declared.shift.Shift.{Shift}
-use Rattle.join_laws.specs.{storedSum, storedBlock, storedModel, movedBy, valueRow, valueRows, blockRows, firstShift, secondShift, cellRow, serverRows, thingRows, allBlocks, programRows, joinedRows}
+use Rattle.join_laws.specs.{storedSum, storedBlock, storedModel, movedBy, valueRow, valueRows, blockRows, firstShift, secondShift, joinedCounter, cellRow, serverRows, thingRows, allBlocks, programRows, joinedRows}
 use Rattle.join_laws.proofs.{Numbered.NumberedSum, CarriedBlocks.NumberedBlock, CarriedValues.terms-in, Decoded.Decoded, Joint.stored-both, Joint.length-both, BlockRows.Moves, BlockRows.block-row, ValueRows.sum-writes}
 
 -- ---- Rows
@@ -122,6 +122,10 @@ module _ (m₁ m₂ : BlockModel) (tables₁ tables₂ : List ℕ) (t₁ : Table
       (proper-at m₂ (t₂ .proper)) (t₂ .decoded .blocks-numbered) (t₂ .nested .blocks))
       ∙ stored-both _ _ _ (m₁ .blocks) (m₂ .blocks)
 
+  counter-is : joinedCounter (headerOf m₁) (headerOf m₂) ≡ m₁ .counter + m₂ .counter
+  unfolding headerOf
+  counter-is = refl
+
   -- the code's numbers are the joined model's
   pub rows-are : joinedRows tables₁ (headerOf m₁) tables₂ (headerOf m₂) ≡ storedModel (joinModels m₁ m₂)
   unfolding joinedRows serverRows thingRows programRows allBlocks headerOf storedModel joinModels
@@ -129,7 +133,7 @@ module _ (m₁ m₂ : BlockModel) (tables₁ tables₂ : List ℕ) (t₁ : Table
       ap₂ (λ e l. e ∷ facilities ∷ (length (m₁ .capacities) + length (m₂ .capacities)) ∷ l) (t₁ .edition)
       (ap₂ (λ u v. u ++ v) (ap₂ (λ u v. u ++ v) (t₁ .capacities) (t₂ .capacities))
       (ap₂ (λ u v. (m₁ .queues + m₂ .queues) ∷ (length (m₁ .values) + length (m₂ .values)) ∷ (u ++ v)) values-are
-      (ap (λ u. (m₁ .lists + m₂ .lists) ∷ (m₁ .counter + m₂ .counter) ∷ (length (m₁ .blocks) + length (m₂ .blocks)) ∷ u) blocks-are)))
+      (ap₂ (λ c u. (m₁ .lists + m₂ .lists) ∷ c ∷ (length (m₁ .blocks) + length (m₂ .blocks)) ∷ u) counter-is blocks-are)))
       ∙ rw (
         length-append,
         length-both,
