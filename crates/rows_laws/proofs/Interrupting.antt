@@ -188,14 +188,20 @@ module _ (w : List ℕ) (n p : ℕ) (l : List ℕ) (one : Listed w fel l) (stric
             (none-but a (λ x o. omega (arith, twice x)) (λ x o q. absurd (omega (arith, ap (λ y. occurs y a) q, twice k, occurs-cons k k (parts .0), same-refl k k refl))))
             (loses-below ∙ f)
 
-  pub find-of : (moving v : ℕ) → (Holder w n moving (load w (holderCell v)) → (x : ℕ) → x < 1024 → load w (place x) ≡ fel → read w numberField x ≡ n → x ≡ load w (holderCell v))
+  abbrev pub Finds : Type 0
+  Finds = (moving v : ℕ) → (Holder w n moving (load w (holderCell v)) → (x : ℕ) → x < 1024 → load w (place x) ≡ fel → read w numberField x ≡ n → x ≡ load w (holderCell v))
       → Loser w n p l (findLoser w n p moving v)
+
+  find-by : Loser w n p l (loser w n p) → Finds
   unfolding findLoser
-  find-of moving v alone = go (isHolder w n moving (load w (holderCell v))) refl
+  find-by scanned moving v alone = go (isHolder w n moving (load w (holderCell v))) refl
     where
       go : (b : Bool) → isHolder w n moving (load w (holderCell v)) ≡ b → Loser w n p l (cond b (loserAt w p (load w (holderCell v))) (loser w n p))
-      go false e = loser-of
+      go false e = scanned
       go true e = let h : Holder w n moving (load w (holderCell v)) = holder-of w n moving (load w (holderCell v)) e in at-of (load w (holderCell v)) (h .row) (h .own) (alone h)
+
+  pub find-of : Finds
+  find-of = find-by loser-of
 
 -- no list reads the row that is kept
 pub keep-holder-wakes : (w : List ℕ) (T : ℕ → List Transaction) (E : List Event) → Shows w T E → (v k : ℕ) → Wakes w (keepHolder w v k) T E
