@@ -6,7 +6,7 @@ use Rattle.flow_laws.specs.Kinds.{generateRows, advanceRows, terminateRows, pri
 use Rattle.flow_laws.specs.Gathering.{assembleRows}
 use Rattle.servers_laws.specs.{Taking.seizeRows, Taking.enterRows, Freeing.releaseRows, Freeing.leaveRows, WaitServer.waitServerRows}
 use Rattle.preempt_laws.specs.Preempting.{preemptRows, giveBackRows}
-use Rattle.values_queues_laws.specs.{Comparison.waitTermsRows, Comparison.branchRows, Comparison.assignRows, Jumps.gotoRows, Queues.arriveRows, Queues.departRows}
+use Rattle.values_queues_laws.specs.{Comparison.branchRows, Comparison.assignRows, Jumps.gotoRows, Queues.arriveRows, Queues.departRows, Waits.waitTermsRows}
 
 module _ (tables : List ℕ) (values facilities : ℕ) (tape w tally : List ℕ) (x : Scalars) (at : ℕ) where
   -- kinds 9 to 20

@@ -2,6 +2,7 @@
 // `run` promises for all inputs and buffer lengths.
 mod ends;
 mod finish;
+mod herds;
 mod steps;
 
 use decode::Decoded;

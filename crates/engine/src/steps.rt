@@ -1,5 +1,6 @@
 // The turns of a run, until an end.
 use crate::ends::end_before;
+use crate::herds::herd;
 use constants::Model;
 use layout::TABLES;
 use layout::TALLY;
@@ -39,6 +40,9 @@ pub fn turns(
         }
         y = turn(model, tables, tape, work, tally, trace, y);
         left -= 1;
+        let done = herd(model, tables, budget, work, tally, trace.len(), y, left);
+        left -= done - y.turns;
+        y.turns = done;
     }
     y
 }

@@ -1,6 +1,7 @@
 pub mod EndLaws
 pub mod StepLaws
 pub mod TurnsLaws
+pub mod Herding
 pub mod Reading
 pub mod Outcomes
 pub mod Following

@@ -1,7 +1,7 @@
 -- The row machine: the turns of a run.
-use Rattle.machine.specs.All.{ℕ, List, steps}
+use Rattle.machine.specs.All.{ℕ, _-_, _≡_, List, steps}
 use Rattle.constants.specs.declared.model.Model.{Model}
-use Rattle.state.specs.All.{putEnd, rowsOf}
+use Rattle.state.specs.{declared.scalars.Scalars.Scalars, All.putEnd, All.putTurns, All.rowsOf}
 use Rattle.turn_laws.specs.Turn.{Traced, traced, turn}
 use Rattle.engine_laws.specs.{Ends.endRows, Steps.runSteps}
 
@@ -20,3 +20,9 @@ turnsFrom model tables tape budget room n a = runSteps (endOf budget room) (turn
 -- all turns of a run, from its start
 abbrev pub turnsRows : Model → (tables tape : List ℕ) → (budget room : ℕ) → Traced → Traced
 turnsRows model tables tape budget room a = turnsFrom model tables tape budget room steps a
+
+-- so many steps from scalars x and rows w are what is left of them from rows w′, after turns that changed no scalar but their number, t then
+abbrev pub Onward : Model → (tables tape tally trace : List ℕ) → (budget room : ℕ) → Scalars → (left : ℕ) (w : List ℕ) (t : ℕ) (w′ : List ℕ) → Type 0
+Onward model tables tape tally trace budget room x left w t w′ =
+    turnsFrom model tables tape budget room left (traced (rowsOf x w tally) trace)
+    ≡ turnsFrom model tables tape budget room (left - (t - x .turns)) (traced (rowsOf (putTurns t x) w′ tally) trace)

@@ -4,3 +4,4 @@ pub mod NoteLaws
 pub mod TurnLaws
 pub mod Unwritten
 pub mod Runs
+pub mod Staying

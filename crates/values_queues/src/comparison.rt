@@ -1,4 +1,5 @@
 // Blocks with terms, which are read with the moving transaction's own parameters: WAITIF, IF and LET.
+use crate::sides::held;
 use constants::Model;
 use evaluation::bits;
 use evaluation::compare_at;
@@ -25,7 +26,8 @@ ghost use Rattle.machine.specs.All.{_≡_, _+_, _<_, _≤_};
 ghost use Rattle.layout.specs.All.{programSize};
 ghost use Rattle.rows_laws.specs.All.{Room, rowCount};
 ghost use Rattle.moves.specs.Motion.{moved};
-ghost use Rattle.values_queues_laws.specs.Comparison.{parametersAt, holdsAt, worthAt, setParameter, waitTermsRows, branchRows, assignRows};
+ghost use Rattle.values_queues_laws.specs.Comparison.{parametersAt, holdsAt, worthAt, setParameter, branchRows, assignRows};
+ghost use Rattle.values_queues_laws.specs.Waits.{waitTermsRows};
 
 const PARAMETERS: u32 = Model::PARAMETERS as u32;
 
@@ -108,7 +110,7 @@ pub fn wait_terms(
 {
     let k = x.moving;
     let clock = x.clock;
-    if holds(tables, values, work, tally, clock, k, at) {
+    if held(tables, values, work, tally, clock, k, at) {
         return wait_on(work, x, WSL, IN_ORDER);
     }
     go_on(work, x)

@@ -12,3 +12,4 @@ pub use jumps::goto;
 pub use queues::arrive;
 pub use queues::depart;
 pub use scheme::ws;
+pub use sides::held_by_all;

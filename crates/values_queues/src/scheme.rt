@@ -1,12 +1,12 @@
 // The WS scheme: "every WSL member whose comparison no longer holds goes to REL".
+use crate::sides::LEFT_SIDE;
 use crate::sides::OWN;
+use crate::sides::RIGHT_SIDE;
 use crate::sides::shared;
 use crate::sides::side;
 use constants::kinds::WAIT_TERMS;
 use evaluation::related;
 use layout::BLOCK_WIDTH;
-use layout::FIRST;
-use layout::RIGHT;
 use layout::TABLES;
 use layout::TALLY;
 use layout::THIRD;
@@ -24,11 +24,6 @@ ghost use Rattle.machine.specs.All.{_≡_, _+_, _*_, _<_, _≤_, maxBlocks};
 ghost use Rattle.layout.specs.All.{blockWidth, most32};
 ghost use Rattle.rows_laws.specs.All.{Room, rowCount, wsl, passRows, passCell};
 ghost use Rattle.values_queues_laws.specs.Scheme.{blockOf, leavesBy, wsScheme};
-
-// The left term of a block at a position, and the right one.
-const LEFT_SIDE: usize = FIRST;
-
-const RIGHT_SIDE: usize = FIRST + RIGHT;
 
 // Where the block of row k stands in the tables.
 fn block_of(work: &[u32], k: u32) -> usize

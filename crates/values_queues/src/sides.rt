@@ -3,26 +3,37 @@
 use crate::comparison::parameters_of;
 use constants::Model;
 use evaluation::bits;
+use evaluation::compare_at;
+use evaluation::related;
 use evaluation::signed;
 use evaluation::term_at;
+use layout::FIRST;
 use layout::NAMES_OWN;
+use layout::RIGHT;
 use layout::TABLES;
 use layout::TALLY;
+use layout::THIRD;
 use layout::number;
 use rows::PARAMETER_1;
 use rows::cells::read;
 ghost use Rattle.machine.specs.All.{_≡_, _+_, _<_, getD};
-ghost use Rattle.layout.specs.All.{tablesSize};
+ghost use Rattle.layout.specs.All.{programSize, tablesSize};
 ghost use Rattle.rows_laws.specs.All.{Room, rowCount};
 ghost use Rattle.evaluation.specs.Evaluation.{termAt};
 ghost use Rattle.values_queues_laws.specs.Comparison.{parametersAt};
-ghost use Rattle.values_queues_laws.specs.Sides.{namesOwn, sideBy, ForAll};
+ghost use Rattle.values_queues_laws.specs.Sides.{namesOwn, sideAt, sideBy, ForAll};
+ghost use Rattle.values_queues_laws.specs.Waits.{heldAt, heldByAll};
 
 const PARAMETERS: u32 = Model::PARAMETERS as u32;
 
 const PARAMETER_TAG: u32 = 2;
 
 const VALUE_TAG: u32 = layout::VALUE_TAG as u32;
+
+// The left term of a block at a position, and the right one.
+pub const LEFT_SIDE: usize = FIRST;
+
+pub const RIGHT_SIDE: usize = FIRST + RIGHT;
 
 // No answer for all: 2 to the 32.
 pub const OWN: u64 = 4_294_967_296;
@@ -134,4 +145,67 @@ pub fn side(
         return signed(answer as u32);
     }
     own(tables, values, work, tally, clock, k, at)
+}
+
+// The same in a turn of row k: one that names no parameter is evaluated with none.
+fn worth_to(
+    tables: &[u32; TABLES],
+    values: usize,
+    work: &[u32],
+    tally: &[u64; TALLY],
+    clock: u64,
+    k: u32,
+    at: usize,
+) -> i32
+    requires { ⌜ at < tablesSize ⌝ }
+    requires { ⌜ Room (now work) ⌝ }
+    requires { ⌜ k < rowCount ⌝ }
+    ensures { λ r. ⌜ r ≡ sideAt (now (tables .entry)) values (now (tally .entry)) clock (now (work .entry)) k at ⌝ }
+{
+    if names_own(tables, at) {
+        return own(tables, values, work, tally, clock, k, at);
+    }
+    let none = [0u32; Model::PARAMETERS];
+    term_at(tables, tally, values, clock, &none, at)
+}
+
+// Does the comparison of the WAITIF at `at` hold for row k?
+pub fn held(
+    tables: &[u32; TABLES],
+    values: usize,
+    work: &[u32],
+    tally: &[u64; TALLY],
+    clock: u64,
+    k: u32,
+    at: usize,
+) -> bool
+    requires { ⌜ at < programSize ⌝ }
+    requires { ⌜ Room (now work) ⌝ }
+    requires { ⌜ k < rowCount ⌝ }
+    ensures { λ r. ⌜ r ≡ heldAt (now (tables .entry)) values (now (work .entry)) (now (tally .entry)) clock k at ⌝ }
+{
+    let a = worth_to(tables, values, work, tally, clock, k, at + LEFT_SIDE);
+    let b = worth_to(tables, values, work, tally, clock, k, at + RIGHT_SIDE);
+    related(number(tables, at + THIRD), a, b)
+}
+
+// Does it name no parameter, and hold for all?
+pub fn held_by_all(
+    tables: &[u32; TABLES],
+    values: usize,
+    tally: &[u64; TALLY],
+    clock: u64,
+    at: usize,
+) -> bool
+    requires { ⌜ at < programSize ⌝ }
+    ensures { λ r. ⌜ r ≡ heldByAll (now (tables .entry)) values (now (tally .entry)) clock at ⌝ }
+{
+    if names_own(tables, at + LEFT_SIDE) {
+        return false;
+    }
+    if names_own(tables, at + RIGHT_SIDE) {
+        return false;
+    }
+    let none = [0u32; Model::PARAMETERS];
+    compare_at(tables, tally, values, clock, &none, at + FIRST)
 }

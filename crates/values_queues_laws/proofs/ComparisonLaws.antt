@@ -1,5 +1,5 @@
 -- WAITIF and IF on a comparison, GOTO and LET leave what the machine's do.
-use Rattle.machine.specs.All.{ℕ, suc, _+_, _-_, _≤_, _≡_, refl, _∙_, Bool, true, false, cond, List, none, some, arith, lt-ltb, length, getD, set, Transaction, precedes, Term, Relation, evaluate, compare, truth, Block, waitTerms, branch, goto, assign, BlockModel, State, withParameters, setMoving, question}
+use Rattle.machine.specs.All.{ℕ, suc, _+_, _-_, _≤_, _≡_, refl, _∙_, Bool, true, false, cond, List, none, some, arith, lt-ltb, length, getD, set, Transaction, precedes, Term, Relation, evaluate, compare, truth, Block, waitTerms, branch, goto, assign, BlockModel, blockAt, State, withParameters, setMoving, question}
 use lib.IntN.{ℤ}
 use mir.Syntax.{w32}
 use mir.Val.{toZ}
@@ -8,7 +8,7 @@ use Rattle.layout.specs.All.{blockForms}
 use Rattle.rows_laws.specs.All.{wsl, parameterField, write, Sorted}
 use Rattle.rows_laws.proofs.Fields.{write-parameter}
 use Rattle.evaluation.specs.{Evaluation.compareAt, Sees.parametersOf, Sees.Sees}
-use Rattle.evaluation.proofs.{Signs.signed-low, Laws.let-law, Laws.wait-law, Laws.if-law}
+use Rattle.evaluation.proofs.{Signs.signed-low, Laws.let-law, Laws.if-law}
 use Rattle.state.specs.declared.scalars.Scalars.{Scalars}
 use Rattle.state.specs.All.{listsIn, Listing, Done, entering, waiting, bare, bareAnswer}
 use Rattle.state.proofs.StandsLaws.{listing-write}
@@ -16,9 +16,10 @@ use Rattle.moves.proofs.Before.{placeOf, bareBlock, Before}
 use Rattle.moves.specs.Motion.{withTally, goTo, goOn, waitOn}
 use Rattle.moves.proofs.BeforeLaws.{inside, next-low, serial-low, proper-block, operand}
 use Rattle.moves.proofs.MotionLaws.{go-to-done, go-on-done, puts-wsl, wait-on-done}
-use Rattle.values_queues_laws.specs.{parametersAt, holdsAt, worthAt, setParameter, waitTermsRows, branchRows, assignRows, gotoRows}
+use Rattle.values_queues_laws.specs.{parametersAt, holdsAt, worthAt, setParameter, heldAt, waitTermsRows, branchRows, assignRows, gotoRows}
 use Rattle.values_queues_laws.proofs as our
 use our.Sees.{sane-low, sees}
+use our.Sharing.{sides-law}
 use our.Parameters.{signed-toZ, parameters-are, evaluate-small}
 use our.Operands.{assign-term, branch-target}
 
@@ -38,6 +39,11 @@ module _ {m : BlockModel} {tape : List (List ℕ)} {tapeBytes tables lists w tal
       → holdsAt tables (length (m .values)) w tally (x .clock) (x .moving) (placeOf t) ≡ compare (m .values) (s .view) (t .parameters) a o b
   unfolding holdsAt
   holds-is a o b e = cc (e, own)
+
+  held-is : (a : Term) (o : Relation) (b : Term) → blockAt m (t .next) ≡ waitTerms a o b
+      → heldAt tables (length (m .values)) w tally (x .clock) (x .moving) (placeOf t) ≡ compare (m .values) (s .view) (t .parameters) a o b
+  unfolding heldAt
+  held-is a o b e = cc (sides-law (h .rep) (h .nested) seen w (x .moving) _ (inside h) a o b e, h .listing .mover .1)
 
   go-on : Done tapeBytes (withTally (goOn w x) tally) (entering (Moves.goOn t s₀))
   go-on = go-on-done x s₀ (h .listing) (h .tallying) (h .counting) (next-low h)
@@ -60,7 +66,7 @@ module _ {m : BlockModel} {tape : List (List ℕ)} {tapeBytes tables lists w tal
       → Done tapeBytes (withTally (waitTermsRows tables (length (m .values)) w tally x (placeOf t)) tally) (bareBlock m (waitTerms a o b) t s)
   unfolding waitTermsRows question bareAnswer bare
   wait-terms-done {a} {o} {b} h =
-      rw (holds-is h a o b (wait-law (h .rep) (h .nested) (seen h) _ _ (inside h) a o b (h .is))) (go (compare _ _ _ a o b))
+      rw (held-is h a o b (h .is)) (go (compare _ _ _ a o b))
     where
       go : (c : Bool) → Done tapeBytes (withTally (cond c (waitOn w x wsl 1) (goOn w x)) tally) (cond c (waiting Moves.toWsl t (setMoving none s)) (entering (Moves.goOn t (setMoving none s))))
       go true = wait-on h

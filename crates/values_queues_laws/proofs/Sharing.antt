@@ -7,9 +7,9 @@ use mir.Val.{toZ, ofZ}
 use Rattle.layout.specs.All.{blockForms, relationNumber, termNumbers, At, smallTerm, Represents}
 use Rattle.layout.specs.Layout as Layout
 use Rattle.rows_laws.specs.All.{read, transactionAt}
-use Rattle.evaluation.specs.{Evaluation.simpleTerm, Evaluation.termAt, Evaluation.relatedBy, Nested.nestedTerm, Nested.nestedBlock, Nested.Nested, Sees.Sees}
+use Rattle.evaluation.specs.{Evaluation.simpleTerm, Evaluation.termAt, Evaluation.relatedBy, Evaluation.compareAt, Nested.nestedTerm, Nested.nestedBlock, Nested.Nested, Sees.Sees}
 use Rattle.evaluation.proofs.{Found.at-first, Found.at-front, Found.at-back, Signs.low32-lt, Signs.back, Signs.signed-low, Steps.term-simple, Terms.and-left, Terms.and-right, Terms.related-by, Values.worths-length, Laws.two-numbers, Laws.term-law}
-use Rattle.values_queues_laws.specs.{parametersAt, blockOf, leavesFrom, leaves, leavesBy, namesOwn, noParameters, sideAt, sideBy, ForAll}
+use Rattle.values_queues_laws.specs.{parametersAt, blockOf, leavesFrom, leaves, leavesBy, namesOwn, noParameters, sideAt, sideBy, ForAll, heldAt, heldByAll}
 use Rattle.values_queues_laws.proofs.{Operands.numbers, Parameters.parameters-are}
 
 -- ---- By an answer for all
@@ -66,6 +66,24 @@ pub not-related : {r : Bool} {n n′ : ℕ} {a a′ b b′ : ℤ} → r ≡ rela
     → not r ≡ not (relatedBy n′ a′ b′)
 not-related {r} {n} {n′} {a} {a′} {b} {b′} e en sa ea sb eb =
     let same : r ≡ relatedBy n′ a′ b′ = e ∙ rw (back a sa, back b sb, en, ea, eb) in ap not same
+
+-- the same of a comparison that holds
+pub held-related : {r : Bool} {n n′ : ℕ} {a a′ b b′ : ℤ} → r ≡ relatedBy n (toZ w32 (ofZ w32 a)) (toZ w32 (ofZ w32 b)) → n ≡ n′ → mag a < 2147483648 → a ≡ a′ → mag b < 2147483648 → b ≡ b′
+    → r ≡ relatedBy n′ a′ b′
+held-related {r} {n} {n′} {a} {a′} {b} {b′} e en sa ea sb eb = e ∙ rw (back a sa, back b sb, en, ea, eb)
+
+-- what holds for all holds for every row
+pub held-for : (tables : List ℕ) (values : ℕ) (tally : List ℕ) (clock at : ℕ) (w : List ℕ) (k : ℕ) → heldByAll tables values tally clock at ≡ true
+    → heldAt tables values w tally clock k at ≡ true
+unfolding heldByAll heldAt sideAt compareAt
+held-for tables values tally clock at w k h =
+    let third : at + 1 + 2 ≡ at + 3 = omega arith in
+    let fourth : at + 1 + 3 ≡ at + 4 = omega arith in
+    cases (namesOwn tables (at + 1))
+    (λ e. absurd (true≢false (sym (rw e at h))))
+    (λ e. cases (namesOwn tables (at + 4))
+    (λ f. absurd (true≢false (sym (rw (e, f) at h))))
+    (λ f. rw (e, f) (rw (e, f, third, fourth) at h)))
 
 -- ---- A parameter by itself
 

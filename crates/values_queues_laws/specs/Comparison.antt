@@ -1,9 +1,9 @@
 -- The row machine: blocks with terms, of the block whose numbers begin at `at` of the tables.
 use Rattle.machine.specs.All.{ℕ, _+_, Bool, cond, List, [], _∷_, ltb, getD, low32}
-use Rattle.rows_laws.specs.All.{wsl, parameterField, read, write}
+use Rattle.rows_laws.specs.All.{parameterField, read, write}
 use Rattle.evaluation.specs.Evaluation.{termAt, compareAt}
 use Rattle.state.specs.declared.scalars.Scalars.{Scalars}
-use Rattle.moves.specs.Motion.{Moved, inOrder, goTo, goOn, waitOn}
+use Rattle.moves.specs.Motion.{Moved, goTo, goOn}
 
 -- the parameters of row k, as bits
 unfoldable pub parametersAt : List ℕ → ℕ → List ℕ
@@ -21,9 +21,6 @@ unfoldable pub setParameter : List ℕ → (k i x : ℕ) → List ℕ
 setParameter w k i x = cond (ltb i 4) (write w (parameterField + i) k x) w
 
 module _ (tables : List ℕ) (values : ℕ) (w tally : List ℕ) (x : Scalars) (at : ℕ) where
-  unfoldable pub waitTermsRows : Moved
-  waitTermsRows = cond (holdsAt tables values w tally (x .clock) (x .moving) at) (waitOn w x wsl inOrder) (goOn w x)
-
   unfoldable pub branchRows : Moved
   branchRows = cond (holdsAt tables values w tally (x .clock) (x .moving) at) (goTo w x (getD tables (at + 6) 0)) (goOn w x)
 

@@ -1,9 +1,10 @@
 -- `turns` meets its contract. The loop's invariant: the rest of the run from here is the whole run, and the buffers keep their
 -- lengths. The measure is the steps left. Assumes nothing.
-use Rattle.machine.specs.All.{_≡_, refl, sym, ap, _∙_, arith, length, needs}
+use Rattle.machine.specs.All.{_-_, _≡_, refl, sym, ap, _∙_, arith, length, needs}
 use Rattle.state.specs.All.{rowsOf}
 use Rattle.turn_laws.specs.Turn.{traced}
 use Rattle.engine_laws.specs.{Ends.endRows, Turns.turnsFrom}
+use Rattle.engine_laws.proofs.Herding.{onward-on}
 use Rattle.engine_laws.proofs.TurnsLaws.{turns-none, turns-on, turns-off}
 use Rattle.engine.proofs.steps.turns as f
 
@@ -25,13 +26,16 @@ returns c =
 
 loop-again : f.Tie.Need-loop-again Inv-loop μ-loop
 loop-again c =
-    let b = c .before .before .before .before .before .before .before .before in
+    let b = c .before .before .before .before .before .before .before .before .before .before .before .before .before .before in
     let at = b .before .before .before .before .loop in
-    let call = c .before .before .before .before .turn in
-    let told = b .before .end-before .ensures ∙ ap (endRows (at .work) (at .y) (b .before .before .before .before .before .before .before .before .args .budget)) (at .inv .2) in (
-      turns-on _ _ _ _ _ _ _ _ _ (at .left) _ (omega arith) told (b .if1 .left) _ _ (call .ensures) (at .inv .0),
-      call .kept .1 .1 .1 .0 ∙ at .inv .1,
-      call .kept .1 .1 .1 .1 .1 .0 ∙ at .inv .2,
+    let a = b .before .before .before .before .before .before .before .before .args in
+    let call = c .before .before .before .before .before .before .before .before .before .before .turn in
+    let herd = c .before .before .before .herd in
+    let told = b .before .end-before .ensures ∙ ap (endRows (at .work) (at .y) (a .budget)) (at .inv .2) in
+    let same = call .kept .1 .1 .1 .1 .1 .0 ∙ at .inv .2 in (
+      onward-on (a .model) (a .tables .now) (a .tape .now) _ _ (a .budget) _ (call .result) (at .left - 1) _ (herd .result) _ _ _ same (herd .ensures .0 (a .tape .now) _) (turns-on (a .model) (a .tables .now) (a .tape .now) (a .budget) _ (at .y) (at .work) _ _ (at .left) _ (omega arith) told (b .if1 .left) _ _ (call .ensures) (at .inv .0)),
+      omega (arith, herd .kept, call .kept .1 .1 .1 .0, at .inv .1),
+      same,
     )
 
 returns-2 : f.Tie.Need-returns-2 Inv-loop μ-loop
@@ -52,6 +56,9 @@ turns-spec =
     returns
     (search needs)
     (omega arith)
+    (search needs)
+    (omega arith)
+    (λ c. omega (arith, c .before .before .before .herd .ensures .1 .1))
     (omega arith)
     loop-again
     (λ c. c .before .loop .inv .1)

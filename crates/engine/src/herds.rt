@@ -1,0 +1,76 @@
+// A herd: those who come back one after the other to a WAITIF where everybody waits again. Their turns change nothing that the WAITIF
+// reads, so that it is asked once for all of them.
+use crate::ends::end_before;
+use constants::Model;
+use layout::TABLES;
+use layout::TALLY;
+use state::NO_RECORD;
+use state::NOBODY;
+use state::Scalars;
+use turn::all_wait;
+use turn::back_to;
+use turn::stay;
+ghost use Rattle.machine.specs.All.{_≡_, _+_, _≤_, true, List, ℕ};
+ghost use Rattle.constants.specs.declared.model.Model as M;
+ghost use Rattle.rows_laws.specs.All.{Room, rowCount};
+ghost use Rattle.turn_laws.specs.Staying.{allWait};
+ghost use Rattle.engine_laws.specs.Turns.{Onward};
+
+// Their turns, at most `left`, to a block where everybody waits; answers how many turns are done then.
+fn stay_all(
+    work: &mut [u32],
+    budget: u64,
+    room: usize,
+    x: Scalars,
+    block: u32,
+    left: u32,
+) -> u32
+    requires { ⌜ Room (now work) ⌝ }
+    ensures { λ r. ⌜ ((model : M.Model) (tables tape tally trace : List ℕ) → x .moving ≡ rowCount → x .note ≡ 2 → allWait tables (model .values) tally (x .clock) block ≡ true → Onward model tables tape tally trace budget room x left (now (work .entry)) r (now (work .exit))) ⌝ }
+    ensures least { λ r. ⌜ x .turns ≤ r ⌝ }
+    ensures most { λ r. ⌜ r ≤ x .turns + left ⌝ }
+{
+    let mut y = x;
+    let mut rest = left;
+    while 0 < rest {
+        if end_before(work, y, budget, room) != 0 {
+            return y.turns;
+        }
+        if back_to(work) != block {
+            return y.turns;
+        }
+        stay(work);
+        y.turns += 1;
+        rest -= 1;
+    }
+    y.turns
+}
+
+// The turns of a herd, if the last turn was of one that came back to wait; answers how many turns are done then.
+pub fn herd(
+    model: Model,
+    tables: &[u32; TABLES],
+    budget: u64,
+    work: &mut [u32],
+    tally: &[u64; TALLY],
+    room: usize,
+    x: Scalars,
+    left: u32,
+) -> u32
+    requires { ⌜ Room (now work) ⌝ }
+    ensures { λ r. ⌜ ((tape trace : List ℕ) → Onward model (now (tables .entry)) tape (now (tally .entry)) trace budget room x left (now (work .entry)) r (now (work .exit))) ⌝ }
+    ensures least { λ r. ⌜ x .turns ≤ r ⌝ }
+    ensures most { λ r. ⌜ r ≤ x .turns + left ⌝ }
+{
+    if x.note != NO_RECORD {
+        return x.turns;
+    }
+    if x.moving != NOBODY {
+        return x.turns;
+    }
+    let block = back_to(work);
+    if !all_wait(tables, model.values, tally, x.clock, block) {
+        return x.turns;
+    }
+    stay_all(work, budget, room, x, block, left)
+}

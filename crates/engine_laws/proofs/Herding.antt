@@ -1,0 +1,58 @@
+-- Turns of those who come back one after the other to a WAITIF where everybody waits again.
+use Rattle.machine.specs.All.{cases, ℕ, _+_, _-_, _<_, _≤_, _≡_, refl, sym, ap, _∙_, Bool, true, false, cond, _||_, min, List, arith, ltb, leb, eqb, eq-eqb, leb-false, true≢false, maxSerial, maxTurns}
+use Rattle.constants.specs.declared.model.Model.{Model}
+use Rattle.layout.specs.All.{most32}
+use Rattle.rows_laws.specs.All.{rowCount}
+use Rattle.state.specs.{declared.scalars.Scalars.Scalars, All.putTurns, All.rowsOf}
+use Rattle.clock.specs.Taking.{counted}
+use Rattle.turn_laws.specs.{Turn.Traced, Turn.traced, Staying.backTo, Staying.allWait, Staying.stayed}
+use Rattle.turn_laws.proofs.Staying.{stays}
+use Rattle.engine_laws.specs.{nobodyRows, wornRows, fullRows, limitRows, endRows, turnsFrom, Onward}
+use Rattle.engine_laws.proofs.TurnsLaws.{turns-on}
+
+-- before a turn, fewer than the most are done
+pub turns-below : (work : List ℕ) (x : Scalars) (budget room : ℕ) → endRows work x budget room ≡ 0 → x .turns < maxTurns
+unfolding endRows limitRows wornRows fullRows
+turns-below work x budget room h = go (eqb (x .end) 0) (nobodyRows work (x .moving)) (ltb maxSerial (x .serial)) (leb maxTurns (x .turns)) refl refl h
+  where
+    go : (a b c d : Bool) → eqb (x .end) 0 ≡ a → leb maxTurns (x .turns) ≡ d
+        → cond a (cond b 1 (cond (c || d) 26 (cond (leb budget (x .turns)) 3 (cond (ltb room (x .used + 12)) 4 0)))) (x .end) ≡ 0 → x .turns < maxTurns
+    go true true c d e f q = absurd (omega (arith, q))
+    go true false true d e f q = absurd (omega (arith, q))
+    go true false false true e f q = absurd (omega (arith, q))
+    go true false false false e f q = leb-false maxTurns (x .turns) f
+    go false b c d e f q = absurd (true≢false (cc (eq-eqb (x .end) 0 q, e)))
+
+module _ (model : Model) (tables tape tally trace : List ℕ) (budget room : ℕ) where
+  -- no turn
+  pub onward-none : (x : Scalars) (left : ℕ) (w : List ℕ) → Onward model tables tape tally trace budget room x left w (x .turns) w
+  onward-none x left w =
+      let same : left - (x .turns - x .turns) ≡ left = omega arith in rw same
+
+  -- one more
+  pub stays-on : (y : Scalars) (work : List ℕ) (n block : ℕ) → 0 < n → endRows work y budget room ≡ 0 → backTo work ≡ block → y .moving ≡ rowCount → y .note ≡ 2
+      → allWait tables (model .values) tally (y .clock) block ≡ true
+      → turnsFrom model tables tape budget room n (traced (rowsOf y work tally) trace)
+      ≡ turnsFrom model tables tape budget room (n - 1) (traced (rowsOf (putTurns (y .turns + 1) y) (stayed work) tally) trace)
+  unfolding counted
+  stays-on y work n block some none back nobody note all =
+      let low = turns-below work y budget room none in
+      let more : min (y .turns + 1) most32 ≡ y .turns + 1 = omega (arith, low) in
+      sym (turns-on model tables tape budget room y work tally trace n _ some (sym none) refl _ _ (rw (← more) (sym (stays model tables tape work tally trace y nobody note block all back))) refl)
+
+  -- what came of them, from where they began
+  pub onward-to : (x y : Scalars) (left rest : ℕ) (w w′ : List ℕ) → y ≡ putTurns (y .turns) x → y .turns + rest ≡ x .turns + left → rest ≤ left
+      → turnsFrom model tables tape budget room left (traced (rowsOf x w tally) trace) ≡ turnsFrom model tables tape budget room rest (traced (rowsOf y w′ tally) trace)
+      → Onward model tables tape tally trace budget room x left w (y .turns) w′
+  onward-to x y left rest w w′ e count few h =
+      let same : left - (y .turns - x .turns) ≡ rest = omega (arith, count) in rw (same, ← e) h
+
+-- the turns that are done
+pub done-between : {t t₀ rest left : ℕ} → t + rest ≡ t₀ + left → rest ≤ left → (t₀ ≤ t) × (t ≤ t₀ + left)
+done-between count few = (omega (arith, count), omega (arith, count))
+
+-- after them too what is left of the run is what was
+pub onward-on : (model : Model) (tables tape tally trace : List ℕ) (budget room : ℕ) (x : Scalars) (left : ℕ) (w : List ℕ) (t : ℕ) (w′ : List ℕ) (room′ : ℕ) (whole : Traced) → room′ ≡ room
+    → Onward model tables tape tally trace budget room′ x left w t w′ → turnsFrom model tables tape budget room left (traced (rowsOf x w tally) trace) ≡ whole
+    → turnsFrom model tables tape budget room (left - (t - x .turns)) (traced (rowsOf (putTurns t x) w′ tally) trace) ≡ whole
+onward-on model tables tape tally trace budget room x left w t w′ room′ whole e h rest = sym (rw e at h) ∙ rest
