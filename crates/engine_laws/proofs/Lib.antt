@@ -1,4 +1,5 @@
 pub mod EndLaws
+pub mod EndExamples
 pub mod StepLaws
 pub mod TurnsLaws
 pub mod Herding
