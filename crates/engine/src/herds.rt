@@ -10,11 +10,9 @@ use state::Scalars;
 use turn::all_wait;
 use turn::back_to;
 use turn::stay;
-ghost use Rattle.machine.specs.All.{_≡_, _+_, _≤_, true, List, ℕ};
-ghost use Rattle.constants.specs.declared.model.Model as M;
-ghost use Rattle.rows_laws.specs.All.{Room, rowCount};
-ghost use Rattle.turn_laws.specs.Staying.{allWait};
-ghost use Rattle.engine_laws.specs.Turns.{Onward};
+ghost use Rattle.machine.specs.All.{_+_, _≤_, List, ℕ};
+ghost use Rattle.rows_laws.specs.All.{Room};
+ghost use Rattle.engine_laws.specs.Turns.{Onward, WhereAllWait};
 
 // Their turns, at most `left`, to a block where everybody waits; answers how many turns are done then.
 fn stay_all(
@@ -26,7 +24,7 @@ fn stay_all(
     left: u32,
 ) -> u32
     requires { ⌜ Room (now work) ⌝ }
-    ensures { λ r. ⌜ ((model : M.Model) (tables tape tally trace : List ℕ) → x .moving ≡ rowCount → x .note ≡ 2 → allWait tables (model .values) tally (x .clock) block ≡ true → Onward model tables tape tally trace budget room x left (now (work .entry)) r (now (work .exit))) ⌝ }
+    ensures { λ r. ⌜ WhereAllWait block x (λ model tables tape tally trace. Onward model tables tape tally trace budget room x left (now (work .entry)) r (now (work .exit))) ⌝ }
     ensures least { λ r. ⌜ x .turns ≤ r ⌝ }
     ensures most { λ r. ⌜ r ≤ x .turns + left ⌝ }
 {

@@ -1,8 +1,9 @@
 -- The row machine: the turns of a run.
-use Rattle.machine.specs.All.{ℕ, _-_, _≡_, List, steps}
+use Rattle.machine.specs.All.{ℕ, _+_, _-_, _≤_, _≡_, true, List, length, steps}
 use Rattle.constants.specs.declared.model.Model.{Model}
 use Rattle.state.specs.{declared.scalars.Scalars.Scalars, All.putEnd, All.putTurns, All.rowsOf}
-use Rattle.turn_laws.specs.Turn.{Traced, traced, turn}
+use Rattle.rows_laws.specs.All.{rowCount}
+use Rattle.turn_laws.specs.{Turn.Traced, Turn.traced, Turn.turn, Staying.allWait}
 use Rattle.engine_laws.specs.{Ends.endRows, Steps.runSteps}
 
 unfoldable pub endOf : (budget room : ℕ) → Traced → ℕ
@@ -26,3 +27,9 @@ abbrev pub Onward : Model → (tables tape tally trace : List ℕ) → (budget r
 Onward model tables tape tally trace budget room x left w t w′ =
     turnsFrom model tables tape budget room left (traced (rowsOf x w tally) trace)
     ≡ turnsFrom model tables tape budget room (left - (t - x .turns)) (traced (rowsOf (putTurns t x) w′ tally) trace)
+
+-- for whatever model, tables, tape, tally and trace everybody waits by who comes to a block, after a turn of one that came back
+abbrev pub WhereAllWait : (block : ℕ) → Scalars → (Model → (tables tape tally trace : List ℕ) → Type 0) → Type 0
+WhereAllWait block x P =
+    (model : Model) (tables tape tally trace : List ℕ) → x .moving ≡ rowCount → x .note ≡ 2 → allWait tables (model .values) tally (x .clock) block ≡ true
+    → P model tables tape tally trace

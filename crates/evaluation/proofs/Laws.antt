@@ -73,19 +73,6 @@ module _ {m : BlockModel} {tape : List (List ℕ)} {tapeBytes tables lists : Lis
         term-law a _ (rw next at (g .after))
         (and-left (smallTerm a) true (small _ e)) (and-left (nestedTerm 0 a) true (nested _ e))
 
-    -- 9 WAITIF a, o, b
-    pub wait-law : (a : Term) (o : Relation) (b : Term) → getD (m .blocks) i (terminate 0) ≡ waitTerms a o b →
-        compareAt tables tally (length (m .values)) clock p (Layout.blockWidth * i + 1) ≡ compare (m .values) w (parametersOf p) a o b
-    unfolding nestedBlock blockForms
-    wait-law a o b e =
-        let block = waitTerms a o b in
-        let f = at-first tables (Layout.blockWidth * i) 9 _ (numbers block e) in
-        compare-law a o b [] (Layout.blockWidth * i + 1) (rw (append-nil (termNumbers b)) (f .after))
-        (and-left (smallTerm a) _ (small block e))
-        (and-left (smallTerm b) true (and-right (smallTerm a) _ (small block e)))
-        (and-left (nestedTerm 0 a) _ (nested block e))
-        (and-left (nestedTerm 0 b) true (and-right (nestedTerm 0 a) _ (nested block e)))
-
     -- 10 IF a, o, b, target
     pub if-law : (a : Term) (o : Relation) (b : Term) (target : ℕ) → getD (m .blocks) i (terminate 0) ≡ branch a o b target →
         compareAt tables tally (length (m .values)) clock p (Layout.blockWidth * i + 1) ≡ compare (m .values) w (parametersOf p) a o b

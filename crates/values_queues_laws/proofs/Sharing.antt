@@ -62,12 +62,6 @@ pub for-all-same : {tables : List ℕ} {values : ℕ} {tally : List ℕ} {clock 
 for-all-same {tables} {values} {tally} {clock} {seen} {at} {known} e h = rw e at h
 
 -- two sides as they are handed on
-pub not-related : {r : Bool} {n n′ : ℕ} {a a′ b b′ : ℤ} → r ≡ relatedBy n (toZ w32 (ofZ w32 a)) (toZ w32 (ofZ w32 b)) → n ≡ n′ → mag a < 2147483648 → a ≡ a′ → mag b < 2147483648 → b ≡ b′
-    → not r ≡ not (relatedBy n′ a′ b′)
-not-related {r} {n} {n′} {a} {a′} {b} {b′} e en sa ea sb eb =
-    let same : r ≡ relatedBy n′ a′ b′ = e ∙ rw (back a sa, back b sb, en, ea, eb) in ap not same
-
--- the same of a comparison that holds
 pub held-related : {r : Bool} {n n′ : ℕ} {a a′ b b′ : ℤ} → r ≡ relatedBy n (toZ w32 (ofZ w32 a)) (toZ w32 (ofZ w32 b)) → n ≡ n′ → mag a < 2147483648 → a ≡ a′ → mag b < 2147483648 → b ≡ b′
     → r ≡ relatedBy n′ a′ b′
 held-related {r} {n} {n′} {a} {a′} {b} {b′} e en sa ea sb eb = e ∙ rw (back a sa, back b sb, en, ea, eb)
