@@ -15,14 +15,7 @@ ghost use Rattle.rows_laws.specs.All.{Room};
 ghost use Rattle.engine_laws.specs.Turns.{Onward, WhereAllWait};
 
 // Their turns, at most `left`, to a block where everybody waits; answers how many turns are done then.
-fn stay_all(
-    work: &mut [u32],
-    budget: u64,
-    room: usize,
-    x: Scalars,
-    block: u32,
-    left: u32,
-) -> u32
+fn stay_all(work: &mut [u32], budget: u64, room: usize, x: Scalars, block: u32, left: u32) -> u32
     requires { ⌜ Room (now work) ⌝ }
     ensures { λ r. ⌜ WhereAllWait block x (λ model tables tape tally trace. Onward model tables tape tally trace budget room x left (now (work .entry)) r (now (work .exit))) ⌝ }
     ensures least { λ r. ⌜ x .turns ≤ r ⌝ }

@@ -1,5 +1,5 @@
 -- Turns of those who come back one after the other to a WAITIF where everybody waits again.
-use Rattle.machine.specs.All.{cases, ℕ, _+_, _-_, _<_, _≤_, _≡_, refl, sym, ap, _∙_, Bool, true, false, cond, _||_, min, List, arith, ltb, leb, eqb, eq-eqb, leb-false, true≢false, length, maxSerial, maxTurns}
+use Rattle.machine.specs.All.{ℕ, _+_, _-_, _<_, _≤_, _≡_, refl, sym, ap, _∙_, Bool, true, false, cond, _||_, min, List, arith, ltb, leb, eqb, eq-eqb, leb-false, true≢false, length, maxSerial, maxTurns}
 use Rattle.constants.specs.declared.model.Model.{Model}
 use Rattle.layout.specs.All.{most32}
 use Rattle.rows_laws.specs.All.{rowCount}

@@ -1,5 +1,5 @@
 -- The row machine: the turns of a run.
-use Rattle.machine.specs.All.{ℕ, _+_, _-_, _≤_, _≡_, true, List, length, steps}
+use Rattle.machine.specs.All.{ℕ, _-_, _≡_, true, List, steps}
 use Rattle.constants.specs.declared.model.Model.{Model}
 use Rattle.state.specs.{declared.scalars.Scalars.Scalars, All.putEnd, All.putTurns, All.rowsOf}
 use Rattle.rows_laws.specs.All.{rowCount}

@@ -1,5 +1,5 @@
 -- What the entry points give is what the machine says of the blocks that have terms: LET, WAITIF and IF. For callers.
-use Rattle.machine.specs.All.{ℕ, _+_, _*_, _<_, arith, true, List, [], _∷_, _++_, append-nil, _≡_, refl, ap, subst, T, length, getD, View, Relation, Term, constant, minusConstant, parameter, clockTerm, entriesOf, contentOf, unitsInUse, unitsFree, facilityInUse, value, comparison, bracket, evaluate, compare, Block, waitTerms, branch, assign, terminate, BlockModel}
+use Rattle.machine.specs.All.{ℕ, _+_, _*_, _<_, arith, true, List, _∷_, _++_, _≡_, refl, ap, subst, T, length, getD, View, Relation, Term, constant, minusConstant, parameter, clockTerm, entriesOf, contentOf, unitsInUse, unitsFree, facilityInUse, value, comparison, bracket, evaluate, compare, Block, branch, assign, terminate, BlockModel}
 use Rattle.layout.specs.All.{blockForms, relationNumber, termNumbers, blockNumbers, At, smallTerm, smallBlock, Represents}
 use Rattle.layout.specs.Layout as Layout
 use Rattle.evaluation.specs.{Worth, termAt, compareAt, nestedTerm, nestedBlock, parametersOf}

@@ -1,5 +1,5 @@
 -- The names of these definitions that other crates use, passed on so that a file there has one line for them.
-pub use Rattle.rows_laws.specs.Layout.{rel, fel, rowCount, serialEnd, wsl, head, free, place, numberField, nextField, familyField, gatherers, standingField, serialField, holderCell, interrupted, nowhere, listCount, wels, links, link, tail, tails, dataFields, slots, fieldAt, slot, heads, hint, hints, wordEnd, parameterField, Room, fieldCount, priorityEnd}
+pub use Rattle.rows_laws.specs.Layout.{rel, fel, rowCount, serialEnd, wsl, head, free, place, numberField, nextField, familyField, gatherers, standingField, serialField, interrupted, nowhere, listCount, wels, links, link, tail, tails, dataFields, slots, fieldAt, slot, holderCell, heads, hint, hints, wordEnd, parameterField, Room, fieldCount, priorityEnd}
 pub use Rattle.rows_laws.specs.Cells.{read, write, setReturning, load, priorityOf}
 unfoldable pub use Rattle.rows_laws.specs.Cells.{timeOf, setTime, store}
 unfoldable pub use Rattle.rows_laws.specs.Order.{outranks, sooner, soonerAt}

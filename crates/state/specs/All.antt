@@ -6,4 +6,4 @@ pub use Rattle.state.specs.Bare.{Note, enteredNote, waitsNote, noNote, e
 unfoldable pub use Rattle.state.specs.Bare.{logged, countEntry, noteAs, bare, bareAnswer, waiting}
 pub use Rattle.state.specs.ScalarSetters.{putClock, putSerial, putMoving, putTurns, putEnd, putMade, putNote, putCounter, putEnded, putUsed}
 pub use Rattle.state.specs.Stands.{Done, Rows, listsOf, Listing, Tallying, Counting, Stands, Moving, Seen, Serving, Queueing, Sampling, Tallied, gathererRow, Listed, interruptedRow, Numbers, Counted}
-unfoldable pub use Rattle.state.specs.Stands.{rowsOf, listsIn, atBlock, ofResidue, noteOf, heldIn}
+unfoldable pub use Rattle.state.specs.Stands.{rowsOf, listsIn, ofResidue, noteOf, atBlock, heldIn}

@@ -4,13 +4,13 @@ use Rattle.constants.specs.declared.model.Model.{Model}
 use Rattle.layout.specs.Layout as Layout
 use Rattle.rows_laws.specs.All.{rel, wsl, place, tail, head, fieldAt, load, store, read, first, takeFirst, put, endAt, removeRow, removeAt, lineUp}
 use Rattle.rows_laws.proofs.Store.{load-other}
-use Rattle.state.specs.{declared.scalars.Scalars.Scalars, All.putMoving, All.putNote, All.Rows, All.rowsOf}
+use Rattle.state.specs.{declared.scalars.Scalars.Scalars, All.putMoving, All.putNote, All.rowsOf}
 use Rattle.moves.specs.Motion.{waitOn, putBack, moved}
 use Rattle.clock.specs.Taking.{readyScalars, takeReady, counted, take}
-use Rattle.values_queues_laws.specs.Waits.{heldAt, heldByAll, waitTermsRows}
+use Rattle.values_queues_laws.specs.Waits.{heldByAll, waitTermsRows}
 use Rattle.values_queues_laws.proofs.Sharing.{held-for}
 use Rattle.blocks.specs.Execute.{later, byKind, execute}
-use Rattle.turn_laws.specs.{noted, noteRecord, Traced, traced, withNote, act, actMoving, clockAsks, nextOf, asks, schemeIf, withScheme, afterTaking, turn, backTo, allWait, stayed}
+use Rattle.turn_laws.specs.{noted, noteRecord, traced, withNote, act, actMoving, clockAsks, nextOf, asks, schemeIf, withScheme, afterTaking, turn, backTo, allWait, stayed}
 
 -- ---- A row that leaves a list keeps its data
 

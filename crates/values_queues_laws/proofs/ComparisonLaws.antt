@@ -17,11 +17,7 @@ use Rattle.moves.specs.Motion.{withTally, goTo, goOn, waitOn}
 use Rattle.moves.proofs.BeforeLaws.{inside, next-low, serial-low, proper-block, operand}
 use Rattle.moves.proofs.MotionLaws.{go-to-done, go-on-done, puts-wsl, wait-on-done}
 use Rattle.values_queues_laws.specs.{parametersAt, holdsAt, worthAt, setParameter, heldAt, waitTermsRows, branchRows, assignRows, gotoRows}
-use Rattle.values_queues_laws.proofs as our
-use our.Sees.{sane-low, sees}
-use our.Sharing.{sides-law}
-use our.Parameters.{signed-toZ, parameters-are, evaluate-small}
-use our.Operands.{assign-term, branch-target}
+use Rattle.values_queues_laws.proofs.{Sees.sane-low, Sees.sees, Sharing.sides-law, Parameters.signed-toZ, Parameters.parameters-are, Parameters.evaluate-small, Operands.assign-term, Operands.branch-target}
 
 module _ {m : BlockModel} {tape : List (List ℕ)} {tapeBytes tables lists w tally : List ℕ} {x : Scalars} {t : Transaction} {s : State} {block : Block}
     (h : Before m tape tapeBytes tables lists w tally x t s block) where

@@ -7,7 +7,8 @@ use mir.Val.{toZ, ofZ}
 use Rattle.layout.specs.All.{blockForms, relationNumber, termNumbers, At, smallTerm, Represents}
 use Rattle.layout.specs.Layout as Layout
 use Rattle.rows_laws.specs.All.{read, transactionAt}
-use Rattle.evaluation.specs.{Evaluation.simpleTerm, Evaluation.termAt, Evaluation.relatedBy, Evaluation.compareAt, Nested.nestedTerm, Nested.nestedBlock, Nested.Nested, Sees.Sees}
+use Rattle.evaluation.specs.Evaluation.{simpleTerm, termAt, relatedBy, compareAt}
+use Rattle.evaluation.specs.{Nested.nestedTerm, Nested.nestedBlock, Nested.Nested, Sees.Sees}
 use Rattle.evaluation.proofs.{Found.at-first, Found.at-front, Found.at-back, Signs.low32-lt, Signs.back, Signs.signed-low, Steps.term-simple, Terms.and-left, Terms.and-right, Terms.related-by, Values.worths-length, Laws.two-numbers, Laws.term-law}
 use Rattle.values_queues_laws.specs.{parametersAt, blockOf, leavesFrom, leaves, leavesBy, namesOwn, noParameters, sideAt, sideBy, ForAll, heldAt, heldByAll}
 use Rattle.values_queues_laws.proofs.{Operands.numbers, Parameters.parameters-are}

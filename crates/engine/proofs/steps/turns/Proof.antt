@@ -4,8 +4,7 @@ use Rattle.machine.specs.All.{_-_, _≡_, refl, sym, ap, _∙_, arith, length, 
 use Rattle.state.specs.All.{rowsOf}
 use Rattle.turn_laws.specs.Turn.{traced}
 use Rattle.engine_laws.specs.{Ends.endRows, Turns.turnsFrom}
-use Rattle.engine_laws.proofs.Herding.{onward-on}
-use Rattle.engine_laws.proofs.TurnsLaws.{turns-none, turns-on, turns-off}
+use Rattle.engine_laws.proofs.{Herding.onward-on, TurnsLaws.turns-none, TurnsLaws.turns-on, TurnsLaws.turns-off}
 use Rattle.engine.proofs.steps.turns as f
 
 abbrev Inv-loop : f.Tie.InvT-loop
