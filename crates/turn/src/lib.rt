@@ -9,4 +9,8 @@ pub use note::count_record;
 pub use note::note_record;
 pub use staying::all_wait;
 pub use staying::back_to;
+pub use staying::lengthen;
+pub use staying::line;
+pub use staying::quiet;
+pub use staying::short;
 pub use staying::stay;

@@ -32,7 +32,7 @@ loop-again c =
     let herd = c .before .before .before .herd in
     let told = b .before .end-before .ensures ∙ ap (endRows (at .work) (at .y) (a .budget)) (at .inv .2) in
     let same = call .kept .1 .1 .1 .1 .1 .0 ∙ at .inv .2 in (
-      onward-on (a .model) (a .tables .now) (a .tape .now) _ _ (a .budget) _ (call .result) (at .left - 1) _ (herd .result) _ _ _ same (herd .ensures .0 (a .tape .now) _) (turns-on (a .model) (a .tables .now) (a .tape .now) (a .budget) _ (at .y) (at .work) _ _ (at .left) _ (omega arith) told (b .if1 .left) _ _ (call .ensures) (at .inv .0)),
+      onward-on (a .model) (a .tables .now) (a .tape .now) _ (a .budget) _ (call .result) (at .left - 1) _ _ (herd .result) _ _ _ _ same (herd .ensures .0 (a .tape .now) _) (turns-on (a .model) (a .tables .now) (a .tape .now) (a .budget) _ (at .y) (at .work) _ _ (at .left) _ (omega arith) told (b .if1 .left) _ _ (call .ensures) (at .inv .0)),
       omega (arith, herd .kept, call .kept .1 .1 .1 .0, at .inv .1),
       same,
     )
