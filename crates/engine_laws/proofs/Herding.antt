@@ -5,7 +5,8 @@ use Rattle.layout.specs.All.{most32}
 use Rattle.rows_laws.specs.All.{rowCount}
 use Rattle.state.specs.{declared.scalars.Scalars.Scalars, All.putTurns, All.rowsOf}
 use Rattle.clock.specs.Taking.{counted}
-use Rattle.turn_laws.specs.{Turn.Traced, Turn.traced, Turn.turn, Staying.backTo, Staying.quiet, Staying.allWait, Staying.stayed, Staying.short, Staying.lengthened, Staying.lined}
+use Rattle.turn_laws.specs.Turn.{Traced, traced, turn}
+use Rattle.turn_laws.specs.Staying.{backTo, quiet, allWait, stayed, short, lengthened, lined}
 use Rattle.turn_laws.proofs.Staying.{stays, queues}
 use Rattle.engine_laws.specs.{nobodyRows, wornRows, fullRows, limitRows, endRows, turnsFrom, Onward, WhereAllWait, WhereEnter}
 use Rattle.engine_laws.proofs.TurnsLaws.{turns-on}

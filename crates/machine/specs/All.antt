@@ -18,7 +18,7 @@ unfoldable pub use Rattle.machine.specs.Lists.{insert, those, upTo, repl
 pub use Rattle.machine.specs.Term.{always, whenTrue, Server, Queue, Sum, nothing, View, constant, value, plus, Relation, Term, minusConstant, parameter, clockTerm, entriesOf, contentOf, unitsInUse, unitsFree, facilityInUse, comparison, bracket, minus, oneIf, equal, unequal, less, atMost, greater, atLeast, Condition, free}
 unfoldable pub use Rattle.machine.specs.Term.{idleServer, emptyQueue, signed, low32, wrap, term, worths, evaluate, compare, eqZ, related, queueAt, serverAt, sum, truth}
 pub use Rattle.machine.specs.Facts.{isGenerate, Facts}
-pub use Rattle.machine.specs.Block.{Block, generate, advance, terminate, waitServer, waitTerms, assign, priority, split, BlockModel, facility, storage, up, down, takes, frees, moves, counts, assemble, preempt, giveBack, branch, blockAt, Code, U, NU, E, NE, F, NF, enter, leave, seize, release, goto, arrive, depart, backAt, Share, Change}
+pub use Rattle.machine.specs.Block.{Block, generate, advance, terminate, waitServer, waitTerms, assign, priority, split, BlockModel, facility, storage, up, down, takes, frees, moves, counts, assemble, preempt, giveBack, Change, branch, blockAt, Code, U, NU, E, NE, F, NF, enter, leave, seize, release, goto, arrive, depart, backAt, Share}
 unfoldable pub use Rattle.machine.specs.Block.{facts, codeIndex, compared, welIndex, unconditional, insideGroup, shareUnits, shareServer, aboveOne, beginsGroup, status, shareHolder, arrivals, shareFacility}
 pub use Rattle.machine.specs.State.{State, Logged}
 pub use Rattle.machine.specs.Setters.{setRel, setSerial, withSerial, withReturning, setMoving, setTurns, setEnd, withNext, setMade, setEnded, setGatherers, withStamp, withPriority, setFel, setEntries, setQueues, setServers, setView, setSamples, setQl, setWel, setWsl, setInterrupted, withParameters, withUse, setClock, setCounter, setRecords, setWritten, withContent}

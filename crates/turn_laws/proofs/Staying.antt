@@ -1,5 +1,5 @@
 -- The turn of one that comes back and waits again: it leaves REL for its list, and nothing else changes but the turns and that list's length.
-use Rattle.machine.specs.All.{cases, ℕ, _+_, _*_, _-_, _%_, _<_, _≡_, refl, leb, lt-leb, sym, _∙_, Bool, true, false, cond, true≢false, List, arith, ltb-true, ltb, eqb, eqb-true, eq-eqb, le-ltb, getD}
+use Rattle.machine.specs.All.{cases, ℕ, _+_, _-_, _%_, _<_, _≡_, refl, leb, lt-leb, sym, _∙_, Bool, true, false, cond, true≢false, List, arith, ltb-true, ltb, eqb, eqb-true, eq-eqb, le-ltb, getD}
 use Rattle.constants.specs.declared.model.Model.{Model}
 use Rattle.layout.specs.Layout as Layout
 use Rattle.rows_laws.specs.All.{rel, wsl, place, tail, head, fieldAt, load, store, read, first, takeFirst, put, endAt, removeRow, removeAt, lineUp}

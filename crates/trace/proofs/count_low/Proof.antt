@@ -1,6 +1,6 @@
 -- `trace::count_low` meets its contract. The invariant of each of its loops: what was counted and what the bytes from `i` on give are
 -- together the count of all. The measure is what is left of the length.
-use Rattle.machine.specs.All.{ℕ, _+_, _-_, _≤_, zero-add, arith, List, _≡_, length, drop, needs, countLow}
+use Rattle.machine.specs.All.{_+_, _-_, _≤_, zero-add, arith, _≡_, length, drop, needs, countLow}
 use Rattle.trace.proofs as our
 use our.Counting.{counted, counted-all}
 use our.count_low as f
