@@ -5,19 +5,21 @@ use constants::Model;
 use constants::kinds::ENTER;
 use layout::TABLES;
 use layout::TALLY;
+use saturating::less32;
+use saturating::less64;
 use state::NO_RECORD;
 use state::NOBODY;
 use state::Scalars;
 use turn::all_wait;
 use turn::back_to;
+use turn::crowded;
 use turn::lengthen;
-use turn::line;
+use turn::line_all;
 use turn::quiet;
-use turn::short;
 use turn::stay;
-ghost use Rattle.machine.specs.All.{_+_, _≤_, List, ℕ};
+ghost use Rattle.machine.specs.All.{_≡_, _+_, _≤_, min, List, ℕ};
 ghost use Rattle.rows_laws.specs.All.{Room};
-ghost use Rattle.engine_laws.specs.Turns.{Onward, WhereAllWait, WhereEnter};
+ghost use Rattle.engine_laws.specs.Turns.{turnsLeft, Onward, WhereAllWait, WhereEnter};
 
 // Their turns, at most `left`, to a block where everybody waits; answers how many turns are done then.
 fn stay_all(work: &mut [u32], budget: u64, room: usize, x: Scalars, block: u32, left: u32) -> u32
@@ -42,7 +44,28 @@ fn stay_all(work: &mut [u32], budget: u64, room: usize, x: Scalars, block: u32, 
     y.turns
 }
 
-// The same to an ENTER, each as long as its units are not free.
+fn least(a: u32, b: u32) -> u32
+    ensures { λ r. ⌜ r ≡ min a b ⌝ }
+{
+    if a < b {
+        return a;
+    }
+    b
+}
+
+// How many more turns there may be.
+fn turns_left(turns: u32, budget: u64, left: u32) -> u32
+    ensures { λ r. ⌜ r ≡ turnsLeft turns budget left ⌝ }
+{
+    let most = least(left, less32(Model::MAX_TURNS, turns));
+    let bought = less64(budget, turns as u64);
+    if bought < most as u64 {
+        return bought as u32;
+    }
+    most
+}
+
+// The same to an ENTER, if fewer units are free than it takes. They go back as they stand on REL, with one walk along their links.
 fn queue_all(
     tables: &[u32; TABLES],
     work: &mut [u32],
@@ -58,24 +81,19 @@ fn queue_all(
     ensures least { λ r. ⌜ x .turns ≤ r ⌝ }
     ensures most { λ r. ⌜ r ≤ x .turns + left ⌝ }
 {
-    let mut z = x;
-    let mut rest = left;
-    while 0 < rest {
-        if end_before(work, z, budget, room) != 0 {
-            return z.turns;
-        }
-        if back_to(work) != block {
-            return z.turns;
-        }
-        if !short(tables, tally, block) {
-            return z.turns;
-        }
-        lengthen(tables, tally, z.clock, block);
-        line(tables, work, block);
-        z.turns += 1;
-        rest -= 1;
+    if end_before(work, x, budget, room) != 0 {
+        return x.turns;
     }
-    z.turns
+    if !crowded(tables, tally, block) {
+        return x.turns;
+    }
+    let most = turns_left(x.turns, budget, left);
+    let n = line_all(tables, work, block, most);
+    if n == 0 {
+        return x.turns;
+    }
+    lengthen(tables, tally, block, n);
+    x.turns + n
 }
 
 // The turns of a herd, if the last turn was of one that came back to wait; answers how many turns are done then.

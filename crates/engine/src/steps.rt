@@ -4,6 +4,7 @@ use crate::herds::herd;
 use constants::Model;
 use layout::TABLES;
 use layout::TALLY;
+use state::NO_RECORD;
 use state::Scalars;
 use turn::turn;
 ghost use Rattle.machine.specs.All.{_≡_, _≤_, length, maxBlocks, maxFacilities};
@@ -33,13 +34,20 @@ pub fn turns(
     let mut y = x;
     let mut left = STEPS;
     while 0 < left {
-        let e = end_before(work, y, budget, trace.len());
-        if e != 0 {
-            y.end = e;
-            return y;
+        let mut plain = true;
+        while plain {
+            if left == 0 {
+                return y;
+            }
+            let e = end_before(work, y, budget, trace.len());
+            if e != 0 {
+                y.end = e;
+                return y;
+            }
+            y = turn(model, tables, tape, work, tally, trace, y);
+            left -= 1;
+            plain = y.note != NO_RECORD;
         }
-        y = turn(model, tables, tape, work, tally, trace, y);
-        left -= 1;
         let done = herd(model, tables, budget, work, tally, trace.len(), y, left);
         left -= done - y.turns;
         y.turns = done;

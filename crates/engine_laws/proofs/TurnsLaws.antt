@@ -48,6 +48,13 @@ module _ (model : Model) (tables tape : List ℕ) (budget room : ℕ) (x : Scala
     turns-on z there whole step rest =
         cc (step, turn-of, next, steps-on (endOf budget room) (turnRows model tables tape) closeRows (n - 1) here (end-of ∙ sym told ∙ z), rest)
 
+-- ---- Some turns, then the rest, in as much room
+
+pub turns-joined : (model : Model) (tables tape : List ℕ) (budget room room′ n : ℕ) (a : Traced) (n′ : ℕ) (a′ whole : Traced) → room ≡ room′
+    → turnsFrom model tables tape budget room n a ≡ turnsFrom model tables tape budget room n′ a′ → turnsFrom model tables tape budget room′ n′ a′ ≡ whole
+    → turnsFrom model tables tape budget room′ n a ≡ whole
+turns-joined model tables tape budget room room′ n a n′ a′ whole e h rest = (rw e at h) ∙ rest
+
 -- ---- From the start on
 
 pub turns-begun : (model : Model) (tables tape : List ℕ) (budget room : ℕ) (x : Scalars) (work tally trace : List ℕ) (r : Rows) (there : Traced)

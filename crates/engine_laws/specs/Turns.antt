@@ -1,5 +1,5 @@
 -- The row machine: the turns of a run.
-use Rattle.machine.specs.All.{ℕ, _-_, _≡_, true, List, steps}
+use Rattle.machine.specs.All.{ℕ, _-_, _≡_, true, min, List, maxTurns, steps}
 use Rattle.constants.specs.declared.model.Model.{Model}
 use Rattle.state.specs.{declared.scalars.Scalars.Scalars, All.putEnd, All.putTurns, All.rowsOf}
 use Rattle.rows_laws.specs.All.{rowCount}
@@ -21,6 +21,10 @@ turnsFrom model tables tape budget room n a = runSteps (endOf budget room) (turn
 -- all turns of a run, from its start
 abbrev pub turnsRows : Model → (tables tape : List ℕ) → (budget room : ℕ) → Traced → Traced
 turnsRows model tables tape budget room a = turnsFrom model tables tape budget room steps a
+
+-- after so many turns, how many steps may follow before the most turns, those of the budget or the steps left are done
+unfoldable pub turnsLeft : (turns budget left : ℕ) → ℕ
+turnsLeft turns budget left = min (min left (maxTurns - turns)) (budget - turns)
 
 -- so many steps from scalars x, rows w and a tally are what is left of them from other rows and another tally, after turns that changed no
 -- scalar but their number, t then

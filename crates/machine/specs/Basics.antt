@@ -11,7 +11,7 @@ unfoldable pub use native.Mathlib.Decide.{ℕ-discrete}
 pub use native.Mathlib.Numerals.{add-one}
 pub use lib.ListN.{length, getD, drop, set, take, replicate, length-map, length-set, List·getD-eq-default, drop-of-length-le, length-drop, take-append-drop, length-append, length-reverse, length-replicate, getD-replicate, length-take, List·getD-append, List·getD-map}
 pub use lib.Dec.{ltb, leb, eqb, T, lit<, lit≤, leb·zero, leb→le, ltb→lt, T-not, eqb→eq}
-pub use lib.Seq.{getD-set-same, getD-set-other, drop-cons, drop-append-seam, drop-drop, length-take-le, getD-drop, sets, set-comm, length-sets, sets-eq, take-append-seam, drop-length, ext-getD, getD-take, getD-append-add, take-at, take-suc, take-length, getD-at, drop-append-le, drop-append-add, set-out, set-getD, map-set-same, drop-set-lt, getD-append-seam, take-add, drop-at, take-all}
+pub use lib.Seq.{getD-set-same, getD-set-other, drop-cons, drop-append-seam, drop-drop, length-take-le, getD-drop, sets, set-comm, length-sets, sets-eq, take-append-seam, drop-length, ext-getD, getD-take, getD-append-add, take-at, take-suc, take-length, getD-at, drop-append-le, drop-append-add, set-out, set-getD, map-set-same, drop-set-lt, set-set, getD-append-seam, take-add, drop-at, take-all}
 pub use borrow.Author.Tests.{ne-eqb, lt-ltb, le-ltb, eqb-true, eqb-false, eq-eqb, ltb-true, ltb-false, le-leb, lt-leb, leb-true, leb-false, not-true, not-false}
 pub use borrow.Author.Needs.{needs}
 

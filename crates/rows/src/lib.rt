@@ -10,9 +10,15 @@ pub mod lists;
 pub mod make;
 pub mod order;
 pub mod wake;
+pub mod whole;
 
 // The layout of the work buffer (specs/Layout of rows_laws): FIELDS of ROWS numbers each, FIELD_WIDTH apart. A number that is not below ROWS is no row.
 pub const ROWS: u32 = 1_024;
+
+// The rows are gone through in PARTS of PART_ROWS (whole).
+pub const PART_ROWS: u32 = 256;
+
+pub const PARTS: u32 = 4;
 
 pub const FIELDS: u32 = 14;
 

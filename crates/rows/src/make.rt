@@ -110,7 +110,7 @@ pub fn copy(w: &mut [u32], j: u32, k: u32, number: u32, block: u32)
     copy_parameters(w, j, k);
 }
 
-fn empty_list(w: &mut [u32], p: u32)
+pub fn empty_list(w: &mut [u32], p: u32)
     requires { ⌜ Room (now w) ⌝ }
     requires { ⌜ p < listCount ⌝ }
     ensures { λ _. ⌜ now (w .exit) ≡ emptyList (now (w .entry)) p ⌝ }

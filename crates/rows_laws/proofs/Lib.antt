@@ -39,7 +39,10 @@ pub mod Making
 pub mod Newborn
 pub mod Starting
 pub mod Population
+pub mod Readied
 pub mod Laws
+pub mod Joining
+pub mod Whole
 pub mod Found
 pub mod Kin
 pub mod Interrupting

@@ -1,5 +1,5 @@
 -- What a store leaves of the buffer: length, other numbers, and everything past the 16,384th.
-use Rattle.machine.specs.All.{ℕ, _%_, _≤_, _<_, _≡_, refl, ap, _∙_, _≢_, Bool, true, false, cond, List, arith, lt-ltb, ltb-true, ltb, length, set, drop, length-set, getD-set-same, getD-set-other, set-getD, drop-set-lt}
+use Rattle.machine.specs.All.{ℕ, _%_, _≤_, _<_, _≡_, refl, ap, _∙_, _≢_, Bool, true, false, cond, List, arith, lt-ltb, ltb-true, ltb, length, set, drop, length-set, getD-set-same, getD-set-other, set-comm, set-getD, drop-set-lt, set-set}
 use Rattle.rows_laws.specs.All.{standingField, fieldAt, load, store, read, setReturning}
 
 pub length-store : (w : List ℕ) (i x : ℕ) → length (store w i x) ≡ length w
@@ -29,6 +29,25 @@ store-kept w i = go (ltb i 16384)
   where
     go : (b : Bool) → cond b (set w i (load w i)) w ≡ w
     go true = set-getD w i 0
+    go false = refl
+
+-- two stores of different numbers, in whatever order; of one number, the later one
+pub store-swap : (w : List ℕ) (i x j y : ℕ) → i ≢ j → store (store w i x) j y ≡ store (store w j y) i x
+unfolding store
+store-swap w i x j y d = go (ltb i 16384) (ltb j 16384)
+  where
+    go : (a b : Bool) → cond b (set (cond a (set w i x) w) j y) (cond a (set w i x) w) ≡ cond a (set (cond b (set w j y) w) i x) (cond b (set w j y) w)
+    go true true = set-comm w i j x y d
+    go true false = refl
+    go false true = refl
+    go false false = refl
+
+pub store-again : (w : List ℕ) (i x y : ℕ) → store (store w i x) i y ≡ store w i y
+unfolding store
+store-again w i x y = go (ltb i 16384)
+  where
+    go : (b : Bool) → cond b (set (cond b (set w i x) w) i y) (cond b (set w i x) w) ≡ cond b (set w i y) w
+    go true = set-set w i x y
     go false = refl
 
 -- a mark that stands may be set

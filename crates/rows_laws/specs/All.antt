@@ -1,5 +1,5 @@
 -- The names of these definitions that other crates use, passed on so that a file there has one line for them.
-pub use Rattle.rows_laws.specs.Layout.{rel, fel, rowCount, serialEnd, wsl, head, free, place, numberField, nextField, familyField, gatherers, standingField, serialField, interrupted, nowhere, listCount, wels, links, link, tail, tails, dataFields, slots, fieldAt, slot, holderCell, heads, hint, hints, wordEnd, parameterField, Room, fieldCount, priorityEnd}
+pub use Rattle.rows_laws.specs.Layout.{rel, fel, rowCount, serialEnd, wsl, head, free, place, numberField, nextField, familyField, gatherers, standingField, serialField, interrupted, nowhere, listCount, wels, links, link, tail, tails, dataFields, slots, fieldAt, slot, holderCell, heads, hint, hints, wordEnd, Room, parameterField, fieldCount, priorityEnd}
 pub use Rattle.rows_laws.specs.Cells.{read, write, setReturning, load, priorityOf}
 unfoldable pub use Rattle.rows_laws.specs.Cells.{timeOf, setTime, store}
 unfoldable pub use Rattle.rows_laws.specs.Order.{outranks, sooner, soonerAt}
@@ -15,6 +15,8 @@ pub use Rattle.rows_laws.specs.Clock.{Arrived}
 unfoldable pub use Rattle.rows_laws.specs.Clock.{arrive, arrivals, arrived, arriveFirst, arriveRow, isDue}
 pub use Rattle.rows_laws.specs.Make.{emptyFel}
 unfoldable pub use Rattle.rows_laws.specs.Make.{newbornAt, copyAt, freeRow, clearParameters, copyParameters, describe, emptyList, emptyLists, freeRows, initial, looseRows}
+pub use Rattle.rows_laws.specs.Whole.{partRows, partCount}
+unfoldable pub use Rattle.rows_laws.specs.Whole.{joinAt, endReady, joinReady, oneIf, readyRows, readyCount, readyParts, readyPlace, readyRow, readyStanding, wakeWhole}
 pub use Rattle.rows_laws.specs.Holds.{update, same, Holds, Listed, Heaped, parameterAt}
 unfoldable pub use Rattle.rows_laws.specs.Holds.{eventAt, transactionAt, ending, occurs, Chain}
 pub use Rattle.rows_laws.specs.Ordered.{Strict, Ordered}

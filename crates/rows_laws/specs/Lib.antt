@@ -7,6 +7,7 @@ pub mod Future
 pub mod Wake
 pub mod Clock
 pub mod Make
+pub mod Whole
 pub mod Holds
 pub mod Ordered
 pub mod Living

@@ -8,13 +8,14 @@ use crate::units::server_at;
 use crate::waking::check_wels;
 use crate::waking::leave_with;
 use crate::waking::wake_first_ql;
-use crate::waking::wake_ql;
+use crate::waking::wake_some;
 use constants::ends::NOT_HOLDER;
 use constants::ends::NOT_IN_USE;
 use layout::EDITION;
 use layout::FIRST;
 use layout::QL_LENGTH;
 use layout::SECOND;
+use layout::count;
 use layout::number;
 use layout::set_count;
 use moves::row_goes_on;
@@ -104,8 +105,9 @@ fn free_some(
     change_use(tally, v, clock, units, 0, 0);
     let edition = number(tables, EDITION);
     let left = leave_with(edition, less64(all, units), b);
-    let stay = wake_ql(tables, work, v, edition, left);
-    set_count(tally, QL_LENGTH + (v as usize), stay);
+    let at = QL_LENGTH + (v as usize);
+    let stay = wake_some(tables, work, v, edition, left, count(tally, at));
+    set_count(tally, at, stay);
     enter_freed(work, k, v, units, all);
 }
 

@@ -1,21 +1,24 @@
 -- 5 RELEASE and 7 LEAVE do to the rows what the machine does to its state, the question asked first.
-use Rattle.machine.specs.All.{ℕ, _*_, _-_, _%_, _≤_, _≡_, refl, ap, _∙_, Bool, true, false, cond, not, List, [], _∷_, none, arith, lt-ltb, le-ltb, leb-true, leb-false, ltb, leb, eqb, Transaction, bit, Server, free, storage, shareServer, shareUnits, Block, release, leave, BlockModel, blockAt, State, setMoving, qlOf, Parted, firstOf, wakeQl, unitsOf, unless, askHolder, question, partFor, wakeFor, Each}
+use Rattle.machine.specs.All.{ℕ, _+_, _*_, _-_, _%_, _≤_, _<_, _≡_, refl, sym, ap, _∙_, Bool, true, false, cond, not, List, [], _∷_, none, arith, lt-ltb, le-ltb, le-leb, eq-eqb, leb-true, leb-false, ltb, leb, eqb, getD, set, Transaction, precedes, bit, Server, free, storage, shareServer, shareUnits, Block, release, leave, BlockModel, blockAt, State, setMoving, qlOf, Parted, firstOf, wakeQl, unitsOf, unless, askHolder, question, partFor, wakeFor, Each}
 use Rattle.machine.specs.Term
 use Rattle.machine.specs.Moves as Moves
 use Rattle.machine.specs.Execute as Execute
-use Rattle.machine.proofs.{decoding.Proper.Proper, decoding.Proper.servers, runs.Placed.Placed, runs.Shape.each-getD}
+use Rattle.machine.proofs.{decoding.Proper.Proper, decoding.Proper.servers, runs.Placed.Placed, runs.Shape.each-getD, nobody_able.Waiting.AtServer}
 use Rattle.machine.proofs.nobody_able.QueueRemove.{walk, walk-same, within, leftAfter, leave-walks, some-units}
 use Rattle.layout.specs.All.{blockForms, Represents}
-use Rattle.rows_laws.specs.All.{transactionAt}
+use Rattle.rows_laws.specs.All.{head, wakeWalk, wakeWhole, transactionAt}
+use Rattle.rows_laws.proofs.Ordering.{sorted-of}
 use Rattle.state.specs.declared.scalars.Scalars.{Scalars}
 use Rattle.state.specs.All.{behind, updateServer, rowsOf, Done, entering, bare, bareAnswer}
+use Rattle.state.proofs.WakingLaws.{everybody}
 use Rattle.moves.proofs.{Before.placeOf, Before.bareBlock, Before.Before, MotionLaws.number-read}
 use Rattle.moves.proofs.BeforeLaws.{next-low, proper-block, operand, stop-done, asked}
-use Rattle.moves.specs.Motion.{stopped}
-use Rattle.servers_laws.specs.{setUse, unitsAt, memberUnits, leaveWith, takenOff, leftBehind, enterFreed, freeOne, freeSome, askRelease, releaseRows, leaveRows}
+use Rattle.moves.specs.Motion.{withTally, goOn, stopped}
+use Rattle.servers_laws.specs.{setUse, checkWels, unitsAt, memberUnits, memberFits, memberLeft, steps, wakeStays, leaveWith, takenOff, leftBehind, atOnce, wokenRows, wokenLength, enterFreed, freeOne, freeSome, askRelease, releaseRows, leaveRows}
 use Rattle.servers_laws.proofs as our
+use our.AtOnce.{AtOnce, at-once, walk-everybody, member-fits}
 use our.Named.{units-of, named}
-use our.Ready.{Ready, wakeQl-same, update-ready, update-current, set-ready, set-current, first-ready, passed-ready, ready-done}
+use our.Ready.{Ready, wakeQl-same, update-ready, update-current, set-ready, set-current, first-ready, whole-ready, passed-ready, ready-done}
 use our.Standing.{high, units-are, holder-is, preempted-is, capacity-is, ready}
 
 -- ---- The units of the block before which a transaction stands, as the tables have them
@@ -96,14 +99,53 @@ module _ {m : BlockModel} {tape : List (List ℕ)} {tapeBytes tables lists w tal
           free-units : server .capacity - units ≡ free (Term.serverAt (s₁ .view) v)
           free-units = omega (arith, freed .held, freed .holds)
 
-      some-done : Done tapeBytes (freeSome tables w tally x (v - 1) units n) (entering (Moves.goOn t (Execute.checkWels v (wakeFor m (storage v n) s₁))))
-      unfolding freeSome enterFreed wakeFor shareServer part
-      some-done =
-          rw (capacity-is h v low there, h .rep .edition, ← wakeQl-same part _ v s₁ same-part)
-          (ready-done
-          (passed-ready freed freed-now _ _ (within (needs tables)) (less _ (needs tables))
-          (λ k u j. cc (units-row tables u j)) (λ k u j. cc (units-row tables u j)) left)
-          (next-low h))
+      -- how many are on the QL
+      abbrev waiting : ℕ
+      waiting = getD (setUse current (v - 1) units 0 0) (768 + (v - 1)) 0
+
+      -- of a storage
+      module _ (storage-is : m .facilities < v) where
+        -- where all go at once, everybody fits
+        module _ (a : AtOnce tables w (v - 1) (m .edition) left) where
+          all-fit : (l : List Transaction) → Each (Placed m) l → Each (AtServer m v) l
+              → Each (λ t. (within (needs tables) left t ≡ true) × (less (m .edition) (needs tables) left t ≡ left)) l
+          unfolding leftBehind
+          all-fit [] p q = tt
+          all-fit (u ∷ l) p q = (
+            (
+              le-leb _ left (member-fits (h .proper) (h .rep) v left (high h v low there) storage-is (a .none) u (p .0 .0) (q .0)),
+              rw (eq-eqb (m .edition) 1 (a .first-edition)),
+            ),
+            all-fit l (p .1) (q .1),
+          )
+
+          whole-part : everybody (qlOf s₁ v) ≡ partFor m (storage v n) (s₁ .view) (qlOf s₁ v)
+          unfolding part Moves.setUse
+          whole-part =
+              sym (walk-everybody _ _ left (qlOf s₁ v) (all-fit (qlOf s₁ v) (each-getD _ (s .ql) _ [] (h .sane .placed .ql) tt) (h .sane .waits .queued .ql-stands v low))) ∙ same-part
+
+          whole-freed : Ready tapeBytes x t v units (server .capacity) (wakeWhole w (v - 1) waiting) (set (setUse current (v - 1) units 0 0) (768 + (v - 1)) 0) (wakeQl everybody v s₁)
+          whole-freed =
+              whole-ready freed freed-now (unfold Moves.setUse in sorted-of precedes _ (h .sane .waits .queued .ql-sorted (a .first-edition) (v - 1))) (a .some) (a .ahead)
+
+        some-done : Done tapeBytes (freeSome tables w tally x (v - 1) units n) (entering (Moves.goOn t (Execute.checkWels v (wakeFor m (storage v n) s₁))))
+        unfolding freeSome enterFreed wakeFor shareServer part wokenRows wokenLength
+        some-done = rw (capacity-is h v low there, h .rep .edition) (go _ refl)
+          where
+            go : (b : Bool) → atOnce tables w (v - 1) (m .edition) left waiting ≡ b
+                → Done tapeBytes
+                (withTally (goOn (checkWels (cond b (wakeWhole w (v - 1) waiting) (wakeWalk (memberFits tables) (memberLeft tables (m .edition)) steps left w (v - 1) (head (v - 1)))) (v - 1) units (server .capacity)) x)
+                (set (setUse current (v - 1) units 0 0) (768 + (v - 1)) (cond b 0 (wakeStays (memberFits tables) (memberLeft tables (m .edition)) steps left w (v - 1) (head (v - 1))))))
+                (entering (Moves.goOn t (Execute.checkWels v (wakeQl (partFor m (storage v n) (s₁ .view)) v s₁))))
+            go true e =
+                let a = at-once tables w (v - 1) (m .edition) left waiting e in
+                rw (← wakeQl-same everybody _ v s₁ (whole-part a)) (ready-done (whole-freed a) (next-low h))
+            go false e =
+                rw (← wakeQl-same part _ v s₁ same-part)
+                (ready-done
+                (passed-ready freed freed-now _ _ (within (needs tables)) (less _ (needs tables))
+                (λ k u j. cc (units-row tables u j)) (λ k u j. cc (units-row tables u j)) left)
+                (next-low h))
 
 module _ {m : BlockModel} {tape : List (List ℕ)} {tapeBytes tables lists w tally : List ℕ} {x : Scalars} {t : Transaction} {s : State} {v : ℕ} where
   -- the question of RELEASE
@@ -136,12 +178,12 @@ module _ {m : BlockModel} {tape : List (List ℕ)} {tapeBytes tables lists w tal
       let proper = proper-block h .0 in
       let low : 1 ≤ v = omega arith in
       rw (named tables _ v (high h v low (proper .1)) low (operand h 1 (omega arith)), operand h 2 (omega arith), units-are h v low (proper .1))
-      (go low (proper .1) _ refl)
+      (go low (proper .0) (proper .1) _ refl)
     where
       -- "no" is end 24
-      go : (low : 1 ≤ v) (there : v ≤ servers m) (held : Bool) → leb n (Term.serverAt (s .view) v .inUse) ≡ held
+      go : (low : 1 ≤ v) (is : m .facilities < v) (there : v ≤ servers m) (held : Bool) → leb n (Term.serverAt (s .view) v .inUse) ≡ held
           → Done tapeBytes (cond (ltb (Term.serverAt (s .view) v .inUse) n) (rowsOf (stopped x 24) w tally) (freeSome tables w tally x (v - 1) (Term.serverAt (s .view) v .inUse - n) n)) (bareAnswer (unless held 24 0) m (leave v n) t s)
-      go low there true e =
+      go low is there true e =
           rw (le-ltb _ n (leb-true n _ e))
-          (some-done h v low there _ n (h .is) (proper-block h .1 .0))
-      go low there false e = rw (lt-ltb _ n (leb-false n _ e)) (stop-done h 23)
+          (some-done h v low there _ n (h .is) (proper-block h .1 .0) is)
+      go low is there false e = rw (lt-ltb _ n (leb-false n _ e)) (stop-done h 23)

@@ -1,4 +1,5 @@
 pub mod AtClock
+pub mod AtOnce
 pub mod Begins
 pub mod Checking
 pub mod FreeingLaws

@@ -10,7 +10,7 @@ use Rattle.servers_laws.specs.{serverAt, inUse, capacity, statusOf, unit
 -- ---- Units that a block takes
 
 module _ (tables : List ℕ) (at : ℕ) where
-  kind-at : (kind : ℕ) (rest : List ℕ) → At tables at (kind ∷ rest) → getD tables at 0 ≡ kind
+  pub kind-at : (kind : ℕ) (rest : List ℕ) → At tables at (kind ∷ rest) → getD tables at 0 ≡ kind
   kind-at kind rest found =
       ap (λ (i : ℕ). getD tables i 0) (sym (omega arith)) ∙ at-number tables at (kind ∷ rest) 0 (omega arith) found
 

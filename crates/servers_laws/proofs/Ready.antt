@@ -1,15 +1,16 @@
 -- The rows stand for a state in which a server's units are known: what setting them, waking from the QL and the check of the
 -- WELs make of it.
-use Rattle.machine.specs.All.{ℕ, _+_, _-_, _≤_, _<_, _≡_, refl, sym, ap, _∙_, Bool, false, List, some, arith, length, getD, set, length-set, getD-set-same, Transaction, bit, Server, idleServer, Code, welIndex, State, withUse, qlOf, Parted, firstOf, wakeQl}
+use Rattle.machine.specs.All.{ℕ, _+_, _-_, _≤_, _<_, _≡_, refl, sym, ap, _∙_, Bool, true, false, List, [], some, arith, length, getD, set, length-set, getD-set-same, Transaction, precedes, bit, Server, idleServer, Code, welIndex, State, withUse, qlOf, Parted, firstOf, wakeQl}
 use Rattle.machine.specs.Term
 use Rattle.machine.proofs.{nobody_able.QueueRemove.walk, runs.Shape.wel-below}
 use Rattle.machine.specs.Moves as Moves
 use Rattle.machine.specs.Execute as Execute
-use Rattle.rows_laws.specs.All.{head, keepHolder, wakeFirst, wakeWalk, transactionAt}
+use Rattle.rows_laws.specs.All.{links, head, tail, rel, load, first, outranks, keepHolder, wakeFirst, wakeWalk, wakeWhole, transactionAt, Sorted}
 use Rattle.rows_laws.proofs.Interrupting.{keep-holder-wakes}
 use Rattle.state.specs.declared.scalars.Scalars.{Scalars}
 use Rattle.state.specs.All.{behind, updateServer, listsOf, Listing, Tallying, Counting, Done, entering}
-use Rattle.state.proofs.{ListsOf.lists-ql, StandsLaws.listing-steady, StatisticsLaws.server-tallying, StatisticsLaws.server-current, WakingLaws.wake-first-ql-listing, WakingLaws.wake-ql-listing}
+use Rattle.state.proofs.{ListsOf.lists-ql, StandsLaws.listing-steady, StatisticsLaws.server-tallying, StatisticsLaws.server-current}
+use Rattle.state.proofs.WakingLaws.{everybody, wake-first-ql-listing, wake-ql-listing, wake-whole-ql-listing}
 use Rattle.moves.specs.Motion.{withTally, goOn}
 use Rattle.servers_laws.specs.{setUse, checkWels, shorter, wakeStays}
 use Rattle.servers_laws.proofs as our
@@ -117,6 +118,16 @@ module _ {tapeBytes : List ℕ} {x : Scalars} {t : Transaction} {v units all : �
         as-ready (wake-first-ql-listing w _ _ s (h .listing) v low (h .ql))
         (first-tallying tapeBytes tally s (h .tallying) (h .samples) v (h .low) (h .high) now (h .ql)) (h .counting)
         refl refl (sym (length-set (s .ql) _ _)) refl
+
+    -- all of the QL are woken at once
+    pub whole-ready : Sorted precedes (qlOf s v) → first w (v - 1) < 1024
+        → (first w rel < 1024 → outranks w (load w (tail (v - 1)) - links) (first w rel) ≡ true)
+        → Ready tapeBytes x t v units all (wakeWhole w (v - 1) (getD tally (768 + (v - 1)) 0)) (set tally (768 + (v - 1)) 0) (wakeQl everybody v s)
+    unfolding wakeQl
+    whole-ready sorted there ahead =
+        as-ready (wake-whole-ql-listing w _ _ s (h .listing) v low (h .ql) sorted there ahead _ (h .tallying .servers .waiting _ low))
+        (length-tallying tapeBytes tally s (h .tallying) (h .samples) v (h .low) (h .high) now [] 0 refl (h .ql)) (h .counting)
+        refl refl (sym (length-set (s .ql) _ [])) refl
 
     -- those of the QL that a walk takes are woken
     module _ (test : ℕ → List ℕ → ℕ → Bool) (next : ℕ → List ℕ → ℕ → ℕ) (P : ℕ → Transaction → Bool) (N : ℕ → Transaction → ℕ)

@@ -1,11 +1,11 @@
 -- The row machine: 5 RELEASE and 7 LEAVE.
 use Rattle.machine.specs.All.{ℕ, _+_, _-_, cond, List, ltb, eqb, getD, set}
 use Rattle.layout.specs.Layout as Layout
-use Rattle.rows_laws.specs.All.{head, numberField, read, wakeFirst, wakeWalk}
+use Rattle.rows_laws.specs.All.{numberField, read, wakeFirst}
 use Rattle.state.specs.{declared.scalars.Scalars.Scalars, All.Rows, All.rowsOf}
 use Rattle.moves.specs.Motion.{Moved, withTally, goOn, stopped}
 use Rattle.servers_laws.specs.Units.{serverAt, inUse, holder, preempted, changeUse, capacity}
-use Rattle.servers_laws.specs.Waking.{checkWels, shorter, memberFits, leaveWith, memberLeft, steps, wakeStays}
+use Rattle.servers_laws.specs.Waking.{checkWels, shorter, leaveWith, wokenRows, wokenLength}
 
 -- it enters, and so many units are in use
 unfoldable pub enterFreed : List ℕ → Scalars → (v units all : ℕ) → Moved
@@ -20,8 +20,10 @@ unfoldable pub freeSome : List ℕ → List ℕ → List ℕ → Scalars → (v 
 freeSome tables w tally x v units b =
     let edition : ℕ = getD tables Layout.edition 0 in
     let left : ℕ = leaveWith edition (capacity tables v - units) b in
-    withTally (enterFreed (wakeWalk (memberFits tables) (memberLeft tables edition) steps left w v (head v)) x v units (capacity tables v))
-    (set (changeUse tally v (x .clock) units 0 0) (Layout.qlLength + v) (wakeStays (memberFits tables) (memberLeft tables edition) steps left w v (head v)))
+    let changed : List ℕ = changeUse tally v (x .clock) units 0 0 in
+    let n : ℕ = getD changed (Layout.qlLength + v) 0 in
+    withTally (enterFreed (wokenRows tables w v edition left n) x v units (capacity tables v))
+    (set changed (Layout.qlLength + v) (wokenLength tables w v edition left n))
 
 -- "Is f in use? 24."; document 02, item 6: "27 RELEASE by another than the holder, after 24"; item 11: "RELEASE of a
 -- preempted facility" 27

@@ -1,8 +1,8 @@
 -- The row machine: whom a change of a server's units wakes.
-use Rattle.machine.specs.All.{ℕ, zero, suc, _+_, _*_, _-_, _%_, Bool, cond, List, ltb, leb, eqb, getD, set, maxBlocks}
+use Rattle.machine.specs.All.{ℕ, zero, suc, _+_, _*_, _-_, _%_, Bool, true, false, cond, List, ltb, leb, eqb, getD, set, maxBlocks}
 use Rattle.layout.specs.Layout as Layout
-use Rattle.rows_laws.specs.All.{nextField, wels, rowCount, load, read, wakeFirst, passRows, passCell}
-use Rattle.servers_laws.specs.Units.{statusOf}
+use Rattle.rows_laws.specs.All.{nextField, wels, rel, head, tail, links, rowCount, load, read, first, outranks, wakeFirst, wakeWalk, wakeWhole, passRows, passCell}
+use Rattle.servers_laws.specs.Units.{statusOf, serverAt}
 
 -- ---- WELs
 
@@ -64,3 +64,44 @@ wakeStays test next (suc n) left w p c =
     cond (ltb (load w c) rowCount)
     (oneUnless (test left w (load w c))
     + wakeStays test next n (next left w (load w c)) (passRows (test left w (load w c)) w p c) p (passCell (test left w (load w c)) w c)) 0
+
+-- ---- A whole QL
+
+-- does the block at an index of the tables take more units of server v than are left?
+unfoldable pub tooMany : List ℕ → (at v left : ℕ) → Bool
+tooMany tables at v left =
+    cond (eqb (getD tables at 0) 6) (cond (eqb (serverAt tables (at + 1)) v) (ltb left (getD tables (at + 2) 0)) false) false
+
+-- does no block from block b on, of n, take more? Behind the last block the tables have 0
+unfoldable pub noneTooMany : ℕ → List ℕ → (b v left : ℕ) → Bool
+noneTooMany zero tables b v left = true
+noneTooMany (suc n) tables b v left =
+    cond (eqb (getD tables (Layout.blockWidth * b) 0) 0) true
+    (cond (tooMany tables (Layout.blockWidth * b) v left) false (noneTooMany n tables (b + 1) v left))
+
+-- does the last of list p stand before the first of REL, if there is one?
+unfoldable pub aheadOf : List ℕ → ℕ → Bool
+aheadOf w p =
+    cond (ltb (first w rel) rowCount)
+    (cond (ltb (load w (tail p) - links) rowCount) (outranks w (load w (tail p) - links) (first w rel)) false) true
+
+-- from so many on, a whole list is faster than one by one
+abbrev pub many : ℕ
+many = 64
+
+-- do all n of a QL go to REL at once, under edition 1, with so many units left?
+unfoldable pub atOnce : (tables w : List ℕ) (v edition left n : ℕ) → Bool
+atOnce tables w v edition left n =
+    cond (ltb n many) false
+    (cond (eqb edition 1) (cond (ltb (first w v) rowCount) (cond (aheadOf w v) (noneTooMany maxBlocks tables 0 v left) false) false) false)
+
+-- the rows when a LEAVE has woken those of a QL of n whose units fit what is left, and how many stay
+unfoldable pub wokenRows : (tables w : List ℕ) (v edition left n : ℕ) → List ℕ
+wokenRows tables w v edition left n =
+    cond (atOnce tables w v edition left n) (wakeWhole w v n)
+    (wakeWalk (memberFits tables) (memberLeft tables edition) steps left w v (head v))
+
+unfoldable pub wokenLength : (tables w : List ℕ) (v edition left n : ℕ) → ℕ
+wokenLength tables w v edition left n =
+    cond (atOnce tables w v edition left n) 0
+    (wakeStays (memberFits tables) (memberLeft tables edition) steps left w v (head v))

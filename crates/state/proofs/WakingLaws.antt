@@ -1,13 +1,18 @@
--- Waking as the relation of lists follows it: the first of a QL or a WEL, those of a QL that a walk takes, and all of the WSL that pass a test.
-use Rattle.machine.specs.All.{ℕ, _+_, _-_, _<_, _≡_, refl, Bool, List, Option, arith, length, set, Transaction, Code, welIndex, State, setQl, setWel, setWsl, setRel, firstOf, wakeQl, wakeFirstWel, wakeWsl}
+-- Waking as the relation of lists follows it: the first of a QL or a WEL, those of a QL that a walk takes, a whole QL at once, and all of the WSL that
+-- pass a test.
+use Rattle.machine.specs.All.{ℕ, _+_, _-_, _<_, _≡_, refl, Bool, true, List, [], Option, arith, length, getD, set, length-map, Transaction, precedes, Code, welIndex, State, Parted, setQl, setWel, setWsl, setRel, firstOf, wake, wakeQl, wakeFirstWel, wakeWsl}
 use Rattle.machine.proofs.nobody_able.QueueRemove.{walk}
-use Rattle.rows_laws.specs.All.{head, wsl, wakeFirst, wakeWalk, wakeAll, transactionAt, moved}
-use Rattle.rows_laws.proofs.Ordering.{shows-ext}
+use Rattle.rows_laws.specs.All.{links, head, tail, wsl, rel, load, first, outranks, wakeFirst, wakeWalk, wakeAll, wakeWhole, transactionAt, Sorted, moved}
+use Rattle.rows_laws.proofs.{Ordering.shows-ext, Readied.parts-readied, Whole.whole-wakes}
 use Rattle.rows_laws.proofs.Laws.{Wakes, wake-first-shows, wake-walk-shows, wake-all-shows}
 use Rattle.state.specs.All.{listsOf, Listing}
 use Rattle.state.proofs as our
 use our.ListsOf.{lists-ql, lists-wel, lists-wsl, lists-rel, lists-set-ql, lists-set-wel, lists-set-wsl, lists-moved}
 use our.StandsLaws.{listing-steady}
+
+-- everybody goes
+abbrev pub everybody : List Transaction → Parted
+everybody l = record { go = l; stay = [] }
 
 module _ (w : List ℕ) (k : ℕ) (o : Option Transaction) (s : State) (h : Listing w k o s) where
   -- list p and REL change
@@ -45,6 +50,24 @@ module _ (w : List ℕ) (k : ℕ) (o : Option Transaction) (s : State) (h : List
         (rw (lists-ql, lists-rel))
         (wake-walk-shows w _ _ (h .shows) test next P N agree follow left _ (omega arith))
         (ql-lists _ _) refl refl
+
+    -- all at once, in order before REL; n is how many they are
+    module _ (sorted : Sorted precedes (getD (s .ql) (v - 1) [])) (some : first w (v - 1) < 1024)
+        (ahead : first w rel < 1024 → outranks w (load w (tail (v - 1)) - links) (first w rel) ≡ true) (n : ℕ) (all : n ≡ length (getD (s .ql) (v - 1) [])) where
+      rows-many : n ≡ length (h .shows .rows (v - 1))
+      rows-many = cc (all, lists-ql s (v - 1) low, h .shows .shown .lists (v - 1) (omega arith), length-map (h .shows .rows (v - 1)) (transactionAt w))
+
+      whole-shows : Wakes w (wakeWhole w (v - 1) n) (moved (v - 1) [] (wake (listsOf s (v - 1)) (listsOf s rel)) (listsOf s)) (s .fel)
+      unfolding wakeWhole
+      whole-shows =
+          rw rows-many
+          (whole-wakes w _ _ (h .shows) (v - 1) (omega arith) (rw lists-ql sorted) some ahead _
+          (parts-readied w (h .shows .rows) (h .shows .shown .holds) (v - 1) (omega arith)))
+
+      pub wake-whole-ql-listing : Listing (wakeWhole w (v - 1) n) k o (wakeQl everybody v s)
+      unfolding wakeQl
+      wake-whole-ql-listing =
+          wakes-listing _ _ _ _ _ _ (wakeQl everybody v s) refl (rw (lists-ql, lists-rel)) whole-shows (ql-lists _ _) refl refl
 
   pub wake-first-wel-listing : (v : ℕ) (code : Code) → welIndex v code < 384 → welIndex v code < length (s .wel) → Listing (wakeFirst w (64 + welIndex v code)) k o (wakeFirstWel v code s)
   unfolding wakeFirstWel

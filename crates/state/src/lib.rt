@@ -12,6 +12,7 @@ pub use scalars::NOBODY;
 pub use scalars::Scalars;
 pub use scalars::WAITS;
 pub use scalars::by_fields;
+pub use statistics::behind;
 pub use statistics::longest_now;
 pub use statistics::sum_now;
 pub use statistics::update_queue;

@@ -36,7 +36,7 @@ fn ticks_since(tally: &[u64], i: usize, clock: u64) -> u64
 }
 
 // Has the clock moved since i was brought up to date?
-fn behind(tally: &[u64], i: usize) -> bool
+pub fn behind(tally: &[u64], i: usize) -> bool
     requires { ⌜ i < measuredCount ⌝ }
     ensures { λ r. ⌜ r ≡ behind (now (tally .entry)) i ⌝ }
 {

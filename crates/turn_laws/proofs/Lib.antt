@@ -5,3 +5,5 @@ pub mod TurnLaws
 pub mod Unwritten
 pub mod Runs
 pub mod Staying
+pub mod Lining
+pub mod Lengthening

@@ -43,7 +43,7 @@ pub asked-true : (a b : Bool) → cond a b false ≡ true → (a ≡ true) × (b
 asked-true true b e = (refl, e)
 asked-true false b e = absurd (true≢false (sym e))
 
-asked-false : (a b : Bool) → cond a false b ≡ true → (a ≡ false) × (b ≡ true)
+pub asked-false : (a b : Bool) → cond a false b ≡ true → (a ≡ false) × (b ≡ true)
 asked-false true b e = absurd (true≢false (sym e))
 asked-false false b e = (refl, e)
 

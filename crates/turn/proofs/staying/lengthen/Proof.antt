@@ -1,7 +1,6 @@
--- `lengthen` meets its contract: the statistics, then the length.
+-- `lengthen` meets its contract.
 use Rattle.machine.specs.All.{_∙_, needs}
-use Rattle.servers_laws.specs.Taking.{longer}
-use Rattle.turn_laws.specs.Staying.{lengthened}
+use Rattle.turn_laws.specs.Staying.{lengthenedBy}
 use Rattle.turn.proofs.staying.lengthen as f
 
 pub lengthen-spec : {M : Type 1} → f.Statement.statement M
@@ -14,6 +13,4 @@ lengthen-spec =
     (search needs)
     (search needs)
     (search needs)
-    (search needs)
-    (search needs)
-    (λ c. let b = c .before .before .before .before .before .before in unfold lengthened longer in c .set-count .ensures ∙ rw (c .before .before .plus64 .ensures, c .before .before .before .count .ensures, b .update-server .ensures, b .before .before .server-of .ensures .0)))
+    (λ c. let b = c .before .before .before in unfold lengthenedBy in c .set-count .ensures ∙ rw (c .before .before .plus64 .ensures, b .count .ensures, b .before .before .before .server-of .ensures .0)))
