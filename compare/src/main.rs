@@ -2,6 +2,7 @@
 //! `reference/`, each with readings and writings of trace records and traces by column. Ends at the first that differs, printed and
 //! shrunk.
 //! `compare --waits N SEED`: the same with models that wait on values.
+//! `compare --crowds N SEED`: the same with models in which hundreds wait for a storage.
 //! `compare --check`: the same for the cases of standard input, printed as by `cases` of `reference/`.
 //! `compare --long`: the two runs that reach end 26, by turns and by serials (some 100 million turns each).
 //! `compare --streams`: the starts of all streams, steps along each and steps of other states.
@@ -24,7 +25,7 @@ mod tapes;
 use records::Answers;
 use reference::coverage::Coverage;
 use reference::generate::random::Random;
-use reference::generate::{case, waits, Case, Size};
+use reference::generate::{case, crowds, waits, Case, Size};
 use reference::line::{given, parse};
 use reference::rules::Rules;
 use std::process::exit;
@@ -33,7 +34,7 @@ fn main() {
     let mut numbers = Vec::new();
     let mut size = Size::Full;
     let mut coverage = false;
-    let mut waiting = false;
+    let mut next: fn(&mut Random, Size) -> Case = case;
     let mut calls: Option<fn(u64, u64) -> bool> = None;
     for argument in std::env::args().skip(1) {
         match argument.as_str() {
@@ -43,7 +44,8 @@ fn main() {
             "--long" => exit(i32::from(!long::compare())),
             "--counts" => exit(i32::from(!counts::compare())),
             "--streams" => exit(i32::from(!streams::compare())),
-            "--waits" => waiting = true,
+            "--waits" => next = waits_case,
+            "--crowds" => next = crowds_case,
             "--tapes" => calls = Some(tapes::compare),
             "--join" => calls = Some(joins::compare),
             text => match text.parse::<u64>() {
@@ -57,12 +59,11 @@ fn main() {
         exit(i32::from(!compare(count, seed)));
     }
     std::panic::set_hook(Box::new(|_| {})); // a panic of the second implementation is a difference
-    let next = if waiting { waits_case } else { case };
     random_cases(count, seed, size, coverage, next);
 }
 
 fn usage() -> ! {
-    eprintln!("usage: compare [--waits] N SEED [--small] [--coverage]");
+    eprintln!("usage: compare [--waits | --crowds] N SEED [--small] [--coverage]");
     eprintln!("       compare --check | --long | --streams | --counts");
     eprintln!("       compare --tapes N SEED | --join N SEED");
     exit(2);
@@ -71,6 +72,11 @@ fn usage() -> ! {
 /// A case that waits on values.
 fn waits_case(random: &mut Random, size: Size) -> Case {
     waits::case(Rules::LANDED, random, size)
+}
+
+/// A case in which hundreds wait for a storage.
+fn crowds_case(random: &mut Random, size: Size) -> Case {
+    crowds::case(Rules::LANDED, random, size)
 }
 
 fn random_cases(

@@ -2,6 +2,7 @@
 //! The same seed always gives the same cases.
 
 pub mod contention;
+pub mod crowds;
 pub mod damage;
 pub mod distributions;
 pub mod editions;
