@@ -16,6 +16,7 @@ ghost use Rattle.engine_laws.specs.Turns.{turnsRows};
 // Each step asks for the end before the turn, so one step more than the most turns is never used up.
 const STEPS: u32 = Model::MAX_TURNS + 1;
 
+// Turns one by one as long as nobody came back to wait, in a loop of their own; then those of a herd.
 pub fn turns(
     model: Model,
     tables: &[u32; TABLES],
