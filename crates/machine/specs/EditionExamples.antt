@@ -1,8 +1,9 @@
 -- Document 02, item 12, by computing: how one comes onto a line under edition 2, whom its LEAVE wakes, and why zero waiters and the order
 -- among equals are claimed for edition 1 alone.
-use Rattle.machine.specs.Basics.{ℕ, _≡_, refl, true, List, [], _∷_, map, reverse, length, getD}
-use Rattle.machine.specs.{Rules.Rules, Rules.item7, Rules.document02, Transaction.Transaction, Transaction.newborn, State.State, State.Logged, Setters.withReturning, Moves.lineUp, Execute.queueRemove, Run.run, Outcome.outcome, Bundle.everything}
-use Rattle.machine.specs.Block.{Block, generate, advance, terminate, enter, leave, BlockModel}
+use Rattle.machine.specs.Basics.{ℕ, _≡_, refl, true, false, List, [], _∷_, map, reverse, length, getD}
+use Rattle.machine.specs.{Rules.Rules, Rules.item7, Rules.document02, Transaction.Transaction, Transaction.newborn, State.State, State.Logged, Setters.withReturning, Setters.setQl, Execute.queueRemove, Execute.effect, Run.idle, Run.run, Report.places, Outcome.outcome, Bundle.everything}
+use Rattle.machine.specs.Moves.{qlOf, welOf, lineUp, toWel, setUse}
+use Rattle.machine.specs.Block.{U, Block, generate, advance, terminate, seize, release, enter, leave, waitServer, split, assemble, preempt, BlockModel}
 use Rattle.machine.specs.Claims.{bit, noRecord, waitEnd, equalWaits, ableToGo}
 
 -- ---- Coming onto a line
@@ -41,21 +42,74 @@ abbrev gone : List Block → (b : ℕ) → List Transaction → List ℕ
 gone blocks b l = numbers (queueRemove (storehouse 2 9 blocks) b l .go)
 
 -- block n is ENTER of n units
-abbrev some : List Block
-some = enter 1 1 ∷ enter 1 2 ∷ enter 1 3 ∷ []
+abbrev threeEnters : List Block
+threeEnters = enter 1 1 ∷ enter 1 2 ∷ enter 1 3 ∷ []
 
 -- LEAVE of 1: the first of one unit, or nobody. Of 4: past who is too large, until nothing is left. Of 7: all. No block above 1: the first.
-pub removed : gone some 1 (at 3 ∷ at 2 ∷ at 1 ∷ at 1 ∷ [])
-    ∷ gone some 1 (at 3 ∷ at 2 ∷ [])
-    ∷ gone some 4 (at 3 ∷ at 2 ∷ at 1 ∷ at 1 ∷ [])
-    ∷ gone some 4 (at 2 ∷ at 3 ∷ at 2 ∷ at 1 ∷ [])
-    ∷ gone some 2 (at 3 ∷ at 2 ∷ at 1 ∷ [])
-    ∷ gone some 7 (at 3 ∷ at 2 ∷ at 1 ∷ [])
+pub removed : gone threeEnters 1 (at 3 ∷ at 2 ∷ at 1 ∷ at 1 ∷ [])
+    ∷ gone threeEnters 1 (at 3 ∷ at 2 ∷ [])
+    ∷ gone threeEnters 4 (at 3 ∷ at 2 ∷ at 1 ∷ at 1 ∷ [])
+    ∷ gone threeEnters 4 (at 2 ∷ at 3 ∷ at 2 ∷ at 1 ∷ [])
+    ∷ gone threeEnters 2 (at 3 ∷ at 2 ∷ at 1 ∷ [])
+    ∷ gone threeEnters 7 (at 3 ∷ at 2 ∷ at 1 ∷ [])
     ∷ gone (enter 1 1 ∷ leave 1 1 ∷ []) 1 (at 1 ∷ at 1 ∷ [])
     ∷ []
     ≡ (1 ∷ []) ∷ [] ∷ (3 ∷ 1 ∷ []) ∷ (2 ∷ 2 ∷ []) ∷ (2 ∷ []) ∷ (3 ∷ 2 ∷ 1 ∷ []) ∷ (1 ∷ []) ∷ []
 unfolding everything
 removed = refl
+
+-- ---- Kinds of later papers
+
+-- one facility; blocks 1 and 2 are a group
+abbrev gateway : (edition : ℕ) → BlockModel
+gateway edition =
+    record {
+      rules = document02; edition = edition; facilities = 1; capacities = []; queues = 0; values = []; lists = 0; counter = 9;
+      blocks = waitServer U 1 0 ∷ waitServer U 1 1 ∷ preempt 1 ∷ terminate 1 ∷ [];
+    }
+
+-- 9 holds the facility and moves
+abbrev inUse : (edition : ℕ) → State
+inUse edition = setUse 1 1 9 false (idle (gateway edition) [])
+
+-- 3 must wait again at the kind 17 block, where 1 of higher priority waits
+abbrev againAtGroup : (edition : ℕ) → List ℕ
+againAtGroup edition =
+    let t : Transaction = withReturning true (newborn 3 4 2) in
+    numbers (welOf (effect (gateway edition) (waitServer U 1 1) t (toWel edition 1 U (waiter 1 7) (inUse edition))) 1 U)
+
+-- in its order under edition 1, at the very front under edition 2
+pub put-back : againAtGroup 1 ∷ againAtGroup 2 ∷ [] ≡ (1 ∷ 3 ∷ []) ∷ (3 ∷ 1 ∷ []) ∷ []
+unfolding everything
+put-back = refl
+
+-- 3 comes to the PREEMPT, whose QL has 1 of lower and 2 of higher priority
+abbrev atPreempt : (edition : ℕ) → List ℕ
+atPreempt edition =
+    numbers (qlOf (effect (gateway edition) (preempt 1) (newborn 3 4 3) (setQl ((waiter 1 0 ∷ waiter 2 7 ∷ []) ∷ []) (inUse edition))) 1)
+
+-- edition 2 places it from the back; edition 1 would not have 1 before 2
+pub preempt-lined : atPreempt 1 ∷ atPreempt 2 ∷ [] ≡ (3 ∷ 1 ∷ 2 ∷ []) ∷ (1 ∷ 2 ∷ 3 ∷ []) ∷ []
+unfolding everything
+preempt-lined = refl
+
+-- 1 is interrupted at clock 3 by 2, whose copy 3 is the first of its family at ASSEMBLE
+abbrev placesOf : (edition : ℕ) → List (List ℕ)
+placesOf edition =
+    let m : BlockModel =
+    record {
+      rules = document02; edition = edition; facilities = 1; capacities = []; queues = 0; values = []; lists = 4; counter = 9;
+      blocks =
+          generate 1 0 ∷ seize 1 ∷ advance 3 ∷ release 1 ∷ terminate 0 ∷ generate 2 1 ∷ preempt 1 ∷ split 1 10 ∷ advance 4 ∷ assemble 3
+          ∷ terminate 0 ∷ [];
+    } in
+    map (λ p. p .number ∷ p .place ∷ []) (places (run m ((1 ∷ []) ∷ (3 ∷ []) ∷ (10 ∷ []) ∷ (4 ∷ []) ∷ []) 8 65536))
+
+-- on the FEL, gathering and interrupted under both editions
+pub later-places : placesOf 1 ∷ placesOf 2 ∷ []
+    ≡ ((2 ∷ 4 ∷ []) ∷ (3 ∷ 7 ∷ []) ∷ (1 ∷ 8 ∷ []) ∷ []) ∷ ((2 ∷ 4 ∷ []) ∷ (3 ∷ 7 ∷ []) ∷ (1 ∷ 8 ∷ []) ∷ []) ∷ []
+unfolding everything
+later-places = refl
 
 -- ---- Zero waiters
 

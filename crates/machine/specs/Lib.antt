@@ -25,6 +25,7 @@ pub mod OlderTapes
 pub mod OnlyHolder
 pub mod OlderModels
 pub mod Bundle
+pub mod RuleExamples
 pub mod Examples
 pub mod WaitExamples
 pub mod YearExamples

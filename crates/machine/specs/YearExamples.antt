@@ -1,5 +1,5 @@
 -- Document 02, item 1, by computing: clocks, clock terms and numbers at their limits, under the rules of both papers.
-use Rattle.machine.specs.Basics.{ℕ, _≡_, refl, List, [], _∷_, some}
+use Rattle.machine.specs.Basics.{ℕ, _≡_, refl, List, [], _∷_, map, some}
 use Rattle.machine.specs.{Rules.Rules, Rules.document01, Rules.document02, Transaction.newborn, Term.clockTerm, Term.evaluate, Block.advance, Block.terminate, Block.BlockModel, State.State, Setters.setMoving, Setters.setClock, Setters.setView, Turn.turn, Run.idle, Validate.accept, Validate.reject, Validate.validate, Bundle.everything, Examples.firstModel}
 use Rattle.machine.specs.Trace.{taken, refusal, noMore, readRecord}
 use lib.IntN.{ℤ, pos, negsuc}
@@ -45,6 +45,16 @@ pub times : refusalOf document02 firstModel (0x01 ∷ 0xA5 ∷ 0xA0 ∷ 0xAF ∷
     ≡ 0 ∷ 9 ∷ 9 ∷ 8 ∷ []
 unfolding everything firstModel
 times = refl
+
+-- a number of six groups, alone
+pub six-groups : refusalOf document02 firstModel (0x01 ∷ 0x81 ∷ 0x80 ∷ 0x80 ∷ 0x80 ∷ 0x80 ∷ 0x00 ∷ 0x00 ∷ []) ≡ 8
+unfolding everything firstModel
+six-groups = refl
+
+-- a time of 1,000,001, which document 01 refuses: what it refused need not stay refused
+pub once-refused : map (λ rules. refusalOf rules firstModel (0x01 ∷ 0xBD ∷ 0x84 ∷ 0x41 ∷ 0x00 ∷ [])) (document01 ∷ document02 ∷ []) ≡ 9 ∷ 0 ∷ []
+unfolding everything firstModel
+once-refused = refl
 
 -- a count of 4,294,967,296 under both rules; as an edition it stays too large
 pub counts : refusalOf document02 firstModel (0x90 ∷ 0x80 ∷ 0x80 ∷ 0x80 ∷ 0x00 ∷ []) ∷ refusalOf document01 firstModel (0x90 ∷ 0x80 ∷ 0x80 ∷ 0x80 ∷ 0x00 ∷ [])
