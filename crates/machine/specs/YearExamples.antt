@@ -46,11 +46,6 @@ pub times : refusalOf document02 firstModel (0x01 ∷ 0xA5 ∷ 0xA0 ∷ 0xAF ∷
 unfolding everything firstModel
 times = refl
 
--- a number of six groups, alone
-pub six-groups : refusalOf document02 firstModel (0x01 ∷ 0x81 ∷ 0x80 ∷ 0x80 ∷ 0x80 ∷ 0x80 ∷ 0x00 ∷ 0x00 ∷ []) ≡ 8
-unfolding everything firstModel
-six-groups = refl
-
 -- a time of 1,000,001, which document 01 refuses: what it refused need not stay refused
 pub once-refused : map (λ rules. refusalOf rules firstModel (0x01 ∷ 0xBD ∷ 0x84 ∷ 0x41 ∷ 0x00 ∷ [])) (document01 ∷ document02 ∷ []) ≡ 9 ∷ 0 ∷ []
 unfolding everything firstModel
