@@ -2,6 +2,7 @@
 pub mod RunLaws
 pub mod Kept
 pub mod Bounds
+pub mod Prefix
 pub mod Shape
 pub mod OutcomeLaws
 pub mod Everybody

@@ -21,6 +21,7 @@ pub mod Decode
 pub mod Validate
 pub mod Outcome
 pub mod Claims
+pub mod Prefix
 pub mod OlderTapes
 pub mod OnlyHolder
 pub mod OlderModels

@@ -1,10 +1,10 @@
 -- The rules one by one, by computing: a list move, a question or one block, each so small that a wrong rule shows where it is wrong.
-use Rattle.machine.specs.Basics.{ℕ, _≡_, refl, Bool, true, false, List, [], _∷_, _++_, map, some, eqb, drop, length}
+use Rattle.machine.specs.Basics.{ℕ, _≡_, refl, true, false, List, [], _∷_, _++_, map, some, eqb, drop, length}
 use Rattle.machine.specs.Limits.{maxClock, maxTransaction, maxBlocks, recordRoom}
 use Rattle.machine.specs.{Rules.document02, Term.serverAt, Trace.recordBytes, State.State, State.Logged, Lists.flat, Lists.bit, Run.idle, Report.movingOne, Report.reportNumbers, Bundle.everything}
-use Rattle.machine.specs.Transaction.{Transaction, Event, Gatherer, Interrupted, newborn, precedes}
-use Rattle.machine.specs.Setters.{withSerial, withReturning, withStamp, setClock, setView, setQl, setWel, setWsl, setRel, setFel, setGatherers, setInterrupted, setMoving, setSerial, setMade}
-use Rattle.machine.specs.Block.{U, NU, Block, facility, storage, generate, terminate, seize, release, enter, waitServer, split, assemble, preempt, giveBack, BlockModel, beginsGroup}
+use Rattle.machine.specs.Transaction.{Transaction, Event, newborn, precedes}
+use Rattle.machine.specs.Setters.{withSerial, withReturning, withStamp, setClock, setView, setWsl, setRel, setFel, setInterrupted, setMoving, setSerial, setMade}
+use Rattle.machine.specs.Block.{U, NU, facility, storage, generate, terminate, seize, release, enter, waitServer, split, assemble, preempt, giveBack, BlockModel, beginsGroup}
 use Rattle.machine.specs.Moves.{moveTo, toQl, toWel, toWsl, mustWait, wakeWsl, copies, losesTo, setUse, setGatherersAt}
 use Rattle.machine.specs.Execute.{question, partFor, effect}
 use Rattle.machine.specs.Turn.{nextEvents}
