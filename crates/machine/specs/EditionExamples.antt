@@ -64,7 +64,14 @@ removed = refl
 abbrev gateway : (edition : ℕ) → BlockModel
 gateway edition =
     record {
-      rules = document02; edition = edition; facilities = 1; capacities = []; queues = 0; values = []; lists = 0; counter = 9;
+      rules = document02;
+      edition = edition;
+      facilities = 1;
+      capacities = [];
+      queues = 0;
+      values = [];
+      lists = 0;
+      counter = 9;
       blocks = waitServer U 1 0 ∷ waitServer U 1 1 ∷ preempt 1 ∷ terminate 1 ∷ [];
     }
 
@@ -98,7 +105,14 @@ abbrev placesOf : (edition : ℕ) → List (List ℕ)
 placesOf edition =
     let m : BlockModel =
     record {
-      rules = document02; edition = edition; facilities = 1; capacities = []; queues = 0; values = []; lists = 4; counter = 9;
+      rules = document02;
+      edition = edition;
+      facilities = 1;
+      capacities = [];
+      queues = 0;
+      values = [];
+      lists = 4;
+      counter = 9;
       blocks =
           generate 1 0 ∷ seize 1 ∷ advance 3 ∷ release 1 ∷ terminate 0 ∷ generate 2 1 ∷ preempt 1 ∷ split 1 10 ∷ advance 4 ∷ assemble 3
           ∷ terminate 0 ∷ [];

@@ -10,7 +10,8 @@ BeginsWith all beginning = all ≡ beginning ++ drop (length beginning) all
 -- of the run with a budget and a room, beside the one with another budget′ and room′
 pub record Prefix (m : BlockModel) (tape : List (List ℕ)) (budget room budget′ room′ : ℕ) : Type 0 where
   -- after equally many turns the two states are the same but for their ends
-  pub same : run m tape budget room .turns ≡ run m tape budget′ room′ .turns → setEnd 0 (run m tape budget′ room′) ≡ setEnd 0 (run m tape budget room)
+  pub same : run m tape budget room .turns ≡ run m tape budget′ room′ .turns
+      → setEnd 0 (run m tape budget′ room′) ≡ setEnd 0 (run m tape budget room)
   -- the records of the one with no more turns begin those of the other
   pub begins : run m tape budget room .turns ≤ run m tape budget′ room′ .turns
       → BeginsWith (recordsOf (run m tape budget′ room′)) (recordsOf (run m tape budget room))

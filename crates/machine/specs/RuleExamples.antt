@@ -16,9 +16,17 @@ use Rattle.machine.specs.Claims.{terminates, preemptNames, familyBy, liv
 abbrev plant : BlockModel
 plant =
     record {
-      rules = document02; edition = 1; facilities = 2; capacities = 3 ∷ []; queues = 0; values = []; lists = 1; counter = 9;
+      rules = document02;
+      edition = 1;
+      facilities = 2;
+      capacities = 3 ∷ [];
+      queues = 0;
+      values = [];
+      lists = 1;
+      counter = 9;
       blocks =
-          waitServer U 1 0 ∷ waitServer U 2 1 ∷ enter 3 1 ∷ enter 3 2 ∷ seize 1 ∷ assemble 2 ∷ split 2 1 ∷ preempt 1 ∷ giveBack 1 ∷ terminate 1
+          waitServer U 1 0 ∷ waitServer U 2 1 ∷ enter 3 1 ∷ enter 3 2 ∷ seize 1 ∷ assemble 2 ∷ split 2 1 ∷ preempt 1 ∷ giveBack 1
+          ∷ terminate 1
           ∷ generate 1 0 ∷ terminate 1 ∷ [];
     }
 
@@ -51,7 +59,9 @@ outcomes s = map (λ r. r .entry .outcome) (s .records)
 -- ---- Lists
 
 -- priority, high first, then serial, low first
-pub ordered : bit (precedes (one 5 1) (one 9 1)) ∷ bit (precedes (one 9 1) (one 5 1)) ∷ bit (precedes (urgent 9 1) (one 5 1)) ∷ [] ≡ 1 ∷ 0 ∷ 1 ∷ []
+pub ordered :
+    bit (precedes (one 5 1) (one 9 1)) ∷ bit (precedes (one 9 1) (one 5 1)) ∷ bit (precedes (urgent 9 1) (one 5 1)) ∷ []
+    ≡ 1 ∷ 0 ∷ 1 ∷ []
 unfolding everything
 ordered = refl
 
@@ -121,7 +131,8 @@ release-frees = refl
 
 -- RELEASE by 3 of an idle facility, of its own, of one that 2 holds, of its own by PREEMPT
 pub release-asks :
-    map (λ s. question plant (release 1) (one 3 5) s) (quiet ∷ setUse 1 1 3 false quiet ∷ setUse 1 1 2 false quiet ∷ setUse 1 1 3 true quiet ∷ [])
+    map (λ s. question plant (release 1) (one 3 5) s)
+    (quiet ∷ setUse 1 1 3 false quiet ∷ setUse 1 1 2 false quiet ∷ setUse 1 1 3 true quiet ∷ [])
     ≡ 24 ∷ 0 ∷ 27 ∷ 27 ∷ []
 unfolding everything
 release-asks = refl
@@ -135,7 +146,8 @@ split-asks = refl
 
 -- its copies have the next numbers and their original's family
 pub copied :
-    let s : State = copies 2 1 (one 3 7) (setMade 3 quiet) in numbers (s .rel) ∷ map (λ t. t .family) (s .rel) ∷ [] ≡ (4 ∷ 5 ∷ []) ∷ (3 ∷ 3 ∷ []) ∷ []
+    let s : State = copies 2 1 (one 3 7) (setMade 3 quiet) in
+    numbers (s .rel) ∷ map (λ t. t .family) (s .rel) ∷ [] ≡ (4 ∷ 5 ∷ []) ∷ (3 ∷ 3 ∷ []) ∷ []
 unfolding everything
 copied = refl
 
@@ -208,7 +220,8 @@ unfolding everything
 gathers-asks = refl
 
 abbrev entry : (transaction block outcome : ℕ) → Logged
-entry transaction block outcome = record { entry = record { clock = 2; transaction = transaction; block = block; outcome = outcome }; priority = 0 }
+entry transaction block outcome =
+    record { entry = record { clock = 2; transaction = transaction; block = block; outcome = outcome }; priority = 0 }
 
 -- by the records: a wait at ASSEMBLE is no end, an entry is one
 pub ended-by : bit (terminates plant tape (entry 3 6 1)) ∷ bit (terminates plant tape (entry 4 6 0)) ∷ [] ≡ 0 ∷ 1 ∷ []
@@ -269,8 +282,8 @@ pub given-back :
 unfolding everything
 given-back = refl
 
--- RETURN of an idle facility, of a seized one by its holder; at the last clock that 7 ticks fit behind, by the one who preempted; a tick later
--- by that one and by another
+-- RETURN of an idle facility, of a seized one by its holder; by the one who preempted, at the last clock behind which 7 ticks fit; a tick
+-- later by that one and by another
 pub return-asks :
     question plant (giveBack 1) (one 3 9) quiet
     ∷ question plant (giveBack 1) (one 3 9) (setUse 1 1 3 false quiet)
@@ -290,18 +303,20 @@ preempt-names = refl
 -- ---- The trace
 
 -- the longest record takes the room that is asked for before each turn
-pub largest-record : length (recordBytes (record { clock = maxClock; transaction = maxTransaction; block = maxBlocks; outcome = 1 })) ≡ recordRoom
+pub largest-record :
+    length (recordBytes (record { clock = maxClock; transaction = maxTransaction; block = maxBlocks; outcome = 1 })) ≡ recordRoom
 unfolding everything
 largest-record = refl
 
 -- ---- The report (document 02, item 2)
 
--- one in each place, the last places with the lowest numbers: 9 on a QL, 8 on a WEL, 7 on the WSL, 6 on the FEL, 5 on REL, 4 moving, 3 gathering, 2
--- interrupted
+-- one in each place, the last places with the lowest numbers: 9 on a QL, 8 on a WEL, 7 on the WSL, 6 on the FEL, 5 on REL, 4 moving,
+-- 3 gathering, 2 interrupted
 abbrev everywhere : State
 everywhere =
     toQl 1 3 (one 9 4) (toWel 1 2 U (one 8 2) (setWsl (one 7 1 ∷ []) (setFel (record { time = 9; who = one 6 1 } ∷ [])
-    (setRel (one 5 1 ∷ []) (setMoving (some (one 4 1)) (setInterrupted (record { who = one 2 3; facility = 1; remaining = 7 } ∷ []) oneGathers))))))
+    (setRel (one 5 1 ∷ []) (setMoving (some (one 4 1))
+    (setInterrupted (record { who = one 2 3; facility = 1; remaining = 7 } ∷ []) oneGathers))))))
 
 -- the living part: how many, and each number with its place
 pub living-listed : drop (livingAt plant tape) (reportNumbers plant everywhere)

@@ -47,7 +47,8 @@ unchanged records = record { more = []; is = refl }
 module _ (m : BlockModel) where
   turn-follows : (s : State) → Follows (suc (s .turns)) (s .records) (turn m s)
   turn-follows s =
-      turn-kept _ _ (follows-closed (s .turns) (s .records)) (follows-closed (suc (s .turns)) (s .records)) m s (λ s′ p. (refl, p .1)) (refl, unchanged _)
+      turn-kept _ _ (follows-closed (s .turns) (s .records)) (follows-closed (suc (s .turns)) (s .records)) m s
+      (λ s′ p. (refl, p .1)) (refl, unchanged _)
 
   -- so many turns
   abbrev turned : ℕ → State → State
@@ -58,12 +59,13 @@ module _ (m : BlockModel) where
   turned-follows zero s = (omega arith, unchanged _)
   turned-follows (suc k) s =
       let first = turn-follows s in
-      let rest = turned-follows k (turn m s) in
-      (rest .0 ∙ ap (λ n. k + n) (first .0) ∙ omega arith,
-      record {
-        more = rest .1 .more ++ first .1 .more;
-        is = rest .1 .is ∙ ap (λ l. rest .1 .more ++ l) (first .1 .is) ∙ sym (append-assoc (rest .1 .more) (first .1 .more) (s .records));
-      })
+      let rest = turned-follows k (turn m s) in (
+        rest .0 ∙ ap (λ n. k + n) (first .0) ∙ omega arith,
+        record {
+          more = rest .1 .more ++ first .1 .more;
+          is = rest .1 .is ∙ ap (λ l. rest .1 .more ++ l) (first .1 .is) ∙ sym (append-assoc (rest .1 .more) (first .1 .more) (s .records));
+        },
+      )
 
   turned-add : (k n : ℕ) (s : State) → turned (k + n) s ≡ turned n (turned k s)
   turned-add zero n s = ap (λ i. turned i s) (zero-add n)
@@ -100,16 +102,29 @@ module _ (m : BlockModel) where
   taken-before : {budget room : ℕ} {s : State} → Taken budget room s → endBefore budget room s ≡ 0
   unfolding endBefore
   taken-before {budget} {room} {s} t =
-      rw (eq-eqb (s .end) 0 (t .no-end), t .somebody, le-ltb maxSerial (s .serial) (t .serials), lt-leb maxTurns (s .turns) (t .turns-left),
-      lt-leb budget (s .turns) (t .budget-left), le-ltb room (s .written + recordRoom) (t .room-left))
+      rw (
+        eq-eqb (s .end) 0 (t .no-end),
+        t .somebody,
+        le-ltb maxSerial (s .serial) (t .serials),
+        lt-leb maxTurns (s .turns) (t .turns-left),
+        lt-leb budget (s .turns) (t .budget-left),
+        le-ltb room (s .written + recordRoom) (t .room-left),
+      )
       refl
 
   -- and of another budget and room only these two
-  taken-with : {budget room : ℕ} {s : State} → Taken budget room s → (budget′ room′ : ℕ) → s .turns < budget′ → s .written + recordRoom ≤ room′
-      → endBefore budget′ room′ s ≡ 0
+  taken-with : {budget room : ℕ} {s : State} → Taken budget room s → (budget′ room′ : ℕ)
+      → s .turns < budget′ → s .written + recordRoom ≤ room′ → endBefore budget′ room′ s ≡ 0
   taken-with t budget′ room′ left fits =
       taken-before
-      (record { no-end = t .no-end; somebody = t .somebody; serials = t .serials; turns-left = t .turns-left; budget-left = left; room-left = fits })
+      (record {
+        no-end = t .no-end;
+        somebody = t .somebody;
+        serials = t .serials;
+        turns-left = t .turns-left;
+        budget-left = left;
+        room-left = fits;
+      })
 
   -- ---- A budget and a room that are no smaller
 
@@ -171,23 +186,28 @@ module _ (m : BlockModel) where
   begins-with a b e =
       let entries : List Logged → List Record = map (λ r. r .entry) in
       let parted : recordsOf b ≡ recordsOf a ++ entries (reverse (e .more)) =
-      ap (λ l. entries (reverse l)) (e .is) ∙ ap entries (reverse-append (e .more) (a .records)) ∙ map-append _ (reverse (a .records)) (reverse (e .more)) in
+      ap (λ l. entries (reverse l)) (e .is) ∙ ap entries (reverse-append (e .more) (a .records))
+      ∙ map-append _ (reverse (a .records)) (reverse (e .more)) in
       parted ∙ ap (λ l. recordsOf a ++ l) (sym (ap (drop (length (recordsOf a))) parted ∙ drop-append-seam (recordsOf a) _))
 
   module _ (tape : List (List ℕ)) where
     -- a run by the number of its turns
-    run-turned : (budget room : ℕ) → run m tape budget room ≡ setEnd (run m tape budget room .end) (turned (run m tape budget room .turns) (start m tape))
+    run-turned : (budget room : ℕ)
+        → run m tape budget room ≡ setEnd (run m tape budget room .end) (turned (run m tape budget room .turns) (start m tape))
     unfolding run
     run-turned budget room =
         let r = reached budget room steps (start m tape) in
         let k : r .count ≡ run m tape budget room .turns =
-        sym (ap (λ x. x .turns) (r .is) ∙ turned-follows (r .count) (start m tape) .0 ∙ ap (λ n. r .count + n) (start-turns tape) ∙ omega arith) in
+        sym
+        (ap (λ x. x .turns) (r .is) ∙ turned-follows (r .count) (start m tape) .0 ∙ ap (λ n. r .count + n) (start-turns tape) ∙ omega arith) in
         r .is ∙ ap (λ n. setEnd (run m tape budget room .end) (turned n (start m tape))) k
 
     module _ (budget room budget′ room′ : ℕ) where
-      same-states : run m tape budget room .turns ≡ run m tape budget′ room′ .turns → setEnd 0 (run m tape budget′ room′) ≡ setEnd 0 (run m tape budget room)
+      same-states : run m tape budget room .turns ≡ run m tape budget′ room′ .turns
+          → setEnd 0 (run m tape budget′ room′) ≡ setEnd 0 (run m tape budget room)
       same-states e =
-          ap (setEnd 0) (run-turned budget′ room′) ∙ ap (λ n. setEnd 0 (turned n (start m tape))) (sym e) ∙ sym (ap (setEnd 0) (run-turned budget room))
+          ap (setEnd 0) (run-turned budget′ room′) ∙ ap (λ n. setEnd 0 (turned n (start m tape))) (sym e)
+          ∙ sym (ap (setEnd 0) (run-turned budget room))
 
       extended : run m tape budget room .turns ≤ run m tape budget′ room′ .turns
           → Extends (run m tape budget room .records) (run m tape budget′ room′ .records)
@@ -222,8 +242,8 @@ module _ (m : BlockModel) where
   -- with a budget of its turns a run stops where it stands
   stops : (n room : ℕ) (s : State) → setEnd 0 s ≡ setEnd 0 (runFrom (suc n) m (s .turns) room s)
   stops n room s =
-      rw (run-off m (s .turns) room n s (λ z. let t : Taken (s .turns) room s = taken-of (before (s .turns) room s) z in absurd (omega (arith, t .budget-left))))
-      refl
+      let no-turn : endBefore (s .turns) room s ≡ 0 → ⊥ = λ z. absurd (omega (arith, taken-of (before (s .turns) room s) z .budget-left)) in
+      rw (run-off m (s .turns) room n s no-turn) refl
 
   module _ (budget room : ℕ) where
     -- of the states from s on: no turn is undone, and each is that run's
@@ -245,8 +265,10 @@ module _ (m : BlockModel) where
         passed z y h =
             let t : Taken budget room s = taken-of (before budget room s) z in
             let counted : turn m s .turns ≡ suc (s .turns) = turn-follows s .0 in
-            (omega (arith, h .0, counted),
-            h .1 ∙ ap (setEnd 0) (sym (run-on m (y .turns) room n s (taken-with t (y .turns) room (omega (arith, h .0, counted)) (t .room-left)))))
+            let again : endBefore (y .turns) room s ≡ 0 = taken-with t (y .turns) room (omega (arith, h .0, counted)) (t .room-left) in (
+              omega (arith, h .0, counted),
+              h .1 ∙ ap (setEnd 0) (sym (run-on m (y .turns) room n s again)),
+            )
 
     pub states-are-runs : (tape : List (List ℕ)) → StatesAreRuns m tape budget room
     unfolding states run
