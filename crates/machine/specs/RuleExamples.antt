@@ -144,10 +144,9 @@ pub split-asks : map (λ n. question plant (split 2 1) (one 3 7) (setMade n quie
 unfolding everything
 split-asks = refl
 
--- its copies have the next numbers and their original's family
+-- a copy has the next number and its original's family
 pub copied :
-    let s : State = copies 2 1 (one 3 7) (setMade 3 quiet) in
-    numbers (s .rel) ∷ map (λ t. t .family) (s .rel) ∷ [] ≡ (4 ∷ 5 ∷ []) ∷ (3 ∷ 3 ∷ []) ∷ []
+    let s : State = copies 1 1 (one 3 7) (setMade 3 quiet) in numbers (s .rel) ∷ map (λ t. t .family) (s .rel) ∷ [] ≡ (4 ∷ []) ∷ (3 ∷ []) ∷ []
 unfolding everything
 copied = refl
 
