@@ -1,7 +1,7 @@
 -- The names of these definitions that other crates use, passed on so that a file there has one line for them.
-pub use Rattle.machine.specs.Basics.{ℕ, zero, suc, _-_, _≡_, refl, subst, List, _∷_, length, ne-eqb, needs, cond, eqb, getD, _+_, _≤_, _<_, sym, _∙_, Bool, false, [], none, arith, lt-ltb, le-ltb, cases, ap, _≢_, Option, eqb-true, eqb-false, eq-eqb, some, drop, _*_, max, map, mul-le-mul, ltb-true, ltb-false, ltb, length-map, length-set, List·getD-eq-default, getD-set-same, getD-set-other, min, set, clash, add-sub-cancel-left, drop-of-length-le, length-drop, drop-cons, le-leb, lt-leb, true, _&&_, _++_, leb, take-append-drop, drop-append-seam, drop-drop, length-take-le, leb-true, _/_, _%_, _^_, pow-suc, pow-le-pow-right, one-le-pow, lt-of-lt-of-le, append-assoc, lit<, take, length-append, getD-drop, ap₂, lit≤, mul-assoc, mul-comm, mul-le-mul-right, le-mul-of-pos-right, le-trans, one-mul, add-zero, sets, set-comm, length-sets, leb-false, add-one, zero-add, sets-eq, take-append-seam, zero-le, append-nil, subst₂, drop-length, reverse, length-reverse, length-replicate, leb·zero, T, replicate, getD-replicate, length-take, List·getD-append, ext-getD, getD-take, getD-append-add, not-true, not-false, true≢false, not, _||_, take-at, leb→le, ltb→lt, take-suc, take-length, getD-at, map-append, add-assoc, drop-append-le, drop-append-add, List·getD-map, map-map, suc-add, fun-ext, _⊎_, inl, inr, reverseAux, reverse-cons, set-out, false≢true, mod-lt, mod-eq-of-lt, div-add-mod', set-getD, T-not, eqb→eq, map-set-same, le-antisymm, mul-le-mul-left, decided, add-suc, reverse-append, drop-set-lt, set-set, pos-of-ne-zero, getD-append-seam, mul-add, add-mul, div-le-of-le-mul, add-comm, mul-add-mod-self-left, add-mul-mod-self-right, add-mul-div-right, take-add, drop-at, take-all}
+pub use Rattle.machine.specs.Basics.{ℕ, zero, suc, _-_, _≡_, refl, subst, List, _∷_, length, ne-eqb, needs, cond, eqb, getD, _+_, _≤_, _<_, sym, _∙_, Bool, false, [], none, arith, lt-ltb, le-ltb, cases, ap, _≢_, Option, eqb-true, eqb-false, eq-eqb, some, drop, _*_, max, map, mul-le-mul, ltb-true, ltb-false, ltb, length-map, length-set, List·getD-eq-default, getD-set-same, getD-set-other, min, set, clash, add-sub-cancel-left, drop-of-length-le, length-drop, drop-cons, le-leb, lt-leb, true, _&&_, _++_, leb, take-append-drop, drop-append-seam, drop-drop, length-take-le, leb-true, _/_, _%_, _^_, pow-suc, pow-le-pow-right, one-le-pow, lt-of-lt-of-le, append-assoc, lit<, take, length-append, getD-drop, ap₂, lit≤, mul-assoc, mul-comm, mul-le-mul-right, le-mul-of-pos-right, le-trans, one-mul, add-zero, sets, set-comm, length-sets, leb-false, add-one, zero-add, sets-eq, take-append-seam, zero-le, append-nil, subst₂, drop-length, reverse, length-reverse, length-replicate, leb·zero, T, replicate, getD-replicate, length-take, List·getD-append, ext-getD, getD-take, getD-append-add, not-true, not-false, true≢false, not, _||_, take-at, leb→le, ltb→lt, take-suc, take-length, getD-at, map-append, add-assoc, drop-append-le, drop-append-add, List·getD-map, map-map, suc-add, fun-ext, _⊎_, inl, inr, reverseAux, reverse-cons, set-out, false≢true, mod-lt, mod-eq-of-lt, div-add-mod', suc-mul, set-getD, T-not, eqb→eq, map-set-same, le-antisymm, mul-le-mul-left, decided, add-suc, reverse-append, drop-set-lt, set-set, pos-of-ne-zero, getD-append-seam, mul-add, add-mul, div-le-of-le-mul, add-comm, mul-add-mod-self-left, add-mul-mod-self-right, add-mul-div-right, take-add, drop-at, take-all}
 unfoldable pub use Rattle.machine.specs.Basics.{ℕ-discrete}
-pub use Rattle.machine.specs.Basics.{ℕ, zero, suc, _-_, _≡_, refl, subst, List, _∷_, length, ne-eqb, needs, cond, eqb, getD, _+_, _≤_, _<_, sym, _∙_, Bool, false, [], none, arith, lt-ltb, le-ltb, cases, ap, _≢_, Option, eqb-true, eqb-false, eq-eqb, some, drop, _*_, max, map, mul-le-mul, ltb-true, ltb-false, ltb, length-map, length-set, List·getD-eq-default, getD-set-same, getD-set-other, min, set, clash, add-sub-cancel-left, drop-of-length-le, length-drop, drop-cons, le-leb, lt-leb, true, _&&_, _++_, leb, take-append-drop, drop-append-seam, drop-drop, length-take-le, leb-true, _/_, _%_, _^_, pow-suc, pow-le-pow-right, one-le-pow, lt-of-lt-of-le, append-assoc, lit<, take, length-append, getD-drop, ap₂, lit≤, mul-assoc, mul-comm, mul-le-mul-right, le-mul-of-pos-right, le-trans, one-mul, add-zero, sets, set-comm, length-sets, leb-false, add-one, zero-add, sets-eq, take-append-seam, zero-le, append-nil, subst₂, drop-length, reverse, length-reverse, length-replicate, leb·zero, T, replicate, getD-replicate, length-take, List·getD-append, ext-getD, getD-take, getD-append-add, not-true, not-false, true≢false, not, _||_, take-at, leb→le, ltb→lt, take-suc, take-length, getD-at, map-append, add-assoc, drop-append-le, drop-append-add, List·getD-map, map-map, suc-add, fun-ext, _⊎_, inl, inr, reverseAux, reverse-cons, set-out, false≢true, mod-lt, mod-eq-of-lt, div-add-mod', set-getD, T-not, eqb→eq, map-set-same, le-antisymm, mul-le-mul-left, decided, add-suc, reverse-append, drop-set-lt, set-set, pos-of-ne-zero, getD-append-seam, mul-add, add-mul, div-le-of-le-mul, add-comm, mul-add-mod-self-left, add-mul-mod-self-right, add-mul-div-right, take-add, drop-at, take-all}
+pub use Rattle.machine.specs.Basics.{ℕ, zero, suc, _-_, _≡_, refl, subst, List, _∷_, length, ne-eqb, needs, cond, eqb, getD, _+_, _≤_, _<_, sym, _∙_, Bool, false, [], none, arith, lt-ltb, le-ltb, cases, ap, _≢_, Option, eqb-true, eqb-false, eq-eqb, some, drop, _*_, max, map, mul-le-mul, ltb-true, ltb-false, ltb, length-map, length-set, List·getD-eq-default, getD-set-same, getD-set-other, min, set, clash, add-sub-cancel-left, drop-of-length-le, length-drop, drop-cons, le-leb, lt-leb, true, _&&_, _++_, leb, take-append-drop, drop-append-seam, drop-drop, length-take-le, leb-true, _/_, _%_, _^_, pow-suc, pow-le-pow-right, one-le-pow, lt-of-lt-of-le, append-assoc, lit<, take, length-append, getD-drop, ap₂, lit≤, mul-assoc, mul-comm, mul-le-mul-right, le-mul-of-pos-right, le-trans, one-mul, add-zero, sets, set-comm, length-sets, leb-false, add-one, zero-add, sets-eq, take-append-seam, zero-le, append-nil, subst₂, drop-length, reverse, length-reverse, length-replicate, leb·zero, T, replicate, getD-replicate, length-take, List·getD-append, ext-getD, getD-take, getD-append-add, not-true, not-false, true≢false, not, _||_, take-at, leb→le, ltb→lt, take-suc, take-length, getD-at, map-append, add-assoc, drop-append-le, drop-append-add, List·getD-map, map-map, suc-add, fun-ext, _⊎_, inl, inr, reverseAux, reverse-cons, set-out, false≢true, mod-lt, mod-eq-of-lt, div-add-mod', suc-mul, set-getD, T-not, eqb→eq, map-set-same, le-antisymm, mul-le-mul-left, decided, add-suc, reverse-append, drop-set-lt, set-set, pos-of-ne-zero, getD-append-seam, mul-add, add-mul, div-le-of-le-mul, add-comm, mul-add-mod-self-left, add-mul-mod-self-right, add-mul-div-right, take-add, drop-at, take-all}
 unfoldable pub use Rattle.machine.specs.Basics.{ℕ-discrete}
 pub use Rattle.machine.specs.Limits.{maxClock, maxTurns, maxNumberBytes, fiveGroups, maxReportNumberBytes, maxReportNumber, maxTransaction, maxBlocks, maxSerial, maxTime, maxSamples, recordRoom, workNumbers, reportRoom, maxQueues, maxBrackets, maxConstant, maxFacilities, maxStorages, maxLiving, maxBack, maxLists, maxCapacity, maxPriority, maxSplit, maxAssemble, maxCounter, parameterCount, maxValueNumbers, maxValues, maxTerminate, maxTerms, maxMentions, maxNumber}
 pub use Rattle.machine.specs.Rules.{inForce, Rules, document01, item6, item11, document02, item1}

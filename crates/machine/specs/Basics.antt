@@ -6,7 +6,7 @@ pub use mathlib.Core.Bool.{Bool, true, false, not, cond, _&&_, _||_, true≢fals
 pub use mathlib.Core.List.{List, [], _∷_, _++_, map, reverse, append-assoc, append-nil, map-append, map-map, reverseAux, reverse-cons, reverse-append}
 pub use mathlib.Core.Option.{some, Option, none}
 pub use native.Mathlib.Omega.{arith}
-pub use native.Mathlib.Nat.{mul-le-mul, add-sub-cancel-left, pow-suc, pow-le-pow-right, one-le-pow, lt-of-lt-of-le, mul-assoc, mul-comm, mul-le-mul-right, le-mul-of-pos-right, le-trans, one-mul, add-zero, zero-add, add-assoc, suc-add, mod-lt, mod-eq-of-lt, div-add-mod', le-antisymm, mul-le-mul-left, add-suc, pos-of-ne-zero, mul-add, add-mul, div-le-of-le-mul, add-comm, mul-add-mod-self-left, add-mul-mod-self-right, add-mul-div-right}
+pub use native.Mathlib.Nat.{mul-le-mul, add-sub-cancel-left, pow-suc, pow-le-pow-right, one-le-pow, lt-of-lt-of-le, mul-assoc, mul-comm, mul-le-mul-right, le-mul-of-pos-right, le-trans, one-mul, add-zero, zero-add, add-assoc, suc-add, mod-lt, mod-eq-of-lt, div-add-mod', suc-mul, le-antisymm, mul-le-mul-left, add-suc, pos-of-ne-zero, mul-add, add-mul, div-le-of-le-mul, add-comm, mul-add-mod-self-left, add-mul-mod-self-right, add-mul-div-right}
 unfoldable pub use native.Mathlib.Decide.{ℕ-discrete}
 pub use native.Mathlib.Numerals.{add-one}
 pub use lib.ListN.{length, getD, drop, set, take, replicate, length-map, length-set, List·getD-eq-default, drop-of-length-le, length-drop, take-append-drop, length-append, length-reverse, length-replicate, getD-replicate, length-take, List·getD-append, List·getD-map}

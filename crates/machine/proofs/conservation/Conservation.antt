@@ -1,6 +1,6 @@
 -- Claims 1 and 2 of demand 3, of every state of a run: each living number stands exactly once and no other stands anywhere; made
 -- equals ended plus living, and the machine's counts are these.
-use Rattle.machine.specs.All.{cases, ℕ, _+_, _≤_, _<_, _≡_, refl, ap, _∙_, Bool, true, false, cond, _&&_, List, _++_, map, Option, none, some, arith, leb-true, leb-false, eqb-true, eqb-false, eq-eqb, ne-eqb, eqb, leb, length, length-append, length-map, Transaction, Interrupted, those, flat, BlockModel, State, taking, turn, start, states, placed, movingOne, places, Each, count, bit, upTo, everyone, standing, terminates, madeBy, endedBy, isLiving, livingCount}
+use Rattle.machine.specs.All.{ℕ, _+_, _≤_, _<_, _≡_, refl, ap, _∙_, Bool, true, false, cond, _&&_, List, _++_, map, Option, none, some, arith, leb-true, leb-false, eqb-true, eqb-false, eq-eqb, ne-eqb, eqb, leb, length, length-append, length-map, Transaction, Interrupted, those, flat, BlockModel, State, taking, turn, start, states, placed, movingOne, places, Each, count, bit, upTo, everyone, standing, terminates, madeBy, endedBy, isLiving, livingCount, sym}
 use Rattle.machine.proofs as our
 use our.{decoding.Proper.Proper, runs.Kept.taking-kept, conservation.StartLedger.booked-start}
 use our.runs.RunLaws.{each-state, each-map}
@@ -26,8 +26,10 @@ module _ (m : BlockModel) (tape : List (List ℕ)) (f : ℕ → ℕ) where
       omega (
         arith,
         sum-append number-weight
-            (flat (s .ql) ++ flat (s .wel) ++ s .wsl ++ s .rel ++ map (λ e. e .who) (s .fel) ++ movingOne (s .moving) ++ map (λ g. g .who) (flat (s .gatherers))) (map (λ i. i .who) (s .interrupted)),
-        sum-append number-weight (flat (s .ql) ++ flat (s .wel) ++ s .wsl ++ s .rel ++ map (λ e. e .who) (s .fel) ++ movingOne (s .moving)) (map (λ g. g .who) (flat (s .gatherers))),
+            (flat (s .ql) ++ flat (s .wel) ++ s .wsl ++ s .rel ++ map (λ e. e .who) (s .fel) ++ movingOne (s .moving) ++ map (λ g. g .who)
+            (flat (s .gatherers))) (map (λ i. i .who) (s .interrupted)),
+        sum-append number-weight (flat (s .ql) ++ flat (s .wel) ++ s .wsl ++ s .rel ++ map (λ e. e .who) (s .fel) ++ movingOne (s .moving))
+            (map (λ g. g .who) (flat (s .gatherers))),
         sum-append number-weight (flat (s .ql) ++ flat (s .wel) ++ s .wsl ++ s .rel ++ map (λ e. e .who) (s .fel)) (movingOne (s .moving)),
         sum-append number-weight (flat (s .ql) ++ flat (s .wel) ++ s .wsl ++ s .rel) (map (λ e. e .who) (s .fel)),
         sum-append number-weight (flat (s .ql) ++ flat (s .wel) ++ s .wsl) (s .rel),
@@ -57,7 +59,7 @@ module _ (m : BlockModel) (tape : List (List ℕ)) (s : State) (balanced : (f : 
 
   gone-endings : (n : ℕ) → gone m tape (λ k. bit (eqb k n)) (s .records) ≡ endings n
   gone-endings n =
-      sum-cong _ _ (λ r. both (terminates m tape r) _) (s .records) ∙ sum-count _ _
+      sum-cong _ _ (λ r. both (terminates m tape r) (eqb (r .entry .transaction) n)) (s .records) ∙ sum-count _ (s .records)
     where
       both : (a b : Bool) → cond a (bit b) 0 ≡ bit (a && b)
       both true b = refl
@@ -65,17 +67,14 @@ module _ (m : BlockModel) (tape : List (List ℕ)) (s : State) (balanced : (f : 
 
   standing-sum : (n : ℕ) → sumOn (λ t. bit (eqb (t .number) n)) (everyone s) ≡ standing s n
   unfolding standing
-  standing-sum n = sum-count _ _
+  standing-sum n = sum-count _ (everyone s)
 
   pub once : (n : ℕ) → standing s n + endings n ≡ upTo (s .made) (λ k. bit (eqb k n))
   once n = omega (arith, whole (λ k. bit (eqb k n)), gone-endings n, standing-sum n)
 
   pub stands-once : (n : ℕ) → standing s n ≡ bit (isLiving m tape (s .records) n)
   unfolding isLiving
-  stands-once n =
-      cases (leb 1 n)
-      (λ e. rw e (high _ refl (leb-true _ _ e)))
-      (λ e. rw e (omega (arith, once n, upTo-none (s .made) n (λ k a b c. omega (arith, leb-false 1 n e)))))
+  stands-once n = low (leb 1 n) refl
     where
       clear : (b : Bool) → eqb (endings n) 0 ≡ b → standing s n + endings n ≡ 1 → standing s n ≡ bit b
       clear true e w = omega (arith, eqb-true (endings n) 0 e)
@@ -85,8 +84,15 @@ module _ (m : BlockModel) (tape : List (List ℕ)) (s : State) (balanced : (f : 
           some-ended h = omega arith
 
       high : (b : Bool) → leb n (madeBy m tape (s .records)) ≡ b → 1 ≤ n → standing s n ≡ bit (b && eqb (endings n) 0)
-      high true e l = clear _ refl (omega (arith, once n, upTo-one (s .made) n l (omega (arith, leb-true n _ e, books .makes))))
-      high false e l = omega (arith, once n, upTo-none (s .made) n (λ k a b c. omega (arith, leb-false n _ e, books .makes)))
+      high true e l =
+          clear (eqb (endings n) 0) refl
+          (omega (arith, once n, upTo-one (s .made) n l (omega (arith, leb-true n (madeBy m tape (s .records)) e, books .makes))))
+      high false e l =
+          omega (arith, once n, upTo-none (s .made) n (λ k a b c. omega (arith, leb-false n (madeBy m tape (s .records)) e, books .makes)))
+
+      low : (b : Bool) → leb 1 n ≡ b → standing s n ≡ bit (b && leb n (madeBy m tape (s .records)) && eqb (endings n) 0)
+      low true e = high (leb n (madeBy m tape (s .records))) refl (leb-true _ _ e)
+      low false e = omega (arith, once n, upTo-none (s .made) n (λ k a b c. omega (arith, leb-false 1 n e)))
 
   -- ---- Counts
 
@@ -96,8 +102,8 @@ module _ (m : BlockModel) (tape : List (List ℕ)) (s : State) (balanced : (f : 
   -- everybody who stands there lives
   all-live : sumOn (λ t. lives (t .number)) (everyone s) ≡ length (everyone s)
   all-live =
-      sum-cong-keys (λ t. lives _) (λ t. 1) (λ t. t .number) (everyone s)
-      (λ t p. alive (isLiving m tape _ _) (omega (arith, stands-once (t .number), standing-sum (t .number))))
+      sum-cong-keys (λ t. lives (t .number)) (λ t. 1) (λ t. t .number) (everyone s)
+      (λ t p. alive (isLiving m tape (s .records) (t .number)) (omega (arith, stands-once (t .number), standing-sum (t .number))))
       ∙ sum-length (everyone s)
     where
       alive : (b : Bool) → 0 < bit b → bit b ≡ 1
@@ -107,7 +113,15 @@ module _ (m : BlockModel) (tape : List (List ℕ)) (s : State) (balanced : (f : 
   -- nobody who ended lives
   none-lives : gone m tape lives (s .records) ≡ 0
   none-lives =
-      cc (sum-test (λ r. lives (r .entry .transaction)) (terminates m tape) (s .records), sum-cong-keys (λ r. lives (r .entry .transaction)) (λ r. 0) (λ r. r .entry .transaction) (those (terminates m tape) (s .records)) (λ r p. ended-not (r .entry .transaction) (omega (arith, sum-test (λ y. bit (eqb (y .entry .transaction) (r .entry .transaction))) (terminates m tape) (s .records), gone-endings (r .entry .transaction)))), sum-zero (λ r. 0) (λ r. refl) (those (terminates m tape) (s .records)))
+      sym (sum-test (λ r. lives (r .entry .transaction)) (terminates m tape) (s .records))
+      ∙ sum-cong-keys (λ r. lives (r .entry .transaction)) (λ r. 0) (λ r. r .entry .transaction) (those (terminates m tape) (s .records))
+      (λ r p. ended-not (r .entry .transaction)
+      (omega (
+        arith,
+        sum-test (λ y. bit (eqb (y .entry .transaction) (r .entry .transaction))) (terminates m tape) (s .records),
+        gone-endings (r .entry .transaction),
+      )))
+      ∙ sum-zero (λ r. 0) (λ r. refl) (those (terminates m tape) (s .records))
     where
       no-third : (a b : Bool) → bit (a && b && false) ≡ 0
       no-third true true = refl
@@ -116,7 +130,8 @@ module _ (m : BlockModel) (tape : List (List ℕ)) (s : State) (balanced : (f : 
 
       ended-not : (n : ℕ) → 0 < endings n → lives n ≡ 0
       ended-not n p = unfold isLiving in
-          (cc (ne-eqb (endings n) 0 (λ z. omega arith), no-third (leb 1 n) (leb n (madeBy m tape (s .records)))))
+          (ap (λ c. bit (leb 1 n && leb n (madeBy m tape (s .records)) && c)) (ne-eqb (endings n) 0 (λ z. omega arith))
+          ∙ no-third (leb 1 n) (leb n (madeBy m tape (s .records))))
 
   everyone-lives : length (everyone s) ≡ livingCount m tape (s .records)
   unfolding livingCount
@@ -125,7 +140,11 @@ module _ (m : BlockModel) (tape : List (List ℕ)) (s : State) (balanced : (f : 
 
   gone-ended : gone m tape (λ k. 1) (s .records) ≡ endedBy m tape (s .records)
   unfolding endedBy
-  gone-ended = sum-cong _ _ (λ r. cases (terminates m tape r) (λ e. rw e) (λ e. rw e)) (s .records) ∙ sum-count _ _
+  gone-ended = sum-cong _ _ (λ r. one (terminates m tape r)) (s .records) ∙ sum-count (terminates m tape) (s .records)
+    where
+      one : (b : Bool) → cond b 1 0 ≡ bit b
+      one true = refl
+      one false = refl
 
   everyone-made : length (everyone s) + endedBy m tape (s .records) ≡ s .made
   everyone-made = omega (arith, whole (λ k. 1), sum-length (everyone s), gone-ended, upTo-ones (s .made))
@@ -153,28 +172,33 @@ module _ (m : BlockModel) (tape : List (List ℕ)) where
         made = h .books .makes;
         ended = h .books .ends;
         balance =
-            omega (arith, everyone-made m tape s (h .balanced) (h .books), everyone-lives m tape s (h .balanced) (h .books));
+            omega (
+              arith,
+              everyone-made m tape s (h .balanced) (h .books),
+              everyone-lives m tape s (h .balanced) (h .books),
+              h .books .makes,
+            );
         living = length-places s ∙ everyone-lives m tape s (h .balanced) (h .books);
       }
 
   -- no number stands twice, and none beyond those made
   pub stands-at-most-once : (s : State) → Sound m tape s → (n : ℕ) → standing s n ≤ 1
-  stands-at-most-once s h n = at-most (isLiving m tape _ n) (stands-once m tape s (h .balanced) (h .books) n)
+  stands-at-most-once s h n = at-most (isLiving m tape (s .records) n) (stands-once m tape s (h .balanced) (h .books) n)
     where
       at-most : (b : Bool) → standing s n ≡ bit b → standing s n ≤ 1
       at-most true e = omega arith
       at-most false e = omega arith
 
   pub stands-made : (s : State) → Sound m tape s → (n : ℕ) → 0 < standing s n → (1 ≤ n) × (n ≤ s .made)
-  stands-made s h n p = go _ _ refl refl
+  stands-made s h n p = go (leb 1 n) (leb n (s .made)) refl refl
     where
       all : standing s n ≤ upTo (s .made) (λ k. bit (eqb k n))
       all = omega (arith, once m tape s (h .balanced) (h .books) n)
 
       go : (a b : Bool) → leb 1 n ≡ a → leb n (s .made) ≡ b → (1 ≤ n) × (n ≤ s .made)
-      go true true e q = (leb-true 1 n e, leb-true n _ q)
+      go true true e q = (leb-true 1 n e, leb-true n (s .made) q)
       go true false e q =
-          absurd (omega (arith, all, upTo-none (s .made) n (λ k a b c. omega (arith, leb-false n _ q))))
+          absurd (omega (arith, all, upTo-none (s .made) n (λ k a b c. omega (arith, leb-false n (s .made) q))))
       go false b e q = absurd (omega (arith, all, upTo-none (s .made) n (λ k a b c. omega (arith, leb-false 1 n e))))
 
   alive : (b : Bool) → 0 < bit b → b ≡ true
@@ -184,22 +208,23 @@ module _ (m : BlockModel) (tape : List (List ℕ)) where
   -- who moves is living
   pub mover-lives : (s : State) → Sound m tape s → (t : Transaction) → s .moving ≡ some t → isLiving m tape (s .records) (t .number) ≡ true
   mover-lives s h t e =
-      alive _
+      alive (isLiving m tape (s .records) (t .number))
       (omega (
         arith,
         stands-once m tape s (h .balanced) (h .books) (t .number),
         standing-sum m tape s (h .balanced) (h .books) (t .number),
         sum-everyone m tape (λ k. bit (eqb k (t .number))) s,
         ap (held m tape (λ k. bit (eqb k (t .number)))) e,
-        ap bit (eq-eqb (t .number) _ refl),
+        ap bit (eq-eqb (t .number) (t .number) refl),
       ))
 
   -- and so are the interrupted ones
-  pub interrupted-live : (s : State) → Sound m tape s → Each (λ (i : Interrupted). isLiving m tape (s .records) (i .who .number) ≡ true) (s .interrupted)
+  pub interrupted-live : (s : State) → Sound m tape s
+      → Each (λ (i : Interrupted). isLiving m tape (s .records) (i .who .number) ≡ true) (s .interrupted)
   interrupted-live s h =
       each-member (λ (i : Interrupted). i .who .number) _ (s .interrupted)
       (λ i p.
-      alive _
+      alive (isLiving m tape (s .records) (i .who .number))
       (omega (
         arith,
         stands-once m tape s (h .balanced) (h .books) (i .who .number),
@@ -214,9 +239,9 @@ module _ (m : BlockModel) (tape : List (List ℕ)) where
   pub sound-taking : (s : State) → Sound m tape s → Sound m tape (taking (s .moving) s)
   sound-taking s h =
       record {
-        shape = taking-kept _ (shape-closed m) _ s (h .shape);
-        balanced = λ f. balanced-taking m tape f _ s refl (h .balanced f);
-        books = booked-taking m tape _ s (h .books);
+        shape = taking-kept (Shape m) (shape-closed m) (s .moving) s (h .shape);
+        balanced = λ f. balanced-taking m tape f (s .moving) s refl (h .balanced f);
+        books = booked-taking m tape (s .moving) s (h .books);
       }
 
   pub sound-turn : Proper m tape → (s : State) → Sound m tape s → Sound m tape (turn m s)
@@ -229,7 +254,7 @@ module _ (m : BlockModel) (tape : List (List ℕ)) where
 
   pub sound : (budget room : ℕ) → Proper m tape → Each (Sound m tape) (states m tape budget room)
   sound budget room proper =
-      each-state m budget room _ (λ s t h. sound-turn proper s h)
+      each-state m budget room (Sound m tape) (λ s t h. sound-turn proper s h)
       (λ s e c h. record { shape = h .shape; balanced = h .balanced; books = h .books }) tape (sound-start proper)
 
   pub conserved : (budget room : ℕ) → Proper m tape → Each (Conserved m tape) (states m tape budget room)

@@ -29,19 +29,21 @@ nowhere : Place
 nowhere = record { number = 0; place = 0 }
 
 at-index : (l : List ℕ) {i j : ℕ} → i ≡ j → getD l i 0 ≡ getD l j 0
-at-index l e = cc e
+at-index l e = ap (λ (k : ℕ). getD l k 0) e
 
 number-at : (l : List Place) (i : ℕ) → getD (placeNumbers l) (2 * i) 0 ≡ getD l i nowhere .number
 unfolding placeNumbers nowhere
 number-at [] i = refl
 number-at (p ∷ l) zero = refl
-number-at (p ∷ l) (suc i) = at-index (p .number ∷ p .place ∷ placeNumbers l) {i = 2 * suc i} {j = suc (suc _)} (omega arith) ∙ number-at l i
+number-at (p ∷ l) (suc i) =
+    at-index (p .number ∷ p .place ∷ placeNumbers l) {i = 2 * suc i} {j = suc (suc (2 * i))} (omega arith) ∙ number-at l i
 
 place-at : (l : List Place) (i : ℕ) → getD (placeNumbers l) (suc (2 * i)) 0 ≡ getD l i nowhere .place
 unfolding placeNumbers nowhere
 place-at [] i = refl
 place-at (p ∷ l) zero = refl
-place-at (p ∷ l) (suc i) = at-index (p .number ∷ p .place ∷ placeNumbers l) {i = suc (2 * suc i)} {j = suc (suc _)} (omega arith) ∙ place-at l i
+place-at (p ∷ l) (suc i) =
+    at-index (p .number ∷ p .place ∷ placeNumbers l) {i = suc (2 * suc i)} {j = suc (suc (suc (2 * i)))} (omega arith) ∙ place-at l i
 
 -- ---- By rising number
 
@@ -50,11 +52,12 @@ unfolding Rising
 low-at low [] r h = absurd (omega arith)
 low-at low (p ∷ l) r h = r .0
 
-rising-at : (low : ℕ) (l : List Place) → Rising low l → (i : ℕ) → suc i < length l → getD l i nowhere .number < getD l (suc i) nowhere .number
+rising-at : (low : ℕ) (l : List Place) → Rising low l → (i : ℕ) → suc i < length l
+    → getD l i nowhere .number < getD l (suc i) nowhere .number
 unfolding Rising
 rising-at low [] r i h = absurd (omega arith)
-rising-at low (p ∷ l) r zero h = low-at _ l (r .1) (omega arith)
-rising-at low (p ∷ l) r (suc i) h = rising-at _ l (r .1) i (omega arith)
+rising-at low (p ∷ l) r zero h = low-at (suc (p .number)) l (r .1) (omega arith)
+rising-at low (p ∷ l) r (suc i) h = rising-at (suc (p .number)) l (r .1) i (omega arith)
 
 -- a member weighs no more than all
 weighed : (f : Place → ℕ) (l : List Place) (i : ℕ) → i < length l → f (getD l i nowhere) ≤ sumOn f l
@@ -91,7 +94,7 @@ module _ {m : BlockModel} {tape : List (List ℕ)} (s : State) (sound : Sound m 
   K = livingCount m tape (s .records)
 
   size : length sorted ≡ K
-  size = cc (sum-length sorted, sum-sorted (λ p. 1) (places s), sum-length (places s), kept .living)
+  size = sym (sum-length sorted) ∙ sum-sorted (λ p. 1) (places s) ∙ sum-length (places s) ∙ kept .living
 
   abbrev front : List ℕ
   front =
@@ -101,7 +104,14 @@ module _ {m : BlockModel} {tape : List (List ℕ)} (s : State) (sound : Sound m 
   front-size : length front ≡ livingAt m tape
   unfolding livingAt
   front-size =
-      omega (arith, length-append (serverNumbers m (s .records) 1 (s .view .servers)) (queueNumbers m (s .records) 1 (s .view .queues)), server-numbers m (s .records) 1 (s .view .servers), queue-numbers m (s .records) 1 (s .view .queues), server-length (sound .shape))
+      omega (
+        arith,
+        length-append (serverNumbers m (s .records) 1 (s .view .servers)) (queueNumbers m (s .records) 1 (s .view .queues)),
+        server-numbers m (s .records) 1 (s .view .servers),
+        queue-numbers m (s .records) 1 (s .view .queues),
+        server-length (sound .shape),
+        sound .shape .queue-length,
+      )
 
   report-is : reportNumbers m s ≡ front ++ (length (places s) ∷ placeNumbers sorted)
   unfolding reportNumbers
@@ -109,13 +119,15 @@ module _ {m : BlockModel} {tape : List (List ℕ)} (s : State) (sound : Sound m 
 
   behind : (j : ℕ) → getD (reportNumbers m s) (livingAt m tape + j) 0 ≡ getD (length (places s) ∷ placeNumbers sorted) j 0
   behind j =
-      cc (report-is, at-index (front ++ (length (places s) ∷ placeNumbers sorted)) (ap (λ (n : ℕ). n + j) (sym front-size)), getD-append-add front (length (places s) ∷ placeNumbers sorted) j 0)
+      ap (λ (l : List ℕ). getD l (livingAt m tape + j) 0) report-is
+      ∙ at-index (front ++ (length (places s) ∷ placeNumbers sorted)) (ap (λ (n : ℕ). n + j) (sym front-size))
+      ∙ getD-append-add front (length (places s) ∷ placeNumbers sorted) j 0
 
   number-is : (i : ℕ) → listedNumber m tape s i ≡ getD sorted i nowhere .number
-  number-is i = at-index (reportNumbers m s) (omega arith) ∙ behind (suc _) ∙ number-at sorted i
+  number-is i = at-index (reportNumbers m s) (omega arith) ∙ behind (suc (2 * i)) ∙ number-at sorted i
 
   place-is : (i : ℕ) → listedPlace m tape s i ≡ getD sorted i nowhere .place
-  place-is i = at-index (reportNumbers m s) (omega arith) ∙ behind (suc _) ∙ place-at sorted i
+  place-is i = at-index (reportNumbers m s) (omega arith) ∙ behind (suc (suc (2 * i))) ∙ place-at sorted i
 
   abbrev rises : Rising 0 sorted
   rises = sorted-rising (places s) once
@@ -150,7 +162,8 @@ module _ {m : BlockModel} {tape : List (List ℕ)} (s : State) (sound : Sound m 
           sum-sorted here (places s),
           weighed here sorted i (omega (arith, size)),
           ap bit (ap (λ b. b && eqb (p .number) (p .number)) (own (p .place)) ∙ own (p .number)),
-          lighter here (λ q. bit (eqb (q .number) (p .number))) (λ q. both-less (eqb (q .place) (p .place)) _) (places s),
+          lighter here (λ q. bit (eqb (q .number) (p .number))) (λ q. both-less (eqb (q .place) (p .place)) (eqb (q .number) (p .number)))
+              (places s),
           once (p .number),
         )
 
@@ -168,7 +181,8 @@ module _ {m : BlockModel} {tape : List (List ℕ)} (s : State) (sound : Sound m 
               size,
             );
         rising = λ i h. omega (arith, number-is i, number-is (suc i), rising-at 0 sorted rises i (omega (arith, size)));
-        living = λ i h. cc (number-is i, alive i h);
+        living = λ i h. ap (isLiving m tape (s .records)) (number-is i) ∙ alive i h;
         placed = λ i h.
-            cc (place-is i, number-is i, at-place i h);
+            ap (λ (n : ℕ). standingAt m tape s n (listedNumber m tape s i)) (place-is i)
+            ∙ ap (standingAt m tape s (getD sorted i nowhere .place)) (number-is i) ∙ at-place i h;
       }

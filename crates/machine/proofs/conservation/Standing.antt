@@ -14,21 +14,28 @@ module _ (f : Place → ℕ) where
 
   pub sum-places : (s : State) →
       sumOn f (places s)
-      ≡ sumOn (at 1) (flat (s .ql)) + sumOn (at 2) (flat (s .wel)) + sumOn (at 3) (s .wsl) + sumOn (λ (e : Event). at 4 (e .who)) (s .fel) + sumOn (at 5) (s .rel)
-      + sumOn (at 6) (movingOne (s .moving)) + sumOn (λ (g : Gatherer). at 7 (g .who)) (flat (s .gatherers)) + sumOn (λ (i : Interrupted). at 8 (i .who)) (s .interrupted)
+      ≡ sumOn (at 1) (flat (s .ql)) + sumOn (at 2) (flat (s .wel)) + sumOn (at 3) (s .wsl) + sumOn (λ (e : Event). at 4 (e .who))
+      (s .fel) + sumOn (at 5) (s .rel)
+      + sumOn (at 6) (movingOne (s .moving)) + sumOn (λ (g : Gatherer). at 7 (g .who)) (flat (s .gatherers)) + sumOn
+      (λ (i : Interrupted). at 8 (i .who)) (s .interrupted)
   unfolding places
   sum-places s =
       omega (
         arith,
         sum-append f
-            (placed 1 (flat (s .ql)) ++ placed 2 (flat (s .wel)) ++ placed 3 (s .wsl) ++ placed 4 (map (λ e. e .who) (s .fel)) ++ placed 5 (s .rel) ++ placed 6 (movingOne (s .moving))
+            (placed 1 (flat (s .ql)) ++ placed 2 (flat (s .wel)) ++ placed 3 (s .wsl) ++ placed 4 (map (λ e. e .who) (s .fel)) ++ placed 5
+            (s .rel) ++ placed 6 (movingOne (s .moving))
             ++ placed 7 (map (λ g. g .who) (flat (s .gatherers))))
             (placed 8 (map (λ i. i .who) (s .interrupted))),
         sum-append f
-            (placed 1 (flat (s .ql)) ++ placed 2 (flat (s .wel)) ++ placed 3 (s .wsl) ++ placed 4 (map (λ e. e .who) (s .fel)) ++ placed 5 (s .rel) ++ placed 6 (movingOne (s .moving)))
+            (placed 1 (flat (s .ql)) ++ placed 2 (flat (s .wel)) ++ placed 3 (s .wsl) ++ placed 4 (map (λ e. e .who) (s .fel)) ++ placed 5
+            (s .rel) ++ placed 6 (movingOne (s .moving)))
             (placed 7 (map (λ g. g .who) (flat (s .gatherers)))),
-        sum-append f (placed 1 (flat (s .ql)) ++ placed 2 (flat (s .wel)) ++ placed 3 (s .wsl) ++ placed 4 (map (λ e. e .who) (s .fel)) ++ placed 5 (s .rel)) (placed 6 (movingOne (s .moving))),
-        sum-append f (placed 1 (flat (s .ql)) ++ placed 2 (flat (s .wel)) ++ placed 3 (s .wsl) ++ placed 4 (map (λ e. e .who) (s .fel))) (placed 5 (s .rel)),
+        sum-append f
+            (placed 1 (flat (s .ql)) ++ placed 2 (flat (s .wel)) ++ placed 3 (s .wsl) ++ placed 4 (map (λ e. e .who) (s .fel)) ++ placed 5
+            (s .rel)) (placed 6 (movingOne (s .moving))),
+        sum-append f (placed 1 (flat (s .ql)) ++ placed 2 (flat (s .wel)) ++ placed 3 (s .wsl) ++ placed 4 (map (λ e. e .who) (s .fel)))
+            (placed 5 (s .rel)),
         sum-append f (placed 1 (flat (s .ql)) ++ placed 2 (flat (s .wel)) ++ placed 3 (s .wsl)) (placed 4 (map (λ e. e .who) (s .fel))),
         sum-append f (placed 1 (flat (s .ql)) ++ placed 2 (flat (s .wel))) (placed 3 (s .wsl)),
         sum-append f (placed 1 (flat (s .ql))) (placed 2 (flat (s .wel))),
@@ -53,9 +60,14 @@ times-standing s n =
     omega (
       arith,
       sum-places (λ p. bit (eqb (p .number) n)) s,
-      sum-count (λ (t : Transaction). eqb (t .number) n) (flat (s .ql) ++ flat (s .wel) ++ s .wsl ++ s .rel ++ map (λ e. e .who) (s .fel) ++ movingOne (s .moving) ++ map (λ g. g .who) (flat (s .gatherers)) ++ map (λ i. i .who) (s .interrupted)),
-      sum-append is (flat (s .ql) ++ flat (s .wel) ++ s .wsl ++ s .rel ++ map (λ e. e .who) (s .fel) ++ movingOne (s .moving) ++ map (λ g. g .who) (flat (s .gatherers))) (map (λ i. i .who) (s .interrupted)),
-      sum-append is (flat (s .ql) ++ flat (s .wel) ++ s .wsl ++ s .rel ++ map (λ e. e .who) (s .fel) ++ movingOne (s .moving)) (map (λ g. g .who) (flat (s .gatherers))),
+      sum-count (λ (t : Transaction). eqb (t .number) n)
+          (flat (s .ql) ++ flat (s .wel) ++ s .wsl ++ s .rel ++ map (λ e. e .who) (s .fel) ++ movingOne (s .moving) ++ map (λ g. g .who)
+          (flat (s .gatherers)) ++ map (λ i. i .who) (s .interrupted)),
+      sum-append is
+          (flat (s .ql) ++ flat (s .wel) ++ s .wsl ++ s .rel ++ map (λ e. e .who) (s .fel) ++ movingOne (s .moving) ++ map (λ g. g .who)
+          (flat (s .gatherers))) (map (λ i. i .who) (s .interrupted)),
+      sum-append is (flat (s .ql) ++ flat (s .wel) ++ s .wsl ++ s .rel ++ map (λ e. e .who) (s .fel) ++ movingOne (s .moving))
+          (map (λ g. g .who) (flat (s .gatherers))),
       sum-append is (flat (s .ql) ++ flat (s .wel) ++ s .wsl ++ s .rel ++ map (λ e. e .who) (s .fel)) (movingOne (s .moving)),
       sum-append is (flat (s .ql) ++ flat (s .wel) ++ s .wsl ++ s .rel) (map (λ e. e .who) (s .fel)),
       sum-append is (flat (s .ql) ++ flat (s .wel) ++ s .wsl) (s .rel),

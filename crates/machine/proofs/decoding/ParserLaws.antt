@@ -1,6 +1,6 @@
 -- What a parser ensures: of whatever it gives, a claim; of whatever it refuses with, that it is a number from 1 to 10. One law for
 -- each way to build a parser.
-use Rattle.machine.specs.All.{ℕ, zero, suc, _≤_, _≡_, refl, Bool, true, false, cond, _&&_, false≢true, List, Option, none, some, arith, leb-true, T, leb, length, Number, Cursor, Parsed, parsed, refused, Parser, continue, _>>=_, give, refuse, ask, times, fieldOf, fieldUpTo, Each}
+use Rattle.machine.specs.All.{ℕ, zero, suc, _≤_, _≡_, refl, Bool, true, false, cond, _&&_, false≢true, List, Option, none, some, arith, leb-true, T, leb, length, Number, Cursor, Parsed, parsed, refused, Parser, continue, _>>=_, give, refuse, ask, times, fieldOf, fieldUpTo, Each, drop, maxNumberBytes, readNumber, forward}
 use Rattle.machine.proofs.runs.RunLaws.{cond-cases}
 
 -- ---- Definition
@@ -21,16 +21,18 @@ Any a = Unit {0}
 
 -- ---- Ways to build a parser
 
-continued : {A B : Type 0} (P : A → Type 0) (Q : B → Type 0) (r : Parsed A) (f : A → Parser B) → Gives P r → ((a : A) → P a → (c : Cursor) → Gives Q (f a c))
+continued : {A B : Type 0} (P : A → Type 0) (Q : B → Type 0) (r : Parsed A) (f : A → Parser B) → Gives P r
+    → ((a : A) → P a → (c : Cursor) → Gives Q (f a c))
     → Gives Q (continue r f)
 unfolding continue
 continued P Q (parsed a c) f h k = k a h c
 continued P Q (refused n) f h k = h
 
 module _ {A : Type 0} where
-  pub then : {B : Type 0} {P : A → Type 0} {Q : B → Type 0} {p : Parser A} {f : A → Parser B} → Ensures P p → ((a : A) → P a → Ensures Q (f a))
+  pub then : {B : Type 0} {P : A → Type 0} {Q : B → Type 0} {p : Parser A} {f : A → Parser B} → Ensures P p
+      → ((a : A) → P a → Ensures Q (f a))
       → Ensures Q (p >>= f)
-  then {P = P} {Q = Q} {p = p} {f = f} e k = record { from = λ c. continued P Q _ f (e .from c) (λ a h c. k a h .from c) }
+  then {P = P} {Q = Q} {p = p} {f = f} e k = record { from = λ c. continued P Q (p c) f (e .from c) (λ a h c. k a h .from c) }
 
   pub gives : {P : A → Type 0} {a : A} → P a → Ensures P (give a)
   gives h = record { from = λ c. h }
@@ -51,7 +53,7 @@ module _ {A : Type 0} where
 pub repeated : {A : Type 0} {P : A → Type 0} {p : Parser A} (n : ℕ) → Ensures P p → Ensures (λ l. (length l ≡ n) × Each P l) (times n p)
 unfolding times
 repeated zero e = gives (refl, tt)
-repeated (suc n) e = then e (λ a h. then (repeated n e) (λ l k. gives (omega arith, (h, k .1))))
+repeated (suc n) e = then e (λ a h. then (repeated n e) (λ l k. gives (omega (arith, k .0), (h, k .1))))
 
 pub asked : (b : Bool) (n : ℕ) → Refusal n → Ensures (λ u. T b) (ask b n)
 unfolding ask
@@ -64,17 +66,20 @@ pub and-true : (a b : Bool) → (a && b) ≡ true → (a ≡ true) × (b ≡ tru
 and-true true b e = (refl, e)
 and-true false b e = absurd (false≢true e)
 
-field-of : (code lo hi : ℕ) → 1 ≤ code → code ≤ 9 → (o : Option Number) (c : Cursor) → Gives (λ n. (lo ≤ n) × (n ≤ hi)) (fieldOf code lo hi o c)
+field-of : (code lo hi : ℕ) → 1 ≤ code → code ≤ 9 → (o : Option Number) (c : Cursor)
+    → Gives (λ n. (lo ≤ n) × (n ≤ hi)) (fieldOf code lo hi o c)
 unfolding fieldOf
 field-of code lo hi low high none c = (omega arith, omega arith)
 field-of code lo hi low high (some n) c =
-    cond-cases (Gives (λ n. (lo ≤ n) × _)) (leb lo (n .value) && leb (n .value) hi) _ _
+    cond-cases (Gives (λ n. (lo ≤ n) × (n ≤ hi))) (leb lo (n .value) && leb (n .value) hi) (parsed (n .value) (forward c (n .size)))
+    (refused (suc code))
     (λ e.
-    let tests = and-true _ _ e in
-    (leb-true lo _ (tests .0), leb-true _ hi (tests .1)))
+    let tests = and-true (leb lo (n .value)) (leb (n .value) hi) e in
+    (leb-true lo (n .value) (tests .0), leb-true (n .value) hi (tests .1)))
     (λ e. (omega arith, omega arith))
 
-pub in-range : (most : ℕ) (s : List ℕ) (code lo hi : ℕ) → 1 ≤ code → code ≤ 9 → Ensures (λ n. (lo ≤ n) × (n ≤ hi)) (fieldUpTo most s code lo hi)
+pub in-range : (most : ℕ) (s : List ℕ) (code lo hi : ℕ) → 1 ≤ code → code ≤ 9
+    → Ensures (λ n. (lo ≤ n) × (n ≤ hi)) (fieldUpTo most s code lo hi)
 unfolding fieldUpTo
 in-range most s code lo hi low high =
-    record { from = λ c. field-of code lo hi low high _ c }
+    record { from = λ c. field-of code lo hi low high (readNumber maxNumberBytes most (drop (c .position) s)) c }

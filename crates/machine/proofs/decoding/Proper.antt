@@ -87,10 +87,12 @@ role (preempt f) = preempting f
 role (giveBack f) = neither refl refl
 
 -- a GENERATE names a list and a priority; other blocks have rank 0
-pub generates-list : (m : BlockModel) (b : Block) → ProperBlock m b → (facts b .generates ≡ 0 → ⊥) → Names (m .lists) (facts b .generates) × (facts b .rank ≤ maxPriority)
+pub generates-list : (m : BlockModel) (b : Block) → ProperBlock m b → (facts b .generates ≡ 0 → ⊥)
+    → Names (m .lists) (facts b .generates) × (facts b .rank ≤ maxPriority)
 generates-list m b h n = go (role b) h n
   where
-    go : {b : Block} → Role b → ProperBlock m b → (facts b .generates ≡ 0 → ⊥) → Names (m .lists) (facts b .generates) × (facts b .rank ≤ maxPriority)
+    go : {b : Block} → Role b → ProperBlock m b → (facts b .generates ≡ 0 → ⊥)
+        → Names (m .lists) (facts b .generates) × (facts b .rank ≤ maxPriority)
     go (generating list p) h n = unfold facts in h
     go (taking x) h n = absurd (n (unfold facts in refl))
     go (preempting f) h n = absurd (n (unfold facts in refl))

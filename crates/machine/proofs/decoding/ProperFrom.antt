@@ -1,5 +1,5 @@
 -- Validation from bytes: what it accepts is proper, and what it refuses with is one of its ten numbers.
-use Rattle.machine.specs.All.{ℕ, zero, suc, _+_, _≤_, _<_, _≡_, refl, sym, ap, subst, Bool, cond, List, [], _∷_, arith, leb-true, leb-false, T, leb, ltb, eqb, length, getD, Rules, nth, Term, Block, enter, leave, BlockModel, facts, compared, Parsed, parsed, refused, Parser, times, Counts, codeOf, simpleTerm, number, blockTerm, counted, mentioned, valueNumber, sumTerms, sumField, bracketField, comparisonField, mentionField, taggedTerm, valueTerm, valueField, valueFields, codeServer, storageUnits, operands, blockField, modelFields, atEnd, listField, wellFormed, beginning, modelOf, tapeOf, Validation, accept, reject, withTape, withModel, validate, Each}
+use Rattle.machine.specs.All.{ℕ, zero, suc, _+_, _≤_, _<_, _≡_, refl, sym, ap, subst, Bool, cond, List, [], _∷_, arith, leb-true, leb-false, T, leb, ltb, eqb, length, getD, Rules, nth, Term, Block, enter, leave, BlockModel, facts, compared, Parsed, parsed, refused, Parser, times, Counts, codeOf, simpleTerm, number, blockTerm, counted, mentioned, valueNumber, sumTerms, sumField, bracketField, comparisonField, mentionField, taggedTerm, valueTerm, valueField, valueFields, codeServer, storageUnits, operands, blockField, modelFields, atEnd, listField, wellFormed, beginning, modelOf, tapeOf, Validation, accept, reject, withTape, withModel, validate, Each, _-_, terminate, inValue}
 use Rattle.machine.specs.Limits as Limits
 use Rattle.machine.proofs as our
 use our.decoding.Proper.{Names, Storage, CodeServer, Units, ProperBlock, Proper}
@@ -21,10 +21,10 @@ module _ (read : ℕ → ℕ → Parser ℕ) (reads : (lo hi : ℕ) → Ensures 
       (both (eqb tag 1) (then (reads 0 Limits.maxConstant) (λ k h. gives tt))
       (both (eqb tag 2) (then (reads 1 Limits.parameterCount) (λ k h. gives tt))
       (both (eqb tag 3) (then (reads 0 0) (λ k h. gives tt))
-      (both (eqb tag 4) (then (reads 1 _) (λ k h. gives tt))
-      (both (eqb tag 5) (then (reads 1 _) (λ k h. gives tt))
-      (both (eqb tag 6) (then (reads 1 _) (λ k h. gives tt))
-      (both (eqb tag 7) (then (reads 1 _) (λ k h. gives tt)) (then (reads 1 _) (λ k h. gives tt)))))))))
+      (both (eqb tag 4) (then (reads 1 (n .blocks)) (λ k h. gives tt))
+      (both (eqb tag 5) (then (reads 1 (n .queues)) (λ k h. gives tt))
+      (both (eqb tag 6) (then (reads 1 (n .storages)) (λ k h. gives tt))
+      (both (eqb tag 7) (then (reads 1 (n .storages)) (λ k h. gives tt)) (then (reads 1 (n .facilities)) (λ k h. gives tt)))))))))
 
 module _ (s : List ℕ) where
   -- a number of the model, with its range
@@ -37,7 +37,8 @@ module _ (s : List ℕ) where
   block-term : (n : Counts) → Ensures Any (blockTerm s n)
   unfolding blockTerm
   block-term n =
-      then (any-number 0 9) (λ tag h. both (eqb tag 9) (then (any-number 1 _) (λ k h. gives tt)) (simple-any _ any-number n tag))
+      then (any-number 0 9)
+      (λ tag h. both (eqb tag 9) (then (any-number 1 (n .values)) (λ k h. gives tt)) (simple-any (number s) any-number n tag))
 
   counted-any : (n : ℕ) → Ensures Any (counted s n)
   unfolding counted
@@ -75,11 +76,16 @@ module _ (s : List ℕ) where
   unfolding comparisonField
   comparison-field inner e = then (value-number 1 6) (λ r h. then e (λ a h. then e (λ b h. gives tt)))
 
+  mention-field : (n : Counts) → Ensures Any (mentionField s n)
+  unfolding mentionField
+  mention-field n = then (value-number 1 (n .values)) (λ k h. then (mentioned-any k) (λ m h. gives tt))
+
   tagged-term : (n : Counts) (p q : Parser Term) → Ensures Any p → Ensures Any q → Ensures Any (taggedTerm s n p q)
   unfolding taggedTerm
   tagged-term n p q h k =
       then (value-number 0 11)
-      (λ tag g. both (eqb tag 9) (unfold mentionField in then (value-number 1 _) (λ k h. then (mentioned-any k) (λ m h. gives tt))) (both (eqb tag 10) h (both (eqb tag 11) k (simple-any _ value-number n tag))))
+      (λ tag g. both (eqb tag 9) (mention-field n)
+      (both (eqb tag 10) h (both (eqb tag 11) k (simple-any (valueNumber s) value-number n tag))))
 
   value-term : (n : Counts) (d : ℕ) → Ensures Any (valueTerm s n d)
   unfolding valueTerm
@@ -89,7 +95,14 @@ module _ (s : List ℕ) where
   value-fields : (n : Counts) (left lower : ℕ) → Ensures Any (valueFields s n left lower)
   unfolding valueFields valueField
   value-fields n zero lower = gives tt
-  value-fields n (suc left) lower = then (record { from = λ c. sum-field _ (value-term _ Limits.maxBrackets) .from (record { position = c .position; numbers = 0; mentions = 0 }) }) (λ e h. then (value-fields n left _) (λ l h. gives tt))
+  value-fields n (suc left) lower = then one (λ e h. then (value-fields n left (suc lower)) (λ l h. gives tt))
+    where
+      one : Ensures Any (valueField s (inValue s n lower))
+      one =
+          record {
+            from = λ c. sum-field _ (value-term (inValue s n lower) Limits.maxBrackets) .from
+                (record { position = c .position; numbers = 0; mentions = 0 });
+          }
 
 -- ---- Blocks
 
@@ -126,37 +139,45 @@ module _ (s : List ℕ) (n : Counts) (capacities : List ℕ) where
   Good b = (m : BlockModel) → Matches n capacities m → ProperBlock m b
 
   storage-number : (k : ℕ) → 1 ≤ k → k ≤ n .storages → (m : BlockModel) → Matches n capacities m → Storage m (n .facilities + k)
-  storage-number k low high m at = (omega arith, omega (arith, ap length (at .capacities-are), at .storages))
+  storage-number k low high m at =
+      (omega (arith, at .facilities), omega (arith, at .facilities, ap length (at .capacities-are), at .storages))
 
   units : (k b : ℕ) → 1 ≤ b → b ≤ nth capacities k 0 → (m : BlockModel) → Matches n capacities m → Units m (n .facilities + k) b
-  units k b low high m at = (low, λ j e. (rw (at .capacities-are) (subst (λ j. b ≤ nth capacities j 0) (omega arith) high)))
+  units k b low high m at = (low, λ j e. within j (omega (arith, at .facilities)))
+    where
+      within : (j : ℕ) → k ≡ j → b ≤ nth (m .capacities) j 0
+      within j e = rw (at .capacities-are) (subst (λ j. b ≤ nth capacities j 0) e high)
 
   storage-units : (Q : Block → Type 0) (make : ℕ → ℕ → Block)
-      → ((k b : ℕ) → 1 ≤ k → k ≤ n .storages → 1 ≤ b → b ≤ nth capacities k 0 → Q (make (n .facilities + k) b)) → Ensures Q (storageUnits s n capacities make)
+      → ((k b : ℕ) → 1 ≤ k → k ≤ n .storages → 1 ≤ b → b ≤ nth capacities k 0 → Q (make (n .facilities + k) b))
+      → Ensures Q (storageUnits s n capacities make)
   unfolding storageUnits
   storage-units Q make good =
-      then (ranged s 1 _)
-      (λ k h. then (ranged s 1 _) (λ b g. gives (good k b (h .0) (h .1) (g .0) (g .1))))
+      then (ranged s 1 (n .storages))
+      (λ k h. then (ranged s 1 (nth capacities k 0)) (λ b g. gives (good k b (h .0) (h .1) (g .0) (g .1))))
 
-  code-server : (code : ℕ) → 1 ≤ code → code ≤ 6 → Ensures (λ v. (m : BlockModel) → Matches n capacities m → CodeServer m (codeOf code) v) (codeServer s n code)
+  code-server : (code : ℕ) → 1 ≤ code → code ≤ 6
+      → Ensures (λ v. (m : BlockModel) → Matches n capacities m → CodeServer m (codeOf code) v) (codeServer s n code)
   unfolding codeServer
   code-server code low high =
-      choice _
-      (λ e. weaken (λ v h m at. facility-code m code v low (leb-true _ _ e) (h .0, omega arith)) (ranged s 1 _))
-      (λ e. then (ranged s 1 _) (λ k h. gives (λ m at. storage-code m code _ (leb-false _ _ e) high (storage-number k (h .0) (h .1) m at))))
+      choice (leb code 2)
+      (λ e. weaken (λ v h m at. facility-code m code v low (leb-true _ _ e) (h .0, omega (arith, at .facilities)))
+      (ranged s 1 (n .facilities)))
+      (λ e. then (ranged s 1 (n .storages))
+      (λ k h. gives (λ m at. storage-code m code _ (leb-false _ _ e) high (storage-number k (h .0) (h .1) m at))))
 
   -- a block number that exists
   target-in : (k : ℕ) → 1 ≤ k → k ≤ n .blocks → (m : BlockModel) → Matches n capacities m → Names (length (m .blocks)) k
-  target-in k low high m at = (low, omega arith)
+  target-in k low high m at = (low, omega (arith, at .blocks))
 
   facility-in : (k : ℕ) → 1 ≤ k → k ≤ n .facilities → (m : BlockModel) → Matches n capacities m → Names (m .facilities) k
-  facility-in k low high m at = (low, omega arith)
+  facility-in k low high m at = (low, omega (arith, at .facilities))
 
   list-in : (k : ℕ) → 1 ≤ k → k ≤ n .lists → (m : BlockModel) → Matches n capacities m → Names (m .lists) k
-  list-in k low high m at = (low, omega arith)
+  list-in k low high m at = (low, omega (arith, at .lists))
 
   queue-in : (k : ℕ) → 1 ≤ k → k ≤ n .queues → (m : BlockModel) → Matches n capacities m → Names (m .queues) k
-  queue-in k low high m at = (low, omega arith)
+  queue-in k low high m at = (low, omega (arith, at .queues))
 
   -- with what is known of every term that a block reads
   module _ (P : Term → Type 0) (term-good : Ensures P (blockTerm s n)) where
@@ -167,31 +188,37 @@ module _ (s : List ℕ) (n : Counts) (capacities : List ℕ) where
     unfolding operands facts compared
     operands-good kind =
         both (eqb kind 1)
-        (then (ranged s 1 _) (λ l h. then (ranged s 0 Limits.maxPriority) (λ p g. gives (λ m at. (list-in l (h .0) (h .1) m at, g .1), tt))))
-        (both (eqb kind 2) (then (ranged s 1 _) (λ l h. gives (list-in l (h .0) (h .1), tt)))
+        (then (ranged s 1 (n .lists))
+        (λ l h. then (ranged s 0 Limits.maxPriority) (λ p g. gives (λ m at. (list-in l (h .0) (h .1) m at, g .1), tt))))
+        (both (eqb kind 2) (then (ranged s 1 (n .lists)) (λ l h. gives (list-in l (h .0) (h .1), tt)))
         (both (eqb kind 3) (then (ranged s 0 Limits.maxTerminate) (λ a h. gives (λ m at. tt, tt)))
-        (both (eqb kind 4) (then (ranged s 1 _) (λ f h. gives (facility-in f (h .0) (h .1), tt)))
-        (both (eqb kind 5) (then (ranged s 1 _) (λ f h. gives (facility-in f (h .0) (h .1), tt)))
+        (both (eqb kind 4) (then (ranged s 1 (n .facilities)) (λ f h. gives (facility-in f (h .0) (h .1), tt)))
+        (both (eqb kind 5) (then (ranged s 1 (n .facilities)) (λ f h. gives (facility-in f (h .0) (h .1), tt)))
         (both (eqb kind 6) (storage-units Parsed-block enter (λ k b a c d e. (λ m at. (storage-number k a c m at, units k b d e m at), tt)))
         (both (eqb kind 7) (storage-units Parsed-block leave (λ k b a c d e. (λ m at. (storage-number k a c m at, units k b d e m at), tt)))
-        (both (eqb kind 8) (then (ranged s 1 6) (λ code h. then (code-server code (h .0) (h .1)) (λ v g. gives (λ m at. (g m at, omega arith), tt))))
-        (both (eqb kind 9) (then term-good (λ a ha. then (ranged s 1 6) (λ r h. then term-good (λ b hb. gives (λ m at. tt, (ha, (hb, tt)))))))
+        (both (eqb kind 8)
+        (then (ranged s 1 6) (λ code h. then (code-server code (h .0) (h .1)) (λ v g. gives (λ m at. (g m at, omega arith), tt))))
+        (both (eqb kind 9)
+        (then term-good (λ a ha. then (ranged s 1 6) (λ r h. then term-good (λ b hb. gives (λ m at. tt, (ha, (hb, tt)))))))
         (both (eqb kind 10)
         (then term-good
-        (λ a ha. then (ranged s 1 6) (λ r h. then term-good (λ b hb. then (ranged s 1 _) (λ k h. gives (target-in k (h .0) (h .1), (ha, (hb, tt))))))))
-        (both (eqb kind 11) (then (ranged s 1 _) (λ k h. gives (target-in k (h .0) (h .1), tt)))
+        (λ a ha. then (ranged s 1 6)
+        (λ r h. then term-good (λ b hb. then (ranged s 1 (n .blocks)) (λ k h. gives (target-in k (h .0) (h .1), (ha, (hb, tt))))))))
+        (both (eqb kind 11) (then (ranged s 1 (n .blocks)) (λ k h. gives (target-in k (h .0) (h .1), tt)))
         (both (eqb kind 12) (then (ranged s 1 Limits.parameterCount) (λ k h. then term-good (λ a ha. gives (λ m at. h, (ha, tt)))))
         (both (eqb kind 13) (then (ranged s 0 Limits.maxPriority) (λ p h. gives (λ m at. h .1, tt)))
         (both (eqb kind 14)
-        (then (ranged s 1 Limits.maxSplit) (λ k h. then (ranged s 1 _) (λ t g. gives (λ m at. (h, target-in t (g .0) (g .1) m at), tt))))
-        (both (eqb kind 15) (then (ranged s 1 _) (λ q h. gives (queue-in q (h .0) (h .1), tt)))
-        (both (eqb kind 16) (then (ranged s 1 _) (λ q h. gives (queue-in q (h .0) (h .1), tt)))
+        (then (ranged s 1 Limits.maxSplit)
+        (λ k h. then (ranged s 1 (n .blocks)) (λ t g. gives (λ m at. (h, target-in t (g .0) (g .1) m at), tt))))
+        (both (eqb kind 15) (then (ranged s 1 (n .queues)) (λ q h. gives (queue-in q (h .0) (h .1), tt)))
+        (both (eqb kind 16) (then (ranged s 1 (n .queues)) (λ q h. gives (queue-in q (h .0) (h .1), tt)))
         (both (eqb kind 17)
         (then (ranged s 1 6)
-        (λ code h. then (code-server code (h .0) (h .1)) (λ v g. then (ranged s 1 Limits.maxBack) (λ c k. gives (λ m at. (g m at, k .1), tt)))))
+        (λ code h. then (code-server code (h .0) (h .1))
+        (λ v g. then (ranged s 1 Limits.maxBack) (λ c k. gives (λ m at. (g m at, k .1), tt)))))
         (both (eqb kind 18) (then (ranged s 2 Limits.maxAssemble) (λ k h. gives (λ m at. h, tt)))
-        (both (eqb kind 19) (then (ranged s 1 _) (λ f h. gives (facility-in f (h .0) (h .1), tt)))
-        (then (ranged s 1 _) (λ f h. gives (facility-in f (h .0) (h .1), tt)))))))))))))))))))))
+        (both (eqb kind 19) (then (ranged s 1 (n .facilities)) (λ f h. gives (facility-in f (h .0) (h .1), tt)))
+        (then (ranged s 1 (n .facilities)) (λ f h. gives (facility-in f (h .0) (h .1), tt)))))))))))))))))))))
 
     pub block-parsed : (kinds : ℕ) → Ensures Parsed-block (blockField s kinds n capacities)
     unfolding blockField
@@ -221,13 +248,25 @@ module _ (rules : Rules) (s : List ℕ) where
   model-fields : Ensures (ProperModel rules) (modelFields s rules)
   unfolding modelFields
   model-fields =
-      then (ranged s 1 _) (λ edition he. then (ranged s 0 Limits.maxFacilities) (λ facilities hf. then (ranged s 0 Limits.maxStorages) (λ storages hs.
+      then (ranged s 1 (rules .editions))
+      (λ edition he. then (ranged s 0 Limits.maxFacilities) (λ facilities hf. then (ranged s 0 Limits.maxStorages) (λ storages hs.
       then (repeated storages (ranged s 1 Limits.maxCapacity)) (λ capacities hc. then (ranged s 0 Limits.maxQueues) (λ queues hq.
-      then (ranged s 0 Limits.maxValues) (λ values hv. then (value-fields s _ values 0) (λ sums hm. then (ranged s 0 Limits.maxLists) (λ lists hl.
+      then (ranged s 0 Limits.maxValues)
+      (λ values hv. then (value-fields s _ values 0) (λ sums hm. then (ranged s 0 Limits.maxLists) (λ lists hl.
       then (ranged s 1 Limits.maxCounter) (λ counter hn. then (ranged s 1 Limits.maxBlocks) (λ blocks hb.
-      then (repeated blocks (block-good s _ capacities _)) (λ program hp.
+      then (repeated blocks (block-good s _ capacities (rules .kinds))) (λ program hp.
       let m : BlockModel =
-      record { rules = rules; edition = edition; facilities = facilities; capacities = capacities; queues = queues; values = sums; lists = lists; counter = counter; blocks = program } in
+      record {
+        rules = rules;
+        edition = edition;
+        facilities = facilities;
+        capacities = capacities;
+        queues = queues;
+        values = sums;
+        lists = lists;
+        counter = counter;
+        blocks = program;
+      } in
       gives
       (record {
         own = refl;
@@ -244,9 +283,9 @@ module _ (rules : Rules) (s : List ℕ) where
               blocks = hp .0;
             }))
             program (hp .1);
-        blocks = (omega arith, omega arith);
+        blocks = (omega (arith, hp .0, hb .0), omega (arith, hp .0, hb .1));
         facilities = hf .1;
-        storages = omega arith;
+        storages = omega (arith, hc .0, hs .1);
         capacity = hc .1;
         queues = hq .1;
         lists = hl .1;
@@ -255,21 +294,24 @@ module _ (rules : Rules) (s : List ℕ) where
 
   at-end : (code : ℕ) → Refusal code → Ensures Any (atEnd s code)
   unfolding atEnd
-  at-end code h = record { from = λ c. weaken (λ u g. tt) (asked _ code h) .from c }
+  at-end code h = record { from = λ c. weaken (λ u g. tt) (asked (eqb (c .position) (length s)) code h) .from c }
 
   model-of : Ensures (λ m. ProperModel rules m × T (wellFormed m)) (modelOf rules s)
   unfolding modelOf
   model-of =
-      then model-fields (λ m h. then (at-end 6 (omega arith, omega arith)) (λ u g. then (asked _ 7 (omega arith, omega arith)) (λ u f. gives (h, f))))
+      then model-fields
+      (λ m h. then (at-end 6 (omega arith, omega arith))
+      (λ u g. then (asked (wellFormed m) 7 (omega arith, omega arith)) (λ u f. gives (h, f))))
 
   -- ---- The tape
 
   sample-list : Ensures (λ l. (length l ≤ Limits.maxSamples) × Each (λ x. x ≤ rules .maxTime) l) (listField s rules)
   unfolding listField
   sample-list =
-      then (in-range _ s 8 0 Limits.maxSamples (omega arith) (omega arith))
+      then (in-range (rules .maxNumber) s 8 0 Limits.maxSamples (omega arith) (omega arith))
       (λ count h.
-      weaken (λ l g. (omega arith, each-map (λ x k. k .1) l (g .1))) (repeated count (in-range _ s 8 0 _ (omega arith) (omega arith))))
+      weaken (λ l g. (omega (arith, g .0, h .1), each-map (λ x k. k .1) l (g .1)))
+      (repeated count (in-range (rules .maxNumber) s 8 0 (rules .maxTime) (omega arith) (omega arith))))
 
   tape-of : (lists : ℕ) → Ensures (ProperTape rules lists) (tapeOf rules s lists)
   unfolding tapeOf
@@ -288,14 +330,15 @@ each-at P [] d h i low = absurd (omega arith)
 each-at P (x ∷ l) d h zero low = h .0
 each-at P (x ∷ l) d h (suc i) low = each-at P l d (h .1) i (omega arith)
 
-proper : (rules : Rules) (m : BlockModel) (tape : List (List ℕ)) → ProperModel rules m → T (wellFormed m) → ProperTape (m .rules) (m .lists) tape → Proper m tape
+proper : (rules : Rules) (m : BlockModel) (tape : List (List ℕ)) → ProperModel rules m → T (wellFormed m)
+    → ProperTape (m .rules) (m .lists) tape → Proper m tape
 proper rules m tape h f t =
     record {
-      block = λ n. each-getD _ (m .blocks) _ _ (h .block) tt;
+      block = λ n. each-getD (ProperBlock m) (m .blocks) (n - 1) (terminate 0) (h .block) tt;
       blocks = h .blocks;
       facilities = h .facilities;
       storages = h .storages;
-      capacity = each-at _ (m .capacities) 0 (h .capacity);
+      capacity = each-at (Names Limits.maxCapacity) (m .capacities) 0 (h .capacity);
       queues = h .queues;
       lists = h .lists;
       counter = h .counter;
@@ -305,23 +348,27 @@ proper rules m tape h f t =
       times = λ k i. each-getD _ (getD tape k []) i 0 (each-getD _ tape k [] (t .each-list) (omega arith, tt) .1) (omega arith);
     }
 
-with-tape : (rules : Rules) (m : BlockModel) → ProperModel rules m → T (wellFormed m) → (r : Parsed (List (List ℕ))) → Gives (ProperTape (m .rules) (m .lists)) r → Verdict rules (withTape m r)
+with-tape : (rules : Rules) (m : BlockModel) → ProperModel rules m → T (wellFormed m) → (r : Parsed (List (List ℕ)))
+    → Gives (ProperTape (m .rules) (m .lists)) r → Verdict rules (withTape m r)
 unfolding withTape
 with-tape rules m h f (parsed tape c) t = (proper rules m tape h f t, h .own)
 with-tape rules m h f (refused n) t = t
 
-with-model : (rules : Rules) (tape : List ℕ) (r : Parsed BlockModel) → Gives (λ m. ProperModel rules m × T (wellFormed m)) r → Verdict rules (withModel tape r)
+with-model : (rules : Rules) (tape : List ℕ) (r : Parsed BlockModel) → Gives (λ m. ProperModel rules m × T (wellFormed m)) r
+    → Verdict rules (withModel tape r)
 unfolding withModel
-with-model rules tape (parsed m c) h = with-tape rules m (h .0) (h .1) _ (tape-of _ tape _ .from beginning)
+with-model rules tape (parsed m c) h =
+    with-tape rules m (h .0) (h .1) (tapeOf (m .rules) tape (m .lists) beginning) (tape-of (m .rules) tape (m .lists) .from beginning)
 with-model rules tape (refused n) h = h
 
 verdict : (rules : Rules) (model tape : List ℕ) (work report : ℕ) → Verdict rules (validate rules model tape work report)
 unfolding validate
 verdict rules model tape work report =
-    cond-cases (Verdict rules) (leb Limits.workNumbers work) _ _
+    cond-cases (Verdict rules) (leb Limits.workNumbers work)
+    (cond (leb Limits.reportRoom report) (withModel tape (modelOf rules model beginning)) (reject 2)) (reject 1)
     (λ e.
-    cond-cases (Verdict rules) (leb Limits.reportRoom report) _ _
-    (λ e. with-model rules tape _ (model-of rules model .from beginning)) (λ e. (omega arith, omega arith)))
+    cond-cases (Verdict rules) (leb Limits.reportRoom report) (withModel tape (modelOf rules model beginning)) (reject 2)
+    (λ e. with-model rules tape (modelOf rules model beginning) (model-of rules model .from beginning)) (λ e. (omega arith, omega arith)))
     (λ e. (omega arith, omega arith))
 
 module _ (rules : Rules) (model tape : List ℕ) (work report : ℕ) where

@@ -1,7 +1,7 @@
 -- "Whoever enters a kind 17 block entered its whole group at that clock" (document 02, item 7). Whoever stands inside a group came through
 -- its first block, at its stamp, and through every block since: their last entries lie between the stamp and the clock. It enters the
 -- kind 17 block only where the two are one.
-use Rattle.machine.specs.All.{clash, cases, ℕ, zero, suc, _+_, _-_, _≤_, _<_, _≡_, refl, sym, ap, subst, _∙_, Bool, true, false, cond, _&&_, true≢false, List, [], _∷_, map, Option, none, some, arith, eq-eqb, ne-eqb, ltb-true, ltb-false, lt-ltb, eqb, ltb, leb, getD, Transaction, Event, newborn, earlier, Gatherer, Interrupted, others, flat, truth, Code, Share, shareServer, shareUnits, Block, generate, advance, terminate, takes, frees, waitServer, waitTerms, moves, assign, priority, split, counts, assemble, preempt, giveBack, facts, BlockModel, blockAt, backAt, beginsGroup, State, Logged, withNext, withSerial, withReturning, setMoving, setTurns, setSerial, setEnded, recordOf, log, enters, moveTo, fresh, toRel, toFel, toQl, toWel, toWsl, mustWait, wakeQl, wakeFirstWel, wakeWsl, setUse, setContent, arrival, copies, beginWait, toGatherers, comes, released, interrupt, resume, stamped, takeUnits, wakeFor, checkWels, endsOne, delay, effect, sample, arriveAll, moveClock, nextEvents, takeFirst, takeReady, taking, answer, execute, wsScheme, turn, idle, startAt, start, states, movingOne, Each, standing, everyone, lastEntry, WholeGroup, Joined, Stamped}
+use Rattle.machine.specs.All.{ℕ, zero, suc, _+_, _-_, _≤_, _<_, _≡_, refl, sym, ap, subst, _∙_, Bool, true, false, cond, _&&_, true≢false, List, [], _∷_, map, Option, none, some, arith, eq-eqb, ne-eqb, ltb-true, ltb-false, lt-ltb, eqb, ltb, leb, getD, Transaction, Event, newborn, earlier, Gatherer, Interrupted, others, flat, truth, Code, Share, shareServer, shareUnits, Block, generate, advance, terminate, takes, frees, waitServer, waitTerms, moves, assign, priority, split, counts, assemble, preempt, giveBack, facts, BlockModel, blockAt, backAt, beginsGroup, State, Logged, withNext, withSerial, withReturning, setMoving, setTurns, setSerial, setEnded, recordOf, log, enters, moveTo, fresh, toRel, toFel, toQl, toWel, toWsl, mustWait, wakeQl, wakeFirstWel, wakeWsl, setUse, setContent, arrival, copies, beginWait, toGatherers, comes, released, interrupt, resume, stamped, takeUnits, wakeFor, checkWels, endsOne, delay, effect, sample, arriveAll, moveClock, nextEvents, takeFirst, takeReady, taking, answer, execute, wsScheme, turn, idle, startAt, start, states, movingOne, Each, standing, everyone, lastEntry, WholeGroup, Joined, Stamped, serverAt, free, facility, due}
 use Rattle.machine.proofs as our
 use our.decoding.Proper.{ProperBlock, Proper, Role, generating, taking as taking-role, neither, role, preempting}
 use our.runs.RunLaws.{cond-cases, each-map, each-state}
@@ -13,31 +13,37 @@ use our.order.Taken.{has, has-own, standing-sum}
 use our.decoding.Groups.{Wait8, firstOf, back-within, group-waits, apart, begins, begins-none, target-outside}
 use our.runs.Ahead.{Ahead, rising-insert, rising-those, rising-without}
 use our.runs.Everybody.{Maybe, Everybody, Unmoved, like as everybody-like, everybody-map, everybody-each, toRel-everybody, toFel-everybody, toQl-everybody, toWel-everybody, toWsl-everybody, moveTo-everybody, wakeFor-everybody, wakeFirstWel-everybody, wakeWsl-everybody, idle-everybody, toGatherers-everybody, comes-everybody, released-everybody, waiter-everybody, interrupt-everybody}
+use our.runs.Ahead.{Rising}
 
 -- ---- Last entries
 
 -- a record of another outcome or number leaves them
-entry-else : (n b : ℕ) (r : Logged) (l : List Logged) → (eqb (r .entry .outcome) 0 && eqb (r .entry .transaction) n) ≡ false → lastEntry n b (r ∷ l) ≡ lastEntry n b l
+entry-else : (n b : ℕ) (r : Logged) (l : List Logged) → (eqb (r .entry .outcome) 0 && eqb (r .entry .transaction) n) ≡ false
+    → lastEntry n b (r ∷ l) ≡ lastEntry n b l
 unfolding lastEntry
 entry-else n b r l e = rw e
 
 -- so does one at another block
 entry-block : (n b : ℕ) (r : Logged) (l : List Logged) → (r .entry .block ≡ b → ⊥) → lastEntry n b (r ∷ l) ≡ lastEntry n b l
 unfolding lastEntry
-entry-block n b r l d = go (eqb (r .entry .outcome) 0 && eqb _ n)
+entry-block n b r l d = go (eqb (r .entry .outcome) 0 && eqb (r .entry .transaction) n)
   where
     go : (x : Bool) → cond (x && eqb (r .entry .block) b) (some (r .entry .clock)) (lastEntry n b l) ≡ lastEntry n b l
-    go true = rw ne-eqb
+    go true = rw (ne-eqb (r .entry .block) b d)
     go false = refl
 
 -- and none is after the clock
 entry-bound : (clock n b x : ℕ) (l : List Logged) → Each (λ (r : Logged). r .entry .clock ≤ clock) l → lastEntry n b l ≡ some x → x ≤ clock
 unfolding lastEntry
-entry-bound clock n b x [] h e = clash (cc)
-entry-bound clock n b x (r ∷ l) h e = go (eqb (r .entry .outcome) 0 && eqb _ n && eqb _ b) e (entry-bound clock n b x l (h .1))
+entry-bound clock n b x [] h e = absurd (nothing e)
+  where
+    nothing : none ≡ some x → ⊥
+    nothing z = let q : _≡_ {A = ℕ} 0 1 = cc in omega arith
+entry-bound clock n b x (r ∷ l) h e =
+    go (eqb (r .entry .outcome) 0 && eqb (r .entry .transaction) n && eqb (r .entry .block) b) e (entry-bound clock n b x l (h .1))
   where
     go : (y : Bool) → cond y (some (r .entry .clock)) (lastEntry n b l) ≡ some x → (lastEntry n b l ≡ some x → x ≤ clock) → x ≤ clock
-    go true e k = let same : r .entry .clock ≡ x = cc in omega arith
+    go true e k = let same : r .entry .clock ≡ x = cc in omega (arith, h .0)
     go false e k = k e
 
 -- ---- Nobody else has the number of the one that moves
@@ -69,7 +75,8 @@ module _ (n : ℕ) where
   none-gatherer [] e = tt
   none-gatherer (x ∷ l) e = (λ same. omega (arith, has-own n (x .who) same), none-gatherer l (omega arith))
 
-  none-gathers : (ls : List (List Gatherer)) → sumOn (λ (g : Gatherer). has n (g .who)) (flat ls) ≡ 0 → Each (Each (λ (g : Gatherer). Not (g .who))) ls
+  none-gathers : (ls : List (List Gatherer)) → sumOn (λ (g : Gatherer). has n (g .who)) (flat ls) ≡ 0
+      → Each (Each (λ (g : Gatherer). Not (g .who))) ls
   unfolding flat
   none-gathers [] e = tt
   none-gathers (l ∷ ls) e =
@@ -120,15 +127,17 @@ module _ {m : BlockModel} {tape : List (List ℕ)} (proper : Proper m tape) wher
 
   -- a block that waits for no server
   at-other : (n : ℕ) → facts (blockAt m n) .wel ≡ 0 → backAt m n ≡ 0 → Outside n
-  at-other n off alone k low high =
-      cases (ltb n k)
-      (λ e. group-waits proper k n (omega arith) (ltb-true _ _ e) .0 off)
-      (λ e. let same : k ≡ n = omega (arith, ltb-false n k e) in
-      omega (arith, ap (backAt m) same))
+  at-other n off alone k low high = go (ltb n k) refl
+    where
+      go : (b : Bool) → ltb n k ≡ b → ⊥
+      go true e = group-waits proper k n (omega arith) (ltb-true _ _ e) .0 off
+      go false e =
+          let same : k ≡ n = omega (arith, ltb-false n k e) in
+          omega (arith, ap (backAt m) same)
 
   -- the first block of a group
   at-first : (k : ℕ) → 1 ≤ backAt m k → Outside (first k)
-  at-first k closes k′ low high = go _ _ refl refl
+  at-first k closes k′ low high = go (ltb k′ k) (ltb k k′) refl refl
     where
       go : (a b : Bool) → ltb k′ k ≡ a → ltb k k′ ≡ b → ⊥
       go true b e q = omega (arith, group-waits proper k k′ high (ltb-true _ _ e) .1)
@@ -155,19 +164,20 @@ module _ {m : BlockModel} {tape : List (List ℕ)} (proper : Proper m tape) wher
   unmoved : (records : List Logged) → Unmoved (Inside records)
   unmoved records =
       record {
-        mark = λ b t h k low high i a c. again b _ t (h k low high i a c);
-        serial = λ n t h k low high i a c. again _ n t (h k low high i a c);
+        mark = λ b t h k low high i a c. again b (t .serial) t (h k low high i a c);
+        serial = λ n t h k low high i a c. again (t .returning) n t (h k low high i a c);
       }
     where
       again : (b : Bool) (n : ℕ) (t : Transaction) {k i : ℕ} → Came records t k i → Came records (withReturning b (withSerial n t)) k i
       again b n t h = record { clock = h .clock; last = h .last; since = h .since; at-start = h .at-start }
 
   -- a record that leaves the last entries of a transaction
-  inside-more : (r : Logged) (records : List Logged) (t : Transaction) → (eqb (r .entry .outcome) 0 && eqb (r .entry .transaction) (t .number)) ≡ false
+  inside-more : (r : Logged) (records : List Logged) (t : Transaction)
+      → (eqb (r .entry .outcome) 0 && eqb (r .entry .transaction) (t .number)) ≡ false
       → Inside records t → Inside (r ∷ records) t
   inside-more r records t else h k low high i a b =
       let c = h k low high i a b in
-      record { clock = c .clock; last = entry-else _ i r records else ∙ c .last; since = c .since; at-start = c .at-start }
+      record { clock = c .clock; last = entry-else (t .number) i r records else ∙ c .last; since = c .since; at-start = c .at-start }
 
   record Joins (s : State) : Type 0 where
     everybody : Everybody (Inside (s .records)) s
@@ -181,7 +191,8 @@ module _ {m : BlockModel} {tape : List (List ℕ)} (proper : Proper m tape) wher
   -- ---- Moves that write nothing
 
   -- where records, clock, FEL and the interrupted ones stay
-  lists : (s s′ : State) → s′ .records ≡ s .records → s′ .view .clock ≡ s .view .clock → s′ .fel ≡ s .fel → s′ .interrupted ≡ s .interrupted → Everybody (Inside (s .records)) s′ → Joins s → Joins s′
+  lists : (s s′ : State) → s′ .records ≡ s .records → s′ .view .clock ≡ s .view .clock → s′ .fel ≡ s .fel
+      → s′ .interrupted ≡ s .interrupted → Everybody (Inside (s .records)) s′ → Joins s → Joins s′
   lists s s′ records clock fel interrupted everybody h =
       record {
         everybody = rw (← records) at everybody;
@@ -193,7 +204,8 @@ module _ {m : BlockModel} {tape : List (List ℕ)} (proper : Proper m tape) wher
       }
 
   -- everybody stands where it stood
-  like : (s s′ : State) → s′ .records ≡ s .records → s′ .view .clock ≡ s .view .clock → s′ .ql ≡ s .ql → s′ .wel ≡ s .wel → s′ .wsl ≡ s .wsl → s′ .rel ≡ s .rel
+  like : (s s′ : State) → s′ .records ≡ s .records → s′ .view .clock ≡ s .view .clock → s′ .ql ≡ s .ql → s′ .wel ≡ s .wel
+      → s′ .wsl ≡ s .wsl → s′ .rel ≡ s .rel
       → s′ .fel ≡ s .fel → s′ .moving ≡ s .moving → s′ .gatherers ≡ s .gatherers → s′ .interrupted ≡ s .interrupted → Joins s → Joins s′
   like s s′ records clock ql wel wsl rel fel moving gatherers interrupted h =
       lists s s′ records clock fel interrupted
@@ -210,52 +222,75 @@ module _ {m : BlockModel} {tape : List (List ℕ)} (proper : Proper m tape) wher
       h
 
   joins-moveTo : (n : ℕ) (t : Transaction) (s : State) → Inside (s .records) (withNext n t) → Joins s → Joins (moveTo n t s)
-  joins-moveTo n t s p h = lists s _ (unfold moveTo in refl) (unfold moveTo in refl) (unfold moveTo in refl) (unfold moveTo in refl) (moveTo-everybody _ (unmoved _) n t s p (h .everybody)) h
+  joins-moveTo n t s p h =
+      lists s _ (unfold moveTo in refl) (unfold moveTo in refl) (unfold moveTo in refl) (unfold moveTo in refl)
+      (moveTo-everybody _ (unmoved (s .records)) n t s p (h .everybody)) h
 
   joins-toRel : (t : Transaction) (s : State) → Inside (s .records) t → Joins s → Joins (toRel t s)
-  joins-toRel t s p h = lists s _ (unfold toRel in refl) (unfold toRel in refl) (unfold toRel in refl) (unfold toRel in refl) (toRel-everybody _ (unmoved _) t s p (h .everybody)) h
+  joins-toRel t s p h =
+      lists s _ (unfold toRel in refl) (unfold toRel in refl) (unfold toRel in refl) (unfold toRel in refl)
+      (toRel-everybody _ (unmoved (s .records)) t s p (h .everybody)) h
 
   joins-toFel : (time : ℕ) (t : Transaction) (s : State) → s .view .clock ≤ time → Outside (t .next) → Joins s → Joins (toFel time t s)
   unfolding toFel
   joins-toFel time t s le out h =
       record {
-        everybody = toFel-everybody _ (unmoved _) time t s (outside _ _ out) (h .everybody);
+        everybody = toFel-everybody _ (unmoved (s .records)) time t s (outside _ _ out) (h .everybody);
         joined = h .joined;
         clocks = h .clocks;
         ahead =
             record {
-              later = each-insert (λ (e : Event). s .view .clock ≤ e .time) earlier _ _ le (h .ahead .later);
-              rising = rising-insert _ _ (h .ahead .rising);
+              later = each-insert (λ (e : Event). s .view .clock ≤ e .time) earlier _ (s .fel) le (h .ahead .later);
+              rising = rising-insert _ (s .fel) (h .ahead .rising);
             };
-        delayed = each-insert (λ (e : Event). Outside _) earlier _ _ out (h .delayed);
+        delayed = each-insert (λ (e : Event). Outside (e .who .next)) earlier _ (s .fel) out (h .delayed);
         interrupted = h .interrupted;
       }
 
   joins-toQl : (edition v : ℕ) (t : Transaction) (s : State) → Inside (s .records) t → Joins s → Joins (toQl edition v t s)
-  joins-toQl edition v t s p h = lists s _ (unfold toQl in refl) (unfold toQl in refl) (unfold toQl in refl) (unfold toQl in refl) (toQl-everybody _ (unmoved _) edition v t s p (h .everybody)) h
+  joins-toQl edition v t s p h =
+      lists s _ (unfold toQl in refl) (unfold toQl in refl) (unfold toQl in refl) (unfold toQl in refl)
+      (toQl-everybody _ (unmoved (s .records)) edition v t s p (h .everybody)) h
 
-  joins-toWel : (edition v : ℕ) (code : Code) (t : Transaction) (s : State) → Inside (s .records) t → Joins s → Joins (toWel edition v code t s)
+  joins-toWel : (edition v : ℕ) (code : Code) (t : Transaction) (s : State) → Inside (s .records) t → Joins s
+      → Joins (toWel edition v code t s)
   joins-toWel edition v code t s p h =
-      lists s _ (unfold toWel in refl) (unfold toWel in refl) (unfold toWel in refl) (unfold toWel in refl) (toWel-everybody _ (unmoved _) edition v code t s p (h .everybody)) h
+      lists s _ (unfold toWel in refl) (unfold toWel in refl) (unfold toWel in refl) (unfold toWel in refl)
+      (toWel-everybody _ (unmoved (s .records)) edition v code t s p (h .everybody)) h
+
+  joins-toWsl : (t : Transaction) (s : State) → Inside (s .records) t → Joins s → Joins (toWsl t s)
+  joins-toWsl t s p h =
+      lists s _ (unfold toWsl in refl) (unfold toWsl in refl) (unfold toWsl in refl) (unfold toWsl in refl)
+      (toWsl-everybody _ (unmoved (s .records)) t s p (h .everybody)) h
+
+  joins-toGatherers : (t : Transaction) (s : State) → Inside (s .records) t → Joins s → Joins (toGatherers t s)
+  joins-toGatherers t s p h =
+      lists s _ (unfold toGatherers in refl) (unfold toGatherers in refl) (unfold toGatherers in refl) (unfold toGatherers in refl)
+      (toGatherers-everybody _ (unmoved (s .records)) t s p (h .everybody)) h
 
   joins-comes : (g : Gatherer) (t : Transaction) (s : State) → Inside (s .records) (g .who) → Joins s → Joins (comes g t s)
   joins-comes g t s p h =
-      lists s _ (unfold comes in refl) (unfold comes in refl) (unfold comes in refl) (unfold comes in refl) (comes-everybody _ (unmoved _) g t s p (h .everybody)) h
+      lists s _ (unfold comes in refl) (unfold comes in refl) (unfold comes in refl) (unfold comes in refl)
+      (comes-everybody _ (unmoved (s .records)) g t s p (h .everybody)) h
 
-  joins-released : (g : Gatherer) (t : Transaction) (s : State) → Inside (s .records) (withNext (suc (t .next)) (g .who)) → Joins s → Joins (released g t s)
+  joins-released : (g : Gatherer) (t : Transaction) (s : State) → Inside (s .records) (withNext (suc (t .next)) (g .who)) → Joins s
+      → Joins (released g t s)
   joins-released g t s p h =
-      lists s _ (unfold released toRel in refl) (unfold released toRel in refl) (unfold released toRel in refl) (unfold released toRel in refl) (released-everybody _ (unmoved _) g t s p (h .everybody)) h
+      lists s _ (unfold released toRel in refl) (unfold released toRel in refl) (unfold released toRel in refl)
+      (unfold released toRel in refl) (released-everybody _ (unmoved (s .records)) g t s p (h .everybody)) h
 
   joins-wakeFirstWel : (v : ℕ) (code : Code) (s : State) → Joins s → Joins (wakeFirstWel v code s)
   joins-wakeFirstWel v code s h =
-      lists s _ (unfold wakeFirstWel in refl) (unfold wakeFirstWel in refl) (unfold wakeFirstWel in refl) (unfold wakeFirstWel in refl) (wakeFirstWel-everybody _ (unmoved _) v code s (h .everybody)) h
+      lists s _ (unfold wakeFirstWel in refl) (unfold wakeFirstWel in refl) (unfold wakeFirstWel in refl) (unfold wakeFirstWel in refl)
+      (wakeFirstWel-everybody _ (unmoved (s .records)) v code s (h .everybody)) h
 
   joins-checkWels : (v : ℕ) (s : State) → Joins s → Joins (checkWels v s)
   joins-checkWels v s h = checkWels-kept Joins v (joins-wakeFirstWel v) s h
 
   joins-wakeFor : (x : Share) (s : State) → Joins s → Joins (wakeFor m x s)
   joins-wakeFor x s h =
-      lists s _ (unfold wakeFor wakeQl in refl) (unfold wakeFor wakeQl in refl) (unfold wakeFor wakeQl in refl) (unfold wakeFor wakeQl in refl) (wakeFor-everybody _ (unmoved _) m x s (h .everybody)) h
+      lists s _ (unfold wakeFor wakeQl in refl) (unfold wakeFor wakeQl in refl) (unfold wakeFor wakeQl in refl)
+      (unfold wakeFor wakeQl in refl) (wakeFor-everybody _ (unmoved (s .records)) m x s (h .everybody)) h
 
   joins-use : (v n holder : ℕ) (preempted : Bool) (s : State) → Joins s → Joins (setUse v n holder preempted s)
   unfolding setUse
@@ -265,16 +300,16 @@ module _ {m : BlockModel} {tape : List (List ℕ)} (proper : Proper m tape) wher
   unfolding interrupt
   joins-interrupt e t f s out h =
       record {
-        everybody = interrupt-everybody _ (unmoved _) e t f s (outside _ _ out) (h .everybody);
+        everybody = interrupt-everybody _ (unmoved (s .records)) e t f s (outside _ _ out) (h .everybody);
         joined = h .joined;
         clocks = h .clocks;
         ahead =
             record {
-              later = each-replace (λ (e : Event). s .view .clock ≤ e .time) _ [] _ tt (h .ahead .later);
-              rising = rising-without _ _ (h .ahead .rising);
+              later = each-replace (λ (e : Event). s .view .clock ≤ e .time) _ [] (s .fel) tt (h .ahead .later);
+              rising = rising-without _ (s .fel) (h .ahead .rising);
             };
-        delayed = each-replace (λ (e : Event). Outside _) _ [] _ tt (h .delayed);
-        interrupted = each-insert (λ (i : Interrupted). Outside _) _ _ _ out (h .interrupted);
+        delayed = each-replace (λ (e : Event). Outside (e .who .next)) _ [] (s .fel) tt (h .delayed);
+        interrupted = each-insert (λ (i : Interrupted). Outside (i .who .next)) _ _ (s .interrupted) out (h .interrupted);
       }
 
   joins-resume : (i : Interrupted) (f : ℕ) (s : State) → Outside (i .who .next) → Joins s → Joins (resume i f s)
@@ -290,20 +325,22 @@ module _ {m : BlockModel} {tape : List (List ℕ)} (proper : Proper m tape) wher
               rel = h .everybody .rel;
               fel = h .everybody .fel;
               gatherers = h .everybody .gatherers;
-              interrupted = each-replace (λ (i : Interrupted). Inside _ _) _ [] _ tt (h .everybody .interrupted);
+              interrupted =
+                  each-replace (λ (i : Interrupted). Inside (s .records) (i .who)) _ [] (s .interrupted) tt (h .everybody .interrupted);
               moving = h .everybody .moving;
             };
         joined = h .joined;
         clocks = h .clocks;
         ahead = record { later = h .ahead .later; rising = h .ahead .rising };
         delayed = h .delayed;
-        interrupted = each-replace (λ (i : Interrupted). Outside _) _ [] _ tt (h .interrupted);
+        interrupted = each-replace (λ (i : Interrupted). Outside (i .who .next)) _ [] (s .interrupted) tt (h .interrupted);
       })
 
   joins-arrival : (l : List ℕ) (list p n : ℕ) (s : State) → Outside n → Joins s → Joins (arrival l list p n s)
   unfolding arrival newborn
   joins-arrival [] list p n s out h = h
-  joins-arrival (time ∷ l) list p n s out h = joins-toFel _ _ _ (omega arith) out (like s _ refl refl refl refl refl refl refl refl refl refl h)
+  joins-arrival (time ∷ l) list p n s out h =
+      joins-toFel _ _ _ (omega arith) out (like s _ refl refl refl refl refl refl refl refl refl refl h)
 
   joins-delay : (l : List ℕ) (list : ℕ) (t : Transaction) (s : State) → Outside (suc (t .next)) → Joins s → Joins (delay l list t s)
   unfolding delay
@@ -325,8 +362,9 @@ module _ {m : BlockModel} {tape : List (List ℕ)} (proper : Proper m tape) wher
     joins-log =
         record {
           everybody =
-              everybody-like _ (unmoved _) s _ refl refl refl refl refl refl refl refl
-              (everybody-map (λ u q n. inside-more (record { entry = recordOf 1 t s; priority = t .priority }) _ u refl q) s (h .everybody) others);
+              everybody-like _ (unmoved _) s (setSerial (fresh s) (log 1 t s)) refl refl refl refl refl refl refl refl
+              (everybody-map (λ u q n. inside-more (record { entry = recordOf 1 t s; priority = t .priority }) (s .records) u refl q) s
+              (h .everybody) others);
           joined = (λ e. absurd (true≢false (sym e)), h .joined);
           clocks = (omega arith, h .clocks);
           ahead = record { later = h .ahead .later; rising = h .ahead .rising };
@@ -336,12 +374,14 @@ module _ {m : BlockModel} {tape : List (List ℕ)} (proper : Proper m tape) wher
 
     waits-on : Inside (log 1 t s .records) t
     unfolding log recordOf
-    waits-on = inside-more _ _ t refl p
+    waits-on = inside-more _ (s .records) t refl p
 
-    joins-begin : (put : Transaction → State → State) → ((u : Transaction) (x : State) → Inside (x .records) u → Joins x → Joins (put u x)) → Joins (beginWait put t s)
-    joins-begin put kept = kept _ _ (unmoved _ .serial _ t waits-on) joins-log
+    joins-begin : (put : Transaction → State → State) → ((u : Transaction) (x : State) → Inside (x .records) u → Joins x → Joins (put u x))
+        → Joins (beginWait put t s)
+    joins-begin put kept = kept _ _ (unmoved (log 1 t s .records) .serial (fresh s) t waits-on) joins-log
 
-    joins-wait : (put : Transaction → State → State) → ((u : Transaction) (x : State) → Inside (x .records) u → Joins x → Joins (put u x)) → Joins (mustWait put t s)
+    joins-wait : (put : Transaction → State → State) → ((u : Transaction) (x : State) → Inside (x .records) u → Joins x → Joins (put u x))
+        → Joins (mustWait put t s)
     unfolding mustWait
     joins-wait put kept =
         cond-cases Joins (t .returning) _ _ (λ e. kept t s p h) (λ e. joins-begin put kept)
@@ -351,9 +391,10 @@ module _ {m : BlockModel} {tape : List (List ℕ)} (proper : Proper m tape) wher
     joins-enters whole =
         record {
           everybody =
-              everybody-like _ (unmoved _) s _ refl refl refl refl refl refl refl refl
+              everybody-like _ (unmoved _) s (enters t s) refl refl refl refl refl refl refl refl
               (everybody-map
-              (λ u q n. inside-more (record { entry = recordOf 0 t s; priority = t .priority }) _ u (ne-eqb _ _ (λ e. n (sym e))) q)
+              (λ u q n. inside-more (record { entry = recordOf 0 t s; priority = t .priority }) (s .records) u
+              (ne-eqb (t .number) (u .number) (λ e. n (sym e))) q)
               s (h .everybody) others);
           joined = (whole, h .joined);
           clocks = (omega arith, h .clocks);
@@ -371,21 +412,28 @@ module _ {m : BlockModel} {tape : List (List ℕ)} (proper : Proper m tape) wher
     unfolding recordOf
     whole-group now e i one high =
         let within = back-within proper (t .next) in
-        now-last (cases (ltb (t .stamp) (s .view .clock)) (λ e. absurd (true≢false (sym (rw (lt-ltb 0 (backAt m (t .next)) (omega arith)) e) ∙ now))) (λ e. ltb-false _ _ e)) (p _ (omega arith) (omega arith) _ (omega arith) (omega arith))
+        now-last (at-clock (ltb (t .stamp) (s .view .clock)) refl)
+        (p (t .next) (omega arith) (omega arith) (t .next - i) (omega arith) (omega arith))
       where
-        now-last : s .view .clock ≤ t .stamp → Came (s .records) t (t .next) (t .next - i) → lastEntry (t .number) (t .next - i) (s .records) ≡ some (s .view .clock)
+        now-last : s .view .clock ≤ t .stamp → Came (s .records) t (t .next) (t .next - i)
+            → lastEntry (t .number) (t .next - i) (s .records) ≡ some (s .view .clock)
         now-last least c =
-            let most = entry-bound _ _ _ _ _ (h .clocks) (c .last) in
-            let same : c .clock ≡ s .view .clock = omega arith in
-            cc (c .last, same)
+            let most = entry-bound (s .view .clock) (t .number) (t .next - i) (c .clock) (s .records) (h .clocks) (c .last) in
+            let same : c .clock ≡ s .view .clock = omega (arith, c .since) in
+            c .last ∙ ap some same
+
+        at-clock : (b : Bool) → ltb (t .stamp) (s .view .clock) ≡ b → s .view .clock ≤ t .stamp
+        at-clock true e = absurd (true≢false (sym (rw (lt-ltb 0 (backAt m (t .next)) (omega arith)) e) ∙ now))
+        at-clock false e = ltb-false _ _ e
 
     -- where no group ends
-    no-group : {b : Block} → blockAt m (t .next) ≡ b → facts b .back ≡ 0 → WholeGroup m tape (s .records) (record { entry = recordOf 0 t s; priority = t .priority })
+    no-group : {b : Block} → blockAt m (t .next) ≡ b → facts b .back ≡ 0
+        → WholeGroup m tape (s .records) (record { entry = recordOf 0 t s; priority = t .priority })
     unfolding recordOf
     no-group e alone q i one high = absurd (omega (arith, ap (λ b. facts b .back) e))
 
     after-plain : {b : Block} → blockAt m (t .next) ≡ b → facts b .wel ≡ 0 → Outside (suc (t .next))
-    after-plain e off = after-other _ (λ w. w .0 (cc (e, off)))
+    after-plain e off = after-other (t .next) (λ w. w .0 (ap (λ b. facts b .wel) e ∙ off))
 
     plain : {b : Block} → blockAt m (t .next) ≡ b → facts b .back ≡ 0 → Joins (enters t s)
     plain e alone = joins-enters t s p others h (no-group e alone)
@@ -400,6 +448,9 @@ module _ {m : BlockModel} {tape : List (List ℕ)} (proper : Proper m tape) wher
 
         own : lastEntry (t .number) (t .next) (r ∷ s .records) ≡ some (s .view .clock)
         own = unfold lastEntry recordOf in (rw (eq-eqb (t .number) (t .number) refl, eq-eqb (t .next) (t .next) refl))
+
+        closes : 1 ≤ backAt m k
+        closes = omega arith
 
         go : (x : Bool) → ltb (first k) (t .next) ≡ x → Came (r ∷ s .records) (withNext (suc (t .next)) (stamped m t s)) k i
         go true e = later (ltb i (t .next)) refl
@@ -426,14 +477,14 @@ module _ {m : BlockModel} {tape : List (List ℕ)} (proper : Proper m tape) wher
                 let bound = entry-bound (s .view .clock) (t .number) (first k) (came .clock) (s .records) (h .clocks) (came .last) in
                 record {
                   clock = s .view .clock;
-                  last = cc (here, own);
+                  last = ap (λ j. lastEntry (t .number) j (r ∷ s .records)) here ∙ own;
                   since = omega (arith, kept, came .since, bound);
                   at-start = λ z. absurd (omega (arith, z, here, inside));
                 }
         go false e =
             let here : first k ≡ t .next = omega (arith, ltb-false (first k) (t .next) e) in
             let taken : cond (beginsGroup m (t .next)) (s .view .clock) (t .stamp) ≡ s .view .clock =
-            rw (subst (λ n. beginsGroup m n ≡ true) here (begins proper k (omega arith))) in
+            rw (rw here at (begins proper k closes)) in
             let same : i ≡ t .next = omega arith in
             record {
               clock = s .view .clock;
@@ -442,107 +493,138 @@ module _ {m : BlockModel} {tape : List (List ℕ)} (proper : Proper m tape) wher
               at-start = λ z. sym taken;
             }
 
-    next-outside : {b : Block} → blockAt m (t .next) ≡ b → facts b .wel ≡ 0 → (records : List Logged) (u : Transaction) → u .next ≡ suc (t .next) → Inside records u
+    next-outside : {b : Block} → blockAt m (t .next) ≡ b → facts b .wel ≡ 0 → (records : List Logged) (u : Transaction)
+        → u .next ≡ suc (t .next) → Inside records u
     next-outside e off records u z = outside records u (rw z (after-plain e off))
 
     target-at : {b : Block} → blockAt m (t .next) ≡ b → 1 ≤ facts b .target → Outside (facts b .target)
     target-at {b} e named = rw (← e) (λ k. target-outside proper (t .next) k (λ z. omega (arith, ap (λ b. facts b .target) e)))
 
-    joins-takes : {b : Block} → blockAt m (t .next) ≡ b → facts b .wel ≡ 0 → facts b .back ≡ 0 → (x : Share) (preempts : Bool) → Joins (takeUnits m x preempts t s)
+    joins-takes : {b : Block} → blockAt m (t .next) ≡ b → facts b .wel ≡ 0 → facts b .back ≡ 0 → (x : Share) (preempts : Bool)
+        → Joins (takeUnits m x preempts t s)
     unfolding takeUnits
     joins-takes e off alone x preempts =
-        let v = shareServer x in
-        cond-cases Joins (leb (shareUnits x) _) _ _
+        let v : ℕ = shareServer x in
+        cond-cases Joins (leb (shareUnits x) (free (serverAt (s .view) v))) _ _
         (λ fit. joins-moveTo _ t _ (next-outside e off _ _ refl) (joins-checkWels v _ (joins-use v _ _ _ _ (plain e alone))))
-        (λ full. joins-wait t s p others h _ (joins-toQl _ v))
+        (λ full. joins-wait t s p others h (toQl (m .edition) v) (joins-toQl (m .edition) v))
 
     effect-joins : (b : Block) → blockAt m (t .next) ≡ b → ProperBlock m b → Joins (effect m b t s)
     unfolding effect facts takeUnits setContent endsOne
     effect-joins (generate list q) e k =
         joins-moveTo _ t _ (next-outside e refl _ _ refl)
-        (joins-arrival _ list q _ _ (at-other _ (cc e) (cc e)) (plain e refl))
+        (joins-arrival _ list q _ _ (at-other (t .next) (ap (λ b. facts b .wel) e) (ap (λ b. facts b .back) e)) (plain e refl))
     effect-joins (advance list) e k = joins-delay _ list t _ (after-plain e refl) (plain e refl)
-    effect-joins (terminate a) e k = like _ _ refl refl refl refl refl refl refl refl refl refl (plain e refl)
+    effect-joins (terminate a) e k = like (enters t s) _ refl refl refl refl refl refl refl refl refl refl (plain e refl)
     effect-joins (takes x) e k = joins-takes e refl refl x false
     effect-joins (frees x) e k =
-        joins-moveTo _ t _ (next-outside e refl _ _ refl) (joins-checkWels _ _ (joins-wakeFor x _ (joins-use _ _ _ _ _ (plain e refl))))
+        joins-moveTo _ t _ (next-outside e refl _ _ refl)
+        (joins-checkWels (shareServer x) _ (joins-wakeFor x _ (joins-use (shareServer x) _ _ _ _ (plain e refl))))
     effect-joins (waitServer code v c) e k =
-        let is = ap (λ b. facts b .back) e in
-        waitServer-cases Joins m code v c t s (λ holds. joins-wait t s p others h _ (joins-toWel _ v code))
+        let is : backAt m (t .next) ≡ c = ap (λ b. facts b .back) e in
+        waitServer-cases Joins m code v c t s
+        (λ holds. joins-wait t s p others h (toWel (m .edition) v code) (joins-toWel (m .edition) v code))
         (λ late.
         joins-moveTo _ t _
-        (outside _ _ (subst (λ c. Outside (t .next - c)) is (at-first _ (omega (arith, is, goes-back _ _ refl late)))))
+        (outside _ _ (rw is at (at-first (t .next) (omega (arith, is, goes-back (ltb 0 c) (ltb (t .stamp) (s .view .clock)) refl late)))))
         (joins-wakeFirstWel v code s h))
         (λ now.
-        joins-moveTo _ _ _ (unfold wakeFirstWel in stamped-on)
+        joins-moveTo _ (stamped m t s) _ (unfold wakeFirstWel in stamped-on)
         (joins-wakeFirstWel v code _
-        (joins-enters t s p others h (whole-group (cc (is, now))))))
+        (joins-enters t s p others h (whole-group (ap (λ c. ltb 0 c && ltb (t .stamp) (s .view .clock)) is ∙ now)))))
       where
         goes-back : (a b : Bool) → ltb 0 c ≡ a → (a && b) ≡ true → 0 < c
         goes-back true b e q = ltb-true _ _ e
         goes-back false b e q = absurd (true≢false (sym q))
     effect-joins (waitTerms a r b) e k =
-        waitTerms-cases Joins m a r b t s (λ holds. joins-wait t s p others h toWsl (λ t s p h. lists s _ (unfold toWsl in refl) (unfold toWsl in refl) (unfold toWsl in refl) (unfold toWsl in refl) (toWsl-everybody _ (unmoved _) t s p (h .everybody)) h)) (λ passes. joins-moveTo _ t _ (next-outside e refl _ _ refl) (plain e refl))
+        waitTerms-cases Joins m a r b t s (λ holds. joins-wait t s p others h toWsl joins-toWsl)
+        (λ passes. joins-moveTo _ t _ (next-outside e refl _ _ refl) (plain e refl))
     effect-joins (moves c target) e k =
         joins-moveTo _ t _
         (outside _ _
-        (cond-cases Outside (truth _ _ _ c) _ _ (λ z. target-at e (k .0)) (λ z. after-plain e refl)))
+        (cond-cases Outside (truth (m .values) (s .view) (t .parameters) c) _ _ (λ z. target-at e (k .0)) (λ z. after-plain e refl)))
         (plain e refl)
     effect-joins (assign i a) e k = joins-moveTo _ _ _ (next-outside e refl _ _ refl) (plain e refl)
     effect-joins (priority q) e k = joins-toRel _ _ (next-outside e refl _ _ refl) (plain e refl)
     effect-joins (split n target) e k =
         joins-moveTo _ t _ (next-outside e refl _ _ refl) (joins-copies n target t _ (target-at e (k .1 .0)) (plain e refl))
     effect-joins (counts c q) e k =
-        joins-moveTo _ t _ (next-outside e refl _ _ refl) (like _ _ refl refl refl refl refl refl refl refl refl refl (plain e refl))
+        joins-moveTo _ t _ (next-outside e refl _ _ refl)
+        (like (enters t s) _ refl refl refl refl refl refl refl refl refl refl (plain e refl))
     effect-joins (assemble n) e k =
-        assemble-cases Joins m n t s (λ first. joins-begin t s p others h toGatherers (λ t s p h. lists s _ (unfold toGatherers in refl) (unfold toGatherers in refl) (unfold toGatherers in refl) (unfold toGatherers in refl) (toGatherers-everybody _ (unmoved _) t s p (h .everybody)) h))
+        assemble-cases Joins m n t s (λ first. joins-begin t s p others h toGatherers joins-toGatherers)
         (λ g l waits last. joins-released g t _ (next-outside e refl _ _ refl) ended)
-        (λ g l waits more. joins-comes g t _ (unfold enters log in (waiter-everybody _ (unmoved _) t _ g l waits (ended .everybody))) ended)
+        (λ g l waits more. joins-comes g t _
+        (unfold enters log in (waiter-everybody _ (unmoved _) t (setEnded (suc (enters t s .ended)) (enters t s)) g l waits
+        (ended .everybody))) ended)
       where
         ended : Joins (setEnded (suc (enters t s .ended)) (enters t s))
-        ended = like _ _ refl refl refl refl refl refl refl refl refl refl (plain e refl)
+        ended = like (enters t s) _ refl refl refl refl refl refl refl refl refl refl (plain e refl)
     effect-joins (preempt f) e k =
-        preempt-cases Joins m f t s (λ z. joins-takes e refl refl _ true)
+        preempt-cases Joins m f t s (λ z. joins-takes e refl refl (facility f) true)
         (λ x l z.
         joins-moveTo _ t _ (next-outside e refl _ _ refl)
-        (joins-checkWels f _ (joins-use f _ _ _ _ (joins-interrupt x t f _ (subst (Each (λ (e : Event). Outside _)) z (each-those (λ (e : Event). Outside _) _ _ (h .delayed)) .0) (plain e refl)))))
+        (joins-checkWels f _
+        (joins-use f _ _ _ _
+        (joins-interrupt x t f _
+        (subst (Each (λ (e : Event). Outside (e .who .next))) z
+        (each-those (λ (e : Event). Outside (e .who .next)) _ (s .fel) (h .delayed)) .0) (plain e refl)))))
     effect-joins (giveBack f) e k =
         giveBack-cases Joins m f t s
-        (λ z. joins-moveTo _ t _ (next-outside e refl _ _ refl) (joins-checkWels f _ (joins-wakeFor _ _ (joins-use f _ _ _ _ (plain e refl)))))
+        (λ z. joins-moveTo _ t _ (next-outside e refl _ _ refl)
+        (joins-checkWels f _ (joins-wakeFor (facility f) _ (joins-use f _ _ _ _ (plain e refl)))))
         (λ i l z.
         joins-moveTo _ t _ (next-outside e refl _ _ refl)
         (joins-checkWels f _
-        (joins-resume i f _ (subst (Each (λ (i : Interrupted). Outside _)) z (each-those (λ (i : Interrupted). Outside _) _ _ (h .interrupted)) .0) (joins-use f _ _ _ _ (plain e refl)))))
+        (joins-resume i f _
+        (subst (Each (λ (i : Interrupted). Outside (i .who .next))) z
+        (each-those (λ (i : Interrupted). Outside (i .who .next)) _ (s .interrupted) (h .interrupted)) .0)
+        (joins-use f _ _ _ _ (plain e refl)))))
 
   -- ---- A turn
+
+  joins-idle : (s : State) → Joins s → Joins (setMoving none s)
+  joins-idle s h =
+      lists s _ refl refl refl refl
+      (record {
+        ql = h .everybody .ql;
+        wel = h .everybody .wel;
+        wsl = h .everybody .wsl;
+        rel = h .everybody .rel;
+        fel = h .everybody .fel;
+        gatherers = h .everybody .gatherers;
+        interrupted = h .everybody .interrupted;
+        moving = tt;
+      }) h
 
   joins-answer : (n : ℕ) (t : Transaction) (s : State) → s .moving ≡ some t → Inside (s .records) t → standing s (t .number) ≤ 1 → Joins s
       → Joins (answer n m (blockAt m (t .next)) t s)
   unfolding answer
   joins-answer zero t s e p once h =
-      effect-joins t _ p (nobody-else _ s t once e refl) (lists s _ refl refl refl refl
-      (record { ql = h .everybody .ql; wel = h .everybody .wel; wsl = h .everybody .wsl; rel = h .everybody .rel; fel = h .everybody .fel; gatherers = h .everybody .gatherers; interrupted = h .everybody .interrupted; moving = tt }) h) _ refl (proper .block _)
+      effect-joins t (setMoving none s) p (nobody-else (t .number) s t once e refl) (joins-idle s h) (blockAt m (t .next)) refl
+      (proper .block (t .next))
   joins-answer (suc n) t s e p once h = like s _ refl refl refl refl refl refl refl refl refl refl h
 
-  joins-execute : (o : Option Transaction) (s : State) → s .moving ≡ o → Maybe (Inside (s .records)) o → ((n : ℕ) → standing s n ≤ 1) → Joins s → Joins (execute o m s)
+  joins-execute : (o : Option Transaction) (s : State) → s .moving ≡ o → Maybe (Inside (s .records)) o → ((n : ℕ) → standing s n ≤ 1)
+      → Joins s → Joins (execute o m s)
   unfolding execute
   joins-execute none s e p once h = h
-  joins-execute (some t) s e p once h = joins-answer _ t s e p (once _) h
+  joins-execute (some t) s e p once h = joins-answer _ t s e p (once (t .number)) h
 
   joins-arriveAll : (l : List Event) (s : State) → Each (λ (e : Event). Inside (s .records) (e .who)) l → Joins s → Joins (arriveAll l s)
   unfolding arriveAll
   joins-arriveAll [] s k h = h
   joins-arriveAll (e ∷ l) s k h =
-      joins-arriveAll l _ (unfold toRel in (k .1)) (joins-toRel _ s (unmoved _ .mark false _ (k .0)) h)
+      joins-arriveAll l _ (unfold toRel in (k .1)) (joins-toRel _ s (unmoved (s .records) .mark false (e .who) (k .0)) h)
 
   joins-nextEvents : (l : List Event) (s : State) → s .fel ≡ l → Joins s → Joins (nextEvents l s)
   unfolding nextEvents moveClock sample
   joins-nextEvents [] s e h = h
   joins-nextEvents (x ∷ l) s e h =
-      let later = rw e at (h .ahead .later) in
-      let rising = rw e at (h .ahead .rising) in
+      let later : Each (λ (y : Event). s .view .clock ≤ y .time) (x ∷ l) = rw e at (h .ahead .later) in
+      let rising : Rising (x ∷ l) = rw e at (h .ahead .rising) in
       let all : Each (λ (y : Event). x .time ≤ y .time) (s .fel) = rw e (omega arith, rising .0) in
-      joins-arriveAll _ _ (each-those (λ (y : Event). Inside _ _) _ _ (h .everybody .fel))
+      joins-arriveAll _ _ (each-those (λ (y : Event). Inside (s .records) (y .who)) (due (x .time)) (s .fel) (h .everybody .fel))
       (record {
         everybody =
             record {
@@ -550,15 +632,19 @@ module _ {m : BlockModel} {tape : List (List ℕ)} (proper : Proper m tape) wher
               wel = h .everybody .wel;
               wsl = h .everybody .wsl;
               rel = h .everybody .rel;
-              fel = each-those (λ (y : Event). Inside _ _) _ _ (h .everybody .fel);
+              fel = each-those (λ (y : Event). Inside (s .records) (y .who)) _ (s .fel) (h .everybody .fel);
               gatherers = h .everybody .gatherers;
               interrupted = h .everybody .interrupted;
               moving = h .everybody .moving;
             };
         joined = h .joined;
-        clocks = each-map (λ r (le : r .entry .clock ≤ s .view .clock). omega arith) (s .records) (h .clocks);
-        ahead = record { later = each-those (λ (y : Event). x .time ≤ y .time) _ _ all; rising = rising-those _ _ (h .ahead .rising) };
-        delayed = each-those (λ (y : Event). Outside _) _ _ (h .delayed);
+        clocks = each-map (λ r (le : r .entry .clock ≤ s .view .clock). omega (arith, le, later .0)) (s .records) (h .clocks);
+        ahead =
+            record {
+              later = each-those (λ (y : Event). x .time ≤ y .time) _ (s .fel) all;
+              rising = rising-those _ (s .fel) (h .ahead .rising);
+            };
+        delayed = each-those (λ (y : Event). Outside (y .who .next)) _ (s .fel) (h .delayed);
         interrupted = h .interrupted;
       })
 
@@ -566,33 +652,54 @@ module _ {m : BlockModel} {tape : List (List ℕ)} (proper : Proper m tape) wher
   unfolding takeFirst
   joins-takeFirst [] s e h = h
   joins-takeFirst (t ∷ l) s e h =
-      let rel = rw e at (h .everybody .rel) in
+      let rel : Each (Inside (s .records)) (t ∷ l) = rw e at (h .everybody .rel) in
       lists s _ refl refl refl refl
-      (record { ql = h .everybody .ql; wel = h .everybody .wel; wsl = h .everybody .wsl; rel = rel .1; fel = h .everybody .fel; gatherers = h .everybody .gatherers; interrupted = h .everybody .interrupted; moving = rel .0 }) h
+      (record {
+        ql = h .everybody .ql;
+        wel = h .everybody .wel;
+        wsl = h .everybody .wsl;
+        rel = rel .1;
+        fel = h .everybody .fel;
+        gatherers = h .everybody .gatherers;
+        interrupted = h .everybody .interrupted;
+        moving = rel .0;
+      }) h
 
   joins-takeReady : (l : List Transaction) (s : State) → s .rel ≡ l → Joins s → Joins (takeReady l s)
   unfolding takeReady
-  joins-takeReady [] s e h = joins-takeFirst _ _ refl (joins-nextEvents _ s refl h)
-  joins-takeReady (t ∷ l) s e h = joins-takeFirst _ s e h
+  joins-takeReady [] s e h = joins-takeFirst _ _ refl (joins-nextEvents (s .fel) s refl h)
+  joins-takeReady (t ∷ l) s e h = joins-takeFirst (t ∷ l) s e h
 
   joins-taking : (o : Option Transaction) (s : State) → Joins s → Joins (taking o s)
   unfolding taking
-  joins-taking none s h = joins-takeReady _ s refl h
+  joins-taking none s h = joins-takeReady (s .rel) s refl h
   joins-taking (some t) s h = h
 
   joins-wsScheme : (s : State) → Joins s → Joins (wsScheme m s)
   joins-wsScheme s h =
       wsScheme-cases Joins m s
-      (λ e. lists s _ (unfold wakeWsl in refl) (unfold wakeWsl in refl) (unfold wakeWsl in refl) (unfold wakeWsl in refl) (wakeWsl-everybody _ (unmoved _) _ s (h .everybody)) h)
+      (λ e. lists s _ (unfold wakeWsl in refl) (unfold wakeWsl in refl) (unfold wakeWsl in refl) (unfold wakeWsl in refl)
+      (wakeWsl-everybody _ (unmoved (s .records)) _ s (h .everybody)) h)
       (λ e. h)
 
   -- ---- The start
 
-  startAt-joins : (n : ℕ) (l : List Block) (s : State) → ((i : ℕ) → (facts (getD l i (terminate 0)) .generates ≡ 0 → ⊥) → Outside (n + i)) → Joins s → Joins (startAt n l s)
+  joins-turn : (s : State) → Sound m tape s → Joins s → Joins (turn m s)
+  unfolding turn standing everyone
+  joins-turn s sound h =
+      let taken : State = setTurns (suc (s .turns)) (taking (s .moving) s) in
+      let k : Joins taken =
+      like (taking (s .moving) s) taken refl refl refl refl refl refl refl refl refl refl (joins-taking (s .moving) s h) in
+      joins-wsScheme _
+      (joins-execute (taken .moving) taken refl (k .everybody .moving)
+      (λ n. stands-at-most-once m tape _ (sound-taking m tape s sound) n) k)
+
+  startAt-joins : (n : ℕ) (l : List Block) (s : State) → ((i : ℕ) → (facts (getD l i (terminate 0)) .generates ≡ 0 → ⊥) → Outside (n + i))
+      → Joins s → Joins (startAt n l s)
   unfolding startAt
   startAt-joins n [] s out h = h
   startAt-joins n (b ∷ l) s out h =
-      startAt-joins _ l _ (λ i g. rw (next i) at (out (suc i) g))
+      startAt-joins (suc n) l _ (λ i g. rw (next i) at (out (suc i) g))
       (startOf-cases Joins b n s (λ e. h) (λ e. joins-arrival _ _ _ n s (rw here at (out 0 e)) h))
     where
       here : n + 0 ≡ n
@@ -606,9 +713,22 @@ module _ {m : BlockModel} {tape : List (List ℕ)} (proper : Proper m tape) wher
   generates-outside i g =
       let e : 1 + i - 1 ≡ i = omega arith in
       let r = plain-role (role (blockAt m (1 + i))) (rw e g) in
-      at-other _ (r .0) (r .1)
+      at-other (1 + i) (r .0) (r .1)
 
   -- ---- The run
+
+  joins-start : Joins (start m tape)
+  unfolding start idle
+  joins-start =
+      startAt-joins 1 (m .blocks) (idle m tape) generates-outside
+      (record {
+        everybody = idle-everybody _ (unmoved []) m tape;
+        joined = tt;
+        clocks = tt;
+        ahead = record { later = tt; rising = tt };
+        delayed = tt;
+        interrupted = tt;
+      })
 
   gathered : (s : State) → Joins s → Gathered m tape s
   gathered s h =
@@ -616,22 +736,16 @@ module _ {m : BlockModel} {tape : List (List ℕ)} (proper : Proper m tape) wher
         joined = h .joined;
         stamps =
             each-map
-            (λ t p k low high. let c = p k low high _ (omega arith) low in cc (c .last, c .at-start refl))
+            (λ t p k low high. let c = p k low high (first k) (omega arith) low in c .last ∙ ap some (c .at-start refl))
             (everyone s) (everybody-each _ s (h .everybody));
       }
 
   pub joined-waits : (budget room : ℕ) → Each (Gathered m tape) (states m tape budget room)
   joined-waits budget room =
       each-map (λ s h. gathered s (h .1)) (states m tape budget room)
-      (each-state m budget room (λ s. Sound m tape s × Joins s) (λ s t h. (
-        sound-turn m tape proper s (h .0),
-        (unfold turn standing everyone in let taken = setTurns _ (taking _ s) in
-            let k = like _ taken refl refl refl refl refl refl refl refl refl refl (joins-taking _ s (h .1)) in
-            joins-wsScheme _ (joins-execute _ taken refl (k .everybody .moving) (λ n. stands-at-most-once m tape _ (sound-taking m tape s (h .0)) n) k)),
-      ))
-      (λ s e c h.
-      (record { shape = h .0 .shape; balanced = h .0 .balanced; books = h .0 .books }, like s _ refl refl refl refl refl refl refl refl refl refl (h .1))) tape (
-        sound-start m tape proper,
-        (unfold start idle in startAt-joins 1 _ _ generates-outside
-            (record { everybody = idle-everybody _ (unmoved []) m tape; joined = tt; clocks = tt; ahead = record { later = tt; rising = tt }; delayed = tt; interrupted = tt })),
-      ))
+      (each-state m budget room (λ s. Sound m tape s × Joins s) (λ s t h. (sound-turn m tape proper s (h .0), joins-turn s (h .0) (h .1)))
+      (λ s e c h. (
+        record { shape = h .0 .shape; balanced = h .0 .balanced; books = h .0 .books },
+        like s _ refl refl refl refl refl refl refl refl refl refl (h .1),
+      )) tape
+      (sound-start m tape proper, joins-start))

@@ -1,5 +1,5 @@
 -- "Runs of older tapes that did not end 22 keep their bytes", from bytes, and every trace that was taken is taken alike.
-use Rattle.machine.specs.All.{cases, ℕ, _≡_, refl, sym, ap, subst, _∙_, Bool, true, false, cond, List, arith, leb, ltb, length, workNumbers, reportRoom, Rules, document01, item1, document02, Cursor, Parsed, parsed, refused, BlockModel, Record, Reading, taken, refusal, noMore, recordFields, reading, readRecord, run, beginning, modelOf, Validation, accept, reject, withTape, withModel, validate, acceptedRun, refusedRun, outcomeOf, outcome, Wider, AllowsNoLess, SameBytes, KeepsRuns, KeepsTraces}
+use Rattle.machine.specs.All.{ℕ, _≡_, refl, sym, ap, subst, _∙_, Bool, true, false, cond, List, arith, leb, ltb, length, workNumbers, reportRoom, Rules, document01, item1, document02, Cursor, Parsed, parsed, refused, BlockModel, Record, Reading, taken, refusal, noMore, recordFields, reading, readRecord, run, beginning, modelOf, Validation, accept, reject, withTape, withModel, validate, acceptedRun, refusedRun, outcomeOf, outcome, Wider, AllowsNoLess, SameBytes, KeepsRuns, KeepsTraces}
 use Rattle.machine.proofs as our
 use our.decoding.ProperFrom.{rules-from, refusal-from}
 use our.decoding.WiderParsing.{Kept, withRules, Follows, tape-widens, record-widens, model-follows, own-rules}
@@ -32,12 +32,14 @@ module _ {old new : Rules} (wider : Wider old new) where
       (rw (own-rules old model m c e) (tape-widens wider tape (m .lists) .from beginning)))
   with-model model tape (refused n) r′ e h = tt
 
-  pub validated : (model tape : List ℕ) (work report : ℕ) → Accepted new (validate old model tape work report) (validate new model tape work report)
+  pub validated : (model tape : List ℕ) (work report : ℕ)
+      → Accepted new (validate old model tape work report) (validate new model tape work report)
   unfolding validate
   validated model tape work report =
       asked new (leb workNumbers work) 1 _ _
       (asked new (leb reportRoom report) 2 _ _
-      (with-model model tape _ _ refl (model-follows new old model (wider .kinds) (wider .editions) beginning)))
+      (with-model model tape (modelOf old model beginning) (modelOf new model beginning) refl
+      (model-follows new old model (wider .kinds) (wider .editions) beginning)))
 
   -- ---- Traces
 
@@ -49,10 +51,7 @@ module _ {old new : Rules} (wider : Wider old new) where
 
   answered : (s : List ℕ) (at : ℕ) → Answered (readRecord old s at) (readRecord new s at)
   unfolding readRecord reading
-  answered s at =
-      cases (ltb at (length s))
-      (λ e. rw e (read (recordFields old s c) _ (record-widens wider s .from c)))
-      (λ e. rw e)
+  answered s at = go (ltb at (length s))
     where
       c : Cursor
       c = record { position = at; numbers = 0; mentions = 0 }
@@ -60,6 +59,10 @@ module _ {old new : Rules} (wider : Wider old new) where
       read : (r r′ : Parsed Record) → Kept r r′ → Answered (reading r) (reading r′)
       read (parsed r c) r′ h = rw h
       read (refused n) r′ h = tt
+
+      go : (b : Bool) → Answered (cond b (reading (recordFields old s c)) noMore) (cond b (reading (recordFields new s c)) noMore)
+      go true = read (recordFields old s c) (recordFields new s c) (record-widens wider s .from c)
+      go false = refl
 
   pub keeps-traces : KeepsTraces old new
   keeps-traces =
@@ -73,21 +76,26 @@ module _ {old new : Rules} (wider : Wider old new) where
 pub keeps-runs : {old new : Rules} → AllowsNoLess old new → KeepsRuns old new
 unfolding outcome outcomeOf acceptedRun refusedRun
 keeps-runs {old} {new} less model tape budget work room report =
-    go _ _ refl (validated (less .wider) model tape work report)
+    go (validate old model tape work report) (validate new model tape work report) refl (validated (less .wider) model tape work report)
   where
     go : (v v′ : Validation) → validate old model tape work report ≡ v → Accepted new v v′
         → SameBytes (outcomeOf budget room v) (outcomeOf budget room v′)
     go (accept m t) v′ e h z ne =
-        let own = rules-from old model tape work report e in
+        let own : m .rules ≡ old = rules-from old model tape work report e in
         let higher = rw (← own) at (less .wider .clock) in
         let holders = ap (λ (r : Rules). r .holders) own ∙ less .holders in
-        cc (h, later-same new m higher holders t budget room ne, accepted-same new m (run m t budget room))
+        ap (outcomeOf budget room) h ∙ ap (acceptedRun (withRules new m)) (later-same new m higher holders t budget room ne)
+        ∙ accepted-same new m (run m t budget room)
     go (reject n) v′ e h z ne = absurd (omega (arith, refusal-from old model tape work report e .0))
 
 -- ---- Documents 01 and 02
 
+wider-year : Wider document01 item1
+wider-year = record { clock = omega arith; time = omega arith; number = omega arith; kinds = omega arith; editions = omega arith }
+
 pub older-runs : KeepsRuns document01 item1
-older-runs = keeps-runs (record { wider = record { clock = omega arith; time = omega arith; number = omega arith; kinds = omega arith; editions = omega arith }; holders = refl })
+older-runs = keeps-runs (record { wider = wider-year; holders = refl })
 
 pub older-traces : KeepsTraces document01 document02
-older-traces = keeps-traces (record { clock = omega arith; time = omega arith; number = omega arith; kinds = omega arith; editions = omega arith })
+older-traces =
+    keeps-traces (record { clock = omega arith; time = omega arith; number = omega arith; kinds = omega arith; editions = omega arith })

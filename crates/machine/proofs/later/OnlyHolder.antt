@@ -1,11 +1,11 @@
 -- "A model whose transactions release only their own facilities, and hold none when ending, gives the trace it gave": where the records
 -- tell so, 27 and 28 are never answered, and so the run with them is the run without them.
-use Rattle.machine.specs.All.{ℕ, zero, suc, _≡_, refl, sym, ap, subst, _∙_, Bool, true, false, cond, not, _&&_, _||_, List, [], _∷_, Option, none, some, arith, eq-eqb, ne-eqb, leb, eqb, T, workNumbers, reportRoom, Rules, document01, item1, item6, inForce, Parsed, parsed, refused, Transaction, Gatherer, Interrupted, serverAt, facility, storage, shareServer, shareUnits, shareFacility, Block, generate, advance, terminate, takes, frees, waitServer, waitTerms, moves, assign, priority, split, counts, assemble, preempt, giveBack, facts, BlockModel, blockAt, State, Logged, setMoving, recordOf, log, enters, moveTo, wakeQl, wakeFirstWel, wakeWsl, setUse, waitsFor, comes, released, toRel, unless, askGenerate, askAdvance, askHolder, held, question, wakeFor, endsOne, effect, takeUnits, askGathers, gathers, askResume, askGivesBack, answer, execute, wsScheme, turn, run, listField, beginning, modelOf, tapeOf, Validation, accept, reject, withTape, withModel, validate, acceptedRun, outcomeOf, outcome, bit, terminates, SameBytes, asking, heldBy, byHolder, freeHanded, ownOnly, OwnOnly, KeepsOwnRuns}
+use Rattle.machine.specs.All.{ℕ, zero, suc, _≡_, refl, sym, ap, subst, _∙_, Bool, true, false, cond, not, _&&_, _||_, List, [], _∷_, Option, none, some, arith, eq-eqb, ne-eqb, leb, eqb, T, workNumbers, reportRoom, Rules, document01, item1, item6, inForce, Parsed, parsed, refused, Transaction, Gatherer, Interrupted, serverAt, facility, storage, shareServer, shareUnits, shareFacility, Block, generate, advance, terminate, takes, frees, waitServer, waitTerms, moves, assign, priority, split, counts, assemble, preempt, giveBack, facts, BlockModel, blockAt, State, Logged, setMoving, recordOf, log, enters, moveTo, wakeQl, wakeFirstWel, wakeWsl, setUse, waitsFor, comes, released, toRel, unless, askGenerate, askAdvance, askHolder, held, question, wakeFor, endsOne, effect, takeUnits, askGathers, gathers, askResume, askGivesBack, answer, execute, wsScheme, turn, run, listField, beginning, modelOf, tapeOf, Validation, accept, reject, withTape, withModel, validate, acceptedRun, outcomeOf, outcome, bit, terminates, SameBytes, asking, heldBy, byHolder, freeHanded, ownOnly, OwnOnly, KeepsOwnRuns, timesLeft, beginWait, mustWait, interruptedAt, gathering, holderBy}
 use Rattle.machine.proofs as our
 use our.decoding.Proper.{Proper, ProperBlock, Names}
 use our.decoding.ProperFrom.{proper-from, rules-from}
 use our.lists.Cases.{checkWels-kept, wsScheme-cases}
-use our.{runs.Kept.taking-kept, lists.Sums.upTo-cong, order.Taken.taking-records, later.OlderTapes.older-runs, later.OlderModels.older-models, runs.RunLaws.cond-cases}
+use our.{runs.Kept.taking-kept, lists.Sums.upTo-cong, order.Taken.taking-records, later.OlderTapes.older-runs, later.OlderModels.older-models, runs.RunLaws.cond-cases, later.Holders.Accounts}
 use our.runs.Shape.{Shape, shape-closed}
 use our.order.Steps.{Step, passes, begins, back, returns, assembles, step-effect}
 use our.decoding.WiderParsing.{withRules, underRules, model-read, own-rules}
@@ -42,7 +42,7 @@ module _ (m : BlockModel) (tape : List (List ℕ)) (proper : Proper m tape) wher
 
   wrote-answer : (n : ℕ) (t : Transaction) (s : State) → Shape m s → Wrote (s .records) (answer n m (blockAt m (t .next)) t s .records)
   unfolding answer
-  wrote-answer zero t s shape = wrote-step (step-effect m _ t _ (proper .block _) shape)
+  wrote-answer zero t s shape = wrote-step (step-effect m (blockAt m (t .next)) t (setMoving none s) (proper .block (t .next)) shape)
   wrote-answer (suc n) t s shape = nothing
 
   wrote-execute : (o : Option Transaction) (s : State) → Shape m s → Wrote (s .records) (execute o m s .records)
@@ -57,16 +57,16 @@ module _ (m : BlockModel) (tape : List (List ℕ)) (proper : Proper m tape) wher
   wrote-turn : (s : State) → Shape m s → Wrote (s .records) (turn m s .records)
   unfolding turn
   wrote-turn s shape =
-      rw scheme-records
-      (subst (λ l. Wrote l (execute (takenFrom s .moving) m (takenFrom s) .records)) (taking-records _ s)
-      (wrote-execute _ _ (taking-kept _ (shape-closed m) _ s shape)))
+      rw (scheme-records (execute (takenFrom s .moving) m (takenFrom s)))
+      (subst (λ l. Wrote l (execute (takenFrom s .moving) m (takenFrom s) .records)) (taking-records (s .moving) s)
+      (wrote-execute (takenFrom s .moving) (takenFrom s) (taking-kept (Shape m) (shape-closed m) (s .moving) s shape)))
 
   abbrev Own : List Logged → Type 0
   Own l = T (ownOnly m tape l)
 
   own-parts : (r : Logged) (l : List Logged) → Own (r ∷ l) → T (byHolder m tape l r) × T (freeHanded m tape l r) × Own l
   unfolding ownOnly
-  own-parts r l h = and-parts (byHolder m tape l r) _ _ h
+  own-parts r l h = and-parts (byHolder m tape l r) (freeHanded m tape l r) (ownOnly m tape l) h
 
   own-before : {l k : List Logged} → Wrote l k → Own k → Own l
   own-before nothing h = h
@@ -108,13 +108,14 @@ module _ (m : BlockModel) (tape : List (List ℕ)) (proper : Proper m tape) wher
 
       held-told : held m (s .view) (t .number) ≡ heldBy m tape (s .records) (t .number)
       unfolding held heldBy serverAt
-      held-told = upTo-cong _ _ _ (λ f low high. cc (holding .each f (low, high) .held .told))
+      held-told = upTo-cong _ _ (m .facilities) (λ f low high. ap (λ n. bit (eqb n (t .number))) (holding .each f (low, high) .held .told))
 
       holds-none : facts (blockAt m (t .next)) .terminates ≡ 1 → Own (r ∷ s .records) → eqb (held m (s .view) (t .number)) 0 ≡ true
       unfolding freeHanded recordOf
       holds-none ends own =
           ap (λ n. eqb n 0) held-told
-          ∙ or-else _ _ (ap not (eq-eqb _ 1 ends)) (own-parts r _ own .1)
+          ∙ or-else (not (terminates m tape r)) (eqb (heldBy m tape (s .records) (t .number)) 0) (ap not (eq-eqb _ 1 ends))
+          (own-parts r (s .records) own .1)
 
       -- ---- 27
 
@@ -122,10 +123,10 @@ module _ (m : BlockModel) (tape : List (List ℕ)) (proper : Proper m tape) wher
           → eqb (serverAt (s .view) v .holder) (t .number) ≡ true
       unfolding byHolder recordOf serverAt
       holds-it v at on own =
-          let by =
+          let by : T (eqb v 0 || eqb (holderBy m tape (s .records) v) (t .number)) =
           rw on at (own-parts r (s .records) own .0) in
           ap (λ n. eqb n (t .number)) (holding .each v at .held .told)
-          ∙ or-else _ _ (ne-eqb v 0 (λ e. omega arith)) by
+          ∙ or-else (eqb v 0) (eqb (holderBy m tape (s .records) v) (t .number)) (ne-eqb v 0 (λ e. omega arith)) by
 
       freed-records : (v : ℕ) → effect m (frees (facility v)) t (setMoving none s) .records ≡ r ∷ s .records
       unfolding effect moveTo shareServer shareUnits wakeFor wakeQl wakeFirstWel setUse enters log recordOf takeUnits
@@ -135,12 +136,14 @@ module _ (m : BlockModel) (tape : List (List ℕ)) (proper : Proper m tape) wher
           → (question m (frees (facility v)) t s ≡ 0 → Own (effect m (frees (facility v)) t (setMoving none s) .records))
           → question m′ (frees (facility v)) t s ≡ question m (frees (facility v)) t s
       unfolding question askHolder shareServer shareUnits
-      release-same v at on own = go (leb 1 (serverAt _ v .inUse)) (not (serverAt _ v .preempted)) own
+      release-same v at on own = go (leb 1 (serverAt (s .view) v .inUse)) (not (serverAt (s .view) v .preempted)) own
         where
           ask : Bool → ℕ
           ask b = unless (not b || eqb (serverAt (s .view) v .holder) (t .number)) 27 0
 
-          go : (b c : Bool) → (unless b 24 (unless c 27 (ask (m .rules .holders))) ≡ 0 → Own (effect m (frees (facility v)) t (setMoving none s) .records))
+          go : (b c : Bool)
+              → (unless b 24 (unless c 27 (ask (m .rules .holders))) ≡ 0 → Own
+              (effect m (frees (facility v)) t (setMoving none s) .records))
               → unless b 24 (unless c 27 (ask true)) ≡ unless b 24 (unless c 27 (ask (m .rules .holders)))
           go true true own = asks-alike _ 27 (holds-it v at on (rw (freed-records v) at (own (ap ask silent))))
           go true false own = refl
@@ -149,13 +152,15 @@ module _ (m : BlockModel) (tape : List (List ℕ)) (proper : Proper m tape) wher
       -- a later one of a family writes its record
       gathers-records : (n : ℕ) (g : Gatherer) → gathers n g t (enters t (setMoving none s)) .records ≡ r ∷ s .records
       unfolding gathers released toRel comes enters log recordOf
-      gathers-records n g = cond-cases (λ (s′ : State). s′ .records ≡ r ∷ s .records) (eqb _ n) _ _ (λ e. refl) (λ e. refl)
+      gathers-records n g = cond-cases (λ (s′ : State). s′ .records ≡ r ∷ s .records) (eqb (suc (g .come)) n) _ _ (λ e. refl) (λ e. refl)
 
-      later-records : (n : ℕ) (g : Gatherer) (l : List Gatherer) → waitsFor t s ≡ g ∷ l → effect m (assemble n) t (setMoving none s) .records ≡ r ∷ s .records
+      later-records : (n : ℕ) (g : Gatherer) (l : List Gatherer) → waitsFor t s ≡ g ∷ l
+          → effect m (assemble n) t (setMoving none s) .records ≡ r ∷ s .records
       unfolding effect takeUnits
       later-records n g l k =
-          let s₀ = setMoving none s in
-          cc (k, gathers-records n g)
+          let s₀ : State = setMoving none s in
+          ap (λ l. gathering (λ f. f (enters t s₀)) (λ put. mustWait put t s₀) (λ f. f s₀) (λ put. beginWait put t s₀) l n t .records) k
+          ∙ gathers-records n g
 
       gathers-same : (n : ℕ) (l : List Gatherer) → blockAt m (t .next) ≡ assemble n → waitsFor t s ≡ l
           → (askGathers m l t s ≡ 0 → Own (effect m (assemble n) t (setMoving none s) .records)) → askGathers m′ l t s ≡ askGathers m l t s
@@ -163,18 +168,21 @@ module _ (m : BlockModel) (tape : List (List ℕ)) (proper : Proper m tape) wher
       gathers-same n [] e k own = refl
       gathers-same n (g ∷ l) e k own =
           asks-alike _ 28
-          (holds-none (cc e)
-          (subst Own (later-records n g l k) (own (cc silent))))
+          (holds-none (ap (λ b. facts b .terminates) e)
+          (rw (later-records n g l k) at (own (ap (λ b. unless (not b || eqb (held m (s .view) (t .number)) 0) 28 0) silent))))
 
-      question-same : (b : Block) → blockAt m (t .next) ≡ b → ProperBlock m b → (question m b t s ≡ 0 → Own (effect m b t (setMoving none s) .records))
+      question-same : (b : Block) → blockAt m (t .next) ≡ b → ProperBlock m b
+          → (question m b t s ≡ 0 → Own (effect m b t (setMoving none s) .records))
           → question m′ b t s ≡ question m b t s
       unfolding question askHolder held facts shareFacility effect endsOne enters log recordOf takeUnits
-      question-same (generate list p) e good own = generate-same _ s
-      question-same (advance list) e good own = advance-same _ s
+      question-same (generate list p) e good own = generate-same (timesLeft s list) s
+      question-same (advance list) e good own = advance-same (timesLeft s list) s
       question-same (terminate a) e good own =
-          asks-alike _ 28 (holds-none (cc e) (own (cc silent)))
+          asks-alike _ 28
+          (holds-none (ap (λ b. facts b .terminates) e)
+          (own (ap (λ b. unless (not b || eqb (held m (s .view) (t .number)) 0) 28 0) silent)))
       question-same (takes x) e good own = refl
-      question-same (frees (facility v)) e good own = release-same v good (cc e) own
+      question-same (frees (facility v)) e good own = release-same v good (ap (λ b. facts b .releases) e) own
       question-same (frees (storage v b)) e good own = refl
       question-same (waitServer code v c) e good own = refl
       question-same (waitTerms a relation b) e good own = refl
@@ -183,9 +191,9 @@ module _ (m : BlockModel) (tape : List (List ℕ)) (proper : Proper m tape) wher
       question-same (priority p) e good own = refl
       question-same (split n target) e good own = refl
       question-same (counts c q) e good own = refl
-      question-same (assemble n) e good own = gathers-same n _ e refl own
+      question-same (assemble n) e good own = gathers-same n (waitsFor t s) e refl own
       question-same (preempt f) e good own = refl
-      question-same (giveBack f) e good own = unfold askGivesBack in (rw resume-same)
+      question-same (giveBack f) e good own = unfold askGivesBack in (rw (resume-same (interruptedAt s f) s))
 
     -- ---- The turn and the run
 
@@ -193,18 +201,20 @@ module _ (m : BlockModel) (tape : List (List ℕ)) (proper : Proper m tape) wher
     unfolding execute answer
     answered-alike none s holding own = tt
     answered-alike (some t) s holding own =
-        let b = blockAt m _ in
-        question-same t s holding b refl (proper .block _) (λ q. rw q at own)
+        let b = blockAt m (t .next) in
+        question-same t s holding b refl (proper .block (t .next)) (λ q. rw q at own)
 
     same-turn : (s : State) → Holding m tape s → Own (turn m s .records) → turn m′ s ≡ turn m s
     unfolding turn
     same-turn s holding own =
         turn-same new m s
-        (answered-alike _ _ (holding-taking m tape _ s holding) (subst Own (scheme-records _) own))
+        (answered-alike (takenFrom s .moving) (takenFrom s) (holding-taking m tape (s .moving) s holding)
+        (rw (scheme-records (execute (takenFrom s .moving) m (takenFrom s))) at own))
 
     pub own-same : (budget room : ℕ) → Own (run m tape budget room .records) → run m′ tape budget room ≡ run m tape budget room
     own-same budget room own =
-        run-same new m budget room _ (λ s. Own _) (λ s t i. accounts-turn m tape proper s i) (λ s t i h. same-turn s (i .1) h)
+        run-same new m budget room (Accounts m tape) (λ s. Own (s .records)) (λ s t i. accounts-turn m tape proper s i)
+        (λ s t i h. same-turn s (i .1) h)
         (λ s t i h. own-before (wrote-turn s (i .0 .shape)) h) (λ s e b z h. h) tape (accounts-start m tape proper) own
 
 -- ---- Validation asks for no holder
@@ -225,18 +235,21 @@ module _ (rules : Rules) where
   tape-same m (parsed t c) = refl
   tape-same m (refused n) = refl
 
-  model-same : (model tape : List ℕ) (r : Parsed BlockModel) → modelOf old model beginning ≡ r → withModel tape (underRules asked r) ≡ under (withModel tape r)
+  model-same : (model tape : List ℕ) (r : Parsed BlockModel) → modelOf old model beginning ≡ r
+      → withModel tape (underRules asked r) ≡ under (withModel tape r)
   unfolding withModel under tapeOf listField
   model-same model tape (parsed m c) e =
-      subst (λ (k : Rules). withTape (withRules asked m) (tapeOf asked tape (m .lists) beginning) ≡ under (withTape m (tapeOf k tape (m .lists) beginning)))
-      (sym (own-rules old model m c e)) (tape-same m _)
+      subst (λ (k : Rules). withTape (withRules asked m) (tapeOf asked tape (m .lists) beginning) ≡ under
+      (withTape m (tapeOf k tape (m .lists) beginning)))
+      (sym (own-rules old model m c e)) (tape-same m (tapeOf asked tape (m .lists) beginning))
   model-same model tape (refused n) e = refl
 
   validated : (model tape : List ℕ) (work report : ℕ) → validate asked model tape work report ≡ under (validate old model tape work report)
   unfolding validate under
   validated model tape work report =
       first (leb workNumbers work) 1 _ _
-      (first (leb reportRoom report) 2 _ _ (ap (withModel tape) (model-read asked old refl refl model beginning) ∙ model-same model tape _ refl))
+      (first (leb reportRoom report) 2 _ _
+      (ap (withModel tape) (model-read asked old refl refl model beginning) ∙ model-same model tape (modelOf old model beginning) refl))
     where
       first : (b : Bool) (n : ℕ) (x x′ : Validation) → x′ ≡ under x → cond b x′ (reject n) ≡ under (cond b x (reject n))
       first true n x x′ e = e
@@ -247,13 +260,17 @@ module _ (rules : Rules) where
   pub keeps-own-runs : KeepsOwnRuns rules
   unfolding outcome outcomeOf under
   keeps-own-runs model tape budget work room report own =
-      ap (outcomeOf budget room) (validated model tape work report) ∙ go _ refl own
+      ap (outcomeOf budget room) (validated model tape work report) ∙ go (validate old model tape work report) refl own
     where
-      go : (v : Validation) → validate old model tape work report ≡ v → OwnOnly budget room v → outcomeOf budget room (under v) ≡ outcomeOf budget room v
+      go : (v : Validation) → validate old model tape work report ≡ v → OwnOnly budget room v
+          → outcomeOf budget room (under v) ≡ outcomeOf budget room v
       go (accept m t) e own =
-          let is = rules-from old model tape work report e in
-          subst (λ (k : Rules). acceptedRun (withRules k m) (run (withRules k m) t budget room) ≡ acceptedRun m (run m t budget room)) (ap (asking true) is)
-          (cc (own-same m t (proper-from old model tape work report e) (ap (λ (k : Rules). k .holders) is) budget room own, accepted-same (asking true (m .rules)) m (run m t budget room)))
+          let is : m .rules ≡ old = rules-from old model tape work report e in
+          subst (λ (k : Rules). acceptedRun (withRules k m) (run (withRules k m) t budget room) ≡ acceptedRun m (run m t budget room))
+          (ap (asking true) is)
+          (ap (acceptedRun (withRules (asking true (m .rules)) m))
+          (own-same m t (proper-from old model tape work report e) (ap (λ (k : Rules). k .holders) is) budget room own)
+          ∙ accepted-same (asking true (m .rules)) m (run m t budget room))
       go (reject n) e own = refl
 
 -- with item 6, and with item 1 alone
@@ -266,4 +283,4 @@ pub older-own-runs : (model tape : List ℕ) (budget work room report : ℕ) →
     → SameBytes (outcome document01 model tape budget work room report) (outcome inForce model tape budget work room report)
 older-own-runs model tape budget work room report own accepted early =
     let same = own-runs model tape budget work room report own ∙ older-runs model tape budget work room report accepted early in
-    older-models model tape budget work room report (cc (same, accepted)) ∙ same
+    older-models model tape budget work room report (ap (λ o. o .refusal) same ∙ accepted) ∙ same

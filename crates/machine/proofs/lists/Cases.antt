@@ -1,6 +1,7 @@
--- What holds of both arms of a choice holds of the choice: the check of a WEL, SEIZE and ENTER, WAITIF, ASSEMBLE, PREEMPT, RETURN, the WS scheme, the start. The
+-- What holds of both arms of a choice holds of the choice: the check of a WEL, SEIZE and ENTER, WAITIF, ASSEMBLE, PREEMPT, RETURN, the WS
+-- scheme, the start. The
 -- other choices of a block, by `cond-cases`, stand in the proof of each claim.
-use Rattle.machine.specs.All.{ℕ, suc, _+_, _-_, _≡_, refl, sym, Bool, true, false, not, _&&_, List, [], _∷_, eqb-true, eqb-false, ltb, eqb, leb, Transaction, Event, Gatherer, Interrupted, Term, Relation, free, serverAt, compare, Code, U, NU, E, NE, F, NF, status, Share, shareServer, shareUnits, shareHolder, facility, Block, waitServer, waitTerms, assemble, preempt, giveBack, facts, BlockModel, State, enters, moveTo, goOn, toQl, toWel, toWsl, beginWait, mustWait, wakeFirstWel, wakeWsl, timesLeft, arrival, waitsFor, toGatherers, comes, released, interruptedAt, losersTo, interrupt, resume, setUse, setHolder, setEnded, checkWel, checkWels, stamped, wakeFor, freeUnits, gathers, givesBack, effect, takeUnits, gathering, waitsOn, wsScheme, startOf}
+use Rattle.machine.specs.All.{ℕ, suc, _+_, _-_, _≡_, refl, sym, Bool, true, false, not, _&&_, List, [], _∷_, eqb-true, eqb-false, ltb, eqb, leb, Transaction, Event, Gatherer, Interrupted, Term, Relation, free, serverAt, compare, Code, U, NU, E, NE, F, NF, status, Share, shareServer, shareUnits, shareHolder, facility, Block, waitServer, waitTerms, assemble, preempt, giveBack, facts, BlockModel, State, enters, moveTo, goOn, toQl, toWel, toWsl, beginWait, mustWait, wakeFirstWel, wakeWsl, timesLeft, arrival, waitsFor, toGatherers, comes, released, interruptedAt, losersTo, interrupt, resume, setUse, setHolder, setEnded, checkWel, checkWels, stamped, wakeFor, freeUnits, gathers, givesBack, effect, takeUnits, gathering, waitsOn, wsScheme, startOf, isGenerate}
 use Rattle.machine.proofs.runs.RunLaws.{cond-cases}
 
 not-true : (b : Bool) → not b ≡ true → b ≡ false
@@ -13,7 +14,8 @@ not-false false e = sym e
 
 module _ (Q : State → Type 0) where
   pub checkWel-cases : (v : ℕ) (code : Code) (s : State)
-      → (status code (serverAt (s .view) v) ≡ true → Q s) → (status code (serverAt (s .view) v) ≡ false → Q (wakeFirstWel v code s)) → Q (checkWel v code s)
+      → (status code (serverAt (s .view) v) ≡ true → Q s) → (status code (serverAt (s .view) v) ≡ false → Q (wakeFirstWel v code s))
+      → Q (checkWel v code s)
   unfolding checkWel
   checkWel-cases v code s = cond-cases Q _ _ _
 
@@ -28,8 +30,12 @@ module _ (Q : State → Type 0) where
   -- it takes its units, or waits
   pub takes-cases : (m : BlockModel) (x : Share) (preempts : Bool) (t : Transaction) (s : State)
       → (leb (shareUnits x) (free (serverAt (s .view) (shareServer x))) ≡ true
-      → Q (goOn t (checkWels (shareServer x) (setUse (shareServer x) (serverAt (s .view) (shareServer x) .inUse + shareUnits x) (shareHolder x (t .number)) preempts (enters t s)))))
-      → (leb (shareUnits x) (free (serverAt (s .view) (shareServer x))) ≡ false → Q (mustWait (toQl (m .edition) (shareServer x)) t s)) → Q (takeUnits m x preempts t s)
+      → Q (goOn t
+      (checkWels (shareServer x)
+      (setUse (shareServer x) (serverAt (s .view) (shareServer x) .inUse + shareUnits x) (shareHolder x (t .number)) preempts
+      (enters t s)))))
+      → (leb (shareUnits x) (free (serverAt (s .view) (shareServer x))) ≡ false → Q (mustWait (toQl (m .edition) (shareServer x)) t s))
+      → Q (takeUnits m x preempts t s)
   unfolding takeUnits
   takes-cases m x preempts t s = cond-cases Q _ _ _
 
@@ -37,7 +43,8 @@ module _ (Q : State → Type 0) where
   pub waitServer-cases : (m : BlockModel) (code : Code) (v c : ℕ) (t : Transaction) (s : State)
       → (status code (serverAt (s .view) v) ≡ true → Q (mustWait (toWel (m .edition) v code) t s))
       → ((ltb 0 c && ltb (t .stamp) (s .view .clock)) ≡ true → Q (moveTo (t .next - c) t (wakeFirstWel v code s)))
-      → ((ltb 0 c && ltb (t .stamp) (s .view .clock)) ≡ false → Q (goOn (stamped m t s) (wakeFirstWel v code (enters t s)))) → Q (effect m (waitServer code v c) t s)
+      → ((ltb 0 c && ltb (t .stamp) (s .view .clock)) ≡ false → Q (goOn (stamped m t s) (wakeFirstWel v code (enters t s))))
+      → Q (effect m (waitServer code v c) t s)
   unfolding effect takeUnits
   waitServer-cases m code v c t s waits goes-back passes = cond-cases Q _ _ _ waits (λ e. cond-cases Q _ _ _ goes-back passes)
 
@@ -65,23 +72,26 @@ module _ (Q : State → Type 0) where
   -- somebody loses the facility, or it does as SEIZE
   pub preempt-cases : (m : BlockModel) (f : ℕ) (t : Transaction) (s : State)
       → (losersTo t f s ≡ [] → Q (takeUnits m (facility f) true t s))
-      → ((e : Event) (l : List Event) → losersTo t f s ≡ e ∷ l → Q (goOn t (checkWels f (setHolder f (t .number) true (interrupt e t f (enters t s))))))
+      → ((e : Event) (l : List Event) → losersTo t f s ≡ e ∷ l → Q
+      (goOn t (checkWels f (setHolder f (t .number) true (interrupt e t f (enters t s))))))
       → Q (effect m (preempt f) t s)
   unfolding effect takeUnits
-  preempt-cases m f t s nobody loses = go _ refl
+  preempt-cases m f t s nobody loses = go (losersTo t f s) refl
     where
       go : (l : List Event) → losersTo t f s ≡ l
-          → Q (Rattle.machine.specs.Execute.preempting (λ f. f (enters t s)) (λ put. mustWait put t s) (λ f. f s) (λ put. beginWait put t s) l m f t s)
+          → Q (Rattle.machine.specs.Execute.preempting (λ f. f (enters t s)) (λ put. mustWait put t s) (λ f. f s)
+          (λ put. beginWait put t s) l m f t s)
       go [] e = nobody e
       go (x ∷ l) e = loses x l e
 
   -- it does as RELEASE, or the interrupted one gets the facility back
   pub giveBack-cases : (m : BlockModel) (f : ℕ) (t : Transaction) (s : State)
       → (interruptedAt s f ≡ [] → Q (goOn t (checkWels f (wakeFor m (facility f) (freeUnits f 1 (enters t s))))))
-      → ((i : Interrupted) (l : List Interrupted) → interruptedAt s f ≡ i ∷ l → Q (goOn t (checkWels f (resume i f (setHolder f (i .who .number) false (enters t s))))))
+      → ((i : Interrupted) (l : List Interrupted) → interruptedAt s f ≡ i ∷ l → Q
+      (goOn t (checkWels f (resume i f (setHolder f (i .who .number) false (enters t s))))))
       → Q (effect m (giveBack f) t s)
   unfolding effect takeUnits givesBack
-  giveBack-cases m f t s nobody back = go _ refl
+  giveBack-cases m f t s nobody back = go (interruptedAt s f) refl
     where
       go : (l : List Interrupted) → interruptedAt s f ≡ l → Q (goOn t (checkWels f (givesBack m l f (enters t s))))
       go [] e = nobody e
@@ -94,7 +104,8 @@ module _ (Q : State → Type 0) where
 
   -- at the start only a GENERATE does anything
   pub startOf-cases : (b : Block) (n : ℕ) (s : State) → (facts b .generates ≡ 0 → Q s)
-      → ((facts b .generates ≡ 0 → ⊥) → Q (arrival (timesLeft s (facts b .generates)) (facts b .generates) (facts b .rank) n s)) → Q (startOf b n s)
+      → ((facts b .generates ≡ 0 → ⊥) → Q (arrival (timesLeft s (facts b .generates)) (facts b .generates) (facts b .rank) n s))
+      → Q (startOf b n s)
   unfolding startOf
   startOf-cases b n s f g =
-      cond-cases Q _ _ _ (λ e. g (eqb-false _ _ (not-true _ e))) (λ e. f (eqb-true _ _ (not-false _ e)))
+      cond-cases Q (isGenerate (facts b)) _ _ (λ e. g (eqb-false _ _ (not-true _ e))) (λ e. f (eqb-true _ _ (not-false _ e)))

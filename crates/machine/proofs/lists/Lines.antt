@@ -15,11 +15,11 @@ module _ {A : Type 0} where
 
   each-reverse : (P : A → Type 0) (l : List A) → Each P l → Each P (reverse l)
   each-reverse P [] h = tt
-  each-reverse P (x ∷ l) h = rw reverse-cons (each-append P (reverse l) _ (each-reverse P l (h .1)) (h .0, tt))
+  each-reverse P (x ∷ l) h = rw (reverse-cons x l) (each-append P (reverse l) (x ∷ []) (each-reverse P l (h .1)) (h .0, tt))
 
   sum-reverse : (f : A → ℕ) (l : List A) → sumOn f (reverse l) ≡ sumOn f l
   sum-reverse f [] = refl
-  sum-reverse f (x ∷ l) = rw reverse-cons (omega (arith, sum-append f (reverse l) (x ∷ []), sum-reverse f l))
+  sum-reverse f (x ∷ l) = rw (reverse-cons x l) (omega (arith, sum-append f (reverse l) (x ∷ []), sum-reverse f l))
 
 -- ---- Coming onto a line
 
@@ -27,7 +27,8 @@ module _ {A : Type 0} where
 abbrev pub meets : Transaction → Transaction → Bool
 meets a b = leb (a .priority) (b .priority)
 
-pub sum-lineUp : (f : Transaction → ℕ) (edition : ℕ) (t : Transaction) (l : List Transaction) → sumOn f (lineUp edition t l) ≡ f t + sumOn f l
+pub sum-lineUp : (f : Transaction → ℕ) (edition : ℕ) (t : Transaction) (l : List Transaction)
+    → sumOn f (lineUp edition t l) ≡ f t + sumOn f l
 unfolding lineUp fromBack
 sum-lineUp f edition t l =
     let same : List Transaction → Type 0 = λ k. sumOn f k ≡ f t + sumOn f l in
@@ -35,20 +36,22 @@ sum-lineUp f edition t l =
     (λ e. cond-cases same (t .returning) _ _ (λ r. refl)
     (λ r. omega (arith, sum-reverse f (insert meets t (reverse l)), sum-insert f meets t (reverse l), sum-reverse f l)))
 
-pub each-lineUp : (P : Transaction → Type 0) (edition : ℕ) (t : Transaction) (l : List Transaction) → P t → Each P l → Each P (lineUp edition t l)
+pub each-lineUp : (P : Transaction → Type 0) (edition : ℕ) (t : Transaction) (l : List Transaction) → P t → Each P l
+    → Each P (lineUp edition t l)
 unfolding lineUp fromBack
 each-lineUp P edition t l p h =
     cond-cases (Each P) (eqb edition 1) _ _ (λ e. each-insert P precedes t l p h)
     (λ e. cond-cases (Each P) (t .returning) _ _ (λ r. (p, h))
-    (λ r. each-reverse P (insert meets t _) (each-insert P meets t _ p (each-reverse P l h))))
+    (λ r. each-reverse P (insert meets t (reverse l)) (each-insert P meets t (reverse l) p (each-reverse P l h))))
 
 -- edition 1
 pub lineUp-one : (edition : ℕ) (t : Transaction) (l : List Transaction) → edition ≡ 1 → lineUp edition t l ≡ insert precedes t l
 unfolding lineUp
-lineUp-one edition t l e = rw eq-eqb
+lineUp-one edition t l e = rw (eq-eqb edition 1 e)
 
-pub sorted-lineUp : (edition : ℕ) (t : Transaction) (l : List Transaction) → edition ≡ 1 → Sorted precedes l → Sorted precedes (lineUp edition t l)
-sorted-lineUp edition t l e h = rw lineUp-one (sorted-in t l h)
+pub sorted-lineUp : (edition : ℕ) (t : Transaction) (l : List Transaction) → edition ≡ 1 → Sorted precedes l
+    → Sorted precedes (lineUp edition t l)
+sorted-lineUp edition t l e h = rw (lineUp-one edition t l e) (sorted-in t l h)
 
 -- ---- Parting a line
 
@@ -70,7 +73,8 @@ module _ (f : Transaction → ℕ) (m : BlockModel) where
   sum-firstOfOne [] = refl
   sum-firstOfOne (t ∷ l) =
       let rest = sum-firstOfOne l in
-      cond-cases (λ (p : Parted). sumOn f (p .go) + sumOn f (p .stay) ≡ f t + sumOn f l) (eqb (unitsOf m t) 1) _ _ (λ e. omega arith) (λ e. omega arith)
+      cond-cases (λ (p : Parted). sumOn f (p .go) + sumOn f (p .stay) ≡ f t + sumOn f l) (eqb (unitsOf m t) 1) _ _ (λ e. omega arith)
+      (λ e. omega arith)
 
   sum-fromFront : (b : ℕ) (l : List Transaction) → Whole f (fromFront m b) l
   unfolding fromFront
@@ -79,8 +83,8 @@ module _ (f : Transaction → ℕ) (m : BlockModel) where
       let stays = sum-fromFront b l in
       let goes = sum-fromFront (b - unitsOf m t) l in
       let same : Parted → Type 0 = λ p. sumOn f (p .go) + sumOn f (p .stay) ≡ f t + sumOn f l in
-      cond-cases same (eqb b _) _ _ (λ e. omega arith)
-      (λ e. cond-cases same (ltb b _) _ _ (λ d. omega arith) (λ d. omega arith))
+      cond-cases same (eqb b (unitsOf m t)) _ _ (λ e. omega arith)
+      (λ e. cond-cases same (ltb b (unitsOf m t)) _ _ (λ d. omega arith) (λ d. omega arith))
 
   pub sum-partFor : (x : Share) (w : View) (l : List Transaction) → Whole f (partFor m x w) l
   unfolding partFor queueRemove
@@ -104,9 +108,9 @@ module _ (P : Transaction → Type 0) (m : BlockModel) where
   both-fromFront b [] h = (tt, tt)
   both-fromFront b (t ∷ l) h =
       let stays = both-fromFront b l (h .1) in
-      let goes = both-fromFront _ l (h .1) in
-      cond-cases (Both P) (eqb b _) _ _ (λ e. ((h .0, tt), h .1))
-      (λ e. cond-cases (Both P) (ltb b _) _ _ (λ d. (stays .0, (h .0, stays .1))) (λ d. ((h .0, goes .0), goes .1)))
+      let goes = both-fromFront (b - unitsOf m t) l (h .1) in
+      cond-cases (Both P) (eqb b (unitsOf m t)) _ _ (λ e. ((h .0, tt), h .1))
+      (λ e. cond-cases (Both P) (ltb b (unitsOf m t)) _ _ (λ d. (stays .0, (h .0, stays .1))) (λ d. ((h .0, goes .0), goes .1)))
 
   pub both-partFor : (x : Share) (w : View) (l : List Transaction) → Each P l → Both P (partFor m x w l)
   unfolding partFor queueRemove

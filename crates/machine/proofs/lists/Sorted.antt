@@ -1,7 +1,7 @@
 -- Lists sorted in the weak form, "no later element precedes an earlier one", over any transitive and irreflexive order; what
 -- every or some member of a list is, and how insertion and selection keep it. REL and each QL are sorted by `precedes`.
 -- Of the FEL's order, what it says of move times.
-use Rattle.machine.specs.All.{ℕ, zero, suc, _<_, _≤_, _≡_, refl, sym, Bool, true, false, _&&_, _||_, true≢false, _⊎_, inl, inr, List, [], _∷_, _++_, arith, ltb, eqb, getD, set, drop, ltb-true, ltb-false, lt-ltb, eqb-true, eq-eqb, Transaction, precedes, Event, earlier, insert, those, replaceFirst, Each}
+use Rattle.machine.specs.All.{ℕ, zero, suc, _<_, _≤_, _≡_, refl, sym, Bool, true, false, _&&_, _||_, true≢false, _⊎_, inl, inr, List, [], _∷_, _++_, arith, ltb, eqb, getD, set, drop, ltb-true, ltb-false, lt-ltb, eqb-true, eq-eqb, Transaction, precedes, Event, earlier, insert, those, replaceFirst, Each, _∙_}
 use Rattle.machine.proofs.runs.RunLaws.{cond-cases, each-map}
 
 untrue : (b : Bool) → (b ≡ true → ⊥) → b ≡ false
@@ -92,7 +92,7 @@ module _ {A : Type 0} where
       (trans : (a b c : A) → before a b ≡ true → before b c ≡ true → before a c ≡ true) where
     -- who does not precede y does not precede what precedes y
     behind : (x y z : A) → before x y ≡ true → before z y ≡ false → before z x ≡ false
-    behind x y z xy zy = untrue _ (λ zx. true≢false (cc (trans z x y zx xy, zy)))
+    behind x y z xy zy = untrue (before z x) (λ zx. true≢false (sym (trans z x y zx xy) ∙ zy))
 
     sorted-insert : (x : A) (l : List A) → Sorted before l → Sorted before (insert before x l)
     unfolding insert
@@ -109,7 +109,7 @@ Before a b = (b .priority < a .priority) ⊎ ((a .priority ≡ b .priority) × (
 
 pub precedes-before : (a b : Transaction) → precedes a b ≡ true → Before a b
 unfolding precedes
-precedes-before a b = go _ refl _ refl
+precedes-before a b = go (ltb (b .priority) (a .priority)) refl (eqb (a .priority) (b .priority)) refl
   where
     go : (h : Bool) → ltb (b .priority) (a .priority) ≡ h → (q : Bool) → eqb (a .priority) (b .priority) ≡ q
         → (h || (q && ltb (a .serial) (b .serial))) ≡ true → Before a b
@@ -119,8 +119,8 @@ precedes-before a b = go _ refl _ refl
 
 pub before-precedes : (a b : Transaction) → Before a b → precedes a b ≡ true
 unfolding precedes
-before-precedes a b (inl h) = rw lt-ltb
-before-precedes a b (inr h) = go (ltb (b .priority) _)
+before-precedes a b (inl h) = rw (lt-ltb _ _ h)
+before-precedes a b (inr h) = go (ltb (b .priority) (a .priority))
   where
     go : (x : Bool) → (x || (eqb (a .priority) (b .priority) && ltb (a .serial) (b .serial))) ≡ true
     go true = refl
@@ -142,7 +142,7 @@ precedes-trans : (a b c : Transaction) → precedes a b ≡ true → precedes b 
 precedes-trans a b c h k = before-precedes a c (before-trans a b c (precedes-before a b h) (precedes-before b c k))
 
 precedes-asym : (a b : Transaction) → precedes a b ≡ true → precedes b a ≡ false
-precedes-asym a b h = untrue _ (λ e. before-asym a b (precedes-before a b h) (precedes-before b a e))
+precedes-asym a b h = untrue (precedes b a) (λ e. before-asym a b (precedes-before a b h) (precedes-before b a e))
 
 pub sorted-in : (t : Transaction) (l : List Transaction) → Sorted precedes l → Sorted precedes (insert precedes t l)
 sorted-in t l h = sorted-insert precedes precedes-asym precedes-trans t l h
@@ -151,17 +151,19 @@ sorted-in t l h = sorted-insert precedes precedes-asym precedes-trans t l h
 
 pub earlier-time : (a b : Event) → earlier a b ≡ true → a .time ≤ b .time
 unfolding earlier
-earlier-time a b = go _ refl (eqb (a .time) (b .time)) refl
+earlier-time a b = go (ltb (a .time) (b .time)) refl (eqb (a .time) (b .time)) refl
   where
-    go : (x : Bool) → ltb (a .time) (b .time) ≡ x → (y : Bool) → eqb (a .time) (b .time) ≡ y → (x || (y && precedes (a .who) (b .who))) ≡ true → a .time ≤ b .time
+    go : (x : Bool) → ltb (a .time) (b .time) ≡ x → (y : Bool) → eqb (a .time) (b .time) ≡ y
+        → (x || (y && precedes (a .who) (b .who))) ≡ true → a .time ≤ b .time
     go true e y d h = omega (arith, ltb-true (a .time) (b .time) e)
     go false e true d h = omega (arith, eqb-true (a .time) (b .time) d)
     go false e false d h = absurd (true≢false (sym h))
 
 pub later-time : (a b : Event) → earlier a b ≡ false → b .time ≤ a .time
 unfolding earlier
-later-time a b = go _ refl
+later-time a b = go (ltb (a .time) (b .time)) refl
   where
-    go : (x : Bool) → ltb (a .time) (b .time) ≡ x → (x || (eqb (a .time) (b .time) && precedes (a .who) (b .who))) ≡ false → b .time ≤ a .time
+    go : (x : Bool) → ltb (a .time) (b .time) ≡ x → (x || (eqb (a .time) (b .time) && precedes (a .who) (b .who))) ≡ false
+        → b .time ≤ a .time
     go true e h = absurd (true≢false h)
-    go false e h = ltb-false _ _ e
+    go false e h = ltb-false (a .time) (b .time) e

@@ -1,6 +1,6 @@
 -- Sums over lists: what a list's operations do to the sum of any weight of its members. Two lists hold the same members where
 -- all weights have equal sums.
-use Rattle.machine.specs.All.{ℕ, zero, suc, _+_, _≤_, _<_, _≡_, refl, ap, Bool, true, false, cond, not, List, [], _∷_, _++_, map, arith, eqb-true, eqb-false, eq-eqb, ne-eqb, eqb, length, getD, set, take, drop, replicate, Transaction, precedes, withReturning, insert, those, others, replaceFirst, flat, wake, count, bit, upTo, Each}
+use Rattle.machine.specs.All.{ℕ, zero, suc, _+_, _≤_, _<_, _≡_, refl, ap, Bool, true, false, cond, not, List, [], _∷_, _++_, map, arith, eqb-true, eqb-false, eq-eqb, ne-eqb, eqb, length, getD, set, take, drop, replicate, Transaction, precedes, withReturning, insert, those, others, replaceFirst, flat, wake, count, bit, upTo, Each, sym, ap₂, _∙_}
 
 -- ---- Definition
 
@@ -47,12 +47,14 @@ module _ {A : Type 0} (f : A → ℕ) where
       go false e = omega arith
 
   -- a few stand in the place of the first that passes a test
-  pub sum-replace : (p : A → Bool) (few l : List A) (x : A) (r : List A) → those p l ≡ x ∷ r → sumOn f (replaceFirst p few l) + f x ≡ sumOn f few + sumOn f l
+  pub sum-replace : (p : A → Bool) (few l : List A) (x : A) (r : List A) → those p l ≡ x ∷ r
+      → sumOn f (replaceFirst p few l) + f x ≡ sumOn f few + sumOn f l
   unfolding those replaceFirst
   sum-replace p few [] x r e = absurd (omega (arith, ap (λ (k : List A). length k) e))
   sum-replace p few (y ∷ l) x r e = go (p y) e (sum-replace p few l x r)
     where
-      go : (b : Bool) → cond b (y ∷ those p l) (those p l) ≡ x ∷ r → (those p l ≡ x ∷ r → sumOn f (replaceFirst p few l) + f x ≡ sumOn f few + sumOn f l)
+      go : (b : Bool) → cond b (y ∷ those p l) (those p l) ≡ x ∷ r
+          → (those p l ≡ x ∷ r → sumOn f (replaceFirst p few l) + f x ≡ sumOn f few + sumOn f l)
           → sumOn f (cond b (few ++ l) (y ∷ replaceFirst p few l)) + f x ≡ sumOn f few + (f y + sumOn f l)
       go true e later = omega (arith, sum-append few l, ap (λ (k : List A). sumOn f (take 1 k)) e)
       go false e later = omega (arith, later e)
@@ -81,27 +83,29 @@ module _ {A : Type 0} (f : A → ℕ) where
 module _ {A B : Type 0} (f : B → ℕ) (g : A → B) where
   pub sum-map : (l : List A) → sumOn f (map g l) ≡ sumOn (λ x. f (g x)) l
   sum-map [] = refl
-  sum-map (x ∷ l) = cc (sum-map l)
+  sum-map (x ∷ l) = ap (λ n. f (g x) + n) (sum-map l)
 
 module _ {A : Type 0} (f g : A → ℕ) where
   pub sum-cong : ((x : A) → f x ≡ g x) → (l : List A) → sumOn f l ≡ sumOn g l
   sum-cong h [] = refl
-  sum-cong h (x ∷ l) = cc (h x, sum-cong h l)
+  sum-cong h (x ∷ l) = ap₂ _+_ (h x) (sum-cong h l)
 
   pub sum-le : ((x : A) → f x ≤ g x) → (l : List A) → sumOn f l ≤ sumOn g l
   sum-le h [] = omega arith
   sum-le h (x ∷ l) = omega (arith, h x, sum-le h l)
 
   -- weights that agree at each key that stands in the list
-  pub sum-cong-keys : (key : A → ℕ) (l : List A) → ((x : A) → 0 < sumOn (λ y. bit (eqb (key y) (key x))) l → f x ≡ g x) → sumOn f l ≡ sumOn g l
+  pub sum-cong-keys : (key : A → ℕ) (l : List A) → ((x : A) → 0 < sumOn (λ y. bit (eqb (key y) (key x))) l → f x ≡ g x)
+      → sumOn f l ≡ sumOn g l
   sum-cong-keys key [] h = refl
   sum-cong-keys key (x ∷ l) h =
-      cc (h x (omega (arith, ap bit (eq-eqb (key x) (key x) refl))), sum-cong-keys key l (λ y p. h y (omega arith)))
+      ap₂ _+_ (h x (omega (arith, ap bit (eq-eqb (key x) (key x) refl)))) (sum-cong-keys key l (λ y p. h y (omega arith)))
 
 -- each member of a list passes what follows from its key standing there
-pub each-member : {A : Type 0} (key : A → ℕ) (P : A → Type 0) (l : List A) → ((x : A) → 0 < sumOn (λ y. bit (eqb (key y) (key x))) l → P x) → Each P l
+pub each-member : {A : Type 0} (key : A → ℕ) (P : A → Type 0) (l : List A) → ((x : A) → 0 < sumOn (λ y. bit (eqb (key y) (key x))) l → P x)
+    → Each P l
 each-member key P [] h = tt
-each-member key P (x ∷ l) h = (h x (omega (arith, ap bit (eq-eqb (key x) _ refl))), each-member key P l (λ y p. h y (omega arith)))
+each-member key P (x ∷ l) h = (h x (omega (arith, ap bit (eq-eqb (key x) (key x) refl))), each-member key P l (λ y p. h y (omega arith)))
 
 -- ---- Counting
 
@@ -115,12 +119,13 @@ module _ {A : Type 0} where
   sum-count p [] = refl
   sum-count p (x ∷ l) = go (p x) (sum-count p l)
     where
-      go : (b : Bool) → sumOn (λ x. bit (p x)) l ≡ length (those p l) → bit b + sumOn (λ x. bit (p x)) l ≡ length (cond b (x ∷ those p l) (those p l))
+      go : (b : Bool) → sumOn (λ x. bit (p x)) l ≡ length (those p l)
+          → bit b + sumOn (λ x. bit (p x)) l ≡ length (cond b (x ∷ those p l) (those p l))
       go true e = omega arith
       go false e = omega arith
 
   pub count-cons : (p : A → Bool) (x : A) (l : List A) → count p (x ∷ l) ≡ bit (p x) + count p l
-  count-cons p x l = cc (sum-count p (x ∷ l), sum-count p l)
+  count-cons p x l = sym (sum-count p (x ∷ l)) ∙ ap (λ n. bit (p x) + n) (sum-count p l)
 
 -- ---- Waking
 
@@ -138,7 +143,7 @@ module _ (f g : ℕ → ℕ) where
   pub upTo-cong : (n : ℕ) → ((k : ℕ) → 1 ≤ k → k ≤ n → f k ≡ g k) → upTo n f ≡ upTo n g
   unfolding upTo
   upTo-cong zero h = refl
-  upTo-cong (suc n) h = cc (upTo-cong n (λ k low high. h k low (omega arith)), h (suc n) (omega arith) (omega arith))
+  upTo-cong (suc n) h = ap₂ _+_ (upTo-cong n (λ k low high. h k low (omega arith))) (h (suc n) (omega arith) (omega arith))
 
 pub upTo-ones : (n : ℕ) → upTo n (λ k. 1) ≡ n
 unfolding upTo
@@ -152,12 +157,12 @@ upTo-zero (suc n) f h = omega (arith, upTo-zero n f (λ k low high. h k low (ome
 
 -- one number, not among those up to n, and among them
 pub upTo-none : (n i : ℕ) → ((k : ℕ) → 1 ≤ k → k ≤ n → k ≡ i → ⊥) → upTo n (λ k. bit (eqb k i)) ≡ 0
-upTo-none n i h = upTo-zero n (λ k. bit (eqb k i)) (λ k low high. cc (ne-eqb k i (h k low high)))
+upTo-none n i h = upTo-zero n (λ k. bit (eqb k i)) (λ k low high. ap bit (ne-eqb k i (h k low high)))
 
 pub upTo-one : (n i : ℕ) → 1 ≤ i → i ≤ n → upTo n (λ k. bit (eqb k i)) ≡ 1
 unfolding upTo
 upTo-one zero i low high = absurd (omega arith)
-upTo-one (suc n) i low high = go _ refl (upTo-one n i low)
+upTo-one (suc n) i low high = go (eqb (suc n) i) refl (upTo-one n i low)
   where
     go : (b : Bool) → eqb (suc n) i ≡ b → (i ≤ n → upTo n (λ k. bit (eqb k i)) ≡ 1) → upTo n (λ k. bit (eqb k i)) + bit (eqb (suc n) i) ≡ 1
     go true e h =

@@ -1,6 +1,6 @@
 -- The WELs, block by block: the check after blocks 4 to 7 and WAITIF of a code keep `Gated`, for the one that moves, t, in front
 -- of REL. A passing WAITIF wakes the next, so that a chain of returners empties a WEL whose code is not true.
-use Rattle.machine.specs.All.{ℕ, zero, suc, _*_, _-_, _≤_, _<_, _≡_, refl, _∙_, true, List, [], _∷_, arith, ℕ-discrete, length, getD, set, take, drop, length-set, getD-set-same, getD-set-other, Transaction, precedes, setNth, Server, serverAt, Code, U, NU, E, NE, F, NF, status, codeIndex, BlockModel, blockAt, welIndex, facts, State, welOf, lineUp, wake, wakeFirstWel, checkWel, checkWels, Each}
+use Rattle.machine.specs.All.{ℕ, zero, suc, _*_, _-_, _≤_, _<_, _≡_, refl, _∙_, true, List, [], _∷_, arith, ℕ-discrete, length, getD, set, take, drop, length-set, getD-set-same, getD-set-other, Transaction, precedes, setNth, Server, serverAt, Code, U, NU, E, NE, F, NF, status, codeIndex, BlockModel, blockAt, welIndex, facts, State, welOf, lineUp, wake, wakeFirstWel, checkWel, checkWels, Each, sym, ap, idleServer, withReturning}
 use Rattle.machine.proofs as our
 use our.{decoding.Proper.servers, lists.Cases.checkWel-cases}
 use our.lists.Sorted.{Sorted, each-drop, some-inserted, at-set, sorted-drop}
@@ -35,7 +35,7 @@ wel-own : (v v′ : ℕ) (code code′ : Code) → 1 ≤ v → 1 ≤ v′ → we
 unfolding welIndex
 wel-own v v′ code code′ a a′ e =
     let i : codeIndex code′ ≡ codeIndex code = omega (arith, code-back code, code-back code′) in
-    (omega arith, cc (code-back code′ .0, i, code-back code .0))
+    (omega arith, sym (code-back code′ .0) ∙ ap codeAt i ∙ code-back code .0)
 
 -- ---- Waking the first
 
@@ -44,7 +44,7 @@ woken : (m : BlockModel) (rel : List Transaction) (x : Server) (code : Code) (i 
     → WelWaits m (wake (take 1 q) rel) x code i (drop 1 q)
 unfolding wake
 woken m rel x code i [] h = nobodyWaits refl
-woken m rel x code i (y ∷ l) h = oneReady (some-inserted _ precedes _ rel (h .0))
+woken m rel x code i (y ∷ l) h = oneReady (some-inserted (AtWel m i) precedes (withReturning true y) rel (h .0))
 
 abbrev pub WelAt : BlockModel → ℕ → Code → State → Type 0
 WelAt m v code s = WelWaits m (s .rel) (serverIn (s .view .servers) v) code (welIndex v code) (getD (s .wel) (welIndex v code) [])
@@ -67,7 +67,7 @@ module _ {m : BlockModel} (v : ℕ) (one : 1 ≤ v) (known : v ≤ servers m) wh
         sorted = λ first i.
             at-set (Sorted precedes) (s .wel) k i _ [] (λ e. sorted-drop precedes (welOf s v code) (o .sorted first k)) (o .sorted first i);
         stands = λ i.
-            at-set (Each _) (s .wel) k i _ [] (λ e. rw e (each-drop _ (welOf s v code) (o .stands k))) (o .stands i);
+            at-set (Each (AtWel m i)) (s .wel) k i _ [] (λ e. rw e (each-drop (AtWel m k) (welOf s v code) (o .stands k))) (o .stands i);
         size = length-set (s .wel) k _ ∙ o .size;
       }
     where
@@ -78,18 +78,18 @@ module _ {m : BlockModel} (v : ℕ) (one : 1 ≤ v) (known : v ≤ servers m) wh
   first-waits : (code : Code) (s : State) → Open m (s .wel) → (v′ : ℕ) (code′ : Code)
       → ((welIndex v′ code′ ≡ welIndex v code → ⊥) → WelAt m v′ code′ s) → WelAt m v′ code′ (wakeFirstWel v code s)
   unfolding wakeFirstWel
-  first-waits code s o v′ code′ old = waits (ℕ-discrete _ k)
+  first-waits code s o v′ code′ old = waits (ℕ-discrete (welIndex v′ code′) k)
     where
       k : ℕ
       k = welIndex v code
 
       waits : Dec (welIndex v′ code′ ≡ k) → WelAt m v′ code′ (wakeFirstWel v code s)
       waits (yes e) =
-          rw (e, getD-set-same (s .wel) k _ [] (omega (arith, o .size, wel-in _ v code one known)))
-          (woken m _ _ code′ k (welOf s v code) (o .stands k))
+          rw (e, getD-set-same (s .wel) k (drop 1 (welOf s v code)) [] (omega (arith, o .size, wel-in (servers m) v code one known)))
+          (woken m (s .rel) _ code′ k (welOf s v code) (o .stands k))
       waits (no n) =
-          rw getD-set-other
-          (wel-more (grows-wake _ _ .keeps) (old n))
+          rw (getD-set-other (s .wel) k (welIndex v′ code′) (drop 1 (welOf s v code)) [] n)
+          (wel-more (grows-wake (take 1 (welOf s v code)) (s .rel) .keeps) (old n))
 
   -- ---- The check after blocks 4 to 7
 
@@ -129,7 +129,11 @@ module _ {m : BlockModel} (v : ℕ) (one : 1 ≤ v) (known : v ≤ servers m) wh
       → ((v′ : ℕ) (code : Code) → 1 ≤ v′ → v′ ≤ servers m → (v′ ≡ v → ⊥) → WelAt m v′ code s)
       → Gated m (checkWels v s .rel) (checkWels v s .view .servers) (checkWels v s .wel)
   checks-gated s o old =
-      record { wel-sorted = checks-make U s o .opened .sorted; wel-stands = checks-make U s o .opened .stands; wel-waits = λ v′ code a b. at v′ code a b (ℕ-discrete v′ v) }
+      record {
+        wel-sorted = checks-make U s o .opened .sorted;
+        wel-stands = checks-make U s o .opened .stands;
+        wel-waits = λ v′ code a b. at v′ code a b (ℕ-discrete v′ v);
+      }
     where
       at : (v′ : ℕ) (code : Code) → 1 ≤ v′ → v′ ≤ servers m → Dec (v′ ≡ v) → WelAt m v′ code (checkWels v s)
       at v′ code a b (yes e) = rw e (checks-make code s o .waits)
@@ -144,38 +148,43 @@ module _ {m : BlockModel} {t : Transaction} {rel : List Transaction} {l : List S
       → (v′ : ℕ) (code : Code) → 1 ≤ v′ → v′ ≤ servers m → (v′ ≡ v → ⊥)
       → WelWaits m rel′ (serverIn (setNth l v x) v′) code (welIndex v′ code) (getD wel (welIndex v′ code) [])
   others-wait v x rel′ one off grows v′ code a b n =
-      rw (getD-set-other l (v - 1) (v′ - 1) x _ (λ e. n (omega arith)))
+      rw (getD-set-other l (v - 1) (v′ - 1) x (idleServer 0) (λ e. n (omega arith)))
       (wel-more (grows .keeps) (wel-else (λ e. omega arith) (w .wel-waits v′ code a b)))
 
   -- 8 WAITIF, waiting: the code is true
   pub waits-gated : (v : ℕ) (code : Code) (t′ : Transaction) → 1 ≤ v → AtWel m (welIndex v code) t → AtWel m (welIndex v code) t′
-      → status code (serverIn l v) ≡ true → Gated m rel l (set wel (welIndex v code) (lineUp (m .edition) t′ (getD wel (welIndex v code) [])))
+      → status code (serverIn l v) ≡ true
+      → Gated m rel l (set wel (welIndex v code) (lineUp (m .edition) t′ (getD wel (welIndex v code) [])))
   waits-gated v code t′ one at at′ holds =
       record {
         wel-sorted = λ first i.
-            at-set (Sorted precedes) wel k i _ [] (λ e. sorted-lineUp _ t′ _ first (w .wel-sorted first k)) (w .wel-sorted first i);
+            at-set (Sorted precedes) wel k i _ [] (λ e. sorted-lineUp (m .edition) t′ _ first (w .wel-sorted first k))
+            (w .wel-sorted first i);
         wel-stands = λ i.
-            at-set (Each _) wel k i _ [] (λ e. rw e (each-lineUp _ _ t′ _ at′ (w .wel-stands k))) (w .wel-stands i);
-        wel-waits = λ v′ code′ a b. waits v′ code′ a b (ℕ-discrete _ k);
+            at-set (Each (AtWel m i)) wel k i _ [] (λ e. rw e (each-lineUp (AtWel m k) (m .edition) t′ _ at′ (w .wel-stands k)))
+            (w .wel-stands i);
+        wel-waits = λ v′ code′ a b. waits v′ code′ a b (ℕ-discrete (welIndex v′ code′) k);
       }
     where
       k : ℕ
       k = welIndex v code
 
       waits : (v′ : ℕ) (code′ : Code) → 1 ≤ v′ → v′ ≤ servers m → Dec (welIndex v′ code′ ≡ k)
-          → WelWaits m rel (serverIn l v′) code′ (welIndex v′ code′) (getD (set wel k (lineUp (m .edition) t′ (getD wel k []))) (welIndex v′ code′) [])
+          → WelWaits m rel (serverIn l v′) code′ (welIndex v′ code′)
+          (getD (set wel k (lineUp (m .edition) t′ (getD wel k []))) (welIndex v′ code′) [])
       waits v′ code′ a b (yes e) = let (same, also) = wel-own v v′ code code′ one a e in codeTrue (rw (same, also) holds)
       waits v′ code′ a b (no n) =
-          rw getD-set-other (wel-else (λ e. n (omega arith)) (w .wel-waits v′ code′ a b))
+          rw (getD-set-other wel k (welIndex v′ code′) _ [] n) (wel-else (λ e. n (omega arith)) (w .wel-waits v′ code′ a b))
 
 -- 8 WAITIF, passing: the first of the WEL goes to REL
 pub passes-gated : {m : BlockModel} {t : Transaction} (v : ℕ) (code : Code) (s : State) → 1 ≤ v → v ≤ servers m
     → length (s .wel) ≡ servers m * 6 → AtWel m (welIndex v code) t → Gated m (t ∷ s .rel) (s .view .servers) (s .wel)
     → Gated m (wakeFirstWel v code s .rel) (wakeFirstWel v code s .view .servers) (wakeFirstWel v code s .wel)
 passes-gated v code s one known size at w =
-    let o : Open _ _ = record { sorted = w .wel-sorted; stands = w .wel-stands; size = size } in
+    let o : Open _ (s .wel) = record { sorted = w .wel-sorted; stands = w .wel-stands; size = size } in
     record {
       wel-sorted = first-opened v one known code s o .sorted;
       wel-stands = first-opened v one known code s o .stands;
-      wel-waits = λ v′ code′ a b. first-waits v one known code s o v′ code′ (λ n. wel-else (λ e. n (omega arith)) (w .wel-waits v′ code′ a b));
+      wel-waits =
+          λ v′ code′ a b. first-waits v one known code s o v′ code′ (λ n. wel-else (λ e. n (omega arith)) (w .wel-waits v′ code′ a b));
     }

@@ -1,6 +1,6 @@
 -- What a comparison reads: the things that its terms name, through values. Over two views that agree on a set of things, and with the same
 -- parameters where the set has them, a comparison whose terms name only things of the set gives the same.
-use Rattle.machine.specs.All.{ℕ, zero, suc, _+_, _-_, _<_, _≡_, refl, sym, ap, ap₂, subst, _∙_, Bool, true, false, List, [], _∷_, _++_, Option, none, some, arith, ltb, length, getD, length-append, List·getD-eq-default, ltb-true, ltb-false, Transaction, idleServer, emptyQueue, View, serverAt, queueAt, wrap, related, Relation, Term, constant, minusConstant, parameter, clockTerm, entriesOf, contentOf, unitsInUse, unitsFree, facilityInUse, value, comparison, bracket, Sum, nothing, plus, minus, oneIf, term, sum, worths, evaluate, compare, Condition, always, whenTrue, truth, facts, BlockModel, holds, waitsOn, Thing, own, theClock, entry, queue, server, worth, Within, SumWithin, WaitWithin, Through, Watches}
+use Rattle.machine.specs.All.{ℕ, zero, suc, _+_, _-_, _<_, _≡_, refl, sym, ap, ap₂, subst, _∙_, Bool, true, false, List, [], _∷_, _++_, Option, none, some, arith, ltb, length, getD, length-append, List·getD-eq-default, ltb-true, ltb-false, Transaction, idleServer, emptyQueue, View, serverAt, queueAt, wrap, related, Relation, Term, constant, minusConstant, parameter, clockTerm, entriesOf, contentOf, unitsInUse, unitsFree, facilityInUse, value, comparison, bracket, Sum, nothing, plus, minus, oneIf, term, sum, worths, evaluate, compare, Condition, always, whenTrue, truth, facts, BlockModel, holds, waitsOn, Thing, own, theClock, entry, queue, server, worth, Within, SumWithin, WaitWithin, Through, Watches, blockAt}
 use lib.IntN.{ℤ, pos, _+ℤ_, _-ℤ_}
 
 -- one more worth behind others
@@ -12,7 +12,7 @@ behind P [] (b ∷ l′) x x′ e h last k q = absurd (omega arith)
 behind P (a ∷ l) [] x x′ e h last k q = absurd (omega arith)
 behind P (a ∷ l) (b ∷ l′) x x′ e h last zero q = h zero q
 behind P (a ∷ l) (b ∷ l′) x x′ e h last (suc k) q =
-    behind (λ k. P (suc k)) l l′ x x′ (omega arith) (λ k. h _) last k q
+    behind (λ k. P (suc k)) l l′ x x′ (omega arith) (λ k. h (suc k)) last k q
 
 module _ (S : Thing → Type 0) where
   -- ---- Views that agree on a set
@@ -25,7 +25,8 @@ module _ (S : Thing → Type 0) where
     pub in-use : (i : ℕ) → S (server i) → getD (w .servers) i (idleServer 0) .inUse ≡ getD (w′ .servers) i (idleServer 0) .inUse
 
   pub agrees-same : (w : View) → Agrees w w
-  agrees-same w = record { clock = λ h. refl; entries = λ i h. refl; contents = λ i h. refl; capacities = λ i h. refl; in-use = λ i h. refl }
+  agrees-same w =
+      record { clock = λ h. refl; entries = λ i h. refl; contents = λ i h. refl; capacities = λ i h. refl; in-use = λ i h. refl }
 
   pub agrees-then : {w w′ w″ : View} → Agrees w w′ → Agrees w′ w″ → Agrees w w″
   agrees-then a b =
@@ -44,9 +45,10 @@ module _ (S : Thing → Type 0) where
   module _ (w w′ : View) (agrees : Agrees w w′) (p p′ : List ℤ) (same : S own → p ≡ p′) where
     module _ (l l′ : List ℤ) (size : length l ≡ length l′) (lower : Worths l l′) where
       mentioned : (k : ℕ) → (k < length l → S (worth k)) → (b : Bool) → ltb k (length l) ≡ b → getD l k (pos 0) ≡ getD l′ k (pos 0)
-      mentioned k h true e = lower k (h (ltb-true k _ e))
+      mentioned k h true e = lower k (h (ltb-true k (length l) e))
       mentioned k h false e =
-          List·getD-eq-default l _ (ltb-false k _ e) ∙ sym (List·getD-eq-default l′ _ (omega (arith, size, ltb-false k _ e)))
+          List·getD-eq-default l (pos 0) (ltb-false k (length l) e)
+          ∙ sym (List·getD-eq-default l′ (pos 0) (omega (arith, size, ltb-false k (length l) e)))
 
       mutual
         unfolding term sum serverAt queueAt
@@ -77,11 +79,11 @@ module _ (S : Thing → Type 0) where
     unfolding worths
     worths-same [] l l′ e lower within = lower
     worths-same (v ∷ values) l l′ e lower within =
-        worths-same values _ _
-        (length-append l _ ∙ ap (λ (n : ℕ). n + 1) e ∙ sym (length-append l′ _))
-        (behind (λ k. S _) l l′ _ _ e lower
+        worths-same values (l ++ (sum w p l v (pos 0) ∷ [])) (l′ ++ (sum w′ p′ l′ v (pos 0) ∷ []))
+        (length-append l (sum w p l v (pos 0) ∷ []) ∙ ap (λ (n : ℕ). n + 1) e ∙ sym (length-append l′ (sum w′ p′ l′ v (pos 0) ∷ [])))
+        (behind (λ k. S (worth k)) l l′ (sum w p l v (pos 0)) (sum w′ p′ l′ v (pos 0)) e lower
         (λ h.
-        sum-same l l′ e lower v _
+        sum-same l l′ e lower v (pos 0)
         (rw (add-zero (length l)) (within 0 (omega arith) (subst (λ (n : ℕ). S (worth n)) (add-zero (length l)) h)))))
         (λ k lt h. rw (next k) (within (suc k) (omega arith) (subst (λ (n : ℕ). S (worth n)) (next k) h)))
       where
@@ -103,7 +105,7 @@ module _ (S : Thing → Type 0) where
       pub evaluate-same : (t : Term) → Within S (length values) t → evaluate values w p t ≡ evaluate values w′ p′ t
       unfolding evaluate
       evaluate-same t h =
-          term-same _ _ (cc (all-lengths w p, all-lengths w′ p′))
+          term-same (worths w p values []) (worths w′ p′ values []) (all-lengths w p ∙ sym (all-lengths w′ p′))
           (worths-same values [] [] refl (λ k h. refl)
           (λ k lt h. rw (zero-add k) (through k lt (subst (λ (n : ℕ). S (worth n)) (zero-add k) h))))
           t (rw (all-lengths w p) h)
@@ -111,17 +113,20 @@ module _ (S : Thing → Type 0) where
           zero-add : (k : ℕ) → 0 + k ≡ k
           zero-add k = omega arith
 
-      pub compare-same : (a : Term) (r : Relation) (b : Term) → Within S (length values) a → Within S (length values) b → compare values w p a r b ≡ compare values w′ p′ a r b
+      pub compare-same : (a : Term) (r : Relation) (b : Term) → Within S (length values) a → Within S (length values) b
+          → compare values w p a r b ≡ compare values w′ p′ a r b
       unfolding compare
-      compare-same a r b h k = cc (evaluate-same a h, evaluate-same b k)
+      compare-same a r b h k = ap₂ (related r) (evaluate-same a h) (evaluate-same b k)
 
   -- ---- Who waits at a WAITIF of the model
 
   pub waits-same : (m : BlockModel) → Watches S m → (w w′ : View) → Agrees w w′ → (t : Transaction) → waitsOn m w t ≡ waitsOn m w′ t
   unfolding waitsOn holds truth
-  waits-same m watches w w′ agrees t = go (facts _ .waitsWhile) (watches .waits _)
+  waits-same m watches w w′ agrees t = go (facts (blockAt m (t .next)) .waitsWhile) (watches .waits (t .next))
     where
-      go : (c : Option Condition) → WaitWithin S (length (m .values)) c → holds (m .values) w (t .parameters) c ≡ holds (m .values) w′ (t .parameters) c
+      go : (c : Option Condition) → WaitWithin S (length (m .values)) c
+          → holds (m .values) w (t .parameters) c ≡ holds (m .values) w′ (t .parameters) c
       go none h = refl
       go (some always) h = refl
-      go (some (whenTrue a r b)) h = compare-same w w′ agrees _ _ (λ k. refl) _ (watches .through) a r b (h .0) (h .1)
+      go (some (whenTrue a r b)) h =
+          compare-same w w′ agrees (t .parameters) (t .parameters) (λ k. refl) (m .values) (watches .through) a r b (h .0) (h .1)

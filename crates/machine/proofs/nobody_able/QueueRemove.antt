@@ -1,6 +1,7 @@
 -- LEAVE as one walk from the front of the QL, under either edition: who takes no more than a number goes. Under edition 1 the number is
--- the free units and stays; under edition 2 it is B, and who goes takes its units off it. So case a of document 000, section 6, is case b (i).
-use Rattle.machine.specs.All.{cases, ℕ, suc, _-_, _≤_, _≡_, refl, sym, ap, _∙_, Bool, true, false, cond, not, List, [], _∷_, arith, eq-eqb, eqb-true, eqb-false, ltb-true, ltb-false, le-leb, lt-leb, eqb, ltb, leb, getD, Transaction, those, anyOf, View, serverAt, free, facility, storage, shareServer, shareUnits, Block, generate, advance, terminate, takes, frees, waitServer, waitTerms, moves, assign, priority, split, counts, assemble, preempt, giveBack, facts, aboveOne, BlockModel, blockAt, Parted, nobody, goes, stays, firstOf, partBy, unitsOf, fits, firstOfOne, fromFront, queueRemove, partFor, Each}
+-- the free units and stays; under edition 2 it is B, and who goes takes its units off it. So case a of document 000, section 6, is case b
+-- (i).
+use Rattle.machine.specs.All.{ℕ, suc, _-_, _≤_, _≡_, refl, sym, ap, _∙_, Bool, true, false, cond, not, List, [], _∷_, arith, eq-eqb, eqb-true, eqb-false, ltb-true, ltb-false, le-leb, lt-leb, eqb, ltb, leb, getD, Transaction, those, anyOf, View, serverAt, free, facility, storage, shareServer, shareUnits, Block, generate, advance, terminate, takes, frees, waitServer, waitTerms, moves, assign, priority, split, counts, assemble, preempt, giveBack, facts, aboveOne, BlockModel, blockAt, Parted, nobody, goes, stays, firstOf, partBy, unitsOf, fits, firstOfOne, fromFront, queueRemove, partFor, Each, others}
 use Rattle.machine.proofs as our
 use our.decoding.Proper.{Proper, ProperBlock, Role, generating, taking, preempting, neither, role}
 use our.runs.RunLaws.{each-map, none-at}
@@ -17,14 +18,20 @@ walk test after n (t ∷ l) = cond (test n t) (goes t (walk test after (after n 
 pub walk-fixed : (test : ℕ → Transaction → Bool) (n : ℕ) (l : List Transaction) → walk test (λ n t. n) n l ≡ partBy (test n) l
 unfolding walk those
 walk-fixed test n [] = refl
-walk-fixed test n (t ∷ l) = cases (test n t) (λ z. cc (walk-fixed test n l)) (λ z. cc (walk-fixed test n l))
+walk-fixed test n (t ∷ l) = go (test n t) (walk-fixed test n l)
+  where
+    go : (b : Bool) → walk test (λ n t. n) n l ≡ partBy (test n) l
+        → cond b (goes t (walk test (λ n t. n) n l)) (stays t (walk test (λ n t. n) n l))
+        ≡ record { go = cond b (t ∷ those (test n) l) (those (test n) l); stay = cond (not b) (t ∷ others (test n) l) (others (test n) l) }
+    go true e = ap (goes t) e
+    go false e = ap (stays t) e
 
 -- walks that agree on each member
 pub walk-same : (test test′ : ℕ → Transaction → Bool) (after after′ : ℕ → Transaction → ℕ) (n : ℕ) (l : List Transaction)
     → Each (λ t. (n : ℕ) → (test n t ≡ test′ n t) × (after n t ≡ after′ n t)) l → walk test after n l ≡ walk test′ after′ n l
 unfolding walk
 walk-same test test′ after after′ n [] h = refl
-walk-same test test′ after after′ n (t ∷ l) h = rw (h .0 n .0, h .0 n .1, walk-same test test′ after after′ _ l (h .1))
+walk-same test test′ after after′ n (t ∷ l) h = rw (h .0 n .0, h .0 n .1, walk-same test test′ after after′ (after′ n t) l (h .1))
 
 -- ---- The units of a walk
 
@@ -48,7 +55,7 @@ module _ (m : BlockModel) where
   spend-none : (l : List Transaction) → Each Some l → spend 0 l ≡ record { go = []; stay = l }
   unfolding walk
   spend-none [] h = refl
-  spend-none (t ∷ l) h = rw (lt-leb (unitsOf m t) 0 (omega arith), spend-none l (h .1))
+  spend-none (t ∷ l) h = rw (lt-leb (unitsOf m t) 0 (omega (arith, h .0)), spend-none l (h .1))
 
   -- who takes all that is left is the last to go
   spend-all : (b : ℕ) (t : Transaction) (l : List Transaction) → unitsOf m t ≡ b → Each Some l → spend b (t ∷ l) ≡ firstOf (t ∷ l)
@@ -59,11 +66,11 @@ module _ (m : BlockModel) where
 
   spend-stays : (b : ℕ) (t : Transaction) (l : List Transaction) → suc b ≤ unitsOf m t → spend b (t ∷ l) ≡ stays t (spend b l)
   unfolding walk
-  spend-stays b t l h = rw lt-leb
+  spend-stays b t l h = rw (lt-leb (unitsOf m t) b h)
 
   spend-goes : (b : ℕ) (t : Transaction) (l : List Transaction) → unitsOf m t ≤ b → spend b (t ∷ l) ≡ goes t (spend (b - unitsOf m t) l)
   unfolding walk
-  spend-goes b t l h = rw le-leb
+  spend-goes b t l h = rw (le-leb (unitsOf m t) b h)
 
   not-one : {n : ℕ} → 1 ≤ n → (n ≡ 1 → ⊥) → 2 ≤ n
   not-one h ne = omega arith
@@ -72,35 +79,37 @@ module _ (m : BlockModel) where
   one-spends : (l : List Transaction) → Each Some l → firstOfOne m l ≡ spend 1 l
   unfolding firstOfOne
   one-spends [] h = unfold walk in refl
-  one-spends (t ∷ l) h =
-      cases (eqb (unitsOf m t) 1)
-      (λ e. rw e (sym (spend-all 1 t l (eqb-true _ _ e) (h .1))))
-      (λ e. cc ((one-spends l (h .1)), spend-stays 1 t l (not-one (h .0) (eqb-false _ _ e))))
+  one-spends (t ∷ l) h = go (eqb (unitsOf m t) 1) refl (one-spends l (h .1))
+    where
+      go : (x : Bool) → eqb (unitsOf m t) 1 ≡ x → firstOfOne m l ≡ spend 1 l
+          → cond x (firstOf (t ∷ l)) (stays t (firstOfOne m l)) ≡ spend 1 (t ∷ l)
+      go true e rest = sym (spend-all 1 t l (eqb-true _ _ e) (h .1))
+      go false e rest = ap (stays t) rest ∙ sym (spend-stays 1 t l (not-one (h .0) (eqb-false _ _ e)))
 
   -- b (ii)
   front-spends : (b : ℕ) (l : List Transaction) → Each Some l → fromFront m b l ≡ spend b l
   unfolding fromFront
   front-spends b [] h = unfold walk in refl
-  front-spends b (t ∷ l) h = go _ refl _ refl (λ b. front-spends b l (h .1))
+  front-spends b (t ∷ l) h = go (eqb b (unitsOf m t)) refl (ltb b (unitsOf m t)) refl (λ b. front-spends b l (h .1))
     where
       go : (x : Bool) → eqb b (unitsOf m t) ≡ x → (y : Bool) → ltb b (unitsOf m t) ≡ y → ((b : ℕ) → fromFront m b l ≡ spend b l)
           → cond x (firstOf (t ∷ l)) (cond y (stays t (fromFront m b l)) (goes t (fromFront m (b - unitsOf m t) l))) ≡ spend b (t ∷ l)
       go true e y d rest = sym (spend-all b t l (sym (eqb-true _ _ e)) (h .1))
-      go false e true d rest = cc (rest b, spend-stays b t l (ltb-true _ _ d))
-      go false e false d rest = cc (rest (b - unitsOf m t), spend-goes b t l (ltb-false _ _ d))
+      go false e true d rest = ap (stays t) (rest b) ∙ sym (spend-stays b t l (ltb-true _ _ d))
+      go false e false d rest = ap (goes t) (rest (b - unitsOf m t)) ∙ sym (spend-goes b t l (ltb-false _ _ d))
 
   -- ---- No block takes or frees more than one unit
 
   above-none : (l : List Block) (i : ℕ) → anyOf aboveOne l ≡ false → aboveOne (getD l i (terminate 0)) ≡ false
   unfolding aboveOne
-  above-none l i h = none-at aboveOne _ refl l i h
+  above-none l i h = none-at aboveOne (terminate 0) refl l i h
 
   taken-one : (b : Block) → aboveOne b ≡ false → facts b .units ≤ 1
   unfolding aboveOne facts
   taken-one (generate list p) h = omega arith
   taken-one (advance list) h = omega arith
   taken-one (terminate a) h = omega arith
-  taken-one (takes x) h = ltb-false 1 _ h
+  taken-one (takes x) h = ltb-false 1 (shareUnits x) h
   taken-one (frees x) h = omega arith
   taken-one (waitServer code v c) h = omega arith
   taken-one (waitTerms a r b) h = omega arith
@@ -118,8 +127,8 @@ module _ (m : BlockModel) where
   unfolding firstOfOne
   case-a none [] h = refl
   case-a none (t ∷ l) h =
-      let one : unitsOf m t ≡ 1 = omega (arith, h .0, taken-one _ (above-none _ (t .next - 1) none)) in
-      rw eq-eqb
+      let one : unitsOf m t ≡ 1 = omega (arith, h .0, taken-one (blockAt m (t .next)) (above-none (m .blocks) (t .next - 1) none)) in
+      rw (eq-eqb (unitsOf m t) 1 one)
 
   -- ---- LEAVE
 
@@ -128,25 +137,30 @@ module _ (m : BlockModel) where
     leaves-one : anyOf aboveOne (m .blocks) ≡ false → b ≡ 1
     unfolding aboveOne shareUnits
     leaves-one none =
-        let few = ltb-false 1 b (cc (is, above-none (m .blocks) (n - 1) none)) in
+        let few : b ≤ 1 = ltb-false 1 b (sym (ap aboveOne is) ∙ above-none (m .blocks) (n - 1) none) in
         omega arith
 
     remove-spends : (l : List Transaction) → Each Some l → queueRemove m b l ≡ spend b l
     unfolding queueRemove
-    remove-spends l h = go _ refl _ refl
+    remove-spends l h = go (anyOf aboveOne (m .blocks)) refl (eqb b 1) refl
       where
         go : (x : Bool) → anyOf aboveOne (m .blocks) ≡ x → (y : Bool) → eqb b 1 ≡ y
             → cond x (cond y (firstOfOne m l) (fromFront m b l)) (firstOf l) ≡ spend b l
         go true e true d = one-spends l h ∙ ap (λ b. spend b l) (sym (eqb-true _ _ d))
         go true e false d = front-spends b l h
-        go false e y d = cc (case-a e l h, one-spends l h, leaves-one e)
+        go false e y d = case-a e l h ∙ one-spends l h ∙ ap (λ b. spend b l) (sym (leaves-one e))
 
     -- of either edition
     pub leave-walks : (w : View) (l : List Transaction) → Each Some l
         → partFor m (storage v b) w l
         ≡ walk (within (unitsOf m)) (leftAfter (not (eqb (m .edition) 1)) (unitsOf m)) (cond (eqb (m .edition) 1) (free (serverAt w v)) b) l
     unfolding partFor fits
-    leave-walks w l h = cases (eqb (m .edition) 1) (λ e. rw e (sym (walk-fixed _ _ l))) (λ e. rw e (remove-spends l h))
+    leave-walks w l h = go (eqb (m .edition) 1)
+      where
+        go : (x : Bool) → cond x (partBy (fits m w v) l) (queueRemove m b l)
+            ≡ walk (within (unitsOf m)) (leftAfter (not x) (unitsOf m)) (cond x (free (serverAt w v)) b) l
+        go true = sym (walk-fixed (within (unitsOf m)) (free (serverAt w v)) l)
+        go false = remove-spends l h
 
 -- ---- Who stands at a SEIZE or ENTER waits for at least one unit
 
@@ -161,4 +175,4 @@ role-units m (neither e z) k a = absurd (omega arith)
 pub some-units : {m : BlockModel} {tape : List (List ℕ)} → Proper m tape → (v : ℕ) → 1 ≤ v → (l : List Transaction) → Each (AtServer m v) l
     → Each (λ t. 1 ≤ unitsOf m t) l
 some-units {m} proper v one l h =
-    each-map (λ t e. role-units m (role _) (proper .block _) (omega arith)) l h
+    each-map (λ t e. role-units m (role (blockAt m (t .next))) (proper .block (t .next)) (omega arith)) l h

@@ -1,9 +1,10 @@
 -- Who is ready stays ready: REL loses nobody within a turn, after the taking, and stays sorted; and the one that has moved is
 -- no longer needed where it stood.
-use Rattle.machine.specs.All.{ℕ, inl, inr, List, [], _∷_, Transaction, precedes, insert, Server, Code, BlockModel, wake}
+use Rattle.machine.specs.All.{ℕ, inl, inr, List, [], _∷_, Transaction, precedes, insert, Server, Code, BlockModel, wake, true, withReturning}
 use Rattle.machine.proofs as our
 use our.lists.Sorted.{Some, Sorted, some-insert, sorted-in}
 use our.nobody_able.Waiting.{AtServer, AtWel, QlWaits, nobodyFits, nextReady, WelWaits, codeTrue, nobodyWaits, oneReady, Queued, WaitsOver}
+use our.nobody_able.Waiting.{Gated}
 
 -- ---- REL grows
 
@@ -21,8 +22,8 @@ pub grows-wake : (l rel : List Transaction) → Grows rel (wake l rel)
 unfolding wake
 grows-wake [] rel = grows-not rel
 grows-wake (t ∷ l) rel =
-    let first = grows-insert _ rel in
-    let later = grows-wake l _ in
+    let first = grows-insert (withReturning true t) rel in
+    let later = grows-wake l (insert precedes (withReturning true t) rel) in
     record { sorted = λ h. later .sorted (first .sorted h); keeps = λ P h. later .keeps P (first .keeps P h) }
 
 -- ---- More are ready
@@ -37,7 +38,8 @@ module _ {m : BlockModel} {ready ready′ : List Transaction} (keeps : (P : Tran
   wel-more (nobodyWaits e) = nobodyWaits e
   wel-more (oneReady h) = oneReady (keeps _ h)
 
-  pub queued-more : {rel rel′ : List Transaction} {l : List Server} {ql : List (List Transaction)} → (Sorted precedes rel → Sorted precedes rel′)
+  pub queued-more : {rel rel′ : List Transaction} {l : List Server} {ql : List (List Transaction)}
+      → (Sorted precedes rel → Sorted precedes rel′)
       → Queued m ready rel l ql → Queued m ready′ rel′ l ql
   queued-more sorted w =
       record {
@@ -47,9 +49,14 @@ module _ {m : BlockModel} {ready ready′ : List Transaction} (keeps : (P : Tran
         ql-waits = λ e v a b. ql-more (w .ql-waits e v a b);
       }
 
-  pub waits-more : {rel rel′ : List Transaction} {l : List Server} {ql wel : List (List Transaction)} → (Sorted precedes rel → Sorted precedes rel′)
+  gated-more : {l : List Server} {wel : List (List Transaction)} → Gated m ready l wel → Gated m ready′ l wel
+  gated-more w =
+      record { wel-sorted = w .wel-sorted; wel-stands = w .wel-stands; wel-waits = λ v code a b. wel-more (w .wel-waits v code a b) }
+
+  pub waits-more : {rel rel′ : List Transaction} {l : List Server} {ql wel : List (List Transaction)}
+      → (Sorted precedes rel → Sorted precedes rel′)
       → WaitsOver m ready rel l ql wel → WaitsOver m ready′ rel′ l ql wel
-  waits-more sorted w = record { queued = queued-more sorted (w .queued); gated = record { wel-sorted = (w .gated) .wel-sorted; wel-stands = (w .gated) .wel-stands; wel-waits = λ v code a b. wel-more ((w .gated) .wel-waits v code a b) } }
+  waits-more sorted w = record { queued = queued-more sorted (w .queued); gated = gated-more (w .gated) }
 
 -- ---- The one that moves
 

@@ -1,8 +1,8 @@
 -- What is known of those who wait is kept by every turn, and holds at the start.
-use Rattle.machine.specs.All.{clash, ℕ, zero, suc, _*_, _-_, _≡_, refl, _∙_, Bool, not, inl, inr, List, [], _∷_, Option, none, some, arith, getD, replicate, not-true, not-false, Transaction, Event, precedes, those, others, Server, Code, U, NU, E, NE, F, NF, status, Block, BlockModel, blockAt, welIndex, State, wake, toRel, toFel, arrival, wakeWsl, effect, sampleServers, sample, arriveAll, moveClock, nextEvents, takeFirst, takeReady, taking, answer, execute, waitsOn, wsScheme, turn, startAt, idle, start, Each}
+use Rattle.machine.specs.All.{ℕ, zero, suc, _*_, _-_, _≡_, refl, _∙_, Bool, not, inl, inr, List, [], _∷_, Option, none, some, arith, getD, replicate, not-true, not-false, Transaction, Event, precedes, those, others, Server, Code, U, NU, E, NE, F, NF, status, Block, BlockModel, blockAt, welIndex, State, wake, toRel, toFel, arrival, wakeWsl, effect, sampleServers, sample, arriveAll, moveClock, nextEvents, takeFirst, takeReady, taking, answer, execute, waitsOn, wsScheme, turn, startAt, idle, start, Each, sym, true, idleServer, setTurns, setMoving, due}
 use Rattle.machine.proofs as our
 use our.decoding.Proper.{Proper, servers}
-use our.{runs.RunLaws.each-map, runs.Kept.taking-kept}
+use our.{runs.RunLaws.each-map, runs.Kept.taking-kept, nobody_able.Waiting.WaitsOver}
 use our.lists.Cases.{wsScheme-cases, startOf-cases}
 use our.runs.Shape.{Shape, shape-closed}
 use our.lists.Sorted.{Some, Sorted, each-passes}
@@ -85,7 +85,7 @@ module _ (m : BlockModel) where
   moveClock-walked : (time : ℕ) (s : State) → Walked m s → Walked m (moveClock time s)
   unfolding moveClock sample
   moveClock-walked time s (w, going) =
-      arriveAll-walked _ _ (
+      arriveAll-walked (those (due time) (s .fel)) _ (
         record {
           queued =
               record {
@@ -95,25 +95,30 @@ module _ (m : BlockModel) where
                 ql-waits = λ first v a b. ql-alike (alike v) (w .queued .ql-waits first v a b);
               };
           gated =
-              record { wel-sorted = w .gated .wel-sorted; wel-stands = w .gated .wel-stands; wel-waits = λ v code a b. wel-alike (alike v) (w .gated .wel-waits v code a b) };
+              record {
+                wel-sorted = w .gated .wel-sorted;
+                wel-stands = w .gated .wel-stands;
+                wel-waits = λ v code a b. wel-alike (alike v) (w .gated .wel-waits v code a b);
+              };
         },
         going,
       )
     where
-      alike : (v : ℕ) → Alike (serverIn (s .view .servers) v) (serverIn (sampleServers (time - s .view .clock) (s .view .servers) (s .ql)) v)
-      alike v = sampled-alike _ _ _ _ _
+      alike : (v : ℕ)
+          → Alike (serverIn (s .view .servers) v) (serverIn (sampleServers (time - s .view .clock) (s .view .servers) (s .ql)) v)
+      alike v = sampled-alike _ (s .view .servers) (s .ql) (v - 1) (idleServer 0)
 
   nextEvents-walked : (l : List Event) (s : State) → Walked m s → Walked m (nextEvents l s)
   unfolding nextEvents
   nextEvents-walked [] s w = w
-  nextEvents-walked (e ∷ l) s w = moveClock-walked _ s w
+  nextEvents-walked (e ∷ l) s w = moveClock-walked (e .time) s w
 
   -- the first of REL, where it has one, is in front of REL
   takeFirst-waits : (l : List Transaction) (s : State) → s .moving ≡ none → s .rel ≡ l → Walked m s → Taken m (takeFirst l s)
   unfolding takeFirst
   takeFirst-waits [] s o e w = (rw o (w .0), w .1)
   takeFirst-waits (t ∷ l) s o e w =
-      let h = rw e at (w .0) in
+      let h : WaitsOver m (t ∷ l) (t ∷ l) (s .view .servers) (s .ql) (s .wel) = rw e at (w .0) in
       let q = h .queued in (
         record {
           queued = record { rel-sorted = q .rel-sorted .1; ql-sorted = q .ql-sorted; ql-stands = q .ql-stands; ql-waits = q .ql-waits };
@@ -124,28 +129,31 @@ module _ (m : BlockModel) where
 
   takeReady-waits : (l : List Transaction) (s : State) → s .moving ≡ none → s .rel ≡ l → Walked m s → Taken m (takeReady l s)
   unfolding takeReady
-  takeReady-waits [] s o e w = takeFirst-waits _ _ (nextEvents-moving _ s ∙ o) refl (nextEvents-walked _ s w)
-  takeReady-waits (t ∷ l) s o e w = takeFirst-waits _ s o e w
+  takeReady-waits [] s o e w = takeFirst-waits _ _ (nextEvents-moving (s .fel) s ∙ o) refl (nextEvents-walked (s .fel) s w)
+  takeReady-waits (t ∷ l) s o e w = takeFirst-waits (t ∷ l) s o e w
 
   taking-waits : (o : Option Transaction) (s : State) → s .moving ≡ o → Taken m s → Taken m (taking o s)
   unfolding taking
-  taking-waits none s e w = takeReady-waits _ s e refl (rw e at (w .0), w .1)
+  taking-waits none s e w = takeReady-waits (s .rel) s e refl (rw e at (w .0), w .1)
   taking-waits (some t) s e w = w
 
   -- ---- The block
 
   -- more are ready where somebody moves
   walked-waits : (s : State) → Walked m s → Waits m s
-  walked-waits s w = waits-more (λ P. ready-more P (s .moving) _) (λ h. h) (w .0)
+  walked-waits s w = waits-more (λ P. ready-more P (s .moving) (s .rel)) (λ h. h) (w .0)
 
   module _ {tape : List (List ℕ)} (proper : Proper m tape) where
     answer-waits : (n : ℕ) (t : Transaction) (s : State) → s .moving ≡ some t → Shape m s → Taken m s
         → Executed m (answer n m (blockAt m (t .next)) t s)
     unfolding answer
     answer-waits zero t s e shape (w, going) =
-        let x = effect-walked proper t _ shape (rw e at w) going _ refl (proper .block _) in
-        (walked-waits (effect m _ t _) x, λ o. x .1)
-    answer-waits (suc n) t s e shape (w, going) = (w, λ o. clash (cc))
+        let x = effect-walked proper t (setMoving none s) shape (rw e at w) going (blockAt m (t .next)) refl (proper .block (t .next)) in
+        (walked-waits (effect m (blockAt m (t .next)) t (setMoving none s)) x, λ o. x .1)
+    answer-waits (suc n) t s e shape (w, going) = (w, λ o. absurd (moves (sym e ∙ o)))
+      where
+        moves : some t ≡ none → ⊥
+        moves z = let q : _≡_ {A = ℕ} 0 1 = cc in omega arith
 
     execute-waits : (o : Option Transaction) (s : State) → s .moving ≡ o → Shape m s → Taken m s → Executed m (execute o m s)
     unfolding execute
@@ -158,28 +166,31 @@ module _ (m : BlockModel) where
   unfolding wakeWsl
   wsScheme-waits s x =
       wsScheme-cases (λ s. Waits m s × Settled m s) m s
-      (λ e. (waits-more (λ P. ready-grows g P (s .moving)) (g .sorted) (x .0), λ o e. (each-map (λ t h. not-false _ (not-true _ h)) (others p _) (each-passes (λ t. not (p t)) _))))
+      (λ e. (waits-more (λ P. ready-grows g P (s .moving)) (g .sorted) (x .0), λ o e. settled))
       (λ n. (x .0, λ o e. absurd (x .1 o (omega arith))))
     where
       p : Transaction → Bool
       p t = not (waitsOn m (s .view) t)
 
       g : Grows (s .rel) (wake (those p (s .wsl)) (s .rel))
-      g = grows-wake _ _
+      g = grows-wake (those p (s .wsl)) (s .rel)
+
+      settled : Each (λ t. waitsOn m (s .view) t ≡ true) (others p (s .wsl))
+      settled = each-map (λ t h. not-false _ (not-true _ h)) (others p (s .wsl)) (each-passes (λ t. not (p t)) (s .wsl))
 
 -- ---- A turn
 
 -- within it, after the taking
 pub waits-taken : (m : BlockModel) (s : State) → s .end ≡ 0 → Waits m s → Waits m (taking (s .moving) s)
-waits-taken m s e w = taking-waits m _ s refl (w, λ z. omega arith) .0
+waits-taken m s e w = taking-waits m (s .moving) s refl (w, λ z. omega arith) .0
 
 pub waits-kept : {m : BlockModel} {tape : List (List ℕ)} → Proper m tape → (s : State) → s .end ≡ 0 → Shape m s → Waits m s
     → Waits m (turn m s) × Settled m (turn m s)
 unfolding turn
 waits-kept {m} proper s e shape w =
     wsScheme-waits m _
-    (execute-waits m proper _ _ refl
-    (taking-kept _ (shape-closed m) _ s shape) (taking-waits m _ s refl (w, λ z. omega arith)))
+    (execute-waits m proper _ (setTurns (suc (s .turns)) (taking (s .moving) s)) refl
+    (taking-kept (Shape m) (shape-closed m) (s .moving) s shape) (taking-waits m (s .moving) s refl (w, λ z. omega arith)))
 
 -- ---- The start
 
@@ -196,7 +207,7 @@ startAt-begun : (m : BlockModel) (n : ℕ) (l : List Block) (s : State) → Begu
 unfolding startAt
 startAt-begun m n [] s h = h
 startAt-begun m n (b ∷ l) s h =
-    startAt-begun m _ l _ (startOf-cases (Begun m) b n s (λ e. h) (λ e. arrival-begun m _ _ _ n s h))
+    startAt-begun m (suc n) l _ (startOf-cases (Begun m) b n s (λ e. h) (λ e. arrival-begun m _ _ _ n s h))
 
 -- no list of the empty machine holds anybody
 empty-at : (P : List Transaction → Type 0) → P [] → (n k : ℕ) → P (getD (replicate n []) k [])
@@ -220,7 +231,8 @@ idle-begun m tape = (
           record {
             wel-sorted = λ first i. empty-at (Sorted precedes) tt (servers m * 6) i;
             wel-stands = λ i. empty-at (Each (AtWel m i)) tt (servers m * 6) i;
-            wel-waits = λ v code a b. empty-at (WelWaits m [] _ code (welIndex v code)) (nobodyWaits refl) (servers m * 6) (welIndex v code);
+            wel-waits =
+                λ v code a b. empty-at (WelWaits m [] _ code (welIndex v code)) (nobodyWaits refl) (servers m * 6) (welIndex v code);
           };
     },
     λ e. omega arith,
@@ -231,10 +243,10 @@ idle-begun m tape = (
 pub waits-start : (m : BlockModel) (tape : List (List ℕ)) → Waits m (start m tape) × Settled m (start m tape)
 unfolding start
 waits-start m tape =
-    let h = startAt-begun m 1 _ _ (idle-begun m tape) in
+    let h = startAt-begun m 1 (m .blocks) (idle m tape) (idle-begun m tape) in
     (walked-waits m (start m tape) (h .0), λ o e. rw (h .1) tt)
 
 -- nobody waits on the WSL
 pub wsl-start : (m : BlockModel) (tape : List (List ℕ)) → start m tape .wsl ≡ []
 unfolding start
-wsl-start m tape = startAt-begun m 1 _ _ (idle-begun m tape) .1
+wsl-start m tape = startAt-begun m 1 (m .blocks) (idle m tape) (idle-begun m tape) .1

@@ -24,7 +24,8 @@ module _ {m : BlockModel} {tape : List (List ℕ)} (proper : Proper m tape) (fir
         waits = w .0;
         settled = w .1;
         ordered =
-            ordered-turn m tape first proper s z (k .sound .shape) (k .waits) (k .settled) (stands-at-most-once m tape s (k .sound)) (k .ordered);
+            ordered-turn m tape first proper s z (k .sound .shape) (k .waits) (k .settled) (stands-at-most-once m tape s (k .sound))
+            (k .ordered);
       }
 
   held-end : (s : State) (e : ℕ) → s .end ≡ 0 → Held m tape s → Held m tape (setEnd e s)
@@ -39,7 +40,7 @@ module _ {m : BlockModel} {tape : List (List ℕ)} (proper : Proper m tape) (fir
   pub in-order : (budget room : ℕ) → Each (λ s. InOrder m tape (reverse (s .records))) (states m tape budget room)
   in-order budget room =
       each-map (λ s k. k .ordered .in-order) (states m tape budget room)
-      (each-state m budget room _ (λ s t k. held-turn s (t .no-end) k) (λ s e c k. held-end s e (c .no-end) k) tape
+      (each-state m budget room (Held m tape) (λ s t k. held-turn s (t .no-end) k) (λ s e c k. held-end s e (c .no-end) k) tape
       (record {
         sound = sound-start m tape proper;
         waits = waits-start m tape .0;

@@ -21,7 +21,7 @@ pub record Pair (l : List Wait) (older k : Key) : Type 0 where
 falling-member : (n : ℕ) (w : Wait) (l : List Wait) → Falling n l → Member w l → w .serial < n
 falling-member n w [] h i = absurd i
 falling-member n w (x ∷ l) h (inl e) = omega (arith, ap (λ (y : Wait). y .serial) e)
-falling-member n w (x ∷ l) h (inr i) = omega (arith, falling-member _ w l (h .1) i)
+falling-member n w (x ∷ l) h (inr i) = omega (arith, falling-member (x .serial) w l (h .1) i)
 
 member-key : (k : Key) (l : List Wait) → Member k (map key l) → (w : Wait) × Member w l × (w .key ≡ k)
 member-key k [] h = absurd h
@@ -39,10 +39,10 @@ pair n older k (x ∷ l) f (inl h) =
       second-open = inl refl;
       first-key = r .2;
       second-key = sym (h .0);
-      serials = falling-member _ _ l (f .1) (r .1);
+      serials = falling-member (x .serial) (r .0) l (f .1) (r .1);
     }
 pair n older k (x ∷ l) f (inr h) =
-    let r = pair _ older k l (f .1) h in
+    let r = pair (x .serial) older k l (f .1) h in
     record {
       first = r .first;
       second = r .second;
@@ -66,7 +66,7 @@ only a b = bit (is a b)
 pub only-self : (a : Wait) → only a a ≡ 1
 unfolding only is
 only-self a =
-    rw (eq-eqb, eq-eqb, eq-eqb, eq-eqb)
+    rw (eq-eqb (a .key .number) _ refl, eq-eqb (a .key .block) _ refl, eq-eqb (a .key .priority) _ refl, eq-eqb (a .serial) _ refl)
 
 all-four : (a b c d : Bool) → 0 < bit (a && b && c && d) → (a ≡ true) × (b ≡ true) × (c ≡ true) × (d ≡ true)
 all-four true true true true h = (refl, refl, refl, refl)
@@ -78,12 +78,12 @@ all-four false b c d h = absurd (omega arith)
 pub only-equal : (a b : Wait) → 0 < only a b → a ≡ b
 unfolding only is
 only-equal a b h =
-    let e = all-four _ _
-    _ _ h in
-    let number = eqb-true _ _ (e .0) in
-    let block = eqb-true _ _ (e .1) in
-    let priority = eqb-true _ _ (e .2) in
-    let serial = eqb-true _ _ (e .3) in
+    let e = all-four (eqb (a .key .number) (b .key .number)) (eqb (a .key .block) (b .key .block))
+    (eqb (a .key .priority) (b .key .priority)) (eqb (a .serial) (b .serial)) h in
+    let number = eqb-true (a .key .number) (b .key .number) (e .0) in
+    let block = eqb-true (a .key .block) (b .key .block) (e .1) in
+    let priority = eqb-true (a .key .priority) (b .key .priority) (e .2) in
+    let serial = eqb-true (a .serial) (b .serial) (e .3) in
     λ i. record { key = record { number = number i; block = block i; priority = priority i }; serial = serial i }
 
 pub member-sum : (f : Wait → ℕ) (w : Wait) (l : List Wait) → Member w l → f w ≤ sumOn f l

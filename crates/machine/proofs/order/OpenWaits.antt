@@ -39,7 +39,7 @@ falling-those : (p : Wait → Bool) (n : ℕ) (l : List Wait) → Falling n l �
 unfolding those
 falling-those p n [] h = tt
 falling-those p n (w ∷ l) h =
-    cond-cases (Falling n) (p w) _ _ (λ e. (h .0, falling-those p _ l (h .1)))
+    cond-cases (Falling n) (p w) _ _ (λ e. (h .0, falling-those p (w .serial) l (h .1)))
     (λ e. falling-those p n l (falling-up l (omega arith) (h .1)))
 
 -- the waits of other numbers
@@ -49,13 +49,13 @@ others-than n l = others (λ w. eqb n (w .key .number)) l
 others-keys : (n : ℕ) (l : List Wait) → map (λ w. w .key) (others-than n l) ≡ without n (map (λ w. w .key) l)
 unfolding those
 others-keys n [] = refl
-others-keys n (w ∷ l) = go (eqb n _) (others-keys n l)
+others-keys n (w ∷ l) = go (eqb n (w .key .number)) (others-keys n l)
   where
     go : (b : Bool) → map (λ w. w .key) (others-than n l) ≡ without n (map (λ w. w .key) l)
         → map (λ w. w .key) (cond (not b) (w ∷ others-than n l) (others-than n l))
         ≡ cond (not b) (w .key ∷ without n (map (λ w. w .key) l)) (without n (map (λ w. w .key) l))
     go true h = h
-    go false h = cc h
+    go false h = ap (λ r. w .key ∷ r) h
 
 -- a weight that counts no wait of a number
 abbrev except : ℕ → (Wait → ℕ) → Wait → ℕ
@@ -76,7 +76,7 @@ unfolding waiting
 waiting-agree n s h f g agree =
     omega (
       arith,
-      sum-agree _ (weight f) (weight g) (λ t. agree (waitOf t)) (flat (s .ql)) (omega arith),
+      sum-agree (weight (numbered n)) (weight f) (weight g) (λ t. agree (waitOf t)) (flat (s .ql)) (omega arith),
       sum-agree (weight (numbered n)) (weight f) (weight g) (λ t. agree (waitOf t)) (flat (s .wel)) (omega arith),
       sum-agree (weight (numbered n)) (weight f) (weight g) (λ t. agree (waitOf t)) (s .wsl) (omega arith),
       sum-agree (marked (numbered n)) (marked f) (marked g) (λ t. on-rel t (t .returning)) (s .rel) (omega arith),
@@ -89,10 +89,16 @@ waiting-agree n s h f g agree =
 -- ---- The records of a turn
 
 -- the total counts other weights alike
-pub linked-as : {m : BlockModel} {rs : List Logged} {n n′ : ℕ} {total total′ : (Wait → ℕ) → ℕ} → n ≤ n′ → ((f : Wait → ℕ) → ForUnits m f → total′ f ≡ total f)
+pub linked-as : {m : BlockModel} {rs : List Logged} {n n′ : ℕ} {total total′ : (Wait → ℕ) → ℕ} → n ≤ n′
+    → ((f : Wait → ℕ) → ForUnits m f → total′ f ≡ total f)
     → Linked m rs n total → Linked m rs n′ total′
 linked-as le same h =
-    record { waits = h .waits; keys = h .keys; falling = falling-up (h .waits) (omega arith) (h .falling); same = λ f k. cc (h .same f k, same f k) }
+    record {
+      waits = h .waits;
+      keys = h .keys;
+      falling = falling-up (h .waits) (omega arith) (h .falling);
+      same = λ f k. h .same f k ∙ sym (same f k);
+    }
 
 pub linked-quiet : {m : BlockModel} {s s′ : State} → Quiet s s′ → s′ .moving ≡ s .moving → LinkedIn m s → LinkedIn m s′
 linked-quiet {m} {s} {s′} q e h =
@@ -104,24 +110,30 @@ module _ {m : BlockModel} (t : Transaction) (s : State) (alone : Alone (t .numbe
   -- without the taken one's own wait
   same-others : (f : Wait → ℕ) → ForUnits m f → sumOn f (others-than (t .number) (h .waits)) ≡ waiting f s
   same-others f k =
-      sum-test f _ (h .waits) ∙ h .same (except (t .number) f) (λ w z. cond-cases (λ n. n ≡ 0) (not (eqb (t .number) (w .key .number))) (f w) 0 (λ e. k w z) (λ e. refl))
-      ∙ omega (arith, own, waiting-agree (t .number) s alone (except (t .number) f) f (λ w. left-out (eqb (t .number) (w .key .number)) (f w)))
+      sum-test f _ (h .waits)
+      ∙ h .same (except (t .number) f)
+      (λ w z. cond-cases (λ n. n ≡ 0) (not (eqb (t .number) (w .key .number))) (f w) 0 (λ e. k w z) (λ e. refl))
+      ∙ omega (
+        arith,
+        own,
+        waiting-agree (t .number) s alone (except (t .number) f) f (λ w. left-out (eqb (t .number) (w .key .number)) (f w)),
+      )
     where
       left-out : (b : Bool) (n : ℕ) → bit b ≡ 0 → cond (not b) n 0 ≡ n
       left-out true n e = absurd (omega arith)
       left-out false n e = refl
 
       own : marked (except (t .number) f) t ≡ 0
-      own = rw eq-eqb (cond-cases (λ n. n ≡ 0) (t .returning) 0 0 (λ e. refl) (λ e. refl))
+      own = rw (eq-eqb (t .number) (t .number) refl) (cond-cases (λ n. n ≡ 0) (t .returning) 0 0 (λ e. refl) (λ e. refl))
 
   -- a record of outcome 0
   pub linked-passes : Linked m (enters t s .records) (s .serial) (λ f. waiting f s)
   unfolding enters log recordOf opens
   linked-passes =
       record {
-        waits = others-than _ _;
+        waits = others-than (t .number) (h .waits);
         keys = others-keys (t .number) (h .waits) ∙ ap (without (t .number)) (h .keys);
-        falling = falling-those _ _ _ (h .falling);
+        falling = falling-those _ _ (h .waits) (h .falling);
         same = same-others;
       }
 
@@ -130,8 +142,8 @@ module _ {m : BlockModel} (t : Transaction) (s : State) (alone : Alone (t .numbe
   unfolding log recordOf opens
   linked-begins =
       record {
-        waits = waitOf (withSerial (fresh s) t) ∷ others-than _ _;
+        waits = waitOf (withSerial (fresh s) t) ∷ others-than (t .number) (h .waits);
         keys = ap (λ l. waitOf t .key ∷ l) (others-keys (t .number) (h .waits) ∙ ap (without (t .number)) (h .keys));
-        falling = (omega arith, falling-those _ _ _ (h .falling));
-        same = λ f k. cc (same-others f k);
+        falling = (omega arith, falling-those _ _ (h .waits) (h .falling));
+        same = λ f k. ap (λ n. weight f (withSerial (fresh s) t) + n) (same-others f k);
       }

@@ -1,5 +1,5 @@
 -- Edition 1: the order of waits is kept by every turn.
-use Rattle.machine.specs.All.{ℕ, zero, suc, _+_, _*_, _≤_, _≡_, refl, sym, ap, subst, Bool, true, cond, true≢false, List, [], _∷_, reverse, Option, none, some, arith, length, Transaction, Block, BlockModel, blockAt, State, Logged, setMoving, setTurns, setEnd, withSerial, recordOf, log, enters, toFel, wakeWsl, arrival, fresh, taking, answer, execute, turn, startAt, idle, start, movingOne, InOrder}
+use Rattle.machine.specs.All.{ℕ, zero, suc, _+_, _*_, _≤_, _≡_, refl, sym, ap, subst, Bool, true, cond, true≢false, List, [], _∷_, reverse, Option, none, some, arith, length, Transaction, Block, BlockModel, blockAt, State, Logged, setMoving, setTurns, setEnd, withSerial, recordOf, log, enters, toFel, wakeWsl, arrival, fresh, taking, answer, execute, turn, startAt, idle, start, movingOne, InOrder, _∙_, question}
 use Rattle.machine.proofs as our
 use our.{decoding.Proper.Proper, runs.RunLaws.cond-cases, runs.Kept.taking-kept, order.Rivals.ends-in-order}
 use our.lists.Cases.{wsScheme-cases, startOf-cases}
@@ -29,7 +29,8 @@ module _ (m : BlockModel) (tape : List (List ℕ)) where
   unmarked-weighs f (some t) u = rw u
 
   ordered-as : (s : State) {rs : List Logged} {n : ℕ} {total : (Wait → ℕ) → ℕ} → s .records ≡ rs → n ≤ s .serial
-      → ((f : Wait → ℕ) → ForUnits m f → waiting f s ≡ total f) → Unmarked (s .moving) → Linked m rs n total → InOrder m tape (reverse rs) → Ordered s
+      → ((f : Wait → ℕ) → ForUnits m f → waiting f s ≡ total f) → Unmarked (s .moving) → Linked m rs n total → InOrder m tape (reverse rs)
+      → Ordered s
   ordered-as s records serials weights free h in-order =
       record {
         linked =
@@ -41,7 +42,8 @@ module _ (m : BlockModel) (tape : List (List ℕ)) where
 
   -- ---- One block, of the transaction in hand
 
-  module _ (first : m .edition ≡ 1) (t : Transaction) (s : State) (h : InHand m t s) (in-order : InOrder m tape (reverse (s .records))) where
+  module _ (first : m .edition ≡ 1) (t : Transaction) (s : State) (h : InHand m t s)
+      (in-order : InOrder m tape (reverse (s .records))) where
     -- with nobody moving
     abbrev idle-hand : State
     idle-hand = setMoving none s
@@ -53,21 +55,25 @@ module _ (m : BlockModel) (tape : List (List ℕ)) where
     unfolding enters log recordOf waiting
     ordered-step s′ (passes g q) =
         ordered-as s′ (q .records) (q .serials) (λ f k. q .weights f) (q .moving tt) (linked-passes t idle-hand (h .alone) (h .linked))
-        (order-more m tape _ _ (ends-in-order m tape t idle-hand (h .alone) (h .linked) first (λ e. (h .in-place e, g))) in-order)
+        (order-more m tape _ (s .records)
+        (ends-in-order m tape t idle-hand (h .alone) (h .linked) first (λ e. (h .in-place e, g))) in-order)
     ordered-step s′ (begins e p) =
-        ordered-as s′ (p .records) (omega arith) (λ f k. p .weights f) (rw (p .moving) tt) (linked-begins t idle-hand (h .alone) (h .linked))
-        (order-more m tape _ _
-        (ends-in-order m tape t idle-hand (h .alone) (h .linked) first (λ r. absurd (true≢false (cc (r, e))))) in-order)
+        ordered-as s′ (p .records) (omega arith) (λ f k. p .weights f) (rw (p .moving) tt)
+        (linked-begins t idle-hand (h .alone) (h .linked))
+        (order-more m tape _ (s .records)
+        (ends-in-order m tape t idle-hand (h .alone) (h .linked) first (λ r. absurd (true≢false (sym r ∙ e)))) in-order)
     ordered-step s′ (back e p) =
-        ordered-as s′ (p .records) (omega arith) (λ f k. omega (arith, p .weights f, weight-back _ (weight f t) e))
+        ordered-as s′ (p .records) (omega arith) (λ f k. omega (arith, p .weights f, weight-back (t .returning) (weight f t) e))
         (rw (p .moving) tt) (h .linked) in-order
     ordered-step s′ (returns z q) =
         ordered-as s′ (q .records) (q .serials)
-        (λ f k. omega (arith, q .weights f, cond-cases (λ n. n ≡ 0) (t .returning) _ 0 (λ e. k (waitOf t) z) (λ e. refl))) (q .moving tt) (h .linked) in-order
+        (λ f k. omega (arith, q .weights f, cond-cases (λ n. n ≡ 0) (t .returning) (weight f t) 0 (λ e. k (waitOf t) z) (λ e. refl)))
+        (q .moving tt) (h .linked) in-order
     ordered-step s′ (assembles z q) =
-        ordered-as s′ (q .records) (q .serials) (λ f k. omega (arith, q .weights f, k (waitOf (withSerial (fresh idle-hand) t)) z)) (q .moving tt)
+        ordered-as s′ (q .records) (q .serials) (λ f k. omega (arith, q .weights f, k (waitOf (withSerial (fresh idle-hand) t)) z))
+        (q .moving tt)
         (linked-begins t idle-hand (h .alone) (h .linked))
-        (order-more m tape _ _
+        (order-more m tape _ (s .records)
         (ends-in-order m tape t idle-hand (h .alone) (h .linked) first (λ r. (h .in-place r, λ n. absurd (n z)))) in-order)
 
     -- a question stops the run
@@ -82,7 +88,7 @@ module _ (m : BlockModel) (tape : List (List ℕ)) where
 
     ordered-answer : Proper m tape → Shape m s → (n : ℕ) → Ordered (answer n m (blockAt m (t .next)) t s)
     unfolding answer
-    ordered-answer proper shape zero = ordered-step _ (step-effect m _ t idle-hand (proper .block _) shape)
+    ordered-answer proper shape zero = ordered-step _ (step-effect m (blockAt m (t .next)) t idle-hand (proper .block (t .next)) shape)
     ordered-answer proper shape (suc n) = ordered-stop n
 
   -- ---- A turn
@@ -94,7 +100,8 @@ module _ (m : BlockModel) (tape : List (List ℕ)) where
         subst (λ o. Ordered (execute o m s)) (sym e)
         (record { linked = l; in-order = in-order; unmarked = λ z. rw e tt })
     ordered-execute s (hand t h) in-order shape =
-        subst (λ o. Ordered (execute o m s)) (sym (h .moves)) (ordered-answer first t s h in-order proper shape _)
+        subst (λ o. Ordered (execute o m s)) (sym (h .moves))
+        (ordered-answer first t s h in-order proper shape (question m (blockAt m (t .next)) t s))
 
     ordered-wakeWsl : (p : Transaction → Bool) (s : State) → Ordered s → Ordered (wakeWsl p s)
     unfolding wakeWsl
@@ -119,7 +126,7 @@ module _ (m : BlockModel) (tape : List (List ℕ)) where
         done =
             ordered-execute taken (handed-turns _ _ (handed m s once (h .linked) shape w z settled (h .unmarked z)))
             (rw (taking-records (s .moving) s) (h .in-order))
-            (taking-kept _ (shape-closed m) _ s shape)
+            (taking-kept (Shape m) (shape-closed m) (s .moving) s shape)
 
   -- ---- The start and the end before a turn
 
@@ -132,7 +139,12 @@ module _ (m : BlockModel) (tape : List (List ℕ)) where
               waits = [];
               keys = refl;
               falling = tt;
-              same = λ f k. omega (arith, sum-flat-none (weight f) (m .facilities + length (m .capacities)), sum-flat-none (weight f) ((m .facilities + length (m .capacities)) * 6));
+              same =
+                  λ f k. omega (
+                    arith,
+                    sum-flat-none (weight f) (m .facilities + length (m .capacities)),
+                    sum-flat-none (weight f) ((m .facilities + length (m .capacities)) * 6),
+                  );
             };
         in-order = λ i k ik h w e. absurd (omega arith);
         unmarked = λ e. tt;
@@ -148,11 +160,11 @@ module _ (m : BlockModel) (tape : List (List ℕ)) where
   unfolding startAt
   ordered-startAt n [] s h = h
   ordered-startAt n (b ∷ l) s h =
-      ordered-startAt _ l _ (startOf-cases Ordered b n s (λ e. h) (λ e. ordered-arrival _ _ _ n s h))
+      ordered-startAt (suc n) l _ (startOf-cases Ordered b n s (λ e. h) (λ e. ordered-arrival _ _ _ n s h))
 
   pub ordered-start : Ordered (start m tape)
   unfolding start
-  ordered-start = ordered-startAt 1 _ _ ordered-idle
+  ordered-start = ordered-startAt 1 (m .blocks) _ ordered-idle
 
   pub ordered-end : (s : State) (e : ℕ) → s .end ≡ 0 → Ordered s → Ordered (setEnd e s)
   unfolding waiting

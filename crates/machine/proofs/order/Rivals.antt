@@ -1,6 +1,6 @@
 -- Edition 1: who gets in leaves no open rival behind that began to wait before it: such a one would stand on REL before the first, or on
 -- the QL of a server that it fits, with nobody ready whom it does not precede.
-use Rattle.machine.specs.All.{cases, ℕ, zero, suc, _+_, _-_, _≤_, _<_, _≡_, refl, sym, ap, subst, _∙_, _⊎_, inl, inr, Bool, true, false, cond, true≢false, List, [], _∷_, none, arith, eqb, ltb, length, getD, ltb-true, ltb-false, eq-eqb, ne-eqb, Transaction, precedes, flat, View, Block, facts, BlockModel, blockAt, State, unitsOf, holds, waitsOn, Each, bit, preemptNames}
+use Rattle.machine.specs.All.{ℕ, zero, suc, _+_, _-_, _≤_, _<_, _≡_, refl, sym, ap, subst, _∙_, _⊎_, inl, inr, Bool, true, false, cond, true≢false, List, [], _∷_, none, arith, eqb, ltb, length, getD, ltb-true, ltb-false, eq-eqb, ne-eqb, Transaction, precedes, flat, View, Block, facts, BlockModel, blockAt, State, unitsOf, holds, waitsOn, Each, bit, preemptNames, ap₂, leb, free, terminate}
 use Rattle.machine.proofs as our
 use our.decoding.Proper.{servers, Role, generating, taking, preempting, neither, role}
 use our.runs.RunLaws.{cond-cases, none-at}
@@ -10,7 +10,7 @@ use our.order.Records.{Member, opens, Rivals, EndsInOrder}
 use our.lists.Sums.{sumOn, sum-zero}
 use our.lists.SumFacts.{sum-some, sum-which}
 use our.order.Weights.{Wait, waitOf, weight, marked, waiting}
-use our.order.Steps.{GetsIn}
+use our.{order.Steps.GetsIn, order.Records.Key}
 use our.order.OpenWaits.{ForUnits, Linked, numbered, Alone, waiting-agree}
 use our.order.OpenPairs.{key, Pair, pair, is, only, only-self, only-equal, member-sum}
 
@@ -28,15 +28,19 @@ takes-or-not (neither e z) = inl z
 
 -- ---- A block that takes a server that no PREEMPT names is no PREEMPT
 
-preempts-none : (m : BlockModel) (tape : List (List ℕ)) (n : ℕ) → (facts (blockAt m n) .server ≡ 0 → ⊥) → preemptNames m tape (facts (blockAt m n) .server) ≡ false
+preempts-none : (m : BlockModel) (tape : List (List ℕ)) (n : ℕ) → (facts (blockAt m n) .server ≡ 0 → ⊥)
+    → preemptNames m tape (facts (blockAt m n) .server) ≡ false
     → facts (blockAt m n) .preempts ≡ 0
 unfolding preemptNames facts
-preempts-none m tape n some h = go (role (blockAt m n)) some (none-at (λ b. eqb (facts b .preempts) _) _ (ne-eqb _ _ (λ z. some (sym z))) _ _ h)
+preempts-none m tape n some h =
+    go (role (blockAt m n)) some
+    (none-at (λ b. eqb (facts b .preempts) (facts (blockAt m n) .server)) (terminate 0) (ne-eqb _ _ (λ z. some (sym z))) (m .blocks)
+    (n - 1) h)
   where
     go : {b : Block} → Role b → (facts b .server ≡ 0 → ⊥) → eqb (facts b .preempts) (facts b .server) ≡ false → facts b .preempts ≡ 0
     go (generating list p) some e = refl
     go (taking x) some e = refl
-    go (preempting f) some e = absurd (true≢false (cc (eq-eqb f f refl, e)))
+    go (preempting f) some e = absurd (true≢false (sym (eq-eqb f f refl) ∙ e))
     go (neither g z) some e = absurd (some z)
 
 -- ---- Who precedes whom
@@ -50,14 +54,17 @@ not-below : {a b : ℕ} → (a < b → ⊥) → b ≤ a
 not-below h = omega arith
 
 unless-before : (u t : Transaction) → Before u t → precedes u t ≡ false → ⊥
-unless-before u t b e = true≢false (cc (before-precedes u t b, e))
+unless-before u t b e = true≢false (sym (before-precedes u t b) ∙ e)
 
 -- who precedes t precedes all that do not
 before-later : (u t x : Transaction) → Before u t → precedes x t ≡ false → Before u x
-before-later u t x b e = go b _ refl
+before-later u t x b e = go b (ltb (x .priority) (u .priority)) refl
   where
     high : x .priority ≤ t .priority
     high = not-below (λ h. unless-before x t (inl h) e)
+
+    low : x .priority ≡ t .priority → t .serial ≤ x .serial
+    low q = not-below (λ h. unless-before x t (inr (q, h)) e)
 
     go : Before u t → (b : Bool) → ltb (x .priority) (u .priority) ≡ b → Before u x
     go h true q = inl (ltb-true _ _ q)
@@ -65,7 +72,7 @@ before-later u t x b e = go b _ refl
     go (inr h) false q =
         let n : u .priority ≤ x .priority = ltb-false _ _ q in
         let same : x .priority ≡ t .priority = omega (arith, high) in
-        inr (omega (arith, (not-below (λ h. unless-before x t (inr (same, h)) e))))
+        inr (omega (arith, low same))
 
 -- ---- While t is taken
 
@@ -91,7 +98,8 @@ marked-returning true n h = refl
 marked-returning false n h = absurd (omega arith)
 
 -- what is known of the waiters while t is taken from REL
-pub record StandingOn (m : BlockModel) (t : Transaction) (w : View) (ql wel : List (List Transaction)) (wsl rel : List Transaction) : Type 0 where
+pub record StandingOn (m : BlockModel) (t : Transaction) (w : View) (ql wel : List (List Transaction))
+    (wsl rel : List Transaction) : Type 0 where
   pub queued : Queued m (t ∷ rel) (t ∷ rel) (w .servers) ql
   pub gated : Gated m (t ∷ rel) (w .servers) wel
   pub settled : Each (λ u. waitsOn m w u ≡ true) wsl
@@ -102,21 +110,38 @@ Standing m t s = StandingOn m t (s .view) (s .ql) (s .wel) (s .wsl) (s .rel)
 
 -- an older rival w of one that gets in stands on none of the lists
 module _ (m : BlockModel) (tape : List (List ℕ)) (t : Transaction) (s : State) (in-place : Standing m t s)
-    (gets-in : GetsIn (blockAt m (t .next)) s) (w : Wait) (rival : Rivals m tape (w .key) (waitOf t .key)) (older : w .serial < t .serial) (first : m .edition ≡ 1) where
+    (gets-in : GetsIn (blockAt m (t .next)) s) (w : Wait) (rival : Rivals m tape (w .key) (waitOf t .key)) (older : w .serial < t .serial)
+    (first : m .edition ≡ 1) where
   -- the block is no PREEMPT
   unpreempted : facts (blockAt m (t .next)) .preempts ≡ 0
-  unpreempted = preempts-none m tape _ (λ z. rival .some-server (rival .server ∙ z)) (rw (rival .server) at (rival .unnamed))
+  unpreempted = preempts-none m tape (t .next) (λ z. rival .some-server (rival .server ∙ z)) (rw (rival .server) at (rival .unnamed))
 
   only-ql : (u : Transaction) → w ≡ waitOf u → OnlyQl (blockAt m (u .next))
-  only-ql u e = go (takes-or-not (role _))
+  only-ql u e = go (takes-or-not (role (blockAt m (u .next))))
     where
       go : (serverOf m u ≡ 0) ⊎ OnlyQl (blockAt m (u .next)) → OnlyQl (blockAt m (u .next))
-      go (inl z) = absurd (rival .some-server (rw (e, z)))
+      go (inl z) = absurd (rival .some-server (ap (λ (x : Wait). facts (blockAt m (x .key .block)) .server) e ∙ z))
       go (inr h) = h
 
   before : (u : Transaction) → w ≡ waitOf u → Before u t
   before u e =
-      inr (sym (rw e) ∙ rival .priority, omega (arith, ap (λ (x : Wait). x .serial) e))
+      inr (sym (ap (λ (x : Wait). x .key .priority) e) ∙ rival .priority, omega (arith, ap (λ (x : Wait). x .serial) e))
+
+  on-rel : Some (λ u. 0 < marked (only w) u) (s .rel) → ⊥
+  on-rel h =
+      some-each (s .rel) h (in-place .queued .rel-sorted .0)
+      (λ u p q. unless-before u t (before u (only-equal w _ (marked-weight (u .returning) _ p))) q)
+
+  on-wsl : Some (λ u. 0 < weight (only w) u) (s .wsl) → ⊥
+  unfolding OnlyQl waitsOn holds
+  on-wsl h =
+      some-each (s .wsl) h (in-place .settled)
+      (λ u p q. true≢false (sym q ∙ ap (holds (m .values) (s .view) (u .parameters)) (only-ql u (only-equal w _ p) .1)))
+
+  on-wel : (i : ℕ) → Some (λ u. 0 < weight (only w) u) (getD (s .wel) i []) → ⊥
+  unfolding OnlyQl
+  on-wel i h =
+      some-each (getD (s .wel) i []) h (in-place .gated .wel-stands i) (λ u p q. omega (arith, q, only-ql u (only-equal w _ p) .0))
 
   on-ql : (i : ℕ) → i < length (s .ql) → Some (λ u. 0 < weight (only w) u) (getD (s .ql) i []) → ⊥
   on-ql i d h =
@@ -141,7 +166,7 @@ module _ (m : BlockModel) (tape : List (List ℕ)) (t : Transaction) (s : State)
           let units : unitsOf m t ≡ unitsOf m u =
           sym (rival .units) ∙ ap (λ (x : Wait). facts (blockAt m (x .key .block)) .units) (only-equal w _ p) in
           true≢false
-          (cc (gets-in (λ z. omega arith) unpreempted, units, same, q)))
+          (sym (gets-in (λ z. omega arith) unpreempted) ∙ ap₂ (λ (n v : ℕ). leb n (free (serverIn (s .view .servers) v))) units same ∙ q))
       waits same (nextReady f (inl n)) = some-each l h (n .1) (λ u p q. unless-before u t (before u (only-equal w _ p)) q)
       waits same (nextReady f (inr r)) =
           some-each (s .rel) r (in-place .queued .rel-sorted .0)
@@ -155,11 +180,10 @@ module _ (m : BlockModel) (tape : List (List ℕ)) (t : Transaction) (s : State)
       f = weight (only w)
 
       go : OneOf (sumOn f (flat (s .ql))) (sumOn f (flat (s .wel))) (sumOn f (s .wsl)) (sumOn (marked (only w)) (s .rel)) → ⊥
-      go (one p) = let r = sum-which f _ p in on-ql _ (r .1) (sum-some f (getD (s .ql) _ []) (r .2))
-      go (two p) = let r = sum-which f _ p in (unfold OnlyQl in some-each (getD (s .wel) _ []) (sum-some f (getD (s .wel) _ []) (r .2)) (in-place .gated .wel-stands _) (λ u p q. omega (arith, only-ql u (only-equal w _ p) .0)))
-      go (three p) = (unfold OnlyQl waitsOn holds in some-each (s .wsl) (sum-some f (s .wsl) p) (in-place .settled) (λ u p q. true≢false (cc (q, only-ql u (only-equal w _ p) .1))))
-      go (four p) = some-each (s .rel) (sum-some _ (s .rel) p) (in-place .queued .rel-sorted .0)
-          (λ u p q. unless-before u t (before u (only-equal w _ (marked-weight (u .returning) _ p))) q)
+      go (one p) = let r = sum-which f (s .ql) p in on-ql (r .0) (r .1) (sum-some f (getD (s .ql) (r .0) []) (r .2))
+      go (two p) = let r = sum-which f (s .wel) p in on-wel (r .0) (sum-some f (getD (s .wel) (r .0) []) (r .2))
+      go (three p) = on-wsl (sum-some f (s .wsl) p)
+      go (four p) = on-rel (sum-some (marked (only w)) (s .rel) p)
 
 -- ---- The open waits of the records
 
@@ -185,52 +209,56 @@ module _ (m : BlockModel) (tape : List (List ℕ)) (t : Transaction) (s : State)
   Needs w = facts (blockAt m (w .key .block)) .server ≡ 0 → ⊥
 
   for-units : (w : Wait) → Needs w → ForUnits m (only w)
-  for-units w needs x z =
-      cases (ltb 0 (only w x))
-      (λ e. absurd (needs (cc (only-equal w x (ltb-true _ _ e), z))))
-      (λ e. omega (arith, ltb-false 0 (only w x) e))
+  for-units w needs x z = go (ltb 0 (only w x)) refl
+    where
+      go : (b : Bool) → ltb 0 (only w x) ≡ b → only w x ≡ 0
+      go true e = absurd (needs (ap (λ (y : Wait). facts (blockAt m (y .key .block)) .server) (only-equal w x (ltb-true _ _ e)) ∙ z))
+      go false e = omega (arith, ltb-false 0 (only w x) e)
 
   -- an open wait for units is somebody's
   somebody : (w : Wait) → Needs w → Member w (h .waits) → 0 < waiting (only w) s + marked (only w) t
-  somebody w needs i = omega (arith, member-sum (only w) w (h .waits) i, only-self w, h .same _ (for-units w needs))
+  somebody w needs i = omega (arith, member-sum (only w) w (h .waits) i, only-self w, h .same (only w) (for-units w needs))
 
   -- and one of the taken one's number is its own
   own : (w : Wait) → Needs w → Member w (h .waits) → w .key .number ≡ t .number → 0 < marked (only w) t
   unfolding only is
-  own w needs i e = omega (arith, somebody w needs i, waiting-agree _ s alone _ (λ x. 0) elsewhere, waiting-none s)
+  own w needs i e = omega (arith, somebody w needs i, waiting-agree (t .number) s alone (only w) (λ x. 0) elsewhere, waiting-none s)
     where
       elsewhere : (x : Wait) → numbered (t .number) x ≡ 0 → only w x ≡ 0
-      elsewhere x d = rw (e, bit-zero (eqb _ _) d)
+      elsewhere x d = rw (e, bit-zero (eqb (t .number) (x .key .number)) d)
 
   pub ends-in-order : m .edition ≡ 1 → (t .returning ≡ true → Standing m t s × GetsIn (blockAt m (t .next)) s)
       → EndsInOrder m tape (t .number) (opens (s .records))
-  ends-in-order first returner older k b n rival =
-      cases (ltb 0 (marked (only (p .first)) t))
-      (λ e. let q = only-equal _ _ (marked-weight (t .returning) _ (ltb-true _ _ e)) in
-      omega (arith, serials, ap (λ (x : Wait). x .serial) q))
-      (λ e. let z : marked (only _) t ≤ 0 = ltb-false _ _ e in
-      let r = returner (marked-returning _ _ marks) in
-      no-rival m tape t s (r .0) (r .1) _ rival′ serials first
-      (omega (arith, somebody _ first-needs (p .first-open))))
+  ends-in-order first returner older k b n rival = go (ltb 0 (marked (only (p .first)) t)) refl
     where
       p : Pair (h .waits) older k
-      p = pair _ older k _ (h .falling) (rw (h .keys) b)
+      p = pair (suc (s .serial)) older k (h .waits) (h .falling) (rw (h .keys) b)
 
       first-needs : Needs (p .first)
-      first-needs z = rival .some-server (cc (p .first-key, z))
+      first-needs z = rival .some-server (ap (λ (x : Key). facts (blockAt m (x .block)) .server) (sym (p .first-key)) ∙ z)
 
       second-needs : Needs (p .second)
       second-needs z =
-          rival .some-server (cc (rival .server, p .second-key, z))
+          rival .some-server (rival .server ∙ ap (λ (x : Key). facts (blockAt m (x .block)) .server) (sym (p .second-key)) ∙ z)
 
       marks : 0 < marked (only (p .second)) t
-      marks = own _ second-needs (p .second-open) (cc (p .second-key, n))
+      marks = own (p .second) second-needs (p .second-open) (ap (λ (x : Key). x .number) (p .second-key) ∙ n)
 
       mine : p .second ≡ waitOf t
-      mine = only-equal _ _ (marked-weight (t .returning) _ marks)
+      mine = only-equal (p .second) (waitOf t) (marked-weight (t .returning) _ marks)
 
       serials : p .first .serial < t .serial
       serials = omega (arith, p .serials, ap (λ (x : Wait). x .serial) mine)
 
       rival′ : Rivals m tape (p .first .key) (waitOf t .key)
       rival′ = rw (p .first-key, ← (ap key mine), p .second-key) rival
+
+      go : (c : Bool) → ltb 0 (marked (only (p .first)) t) ≡ c → ⊥
+      go true e =
+          let q : p .first ≡ waitOf t = only-equal (p .first) (waitOf t) (marked-weight (t .returning) _ (ltb-true _ _ e)) in
+          omega (arith, serials, ap (λ (x : Wait). x .serial) q)
+      go false e =
+          let z : marked (only (p .first)) t ≤ 0 = ltb-false _ _ e in
+          let r = returner (marked-returning (t .returning) _ marks) in
+          no-rival m tape t s (r .0) (r .1) (p .first) rival′ serials first
+          (omega (arith, somebody (p .first) first-needs (p .first-open)))

@@ -1,6 +1,7 @@
--- Serials tell apart who waits, is ready or moves: of every weight f of serials, what stands on the QLs, the WELs, the WSL and REL and what is moving
+-- Serials tell apart who waits, is ready or moves: of every weight f of serials, what stands on the QLs, the WELs, the WSL and REL and
+-- what is moving
 -- weigh together at most as much as the serials given. Every turn keeps it: who comes there has the next serial, or came from there.
-use Rattle.machine.specs.All.{ℕ, zero, suc, _+_, _*_, _-_, _≤_, _<_, _≡_, refl, sym, ap, _∙_, subst, Bool, true, false, not, true≢false, inl, inr, List, [], _∷_, Option, none, some, arith, eqb, leb, ltb, getD, set, take, drop, eq-eqb, leb-true, leb-false, ltb-true, ltb-false, Transaction, Event, Gatherer, precedes, those, flat, Code, Share, shareServer, shareUnits, Block, generate, advance, terminate, takes, frees, waitServer, waitTerms, moves, assign, priority, split, counts, assemble, preempt, giveBack, BlockModel, blockAt, welIndex, State, withPriority, withReturning, withNext, withSerial, setMoving, log, enters, moveTo, fresh, toRel, toFel, qlOf, welOf, lineUp, toQl, toWel, toWsl, mustWait, wakeQl, wakeFirstWel, wakeWsl, setUse, setContent, arrival, copies, toGatherers, comes, released, interrupt, resume, takeUnits, partFor, wakeFor, checkWels, endsOne, delay, effect, arriveAll, moveClock, nextEvents, takeFirst, takeReady, taking, answer, execute, waitsOn, wsScheme, turn, startAt, idle, start, Each, bit, upTo}
+use Rattle.machine.specs.All.{ℕ, zero, suc, _+_, _*_, _-_, _≤_, _<_, _≡_, refl, sym, ap, _∙_, subst, Bool, true, false, not, true≢false, inl, inr, List, [], _∷_, Option, none, some, arith, eqb, leb, ltb, getD, set, take, drop, eq-eqb, leb-true, leb-false, ltb-true, ltb-false, Transaction, Event, Gatherer, precedes, those, flat, Code, Share, shareServer, shareUnits, Block, generate, advance, terminate, takes, frees, waitServer, waitTerms, moves, assign, priority, split, counts, assemble, preempt, giveBack, BlockModel, blockAt, welIndex, State, withPriority, withReturning, withNext, withSerial, setMoving, log, enters, moveTo, fresh, toRel, toFel, qlOf, welOf, lineUp, toQl, toWel, toWsl, mustWait, wakeQl, wakeFirstWel, wakeWsl, setUse, setContent, arrival, copies, toGatherers, comes, released, interrupt, resume, takeUnits, partFor, wakeFor, checkWels, endsOne, delay, effect, arriveAll, moveClock, nextEvents, takeFirst, takeReady, taking, answer, execute, waitsOn, wsScheme, turn, startAt, idle, start, Each, bit, upTo, serverAt, free, facility, setSerial}
 use Rattle.machine.proofs as our
 use our.{decoding.Proper.servers, runs.RunLaws.cond-cases}
 use our.lists.Cases.{checkWels-kept, waitServer-cases, waitTerms-cases, assemble-cases, preempt-cases, giveBack-cases, wsScheme-cases, startOf-cases}
@@ -49,7 +50,8 @@ module _ (f : ℕ → ℕ) where
 
     within-toQl : (edition v : ℕ) (t : Transaction) (s : State) → Within (by t + x) s → Within x (toQl edition v t s)
     unfolding toQl
-    within-toQl edition v t s w = omega (arith, sum-set by (s .ql) (v - 1) (lineUp edition t (qlOf s v)), sum-lineUp by edition t (qlOf s v))
+    within-toQl edition v t s w =
+        omega (arith, sum-set by (s .ql) (v - 1) (lineUp edition t (qlOf s v)), sum-lineUp by edition t (qlOf s v))
 
     within-toWel : (edition v : ℕ) (code : Code) (t : Transaction) (s : State) → Within (by t + x) s → Within x (toWel edition v code t s)
     unfolding toWel
@@ -67,18 +69,23 @@ module _ (f : ℕ → ℕ) where
     within-wakeFor : (m : BlockModel) (y : Share) (s : State) → Within x s → Within x (wakeFor m y s)
     unfolding wakeFor wakeQl
     within-wakeFor m y s w =
-        let l = qlOf s (shareServer y) in
+        let l : List Transaction = qlOf s (shareServer y) in
         let part = partFor m y (s .view) l in
-        omega (arith, sum-set by (s .ql) (shareServer y - 1) (part .stay), sum-partFor by m y (s .view) l, sum-wake by (λ t. refl) (part .go) (s .rel))
+        omega (
+          arith,
+          sum-set by (s .ql) (shareServer y - 1) (part .stay),
+          sum-partFor by m y (s .view) l,
+          sum-wake by (λ t. refl) (part .go) (s .rel),
+        )
 
     within-wakeFirst : (v : ℕ) (code : Code) (s : State) → Within x s → Within x (wakeFirstWel v code s)
     unfolding wakeFirstWel
     within-wakeFirst v code s w =
-        let l = welOf s v code in
+        let l : List Transaction = welOf s v code in
         omega (arith, sum-set by (s .wel) (welIndex v code) (drop 1 l), sum-first by l, sum-wake by (λ t. refl) (take 1 l) (s .rel))
 
     within-checkWels : (v : ℕ) (s : State) → Within x s → Within x (checkWels v s)
-    within-checkWels v s w = checkWels-kept _ v (within-wakeFirst v) s w
+    within-checkWels v s w = checkWels-kept (Within x) v (within-wakeFirst v) s w
 
     within-wakeWsl : (p : Transaction → Bool) (s : State) → Within x s → Within x (wakeWsl p s)
     unfolding wakeWsl
@@ -128,12 +135,12 @@ module _ (f : ℕ → ℕ) where
 
   apart-takeReady : (l : List Transaction) (s : State) → s .rel ≡ l → s .moving ≡ none → Within 0 s → Apart (takeReady l s)
   unfolding takeReady
-  apart-takeReady [] s e n w = apart-takeFirst _ _ refl (moving-nextEvents _ s ∙ n) (within-nextEvents 0 _ s w)
-  apart-takeReady (t ∷ l) s e n w = apart-takeFirst _ s e n w
+  apart-takeReady [] s e n w = apart-takeFirst _ _ refl (moving-nextEvents (s .fel) s ∙ n) (within-nextEvents 0 (s .fel) s w)
+  apart-takeReady (t ∷ l) s e n w = apart-takeFirst (t ∷ l) s e n w
 
   apart-taking : (o : Option Transaction) (s : State) → s .moving ≡ o → Apart s → Apart (taking o s)
   unfolding taking
-  apart-taking none s e w = apart-takeReady _ s refl e (rw e at w)
+  apart-taking none s e w = apart-takeReady (s .rel) s refl e (rw e at w)
   apart-taking (some t) s e w = w
 
   -- ---- One block
@@ -148,18 +155,19 @@ module _ (f : ℕ → ℕ) where
     unfolding mustWait log upTo
     apart-wait put puts stays =
         cond-cases Apart (t .returning) _ _ (λ e. kept t idle-hand refl (omega arith))
-        (λ e. kept _ _ refl (omega arith))
+        (λ e. kept (withSerial (fresh s) t) (setSerial (fresh s) (log 1 t idle-hand)) refl (omega arith))
       where
         kept : (u : Transaction) (z : State) → z .moving ≡ none → Within (by u + 0) z → Apart (put u z)
         kept u z e h = subst (λ o. Within (held o) (put u z)) (sym (stays u z ∙ e)) (puts u z h)
 
     apart-ql : (v : ℕ) → Apart (mustWait (toQl (m .edition) v) t idle-hand)
-    apart-ql v = apart-wait _ (within-toQl 0 _ v) (λ t s. unfold toQl in refl)
+    apart-ql v = apart-wait (toQl (m .edition) v) (within-toQl 0 (m .edition) v) (λ t s. unfold toQl in refl)
 
     apart-takes : (x : Share) (preempts : Bool) → Apart (takeUnits m x preempts t idle-hand)
     unfolding takeUnits moveTo setUse enters log
     apart-takes x preempts =
-        cond-cases Apart (leb (shareUnits x) _) _ _ (λ e. within-checkWels _ _ _ w) (λ e. apart-ql _)
+        cond-cases Apart (leb (shareUnits x) (free (serverAt (s .view) (shareServer x)))) _ _
+        (λ e. within-checkWels (by t) (shareServer x) _ w) (λ e. apart-ql (shareServer x))
 
     apart-delay : (l : List ℕ) (list : ℕ) → Apart (delay l list t (enters t idle-hand))
     unfolding delay toFel enters log upTo
@@ -168,31 +176,35 @@ module _ (f : ℕ → ℕ) where
 
     apart-effect : (b : Block) → Apart (effect m b t idle-hand)
     unfolding effect moveTo enters log toRel setContent takeUnits setUse endsOne toGatherers comes released interrupt resume toFel upTo
-    apart-effect (generate list p) = within-arrival _ _ list p _ _ w
+    apart-effect (generate list p) = within-arrival (by t) _ list p _ _ w
     apart-effect (advance list) = apart-delay _ list
     apart-effect (terminate a) = omega arith
     apart-effect (takes x) = apart-takes x false
-    apart-effect (frees x) = within-checkWels _ _ _ (within-wakeFor _ m x _ w)
+    apart-effect (frees x) = within-checkWels (by t) (shareServer x) _ (within-wakeFor (by t) m x _ w)
     apart-effect (waitServer code v c) =
-        waitServer-cases Apart m code v c t idle-hand (λ e. apart-wait _ (within-toWel 0 _ v code) (λ t s. unfold toWel in refl))
-        (λ e. within-wakeFirst _ v code _ w) (λ e. within-wakeFirst _ v code _ w)
+        waitServer-cases Apart m code v c t idle-hand
+        (λ e. apart-wait (toWel (m .edition) v code) (within-toWel 0 (m .edition) v code) (λ t s. unfold toWel in refl))
+        (λ e. within-wakeFirst (by t) v code _ w) (λ e. within-wakeFirst (by t) v code _ w)
     apart-effect (waitTerms a r b) =
         waitTerms-cases Apart m a r b t idle-hand (λ e. apart-wait toWsl (within-toWsl 0) (λ t s. unfold toWsl in refl)) (λ e. w)
     apart-effect (moves c target) = w
     apart-effect (assign k a) = w
-    apart-effect (priority p) = within-toRel 0 (withPriority p (withReturning false (withNext _ t))) (enters t idle-hand) (omega arith)
-    apart-effect (split n target) = within-copies _ n target t _ w
+    apart-effect (priority p) =
+        within-toRel 0 (withPriority p (withReturning false (withNext (suc (t .next)) t))) (enters t idle-hand) (omega arith)
+    apart-effect (split n target) = within-copies (by t) n target t _ w
     apart-effect (counts c q) = w
     apart-effect (assemble n) =
-        assemble-cases Apart m n t idle-hand (λ e. omega arith) (λ g l e z. within-released 0 g t (enters t idle-hand) (omega arith)) (λ g l e z. omega arith)
-    apart-effect (preempt f) = preempt-cases Apart m f t idle-hand (λ e. apart-takes _ true) (λ x l e. within-checkWels _ f _ w)
+        assemble-cases Apart m n t idle-hand (λ e. omega arith) (λ g l e z. within-released 0 g t (enters t idle-hand) (omega arith))
+        (λ g l e z. omega arith)
+    apart-effect (preempt f) =
+        preempt-cases Apart m f t idle-hand (λ e. apart-takes (facility f) true) (λ x l e. within-checkWels (by t) f _ w)
     apart-effect (giveBack f) =
-        giveBack-cases Apart m f t idle-hand (λ e. within-checkWels _ f _ (within-wakeFor _ m _ _ w))
-        (λ i l e. within-checkWels _ f _ (omega arith))
+        giveBack-cases Apart m f t idle-hand (λ e. within-checkWels (by t) f _ (within-wakeFor (by t) m (facility f) _ w))
+        (λ i l e. within-checkWels (by t) f _ (omega arith))
 
     apart-answer : (n : ℕ) → s .moving ≡ some t → Apart (answer n m (blockAt m (t .next)) t s)
     unfolding answer
-    apart-answer zero e = apart-effect _
+    apart-answer zero e = apart-effect (blockAt m (t .next))
     apart-answer (suc n) e = rw e w
 
   -- ---- The turn
@@ -205,27 +217,31 @@ module _ (f : ℕ → ℕ) where
 
     apart-wsScheme : (s : State) → Apart s → Apart (wsScheme m s)
     unfolding wakeWsl
-    apart-wsScheme s w = wsScheme-cases Apart m s (λ e. within-wakeWsl _ (λ t. not (waitsOn m _ t)) s w) (λ e. w)
+    apart-wsScheme s w = wsScheme-cases Apart m s (λ e. within-wakeWsl (held (s .moving)) (λ t. not (waitsOn m (s .view) t)) s w) (λ e. w)
 
     pub apart-turn : (s : State) → Apart s → Apart (turn m s)
     unfolding turn
-    apart-turn s w = apart-wsScheme _ (apart-execute _ _ refl (apart-taking _ s refl w))
+    apart-turn s w = apart-wsScheme _ (apart-execute _ _ refl (apart-taking (s .moving) s refl w))
 
     -- ---- The start
 
     apart-arrival : (l : List ℕ) (list p n : ℕ) (s : State) → Apart s → Apart (arrival l list p n s)
     unfolding arrival toFel
     apart-arrival [] list p n s w = w
-    apart-arrival (time ∷ l) list p n s w = within-arrival _ (time ∷ l) list p n s w
+    apart-arrival (time ∷ l) list p n s w = within-arrival (held (s .moving)) (time ∷ l) list p n s w
 
     apart-startAt : (n : ℕ) (l : List Block) (s : State) → Apart s → Apart (startAt n l s)
     unfolding startAt
     apart-startAt n [] s w = w
-    apart-startAt n (b ∷ l) s w = apart-startAt _ l _ (startOf-cases Apart b n s (λ e. w) (λ e. apart-arrival _ _ _ n s w))
+    apart-startAt n (b ∷ l) s w = apart-startAt (suc n) l _ (startOf-cases Apart b n s (λ e. w) (λ e. apart-arrival _ _ _ n s w))
+
+    apart-idle : (tape : List (List ℕ)) → Apart (idle m tape)
+    unfolding idle upTo
+    apart-idle tape = omega (arith, sum-flat-none by (servers m), sum-flat-none by (servers m * 6))
 
     pub apart-start : (tape : List (List ℕ)) → Apart (start m tape)
     unfolding start
-    apart-start tape = apart-startAt 1 _ _ (unfold idle upTo in omega (arith, sum-flat-none by (servers m), sum-flat-none by (servers m * 6)))
+    apart-start tape = apart-startAt 1 (m .blocks) _ (apart-idle tape)
 
 -- ---- What it tells
 
@@ -235,11 +251,11 @@ Single l = (n : ℕ) → sumOn (λ t. bit (eqb (t .serial) n)) l ≤ 1
 
 module _ (s : State) (apart : (f : ℕ → ℕ) → Apart f s) where
   at-most : (n : ℕ) → upTo (s .serial) (λ k. bit (eqb k n)) ≤ 1
-  at-most n = go _ refl _ refl
+  at-most n = go (leb 1 n) refl (leb n (s .serial)) refl
     where
       go : (a : Bool) → leb 1 n ≡ a → (b : Bool) → leb n (s .serial) ≡ b → upTo (s .serial) (λ k. bit (eqb k n)) ≤ 1
-      go true e true q = omega (arith, upTo-one _ n (leb-true 1 n e) (leb-true n _ q))
-      go true e false q = omega (arith, upTo-none (s .serial) n (λ k a b c. omega (arith, leb-false n _ q)))
+      go true e true q = omega (arith, upTo-one (s .serial) n (leb-true 1 n e) (leb-true n (s .serial) q))
+      go true e false q = omega (arith, upTo-none (s .serial) n (λ k a b c. omega (arith, leb-false n (s .serial) q)))
       go false e b q = omega (arith, upTo-none (s .serial) n (λ k a b c. omega (arith, leb-false 1 n e)))
 
   pub single-rel : Single (s .rel)
@@ -253,7 +269,7 @@ module _ (s : State) (apart : (f : ℕ → ℕ) → Apart f s) where
 
 -- of two with different serials one precedes the other
 pub one-precedes : (x y : Transaction) → (y .serial ≡ x .serial → ⊥) → precedes y x ≡ false → precedes x y ≡ true
-one-precedes x y d e = go _ refl (ltb (x .priority) (y .priority)) refl (ltb (x .serial) (y .serial)) refl
+one-precedes x y d e = go (ltb (y .priority) (x .priority)) refl (ltb (x .priority) (y .priority)) refl (ltb (x .serial) (y .serial)) refl
   where
     not-before : Before y x → ⊥
     not-before h = true≢false (sym (before-precedes y x h) ∙ e)
@@ -261,7 +277,8 @@ one-precedes x y d e = go _ refl (ltb (x .priority) (y .priority)) refl (ltb (x 
     same : ltb (y .priority) (x .priority) ≡ false → ltb (x .priority) (y .priority) ≡ false → x .priority ≡ y .priority
     same p q = omega (arith, ltb-false (y .priority) (x .priority) p, ltb-false (x .priority) (y .priority) q)
 
-    go : (a : Bool) → ltb (y .priority) (x .priority) ≡ a → (b : Bool) → ltb (x .priority) (y .priority) ≡ b → (c : Bool) → ltb (x .serial) (y .serial) ≡ c → precedes x y ≡ true
+    go : (a : Bool) → ltb (y .priority) (x .priority) ≡ a → (b : Bool) → ltb (x .priority) (y .priority) ≡ b → (c : Bool)
+        → ltb (x .serial) (y .serial) ≡ c → precedes x y ≡ true
     go true p b q c r = before-precedes x y (inl (ltb-true _ _ p))
     go false p true q c r = absurd (not-before (inl (ltb-true _ _ q)))
     go false p false q true r = before-precedes x y (inr (same p q, ltb-true _ _ r))
@@ -278,7 +295,8 @@ strictly (x ∷ l) one h = (
   strictly l (λ n. omega (arith, one n)) (h .1),
 )
   where
-    behind : (k : List Transaction) → sumOn (λ t. bit (eqb (t .serial) (x .serial))) k ≤ 0 → Each (λ y. precedes y x ≡ false) k → Each (λ y. not (precedes x y) ≡ false) k
+    behind : (k : List Transaction) → sumOn (λ t. bit (eqb (t .serial) (x .serial))) k ≤ 0 → Each (λ y. precedes y x ≡ false) k
+        → Each (λ y. not (precedes x y) ≡ false) k
     behind [] z h = tt
     behind (y ∷ k) z h = (
       ap not (one-precedes x y (λ e. omega (arith, z, ap bit (eq-eqb (y .serial) (x .serial) e))) (h .0)),

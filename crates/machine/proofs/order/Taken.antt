@@ -1,6 +1,6 @@
 -- What the taking hands to a block: the transaction taken, whose number no waiter has, and the waits linked to the records.
 -- One with the returning mark is the first of REL.
-use Rattle.machine.specs.All.{cases, ℕ, _+_, _≤_, _≡_, refl, sym, ap, subst, _∙_, true, false, true≢false, List, [], _∷_, map, Option, none, some, arith, eqb, eqb-true, eq-eqb, Transaction, Event, precedes, flat, those, BlockModel, State, withReturning, withSerial, setMoving, setRel, fresh, toRel, arriveAll, due, moveClock, nextEvents, takeFirst, takeReady, taking, movingOne, Each, bit, everyone, standing}
+use Rattle.machine.specs.All.{ℕ, _+_, _≤_, _≡_, refl, sym, ap, subst, _∙_, true, false, true≢false, List, [], _∷_, map, Option, none, some, arith, eqb, eqb-true, eq-eqb, Transaction, Event, precedes, flat, those, BlockModel, State, withReturning, withSerial, setMoving, setRel, fresh, toRel, arriveAll, due, moveClock, nextEvents, takeFirst, takeReady, taking, movingOne, Each, bit, everyone, standing, Bool, cond}
 use Rattle.machine.proofs as our
 use our.{lists.Sorted.each-insert, order.Rivals.Standing, runs.Shape.Shape}
 use our.lists.Sums.{sumOn, sum-append, sum-insert, sum-those, sum-map, sum-count, sum-le}
@@ -19,23 +19,28 @@ module _ (n : ℕ) where
   has t = bit (eqb (t .number) n)
 
   pub has-own : (t : Transaction) → t .number ≡ n → has t ≡ 1
-  has-own t e = ap bit (eq-eqb _ n e)
+  has-own t e = ap bit (eq-eqb (t .number) n e)
 
   pub standing-sum : (s : State) → standing s n
       ≡ sumOn has (flat (s .ql)) + sumOn has (flat (s .wel)) + sumOn has (s .wsl) + sumOn has (s .rel)
       + sumOn has (map (λ e. e .who) (s .fel)) + sumOn has (movingOne (s .moving)) + sumOn has (map (λ g. g .who) (flat (s .gatherers)))
       + sumOn has (map (λ i. i .who) (s .interrupted))
   unfolding standing everyone
-  standing-sum s = sym (sum-count (λ t. eqb _ n) _) ∙ simp sum-append
+  standing-sum s = sym (sum-count (λ t. eqb (t .number) n) (everyone s)) ∙ simp sum-append
 
   weight-has : (t : Transaction) → weight (numbered n) t ≤ has t
-  weight-has t =
-      cases (eqb n (t .number))
-      (λ e. rw e (omega (arith, has-own t (sym (eqb-true _ _ e)))))
-      (λ e. rw e (omega arith))
+  weight-has t = go (eqb n (t .number)) refl
+    where
+      go : (b : Bool) → eqb n (t .number) ≡ b → bit b ≤ has t
+      go true e = omega (arith, has-own t (sym (eqb-true _ _ e)))
+      go false e = omega arith
 
   marked-has : (t : Transaction) → marked (numbered n) t ≤ has t
-  marked-has t = cases (t .returning) (λ e. rw e (weight-has t)) (λ e. rw e (omega arith))
+  marked-has t = go (t .returning)
+    where
+      go : (b : Bool) → cond b (weight (numbered n) t) 0 ≤ has t
+      go true = weight-has t
+      go false = omega arith
 
   waiting-has : (s : State) → waiting (numbered n) s
       ≤ sumOn has (flat (s .ql)) + sumOn has (flat (s .wel)) + sumOn has (s .wsl) + sumOn has (s .rel)
@@ -43,10 +48,10 @@ module _ (n : ℕ) where
   waiting-has s =
       omega (
         arith,
-        sum-le _ has weight-has (flat (s .ql)),
-        sum-le _ has weight-has (flat (s .wel)),
-        sum-le _ has weight-has (s .wsl),
-        sum-le _ has marked-has (s .rel),
+        sum-le (weight (numbered n)) has weight-has (flat (s .ql)),
+        sum-le (weight (numbered n)) has weight-has (flat (s .wel)),
+        sum-le (weight (numbered n)) has weight-has (s .wsl),
+        sum-le (marked (numbered n)) has marked-has (s .rel),
       )
 
   rel-arriveAll : (l : List Event) (s : State) → sumOn has (arriveAll l s .rel) ≡ sumOn has (s .rel) + sumOn has (map (λ e. e .who) l)
@@ -59,7 +64,8 @@ module _ (n : ℕ) where
         sum-insert has precedes (withSerial (fresh s) (withReturning false (e .who))) (s .rel),
       )
 
-  rel-nextEvents : (l : List Event) (s : State) → sumOn has (nextEvents l s .rel) ≤ sumOn has (s .rel) + sumOn has (map (λ e. e .who) (s .fel))
+  rel-nextEvents : (l : List Event) (s : State)
+      → sumOn has (nextEvents l s .rel) ≤ sumOn has (s .rel) + sumOn has (map (λ e. e .who) (s .fel))
   unfolding nextEvents moveClock
   rel-nextEvents [] s = omega arith
   rel-nextEvents (e ∷ l) s =
@@ -73,12 +79,14 @@ module _ (n : ℕ) where
 
 -- ---- Who comes from the FEL has no mark, and nobody begins to move
 
-fresh-arriveAll : (l : List Event) (s : State) → Each (λ t. t .returning ≡ false) (s .rel) → Each (λ t. t .returning ≡ false) (arriveAll l s .rel)
+fresh-arriveAll : (l : List Event) (s : State) → Each (λ t. t .returning ≡ false) (s .rel)
+    → Each (λ t. t .returning ≡ false) (arriveAll l s .rel)
 unfolding arriveAll toRel
 fresh-arriveAll [] s h = h
-fresh-arriveAll (e ∷ l) s h = fresh-arriveAll l _ (each-insert (λ t. t .returning ≡ false) precedes _ _ refl h)
+fresh-arriveAll (e ∷ l) s h = fresh-arriveAll l _ (each-insert (λ t. t .returning ≡ false) precedes _ (s .rel) refl h)
 
-fresh-nextEvents : (l : List Event) (s : State) → Each (λ t. t .returning ≡ false) (s .rel) → Each (λ t. t .returning ≡ false) (nextEvents l s .rel)
+fresh-nextEvents : (l : List Event) (s : State) → Each (λ t. t .returning ≡ false) (s .rel)
+    → Each (λ t. t .returning ≡ false) (nextEvents l s .rel)
 unfolding nextEvents moveClock
 fresh-nextEvents [] s h = h
 fresh-nextEvents (e ∷ l) s h = fresh-arriveAll _ _ h
@@ -91,7 +99,7 @@ moving-arriveAll (e ∷ l) s = moving-arriveAll l _
 moving-nextEvents : (l : List Event) (s : State) → nextEvents l s .moving ≡ s .moving
 unfolding nextEvents moveClock
 moving-nextEvents [] s = refl
-moving-nextEvents (e ∷ l) s = moving-arriveAll _ _
+moving-nextEvents (e ∷ l) s = moving-arriveAll (those (due (e .time)) (s .fel)) _
 
 -- ---- The taking
 
@@ -121,13 +129,14 @@ module _ (m : BlockModel) where
                 standing-sum (t .number) s,
                 waiting-has (t .number) s,
                 ap (λ o. sumOn (has (t .number)) (movingOne o)) e,
-                has-own _ t refl,
+                has-own (t .number) t refl,
               );
           linked = linked-as (omega arith) (λ f k. omega (arith, ap (λ o. sumOn (marked f) (movingOne o)) e)) h;
-          in-place = λ r. absurd (true≢false (cc (r, u)));
+          in-place = λ r. absurd (true≢false (sym r ∙ u));
         }
 
-    from-rel : (t : Transaction) (l : List Transaction) → s .moving ≡ none → s .rel ≡ t ∷ l → Shape m s → Waits m s → s .end ≡ 0 → Settled m s
+    from-rel : (t : Transaction) (l : List Transaction) → s .moving ≡ none → s .rel ≡ t ∷ l → Shape m s → Waits m s → s .end ≡ 0
+        → Settled m s
         → InHand t (setMoving (some t) (setRel l s))
     unfolding waiting
     from-rel t l e r shape w z settled =
@@ -140,7 +149,7 @@ module _ (m : BlockModel) where
                 standing-sum (t .number) s,
                 waiting-has (t .number) (setMoving (some t) (setRel l s)),
                 ap (sumOn (has (t .number))) r,
-                has-own _ t refl,
+                has-own (t .number) t refl,
               );
           linked = linked-as (omega arith) (λ f k. omega (arith, ap (sumOn (marked f)) r)) (linked-none e);
           in-place = λ b.
@@ -169,15 +178,19 @@ module _ (m : BlockModel) where
                 ap (sumOn (marked (numbered (t .number)))) r,
                 ap (sumOn (has (t .number))) r,
                 ap (sumOn (has (t .number))) z,
-                has-own _ t refl,
+                has-own (t .number) t refl,
               );
           linked =
-              rw (quiet .records) (linked-as (quiet .serials) (λ f k. omega (arith, quiet .weights f, ap (sumOn (marked f)) r)) (linked-none e));
-          in-place = λ b. absurd (true≢false (cc (b, (rw r at (fresh-nextEvents (s .fel) s (rw z tt))) .0)));
+              rw (quiet .records)
+              (linked-as (quiet .serials) (λ f k. omega (arith, quiet .weights f, ap (sumOn (marked f)) r)) (linked-none e));
+          in-place = λ b. absurd (true≢false (sym b ∙ first .0));
         }
       where
         quiet : Quiet s (nextEvents (s .fel) s)
-        quiet = quiet-nextEvents _ s
+        quiet = quiet-nextEvents (s .fel) s
+
+        first : Each (λ u. u .returning ≡ false) (t ∷ l)
+        first = rw r at (fresh-nextEvents (s .fel) s (rw z tt))
 
   -- what the taking leaves
   pub data Handed (s : State) : Type 0 where
@@ -188,19 +201,19 @@ module _ (m : BlockModel) where
       (unmarked : Unmarked (s .moving)) where
     handed-rel : (l : List Transaction) → s .rel ≡ l → s .moving ≡ none → Handed (takeReady l s)
     unfolding takeReady takeFirst
-    handed-rel [] r e = go _ refl
+    handed-rel [] r e = go (nextEvents (s .fel) s .rel) refl
       where
         go : (l : List Transaction) → nextEvents (s .fel) s .rel ≡ l → Handed (takeFirst l (nextEvents (s .fel) s))
-        go [] q = nobody (moving-nextEvents _ s ∙ e) (linked-quiet (quiet-nextEvents _ s) (moving-nextEvents _ s) h)
+        go [] q = nobody (moving-nextEvents (s .fel) s ∙ e) (linked-quiet (quiet-nextEvents (s .fel) s) (moving-nextEvents (s .fel) s) h)
         go (t ∷ l) q = hand t (from-fel s once h t l e r q)
     handed-rel (t ∷ l) r e = hand t (from-rel s once h t l e r shape w z settled)
 
     pub handed : Handed (taking (s .moving) s)
     unfolding taking
-    handed = go _ refl
+    handed = go (s .moving) refl
       where
         go : (o : Option Transaction) → s .moving ≡ o → Handed (taking o s)
-        go none e = handed-rel _ refl e
+        go none e = handed-rel (s .rel) refl e
         go (some t) e = hand t (from-moving s once h t e (rw e at unmarked))
 
 -- ---- The taking writes nothing
@@ -212,10 +225,10 @@ takeFirst-records (t ∷ l) s = refl
 
 takeReady-records : (l : List Transaction) (s : State) → takeReady l s .records ≡ s .records
 unfolding takeReady
-takeReady-records [] s = takeFirst-records _ _ ∙ quiet-nextEvents _ s .records
-takeReady-records (t ∷ l) s = takeFirst-records _ s
+takeReady-records [] s = takeFirst-records _ _ ∙ quiet-nextEvents (s .fel) s .records
+takeReady-records (t ∷ l) s = takeFirst-records (t ∷ l) s
 
 pub taking-records : (o : Option Transaction) (s : State) → taking o s .records ≡ s .records
 unfolding taking
-taking-records none s = takeReady-records _ s
+taking-records none s = takeReady-records (s .rel) s
 taking-records (some t) s = refl

@@ -1,6 +1,6 @@
 -- Everybody who waits, weighed: on a QL, a WEL or the WSL, and on REL with the returning mark. A turn changes the sum only by
 -- the transaction that it takes: waking moves a wait to REL, and who is put there else has no mark.
-use Rattle.machine.specs.All.{ℕ, zero, suc, _+_, _-_, _≤_, _≡_, refl, _∙_, Bool, true, false, cond, List, [], _∷_, Option, none, some, arith, take, drop, Transaction, Event, precedes, insert, those, flat, Code, Share, shareServer, BlockModel, welIndex, State, withReturning, withSerial, setMade, qlOf, welOf, toRel, toFel, wake, Parted, wakeQl, wakeFirstWel, wakeWsl, arrival, copies, partFor, wakeFor, checkWels, delay, arriveAll, nextEvents, moveClock}
+use Rattle.machine.specs.All.{ℕ, zero, suc, _+_, _-_, _≤_, _≡_, refl, _∙_, Bool, true, false, cond, List, [], _∷_, Option, none, some, arith, take, drop, Transaction, Event, precedes, insert, those, flat, Code, Share, shareServer, BlockModel, welIndex, State, withReturning, withSerial, setMade, qlOf, welOf, toRel, toFel, wake, Parted, wakeQl, wakeFirstWel, wakeWsl, arrival, copies, partFor, wakeFor, checkWels, delay, arriveAll, nextEvents, moveClock, ap}
 use Rattle.machine.proofs as our
 use our.{lists.Cases.checkWels-kept, order.Records.Key, lists.SumFacts.sum-part, lists.Lines.sum-partFor}
 use our.lists.Sums.{sumOn, sum-insert, sum-those, sum-first}
@@ -122,7 +122,7 @@ quiet-toRel t s e =
     }
   where
     unmarked : (f : Wait → ℕ) → marked f (withSerial (suc (s .serial)) t) ≡ 0
-    unmarked f = cc e
+    unmarked f = ap (λ (b : Bool). cond b (f (waitOf (withSerial (suc (s .serial)) t))) 0) e
 
 pub quiet-arrival : (l : List ℕ) (list p n : ℕ) (s : State) → Quiet s (arrival l list p n s)
 unfolding arrival toFel waiting
@@ -142,7 +142,7 @@ pub quiet-copies : (n target : ℕ) (t : Transaction) (s : State) → Quiet s (c
 unfolding copies
 quiet-copies zero target t s = quiet-refl s
 quiet-copies (suc n) target t s =
-    quiet-trans (quiet-trans (quiet-made _ s) (quiet-toRel _ _ refl)) (quiet-copies n target t _)
+    quiet-trans (quiet-trans (quiet-made (suc (s .made)) s) (quiet-toRel _ _ refl)) (quiet-copies n target t _)
 
 quiet-arriveAll : (l : List Event) (s : State) → Quiet s (arriveAll l s)
 unfolding arriveAll

@@ -3,9 +3,10 @@
 use Rattle.machine.specs.All.{ℕ, _≡_, refl, List, arith, Rules, Validation, accept, reject, validate, acceptedRun, refusedRun, outcomeOf, outcome, Keeping}
 use Rattle.machine.proofs.{runs.Bounds.bounded, decoding.ProperFrom.refusal-from}
 
-pub outcome-keeps : (rules : Rules) (model tape : List ℕ) (budget work room report : ℕ) → Keeping budget (outcome rules model tape budget work room report)
+pub outcome-keeps : (rules : Rules) (model tape : List ℕ) (budget work room report : ℕ)
+    → Keeping budget (outcome rules model tape budget work room report)
 unfolding outcome outcomeOf acceptedRun refusedRun
-outcome-keeps rules model tape budget work room report = go _ refl
+outcome-keeps rules model tape budget work room report = go (validate rules model tape work report) refl
   where
     go : (v : Validation) → validate rules model tape work report ≡ v → Keeping budget (outcomeOf budget room v)
     go (accept m t) e =
@@ -21,7 +22,7 @@ outcome-keeps rules model tape budget work room report = go _ refl
         let r = refusal-from rules model tape work report e in
         record {
           refusals = r .1;
-          stated = λ z. absurd (omega arith);
+          stated = λ z. absurd (omega (arith, r .0));
           only-then = λ h. absurd h;
           within-budget = omega arith;
           within-limit = omega arith;

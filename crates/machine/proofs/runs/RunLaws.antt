@@ -1,6 +1,6 @@
 -- The run, step by step: what holds at the start and is kept by every turn that is taken and by the end before a turn holds in
 -- each state of the run; the last of the states is the run's; every other one has no end.
-use Rattle.machine.specs.All.{cases, ℕ, zero, suc, _+_, _≤_, _<_, _≡_, refl, ap, Bool, true, false, cond, _||_, List, [], _∷_, _++_, arith, eqb-true, eqb-false, eq-eqb, ne-eqb, leb-false, ltb-false, not-true, not-false, T, eqb, getD, maxSerial, maxTurns, recordRoom, anyOf, BlockModel, State, setEnd, turn, nobodyLeft, endBefore, start, runFrom, statesFrom, run, states, steps, Each, statedEnd, Ends}
+use Rattle.machine.specs.All.{ℕ, zero, suc, _+_, _≤_, _<_, _≡_, refl, ap, Bool, true, false, cond, _||_, List, [], _∷_, _++_, arith, eqb-true, eqb-false, eq-eqb, ne-eqb, leb-false, ltb-false, not-true, not-false, T, eqb, getD, maxSerial, maxTurns, recordRoom, anyOf, BlockModel, State, setEnd, turn, nobodyLeft, endBefore, start, runFrom, statesFrom, run, states, steps, Each, statedEnd, Ends, leb, ltb}
 
 -- ---- Choices
 
@@ -18,9 +18,10 @@ or-false false b e = (refl, e)
 pub none-at : {A : Type 0} (p : A → Bool) (d : A) → p d ≡ false → (l : List A) (i : ℕ) → anyOf p l ≡ false → p (getD l i d) ≡ false
 unfolding anyOf
 none-at p d else [] i h = else
-none-at p d else (b ∷ l) i h = go i (or-false _ _ h) (none-at p d else l)
+none-at p d else (b ∷ l) i h = go i (or-false (p b) (anyOf p l) h) (none-at p d else l)
   where
-    go : (i : ℕ) → (p b ≡ false) × (anyOf p l ≡ false) → ((i : ℕ) → anyOf p l ≡ false → p (getD l i d) ≡ false) → p (getD (b ∷ l) i d) ≡ false
+    go : (i : ℕ) → (p b ≡ false) × (anyOf p l ≡ false) → ((i : ℕ) → anyOf p l ≡ false → p (getD l i d) ≡ false)
+        → p (getD (b ∷ l) i d) ≡ false
     go zero both rest = both .0
     go (suc i) both rest = rest i (both .1)
 
@@ -72,12 +73,13 @@ pub before : (budget room : ℕ) (s : State) → Before budget room s (endBefore
 unfolding endBefore
 before budget room s =
     cond-cases B _ _ _ (λ e. own (eqb-false _ _ (not-true _ e))) (λ no-end.
-    let z = eqb-true _ _ (not-false _ no-end) in
+    let z : s .end ≡ 0 = eqb-true _ _ (not-false _ no-end) in
     cond-cases B _ _ _ (λ w. closing (record { no-end = z; dry = λ e. w; stated = tt })) (λ w.
-    cond-cases B _ _ _ (λ l. closing (record { no-end = z; dry = λ e. absurd (two e); stated = tt })) (λ l.
+    cond-cases B (ltb maxSerial (s .serial) || leb maxTurns (s .turns)) _ _
+    (λ l. closing (record { no-end = z; dry = λ e. absurd (two e); stated = tt })) (λ l.
     cond-cases B _ _ _ (λ p. closing (record { no-end = z; dry = λ e. absurd (two e); stated = tt })) (λ p.
     cond-cases B _ _ _ (λ f. closing (record { no-end = z; dry = λ e. absurd (two e); stated = tt })) (λ f.
-    let limits = or-false _ _ l in
+    let limits = or-false (ltb maxSerial (s .serial)) (leb maxTurns (s .turns)) l in
     taken
     (record {
       no-end = z;
@@ -104,64 +106,75 @@ taken-of (closing c) z = absurd (omega arith)
 module _ (m : BlockModel) (budget room : ℕ) where
   pub run-on : (n : ℕ) (s : State) → endBefore budget room s ≡ 0 → runFrom (suc n) m budget room s ≡ runFrom n m budget room (turn m s)
   unfolding runFrom
-  run-on n s e = rw (eq-eqb, runFrom)
+  run-on n s e = rw (eq-eqb _ 0 e, runFrom)
 
-  pub run-off : (n : ℕ) (s : State) → (endBefore budget room s ≡ 0 → ⊥) → runFrom (suc n) m budget room s ≡ setEnd (endBefore budget room s) s
+  pub run-off : (n : ℕ) (s : State) → (endBefore budget room s ≡ 0 → ⊥)
+      → runFrom (suc n) m budget room s ≡ setEnd (endBefore budget room s) s
   unfolding runFrom
-  run-off n s h = rw (ne-eqb, runFrom)
+  run-off n s h = rw (ne-eqb _ 0 h, runFrom)
 
   pub states-on : (n : ℕ) (s : State) → endBefore budget room s ≡ 0
       → statesFrom (suc n) m budget room s ≡ s ∷ statesFrom n m budget room (turn m s)
   unfolding statesFrom
-  states-on n s e = rw (eq-eqb, statesFrom)
+  states-on n s e = rw (eq-eqb _ 0 e, statesFrom)
 
   pub states-off : (n : ℕ) (s : State) → (endBefore budget room s ≡ 0 → ⊥)
       → statesFrom (suc n) m budget room s ≡ setEnd (endBefore budget room s) s ∷ []
   unfolding statesFrom
-  states-off n s h = rw (ne-eqb, statesFrom)
+  states-off n s h = rw (ne-eqb _ 0 h, statesFrom)
 
   -- ---- What every state of the run has
 
   last-from : (n : ℕ) (s : State) → Ends (runFrom n m budget room s) (statesFrom n m budget room s)
   unfolding runFrom statesFrom
   last-from zero s = record { front = []; all = refl; no-ends = tt }
-  last-from (suc n) s =
-      cases (eqb (endBefore budget room s) 0)
-      (λ e. let z : endBefore budget room s ≡ 0 = eqb-true _ _ e in
-      rw (run-on n s z, states-on n s z)
-      (record {
-        front = s ∷ (last-from n (turn m s)) .front;
-        all = ap (λ l. s ∷ l) ((last-from n (turn m s)) .all);
-        no-ends = (taken-of (before budget room s) z .no-end, (last-from n (turn m s)) .no-ends);
-      }))
-      (λ e. let z = eqb-false _ _ e in
-      rw (run-off n s z, states-off n s z) (record { front = []; all = refl; no-ends = tt }))
+  last-from (suc n) s = go (eqb (endBefore budget room s) 0) refl (last-from n (turn m s))
+    where
+      go : (b : Bool) → eqb (endBefore budget room s) 0 ≡ b
+          → Ends (runFrom n m budget room (turn m s)) (statesFrom n m budget room (turn m s))
+          → Ends (runFrom (suc n) m budget room s) (statesFrom (suc n) m budget room s)
+      go true e h =
+          let z : endBefore budget room s ≡ 0 = eqb-true _ _ e in
+          rw (run-on n s z, states-on n s z)
+          (record {
+            front = s ∷ h .front;
+            all = ap (λ l. s ∷ l) (h .all);
+            no-ends = (taken-of (before budget room s) z .no-end, h .no-ends);
+          })
+      go false e h =
+          let z : (endBefore budget room s ≡ 0 → ⊥) = eqb-false _ _ e in
+          rw (run-off n s z, states-off n s z) (record { front = []; all = refl; no-ends = tt })
 
   -- the states are those of the very run
   pub last : (tape : List (List ℕ)) → Ends (run m tape budget room) (states m tape budget room)
   unfolding run states
-  last tape = last-from steps _
+  last tape = last-from steps (start m tape)
 
-  module _ (I : State → Type 0) (step : (s : State) → Taken budget room s → I s → I (turn m s)) (close : (s : State) (e : ℕ) → Closing s e → I s → I (setEnd e s)) where
+  module _ (I : State → Type 0) (step : (s : State) → Taken budget room s → I s → I (turn m s))
+      (close : (s : State) (e : ℕ) → Closing s e → I s → I (setEnd e s)) where
     kept-at-end : (s : State) → I s → {e : ℕ} → Before budget room s e → (e ≡ 0 → ⊥) → I (setEnd e s)
     kept-at-end s i (taken t) z = absurd (z refl)
     kept-at-end s i (own h) z = i
-    kept-at-end s i (closing {e = e} c) z = close s _ c i
+    kept-at-end s i (closing {e = e} c) z = close s (suc e) c i
 
     each-from : (n : ℕ) (s : State) → I s → Each I (statesFrom n m budget room s)
     unfolding statesFrom
     each-from zero s i = (i, tt)
-    each-from (suc n) s i =
-        cases (eqb (endBefore budget room s) 0)
-        (λ e. let z : endBefore budget room s ≡ 0 = eqb-true _ _ e in
-        rw (states-on n s z) (i, (each-from n (turn m s)) (step s (taken-of (before budget room s) z) i)))
-        (λ e. let z = eqb-false _ _ e in
-        rw (states-off n s z) (kept-at-end s i (before budget room s) z, tt))
+    each-from (suc n) s i = go (eqb (endBefore budget room s) 0) refl (each-from n (turn m s))
+      where
+        go : (b : Bool) → eqb (endBefore budget room s) 0 ≡ b → (I (turn m s) → Each I (statesFrom n m budget room (turn m s)))
+            → Each I (statesFrom (suc n) m budget room s)
+        go true e h =
+            let z : endBefore budget room s ≡ 0 = eqb-true _ _ e in
+            rw (states-on n s z) (i, h (step s (taken-of (before budget room s) z) i))
+        go false e h =
+            let z : (endBefore budget room s ≡ 0 → ⊥) = eqb-false _ _ e in
+            rw (states-off n s z) (kept-at-end s i (before budget room s) z, tt)
 
     -- an invariant of the start holds in every state of the run
     pub each-state : (tape : List (List ℕ)) → I (start m tape) → Each I (states m tape budget room)
     unfolding states
-    each-state tape i = each-from steps _ i
+    each-state tape i = each-from steps (start m tape) i
 
     -- and so in the last
     pub last-state : (tape : List (List ℕ)) → I (start m tape) → I (run m tape budget room)

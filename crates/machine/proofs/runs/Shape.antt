@@ -1,6 +1,6 @@
 -- The fixtures of the machine keep their shape in every state of a run: as many queue lists, waiting lists, servers, queues,
 -- entries and sample lists as the model says, each server of its capacity and never in use beyond it.
-use Rattle.machine.specs.All.{cases, ℕ, zero, suc, _+_, _*_, _-_, _≤_, _<_, _≡_, refl, sym, ap, _∙_, Bool, true≢false, List, [], _∷_, _++_, map, arith, ltb-true, ltb-false, ltb, length, getD, set, replicate, length-set, length-map, length-append, length-replicate, getD-replicate, List·getD-map, List·getD-append, map-set-same, Transaction, Gatherer, nth, setNth, Server, View, Queue, idleServer, serverAt, Code, U, NU, E, NE, F, NF, codeIndex, assemble, facts, BlockModel, blockAt, welIndex, State, withUse, setClock, setEntries, setQueues, setServers, setUse, sampleServers, sampleQueue, sample, turn, idle, start, Each}
+use Rattle.machine.specs.All.{ℕ, zero, suc, _+_, _*_, _-_, _≤_, _<_, _≡_, refl, sym, ap, _∙_, Bool, true≢false, List, [], _∷_, _++_, map, arith, ltb-true, ltb-false, ltb, length, getD, set, replicate, length-set, length-map, length-append, length-replicate, getD-replicate, List·getD-map, List·getD-append, map-set-same, Transaction, Gatherer, nth, setNth, Server, View, Queue, idleServer, serverAt, Code, U, NU, E, NE, F, NF, codeIndex, assemble, facts, BlockModel, blockAt, welIndex, State, withUse, setClock, setEntries, setQueues, setServers, setUse, sampleServers, sampleQueue, sample, turn, idle, start, Each, true, false, Block, terminate}
 use Rattle.machine.proofs.{decoding.Proper.servers, runs.Kept.Closed, runs.Kept.turn-kept, runs.Kept.start-kept}
 
 -- ---- Definition
@@ -15,7 +15,8 @@ capacityOf v = v .capacity
 abbrev pub allCapacities : BlockModel → List ℕ
 allCapacities m = replicate (m .facilities) 1 ++ m .capacities
 
-pub record Shaped (m : BlockModel) (w : View) (ql wel : List (List Transaction)) (gatherers : List (List Gatherer)) (samples : List (List ℕ)) : Type 0 where
+pub record Shaped (m : BlockModel) (w : View) (ql wel : List (List Transaction)) (gatherers : List (List Gatherer))
+    (samples : List (List ℕ)) : Type 0 where
   pub ql-length : length ql ≡ servers m
   pub wel-length : length wel ≡ servers m * 6
   -- one list for each block
@@ -66,11 +67,12 @@ wel-below v code n low high = omega (arith, code-below code)
 
 -- ---- Statistics change neither capacity nor use
 
-sampled-capacities : (ticks : ℕ) (l : List Server) (ql : List (List Transaction)) → map capacityOf (sampleServers ticks l ql) ≡ map capacityOf l
+sampled-capacities : (ticks : ℕ) (l : List Server) (ql : List (List Transaction))
+    → map capacityOf (sampleServers ticks l ql) ≡ map capacityOf l
 unfolding sampleServers
 sampled-capacities ticks [] ql = refl
 sampled-capacities ticks (v ∷ l) [] = refl
-sampled-capacities ticks (v ∷ l) (q ∷ ql) = cc (sampled-capacities ticks l ql)
+sampled-capacities ticks (v ∷ l) (q ∷ ql) = ap {B = List ℕ} (λ r. v .capacity ∷ r) (sampled-capacities ticks l ql)
 
 sampled-within : (ticks : ℕ) (l : List Server) (ql : List (List Transaction)) → Each Within l → Each Within (sampleServers ticks l ql)
 unfolding sampleServers
@@ -93,50 +95,57 @@ idle-facilities (suc n) = (omega arith, idle-facilities n)
 map-idle : (l : List ℕ) → map capacityOf (map idleServer l) ≡ l
 unfolding idleServer
 map-idle [] = refl
-map-idle (c ∷ l) = cc (map-idle l)
+map-idle (c ∷ l) = ap {B = List ℕ} (λ r. c ∷ r) (map-idle l)
 
 idle-capacities : (n : ℕ) (l : List ℕ) → map capacityOf (replicate n (idleServer 1) ++ map idleServer l) ≡ replicate n 1 ++ l
 unfolding idleServer
 idle-capacities zero l = map-idle l
-idle-capacities (suc n) l = cc (idle-capacities n l)
+idle-capacities (suc n) l = ap {B = List ℕ} (λ r. 1 ∷ r) (idle-capacities n l)
 
 -- ---- What follows
 
-module _ {m : BlockModel} {w : View} {ql wel : List (List Transaction)} {gatherers : List (List Gatherer)} {samples : List (List ℕ)} (h : Shaped m w ql wel gatherers samples) where
+module _ {m : BlockModel} {w : View} {ql wel : List (List Transaction)} {gatherers : List (List Gatherer)} {samples : List (List ℕ)}
+    (h : Shaped m w ql wel gatherers samples) where
   pub server-length : length (w .servers) ≡ servers m
   server-length =
-      sym (length-map (w .servers) capacityOf) ∙ ap length (h .capacities) ∙ length-append (replicate (m .facilities) 1) _
-      ∙ ap (λ n. n + length (m .capacities)) (length-replicate _ 1)
+      sym (length-map (w .servers) capacityOf) ∙ ap length (h .capacities) ∙ length-append (replicate (m .facilities) 1) (m .capacities)
+      ∙ ap (λ n. n + length (m .capacities)) (length-replicate (m .facilities) 1)
 
   -- of any server, also of one that does not exist
   pub server-within : (v : ℕ) → serverAt w v .inUse ≤ serverAt w v .capacity
   unfolding serverAt idleServer
-  server-within v = each-getD Within (w .servers) _ _ (h .within) (omega arith)
+  server-within v = each-getD Within (w .servers) (v - 1) (idleServer 0) (h .within) (omega arith)
 
   capacity-at : (v : ℕ) → serverAt w v .capacity ≡ nth (allCapacities m) v 0
   unfolding serverAt idleServer
-  capacity-at v = cc (List·getD-map capacityOf (w .servers) (v - 1) (idleServer 0), h .capacities)
+  capacity-at v = sym (List·getD-map capacityOf (w .servers) (v - 1) (idleServer 0)) ∙ ap (λ l. nth l v 0) (h .capacities)
 
   pub facility-capacity : (v : ℕ) → 1 ≤ v → v ≤ m .facilities → serverAt w v .capacity ≡ 1
   facility-capacity v low high =
-      capacity-at v ∙ List·getD-append (replicate (m .facilities) 1) _ 0 _ (simp length-replicate (omega arith))
-      ∙ getD-replicate (m .facilities) _ 1 0 (omega arith)
+      capacity-at v ∙ List·getD-append (replicate (m .facilities) 1) (m .capacities) 0 (v - 1) (simp length-replicate (omega arith))
+      ∙ getD-replicate (m .facilities) (v - 1) 1 0 (omega arith)
 
   pub ql-at : (v : ℕ) → 1 ≤ v → v ≤ servers m → v - 1 < length ql
-  ql-at v low high = omega arith
+  ql-at v low high = omega (arith, h .ql-length)
 
   pub wel-at : (v : ℕ) (code : Code) → 1 ≤ v → v ≤ servers m → welIndex v code < length wel
-  wel-at v code low high = omega (arith, wel-below v code (servers m) low high)
+  wel-at v code low high = omega (arith, h .wel-length, wel-below v code (servers m) low high)
+
+  no-last : {n : ℕ} → terminate 0 ≡ assemble n → ⊥
+  unfolding facts
+  no-last e = true≢false (ap (λ (b : Block). facts b .leaves) e)
 
   -- an ASSEMBLE has a list
   pub gatherers-at : (b n : ℕ) → blockAt m b ≡ assemble n → b - 1 < length gatherers
-  gatherers-at b n e =
-      cases (ltb (b - 1) (length (m .blocks)))
-      (λ q. omega (arith, ltb-true (b - 1) (length (m .blocks)) q))
-      (λ q. absurd (unfold facts in true≢false (cc (sym (getD-past (m .blocks) _ _ (ltb-false _ _ q)) ∙ e))))
+  gatherers-at b n e = go (ltb (b - 1) (length (m .blocks))) refl
+    where
+      go : (x : Bool) → ltb (b - 1) (length (m .blocks)) ≡ x → b - 1 < length gatherers
+      go true q = omega (arith, h .gatherer-length, ltb-true (b - 1) (length (m .blocks)) q)
+      go false q =
+          absurd (no-last (sym (getD-past (m .blocks) (b - 1) (terminate 0) (ltb-false (b - 1) (length (m .blocks)) q)) ∙ e))
 
   pub samples-at : (list : ℕ) → 1 ≤ list → list ≤ m .lists → list - 1 < length samples
-  samples-at list low high = omega arith
+  samples-at list low high = omega (arith, h .sample-lists)
 
   -- ---- Kept by changes of the fixtures
 
@@ -177,8 +186,8 @@ module _ {m : BlockModel} {w : View} {ql wel : List (List Transaction)} {gathere
         sample-lists = h .sample-lists;
         entry-length = h .entry-length;
         queue-length = h .queue-length;
-        capacities = map-set-same capacityOf (w .servers) _ _ _ refl ∙ h .capacities;
-        within = each-set Within (w .servers) _ _ (h .within) le;
+        capacities = map-set-same capacityOf (w .servers) (v - 1) _ (idleServer 0) refl ∙ h .capacities;
+        within = each-set Within (w .servers) (v - 1) _ (h .within) le;
       }
 
   pub shape-ql : (i : ℕ) (l : List Transaction) → Shaped m w (set ql i l) wel gatherers samples
@@ -233,7 +242,10 @@ module _ {m : BlockModel} {w : View} {ql wel : List (List Transaction)} {gathere
         within = h .within;
       }
 
-  pub shape-clock : (time ticks : ℕ) → Shaped m (setClock time (setQueues (map (sampleQueue ticks) (w .queues)) (setServers (sampleServers ticks (w .servers) ql) w))) ql wel gatherers samples
+  pub shape-clock : (time ticks : ℕ)
+      → Shaped m
+      (setClock time
+      (setQueues (map (sampleQueue ticks) (w .queues)) (setServers (sampleServers ticks (w .servers) ql) w))) ql wel gatherers samples
   shape-clock time ticks =
       record {
         ql-length = h .ql-length;
@@ -241,9 +253,9 @@ module _ {m : BlockModel} {w : View} {ql wel : List (List Transaction)} {gathere
         gatherer-length = h .gatherer-length;
         sample-lists = h .sample-lists;
         entry-length = h .entry-length;
-        queue-length = length-map (w .queues) _ ∙ h .queue-length;
-        capacities = sampled-capacities ticks _ ql ∙ h .capacities;
-        within = sampled-within ticks _ ql (h .within);
+        queue-length = length-map (w .queues) (sampleQueue ticks) ∙ h .queue-length;
+        capacities = sampled-capacities ticks (w .servers) ql ∙ h .capacities;
+        within = sampled-within ticks (w .servers) ql (h .within);
       }
 
 -- ---- Kept by every turn
@@ -275,7 +287,7 @@ module _ (m : BlockModel) where
       }
 
   pub shape-turn : (s : State) → Shape m s → Shape m (turn m s)
-  shape-turn s h = turn-kept _ _ shape-closed shape-closed m s (λ s′ h. h) h
+  shape-turn s h = turn-kept (Shape m) (Shape m) shape-closed shape-closed m s (λ s′ h. h) h
 
   -- ---- The whole run
 
@@ -289,9 +301,11 @@ module _ (m : BlockModel) where
         sample-lists = e;
         entry-length = length-replicate _ _;
         queue-length = length-replicate _ _;
-        capacities = idle-capacities (m .facilities) _;
-        within = each-append Within (replicate (m .facilities) _) _ (idle-facilities (m .facilities)) (idle-storages (m .capacities));
+        capacities = idle-capacities (m .facilities) (m .capacities);
+        within =
+            each-append Within (replicate (m .facilities) (idleServer 1)) _ (idle-facilities (m .facilities))
+            (idle-storages (m .capacities));
       }
 
   pub shape-start : (tape : List (List ℕ)) → length tape ≡ m .lists → Shape m (start m tape)
-  shape-start tape e = start-kept _ shape-closed m tape (shape-idle tape e)
+  shape-start tape e = start-kept (Shape m) shape-closed m tape (shape-idle tape e)
