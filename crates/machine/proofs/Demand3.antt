@@ -6,8 +6,8 @@
 -- of the run that gives the outcome, and the run keeps to its bounds.
 use Rattle.machine.specs.All.{ℕ, _≡_, List, reverse, serverAt, BlockModel, State, Rules, accept, validate, states, InOrder, Keeps, Demand3, Proved}
 use Rattle.machine.proofs as our
-use our.{decoding.Proper.Proper, decoding.ProperFrom.proper-from, runs.Bounds.bounded, order.InOrder.in-order}
-use our.runs.RunLaws.{each-map, each-pair, each-under, last}
+use our.{decoding.Proper.Proper, decoding.ProperFrom.proper-from, runs.Bounds.bounded, order.InOrder.in-order, runs.RunLaws.last}
+use our.basic.Each.{each-map, each-pair, each-under}
 use our.conservation.Conservation.{Conserved, conserved}
 use our.nobody_able.NobodyAble.{Waited, waited, able-none}
 use our.later.Holders.{Holding, holding, taken-from}

@@ -1,3 +1,4 @@
+pub mod basic
 pub mod lists
 pub mod decoding
 pub mod runs

@@ -3,7 +3,7 @@
 use Rattle.machine.specs.All.{ℕ, zero, suc, _+_, _*_, _-_, _≤_, _<_, _≡_, refl, ap, _∙_, true, Bool, false, cond, not, _&&_, List, [], _∷_, Option, none, some, arith, eqb, leb, length, take, drop, length-set, Transaction, Event, Gatherer, precedes, earlier, newborn, Interrupted, insert, those, replaceFirst, flat, serverAt, Code, Share, facility, shareServer, shareUnits, Block, generate, advance, terminate, takes, frees, waitServer, waitTerms, moves, assign, priority, split, counts, assemble, preempt, giveBack, facts, BlockModel, blockAt, welIndex, State, Logged, withSerial, withPriority, withReturning, withStamp, withNext, setSerial, setMoving, setEnded, recordOf, log, enters, moveTo, fresh, toRel, toFel, qlOf, welOf, lineUp, toQl, toWel, toWsl, mustWait, Parted, wakeQl, wakeFirstWel, wakeWsl, setUse, setContent, useTime, arrival, copies, gatherersAt, inFamily, waitsFor, toGatherers, comes, released, losersTo, interruptedAt, interrupt, resume, setHolder, askAdvance, question, takeUnits, partFor, wakeFor, checkWels, endsOne, delay, effect, freeUnits, arriveAll, due, moveClock, nextEvents, takeFirst, takeReady, taking, answer, execute, waitsOn, wsScheme, turn, startAt, idle, start, upTo, terminates, free, timesLeft, ofFacility, losesTo}
 use Rattle.machine.proofs as our
 use our.decoding.Proper.{Proper, ProperBlock, Names, servers, code-server, share-server}
-use our.{runs.RunLaws.cond-cases, runs.Kept.taking-kept}
+use our.{basic.Bools.cond-cases, runs.Kept.taking-kept, basic.Taking.nextEvents-moving}
 use our.lists.Cases.{checkWels-kept, waitServer-cases, waitTerms-cases, assemble-cases, wsScheme-cases, startOf-cases, preempt-cases, giveBack-cases}
 use our.runs.Shape.{Shape, shape-closed, ql-at, wel-at, wel-below, gatherers-at}
 use our.lists.Sums.{sumOn, sum-insert, sum-those, sum-replace, sum-first, sum-flat-set, sum-flat-none, sum-wake}
@@ -205,16 +205,6 @@ module _ (m : BlockModel) (tape : List (List ℕ)) (f : ℕ → ℕ) where
   weighs-nextEvents x (e ∷ l) s w =
       weighs-arriveAll x (those (due (e .time)) (s .fel)) _ (omega (arith, sum-those (λ e. by (e .who)) (due (e .time)) (s .fel)))
 
-  moving-arriveAll : (l : List Event) (s : State) → arriveAll l s .moving ≡ s .moving
-  unfolding arriveAll toRel
-  moving-arriveAll [] s = refl
-  moving-arriveAll (e ∷ l) s = moving-arriveAll l _
-
-  moving-nextEvents : (l : List Event) (s : State) → nextEvents l s .moving ≡ s .moving
-  unfolding nextEvents moveClock
-  moving-nextEvents [] s = refl
-  moving-nextEvents (e ∷ l) s = moving-arriveAll (those (due (e .time)) (s .fel)) _
-
   balanced-takeFirst : (l : List Transaction) (s : State) → s .rel ≡ l → s .moving ≡ none → Weighs 0 s → Balanced (takeFirst l s)
   unfolding takeFirst
   balanced-takeFirst [] s e n w = rw n w
@@ -223,7 +213,7 @@ module _ (m : BlockModel) (tape : List (List ℕ)) (f : ℕ → ℕ) where
   balanced-takeReady : (l : List Transaction) (s : State) → s .rel ≡ l → s .moving ≡ none → Weighs 0 s → Balanced (takeReady l s)
   unfolding takeReady
   balanced-takeReady [] s e n w =
-      balanced-takeFirst _ _ refl (moving-nextEvents (s .fel) s ∙ n) (weighs-nextEvents 0 (s .fel) s w)
+      balanced-takeFirst _ _ refl (nextEvents-moving (s .fel) s ∙ n) (weighs-nextEvents 0 (s .fel) s w)
   balanced-takeReady (t ∷ l) s e n w = balanced-takeFirst (t ∷ l) s e n w
 
   pub balanced-taking : (o : Option Transaction) (s : State) → s .moving ≡ o → Balanced s → Balanced (taking o s)

@@ -2,8 +2,7 @@
 -- equals ended plus living, and the machine's counts are these.
 use Rattle.machine.specs.All.{ℕ, _+_, _≤_, _<_, _≡_, refl, ap, _∙_, Bool, true, false, cond, _&&_, List, _++_, map, Option, none, some, arith, leb-true, leb-false, eqb-true, eqb-false, eq-eqb, ne-eqb, eqb, leb, length, length-append, length-map, Transaction, Interrupted, those, flat, BlockModel, State, taking, turn, start, states, placed, movingOne, places, Each, count, bit, upTo, everyone, standing, terminates, madeBy, endedBy, isLiving, livingCount, sym}
 use Rattle.machine.proofs as our
-use our.{decoding.Proper.Proper, runs.Kept.taking-kept, conservation.StartLedger.booked-start}
-use our.runs.RunLaws.{each-state, each-map}
+use our.{decoding.Proper.Proper, runs.Kept.taking-kept, conservation.StartLedger.booked-start, runs.RunLaws.each-state, basic.Each.each-map}
 use our.runs.Shape.{Shape, shape-closed, shape-turn, shape-start}
 use our.lists.Sums.{sumOn, sum-append, sum-map, sum-test, sum-cong, sum-cong-keys, sum-length, sum-count, sum-zero, upTo-ones, upTo-none, upTo-one, each-member}
 use our.conservation.Balance.{listed, held, gone, Balanced, balanced-taking, balanced-turn, balanced-start}

@@ -3,7 +3,7 @@
 use Rattle.machine.specs.All.{ℕ, zero, suc, _+_, _-_, _≤_, _<_, _≡_, refl, ap, _∙_, Bool, true, false, cond, not, _&&_, List, [], _∷_, Option, none, some, arith, eqb-true, eqb-false, ne-eqb, lt-ltb, le-ltb, eqb, ltb, leb, length, drop, length-drop, getD-set-same, getD-set-other, Transaction, Event, Interrupted, nth, setNth, Facts, Share, shareUnits, Block, generate, advance, terminate, takes, frees, waitServer, waitTerms, moves, assign, priority, split, counts, assemble, preempt, giveBack, facts, BlockModel, blockAt, State, Logged, setMoving, setEnded, recordOf, log, enters, moveTo, toRel, toFel, toQl, toWel, toWsl, mustWait, wakeQl, wakeFirstWel, wakeWsl, setUse, setContent, timesLeft, arrival, copies, toGatherers, comes, released, interrupt, resume, askAdvance, question, takeUnits, wakeFor, checkWels, endsOne, delay, effect, arriveAll, moveClock, nextEvents, takeFirst, takeReady, taking, answer, execute, turn, bit, timesOf, factsAt, entered, getsTime, usedBy, madeBy, endedBy, terminates, serverAt, free, facility, shareServer, wsScheme}
 use Rattle.machine.proofs as our
 use our.decoding.Proper.{Proper, ProperBlock, Names}
-use our.{runs.RunLaws.cond-cases, runs.Kept.taking-kept, lists.Sums.count-cons}
+use our.{basic.Bools.cond-cases, runs.Kept.taking-kept, lists.Sums.count-cons}
 use our.lists.Cases.{waitServer-cases, checkWels-kept, waitTerms-cases, assemble-cases, wsScheme-cases, preempt-cases, giveBack-cases}
 use our.runs.Shape.{Shape, shape-closed, samples-at}
 

@@ -1,7 +1,9 @@
 -- Question 7 of document 02, item 7: the groups of an accepted model. A group lies behind the first block, holds server waits of kind 8
 -- and its own kind 17 block alone, and no target leads into it.
 use Rattle.machine.specs.All.{ℕ, zero, suc, _+_, _-_, _≤_, _<_, _≡_, refl, sym, ap, Bool, true, false, cond, not, _&&_, _||_, true≢false, List, [], _∷_, arith, eqb-true, eqb-false, eq-eqb, leb-true, leb-false, le-leb, ltb-true, ltb-false, lt-ltb, T, eqb, leb, ltb, length, getD, maxBack, bit, upTo, isGenerate, Block, generate, advance, terminate, takes, frees, waitServer, waitTerms, moves, assign, priority, split, counts, assemble, preempt, giveBack, facts, BlockModel, blockAt, backAt, beginsGroup, insideGroup, wellPlaced, allOf, joined, targetsMove, wellFormed, sumNames}
-use Rattle.machine.proofs.decoding.Proper.{Names, ProperBlock, Proper}
+use Rattle.machine.proofs as our
+use our.decoding.Proper.{Names, ProperBlock, Proper}
+use our.basic.Lists.{upTo-at}
 
 -- ---- Tests
 
@@ -22,15 +24,6 @@ not-so true h = absurd h
 not-so false h = refl
 
 -- ---- Sums of which one is above 0
-
-upTo-at : (n : ℕ) (f : ℕ → ℕ) (i : ℕ) → 1 ≤ i → i ≤ n → f i ≤ upTo n f
-unfolding upTo
-upTo-at zero f i low high = absurd (omega arith)
-upTo-at (suc n) f i low high = go (leb i n) refl (upTo-at n f i low)
-  where
-    go : (b : Bool) → leb i n ≡ b → (i ≤ n → f i ≤ upTo n f) → f i ≤ upTo n f + f (suc n)
-    go true e h = omega (arith, h (leb-true i n e))
-    go false e h = let same : i ≡ suc n = omega (arith, leb-false i n e) in omega (arith, ap f same)
 
 upTo-some : (n : ℕ) (f : ℕ → ℕ) → 0 < upTo n f → (i : ℕ) × Names n i × (0 < f i)
 unfolding upTo

@@ -1,7 +1,8 @@
 -- What a parser ensures: of whatever it gives, a claim; of whatever it refuses with, that it is a number from 1 to 10. One law for
 -- each way to build a parser.
 use Rattle.machine.specs.All.{ℕ, zero, suc, _≤_, _≡_, refl, Bool, true, false, cond, _&&_, false≢true, List, Option, none, some, arith, leb-true, T, leb, length, Number, Cursor, Parsed, parsed, refused, Parser, continue, _>>=_, give, refuse, ask, times, fieldOf, fieldUpTo, Each, drop, maxNumberBytes, readNumber, forward}
-use Rattle.machine.proofs.runs.RunLaws.{cond-cases}
+use Rattle.machine.proofs.{basic.Bools.cond-cases}
+pub use Rattle.machine.proofs.basic.Bools.{and-true}
 
 -- ---- Definition
 
@@ -61,10 +62,6 @@ asked true n h = gives tt
 asked false n h = refuses n h
 
 -- ---- One number
-
-pub and-true : (a b : Bool) → (a && b) ≡ true → (a ≡ true) × (b ≡ true)
-and-true true b e = (refl, e)
-and-true false b e = absurd (false≢true e)
 
 field-of : (code lo hi : ℕ) → 1 ≤ code → code ≤ 9 → (o : Option Number) (c : Cursor)
     → Gives (λ n. (lo ≤ n) × (n ≤ hi)) (fieldOf code lo hi o c)

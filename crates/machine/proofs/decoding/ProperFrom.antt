@@ -3,9 +3,9 @@ use Rattle.machine.specs.All.{ℕ, zero, suc, _+_, _≤_, _<_, _≡_, re
 use Rattle.machine.specs.Limits as Limits
 use Rattle.machine.proofs as our
 use our.decoding.Proper.{Names, Storage, CodeServer, Units, ProperBlock, Proper}
-use our.runs.RunLaws.{cond-cases, each-map}
+use our.basic.Bools.{cond-cases}
+use our.basic.Each.{each-map, each-getD}
 use our.decoding.ParserLaws.{Refusal, Gives, Ensures, Any, then, gives, refuses, choice, weaken, repeated, asked, in-range}
-use our.runs.Shape.{each-getD}
 
 -- ---- Terms and values: only their refusals matter
 

@@ -2,7 +2,7 @@
 -- model differs in its rules alone.
 use Rattle.machine.specs.All.{ℕ, zero, suc, _≤_, _≡_, refl, subst, Bool, true, false, cond, _&&_, List, Option, none, some, arith, leb-true, le-leb, leb, Rules, document01, Number, padded, within, readNumber, Cursor, Parsed, parsed, refused, Parser, continue, _>>=_, times, forward, fieldOf, fieldUpTo, BlockModel, insideGroup, blockField, modelFields, listField, recordFields, targetsMove, wellFormed, beginning, modelOf, tapeOf, Wider, counting, sym, ap, _∙_, drop, groups, Counts}
 use Rattle.machine.specs.Limits as Limits
-use Rattle.machine.proofs.runs.RunLaws.{cond-cases}
+use Rattle.machine.proofs.basic.Bools.{cond-cases}
 
 -- ---- Definition
 

@@ -2,10 +2,9 @@
 -- everybody's family is the one that the records tell.
 use Rattle.machine.specs.All.{ℕ, zero, suc, _+_, _≤_, _<_, _≡_, refl, sym, ap, _∙_, Bool, true, false, cond, _&&_, List, [], _∷_, Option, none, some, arith, lt-ltb, le-ltb, le-leb, lt-leb, ltb, leb, Transaction, newborn, Event, Interrupted, Gatherer, serverAt, Code, Share, shareServer, shareUnits, shareHolder, Block, generate, advance, terminate, takes, frees, waitServer, waitTerms, moves, assign, priority, split, counts, assemble, preempt, giveBack, facts, BlockModel, blockAt, State, Logged, setTurns, setEnded, setMade, recordOf, log, enters, moveTo, goOn, toRel, toFel, toQl, toWel, toWsl, beginWait, mustWait, wakeQl, wakeFirstWel, wakeWsl, setUse, setContent, arrival, copies, toGatherers, comes, released, losersTo, interruptedAt, interrupt, resume, setHolder, timesLeft, useTime, waitsFor, takeUnits, freeUnits, wakeFor, checkWels, endsOne, delay, effect, taking, answer, execute, wsScheme, turn, idle, startAt, start, Each, bit, everyone, factsAt, entered, getsTime, usedBy, madeBy, familyBy, _-_, facility, withSerial, setMoving, setSerial, fresh, copyOf}
 use Rattle.machine.proofs as our
-use our.runs.RunLaws.{cond-cases, each-map}
+use our.{basic.Bools.cond-cases, basic.Each.each-map, order.Taken.taking-records}
 use our.lists.Cases.{checkWels-kept, waitServer-cases, waitTerms-cases, assemble-cases, wsScheme-cases, startOf-cases, preempt-cases, giveBack-cases, takes-cases}
 use our.conservation.Conservation.{Sound, sound-taking}
-use our.order.Taken.{taking-records}
 use our.runs.Everybody.{Maybe, Everybody, Unmoved, like, everybody-map, everybody-each, toRel-everybody, toFel-everybody, toQl-everybody, toWel-everybody, toWsl-everybody, moveTo-everybody, wakeFor-everybody, wakeFirstWel-everybody, wakeWsl-everybody, delay-everybody, toGatherers-everybody, comes-everybody, released-everybody, waiter-everybody, taking-everybody, idle-everybody, loser-everybody, interrupted-everybody, interrupt-everybody, resume-everybody}
 
 module _ (m : BlockModel) (tape : List (List ℕ)) where

@@ -5,9 +5,9 @@ use lib.Arith.{digits-mod}
 use Rattle.machine.proofs as our
 use our.lists.Chosen.{those-insert, those-one, those-else, those-replaced, upto, upto-none, upto-some}
 use our.decoding.Proper.{ProperBlock, Proper}
-use our.runs.RunLaws.{cond-cases, each-map, each-state}
+use our.{runs.RunLaws.each-state, basic.Bools.cond-cases, order.Taken.taking-records}
+use our.basic.Each.{each-map, each-passes}
 use our.lists.Cases.{checkWels-kept, waitServer-cases, waitTerms-cases, assemble-cases, wsScheme-cases, startOf-cases, preempt-cases, giveBack-cases}
-use our.{lists.Sorted.each-passes, order.Taken.taking-records}
 use our.runs.Shape.{Shape, gatherers-at}
 use our.order.Steps.{Step, passes, begins, back, returns, assembles, step-effect}
 use our.runs.Everybody.{Maybe, Everybody, like, taking-everybody}

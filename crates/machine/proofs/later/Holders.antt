@@ -4,37 +4,22 @@
 use Rattle.machine.specs.All.{ℕ, zero, suc, _+_, _-_, _≤_, _<_, _≡_, refl, sym, ap, _∙_, Bool, true, false, cond, not, _&&_, _||_, List, [], _∷_, _++_, map, Option, none, some, arith, ℕ-discrete, leb-true, le-leb, eqb-true, eqb-false, eq-eqb, ne-eqb, lt-ltb, ltb-true, ltb-false, ltb, leb, eqb, length, getD, replicate, length-map, getD-set-same, getD-set-other, Transaction, Event, Gatherer, Interrupted, precedes, setNth, those, Server, idleServer, serverAt, free, Facts, Share, facility, storage, shareServer, shareUnits, shareFacility, shareHolder, Block, generate, advance, terminate, takes, frees, waitServer, waitTerms, moves, assign, priority, split, counts, assemble, preempt, giveBack, facts, BlockModel, blockAt, State, Logged, withUse, setMoving, withStamp, recordOf, log, enters, moveTo, toRel, toFel, toQl, toWel, toWsl, mustWait, wakeQl, wakeFirstWel, wakeWsl, setUse, setContent, arrival, copies, waitsFor, toGatherers, comes, released, ofFacility, losersTo, interruptedAt, interrupt, resume, setHolder, unless, held, question, takeUnits, wakeFor, checkWels, endsOne, delay, effect, freeUnits, askGathers, askHolder, askGivesBack, sampleServers, sample, arriveAll, moveClock, nextEvents, takeFirst, takeReady, taking, answer, execute, wsScheme, turn, startAt, idle, start, states, Each, bit, upTo, count, factsAt, entered, terminates, madeBy, isLiving, holderBy, Held, takesIt, loserBy, preemptedBy, TakenFrom, setTurns}
 use Rattle.machine.proofs as our
 use our.decoding.Proper.{Proper, ProperShare, ProperBlock, Names, Storage, servers, share-server}
-use our.runs.RunLaws.{cond-cases, each-state, each-map, each-pair}
+use our.{runs.RunLaws.each-state, runs.Clocks.unless-yes, nobody_able.Waiting.serverIn, nobody_able.WaitsKept.sampled-alike, conservation.Ledger.ends-nobody, basic.Lists.upTo-at}
+use our.basic.Bools.{cond-cases, and-three}
+use our.basic.Each.{each-map, each-pair, each-insert, each-those, each-replace}
 use our.lists.Cases.{waitServer-cases, checkWels-kept, waitTerms-cases, wsScheme-cases, startOf-cases, assemble-cases, preempt-cases, giveBack-cases}
 use our.runs.Shape.{Shape, server-length, server-within, facility-capacity}
 use our.lists.Sums.{count-cons, sumOn, sum-count, each-member}
 use our.lists.Chosen.{those-insert, those-one, those-else, those-replaced, upto, upto-none, upto-some, none-numbered}
 use our.order.Losers.{Loses, loser-loses}
-use our.lists.Sorted.{each-insert, each-those, each-replace}
-use our.{runs.Clocks.unless-yes, nobody_able.Waiting.serverIn, nobody_able.WaitsKept.sampled-alike, conservation.Ledger.ends-nobody}
 use our.conservation.Conservation.{Sound, sound-taking, sound-turn, sound-start, mover-lives, interrupted-live}
 
 -- ---- Counts and tests
 
-upTo-part : (n k : ℕ) (f : ℕ → ℕ) → 1 ≤ k → k ≤ n → f k ≤ upTo n f
-unfolding upTo
-upTo-part zero k f low high = absurd (omega arith)
-upTo-part (suc n) k f low high = go (ℕ-discrete k (suc n)) (upTo-part n k f low)
-  where
-    go : Dec (k ≡ suc n) → (k ≤ n → f k ≤ upTo n f) → f k ≤ upTo n f + f (suc n)
-    go (yes e) h = omega (arith, ap f e)
-    go (no d) h = let le : k ≤ n = omega arith in omega (arith, h le)
-
 -- whose count of held facilities is 0 holds none
 pub holds-none : (n k : ℕ) (number : ℕ) (f : ℕ → ℕ) → upTo n (λ k. bit (eqb (f k) number)) ≡ 0 → 1 ≤ k → k ≤ n → f k ≡ number → ⊥
 holds-none n k number f z low high e =
-    omega (arith, upTo-part n k (λ k. bit (eqb (f k) number)) low high, ap bit (eq-eqb (f k) number e))
-
-all-true : (a b c : Bool) → (a && b && c) ≡ true → (a ≡ true) × (b ≡ true) × (c ≡ true)
-all-true true true true e = (refl, refl, refl)
-all-true true true false e = absurd (omega (arith, ap bit e))
-all-true true false c e = absurd (omega (arith, ap bit e))
-all-true false b c e = absurd (omega (arith, ap bit e))
+    omega (arith, upTo-at n (λ k. bit (eqb (f k) number)) k low high, ap bit (eq-eqb (f k) number e))
 
 module _ (m : BlockModel) (tape : List (List ℕ)) where
   abbrev Facility : ℕ → Type 0
@@ -64,7 +49,7 @@ module _ (m : BlockModel) (tape : List (List ℕ)) where
     unfolding isLiving madeBy
     living-more n other h =
         let p : Logged → Bool = λ r. terminates m tape r && eqb (r .entry .transaction) n in
-        let (low, high, clear) = all-true (leb 1 n) (leb n (madeBy m tape l)) (eqb (count p l) 0) h in
+        let (low, high, clear) = and-three (leb 1 n) (leb n (madeBy m tape l)) (eqb (count p l) 0) h in
         rw (
           low,
           le-leb n (madeBy m tape (r ∷ l)) (omega (arith, leb-true n (madeBy m tape l) high)),
@@ -119,7 +104,7 @@ module _ (m : BlockModel) (tape : List (List ℕ)) where
           → Tells v f new (r ∷ l)
       unfolding isLiving
       tells-taken x v old new h one holder preempts enters at ends lives stopped from =
-          let (low, high, clear) = all-true (leb 1 (r .entry .transaction)) (leb (r .entry .transaction) (madeBy m tape l)) _ lives in
+          let (low, high, clear) = and-three (leb 1 (r .entry .transaction)) (leb (r .entry .transaction) (madeBy m tape l)) _ lives in
           let positive : 0 < v .holder = omega (arith, leb-true 1 (r .entry .transaction) low) in
           record {
             held =

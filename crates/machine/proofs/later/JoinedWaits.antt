@@ -4,16 +4,15 @@
 use Rattle.machine.specs.All.{ℕ, zero, suc, _+_, _-_, _≤_, _<_, _≡_, refl, sym, ap, subst, _∙_, Bool, true, false, cond, _&&_, true≢false, List, [], _∷_, map, Option, none, some, arith, eq-eqb, ne-eqb, ltb-true, ltb-false, lt-ltb, eqb, ltb, leb, getD, Transaction, Event, newborn, earlier, Gatherer, Interrupted, others, flat, truth, Code, Share, shareServer, shareUnits, Block, generate, advance, terminate, takes, frees, waitServer, waitTerms, moves, assign, priority, split, counts, assemble, preempt, giveBack, facts, BlockModel, blockAt, backAt, beginsGroup, State, Logged, withNext, withSerial, withReturning, setMoving, setTurns, setSerial, setEnded, recordOf, log, enters, moveTo, fresh, toRel, toFel, toQl, toWel, toWsl, mustWait, wakeQl, wakeFirstWel, wakeWsl, setUse, setContent, arrival, copies, beginWait, toGatherers, comes, released, interrupt, resume, stamped, takeUnits, wakeFor, checkWels, endsOne, delay, effect, sample, arriveAll, moveClock, nextEvents, takeFirst, takeReady, taking, answer, execute, wsScheme, turn, idle, startAt, start, states, movingOne, Each, standing, everyone, lastEntry, WholeGroup, Joined, Stamped, serverAt, free, facility, due}
 use Rattle.machine.proofs as our
 use our.decoding.Proper.{ProperBlock, Proper, Role, generating, taking as taking-role, neither, role, preempting}
-use our.runs.RunLaws.{cond-cases, each-map, each-state}
+use our.{runs.RunLaws.each-state, basic.Bools.cond-cases, runs.Ahead.Rising}
+use our.basic.Each.{each-map, each-insert, each-those, each-replace}
 use our.lists.Cases.{checkWels-kept, waitServer-cases, waitTerms-cases, wsScheme-cases, startOf-cases, assemble-cases, preempt-cases, giveBack-cases}
 use our.lists.Sums.{sumOn, sum-append, sum-map}
-use our.lists.Sorted.{each-insert, each-those, each-replace}
 use our.conservation.Conservation.{Sound, sound-start, sound-taking, sound-turn, stands-at-most-once}
 use our.order.Taken.{has, has-own, standing-sum}
 use our.decoding.Groups.{Wait8, firstOf, back-within, group-waits, apart, begins, begins-none, target-outside}
 use our.runs.Ahead.{Ahead, rising-insert, rising-those, rising-without}
 use our.runs.Everybody.{Maybe, Everybody, Unmoved, like as everybody-like, everybody-map, everybody-each, toRel-everybody, toFel-everybody, toQl-everybody, toWel-everybody, toWsl-everybody, moveTo-everybody, wakeFor-everybody, wakeFirstWel-everybody, wakeWsl-everybody, idle-everybody, toGatherers-everybody, comes-everybody, released-everybody, waiter-everybody, interrupt-everybody}
-use our.runs.Ahead.{Rising}
 
 -- ---- Last entries
 

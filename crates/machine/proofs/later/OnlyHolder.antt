@@ -5,7 +5,7 @@ use Rattle.machine.proofs as our
 use our.decoding.Proper.{Proper, ProperBlock, Names}
 use our.decoding.ProperFrom.{proper-from, rules-from}
 use our.lists.Cases.{checkWels-kept, wsScheme-cases}
-use our.{runs.Kept.taking-kept, lists.Sums.upTo-cong, order.Taken.taking-records, later.OlderTapes.older-runs, later.OlderModels.older-models, runs.RunLaws.cond-cases, later.Holders.Accounts}
+use our.{runs.Kept.taking-kept, lists.Sums.upTo-cong, order.Taken.taking-records, later.OlderTapes.older-runs, later.OlderModels.older-models, basic.Bools.cond-cases, later.Holders.Accounts}
 use our.runs.Shape.{Shape, shape-closed}
 use our.order.Steps.{Step, passes, begins, back, returns, assembles, step-effect}
 use our.decoding.WiderParsing.{withRules, underRules, model-read, own-rules}

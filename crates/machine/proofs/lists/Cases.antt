@@ -2,7 +2,7 @@
 -- scheme, the start. The
 -- other choices of a block, by `cond-cases`, stand in the proof of each claim.
 use Rattle.machine.specs.All.{ℕ, suc, _+_, _-_, _≡_, refl, sym, Bool, true, false, not, _&&_, List, [], _∷_, eqb-true, eqb-false, ltb, eqb, leb, Transaction, Event, Gatherer, Interrupted, Term, Relation, free, serverAt, compare, Code, U, NU, E, NE, F, NF, status, Share, shareServer, shareUnits, shareHolder, facility, Block, waitServer, waitTerms, assemble, preempt, giveBack, facts, BlockModel, State, enters, moveTo, goOn, toQl, toWel, toWsl, beginWait, mustWait, wakeFirstWel, wakeWsl, timesLeft, arrival, waitsFor, toGatherers, comes, released, interruptedAt, losersTo, interrupt, resume, setUse, setHolder, setEnded, checkWel, checkWels, stamped, wakeFor, freeUnits, gathers, givesBack, effect, takeUnits, gathering, waitsOn, wsScheme, startOf, isGenerate}
-use Rattle.machine.proofs.runs.RunLaws.{cond-cases}
+use Rattle.machine.proofs.basic.Bools.{cond-cases}
 
 not-true : (b : Bool) → not b ≡ true → b ≡ false
 not-true true e = sym e

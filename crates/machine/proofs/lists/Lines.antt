@@ -2,9 +2,10 @@
 -- only where it stands depends on the edition. Under edition 1 a line stays in order.
 use Rattle.machine.specs.All.{ℕ, _+_, _-_, _≡_, refl, Bool, List, [], _∷_, _++_, reverse, reverse-cons, arith, eq-eqb, eqb, ltb, leb, Transaction, precedes, insert, anyOf, View, Share, facility, storage, aboveOne, BlockModel, fromBack, lineUp, Parted, firstOf, unitsOf, firstOfOne, fromFront, queueRemove, partFor, Each}
 use Rattle.machine.proofs as our
-use our.runs.RunLaws.{cond-cases}
+use our.basic.Bools.{cond-cases}
+use our.basic.Each.{each-insert, each-those}
 use our.lists.Sums.{sumOn, sum-append, sum-insert, sum-those, sum-first}
-use our.lists.Sorted.{Sorted, each-insert, each-those, sorted-in}
+use our.lists.Sorted.{Sorted, sorted-in}
 
 -- ---- From the back
 

@@ -2,7 +2,8 @@
 -- every or some member of a list is, and how insertion and selection keep it. REL and each QL are sorted by `precedes`.
 -- Of the FEL's order, what it says of move times.
 use Rattle.machine.specs.All.{ℕ, zero, suc, _<_, _≤_, _≡_, refl, sym, Bool, true, false, _&&_, _||_, true≢false, _⊎_, inl, inr, List, [], _∷_, _++_, arith, ltb, eqb, getD, set, drop, ltb-true, ltb-false, lt-ltb, eqb-true, eq-eqb, Transaction, precedes, Event, earlier, insert, those, replaceFirst, Each, _∙_}
-use Rattle.machine.proofs.runs.RunLaws.{cond-cases, each-map}
+use Rattle.machine.proofs.{basic.Bools.cond-cases, basic.Each.each-map}
+pub use Rattle.machine.proofs.basic.Each.{each-insert, each-those, each-replace, each-passes, each-drop}
 
 untrue : (b : Bool) → (b ≡ true → ⊥) → b ≡ false
 untrue true h = absurd (h refl)
@@ -14,39 +15,6 @@ module _ {A : Type 0} where
   abbrev pub Some : (A → Type 0) → List A → Type 0
   Some P [] = ⊥
   Some P (x ∷ l) = P x ⊎ Some P l
-
-  pub each-insert : (P : A → Type 0) (before : A → A → Bool) (x : A) (l : List A) → P x → Each P l → Each P (insert before x l)
-  unfolding insert
-  each-insert P before x [] p h = (p, tt)
-  each-insert P before x (y ∷ l) p h =
-      cond-cases (Each P) (before x y) _ _ (λ e. (p, h)) (λ e. (h .0, each-insert P before x l p (h .1)))
-
-  pub each-those : (P : A → Type 0) (p : A → Bool) (l : List A) → Each P l → Each P (those p l)
-  unfolding those
-  each-those P p [] h = tt
-  each-those P p (x ∷ l) h =
-      cond-cases (Each P) (p x) _ _ (λ e. (h .0, each-those P p l (h .1))) (λ e. each-those P p l (h .1))
-
-  pub each-replace : (P : A → Type 0) (p : A → Bool) (few l : List A) → Each P few → Each P l → Each P (replaceFirst p few l)
-  unfolding replaceFirst
-  each-replace P p few [] k h = tt
-  each-replace P p few (x ∷ l) k h =
-      cond-cases (Each P) (p x) _ _ (λ e. joined few l k (h .1)) (λ e. (h .0, each-replace P p few l k (h .1)))
-    where
-      joined : (a b : List A) → Each P a → Each P b → Each P (a ++ b)
-      joined [] b h k = k
-      joined (x ∷ a) b h k = (h .0, joined a b (h .1) k)
-
-  -- each of those that pass a test passes it
-  pub each-passes : (p : A → Bool) (l : List A) → Each (λ x. p x ≡ true) (those p l)
-  unfolding those
-  each-passes p [] = tt
-  each-passes p (x ∷ l) =
-      cond-cases (Each (λ y. p y ≡ true)) (p x) _ _ (λ e. (e, each-passes p l)) (λ e. each-passes p l)
-
-  pub each-drop : (P : A → Type 0) (l : List A) → Each P l → Each P (drop 1 l)
-  each-drop P [] h = tt
-  each-drop P (x ∷ l) h = h .1
 
   pub some-insert : (P : A → Type 0) (before : A → A → Bool) (x : A) (l : List A) → Some P l → Some P (insert before x l)
   unfolding insert

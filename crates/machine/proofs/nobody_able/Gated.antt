@@ -2,8 +2,8 @@
 -- of REL. A passing WAITIF wakes the next, so that a chain of returners empties a WEL whose code is not true.
 use Rattle.machine.specs.All.{ℕ, zero, suc, _*_, _-_, _≤_, _<_, _≡_, refl, _∙_, true, List, [], _∷_, arith, ℕ-discrete, length, getD, set, take, drop, length-set, getD-set-same, getD-set-other, Transaction, precedes, setNth, Server, serverAt, Code, U, NU, E, NE, F, NF, status, codeIndex, BlockModel, blockAt, welIndex, facts, State, welOf, lineUp, wake, wakeFirstWel, checkWel, checkWels, Each, sym, ap, idleServer, withReturning}
 use Rattle.machine.proofs as our
-use our.{decoding.Proper.servers, lists.Cases.checkWel-cases}
-use our.lists.Sorted.{Sorted, each-drop, some-inserted, at-set, sorted-drop}
+use our.{decoding.Proper.servers, lists.Cases.checkWel-cases, basic.Each.each-drop}
+use our.lists.Sorted.{Sorted, some-inserted, at-set, sorted-drop}
 use our.lists.Lines.{each-lineUp, sorted-lineUp}
 use our.nobody_able.Waiting.{AtWel, serverIn, WelWaits, codeTrue, nobodyWaits, oneReady, Gated}
 use our.nobody_able.Ready.{Grows, grows-wake, wel-more, wel-else}

@@ -3,8 +3,7 @@
 use Rattle.machine.specs.All.{ℕ, _≤_, _≡_, refl, ap, ap₂, subst, Bool, false, not, true≢false, List, [], _∷_, none, arith, length, those, serverAt, Code, U, NU, E, NE, F, NF, status, BlockModel, welIndex, State, qlOf, welOf, fits, waitsOn, states, count, Each, ableOnQl, ableOnWel, ableOnWels, ableToGo, sym, _∙_}
 use Rattle.machine.proofs as our
 use our.decoding.Proper.{Proper, servers}
-use our.runs.RunLaws.{cond-cases, each-map, each-state}
-use our.lists.Sums.{upTo-zero}
+use our.{runs.RunLaws.each-state, basic.Bools.cond-cases, basic.Each.each-map, lists.Sums.upTo-zero}
 use our.runs.Shape.{Shape, server-length, shape-turn, shape-start}
 use our.nobody_able.Waiting.{serverIn, QlWaits, nobodyFits, nextReady, WelWaits, codeTrue, nobodyWaits, oneReady, WaitsOver, Waits, readyOf, Settled}
 use our.nobody_able.WaitsKept.{waits-kept, waits-start}

@@ -4,8 +4,7 @@
 use Rattle.machine.specs.All.{ℕ, suc, _-_, _≤_, _≡_, refl, sym, ap, _∙_, Bool, true, false, cond, not, List, [], _∷_, arith, eq-eqb, eqb-true, eqb-false, ltb-true, ltb-false, le-leb, lt-leb, eqb, ltb, leb, getD, Transaction, those, anyOf, View, serverAt, free, facility, storage, shareServer, shareUnits, Block, generate, advance, terminate, takes, frees, waitServer, waitTerms, moves, assign, priority, split, counts, assemble, preempt, giveBack, facts, aboveOne, BlockModel, blockAt, Parted, nobody, goes, stays, firstOf, partBy, unitsOf, fits, firstOfOne, fromFront, queueRemove, partFor, Each, others}
 use Rattle.machine.proofs as our
 use our.decoding.Proper.{Proper, ProperBlock, Role, generating, taking, preempting, neither, role}
-use our.runs.RunLaws.{each-map, none-at}
-use our.nobody_able.Waiting.{AtServer}
+use our.{basic.Each.each-map, basic.Lists.none-at, nobody_able.Waiting.AtServer}
 
 -- ---- Definition
 

@@ -2,8 +2,9 @@
 use Rattle.machine.specs.All.{ℕ, _+_, _-_, _≤_, _≡_, refl, sym, _∙_, Bool, false, not, List, [], _∷_, arith, ℕ-discrete, leb, length, take, drop, getD-set-same, getD-set-other, set-getD, leb-false, lt-leb, not-true, Transaction, precedes, others, nth, setNth, Server, free, facility, storage, shareServer, shareUnits, Block, facts, BlockModel, withUse, lineUp, wake, Parted, firstOf, partBy, unitsOf, Each, ap, true, idleServer, blockAt, withReturning}
 use Rattle.machine.proofs as our
 use our.decoding.Proper.{Proper, ProperBlock, servers, Role, generating, taking, preempting, neither, role}
-use our.{runs.RunLaws.each-map, nobody_able.Waiting.Next}
-use our.lists.Sorted.{Sorted, each-passes, some-inserted, at-set, sorted-drop, sorted-those}
+use our.basic.Each.{each-map, each-passes}
+use our.nobody_able.Waiting.{Next}
+use our.lists.Sorted.{Sorted, some-inserted, at-set, sorted-drop, sorted-those}
 use our.lists.Lines.{each-lineUp, sorted-lineUp, Both}
 use our.nobody_able.Waiting.{serverOf, AtServer, serverIn, QlWaits, nobodyFits, nextReady, Queued}
 use our.nobody_able.Ready.{Grows, grows-not, grows-wake, ql-more, ql-else}

@@ -3,9 +3,9 @@
 -- to wait in it was judged by the same view.
 use Rattle.machine.specs.All.{ℕ, zero, suc, _-_, _≡_, refl, sym, ap, _∙_, subst, Bool, true, false, not, List, [], _∷_, map, Option, none, some, not-true, not-false, leb, getD, set, getD-set-other, Transaction, Event, those, others, Server, Queue, idleServer, emptyQueue, Term, Relation, compare, truth, Share, facility, shareServer, shareUnits, Block, generate, advance, terminate, takes, frees, waitServer, waitTerms, moves, assign, priority, split, counts, assemble, preempt, giveBack, facts, BlockModel, blockAt, State, setClock, setView, setTurns, log, enters, moveTo, toRel, toFel, toQl, toWel, toWsl, mustWait, wake, wakeQl, wakeFirstWel, wakeWsl, setUse, setContent, arrival, copies, toGatherers, comes, released, interrupt, resume, takeUnits, wakeFor, checkWels, endsOne, delay, effect, freeUnits, sampleQueue, sample, arriveAll, moveClock, nextEvents, takeFirst, takeReady, taking, answer, execute, holds, waitsOn, wsScheme, turn, start, Each, Thing, theClock, entry, queue, server, Watches, Spares, ap₂, serverAt, free, withSerial, setWsl, setRel, setMoving, question, due}
 use Rattle.machine.proofs as our
-use our.runs.RunLaws.{cond-cases, each-map}
+use our.{basic.Bools.cond-cases, basic.Taking.arriveAll-clock}
+use our.basic.Each.{each-map, each-insert, each-passes}
 use our.lists.Cases.{checkWels-kept, waitServer-cases, waitTerms-cases, assemble-cases, preempt-cases, giveBack-cases, wsScheme-cases}
-use our.lists.Sorted.{each-insert, each-passes}
 use our.nobody_able.WaitsKept.{sampled-alike, wsl-start}
 use our.nobody_able.Named.{Agrees, agrees-same, waits-same}
 
@@ -137,11 +137,6 @@ module _ (S : Thing → Type 0) (s₀ : State) where
       content-sampled (q ∷ l) zero = unfold sampleQueue in refl
       content-sampled (q ∷ l) (suc i) = content-sampled l i
 
-  moveClock-clock : (l : List Event) (s : State) → arriveAll l s .view .clock ≡ s .view .clock
-  unfolding arriveAll toRel
-  moveClock-clock [] s = refl
-  moveClock-clock (e ∷ l) s = moveClock-clock l _
-
   takeFirst-still : (l : List Transaction) (s : State) → (S theClock → s₀ .view .clock ≡ takeFirst l s .view .clock)
       → ((S theClock → s₀ .view .clock ≡ s .view .clock) → Still s) → Still (takeFirst l s)
   unfolding takeFirst
@@ -154,7 +149,7 @@ module _ (S : Thing → Type 0) (s₀ : State) where
   nextEvents-still [] s h same = h
   nextEvents-still (e ∷ l) s h same =
       arriveAll-still (those (due (e .time)) (s .fel)) _
-      (sample-still (e .time) _ s (λ c. same c ∙ moveClock-clock (those (due (e .time)) (s .fel)) _) h)
+      (sample-still (e .time) _ s (λ c. same c ∙ arriveAll-clock (those (due (e .time)) (s .fel)) _) h)
 
   takeReady-still : (l : List Transaction) (s : State) → Still s → (S theClock → s₀ .view .clock ≡ takeReady l s .view .clock)
       → Still (takeReady l s)

@@ -2,7 +2,7 @@
 use Rattle.machine.specs.All.{ℕ, zero, suc, _-_, _≤_, _≡_, refl, ap, _∙_, Bool, true, false, List, [], _∷_, arith, leb, length, getD-set-same, eq-eqb, Transaction, serverAt, free, Code, status, Share, facility, storage, shareServer, shareUnits, Block, generate, advance, terminate, takes, frees, waitServer, waitTerms, moves, assign, priority, split, counts, assemble, preempt, giveBack, facts, BlockModel, blockAt, welIndex, State, withUse, qlOf, log, enters, moveTo, toRel, toFel, toQl, toWel, toWsl, mustWait, wakeQl, wakeFirstWel, setUse, setContent, arrival, copies, toGatherers, comes, released, interrupt, resume, unitsOf, fits, partFor, takeUnits, checkWels, endsOne, delay, effect, freeUnits, wakeFor, sym, take, withSerial, welOf, Parted}
 use Rattle.machine.proofs as our
 use our.decoding.Proper.{Proper, ProperBlock, servers, code-server, share-server, ProperShare, Names}
-use our.{runs.RunLaws.cond-cases, order.Losers.loser-loses, lists.Lines.both-partFor}
+use our.{basic.Bools.cond-cases, order.Losers.loser-loses, lists.Lines.both-partFor}
 use our.lists.Cases.{checkWels-kept, waitServer-cases, waitTerms-cases, assemble-cases, preempt-cases, giveBack-cases}
 use our.runs.Shape.{Shape, server-length, facility-capacity}
 use our.nobody_able.Waiting.{serverOf, AtServer, AtWel, serverIn, Queued, Gated, WaitsOver}

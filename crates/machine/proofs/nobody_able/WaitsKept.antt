@@ -2,10 +2,11 @@
 use Rattle.machine.specs.All.{ℕ, zero, suc, _*_, _-_, _≡_, refl, _∙_, Bool, not, inl, inr, List, [], _∷_, Option, none, some, arith, getD, replicate, not-true, not-false, Transaction, Event, precedes, those, others, Server, Code, U, NU, E, NE, F, NF, status, Block, BlockModel, blockAt, welIndex, State, wake, toRel, toFel, arrival, wakeWsl, effect, sampleServers, sample, arriveAll, moveClock, nextEvents, takeFirst, takeReady, taking, answer, execute, waitsOn, wsScheme, turn, startAt, idle, start, Each, sym, true, idleServer, setTurns, setMoving, due}
 use Rattle.machine.proofs as our
 use our.decoding.Proper.{Proper, servers}
-use our.{runs.RunLaws.each-map, runs.Kept.taking-kept, nobody_able.Waiting.WaitsOver}
+use our.basic.Each.{each-map, each-passes}
+use our.{runs.Kept.taking-kept, nobody_able.Waiting.WaitsOver, basic.Taking.nextEvents-moving}
 use our.lists.Cases.{wsScheme-cases, startOf-cases}
 use our.runs.Shape.{Shape, shape-closed}
-use our.lists.Sorted.{Some, Sorted, each-passes}
+use our.lists.Sorted.{Some, Sorted}
 use our.nobody_able.Waiting.{serverIn, AtServer, AtWel, QlWaits, nobodyFits, nextReady, WelWaits, codeTrue, nobodyWaits, oneReady, Waits, readyOf, Settled}
 use our.nobody_able.Ready.{Grows, grows-wake, waits-more}
 use our.nobody_able.WaitsBlocks.{Walked, toRel-walked, effect-walked}
@@ -55,16 +56,6 @@ abbrev Executed : BlockModel → State → Type 0
 Executed m s = Waits m s × (s .moving ≡ none → s .end ≡ 1 → ⊥)
 
 -- ---- The taking
-
-arriveAll-moving : (l : List Event) (s : State) → arriveAll l s .moving ≡ s .moving
-unfolding arriveAll toRel
-arriveAll-moving [] s = refl
-arriveAll-moving (e ∷ l) s = arriveAll-moving l _
-
-nextEvents-moving : (l : List Event) (s : State) → nextEvents l s .moving ≡ s .moving
-unfolding nextEvents moveClock
-nextEvents-moving [] s = refl
-nextEvents-moving (e ∷ l) s = arriveAll-moving _ _
 
 ready-more : (P : Transaction → Type 0) (o : Option Transaction) (rel : List Transaction) → Some P rel → Some P (readyOf o rel)
 ready-more P none rel h = h

@@ -1,8 +1,7 @@
 -- Claim 4 of demand 3, of every state of a run under edition 1: of two equal waits the one that began later ended only after the other.
 use Rattle.machine.specs.All.{ℕ, _≡_, List, reverse, arith, BlockModel, State, turn, states, setEnd, Each, InOrder}
 use Rattle.machine.proofs as our
-use our.decoding.Proper.{Proper}
-use our.runs.RunLaws.{each-state, each-map}
+use our.{decoding.Proper.Proper, runs.RunLaws.each-state, basic.Each.each-map}
 use our.nobody_able.Waiting.{Waits, Settled}
 use our.nobody_able.WaitsKept.{waits-kept, waits-start}
 use our.conservation.Conservation.{Sound, sound-start, sound-turn, stands-at-most-once}

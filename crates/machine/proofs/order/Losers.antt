@@ -1,6 +1,6 @@
 -- Document 02, item 11: who loses a facility to a PREEMPT had seized it and has a lower priority.
 use Rattle.machine.specs.All.{ℕ, _≤_, _<_, _≡_, refl, sym, Bool, true, false, _&&_, true≢false, List, _∷_, ltb-true, eqb-true, not-true, Transaction, Event, Server, serverAt, State, losesTo, losersTo, not, ltb, eqb}
-use Rattle.machine.proofs.lists.Sorted.{each-passes}
+use Rattle.machine.proofs.basic.Each.{each-passes}
 
 pub record Loses (t : Transaction) (v : Server) (e : Event) : Type 0 where
   pub in-use : 1 ≤ v .inUse

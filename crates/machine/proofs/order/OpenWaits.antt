@@ -1,7 +1,7 @@
 -- The open waits of the records are the waits of those who wait, and serials rise with the beginning of waits.
 use Rattle.machine.specs.All.{ℕ, suc, _+_, _≤_, _<_, _≡_, refl, sym, ap, subst, _∙_, Bool, true, false, cond, not, List, [], _∷_, map, arith, eqb, eq-eqb, Transaction, those, others, flat, facts, BlockModel, blockAt, State, Logged, movingOne, withSerial, recordOf, log, enters, fresh, bit}
 use Rattle.machine.proofs as our
-use our.{runs.RunLaws.cond-cases, lists.SumFacts.sum-agree}
+use our.{basic.Bools.cond-cases, lists.SumFacts.sum-agree}
 use our.order.Records.{opens, without}
 use our.lists.Sums.{sumOn, sum-test}
 use our.order.Weights.{Wait, waitOf, weight, marked, waiting, Quiet}

@@ -1,7 +1,7 @@
 -- Edition 1: the order of waits is kept by every turn.
 use Rattle.machine.specs.All.{ℕ, zero, suc, _+_, _*_, _≤_, _≡_, refl, sym, ap, subst, Bool, true, cond, true≢false, List, [], _∷_, reverse, Option, none, some, arith, length, Transaction, Block, BlockModel, blockAt, State, Logged, setMoving, setTurns, setEnd, withSerial, recordOf, log, enters, toFel, wakeWsl, arrival, fresh, taking, answer, execute, turn, startAt, idle, start, movingOne, InOrder, _∙_, question}
 use Rattle.machine.proofs as our
-use our.{decoding.Proper.Proper, runs.RunLaws.cond-cases, runs.Kept.taking-kept, order.Rivals.ends-in-order}
+use our.{decoding.Proper.Proper, basic.Bools.cond-cases, runs.Kept.taking-kept, order.Rivals.ends-in-order}
 use our.lists.Cases.{wsScheme-cases, startOf-cases}
 use our.runs.Shape.{Shape, shape-closed}
 use our.nobody_able.Waiting.{Waits, Settled}

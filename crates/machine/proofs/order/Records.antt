@@ -1,7 +1,7 @@
 -- Open waits: the records of outcome 1 whose transaction has no later record. One record more keeps the order of waits if
 -- it ends no wait behind an equal one that is open still.
 use Rattle.machine.specs.All.{ℕ, suc, _+_, _≤_, _<_, _≡_, refl, sym, ap, subst, _∙_, _⊎_, inl, inr, Bool, true, false, cond, _&&_, List, [], _∷_, _++_, reverse, reverse-cons, arith, T, ltb, eqb, T-not, eqb→eq, length, getD, drop, length-append, length-drop, List·getD-append, drop-append-le, getD-at, ltb-true, ltb-false, eqb-true, eq-eqb, those, others, BlockModel, facts, blockAt, Logged, noRecord, nextRecord, waitEnd, equalWaits, InOrder, factsAt, preemptNames, not}
-use Rattle.machine.proofs.runs.RunLaws.{cond-cases}
+use Rattle.machine.proofs.basic.Bools.{cond-cases}
 
 -- ---- Members of a list, and pairs in the order of a list
 

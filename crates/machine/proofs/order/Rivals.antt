@@ -3,14 +3,13 @@
 use Rattle.machine.specs.All.{ℕ, zero, suc, _+_, _-_, _≤_, _<_, _≡_, refl, sym, ap, subst, _∙_, _⊎_, inl, inr, Bool, true, false, cond, true≢false, List, [], _∷_, none, arith, eqb, ltb, length, getD, ltb-true, ltb-false, eq-eqb, ne-eqb, Transaction, precedes, flat, View, Block, facts, BlockModel, blockAt, State, unitsOf, holds, waitsOn, Each, bit, preemptNames, ap₂, leb, free, terminate}
 use Rattle.machine.proofs as our
 use our.decoding.Proper.{servers, Role, generating, taking, preempting, neither, role}
-use our.runs.RunLaws.{cond-cases, none-at}
+use our.{basic.Bools.cond-cases, basic.Lists.none-at, order.Steps.GetsIn, order.Records.Key}
 use our.lists.Sorted.{Some, Before, before-precedes}
 use our.nobody_able.Waiting.{serverOf, serverIn, QlWaits, nobodyFits, nextReady, Queued, Gated}
 use our.order.Records.{Member, opens, Rivals, EndsInOrder}
 use our.lists.Sums.{sumOn, sum-zero}
 use our.lists.SumFacts.{sum-some, sum-which}
 use our.order.Weights.{Wait, waitOf, weight, marked, waiting}
-use our.{order.Steps.GetsIn, order.Records.Key}
 use our.order.OpenWaits.{ForUnits, Linked, numbered, Alone, waiting-agree}
 use our.order.OpenPairs.{key, Pair, pair, is, only, only-self, only-equal, member-sum}
 

@@ -3,7 +3,7 @@
 -- weigh together at most as much as the serials given. Every turn keeps it: who comes there has the next serial, or came from there.
 use Rattle.machine.specs.All.{ℕ, zero, suc, _+_, _*_, _-_, _≤_, _<_, _≡_, refl, sym, ap, _∙_, subst, Bool, true, false, not, true≢false, inl, inr, List, [], _∷_, Option, none, some, arith, eqb, leb, ltb, getD, set, take, drop, eq-eqb, leb-true, leb-false, ltb-true, ltb-false, Transaction, Event, Gatherer, precedes, those, flat, Code, Share, shareServer, shareUnits, Block, generate, advance, terminate, takes, frees, waitServer, waitTerms, moves, assign, priority, split, counts, assemble, preempt, giveBack, BlockModel, blockAt, welIndex, State, withPriority, withReturning, withNext, withSerial, setMoving, log, enters, moveTo, fresh, toRel, toFel, qlOf, welOf, lineUp, toQl, toWel, toWsl, mustWait, wakeQl, wakeFirstWel, wakeWsl, setUse, setContent, arrival, copies, toGatherers, comes, released, interrupt, resume, takeUnits, partFor, wakeFor, checkWels, endsOne, delay, effect, arriveAll, moveClock, nextEvents, takeFirst, takeReady, taking, answer, execute, waitsOn, wsScheme, turn, startAt, idle, start, Each, bit, upTo, serverAt, free, facility, setSerial}
 use Rattle.machine.proofs as our
-use our.{decoding.Proper.servers, runs.RunLaws.cond-cases}
+use our.{decoding.Proper.servers, basic.Bools.cond-cases, basic.Taking.nextEvents-moving}
 use our.lists.Cases.{checkWels-kept, waitServer-cases, waitTerms-cases, assemble-cases, preempt-cases, giveBack-cases, wsScheme-cases, startOf-cases}
 use our.lists.Sorted.{Sorted, Before, before-precedes}
 use our.lists.Sums.{sumOn, sum-append, sum-insert, sum-those, sum-first, sum-flat-none, sum-wake, upTo-none, upTo-one}
@@ -118,16 +118,6 @@ module _ (f : ℕ → ℕ) where
 
   -- ---- The taking
 
-  moving-arriveAll : (l : List Event) (s : State) → arriveAll l s .moving ≡ s .moving
-  unfolding arriveAll toRel
-  moving-arriveAll [] s = refl
-  moving-arriveAll (e ∷ l) s = moving-arriveAll l _
-
-  moving-nextEvents : (l : List Event) (s : State) → nextEvents l s .moving ≡ s .moving
-  unfolding nextEvents moveClock
-  moving-nextEvents [] s = refl
-  moving-nextEvents (e ∷ l) s = moving-arriveAll _ _
-
   apart-takeFirst : (l : List Transaction) (s : State) → s .rel ≡ l → s .moving ≡ none → Within 0 s → Apart (takeFirst l s)
   unfolding takeFirst
   apart-takeFirst [] s e n w = rw n w
@@ -135,7 +125,7 @@ module _ (f : ℕ → ℕ) where
 
   apart-takeReady : (l : List Transaction) (s : State) → s .rel ≡ l → s .moving ≡ none → Within 0 s → Apart (takeReady l s)
   unfolding takeReady
-  apart-takeReady [] s e n w = apart-takeFirst _ _ refl (moving-nextEvents (s .fel) s ∙ n) (within-nextEvents 0 (s .fel) s w)
+  apart-takeReady [] s e n w = apart-takeFirst _ _ refl (nextEvents-moving (s .fel) s ∙ n) (within-nextEvents 0 (s .fel) s w)
   apart-takeReady (t ∷ l) s e n w = apart-takeFirst (t ∷ l) s e n w
 
   apart-taking : (o : Option Transaction) (s : State) → s .moving ≡ o → Apart s → Apart (taking o s)

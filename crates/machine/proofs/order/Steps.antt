@@ -3,7 +3,7 @@
 use Rattle.machine.specs.All.{ℕ, _+_, _-_, _<_, _≡_, refl, Bool, true, false, List, arith, leb, length, Transaction, precedes, Gatherer, Event, Interrupted, serverAt, free, Code, Share, shareServer, shareUnits, Block, generate, advance, terminate, takes, frees, waitServer, waitTerms, moves, assign, priority, split, counts, assemble, preempt, giveBack, facts, BlockModel, welIndex, State, withSerial, setSerial, setGatherers, setEnded, log, enters, moveTo, fresh, qlOf, welOf, lineUp, toQl, toWel, toWsl, mustWait, setUse, setContent, toGatherers, comes, released, toFel, interrupt, resume, takeUnits, endsOne, effect, facility}
 use Rattle.machine.proofs as our
 use our.decoding.Proper.{ProperBlock, servers}
-use our.{runs.RunLaws.cond-cases, nobody_able.Waiting.serverIn, lists.Lines.sum-lineUp}
+use our.{basic.Bools.cond-cases, nobody_able.Waiting.serverIn, lists.Lines.sum-lineUp}
 use our.lists.Cases.{waitServer-cases, waitTerms-cases, assemble-cases, preempt-cases, giveBack-cases}
 use our.runs.Shape.{Shape, ql-at, wel-at}
 use our.decoding.Proper.{code-server, share-server}

@@ -2,7 +2,7 @@
 -- One with the returning mark is the first of REL.
 use Rattle.machine.specs.All.{ℕ, _+_, _≤_, _≡_, refl, sym, ap, subst, _∙_, true, false, true≢false, List, [], _∷_, map, Option, none, some, arith, eqb, eqb-true, eq-eqb, Transaction, Event, precedes, flat, those, BlockModel, State, withReturning, withSerial, setMoving, setRel, fresh, toRel, arriveAll, due, moveClock, nextEvents, takeFirst, takeReady, taking, movingOne, Each, bit, everyone, standing, Bool, cond}
 use Rattle.machine.proofs as our
-use our.{lists.Sorted.each-insert, order.Rivals.Standing, runs.Shape.Shape}
+use our.{basic.Each.each-insert, order.Rivals.Standing, runs.Shape.Shape, basic.Taking.nextEvents-moving}
 use our.lists.Sums.{sumOn, sum-append, sum-insert, sum-those, sum-map, sum-count, sum-le}
 use our.order.Weights.{weight, marked, waiting, Unmarked, Quiet, quiet-nextEvents}
 use our.order.OpenWaits.{Linked, LinkedIn, numbered, Alone, linked-as, linked-quiet}
@@ -90,16 +90,6 @@ fresh-nextEvents : (l : List Event) (s : State) → Each (λ t. t .returning ≡
 unfolding nextEvents moveClock
 fresh-nextEvents [] s h = h
 fresh-nextEvents (e ∷ l) s h = fresh-arriveAll _ _ h
-
-moving-arriveAll : (l : List Event) (s : State) → arriveAll l s .moving ≡ s .moving
-unfolding arriveAll toRel
-moving-arriveAll [] s = refl
-moving-arriveAll (e ∷ l) s = moving-arriveAll l _
-
-moving-nextEvents : (l : List Event) (s : State) → nextEvents l s .moving ≡ s .moving
-unfolding nextEvents moveClock
-moving-nextEvents [] s = refl
-moving-nextEvents (e ∷ l) s = moving-arriveAll (those (due (e .time)) (s .fel)) _
 
 -- ---- The taking
 
@@ -204,7 +194,7 @@ module _ (m : BlockModel) where
     handed-rel [] r e = go (nextEvents (s .fel) s .rel) refl
       where
         go : (l : List Transaction) → nextEvents (s .fel) s .rel ≡ l → Handed (takeFirst l (nextEvents (s .fel) s))
-        go [] q = nobody (moving-nextEvents (s .fel) s ∙ e) (linked-quiet (quiet-nextEvents (s .fel) s) (moving-nextEvents (s .fel) s) h)
+        go [] q = nobody (nextEvents-moving (s .fel) s ∙ e) (linked-quiet (quiet-nextEvents (s .fel) s) (nextEvents-moving (s .fel) s) h)
         go (t ∷ l) q = hand t (from-fel s once h t l e r q)
     handed-rel (t ∷ l) r e = hand t (from-rel s once h t l e r shape w z settled)
 

@@ -1,8 +1,9 @@
 -- The FEL lies ahead: no move time is behind the clock, and times never fall along the FEL. So the clock never falls.
 use Rattle.machine.specs.All.{_≤_, Bool, List, [], _∷_, arith, Event, earlier, insert, those, replaceFirst, State, Each}
 use Rattle.machine.proofs as our
-use our.runs.RunLaws.{cond-cases, each-map}
-use our.lists.Sorted.{each-insert, each-those, each-replace, earlier-time, later-time}
+use our.basic.Bools.{cond-cases}
+use our.basic.Each.{each-map, each-insert, each-those, each-replace}
+use our.lists.Sorted.{earlier-time, later-time}
 
 abbrev pub Rising : List Event → Type 0
 Rising [] = Unit {0}

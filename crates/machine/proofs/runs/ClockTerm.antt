@@ -2,7 +2,7 @@
 use Rattle.machine.specs.All.{ℕ, _≤_, _<_, _%_, _≡_, ap, _∙_, List, arith, lt-ltb, Rules, document01, View, signed, low32, wrap, clockTerm, term, BlockModel, State, states, Each, ReadsClock, KeepsClockTerm, taking}
 use lib.IntN.{ℤ, pos}
 use Rattle.machine.proofs as our
-use our.{decoding.Proper.Proper, runs.RunLaws.each-map}
+use our.{decoding.Proper.Proper, basic.Each.each-map}
 use our.decoding.ProperFrom.{proper-from, rules-from}
 use our.runs.Clocks.{Timely, taking-timely, timely}
 

@@ -1,10 +1,9 @@
 -- The clock and every move time stay within the clock limit, and no serial on the FEL is above the last one given.
 use Rattle.machine.specs.All.{ℕ, zero, suc, _+_, _≤_, _≡_, refl, subst, Bool, true, false, _&&_, List, [], _∷_, Option, none, some, arith, leb-true, leb, eqb, getD, getD-drop, maxLiving, Transaction, Event, earlier, Interrupted, insert, nth, serverAt, Code, Share, shareServer, shareUnits, Block, generate, advance, terminate, takes, frees, waitServer, waitTerms, moves, assign, priority, split, counts, assemble, preempt, giveBack, BlockModel, blockAt, State, setMoving, log, enters, moveTo, toRel, toFel, toQl, toWel, toWsl, mustWait, wakeQl, wakeFirstWel, wakeWsl, setUse, setContent, arrival, copies, toGatherers, comes, released, interruptedAt, interrupt, resume, unless, living, askTime, askGenerate, askAdvance, question, takeUnits, wakeFor, checkWels, endsOne, delay, effect, askGivesBack, askResume, arriveAll, moveClock, nextEvents, takeFirst, takeReady, taking, answer, execute, turn, idle, startAt, start, states, Each, _-_, free, facility, timesLeft, wsScheme}
 use Rattle.machine.proofs as our
-use our.decoding.Proper.{Proper}
-use our.runs.RunLaws.{each-map, cond-cases, each-state}
+use our.{decoding.Proper.Proper, runs.RunLaws.each-state, basic.Bools.cond-cases, lists.Sorted.at-set}
+use our.basic.Each.{each-map, each-insert, each-those, each-replace}
 use our.lists.Cases.{checkWels-kept, waitServer-cases, waitTerms-cases, wsScheme-cases, startOf-cases, assemble-cases, preempt-cases, giveBack-cases}
-use our.lists.Sorted.{each-insert, each-those, at-set, each-replace}
 
 -- ---- Definition
 

@@ -1,11 +1,11 @@
 -- A claim about every transaction of a state: what the single moves of transactions keep, a turn and the start keep.
 use Rattle.machine.specs.All.{ℕ, zero, suc, _+_, _*_, _-_, _≡_, refl, subst, Bool, true, false, List, [], _∷_, _++_, map, Option, none, some, length, set, take, replicate, Transaction, Event, Gatherer, Interrupted, precedes, earlier, newborn, flat, Code, Share, BlockModel, State, withNext, withSerial, withReturning, withStamp, setEnded, setGatherers, gatherersAt, waitsFor, toGatherers, comes, released, interruptedAt, losersTo, interrupt, ofFacility, resume, beginWait, log, enters, moveTo, toRel, toFel, toQl, toWel, toWsl, mustWait, wake, wakeQl, wakeFirstWel, wakeWsl, setUse, setContent, arrival, copyOf, copies, qlOf, welOf, wakeFor, checkWels, endsOne, delay, arriveAll, moveClock, nextEvents, takeFirst, takeReady, taking, wsScheme, idle, movingOne, Each, everyone, shareServer, welIndex, setSerial, inFamily, losesTo, fresh, due}
 use Rattle.machine.proofs as our
-use our.runs.RunLaws.{cond-cases}
+use our.basic.Bools.{cond-cases}
+use our.basic.Each.{each-set, each-getD, each-insert, each-those, each-drop, each-replace}
 use our.lists.Cases.{checkWels-kept, wsScheme-cases}
-use our.runs.Shape.{each-set, each-getD}
-use our.lists.Sorted.{each-insert, each-those, each-drop, each-replace}
 use our.lists.Lines.{each-lineUp, both-partFor}
+use our.basic.Each.{each-append, each-flat, each-replicate, each-take, each-mapped}
 
 -- ---- Definition
 
@@ -29,14 +29,6 @@ pub record Unmoved (P : Transaction → Type 0) : Type 0 where
   pub serial : (n : ℕ) (t : Transaction) → P t → P (withSerial n t)
 
 -- ---- Lists
-
-each-take : {A : Type 0} (P : A → Type 0) (l : List A) → Each P l → Each P (take 1 l)
-each-take P [] h = tt
-each-take P (x ∷ l) h = (h .0, tt)
-
-each-replicate : {A : Type 0} (P : A → Type 0) (n : ℕ) (a : A) → P a → Each P (replicate n a)
-each-replicate P zero a p = tt
-each-replicate P (suc n) a p = (p, each-replicate P n a p)
 
 module _ (P : Transaction → Type 0) (U : Unmoved P) where
   each-wake : (l rel : List Transaction) → Each P l → Each P rel → Each P (wake l rel)
@@ -428,29 +420,7 @@ module _ (P : Transaction → Type 0) (U : Unmoved P) where
 
 -- ---- Everybody as one list
 
-module _ {A : Type 0} (P : A → Type 0) where
-  each-both : (l k : List A) → Each P l → Each P k → Each P (l ++ k)
-  each-both [] k h g = g
-  each-both (x ∷ l) k h g = (h .0, each-both l k (h .1) g)
-
-  each-flat : (ls : List (List A)) → Each (Each P) ls → Each P (flat ls)
-  unfolding flat
-  each-flat [] h = tt
-  each-flat (l ∷ ls) h = each-both l (flat ls) (h .0) (each-flat ls (h .1))
-
 module _ (P : Transaction → Type 0) where
-  each-who : (l : List Event) → Each (λ (e : Event). P (e .who)) l → Each P (map (λ e. e .who) l)
-  each-who [] h = tt
-  each-who (e ∷ l) h = (h .0, each-who l (h .1))
-
-  each-gatherer : (l : List Gatherer) → Each (λ (g : Gatherer). P (g .who)) l → Each P (map (λ g. g .who) l)
-  each-gatherer [] h = tt
-  each-gatherer (g ∷ l) h = (h .0, each-gatherer l (h .1))
-
-  each-interrupted : (l : List Interrupted) → Each (λ (i : Interrupted). P (i .who)) l → Each P (map (λ i. i .who) l)
-  each-interrupted [] h = tt
-  each-interrupted (i ∷ l) h = (h .0, each-interrupted l (h .1))
-
   each-moving : (o : Option Transaction) → Maybe P o → Each P (movingOne o)
   unfolding movingOne
   each-moving none h = tt
@@ -461,19 +431,20 @@ module _ (P : Transaction → Type 0) where
   everybody-each s h =
       let fel = map (λ (e : Event). e .who) (s .fel) in
       let gatherers = map (λ (g : Gatherer). g .who) (flat (s .gatherers)) in
-      each-both P (flat (s .ql) ++ flat (s .wel) ++ s .wsl ++ s .rel ++ fel ++ movingOne (s .moving) ++ gatherers)
+      each-append P (flat (s .ql) ++ flat (s .wel) ++ s .wsl ++ s .rel ++ fel ++ movingOne (s .moving) ++ gatherers)
       (map (λ (i : Interrupted). i .who) (s .interrupted))
-      (each-both P (flat (s .ql) ++ flat (s .wel) ++ s .wsl ++ s .rel ++ fel ++ movingOne (s .moving)) gatherers
-      (each-both P (flat (s .ql) ++ flat (s .wel) ++ s .wsl ++ s .rel ++ fel) (movingOne (s .moving))
-      (each-both P (flat (s .ql) ++ flat (s .wel) ++ s .wsl ++ s .rel) fel
-      (each-both P (flat (s .ql) ++ flat (s .wel) ++ s .wsl) (s .rel)
-      (each-both P (flat (s .ql) ++ flat (s .wel)) (s .wsl)
-      (each-both P (flat (s .ql)) (flat (s .wel)) (each-flat P (s .ql) (h .ql)) (each-flat P (s .wel) (h .wel))) (h .wsl))
+      (each-append P (flat (s .ql) ++ flat (s .wel) ++ s .wsl ++ s .rel ++ fel ++ movingOne (s .moving)) gatherers
+      (each-append P (flat (s .ql) ++ flat (s .wel) ++ s .wsl ++ s .rel ++ fel) (movingOne (s .moving))
+      (each-append P (flat (s .ql) ++ flat (s .wel) ++ s .wsl ++ s .rel) fel
+      (each-append P (flat (s .ql) ++ flat (s .wel) ++ s .wsl) (s .rel)
+      (each-append P (flat (s .ql) ++ flat (s .wel)) (s .wsl)
+      (each-append P (flat (s .ql)) (flat (s .wel)) (each-flat P (s .ql) (h .ql)) (each-flat P (s .wel) (h .wel))) (h .wsl))
       (h .rel))
-      (each-who (s .fel) (h .fel)))
+      (each-mapped (λ (e : Event). e .who) P (s .fel) (h .fel)))
       (each-moving (s .moving) (h .moving)))
-      (each-gatherer (flat (s .gatherers)) (each-flat (λ (g : Gatherer). P (g .who)) (s .gatherers) (h .gatherers))))
-      (each-interrupted (s .interrupted) (h .interrupted))
+      (each-mapped (λ (g : Gatherer). g .who) P (flat (s .gatherers))
+      (each-flat (λ (g : Gatherer). P (g .who)) (s .gatherers) (h .gatherers))))
+      (each-mapped (λ (i : Interrupted). i .who) P (s .interrupted) (h .interrupted))
 
 -- one claim from two
 pub everybody-map : {P Q R : Transaction → Type 0} → ((t : Transaction) → P t → Q t → R t) → (s : State) → Everybody P s → Everybody Q s

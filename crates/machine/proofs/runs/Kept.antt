@@ -2,7 +2,7 @@
 -- turn and the start keep.
 use Rattle.machine.specs.All.{ℕ, zero, suc, _+_, _≤_, Bool, true, false, not, _&&_, _||_, List, [], _∷_, Option, none, some, arith, leb-true, T, eqb, leb, set, maxLiving, Transaction, Event, Gatherer, Interrupted, Queue, serverAt, free, Code, Share, facility, storage, shareServer, shareUnits, Change, up, down, Block, generate, advance, terminate, takes, frees, waitServer, waitTerms, moves, assign, priority, split, counts, assemble, preempt, giveBack, BlockModel, State, Logged, setClock, setEntries, setQueues, setView, setCounter, setSamples, setQl, setWel, setWsl, setRel, setFel, setGatherers, setInterrupted, setMoving, setSerial, setMade, setEnded, setTurns, setRecords, setWritten, setEnd, log, enters, moveTo, toRel, toFel, toQl, toWel, toWsl, beginWait, mustWait, wakeQl, wakeFirstWel, wakeWsl, setUse, setHolder, setContent, arrival, copies, toGatherers, comes, released, interrupt, resume, unless, living, askGenerate, askAdvance, askContent, askEnds, askHolder, held, askGathers, askResume, askGivesBack, changed, question, takeUnits, wakeFor, checkWels, endsOne, delay, effect, freeUnits, sample, arriveAll, moveClock, nextEvents, takeFirst, takeReady, taking, answer, execute, wsScheme, turn, startAt, idle, start, statedEnd, queueAt, blockAt, timesLeft, waitsFor, interruptedAt}
 use Rattle.machine.proofs as our
-use our.runs.RunLaws.{cond-cases}
+use our.basic.Bools.{cond-cases}
 use our.lists.Cases.{checkWels-kept, waitServer-cases, waitTerms-cases, assemble-cases, preempt-cases, giveBack-cases, wsScheme-cases, startOf-cases}
 
 -- ---- Definition

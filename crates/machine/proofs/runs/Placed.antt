@@ -3,7 +3,7 @@ use Rattle.machine.specs.All.{ℕ, zero, suc, _+_, _-_, _≤_, _<_, _≡
 use Rattle.machine.proofs as our
 use our.decoding.Proper.{Names, ProperBlock, Proper, generates-list}
 use our.decoding.Groups.{and-right, blocks-placed, back-within}
-use our.runs.RunLaws.{cond-cases, each-state}
+use our.{runs.RunLaws.each-state, basic.Bools.cond-cases}
 use our.lists.Cases.{waitServer-cases, waitTerms-cases, assemble-cases, startOf-cases, preempt-cases, giveBack-cases}
 use our.runs.Everybody.{Maybe, Everybody, Unmoved, toRel-everybody, waitQl-everybody, waitWel-everybody, waitWsl-everybody, moveTo-everybody, wakeFor-everybody, wakeFirstWel-everybody, checkWels-everybody, wsScheme-everybody, arrival-everybody, copies-everybody, delay-everybody, enters-everybody, inUse-everybody, content-everybody, endsOne-everybody, ended-everybody, begins-everybody, waiter-everybody, comes-everybody, released-everybody, taking-everybody, idle-everybody, loser-everybody, interrupted-everybody, interrupt-everybody, resume-everybody}
 

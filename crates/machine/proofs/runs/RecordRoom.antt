@@ -1,6 +1,6 @@
 -- "Fewer than 12 bytes left in the trace": 12 are room for any record, under any rules whose clock limit is a number of five groups.
 use Rattle.machine.specs.All.{ℕ, zero, suc, _/_, _^_, _≤_, _<_, arith, _≡_, refl, Bool, true, false, leb-true, leb, eqb, length, length-append, maxTransaction, maxBlocks, recordRoom, fiveGroups, Rules, upper, numberBytes, Record, recordBytes, inRanges, pow-suc, _&&_}
-use Rattle.machine.proofs.decoding.ParserLaws.{and-true}
+use Rattle.machine.proofs.basic.Bools.{and-true}
 
 -- a number below 128 ^ j has at most j groups above the last
 upper-most : (k j v : ℕ) → v < 128 ^ j → length (upper k v) ≤ j

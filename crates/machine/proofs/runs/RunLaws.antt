@@ -1,51 +1,20 @@
 -- The run, step by step: what holds at the start and is kept by every turn that is taken and by the end before a turn holds in
 -- each state of the run; the last of the states is the run's; every other one has no end.
 use Rattle.machine.specs.All.{ℕ, zero, suc, _+_, _≤_, _<_, _≡_, refl, ap, Bool, true, false, cond, _||_, List, [], _∷_, _++_, arith, eqb-true, eqb-false, eq-eqb, ne-eqb, leb-false, ltb-false, not-true, not-false, T, eqb, getD, maxSerial, maxTurns, recordRoom, anyOf, BlockModel, State, setEnd, turn, nobodyLeft, endBefore, start, runFrom, statesFrom, run, states, steps, Each, statedEnd, Ends, leb, ltb}
+pub use Rattle.machine.proofs.basic.Bools.{cond-cases, or-false}
+pub use Rattle.machine.proofs.basic.Each.{each-map, each-pair, each-under}
+pub use Rattle.machine.proofs.basic.Lists.{none-at}
 
 -- ---- Choices
 
--- what holds of both arms of a choice, each under its test's answer, holds of the choice
-pub cond-cases : {A : Type 0} (P : A → Type 0) (b : Bool) (x y : A) → (b ≡ true → P x) → (b ≡ false → P y) → P (cond b x y)
-cond-cases P true x y f g = f refl
-cond-cases P false x y f g = g refl
-
-pub or-false : (a b : Bool) → (a || b) ≡ false → (a ≡ false) × (b ≡ false)
-or-false true true e = (e, e)
-or-false true false e = (e, refl)
-or-false false b e = (refl, e)
-
--- where none of a list passes a test, neither does the one at an index, or the default
-pub none-at : {A : Type 0} (p : A → Bool) (d : A) → p d ≡ false → (l : List A) (i : ℕ) → anyOf p l ≡ false → p (getD l i d) ≡ false
-unfolding anyOf
-none-at p d else [] i h = else
-none-at p d else (b ∷ l) i h = go i (or-false (p b) (anyOf p l) h) (none-at p d else l)
-  where
-    go : (i : ℕ) → (p b ≡ false) × (anyOf p l ≡ false) → ((i : ℕ) → anyOf p l ≡ false → p (getD l i d) ≡ false)
-        → p (getD (b ∷ l) i d) ≡ false
-    go zero both rest = both .0
-    go (suc i) both rest = rest i (both .1)
-
 -- ---- Each
 
-pub each-map : {A : Type 0} {P Q : A → Type 0} → ((a : A) → P a → Q a) → (l : List A) → Each P l → Each Q l
-each-map f [] h = tt
-each-map f (x ∷ l) h = (f x (h .0), each-map f l (h .1))
-
-pub each-pair : {A : Type 0} (P Q : A → Type 0) (l : List A) → Each P l → Each Q l → Each (λ a. P a × Q a) l
-each-pair P Q [] h k = tt
-each-pair P Q (x ∷ l) h k = ((h .0, k .0), each-pair P Q l (h .1) (k .1))
-
--- under a condition
-pub each-under : {A : Type 0} {C : Type 0} (P : A → Type 0) (l : List A) → (C → Each P l) → Each (λ a. C → P a) l
-each-under P [] h = tt
-each-under P (x ∷ l) h = ((λ c. h c .0), each-under P l (λ c. h c .1))
-
-each-append : (I : State → Type 0) (front : List State) (s : State) → Each I (front ++ (s ∷ [])) → I s
-each-append I [] s h = h .0
-each-append I (x ∷ l) s h = each-append I l s (h .1)
+at-end : (I : State → Type 0) (front : List State) (s : State) → Each I (front ++ (s ∷ [])) → I s
+at-end I [] s h = h .0
+at-end I (x ∷ l) s h = at-end I l s (h .1)
 
 pub each-last : (I : State → Type 0) {s : State} {l : List State} → Ends s l → Each I l → I s
-each-last I {s} e h = each-append I (e .front) s (rw (e .all) at h)
+each-last I {s} e h = at-end I (e .front) s (rw (e .all) at h)
 
 -- ---- The end before a turn
 

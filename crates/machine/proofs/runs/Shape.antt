@@ -1,7 +1,11 @@
 -- The fixtures of the machine keep their shape in every state of a run: as many queue lists, waiting lists, servers, queues,
 -- entries and sample lists as the model says, each server of its capacity and never in use beyond it.
 use Rattle.machine.specs.All.{ℕ, zero, suc, _+_, _*_, _-_, _≤_, _<_, _≡_, refl, sym, ap, _∙_, Bool, true≢false, List, [], _∷_, _++_, map, arith, ltb-true, ltb-false, ltb, length, getD, set, replicate, length-set, length-map, length-append, length-replicate, getD-replicate, List·getD-map, List·getD-append, map-set-same, Transaction, Gatherer, nth, setNth, Server, View, Queue, idleServer, serverAt, Code, U, NU, E, NE, F, NF, codeIndex, assemble, facts, BlockModel, blockAt, welIndex, State, withUse, setClock, setEntries, setQueues, setServers, setUse, sampleServers, sampleQueue, sample, turn, idle, start, Each, true, false, Block, terminate}
-use Rattle.machine.proofs.{decoding.Proper.servers, runs.Kept.Closed, runs.Kept.turn-kept, runs.Kept.start-kept}
+use Rattle.machine.proofs as our
+use our.decoding.Proper.{servers}
+use our.runs.Kept.{Closed, turn-kept, start-kept}
+use our.basic.Each.{each-append}
+pub use Rattle.machine.proofs.basic.Each.{each-set, each-getD}
 
 -- ---- Definition
 
@@ -31,20 +35,6 @@ abbrev pub Shape : BlockModel → State → Type 0
 Shape m s = Shaped m (s .view) (s .ql) (s .wel) (s .gatherers) (s .samples)
 
 -- ---- Lists of which each passes
-
-pub each-set : {A : Type 0} (P : A → Type 0) (l : List A) (i : ℕ) (a : A) → Each P l → P a → Each P (set l i a)
-each-set P [] i a h p = tt
-each-set P (x ∷ l) zero a h p = (p, h .1)
-each-set P (x ∷ l) (suc i) a h p = (h .0, each-set P l i a (h .1) p)
-
-pub each-getD : {A : Type 0} (P : A → Type 0) (l : List A) (i : ℕ) (d : A) → Each P l → P d → P (getD l i d)
-each-getD P [] i d h p = p
-each-getD P (x ∷ l) zero d h p = h .0
-each-getD P (x ∷ l) (suc i) d h p = each-getD P l i d (h .1) p
-
-each-append : {A : Type 0} (P : A → Type 0) (k l : List A) → Each P k → Each P l → Each P (k ++ l)
-each-append P [] l h g = g
-each-append P (x ∷ k) l h g = (h .0, each-append P k l (h .1) g)
 
 getD-past : {A : Type 0} (l : List A) (i : ℕ) (d : A) → length l ≤ i → getD l i d ≡ d
 getD-past [] i d h = refl
