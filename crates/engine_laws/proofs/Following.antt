@@ -13,7 +13,8 @@ use Rattle.engine_laws.proofs.{EndLaws.end-before, StepLaws.Follows, St
 
 -- ---- The end before a turn, kept
 
-closed-stands : (tape : List ℕ) (a : Traced) (s : State) (e : ℕ) → Stands tape (a .rows) (s .moving) s → Stands tape (closeRows e a .rows) (s .moving) (setEnd e s)
+closed-stands : (tape : List ℕ) (a : Traced) (s : State) (e : ℕ) → Stands tape (a .rows) (s .moving) s
+    → Stands tape (closeRows e a .rows) (s .moving) (setEnd e s)
 unfolding closeRows traced rowsOf
 closed-stands tape a s e h =
     record {
@@ -35,12 +36,13 @@ closed-stands tape a s e h =
 -- ---- All turns
 
 module _ (model tape : List ℕ) (budget : ℕ) (work trace report : List ℕ) (m : BlockModel) (times : List (List ℕ))
-    (accepted : validate inForce model tape (length work) (length report) ≡ accept m times) (tables lists : List ℕ) (represents : Represents m times tape tables lists)
+    (accepted : validate inForce model tape (length work) (length report) ≡ accept m times) (tables lists : List ℕ)
+    (represents : Represents m times tape tables lists)
     (started : Runs tape trace (traced (startRows (headerOf m) tables tape lists work (replicate tallySize 0)) trace) (start m times))
     (turned : (a : Traced) (s : State) → Taken budget (length trace) s → Kept m times (length trace) s → Runs tape trace a s
     → Runs tape trace (turnRows (headerOf m) tables tape a) (turn m s)) where
   proper : Proper m times
-  proper = proper-from inForce model tape _ _ accepted
+  proper = proper-from inForce model tape (length work) (length report) accepted
 
   abbrev R : Traced → State → Type 0
   R = Runs tape trace
@@ -67,11 +69,14 @@ module _ (model tape : List ℕ) (budget : ℕ) (work trace report : List ℕ) (
   last-follows : R last (run m times budget (length trace)) × Good (run m times budget (length trace))
   unfolding run lastRows
   last-follows =
-      run-follows m budget _ _ _ closeRows R Good follows steps
-      _ _ started (kept-start proper (represents .rules) _)
+      run-follows m budget (length trace) (endOf budget (length trace)) (turnRows (headerOf m) tables tape) closeRows R Good follows steps
+      (traced (startRows (headerOf m) tables tape lists work (replicate tallySize 0)) trace) (start m times) started
+      (kept-start proper (represents .rules) (length trace))
 
   pub run-accepted : (r : Results) (work′ trace′ report′ : List ℕ) → Finishes (headerOf m) tables last report r trace′ report′
       → Contract model tape budget work trace report r work′ trace′ report′
   run-accepted r work′ trace′ report′ f =
-      rw (f .results) (accepted-runs model tape budget work trace report m times accepted (last .rows) work′ trace′ report′ (r .«report_bytes») tables lists represents
+      rw (f .results)
+      (accepted-runs model tape budget work trace report m times accepted (last .rows) work′ trace′ report′
+      (r .«report_bytes») tables lists represents
       (last-follows .0 .stands) (rw (f .trace-is) (last-follows .0 .writes)) (last-follows .1) (f .reported))

@@ -1,6 +1,6 @@
 -- The outcome: what `run` promises of a refused run that touches nothing, and of an accepted one from what stands for the last
 -- state of the machine's run.
-use Rattle.machine.specs.All.{clash, ℕ, _≤_, _≡_, refl, sym, ap, _∙_, subst, Bool, true, false, cond, List, leb-true, leb, length, take, take-at, inForce, workNumbers, reportRoom, maxReportNumber, traceBytes, BlockModel, State, Validation, accept, reject, validate, run, reportNumbers, reportBytes, Each, LivingListed, Outcome, recordsOf, acceptedRun, refusedRun, outcomeOf, outcome}
+use Rattle.machine.specs.All.{clash, ℕ, _≤_, _≡_, refl, sym, ap, _∙_, subst, Bool, true, false, cond, List, leb-true, leb, length, take, take-at, inForce, workNumbers, reportRoom, maxReportNumber, traceBytes, BlockModel, State, Validation, accept, reject, validate, run, reportNumbers, reportBytes, Each, LivingListed, Outcome, recordsOf, acceptedRun, refusedRun, outcomeOf, outcome, _++_, drop}
 use Rattle.machine.proofs.{decoding.Proper.Proper, decoding.ProperFrom.proper-from, conservation.LivingListed.living-listed, Demand3.demand3, runs.OutcomeLaws.outcome-keeps}
 use Rattle.layout.specs.All.{headerOf, Represents}
 use Rattle.state.specs.All.{Rows, Stands}
@@ -15,12 +15,14 @@ use Rattle.engine_laws.proofs.Reading.{reads-back}
 -- ---- Accepted: the buffers have their lengths
 
 -- what the two first questions ask
-pub rooms : (model tape : List ℕ) (work report : ℕ) (m : BlockModel) (times : List (List ℕ)) → validate inForce model tape work report ≡ accept m times
+pub rooms : (model tape : List ℕ) (work report : ℕ) (m : BlockModel) (times : List (List ℕ))
+    → validate inForce model tape work report ≡ accept m times
     → (workNumbers ≤ work) × (reportRoom ≤ report)
 unfolding validate
-rooms model tape work report m times e = go _ _ refl refl _ e
+rooms model tape work report m times e = go (leb workNumbers work) (leb reportRoom report) refl refl _ e
   where
-    go : (a b : Bool) → leb workNumbers work ≡ a → leb reportRoom report ≡ b → (v : Validation) → cond a (cond b v (reject 2)) (reject 1) ≡ accept m times
+    go : (a b : Bool) → leb workNumbers work ≡ a → leb reportRoom report ≡ b → (v : Validation)
+        → cond a (cond b v (reject 2)) (reject 1) ≡ accept m times
         → (workNumbers ≤ work) × (reportRoom ≤ report)
     go true true p q v e = (leb-true _ _ p, leb-true _ _ q)
     go true false p q v e = clash (cc)
@@ -70,7 +72,7 @@ module _ (model tape : List ℕ) (budget : ℕ) (work trace report : List ℕ) w
 
     accepted-is : o ≡ acceptedRun m s
     unfolding outcome outcomeOf
-    accepted-is = cc accepted
+    accepted-is = ap (outcomeOf budget (length trace)) accepted
 
     same-model : (m′ : BlockModel) (times′ : List (List ℕ)) → answer ≡ accept m′ times′ → m ≡ m′
     same-model m′ times′ h′ = cc
@@ -82,23 +84,24 @@ module _ (model tape : List ℕ) (budget : ℕ) (work trace report : List ℕ) w
         (stands : Stands tape r (s .moving) s) (writes : Writes trace trace′ s) (kept : Kept m times (length trace) s)
         (reported : written n report′ ≡ putAll (rowNumbers (headerOf m) tables (r .tally) (r .work) (r .scalars)) (written 0 report)) where
       proper : Proper m times
-      proper = proper-from inForce model tape _ _ accepted
+      proper = proper-from inForce model tape (length work) (length report) accepted
 
       bytes : r .scalars .used ≡ length (traceBytes (recordsOf s))
       bytes = stands .counting .used ∙ kept .traced .written
 
       trace-begins : Begins (traceBytes (recordsOf s)) trace trace′
-      trace-begins = cc (writes .bytes, kept .traced .written)
+      trace-begins = writes .bytes ∙ ap (λ (k : ℕ). traceBytes (recordsOf s) ++ drop k trace) (kept .traced .written)
 
       front : take (r .scalars .used) trace′ ≡ traceBytes (recordsOf s)
       front =
           ap (take (r .scalars .used)) trace-begins
-          ∙ take-at _ _ _ (sym bytes)
+          ∙ take-at (traceBytes (recordsOf s)) (drop (length (traceBytes (recordsOf s))) trace) (r .scalars .used) (sym bytes)
 
       report-begins : (n ≡ length (reportBytes m s)) × Begins (reportBytes m s) report report′
       report-begins =
-          report-written m times tape tables lists _ r s proper represents (kept .sure .sane) (kept .sure .sound) (kept .traced) stands
-          n report report′ (rooms model tape _ _ m times accepted .1) reported
+          report-written m times tape tables lists (length trace) r s proper represents (kept .sure .sane) (kept .sure .sound)
+          (kept .traced) stands
+          n report report′ (rooms model tape (length work) (length report) m times accepted .1) reported
 
       gives : Gives (acceptedRun m s) (endedWith (r .scalars) n)
       unfolding acceptedRun
@@ -126,7 +129,8 @@ module _ (model tape : List ℕ) (budget : ℕ) (work trace report : List ℕ) w
                 subst (λ (x : BlockModel). ReadsBack x (take (r .scalars .used) trace′) (recordsOf (run x times′ budget (length trace)))) e
                 (rw f at (subst (λ (l : List ℕ). ReadsBack m l (recordsOf s)) (sym front) (reads-back s (kept .traced))));
             living =
-                rw e at (subst (λ (x : List (List ℕ)). LivingListed m x (run m x budget (length trace))) f (living-listed s (kept .sure .sound)));
+                rw e at (subst (λ (x : List (List ℕ)). LivingListed m x (run m x budget (length trace))) f
+                (living-listed s (kept .sure .sound)));
           }
 
       pub accepted-runs : Contract model tape budget work trace report (endedWith (r .scalars) n) work′ trace′ report′

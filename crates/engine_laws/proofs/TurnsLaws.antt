@@ -1,5 +1,5 @@
 -- The turns of a run over rows, one by one, and what is left after the report.
-use Rattle.machine.specs.All.{ℕ, suc, _-_, _≤_, _<_, _≡_, refl, sym, _∙_, subst, List, arith}
+use Rattle.machine.specs.All.{ℕ, suc, _-_, _≤_, _<_, _≡_, refl, sym, _∙_, subst, List, arith, ap}
 use Rattle.constants.specs.declared.model.Model.{Model}
 use Rattle.state.specs.{declared.scalars.Scalars.Scalars, All.putEnd, All.Rows, All.rowsOf}
 use Rattle.turn_laws.specs.Turn.{Traced, traced, turn}
@@ -28,7 +28,8 @@ module _ (model : Model) (tables tape : List ℕ) (budget room : ℕ) (x : Scala
 
   pub turns-none : (n : ℕ) → n ≤ 0 → turnsFrom model tables tape budget room n here ≡ here
   turns-none n h =
-      cc (zero-is n h, steps-none (endOf budget room) (turnRows model tables tape) closeRows here)
+      ap (λ (k : ℕ). turnsFrom model tables tape budget room k here) (zero-is n h)
+      ∙ steps-none (endOf budget room) (turnRows model tables tape) closeRows here
     where
       zero-is : (n : ℕ) → n ≤ 0 → n ≡ 0
       zero-is n h = omega arith
@@ -40,42 +41,54 @@ module _ (model : Model) (tables tape : List ℕ) (budget room : ℕ) (x : Scala
     -- an end: the run stops with it
     pub turns-off : (e ≡ 0 → ⊥) → turnsFrom model tables tape budget room n here ≡ traced (rowsOf (putEnd e x) work tally) trace
     turns-off z =
-        cc (next, steps-off (endOf budget room) (turnRows model tables tape) closeRows (n - 1) here (λ q. z (told ∙ sym end-of ∙ q)), end-of, told, close-of e)
+        ap (λ (k : ℕ). turnsFrom model tables tape budget room k here) next
+        ∙ steps-off (endOf budget room) (turnRows model tables tape) closeRows (n - 1) here (λ q. z (told ∙ sym end-of ∙ q))
+        ∙ ap (λ (k : ℕ). closeRows k here) (end-of ∙ sym told)
+        ∙ close-of e
 
     -- no end: what is left of the run after a turn is what was
-    pub turns-on : e ≡ 0 → (there whole : Traced) → there ≡ turn model tables tape work tally trace x → turnsFrom model tables tape budget room n here ≡ whole
+    pub turns-on : e ≡ 0 → (there whole : Traced) → there ≡ turn model tables tape work tally trace x
+        → turnsFrom model tables tape budget room n here ≡ whole
         → turnsFrom model tables tape budget room (n - 1) there ≡ whole
     turns-on z there whole step rest =
-        cc (step, turn-of, next, steps-on (endOf budget room) (turnRows model tables tape) closeRows (n - 1) here (end-of ∙ sym told ∙ z), rest)
+        ap (turnsFrom model tables tape budget room (n - 1)) (step ∙ sym turn-of)
+        ∙ sym
+        (ap (λ (k : ℕ). turnsFrom model tables tape budget room k here) next
+        ∙ steps-on (endOf budget room) (turnRows model tables tape) closeRows (n - 1) here (end-of ∙ sym told ∙ z))
+        ∙ rest
 
 -- ---- Some turns, then the rest, in as much room
 
 pub turns-joined : (model : Model) (tables tape : List ℕ) (budget room room′ n : ℕ) (a : Traced) (n′ : ℕ) (a′ whole : Traced) → room ≡ room′
-    → turnsFrom model tables tape budget room n a ≡ turnsFrom model tables tape budget room n′ a′ → turnsFrom model tables tape budget room′ n′ a′ ≡ whole
+    → turnsFrom model tables tape budget room n a ≡ turnsFrom model tables tape budget room n′ a′
+    → turnsFrom model tables tape budget room′ n′ a′ ≡ whole
     → turnsFrom model tables tape budget room′ n a ≡ whole
 turns-joined model tables tape budget room room′ n a n′ a′ whole e h rest = (rw e at h) ∙ rest
 
 -- ---- From the start on
 
-pub turns-begun : (model : Model) (tables tape : List ℕ) (budget room : ℕ) (x : Scalars) (work tally trace : List ℕ) (r : Rows) (there : Traced)
+pub turns-begun : (model : Model) (tables tape : List ℕ) (budget room : ℕ) (x : Scalars) (work tally trace : List ℕ) (r : Rows)
+    (there : Traced)
     → there ≡ turnsRows model tables tape budget room (traced (rowsOf x work tally) trace) → rowsOf x work tally ≡ r
     → there ≡ turnsRows model tables tape budget room (traced r trace)
 turns-begun model tables tape budget room x work tally trace r there e f =
-    cc (e, f)
+    e ∙ ap (λ (q : Rows). turnsRows model tables tape budget room (traced q trace)) f
 
 -- ---- After the report
 
-pub finishes : (model : Model) (tables : List ℕ) (x : Scalars) (work tally trace : List ℕ) (last : Traced) (n : ℕ) (r : Results) (report report′ : List ℕ)
+pub finishes : (model : Model) (tables : List ℕ) (x : Scalars) (work tally trace : List ℕ) (last : Traced) (n : ℕ) (r : Results)
+    (report report′ : List ℕ)
     → traced (rowsOf x work tally) trace ≡ last → r ≡ endedWith x n
-    → written n report′ ≡ putAll (rowNumbers model tables tally work x) (written 0 report) → Finishes model tables last report r trace report′
+    → written n report′ ≡ putAll (rowNumbers model tables tally work x) (written 0 report)
+    → Finishes model tables last report r trace report′
 unfolding traced rowsOf
 finishes model tables x work tally trace last n r report report′ e f g =
     subst (λ (q : Traced). Finishes model tables q report r trace report′) e
     (record {
-      results = cc (f, bytes);
+      results = f ∙ ap (endedWith x) (sym bytes);
       trace-is = refl;
-      reported = cc (bytes, g);
+      reported = ap (λ (k : ℕ). written k report′) bytes ∙ g;
     })
   where
     bytes : r .«report_bytes» ≡ n
-    bytes = cc f
+    bytes = ap (λ (q : Results). q .«report_bytes») f

@@ -1,6 +1,7 @@
--- Document 02, item 9: "keep the first of REL, FEL and each QL and WEL true through all turns", "For every run the kept first is the first that a full
--- walk finds, and none exactly when the list is empty". The machine's lists are plain and keep no first, so this is of the run over rows, whose last
--- state the code leaves: of every state before a turn and after it. `KeepsFirsts` is the claim; proved in proofs/FirstsKept.
+-- Document 02, item 9: "keep the first of REL, FEL and each QL and WEL true through all turns", "For every run the kept first is the first
+-- that a full walk finds, and none exactly when the list is empty". The machine's lists are plain and keep no first, so this is of the run
+-- over rows, whose last state the code leaves: of every state before a turn and after it. `KeepsFirsts` is the claim; proved in
+-- proofs/FirstsKept.
 use Rattle.machine.specs.All.{ℕ, _<_, _≡_, List, [], _∷_, length, replicate, inForce, BlockModel, State, states, steps, accept, validate}
 use Rattle.constants.specs.declared.model.Model.{Model}
 use Rattle.layout.specs.All.{tallySize, headerOf, Represents}

@@ -43,10 +43,13 @@ endedWith x n =
 module _ (model : Model) (tables lists tape : List ℕ) (budget : ℕ) (work trace : List ℕ) where
   -- what the last turn leaves; the tally is all 0 before the start
   unfoldable pub lastRows : Traced
-  lastRows = turnsRows model tables tape budget (length trace) (traced (startRows model tables tape lists work (replicate tallySize 0)) trace)
+  lastRows =
+      turnsRows model tables tape budget (length trace) (traced (startRows model tables tape lists work (replicate tallySize 0)) trace)
 
 -- what a run leaves, given what its last turn leaves
-pub record Finishes (model : Model) (tables : List ℕ) (last : Traced) (report : List ℕ) (r : Results) (trace′ report′ : List ℕ) : Type 0 where
+pub record Finishes (model : Model) (tables : List ℕ) (last : Traced) (report : List ℕ) (r : Results)
+    (trace′ report′ : List ℕ) : Type 0 where
   pub results : r ≡ endedWith (last .rows .scalars) (r .«report_bytes»)
   pub trace-is : trace′ ≡ last .trace
-  pub reported : written (r .«report_bytes») report′ ≡ putAll (rowNumbers model tables (last .rows .tally) (last .rows .work) (last .rows .scalars)) (written 0 report)
+  pub reported : written (r .«report_bytes») report′
+      ≡ putAll (rowNumbers model tables (last .rows .tally) (last .rows .work) (last .rows .scalars)) (written 0 report)

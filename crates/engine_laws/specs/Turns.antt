@@ -28,7 +28,8 @@ turnsLeft turns budget left = min (min left (maxTurns - turns)) (budget - turns)
 
 -- so many steps from scalars x, rows w and a tally are what is left of them from other rows and another tally, after turns that changed no
 -- scalar but their number, t then
-abbrev pub Onward : Model → (tables tape trace : List ℕ) → (budget room : ℕ) → Scalars → (left : ℕ) (w tally : List ℕ) (t : ℕ) (w′ tally′ : List ℕ) → Type 0
+abbrev pub Onward : Model → (tables tape trace : List ℕ) → (budget room : ℕ) → Scalars
+    → (left : ℕ) (w tally : List ℕ) (t : ℕ) (w′ tally′ : List ℕ) → Type 0
 Onward model tables tape trace budget room x left w tally t w′ tally′ =
     turnsFrom model tables tape budget room left (traced (rowsOf x w tally) trace)
     ≡ turnsFrom model tables tape budget room (left - (t - x .turns)) (traced (rowsOf (putTurns t x) w′ tally′) trace)
@@ -36,9 +37,11 @@ Onward model tables tape trace budget room x left w tally t w′ tally′ =
 -- for whatever model, tables, tape, tally and trace everybody waits by who comes to a block, after a turn of one that came back
 abbrev pub WhereAllWait : (block : ℕ) → Scalars → (Model → (tables tape tally trace : List ℕ) → Type 0) → Type 0
 WhereAllWait block x P =
-    (model : Model) (tables tape tally trace : List ℕ) → x .moving ≡ rowCount → x .note ≡ 2 → allWait tables (model .values) tally (x .clock) block ≡ true
+    (model : Model) (tables tape tally trace : List ℕ) → x .moving ≡ rowCount → x .note ≡ 2
+    → allWait tables (model .values) tally (x .clock) block ≡ true
     → P model tables tape tally trace
 
 -- for whatever model, tape and trace, where an ENTER stands at a block, after a turn of one that came back
 abbrev pub WhereEnter : (tables : List ℕ) (block : ℕ) → Scalars → (Model → (tape trace : List ℕ) → Type 0) → Type 0
-WhereEnter tables block x P = (model : Model) (tape trace : List ℕ) → x .moving ≡ rowCount → x .note ≡ 2 → quiet tables 6 block ≡ true → P model tape trace
+WhereEnter tables block x P =
+    (model : Model) (tape trace : List ℕ) → x .moving ≡ rowCount → x .note ≡ 2 → quiet tables 6 block ≡ true → P model tape trace
