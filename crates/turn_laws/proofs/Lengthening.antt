@@ -61,7 +61,8 @@ module _ (tables tally : List ℕ) (block : ℕ) where
     longer-next =
         cases (ltb cell (length tally)) (λ e. within (ltb-true cell _ e)) (λ e. past (ltb-false cell _ e))
 
-    pub lengthened-next : behind tally v ≡ false → (clock : ℕ) → lengthened tables tally₁ clock block ≡ lengthenedBy tables tally block (n + 1)
+    pub lengthened-next : behind tally v ≡ false → (clock : ℕ)
+        → lengthened tables tally₁ clock block ≡ lengthenedBy tables tally block (n + 1)
     unfolding lengthened updateServer longer
     lengthened-next now clock = rw (behind-kept, now) longer-next
 

@@ -17,16 +17,17 @@ use Rattle.turn_laws.proofs.Unwritten.{Unwritten}
 
 append-is : (trace : List ℕ) (used clock number block outcome : ℕ) (b : List ℕ) → used ≤ length trace
     → writeRecord inForce (length (drop used trace)) (entry clock number block outcome) ≡ written b
-    → appendRecord trace used clock number block outcome ≡ bytes (used + length b) (take used trace ++ (b ++ drop (length b) (drop used trace)))
+    → appendRecord trace used clock number block outcome
+    ≡ bytes (used + length b) (take used trace ++ (b ++ drop (length b) (drop used trace)))
 unfolding appendRecord appended
-append-is trace used clock number block outcome b le e = rw (le-leb, e)
+append-is trace used clock number block outcome b le e = rw (le-leb used (length trace) le, e)
 
 -- behind the bytes so far stand the new ones, and then what stood there
 behind : (t b before : List ℕ) (used w : ℕ) → length t ≡ w → used ≡ w
     → take used (t ++ drop w before) ++ (b ++ drop (length b) (drop used (t ++ drop w before))) ≡ (t ++ b) ++ drop (w + length b) before
 behind t b before used w len e =
-    rw (e, take-at, drop-at, drop-drop)
-    (sym (append-assoc t b _))
+    rw (e, take-at t (drop w before) w len, drop-at t (drop w before) w len, drop-drop (length b) w before)
+    (sym (append-assoc t b (drop (w + length b) before)))
 
 -- ---- Counts
 
@@ -36,20 +37,22 @@ module _ (tapeBytes tally : List ℕ) (i n : ℕ) (low : i < 512) where
   above j h e = omega arith
 
   counts-tallying : (s : State) (entries : List ℕ) (records : List Logged) → Tallying tapeBytes tally s
-      → ((b : ℕ) → b < 256 → getD (set tally i n) (Layout.entries + b) 0 ≡ getD entries b 0) → ((b : ℕ) → b < 256 → getD (set tally i n) (Layout.waits + b) 0 ≡ atBlock 1 (suc b) records)
+      → ((b : ℕ) → b < 256 → getD (set tally i n) (Layout.entries + b) 0 ≡ getD entries b 0)
+      → ((b : ℕ) → b < 256 → getD (set tally i n) (Layout.waits + b) 0 ≡ atBlock 1 (suc b) records)
       → Tallied tapeBytes (set tally i n) (setEntries entries (s .view)) (s .ql) (s .samples) (s .turns) records
   counts-tallying s entries records h entered waiting =
       record {
         size = length-set tally i n ∙ h .size;
         entries = entered;
         waits = waiting;
-        seen = seen-set tally i n _ _ (omega arith) (h .seen);
-        servers = serving-set tally i n _ _ _ (omega arith) (λ j a b. above j (omega arith)) (h .servers);
-        queues = queueing-set tally i n _ _ (omega arith) (λ j a b. above j (omega arith)) (h .queues);
+        seen = seen-set tally i n (s .view .clock) (s .turns) (omega arith) (h .seen);
+        servers =
+            serving-set tally i n (s .view .clock) (s .view .servers) (s .ql) (omega arith) (λ j a b. above j (omega arith)) (h .servers);
+        queues = queueing-set tally i n (s .view .clock) (s .view .queues) (omega arith) (λ j a b. above j (omega arith)) (h .queues);
         samples =
             record {
-              begins = λ k hk. rw (getD-set-other tally i (928 + k) n 0 (above _ (omega arith))) (h .samples .begins k hk);
-              left = λ k hk. getD-set-other tally i _ n 0 (above _ (omega arith)) ∙ h .samples .left k hk;
+              begins = λ k hk. rw (getD-set-other tally i (928 + k) n 0 (above (928 + k) (omega arith))) (h .samples .begins k hk);
+              left = λ k hk. getD-set-other tally i (944 + k) n 0 (above (944 + k) (omega arith)) ∙ h .samples .left k hk;
             };
       }
 
@@ -70,11 +73,14 @@ pub record Follows (tapeBytes before work : List ℕ) (n : Noted) (s : State) : 
   pub stands : Stands tapeBytes (rowsOf (n .scalars) work (n .tally)) (s .moving) s
   pub writes : Writes before (n .trace) s
 
-module _ {m : BlockModel} {tape : List (List ℕ)} {tapeBytes tables lists w tally : List ℕ} {y : Scalars} {t : Transaction} {s : State} {block : Block} {before : List ℕ}
+module _ {m : BlockModel} {tape : List (List ℕ)} {tapeBytes tables lists w tally : List ℕ} {y : Scalars} {t : Transaction} {s : State}
+    {block : Block} {before : List ℕ}
     -- t stood before its block in s, with room for a record
-    (h : Before m tape tapeBytes tables lists w tally y t s block) (room : s .written + 12 ≤ length before) (few : length (s .records) ≤ s .turns)
+    (h : Before m tape tapeBytes tables lists w tally y t s block) (room : s .written + 12 ≤ length before)
+    (few : length (s .records) ≤ s .turns)
     -- what the block left, which wrote nothing yet
-    (later : State) (same : Unwritten s later) (r : Rows) {trace : List ℕ} (stands : Stands tapeBytes r (later .moving) later) (writes : Writes before trace later)
+    (later : State) (same : Unwritten s later) (r : Rows) {trace : List ℕ} (stands : Stands tapeBytes r (later .moving) later)
+    (writes : Writes before trace later)
   where
     abbrev x : Scalars
     x = r .scalars
@@ -112,7 +118,9 @@ module _ {m : BlockModel} {tape : List (List ℕ)} {tapeBytes tables lists w tal
       B = recordBytes (recordOf o t s)
 
       long : length trace ≡ length T + (length before - later .written)
-      long = ap length (writes .bytes) ∙ length-append T (drop (later .written) before) ∙ ap (λ (n : ℕ). length T + n) (length-drop (later .written) before)
+      long =
+          ap length (writes .bytes) ∙ length-append T (drop (later .written) before)
+          ∙ ap (λ (n : ℕ). length T + n) (length-drop (later .written) before)
 
       inside : x .used ≤ length trace
       inside = omega (arith, long, stands .counting .used, writes .written)
@@ -121,9 +129,18 @@ module _ {m : BlockModel} {tape : List (List ℕ)} {tapeBytes tables lists w tal
       written-is =
           ap (writeRecord inForce (length (drop (x .used) trace))) same-record
           ∙ sym (written-record (recordOf o t s) (drop (x .used) trace) fits
-          (omega (arith, record-room (recordOf o t s) fits, length-drop (x .used) trace, long, stands .counting .used, writes .written, same .written)))
+          (omega (
+            arith,
+            record-room (recordOf o t s) fits,
+            length-drop (x .used) trace,
+            long,
+            stands .counting .used,
+            writes .written,
+            same .written,
+          )))
 
-      appends : appendRecord trace (x .used) (x .clock) (t .number) (t .next) o ≡ bytes (later .written + length B) ((T ++ B) ++ drop (later .written + length B) before)
+      appends : appendRecord trace (x .used) (x .clock) (t .number) (t .next) o
+          ≡ bytes (later .written + length B) ((T ++ B) ++ drop (later .written + length B) before)
       appends =
           append-is trace (x .used) (x .clock) (t .number) (t .next) o B inside written-is
           ∙ ap (λ (l : List ℕ). bytes (x .used + length B) (take (x .used) l ++ (B ++ drop (length B) (drop (x .used) l)))) (writes .bytes)
@@ -144,7 +161,12 @@ module _ {m : BlockModel} {tape : List (List ℕ)} {tapeBytes tables lists w tal
 
     entry-low : getD (later .view .entries) cell 0 ≤ 100000001
     entry-low =
-        omega (arith, each-getD (λ (n : ℕ). n ≤ s .turns) (s .view .entries) cell 0 (h .sane .entries) (omega arith), ap (λ (l : List ℕ). getD l cell 0) (same .entries), h .sane .turns)
+        omega (
+          arith,
+          each-getD (λ (n : ℕ). n ≤ s .turns) (s .view .entries) cell 0 (h .sane .entries) (omega arith),
+          ap (λ (l : List ℕ). getD l cell 0) (same .entries),
+          h .sane .turns,
+        )
 
     entry-there : cell < length (later .view .entries)
     entry-there = omega (arith, ap length (same .entries), h .sane .shape .entry-length, placed h .0 .0, placed h .0 .1)
@@ -157,10 +179,12 @@ module _ {m : BlockModel} {tape : List (List ℕ)} {tapeBytes tables lists w tal
         let zero-plus : Layout.entries + cell ≡ cell = omega arith in
         omega (arith, ap (λ (j : ℕ). getD (r .tally) j 0) zero-plus, stands .tallying .entries cell below, entry-low)
 
-    entries-counted : (b : ℕ) → b < 256 → getD (set (r .tally) cell counted) (Layout.entries + b) 0 ≡ getD (set (later .view .entries) cell (suc (getD (later .view .entries) cell 0))) b 0
+    entries-counted : (b : ℕ) → b < 256 → getD (set (r .tally) cell counted) (Layout.entries + b) 0
+        ≡ getD (set (later .view .entries) cell (suc (getD (later .view .entries) cell 0))) b 0
     entries-counted b hb = go (ℕ-discrete b cell)
       where
-        go : Dec (b ≡ cell) → getD (set (r .tally) cell counted) (Layout.entries + b) 0 ≡ getD (set (later .view .entries) cell (suc (getD (later .view .entries) cell 0))) b 0
+        go : Dec (b ≡ cell) → getD (set (r .tally) cell counted) (Layout.entries + b) 0
+            ≡ getD (set (later .view .entries) cell (suc (getD (later .view .entries) cell 0))) b 0
         go (yes e) =
             let is : Layout.entries + b ≡ cell = omega arith in
             ap (λ (j : ℕ). getD (set (r .tally) cell counted) j 0) is
@@ -206,7 +230,8 @@ module _ {m : BlockModel} {tape : List (List ℕ)} {tapeBytes tables lists w tal
           written = omega (arith, ap length (grown o le), length-append (T o le) (B o le), writes .written);
         }
 
-    enters : Follows tapeBytes before (r .work) (recorded 0 zero-low (set (r .tally) cell counted)) (logged 0 t s (countEntry (t .next) later))
+    enters : Follows tapeBytes before (r .work) (recorded 0 zero-low (set (r .tally) cell counted))
+        (logged 0 t s (countEntry (t .next) later))
     unfolding logged countEntry noted rowsOf recordsOf
     enters =
         record {
@@ -215,7 +240,8 @@ module _ {m : BlockModel} {tape : List (List ℕ)} {tapeBytes tables lists w tal
                 listing = stands .listing;
                 tallying =
                     counts-tallying tapeBytes (r .tally) cell counted (omega (arith, below)) later _ _ (stands .tallying) entries-counted
-                    (λ b hb. getD-set-other (r .tally) cell (Layout.waits + b) counted 0 (λ e. omega (arith, below)) ∙ stands .tallying .waits b hb ∙ sym (not-waits b));
+                    (λ b hb. getD-set-other (r .tally) cell (Layout.waits + b) counted 0 (λ e. omega (arith, below))
+                    ∙ stands .tallying .waits b hb ∙ sym (not-waits b));
                 counting = counting (later .written + length (B 0 zero-low));
               };
           writes = record { bytes = now-writes 0 zero-low .bytes; written = now-writes 0 zero-low .written };
@@ -234,12 +260,20 @@ module _ {m : BlockModel} {tape : List (List ℕ)} {tapeBytes tables lists w tal
 
     begun-is : begun ≡ suc (atBlock 1 (suc cell) (later .records))
     begun-is =
-        omega (arith, stands .tallying .waits cell below, at-block-few 1 (suc cell) (later .records), ap length (same .records), few, h .sane .turns)
+        omega (
+          arith,
+          stands .tallying .waits cell below,
+          at-block-few 1 (suc cell) (later .records),
+          ap length (same .records),
+          few,
+          h .sane .turns,
+        )
 
     at-own : suc cell ≡ t .next
     at-own = omega (arith, placed h .0)
 
-    one-more : (b : ℕ) → b < 256 → Dec (b ≡ cell) → getD (set (r .tally) waiting begun) (Layout.waits + b) 0 ≡ atBlock 1 (suc b) (entered 1 one-low ∷ later .records)
+    one-more : (b : ℕ) → b < 256 → Dec (b ≡ cell)
+        → getD (set (r .tally) waiting begun) (Layout.waits + b) 0 ≡ atBlock 1 (suc b) (entered 1 one-low ∷ later .records)
     one-more b hb (yes e) =
         ap (λ (j : ℕ). getD (set (r .tally) waiting begun) (Layout.waits + j) 0) e
         ∙ getD-set-same (r .tally) waiting begun 0 (omega (arith, stands .tallying .size, below))
@@ -247,14 +281,16 @@ module _ {m : BlockModel} {tape : List (List ℕ)} {tapeBytes tables lists w tal
         ∙ ap (λ (j : ℕ). suc (atBlock 1 (suc j) (later .records))) (sym e)
         ∙ sym (at-block-cons 1 (suc b) (entered 1 one-low) (later .records) ∙ own)
       where
-        own : bit (eqb (recordOf 1 t s .outcome) 1 && eqb (recordOf 1 t s .block) (suc b)) + atBlock 1 (suc b) (later .records) ≡ suc (atBlock 1 (suc b) (later .records))
+        own : bit (eqb (recordOf 1 t s .outcome) 1 && eqb (recordOf 1 t s .block) (suc b)) + atBlock 1 (suc b) (later .records)
+            ≡ suc (atBlock 1 (suc b) (later .records))
         own = unfold recordOf in rw (eq-eqb (t .next) (suc b) (omega (arith, at-own))) (omega arith)
     one-more b hb (no d) =
         getD-set-other (r .tally) waiting (Layout.waits + b) begun 0 (λ e. d (omega arith))
         ∙ stands .tallying .waits b hb
         ∙ sym (at-block-cons 1 (suc b) (entered 1 one-low) (later .records) ∙ other)
       where
-        other : bit (eqb (recordOf 1 t s .outcome) 1 && eqb (recordOf 1 t s .block) (suc b)) + atBlock 1 (suc b) (later .records) ≡ atBlock 1 (suc b) (later .records)
+        other : bit (eqb (recordOf 1 t s .outcome) 1 && eqb (recordOf 1 t s .block) (suc b)) + atBlock 1 (suc b) (later .records)
+            ≡ atBlock 1 (suc b) (later .records)
         other = unfold recordOf in rw (ne-eqb (t .next) (suc b) (λ e. d (omega (arith, at-own)))) (omega arith)
 
     waits : Follows tapeBytes before (r .work) (recorded 1 one-low (set (r .tally) waiting begun)) (logged 1 t s later)
@@ -266,7 +302,8 @@ module _ {m : BlockModel} {tape : List (List ℕ)} {tapeBytes tables lists w tal
                 listing = stands .listing;
                 tallying =
                     counts-tallying tapeBytes (r .tally) waiting begun (omega (arith, below)) later _ _ (stands .tallying)
-                    (entries-set (r .tally) waiting begun (later .view .entries) (omega arith) (stands .tallying .entries)) (λ b hb. one-more b hb (ℕ-discrete b cell));
+                    (entries-set (r .tally) waiting begun (later .view .entries) (omega arith) (stands .tallying .entries))
+                    (λ b hb. one-more b hb (ℕ-discrete b cell));
                 counting = counting (later .written + length (B 1 one-low));
               };
           writes = now-writes 1 one-low;
@@ -298,15 +335,19 @@ module _ {m : BlockModel} {tape : List (List ℕ)} {tapeBytes tables lists w tal
 
     noted-by : (n : ℕ) → Follows tapeBytes before (r .work) (by-note n) (noteAs (noteOf n) t s later)
     unfolding noteAs noteOf
-    noted-by zero = subst (λ (a : Noted). Follows tapeBytes before (r .work) a (logged 0 t s (countEntry (t .next) later))) (sym note-0) enters
+    noted-by zero =
+        subst (λ (a : Noted). Follows tapeBytes before (r .work) a (logged 0 t s (countEntry (t .next) later))) (sym note-0) enters
     noted-by (suc zero) = subst (λ (a : Noted). Follows tapeBytes before (r .work) a (logged 1 t s later)) (sym note-1) waits
     noted-by (suc (suc n)) =
-        rw (ne-eqb (suc (suc n)) 0 (λ e. omega arith), ne-eqb (suc (suc n)) 1 (λ e. omega arith)) (subst (λ (a : Noted). Follows tapeBytes before (r .work) a later) (sym more) nothing)
+        rw (ne-eqb (suc (suc n)) 0 (λ e. omega arith), ne-eqb (suc (suc n)) 1 (λ e. omega arith))
+        (subst (λ (a : Noted). Follows tapeBytes before (r .work) a later) (sym more) nothing)
       where
         more : by-note (suc (suc n)) ≡ noted x (r .tally) trace
         more = rw (le-ltb (suc (suc n)) 2 (omega arith))
 
     -- the note of a block, in tally and trace
-    pub note-follows : (n : Note) → noteOf (x .note) ≡ n → Follows tapeBytes before (r .work) (noteRecord (r .tally) trace x (t .number) (t .next)) (noteAs n t s later)
+    pub note-follows : (n : Note) → noteOf (x .note) ≡ n
+        → Follows tapeBytes before (r .work) (noteRecord (r .tally) trace x (t .number) (t .next)) (noteAs n t s later)
     unfolding noteRecord
-    note-follows n e = subst (λ (k : Note). Follows tapeBytes before (r .work) (by-note (x .note)) (noteAs k t s later)) e (noted-by (x .note))
+    note-follows n e =
+        subst (λ (k : Note). Follows tapeBytes before (r .work) (by-note (x .note)) (noteAs k t s later)) e (noted-by (x .note))

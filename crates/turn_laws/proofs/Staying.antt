@@ -1,4 +1,5 @@
--- The turn of one that comes back and waits again: it leaves REL for its list, and nothing else changes but the turns and that list's length.
+-- The turn of one that comes back and waits again: it leaves REL for its list, and nothing else changes but the turns and that list's
+-- length.
 use Rattle.machine.specs.All.{cases, ℕ, _+_, _-_, _%_, _<_, _≡_, refl, leb, lt-leb, sym, _∙_, Bool, true, false, cond, true≢false, List, arith, ltb-true, ltb, eqb, eqb-true, eq-eqb, le-ltb, getD}
 use Rattle.constants.specs.declared.model.Model.{Model}
 use Rattle.layout.specs.Layout as Layout
@@ -62,7 +63,8 @@ quiet-is tables kind block h =
 
 -- ---- The turn
 
-module _ (model : Model) (tables tape w tally trace : List ℕ) (x : Scalars) (nobody : x .moving ≡ 1024) (note : x .note ≡ 2) (block : ℕ) (back : backTo w ≡ block) where
+module _ (model : Model) (tables tape w tally trace : List ℕ) (x : Scalars) (nobody : x .moving ≡ 1024) (note : x .note ≡ 2) (block : ℕ)
+    (back : backTo w ≡ block) where
   abbrev k : ℕ
   k = first w rel
 
@@ -112,7 +114,8 @@ module _ (model : Model) (tables tape w tally trace : List ℕ) (x : Scalars) (n
     same = rw (← nobody, ← note)
 
     -- by what its block leaves
-    module _ (w₂ tally₂ : List ℕ) (executed : execute tables (model .values) (model .facilities) tape w₁ tally y (placeIn block) ≡ rowsOf z w₂ tally₂) where
+    module _ (w₂ tally₂ : List ℕ)
+        (executed : execute tables (model .values) (model .facilities) tape w₁ tally y (placeIn block) ≡ rowsOf z w₂ tally₂) where
       acted : actMoving tables (model .values) (model .facilities) tape w₁ tally trace y ≡ traced (rowsOf z w₂ tally₂) trace
       unfolding actMoving act withNote noteRecord noted rowsOf
       acted = rw (comes .row, next₁, there .below, executed)
@@ -158,6 +161,7 @@ module _ (model : Model) (tables tape w tally trace : List ℕ) (x : Scalars) (n
     unfolding execute byKind enterRows takeUnits queueUp waitOn putBack moved counted lengthened
     lines = rw (there₆ .is, lacking, returning₁ 6 there₆)
 
-    pub queues : turn model tables tape w tally trace x ≡ traced (rowsOf (counted x) (lined tables w block) (lengthened tables tally (x .clock) block)) trace
+    pub queues : turn model tables tape w tally trace x
+        ≡ traced (rowsOf (counted x) (lined tables w block) (lengthened tables tally (x .clock) block)) trace
     unfolding lined
     queues = rw (comes 6 there₆ .row) (again 6 there₆ _ _ lines)

@@ -1,5 +1,5 @@
 -- A turn over scalars, buffers and trace is the machine's turn.
-use Rattle.machine.specs.All.{cases, ℕ, _+_, _-_, _*_, _≤_, _<_, _≡_, refl, sym, ap, _∙_, subst, Bool, true, false, cond, not, true≢false, List, Option, none, some, arith, lt-ltb, le-ltb, eqb-true, not-false, ltb, eqb, length, getD, Transaction, Block, BlockModel, blockAt, State, recordsOf, wakeWsl, question, Thing, theClock}
+use Rattle.machine.specs.All.{cases, ℕ, _+_, _-_, _*_, _≤_, _<_, _≡_, refl, sym, ap, _∙_, subst, Bool, true, false, cond, not, true≢false, List, Option, none, some, arith, lt-ltb, le-ltb, eqb-true, not-false, ltb, eqb, length, getD, Transaction, Block, BlockModel, blockAt, State, recordsOf, wakeWsl, question, Thing, theClock, _++_, drop, Record, traceBytes, Logged}
 use Rattle.machine.specs.Turn as Machine
 use Rattle.machine.proofs.{decoding.Proper.Proper, runs.RunLaws.Taken, nobody_able.StillWaiting.MoverSpares, nobody_able.StillWaiting.scheme-unread}
 use Rattle.layout.specs.Layout as Layout
@@ -7,7 +7,7 @@ use Rattle.layout.specs.All.{Represents, headerOf}
 use Rattle.evaluation.specs.Nested.{Nested}
 use Rattle.state.specs.declared.scalars.Scalars.{Scalars}
 use Rattle.state.specs.All.{Rows, rowsOf, Stands, Done, Bare, Note, enteredNote, waitsNote, noNote, noteAs, logged, countEntry}
-use Rattle.state.proofs.{Sane.Sane, Noted.noted-answer, Gains.Gains, BlockGains.gains-wsScheme, Measured.Took}
+use Rattle.state.proofs.{Sane.Sane, Noted.noted-answer, Gains.Gains, BlockGains.gains-wsScheme, Measured.Took, Written.inOrder}
 use Rattle.state.proofs.TurnGains.{Turned, unnoted, noted, turned}
 use Rattle.state.proofs.Sanity.{takenOf, Sure, taken-took, sane-taken, sure-turn}
 use Rattle.moves.proofs.{Before.bareBlock, Before.Before, BeforeLaws.inside, MotionLaws.next-read, MotionLaws.number-read}
@@ -22,18 +22,22 @@ use Rattle.turn_laws.proofs.{Runs.Runs, NoteLaws.Follows, NoteLaws.note
 
 -- ---- Where no record is written
 
-writes-like : {before trace : List ℕ} {s s′ : State} → s′ .records ≡ s .records → s′ .written ≡ s .written → Writes before trace s → Writes before trace s′
+writes-like : {before trace : List ℕ} {s s′ : State} → s′ .records ≡ s .records → s′ .written ≡ s .written → Writes before trace s
+    → Writes before trace s′
 unfolding recordsOf
 writes-like {before} {s = s} {s′ = s′} records written h =
-    let same : recordsOf s ≡ recordsOf s′ = cc records in
+    let same : recordsOf s ≡ recordsOf s′ = ap (λ (l : List Logged). inOrder l) (sym records) in
     record {
-      bytes = cc (h .bytes, same, written);
-      written = cc (written, h .written, same);
+      bytes =
+          h .bytes ∙ ap (λ (l : List Record). traceBytes l ++ drop (s .written) before) same
+          ∙ ap (λ (n : ℕ). traceBytes (recordsOf s′) ++ drop n before) (sym written);
+      written = written ∙ h .written ∙ ap (λ (l : List Record). length (traceBytes l)) same;
     }
 
 -- ---- The block and its record
 
-module _ {m : BlockModel} {tape : List (List ℕ)} {tapeBytes tables lists before : List ℕ} (proper : Proper m tape) (rep : Represents m tape tapeBytes tables lists) (nested : Nested m)
+module _ {m : BlockModel} {tape : List (List ℕ)} {tapeBytes tables lists before : List ℕ} (proper : Proper m tape)
+    (rep : Represents m tape tapeBytes tables lists) (nested : Nested m)
     (s : State) (sane : Sane m s) (room : s .written + 12 ≤ length before) (few : length (s .records) ≤ s .turns)
     (r : Rows) (trace : List ℕ) (writes : Writes before trace s) where
   abbrev w : List ℕ
@@ -76,12 +80,14 @@ module _ {m : BlockModel} {tape : List (List ℕ)} {tapeBytes tables lists befor
     done = execute-done b stood
 
     untouched : Unwritten s (left .state)
-    untouched = unwritten m b t s (proper .block _)
+    untouched = unwritten m b t s (proper .block (t .next))
 
-    note : Follows tapeBytes before (after .work) (noteRecord (after .tally) trace (after .scalars) (t .number) (t .next)) (noteAs (left .note) t s (left .state))
+    note : Follows tapeBytes before (after .work) (noteRecord (after .tally) trace (after .scalars) (t .number) (t .next))
+        (noteAs (left .note) t s (left .state))
     note =
-        note-follows stood room few _ untouched after (done .stands) (writes-like (untouched .records) (untouched .written) writes)
-        _ (done .note)
+        note-follows stood room few (left .state) untouched after (done .stands)
+        (writes-like (untouched .records) (untouched .written) writes)
+        (left .note) (done .note)
 
     noted-runs : Runs tapeBytes before (withNote after trace (t .number) (t .next)) (Machine.execute (some t) m s)
     unfolding withNote traced Machine.execute rowsOf noteRecord
@@ -89,13 +95,20 @@ module _ {m : BlockModel} {tape : List (List ℕ)} {tapeBytes tables lists befor
         rw (← noted-answer (question m b t s) m b t s) (record { stands = note .stands; writes = note .writes })
 
     below : t .next - 1 < 256
-    below = omega (arith, inside stood)
+    below = omega (arith, inside stood, proper .blocks .1)
 
     acting : Runs tapeBytes before (actMoving tables values (m .facilities) tapeBytes w tally trace x) (Machine.execute (some t) m s)
     unfolding actMoving act
-    acting = rw (lt-ltb _ 1024 (stands .listing .mover .0 .row), number-read (stands .listing), next-read (stands .listing), lt-ltb _ 256 below) noted-runs
+    acting =
+        rw (
+          lt-ltb (x .moving) 1024 (stands .listing .mover .0 .row),
+          number-read (stands .listing),
+          next-read (stands .listing),
+          lt-ltb (t .next - 1) 256 below,
+        ) noted-runs
 
-  nobody : s .moving ≡ none → Stands tapeBytes r none s → Runs tapeBytes before (actMoving tables values (m .facilities) tapeBytes w tally trace x) s
+  nobody : s .moving ≡ none → Stands tapeBytes r none s
+      → Runs tapeBytes before (actMoving tables values (m .facilities) tapeBytes w tally trace x) s
   unfolding actMoving
   nobody e stands =
       rw (le-ltb (x .moving) 1024 (omega arith)) idle
@@ -108,7 +121,8 @@ module _ {m : BlockModel} {tape : List (List ℕ)} {tapeBytes tables lists befor
             writes = writes;
           }
 
-  pub act-runs : (o : Option Transaction) → s .moving ≡ o → Stands tapeBytes r o s → Runs tapeBytes before (actMoving tables values (m .facilities) tapeBytes w tally trace x) (Machine.execute o m s)
+  pub act-runs : (o : Option Transaction) → s .moving ≡ o → Stands tapeBytes r o s
+      → Runs tapeBytes before (actMoving tables values (m .facilities) tapeBytes w tally trace x) (Machine.execute o m s)
   act-runs none e stands = unfold Machine.execute in nobody e stands
   act-runs (some t) e stands = acting t e stands
 
@@ -125,7 +139,8 @@ clock-left {s} (noted t e n later h g) = cc (g .clock, by-note n, h .gains .cloc
     by-note waitsNote = refl
     by-note noNote = refl
 
-module _ {m : BlockModel} {tape : List (List ℕ)} {tapeBytes tables lists before : List ℕ} (proper : Proper m tape) (rep : Represents m tape tapeBytes tables lists) (nested : Nested m)
+module _ {m : BlockModel} {tape : List (List ℕ)} {tapeBytes tables lists before : List ℕ} (proper : Proper m tape)
+    (rep : Represents m tape tapeBytes tables lists) (nested : Nested m)
     (budget : ℕ) (s : State) (sure : Sure m tape s) (taken : Taken budget (length before) s) (few : length (s .records) ≤ s .turns)
     (a : Traced) (runs : Runs tapeBytes before a s) where
   abbrev r : Rows
@@ -152,13 +167,18 @@ module _ {m : BlockModel} {tape : List (List ℕ)} {tapeBytes tables lists befor
 
   acts : Runs tapeBytes before acted z
   acts =
-      act-runs proper rep nested y sane₁ (omega (arith, took .written)) (omega (arith, ap length (took .records))) r₁ _ (writes-like (took .records) (took .written) (runs .writes)) _ refl
+      act-runs proper rep nested y sane₁ (omega (arith, took .written, taken .room-left)) (omega (arith, ap length (took .records), few)) r₁
+      (a .trace) (writes-like (took .records) (took .written) (runs .writes)) (y .moving) refl
       (take-stands proper tapeBytes r s (sure .sane) (taken .turns-left) (runs .stands))
 
   -- the scheme leaves who moves and the records
   scheme-moving : (u : State) → Machine.wsScheme m u .moving ≡ u .moving
   unfolding Machine.wsScheme
-  scheme-moving u = cases (eqb (u .end) 0) (λ e. rw e (unfold wakeWsl in refl)) (λ e. rw e)
+  scheme-moving u = go (eqb (u .end) 0)
+    where
+      go : (c : Bool) → cond {A = State} c (wakeWsl (λ t. not (Machine.waitsOn m (u .view) t)) u) u .moving ≡ u .moving
+      go true = unfold wakeWsl in refl
+      go false = refl
 
   scheme-gains : Gains 0 0 0 z (Machine.wsScheme m z)
   scheme-gains = gains-wsScheme m z
@@ -176,8 +196,10 @@ module _ {m : BlockModel} {tape : List (List ℕ)} {tapeBytes tables lists befor
   schemed =
       record {
         stands =
-            subst (λ (o : Option Transaction). Stands tapeBytes (withScheme true tables (length (m .blocks)) (length (m .values)) acted .rows) o (Machine.wsScheme m z)) (sym (scheme-moving z))
-            (scheme-stands proper rep nested _ _ z (scheme-low z (ended .sane)) (acts .stands));
+            subst (λ (o : Option Transaction).
+            Stands tapeBytes (withScheme true tables (length (m .blocks)) (length (m .values)) acted .rows) o (Machine.wsScheme m z))
+            (sym (scheme-moving z))
+            (scheme-stands proper rep nested (acted .rows) (z .moving) z (scheme-low z (ended .sane)) (acts .stands));
         writes =
             writes-like (scheme-gains .records) (scheme-gains .written) (acts .writes);
       }
@@ -188,7 +210,7 @@ module _ {m : BlockModel} {tape : List (List ℕ)} {tapeBytes tables lists befor
   S x = rep .watching .watched x ≡ true
 
   not-in : (x : Thing) → rep .watching .watched x ≡ false → S x → ⊥
-  not-in x e h = true≢false (cc (h, e))
+  not-in x e h = true≢false (sym h ∙ e)
 
   stands₁ : Stands tapeBytes r₁ (y .moving) y
   stands₁ = take-stands proper tapeBytes r s (sure .sane) (taken .turns-left) (runs .stands)
@@ -200,14 +222,16 @@ module _ {m : BlockModel} {tape : List (List ℕ)} {tapeBytes tables lists befor
   unfolding clockAsks
   clock-kept q h = go (eqb (r .scalars .clock) (acted .rows .scalars .clock)) refl q
     where
-      go : (c : Bool) → eqb (r .scalars .clock) (acted .rows .scalars .clock) ≡ c → cond c false (not (eqb (getD tables Layout.clockAsked 0) 0)) ≡ false → s .view .clock ≡ y .view .clock
+      go : (c : Bool) → eqb (r .scalars .clock) (acted .rows .scalars .clock) ≡ c
+          → cond c false (not (eqb (getD tables Layout.clockAsked 0) 0)) ≡ false → s .view .clock ≡ y .view .clock
       go true e q = sym (runs .stands .counting .clock) ∙ eqb-true _ _ e ∙ acted-clock
       go false e q = absurd (not-in theClock (rep .watching .clock (eqb-true _ 0 (not-false _ q))) h)
 
   abbrev blockAsks : ℕ → Bool
   blockAsks n = cond (ltb (n - 1) 256) (not (eqb (getD tables (Layout.asked + (n - 1)) 0) 0)) true
 
-  mover-spares : (o : Option Transaction) → y .moving ≡ o → Stands tapeBytes r₁ o y → blockAsks (nextOf (r₁ .work) (r₁ .scalars .moving)) ≡ false → MoverSpares S m o
+  mover-spares : (o : Option Transaction) → y .moving ≡ o → Stands tapeBytes r₁ o y
+      → blockAsks (nextOf (r₁ .work) (r₁ .scalars .moving)) ≡ false → MoverSpares S m o
   unfolding nextOf
   mover-spares none e h q = tt
   mover-spares (some t) e h q =
@@ -223,9 +247,11 @@ module _ {m : BlockModel} {tape : List (List ℕ)} {tapeBytes tables lists befor
   still f =
       cases (clockAsks tables (r .scalars .clock) (acted .rows .scalars .clock))
       (λ e. absurd (true≢false (rw e at f)))
-      (λ e. scheme-unread S m (rep .watching .watches) s (sure .settled (taken .no-end)) (clock-kept e) (mover-spares _ refl stands₁ (rw e at f)))
+      (λ e. scheme-unread S m (rep .watching .watches) s (sure .settled (taken .no-end)) (clock-kept e)
+      (mover-spares _ refl stands₁ (rw e at f)))
 
-  unasked : asking ≡ false → Runs tapeBytes before (withScheme false tables (length (m .blocks)) (length (m .values)) acted) (Machine.wsScheme m z)
+  unasked : asking ≡ false → Runs tapeBytes before (withScheme false tables (length (m .blocks)) (length (m .values)) acted)
+      (Machine.wsScheme m z)
   unasked f =
       rw (still f) left-alone
     where
@@ -237,7 +263,8 @@ module _ {m : BlockModel} {tape : List (List ℕ)} {tapeBytes tables lists befor
             writes = acts .writes;
           }
 
-  either : (c : Bool) → asking ≡ c → Runs tapeBytes before (withScheme c tables (length (m .blocks)) (length (m .values)) acted) (Machine.wsScheme m z)
+  either : (c : Bool) → asking ≡ c → Runs tapeBytes before (withScheme c tables (length (m .blocks)) (length (m .values)) acted)
+      (Machine.wsScheme m z)
   either true e = schemed
   either false e = unasked e
 

@@ -1,5 +1,5 @@
 -- A block's effect apart from its record leaves the records, the clock and the entries as they are.
-use Rattle.machine.specs.All.{ℕ, zero, suc, _≡_, refl, Transaction, Block, BlockModel, State, question}
+use Rattle.machine.specs.All.{ℕ, zero, suc, _≡_, refl, Transaction, Block, BlockModel, State, question, none, setMoving}
 use Rattle.machine.proofs.decoding.Proper.{ProperBlock}
 use Rattle.state.specs.All.{bareAnswer}
 use Rattle.state.proofs.BlockGains.{bare-gains}
@@ -10,12 +10,13 @@ pub record Unwritten (s x : State) : Type 0 where
   pub clock : x .view .clock ≡ s .view .clock
   pub entries : x .view .entries ≡ s .view .entries
 
-pub unwritten : (m : BlockModel) (b : Block) (t : Transaction) (s : State) → ProperBlock m b → Unwritten s (bareAnswer (question m b t s) m b t s .state)
-unwritten m b t s proper = go _ refl
+pub unwritten : (m : BlockModel) (b : Block) (t : Transaction) (s : State) → ProperBlock m b
+    → Unwritten s (bareAnswer (question m b t s) m b t s .state)
+unwritten m b t s proper = go (question m b t s) refl
   where
     go : (n : ℕ) → question m b t s ≡ n → Unwritten s (bareAnswer n m b t s .state)
     go zero e =
         unfold bareAnswer in
-        let g = bare-gains m b t _ _ proper e .gains in
+        let g = bare-gains m b t (setMoving none s) (s .moving) proper e .gains in
         record { records = g .records; written = g .written; clock = g .clock; entries = g .entries }
     go (suc n) e = unfold bareAnswer in record { records = refl; written = refl; clock = refl; entries = refl }

@@ -18,7 +18,8 @@ appended trace used (rejected n) = bytes used trace
 
 unfoldable pub appendRecord : List ℕ → (used clock number block outcome : ℕ) → Bytes
 appendRecord trace used clock number block outcome =
-    cond (leb used (length trace)) (appended trace used (writeRecord inForce (length (drop used trace)) (entry clock number block outcome))) (bytes used trace)
+    cond (leb used (length trace)) (appended trace used (writeRecord inForce (length (drop used trace)) (entry clock number block outcome)))
+    (bytes used trace)
 
 unfoldable pub cellOf : (block outcome : ℕ) → ℕ
 cellOf block outcome = cond (eqb outcome 0) (block - 1) (waits + (block - 1))

@@ -24,12 +24,14 @@ withNote r trace number block =
 module _ (tables : List ℕ) (values facilities : ℕ) (tape w tally trace : List ℕ) (x : Scalars) where
   unfoldable pub act : (number block : ℕ) → Traced
   act number block =
-      cond (ltb (block - 1) maxBlocks) (withNote (execute tables values facilities tape w tally x (Layout.blockWidth * (block - 1))) trace number block)
+      cond (ltb (block - 1) maxBlocks)
+      (withNote (execute tables values facilities tape w tally x (Layout.blockWidth * (block - 1))) trace number block)
       (traced (rowsOf x w tally) trace)
 
   unfoldable pub actMoving : Traced
   actMoving =
-      cond (ltb (x .moving) rowCount) (act (read w numberField (x .moving)) (read w nextField (x .moving))) (traced (rowsOf x w tally) trace)
+      cond (ltb (x .moving) rowCount) (act (read w numberField (x .moving)) (read w nextField (x .moving)))
+      (traced (rowsOf x w tally) trace)
 
 -- has the clock moved, and does a WAITIF on a comparison read it?
 unfoldable pub clockAsks : List ℕ → (before after : ℕ) → Bool
@@ -39,8 +41,8 @@ clockAsks tables before after = cond (eqb before after) false (not (eqb (getD ta
 unfoldable pub nextOf : List ℕ → ℕ → ℕ
 nextOf w k = cond (ltb k rowCount) (read w nextField k) 0
 
--- are those on the WSL asked again after the turn, of the clock before and after it and the block of whoever moved? Not if none of them reads
--- what that block changes.
+-- are those on the WSL asked again after the turn, of the clock before and after it and the block of whoever moved? Not if none of them
+-- reads what that block changes.
 unfoldable pub asks : (tables : List ℕ) (before after block : ℕ) → Bool
 asks tables before after block =
     cond (clockAsks tables before after) true
@@ -52,7 +54,8 @@ schemeIf b tables blocks values tally x w = cond b (wsScheme tables blocks value
 -- the WS scheme after a block, where they are asked
 unfoldable pub withScheme : Bool → (tables : List ℕ) (blocks values : ℕ) → Traced → Traced
 withScheme b tables blocks values a =
-    traced (rowsOf (a .rows .scalars) (schemeIf b tables blocks values (a .rows .tally) (a .rows .scalars) (a .rows .work)) (a .rows .tally)) (a .trace)
+    traced (rowsOf (a .rows .scalars) (schemeIf b tables blocks values (a .rows .tally) (a .rows .scalars) (a .rows .work))
+    (a .rows .tally)) (a .trace)
 
 -- the block of whoever moves, and the WS scheme; of the clock before the taking
 unfoldable pub afterTaking : (tables : List ℕ) (blocks values facilities : ℕ) (tape trace : List ℕ) (before : ℕ) → Rows → Traced
