@@ -12,7 +12,8 @@ pub mod order;
 pub mod wake;
 pub mod whole;
 
-// The layout of the work buffer (specs/Layout of rows_laws): FIELDS of ROWS numbers each, FIELD_WIDTH apart. A number that is not below ROWS is no row.
+// The layout of the work buffer (specs/Layout of rows_laws): FIELDS of ROWS numbers each, FIELD_WIDTH apart. A number that is not below
+// ROWS is no row.
 pub const ROWS: u32 = 1_024;
 
 // The rows are gone through in PARTS of PART_ROWS (whole).

@@ -1,5 +1,5 @@
-// A whole list goes to REL, before all who are there. Its rows are found by their places, in parts of the buffer from the end on; its chain is
-// then joined to that of REL.
+// A whole list goes to REL, before all who are there. Its rows are found by their places, in parts of the buffer from the end on; its chain
+// is then joined to that of REL.
 
 use crate::HEADS;
 use crate::PART_ROWS;
@@ -49,7 +49,8 @@ fn one_if(p: u32, q: u32) -> u32
     0
 }
 
-// Row k, if it is on list p; the answer is whether it was, as 1 or 0. It is stored in any case, which lets the compiler take several rows at once.
+// Row k, if it is on list p; the answer is whether it was, as 1 or 0. It is stored in any case, which lets the compiler take several rows
+// at once.
 fn ready_row(w: &mut [u32], p: u32, k: u32) -> u32
     requires { ⌜ Room (now w) ⌝ }
     requires { ⌜ k < rowCount ⌝ }

@@ -1,6 +1,7 @@
 -- `get` meets its contract: the number is there.
 use Rattle.machine.specs.All.{needs}
-use Rattle.rows.proofs.cells.get as f
+use Rattle.rows.proofs.cells.get.Statement.{statement}
+use Rattle.rows.proofs.cells.get.Tie as tie
 
-pub get-spec : {M : Type 1} → f.Statement.statement M
-get-spec = f.Tie.close (f.Tie.spec (search needs) (search needs) (search needs))
+pub get-spec : {M : Type 1} → statement M
+get-spec = tie.close (tie.spec (search needs) (search needs) (search needs))

@@ -1,7 +1,12 @@
 -- `set` meets its contract: by its bound.
 use Rattle.machine.specs.All.{lt-ltb, arith, needs}
 use Rattle.rows_laws.specs.All.{store}
-use Rattle.rows.proofs.cells.set as f
+use Rattle.rows.proofs.cells.set.Statement.{statement}
+use Rattle.rows.proofs.cells.set.Tie as tie
 
-pub set-spec : {M : Type 1} → f.Statement.statement M
-set-spec = f.Tie.close (f.Tie.spec (search needs) (search needs) (search needs) (λ c. unfold store in rw (lt-ltb (c .args .i) 16384 (omega arith))))
+returns : tie.Need-returns
+unfolding store
+returns c = rw (lt-ltb (c .args .i) 16384 (omega arith))
+
+pub set-spec : {M : Type 1} → statement M
+set-spec = tie.close (tie.spec (search needs) (search needs) (search needs) returns)

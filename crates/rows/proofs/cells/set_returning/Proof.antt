@@ -1,10 +1,18 @@
 -- `set_returning` meets its contract: a mark that stands stays; else what is written is made of what was read.
 use Rattle.machine.specs.All.{sym, ap, _∙_, _%_, needs}
 use Rattle.rows_laws.proofs.Store.{returning-kept}
-use Rattle.rows.proofs.cells.set_returning as f
+use Rattle.rows.proofs.cells.set_returning.Statement.{statement}
+use Rattle.rows.proofs.cells.set_returning.Tie as tie
 
-pub set-returning-spec : {M : Type 1} → f.Statement.statement M
+same-mark : tie.Need-returns
+same-mark c = sym (returning-kept _ _ _ (ap (λ n. n % 2) (sym (c .before .read .ensures)) ∙ c .if1 .taken))
+
+marked : tie.Need-returns-2
+marked c =
+    let at-write : tie.After-write = search in
+    let at-read : tie.After-read = search in
+    rw (← at-read .read .ensures) (at-write .write .ensures)
+
+pub set-returning-spec : {M : Type 1} → statement M
 set-returning-spec =
-    f.Tie.close
-    (f.Tie.spec (search needs) (search needs) (λ c. sym (returning-kept _ _ _ (ap (λ n. n % 2) (sym (c .before .read .ensures)) ∙ c .if1 .taken))) (search needs) (search needs) (search needs) (search needs)
-    (λ c. rw (← c .before .before .before .before .before .read .ensures) (c .before .before .write .ensures)))
+    tie.close (tie.spec (search needs) (search needs) same-mark (search needs) (search needs) (search needs) (search needs) marked)

@@ -1,9 +1,12 @@
 -- `set_time` meets its contract: the two writes, one after the other.
 use Rattle.machine.specs.All.{needs}
 use Rattle.rows_laws.specs.All.{setTime}
-use Rattle.rows.proofs.cells.set_time as f
+use Rattle.rows.proofs.cells.set_time.Statement.{statement}
+use Rattle.rows.proofs.cells.set_time.Tie as tie
 
-pub set-time-spec : {M : Type 1} → f.Statement.statement M
-set-time-spec =
-    f.Tie.close
-    (f.Tie.spec (search needs) (search needs) (search needs) (search needs) (search needs) (λ c. unfold setTime in cc))
+returns : tie.Need-returns
+unfolding setTime
+returns c = cc
+
+pub set-time-spec : {M : Type 1} → statement M
+set-time-spec = tie.close (tie.spec (search needs) (search needs) (search needs) (search needs) (search needs) returns)

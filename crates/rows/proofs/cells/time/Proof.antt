@@ -1,9 +1,12 @@
 -- `time` meets its contract: the two fields that were read.
 use Rattle.machine.specs.All.{needs}
 use Rattle.rows_laws.specs.All.{timeOf}
-use Rattle.rows.proofs.cells.time as f
+use Rattle.rows.proofs.cells.time.Statement.{statement}
+use Rattle.rows.proofs.cells.time.Tie as tie
 
-pub time-spec : {M : Type 1} → f.Statement.statement M
-time-spec =
-    f.Tie.close
-    (f.Tie.spec (search needs) (search needs) (search needs) (search needs) (search needs) (search needs) (λ c. unfold timeOf in cc))
+returns : tie.Need-returns
+unfolding timeOf
+returns c = cc
+
+pub time-spec : {M : Type 1} → statement M
+time-spec = tie.close (tie.spec (search needs) (search needs) (search needs) (search needs) (search needs) (search needs) returns)

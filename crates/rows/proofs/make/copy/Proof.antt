@@ -1,15 +1,17 @@
 -- `copy` meets its contract: the description, then the parameters.
 use Rattle.rows_laws.specs.All.{copyAt}
 use Rattle.machine.specs.All.{needs}
-use Rattle.rows.proofs.make.copy as f
+use Rattle.rows.proofs.make.copy.Statement.{statement}
+use Rattle.rows.proofs.make.copy.Tie as tie
 
-returns : f.Tie.Need-returns
+returns : tie.Need-returns
 unfolding copyAt
 returns c =
-    let b = c .before .before .before .before .before .before in
-    rw (← b .before .before .before .before .read .ensures, ← b .before .before .read2 .ensures, c .before .before .copy-parameters .ensures, b .describe .ensures)
+    let at-copy-parameters : tie.After-copy-parameters = search in
+    let at-describe : tie.After-describe = search in
+    let at-read2 : tie.After-read2 = search in
+    let at-read : tie.After-read = search in
+    rw (← at-read .read .ensures, ← at-read2 .read2 .ensures, at-copy-parameters .copy-parameters .ensures, at-describe .describe .ensures)
 
-pub copy-spec : {M : Type 1} → f.Statement.statement M
-copy-spec =
-    f.Tie.close
-    (f.Tie.spec (search needs) (search needs) (search needs) (search needs) (search needs) returns)
+pub copy-spec : {M : Type 1} → statement M
+copy-spec = tie.close (tie.spec (search needs) (search needs) (search needs) (search needs) (search needs) returns)

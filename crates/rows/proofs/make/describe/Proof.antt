@@ -1,18 +1,31 @@
 -- `describe` meets its contract: the writes in order.
 use Rattle.rows_laws.specs.All.{describe}
 use Rattle.machine.specs.All.{needs}
-use Rattle.rows.proofs.make.describe as f
+use Rattle.rows.proofs.make.describe.Statement.{statement}
+use Rattle.rows.proofs.make.describe.Tie as tie
 
-returns : f.Tie.Need-returns
+returns : tie.Need-returns
 unfolding describe
 returns c =
-    let b = c .before .before .before .before .before .before .before .before .before .before in
-    rw (c .before .before .write5 .ensures, c .before .before .before .before .before .before .set-time .ensures, b .write4 .ensures, b .before .before .before .before .write3 .ensures, b .before .before .before .before .before .before .before .before .write2 .ensures, b .before .before .before .before .before .before .before .before .before .before .before .before .write .ensures)
+    let at-write5 : tie.After-write5 = search in
+    let at-set-time : tie.After-set-time = search in
+    let at-write4 : tie.After-write4 = search in
+    let at-write3 : tie.After-write3 = search in
+    let at-write2 : tie.After-write2 = search in
+    let at-write : tie.After-write = search in
+    rw (
+      at-write5 .write5 .ensures,
+      at-set-time .set-time .ensures,
+      at-write4 .write4 .ensures,
+      at-write3 .write3 .ensures,
+      at-write2 .write2 .ensures,
+      at-write .write .ensures,
+    )
 
-pub describe-spec : {M : Type 1} → f.Statement.statement M
+pub describe-spec : {M : Type 1} → statement M
 describe-spec =
-    f.Tie.close
-    (f.Tie.spec
+    tie.close
+    (tie.spec
     (search needs)
     (search needs)
     (search needs)

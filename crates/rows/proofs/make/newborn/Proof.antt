@@ -1,7 +1,15 @@
 -- `newborn` meets its contract: the description, then the parameters.
 use Rattle.rows_laws.specs.All.{newbornAt}
 use Rattle.machine.specs.All.{needs}
-use Rattle.rows.proofs.make.newborn as f
+use Rattle.rows.proofs.make.newborn.Statement.{statement}
+use Rattle.rows.proofs.make.newborn.Tie as tie
 
-pub newborn-spec : {M : Type 1} → f.Statement.statement M
-newborn-spec = f.Tie.close (f.Tie.spec (search needs) (search needs) (search needs) (λ c. unfold newbornAt in rw (c .before .before .clear-parameters .ensures, c .before .before .before .before .before .before .describe .ensures)))
+returns : tie.Need-returns
+unfolding newbornAt
+returns c =
+    let at-clear-parameters : tie.After-clear-parameters = search in
+    let at-describe : tie.After-describe = search in
+    rw (at-clear-parameters .clear-parameters .ensures, at-describe .describe .ensures)
+
+pub newborn-spec : {M : Type 1} → statement M
+newborn-spec = tie.close (tie.spec (search needs) (search needs) (search needs) returns)

@@ -1,28 +1,41 @@
 -- `outranks` meets its contract, by cases on the priorities.
 use Rattle.machine.specs.All.{arith, lt-ltb, le-ltb, eq-eqb, ne-eqb, needs}
 use Rattle.rows_laws.specs.All.{outranks}
-use Rattle.rows.proofs.order.outranks as f
+use Rattle.rows.proofs.order.outranks.Statement.{statement}
+use Rattle.rows.proofs.order.outranks.Tie as tie
 
-returns-2 : f.Tie.Need-returns-2
+higher : tie.Need-returns
 unfolding outranks
-returns-2 c =
-    let b = c .before .before in
-    rw (← b .before .priority .ensures, ← b .priority2 .ensures, le-ltb _ _ (c .before .if1 .left), ne-eqb (b .before .priority .result) (b .priority2 .result) (λ e. omega arith))
+higher c = rw (← c .before .before .priority .ensures, ← c .before .priority2 .ensures, lt-ltb _ _ (c .if1 .taken))
 
-returns-3 : f.Tie.Need-returns-3
+lower : tie.Need-returns-2
 unfolding outranks
-returns-3 c =
-    let b = c .before .before .before in
-    rw (← b .before .before .priority .ensures, ← b .before .priority2 .ensures, le-ltb _ _ (b .if1 .left), eq-eqb (b .before .before .priority .result) (b .before .priority2 .result) (omega arith), ← c .before .read .ensures, ← c .read2 .ensures)
+lower c =
+    let at-else1 : tie.Else1 = search in
+    let at-priority2 : tie.After-priority2 = search in
+    let at-priority : tie.After-priority = search in
+    rw (
+      ← at-priority .priority .ensures,
+      ← at-priority2 .priority2 .ensures,
+      le-ltb _ _ (at-else1 .if1 .left),
+      ne-eqb (at-priority .priority .result) (at-priority2 .priority2 .result) (λ e. omega arith),
+    )
 
-pub outranks-spec : {M : Type 1} → f.Statement.statement M
-outranks-spec =
-    f.Tie.close
-    (f.Tie.spec
-    (search needs)
-    (search needs)
-    (λ c. unfold outranks in rw (← c .before .before .priority .ensures, ← c .before .priority2 .ensures, lt-ltb _ _ (c .if1 .taken)))
-    returns-2
-    (search needs)
-    (search needs)
-    returns-3)
+by-serial : tie.Need-returns-3
+unfolding outranks
+by-serial c =
+    let at-read : tie.After-read = search in
+    let at-else1 : tie.Else1 = search in
+    let at-priority2 : tie.After-priority2 = search in
+    let at-priority : tie.After-priority = search in
+    rw (
+      ← at-priority .priority .ensures,
+      ← at-priority2 .priority2 .ensures,
+      le-ltb _ _ (at-else1 .if1 .left),
+      eq-eqb (at-priority .priority .result) (at-priority2 .priority2 .result) (omega arith),
+      ← at-read .read .ensures,
+      ← c .read2 .ensures,
+    )
+
+pub outranks-spec : {M : Type 1} → statement M
+outranks-spec = tie.close (tie.spec (search needs) (search needs) higher lower (search needs) (search needs) by-serial)

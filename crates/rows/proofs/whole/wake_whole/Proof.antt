@@ -1,7 +1,12 @@
 -- `wake_whole` meets its contract: the rows, then the chain.
 use Rattle.rows_laws.specs.All.{wakeWhole}
 use Rattle.machine.specs.All.{needs}
-use Rattle.rows.proofs.whole.wake_whole as f
+use Rattle.rows.proofs.whole.wake_whole.Statement.{statement}
+use Rattle.rows.proofs.whole.wake_whole.Tie as tie
 
-pub wake-whole-spec : {M : Type 1} → f.Statement.statement M
-wake-whole-spec = f.Tie.close (f.Tie.spec (search needs) (search needs) (search needs) (λ c. unfold wakeWhole in cc))
+returns : tie.Need-returns
+unfolding wakeWhole
+returns c = cc
+
+pub wake-whole-spec : {M : Type 1} → statement M
+wake-whole-spec = tie.close (tie.spec (search needs) (search needs) (search needs) returns)
