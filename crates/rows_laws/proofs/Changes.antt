@@ -6,6 +6,7 @@ use our.Occurs.{same-refl, same-other, occurs-append, occurs-cons}
 use our.Chain.{chain-moved, chain-after, ending-append}
 use our.Structure.{Changed, structure, row-of, at-most-once, end-low, end-high, end-not-link}
 use our.AtCell
+use mathlib.Core.Path.{subst}
 
 module _ (w : List ℕ) (p k : ℕ) (a b : List ℕ) (room : 16384 ≤ length w) (hp : p < listCount) (chained : p ≢ fel) (hk : k < 1024) where
   -- row k, on no list, comes behind a
@@ -14,7 +15,7 @@ module _ (w : List ℕ) (p k : ℕ) (a b : List ℕ) (room : 16384 ≤ length w)
     cell = ending (head p) a
 
     none : occurs k (a ++ b) ≡ 0
-    none = one .once k hk ∙ same-other _ p (λ e. omega arith)
+    none = one .once k hk ∙ same-other (load w (place k)) p (λ e. omega arith)
 
     low : links ≤ cell
     low = end-low w p a b one
@@ -26,14 +27,14 @@ module _ (w : List ℕ) (p k : ℕ) (a b : List ℕ) (room : 16384 ≤ length w)
     apart e = end-not-link w p a b one k hk (omega (arith, none, occurs-append k a b)) (sym e)
 
     after : Chain w cell b
-    after = chain-after w _ a b (one .chain chained)
+    after = chain-after w (head p) a b (one .chain chained)
 
     kept-link : (j : ℕ) → 1 ≤ occurs j b → load (insertAt w p cell k) (link j) ≡ load w (link j)
     kept-link j m =
-        let r = row-of w p a b one j (omega (arith, occurs-append j a b)) .0 in
-        AtCell.insert-kept w p cell k room hp hk low high apart _
+        let r : j < 1024 = row-of w p a b one j (omega (arith, occurs-append j a b)) .0 in
+        AtCell.insert-kept w p cell k room hp hk low high apart (link j)
         (end-not-link w p a b one j r (omega (arith, at-most-once w p a b one j, occurs-append j a b)))
-        (λ e. let f : j ≡ k = omega arith in omega (arith, none, occurs-append k a b, rw f at m))
+        (λ e. let f : j ≡ k = omega arith in omega (arith, none, occurs-append k a b, subst (λ (x : ℕ). 1 ≤ occurs x b) f m))
         (λ e. omega arith) (λ e. omega arith)
 
     insert-chain : Chain (insertAt w p cell k) cell (k ∷ b)
@@ -49,7 +50,7 @@ module _ (w : List ℕ) (p k : ℕ) (a b : List ℕ) (room : 16384 ≤ length w)
     insert-last [] e =
         AtCell.insert-tail-none w p cell k room hp hk low high apart (rw e at after)
     insert-last (j ∷ b′) e =
-        let h = rw e at after in
+        let h : Chain w cell (j ∷ b′) = rw e at after in
         AtCell.insert-tail-row w p cell k room hp hk low high apart (omega (arith, h .0, h .1))
         ∙ one .last chained ∙ ending-append (head p) a b ∙ ap (ending cell) e
 
@@ -58,9 +59,20 @@ module _ (w : List ℕ) (p k : ℕ) (a b : List ℕ) (room : 16384 ≤ length w)
       where
         go : Dec (j ≡ k) → occurs j (a ++ k ∷ b) ≡ same (load (insertAt w p cell k) (place j)) p
         go (yes e) =
-            rw e (omega (arith, occurs-append k a (k ∷ b), occurs-cons k k b, same-refl k k refl, none, occurs-append k a b, same-refl _ p (AtCell.insert-place w p cell k room hp hk low high apart)))
+            rw e
+            (omega (
+              arith,
+              occurs-append k a (k ∷ b),
+              occurs-cons k k b,
+              same-refl k k refl,
+              none,
+              occurs-append k a b,
+              same-refl (load (insertAt w p cell k) (place k)) p (AtCell.insert-place w p cell k room hp hk low high apart),
+            ))
         go (no d) =
-            rw (AtCell.insert-kept w p cell k room hp hk low high apart (place j) (λ e. omega (arith, low)) (λ e. omega arith) (λ e. d (omega arith)) (λ e. omega arith))
+            rw
+            (AtCell.insert-kept w p cell k room hp hk low high apart (place j) (λ e. omega (arith, low)) (λ e. omega arith)
+            (λ e. d (omega arith)) (λ e. omega arith))
             (omega (arith, occurs-append j a (k ∷ b), occurs-cons j k b, same-other j k d, occurs-append j a b, one .once j hj))
 
     insert-row : (j : ℕ) → 1 ≤ occurs j (a ++ k ∷ b) → j < 1024
@@ -83,8 +95,10 @@ module _ (w : List ℕ) (p k : ℕ) (a b : List ℕ) (room : 16384 ≤ length w)
           once = insert-once;
         }
 
-    pub insert-listed : (L : ℕ → List ℕ) → ((q : ℕ) → q < listCount → Listed w q (L q)) → (q : ℕ) → q < listCount → Listed (insertAt w p cell k) q (update p (a ++ k ∷ b) L q)
-    insert-listed L listed = structure w _ L listed p k a b _ hp chained hk one insert-changed
+    -- list p has row k behind the rows a, every other list is as before
+    pub insert-listed : (L : ℕ → List ℕ) → ((q : ℕ) → q < listCount → Listed w q (L q)) → (q : ℕ) → q < listCount
+        → Listed (insertAt w p cell k) q (update p (a ++ k ∷ b) L q)
+    insert-listed L listed = structure w (insertAt w p cell k) L listed p k a b (k ∷ b) hp chained hk one insert-changed
 
   -- row k, behind a, leaves
   module _ (one : Listed w p (a ++ k ∷ b)) where
@@ -92,19 +106,20 @@ module _ (w : List ℕ) (p k : ℕ) (a b : List ℕ) (room : 16384 ≤ length w)
     spotted = ending (head p) a
 
     r-low : links ≤ spotted
-    r-low = end-low w p a _ one
+    r-low = end-low w p a (k ∷ b) one
 
     r-high : spotted < tails
-    r-high = omega (arith, end-high w p a _ one)
+    r-high = omega (arith, end-high w p a (k ∷ b) one)
 
     -- it occurs there alone
     pub alone : (occurs k a ≡ 0) × (occurs k b ≡ 0)
     alone =
-        let h : occurs k a + (1 + occurs k b) ≤ 1 = omega (arith, at-most-once w p a _ one k, occurs-append k a (k ∷ b), occurs-cons k k b, same-refl k k refl) in
-        (omega arith, omega arith)
+        let h : occurs k a + (1 + occurs k b) ≤ 1 =
+        omega (arith, at-most-once w p a (k ∷ b) one k, occurs-append k a (k ∷ b), occurs-cons k k b, same-refl k k refl) in
+        (omega (arith, h), omega arith)
 
     r-after : Chain w spotted (k ∷ b)
-    r-after = chain-after w _ a _ (one .chain chained)
+    r-after = chain-after w (head p) a (k ∷ b) (one .chain chained)
 
     pub removed-row : (load w spotted ≡ k) × Chain w (link k) b
     unfolding Chain
@@ -112,21 +127,22 @@ module _ (w : List ℕ) (p k : ℕ) (a b : List ℕ) (room : 16384 ≤ length w)
 
     r-kept-link : (j : ℕ) → 1 ≤ occurs j b → load (removeRow w p spotted k) (link j) ≡ load w (link j)
     r-kept-link j m =
-        let r = row-of w p a _ one j (omega (arith, occurs-append j a (k ∷ b), occurs-cons j k b)) .0 in
-        AtCell.remove-kept w p spotted k room hp hk r-low r-high _
-        (end-not-link w p a _ one j r (omega (arith, at-most-once w p a _ one j, occurs-append j a (k ∷ b), occurs-cons j k b)))
+        let r : j < 1024 = row-of w p a (k ∷ b) one j (omega (arith, occurs-append j a (k ∷ b), occurs-cons j k b)) .0 in
+        AtCell.remove-kept w p spotted k room hp hk r-low r-high (link j)
+        (end-not-link w p a (k ∷ b) one j r (omega (arith, at-most-once w p a (k ∷ b) one j, occurs-append j a (k ∷ b), occurs-cons j k b)))
         (λ e. omega arith) (λ e. omega arith)
 
     remove-chain : Chain (removeRow w p spotted k) spotted b
     remove-chain =
-        chain-moved w _ _ spotted b (AtCell.remove-cell w p spotted k room hp hk r-low r-high) r-kept-link (removed-row .1)
+        chain-moved w (removeRow w p spotted k) (link k) spotted b (AtCell.remove-cell w p spotted k room hp hk r-low r-high) r-kept-link
+        (removed-row .1)
 
     remove-last : (b′ : List ℕ) → b ≡ b′ → load (removeRow w p spotted k) (tail p) ≡ ending spotted b′
     unfolding Chain ending
     remove-last [] e =
         AtCell.remove-tail-none w p spotted k room hp hk r-low r-high (rw e at (removed-row .1))
     remove-last (j ∷ b′) e =
-        let h = rw e at (removed-row .1) in
+        let h : Chain w (link k) (j ∷ b′) = rw e at (removed-row .1) in
         AtCell.remove-tail-row w p spotted k room hp hk r-low r-high (omega (arith, h .0, h .1))
         ∙ one .last chained ∙ ending-append (head p) a (k ∷ b) ∙ ap (ending (link k)) e
 
@@ -136,9 +152,18 @@ module _ (w : List ℕ) (p k : ℕ) (a b : List ℕ) (room : 16384 ≤ length w)
         go : Dec (j ≡ k) → occurs j (a ++ b) ≡ same (load (removeRow w p spotted k) (place j)) p
         go (yes e) =
             rw e
-            (omega (arith, occurs-append k a b, alone .0, alone .1, same-other (load (removeRow w p spotted k) (place k)) p (λ f. omega (arith, AtCell.remove-place w p spotted k room hp hk r-low r-high))))
+            (omega (
+              arith,
+              occurs-append k a b,
+              alone .0,
+              alone .1,
+              same-other (load (removeRow w p spotted k) (place k)) p
+                  (λ f. omega (arith, AtCell.remove-place w p spotted k room hp hk r-low r-high)),
+            ))
         go (no d) =
-            rw (AtCell.remove-kept w p spotted k room hp hk r-low r-high (place j) (λ e. omega (arith, r-low)) (λ e. d (omega arith)) (λ e. omega arith))
+            rw
+            (AtCell.remove-kept w p spotted k room hp hk r-low r-high (place j) (λ e. omega (arith, r-low)) (λ e. d (omega arith))
+            (λ e. omega arith))
             (omega (arith, occurs-append j a (k ∷ b), occurs-cons j k b, same-other j k d, occurs-append j a b, one .once j hj))
 
     pub remove-changed : Changed w (removeRow w p spotted k) p k a (k ∷ b) b
@@ -146,7 +171,9 @@ module _ (w : List ℕ) (p k : ℕ) (a b : List ℕ) (room : 16384 ≤ length w)
         record {
           kept = λ i d e f g. AtCell.remove-kept w p spotted k room hp hk r-low r-high i d f g;
           apart = alone .0;
-          was = λ q hq d e. d (sym e ∙ row-of w p a _ one k (omega (arith, occurs-append k a (k ∷ b), occurs-cons k k b, same-refl k k refl)) .1);
+          was =
+              λ q hq d e.
+              d (sym e ∙ row-of w p a (k ∷ b) one k (omega (arith, occurs-append k a (k ∷ b), occurs-cons k k b, same-refl k k refl)) .1);
           is = λ q hq d e. omega (arith, AtCell.remove-place w p spotted k room hp hk r-low r-high);
           chain = remove-chain;
           last = remove-last b refl;
@@ -154,6 +181,8 @@ module _ (w : List ℕ) (p k : ℕ) (a b : List ℕ) (room : 16384 ≤ length w)
           once = remove-once;
         }
 
-    pub remove-listed : (L : ℕ → List ℕ) → ((q : ℕ) → q < listCount → Listed w q (L q)) → (q : ℕ) → q < listCount → Listed (removeRow w p spotted k) q (update p (a ++ b) L q)
+    -- list p has lost row k from behind the rows a, every other list is as before
+    pub remove-listed : (L : ℕ → List ℕ) → ((q : ℕ) → q < listCount → Listed w q (L q)) → (q : ℕ) → q < listCount
+        → Listed (removeRow w p spotted k) q (update p (a ++ b) L q)
     remove-listed L listed =
-        structure w _ L listed p k a _ b hp chained hk one remove-changed
+        structure w (removeRow w p spotted k) L listed p k a (k ∷ b) b hp chained hk one remove-changed

@@ -17,13 +17,26 @@ same-row w w′ k h kept f g = kept (fieldAt f k) (omega arith)
 pub transaction-kept : (w w′ : List ℕ) (k : ℕ) → SameRow w w′ k → transactionAt w′ k ≡ transactionAt w k
 unfolding transactionAt timeOf
 transaction-kept w w′ k kept =
-    rw (kept 0 (omega arith), kept 1 (omega arith), kept 2 (omega arith), kept 3 (omega arith), kept 4 (omega arith), kept 5 (omega arith), kept 6 (omega arith), kept 7 (omega arith), kept 8 (omega arith), kept 9 (omega arith), kept 10 (omega arith))
+    rw (
+      kept 0 (omega arith),
+      kept 1 (omega arith),
+      kept 2 (omega arith),
+      kept 3 (omega arith),
+      kept 4 (omega arith),
+      kept 5 (omega arith),
+      kept 6 (omega arith),
+      kept 7 (omega arith),
+      kept 8 (omega arith),
+      kept 9 (omega arith),
+      kept 10 (omega arith),
+    )
 
 pub event-kept : (w w′ : List ℕ) (k : ℕ) → SameRow w w′ k → eventAt w′ k ≡ eventAt w k
 unfolding eventAt timeOf
 event-kept w w′ k kept = rw (transaction-kept w w′ k kept, kept 8 (omega arith), kept 9 (omega arith))
 
 module _ {A : Type 0} (f g : ℕ → A) where
+  -- only the rows that the list has count
   pub map-kept : (l : List ℕ) → ((j : ℕ) → 1 ≤ occurs j l → f j ≡ g j) → map f l ≡ map g l
   unfolding occurs
   map-kept [] h = refl

@@ -7,7 +7,7 @@ module _ {A : Type 0} (r : A → A → Bool) (x : A) where
   front-none : (l : List A) → All (λ y. r x y ≡ false) (front r x l)
   unfolding All front
   front-none [] = tt
-  front-none (y ∷ l) = go _ refl (front-none l)
+  front-none (y ∷ l) = go (r x y) refl (front-none l)
     where
       go : (t : Bool) → r x y ≡ t → All (λ y. r x y ≡ false) (front r x l) → All (λ y. r x y ≡ false) (cond t [] (y ∷ front r x l))
       go true e h = tt
@@ -16,7 +16,7 @@ module _ {A : Type 0} (r : A → A → Bool) (x : A) where
   back-first : (l : List A) (y : A) (b : List A) → back r x l ≡ y ∷ b → r x y ≡ true
   unfolding back
   back-first [] y b e = absurd (omega (arith, ap (λ (l : List A). length l) e))
-  back-first (z ∷ l) y b e = go _ refl e (back-first l y b)
+  back-first (z ∷ l) y b e = go (r x z) refl e (back-first l y b)
     where
       go : (t : Bool) → r x z ≡ t → cond t (z ∷ l) (back r x l) ≡ y ∷ b → (back r x l ≡ y ∷ b → r x y ≡ true) → r x y ≡ true
       go true q e later = subst (λ (m : List A). All₁ m) e q
@@ -40,13 +40,13 @@ module _ (w : List ℕ) (p : ℕ) (r : ℕ → ℕ → Bool) (chained : p ≢ fe
   c = walk r 1024 w 0 (head p)
 
   cell : c ≡ ending (head p) a
-  cell = walk-front r w p 0 1024 _ l (one .chain chained) (short w p l one)
+  cell = walk-front r w p 0 1024 (head p) l (one .chain chained) (short w p l one)
 
   parts : a ++ back r 0 l ≡ l
   parts = front-back r 0 l
 
   rest : Chain w (ending (head p) a) (back r 0 l)
-  rest = chain-after w _ a _ (rw parts (one .chain chained))
+  rest = chain-after w (head p) a (back r 0 l) (subst (Chain w (head p)) (sym parts) (one .chain chained))
 
   append-nil : (m : List ℕ) → m ++ [] ≡ m
   append-nil [] = refl
@@ -55,11 +55,12 @@ module _ (w : List ℕ) (p : ℕ) (r : ℕ → ℕ → Bool) (chained : p ≢ fe
   from : (b : List ℕ) → back r 0 l ≡ b → Found w p (r 0) c l
   unfolding Chain
   from [] e =
-      nobody (rw (← parts, e, append-nil a) (front-none r 0 l))
-      (rw cell (rw e at rest))
+      nobody (subst (All (λ k. r 0 k ≡ false)) (sym (append-nil a) ∙ ap (λ (m : List ℕ). a ++ m) (sym e) ∙ parts) (front-none r 0 l))
+      (rw cell (subst (Chain w (ending (head p) a)) e rest))
   from (k ∷ b) e =
-      let at = rw e at rest in
-      somebody a b k (sym parts ∙ ap (λ (m : List ℕ). a ++ m) e) cell (ap (load w) cell ∙ at .0) (at .1) (front-none r 0 l) (back-first r 0 l k b e)
+      let at : Chain w (ending (head p) a) (k ∷ b) = subst (Chain w (ending (head p) a)) e rest in
+      somebody a b k (sym parts ∙ ap (λ (m : List ℕ). a ++ m) e) cell (ap (load w) cell ∙ at .0) (at .1) (front-none r 0 l)
+      (back-first r 0 l k b e)
 
   pub found : Found w p (r 0) c l
-  found = from _ refl
+  found = from (back r 0 l) refl

@@ -17,10 +17,12 @@ changed-kept : (w w′ : List ℕ) (p k : ℕ) (a b b′ : List ℕ) → p < lis
 changed-kept w w′ p k a b b′ hp one ch =
     record {
       rows = λ i h. ch .kept i (λ e. omega (arith, end-low w p a b one)) (λ e. omega arith) (λ e. omega arith) (λ e. omega arith);
-      places = λ j h d. ch .kept _ (λ e. omega (arith, end-low w p a b one)) (λ e. omega arith) (λ e. d (omega arith)) (λ e. omega arith);
+      places =
+          λ j h d. ch .kept (place j) (λ e. omega (arith, end-low w p a b one)) (λ e. omega arith) (λ e. d (omega arith)) (λ e. omega arith);
     }
 
-module _ (w : List ℕ) (L : ℕ → List ℕ) (h : Holds w L) (p k : ℕ) (a b : List ℕ) (hp : p < listCount) (chained : p ≢ fel) (hk : k < 1024) where
+module _ (w : List ℕ) (L : ℕ → List ℕ) (h : Holds w L) (p k : ℕ) (a b : List ℕ) (hp : p < listCount) (chained : p ≢ fel)
+    (hk : k < 1024) where
   -- row k, on no list, comes behind a
   module _ (was : L p ≡ a ++ b) (off : load w (place k) ≡ nowhere) where
     abbrev after-insert : List ℕ
@@ -34,18 +36,20 @@ module _ (w : List ℕ) (L : ℕ → List ℕ) (h : Holds w L) (p k : ℕ) (a b 
 
     pub insert-keeps : Kept w after-insert k
     insert-keeps =
-        changed-kept w after-insert p k a b _ hp one (insert-changed w p k a b (h .room) hp chained hk one off)
+        changed-kept w after-insert p k a b (k ∷ b) hp one (insert-changed w p k a b (h .room) hp chained hk one off)
 
     pub insert-holds : Holds after-insert (update p (a ++ k ∷ b) L)
     insert-holds =
         record {
-          room = insert-room w p _ k (h .room) hp hk (end-low w p a b one) high (apart w p k a b (h .room) hp chained hk one off);
+          room =
+              insert-room w p (ending (head p) a) k (h .room) hp hk (end-low w p a b one) high
+              (apart w p k a b (h .room) hp chained hk one off);
           listed = insert-listed w p k a b (h .room) hp chained hk one off L (h .listed);
         }
 
     pub insert-placed : load after-insert (place k) ≡ p
     insert-placed =
-        insert-place w p _ k (h .room) hp hk (end-low w p a b one) high (apart w p k a b (h .room) hp chained hk one off)
+        insert-place w p (ending (head p) a) k (h .room) hp hk (end-low w p a b one) high (apart w p k a b (h .room) hp chained hk one off)
 
   -- row k, behind a, leaves
   module _ (was : L p ≡ a ++ k ∷ b) where
@@ -56,7 +60,7 @@ module _ (w : List ℕ) (L : ℕ → List ℕ) (h : Holds w L) (p k : ℕ) (a b 
     r-one = rw was at (h .listed p hp)
 
     r-high : ending (head p) a < tails
-    r-high = omega (arith, end-high w p a _ r-one)
+    r-high = omega (arith, end-high w p a (k ∷ b) r-one)
 
     -- the cell holds the row
     pub remove-first : load w (ending (head p) a) ≡ k
@@ -64,20 +68,21 @@ module _ (w : List ℕ) (L : ℕ → List ℕ) (h : Holds w L) (p k : ℕ) (a b 
 
     removes : after-remove ≡ removeRow w p (ending (head p) a) k
     unfolding removeAt
-    removes = rw (remove-first, lt-ltb)
+    removes = rw (remove-first, lt-ltb k 1024 hk)
 
     pub remove-keeps : Kept w after-remove k
     remove-keeps =
         rw removes
-        (changed-kept w _ p k a _ b hp r-one (remove-changed w p k a b (h .room) hp chained hk r-one))
+        (changed-kept w (removeRow w p (ending (head p) a) k) p k a (k ∷ b) b hp r-one
+        (remove-changed w p k a b (h .room) hp chained hk r-one))
 
     pub remove-holds : Holds after-remove (update p (a ++ b) L)
     remove-holds =
         record {
-          room = rw removes (remove-room w p _ k (h .room) hp hk (end-low w p a _ r-one) r-high);
+          room = rw removes (remove-room w p (ending (head p) a) k (h .room) hp hk (end-low w p a (k ∷ b) r-one) r-high);
           listed = rw removes (remove-listed w p k a b (h .room) hp chained hk r-one L (h .listed));
         }
 
     pub remove-placed : load after-remove (place k) ≡ nowhere
     remove-placed =
-        rw removes (remove-place w p _ k (h .room) hp hk (end-low w p a _ r-one) r-high)
+        rw removes (remove-place w p (ending (head p) a) k (h .room) hp hk (end-low w p a (k ∷ b) r-one) r-high)

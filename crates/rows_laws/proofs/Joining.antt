@@ -18,13 +18,15 @@ Leads t [] = Unit {0}
 Leads t (r ∷ l) = precedes t r ≡ true
 
 -- one that stands before nobody of a, and before the first of r
-insert-between : (t : Transaction) (a r : List Transaction) → All (λ u. precedes t u ≡ false) a → Leads t r → insert precedes t (a ++ r) ≡ a ++ t ∷ r
+insert-between : (t : Transaction) (a r : List Transaction) → All (λ u. precedes t u ≡ false) a → Leads t r
+    → insert precedes t (a ++ r) ≡ a ++ t ∷ r
 unfolding All Leads insert
 insert-between t [] [] n h = refl
 insert-between t [] (u ∷ r) n h = rw h
 insert-between t (u ∷ a) r n h = rw (n .0) (ap (λ (l : List Transaction). u ∷ l) (insert-between t a r (n .1) h))
 
-all-marked : (t : Transaction) (a : List Transaction) → All (λ u. precedes t u ≡ false) a → All (λ u. precedes (withReturning true t) u ≡ false) a
+all-marked : (t : Transaction) (a : List Transaction) → All (λ u. precedes t u ≡ false) a
+    → All (λ u. precedes (withReturning true t) u ≡ false) a
 unfolding All
 all-marked t [] h = tt
 all-marked t (u ∷ a) h = (marked-before t u ∙ h .0, all-marked t a (h .1))
@@ -35,17 +37,24 @@ leads-marked t [] h = tt
 leads-marked t (u ∷ r) h = marked-before t u ∙ h
 
 -- those behind stand before nobody of a, nor before the one ahead of them
-one-more : (t : Transaction) (a l : List Transaction) → All (λ x. All (λ u. precedes x u ≡ false) a) l → All (λ x. precedes x t ≡ false) l → All (λ x. All (λ u. precedes x u ≡ false) (a ++ withReturning true t ∷ [])) l
+one-more : (t : Transaction) (a l : List Transaction) → All (λ x. All (λ u. precedes x u ≡ false) a) l
+    → All (λ x. precedes x t ≡ false) l
+    → All (λ x. All (λ u. precedes x u ≡ false) (a ++ withReturning true t ∷ [])) l
 unfolding All
 one-more t a [] h g = tt
-one-more t a (x ∷ l) h g =
-    (append-all (λ u. precedes x u ≡ false) a (withReturning true t ∷ []) (h .0) (before-marked x t ∙ g .0, tt), one-more t a l (h .1) (g .1))
+one-more t a (x ∷ l) h g = (
+  append-all (λ u. precedes x u ≡ false) a (withReturning true t ∷ []) (h .0) (before-marked x t ∙ g .0, tt),
+  one-more t a l (h .1) (g .1),
+)
 
-wake-behind : (l a r : List Transaction) → Sorted precedes l → All (λ x. All (λ u. precedes x u ≡ false) a) l → All (λ x. Leads x r) l → wake l (a ++ r) ≡ a ++ (map (withReturning true) l ++ r)
+wake-behind : (l a r : List Transaction) → Sorted precedes l → All (λ x. All (λ u. precedes x u ≡ false) a) l → All (λ x. Leads x r) l
+    → wake l (a ++ r) ≡ a ++ (map (withReturning true) l ++ r)
 unfolding wake All Sorted
 wake-behind [] a r sorted n h = refl
 wake-behind (t ∷ l) a r sorted n h =
-    ap (wake l) (insert-between (withReturning true t) a r (all-marked t a (n .0)) (leads-marked t r (h .0)) ∙ sym (append-assoc a (withReturning true t ∷ []) r))
+    ap (wake l)
+    (insert-between (withReturning true t) a r (all-marked t a (n .0)) (leads-marked t r (h .0))
+    ∙ sym (append-assoc a (withReturning true t ∷ []) r))
     ∙ wake-behind l (a ++ withReturning true t ∷ []) r (sorted .1) (one-more t a l (n .1) (sorted .0)) (h .1)
     ∙ append-assoc a (withReturning true t ∷ []) _
 
@@ -65,10 +74,11 @@ last-not x y [] h = h .0
 last-not x y (z ∷ l) h = last-not x z l (h .1)
 
 -- where the last of a sorted list stands before r, all do
-last-leads : (r : Transaction) (t : Transaction) (l : List Transaction) → Sorted precedes (t ∷ l) → precedes (lastOf t l) r ≡ true → All (λ x. precedes x r ≡ true) (t ∷ l)
+last-leads : (r : Transaction) (t : Transaction) (l : List Transaction) → Sorted precedes (t ∷ l) → precedes (lastOf t l) r ≡ true
+    → All (λ x. precedes x r ≡ true) (t ∷ l)
 unfolding All Sorted lastOf
 last-leads r t [] sorted h = (h, tt)
-last-leads r t (u ∷ l) sorted h = (go _ refl, last-leads r u l (sorted .1) h)
+last-leads r t (u ∷ l) sorted h = (go (precedes t r) refl, last-leads r u l (sorted .1) h)
   where
     go : (b : Bool) → precedes t r ≡ b → precedes t r ≡ true
     go true e = e
@@ -80,7 +90,8 @@ all-lead r m [] h = tt
 all-lead r m (x ∷ l) h = (h .0, all-lead r m l (h .1))
 
 -- a sorted list whose last stands before the first of r goes before r
-pub wake-before : (t : Transaction) (l r : List Transaction) → Sorted precedes (t ∷ l) → Leads (lastOf t l) r → wake (t ∷ l) r ≡ map (withReturning true) (t ∷ l) ++ r
+pub wake-before : (t : Transaction) (l r : List Transaction) → Sorted precedes (t ∷ l) → Leads (lastOf t l) r
+    → wake (t ∷ l) r ≡ map (withReturning true) (t ∷ l) ++ r
 unfolding Leads
 wake-before t l [] sorted h = wake-behind (t ∷ l) [] [] sorted (all-empty _) (all-leads _)
 wake-before t l (u ∷ r) sorted h = wake-behind (t ∷ l) [] (u ∷ r) sorted (all-empty _) (all-lead u r _ (last-leads u t l sorted h))

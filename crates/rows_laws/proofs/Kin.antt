@@ -7,6 +7,7 @@ use our.Occurs.{same-refl, same-other, same-le, occurs-append, occurs-cons}
 use our.Data.{transaction-kept, event-kept, map-kept}
 use our.Steady.{around-trans, write-around, around-steady}
 use our.Laws.{Wakes, Takes, Puts, takes, put-shows}
+use mathlib.Core.Path.{sym, subst}
 
 -- ---- The first of a family
 
@@ -17,9 +18,10 @@ Other w f k = eqb (read w 10 k) f ≡ false
 abbrev pub Kin : (w : List ℕ) (p f : ℕ) (l : List ℕ) → Type 0
 Kin w p f l = Found w p (λ k. eqb (read w 10 k) f) (familyCell w p f) l
 
+-- a walk from the head finds the first member of family f, or the end of the list
 pub kin-of : (w : List ℕ) (p f : ℕ) → p ≢ fel → (l : List ℕ) → Listed w p l → Kin w p f l
 unfolding familyCell inFamily
-kin-of w p f chained l one = found w p _ chained l one
+kin-of w p f chained l one = found w p (inFamily w f) chained l one
 
 -- ---- Its count: the next block of a row that stands on a list is written
 
@@ -39,7 +41,8 @@ module _ {A : Type 0} (r : A → A → Bool) (y y′ : A) (from : (z : A) → r 
   sorted-as [] b h = (behind-as b (h .0), h .1)
   sorted-as (u ∷ a) b h = (all-as u a b (h .0), sorted-as a b (h .1))
 
-module _ (w : List ℕ) (T : ℕ → List Transaction) (E : List Event) (s : Shows w T E) (p k : ℕ) (a b : List ℕ) (hp : p < 770) (hk : k < 1024) (was : s .rows p ≡ a ++ k ∷ b) where
+module _ (w : List ℕ) (T : ℕ → List Transaction) (E : List Event) (s : Shows w T E) (p k : ℕ) (a b : List ℕ) (hp : p < 770)
+    (hk : k < 1024) (was : s .rows p ≡ a ++ k ∷ b) where
   abbrev L : ℕ → List ℕ
   L = s .rows
 
@@ -54,7 +57,8 @@ module _ (w : List ℕ) (T : ℕ → List Transaction) (E : List Event) (s : Sho
 
   at : load w (place k) ≡ p
   at =
-      row-of w p a _ (rw was at (h .listed p hl)) k (omega (arith, occurs-append k a (k ∷ b), occurs-cons k k b, same-refl k k refl)) .1
+      row-of w p a (k ∷ b) (rw was at (h .listed p hl)) k
+      (omega (arith, occurs-append k a (k ∷ b), occurs-cons k k b, same-refl k k refl)) .1
 
   module _ (x : ℕ) where
     abbrev w′ : List ℕ
@@ -63,19 +67,25 @@ module _ (w : List ℕ) (T : ℕ → List Transaction) (E : List Event) (s : Sho
     -- the rows of a list that does not hold row k
     apart : (q : ℕ) → q < listCount → q ≢ p → (j : ℕ) → 1 ≤ occurs j (L q) → (j < 1024) × (j ≢ k)
     apart q hq d j m =
-        let row = h .listed q hq .row j m in
-        (row, λ e. omega (arith, h .listed q hq .once j row, same-other (load w (place j)) q (λ z. d (cc (z, e, at)))))
+        let row : j < 1024 = h .listed q hq .row j m in (
+          row,
+          λ e. omega (
+            arith,
+            h .listed q hq .once j row,
+            same-other (load w (place j)) q (λ z. d (sym z ∙ ap (λ (i : ℕ). load w (place i)) e ∙ at)),
+          ),
+        )
 
     -- the others of its own list
     beside : (j : ℕ) → 1 ≤ occurs j a + occurs j b → (j < 1024) × (j ≢ k)
     beside j m =
-        let whole = ap (occurs j) was ∙ occurs-append j a (k ∷ b) in
-        let row = h .listed p hl .row j (omega (arith, occurs-cons j k b)) in
+        let whole : occurs j (L p) ≡ occurs j a + occurs j (k ∷ b) = ap (occurs j) was ∙ occurs-append j a (k ∷ b) in
+        let row : j < 1024 = h .listed p hl .row j (omega (arith, whole, occurs-cons j k b)) in
         (row, λ e. omega (arith, h .listed p hl .once j row, same-le (load w (place j)) p, occurs-cons j k b, same-refl j k e))
 
     part : (l : List ℕ) → ((j : ℕ) → 1 ≤ occurs j l → (j < 1024) × (j ≢ k)) → map (transactionAt w′) l ≡ map (transactionAt w) l
     part l other =
-        map-kept _ _ l
+        map-kept (transactionAt w′) (transactionAt w) l
         (λ j m. transaction-kept w w′ j (row-other w 6 k x j hk (other j m .0) (other j m .1)))
 
     abbrev counted : List Transaction
@@ -83,7 +93,7 @@ module _ (w : List ℕ) (T : ℕ → List Transaction) (E : List Event) (s : Sho
 
     own : map (transactionAt w′) (a ++ k ∷ b) ≡ counted
     own =
-        map-append _ a _
+        map-append (transactionAt w′) a (k ∷ b)
         ∙ rw (part a (λ j m. beside j (omega arith)), part b (λ j m. beside j (omega arith)), write-next w k (h .room) hk x)
 
     count-shows : Shows w′ (update p counted T) E
@@ -93,29 +103,34 @@ module _ (w : List ℕ) (T : ℕ → List Transaction) (E : List Event) (s : Sho
           shown =
               record {
                 holds = write-holds w 6 k x (omega arith) hk (λ e. omega (arith, at)) L h;
-                lists = λ q hq. go q hq _ refl;
+                lists = λ q hq. go q hq (eqb q p) refl;
                 future =
                     map-kept (eventAt w′) (eventAt w) (L fel)
-                    (λ j m. let o = apart fel (omega arith) (λ e. omega arith) j m in event-kept w w′ j (row-other w 6 k x j hk (o .0) (o .1)))
+                    (λ j m.
+                    let o = apart fel (omega arith) (λ e. omega arith) j m in event-kept w w′ j (row-other w 6 k x j hk (o .0) (o .1)))
                     ∙ s .shown .future;
               };
           ordered =
               ordered-list orderOf T E p counted
-              (sorted-as (orderOf p) (transactionAt w k) (withNext x (transactionAt w k)) (λ z. unfold precedes in refl) (λ z. unfold precedes in refl) (map _ a) _
-              (rw (← s .shown .lists p hp, was, map-append (transactionAt w) a (k ∷ b)) at (s .ordered .lists p hp)))
+              (sorted-as (orderOf p) (transactionAt w k) (withNext x (transactionAt w k)) (λ z. unfold precedes in refl)
+              (λ z. unfold precedes in refl) (map (transactionAt w) a) (map (transactionAt w) b)
+              (subst (Sorted (orderOf p))
+              (sym (s .shown .lists p hp) ∙ ap (map (transactionAt w)) was ∙ map-append (transactionAt w) a (k ∷ b))
+              (s .ordered .lists p hp)))
               (s .ordered);
         }
       where
         go : (q : ℕ) → q < 770 → (t : Bool) → eqb q p ≡ t → map (transactionAt w′) (L q) ≡ cond t counted (T q)
         go q hq true e = ap (λ (i : ℕ). map (transactionAt w′) (L i)) (eqb-true q p e) ∙ ap (map (transactionAt w′)) was ∙ own
-        go q hq false e = part _ (apart q (omega arith) (eqb-false q p e)) ∙ s .shown .lists q hq
+        go q hq false e = part (L q) (apart q (omega arith) (eqb-false q p e)) ∙ s .shown .lists q hq
 
     pub counts-shows : Wakes w w′ (update p counted T) E
     counts-shows =
         record {
           shows = count-shows;
           steady =
-              around-steady w w′ k hk (omega (arith, at)) (omega (arith, load-other w (fieldAt 6 k) x (place k) (λ e. omega arith), at)) (write-around w 6 k x (omega arith) hk);
+              around-steady w w′ k hk (omega (arith, at)) (omega (arith, load-other w (fieldAt 6 k) x (place k) (λ e. omega arith), at))
+              (write-around w 6 k x (omega arith) hk);
         }
 
   -- ---- The one that goes on: from its list, with data written, to REL
@@ -133,13 +148,17 @@ module _ (w : List ℕ) (T : ℕ → List Transaction) (E : List Event) (s : Sho
     without-shows : Shows w₁ U E
     without-shows =
         record {
-          rows = update p _ L;
-          shown = shown-list w w₁ L T E (s .shown) p _ (remove-holds w L h p k a b hl chained hk was) (remove-keeps w L h p k a b hl chained hk was .rows) hp;
+          rows = update p (a ++ b) L;
+          shown =
+              shown-list w w₁ L T E (s .shown) p (a ++ b) (remove-holds w L h p k a b hl chained hk was)
+              (remove-keeps w L h p k a b hl chained hk was .rows) hp;
           ordered =
               ordered-list orderOf T E p left
-              (rw map-append
-              (sorted-without _ (map _ a) _ _
-              (rw (← s .shown .lists p hp, was, map-append (transactionAt w) a (k ∷ b)) at (s .ordered .lists p hp))))
+              (rw (map-append (transactionAt w) a b)
+              (sorted-without (orderOf p) (map (transactionAt w) a) (transactionAt w k) (map (transactionAt w) b)
+              (subst (Sorted (orderOf p))
+              (sym (s .shown .lists p hp) ∙ ap (map (transactionAt w)) was ∙ map-append (transactionAt w) a (k ∷ b))
+              (s .ordered .lists p hp))))
               (s .ordered);
         }
 
@@ -150,20 +169,26 @@ module _ (w : List ℕ) (T : ℕ → List Transaction) (E : List Event) (s : Sho
     written-shows =
         record {
           rows = without-shows .rows;
-          shown = written .shown _ U E (taken .off) (without-shows .shown);
+          shown = written .shown (without-shows .rows) U E (taken .off) (without-shows .shown);
           ordered = without-shows .ordered;
         }
 
     puts : Puts v (put v rel k) k (update rel (insert precedes (transactionAt v k) (U rel)) U) E
     puts = put-shows v U E written-shows k (written .loose (taken .off)) rel (omega arith) (written-shows .ordered .lists rel (omega arith))
 
+    -- the first of a family goes from the gatherers to REL
     pub release-shows : Wakes w (put v rel k) (moved p left (insert precedes (transactionAt v k) (T rel)) T) E
     release-shows =
         record {
           shows =
-              rw (update-other p left T rel elsewhere) at (puts .shows);
+              subst (λ (l : List Transaction). Shows (put v rel k) (update rel (insert precedes (transactionAt v k) l) U) E)
+              (update-other p left T rel elsewhere) (puts .shows);
           steady =
-              around-steady w _ k hk (omega (arith, at))
-              (omega (arith, put-placed v _ (written-shows .shown .holds) rel k (omega arith) (λ e. omega arith) (written .loose (taken .off))))
-              (around-trans w w₁ _ k (taken .around) (around-trans w₁ v _ k (written .around) (puts .around)));
+              around-steady w (put v rel k) k hk (omega (arith, at))
+              (omega (
+                arith,
+                put-placed v (written-shows .rows) (written-shows .shown .holds) rel k (omega arith) (λ e. omega arith)
+                    (written .loose (taken .off)),
+              ))
+              (around-trans w w₁ (put v rel k) k (taken .around) (around-trans w₁ v (put v rel k) k (written .around) (puts .around)));
         }

@@ -8,6 +8,8 @@ use our.{Orders.outranks-is, Walk.lastCell-stop, Walk.lastCell-next, Chain.endin
 use our.Spot.{short, ending-last, occurs-last}
 use our.Put.{put-keeps, put-placed, put-shown}
 use our.Holding.{Kept, insert-holds, insert-keeps, insert-placed}
+use mathlib.Core.Path.{subst}
+use Rattle.rows_laws.specs.Layout.{tail}
 
 -- ---- From the back, over any test
 
@@ -33,7 +35,7 @@ module _ {A : Type 0} (meets : A → A → Bool) (x : A) where
   all-reverse : (m : List A) → All (λ y. meets x y ≡ false) m → All (λ y. meets x y ≡ false) (reverse m)
   unfolding All
   all-reverse [] h = tt
-  all-reverse (y ∷ m) h = rw reverse-cons (append-all (λ y. meets x y ≡ false) (reverse m) _ (all-reverse m (h .1)) (h .0, tt))
+  all-reverse (y ∷ m) h = rw (reverse-cons y m) (append-all (λ y. meets x y ≡ false) (reverse m) (y ∷ []) (all-reverse m (h .1)) (h .0, tt))
 
   twice : (l : List A) → reverse (reverse l) ≡ l
   twice [] = refl
@@ -52,7 +54,10 @@ module _ {A : Type 0} (meets : A → A → Bool) (x : A) where
 map-reverse : {A B : Type 0} (f : A → B) (l : List A) → map f (reverse l) ≡ reverse (map f l)
 map-reverse f [] = refl
 map-reverse f (x ∷ l) =
-    ap (map f) (reverse-cons x l) ∙ map-append f (reverse l) (x ∷ []) ∙ ap (λ k. k ++ f x ∷ []) (map-reverse f l) ∙ sym (reverse-cons (f x) (map f l))
+    ap (map f) (reverse-cons x l)
+    ∙ map-append f (reverse l) (x ∷ [])
+    ∙ ap (λ k. k ++ f x ∷ []) (map-reverse f l)
+    ∙ sym (reverse-cons (f x) (map f l))
 
 map-backed : {A B : Type 0} (f : A → B) (r : A → A → Bool) (q : B → B → Bool) → ((x y : A) → r x y ≡ q (f x) (f y)) → (x : A) (l : List A)
     → map f (backed r x l) ≡ backed q (f x) (map f l)
@@ -77,15 +82,16 @@ module _ (w : List ℕ) (p k : ℕ) where
 
   stops-snoc : (a : List ℕ) (j : ℕ) → meets k j ≡ true → Stops meets k (reverse (a ++ j ∷ []))
   unfolding Stops
-  stops-snoc a j h = rw reverse-append h
+  stops-snoc a j h = rw (reverse-append a (j ∷ [])) h
 
   end-snoc : (a : List ℕ) (j : ℕ) → link j ≡ ending (head p) (a ++ j ∷ [])
   unfolding ending
-  end-snoc a j = sym (ending-append _ a _)
+  end-snoc a j = sym (ending-append (head p) a (j ∷ []))
 
   module _ (rows : List ℕ) where
     -- no row of m passes
-    none-left : (a m : List ℕ) → rows ≡ a ++ m → All (λ j. meets k j ≡ false) m → Stops meets k (reverse a) → Spotted p k (ending (head p) a) rows (backed meets k rows)
+    none-left : (a m : List ℕ) → rows ≡ a ++ m → All (λ j. meets k j ≡ false) m → Stops meets k (reverse a)
+        → Spotted p k (ending (head p) a) rows (backed meets k rows)
     none-left a m whole low stops =
         record { before = a; behind = m; parts = whole; cell = refl; is = ap (backed meets k) whole ∙ backed-split meets k a m low stops }
 
@@ -122,14 +128,14 @@ module _ (w : List ℕ) (p k : ℕ) where
             at = end-snoc (a ++ m) j ∙ ap (ending (head p)) (append-assoc a m (j ∷ []));
             found = h .found;
             chain = h .chain .2;
-            low = append-all (λ j. meets k j ≡ false) m _ (h .low) (off, tt);
+            low = append-all (λ j. meets k j ≡ false) m (j ∷ []) (h .low) (off, tt);
             stops = h .stops;
           }
 
       row-found : (n : ℕ) → (Reached (link j) (link j) ((a ++ m) ++ j ∷ []) [] l → Found (lastCell n w k (link j) (link j)))
           → (Reached (link j) f a (m ++ j ∷ []) l → Found (lastCell n w k (link j) f)) → Found (lastCell (suc n) w k c f)
       unfolding Chain foundAt
-      row-found n met off = rw (lastCell-next w k _ n c f j refl (h .chain .0) (h .chain .1)) (go _ refl)
+      row-found n met off = rw (lastCell-next w k (suc n) n c f j refl (h .chain .0) (h .chain .1)) (go (meets k j) refl)
         where
           go : (t : Bool) → meets k j ≡ t → Found (lastCell n w k (link j) (cond t (link j) f))
           go true e = met (row-passes e)
@@ -137,29 +143,33 @@ module _ (w : List ℕ) (p k : ℕ) where
 
     nobody-left : (n c f : ℕ) (a m : List ℕ) → Reached c f a m [] → Found (lastCell n w k c f)
     unfolding Chain
-    nobody-left n c f a m h = rw (lastCell-stop w k n c f (h .chain), h .found) (none-left a m (h .whole ∙ append-nil _) (h .low) (h .stops))
+    nobody-left n c f a m h =
+        rw (lastCell-stop w k n c f (h .chain), h .found) (none-left a m (h .whole ∙ append-nil (a ++ m)) (h .low) (h .stops))
 
     last-spotted : (l : List ℕ) (n c f : ℕ) (a m : List ℕ) → length l ≤ n → Reached c f a m l → Found (lastCell n w k c f)
     last-spotted [] n c f a m len h = nobody-left n c f a m h
     last-spotted (j ∷ l) zero c f a m len h = absurd (omega arith)
     last-spotted (j ∷ l) (suc n) c f a m len h =
-        row-found c f a m j l h n (last-spotted l n _ _ _ [] (omega arith)) (last-spotted l n _ f a _ (omega arith))
+        row-found c f a m j l h n (last-spotted l n (link j) (link j) ((a ++ m) ++ j ∷ []) [] (omega arith))
+        (last-spotted l n (link j) f a (m ++ j ∷ []) (omega arith))
 
     from-head : p ≢ fel → Listed w p rows → Spotted p k (lastCell 1024 w k (head p) (head p)) rows (backed meets k rows)
     unfolding ending All Stops
-    from-head chained one = last-spotted rows 1024 _ _ [] [] (short w p rows one) (record { whole = refl; at = refl; found = refl; chain = one .chain chained; low = tt; stops = tt })
+    from-head chained one =
+        last-spotted rows 1024 (head p) (head p) [] [] (short w p rows one)
+        (record { whole = refl; at = refl; found = refl; chain = one .chain chained; low = tt; stops = tt })
 
   -- the last row passes
   last-first : (y : ℕ) (l : List ℕ) → meets k (lastOf y l) ≡ true → (r : List ℕ) × (reverse (y ∷ l) ≡ lastOf y l ∷ r)
   unfolding lastOf
   last-first y [] h = ([], refl)
-  last-first y (z ∷ l) h = let (r, e) = last-first z l h in (r ++ y ∷ [], cc (reverse-cons y (z ∷ l), e))
+  last-first y (z ∷ l) h = let (r, e) = last-first z l h in (r ++ y ∷ [], reverse-cons y (z ∷ l) ∙ ap (λ (x : List ℕ). x ++ y ∷ []) e)
 
   at-end : (y : ℕ) (l : List ℕ) → meets k (lastOf y l) ≡ true → Spotted p k (ending (head p) (y ∷ l)) (y ∷ l) (backed meets k (y ∷ l))
   unfolding All Stops
   at-end y l h =
       let (r, e) = last-first y l h in
-      none-left _ _ [] (sym (append-nil _)) tt (rw e h)
+      none-left (y ∷ l) (y ∷ l) [] (sym (append-nil (y ∷ l))) tt (rw e h)
 
   -- a cell of the heads is no row's link
   no-row : (t : ℕ) → heads ≤ t → lastMeets w k t ≡ false
@@ -170,21 +180,22 @@ module _ (w : List ℕ) (p k : ℕ) where
   unfolding lastMeets
   a-row j h =
       let f : link j - links ≡ j = omega arith in
-      rw (le-ltb (link j) links (omega arith), f, lt-ltb)
+      rw (le-ltb (link j) links (omega arith), f, lt-ltb j 1024 h)
 
   back-spotted : p ≢ fel → (rows : List ℕ) → Listed w p rows → Spotted p k (backSpot w p k) rows (backed meets k rows)
   unfolding backSpot backBefore ending
   back-spotted chained [] one =
-      let t = one .last chained in
+      let t : load w (tail p) ≡ head p = one .last chained in
       rw (t, no-row (head p) (omega arith)) (from-head [] chained one)
   back-spotted chained (y ∷ l) one =
-      let j = lastOf y l in
-      let t = one .last chained ∙ ending-last meets w p k (head p) y l in
-      let row = one .row j (occurs-last meets w p k y l) in
-      rw (t, a-row)
-      (go _ refl (rw (ending-last meets w p k _ y l) at (at-end y l)) (from-head _ chained one))
+      let j : ℕ = lastOf y l in
+      let t : load w (tail p) ≡ link j = one .last chained ∙ ending-last meets w p k (head p) y l in
+      let row : j < 1024 = one .row j (occurs-last meets w p k y l) in
+      rw (t, a-row j row)
+      (go (meets k j) refl (rw (ending-last meets w p k (head p) y l) at (at-end y l)) (from-head (y ∷ l) chained one))
     where
-      go : (b : Bool) → meets k (lastOf y l) ≡ b → (meets k (lastOf y l) ≡ true → Spotted p k (link (lastOf y l)) (y ∷ l) (backed meets k (y ∷ l)))
+      go : (b : Bool) → meets k (lastOf y l) ≡ b
+          → (meets k (lastOf y l) ≡ true → Spotted p k (link (lastOf y l)) (y ∷ l) (backed meets k (y ∷ l)))
           → Spotted p k (lastCell 1024 w k (head p) (head p)) (y ∷ l) (backed meets k (y ∷ l))
           → Spotted p k (cond b (link (lastOf y l)) (lastCell 1024 w k (head p) (head p))) (y ∷ l) (backed meets k (y ∷ l))
       go true e met walk = met e
@@ -196,7 +207,8 @@ module _ (w : List ℕ) (p k : ℕ) where
 unfoldable pub lined : (edition : ℕ) → List ℕ → (p k : ℕ) → List ℕ → List ℕ
 lined edition w p k l = cond (eqb edition 1) (insert (outranks w) k l) (cond (eqb (read w 1 k % 2) 1) (k ∷ l) (backed (atLeast w) k l))
 
-module _ (w : List ℕ) (L : ℕ → List ℕ) (T : ℕ → List Transaction) (E : List Event) (s : Shown w L T E) (k : ℕ) (off : Loose w k) (edition p : ℕ) (hp : p < 770)
+module _ (w : List ℕ) (L : ℕ → List ℕ) (T : ℕ → List Transaction) (E : List Event) (s : Shown w L T E) (k : ℕ) (off : Loose w k)
+    (edition p : ℕ) (hp : p < 770)
     (sorted : edition ≡ 1 → Sorted precedes (T p)) where
   one : Listed w p (L p)
   one = s .holds .listed p (omega arith)
@@ -208,7 +220,7 @@ module _ (w : List ℕ) (L : ℕ → List ℕ) (T : ℕ → List Transaction) (E
     where
       go : (mark : Bool) → Spotted p k (cond mark (head p) (backSpot w p k)) (L p) (cond mark (k ∷ L p) (backed (atLeast w) k (L p)))
       go true = record { before = []; behind = L p; parts = refl; cell = refl; is = refl }
-      go false = back-spotted w p k (λ e. omega arith) _ one
+      go false = back-spotted w p k (λ e. omega arith) (L p) one
 
   -- they are the transactions of the machine's line
   lined-is : map (transactionAt w) (lined edition w p k (L p)) ≡ Moves.lineUp edition (transactionAt w k) (T p)
@@ -236,7 +248,9 @@ module _ (w : List ℕ) (L : ℕ → List ℕ) (T : ℕ → List Transaction) (E
     where
       go : (b : Bool) → Kept w (cond b (put w p k) (insertAt w p (secondSpot w p k) k)) k
       go true = put-keeps w L (s .holds) p k (omega arith) chained off
-      go false = rw (spotted .cell) (insert-keeps w L (s .holds) p k _ _ (omega arith) chained (off .row) (spotted .parts) (off .off))
+      go false =
+          rw (spotted .cell)
+          (insert-keeps w L (s .holds) p k (spotted .before) (spotted .behind) (omega arith) chained (off .row) (spotted .parts) (off .off))
 
   pub line-placed : load (lineUp edition w p k) (place k) ≡ p
   unfolding lineUp
@@ -244,19 +258,25 @@ module _ (w : List ℕ) (L : ℕ → List ℕ) (T : ℕ → List Transaction) (E
     where
       go : (b : Bool) → load (cond b (put w p k) (insertAt w p (secondSpot w p k) k)) (place k) ≡ p
       go true = put-placed w L (s .holds) p k (omega arith) chained off
-      go false = rw (spotted .cell) (insert-placed w L (s .holds) p k _ _ (omega arith) chained (off .row) (spotted .parts) (off .off))
+      go false =
+          rw (spotted .cell)
+          (insert-placed w L (s .holds) p k (spotted .before) (spotted .behind) (omega arith) chained (off .row) (spotted .parts) (off .off))
 
   line-holds : Holds (lineUp edition w p k) (update p (lined edition w p k (L p)) L)
   unfolding lineUp lined
-  line-holds = go _ refl
+  line-holds = go (eqb edition 1) refl
     where
       go : (b : Bool) → eqb edition 1 ≡ b
-          → Holds (cond b (put w p k) (insertAt w p (secondSpot w p k) k)) (update p (cond b (insert (outranks w) k (L p)) (cond (eqb (read w 1 k % 2) 1) (k ∷ L p) (backed (atLeast w) k (L p)))) L)
+          → Holds (cond b (put w p k) (insertAt w p (secondSpot w p k) k))
+          (update p (cond b (insert (outranks w) k (L p)) (cond (eqb (read w 1 k % 2) 1) (k ∷ L p) (backed (atLeast w) k (L p)))) L)
       go true e = put-shown w L T E s k off p hp (sorted (eqb-true edition 1 e)) .holds
       go false e =
           rw (spotted .cell, spotted .is)
-          (insert-holds w L (s .holds) p k _ _ (omega arith) chained (off .row) (spotted .parts) (off .off))
+          (insert-holds w L (s .holds) p k (spotted .before) (spotted .behind) (omega arith) chained (off .row) (spotted .parts) (off .off))
 
-  pub line-shown : Shown (lineUp edition w p k) (update p (lined edition w p k (L p)) L) (update p (Moves.lineUp edition (transactionAt w k) (T p)) T) E
+  -- the row comes to stand where the machine's `lineUp` puts its transaction
+  pub line-shown : Shown (lineUp edition w p k) (update p (lined edition w p k (L p)) L)
+      (update p (Moves.lineUp edition (transactionAt w k) (T p)) T) E
   line-shown =
-      rw lined-is at (shown-list w (lineUp edition w p k) L T E s p (lined edition w p k (L p)) line-holds (line-keeps .rows) hp)
+      subst (λ (l : List Transaction). Shown (lineUp edition w p k) (update p (lined edition w p k (L p)) L) (update p l T) E) lined-is
+      (shown-list w (lineUp edition w p k) L T E s p (lined edition w p k (L p)) line-holds (line-keeps .rows) hp)

@@ -3,10 +3,10 @@ use Rattle.machine.specs.All.{ℕ, _+_, _≤_, _≡_, refl, _≢_, List, [], _�
 use Rattle.rows_laws.specs.All.{same, occurs}
 
 pub same-refl : (a b : ℕ) → a ≡ b → same a b ≡ 1
-same-refl a b e = rw eq-eqb
+same-refl a b e = rw (eq-eqb a b e)
 
 pub same-other : (a b : ℕ) → a ≢ b → same a b ≡ 0
-same-other a b d = rw ne-eqb
+same-other a b d = rw (ne-eqb a b d)
 
 pub same-le : (a b : ℕ) → same a b ≤ 1
 same-le a b = go (ℕ-discrete a b)
@@ -27,6 +27,7 @@ unfolding occurs
 occurs-append k [] b = omega arith
 occurs-append k (x ∷ a) b = omega (arith, occurs-append k a b)
 
+-- `same` is 1 where the two rows are one
 pub occurs-cons : (k x : ℕ) (l : List ℕ) → occurs k (x ∷ l) ≡ same k x + occurs k l
 unfolding occurs
 occurs-cons k x l = refl

@@ -111,7 +111,8 @@ past-fill w n i = past-cond (ltb i n) w (fillBy w n i (load w (slot n))) (row (l
 pub past-cancel : (w : List ℕ) (k : ℕ) → past (cancel w k) ≡ past w
 unfolding cancel cancelOf
 past-cancel w k =
-    past-cond′ (eqb (size w) 0) w (cond (ltb 1024 (size w)) w (cancelOf w (size w - 1) k)) (past-cond′ (ltb 1024 (size w)) w (cancelOf w (size w - 1) k) (row (size w - 1)))
+    past-cond′ (eqb (size w) 0) w (cond (ltb 1024 (size w)) w (cancelOf w (size w - 1) k))
+    (past-cond′ (ltb 1024 (size w)) w (cancelOf w (size w - 1) k) (row (size w - 1)))
   where
     row : (n : ℕ) → past (cancelOf w n k) ≡ past w
     row n =
@@ -154,7 +155,8 @@ unfolding arrive arrived
 past-arrive zero time w s = refl
 past-arrive (suc n) time w s = go (isDue w time) (past-arrive n time (arriveFirst w (suc s)) (suc s))
   where
-    go : (t : Bool) → past (arrive n time (arriveFirst w (suc s)) (suc s) .rows) ≡ past (arriveFirst w (suc s)) → past (cond t (arrive n time (arriveFirst w (suc s)) (suc s)) (arrived w s) .rows) ≡ past w
+    go : (t : Bool) → past (arrive n time (arriveFirst w (suc s)) (suc s) .rows) ≡ past (arriveFirst w (suc s))
+        → past (cond t (arrive n time (arriveFirst w (suc s)) (suc s)) (arrived w s) .rows) ≡ past w
     go true e = e ∙ past-arriveFirst w (suc s)
     go false e = refl
 
@@ -172,7 +174,10 @@ unfolding copyParameters
 past-copy w j k =
     let a : List ℕ = write w 2 k (read w 2 j) in
     let b : List ℕ = write a 3 k (read w 3 j) in
-    past-write (write b 4 k (read w 4 j)) 5 k (read w 5 j) ∙ past-write b 4 k (read w 4 j) ∙ past-write a 3 k (read w 3 j) ∙ past-write w 2 k (read w 2 j)
+    past-write (write b 4 k (read w 4 j)) 5 k (read w 5 j)
+    ∙ past-write b 4 k (read w 4 j)
+    ∙ past-write a 3 k (read w 3 j)
+    ∙ past-write w 2 k (read w 2 j)
 
 past-time : (w : List ℕ) (k time : ℕ) → past (setTime w k time) ≡ past w
 unfolding setTime
@@ -186,7 +191,12 @@ past-describe w k n p b f =
     let ranked : List ℕ = write numbered 1 k (p * 2) in
     let next : List ℕ = write ranked 6 k b in
     let bare : List ℕ = write next 7 k 0 in
-    past-write (setTime bare k 0) 10 k f ∙ past-time bare k 0 ∙ past-write next 7 k 0 ∙ past-write ranked 6 k b ∙ past-write numbered 1 k (p * 2) ∙ past-write w 0 k n
+    past-write (setTime bare k 0) 10 k f
+    ∙ past-time bare k 0
+    ∙ past-write next 7 k 0
+    ∙ past-write ranked 6 k b
+    ∙ past-write numbered 1 k (p * 2)
+    ∙ past-write w 0 k n
 
 pub past-newbornAt : (w : List ℕ) (k n p b : ℕ) → past (newbornAt w k n p b) ≡ past w
 unfolding newbornAt

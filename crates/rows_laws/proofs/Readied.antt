@@ -17,7 +17,8 @@ record Between (w w′ : List ℕ) (p lo hi : ℕ) : Type 0 where
   size : length w′ ≡ length w
   places : (k : ℕ) → lo ≤ k → k < hi → load w′ (place k) ≡ readyPlace p (load w (place k))
   standings : (k : ℕ) → lo ≤ k → k < hi → read w′ standingField k ≡ readyStanding p (load w (place k)) (read w standingField k)
-  kept : (i : ℕ) → ((k : ℕ) → lo ≤ k → k < hi → i ≢ place k) → ((k : ℕ) → lo ≤ k → k < hi → i ≢ fieldAt standingField k) → load w′ i ≡ load w i
+  kept : (i : ℕ) → ((k : ℕ) → lo ≤ k → k < hi → i ≢ place k) → ((k : ℕ) → lo ≤ k → k < hi → i ≢ fieldAt standingField k)
+      → load w′ i ≡ load w i
 
 -- one row
 row-between : (w : List ℕ) (p k : ℕ) → Room w → k < 1024 → Between w (readyRow w p k) p k (suc k)
@@ -27,7 +28,9 @@ row-between w p k room hk =
       size = length-store v (fieldAt standingField k) y ∙ length-store w (place k) x;
       places = λ j a b. go j (omega arith);
       standings = λ j a b. stand j (omega arith);
-      kept = λ i f g. load-other v (fieldAt standingField k) y i (g k (omega arith) (omega arith)) ∙ load-other w (place k) x i (f k (omega arith) (omega arith));
+      kept =
+          λ i f g. load-other v (fieldAt standingField k) y i (g k (omega arith) (omega arith))
+          ∙ load-other w (place k) x i (f k (omega arith) (omega arith));
     }
   where
     x : ℕ
@@ -42,7 +45,8 @@ row-between w p k room hk =
     go : (j : ℕ) → j ≡ k → load (store v (fieldAt standingField k) y) (place j) ≡ readyPlace p (load w (place j))
     go j e = rw e (load-other v (fieldAt standingField k) y (place k) (λ f. omega arith) ∙ load-same w (place k) x room (omega arith))
 
-    stand : (j : ℕ) → j ≡ k → read (store v (fieldAt standingField k) y) standingField j ≡ readyStanding p (load w (place j)) (read w standingField j)
+    stand : (j : ℕ) → j ≡ k
+        → read (store v (fieldAt standingField k) y) standingField j ≡ readyStanding p (load w (place j)) (read w standingField j)
     stand j e = rw e (load-same v (fieldAt standingField k) y (omega (arith, length-store w (place k) x)) (omega arith))
 
 -- row k is in one of two ranges, not in both
@@ -51,13 +55,17 @@ data Side (k a b c d : ℕ) : Type 0 where
   after : c ≤ k → k < d → (a ≤ k → k < b → ⊥) → Side k a b c d
 
 -- two ranges, one after the other, are one
-join : (w v u : List ℕ) (p a b c d lo hi : ℕ) → Between w v p a b → Between v u p c d → lo ≤ a → b ≤ hi → lo ≤ c → d ≤ hi → hi ≤ 1024 → ((k : ℕ) → lo ≤ k → k < hi → Side k a b c d) → Between w u p lo hi
+join : (w v u : List ℕ) (p a b c d lo hi : ℕ) → Between w v p a b → Between v u p c d → lo ≤ a → b ≤ hi → lo ≤ c → d ≤ hi → hi ≤ 1024
+    → ((k : ℕ) → lo ≤ k → k < hi → Side k a b c d)
+    → Between w u p lo hi
 join w v u p a b c d lo hi f g la bh lc dh end side =
     record {
       size = g .size ∙ f .size;
       places = λ k l h. at k h (side k l h);
       standings = λ k l h. stand k h (side k l h);
-      kept = λ i m n. g .kept i (λ k l h. m k (omega arith) (omega arith)) (λ k l h. n k (omega arith) (omega arith)) ∙ f .kept i (λ k l h. m k (omega arith) (omega arith)) (λ k l h. n k (omega arith) (omega arith));
+      kept =
+          λ i m n. g .kept i (λ k l h. m k (omega arith) (omega arith)) (λ k l h. n k (omega arith) (omega arith))
+          ∙ f .kept i (λ k l h. m k (omega arith) (omega arith)) (λ k l h. n k (omega arith) (omega arith));
     }
   where
     place-later : (k : ℕ) → k < hi → (c ≤ k → k < d → ⊥) → load u (place k) ≡ load v (place k)
@@ -71,10 +79,12 @@ join w v u p a b c d lo hi f g la bh lc dh end side =
     at k h (after l m n) = g .places k l m ∙ ap (readyPlace p) (place-sooner k h n)
 
     stand : (k : ℕ) → k < hi → Side k a b c d → read u standingField k ≡ readyStanding p (load w (place k)) (read w standingField k)
-    stand k h (before l m n) = g .kept (fieldAt standingField k) (λ j q r e. omega arith) (λ j q r e. n (omega arith) (omega arith)) ∙ f .standings k l m
+    stand k h (before l m n) =
+        g .kept (fieldAt standingField k) (λ j q r e. omega arith) (λ j q r e. n (omega arith) (omega arith)) ∙ f .standings k l m
     stand k h (after l m n) =
         g .standings k l m
-        ∙ ap₂ (readyStanding p) (place-sooner k h n) (f .kept (fieldAt standingField k) (λ j q r e. omega arith) (λ j q r e. n (omega arith) (omega arith)))
+        ∙ ap₂ (readyStanding p) (place-sooner k h n)
+        (f .kept (fieldAt standingField k) (λ j q r e. omega arith) (λ j q r e. n (omega arith) (omega arith)))
 
 -- an empty range
 between-refl : (w : List ℕ) (p lo : ℕ) → Between w w p lo lo
@@ -94,7 +104,9 @@ unfolding readyRows
 rows-between zero w p from room h = rw (add-zero from) (between-refl w p from)
 rows-between (suc n) w p from room h =
     let rest = rows-between n w p from room (omega arith) in
-    join w (readyRows n w p from) _ p from (from + n) (from + n) (suc (from + n)) from (from + suc n) rest (row-between (readyRows n w p from) p (from + n) (omega (arith, rest .size)) (omega arith)) (omega arith) (omega arith) (omega arith) (omega arith) h side
+    join w (readyRows n w p from) _ p from (from + n) (from + n) (suc (from + n)) from (from + suc n) rest
+    (row-between (readyRows n w p from) p (from + n) (omega (arith, rest .size)) (omega arith)) (omega arith) (omega arith) (omega arith)
+    (omega arith) h side
   where
     side : (k : ℕ) → from ≤ k → k < from + suc n → Side k from (from + n) (from + n) (suc (from + n))
     side k l m =
@@ -107,11 +119,13 @@ abbrev on : List ℕ → (p k : ℕ) → ℕ
 on w p k = same (load w (place k)) p
 
 -- the rows on list p among n rows are as many as are counted
-count-sum : (n : ℕ) (w : List ℕ) (p from : ℕ) → Room w → from + n ≤ 1024 → sumTo (from + n) (on w p) ≡ sumTo from (on w p) + readyCount n w p from
+count-sum : (n : ℕ) (w : List ℕ) (p from : ℕ) → Room w → from + n ≤ 1024
+    → sumTo (from + n) (on w p) ≡ sumTo from (on w p) + readyCount n w p from
 unfolding readyCount oneIf
 count-sum zero w p from room h = rw (add-zero from) (omega arith)
 count-sum (suc n) w p from room h =
-    let was : load (readyRows n w p from) (place (from + n)) ≡ load w (place (from + n)) = rows-between n w p from room (omega arith) .kept (place (from + n)) (λ k l m e. omega arith) (λ k l m e. omega arith) in
+    let was : load (readyRows n w p from) (place (from + n)) ≡ load w (place (from + n)) =
+    rows-between n w p from room (omega arith) .kept (place (from + n)) (λ k l m e. omega arith) (λ k l m e. omega arith) in
     let one : oneIf p (load (readyRows n w p from) (place (from + n))) ≡ on w p (from + n) = ap (λ (q : ℕ). same q p) was in
     rw (add-suc from n) (omega (arith, sum-suc (from + n) (on w p), count-sum n w p from room (omega arith), one))
 
@@ -122,7 +136,7 @@ zeros : (n : ℕ) (f : ℕ → ℕ) → sumTo n f ≡ 0 → (k : ℕ) → k < n 
 zeros zero f e k h = absurd (omega arith)
 zeros (suc n) f e k h =
     let s = sum-suc n f in
-    decided (ℕ-discrete k n) (λ q. ap f q ∙ omega arith) (λ d. zeros n f (omega arith) k (omega arith))
+    decided (ℕ-discrete k n) (λ q. ap f q ∙ omega (arith, s)) (λ d. zeros n f (omega arith) k (omega arith))
 
 -- where no row is on list p, nothing is to be done
 none-between : (w : List ℕ) (p hi : ℕ) → sumTo hi (on w p) ≡ 0 → Between w w p 0 hi
@@ -139,20 +153,27 @@ none-between w p hi e =
     other k h q = omega (arith, zeros hi (on w p) e k h, same-refl (load w (place k)) p q)
 
 -- n parts, if so many rows of theirs are on list p
-parts-between : (n : ℕ) (w : List ℕ) (p left : ℕ) → Room w → n ≤ 4 → left ≡ sumTo (256 * n) (on w p) → Between w (readyParts n w p left) p 0 (256 * n)
+parts-between : (n : ℕ) (w : List ℕ) (p left : ℕ) → Room w → n ≤ 4 → left ≡ sumTo (256 * n) (on w p)
+    → Between w (readyParts n w p left) p 0 (256 * n)
 unfolding readyParts
 parts-between zero w p left room h e = between-refl w p 0
 parts-between (suc n) w p left room h e =
     let v = readyRows 256 w p (256 * n) in
     let part = rows-between 256 w p (256 * n) room (omega arith) in
-    let all : sumTo (256 * suc n) (on w p) ≡ sumTo (256 * n) (on w p) + readyCount 256 w p (256 * n) = ap (λ (m : ℕ). sumTo m (on w p)) (omega arith) ∙ count-sum 256 w p (256 * n) room (omega arith) in
-    let rest : sumTo (256 * n) (on v p) ≡ sumTo (256 * n) (on w p) = sum-ext (256 * n) (on v p) (on w p) (λ k m. ap (λ (q : ℕ). same q p) (part .kept (place k) (λ j l o r. omega arith) (λ j l o r. omega arith))) in
-    go _ refl v _ part (parts-between n v p (left - readyCount 256 w p (256 * n)) (omega (arith, part .size)) (omega arith) (omega arith))
+    let all : sumTo (256 * suc n) (on w p) ≡ sumTo (256 * n) (on w p) + readyCount 256 w p (256 * n) =
+    ap (λ (m : ℕ). sumTo m (on w p)) (omega arith) ∙ count-sum 256 w p (256 * n) room (omega arith) in
+    let rest : sumTo (256 * n) (on v p) ≡ sumTo (256 * n) (on w p) =
+    sum-ext (256 * n) (on v p) (on w p)
+    (λ k m. ap (λ (q : ℕ). same q p) (part .kept (place k) (λ j l o r. omega arith) (λ j l o r. omega arith))) in
+    go (eqb left 0) refl v _ part
+    (parts-between n v p (left - readyCount 256 w p (256 * n)) (omega (arith, part .size)) (omega arith) (omega (arith, all, rest)))
   where
-    go : (t : Bool) → eqb left 0 ≡ t → (v u : List ℕ) → Between w v p (256 * n) (256 * n + 256) → Between v u p 0 (256 * n) → Between w (cond t w u) p 0 (256 * suc n)
+    go : (t : Bool) → eqb left 0 ≡ t → (v u : List ℕ) → Between w v p (256 * n) (256 * n + 256) → Between v u p 0 (256 * n)
+        → Between w (cond t w u) p 0 (256 * suc n)
     go true q v u part others = none-between w p (256 * suc n) (sym e ∙ eqb-true left 0 q)
     go false q v u part others =
-        join w v u p (256 * n) (256 * n + 256) 0 (256 * n) 0 (256 * suc n) part others (omega arith) (omega arith) (omega arith) (omega arith) (omega arith) side
+        join w v u p (256 * n) (256 * n + 256) 0 (256 * n) 0 (256 * suc n) part others (omega arith) (omega arith) (omega arith)
+        (omega arith) (omega arith) side
       where
         side : (k : ℕ) → 0 ≤ k → k < 256 * suc n → Side k (256 * n) (256 * n + 256) 0 (256 * n)
         side k l m =
@@ -161,7 +182,8 @@ parts-between (suc n) w p left room h e =
             (λ ge. let q = ltb-false k (256 * n) ge in before q (omega arith) (λ x y. omega arith))
 
 -- finding the rows of list p, which has so many, is as said
-pub parts-readied : (w : List ℕ) (L : ℕ → List ℕ) → Holds w L → (p : ℕ) → p < listCount → Readied w (readyParts partCount w p (length (L p))) p
+pub parts-readied : (w : List ℕ) (L : ℕ → List ℕ) → Holds w L → (p : ℕ) → p < listCount
+    → Readied w (readyParts partCount w p (length (L p))) p
 parts-readied w L h p hp =
     let r = parts-between 4 w p (length (L p)) (h .room) (omega arith) (sym (on-list w L h p hp)) in
     record {

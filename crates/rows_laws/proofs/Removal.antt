@@ -6,8 +6,9 @@ use Rattle.rows_laws.proofs.{Occurs.same-refl, Insertion.front, Spot.sh
 module _ (w : List ℕ) (L : ℕ → List ℕ) (h : Holds w L) (p k : ℕ) (hp : p < listCount) (hk : k < 1024) (at : load w (place k) ≡ p) where
   -- what stands behind it
   pub rest-of : (b : List ℕ) × (L p ≡ front eqb k (L p) ++ k ∷ b)
-  rest-of = front-self k _ (omega (arith, h .listed p hp .once k hk, same-refl _ p at))
+  rest-of = front-self k (L p) (omega (arith, h .listed p hp .once k hk, same-refl (load w (place k)) p at))
 
+  -- the search from the head stops at the cell that leads to row k
   pub remove-is : p ≢ fel → remove w p k ≡ removeAt w p (ending (head p) (front eqb k (L p)))
   unfolding remove cellOf
   remove-is chained =

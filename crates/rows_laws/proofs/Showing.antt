@@ -7,27 +7,32 @@ use Rattle.rows_laws.proofs.Data.{SameData, same-row, transaction-kept,
 
 module _ {A : Type 0} (p : ℕ) (l : A) (L : ℕ → A) where
   pub update-same : (q : ℕ) → q ≡ p → update p l L q ≡ l
-  update-same q e = rw eq-eqb
+  update-same q e = rw (eq-eqb q p e)
 
   pub update-other : (q : ℕ) → q ≢ p → update p l L q ≡ L q
-  update-other q d = rw ne-eqb
+  update-other q d = rw (ne-eqb q p d)
 
 -- ---- The machine's lists
 
-pub shown-ext : (w : List ℕ) (L : ℕ → List ℕ) (T U : ℕ → List Transaction) (E : List Event) → ((q : ℕ) → q < 770 → T q ≡ U q) → Shown w L T E → Shown w L U E
+-- only the lists below 770 are read
+pub shown-ext : (w : List ℕ) (L : ℕ → List ℕ) (T U : ℕ → List Transaction) (E : List Event) → ((q : ℕ) → q < 770 → T q ≡ U q)
+    → Shown w L T E
+    → Shown w L U E
 shown-ext w L T U E e s =
     record { holds = s .holds; lists = λ q h. s .lists q h ∙ e q h; future = s .future }
 
 -- the data of the rows of a list is the same
-pub transactions-kept : (w w′ : List ℕ) (q : ℕ) (l : List ℕ) → SameData w w′ → Listed w′ q l → map (transactionAt w′) l ≡ map (transactionAt w) l
+pub transactions-kept : (w w′ : List ℕ) (q : ℕ) (l : List ℕ) → SameData w w′ → Listed w′ q l
+    → map (transactionAt w′) l ≡ map (transactionAt w) l
 transactions-kept w w′ q l rows one =
-    map-kept _ _ l (λ j m. transaction-kept w w′ j (same-row w w′ j (one .row j m) rows))
+    map-kept (transactionAt w′) (transactionAt w) l (λ j m. transaction-kept w w′ j (same-row w w′ j (one .row j m) rows))
 
 pub events-kept : (w w′ : List ℕ) (q : ℕ) (l : List ℕ) → SameData w w′ → Listed w′ q l → map (eventAt w′) l ≡ map (eventAt w) l
 events-kept w w′ q l rows one =
-    map-kept _ _ l (λ j m. event-kept w w′ j (same-row w w′ j (one .row j m) rows))
+    map-kept (eventAt w′) (eventAt w) l (λ j m. event-kept w w′ j (same-row w w′ j (one .row j m) rows))
 
-module _ (w w′ : List ℕ) (L : ℕ → List ℕ) (T : ℕ → List Transaction) (E : List Event) (s : Shown w L T E) (p : ℕ) (l : List ℕ) (h : Holds w′ (update p l L)) (rows : SameData w w′) where
+module _ (w w′ : List ℕ) (L : ℕ → List ℕ) (T : ℕ → List Transaction) (E : List Event) (s : Shown w L T E) (p : ℕ) (l : List ℕ)
+    (h : Holds w′ (update p l L)) (rows : SameData w w′) where
   list-kept : (q : ℕ) → q < 770 → q ≢ p → map (transactionAt w′) (update p l L q) ≡ T q
   list-kept q hq d =
       transactions-kept w w′ q (update p l L q) rows (h .listed q (omega arith))
@@ -40,11 +45,12 @@ module _ (w w′ : List ℕ) (L : ℕ → List ℕ) (T : ℕ → List Transactio
       ∙ ap (map (eventAt w)) (update-other p l L fel (λ e. d (sym e)))
       ∙ s .future
 
+  -- where one list has new rows and the data of all rows stayed, that list shows them
   pub shown-list : p < 770 → Shown w′ (update p l L) (update p (map (transactionAt w) l) T) E
   shown-list hp =
       record {
         holds = h;
-        lists = λ q hq. go q hq _ refl;
+        lists = λ q hq. go q hq (eqb q p) refl;
         future = future-kept (λ e. omega arith);
       }
     where

@@ -2,6 +2,7 @@
 use Rattle.machine.specs.All.{ℕ, zero, suc, _≤_, _<_, _≡_, refl, sym, _∙_, _≢_, List, [], arith, ℕ-discrete, length, Transaction, Event}
 use Rattle.rows_laws.specs.All.{place, head, tail, fel, free, nowhere, links, listCount, load, store, emptyList, emptyLists, emptyFel, looseRows, freeRow, freeRows, initial, loose, occurs, Chain, ending, Heaped, Listed, update, top, Sorted, Shown, Held, Shows, Loose}
 use Rattle.rows_laws.proofs.{Store.length-store, Store.load-same, Store.load-other, Occurs.same-other, Sums.sum-zero, Holding.Kept, Loose.off, Loose.off-placed, Making.free-keeps, Making.free-placed, Making.free-shown}
+use mathlib.Core.List.{_∷_}
 
 -- ---- Empty lists
 
@@ -10,7 +11,7 @@ module _ (w : List ℕ) (room : 16384 ≤ length w) where
   unfolding emptyLists emptyList
   room-empty zero = room
   room-empty (suc n) =
-      rw (length-store, length-store) (room-empty n)
+      rw (length-store (store (emptyLists n w) (head n) 1024) (tail n) (head n), length-store (emptyLists n w) (head n) 1024) (room-empty n)
 
   abbrev Emptied : ℕ → ℕ → Type 0
   Emptied n p = (load (emptyLists n w) (head p) ≡ 1024) × (load (emptyLists n w) (tail p) ≡ head p)
@@ -24,17 +25,23 @@ module _ (w : List ℕ) (room : 16384 ≤ length w) where
       v = store (emptyLists n w) (head n) 1024
 
       room-v : 16384 ≤ length (store (emptyLists n w) (head n) 1024)
-      room-v = rw length-store (room-empty n)
+      room-v = rw (length-store (emptyLists n w) (head n) 1024) (room-empty n)
 
       go : Dec (p ≡ n) → (p < n → Emptied n p) → Emptied (suc n) p
       go (yes e) rest = (
-        rw e (load-other (store (emptyLists n w) (head n) 1024) (tail n) (head n) (head n) (λ q. omega arith) ∙ load-same (emptyLists n w) (head n) 1024 (room-empty n) (omega arith)),
+        rw e
+            (load-other (store (emptyLists n w) (head n) 1024) (tail n) (head n) (head n) (λ q. omega arith)
+            ∙ load-same (emptyLists n w) (head n) 1024 (room-empty n) (omega arith)),
         rw e (load-same (store (emptyLists n w) (head n) 1024) (tail n) (head n) room-v (omega arith)),
       )
       go (no d) rest =
           let l : p < n = omega arith in (
-            load-other _ _ _ _ (λ q. omega arith) ∙ load-other _ _ 1024 _ (λ q. d (omega arith)) ∙ rest l .0,
-            load-other _ _ _ _ (λ q. d (omega arith)) ∙ load-other _ _ 1024 _ (λ q. omega arith) ∙ rest l .1,
+            load-other (store (emptyLists n w) (head n) 1024) (tail n) (head n) (head p) (λ q. omega arith)
+                ∙ load-other (emptyLists n w) (head n) 1024 (head p) (λ q. d (omega arith))
+                ∙ rest l .0,
+            load-other (store (emptyLists n w) (head n) 1024) (tail n) (head n) (tail p) (λ q. d (omega arith))
+                ∙ load-other (emptyLists n w) (head n) 1024 (tail p) (λ q. omega arith)
+                ∙ rest l .1,
           )
 
 -- ---- Rows on no list
@@ -43,23 +50,24 @@ module _ (w : List ℕ) (room : 16384 ≤ length w) where
   room-loosen : (n : ℕ) → 16384 ≤ length (looseRows n w)
   unfolding looseRows
   room-loosen zero = room
-  room-loosen (suc n) = rw length-store (room-loosen n)
+  room-loosen (suc n) = rw (length-store (looseRows n w) (place n) nowhere) (room-loosen n)
 
   loosen-kept : (n : ℕ) → n ≤ 1024 → (i : ℕ) → links ≤ i → load (looseRows n w) i ≡ load w i
   unfolding looseRows
   loosen-kept zero hn i h = refl
-  loosen-kept (suc n) hn i h = load-other _ _ nowhere i (λ e. omega arith) ∙ loosen-kept n (omega arith) i h
+  loosen-kept (suc n) hn i h = load-other (looseRows n w) (place n) nowhere i (λ e. omega arith) ∙ loosen-kept n (omega arith) i h
 
   loosened : (n : ℕ) → n ≤ 1024 → (k : ℕ) → k < n → load (looseRows n w) (place k) ≡ nowhere
   unfolding looseRows
   loosened zero hn k h = absurd (omega arith)
   loosened (suc n) hn k h = go (ℕ-discrete k n) (loosened n (omega arith) k)
     where
-      go : Dec (k ≡ n) → (k < n → load (looseRows n w) (place k) ≡ nowhere) → load (store (looseRows n w) (place n) nowhere) (place k) ≡ nowhere
-      go (yes e) rest = rw e (load-same _ _ nowhere (room-loosen n) (omega arith))
+      go : Dec (k ≡ n) → (k < n → load (looseRows n w) (place k) ≡ nowhere)
+          → load (store (looseRows n w) (place n) nowhere) (place k) ≡ nowhere
+      go (yes e) rest = rw e (load-same (looseRows n w) (place n) nowhere (room-loosen n) (omega arith))
       go (no d) rest =
           let l : k < n = omega arith in
-          load-other _ _ nowhere _ (λ q. d (omega arith)) ∙ rest l
+          load-other (looseRows n w) (place n) nowhere (place k) (λ q. d (omega arith)) ∙ rest l
 
 -- ---- All lists empty
 
@@ -68,7 +76,7 @@ module _ (w : List ℕ) (room : 16384 ≤ length w) where
   u = emptyFel (emptyLists listCount w)
 
   room-u : 16384 ≤ length u
-  room-u = rw length-store (room-empty w room listCount)
+  room-u = rw (length-store (emptyLists listCount w) (tail fel) 0) (room-empty w room listCount)
 
   abbrev v : List ℕ
   v = looseRows 1024 u
@@ -81,21 +89,23 @@ module _ (w : List ℕ) (room : 16384 ≤ length w) where
 
   head-empty : (p : ℕ) → p < listCount → load v (head p) ≡ 1024
   head-empty p hp =
-      loosen-kept u room-u 1024 (omega arith) _ (omega arith)
-      ∙ load-other _ _ 0 _ (λ e. omega arith)
+      loosen-kept u room-u 1024 (omega arith) (head p) (omega arith)
+      ∙ load-other (emptyLists listCount w) (tail fel) 0 (head p) (λ e. omega arith)
       ∙ emptied w room listCount (omega arith) p hp .0
 
   tail-empty : (p : ℕ) → p < listCount → p ≢ fel → load v (tail p) ≡ head p
   tail-empty p hp d =
-      loosen-kept u room-u 1024 (omega arith) _ (omega arith)
-      ∙ load-other _ _ 0 _ (λ e. d (omega arith))
+      loosen-kept u room-u 1024 (omega arith) (tail p) (omega arith)
+      ∙ load-other (emptyLists listCount w) (tail fel) 0 (tail p) (λ e. d (omega arith))
       ∙ emptied w room listCount (omega arith) p hp .1
 
   fel-empty : Heaped v 0
   unfolding top
   fel-empty =
       record {
-        many = loosen-kept u room-u 1024 (omega arith) _ (omega arith) ∙ load-same _ _ 0 (room-empty w room listCount) (omega arith);
+        many =
+            loosen-kept u room-u 1024 (omega arith) (tail fel) (omega arith)
+            ∙ load-same (emptyLists listCount w) (tail fel) 0 (room-empty w room listCount) (omega arith);
         first = head-empty fel (omega arith);
         seat = λ i hi. absurd (omega arith);
         seated = λ r hr at. absurd (omega (arith, all-loose r hr .off));
@@ -110,7 +120,7 @@ module _ (w : List ℕ) (room : 16384 ≤ length w) where
         last = λ d. tail-empty p hp d;
         heap = λ e. fel-empty;
         row = λ k m. absurd (omega arith);
-        once = λ k hk. sym (same-other _ p (λ e. omega (arith, all-loose k hk .off)));
+        once = λ k hk. sym (same-other (load v (place k)) p (λ e. omega (arith, all-loose k hk .off)));
       }
 
   nothing-shown : Shown v (λ p. []) (λ p. []) []
@@ -129,7 +139,9 @@ record Freed (w : List ℕ) (n : ℕ) (T : ℕ → List Transaction) (E : List E
   loose : (j : ℕ) → n ≤ j → j < 1024 → Loose (freeRows n w) j
   placed : (j : ℕ) → j < n → load (freeRows n w) (place j) < listCount
 
-freed : (w : List ℕ) (L : ℕ → List ℕ) (T : ℕ → List Transaction) (E : List Event) → Shown w L T E → ((k : ℕ) → k < 1024 → Loose w k) → (n : ℕ) → n ≤ 1024 → Freed w n T E
+freed : (w : List ℕ) (L : ℕ → List ℕ) (T : ℕ → List Transaction) (E : List Event) → Shown w L T E → ((k : ℕ) → k < 1024 → Loose w k)
+    → (n : ℕ) → n ≤ 1024
+    → Freed w n T E
 unfolding freeRows
 freed w L T E s off zero hn =
     record { held = record { rows = L; shown = s }; loose = λ j a b. off j b; placed = λ j h. absurd (omega arith) }
@@ -138,7 +150,10 @@ freed w L T E s off (suc n) hn = go (freed w L T E s off n (omega arith))
     go : Freed w n T E → Freed w (suc n) T E
     go f =
         record {
-          held = record { rows = update free _ _; shown = free-shown u _ T E (f .held .shown) n free-n };
+          held = record {
+            rows = update free (n ∷ f .held .rows free) (f .held .rows);
+            shown = free-shown u (f .held .rows) T E (f .held .shown) n free-n;
+          };
           loose = λ j a b. record { row = b; off = keeps .places j b (λ e. omega arith) ∙ f .loose j (omega arith) b .off };
           placed = λ j h. here j h (ℕ-discrete j n);
         }
@@ -150,11 +165,11 @@ freed w L T E s off (suc n) hn = go (freed w L T E s off n (omega arith))
         free-n = f .loose n (omega arith) (omega arith)
 
         keeps : Kept (freeRows n w) (freeRow (freeRows n w) n) n
-        keeps = free-keeps _ _ T E (f .held .shown) n free-n
+        keeps = free-keeps (freeRows n w) (f .held .rows) T E (f .held .shown) n free-n
 
         here : (j : ℕ) → j < suc n → Dec (j ≡ n) → load (freeRow (freeRows n w) n) (place j) < listCount
         here j h (yes e) =
-            rw e (omega (arith, free-placed _ _ T E (f .held .shown) n free-n))
+            rw e (omega (arith, free-placed (freeRows n w) (f .held .rows) T E (f .held .shown) n free-n))
         here j h (no d) =
             let l : j < n = omega arith in
             rw (keeps .places j (omega arith) d) (f .placed j l)
@@ -163,7 +178,7 @@ freed w L T E s off (suc n) hn = go (freed w L T E s off n (omega arith))
 
 module _ (w : List ℕ) (room : 16384 ≤ length w) where
   start : Freed (v w room) 1024 (λ p. []) []
-  start = freed _ (λ p. []) (λ p. []) [] (nothing-shown w room) (all-loose w room) 1024 (omega arith)
+  start = freed (v w room) (λ p. []) (λ p. []) [] (nothing-shown w room) (all-loose w room) 1024 (omega arith)
 
   pub initial-shows : Shows (initial w) (λ p. []) []
   unfolding initial Sorted
@@ -173,4 +188,4 @@ module _ (w : List ℕ) (room : 16384 ≤ length w) where
   pub initial-loose : loose (initial w) ≡ 0
   unfolding initial loose
   initial-loose =
-      sum-zero 1024 _ (λ k h. off-placed (freeRows 1024 _) k (start .placed k h))
+      sum-zero 1024 (off (freeRows 1024 (v w room))) (λ k h. off-placed (freeRows 1024 (v w room)) k (start .placed k h))

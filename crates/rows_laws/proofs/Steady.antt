@@ -3,6 +3,8 @@ use Rattle.machine.specs.All.{ℕ, _<_, _≡_, refl, sym, ap, _∙_, _≢_, Lis
 use Rattle.rows_laws.specs.All.{dataFields, place, free, load, write, transactionAt, Loose}
 use Rattle.rows_laws.specs.Living
 use Rattle.rows_laws.proofs.{Store.load-other, Data.SameRow, Data.same-row, Data.transaction-kept, Write.row-other, Holding.Kept, Loose.loose-same}
+use mathlib.Core.Path.{subst}
+use Rattle.rows_laws.specs.Layout.{nowhere, fieldAt}
 
 -- the rows on no list and how many they are, and which rows are free
 pub record Steady (w w′ : List ℕ) : Type 0 where
@@ -28,6 +30,7 @@ steady-trans w v u a b =
       frees = λ m h. b .frees m h ∙ a .frees m h;
     }
 
+-- whoever is on no list is the same transaction afterwards
 pub steady-transaction : (w w′ : List ℕ) (m : ℕ) → Steady w w′ → Loose w m → transactionAt w′ m ≡ transactionAt w m
 steady-transaction w w′ m s l = transaction-kept w w′ m (s .same m l)
 
@@ -47,7 +50,7 @@ kept-around w w′ k kept = record { places = kept .places; same = λ m h d. sam
 pub write-around : (w : List ℕ) (f k x : ℕ) → f < dataFields → k < 1024 → Around w (write w f k x) k
 write-around w f k x hf hk =
     record {
-      places = λ m h d. load-other w _ x _ (λ e. omega arith);
+      places = λ m h d. load-other w (fieldAt f k) x (place m) (λ e. omega arith);
       same = λ m h d. row-other w f k x m hk h d;
     }
 
@@ -63,10 +66,10 @@ around-steady w w′ k hk was is a =
   where
     other : (m : ℕ) → Loose w m → m ≢ k
     other m l e =
-        let f = rw e at (l .off) in
-        omega arith
+        let f : load w (place k) ≡ nowhere = subst (λ (x : ℕ). load w (place x) ≡ nowhere) e (l .off) in
+        omega (arith, f)
 
     spare : (m : ℕ) → m < 1024 → Dec (m ≡ k) → eqb (load w′ (place m)) free ≡ eqb (load w (place m)) free
     spare m h (yes e) =
-        rw e (ne-eqb (load w′ _) free (λ f. omega arith) ∙ sym (ne-eqb (load w _) free (λ f. omega arith)))
+        rw e (ne-eqb (load w′ (place k)) free (λ f. omega arith) ∙ sym (ne-eqb (load w (place k)) free (λ f. omega arith)))
     spare m h (no d) = ap (λ (x : ℕ). eqb x free) (a .places m h d)

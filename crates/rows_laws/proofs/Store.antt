@@ -12,7 +12,7 @@ length-store w i x = go (ltb i 16384)
 
 pub load-same : (w : List ℕ) (i x : ℕ) → 16384 ≤ length w → i < 16384 → load (store w i x) i ≡ x
 unfolding store
-load-same w i x room h = rw lt-ltb (getD-set-same w i x 0 (omega arith))
+load-same w i x room h = rw (lt-ltb i 16384 h) (getD-set-same w i x 0 (omega arith))
 
 pub load-other : (w : List ℕ) (i x j : ℕ) → j ≢ i → load (store w i x) j ≡ load w j
 unfolding store
@@ -36,7 +36,8 @@ pub store-swap : (w : List ℕ) (i x j y : ℕ) → i ≢ j → store (store w i
 unfolding store
 store-swap w i x j y d = go (ltb i 16384) (ltb j 16384)
   where
-    go : (a b : Bool) → cond b (set (cond a (set w i x) w) j y) (cond a (set w i x) w) ≡ cond a (set (cond b (set w j y) w) i x) (cond b (set w j y) w)
+    go : (a b : Bool)
+        → cond b (set (cond a (set w i x) w) j y) (cond a (set w i x) w) ≡ cond a (set (cond b (set w j y) w) i x) (cond b (set w j y) w)
     go true true = set-comm w i j x y d
     go true false = refl
     go false true = refl
@@ -54,9 +55,10 @@ store-again w i x y = go (ltb i 16384)
 pub returning-kept : (w : List ℕ) (k mark : ℕ) → read w standingField k % 2 ≡ mark → setReturning w k mark ≡ w
 returning-kept w k mark e = ap (store w (fieldAt standingField k)) (omega (arith, e)) ∙ store-kept w (fieldAt standingField k)
 
+-- the buffer may be longer than the rows need; what stands behind stays
 pub past-store : (w : List ℕ) (i x : ℕ) → drop 16384 (store w i x) ≡ drop 16384 w
 unfolding store
-past-store w i x = go _ refl
+past-store w i x = go (ltb i 16384) refl
   where
     go : (b : Bool) → ltb i 16384 ≡ b → drop 16384 (cond b (set w i x) w) ≡ drop 16384 w
     go true e = drop-set-lt 16384 w i x (ltb-true i 16384 e)

@@ -1,4 +1,5 @@
--- A whole list goes to REL, before all who are there: what joining its chain to that of REL leaves, once its rows are ready, is the machine's `wake`.
+-- A whole list goes to REL, before all who are there: what joining its chain to that of REL leaves, once its rows are ready, is the
+-- machine's `wake`.
 use Rattle.machine.specs.All.{ℕ, zero, suc, _+_, _*_, _-_, _/_, _%_, _≤_, _<_, _≡_, refl, sym, ap, _∙_, subst, _≢_, Bool, true, false, cond, List, [], _∷_, _++_, map, map-append, map-map, append-nil, arith, ℕ-discrete, eq-eqb, ne-eqb, eqb-true, eqb-false, ltb, eqb, length, Transaction, Event, precedes, withReturning, wake}
 use Rattle.rows_laws.specs.All.{place, link, head, tail, wsl, rel, fel, free, links, heads, listCount, dataFields, fieldAt, load, read, store, timeOf, outranks, first, emptyList, readyPlace, readyStanding, endAt, endReady, joinAt, joinReady, transactionAt, eventAt, same, occurs, Chain, ending, Listed, Holds, update, Sorted, loose, Shown, Shows, Loose, orderOf, moved}
 use Rattle.rows_laws.proofs as our
@@ -101,7 +102,8 @@ map-last f k (j ∷ l) = map-last f j l
 
 -- ---- The rows
 
-module _ (w : List ℕ) (L : ℕ → List ℕ) (h : Holds w L) (p : ℕ) (hp : p < wsl) (m : List ℕ) (was : L p ≡ first w p ∷ m) (hf : first w p < 1024) (w₁ : List ℕ) (ready : Readied w w₁ p) where
+module _ (w : List ℕ) (L : ℕ → List ℕ) (h : Holds w L) (p : ℕ) (hp : p < wsl) (m : List ℕ) (was : L p ≡ first w p ∷ m)
+    (hf : first w p < 1024) (w₁ : List ℕ) (ready : Readied w w₁ p) where
   -- the last cell of list p, and the buffer in which both chains are one
   abbrev t : ℕ
   t = load w (tail p)
@@ -166,7 +168,8 @@ module _ (w : List ℕ) (L : ℕ → List ℕ) (h : Holds w L) (p : ℕ) (hp : p
   -- what stands before the links
   lower : (i : ℕ) → i < links → load w′ i ≡ load w₁ i
   lower i g =
-      join-other w₁ p t (first w rel) room-w₁ hp low-t high-t i (λ e. omega (arith, low-t)) (λ e. omega arith) (λ e. omega arith) (λ e. omega arith) (λ e. omega arith)
+      join-other w₁ p t (first w rel) room-w₁ hp low-t high-t i (λ e. omega (arith, low-t)) (λ e. omega arith) (λ e. omega arith)
+      (λ e. omega arith) (λ e. omega arith)
 
   place-own : (k : ℕ) → k < 1024 → load w (place k) ≡ p → load w′ (place k) ≡ rel
   unfolding readyPlace
@@ -201,7 +204,21 @@ module _ (w : List ℕ) (L : ℕ → List ℕ) (h : Holds w L) (p : ℕ) (hp : p
   row-marked k hk e =
       let half : (read w 1 k / 2 * 2 + 1) / 2 ≡ read w 1 k / 2 = omega arith in
       let rest : (read w 1 k / 2 * 2 + 1) % 2 ≡ 1 = omega arith in
-      rw (field-kept k 0 hk (omega arith) (λ e. omega arith), standing-own k hk e, field-kept k 2 hk (omega arith) (λ e. omega arith), field-kept k 3 hk (omega arith) (λ e. omega arith), field-kept k 4 hk (omega arith) (λ e. omega arith), field-kept k 5 hk (omega arith) (λ e. omega arith), field-kept k 6 hk (omega arith) (λ e. omega arith), field-kept k 7 hk (omega arith) (λ e. omega arith), field-kept k 8 hk (omega arith) (λ e. omega arith), field-kept k 9 hk (omega arith) (λ e. omega arith), field-kept k 10 hk (omega arith) (λ e. omega arith), half, rest)
+      rw (
+        field-kept k 0 hk (omega arith) (λ e. omega arith),
+        standing-own k hk e,
+        field-kept k 2 hk (omega arith) (λ e. omega arith),
+        field-kept k 3 hk (omega arith) (λ e. omega arith),
+        field-kept k 4 hk (omega arith) (λ e. omega arith),
+        field-kept k 5 hk (omega arith) (λ e. omega arith),
+        field-kept k 6 hk (omega arith) (λ e. omega arith),
+        field-kept k 7 hk (omega arith) (λ e. omega arith),
+        field-kept k 8 hk (omega arith) (λ e. omega arith),
+        field-kept k 9 hk (omega arith) (λ e. omega arith),
+        field-kept k 10 hk (omega arith) (λ e. omega arith),
+        half,
+        rest,
+      )
 
   -- ---- REL
 
@@ -254,7 +271,7 @@ module _ (w : List ℕ) (L : ℕ → List ℕ) (h : Holds w L) (p : ℕ) (hp : p
           ∙ sym (behind-t (L rel) ∙ ap (ending t) e)
 
   rel-row : (k : ℕ) → 1 ≤ occurs k joined → k < 1024
-  rel-row k o = go _ refl
+  rel-row k o = go (occurs k (L rel)) refl
     where
       go : (n : ℕ) → occurs k (L rel) ≡ n → k < 1024
       go zero e = one .row k (omega (arith, occurs-append k (first w p ∷ m) (L rel)))
@@ -265,9 +282,24 @@ module _ (w : List ℕ) (L : ℕ → List ℕ) (h : Holds w L) (p : ℕ) (hp : p
     where
       go : Dec (load w (place k) ≡ p) → occurs k joined ≡ same (load w′ (place k)) rel
       go (yes e) =
-          omega (arith, occurs-append k (first w p ∷ m) (L rel), one .once k hk, rel-rows .once k hk, same-refl _ p e, same-other (load w (place k)) rel (λ f. omega arith), same-refl _ rel (place-own k hk e))
+          omega (
+            arith,
+            occurs-append k (first w p ∷ m) (L rel),
+            one .once k hk,
+            rel-rows .once k hk,
+            same-refl _ p e,
+            same-other (load w (place k)) rel (λ f. omega arith),
+            same-refl _ rel (place-own k hk e),
+          )
       go (no d) =
-          omega (arith, occurs-append k (first w p ∷ m) (L rel), one .once k hk, rel-rows .once k hk, same-other _ p d, ap (λ (x : ℕ). same x rel) (place-other k hk d))
+          omega (
+            arith,
+            occurs-append k (first w p ∷ m) (L rel),
+            one .once k hk,
+            rel-rows .once k hk,
+            same-other _ p d,
+            ap (λ (x : ℕ). same x rel) (place-other k hk d),
+          )
 
   rel-listed : Listed w′ rel joined
   rel-listed =
@@ -309,13 +341,15 @@ module _ (w : List ℕ) (L : ℕ → List ℕ) (h : Holds w L) (p : ℕ) (hp : p
     their-chain : q ≢ fel → Chain w′ (head q) (L q)
     their-chain g =
         chain-moved w w′ _ _ _
-        (cells-kept (head q) (omega arith) (λ f. omega (arith, high-t)) (λ f. e (omega arith)) (λ f. omega arith) (λ f. d (omega arith)) (λ f. omega arith))
+        (cells-kept (head q) (omega arith) (λ f. omega (arith, high-t)) (λ f. e (omega arith)) (λ f. omega arith) (λ f. d (omega arith))
+        (λ f. omega arith))
         (λ j o. let r = on-q q hq j o in link-kept j (r .0) (t-other j (r .0) (theirs j (r .1))))
         (h .listed q hq .chain g)
 
     their-last : load w′ (tail q) ≡ load w (tail q)
     their-last =
-        cells-kept (tail q) (omega arith) (λ f. omega (arith, high-t)) (λ f. omega arith) (λ f. e (omega arith)) (λ f. omega arith) (λ f. d (omega arith))
+        cells-kept (tail q) (omega arith) (λ f. omega (arith, high-t)) (λ f. omega arith) (λ f. e (omega arith)) (λ f. omega arith)
+        (λ f. d (omega arith))
 
     came : (r : ℕ) → r < 1024 → load w′ (place r) ≡ q → load w (place r) ≡ q
     came r hr at = go (ℕ-discrete (load w (place r)) p)
@@ -335,8 +369,12 @@ module _ (w : List ℕ) (L : ℕ → List ℕ) (h : Holds w L) (p : ℕ) (hp : p
     unread : q ≡ fel → Unread w w′ (length (L q))
     unread g =
         record {
-          heads = cells-kept (head fel) (omega arith) (λ f. omega (arith, high-t)) (λ f. omega arith) (λ f. omega arith) (λ f. omega arith) (λ f. omega arith);
-          tails = cells-kept (tail fel) (omega arith) (λ f. omega (arith, high-t)) (λ f. omega arith) (λ f. omega arith) (λ f. omega arith) (λ f. omega arith);
+          heads =
+              cells-kept (head fel) (omega arith) (λ f. omega (arith, high-t)) (λ f. omega arith) (λ f. omega arith) (λ f. omega arith)
+              (λ f. omega arith);
+          tails =
+              cells-kept (tail fel) (omega arith) (λ f. omega (arith, high-t)) (λ f. omega arith) (λ f. omega arith) (λ f. omega arith)
+              (λ f. omega arith);
           slots = λ i hi. lower _ (omega (arith, few)) ∙ ready .kept _ (λ k hk f. omega (arith, few)) (λ k hk f. omega (arith, few));
           stay = λ r hr at. place-other r hr (theirs r (at ∙ sym g)) ∙ at;
           were = λ r hr at. came r hr (at ∙ sym g) ∙ g;
@@ -409,10 +447,12 @@ module _ (w : List ℕ) (L : ℕ → List ℕ) (h : Holds w L) (p : ℕ) (hp : p
 
   list-marked : map (transactionAt w′) (first w p ∷ m) ≡ map (withReturning true) (map (transactionAt w) (first w p ∷ m))
   list-marked =
-      map-kept _ (λ j. withReturning true (transactionAt w j)) (first w p ∷ m) (λ j o. let r = row-of w p [] _ one j o in row-marked j (r .0) (r .1))
+      map-kept _ (λ j. withReturning true (transactionAt w j)) (first w p ∷ m)
+      (λ j o. let r = row-of w p [] _ one j o in row-marked j (r .0) (r .1))
       ∙ sym (map-map (withReturning true) (transactionAt w) (first w p ∷ m))
 
-  module _ (T : ℕ → List Transaction) (E : List Event) (s : Shown w L T E) (sorted : Sorted precedes (T p)) (leads : first w rel < 1024 → outranks w (t - links) (first w rel) ≡ true) where
+  module _ (T : ℕ → List Transaction) (E : List Event) (s : Shown w L T E) (sorted : Sorted precedes (T p))
+      (leads : first w rel < 1024 → outranks w (t - links) (first w rel) ≡ true) where
     abbrev tx : ℕ → Transaction
     tx = transactionAt w
 
@@ -429,16 +469,20 @@ module _ (w : List ℕ) (L : ℕ → List ℕ) (h : Holds w L) (p : ℕ) (hp : p
     last-first = go (first-of w rel (L rel) (λ e. omega arith) rel-rows)
       where
         go : First w rel (L rel) → Leads (lastOf (tx (first w p)) (map tx m)) (T rel)
-        go (none e n) = subst (λ (l : List Transaction). Leads (lastOf (tx (first w p)) (map tx m)) l) (ap (map tx) (sym e) ∙ s .lists rel (omega arith)) tt
+        go (none e n) =
+            subst (λ (l : List Transaction). Leads (lastOf (tx (first w p)) (map tx m)) l)
+            (ap (map tx) (sym e) ∙ s .lists rel (omega arith)) tt
         go (some l e n) =
-            subst (λ (l : List Transaction). Leads (lastOf (tx (first w p)) (map tx m)) l) (ap (map tx) (sym e) ∙ s .lists rel (omega arith))
+            subst (λ (l : List Transaction). Leads (lastOf (tx (first w p)) (map tx m)) l)
+            (ap (map tx) (sym e) ∙ s .lists rel (omega arith))
             (ap (λ (x : Transaction). precedes x (tx (first w rel))) last-is ∙ sym (outranks-is w (t - links) (first w rel)) ∙ leads n)
 
     rel-shown : map (transactionAt w′) joined ≡ wake (T p) (T rel)
     rel-shown =
         map-append (transactionAt w′) (first w p ∷ m) (L rel)
         ∙ ap (λ (l : List Transaction). l ++ map (transactionAt w′) (L rel)) list-marked
-        ∙ ap (λ (l : List Transaction). map (withReturning true) (map tx (first w p ∷ m)) ++ l) (list-kept rel (omega arith) (λ e. omega arith) ∙ s .lists rel (omega arith))
+        ∙ ap (λ (l : List Transaction). map (withReturning true) (map tx (first w p ∷ m)) ++ l)
+        (list-kept rel (omega arith) (λ e. omega arith) ∙ s .lists rel (omega arith))
         ∙ sym (wake-before (tx (first w p)) (map tx m) (T rel) (rw list-p at sorted) last-first)
         ∙ ap (λ (l : List Transaction). wake l (T rel)) (sym list-p)
 
@@ -453,7 +497,8 @@ module _ (w : List ℕ) (L : ℕ → List ℕ) (h : Holds w L) (p : ℕ) (hp : p
         fel-rows : lists-after fel ≡ L fel
         fel-rows = update-other rel joined (update p [] L) fel (λ e. omega arith) ∙ update-other p [] L fel (λ e. omega arith)
 
-        go : (q : ℕ) → q < fel → (a : Bool) → eqb q rel ≡ a → (b : Bool) → eqb q p ≡ b → map (transactionAt w′) (cond a joined (cond b [] (L q))) ≡ cond a (wake (T p) (T rel)) (cond b [] (T q))
+        go : (q : ℕ) → q < fel → (a : Bool) → eqb q rel ≡ a → (b : Bool) → eqb q p ≡ b
+            → map (transactionAt w′) (cond a joined (cond b [] (L q))) ≡ cond a (wake (T p) (T rel)) (cond b [] (T q))
         go q hq true e b f = rel-shown
         go q hq false e true f = refl
         go q hq false e false f = list-kept q (omega arith) (eqb-false q p f) ∙ s .lists q hq
@@ -476,7 +521,9 @@ whole-wakes w T E s p hp sorted hf leads w₁ ready =
           record {
             rows = _;
             shown = whole-shown w (s .rows) h p hp (r .0) (r .1) hf w₁ ready T E (s .shown) sorted leads;
-            ordered = ordered-moved orderOf T E p [] _ (sorted-line p hp []) (wake-sorted (T p) (T rel) (s .ordered .lists rel (omega arith))) (s .ordered);
+            ordered =
+                ordered-moved orderOf T E p [] _ (sorted-line p hp []) (wake-sorted (T p) (T rel) (s .ordered .lists rel (omega arith)))
+                (s .ordered);
           };
       steady = whole-steady w (s .rows) h p hp (r .0) (r .1) hf w₁ ready;
     })

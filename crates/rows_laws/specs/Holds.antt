@@ -48,12 +48,13 @@ unfoldable pub ending : ℕ → List ℕ → ℕ
 ending c [] = c
 ending c (k ∷ l) = ending (link k) l
 
--- the FEL has n rows: slots 0..n - 1 and the links of the rows whose place it is lead to each other, no row stands before the one above it, and
--- the head has the row of slot 0
+-- the FEL has n rows: slots 0..n - 1 and the links of the rows whose place it is lead to each other, no row stands before the one above it,
+-- and the head has the row of slot 0
 pub record Heaped (w : List ℕ) (n : ℕ) : Type 0 where
   pub many : size w ≡ n
   pub first : load w (head fel) ≡ top w n
-  pub seat : (i : ℕ) → i < n → (load w (slot i) < rowCount) × (load w (place (load w (slot i))) ≡ fel) × (load w (link (load w (slot i))) ≡ i)
+  pub seat : (i : ℕ) → i < n
+      → (load w (slot i) < rowCount) × (load w (place (load w (slot i))) ≡ fel) × (load w (link (load w (slot i))) ≡ i)
   pub seated : (k : ℕ) → k < rowCount → load w (place k) ≡ fel → (load w (link k) < n) × (load w (slot (load w (link k))) ≡ k)
   pub order : (i : ℕ) → 0 < i → i < n → sooner w (load w (slot i)) (load w (slot (up i))) ≡ false
 

@@ -14,20 +14,11 @@
 -- |       | (remaining ticks if interrupted)    |       | tails of lists 0..771, then rows of holders |
 --
 -- A cell is a number of the buffer that holds a row: a head or a link. 1024, and any number above it, is no row. The tail of a
--- list is its last cell: the head itself where the list is empty. The FEL is no chain of cells but a heap of slots: its head holds the first row,
--- or none, and its tail how many there are.
---
--- | list        | number                                      |
--- |-------------|---------------------------------------------|
--- | QL          | server - 1: 0..63                           |
--- | WEL         | 64 + (server - 1) * 6 + (code - 1): 64..447 |
--- | WSL         | 448                                         |
--- | REL         | 449                                         |
--- | gatherers   | 450 + (block - 1): 450..705                 |
--- | interrupted | 706 + (facility - 1): 706..769, at most one |
--- | FEL         | 770                                         |
--- | free        | 771: the rows that are not living           |
--- | others      | there are none: behind the heads stand 252 hints (Lists), behind the tails 64 rows of holders (Future) |
+-- list is its last cell: the head itself where the list is empty. The FEL is no chain of cells but a heap of slots: its head holds the
+-- first row, or none, and its tail how many there are. | list | number | |-------------|---------------------------------------------| | QL
+-- | server - 1: 0..63 | | WEL | 64 + (server - 1) * 6 + (code - 1): 64..447 | | WSL | 448 | | REL | 449 | | gatherers | 450 + (block - 1):
+-- 450..705 | | interrupted | 706 + (facility - 1): 706..769, at most one | | FEL | 770 | | free | 771: the rows that are not living | |
+-- others | there are none: behind the heads stand 252 hints (Lists), behind the tails 64 rows of holders (Future) |
 use Rattle.machine.specs.All.{ℕ, _+_, _*_, _-_, _%_, _≤_, List, length, workNumbers, Code, welIndex}
 
 -- ---- Sizes

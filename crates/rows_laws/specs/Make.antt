@@ -7,18 +7,22 @@ use Rattle.rows_laws.specs.Lists.{insertAt}
 -- ---- One row
 
 unfoldable pub clearParameters : List ℕ → ℕ → List ℕ
-clearParameters w k = write (write (write (write w parameterField k 0) (parameterField + 1) k 0) (parameterField + 2) k 0) (parameterField + 3) k 0
+clearParameters w k =
+    write (write (write (write w parameterField k 0) (parameterField + 1) k 0) (parameterField + 2) k 0) (parameterField + 3) k 0
 
 unfoldable pub copyParameters : List ℕ → ℕ → ℕ → List ℕ
 copyParameters w j k =
     write
-    (write (write (write w parameterField k (read w parameterField j)) (parameterField + 1) k (read w (parameterField + 1) j)) (parameterField + 2) k (read w (parameterField + 2) j))
+    (write (write (write w parameterField k (read w parameterField j)) (parameterField + 1) k (read w (parameterField + 1) j))
+    (parameterField + 2) k (read w (parameterField + 2) j))
     (parameterField + 3) k (read w (parameterField + 3) j)
 
 -- all but the parameters; not returning, no serial and no stamp yet
 unfoldable pub describe : List ℕ → ℕ → ℕ → ℕ → ℕ → ℕ → List ℕ
 describe w k number priority block family =
-    write (setTime (write (write (write (write w numberField k number) standingField k (priority * 2)) nextField k block) serialField k 0) k 0) familyField k family
+    write
+    (setTime (write (write (write (write w numberField k number) standingField k (priority * 2)) nextField k block) serialField k 0) k 0)
+    familyField k family
 
 -- row k as a new transaction, which founds a family
 unfoldable pub newbornAt : List ℕ → ℕ → ℕ → ℕ → ℕ → List ℕ

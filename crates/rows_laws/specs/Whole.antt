@@ -1,5 +1,5 @@
--- The row machine: a whole list goes to REL, before all who are there. Its rows are found by their places, in parts of the buffer from the end on,
--- until all are; its chain is then joined to that of REL.
+-- The row machine: a whole list goes to REL, before all who are there. Its rows are found by their places, in parts of the buffer from the
+-- end on, until all are; its chain is then joined to that of REL.
 use Rattle.machine.specs.All.{ℕ, zero, suc, _+_, _*_, _-_, _/_, cond, List, ltb, eqb}
 use Rattle.rows_laws.specs.Layout.{place, head, tail, rel, standingField, fieldAt, rowCount}
 use Rattle.rows_laws.specs.{Cells.load, Cells.store, Cells.read, Lists.first, Make.emptyList}
@@ -18,7 +18,8 @@ oneIf p q = cond (eqb q p) 1 0
 
 unfoldable pub readyRow : List ℕ → (p k : ℕ) → List ℕ
 readyRow w p k =
-    store (store w (place k) (readyPlace p (load w (place k)))) (fieldAt standingField k) (readyStanding p (load w (place k)) (read w standingField k))
+    store (store w (place k) (readyPlace p (load w (place k)))) (fieldAt standingField k)
+    (readyStanding p (load w (place k)) (read w standingField k))
 
 -- n rows from a row on, and how many of them were on list p
 unfoldable pub readyRows : ℕ → List ℕ → (p from : ℕ) → List ℕ
