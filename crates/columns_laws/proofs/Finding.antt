@@ -1,8 +1,8 @@
 -- The records that a walk over columns finds, pure: where the four columns stand, they are the rows.
-use Rattle.machine.specs.All.{ℕ, zero, suc, _+_, _-_, _≤_, arith, true, List, [], _∷_, _≡_, refl, _∙_, leb, length, le-ltb, leb-true, maxClock, maxTransaction, maxBlocks, maxNumberBytes, fiveGroups, numberBytes}
+use Rattle.machine.specs.All.{ℕ, zero, suc, _+_, _-_, _≤_, arith, true, List, [], _∷_, _≡_, refl, _∙_, leb, length, le-ltb, leb-true, maxClock, maxTransaction, maxBlocks, maxNumberBytes, fiveGroups, numberBytes, _++_, ap, drop, Record}
 use Rattle.codec.proofs.{Fields.both-true, Numbers.numberBytes-length, Numbers.numberBytes-reads}
 use Rattle.columns_laws.specs.declared.walk.Walk.{Walk}
-use Rattle.columns_laws.specs.{differences, neverFall, rows, numberOr, numberAt, later, found, passed, foundAll}
+use Rattle.columns_laws.specs.{differences, neverFall, rows, numberOr, numberAt, later, found, passed, foundAll, column}
 use Rattle.columns_laws.proofs.Parsing.{Stands, stands-first, stands-rest, Between, Below}
 
 module _ (s : List ℕ) where
@@ -11,7 +11,7 @@ module _ (s : List ℕ) where
   unfolding numberOr
   number-stands at v l end small h =
       let fits = numberBytes-length 4 v (omega arith) in
-      rw (stands-first s at v l end h, numberBytes-reads maxNumberBytes fiveGroups v _ small (omega arith) fits)
+      rw (stands-first s at v l end h, numberBytes-reads maxNumberBytes fiveGroups v (column l ++ drop end s) small (omega arith) fits)
 
   later-is : (clock d : ℕ) → clock + d ≤ maxClock → later clock d ≡ clock + d
   unfolding later
@@ -54,16 +54,16 @@ module _ (s : List ℕ) where
     clock-is : later (t .clock) (c - t .clock) ≡ c
     clock-is =
         let back : t .clock + (c - t .clock) ≡ c = omega (arith, up .0) in
-        later-is _ _ (omega arith) ∙ back
+        later-is (t .clock) (c - t .clock) (omega (arith, h .below .0)) ∙ back
 
     found-one : found s t ≡ record { clock = c; transaction = n; block = b; outcome = o }
     unfolding found
     found-one =
         rw (
-          number-stands _ _ _ _ (omega arith) difference-first,
-          number-stands _ n ts _ (omega arith) (h .ts-stand),
-          number-stands _ b bs _ (omega arith) (h .bs-stand),
-          number-stands _ o os _ (omega arith) (h .os-stand),
+          number-stands (t .differences) (c - t .clock) (differences c cs) (h .e0) (omega (arith, h .below .0)) difference-first,
+          number-stands (t .transactions) n ts (h .e1) (omega (arith, h .ts-between .0 .1)) (h .ts-stand),
+          number-stands (t .blocks) b bs (h .e2) (omega (arith, h .bs-between .0 .1)) (h .bs-stand),
+          number-stands (t .outcomes) o os (h .e3) (omega (arith, h .os-between .0 .1)) (h .os-stand),
           clock-is,
         )
 
@@ -71,10 +71,10 @@ module _ (s : List ℕ) where
     unfolding passed
     passed-one =
         rw (
-          number-stands _ _ _ _ (omega arith) difference-first,
-          number-stands _ n ts _ (omega arith) (h .ts-stand),
-          number-stands _ b bs _ (omega arith) (h .bs-stand),
-          number-stands _ o os _ (omega arith) (h .os-stand),
+          number-stands (t .differences) (c - t .clock) (differences c cs) (h .e0) (omega (arith, h .below .0)) difference-first,
+          number-stands (t .transactions) n ts (h .e1) (omega (arith, h .ts-between .0 .1)) (h .ts-stand),
+          number-stands (t .blocks) b bs (h .e2) (omega (arith, h .bs-between .0 .1)) (h .bs-stand),
+          number-stands (t .outcomes) o os (h .e3) (omega (arith, h .os-between .0 .1)) (h .os-stand),
           clock-is,
         )
 
@@ -91,13 +91,14 @@ module _ (s : List ℕ) where
           e1 = h .e1;
           e2 = h .e2;
           e3 = h .e3;
-          cs-stand = stands-rest s _ _ _ _ difference-first;
-          ts-stand = stands-rest s _ n ts _ (h .ts-stand);
-          bs-stand = stands-rest s _ b bs _ (h .bs-stand);
-          os-stand = stands-rest s _ o os _ (h .os-stand);
+          cs-stand = stands-rest s (t .differences) (c - t .clock) (differences c cs) (h .e0) difference-first;
+          ts-stand = stands-rest s (t .transactions) n ts (h .e1) (h .ts-stand);
+          bs-stand = stands-rest s (t .blocks) b bs (h .e2) (h .bs-stand);
+          os-stand = stands-rest s (t .outcomes) o os (h .e3) (h .os-stand);
         }
 
-  pub found-rows : (n : ℕ) (cs ts bs os : List ℕ) → length cs ≡ n → length ts ≡ n → length bs ≡ n → length os ≡ n → (t : Walk) → Ahead t cs ts bs os →
+  pub found-rows : (n : ℕ) (cs ts bs os : List ℕ) → length cs ≡ n → length ts ≡ n → length bs ≡ n → length os ≡ n → (t : Walk)
+      → Ahead t cs ts bs os →
       foundAll n s t ≡ rows cs ts bs os
   unfolding foundAll rows
   found-rows zero [] ts bs os e f g i t h = refl
@@ -107,5 +108,9 @@ module _ (s : List ℕ) where
   found-rows (suc n) (c ∷ cs) (x ∷ ts) [] os e f g i t h = absurd (omega arith)
   found-rows (suc n) (c ∷ cs) (x ∷ ts) (b ∷ bs) [] e f g i t h = absurd (omega arith)
   found-rows (suc n) (c ∷ cs) (x ∷ ts) (b ∷ bs) (o ∷ os) e f g i t h =
-      let rest = found-rows n cs ts bs os (omega arith) (omega arith) (omega arith) (omega arith) _ (ahead-next t c x b o cs ts bs os h) in
-      cc (found-one t c x b o cs ts bs os h, passed-one t c x b o cs ts bs os h, rest)
+      let rest = found-rows n cs ts bs os (omega arith) (omega arith) (omega arith) (omega arith) (next t c x b o cs ts bs os h)
+      (ahead-next t c x b o cs ts bs os h) in
+      ap (λ (r : Record). r ∷ foundAll n s (passed s t (t .at))) (found-one t c x b o cs ts bs os h)
+      ∙ ap (λ (w : Walk). record { clock = c; transaction = x; block = b; outcome = o } ∷ foundAll n s w)
+      (passed-one t c x b o cs ts bs os h)
+      ∙ ap (λ (l : List Record). record { clock = c; transaction = x; block = b; outcome = o } ∷ l) rest

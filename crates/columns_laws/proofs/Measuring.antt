@@ -1,5 +1,5 @@
 -- The first walk over a trace, pure: one record by the reader's answer, and the totals of a walk that has the rest of the trace to come.
-use Rattle.machine.specs.All.{clash, cases, ℕ, zero, suc, _+_, _-_, _≤_, _<_, add-zero, arith, Bool, true, false, cond, List, [], _∷_, _++_, Option, none, some, _≡_, refl, sym, ap, ltb, eqb, length, length-append, lt-ltb, le-ltb, eq-eqb, ne-eqb, le-leb, lt-leb, ltb-true, ltb-false, eqb-true, eqb-false, inForce, taken, refusal, noMore, readRecord}
+use Rattle.machine.specs.All.{clash, ℕ, zero, suc, _+_, _-_, _≤_, _<_, add-zero, arith, Bool, true, false, cond, List, [], _∷_, _++_, Option, none, some, _≡_, refl, sym, ap, ltb, eqb, length, length-append, lt-ltb, le-ltb, eq-eqb, ne-eqb, le-leb, lt-leb, ltb-true, ltb-false, eqb-true, eqb-false, inForce, taken, refusal, noMore, readRecord, _∙_}
 use Rattle.machine.specs.Trace as machine
 use Rattle.codec.proofs.Numbers.{numberBytes-longest}
 use Rattle.trace.specs.{declared.Record.Record, declared.Reading.Reading, Answers.entry, Answers.readingOf}
@@ -24,16 +24,16 @@ module _ (count : ℕ) (t : Walk) (x : Reading) {y : machine.Reading} (e : readi
   module _ {r : Record} {next : ℕ} (h : x ≡ Read r next) where
     pub measured-fallen : r .clock < t .clock → Refused ≡ measuring count t y
     unfolding measuring
-    measured-fallen low = rw (← e, h, lt-ltb)
+    measured-fallen low = rw (← e, h, lt-ltb _ _ low)
 
     pub measured-many : t .clock ≤ r .clock → count ≡ maxRecords → Refused ≡ measuring count t y
     unfolding measuring
-    measured-many high full = rw (← e, h, le-ltb, eq-eqb)
+    measured-many high full = rw (← e, h, le-ltb _ _ high, eq-eqb _ _ full)
 
     pub measured-taken : t .clock ≤ r .clock → (count ≡ maxRecords → ⊥) → {w : Walk} →
         w ≡ longer t (entry (r .clock) (r .transaction) (r .block) (r .outcome)) next → Taken (count + 1) w ≡ measuring count t y
     unfolding measuring
-    measured-taken high room f = rw (f, ← e, h, le-ltb, ne-eqb)
+    measured-taken high room f = rw (f, ← e, h, le-ltb _ _ high, ne-eqb _ _ room)
 
 -- ---- Totals
 
@@ -41,12 +41,13 @@ module _ (count : ℕ) (t : Walk) (r : machine.Record) (next : ℕ) where
   totals-fallen : r .clock < t .clock → (o : Option (List machine.Record)) → none ≡ totals count t (behind r o)
   unfolding totals behind neverFall
   totals-fallen low none = refl
-  totals-fallen low (some l) = rw lt-leb
+  totals-fallen low (some l) = rw (lt-leb _ _ low)
 
-  totals-longer : t .clock ≤ r .clock → (o : Option (List machine.Record)) → totals (count + 1) (longer t r next) o ≡ totals count t (behind r o)
+  totals-longer : t .clock ≤ r .clock → (o : Option (List machine.Record))
+      → totals (count + 1) (longer t r next) o ≡ totals count t (behind r o)
   unfolding totals behind longer neverFall
   totals-longer high none = refl
-  totals-longer high (some l) = rw (le-leb _ _ high) (cases (neverFall (r .clock) (clocks l)) (λ e. rw e (ap some same)) (λ e. rw e))
+  totals-longer high (some l) = rw (le-leb _ _ high) (go (neverFall (r .clock) (clocks l)))
     where
       sum : (a : ℕ) (u w : List ℕ) → a + length u + length w ≡ a + length (u ++ w)
       sum a u w = rw length-append (omega arith)
@@ -55,6 +56,10 @@ module _ (count : ℕ) (t : Walk) (r : machine.Record) (next : ℕ) where
       same = unfold column differences longer in
           (let c : count + 1 + length l ≡ count + suc (length l) = omega arith in
           rw (c, sum (t .differences), sum (t .transactions), sum (t .blocks), sum (t .outcomes)))
+
+      go : (b : Bool) → cond b (some (totalled (count + 1) (longer t r next) l)) none ≡ cond b (some (totalled count t (r ∷ l))) none
+      go true = ap some same
+      go false = refl
 
 -- ---- The walk
 
@@ -72,16 +77,16 @@ pub record Stepped (s : List ℕ) (count : ℕ) (t : Walk) (n : ℕ) (t′ : Wal
 module _ (s : List ℕ) (count : ℕ) (t : Walk) (short : Short count t) where
   pub step-refused : t .at < length s → Refused ≡ measuring count t (readRecord inForce s (t .at)) → totalsOf Refused ≡ Rest s count t
   unfolding measuring totalsOf
-  step-refused inside e = go _ refl e
+  step-refused inside e = go (readRecord inForce s (t .at)) refl e
     where
       choose : (r : machine.Record) (next : ℕ) (a b : Bool) → ltb (r .clock) (t .clock) ≡ a → eqb count maxRecords ≡ b →
           Refused ≡ cond a Refused (cond b Refused (Taken (count + 1) (longer t r next))) →
           none ≡ totals count t (wholeFrom (maxRecords - count) s (taken r next))
-      choose r next true b f g h = fallen _
+      choose r next true b f g h = fallen (maxRecords - count)
         where
           fallen : (k : ℕ) → none ≡ totals count t (wholeFrom k s (taken r next))
-          fallen zero = rw whole-none (unfold totals in refl)
-          fallen (suc k) = rw whole-taken (totals-fallen count t r next (ltb-true _ _ f) _)
+          fallen zero = rw (whole-none s r next zero refl) (unfold totals in refl)
+          fallen (suc k) = rw (whole-taken s r next k) (totals-fallen count t r next (ltb-true _ _ f) _)
       choose r next false true f g h =
           let full : count ≡ maxRecords = eqb-true _ _ g in
           rw (whole-none s r next (maxRecords - count) (omega arith)) (unfold totals in refl)
@@ -90,12 +95,12 @@ module _ (s : List ℕ) (count : ℕ) (t : Walk) (short : Short count t) where
       go : (y : machine.Reading) → readRecord inForce s (t .at) ≡ y → Refused ≡ measuring count t y →
           none ≡ totals count t (wholeFrom (maxRecords - count) s y)
       go (taken r next) f h = choose r next _ _ refl refl h
-      go (refusal n) f h = rw whole-refusal (unfold totals in refl)
-      go noMore f h = absurd (omega (arith, no-more-end s _ f))
+      go (refusal n) f h = rw (whole-refusal s (maxRecords - count) n) (unfold totals in refl)
+      go noMore f h = absurd (omega (arith, no-more-end s (t .at) f))
 
   pub step-taken : (n : ℕ) (t′ : Walk) → Taken n t′ ≡ measuring count t (readRecord inForce s (t .at)) → Stepped s count t n t′
   unfolding measuring
-  step-taken n t′ e = go _ refl e
+  step-taken n t′ e = go (readRecord inForce s (t .at)) refl e
     where
       longer-short : (r : machine.Record) (next : ℕ) → count < maxRecords → Short (count + 1) (longer t r next)
       longer-short r next h = unfold longer in record {
@@ -106,15 +111,16 @@ module _ (s : List ℕ) (count : ℕ) (t : Walk) (short : Short count t) where
         outcomes = omega (arith, short, numberBytes-longest (r .outcome));
       }
 
-      choose : (r : machine.Record) (next : ℕ) → readRecord inForce s (t .at) ≡ taken r next → (a b : Bool) → ltb (r .clock) (t .clock) ≡ a → eqb count maxRecords ≡ b →
+      choose : (r : machine.Record) (next : ℕ) → readRecord inForce s (t .at) ≡ taken r next → (a b : Bool) → ltb (r .clock) (t .clock) ≡ a
+          → eqb count maxRecords ≡ b →
           Taken n t′ ≡ cond a Refused (cond b Refused (Taken (count + 1) (longer t r next))) → Stepped s count t n t′
       choose r next y true b f g h = clash (cc)
       choose r next y false true f g h = clash (cc)
       choose r next y false false f g h =
           let en : n ≡ count + 1 = cc in
           let et : t′ ≡ longer t r next = cc in
-          let differs = eqb-false _ _ g in
-          let room = below differs (short .few) in
+          let differs : count ≡ maxRecords → ⊥ = eqb-false _ _ g in
+          let room : count < maxRecords = below differs (short .few) in
           let k : maxRecords - count ≡ suc (maxRecords - (count + 1)) = omega arith in
           rw (en, et)
           (record {
@@ -122,14 +128,21 @@ module _ (s : List ℕ) (count : ℕ) (t : Walk) (short : Short count t) where
             count-more = refl;
             short = longer-short r next room;
             same =
-                cc (y, k, whole-taken s r next (maxRecords - (count + 1)), totals-longer count t r next (ltb-false _ _ f) (wholeFrom (maxRecords - (count + 1)) s (readRecord inForce s next)), at-next (wholeFrom (maxRecords - (count + 1)) s) r next);
+                sym
+                (ap (totals count t)
+                (ap (wholeFrom (maxRecords - count) s) y
+                ∙ ap (λ (m : ℕ). wholeFrom m s (taken r next)) k
+                ∙ whole-taken s r next (maxRecords - (count + 1)))
+                ∙ sym (totals-longer count t r next (ltb-false _ _ f) (wholeFrom (maxRecords - (count + 1)) s (readRecord inForce s next)))
+                ∙ at-next (wholeFrom (maxRecords - (count + 1)) s) r next);
           })
         where
           below : {a b : ℕ} → (a ≡ b → ⊥) → a ≤ b → a < b
-          below {a} {b} n le = omega arith
+          below {a} {b} n le = omega (arith, le)
 
           at-next : (f : machine.Reading → Option (List machine.Record)) (r : machine.Record) (next : ℕ) →
-              totals (count + 1) (longer t r next) (f (readRecord inForce s next)) ≡ totals (count + 1) (longer t r next) (f (readRecord inForce s (longer t r next .at)))
+              totals (count + 1) (longer t r next) (f (readRecord inForce s next))
+              ≡ totals (count + 1) (longer t r next) (f (readRecord inForce s (longer t r next .at)))
           at-next f r next = unfold longer in refl
 
       go : (y : machine.Reading) → readRecord inForce s (t .at) ≡ y → Taken n t′ ≡ measuring count t y → Stepped s count t n t′
@@ -140,7 +153,7 @@ module _ (s : List ℕ) (count : ℕ) (t : Walk) (short : Short count t) where
   -- past the end nothing is to come
   pub step-end : length s ≤ t .at → totalsOf (Taken count t) ≡ Rest s count t
   unfolding totalsOf
-  step-end past = rw (← past-end s _ past, whole-more) (unfold totals neverFall in sym go)
+  step-end past = rw (← past-end s (t .at) past, whole-more s (maxRecords - count)) (unfold totals neverFall in sym go)
     where
       go : some (totalled count t []) ≡ totalsOf (Taken count t)
       go = unfold column differences totalsOf in simp add-zero

@@ -1,5 +1,5 @@
 -- The pieces of columns, pure: where the count and each column stand, the records that they give, and their bytes.
-use Rattle.machine.specs.All.{clash, cases, ℕ, zero, suc, _+_, _≤_, zero-le, arith, true, List, [], _∷_, _++_, append-assoc, append-nil, some, _≡_, refl, sym, ap, subst, _∙_, eqb, length, drop, length-append, length-map, drop-length, eq-eqb, eqb-true, inForce, maxTransaction, maxBlocks, fiveGroups, numberBytes, Cursor, Parsed, parsed, refused, continue, ask, times, atEnd, beginning, Record, recordBytes, traceBytes, traceField}
+use Rattle.machine.specs.All.{clash, ℕ, zero, suc, _+_, _≤_, zero-le, arith, true, List, [], _∷_, _++_, append-assoc, append-nil, some, _≡_, refl, sym, ap, subst, _∙_, eqb, length, drop, length-append, length-map, drop-length, eq-eqb, eqb-true, inForce, maxTransaction, maxBlocks, fiveGroups, numberBytes, Cursor, Parsed, parsed, refused, continue, ask, times, atEnd, beginning, Record, recordBytes, traceBytes, traceField, Bool, false}
 use Rattle.codec.specs.Answers.{cursorAt}
 use Rattle.codec.proofs.{Fields.field-taken, Groups.Bytes}
 use Rattle.trace.specs.Whole.{AllInRanges}
@@ -12,7 +12,7 @@ use Rattle.columns_laws.proofs.Parsing.{continued, Between, ColumnTaken
 pub rows-of : (l : List Record) → rows (clocks l) (transactions l) (blocks l) (outcomes l) ≡ l
 unfolding rows
 rows-of [] = refl
-rows-of (r ∷ l) = cc (rows-of l)
+rows-of (r ∷ l) = ap (λ (m : List Record). r ∷ m) (rows-of l)
 
 -- columns of one length, and their rows
 pub record Split (cs ts bs os : List ℕ) : Type 0 where
@@ -28,12 +28,21 @@ unfolding rows traceBytes column
 split-cons c t b o cs ts bs os h =
     let r : Record = record { clock = c; transaction = t; block = b; outcome = o } in
     record {
-      clocks-of = cc (h .clocks-of);
-      transactions-of = cc (h .transactions-of);
-      blocks-of = cc (h .blocks-of);
-      outcomes-of = cc (h .outcomes-of);
+      clocks-of = ap (λ (m : List ℕ). c ∷ m) (h .clocks-of);
+      transactions-of = ap (λ (m : List ℕ). t ∷ m) (h .transactions-of);
+      blocks-of = ap (λ (m : List ℕ). b ∷ m) (h .blocks-of);
+      outcomes-of = ap (λ (m : List ℕ). o ∷ m) (h .outcomes-of);
       bytes-of =
-          omega (arith, recordBytes-length r, length-append (recordBytes r) (traceBytes (rows cs ts bs os)), length-append (numberBytes c) (column cs), length-append (numberBytes t) (column ts), length-append (numberBytes b) (column bs), length-append (numberBytes o) (column os));
+          omega (
+            arith,
+            h .bytes-of,
+            recordBytes-length r,
+            length-append (recordBytes r) (traceBytes (rows cs ts bs os)),
+            length-append (numberBytes c) (column cs),
+            length-append (numberBytes t) (column ts),
+            length-append (numberBytes b) (column bs),
+            length-append (numberBytes o) (column os),
+          );
       ranges-of = λ x y z w. (
         in-ranges r
             (record { clock = x .0; first = y .0 .0; transaction = y .0 .1; one = z .0 .0; block = z .0 .1; outcome = w .0 .1 }),
@@ -76,7 +85,7 @@ module _ {s : List ℕ} {n p0 p1 p2 p3 : ℕ} {cs ts bs os : List ℕ} (h : Piec
   pieces-split = split n cs ts bs os (h .cs-taken .count) (h .ts-taken .count) (h .bs-taken .count) (h .os-taken .count)
 
   pub pieces-count : length (rows cs ts bs os) ≡ n
-  pieces-count = cc (length-map (rows cs ts bs os) (λ r. r .clock), pieces-split .clocks-of, h .cs-taken .count)
+  pieces-count = sym (length-map (rows cs ts bs os) (λ r. r .clock)) ∙ ap length (pieces-split .clocks-of) ∙ h .cs-taken .count
 
   pub pieces-ranges : AllInRanges (rows cs ts bs os)
   pieces-ranges = pieces-split .ranges-of (h .cs-taken .below) (h .ts-taken .between) (h .bs-taken .between) (h .os-taken .between)
@@ -94,9 +103,15 @@ module _ {s : List ℕ} {n p0 p1 p2 p3 : ℕ} {cs ts bs os : List ℕ} (h : Piec
       let c = column ts in
       let d = column bs in
       let e = column os in
-      let end = drop-length s in
+      let end : drop (length s) s ≡ [] = drop-length s in
       rw (pieces-count, x .clocks-of, x .transactions-of, x .blocks-of, x .outcomes-of)
-      (cc (h .head, h .cs-taken .stands .bytes, h .ts-taken .stands .bytes, h .bs-taken .stands .bytes, h .os-taken .stands .bytes, end, append-nil e, gather a b c d e))
+      (sym
+      (h .head
+      ∙ ap (λ (u : List ℕ). a ++ u) (h .cs-taken .stands .bytes)
+      ∙ ap (λ (u : List ℕ). a ++ (b ++ u)) (h .ts-taken .stands .bytes)
+      ∙ ap (λ (u : List ℕ). a ++ (b ++ (c ++ u))) (h .bs-taken .stands .bytes)
+      ∙ ap (λ (u : List ℕ). a ++ (b ++ (c ++ (d ++ u)))) (h .os-taken .stands .bytes ∙ ap (λ (u : List ℕ). e ++ u) end ∙ append-nil e)
+      ∙ gather a b c d e))
     where
       gather : (a b c d e : List ℕ) → a ++ (b ++ (c ++ (d ++ e))) ≡ a ++ b ++ c ++ d ++ e
       gather a b c d e = sym (simp append-assoc)
@@ -111,7 +126,7 @@ module _ (s : List ℕ) (n p0 p1 p2 p3 p4 : ℕ) (cs ts bs os : List ℕ)
     (f4 : times n (traceField inForce s 0 1) (cursorAt p3 0 0) ≡ parsed os (cursorAt p4 0 0)) where
   pub columns-parsed : p4 ≡ length s → takenColumns s ≡ some (rows cs ts bs os)
   unfolding takenColumns columnFields continue atEnd ask recordsOf
-  columns-parsed end = rw (f0, f1, f2, f3, f4, eq-eqb)
+  columns-parsed end = rw (f0, f1, f2, f3, f4, eq-eqb p4 (length s) end)
 
 -- what every parse that gives records has
 pub record Parses (s : List ℕ) (l : List Record) : Type 0 where
@@ -129,15 +144,18 @@ pub record Parses (s : List ℕ) (l : List Record) : Type 0 where
 
 records-some : (p : Parsed (List Record)) (l : List Record) → recordsOf p ≡ some l → (c : Cursor) × (p ≡ parsed l c)
 unfolding recordsOf
-records-some (parsed m c) l e = let f : m ≡ l = cc in (c, cc f)
+records-some (parsed m c) l e = let f : m ≡ l = cc in (c, ap (λ (x : List Record). parsed x c) f)
 records-some (refused n) l e = clash (cc)
 
-at-end : (s : List ℕ) (l m : List Record) (c d : Cursor) → continue (atEnd s 31 c) (λ u x. parsed m x) ≡ parsed l d → (c .position ≡ length s) × (m ≡ l)
+at-end : (s : List ℕ) (l m : List Record) (c d : Cursor) → continue (atEnd s 31 c) (λ u x. parsed m x) ≡ parsed l d
+    → (c .position ≡ length s) × (m ≡ l)
 unfolding atEnd
-at-end s l m c d e =
-    cases (eqb (c .position) (length s))
-    (λ f. unfold continue ask in (eqb-true _ _ f, (cc)))
-    (λ f. unfold continue ask in (clash (cc)))
+at-end s l m c d e = go (eqb (c .position) (length s)) refl e
+  where
+    go : (b : Bool) → eqb (c .position) (length s) ≡ b → continue (ask b 31 c) (λ u x. parsed m x) ≡ parsed l d
+        → (c .position ≡ length s) × (m ≡ l)
+    go true f g = unfold continue ask in (eqb-true _ _ f, (cc))
+    go false f g = unfold continue ask in (clash (cc))
 
 pub columns-parse : (s : List ℕ) → Bytes s → (l : List Record) → takenColumns s ≡ some l → Parses s l
 unfolding takenColumns columnFields
@@ -150,11 +168,14 @@ columns-parse s bytes l e =
     let b = continued (clocksFrom s n 0 (a .1)) _ l (r .0) (a .3) in
     let cs = clocks-taken s bytes n 0 p0 (b .0) (b .1) zero-le (ap (clocksFrom s n 0) (sym (t .cursor)) ∙ b .2) in
     let c = continued (times n (traceField inForce s 1 maxTransaction) (b .1)) _ l (r .0) (b .3) in
-    let ts = column-taken s bytes 1 maxTransaction n (b .1 .position) (c .0) (c .1) (ap (times n (traceField inForce s 1 maxTransaction)) (sym (cs .cursor)) ∙ c .2) in
+    let ts = column-taken s bytes 1 maxTransaction n (b .1 .position) (c .0) (c .1)
+    (ap (times n (traceField inForce s 1 maxTransaction)) (sym (cs .cursor)) ∙ c .2) in
     let d = continued (times n (traceField inForce s 1 maxBlocks) (c .1)) _ l (r .0) (c .3) in
-    let bs = column-taken s bytes 1 maxBlocks n (c .1 .position) (d .0) (d .1) (ap (times n (traceField inForce s 1 maxBlocks)) (sym (ts .cursor)) ∙ d .2) in
+    let bs = column-taken s bytes 1 maxBlocks n (c .1 .position) (d .0) (d .1)
+    (ap (times n (traceField inForce s 1 maxBlocks)) (sym (ts .cursor)) ∙ d .2) in
     let f = continued (times n (traceField inForce s 0 1) (d .1)) _ l (r .0) (d .3) in
-    let os = column-taken s bytes 0 1 n (d .1 .position) (f .0) (f .1) (ap (times n (traceField inForce s 0 1)) (sym (bs .cursor)) ∙ f .2) in
+    let os = column-taken s bytes 0 1 n (d .1 .position) (f .0) (f .1)
+    (ap (times n (traceField inForce s 0 1)) (sym (bs .cursor)) ∙ f .2) in
     let z = at-end s l (rows (b .0) (c .0) (d .0) (f .0)) (f .1) (r .0) (f .3) in
     record {
       n = n;
@@ -172,7 +193,7 @@ columns-parse s bytes l e =
         cs-taken = subst (ClocksTaken s n 0 p0 (b .0)) (cs .cursor) cs;
         ts-taken = subst (ColumnTaken s 1 maxTransaction n (b .1 .position) (c .0)) (ts .cursor) ts;
         bs-taken = subst (ColumnTaken s 1 maxBlocks n (c .1 .position) (d .0)) (bs .cursor) bs;
-        os-taken = rw (os .cursor, z .0) at os;
+        os-taken = subst (ColumnTaken s 0 1 n (d .1 .position) (f .0)) (os .cursor ∙ ap (λ (p : ℕ). cursorAt p 0 0) (z .0)) os;
       };
       all = z .1;
     }

@@ -41,12 +41,13 @@ pub place-more : (left : ℕ) (s : List ℕ) (t t′ : Walk) (out out′ : List 
     placeAll (left - 1) s t′ out′ ≡ placeAll left s t out
 place-more left s t t′ out out′ h e =
     let more : suc (left - 1) ≡ left = omega arith in
-    cc (first, e, last, more)
+    first ∙ ap (λ (p : Moved). placeAll (left - 1) s (p .walk) (p .bytes)) e ∙ last ∙ ap (λ (n : ℕ). placeAll n s t out) more
   where
     first : placeAll (left - 1) s t′ out′ ≡ placeAll (left - 1) s (moved t′ out′ .walk) (moved t′ out′ .bytes)
     first = unfold moved in refl
 
-    last : placeAll (left - 1) s (place (recordAt s (t .at)) t out .walk) (place (recordAt s (t .at)) t out .bytes) ≡ placeAll (suc (left - 1)) s t out
+    last : placeAll (left - 1) s (place (recordAt s (t .at)) t out .walk) (place (recordAt s (t .at)) t out .bytes)
+        ≡ placeAll (suc (left - 1)) s t out
     last = unfold placeAll in refl
 
 pub place-none : (left : ℕ) (s : List ℕ) (t : Walk) (out : List ℕ) → left ≤ 0 → out ≡ placeAll left s t out
@@ -58,15 +59,16 @@ place-none left s t out h = let e : left ≡ 0 = omega arith in rw e
 set-past : (u l : List ℕ) (i j x : ℕ) → j < i → set (sets l i u) j x ≡ sets (set l j x) i u
 set-past [] l i j x h = refl
 set-past (y ∷ u) l i j x h =
-    cc (set-past u (set l i y) (suc i) j x (omega arith), set-comm l i j y x (λ e. omega arith))
+    set-past u (set l i y) (suc i) j x (omega arith) ∙ ap (λ (m : List ℕ). sets m (suc i) u) (set-comm l i j y x (λ e. omega arith))
 
 sets-past : (w u l : List ℕ) (i j : ℕ) → j + length w ≤ i → sets (sets l i u) j w ≡ sets (sets l j w) i u
 sets-past [] u l i j h = refl
 sets-past (x ∷ w) u l i j h =
-    cc (set-past u l i j x (omega arith), sets-past w u (set l j x) i (suc j) (omega arith))
+    ap (λ (m : List ℕ). sets m (suc j) w) (set-past u l i j x (omega arith)) ∙ sets-past w u (set l j x) i (suc j) (omega arith)
 
 -- four stores, then one behind each
-module _ (a b c d a′ b′ c′ d′ l : List ℕ) (i j k m : ℕ) (ij : i + length a + length a′ ≤ j) (jk : j + length b + length b′ ≤ k) (km : k + length c + length c′ ≤ m) where
+module _ (a b c d a′ b′ c′ d′ l : List ℕ) (i j k m : ℕ) (ij : i + length a + length a′ ≤ j) (jk : j + length b + length b′ ≤ k)
+    (km : k + length c + length c′ ≤ m) where
   abbrev four : List ℕ
   four = sets (sets (sets (sets l i a) j b) k c) m d
 
@@ -88,7 +90,10 @@ module _ (a b c d a′ b′ c′ d′ l : List ℕ) (i j k m : ℕ) (ij : i + le
       let w = sets z j (b ++ b′) in
       let three : sets (sets (sets w k c) m d) (k + length c) c′ ≡ sets (sets w k (c ++ c′)) m d =
       sets-past c′ d (sets w k c) m (k + length c) (omega arith) ∙ ap (λ (y : List ℕ). sets y m d) (sets-append c c′ w k) in
-      cc (one, two, three, sets-append d d′ (sets w k (c ++ c′)) m)
+      ap (λ (y : List ℕ). sets (sets (sets y (j + length b) b′) (k + length c) c′) (m + length d) d′) one
+      ∙ ap (λ (y : List ℕ). sets (sets y (k + length c) c′) (m + length d) d′) two
+      ∙ ap (λ (y : List ℕ). sets y (m + length d) d′) three
+      ∙ sets-append d d′ (sets w k (c ++ c′)) m
 
 -- ---- Records placed
 
@@ -129,13 +134,13 @@ storedOne t r out =
 
 column-cons : (v : ℕ) (l : List ℕ) → length (column (v ∷ l)) ≡ length (numberBytes v) + length (column l)
 unfolding column
-column-cons v l = length-append (numberBytes v) _
+column-cons v l = length-append (numberBytes v) (column l)
 
 module _ (t : Walk) (r : Record) (l : List Record) (next : ℕ) (out : List ℕ) (room : Room t (r ∷ l) (length out)) where
   first-difference : length (column (differences (t .clock) (clocks (r ∷ l))))
       ≡ length (numberBytes (r .clock - t .clock)) + length (column (differences (r .clock) (clocks l)))
   unfolding differences
-  first-difference = column-cons _ _
+  first-difference = column-cons (r .clock - t .clock) (differences (r .clock) (clocks l))
 
   placed-one : place (record { clock = r .clock; transaction = r .transaction; block = r .block; outcome = r .outcome; next = next }) t out
       ≡ moved (behindOne t r next) (storedOne t r out)
@@ -147,7 +152,7 @@ module _ (t : Walk) (r : Record) (l : List Record) (next : ℕ) (out : List ℕ)
       let o1 = sets out (t .differences) (numberBytes (r .clock - t .clock)) in
       let o2 = sets o1 (t .transactions) (numberBytes (r .transaction)) in
       let o3 = sets o2 (t .blocks) (numberBytes (r .block)) in
-      let l1 = length-sets out (t .differences) (numberBytes (r .clock - t .clock)) in
+      let l1 : length o1 ≡ length out = length-sets out (t .differences) (numberBytes (r .clock - t .clock)) in
       let l2 : length o2 ≡ length out = length-sets o1 (t .transactions) (numberBytes (r .transaction)) ∙ l1 in
       let l3 : length o3 ≡ length out = length-sets o2 (t .blocks) (numberBytes (r .block)) ∙ l2 in
       let p1 = put-room (t .differences) (r .clock - t .clock) out (omega (arith, first-difference, n2, n3, n4, room)) in
@@ -161,44 +166,48 @@ module _ (t : Walk) (r : Record) (l : List Record) (next : ℕ) (out : List ℕ)
       let n2 = column-cons (r .transaction) (transactions l) in
       let n3 = column-cons (r .block) (blocks l) in
       let n4 = column-cons (r .outcome) (outcomes l) in
-      let o1 = sets out _ (numberBytes _) in
-      let o2 = sets o1 _ (numberBytes _) in
-      let o3 = sets o2 _ (numberBytes _) in
+      let o1 = sets out (t .differences) (numberBytes (r .clock - t .clock)) in
+      let o2 = sets o1 (t .transactions) (numberBytes (r .transaction)) in
+      let o3 = sets o2 (t .blocks) (numberBytes (r .block)) in
       let l4 : length (storedOne t r out) ≡ length out =
-      length-sets o3 _ (numberBytes _) ∙ length-sets o2 _ (numberBytes _)
-      ∙ length-sets o1 _ (numberBytes _) ∙ length-sets out _ (numberBytes _) in
+      length-sets o3 (t .outcomes) (numberBytes (r .outcome)) ∙ length-sets o2 (t .blocks) (numberBytes (r .block))
+      ∙ length-sets o1 (t .transactions) (numberBytes (r .transaction))
+      ∙ length-sets out (t .differences) (numberBytes (r .clock - t .clock)) in
       record {
-        differences = omega (arith, first-difference);
-        transactions = omega arith;
-        blocks = omega arith;
-        outcomes = omega arith;
+        differences = omega (arith, first-difference, room);
+        transactions = omega (arith, n2, room);
+        blocks = omega (arith, n3, room);
+        outcomes = omega (arith, n4, room, l4);
       }
 
   laid-behind : laid (behindOne t r next) l (storedOne t r out) ≡ laid t (r ∷ l) out
   unfolding column differences
   laid-behind =
-      stores-turned (numberBytes _) (numberBytes _) (numberBytes _) (numberBytes _)
-      _ _ _ _ out
-      _ _ _ _
-      (omega (arith, first-difference))
-      (omega (arith, column-cons (r .transaction) (transactions l)))
-      (omega (arith, column-cons (r .block) (blocks l)))
+      stores-turned (numberBytes (r .clock - t .clock)) (numberBytes (r .transaction)) (numberBytes (r .block)) (numberBytes (r .outcome))
+      (column (differences (r .clock) (clocks l))) (column (transactions l)) (column (blocks l)) (column (outcomes l)) out
+      (t .differences) (t .transactions) (t .blocks) (t .outcomes)
+      (omega (arith, first-difference, room))
+      (omega (arith, column-cons (r .transaction) (transactions l), room))
+      (omega (arith, column-cons (r .block) (blocks l), room))
 
 pub placed-all : {s : List ℕ} {at : ℕ} {l : List Record} → Reads s at l → (t : Walk) → t .at ≡ at → (out : List ℕ) → Room t l (length out) →
     placeAll (length l) s t out ≡ laid t l out
 placed-all (ends e) t h out room = unfold placeAll column differences in refl
 placed-all {s = s} (takes {at = at} {next = next} {r = r} {l = l} e more) t h out room =
-    let read : recordAt s (t .at) ≡ record { clock = r .clock; transaction = r .transaction; block = r .block; outcome = r .outcome; next = next } =
+    let read : recordAt s (t .at)
+    ≡ record { clock = r .clock; transaction = r .transaction; block = r .block; outcome = r .outcome; next = next } =
     rw (h, e) (unfold entryOf in refl) in
-    let one =
+    let one : place (recordAt s (t .at)) t out ≡ moved (behindOne t r next) (storedOne t r out) =
     ap (λ (x : Entry). place x t out) read ∙ placed-one t r l next out room in
     let rest = placed-all more (behindOne t r next) refl (storedOne t r out) (room-behind t r l next out room) in
     step one ∙ rest ∙ laid-behind t r l next out room
   where
-    first : placeAll (suc (length l)) s t out ≡ placeAll (length l) s (place (recordAt s (t .at)) t out .walk) (place (recordAt s (t .at)) t out .bytes)
+    first : placeAll (suc (length l)) s t out ≡ placeAll (length l) s (place (recordAt s (t .at)) t out .walk)
+        (place (recordAt s (t .at)) t out .bytes)
     first = unfold placeAll in refl
 
-    last : placeAll (length l) s (moved (behindOne t r next) (storedOne t r out) .walk) (moved (behindOne t r next) (storedOne t r out) .bytes)
+    last : placeAll (length l) s (moved (behindOne t r next) (storedOne t r out) .walk)
+        (moved (behindOne t r next) (storedOne t r out) .bytes)
         ≡ placeAll (length l) s (behindOne t r next) (storedOne t r out)
     last = unfold moved in refl
 
@@ -209,10 +218,11 @@ placed-all {s = s} (takes {at = at} {next = next} {r = r} {l = l} e more) t h ou
 -- ---- From the beginning
 
 sets-front : (u w l : List ℕ) (j : ℕ) → j ≡ length u → sets (sets l 0 u) j w ≡ sets l 0 (u ++ w)
-sets-front u w l j e = cc (e, zero-add (length u), sets-append u w l 0)
+sets-front u w l j e = ap (λ (i : ℕ). sets (sets l 0 u) i w) (e ∙ sym (zero-add (length u))) ∙ sets-append u w l 0
 
 pub columns-length : (l : List Record) → length (columnBytes l)
-    ≡ length (numberBytes (length l)) + length (column (differences 0 (clocks l))) + length (column (transactions l)) + length (column (blocks l))
+    ≡ length (numberBytes (length l)) + length (column (differences 0 (clocks l))) + length (column (transactions l)) + length
+    (column (blocks l))
     + length (column (outcomes l))
 unfolding columnBytes
 columns-length l = simp length-append
@@ -231,25 +241,27 @@ module _ (l : List Record) (out : List ℕ) (fits : length (columnBytes l) ≤ l
     outcomes = head + length (column (differences 0 (clocks l))) + length (column (transactions l)) + length (column (blocks l));
   }
 
-  pub columns-placed : {s : List ℕ} → Reads s 0 l → placeAll (length l) s firstColumns (sets out 0 (numberBytes (length l))) ≡ sets out 0 (columnBytes l)
+  pub columns-placed : {s : List ℕ} → Reads s 0 l
+      → placeAll (length l) s firstColumns (sets out 0 (numberBytes (length l))) ≡ sets out 0 (columnBytes l)
   columns-placed {s} reads =
       let a = numberBytes (length l) in
-      let b = column _ in
-      let c = column _ in
-      let d = column _ in
-      let e = column _ in
+      let b = column (differences 0 (clocks l)) in
+      let c = column (transactions l) in
+      let d = column (blocks l) in
+      let e = column (outcomes l) in
       let ab = length-append a b in
       let abc = length-append (a ++ b) c in
       let abcd = length-append (a ++ b ++ c) d in
       let len = length-sets out 0 a in
       let room : Room firstColumns l (length (sets out 0 a)) =
       record { differences = omega arith; transactions = omega arith; blocks = omega arith; outcomes = omega (arith, columns-length l) } in
-      placed-all reads firstColumns refl _ room
-      ∙ ap (λ (x : List ℕ). sets (sets (sets x (length a + length b) c) (length a + length b + length c) d) (length a + length b + length c + length d) e)
-      (sets-front a b out _ refl)
+      placed-all reads firstColumns refl (sets out 0 a) room
+      ∙ ap (λ (x : List ℕ). sets (sets (sets x (length a + length b) c) (length a + length b + length c) d)
+      (length a + length b + length c + length d) e)
+      (sets-front a b out (length a) refl)
       ∙ ap (λ (x : List ℕ). sets (sets x (length a + length b + length c) d) (length a + length b + length c + length d) e)
-      (sets-front (a ++ b) c out _ (sym ab))
+      (sets-front (a ++ b) c out (length a + length b) (sym ab))
       ∙ ap (λ (x : List ℕ). sets x (length a + length b + length c + length d) e)
-      (sets-front (a ++ b ++ c) d out _ (omega arith))
-      ∙ sets-front (a ++ b ++ c ++ d) e out _ (omega arith)
+      (sets-front (a ++ b ++ c) d out (length a + length b + length c) (omega arith))
+      ∙ sets-front (a ++ b ++ c ++ d) e out (length a + length b + length c + length d) (omega arith)
       ∙ unfold columnBytes in refl

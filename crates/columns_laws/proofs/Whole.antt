@@ -54,17 +54,19 @@ module _ (s : List ℕ) where
           ((next : ℕ) (m : List Record) → wholeFrom k s (readRecord inForce s next) ≡ some m → Reads s next m × (length m ≤ k)) →
           wholeFrom (suc k) s y ≡ some l → Reads s at l × (length l ≤ suc k)
       go (taken r next) h again f =
-          let x = first r _ l (sym (whole-taken s r next k) ∙ f) in
+          let x = first r (wholeFrom k s (readRecord inForce s next)) l (sym (whole-taken s r next k) ∙ f) in
           let rest = again next (x .tail) (x .found) in
           rw (x .all) (takes h (rest .0), omega (arith, rest .1))
-      go (refusal n) h again f = let z : _≡_ {A = ℕ} 0 1 = cc (whole-refusal s (suc k) n) in absurd (omega arith)
+      go (refusal n) h again f = clash (cc (whole-refusal s (suc k) n))
       go noMore h again f = let e : l ≡ [] = sym (some-list (sym (whole-more s (suc k)) ∙ f)) in rw e (ends h, omega arith)
 
 -- and the other way round
-pub reads-whole : {s : List ℕ} {at : ℕ} {l : List Record} (k : ℕ) → Reads s at l → length l ≤ k → wholeFrom k s (readRecord inForce s at) ≡ some l
+pub reads-whole : {s : List ℕ} {at : ℕ} {l : List Record} (k : ℕ) → Reads s at l → length l ≤ k
+    → wholeFrom k s (readRecord inForce s at) ≡ some l
 reads-whole {s = s} k (ends {at = at} e) h = rw e (whole-more s k)
 reads-whole {s = s} k (takes {at = at} {next = next} {r = r} {l = l} e t) h =
     let n : k ≡ suc (k - 1) = omega arith in
     let rest = reads-whole (k - 1) t (omega arith) in
-    ap (λ (m : ℕ). wholeFrom m s (readRecord inForce s at)) n ∙ ap (wholeFrom _ s) e ∙ whole-taken s r next _ ∙ ap (behind r) rest
+    ap (λ (m : ℕ). wholeFrom m s (readRecord inForce s at)) n ∙ ap (wholeFrom (suc (k - 1)) s) e ∙ whole-taken s r next (k - 1)
+    ∙ ap (behind r) rest
     ∙ unfold behind in refl

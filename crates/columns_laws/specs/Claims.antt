@@ -23,16 +23,20 @@ pub record Produces (columns : List ℕ) (l : List Record) : Type 0 where
 pub record Item10 : Type 0 where
   pub traces : (s : List ℕ) (l : List Record) → (takenTrace s ≡ some l → Such s l) × (Such s l → takenTrace s ≡ some l)
   -- "Column bytes are taken exactly if some such trace produces them."
-  pub columns : (s : List ℕ) (l : List Record) → (Bytes s → takenColumns s ≡ some l → Produces s l) × (Produces s l → takenColumns s ≡ some l)
+  pub columns : (s : List ℕ) (l : List Record) → (Bytes s → takenColumns s ≡ some l → Produces s l)
+      × (Produces s l → takenColumns s ≡ some l)
   -- "An inverse gives back the trace", and the columns of what comes back are the columns
   pub inverse : (trace columns : List ℕ) (room back : ℕ) → Bytes trace → toColumns trace room ≡ written columns → length trace ≤ back →
       fromColumns columns back ≡ written trace
-  pub inverse-back : (columns trace : List ℕ) (room back : ℕ) → Bytes columns → fromColumns columns back ≡ written trace → length columns ≤ room →
+  pub inverse-back : (columns trace : List ℕ) (room back : ℕ) → Bytes columns → fromColumns columns back ≡ written trace
+      → length columns ≤ room →
       toColumns trace room ≡ written columns
   -- "51 not such a trace, or not such columns", whatever was lent; "then 52 the output needs more bytes than were lent"
   pub not-such-trace : (s : List ℕ) (room : ℕ) → ((l : List Record) → Such s l → ⊥) → toColumns s room ≡ rejected 51
   pub columns-room : (s : List ℕ) (l : List Record) (room : ℕ) → Such s l → room < length (columnBytes l) → toColumns s room ≡ rejected 52
   pub not-such-columns : (s : List ℕ) (room : ℕ) → Bytes s → ((l : List Record) → Produces s l → ⊥) → fromColumns s room ≡ rejected 51
-  pub trace-room : (s : List ℕ) (l : List Record) (room : ℕ) → Produces s l → room < length (traceBytes l) → fromColumns s room ≡ rejected 52
+  pub trace-room : (s : List ℕ) (l : List Record) (room : ℕ) → Produces s l → room < length (traceBytes l)
+      → fromColumns s room ≡ rejected 52
   -- every trace that a run writes is taken, whatever the bytes of model and tape
-  pub runs : (model tape : List ℕ) (budget work room report : ℕ) → (l : List Record) × Such (outcome inForce model tape budget work room report .trace) l
+  pub runs : (model tape : List ℕ) (budget work room report : ℕ)
+      → (l : List Record) × Such (outcome inForce model tape budget work room report .trace) l

@@ -3,7 +3,8 @@ use Rattle.machine.specs.All.{List, [], _∷_, _≡_, refl, ℕ, everything, wr
 use Rattle.columns_laws.specs.Columns.{differences, column, columnBytes, neverFall, behind, wholeFrom, rising, takenTrace, rows, clocksFrom, columnFields, recordsOf, takenColumns, answer, toColumns, fromColumns}
 
 unfoldable all : Unit {0}
-unfolding everything differences column columnBytes neverFall behind wholeFrom rising takenTrace rows clocksFrom columnFields recordsOf takenColumns answer toColumns fromColumns
+unfolding everything differences column columnBytes neverFall behind wholeFrom rising takenTrace rows clocksFrom columnFields recordsOf
+    takenColumns answer toColumns fromColumns
 all = tt
 
 abbrev trace : List ℕ
