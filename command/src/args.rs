@@ -1,18 +1,21 @@
-//! The words behind a command: options, their values, and the rest.
+//! The words behind a command: options, their values, and the rest. Names of files need not be UTF-8.
 
 use crate::failure::{Done, Failure};
 use modeltext::words::nearest;
+use std::ffi::{OsStr, OsString};
+use std::os::unix::ffi::OsStrExt;
+use std::path::Path;
 
 /// Words as they were given, options taken out.
 #[derive(Clone, Debug, Default, PartialEq, Eq)]
 pub struct Args {
-    pub words: Vec<String>,
+    pub words: Vec<OsString>,
     flags: Vec<String>,
-    values: Vec<(String, String)>,
+    values: Vec<(String, OsString)>,
 }
 
 /// Takes the words apart; an option is one of `flags`, or one of `valued` with a value behind it or behind `=`.
-pub fn parse(given: &[String], flags: &[&str], valued: &[&str]) -> Done<Args> {
+pub fn parse(given: &[OsString], flags: &[&str], valued: &[&str]) -> Done<Args> {
     let mut args = Args::default();
     let mut given = given.iter();
     while let Some(word) = given.next() {
@@ -20,22 +23,21 @@ pub fn parse(given: &[String], flags: &[&str], valued: &[&str]) -> Done<Args> {
             args.words.extend(given.cloned());
             break;
         }
-        let (name, value) = match word.split_once('=') {
-            Some((name, value)) if word.starts_with("--") => (name, Some(value.to_string())),
-            _ => (word.as_str(), None),
-        };
-        if !name.starts_with('-') || name == "-" {
+        if !word.as_bytes().starts_with(b"-") || word == "-" {
             args.words.push(word.clone());
-        } else if flags.contains(&name) && value.is_none() {
-            args.flags.push(name.to_string());
-        } else if valued.contains(&name) {
+            continue;
+        }
+        let (name, value) = option(word);
+        if flags.contains(&&*name) && value.is_none() {
+            args.flags.push(name);
+        } else if valued.contains(&&*name) {
             let value = value.or_else(|| given.next().cloned());
             let value =
-                value.ok_or_else(|| Failure::usage(format!("{name} needs a number behind it")))?;
-            args.values.push((name.to_string(), value));
+                value.ok_or_else(|| Failure::usage(format!("{name} needs a word behind it")))?;
+            args.values.push((name, value));
         } else {
             let known = flags.iter().chain(valued).copied();
-            let hint = match nearest(name, known) {
+            let hint = match nearest(&name, known) {
                 Some(meant) => format!("; did you mean {meant}?"),
                 None => String::new(),
             };
@@ -45,30 +47,49 @@ pub fn parse(given: &[String], flags: &[&str], valued: &[&str]) -> Done<Args> {
     Ok(args)
 }
 
+/// The name of an option, and the value behind its `=`.
+fn option(word: &OsStr) -> (String, Option<OsString>) {
+    let bytes = word.as_bytes();
+    let sign = bytes.iter().position(|b| *b == b'=');
+    let at = sign.filter(|_| bytes.starts_with(b"--"));
+    let name = &bytes[..at.unwrap_or(bytes.len())];
+    let value = at.map(|at| OsStr::from_bytes(&bytes[at + 1..]).to_os_string());
+    (String::from_utf8_lossy(name).into_owned(), value)
+}
+
 impl Args {
     pub fn has(&self, flag: &str) -> bool {
         self.flags.iter().any(|f| f == flag)
     }
 
-    /// The number behind an option, if it was given; the last counts.
+    /// The word behind an option, if it was given; the last counts.
+    pub fn value(&self, name: &str) -> Option<&OsStr> {
+        let mut values = self.values.iter().rev();
+        values.find(|(n, _)| n == name).map(|(_, v)| v.as_os_str())
+    }
+
+    /// The number behind an option, if it was given.
     pub fn number(&self, name: &str) -> Done<Option<u64>> {
-        let Some((_, value)) = self.values.iter().rev().find(|(n, _)| n == name) else {
-            return Ok(None);
-        };
-        number(value, name).map(Some)
+        self.value(name).map(|v| number(v, name)).transpose()
     }
 
     /// These many words and no more.
-    pub fn exactly<const N: usize>(&self, what: &str) -> Done<[&str; N]> {
-        let words: Vec<&str> = self.words.iter().map(String::as_str).collect();
+    pub fn exactly<const N: usize>(&self, what: &str) -> Done<[&OsStr; N]> {
+        let words: Vec<&OsStr> = self.words.iter().map(OsString::as_os_str).collect();
         words
             .try_into()
             .map_err(|_| Failure::usage(format!("wanted is {what}")))
     }
+
+    /// These many names of files or folders and no more.
+    pub fn paths<const N: usize>(&self, what: &str) -> Done<[&Path; N]> {
+        Ok(self.exactly(what)?.map(Path::new))
+    }
 }
 
 /// A whole number, with `_` or `,` between digits where one likes.
-pub fn number(text: &str, what: &str) -> Done<u64> {
+pub fn number(text: &OsStr, what: &str) -> Done<u64> {
+    let text = text.to_string_lossy();
     let digits: String = text.chars().filter(|c| *c != '_' && *c != ',').collect();
     digits.parse().map_err(|_| {
         Failure::usage(format!(
@@ -81,9 +102,11 @@ pub fn number(text: &str, what: &str) -> Done<u64> {
 #[cfg(test)]
 mod tests {
     use super::parse;
+    use std::ffi::{OsStr, OsString};
+    use std::os::unix::ffi::OsStrExt;
 
-    fn given(words: &[&str]) -> Vec<String> {
-        words.iter().map(|w| w.to_string()).collect()
+    fn given(words: &[&str]) -> Vec<OsString> {
+        words.iter().map(OsString::from).collect()
     }
 
     #[test]
@@ -111,5 +134,14 @@ mod tests {
         assert!(parse(&given(&["--budget"]), &[], &["--budget"]).is_err());
         let args = parse(&given(&["--budget", "-3"]), &[], &["--budget"]).unwrap();
         assert_eq!(args.number("--budget").unwrap_err().status, 2);
+    }
+
+    #[test]
+    fn names_that_are_not_utf8() {
+        let name = OsStr::from_bytes(b"ber\xfcth=1").to_os_string();
+        let to = OsStr::from_bytes(b"--to=\xff=\xfe").to_os_string();
+        let args = parse(&[name.clone(), to], &[], &["--to"]).unwrap();
+        assert_eq!(args.words, [name]);
+        assert_eq!(args.value("--to"), Some(OsStr::from_bytes(b"\xff=\xfe")));
     }
 }

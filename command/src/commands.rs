@@ -1,6 +1,7 @@
 //! The commands, one to a file; this table has their words and options.
 
 mod archive;
+mod catalogue;
 mod check;
 mod columns;
 mod compare;
@@ -13,17 +14,22 @@ mod template;
 mod verify;
 
 use crate::args::{self, Args};
+use crate::durable;
 use crate::execute::{execute, Lent};
 use crate::failure::{Done, Failure};
+use crate::maker::Maker;
+use crate::seal;
+use crate::standard;
 use crate::study::Study;
 use engine::Run;
+use std::ffi::OsString;
 use std::io::{IsTerminal, Write};
+use std::path::Path;
 use std::sync::mpsc;
 use std::time::{Duration, Instant};
 
 pub use archive::archive;
 pub use tape::list as drawn_list;
-pub use verify::{verify_folder, Verdict};
 
 /// A command: its name, the words behind it, what it does in a line, its help and its options.
 pub struct Command {
@@ -41,6 +47,7 @@ pub const COMMANDS: &[Command] = &[
     run::COMMAND,
     archive::COMMAND,
     verify::COMMAND,
+    catalogue::COMMAND,
     list::COMMAND,
     follow::COMMAND,
     compare::COMMAND,
@@ -49,16 +56,6 @@ pub const COMMANDS: &[Command] = &[
     tape::COMMAND,
     join::COMMAND,
 ];
-
-/// The version of the engine: its number and the commit that it was built from.
-pub fn engine_version() -> String {
-    format!("{}, {}", env!("CARGO_PKG_VERSION"), env!("COVRITH_COMMIT"))
-}
-
-/// The kit that proved it.
-pub fn kit_version() -> &'static str {
-    env!("COVRITH_KIT")
-}
 
 /// Options of the commands that run a model.
 const LENT: &[&str] = &["--budget", "--trace-bytes"];
@@ -79,10 +76,11 @@ fn help() -> String {
     text.push_str(
         "
   covrith COMMAND --help                     more of one command
-  covrith --version                          versions of the engine and of the kit that proved it
+  covrith --version                          versions of the engine, its library and the kit that proved it
 
 A FOLDER has a model and a tape, each as text (model.txt, tape.txt; docs/TEXT.md), as bytes (model.bin, tape.bin) or both.
-Exit status: 0 success; 1 refused, stopped, differs or cannot be done; 2 wrong usage. Errors go to standard error.
+Exit status: 0 success; 1 refused, stopped, differs or cannot be done; 2 wrong usage; 3 cannot be judged (verify).
+Errors go to standard error.
 ",
     );
     text
@@ -93,27 +91,33 @@ fn help_of(command: &Command) -> String {
         "covrith {} {}\n\n{}",
         command.name, command.words, command.help
     );
-    if command.valued == LENT {
+    if LENT.iter().all(|option| command.valued.contains(option)) {
         text.push_str(LENT_HELP);
     }
     text
 }
 
 /// Does what the words behind `covrith` say.
-pub fn main(given: &[String], out: &mut dyn Write) -> Done<()> {
+pub fn main(given: &[OsString], out: &mut dyn Write) -> Done<()> {
     let Some((name, rest)) = given.split_first() else {
         return Err(Failure::usage(help().trim_end()));
     };
-    match (name.as_str(), rest) {
+    let name = name.to_string_lossy();
+    match (&*name, rest) {
         ("--help" | "-h" | "help", []) => return say(out, &help()),
-        ("help", [name]) => return say(out, &help_of(find(name)?)),
+        ("help", [name]) => return say(out, &help_of(find(&name.to_string_lossy())?)),
         ("--version" | "-V", []) => {
-            let text = format!("engine {}\nkit {}\n", engine_version(), kit_version());
+            let Maker {
+                engine,
+                library,
+                kit,
+            } = Maker::this();
+            let text = format!("engine {engine}\nlibrary {library}\nkit {kit}\n");
             return say(out, &text);
         }
         _ => {}
     }
-    let command = find(name)?;
+    let command = find(&name)?;
     if rest.iter().any(|word| word == "--help" || word == "-h") {
         return say(out, &help_of(command));
     }
@@ -161,10 +165,21 @@ pub fn cannot_write(e: std::io::Error) -> Failure {
     Failure::new(format!("standard output: {e}"))
 }
 
+/// Writes a file that the user chose: never into an archive, never over what is no regular file, over one only with `--replace`, and
+/// to standard output for `-`.
+fn write_chosen(path: &Path, bytes: &[u8], replace: bool, out: &mut dyn Write) -> Done<()> {
+    if path == Path::new("-") {
+        return out.write_all(bytes).map_err(cannot_write);
+    }
+    seal::refuse(path)?;
+    durable::write_file(path, bytes, replace, true)
+        .map_err(|trouble| Failure::new(trouble.message(path, "nothing was written")))
+}
+
 /// Notes go to standard error: they are no part of the result.
 fn tell(notes: &[String]) {
     for note in notes {
-        eprintln!("covrith: {note}");
+        standard::complain(&format!("covrith: {note}"));
     }
 }
 
@@ -182,11 +197,11 @@ fn run_study(study: &Study, lent: Lent) -> Done<Run> {
             let began = Instant::now();
             let mut pause = PATIENCE;
             while let Err(mpsc::RecvTimeoutError::Timeout) = waiting.recv_timeout(pause) {
-                eprint!("\r\x1b[Krunning, {} s so far", began.elapsed().as_secs());
+                standard::progress(&format!("running, {} s so far", began.elapsed().as_secs()));
                 pause = Duration::from_secs(1);
             }
             if began.elapsed() >= PATIENCE {
-                eprint!("\r\x1b[K");
+                standard::progress("");
             }
         });
         let run = execute(&study.model, &study.tape, lent);

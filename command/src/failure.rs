@@ -6,6 +6,9 @@ pub const USAGE: u8 = 2;
 /// Something is refused, differs or cannot be done.
 pub const REFUSED: u8 = 1;
 
+/// Something cannot be judged, and nothing differs.
+pub const UNJUDGED: u8 = 3;
+
 #[derive(Clone, Debug, PartialEq, Eq)]
 pub struct Failure {
     pub status: u8,
@@ -17,6 +20,14 @@ impl Failure {
         Failure {
             status: REFUSED,
             message: message.into(),
+        }
+    }
+
+    /// What cannot be judged has been told already.
+    pub fn unjudged() -> Failure {
+        Failure {
+            status: UNJUDGED,
+            message: String::new(),
         }
     }
 

@@ -1,18 +1,31 @@
 //! The command `covrith`. Refusals, ends, traces and reports come from the proved engine; what is counted from records is counted here.
 
 pub mod args;
+pub mod bag;
+pub mod catalogue;
 pub mod commands;
+pub mod contents;
+pub mod date;
+pub mod durable;
 pub mod ends;
 pub mod execute;
 pub mod explain;
 pub mod failure;
 pub mod files;
+pub mod find;
+pub mod form2;
 pub mod holders;
 pub mod judge;
 pub mod limits;
+pub mod listing;
+pub mod maker;
 pub mod page;
+pub mod page1;
 pub mod report;
+pub mod seal;
 pub mod sha256;
+pub mod shown;
+pub mod standard;
 pub mod study;
 pub mod table;
 pub mod verify;

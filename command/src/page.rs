@@ -1,55 +1,61 @@
-//! The page archive.txt: everything that a second run needs, and what it must give.
+//! The page archive.txt of form 2: what a run was given, what came out and what made it, for people; `bag-info.txt` says the same.
 
-use crate::sha256;
-use engine::{End, Outcome, REPORT_BYTES, WORK_NUMBERS};
+use crate::bag;
+use crate::maker::Maker;
+use engine::Outcome;
 
-/// The files of an archive that the page speaks of, in this order.
-pub const FILES: [&str; 4] = ["model.bin", "tape.bin", "trace.bin", "report.bin"];
+/// What every page begins with.
+pub const TITLE: &str = "Covrith archive, form ";
 
-/// The page's own name.
-pub const PAGE: &str = "archive.txt";
+/// The form that is written.
+pub const FORM: u64 = 2;
 
-const TITLE: &str = "Covrith archive, form 1";
+/// The rules in force: document 01 with the landed requests of document 02.
+pub const RULES: &str =
+    "document 01 with requests 1, 2, 3, 4, 5, 6, 7, 8, 9, 10, 11, 12, 13 and 14 of document 02";
 
-/// What a page says.
+/// What a page says. Words are kept as they were written, so that later words of this program change no page.
 #[derive(Clone, Debug, PartialEq, Eq)]
 pub struct Page {
+    pub rules: String,
+    pub edition: u64,
     pub budget: u64,
     /// Lengths of the buffers that were lent: numbers, bytes, bytes.
     pub work: u64,
     pub room: u64,
     pub report: u64,
     pub outcome: Outcome,
-    pub engine: String,
-    pub kit: String,
-    /// SHA-256 of the files, in the order of `FILES`.
-    pub digests: [String; 4],
+    /// The end in words.
+    pub end: String,
+    /// Counted in the trace.
+    pub records: u64,
+    pub low_bytes: u64,
+    /// The files of `data/` by name.
+    pub files: Vec<String>,
+    pub maker: Maker,
 }
 
-impl Page {
-    pub fn new(
-        budget: u64,
-        room: u64,
-        outcome: Outcome,
-        versions: (String, String),
-        files: [&[u8]; 4],
-    ) -> Page {
-        Page {
-            budget,
-            work: WORK_NUMBERS as u64,
-            room,
-            report: REPORT_BYTES as u64,
-            outcome,
-            engine: versions.0,
-            kit: versions.1,
-            digests: files.map(sha256::hex),
-        }
-    }
+/// The files of `data/`, in the order of the page, and what each is.
+pub const FILES: [(&str, &str); 11] = [
+    ("model.bin", "the model, as the engine read it"),
+    ("model.txt", "its text, which assembles to these bytes"),
+    ("listing.txt", "the model with the numbers of its blocks"),
+    ("tape.bin", "the tape, as the engine read it"),
+    ("tape.txt", "its text, which assembles to these bytes"),
+    ("distributions.txt", "what the tape was drawn from"),
+    ("drawn.txt", "how the tape was drawn"),
+    ("trace.bin", "the trace, as the engine wrote it"),
+    ("columns.bin", "the trace by column (document 02, item 10)"),
+    ("report.bin", "the report, as the engine wrote it"),
+    ("FORMAT.txt", "the formats of all these bytes"),
+];
 
+impl Page {
     /// The numbers by name, in the order of the page.
-    fn numbers(&self) -> [(&'static str, u64); 12] {
+    pub fn numbers(&self) -> [(&'static str, u64); 15] {
         let o = &self.outcome;
         [
+            ("edition", self.edition),
             ("budget", self.budget),
             ("work-buffer", self.work),
             ("trace-buffer", self.room),
@@ -62,65 +68,103 @@ impl Page {
             ("ended", o.ended),
             ("trace-bytes", o.trace_bytes),
             ("report-bytes", o.report_bytes),
+            ("records", self.records),
+            ("bytes-below-80-hexadecimal", self.low_bytes),
         ]
     }
 
-    /// The page as text; its last line has the SHA-256 of all before it.
+    /// The page as text.
     pub fn text(&self) -> String {
-        let mut text = format!("{TITLE}\n\nWhat the run was given:\n");
-        for (i, (name, number)) in self.numbers().into_iter().enumerate() {
-            if i == 4 {
-                text.push_str("\nIts eight results:\n");
+        let mut text = format!(
+            "{TITLE}{FORM}\n\n\
+             One run of a block model, by rules that are proved of the engine. The files beside this page are\n\
+             explained by FORMAT.txt, and ../manifest-sha256.txt has the SHA-256 of each.\n\n\
+             rules {}\n",
+            self.rules
+        );
+        for (name, number) in self.numbers() {
+            match name {
+                "budget" => text.push_str("\nWhat the run was given beside model and tape; the work buffer has numbers of 32 bits, the others bytes:\n"),
+                "refusal" => text.push_str("\nIts eight results:\n"),
+                "records" => text.push_str(&format!("\nEnd {}: {}.\n\nCounted in the trace:\n", self.outcome.end, self.end)),
+                _ => {}
             }
             text.push_str(&format!("{name} {number}\n"));
         }
-        if let Some(end) = End::of(self.outcome.end) {
-            text.push_str(&format!("\nEnd {}: {end}.\n", end.number()));
+        text.push_str("\nThe files:\n");
+        for (name, what) in FILES.iter().filter(|(name, _)| self.has(name)) {
+            text.push_str(&format!("{name:18} {what}\n"));
         }
-        text.push_str("\nThe files, as sha256sum prints them:\n");
-        for (digest, file) in self.digests.iter().zip(FILES) {
-            text.push_str(&format!("{digest}  {file}\n"));
-        }
+        let Maker {
+            engine,
+            library,
+            kit,
+        } = &self.maker;
         text.push_str(&format!(
-            "\nMade by:\nengine {}\nkit {}\n\n",
-            self.engine, self.kit
+            "\nMade by:\nengine {engine}\nlibrary {library}\nkit {kit}\n\n\
+             To run it again, where ARCHIVE is the folder above this one:\n{}",
+            self.again().map(|line| line + "\n").concat()
         ));
-        let digest = sha256::hex(text.as_bytes());
-        text.push_str(&format!("page {digest}\n"));
         text
+    }
+
+    /// How to run it again.
+    fn again(&self) -> [String; 2] {
+        let (budget, room) = (self.budget, self.room);
+        [
+            "covrith verify ARCHIVE".to_string(),
+            format!("covrith run --budget {budget} --trace-bytes {room} ARCHIVE/data"),
+        ]
+    }
+
+    pub fn has(&self, file: &str) -> bool {
+        self.files.iter().any(|name| name == file)
+    }
+
+    /// What `bag-info.txt` says; the day stands there alone.
+    pub fn info(&self, day: &str, oxum: &str) -> Vec<(&'static str, String)> {
+        let mut info = vec![
+            ("Bagging-Date", day.to_string()),
+            ("Payload-Oxum", oxum.to_string()),
+            (
+                "External-Description",
+                "A run of a block model; data/archive.txt is its page, data/FORMAT.txt has the formats".to_string(),
+            ),
+            (LABEL, format!("form {FORM}")),
+            ("Covrith-Rules", self.rules.clone()),
+        ];
+        let labels = LABELS.iter().zip(self.numbers());
+        info.extend(labels.map(|(label, (_, number))| (*label, number.to_string())));
+        let maker = self.maker.clone();
+        let [verify, run] = self.again();
+        info.extend([
+            ("Covrith-End-In-Words", self.end.clone()),
+            ("Covrith-Engine", maker.engine),
+            ("Covrith-Library-SHA-256", maker.library),
+            ("Covrith-Kit", maker.kit),
+            ("Covrith-Verify", verify),
+            ("Covrith-Run-Again", run),
+        ]);
+        info
     }
 
     /// Reads a page: exactly what `text` writes.
     pub fn read(text: &str) -> Result<Page, String> {
-        let found = Page::take(text)?;
-        if found.text() != text {
-            return Err(changed(text));
-        }
-        Ok(found)
-    }
-
-    fn take(text: &str) -> Result<Page, String> {
-        if text.lines().next() != Some(TITLE) {
-            return Err(format!("the first line is not \"{TITLE}\""));
-        }
         let word = |name: &str| {
             let mut lines = text.lines();
             let line = lines.find_map(|line| line.strip_prefix(name)?.strip_prefix(' '));
-            line.ok_or_else(|| format!("there is no line \"{name}\""))
+            line.map(str::to_string)
+                .ok_or_else(|| format!("there is no line \"{name}\""))
         };
         let number = |name: &str| {
             let value = word(name)?;
-            value
-                .parse::<u64>()
-                .map_err(|_| format!("\"{name} {value}\" has no number"))
+            let number: Option<u64> = value.parse().ok();
+            number.ok_or_else(|| format!("\"{name} {value}\" has no number"))
         };
-        let digest = |file: &str| {
-            let mut lines = text.lines();
-            let line = lines.find_map(|line| line.strip_suffix(file)?.strip_suffix("  "));
-            line.map(str::to_string)
-                .ok_or_else(|| format!("there is no line for {file}"))
-        };
-        Ok(Page {
+        let end = word(&format!("End {}:", number("end")?))?;
+        let page = Page {
+            rules: word("rules")?,
+            edition: number("edition")?,
             budget: number("budget")?,
             work: number("work-buffer")?,
             room: number("trace-buffer")?,
@@ -135,76 +179,115 @@ impl Page {
                 trace_bytes: number("trace-bytes")?,
                 report_bytes: number("report-bytes")?,
             },
-            engine: word("engine")?.to_string(),
-            kit: word("kit")?.to_string(),
-            digests: [
-                digest(FILES[0])?,
-                digest(FILES[1])?,
-                digest(FILES[2])?,
-                digest(FILES[3])?,
-            ],
-        })
-    }
-
-    /// The results whose numbers differ from these: name, archived, now.
-    pub fn differences(&self, outcome: &Outcome) -> Vec<(&'static str, u64, u64)> {
-        let now = Page {
-            outcome: *outcome,
-            ..self.clone()
+            end: end.strip_suffix('.').unwrap_or(&end).to_string(),
+            records: number("records")?,
+            low_bytes: number("bytes-below-80-hexadecimal")?,
+            files: FILES
+                .iter()
+                .filter(|(name, what)| {
+                    let line = format!("{name:18} {what}");
+                    text.lines().any(|found| found == line)
+                })
+                .map(|(name, _)| name.to_string())
+                .collect(),
+            maker: Maker {
+                engine: word("engine")?,
+                library: word("library")?,
+                kit: word("kit")?,
+            },
         };
-        let both = self.numbers().into_iter().zip(now.numbers());
-        both.filter(|(a, b)| a.1 != b.1)
-            .map(|((name, archived), (_, now))| (name, archived, now))
-            .collect()
+        match page.text() == text {
+            true => Ok(page),
+            false => Err("it is not as this form of the page is written".to_string()),
+        }
     }
 }
 
-/// How a page that reads differs from what was written.
-fn changed(text: &str) -> String {
-    let last = text.lines().last().unwrap_or_default();
-    let before = text.strip_suffix(&format!("{last}\n"));
-    match (before, last.strip_prefix("page ")) {
-        (Some(before), Some(digest)) if sha256::hex(before.as_bytes()) == digest => {
-            "it has lines that this form of the page has not".to_string()
-        }
-        (Some(before), Some(_)) => format!(
-            "it was changed after it was written: its SHA-256 is {}, which its last line does not say",
-            sha256::hex(before.as_bytes())
-        ),
-        _ => "its last line, with the page's own SHA-256, is missing or changed".to_string(),
-    }
+/// The label that tells one of our bags from others.
+pub const LABEL: &str = "Covrith-Archive";
+
+/// The labels of the page's numbers in `bag-info.txt`.
+const LABELS: [&str; 15] = [
+    "Covrith-Edition",
+    "Covrith-Budget",
+    "Covrith-Work-Buffer",
+    "Covrith-Trace-Buffer",
+    "Covrith-Report-Buffer",
+    "Covrith-Refusal",
+    "Covrith-End",
+    "Covrith-Clock",
+    "Covrith-Turns",
+    "Covrith-Made",
+    "Covrith-Ended",
+    "Covrith-Trace-Bytes",
+    "Covrith-Report-Bytes",
+    "Covrith-Records",
+    "Covrith-Bytes-Below-80-Hexadecimal",
+];
+
+/// The form that a page says it has.
+pub fn form(text: &str) -> Option<u64> {
+    text.lines().next()?.strip_prefix(TITLE)?.parse().ok()
+}
+
+/// The form that `bag-info.txt` says its bag has, where that is one of ours.
+pub fn form_of_info(text: &str) -> Option<String> {
+    bag::info_value(text, LABEL)
 }
 
 #[cfg(test)]
 mod tests {
-    use super::Page;
+    use super::{form, Page, FILES, RULES};
+    use crate::bag::info_text;
+    use crate::maker::Maker;
     use engine::Outcome;
 
-    #[test]
-    fn a_page_reads_back_and_every_change_shows() {
-        let outcome = Outcome {
-            end: 2,
-            clock: 12,
-            turns: 11,
-            made: 2,
-            ended: 2,
-            trace_bytes: 44,
-            report_bytes: 9,
-            ..Outcome::default()
-        };
-        let versions = ("1.0.0".to_string(), "a kit".to_string());
-        let page = Page::new(1000, 65_536, outcome, versions, [b"m", b"t", b"r", b"p"]);
-        let text = page.text();
-        assert_eq!(Page::read(&text), Ok(page));
-        for at in 0..text.len() {
-            for bit in 0..7 {
-                let mut bytes = text.clone().into_bytes();
-                bytes[at] ^= 1 << bit;
-                let other = String::from_utf8(bytes).unwrap();
-                assert!(Page::read(&other).is_err(), "byte {at}, bit {bit}");
-            }
-            assert!(Page::read(&text[..at]).is_err());
+    fn page() -> Page {
+        Page {
+            rules: RULES.to_string(),
+            edition: 1,
+            budget: 1000,
+            work: 16_384,
+            room: 65_536,
+            report: 10_240,
+            outcome: Outcome {
+                end: 2,
+                clock: 12,
+                turns: 11,
+                made: 2,
+                ended: 2,
+                trace_bytes: 44,
+                report_bytes: 9,
+                ..Outcome::default()
+            },
+            end: "it is over".to_string(),
+            records: 11,
+            low_bytes: 44,
+            files: FILES.iter().map(|(name, _)| name.to_string()).collect(),
+            maker: Maker {
+                engine: "1.0.0, commit 1".to_string(),
+                library: "0".repeat(64),
+                kit: "a kit".to_string(),
+            },
         }
-        assert!(Page::read(&format!("{text}\n")).is_err());
+    }
+
+    #[test]
+    fn a_page_reads_back() {
+        let page = page();
+        let text = page.text();
+        assert_eq!(form(&text), Some(2));
+        assert_eq!(Page::read(&text), Ok(page.clone()));
+        // what is no number and no free word is fixed: a changed byte is another page, or none
+        for at in 0..text.len() {
+            let mut bytes = text.clone().into_bytes();
+            bytes[at] ^= 1;
+            let other = String::from_utf8(bytes).unwrap();
+            assert_ne!(Page::read(&other), Ok(page.clone()), "byte {at}");
+        }
+        let info = info_text(&page.info("2026-11-18", "1.2"));
+        for (_, number) in page.numbers() {
+            assert!(info.contains(&format!(": {number}\n")));
+        }
     }
 }

@@ -1,8 +1,12 @@
-//! A folder with a model and a tape: text that is newer than its bytes is assembled, and both are judged before anything is written.
+//! A folder with a model and a tape. In a work folder the text counts: it is assembled in memory, and bytes that differ are written anew
+//! once both are accepted. In an archive the bytes count, and nothing is written.
 
+use crate::durable;
 use crate::failure::{Done, Failure};
-use crate::files;
+use crate::files::{self, there, Links};
 use crate::judge::{self, ModelFile, TapeFile};
+use crate::seal;
+use crate::shown;
 use modeltext::model::{Block, Model};
 use modeltext::show::{self, Names};
 use std::path::{Path, PathBuf};
@@ -16,6 +20,9 @@ pub struct Study {
     pub names: Names,
     /// How many times each list of the tape has.
     pub times: Vec<u64>,
+    /// The texts, where they assemble to these bytes.
+    pub model_text: Option<String>,
+    pub tape_text: Option<String>,
 }
 
 impl Study {
@@ -30,6 +37,8 @@ impl Study {
             model,
             tape,
             decoded,
+            model_text: None,
+            tape_text: None,
         })
     }
 
@@ -65,111 +74,152 @@ struct Side {
     bytes_path: PathBuf,
     text: Option<String>,
     bytes: Option<Vec<u8>>,
-    /// The text is the one that counts: it is newer, or there are no bytes.
-    newer: bool,
+    /// The folder is an archive: its bytes count.
+    sealed: bool,
 }
 
-fn side(folder: &Path, name: &str) -> Done<Side> {
+fn side(folder: &Path, name: &str, sealed: bool) -> Done<Side> {
     let text_path = folder.join(format!("{name}.txt"));
     let bytes_path = folder.join(format!("{name}.bin"));
-    let (text_time, bytes_time) = (files::written(&text_path), files::written(&bytes_path));
-    if text_time.is_none() && bytes_time.is_none() {
-        let folder = folder.display();
+    let (has_text, has_bytes) = (there(&text_path), there(&bytes_path));
+    if !has_text && !has_bytes {
+        let folder = shown::path(folder);
         return Err(Failure::new(format!(
             "{folder}: there is neither {name}.txt nor {name}.bin"
         )));
     }
-    let newer = match (text_time, bytes_time) {
-        (Some(text), Some(bytes)) => text > bytes,
-        (text, _) => text.is_some(),
+    let text = match has_text {
+        true if sealed && has_bytes => files::regular_text(&text_path).ok(),
+        true => Some(files::regular_text(&text_path)?),
+        false => None,
+    };
+    let bytes = match files::regular(&bytes_path, Links::Follow) {
+        Ok(bytes) => Some(bytes),
+        // where the text counts, bytes that cannot be read are bytes that differ
+        Err(_) if !has_bytes || (!sealed && has_text) => None,
+        Err(e) => {
+            return Err(Failure::new(format!("{}: {e}", shown::path(&bytes_path))));
+        }
     };
     Ok(Side {
-        text: if newer {
-            Some(files::read_text(&text_path)?)
-        } else {
-            text_time.and_then(|_| files::read_text(&text_path).ok())
-        },
-        bytes: match bytes_time {
-            Some(_) => Some(files::read(&bytes_path)?),
-            None => None,
-        },
-        newer,
+        text,
+        bytes,
+        sealed,
         text_path,
         bytes_path,
     })
 }
 
 impl Side {
-    /// The text where it counts or gives the very bytes that are there; else the bytes.
+    /// The text where it counts, or gives the very bytes that count; else the bytes.
     fn pick<T>(
         &self,
         of_text: impl Fn(String, &str) -> T,
         of_bytes: impl Fn(String, Vec<u8>) -> T,
-        bytes_of: impl Fn(&T) -> &[u8],
+        gives: impl Fn(&T, &[u8]) -> bool,
     ) -> T {
-        let path = self.text_path.display().to_string();
+        let path = shown::path(&self.text_path);
         let text = self.text.as_deref().map(|text| of_text(path, text));
         match (text, &self.bytes) {
-            (Some(text), _) if self.newer => text,
-            (Some(text), Some(bytes)) if bytes_of(&text) == &bytes[..] => text,
-            (_, Some(bytes)) => of_bytes(self.bytes_path.display().to_string(), bytes.clone()),
-            (_, None) => of_bytes(self.bytes_path.display().to_string(), Vec::new()),
+            (Some(text), None) => text,
+            (Some(text), Some(_)) if !self.sealed => text,
+            (Some(text), Some(bytes)) if gives(&text, bytes) => text,
+            (_, bytes) => of_bytes(
+                shown::path(&self.bytes_path),
+                bytes.clone().unwrap_or_default(),
+            ),
         }
     }
 
-    /// What is to be said of text and bytes that differ, and whether these bytes are to be written.
-    fn note(&self, bytes: &[u8], notes: &mut Vec<String>) -> bool {
-        let (text, bin) = (self.text_path.display(), self.bytes_path.display());
-        let same = self.bytes.as_deref() == Some(bytes);
-        if self.newer && !same {
-            notes.push(match self.bytes {
-                Some(_) => format!("{text} is newer than {bin}: assembled"),
-                None => format!("{text}: assembled to {bin}"),
-            });
-            return true;
+    /// Brings the bytes of a work folder up to date with the text that was picked, and says so.
+    fn store(&self, bytes: &[u8], notes: &mut Vec<String>) {
+        if self.sealed || self.text.is_none() || self.bytes.as_deref() == Some(bytes) {
+            return;
         }
-        false
+        let (text, bin) = (shown::path(&self.text_path), shown::path(&self.bytes_path));
+        let done = match durable::write_file(&self.bytes_path, bytes, true, false) {
+            Ok(()) if self.bytes.is_some() => {
+                format!("{bin} was not what {text} gives: assembled anew")
+            }
+            Ok(()) => format!("{text}: assembled to {bin}"),
+            Err(trouble) => trouble.message(&self.bytes_path, "the text is used as it is"),
+        };
+        notes.push(done);
     }
+
+    /// What is to be said of a text in an archive that gives other bytes.
+    fn differs(&self, picked: bool) -> Option<String> {
+        (self.sealed && self.text.is_some() && !picked).then(|| {
+            format!(
+                "{} says something else than {}, which is archived: the bytes are used",
+                shown::path(&self.text_path),
+                shown::path(&self.bytes_path)
+            )
+        })
+    }
+}
+
+fn sides(folder: &Path) -> Done<(Side, Side)> {
+    let sealed = seal::of(folder)?.is_some();
+    Ok((
+        side(folder, "model", sealed)?,
+        side(folder, "tape", sealed)?,
+    ))
 }
 
 /// The model and the tape of a folder as they count, not yet judged.
 pub fn files_of(folder: &Path) -> Done<(ModelFile, TapeFile)> {
-    let (model, tape) = (side(folder, "model")?, side(folder, "tape")?);
+    let (model, tape) = sides(folder)?;
     Ok((model_file(&model), tape_file(&tape)))
 }
 
 /// The model of a folder alone.
 pub fn model_of(folder: &Path) -> Done<ModelFile> {
-    Ok(model_file(&side(folder, "model")?))
+    let sealed = seal::of(folder)?.is_some();
+    Ok(model_file(&side(folder, "model", sealed)?))
 }
 
 fn model_file(side: &Side) -> ModelFile {
-    side.pick(ModelFile::text, ModelFile::bytes, |file| &file.bytes)
+    side.pick(ModelFile::text, ModelFile::bytes, |file, bytes| {
+        file.faults().is_empty() && file.bytes == bytes
+    })
 }
 
 fn tape_file(side: &Side) -> TapeFile {
-    side.pick(TapeFile::text, TapeFile::bytes, |file| &file.bytes)
+    side.pick(TapeFile::text, TapeFile::bytes, |file, bytes| {
+        file.faults().is_empty() && file.bytes == bytes
+    })
 }
 
-/// What is to be said of an archive whose text gives other bytes than those that were archived.
+/// Whether a text gives these bytes of a model or of a tape.
+pub fn gives(name: &str, text: &str, bytes: &[u8]) -> bool {
+    match name {
+        "model" => {
+            let file = ModelFile::text("", text);
+            file.faults().is_empty() && file.bytes == bytes
+        }
+        _ => {
+            let file = TapeFile::text("", text);
+            file.faults().is_empty() && file.bytes == bytes
+        }
+    }
+}
+
+/// What is to be said of a flat archive whose text gives other bytes than those that were archived.
 pub fn other_text(folder: &Path) -> Vec<String> {
     let mut notes = Vec::new();
     for name in ["model", "tape"] {
-        let Ok(side) = side(folder, name) else {
+        let Ok(side) = side(folder, name, true) else {
             continue;
         };
         let (Some(text), Some(bytes)) = (&side.text, &side.bytes) else {
             continue;
         };
-        let of_text = match name {
-            "model" => ModelFile::text("", text).bytes,
-            _ => TapeFile::text("", text).bytes,
-        };
-        if of_text != *bytes {
+        if !gives(name, text, bytes) {
             notes.push(format!(
                 "{} says something else than {}, which was archived",
-                side.text_path.display(),
-                side.bytes_path.display()
+                shown::path(&side.text_path),
+                shown::path(&side.bytes_path)
             ));
         }
     }
@@ -181,41 +231,26 @@ pub fn load(folder: &Path, notes: &mut Vec<String>) -> Done<Study> {
     if !folder.is_dir() {
         return Err(Failure::new(format!(
             "{}: no such folder",
-            folder.display()
+            shown::path(folder)
         )));
     }
-    let (model_side, tape_side) = (side(folder, "model")?, side(folder, "tape")?);
+    let (model_side, tape_side) = sides(folder)?;
     let (model, tape) = (model_file(&model_side), tape_file(&tape_side));
     let told = judge::judge(&model, Some(&tape));
     if !told.is_empty() {
         return Err(Failure::new(told.join("\n")));
     }
-    let mut new = Vec::new();
-    for (side, bytes) in [(&model_side, &model.bytes), (&tape_side, &tape.bytes)] {
-        if side.note(bytes, notes) {
-            new.push((side.bytes_path.clone(), &bytes[..]));
-        }
-    }
-    if let Err(failure) = files::write_all(&new, files::Sync::No) {
-        notes.push(format!("{}; the text is used as it is", failure.message));
-    }
-    if model.source.is_none() && model_side.text.is_some() {
-        notes.push(format!(
-            "{} is newer than {} and differs from it: the bytes are used, and numbers in place of names",
-            model_side.bytes_path.display(),
-            model_side.text_path.display()
-        ));
-    }
-    if tape.text.is_none() && tape_side.text.is_some() {
-        notes.push(format!(
-            "{} is newer than {} and differs from it: the bytes are used",
-            tape_side.bytes_path.display(),
-            tape_side.text_path.display()
-        ));
-    }
+    model_side.store(&model.bytes, notes);
+    tape_side.store(&tape.bytes, notes);
+    notes.extend(model_side.differs(model.source.is_some()));
+    notes.extend(tape_side.differs(tape.text.is_some()));
     let mut study = Study::of_bytes(folder, model.bytes, tape.bytes)?;
     if let Some(source) = &model.source {
         study.names = Names::of(source);
+        study.model_text = model_side.text;
+    }
+    if tape.text.is_some() {
+        study.tape_text = tape_side.text;
     }
     Ok(study)
 }

@@ -1,179 +1,200 @@
-//! One archive run again and compared with its files.
+//! An archive judged: its files against their sums, and a second run against both.
 
-use crate::execute::{execute, Lent};
-use crate::failure::{Done, Failure};
-use crate::limits::RECORD_BYTES;
-use crate::page::{Page, FILES, PAGE};
-use crate::sha256;
+use crate::execute::{lend, Given, Lengths};
+use crate::form2;
+use crate::maker::Maker;
+use crate::page1;
+use crate::shown;
 use crate::words;
-use engine::{read_record, Header, Record, Report, Run};
-use std::path::{Path, PathBuf};
+use engine::{read_record, Header, Outcome, Record, Report};
+use std::io;
+use std::os::unix::ffi::OsStrExt;
+use std::path::Path;
 
-/// What a second run says of an archive.
-#[derive(Clone, Debug, PartialEq, Eq)]
+/// What is said of an archive. What differs outranks what cannot be judged.
+#[derive(Clone, Copy, Debug, PartialEq, Eq, PartialOrd, Ord)]
 pub enum Verdict {
     Same,
-    /// What differs, a line each.
-    Differs(Vec<String>),
+    Unjudged,
+    Differs,
 }
 
 impl Verdict {
-    /// As it is printed.
-    pub fn lines(&self, folder: &Path) -> String {
-        let folder = folder.display();
+    pub fn words(self) -> &'static str {
         match self {
-            Verdict::Same => format!("{folder}: same\n"),
-            Verdict::Differs(lines) => {
-                let mut text = format!("{folder}: differs\n");
-                for line in lines {
-                    text.push_str(&format!("    {line}\n"));
-                }
-                text
-            }
+            Verdict::Same => "same",
+            Verdict::Unjudged => "cannot be judged",
+            Verdict::Differs => "differs",
         }
     }
 }
 
-/// Folders with archives.
-#[derive(Default)]
-pub struct Found {
-    pub folders: Vec<PathBuf>,
-    /// Some were found below the folders that were named.
-    pub below: bool,
+/// How an archive is stored: flat, or as a bag.
+#[derive(Clone, Copy, Debug, PartialEq, Eq, PartialOrd, Ord)]
+pub enum Form {
+    Flat,
+    Bag,
 }
 
-/// A folder that is an archive, or all below it that are; one with a trace or a report and no page counts as one.
-pub fn archives_below(folder: &Path, found: &mut Found) -> Done<()> {
-    if !folder.is_dir() {
-        return Err(Failure::new(format!(
-            "{}: no such folder",
-            folder.display()
-        )));
-    }
-    if is_archive(folder) {
-        found.folders.push(folder.to_path_buf());
-        return Ok(());
-    }
-    let before = found.folders.len();
-    walk_folders(folder, &mut found.folders)?;
-    found.below = true;
-    if found.folders.len() == before {
-        return Err(Failure::new(format!(
-            "{}: there is no {PAGE} in it or below",
-            folder.display()
-        )));
-    }
-    found.folders[before..].sort();
-    Ok(())
+/// All that is found out about an archive.
+#[derive(Clone, Debug, Default, PartialEq, Eq)]
+pub struct Judgement {
+    /// What differs (true) or cannot be judged, a line each.
+    pub findings: Vec<(bool, String)>,
+    pub maker: Option<Maker>,
 }
 
-fn is_archive(folder: &Path) -> bool {
-    [PAGE, FILES[2], FILES[3]]
-        .iter()
-        .any(|file| folder.join(file).exists())
-}
-
-fn walk_folders(folder: &Path, found: &mut Vec<PathBuf>) -> Done<()> {
-    let wrong = |e: std::io::Error| Failure::new(format!("{}: {e}", folder.display()));
-    for entry in std::fs::read_dir(folder).map_err(wrong)? {
-        let entry = entry.map_err(wrong)?;
-        // links are not followed: they may lead round
-        if entry.file_type().map_err(wrong)?.is_dir() {
-            let path = entry.path();
-            if is_archive(&path) {
-                found.push(path.clone());
-            }
-            walk_folders(&path, found)?;
+impl Judgement {
+    pub fn verdict(&self) -> Verdict {
+        match self.findings.iter().map(|(differs, _)| *differs).max() {
+            None => Verdict::Same,
+            Some(false) => Verdict::Unjudged,
+            Some(true) => Verdict::Differs,
         }
     }
-    Ok(())
+
+    pub fn differs(&mut self, what: impl Into<String>) {
+        self.findings.push((true, what.into()));
+    }
+
+    pub fn unjudged(&mut self, what: impl Into<String>) {
+        self.findings.push((false, what.into()));
+    }
+
+    /// A file that cannot be read.
+    pub fn unread(&mut self, file: &str, e: &io::Error) {
+        self.unjudged(match e.kind() {
+            io::ErrorKind::NotFound => format!("{file}: missing"),
+            _ => format!("{file}: {e}"),
+        });
+    }
+
+    /// A file whose sum is not the archived one.
+    pub fn sum(&mut self, file: &str, now: &str, archived: &str) {
+        if now != archived {
+            self.differs(format!("{file}: its SHA-256 is {now}, archived {archived}"));
+        }
+    }
+
+    /// "made by X, verified by Y", where that is not the same.
+    pub fn made_by(&self) -> Option<String> {
+        self.maker.as_ref()?.beside(&Maker::this())
+    }
+
+    /// As it is printed for people.
+    pub fn lines(&self, folder: &Path) -> String {
+        let mut text = format!("{}: {}", shown::path(folder), self.verdict().words());
+        if let Some(words) = self.made_by() {
+            text.push_str(&format!("; {words}"));
+        }
+        text.push('\n');
+        for (_, line) in &self.findings {
+            text.push_str(&format!("    {line}\n"));
+        }
+        text
+    }
+
+    /// As one line of JSON.
+    pub fn json(&self, folder: &Path) -> String {
+        let quoted = |text: &str| shown::json(text);
+        let name = folder.to_string_lossy();
+        let mut text = format!("{{\"folder\": {}", quoted(&name));
+        if folder.to_str().is_none() {
+            let bytes = folder.as_os_str().as_bytes();
+            let hex: String = bytes.iter().map(|b| format!("{b:02x}")).collect();
+            text.push_str(&format!(", \"folder_hex\": \"{hex}\""));
+        }
+        let findings: Vec<String> = self.findings.iter().map(|(_, line)| quoted(line)).collect();
+        text.push_str(&format!(
+            ", \"verdict\": {}, \"findings\": [{}]",
+            quoted(self.verdict().words()),
+            findings.join(", ")
+        ));
+        for (key, maker) in [
+            ("made_by", self.maker.as_ref()),
+            ("verified_by", Some(&Maker::this())),
+        ] {
+            if let Some(maker) = maker {
+                text.push_str(&format!(
+                    ", \"{key}\": {{\"engine\": {}, \"library\": {}, \"kit\": {}}}",
+                    quoted(&maker.engine),
+                    quoted(&maker.library),
+                    quoted(&maker.kit)
+                ));
+            }
+        }
+        text.push_str("}\n");
+        text
+    }
 }
 
 /// Reads an archive, runs it again and compares.
-pub fn verify_folder(folder: &Path) -> Verdict {
-    let mut lines = Vec::new();
-    let page = match std::fs::read(folder.join(PAGE)) {
-        Ok(bytes) => Page::read(&String::from_utf8_lossy(&bytes)),
-        Err(e) => Err(e.to_string()),
+pub fn verify(folder: &Path, form: Form) -> Judgement {
+    match form {
+        Form::Flat => page1::judge(folder),
+        Form::Bag => form2::judge(folder),
+    }
+}
+
+/// What a page says of a run.
+pub struct Claim {
+    pub budget: u64,
+    pub lengths: Lengths,
+    pub outcome: Outcome,
+}
+
+/// What an archive has of it: bytes and the name of their file.
+pub struct Stored<'a> {
+    pub model: &'a [u8],
+    pub tape: &'a [u8],
+    pub trace: Option<(&'a str, &'a [u8])>,
+    pub report: Option<&'a [u8]>,
+}
+
+/// Runs an archive again, with the budget and the lengths that its page names, and compares.
+pub fn run_again(claim: &Claim, stored: &Stored, told: &mut Judgement) -> Option<Given> {
+    let Some(given) = lend(stored.model, stored.tape, claim.budget, claim.lengths) else {
+        told.unjudged(format!(
+            "run again: there is no memory for buffers of {} numbers, {} and {} bytes",
+            claim.lengths.work, claim.lengths.trace, claim.lengths.report
+        ));
+        return None;
     };
-    let page = match page {
-        Ok(page) => page,
-        Err(e) => return Verdict::Differs(vec![format!("{PAGE}: {e}")]),
-    };
-    let mut files: Vec<Option<Vec<u8>>> = Vec::new();
-    for (file, digest) in FILES.iter().zip(&page.digests) {
-        match std::fs::read(folder.join(file)) {
-            Ok(bytes) => {
-                let now = sha256::hex(&bytes);
-                if now != *digest {
-                    lines.push(format!("{file}: its SHA-256 is {now}, archived {digest}"));
-                }
-                files.push(Some(bytes));
-            }
-            Err(e) => {
-                lines.push(format!("{file}: {e}"));
-                files.push(None);
-            }
+    for ((name, archived), (_, now)) in results(&claim.outcome).iter().zip(results(&given.outcome))
+    {
+        if *archived != now {
+            told.differs(format!("{name}: archived {archived}, now {now}"));
         }
     }
-    if let [Some(model), Some(tape), trace, report] = &files[..] {
-        lines.extend(run_again(
-            &page,
-            model,
-            tape,
-            trace.as_deref(),
-            report.as_deref(),
-        ));
+    if let Some((file, trace)) = stored.trace {
+        if let Some(line) = first_record(file, trace, &given.trace) {
+            told.differs(line);
+        }
     }
-    if lines.is_empty() {
-        Verdict::Same
-    } else {
-        Verdict::Differs(lines)
+    if let Some(report) = stored.report {
+        if let Some(line) = first_reading(report, &given.report, stored.model) {
+            told.differs(line);
+        }
     }
+    Some(given)
 }
 
-/// The room of a second run. Its length is asked for only before a turn (end 4): a run that wrote these bytes and did not end 4
-/// goes the same way with any room for one record more, so that no more memory is needed than the trace has.
-fn room(page: &Page) -> u64 {
-    match page.outcome.end {
-        4 => page.room,
-        _ => page
-            .room
-            .min(page.outcome.trace_bytes.saturating_add(RECORD_BYTES)),
-    }
-}
-
-fn run_again(
-    page: &Page,
-    model: &[u8],
-    tape: &[u8],
-    trace: Option<&[u8]>,
-    report: Option<&[u8]>,
-) -> Vec<String> {
-    let lent = Lent {
-        budget: page.budget,
-        room: room(page),
-        short: false,
-    };
-    let run = match execute(model, tape, lent) {
-        Ok(run) => run,
-        Err(failure) => return vec![format!("run again: {}", failure.message)],
-    };
-    let mut lines = Vec::new();
-    for (name, archived, now) in page.differences(&run.outcome) {
-        lines.push(format!("{name}: archived {archived}, now {now}"));
-    }
-    if let Some(trace) = trace {
-        lines.extend(first_record(trace, &run.trace));
-    }
-    if let Some(report) = report {
-        lines.extend(first_reading(report, &run, model));
-    }
-    lines
+/// The eight results by name.
+fn results(o: &Outcome) -> [(&'static str, u64); 8] {
+    [
+        ("refusal", o.refusal),
+        ("end", o.end),
+        ("clock", o.clock),
+        ("turns", o.turns),
+        ("made", o.made),
+        ("ended", o.ended),
+        ("trace-bytes", o.trace_bytes),
+        ("report-bytes", o.report_bytes),
+    ]
 }
 
 /// The first record in which two traces differ.
-fn first_record(archived: &[u8], now: &[u8]) -> Option<String> {
+fn first_record(file: &str, archived: &[u8], now: &[u8]) -> Option<String> {
     if archived == now {
         return None;
     }
@@ -188,7 +209,7 @@ fn first_record(archived: &[u8], now: &[u8]) -> Option<String> {
             }
             _ => {
                 return Some(format!(
-                    "trace.bin: record {number}, at byte {position}: archived {}, now {}",
+                    "{file}: record {number}, at byte {position}: archived {}, now {}",
                     reading(a),
                     reading(b)
                 ))
@@ -212,16 +233,28 @@ fn reading(record: Result<Option<(Record, usize)>, engine::Refusal>) -> String {
 }
 
 /// The first reading in which two reports differ.
-fn first_reading(archived: &[u8], run: &Run, model: &[u8]) -> Option<String> {
-    if archived == run.report_bytes {
+fn first_reading(archived: &[u8], now: &[u8], model: &[u8]) -> Option<String> {
+    if archived == now {
         return None;
     }
-    let header = Header::read(model).ok()?;
+    let other = || {
+        format!(
+            "report.bin: archived {} bytes, now {} others",
+            archived.len(),
+            now.len()
+        )
+    };
+    let Ok(header) = Header::read(model) else {
+        return Some(other());
+    };
     let archived = match Report::read(archived, &header) {
         Ok(report) => report,
         Err(e) => return Some(format!("report.bin: {e}")),
     };
-    let (a, b) = (readings(&archived), readings(&run.report));
+    let Ok(now) = Report::read(now, &header) else {
+        return Some(other());
+    };
+    let (a, b) = (readings(&archived), readings(&now));
     let differing = a.iter().zip(&b).find(|(x, y)| x != y);
     Some(match differing {
         Some(((what, x), (other, y))) if what == other => {
@@ -233,7 +266,6 @@ fn first_reading(archived: &[u8], run: &Run, model: &[u8]) -> Option<String> {
         None => format!("report.bin: archived {} readings, now {}", a.len(), b.len()),
     })
 }
-
 /// All readings of a report by name, in its order.
 fn readings(report: &Report) -> Vec<(String, u64)> {
     let mut all = vec![

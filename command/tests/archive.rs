@@ -1,10 +1,11 @@
-//! Archives: a second run of what was archived is the same, and any change of a file is noticed.
+//! Archives: a second run of what was archived is the same, and any change of a file is noticed. `tools/check-archive` has what the
+//! program does when it is killed, when a file system fails, and where others verify.
 
-use command::commands::{archive, verify_folder, Verdict};
+use command::commands::archive;
 use command::execute::Lent;
-use command::files::Sync;
-use command::page::{FILES, PAGE};
+use command::page1;
 use command::study::{other_text, Study};
+use command::verify::{verify, Form, Judgement, Verdict};
 use reference::generate::random::Random;
 use reference::generate::{case, Size};
 use std::fs;
@@ -21,11 +22,11 @@ fn scratch(name: &str) -> PathBuf {
 
 const MODEL: [u8; 19] = [1, 1, 0, 0, 0, 2, 2, 5, 1, 1, 0, 4, 1, 2, 2, 5, 1, 3, 1];
 const TAPE: [u8; 6] = [2, 3, 2, 2, 5, 4];
+const DAY: &str = "2026-11-18";
 
-fn put(folder: &Path, model: &[u8], tape: &[u8], lent: Lent) {
-    fs::create_dir_all(folder).unwrap();
-    let study = Study::of_bytes(folder, model.to_vec(), tape.to_vec()).unwrap();
-    archive(&study, lent, Sync::No).unwrap();
+fn put(place: &Path, model: &[u8], tape: &[u8], lent: Lent, columns: bool) {
+    let study = Study::of_bytes(place, model.to_vec(), tape.to_vec()).unwrap();
+    archive(&study, lent, columns, place, false, DAY).unwrap();
 }
 
 /// A new file in place of the old: to overwrite one waits for the disk.
@@ -34,90 +35,112 @@ fn write(path: &Path, bytes: &[u8]) {
     fs::write(path, bytes).unwrap();
 }
 
-fn differs(folder: &Path) -> Vec<String> {
-    match verify_folder(folder) {
-        Verdict::Same => panic!("{} is said to be the same", folder.display()),
-        Verdict::Differs(lines) => lines,
+fn judged(folder: &Path) -> Judgement {
+    verify(folder, Form::Bag)
+}
+
+fn noticed(folder: &Path, what: &str) {
+    assert_ne!(judged(folder).verdict(), Verdict::Same, "{what}");
+}
+
+fn files(folder: &Path) -> Vec<PathBuf> {
+    let mut found = Vec::new();
+    for entry in fs::read_dir(folder).unwrap() {
+        let path = entry.unwrap().path();
+        match path.is_dir() {
+            true => found.extend(files(&path)),
+            false => found.push(path),
+        }
     }
+    found.sort();
+    found
 }
 
 #[test]
 fn any_change_of_any_file_is_noticed() {
-    let folder = scratch("changes");
-    put(&folder, &MODEL, &TAPE, Lent::usual(None, None));
-    assert_eq!(verify_folder(&folder), Verdict::Same);
-    for file in FILES.iter().chain(&[PAGE]) {
-        let path = folder.join(file);
-        let bytes = fs::read(&path).unwrap();
-        for at in 0..bytes.len() {
-            for mask in [1, 2, 64, 128, 255] {
-                let mut other = bytes.clone();
-                other[at] ^= mask;
-                write(&path, &other);
-                differs(&folder);
+    for columns in [false, true] {
+        let folder = scratch(if columns {
+            "changed columns"
+        } else {
+            "changes"
+        })
+        .join("archive");
+        put(&folder, &MODEL, &TAPE, Lent::usual(None, None), columns);
+        assert_eq!(
+            judged(&folder),
+            Judgement {
+                maker: judged(&folder).maker,
+                ..Judgement::default()
             }
-            let mut other = bytes.clone();
-            other.remove(at);
-            write(&path, &other);
-            differs(&folder);
-            write(&path, &bytes[..at]);
-            differs(&folder);
+        );
+        let all = files(&folder);
+        assert_eq!(all.len(), 4 + 7);
+        for path in &all {
+            let bytes = fs::read(path).unwrap();
+            // of the page of formats, which is long and not looked into, some
+            let step = if bytes.len() > 10_000 { 997 } else { 1 };
+            for at in (0..bytes.len()).step_by(step) {
+                for mask in [1, 128] {
+                    let mut other = bytes.clone();
+                    other[at] ^= mask;
+                    write(path, &other);
+                    noticed(&folder, &format!("{} at {at}", path.display()));
+                }
+            }
+            for other in [
+                &bytes[..bytes.len() - 1],
+                &[&bytes[..], b"\n"].concat(),
+                b"",
+            ] {
+                write(path, other);
+                noticed(&folder, &format!("{} of another length", path.display()));
+            }
+            fs::remove_file(path).unwrap();
+            noticed(&folder, &format!("{} removed", path.display()));
+            write(path, &bytes);
+            let added = path.with_file_name("another.txt");
+            write(&added, b"x");
+            noticed(&folder, "a file added");
+            fs::remove_file(&added).unwrap();
+            for other in all.iter().filter(|other| *other > path) {
+                let beside = folder.join("..").join("beside");
+                let exchange = |a: &Path, b: &Path| {
+                    fs::rename(a, &beside).unwrap();
+                    fs::rename(b, a).unwrap();
+                    fs::rename(&beside, b).unwrap();
+                };
+                exchange(path, other);
+                noticed(&folder, "two files exchanged");
+                exchange(path, other);
+            }
         }
-        for more in [0, 1, 128] {
-            let mut other = bytes.clone();
-            other.push(more);
-            write(&path, &other);
-            differs(&folder);
-        }
-        fs::remove_file(&path).unwrap();
-        differs(&folder);
-        write(&path, &bytes);
-        assert_eq!(verify_folder(&folder), Verdict::Same);
+        fs::create_dir(folder.join("data/more")).unwrap();
+        noticed(&folder, "a folder added");
+        fs::remove_dir(folder.join("data/more")).unwrap();
+        assert_eq!(judged(&folder).verdict(), Verdict::Same);
     }
-}
-
-/// Text is no part of an archive: what says something else than the archived bytes is told.
-#[test]
-fn changed_text_is_told() {
-    let folder = scratch("text");
-    put(&folder, &MODEL, &TAPE, Lent::usual(None, None));
-    assert!(other_text(&folder).is_empty());
-    let text = modeltext::model_text(&MODEL).unwrap();
-    write(&folder.join("model.txt"), text.as_bytes());
-    write(&folder.join("tape.txt"), b"l1: 3 2\nl2: 5 4\n");
-    assert!(other_text(&folder).is_empty());
-    let other = text.replace("COUNTER 2", "COUNTER 1");
-    write(&folder.join("model.txt"), other.as_bytes());
-    write(&folder.join("tape.txt"), b"l1: 3 2\nl2: 5\n");
-    let notes = other_text(&folder);
-    assert_eq!(notes.len(), 2);
-    assert!(
-        notes[0].ends_with("model.bin, which was archived"),
-        "{}",
-        notes[0]
-    );
-    assert_eq!(verify_folder(&folder), Verdict::Same);
 }
 
 #[test]
 fn the_first_differing_record_is_named() {
-    let folder = scratch("record");
-    put(&folder, &MODEL, &TAPE, Lent::usual(None, None));
-    let path = folder.join("trace.bin");
+    let folder = scratch("record").join("archive");
+    put(&folder, &MODEL, &TAPE, Lent::usual(None, None), false);
+    let path = folder.join("data/trace.bin");
     let mut trace = fs::read(&path).unwrap();
     trace[17] = 3; // the transaction of the fifth record
     fs::write(&path, &trace).unwrap();
-    let lines = differs(&folder);
-    assert!(lines[0].starts_with("trace.bin: its SHA-256 is "));
+    let lines: Vec<String> = judged(&folder).findings.into_iter().map(|f| f.1).collect();
+    assert!(lines[0].starts_with("data/trace.bin: its SHA-256 is "));
     assert_eq!(
         lines[1],
-        "trace.bin: record 5, at byte 16: archived \"clock 5, transaction 3, block 2, began to wait\", now \"clock 5, transaction 2, block 2, began to wait\""
+        "data/trace.bin: record 5, at byte 16: archived \"clock 5, transaction 3, block 2, began to wait\", now \"clock 5, transaction 2, block 2, began to wait\""
     );
     fs::write(&path, &trace[..16]).unwrap();
-    assert_eq!(
-        differs(&folder)[1],
-        "trace.bin: record 5, at byte 16: archived no more records, now \"clock 5, transaction 2, block 2, began to wait\""
-    );
+    let found = judged(&folder).findings;
+    let line = "data/trace.bin: record 5, at byte 16: archived no more records, now \"clock 5, transaction 2, block 2, began to wait\"";
+    assert!(found
+        .iter()
+        .any(|(differs, found)| *differs && found == line));
 }
 
 /// Budget and room belong to an archive: a run that they cut is the same again, whatever the usual ones are.
@@ -134,8 +157,80 @@ fn runs_that_their_limits_cut() {
             room,
             short: false,
         };
-        put(&one, &MODEL, &TAPE, lent);
-        assert_eq!(verify_folder(&one), Verdict::Same);
+        put(&one, &MODEL, &TAPE, lent, k % 2 == 0);
+        assert_eq!(judged(&one).verdict(), Verdict::Same);
+    }
+}
+
+/// A run that was lent less because memory was short, and did not need it, has the page of a run that was lent all.
+#[test]
+fn short_memory_leaves_no_trace() {
+    let folder = scratch("short");
+    let usual = Lent {
+        budget: 1_000,
+        room: command::execute::ROOM,
+        short: false,
+    };
+    let short = Lent {
+        room: 1_000,
+        short: true,
+        ..usual
+    };
+    put(&folder.join("usual"), &MODEL, &TAPE, usual, false);
+    put(&folder.join("short"), &MODEL, &TAPE, short, false);
+    for (a, b) in files(&folder.join("usual"))
+        .iter()
+        .zip(files(&folder.join("short")))
+    {
+        assert_eq!(fs::read(a).unwrap(), fs::read(b).unwrap());
+    }
+    // one that needed it is not archived
+    let cut = Lent { room: 20, ..short };
+    let study = Study::of_bytes(&folder, MODEL.to_vec(), TAPE.to_vec()).unwrap();
+    let refused = archive(&study, cut, false, &folder.join("cut"), false, DAY).unwrap_err();
+    assert!(
+        refused
+            .message
+            .contains("not archived: memory ended the run"),
+        "{}",
+        refused.message
+    );
+    assert!(!folder.join("cut").exists());
+}
+
+/// A flat archive of form 1, as it was written before bags, is still verified; its text is no part of it.
+#[test]
+fn flat_archives() {
+    let stored = Path::new(env!("CARGO_MANIFEST_DIR")).join("tests/form1");
+    let folder = scratch("flat");
+    for file in page1::FILES.iter().chain(&["archive.txt"]) {
+        fs::copy(stored.join(file), folder.join(file)).unwrap();
+    }
+    let judged = || verify(&folder, Form::Flat);
+    assert_eq!(judged().verdict(), Verdict::Same);
+    assert!(other_text(&folder).is_empty());
+    let model = fs::read(folder.join("model.bin")).unwrap();
+    let text = modeltext::model_text(&model).unwrap();
+    write(&folder.join("model.txt"), text.as_bytes());
+    assert!(other_text(&folder).is_empty());
+    write(
+        &folder.join("model.txt"),
+        text.replace("COUNTER 2", "COUNTER 1").as_bytes(),
+    );
+    assert!(other_text(&folder)[0].ends_with("model.bin, which was archived"));
+    assert_eq!(judged().verdict(), Verdict::Same);
+    for file in page1::FILES.iter().chain(&["archive.txt"]) {
+        let path = folder.join(file);
+        let bytes = fs::read(&path).unwrap();
+        for at in 0..bytes.len() {
+            let mut other = bytes.clone();
+            other[at] ^= 1;
+            write(&path, &other);
+            assert_ne!(judged().verdict(), Verdict::Same, "{file} at {at}");
+        }
+        fs::remove_file(&path).unwrap();
+        assert_eq!(judged().verdict(), Verdict::Unjudged, "{file} removed");
+        write(&path, &bytes);
     }
 }
 
@@ -159,11 +254,14 @@ fn a_hundred_random_folders() {
                 short: false,
             }
         };
+        let above = folder.join((made % 7).to_string());
+        fs::create_dir_all(&above).unwrap();
         put(
-            &folder.join(format!("{}/{made}", made % 7)),
+            &above.join(made.to_string()),
             &case.model,
             &case.tape,
             lent,
+            made % 3 == 0,
         );
         made += 1;
     }
@@ -180,20 +278,21 @@ fn a_hundred_random_folders() {
             String::from_utf8(done.stderr).unwrap(),
         )
     };
-    let wanted = "100 archives: 100 same, 0 differ\n".to_string();
+    let wanted = "100 archives: 100 same, 0 differ, 0 cannot be judged\n".to_string();
     assert_eq!(verify(), (Some(0), wanted, String::new()));
-    // two that differ are named, in the order of their paths
-    fs::write(folder.join("3/3/report.bin"), [1]).unwrap();
-    fs::remove_file(folder.join("1/1").join(PAGE)).unwrap();
+    // what is not the same is named, in the order of the paths
+    fs::remove_file(folder.join("1/1/data/report.bin")).unwrap();
+    assert_eq!(verify().0, Some(3));
+    fs::write(folder.join("3/3/data/report.bin"), [1]).unwrap();
     let (status, text, _) = verify();
     assert_eq!(status, Some(1));
     let starts: Vec<&str> = text.lines().filter(|l| !l.starts_with(' ')).collect();
     assert_eq!(
         starts,
         [
-            "./1/1: differs",
+            "./1/1: cannot be judged",
             "./3/3: differs",
-            "100 archives: 98 same, 2 differ"
+            "100 archives: 98 same, 1 differ, 1 cannot be judged"
         ]
     );
 }

@@ -1,4 +1,4 @@
-//! Text and bytes of a folder, by which is newer; large models and tapes with no option; readers that go away.
+//! Text and bytes of a folder: text counts, whatever is newer; large models and tapes with no option; readers that go away.
 
 use std::fs::{self, File};
 use std::io::Read;
@@ -53,8 +53,8 @@ fn names(folder: &Path) -> Vec<String> {
 }
 
 #[test]
-fn newer_text_is_assembled_and_said_so() {
-    let folder = scratch("newer");
+fn text_is_assembled_and_said_so() {
+    let folder = scratch("text");
     let done = covrith(&["run"], &folder);
     assert!(done.status.success());
     assert_eq!(
@@ -69,17 +69,24 @@ fn newer_text_is_assembled_and_said_so() {
     assert_eq!(first, [2, 3, 2, 2, 5, 4]);
     assert_eq!(said(&covrith(&["run"], &folder)), "");
     age(&folder.join("tape.bin"), 60);
-    assert_eq!(said(&covrith(&["run"], &folder)), "", "newer, but the same");
-    fs::write(folder.join("tape.txt"), "arrivals: 3 2\ntowing: 6 4\n").unwrap();
-    let done = covrith(&["run"], &folder);
-    assert_eq!(
-        said(&done),
-        "covrith: ./tape.txt is newer than ./tape.bin: assembled\n"
-    );
-    assert_eq!(
-        fs::read(folder.join("tape.bin")).unwrap(),
-        [2, 3, 2, 2, 6, 4]
-    );
+    assert_eq!(said(&covrith(&["run"], &folder)), "", "older, but the same");
+    // the text counts, whether it is newer or, as after a restore, older
+    for (time, older) in [(6, false), (7, true)] {
+        let text = format!("arrivals: 3 2\ntowing: {time} 4\n");
+        fs::write(folder.join("tape.txt"), text).unwrap();
+        if older {
+            age(&folder.join("tape.txt"), 60);
+        }
+        let done = covrith(&["run"], &folder);
+        assert_eq!(
+            said(&done),
+            "covrith: ./tape.bin was not what ./tape.txt gives: assembled anew\n"
+        );
+        assert_eq!(
+            fs::read(folder.join("tape.bin")).unwrap(),
+            [2, 3, 2, 2, time, 4]
+        );
+    }
 }
 
 #[test]
@@ -103,24 +110,23 @@ fn nothing_is_written_where_either_is_refused() {
     assert_eq!(names(&folder), ["model.txt", "tape.txt"]);
 }
 
+/// What stands in the place of the bytes and is no regular file stays, and the text is used.
 #[test]
-fn newer_bytes_count() {
-    let folder = scratch("bytes");
-    assert!(covrith(&["run"], &folder).status.success());
-    age(&folder.join("model.txt"), 60);
-    let other = MODEL.replace("COUNTER 2", "COUNTER 1");
-    let other = modeltext::model_bytes(&other).unwrap();
-    fs::write(folder.join("model.bin"), other).unwrap();
+fn bytes_that_are_no_file() {
+    let folder = scratch("no file");
+    std::os::unix::fs::symlink("elsewhere.bin", folder.join("tape.bin")).unwrap();
     let done = covrith(&["run"], &folder);
-    assert!(said(&done).contains("./model.bin is newer than ./model.txt and differs from it"));
-    let text = String::from_utf8(done.stdout).unwrap();
+    assert!(done.status.success());
     assert!(
-        text.contains("transaction 1 at block 5, TERMINATE 1, clock 8"),
-        "{text}"
+        said(&done).ends_with(
+            "covrith: ./tape.bin: it is there, and no regular file; the text is used as it is\n"
+        ),
+        "{}",
+        said(&done)
     );
-    assert!(
-        text.contains("\nf1 "),
-        "numbers stand in place of names: {text}"
+    assert_eq!(
+        names(&folder),
+        ["model.bin", "model.txt", "tape.bin", "tape.txt"]
     );
 }
 
@@ -155,7 +161,7 @@ fn large_models_run_as_they_are() {
     let done = covrith(&["archive"], &folder);
     assert!(done.status.success(), "{}", said(&done));
     let done = covrith(&["verify"], &folder);
-    assert_eq!(done.stdout, b".: same\n");
+    assert_eq!(done.stdout, b"./archive: same\n");
 }
 
 /// Standard output that is closed early ends the program, without a panic.

@@ -5,6 +5,7 @@ use crate::args::Args;
 use crate::failure::{Done, Failure};
 use crate::files;
 use crate::judge::{judge, ModelFile, TapeFile};
+use crate::shown;
 use crate::study;
 use std::io::Write;
 use std::path::Path;
@@ -17,7 +18,7 @@ pub const COMMAND: Command = Command {
 Judges a model and its tape as the engine does (questions 3 to 10 of document 01) and the tape's lists by the model's
 names. Each fault is told with file, line and column, the rule and a remedy; \"question N\" is the engine's own number.
 Files named .bin are bytes, and the place is then a block and a number; all others are text. Of a folder the text is
-taken, unless the bytes are newer. A model without a tape is judged alone. Nothing is written.
+taken where there is one, and of an archive the bytes. A model without a tape is judged alone. Nothing is written.
 ",
     flags: &[],
     valued: &[],
@@ -28,7 +29,7 @@ pub fn model_file(path: &Path) -> Done<ModelFile> {
     if path.is_dir() {
         return study::model_of(path);
     }
-    let name = path.display().to_string();
+    let name = shown::path(path);
     if path.extension().is_some_and(|e| e == "bin") {
         return Ok(ModelFile::bytes(name, files::read(path)?));
     }
@@ -36,7 +37,7 @@ pub fn model_file(path: &Path) -> Done<ModelFile> {
 }
 
 fn tape_file(path: &Path) -> Done<TapeFile> {
-    let name = path.display().to_string();
+    let name = shown::path(path);
     if path.extension().is_some_and(|e| e == "bin") {
         return Ok(TapeFile::bytes(name, files::read(path)?));
     }

@@ -5,11 +5,11 @@ use crate::args::Args;
 use crate::execute::Lent;
 use crate::failure::Done;
 use crate::report::{self, facility_cells, queue_cells, storage_cells};
+use crate::shown;
 use crate::study::{self, Study};
 use crate::table::Table;
 use engine::Run;
 use std::io::Write;
-use std::path::Path;
 
 pub const COMMAND: Command = Command {
     name: "compare",
@@ -27,17 +27,18 @@ difference B - A. A dash stands where one has no such thing. Exit status 0 wheth
 };
 
 fn compare(args: &Args, out: &mut dyn Write) -> Done<()> {
-    let [a, b] = args.exactly("two folders")?;
+    let [a, b] = args.paths("two folders")?;
     let lent = Lent::usual(args.number("--budget")?, args.number("--trace-bytes")?);
     let mut notes = Vec::new();
     let mut sides = Vec::new();
     for folder in [a, b] {
-        let study = study::load(Path::new(folder), &mut notes)?;
+        let study = study::load(folder, &mut notes)?;
         let run = run_study(&study, lent)?;
         sides.push(measures(&study, &run));
     }
     tell(&notes);
-    say_lines(out, &lines(a, b, &sides[0], &sides[1], args.has("--all")))
+    let (a, b) = (shown::path(a), shown::path(b));
+    say_lines(out, &lines(&a, &b, &sides[0], &sides[1], args.has("--all")))
 }
 
 /// What is measured of what, and its reading.

@@ -5,6 +5,7 @@ use crate::args::{self, Args};
 use crate::execute::Lent;
 use crate::failure::{Done, Failure};
 use crate::holders::{Handover, Holders};
+use crate::shown;
 use crate::study::{self, Study};
 use crate::table::Table;
 use crate::walk::{Birth, Births};
@@ -81,7 +82,7 @@ pub fn life(study: &Study, run: &Run, number: u64) -> Vec<String> {
     }
     let mut lines = vec![format!(
         "transaction {number} of {}, {}",
-        study.folder.display(),
+        shown::path(&study.folder),
         born(birth)
     )];
     if table.is_empty() {

@@ -2,9 +2,12 @@
 
 use super::{say, tell, Command};
 use crate::args::Args;
+use crate::durable;
 use crate::failure::{Done, Failure};
-use crate::files::{self, Sync};
+use crate::files::there;
 use crate::limits;
+use crate::seal;
+use crate::shown;
 use crate::study::{self, Study};
 use engine::Refusal;
 use modeltext::model::Model;
@@ -33,14 +36,14 @@ A folder that has a model or a tape keeps it, unless --replace is given.
 };
 
 fn join(args: &Args, out: &mut dyn Write) -> Done<()> {
-    let [first, second, to] = args.exactly("two folders to join and one to write")?;
-    let folder = Path::new(to);
+    let [first, second, folder] = args.paths("two folders to join and one to write")?;
+    seal::refuse(&folder.join("model.bin"))?;
     if !args.has("--replace") {
         keeps_nothing(folder)?;
     }
     let mut notes = Vec::new();
-    let one = study::load(Path::new(first), &mut notes)?;
-    let two = study::load(Path::new(second), &mut notes)?;
+    let one = study::load(first, &mut notes)?;
+    let two = study::load(second, &mut notes)?;
     tell(&notes);
     let pairs = (
         (&one.model[..], &one.tape[..]),
@@ -52,14 +55,23 @@ fn join(args: &Args, out: &mut dyn Write) -> Done<()> {
     let names = usable(one.names.followed_by(&two.names), &decoded, &model);
     let text = show::text(&decoded, &names);
     let times = tape::text_with(&tape, &names.lists).map_err(Failure::new)?;
+    let [first, second, to] = [first, second, folder].map(shown::path);
     std::fs::create_dir_all(folder).map_err(|e| Failure::new(format!("{to}: {e}")))?;
     let written = [
         (folder.join("model.txt"), text.as_bytes()),
         (folder.join("tape.txt"), times.as_bytes()),
-        (folder.join("model.bin"), &model),
-        (folder.join("tape.bin"), &tape),
+        (folder.join("model.bin"), &model[..]),
+        (folder.join("tape.bin"), &tape[..]),
     ];
-    files::write_all(&written, Sync::No)?;
+    for (done, (path, bytes)) in written.iter().enumerate() {
+        durable::write_file(path, bytes, true, false).map_err(|trouble| {
+            let so_far = match done {
+                0 => "nothing was written".to_string(),
+                done => format!("of the four files {done} are written"),
+            };
+            Failure::new(trouble.message(path, &so_far))
+        })?;
+    }
     let line = format!(
         "{to}: {} blocks of {first} and {} of {second}, {} lists, counter {}; {} and {} bytes\n",
         one.decoded.blocks.len(),
@@ -75,12 +87,12 @@ fn join(args: &Args, out: &mut dyn Write) -> Done<()> {
 /// A folder with a model or a tape is refused.
 fn keeps_nothing(folder: &Path) -> Done<()> {
     let names = ["model.txt", "model.bin", "tape.txt", "tape.bin"];
-    let mut there = names.iter().filter(|name| folder.join(name).exists());
+    let mut there = names.iter().filter(|name| there(&folder.join(name)));
     match there.next() {
         None => Ok(()),
         Some(name) => Err(Failure::new(format!(
             "{}: there is a {name}; --replace writes over it",
-            folder.display()
+            shown::path(folder)
         ))),
     }
 }
@@ -95,7 +107,7 @@ fn usable(names: Names, model: &Model, bytes: &[u8]) -> Names {
 
 /// The engine's refusal, with what does not fit.
 fn refused(refusal: Refusal, one: &Study, two: &Study) -> Failure {
-    let (first, second) = (one.folder.display(), two.folder.display());
+    let (first, second) = (shown::path(&one.folder), shown::path(&two.folder));
     let number = refusal.number();
     let mut lines = vec![format!("{first} and {second}: refused {number}: {refusal}")];
     let (a, b) = (&one.decoded, &two.decoded);

@@ -1,15 +1,14 @@
 //! `covrith list`: a model's listing with block numbers.
 
 use super::check::model_file;
-use super::{say, say_lines, Command};
+use super::{say, Command};
 use crate::args::Args;
 use crate::failure::{Done, Failure};
 use crate::judge::judge;
-use crate::table::Table;
+use crate::listing;
 use modeltext::model::Model;
-use modeltext::show::{self, Names};
+use modeltext::show::Names;
 use std::io::Write;
-use std::path::Path;
 
 pub const COMMAND: Command = Command {
     name: "list",
@@ -25,8 +24,8 @@ called by a letter and a number.
 };
 
 fn list(args: &Args, out: &mut dyn Write) -> Done<()> {
-    let [path] = args.exactly("one model")?;
-    let file = model_file(Path::new(path))?;
+    let [path] = args.paths("one model")?;
+    let file = model_file(path)?;
     let told = judge(&file, None);
     if !told.is_empty() {
         return Err(Failure::new(told.join("\n")));
@@ -36,14 +35,5 @@ fn list(args: &Args, out: &mut dyn Write) -> Done<()> {
         Some(source) => Names::of(source),
         None => Names::numbered(&model),
     };
-    say(out, &show::declarations(&model, &names))?;
-    let mut table = Table::new(&[">block", "label", "statement"]);
-    for (i, block) in model.blocks.iter().enumerate() {
-        table.row(vec![
-            (i + 1).to_string(),
-            names.label(i as u32 + 1).unwrap_or_default(),
-            show::block_text(block, &names),
-        ]);
-    }
-    say_lines(out, &table.lines())
+    say(out, &listing::text(&model, &names))
 }

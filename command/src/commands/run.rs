@@ -2,10 +2,10 @@
 
 use super::{cannot_write, run_study, say, say_lines, tell, Command, LENT};
 use crate::args::Args;
-use crate::execute::{execute, Lent};
+use crate::execute::{cut_by_memory, execute, Lent};
 use crate::failure::{Done, Failure};
-use crate::files;
 use crate::report::report;
+use crate::shown;
 use crate::study::{self, Study};
 use crate::walk::walk;
 use crate::words;
@@ -19,8 +19,9 @@ pub const COMMAND: Command = Command {
     words: "FOLDER",
     about: "run a model and print its report",
     help: "\
-Assembles text that is newer than its bytes, and says so; runs the model; prints how the run ended and what facilities,
-storages, queues and blocks had. Exit status 1 where the run is refused or stopped (ends 21 to 28).
+Assembles the text, and writes bytes that differ anew and says so; runs the model; prints how the run ended and what
+facilities, storages, queues and blocks had. Of an archive's data/ the bytes are run, and nothing is written. Exit status 1
+where the run is refused or stopped (ends 21 to 28).
 
   --records         print each record with names before the report, and the ticks that a wait took
   --plain           print what runmodel prints, numbers alone, with what it lends: 1,000,000 turns and 65,536 bytes of trace;
@@ -58,7 +59,7 @@ fn run(args: &Args, out: &mut dyn Write) -> Done<()> {
     let walk = walk(&study, &run);
     say_lines(out, &report(&study, &run, &walk, lent))?;
     let end = run.end.number();
-    if words::stop_of(end).is_some() || end == 26 || (end == 4 && lent.short) {
+    if words::stop_of(end).is_some() || end == 26 || cut_by_memory(lent, &run.outcome) {
         out.flush().map_err(cannot_write)?;
         return Err(Failure::new(format!(
             "covrith: the run was stopped, end {end}"
@@ -109,27 +110,31 @@ fn records(study: &Study, run: &Run, out: &mut dyn Write) -> Done<()> {
 /// What runmodel prints, for the bytes of the folder as they are.
 fn plain(folder: &Path, lent: Lent, out: &mut dyn Write) -> Done<()> {
     let mut notes = Vec::new();
-    // newer text is assembled here too; what is refused is told by its number alone
     let loaded = study::load(folder, &mut notes);
     tell(&notes);
-    let mut pair = Vec::new();
-    for name in ["model.bin", "tape.bin"] {
-        let path = folder.join(name);
-        let mut bytes = match &loaded {
-            Ok(study) if name == "model.bin" => study.model.clone(),
-            Ok(study) => study.tape.clone(),
-            Err(failure) if files::written(&path).is_none() => return Err(failure.clone()),
-            Err(_) => files::read(&path)?,
-        };
+    let pair = match &loaded {
+        Ok(study) => [study.model.clone(), study.tape.clone()],
+        // what the engine refuses is told by its number; a text with faults has no bytes to be refused
+        Err(failure) => {
+            let (model, tape) = study::files_of(folder).map_err(|_| failure.clone())?;
+            if !model.faults().is_empty() || !tape.faults().is_empty() {
+                return Err(failure.clone());
+            }
+            [model.bytes, tape.bytes]
+        }
+    };
+    let mut names = ["model.bin", "tape.bin"].iter();
+    let pair = pair.map(|mut bytes| {
+        let path = folder.join(names.next().unwrap_or(&""));
         if bytes.len() > PLAIN_FILE {
-            eprintln!(
-                "covrith: of {} the first {PLAIN_FILE} bytes are read",
-                path.display()
-            );
+            tell(&[format!(
+                "of {} the first {PLAIN_FILE} bytes are read",
+                shown::path(&path)
+            )]);
             bytes.truncate(PLAIN_FILE);
         }
-        pair.push(bytes);
-    }
+        bytes
+    });
     let number = crate::judge::refusal(&pair[0], &pair[1]);
     if number > 0 {
         say(out, &format!("refused {number}\n"))?;

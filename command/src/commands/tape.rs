@@ -1,24 +1,26 @@
 //! `covrith tape`: a tape drawn from distributions.
 
-use super::{say, Command};
+use super::{say, write_chosen, Command};
 use crate::args::Args;
 use crate::explain;
 use crate::failure::{Done, Failure};
-use crate::files::{self, Sync};
+use crate::files;
+use crate::shown;
 use engine::{Distribution, Refusal};
 use modeltext::distribution::{self, Drawn, Form};
 use modeltext::read;
 use modeltext::tape::names_against;
 use modeltext::{Fault, Position};
 use std::io::Write;
-use std::path::{Path, PathBuf};
+use std::path::Path;
 
 pub const COMMAND: Command = Command {
     name: "tape",
     words: "DISTRIBUTIONS TAPE",
     about: "draw a tape from distributions",
     help: "\
-Reads a text with a line for each list of a model, in its order, and writes the bytes of the tape that a stream draws from it:
+Reads a text with a line for each list of a model, in its order, and writes the bytes of the tape that a stream draws from it
+(to standard output for -):
 
   arrivals: spread 12.5 +- 4, 200 times
   stays:    curve 0:1 0.5:3 1:10, 200 times
@@ -30,29 +32,35 @@ The same text and stream give the same bytes on every machine. Where a model.txt
 its lists. docs/TEXT.md has the rules.
 
   --stream N        stream 0 to 511 (without it 0)
+  --replace         write over TAPE where it is a regular file
 ",
-    flags: &[],
+    flags: &["--replace"],
     valued: &["--stream"],
     run: tape,
 };
 
 fn tape(args: &Args, out: &mut dyn Write) -> Done<()> {
-    let [from, to] = args.exactly("a text of distributions and the tape to write")?;
+    let [source, to] = args.paths("a text of distributions and the tape to write")?;
+    let from = &*shown::path(source);
     let given = args.number("--stream")?.unwrap_or(0);
     let stream = u32::try_from(given).unwrap_or(u32::MAX);
-    let text = files::read_text(Path::new(from))?;
+    let text = files::read_text(source)?;
     let wrong = |faults: Vec<Fault>| Failure::new(told(from, &faults).join("\n"));
     let lists = distribution::read(&text).map_err(wrong)?;
     let last = Position::at(text.lines().count().max(1), 1);
-    let mismatches = against_model(&lists, last, Path::new(to));
+    let mismatches = against_model(&lists, last, to);
     if !mismatches.is_empty() {
         return Err(wrong(mismatches));
     }
     let bytes = drawn(from, stream, &lists)?;
-    files::write_all(&[(PathBuf::from(to), &bytes)], Sync::No)?;
+    write_chosen(to, &bytes, args.has("--replace"), out)?;
+    if to == Path::new("-") {
+        return Ok(());
+    }
     let times: u64 = lists.iter().map(|list| u64::from(list.count)).sum();
     let line = format!(
-        "{to}: {} lists, {times} times of stream {stream}, {} bytes\n",
+        "{}: {} lists, {times} times of stream {stream}, {} bytes\n",
+        shown::path(to),
         lists.len(),
         bytes.len()
     );

@@ -10,7 +10,6 @@ use modeltext::model::{Model, Operand};
 use modeltext::show::{self, Names};
 use modeltext::words::GENERATE;
 use std::io::Write;
-use std::path::Path;
 
 pub const COMMAND: Command = Command {
     name: "template",
@@ -28,8 +27,8 @@ It is a tape as it stands, with empty lists:
 };
 
 fn template(args: &Args, out: &mut dyn Write) -> Done<()> {
-    let [path] = args.exactly("one model")?;
-    let file = model_file(Path::new(path))?;
+    let [path] = args.paths("one model")?;
+    let file = model_file(path)?;
     let told = judge(&file, None);
     if !told.is_empty() {
         return Err(Failure::new(told.join("\n")));
