@@ -11,30 +11,25 @@ pub const BAGIT: &str = "bagit.txt";
 /// The page of an archive.
 pub const PAGE: &str = "archive.txt";
 
-/// The folder that seals this one, if any. The folder need not be there.
-pub fn of(folder: &Path) -> Done<Option<PathBuf>> {
-    match is_flat_archive(folder) {
-        true => Ok(Some(folder.to_path_buf())),
-        false => bag_above(folder),
-    }
+/// Whether a folder is sealed. It need not be there.
+pub fn of(folder: &Path) -> Done<bool> {
+    Ok(is_flat_archive(folder) || in_bag(folder)?)
 }
 
-/// The bag that this folder is, or is below.
-pub fn bag_above(folder: &Path) -> Done<Option<PathBuf>> {
+/// Whether a folder is a bag, or below one.
+pub fn in_bag(folder: &Path) -> Done<bool> {
     let real = resolved(folder)?;
     let mut above = real.ancestors();
-    let bag = above.find(|folder| there(&folder.join(BAGIT)));
-    Ok(bag.map(Path::to_path_buf))
+    Ok(above.any(|folder| there(&folder.join(BAGIT))))
 }
 
 /// A refusal where the file's folder is sealed.
 pub fn refuse(file: &Path) -> Done<()> {
     match of(folder_of(file))? {
-        None => Ok(()),
-        Some(seal) => Err(Failure::new(format!(
-            "{}: not written: {} is an archive, and only archive --replace changes one",
-            shown::path(file),
-            shown::path(&seal)
+        false => Ok(()),
+        true => Err(Failure::new(format!(
+            "{}: not written: its folder is, or is below, an archive or another bag; only archive --replace changes one",
+            shown::path(file)
         ))),
     }
 }

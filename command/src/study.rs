@@ -160,7 +160,7 @@ impl Side {
 }
 
 fn sides(folder: &Path) -> Done<(Side, Side)> {
-    let sealed = seal::of(folder)?.is_some();
+    let sealed = seal::of(folder)?;
     Ok((
         side(folder, "model", sealed)?,
         side(folder, "tape", sealed)?,
@@ -175,7 +175,7 @@ pub fn files_of(folder: &Path) -> Done<(ModelFile, TapeFile)> {
 
 /// The model of a folder alone.
 pub fn model_of(folder: &Path) -> Done<ModelFile> {
-    let sealed = seal::of(folder)?.is_some();
+    let sealed = seal::of(folder)?;
     Ok(model_file(&side(folder, "model", sealed)?))
 }
 

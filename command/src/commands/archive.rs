@@ -85,10 +85,9 @@ fn prepare(place: &Path, replace: bool) -> Done<bool> {
         return Err(Failure::new(format!("{parent}: no such folder")));
     }
     // a flat archive of form 1 may get a folder beside its files; a bag may get nothing
-    if let Some(bag) = seal::bag_above(parent)? {
+    if seal::in_bag(parent)? {
         return Err(Failure::new(format!(
-            "{name}: not written: {} is an archive, or another bag",
-            shown::path(&bag)
+            "{name}: not written: its folder is, or is below, an archive or another bag"
         )));
     }
     tell(&durable::sweep(parent));
