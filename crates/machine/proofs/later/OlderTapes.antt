@@ -73,28 +73,41 @@ module _ {old new : Rules} (wider : Wider old new) where
 
 -- ---- From bytes
 
+-- what was accepted is accepted, and a run that did not end 22 is the very same, states and all
+pub same-runs : {old new : Rules} → AllowsNoLess old new → (model tape : List ℕ) (work report : ℕ) {m : BlockModel} {t : List (List ℕ)}
+    → validate old model tape work report ≡ accept m t
+    → (validate new model tape work report ≡ accept (withRules new m) t)
+    × ((budget room : ℕ) → (run m t budget room .end ≡ 22 → ⊥) → run (withRules new m) t budget room ≡ run m t budget room)
+same-runs {old} {new} less model tape work report {m} {t} e =
+    let own : m .rules ≡ old = rules-from old model tape work report e in
+    let higher = rw (← own) at (less .wider .clock) in
+    let holders = ap (λ (r : Rules). r .holders) own ∙ less .holders in (
+      subst (λ v. Accepted new v (validate new model tape work report)) e (validated (less .wider) model tape work report),
+      later-same new m higher holders t,
+    )
+
 pub keeps-runs : {old new : Rules} → AllowsNoLess old new → KeepsRuns old new
 unfolding outcome outcomeOf acceptedRun refusedRun
-keeps-runs {old} {new} less model tape budget work room report =
-    go (validate old model tape work report) (validate new model tape work report) refl (validated (less .wider) model tape work report)
+keeps-runs {old} {new} less model tape budget work room report = go (validate old model tape work report) refl
   where
-    go : (v v′ : Validation) → validate old model tape work report ≡ v → Accepted new v v′
-        → SameBytes (outcomeOf budget room v) (outcomeOf budget room v′)
-    go (accept m t) v′ e h z ne =
-        let own : m .rules ≡ old = rules-from old model tape work report e in
-        let higher = rw (← own) at (less .wider .clock) in
-        let holders = ap (λ (r : Rules). r .holders) own ∙ less .holders in
-        ap (outcomeOf budget room) h ∙ ap (acceptedRun (withRules new m)) (later-same new m higher holders t budget room ne)
+    go : (v : Validation) → validate old model tape work report ≡ v
+        → SameBytes (outcomeOf budget room v) (outcomeOf budget room (validate new model tape work report))
+    go (accept m t) e z ne =
+        let same = same-runs less model tape work report e in
+        ap (outcomeOf budget room) (same .0) ∙ ap (acceptedRun (withRules new m)) (same .1 budget room ne)
         ∙ accepted-same new m (run m t budget room)
-    go (reject n) v′ e h z ne = absurd (omega (arith, refusal-from old model tape work report e .0))
+    go (reject n) e z ne = absurd (omega (arith, refusal-from old model tape work report e .0))
 
 -- ---- Documents 01 and 02
 
 wider-year : Wider document01 item1
 wider-year = record { clock = omega arith; time = omega arith; number = omega arith; kinds = omega arith; editions = omega arith }
 
+pub older-year : AllowsNoLess document01 item1
+older-year = record { wider = wider-year; holders = refl }
+
 pub older-runs : KeepsRuns document01 item1
-older-runs = keeps-runs (record { wider = wider-year; holders = refl })
+older-runs = keeps-runs older-year
 
 pub older-traces : KeepsTraces document01 document02
 older-traces =

@@ -1,11 +1,11 @@
 -- "A model whose transactions release only their own facilities, and hold none when ending, gives the trace it gave": where the records
 -- tell so, 27 and 28 are never answered, and so the run with them is the run without them.
-use Rattle.machine.specs.All.{ℕ, zero, suc, _≡_, refl, sym, ap, subst, _∙_, Bool, true, false, cond, not, _&&_, _||_, List, [], _∷_, Option, none, some, arith, eq-eqb, ne-eqb, leb, eqb, T, workNumbers, reportRoom, Rules, document01, item1, item6, inForce, Parsed, parsed, refused, Transaction, Gatherer, Interrupted, serverAt, facility, storage, shareServer, shareUnits, shareFacility, Block, generate, advance, terminate, takes, frees, waitServer, waitTerms, moves, assign, priority, split, counts, assemble, preempt, giveBack, facts, BlockModel, blockAt, State, Logged, setMoving, recordOf, log, enters, moveTo, wakeQl, wakeFirstWel, wakeWsl, setUse, waitsFor, comes, released, toRel, unless, askGenerate, askAdvance, askHolder, held, question, wakeFor, endsOne, effect, takeUnits, askGathers, gathers, askResume, askGivesBack, answer, execute, wsScheme, turn, run, listField, beginning, modelOf, tapeOf, Validation, accept, reject, withTape, withModel, validate, acceptedRun, outcomeOf, outcome, bit, terminates, SameBytes, asking, heldBy, byHolder, freeHanded, ownOnly, OwnOnly, KeepsOwnRuns, timesLeft, beginWait, mustWait, interruptedAt, gathering, holderBy}
+use Rattle.machine.specs.All.{ℕ, zero, suc, _≡_, refl, sym, ap, subst, _∙_, Bool, true, false, cond, not, _&&_, _||_, List, [], _∷_, Option, none, some, arith, eq-eqb, ne-eqb, leb, eqb, T, workNumbers, reportRoom, Rules, document01, item1, item6, inForce, Parsed, parsed, refused, Transaction, Gatherer, Interrupted, serverAt, facility, storage, shareServer, shareUnits, shareFacility, Block, generate, advance, terminate, takes, frees, waitServer, waitTerms, moves, assign, priority, split, counts, assemble, preempt, giveBack, facts, BlockModel, blockAt, State, Logged, setMoving, recordOf, log, enters, moveTo, wakeQl, wakeFirstWel, wakeWsl, setUse, waitsFor, comes, released, toRel, unless, askGenerate, askAdvance, askHolder, held, question, wakeFor, endsOne, effect, takeUnits, askGathers, gathers, askResume, askGivesBack, answer, execute, wsScheme, turn, run, listField, beginning, modelOf, tapeOf, Validation, accept, reject, withTape, withModel, validate, acceptedRun, outcomeOf, outcome, bit, terminates, SameBytes, holderBy, loserBy, refusedRun, upTo, asking, heldBy, byHolder, freeHanded, ownOnly, OwnOnly, KeepsOwnRuns, timesLeft, beginWait, mustWait, interruptedAt, gathering, holderBy}
 use Rattle.machine.proofs as our
 use our.decoding.Proper.{Proper, ProperBlock, Names}
-use our.decoding.ProperFrom.{proper-from, rules-from}
+use our.decoding.ProperFrom.{proper-from, rules-from, refusal-from}
 use our.lists.Cases.{checkWels-kept, wsScheme-cases}
-use our.{runs.Kept.taking-kept, lists.Sums.upTo-cong, order.Taken.taking-records, later.OlderTapes.older-runs, later.OlderModels.older-models, basic.Bools.cond-cases, later.Holders.Accounts}
+use our.{runs.Kept.taking-kept, lists.Sums.upTo-cong, order.Taken.taking-records, later.OlderTapes.older-runs, later.OlderTapes.older-year, later.OlderTapes.same-runs, later.OlderModels.older-models, basic.Bools.cond-cases, later.Holders.Accounts}
 use our.runs.Shape.{Shape, shape-closed}
 use our.order.Steps.{Step, passes, begins, back, returns, assembles, step-effect}
 use our.decoding.WiderParsing.{withRules, underRules, model-read, own-rules}
@@ -278,9 +278,46 @@ pub own-runs : (model tape : List ℕ) (budget work room report : ℕ) → OwnOn
     → outcome item6 model tape budget work room report ≡ outcome item1 model tape budget work room report
 own-runs = keeps-own-runs item6
 
--- and so from document 01 to the rules in force
-pub older-own-runs : (model tape : List ℕ) (budget work room report : ℕ) → OwnOnly budget room (validate item1 model tape work report)
+-- ---- From document 01 to the rules in force
+
+-- what the records tell of holders asks for no rules
+module _ (rules : Rules) (m : BlockModel) (tape : List (List ℕ)) where
+  abbrev other : BlockModel
+  other = withRules rules m
+
+  holder-again : (l : List Logged) (f : ℕ) → (holderBy other tape l f ≡ holderBy m tape l f) × (loserBy other tape l f ≡ loserBy m tape l f)
+  unfolding holderBy loserBy
+  holder-again [] f = (refl, refl)
+  holder-again (r ∷ l) f = (rw (holder-again l f .0, holder-again l f .1) refl, rw (holder-again l f .0) refl)
+
+  own-again : (l : List Logged) → ownOnly other tape l ≡ ownOnly m tape l
+  unfolding ownOnly byHolder freeHanded heldBy
+  own-again [] = refl
+  own-again (r ∷ l) =
+      let holds : upTo (m .facilities) (λ f. bit (eqb (holderBy other tape l f) (r .entry .transaction)))
+      ≡ upTo (m .facilities) (λ f. bit (eqb (holderBy m tape l f) (r .entry .transaction))) =
+      upTo-cong _ _ (m .facilities) (λ f low high. ap (λ n. bit (eqb n (r .entry .transaction))) (holder-again l f .0)) in
+      rw (holder-again l (facts (blockAt m (r .entry .block)) .releases) .0, holds, own-again l) refl
+
+-- the records of document 01's run are those of item 1's
+own-year : (model tape : List ℕ) (budget work room report : ℕ) → OwnOnly budget room (validate document01 model tape work report)
+    → outcome document01 model tape budget work room report .refusal ≡ 0 → (outcome document01 model tape budget work room report .end ≡ 22 → ⊥)
+    → OwnOnly budget room (validate item1 model tape work report)
+unfolding outcome outcomeOf acceptedRun refusedRun
+own-year model tape budget work room report = go (validate document01 model tape work report) refl
+  where
+    go : (v : Validation) → validate document01 model tape work report ≡ v → OwnOnly budget room v
+        → outcomeOf budget room v .refusal ≡ 0 → (outcomeOf budget room v .end ≡ 22 → ⊥) → OwnOnly budget room (validate item1 model tape work report)
+    go (accept m t) e own z early =
+        let same = same-runs older-year model tape work report e in
+        rw (same .0, same .1 budget room early, own-again item1 m t (run m t budget room .records)) own
+    go (reject n) e own z early = absurd (omega (arith, z, refusal-from document01 model tape work report e .0))
+
+-- judged by document 01's own records, as an archived trace has them
+pub older-own-runs : (model tape : List ℕ) (budget work room report : ℕ) → OwnOnly budget room (validate document01 model tape work report)
     → SameBytes (outcome document01 model tape budget work room report) (outcome inForce model tape budget work room report)
 older-own-runs model tape budget work room report own accepted early =
-    let same = own-runs model tape budget work room report own ∙ older-runs model tape budget work room report accepted early in
+    let same =
+    own-runs model tape budget work room report (own-year model tape budget work room report own accepted early)
+    ∙ older-runs model tape budget work room report accepted early in
     older-models model tape budget work room report (ap (λ o. o .refusal) same ∙ accepted) ∙ same
