@@ -32,6 +32,7 @@ three false true false = refl
 three false false true = refl
 three false false false = refl
 
+-- dry over the rows is dry of the machine: nobody moves, REL and the FEL are empty
 pub nobody-left : (work : List ℕ) (moving : ℕ) (s : State) → Listing work moving (s .moving) s → nobodyRows work moving ≡ nobodyLeft s
 unfolding nobodyRows nobodyLeft listsIn
 nobody-left work moving s h =
@@ -51,6 +52,7 @@ turned true x y = refl
 turned false x y = refl
 
 module _ (tapeBytes : List ℕ) (r : Rows) (s : State) (stands : Stands tapeBytes r (s .moving) s) where
+  -- the question before a turn has one answer over rows and state, in the same order of limits
   pub end-before : (budget room : ℕ) → endRows (r .work) (r .scalars) budget room ≡ endBefore budget room s
   unfolding endRows limitRows wornRows fullRows endBefore
   end-before budget room =

@@ -50,6 +50,7 @@ module _ (model tape : List ℕ) (budget : ℕ) (work trace report : List ℕ) (
   abbrev Good : State → Type 0
   Good = Kept m times (length trace)
 
+  -- the rows and the machine stop before the same turn, and each turn keeps what ties them
   pub follows : Follows m budget (length trace) (endOf budget (length trace)) (turnRows (headerOf m) tables tape) closeRows R Good
   follows =
       record {
@@ -73,6 +74,7 @@ module _ (model tape : List ℕ) (budget : ℕ) (work trace report : List ℕ) (
       (traced (startRows (headerOf m) tables tape lists work (replicate tallySize 0)) trace) (start m times) started
       (kept-start proper (represents .rules) (length trace))
 
+  -- whatever finishes the last rows of an accepted run as `finish` does meets the contract
   pub run-accepted : (r : Results) (work′ trace′ report′ : List ℕ) → Finishes (headerOf m) tables last report r trace′ report′
       → Contract model tape budget work trace report r work′ trace′ report′
   run-accepted r work′ trace′ report′ f =

@@ -96,9 +96,11 @@ pub record Amid (budget room block : ℕ) (x : Scalars) (left : ℕ) (w : List �
   pub passed : Passed x left y rest
   pub kept : length w′ ≡ length w
 
+-- before the first of the herd nothing has changed
 pub amid-none : {budget room block : ℕ} {x : Scalars} {left : ℕ} {w : List ℕ} → Amid budget room block x left w x left w
 amid-none = record { same = λ model tables tape tally trace nobody note all. refl; passed = passed-none; kept = refl }
 
+-- one more of the herd goes back to its WAITIF: one turn, and no end came before it
 pub amid-next : {budget room block : ℕ} {x : Scalars} {left : ℕ} {w : List ℕ} {y : Scalars} {rest : ℕ} {w′ w″ : List ℕ}
     → Amid budget room block x left w y rest w′ → 0 < rest
     → endRows w′ y budget room ≡ 0 → backTo w′ ≡ block → w″ ≡ stayed w′ → length w″ ≡ length w′
@@ -116,6 +118,7 @@ amid-next {budget} {room} {block} {y = y} {rest = rest} {w′ = w′} h some non
       kept = kept ∙ h .kept;
     }
 
+-- when the loop stops, the rest of the run is the rest from its beginning, and the turns lie within bounds
 pub amid-done : {budget room block : ℕ} {x : Scalars} {left : ℕ} {w : List ℕ} {y : Scalars} {rest : ℕ} {w′ : List ℕ}
     → Amid budget room block x left w y rest w′
     → WhereAllWait block x (λ model tables tape tally trace. Onward model tables tape trace budget room x left w tally (y .turns) w′ tally)
@@ -195,6 +198,7 @@ pub record Fits (turns budget left n : ℕ) : Type 0 where
   pub limit : turns + n ≤ maxTurns
   pub bought : turns + n ≤ budget
 
+-- so many turns pass neither the steps, nor the limit of turns, nor the budget
 pub fits-left : (turns budget left n most : ℕ) → 1 ≤ n → n ≤ most → most ≡ turnsLeft turns budget left → Fits turns budget left n
 unfolding turnsLeft
 fits-left turns budget left n most some few is =
@@ -213,6 +217,7 @@ fits-left turns budget left n most some few is =
     positive : (a b n : ℕ) → 1 ≤ n → n ≤ b - a → a + n ≤ b
     positive a b n h k = omega arith
 
+-- n who come back to an ENTER and go behind its QL with one walk: their n turns, one by one, lead to the same rows
 pub queued : (tables : List ℕ) (budget room block : ℕ) (x : Scalars) (left : ℕ) (w tally w′ tally′ : List ℕ) (n most : ℕ)
     → endRows w x budget room ≡ 0 → crowded tables tally block ≡ true
     → 1 ≤ n → n ≤ most → most ≡ turnsLeft (x .turns) budget left → ((block ≡ 0 → ⊥) → Lines tables block w n w′)
@@ -243,6 +248,7 @@ queued-still tables budget room block x left w tally w′ n e lines = (
   (omega arith, omega arith),
 )
 
+-- where none goes back the rest of the run is untouched
 pub queued-none : (tables : List ℕ) (budget room block : ℕ) (x : Scalars) (left : ℕ) (w tally : List ℕ)
     → WhereEnter tables block x (λ model tape trace. Onward model tables tape trace budget room x left w tally (x .turns) w tally)
     × ((x .turns ≤ x .turns) × (x .turns ≤ x .turns + left))

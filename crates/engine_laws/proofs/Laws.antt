@@ -33,6 +33,7 @@ module _ {m : BlockModel} {times : List (List ℕ)} {tape tables lists : List �
   unfolding recordsOf traceBytes
   no-bytes = ap (λ (l : List Logged). traceBytes (inOrder l)) no-records
 
+  -- the rows of the start stand for the machine's first state, and nothing is written yet
   pub started : (work : List ℕ) → 16384 ≤ length work → Runs tape trace (traced (first work) trace) (start m times)
   unfolding traced
   started work room =
@@ -47,6 +48,7 @@ module _ {m : BlockModel} {times : List (List ℕ)} {tape tables lists : List �
             };
       }
 
+  -- a turn over rows is the machine's turn, before which no end is asked
   pub turned : (budget : ℕ) (a : Traced) (s : State) → Taken budget (length trace) s → Kept m times (length trace) s → Runs tape trace a s
       → Runs tape trace (turnRows (headerOf m) tables tape a) (turn m s)
   unfolding turnRows

@@ -37,6 +37,7 @@ module _ (model tape : List ℕ) (budget : ℕ) (work trace report : List ℕ) w
 
   -- ---- Refused
 
+  -- a refused run leaves the buffers and answers the number of the first question that failed
   pub refused-runs : (n : ℕ) → answer ≡ reject n → Contract model tape budget work trace report (refusedWith n) work trace report
   unfolding outcome outcomeOf refusedRun
   refused-runs n e =
@@ -133,6 +134,7 @@ module _ (model tape : List ℕ) (budget : ℕ) (work trace report : List ℕ) w
                 (living-listed s (kept .sure .sound)));
           }
 
+      -- an accepted run: trace, report and eight numbers are those of the machine's last state
       pub accepted-runs : Contract model tape budget work trace report (endedWith (r .scalars) n) work′ trace′ report′
       unfolding acceptedRun
       accepted-runs =

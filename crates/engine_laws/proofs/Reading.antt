@@ -14,6 +14,7 @@ in-order m [] h = tt
 in-order m (r ∷ l) h =
     subst (Each (InModel m)) (sym (in-order-cons r l)) (each-end (InModel m) (inOrder l) (r .entry) (in-order m l (h .1)) (h .0))
 
+-- the trace's bytes are read back as the records, all of them, and written again as the same bytes
 pub reads-back : {m : BlockModel} {room : ℕ} (s : State) → Traced m room s → ReadsBack m (traceBytes (recordsOf s)) (recordsOf s)
 unfolding recordsOf
 reads-back {m} s h =

@@ -7,10 +7,12 @@ use Rattle.engine_laws.specs.{runSteps, passed, Along}
 -- ---- One step, of any number of steps
 
 module _ {A : Type 0} (endOf : A → ℕ) (step : A → A) (close : ℕ → A → A) where
+  -- where no end is asked the first of n + 1 steps is taken
   pub steps-on : (n : ℕ) (a : A) → endOf a ≡ 0 → runSteps endOf step close (suc n) a ≡ runSteps endOf step close n (step a)
   unfolding runSteps
   steps-on n a e = rw (eq-eqb _ 0 e, runSteps)
 
+  -- at an end the steps stop and it is written down
   pub steps-off : (n : ℕ) (a : A) → (endOf a ≡ 0 → ⊥) → runSteps endOf step close (suc n) a ≡ close (endOf a) a
   unfolding runSteps
   steps-off n a h = rw (ne-eqb _ 0 h, runSteps)
@@ -49,10 +51,14 @@ module _ {A : Type 0} (endOf : A → ℕ) (step : A → A) (close : ℕ → A �
 pub record Follows (m : BlockModel) (budget room : ℕ) {A : Type 0} (endOf : A → ℕ) (step : A → A) (close : ℕ → A → A)
     (R : A → State → Type 0)
     (Good : State → Type 0) : Type 0 where
+  -- both ask for the same end
   pub end : (a : A) (s : State) → Good s → R a s → endOf a ≡ endBefore budget room s
+  -- a step keeps the tie
   pub turns : (a : A) (s : State) → Taken budget room s → Good s → R a s → R (step a) (turn m s)
+  -- writing the end down keeps the tie
   pub closes : (a : A) (s : State) (e : ℕ) → R a s → R (close e a) (setEnd e s)
   pub good-turn : (s : State) → Taken budget room s → Good s → Good (turn m s)
+  -- what holds of every state holds of an ended one
   pub good-end : (s : State) (e : ℕ) → (e ≡ 0 → ⊥) → Good s → Good (setEnd e s)
 
 module _ (m : BlockModel) (budget room : ℕ) {A : Type 0} (endOf : A → ℕ) (step : A → A) (close : ℕ → A → A) (R : A → State → Type 0)

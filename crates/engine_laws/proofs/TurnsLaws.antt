@@ -26,6 +26,7 @@ module _ (model : Model) (tables tape : List ℕ) (budget room : ℕ) (x : Scala
   unfolding closeRows traced rowsOf
   close-of e = refl
 
+  -- no steps left: the rows stay
   pub turns-none : (n : ℕ) → n ≤ 0 → turnsFrom model tables tape budget room n here ≡ here
   turns-none n h =
       ap (λ (k : ℕ). turnsFrom model tables tape budget room k here) (zero-is n h)
@@ -59,6 +60,7 @@ module _ (model : Model) (tables tape : List ℕ) (budget room : ℕ) (x : Scala
 
 -- ---- Some turns, then the rest, in as much room
 
+-- the rest of an inner loop and the rest of the outer one, joined: both lead to the whole
 pub turns-joined : (model : Model) (tables tape : List ℕ) (budget room room′ n : ℕ) (a : Traced) (n′ : ℕ) (a′ whole : Traced) → room ≡ room′
     → turnsFrom model tables tape budget room n a ≡ turnsFrom model tables tape budget room n′ a′
     → turnsFrom model tables tape budget room′ n′ a′ ≡ whole
@@ -67,6 +69,7 @@ turns-joined model tables tape budget room room′ n a n′ a′ whole e h rest 
 
 -- ---- From the start on
 
+-- the turns from the rows that the start wrote
 pub turns-begun : (model : Model) (tables tape : List ℕ) (budget room : ℕ) (x : Scalars) (work tally trace : List ℕ) (r : Rows)
     (there : Traced)
     → there ≡ turnsRows model tables tape budget room (traced (rowsOf x work tally) trace) → rowsOf x work tally ≡ r
@@ -76,6 +79,7 @@ turns-begun model tables tape budget room x work tally trace r there e f =
 
 -- ---- After the report
 
+-- the last rows with results and report written from them
 pub finishes : (model : Model) (tables : List ℕ) (x : Scalars) (work tally trace : List ℕ) (last : Traced) (n : ℕ) (r : Results)
     (report report′ : List ℕ)
     → traced (rowsOf x work tally) trace ≡ last → r ≡ endedWith x n
