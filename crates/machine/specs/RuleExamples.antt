@@ -1,7 +1,7 @@
 -- The rules one by one, by computing: a list move, a question or one block, each so small that a wrong rule shows where it is wrong.
 use Rattle.machine.specs.Basics.{ℕ, _≡_, refl, true, false, List, [], _∷_, _++_, map, some, eqb, drop, length}
 use Rattle.machine.specs.Limits.{maxClock, maxTransaction, maxBlocks, recordRoom}
-use Rattle.machine.specs.{Rules.document02, Term.serverAt, Trace.recordBytes, State.State, State.Logged, Lists.flat, Lists.bit, Run.idle, Report.movingOne, Report.reportNumbers, Bundle.everything}
+use Rattle.machine.specs.{Rules.document02, Term.serverAt, Trace.recordBytes, State.State, State.Logged, Lists.flat, Lists.bit, Run.idle, Run.run, Report.movingOne, Report.reportNumbers, Bundle.everything}
 use Rattle.machine.specs.Transaction.{Transaction, Event, newborn, precedes}
 use Rattle.machine.specs.Setters.{withSerial, withReturning, withStamp, setClock, setView, setWsl, setRel, setFel, setInterrupted, setMoving, setSerial, setMade}
 use Rattle.machine.specs.Block.{U, NU, facility, storage, generate, terminate, seize, release, enter, waitServer, split, assemble, preempt, giveBack, BlockModel, beginsGroup}
@@ -306,6 +306,32 @@ pub largest-record :
     length (recordBytes (record { clock = maxClock; transaction = maxTransaction; block = maxBlocks; outcome = 1 })) ≡ recordRoom
 unfolding everything
 largest-record = refl
+
+-- ---- Runs that are cut
+
+-- one transaction at clock 1 and one at clock 2, which end at once
+abbrev passing : BlockModel
+passing =
+    record {
+      rules = document02;
+      edition = 1;
+      facilities = 0;
+      capacities = [];
+      queues = 0;
+      values = [];
+      lists = 1;
+      counter = 9;
+      blocks = generate 1 0 ∷ terminate 0 ∷ [];
+    }
+
+-- the end, the turns and the records of a run with a budget and a room
+abbrev cut : (budget room : ℕ) → List ℕ
+cut budget room = let s : State = run passing ((1 ∷ 1 ∷ []) ∷ []) budget room in s .end ∷ s .turns ∷ length (s .records) ∷ []
+
+-- by its budget, by its room, and not at all: a run that ended 3 or 4 is not the longer one, and less room gives fewer turns (Prefix)
+pub cut-runs : cut 2 100 ∷ cut 100 15 ∷ cut 100 100 ∷ [] ≡ (3 ∷ 2 ∷ 2 ∷ []) ∷ (4 ∷ 1 ∷ 1 ∷ []) ∷ (1 ∷ 4 ∷ 4 ∷ []) ∷ []
+unfolding everything
+cut-runs = refl
 
 -- ---- The report (document 02, item 2)
 
