@@ -3,7 +3,8 @@
 //! shrunk.
 //! `compare --waits N SEED`: the same with models that wait on values.
 //! `compare --crowds N SEED`: the same with models in which hundreds wait for a storage.
-//! `compare --check`: the same for the cases of standard input, printed as by `cases` of `reference/`.
+//! `compare --check`: the same for the cases of standard input, printed as by `cases` of `reference/`; where a line also has what must
+//! come out, that is compared too. Lines that begin with # are passed by.
 //! `compare --long`: the two runs that reach end 26, by turns and by serials (some 100 million turns each).
 //! `compare --streams`: the starts of all streams, steps along each and steps of other states.
 //! `compare --tapes N SEED`: N random calls of the tape maker.
@@ -26,7 +27,7 @@ use records::Answers;
 use reference::coverage::Coverage;
 use reference::generate::random::Random;
 use reference::generate::{case, crowds, waits, Case, Size};
-use reference::line::{given, parse};
+use reference::line::{given, line, parse};
 use reference::rules::Rules;
 use std::process::exit;
 
@@ -131,10 +132,12 @@ fn explain(case: &Case, stale: u64) {
 
 fn check() -> ! {
     let mut lines = 0;
-    for line in std::io::stdin().lines() {
-        let Some(case) = line.ok().as_deref().and_then(parse) else {
-            usage()
-        };
+    for text in std::io::stdin().lines() {
+        let Ok(text) = text else { usage() };
+        if text.starts_with('#') {
+            continue;
+        }
+        let Some(case) = parse(&text) else { usage() };
         lines += 1;
         match runs::compare(&case, lines, &mut Coverage::default()) {
             Ok(agreed) => println!("{:?}", agreed.outcome),
@@ -142,6 +145,11 @@ fn check() -> ! {
                 println!("line {lines} differs: {text}");
                 exit(1);
             }
+        }
+        // the engine gives what reference/ gives, as was just compared
+        if text != given(&case) && text != line(Rules::LANDED, &case) {
+            println!("line {lines} differs from what it says must come out");
+            exit(1);
         }
     }
     println!("{lines} cases agree");

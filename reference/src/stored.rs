@@ -1,7 +1,7 @@
 //! The stored cases of crate `test_vectors` and what must come out of them: the
 //! first example, the limits of 02, item 1, the holders of item 6, the joined waits
 //! of item 7, the families of item 8, the facilities taken over of item 11, the 1996 rules
-//! of item 12, and random cases: each refusal, each end that a short run can meet, each kind
+//! of item 12, what tells near misreadings apart, and random cases: each refusal, each end that a short run can meet, each kind
 //! and outcome, each list in use, 1,024 living, late clocks, facilities held, groups of each
 //! size, what edition 2 comes to and what PREEMPT and RETURN come to.
 
@@ -11,6 +11,7 @@ mod groups;
 mod held;
 mod joined;
 mod late;
+mod misread;
 mod preempted;
 mod second;
 
@@ -18,6 +19,7 @@ pub use gathered::cases as gathered_cases;
 pub use held::cases as held_cases;
 pub use joined::cases as joined_cases;
 pub use late::cases as late_cases;
+pub use misread::cases as misread_cases;
 pub use preempted::cases as preempted_cases;
 pub use second::cases as second_cases;
 
@@ -25,6 +27,7 @@ use crate::blocks::Done;
 use crate::coverage::{Second, Takeovers};
 use crate::generate::random::Random;
 use crate::generate::{case, Case, Size};
+use crate::line::line;
 use crate::machine::{Machine, Transaction};
 use crate::model::{Block, Model};
 use crate::number::number_bytes;
@@ -159,6 +162,7 @@ pub fn cases() -> (Vec<Case>, BTreeMap<String, u32>) {
     kept.extend(gathered::cases().into_iter().map(|(case, _, _)| case));
     kept.extend(preempted::cases().into_iter().map(|(case, ..)| case));
     kept.extend(second::cases().into_iter().map(|(case, ..)| case));
+    kept.extend(misread::cases().into_iter().map(|(case, ..)| case));
     let mut met: BTreeMap<String, u32> = BTreeMap::new();
     let mut spare = Vec::new();
     for _ in 0..12_000 {
@@ -211,6 +215,24 @@ pub fn encode(cases: &[Case]) -> Vec<u8> {
         bytes.extend(&case.tape);
     }
     bytes
+}
+
+/// The head of `box/runs.txt`.
+const RUNS_HEAD: &str = "\
+# Stored runs: what goes in and what must come out. A line that does not begin with # is one run, sixteen words with a space between:
+# 1 model, 2 tape, as bytes in hexadecimal (- for none); 3 budget of turns; lengths of the lent buffers: 4 work in 32-bit numbers,
+# 5 trace and 6 report in bytes; the results: 7 refusal, 8 end, 9 clock, 10 turns, 11 made, 12 ended, 13 bytes of trace, 14 bytes of
+# report; 15 trace and 16 report, as bytes in hexadecimal (- for none). docs/FORMAT.md has the form of all four kinds of bytes.
+";
+
+/// The runs with trace and report, a line each, for programs in any language.
+pub fn runs(cases: &[Case]) -> String {
+    let mut text = RUNS_HEAD.to_string();
+    for case in cases {
+        text += &line(Rules::LANDED, case);
+        text.push('\n');
+    }
+    text
 }
 
 /// 263 times the sum so far, the byte and 1, modulo 4,294,967,291.

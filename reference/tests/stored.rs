@@ -11,23 +11,24 @@ use reference::report::read_report;
 use reference::rules::LAST_KIND;
 use reference::run::{run, Outcome};
 use reference::stored::{
-    cases, encode, expected, gathered_cases, held_cases, joined_cases, late_cases, preempted_cases,
-    second_cases,
+    cases, encode, expected, gathered_cases, held_cases, joined_cases, late_cases, misread_cases,
+    preempted_cases, runs, second_cases,
 };
 use reference::trace::TraceReader;
 use reference::Rules;
 
 fn stored(name: &str) -> Vec<u8> {
-    let folder = concat!(env!("CARGO_MANIFEST_DIR"), "/../crates/test_vectors/");
-    std::fs::read(format!("{folder}{name}")).expect("stored with the crate")
+    let folder = concat!(env!("CARGO_MANIFEST_DIR"), "/../");
+    std::fs::read(format!("{folder}{name}")).expect("stored")
 }
 
 #[test]
 fn stored_cases_are_up_to_date() {
     let (cases, met) = cases();
-    let same = stored("stdin") == encode(&cases);
-    assert!(same, "run `vectors crates/test_vectors`");
-    assert!(stored("stdout") == expected(&cases).into_bytes());
+    let same = stored("crates/test_vectors/stdin") == encode(&cases);
+    assert!(same, "run `vectors crates/test_vectors box/runs.txt`");
+    assert!(stored("crates/test_vectors/stdout") == expected(&cases).into_bytes());
+    assert!(stored("box/runs.txt") == runs(&cases).into_bytes());
     let mut wanted: Vec<String> = (0..=10).map(|n| format!("refusal {n}")).collect();
     wanted.extend(ends(Rules::LANDED).iter().map(|n| format!("end {n}")));
     for kind in 1..=LAST_KIND {
@@ -152,6 +153,25 @@ fn gathered_cases_come_to_what_the_papers_give() {
         if came.refusal == 0 {
             let report = read_report(&report[..came.report_bytes as usize]).unwrap();
             assert_eq!(places(&report, 1 + 1), *living, "gathered case {number}");
+        }
+    }
+}
+
+#[test]
+fn misread_cases_come_to_what_the_papers_give() {
+    for (number, (case, wanted, living)) in misread_cases().iter().enumerate() {
+        let mut trace = vec![0; case.trace_len];
+        let mut report = vec![0; case.report_len];
+        let came = outcome_and_report(case, &mut trace, &mut report);
+        assert_eq!(counts(&came, &trace), *wanted, "misread case {number}");
+        if came.refusal == 0 {
+            let report = read_report(&report[..came.report_bytes as usize]).unwrap();
+            let facilities = usize::from(case.model[1]);
+            assert_eq!(
+                places(&report, facilities),
+                *living,
+                "misread case {number}"
+            );
         }
     }
 }
