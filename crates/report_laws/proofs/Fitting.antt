@@ -1,5 +1,5 @@
 -- Every report fits its buffer of 10,240 bytes, and each of its numbers nine groups of seven bits.
-use Rattle.machine.specs.All.{ℕ, suc, _+_, _*_, _^_, _≤_, _<_, mul-le-mul-left, arith, _≡_, refl, sym, ap, _∙_, Bool, List, [], _∷_, _++_, map, Option, none, some, eqb, length, drop, length-append, length-map, length-replicate, sets, length-sets, sets-eq, maxReportNumber, Transaction, Event, Gatherer, Interrupted, flat, Server, Queue, Facts, BlockModel, State, Logged, numberBytes, recordsAt, serverNumbers, queueNumbers, Place, placed, movingOne, places, byNumber, placeNumbers, reportNumbers, reportBytes, Each}
+use Rattle.machine.specs.All.{ℕ, suc, _+_, _*_, _^_, _≤_, _<_, mul-le-mul-left, arith, _≡_, refl, sym, ap, _∙_, Bool, List, [], _∷_, _++_, map, Option, none, some, eqb, length, drop, length-append, length-map, length-replicate, sets, length-sets, sets-eq, maxReportNumber, Transaction, Event, Gatherer, Interrupted, flat, Server, Queue, Facts, BlockModel, State, Logged, numberBytes, recordsAt, serverNumbers, queueNumbers, Place, placed, movingOne, places, byNumber, placeNumbers, reportNumbers, reportBytes, Each, maxClock}
 use Rattle.machine.proofs.{decoding.Proper.Proper, decoding.Proper.servers, lists.Sorted.each-insert, lists.Sums.sum-length, runs.Everybody.Maybe, runs.Everybody.Everybody, lists.Sorting.sum-sorted}
 use Rattle.machine.proofs.conservation.Conservation.{Sound, Conserved, sound-conserved}
 use Rattle.codec.proofs.{Numbers.numberBytes-length, Numbers.numberBytes-longest, Stores.sets-append, Writing.put-room}
@@ -18,7 +18,7 @@ size l = length (bytesOf l)
 
 size-cons : (v : ℕ) (l : List ℕ) → size (v ∷ l) ≡ length (numberBytes v) + size l
 unfolding flat
-size-cons v l = length-append (numberBytes v) _
+size-cons v l = length-append (numberBytes v) (bytesOf l)
 
 size-nil : size [] ≡ 0
 unfolding flat
@@ -34,21 +34,26 @@ size-most (v ∷ l) = omega (arith, size-cons v l, numberBytes-longest v, size-m
 
 -- ---- Written where there is room
 
-putAll-room : (l : List ℕ) (at : ℕ) (bytes : List ℕ) → at + size l ≤ length bytes → putAll l (written at bytes) ≡ written (at + size l) (sets bytes at (bytesOf l))
+putAll-room : (l : List ℕ) (at : ℕ) (bytes : List ℕ) → at + size l ≤ length bytes
+    → putAll l (written at bytes) ≡ written (at + size l) (sets bytes at (bytesOf l))
 unfolding flat
 putAll-room [] at bytes h = unfold putAll in ap (λ n. written n bytes) (omega arith)
 putAll-room (v ∷ l) at bytes h =
-    let e = size-cons v l in
-    putAll-cons v l _
+    let e : size (v ∷ l) ≡ length (numberBytes v) + size l = size-cons v l in
+    putAll-cons v l (written at bytes)
     ∙ ap (putAll l) (put-room at v bytes (omega arith))
-    ∙ putAll-room l _ _ (omega (arith, length-sets bytes at (numberBytes v)))
+    ∙ putAll-room l (at + length (numberBytes v)) (sets bytes at (numberBytes v)) (omega (arith, length-sets bytes at (numberBytes v)))
     ∙ ap (λ n. written n (sets (sets bytes at (numberBytes v)) (at + length (numberBytes v)) (bytesOf l))) (omega arith)
-    ∙ ap (written _) (sets-append (numberBytes v) _ bytes at)
+    ∙ ap (written (at + size (v ∷ l))) (sets-append (numberBytes v) (bytesOf l) bytes at)
 
-pub written-from-start : (l bytes : List ℕ) → size l ≤ length bytes → putAll l (written 0 bytes) ≡ written (size l) (bytesOf l ++ drop (size l) bytes)
+-- numbers that fit the buffer stand at its begin, and the bytes behind them stay
+pub written-from-start : (l bytes : List ℕ) → size l ≤ length bytes
+    → putAll l (written 0 bytes) ≡ written (size l) (bytesOf l ++ drop (size l) bytes)
 written-from-start l bytes h =
     let start : 0 + size l ≡ size l = omega arith in
-    cc (putAll-room l 0 bytes (omega arith), start, sets-eq (bytesOf l) bytes 0 (omega arith))
+    putAll-room l 0 bytes (omega arith)
+    ∙ ap (λ n. written n (sets bytes 0 (bytesOf l))) start
+    ∙ ap (written (size l)) (sets-eq (bytesOf l) bytes 0 (omega arith) ∙ ap (λ n. bytesOf l ++ drop n bytes) start)
 
 -- ---- Lists of which each passes
 
@@ -60,7 +65,7 @@ module _ {A : Type 0} (P : A → Type 0) where
   each-flat : (ls : List (List A)) → Each (Each P) ls → Each P (flat ls)
   unfolding flat
   each-flat [] h = tt
-  each-flat (l ∷ ls) h = each-append l _ (h .0) (each-flat ls (h .1))
+  each-flat (l ∷ ls) h = each-append l (flat ls) (h .0) (each-flat ls (h .1))
 
 -- ---- Places
 
@@ -80,19 +85,20 @@ each-who P (e ∷ l) h = (h .0, each-who P l (h .1))
 each-sorted : (l : List Place) → Each Short l → Each Short (byNumber l)
 unfolding byNumber
 each-sorted [] h = tt
-each-sorted (p ∷ l) h = each-insert Short _ p _ (h .0) (each-sorted l (h .1))
+each-sorted (p ∷ l) h = each-insert Short _ p (byNumber l) (h .0) (each-sorted l (h .1))
 
 places-size : (l : List Place) → Each Short l → size (placeNumbers l) ≤ 5 * length l
 unfolding placeNumbers
 places-size [] h = omega (arith, size-nil)
 places-size (p ∷ l) h =
+    let four : p .number < 128 ^ 4 = omega (arith, h .0 .0) in
     let one : p .place < 128 ^ 1 = omega (arith, h .0 .1) in
     omega (
       arith,
       size-cons (p .number) (p .place ∷ placeNumbers l),
       size-cons (p .place) (placeNumbers l),
-      numberBytes-length 3 (p .number) (omega (arith, h .0 .0)),
-      numberBytes-length 0 _ one,
+      numberBytes-length 3 (p .number) four,
+      numberBytes-length 0 (p .place) one,
       places-size l (h .1),
     )
 
@@ -118,14 +124,17 @@ module _ (m : BlockModel) (tape : List (List ℕ)) (s : State) (proper : Proper 
   conserved = sound-conserved m tape s sound
 
   living-few : length (places s) ≤ 1024
-  living-few = omega (arith, conserved .made, conserved .balance, conserved .living, sane .living)
+  living-few = omega (arith, conserved .made, conserved .ended, conserved .balance, conserved .living, sane .living)
 
   everybody : Everybody (Numbered (s .made)) s
   everybody = numbered m tape s sound
 
+  few : (t : Transaction) → Numbered (s .made) t → t .number ≤ 100000000
+  few t n = omega (arith, n .1, sane .made, sane .serials)
+
   each-few : (l : List Transaction) → Each (Numbered (s .made)) l → Each (λ t. t .number ≤ 100000000) l
   each-few [] h = tt
-  each-few (t ∷ l) h = ((omega arith), each-few l (h .1))
+  each-few (t ∷ l) h = (few t (h .0), each-few l (h .1))
 
   each-mover : (o : Option Transaction) → Maybe (Numbered (s .made)) o → Each (Numbered (s .made)) (movingOne o)
   unfolding movingOne
@@ -169,20 +178,49 @@ module _ (m : BlockModel) (tape : List (List ℕ)) (s : State) (proper : Proper 
       (each-append Short (queued ++ stopped ++ compared ++ later) ready
       (each-append Short (queued ++ stopped ++ compared) later
       (each-append Short (queued ++ stopped) compared
-      (each-append Short queued stopped (short 1 (omega arith) _ (each-flat _ _ (everybody .ql)))
-      (short 2 (omega arith) _ (each-flat _ _ (everybody .wel))))
-      (short 3 (omega arith) _ (everybody .wsl)))
-      (short 4 (omega arith) (map (λ e. e .who) (s .fel)) (each-who _ (s .fel) (everybody .fel))))
-      (short 5 (omega arith) _ (everybody .rel)))
-      (short 6 (omega arith) _ (each-mover _ (everybody .moving))))
-      (short 7 (omega arith) (map (λ g. g .who) (flat _))
-      (map-each (λ (g : Gatherer). g .who) _ (flat _) (each-flat (λ (g : Gatherer). Numbered _ (g .who)) _ (everybody .gatherers)))))
-      (short 8 (omega arith) (map (λ i. i .who) (s .interrupted)) (map-each (λ (i : Interrupted). i .who) _ (s .interrupted) (everybody .interrupted)))
+      (each-append Short queued stopped (short 1 (omega arith) (flat (s .ql)) (each-flat (Numbered (s .made)) (s .ql) (everybody .ql)))
+      (short 2 (omega arith) (flat (s .wel)) (each-flat (Numbered (s .made)) (s .wel) (everybody .wel))))
+      (short 3 (omega arith) (s .wsl) (everybody .wsl)))
+      (short 4 (omega arith) (map (λ e. e .who) (s .fel)) (each-who (Numbered (s .made)) (s .fel) (everybody .fel))))
+      (short 5 (omega arith) (s .rel) (everybody .rel)))
+      (short 6 (omega arith) (movingOne (s .moving)) (each-mover (s .moving) (everybody .moving))))
+      (short 7 (omega arith) (map (λ g. g .who) (flat (s .gatherers)))
+      (map-each (λ (g : Gatherer). g .who) (Numbered (s .made)) (flat (s .gatherers))
+      (each-flat (λ (g : Gatherer). Numbered (s .made) (g .who)) (s .gatherers) (everybody .gatherers)))))
+      (short 8 (omega arith) (map (λ i. i .who) (s .interrupted))
+      (map-each (λ (i : Interrupted). i .who) (Numbered (s .made)) (s .interrupted) (everybody .interrupted)))
+
+  sorted-length : length (byNumber (places s)) ≡ length (places s)
+  sorted-length = sym (sum-length (byNumber (places s))) ∙ sum-sorted (λ p. 1) (places s) ∙ sum-length (places s)
 
   pub report-fits : length (reportBytes m s) ≤ 10240
   unfolding reportBytes reportNumbers
   report-fits =
-      omega (arith, size-cons (s .view .clock) (s .made ∷ s .ended ∷ rest), size-cons (s .made) (s .ended ∷ rest), size-cons (s .ended) rest, numberBytes-longest (s .view .clock), numberBytes-longest (s .made), numberBytes-longest (s .ended), size-append (serverNumbers m (s .records) 1 (s .view .servers) ++ queueNumbers m (s .records) 1 (s .view .queues)) living, size-append (serverNumbers m (s .records) 1 (s .view .servers)) (queueNumbers m (s .records) 1 (s .view .queues)), size-most (serverNumbers m (s .records) 1 (s .view .servers)), server-count m (s .records) 1 (s .view .servers), servers-length, proper .facilities, proper .storages, size-most (queueNumbers m (s .records) 1 (s .view .queues)), queue-count m (s .records) 1 (s .view .queues), proper .queues, size-cons (length (places s)) (placeNumbers (byNumber (places s))), numberBytes-longest (length (places s)), places-size (byNumber (places s)) (each-sorted (places s) short-places), (sym (sum-length (byNumber (places s))) ∙ sum-sorted (λ p. 1) (places s) ∙ sum-length (places s)), living-few)
+      omega (
+        arith,
+        size-cons (s .view .clock) (s .made ∷ s .ended ∷ rest),
+        size-cons (s .made) (s .ended ∷ rest),
+        size-cons (s .ended) rest,
+        numberBytes-longest (s .view .clock),
+        numberBytes-longest (s .made),
+        numberBytes-longest (s .ended),
+        size-append (serverNumbers m (s .records) 1 (s .view .servers) ++ queueNumbers m (s .records) 1 (s .view .queues)) living,
+        size-append (serverNumbers m (s .records) 1 (s .view .servers)) (queueNumbers m (s .records) 1 (s .view .queues)),
+        size-most (serverNumbers m (s .records) 1 (s .view .servers)),
+        server-count m (s .records) 1 (s .view .servers),
+        servers-length,
+        proper .facilities,
+        proper .storages,
+        size-most (queueNumbers m (s .records) 1 (s .view .queues)),
+        queue-count m (s .records) 1 (s .view .queues),
+        sane .shape .queue-length,
+        proper .queues,
+        size-cons (length (places s)) (placeNumbers (byNumber (places s))),
+        numberBytes-longest (length (places s)),
+        places-size (byNumber (places s)) (each-sorted (places s) short-places),
+        sorted-length,
+        living-few,
+      )
     where
       living : List ℕ
       living = length (places s) ∷ placeNumbers (byNumber (places s))
@@ -198,13 +236,15 @@ module _ (m : BlockModel) (tape : List (List ℕ)) (s : State) (proper : Proper 
   -- some for each tick that passed
   ticks : (a n : ℕ) → a ≤ 100000001 → n ≤ a * s .view .clock → Small n
   ticks a n b h =
-      omega (arith, mul-le-mul-left a (sane .timely .clock))
+      let c : s .view .clock ≤ maxClock = sane .timely .clock in
+      omega (arith, mul-le-mul-left a c)
 
   module _ (number : length (s .records) ≤ s .turns) where
     small-records : (outcome : ℕ) (p : Facts → Bool) → Small (recordsAt m outcome p (s .records))
-    small-records outcome p = omega (arith, records-few m outcome p (s .records))
+    small-records outcome p = omega (arith, records-few m outcome p (s .records), sane .turns)
 
-    small-servers : (v : ℕ) (l : List Server) → Each (λ (x : Server). x .unitTicks ≤ 65535 * s .view .clock) l → Each (λ (x : Server). x .waitTicks ≤ 1024 * s .view .clock) l
+    small-servers : (v : ℕ) (l : List Server) → Each (λ (x : Server). x .unitTicks ≤ 65535 * s .view .clock) l
+        → Each (λ (x : Server). x .waitTicks ≤ 1024 * s .view .clock) l
         → Each (λ (x : Server). x .longest ≤ 1024) l → Each Small (serverNumbers m (s .records) v l)
     unfolding serverNumbers
     small-servers v [] u w h = tt
@@ -219,17 +259,20 @@ module _ (m : BlockModel) (tape : List (List ℕ)) (s : State) (proper : Proper 
       ),
     )
 
-    small-queues : (q : ℕ) (l : List Queue) → Each (λ (x : Queue). x .contentTicks ≤ 100000001 * s .view .clock) l → Each (λ (x : Queue). x .longest ≤ 100000001) l
+    small-queues : (q : ℕ) (l : List Queue) → Each (λ (x : Queue). x .contentTicks ≤ 100000001 * s .view .clock) l
+        → Each (λ (x : Queue). x .longest ≤ 100000001) l
         → Each Small (queueNumbers m (s .records) q l)
     unfolding queueNumbers
     small-queues q [] c h = tt
-    small-queues q (x ∷ l) c h =
-        (small-records 0 (λ f. eqb _ q), (ticks 100000001 _ (omega arith) (c .0), (omega arith, small-queues _ l (c .1) (h .1))))
+    small-queues q (x ∷ l) c h = (
+      small-records 0 (λ f. eqb (f .queue) q),
+      (ticks 100000001 _ (omega arith) (c .0), (omega (arith, h .0), small-queues (suc q) l (c .1) (h .1))),
+    )
 
     small-places : (l : List Place) → Each Short l → Each Small (placeNumbers l)
     unfolding placeNumbers
     small-places [] h = tt
-    small-places (p ∷ l) h = (omega arith, (omega arith, small-places l (h .1)))
+    small-places (p ∷ l) h = (omega (arith, h .0 .0), (omega (arith, h .0 .1), small-places l (h .1)))
 
     pub report-small : Each (λ (n : ℕ). n ≤ maxReportNumber) (reportNumbers m s)
     unfolding reportNumbers

@@ -1,5 +1,5 @@
 -- The living rows by rising number: keys that come into their place one after another rise, and weigh as the living rows do.
-use Rattle.machine.specs.All.{cases, ℕ, zero, suc, _+_, _*_, _%_, _≤_, _<_, ℕ-discrete, arith, _≡_, refl, sym, ap, ap₂, _∙_, subst, _≢_, Bool, true, false, cond, List, [], _∷_, _++_, leb-true, leb-false, leb, eqb, length, getD, set, length-set, getD-set-same, getD-set-other, Place, placeNumbers, Each}
+use Rattle.machine.specs.All.{ℕ, zero, suc, _+_, _*_, _%_, _≤_, _<_, ℕ-discrete, arith, _≡_, refl, sym, ap, ap₂, _∙_, subst, _≢_, Bool, true, false, cond, List, [], _∷_, _++_, leb-true, leb-false, leb, eqb, length, getD, set, length-set, getD-set-same, getD-set-other, Place, placeNumbers, Each}
 use Rattle.machine.proofs.{lists.Sums.sumOn, lists.Sums.sum-append, lists.Sorting.Rising}
 use Rattle.rows_laws.specs.All.{numberField, read, sumTo}
 use Rattle.rows_laws.proofs.Sums.{sum-suc, sum-ext, sum-zero}
@@ -51,7 +51,8 @@ sift-sum f x (suc i) l h =
         omega (
           arith,
           sum-suc (suc i) (λ k. f (getD (set l (suc i) x) k 0)),
-          sum-ext (suc i) (λ k. f (getD (set l (suc i) x) k 0)) (λ k. f (getD l k 0)) (λ k b. ap f (getD-set-other l (suc i) k x 0 (λ e. omega arith))),
+          sum-ext (suc i) (λ k. f (getD (set l (suc i) x) k 0)) (λ k. f (getD l k 0))
+              (λ k b. ap f (getD-set-other l (suc i) k x 0 (λ e. omega arith))),
           ap f (getD-set-same l (suc i) x 0 h),
         )
     go false ih =
@@ -61,7 +62,8 @@ sift-sum f x (suc i) l h =
           sum-suc (suc i) (λ k. f (getD (sift i x m) k 0)),
           ap f (sift-behind x i m (suc i) (omega arith)),
           ap f (getD-set-same l (suc i) (getD l i 0) 0 h),
-          sum-ext i (λ k. f (getD m k 0)) (λ k. f (getD l k 0)) (λ k b. ap f (getD-set-other l (suc i) k (getD l i 0) 0 (λ e. omega arith))),
+          sum-ext i (λ k. f (getD m k 0)) (λ k. f (getD l k 0))
+              (λ k b. ap f (getD-set-other l (suc i) k (getD l i 0) 0 (λ e. omega arith))),
           sum-suc i (λ k. f (getD l k 0)),
         )
 
@@ -83,7 +85,8 @@ sift-each P x (suc i) l h own all j b =
     go true (yes e) rest = subst P (sym (ap (λ k. getD (set l (suc i) x) k 0) e ∙ getD-set-same l (suc i) x 0 h)) own
     go true (no d) rest = subst P (sym (getD-set-other l (suc i) j x 0 d)) (all j (omega arith))
     go false (yes e) rest =
-        subst P (sym (ap (λ k. getD (sift i x m) k 0) e ∙ sift-behind x i m (suc i) (omega arith) ∙ getD-set-same l (suc i) (getD l i 0) 0 h))
+        subst P (sym (ap (λ k. getD (sift i x m) k 0) e ∙ sift-behind x i m (suc i) (omega arith)
+        ∙ getD-set-same l (suc i) (getD l i 0) 0 h))
         (all i (omega arith))
     go false (no d) rest = rest (omega arith)
 
@@ -130,7 +133,8 @@ sift-sorted x (suc i) l h new s a j lt b =
           ap (λ k. getD (sift i x m) k 0) q,
           sift-behind x i m (suc i) (omega arith),
           getD-set-same l (suc i) (getD l i 0) 0 h,
-          sift-each (λ y. y < getD l i 0) x i m room (leb-false _ _ e) (λ k c. omega (arith, kept k c, s k i c (omega arith))) a (omega arith),
+          sift-each (λ y. y < getD l i 0) x i m room (leb-false _ _ e) (λ k c. omega (arith, kept k c, s k i c (omega arith))) a
+              (omega arith),
         )
     go false e (no d) rest = rest (omega arith)
 
@@ -140,23 +144,26 @@ unfoldable pub listTo : ℕ → (ℕ → Place) → List Place
 listTo zero g = []
 listTo (suc n) g = listTo n g ++ (g n ∷ [])
 
+-- a list made place by place has the sums of its places,
 pub list-sum : (f : Place → ℕ) (n : ℕ) (g : ℕ → Place) → sumOn f (listTo n g) ≡ sumTo n (λ i. f (g i))
 unfolding listTo
-list-sum f zero g = sym (sum-zero 0 (λ i. f _) (λ k b. absurd (omega arith)))
+list-sum f zero g = sym (sum-zero 0 (λ i. f (g i)) (λ k b. absurd (omega arith)))
 list-sum f (suc n) g = omega (arith, sum-append f (listTo n g) (g n ∷ []), list-sum f n g, sum-suc n (λ i. f (g i)))
 
 numbers-append : (a b : List Place) → placeNumbers (a ++ b) ≡ placeNumbers a ++ placeNumbers b
 unfolding placeNumbers
 numbers-append [] b = refl
-numbers-append (p ∷ a) b = cc (numbers-append a b)
+numbers-append (p ∷ a) b = ap (λ (l : List ℕ). p .number ∷ p .place ∷ l) (numbers-append a b)
 
+-- their numbers,
 pub list-numbers : (n : ℕ) (g : ℕ → Place) → rowsTo n (λ i. placeNumbers (g i ∷ [])) ≡ placeNumbers (listTo n g)
 unfolding listTo
 list-numbers zero g = unfold rowsTo placeNumbers in refl
 list-numbers (suc n) g = go (list-numbers n g)
   where
-    go : rowsTo n (λ i. placeNumbers (g i ∷ [])) ≡ placeNumbers (listTo n g) → rowsTo (suc n) (λ i. placeNumbers (g i ∷ [])) ≡ placeNumbers (listTo n g ++ (g n ∷ []))
-    go ih = unfold rowsTo in (cc (ih, numbers-append (listTo n g) (g n ∷ [])))
+    go : rowsTo n (λ i. placeNumbers (g i ∷ [])) ≡ placeNumbers (listTo n g)
+        → rowsTo (suc n) (λ i. placeNumbers (g i ∷ [])) ≡ placeNumbers (listTo n g ++ (g n ∷ []))
+    go ih = unfold rowsTo in (ap (λ (l : List ℕ). l ++ placeNumbers (g n ∷ [])) ih ∙ sym (numbers-append (listTo n g) (g n ∷ [])))
 
 each-snoc : (P : Place → Type 0) (l : List Place) (p : Place) → Each P l → P p → Each P (l ++ (p ∷ []))
 each-snoc P [] p h own = (own, tt)
@@ -165,18 +172,20 @@ each-snoc P (q ∷ l) p h own = (h .0, each-snoc P l p (h .1) own)
 each-list : (P : Place → Type 0) (n : ℕ) (g : ℕ → Place) → ((i : ℕ) → i < n → P (g i)) → Each P (listTo n g)
 unfolding listTo
 each-list P zero g h = tt
-each-list P (suc n) g h = each-snoc P (listTo n g) _ (each-list P n g (λ i b. h i (omega arith))) (h n (omega arith))
+each-list P (suc n) g h = each-snoc P (listTo n g) (g n) (each-list P n g (λ i b. h i (omega arith))) (h n (omega arith))
 
-rising-snoc : (low : ℕ) (l : List Place) (p : Place) → Rising low l → low ≤ p .number → Each (λ q. q .number < p .number) l → Rising low (l ++ (p ∷ []))
+rising-snoc : (low : ℕ) (l : List Place) (p : Place) → Rising low l → low ≤ p .number → Each (λ q. q .number < p .number) l
+    → Rising low (l ++ (p ∷ []))
 unfolding Rising
 rising-snoc low [] p r h e = (h, tt)
-rising-snoc low (q ∷ l) p r h e = (r .0, rising-snoc _ l p (r .1) (omega arith) (e .1))
+rising-snoc low (q ∷ l) p r h e = (r .0, rising-snoc (suc (q .number)) l p (r .1) (omega (arith, e .0)) (e .1))
 
+-- and rises where they do
 pub list-rising : (n : ℕ) (g : ℕ → Place) → ((i j : ℕ) → i < j → j < n → g i .number < g j .number) → Rising 0 (listTo n g)
 unfolding listTo
 list-rising zero g h = unfold Rising in tt
 list-rising (suc n) g h =
-    rising-snoc 0 _ _ (list-rising n g (λ i j a b. h i j a (omega arith))) (omega arith)
+    rising-snoc 0 (listTo n g) (g n) (list-rising n g (λ i j a b. h i j a (omega arith))) (omega arith)
     (each-list (λ q. q .number < g n .number) n g (λ i b. h i n b (omega arith)))
 
 -- ---- All rows
@@ -213,10 +222,11 @@ module _ (w : List ℕ) (moving : ℕ) where
       ranked : dead n ≡ false → living (suc n) ≡ suc (living n) → keys (suc n) ≡ sift (living n) (keyOf w n) (keys n) → Step n
 
     step : (n : ℕ) → Step n
-    step n =
-        cases _
-        (λ e. passed e (omega (arith, sum-suc n (lives w moving), lives-dead n e)) (unfold rankTo rankOne in (rw lives-dead)))
-        (λ e. ranked e (omega (arith, sum-suc n (lives w moving), lives-one n e)) (unfold rankTo rankOne in (rw lives-one)))
+    step n = go (dead n) refl
+      where
+        go : (t : Bool) → dead n ≡ t → Step n
+        go true e = passed e (omega (arith, sum-suc n (lives w moving), lives-dead n e)) (unfold rankTo rankOne in (rw (lives-dead n e)))
+        go false e = ranked e (omega (arith, sum-suc n (lives w moving), lives-one n e)) (unfold rankTo rankOne in (rw (lives-one n e)))
 
     few : (n : ℕ) → living n ≤ n
     few zero = omega (arith, sum-zero 0 (lives w moving) (λ k b. absurd (omega arith)))
@@ -231,8 +241,8 @@ module _ (w : List ℕ) (moving : ℕ) where
     rank-length (suc n) = go (step n) (rank-length n)
       where
         go : Step n → length (keys n) ≡ 1024 → length (keys (suc n)) ≡ 1024
-        go (passed e c k) h = cc (k, h)
-        go (ranked e c k) h = cc (k, sift-length (keyOf w n) (living n) (keys n), h)
+        go (passed e c k) h = ap length k ∙ h
+        go (ranked e c k) h = ap length k ∙ sift-length (keyOf w n) (living n) (keys n) ∙ h
 
     -- the row of key i, as a place
     abbrev placed : ℕ → ℕ → Place
@@ -240,16 +250,26 @@ module _ (w : List ℕ) (moving : ℕ) where
 
     rank-sum : (f : Place → ℕ) (n : ℕ) → n ≤ 1024 → sumTo (living n) (λ i. f (placed n i)) ≡ sumTo n (weight f)
     rank-sum f zero h =
-        cc (sum-zero 0 (lives w moving) (λ k b. absurd (omega arith)), sum-zero 0 (λ i. f (placed 0 i)) (λ k b. absurd (omega arith)), sum-zero 0 (weight f) (λ k b. absurd (omega arith)))
+        ap (λ c. sumTo c (λ i. f (placed 0 i))) (sum-zero 0 (lives w moving) (λ k b. absurd (omega arith)))
+        ∙ sum-zero 0 (λ i. f (placed 0 i)) (λ k b. absurd (omega arith))
+        ∙ sym (sum-zero 0 (weight f) (λ k b. absurd (omega arith)))
     rank-sum f (suc n) h = go (step n) (rank-sum f n (omega arith))
       where
         over : ℕ → List ℕ → ℕ
         over c m = sumTo c (λ i. f (placeAt w moving (getD m i 0 % 1024)))
 
         go : Step n → over (living n) (keys n) ≡ sumTo n (weight f) → over (living (suc n)) (keys (suc n)) ≡ sumTo (suc n) (weight f)
-        go (passed e c k) ih = omega (arith, ap₂ over c k, sum-suc n (weight f), ap (λ t. cond t 0 (f (placeAt w moving n))) e)
+        go (passed e c k) ih = omega (arith, ap₂ over c k, ih, sum-suc n (weight f), ap (λ t. cond t 0 (f (placeAt w moving n))) e)
         go (ranked e c k) ih =
-            omega (arith, ap₂ over c k, sift-sum (λ y. f (placeAt w moving (y % 1024))) (keyOf w n) (living n) (keys n) (omega (arith, few n, rank-length n)), ap (λ r. f (placeAt w moving r)) (key-row n h), sum-suc n (weight f), ap (λ t. cond t 0 (f (placeAt w moving n))) e)
+            omega (
+              arith,
+              ap₂ over c k,
+              ih,
+              sift-sum (λ y. f (placeAt w moving (y % 1024))) (keyOf w n) (living n) (keys n) (omega (arith, few n, rank-length n)),
+              ap (λ r. f (placeAt w moving r)) (key-row n h),
+              sum-suc n (weight f),
+              ap (λ t. cond t 0 (f (placeAt w moving n))) e,
+            )
 
     -- a key of one of the first n rows, which lives
     record Key (n y : ℕ) : Type 0 where
@@ -290,28 +310,31 @@ module _ (w : List ℕ) (moving : ℕ) where
     abbrev pub ranking : ℕ → Place
     ranking i = placed 1024 i
 
+    -- the ranking holds everybody once, whatever is summed
     pub ranking-sum : (f : Place → ℕ) → sumOn f (listTo (living 1024) ranking) ≡ all f
-    ranking-sum f = list-sum f _ ranking ∙ rank-sum f 1024 (omega arith)
+    ranking-sum f = list-sum f (living 1024) ranking ∙ rank-sum f 1024 (omega arith)
 
-    module _ (apart : (j k : ℕ) → j < 1024 → k < 1024 → dead j ≡ false → dead k ≡ false → read w numberField j ≡ read w numberField k → j ≡ k) where
+    module _ (apart : (j k : ℕ) → j < 1024 → k < 1024 → dead j ≡ false → dead k ≡ false → read w numberField j ≡ read w numberField k
+        → j ≡ k) where
       rises : (i j : ℕ) → i < j → j < living 1024 → ranking i .number < ranking j .number
       rises i j a b = go (ranks 1024 (omega arith) i (omega arith)) (ranks 1024 (omega arith) j b)
         where
           number : (o : ℕ) → (k : Key 1024 (getD (keys 1024) o 0)) → ranking o .number ≡ read w numberField (k .row)
-          number o k = unfold placeAt in (cc (k .is, key-row (k .row) (k .below)))
+          number o k = unfold placeAt in (ap (λ r. read w numberField r) (ap (λ y. y % 1024) (k .is) ∙ key-row (k .row) (k .below)))
 
           value : (r : ℕ) → keyOf w r ≡ read w numberField r * 1024 + r
           value r = unfold keyOf in refl
 
           go : Key 1024 (getD (keys 1024) i 0) → Key 1024 (getD (keys 1024) j 0) → ranking i .number < ranking j .number
-          go p q = other (ℕ-discrete _ _)
+          go p q = other (ℕ-discrete (read w numberField (p .row)) (read w numberField (q .row)))
             where
               lt : keyOf w (p .row) < keyOf w (q .row)
-              lt = omega (arith, sorted 1024 (omega arith) i j a b, q .is)
+              lt = omega (arith, sorted 1024 (omega arith) i j a b, p .is, q .is)
 
               other : Dec (read w numberField (p .row) ≡ read w numberField (q .row)) → ranking i .number < ranking j .number
-              other (yes e) = absurd (omega (arith, lt, ap (keyOf w) (apart _ _ (p .below) (q .below) (p .lives) (q .lives) e)))
-              other (no d) = omega (arith, number i p, number j q, lt, value (p .row), value (q .row), q .below)
+              other (yes e) =
+                  absurd (omega (arith, lt, ap (keyOf w) (apart (p .row) (q .row) (p .below) (q .below) (p .lives) (q .lives) e)))
+              other (no d) = omega (arith, number i p, number j q, lt, value (p .row), value (q .row), p .below, q .below)
 
       pub ranking-rises : Rising 0 (listTo (living 1024) ranking)
-      ranking-rises = list-rising _ ranking rises
+      ranking-rises = list-rising (living 1024) ranking rises

@@ -1,5 +1,5 @@
 -- Numbers written one after another, and one more turn of each loop, as the functions' proofs need them.
-use Rattle.machine.specs.All.{cases, ℕ, suc, _+_, _-_, min, _≤_, _<_, _≡_, refl, sym, ap, _∙_, eqb, List, [], _∷_, _++_, add-one, arith, le-leb, lt-leb, getD, set}
+use Rattle.machine.specs.All.{ℕ, suc, _+_, _-_, min, _≤_, _<_, _≡_, refl, sym, ap, _∙_, eqb, List, [], _∷_, _++_, add-one, arith, le-leb, lt-leb, getD, set, Bool, true, false, cond}
 use Rattle.rows_laws.specs.All.{sumTo}
 use Rattle.report_laws.specs.{Written, put, putAll, share, total, rowsTo, placeOf, lives, sift, rankOne, rankTo}
 
@@ -12,13 +12,14 @@ putAll-cons v l w = refl
 pub putAll-append : (a b : List ℕ) (w : Written) → putAll (a ++ b) w ≡ putAll b (putAll a w)
 unfolding putAll
 putAll-append [] b w = refl
-putAll-append (v ∷ a) b w = putAll-append a b _
+putAll-append (v ∷ a) b w = putAll-append a b (put v w)
 
+-- four parts, one after the other
 pub putAll-parts : (a b c d : List ℕ) (w : Written) → putAll (a ++ (b ++ (c ++ d))) w ≡ putAll d (putAll c (putAll b (putAll a w)))
 putAll-parts a b c d w =
-    putAll-append a _ w
-    ∙ putAll-append b _ _
-    ∙ putAll-append c d _
+    putAll-append a (b ++ (c ++ d)) w
+    ∙ putAll-append b (c ++ d) (putAll a w)
+    ∙ putAll-append c d (putAll b (putAll a w))
 
 -- ---- Counts
 
@@ -26,6 +27,7 @@ pub total-none : (tables tally : List ℕ) (first second third index base : ℕ)
 unfolding total
 total-none tables tally first second third index base = refl
 
+-- one more block, and no sum passes 64 bits
 pub total-next : (tables tally : List ℕ) (first second third index base n : ℕ) →
     total tables tally first second third index base (n + 1)
     ≡ min (total tables tally first second third index base n + share tables tally first second third index base n) 18446744073709551615
@@ -46,19 +48,24 @@ rows-none f w = refl
 
 pub rows-next : (n : ℕ) (f : ℕ → List ℕ) (w : Written) → putAll (rowsTo (n + 1) f) w ≡ putAll (f n) (putAll (rowsTo n f) w)
 unfolding rowsTo
-rows-next n f w = rw add-one (putAll-append _ _ w)
+rows-next n f w = rw add-one (putAll-append (rowsTo n f) (f n) w)
 
 -- ---- The living
 
 module _ (w : List ℕ) (moving : ℕ) where
   pub lives-most : (k : ℕ) → lives w moving k ≤ 1
   unfolding lives
-  lives-most k = cases (eqb (placeOf w moving k) 0) (λ e. rw e (omega arith)) (λ e. rw e (omega arith))
+  lives-most k = go (eqb (placeOf w moving k) 0)
+    where
+      go : (t : Bool) → cond t 0 1 ≤ 1
+      go true = omega arith
+      go false = omega arith
 
   pub rank-none : (l : List ℕ) → l ≡ rankTo w moving 0 l
   unfolding rankTo
   rank-none l = refl
 
+  -- one more row is ranked if it lives
   pub rank-next : (n : ℕ) (l : List ℕ) → rankTo w moving (n + 1) l ≡ rankOne w moving (sumTo n (lives w moving)) n (rankTo w moving n l)
   unfolding rankTo
   rank-next n l = rw add-one
@@ -77,6 +84,7 @@ module _ (x i : ℕ) (l : List ℕ) where
         here : set l (suc (i - 1)) x ≡ sift (suc (i - 1)) x l
         here = unfold sift in (rw (le-leb _ _ h))
 
+    -- the next row of the ranking moves up by one place
     pub sift-next : x < getD l (i - 1) 0 → sift (i - 1) x (set l i (getD l (i - 1) 0)) ≡ sift i x l
     sift-next h = ap (λ n. sift (i - 1) x (set l n (getD l (i - 1) 0))) one-more ∙ next ∙ ap (λ n. sift n x l) (sym one-more)
       where

@@ -13,6 +13,7 @@ livingNumbers w moving =
 unfoldable pub rowNumbers : Model → (tables tally work : List ℕ) → Scalars → List ℕ
 rowNumbers model tables tally work x =
     (x .clock ∷ x .made ∷ x .ended ∷ [])
-    ++ (rowsTo (min (model .facilities) maxFacilities + min (model .storages) maxStorages) (serverRow tables tally (x .clock) (min (model .blocks) maxBlocks))
+    ++ (rowsTo (min (model .facilities) maxFacilities + min (model .storages) maxStorages)
+    (serverRow tables tally (x .clock) (min (model .blocks) maxBlocks))
     ++ (rowsTo (min (model .queues) maxQueues) (queueRow tables tally (x .clock) (min (model .blocks) maxBlocks))
     ++ livingNumbers work (x .moving)))
