@@ -1,5 +1,5 @@
 -- A curve's points, pure: read one after the other, and what they stand for when all were taken.
-use Rattle.machine.specs.All.{cases, ℕ, zero, suc, _+_, _-_, _≤_, _<_, arith, Bool, true, false, List, [], _∷_, Option, none, some, _≡_, refl, ap, _∙_, eqb, length, le-leb, lt-leb, lt-ltb, le-ltb, ltb-true, leb-true, eq-eqb, ne-eqb, eqb-true}
+use Rattle.machine.specs.All.{cases, ℕ, zero, suc, _+_, _-_, _≤_, _<_, arith, Bool, true, false, List, [], _∷_, Option, none, some, _≡_, refl, ap, _∙_, eqb, length, le-leb, lt-leb, lt-ltb, le-ltb, ltb-true, leb-true, eq-eqb, ne-eqb, eqb-true, cond, sym, subst}
 use lib.Ieee.{Float}
 use Rattle.floats.specs.Limits.{drawParts}
 use Rattle.codec.proofs.Fields.{both-true}
@@ -19,6 +19,7 @@ module _ (numbers : List Float) (at : ℕ) where
     unfolding pointAt continue
     point-no-time f = rw (e, f)
 
+    -- a point is a u and a time
     pub point-taken : {time : ℕ} → timeAt numbers (at + 1) ≡ some time → some (corner u time) ≡ pointAt numbers at
     unfolding pointAt continue
     point-taken f = rw (e, f)
@@ -26,7 +27,7 @@ module _ (numbers : List Float) (at : ℕ) where
   -- what a point that was taken stands for
   pub point-is : (p : Point) → pointAt numbers at ≡ some p → PointIs numbers at p
   unfolding pointAt continue
-  point-is p e = go _ refl e
+  point-is p e = go (uAt numbers at) refl e
     where
       timed : (u : ℕ) → uAt numbers at ≡ some u → (o : Option ℕ) → timeAt numbers (at + 1) ≡ o →
           continue o (λ time. some (corner u time)) ≡ some p → PointIs numbers at p
@@ -34,9 +35,10 @@ module _ (numbers : List Float) (at : ℕ) where
       timed u f (some time) g h =
           let same : corner u time ≡ p = cc in
           let is-u = u-is numbers at f in
-          let is-time = time-is numbers _ g in
-          rw (← same) (record {
-            inside = time-inside numbers _ g;
+          let is-time = time-is numbers (at + 1) g in
+          subst (λ (q : Point). PointIs numbers at q) same
+          (record {
+            inside = time-inside numbers (at + 1) g;
             u-is = is-u .0;
             time-is = is-time .0;
             u-most = is-u .1;
@@ -46,16 +48,16 @@ module _ (numbers : List Float) (at : ℕ) where
       go : (o : Option ℕ) → uAt numbers at ≡ o →
           continue o (λ u. continue (timeAt numbers (at + 1)) (λ time. some (corner u time))) ≡ some p → PointIs numbers at p
       go none f h = none-some h
-      go (some u) f h = timed u f _ refl h
+      go (some u) f h = timed u f (timeAt numbers (at + 1)) refl h
 
 -- what an answer says
 pub pointed : {r : Corner} {o : Option Point} {u time : ℕ} → pointOf r ≡ o → r ≡ At u time → o ≡ some (corner u time)
 unfolding pointOf
-pointed e h = cc
+pointed e h = sym e ∙ ap pointOf h
 
 pub unpointed : {r : Corner} {o : Option Point} → pointOf r ≡ o → r ≡ Unread → o ≡ none
 unfolding pointOf
-unpointed e h = cc
+unpointed e h = sym e ∙ ap pointOf h
 
 pub no-point : {A : Type 0} {u time : ℕ} → Unread ≡ At u time → A
 no-point e = let z : _≡_ {A = ℕ} 0 1 = cc in absurd (omega arith)
@@ -73,18 +75,20 @@ module _ (numbers : List Float) (at : ℕ) (p : Point) where
   module _ {q : Point} (e : pointAt numbers at ≡ some q) where
     pub step-back : q .u ≤ p .u → none ≡ stepOf numbers at p
     unfolding stepOf continue follows ask
-    step-back h = rw (e, le-ltb)
+    step-back h = rw (e, le-ltb (p .u) (q .u) h)
 
     pub step-falls : p .u < q .u → q .time < p .time → none ≡ stepOf numbers at p
     unfolding stepOf continue follows ask
-    step-falls h k = rw (e, lt-ltb, lt-leb)
+    step-falls h k = rw (e, lt-ltb (p .u) (q .u) h, lt-leb (p .time) (q .time) k)
 
+    -- the next point lies further on, and not lower
     pub step-taken : p .u < q .u → p .time ≤ q .time → some q ≡ stepOf numbers at p
     unfolding stepOf continue follows ask
-    step-taken h k = rw (e, lt-ltb, le-leb)
+    step-taken h k = rw (e, lt-ltb (p .u) (q .u) h, le-leb (p .time) (q .time) k)
 
   -- with a step the points behind go on
-  behind : (left : ℕ) → pointsBehind numbers (suc left) at p ≡ continue (stepOf numbers at p) (λ q. continue (pointsBehind numbers left (at + 2) q) (λ l. some (q ∷ l)))
+  behind : (left : ℕ) → pointsBehind numbers (suc left) at p
+      ≡ continue (stepOf numbers at p) (λ q. continue (pointsBehind numbers left (at + 2) q) (λ l. some (q ∷ l)))
   unfolding pointsBehind stepOf continue
   behind left = go (pointAt numbers at)
     where
@@ -96,14 +100,15 @@ module _ (numbers : List Float) (at : ℕ) (p : Point) where
 
       go : (o : Option Point) →
           continue o (λ q. continue (ask (follows p q)) (λ a. continue (pointsBehind numbers left (at + 2) q) (λ l. some (q ∷ l))))
-          ≡ continue (continue o (λ q. continue (ask (follows p q)) (λ a. some q))) (λ q. continue (pointsBehind numbers left (at + 2) q) (λ l. some (q ∷ l)))
+          ≡ continue (continue o (λ q. continue (ask (follows p q)) (λ a. some q)))
+          (λ q. continue (pointsBehind numbers left (at + 2) q) (λ l. some (q ∷ l)))
       go none = refl
-      go (some q) = asked q (ask _)
+      go (some q) = asked q (ask (follows p q))
 
   pub behind-stops : (left : ℕ) → stepOf numbers at p ≡ none → 0 < left → false ≡ isGiven (pointsBehind numbers left at p)
   unfolding continue isGiven
   behind-stops zero e h = absurd (omega arith)
-  behind-stops (suc left) e h = rw (behind, e)
+  behind-stops (suc left) e h = rw (behind left, e)
 
   pub behind-goes : (left : ℕ) (q : Point) → stepOf numbers at p ≡ some q → 0 < left →
       isGiven (pointsBehind numbers (left - 1) (at + 2) q) ≡ isGiven (pointsBehind numbers left at p)
@@ -111,16 +116,22 @@ module _ (numbers : List Float) (at : ℕ) (p : Point) where
   behind-goes zero q e h = absurd (omega arith)
   behind-goes (suc left) q e h =
       let one : suc left - 1 ≡ left = omega arith in
-      ap (λ n. isGiven (pointsBehind numbers n (at + 2) q)) one
-      ∙ rw (behind, e) (same (pointsBehind numbers left _ q))
+      ap (λ (n : ℕ). isGiven (pointsBehind numbers n (at + 2) q)) one
+      ∙ rw (behind left, e) (same (pointsBehind numbers left (at + 2) q))
     where
       same : (o : Option (List Point)) → isGiven o ≡ isGiven (continue o (λ l. some (q ∷ l)))
       same none = refl
       same (some l) = refl
 
-pub behind-ends : (numbers : List Float) (left at : ℕ) (p : Point) → left ≤ 0 → eqb (p .u) drawParts ≡ isGiven (pointsBehind numbers left at p)
+step-facts : (p q : Point) → follows p q ≡ true → (p .u < q .u) × (p .time ≤ q .time)
+unfolding follows
+step-facts p q e = let t = both-true _ _ e in (ltb-true _ _ (t .0), leb-true _ _ (t .1))
+
+-- the last u of a curve is 1
+pub behind-ends : (numbers : List Float) (left at : ℕ) (p : Point) → left ≤ 0
+    → eqb (p .u) drawParts ≡ isGiven (pointsBehind numbers left at p)
 unfolding pointsBehind continue ask isGiven
-behind-ends numbers zero at p h = go _
+behind-ends numbers zero at p h = go (eqb (p .u) drawParts)
   where
     go : (t : Bool) → t ≡ isGiven {A = List Point} (continue (ask t) (λ a. some []))
     go true = refl
@@ -130,8 +141,11 @@ behind-ends numbers (suc left) at p h = absurd (omega arith)
 -- ---- What the points stand for
 
 abbrev Rest : List Float → ℕ → ℕ → Type 0
-Rest numbers left at = (q : Point) (m : List Point) → PointIs numbers (at + 2) q → pointsBehind numbers left (at + 2 + 2) q ≡ some m → Points numbers (at + 2) q m
+Rest numbers left at =
+    (q : Point) (m : List Point) → PointIs numbers (at + 2) q → pointsBehind numbers left (at + 2 + 2) q ≡ some m
+    → Points numbers (at + 2) q m
 
+-- points that are accepted stand in the numbers as doubles of their values
 pub behind-points : (numbers : List Float) (left at : ℕ) (p : Point) (l : List Point) → PointIs numbers at p →
     pointsBehind numbers left (at + 2) p ≡ some l → Points numbers at p l
 unfolding pointsBehind continue ask
@@ -142,7 +156,8 @@ behind-points numbers zero at p l is e =
     (λ f. none-some (rw f at e))
 behind-points numbers (suc left) at p l is e = found (λ q m. behind-points numbers left _ q m) _ refl e
   where
-    behind-it : Rest numbers left at → (q : Point) → pointAt numbers (at + 2) ≡ some q → (p .u < q .u) × (p .time ≤ q .time) → (o : Option (List Point)) →
+    behind-it : Rest numbers left at → (q : Point) → pointAt numbers (at + 2) ≡ some q → (p .u < q .u) × (p .time ≤ q .time)
+        → (o : Option (List Point)) →
         pointsBehind numbers left (at + 2 + 2) q ≡ o → continue o (λ m. some (q ∷ m)) ≡ some l → Points numbers at p l
     behind-it rest q f steps none g h = none-some h
     behind-it rest q f steps (some m) g h =
@@ -152,53 +167,62 @@ behind-points numbers (suc left) at p l is e = found (λ q m. behind-points numb
     asked : Rest numbers left at → (q : Point) → pointAt numbers (at + 2) ≡ some q → (t : Bool) → follows p q ≡ t →
         continue (ask t) (λ a. continue (pointsBehind numbers left (at + 2 + 2) q) (λ m. some (q ∷ m))) ≡ some l → Points numbers at p l
     asked rest q f false g h = none-some h
-    asked rest q f true g h = behind-it rest q f (unfold follows in let t = both-true _ _ g in (ltb-true _ _ (t .0), leb-true _ _ (t .1))) _ refl h
+    asked rest q f true g h =
+        behind-it rest q f (unfold follows in let t = both-true _ _ g in (ltb-true _ _ (t .0), leb-true _ _ (t .1))) _ refl h
 
     found : Rest numbers left at → (o : Option Point) → pointAt numbers (at + 2) ≡ o →
-        continue o (λ q. continue (ask (follows p q)) (λ a. continue (pointsBehind numbers left (at + 2 + 2) q) (λ m. some (q ∷ m)))) ≡ some l → Points numbers at p l
+        continue o (λ q. continue (ask (follows p q)) (λ a. continue (pointsBehind numbers left (at + 2 + 2) q) (λ m. some (q ∷ m))))
+        ≡ some l → Points numbers at p l
     found rest none f h = none-some h
     found rest (some q) f h = asked rest q f _ refl h
 
 -- ---- The curve
 
 module _ (numbers : List Float) (first points : ℕ) where
+  -- the questions to a curve in their order: too few points,
   pub curve-few : points < fewestPoints → Chosen numbers Refused (curveAt numbers first points)
   unfolding curveAt continue ask
-  curve-few h = rw lt-leb tt
+  curve-few h = rw (lt-leb fewestPoints points h) tt
 
   module _ (some-points : fewestPoints ≤ points) where
+    -- too many,
     pub curve-many : mostPoints < points → Chosen numbers Refused (curveAt numbers first points)
     unfolding curveAt continue ask
-    curve-many h = rw (le-leb, lt-leb) tt
+    curve-many h = rw (le-leb fewestPoints points some-points, lt-leb points mostPoints h) tt
 
     module _ (few : points ≤ mostPoints) where
+      -- no first point,
       pub curve-no-point : pointAt numbers first ≡ none → Chosen numbers Refused (curveAt numbers first points)
       unfolding curveAt continue ask
-      curve-no-point e = rw (le-leb, le-leb, e) tt
+      curve-no-point e = rw (le-leb fewestPoints points some-points, le-leb points mostPoints few, e) tt
 
       module _ {p : Point} (e : pointAt numbers first ≡ some p) where
+        -- a first u that is not 0,
         pub curve-late : (p .u ≡ 0 → ⊥) → Chosen numbers Refused (curveAt numbers first points)
         unfolding curveAt continue ask
-        curve-late h = rw (le-leb, le-leb, e, ne-eqb) tt
+        curve-late h = rw (le-leb fewestPoints points some-points, le-leb points mostPoints few, e, ne-eqb (p .u) 0 h) tt
 
         module _ (start : p .u ≡ 0) where
           rest : curveAt numbers first points ≡ continue (pointsBehind numbers (points - 1) (first + 2) p) (λ l. some (curve p l))
           unfolding curveAt continue ask
-          rest = rw (le-leb, le-leb, e, eq-eqb)
+          rest = rw (le-leb fewestPoints points some-points, le-leb points mostPoints few, e, eq-eqb (p .u) 0 start)
 
-          pub curve-broken : false ≡ isGiven (pointsBehind numbers (points - 1) (first + 2) p) → Chosen numbers Refused (curveAt numbers first points)
+          -- a point that does not rise, or a last u that is not 1
+          pub curve-broken : false ≡ isGiven (pointsBehind numbers (points - 1) (first + 2) p)
+              → Chosen numbers Refused (curveAt numbers first points)
           unfolding continue isGiven
-          curve-broken h = rw rest (go (pointsBehind numbers _ _ p) h)
+          curve-broken h = rw rest (go (pointsBehind numbers (points - 1) (first + 2) p) h)
             where
               go : (o : Option (List Point)) → false ≡ isGiven o → Chosen numbers Refused (continue o (λ l. some (curve p l)))
               go none h = tt
-              go (some l) h = let z : _≡_ {A = ℕ} 0 1 = cc h in absurd (omega arith)
+              go (some l) h = let z : _≡_ {A = ℕ} 0 1 = ap (λ (b : Bool). cond b 1 0) h in absurd (omega arith)
 
-          pub curve-taken : true ≡ isGiven (pointsBehind numbers (points - 1) (first + 2) p) → Chosen numbers (Taken (Curve first)) (curveAt numbers first points)
+          pub curve-taken : true ≡ isGiven (pointsBehind numbers (points - 1) (first + 2) p)
+              → Chosen numbers (Taken (Curve first)) (curveAt numbers first points)
           unfolding continue isGiven
-          curve-taken h = rw rest (go _ refl h)
+          curve-taken h = rw rest (go (pointsBehind numbers (points - 1) (first + 2) p) refl h)
             where
               go : (o : Option (List Point)) → pointsBehind numbers (points - 1) (first + 2) p ≡ o → true ≡ isGiven o →
                   Chosen numbers (Taken (Curve first)) (continue o (λ l. some (curve p l)))
-              go none f h = let z : _≡_ {A = ℕ} 0 1 = cc h in absurd (omega arith)
-              go (some l) f h = (start, behind-points numbers _ first p l (point-is numbers first p e) f)
+              go none f h = let z : _≡_ {A = ℕ} 0 1 = ap (λ (b : Bool). cond b 1 0) (sym h) in absurd (omega arith)
+              go (some l) f h = (start, behind-points numbers (points - 1) first p l (point-is numbers first p e) f)

@@ -1,5 +1,5 @@
 -- A draw, pure: the walk to the segment around u, and the time that each kind of distribution gives.
-use Rattle.machine.specs.All.{ℕ, _+_, _≤_, _<_, arith, true, false, List, [], _∷_, _≡_, refl, _∙_, ltb, length, getD, lt-ltb, le-ltb, ltb-true, ltb-false}
+use Rattle.machine.specs.All.{ℕ, _+_, _≤_, _<_, arith, true, false, List, [], _∷_, _≡_, refl, _∙_, ltb, length, getD, lt-ltb, le-ltb, ltb-true, ltb-false, sym}
 use lib.Ieee.{Float, nan, lt}
 use lib.Pow.{pow-pos}
 use Rattle.floats.specs.{declared.Segment.Segment, Limits.timeParts, Limits.drawParts, Value.Is, Value.wholePart}
@@ -24,7 +24,9 @@ pub record Here (numbers : List Float) (at : ℕ) (p : Point) (l : List Point) (
   pub from : first .u ≤ v
   pub same : around p l v ≡ around first others v
 
-pub here-start : (numbers : List Float) (at : ℕ) (p : Point) (l : List Point) (v : ℕ) → Points numbers at p l → p .u ≤ v → Here numbers at p l v
+-- the walk along a curve begins with its first point,
+pub here-start : (numbers : List Float) (at : ℕ) (p : Point) (l : List Point) (v : ℕ) → Points numbers at p l → p .u ≤ v
+    → Here numbers at p l v
 here-start numbers at p l v points from = record { first = p; others = l; points = points; from = from; same = refl }
 
 -- the segment that begins at an index
@@ -37,7 +39,8 @@ segmentAt numbers at =
       time1 = getD numbers (at + 3) nan;
     }
 
-module _ (numbers : List Float) (at : ℕ) (p : Point) (l : List Point) (v : ℕ) (u : Float) (inside : v < drawParts) (is : Is u v drawParts) where
+module _ (numbers : List Float) (at : ℕ) (p : Point) (l : List Point) (v : ℕ) (u : Float) (inside : v < drawParts)
+    (is : Is u v drawParts) where
   -- the next point, which there is
   record Next : Type 0 where
     pub start : Point
@@ -51,10 +54,10 @@ module _ (numbers : List Float) (at : ℕ) (p : Point) (l : List Point) (v : ℕ
     pub same : around p l v ≡ around start (end ∷ rest) v
 
   next-point : Here numbers at p l v → Next
-  next-point h = go _ _ (h .points) (h .from) (h .same)
+  next-point h = go (h .first) (h .others) (h .points) (h .from) (h .same)
     where
       go : (q : Point) (m : List Point) → Points numbers at q m → q .u ≤ v → around p l v ≡ around q m v → Next
-      go q [] points from same = absurd (omega arith)
+      go q [] points from same = absurd (omega (arith, points .1))
       go q (r ∷ m) points from same =
           record {
             start = q;
@@ -62,15 +65,16 @@ module _ (numbers : List Float) (at : ℕ) (p : Point) (l : List Point) (v : ℕ
             rest = m;
             start-is = points .0;
             steps = points .1;
-            end-is = head-point numbers _ r m (points .2);
+            end-is = head-point numbers (at + 2) r m (points .2);
             points = points .2;
             from = from;
             same = same;
           }
 
   compared : (n : Next) → lt u (getD numbers (at + 2) nan) ≡ ltb v (n .end .u)
-  compared n = order-is u _ v _ drawParts (pow-pos 16) is (n .end-is .u-is)
+  compared n = order-is u (getD numbers (at + 2) nan) v (n .end .u) drawParts (pow-pos 16) is (n .end-is .u-is)
 
+  -- stops at the segment around u,
   pub here-stops : Here numbers at p l v → lt u (getD numbers (at + 2) nan) ≡ true → Surrounds (segmentAt numbers at) (around p l v) v
   unfolding around
   here-stops h t =
@@ -94,17 +98,18 @@ module _ (numbers : List Float) (at : ℕ) (p : Point) (l : List Point) (v : ℕ
         to-least = omega arith;
       })
 
+  -- and else goes one point on
   pub here-goes : Here numbers at p l v → lt u (getD numbers (at + 2) nan) ≡ false → Here numbers (at + 2) p l v
   unfolding around
   here-goes h t =
       let n = next-point h in
-      let past = ltb-false v (n .end .u) (cc (compared n, t)) in
+      let past : n .end .u ≤ v = ltb-false v (n .end .u) (sym (compared n) ∙ t) in
       record {
         first = n .end;
         others = n .rest;
         points = n .points;
         from = past;
-        same = n .same ∙ rw le-ltb;
+        same = n .same ∙ rw (le-ltb v (n .end .u) past);
       }
 
   pub here-inside : Here numbers at p l v → at + 3 < length numbers
@@ -118,6 +123,7 @@ unfolding drawOf
 draw-inside h = omega arith
 
 module _ (numbers : List Float) (d : Distribution) (s : Source) (state : ℕ) (meant : Meant numbers d s) where
+  -- a fixed time draws nothing: its whole part, and the state stays
   pub fixed-drawn : (x : Float) → d ≡ Fixed x → (wholePart x ≡ timeOf s state) × (state ≡ after s state)
   unfolding timeOf after
   fixed-drawn x e = go s (rw e at meant)
@@ -144,7 +150,8 @@ module _ (numbers : List Float) (d : Distribution) (s : Source) (state : ℕ) (m
         go (curve p l) h = absurd h
 
     pub curve-drawn : (first : ℕ) (seg : Segment) (z : Float) → d ≡ Curve first →
-        ((p : Point) (l : List Point) (v : ℕ) → Points numbers first p l → p .u ≤ v → v < drawParts → Is u v drawParts → Surrounds seg (around p l v) v) →
+        ((p : Point) (l : List Point) (v : ℕ) → Points numbers first p l → p .u ≤ v → v < drawParts → Is u v drawParts
+        → Surrounds seg (around p l v) v) →
         ((v0 t0 v1 t1 v : ℕ) → Ends (seg .u0) (seg .time0) (seg .u1) (seg .time1) v0 t0 v1 t1 → Is u v drawParts → v0 ≤ v → v ≤ v1 →
         OnLine z (lineOver v0 t0 v1 t1 v) (lineUnder v0 v1)) →
         (wholePart z ≡ timeOf s state) × (r ≡ after s state)

@@ -13,11 +13,13 @@ module _ (lists : List ℕ) (numbers : List Float) (k : ℕ) where
   abbrev source : Option Source
   source = sourceAt numbers (getD lists (k * 4) 0) (getD lists (k * 4 + 2) 0) (getD lists (k * 4 + 3) 0)
 
+  -- more than 65,535 times
   pub row-many : mostTimes < count → Listing numbers Barred (listAt lists numbers k)
   unfolding listAt continue ask
-  row-many h = rw lt-leb tt
+  row-many h = rw (lt-leb count mostTimes h) tt
 
   module _ (h : count ≤ mostTimes) (r : Choice) where
+    -- a distribution that is refused
     pub row-refused : Chosen numbers r source → r ≡ Refused → Listing numbers Barred (listAt lists numbers k)
     unfolding listAt continue ask
     row-refused chosen e =
@@ -29,6 +31,7 @@ module _ (lists : List ℕ) (numbers : List Float) (k : ℕ) where
         go none t = tt
         go (some s) t = t
 
+    -- a list that is given
     pub row-taken : Chosen numbers r source → (d : Distribution) → r ≡ Taken d → Listing numbers (Given d count) (listAt lists numbers k)
     unfolding listAt continue ask
     row-taken chosen d e =
@@ -60,6 +63,7 @@ pub record Stands (numbers : List Float) (d : Distribution) (n : ℕ) (o : Optio
   pub meant : Meant numbers d (listed .source)
   pub count-is : n ≡ listed .count
 
+-- a list of the definition stands behind each that the code takes
 pub row-some : (numbers : List Float) (r : Row) (o : Option Listed) (d : Distribution) (n : ℕ) → Listing numbers r o → r ≡ Given d n →
     Stands numbers d n o
 row-some numbers r o d n listing e = go o (rw e at listing)
@@ -71,11 +75,13 @@ row-some numbers r o d n listing e = go o (rw e at listing)
 -- ---- One after the other
 
 module _ (lists : List ℕ) (numbers : List Float) where
+  -- one refused list refuses all
   pub lists-none : (left k : ℕ) → 0 < left → listAt lists numbers k ≡ none → false ≡ isGiven (listsFrom lists numbers left k)
   unfolding listsFrom continue isGiven
   lists-none zero k h e = absurd (omega arith)
   lists-none (suc left) k h e = rw e
 
+  -- one list, and the others
   pub lists-next : (left k : ℕ) (x : Listed) → listAt lists numbers k ≡ some x →
       listsFrom lists numbers (suc left) k ≡ continue (listsFrom lists numbers left (k + 1)) (λ l. some (x ∷ l))
   unfolding listsFrom continue
@@ -87,7 +93,8 @@ module _ (lists : List ℕ) (numbers : List Float) where
   lists-some zero k x h e = absurd (omega arith)
   lists-some (suc left) k x h e =
       let one : suc left - 1 ≡ left = omega arith in
-      ap (λ n. isGiven (listsFrom lists numbers n (k + 1))) one ∙ rw (lists-next left k x e) (same (listsFrom lists numbers left _))
+      ap (λ (n : ℕ). isGiven (listsFrom lists numbers n (k + 1))) one
+      ∙ rw (lists-next left k x e) (same (listsFrom lists numbers left (k + 1)))
     where
       same : (o : Option (List Listed)) → isGiven o ≡ isGiven (continue o (λ l. some (x ∷ l)))
       same none = refl
@@ -103,16 +110,23 @@ module _ (lists : List ℕ) (numbers : List Float) where
   AsAll count k = isGiven (listsFrom lists numbers (count - k) k) ≡ isGiven (listsFrom lists numbers count 0)
 
   pub all-start : (count : ℕ) → AsAll count 0
-  all-start count = let e : count - 0 ≡ count = omega arith in cc e
+  all-start count = let e : count - 0 ≡ count = omega arith in ap (λ (n : ℕ). isGiven (listsFrom lists numbers n 0)) e
 
   module _ (count k : ℕ) (alike : AsAll count k) where
-    pub all-stops : (r : Row) → k < count → Listing numbers r (listAt lists numbers k) → r ≡ Barred → false ≡ isGiven (listsFrom lists numbers count 0)
-    all-stops r h listing e = lists-none _ k (omega arith) (row-none numbers r _ listing e) ∙ alike
+    -- the loop that asks each list: one is refused,
+    pub all-stops : (r : Row) → k < count → Listing numbers r (listAt lists numbers k) → r ≡ Barred
+        → false ≡ isGiven (listsFrom lists numbers count 0)
+    all-stops r h listing e = lists-none (count - k) k (omega arith) (row-none numbers r _ listing e) ∙ alike
 
-    pub all-goes : (r : Row) (d : Distribution) (n : ℕ) → k < count → Listing numbers r (listAt lists numbers k) → r ≡ Given d n → AsAll count (k + 1)
+    -- one is given
+    pub all-goes : (r : Row) (d : Distribution) (n : ℕ) → k < count → Listing numbers r (listAt lists numbers k) → r ≡ Given d n
+        → AsAll count (k + 1)
     all-goes r d n h listing e =
+        let stands = row-some numbers r _ d n listing e in
         let less : count - (k + 1) ≡ count - k - 1 = omega arith in
-        cc (less, lists-some (count - k) k _ (omega arith) ((row-some numbers r _ d n listing e) .is), alike)
+        ap (λ (m : ℕ). isGiven (listsFrom lists numbers m (k + 1))) less
+        ∙ lists-some (count - k) k (stands .listed) (omega arith) (stands .is)
+        ∙ alike
 
     pub all-done : count ≤ k → true ≡ isGiven (listsFrom lists numbers count 0)
-    all-done h = lists-end _ k (omega arith) ∙ alike
+    all-done h = lists-end (count - k) k (omega arith) ∙ alike

@@ -23,7 +23,7 @@ Sound (curve p l) = (p .u ≡ 0) × Rising p l
 
 rises : (numbers : List Float) (at : ℕ) (p : Point) (l : List Point) → Points numbers at p l → Rising p l
 rises numbers at p [] h = h .1
-rises numbers at p (q ∷ l) h = ((h .1 .0, h .1 .1, head-point numbers _ q l (h .2) .time-most), rises numbers _ q l (h .2))
+rises numbers at p (q ∷ l) h = ((h .1 .0, h .1 .1, head-point numbers (at + 2) q l (h .2) .time-most), rises numbers (at + 2) q l (h .2))
 
 -- ---- What was taken keeps them
 
@@ -41,7 +41,8 @@ module _ (numbers : List Float) (s : Source) where
       let g = both-true _ _ e in
       rw (← same) (leb-true _ _ (g .0), leb-true _ _ (g .1))
 
-  half-sound : (m : ℕ) (o : Option ℕ) → continue o (λ h. continue (ask (leb h m && leb m maxMeanParts)) (λ a. some (spread m h))) ≡ some s → Sound s
+  half-sound : (m : ℕ) (o : Option ℕ) → continue o (λ h. continue (ask (leb h m && leb m maxMeanParts)) (λ a. some (spread m h))) ≡ some s
+      → Sound s
   unfolding continue
   half-sound m none e = none-some e
   half-sound m (some h) e = asked-sound m h _ refl e
@@ -51,9 +52,10 @@ module _ (numbers : List Float) (s : Source) where
   spread-sound first e = go (timeAt numbers first) e
     where
       go : (o : Option ℕ) →
-          continue o (λ m. continue (timeAt numbers (first + 1)) (λ h. continue (ask (leb h m && leb m maxMeanParts)) (λ a. some (spread m h)))) ≡ some s → Sound s
+          continue o (λ m. continue (timeAt numbers (first + 1))
+          (λ h. continue (ask (leb h m && leb m maxMeanParts)) (λ a. some (spread m h)))) ≡ some s → Sound s
       go none f = none-some f
-      go (some m) f = half-sound m (timeAt numbers _) f
+      go (some m) f = half-sound m (timeAt numbers (first + 1)) f
 
   points-sound : (first points : ℕ) (p : Point) → pointAt numbers first ≡ some p → p .u ≡ 0 → (o : Option (List Point)) →
       pointsBehind numbers points (first + 2) p ≡ o → continue o (λ l. some (curve p l)) ≡ some s → Sound s
@@ -67,10 +69,11 @@ module _ (numbers : List Float) (s : Source) where
       continue (ask t) (λ a. continue (pointsBehind numbers points (first + 2) p) (λ l. some (curve p l))) ≡ some s → Sound s
   unfolding continue ask
   start-sound first points p e false f g = none-some g
-  start-sound first points p e true f g = points-sound first points p e (eqb-true _ _ f) _ refl g
+  start-sound first points p e true f g = points-sound first points p e (eqb-true _ _ f) (pointsBehind numbers points (first + 2) p) refl g
 
   first-sound : (first points : ℕ) (o : Option Point) → pointAt numbers first ≡ o →
-      continue o (λ p. continue (ask (eqb (p .u) 0)) (λ a. continue (pointsBehind numbers points (first + 2) p) (λ l. some (curve p l)))) ≡ some s → Sound s
+      continue o (λ p. continue (ask (eqb (p .u) 0)) (λ a. continue (pointsBehind numbers points (first + 2) p) (λ l. some (curve p l))))
+      ≡ some s → Sound s
   unfolding continue
   first-sound first points none e f = none-some f
   first-sound first points (some p) e f = start-sound first points p e _ refl f
@@ -80,26 +83,31 @@ module _ (numbers : List Float) (s : Source) where
   curve-sound first points e = go (ask _) e
     where
       go : (o : Option (Unit {0})) →
-          continue o (λ a. continue (pointAt numbers first) (λ p. continue (ask (eqb (p .u) 0)) (λ b. continue (pointsBehind numbers (points - 1) (first + 2) p) (λ l. some (curve p l))))) ≡ some s
+          continue o (λ a. continue (pointAt numbers first)
+          (λ p. continue (ask (eqb (p .u) 0))
+          (λ b. continue (pointsBehind numbers (points - 1) (first + 2) p) (λ l. some (curve p l))))) ≡ some s
           → Sound s
       go none f = none-some f
-      go (some a) f = first-sound first _ _ refl f
+      go (some a) f = first-sound first (points - 1) (pointAt numbers first) refl f
 
+  -- a distribution that is accepted gives only times within the limit
   pub source-sound : (kind first points : ℕ) → sourceAt numbers kind first points ≡ some s → Sound s
   unfolding sourceAt fixedAt
   source-sound kind first points e = go (eqb kind 2) (eqb points 0) (eqb kind 0) (eqb kind 1) e
     where
       go : (a b c d : Bool) →
-          cond a (curveAt numbers first points) (cond b (cond c (fixedAt numbers first) (cond d (spreadAt numbers first) none)) none) ≡ some s → Sound s
+          cond a (curveAt numbers first points) (cond b (cond c (fixedAt numbers first) (cond d (spreadAt numbers first) none)) none)
+          ≡ some s → Sound s
       go true b c d f = curve-sound first points f
       go false false c d f = none-some f
-      go false true true d f = fixed-sound _ (λ n g. time-is numbers first g .1) f
+      go false true true d f = fixed-sound (timeAt numbers first) (λ n g. time-is numbers first g .1) f
       go false true false true f = spread-sound first f
       go false true false false f = none-some f
 
 -- ---- Times
 
-line-most : (p q : Point) (v : ℕ) → p .u ≤ v → v ≤ q .u → p .u < q .u → p .time ≤ q .time → q .time ≤ maxTimeParts → lineTime (record { from = p; to = q }) v ≤ maxTime
+line-most : (p q : Point) (v : ℕ) → p .u ≤ v → v ≤ q .u → p .u < q .u → p .time ≤ q .time → q .time ≤ maxTimeParts
+    → lineTime (record { from = p; to = q }) v ≤ maxTime
 unfolding lineTime
 line-most p q v from to rising not-falling most =
     let w = q .u - p .u in
@@ -126,6 +134,7 @@ spread-most {h} {v} half mean inside =
     let p : 2 * h * v ≤ 2 * h * drawParts = mul-le-mul-left _ (omega arith) in
     div-le-of-le-mul spreadUnder (omega arith)
 
+-- each of its times is at most the limit
 pub time-most : (s : Source) (state : ℕ) → Sound s → Inside state → timeOf s state ≤ maxTime
 unfolding timeOf
 time-most (fixed t) state sound inside = omega arith
@@ -134,6 +143,7 @@ time-most (spread mean half) state sound inside =
 time-most (curve p l) state sound inside =
     around-most p l _ (omega arith) (draw-inside (next-inside inside)) (sound .1)
 
+-- and the generator's state stays inside
 pub after-inside : (s : Source) {state : ℕ} → Inside state → Inside (after s state)
 unfolding after
 after-inside (fixed t) inside = inside
@@ -167,7 +177,9 @@ module _ (lists : List ℕ) (numbers : List Float) where
           subst (λ (y : Listed). Sound (y .source) × (y .count ≤ mostTimes)) same (sound s refl, h)
 
       asked : (t : Bool) → leb n mostTimes ≡ t →
-          continue (ask t) (λ a. continue (sourceAt numbers (getD lists (k * 4) 0) (getD lists (k * 4 + 2) 0) (getD lists (k * 4 + 3) 0)) (λ s. some (record { source = s; count = n }))) ≡ some x →
+          continue (ask t)
+          (λ a. continue (sourceAt numbers (getD lists (k * 4) 0) (getD lists (k * 4 + 2) 0) (getD lists (k * 4 + 3) 0))
+          (λ s. some (record { source = s; count = n }))) ≡ some x →
           Sound (x .source) × (x .count ≤ mostTimes)
       asked false f g = none-some g
       asked true f g =
@@ -179,14 +191,16 @@ module _ (lists : List ℕ) (numbers : List Float) where
   lists-sound zero k ls e = let same : [] ≡ ls = cc in rw (← same) tt
   lists-sound (suc left) k ls e = go (λ l. lists-sound left _ l) _ refl e
     where
-      rest : ((l : List Listed) → listsFrom lists numbers left (k + 1) ≡ some l → SoundLists l) → (x : Listed) → listAt lists numbers k ≡ some x →
+      rest : ((l : List Listed) → listsFrom lists numbers left (k + 1) ≡ some l → SoundLists l) → (x : Listed)
+          → listAt lists numbers k ≡ some x →
           (o : Option (List Listed)) → listsFrom lists numbers left (k + 1) ≡ o → continue o (λ l. some (x ∷ l)) ≡ some ls → SoundLists ls
       rest more x f none g h = none-some h
       rest more x f (some l) g h =
           let same : x ∷ l ≡ ls = cc in
           rw (← same) (list-sound k x f, more l g)
 
-      go : ((l : List Listed) → listsFrom lists numbers left (k + 1) ≡ some l → SoundLists l) → (o : Option Listed) → listAt lists numbers k ≡ o →
+      go : ((l : List Listed) → listsFrom lists numbers left (k + 1) ≡ some l → SoundLists l) → (o : Option Listed)
+          → listAt lists numbers k ≡ o →
           continue o (λ x. continue (listsFrom lists numbers left (k + 1)) (λ l. some (x ∷ l))) ≡ some ls → SoundLists ls
       go more none f h = none-some h
       go more (some x) f h = rest more x f _ refl h

@@ -14,7 +14,8 @@ use Rattle.tapes_laws.specs.Tape.{bytesOf, listNumbers, tapeNumbers, Mak
 unfoldable pub doubles : List Float
 doubles =
     fin false 25 (negsuc 0) ∷ fin false 1 (pos 2) ∷ fin false 7 (pos 0) ∷ fin false 0 (pos 0) ∷ fin false 1 (pos 0) ∷ fin false 1 (negsuc 0)
-    ∷ fin false 3 (pos 0) ∷ fin false 1 (pos 0) ∷ fin false 5 (pos 1) ∷ nan ∷ inf false ∷ fin true 1 (pos 0) ∷ fin false 1 (negsuc 6) ∷ fin true 0 (pos 0) ∷ []
+    ∷ fin false 3 (pos 0) ∷ fin false 1 (pos 0) ∷ fin false 5 (pos 1) ∷ nan ∷ inf false ∷ fin true 1 (pos 0) ∷ fin false 1
+    (negsuc 6) ∷ fin true 0 (pos 0) ∷ []
 
 -- a spread three times, a fixed time twice, a curve twice
 unfoldable pub three : List ℕ
@@ -73,7 +74,9 @@ wanted =
     ∷ []
 
 pub examples : found ≡ wanted
-unfolding found doubles three upper numberBytes flat partsOf next beginning startOf continue ask drawOf around lineTime after timeOf timesOf stateAfter timeAt uAt fixedAt spreadAt pointAt follows pointsBehind curveAt sourceAt listAt listsFrom listsOf bytesOf listNumbers tapeNumbers fitted fromLists fromStart makeTape
+unfolding found doubles three upper numberBytes flat partsOf next beginning startOf continue ask drawOf around lineTime after timeOf timesOf
+    stateAfter timeAt uAt fixedAt spreadAt pointAt follows pointsBehind curveAt sourceAt listAt listsFrom listsOf bytesOf listNumbers
+    tapeNumbers fitted fromLists fromStart makeTape
 examples = refl
 
 -- list 0 is the first
