@@ -18,7 +18,8 @@ changed-kept w w′ p k a b b′ hp one ch =
     record {
       rows = λ i h. ch .kept i (λ e. omega (arith, end-low w p a b one)) (λ e. omega arith) (λ e. omega arith) (λ e. omega arith);
       places =
-          λ j h d. ch .kept (place j) (λ e. omega (arith, end-low w p a b one)) (λ e. omega arith) (λ e. d (omega arith)) (λ e. omega arith);
+          λ j h d.
+          ch .kept (place j) (λ e. omega (arith, end-low w p a b one)) (λ e. omega arith) (λ e. d (omega arith)) (λ e. omega arith);
     }
 
 module _ (w : List ℕ) (L : ℕ → List ℕ) (h : Holds w L) (p k : ℕ) (a b : List ℕ) (hp : p < listCount) (chained : p ≢ fel)

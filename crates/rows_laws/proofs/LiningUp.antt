@@ -260,7 +260,8 @@ module _ (w : List ℕ) (L : ℕ → List ℕ) (T : ℕ → List Transaction) (E
       go true = put-placed w L (s .holds) p k (omega arith) chained off
       go false =
           rw (spotted .cell)
-          (insert-placed w L (s .holds) p k (spotted .before) (spotted .behind) (omega arith) chained (off .row) (spotted .parts) (off .off))
+          (insert-placed w L (s .holds) p k (spotted .before) (spotted .behind) (omega arith) chained (off .row) (spotted .parts)
+          (off .off))
 
   line-holds : Holds (lineUp edition w p k) (update p (lined edition w p k (L p)) L)
   unfolding lineUp lined

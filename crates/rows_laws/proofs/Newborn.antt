@@ -22,7 +22,16 @@ module _ (w : List ℕ) (k : ℕ) (room : 16384 ≤ length w) (hk : k < 1024) wh
 
   described : (number priority block family : ℕ)
       → transactionAt (describe w k number priority block family) k
-      ≡ record { number = number; priority = priority; parameters = transactionAt w k .parameters; next = block; serial = 0; returning = false; stamp = 0; family = family }
+      ≡ record {
+        number = number;
+        priority = priority;
+        parameters = transactionAt w k .parameters;
+        next = block;
+        serial = 0;
+        returning = false;
+        stamp = 0;
+        family = family;
+      }
   unfolding describe
   described number priority block family =
       let w₁ : List ℕ = write w 0 k number in
@@ -96,7 +105,16 @@ family-at w j = refl
 -- a copy has priority, parameters and family of row j; number and block are its own, serial and stamp 0
 pub copy-is : (w : List ℕ) (j k : ℕ) → 16384 ≤ length w → j < 1024 → k < 1024 → j ≢ k → (number block : ℕ)
     → transactionAt (copyAt w j k number block) k
-    ≡ record { number = number; priority = transactionAt w j .priority; parameters = transactionAt w j .parameters; next = block; serial = 0; returning = false; stamp = 0; family = transactionAt w j .family }
+    ≡ record {
+      number = number;
+      priority = transactionAt w j .priority;
+      parameters = transactionAt w j .parameters;
+      next = block;
+      serial = 0;
+      returning = false;
+      stamp = 0;
+      family = transactionAt w j .family;
+    }
 unfolding copyAt copyParameters
 copy-is w j k room hj hk d number block =
     let v : List ℕ = describe w k number (read w 1 j / 2) block (read w 10 j) in
