@@ -38,7 +38,8 @@ fn enter_freed(work: &mut [u32], k: u32, v: u32, units: u64, capacity: u64)
     requires { ⌜ Room (now work) ⌝ }
     requires { ⌜ k < rowCount ⌝ }
     requires { ⌜ v < serverCount ⌝ }
-    ensures { λ _. ⌜ ((x : Scalars) → x .moving ≡ k → moved (withOutcome x 0) (now (work .exit)) ≡ enterFreed (now (work .entry)) x v units capacity) ⌝ }
+    ensures { λ _. ⌜ ((x : Scalars) → x .moving ≡ k
+        → moved (withOutcome x 0) (now (work .exit)) ≡ enterFreed (now (work .entry)) x v units capacity) ⌝ }
 {
     check_wels(work, v, units, capacity);
     row_goes_on(work, k);
@@ -56,7 +57,9 @@ pub fn free_one(
     requires { ⌜ Room (now work) ⌝ }
     requires { ⌜ k < rowCount ⌝ }
     requires { ⌜ v < serverCount ⌝ }
-    ensures { λ _. ⌜ ((x : Scalars) → x .moving ≡ k → x .clock ≡ clock → rowsOf (withOutcome x 0) (now (work .exit)) (now (tally .exit)) ≡ freeOne (now (tables .entry)) (now (work .entry)) (now (tally .entry)) x v left) ⌝ }
+    ensures { λ _. ⌜ ((x : Scalars) → x .moving ≡ k → x .clock ≡ clock
+        → rowsOf (withOutcome x 0) (now (work .exit)) (now (tally .exit))
+        ≡ freeOne (now (tables .entry)) (now (work .entry)) (now (tally .entry)) x v left) ⌝ }
 {
     let all = capacity(tables, v);
     change_use(tally, v, clock, left, 0, 0);
@@ -77,7 +80,9 @@ fn release_one(
     requires { ⌜ Room (now work) ⌝ }
     requires { ⌜ k < rowCount ⌝ }
     requires { ⌜ v < serverCount ⌝ }
-    ensures { λ _. ⌜ ((x : Scalars) → x .moving ≡ k → x .clock ≡ clock → rowsOf (withOutcome x 0) (now (work .exit)) (now (tally .exit)) ≡ freeOne (now (tables .entry)) (now (work .entry)) (now (tally .entry)) x v left) ⌝ }
+    ensures { λ _. ⌜ ((x : Scalars) → x .moving ≡ k → x .clock ≡ clock
+        → rowsOf (withOutcome x 0) (now (work .exit)) (now (tally .exit))
+        ≡ freeOne (now (tables .entry)) (now (work .entry)) (now (tally .entry)) x v left) ⌝ }
 {
     let all = capacity(tables, v);
     change_use(tally, v, clock, left, 0, 0);
@@ -99,7 +104,9 @@ fn free_some(
     requires { ⌜ Room (now work) ⌝ }
     requires { ⌜ k < rowCount ⌝ }
     requires { ⌜ v < serverCount ⌝ }
-    ensures { λ _. ⌜ ((x : Scalars) → x .moving ≡ k → x .clock ≡ clock → rowsOf (withOutcome x 0) (now (work .exit)) (now (tally .exit)) ≡ freeSome (now (tables .entry)) (now (work .entry)) (now (tally .entry)) x v units b) ⌝ }
+    ensures { λ _. ⌜ ((x : Scalars) → x .moving ≡ k → x .clock ≡ clock
+        → rowsOf (withOutcome x 0) (now (work .exit)) (now (tally .exit))
+        ≡ freeSome (now (tables .entry)) (now (work .entry)) (now (tally .entry)) x v units b) ⌝ }
 {
     let all = capacity(tables, v);
     change_use(tally, v, clock, units, 0, 0);
@@ -138,7 +145,8 @@ pub fn release(
     requires { ⌜ Room (now work) ⌝ }
     requires { ⌜ x .moving < rowCount ⌝ }
     requires { ⌜ at < programSize ⌝ }
-    ensures { λ r. ⌜ rowsOf r (now (work .exit)) (now (tally .exit)) ≡ releaseRows (now (tables .entry)) (now (work .entry)) (now (tally .entry)) x at ⌝ }
+    ensures { λ r. ⌜ rowsOf r (now (work .exit)) (now (tally .exit))
+        ≡ releaseRows (now (tables .entry)) (now (work .entry)) (now (tally .entry)) x at ⌝ }
 {
     let v = server_at(tables, at + FIRST);
     let units = in_use(tally, v);
@@ -155,7 +163,8 @@ pub fn leave(tables: &[u32], work: &mut [u32], tally: &mut [u64], x: Scalars, at
     requires { ⌜ Room (now work) ⌝ }
     requires { ⌜ x .moving < rowCount ⌝ }
     requires { ⌜ at < programSize ⌝ }
-    ensures { λ r. ⌜ rowsOf r (now (work .exit)) (now (tally .exit)) ≡ leaveRows (now (tables .entry)) (now (work .entry)) (now (tally .entry)) x at ⌝ }
+    ensures { λ r. ⌜ rowsOf r (now (work .exit)) (now (tally .exit))
+        ≡ leaveRows (now (tables .entry)) (now (work .entry)) (now (tally .entry)) x at ⌝ }
 {
     let v = server_at(tables, at + FIRST);
     let b = number(tables, at + SECOND) as u64;

@@ -45,7 +45,9 @@ pub fn hold_units(
     requires { ⌜ Room (now work) ⌝ }
     requires { ⌜ moving < rowCount ⌝ }
     requires { ⌜ v < serverCount ⌝ }
-    ensures { λ _. ⌜ ((x : Scalars) → x .moving ≡ moving → x .clock ≡ clock → rowsOf (withOutcome x 0) (now (work .exit)) (now (tally .exit)) ≡ holdUnits (now (work .entry)) (now (tally .entry)) x v units who k preempts capacity) ⌝ }
+    ensures { λ _. ⌜ ((x : Scalars) → x .moving ≡ moving → x .clock ≡ clock
+        → rowsOf (withOutcome x 0) (now (work .exit)) (now (tally .exit))
+        ≡ holdUnits (now (work .entry)) (now (tally .entry)) x v units who k preempts capacity) ⌝ }
 {
     change_use(tally, v, clock, units, who, preempts);
     keep_holder(work, v, k);
@@ -67,7 +69,9 @@ fn hold_one(
     requires { ⌜ Room (now work) ⌝ }
     requires { ⌜ moving < rowCount ⌝ }
     requires { ⌜ v < serverCount ⌝ }
-    ensures { λ _. ⌜ ((x : Scalars) → x .moving ≡ moving → x .clock ≡ clock → rowsOf (withOutcome x 0) (now (work .exit)) (now (tally .exit)) ≡ holdUnits (now (work .entry)) (now (tally .entry)) x v units who moving 0 capacity) ⌝ }
+    ensures { λ _. ⌜ ((x : Scalars) → x .moving ≡ moving → x .clock ≡ clock
+        → rowsOf (withOutcome x 0) (now (work .exit)) (now (tally .exit))
+        ≡ holdUnits (now (work .entry)) (now (tally .entry)) x v units who moving 0 capacity) ⌝ }
 {
     change_use(tally, v, clock, units, who, 0);
     keep_holder(work, v, moving);
@@ -88,7 +92,9 @@ fn queue_up(
     requires { ⌜ Room (now work) ⌝ }
     requires { ⌜ k < rowCount ⌝ }
     requires { ⌜ v < serverCount ⌝ }
-    ensures { λ r. ⌜ ((x : Scalars) → x .moving ≡ k → x .serial ≡ serial → x .clock ≡ clock → rowsOf (withOutcome x r) (now (work .exit)) (now (tally .exit)) ≡ queueUp (now (work .entry)) (now (tally .entry)) x v edition) ⌝ }
+    ensures { λ r. ⌜ ((x : Scalars) → x .moving ≡ k → x .serial ≡ serial → x .clock ≡ clock
+        → rowsOf (withOutcome x r) (now (work .exit)) (now (tally .exit))
+        ≡ queueUp (now (work .entry)) (now (tally .entry)) x v edition) ⌝ }
 {
     update_server(tally, v as usize, clock);
     let at = QL_LENGTH + (v as usize);
@@ -113,7 +119,9 @@ pub fn take_units(
     requires { ⌜ Room (now work) ⌝ }
     requires { ⌜ k < rowCount ⌝ }
     requires { ⌜ v < serverCount ⌝ }
-    ensures { λ r. ⌜ ((x : Scalars) → x .moving ≡ k → x .serial ≡ serial → x .clock ≡ clock → rowsOf (withOutcome x r) (now (work .exit)) (now (tally .exit)) ≡ takeUnits (now (tables .entry)) (now (work .entry)) (now (tally .entry)) x v b who preempts) ⌝ }
+    ensures { λ r. ⌜ ((x : Scalars) → x .moving ≡ k → x .serial ≡ serial → x .clock ≡ clock
+        → rowsOf (withOutcome x r) (now (work .exit)) (now (tally .exit))
+        ≡ takeUnits (now (tables .entry)) (now (work .entry)) (now (tally .entry)) x v b who preempts) ⌝ }
 {
     let units = in_use(tally, v);
     let all = capacity(tables, v);
@@ -138,7 +146,9 @@ fn seize_one(
     requires { ⌜ Room (now work) ⌝ }
     requires { ⌜ k < rowCount ⌝ }
     requires { ⌜ v < serverCount ⌝ }
-    ensures { λ r. ⌜ ((x : Scalars) → x .moving ≡ k → x .serial ≡ serial → x .clock ≡ clock → rowsOf (withOutcome x r) (now (work .exit)) (now (tally .exit)) ≡ takeUnits (now (tables .entry)) (now (work .entry)) (now (tally .entry)) x v 1 who 0) ⌝ }
+    ensures { λ r. ⌜ ((x : Scalars) → x .moving ≡ k → x .serial ≡ serial → x .clock ≡ clock
+        → rowsOf (withOutcome x r) (now (work .exit)) (now (tally .exit))
+        ≡ takeUnits (now (tables .entry)) (now (work .entry)) (now (tally .entry)) x v 1 who 0) ⌝ }
 {
     let units = in_use(tally, v);
     let all = capacity(tables, v);
@@ -153,7 +163,8 @@ pub fn seize(tables: &[u32], work: &mut [u32], tally: &mut [u64], x: Scalars, at
     requires { ⌜ Room (now work) ⌝ }
     requires { ⌜ x .moving < rowCount ⌝ }
     requires { ⌜ at < programSize ⌝ }
-    ensures { λ r. ⌜ rowsOf r (now (work .exit)) (now (tally .exit)) ≡ seizeRows (now (tables .entry)) (now (work .entry)) (now (tally .entry)) x at ⌝ }
+    ensures { λ r. ⌜ rowsOf r (now (work .exit)) (now (tally .exit))
+        ≡ seizeRows (now (tables .entry)) (now (work .entry)) (now (tally .entry)) x at ⌝ }
 {
     let v = server_at(tables, at + FIRST);
     let number = read(work, NUMBER, x.moving) as u64;
@@ -165,7 +176,8 @@ pub fn enter(tables: &[u32], work: &mut [u32], tally: &mut [u64], x: Scalars, at
     requires { ⌜ Room (now work) ⌝ }
     requires { ⌜ x .moving < rowCount ⌝ }
     requires { ⌜ at < programSize ⌝ }
-    ensures { λ r. ⌜ rowsOf r (now (work .exit)) (now (tally .exit)) ≡ enterRows (now (tables .entry)) (now (work .entry)) (now (tally .entry)) x at ⌝ }
+    ensures { λ r. ⌜ rowsOf r (now (work .exit)) (now (tally .exit))
+        ≡ enterRows (now (tables .entry)) (now (work .entry)) (now (tally .entry)) x at ⌝ }
 {
     let v = server_at(tables, at + FIRST);
     let b = number(tables, at + SECOND) as u64;

@@ -169,8 +169,12 @@ fn one_unless(fits: bool) -> u64
 fn wake_ql(tables: &[u32], work: &mut [u32], v: u32, edition: u32, all: u64) -> u64
     requires { ⌜ Room (now work) ⌝ }
     requires { ⌜ v < serverCount ⌝ }
-    ensures rows { λ _. ⌜ now (work .exit) ≡ wakeWalk (memberFits (now (tables .entry))) (memberLeft (now (tables .entry)) edition) steps all (now (work .entry)) v (head v) ⌝ }
-    ensures stays { λ r. ⌜ r ≡ wakeStays (memberFits (now (tables .entry))) (memberLeft (now (tables .entry)) edition) steps all (now (work .entry)) v (head v) ⌝ }
+    ensures rows { λ _. ⌜ now (work .exit)
+        ≡ wakeWalk (memberFits (now (tables .entry))) (memberLeft (now (tables .entry)) edition)
+        steps all (now (work .entry)) v (head v) ⌝ }
+    ensures stays { λ r. ⌜ r
+        ≡ wakeStays (memberFits (now (tables .entry))) (memberLeft (now (tables .entry)) edition)
+        steps all (now (work .entry)) v (head v) ⌝ }
 {
     let mut c = HEADS + v;
     let mut left = all;

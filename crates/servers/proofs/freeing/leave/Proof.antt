@@ -1,18 +1,45 @@
 -- `leave` meets its contract, by cases on the question.
 use Rattle.machine.specs.All.{refl, lt-ltb, le-ltb, needs}
 use Rattle.servers_laws.specs.Freeing.{leaveRows}
-use Rattle.servers.proofs.freeing.leave as f
+use Rattle.servers.proofs.freeing.leave.Statement.{statement}
+use Rattle.servers.proofs.freeing.leave.Tie as tie
 
-returns-2 : f.Tie.Need-returns-2
+stopped : tie.Need-returns
 unfolding leaveRows
-returns-2 c =
-    let b = c .before .before .before .before .before .before .before .before in
-    rw (c .with-outcome .ensures, ← b .before .before .before .before .server-at .ensures .0, ← b .before .before .before .number .ensures, ← b .before .in-use .ensures, le-ltb _ _ (b .if1 .left)) (c .before .before .before .before .before .free-some .ensures _ refl refl)
+stopped c =
+    let at-then1 : tie.Then1 = search in
+    let at-in-use : tie.After-in-use = search in
+    let at-number : tie.After-number = search in
+    let at-server-at : tie.After-server-at = search in
+    rw (
+      ← at-server-at .server-at .ensures .0,
+      ← at-number .number .ensures,
+      ← at-in-use .in-use .ensures,
+      lt-ltb _ _ (at-then1 .if1 .taken),
+      c .stop .ensures,
+    )
 
-pub leave-spec : {M : Type 1} → f.Statement.statement M
+entered : tie.Need-returns-2
+unfolding leaveRows
+entered c =
+    let at-free-some : tie.After-free-some = search in
+    let at-else1 : tie.Else1 = search in
+    let at-in-use : tie.After-in-use = search in
+    let at-number : tie.After-number = search in
+    let at-server-at : tie.After-server-at = search in
+    rw (
+      c .with-outcome .ensures,
+      ← at-server-at .server-at .ensures .0,
+      ← at-number .number .ensures,
+      ← at-in-use .in-use .ensures,
+      le-ltb _ _ (at-else1 .if1 .left),
+    )
+    (at-free-some .free-some .ensures _ refl refl)
+
+pub leave-spec : {M : Type 1} → statement M
 leave-spec =
-    f.Tie.close
-    (f.Tie.spec
+    tie.close
+    (tie.spec
     (search needs)
     (search needs)
     (search needs)
@@ -21,9 +48,9 @@ leave-spec =
     (search needs)
     (search needs)
     (search needs)
-    (λ c. let b = c .before .before in unfold leaveRows in rw (← b .before .before .before .server-at .ensures .0, ← b .before .before .number .ensures, ← b .in-use .ensures, lt-ltb _ _ (c .before .if1 .taken), c .stop .ensures))
+    stopped
     (search needs)
     (search needs)
     (search needs)
     (search needs)
-    returns-2)
+    entered)

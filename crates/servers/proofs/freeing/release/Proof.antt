@@ -5,13 +5,51 @@ use Rattle.servers.proofs as our
 use our.freeing.release.Statement.{statement}
 use our.freeing.release.Tie as tie
 
-returns : tie.Need-returns
+stopped : tie.Need-returns
 unfolding releaseRows
-returns c = rw (← c .before .before .before .before .before .before .before .before .before .before .before .server-at .ensures .0, ← c .before .before .before .before .before .before .before .before .before .in-use .ensures, ← c .before .before .before .before .before .before .before .read .ensures, ← c .before .before .before .before .before .preempted .ensures, ← c .before .before .before .holder .ensures, ← c .before .before .ask-release .ensures, ne-eqb _ 0 (c .before .if1 .taken), c .stop .ensures)
+stopped c =
+    let at-then1 : tie.Then1 = search in
+    let at-ask-release : tie.After-ask-release = search in
+    let at-holder : tie.After-holder = search in
+    let at-preempted : tie.After-preempted = search in
+    let at-read : tie.After-read = search in
+    let at-in-use : tie.After-in-use = search in
+    let at-server-at : tie.After-server-at = search in
+    rw (
+      ← at-server-at .server-at .ensures .0,
+      ← at-in-use .in-use .ensures,
+      ← at-read .read .ensures,
+      ← at-preempted .preempted .ensures,
+      ← at-holder .holder .ensures,
+      ← at-ask-release .ask-release .ensures,
+      ne-eqb _ 0 (at-then1 .if1 .taken),
+      c .stop .ensures,
+    )
 
-returns-2 : tie.Need-returns-2
+entered : tie.Need-returns-2
 unfolding releaseRows
-returns-2 c = rw (c .with-outcome .ensures, ← c .before .before .before .before .before .before .before .before .before .before .before .before .before .before .before .before .before .before .before .server-at .ensures .0, ← c .before .before .before .before .before .before .before .before .before .before .before .before .before .before .before .before .before .in-use .ensures, ← c .before .before .before .before .before .before .before .before .before .before .before .before .before .before .before .read .ensures, ← c .before .before .before .before .before .before .before .before .before .before .before .before .before .preempted .ensures, ← c .before .before .before .before .before .before .before .before .before .before .before .holder .ensures, ← c .before .before .before .before .before .before .before .before .before .before .ask-release .ensures, eq-eqb _ 0 (c .before .before .before .before .before .before .before .before .before .if1 .left), ← c .before .before .before .before .before .before .less64 .ensures) (c .before .before .before .before .before .release-one .ensures _ refl refl)
+entered c =
+    let at-release-one : tie.After-release-one = search in
+    let at-less64 : tie.After-less64 = search in
+    let at-else1 : tie.Else1 = search in
+    let at-ask-release : tie.After-ask-release = search in
+    let at-holder : tie.After-holder = search in
+    let at-preempted : tie.After-preempted = search in
+    let at-read : tie.After-read = search in
+    let at-in-use : tie.After-in-use = search in
+    let at-server-at : tie.After-server-at = search in
+    rw (
+      c .with-outcome .ensures,
+      ← at-server-at .server-at .ensures .0,
+      ← at-in-use .in-use .ensures,
+      ← at-read .read .ensures,
+      ← at-preempted .preempted .ensures,
+      ← at-holder .holder .ensures,
+      ← at-ask-release .ask-release .ensures,
+      eq-eqb _ 0 (at-else1 .if1 .left),
+      ← at-less64 .less64 .ensures,
+    )
+    (at-release-one .release-one .ensures _ refl refl)
 
 pub release-spec : {M : Type 1} → statement M
 release-spec =
@@ -28,10 +66,10 @@ release-spec =
     (search needs)
     (search needs)
     (search needs)
-    returns
+    stopped
     (search needs)
     (search needs)
     (search needs)
     (search needs)
     (search needs)
-    returns-2)
+    entered)

@@ -1,18 +1,22 @@
 -- `enter` meets its contract: the units and the server that the block names.
 use Rattle.machine.specs.All.{refl, needs}
 use Rattle.servers_laws.specs.Taking.{enterRows}
-use Rattle.servers.proofs.taking.enter as f
+use Rattle.servers.proofs.taking.enter.Statement.{statement}
+use Rattle.servers.proofs.taking.enter.Tie as tie
 
-returns : f.Tie.Need-returns
+returns : tie.Need-returns
 unfolding enterRows
 returns c =
-    let b = c .before .before .before .before .before in
-    rw (c .with-outcome .ensures, ← b .before .before .before .before .server-at .ensures .0, ← b .before .before .before .number .ensures) (b .take-units .ensures _ refl refl refl)
+    let at-take-units : tie.After-take-units = search in
+    let at-number : tie.After-number = search in
+    let at-server-at : tie.After-server-at = search in
+    rw (c .with-outcome .ensures, ← at-server-at .server-at .ensures .0, ← at-number .number .ensures)
+    (at-take-units .take-units .ensures _ refl refl refl)
 
-pub enter-spec : {M : Type 1} → f.Statement.statement M
+pub enter-spec : {M : Type 1} → statement M
 enter-spec =
-    f.Tie.close
-    (f.Tie.spec
+    tie.close
+    (tie.spec
     (search needs)
     (search needs)
     (search needs)

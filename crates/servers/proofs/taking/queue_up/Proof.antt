@@ -3,13 +3,35 @@ use Rattle.machine.specs.All.{refl, needs}
 use Rattle.moves.proofs.MotionLaws.{tallied}
 use Rattle.servers_laws.proofs.AtClock.{updated-at}
 use Rattle.servers_laws.specs.Taking.{longer, queueUp}
-use Rattle.servers.proofs.taking.queue_up as own
+use Rattle.servers.proofs.taking.queue_up.Statement.{statement}
+use Rattle.servers.proofs.taking.queue_up.Tie as tie
 
-returns : own.Tie.Need-returns
+returns : tie.Need-returns
 unfolding queueUp longer
 returns c =
-    let b = c .before .before .before .before .before .before in
-    λ x e f g. rw (b .set-count .ensures, b .before .before .plus64 .ensures, b .before .before .before .count .ensures, updated-at _ _ _ _ _ (b .before .before .before .before .before .before .before .update-server .ensures) g) (tallied _ _ _ _ _ (c .before .before .row-waits .ensures x e f) refl)
+    let at-row-waits : tie.After-row-waits = search in
+    let at-set-count : tie.After-set-count = search in
+    let at-plus64 : tie.After-plus64 = search in
+    let at-count : tie.After-count = search in
+    let at-update-server : tie.After-update-server = search in
+    λ x e f g. rw (
+      at-set-count .set-count .ensures,
+      at-plus64 .plus64 .ensures,
+      at-count .count .ensures,
+      updated-at _ _ _ _ _ (at-update-server .update-server .ensures) g,
+    )
+    (tallied _ _ _ _ _ (at-row-waits .row-waits .ensures x e f) refl)
 
-pub queue-up-spec : {M : Type 1} → own.Statement.statement M
-queue-up-spec = own.Tie.close (own.Tie.spec (search needs) (search needs) (search needs) (search needs) (search needs) (search needs) (search needs) (search needs) returns)
+pub queue-up-spec : {M : Type 1} → statement M
+queue-up-spec =
+    tie.close
+    (tie.spec
+    (search needs)
+    (search needs)
+    (search needs)
+    (search needs)
+    (search needs)
+    (search needs)
+    (search needs)
+    (search needs)
+    returns)

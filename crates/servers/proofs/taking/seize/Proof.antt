@@ -7,7 +7,12 @@ use our.taking.seize.Tie as tie
 
 returns : tie.Need-returns
 unfolding seizeRows
-returns c = rw (c .with-outcome .ensures, ← c .before .before .before .before .before .before .before .before .before .before .server-at .ensures .0, ← c .before .before .before .before .before .before .before .before .read .ensures) (c .before .before .before .before .before .seize-one .ensures _ refl refl refl)
+returns c =
+    let at-seize-one : tie.After-seize-one = search in
+    let at-read : tie.After-read = search in
+    let at-server-at : tie.After-server-at = search in
+    rw (c .with-outcome .ensures, ← at-server-at .server-at .ensures .0, ← at-read .read .ensures)
+    (at-seize-one .seize-one .ensures _ refl refl refl)
 
 pub seize-spec : {M : Type 1} → statement M
 seize-spec =

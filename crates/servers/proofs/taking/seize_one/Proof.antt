@@ -5,13 +5,40 @@ use Rattle.servers.proofs as our
 use our.taking.seize_one.Statement.{statement}
 use our.taking.seize_one.Tie as tie
 
-returns : tie.Need-returns
+seized : tie.Need-returns
 unfolding takeUnits
-returns c = λ x e f g. rw (e, ← c .before .before .before .before .before .before .before .before .before .capacity .ensures .0, ← c .before .before .before .before .before .before .before .before .before .before .in-use .ensures, ← c .before .before .before .before .before .before .before .before .less64 .ensures, le-leb _ _ (c .before .before .before .before .before .before .before .if1 .taken)) (c .before .before .before .before .hold-one .ensures _ refl g)
+seized c =
+    let at-hold-one : tie.After-hold-one = search in
+    let at-then1 : tie.Then1 = search in
+    let at-less64 : tie.After-less64 = search in
+    let at-capacity : tie.After-capacity = search in
+    let at-in-use : tie.After-in-use = search in
+    λ x e f g. rw (
+      e,
+      ← at-capacity .capacity .ensures .0,
+      ← at-in-use .in-use .ensures,
+      ← at-less64 .less64 .ensures,
+      le-leb _ _ (at-then1 .if1 .taken),
+    )
+    (at-hold-one .hold-one .ensures _ refl g)
 
-returns-2 : tie.Need-returns-2
+queued : tie.Need-returns-2
 unfolding takeUnits
-returns-2 c = λ x e f g. rw (← c .before .before .before .before .before .before .before .before .before .before .capacity .ensures .0, ← c .before .before .before .before .before .before .before .before .before .before .before .in-use .ensures, ← c .before .before .before .before .before .before .before .before .before .less64 .ensures, lt-leb _ _ (c .before .before .before .before .before .before .before .before .if1 .left), ← c .before .before .before .before .before .number .ensures) (c .before .before .before .before .queue-up .ensures x e f g)
+queued c =
+    let at-queue-up : tie.After-queue-up = search in
+    let at-number : tie.After-number = search in
+    let at-else1 : tie.Else1 = search in
+    let at-less64 : tie.After-less64 = search in
+    let at-capacity : tie.After-capacity = search in
+    let at-in-use : tie.After-in-use = search in
+    λ x e f g. rw (
+      ← at-capacity .capacity .ensures .0,
+      ← at-in-use .in-use .ensures,
+      ← at-less64 .less64 .ensures,
+      lt-leb _ _ (at-else1 .if1 .left),
+      ← at-number .number .ensures,
+    )
+    (at-queue-up .queue-up .ensures x e f g)
 
 pub seize-one-spec : {M : Type 1} → statement M
 seize-one-spec =
@@ -24,9 +51,9 @@ seize-one-spec =
     (search needs)
     (search needs)
     (search needs)
-    returns
+    seized
     (search needs)
     (search needs)
     (search needs)
     (search needs)
-    returns-2)
+    queued)

@@ -2,13 +2,37 @@
 use Rattle.machine.specs.All.{needs, lt-ltb, le-ltb}
 use Rattle.layout.specs.All.{tallySize}
 use Rattle.servers_laws.specs.Units.{setUse}
-use Rattle.servers.proofs.units.set_use as f
+use Rattle.servers.proofs.units.set_use.Statement.{statement}
+use Rattle.servers.proofs.units.set_use.Tie as tie
 
-returns-2 : f.Tie.Need-returns-2
+short-tally : tie.Need-returns
 unfolding setUse
-returns-2 c =
-    let b = c .before .before .before .before .before .before in
-    rw (le-ltb _ tallySize (b .before .before .before .before .before .before .before .if1 .left), c .before .before .store-use .ensures, b .held-more .ensures, b .before .before .before .before .held-less .ensures)
+short-tally c = rw (lt-ltb _ tallySize (c .if1 .taken))
 
-pub set-use-spec : {M : Type 1} → f.Statement.statement M
-set-use-spec = f.Tie.close (f.Tie.spec (λ c. unfold setUse in rw (lt-ltb _ tallySize (c .if1 .taken))) (search needs) (search needs) (search needs) (search needs) (search needs) (search needs) (search needs) returns-2)
+holder-stored : tie.Need-returns-2
+unfolding setUse
+holder-stored c =
+    let at-store-use : tie.After-store-use = search in
+    let at-held-more : tie.After-held-more = search in
+    let at-held-less : tie.After-held-less = search in
+    let at-else1 : tie.Else1 = search in
+    rw (
+      le-ltb _ tallySize (at-else1 .if1 .left),
+      at-store-use .store-use .ensures,
+      at-held-more .held-more .ensures,
+      at-held-less .held-less .ensures,
+    )
+
+pub set-use-spec : {M : Type 1} → statement M
+set-use-spec =
+    tie.close
+    (tie.spec
+    short-tally
+    (search needs)
+    (search needs)
+    (search needs)
+    (search needs)
+    (search needs)
+    (search needs)
+    (search needs)
+    holder-stored)

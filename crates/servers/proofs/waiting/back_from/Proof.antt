@@ -1,7 +1,15 @@
 -- `back_from` meets its contract: the steps in order.
 use Rattle.servers_laws.specs.WaitServer.{backFrom}
 use Rattle.machine.specs.All.{needs}
-use Rattle.servers.proofs.waiting.back_from as f
+use Rattle.servers.proofs.waiting.back_from.Statement.{statement}
+use Rattle.servers.proofs.waiting.back_from.Tie as tie
 
-pub back-from-spec : {M : Type 1} → f.Statement.statement M
-back-from-spec = f.Tie.close (f.Tie.spec (search needs) (search needs) (search needs) (λ c. unfold backFrom in rw (← c .before .before .before .before .before .before .wake-first .ensures) (c .before .before .go-back .ensures)))
+returns : tie.Need-returns
+unfolding backFrom
+returns c =
+    let at-go-back : tie.After-go-back = search in
+    let at-wake-first : tie.After-wake-first = search in
+    rw (← at-wake-first .wake-first .ensures) (at-go-back .go-back .ensures)
+
+pub back-from-spec : {M : Type 1} → statement M
+back-from-spec = tie.close (tie.spec (search needs) (search needs) (search needs) returns)

@@ -2,7 +2,16 @@
 use Rattle.servers_laws.specs.WaitServer.{isLate}
 use Rattle.servers_laws.proofs.Begins.{some-count}
 use Rattle.machine.specs.All.{needs}
-use Rattle.servers.proofs.waiting.late as f
+use Rattle.servers.proofs.waiting.late.Statement.{statement}
+use Rattle.servers.proofs.waiting.late.Tie as tie
 
-pub late-spec : {M : Type 1} → f.Statement.statement M
-late-spec = f.Tie.close (f.Tie.spec (λ c. unfold isLate in rw (c .if1 .taken)) (search needs) (λ c. unfold isLate in rw (some-count _ (c .before .before .if1 .left), ← c .before .time .ensures)))
+first-wait : tie.Need-returns
+unfolding isLate
+first-wait c = rw (c .if1 .taken)
+
+by-time : tie.Need-returns-2
+unfolding isLate
+by-time c = rw (some-count _ (c .before .before .if1 .left), ← c .before .time .ensures)
+
+pub late-spec : {M : Type 1} → statement M
+late-spec = tie.close (tie.spec first-wait (search needs) by-time)

@@ -1,21 +1,39 @@
 -- `pass_or_back` meets its contract: by back count and stamp it goes back or enters.
 use Rattle.machine.specs.All.{sym, _∙_, needs}
 use Rattle.servers_laws.specs.WaitServer.{passOrBack}
-use Rattle.servers.proofs.waiting.pass_or_back as f
+use Rattle.servers.proofs.waiting.pass_or_back.Statement.{statement}
+use Rattle.servers.proofs.waiting.pass_or_back.Tie as tie
 
-returns : f.Tie.Need-returns
+goes-back : tie.Need-returns
 unfolding passOrBack
-returns c =
-    let b = c .before .before .before .before in
-    rw (← b .before .before .before .back-count .ensures, sym (b .before .late .ensures) ∙ b .if1 .taken) (c .before .before .back-from .ensures)
+goes-back c =
+    let at-back-from : tie.After-back-from = search in
+    let at-then1 : tie.Then1 = search in
+    let at-late : tie.After-late = search in
+    let at-back-count : tie.After-back-count = search in
+    rw (← at-back-count .back-count .ensures, sym (at-late .late .ensures) ∙ at-then1 .if1 .taken) (at-back-from .back-from .ensures)
 
-returns-2 : f.Tie.Need-returns-2
+passes : tie.Need-returns-2
 unfolding passOrBack
-returns-2 c =
-    let b = c .before .before .before .before in
-    rw (← b .before .before .before .before .back-count .ensures, sym (b .before .before .late .ensures) ∙ b .before .if1 .left, ← b .begins-group .ensures) (c .before .before .pass-on .ensures)
+passes c =
+    let at-pass-on : tie.After-pass-on = search in
+    let at-begins-group : tie.After-begins-group = search in
+    let at-else1 : tie.Else1 = search in
+    let at-late : tie.After-late = search in
+    let at-back-count : tie.After-back-count = search in
+    rw (← at-back-count .back-count .ensures, sym (at-late .late .ensures) ∙ at-else1 .if1 .left, ← at-begins-group .begins-group .ensures)
+    (at-pass-on .pass-on .ensures)
 
-pub pass-or-back-spec : {M : Type 1} → f.Statement.statement M
+pub pass-or-back-spec : {M : Type 1} → statement M
 pass-or-back-spec =
-    f.Tie.close
-    (f.Tie.spec (search needs) (search needs) (search needs) (search needs) returns (search needs) (search needs) (search needs) returns-2)
+    tie.close
+    (tie.spec
+    (search needs)
+    (search needs)
+    (search needs)
+    (search needs)
+    goes-back
+    (search needs)
+    (search needs)
+    (search needs)
+    passes)

@@ -1,18 +1,31 @@
 -- `wait_server` meets its contract: code and server that the block names.
 use Rattle.servers_laws.specs.WaitServer.{waitServerRows}
 use Rattle.machine.specs.All.{needs}
-use Rattle.servers.proofs.waiting.wait_server as f
+use Rattle.servers.proofs.waiting.wait_server.Statement.{statement}
+use Rattle.servers.proofs.waiting.wait_server.Tie as tie
 
-returns : f.Tie.Need-returns
+returns : tie.Need-returns
 unfolding waitServerRows
 returns c =
-    let b = c .before .before .before .before in
-    rw (← b .before .before .before .server-at .ensures .0, ← b .before .before .before .before .number .ensures, ← b .before .before .in-use .ensures, ← b .before .capacity .ensures .0, ← b .status .ensures) (c .before .before .wait-while .ensures)
+    let at-wait-while : tie.After-wait-while = search in
+    let at-status : tie.After-status = search in
+    let at-capacity : tie.After-capacity = search in
+    let at-in-use : tie.After-in-use = search in
+    let at-server-at : tie.After-server-at = search in
+    let at-number : tie.After-number = search in
+    rw (
+      ← at-server-at .server-at .ensures .0,
+      ← at-number .number .ensures,
+      ← at-in-use .in-use .ensures,
+      ← at-capacity .capacity .ensures .0,
+      ← at-status .status .ensures,
+    )
+    (at-wait-while .wait-while .ensures)
 
-pub wait-server-spec : {M : Type 1} → f.Statement.statement M
+pub wait-server-spec : {M : Type 1} → statement M
 wait-server-spec =
-    f.Tie.close
-    (f.Tie.spec
+    tie.close
+    (tie.spec
     (search needs)
     (search needs)
     (search needs)

@@ -1,7 +1,16 @@
 -- `leave_with` meets its contract, by the edition.
 use Rattle.machine.specs.All.{eq-eqb, ne-eqb}
 use Rattle.servers_laws.specs.Waking.{leaveWith}
-use Rattle.servers.proofs.waking.leave_with as f
+use Rattle.servers.proofs.waking.leave_with.Statement.{statement}
+use Rattle.servers.proofs.waking.leave_with.Tie as tie
 
-pub leave-with-spec : {M : Type 1} → f.Statement.statement M
-leave-with-spec = f.Tie.close (f.Tie.spec (λ c. unfold leaveWith in rw (eq-eqb _ 1 (c .if1 .taken))) (λ c. unfold leaveWith in rw (ne-eqb _ 1 (c .if1 .left))))
+first-edition : tie.Need-returns
+unfolding leaveWith
+first-edition c = rw (eq-eqb _ 1 (c .if1 .taken))
+
+second-edition : tie.Need-returns-2
+unfolding leaveWith
+second-edition c = rw (ne-eqb _ 1 (c .if1 .left))
+
+pub leave-with-spec : {M : Type 1} → statement M
+leave-with-spec = tie.close (tie.spec first-edition second-edition)

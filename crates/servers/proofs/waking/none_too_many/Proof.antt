@@ -1,7 +1,8 @@
 -- `none_too_many` meets its contract. The invariant: the blocks from here on tell it. The measure: the blocks left.
 use Rattle.machine.specs.All.{ℕ, zero, suc, _+_, _*_, _-_, _≤_, _<_, _≡_, _≢_, refl, sym, _∙_, true, false, List, arith, eq-eqb, ne-eqb, getD, maxBlocks}
 use Rattle.servers_laws.specs.Waking.{tooMany, noneTooMany}
-use Rattle.servers.proofs.waking.none_too_many as f
+use Rattle.servers.proofs.waking.none_too_many.Statement.{statement}
+use Rattle.servers.proofs.waking.none_too_many.Tie as tie
 
 module _ (tables : List ℕ) (b v left : ℕ) where
   none-end : (n : ℕ) → n ≡ 0 → noneTooMany n tables b v left ≡ true
@@ -18,43 +19,66 @@ module _ (tables : List ℕ) (b v left : ℕ) where
   none-found zero some is found = absurd (omega arith)
   none-found (suc n) some is found = rw (ne-eqb _ 0 is, found)
 
-  none-next : (n m : ℕ) → n ≡ suc m → getD tables (8 * b) 0 ≢ 0 → tooMany tables (8 * b) v left ≡ false → noneTooMany n tables b v left ≡ noneTooMany m tables (b + 1) v left
+  none-next : (n m : ℕ) → n ≡ suc m → getD tables (8 * b) 0 ≢ 0 → tooMany tables (8 * b) v left ≡ false
+      → noneTooMany n tables b v left ≡ noneTooMany m tables (b + 1) v left
   unfolding noneTooMany
   none-next n m e is found = rw (e, ne-eqb _ 0 is, found)
 
-abbrev Inv-loop : f.Tie.InvT-loop
+abbrev Inv-loop : tie.InvT-loop
 Inv-loop tables v left b₀ b = (noneTooMany (maxBlocks - b) tables b v left ≡ noneTooMany maxBlocks tables 0 v left) × (b ≤ maxBlocks)
 
-abbrev μ-loop : f.Tie.MeasureT-loop
+abbrev μ-loop : tie.MeasureT-loop
 μ-loop tables v left b₀ b = maxBlocks - b
 
-returns : f.Tie.Need-returns Inv-loop μ-loop
-returns c =
-    sym (none-stop _ _ _ _ _ (sym (c .before .number .ensures) ∙ c .if1 .taken)) ∙ c .before .before .before .loop .inv .0
+loop-holds : tie.Need-loop-holds Inv-loop μ-loop
+loop-holds c = (refl, omega arith)
 
-returns-2 : f.Tie.Need-returns-2 Inv-loop μ-loop
-returns-2 c =
-    let b = c .before .before in
-    sym (none-found _ _ _ _ _ (omega arith) (λ e. b .if1 .left (b .before .number .ensures ∙ e)) (sym (c .before .too-many .ensures) ∙ c .if2 .taken)) ∙ b .before .before .before .loop .inv .0
+past-the-last : tie.Need-returns Inv-loop μ-loop
+past-the-last c =
+    let at-number : tie.After-number Inv-loop μ-loop = search in
+    let at-loop : tie.At-loop Inv-loop μ-loop = search in
+    sym (none-stop _ _ _ _ _ (sym (at-number .number .ensures) ∙ c .if1 .taken)) ∙ at-loop .loop .inv .0
 
-loop-again : f.Tie.Need-loop-again Inv-loop μ-loop
+one-too-many : tie.Need-returns-2 Inv-loop μ-loop
+one-too-many c =
+    let at-too-many : tie.After-too-many Inv-loop μ-loop = search in
+    let at-else1 : tie.Else1 Inv-loop μ-loop = search in
+    let at-number : tie.After-number Inv-loop μ-loop = search in
+    let at-loop : tie.At-loop Inv-loop μ-loop = search in
+    sym
+    (none-found _ _ _ _ _ (omega arith) (λ e. at-else1 .if1 .left (at-number .number .ensures ∙ e))
+    (sym (at-too-many .too-many .ensures) ∙ c .if2 .taken))
+    ∙ at-loop .loop .inv .0
+
+loop-again : tie.Need-loop-again Inv-loop μ-loop
 loop-again c =
-    let b = c .before .before in
-    (sym (none-next _ _ _ _ _ _ (omega arith) (λ e. b .if1 .left (b .before .number .ensures ∙ e)) (sym (c .before .too-many .ensures) ∙ c .if2 .left)) ∙ b .before .before .before .loop .inv .0, omega arith)
+    let at-too-many : tie.After-too-many Inv-loop μ-loop = search in
+    let at-else1 : tie.Else1 Inv-loop μ-loop = search in
+    let at-number : tie.After-number Inv-loop μ-loop = search in
+    let at-loop : tie.At-loop Inv-loop μ-loop = search in (
+      sym
+          (none-next _ _ _ _ _ _ (omega arith) (λ e. at-else1 .if1 .left (at-number .number .ensures ∙ e))
+          (sym (at-too-many .too-many .ensures) ∙ c .if2 .left))
+          ∙ at-loop .loop .inv .0,
+      omega arith,
+    )
 
-pub none-too-many-spec : {M : Type 1} → f.Statement.statement M
+all-seen : tie.Need-returns-3 Inv-loop μ-loop
+all-seen c = sym (none-end _ _ _ _ _ (omega arith)) ∙ c .before .loop .inv .0
+
+pub none-too-many-spec : {M : Type 1} → statement M
 none-too-many-spec =
-    f.Tie.close
-    (f.Tie.spec
+    tie.close
+    (tie.spec
     Inv-loop
     μ-loop
-    (λ c. (refl, omega arith))
+    loop-holds
     (omega arith)
     (omega arith)
-    returns
+    past-the-last
     (omega arith)
-    returns-2
+    one-too-many
     (omega arith)
     (omega arith)
     loop-again
-    (λ c. sym (none-end _ _ _ _ _ (omega arith)) ∙ c .before .loop .inv .0))
+    all-seen)

@@ -1,20 +1,28 @@
 -- `wake_some` meets its contract: all at once, or one by one.
 use Rattle.machine.specs.All.{needs}
 use Rattle.servers_laws.specs.Waking.{wokenRows, wokenLength}
-use Rattle.servers.proofs.waking.wake_some as f
+use Rattle.servers.proofs.waking.wake_some.Statement.{statement}
+use Rattle.servers.proofs.waking.wake_some.Tie as tie
 
-returns : f.Tie.Need-returns
+whole-list : tie.Need-returns
 unfolding wokenRows wokenLength
-returns c =
-    let b = c .before .before in
-    (rw (← b .before .before .before .at-once .ensures, b .before .before .if1 .taken) (b .wake-whole .ensures), rw (← b .before .before .before .at-once .ensures, b .before .before .if1 .taken))
+whole-list c =
+    let at-wake-whole : tie.After-wake-whole = search in
+    let at-then1 : tie.Then1 = search in
+    let at-at-once : tie.After-at-once = search in (
+      rw (← at-at-once .at-once .ensures, at-then1 .if1 .taken) (at-wake-whole .wake-whole .ensures),
+      rw (← at-at-once .at-once .ensures, at-then1 .if1 .taken),
+    )
 
-returns-2 : f.Tie.Need-returns-2
+one-by-one : tie.Need-returns-2
 unfolding wokenRows wokenLength
-returns-2 c =
-    let b = c .before .before in
-    (rw (← b .before .before .before .at-once .ensures, b .before .before .if1 .left) (b .wake-ql .ensures .0), rw (← b .before .before .before .at-once .ensures, b .before .before .if1 .left) (b .wake-ql .ensures .1))
+one-by-one c =
+    let at-wake-ql : tie.After-wake-ql = search in
+    let at-else1 : tie.Else1 = search in
+    let at-at-once : tie.After-at-once = search in (
+      rw (← at-at-once .at-once .ensures, at-else1 .if1 .left) (at-wake-ql .wake-ql .ensures .0),
+      rw (← at-at-once .at-once .ensures, at-else1 .if1 .left) (at-wake-ql .wake-ql .ensures .1),
+    )
 
-pub wake-some-spec : {M : Type 1} → f.Statement.statement M
-wake-some-spec =
-    f.Tie.close (f.Tie.spec (search needs) (search needs) (search needs) returns (search needs) (search needs) returns-2)
+pub wake-some-spec : {M : Type 1} → statement M
+wake-some-spec = tie.close (tie.spec (search needs) (search needs) (search needs) whole-list (search needs) (search needs) one-by-one)
